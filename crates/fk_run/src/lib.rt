@@ -2,5 +2,8 @@
 #![tactic(auto)]
 
 mod assembler;
+mod exec_text;
+mod fault_line;
 mod lines;
 mod operations;
+mod status;
