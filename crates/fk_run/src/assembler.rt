@@ -5,12 +5,10 @@ ghost use Rattle.fk_run.specs.Lines.{tokens_of as tokens_in};
 ghost use Rattle.fk_run.specs.declared.assembler.AsmFail.TheVariants.{NoMemory};
 
 use crate::lines::{lines_of, tokens_of};
+use crate::machine::WORDS;
 use crate::operations::{instruction, operation_of};
 use fk_isa::encode;
 use std::alloc::{AllocError, AllocFailed, Global};
-
-/// The most words of a program: those of 256 pages.
-pub const MOST_WORDS: usize = 16_384;
 
 /// Why a text isn't assembled.
 #[derive(Clone, Copy, Debug, PartialEq, Eq)]
@@ -36,6 +34,14 @@ impl<T: Drop> From<AllocFailed<T>> for AsmFail {
     }
 }
 
+impl From<fk_model::NoMemory> for AsmFail {
+    ghost from_gives = { λ _ fail. fail ≡ NoMemory };
+
+    fn from(_: fk_model::NoMemory) -> AsmFail {
+        AsmFail::NoMemory
+    }
+}
+
 /// The word of a line with these tokens; the first is an operation's name, the others are its operands.
 #[tactic(auto, unfolding(crate::specs::Assembler::word_of_line))]
 fn word_of_line(name: &[u8], operands: &[&[u8]]) -> Option<u64>
@@ -51,6 +57,7 @@ fn word_of_line(name: &[u8], operands: &[&[u8]]) -> Option<u64>
 fn add_line(words: &mut Vec<u64>, tokens: &[&[u8]]) -> Result<(), AsmFail>
     ensures ok { OnOk result (definitions.with_tokens words.old.items (map (λ token. token.now) tokens.now) ≡ Some words.new.items) }
     ensures text { result ≡ Err AsmFail.Text → definitions.with_tokens words.old.items (map (λ token. token.now) tokens.now) ≡ None }
+    ensures few { vec_len words.old ≤ WORDS → vec_len words.new ≤ WORDS }
 {
     let [name, operands @ ..] = tokens else {
         return Ok(());
@@ -58,7 +65,7 @@ fn add_line(words: &mut Vec<u64>, tokens: &[&[u8]]) -> Result<(), AsmFail>
     let Some(word) = word_of_line(name, operands) else {
         return Err(AsmFail::Text);
     };
-    if words.len() >= MOST_WORDS {
+    if words.len() >= WORDS {
         return Err(AsmFail::Text);
     }
     words.push(word)?;
@@ -70,6 +77,7 @@ fn add_line(words: &mut Vec<u64>, tokens: &[&[u8]]) -> Result<(), AsmFail>
 pub fn assemble(alloc: Global, text: &[u8]) -> Result<Vec<u64>, AsmFail>
     ensures ok { IfOk result (λ words. definitions.assembled text.now ≡ Some words.items) }
     ensures text { result ≡ Err AsmFail.Text → definitions.assembled text.now ≡ None }
+    ensures few { IfOk result (λ words. vec_len words ≤ WORDS) }
 {
     let lines = lines_of(alloc, text)?;
     let mut words = Vec::new(alloc);

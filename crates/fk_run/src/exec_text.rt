@@ -31,7 +31,12 @@ fn registers_line(alloc: Global, registers: &[u64; 16]) -> Result<String, AllocE
 }
 
 /// What is written of a thread that has run: how it ended, and its registers.
-pub fn exec_text(alloc: Global, halted: Option<u8>, events: u64, registers: &[u64; 16]) -> Result<String, AllocError>
+pub fn exec_text(
+    alloc: Global,
+    halted: Option<u8>,
+    events: u64,
+    registers: &[u64; 16],
+) -> Result<String, AllocError>
     ensures { IfOk result (λ text. string_bytes text ≡ definitions.exec_text halted events registers.now) }
 {
     let mut text = end_line(alloc, halted, events)?;

@@ -2,8 +2,16 @@
 #![tactic(auto)]
 
 mod assembler;
+mod command;
+mod exec;
 mod exec_text;
-mod fault_line;
 mod lines;
+mod machine;
 mod operations;
 mod status;
+#[cfg(test)]
+mod tests;
+mod top;
+
+pub use status::{Status, fault_line};
+pub use top::{Outcome, fluke_top};
