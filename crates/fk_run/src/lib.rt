@@ -1,0 +1,4 @@
+//! The interpreter alone.
+#![tactic(auto)]
+
+mod machine;
