@@ -1,5 +1,5 @@
 -- Writes, one after another.
-use Rattle.std.proofs.Common.{take_all, ◌≡◌, ℕ, ◌+◌, ◌-◌, ◌≤◌, length, length-drop, arith, List, ◌++◌, take, drop, Option, Some, None, append_assoc}
+use Rattle.std.proofs.Common.{take_all, ℕ, ◌+◌, ◌-◌, ◌≤◌, length, length-drop, arith, List, ◌++◌, take, drop, Option, Some, None, append_assoc}
 use Rattle.std.proofs.Math.Seq.{take-add}
 use Rattle.std.specs.Io.KnownBytes.{Appends}
 
