@@ -1,9 +1,7 @@
 -- The words of a text.
 use Rattle.std.specs.Prelude.{ℕ, List, [], ◌∷◌, ◌++◌, length, nat_lt, Option, Some, None, if◌then◌else◌}
-use Rattle.fk_model.specs.declared.instruction.Instr.{Instr}
 use Rattle.fk_model.specs.Instructions.{word_of}
 use Rattle.fk_run.specs.Lines.{lines_of, tokens_of}
-use Rattle.fk_run.specs.declared.machine.TheConstants.{WORDS}
 use Rattle.fk_run.specs.Operations.{◌>>=◌, operation_of, instruction}
 
 -- the word of a line: an operation's name and exactly its operands
@@ -15,7 +13,7 @@ word_of_line name operands = do
 
 -- one more word: a program has at most those of 256 pages of 64 words
 abbrev pub with_word : List ℕ → ℕ → Option (List ℕ)
-with_word words word = if nat_lt (length words) WORDS then Some (words ++ word ∷ []) else None
+with_word words word = if nat_lt (length words) 16384 then Some (words ++ word ∷ []) else None
 
 -- the words so far and that of a line, which has none where it has no tokens
 unfoldable pub with_tokens : List ℕ → List (List ℕ) → Option (List ℕ)

@@ -1,34 +1,32 @@
 -- What `exec` comes to, for a whole text: its status, and what it writes.
 use Rattle.std.specs.Prelude.{ℕ, List, [], Option, Some, None, length, nat_lt, if◌then◌else◌}
-use Rattle.fk_causes.specs.declared.whole.TheConstants.{LIMIT}
-use Rattle.fk_run.specs.declared.exec.TheConstants.{BUDGET}
 use Rattle.fk_run.specs.declared.status.Status.{Status}
 use Rattle.fk_run.specs.declared.status.Status.TheVariants.{Ok, TooLong, BadText, Budget}
 use Rattle.fk_run.specs.Assembler.{assembled}
 use Rattle.fk_run.specs.ExecText.{exec_text}
 use Rattle.fk_run.specs.Machine.{State, start, run, events}
 
--- the thread of a program after its run, which makes at most as many instructions as the budget has
+-- the thread of a program after its run, which makes at most 100000 instructions
 abbrev pub state_after : List ℕ → State
-state_after program = run BUDGET (start program)
+state_after program = run 100000 (start program)
 
--- a thread that halted is done, with whatever code
+-- a thread that halted is done, whatever its code
 abbrev pub status_of_run : Option ℕ → Status
 status_of_run (Some code) = Ok
-status_of_run None = Budget BUDGET
+status_of_run None = Budget 100000
 
 -- a text that isn't assembled is refused, without its line and the reason
 abbrev pub status_of_program : Option (List ℕ) → Status
 status_of_program None = BadText 0 7
 status_of_program (Some program) = status_of_run (state_after program).halted
 
--- the status for a whole text
+-- the status for a whole text, of at most 1048576 bytes
 abbrev pub exec_status : List ℕ → Status
-exec_status text = if nat_lt LIMIT (length text) then TooLong else status_of_program (assembled text)
+exec_status text = if nat_lt 1048576 (length text) then TooLong else status_of_program (assembled text)
 
 abbrev pub output_of_program : Option (List ℕ) → List ℕ
 output_of_program None = []
-output_of_program (Some program) = exec_text (state_after program).halted (events BUDGET (start program)) (state_after program).registers
+output_of_program (Some program) = exec_text (state_after program).halted (events 100000 (start program)) (state_after program).registers
 
 -- what is written for a whole text: how its run ended
 abbrev pub exec_output : List ℕ → List ℕ
