@@ -15,15 +15,16 @@ abbrev pub status_of_run : Option ℕ → Status
 status_of_run (Some code) = Ok
 status_of_run None = Budget 100000
 
--- a text that isn't assembled is refused, without its line and the reason
+-- a text that isn't assembled is refused, always with line 0 and reason 7
 abbrev pub status_of_program : Option (List ℕ) → Status
 status_of_program None = BadText 0 7
 status_of_program (Some program) = status_of_run (state_after program).halted
 
--- the status for a whole text, of at most 1048576 bytes
+-- the status for a whole text, which is too long with more than 1048576 bytes
 abbrev pub exec_status : List ℕ → Status
 exec_status text = if nat_lt 1048576 (length text) then TooLong else status_of_program (assembled text)
 
+-- nothing is written for a text that isn't assembled
 abbrev pub output_of_program : Option (List ℕ) → List ℕ
 output_of_program None = []
 output_of_program (Some program) = exec_text (state_after program).halted (events 100000 (start program)) (state_after program).registers

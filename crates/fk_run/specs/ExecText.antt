@@ -15,5 +15,6 @@ register_text register = codes " " ++ decimal register
 abbrev pub registers_line : List ℕ → List ℕ
 registers_line registers = codes "regs" ++ (flat_map register_text registers ++ codes "\n")
 
+-- two lines: how the thread ended, and its registers
 abbrev pub exec_text : Option ℕ → ℕ → List ℕ → List ℕ
 exec_text halted events registers = end_line halted events ++ registers_line registers

@@ -1,7 +1,6 @@
 //! The words of a text.
 ghost use Rattle.std.specs.Prelude.{◌≡◌, Some, None, map, IfOk, OnOk, vec_len, ◌≤◌};
 ghost use Rattle.fk_run.specs.Assembler as definitions;
-ghost use Rattle.fk_run.specs.Lines.{tokens_of as tokens_in};
 ghost use Rattle.fk_run.specs.declared.assembler.AsmFail.TheVariants.{NoMemory};
 
 use crate::lines::{lines_of, tokens_of};
@@ -11,10 +10,11 @@ use fk_isa::encode;
 use std::alloc::{AllocError, AllocFailed, Global};
 
 /// Why a text isn't assembled.
-#[derive(Clone, Copy, Debug, PartialEq, Eq)]
+#[derive(Drop)]
 pub enum AsmFail {
     /// It isn't of the assembler's form, or has too many words.
     Text,
+    /// There is no memory for its lines, tokens or words.
     NoMemory,
 }
 

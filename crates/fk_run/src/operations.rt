@@ -8,7 +8,7 @@ ghost use Rattle.fk_run.specs.Operations as definitions;
 use fk_model::{Instr, operation};
 
 /// Which operands follow an operation's name.
-#[derive(Clone, Copy, Debug, PartialEq, Eq)]
+#[derive(Clone, Copy)]
 pub enum Shape {
     Bare,
     Number,
@@ -19,7 +19,7 @@ pub enum Shape {
 }
 
 /// An operation's number, and which operands follow its name.
-#[derive(Clone, Copy, Debug, PartialEq, Eq)]
+#[derive(Clone, Copy)]
 pub struct Operation {
     pub number: u8,
     pub shape: Shape,

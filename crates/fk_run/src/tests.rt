@@ -51,7 +51,7 @@ fn exec(alloc: Global, text: Vec<u8>) -> Result<Called, Fail> {
 }
 
 /// A text, the number of its status, and what is written for it.
-const ROWS: [(&str, u8, &str); 7] = [
+const ROWS: [(&str, u8, &str); 10] = [
     ("halt\n", 0, ZEROS),
     ("", 0, ZEROS),
     (
@@ -78,6 +78,21 @@ const ROWS: [(&str, u8, &str); 7] = [
         "set r15 -1\r\naddi r0 r15 -1\ncall;x\nstore r1 r0 4294967295",
         0,
         "halt 2 events 4\nregs 1 0 0 0 0 0 0 0 0 0 0 0 0 0 0 4294967295\n",
+    ),
+    (
+        "set r2,-1\n\tor r2\t,r2\t,r0; note\n\taddi r0,r2,1\n\tjmp 7; note\n\tset r15, 2\ndiv r0, r0, r2 ;; x\n\tand r6\t,r3\t,r2; note\nadd r3, r2, r3\n\tjmp 10 ;; x\n\tjnz r1,2 ;; x\ndiv r2\t,r15\t,r3; note\n\tjlt r1,r1,10\n set r3, 14220\nset r2 1\ncall\n\tstore r1 r0 4294967295\n set r2,2\n\tjz r3,9; note\nstore r2,r3,3",
+        0,
+        "halt 2 events 12\nregs 1 0 1 14220 0 0 0 0 0 0 0 0 0 0 0 0\n",
+    ),
+    (
+        " set r15\t,-1\n set r13\t,0\n\tset r15,3 ;; x\ncall; note\n\tjmp 8\n jz r2\t,1\n\tstore r3,r7,3609; note\n\taddi r15\t,r2\t,63; note\n\tcall\n\tset r3 -2147483648 ;; x\n\tset r15\t,63 ;; x\n\tadd r8 r15 r0\n",
+        0,
+        "halt 0 events 10\nregs 1 0 0 2147483648 0 0 0 0 64 0 0 0 0 0 0 63\n",
+    ),
+    (
+        " jlt r3\t,r15\t,16\n jlt r1, r11, 4\nset r3,2\n jnz r0 10\n\tjnz r3 7\n\tshr r2, r1, r0\njnz r2\t,7 ;; x\n\tset r1 64 ;; x\n\tset r2,3\njnz r3,12\naddi r1\t,r15\t,3 ;; x\n mul r15,r1,r2 ;; x\naddi r1,r2,63\n\tjmp 10\n jlt r0\t,r1\t,17\n\tjnz r3\t,4\njmp 11; note\n\tadd r0, r2, r3\n\thalt\njz r15,16\n",
+        10,
+        "budget events 100000\nregs 0 5171279219277961476 3 2 0 0 0 0 0 0 0 0 0 0 0 15513837657833884428\n",
     ),
 ];
 
