@@ -146,12 +146,16 @@ call code todo = record { code = code; todo = todo }
 
 abbrev pub r1 : List ℕ → ℕ
 r1 g = slice_index g 1
+
 abbrev pub r2 : List ℕ → ℕ
 r2 g = slice_index g 2
+
 abbrev pub r3 : List ℕ → ℕ
 r3 g = slice_index g 3
+
 abbrev pub r4 : List ℕ → ℕ
 r4 g = slice_index g 4
+
 abbrev pub r5 : List ℕ → ℕ
 r5 g = slice_index g 5
 

@@ -18,3 +18,10 @@ pub mod SpaceRows
 pub mod Records
 pub mod StateRows
 pub mod ObjectRows
+pub mod NativeRows
+pub mod Freezing
+pub mod Moves
+pub mod Rules
+pub mod Valid
+pub mod Sound
+pub mod Runs

@@ -59,10 +59,10 @@ has_sent c k count changes said =
 abbrev pub sends_words : Caller → Path → Path → ℕ → ℕ → ℕ → List ℕ → ℕ → Path → ℕ → List ℕ → Outcome
 sends_words c client y k address count page into t other_page other_words =
     has_sent c k count
-      (PutPage t other_page (overwritten other_words (into % PAGE_WORDS) (block k address page))
-      ∷ Alter client (CountMoved k)
-      ∷ Alter y (Shift k)
-      ∷ []) Nothing
+    (PutPage t other_page (overwritten other_words (into % PAGE_WORDS) (block k address page))
+    ∷ Alter client (CountMoved k)
+    ∷ Alter y (Shift k)
+    ∷ []) Nothing
 
 -- the other end is at its Receive, with this address and room. With no room its whole call ends FULL, and the sender stays
 abbrev pub sends_into : World → Caller → Path → Path → ℕ → ℕ → List ℕ → Option (ℕ × ℕ) → Outcome
