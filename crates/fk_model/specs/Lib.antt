@@ -25,3 +25,4 @@ pub mod Rules
 pub mod Valid
 pub mod Sound
 pub mod Runs
+pub mod Frame
