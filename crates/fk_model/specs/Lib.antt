@@ -26,3 +26,4 @@ pub mod Valid
 pub mod Sound
 pub mod Runs
 pub mod Frame
+pub mod Cut
