@@ -18,3 +18,5 @@ pub mod SpaceRows
 pub mod Records
 pub mod StateRows
 pub mod ObjectRows
+pub mod Shapes
+pub mod Laws
