@@ -1,1 +1,3 @@
 mod FrameLaws
+pub mod CallLaws
+pub mod RecordLaws
