@@ -1,3 +1,6 @@
 mod FrameLaws
 pub mod CallLaws
 pub mod RecordLaws
+pub mod Safe
+pub mod SafeOutcomes
+pub mod SafeReads
