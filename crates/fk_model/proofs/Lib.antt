@@ -4,3 +4,5 @@ pub mod RecordLaws
 pub mod Safe
 pub mod SafeOutcomes
 pub mod SafeReads
+pub mod SafeMemory
+pub mod SafeRows

@@ -11,10 +11,23 @@ use Rattle.fk_model.specs.LinkRows.{end_all}
 use Rattle.fk_model.proofs.Safe.{IsSafe, AreSafe}
 
 -- the changes of an outcome are safe, one after another
-abbrev pub SafeOutcome : World → Outcome → Type 0
-SafeOutcome w (Refused status) = Unit {0}
-SafeOutcome w Waits = Unit {0}
-SafeOutcome w (Goes changes said) = AreSafe w changes
+abbrev pub SafeIn : World → Outcome → Type 0
+SafeIn w (Refused status) = Unit {0}
+SafeIn w Waits = Unit {0}
+SafeIn w (Goes changes said) = AreSafe w changes
+
+-- (a record, so that the world and the outcome are read off a goal)
+pub record SafeOutcome (w : World) (o : Outcome) : Type 0 where
+  pub safe : SafeIn w o
+
+pub refused : {w : World} {status : ℕ} → SafeOutcome w (Refused status)
+refused = record { safe = tt }
+
+pub waits : {w : World} → SafeOutcome w Waits
+waits = record { safe = tt }
+
+pub goes : {w : World} {cs : List Change} {said : Said} → AreSafe w cs → SafeOutcome w (Goes cs said)
+goes safe = record { safe = safe }
 
 -- ---- lists
 
@@ -31,19 +44,19 @@ safe-end_all (x ∷ ends) w = (tt, safe-end_all ends _)
 
 pub safe->>= : {A : Type 0} (w : World) (r : Result A ℕ) (go : A → Outcome) → ((a : A) → r ≡ Ok a → SafeOutcome w (go a)) → SafeOutcome w (r >>= go)
 safe->>= w (Ok a) go safe = safe a refl
-safe->>= w (Err status) go safe = tt
+safe->>= w (Err status) go safe = refused
 
 pub safe-refuse : (w : World) (status : ℕ) (test : Bool) (go : Unit {0} → Outcome) → (test ≡ false → SafeOutcome w (go tt)) → SafeOutcome w (refuse status test >>= go)
-safe-refuse w status true go safe = tt
+safe-refuse w status true go safe = refused
 safe-refuse w status false go safe = safe refl
 
 pub safe-or_refuse : {A : Type 0} (w : World) (status : ℕ) (o : Option A) (go : A → Outcome) → ((a : A) → o ≡ Some a → SafeOutcome w (go a)) → SafeOutcome w (or_refuse status o >>= go)
 safe-or_refuse w status (Some a) go safe = safe a refl
-safe-or_refuse w status None go safe = tt
+safe-or_refuse w status None go safe = refused
 
 pub safe-when : (w : World) (test : Bool) (o : Outcome) → (test ≡ true → SafeOutcome w o) → SafeOutcome w (when test o)
 safe-when w true o safe = safe refl
-safe-when w false o safe = tt
+safe-when w false o safe = waits
 
 -- ---- ends of a stage
 
@@ -51,8 +64,8 @@ pub safe-done_at : (w : World) (me : Path) (c : Caller) (cs : List Change) (answ
 safe-done_at w me c cs answers safe = by c.is_porter
   where
     by : (porter : Bool) → SafeOutcome w (done_at me (record c { is_porter = porter }) cs answers)
-    by true = safe
-    by false = safe-then cs _ w safe (λ v. (tt, tt))
+    by true = goes safe
+    by false = goes (safe-then cs _ w safe (λ v. (tt, tt)))
 
 pub safe-done : (w : World) (c : Caller) (cs : List Change) (answers : List ℕ) → AreSafe w cs → SafeOutcome w (done c cs answers)
 safe-done w c cs answers safe = safe-done_at w _ c cs answers safe
@@ -61,12 +74,17 @@ pub safe-ended : (w : World) (c : Caller) (cs : List Change) (answers : List ℕ
 safe-ended w c cs answers safe = by c.is_porter
   where
     by : (porter : Bool) → SafeOutcome w (ended (record c { is_porter = porter }) cs answers)
-    by true = safe
-    by false = safe-then cs _ w safe (λ v. (tt, tt))
+    by true = goes safe
+    by false = goes (safe-then cs _ w safe (λ v. (tt, tt)))
 
 pub safe-stays : (w : World) (c : Caller) (cs : List Change) → AreSafe w cs → SafeOutcome w (stays c cs)
-safe-stays w c cs safe = safe
+safe-stays w c cs safe = goes safe
 
 pub safe-telling : (w : World) (said : Said) (o : Outcome) → SafeOutcome w o → SafeOutcome w (telling said o)
-safe-telling w said (Goes cs Nothing) safe = safe
+safe-telling w said (Goes cs Nothing) safe = goes safe.safe
 safe-telling w said o safe = safe
+
+
+
+-- a row is a walk through its checks
+pub ruleset safe_row = (safe->>=, safe-refuse, safe-or_refuse, safe-when, waits, refused)
