@@ -6,3 +6,4 @@ pub mod SafeOutcomes
 pub mod SafeReads
 pub mod SafeMemory
 pub mod SafeRows
+pub mod SafeObjects
