@@ -7,3 +7,4 @@ pub mod SafeReads
 pub mod SafeMemory
 pub mod SafeRows
 pub mod SafeObjects
+pub mod SafeState
