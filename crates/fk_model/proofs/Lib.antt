@@ -1,6 +1,7 @@
 mod FrameLaws
 pub mod CallLaws
 pub mod RecordLaws
+mod PlaceLaws
 pub mod Safe
 pub mod SafeOutcomes
 pub mod SafeReads
@@ -8,3 +9,4 @@ pub mod SafeMemory
 pub mod SafeRows
 pub mod SafeObjects
 pub mod SafeState
+pub mod SafeTalks

@@ -152,7 +152,7 @@ count_in-safe w c base s x = search (safe_row, safe-done) depth 9
 
 -- ---- holds
 
-caller-leads : (w : World) (c : Caller) → IsCaller w c → leads_there (kind_there w) (kinds.Thread ∷ []) (At (path_of c)) ≡ true
+pub caller-leads : (w : World) (c : Caller) → IsCaller w c → leads_there (kind_there w) (kinds.Thread ∷ []) (At (path_of c)) ≡ true
 caller-leads w c caller = let kind = caller.thread in rw kind refl
 
 hold-goes : (w : World) (c : Caller) (x : Path) → IsCaller w c → SafeOutcome w (done c (Alter x (SetHolder (Some (At (path_of c)))) ∷ []) [])
