@@ -10,3 +10,5 @@ pub mod SafeRows
 pub mod SafeObjects
 pub mod SafeState
 pub mod SafeTalks
+pub mod SafeGiven
+pub mod SafeMoves

@@ -29,7 +29,7 @@ use Rattle.fk_model.proofs.SafeObjects.{caller-leads}
 
 -- ---- who serves nobody
 
-idle-serves : (w : World) → Facts w → (server : Path) → is_serving w server ≡ false → (s q : Path) → leads_to s (At server) ≡ true → services w s q ≡ 0
+pub idle-serves : (w : World) → Facts w → (server : Path) → is_serving w server ≡ false → (s q : Path) → leads_to s (At server) ≡ true → services w s q ≡ 0
 idle-serves w facts server idle s q leads = let same = same_path_eq server s leads in rw (← same) (facts.walks.idle server idle q)
 
 -- the caller may serve at a port of its space
