@@ -1,1 +1,3 @@
+mod PlaceLaws
 pub mod Safe
+mod Ties
