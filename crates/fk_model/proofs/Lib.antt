@@ -1,3 +1,4 @@
 mod PlaceLaws
 pub mod Safe
 mod Ties
+mod Frames

@@ -1,0 +1,129 @@
+-- Frames: what an edit leaves of an object, which is its kind, its birth number and whether it is served.
+use Rattle.std.proofs.Common.{◌≡◌, ℕ, ◌+◌, ◌<◌, ◌≤◌, Bool, true, false, if◌then◌else◌, IsSome, is_some, List, ◌∷◌, Option, Some, None, option_map, refl, sym, ap, subst, arith, ◌∙◌}
+use Rattle.fk_model.specs.declared.names.Kind.{Kind}
+use Rattle.fk_model.specs.Places.{Path, same_path, Ptr}
+use Rattle.fk_model.specs.Places.Ptr.{Null, Dead, At, Out, Outside, Far}
+use Rattle.fk_model.specs.Objects.{Thread, Body, kind_of, port_of, and_then, holds}
+use Rattle.fk_model.specs.World.{World, at_path}
+use Rattle.fk_model.specs.Valid.{IsValid, kind_there, all_in, is_good, birth_of, birth_at, is_served_port}
+use Rattle.fk_model.proofs.PlaceLaws.{same_path_eq}
+use Rattle.fk_model.proofs.Ties.{Tie, body_tie, body_claim, tie_at, claim_at, AreTied, AreFacts, HaveFacts, facts, valid-from}
+
+pub record Frame : Type 0 where
+  pub kind : Kind
+  pub birth : Option ℕ
+  pub served : Bool
+
+abbrev pub is_served : Body → Bool
+is_served b = holds (λ (port : Option ℕ × Bool). port.1) (port_of b)
+
+abbrev pub frame_of : Body → Frame
+frame_of b = record { kind = kind_of b; birth = birth_of b; served = is_served b }
+
+frame-kind : (o : Option Body) → option_map kind_of o ≡ option_map (λ (f : Frame). f.kind) (option_map frame_of o)
+frame-kind None = refl
+frame-kind (Some b) = refl
+
+frame-birth : (o : Option Body) → and_then birth_of o ≡ and_then (λ (f : Frame). f.birth) (option_map frame_of o)
+frame-birth None = refl
+frame-birth (Some b) = refl
+
+frame-served : (o : Option Body) → holds (λ (port : Option ℕ × Bool). port.1) (and_then port_of o) ≡ holds (λ (f : Frame). f.served) (option_map frame_of o)
+frame-served None = refl
+frame-served (Some b) = refl
+
+module _ (w v : World) (same : (q : Path) → option_map frame_of (v.body q) ≡ option_map frame_of (w.body q)) where
+  pub same_kinds : kind_there v ≡ kind_there w
+  unfolding kind_there
+  same_kinds = λ i q. (frame-kind (v.body q) ∙ ap (option_map (λ (f : Frame). f.kind)) (same q) ∙ sym (frame-kind (w.body q))) i
+
+  pub same_births : birth_at v ≡ birth_at w
+  same_births = λ i q. (frame-birth (v.body q) ∙ ap (and_then (λ (f : Frame). f.birth)) (same q) ∙ sym (frame-birth (w.body q))) i
+
+  served_alike : (p : Ptr) → is_served_port v p ≡ is_served_port w p
+  served_alike (At q) = frame-served (v.body q) ∙ ap (holds (λ (f : Frame). f.served)) (same q) ∙ sym (frame-served (w.body q))
+  served_alike p = refl
+
+  pub same_served : is_served_port v ≡ is_served_port w
+  same_served = λ i p. served_alike p i
+
+-- a value put at one path
+abbrev pub put : {A : Type 0} → Path → A → (Path → A) → Path → A
+put x u a q = if same_path q x then u else a q
+
+put_at : {A : Type 0} (x : Path) (h : Option Body → A) (f : Option Body → Option Body) (body : Path → Option Body) (q : Path) → h (if same_path q x then f (body q) else body q) ≡ put x (h (f (body x))) (λ q. h (body q)) q
+put_at x h f body q = by (same_path q x) refl
+  where
+    by : (b : Bool) → same_path q x ≡ b → h (if b then f (body q) else body q) ≡ (if b then h (f (body x)) else h (body q))
+    by true e = let same = same_path_eq q x e in rw same refl
+    by false e = refl
+
+pub same_facts : {n : ℕ} (k l : Path → Option Kind) (b c : Path → Option ℕ) (s t : Ptr → Bool) (x y z u : Path → Option Tie) → k ≡ l → b ≡ c → s ≡ t → x ≡ y → z ≡ u → AreFacts k b n s x z → AreFacts l c n t y u
+same_facts k l b c s t x y z u e f g p q h = rw (← e, ← f, ← g, ← p, ← q) h
+
+-- the body at one path is changed to one with the same frame
+pub valid-at : (w : World) (x : Path) (f : Body → Body) → ((b : Body) → frame_of (f b) ≡ frame_of b) →
+    ((b : Body) → w.body x ≡ Some b → is_good (kind_there w) x b ≡ true → is_good (kind_there w) x (f b) ≡ true) →
+    AreTied (is_served_port w) (put x (body_tie (option_map f (w.body x))) (tie_at w)) (put x (body_claim (option_map f (w.body x))) (claim_at w)) →
+    IsValid w → IsValid (at_path x (option_map f) w)
+valid-at w x f framed keeps tied valid =
+    valid-from v (same_facts (kind_there w) (kind_there v) (birth_at w) (birth_at v) (is_served_port w) (is_served_port v) _ (tie_at v) _ (claim_at v) (sym kinds) (sym (same_births w v same)) (sym (same_served w v same)) (sym ties) (sym claims) old)
+    (λ q. subst (λ (k : Path → Option Kind). all_in (is_good k q) (v.body q) ≡ true) (sym kinds) (good q (same_path q x) refl))
+  where
+    v : World
+    v = at_path x (option_map f) w
+
+    frames : (o : Option Body) → option_map frame_of (option_map f o) ≡ option_map frame_of o
+    frames None = refl
+    frames (Some b) = ap Some (framed b)
+
+    same : (q : Path) → option_map frame_of (v.body q) ≡ option_map frame_of (w.body q)
+    same q = by (same_path q x)
+      where
+        by : (b : Bool) → option_map frame_of (if b then option_map f (w.body q) else w.body q) ≡ option_map frame_of (w.body q)
+        by true = frames (w.body q)
+        by false = refl
+
+    kinds : kind_there v ≡ kind_there w
+    kinds = same_kinds w v same
+
+    ties : tie_at v ≡ put x (body_tie (option_map f (w.body x))) (tie_at w)
+    ties = λ i q. put_at x body_tie (option_map f) w.body q i
+
+    claims : claim_at v ≡ put x (body_claim (option_map f (w.body x))) (claim_at w)
+    claims = λ i q. put_at x body_claim (option_map f) w.body q i
+
+    old : AreFacts (kind_there w) (birth_at w) w.next (is_served_port w) (put x (body_tie (option_map f (w.body x))) (tie_at w)) (put x (body_claim (option_map f (w.body x))) (claim_at w))
+    old = let f = facts w valid in record { parents = f.parents; apart = f.apart; born = f.born; tied = tied }
+
+    good_there : (o : Option Body) → w.body x ≡ o → all_in (is_good (kind_there w) x) o ≡ true → all_in (is_good (kind_there w) x) (option_map f o) ≡ true
+    good_there None e h = refl
+    good_there (Some b) e h = keeps b e h
+
+    good : (q : Path) (b : Bool) → same_path q x ≡ b → all_in (is_good (kind_there w) q) (if b then option_map f (w.body q) else w.body q) ≡ true
+    good q true e = let here = same_path_eq q x e in rw here (good_there (w.body x) refl (valid.good x))
+    good q false e = valid.good q
+
+-- and its tie and its claim stay too
+pub valid-at_quiet : (w : World) (x : Path) (f : Body → Body) → ((b : Body) → frame_of (f b) ≡ frame_of b) →
+    ((b : Body) → body_tie (Some (f b)) ≡ body_tie (Some b)) → ((b : Body) → body_claim (Some (f b)) ≡ body_claim (Some b)) →
+    ((b : Body) → w.body x ≡ Some b → is_good (kind_there w) x b ≡ true → is_good (kind_there w) x (f b) ≡ true) →
+    IsValid w → IsValid (at_path x (option_map f) w)
+valid-at_quiet w x f framed tied claimed keeps valid = valid-at w x f framed keeps (rw (ties, claims) (facts w valid).tied) valid
+  where
+    kept : {A : Type 0} (h : Option Body → A) → ((b : Body) → h (Some (f b)) ≡ h (Some b)) → (o : Option Body) → h (option_map f o) ≡ h o
+    kept h same None = refl
+    kept h same (Some b) = same b
+
+    put_same : {A : Type 0} (h : Option Body → A) → ((b : Body) → h (Some (f b)) ≡ h (Some b)) → (q : Path) → put x (h (option_map f (w.body x))) (λ q. h (w.body q)) q ≡ h (w.body q)
+    put_same h same q = by (same_path q x) refl
+      where
+        by : (b : Bool) → same_path q x ≡ b → (if b then h (option_map f (w.body x)) else h (w.body q)) ≡ h (w.body q)
+        by true e = let here = same_path_eq q x e in rw here (kept h same (w.body x))
+        by false e = refl
+
+    ties : put x (body_tie (option_map f (w.body x))) (tie_at w) ≡ tie_at w
+    ties = λ i q. put_same body_tie tied q i
+
+    claims : put x (body_claim (option_map f (w.body x))) (claim_at w) ≡ claim_at w
+    claims = λ i q. put_same body_claim claimed q i
