@@ -104,6 +104,17 @@ valid-at w x f framed keeps tied valid =
     good q true e = let here = same_path_eq q x e in rw here (good_there (w.body x) refl (valid.good x))
     good q false e = valid.good q
 
+-- what is put there is what was there
+pub put_kept : {A : Type 0} (x : Path) (u : A) (a : Path → A) → u ≡ a x → put x u a ≡ a
+put_kept x u a e = λ i q. at q i
+  where
+    at : (q : Path) → put x u a q ≡ a q
+    at q = by (same_path q x) refl
+      where
+        by : (b : Bool) → same_path q x ≡ b → (if b then u else a q) ≡ a q
+        by true g = let here = same_path_eq q x g in rw here e
+        by false g = refl
+
 -- and its tie and its claim stay too
 pub valid-at_quiet : (w : World) (x : Path) (f : Body → Body) → ((b : Body) → frame_of (f b) ≡ frame_of b) →
     ((b : Body) → body_tie (Some (f b)) ≡ body_tie (Some b)) → ((b : Body) → body_claim (Some (f b)) ≡ body_claim (Some b)) →
@@ -115,15 +126,8 @@ valid-at_quiet w x f framed tied claimed keeps valid = valid-at w x f framed kee
     kept h same None = refl
     kept h same (Some b) = same b
 
-    put_same : {A : Type 0} (h : Option Body → A) → ((b : Body) → h (Some (f b)) ≡ h (Some b)) → (q : Path) → put x (h (option_map f (w.body x))) (λ q. h (w.body q)) q ≡ h (w.body q)
-    put_same h same q = by (same_path q x) refl
-      where
-        by : (b : Bool) → same_path q x ≡ b → (if b then h (option_map f (w.body x)) else h (w.body q)) ≡ h (w.body q)
-        by true e = let here = same_path_eq q x e in rw here (kept h same (w.body x))
-        by false e = refl
-
     ties : put x (body_tie (option_map f (w.body x))) (tie_at w) ≡ tie_at w
-    ties = λ i q. put_same body_tie tied q i
+    ties = put_kept x _ (tie_at w) (kept body_tie tied (w.body x))
 
     claims : put x (body_claim (option_map f (w.body x))) (claim_at w) ≡ claim_at w
-    claims = λ i q. put_same body_claim claimed q i
+    claims = put_kept x _ (claim_at w) (kept body_claim claimed (w.body x))

@@ -2,3 +2,5 @@ mod PlaceLaws
 pub mod Safe
 mod Ties
 mod Frames
+mod TieLaws
+mod EditLaws
