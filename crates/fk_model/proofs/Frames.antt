@@ -51,7 +51,7 @@ module _ (w v : World) (same : (q : Path) → option_map frame_of (v.body q) ≡
 abbrev pub put : {A : Type 0} → Path → A → (Path → A) → Path → A
 put x u a q = if same_path q x then u else a q
 
-put_at : {A : Type 0} (x : Path) (h : Option Body → A) (f : Option Body → Option Body) (body : Path → Option Body) (q : Path) → h (if same_path q x then f (body q) else body q) ≡ put x (h (f (body x))) (λ q. h (body q)) q
+pub put_at : {A : Type 0} (x : Path) (h : Option Body → A) (f : Option Body → Option Body) (body : Path → Option Body) (q : Path) → h (if same_path q x then f (body q) else body q) ≡ put x (h (f (body x))) (λ q. h (body q)) q
 put_at x h f body q = by (same_path q x) refl
   where
     by : (b : Bool) → same_path q x ≡ b → h (if b then f (body q) else body q) ≡ (if b then h (f (body x)) else h (body q))

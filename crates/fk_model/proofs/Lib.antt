@@ -4,3 +4,4 @@ mod Ties
 mod Frames
 mod TieLaws
 mod EditLaws
+mod MakeLaws
