@@ -20,15 +20,15 @@ is_served b = holds (λ (port : Option ℕ × Bool). port.1) (port_of b)
 abbrev pub frame_of : Body → Frame
 frame_of b = record { kind = kind_of b; birth = birth_of b; served = is_served b }
 
-frame-kind : (o : Option Body) → option_map kind_of o ≡ option_map (λ (f : Frame). f.kind) (option_map frame_of o)
+pub frame-kind : (o : Option Body) → option_map kind_of o ≡ option_map (λ (f : Frame). f.kind) (option_map frame_of o)
 frame-kind None = refl
 frame-kind (Some b) = refl
 
-frame-birth : (o : Option Body) → and_then birth_of o ≡ and_then (λ (f : Frame). f.birth) (option_map frame_of o)
+pub frame-birth : (o : Option Body) → and_then birth_of o ≡ and_then (λ (f : Frame). f.birth) (option_map frame_of o)
 frame-birth None = refl
 frame-birth (Some b) = refl
 
-frame-served : (o : Option Body) → holds (λ (port : Option ℕ × Bool). port.1) (and_then port_of o) ≡ holds (λ (f : Frame). f.served) (option_map frame_of o)
+pub frame-served : (o : Option Body) → holds (λ (port : Option ℕ × Bool). port.1) (and_then port_of o) ≡ holds (λ (f : Frame). f.served) (option_map frame_of o)
 frame-served None = refl
 frame-served (Some b) = refl
 

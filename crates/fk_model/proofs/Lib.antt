@@ -5,3 +5,4 @@ mod Frames
 mod TieLaws
 mod EditLaws
 mod MakeLaws
+mod KillLaws

@@ -1,5 +1,5 @@
 -- A tie is put at one path, or ties are lost: what stays of them.
-use Rattle.std.proofs.Common.{◌≡◌, ℕ, ◌+◌, ◌<◌, ◌≤◌, Bool, true, false, if◌then◌else◌, List, Option, Some, None, refl, sym, arith, add_comm}
+use Rattle.std.proofs.Common.{◌≡◌, ℕ, ◌+◌, ◌<◌, ◌≤◌, Bool, true, false, if◌then◌else◌, List, Option, Some, None, refl, sym, arith, add_comm, zero-le}
 use Rattle.fk_model.specs.Places.{Path, same_path, Ptr}
 use Rattle.fk_model.specs.Objects.{Peer}
 use Rattle.fk_model.specs.Objects.Peer.{Server, Service, Parked}
@@ -90,4 +90,22 @@ put_claim served a b x u new tied = record {
   talks_near = tied.talks_near;
   claims_near = near_put x u b new.near tied.claims_near;
   single = λ s. single_flip s (put x u b) a (single_put s x u b a (λ e q. rw (load_flip s (b q) (a q)) (new.idle s e q)) (single_flip s a b (tied.single s)));
+}
+
+-- ---- ties are lost
+
+abbrev pub IsWithin : (Path → Option Tie) → (Path → Option Tie) → Type 0
+IsWithin c a = (q : Path) (tie : Tie) → c q ≡ Some tie → a q ≡ Some tie
+
+flag_within : (s : Path) (c a : Option Tie) → ((tie : Tie) → c ≡ Some tie → a ≡ Some tie) → flag_of (is_tied_to s c) ≤ flag_of (is_tied_to s a)
+flag_within s None a within = zero-le
+flag_within s (Some tie) a within = rw (within tie refl) (omega arith)
+
+pub tied_within : (served still : Ptr → Bool) (a b c d : Path → Option Tie) → IsWithin c a → IsWithin d b → IsServedAll still c → AreTied served a b → AreTied still c d
+tied_within served still a b c d talks claims all tied = record {
+  served_all = all;
+  one_client = λ x y port h g. tied.one_client x y port (talks x _ h) (talks y _ g);
+  talks_near = λ x port server h. tied.talks_near x port server (talks x _ h);
+  claims_near = λ x port server h. tied.claims_near x port server (claims x _ h);
+  single = λ s. single_less s a b c d (λ q. omega (arith, flag_within s (c q) (a q) (talks q), flag_within s (d q) (b q) (claims q))) (tied.single s);
 }
