@@ -6,3 +6,4 @@ mod TieLaws
 mod EditLaws
 mod MakeLaws
 mod KillLaws
+mod MoveLaws
