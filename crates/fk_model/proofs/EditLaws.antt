@@ -329,3 +329,24 @@ valid-edit (PassTurn turn) w x safe valid = valid-light w x (on_talk (λ talk. r
 valid-edit (SetPeer peer) w x safe valid = valid-set_peer w x peer safe valid
 valid-edit (SetFault fault) w x safe valid = valid-set_fault w x fault safe valid
 valid-edit (SetTaker taker) w x safe valid = valid-set_taker w x taker safe valid
+
+pub frame-edited : (edit : Edit) (b : Body) → frame_of (edited edit b) ≡ frame_of b
+unfolding edited
+frame-edited (SetLocked locked) b = ap (λ (s : Seen). s.frame) (seen-locked locked b)
+frame-edited (SetWindow first count offset write) b = ap (λ (s : Seen). s.frame) (seen-window first count offset write b)
+frame-edited (SetExtent first count write) b = ap (λ (s : Seen). s.frame) (seen-extent first count write b)
+frame-edited (SetMember set) b = ap (λ (s : Seen). s.frame) (seen-member set b)
+frame-edited (SetPointer to) b = ap (λ (s : Seen). s.frame) (seen-pointer to b)
+frame-edited (SetHolder holder) b = ap (λ (s : Seen). s.frame) (seen-holder holder b)
+frame-edited (Proceed mode counter) b = frame-on_thread (λ t. at_mode t mode counter) b
+frame-edited (Shift count) b = frame-on_thread (λ t. at_mode t (shifted_in count t.mode) t.counter) b
+frame-edited (Finish answers) b = frame-on_thread (λ t. finished_in answers t t.mode) b
+frame-edited (End status answers) b = frame-on_thread (λ t. ended_in status answers t t.mode) b
+frame-edited (Replace stage) b = frame-on_thread (λ t. at_mode t (replaced_in stage t.mode) t.counter) b
+frame-edited (SetStops stops) b = frame-on_thread (λ t. record t { stops = stops }) b
+frame-edited (SetTalk talk) b = frame-on_thread (λ t. record t { talk = talk }) b
+frame-edited (CountMoved count) b = frame-on_thread (on_talk (λ talk. record talk { moved = min MOST_MOVED (talk.moved + count) })) b
+frame-edited (PassTurn turn) b = frame-on_thread (on_talk (λ talk. record talk { turn = turn; moved = 0 })) b
+frame-edited (SetPeer peer) b = frame-on_thread (on_talk (λ talk. record talk { peer = peer })) b
+frame-edited (SetFault fault) b = frame-on_thread (λ t. record t { fault = fault }) b
+frame-edited (SetTaker taker) b = frame-on_thread (on_fault (λ fault. record fault { taker = taker })) b

@@ -131,7 +131,7 @@ claim-killed : (x q : Path) (o : Option Body) (tie : Tie) → body_claim (option
 claim-killed x q (Some (Thread_of t)) tie h = claim-without x t.fault tie h
 claim-killed x q o tie h = cc
 
-frame-without : (x q : Path) (o : Option Body) → option_map frame_of (option_map (through (without x) q) o) ≡ option_map frame_of o
+pub frame-without : (x q : Path) (o : Option Body) → option_map frame_of (option_map (through (without x) q) o) ≡ option_map frame_of o
 frame-without x q (Some (Port set served)) = refl
 frame-without x q (Some (Mutex locked)) = refl
 frame-without x q (Some Cond) = refl

@@ -7,3 +7,4 @@ mod EditLaws
 mod MakeLaws
 mod KillLaws
 mod MoveLaws
+pub mod ValidLaws

@@ -251,7 +251,7 @@ module _ (x y : Path) (apart : same_path y x ≡ false) where
     body-claim q z (Some (Reference to)) h = refl
     body-claim q z None h = refl
 
-frame-following : (x y q : Path) (o : Option Body) → option_map frame_of (option_map (through (following x y) q) o) ≡ option_map frame_of o
+pub frame-following : (x y q : Path) (o : Option Body) → option_map frame_of (option_map (through (following x y) q) o) ≡ option_map frame_of o
 frame-following x y q (Some (Port set served)) = refl
 frame-following x y q (Some (Mutex locked)) = refl
 frame-following x y q (Some Cond) = refl
