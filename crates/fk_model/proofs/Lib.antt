@@ -8,3 +8,4 @@ mod MakeLaws
 mod KillLaws
 mod MoveLaws
 pub mod ValidLaws
+mod Members
