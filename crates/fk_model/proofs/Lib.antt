@@ -9,3 +9,4 @@ mod KillLaws
 mod MoveLaws
 pub mod ValidLaws
 mod Members
+pub mod WalkLaws
