@@ -1,9 +1,9 @@
 -- Walks: in a valid world they come to every object.
 --
 -- No path is longer than there are birth numbers, since the spaces on it have numbers of their own below the next one.
-use Rattle.std.proofs.Common.{◌≡◌, ℕ, zero, suc, ◌+◌, ◌<◌, ◌≤◌, Bool, true, false, if◌then◌else◌, ◌==◌, ◌||◌, eqb, IsSome, is_some, List, [], ◌∷◌, ◌++◌, length, Option, Some, None, option_map, unwrap_or, ◌⊎◌, inl, inr, refl, sym, ap, arith, ne_eqb, eqb-true, ◌∙◌}
+use Rattle.std.proofs.Common.{◌≡◌, ℕ, zero, suc, ◌+◌, ◌<◌, ◌≤◌, Bool, true, false, if◌then◌else◌, ◌==◌, ◌||◌, eqb, IsSome, is_some, List, [], ◌∷◌, ◌++◌, length, Option, Some, None, option_map, unwrap_or, ◌⊎◌, inl, inr, refl, sym, ap, arith, le_trans, ne_eqb, eqb-true, ◌∙◌}
 use Rattle.std.specs.List.{IsDistinct, AllByRecursion, list_any}
-use Rattle.std.proofs.lemmas.Bool.{or_parts, or_cases}
+use Rattle.std.proofs.lemmas.Bool.{or_parts, or_cases, cases_lt}
 use Rattle.std.proofs.lemmas.Map.Keys.{IsDistinct-cons}
 use Rattle.std.proofs.lemmas.Map.Steps.{length-le_from_distinct_below}
 use Rattle.fk_model.specs.declared.limits.TheConstants.{SLOTS}
@@ -84,3 +84,70 @@ numbers-distinct w valid (k ∷ x) live =
 
 pub short : (w : World) → IsValid w → (x : Path) → IsSome (w.body x) → length x ≤ w.next
 short w valid x live = rw (← numbers-long w x) (length-le_from_distinct_below (numbers w x) w.next (numbers-distinct w valid x live) (numbers-below w valid x live))
+
+-- ---- the residents of a space
+
+in_slots : (n k : ℕ) → k < n → IsIn k (slots n)
+unfolding slots
+in_slots zero k h = absurd (omega arith)
+in_slots (suc n) k h = by (cases_lt k n) (in_slots n k)
+  where
+    by : (k < n) ⊎ (n ≤ k) → (k < n → IsIn k (slots n)) → IsIn k (slots n ++ n ∷ [])
+    by (inl g) rest = in_left k (slots n) (n ∷ []) (rest g)
+    by (inr g) rest = in_right k (slots n) (n ∷ []) (inl (omega arith))
+
+in_residents : (w : World) → IsRooted w → (k : ℕ) (s : Path) → IsSome (w.body (k ∷ s)) → IsIn k (residents w s)
+unfolding residents
+in_residents w rooted k s live = in_filter (λ k. is_some (w.body (k ∷ s))) k (slots SLOTS) (in_slots SLOTS k (rooted.slots k s live)) live
+
+of_residents : (w : World) (k : ℕ) (s : Path) → IsIn k (residents w s) → IsSome (w.body (k ∷ s))
+unfolding residents
+of_residents w k s h = (of_filter (λ k. is_some (w.body (k ∷ s))) k (slots SLOTS) h).1
+
+-- ---- all that lies beneath a space
+
+in_first : (n : ℕ) (w : World) → IsRooted w → (k : ℕ) (s : Path) → 0 < n → IsSome (w.body (k ∷ s)) → IsIn (k ∷ s) (beneath_by n w s)
+unfolding beneath_by
+in_first zero w rooted k s h live = absurd (omega arith)
+in_first (suc n) w rooted k s h live = in_flat_map (λ k. (k ∷ s) ∷ beneath_by n w (k ∷ s)) k (k ∷ s) (residents w s) (in_residents w rooted k s live) (inl refl)
+
+-- with an object the walk comes to what lies in it
+in_next : (n : ℕ) (w : World) → IsRooted w → (s y : Path) (k : ℕ) → IsIn y (beneath_by n w s) → length y < n + length s → IsSome (w.body (k ∷ y)) → IsIn (k ∷ y) (beneath_by n w s)
+unfolding beneath_by
+in_next zero w rooted s y k h few live = absurd h
+in_next (suc n) w rooted s y k h few live =
+    let found = of_flat_map (λ j. (j ∷ s) ∷ beneath_by n w (j ∷ s)) y (residents w s) h in
+    in_flat_map (λ j. (j ∷ s) ∷ beneath_by n w (j ∷ s)) found.0 (k ∷ y) (residents w s) found.1 (inr (by found.0 found.2 (λ j g. in_next n w rooted (j ∷ s) y k g (omega arith) live)))
+  where
+    by : (j : ℕ) → (j ∷ s ≡ y) ⊎ IsIn y (beneath_by n w (j ∷ s)) → ((j : ℕ) → IsIn y (beneath_by n w (j ∷ s)) → IsIn (k ∷ y) (beneath_by n w (j ∷ s))) → IsIn (k ∷ y) (beneath_by n w (j ∷ s))
+    by j (inl e) rest = rw (e) (in_first n w rooted k y (omega (arith, ap length e)) live)
+    by j (inr g) rest = rest j g
+
+in_walk : (n : ℕ) (w : World) → IsValid w → IsRooted w → (x : Path) (k : ℕ) → IsSome (w.body (k ∷ x)) → length (k ∷ x) ≤ n → IsIn (k ∷ x) (beneath_by n w [])
+in_walk n w valid rooted [] k live few = in_first n w rooted k [] (omega arith) live
+in_walk n w valid rooted (j ∷ y) k live few = in_next n w rooted [] (j ∷ y) k (in_walk n w valid rooted y j (live_above w valid k (j ∷ y) live) (omega arith)) (omega arith) live
+
+of_walk : (n : ℕ) (w : World) (s x : Path) → IsIn x (beneath_by n w s) → IsSome (w.body x)
+unfolding beneath_by
+of_walk zero w s x h = absurd h
+of_walk (suc n) w s x h = let found = of_flat_map (λ j. (j ∷ s) ∷ beneath_by n w (j ∷ s)) x (residents w s) h in by found.0 (of_residents w found.0 s found.1) found.2 (of_walk n w (found.0 ∷ s) x)
+  where
+    by : (j : ℕ) → IsSome (w.body (j ∷ s)) → (j ∷ s ≡ x) ⊎ IsIn x (beneath_by n w (j ∷ s)) → (IsIn x (beneath_by n w (j ∷ s)) → IsSome (w.body x)) → IsSome (w.body x)
+    by j live (inl e) rest = rw e at live
+    by j live (inr g) rest = rest g
+
+-- ---- every object
+
+pub in_objects : (w : World) → IsValid w → IsRooted w → w.next ≤ depth → (k : ℕ) (x : Path) → IsSome (w.body (k ∷ x)) → IsIn (k ∷ x) (objects w)
+unfolding beneath
+in_objects w valid rooted few k x live = in_walk depth w valid rooted x k live (le_trans (short w valid (k ∷ x) live) few)
+
+pub of_objects : (w : World) (x : Path) → IsIn x (objects w) → IsSome (w.body x)
+unfolding beneath
+of_objects w x h = of_walk depth w [] x h
+
+pub objects-all : (w : World) → IsValid w → IsRooted w → w.next ≤ depth → (k : ℕ) (x : Path) → IsSome (w.body (k ∷ x)) → list_any (same_path (k ∷ x)) (objects w) ≡ true
+objects-all w valid rooted few k x live = any_in (same_path (k ∷ x)) (k ∷ x) (objects w) (in_objects w valid rooted few k x live) (same_path_refl (k ∷ x))
+
+pub objects-live : (w : World) (x : Path) → list_any (same_path x) (objects w) ≡ true → IsSome (w.body x)
+objects-live w x h = let found = of_any (same_path x) (objects w) h in let same = same_path_eq x found.0 found.2 in rw same (of_objects w found.0 found.1)
