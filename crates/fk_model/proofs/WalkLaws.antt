@@ -1,9 +1,9 @@
 -- Walks: in a valid world they come to every object.
 --
 -- No path is longer than there are birth numbers, since the spaces on it have numbers of their own below the next one.
-use Rattle.std.proofs.Common.{◌≡◌, ℕ, zero, suc, ◌+◌, ◌<◌, ◌≤◌, Bool, true, false, if◌then◌else◌, ◌==◌, ◌||◌, eqb, IsSome, is_some, List, [], ◌∷◌, ◌++◌, length, Option, Some, None, option_map, unwrap_or, ◌⊎◌, inl, inr, refl, sym, ap, arith, le_trans, ne_eqb, eqb-true, ◌∙◌}
+use Rattle.std.proofs.Common.{◌≡◌, ℕ, zero, suc, ◌+◌, ◌<◌, ◌≤◌, Bool, true, false, if◌then◌else◌, ◌==◌, ◌||◌, ◌&&◌, find, eqb, IsSome, is_some, List, [], ◌∷◌, ◌++◌, length, Option, Some, None, option_map, unwrap_or, ◌⊎◌, inl, inr, refl, sym, ap, arith, le_trans, ne_eqb, eqb-true, ◌∙◌}
 use Rattle.std.specs.List.{IsDistinct, AllByRecursion, list_any}
-use Rattle.std.proofs.lemmas.Bool.{or_parts, or_cases, cases_lt}
+use Rattle.std.proofs.lemmas.Bool.{or_parts, or_cases, cases_lt, and_parts}
 use Rattle.std.proofs.lemmas.Map.Keys.{IsDistinct-cons}
 use Rattle.std.proofs.lemmas.Map.Steps.{length-le_from_distinct_below}
 use Rattle.fk_model.specs.declared.limits.TheConstants.{SLOTS}
@@ -11,13 +11,14 @@ use Rattle.fk_model.specs.declared.names.Kind.{Kind}
 use Rattle.fk_model.specs.declared.names.Kind.TheVariants as kinds
 use Rattle.fk_model.specs.Places.{Path, same_path, Ptr, leads_to}
 use Rattle.fk_model.specs.Places.Ptr.{At}
-use Rattle.fk_model.specs.Objects.{Peer, Talk, Fault, Thread, Body, kind_of, and_then, or_else, holds}
+use Rattle.fk_model.specs.Objects.{Peer, Talk, Fault, Thread, Body, kind_of, thread_of, and_then, or_else, holds}
+use Rattle.fk_model.specs.Objects.Peer.{Server, Service, Parked}
 use Rattle.fk_model.specs.Objects.Body.{Mutex, Cond, Mapping, Region, Port, Portset, Space, Thread_of, Reference}
 use Rattle.fk_model.specs.World.{World, serves}
 use Rattle.fk_model.specs.Searches.{lowest, slots, residents, has_residents, depth, beneath_by, beneath, objects, first_resident, leaf_from, leaf_by, leaf, talk_at, fault_at, client_of, faulter_of, is_serving, is_service, client_at}
 use Rattle.fk_model.specs.Valid.{IsValid, kind_there, birth_of, birth_at, HasService, services}
 use Rattle.fk_model.proofs.Members.{IsIn, in_left, in_right, in_filter, of_filter, find_none, find_some, any_in, of_any, in_flat_map, of_flat_map}
-use Rattle.fk_model.proofs.PlaceLaws.{same_path_eq, same_path_refl}
+use Rattle.fk_model.proofs.PlaceLaws.{same_path_eq, same_path_refl, leads_to_at}
 use Rattle.fk_model.proofs.Ties.{live-kind}
 use Rattle.fk_model.proofs.Safe.{IsRooted, IsAlone}
 
@@ -151,3 +152,144 @@ objects-all w valid rooted few k x live = any_in (same_path (k ∷ x)) (k ∷ x)
 
 pub objects-live : (w : World) (x : Path) → list_any (same_path x) (objects w) ≡ true → IsSome (w.body x)
 objects-live w x h = let found = of_any (same_path x) (objects w) h in let same = same_path_eq x found.0 found.2 in rw same (of_objects w found.0 found.1)
+
+-- ---- who serves
+
+-- a test that no object passes, and nothing else could
+no_thread : (w : World) → IsValid w → IsRooted w → w.next ≤ depth → (test : Option Thread → Bool) → test None ≡ false → find (λ c. test (and_then thread_of (w.body c))) (objects w) ≡ None → (q : Path) → test (and_then thread_of (w.body q)) ≡ false
+unfolding kind_there
+no_thread w valid rooted few test nothing none [] = by (w.body []) rooted.root
+  where
+    by : (o : Option Body) → option_map kind_of o ≡ Some kinds.Space → test (and_then thread_of o) ≡ false
+    by (Some (Thread_of t)) h = cc
+    by (Some (Mutex locked)) h = nothing
+    by (Some Cond) h = nothing
+    by (Some (Mapping m)) h = nothing
+    by (Some (Region r)) h = nothing
+    by (Some (Port set served)) h = nothing
+    by (Some Portset) h = nothing
+    by (Some (Space birth holder)) h = nothing
+    by (Some (Reference to)) h = nothing
+    by None h = nothing
+no_thread w valid rooted few test nothing none (k ∷ x) = by (w.body (k ∷ x)) refl
+  where
+    by : (o : Option Body) → w.body (k ∷ x) ≡ o → test (and_then thread_of (w.body (k ∷ x))) ≡ false
+    by None e = rw e nothing
+    by (Some b) e = find_none (λ c. test (and_then thread_of (w.body c))) (k ∷ x) (objects w) none (in_objects w valid rooted few k x (rw e refl))
+
+abbrev serves_by_talk : Path → Option Thread → Bool
+serves_by_talk server o = holds (λ (talk : Talk). serves server talk.peer) (and_then (λ (t : Thread). t.talk) o)
+
+abbrev serves_by_fault : Path → Option Thread → Bool
+serves_by_fault server o = holds (λ (fault : Fault). holds (serves server) fault.taker) (and_then (λ (t : Thread). t.fault) o)
+
+none_from : {A : Type 0} (o : Option A) → is_some o ≡ false → o ≡ None
+none_from None h = refl
+none_from (Some a) h = cc
+
+pub no_client : (w : World) → IsValid w → IsRooted w → w.next ≤ depth → (server : Path) → client_of w server ≡ None → (q : Path) → holds (λ (talk : Talk). serves server talk.peer) (talk_at w q) ≡ false
+unfolding client_of
+no_client w valid rooted few server none q = no_thread w valid rooted few (serves_by_talk server) refl none q
+
+pub no_faulter : (w : World) → IsValid w → IsRooted w → w.next ≤ depth → (server : Path) → faulter_of w server ≡ None → (q : Path) → holds (λ (fault : Fault). holds (serves server) fault.taker) (fault_at w q) ≡ false
+unfolding faulter_of
+no_faulter w valid rooted few server none q = no_thread w valid rooted few (serves_by_fault server) refl none q
+
+-- who serves nobody
+pub idle : (w : World) → IsValid w → IsRooted w → w.next ≤ depth → (server : Path) → is_serving w server ≡ false → (q : Path) → services w server q ≡ 0
+idle w valid rooted few server h q =
+    let both = or_parts (is_some (client_of w server)) (is_some (faulter_of w server)) h in
+    rw (no_client w valid rooted few server (none_from (client_of w server) both.0) q, no_faulter w valid rooted few server (none_from (faulter_of w server) both.1) q) refl
+
+abbrev served_here : Path → Option Thread → Bool
+served_here port o = holds (λ (talk : Talk). leads_to port talk.port && is_service talk.peer) (and_then (λ (t : Thread). t.talk) o)
+
+-- a served port without a client
+pub no_service : (w : World) → IsValid w → IsRooted w → w.next ≤ depth → (port : Path) → client_at w port ≡ None → (q : Path) → HasService w q (At port) → ⊥
+unfolding client_at
+no_service w valid rooted few port none q h =
+    let off = no_thread w valid rooted few (served_here port) refl none q in
+    let on : holds (λ (talk : Talk). leads_to port talk.port && is_service talk.peer) (talk_at w q) ≡ true = rw (h.1, h.2, h.3, same_path_refl port) refl in
+    cc
+
+-- ---- who is found
+
+pub client-found : (w : World) (server c : Path) → client_of w server ≡ Some c → holds (λ (talk : Talk). serves server talk.peer) (talk_at w c) ≡ true
+unfolding client_of
+client-found w server c h = (find_some (λ c. serves_by_talk server (and_then thread_of (w.body c))) c (objects w) h).1
+
+pub faulter-found : (w : World) (server c : Path) → faulter_of w server ≡ Some c → holds (λ (fault : Fault). holds (serves server) fault.taker) (fault_at w c) ≡ true
+unfolding faulter_of
+faulter-found w server c h = (find_some (λ c. serves_by_fault server (and_then thread_of (w.body c))) c (objects w) h).1
+
+pub service-found : (w : World) (port c : Path) → client_at w port ≡ Some c → HasService w c (At port)
+unfolding client_at
+service-found w port c h = by (talk_at w c) refl (find_some (λ c. served_here port (and_then thread_of (w.body c))) c (objects w) h).1
+  where
+    service : (peer : Peer) → is_service peer ≡ true → peer ≡ Service
+    service Service h = refl
+    service (Server server) h = cc
+    service Parked h = cc
+
+    by : (o : Option Talk) → talk_at w c ≡ o → holds (λ (talk : Talk). leads_to port talk.port && is_service talk.peer) o ≡ true → HasService w c (At port)
+    by None e g = cc
+    by (Some talk) e g = let both = and_parts (leads_to port talk.port) (is_service talk.peer) g in (talk, e, leads_to_at port talk.port both.0, service talk.peer both.1)
+
+-- ---- what has nothing beneath it
+
+lowest_none : {A : Type 0} (n : ℕ) (f : ℕ → Option A) → lowest n f ≡ None → (k : ℕ) → k < n → f k ≡ None
+unfolding lowest
+lowest_none {A = A} zero f none k h = absurd (omega arith)
+lowest_none {A = A} (suc n) f none k h = by (lowest n f) refl none (cases_lt k n) (lowest_none n f)
+  where
+    by : (o : Option A) → lowest n f ≡ o → or_else o (f n) ≡ None → (k < n) ⊎ (n ≤ k) → (lowest n f ≡ None → (k : ℕ) → k < n → f k ≡ None) → f k ≡ None
+    by None e g (inl below) rest = rest e k below
+    by None e g (inr above) rest = let same : k ≡ n = omega arith in rw same g
+    by (Some a) e g cases rest = cc
+
+empty_all : (w : World) → IsRooted w → (x : Path) → ((k : ℕ) → k < SLOTS → w.body (k ∷ x) ≡ None) → (k : ℕ) → w.body (k ∷ x) ≡ None
+empty_all w rooted x empty k = by (w.body (k ∷ x)) refl
+  where
+    by : (o : Option Body) → w.body (k ∷ x) ≡ o → w.body (k ∷ x) ≡ None
+    by None e = e
+    by (Some b) e = empty k (rooted.slots k x (rw e refl))
+
+-- an object without residents
+pub alone : (w : World) → IsRooted w → (k : ℕ) (s : Path) → has_residents w (k ∷ s) ≡ false → IsAlone w (k ∷ s)
+alone w rooted k s h = record {
+  inner = λ e. cc;
+  empty = empty_all w rooted (k ∷ s) (lowest_none SLOTS (λ j. w.body (j ∷ k ∷ s)) (none_from (lowest SLOTS (λ j. w.body (j ∷ k ∷ s))) h));
+}
+
+unmapped : {A B : Type 0} (f : A → B) (o : Option A) → option_map f o ≡ None → o ≡ None
+unmapped f None h = refl
+unmapped f (Some a) h = cc
+
+leaf_by-empty : (n : ℕ) (w : World) → IsRooted w → (x : Path) → ((q : Path) → IsSome (w.body q) → length q ≤ length x + n) → (k : ℕ) → w.body (k ∷ leaf_by n w x) ≡ None
+unfolding leaf_by
+leaf_by-empty zero w rooted x few k = by (w.body (k ∷ x)) refl
+  where
+    by : (o : Option Body) → w.body (k ∷ x) ≡ o → w.body (k ∷ x) ≡ None
+    by None e = e
+    by (Some b) e = absurd (omega (arith, few (k ∷ x) (rw e refl)))
+leaf_by-empty (suc n) w rooted x few k = by (first_resident w x) refl (λ j. leaf_by-empty n w rooted (j ∷ x) (λ q live. omega (arith, few q live)) k)
+  where
+    by : (o : Option ℕ) → first_resident w x ≡ o → ((j : ℕ) → w.body (k ∷ leaf_by n w (j ∷ x)) ≡ None) → w.body (k ∷ leaf_from (λ j. leaf_by n w (j ∷ x)) x o) ≡ None
+    by None e rest = empty_all w rooted x (λ j below. unmapped (λ b. j) (w.body (j ∷ x)) (lowest_none SLOTS (λ k. option_map (λ b. k) (w.body (k ∷ x))) e j below)) k
+    by (Some j) e rest = rest j
+
+leaf_by-inner : (n : ℕ) (w : World) (k : ℕ) (s : Path) → leaf_by n w (k ∷ s) ≡ [] → ⊥
+unfolding leaf_by
+leaf_by-inner zero w k s h = cc
+leaf_by-inner (suc n) w k s h = by (first_resident w (k ∷ s)) h (λ j. leaf_by-inner n w j (k ∷ s))
+  where
+    by : (o : Option ℕ) → leaf_from (λ j. leaf_by n w (j ∷ k ∷ s)) (k ∷ s) o ≡ [] → ((j : ℕ) → leaf_by n w (j ∷ k ∷ s) ≡ [] → ⊥) → ⊥
+    by None g rest = cc
+    by (Some j) g rest = rest j g
+
+pub leaf-alone : (w : World) → IsValid w → IsRooted w → w.next ≤ depth → (k : ℕ) (s : Path) → IsAlone w (leaf w (k ∷ s))
+unfolding leaf
+leaf-alone w valid rooted few k s = record {
+  inner = leaf_by-inner depth w k s;
+  empty = leaf_by-empty depth w rooted (k ∷ s) (λ q live. let long = short w valid q live in omega arith);
+}
