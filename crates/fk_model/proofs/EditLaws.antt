@@ -20,15 +20,15 @@ use Rattle.fk_model.specs.Valid.{IsValid, kind_there, leads_there, may_lead, all
 use Rattle.fk_model.proofs.PlaceLaws.{leads_to_at}
 use Rattle.fk_model.proofs.Ties.{Tie, tie_of, claim_of, body_tie, body_claim, tie_at, claim_at, is_tied_to, load, AreTied, facts, services-load, tie_some}
 use Rattle.fk_model.proofs.Ties.Tie.{Joins}
-use Rattle.fk_model.proofs.Frames.{Frame, frame_of, put, put_kept, valid-at, valid-at_quiet}
+use Rattle.fk_model.proofs.Outlines.{Outline, outline_of, put, put_kept, valid-at, valid-at_quiet}
 use Rattle.fk_model.proofs.TieLaws.{IsFit, IsFitTalk, put_talk, put_claim}
 use Rattle.fk_model.proofs.Safe.{IsSafeServer, IsSafePeer, IsSafeTaker, IsSafeTalk, IsSafeFault, IfAny, takes_set, takes_pointer, IsSafeEdit}
 
 -- ---- threads
 
-frame-on_thread : (f : Thread → Thread) (b : Body) → frame_of (on_thread f b) ≡ frame_of b
-frame-on_thread f (Thread_of t) = refl
-frame-on_thread f b = refl
+outline-on_thread : (f : Thread → Thread) (b : Body) → outline_of (on_thread f b) ≡ outline_of b
+outline-on_thread f (Thread_of t) = refl
+outline-on_thread f b = refl
 
 -- the talk may count other words, and have another turn
 pub record IsLight (f : Thread → Thread) : Type 0 where
@@ -55,7 +55,7 @@ good-light there x f light (Thread_of t) h = rw (good-tie there (f t).talk, ligh
 good-light there x f light b h = h
 
 valid-light : (w : World) (x : Path) (f : Thread → Thread) → IsLight f → IsValid w → IsValid (at_path x (option_map (on_thread f)) w)
-valid-light w x f light valid = valid-at_quiet w x (on_thread f) (frame-on_thread f) (tie-light f light) (claim-light f light) (λ b e h. good-light (kind_there w) x f light b h) valid
+valid-light w x f light valid = valid-at_quiet w x (on_thread f) (outline-on_thread f) (tie-light f light) (claim-light f light) (λ b e h. good-light (kind_there w) x f light b h) valid
 
 ended-talk : (status : ℕ) (answers : List ℕ) (t : Thread) (m : Mode) → (ended_in status answers t m).talk ≡ t.talk
 ended-talk status answers t (Calling todo rest) = refl
@@ -80,17 +80,17 @@ same_tie f same (Some talk) = ap Some (same talk)
 -- ---- other objects
 
 pub record Seen : Type 0 where
-  pub frame : Frame
+  pub outline : Outline
   pub tie : Option Tie
   pub claim : Option Tie
 
 abbrev seen_of : Body → Seen
-seen_of b = record { frame = frame_of b; tie = body_tie (Some b); claim = body_claim (Some b) }
+seen_of b = record { outline = outline_of b; tie = body_tie (Some b); claim = body_claim (Some b) }
 
 valid-seen : (w : World) (x : Path) (f : Body → Body) → ((b : Body) → seen_of (f b) ≡ seen_of b) →
     ((b : Body) → w.body x ≡ Some b → is_good (kind_there w) x b ≡ true → is_good (kind_there w) x (f b) ≡ true) →
     IsValid w → IsValid (at_path x (option_map f) w)
-valid-seen w x f same keeps valid = valid-at_quiet w x f (λ b. ap (λ (s : Seen). s.frame) (same b)) (λ b. ap (λ (s : Seen). s.tie) (same b)) (λ b. ap (λ (s : Seen). s.claim) (same b)) keeps valid
+valid-seen w x f same keeps valid = valid-at_quiet w x f (λ b. ap (λ (s : Seen). s.outline) (same b)) (λ b. ap (λ (s : Seen). s.tie) (same b)) (λ b. ap (λ (s : Seen). s.claim) (same b)) keeps valid
 
 seen-locked : (locked : Bool) (b : Body) → seen_of (with_locked locked b) ≡ seen_of b
 seen-locked locked (Mutex old) = refl
@@ -209,7 +209,7 @@ valid-talk : (w : World) (x : Path) (g : Thread → Thread) → ((t : Thread) �
     ((t : Thread) → w.body x ≡ Some (Thread_of t) → is_good (kind_there w) x (Thread_of t) ≡ true → is_good (kind_there w) x (Thread_of (g t)) ≡ true) →
     IsValid w → IsValid (at_path x (option_map (on_thread g)) w)
 valid-talk w x g same fit keeps valid =
-    valid-at w x (on_thread g) (frame-on_thread g) (good-on_thread (kind_there w) x g (w.body x) keeps)
+    valid-at w x (on_thread g) (outline-on_thread g) (good-on_thread (kind_there w) x g (w.body x) keeps)
     (rw (put_kept x (body_claim (option_map (on_thread g) (w.body x))) (claim_at w) (kept body_claim (on_thread g) (claim-on_thread g same) (w.body x)))
         (put_talk (is_served_port w) (tie_at w) (claim_at w) x (body_tie (option_map (on_thread g) (w.body x))) fit (facts w valid).tied))
     valid
@@ -220,7 +220,7 @@ valid-fault : (w : World) (x : Path) (g : Thread → Thread) → ((t : Thread) �
     ((t : Thread) → w.body x ≡ Some (Thread_of t) → is_good (kind_there w) x (Thread_of t) ≡ true → is_good (kind_there w) x (Thread_of (g t)) ≡ true) →
     IsValid w → IsValid (at_path x (option_map (on_thread g)) w)
 valid-fault w x g same fit keeps valid =
-    valid-at w x (on_thread g) (frame-on_thread g) (good-on_thread (kind_there w) x g (w.body x) keeps)
+    valid-at w x (on_thread g) (outline-on_thread g) (good-on_thread (kind_there w) x g (w.body x) keeps)
     (rw (put_kept x (body_tie (option_map (on_thread g) (w.body x))) (tie_at w) (kept body_tie (on_thread g) (tie-on_thread g same) (w.body x)))
         (put_claim (is_served_port w) (tie_at w) (claim_at w) x (body_claim (option_map (on_thread g) (w.body x))) fit (facts w valid).tied))
     valid
@@ -330,23 +330,23 @@ valid-edit (SetPeer peer) w x safe valid = valid-set_peer w x peer safe valid
 valid-edit (SetFault fault) w x safe valid = valid-set_fault w x fault safe valid
 valid-edit (SetTaker taker) w x safe valid = valid-set_taker w x taker safe valid
 
-pub frame-edited : (edit : Edit) (b : Body) → frame_of (edited edit b) ≡ frame_of b
+pub outline-edited : (edit : Edit) (b : Body) → outline_of (edited edit b) ≡ outline_of b
 unfolding edited
-frame-edited (SetLocked locked) b = ap (λ (s : Seen). s.frame) (seen-locked locked b)
-frame-edited (SetWindow first count offset write) b = ap (λ (s : Seen). s.frame) (seen-window first count offset write b)
-frame-edited (SetExtent first count write) b = ap (λ (s : Seen). s.frame) (seen-extent first count write b)
-frame-edited (SetMember set) b = ap (λ (s : Seen). s.frame) (seen-member set b)
-frame-edited (SetPointer to) b = ap (λ (s : Seen). s.frame) (seen-pointer to b)
-frame-edited (SetHolder holder) b = ap (λ (s : Seen). s.frame) (seen-holder holder b)
-frame-edited (Proceed mode counter) b = frame-on_thread (λ t. at_mode t mode counter) b
-frame-edited (Shift count) b = frame-on_thread (λ t. at_mode t (shifted_in count t.mode) t.counter) b
-frame-edited (Finish answers) b = frame-on_thread (λ t. finished_in answers t t.mode) b
-frame-edited (End status answers) b = frame-on_thread (λ t. ended_in status answers t t.mode) b
-frame-edited (Replace stage) b = frame-on_thread (λ t. at_mode t (replaced_in stage t.mode) t.counter) b
-frame-edited (SetStops stops) b = frame-on_thread (λ t. record t { stops = stops }) b
-frame-edited (SetTalk talk) b = frame-on_thread (λ t. record t { talk = talk }) b
-frame-edited (CountMoved count) b = frame-on_thread (on_talk (λ talk. record talk { moved = min MOST_MOVED (talk.moved + count) })) b
-frame-edited (PassTurn turn) b = frame-on_thread (on_talk (λ talk. record talk { turn = turn; moved = 0 })) b
-frame-edited (SetPeer peer) b = frame-on_thread (on_talk (λ talk. record talk { peer = peer })) b
-frame-edited (SetFault fault) b = frame-on_thread (λ t. record t { fault = fault }) b
-frame-edited (SetTaker taker) b = frame-on_thread (on_fault (λ fault. record fault { taker = taker })) b
+outline-edited (SetLocked locked) b = ap (λ (s : Seen). s.outline) (seen-locked locked b)
+outline-edited (SetWindow first count offset write) b = ap (λ (s : Seen). s.outline) (seen-window first count offset write b)
+outline-edited (SetExtent first count write) b = ap (λ (s : Seen). s.outline) (seen-extent first count write b)
+outline-edited (SetMember set) b = ap (λ (s : Seen). s.outline) (seen-member set b)
+outline-edited (SetPointer to) b = ap (λ (s : Seen). s.outline) (seen-pointer to b)
+outline-edited (SetHolder holder) b = ap (λ (s : Seen). s.outline) (seen-holder holder b)
+outline-edited (Proceed mode counter) b = outline-on_thread (λ t. at_mode t mode counter) b
+outline-edited (Shift count) b = outline-on_thread (λ t. at_mode t (shifted_in count t.mode) t.counter) b
+outline-edited (Finish answers) b = outline-on_thread (λ t. finished_in answers t t.mode) b
+outline-edited (End status answers) b = outline-on_thread (λ t. ended_in status answers t t.mode) b
+outline-edited (Replace stage) b = outline-on_thread (λ t. at_mode t (replaced_in stage t.mode) t.counter) b
+outline-edited (SetStops stops) b = outline-on_thread (λ t. record t { stops = stops }) b
+outline-edited (SetTalk talk) b = outline-on_thread (λ t. record t { talk = talk }) b
+outline-edited (CountMoved count) b = outline-on_thread (on_talk (λ talk. record talk { moved = min MOST_MOVED (talk.moved + count) })) b
+outline-edited (PassTurn turn) b = outline-on_thread (on_talk (λ talk. record talk { turn = turn; moved = 0 })) b
+outline-edited (SetPeer peer) b = outline-on_thread (on_talk (λ talk. record talk { peer = peer })) b
+outline-edited (SetFault fault) b = outline-on_thread (λ t. record t { fault = fault }) b
+outline-edited (SetTaker taker) b = outline-on_thread (on_fault (λ fault. record fault { taker = taker })) b

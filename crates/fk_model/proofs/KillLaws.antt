@@ -15,7 +15,7 @@ use Rattle.fk_model.specs.Valid.{IsValid, kind_there, is_one_of, leads_there, ma
 use Rattle.fk_model.proofs.PlaceLaws.{same_path_eq}
 use Rattle.fk_model.proofs.Ties.{Tie, tie_of, claim_of, body_tie, body_claim, tie_at, claim_at, IsServedAll, AreTied, AreFacts, facts, valid-from, live-kind}
 use Rattle.fk_model.proofs.Ties.Tie.{Joins}
-use Rattle.fk_model.proofs.Frames.{Frame, frame_of, frame-kind, frame-birth, frame-served, put, same_facts}
+use Rattle.fk_model.proofs.Outlines.{Outline, outline_of, outline-kind, outline-birth, outline-served, put, same_facts}
 use Rattle.fk_model.proofs.TieLaws.{IsWithin, tied_within}
 use Rattle.fk_model.proofs.Safe.{IsAlone}
 
@@ -131,17 +131,17 @@ claim-killed : (x q : Path) (o : Option Body) (tie : Tie) → body_claim (option
 claim-killed x q (Some (Thread_of t)) tie h = claim-without x t.fault tie h
 claim-killed x q o tie h = cc
 
-pub frame-without : (x q : Path) (o : Option Body) → option_map frame_of (option_map (through (without x) q) o) ≡ option_map frame_of o
-frame-without x q (Some (Port set served)) = refl
-frame-without x q (Some (Mutex locked)) = refl
-frame-without x q (Some Cond) = refl
-frame-without x q (Some (Mapping m)) = refl
-frame-without x q (Some (Region r)) = refl
-frame-without x q (Some Portset) = refl
-frame-without x q (Some (Space birth holder)) = refl
-frame-without x q (Some (Thread_of t)) = refl
-frame-without x q (Some (Reference to)) = refl
-frame-without x q None = refl
+pub outline-without : (x q : Path) (o : Option Body) → option_map outline_of (option_map (through (without x) q) o) ≡ option_map outline_of o
+outline-without x q (Some (Port set served)) = refl
+outline-without x q (Some (Mutex locked)) = refl
+outline-without x q (Some Cond) = refl
+outline-without x q (Some (Mapping m)) = refl
+outline-without x q (Some (Region r)) = refl
+outline-without x q (Some Portset) = refl
+outline-without x q (Some (Space birth holder)) = refl
+outline-without x q (Some (Thread_of t)) = refl
+outline-without x q (Some (Reference to)) = refl
+outline-without x q None = refl
 
 -- ---- the world
 
@@ -158,13 +158,13 @@ module _ (w : World) (x : Path) (alone : IsAlone w x) (valid : IsValid w) where
 
   kinds_after : kind_there after ≡ put x None (kind_there w)
   unfolding kind_there
-  kinds_after = λ i q. put_none (option_map kind_of) refl (λ q o. frame-kind _ ∙ ap (option_map (λ (f : Frame). f.kind)) (frame-without x q o) ∙ sym (frame-kind o)) q i
+  kinds_after = λ i q. put_none (option_map kind_of) refl (λ q o. outline-kind _ ∙ ap (option_map (λ (f : Outline). f.kind)) (outline-without x q o) ∙ sym (outline-kind o)) q i
 
   births_after : birth_at after ≡ put x None (birth_at w)
-  births_after = λ i q. put_none (and_then birth_of) refl (λ q o. frame-birth _ ∙ ap (and_then (λ (f : Frame). f.birth)) (frame-without x q o) ∙ sym (frame-birth o)) q i
+  births_after = λ i q. put_none (and_then birth_of) refl (λ q o. outline-birth _ ∙ ap (and_then (λ (f : Outline). f.birth)) (outline-without x q o) ∙ sym (outline-birth o)) q i
 
   served_after : (y : Path) → leads_to x (At y) ≡ false → is_served_port w (At y) ≡ true → is_served_port after (At y) ≡ true
-  served_after y e h = rw e (frame-served (option_map (through (without x) y) (w.body y)) ∙ ap (holds (λ (f : Frame). f.served)) (frame-without x y (w.body y)) ∙ sym (frame-served (w.body y)) ∙ h)
+  served_after y e h = rw e (outline-served (option_map (through (without x) y) (w.body y)) ∙ ap (holds (λ (f : Outline). f.served)) (outline-without x y (w.body y)) ∙ sym (outline-served (w.body y)) ∙ h)
 
   within_put : {A : Type 0} (a : Path → Option A) (q : Path) (v : A) → put x None a q ≡ Some v → a q ≡ Some v
   within_put a q v h = by (same_path q x) h

@@ -1,7 +1,10 @@
+mod FrameLaws
+pub mod CallLaws
+pub mod RecordLaws
 mod PlaceLaws
 pub mod Safe
 mod Ties
-mod Frames
+mod Outlines
 mod TieLaws
 mod EditLaws
 mod MakeLaws

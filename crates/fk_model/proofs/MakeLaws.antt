@@ -15,7 +15,7 @@ use Rattle.fk_model.specs.StateRows.{referable}
 use Rattle.fk_model.specs.Valid.{IsValid, kind_there, is_one_of, leads_there, may_lead, all_in, is_good, is_good_peer, is_good_talk, is_good_fault, is_good_set, birth_of, birth_at, is_served_port}
 use Rattle.fk_model.proofs.PlaceLaws.{same_path_eq, same_path_refl, same_path_above}
 use Rattle.fk_model.proofs.Ties.{Tie, tie_of, claim_of, body_tie, body_claim, tie_at, claim_at, AreTied, AreFacts, facts, valid-from}
-use Rattle.fk_model.proofs.Frames.{put, put_at, put_kept, same_facts}
+use Rattle.fk_model.proofs.Outlines.{put, put_at, put_kept, same_facts}
 use Rattle.fk_model.proofs.Safe.{IsVacant, is_plain, IsSafeMake, IsSafeMakeSpace}
 
 -- ---- what is good stays good where kinds are only added

@@ -17,7 +17,7 @@ use Rattle.fk_model.specs.Valid.{IsValid, kind_there, is_one_of, leads_there, ma
 use Rattle.fk_model.proofs.PlaceLaws.{same_path_eq, same_path_refl, same_path_ne, same_path_sym, same_path_apart, same_path_above}
 use Rattle.fk_model.proofs.Ties.{Tie, tie_of, claim_of, body_tie, body_claim, tie_at, claim_at, is_tied_to, load, AreTied, AreFacts, facts, valid-from, live-kind}
 use Rattle.fk_model.proofs.Ties.Tie.{Joins}
-use Rattle.fk_model.proofs.Frames.{Frame, frame_of, frame-kind, frame-birth, frame-served, same_facts}
+use Rattle.fk_model.proofs.Outlines.{Outline, outline_of, outline-kind, outline-birth, outline-served, same_facts}
 use Rattle.fk_model.proofs.Safe.{IsSafeMove}
 
 -- ---- two places change
@@ -251,17 +251,17 @@ module _ (x y : Path) (apart : same_path y x ≡ false) where
     body-claim q z (Some (Reference to)) h = refl
     body-claim q z None h = refl
 
-pub frame-following : (x y q : Path) (o : Option Body) → option_map frame_of (option_map (through (following x y) q) o) ≡ option_map frame_of o
-frame-following x y q (Some (Port set served)) = refl
-frame-following x y q (Some (Mutex locked)) = refl
-frame-following x y q (Some Cond) = refl
-frame-following x y q (Some (Mapping m)) = refl
-frame-following x y q (Some (Region r)) = refl
-frame-following x y q (Some Portset) = refl
-frame-following x y q (Some (Space birth holder)) = refl
-frame-following x y q (Some (Thread_of t)) = refl
-frame-following x y q (Some (Reference to)) = refl
-frame-following x y q None = refl
+pub outline-following : (x y q : Path) (o : Option Body) → option_map outline_of (option_map (through (following x y) q) o) ≡ option_map outline_of o
+outline-following x y q (Some (Port set served)) = refl
+outline-following x y q (Some (Mutex locked)) = refl
+outline-following x y q (Some Cond) = refl
+outline-following x y q (Some (Mapping m)) = refl
+outline-following x y q (Some (Region r)) = refl
+outline-following x y q (Some Portset) = refl
+outline-following x y q (Some (Space birth holder)) = refl
+outline-following x y q (Some (Thread_of t)) = refl
+outline-following x y q (Some (Reference to)) = refl
+outline-following x y q None = refl
 
 -- ---- the world
 
@@ -300,13 +300,13 @@ module _ (w : World) (k : ℕ) (s : Path) (slot : ℕ) (safe : IsSafeMove w k s 
 
   kinds_after : kind_there after ≡ (λ q. kind_there w (swap old new q))
   unfolding kind_there
-  kinds_after = λ i q. through_swap (option_map kind_of) (λ q o. frame-kind _ ∙ ap (option_map (λ (f : Frame). f.kind)) (frame-following old new q o) ∙ sym (frame-kind o)) q i
+  kinds_after = λ i q. through_swap (option_map kind_of) (λ q o. outline-kind _ ∙ ap (option_map (λ (f : Outline). f.kind)) (outline-following old new q o) ∙ sym (outline-kind o)) q i
 
   births_after : birth_at after ≡ (λ q. birth_at w (swap old new q))
-  births_after = λ i q. through_swap (and_then birth_of) (λ q o. frame-birth _ ∙ ap (and_then (λ (f : Frame). f.birth)) (frame-following old new q o) ∙ sym (frame-birth o)) q i
+  births_after = λ i q. through_swap (and_then birth_of) (λ q o. outline-birth _ ∙ ap (and_then (λ (f : Outline). f.birth)) (outline-following old new q o) ∙ sym (outline-birth o)) q i
 
   served_after : (p : Ptr) → is_served_port after p ≡ is_served_port w (turned old new apart_slots p)
-  served_after (At q) = through_swap (λ o. holds (λ (port : Option ℕ × Bool). port.1) (and_then port_of o)) (λ q o. frame-served (option_map (through (following old new) q) o) ∙ ap (holds (λ (f : Frame). f.served)) (frame-following old new q o) ∙ sym (frame-served o)) q
+  served_after (At q) = through_swap (λ o. holds (λ (port : Option ℕ × Bool). port.1) (and_then port_of o)) (λ q o. outline-served (option_map (through (following old new) q) o) ∙ ap (holds (λ (f : Outline). f.served)) (outline-following old new q o) ∙ sym (outline-served o)) q
   served_after p = refl
 
   ties_after : (q : Path) → tie_at after q ≡ option_map (turned_tie old new apart_slots) (tie_at w (swap old new q))

@@ -7,7 +7,7 @@ use Rattle.fk_model.specs.Valid.{flag_of, lies_with}
 use Rattle.fk_model.proofs.PlaceLaws.{same_path_eq}
 use Rattle.fk_model.proofs.Ties.{Tie, is_tied_to, load, IsServedAll, IsOneClient, IsNear, IsSingle, AreTied}
 use Rattle.fk_model.proofs.Ties.Tie.{Joins}
-use Rattle.fk_model.proofs.Frames.{put}
+use Rattle.fk_model.proofs.Outlines.{put}
 
 load_flip : (s : Path) (a b : Option Tie) → load s a b ≡ load s b a
 load_flip s a b = add_comm (flag_of (is_tied_to s a)) (flag_of (is_tied_to s b))

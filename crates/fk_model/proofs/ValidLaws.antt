@@ -11,11 +11,11 @@ use Rattle.fk_model.specs.World.Change.{Alter, Make, MakeSpace, Kill, Move, PutP
 use Rattle.fk_model.specs.Valid.{IsValid, kind_there}
 use Rattle.fk_model.proofs.PlaceLaws.{same_path_eq, same_path_ne}
 use Rattle.fk_model.proofs.Ties.{live-kind, facts, valid-from}
-use Rattle.fk_model.proofs.Frames.{Frame, frame_of, frame-kind}
-use Rattle.fk_model.proofs.EditLaws.{valid-edit, frame-edited}
+use Rattle.fk_model.proofs.Outlines.{Outline, outline_of, outline-kind}
+use Rattle.fk_model.proofs.EditLaws.{valid-edit, outline-edited}
 use Rattle.fk_model.proofs.MakeLaws.{valid-make, valid-make_space}
-use Rattle.fk_model.proofs.KillLaws.{valid-kill, frame-without}
-use Rattle.fk_model.proofs.MoveLaws.{valid-move, frame-following}
+use Rattle.fk_model.proofs.KillLaws.{valid-kill, outline-without}
+use Rattle.fk_model.proofs.MoveLaws.{valid-move, outline-following}
 use Rattle.fk_model.proofs.Safe.{IsRooted, IsAlone, IsVacant, IsSafeMove, IsSafe, AreSafe}
 
 -- ---- valid
@@ -49,11 +49,11 @@ live_through : (f : Body → Body) (o : Option Body) → IsSome (option_map f o)
 live_through f None h = h
 live_through f (Some b) h = refl
 
-same_kind_through : (f : Body → Body) → ((b : Body) → frame_of (f b) ≡ frame_of b) → (o : Option Body) → option_map kind_of (option_map f o) ≡ option_map kind_of o
+same_kind_through : (f : Body → Body) → ((b : Body) → outline_of (f b) ≡ outline_of b) → (o : Option Body) → option_map kind_of (option_map f o) ≡ option_map kind_of o
 same_kind_through f same None = refl
-same_kind_through f same (Some b) = ap (λ (t : Frame). Some t.kind) (same b)
+same_kind_through f same (Some b) = ap (λ (t : Outline). Some t.kind) (same b)
 
-rooted-at : (w : World) (x : Path) (f : Body → Body) → ((b : Body) → frame_of (f b) ≡ frame_of b) → IsRooted w → IsRooted (at_path x (option_map f) w)
+rooted-at : (w : World) (x : Path) (f : Body → Body) → ((b : Body) → outline_of (f b) ≡ outline_of b) → IsRooted w → IsRooted (at_path x (option_map f) w)
 unfolding kind_there
 rooted-at w x f same rooted = record {
   root = by (same_path [] x);
@@ -82,7 +82,7 @@ rooted-made w k s body n place rooted = record {
 rooted-kill : (w : World) (x : Path) → IsAlone w x → IsRooted w → IsRooted (apply (Kill x) w)
 unfolding apply kind_there
 rooted-kill w x alone rooted = record {
-  root = rw (same_path_ne [] x (λ e. alone.inner (sym e))) (frame-kind _ ∙ ap (option_map (λ (f : Frame). f.kind)) (frame-without x [] (w.body [])) ∙ sym (frame-kind (w.body [])) ∙ rooted.root);
+  root = rw (same_path_ne [] x (λ e. alone.inner (sym e))) (outline-kind _ ∙ ap (option_map (λ (f : Outline). f.kind)) (outline-without x [] (w.body [])) ∙ sym (outline-kind (w.body [])) ∙ rooted.root);
   slots = λ k y. slot k y (same_path (k ∷ y) x);
 }
   where
@@ -93,7 +93,7 @@ rooted-kill w x alone rooted = record {
 rooted-move : (w : World) (k : ℕ) (s : Path) (slot : ℕ) → IsSafeMove w k s slot → IsRooted w → IsRooted (apply (Move (k ∷ s) slot) w)
 unfolding apply kind_there same_path
 rooted-move w k s slot safe rooted = record {
-  root = frame-kind _ ∙ ap (option_map (λ (f : Frame). f.kind)) (frame-following (k ∷ s) (slot ∷ s) [] (w.body [])) ∙ sym (frame-kind (w.body [])) ∙ rooted.root;
+  root = outline-kind _ ∙ ap (option_map (λ (f : Outline). f.kind)) (outline-following (k ∷ s) (slot ∷ s) [] (w.body [])) ∙ sym (outline-kind (w.body [])) ∙ rooted.root;
   slots = λ j y. by j y (same_path (j ∷ y) (slot ∷ s)) refl (same_path (j ∷ y) (k ∷ s));
 }
   where
@@ -105,7 +105,7 @@ rooted-move w k s slot safe rooted = record {
 
 pub rooted-apply : (c : Change) (w : World) → IsRooted w → IsSafe w c → IsRooted (apply c w)
 unfolding apply kind_there
-rooted-apply (Alter x edit) w rooted safe = rooted-at w x (edited edit) (frame-edited edit) rooted
+rooted-apply (Alter x edit) w rooted safe = rooted-at w x (edited edit) (outline-edited edit) rooted
 rooted-apply (Make [] body) w rooted safe = absurd safe
 rooted-apply (Make (k ∷ s) body) w rooted safe = rooted-made w k s body w.next safe.place rooted
 rooted-apply (MakeSpace [] holder) w rooted safe = absurd safe

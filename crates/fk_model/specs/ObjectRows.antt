@@ -4,6 +4,7 @@ use Rattle.std.specs.List.{flat_map, list_any}
 use Rattle.fk_model.specs.declared.limits.TheConstants.{OWN_SPACE, SLOTS, LAST_USER_SLOT, FIRST_SCRATCH_SLOT, LAST_SCRATCH_SLOT}
 use Rattle.fk_model.specs.declared.names.Kind.{Kind}
 use Rattle.fk_model.specs.declared.statuses.status.TheConstants as status
+use Rattle.fk_model.specs.declared.thread.Turn.{Turn}
 use Rattle.fk_model.specs.declared.thread.Turn.TheVariants as turns
 use Rattle.fk_model.specs.Places.{Path, same_path, strip, is_within, parent, slot_of, Ptr}
 use Rattle.fk_model.specs.Places.Ptr.{Null, Dead, At, Out, Outside, Far}
@@ -19,7 +20,7 @@ use Rattle.fk_model.specs.Outcomes.{Said, Outcome, ◌>>=◌, refuse, or_refuse,
 use Rattle.fk_model.specs.Outcomes.Outcome.{Refused}
 use Rattle.fk_model.specs.Outcomes.Said.{Nothing, Ended}
 use Rattle.fk_model.specs.Readers.{and_read, slot_for, object_in, anything, place, kind_at}
-use Rattle.fk_model.specs.Talks.{line, Line, ends_beyond, talking_end, served_end}
+use Rattle.fk_model.specs.Talks.{line, Line, ends_beyond, talking_end}
 use Rattle.fk_model.specs.LinkRows.{end_all, told_end}
 use Rattle.fk_model.specs.StateRows.{referable}
 
@@ -49,17 +50,22 @@ create w c s x kind = do
 
 -- ---- destroy: each stage destroys one object, the residents of a space before it
 
-abbrev pub ends_of_line : World → Path → Option Line → List Path
-ends_of_line w x None = []
-ends_of_line w x (Some l) = if same_path l.client x then ends_beyond w turns.Client l else ends_beyond w turns.Server l
+abbrev pub ends_in : World → Turn → Option Line → List Path
+ends_in w side None = []
+ends_in w side (Some l) = ends_beyond w side l
 
-abbrev pub ends_at_port : World → Path → List Path
-ends_at_port w client = talking_end w turns.Client (At client) ++ ends_of_line w client (line w client turns.Client)
+-- whose call ends with the talk in which a thread acts on a side: the other end's
+abbrev pub ends_on : World → Path → Turn → List Path
+ends_on w x side = ends_in w side (line w x side)
+
+-- both ends of a client's talk
+abbrev pub both_ends : World → Path → List Path
+both_ends w client = talking_end w turns.Client (At client) ++ ends_on w client turns.Client
 
 -- whose calls end with an object: the other ends of a thread's talks, both ends of each talk at a port
 abbrev pub ends_with : World → Path → Option Body → List Path
-ends_with w x (Some (Thread_of t)) = ends_of_line w x (line w x turns.Client) ++ ends_of_line w x (line w x turns.Server)
-ends_with w x (Some (Port set served)) = flat_map (ends_at_port w) (clients_at w x)
+ends_with w x (Some (Thread_of t)) = ends_on w x turns.Client ++ ends_on w x turns.Server
+ends_with w x (Some (Port set served)) = flat_map (both_ends w) (clients_at w x)
 ends_with w x other = []
 
 abbrev pub told_client : Option Talk → Said

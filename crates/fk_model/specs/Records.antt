@@ -1,6 +1,6 @@
 -- State records: the 32 words that say all of an object but its pointers, and what it is to set them.
 use Rattle.std.specs.Prelude.{ℕ, ◌+◌, ◌-◌, Bool, true, false, not, ◌&&◌, ◌||◌, ◌==◌, nat_le, nat_lt, is_none, is_some, List, [], ◌∷◌, ◌++◌, length, take, drop, replicate, Option, Some, None, Result, Ok, Err, if◌then◌else◌, slice_index}
-use Rattle.fk_model.specs.declared.limits.TheConstants.{RECORD_WORDS, PAGES, MOST_STOPS}
+use Rattle.fk_model.specs.declared.limits.TheConstants.{RECORD_WORDS, PAGES, SLOTS, MOST_STOPS}
 use Rattle.fk_model.specs.declared.stage.Stage.{Stage}
 use Rattle.fk_model.specs.declared.thread.Turn.{Turn}
 use Rattle.fk_model.specs.Places.{Path}
@@ -72,7 +72,7 @@ is_extent first count = nat_le 1 count && nat_le count PAGES && nat_le (first + 
 
 -- 0, or 1 and the slot of a port set of the space; 0 alone for a served port
 abbrev pub is_member_word : World → Path → Bool → ℕ → Bool
-is_member_word w space served n = n == 0 || (not served && nat_le n PAGES && is_some (and_then portset_of (w.body ((n - 1) ∷ space))))
+is_member_word w space served n = n == 0 || (not served && nat_le n SLOTS && is_some (and_then portset_of (w.body ((n - 1) ∷ space))))
 
 abbrev pub member_by : ℕ → Option ℕ
 member_by n = if n == 0 then None else Some (n - 1)

@@ -1,4 +1,4 @@
--- Frames: what an edit leaves of an object, which is its kind, its birth number and whether it is served.
+-- Outlines: what an edit leaves of an object, which is its kind, its birth number and whether it is served.
 use Rattle.std.proofs.Common.{◌≡◌, ℕ, ◌+◌, ◌<◌, ◌≤◌, Bool, true, false, if◌then◌else◌, IsSome, is_some, List, ◌∷◌, Option, Some, None, option_map, refl, sym, ap, subst, arith, ◌∙◌}
 use Rattle.fk_model.specs.declared.names.Kind.{Kind}
 use Rattle.fk_model.specs.Places.{Path, same_path, Ptr}
@@ -9,7 +9,7 @@ use Rattle.fk_model.specs.Valid.{IsValid, kind_there, all_in, is_good, birth_of,
 use Rattle.fk_model.proofs.PlaceLaws.{same_path_eq}
 use Rattle.fk_model.proofs.Ties.{Tie, body_tie, body_claim, tie_at, claim_at, AreTied, AreFacts, HaveFacts, facts, valid-from}
 
-pub record Frame : Type 0 where
+pub record Outline : Type 0 where
   pub kind : Kind
   pub birth : Option ℕ
   pub served : Bool
@@ -17,31 +17,31 @@ pub record Frame : Type 0 where
 abbrev pub is_served : Body → Bool
 is_served b = holds (λ (port : Option ℕ × Bool). port.1) (port_of b)
 
-abbrev pub frame_of : Body → Frame
-frame_of b = record { kind = kind_of b; birth = birth_of b; served = is_served b }
+abbrev pub outline_of : Body → Outline
+outline_of b = record { kind = kind_of b; birth = birth_of b; served = is_served b }
 
-pub frame-kind : (o : Option Body) → option_map kind_of o ≡ option_map (λ (f : Frame). f.kind) (option_map frame_of o)
-frame-kind None = refl
-frame-kind (Some b) = refl
+pub outline-kind : (o : Option Body) → option_map kind_of o ≡ option_map (λ (f : Outline). f.kind) (option_map outline_of o)
+outline-kind None = refl
+outline-kind (Some b) = refl
 
-pub frame-birth : (o : Option Body) → and_then birth_of o ≡ and_then (λ (f : Frame). f.birth) (option_map frame_of o)
-frame-birth None = refl
-frame-birth (Some b) = refl
+pub outline-birth : (o : Option Body) → and_then birth_of o ≡ and_then (λ (f : Outline). f.birth) (option_map outline_of o)
+outline-birth None = refl
+outline-birth (Some b) = refl
 
-pub frame-served : (o : Option Body) → holds (λ (port : Option ℕ × Bool). port.1) (and_then port_of o) ≡ holds (λ (f : Frame). f.served) (option_map frame_of o)
-frame-served None = refl
-frame-served (Some b) = refl
+pub outline-served : (o : Option Body) → holds (λ (port : Option ℕ × Bool). port.1) (and_then port_of o) ≡ holds (λ (f : Outline). f.served) (option_map outline_of o)
+outline-served None = refl
+outline-served (Some b) = refl
 
-module _ (w v : World) (same : (q : Path) → option_map frame_of (v.body q) ≡ option_map frame_of (w.body q)) where
+module _ (w v : World) (same : (q : Path) → option_map outline_of (v.body q) ≡ option_map outline_of (w.body q)) where
   pub same_kinds : kind_there v ≡ kind_there w
   unfolding kind_there
-  same_kinds = λ i q. (frame-kind (v.body q) ∙ ap (option_map (λ (f : Frame). f.kind)) (same q) ∙ sym (frame-kind (w.body q))) i
+  same_kinds = λ i q. (outline-kind (v.body q) ∙ ap (option_map (λ (f : Outline). f.kind)) (same q) ∙ sym (outline-kind (w.body q))) i
 
   pub same_births : birth_at v ≡ birth_at w
-  same_births = λ i q. (frame-birth (v.body q) ∙ ap (and_then (λ (f : Frame). f.birth)) (same q) ∙ sym (frame-birth (w.body q))) i
+  same_births = λ i q. (outline-birth (v.body q) ∙ ap (and_then (λ (f : Outline). f.birth)) (same q) ∙ sym (outline-birth (w.body q))) i
 
   served_alike : (p : Ptr) → is_served_port v p ≡ is_served_port w p
-  served_alike (At q) = frame-served (v.body q) ∙ ap (holds (λ (f : Frame). f.served)) (same q) ∙ sym (frame-served (w.body q))
+  served_alike (At q) = outline-served (v.body q) ∙ ap (holds (λ (f : Outline). f.served)) (same q) ∙ sym (outline-served (w.body q))
   served_alike p = refl
 
   pub same_served : is_served_port v ≡ is_served_port w
@@ -61,27 +61,27 @@ put_at x h f body q = by (same_path q x) refl
 pub same_facts : {n : ℕ} (k l : Path → Option Kind) (b c : Path → Option ℕ) (s t : Ptr → Bool) (x y z u : Path → Option Tie) → k ≡ l → b ≡ c → s ≡ t → x ≡ y → z ≡ u → AreFacts k b n s x z → AreFacts l c n t y u
 same_facts k l b c s t x y z u e f g p q h = rw (← e, ← f, ← g, ← p, ← q) h
 
--- the body at one path is changed to one with the same frame
-pub valid-at : (w : World) (x : Path) (f : Body → Body) → ((b : Body) → frame_of (f b) ≡ frame_of b) →
+-- the body at one path is changed to one with the same outline
+pub valid-at : (w : World) (x : Path) (f : Body → Body) → ((b : Body) → outline_of (f b) ≡ outline_of b) →
     ((b : Body) → w.body x ≡ Some b → is_good (kind_there w) x b ≡ true → is_good (kind_there w) x (f b) ≡ true) →
     AreTied (is_served_port w) (put x (body_tie (option_map f (w.body x))) (tie_at w)) (put x (body_claim (option_map f (w.body x))) (claim_at w)) →
     IsValid w → IsValid (at_path x (option_map f) w)
-valid-at w x f framed keeps tied valid =
+valid-at w x f outlined keeps tied valid =
     valid-from v (same_facts (kind_there w) (kind_there v) (birth_at w) (birth_at v) (is_served_port w) (is_served_port v) _ (tie_at v) _ (claim_at v) (sym kinds) (sym (same_births w v same)) (sym (same_served w v same)) (sym ties) (sym claims) old)
     (λ q. subst (λ (k : Path → Option Kind). all_in (is_good k q) (v.body q) ≡ true) (sym kinds) (good q (same_path q x) refl))
   where
     v : World
     v = at_path x (option_map f) w
 
-    frames : (o : Option Body) → option_map frame_of (option_map f o) ≡ option_map frame_of o
-    frames None = refl
-    frames (Some b) = ap Some (framed b)
+    outlines : (o : Option Body) → option_map outline_of (option_map f o) ≡ option_map outline_of o
+    outlines None = refl
+    outlines (Some b) = ap Some (outlined b)
 
-    same : (q : Path) → option_map frame_of (v.body q) ≡ option_map frame_of (w.body q)
+    same : (q : Path) → option_map outline_of (v.body q) ≡ option_map outline_of (w.body q)
     same q = by (same_path q x)
       where
-        by : (b : Bool) → option_map frame_of (if b then option_map f (w.body q) else w.body q) ≡ option_map frame_of (w.body q)
-        by true = frames (w.body q)
+        by : (b : Bool) → option_map outline_of (if b then option_map f (w.body q) else w.body q) ≡ option_map outline_of (w.body q)
+        by true = outlines (w.body q)
         by false = refl
 
     kinds : kind_there v ≡ kind_there w
@@ -116,11 +116,11 @@ put_kept x u a e = λ i q. at q i
         by false g = refl
 
 -- and its tie and its claim stay too
-pub valid-at_quiet : (w : World) (x : Path) (f : Body → Body) → ((b : Body) → frame_of (f b) ≡ frame_of b) →
+pub valid-at_quiet : (w : World) (x : Path) (f : Body → Body) → ((b : Body) → outline_of (f b) ≡ outline_of b) →
     ((b : Body) → body_tie (Some (f b)) ≡ body_tie (Some b)) → ((b : Body) → body_claim (Some (f b)) ≡ body_claim (Some b)) →
     ((b : Body) → w.body x ≡ Some b → is_good (kind_there w) x b ≡ true → is_good (kind_there w) x (f b) ≡ true) →
     IsValid w → IsValid (at_path x (option_map f) w)
-valid-at_quiet w x f framed tied claimed keeps valid = valid-at w x f framed keeps (rw (ties, claims) (facts w valid).tied) valid
+valid-at_quiet w x f outlined tied claimed keeps valid = valid-at w x f outlined keeps (rw (ties, claims) (facts w valid).tied) valid
   where
     kept : {A : Type 0} (h : Option Body → A) → ((b : Body) → h (Some (f b)) ≡ h (Some b)) → (o : Option Body) → h (option_map f o) ≡ h o
     kept h same None = refl
