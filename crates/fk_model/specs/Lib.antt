@@ -29,3 +29,6 @@ pub mod Sound
 pub mod Laws
 pub mod Frame
 pub mod Cut
+pub mod Closed
+pub mod Further
+pub mod Seen
