@@ -1,26 +1,23 @@
 -- A safe edit keeps a world valid.
-use Rattle.std.proofs.Common.{◌≡◌, ℕ, ◌+◌, ◌<◌, ◌≤◌, min, Bool, true, false, ◌&&◌, nat_lt, List, [], ◌∷◌, Option, Some, None, option_map, refl, sym, ap, ◌∙◌, arith}
+use Rattle.std.proofs.Common.{◌≡◌, ℕ, ◌+◌, min, Bool, true, ◌&&◌, nat_lt, List, [], ◌∷◌, Option, Some, None, option_map, refl, ap}
 use Rattle.std.proofs.lemmas.Bool.{and_parts, and_from}
 use Rattle.fk_model.specs.declared.limits.TheConstants.{PAGES, MOST_MOVED}
 use Rattle.fk_model.specs.declared.names.Kind.{Kind}
 use Rattle.fk_model.specs.declared.names.Kind.TheVariants as kinds
-use Rattle.fk_model.specs.declared.thread.Turn.{Turn}
-use Rattle.fk_model.specs.declared.stage.Stage.{Stage}
-use Rattle.fk_model.specs.Places.{Path, same_path, Ptr, leads_to}
+use Rattle.fk_model.specs.Places.{Path, Ptr}
 use Rattle.fk_model.specs.Objects.{Mode, Peer, Talk, Fault, Thread, Body, thread_of, and_then}
-use Rattle.fk_model.specs.Objects.Mode.{Running, Calling, Halted, Native}
+use Rattle.fk_model.specs.Objects.Mode.{Calling}
 use Rattle.fk_model.specs.Objects.Peer.{Server, Service, Parked}
-use Rattle.fk_model.specs.Objects.Body.{Mutex, Cond, Mapping, Region, Port, Portset, Space, Thread_of, Reference}
-use Rattle.fk_model.specs.World.{World, Edit, apply, at_path, edited, on_thread, on_talk, on_fault, at_mode, shifted_in, replaced_in, with_pointer, with_locked, with_window, with_extent, with_member, with_holder, finished_in, ended_in, serves}
+use Rattle.fk_model.specs.Objects.Body.{Mutex, Mapping, Region, Port, Space, Thread_of, Reference}
+use Rattle.fk_model.specs.World.{World, Edit, apply, at_path, edited, on_thread, on_talk, on_fault, at_mode, shifted_in, replaced_in, with_pointer, with_locked, with_window, with_extent, with_member, with_holder, finished_in, ended_in}
 use Rattle.fk_model.specs.World.Edit.{SetLocked, SetWindow, SetExtent, SetMember, SetPointer, SetHolder, Proceed, Shift, Finish, End, Replace, SetStops, SetTalk, CountMoved, PassTurn, SetPeer, SetFault, SetTaker}
 use Rattle.fk_model.specs.World.Change.{Alter}
 use Rattle.fk_model.specs.Searches.{talk_at, fault_at}
 use Rattle.fk_model.specs.Records.{is_extent}
 use Rattle.fk_model.specs.Valid.{IsValid, kind_there, leads_there, may_lead, all_in, is_good, is_good_peer, is_good_talk, is_good_fault, is_served_port}
-use Rattle.fk_model.proofs.PlaceLaws.{leads_to_at}
-use Rattle.fk_model.proofs.Ties.{Tie, tie_of, claim_of, body_tie, body_claim, tie_at, claim_at, is_tied_to, load, AreTied, facts, services-load, tie_some}
+use Rattle.fk_model.proofs.Ties.{Tie, tie_of, claim_of, body_tie, body_claim, tie_at, claim_at, facts, services-load, tie_some}
 use Rattle.fk_model.proofs.Ties.Tie.{Joins}
-use Rattle.fk_model.proofs.Outlines.{Outline, outline_of, put, put_kept, valid-at, valid-at_quiet}
+use Rattle.fk_model.proofs.Outlines.{Outline, outline_of, put_kept, valid-at, valid-at_quiet}
 use Rattle.fk_model.proofs.TieLaws.{IsFit, IsFitTalk, put_talk, put_claim}
 use Rattle.fk_model.proofs.Safe.{IsSafeServer, IsSafePeer, IsSafeTaker, IsSafeTalk, IsSafeFault, IfAny, takes_set, takes_pointer, IsSafeEdit}
 
@@ -211,7 +208,7 @@ valid-talk : (w : World) (x : Path) (g : Thread → Thread) → ((t : Thread) �
 valid-talk w x g same fit keeps valid =
     valid-at w x (on_thread g) (outline-on_thread g) (good-on_thread (kind_there w) x g (w.body x) keeps)
     (rw (put_kept x (body_claim (option_map (on_thread g) (w.body x))) (claim_at w) (kept body_claim (on_thread g) (claim-on_thread g same) (w.body x)))
-        (put_talk (is_served_port w) (tie_at w) (claim_at w) x (body_tie (option_map (on_thread g) (w.body x))) fit (facts w valid).tied))
+    (put_talk (is_served_port w) (tie_at w) (claim_at w) x (body_tie (option_map (on_thread g) (w.body x))) fit (facts w valid).tied))
     valid
 
 -- another fault, and the same talk
@@ -222,7 +219,7 @@ valid-fault : (w : World) (x : Path) (g : Thread → Thread) → ((t : Thread) �
 valid-fault w x g same fit keeps valid =
     valid-at w x (on_thread g) (outline-on_thread g) (good-on_thread (kind_there w) x g (w.body x) keeps)
     (rw (put_kept x (body_tie (option_map (on_thread g) (w.body x))) (tie_at w) (kept body_tie (on_thread g) (tie-on_thread g same) (w.body x)))
-        (put_claim (is_served_port w) (tie_at w) (claim_at w) x (body_claim (option_map (on_thread g) (w.body x))) fit (facts w valid).tied))
+    (put_claim (is_served_port w) (tie_at w) (claim_at w) x (body_claim (option_map (on_thread g) (w.body x))) fit (facts w valid).tied))
     valid
 
 -- ---- each of the four
@@ -289,7 +286,7 @@ module _ (w : World) (x : Path) where
 
   valid-set_peer : (peer : Peer) → ((talk : Talk) → talk_at w x ≡ Some talk → IsSafePeer w x talk.port peer) → IsValid w → IsValid (at_path x (option_map (on_thread (on_talk (with_peer peer)))) w)
   valid-set_peer peer safe valid = valid-talk w x (on_talk (with_peer peer)) (λ t. refl) (fit-set_peer peer (w.body x) safe)
-    (λ t e h. let both = and_parts (all_in (is_good_talk (kind_there w)) t.talk) (all_in (is_good_fault (kind_there w)) t.fault) h in and_from _ _ (good-new_peer peer t.talk (λ talk g. safe talk (talk_there t talk e g)) both.0) both.1) valid
+      (λ t e h. let both = and_parts (all_in (is_good_talk (kind_there w)) t.talk) (all_in (is_good_fault (kind_there w)) t.fault) h in and_from _ _ (good-new_peer peer t.talk (λ talk g. safe talk (talk_there t talk e g)) both.0) both.1) valid
 
   fit-new_taker : (taker : Option Peer) (o : Option Fault) → ((fault : Fault) → o ≡ Some fault → IsSafeTaker w fault.port taker) → IsFit (tie_at w) (claim_at w) (and_then claim_of (option_map (with_taker taker) o))
   fit-new_taker taker None safe = fit-none _ _
@@ -305,7 +302,7 @@ module _ (w : World) (x : Path) where
 
   valid-set_taker : (taker : Option Peer) → ((fault : Fault) → fault_at w x ≡ Some fault → IsSafeTaker w fault.port taker) → IsValid w → IsValid (at_path x (option_map (on_thread (on_fault (with_taker taker)))) w)
   valid-set_taker taker safe valid = valid-fault w x (on_fault (with_taker taker)) (λ t. refl) (fit-set_taker taker (w.body x) safe)
-    (λ t e h. let both = and_parts (all_in (is_good_talk (kind_there w)) t.talk) (all_in (is_good_fault (kind_there w)) t.fault) h in and_from _ _ both.0 (good-new_taker taker t.fault (λ fault g. safe fault (fault_there t fault e g)) both.1)) valid
+      (λ t e h. let both = and_parts (all_in (is_good_talk (kind_there w)) t.talk) (all_in (is_good_fault (kind_there w)) t.fault) h in and_from _ _ both.0 (good-new_taker taker t.fault (λ fault g. safe fault (fault_there t fault e g)) both.1)) valid
 
 -- ---- every edit
 

@@ -1,19 +1,19 @@
 -- An object with nothing beneath it is destroyed: the world stays valid.
-use Rattle.std.proofs.Common.{◌≡◌, ℕ, ◌+◌, ◌<◌, ◌≤◌, Bool, true, false, if◌then◌else◌, ◌&&◌, ◌||◌, not, IsSome, is_some, List, [], ◌∷◌, Option, Some, None, option_map, refl, sym, ap, subst, arith, ◌∙◌}
+use Rattle.std.proofs.Common.{◌≡◌, ℕ, Bool, true, false, if◌then◌else◌, ◌||◌, not, IsSome, is_some, List, [], ◌∷◌, Option, Some, None, option_map, refl, sym, ap, subst, ◌∙◌}
 use Rattle.std.proofs.lemmas.Bool.{and_parts, and_from, or_parts}
 use Rattle.fk_model.specs.declared.names.Kind.{Kind}
 use Rattle.fk_model.specs.declared.names.Kind.TheVariants as kinds
 use Rattle.fk_model.specs.Places.{Path, same_path, Ptr, leads_to}
-use Rattle.fk_model.specs.Places.Ptr.{Null, Dead, At, Out, Outside, Far}
-use Rattle.fk_model.specs.Objects.{Peer, Talk, Fault, Thread, Body, kind_of, port_of, thread_of, and_then, holds}
-use Rattle.fk_model.specs.Objects.Peer.{Server, Service, Parked}
+use Rattle.fk_model.specs.Places.Ptr.{Dead, At}
+use Rattle.fk_model.specs.Objects.{Peer, Talk, Fault, Body, kind_of, and_then, holds}
+use Rattle.fk_model.specs.Objects.Peer.{Server, Service}
 use Rattle.fk_model.specs.Objects.Body.{Mutex, Cond, Mapping, Region, Port, Portset, Space, Thread_of, Reference}
 use Rattle.fk_model.specs.World.{World, apply, set_at, serves, through, without, talk_without, taker_without, fault_without}
 use Rattle.fk_model.specs.World.Change.{Kill}
 use Rattle.fk_model.specs.StateRows.{referable}
 use Rattle.fk_model.specs.Valid.{IsValid, kind_there, is_one_of, leads_there, may_lead, all_in, is_good, is_good_peer, is_good_talk, is_good_fault, is_good_set, birth_of, birth_at, is_served_port}
 use Rattle.fk_model.proofs.PlaceLaws.{same_path_eq}
-use Rattle.fk_model.proofs.Ties.{Tie, tie_of, claim_of, body_tie, body_claim, tie_at, claim_at, IsServedAll, AreTied, AreFacts, facts, valid-from, live-kind}
+use Rattle.fk_model.proofs.Ties.{Tie, tie_of, claim_of, body_tie, body_claim, tie_at, claim_at, IsServedAll, AreFacts, facts, valid-from, live-kind}
 use Rattle.fk_model.proofs.Ties.Tie.{Joins}
 use Rattle.fk_model.proofs.Outlines.{Outline, outline_of, outline-kind, outline-birth, outline-served, put, same_facts}
 use Rattle.fk_model.proofs.TieLaws.{IsWithin, tied_within}
@@ -216,7 +216,7 @@ module _ (w : World) (x : Path) (alone : IsAlone w x) (valid : IsValid w) where
   valid-after : IsValid after
   valid-after =
       valid-from after (same_facts (put x None (kind_there w)) (kind_there after) (put x None (birth_at w)) (birth_at after) (is_served_port after) (is_served_port after) (tie_at after) (tie_at after) (claim_at after) (claim_at after)
-          (sym kinds_after) (sym births_after) refl refl refl new)
+      (sym kinds_after) (sym births_after) refl refl refl new)
       (λ q. subst (λ (there : Path → Option Kind). all_in (is_good there q) (after.body q) ≡ true) (sym kinds_after) (good_after q (same_path q x)))
     where
       new : AreFacts (put x None (kind_there w)) (put x None (birth_at w)) w.next (is_served_port after) (tie_at after) (claim_at after)

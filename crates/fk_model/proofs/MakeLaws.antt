@@ -1,20 +1,19 @@
 -- A new object in an empty slot of a space keeps a world valid.
-use Rattle.std.proofs.Common.{◌≡◌, ℕ, ◌+◌, ◌<◌, ◌≤◌, Bool, true, false, if◌then◌else◌, ◌&&◌, ◌==◌, IsSome, is_some, is_none, List, [], ◌∷◌, Option, Some, None, option_map, refl, sym, ap, subst, arith, ne_eqb, ◌∙◌}
+use Rattle.std.proofs.Common.{◌≡◌, ℕ, ◌+◌, ◌<◌, Bool, true, false, if◌then◌else◌, IsSome, is_none, List, [], ◌∷◌, Option, Some, None, option_map, refl, sym, ap, subst, arith, ne_eqb, ◌∙◌}
 use Rattle.std.proofs.lemmas.Bool.{and_parts, and_from}
 use Rattle.fk_model.specs.declared.names.Kind.{Kind}
 use Rattle.fk_model.specs.declared.names.Kind.TheVariants as kinds
 use Rattle.fk_model.specs.Places.{Path, same_path, Ptr}
-use Rattle.fk_model.specs.Places.Ptr.{Null, Dead, At, Out, Outside, Far}
-use Rattle.fk_model.specs.Objects.{Peer, Talk, Fault, Thread, Body, kind_of, port_of, and_then, holds}
-use Rattle.fk_model.specs.Objects.Peer.{Server, Service, Parked}
+use Rattle.fk_model.specs.Places.Ptr.{At}
+use Rattle.fk_model.specs.Objects.{Peer, Talk, Fault, Body, kind_of, port_of, and_then, holds}
+use Rattle.fk_model.specs.Objects.Peer.{Server}
 use Rattle.fk_model.specs.Objects.Body.{Mutex, Cond, Mapping, Region, Port, Portset, Space, Thread_of, Reference}
 use Rattle.fk_model.specs.World.{World, apply, set_at, birth_after}
 use Rattle.fk_model.specs.World.Change.{Make, MakeSpace}
-use Rattle.fk_model.specs.Records.{is_extent}
 use Rattle.fk_model.specs.StateRows.{referable}
 use Rattle.fk_model.specs.Valid.{IsValid, kind_there, is_one_of, leads_there, may_lead, all_in, is_good, is_good_peer, is_good_talk, is_good_fault, is_good_set, birth_of, birth_at, is_served_port}
-use Rattle.fk_model.proofs.PlaceLaws.{same_path_eq, same_path_refl, same_path_above}
-use Rattle.fk_model.proofs.Ties.{Tie, tie_of, claim_of, body_tie, body_claim, tie_at, claim_at, AreTied, AreFacts, facts, valid-from}
+use Rattle.fk_model.proofs.PlaceLaws.{same_path_eq, same_path_above}
+use Rattle.fk_model.proofs.Ties.{tie_of, claim_of, body_tie, body_claim, tie_at, claim_at, AreTied, AreFacts, facts, valid-from}
 use Rattle.fk_model.proofs.Outlines.{put, put_at, put_kept, same_facts}
 use Rattle.fk_model.proofs.Safe.{IsVacant, is_plain, IsSafeMake, IsSafeMakeSpace}
 
@@ -121,7 +120,7 @@ module _ (w : World) (k : ℕ) (s : Path) (body : Body) (n : ℕ) (place : IsVac
       IsValid made
   valid-made no_tie no_claim good apart born =
       valid-from made (same_facts (put (k ∷ s) (Some (kind_of body)) (kind_there w)) (kind_there made) (put (k ∷ s) (birth_of body) (birth_at w)) (birth_at made) (is_served_port made) (is_served_port made) (tie_at w) (tie_at made) (claim_at w) (claim_at made)
-          (sym kinds_made) (sym births_made) refl (sym (ties_made no_tie)) (sym (claims_made no_claim)) new)
+      (sym kinds_made) (sym births_made) refl (sym (ties_made no_tie)) (sym (claims_made no_claim)) new)
       (λ q. subst (λ (there : Path → Option Kind). all_in (is_good there q) (made.body q) ≡ true) (sym kinds_made) (by q (same_path q (k ∷ s)) refl))
     where
       old : AreTied (is_served_port w) (tie_at w) (claim_at w)

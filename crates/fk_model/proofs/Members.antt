@@ -1,5 +1,5 @@
 -- Members of lists, by recursion: what filter, flat_map and find leave or find.
-use Rattle.std.proofs.Common.{◌≡◌, Bool, true, false, if◌then◌else◌, ◌||◌, ◌⊎◌, inl, inr, List, [], ◌∷◌, ◌++◌, Option, Some, None, filter, find, flat_map, refl, sym}
+use Rattle.std.proofs.Common.{◌≡◌, Bool, true, false, if◌then◌else◌, ◌||◌, ◌⊎◌, inl, inr, List, [], ◌∷◌, ◌++◌, Some, None, filter, find, flat_map, refl}
 use Rattle.std.specs.List.{list_any}
 
 abbrev pub IsIn : {A : Type 0} → A → List A → Type 0

@@ -1,20 +1,20 @@
 -- An object with nothing beneath it gets another slot of its space: the world stays valid.
 --
 -- Its slot and the empty one change places, as do the pointers to them.
-use Rattle.std.proofs.Common.{◌≡◌, ℕ, ◌+◌, ◌<◌, ◌≤◌, Bool, true, false, if◌then◌else◌, ◌&&◌, ◌||◌, not, IsSome, is_some, List, [], ◌∷◌, Option, Some, None, option_map, refl, sym, ap, ap₂, subst, arith, ◌∙◌}
+use Rattle.std.proofs.Common.{◌≡◌, ℕ, Bool, true, false, if◌then◌else◌, not, IsSome, is_some, List, [], ◌∷◌, Option, Some, None, option_map, refl, sym, ap, ap₂, subst, ◌∙◌}
 use Rattle.std.proofs.lemmas.Bool.{and_parts, and_from}
 use Rattle.fk_model.specs.declared.names.Kind.{Kind}
 use Rattle.fk_model.specs.declared.names.Kind.TheVariants as kinds
 use Rattle.fk_model.specs.Places.{Path, same_path, parent, slot_of, Ptr, leads_to}
-use Rattle.fk_model.specs.Places.Ptr.{Null, Dead, At, Out, Outside, Far}
-use Rattle.fk_model.specs.Objects.{Peer, Talk, Fault, Thread, Body, kind_of, port_of, thread_of, and_then, holds}
+use Rattle.fk_model.specs.Places.Ptr.{At}
+use Rattle.fk_model.specs.Objects.{Peer, Talk, Fault, Body, kind_of, port_of, and_then, holds}
 use Rattle.fk_model.specs.Objects.Peer.{Server, Service, Parked}
 use Rattle.fk_model.specs.Objects.Body.{Mutex, Cond, Mapping, Region, Port, Portset, Space, Thread_of, Reference}
-use Rattle.fk_model.specs.World.{World, apply, set_at, serves, through, following, follow, follow_peer, moved_to}
+use Rattle.fk_model.specs.World.{World, apply, serves, through, following, follow, follow_peer, moved_to}
 use Rattle.fk_model.specs.World.Change.{Move}
 use Rattle.fk_model.specs.StateRows.{referable}
-use Rattle.fk_model.specs.Valid.{IsValid, kind_there, is_one_of, leads_there, may_lead, all_in, is_good, is_good_peer, is_good_talk, is_good_fault, is_good_set, birth_of, birth_at, is_served_port, lies_with, flag_of}
-use Rattle.fk_model.proofs.PlaceLaws.{same_path_eq, same_path_refl, same_path_ne, same_path_sym, same_path_apart, same_path_above}
+use Rattle.fk_model.specs.Valid.{IsValid, kind_there, is_one_of, leads_there, may_lead, all_in, is_good, is_good_peer, is_good_talk, is_good_fault, is_good_set, birth_of, birth_at, is_served_port, lies_with}
+use Rattle.fk_model.proofs.PlaceLaws.{same_path_eq, same_path_refl, same_path_ne, same_path_apart, same_path_above}
 use Rattle.fk_model.proofs.Ties.{Tie, tie_of, claim_of, body_tie, body_claim, tie_at, claim_at, is_tied_to, load, AreTied, AreFacts, facts, valid-from, live-kind}
 use Rattle.fk_model.proofs.Ties.Tie.{Joins}
 use Rattle.fk_model.proofs.Outlines.{Outline, outline_of, outline-kind, outline-birth, outline-served, same_facts}
@@ -348,7 +348,7 @@ module _ (w : World) (k : ℕ) (s : Path) (slot : ℕ) (safe : IsSafeMove w k s 
   valid-after : IsValid after
   valid-after =
       valid-from after (same_facts (λ q. kind_there w (swap old new q)) (kind_there after) (λ q. birth_at w (swap old new q)) (birth_at after) (is_served_port after) (is_served_port after) (tie_at after) (tie_at after) (claim_at after) (claim_at after)
-          (sym kinds_after) (sym births_after) refl refl refl now)
+      (sym kinds_after) (sym births_after) refl refl refl now)
       (λ q. subst (λ (there : Path → Option Kind). all_in (is_good there q) (after.body q) ≡ true) (sym kinds_after) (good_after q))
     where
       now : AreFacts (λ q. kind_there w (swap old new q)) (λ q. birth_at w (swap old new q)) w.next (is_served_port after) (tie_at after) (claim_at after)

@@ -1,13 +1,13 @@
 -- Outlines: what an edit leaves of an object, which is its kind, its birth number and whether it is served.
-use Rattle.std.proofs.Common.{◌≡◌, ℕ, ◌+◌, ◌<◌, ◌≤◌, Bool, true, false, if◌then◌else◌, IsSome, is_some, List, ◌∷◌, Option, Some, None, option_map, refl, sym, ap, subst, arith, ◌∙◌}
+use Rattle.std.proofs.Common.{◌≡◌, ℕ, Bool, true, false, if◌then◌else◌, Option, Some, None, option_map, refl, sym, ap, subst, ◌∙◌}
 use Rattle.fk_model.specs.declared.names.Kind.{Kind}
 use Rattle.fk_model.specs.Places.{Path, same_path, Ptr}
-use Rattle.fk_model.specs.Places.Ptr.{Null, Dead, At, Out, Outside, Far}
-use Rattle.fk_model.specs.Objects.{Thread, Body, kind_of, port_of, and_then, holds}
+use Rattle.fk_model.specs.Places.Ptr.{At}
+use Rattle.fk_model.specs.Objects.{Body, kind_of, port_of, and_then, holds}
 use Rattle.fk_model.specs.World.{World, at_path}
 use Rattle.fk_model.specs.Valid.{IsValid, kind_there, all_in, is_good, birth_of, birth_at, is_served_port}
 use Rattle.fk_model.proofs.PlaceLaws.{same_path_eq}
-use Rattle.fk_model.proofs.Ties.{Tie, body_tie, body_claim, tie_at, claim_at, AreTied, AreFacts, HaveFacts, facts, valid-from}
+use Rattle.fk_model.proofs.Ties.{Tie, body_tie, body_claim, tie_at, claim_at, AreTied, AreFacts, facts, valid-from}
 
 pub record Outline : Type 0 where
   pub kind : Kind

@@ -1,11 +1,10 @@
 -- A tie is put at one path, or ties are lost: what stays of them.
-use Rattle.std.proofs.Common.{◌≡◌, ℕ, ◌+◌, ◌<◌, ◌≤◌, Bool, true, false, if◌then◌else◌, List, Option, Some, None, refl, sym, arith, add_comm, zero-le}
+use Rattle.std.proofs.Common.{◌≡◌, ◌<◌, ◌≤◌, Bool, true, false, if◌then◌else◌, Option, Some, None, refl, arith, add_comm, zero-le}
 use Rattle.fk_model.specs.Places.{Path, same_path, Ptr}
-use Rattle.fk_model.specs.Objects.{Peer}
-use Rattle.fk_model.specs.Objects.Peer.{Server, Service, Parked}
+use Rattle.fk_model.specs.Objects.Peer.{Server, Service}
 use Rattle.fk_model.specs.Valid.{flag_of, lies_with}
 use Rattle.fk_model.proofs.PlaceLaws.{same_path_eq}
-use Rattle.fk_model.proofs.Ties.{Tie, is_tied_to, load, IsServedAll, IsOneClient, IsNear, IsSingle, AreTied}
+use Rattle.fk_model.proofs.Ties.{Tie, is_tied_to, load, IsServedAll, IsNear, IsSingle, AreTied}
 use Rattle.fk_model.proofs.Ties.Tie.{Joins}
 use Rattle.fk_model.proofs.Outlines.{put}
 

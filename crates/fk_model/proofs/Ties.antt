@@ -1,15 +1,15 @@
 -- Ties: what validity says of talks and faults, as functions of paths.
 --
 -- A tie is a port and who serves there: of a talk, or of a fault that was taken. Validity speaks of nothing else in them.
-use Rattle.std.proofs.Common.{◌≡◌, ℕ, ◌+◌, ◌<◌, ◌≤◌, Bool, true, false, IsSome, is_some, List, ◌∷◌, Option, Some, None, option_map, refl, sym, ap, subst, arith}
+use Rattle.std.proofs.Common.{◌≡◌, ℕ, ◌+◌, ◌<◌, ◌≤◌, Bool, true, IsSome, is_some, ◌∷◌, Option, Some, None, option_map, refl}
 use Rattle.fk_model.specs.declared.names.Kind.{Kind}
 use Rattle.fk_model.specs.declared.names.Kind.TheVariants as kinds
 use Rattle.fk_model.specs.Places.{Path, Ptr}
 use Rattle.fk_model.specs.Objects.{Peer, Talk, Fault, Thread, Body, kind_of, thread_of, and_then, holds}
-use Rattle.fk_model.specs.Objects.Peer.{Server, Service, Parked}
+use Rattle.fk_model.specs.Objects.Peer.{Server, Service}
 use Rattle.fk_model.specs.World.{World, serves}
 use Rattle.fk_model.specs.Searches.{talk_at, fault_at}
-use Rattle.fk_model.specs.Valid.{IsValid, kind_there, all_in, is_good, birth_at, is_served_port, HasService, services, flag_of, lies_with}
+use Rattle.fk_model.specs.Valid.{IsValid, kind_there, all_in, is_good, birth_at, is_served_port, services, flag_of, lies_with}
 
 pub data Tie : Type 0 where
   Joins : (port : Ptr) (peer : Peer) → Tie

@@ -1,16 +1,15 @@
 -- Safe changes keep a world valid and rooted.
-use Rattle.std.proofs.Common.{◌≡◌, ℕ, ◌+◌, ◌<◌, Bool, true, false, if◌then◌else◌, IsSome, is_some, List, [], ◌∷◌, ◌++◌, Option, Some, None, option_map, refl, sym, ap, subst, ◌∙◌}
+use Rattle.std.proofs.Common.{◌≡◌, ℕ, ◌<◌, Bool, true, false, if◌then◌else◌, IsSome, List, [], ◌∷◌, ◌++◌, Option, Some, None, option_map, refl, sym, ap, ◌∙◌}
 use Rattle.fk_model.specs.declared.limits.TheConstants.{SLOTS}
-use Rattle.fk_model.specs.declared.names.Kind.{Kind}
 use Rattle.fk_model.specs.declared.names.Kind.TheVariants as kinds
 use Rattle.fk_model.specs.Places.{Path, same_path}
 use Rattle.fk_model.specs.Objects.{Body, kind_of}
 use Rattle.fk_model.specs.Objects.Body.{Space}
-use Rattle.fk_model.specs.World.{World, Edit, Change, apply, apply_all, at_path, edited, through, without, following}
+use Rattle.fk_model.specs.World.{World, Change, apply, apply_all, at_path, edited, through, without, following}
 use Rattle.fk_model.specs.World.Change.{Alter, Make, MakeSpace, Kill, Move, PutPage, DropPage}
 use Rattle.fk_model.specs.Valid.{IsValid, kind_there}
 use Rattle.fk_model.proofs.PlaceLaws.{same_path_eq, same_path_ne}
-use Rattle.fk_model.proofs.Ties.{live-kind, facts, valid-from}
+use Rattle.fk_model.proofs.Ties.{facts, valid-from}
 use Rattle.fk_model.proofs.Outlines.{Outline, outline_of, outline-kind}
 use Rattle.fk_model.proofs.EditLaws.{valid-edit, outline-edited}
 use Rattle.fk_model.proofs.MakeLaws.{valid-make, valid-make_space}

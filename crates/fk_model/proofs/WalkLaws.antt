@@ -1,15 +1,14 @@
 -- Walks: in a valid world they come to every object.
 --
 -- No path is longer than there are birth numbers, since the spaces on it have numbers of their own below the next one.
-use Rattle.std.proofs.Common.{◌≡◌, ℕ, zero, suc, ◌+◌, ◌<◌, ◌≤◌, Bool, true, false, if◌then◌else◌, ◌==◌, ◌||◌, ◌&&◌, find, eqb, IsSome, is_some, List, [], ◌∷◌, ◌++◌, length, Option, Some, None, option_map, unwrap_or, ◌⊎◌, inl, inr, refl, sym, ap, arith, le_trans, ne_eqb, eqb-true, ◌∙◌}
+use Rattle.std.proofs.Common.{◌≡◌, ℕ, zero, suc, ◌+◌, ◌<◌, ◌≤◌, Bool, true, false, ◌&&◌, find, eqb, IsSome, is_some, List, [], ◌∷◌, ◌++◌, length, Option, Some, None, option_map, unwrap_or, ◌⊎◌, inl, inr, refl, sym, ap, arith, le_trans, ne_eqb, eqb-true, ◌∙◌}
 use Rattle.std.specs.List.{IsDistinct, AllByRecursion, list_any}
 use Rattle.std.proofs.lemmas.Bool.{or_parts, or_cases, cases_lt, and_parts}
-use Rattle.std.proofs.lemmas.Map.Keys.{IsDistinct-cons}
 use Rattle.std.proofs.lemmas.Map.Steps.{length-le_from_distinct_below}
 use Rattle.fk_model.specs.declared.limits.TheConstants.{SLOTS}
 use Rattle.fk_model.specs.declared.names.Kind.{Kind}
 use Rattle.fk_model.specs.declared.names.Kind.TheVariants as kinds
-use Rattle.fk_model.specs.Places.{Path, same_path, Ptr, leads_to}
+use Rattle.fk_model.specs.Places.{Path, same_path, leads_to}
 use Rattle.fk_model.specs.Places.Ptr.{At}
 use Rattle.fk_model.specs.Objects.{Peer, Talk, Fault, Thread, Body, kind_of, thread_of, and_then, or_else, holds}
 use Rattle.fk_model.specs.Objects.Peer.{Server, Service, Parked}
