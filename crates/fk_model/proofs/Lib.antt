@@ -22,3 +22,4 @@ pub mod SafeState
 pub mod SafeTalks
 pub mod SafeGiven
 pub mod SafeMoves
+pub mod StepLaws

@@ -14,11 +14,6 @@ use Rattle.fk_model.specs.Records.{is_extent}
 use Rattle.fk_model.specs.StateRows.{held_kinds}
 use Rattle.fk_model.specs.Valid.{kind_there, leads_there, may_lead, all_in, is_good, is_good_set, is_served_port, HasService, services, lies_with}
 
--- ---- what IsValid lacks: the root is a space, and slots are below 256. Each safe change keeps these too
-pub record IsRooted (w : World) : Type 0 where
-  pub root : kind_there w [] ≡ Some kinds.Space
-  pub slots : (k : ℕ) (x : Path) → IsSome (w.body (k ∷ x)) → k < SLOTS
-
 -- ---- peers
 
 -- a thread that may serve at a port: it lives in the port's space, and serves nobody

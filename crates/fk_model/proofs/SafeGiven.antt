@@ -25,7 +25,7 @@ use Rattle.fk_model.specs.Talks.{receiving, same_side}
 use Rattle.fk_model.specs.LinkRows.{connecting_to, is_parked, new_talk, given_talk, link_set, link_park}
 use Rattle.fk_model.specs.FaultRows.{frees, fault_done, given_fault, named_taker, fault_set, fault_park}
 use Rattle.fk_model.specs.NativeRows.{is_serving_port, connects_here, parked_here, takes_up, accepts_thread, accepts_found, accepts, accept_row, if_receiving, with_client, gives_words, gives_to, give_row, passes_client, over_row}
-use Rattle.fk_model.specs.Valid.{IsValid, kind_there, leads_there, is_served_port, HasService, services, lies_with, are_talk_words, are_fault_words, is_idle_near, is_idle_peer, both_idle, server_named, is_fit_stage}
+use Rattle.fk_model.specs.Valid.{IsValid, kind_there, leads_there, is_served_port, HasService, services, lies_with, are_talk_words, are_fault_words, is_idle_near, is_idle_peer, both_idle, server_named, is_fit_stage, IsWhole}
 use Rattle.fk_model.proofs.PlaceLaws.{same_path_eq, leads_to_at}
 use Rattle.fk_model.proofs.Safe.{IsSafeServer, IsSafeService, IsSafePeer, IsSafeTaker, IsSafeTalk, IsSafeFault, AreSafe}
 use Rattle.fk_model.proofs.SafeOutcomes.{SafeOutcome, refused, waits, goes, safe-when, safe-done, safe_row}
@@ -33,10 +33,6 @@ use Rattle.fk_model.proofs.SafeReads.{Facts, IsCaller, kind-there, kind-port_of,
 use Rattle.fk_model.proofs.SafeMemory.{their_page-safe}
 use Rattle.fk_model.proofs.SafeObjects.{reference-there}
 use Rattle.fk_model.proofs.SafeTalks.{idle-serves}
-
--- no reference leads out of the world
-abbrev pub IsWhole : World → Type 0
-IsWhole w = (x : Path) (slot : ℕ) → w.body x ≡ Some (Reference (Out slot)) → ⊥
 
 -- ---- a porter names a server
 

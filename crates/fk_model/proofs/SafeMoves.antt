@@ -17,15 +17,15 @@ use Rattle.fk_model.specs.Outcomes.Outcome.{Refused, Waits, Goes}
 use Rattle.fk_model.specs.LinkRows.{user_at}
 use Rattle.fk_model.specs.Holds.{is_free, is_unheld, is_porter}
 use Rattle.fk_model.specs.Moves.{stage_row, is_for_porters, is_for_users, is_denied, allowed_row, chooses, with_pick, closed, call_row, goes_on, user_move, porter_at, porter_move, outcome}
-use Rattle.fk_model.specs.Valid.{IsValid, kind_there, is_fit_stage, is_fit}
-use Rattle.fk_model.proofs.Safe.{IsRooted, AreSafe}
+use Rattle.fk_model.specs.Valid.{IsValid, kind_there, is_fit_stage, is_fit, IsRooted, IsWhole}
+use Rattle.fk_model.proofs.Safe.{AreSafe}
 use Rattle.fk_model.proofs.SafeOutcomes.{SafeOutcome, refused, waits, goes, safe-when}
 use Rattle.fk_model.proofs.SafeReads.{Facts, IsCaller, kind-there, body-thread_of}
 use Rattle.fk_model.proofs.SafeRows.{run_row-safe, mutex_lock-safe, mutex_trylock-safe, mutex_unlock-safe, cond_wait-safe, cond_asleep-safe, cond_signal-safe, cond_broadcast-safe, send-safe, receive-safe, over-safe, thread_stop-safe, thread_go-safe, page_give-safe, page_take-safe, page_read-safe, page_next-safe}
 use Rattle.fk_model.proofs.SafeObjects.{create-safe, destroy-safe, rename-safe, point-safe, clear-safe, search_row-safe, locate-safe, count_in-safe, space_hold-safe, space_release-safe, hold_set-safe, space_make_held-safe}
 use Rattle.fk_model.proofs.SafeState.{get_state-safe, set_state-safe, get_ptr-safe, set_ptr-safe}
 use Rattle.fk_model.proofs.SafeTalks.{wait-safe, connect-safe, disconnect-safe}
-use Rattle.fk_model.proofs.SafeGiven.{IsWhole, link_set-safe, link_park-safe, fault_done-safe, fault_set-safe, fault_park-safe, accept_row-safe, give_row-safe, over_row-safe}
+use Rattle.fk_model.proofs.SafeGiven.{link_set-safe, link_park-safe, fault_done-safe, fault_set-safe, fault_park-safe, accept_row-safe, give_row-safe, over_row-safe}
 
 -- ---- one stage
 

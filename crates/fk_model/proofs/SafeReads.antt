@@ -15,8 +15,8 @@ use Rattle.fk_model.specs.Searches.{depth, has_residents, leaf, is_serving, clie
 use Rattle.fk_model.specs.Outcomes.{Caller, path_of, last_slot, or_refuse}
 use Rattle.fk_model.specs.Readers.{and_read, slot_for, seen_as, anything, object_in, kind_at, is_kind, led_to, handled, handle, path_at, place, referred}
 use Rattle.fk_model.specs.StateRows.{referable}
-use Rattle.fk_model.specs.Valid.{IsValid, kind_there, is_one_of, leads_there, may_lead, all_in, is_good, HasService, services}
-use Rattle.fk_model.proofs.Safe.{IsRooted, IsAlone}
+use Rattle.fk_model.specs.Valid.{IsValid, kind_there, is_one_of, leads_there, may_lead, all_in, is_good, HasService, services, IsRooted}
+use Rattle.fk_model.proofs.Safe.{IsAlone}
 
 -- ---- what is known of the world in which a row is judged
 

@@ -20,9 +20,9 @@ use Rattle.fk_model.specs.Readers.{and_read, object_in, referred}
 use Rattle.fk_model.specs.Talks.{Line, path_to, ends_beyond}
 use Rattle.fk_model.specs.LinkRows.{connect, new_talk, connecting_to, Candidate, is_member, slot_in_set, is_parked, is_open, faulting, connecting, resuming, candidate_by, candidate, takes, takes_picked, wait, end_all, removes, disconnect, given_talk, link_set, link_park}
 use Rattle.fk_model.specs.LinkRows.Candidate.{Faulting, Connecting, Resuming}
-use Rattle.fk_model.specs.Valid.{IsValid, kind_there, leads_there, services, lies_with}
+use Rattle.fk_model.specs.Valid.{IsValid, kind_there, leads_there, services, lies_with, IsRooted}
 use Rattle.fk_model.proofs.PlaceLaws.{same_path_eq}
-use Rattle.fk_model.proofs.Safe.{IsRooted, IsSafeServer, IsSafePeer, IsSafeTalk, AreSafe}
+use Rattle.fk_model.proofs.Safe.{IsSafeServer, IsSafePeer, IsSafeTalk, AreSafe}
 use Rattle.fk_model.proofs.SafeOutcomes.{SafeOutcome, waits, goes, safe-then, safe-end_all, safe-when, safe-done, safe-ended, safe-telling, safe_row}
 use Rattle.fk_model.proofs.SafeReads.{Facts, IsCaller, kind-there, kind-port_of, object_in-found, referred-leads}
 use Rattle.fk_model.proofs.SafeObjects.{caller-leads}

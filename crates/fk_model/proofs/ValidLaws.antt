@@ -7,7 +7,7 @@ use Rattle.fk_model.specs.Objects.{Body, kind_of}
 use Rattle.fk_model.specs.Objects.Body.{Space}
 use Rattle.fk_model.specs.World.{World, Change, apply, apply_all, at_path, edited, through, without, following}
 use Rattle.fk_model.specs.World.Change.{Alter, Make, MakeSpace, Kill, Move, PutPage, DropPage}
-use Rattle.fk_model.specs.Valid.{IsValid, kind_there}
+use Rattle.fk_model.specs.Valid.{IsValid, kind_there, IsRooted}
 use Rattle.fk_model.proofs.PlaceLaws.{same_path_eq, same_path_ne}
 use Rattle.fk_model.proofs.Ties.{facts, valid-from}
 use Rattle.fk_model.proofs.Outlines.{Outline, outline_of, outline-kind}
@@ -15,7 +15,7 @@ use Rattle.fk_model.proofs.EditLaws.{valid-edit, outline-edited}
 use Rattle.fk_model.proofs.MakeLaws.{valid-make, valid-make_space}
 use Rattle.fk_model.proofs.KillLaws.{valid-kill, outline-without}
 use Rattle.fk_model.proofs.MoveLaws.{valid-move, outline-following}
-use Rattle.fk_model.proofs.Safe.{IsRooted, IsAlone, IsVacant, IsSafeMove, IsSafe, AreSafe}
+use Rattle.fk_model.proofs.Safe.{IsAlone, IsVacant, IsSafeMove, IsSafe, AreSafe}
 
 -- ---- valid
 

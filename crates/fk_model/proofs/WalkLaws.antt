@@ -15,11 +15,11 @@ use Rattle.fk_model.specs.Objects.Peer.{Server, Service, Parked}
 use Rattle.fk_model.specs.Objects.Body.{Mutex, Cond, Mapping, Region, Port, Portset, Space, Thread_of, Reference}
 use Rattle.fk_model.specs.World.{World, serves}
 use Rattle.fk_model.specs.Searches.{lowest, slots, residents, has_residents, depth, beneath_by, beneath, objects, first_resident, leaf_from, leaf_by, leaf, talk_at, fault_at, client_of, faulter_of, is_serving, is_service, client_at}
-use Rattle.fk_model.specs.Valid.{IsValid, kind_there, birth_of, birth_at, HasService, services}
+use Rattle.fk_model.specs.Valid.{IsValid, kind_there, birth_of, birth_at, HasService, services, IsRooted}
 use Rattle.fk_model.proofs.Members.{IsIn, in_left, in_right, in_filter, of_filter, find_none, find_some, any_in, of_any, in_flat_map, of_flat_map}
 use Rattle.fk_model.proofs.PlaceLaws.{same_path_eq, same_path_refl, leads_to_at}
 use Rattle.fk_model.proofs.Ties.{live-kind}
-use Rattle.fk_model.proofs.Safe.{IsRooted, IsAlone}
+use Rattle.fk_model.proofs.Safe.{IsAlone}
 
 -- ---- what is live lies in live spaces
 

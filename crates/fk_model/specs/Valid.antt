@@ -1,7 +1,7 @@
 -- Valid worlds: what holds of every world that is reached from a valid one by fit moves.
 use Rattle.std.specs.Prelude.{◌≡◌, ℕ, ◌+◌, ◌<◌, ◌≤◌, Bool, true, false, not, ◌&&◌, ◌||◌, ◌==◌, nat_le, nat_lt, IsSome, List, [], ◌∷◌, Option, Some, None, Result, Ok, Err, option_map, if◌then◌else◌, slice_index}
 use Rattle.std.specs.List.{list_any}
-use Rattle.fk_model.specs.declared.limits.TheConstants.{PAGES, MOST_MOVED}
+use Rattle.fk_model.specs.declared.limits.TheConstants.{SLOTS, PAGES, MOST_MOVED}
 use Rattle.fk_model.specs.declared.moves.Ask.{Ask}
 use Rattle.fk_model.specs.declared.moves.Ask.TheVariants as asks
 use Rattle.fk_model.specs.declared.names.Kind.{Kind}
@@ -128,6 +128,15 @@ pub record IsValid (w : World) : Type 0 where
   pub faults_near : (x : Path) (fault : Fault) (taker : Ptr) → fault_at w x ≡ Some fault → fault.taker ≡ Some (Server taker) → lies_with fault.port taker
   pub one_service : (server x y : Path) → 0 < services w server x → 0 < services w server y → x ≡ y
   pub one_each : (server x : Path) → services w server x ≤ 1
+
+-- the root is a space, and slots are below 256
+pub record IsRooted (w : World) : Type 0 where
+  pub root : kind_there w [] ≡ Some kinds.Space
+  pub slots : (k : ℕ) (x : Path) → IsSome (w.body (k ∷ x)) → k < SLOTS
+
+-- no reference leads out, as some may in a subtree that is seen alone
+abbrev pub IsWhole : World → Type 0
+IsWhole w = (x : Path) (slot : ℕ) → w.body x ≡ Some (Reference (Out slot)) → ⊥
 
 -- ---- fit asks: a porter gives words in range, and names a server in its port's space that serves nobody
 
