@@ -1,5 +1,5 @@
 -- What porters give again, and what native servers do, is safe.
-use Rattle.std.proofs.Common.{◌≡◌, ℕ, Bool, true, false, if◌then◌else◌, not, ◌&&◌, ◌==◌, List, [], ◌∷◌, take, Option, Some, None, is_none, Result, Ok, Err, refl, sym, inl, inr}
+use Rattle.std.proofs.Common.{◌≡◌, ℕ, Bool, true, false, if◌then◌else◌, ◌&&◌, ◌==◌, List, [], ◌∷◌, Option, Some, None, is_none, Result, Ok, Err, refl, inl, inr}
 use Rattle.std.proofs.lemmas.Bool.{and_parts, not-true, cases_Bool}
 use Rattle.fk_model.specs.declared.limits.TheConstants.{OWN_SPACE}
 use Rattle.fk_model.specs.declared.names.Kind.{Kind}
@@ -8,28 +8,28 @@ use Rattle.fk_model.specs.declared.stage.Stage.TheVariants.{LinkSet, FaultSet}
 use Rattle.fk_model.specs.declared.statuses.status.TheConstants.{WRONGKIND, FULL}
 use Rattle.fk_model.specs.declared.thread.Turn.TheVariants as turns
 use Rattle.fk_model.specs.Places.{Path, same_path, parent, Ptr, leads_to}
-use Rattle.fk_model.specs.Places.Ptr.{Null, Dead, At, Out, Outside, Far}
-use Rattle.fk_model.specs.Objects.{Mode, Peer, Talk, Fault, Thread, Body, kind_of, port_of, thread_of, reference_of, and_then, holds}
+use Rattle.fk_model.specs.Places.Ptr.{At, Out}
+use Rattle.fk_model.specs.Objects.{Peer, Talk, Thread, Body, port_of, thread_of, reference_of, and_then, holds}
 use Rattle.fk_model.specs.Objects.Peer.{Server, Service, Parked}
 use Rattle.fk_model.specs.Objects.Body.{Port, Reference}
-use Rattle.fk_model.specs.World.{World, Change}
+use Rattle.fk_model.specs.World.{World}
 use Rattle.fk_model.specs.World.Change.{Alter}
-use Rattle.fk_model.specs.World.Edit.{SetTalk, SetPeer, SetFault, Finish, End}
-use Rattle.fk_model.specs.Searches.{talk_at, is_serving, client_at}
-use Rattle.fk_model.specs.Outcomes.{Said, Outcome, Caller, done, when}
-use Rattle.fk_model.specs.Outcomes.Outcome.{Refused, Waits, Goes}
+use Rattle.fk_model.specs.World.Edit.{SetTalk, SetFault, Finish, End}
+use Rattle.fk_model.specs.Searches.{talk_at, client_at}
+use Rattle.fk_model.specs.Outcomes.{Outcome, Caller, done}
+use Rattle.fk_model.specs.Outcomes.Outcome.{Goes}
 use Rattle.fk_model.specs.Outcomes.Said.{Taken, Full}
 use Rattle.fk_model.specs.Readers.{and_read, object_in, led_to, is_kind, kind_at, referred, their_page}
 use Rattle.fk_model.specs.Holds.{is_free}
 use Rattle.fk_model.specs.Talks.{receiving, same_side}
-use Rattle.fk_model.specs.LinkRows.{connecting_to, is_parked, new_talk, given_talk, link_set, link_park}
+use Rattle.fk_model.specs.LinkRows.{is_parked, new_talk, given_talk, link_set, link_park}
 use Rattle.fk_model.specs.FaultRows.{frees, fault_done, given_fault, named_taker, fault_set, fault_park}
 use Rattle.fk_model.specs.NativeRows.{is_serving_port, connects_here, parked_here, takes_up, accepts_thread, accepts_found, accepts, accept_row, if_receiving, with_client, gives_words, gives_to, give_row, passes_client, over_row}
-use Rattle.fk_model.specs.Valid.{IsValid, kind_there, leads_there, is_served_port, HasService, services, lies_with, are_talk_words, are_fault_words, is_idle_near, is_idle_peer, both_idle, server_named, is_fit_stage, IsWhole}
+use Rattle.fk_model.specs.Valid.{kind_there, leads_there, are_talk_words, are_fault_words, is_idle_near, is_idle_peer, is_fit_stage, IsWhole}
 use Rattle.fk_model.proofs.PlaceLaws.{same_path_eq, leads_to_at}
-use Rattle.fk_model.proofs.Safe.{IsSafeServer, IsSafeService, IsSafePeer, IsSafeTaker, IsSafeTalk, IsSafeFault, AreSafe}
-use Rattle.fk_model.proofs.SafeOutcomes.{SafeOutcome, refused, waits, goes, safe-when, safe-done, safe_row}
-use Rattle.fk_model.proofs.SafeReads.{Facts, IsCaller, kind-there, kind-port_of, object_in-found, referred-leads}
+use Rattle.fk_model.proofs.Safe.{IsSafeServer, IsSafeService, IsSafePeer, IsSafeTaker, IsSafeTalk}
+use Rattle.fk_model.proofs.SafeOutcomes.{SafeOutcome, waits, goes, safe-when, safe-done, safe_row}
+use Rattle.fk_model.proofs.SafeReads.{Facts, kind-there, kind-port_of, object_in-found, referred-leads}
 use Rattle.fk_model.proofs.SafeMemory.{their_page-safe}
 use Rattle.fk_model.proofs.SafeObjects.{reference-there}
 use Rattle.fk_model.proofs.SafeTalks.{idle-serves}
@@ -209,15 +209,18 @@ is (Some a) = Present a refl
 
 if_receiving-safe : (w : World) (x : Path) (go : Path → ℕ × ℕ → Outcome) (t : Thread) → ((x : Path) (space : ℕ × ℕ) → SafeOutcome w (go x space)) → SafeOutcome w (if_receiving w x go t)
 if_receiving-safe w x go t going = elim (cases_Bool (is_free w (parent x) t && holds (λ (talk : Talk). same_side talk.turn turns.Server) t.talk)) [
-  inr off ↦ rw off waits
-  | inl on ↦ rw on (elim (is (receiving turns.Client t.mode)) [ Absent e ↦ rw e waits | Present space e ↦ rw e (going x space) ])]
+  | inr off ↦ rw off waits
+  | inl on ↦ rw on (elim (is (receiving turns.Client t.mode)) [ Absent e ↦ rw e waits | Present space e ↦ rw e (going x space) ])
+]
 
 with_client-safe : (w : World) (port : Path) (go : Path → ℕ × ℕ → Outcome) → ((x : Path) (space : ℕ × ℕ) → SafeOutcome w (go x space)) → SafeOutcome w (with_client w port go)
 with_client-safe w port go going = elim (cases_Bool (is_serving_port w port)) [
-  inr off ↦ rw off waits
+  | inr off ↦ rw off waits
   | inl on ↦ rw on (elim (is (client_at w port)) [
-  Absent e ↦ rw e waits
-  | Present x e ↦ rw e (elim (is (and_then thread_of (w.body x))) [ Absent e2 ↦ rw e2 waits | Present t e2 ↦ rw e2 (if_receiving-safe w x go t going) ])])]
+    | Absent e ↦ rw e waits
+    | Present x e ↦ rw e (elim (is (and_then thread_of (w.body x))) [ Absent e2 ↦ rw e2 waits | Present t e2 ↦ rw e2 (if_receiving-safe w x go t going) ])
+  ])
+]
 
 gives_to-safe : (w : World) (port : Path) (words : List ℕ) (x : Path) (space : ℕ × ℕ) → SafeOutcome w (gives_to w port words x space)
 gives_to-safe w port words x space = by (space.1 == 0)

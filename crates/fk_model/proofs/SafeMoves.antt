@@ -1,23 +1,22 @@
 -- What a fit move comes to is safe.
-use Rattle.std.proofs.Common.{◌≡◌, ℕ, Bool, true, false, if◌then◌else◌, ◌&&◌, List, [], ◌∷◌, take, Option, Some, None, option_map, refl, ap}
+use Rattle.std.proofs.Common.{◌≡◌, ℕ, Bool, true, false, if◌then◌else◌, ◌&&◌, List, [], ◌∷◌, take, Option, Some, None, refl, ap}
 use Rattle.fk_model.specs.declared.moves.Ask.{Ask}
 use Rattle.fk_model.specs.declared.moves.Ask.TheVariants as asks
-use Rattle.fk_model.specs.declared.names.Kind.TheVariants as kinds
 use Rattle.fk_model.specs.declared.stage.Stage.{Stage}
 use Rattle.fk_model.specs.declared.stage.Stage.TheVariants.{Create, Destroy, Rename, Search, Point, Clear, Locate, CountIn, GetState, SetState, GetPtr, SetPtr, SpaceHold, SpaceRelease, ThreadStop, ThreadGo, PageGive, PageTake, PageRead, PageNext, MutexLock, MutexTrylock, MutexUnlock, CondWait, CondAsleep, CondSignal, CondBroadcast, Connect, ClientReceive, ClientSend, ClientOver, Disconnect, Wait, ServerReceive, ServerSend, ServerOver, ServerEnd, FaultDone, LinkSet, LinkPark, FaultSet, FaultPark, HoldSet, SpaceMakeHeld}
 use Rattle.fk_model.specs.declared.statuses.status.TheConstants.{DENIED}
 use Rattle.fk_model.specs.declared.thread.Turn.TheVariants as turns
-use Rattle.fk_model.specs.Places.{Path, parent, slot_of}
-use Rattle.fk_model.specs.Objects.{Mode, Thread, Body, kind_of, thread_of, and_then}
-use Rattle.fk_model.specs.Objects.Mode.{Running, Calling, Halted, Native}
+use Rattle.fk_model.specs.Places.{Path}
+use Rattle.fk_model.specs.Objects.{Mode, Thread, Body, thread_of, and_then}
+use Rattle.fk_model.specs.Objects.Mode.{Running, Calling}
 use Rattle.fk_model.specs.Objects.Body.{Thread_of}
 use Rattle.fk_model.specs.World.{World, Change}
-use Rattle.fk_model.specs.Outcomes.{Said, Outcome, when, Caller, path_of}
+use Rattle.fk_model.specs.Outcomes.{Said, Outcome, Caller, path_of}
 use Rattle.fk_model.specs.Outcomes.Outcome.{Refused, Waits, Goes}
 use Rattle.fk_model.specs.LinkRows.{user_at}
 use Rattle.fk_model.specs.Holds.{is_free, is_unheld, is_porter}
-use Rattle.fk_model.specs.Moves.{stage_row, is_for_porters, is_for_users, is_denied, allowed_row, chooses, with_pick, closed, call_row, goes_on, user_move, porter_at, porter_move, outcome}
-use Rattle.fk_model.specs.Valid.{IsValid, kind_there, is_fit_stage, is_fit, IsRooted, IsWhole}
+use Rattle.fk_model.specs.Moves.{stage_row, is_for_porters, is_denied, allowed_row, chooses, with_pick, closed, call_row, goes_on, user_move, porter_at, porter_move, outcome}
+use Rattle.fk_model.specs.Valid.{IsValid, is_fit_stage, is_fit, IsRooted, IsWhole}
 use Rattle.fk_model.proofs.Safe.{AreSafe}
 use Rattle.fk_model.proofs.SafeOutcomes.{SafeOutcome, refused, waits, goes, safe-when}
 use Rattle.fk_model.proofs.SafeReads.{Facts, IsCaller, kind-there, body-thread_of}

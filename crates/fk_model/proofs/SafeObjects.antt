@@ -1,25 +1,24 @@
 -- The rows of objects and of spaces are safe: what they make, destroy and rename, where they point, and who holds.
-use Rattle.std.proofs.Common.{◌≡◌, ℕ, ◌<◌, ◌≤◌, Bool, true, false, if◌then◌else◌, not, ◌&&◌, ◌==◌, leb, List, [], ◌∷◌, Option, Some, None, IsSome, is_some, Result, Ok, Err, refl, arith}
+use Rattle.std.proofs.Common.{◌≡◌, ℕ, Bool, true, false, if◌then◌else◌, not, leb, [], ◌∷◌, Option, Some, None, is_some, Ok, refl, arith}
 use Rattle.std.specs.List.{list_any}
-use Rattle.std.proofs.lemmas.Bool.{leb-true, and_parts, not-false}
-use Rattle.fk_model.specs.declared.limits.TheConstants.{SLOTS, LAST_USER_SLOT}
-use Rattle.fk_model.specs.declared.names.Kind.{Kind}
+use Rattle.std.proofs.lemmas.Bool.{leb-true, not-false}
+use Rattle.fk_model.specs.declared.limits.TheConstants.{LAST_USER_SLOT}
 use Rattle.fk_model.specs.declared.names.Kind.TheVariants as kinds
 use Rattle.fk_model.specs.Places.{Path, same_path, Ptr}
 use Rattle.fk_model.specs.Places.Ptr.{Null, At}
-use Rattle.fk_model.specs.Objects.{Thread, Body, kind_of, same_kind, reference_of}
-use Rattle.fk_model.specs.Objects.Body.{Mutex, Cond, Mapping, Region, Port, Portset, Space, Thread_of, Reference}
+use Rattle.fk_model.specs.Objects.{Body, kind_of, same_kind, reference_of}
+use Rattle.fk_model.specs.Objects.Body.{Mapping, Region, Reference}
 use Rattle.fk_model.specs.World.{World, Change}
-use Rattle.fk_model.specs.World.Change.{Alter, Make, MakeSpace, Kill, Move}
+use Rattle.fk_model.specs.World.Change.{Alter, Make, MakeSpace, Move}
 use Rattle.fk_model.specs.World.Edit.{SetPointer, SetHolder}
 use Rattle.fk_model.specs.Searches.{has_residents, leaf}
-use Rattle.fk_model.specs.Outcomes.{Outcome, Caller, path_of, done, done_at, stays, telling}
+use Rattle.fk_model.specs.Outcomes.{Caller, path_of, done, done_at, stays}
 use Rattle.fk_model.specs.Readers.{slot_for, object_in, anything, place, referred}
 use Rattle.fk_model.specs.SpaceRows.{space_hold, space_release, hold_set, space_make_held}
 use Rattle.fk_model.specs.StateRows.{referable}
-use Rattle.fk_model.specs.ObjectRows.{new_object, create, kills, told_with, destroys, destroy, rename, search as search_row, pointer_to, pointer_in, point, clear, locate, count_in}
+use Rattle.fk_model.specs.ObjectRows.{new_object, create, kills, destroys, destroy, rename, search as search_row, pointer_to, pointer_in, point, clear, locate, count_in}
 use Rattle.fk_model.specs.Valid.{IsValid, kind_there, leads_there, may_lead, all_in, is_good}
-use Rattle.fk_model.proofs.Safe.{IfAny, takes_pointer, IsVacant, is_plain, IsSafeMake, IsAlone, IsSafe, AreSafe}
+use Rattle.fk_model.proofs.Safe.{IfAny, takes_pointer, IsVacant, is_plain, IsAlone, IsSafe, AreSafe}
 use Rattle.fk_model.proofs.SafeOutcomes.{SafeOutcome, safe-end_all, safe-done, safe-done_at, safe-stays, safe-telling, safe_row}
 use Rattle.fk_model.proofs.SafeReads.{Facts, IsCaller, Found, kind-there, body-reference_of, slot_for-fits, object_in-found, referred-leads, place-space}
 use Rattle.fk_model.proofs.SafeMemory.{good-at}
@@ -79,12 +78,15 @@ rename-goes : (w : World) (c : Caller) (me : Path) (x y : ℕ) (space : Path) (b
 rename-goes w c me x y space b facts read fits free empty =
     let found = object_in-found w c anything space x b read in
     let low = leb-true y LAST_USER_SLOT (not-false _ fits) in
-    safe-done_at w me c (Move (x ∷ space) y ∷ []) [] (record {
-      live = rw found.there refl;
-      alone = (facts.walks.alone x space empty).empty;
-      slot_fits = omega arith;
-      empty = nothing-there _ free;
-    }, tt)
+    safe-done_at w me c (Move (x ∷ space) y ∷ []) [] (
+      record {
+        live = rw found.there refl;
+        alone = (facts.walks.alone x space empty).empty;
+        slot_fits = omega arith;
+        empty = nothing-there _ free;
+      },
+      tt,
+    )
 
 pub rename-safe : (w : World) (c : Caller) (s x y : ℕ) → Facts w → SafeOutcome w (rename w c s x y)
 unfolding rename

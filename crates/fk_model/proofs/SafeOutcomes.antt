@@ -1,14 +1,12 @@
 -- Outcomes whose changes are safe: how a row's parts make one.
-use Rattle.std.proofs.Common.{◌≡◌, ℕ, Bool, true, false, List, [], ◌∷◌, ◌++◌, map, Option, Some, None, Result, Ok, Err, refl}
+use Rattle.std.proofs.Common.{◌≡◌, ℕ, Bool, true, false, List, [], ◌∷◌, ◌++◌, Option, Some, None, Result, Ok, Err, refl}
 use Rattle.fk_model.specs.Places.{Path}
 use Rattle.fk_model.specs.World.{World, Change, apply}
-use Rattle.fk_model.specs.World.Change.{Alter}
-use Rattle.fk_model.specs.World.Edit.{Finish, End}
 use Rattle.fk_model.specs.Outcomes.{Said, Outcome, ◌>>=◌, refuse, or_refuse, when, Caller, done_at, done, ended, stays, telling}
 use Rattle.fk_model.specs.Outcomes.Said.{Nothing}
 use Rattle.fk_model.specs.Outcomes.Outcome.{Refused, Waits, Goes}
 use Rattle.fk_model.specs.LinkRows.{end_all}
-use Rattle.fk_model.proofs.Safe.{IsSafe, AreSafe}
+use Rattle.fk_model.proofs.Safe.{AreSafe}
 
 -- the changes of an outcome are safe, one after another
 abbrev pub SafeIn : World → Outcome → Type 0
@@ -83,8 +81,6 @@ safe-stays w c cs safe = goes safe
 pub safe-telling : (w : World) (said : Said) (o : Outcome) → SafeOutcome w o → SafeOutcome w (telling said o)
 safe-telling w said (Goes cs Nothing) safe = goes safe.safe
 safe-telling w said o safe = safe
-
-
 
 -- a row is a walk through its checks
 pub ruleset safe_row = (safe->>=, safe-refuse, safe-or_refuse, safe-when, waits, refused)

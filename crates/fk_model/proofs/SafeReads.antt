@@ -1,21 +1,20 @@
 -- What a reader that isn't refused says of the world.
-use Rattle.std.proofs.Common.{◌≡◌, ℕ, ◌<◌, ◌≤◌, Bool, true, false, if◌then◌else◌, ◌&&◌, ◌||◌, eqb, leb, List, [], ◌∷◌, Option, Some, None, IsSome, option_map, Result, Ok, Err, refl, sym, ap, ◌∙◌, arith}
+use Rattle.std.proofs.Common.{◌≡◌, ℕ, ◌<◌, Bool, true, false, if◌then◌else◌, ◌||◌, eqb, leb, List, [], ◌∷◌, Option, Some, None, option_map, Result, Ok, Err, refl, sym, ap, ◌∙◌, arith}
 use Rattle.std.specs.List.{list_any}
-use Rattle.std.proofs.lemmas.Bool.{leb-true, eqb-true, eq-eqb, and_parts, or_left}
+use Rattle.std.proofs.lemmas.Bool.{leb-true, eqb-true, eq-eqb}
 use Rattle.fk_model.specs.declared.limits.TheConstants.{SLOTS, OWN_SPACE}
 use Rattle.fk_model.specs.declared.names.Kind.{Kind}
 use Rattle.fk_model.specs.declared.names.Kind.TheVariants as kinds
 use Rattle.fk_model.specs.declared.statuses.status.TheConstants.{BADHANDLE, WRONGKIND}
-use Rattle.fk_model.specs.Places.{Path, parent, Ptr}
-use Rattle.fk_model.specs.Places.Ptr.{Null, Dead, At, Out, Outside, Far}
-use Rattle.fk_model.specs.Objects.{Thread, Body, kind_of, same_kind, number_of, thread_of, port_of, space_of, reference_of, and_then, holds}
-use Rattle.fk_model.specs.Objects.Body.{Mutex, Cond, Mapping, Region, Port, Portset, Space, Thread_of, Reference}
+use Rattle.fk_model.specs.Places.{Path, Ptr}
+use Rattle.fk_model.specs.Places.Ptr.{At, Out}
+use Rattle.fk_model.specs.Objects.{Thread, Body, kind_of, same_kind, number_of, thread_of, port_of, space_of, reference_of, and_then}
+use Rattle.fk_model.specs.Objects.Body.{Port, Space, Thread_of, Reference}
 use Rattle.fk_model.specs.World.{World}
-use Rattle.fk_model.specs.Searches.{depth, has_residents, leaf, is_serving, client_at}
+use Rattle.fk_model.specs.Searches.{has_residents, leaf, is_serving, client_at}
 use Rattle.fk_model.specs.Outcomes.{Caller, path_of, last_slot, or_refuse}
-use Rattle.fk_model.specs.Readers.{and_read, slot_for, seen_as, anything, object_in, kind_at, is_kind, led_to, handled, handle, path_at, place, referred}
-use Rattle.fk_model.specs.StateRows.{referable}
-use Rattle.fk_model.specs.Valid.{IsValid, kind_there, is_one_of, leads_there, may_lead, all_in, is_good, HasService, services, IsRooted}
+use Rattle.fk_model.specs.Readers.{and_read, slot_for, seen_as, object_in, kind_at, is_kind, led_to, handled, handle, path_at, place, referred}
+use Rattle.fk_model.specs.Valid.{IsValid, kind_there, is_one_of, leads_there, may_lead, HasService, services, IsRooted}
 use Rattle.fk_model.proofs.Safe.{IsAlone}
 
 -- ---- what is known of the world in which a row is judged

@@ -1,19 +1,19 @@
 -- The rows whose changes no world forbids: instructions, mutexes and conditions, messages, pages, and what only reads.
-use Rattle.std.proofs.Common.{◌≡◌, ℕ, zero, suc, ◌+◌, ◌-◌, ◌%◌, Bool, true, false, if◌then◌else◌, not, ◌&&◌, ◌==◌, List, [], ◌∷◌, ◌++◌, length, take, replicate, Option, Some, None, is_some, Result, Ok, Err, refl}
+use Rattle.std.proofs.Common.{ℕ, Bool, true, false, if◌then◌else◌, ◌==◌, List, [], ◌∷◌, ◌++◌, replicate, Option, Some, None}
 use Rattle.std.specs.List.{flat_map}
 use Rattle.fk_model.specs.declared.instruction.Act.{Act}
-use Rattle.fk_model.specs.declared.instruction.Act.TheVariants.{Put, Jump, Load, Store, Halt, Call}
+use Rattle.fk_model.specs.declared.instruction.Act.TheVariants.{Load, Store, Call}
 use Rattle.fk_model.specs.declared.limits.TheConstants.{SLOTS, PAGE_WORDS, ZEROS}
 use Rattle.fk_model.specs.declared.stage.Stage.{Stage}
 use Rattle.fk_model.specs.declared.thread.Turn.{Turn}
-use Rattle.fk_model.specs.Places.{Path, parent, Ptr}
-use Rattle.fk_model.specs.Objects.{Mode, Peer, Talk, Thread, Body, mutex_of, thread_of, and_then}
+use Rattle.fk_model.specs.Places.{Path, parent}
+use Rattle.fk_model.specs.Objects.{Peer, Thread}
 use Rattle.fk_model.specs.Objects.Peer.{Server, Service, Parked}
 use Rattle.fk_model.specs.Calls.{todo_of}
 use Rattle.fk_model.specs.Instructions.{act}
 use Rattle.fk_model.specs.World.{World, Change}
 use Rattle.fk_model.specs.World.Change.{Alter, DropPage}
-use Rattle.fk_model.specs.World.Edit.{Shift, CountMoved, End}
+use Rattle.fk_model.specs.World.Edit.{Shift, End}
 use Rattle.fk_model.specs.Searches.{slots}
 use Rattle.fk_model.specs.Reach.{reach_word, words_at}
 use Rattle.fk_model.specs.Outcomes.{Said, Outcome, Caller, path_of, done, telling}
@@ -21,14 +21,14 @@ use Rattle.fk_model.specs.Outcomes.Said.{Nothing}
 use Rattle.fk_model.specs.Outcomes.Outcome.{Waits, Goes}
 use Rattle.fk_model.specs.Readers.{own_page, their_page}
 use Rattle.fk_model.specs.declared.statuses.status.TheConstants.{FULL}
-use Rattle.fk_model.specs.Talks.{Line, line, receiving, other_side, thread_at}
+use Rattle.fk_model.specs.Talks.{Line, thread_at}
 use Rattle.fk_model.specs.UserRows.{word_at, halts_with, loads, stores, enters, performs, executes, run_row}
-use Rattle.fk_model.specs.SyncRows.{sets, mutex_lock, mutex_trylock, mutex_unlock, cond_wait, cond_asleep, woken, asleep_on, sleepers, signals, unless_slept_on, picks_sleeper, cond_signal, cond_broadcast}
-use Rattle.fk_model.specs.TransferRows.{moved_words, has_sent, sends_words, sends_into, sends_to_thread, sends_to_service, sends_to, sends, send, awaits, receive, passes, passes_to_thread, passes_to, over}
+use Rattle.fk_model.specs.SyncRows.{mutex_lock, mutex_trylock, mutex_unlock, cond_wait, cond_asleep, woken, asleep_on, sleepers, signals, unless_slept_on, picks_sleeper, cond_signal, cond_broadcast}
+use Rattle.fk_model.specs.TransferRows.{moved_words, has_sent, sends_words, sends_into, sends_to_thread, sends_to, sends, send, awaits, receive, passes_to_thread, passes_to, over}
 use Rattle.fk_model.specs.SpaceRows.{thread_stop, thread_go, gives, gives_from, page_give, copies, copies_home, answers_home, copies_to, page_take, page_read, page_next}
 use Rattle.fk_model.specs.Valid.{IsValid}
 use Rattle.fk_model.proofs.Safe.{AreSafe}
-use Rattle.fk_model.proofs.SafeOutcomes.{SafeOutcome, refused, waits, goes, safe-then, safe-when, safe-done, safe-telling, safe_row}
+use Rattle.fk_model.proofs.SafeOutcomes.{SafeOutcome, waits, goes, safe-then, safe-when, safe-done, safe-telling, safe_row}
 use Rattle.fk_model.proofs.SafeMemory.{accessed-safe, own_page-safe, their_page-safe, reach_word-good}
 
 -- ---- instructions

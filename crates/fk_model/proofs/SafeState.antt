@@ -1,16 +1,15 @@
 -- The rows of state and of pointers are safe: what a record sets is in range, and a field takes what it may hold.
-use Rattle.std.proofs.Common.{◌≡◌, ℕ, ◌+◌, ◌-◌, ◌<◌, ◌≤◌, Bool, true, false, if◌then◌else◌, not, ◌&&◌, ◌||◌, ◌==◌, leb, eqb, List, [], ◌∷◌, map, Option, Some, None, option_map, is_some, Result, Ok, Err, refl, arith}
-use Rattle.std.specs.List.{list_any}
-use Rattle.std.proofs.lemmas.Bool.{leb-true, and_parts, and_from, not-false, not-true}
-use Rattle.fk_model.specs.declared.limits.TheConstants.{SLOTS, PAGES}
+use Rattle.std.proofs.Common.{◌≡◌, ℕ, ◌-◌, Bool, true, false, if◌then◌else◌, not, ◌&&◌, ◌||◌, ◌==◌, leb, List, [], ◌∷◌, map, Option, Some, None, option_map, is_some, Ok, refl}
+use Rattle.std.proofs.lemmas.Bool.{and_parts, and_from, not-false}
+use Rattle.fk_model.specs.declared.limits.TheConstants.{SLOTS}
 use Rattle.fk_model.specs.declared.names.Kind.{Kind}
 use Rattle.fk_model.specs.declared.names.Kind.TheVariants as kinds
 use Rattle.fk_model.specs.Places.{Path, Ptr}
-use Rattle.fk_model.specs.Places.Ptr.{Null, Dead, At, Out, Outside, Far}
-use Rattle.fk_model.specs.Objects.{Peer, Talk, Fault, Thread, Body, kind_of, same_kind, reference_of, and_then}
+use Rattle.fk_model.specs.Places.Ptr.{At}
+use Rattle.fk_model.specs.Objects.{Peer, Talk, Fault, Thread, Body, kind_of, reference_of, and_then}
 use Rattle.fk_model.specs.Objects.Peer.{Server, Service, Parked}
-use Rattle.fk_model.specs.Objects.Body.{Mutex, Cond, Mapping, Region, Port, Portset, Space, Thread_of, Reference}
-use Rattle.fk_model.specs.World.{World, Change}
+use Rattle.fk_model.specs.Objects.Body.{Mutex, Mapping, Region, Port, Portset, Space, Thread_of, Reference}
+use Rattle.fk_model.specs.World.{World}
 use Rattle.fk_model.specs.World.Change.{Alter}
 use Rattle.fk_model.specs.World.Edit.{SetPointer}
 use Rattle.fk_model.specs.LinkRows.{portset_of}
@@ -18,12 +17,12 @@ use Rattle.fk_model.specs.Outcomes.{Outcome, Caller, done}
 use Rattle.fk_model.specs.Readers.{object_in, anything, kind_at, own_page}
 use Rattle.fk_model.specs.Reach.{words_at}
 use Rattle.fk_model.specs.Records.{record_of, is_extent, is_flag, is_member_word, member_by, set_edits, is_state, takes_state, word}
-use Rattle.fk_model.specs.StateRows.{shows, shows_to, get_state, sets, record_at, sets_from, set_state, Field, peer_field, or_null, thread_field, field_of, first_field, is_inner, field_number, field_pointer, get_ptr, referable, held_kinds, is_among, set_ptr}
-use Rattle.fk_model.specs.StateRows.Field.{Pointer, NoThread}
+use Rattle.fk_model.specs.StateRows.{shows, shows_to, get_state, sets, record_at, sets_from, set_state, Field, peer_field, or_null, thread_field, field_of, first_field, field_number, field_pointer, get_ptr, referable, held_kinds, is_among, set_ptr}
+use Rattle.fk_model.specs.StateRows.Field.{Pointer}
 use Rattle.fk_model.specs.Valid.{IsValid, kind_there, is_one_of, leads_there, may_lead, all_in, is_good, is_good_set, is_good_talk, is_good_fault, is_good_peer}
-use Rattle.fk_model.proofs.Safe.{takes_set, takes_pointer, AreSafe}
+use Rattle.fk_model.proofs.Safe.{takes_pointer, AreSafe}
 use Rattle.fk_model.proofs.SafeOutcomes.{SafeOutcome, safe-done, safe_row}
-use Rattle.fk_model.proofs.SafeReads.{Found, kind-there, object_in-found, leads-among, may-among}
+use Rattle.fk_model.proofs.SafeReads.{object_in-found, leads-among, may-among}
 use Rattle.fk_model.proofs.SafeMemory.{good-at, own_page-safe}
 use Rattle.fk_model.proofs.SafeObjects.{takes-at, reference-leads, reference-there}
 

@@ -1,30 +1,26 @@
 -- The rows of talks and of faults are safe: who takes up a client or a fault serves nobody else.
-use Rattle.std.proofs.Common.{◌≡◌, ℕ, Bool, true, false, if◌then◌else◌, not, ◌&&◌, ◌==◌, eqb, List, [], ◌∷◌, ◌++◌, map, Option, Some, None, option_map, is_none, Result, Ok, Err, refl, sym, ◌∙◌}
-use Rattle.std.proofs.lemmas.Bool.{and_parts, not-true}
-use Rattle.fk_model.specs.declared.limits.TheConstants.{OWN_SPACE}
-use Rattle.fk_model.specs.declared.names.Kind.{Kind}
+use Rattle.std.proofs.Common.{◌≡◌, ℕ, Bool, true, false, if◌then◌else◌, ◌&&◌, [], ◌∷◌, ◌++◌, Option, Some, None, option_map, refl, sym}
+use Rattle.std.proofs.lemmas.Bool.{and_parts}
 use Rattle.fk_model.specs.declared.names.Kind.TheVariants as kinds
 use Rattle.fk_model.specs.declared.thread.Turn.{Turn}
 use Rattle.fk_model.specs.Places.{Path, same_path, parent, slot_of, Ptr, leads_to}
-use Rattle.fk_model.specs.Places.Ptr.{Null, Dead, At, Out, Outside, Far}
-use Rattle.fk_model.specs.Objects.{Mode, Peer, Talk, Fault, Thread, Body, kind_of, port_of, thread_of, and_then, or_else, holds}
-use Rattle.fk_model.specs.Objects.Peer.{Server, Service, Parked}
+use Rattle.fk_model.specs.Places.Ptr.{At}
+use Rattle.fk_model.specs.Objects.{Talk, Fault, Thread, Body, thread_of, and_then, or_else}
+use Rattle.fk_model.specs.Objects.Peer.{Server}
 use Rattle.fk_model.specs.Objects.Body.{Port}
-use Rattle.fk_model.specs.World.{World, Change}
+use Rattle.fk_model.specs.World.{World}
 use Rattle.fk_model.specs.World.Change.{Alter}
-use Rattle.fk_model.specs.World.Edit.{SetTalk, SetPeer, SetTaker, SetFault, Finish}
-use Rattle.fk_model.specs.Searches.{talk_at, fault_at, is_serving, client_at}
-use Rattle.fk_model.specs.Outcomes.{Said, Outcome, Caller, path_of, done, ended}
-use Rattle.fk_model.specs.Outcomes.Outcome.{Goes}
-use Rattle.fk_model.specs.Readers.{and_read, object_in, referred}
-use Rattle.fk_model.specs.Talks.{Line, path_to, ends_beyond}
-use Rattle.fk_model.specs.LinkRows.{connect, new_talk, connecting_to, Candidate, is_member, slot_in_set, is_parked, is_open, faulting, connecting, resuming, candidate_by, candidate, takes, takes_picked, wait, end_all, removes, disconnect, given_talk, link_set, link_park}
+use Rattle.fk_model.specs.World.Edit.{SetTalk, SetPeer, SetTaker, Finish}
+use Rattle.fk_model.specs.Searches.{talk_at, fault_at, is_serving}
+use Rattle.fk_model.specs.Outcomes.{Caller, path_of}
+use Rattle.fk_model.specs.Talks.{Line, ends_beyond}
+use Rattle.fk_model.specs.LinkRows.{connect, new_talk, connecting_to, Candidate, is_member, slot_in_set, is_parked, is_open, faulting, connecting, resuming, candidate_by, candidate, takes, takes_picked, wait, end_all, removes, disconnect}
 use Rattle.fk_model.specs.LinkRows.Candidate.{Faulting, Connecting, Resuming}
-use Rattle.fk_model.specs.Valid.{IsValid, kind_there, leads_there, services, lies_with, IsRooted}
+use Rattle.fk_model.specs.Valid.{kind_there, services, lies_with, IsRooted}
 use Rattle.fk_model.proofs.PlaceLaws.{same_path_eq}
-use Rattle.fk_model.proofs.Safe.{IsSafeServer, IsSafePeer, IsSafeTalk, AreSafe}
-use Rattle.fk_model.proofs.SafeOutcomes.{SafeOutcome, waits, goes, safe-then, safe-end_all, safe-when, safe-done, safe-ended, safe-telling, safe_row}
-use Rattle.fk_model.proofs.SafeReads.{Facts, IsCaller, kind-there, kind-port_of, object_in-found, referred-leads}
+use Rattle.fk_model.proofs.Safe.{IsSafeServer, IsSafePeer, IsSafeTalk}
+use Rattle.fk_model.proofs.SafeOutcomes.{SafeOutcome, waits, safe-then, safe-end_all, safe-done, safe-ended, safe-telling, safe_row}
+use Rattle.fk_model.proofs.SafeReads.{Facts, IsCaller, kind-there}
 use Rattle.fk_model.proofs.SafeObjects.{caller-leads}
 
 -- ---- who serves nobody

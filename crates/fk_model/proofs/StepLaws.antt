@@ -1,7 +1,5 @@
 -- A fit move keeps a world valid and rooted.
-use Rattle.std.proofs.Common.{◌≡◌, ◌≤◌, true, Option}
-use Rattle.fk_model.specs.declared.moves.Ask.{Ask}
-use Rattle.fk_model.specs.Places.{Path}
+use Rattle.std.proofs.Common.{◌≤◌}
 use Rattle.fk_model.specs.World.{World}
 use Rattle.fk_model.specs.Searches.{depth}
 use Rattle.fk_model.specs.Outcomes.{Outcome}
@@ -10,7 +8,7 @@ use Rattle.fk_model.specs.Moves.{outcome, step, stepped}
 use Rattle.fk_model.specs.Valid.{IsValid, IsRooted}
 use Rattle.fk_model.specs.Laws.{StepKeepsValid}
 use Rattle.fk_model.proofs.SafeOutcomes.{SafeOutcome}
-use Rattle.fk_model.proofs.SafeReads.{WalkFacts, Facts}
+use Rattle.fk_model.proofs.SafeReads.{WalkFacts}
 use Rattle.fk_model.proofs.SafeMoves.{outcome-safe}
 use Rattle.fk_model.proofs.ValidLaws.{valid-apply_all, rooted-apply_all}
 use Rattle.fk_model.proofs.WalkLaws.{idle, no_service, alone, leaf-alone}

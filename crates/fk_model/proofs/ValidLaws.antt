@@ -1,5 +1,5 @@
 -- Safe changes keep a world valid and rooted.
-use Rattle.std.proofs.Common.{◌≡◌, ℕ, ◌<◌, Bool, true, false, if◌then◌else◌, IsSome, List, [], ◌∷◌, ◌++◌, Option, Some, None, option_map, refl, sym, ap, ◌∙◌}
+use Rattle.std.proofs.Common.{◌≡◌, ℕ, ◌<◌, Bool, true, false, if◌then◌else◌, IsSome, List, [], ◌∷◌, Option, Some, None, option_map, refl, sym, ap, ◌∙◌}
 use Rattle.fk_model.specs.declared.limits.TheConstants.{SLOTS}
 use Rattle.fk_model.specs.declared.names.Kind.TheVariants as kinds
 use Rattle.fk_model.specs.Places.{Path, same_path}
@@ -119,14 +119,3 @@ pub rooted-apply_all : (cs : List Change) (w : World) → IsRooted w → AreSafe
 unfolding apply_all
 rooted-apply_all [] w rooted safe = rooted
 rooted-apply_all (c ∷ cs) w rooted safe = rooted-apply_all cs (apply c w) (rooted-apply c w rooted safe.0) safe.1
-
--- ---- lists of safe changes
-
-pub safe-append : (cs ds : List Change) (w : World) → AreSafe w cs → AreSafe (apply_all cs w) ds → AreSafe w (cs ++ ds)
-unfolding apply_all
-safe-append [] ds w left right = right
-safe-append (c ∷ cs) ds w left right = (left.0, safe-append cs ds (apply c w) left.1 right)
-
--- ds are safe in every world
-pub safe-then : (cs ds : List Change) (w : World) → AreSafe w cs → ((v : World) → AreSafe v ds) → AreSafe w (cs ++ ds)
-safe-then cs ds w left right = safe-append cs ds w left (right (apply_all cs w))
