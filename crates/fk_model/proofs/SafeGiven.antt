@@ -2,16 +2,15 @@
 use Rattle.std.proofs.Common.{◌≡◌, ℕ, Bool, true, false, if◌then◌else◌, ◌&&◌, ◌==◌, List, [], ◌∷◌, Option, Some, None, is_none, Result, Ok, Err, refl, inl, inr}
 use Rattle.std.proofs.lemmas.Bool.{and_parts, not-true, cases_Bool}
 use Rattle.fk_model.specs.declared.limits.TheConstants.{OWN_SPACE}
-use Rattle.fk_model.specs.declared.names.Kind.{Kind}
 use Rattle.fk_model.specs.declared.names.Kind.TheVariants as kinds
 use Rattle.fk_model.specs.declared.stage.Stage.TheVariants.{LinkSet, FaultSet}
-use Rattle.fk_model.specs.declared.statuses.status.TheConstants.{WRONGKIND, FULL}
+use Rattle.fk_model.specs.declared.statuses.status.TheConstants.{FULL}
 use Rattle.fk_model.specs.declared.thread.Turn.TheVariants as turns
-use Rattle.fk_model.specs.Places.{Path, same_path, parent, Ptr, leads_to}
-use Rattle.fk_model.specs.Places.Ptr.{At, Out}
-use Rattle.fk_model.specs.Objects.{Peer, Talk, Thread, Body, port_of, thread_of, reference_of, and_then, holds}
+use Rattle.fk_model.specs.Places.{Path, parent, Ptr, leads_to}
+use Rattle.fk_model.specs.Places.Ptr.{At}
+use Rattle.fk_model.specs.Objects.{Peer, Talk, Thread, Body, port_of, thread_of, and_then, holds}
 use Rattle.fk_model.specs.Objects.Peer.{Server, Service, Parked}
-use Rattle.fk_model.specs.Objects.Body.{Port, Reference}
+use Rattle.fk_model.specs.Objects.Body.{Port}
 use Rattle.fk_model.specs.World.{World}
 use Rattle.fk_model.specs.World.Change.{Alter}
 use Rattle.fk_model.specs.World.Edit.{SetTalk, SetFault, Finish, End}
@@ -19,65 +18,47 @@ use Rattle.fk_model.specs.Searches.{talk_at, client_at}
 use Rattle.fk_model.specs.Outcomes.{Outcome, Caller, done}
 use Rattle.fk_model.specs.Outcomes.Outcome.{Goes}
 use Rattle.fk_model.specs.Outcomes.Said.{Taken, Full}
-use Rattle.fk_model.specs.Readers.{and_read, object_in, led_to, is_kind, kind_at, referred, their_page}
+use Rattle.fk_model.specs.Readers.{and_read, object_in, referred, their_page}
 use Rattle.fk_model.specs.Holds.{is_free}
 use Rattle.fk_model.specs.Talks.{receiving, same_side}
 use Rattle.fk_model.specs.LinkRows.{is_parked, new_talk, given_talk, link_set, link_park}
 use Rattle.fk_model.specs.FaultRows.{frees, fault_done, given_fault, named_taker, fault_set, fault_park}
 use Rattle.fk_model.specs.NativeRows.{is_serving_port, connects_here, parked_here, takes_up, accepts_thread, accepts_found, accepts, accept_row, if_receiving, with_client, gives_words, gives_to, give_row, passes_client, over_row}
-use Rattle.fk_model.specs.Valid.{kind_there, leads_there, are_talk_words, are_fault_words, is_idle_near, is_idle_peer, is_fit_stage, IsWhole}
+use Rattle.fk_model.specs.Valid.{kind_there, leads_there, are_talk_words, are_fault_words, is_idle_near, is_idle_peer, is_fit_stage, is_near, is_idle, lies_with, services}
 use Rattle.fk_model.proofs.PlaceLaws.{same_path_eq, leads_to_at}
 use Rattle.fk_model.proofs.Safe.{IsSafeServer, IsSafeService, IsSafePeer, IsSafeTaker, IsSafeTalk}
 use Rattle.fk_model.proofs.SafeOutcomes.{SafeOutcome, waits, goes, safe-when, safe-done, safe_row}
 use Rattle.fk_model.proofs.SafeReads.{Facts, kind-there, kind-port_of, object_in-found, referred-leads}
 use Rattle.fk_model.proofs.SafeMemory.{their_page-safe}
-use Rattle.fk_model.proofs.SafeObjects.{reference-there}
 use Rattle.fk_model.proofs.SafeTalks.{idle-serves}
 
 -- ---- a porter names a server
 
--- then a reference that is followed leads to a path
-led-at : (w : World) (wanted : Kind) (x : Path) (to p : Ptr) → IsWhole w → w.body x ≡ Some (Reference to) → led_to w wanted to ≡ Ok p → (y : Path) × (p ≡ At y)
-led-at w wanted x (At y) p whole there h = by (is_kind wanted (kind_at w (At y))) h
-  where
-    by : (t : Bool) → (if t then Ok (At y) else Err WRONGKIND) ≡ Ok p → (z : Path) × (p ≡ At z)
-    by true h = (y, cc)
-    by false h = cc
-led-at w wanted x (Out slot) p whole there h = absurd (whole x slot there)
-led-at w wanted x to p whole there h = cc
+near-lies : (port server : Ptr) → is_near port server ≡ true → lies_with port server
+near-lies (At port) (At server) near = same_path_eq _ _ near
+near-lies port server near = tt
 
-referred-at : (w : World) (c : Caller) (wanted : Kind) (k : ℕ) (p : Ptr) → IsWhole w → referred w c wanted k ≡ Ok p → (y : Path) × (p ≡ At y)
-unfolding referred
-referred-at w c wanted k p whole read = by (object_in w c reference_of c.space k) refl read
-  where
-    by : (r : Result Ptr ℕ) → object_in w c reference_of c.space k ≡ r → and_read r (led_to w wanted) ≡ Ok p → (y : Path) × (p ≡ At y)
-    by (Ok to) e h = led-at w wanted (k ∷ c.space) to p whole (reference-there w (k ∷ c.space) to (object_in-found w c reference_of c.space k to e)) h
-    by (Err status) e h = cc
+idle-anywhere : (w : World) → Facts w → (server : Ptr) → is_idle w server ≡ true → (s q : Path) → leads_to s server ≡ true → services w s q ≡ 0
+idle-anywhere w facts (At server) idle s q leads = idle-serves w facts server (not-true _ idle) s q leads
+idle-anywhere w facts server idle s q leads = cc
 
-named-serves : (w : World) (c : Caller) (port server : ℕ) (at thread : Ptr) → Facts w → IsWhole w → referred w c kinds.Port port ≡ Ok at → referred w c kinds.Thread server ≡ Ok thread → is_idle_near w at thread ≡ true → IsSafeServer w at thread
-named-serves w c port server at thread facts whole read read2 fit =
-    let to = referred-at w c kinds.Port port at whole read in
-    let by = referred-at w c kinds.Thread server thread whole read2 in
-    let good = referred-leads w c kinds.Thread server thread read2 in
-    rw (to.1, by.1) (near to.0 by.0 (rw by.1 at good) (rw (to.1, by.1) at fit))
-  where
-    near : (x y : Path) → leads_there (kind_there w) (kinds.Thread ∷ []) (At y) ≡ true → is_idle_near w (At x) (At y) ≡ true → IsSafeServer w (At x) (At y)
-    near x y good fit =
-        let both = and_parts (same_path (parent y) (parent x)) _ fit in
-        record { good = good; near = same_path_eq _ _ both.0; idle = idle-serves w facts y (not-true _ both.1) }
+named-serves : (w : World) (c : Caller) (server : ℕ) (at thread : Ptr) → Facts w → referred w c kinds.Thread server ≡ Ok thread → is_idle_near w at thread ≡ true → IsSafeServer w at thread
+named-serves w c server at thread facts read fit =
+    let both = and_parts (is_near at thread) _ fit in
+    record { good = referred-leads w c kinds.Thread server thread read; near = near-lies at thread both.0; idle = idle-anywhere w facts thread both.1 }
 
 -- ---- link_set and link_park
 
-link_set-goes : (w : World) (c : Caller) (x : Path) (s k port server : ℕ) (at thread : Ptr) → Facts w → IsWhole w → is_fit_stage w c (LinkSet s k port server) ≡ true →
+link_set-goes : (w : World) (c : Caller) (x : Path) (s k port server : ℕ) (at thread : Ptr) → Facts w → is_fit_stage w c (LinkSet s k port server) ≡ true →
     referred w c kinds.Port port ≡ Ok at → referred w c kinds.Thread server ≡ Ok thread → SafeOutcome w (done c (Alter x (SetTalk (given_talk c at (Server thread))) ∷ []) [])
-link_set-goes w c x s k port server at thread facts whole fit read read2 =
+link_set-goes w c x s k port server at thread facts fit read read2 =
     let idle = (and_parts (are_talk_words c.words) _ fit).1 in
     safe-done w c (Alter x (SetTalk (given_talk c at (Server thread))) ∷ []) []
-    (record { port = referred-leads w c kinds.Port port at read; peer = named-serves w c port server at thread facts whole read read2 (rw (read, read2) at idle) }, tt)
+    (record { port = referred-leads w c kinds.Port port at read; peer = named-serves w c server at thread facts read2 (rw (read, read2) at idle) }, tt)
 
-pub link_set-safe : (w : World) (c : Caller) (s x port server : ℕ) → Facts w → IsWhole w → is_fit_stage w c (LinkSet s x port server) ≡ true → SafeOutcome w (link_set w c s x port server)
+pub link_set-safe : (w : World) (c : Caller) (s x port server : ℕ) → Facts w → is_fit_stage w c (LinkSet s x port server) ≡ true → SafeOutcome w (link_set w c s x port server)
 unfolding link_set
-link_set-safe w c s x port server facts whole fit = search (safe_row, link_set-goes) depth 9
+link_set-safe w c s x port server facts fit = search (safe_row, link_set-goes) depth 9
 
 port-there : (w : World) (c : Caller) (k : ℕ) (port : Option ℕ × Bool) → object_in w c port_of c.space k ≡ Ok port → leads_there (kind_there w) (kinds.Port ∷ []) (At (k ∷ c.space)) ≡ true
 port-there w c k port read =
@@ -102,27 +83,27 @@ pub fault_done-safe : (w : World) (c : Caller) → SafeOutcome w (fault_done w c
 unfolding fault_done
 fault_done-safe w c = search (safe_row, frees-safe)
 
-taker-serves : (w : World) (c : Caller) (port taker : ℕ) (at : Ptr) (by : Option Peer) → Facts w → IsWhole w → referred w c kinds.Port port ≡ Ok at → named_taker w c taker ≡ Ok by → is_idle_peer w at by ≡ true → IsSafeTaker w at by
-taker-serves w c port taker at by facts whole read named fit = first (taker == OWN_SPACE) named
+taker-serves : (w : World) (c : Caller) (taker : ℕ) (at : Ptr) (by : Option Peer) → Facts w → named_taker w c taker ≡ Ok by → is_idle_peer w at by ≡ true → IsSafeTaker w at by
+taker-serves w c taker at by facts named fit = first (taker == OWN_SPACE) named
   where
     of_thread : (r : Result Ptr ℕ) → referred w c kinds.Thread taker ≡ r → and_read r (λ thread. Ok (Some (Server thread))) ≡ Ok by → IsSafeTaker w at by
-    of_thread (Ok thread) read2 h = let same : by ≡ Some (Server thread) = cc in rw same (named-serves w c port taker at thread facts whole read read2 (rw same at fit))
+    of_thread (Ok thread) read2 h = let same : by ≡ Some (Server thread) = cc in rw same (named-serves w c taker at thread facts read2 (rw same at fit))
     of_thread (Err status) read2 h = cc
 
     first : (t : Bool) → (if t then Ok None else and_read (referred w c kinds.Thread taker) (λ thread. Ok (Some (Server thread)))) ≡ Ok by → IsSafeTaker w at by
     first true h = let same : by ≡ None = cc in rw same tt
     first false h = of_thread _ refl h
 
-fault_set-goes : (w : World) (c : Caller) (x : Path) (s k port taker : ℕ) (at : Ptr) (by : Option Peer) → Facts w → IsWhole w → is_fit_stage w c (FaultSet s k port taker) ≡ true →
+fault_set-goes : (w : World) (c : Caller) (x : Path) (s k port taker : ℕ) (at : Ptr) (by : Option Peer) → Facts w → is_fit_stage w c (FaultSet s k port taker) ≡ true →
     referred w c kinds.Port port ≡ Ok at → named_taker w c taker ≡ Ok by → SafeOutcome w (done c (Alter x (SetFault (given_fault c at by)) ∷ []) [])
-fault_set-goes w c x s k port taker at by facts whole fit read named =
+fault_set-goes w c x s k port taker at by facts fit read named =
     let idle = (and_parts (are_fault_words c.words) _ fit).1 in
     safe-done w c (Alter x (SetFault (given_fault c at by)) ∷ []) []
-    (record { port = referred-leads w c kinds.Port port at read; taker = taker-serves w c port taker at by facts whole read named (rw (read, named) at idle) }, tt)
+    (record { port = referred-leads w c kinds.Port port at read; taker = taker-serves w c taker at by facts named (rw (read, named) at idle) }, tt)
 
-pub fault_set-safe : (w : World) (c : Caller) (s x port taker : ℕ) → Facts w → IsWhole w → is_fit_stage w c (FaultSet s x port taker) ≡ true → SafeOutcome w (fault_set w c s x port taker)
+pub fault_set-safe : (w : World) (c : Caller) (s x port taker : ℕ) → Facts w → is_fit_stage w c (FaultSet s x port taker) ≡ true → SafeOutcome w (fault_set w c s x port taker)
 unfolding fault_set
-fault_set-safe w c s x port taker facts whole fit = search (safe_row, fault_set-goes) depth 9
+fault_set-safe w c s x port taker facts fit = search (safe_row, fault_set-goes) depth 9
 
 open-taker : (w : World) (port : Ptr) (parked : Bool) → IsSafeTaker w port (if parked then Some Parked else None)
 open-taker w port true = tt

@@ -16,7 +16,7 @@ use Rattle.fk_model.specs.Outcomes.Outcome.{Refused, Waits, Goes}
 use Rattle.fk_model.specs.LinkRows.{user_at}
 use Rattle.fk_model.specs.Holds.{is_free, is_unheld, is_porter}
 use Rattle.fk_model.specs.Moves.{stage_row, is_for_porters, is_denied, allowed_row, chooses, with_pick, closed, call_row, goes_on, user_move, porter_at, porter_move, outcome}
-use Rattle.fk_model.specs.Valid.{IsValid, is_fit_stage, is_fit, IsRooted, IsWhole}
+use Rattle.fk_model.specs.Valid.{IsValid, is_fit_stage, is_fit, IsRooted}
 use Rattle.fk_model.proofs.Safe.{AreSafe}
 use Rattle.fk_model.proofs.SafeOutcomes.{SafeOutcome, refused, waits, goes, safe-when}
 use Rattle.fk_model.proofs.SafeReads.{Facts, IsCaller, kind-there, body-thread_of}
@@ -28,51 +28,51 @@ use Rattle.fk_model.proofs.SafeGiven.{link_set-safe, link_park-safe, fault_done-
 
 -- ---- one stage
 
-stage_row-safe : (w : World) (c : Caller) (pick : Option Path) (stage : Stage) → Facts w → IsWhole w → IsCaller w c → is_fit_stage w c stage ≡ true → SafeOutcome w (stage_row w c pick stage)
-stage_row-safe w c pick (Create s x kind) facts whole caller fit = create-safe w c s x kind caller
-stage_row-safe w c pick (Destroy s x) facts whole caller fit = destroy-safe w c s x facts
-stage_row-safe w c pick (Rename s x y) facts whole caller fit = rename-safe w c s x y facts
-stage_row-safe w c pick (Search s from) facts whole caller fit = search_row-safe w c s from
-stage_row-safe w c pick (Point s x s2 x2) facts whole caller fit = point-safe w c s x s2 x2 facts.valid
-stage_row-safe w c pick (Clear s x) facts whole caller fit = clear-safe w c s x
-stage_row-safe w c pick (Locate reference s) facts whole caller fit = locate-safe w c reference s
-stage_row-safe w c pick (CountIn base s x) facts whole caller fit = count_in-safe w c base s x
-stage_row-safe w c pick (GetState s x address) facts whole caller fit = get_state-safe w facts.valid c s x address
-stage_row-safe w c pick (SetState s x address) facts whole caller fit = set_state-safe w facts.valid c s x address
-stage_row-safe w c pick (GetPtr s x field reference) facts whole caller fit = get_ptr-safe w facts.valid c s x field reference
-stage_row-safe w c pick (SetPtr s x field reference) facts whole caller fit = set_ptr-safe w facts.valid c s x field reference
-stage_row-safe w c pick (SpaceHold s x) facts whole caller fit = space_hold-safe w c s x caller
-stage_row-safe w c pick (SpaceRelease s x) facts whole caller fit = space_release-safe w c s x
-stage_row-safe w c pick (ThreadStop h) facts whole caller fit = thread_stop-safe w c h
-stage_row-safe w c pick (ThreadGo h) facts whole caller fit = thread_go-safe w c h
-stage_row-safe w c pick (PageGive s page address) facts whole caller fit = page_give-safe w facts.valid c s page address
-stage_row-safe w c pick (PageTake s page address) facts whole caller fit = page_take-safe w facts.valid c s page address
-stage_row-safe w c pick (PageRead s page address) facts whole caller fit = page_read-safe w facts.valid c s page address
-stage_row-safe w c pick (PageNext s from) facts whole caller fit = page_next-safe w c s from
-stage_row-safe w c pick (MutexLock m) facts whole caller fit = mutex_lock-safe w c m
-stage_row-safe w c pick (MutexTrylock m) facts whole caller fit = mutex_trylock-safe w c m
-stage_row-safe w c pick (MutexUnlock m) facts whole caller fit = mutex_unlock-safe w c m
-stage_row-safe w c pick (CondWait cond m) facts whole caller fit = cond_wait-safe w c cond m
-stage_row-safe w c pick (CondAsleep cond m) facts whole caller fit = cond_asleep-safe w c cond m
-stage_row-safe w c pick (CondSignal cond) facts whole caller fit = cond_signal-safe w c pick cond
-stage_row-safe w c pick (CondBroadcast cond) facts whole caller fit = cond_broadcast-safe w c cond
-stage_row-safe w c pick (Connect h) facts whole caller fit = connect-safe w c h
-stage_row-safe w c pick (ClientReceive into room) facts whole caller fit = receive-safe w facts.valid c turns.Client into room
-stage_row-safe w c pick (ClientSend address count) facts whole caller fit = send-safe w facts.valid c turns.Client address count
-stage_row-safe w c pick ClientOver facts whole caller fit = over-safe w c turns.Client
-stage_row-safe w c pick Disconnect facts whole caller fit = disconnect-safe w c turns.Client
-stage_row-safe w c pick (Wait set) facts whole caller fit = wait-safe w c pick set facts caller
-stage_row-safe w c pick (ServerReceive into room) facts whole caller fit = receive-safe w facts.valid c turns.Server into room
-stage_row-safe w c pick (ServerSend address count) facts whole caller fit = send-safe w facts.valid c turns.Server address count
-stage_row-safe w c pick ServerOver facts whole caller fit = over-safe w c turns.Server
-stage_row-safe w c pick ServerEnd facts whole caller fit = disconnect-safe w c turns.Server
-stage_row-safe w c pick FaultDone facts whole caller fit = fault_done-safe w c
-stage_row-safe w c pick (LinkSet s x port server) facts whole caller fit = link_set-safe w c s x port server facts whole fit
-stage_row-safe w c pick (LinkPark s x port) facts whole caller fit = link_park-safe w c s x port
-stage_row-safe w c pick (FaultSet s x port taker) facts whole caller fit = fault_set-safe w c s x port taker facts whole fit
-stage_row-safe w c pick (FaultPark s x port taken) facts whole caller fit = fault_park-safe w c s x port taken
-stage_row-safe w c pick (HoldSet s x thread) facts whole caller fit = hold_set-safe w c s x thread
-stage_row-safe w c pick (SpaceMakeHeld x) facts whole caller fit = space_make_held-safe w c x caller
+stage_row-safe : (w : World) (c : Caller) (pick : Option Path) (stage : Stage) → Facts w → IsCaller w c → is_fit_stage w c stage ≡ true → SafeOutcome w (stage_row w c pick stage)
+stage_row-safe w c pick (Create s x kind) facts caller fit = create-safe w c s x kind caller
+stage_row-safe w c pick (Destroy s x) facts caller fit = destroy-safe w c s x facts
+stage_row-safe w c pick (Rename s x y) facts caller fit = rename-safe w c s x y facts
+stage_row-safe w c pick (Search s from) facts caller fit = search_row-safe w c s from
+stage_row-safe w c pick (Point s x s2 x2) facts caller fit = point-safe w c s x s2 x2 facts.valid
+stage_row-safe w c pick (Clear s x) facts caller fit = clear-safe w c s x
+stage_row-safe w c pick (Locate reference s) facts caller fit = locate-safe w c reference s
+stage_row-safe w c pick (CountIn base s x) facts caller fit = count_in-safe w c base s x
+stage_row-safe w c pick (GetState s x address) facts caller fit = get_state-safe w facts.valid c s x address
+stage_row-safe w c pick (SetState s x address) facts caller fit = set_state-safe w facts.valid c s x address
+stage_row-safe w c pick (GetPtr s x field reference) facts caller fit = get_ptr-safe w facts.valid c s x field reference
+stage_row-safe w c pick (SetPtr s x field reference) facts caller fit = set_ptr-safe w facts.valid c s x field reference
+stage_row-safe w c pick (SpaceHold s x) facts caller fit = space_hold-safe w c s x caller
+stage_row-safe w c pick (SpaceRelease s x) facts caller fit = space_release-safe w c s x
+stage_row-safe w c pick (ThreadStop h) facts caller fit = thread_stop-safe w c h
+stage_row-safe w c pick (ThreadGo h) facts caller fit = thread_go-safe w c h
+stage_row-safe w c pick (PageGive s page address) facts caller fit = page_give-safe w facts.valid c s page address
+stage_row-safe w c pick (PageTake s page address) facts caller fit = page_take-safe w facts.valid c s page address
+stage_row-safe w c pick (PageRead s page address) facts caller fit = page_read-safe w facts.valid c s page address
+stage_row-safe w c pick (PageNext s from) facts caller fit = page_next-safe w c s from
+stage_row-safe w c pick (MutexLock m) facts caller fit = mutex_lock-safe w c m
+stage_row-safe w c pick (MutexTrylock m) facts caller fit = mutex_trylock-safe w c m
+stage_row-safe w c pick (MutexUnlock m) facts caller fit = mutex_unlock-safe w c m
+stage_row-safe w c pick (CondWait cond m) facts caller fit = cond_wait-safe w c cond m
+stage_row-safe w c pick (CondAsleep cond m) facts caller fit = cond_asleep-safe w c cond m
+stage_row-safe w c pick (CondSignal cond) facts caller fit = cond_signal-safe w c pick cond
+stage_row-safe w c pick (CondBroadcast cond) facts caller fit = cond_broadcast-safe w c cond
+stage_row-safe w c pick (Connect h) facts caller fit = connect-safe w c h
+stage_row-safe w c pick (ClientReceive into room) facts caller fit = receive-safe w facts.valid c turns.Client into room
+stage_row-safe w c pick (ClientSend address count) facts caller fit = send-safe w facts.valid c turns.Client address count
+stage_row-safe w c pick ClientOver facts caller fit = over-safe w c turns.Client
+stage_row-safe w c pick Disconnect facts caller fit = disconnect-safe w c turns.Client
+stage_row-safe w c pick (Wait set) facts caller fit = wait-safe w c pick set facts caller
+stage_row-safe w c pick (ServerReceive into room) facts caller fit = receive-safe w facts.valid c turns.Server into room
+stage_row-safe w c pick (ServerSend address count) facts caller fit = send-safe w facts.valid c turns.Server address count
+stage_row-safe w c pick ServerOver facts caller fit = over-safe w c turns.Server
+stage_row-safe w c pick ServerEnd facts caller fit = disconnect-safe w c turns.Server
+stage_row-safe w c pick FaultDone facts caller fit = fault_done-safe w c
+stage_row-safe w c pick (LinkSet s x port server) facts caller fit = link_set-safe w c s x port server facts fit
+stage_row-safe w c pick (LinkPark s x port) facts caller fit = link_park-safe w c s x port
+stage_row-safe w c pick (FaultSet s x port taker) facts caller fit = fault_set-safe w c s x port taker facts fit
+stage_row-safe w c pick (FaultPark s x port taken) facts caller fit = fault_park-safe w c s x port taken
+stage_row-safe w c pick (HoldSet s x thread) facts caller fit = hold_set-safe w c s x thread
+stage_row-safe w c pick (SpaceMakeHeld x) facts caller fit = space_make_held-safe w c x caller
 
 allowed_row-safe : (w : World) (c : Caller) (pick : Option Path) (stage : Stage) → (is_denied c stage ≡ false → SafeOutcome w (stage_row w c pick stage)) → SafeOutcome w (allowed_row w c pick stage)
 allowed_row-safe w c pick stage safe = by (is_denied c stage) refl
@@ -125,34 +125,34 @@ user-fit w c (FaultSet s x port taker) user = cc
 user-fit w c (FaultPark s x port taken) user = cc
 user-fit w c stage user = refl
 
-goes_on-safe : (w : World) (k : ℕ) (s : Path) (pick : Option Path) (t : Thread) (mode : Mode) → Facts w → IsWhole w → IsCaller w (user_at (k ∷ s)) → SafeOutcome w (goes_on w (k ∷ s) pick t mode)
-goes_on-safe w k s pick t (Running g) facts whole caller = with_pick-safe w false pick _ (run_row-safe w facts.valid s k g t.counter)
-goes_on-safe w k s pick t (Calling (stage ∷ todo) rest) facts whole caller =
-    call_row-safe w (user_at (k ∷ s)) pick stage (λ user. stage_row-safe w (user_at (k ∷ s)) pick stage facts whole caller (user-fit w (user_at (k ∷ s)) stage user))
-goes_on-safe w k s pick t mode facts whole caller = waits
+goes_on-safe : (w : World) (k : ℕ) (s : Path) (pick : Option Path) (t : Thread) (mode : Mode) → Facts w → IsCaller w (user_at (k ∷ s)) → SafeOutcome w (goes_on w (k ∷ s) pick t mode)
+goes_on-safe w k s pick t (Running g) facts caller = with_pick-safe w false pick _ (run_row-safe w facts.valid s k g t.counter)
+goes_on-safe w k s pick t (Calling (stage ∷ todo) rest) facts caller =
+    call_row-safe w (user_at (k ∷ s)) pick stage (λ user. stage_row-safe w (user_at (k ∷ s)) pick stage facts caller (user-fit w (user_at (k ∷ s)) stage user))
+goes_on-safe w k s pick t mode facts caller = waits
 
-user_move-safe : (w : World) (x : Path) (pick : Option Path) (o : Option Thread) → Facts w → IsWhole w → and_then thread_of (w.body x) ≡ o → SafeOutcome w (user_move w x pick o)
-user_move-safe w x pick None facts whole there = waits
-user_move-safe w [] pick (Some t) facts whole there = absurd (rootless w facts.rooted t there)
-user_move-safe w (k ∷ s) pick (Some t) facts whole there =
-    safe-when w (is_free w s t) (goes_on w (k ∷ s) pick t t.mode) (λ free. goes_on-safe w k s pick t t.mode facts whole (thread-caller w facts.valid (user_at (k ∷ s)) t there))
+user_move-safe : (w : World) (x : Path) (pick : Option Path) (o : Option Thread) → Facts w → and_then thread_of (w.body x) ≡ o → SafeOutcome w (user_move w x pick o)
+user_move-safe w x pick None facts there = waits
+user_move-safe w [] pick (Some t) facts there = absurd (rootless w facts.rooted t there)
+user_move-safe w (k ∷ s) pick (Some t) facts there =
+    safe-when w (is_free w s t) (goes_on w (k ∷ s) pick t t.mode) (λ free. goes_on-safe w k s pick t t.mode facts (thread-caller w facts.valid (user_at (k ∷ s)) t there))
 
-porter_move-safe : (w : World) (x : Path) (pick : Option Path) (stage : Stage) (words : List ℕ) (o : Option Thread) → Facts w → IsWhole w → is_fit_stage w (porter_at x words) stage ≡ true → and_then thread_of (w.body x) ≡ o → SafeOutcome w (porter_move w x pick stage words o)
-porter_move-safe w x pick stage words None facts whole fit there = waits
-porter_move-safe w [] pick stage words (Some t) facts whole fit there = absurd (rootless w facts.rooted t there)
-porter_move-safe w (k ∷ s) pick stage words (Some t) facts whole fit there =
+porter_move-safe : (w : World) (x : Path) (pick : Option Path) (stage : Stage) (words : List ℕ) (o : Option Thread) → Facts w → is_fit_stage w (porter_at x words) stage ≡ true → and_then thread_of (w.body x) ≡ o → SafeOutcome w (porter_move w x pick stage words o)
+porter_move-safe w x pick stage words None facts fit there = waits
+porter_move-safe w [] pick stage words (Some t) facts fit there = absurd (rootless w facts.rooted t there)
+porter_move-safe w (k ∷ s) pick stage words (Some t) facts fit there =
     safe-when w (is_porter t.mode && is_unheld w s) (call_row w (porter_at (k ∷ s) words) pick stage)
-    (λ free. call_row-safe w (porter_at (k ∷ s) words) pick stage (λ porter. stage_row-safe w (porter_at (k ∷ s) words) pick stage facts whole (thread-caller w facts.valid (porter_at (k ∷ s) words) t there) fit))
+    (λ free. call_row-safe w (porter_at (k ∷ s) words) pick stage (λ porter. stage_row-safe w (porter_at (k ∷ s) words) pick stage facts (thread-caller w facts.valid (porter_at (k ∷ s) words) t there) fit))
 
 -- ---- a move
 
-pub outcome-safe : (w : World) (x : Path) (pick : Option Path) (ask : Ask) → Facts w → IsWhole w → is_fit w x ask ≡ true → SafeOutcome w (outcome w x pick ask)
+pub outcome-safe : (w : World) (x : Path) (pick : Option Path) (ask : Ask) → Facts w → is_fit w x ask ≡ true → SafeOutcome w (outcome w x pick ask)
 unfolding outcome is_fit
-outcome-safe w x pick asks.Run facts whole fit = user_move-safe w x pick _ facts whole refl
-outcome-safe w x pick (asks.Call stage words) facts whole fit = porter_move-safe w x pick stage words _ facts whole fit refl
-outcome-safe w x pick asks.Accept facts whole fit = accept_row-safe w x pick facts
-outcome-safe w x pick (asks.Give words len) facts whole fit = with_pick-safe w false pick _ (give_row-safe w x (take len words))
-outcome-safe w x pick asks.Over facts whole fit = with_pick-safe w false pick _ (over_row-safe w x)
+outcome-safe w x pick asks.Run facts fit = user_move-safe w x pick _ facts refl
+outcome-safe w x pick (asks.Call stage words) facts fit = porter_move-safe w x pick stage words _ facts fit refl
+outcome-safe w x pick asks.Accept facts fit = accept_row-safe w x pick facts
+outcome-safe w x pick (asks.Give words len) facts fit = with_pick-safe w false pick _ (give_row-safe w x (take len words))
+outcome-safe w x pick asks.Over facts fit = with_pick-safe w false pick _ (over_row-safe w x)
 
-pub changes-safe : (w : World) (x : Path) (pick : Option Path) (ask : Ask) (changes : List Change) (said : Said) → Facts w → IsWhole w → is_fit w x ask ≡ true → outcome w x pick ask ≡ Goes changes said → AreSafe w changes
-changes-safe w x pick ask changes said facts whole fit comes = let safe = rw comes at (outcome-safe w x pick ask facts whole fit) in safe.safe
+pub changes-safe : (w : World) (x : Path) (pick : Option Path) (ask : Ask) (changes : List Change) (said : Said) → Facts w → is_fit w x ask ≡ true → outcome w x pick ask ≡ Goes changes said → AreSafe w changes
+changes-safe w x pick ask changes said facts fit comes = let safe = rw comes at (outcome-safe w x pick ask facts fit) in safe.safe

@@ -22,5 +22,5 @@ stepped-valid w o valid rooted safe = (valid, rooted)
 
 pub step_keeps_valid_lem : StepKeepsValid
 unfolding step
-step_keeps_valid_lem w x pick ask valid rooted whole born fit =
-    stepped-valid w (outcome w x pick ask) valid rooted (outcome-safe w x pick ask (record { valid = valid; rooted = rooted; walks = walk_facts w valid rooted born }) whole fit)
+step_keeps_valid_lem w x pick ask valid rooted born fit =
+    stepped-valid w (outcome w x pick ask) valid rooted (outcome-safe w x pick ask (record { valid = valid; rooted = rooted; walks = walk_facts w valid rooted born }) fit)

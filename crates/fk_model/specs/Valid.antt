@@ -134,10 +134,6 @@ pub record IsRooted (w : World) : Type 0 where
   pub root : kind_there w [] ≡ Some kinds.Space
   pub slots : (k : ℕ) (x : Path) → IsSome (w.body (k ∷ x)) → k < SLOTS
 
--- no reference leads out, as some may in a subtree that is seen alone
-abbrev pub IsWhole : World → Type 0
-IsWhole w = (x : Path) (slot : ℕ) → w.body x ≡ Some (Reference (Out slot)) → ⊥
-
 -- ---- fit asks: a porter gives words in range, and names a server in its port's space that serves nobody
 
 abbrev pub is_turn_word : ℕ → Bool
@@ -149,9 +145,16 @@ are_talk_words words = is_turn_word (slice_index words 0) && nat_le (slice_index
 abbrev pub are_fault_words : List ℕ → Bool
 are_fault_words words = nat_lt (slice_index words 0) PAGES && nat_le (slice_index words 1) 1
 
+abbrev pub is_near : Ptr → Ptr → Bool
+is_near (At port) (At server) = same_path (parent server) (parent port)
+is_near port server = true
+
+abbrev pub is_idle : World → Ptr → Bool
+is_idle w (At server) = not (is_serving w server)
+is_idle w server = true
+
 abbrev pub is_idle_near : World → Ptr → Ptr → Bool
-is_idle_near w (At port) (At server) = same_path (parent server) (parent port) && not (is_serving w server)
-is_idle_near w port server = true
+is_idle_near w port server = is_near port server && is_idle w server
 
 abbrev pub is_idle_peer : World → Ptr → Option Peer → Bool
 is_idle_peer w port None = true
