@@ -14,7 +14,7 @@ use Rattle.fk_model.specs.World.Edit.{SetLocked, SetWindow, SetExtent, SetMember
 use Rattle.fk_model.specs.World.Change.{Alter}
 use Rattle.fk_model.specs.Searches.{talk_at, fault_at}
 use Rattle.fk_model.specs.Records.{is_extent}
-use Rattle.fk_model.specs.Valid.{IsValid, kind_there, leads_there, may_lead, all_in, is_good, is_good_peer, is_good_talk, is_good_fault, is_served_port}
+use Rattle.fk_model.specs.Valid.{IsConsistent, kind_there, leads_there, may_lead, all_in, is_good, is_good_peer, is_good_talk, is_good_fault, is_served_port}
 use Rattle.fk_model.proofs.Ties.{Tie, tie_of, claim_of, body_tie, body_claim, tie_at, claim_at, facts, services-load, tie_some}
 use Rattle.fk_model.proofs.Ties.Tie.{Joins}
 use Rattle.fk_model.proofs.Outlines.{Outline, outline_of, put_kept, valid-at, valid-at_quiet}
@@ -51,7 +51,7 @@ good-light : (there : Path → Option Kind) (x : Path) (f : Thread → Thread) �
 good-light there x f light (Thread_of t) h = rw (good-tie there (f t).talk, light.talk t, ← good-tie there t.talk, light.fault t) h
 good-light there x f light b h = h
 
-valid-light : (w : World) (x : Path) (f : Thread → Thread) → IsLight f → IsValid w → IsValid (at_path x (option_map (on_thread f)) w)
+valid-light : (w : World) (x : Path) (f : Thread → Thread) → IsLight f → IsConsistent w → IsConsistent (at_path x (option_map (on_thread f)) w)
 valid-light w x f light valid = valid-at_quiet w x (on_thread f) (outline-on_thread f) (tie-light f light) (claim-light f light) (λ b e h. good-light (kind_there w) x f light b h) valid
 
 ended-talk : (status : ℕ) (answers : List ℕ) (t : Thread) (m : Mode) → (ended_in status answers t m).talk ≡ t.talk
@@ -86,7 +86,7 @@ seen_of b = record { outline = outline_of b; tie = body_tie (Some b); claim = bo
 
 valid-seen : (w : World) (x : Path) (f : Body → Body) → ((b : Body) → seen_of (f b) ≡ seen_of b) →
     ((b : Body) → w.body x ≡ Some b → is_good (kind_there w) x b ≡ true → is_good (kind_there w) x (f b) ≡ true) →
-    IsValid w → IsValid (at_path x (option_map f) w)
+    IsConsistent w → IsConsistent (at_path x (option_map f) w)
 valid-seen w x f same keeps valid = valid-at_quiet w x f (λ b. ap (λ (s : Seen). s.outline) (same b)) (λ b. ap (λ (s : Seen). s.tie) (same b)) (λ b. ap (λ (s : Seen). s.claim) (same b)) keeps valid
 
 seen-locked : (locked : Bool) (b : Body) → seen_of (with_locked locked b) ≡ seen_of b
@@ -204,7 +204,7 @@ good-on_thread there x g o keeps b e h = h
 valid-talk : (w : World) (x : Path) (g : Thread → Thread) → ((t : Thread) → (g t).fault ≡ t.fault) →
     IsFitTalk (is_served_port w) (tie_at w) (claim_at w) x (body_tie (option_map (on_thread g) (w.body x))) →
     ((t : Thread) → w.body x ≡ Some (Thread_of t) → is_good (kind_there w) x (Thread_of t) ≡ true → is_good (kind_there w) x (Thread_of (g t)) ≡ true) →
-    IsValid w → IsValid (at_path x (option_map (on_thread g)) w)
+    IsConsistent w → IsConsistent (at_path x (option_map (on_thread g)) w)
 valid-talk w x g same fit keeps valid =
     valid-at w x (on_thread g) (outline-on_thread g) (good-on_thread (kind_there w) x g (w.body x) keeps)
     (rw (put_kept x (body_claim (option_map (on_thread g) (w.body x))) (claim_at w) (kept body_claim (on_thread g) (claim-on_thread g same) (w.body x)))
@@ -215,7 +215,7 @@ valid-talk w x g same fit keeps valid =
 valid-fault : (w : World) (x : Path) (g : Thread → Thread) → ((t : Thread) → (g t).talk ≡ t.talk) →
     IsFit (tie_at w) (claim_at w) (body_claim (option_map (on_thread g) (w.body x))) →
     ((t : Thread) → w.body x ≡ Some (Thread_of t) → is_good (kind_there w) x (Thread_of t) ≡ true → is_good (kind_there w) x (Thread_of (g t)) ≡ true) →
-    IsValid w → IsValid (at_path x (option_map (on_thread g)) w)
+    IsConsistent w → IsConsistent (at_path x (option_map (on_thread g)) w)
 valid-fault w x g same fit keeps valid =
     valid-at w x (on_thread g) (outline-on_thread g) (good-on_thread (kind_there w) x g (w.body x) keeps)
     (rw (put_kept x (body_tie (option_map (on_thread g) (w.body x))) (tie_at w) (kept body_tie (on_thread g) (tie-on_thread g same) (w.body x)))
@@ -249,7 +249,7 @@ module _ (w : World) (x : Path) where
   good_fault None safe = refl
   good_fault (Some fault) safe = and_from _ _ safe.port (good_taker fault.port fault.taker safe.taker)
 
-  valid-set_talk : (talk : Option Talk) → IfAny (IsSafeTalk w x) talk → IsValid w → IsValid (at_path x (option_map (on_thread (λ t. record t { talk = talk }))) w)
+  valid-set_talk : (talk : Option Talk) → IfAny (IsSafeTalk w x) talk → IsConsistent w → IsConsistent (at_path x (option_map (on_thread (λ t. record t { talk = talk }))) w)
   valid-set_talk talk safe valid = valid-talk w x (λ t. record t { talk = talk }) (λ t. refl) (fit-set_talk talk safe (w.body x)) (λ t e h. and_from _ _ (good_talk talk safe) (and_parts (all_in (is_good_talk (kind_there w)) t.talk) _ h).1) valid
 
   fit-set_fault : (fault : Option Fault) → IfAny (IsSafeFault w) fault → (o : Option Body) → IsFit (tie_at w) (claim_at w) (body_claim (option_map (on_thread (λ t. record t { fault = fault })) o))
@@ -257,7 +257,7 @@ module _ (w : World) (x : Path) where
   fit-set_fault (Some fault) safe (Some (Thread_of t)) = fit-taker w fault.port fault.taker safe.taker
   fit-set_fault fault safe o = fit-none _ _
 
-  valid-set_fault : (fault : Option Fault) → IfAny (IsSafeFault w) fault → IsValid w → IsValid (at_path x (option_map (on_thread (λ t. record t { fault = fault }))) w)
+  valid-set_fault : (fault : Option Fault) → IfAny (IsSafeFault w) fault → IsConsistent w → IsConsistent (at_path x (option_map (on_thread (λ t. record t { fault = fault }))) w)
   valid-set_fault fault safe valid = valid-fault w x (λ t. record t { fault = fault }) (λ t. refl) (fit-set_fault fault safe (w.body x)) (λ t e h. and_from _ _ (and_parts _ (all_in (is_good_fault (kind_there w)) t.fault) h).0 (good_fault fault safe)) valid
 
   abbrev with_peer : Peer → Talk → Talk
@@ -284,7 +284,7 @@ module _ (w : World) (x : Path) where
   fault_there : (t : Thread) (fault : Fault) → w.body x ≡ Some (Thread_of t) → t.fault ≡ Some fault → fault_at w x ≡ Some fault
   fault_there t fault e h = rw e h
 
-  valid-set_peer : (peer : Peer) → ((talk : Talk) → talk_at w x ≡ Some talk → IsSafePeer w x talk.port peer) → IsValid w → IsValid (at_path x (option_map (on_thread (on_talk (with_peer peer)))) w)
+  valid-set_peer : (peer : Peer) → ((talk : Talk) → talk_at w x ≡ Some talk → IsSafePeer w x talk.port peer) → IsConsistent w → IsConsistent (at_path x (option_map (on_thread (on_talk (with_peer peer)))) w)
   valid-set_peer peer safe valid = valid-talk w x (on_talk (with_peer peer)) (λ t. refl) (fit-set_peer peer (w.body x) safe)
       (λ t e h. let both = and_parts (all_in (is_good_talk (kind_there w)) t.talk) (all_in (is_good_fault (kind_there w)) t.fault) h in and_from _ _ (good-new_peer peer t.talk (λ talk g. safe talk (talk_there t talk e g)) both.0) both.1) valid
 
@@ -300,13 +300,13 @@ module _ (w : World) (x : Path) where
   good-new_taker taker None safe h = refl
   good-new_taker taker (Some fault) safe h = and_from _ _ (and_parts _ (all_in (is_good_peer (kind_there w)) fault.taker) h).0 (good_taker fault.port taker (safe fault refl))
 
-  valid-set_taker : (taker : Option Peer) → ((fault : Fault) → fault_at w x ≡ Some fault → IsSafeTaker w fault.port taker) → IsValid w → IsValid (at_path x (option_map (on_thread (on_fault (with_taker taker)))) w)
+  valid-set_taker : (taker : Option Peer) → ((fault : Fault) → fault_at w x ≡ Some fault → IsSafeTaker w fault.port taker) → IsConsistent w → IsConsistent (at_path x (option_map (on_thread (on_fault (with_taker taker)))) w)
   valid-set_taker taker safe valid = valid-fault w x (on_fault (with_taker taker)) (λ t. refl) (fit-set_taker taker (w.body x) safe)
       (λ t e h. let both = and_parts (all_in (is_good_talk (kind_there w)) t.talk) (all_in (is_good_fault (kind_there w)) t.fault) h in and_from _ _ both.0 (good-new_taker taker t.fault (λ fault g. safe fault (fault_there t fault e g)) both.1)) valid
 
 -- ---- every edit
 
-pub valid-edit : (edit : Edit) (w : World) (x : Path) → IsSafeEdit w x edit → IsValid w → IsValid (apply (Alter x edit) w)
+pub valid-edit : (edit : Edit) (w : World) (x : Path) → IsSafeEdit w x edit → IsConsistent w → IsConsistent (apply (Alter x edit) w)
 unfolding apply edited
 valid-edit (SetLocked locked) w x safe valid = valid-seen w x (with_locked locked) (seen-locked locked) (λ b e. good-locked (kind_there w) x locked b) valid
 valid-edit (SetWindow first count offset write) w x safe valid = valid-seen w x (with_window first count offset write) (seen-window first count offset write) (λ b e. good-window (kind_there w) x first count offset write safe b) valid

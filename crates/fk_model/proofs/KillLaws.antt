@@ -11,7 +11,7 @@ use Rattle.fk_model.specs.Objects.Body.{Mutex, Cond, Mapping, Region, Port, Port
 use Rattle.fk_model.specs.World.{World, apply, set_at, serves, through, without, talk_without, taker_without, fault_without}
 use Rattle.fk_model.specs.World.Change.{Kill}
 use Rattle.fk_model.specs.StateRows.{referable}
-use Rattle.fk_model.specs.Valid.{IsValid, kind_there, is_one_of, leads_there, may_lead, all_in, is_good, is_good_peer, is_good_talk, is_good_fault, is_good_set, birth_of, birth_at, is_served_port}
+use Rattle.fk_model.specs.Valid.{IsConsistent, kind_there, is_one_of, leads_there, may_lead, all_in, is_good, is_good_peer, is_good_talk, is_good_fault, is_good_set, birth_of, birth_at, is_served_port}
 use Rattle.fk_model.proofs.PlaceLaws.{same_path_eq}
 use Rattle.fk_model.proofs.Ties.{Tie, tie_of, claim_of, body_tie, body_claim, tie_at, claim_at, IsServedAll, AreFacts, facts, valid-from, live-kind}
 use Rattle.fk_model.proofs.Ties.Tie.{Joins}
@@ -145,7 +145,7 @@ outline-without x q None = refl
 
 -- ---- the world
 
-module _ (w : World) (x : Path) (alone : IsAlone w x) (valid : IsValid w) where
+module _ (w : World) (x : Path) (alone : IsAlone w x) (valid : IsConsistent w) where
   abbrev after : World
   after = record { body = λ q. if same_path q x then None else option_map (through (without x) q) (w.body q); page = λ s g. if same_path s x then None else w.page s g; next = w.next }
 
@@ -213,7 +213,7 @@ module _ (w : World) (x : Path) (alone : IsAlone w x) (valid : IsValid w) where
       by None h = refl
       by (Some b) h = good-killed x (kind_there w) q b h
 
-  valid-after : IsValid after
+  valid-after : IsConsistent after
   valid-after =
       valid-from after (same_facts (put x None (kind_there w)) (kind_there after) (put x None (birth_at w)) (birth_at after) (is_served_port after) (is_served_port after) (tie_at after) (tie_at after) (claim_at after) (claim_at after)
       (sym kinds_after) (sym births_after) refl refl refl new)
@@ -227,6 +227,6 @@ module _ (w : World) (x : Path) (alone : IsAlone w x) (valid : IsValid w) where
         tied = tied_within (is_served_port w) (is_served_port after) (tie_at w) (claim_at w) (tie_at after) (claim_at after) tie_within claim_after still_served (facts w valid).tied;
       }
 
-pub valid-kill : (w : World) (x : Path) → IsAlone w x → IsValid w → IsValid (apply (Kill x) w)
+pub valid-kill : (w : World) (x : Path) → IsAlone w x → IsConsistent w → IsConsistent (apply (Kill x) w)
 unfolding apply
 valid-kill w x alone valid = valid-after w x alone valid

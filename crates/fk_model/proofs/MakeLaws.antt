@@ -11,7 +11,7 @@ use Rattle.fk_model.specs.Objects.Body.{Mutex, Cond, Mapping, Region, Port, Port
 use Rattle.fk_model.specs.World.{World, apply, set_at, birth_after}
 use Rattle.fk_model.specs.World.Change.{Make, MakeSpace}
 use Rattle.fk_model.specs.StateRows.{referable}
-use Rattle.fk_model.specs.Valid.{IsValid, kind_there, is_one_of, leads_there, may_lead, all_in, is_good, is_good_peer, is_good_talk, is_good_fault, is_good_set, birth_of, birth_at, is_served_port}
+use Rattle.fk_model.specs.Valid.{IsConsistent, kind_there, is_one_of, leads_there, may_lead, all_in, is_good, is_good_peer, is_good_talk, is_good_fault, is_good_set, birth_of, birth_at, is_served_port}
 use Rattle.fk_model.proofs.PlaceLaws.{same_path_eq, same_path_above}
 use Rattle.fk_model.proofs.Ties.{tie_of, claim_of, body_tie, body_claim, tie_at, claim_at, AreTied, AreFacts, facts, valid-from}
 use Rattle.fk_model.proofs.Outlines.{put, put_at, put_kept, same_facts}
@@ -71,7 +71,7 @@ module _ (there more : Path → Option Kind) (grows : Grows there more) where
 
 -- ---- an object is put in an empty slot
 
-module _ (w : World) (k : ℕ) (s : Path) (body : Body) (n : ℕ) (place : IsVacant w k s) (valid : IsValid w) where
+module _ (w : World) (k : ℕ) (s : Path) (body : Body) (n : ℕ) (place : IsVacant w k s) (valid : IsConsistent w) where
   abbrev made : World
   made = record { body = λ q. if same_path q (k ∷ s) then Some body else w.body q; page = w.page; next = n }
 
@@ -117,7 +117,7 @@ module _ (w : World) (k : ℕ) (s : Path) (body : Body) (n : ℕ) (place : IsVac
   pub valid-made : body_tie (Some body) ≡ None → body_claim (Some body) ≡ None → is_good (kind_there w) (k ∷ s) body ≡ true →
       ((x y : Path) (number : ℕ) → put (k ∷ s) (birth_of body) (birth_at w) x ≡ Some number → put (k ∷ s) (birth_of body) (birth_at w) y ≡ Some number → x ≡ y) →
       ((x : Path) (number : ℕ) → put (k ∷ s) (birth_of body) (birth_at w) x ≡ Some number → number < n) →
-      IsValid made
+      IsConsistent made
   valid-made no_tie no_claim good apart born =
       valid-from made (same_facts (put (k ∷ s) (Some (kind_of body)) (kind_there w)) (kind_there made) (put (k ∷ s) (birth_of body) (birth_at w)) (birth_at made) (is_served_port made) (is_served_port made) (tie_at w) (tie_at made) (claim_at w) (claim_at made)
       (sym kinds_made) (sym births_made) refl (sym (ties_made no_tie)) (sym (claims_made no_claim)) new)
@@ -162,7 +162,7 @@ no_birth_plain : (b : Body) → is_plain b ≡ true → birth_of b ≡ None
 no_birth_plain (Space birth holder) plain = cc
 no_birth_plain b plain = refl
 
-pub valid-make : (w : World) (k : ℕ) (s : Path) (body : Body) → IsSafeMake w k s body → IsValid w → IsValid (apply (Make (k ∷ s) body) w)
+pub valid-make : (w : World) (k : ℕ) (s : Path) (body : Body) → IsSafeMake w k s body → IsConsistent w → IsConsistent (apply (Make (k ∷ s) body) w)
 unfolding apply
 valid-make w k s body safe valid =
     valid-made w k s body w.next safe.place valid (no_tie_plain body safe.plain) (no_claim_plain body safe.plain) safe.good
@@ -173,7 +173,7 @@ valid-make w k s body safe valid =
     births = put_kept (k ∷ s) (birth_of body) (birth_at w) (rw (safe.place.empty, no_birth_plain body safe.plain) refl)
 
 -- a space has a birth number, so the next one is not 0
-after_birth : (w : World) (s : Path) → IsValid w → kind_there w s ≡ Some kinds.Space → birth_after w.next ≡ w.next + 1
+after_birth : (w : World) (s : Path) → IsConsistent w → kind_there w s ≡ Some kinds.Space → birth_after w.next ≡ w.next + 1
 unfolding kind_there
 after_birth w s valid h = by (w.body s) refl h
   where
@@ -189,7 +189,7 @@ after_birth w s valid h = by (w.body s) refl h
     by (Some (Reference to)) e g = cc
     by None e g = cc
 
-pub valid-make_space : (w : World) (k : ℕ) (s : Path) (holder : Option Ptr) → IsSafeMakeSpace w k s holder → IsValid w → IsValid (apply (MakeSpace (k ∷ s) holder) w)
+pub valid-make_space : (w : World) (k : ℕ) (s : Path) (holder : Option Ptr) → IsSafeMakeSpace w k s holder → IsConsistent w → IsConsistent (apply (MakeSpace (k ∷ s) holder) w)
 unfolding apply
 valid-make_space w k s holder safe valid =
     valid-made w k s (Space w.next holder) (birth_after w.next) safe.place valid refl refl safe.held

@@ -13,7 +13,7 @@ use Rattle.fk_model.specs.Objects.Body.{Mutex, Cond, Mapping, Region, Port, Port
 use Rattle.fk_model.specs.World.{World, apply, serves, through, following, follow, follow_peer, moved_to}
 use Rattle.fk_model.specs.World.Change.{Move}
 use Rattle.fk_model.specs.StateRows.{referable}
-use Rattle.fk_model.specs.Valid.{IsValid, kind_there, is_one_of, leads_there, may_lead, all_in, is_good, is_good_peer, is_good_talk, is_good_fault, is_good_set, birth_of, birth_at, is_served_port, lies_with}
+use Rattle.fk_model.specs.Valid.{IsConsistent, kind_there, is_one_of, leads_there, may_lead, all_in, is_good, is_good_peer, is_good_talk, is_good_fault, is_good_set, birth_of, birth_at, is_served_port, lies_with}
 use Rattle.fk_model.proofs.PlaceLaws.{same_path_eq, same_path_refl, same_path_ne, same_path_apart, same_path_above}
 use Rattle.fk_model.proofs.Ties.{Tie, tie_of, claim_of, body_tie, body_claim, tie_at, claim_at, is_tied_to, load, AreTied, AreFacts, facts, valid-from, live-kind}
 use Rattle.fk_model.proofs.Ties.Tie.{Joins}
@@ -265,7 +265,7 @@ outline-following x y q None = refl
 
 -- ---- the world
 
-module _ (w : World) (k : ℕ) (s : Path) (slot : ℕ) (safe : IsSafeMove w k s slot) (valid : IsValid w) where
+module _ (w : World) (k : ℕ) (s : Path) (slot : ℕ) (safe : IsSafeMove w k s slot) (valid : IsConsistent w) where
   abbrev old : Path
   old = k ∷ s
 
@@ -345,7 +345,7 @@ module _ (w : World) (k : ℕ) (s : Path) (slot : ℕ) (safe : IsSafeMove w k s 
       by None h = refl
       by (Some b) h = good-moved old new apart_slots (kind_there w) nothing_there refl refl q b h
 
-  valid-after : IsValid after
+  valid-after : IsConsistent after
   valid-after =
       valid-from after (same_facts (λ q. kind_there w (swap old new q)) (kind_there after) (λ q. birth_at w (swap old new q)) (birth_at after) (is_served_port after) (is_served_port after) (tie_at after) (tie_at after) (claim_at after) (claim_at after)
       (sym kinds_after) (sym births_after) refl refl refl now)
@@ -359,6 +359,6 @@ module _ (w : World) (k : ℕ) (s : Path) (slot : ℕ) (safe : IsSafeMove w k s 
         tied = tied-turned_all old new apart_slots (is_served_port w) (is_served_port after) (tie_at w) (claim_at w) (tie_at after) (claim_at after) refl served_after ties_after claims_after (facts w valid).tied;
       }
 
-pub valid-move : (w : World) (k : ℕ) (s : Path) (slot : ℕ) → IsSafeMove w k s slot → IsValid w → IsValid (apply (Move (k ∷ s) slot) w)
+pub valid-move : (w : World) (k : ℕ) (s : Path) (slot : ℕ) → IsSafeMove w k s slot → IsConsistent w → IsConsistent (apply (Move (k ∷ s) slot) w)
 unfolding apply
 valid-move w k s slot safe valid = valid-after w k s slot safe valid

@@ -5,7 +5,7 @@ use Rattle.fk_model.specs.Places.{Path, same_path, Ptr}
 use Rattle.fk_model.specs.Places.Ptr.{At}
 use Rattle.fk_model.specs.Objects.{Body, kind_of, port_of, and_then, holds}
 use Rattle.fk_model.specs.World.{World, at_path}
-use Rattle.fk_model.specs.Valid.{IsValid, kind_there, all_in, is_good, birth_of, birth_at, is_served_port}
+use Rattle.fk_model.specs.Valid.{IsConsistent, kind_there, all_in, is_good, birth_of, birth_at, is_served_port}
 use Rattle.fk_model.proofs.PlaceLaws.{same_path_eq}
 use Rattle.fk_model.proofs.Ties.{Tie, body_tie, body_claim, tie_at, claim_at, AreTied, AreFacts, facts, valid-from}
 
@@ -65,7 +65,7 @@ same_facts k l b c s t x y z u e f g p q h = rw (← e, ← f, ← g, ← p, ←
 pub valid-at : (w : World) (x : Path) (f : Body → Body) → ((b : Body) → outline_of (f b) ≡ outline_of b) →
     ((b : Body) → w.body x ≡ Some b → is_good (kind_there w) x b ≡ true → is_good (kind_there w) x (f b) ≡ true) →
     AreTied (is_served_port w) (put x (body_tie (option_map f (w.body x))) (tie_at w)) (put x (body_claim (option_map f (w.body x))) (claim_at w)) →
-    IsValid w → IsValid (at_path x (option_map f) w)
+    IsConsistent w → IsConsistent (at_path x (option_map f) w)
 valid-at w x f outlined keeps tied valid =
     valid-from v (same_facts (kind_there w) (kind_there v) (birth_at w) (birth_at v) (is_served_port w) (is_served_port v) _ (tie_at v) _ (claim_at v) (sym kinds) (sym (same_births w v same)) (sym (same_served w v same)) (sym ties) (sym claims) old)
     (λ q. subst (λ (k : Path → Option Kind). all_in (is_good k q) (v.body q) ≡ true) (sym kinds) (good q (same_path q x) refl))
@@ -119,7 +119,7 @@ put_kept x u a e = λ i q. at q i
 pub valid-at_quiet : (w : World) (x : Path) (f : Body → Body) → ((b : Body) → outline_of (f b) ≡ outline_of b) →
     ((b : Body) → body_tie (Some (f b)) ≡ body_tie (Some b)) → ((b : Body) → body_claim (Some (f b)) ≡ body_claim (Some b)) →
     ((b : Body) → w.body x ≡ Some b → is_good (kind_there w) x b ≡ true → is_good (kind_there w) x (f b) ≡ true) →
-    IsValid w → IsValid (at_path x (option_map f) w)
+    IsConsistent w → IsConsistent (at_path x (option_map f) w)
 valid-at_quiet w x f outlined tied claimed keeps valid = valid-at w x f outlined keeps (rw (ties, claims) (facts w valid).tied) valid
   where
     kept : {A : Type 0} (h : Option Body → A) → ((b : Body) → h (Some (f b)) ≡ h (Some b)) → (o : Option Body) → h (option_map f o) ≡ h o

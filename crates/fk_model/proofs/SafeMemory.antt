@@ -14,12 +14,12 @@ use Rattle.fk_model.specs.Reach.Reach.{Home, Missing, Bad}
 use Rattle.fk_model.specs.Outcomes.{Outcome, Caller}
 use Rattle.fk_model.specs.Readers.{missed, accessed, own_page_at, own_page, their_page_at, their_page}
 use Rattle.fk_model.specs.Records.{is_extent}
-use Rattle.fk_model.specs.Valid.{IsValid, kind_there, leads_there, may_lead, all_in, is_good}
+use Rattle.fk_model.specs.Valid.{IsConsistent, kind_there, leads_there, may_lead, all_in, is_good}
 use Rattle.fk_model.proofs.Safe.{IfAny}
 use Rattle.fk_model.proofs.SafeOutcomes.{SafeOutcome, refused, waits, goes}
 
 -- what stands in a valid world is good
-pub good-at : (w : World) → IsValid w → (x : Path) (b : Body) → w.body x ≡ Some b → is_good (kind_there w) x b ≡ true
+pub good-at : (w : World) → IsConsistent w → (x : Path) (b : Body) → w.body x ≡ Some b → is_good (kind_there w) x b ≡ true
 good-at w valid x b there = rw there at (valid.good x)
 
 -- ---- a keeper is a port
@@ -41,7 +41,7 @@ live_keeper-leads w (At x) port may live = let same : port ≡ At x = cc in rw s
 live_keeper-leads w (Out slot) port may live = let same : port ≡ Out slot = cc in rw same refl
 live_keeper-leads w p port may live = cc
 
-extent-port : (w : World) → IsValid w → (x : Path) (r : Extent) → and_then region_of (w.body x) ≡ Some r → may_lead (kind_there w) (kinds.Port ∷ []) r.keeper ≡ true
+extent-port : (w : World) → IsConsistent w → (x : Path) (r : Extent) → and_then region_of (w.body x) ≡ Some r → may_lead (kind_there w) (kinds.Port ∷ []) r.keeper ≡ true
 extent-port w valid x r seen = by (w.body x) (valid.good x) seen
   where
     by : (o : Option Body) → all_in (is_good (kind_there w) x) o ≡ true → and_then region_of o ≡ Some r → may_lead (kind_there w) (kinds.Port ∷ []) r.keeper ≡ true
@@ -49,7 +49,7 @@ extent-port w valid x r seen = by (w.body x) (valid.good x) seen
     by (Some (Region old)) good h = let same : r ≡ old = cc in rw same ((and_parts (is_extent old.first old.count) _ good).1)
     by (Some b) good h = cc
 
-keeper-leads : (w : World) → IsValid w → (s : Path) (page : ℕ) (port : Ptr) → keeper w s page ≡ Some port → LeadsToPort w port
+keeper-leads : (w : World) → IsConsistent w → (s : Path) (page : ℕ) (port : Ptr) → keeper w s page ≡ Some port → LeadsToPort w port
 unfolding keeper region_at
 keeper-leads w valid s page port h = by (region_at w s page) refl h
   where
@@ -72,7 +72,7 @@ GoodReach w (Home s page) = Unit {0}
 GoodReach w (Missing s page keeper) = IfAny (LeadsToPort w) keeper
 GoodReach w Bad = Unit {0}
 
-missing-good : (w : World) → IsValid w → (s : Path) (page : ℕ) → GoodReach w (Missing s page (keeper w s page))
+missing-good : (w : World) → IsConsistent w → (s : Path) (page : ℕ) → GoodReach w (Missing s page (keeper w s page))
 missing-good w valid s page = by (keeper w s page) refl
   where
     by : (o : Option Ptr) → keeper w s page ≡ o → GoodReach w (Missing s page o)
@@ -91,14 +91,14 @@ followed-good : (w : World) (go : Path → ℕ → Reach) (o : Option (Path × �
 followed-good w go None good = tt
 followed-good w go (Some place) good = good place.0 place.1
 
-reach_by-good : (w : World) → IsValid w → (n : ℕ) (s : Path) (page : ℕ) (write : Bool) → GoodReach w (reach_by n w s page write)
+reach_by-good : (w : World) → IsConsistent w → (n : ℕ) (s : Path) (page : ℕ) (write : Bool) → GoodReach w (reach_by n w s page write)
 unfolding reach_by
 reach_by-good w valid zero s page write =
     at_home-good w s page _ (w.page s page) (mapped-good w (λ m. Bad) _ (mapping_at w s page) (missing-good w valid s page) (λ m. tt))
 reach_by-good w valid (suc n) s page write =
     at_home-good w s page _ (w.page s page) (mapped-good w _ _ (mapping_at w s page) (missing-good w valid s page) (λ m. followed-good w _ (led_by w m page write m.region) (λ t other. reach_by-good w valid n t other write)))
 
-pub reach_word-good : (w : World) → IsValid w → (s : Path) (address : ℕ) (write : Bool) → GoodReach w (reach_word w s address write)
+pub reach_word-good : (w : World) → IsConsistent w → (s : Path) (address : ℕ) (write : Bool) → GoodReach w (reach_word w s address write)
 unfolding reach
 reach_word-good w valid s address write = by (nat_lt address SPACE_WORDS)
   where
@@ -122,7 +122,7 @@ own_page_at-safe w me write go (Home s page) good going = going s page
 own_page_at-safe w me write go (Missing s page keeper) good going = missed-safe w _ me page write keeper good refused
 own_page_at-safe w me write go Bad good going = refused
 
-pub own_page-safe : (w : World) → IsValid w → (c : Caller) (address : ℕ) (write : Bool) (go : Path → ℕ → Outcome) → ((s : Path) (page : ℕ) → SafeOutcome w (go s page)) → SafeOutcome w (own_page w c address write go)
+pub own_page-safe : (w : World) → IsConsistent w → (c : Caller) (address : ℕ) (write : Bool) (go : Path → ℕ → Outcome) → ((s : Path) (page : ℕ) → SafeOutcome w (go s page)) → SafeOutcome w (own_page w c address write go)
 own_page-safe w valid c address write go going = own_page_at-safe w _ write go (reach_word w c.space address write) (reach_word-good w valid c.space address write) going
 
 their_page_at-safe : (w : World) (go : Path → ℕ → Outcome) (r : Reach) → ((s : Path) (page : ℕ) → SafeOutcome w (go s page)) → SafeOutcome w (their_page_at go r)

@@ -16,7 +16,7 @@ use Rattle.fk_model.specs.Outcomes.Outcome.{Refused, Waits, Goes}
 use Rattle.fk_model.specs.LinkRows.{user_at}
 use Rattle.fk_model.specs.Holds.{is_free, is_unheld, is_porter}
 use Rattle.fk_model.specs.Moves.{stage_row, is_for_porters, is_denied, allowed_row, chooses, with_pick, closed, call_row, goes_on, user_move, porter_at, porter_move, outcome}
-use Rattle.fk_model.specs.Valid.{IsValid, is_fit_stage, is_fit, IsRooted}
+use Rattle.fk_model.specs.Valid.{IsConsistent, is_fit_stage, is_fit, IsRooted}
 use Rattle.fk_model.proofs.Safe.{AreSafe}
 use Rattle.fk_model.proofs.SafeOutcomes.{SafeOutcome, refused, waits, goes, safe-when}
 use Rattle.fk_model.proofs.SafeReads.{Facts, IsCaller, kind-there, body-thread_of}
@@ -108,7 +108,7 @@ thread-body None t h = cc
 thread-body (Some b) t h = ap (λ b. Some b) (body-thread_of b t h)
 
 -- a thread lies in a space
-thread-caller : (w : World) → IsValid w → (c : Caller) (t : Thread) → and_then thread_of (w.body (path_of c)) ≡ Some t → IsCaller w c
+thread-caller : (w : World) → IsConsistent w → (c : Caller) (t : Thread) → and_then thread_of (w.body (path_of c)) ≡ Some t → IsCaller w c
 thread-caller w valid c t h =
     let there = thread-body _ t h in
     record { thread = kind-there w (path_of c) (Thread_of t) there; space = valid.parents c.slot c.space (rw there refl) }

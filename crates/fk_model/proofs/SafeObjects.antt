@@ -17,7 +17,7 @@ use Rattle.fk_model.specs.Readers.{slot_for, object_in, anything, place, referre
 use Rattle.fk_model.specs.SpaceRows.{space_hold, space_release, hold_set, space_make_held}
 use Rattle.fk_model.specs.StateRows.{referable}
 use Rattle.fk_model.specs.ObjectRows.{new_object, create, kills, destroys, destroy, rename, search as search_row, pointer_to, pointer_in, point, clear, locate, count_in}
-use Rattle.fk_model.specs.Valid.{IsValid, kind_there, leads_there, may_lead, all_in, is_good}
+use Rattle.fk_model.specs.Valid.{IsConsistent, kind_there, leads_there, may_lead, all_in, is_good}
 use Rattle.fk_model.proofs.Safe.{IfAny, takes_pointer, IsVacant, is_plain, IsAlone, IsSafe, AreSafe}
 use Rattle.fk_model.proofs.SafeOutcomes.{SafeOutcome, safe-end_all, safe-done, safe-done_at, safe-stays, safe-telling, safe_row}
 use Rattle.fk_model.proofs.SafeReads.{Facts, IsCaller, Found, kind-there, body-reference_of, slot_for-fits, object_in-found, referred-leads, place-space}
@@ -98,13 +98,13 @@ pub takes-at : (w : World) (x : Path) (to old : Ptr) → w.body x ≡ Some (Refe
 takes-at w x to old there may = rw there may
 
 -- the pointer of a reference may stand in any other
-pub reference-leads : (w : World) (x : Path) (to : Ptr) → IsValid w → w.body x ≡ Some (Reference to) → may_lead (kind_there w) referable to ≡ true
+pub reference-leads : (w : World) (x : Path) (to : Ptr) → IsConsistent w → w.body x ≡ Some (Reference to) → may_lead (kind_there w) referable to ≡ true
 reference-leads w x to valid there = good-at w valid x (Reference to) there
 
 pub reference-there : (w : World) (x : Path) (to : Ptr) → Found w reference_of x to → w.body x ≡ Some (Reference to)
 reference-there w x to found = let same = body-reference_of found.body to found.seen in rw (← same) found.there
 
-pointer_to-leads : (w : World) (x : Path) (to : Ptr) (b : Body) → IsValid w → w.body x ≡ Some b → pointer_to x b ≡ Some to → may_lead (kind_there w) referable to ≡ true
+pointer_to-leads : (w : World) (x : Path) (to : Ptr) (b : Body) → IsConsistent w → w.body x ≡ Some b → pointer_to x b ≡ Some to → may_lead (kind_there w) referable to ≡ true
 pointer_to-leads w x to (Reference old) valid there seen = let same : to ≡ old = cc in rw same (reference-leads w x old valid there)
 pointer_to-leads w x to b valid there seen = by (list_any (same_kind (kind_of b)) referable) refl seen
   where
@@ -112,14 +112,14 @@ pointer_to-leads w x to b valid there seen = by (list_any (same_kind (kind_of b)
     by true e h = let same : to ≡ At x = cc in let kind = kind-there w x b there in rw (same, kind) e
     by false e h = cc
 
-point-goes : (w : World) (c : Caller) (x x2 : ℕ) (space space2 : Path) (old to : Ptr) → IsValid w → object_in w c reference_of space x ≡ Ok old → pointer_in w c space2 x2 ≡ Ok to →
+point-goes : (w : World) (c : Caller) (x x2 : ℕ) (space space2 : Path) (old to : Ptr) → IsConsistent w → object_in w c reference_of space x ≡ Ok old → pointer_in w c space2 x2 ≡ Ok to →
     SafeOutcome w (done c (Alter (x ∷ space) (SetPointer to) ∷ []) [])
 point-goes w c x x2 space space2 old to valid read read2 =
     let from = object_in-found w c (pointer_to (x2 ∷ space2)) space2 x2 to read2 in
     let may = pointer_to-leads w (x2 ∷ space2) to from.body valid from.there from.seen in
     safe-done w c (Alter (x ∷ space) (SetPointer to) ∷ []) [] (takes-at w (x ∷ space) to old (reference-there w _ old (object_in-found w c reference_of space x old read)) may, tt)
 
-pub point-safe : (w : World) (c : Caller) (s x s2 x2 : ℕ) → IsValid w → SafeOutcome w (point w c s x s2 x2)
+pub point-safe : (w : World) (c : Caller) (s x s2 x2 : ℕ) → IsConsistent w → SafeOutcome w (point w c s x s2 x2)
 unfolding point
 point-safe w c s x s2 x2 valid = search (safe_row, point-goes) depth 9
 

@@ -26,7 +26,7 @@ use Rattle.fk_model.specs.UserRows.{word_at, halts_with, loads, stores, enters, 
 use Rattle.fk_model.specs.SyncRows.{mutex_lock, mutex_trylock, mutex_unlock, cond_wait, cond_asleep, woken, asleep_on, sleepers, signals, unless_slept_on, picks_sleeper, cond_signal, cond_broadcast}
 use Rattle.fk_model.specs.TransferRows.{moved_words, has_sent, sends_words, sends_into, sends_to_thread, sends_to, sends, send, awaits, receive, passes_to_thread, passes_to, over}
 use Rattle.fk_model.specs.SpaceRows.{thread_stop, thread_go, gives, gives_from, page_give, copies, copies_home, answers_home, copies_to, page_take, page_read, page_next}
-use Rattle.fk_model.specs.Valid.{IsValid}
+use Rattle.fk_model.specs.Valid.{IsConsistent}
 use Rattle.fk_model.proofs.Safe.{AreSafe}
 use Rattle.fk_model.proofs.SafeOutcomes.{SafeOutcome, waits, goes, safe-then, safe-when, safe-done, safe-telling, safe_row}
 use Rattle.fk_model.proofs.SafeMemory.{accessed-safe, own_page-safe, their_page-safe, reach_word-good}
@@ -37,7 +37,7 @@ enters-safe : (w : World) (me : Path) (g : List ℕ) (counter : ℕ) (todo : Opt
 enters-safe w me g counter (Some todo) = goes (tt, tt)
 enters-safe w me g counter None = goes (tt, tt)
 
-performs-safe : (w : World) → IsValid w → (space me : Path) (g : List ℕ) (counter : ℕ) (act : Act) → SafeOutcome w (performs w space me g counter act)
+performs-safe : (w : World) → IsConsistent w → (space me : Path) (g : List ℕ) (counter : ℕ) (act : Act) → SafeOutcome w (performs w space me g counter act)
 performs-safe w valid space me g counter (Load register address) =
     accessed-safe w me false (halts_with me g counter) (loads w me g counter register address) (reach_word w space address false) (reach_word-good w valid space address false) (λ code. goes (tt, tt)) (λ s page. goes (tt, tt))
 performs-safe w valid space me g counter (Store address value) =
@@ -45,7 +45,7 @@ performs-safe w valid space me g counter (Store address value) =
 performs-safe w valid space me g counter Call = enters-safe w me g counter (todo_of g)
 performs-safe w valid space me g counter act = goes (tt, tt)
 
-pub run_row-safe : (w : World) → IsValid w → (space : Path) (slot : ℕ) (g : List ℕ) (counter : ℕ) → SafeOutcome w (run_row w space slot g counter)
+pub run_row-safe : (w : World) → IsConsistent w → (space : Path) (slot : ℕ) (g : List ℕ) (counter : ℕ) → SafeOutcome w (run_row w space slot g counter)
 unfolding run_row
 run_row-safe w valid space slot g counter =
     accessed-safe w (slot ∷ space) false (halts_with (slot ∷ space) g counter) (executes w space (slot ∷ space) g counter) (reach_word w space counter false) (reach_word-good w valid space counter false) (λ code. goes (tt, tt)) (λ s page. performs-safe w valid space (slot ∷ space) g counter (act (word_at w s page counter) g counter))
@@ -136,7 +136,7 @@ sends_to-safe w c side l address count page (Server thread) = sends_to_thread-sa
 sends_to-safe w c side l address count page Service = search (safe-when, has_sent-safe)
 sends_to-safe w c side l address count page Parked = waits
 
-sends-safe : (w : World) → IsValid w → (c : Caller) (side : Turn) (address count : ℕ) (l : Line) → SafeOutcome w (sends w c side address count l)
+sends-safe : (w : World) → IsConsistent w → (c : Caller) (side : Turn) (address count : ℕ) (l : Line) → SafeOutcome w (sends w c side address count l)
 sends-safe w valid c side address count l = by (count == 0)
   where
     go : Path → ℕ → Outcome
@@ -146,18 +146,18 @@ sends-safe w valid c side address count l = by (count == 0)
     by true = safe-done w c [] [] tt
     by false = own_page-safe w valid c address false go (λ s page. sends_to-safe w c side l address count _ l.other)
 
-pub send-safe : (w : World) → IsValid w → (c : Caller) (side : Turn) (address count : ℕ) → SafeOutcome w (send w c side address count)
+pub send-safe : (w : World) → IsConsistent w → (c : Caller) (side : Turn) (address count : ℕ) → SafeOutcome w (send w c side address count)
 unfolding send
 send-safe w valid c side address count = search (safe_row, sends-safe)
 
-awaits-safe : (w : World) → IsValid w → (c : Caller) (into room : ℕ) → SafeOutcome w (awaits w c into room)
+awaits-safe : (w : World) → IsConsistent w → (c : Caller) (into room : ℕ) → SafeOutcome w (awaits w c into room)
 awaits-safe w valid c into room = by (room == 0)
   where
     by : (t : Bool) → SafeOutcome w (if t then Waits else own_page w c into true (λ s page. Waits))
     by true = waits
     by false = own_page-safe w valid c into true (λ s page. Waits) (λ s page. waits)
 
-pub receive-safe : (w : World) → IsValid w → (c : Caller) (side : Turn) (into room : ℕ) → SafeOutcome w (receive w c side into room)
+pub receive-safe : (w : World) → IsConsistent w → (c : Caller) (side : Turn) (into room : ℕ) → SafeOutcome w (receive w c side into room)
 unfolding receive
 receive-safe w valid c side into room = search (safe_row, awaits-safe)
 
@@ -187,7 +187,7 @@ thread_go-safe w c h = search (safe_row, safe-done) depth 9
 gives-safe : (w : World) (c : Caller) (space : Path) (page : ℕ) (words : List ℕ) → SafeOutcome w (gives w c space page words)
 gives-safe w c space page words = search (safe_row, safe-done)
 
-gives_from-safe : (w : World) → IsValid w → (c : Caller) (space : Path) (page address : ℕ) → SafeOutcome w (gives_from w c space page address)
+gives_from-safe : (w : World) → IsConsistent w → (c : Caller) (space : Path) (page address : ℕ) → SafeOutcome w (gives_from w c space page address)
 gives_from-safe w valid c space page address = by c.is_porter (address == ZEROS)
   where
     go : Path → ℕ → Outcome
@@ -198,7 +198,7 @@ gives_from-safe w valid c space page address = by c.is_porter (address == ZEROS)
     by false true = gives-safe w c space page _
     by false false = own_page-safe w valid c address false go (λ s own. gives-safe w c space page _)
 
-pub page_give-safe : (w : World) → IsValid w → (c : Caller) (s page address : ℕ) → SafeOutcome w (page_give w c s page address)
+pub page_give-safe : (w : World) → IsConsistent w → (c : Caller) (s page address : ℕ) → SafeOutcome w (page_give w c s page address)
 unfolding page_give
 page_give-safe w valid c s page address = search (safe_row, gives_from-safe) depth 9
 
@@ -216,18 +216,18 @@ copies_home-safe w c space page drops s own = search (safe_row, copies-safe)
 answers_home-safe : (w : World) (c : Caller) (space : Path) (page : ℕ) (drops : Bool) → SafeOutcome w (answers_home w c space page drops)
 answers_home-safe w c space page drops = search (safe_row, safe-done, drops-safe)
 
-copies_to-safe : (w : World) → IsValid w → (c : Caller) (space : Path) (page : ℕ) (drops : Bool) (address : ℕ) → SafeOutcome w (copies_to w c space page drops address)
+copies_to-safe : (w : World) → IsConsistent w → (c : Caller) (space : Path) (page : ℕ) (drops : Bool) (address : ℕ) → SafeOutcome w (copies_to w c space page drops address)
 copies_to-safe w valid c space page drops address = by c.is_porter
   where
     by : (porter : Bool) → SafeOutcome w (if porter then answers_home w c space page drops else own_page w c address true (copies_home w c space page drops))
     by true = answers_home-safe w c space page drops
     by false = own_page-safe w valid c address true _ (copies_home-safe w c space page drops)
 
-pub page_take-safe : (w : World) → IsValid w → (c : Caller) (s page address : ℕ) → SafeOutcome w (page_take w c s page address)
+pub page_take-safe : (w : World) → IsConsistent w → (c : Caller) (s page address : ℕ) → SafeOutcome w (page_take w c s page address)
 unfolding page_take
 page_take-safe w valid c s page address = search (safe_row, copies_to-safe) depth 9
 
-pub page_read-safe : (w : World) → IsValid w → (c : Caller) (s page address : ℕ) → SafeOutcome w (page_read w c s page address)
+pub page_read-safe : (w : World) → IsConsistent w → (c : Caller) (s page address : ℕ) → SafeOutcome w (page_read w c s page address)
 unfolding page_read
 page_read-safe w valid c s page address = search (safe_row, copies_to-safe) depth 9
 

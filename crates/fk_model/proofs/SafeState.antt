@@ -19,7 +19,7 @@ use Rattle.fk_model.specs.Reach.{words_at}
 use Rattle.fk_model.specs.Records.{record_of, is_extent, is_flag, is_member_word, member_by, set_edits, is_state, takes_state, word}
 use Rattle.fk_model.specs.StateRows.{shows, shows_to, get_state, sets, record_at, sets_from, set_state, Field, peer_field, or_null, thread_field, field_of, first_field, field_number, field_pointer, get_ptr, referable, held_kinds, is_among, set_ptr}
 use Rattle.fk_model.specs.StateRows.Field.{Pointer}
-use Rattle.fk_model.specs.Valid.{IsValid, kind_there, is_one_of, leads_there, may_lead, all_in, is_good, is_good_set, is_good_talk, is_good_fault, is_good_peer}
+use Rattle.fk_model.specs.Valid.{IsConsistent, kind_there, is_one_of, leads_there, may_lead, all_in, is_good, is_good_set, is_good_talk, is_good_fault, is_good_peer}
 use Rattle.fk_model.proofs.Safe.{takes_pointer, AreSafe}
 use Rattle.fk_model.proofs.SafeOutcomes.{SafeOutcome, safe-done, safe_row}
 use Rattle.fk_model.proofs.SafeReads.{object_in-found, leads-among, may-among}
@@ -28,14 +28,14 @@ use Rattle.fk_model.proofs.SafeObjects.{takes-at, reference-leads, reference-the
 
 -- ---- get_state
 
-shows_to-safe : (w : World) → IsValid w → (c : Caller) (b : Body) (address : ℕ) → SafeOutcome w (shows_to w c b address)
+shows_to-safe : (w : World) → IsConsistent w → (c : Caller) (b : Body) (address : ℕ) → SafeOutcome w (shows_to w c b address)
 shows_to-safe w valid c b address = by c.is_porter
   where
     by : (porter : Bool) → SafeOutcome w (if porter then done c [] (record_of b) else own_page w c address true (shows w c b address))
     by true = safe-done w c [] _ tt
     by false = own_page-safe w valid c address true (shows w c b address) (λ s page. search safe-done)
 
-pub get_state-safe : (w : World) → IsValid w → (c : Caller) (s x address : ℕ) → SafeOutcome w (get_state w c s x address)
+pub get_state-safe : (w : World) → IsConsistent w → (c : Caller) (s x address : ℕ) → SafeOutcome w (get_state w c s x address)
 unfolding get_state
 get_state-safe w valid c s x address = search (safe_row, shows_to-safe)
 
@@ -72,7 +72,7 @@ sets-goes w c k s b words there takes = safe-done w c _ [] (edits-safe w k s b w
 sets-safe : (w : World) (c : Caller) (k : ℕ) (s : Path) (b : Body) (words : List ℕ) → w.body (k ∷ s) ≡ Some b → SafeOutcome w (sets w c s (k ∷ s) b words)
 sets-safe w c k s b words there = search (safe_row, sets-goes)
 
-sets_from-safe : (w : World) (c : Caller) (k : ℕ) (s : Path) (b : Body) (address : ℕ) → IsValid w → object_in w c anything s k ≡ Ok b → SafeOutcome w (sets_from w c s (k ∷ s) b address)
+sets_from-safe : (w : World) (c : Caller) (k : ℕ) (s : Path) (b : Body) (address : ℕ) → IsConsistent w → object_in w c anything s k ≡ Ok b → SafeOutcome w (sets_from w c s (k ∷ s) b address)
 sets_from-safe w c k s b address valid read = by c.is_porter
   where
     go : Path → ℕ → Outcome
@@ -85,7 +85,7 @@ sets_from-safe w c k s b address valid read = by c.is_porter
     by true = sets-safe w c k s b c.words there
     by false = own_page-safe w valid c address false go (λ t page. sets-safe w c k s b _ there)
 
-pub set_state-safe : (w : World) → IsValid w → (c : Caller) (s x address : ℕ) → SafeOutcome w (set_state w c s x address)
+pub set_state-safe : (w : World) → IsConsistent w → (c : Caller) (s x address : ℕ) → SafeOutcome w (set_state w c s x address)
 unfolding set_state
 set_state-safe w valid c s x address = search (safe_row, sets_from-safe) depth 9
 
@@ -150,7 +150,7 @@ fields-fit there x (Space birth holder) n good = first-fit there n (or_null (and
 fields-fit there x (Thread_of t) n good = let both = and_parts (all_in (is_good_talk there) t.talk) _ good in thread-fit there t n both.0 both.1
 fields-fit there x b n good = tt
 
-get_ptr-goes : (w : World) (c : Caller) (x field reference : ℕ) (space : Path) (b : Body) (old : Ptr) (found : Field) → IsValid w → object_in w c anything space x ≡ Ok b →
+get_ptr-goes : (w : World) (c : Caller) (x field reference : ℕ) (space : Path) (b : Body) (old : Ptr) (found : Field) → IsConsistent w → object_in w c anything space x ≡ Ok b →
     object_in w c reference_of c.space reference ≡ Ok old → field_of field b ≡ Some found → SafeOutcome w (done c (Alter (reference ∷ c.space) (SetPointer (field_pointer found)) ∷ []) (field_number found ∷ []))
 get_ptr-goes w c x field reference space b old found valid read read2 has =
     let object = object_in-found w c anything space x b read in
@@ -161,7 +161,7 @@ get_ptr-goes w c x field reference space b old found valid read read2 has =
     safe-done w c (Alter (reference ∷ c.space) (SetPointer (field_pointer found)) ∷ []) (field_number found ∷ [])
     (takes-at w (reference ∷ c.space) (field_pointer found) old (reference-there w _ old place) (rw has at fits), tt)
 
-pub get_ptr-safe : (w : World) → IsValid w → (c : Caller) (s x field reference : ℕ) → SafeOutcome w (get_ptr w c s x field reference)
+pub get_ptr-safe : (w : World) → IsConsistent w → (c : Caller) (s x field reference : ℕ) → SafeOutcome w (get_ptr w c s x field reference)
 unfolding get_ptr
 get_ptr-safe w valid c s x field reference = search (safe_row, get_ptr-goes) depth 9
 
@@ -183,7 +183,7 @@ takes-held w to (Region r) may = may
 takes-held w to (Reference old) may = may
 takes-held w to b may = refl
 
-set_ptr-goes : (w : World) (c : Caller) (x reference : ℕ) (space : Path) (b : Body) (to : Ptr) → IsValid w → object_in w c anything space x ≡ Ok b → object_in w c reference_of c.space reference ≡ Ok to →
+set_ptr-goes : (w : World) (c : Caller) (x reference : ℕ) (space : Path) (b : Body) (to : Ptr) → IsConsistent w → object_in w c anything space x ≡ Ok b → object_in w c reference_of c.space reference ≡ Ok to →
     not (is_among (held_kinds b) (kind_at w to)) ≡ false → SafeOutcome w (done c (Alter (x ∷ space) (SetPointer to) ∷ []) [])
 set_ptr-goes w c x reference space b to valid read read2 among =
     let object = object_in-found w c anything space x b read in
@@ -193,6 +193,6 @@ set_ptr-goes w c x reference space b to valid read read2 among =
     let may = among-leads w (held_kinds b) to (reference-leads w _ to valid (reference-there w _ to from)) (not-false _ among) in
     safe-done w c (Alter (x ∷ space) (SetPointer to) ∷ []) [] (rw there (takes-held w to b may), tt)
 
-pub set_ptr-safe : (w : World) → IsValid w → (c : Caller) (s x field reference : ℕ) → SafeOutcome w (set_ptr w c s x field reference)
+pub set_ptr-safe : (w : World) → IsConsistent w → (c : Caller) (s x field reference : ℕ) → SafeOutcome w (set_ptr w c s x field reference)
 unfolding set_ptr
 set_ptr-safe w valid c s x field reference = search (safe_row, set_ptr-goes) depth 12

@@ -9,7 +9,7 @@ use Rattle.fk_model.specs.Objects.{Peer, Talk, Fault, Thread, Body, kind_of, thr
 use Rattle.fk_model.specs.Objects.Peer.{Server, Service}
 use Rattle.fk_model.specs.World.{World, serves}
 use Rattle.fk_model.specs.Searches.{talk_at, fault_at}
-use Rattle.fk_model.specs.Valid.{IsValid, kind_there, all_in, is_good, birth_at, is_served_port, services, flag_of, lies_with}
+use Rattle.fk_model.specs.Valid.{IsConsistent, kind_there, all_in, is_good, birth_at, is_served_port, services, flag_of, lies_with}
 
 pub data Tie : Type 0 where
   Joins : (port : Ptr) (peer : Peer) → Tie
@@ -117,7 +117,7 @@ pub live-kind : (w : World) (x : Path) → is_some (kind_there w x) ≡ is_some 
 unfolding kind_there
 live-kind w x = is_some-kind (w.body x)
 
-pub facts : (w : World) → IsValid w → HaveFacts w
+pub facts : (w : World) → IsConsistent w → HaveFacts w
 facts w valid = record {
   parents = λ k x h. valid.parents k x (rw (live-kind w (k ∷ x)) at h);
   apart = valid.apart;
@@ -134,7 +134,7 @@ facts w valid = record {
   };
 }
 
-pub valid-from : (w : World) → HaveFacts w → ((x : Path) → all_in (is_good (kind_there w) x) (w.body x) ≡ true) → IsValid w
+pub valid-from : (w : World) → HaveFacts w → ((x : Path) → all_in (is_good (kind_there w) x) (w.body x) ≡ true) → IsConsistent w
 valid-from w f good = record {
   parents = λ k x h. f.parents k x (rw (live-kind w (k ∷ x)) h);
   good = good;

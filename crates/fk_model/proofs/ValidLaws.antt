@@ -7,7 +7,7 @@ use Rattle.fk_model.specs.Objects.{Body, kind_of}
 use Rattle.fk_model.specs.Objects.Body.{Space}
 use Rattle.fk_model.specs.World.{World, Change, apply, apply_all, at_path, edited, through, without, following}
 use Rattle.fk_model.specs.World.Change.{Alter, Make, MakeSpace, Kill, Move, PutPage, DropPage}
-use Rattle.fk_model.specs.Valid.{IsValid, kind_there, IsRooted}
+use Rattle.fk_model.specs.Valid.{IsConsistent, kind_there, IsRooted}
 use Rattle.fk_model.proofs.PlaceLaws.{same_path_eq, same_path_ne}
 use Rattle.fk_model.proofs.Ties.{facts, valid-from}
 use Rattle.fk_model.proofs.Outlines.{Outline, outline_of, outline-kind}
@@ -20,11 +20,11 @@ use Rattle.fk_model.proofs.Safe.{IsAlone, IsVacant, IsSafeMove, IsSafe, AreSafe}
 -- ---- valid
 
 -- pages say nothing of validity
-valid-pages : (w : World) (page : Path → ℕ → Option (List ℕ)) → IsValid w → IsValid (record w { page = page })
+valid-pages : (w : World) (page : Path → ℕ → Option (List ℕ)) → IsConsistent w → IsConsistent (record w { page = page })
 unfolding kind_there
 valid-pages w page valid = valid-from (record w { page = page }) (facts w valid) valid.good
 
-pub valid-apply : (c : Change) (w : World) → IsValid w → IsSafe w c → IsValid (apply c w)
+pub valid-apply : (c : Change) (w : World) → IsConsistent w → IsSafe w c → IsConsistent (apply c w)
 unfolding apply
 valid-apply (Alter x edit) w valid safe = valid-edit edit w x safe valid
 valid-apply (Make [] body) w valid safe = absurd safe
@@ -37,7 +37,7 @@ valid-apply (Move (k ∷ s) slot) w valid safe = valid-move w k s slot safe vali
 valid-apply (PutPage space page words) w valid safe = valid-pages w _ valid
 valid-apply (DropPage space page) w valid safe = valid-pages w _ valid
 
-pub valid-apply_all : (cs : List Change) (w : World) → IsValid w → AreSafe w cs → IsValid (apply_all cs w)
+pub valid-apply_all : (cs : List Change) (w : World) → IsConsistent w → AreSafe w cs → IsConsistent (apply_all cs w)
 unfolding apply_all
 valid-apply_all [] w valid safe = valid
 valid-apply_all (c ∷ cs) w valid safe = valid-apply_all cs (apply c w) (valid-apply c w valid safe.0) safe.1

@@ -15,7 +15,7 @@ use Rattle.fk_model.specs.Objects.Peer.{Server, Service, Parked}
 use Rattle.fk_model.specs.Objects.Body.{Mutex, Cond, Mapping, Region, Port, Portset, Space, Thread_of, Reference}
 use Rattle.fk_model.specs.World.{World, serves}
 use Rattle.fk_model.specs.Searches.{lowest, slots, residents, has_residents, depth, beneath_by, beneath, objects, first_resident, leaf_from, leaf_by, leaf, talk_at, fault_at, client_of, faulter_of, is_serving, is_service, client_at}
-use Rattle.fk_model.specs.Valid.{IsValid, kind_there, birth_of, birth_at, HasService, services, IsRooted}
+use Rattle.fk_model.specs.Valid.{IsConsistent, kind_there, birth_of, birth_at, HasService, services, IsRooted}
 use Rattle.fk_model.proofs.Members.{IsIn, in_left, in_right, in_filter, of_filter, find_none, find_some, any_in, of_any, in_flat_map, of_flat_map}
 use Rattle.fk_model.proofs.PlaceLaws.{same_path_eq, same_path_refl, leads_to_at}
 use Rattle.fk_model.proofs.Ties.{live-kind}
@@ -26,7 +26,7 @@ use Rattle.fk_model.proofs.Safe.{IsAlone}
 live_from_kind : (w : World) (x : Path) (kind : Kind) → kind_there w x ≡ Some kind → IsSome (w.body x)
 live_from_kind w x kind h = sym (live-kind w x) ∙ ap is_some h
 
-pub live_above : (w : World) → IsValid w → (k : ℕ) (x : Path) → IsSome (w.body (k ∷ x)) → IsSome (w.body x)
+pub live_above : (w : World) → IsConsistent w → (k : ℕ) (x : Path) → IsSome (w.body (k ∷ x)) → IsSome (w.body x)
 live_above w valid k x live = live_from_kind w x kinds.Space (valid.parents k x live)
 
 -- ---- birth numbers on a way
@@ -34,7 +34,7 @@ live_above w valid k x live = live_from_kind w x kinds.Space (valid.parents k x 
 abbrev number : World → Path → ℕ
 number w x = unwrap_or (birth_at w x) 0
 
-numbered : (w : World) → IsValid w → (k : ℕ) (x : Path) → IsSome (w.body (k ∷ x)) → birth_at w x ≡ Some (number w x)
+numbered : (w : World) → IsConsistent w → (k : ℕ) (x : Path) → IsSome (w.body (k ∷ x)) → birth_at w x ≡ Some (number w x)
 unfolding kind_there
 numbered w valid k x live = by (w.body x) (valid.parents k x live)
   where
@@ -59,7 +59,7 @@ numbers-long : (w : World) (x : Path) → length (numbers w x) ≡ length x
 numbers-long w [] = refl
 numbers-long w (k ∷ x) = ap suc (numbers-long w x)
 
-numbers-below : (w : World) → IsValid w → (x : Path) → IsSome (w.body x) → (q : ℕ) → list_any (eqb q) (numbers w x) ≡ true → q < w.next
+numbers-below : (w : World) → IsConsistent w → (x : Path) → IsSome (w.body x) → (q : ℕ) → list_any (eqb q) (numbers w x) ≡ true → q < w.next
 numbers-below w valid [] live q h = cc
 numbers-below w valid (k ∷ x) live q h = by (or_cases (eqb q (number w x)) (list_any (eqb q) (numbers w x)) h) (numbers-below w valid x (live_above w valid k x live) q)
   where
@@ -68,21 +68,21 @@ numbers-below w valid (k ∷ x) live q h = by (or_cases (eqb q (number w x)) (li
     by (inr e) rest = rest e
 
 -- a longer path's number is none of these
-numbers-other : (w : World) → IsValid w → (x z : Path) → birth_at w x ≡ Some (number w x) → length z ≤ length x → IsSome (w.body z) → AllByRecursion (λ n. eqb (number w x) n ≡ false) (numbers w z)
+numbers-other : (w : World) → IsConsistent w → (x z : Path) → birth_at w x ≡ Some (number w x) → length z ≤ length x → IsSome (w.body z) → AllByRecursion (λ n. eqb (number w x) n ≡ false) (numbers w z)
 numbers-other w valid x [] is long live = tt
 numbers-other w valid x (k ∷ z) is long live = (ne_eqb (number w x) (number w z) other, numbers-other w valid x z is (omega arith) (live_above w valid k z live))
   where
     other : number w x ≡ number w z → ⊥
     other e = let same = valid.apart x z (number w z) (is ∙ ap Some e) (numbered w valid k z live) in omega (arith, ap length same)
 
-numbers-distinct : (w : World) → IsValid w → (x : Path) → IsSome (w.body x) → IsDistinct eqb (numbers w x)
+numbers-distinct : (w : World) → IsConsistent w → (x : Path) → IsSome (w.body x) → IsDistinct eqb (numbers w x)
 unfolding IsDistinct
 numbers-distinct w valid [] live = tt
 numbers-distinct w valid (k ∷ x) live =
     let above = live_above w valid k x live in
     (numbers-other w valid x x (numbered w valid k x live) (omega arith) above, numbers-distinct w valid x above)
 
-pub short : (w : World) → IsValid w → (x : Path) → IsSome (w.body x) → length x ≤ w.next
+pub short : (w : World) → IsConsistent w → (x : Path) → IsSome (w.body x) → length x ≤ w.next
 short w valid x live = rw (← numbers-long w x) (length-le_from_distinct_below (numbers w x) w.next (numbers-distinct w valid x live) (numbers-below w valid x live))
 
 -- ---- the residents of a space
@@ -123,7 +123,7 @@ in_next (suc n) w rooted s y k h few live =
     by j (inl e) rest = rw (e) (in_first n w rooted k y (omega (arith, ap length e)) live)
     by j (inr g) rest = rest j g
 
-in_walk : (n : ℕ) (w : World) → IsValid w → IsRooted w → (x : Path) (k : ℕ) → IsSome (w.body (k ∷ x)) → length (k ∷ x) ≤ n → IsIn (k ∷ x) (beneath_by n w [])
+in_walk : (n : ℕ) (w : World) → IsConsistent w → IsRooted w → (x : Path) (k : ℕ) → IsSome (w.body (k ∷ x)) → length (k ∷ x) ≤ n → IsIn (k ∷ x) (beneath_by n w [])
 in_walk n w valid rooted [] k live few = in_first n w rooted k [] (omega arith) live
 in_walk n w valid rooted (j ∷ y) k live few = in_next n w rooted [] (j ∷ y) k (in_walk n w valid rooted y j (live_above w valid k (j ∷ y) live) (omega arith)) (omega arith) live
 
@@ -138,7 +138,7 @@ of_walk (suc n) w s x h = let found = of_flat_map (λ j. (j ∷ s) ∷ beneath_b
 
 -- ---- every object
 
-pub in_objects : (w : World) → IsValid w → IsRooted w → w.next ≤ depth → (k : ℕ) (x : Path) → IsSome (w.body (k ∷ x)) → IsIn (k ∷ x) (objects w)
+pub in_objects : (w : World) → IsConsistent w → IsRooted w → w.next ≤ depth → (k : ℕ) (x : Path) → IsSome (w.body (k ∷ x)) → IsIn (k ∷ x) (objects w)
 unfolding beneath
 in_objects w valid rooted few k x live = in_walk depth w valid rooted x k live (le_trans (short w valid (k ∷ x) live) few)
 
@@ -146,7 +146,7 @@ pub of_objects : (w : World) (x : Path) → IsIn x (objects w) → IsSome (w.bod
 unfolding beneath
 of_objects w x h = of_walk depth w [] x h
 
-pub objects-all : (w : World) → IsValid w → IsRooted w → w.next ≤ depth → (k : ℕ) (x : Path) → IsSome (w.body (k ∷ x)) → list_any (same_path (k ∷ x)) (objects w) ≡ true
+pub objects-all : (w : World) → IsConsistent w → IsRooted w → w.next ≤ depth → (k : ℕ) (x : Path) → IsSome (w.body (k ∷ x)) → list_any (same_path (k ∷ x)) (objects w) ≡ true
 objects-all w valid rooted few k x live = any_in (same_path (k ∷ x)) (k ∷ x) (objects w) (in_objects w valid rooted few k x live) (same_path_refl (k ∷ x))
 
 pub objects-live : (w : World) (x : Path) → list_any (same_path x) (objects w) ≡ true → IsSome (w.body x)
@@ -155,7 +155,7 @@ objects-live w x h = let found = of_any (same_path x) (objects w) h in let same 
 -- ---- who serves
 
 -- a test that no object passes, and nothing else could
-no_thread : (w : World) → IsValid w → IsRooted w → w.next ≤ depth → (test : Option Thread → Bool) → test None ≡ false → find (λ c. test (and_then thread_of (w.body c))) (objects w) ≡ None → (q : Path) → test (and_then thread_of (w.body q)) ≡ false
+no_thread : (w : World) → IsConsistent w → IsRooted w → w.next ≤ depth → (test : Option Thread → Bool) → test None ≡ false → find (λ c. test (and_then thread_of (w.body c))) (objects w) ≡ None → (q : Path) → test (and_then thread_of (w.body q)) ≡ false
 unfolding kind_there
 no_thread w valid rooted few test nothing none [] = by (w.body []) rooted.root
   where
@@ -186,16 +186,16 @@ none_from : {A : Type 0} (o : Option A) → is_some o ≡ false → o ≡ None
 none_from None h = refl
 none_from (Some a) h = cc
 
-pub no_client : (w : World) → IsValid w → IsRooted w → w.next ≤ depth → (server : Path) → client_of w server ≡ None → (q : Path) → holds (λ (talk : Talk). serves server talk.peer) (talk_at w q) ≡ false
+pub no_client : (w : World) → IsConsistent w → IsRooted w → w.next ≤ depth → (server : Path) → client_of w server ≡ None → (q : Path) → holds (λ (talk : Talk). serves server talk.peer) (talk_at w q) ≡ false
 unfolding client_of
 no_client w valid rooted few server none q = no_thread w valid rooted few (serves_by_talk server) refl none q
 
-pub no_faulter : (w : World) → IsValid w → IsRooted w → w.next ≤ depth → (server : Path) → faulter_of w server ≡ None → (q : Path) → holds (λ (fault : Fault). holds (serves server) fault.taker) (fault_at w q) ≡ false
+pub no_faulter : (w : World) → IsConsistent w → IsRooted w → w.next ≤ depth → (server : Path) → faulter_of w server ≡ None → (q : Path) → holds (λ (fault : Fault). holds (serves server) fault.taker) (fault_at w q) ≡ false
 unfolding faulter_of
 no_faulter w valid rooted few server none q = no_thread w valid rooted few (serves_by_fault server) refl none q
 
 -- who serves nobody
-pub idle : (w : World) → IsValid w → IsRooted w → w.next ≤ depth → (server : Path) → is_serving w server ≡ false → (q : Path) → services w server q ≡ 0
+pub idle : (w : World) → IsConsistent w → IsRooted w → w.next ≤ depth → (server : Path) → is_serving w server ≡ false → (q : Path) → services w server q ≡ 0
 idle w valid rooted few server h q =
     let both = or_parts (is_some (client_of w server)) (is_some (faulter_of w server)) h in
     rw (no_client w valid rooted few server (none_from (client_of w server) both.0) q, no_faulter w valid rooted few server (none_from (faulter_of w server) both.1) q) refl
@@ -204,7 +204,7 @@ abbrev served_here : Path → Option Thread → Bool
 served_here port o = holds (λ (talk : Talk). leads_to port talk.port && is_service talk.peer) (and_then (λ (t : Thread). t.talk) o)
 
 -- a served port without a client
-pub no_service : (w : World) → IsValid w → IsRooted w → w.next ≤ depth → (port : Path) → client_at w port ≡ None → (q : Path) → HasService w q (At port) → ⊥
+pub no_service : (w : World) → IsConsistent w → IsRooted w → w.next ≤ depth → (port : Path) → client_at w port ≡ None → (q : Path) → HasService w q (At port) → ⊥
 unfolding client_at
 no_service w valid rooted few port none q h =
     let off = no_thread w valid rooted few (served_here port) refl none q in
@@ -286,7 +286,7 @@ leaf_by-inner (suc n) w k s h = by (first_resident w (k ∷ s)) h (λ j. leaf_by
     by None g rest = cc
     by (Some j) g rest = rest j g
 
-pub leaf-alone : (w : World) → IsValid w → IsRooted w → w.next ≤ depth → (k : ℕ) (s : Path) → IsAlone w (leaf w (k ∷ s))
+pub leaf-alone : (w : World) → IsConsistent w → IsRooted w → w.next ≤ depth → (k : ℕ) (s : Path) → IsAlone w (leaf w (k ∷ s))
 unfolding leaf
 leaf-alone w valid rooted few k s = record {
   inner = leaf_by-inner depth w k s;

@@ -13,7 +13,7 @@ use Rattle.fk_model.specs.StateRows.{is_native}
 use Rattle.fk_model.specs.Searches.{depth}
 use Rattle.fk_model.specs.Shapes.{IsShaped, IsInRange}
 use Rattle.fk_model.specs.Moves.{step}
-use Rattle.fk_model.specs.Valid.{IsValid, IsRooted, is_fit}
+use Rattle.fk_model.specs.Valid.{IsValid, is_fit}
 
 -- ---- the registers of a calling thread
 
@@ -52,5 +52,5 @@ RecordChangesNothing = (w : World) (x : Path) (b : Body) → w.body x ≡ Some b
 -- a fit move keeps a world valid and rooted, whoever moves and whatever it picks. No more birth numbers are given out
 -- than the longest walk has steps
 abbrev pub StepKeepsValid : Type 0
-StepKeepsValid = (w : World) (x : Path) (pick : Option Path) (ask : Ask) → IsValid w → IsRooted w → w.next ≤ depth → is_fit w x ask ≡ true →
-    IsValid (step w x pick ask).world × IsRooted (step w x pick ask).world
+StepKeepsValid = (w : World) (x : Path) (pick : Option Path) (ask : Ask) → IsValid w → w.next ≤ depth → is_fit w x ask ≡ true →
+    IsValid (step w x pick ask).world

@@ -113,7 +113,8 @@ abbrev pub lies_with : Ptr → Ptr → Type 0
 lies_with (At port) (At server) = parent server ≡ parent port
 lies_with port server = Unit {0}
 
-pub record IsValid (w : World) : Type 0 where
+-- what stands in the slots fits together
+pub record IsConsistent (w : World) : Type 0 where
   -- what has something in it is a space
   pub parents : (k : ℕ) (x : Path) → IsSome (w.body (k ∷ x)) → kind_there w x ≡ Some kinds.Space
   pub good : (x : Path) → all_in (is_good (kind_there w) x) (w.body x) ≡ true
@@ -133,6 +134,10 @@ pub record IsValid (w : World) : Type 0 where
 pub record IsRooted (w : World) : Type 0 where
   pub root : kind_there w [] ≡ Some kinds.Space
   pub slots : (k : ℕ) (x : Path) → IsSome (w.body (k ∷ x)) → k < SLOTS
+
+pub record IsValid (w : World) : Type 0 where
+  pub consistent : IsConsistent w
+  pub rooted : IsRooted w
 
 -- ---- fit asks: a porter gives words in range, and names a server in its port's space that serves nobody
 

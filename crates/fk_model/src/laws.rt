@@ -49,7 +49,7 @@ pub fn a_move_changes_only_what_it_lists()
     ensures pages { MoveKeepsPages }
 {}
 
-/// A fit move keeps a world valid, with a space at its root.
+/// A fit move keeps a world valid.
 pub fn a_fit_move_keeps_a_valid_world()
     ensures { StepKeepsValid }
 {}
