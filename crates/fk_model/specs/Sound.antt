@@ -1,0 +1,43 @@
+-- What a store, and the core above it, keep more strongly than validity.
+use Rattle.std.specs.Prelude.{◌≡◌, ℕ, ◌<◌, ◌≤◌, Bool, true, false, not, ◌&&◌, ◌==◌, nat_le, is_some, List, ◌∷◌, length, Option, Some, None, if◌then◌else◌}
+use Rattle.fk_model.specs.declared.limits.TheConstants.{LAST_USER_SLOT, LAST_SCRATCH_SLOT, LAST_PORTER_SLOT, MOST_STOPS}
+use Rattle.fk_model.specs.Places.{Path, parent, is_within, Ptr}
+use Rattle.fk_model.specs.Places.Ptr.{At}
+use Rattle.fk_model.specs.Objects.{Peer, Talk, Fault, Thread, Body, thread_of, reference_of, and_then, holds}
+use Rattle.fk_model.specs.Objects.Peer.{Server, Service, Parked}
+use Rattle.fk_model.specs.World.{World}
+use Rattle.fk_model.specs.Searches.{talk_at, fault_at}
+use Rattle.fk_model.specs.Holds.{holder_of}
+use Rattle.fk_model.specs.Shapes.{IsShapedMode, IsCodeInRange}
+use Rattle.fk_model.specs.StateRows.{is_native}
+use Rattle.fk_model.specs.Valid.{IsValid, birth_at, is_served_port}
+
+-- a port whose space has a porter
+abbrev pub is_nester_port : World → Ptr → Bool
+is_nester_port w (At x) = holds is_native (w.body (LAST_PORTER_SLOT ∷ parent x))
+is_nester_port w other = false
+
+-- a parked peer waits at a port of a nester's space, a native one serves a served port
+abbrev pub is_placed : World → Ptr → Peer → Bool
+is_placed w port (Server thread) = true
+is_placed w port Service = is_served_port w port
+is_placed w port Parked = is_nester_port w port
+
+-- porters stand in the last slot of a space, their scratch references in the slots before it, and nothing else there
+abbrev pub stands_in : ℕ → Body → Bool
+stands_in k b =
+    if nat_le k LAST_USER_SLOT then not (is_native b)
+    else (if nat_le k LAST_SCRATCH_SLOT then is_some (reference_of b) else k == LAST_PORTER_SLOT && is_native b)
+
+pub record IsSound (w : World) : Type 0 where
+  pub valid : IsValid w
+  -- a space is younger than the one in which it lies
+  pub younger : (k : ℕ) (x : Path) (birth above : ℕ) → birth_at w (k ∷ x) ≡ Some birth → birth_at w x ≡ Some above → above < birth
+  pub shaped : (x : Path) (t : Thread) → and_then thread_of (w.body x) ≡ Some t → IsShapedMode t.mode
+  pub few_stops : (x : Path) (t : Thread) → and_then thread_of (w.body x) ≡ Some t → t.stops ≤ MOST_STOPS
+  pub codes : (x : Path) (t : Thread) → and_then thread_of (w.body x) ≡ Some t → IsCodeInRange t.mode
+  -- nobody holds the space in or beneath which it lives
+  pub holders_outside : (x y : Path) → holder_of (w.body x) ≡ Some (At y) → is_within x y ≡ false
+  pub talks_placed : (x : Path) (talk : Talk) → talk_at w x ≡ Some talk → is_placed w talk.port talk.peer ≡ true
+  pub faults_placed : (x : Path) (fault : Fault) (taker : Peer) → fault_at w x ≡ Some fault → fault.taker ≡ Some taker → is_placed w fault.port taker ≡ true
+  pub slots_kept : (k : ℕ) (x : Path) (b : Body) → w.body (k ∷ x) ≡ Some b → stands_in k b ≡ true
