@@ -7,9 +7,13 @@
 mod instruction;
 mod list;
 mod memory;
+mod moves;
+mod number;
 mod text;
 
 pub use instruction::{Act, Instr, operation};
 pub use list::List;
 pub use memory::NoMemory;
+pub use moves::Rule;
+pub use number::{number_up_to, plain_number_up_to};
 pub use text::Text;

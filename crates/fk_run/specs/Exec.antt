@@ -1,10 +1,11 @@
 -- What `exec` comes to, for a whole text: its status, and what it writes.
-use Rattle.std.specs.Prelude.{ℕ, List, [], Option, Some, None, length, nat_lt, if◌then◌else◌}
+use Rattle.std.specs.Prelude.{ℕ, List, [], Option, Some, None, Result, Ok, Err, length, nat_lt, if◌then◌else◌}
 use Rattle.fk_causes.specs.declared.whole.TheConstants.{LIMIT}
 use Rattle.fk_run.specs.declared.exec.TheConstants.{BUDGET}
 use Rattle.fk_run.specs.declared.status.Status.{Status}
-use Rattle.fk_run.specs.declared.status.Status.TheVariants.{Ok, TooLong, BadText, Budget}
-use Rattle.fk_run.specs.Assembler.{assembled}
+use Rattle.fk_run.specs.declared.status.Status.TheVariants as ends
+use Rattle.fk_asm.specs.Assembler.{assembled}
+use Rattle.fk_asm.specs.declared.fail.AsmError.{AsmError}
 use Rattle.fk_run.specs.ExecText.{exec_text}
 use Rattle.fk_run.specs.Machine.{State, start, run, events}
 
@@ -14,21 +15,21 @@ state_after program = run BUDGET (start program)
 
 -- a thread that halted is done, with whatever code
 abbrev pub status_of_run : Option ℕ → Status
-status_of_run (Some code) = Ok
-status_of_run None = Budget BUDGET
+status_of_run (Some code) = ends.Ok
+status_of_run None = ends.Budget BUDGET
 
--- a text that isn't assembled is refused, without its line and the reason
-abbrev pub status_of_program : Option (List ℕ) → Status
-status_of_program None = BadText 0 7
-status_of_program (Some program) = status_of_run (state_after program).halted
+-- a text that isn't assembled is refused
+abbrev pub status_of_program : Result (List ℕ) AsmError → Status
+status_of_program (Err error) = ends.BadText error.line error.reason
+status_of_program (Ok program) = status_of_run (state_after program).halted
 
 -- the status for a whole text
 abbrev pub exec_status : List ℕ → Status
-exec_status text = if nat_lt LIMIT (length text) then TooLong else status_of_program (assembled text)
+exec_status text = if nat_lt LIMIT (length text) then ends.TooLong else status_of_program (assembled text)
 
-abbrev pub output_of_program : Option (List ℕ) → List ℕ
-output_of_program None = []
-output_of_program (Some program) = exec_text (state_after program).halted (events BUDGET (start program)) (state_after program).registers
+abbrev pub output_of_program : Result (List ℕ) AsmError → List ℕ
+output_of_program (Err error) = []
+output_of_program (Ok program) = exec_text (state_after program).halted (events BUDGET (start program)) (state_after program).registers
 
 -- what is written for a whole text: how its run ended
 abbrev pub exec_output : List ℕ → List ℕ

@@ -1,13 +1,10 @@
 //! The top call: the words of the command line in, a text and a status out.
 #![tactic(auto)]
 
-mod assembler;
 mod command;
 mod exec;
 mod exec_text;
-mod lines;
 mod machine;
-mod operations;
 mod status;
 #[cfg(test)]
 mod tests;

@@ -1,7 +1,7 @@
 use Rattle.std.proofs.Common.{rules, arith, ◌≡◌, codes}
 use Rattle.std.proofs.lemmas.Slice.Eq.{text_from_reads}
-use Rattle.fk_run.specs.Operations.{operation_of}
-use Rattle.fk_run.proofs.operations.operation_of.Goals as goal
+use Rattle.fk_asm.specs.Operations.{operation_of}
+use Rattle.fk_asm.proofs.operations.operation_of.Goals as goal
 
 pub returns-in-store-clause-value : goal.returns-in-store-clause-value
 unfolding operation_of

@@ -4,10 +4,10 @@ use Rattle.std.specs.Cmp.Lexicographic.{pointwise}
 use Rattle.std.specs.Str.Parse.{starts_with_minus}
 use Rattle.fk_model.specs.declared.instruction.Instr.{Instr}
 use Rattle.fk_model.specs.declared.instruction.operation.TheConstants.{HALT, SET, MOV, ADD, SUB, MUL, AND, OR, XOR, SHL, SHR, DIV, REM, LOAD, STORE, JMP, JZ, JNZ, JLT, ADDI, CALL}
-use Rattle.fk_run.specs.declared.operations.Shape.{Shape}
-use Rattle.fk_run.specs.declared.operations.Shape.TheVariants.{Bare, Number, RegisterNumber, TwoRegisters, ThreeRegisters, TwoRegistersNumber}
-use Rattle.fk_run.specs.declared.operations.Operation.{Operation}
-use Rattle.fk_run.specs.Numbers.{is_digit, number_up_to}
+use Rattle.fk_asm.specs.declared.operations.Shape.{Shape}
+use Rattle.fk_asm.specs.declared.operations.Shape.TheVariants.{Bare, Number, RegisterNumber, TwoRegisters, ThreeRegisters, TwoRegistersNumber}
+use Rattle.fk_asm.specs.declared.operations.Operation.{Operation}
+use Rattle.fk_model.specs.Numbers.{is_digit, number_up_to}
 
 -- a step that gives nothing ends the whole with nothing
 infixl 10 ◌>>=◌

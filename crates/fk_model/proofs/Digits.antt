@@ -2,7 +2,7 @@
 use Rattle.std.proofs.Common.{◌≡◌, ℕ, ◌+◌, ◌-◌, ◌*◌, ◌<◌, ◌≤◌, Bool, true, false, not, ◌&&◌, ◌==◌, nat_le, cond, List, [], ◌∷◌, length, fold, Option, Some, None, if◌then◌else◌, le-leb, refl, arith}
 use Rattle.std.proofs.lemmas.Bool.{leb-true}
 use Rattle.std.specs.List.{list_all}
-use Rattle.fk_run.specs.Numbers.{is_digit, number_up_to}
+use Rattle.fk_model.specs.Numbers.{is_digit, number_up_to}
 
 -- the number that digits write after those of n
 abbrev pub value_after : ℕ → List ℕ → ℕ

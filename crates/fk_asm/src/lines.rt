@@ -1,7 +1,7 @@
 //! The lines of a text, and the tokens of a line.
 ghost use Rattle.std.specs.Prelude.{◌≡◌, IfOk, map, position};
 ghost use Rattle.std.specs.List.{slice_split, before_first};
-ghost use Rattle.fk_run.specs.Lines as definitions;
+ghost use Rattle.fk_asm.specs.Lines as definitions;
 
 use std::alloc::{AllocError, Global};
 

@@ -2,13 +2,12 @@
 ghost use Rattle.std.specs.Prelude.{◌≡◌, ◌<◌, ◌≤◌, map, IfSome};
 ghost use Rattle.fk_model.specs.Instructions.{IsInstr};
 ghost use Rattle.fk_model.specs.declared.instruction.operation.TheConstants.{CALL};
-ghost use Rattle.fk_run.specs.Numbers as numbers;
-ghost use Rattle.fk_run.specs.Operations as definitions;
+ghost use Rattle.fk_asm.specs.Operations as definitions;
 
-use fk_model::{Instr, operation};
+use fk_model::{Instr, number_up_to, operation};
 
 /// Which operands follow an operation's name.
-#[derive(Clone, Copy, Debug, PartialEq, Eq)]
+#[derive(Clone, Copy)]
 pub enum Shape {
     Bare,
     Number,
@@ -19,7 +18,7 @@ pub enum Shape {
 }
 
 /// An operation's number, and which operands follow its name.
-#[derive(Clone, Copy, Debug, PartialEq, Eq)]
+#[derive(Clone, Copy)]
 pub struct Operation {
     pub number: u8,
     pub shape: Shape,
@@ -74,29 +73,6 @@ fn register_of(token: &[u8]) -> Option<u8>
     }
 }
 
-/// A number of at most `most` in decimal, which may begin with zeros.
-fn number_up_to(most: u32, token: &[u8]) -> Option<u32>
-    ensures value { result ≡ numbers.number_up_to most token.now }
-    ensures most { IfSome result (λ number. number ≤ most) }
-{
-    if token.is_empty() {
-        return None;
-    }
-    let mut number = 0u32;
-    for digit in token {
-        if !digit.is_ascii_digit() {
-            return None;
-        }
-        number = number
-            .checked_mul(10)?
-            .checked_add(u32::from(*digit - b'0'))?;
-        if number > most {
-            return None;
-        }
-    }
-    Some(number)
-}
-
 /// A number from -2147483648 to 4294967295, modulo 2^32.
 fn number_of(token: &[u8]) -> Option<u32>
     ensures { result ≡ definitions.number_of token.now }
@@ -104,9 +80,12 @@ fn number_of(token: &[u8]) -> Option<u32>
     match token {
         [b'-', digits @ ..] => {
             let number = number_up_to(2_147_483_648, digits)?;
-            Some(number.wrapping_neg())
+            Some((number as u32).wrapping_neg())
         }
-        _ => number_up_to(4_294_967_295, token),
+        _ => {
+            let number = number_up_to(4_294_967_295, token)?;
+            Some(number as u32)
+        }
     }
 }
 

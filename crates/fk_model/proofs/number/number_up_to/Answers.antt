@@ -1,7 +1,7 @@
 use Rattle.std.proofs.Common.{rules, arith, ◌≡◌, ◌==◌, false, length}
-use Rattle.fk_run.specs.Numbers.{number_up_to}
-use Rattle.fk_run.proofs.Digits.{read_after-number_up_to}
-use Rattle.fk_run.proofs.operations.number_up_to.Goals as goal
+use Rattle.fk_model.specs.Numbers.{number_up_to}
+use Rattle.fk_model.proofs.Digits.{read_after-number_up_to}
+use Rattle.fk_model.proofs.number.number_up_to.Goals as goal
 
 pub returns-then-is_empty-clause-value : goal.returns-then-is_empty-clause-value
 unfolding number_up_to
