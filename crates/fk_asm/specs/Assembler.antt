@@ -1,6 +1,5 @@
 -- The words of a text.
 use Rattle.std.specs.Prelude.{◌≡◌, ℕ, List, [], ◌∷◌, ◌++◌, length, nat_lt, Option, Some, None, ok_or, Result, Err, if◌then◌else◌}
-use Rattle.fk_model.specs.declared.instruction.Instr.{Instr}
 use Rattle.fk_model.specs.Instructions.{word_of}
 use Rattle.fk_asm.specs.Lines.{lines_of, tokens_of}
 use Rattle.fk_asm.specs.declared.fail.AsmError.{AsmError}

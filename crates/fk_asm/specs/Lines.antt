@@ -2,9 +2,11 @@
 use Rattle.std.specs.Prelude.{ℕ, Bool, not, ◌||◌, ◌==◌, List, filter, length}
 use Rattle.std.specs.List.{slice_split, before_first}
 
+-- the end of a line
 abbrev pub is_line_feed : ℕ → Bool
 is_line_feed byte = byte == 10
 
+-- the beginning of a comment
 abbrev pub is_semicolon : ℕ → Bool
 is_semicolon byte = byte == 59
 

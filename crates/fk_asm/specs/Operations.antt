@@ -14,9 +14,11 @@ infixl 10 ◌>>=◌
 abbrev pub ◌>>=◌ : {A B : Type 0} → Option A → (A → Option B) → Option B
 step >>= rest = option_and_then rest step
 
+-- whether a token is this name
 abbrev pub same : List ℕ → List ℕ → Bool
 same token name = pointwise nat_eq token name
 
+-- a row of the table
 abbrev pub with_shape : ℕ → Shape → Option Operation
 with_shape number shape = Some (record { number = number; shape = shape })
 
@@ -62,6 +64,7 @@ number_of token =
     if starts_with_minus token then option_map negated (number_up_to 2147483648 (drop 1 token))
     else number_up_to 4294967295 token
 
+-- an instruction by its fields in their order
 abbrev pub instr : ℕ → ℕ → ℕ → ℕ → ℕ → Instr
 instr op a b c n = record { op = op; a = a; b = b; c = c; n = n }
 

@@ -20,7 +20,7 @@ pub enum AsmFail {
     /// The text isn't of the assembler's form, or has more than 16,384 words.
     #[error("bad text {0}")]
     Text(AsmError),
-    /// There is no memory for the words or for a line's tokens.
+    /// There is no memory for its lines, tokens or words.
     #[error("no memory")]
     NoMemory,
 }

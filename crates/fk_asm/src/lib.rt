@@ -10,6 +10,8 @@ mod assembler;
 mod fail;
 mod lines;
 mod operations;
+#[cfg(test)]
+mod tests;
 
 pub use assembler::assemble;
 pub use fail::{AsmError, AsmFail};

@@ -24,9 +24,9 @@ pub enum ReadError {
 ///
 /// # Errors
 ///
-/// `TooLong` where the source held more than `LIMIT` bytes; it has lost `LIMIT + 1` then.
-/// `ReadFault` where a read failed, and so only where the source's count of faults rose. `NoMemory`
-/// where the text can't grow.
+/// `TooLong` where the source held more than `LIMIT` bytes. `ReadFault` where a read failed, and so
+/// only where the source's count of faults rose. `NoMemory` where the text can't grow. What was
+/// read is gone from the source then.
 pub fn read_all<R: Source>(alloc: Global, source: &mut R) -> Result<Vec<u8>, ReadError>
     ensures all { IfOk result (λ text. IfSome (R.left source.old) (λ bytes. text.items ≡ bytes)) }
     ensures end { OnOk result (IsAtEnd (R.left source.new)) }

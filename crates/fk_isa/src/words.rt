@@ -6,12 +6,13 @@ use fk_model::Instr;
 use fk_model::operation::CALL;
 
 /// The instruction in a word. There is none exactly where the operation, which stands from bit 56
-/// on, is above that of `call`, or one of the bits 32 to 43 is set.
+/// on, is above that of `call`, or one of the bits 32 to 43 is set. `encode` gives the word back.
 #[inline]
 pub fn decode(word: u64) -> Option<Instr>
     ensures instr { result ≡ instr_of word }
     ensures none { IsNone result ↔ ((CALL < word / 2 ^ 56) ⊎ (word / 2 ^ 32 % 2 ^ 12 ≢ 0)) }
     ensures in_range { IfSome result IsInstr }
+    ensures back { IfSome result (λ instr. word_of instr ≡ word) }
 {
     let op = word >> 56;
     let unused = (word >> 32) & 0xfff;

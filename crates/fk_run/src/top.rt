@@ -24,8 +24,8 @@ pub struct Outcome {
 /// `exec` assembles the source's text and runs it as one thread, with its words from address 0 on
 /// and zeros after them, for at most 100,000 instructions, and writes how that ended.
 ///
-/// The status of the outcome says how the call ended, and is never a surprise: `Usage` comes exactly
-/// for words that are no command, and leaves the source and the sink as they were. Where the source
+/// The status of the outcome says how the call ended. `Usage` comes exactly for words that are no
+/// command, and leaves the source and the sink as they were. Where the source
 /// tells its bytes, the status is the one that they call for, unless a read, a write or the memory
 /// failed. `ReadFault` and `WriteFault` come only where that object's count of faults rose in this
 /// call; `NoMemory` where there is no memory for the text, its words or the output.

@@ -6,11 +6,10 @@
 
 use fk_causes::{StdSink, StdSource};
 use fk_run::{Outcome, Status, fault_line, fluke_top};
-use std::env;
 use std::env::Env;
-use std::io;
 use std::io::ErrorKind;
 use std::process::ExitCode;
+use std::{env, io};
 
 /// The words after the program's name, or how the program ends without them: a word that isn't
 /// UTF-8 makes a wrong command line.
