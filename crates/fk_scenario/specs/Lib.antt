@@ -6,3 +6,4 @@ pub mod Spaces
 pub mod Taken
 pub mod Objects
 pub mod Reading
+pub mod Kept

@@ -2,6 +2,7 @@
 ghost use Rattle.std.specs.Prelude.{◌≡◌, ◌≤◌, option_map, IfOk, IfErr};
 ghost use Rattle.toml.specs.View.{table_view};
 ghost use Rattle.fk_scenario.specs.Gives.{Gives, Answers};
+ghost use Rattle.fk_scenario.specs.Kept.{Keeps};
 ghost use Rattle.fk_scenario.specs.Reading as definitions;
 
 use crate::fail::{Fail, ScenarioError, ScenarioFail};
@@ -124,7 +125,8 @@ pub fn read_scenario(
     bytes: &[u8],
     rules: &[(String, Rule)],
 ) -> Result<Scenario, ScenarioFail>
-    ensures { Answers result (definitions.told bytes.now) }
+    ensures exact { Answers result (definitions.told bytes.now) }
+    ensures keeps { IfOk result Keeps }
 {
     let Some(table) = tree_of(alloc, bytes)? else {
         return Err(NO_DOCUMENT);
