@@ -1,7 +1,3 @@
-pub mod Numbers
-pub mod Lines
-pub mod Operations
-pub mod Assembler
 pub mod Machine
 pub mod ExecText
 pub mod Status

@@ -1,16 +1,16 @@
 //! The command `exec`: from a text to how its run ended.
-ghost use Rattle.std.specs.Prelude.{◌≡◌, None, IfOk, IfSome, IsTrue, string_bytes};
+ghost use Rattle.std.specs.Prelude.{◌≡◌, IfOk, IfErr, IfSome, IsTrue, string_bytes};
 ghost use Rattle.std.specs.Bool.{OnTrue};
 ghost use Rattle.std.specs.Io.KnownBytes.{Appends, IsAtEnd, Keeps};
 ghost use Rattle.fk_causes.specs.Causes.{Rose, AppendsPrefix};
-ghost use Rattle.fk_run.specs.Assembler.{assembled};
+ghost use Rattle.fk_asm.specs.Assembler.{assembled, IsFail};
 ghost use Rattle.fk_run.specs.Exec.{exec_status, exec_output, status_of_program};
 ghost use Rattle.fk_run.specs.Top.{IsAnswer, has_read_all, has_written_all, has_written_nothing};
 
-use crate::assembler::{AsmFail, assemble};
 use crate::exec_text::exec_text;
 use crate::machine::Machine;
 use crate::status::Status;
+use fk_asm::{AsmFail, assemble};
 use fk_causes::{Failed, ReadError, Sink, Source, read_all, write_all};
 use std::alloc::Global;
 
@@ -29,7 +29,7 @@ fn run_text(alloc: Global, text: &[u8]) -> Result<Ended, AsmFail>
     ensures output { IfOk result (λ ended. string_bytes ended.output ≡ exec_output text.now) }
     ensures status { IfOk result (λ ended. ended.status ≡ status_of_program (assembled text.now)) }
     ensures ran { IfOk result (λ ended. IsTrue (has_written_all ended.status)) }
-    ensures text { result ≡ Err AsmFail.Text → assembled text.now ≡ None }
+    ensures text { IfErr result (λ fail. IsFail fail (assembled text.now)) }
 {
     let program = assemble(alloc, text)?;
     let mut machine = Machine::new(program)?;
@@ -64,7 +64,12 @@ pub fn exec<R: Source, W: Sink>(alloc: Global, source: &mut R, sink: &mut W) -> 
     };
     let ended = match run_text(alloc, &text) {
         Ok(ended) => ended,
-        Err(AsmFail::Text) => return Status::BadText { line: 0, reason: 7 },
+        Err(AsmFail::Text(error)) => {
+            return Status::BadText {
+                line: error.line,
+                reason: error.reason,
+            };
+        }
         Err(AsmFail::NoMemory) => return Status::NoMemory,
     };
     match write_all(sink, ended.output.as_bytes()) {

@@ -1,0 +1,4 @@
+pub mod Trees
+pub mod PathSets
+pub mod Steps
+pub mod Kept

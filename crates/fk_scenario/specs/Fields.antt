@@ -1,0 +1,73 @@
+-- The fields of a table: their types and ranges.
+use Rattle.std.specs.Prelude.{ℕ, ℤ, pos, negsuc, Bool, ◌&&◌, nat_le, List, [], ◌∷◌, ◌++◌, Option, Some, None, Result, Ok, Err, if◌then◌else◌}
+use Rattle.std.specs.List.{list_any}
+use Rattle.std.specs.Str.{bytes_eq}
+use Rattle.toml.specs.Data.{Data, Items, no_items, item, Members, no_members, member, get_member, as_str, as_integer, as_bool, as_array, as_table}
+use Rattle.fk_scenario.specs.Gives.{◌>>=◌, or_rule}
+
+abbrev pub is_among : List (List ℕ) → List ℕ → Bool
+is_among keys key = list_any (bytes_eq key) keys
+
+-- each key of a table is known, else rule 2
+unfoldable pub known : List (List ℕ) → Members → Result (Unit {0}) ℕ
+known keys no_members = Ok tt
+known keys (member key value rest) = if is_among keys key then known keys rest else Err 2
+
+-- what a key has, if it is there; a wrong type is rule 2
+abbrev pub typed : {A : Type 0} → (Data → Option A) → Option Data → Result (Option A) ℕ
+typed read None = Ok None
+typed read (Some value) = or_rule 2 (read value) >>= λ x. Ok (Some x)
+
+unfoldable pub text_in : List ℕ → Members → Result (Option (List ℕ)) ℕ
+text_in key ms = typed as_str (get_member key ms)
+
+unfoldable pub flag_in : List ℕ → Members → Result (Option Bool) ℕ
+flag_in key ms = typed as_bool (get_member key ms)
+
+unfoldable pub integer_in : List ℕ → Members → Result (Option ℤ) ℕ
+integer_in key ms = typed as_integer (get_member key ms)
+
+unfoldable pub array_in : List ℕ → Members → Result (Option Items) ℕ
+array_in key ms = typed as_array (get_member key ms)
+
+unfoldable pub table_in : List ℕ → Members → Result (Option Members) ℕ
+table_in key ms = typed as_table (get_member key ms)
+
+-- a key that isn't there is rule 2 too where it has to be
+unfoldable pub needed_text : List ℕ → Members → Result (List ℕ) ℕ
+needed_text key ms = text_in key ms >>= or_rule 2
+
+unfoldable pub needed_integer : List ℕ → Members → Result ℤ ℕ
+needed_integer key ms = integer_in key ms >>= or_rule 2
+
+-- an array of integers and nothing else, else rule 2
+unfoldable pub integers_from : List ℤ → Items → Result (List ℤ) ℕ
+integers_from done no_items = Ok done
+integers_from done (item value rest) = or_rule 2 (as_integer value) >>= λ z. integers_from (done ++ z ∷ []) rest
+
+-- no array is one of no integers
+abbrev pub integers_of : Option Items → Result (List ℤ) ℕ
+integers_of None = Ok []
+integers_of (Some ds) = integers_from [] ds
+
+unfoldable pub integers_in : List ℕ → Members → Result (List ℤ) ℕ
+integers_in key ms = array_in key ms >>= integers_of
+
+-- a number of a range, else rule 3
+abbrev pub ranged : ℕ → ℕ → ℤ → Result ℕ ℕ
+ranged low high (pos n) = if nat_le low n && nat_le n high then Ok n else Err 3
+ranged low high (negsuc n) = Err 3
+
+-- 0 where no number is written
+abbrev pub up_to : ℕ → Option ℤ → Result ℕ ℕ
+up_to high None = Ok 0
+up_to high (Some z) = ranged 0 high z
+
+unfoldable pub bytes_from : List ℕ → List ℤ → Result (List ℕ) ℕ
+bytes_from done [] = Ok done
+bytes_from done (z ∷ zs) = ranged 0 255 z >>= λ n. bytes_from (done ++ n ∷ []) zs
+
+-- the numbers of a TOML document end at 2^63 - 1
+unfoldable pub words_from : List ℕ → List ℤ → Result (List ℕ) ℕ
+words_from done [] = Ok done
+words_from done (z ∷ zs) = ranged 0 9223372036854775807 z >>= λ n. words_from (done ++ n ∷ []) zs

@@ -1,0 +1,61 @@
+-- The spaces of a document.
+use Rattle.std.specs.Prelude.{ℕ, Bool, false, not, ◌&&◌, ◌||◌, ◌==◌, nat_lt, List, [], ◌∷◌, ◌++◌, length, count_by, Option, Some, None, Result, Ok, Err, if◌then◌else◌, codes}
+use Rattle.std.specs.List.{list_any}
+use Rattle.std.specs.Str.{bytes_eq}
+use Rattle.toml.specs.Data.{Data, Items, no_items, item, Members, as_table}
+use Rattle.fk_scenario.specs.declared.fail.ScenarioError.{ScenarioError}
+use Rattle.fk_scenario.specs.declared.scenario.Program.{Program}
+use Rattle.fk_scenario.specs.declared.scenario.SpaceEntry.{SpaceEntry}
+use Rattle.fk_scenario.specs.Gives.{◌>>=◌, or_rule, unless, placed}
+use Rattle.fk_scenario.specs.Fields.{known, text_in, needed_text, integers_in, bytes_from}
+use Rattle.fk_scenario.specs.Paths.{is_name, path_of, parent}
+use Rattle.fk_scenario.specs.Programs.{index_of}
+
+-- a program's name is written, and is none
+abbrev pub is_no_name : Option (List ℕ) → Bool
+is_no_name None = false
+is_no_name (Some name) = not (is_name name)
+
+-- a space has this path
+abbrev pub has_space : List SpaceEntry → List ℕ → Bool
+has_space spaces path = list_any (λ s. bytes_eq s.path path) spaces
+
+-- the root is there without an entry
+abbrev pub is_there : List SpaceEntry → List ℕ → Bool
+is_there spaces path = length path == 0 || has_space spaces path
+
+-- a space's path is new, and its parent is there; the root's entry comes first
+abbrev pub may_stand : List SpaceEntry → List ℕ → Bool
+may_stand done path = if length path == 0 then length done == 0 else is_there done (parent path) && not (has_space done path)
+
+-- how many spaces besides the root there are
+abbrev pub count_beneath : List SpaceEntry → ℕ
+count_beneath spaces = count_by (λ s. not (length s.path == 0)) spaces
+
+-- 256 spaces are the most, with the root; the text of the root's path adds none
+abbrev pub has_room : List SpaceEntry → List ℕ → Bool
+has_room done text = bytes_eq text (codes "/") || nat_lt (count_beneath done) 255
+
+-- a space among those before it: rule 2, then 3, and so on
+unfoldable pub space_of : List Program → List SpaceEntry → Members → Result SpaceEntry ℕ
+space_of programs done ms = do
+  _ ← known (codes "path" ∷ codes "program" ∷ codes "pages" ∷ []) ms
+  text ← needed_text (codes "path") ms
+  program ← text_in (codes "program") ms
+  pages ← integers_in (codes "pages") ms
+  pages ← bytes_from [] pages
+  _ ← unless 3 (has_room done text)
+  path ← path_of text
+  _ ← unless 4 (not (is_no_name program))
+  _ ← unless 5 (may_stand done path)
+  program ← index_of programs program
+  Ok (record { path = path; program = program; pages = pages; nester = false })
+
+-- an entry that is no table is rule 2
+unfoldable pub space_at : List Program → List SpaceEntry → Data → Result SpaceEntry ℕ
+space_at programs done value = or_rule 2 (as_table value) >>= space_of programs done
+
+-- the spaces after those so far
+unfoldable pub spaces_from : List Program → List SpaceEntry → Items → Result (List SpaceEntry) ScenarioError
+spaces_from programs done no_items = Ok done
+spaces_from programs done (item value rest) = placed 3 (length done) (space_at programs done value) >>= λ space. spaces_from programs (done ++ space ∷ []) rest

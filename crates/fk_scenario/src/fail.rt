@@ -1,0 +1,89 @@
+//! Why no scenario is read.
+ghost use Rattle.std.specs.Prelude.{◌≡◌};
+ghost use Rattle.fk_scenario.specs.declared.fail.Fail.TheVariants as fails;
+ghost use Rattle.fk_scenario.specs.declared.fail.ScenarioFail.TheVariants as ends;
+
+use fk_model::NoMemory;
+use std::alloc::{AllocError, AllocFailed};
+use thiserror::Error;
+
+/// The first refusal of a document: the rule that is broken, the section that breaks it, and the index of
+/// the entry in its section, from 0 on.
+///
+/// Today `rule` is 1 where the bytes are no TOML document and 11 where they are one, and `section` and
+/// `index` are 0.
+#[derive(Clone, Copy, Debug, PartialEq, Eq, Error)]
+#[error("rule {rule} section {section} index {index}")]
+pub struct ScenarioError {
+    pub rule: u8,
+    pub section: u8,
+    pub index: u32,
+}
+
+/// Why there is no scenario.
+#[derive(Clone, Copy, Debug, PartialEq, Eq, Error)]
+pub enum ScenarioFail {
+    /// The bytes are no scenario.
+    #[error("bad scenario {0}")]
+    Scenario(ScenarioError),
+    /// There is no memory for the document or the scenario.
+    #[error("no memory")]
+    NoMemory,
+}
+
+/// Why an entry isn't read: the rule that it breaks.
+#[derive(Drop)]
+pub enum Fail {
+    Rule(u8),
+    NoMemory,
+}
+
+impl Fail {
+    ghost use Rattle.fk_scenario.specs.Gives.{fail_at};
+
+    /// The refusal at a section and an index.
+    pub fn at(self, section: u8, index: u32) -> ScenarioFail
+        ensures { result ≡ fail_at section index self }
+    {
+        match self {
+            Fail::Rule(rule) => ScenarioFail::Scenario(ScenarioError {
+                rule,
+                section,
+                index,
+            }),
+            Fail::NoMemory => ScenarioFail::NoMemory,
+        }
+    }
+}
+
+impl From<AllocError> for Fail {
+    ghost from_gives = { λ _ fail. fail ≡ fails.NoMemory };
+
+    fn from(_: AllocError) -> Fail {
+        Fail::NoMemory
+    }
+}
+
+impl<T: Drop> From<AllocFailed<T>> for Fail {
+    ghost from_gives = { λ _ fail. fail ≡ fails.NoMemory };
+
+    fn from(_: AllocFailed<T>) -> Fail {
+        Fail::NoMemory
+    }
+}
+
+impl From<NoMemory> for Fail {
+    ghost from_gives = { λ _ fail. fail ≡ fails.NoMemory };
+
+    fn from(_: NoMemory) -> Fail {
+        Fail::NoMemory
+    }
+}
+
+impl From<NoMemory> for ScenarioFail {
+    ghost from_gives = { λ _ fail. fail ≡ ends.NoMemory };
+
+    fn from(_: NoMemory) -> ScenarioFail {
+        ScenarioFail::NoMemory
+    }
+}
