@@ -14,6 +14,6 @@ mod text;
 pub use instruction::{Act, Instr, operation};
 pub use list::List;
 pub use memory::NoMemory;
-pub use moves::Rule;
+pub use moves::{Move, Rule, Who};
 pub use number::{number_up_to, plain_number_up_to};
 pub use text::Text;
