@@ -11,8 +11,11 @@
 //! It stands on `fk_model` for want of memory alone.
 #![tactic(auto)]
 
+mod folder_shelf;
+mod mem_shelf;
 mod mem_sink;
 mod mem_source;
+mod shelf;
 mod streams;
 #[cfg(test)]
 mod tests;
@@ -20,8 +23,11 @@ mod traits;
 mod whole;
 
 pub use fk_model::NoMemory;
+pub use folder_shelf::{FILE_LIMIT, FolderShelf};
+pub use mem_shelf::MemShelf;
 pub use mem_sink::MemSink;
 pub use mem_source::MemSource;
+pub use shelf::{Shelf, ShelfFail};
 pub use streams::{StdSink, StdSource};
 pub use traits::{Failed, Sink, Source};
 pub use whole::{LIMIT, ReadError, read_all, write_all};

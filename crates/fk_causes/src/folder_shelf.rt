@@ -1,0 +1,83 @@
+//! The files of the current folder as a shelf. This is the trusted edge.
+ghost use Rattle.std.specs.Prelude.{◌≡◌, None};
+
+use crate::shelf::{Shelf, ShelfFail};
+use std::fs::OpenFile;
+use std::io::{ErrorKind, Read};
+use std::rt::Files;
+use std::{fs, io};
+
+/// The most bytes of a file: 1 GiB.
+pub const FILE_LIMIT: u64 = 1 << 30;
+
+/// The files of the current folder. It tells nothing of what they hold. A file that is missing is
+/// none; one of more than `FILE_LIMIT` bytes counts as a fault, when it is read and when it is put.
+#[derive(Drop)]
+pub struct FolderShelf<'a, R> {
+    rt: &'a R,
+    failed_gets: u64,
+    failed_puts: u64,
+}
+
+impl<'a, R: Files + AllocGlobal> FolderShelf<'a, R> {
+    /// A shelf over the current folder of this runtime. None of its calls has failed yet.
+    pub fn new(rt: &'a R) -> FolderShelf<'a, R>
+        ensures files { ⟦<FolderShelf<'a, R> as Shelf>⟧.files result ≡ None }
+        ensures gets { ⟦<FolderShelf<'a, R> as Shelf>⟧.failed_gets result ≡ 0 }
+        ensures puts { ⟦<FolderShelf<'a, R> as Shelf>⟧.failed_puts result ≡ 0 }
+    {
+        FolderShelf {
+            rt,
+            failed_gets: 0,
+            failed_puts: 0,
+        }
+    }
+}
+
+/// The bytes of a file, or none of a file of more than `FILE_LIMIT` bytes.
+fn read_file<R: Files + AllocGlobal>(rt: &R, name: &str) -> io::Result<Option<Vec<u8>>> {
+    let file = fs::open(rt, name)?;
+    if file.metadata()?.len() > FILE_LIMIT {
+        return Ok(None);
+    }
+    let mut bytes = Vec::new(rt.alloc());
+    file.take(FILE_LIMIT + 1).read_to_end(&mut bytes)?;
+    // The length may have risen meanwhile, or isn't told, as a pipe's.
+    if is_long(&bytes) {
+        Ok(None)
+    } else {
+        Ok(Some(bytes))
+    }
+}
+
+fn is_long(bytes: &[u8]) -> bool {
+    bytes.len() as u64 > FILE_LIMIT
+}
+
+impl<R: Files + AllocGlobal> Shelf for FolderShelf<'_, R> {
+    ghost files = { λ _. None };
+
+    ghost failed_gets = { λ s. s.failed_gets };
+
+    ghost failed_puts = { λ s. s.failed_puts };
+
+    fn get(&mut self, name: &str) -> Result<Option<Vec<u8>>, ShelfFail> {
+        match read_file(self.rt, name) {
+            Ok(Some(bytes)) => Ok(Some(bytes)),
+            Err(error) if error.kind() == ErrorKind::NotFound => Ok(None),
+            Err(error) if error.kind() == ErrorKind::OutOfMemory => Err(ShelfFail::NoMemory),
+            _ => {
+                self.failed_gets = self.failed_gets.saturating_add(1);
+                Err(ShelfFail::Failed)
+            }
+        }
+    }
+
+    fn put(&mut self, name: &str, bytes: &[u8]) -> Result<(), ShelfFail> {
+        if !is_long(bytes) && fs::write(self.rt, name, bytes).is_ok() {
+            return Ok(());
+        }
+        self.failed_puts = self.failed_puts.saturating_add(1);
+        Err(ShelfFail::Failed)
+    }
+}
