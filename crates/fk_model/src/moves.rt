@@ -3,7 +3,7 @@ use crate::{Stage, Turn, Who};
 
 /// A move: the thread that moves, or the port of the native server that acts, and the thread that
 /// it picks where it has to choose one.
-#[derive(Clone, Copy, PartialEq, Eq)]
+#[derive(Clone, Copy, Debug, PartialEq, Eq)]
 pub struct Move {
     pub who: Who,
     pub pick: Option<Who>,
@@ -68,22 +68,6 @@ pub enum Said {
     Ended {
         port: Who,
     },
-}
-
-/// An object's name: the birth number of the space in which it lies, and its slot there. The root
-/// has the birth number 0.
-#[derive(Clone, Copy, Debug, PartialEq, Eq)]
-pub struct Who {
-    pub space: u32,
-    pub slot: u8,
-}
-
-/// A move: the thread that moves, or the port of the native server that acts, and the thread that it
-/// picks where its kind of move picks one.
-#[derive(Clone, Copy, Debug, PartialEq, Eq)]
-pub struct Move {
-    pub who: Who,
-    pub pick: Option<Who>,
 }
 
 /// The rules of native servers that reply.
