@@ -32,3 +32,4 @@ pub mod Cut
 pub mod Closed
 pub mod Further
 pub mod Seen
+pub mod CutLaws
