@@ -25,3 +25,5 @@ pub mod Rules
 pub mod Valid
 pub mod Sound
 pub mod Runs
+pub mod Worked
+pub mod WorkedLocks
