@@ -27,3 +27,4 @@ pub mod Sound
 pub mod Runs
 pub mod Worked
 pub mod WorkedLocks
+pub mod WorkedTalks

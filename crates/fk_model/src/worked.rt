@@ -1,65 +1,7 @@
 //! Worked examples of the machine: small worlds, and what moves make of them.
-#![tactic(auto, unfolding(crate::specs::WorkedLocks::locks))]
+//!
+//! Each example is a function that does nothing and ensures what is so. The values are reckoned by hand from the rules;
+//! the prover computes the moves and compares.
 
-ghost use Rattle.std.specs.Prelude.{◌≡◌, [], ◌∷◌, ◌++◌, Some, true, false, replicate};
-ghost use Rattle.fk_model.specs.Objects.Body.{Mutex};
-ghost use Rattle.fk_model.specs.Runs.{run, IsLegal};
-ghost use Rattle.fk_model.specs.Worked.{IsReadyTo, goes, picks, times, running, calling, halted, stopped, registers_at, registers_from, numbers_from};
-ghost use Rattle.fk_model.specs.WorkedLocks.{alone_with, division, countdown, two_lock, lock_twice, one_sleeps, sleeps, and_stopped, and_read, and_signalled, and_let_go, none_sleeps, thread_0, thread_1, mutex};
-
-/// A program subtracts past zero, shifts all bits out, and divides by the zero that is left: it halts with code 1.
-pub fn a_zero_divisor_halts_a_program()
-    ensures ready { IsLegal (alone_with division) (times 6 (goes thread_0)) }
-    ensures halts { (run (alone_with division) (times 6 (goes thread_0))).body thread_0 ≡ Some (halted 5 (0 ∷ 3 ∷ 5 ∷ 18446744073709551614 ∷ 64 ∷ []) 1) }
-{}
-
-/// A loop counts a register down to zero, and then the program halts.
-pub fn a_loop_ends_at_zero()
-    ensures ready { IsLegal (alone_with countdown) (times 6 (goes thread_0)) }
-    ensures jumps { (run (alone_with countdown) (times 3 (goes thread_0))).body thread_0 ≡ Some (running 1 (0 ∷ 1 ∷ [])) }
-    ensures halts { (run (alone_with countdown) (times 6 (goes thread_0))).body thread_0 ≡ Some (halted 3 [] 0) }
-{}
-
-/// Two threads lock one mutex. The first has it and goes on; the second stays in its call and isn't ready.
-pub fn one_thread_has_the_mutex_and_the_other_waits()
-    ensures ready { IsLegal two_lock lock_twice }
-    ensures first { (run two_lock lock_twice).body thread_0 ≡ Some (running 3 (0 ∷ 5 ∷ [])) }
-    ensures locked { (run two_lock lock_twice).body mutex ≡ Some (Mutex true) }
-    ensures second { (run two_lock lock_twice).body thread_1 ≡ Some (calling 2 (21 ∷ 5 ∷ [])) }
-    ensures shown { registers_at (run two_lock lock_twice) thread_1 ≡ registers_from (21 ∷ 5 ∷ []) }
-    ensures waits { ¬ IsReadyTo (run two_lock lock_twice) (goes thread_1) }
-    ensures goes_on { IsReadyTo (run two_lock lock_twice) (goes thread_0) }
-    ensures halts { (run two_lock (lock_twice ++ goes thread_0 ∷ [])).body thread_0 ≡ Some (halted 3 (0 ∷ 5 ∷ []) 0) }
-{}
-
-/// A thread that waits for a condition lets its mutex go and sleeps, also while it is stopped. A signal turns its call
-/// into one that locks the mutex, and that is made once the thread may go on.
-pub fn a_signal_wakes_a_stopped_sleeper()
-    ensures ready { IsLegal one_sleeps and_let_go }
-    ensures sleeps { (run one_sleeps sleeps).body thread_0 ≡ Some (calling 40 (25 ∷ 6 ∷ 5 ∷ [])) }
-    ensures unlocked { (run one_sleeps sleeps).body mutex ≡ Some (Mutex false) }
-    ensures sleeps_on { ¬ IsReadyTo (run one_sleeps sleeps) (goes thread_0) }
-    ensures stopped { (run one_sleeps and_stopped).body thread_0 ≡ Some (stopped 1 (calling 40 (25 ∷ 6 ∷ 5 ∷ []))) }
-    ensures stopper { (run one_sleeps and_stopped).body thread_1 ≡ Some (running 3 []) }
-    ensures no_pick { ¬ IsReadyTo (run one_sleeps (and_read ++ times 3 (goes thread_1))) (goes thread_1) }
-    ensures signalled { (run one_sleeps and_signalled).body thread_0 ≡ Some (stopped 1 (calling 40 (21 ∷ 5 ∷ 5 ∷ []))) }
-    ensures shown { registers_at (run one_sleeps and_signalled) thread_0 ≡ registers_from (21 ∷ 5 ∷ 5 ∷ []) }
-    ensures signaller { (run one_sleeps and_signalled).body thread_1 ≡ Some (running 11 (0 ∷ 6 ∷ 0 ∷ 128 ∷ [])) }
-    ensures waits { ¬ IsReadyTo (run one_sleeps and_signalled) (goes thread_0) }
-    ensures let_go { (run one_sleeps and_let_go).body thread_0 ≡ Some (calling 40 (21 ∷ 5 ∷ 5 ∷ [])) }
-    ensures locks { (run one_sleeps (and_let_go ++ goes thread_0 ∷ [])).body thread_0 ≡ Some (running 41 (0 ∷ 5 ∷ 5 ∷ [])) }
-    ensures locked { (run one_sleeps (and_let_go ++ goes thread_0 ∷ [])).body mutex ≡ Some (Mutex true) }
-    ensures goes_on { IsReadyTo (run one_sleeps and_let_go) (goes thread_0) }
-{}
-
-/// The record of a stopped sleeper: its kind, its registers, its counter, that it calls, and its stop count.
-pub fn the_record_of_a_stopped_sleeper()
-    ensures { (run one_sleeps and_read).page (1 ∷ []) 2 ≡ Some ((8 ∷ 25 ∷ 6 ∷ 5 ∷ []) ++ (replicate 13 0 ++ ((40 ∷ 1 ∷ 0 ∷ 1 ∷ []) ++ (replicate 11 0 ++ numbers_from 1160 32)))) }
-{}
-
-/// A signal that nobody sleeps on is done at once. It has no thread to pick.
-pub fn a_signal_without_a_sleeper_is_done_at_once()
-    ensures ready { IsReadyTo none_sleeps (goes thread_1) }
-    ensures done { (run none_sleeps (goes thread_1 ∷ [])).body thread_1 ≡ Some (running 1 (0 ∷ 6 ∷ [])) }
-    ensures no_pick { ¬ IsReadyTo none_sleeps (picks thread_1 thread_0) }
-{}
+pub mod locks;
+pub mod talks;
