@@ -28,3 +28,4 @@ pub mod Runs
 pub mod Worked
 pub mod WorkedLocks
 pub mod WorkedTalks
+pub mod WorkedServers

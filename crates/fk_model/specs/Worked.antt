@@ -128,6 +128,10 @@ accepts port client = record { mover = port; pick = Some client; ask = asks.Acce
 abbrev pub hands_over : Path → Event
 hands_over port = record { mover = port; pick = None; ask = asks.Over }
 
+-- it gives its client words
+abbrev pub gives : Path → List ℕ → Event
+gives port words = record { mover = port; pick = None; ask = asks.Give (filled_to 64 words) (length words) }
+
 abbrev pub IsReadyTo : World → Event → Type 0
 IsReadyTo w e = IsReady w e.mover e.pick e.ask
 

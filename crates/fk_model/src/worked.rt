@@ -4,4 +4,5 @@
 //! the prover computes the moves and compares.
 
 pub mod locks;
+pub mod servers;
 pub mod talks;
