@@ -29,3 +29,4 @@ pub mod Worked
 pub mod WorkedLocks
 pub mod WorkedTalks
 pub mod WorkedServers
+pub mod WorkedMemory

@@ -4,5 +4,6 @@
 //! the prover computes the moves and compares.
 
 pub mod locks;
+pub mod memory;
 pub mod servers;
 pub mod talks;
