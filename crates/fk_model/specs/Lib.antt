@@ -30,3 +30,4 @@ pub mod WorkedLocks
 pub mod WorkedTalks
 pub mod WorkedServers
 pub mod WorkedMemory
+pub mod WorkedObjects

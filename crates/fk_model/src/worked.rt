@@ -5,5 +5,6 @@
 
 pub mod locks;
 pub mod memory;
+pub mod objects;
 pub mod servers;
 pub mod talks;
