@@ -31,3 +31,4 @@ pub mod WorkedTalks
 pub mod WorkedServers
 pub mod WorkedMemory
 pub mod WorkedObjects
+pub mod WorkedHolds
