@@ -32,3 +32,5 @@ pub mod WorkedServers
 pub mod WorkedMemory
 pub mod WorkedObjects
 pub mod WorkedHolds
+pub mod WorkedStates
+pub mod WorkedPorters

@@ -7,5 +7,7 @@ pub mod holds;
 pub mod locks;
 pub mod memory;
 pub mod objects;
+pub mod porters;
 pub mod servers;
+pub mod states;
 pub mod talks;
