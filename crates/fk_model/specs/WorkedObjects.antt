@@ -47,12 +47,14 @@ destroyer = 0 ∷ []
 abbrev pub server : Path
 server = 1 ∷ []
 
-unfoldable pub destroying : World
-destroying = world_of
-    ((destroyer, calling 0 (2 ∷ 256 ∷ 2 ∷ [])) ∷ (server, calling 30 (50 ∷ 0 ∷ 0 ∷ 0 ∷ 64 ∷ 10 ∷ [])) ∷ (3 ∷ [], Port None false)
+abbrev pub doomed : List (Path × Body)
+doomed =
+    (destroyer, calling 0 (2 ∷ 256 ∷ 2 ∷ [])) ∷ (server, calling 30 (50 ∷ 0 ∷ 0 ∷ 0 ∷ 64 ∷ 10 ∷ [])) ∷ (3 ∷ [], Port None false)
     ∷ (2 ∷ [], Space 1 None) ∷ (0 ∷ 2 ∷ [], Reference (At (3 ∷ []))) ∷ (1 ∷ 2 ∷ [], with_talk (served_by (3 ∷ []) server turns.Client 0) (running 20 [])) ∷ (4 ∷ 2 ∷ [], Mutex false)
-    ∷ (5 ∷ [], Reference (At (2 ∷ []))) ∷ (6 ∷ [], Reference (At (1 ∷ 2 ∷ []))) ∷ [])
-    (numbered [] 1000 1 ∷ numbered (2 ∷ []) 2000 0 ∷ [])
+    ∷ (5 ∷ [], Reference (At (2 ∷ []))) ∷ (6 ∷ [], Reference (At (1 ∷ 2 ∷ []))) ∷ []
+
+unfoldable pub destroying : World
+destroying = world_of doomed (numbered [] 1000 1 ∷ numbered (2 ∷ []) 2000 0 ∷ [])
 
 -- after so many stages
 unfoldable pub destroyed : ℕ → World

@@ -65,6 +65,7 @@ pub fn references_are_pointed_and_cleared()
 /// A space is destroyed stage by stage, the objects in it by rising slot and then itself, with its pages. The end of a
 /// thread in it ends its server's call. Pointers to what was destroyed are dead.
 pub fn a_space_is_destroyed_stage_by_stage()
+    ensures ready { IsLegal destroying (times 4 (goes destroyer)) }
     ensures first { (destroyed 1).body (0 ∷ 2 ∷ []) ≡ None }
     ensures second_there { (destroyed 1).body (1 ∷ 2 ∷ []) ≡ destroying.body (1 ∷ 2 ∷ []) }
     ensures server_there { (destroyed 1).body server ≡ Some (calling 30 (50 ∷ 0 ∷ 0 ∷ 0 ∷ 64 ∷ 10 ∷ [])) }
@@ -88,19 +89,20 @@ pub fn a_space_is_destroyed_stage_by_stage()
 /// A port gets another slot, and each reference to it follows. A slot that is taken is refused, and a space that has an
 /// object in it.
 pub fn references_follow_a_renamed_port()
+    ensures ready { IsLegal renaming (goes (renamer 10) ∷ goes (renamer 11) ∷ goes (renamer 12) ∷ []) }
     ensures done { (run renaming (goes (renamer 10) ∷ [])).body (renamer 10) ≡ Some (running 1 (0 ∷ 256 ∷ 4 ∷ 7 ∷ [])) }
     ensures from { (run renaming (goes (renamer 10) ∷ [])).body (4 ∷ 1 ∷ []) ≡ None }
     ensures to { (run renaming (goes (renamer 10) ∷ [])).body (7 ∷ 1 ∷ []) ≡ Some (Port (Some 20) false) }
     ensures first { (run renaming (goes (renamer 10) ∷ [])).body (5 ∷ 1 ∷ []) ≡ Some (Reference (At (7 ∷ 1 ∷ []))) }
     ensures second { (run renaming (goes (renamer 10) ∷ [])).body (6 ∷ 1 ∷ []) ≡ Some (Reference (At (7 ∷ 1 ∷ []))) }
     ensures far { (run renaming (goes (renamer 10) ∷ [])).body (0 ∷ 2 ∷ []) ≡ Some (Reference (At (7 ∷ 1 ∷ []))) }
-    ensures ready { IsLegal (run renaming (goes (renamer 10) ∷ [])) (goes (renamer 11) ∷ goes (renamer 12) ∷ []) }
     ensures occupied { (run renaming (goes (renamer 10) ∷ goes (renamer 11) ∷ [])).body (renamer 11) ≡ Some (running 1 (4 ∷ 256 ∷ 7 ∷ 5 ∷ [])) }
     ensures not_empty { (run renaming (goes (renamer 12) ∷ [])).body (renamer 12) ≡ Some (running 1 (17 ∷ 256 ∷ 8 ∷ 9 ∷ [])) }
 {}
 
 /// The set of a port follows its renamed port set.
 pub fn a_port_stays_in_its_renamed_port_set()
+    ensures ready { IsReadyTo renaming (goes (renamer 13)) }
     ensures set { (run renaming (goes (renamer 13) ∷ [])).body (21 ∷ 1 ∷ []) ≡ Some Portset }
     ensures member { (run renaming (goes (renamer 13) ∷ [])).body (4 ∷ 1 ∷ []) ≡ Some (Port (Some 21) false) }
 {}
