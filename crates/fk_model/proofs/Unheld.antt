@@ -18,6 +18,7 @@ use Rattle.fk_model.specs.Freezing.{changed_pointers, made_pointers, body_pointe
 use Rattle.fk_model.specs.Moves.{outcome, step, stepped, GoesAllowed, IsReady}
 use Rattle.fk_model.specs.Runs.{Event, after, IsLegal}
 use Rattle.fk_model.specs.Worked.{body_in}
+use Rattle.fk_model.proofs.Tested.{and_left, and_right}
 
 -- nobody holds a space
 abbrev pub IsUnheld : World → Type 0
@@ -160,14 +161,6 @@ change-unheld (Move x slot) calm w free q =
         (either-unheld (same_path q x) None (option_map (through (following x (slot ∷ parent x)) q) (w.body q)) refl (swept-unheld (following x (slot ∷ parent x)) q (w.body q) (free q)))
 change-unheld (PutPage space page words) calm w free q = free q
 change-unheld (DropPage space page) calm w free q = free q
-
-and_left : (a b : Bool) → (a && b) ≡ true → a ≡ true
-and_left true b h = refl
-and_left false b h = h
-
-and_right : (a b : Bool) → (a && b) ≡ true → b ≡ true
-and_right true b h = h
-and_right false b h = cc
 
 changes-unheld : (cs : List Change) → list_all is_calm cs ≡ true → (w : World) → IsUnheld w → IsUnheld (apply_all cs w)
 unfolding apply_all

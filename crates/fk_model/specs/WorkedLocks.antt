@@ -60,6 +60,9 @@ cond = 6 ∷ 1 ∷ []
 unfoldable pub one_sleeps : World
 one_sleeps = world_of ((1 ∷ [], Space 1 None) ∷ (mutex, Mutex true) ∷ (cond, Cond) ∷ (thread_0, calling 40 (24 ∷ 6 ∷ 5 ∷ [])) ∷ (thread_1, running 0 []) ∷ []) (page_with (1 ∷ []) 0 stops_and_signals ∷ numbered (1 ∷ []) 1000 2 ∷ [])
 
+abbrev pub sleeper_and_signaller : List Path
+sleeper_and_signaller = thread_0 ∷ thread_1 ∷ mutex ∷ []
+
 -- it sleeps; the second thread stops it, reads its state, signals to it, and lets it go
 abbrev pub sleeps : List Event
 sleeps = goes thread_0 ∷ []
@@ -75,6 +78,9 @@ and_signalled = and_read ++ (times 3 (goes thread_1) ++ picks thread_1 thread_0 
 
 abbrev pub and_let_go : List Event
 and_let_go = and_signalled ++ times 4 (goes thread_1)
+
+abbrev pub and_locked : List Event
+and_locked = and_let_go ++ goes thread_0 ∷ []
 
 -- nobody sleeps on the condition
 unfoldable pub none_sleeps : World

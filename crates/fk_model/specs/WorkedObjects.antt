@@ -56,6 +56,13 @@ doomed =
 unfoldable pub destroying : World
 destroying = world_of doomed (numbered [] 1000 1 ∷ numbered (2 ∷ []) 2000 0 ∷ [])
 
+-- the objects of /2, and /2 itself; and beside it the server, the references to /2 and to the thread in it, and the caller
+abbrev pub in_2 : List Path
+in_2 = (0 ∷ 2 ∷ []) ∷ (1 ∷ 2 ∷ []) ∷ (4 ∷ 2 ∷ []) ∷ (2 ∷ []) ∷ []
+
+abbrev pub beside_2 : List Path
+beside_2 = server ∷ (5 ∷ []) ∷ (6 ∷ []) ∷ destroyer ∷ []
+
 -- after so many stages
 unfoldable pub destroyed : ℕ → World
 destroyed n = run destroying (times n (goes destroyer))
@@ -73,6 +80,10 @@ renaming = world_of
     ∷ (renamer 10, calling 0 (3 ∷ 256 ∷ 4 ∷ 7 ∷ [])) ∷ (renamer 11, calling 0 (3 ∷ 256 ∷ 7 ∷ 5 ∷ [])) ∷ (renamer 12, calling 0 (3 ∷ 256 ∷ 8 ∷ 9 ∷ []))
     ∷ (renamer 13, calling 0 (3 ∷ 256 ∷ 20 ∷ 21 ∷ [])) ∷ [])
     []
+
+-- the renamed port's old and new slot, and the three references to it
+abbrev pub port_and_references : List Path
+port_and_references = (4 ∷ 1 ∷ []) ∷ (7 ∷ 1 ∷ []) ∷ (5 ∷ 1 ∷ []) ∷ (6 ∷ 1 ∷ []) ∷ (0 ∷ 2 ∷ []) ∷ []
 
 -- ---- to compute in these worlds is to unfold these
 unfoldable pub objects : Unit {0}

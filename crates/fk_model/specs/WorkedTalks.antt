@@ -104,6 +104,9 @@ unfoldable pub kept : World
 kept = world_of (kept_by_root ++ talkers (with_talk (clients_turn 0) (calling 20 (sending 182 130))) (calling 30 (receiving 315 200)))
     (page_with [] 0 waits_and_gives ∷ (map (numbered (1 ∷ []) 1000) (2 ∷ 3 ∷ 4 ∷ 5 ∷ 7 ∷ []) ++ map (numbered (2 ∷ []) 2000) (4 ∷ 6 ∷ [])))
 
+abbrev pub talkers_and_keeper : List Path
+talkers_and_keeper = client ∷ server ∷ keeper ∷ []
+
 -- the receiver missed page 5 by a write
 abbrev pub missed_5 : Option Peer → Fault
 missed_5 taker = record { page = 5; write = true; port = At (9 ∷ []); taker = taker }
@@ -124,6 +127,10 @@ and_given = and_taken ++ times 6 (goes keeper)
 abbrev pub and_mended : List Event
 and_mended = and_given ++ times 3 (goes keeper)
 
+-- and then the client goes on, so many times
+unfoldable pub mended_and_sent : ℕ → World
+mended_and_sent n = run kept (and_mended ++ times n (goes client))
+
 -- ---- a client calls a port that a server waits at: the port is in the set of slot 8 of /2
 
 unfoldable pub meeting : World
@@ -143,5 +150,5 @@ ending = world_of (talkers (with_talk (servers_turn 0) (calling 20 (36 ∷ 9 ∷
 
 -- ---- to compute in these worlds is to unfold these
 unfoldable pub talks : Unit {0}
-unfolding machine message sent sent_to_few linked_in unlinked_in watched kept meeting replying ending
+unfolding machine message sent sent_to_few linked_in unlinked_in watched kept mended_and_sent meeting replying ending
 talks = tt

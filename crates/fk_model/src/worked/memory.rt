@@ -7,7 +7,7 @@ ghost use Rattle.fk_model.specs.Runs.{run, IsLegal};
 ghost use Rattle.fk_model.specs.Worked.{IsReadyTo, goes, running, calling, halted, with_talk, with_fault, numbers_from};
 ghost use Rattle.fk_model.specs.WorkedMemory.{thread, giving_and_taking, two_pages, loader, sender, to_root, chain_to, loop, window, all_pages, missing};
 
-/// A page of zeros is given once. It is taken once: its words go to the caller's page.
+/// A page of zeros is given once. It is taken once: its words go to the caller's page. There is no page 256 to give.
 pub fn a_page_is_given_once_and_taken_once()
     ensures ready { IsLegal giving_and_taking (goes (thread 0) ∷ goes (thread 1) ∷ goes (thread 2) ∷ goes (thread 3) ∷ []) }
     ensures given { (run giving_and_taking (goes (thread 0) ∷ [])).body (thread 0) ≡ Some (running 1 (0 ∷ 256 ∷ 5 ∷ 18446744073709551615 ∷ [])) }
@@ -16,13 +16,8 @@ pub fn a_page_is_given_once_and_taken_once()
     ensures taken { (run giving_and_taking (goes (thread 0) ∷ goes (thread 2) ∷ [])).body (thread 2) ≡ Some (running 1 (0 ∷ 256 ∷ 5 ∷ 64 ∷ [])) }
     ensures gone { (run giving_and_taking (goes (thread 0) ∷ goes (thread 2) ∷ [])).page (1 ∷ []) 5 ≡ None }
     ensures moved { (run giving_and_taking (goes (thread 0) ∷ goes (thread 2) ∷ [])).page (1 ∷ []) 1 ≡ Some (replicate 64 0) }
+    ensures no_page { (run giving_and_taking (goes (thread 4) ∷ [])).body (thread 4) ≡ Some (running 1 (12 ∷ 256 ∷ 256 ∷ [])) }
     ensures none { (run giving_and_taking (goes (thread 0) ∷ goes (thread 2) ∷ goes (thread 3) ∷ [])).body (thread 3) ≡ Some (running 1 (16 ∷ 256 ∷ 5 ∷ 64 ∷ [])) }
-{}
-
-/// There is no page 256 to give.
-pub fn a_space_has_256_pages()
-    ensures ready { IsReadyTo giving_and_taking (goes (thread 4)) }
-    ensures refused { (run giving_and_taking (goes (thread 4) ∷ [])).body (thread 4) ≡ Some (running 1 (12 ∷ 256 ∷ 256 ∷ [])) }
 {}
 
 /// A page that is read stays, and one that is given has the words of the caller's page, which stays too.

@@ -2,11 +2,12 @@
 #![tactic(auto, unfolding(crate::specs::WorkedObjects::objects))]
 
 ghost use Rattle.std.specs.Prelude.{◌≡◌, [], ◌∷◌, ◌++◌, Some, None, true, false};
+ghost use Rattle.fk_model.specs.declared.thread.Turn.TheVariants as turns;
 ghost use Rattle.fk_model.specs.Places.Ptr.{At, Null, Dead};
 ghost use Rattle.fk_model.specs.Objects.Body.{Mutex, Port, Portset, Space, Reference};
 ghost use Rattle.fk_model.specs.Runs.{run, IsLegal};
-ghost use Rattle.fk_model.specs.Worked.{IsReadyTo, goes, times, running, calling, stopped, with_talk, numbers_from};
-ghost use Rattle.fk_model.specs.WorkedObjects.{caller, alone_in, locating, searcher, searching, with_references, destroyer, server, destroying, destroyed, renamer, renaming};
+ghost use Rattle.fk_model.specs.Worked.{scene, served_by, registers_at, registers_from, IsReadyTo, goes, times, running, calling, stopped, with_talk, numbers_from};
+ghost use Rattle.fk_model.specs.WorkedObjects.{caller, alone_in, locating, searcher, searching, with_references, destroyer, server, destroying, destroyed, in_2, beside_2, renamer, renaming, port_and_references};
 
 /// What a reference leads to lies in slot 4 of the caller's space, and deeper there.
 pub fn a_reference_is_located()
@@ -66,24 +67,20 @@ pub fn references_are_pointed_and_cleared()
 /// thread in it ends its server's call. Pointers to what was destroyed are dead.
 pub fn a_space_is_destroyed_stage_by_stage()
     ensures ready { IsLegal destroying (times 4 (goes destroyer)) }
-    ensures first { (destroyed 1).body (0 ∷ 2 ∷ []) ≡ None }
-    ensures second_there { (destroyed 1).body (1 ∷ 2 ∷ []) ≡ destroying.body (1 ∷ 2 ∷ []) }
-    ensures server_there { (destroyed 1).body server ≡ Some (calling 30 (50 ∷ 0 ∷ 0 ∷ 0 ∷ 64 ∷ 10 ∷ [])) }
-    ensures caller_1 { (destroyed 1).body destroyer ≡ Some (calling 0 (2 ∷ 256 ∷ 2 ∷ [])) }
-    ensures second { (destroyed 2).body (1 ∷ 2 ∷ []) ≡ None }
-    ensures server_ended { (destroyed 2).body server ≡ Some (running 31 (14 ∷ 0 ∷ 0 ∷ 0 ∷ 64 ∷ 10 ∷ [])) }
-    ensures dead_thread { (destroyed 2).body (6 ∷ []) ≡ Some (Reference Dead) }
-    ensures third_there { (destroyed 2).body (4 ∷ 2 ∷ []) ≡ Some (Mutex false) }
-    ensures caller_2 { (destroyed 2).body destroyer ≡ Some (calling 0 (2 ∷ 256 ∷ 2 ∷ [])) }
-    ensures third { (destroyed 3).body (4 ∷ 2 ∷ []) ≡ None }
-    ensures space_there { (destroyed 3).body (2 ∷ []) ≡ Some (Space 1 None) }
-    ensures page_there { (destroyed 3).page (2 ∷ []) 0 ≡ Some (numbers_from 2000 64) }
-    ensures caller_3 { (destroyed 3).body destroyer ≡ Some (calling 0 (2 ∷ 256 ∷ 2 ∷ [])) }
-    ensures fourth { (destroyed 4).body (2 ∷ []) ≡ None }
-    ensures no_page { (destroyed 4).page (2 ∷ []) 0 ≡ None }
-    ensures other_page { (destroyed 4).page [] 1 ≡ Some (numbers_from 1064 64) }
-    ensures dead_space { (destroyed 4).body (5 ∷ []) ≡ Some (Reference Dead) }
-    ensures done { (destroyed 4).body destroyer ≡ Some (running 1 (0 ∷ 256 ∷ 2 ∷ [])) }
+    ensures first { scene in_2 (destroyed 1) ≡ None ∷ Some (with_talk (served_by (3 ∷ []) server turns.Client 0) (running 20 [])) ∷ Some (Mutex false) ∷ Some (Space 1 None) ∷ [] }
+    ensures beside_1 { scene beside_2 (destroyed 1) ≡ Some (calling 30 (50 ∷ 0 ∷ 0 ∷ 0 ∷ 64 ∷ 10 ∷ [])) ∷ Some (Reference (At (2 ∷ []))) ∷ Some (Reference (At (1 ∷ 2 ∷ []))) ∷ Some (calling 0 (2 ∷ 256 ∷ 2 ∷ [])) ∷ [] }
+    ensures second { scene in_2 (destroyed 2) ≡ None ∷ None ∷ Some (Mutex false) ∷ Some (Space 1 None) ∷ [] }
+    ensures beside_2 { scene beside_2 (destroyed 2) ≡ Some (running 31 (14 ∷ 0 ∷ 0 ∷ 0 ∷ 64 ∷ 10 ∷ [])) ∷ Some (Reference (At (2 ∷ []))) ∷ Some (Reference Dead) ∷ Some (calling 0 (2 ∷ 256 ∷ 2 ∷ [])) ∷ [] }
+    ensures third { scene in_2 (destroyed 3) ≡ None ∷ None ∷ None ∷ Some (Space 1 None) ∷ [] }
+    ensures shown { registers_at (destroyed 3) destroyer ≡ registers_from (2 ∷ 256 ∷ 2 ∷ []) }
+    ensures fourth { scene (in_2 ++ beside_2) (destroyed 4) ≡ None ∷ None ∷ None ∷ None ∷ Some (running 31 (14 ∷ 0 ∷ 0 ∷ 0 ∷ 64 ∷ 10 ∷ [])) ∷ Some (Reference Dead) ∷ Some (Reference Dead) ∷ Some (running 1 (0 ∷ 256 ∷ 2 ∷ [])) ∷ [] }
+{}
+
+/// The pages of a space are there until it is destroyed itself, and no page of another goes.
+pub fn a_spaces_pages_go_with_it()
+    ensures there { (destroyed 3).page (2 ∷ []) 0 ≡ Some (numbers_from 2000 64) }
+    ensures gone { (destroyed 4).page (2 ∷ []) 0 ≡ None }
+    ensures other { (destroyed 4).page [] 1 ≡ Some (numbers_from 1064 64) }
 {}
 
 /// A port gets another slot, and each reference to it follows. A slot that is taken is refused, and a space that has an
@@ -91,11 +88,7 @@ pub fn a_space_is_destroyed_stage_by_stage()
 pub fn references_follow_a_renamed_port()
     ensures ready { IsLegal renaming (goes (renamer 10) ∷ goes (renamer 11) ∷ goes (renamer 12) ∷ []) }
     ensures done { (run renaming (goes (renamer 10) ∷ [])).body (renamer 10) ≡ Some (running 1 (0 ∷ 256 ∷ 4 ∷ 7 ∷ [])) }
-    ensures from { (run renaming (goes (renamer 10) ∷ [])).body (4 ∷ 1 ∷ []) ≡ None }
-    ensures to { (run renaming (goes (renamer 10) ∷ [])).body (7 ∷ 1 ∷ []) ≡ Some (Port (Some 20) false) }
-    ensures first { (run renaming (goes (renamer 10) ∷ [])).body (5 ∷ 1 ∷ []) ≡ Some (Reference (At (7 ∷ 1 ∷ []))) }
-    ensures second { (run renaming (goes (renamer 10) ∷ [])).body (6 ∷ 1 ∷ []) ≡ Some (Reference (At (7 ∷ 1 ∷ []))) }
-    ensures far { (run renaming (goes (renamer 10) ∷ [])).body (0 ∷ 2 ∷ []) ≡ Some (Reference (At (7 ∷ 1 ∷ []))) }
+    ensures follow { scene port_and_references (run renaming (goes (renamer 10) ∷ [])) ≡ None ∷ Some (Port (Some 20) false) ∷ Some (Reference (At (7 ∷ 1 ∷ []))) ∷ Some (Reference (At (7 ∷ 1 ∷ []))) ∷ Some (Reference (At (7 ∷ 1 ∷ []))) ∷ [] }
     ensures occupied { (run renaming (goes (renamer 10) ∷ goes (renamer 11) ∷ [])).body (renamer 11) ≡ Some (running 1 (4 ∷ 256 ∷ 7 ∷ 5 ∷ [])) }
     ensures not_empty { (run renaming (goes (renamer 12) ∷ [])).body (renamer 12) ≡ Some (running 1 (17 ∷ 256 ∷ 8 ∷ 9 ∷ [])) }
 {}
@@ -103,6 +96,5 @@ pub fn references_follow_a_renamed_port()
 /// The set of a port follows its renamed port set.
 pub fn a_port_stays_in_its_renamed_port_set()
     ensures ready { IsReadyTo renaming (goes (renamer 13)) }
-    ensures set { (run renaming (goes (renamer 13) ∷ [])).body (21 ∷ 1 ∷ []) ≡ Some Portset }
-    ensures member { (run renaming (goes (renamer 13) ∷ [])).body (4 ∷ 1 ∷ []) ≡ Some (Port (Some 21) false) }
+    ensures set { scene ((20 ∷ 1 ∷ []) ∷ (21 ∷ 1 ∷ []) ∷ (4 ∷ 1 ∷ []) ∷ []) (run renaming (goes (renamer 13) ∷ [])) ≡ None ∷ Some Portset ∷ Some (Port (Some 21) false) ∷ [] }
 {}

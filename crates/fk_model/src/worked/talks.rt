@@ -5,8 +5,8 @@ ghost use Rattle.std.specs.Prelude.{◌≡◌, [], ◌∷◌, ◌++◌, Some, No
 ghost use Rattle.fk_model.specs.Places.Ptr.{At};
 ghost use Rattle.fk_model.specs.Objects.Peer.{Server};
 ghost use Rattle.fk_model.specs.Runs.{run, IsLegal};
-ghost use Rattle.fk_model.specs.Worked.{IsReadyTo, with_fault, goes, picks, times, running, calling, with_talk, registers_at, registers_from, numbers_from};
-ghost use Rattle.fk_model.specs.WorkedTalks.{client, server, clients_turn, servers_turn, sending, receiving, message, sent, AreAt, sent_to_few, linked_in, unlinked_in, reader, second_reader, watched, sent_and_read, keeper, kept, missed_5, arrived, and_missed, and_taken, and_given, and_mended, meeting, port, replying, ending};
+ghost use Rattle.fk_model.specs.Worked.{scene, IsReadyTo, with_fault, goes, picks, times, running, calling, with_talk, registers_at, registers_from, numbers_from};
+ghost use Rattle.fk_model.specs.WorkedTalks.{client, server, clients_turn, servers_turn, sending, receiving, message, sent, AreAt, sent_to_few, linked_in, unlinked_in, reader, second_reader, watched, sent_and_read, keeper, kept, missed_5, arrived, and_missed, and_taken, and_given, and_mended, talkers_and_keeper, mended_and_sent, meeting, port, replying, ending};
 
 /// A message of 130 words goes in five moves: none moves more words than a page, of either side, has left from the
 /// address on. Both sides' registers say at any time what is left.
@@ -54,22 +54,13 @@ pub fn a_full_receiver_is_ended_and_the_sender_stays()
     ensures waits { ¬ IsReadyTo (sent_to_few 2) (goes client) }
 {}
 
-/// Without a talk Over is refused NOTLINKED.
-pub fn over_without_a_talk_is_refused()
+/// Without a talk Over is refused NOTLINKED; at the client's own turn its Receive is refused WRONGTURN; and a client with
+/// a talk is refused LINKED where it connects once more.
+pub fn a_clients_calls_ask_for_its_talk()
     ensures ready { IsReadyTo (unlinked_in (38 ∷ [])) (goes client) }
-    ensures refused { (run (unlinked_in (38 ∷ [])) (goes client ∷ [])).body client ≡ Some (running 21 (10 ∷ [])) }
-{}
-
-/// At the client's own turn its Receive is refused WRONGTURN.
-pub fn a_receive_at_the_own_turn_is_refused()
-    ensures ready { IsReadyTo (linked_in (36 ∷ [])) (goes client) }
-    ensures refused { (run (linked_in (36 ∷ [])) (goes client ∷ [])).body client ≡ Some (with_talk (clients_turn 0) (running 21 (18 ∷ []))) }
-{}
-
-/// A client that has a talk is refused LINKED where it connects once more.
-pub fn a_second_connect_is_refused()
-    ensures ready { IsReadyTo (linked_in (32 ∷ 4 ∷ [])) (goes client) }
-    ensures refused { (run (linked_in (32 ∷ 4 ∷ [])) (goes client ∷ [])).body client ≡ Some (with_talk (clients_turn 0) (running 21 (11 ∷ 4 ∷ []))) }
+    ensures no_talk { (run (unlinked_in (38 ∷ [])) (goes client ∷ [])).body client ≡ Some (running 21 (10 ∷ [])) }
+    ensures own_turn { (run (linked_in (36 ∷ [])) (goes client ∷ [])).body client ≡ Some (with_talk (clients_turn 0) (running 21 (18 ∷ []))) }
+    ensures linked { (run (linked_in (32 ∷ 4 ∷ [])) (goes client ∷ [])).body client ≡ Some (with_talk (clients_turn 0) (running 21 (11 ∷ 4 ∷ []))) }
     ensures waits { ¬ IsReadyTo (unlinked_in (32 ∷ 4 ∷ [])) (goes client) }
 {}
 
@@ -87,29 +78,26 @@ pub fn records_show_a_message_in_its_midst()
 {}
 
 /// The receiver's next page is missing: the sender waits, and the receiver raises a fault where it stands. The keeper
-/// takes the fault, gives the page and is done; then the message goes on as if the page had been there.
-pub fn a_message_goes_on_once_its_keeper_gives_the_page()
+/// takes the fault, gives the page and is done.
+pub fn a_message_waits_until_its_keeper_gives_the_page()
     ensures ready { IsLegal kept (and_mended ++ times 4 (goes client)) }
-    ensures first { AreAt (run kept arrived) 187 125 320 195 }
+    ensures arrived { scene talkers_and_keeper (run kept arrived) ≡ Some (with_talk (clients_turn 5) (calling 20 (sending 187 125))) ∷ Some (calling 30 (receiving 320 195)) ∷ Some (running 0 []) ∷ [] }
     ensures waits { ¬ IsReadyTo (run kept arrived) (goes client) }
-    ensures raised { (run kept and_missed).body server ≡ Some (with_fault (missed_5 None) (calling 30 (receiving 320 195))) }
+    ensures missed { scene talkers_and_keeper (run kept and_missed) ≡ Some (with_talk (clients_turn 5) (calling 20 (sending 187 125))) ∷ Some (with_fault (missed_5 None) (calling 30 (receiving 320 195))) ∷ Some (running 0 []) ∷ [] }
     ensures waits_on { ¬ IsReadyTo (run kept and_missed) (goes client) }
     ensures faulty { ¬ IsReadyTo (run kept and_missed) (goes server) }
-    ensures answered { (run kept and_taken).body keeper ≡ Some (running 3 (0 ∷ 9 ∷ 1 ∷ 5 ∷ 1 ∷ [])) }
-    ensures taken { (run kept and_taken).body server ≡ Some (with_fault (missed_5 (Some (Server (At keeper)))) (calling 30 (receiving 320 195))) }
+    ensures taken { scene talkers_and_keeper (run kept and_taken) ≡ Some (with_talk (clients_turn 5) (calling 20 (sending 187 125))) ∷ Some (with_fault (missed_5 (Some (Server (At keeper)))) (calling 30 (receiving 320 195))) ∷ Some (running 3 (0 ∷ 9 ∷ 1 ∷ 5 ∷ 1 ∷ [])) ∷ [] }
     ensures given { (run kept and_given).page (2 ∷ []) 5 ≡ Some (replicate 64 0) }
-    ensures mended { (run kept and_mended).body server ≡ Some (calling 30 (receiving 320 195)) }
-    ensures keeper { (run kept and_mended).body keeper ≡ Some (running 10 (0 ∷ 2 ∷ 5 ∷ 18446744073709551615 ∷ 1 ∷ [])) }
+    ensures mended { scene talkers_and_keeper (run kept and_mended) ≡ Some (with_talk (clients_turn 5) (calling 20 (sending 187 125))) ∷ Some (calling 30 (receiving 320 195)) ∷ Some (running 10 (0 ∷ 2 ∷ 5 ∷ 18446744073709551615 ∷ 1 ∷ [])) ∷ [] }
 {}
 
 /// From there on the moves are those of a message to pages that are all there.
 pub fn the_moves_after_a_fault_are_those_without_it()
-    ensures second { AreAt (run kept (and_mended ++ times 1 (goes client))) 192 120 325 190 }
-    ensures third { AreAt (run kept (and_mended ++ times 2 (goes client))) 251 61 384 131 }
-    ensures fourth { AreAt (run kept (and_mended ++ times 3 (goes client))) 256 56 389 126 }
-    ensures fifth { registers_at (run kept (and_mended ++ times 4 (goes client))) client ≡ registers_from (35 ∷ 9 ∷ 312 ∷ 0 ∷ 448 ∷ 10 ∷ []) }
-    ensures received { registers_at (run kept (and_mended ++ times 4 (goes client))) server ≡ registers_from (receiving 445 70) }
-    ensures words { (run kept (and_mended ++ times 4 (goes client))).page (2 ∷ []) 5 ≡ Some (numbers_from 1187 64) }
+    ensures second { AreAt (mended_and_sent 1) 192 120 325 190 }
+    ensures third { AreAt (mended_and_sent 2) 251 61 384 131 }
+    ensures fourth { AreAt (mended_and_sent 3) 256 56 389 126 }
+    ensures fifth { scene talkers_and_keeper (mended_and_sent 4) ≡ Some (with_talk (clients_turn 130) (calling 20 (35 ∷ 9 ∷ 312 ∷ 0 ∷ 448 ∷ 10 ∷ []))) ∷ Some (calling 30 (receiving 445 70)) ∷ Some (running 10 (0 ∷ 2 ∷ 5 ∷ 18446744073709551615 ∷ 1 ∷ [])) ∷ [] }
+    ensures words { (mended_and_sent 4).page (2 ∷ []) 5 ≡ Some (numbers_from 1187 64) }
 {}
 
 /// A client's Connect waits until a server's wait picks the client. The server is told the port's slot and that it is a
