@@ -72,14 +72,16 @@ destroyed n = run destroying (times n (goes destroyer))
 abbrev pub renamer : ℕ → Path
 renamer k = k ∷ 1 ∷ []
 
-unfoldable pub renaming : World
-renaming = world_of
-    ((1 ∷ [], Space 1 None) ∷ (2 ∷ [], Space 2 None) ∷ (8 ∷ 1 ∷ [], Space 3 None) ∷ (0 ∷ 8 ∷ 1 ∷ [], Mutex false)
+abbrev pub to_rename : List (Path × Body)
+to_rename =
+    (1 ∷ [], Space 1 None) ∷ (2 ∷ [], Space 2 None) ∷ (8 ∷ 1 ∷ [], Space 3 None) ∷ (0 ∷ 8 ∷ 1 ∷ [], Mutex false)
     ∷ (4 ∷ 1 ∷ [], Port (Some 20) false) ∷ (20 ∷ 1 ∷ [], Portset)
     ∷ (5 ∷ 1 ∷ [], Reference (At (4 ∷ 1 ∷ []))) ∷ (6 ∷ 1 ∷ [], Reference (At (4 ∷ 1 ∷ []))) ∷ (0 ∷ 2 ∷ [], Reference (At (4 ∷ 1 ∷ [])))
     ∷ (renamer 10, calling 0 (3 ∷ 256 ∷ 4 ∷ 7 ∷ [])) ∷ (renamer 11, calling 0 (3 ∷ 256 ∷ 7 ∷ 5 ∷ [])) ∷ (renamer 12, calling 0 (3 ∷ 256 ∷ 8 ∷ 9 ∷ []))
-    ∷ (renamer 13, calling 0 (3 ∷ 256 ∷ 20 ∷ 21 ∷ [])) ∷ [])
-    []
+    ∷ (renamer 13, calling 0 (3 ∷ 256 ∷ 20 ∷ 21 ∷ [])) ∷ []
+
+unfoldable pub renaming : World
+renaming = world_of to_rename []
 
 -- the renamed port's old and new slot, and the three references to it
 abbrev pub port_and_references : List Path

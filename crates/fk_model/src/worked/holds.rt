@@ -51,10 +51,13 @@ pub fn a_held_spaces_pages_are_frozen()
 {}
 
 /// No pointer comes to lead to what another thread holds, and none that leads there is changed; the holder may do both.
+/// Nor is an object renamed or destroyed to which a pointer of a held space leads.
 pub fn pointers_to_what_is_held_are_frozen()
     ensures points { ¬ IsReadyTo (held [] (5 ∷ 256 ∷ 9 ∷ 1 ∷ 0 ∷ [])) (goes other) }
     ensures clears { ¬ IsReadyTo (held [] (6 ∷ 256 ∷ 8 ∷ [])) (goes other) }
     ensures copies { ¬ IsReadyTo (held [] (5 ∷ 256 ∷ 9 ∷ 256 ∷ 8 ∷ [])) (goes other) }
+    ensures renames { ¬ IsReadyTo (held [] (3 ∷ 256 ∷ 10 ∷ 11 ∷ [])) (goes other) }
+    ensures destroys { ¬ IsReadyTo (held [] (2 ∷ 256 ∷ 10 ∷ [])) (goes other) }
     ensures holder_points { IsReadyTo (held (5 ∷ 256 ∷ 9 ∷ 1 ∷ 0 ∷ []) []) (goes holder) }
     ensures holder_clears { IsReadyTo (held (6 ∷ 256 ∷ 8 ∷ []) []) (goes holder) }
     ensures elsewhere { IsReadyTo (held [] (6 ∷ 256 ∷ 9 ∷ [])) (goes other) }

@@ -95,6 +95,6 @@ pub fn references_follow_a_renamed_port()
 
 /// The set of a port follows its renamed port set.
 pub fn a_port_stays_in_its_renamed_port_set()
-    ensures ready { IsReadyTo renaming (goes (renamer 13)) }
+    ensures ready { IsLegal renaming (goes (renamer 13) ∷ []) }
     ensures set { scene ((20 ∷ 1 ∷ []) ∷ (21 ∷ 1 ∷ []) ∷ (4 ∷ 1 ∷ []) ∷ []) (run renaming (goes (renamer 13) ∷ [])) ≡ None ∷ Some Portset ∷ Some (Port (Some 21) false) ∷ [] }
 {}
