@@ -29,3 +29,5 @@ pub mod Sound
 pub mod Laws
 pub mod Frame
 pub mod Cut
+pub mod Image
+pub mod Rebind

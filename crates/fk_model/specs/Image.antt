@@ -1,0 +1,125 @@
+-- Images: a small world that shows what lies at and beneath a root of a big one, and nothing else.
+--
+-- A subtree that is seen alone is an image of its world, and a subtree whose outward ports have got other names is an
+-- image of what it was. The paths of an image begin at the root. `see` says what each pointer is seen as: inside by its
+-- path there, a port outside by a slot. Who is at such a port is seen as Outside, whoever it is. What a move does inside it
+-- does alike in the image.
+use Rattle.std.specs.Prelude.{◌≡◌, ℕ, zero, Bool, true, false, List, [], ◌∷◌, ◌++◌, Option, Some, None, IfSome, option_map, Result, Ok, Err}
+use Rattle.fk_model.specs.declared.names.Kind.{Kind}
+use Rattle.fk_model.specs.declared.names.Kind.TheVariants as kinds
+use Rattle.fk_model.specs.Places.{Path, is_within, Ptr}
+use Rattle.fk_model.specs.Places.Ptr.{Null, Dead, At, Out, Outside, Far}
+use Rattle.fk_model.specs.Objects.{Mode, Peer, Talk, Fault, Thread, Window, Extent, Body, thread_of, and_then}
+use Rattle.fk_model.specs.Objects.Peer.{Server, Service, Parked}
+use Rattle.fk_model.specs.Objects.Body.{Mutex, Cond, Mapping, Region, Port, Portset, Space, Thread_of, Reference}
+use Rattle.fk_model.specs.World.{World, Sweep, Change, Edit, apply}
+use Rattle.fk_model.specs.World.Change.{Alter, Make, MakeSpace, Kill, Move, PutPage, DropPage}
+use Rattle.fk_model.specs.World.Edit.{SetPointer, SetHolder, SetTalk, SetPeer, SetFault, SetTaker}
+use Rattle.fk_model.specs.Searches.{talk_at, fault_at}
+use Rattle.fk_model.specs.Reach.{Reach}
+use Rattle.fk_model.specs.Reach.Reach.{Home, Missing, Bad}
+use Rattle.fk_model.specs.Outcomes.{Outcome, Caller}
+use Rattle.fk_model.specs.Outcomes.Outcome.{Refused, Waits, Goes}
+use Rattle.fk_model.specs.Readers.{kind_at}
+use Rattle.fk_model.specs.Talks.{Line}
+use Rattle.fk_model.specs.Valid.{kind_there}
+use Rattle.fk_model.specs.Cut.{is_out, seen_by, unheld}
+
+-- ---- what is seen of a peer, a talk, a fault and a thread, where `see` says what each pointer is seen as
+
+abbrev pub seen_peer : (Ptr → Ptr) → (out : Bool) → Peer → Peer
+seen_peer see true peer = Server Outside
+seen_peer see false (Server thread) = Server (see thread)
+seen_peer see false Service = Service
+seen_peer see false Parked = Parked
+
+abbrev pub seen_talk : (Ptr → Ptr) → Talk → Talk
+seen_talk see talk =
+    let port = see talk.port in
+    record talk { port = port; peer = seen_peer see (is_out port) talk.peer }
+
+abbrev pub seen_fault : (Ptr → Ptr) → Fault → Fault
+seen_fault see fault =
+    let port = see fault.port in
+    record fault { port = port; taker = option_map (seen_peer see (is_out port)) fault.taker }
+
+-- what an image makes of each pointer
+abbrev pub seeing : (Ptr → Ptr) → Sweep
+seeing see = record {
+  pointer = see;
+  holder = λ p. Some (see p);
+  talk = λ talk. Some (seen_talk see talk);
+  fault = λ fault. Some (seen_fault see fault);
+  set = λ port set. Some set;
+}
+
+abbrev pub seen_thread : (Ptr → Ptr) → Thread → Thread
+seen_thread see t = record t { talk = and_then (seeing see).talk t.talk; fault = and_then (seeing see).fault t.fault }
+
+abbrev pub seen_window : (Ptr → Ptr) → Window → Window
+seen_window see m = record m { region = see m.region }
+
+abbrev pub seen_extent : (Ptr → Ptr) → Extent → Extent
+seen_extent see r = record r { keeper = see r.keeper }
+
+-- ---- images
+
+-- a pointer leads to the root or to what lies beneath it
+abbrev pub leads_inside : Path → Ptr → Bool
+leads_inside root (At x) = is_within root x
+leads_inside root Null = false
+leads_inside root Dead = false
+leads_inside root (Out slot) = false
+leads_inside root Outside = false
+leads_inside root Far = false
+
+-- a pointer of the big world, and what it is seen as
+pub data PtrImage (root : Path) (big : World) : Ptr → Ptr → Type 0 where
+  Nulls : PtrImage root big Null Null
+  Deads : PtrImage root big Dead Dead
+  Inside : (x : Path) → PtrImage root big (At (x ++ root)) (At x)
+  -- a port outside
+  PortOut : (p : Ptr) (slot : ℕ) → leads_inside root p ≡ false → kind_at big p ≡ Some kinds.Port → PtrImage root big p (Out slot)
+
+abbrev pub IsSeen : Path → (Ptr → Ptr) → World → Ptr → Type 0
+IsSeen root see big p = PtrImage root big p (see p)
+
+-- P holds of the pointers that count: who is at a port that is seen outside doesn't
+abbrev pub IfServer : (out : Bool) → Peer → (Ptr → Type 0) → Type 0
+IfServer true peer P = Unit {0}
+IfServer false (Server thread) P = P thread
+IfServer false Service P = Unit {0}
+IfServer false Parked P = Unit {0}
+
+abbrev pub AllInTalk : (Ptr → Ptr) → (Ptr → Type 0) → Talk → Type 0
+AllInTalk see P talk = P talk.port × IfServer (is_out (see talk.port)) talk.peer P
+
+abbrev pub AllInFault : (Ptr → Ptr) → (Ptr → Type 0) → Fault → Type 0
+AllInFault see P fault = P fault.port × IfSome fault.taker (λ taker. IfServer (is_out (see fault.port)) taker P)
+
+abbrev pub AllInBody : (Ptr → Ptr) → (Ptr → Type 0) → Body → Type 0
+AllInBody see P (Mutex locked) = Unit {0}
+AllInBody see P Cond = Unit {0}
+AllInBody see P (Mapping m) = P m.region
+AllInBody see P (Region r) = P r.keeper
+AllInBody see P (Port set served) = Unit {0}
+AllInBody see P Portset = Unit {0}
+AllInBody see P (Space birth holder) = IfSome holder P
+AllInBody see P (Thread_of t) = IfSome t.talk (AllInTalk see P) × IfSome t.fault (AllInFault see P)
+AllInBody see P (Reference to) = P to
+
+pub record IsImage (root : Path) (see : Ptr → Ptr) (small big : World) : Type 0 where
+  -- what stands at each path; who holds the root is no part of it
+  pub bodies : (q : Path) → small.body q ≡ option_map (λ b. unheld q (seen_by (seeing see) b)) (big.body (q ++ root))
+  pub pages : (q : Path) (page : ℕ) → small.page q page ≡ big.page (q ++ root) page
+  -- birth numbers are 0, and stay so
+  pub unborn : small.next ≡ zero
+  -- the root is a space
+  pub top : kind_there big root ≡ Some kinds.Space
+  -- nothing beneath it leads anywhere but inside or to ports outside
+  pub pointers : (k : ℕ) (q : Path) → IfSome (big.body (k ∷ (q ++ root))) (AllInBody see (IsSeen root see big))
+  pub within : (x : Path) → see (At (x ++ root)) ≡ At x
+
+-- a world as a subtree that is seen alone is: it is its own image
+abbrev pub IsCutWorld : World → Type 0
+IsCutWorld c = IsImage [] (λ p. p) c c
