@@ -14,8 +14,8 @@ use Rattle.fk_model.specs.Searches.{pointers, option_list, peer_pointer, talk_po
 use Rattle.fk_model.specs.Readers.{kind_at}
 use Rattle.fk_model.specs.Valid.{kind_there}
 use Rattle.fk_model.specs.Cut.{is_port, ports_of, cut_out, cut_to, cut_ptr, is_out, cutting, seen_by, unheld, cut, is_far, has_far, IsPlain}
-use Rattle.fk_model.specs.Image.{seeing, seen_peer, seen_talk, seen_fault, leads_inside, PtrImage, IsSeen, IfServer, AllInTalk, AllInFault, AllInBody, IsImage, IsCutWorld}
-use Rattle.fk_model.specs.Image.PtrImage.{Nulls, Deads, Inside, PortOut}
+use Rattle.fk_model.specs.Image.{seeing, seen_peer, seen_talk, seen_fault, PtrImage, IsSeen, IfServer, AllInTalk, AllInFault, AllInBody, IsImage, IsCutWorld}
+use Rattle.fk_model.specs.Image.PtrImage.{Nulls, Deads, Inside, PortAt, PortOut}
 use Rattle.fk_model.specs.Rebind.{rebound_ptr, rebound_peer, rebinding, rebound}
 use Rattle.fk_model.proofs.FrameLaws.{or_off}
 use Rattle.fk_model.proofs.PlaceLaws.{same_path_eq, strip-append, strip_some}
@@ -57,7 +57,7 @@ cut_ptr-image w nester slot (At x) near = by (strip (slot ∷ nester) x) refl ne
         at true e far =
             let both = and_parts (same_path y nester) (ports i) e in
             let same = same_path_eq y nester both.0 in
-            PortOut (At (i ∷ y)) i (ap is_some apart) (rw same (ports_port w nester slot i both.1))
+            PortAt (i ∷ y) i (ap is_some apart) (rw same (ports_port w nester slot i both.1))
 
     by : (o : Option Path) → strip (slot ∷ nester) x ≡ o → is_far (cut_to ports nester x o) ≡ false → PtrImage (slot ∷ nester) w (At x) (cut_to ports nester x o)
     by (Some q) e far = rw (strip_some (slot ∷ nester) x q e) (Inside q)
@@ -168,7 +168,8 @@ module _ (bind : ℕ → ℕ) (see : Ptr → Ptr) where
   ptr_anew root big _ _ Nulls = Nulls
   ptr_anew root big _ _ Deads = Deads
   ptr_anew root big _ _ (Inside x) = Inside x
-  ptr_anew root big _ _ (PortOut p slot apart port) = PortOut p (bind slot) apart port
+  ptr_anew root big _ _ (PortAt x slot apart port) = PortAt x (bind slot) apart port
+  ptr_anew root big _ _ (PortOut old slot) = PortOut old (bind slot)
 
   -- what holds of each pointer that counts is carried over
   module _ (P Q : Ptr → Type 0) (more : (p : Ptr) → P p → Q p) where
@@ -289,7 +290,8 @@ ptr_again : (root : Path) (small big : World) (p seen : Ptr) → PtrImage root b
 ptr_again root small big _ _ Nulls = Nulls
 ptr_again root small big _ _ Deads = Deads
 ptr_again root small big _ _ (Inside x) = subst (λ (y : Path). PtrImage [] small (At y) (At x)) (append-nil x) (Inside x)
-ptr_again root small big _ _ (PortOut p slot apart port) = PortOut (Out slot) slot refl refl
+ptr_again root small big _ _ (PortAt x slot apart port) = PortOut slot slot
+ptr_again root small big _ _ (PortOut old slot) = PortOut slot slot
 
 kind-seen : (see : Ptr → Ptr) (v : Option Body) → option_map kind_of (option_map (λ b. unheld [] (seen_by (seeing see) b)) v) ≡ option_map kind_of v
 unfolding seen_by

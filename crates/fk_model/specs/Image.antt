@@ -20,7 +20,7 @@ use Rattle.fk_model.specs.Reach.{Reach}
 use Rattle.fk_model.specs.Reach.Reach.{Home, Missing, Bad}
 use Rattle.fk_model.specs.Outcomes.{Outcome, Caller}
 use Rattle.fk_model.specs.Outcomes.Outcome.{Refused, Waits, Goes}
-use Rattle.fk_model.specs.Readers.{kind_at}
+use Rattle.fk_model.specs.Readers.{kind_at, is_kind}
 use Rattle.fk_model.specs.Talks.{Line}
 use Rattle.fk_model.specs.Valid.{kind_there}
 use Rattle.fk_model.specs.Cut.{is_out, seen_by, unheld}
@@ -64,22 +64,14 @@ seen_extent see r = record r { keeper = see r.keeper }
 
 -- ---- images
 
--- a pointer leads to the root or to what lies beneath it
-abbrev pub leads_inside : Path → Ptr → Bool
-leads_inside root (At x) = is_within root x
-leads_inside root Null = false
-leads_inside root Dead = false
-leads_inside root (Out slot) = false
-leads_inside root Outside = false
-leads_inside root Far = false
-
 -- a pointer of the big world, and what it is seen as
 pub data PtrImage (root : Path) (big : World) : Ptr → Ptr → Type 0 where
   Nulls : PtrImage root big Null Null
   Deads : PtrImage root big Dead Dead
   Inside : (x : Path) → PtrImage root big (At (x ++ root)) (At x)
-  -- a port outside
-  PortOut : (p : Ptr) (slot : ℕ) → leads_inside root p ≡ false → kind_at big p ≡ Some kinds.Port → PtrImage root big p (Out slot)
+  -- a port outside, and one that led out before
+  PortAt : (x : Path) (slot : ℕ) → is_within root x ≡ false → kind_at big (At x) ≡ Some kinds.Port → PtrImage root big (At x) (Out slot)
+  PortOut : (old slot : ℕ) → PtrImage root big (Out old) (Out slot)
 
 abbrev pub IsSeen : Path → (Ptr → Ptr) → World → Ptr → Type 0
 IsSeen root see big p = PtrImage root big p (see p)
@@ -123,3 +115,46 @@ pub record IsImage (root : Path) (see : Ptr → Ptr) (small big : World) : Type 
 -- a world as a subtree that is seen alone is: it is its own image
 abbrev pub IsCutWorld : World → Type 0
 IsCutWorld c = IsImage [] (λ p. p) c c
+
+-- ---- what is read alike
+
+-- a caller inside, as the big world has it
+abbrev pub under : Path → Caller → Caller
+under root c = record c { space = c.space ++ root }
+
+-- both answer, and alike; or both are refused with one status
+abbrev pub AlikeResults : {A B : Type 0} → (A → B → Type 0) → Result A ℕ → Result B ℕ → Type 0
+AlikeResults R (Ok a) (Ok b) = R a b
+AlikeResults R (Err status) (Err refusal) = status ≡ refusal
+AlikeResults R (Ok a) (Err refusal) = ⊥
+AlikeResults R (Err status) (Ok b) = ⊥
+
+-- both are there, and alike; or neither is
+abbrev pub AlikeOptions : {A B : Type 0} → (A → B → Type 0) → Option A → Option B → Type 0
+AlikeOptions R None None = Unit {0}
+AlikeOptions R (Some a) (Some b) = R a b
+AlikeOptions R None (Some b) = ⊥
+AlikeOptions R (Some a) None = ⊥
+
+-- the same path, which in the big world lies beneath the root
+abbrev pub IsBeneath : Path → Path → Path → Type 0
+IsBeneath root q x = x ≡ q ++ root
+
+-- the same pointer
+abbrev pub IsSeenAs : Path → (Ptr → Ptr) → World → Ptr → Ptr → Type 0
+IsSeenAs root see big seen p = (seen ≡ see p) × IsSeen root see big p
+
+-- and it leads to an object of this kind
+abbrev pub IsSeenHandle : Path → (Ptr → Ptr) → World → Kind → Ptr → Ptr → Type 0
+IsSeenHandle root see big wanted seen p = (seen ≡ see p) × IsSeen root see big p × (is_kind wanted (kind_at big p) ≡ true)
+
+-- the same object
+abbrev pub IsSeenBody : Path → (Ptr → Ptr) → World → Body → Body → Type 0
+IsSeenBody root see big seen b = (seen ≡ seen_by (seeing see) b) × AllInBody see (IsSeen root see big) b
+
+-- the same thread, and the same holder
+abbrev pub IsSeenThread : Path → (Ptr → Ptr) → World → Thread → Thread → Type 0
+IsSeenThread root see big seen t = (seen ≡ seen_thread see t) × AllInBody see (IsSeen root see big) (Thread_of t)
+
+abbrev pub IsSeenHolder : Path → (Ptr → Ptr) → World → Option Ptr → Option Ptr → Type 0
+IsSeenHolder root see big seen holder = (seen ≡ and_then (seeing see).holder holder) × IfSome holder (IsSeen root see big)
