@@ -158,3 +158,20 @@ IsSeenThread root see big seen t = (seen ≡ seen_thread see t) × AllInBody see
 
 abbrev pub IsSeenHolder : Path → (Ptr → Ptr) → World → Option Ptr → Option Ptr → Type 0
 IsSeenHolder root see big seen holder = (seen ≡ and_then (seeing see).holder holder) × IfSome holder (IsSeen root see big)
+
+-- the same mapping, and the same region
+abbrev pub IsSeenWindow : Path → (Ptr → Ptr) → World → Window → Window → Type 0
+IsSeenWindow root see big seen m = (seen ≡ seen_window see m) × IsSeen root see big m.region
+
+abbrev pub IsSeenExtent : Path → (Ptr → Ptr) → World → Extent → Extent → Type 0
+IsSeenExtent root see big seen r = (seen ≡ seen_extent see r) × IsSeen root see big r.keeper
+
+-- the same page, of a space inside
+abbrev pub IsSeenPlace : Path → Path × ℕ → Path × ℕ → Type 0
+IsSeenPlace root place there = IsBeneath root place.0 there.0 × (place.1 ≡ there.1)
+
+-- an access comes to the same
+pub data ReachImage (root : Path) (see : Ptr → Ptr) (big : World) : Reach → Reach → Type 0 where
+  Homes : (s : Path) (page : ℕ) → ReachImage root see big (Home s page) (Home (s ++ root) page)
+  Misses : (s : Path) (page : ℕ) (keeper port : Option Ptr) → AlikeOptions (IsSeenAs root see big) keeper port → ReachImage root see big (Missing s page keeper) (Missing (s ++ root) page port)
+  Bads : ReachImage root see big Bad Bad
