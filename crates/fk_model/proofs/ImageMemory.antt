@@ -27,7 +27,7 @@ alike_and_then R Q (Some x) (Some y) f g h go = go x y h
 alike_and_then R Q None (Some y) f g h go = absurd h
 alike_and_then R Q (Some x) None f g h go = absurd h
 
-alike_or_else : {A B : Type 0} (R : A → B → Type 0) (a c : Option A) (b d : Option B) → AlikeOptions R a b → AlikeOptions R c d → AlikeOptions R (or_else a c) (or_else b d)
+pub alike_or_else : {A B : Type 0} (R : A → B → Type 0) (a c : Option A) (b d : Option B) → AlikeOptions R a b → AlikeOptions R c d → AlikeOptions R (or_else a c) (or_else b d)
 alike_or_else R None c None d h g = g
 alike_or_else R (Some x) c (Some y) d h g = h
 alike_or_else R None c (Some y) d h g = absurd h
