@@ -175,3 +175,27 @@ pub data ReachImage (root : Path) (see : Ptr → Ptr) (big : World) : Reach → 
   Homes : (s : Path) (page : ℕ) → ReachImage root see big (Home s page) (Home (s ++ root) page)
   Misses : (s : Path) (page : ℕ) (keeper port : Option Ptr) → AlikeOptions (IsSeenAs root see big) keeper port → ReachImage root see big (Missing s page keeper) (Missing (s ++ root) page port)
   Bads : ReachImage root see big Bad Bad
+
+-- the same talk, and the same fault
+abbrev pub IsSeenTalk : Path → (Ptr → Ptr) → World → Talk → Talk → Type 0
+IsSeenTalk root see big seen talk = (seen ≡ seen_talk see talk) × AllInTalk see (IsSeen root see big) talk
+
+abbrev pub IsSeenFault : Path → (Ptr → Ptr) → World → Fault → Fault → Type 0
+IsSeenFault root see big seen fault = (seen ≡ seen_fault see fault) × AllInFault see (IsSeen root see big) fault
+
+-- a peer of the big world, and what it is seen as
+pub data PeerImage (root : Path) (see : Ptr → Ptr) (big : World) : Peer → Peer → Type 0 where
+  -- who is at a port outside
+  Outsiders : (peer : Peer) → PeerImage root see big peer (Server Outside)
+  Servers : (thread : Ptr) → IsSeen root see big thread → PeerImage root see big (Server thread) (Server (see thread))
+  Services : PeerImage root see big Service Service
+  Waiters : PeerImage root see big Parked Parked
+
+-- the same thread inside, with its path
+pub data EndImage (root : Path) (see : Ptr → Ptr) (big : World) : Path × Thread → Path × Thread → Type 0 where
+  Ends : (k : ℕ) (q : Path) (t : Thread) → big.body (k ∷ (q ++ root)) ≡ Some (Thread_of t) → AllInBody see (IsSeen root see big) (Thread_of t) → EndImage root see big (k ∷ q, seen_thread see t) (k ∷ (q ++ root), t)
+
+-- the same talk of a client inside, with who is at the other end
+pub data LineImage (root : Path) (see : Ptr → Ptr) (big : World) : Line → Line → Type 0 where
+  Lines : (k : ℕ) (q : Path) (talk : Talk) (other seen : Peer) → talk_at big (k ∷ (q ++ root)) ≡ Some talk → AllInTalk see (IsSeen root see big) talk → PeerImage root see big other seen →
+      LineImage root see big (record { client = k ∷ q; talk = seen_talk see talk; other = seen }) (record { client = k ∷ (q ++ root); talk = talk; other = other })
