@@ -32,7 +32,7 @@ leads_to-image root big x _ _ (PortOut old slot) = refl
 
 -- ---- options
 
-or_else-none : (a b : Option Ptr) → or_else a b ≡ None → a ≡ None
+pub or_else-none : (a b : Option Ptr) → or_else a b ≡ None → a ≡ None
 or_else-none None b h = refl
 or_else-none (Some p) b h = cc
 

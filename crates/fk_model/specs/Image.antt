@@ -22,6 +22,8 @@ use Rattle.fk_model.specs.Outcomes.{Outcome, Caller}
 use Rattle.fk_model.specs.Outcomes.Outcome.{Refused, Waits, Goes}
 use Rattle.fk_model.specs.Readers.{kind_at, is_kind}
 use Rattle.fk_model.specs.Talks.{Line}
+use Rattle.fk_model.specs.LinkRows.{Candidate}
+use Rattle.fk_model.specs.LinkRows.Candidate.{Faulting, Connecting, Resuming}
 use Rattle.fk_model.specs.Valid.{kind_there}
 use Rattle.fk_model.specs.Cut.{is_out, seen_by, unheld}
 
@@ -199,3 +201,9 @@ pub data EndImage (root : Path) (see : Ptr → Ptr) (big : World) : Path × Thre
 pub data LineImage (root : Path) (see : Ptr → Ptr) (big : World) : Line → Line → Type 0 where
   Lines : (k : ℕ) (q : Path) (talk : Talk) (other seen : Peer) → talk_at big (k ∷ (q ++ root)) ≡ Some talk → AllInTalk see (IsSeen root see big) talk → PeerImage root see big other seen →
       LineImage root see big (record { client = k ∷ q; talk = seen_talk see talk; other = seen }) (record { client = k ∷ (q ++ root); talk = talk; other = other })
+
+-- the thread at x is the same candidate for a wait; who it asks for stands inside
+pub data CandidateImage (see : Ptr → Ptr) (big : World) (x : Path) : Candidate → Candidate → Type 0 where
+  Faults : (slot : ℕ) (fault : Fault) → fault_at big x ≡ Some fault → is_out (see fault.port) ≡ false → CandidateImage see big x (Faulting slot (seen_fault see fault)) (Faulting slot fault)
+  Connects : (slot : ℕ) → CandidateImage see big x (Connecting slot) (Connecting slot)
+  Resumes : (slot : ℕ) (talk : Talk) → talk_at big x ≡ Some talk → is_out (see talk.port) ≡ false → CandidateImage see big x (Resuming slot (seen_talk see talk)) (Resuming slot talk)
