@@ -12,7 +12,8 @@ use Rattle.fk_model.specs.Cut.{seen_by, unheld}
 use Rattle.fk_model.specs.Image.{seeing, seen_fault, seen_thread, PtrImage, IsSeen, AllInBody, IsImage, AlikeOptions, IsSeenAs}
 use Rattle.fk_model.specs.Image.PtrImage.{Nulls, Deads, Inside, PortAt, PortOut}
 use Rattle.fk_model.proofs.PlaceLaws.{same_path_sym, same_path_cancel, same_path_outside}
-use Rattle.fk_model.proofs.ImageMemory.{alike_or_else, root_seen}
+use Rattle.fk_model.proofs.Alike.{alike_or_else, alike-is_some, alike-holds}
+use Rattle.fk_model.proofs.ImageMemory.{root_seen}
 
 -- ---- where a pointer leads
 
@@ -50,18 +51,6 @@ root_unfrozen w root [] h = h
 root_unfrozen w root (k ∷ q) h =
     let above = or_else-none (decider w (q ++ root)) (holder_of (w.body (k ∷ (q ++ root)))) (none-unfrozen w (k ∷ (q ++ root)) h) in
     root_unfrozen w root q (ap is_some above)
-
-alike-is_some : {A B : Type 0} (R : A → B → Type 0) (a : Option A) (b : Option B) → AlikeOptions R a b → is_some a ≡ is_some b
-alike-is_some R None None h = refl
-alike-is_some R (Some a) (Some b) h = refl
-alike-is_some R None (Some b) h = absurd h
-alike-is_some R (Some a) None h = absurd h
-
-pub alike-holds : {A B : Type 0} (R : A → B → Type 0) (a : Option A) (b : Option B) (f : A → Bool) (g : B → Bool) → AlikeOptions R a b → ((x : A) (y : B) → R x y → f x ≡ g y) → holds f a ≡ holds g b
-alike-holds R None None f g h same = refl
-alike-holds R (Some a) (Some b) f g h same = same a b h
-alike-holds R None (Some b) f g h same = absurd h
-alike-holds R (Some a) None f g h same = absurd h
 
 module _ {root : Path} {see : Ptr → Ptr} {small big : World} (image : IsImage root see small big) where
   seen_leads_to : (me : Path) (seen p : Ptr) → IsSeenAs root see big seen p → leads_to me seen ≡ leads_to (me ++ root) p

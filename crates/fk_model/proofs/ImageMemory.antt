@@ -17,30 +17,7 @@ use Rattle.fk_model.specs.Cut.{seen_by, unheld}
 use Rattle.fk_model.specs.Image.{seeing, seen_window, seen_extent, PtrImage, IsSeen, AllInBody, IsImage, AlikeOptions, IsSeenAs, IsSeenWindow, IsSeenExtent, IsSeenPlace, ReachImage}
 use Rattle.fk_model.specs.Image.PtrImage.{Nulls, Deads, Inside, PortAt, PortOut}
 use Rattle.fk_model.specs.Image.ReachImage.{Homes, Misses, Bads}
-
--- ---- answers that may be none
-
-pub alike_and_then : {A B C D : Type 0} (R : A → B → Type 0) (Q : C → D → Type 0) (a : Option A) (b : Option B) (f : A → Option C) (g : B → Option D) →
-    AlikeOptions R a b → ((x : A) (y : B) → R x y → AlikeOptions Q (f x) (g y)) → AlikeOptions Q (and_then f a) (and_then g b)
-alike_and_then R Q None None f g h go = tt
-alike_and_then R Q (Some x) (Some y) f g h go = go x y h
-alike_and_then R Q None (Some y) f g h go = absurd h
-alike_and_then R Q (Some x) None f g h go = absurd h
-
-pub alike_or_else : {A B : Type 0} (R : A → B → Type 0) (a c : Option A) (b d : Option B) → AlikeOptions R a b → AlikeOptions R c d → AlikeOptions R (or_else a c) (or_else b d)
-alike_or_else R None c None d h g = g
-alike_or_else R (Some x) c (Some y) d h g = h
-alike_or_else R None c (Some y) d h g = absurd h
-alike_or_else R (Some x) c None d h g = absurd h
-
-pub alike_cond : {A B : Type 0} (R : A → B → Type 0) (test : Bool) (a : A) (b : B) → R a b → AlikeOptions R (cond test (Some a) None) (cond test (Some b) None)
-alike_cond R true a b h = h
-alike_cond R false a b h = tt
-
-pub alike_lowest : {A B : Type 0} (R : A → B → Type 0) (n : ℕ) (f : ℕ → Option A) (g : ℕ → Option B) → ((k : ℕ) → AlikeOptions R (f k) (g k)) → AlikeOptions R (lowest n f) (lowest n g)
-unfolding lowest
-alike_lowest R zero f g h = tt
-alike_lowest R (suc n) f g h = alike_or_else R (lowest n f) (f n) (lowest n g) (g n) (alike_lowest R n f g h) (h n)
+use Rattle.fk_model.proofs.Alike.{alike_and_then, alike_cond, alike_lowest}
 
 -- a port is no region, nor is a space
 port_no_region : (v : Option Body) → and_then (λ b. Some (kind_of b)) v ≡ Some kinds.Port → and_then region_of v ≡ None

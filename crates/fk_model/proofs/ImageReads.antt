@@ -17,32 +17,7 @@ use Rattle.fk_model.specs.Valid.{kind_there}
 use Rattle.fk_model.specs.Cut.{seen_by, unheld}
 use Rattle.fk_model.specs.Image.{seeing, seen_thread, seen_window, seen_extent, PtrImage, IsSeen, AllInBody, IsImage, under, AlikeResults, AlikeOptions, IsBeneath, IsSeenAs, IsSeenHandle, IsSeenBody, IsSeenThread, IsSeenHolder}
 use Rattle.fk_model.specs.Image.PtrImage.{Nulls, Deads, Inside, PortAt, PortOut}
-
--- ---- answers
-
-pub alike_same : {A : Type 0} (o p : Option A) → o ≡ p → AlikeOptions ◌≡◌ o p
-alike_same None None e = tt
-alike_same (Some a) (Some b) e = cc
-alike_same None (Some b) e = cc
-alike_same (Some a) None e = cc
-
-pub alike_or_refuse : {A B : Type 0} (R : A → B → Type 0) (status : ℕ) (a : Option A) (b : Option B) → AlikeOptions R a b → AlikeResults R (or_refuse status a) (or_refuse status b)
-alike_or_refuse R status None None h = refl
-alike_or_refuse R status (Some a) (Some b) h = h
-alike_or_refuse R status None (Some b) h = absurd h
-alike_or_refuse R status (Some a) None h = absurd h
-
-pub alike_and_read : {A B C D : Type 0} (R : A → B → Type 0) (Q : C → D → Type 0) (a : Result A ℕ) (b : Result B ℕ) (f : A → Result C ℕ) (g : B → Result D ℕ) →
-    AlikeResults R a b → ((x : A) (y : B) → R x y → AlikeResults Q (f x) (g y)) → AlikeResults Q (and_read a f) (and_read b g)
-alike_and_read R Q (Ok x) (Ok y) f g h go = go x y h
-alike_and_read R Q (Err status) (Err refusal) f g h go = h
-alike_and_read R Q (Ok x) (Err refusal) f g h go = absurd h
-alike_and_read R Q (Err status) (Ok y) f g h go = absurd h
-
--- both are refused where the test fails
-pub alike_if : {A B : Type 0} (R : A → B → Type 0) (test : Bool) (status : ℕ) (a : A) (b : B) → (test ≡ true → R a b) → AlikeResults R (cond {A = Result A ℕ} test (Ok a) (Err status)) (cond {A = Result B ℕ} test (Ok b) (Err status))
-alike_if R true status a b h = h refl
-alike_if R false status a b h = refl
+use Rattle.fk_model.proofs.Alike.{alike_same, alike_or_refuse, alike_and_read, alike_if}
 
 -- ---- what the view of each kind sees of a body, where each pointer that counts has P
 

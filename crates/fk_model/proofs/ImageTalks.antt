@@ -21,7 +21,8 @@ use Rattle.fk_model.specs.Image.PtrImage.{Nulls, Deads, Inside, PortAt, PortOut}
 use Rattle.fk_model.specs.Image.PeerImage.{Outsiders, Servers, Services, Waiters}
 use Rattle.fk_model.specs.Image.EndImage.{Ends}
 use Rattle.fk_model.specs.Image.LineImage.{Lines}
-use Rattle.fk_model.proofs.ImageMemory.{alike_and_then, root_space, root_seen}
+use Rattle.fk_model.proofs.Alike.{alike_and_then}
+use Rattle.fk_model.proofs.ImageMemory.{root_space, root_seen}
 
 port_no_thread : (v : Option Body) → and_then (λ b. Some (kind_of b)) v ≡ Some kinds.Port → and_then thread_of v ≡ None
 port_no_thread (Some (Thread_of t)) h = cc

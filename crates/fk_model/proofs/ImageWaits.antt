@@ -22,7 +22,8 @@ use Rattle.fk_model.specs.Image.PtrImage.{Nulls, Deads, Inside, PortAt, PortOut}
 use Rattle.fk_model.specs.Image.CandidateImage.{Faults, Connects, Resumes}
 use Rattle.fk_model.proofs.PlaceLaws.{same_path_eq, same_path_cancel, strip-append}
 use Rattle.fk_model.proofs.ImageReads.{handle-image}
-use Rattle.fk_model.proofs.ImageMemory.{alike_and_then, alike_or_else, root_space, root_seen}
+use Rattle.fk_model.proofs.Alike.{alike_or_else}
+use Rattle.fk_model.proofs.ImageMemory.{root_space, root_seen}
 use Rattle.fk_model.proofs.ImageHolds.{none-unfrozen, or_else-none, is_unheld-image, is_free-image}
 use Rattle.fk_model.proofs.ImageTalks.{thread_there-image}
 
@@ -192,3 +193,29 @@ module _ {root : Path} {see : Ptr → Ptr} {small big : World} (image : IsImage 
       by : (b : Bool) → AlikeOptions Alike (cond b (and_then (candidate_by small space set (k ∷ q)) (and_then thread_of (small.body (k ∷ q)))) None) (cond b (and_then (candidate_by big (space ++ root) set (k ∷ (q ++ root))) (and_then thread_of (big.body (k ∷ (q ++ root))))) None)
       by true = of_thread (and_then thread_of (small.body (k ∷ q))) (and_then thread_of (big.body (k ∷ (q ++ root)))) refl (thread_there-image image (k ∷ q))
       by false = tt
+
+  -- ---- native servers
+
+  -- no port is seen served
+  pub unserved-image : (k : ℕ) (q : Path) → holds (λ (port : Option ℕ × Bool). port.1) (and_then port_of (small.body (k ∷ q))) ≡ false
+  unfolding seen_by
+  unserved-image k q = rw (image.bodies (k ∷ q)) (by (big.body (k ∷ (q ++ root))))
+    where
+      by : (v : Option Body) → holds (λ (port : Option ℕ × Bool). port.1) (and_then port_of (option_map (λ b. unheld (k ∷ q) (seen_by (seeing see) b)) v)) ≡ false
+      by (Some (Port set served)) = refl
+      by (Some b) = refl
+      by None = refl
+
+  above_free : (x : Path) → decider big x ≡ None → is_unheld big (parent x) ≡ true
+  unfolding decider
+  above_free [] h = ap (λ (o : Option Ptr). not (is_some o)) h
+  above_free (k ∷ x) h = ap (λ (o : Option Ptr). not (is_some o)) (or_else-none (decider big x) (holder_of (big.body (k ∷ x))) h)
+
+  -- the native server of a port that is seen inside is free alike
+  pub is_service_free-image : is_frozen big root ≡ false → (p seen : Ptr) → PtrImage root big p seen → is_out seen ≡ false → is_service_free small seen ≡ is_service_free big p
+  is_service_free-image free _ _ Nulls near = refl
+  is_service_free-image free _ _ Deads near = refl
+  is_service_free-image free _ _ (Inside []) near = is_unheld-image image free [] ∙ ap (λ (o : Option Ptr). not (is_some o)) (none-unfrozen big root free) ∙ sym (above_free root (none-unfrozen big root free))
+  is_service_free-image free _ _ (Inside (k ∷ q)) near = is_unheld-image image free q
+  is_service_free-image free _ _ (PortAt x slot apart port) near = cc
+  is_service_free-image free _ _ (PortOut old slot) near = cc
