@@ -117,6 +117,8 @@ module _ (w : World) (nester : Path) (slot : ℕ) where
     top = rw plain.root refl;
     pointers = λ k q. near_body (w.body (k ∷ (q ++ slot ∷ nester))) (plain.near (k ∷ q));
     within = λ x. rw (strip-append (slot ∷ nester) x) refl;
+    null = refl;
+    dead = refl;
   }
 
 -- ---- a rebinding
@@ -210,6 +212,8 @@ module _ (bind : ℕ → ℕ) (see : Ptr → Ptr) where
     top = image.top;
     pointers = λ k q. all_in_body (IsSeen root see big) (IsSeen root anew big) (λ p h. ptr_anew root big p (see p) h) (big.body (k ∷ (q ++ root))) (image.pointers k q);
     within = λ x. rw (image.within x) refl;
+    null = rw image.null refl;
+    dead = rw image.dead refl;
   }
 
 pub rebind-image : (bind : ℕ → ℕ) (c : World) → IsCutWorld c → IsImage [] (rebound_ptr bind) (rebound bind c) c
@@ -308,4 +312,6 @@ image-cut_world {root} {see} {small} {big} image = record {
   top = rw (image.bodies []) (kind-seen see (big.body root) ∙ image.top);
   pointers = λ k q. rw (append-nil q) (rw (image.bodies (k ∷ q)) (all_seen_body see (IsSeen root see big) (IsSeen [] same small) (λ p h. ptr_again root small big p (see p) h) k q (big.body (k ∷ (q ++ root))) (image.pointers k q)));
   within = λ x. ap (λ (y : Path). At y) (append-nil x);
+  null = refl;
+  dead = refl;
 }

@@ -12,14 +12,11 @@ use Rattle.fk_model.specs.Places.Ptr.{Null, Dead, At, Out, Outside, Far}
 use Rattle.fk_model.specs.Objects.{Mode, Peer, Talk, Fault, Thread, Window, Extent, Body, thread_of, and_then}
 use Rattle.fk_model.specs.Objects.Peer.{Server, Service, Parked}
 use Rattle.fk_model.specs.Objects.Body.{Mutex, Cond, Mapping, Region, Port, Portset, Space, Thread_of, Reference}
-use Rattle.fk_model.specs.World.{World, Sweep, Change, Edit, apply}
-use Rattle.fk_model.specs.World.Change.{Alter, Make, MakeSpace, Kill, Move, PutPage, DropPage}
-use Rattle.fk_model.specs.World.Edit.{SetPointer, SetHolder, SetTalk, SetPeer, SetFault, SetTaker}
+use Rattle.fk_model.specs.World.{World, Sweep, serves}
 use Rattle.fk_model.specs.Searches.{talk_at, fault_at}
 use Rattle.fk_model.specs.Reach.{Reach}
 use Rattle.fk_model.specs.Reach.Reach.{Home, Missing, Bad}
-use Rattle.fk_model.specs.Outcomes.{Outcome, Caller}
-use Rattle.fk_model.specs.Outcomes.Outcome.{Refused, Waits, Goes}
+use Rattle.fk_model.specs.Outcomes.{Caller}
 use Rattle.fk_model.specs.Readers.{kind_at, is_kind}
 use Rattle.fk_model.specs.Talks.{Line}
 use Rattle.fk_model.specs.LinkRows.{Candidate}
@@ -113,10 +110,17 @@ pub record IsImage (root : Path) (see : Ptr → Ptr) (small big : World) : Type 
   -- nothing beneath it leads anywhere but inside or to ports outside
   pub pointers : (k : ℕ) (q : Path) → IfSome (big.body (k ∷ (q ++ root))) (AllInBody see (IsSeen root see big))
   pub within : (x : Path) → see (At (x ++ root)) ≡ At x
+  pub null : see Null ≡ Null
+  pub dead : see Dead ≡ Dead
 
 -- a world as a subtree that is seen alone is: it is its own image
 abbrev pub IsCutWorld : World → Type 0
 IsCutWorld c = IsImage [] (λ p. p) c c
+
+-- nobody inside is the peer of a talk at a port outside, or has taken a fault there
+pub record IsApart (root : Path) (see : Ptr → Ptr) (big : World) : Type 0 where
+  pub talks : (k : ℕ) (q x : Path) (talk : Talk) → talk_at big (k ∷ (q ++ root)) ≡ Some talk → is_out (see talk.port) ≡ true → serves (x ++ root) talk.peer ≡ false
+  pub faults : (k : ℕ) (q x : Path) (fault : Fault) (taker : Peer) → fault_at big (k ∷ (q ++ root)) ≡ Some fault → is_out (see fault.port) ≡ true → fault.taker ≡ Some taker → serves (x ++ root) taker ≡ false
 
 -- ---- what is read alike
 

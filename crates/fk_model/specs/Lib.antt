@@ -30,4 +30,5 @@ pub mod Laws
 pub mod Frame
 pub mod Cut
 pub mod Image
+pub mod ImageChanges
 pub mod Rebind
