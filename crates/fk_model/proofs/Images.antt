@@ -19,6 +19,7 @@ use Rattle.fk_model.specs.Image.PtrImage.{Nulls, Deads, Inside, PortAt, PortOut}
 use Rattle.fk_model.specs.Rebind.{rebound_ptr, rebound_peer, rebinding, rebound}
 use Rattle.fk_model.proofs.FrameLaws.{or_off}
 use Rattle.fk_model.proofs.PlaceLaws.{same_path_eq, strip-append, strip_some}
+use Rattle.fk_model.proofs.ImagePointers.{all_in_body}
 
 -- ---- the cut
 
@@ -173,36 +174,6 @@ module _ (bind : ℕ → ℕ) (see : Ptr → Ptr) where
   ptr_anew root big _ _ (PortAt x slot apart port) = PortAt x (bind slot) apart port
   ptr_anew root big _ _ (PortOut old slot) = PortOut old (bind slot)
 
-  -- what holds of each pointer that counts is carried over
-  module _ (P Q : Ptr → Type 0) (more : (p : Ptr) → P p → Q p) where
-    all_in_peer : (out : Bool) (peer : Peer) → IfServer out peer P → IfServer out peer Q
-    all_in_peer true peer h = tt
-    all_in_peer false (Server thread) h = more thread h
-    all_in_peer false Service h = tt
-    all_in_peer false Parked h = tt
-
-    all_in_talk : (o : Option Talk) → IfSome o (AllInTalk see P) → IfSome o (AllInTalk anew Q)
-    all_in_talk None h = tt
-    all_in_talk (Some talk) h = rw (rebound-is_out bind (see talk.port)) (more talk.port h.0, all_in_peer (is_out (see talk.port)) talk.peer h.1)
-
-    all_in_taker : (out : Bool) (o : Option Peer) → IfSome o (λ taker. IfServer out taker P) → IfSome o (λ taker. IfServer out taker Q)
-    all_in_taker out None h = tt
-    all_in_taker out (Some taker) h = all_in_peer out taker h
-
-    all_in_fault : (o : Option Fault) → IfSome o (AllInFault see P) → IfSome o (AllInFault anew Q)
-    all_in_fault None h = tt
-    all_in_fault (Some fault) h = rw (rebound-is_out bind (see fault.port)) (more fault.port h.0, all_in_taker (is_out (see fault.port)) fault.taker h.1)
-
-    all_in_body : (v : Option Body) → IfSome v (AllInBody see P) → IfSome v (AllInBody anew Q)
-    all_in_body (Some (Mapping m)) h = more m.region h
-    all_in_body (Some (Region r)) h = more r.keeper h
-    all_in_body (Some (Space birth (Some holder))) h = more holder h
-    all_in_body (Some (Space birth None)) h = tt
-    all_in_body (Some (Thread_of t)) h = (all_in_talk t.talk h.0, all_in_fault t.fault h.1)
-    all_in_body (Some (Reference to)) h = more to h
-    all_in_body (Some b) h = tt
-    all_in_body None h = tt
-
   pub rebound-image : (root : Path) (small big : World) → IsImage root see small big → IsImage root anew (rebound bind small) big
   unfolding rebound
   rebound-image root small big image = record {
@@ -210,7 +181,7 @@ module _ (bind : ℕ → ℕ) (see : Ptr → Ptr) where
     pages = image.pages;
     unborn = image.unborn;
     top = image.top;
-    pointers = λ k q. all_in_body (IsSeen root see big) (IsSeen root anew big) (λ p h. ptr_anew root big p (see p) h) (big.body (k ∷ (q ++ root))) (image.pointers k q);
+    pointers = λ k q. all_in_body see anew (λ p. rebound-is_out bind (see p)) (IsSeen root see big) (IsSeen root anew big) (λ p h. ptr_anew root big p (see p) h) (big.body (k ∷ (q ++ root))) (image.pointers k q);
     within = λ x. rw (image.within x) refl;
     null = rw image.null refl;
     dead = rw image.dead refl;
