@@ -75,7 +75,7 @@ module _ (see : Ptr → Ptr) where
   taker_set taker (Some fault) near = ap (λ (out : Bool). Some (record fault { port = see fault.port; taker = option_map (seen_peer see out) taker })) near
 
   -- the talk whose peer is set, and the fault whose taker, is at a port inside
-  abbrev IsNear : Edit → Body → Type 0
+  abbrev pub IsNear : Edit → Body → Type 0
   IsNear (SetPeer peer) b = IfSome (and_then (λ (t : Thread). t.talk) (thread_of b)) (λ talk. is_out (see talk.port) ≡ false)
   IsNear (SetTaker taker) b = IfSome (and_then (λ (t : Thread). t.fault) (thread_of b)) (λ fault. is_out (see fault.port) ≡ false)
   IsNear other b = Unit {0}
@@ -124,7 +124,7 @@ module _ (see : Ptr → Ptr) where
     taker_kept taker (Some fault) near good h = (h.0, rw near good)
 
     -- the pointers that an edit makes
-    abbrev IsGood : Edit → Type 0
+    abbrev pub IsGood : Edit → Type 0
     IsGood (SetPointer to) = P to
     IsGood (SetHolder holder) = IfSome holder P
     IsGood (SetTalk talk) = IfSome talk (AllInTalk see P)
