@@ -44,7 +44,7 @@ pub data ImageChange (root : Path) (see : Ptr → Ptr) (big : World) : Change �
   MakesSpace : (k : ℕ) (q : Path) (seen holder : Option Ptr) → seen ≡ and_then (seeing see).holder holder → IfSome holder (IsSeen root see big) →
       ImageChange root see big (MakeSpace (k ∷ q) seen) (MakeSpace (k ∷ (q ++ root)) holder)
   Kills : (k : ℕ) (q : Path) → IsApart root see big → ImageChange root see big (Kill (k ∷ q)) (Kill (k ∷ (q ++ root)))
-  Moves : (k : ℕ) (q : Path) (slot : ℕ) → IsApart root see big → ImageChange root see big (Move (k ∷ q) slot) (Move (k ∷ (q ++ root)) slot)
+  Moves : (k : ℕ) (q : Path) (slot : ℕ) → ImageChange root see big (Move (k ∷ q) slot) (Move (k ∷ (q ++ root)) slot)
   PutsPage : (q : Path) (page : ℕ) (words : List ℕ) → ImageChange root see big (PutPage q page words) (PutPage (q ++ root) page words)
   DropsPage : (q : Path) (page : ℕ) → ImageChange root see big (DropPage q page) (DropPage (q ++ root) page)
 
