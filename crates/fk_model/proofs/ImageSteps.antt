@@ -27,6 +27,11 @@ outside_apart root q x apart = same_path_sym x (q ++ root) ∙ same_path_outside
 off : {A : Type 0} (t : Bool) (a b : A) → t ≡ false → cond t a b ≡ b
 off t a b h = rw h refl
 
+pub kind_kept : (edit : Edit) (t : Bool) (v : Option Body) → and_then (λ b. Some (kind_of b)) (cond t (option_map (edited edit) v) v) ≡ and_then (λ b. Some (kind_of b)) v
+kind_kept edit true None = refl
+kind_kept edit true (Some b) = ap Some (kind-edited edit b)
+kind_kept edit false v = refl
+
 module _ {root : Path} {see : Ptr → Ptr} {small big : World} (image : IsImage root see small big) where
   -- what a body is seen as at a path
   abbrev shown : Path → Option Body → Option Body
@@ -87,7 +92,7 @@ module _ {root : Path} {see : Ptr → Ptr} {small big : World} (image : IsImage 
   is_good (SetTaker taker) x h = h.1
   is_good edit x h = tt
 
-  alter-image : (k : ℕ) (q : Path) (edit : Edit) → IsSeenEdit root see big (k ∷ (q ++ root)) edit → IsImage root see (apply (Alter (k ∷ q) (seen_edit see edit)) small) (apply (Alter (k ∷ (q ++ root)) edit) big)
+  pub alter-image : (k : ℕ) (q : Path) (edit : Edit) → IsSeenEdit root see big (k ∷ (q ++ root)) edit → IsImage root see (apply (Alter (k ∷ q) (seen_edit see edit)) small) (apply (Alter (k ∷ (q ++ root)) edit) big)
   unfolding apply
   alter-image k q edit h = at_path-image k q (option_map (edited (seen_edit see edit))) (option_map (edited edit)) (rw (image.bodies (k ∷ q)) (alike (big.body (k ∷ (q ++ root))) refl)) (near (big.body (k ∷ (q ++ root))) refl (image.pointers k q))
     where
@@ -101,11 +106,11 @@ module _ {root : Path} {see : Ptr → Ptr} {small big : World} (image : IsImage 
 
   -- ---- a new object
 
-  make-image : (k : ℕ) (q : Path) (body : Body) → AllInBody see (IsSeen root see big) body → IsImage root see (apply (Make (k ∷ q) (seen_by (seeing see) body)) small) (apply (Make (k ∷ (q ++ root)) body) big)
+  pub make-image : (k : ℕ) (q : Path) (body : Body) → AllInBody see (IsSeen root see big) body → IsImage root see (apply (Make (k ∷ q) (seen_by (seeing see) body)) small) (apply (Make (k ∷ (q ++ root)) body) big)
   unfolding apply
   make-image k q body h = at_path-image k q (λ there. Some (seen_by (seeing see) body)) (λ there. Some body) refl h
 
-  make_space-image : (k : ℕ) (q : Path) (holder : Option Ptr) → IfSome holder (IsSeen root see big) → IsImage root see (apply (MakeSpace (k ∷ q) (and_then (seeing see).holder holder)) small) (apply (MakeSpace (k ∷ (q ++ root)) holder) big)
+  pub make_space-image : (k : ℕ) (q : Path) (holder : Option Ptr) → IfSome holder (IsSeen root see big) → IsImage root see (apply (MakeSpace (k ∷ q) (and_then (seeing see).holder holder)) small) (apply (MakeSpace (k ∷ (q ++ root)) holder) big)
   unfolding apply seen_by kind_there
   make_space-image k q holder h =
       let made : IsImage root see (at_path (k ∷ q) (λ there. Some (Space small.next (and_then (seeing see).holder holder))) small) (at_path (k ∷ (q ++ root)) (λ there. Some (Space big.next holder)) big) =
@@ -123,7 +128,7 @@ module _ {root : Path} {see : Ptr → Ptr} {small big : World} (image : IsImage 
 
   -- ---- pages
 
-  page-image : (q : Path) (page : ℕ) (words : Option (List ℕ)) → IsImage root see (with_page q page words small) (with_page (q ++ root) page words big)
+  pub page-image : (q : Path) (page : ℕ) (words : Option (List ℕ)) → IsImage root see (with_page q page words small) (with_page (q ++ root) page words big)
   unfolding kind_there
   page-image q page words = record {
     bodies = image.bodies;
@@ -140,11 +145,6 @@ module _ {root : Path} {see : Ptr → Ptr} {small big : World} (image : IsImage 
 
   outside_body : (x : Path) (edit : Edit) → is_within root x ≡ false → (z : Path) → cond (same_path (z ++ root) x) (option_map (edited edit) (big.body (z ++ root))) (big.body (z ++ root)) ≡ big.body (z ++ root)
   outside_body x edit apart z = off _ _ _ (same_path_outside root z x (strip_none root x apart))
-
-  kind_kept : (edit : Edit) (t : Bool) (v : Option Body) → and_then (λ b. Some (kind_of b)) (cond t (option_map (edited edit) v) v) ≡ and_then (λ b. Some (kind_of b)) v
-  kind_kept edit true None = refl
-  kind_kept edit true (Some b) = ap Some (kind-edited edit b)
-  kind_kept edit false v = refl
 
   alter_outside : (x : Path) (edit : Edit) → is_within root x ≡ false → IsImage root see small (apply (Alter x edit) big)
   unfolding apply kind_there

@@ -81,7 +81,7 @@ kind-through : (F : Sweep) (at : Path) (b : Body) → kind_of (through F at b) �
 kind-through F at (Mutex locked) = refl
 kind-through F at b = refl
 
-kind-swept : (F : Sweep) (at : Path) (v : Option Body) → and_then (λ b. Some (kind_of b)) (option_map (through F at) v) ≡ and_then (λ b. Some (kind_of b)) v
+pub kind-swept : (F : Sweep) (at : Path) (v : Option Body) → and_then (λ b. Some (kind_of b)) (option_map (through F at) v) ≡ and_then (λ b. Some (kind_of b)) v
 kind-swept F at None = refl
 kind-swept F at (Some b) = ap Some (kind-through F at b)
 
