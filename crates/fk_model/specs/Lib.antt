@@ -42,3 +42,6 @@ pub mod WorkedObjects
 pub mod WorkedHolds
 pub mod WorkedStates
 pub mod WorkedPorters
+pub mod Image
+pub mod ImageChanges
+pub mod Rebind
