@@ -33,3 +33,16 @@ pub mod Closed
 pub mod Further
 pub mod Seen
 pub mod Numbers
+pub mod CutLaws
+pub mod Worked
+pub mod WorkedLocks
+pub mod WorkedTalks
+pub mod WorkedServers
+pub mod WorkedMemory
+pub mod WorkedObjects
+pub mod WorkedHolds
+pub mod WorkedStates
+pub mod WorkedPorters
+pub mod Image
+pub mod ImageChanges
+pub mod Rebind

@@ -19,6 +19,7 @@ mod stage;
 mod statuses;
 mod text;
 mod thread;
+pub mod worked;
 
 pub use body::Body;
 pub use instruction::{Act, Instr, operation};

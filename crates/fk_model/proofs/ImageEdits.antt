@@ -1,0 +1,161 @@
+-- An edit acts alike on an object and on what is seen of it, and keeps its pointers such as an image has.
+use Rattle.std.proofs.Common.{◌≡◌, ℕ, ◌+◌, Bool, true, false, min, List, [], ◌∷◌, ◌++◌, Option, Some, None, IfSome, option_map, refl, sym, ap, ◌∙◌}
+use Rattle.fk_model.specs.declared.limits.TheConstants.{MOST_MOVED}
+use Rattle.fk_model.specs.declared.stage.Stage.{Stage}
+use Rattle.fk_model.specs.declared.thread.Turn.{Turn}
+use Rattle.fk_model.specs.Places.{Path, Ptr}
+use Rattle.fk_model.specs.Objects.{Mode, Peer, Talk, Fault, Thread, Window, Extent, Body, kind_of, thread_of, and_then}
+use Rattle.fk_model.specs.Objects.Mode.{Running, Calling, Halted, Native}
+use Rattle.fk_model.specs.Objects.Peer.{Server, Service, Parked}
+use Rattle.fk_model.specs.Objects.Body.{Mutex, Cond, Mapping, Region, Port, Portset, Space, Thread_of, Reference}
+use Rattle.fk_model.specs.World.{World, Edit, edited, finished_in, ended_in}
+use Rattle.fk_model.specs.World.Edit.{SetLocked, SetWindow, SetExtent, SetMember, SetPointer, SetHolder, Proceed, Shift, Finish, End, Replace, SetStops, SetTalk, CountMoved, PassTurn, SetPeer, SetFault, SetTaker}
+use Rattle.fk_model.specs.Cut.{is_out, seen_by}
+use Rattle.fk_model.specs.Image.{seeing, seen_peer, seen_talk, seen_fault, seen_thread, IsSeen, IfServer, AllInTalk, AllInFault, AllInBody}
+use Rattle.fk_model.specs.ImageChanges.{seen_edit, IsSeenEdit}
+
+-- ---- kinds stay
+
+pub kind-edited : (edit : Edit) (b : Body) → kind_of (edited edit b) ≡ kind_of b
+unfolding edited
+kind-edited (SetLocked locked) (Mutex old) = refl
+kind-edited (SetLocked locked) b = refl
+kind-edited (SetWindow first count offset write) (Mapping m) = refl
+kind-edited (SetWindow first count offset write) b = refl
+kind-edited (SetExtent first count write) (Region r) = refl
+kind-edited (SetExtent first count write) b = refl
+kind-edited (SetMember set) (Port old served) = refl
+kind-edited (SetMember set) b = refl
+kind-edited (SetPointer to) (Reference old) = refl
+kind-edited (SetPointer to) b = refl
+kind-edited (SetHolder holder) (Space birth old) = refl
+kind-edited (SetHolder holder) b = refl
+kind-edited edit (Thread_of t) = refl
+kind-edited edit b = refl
+
+-- ---- on a thread
+
+ended-talk : (status : ℕ) (answers : List ℕ) (t : Thread) (mode : Mode) → ((ended_in status answers t mode).talk ≡ t.talk) × ((ended_in status answers t mode).fault ≡ t.fault)
+ended-talk status answers t (Calling todo rest) = (refl, refl)
+ended-talk status answers t mode = (refl, refl)
+
+finished-talk : (answers : List ℕ) (t : Thread) (mode : Mode) → ((finished_in answers t mode).talk ≡ t.talk) × ((finished_in answers t mode).fault ≡ t.fault)
+finished-talk answers t (Calling [] rest) = (refl, refl)
+finished-talk answers t (Calling (stage ∷ []) rest) = (refl, refl)
+finished-talk answers t (Calling (stage ∷ next_stage ∷ todo) rest) = (refl, refl)
+finished-talk answers t mode = (refl, refl)
+
+module _ (see : Ptr → Ptr) where
+  abbrev seen : Body → Body
+  seen b = seen_by (seeing see) b
+
+  ended-seen : (status : ℕ) (answers : List ℕ) (t : Thread) (mode : Mode) → seen_thread see (ended_in status answers t mode) ≡ ended_in status answers (seen_thread see t) mode
+  ended-seen status answers t (Calling todo rest) = refl
+  ended-seen status answers t mode = refl
+
+  finished-seen : (answers : List ℕ) (t : Thread) (mode : Mode) → seen_thread see (finished_in answers t mode) ≡ finished_in answers (seen_thread see t) mode
+  finished-seen answers t (Calling [] rest) = refl
+  finished-seen answers t (Calling (stage ∷ []) rest) = refl
+  finished-seen answers t (Calling (stage ∷ next_stage ∷ todo) rest) = refl
+  finished-seen answers t mode = refl
+
+  -- what changes no port and no peer
+  counted : (f : Talk → Talk) → ((talk : Talk) → seen_talk see (f talk) ≡ f (seen_talk see talk)) → (o : Option Talk) → and_then (seeing see).talk (option_map f o) ≡ option_map f (and_then (seeing see).talk o)
+  counted f same None = refl
+  counted f same (Some talk) = ap Some (same talk)
+
+  peer_set : (peer : Peer) (o : Option Talk) → IfSome o (λ talk. is_out (see talk.port) ≡ false) →
+      and_then (seeing see).talk (option_map (λ (talk : Talk). record talk { peer = peer }) o) ≡ option_map (λ (talk : Talk). record talk { peer = seen_peer see false peer }) (and_then (seeing see).talk o)
+  peer_set peer None near = refl
+  peer_set peer (Some talk) near = ap (λ (out : Bool). Some (record talk { port = see talk.port; peer = seen_peer see out peer })) near
+
+  taker_set : (taker : Option Peer) (o : Option Fault) → IfSome o (λ fault. is_out (see fault.port) ≡ false) →
+      and_then (seeing see).fault (option_map (λ (fault : Fault). record fault { taker = taker }) o) ≡ option_map (λ (fault : Fault). record fault { taker = option_map (seen_peer see false) taker }) (and_then (seeing see).fault o)
+  taker_set taker None near = refl
+  taker_set taker (Some fault) near = ap (λ (out : Bool). Some (record fault { port = see fault.port; taker = option_map (seen_peer see out) taker })) near
+
+  -- the talk whose peer is set, and the fault whose taker, is at a port inside
+  abbrev pub IsNear : Edit → Body → Type 0
+  IsNear (SetPeer peer) b = IfSome (and_then (λ (t : Thread). t.talk) (thread_of b)) (λ talk. is_out (see talk.port) ≡ false)
+  IsNear (SetTaker taker) b = IfSome (and_then (λ (t : Thread). t.fault) (thread_of b)) (λ fault. is_out (see fault.port) ≡ false)
+  IsNear other b = Unit {0}
+
+  pub edited-seen : (edit : Edit) (b : Body) → IsNear edit b → seen (edited edit b) ≡ edited (seen_edit see edit) (seen b)
+  unfolding seen_by edited
+  edited-seen (SetLocked locked) (Mutex old) near = refl
+  edited-seen (SetLocked locked) b near = refl
+  edited-seen (SetWindow first count offset write) (Mapping m) near = refl
+  edited-seen (SetWindow first count offset write) b near = refl
+  edited-seen (SetExtent first count write) (Region r) near = refl
+  edited-seen (SetExtent first count write) b near = refl
+  edited-seen (SetMember None) (Port old served) near = refl
+  edited-seen (SetMember (Some set)) (Port old served) near = refl
+  edited-seen (SetMember set) b near = refl
+  edited-seen (SetPointer to) (Reference old) near = refl
+  edited-seen (SetPointer to) b near = refl
+  edited-seen (SetHolder holder) (Space birth old) near = refl
+  edited-seen (SetHolder holder) b near = refl
+  edited-seen (Finish answers) (Thread_of t) near = ap Thread_of (finished-seen answers t t.mode)
+  edited-seen (End status answers) (Thread_of t) near = ap Thread_of (ended-seen status answers t t.mode)
+  edited-seen (CountMoved count) (Thread_of t) near =
+      let talk = counted (λ (talk : Talk). record talk { moved = min MOST_MOVED (talk.moved + count) }) (λ talk. refl) t.talk in
+      ap (λ (o : Option Talk). Thread_of (record t { talk = o; fault = and_then (seeing see).fault t.fault })) talk
+  edited-seen (PassTurn turn) (Thread_of t) near =
+      let talk = counted (λ (talk : Talk). record talk { turn = turn; moved = 0 }) (λ talk. refl) t.talk in
+      ap (λ (o : Option Talk). Thread_of (record t { talk = o; fault = and_then (seeing see).fault t.fault })) talk
+  edited-seen (SetPeer peer) (Thread_of t) near = ap (λ (o : Option Talk). Thread_of (record t { talk = o; fault = and_then (seeing see).fault t.fault })) (peer_set peer t.talk near)
+  edited-seen (SetTaker taker) (Thread_of t) near = ap (λ (o : Option Fault). Thread_of (record t { talk = and_then (seeing see).talk t.talk; fault = o })) (taker_set taker t.fault near)
+  edited-seen edit (Thread_of t) near = refl
+  edited-seen edit b near = refl
+
+  -- ---- pointers stay such as an image has
+
+  module _ (P : Ptr → Type 0) where
+    talk_kept : (f : Talk → Talk) → ((talk : Talk) → AllInTalk see P talk → AllInTalk see P (f talk)) → (o : Option Talk) → IfSome o (AllInTalk see P) → IfSome (option_map f o) (AllInTalk see P)
+    talk_kept f keeps None h = tt
+    talk_kept f keeps (Some talk) h = keeps talk h
+
+    peer_kept : (peer : Peer) (o : Option Talk) → IfSome o (λ talk. is_out (see talk.port) ≡ false) → IfServer false peer P → IfSome o (AllInTalk see P) → IfSome (option_map (λ (talk : Talk). record talk { peer = peer }) o) (AllInTalk see P)
+    peer_kept peer None near good h = tt
+    peer_kept peer (Some talk) near good h = (h.0, rw near good)
+
+    taker_kept : (taker : Option Peer) (o : Option Fault) → IfSome o (λ fault. is_out (see fault.port) ≡ false) → IfSome taker (λ taker. IfServer false taker P) → IfSome o (AllInFault see P) → IfSome (option_map (λ (fault : Fault). record fault { taker = taker }) o) (AllInFault see P)
+    taker_kept taker None near good h = tt
+    taker_kept taker (Some fault) near good h = (h.0, rw near good)
+
+    -- the pointers that an edit makes
+    abbrev pub IsGood : Edit → Type 0
+    IsGood (SetPointer to) = P to
+    IsGood (SetHolder holder) = IfSome holder P
+    IsGood (SetTalk talk) = IfSome talk (AllInTalk see P)
+    IsGood (SetPeer peer) = IfServer false peer P
+    IsGood (SetFault fault) = IfSome fault (AllInFault see P)
+    IsGood (SetTaker taker) = IfSome taker (λ taker. IfServer false taker P)
+    IsGood other = Unit {0}
+
+    pub edited-kept : (edit : Edit) (b : Body) → IsNear edit b → IsGood edit → AllInBody see P b → AllInBody see P (edited edit b)
+    unfolding edited
+    edited-kept (SetLocked locked) (Mutex old) near good h = h
+    edited-kept (SetLocked locked) b near good h = h
+    edited-kept (SetWindow first count offset write) (Mapping m) near good h = h
+    edited-kept (SetWindow first count offset write) b near good h = h
+    edited-kept (SetExtent first count write) (Region r) near good h = h
+    edited-kept (SetExtent first count write) b near good h = h
+    edited-kept (SetMember set) (Port old served) near good h = h
+    edited-kept (SetMember set) b near good h = h
+    edited-kept (SetPointer to) (Mapping m) near good h = good
+    edited-kept (SetPointer to) (Region r) near good h = good
+    edited-kept (SetPointer to) (Reference old) near good h = good
+    edited-kept (SetPointer to) b near good h = h
+    edited-kept (SetHolder holder) (Space birth old) near good h = good
+    edited-kept (SetHolder holder) b near good h = h
+    edited-kept (Finish answers) (Thread_of t) near good h = rw (finished-talk answers t t.mode).0 (rw (finished-talk answers t t.mode).1 h)
+    edited-kept (End status answers) (Thread_of t) near good h = rw (ended-talk status answers t t.mode).0 (rw (ended-talk status answers t t.mode).1 h)
+    edited-kept (CountMoved count) (Thread_of t) near good h = (talk_kept (λ (talk : Talk). record talk { moved = min MOST_MOVED (talk.moved + count) }) (λ talk h. h) t.talk h.0, h.1)
+    edited-kept (PassTurn turn) (Thread_of t) near good h = (talk_kept (λ (talk : Talk). record talk { turn = turn; moved = 0 }) (λ talk h. h) t.talk h.0, h.1)
+    edited-kept (SetTalk talk) (Thread_of t) near good h = (good, h.1)
+    edited-kept (SetPeer peer) (Thread_of t) near good h = (peer_kept peer t.talk near good h.0, h.1)
+    edited-kept (SetFault fault) (Thread_of t) near good h = (h.0, good)
+    edited-kept (SetTaker taker) (Thread_of t) near good h = (h.0, taker_kept taker t.fault near good h.1)
+    edited-kept edit (Thread_of t) near good h = h
+    edited-kept edit b near good h = h

@@ -1,0 +1,75 @@
+-- Changes in an image: which change of the small world stands for which of the big one, and which outcomes are alike.
+use Rattle.std.specs.Prelude.{◌≡◌, ℕ, Bool, true, false, List, [], ◌∷◌, ◌++◌, Option, Some, None, IfSome, option_map}
+use Rattle.fk_model.specs.Places.{Path, is_within, Ptr}
+use Rattle.fk_model.specs.Objects.{Peer, Talk, Fault, Body, and_then}
+use Rattle.fk_model.specs.World.{World, Change, Edit, apply}
+use Rattle.fk_model.specs.World.Change.{Alter, Make, MakeSpace, Kill, Move, PutPage, DropPage}
+use Rattle.fk_model.specs.World.Edit.{SetPointer, SetHolder, SetTalk, SetPeer, SetFault, SetTaker}
+use Rattle.fk_model.specs.Searches.{talk_at, fault_at}
+use Rattle.fk_model.specs.Outcomes.{Outcome}
+use Rattle.fk_model.specs.Outcomes.Outcome.{Refused, Waits, Goes}
+use Rattle.fk_model.specs.Cut.{is_out, seen_by}
+use Rattle.fk_model.specs.Image.{seeing, seen_peer, IsSeen, IfServer, AllInTalk, AllInFault, AllInBody, IsApart}
+
+-- ---- edits
+
+-- what an edit is seen as
+abbrev pub seen_edit : (Ptr → Ptr) → Edit → Edit
+seen_edit see (SetPointer to) = SetPointer (see to)
+seen_edit see (SetHolder holder) = SetHolder (and_then (seeing see).holder holder)
+seen_edit see (SetTalk talk) = SetTalk (and_then (seeing see).talk talk)
+seen_edit see (SetPeer peer) = SetPeer (seen_peer see false peer)
+seen_edit see (SetFault fault) = SetFault (and_then (seeing see).fault fault)
+seen_edit see (SetTaker taker) = SetTaker (option_map (seen_peer see false) taker)
+seen_edit see other = other
+
+-- the pointers that an edit makes lead inside or to ports outside; it gives a peer or a taker at a port inside alone
+abbrev pub IsSeenEdit : Path → (Ptr → Ptr) → World → Path → Edit → Type 0
+IsSeenEdit root see big x (SetPointer to) = IsSeen root see big to
+IsSeenEdit root see big x (SetHolder holder) = IfSome holder (IsSeen root see big)
+IsSeenEdit root see big x (SetTalk talk) = IfSome talk (AllInTalk see (IsSeen root see big))
+IsSeenEdit root see big x (SetPeer peer) = IfSome (talk_at big x) (λ talk. is_out (see talk.port) ≡ false) × IfServer false peer (IsSeen root see big)
+IsSeenEdit root see big x (SetFault fault) = IfSome fault (AllInFault see (IsSeen root see big))
+IsSeenEdit root see big x (SetTaker taker) = IfSome (fault_at big x) (λ fault. is_out (see fault.port) ≡ false) × IfSome taker (λ taker. IfServer false taker (IsSeen root see big))
+IsSeenEdit root see big x other = Unit {0}
+
+-- ---- changes
+
+-- a change of the small world, and the change of the big one for which it stands
+pub data ImageChange (root : Path) (see : Ptr → Ptr) (big : World) : Change → Change → Type 0 where
+  Alters : (k : ℕ) (q : Path) (seen edit : Edit) → seen ≡ seen_edit see edit → IsSeenEdit root see big (k ∷ (q ++ root)) edit →
+      ImageChange root see big (Alter (k ∷ q) seen) (Alter (k ∷ (q ++ root)) edit)
+  Makes : (k : ℕ) (q : Path) (seen body : Body) → seen ≡ seen_by (seeing see) body → AllInBody see (IsSeen root see big) body →
+      ImageChange root see big (Make (k ∷ q) seen) (Make (k ∷ (q ++ root)) body)
+  MakesSpace : (k : ℕ) (q : Path) (seen holder : Option Ptr) → seen ≡ and_then (seeing see).holder holder → IfSome holder (IsSeen root see big) →
+      ImageChange root see big (MakeSpace (k ∷ q) seen) (MakeSpace (k ∷ (q ++ root)) holder)
+  Kills : (k : ℕ) (q : Path) → IsApart root see big → ImageChange root see big (Kill (k ∷ q)) (Kill (k ∷ (q ++ root)))
+  Moves : (k : ℕ) (q : Path) (slot : ℕ) → ImageChange root see big (Move (k ∷ q) slot) (Move (k ∷ (q ++ root)) slot)
+  PutsPage : (q : Path) (page : ℕ) (words : List ℕ) → ImageChange root see big (PutPage q page words) (PutPage (q ++ root) page words)
+  DropsPage : (q : Path) (page : ℕ) → ImageChange root see big (DropPage q page) (DropPage (q ++ root) page)
+
+-- a change of an object or a page outside, of which the image shows nothing
+abbrev pub IsOutside : Path → Change → Type 0
+IsOutside root (Alter x edit) = is_within root x ≡ false
+IsOutside root (PutPage space page words) = is_within root space ≡ false
+IsOutside root (DropPage space page) = is_within root space ≡ false
+IsOutside root (Make x body) = ⊥
+IsOutside root (MakeSpace x holder) = ⊥
+IsOutside root (Kill x) = ⊥
+IsOutside root (Move x slot) = ⊥
+
+-- change by change, each in the world in which it is made; what is outside is left out
+pub data ImageChanges (root : Path) (see : Ptr → Ptr) : World → List Change → List Change → Type 0 where
+  Empty : {big : World} → ImageChanges root see big [] []
+  Both : {big : World} {c d : Change} {cs ds : List Change} → ImageChange root see big c d → ImageChanges root see (apply d big) cs ds → ImageChanges root see big (c ∷ cs) (d ∷ ds)
+  Beyond : {big : World} {d : Change} {cs ds : List Change} → IsOutside root d → ImageChanges root see (apply d big) cs ds → ImageChanges root see big cs (d ∷ ds)
+
+-- ---- outcomes
+
+-- what is refused is refused alike, and what goes makes the same changes. Of what waits nothing is said: a hold above the
+-- root isn't seen inside. What a move tells isn't compared
+abbrev pub IsImageOutcome : Path → (Ptr → Ptr) → World → Outcome → Outcome → Type 0
+IsImageOutcome root see big small Waits = Unit {0}
+IsImageOutcome root see big (Refused status) (Refused refusal) = status ≡ refusal
+IsImageOutcome root see big (Goes cs said) (Goes ds told) = ImageChanges root see big cs ds
+IsImageOutcome root see big small other = ⊥

@@ -1,0 +1,38 @@
+-- Rebinding: the outward ports of a subtree that is seen alone get other names.
+use Rattle.std.specs.Prelude.{ℕ, Option, Some, None, option_map}
+use Rattle.fk_model.specs.Places.{Ptr}
+use Rattle.fk_model.specs.Places.Ptr.{Null, Dead, At, Out, Outside, Far}
+use Rattle.fk_model.specs.Objects.{Peer, Talk, Fault, Body}
+use Rattle.fk_model.specs.Objects.Peer.{Server, Service, Parked}
+use Rattle.fk_model.specs.World.{World, Sweep, through}
+
+-- slot i of the nester becomes slot `bind i`
+abbrev pub rebound_ptr : (ℕ → ℕ) → Ptr → Ptr
+rebound_ptr bind (Out slot) = Out (bind slot)
+rebound_ptr bind Null = Null
+rebound_ptr bind Dead = Dead
+rebound_ptr bind (At x) = At x
+rebound_ptr bind Outside = Outside
+rebound_ptr bind Far = Far
+
+abbrev pub rebound_peer : (ℕ → ℕ) → Peer → Peer
+rebound_peer bind (Server thread) = Server (rebound_ptr bind thread)
+rebound_peer bind Service = Service
+rebound_peer bind Parked = Parked
+
+abbrev pub rebinding : (ℕ → ℕ) → Sweep
+rebinding bind = record {
+  pointer = rebound_ptr bind;
+  holder = λ p. Some (rebound_ptr bind p);
+  talk = λ talk. Some (record talk { port = rebound_ptr bind talk.port; peer = rebound_peer bind talk.peer });
+  fault = λ fault. Some (record fault { port = rebound_ptr bind fault.port; taker = option_map (rebound_peer bind) fault.taker });
+  set = λ port set. Some set;
+}
+
+-- the subtree with every outward port renamed. Nothing else of it changes
+unfoldable pub rebound : (ℕ → ℕ) → World → World
+rebound bind c = record {
+  body = λ q. option_map (through (rebinding bind) q) (c.body q);
+  page = c.page;
+  next = c.next;
+}
