@@ -1,0 +1,27 @@
+//! The outside of a call: where its bytes come from and where they go.
+//!
+//! A `Source` and a `Sink` count their faults, and a call of theirs fails only where the count rose.
+//! So whoever hands one in can tell a fault of the outside from a call that gives up. Where they
+//! tell their bytes, contracts say which bytes were read and written. `read_all` and `write_all`
+//! are the loops over them.
+//!
+//! `MemSource` and `MemSink` lie in memory, tell everything, and fail at the calls that they are
+//! told. `StdSource` and `StdSink` stand over a reader and a writer of std, and tell what those do.
+//!
+//! It stands on `fk_model` for want of memory alone.
+#![tactic(auto)]
+
+mod mem_sink;
+mod mem_source;
+mod streams;
+#[cfg(test)]
+mod tests;
+mod traits;
+mod whole;
+
+pub use fk_model::NoMemory;
+pub use mem_sink::MemSink;
+pub use mem_source::MemSource;
+pub use streams::{StdSink, StdSource};
+pub use traits::{Failed, Sink, Source};
+pub use whole::{LIMIT, ReadError, read_all, write_all};

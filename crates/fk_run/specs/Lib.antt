@@ -1,0 +1,9 @@
+pub mod Numbers
+pub mod Lines
+pub mod Operations
+pub mod Assembler
+pub mod Machine
+pub mod ExecText
+pub mod Status
+pub mod Exec
+pub mod Top

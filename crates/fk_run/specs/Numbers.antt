@@ -1,0 +1,18 @@
+-- Numbers in decimal.
+use Rattle.std.specs.Prelude.{ℕ, ◌+◌, ◌-◌, ◌*◌, Bool, not, ◌&&◌, ◌==◌, nat_le, List, length, fold, Option, Some, None, if◌then◌else◌}
+use Rattle.std.specs.List.{list_all}
+
+-- one of 0 to 9
+abbrev pub is_digit : ℕ → Bool
+is_digit byte = nat_le 48 byte && nat_le byte 57
+
+-- the number that digits write
+abbrev pub value_of : List ℕ → ℕ
+value_of digits = fold (λ number digit. number * 10 + (digit - 48)) 0 digits
+
+-- one digit or more and nothing else, leading zeros allowed, whose number is at most `most`
+unfoldable pub number_up_to : ℕ → List ℕ → Option ℕ
+number_up_to most token =
+    if not (length token == 0) && list_all is_digit token && nat_le (value_of token) most
+    then Some (value_of token)
+    else None

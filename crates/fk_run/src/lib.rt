@@ -1,0 +1,25 @@
+//! The top call: the words of the command line and the bytes of a source in, a text and a status out.
+//!
+//! It stands on `fk_isa` for the words of instructions, on `fk_causes` for the source and the sink,
+//! and on `fk_model` for what an instruction does. `assembler` makes the words of a text, `machine`
+//! runs them, and `exec` joins the two.
+//!
+//! It promises that `fluke_top` ends with exactly the status, and writes exactly the bytes, that the
+//! definitions in `specs/` call for; that it answers a fault only where one happened in this call;
+//! and that `fault_line` says of a status what the definitions say. It always returns.
+#![tactic(auto)]
+
+mod assembler;
+mod command;
+mod exec;
+mod exec_text;
+mod lines;
+mod machine;
+mod operations;
+mod status;
+#[cfg(test)]
+mod tests;
+mod top;
+
+pub use status::{Status, fault_line};
+pub use top::{Outcome, fluke_top};
