@@ -1,2 +1,4 @@
 pub mod TableLaws
 pub mod NameLaws
+pub mod Homes
+pub mod Walks

@@ -8,4 +8,7 @@
 
 mod bodies;
 mod pages;
+mod store;
 mod tables;
+
+pub use store::Store;
