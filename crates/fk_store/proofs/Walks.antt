@@ -28,7 +28,7 @@ same_path_true (k ∷ x) (j ∷ y) h = by (k == j) refl h (same_path_true x y)
     by true e is ih = let heads = eqb-true k j e in let tails = ih is in cc
     by false e is ih = absurd (cc)
 
-not_root : (n : ℕ) → 0 < n → (n == 0) ≡ false
+pub not_root : (n : ℕ) → 0 < n → (n == 0) ≡ false
 not_root n h = grind (arith, nat_tests)
 
 pub path-root : (m : Contents) → path m 0 ≡ []
@@ -79,7 +79,7 @@ module _ (m : Contents) (kept : IsKept m) where
       by true = refl
       by false = rw h refl
 
-  there-birth : (who : Who) (n : ℕ) → birth_there m who ≡ Some n → is_there m who ≡ true
+  pub there-birth : (who : Who) (n : ℕ) → birth_there m who ≡ Some n → is_there m who ≡ true
   there-birth who n = by (get m.bodies who)
     where
       by : (b : Option Body) → and_then birth_of b ≡ Some n → is_some b ≡ true

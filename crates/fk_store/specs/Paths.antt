@@ -1,7 +1,9 @@
 -- Paths: where the spaces of a store are.
-use Rattle.std.specs.Prelude.{ℕ, zero, suc, [], ◌∷◌, ◌==◌, Option, Some, None, if◌then◌else◌}
+use Rattle.std.specs.Prelude.{◌≡◌, ℕ, zero, suc, [], ◌∷◌, ◌==◌, Option, Some, None, if◌then◌else◌}
 use Rattle.std.specs.FinMap.{get}
 use Rattle.fk_model.specs.declared.names.Who.{Who}
+use Rattle.fk_model.specs.declared.body.Body.{Body}
+use Rattle.fk_model.specs.declared.body.Body.TheVariants.{Mutex, Cond, Mapping, Region, Port, Portset, Space, Thread, Reference}
 use Rattle.fk_model.specs.Places.{Path}
 use Rattle.fk_model.specs.Objects.{and_then}
 use Rattle.fk_store.specs.Names.{at}
@@ -32,3 +34,15 @@ path m n = path_by n m n
 unfoldable pub space_at : Contents → Path → Option ℕ
 space_at m [] = Some 0
 space_at m (k ∷ s) = and_then (λ n. birth_there m (at n k)) (space_at m s)
+
+-- a space has the path at which it stands
+abbrev pub IsAtHome : (ℕ → Path) → Who → Body → Type 0
+IsAtHome path who (Mutex locked) = Unit {0}
+IsAtHome path who Cond = Unit {0}
+IsAtHome path who (Mapping first count offset write region) = Unit {0}
+IsAtHome path who (Region first count write keeper) = Unit {0}
+IsAtHome path who (Port set served) = Unit {0}
+IsAtHome path who Portset = Unit {0}
+IsAtHome path who (Space birth holder) = path birth ≡ place path who
+IsAtHome path who (Thread thread) = Unit {0}
+IsAtHome path who (Reference to) = Unit {0}
