@@ -5,3 +5,6 @@ pub mod Walks
 pub mod LookUps
 pub mod Sets
 pub mod NamedLaws
+pub mod Changes
+pub mod SameKinds
+pub mod Founded

@@ -19,6 +19,9 @@ use Rattle.fk_store.specs.Named.{OnNamed}
 use Rattle.fk_store.specs.Kept.{is_there, IsKept}
 use Rattle.fk_store.proofs.NameLaws.{who_total, who_tied}
 use Rattle.fk_store.proofs.NamedLaws.{OnNamed-map}
+use Rattle.fk_store.proofs.Changes.{make-alter, kinds-make}
+use Rattle.fk_store.proofs.LookUps.{IsLive-there}
+use Rattle.fk_store.proofs.SameKinds.{kind-there, same-birth}
 use Rattle.fk_store.proofs.Homes.{home-found, home-none}
 use Rattle.fk_store.proofs.Walks.{same_path_true, space_at-path, same_space}
 
@@ -136,3 +139,34 @@ module _ (m : Contents) (kept : IsKept m) (who : Who) (old b : bodies_of.Body) (
     paged = λ space page h. is_live-births m kept (with_body m who b) put_births space ∙ kept.paged space page h;
     leads = kept_named named;
   }
+
+-- what a set of a body of the same kind leaves
+module _ (m : Contents) (kept : IsKept m) (who : Who) (b : bodies_of.Body) (kind : kind_there (world m) (place (path m) who) ≡ Some (kind_of (body_by (path m) b))) (home : IsAtHome (path m) who b) where
+  pub set-there : is_there m who ≡ true
+  set-there = ap is_some (kind-there m kept who _ kind).1
+
+  old_body : bodies_of.Body
+  old_body = (kind-there m kept who _ kind).0
+
+  old_there : get m.bodies who ≡ Some old_body
+  unfolding old_body
+  old_there = (kind-there m kept who _ kind).1
+
+  keeps_birth : birth_of b ≡ birth_of old_body
+  unfolding old_body
+  keeps_birth = same-birth m kept who old_body b old_there (kind-there m kept who _ kind).2 home
+
+  pub set-kept : OnNamed (IsLive m) b → IsKept (with_body m who b)
+  set-kept named = kept-set m kept who old_body b old_there keeps_birth (OnNamed-map (IsLive m) (λ q. is_there m q ≡ true) (IsLive-there m kept) b named)
+
+  pub set-world : world (with_body m who b) ≡ apply (Make (place (path m) who) (body_by (path m) b)) (world m)
+  set-world = world-set m kept who old_body b old_there keeps_birth
+
+  pub set-edits : (e : Edit) (old : Body) → (world m).body (place (path m) who) ≡ Some old → body_by (path m) b ≡ edited e old → world (with_body m who b) ≡ apply (Alter (place (path m) who) e) (world m)
+  set-edits e old there is = set-world ∙ make-alter (world m) (place (path m) who) old (body_by (path m) b) e there is
+
+  pub set-kinds : kind_there (world (with_body m who b)) ≡ kind_there (world m)
+  set-kinds = ap kind_there set-world ∙ kinds-make (world m) (place (path m) who) (body_by (path m) b) kind
+
+  pub set-paths : path (with_body m who b) ≡ path m
+  set-paths = path-set m kept who old_body b old_there keeps_birth

@@ -1,9 +1,15 @@
 //! The store of all objects and pages.
-ghost use Rattle.std.specs.Prelude.{◌≡◌, OnOk, OnErr, IsOk, IsSome, IfOk, option_map};
+ghost use Rattle.std.specs.Prelude.{◌≡◌, OnOk, OnErr, IsOk, Some, IsSome, IfSome, IfOk, option_map};
 ghost use Rattle.std.specs.Option.{option_copied};
-ghost use Rattle.fk_store.specs.Paths.{path, place};
+ghost use Rattle.fk_model.specs.Objects.{kind_of};
+ghost use Rattle.fk_model.specs.Objects as objects;
+ghost use Rattle.fk_model.specs.World.{Edit, edited, apply};
+ghost use Rattle.fk_model.specs.World.Change.{Alter, Make};
+ghost use Rattle.fk_model.specs.Valid.{kind_there};
+ghost use Rattle.fk_store.specs.Paths.{path, place, IsAtHome};
 ghost use Rattle.fk_store.specs.Bodies.{body_by};
-ghost use Rattle.fk_store.specs.World.{world, first_world};
+ghost use Rattle.fk_store.specs.Named.{OnNamed};
+ghost use Rattle.fk_store.specs.World.{world, first_world, IsLive, IsSpace};
 
 use crate::bodies::Bodies;
 use crate::pages::Pages;
@@ -44,10 +50,34 @@ impl Store {
         })
     }
 
-    /// The body of an object.
+    /// The birth number of the next space.
+    pub fn next_birth(&self) -> u32
+        ensures { result ≡ (world self.now).next }
+    {
+        self.next
+    }
+
+    /// The body of an object. The root has no name, and so no body here.
     pub fn at(&self, who: Who) -> Option<&Body>
         ensures body { option_map (body_by (path self.now)) (option_copied result) ≡ (world self.now).body (place (path self.now) who) }
+        ensures space { IsSome result → IsSpace self.now who.space }
+        ensures home { IfSome result (λ body. IsAtHome (path self.now) who body.now) }
+        ensures named { IfSome result (λ body. OnNamed (IsLive self.now) body.now) }
     {
         self.bodies.at(who)
+    }
+
+    /// Gives an object another body of its kind. A space keeps its birth number, and what the body
+    /// names is there.
+    pub fn set(&mut self, who: Who, body: Body)
+        requires kind { kind_there (world self.old) (place (path self.old) who) ≡ Some (kind_of (body_by (path self.old) body)) }
+        requires home { IsAtHome (path self.old) who body }
+        requires named { OnNamed (IsLive self.old) body }
+        ensures world { world self.new ≡ apply (Make (place (path self.old) who) (body_by (path self.old) body)) (world self.old) }
+        ensures edits { (e : Edit) (b : objects.Body) → (world self.old).body (place (path self.old) who) ≡ Some b → body_by (path self.old) body ≡ edited e b → world self.new ≡ apply (Alter (place (path self.old) who) e) (world self.old) }
+        ensures kinds { kind_there (world self.new) ≡ kind_there (world self.old) }
+        ensures paths { path self.new ≡ path self.old }
+    {
+        self.bodies.set(who, body);
     }
 }
