@@ -8,3 +8,4 @@ pub mod NamedLaws
 pub mod Changes
 pub mod SameKinds
 pub mod Founded
+pub mod Firsts
