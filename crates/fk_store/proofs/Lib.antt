@@ -9,3 +9,5 @@ pub mod Changes
 pub mod SameKinds
 pub mod Founded
 pub mod Firsts
+pub mod PageLaws
+pub mod Results

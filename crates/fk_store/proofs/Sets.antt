@@ -71,7 +71,7 @@ chosen_mapped false f a o = refl
 
 module _ (m : Contents) (kept : IsKept m) (who : Who) (live : is_live m who.space ≡ true) where
   -- where a walk down finds no space, there isn't that of the name
-  lost_apart : (s : Path) → space_at m s ≡ None → same_path s (path m who.space) ≡ false
+  pub lost_apart : (s : Path) → space_at m s ≡ None → same_path s (path m who.space) ≡ false
   lost_apart s none = by (same_path s (path m who.space)) refl
     where
       by : (b : Bool) → same_path s (path m who.space) ≡ b → b ≡ false

@@ -4,7 +4,7 @@ ghost use Rattle.std.specs.Option.{option_copied};
 ghost use Rattle.fk_model.specs.Objects.{kind_of};
 ghost use Rattle.fk_model.specs.Objects as objects;
 ghost use Rattle.fk_model.specs.World.{Edit, edited, apply};
-ghost use Rattle.fk_model.specs.World.Change.{Alter, Make};
+ghost use Rattle.fk_model.specs.World.Change.{Alter, Make, PutPage, DropPage};
 ghost use Rattle.fk_model.specs.Valid.{kind_there};
 ghost use Rattle.fk_store.specs.Paths.{path, place, IsAtHome};
 ghost use Rattle.fk_store.specs.Bodies.{body_by};
@@ -79,5 +79,34 @@ impl Store {
         ensures paths { path self.new ≡ path self.old }
     {
         self.bodies.set(who, body);
+    }
+
+    /// The words of a page of a space.
+    pub fn page(&self, space: u32, page: u8) -> Option<&[u64; 64]>
+        ensures { option_copied result ≡ (world self.now).page (path self.now space) page }
+    {
+        self.pages.at(space, page)
+    }
+
+    /// Gives a live space a page with these words, or writes over the one that is there, which
+    /// takes no memory. For want of memory all stays as it was.
+    pub fn put_page(&mut self, space: u32, page: u8, words: &[u64; 64]) -> Result<(), NoMemory>
+        requires { IsSpace self.old space }
+        ensures world { OnOk result (world self.new ≡ apply (PutPage (path self.old space) page words.now) (world self.old)) }
+        ensures there { IsSome ((world self.old).page (path self.old space) page) → IsOk result }
+        ensures err { OnErr result (self.new ≡ self.old) }
+        ensures kinds { kind_there (world self.new) ≡ kind_there (world self.old) }
+        ensures paths { path self.new ≡ path self.old }
+    {
+        self.pages.put(space, page, words)
+    }
+
+    /// Takes a page away from a space, if it is there.
+    pub fn drop_page(&mut self, space: u32, page: u8)
+        ensures world { world self.new ≡ apply (DropPage (path self.old space) page) (world self.old) }
+        ensures kinds { kind_there (world self.new) ≡ kind_there (world self.old) }
+        ensures paths { path self.new ≡ path self.old }
+    {
+        self.pages.remove(space, page);
     }
 }
