@@ -1,0 +1,13 @@
+pub mod TableLaws
+pub mod NameLaws
+pub mod Homes
+pub mod Walks
+pub mod LookUps
+pub mod Sets
+pub mod NamedLaws
+pub mod Changes
+pub mod SameKinds
+pub mod Founded
+pub mod Firsts
+pub mod PageLaws
+pub mod Results

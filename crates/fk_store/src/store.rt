@@ -1,0 +1,112 @@
+//! The store of all objects and pages.
+ghost use Rattle.std.specs.Prelude.{◌≡◌, OnOk, OnErr, IsOk, Some, IsSome, IfSome, IfOk, option_map};
+ghost use Rattle.std.specs.Option.{option_copied};
+ghost use Rattle.fk_model.specs.Objects.{kind_of};
+ghost use Rattle.fk_model.specs.Objects as objects;
+ghost use Rattle.fk_model.specs.World.{Edit, edited, apply};
+ghost use Rattle.fk_model.specs.World.Change.{Alter, Make, PutPage, DropPage};
+ghost use Rattle.fk_model.specs.Valid.{kind_there};
+ghost use Rattle.fk_store.specs.Paths.{path, place, IsAtHome};
+ghost use Rattle.fk_store.specs.Bodies.{body_by};
+ghost use Rattle.fk_store.specs.Named.{OnNamed};
+ghost use Rattle.fk_store.specs.World.{world, first_world, IsLive, IsSpace};
+
+use crate::bodies::Bodies;
+use crate::pages::Pages;
+use fk_model::{Body, NoMemory, Who};
+use std::alloc::Global;
+use std::marker::Model;
+
+/// Every object and every page, by the birth numbers of spaces.
+#[derive(Drop)]
+pub struct Store {
+    bodies: Bodies,
+    pages: Pages,
+    next: u32,
+}
+
+impl Model for Store {
+    ghost use Rattle.fk_store.specs.Contents.{Contents, coded_contents};
+    ghost use Rattle.fk_store.specs.Kept.{IsKept};
+
+    ghost Value = { Contents };
+
+    ghost coded = { coded_contents };
+
+    ghost view = { λ s. record { bodies = s.bodies; pages = s.pages; next = s.next } };
+
+    ghost invariant = { λ s. IsKept (record { bodies = s.bodies; pages = s.pages; next = s.next }) };
+}
+
+impl Store {
+    /// The root alone.
+    pub fn new(alloc: Global) -> Result<Store, NoMemory>
+        ensures { IfOk result (λ store. world store ≡ first_world) }
+    {
+        Ok(Store {
+            bodies: Bodies::new(alloc),
+            pages: Pages::new(alloc),
+            next: 1,
+        })
+    }
+
+    /// The birth number of the next space.
+    pub fn next_birth(&self) -> u32
+        ensures { result ≡ (world self.now).next }
+    {
+        self.next
+    }
+
+    /// The body of an object. The root has no name, and so no body here.
+    pub fn at(&self, who: Who) -> Option<&Body>
+        ensures body { option_map (body_by (path self.now)) (option_copied result) ≡ (world self.now).body (place (path self.now) who) }
+        ensures space { IsSome result → IsSpace self.now who.space }
+        ensures home { IfSome result (λ body. IsAtHome (path self.now) who body.now) }
+        ensures named { IfSome result (λ body. OnNamed (IsLive self.now) body.now) }
+    {
+        self.bodies.at(who)
+    }
+
+    /// Gives an object another body of its kind. A space keeps its birth number, and what the body
+    /// names is there.
+    pub fn set(&mut self, who: Who, body: Body)
+        requires kind { kind_there (world self.old) (place (path self.old) who) ≡ Some (kind_of (body_by (path self.old) body)) }
+        requires home { IsAtHome (path self.old) who body }
+        requires named { OnNamed (IsLive self.old) body }
+        ensures world { world self.new ≡ apply (Make (place (path self.old) who) (body_by (path self.old) body)) (world self.old) }
+        ensures edits { (e : Edit) (b : objects.Body) → (world self.old).body (place (path self.old) who) ≡ Some b → body_by (path self.old) body ≡ edited e b → world self.new ≡ apply (Alter (place (path self.old) who) e) (world self.old) }
+        ensures kinds { kind_there (world self.new) ≡ kind_there (world self.old) }
+        ensures paths { path self.new ≡ path self.old }
+    {
+        self.bodies.set(who, body);
+    }
+
+    /// The words of a page of a space.
+    pub fn page(&self, space: u32, page: u8) -> Option<&[u64; 64]>
+        ensures { option_copied result ≡ (world self.now).page (path self.now space) page }
+    {
+        self.pages.at(space, page)
+    }
+
+    /// Gives a live space a page with these words, or writes over the one that is there, which
+    /// takes no memory. For want of memory all stays as it was.
+    pub fn put_page(&mut self, space: u32, page: u8, words: &[u64; 64]) -> Result<(), NoMemory>
+        requires { IsSpace self.old space }
+        ensures world { OnOk result (world self.new ≡ apply (PutPage (path self.old space) page words.now) (world self.old)) }
+        ensures there { IsSome ((world self.old).page (path self.old space) page) → IsOk result }
+        ensures err { OnErr result (self.new ≡ self.old) }
+        ensures kinds { kind_there (world self.new) ≡ kind_there (world self.old) }
+        ensures paths { path self.new ≡ path self.old }
+    {
+        self.pages.put(space, page, words)
+    }
+
+    /// Takes a page away from a space, if it is there.
+    pub fn drop_page(&mut self, space: u32, page: u8)
+        ensures world { world self.new ≡ apply (DropPage (path self.old space) page) (world self.old) }
+        ensures kinds { kind_there (world self.new) ≡ kind_there (world self.old) }
+        ensures paths { path self.new ≡ path self.old }
+    {
+        self.pages.remove(space, page);
+    }
+}
