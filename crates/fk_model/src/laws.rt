@@ -1,6 +1,6 @@
 //! The laws of the definitions, each the contract of a function that does nothing.
 ghost use Rattle.fk_model.specs.Frame.{MoveKeepsBodies, MoveKeepsPages};
-ghost use Rattle.fk_model.specs.Laws.{WordsReadBack, TodoWritesBack, WordsKeepLength, RecordIsFull, RecordIsTaken, RecordSetsNothing, RecordChangesNothing};
+ghost use Rattle.fk_model.specs.Laws.{WordsReadBack, TodoWritesBack, WordsKeepLength, RecordIsFull, RecordIsTaken, RecordSetsNothing, RecordChangesNothing, StepKeepsValid};
 
 /// The registers of a calling thread show the stages that were written into them, and the rest.
 pub fn words_read_back()
@@ -47,4 +47,9 @@ pub fn record_changes_nothing()
 pub fn a_move_changes_only_what_it_lists()
     ensures bodies { MoveKeepsBodies }
     ensures pages { MoveKeepsPages }
+{}
+
+/// A fit move keeps a world valid.
+pub fn a_fit_move_keeps_a_valid_world()
+    ensures { StepKeepsValid }
 {}
