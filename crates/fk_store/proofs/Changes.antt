@@ -16,9 +16,9 @@ alike_at w x f g same q = by (same_path q x) refl
     by true e = subst (λ y. f (w.body y) ≡ g (w.body y)) (sym (same_path_true q x e)) same
 
 -- a body that is an edit of the one that is there
-pub make-alter : (w : World) (x : Path) (old new : Body) (e : Edit) → w.body x ≡ Some old → new ≡ edited e old → apply (Make x new) w ≡ apply (Alter x e) w
+pub make-alter : (w : World) (x : Path) (new : Body) (e : Edit) → option_map (edited e) (w.body x) ≡ Some new → apply (Make x new) w ≡ apply (Alter x e) w
 unfolding apply
-make-alter w x old new e there is = λ i. record { body = λ q. alike_at w x (λ b. Some new) (option_map (edited e)) (rw there (ap Some is)) q i; page = w.page; next = w.next }
+make-alter w x new e is = λ i. record { body = λ q. alike_at w x (λ b. Some new) (option_map (edited e)) (sym is) q i; page = w.page; next = w.next }
 
 -- a body of the kind of the one that is there
 pub kinds-make : (w : World) (x : Path) (new : Body) → kind_there w x ≡ Some (kind_of new) → kind_there (apply (Make x new) w) ≡ kind_there w

@@ -2,7 +2,6 @@
 ghost use Rattle.std.specs.Prelude.{◌≡◌, OnOk, OnErr, IsOk, Some, IsSome, IfSome, IfOk, option_map};
 ghost use Rattle.std.specs.Option.{option_copied};
 ghost use Rattle.fk_model.specs.Objects.{kind_of};
-ghost use Rattle.fk_model.specs.Objects as objects;
 ghost use Rattle.fk_model.specs.World.{Edit, edited, apply};
 ghost use Rattle.fk_model.specs.World.Change.{Alter, Make, PutPage, DropPage};
 ghost use Rattle.fk_model.specs.Valid.{kind_there};
@@ -59,7 +58,7 @@ impl Store {
 
     /// The body of an object. The root has no name, and so no body here.
     pub fn at(&self, who: Who) -> Option<&Body>
-        ensures body { option_map (body_by (path self.now)) (option_copied result) ≡ (world self.now).body (place (path self.now) who) }
+        ensures body { (world self.now).body (place (path self.now) who) ≡ option_map (body_by (path self.now)) (option_copied result) }
         ensures space { IsSome result → IsSpace self.now who.space }
         ensures home { IfSome result (λ body. IsAtHome (path self.now) who body.now) }
         ensures named { IfSome result (λ body. OnNamed (IsLive self.now) body.now) }
@@ -74,7 +73,7 @@ impl Store {
         requires home { IsAtHome (path self.old) who body }
         requires named { OnNamed (IsLive self.old) body }
         ensures world { world self.new ≡ apply (Make (place (path self.old) who) (body_by (path self.old) body)) (world self.old) }
-        ensures edits { (e : Edit) (b : objects.Body) → (world self.old).body (place (path self.old) who) ≡ Some b → body_by (path self.old) body ≡ edited e b → world self.new ≡ apply (Alter (place (path self.old) who) e) (world self.old) }
+        ensures edits { (e : Edit) → option_map (edited e) ((world self.old).body (place (path self.old) who)) ≡ Some (body_by (path self.old) body) → world self.new ≡ apply (Alter (place (path self.old) who) e) (world self.old) }
         ensures kinds { kind_there (world self.new) ≡ kind_there (world self.old) }
         ensures paths { path self.new ≡ path self.old }
     {
