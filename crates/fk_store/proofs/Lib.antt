@@ -11,3 +11,4 @@ pub mod Founded
 pub mod Firsts
 pub mod PageLaws
 pub mod Results
+pub mod Makes
