@@ -12,3 +12,4 @@ pub mod Firsts
 pub mod PageLaws
 pub mod Results
 pub mod Makes
+pub mod MadeSpaces

@@ -40,7 +40,7 @@ module _ (m : Contents) (kept : IsKept m) where
 
   module _ (who : Who) (live : is_live m who.space ≡ true) (slot : who.slot < 256) (empty : get m.bodies who ≡ None) (b : bodies_of.Body) where
     -- what is there after
-    after_there : (q : Who) → is_there m q ≡ true → is_some (get (insert m.bodies who b) q) ≡ true
+    pub after_there : (q : Who) → is_there m q ≡ true → is_some (get (insert m.bodies who b) q) ≡ true
     after_there q there = rw (get-insert who_total m.bodies who b q) (by (eq_by_cmp who_cmp q who))
       where
         by : (t : Bool) → is_some (cond t (Some b) (get m.bodies q)) ≡ true
@@ -48,14 +48,14 @@ module _ (m : Contents) (kept : IsKept m) where
         by false = there
 
     -- and before
-    before_there : (q : Who) → is_some (get (insert m.bodies who b) q) ≡ true → (q ≡ who) ⊎ (is_there m q ≡ true)
+    pub before_there : (q : Who) → is_some (get (insert m.bodies who b) q) ≡ true → (q ≡ who) ⊎ (is_there m q ≡ true)
     before_there q h = by (eq_by_cmp who_cmp q who) refl (rw (get-insert who_total m.bodies who b q) at h)
       where
         by : (t : Bool) → eq_by_cmp who_cmp q who ≡ t → is_some (cond (eq_by_cmp who_cmp q who) (Some b) (get m.bodies q)) ≡ true → (q ≡ who) ⊎ (is_there m q ≡ true)
         by true e h = inl (who_tied q who e)
         by false e h = inr (rw e at h)
 
-    after_body : (P : Who → Type 0) → OnNamed P b → ((q : Who) (c : bodies_of.Body) → get m.bodies q ≡ Some c → OnNamed P c) → (q : Who) (c : bodies_of.Body) → get (insert m.bodies who b) q ≡ Some c → OnNamed P c
+    pub after_body : (P : Who → Type 0) → OnNamed P b → ((q : Who) (c : bodies_of.Body) → get m.bodies q ≡ Some c → OnNamed P c) → (q : Who) (c : bodies_of.Body) → get (insert m.bodies who b) q ≡ Some c → OnNamed P c
     after_body P here others q c h = by (eq_by_cmp who_cmp q who) (sym (get-insert who_total m.bodies who b q) ∙ h)
       where
         by : (t : Bool) → cond t (Some b) (get m.bodies q) ≡ Some c → OnNamed P c
