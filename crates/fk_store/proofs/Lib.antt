@@ -13,3 +13,4 @@ pub mod PageLaws
 pub mod Results
 pub mod Makes
 pub mod MadeSpaces
+pub mod Making
