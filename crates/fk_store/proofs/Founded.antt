@@ -14,8 +14,8 @@ use Rattle.fk_store.proofs.NamedLaws.{OnNamed-map}
 use Rattle.fk_store.proofs.LookUps.{body-place, there-IsLive, live-IsSpace, there-IsAtHome}
 
 module _ (m : Contents) (kept : IsKept m) (who : Who) (found : Option (Bor Body)) (is : option_copied found ≡ get m.bodies who) where
-  pub found-body : option_map (body_by (path m)) (option_copied found) ≡ (world m).body (place (path m) who)
-  found-body = ap (option_map (body_by (path m))) is ∙ sym (body-place m kept who)
+  pub found-body : (world m).body (place (path m) who) ≡ option_map (body_by (path m)) (option_copied found)
+  found-body = body-place m kept who ∙ ap (option_map (body_by (path m))) (sym is)
 
   pub found-there : IsSome found → is_there m who ≡ true
   found-there some = ap is_some (sym is) ∙ by found some

@@ -11,3 +11,6 @@ pub mod Founded
 pub mod Firsts
 pub mod PageLaws
 pub mod Results
+pub mod Makes
+pub mod MadeSpaces
+pub mod Making

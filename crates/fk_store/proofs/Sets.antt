@@ -162,8 +162,8 @@ module _ (m : Contents) (kept : IsKept m) (who : Who) (b : bodies_of.Body) (kind
   pub set-world : world (with_body m who b) ≡ apply (Make (place (path m) who) (body_by (path m) b)) (world m)
   set-world = world-set m kept who old_body b old_there keeps_birth
 
-  pub set-edits : (e : Edit) (old : Body) → (world m).body (place (path m) who) ≡ Some old → body_by (path m) b ≡ edited e old → world (with_body m who b) ≡ apply (Alter (place (path m) who) e) (world m)
-  set-edits e old there is = set-world ∙ make-alter (world m) (place (path m) who) old (body_by (path m) b) e there is
+  pub set-edits : (e : Edit) → option_map (edited e) ((world m).body (place (path m) who)) ≡ Some (body_by (path m) b) → world (with_body m who b) ≡ apply (Alter (place (path m) who) e) (world m)
+  set-edits e is = set-world ∙ make-alter (world m) (place (path m) who) (body_by (path m) b) e is
 
   pub set-kinds : kind_there (world (with_body m who b)) ≡ kind_there (world m)
   set-kinds = ap kind_there set-world ∙ kinds-make (world m) (place (path m) who) (body_by (path m) b) kind

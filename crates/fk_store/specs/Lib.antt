@@ -6,3 +6,4 @@ pub mod Bodies
 pub mod World
 pub mod Named
 pub mod Kept
+pub mod Makes

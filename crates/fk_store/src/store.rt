@@ -1,11 +1,13 @@
 //! The store of all objects and pages.
-ghost use Rattle.std.specs.Prelude.{◌≡◌, OnOk, OnErr, IsOk, Some, IsSome, IfSome, IfOk, option_map};
+ghost use Rattle.std.specs.Prelude.{◌≡◌, ◌≢◌, ℕ, OnOk, OnErr, IsOk, Some, None, IsSome, IfSome, IfOk, option_map};
 ghost use Rattle.std.specs.Option.{option_copied};
 ghost use Rattle.fk_model.specs.Objects.{kind_of};
-ghost use Rattle.fk_model.specs.Objects as objects;
 ghost use Rattle.fk_model.specs.World.{Edit, edited, apply};
 ghost use Rattle.fk_model.specs.World.Change.{Alter, Make, PutPage, DropPage};
 ghost use Rattle.fk_model.specs.Valid.{kind_there};
+ghost use Rattle.fk_model.specs.Places.{Path};
+ghost use Rattle.fk_model.specs.declared.names.Who.{Who};
+ghost use Rattle.fk_store.specs.Makes.{making, IsNext, next_by};
 ghost use Rattle.fk_store.specs.Paths.{path, place, IsAtHome};
 ghost use Rattle.fk_store.specs.Bodies.{body_by};
 ghost use Rattle.fk_store.specs.Named.{OnNamed};
@@ -59,7 +61,7 @@ impl Store {
 
     /// The body of an object. The root has no name, and so no body here.
     pub fn at(&self, who: Who) -> Option<&Body>
-        ensures body { option_map (body_by (path self.now)) (option_copied result) ≡ (world self.now).body (place (path self.now) who) }
+        ensures body { (world self.now).body (place (path self.now) who) ≡ option_map (body_by (path self.now)) (option_copied result) }
         ensures space { IsSome result → IsSpace self.now who.space }
         ensures home { IfSome result (λ body. IsAtHome (path self.now) who body.now) }
         ensures named { IfSome result (λ body. OnNamed (IsLive self.now) body.now) }
@@ -74,11 +76,33 @@ impl Store {
         requires home { IsAtHome (path self.old) who body }
         requires named { OnNamed (IsLive self.old) body }
         ensures world { world self.new ≡ apply (Make (place (path self.old) who) (body_by (path self.old) body)) (world self.old) }
-        ensures edits { (e : Edit) (b : objects.Body) → (world self.old).body (place (path self.old) who) ≡ Some b → body_by (path self.old) body ≡ edited e b → world self.new ≡ apply (Alter (place (path self.old) who) e) (world self.old) }
+        ensures edits { (e : Edit) → option_map (edited e) ((world self.old).body (place (path self.old) who)) ≡ Some (body_by (path self.old) body) → world self.new ≡ apply (Alter (place (path self.old) who) e) (world self.old) }
         ensures kinds { kind_there (world self.new) ≡ kind_there (world self.old) }
         ensures paths { path self.new ≡ path self.old }
     {
         self.bodies.set(who, body);
+    }
+
+    /// Puts a new object into an empty slot of a live space. A space has the next birth number,
+    /// which is below 2^32 - 1, and what the body names is there. For want of memory all stays as
+    /// it was.
+    pub fn make(&mut self, who: Who, body: Body) -> Result<(), NoMemory>
+        requires space { IsSpace self.old who.space }
+        requires empty { (world self.old).body (place (path self.old) who) ≡ None }
+        requires birth { IsNext (world self.old).next body }
+        requires named { OnNamed (IsLive self.old) body }
+        ensures world { OnOk result (world self.new ≡ apply (making (place (path self.old) who) (body_by (path self.old) body)) (world self.old)) }
+        ensures home { OnOk result (IsAtHome (path self.new) who body) }
+        ensures err { OnErr result (self.new ≡ self.old) }
+
+        // What was there is of its kind still, and has its path.
+        ensures kinds { (x : Path) → IsSome (kind_there (world self.old) x) → kind_there (world self.new) x ≡ kind_there (world self.old) x }
+        ensures places { (other : Who) → IsLive self.old other → place (path self.new) other ≡ place (path self.old) other }
+        ensures paths { (n : ℕ) → n ≢ (world self.old).next → path self.new n ≡ path self.old n }
+    {
+        self.bodies.put(who, body)?;
+        self.next = next_after(self.next, &body);
+        Ok(())
     }
 
     /// The words of a page of a space.
@@ -108,5 +132,16 @@ impl Store {
         ensures paths { path self.new ≡ path self.old }
     {
         self.pages.remove(space, page);
+    }
+}
+
+/// The next birth number once an object is made.
+fn next_after(next: u32, body: &Body) -> u32
+    requires { IsNext next body.now }
+    ensures { result ≡ next_by next body.now }
+{
+    match body {
+        Body::Space { .. } => next + 1,
+        _ => next,
     }
 }
