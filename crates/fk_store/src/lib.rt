@@ -10,5 +10,6 @@ mod bodies;
 mod pages;
 mod store;
 mod tables;
+mod threads;
 
 pub use store::Store;
