@@ -14,3 +14,4 @@ pub mod Results
 pub mod Makes
 pub mod MadeSpaces
 pub mod Making
+pub mod NextKeys

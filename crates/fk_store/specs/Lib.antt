@@ -1,4 +1,5 @@
 pub mod Names
+pub mod Orders
 pub mod Sorted
 pub mod Contents
 pub mod Paths
