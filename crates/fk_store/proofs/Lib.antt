@@ -15,3 +15,5 @@ pub mod Makes
 pub mod MadeSpaces
 pub mod Making
 pub mod NextKeys
+pub mod HoldLaws
+pub mod Enumerated

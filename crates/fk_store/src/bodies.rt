@@ -2,9 +2,11 @@
 ghost use Rattle.std.specs.Prelude.{◌≡◌, OnOk, OnErr, IsSome, option_map, find};
 ghost use Rattle.std.specs.Option.{option_copied};
 ghost use Rattle.std.specs.FinMap as map;
+ghost use Rattle.fk_store.specs.Names.{who_cmp};
+ghost use Rattle.fk_store.specs.Orders.{IsFirstAfter};
 ghost use Rattle.fk_store.specs.Contents.{birth_of, is_number, home_in};
 
-use crate::tables::{put_value, set_value, value_of};
+use crate::tables::{next_key, put_value, set_value, value_of};
 use fk_model::{Body, NoMemory, Who};
 use std::alloc::Global;
 use std::marker::Model;
@@ -64,6 +66,14 @@ impl Bodies {
         ensures err { OnErr result (self.new ≡ self.old) }
     {
         Ok(put_value(&mut self.entries, who, body)?)
+    }
+
+    /// The first object after this one, by space and then by slot; the first of all where there is
+    /// none.
+    pub fn after(&self, who: Option<Who>) -> Option<Who>
+        ensures { IsFirstAfter who_cmp (λ k. IsSome (map.get self.now k)) who result }
+    {
+        next_key(&self.entries, who)
     }
 
     /// The place of the space with this birth number.
