@@ -9,7 +9,7 @@ use Rattle.fk_store.specs.Paths.{path, place, IsAtHome, IsApart}
 use Rattle.fk_store.specs.Bodies.{body_by}
 use Rattle.fk_store.specs.Named.{OnNamed}
 use Rattle.fk_store.specs.World.{world, IsLive, IsSpace}
-use Rattle.fk_store.specs.Kept.{is_there, IsKept}
+use Rattle.fk_store.specs.Kept.{is_there, IsSized, IsKept}
 use Rattle.fk_store.proofs.NamedLaws.{OnNamed-map}
 use Rattle.fk_store.proofs.Walks.{place-apart}
 use Rattle.fk_store.proofs.LookUps.{body-place, there-IsLive, live-IsSpace, there-IsAtHome}
@@ -44,3 +44,10 @@ module _ (m : Contents) (kept : IsKept m) (who : Who) (found : Option (Bor Body)
 
   pub found-apart : IsSome found → IsApart (path m) who
   found-apart some = place-apart m kept who (kept.housed who (found-there some))
+
+  pub found-sized : IfSome found (λ b. IsSized b.now)
+  found-sized = by found refl
+    where
+      by : (o : Option (Bor Body)) → found ≡ o → IfSome o (λ b. IsSized b.now)
+      by None e = tt
+      by (Some b) e = kept.sized who b.now (sym is ∙ ap option_copied e)

@@ -13,6 +13,7 @@ ghost use Rattle.fk_store.specs.Makes.{making, IsNext, next_by};
 ghost use Rattle.fk_store.specs.Paths.{path, place, IsAtHome, IsApart};
 ghost use Rattle.fk_store.specs.Bodies.{body_by};
 ghost use Rattle.fk_store.specs.Named.{OnNamed};
+ghost use Rattle.fk_store.specs.Kept.{IsSized};
 ghost use Rattle.fk_store.specs.World.{world, first_world, IsLive, IsSpace};
 
 mod holds;
@@ -69,6 +70,7 @@ impl Store {
         ensures space { IsSome result → IsSpace self.now who.space }
         ensures home { IfSome result (λ body. IsAtHome (path self.now) who body.now) }
         ensures named { IfSome result (λ body. OnNamed (IsLive self.now) body.now) }
+        ensures sized { IfSome result (λ body. IsSized body.now) }
         ensures apart { IsSome result → IsApart (path self.now) who }
     {
         self.bodies.at(who)
@@ -95,12 +97,13 @@ impl Store {
         self.bodies.home(space)
     }
 
-    /// Gives an object another body of its kind. A space keeps its birth number, and what the body
-    /// names is there.
+    /// Gives an object another body of its kind. A space keeps its birth number, what the body names
+    /// is there, and the pages of a mapping or a region are among 0 to 255.
     pub fn set(&mut self, who: Who, body: Body)
         requires kind { kind_there (world self.old) (place (path self.old) who) ≡ Some (kind_of (body_by (path self.old) body)) }
         requires home { IsAtHome (path self.old) who body }
         requires named { OnNamed (IsLive self.old) body }
+        requires sized { IsSized body }
         ensures world { world self.new ≡ apply (Make (place (path self.old) who) (body_by (path self.old) body)) (world self.old) }
         ensures edits { (e : Edit) → option_map (edited e) ((world self.old).body (place (path self.old) who)) ≡ Some (body_by (path self.old) body) → world self.new ≡ apply (Alter (place (path self.old) who) e) (world self.old) }
         ensures kinds { kind_there (world self.new) ≡ kind_there (world self.old) }
@@ -110,13 +113,14 @@ impl Store {
     }
 
     /// Puts a new object into an empty slot of a live space. A space has the next birth number,
-    /// which is below 2^32 - 1, and what the body names is there. For want of memory all stays as
-    /// it was.
+    /// which is below 2^32 - 1, what the body names is there, and the pages of a mapping or a region
+    /// are among 0 to 255. For want of memory all stays as it was.
     pub fn make(&mut self, who: Who, body: Body) -> Result<(), NoMemory>
         requires space { IsSpace self.old who.space }
         requires empty { (world self.old).body (place (path self.old) who) ≡ None }
         requires birth { IsNext (world self.old).next body }
         requires named { OnNamed (IsLive self.old) body }
+        requires sized { IsSized body }
         ensures world { OnOk result (world self.new ≡ apply (making (place (path self.old) who) (body_by (path self.old) body)) (world self.old)) }
         ensures home { OnOk result (IsAtHome (path self.new) who body) }
         ensures err { OnErr result (self.new ≡ self.old) }
