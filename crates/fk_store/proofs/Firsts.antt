@@ -35,6 +35,7 @@ kept-first = record {
   housed = λ who h. no_body who h;
   paged = λ space page h. let none : get first.pages (space, page) ≡ None = get-empty page_cmp (space, page) in let nothing = ap is_some none in absurd (cc);
   leads = λ who b h. no_body who (rw h refl);
+  sized = λ who b h. no_body who (rw h refl);
 }
 
 pub world-first : world first ≡ first_world

@@ -5,12 +5,13 @@ use Rattle.std.specs.FinMap.{get}
 use Rattle.fk_model.specs.declared.names.Who.{Who}
 use Rattle.fk_model.specs.declared.body.Body.{Body}
 use Rattle.fk_store.specs.Contents.{Contents}
-use Rattle.fk_store.specs.Paths.{path, place, IsAtHome}
+use Rattle.fk_store.specs.Paths.{path, place, IsAtHome, IsApart}
 use Rattle.fk_store.specs.Bodies.{body_by}
 use Rattle.fk_store.specs.Named.{OnNamed}
 use Rattle.fk_store.specs.World.{world, IsLive, IsSpace}
-use Rattle.fk_store.specs.Kept.{is_there, IsKept}
+use Rattle.fk_store.specs.Kept.{is_there, IsSized, IsKept}
 use Rattle.fk_store.proofs.NamedLaws.{OnNamed-map}
+use Rattle.fk_store.proofs.Walks.{place-apart}
 use Rattle.fk_store.proofs.LookUps.{body-place, there-IsLive, live-IsSpace, there-IsAtHome}
 
 module _ (m : Contents) (kept : IsKept m) (who : Who) (found : Option (Bor Body)) (is : option_copied found ≡ get m.bodies who) where
@@ -40,3 +41,13 @@ module _ (m : Contents) (kept : IsKept m) (who : Who) (found : Option (Bor Body)
       by : (o : Option (Bor Body)) → found ≡ o → IfSome o (λ b. OnNamed (IsLive m) b.now)
       by None e = tt
       by (Some b) e = OnNamed-map (λ q. is_there m q ≡ true) (IsLive m) (there-IsLive m kept) b.now (kept.leads who b.now (sym is ∙ ap option_copied e))
+
+  pub found-apart : IsSome found → IsApart (path m) who
+  found-apart some = place-apart m kept who (kept.housed who (found-there some))
+
+  pub found-sized : IfSome found (λ b. IsSized b.now)
+  found-sized = by found refl
+    where
+      by : (o : Option (Bor Body)) → found ≡ o → IfSome o (λ b. IsSized b.now)
+      by None e = tt
+      by (Some b) e = kept.sized who b.now (sym is ∙ ap option_copied e)

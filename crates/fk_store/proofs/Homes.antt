@@ -12,7 +12,7 @@ use Rattle.fk_model.specs.declared.names.Who.{Who}
 use Rattle.fk_model.specs.declared.body.Body.{Body}
 use Rattle.fk_model.specs.Objects.{and_then}
 use Rattle.fk_store.specs.Names.{who_cmp}
-use Rattle.fk_store.specs.Contents.{Contents, birth_of, birth_there, is_number, home}
+use Rattle.fk_store.specs.Contents.{Contents, birth_of, birth_there, is_number, home_in, home}
 use Rattle.fk_store.specs.Kept.{IsKept}
 use Rattle.fk_store.proofs.TableLaws.{first, second}
 use Rattle.fk_store.proofs.NameLaws.{who_total}
@@ -69,7 +69,7 @@ chosen_passes {A = A} p (d ∷ es) e h = by (p d) refl h (chosen_passes p es e)
 
 -- a home holds the space
 pub home-found : (m : Contents) (n : ℕ) (who : Who) → home m n ≡ Some who → birth_there m who ≡ Some n
-unfolding home
+unfolding home_in
 home-found m n who h = by (find p (entries m.bodies)) refl h
   where
     p : Who × Body → Bool
@@ -85,7 +85,7 @@ home-found m n who h = by (find p (entries m.bodies)) refl h
 
 -- where there is no home, no space has the number
 pub home-none : (m : Contents) (n : ℕ) (who : Who) → home m n ≡ None → birth_there m who ≡ Some n → ⊥
-unfolding home
+unfolding home_in
 home-none m n who h there = by (find p (entries m.bodies)) refl h (get m.bodies who) refl there
   where
     p : Who × Body → Bool

@@ -1,3 +1,4 @@
+pub mod ThreadLaws
 pub mod TableLaws
 pub mod NameLaws
 pub mod Homes
@@ -14,4 +15,6 @@ pub mod Results
 pub mod Makes
 pub mod MadeSpaces
 pub mod Making
-pub mod ThreadLaws
+pub mod NextKeys
+pub mod HoldLaws
+pub mod Enumerated

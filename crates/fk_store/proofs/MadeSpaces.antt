@@ -19,7 +19,7 @@ use Rattle.fk_store.specs.Paths.{nowhere, place, from_home, path, space_at, IsAt
 use Rattle.fk_store.specs.Bodies.{body_by}
 use Rattle.fk_store.specs.Named.{Each, OnNamed}
 use Rattle.fk_store.specs.World.{world, body_at, page_at}
-use Rattle.fk_store.specs.Kept.{is_there, IsKept}
+use Rattle.fk_store.specs.Kept.{is_there, IsSized, IsKept}
 use Rattle.fk_store.proofs.NameLaws.{who_total, who_tied}
 use Rattle.fk_store.proofs.NamedLaws.{OnNamed-map, body_by-named}
 use Rattle.fk_store.proofs.Homes.{home-found, home-none}
@@ -105,9 +105,10 @@ module _ (m : Contents) (kept : IsKept m) (who : Who) (live : is_live m who.spac
     slots = λ q h. elim (before_there m kept who live slot empty (bodies.Space m.next holder) q h) [ inl e ↦ rw e slot | inr there ↦ kept.slots q there ];
     housed = λ q h. live_stays q.space (elim (before_there m kept who live slot empty (bodies.Space m.next holder) q h) [ inl e ↦ rw e live | inr there ↦ kept.housed q there ]);
     paged = λ n page h. live_stays n (kept.paged n page h);
-    leads = after_body m kept who live slot empty (bodies.Space m.next holder) (λ q. is_there with_space q ≡ true)
+    leads = after_body m kept who live slot empty (bodies.Space m.next holder) (OnNamed (λ q. is_there with_space q ≡ true))
         (OnNamed-map (λ q. is_there m q ≡ true) (λ q. is_there with_space q ≡ true) (after_there m kept who live slot empty (bodies.Space m.next holder)) (bodies.Space m.next holder) named)
         (λ q c h. OnNamed-map (λ q. is_there m q ≡ true) (λ q. is_there with_space q ≡ true) (after_there m kept who live slot empty (bodies.Space m.next holder)) c (kept.leads q c h));
+    sized = after_body m kept who live slot empty (bodies.Space m.next holder) IsSized tt kept.sized;
   }
 
   module _ (kept2 : IsKept with_space) where

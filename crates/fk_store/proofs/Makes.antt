@@ -19,7 +19,7 @@ use Rattle.fk_store.specs.Paths.{nowhere, place, from_home, path, space_at, IsAt
 use Rattle.fk_store.specs.Bodies.{body_by}
 use Rattle.fk_store.specs.Named.{OnNamed}
 use Rattle.fk_store.specs.World.{world, body_at, page_at, IsLive, IsSpace}
-use Rattle.fk_store.specs.Kept.{is_there, IsKept}
+use Rattle.fk_store.specs.Kept.{is_there, IsSized, IsKept}
 use Rattle.fk_store.specs.Makes.{making, IsNext, next_by}
 use Rattle.fk_store.proofs.NameLaws.{who_total, who_tied}
 use Rattle.fk_store.proofs.NamedLaws.{OnNamed-map}
@@ -55,11 +55,11 @@ module _ (m : Contents) (kept : IsKept m) where
         by true e h = inl (who_tied q who e)
         by false e h = inr (rw e at h)
 
-    pub after_body : (P : Who → Type 0) → OnNamed P b → ((q : Who) (c : bodies_of.Body) → get m.bodies q ≡ Some c → OnNamed P c) → (q : Who) (c : bodies_of.Body) → get (insert m.bodies who b) q ≡ Some c → OnNamed P c
+    pub after_body : (P : bodies_of.Body → Type 0) → P b → ((q : Who) (c : bodies_of.Body) → get m.bodies q ≡ Some c → P c) → (q : Who) (c : bodies_of.Body) → get (insert m.bodies who b) q ≡ Some c → P c
     after_body P here others q c h = by (eq_by_cmp who_cmp q who) (sym (get-insert who_total m.bodies who b q) ∙ h)
       where
-        by : (t : Bool) → cond t (Some b) (get m.bodies q) ≡ Some c → OnNamed P c
-        by true e = let same : b ≡ c = cc in subst (OnNamed P) same here
+        by : (t : Bool) → cond t (Some b) (get m.bodies q) ≡ Some c → P c
+        by true e = let same : b ≡ c = cc in subst P same here
         by false e = others q c e
 
     -- ---- an object that is no space
@@ -82,8 +82,8 @@ module _ (m : Contents) (kept : IsKept m) where
           bodies [] = refl
           bodies (j ∷ s) = rw (path-made, space_at-births m kept (with_body m who b) made_births s) (put_at m kept who live b (body_by (path m)) j s)
 
-      pub kept-made : OnNamed (λ q. is_there m q ≡ true) b → IsKept (with_body m who b)
-      kept-made named = record {
+      pub kept-made : OnNamed (λ q. is_there m q ≡ true) b → IsSized b → IsKept (with_body m who b)
+      kept-made named sized = record {
         begun = kept.begun;
         alone = λ q n h. home-births m kept (with_body m who b) made_births n ∙ kept.alone q n (sym (made_births q) ∙ h);
         younger = λ q n h. kept.younger q n (sym (made_births q) ∙ h);
@@ -91,6 +91,7 @@ module _ (m : Contents) (kept : IsKept m) where
         slots = λ q h. elim (before_there q h) [ inl e ↦ rw e slot | inr there ↦ kept.slots q there ];
         housed = λ q h. is_live-births m kept (with_body m who b) made_births q.space ∙ elim (before_there q h) [ inl e ↦ rw e live | inr there ↦ kept.housed q there ];
         paged = λ space page h. is_live-births m kept (with_body m who b) made_births space ∙ kept.paged space page h;
-        leads = after_body (λ q. is_there (with_body m who b) q ≡ true) (OnNamed-map (λ q. is_there m q ≡ true) (λ q. is_there (with_body m who b) q ≡ true) after_there b named)
+        leads = after_body (OnNamed (λ q. is_there (with_body m who b) q ≡ true)) (OnNamed-map (λ q. is_there m q ≡ true) (λ q. is_there (with_body m who b) q ≡ true) after_there b named)
             (λ q c h. OnNamed-map (λ q. is_there m q ≡ true) (λ q. is_there (with_body m who b) q ≡ true) after_there c (kept.leads q c h));
+        sized = after_body IsSized sized kept.sized;
       }

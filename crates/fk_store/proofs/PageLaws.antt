@@ -56,6 +56,7 @@ module _ (m : Contents) (kept : IsKept m) (pages : FinMap page_cmp (List ℕ)) w
     housed = λ q h. is_live-births m kept (with_pages m pages) births q.space ∙ kept.housed q h;
     paged = λ space page h. is_live-births m kept (with_pages m pages) births space ∙ housed space page h;
     leads = kept.leads;
+    sized = kept.sized;
   }
 
 module _ (m : Contents) (kept : IsKept m) (space page : ℕ) where

@@ -16,7 +16,7 @@ use Rattle.fk_store.specs.Paths.{place, from_home, path_by, path, space_at, IsAt
 use Rattle.fk_store.specs.Bodies.{body_by}
 use Rattle.fk_store.specs.World.{world, body_at, page_at, IsLive, IsSpace}
 use Rattle.fk_store.specs.Named.{OnNamed}
-use Rattle.fk_store.specs.Kept.{is_there, IsKept}
+use Rattle.fk_store.specs.Kept.{is_there, IsSized, IsKept}
 use Rattle.fk_store.proofs.NameLaws.{who_total, who_tied}
 use Rattle.fk_store.proofs.NamedLaws.{OnNamed-map}
 use Rattle.fk_store.proofs.Changes.{make-alter, kinds-make}
@@ -128,8 +128,15 @@ module _ (m : Contents) (kept : IsKept m) (who : Who) (old b : bodies_of.Body) (
       by true e = let same : b ≡ c = cc in subst (OnNamed (λ q. is_there m q ≡ true)) same named
       by false e = kept.leads q c e
 
-  pub kept-set : OnNamed (λ q. is_there m q ≡ true) b → IsKept (with_body m who b)
-  kept-set named = record {
+  kept_sized : IsSized b → (q : Who) (c : bodies_of.Body) → get (insert m.bodies who b) q ≡ Some c → IsSized c
+  kept_sized sized q c h = by (eq_by_cmp who_cmp q who) (sym (get-insert who_total m.bodies who b q) ∙ h)
+    where
+      by : (t : Bool) → cond t (Some b) (get m.bodies q) ≡ Some c → IsSized c
+      by true e = let same : b ≡ c = cc in subst IsSized same sized
+      by false e = kept.sized q c e
+
+  pub kept-set : OnNamed (λ q. is_there m q ≡ true) b → IsSized b → IsKept (with_body m who b)
+  kept-set named sized = record {
     begun = kept.begun;
     alone = λ q n h. home-births m kept (with_body m who b) put_births n ∙ kept.alone q n (sym (put_births q) ∙ h);
     younger = λ q n h. kept.younger q n (sym (put_births q) ∙ h);
@@ -138,6 +145,7 @@ module _ (m : Contents) (kept : IsKept m) (who : Who) (old b : bodies_of.Body) (
     housed = λ q h. is_live-births m kept (with_body m who b) put_births q.space ∙ kept.housed q (sym (put_there q) ∙ h);
     paged = λ space page h. is_live-births m kept (with_body m who b) put_births space ∙ kept.paged space page h;
     leads = kept_named named;
+    sized = kept_sized sized;
   }
 
 -- what a set of a body of the same kind leaves
@@ -156,8 +164,8 @@ module _ (m : Contents) (kept : IsKept m) (who : Who) (b : bodies_of.Body) (kind
   unfolding old_body
   keeps_birth = same-birth m kept who old_body b old_there (kind-there m kept who _ kind).2 home
 
-  pub set-kept : OnNamed (IsLive m) b → IsKept (with_body m who b)
-  set-kept named = kept-set m kept who old_body b old_there keeps_birth (OnNamed-map (IsLive m) (λ q. is_there m q ≡ true) (IsLive-there m kept) b named)
+  pub set-kept : OnNamed (IsLive m) b → IsSized b → IsKept (with_body m who b)
+  set-kept named sized = kept-set m kept who old_body b old_there keeps_birth (OnNamed-map (IsLive m) (λ q. is_there m q ≡ true) (IsLive-there m kept) b named) sized
 
   pub set-world : world (with_body m who b) ≡ apply (Make (place (path m) who) (body_by (path m) b)) (world m)
   set-world = world-set m kept who old_body b old_there keeps_birth

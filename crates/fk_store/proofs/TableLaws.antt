@@ -35,16 +35,16 @@ less Greater p = absurd p
 
 module _ {K : Type 0} {R : K → K → Ordering} (o : IsTotalOrder R) where
   -- turned round
-  less_back : (x y : K) → R x y ≡ Less → R y x ≡ Greater
+  pub less_back : (x y : K) → R x y ≡ Less → R y x ≡ Greater
   less_back x y e = o.antisymm y x ∙ ap ordering_reverse e
 
-  equal_back : (x y : K) → R x y ≡ Equal → R y x ≡ Equal
+  pub equal_back : (x y : K) → R x y ≡ Equal → R y x ≡ Equal
   equal_back x y e = o.antisymm y x ∙ ap ordering_reverse e
 
-  greater_back : (x y : K) → R x y ≡ Greater → R y x ≡ Less
+  pub greater_back : (x y : K) → R x y ≡ Greater → R y x ≡ Less
   greater_back x y e = o.antisymm y x ∙ ap ordering_reverse e
 
-  less_of_equal : (x y z : K) → R x y ≡ Less → R y z ≡ Equal → R x z ≡ Less
+  pub less_of_equal : (x y z : K) → R x y ≡ Less → R y z ≡ Equal → R x z ≡ Less
   less_of_equal x y z l e = o.antisymm x z ∙ ap ordering_reverse (sym (o.congr y z x e) ∙ less_back x y l)
 
 module _ {K X : Type 0} {R : K → K → Ordering} (o : IsTotalOrder R) where

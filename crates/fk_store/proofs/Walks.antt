@@ -6,9 +6,9 @@ use Rattle.fk_model.specs.declared.names.Who.{Who}
 use Rattle.fk_model.specs.declared.body.Body.{Body}
 use Rattle.fk_model.specs.Places.{Path, same_path}
 use Rattle.fk_model.specs.Objects.{and_then}
-use Rattle.fk_store.specs.Names.{at}
+use Rattle.fk_store.specs.Names.{at, same_who}
 use Rattle.fk_store.specs.Contents.{Contents, birth_of, birth_there, home, is_live}
-use Rattle.fk_store.specs.Paths.{nowhere, place, from_home, path_by, path, space_at}
+use Rattle.fk_store.specs.Paths.{nowhere, place, from_home, path_by, path, space_at, IsApart}
 use Rattle.fk_store.specs.Kept.{is_there, IsKept}
 use Rattle.fk_store.proofs.Homes.{home-found, home-none}
 
@@ -31,12 +31,21 @@ same_path_true (k ∷ x) (j ∷ y) h = by (k == j) refl h (same_path_true x y)
 pub not_root : (n : ℕ) → 0 < n → (n == 0) ≡ false
 not_root n h = grind (arith, nat_tests)
 
+eq_back : (a b : ℕ) → (a == b) ≡ (b == a)
+eq_back a b = grind (arith, nat_tests)
+
+and_back : (a b : Bool) → (a && b) ≡ (b && a)
+and_back true true = refl
+and_back true false = refl
+and_back false true = refl
+and_back false false = refl
+
 pub path-root : (m : Contents) → path m 0 ≡ []
 unfolding path path_by
 path-root m = refl
 
 module _ (m : Contents) (kept : IsKept m) where
-  younger : (n : ℕ) (who : Who) → home m n ≡ Some who → who.space < n
+  pub younger : (n : ℕ) (who : Who) → home m n ≡ Some who → who.space < n
   younger n who h = kept.younger who n (home-found m n who h)
 
   path_by-enough : (k j n : ℕ) → n ≤ k → n ≤ j → path_by k m n ≡ path_by j m n
@@ -161,3 +170,26 @@ module _ (m : Contents) (kept : IsKept m) where
               let test = eq-eqb q n number in
               absurd (cc)
           found_by false lost found = let none = space_at-lost n lost in absurd (cc)
+
+pub same_path_back : (x y : Path) → same_path x y ≡ same_path y x
+same_path_back x y = by (same_path x y) refl (same_path y x) refl
+  where
+    by : (b : Bool) → same_path x y ≡ b → (c : Bool) → same_path y x ≡ c → b ≡ c
+    by true e true f = refl
+    by false e false f = refl
+    by true e false f = let same = same_path_true x y e in let no : same_path y y ≡ false = subst (λ t. same_path y t ≡ false) same f in let yes = same_path_refl y in absurd (cc)
+    by false e true f = let same = same_path_true y x f in let no : same_path x x ≡ false = subst (λ t. same_path x t ≡ false) same e in let yes = same_path_refl x in absurd (cc)
+
+-- an object of a live space has a path of its own
+pub place-apart : (m : Contents) → IsKept m → (who : Who) → is_live m who.space ≡ true → IsApart (path m) who
+unfolding same_path
+place-apart m kept who live other = (there, same_path_back (place (path m) who) (place (path m) other) ∙ there ∙ turned)
+  where
+    spaces : same_path (path m other.space) (path m who.space) ≡ (other.space == who.space)
+    spaces = same_path_back (path m other.space) (path m who.space) ∙ same_space m kept (path m who.space) who.space other.space (space_at-path m kept who.space live) ∙ eq_back who.space other.space
+
+    there : same_path (place (path m) other) (place (path m) who) ≡ same_who other who
+    there = rw spaces (and_back (other.slot == who.slot) (other.space == who.space))
+
+    turned : same_who other who ≡ same_who who other
+    turned = rw (eq_back other.space who.space, eq_back other.slot who.slot) refl

@@ -40,8 +40,11 @@ is_number n None = false
 is_number n (Some b) = b == n
 
 -- where the space with a birth number stands; nowhere that of the root, and of a space that isn't live
-unfoldable pub home : Contents → ℕ → Option Who
-home m n = option_map (λ e. e.0) (find (λ e. is_number n (birth_of e.1)) (entries m.bodies))
+unfoldable pub home_in : FinMap who_cmp Body → ℕ → Option Who
+home_in bodies n = option_map (λ e. e.0) (find (λ e. is_number n (birth_of e.1)) (entries bodies))
+
+abbrev pub home : Contents → ℕ → Option Who
+home m n = home_in m.bodies n
 
 -- the root is live, and each space that stands somewhere
 abbrev pub is_live : Contents → ℕ → Bool

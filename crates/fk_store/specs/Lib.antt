@@ -1,4 +1,6 @@
+pub mod Threads
 pub mod Names
+pub mod Orders
 pub mod Sorted
 pub mod Contents
 pub mod Paths
@@ -7,4 +9,3 @@ pub mod World
 pub mod Named
 pub mod Kept
 pub mod Makes
-pub mod Threads

@@ -4,9 +4,9 @@ use Rattle.std.specs.FinMap.{get}
 use Rattle.fk_model.specs.declared.names.Who.{Who}
 use Rattle.fk_model.specs.declared.body.Body.{Body}
 use Rattle.fk_model.specs.declared.body.Body.TheVariants.{Mutex, Cond, Mapping, Region, Port, Portset, Space, Thread, Reference}
-use Rattle.fk_model.specs.Places.{Path}
+use Rattle.fk_model.specs.Places.{Path, same_path}
 use Rattle.fk_model.specs.Objects.{and_then}
-use Rattle.fk_store.specs.Names.{at}
+use Rattle.fk_store.specs.Names.{at, same_who}
 use Rattle.fk_store.specs.Contents.{Contents, birth_there, home}
 
 -- a path at which nothing stands, since no slot has this number
@@ -46,3 +46,7 @@ IsAtHome path who Portset = Unit {0}
 IsAtHome path who (Space birth holder) = path birth ≡ place path who
 IsAtHome path who (Thread thread) = Unit {0}
 IsAtHome path who (Reference to) = Unit {0}
+
+-- no other object has its path
+abbrev pub IsApart : (ℕ → Path) → Who → Type 0
+IsApart path who = (other : Who) → (same_path (place path other) (place path who) ≡ same_who other who) × (same_path (place path who) (place path other) ≡ same_who who other)

@@ -1,5 +1,5 @@
 //! The store of all objects and pages.
-ghost use Rattle.std.specs.Prelude.{◌≡◌, ◌≢◌, ℕ, OnOk, OnErr, IsOk, Some, None, IsSome, IfSome, IfOk, option_map};
+ghost use Rattle.std.specs.Prelude.{◌≡◌, ◌≢◌, ◌↔◌, ℕ, ◌<◌, ◌∷◌, OnOk, OnErr, IsOk, Some, None, IsSome, IfSome, IfOk, option_map};
 ghost use Rattle.std.specs.Option.{option_copied};
 ghost use Rattle.fk_model.specs.Objects.{kind_of};
 ghost use Rattle.fk_model.specs.World.{Edit, edited, apply};
@@ -7,11 +7,16 @@ ghost use Rattle.fk_model.specs.World.Change.{Alter, Make, PutPage, DropPage};
 ghost use Rattle.fk_model.specs.Valid.{kind_there};
 ghost use Rattle.fk_model.specs.Places.{Path};
 ghost use Rattle.fk_model.specs.declared.names.Who.{Who};
+ghost use Rattle.fk_store.specs.Names.{who_cmp};
+ghost use Rattle.fk_store.specs.Orders.{IsFirstAfter};
 ghost use Rattle.fk_store.specs.Makes.{making, IsNext, next_by};
-ghost use Rattle.fk_store.specs.Paths.{path, place, IsAtHome};
+ghost use Rattle.fk_store.specs.Paths.{path, place, IsAtHome, IsApart};
 ghost use Rattle.fk_store.specs.Bodies.{body_by};
 ghost use Rattle.fk_store.specs.Named.{OnNamed};
+ghost use Rattle.fk_store.specs.Kept.{IsSized};
 ghost use Rattle.fk_store.specs.World.{world, first_world, IsLive, IsSpace};
+
+mod holds;
 
 use crate::bodies::Bodies;
 use crate::pages::Pages;
@@ -65,16 +70,40 @@ impl Store {
         ensures space { IsSome result → IsSpace self.now who.space }
         ensures home { IfSome result (λ body. IsAtHome (path self.now) who body.now) }
         ensures named { IfSome result (λ body. OnNamed (IsLive self.now) body.now) }
+        ensures sized { IfSome result (λ body. IsSized body.now) }
+        ensures apart { IsSome result → IsApart (path self.now) who }
     {
         self.bodies.at(who)
     }
 
-    /// Gives an object another body of its kind. A space keeps its birth number, and what the body
-    /// names is there.
+    /// The first object after this one in the order of space and slot; the first of all where there
+    /// is none.
+    pub fn after(&self, who: Option<Who>) -> Option<Who>
+        ensures first { IsFirstAfter who_cmp (IsLive self.now) who result }
+
+        // Every object but the root has a name.
+        ensures named { (k : ℕ) (s : Path) → IsSome (kind_there (world self.now) (k ∷ s)) → (other : Who) × (place (path self.now) other ≡ k ∷ s) }
+    {
+        self.bodies.after(who)
+    }
+
+    /// The object that is the space with this birth number; nothing for the root, and where no such
+    /// space is live.
+    pub fn home(&self, space: u32) -> Option<Who>
+        ensures some { IsSome result ↔ ((0 < space) × IsSpace self.now space) }
+        ensures place { IfSome result (λ who. path self.now space ≡ place (path self.now) who) }
+        ensures older { IfSome result (λ who. who.space < space) }
+    {
+        self.bodies.home(space)
+    }
+
+    /// Gives an object another body of its kind. A space keeps its birth number, what the body names
+    /// is there, and the pages of a mapping or a region are among 0 to 255.
     pub fn set(&mut self, who: Who, body: Body)
         requires kind { kind_there (world self.old) (place (path self.old) who) ≡ Some (kind_of (body_by (path self.old) body)) }
         requires home { IsAtHome (path self.old) who body }
         requires named { OnNamed (IsLive self.old) body }
+        requires sized { IsSized body }
         ensures world { world self.new ≡ apply (Make (place (path self.old) who) (body_by (path self.old) body)) (world self.old) }
         ensures edits { (e : Edit) → option_map (edited e) ((world self.old).body (place (path self.old) who)) ≡ Some (body_by (path self.old) body) → world self.new ≡ apply (Alter (place (path self.old) who) e) (world self.old) }
         ensures kinds { kind_there (world self.new) ≡ kind_there (world self.old) }
@@ -84,13 +113,14 @@ impl Store {
     }
 
     /// Puts a new object into an empty slot of a live space. A space has the next birth number,
-    /// which is below 2^32 - 1, and what the body names is there. For want of memory all stays as
-    /// it was.
+    /// which is below 2^32 - 1, what the body names is there, and the pages of a mapping or a region
+    /// are among 0 to 255. For want of memory all stays as it was.
     pub fn make(&mut self, who: Who, body: Body) -> Result<(), NoMemory>
         requires space { IsSpace self.old who.space }
         requires empty { (world self.old).body (place (path self.old) who) ≡ None }
         requires birth { IsNext (world self.old).next body }
         requires named { OnNamed (IsLive self.old) body }
+        requires sized { IsSized body }
         ensures world { OnOk result (world self.new ≡ apply (making (place (path self.old) who) (body_by (path self.old) body)) (world self.old)) }
         ensures home { OnOk result (IsAtHome (path self.new) who body) }
         ensures err { OnErr result (self.new ≡ self.old) }

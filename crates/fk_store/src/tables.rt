@@ -3,7 +3,8 @@ ghost use Rattle.std.specs.Prelude.{◌≡◌, IfOk, IfErr, OnOk, OnErr, IsSome,
 ghost use Rattle.std.specs.Option.{option_copied};
 ghost use Rattle.std.specs.FinMap as map;
 ghost use Rattle.std.specs.FinMap.{is_sorted, IsAntisymmetric};
-ghost use Rattle.fk_store.specs.Sorted.{IsAt, IsGap, map_of};
+ghost use Rattle.fk_store.specs.Sorted.{IsAt, IsGap, IsAfter, map_of};
+ghost use Rattle.fk_store.specs.Orders.{IsFirstAfter};
 
 use std::alloc::AllocError;
 
@@ -73,5 +74,32 @@ pub fn take_away<K: Ord + Copy, V: Drop>(entries: &mut Vec<(K, V)>, key: K)
 {
     if let Ok(at) = place_of(entries, key) {
         let _gone = entries.remove(at);
+    }
+}
+
+/// The first key after this one; the first of all where there is none.
+pub fn next_key<K: Ord + Copy, V>(entries: &[(K, V)], key: Option<K>) -> Option<K>
+    requires { T (is_sorted K.cmp entries.now) }
+    ensures { IsFirstAfter K.cmp (λ k. IsSome (map.get (map_of K.cmp entries.now) k)) key result }
+{
+    let at = count_up_to(entries, key);
+    if at < entries.len() {
+        Some(entries[at].0)
+    } else {
+        None
+    }
+}
+
+/// How many keys don't come after this one.
+fn count_up_to<K: Ord + Copy, V>(entries: &[(K, V)], key: Option<K>) -> usize
+    requires { T (is_sorted K.cmp entries.now) }
+    ensures { IsAfter K.cmp entries.now key result }
+{
+    match key {
+        None => 0,
+        Some(key) => match place_of(entries, key) {
+            Ok(at) => at + 1,
+            Err(at) => at,
+        },
     }
 }

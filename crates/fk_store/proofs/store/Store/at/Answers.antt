@@ -1,4 +1,4 @@
-use Rattle.fk_store.proofs.Founded.{found-body, found-space, found-home, found-named}
+use Rattle.fk_store.proofs.Founded.{found-body, found-space, found-home, found-named, found-apart, found-sized}
 use Rattle.fk_store.proofs.store.Store.at.Goals as goal
 
 pub returns : goal.returns
@@ -7,4 +7,6 @@ returns c = rw (← c.self.view_is) (record {
   space = found-space _ c.self.invariant c.args.who c.at.result c.at.ensures;
   home = found-home _ c.self.invariant c.args.who c.at.result c.at.ensures;
   named = found-named _ c.self.invariant c.args.who c.at.result c.at.ensures;
+  sized = found-sized _ c.self.invariant c.args.who c.at.result c.at.ensures;
+  apart = found-apart _ c.self.invariant c.args.who c.at.result c.at.ensures;
 })

@@ -11,7 +11,7 @@ pub invariant_of-self-2 : goal.invariant_of-self-2
 invariant_of-self-2 c =
     let slot : c.args.who.slot < 256 = omega arith in
     rw (c.next_after-self-inside.ensures, c.in_ok-put.ensures.ok)
-    (make-kept _ c.self.invariant c.args.who slot (rw (← c.self.view_is) at c.requires.space) (rw (← c.self.view_is) at c.requires.empty) c.args.body (rw (← c.self.view_is) at c.requires.birth) (rw (← c.self.view_is) at c.requires.named))
+    (make-kept _ c.self.invariant c.args.who slot (rw (← c.self.view_is) at c.requires.space) (rw (← c.self.view_is) at c.requires.empty) c.args.body (rw (← c.self.view_is) at c.requires.birth) (rw (← c.self.view_is) at c.requires.named) c.requires.sized)
 
 pub returns : goal.returns
 returns c =
@@ -21,10 +21,10 @@ returns c =
     let birth = rw (← c.self.view_is) at c.requires.birth in
     let named = rw (← c.self.view_is) at c.requires.named in
     rw (c.next_after-self-inside.ensures, c.in_ok-put.ensures.ok, ← c.self.view_is) (record {
-      world = make-world _ c.self.invariant c.args.who slot space empty c.args.body birth named;
-      home = make-home _ c.self.invariant c.args.who slot space empty c.args.body birth named;
+      world = make-world _ c.self.invariant c.args.who slot space empty c.args.body birth named c.requires.sized;
+      home = make-home _ c.self.invariant c.args.who slot space empty c.args.body birth named c.requires.sized;
       err = tt;
-      kinds = make-kinds _ c.self.invariant c.args.who slot space empty c.args.body birth named;
-      places = make-places _ c.self.invariant c.args.who slot space empty c.args.body birth named;
-      paths = make-paths _ c.self.invariant c.args.who slot space empty c.args.body birth named;
+      kinds = make-kinds _ c.self.invariant c.args.who slot space empty c.args.body birth named c.requires.sized;
+      places = make-places _ c.self.invariant c.args.who slot space empty c.args.body birth named c.requires.sized;
+      paths = make-paths _ c.self.invariant c.args.who slot space empty c.args.body birth named c.requires.sized;
     })
