@@ -7,6 +7,7 @@
 #![tactic(auto)]
 
 mod bodies;
+mod mutexes;
 mod pages;
 mod store;
 mod tables;

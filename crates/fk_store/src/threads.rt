@@ -1,6 +1,7 @@
 //! What moves do to the thread that makes them.
-ghost use Rattle.std.specs.Prelude.{◌≡◌, ◌≤◌, ℕ, [], length, option_map, IfSome};
+ghost use Rattle.std.specs.Prelude.{◌≡◌, ◌≤◌, ℕ, List, [], length, option_map, IfSome};
 ghost use Rattle.std.specs.Option.{option_copied};
+ghost use Rattle.fk_model.specs.Holds as holds;
 ghost use Rattle.fk_model.specs.Objects.Body.{Thread_of};
 ghost use Rattle.fk_model.specs.Places.{Path};
 ghost use Rattle.fk_model.specs.Places.Ptr.{At};
@@ -12,7 +13,7 @@ ghost use Rattle.fk_model.specs.Valid.{kind_there};
 ghost use Rattle.fk_store.specs.Paths.{path, place};
 ghost use Rattle.fk_store.specs.Bodies.{mode_by, thread_by};
 ghost use Rattle.fk_store.specs.Named.{OnNamed};
-ghost use Rattle.fk_store.specs.Threads.{thread_at, todo_at};
+ghost use Rattle.fk_store.specs.Threads.{thread_at, todo_at, is_free_at};
 ghost use Rattle.fk_store.specs.World.{world, IsLive};
 
 use crate::store::Store;
@@ -41,8 +42,25 @@ impl Store {
         }
     }
 
-    #[tactic(auto, using(crate::proofs::ThreadLaws::kind_thread, crate::proofs::ThreadLaws::end_nobody))]
+    /// A user thread is free: no space above it is held, it is not stopped, has no fault, and runs or
+    /// calls. False where no thread is there.
+    #[tactic(auto, unfolding(crate::specs::Threads::is_free_at))]
+    pub fn is_free(&self, who: Who) -> bool
+        ensures { result ≡ is_free_at (world self.now) (place (path self.now) who) }
+    {
+        match self.thread(who) {
+            None => false,
+            Some(thread) => {
+                !self.is_frozen(who.space)
+                    && thread.stops == 0
+                    && thread.fault.is_none()
+                    && is_user(thread.mode)
+            }
+        }
+    }
+
     /// Ends the call of a thread with a status. What is in no call stays as it is.
+    #[tactic(auto, using(crate::proofs::ThreadLaws::kind_thread, crate::proofs::ThreadLaws::end_nobody))]
     pub fn end_call(&mut self, me: Who, status: u8)
         ensures world { world self.new ≡ apply (Alter (place (path self.old) me) (End status [])) (world self.old) }
         ensures kinds { kind_there (world self.new) ≡ kind_there (world self.old) }
@@ -106,6 +124,16 @@ impl Store {
             };
             self.set(me, Body::Thread(faulty));
         }
+    }
+}
+
+/// It runs or calls.
+fn is_user(mode: Mode) -> bool
+    ensures { (registers : List ℕ) → result ≡ holds.is_user (mode_by mode registers) }
+{
+    match mode {
+        Mode::Running | Mode::Calling => true,
+        Mode::Halted(_) | Mode::Native => false,
     }
 }
 
