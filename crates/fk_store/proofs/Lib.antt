@@ -1,3 +1,4 @@
+pub mod Freedom
 pub mod MutexLaws
 pub mod ThreadLaws
 pub mod TableLaws

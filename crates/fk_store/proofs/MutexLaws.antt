@@ -1,13 +1,14 @@
 -- Changes of the mutex at a path.
-use Rattle.std.proofs.Common.{◌≡◌, Bool, Option, Some, None, option_map, refl, ap}
+use Rattle.std.proofs.Common.{◌≡◌, Bool, true, false, cond, Option, Some, None, option_map, refl, ap}
 use Rattle.fk_model.specs.declared.names.Kind.TheVariants as kinds
-use Rattle.fk_model.specs.Places.{Path}
-use Rattle.fk_model.specs.Objects.{Body, kind_of, mutex_of, and_then}
+use Rattle.fk_model.specs.Places.{Path, same_path}
+use Rattle.fk_model.specs.Objects.{Body, kind_of, mutex_of, thread_of, and_then}
 use Rattle.fk_model.specs.Objects.Body.{Mutex, Cond, Mapping, Region, Port, Portset, Space, Thread_of, Reference}
 use Rattle.fk_model.specs.World.{World, Edit, edited, apply}
 use Rattle.fk_model.specs.World.Edit.{SetLocked}
 use Rattle.fk_model.specs.World.Change.{Alter}
 use Rattle.fk_model.specs.Valid.{kind_there}
+use Rattle.fk_store.specs.Threads.{todo_of_thread, todo_at}
 use Rattle.fk_store.proofs.ThreadLaws.{alter-same}
 
 -- what is a mutex has its kind
@@ -60,3 +61,21 @@ locked_nothing w x locked none = alter-same w x (SetLocked locked) (by (w.body x
     by (Some (Space birth holder)) none = refl
     by (Some (Thread_of thread)) none = refl
     by (Some (Reference to)) none = refl
+
+-- who is in a call stays in it
+pub todo_locked : (w : World) (x y : Path) (locked : Bool) → todo_at (apply (Alter y (SetLocked locked)) w) x ≡ todo_at w x
+unfolding todo_at apply edited
+todo_locked w x y locked = by (same_path x y) (w.body x)
+  where
+    by : (t : Bool) (b : Option Body) → todo_of_thread (and_then thread_of (cond t (option_map (edited (SetLocked locked)) b) b)) ≡ todo_of_thread (and_then thread_of b)
+    by false b = refl
+    by true None = refl
+    by true (Some (Mutex old)) = refl
+    by true (Some Cond) = refl
+    by true (Some (Mapping window)) = refl
+    by true (Some (Region extent)) = refl
+    by true (Some (Port set served)) = refl
+    by true (Some Portset) = refl
+    by true (Some (Space birth holder)) = refl
+    by true (Some (Thread_of thread)) = refl
+    by true (Some (Reference to)) = refl

@@ -1,3 +1,4 @@
+pub mod Moves
 pub mod Threads
 pub mod Names
 pub mod Orders
