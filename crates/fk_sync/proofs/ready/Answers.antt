@@ -4,8 +4,9 @@ use Rattle.fk_sync.proofs.ready.Goals as goal
 
 pub returns-then-not-is_free : goal.returns-then-not-is_free
 returns-then-not-is_free c = elim c.then-not-is_free.branch [
-    then-not-is_free-via-then-not-is_free w ↦ unready_held _ _ _ _ _ c.requires.calling (cc)
-  | then-not-is_free-via-else-not-is_free+then-is_some w ↦ unready_picks _ _ _ _ _ _ c.requires.calling c.requires.stage (cc) ]
+  | then-not-is_free-via-then-not-is_free w ↦ unready_held _ _ _ _ _ c.requires.calling (cc)
+  | then-not-is_free-via-else-not-is_free+then-is_some w ↦ unready_picks _ _ _ _ _ _ c.requires.calling c.requires.stage (cc)
+]
 
 pub returns-in_default : goal.returns-in_default
 returns-in_default c =
