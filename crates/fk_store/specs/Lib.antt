@@ -8,3 +8,4 @@ pub mod World
 pub mod Named
 pub mod Kept
 pub mod Makes
+pub mod Reaches

@@ -8,7 +8,9 @@
 
 mod bodies;
 mod pages;
+mod reach;
 mod store;
 mod tables;
 
+pub use reach::Reach;
 pub use store::Store;
