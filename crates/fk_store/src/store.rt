@@ -67,6 +67,7 @@ impl Store {
     /// The body of an object. The root has no name, and so no body here.
     pub fn at(&self, who: Who) -> Option<&Body>
         ensures body { (world self.now).body (place (path self.now) who) ≡ option_map (body_by (path self.now)) (option_copied result) }
+        ensures kind { kind_there (world self.now) (place (path self.now) who) ≡ option_map (λ body. kind_of (body_by (path self.now) body)) (option_copied result) }
         ensures space { IsSome result → IsSpace self.now who.space }
         ensures home { IfSome result (λ body. IsAtHome (path self.now) who body.now) }
         ensures named { IfSome result (λ body. OnNamed (IsLive self.now) body.now) }
