@@ -1,6 +1,5 @@
 -- Enumerated: every object of the world has a name, and its space a home.
-use Rattle.std.proofs.Common.{◌≡◌, ◌↔◌, ℕ, zero, suc, ◌<◌, Bool, true, false, [], ◌∷◌, Option, Some, None, option_map, is_some, IsSome, IfSome, refl, sym, ap, subst, ◌∙◌, arith}
-use Rattle.std.specs.Bool.{IsTrue}
+use Rattle.std.proofs.Common.{◌≡◌, ◌↔◌, ℕ, ◌<◌, true, ◌∷◌, Option, Some, None, option_map, is_some, IsSome, IfSome, refl, sym, ap, ◌∙◌, arith}
 use Rattle.std.specs.declared.cmp.Ordering.{Ordering}
 use Rattle.std.specs.FinMap.{get}
 use Rattle.fk_model.specs.declared.names.Who.{Who}
@@ -8,12 +7,12 @@ use Rattle.fk_model.specs.Places.{Path}
 use Rattle.fk_model.specs.Objects.{kind_of, and_then}
 use Rattle.fk_model.specs.Valid.{kind_there}
 use Rattle.fk_store.specs.Names.{at}
-use Rattle.fk_store.specs.Orders.{comes_after, IsFirstAfter}
-use Rattle.fk_store.specs.Contents.{Contents, home, is_live}
+use Rattle.fk_store.specs.Orders.{IsFirstAfter}
+use Rattle.fk_store.specs.Contents.{Contents, home}
 use Rattle.fk_store.specs.Paths.{place, path, space_at}
 use Rattle.fk_store.specs.Bodies.{body_by}
-use Rattle.fk_store.specs.World.{world, IsLive, IsSpace}
-use Rattle.fk_store.specs.Kept.{is_there, IsKept}
+use Rattle.fk_store.specs.World.{world, IsSpace}
+use Rattle.fk_store.specs.Kept.{IsKept}
 use Rattle.fk_store.proofs.Homes.{home-found}
 use Rattle.fk_store.proofs.Walks.{not_root, path-home, path-space_at, live-home}
 use Rattle.fk_store.proofs.LookUps.{live-IsSpace, IsSpace-live}

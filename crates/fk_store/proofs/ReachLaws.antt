@@ -1,7 +1,7 @@
 -- Reach: one slot at a time, and one mapping at a time.
-use Rattle.std.proofs.Common.{◌≡◌, ℕ, zero, suc, ◌+◌, ◌-◌, ◌<◌, ◌≤◌, ◌⊎◌, inl, inr, Bool, true, false, Option, Some, None, option_map, is_some, IsSome, List, refl, sym, ap, subst, ◌∙◌, arith, add-one}
+use Rattle.std.proofs.Common.{◌≡◌, ℕ, zero, suc, ◌+◌, ◌-◌, ◌<◌, ◌≤◌, inl, inr, Bool, true, false, Option, Some, None, option_map, is_some, IsSome, refl, sym, ap, subst, ◌∙◌, arith, add-one}
 use Rattle.std.proofs.lemmas.Bool.{cases_lt}
-use Rattle.fk_model.specs.Places.{Path, Ptr}
+use Rattle.fk_model.specs.Places.{Path}
 use Rattle.fk_model.specs.Objects as objects
 use Rattle.fk_model.specs.Objects.{and_then, or_else}
 use Rattle.fk_model.specs.World.{World}
@@ -29,9 +29,9 @@ pub lowest-first : {A : Type 0} (n i : ℕ) (f : ℕ → Option A) (o : Option A
 unfolding lowest
 lowest-first zero i f o before here some low = absurd (omega arith)
 lowest-first {A = A} (suc n) i f o before here some low = elim (cases_lt i n) [
-    | inl less ↦ rw (lowest-first n i f o before here some less) (first o some)
-    | inr past ↦ let same : n ≡ i = omega arith in rw (same, before) here
-  ]
+  | inl less ↦ rw (lowest-first n i f o before here some less) (first o some)
+  | inr past ↦ let same : n ≡ i = omega arith in rw (same, before) here
+]
   where
     first : (o : Option A) → IsSome o → or_else o (f n) ≡ o
     first None h = absurd (cc)

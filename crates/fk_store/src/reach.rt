@@ -16,7 +16,10 @@ use fk_model::{Body, Ptr, Who};
 #[derive(Clone, Copy)]
 pub enum Reach {
     /// This page is there.
-    Home { space: u32, page: u8 },
+    Home {
+        space: u32,
+        page: u8,
+    },
     /// This page is missing. The port `keeper` takes the faults on it.
     Missing {
         space: u32,
@@ -230,10 +233,12 @@ impl Store {
         ensures { keeper_by (path self.now) result ≡ definition.keeper (world self.now) (path self.now space) page }
     {
         match self.region_at(space, page) {
-            Some(Extent {
-                keeper: Ptr::At(port),
-                ..
-            }) => Some(port),
+            Some(
+                Extent {
+                    keeper: Ptr::At(port),
+                    ..
+                },
+            ) => Some(port),
             _ => None,
         }
     }

@@ -1,4 +1,4 @@
-use Rattle.std.proofs.Common.{◌<◌, ◌≤◌, arith, ◌≡◌, Option, None, Some, option_map, is_some, IsSome, sym, ◌∙◌}
+use Rattle.std.proofs.Common.{arith, sym, ◌∙◌}
 use Rattle.fk_store.proofs.ReachLaws.{lowest-zero, lowest-none, region-first, region-none, some_mapped, none_mapped}
 use Rattle.fk_store.proofs.store.Store.region_at.Goals as goal
 
