@@ -21,7 +21,14 @@ pub mod ObjectRows
 pub mod NativeRows
 pub mod Freezing
 pub mod Moves
+pub mod Runs
 pub mod Rules
+pub mod Shapes
 pub mod Valid
 pub mod Sound
-pub mod Runs
+pub mod Laws
+pub mod Frame
+pub mod Cut
+pub mod Closed
+pub mod Further
+pub mod Seen

@@ -3,22 +3,14 @@ use Rattle.std.specs.Prelude.{◌≡◌, ℕ, ◌<◌, ◌≤◌, Bool, true, fa
 use Rattle.fk_model.specs.declared.limits.TheConstants.{LAST_USER_SLOT, LAST_SCRATCH_SLOT, LAST_PORTER_SLOT, MOST_STOPS}
 use Rattle.fk_model.specs.Places.{Path, parent, is_within, Ptr}
 use Rattle.fk_model.specs.Places.Ptr.{At}
-use Rattle.fk_model.specs.Calls.{IsTodo, IsRest}
-use Rattle.fk_model.specs.Objects.{Mode, Peer, Talk, Fault, Thread, Body, thread_of, reference_of, and_then, holds}
-use Rattle.fk_model.specs.Objects.Mode.{Running, Calling, Halted, Native}
+use Rattle.fk_model.specs.Objects.{Peer, Talk, Fault, Thread, Body, thread_of, reference_of, and_then, holds}
 use Rattle.fk_model.specs.Objects.Peer.{Server, Service, Parked}
 use Rattle.fk_model.specs.World.{World}
 use Rattle.fk_model.specs.Searches.{talk_at, fault_at}
-use Rattle.fk_model.specs.Holds.{holder_of, is_porter}
+use Rattle.fk_model.specs.Holds.{holder_of}
+use Rattle.fk_model.specs.Shapes.{IsShapedMode, IsCodeInRange}
 use Rattle.fk_model.specs.StateRows.{is_native}
 use Rattle.fk_model.specs.Valid.{IsValid, birth_at, is_served_port}
-
--- a thread's registers are 16 words; one that calls has a call's stages before it
-abbrev pub IsShapedMode : Mode → Type 0
-IsShapedMode (Running g) = length g ≡ 16
-IsShapedMode (Calling todo rest) = IsTodo todo × IsRest todo rest
-IsShapedMode (Halted g code) = (length g ≡ 16) × (code ≤ 255)
-IsShapedMode (Native g) = length g ≡ 16
 
 -- a port whose space has a porter
 abbrev pub is_nester_port : World → Ptr → Bool
@@ -43,6 +35,7 @@ pub record IsSound (w : World) : Type 0 where
   pub younger : (k : ℕ) (x : Path) (birth above : ℕ) → birth_at w (k ∷ x) ≡ Some birth → birth_at w x ≡ Some above → above < birth
   pub shaped : (x : Path) (t : Thread) → and_then thread_of (w.body x) ≡ Some t → IsShapedMode t.mode
   pub few_stops : (x : Path) (t : Thread) → and_then thread_of (w.body x) ≡ Some t → t.stops ≤ MOST_STOPS
+  pub codes : (x : Path) (t : Thread) → and_then thread_of (w.body x) ≡ Some t → IsCodeInRange t.mode
   -- nobody holds the space in or beneath which it lives
   pub holders_outside : (x y : Path) → holder_of (w.body x) ≡ Some (At y) → is_within x y ≡ false
   pub talks_placed : (x : Path) (talk : Talk) → talk_at w x ≡ Some talk → is_placed w talk.port talk.peer ≡ true

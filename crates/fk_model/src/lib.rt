@@ -8,6 +8,7 @@
 mod body;
 mod instruction;
 mod job;
+pub mod laws;
 pub mod limits;
 mod list;
 mod memory;
