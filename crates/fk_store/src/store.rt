@@ -1,5 +1,5 @@
 //! The store of all objects and pages.
-ghost use Rattle.std.specs.Prelude.{◌≡◌, ◌≢◌, ◌↔◌, ℕ, ◌<◌, ◌∷◌, OnOk, OnErr, IsOk, Some, None, IsSome, IfSome, IfOk, option_map};
+ghost use Rattle.std.specs.Prelude.{◌≡◌, IsTrue, ◌≢◌, ◌↔◌, ℕ, ◌<◌, ◌∷◌, OnOk, OnErr, IsOk, Some, None, IsSome, IfSome, IfOk, option_map};
 ghost use Rattle.std.specs.Option.{option_copied};
 ghost use Rattle.fk_model.specs.Objects.{kind_of};
 ghost use Rattle.fk_model.specs.World.{Edit, edited, apply};
@@ -98,6 +98,13 @@ impl Store {
         self.bodies.home(space)
     }
 
+    /// The space with this birth number is live.
+    pub fn is_live(&self, space: u32) -> bool
+        ensures { IsTrue result ↔ IsSpace self.now space }
+    {
+        space == 0 || self.bodies.home(space).is_some()
+    }
+
     /// Gives an object another body of its kind. A space keeps its birth number, what the body names
     /// is there, and the pages of a mapping or a region are among 0 to 255.
     pub fn set(&mut self, who: Who, body: Body)
@@ -176,3 +183,6 @@ fn next_after(next: u32, body: &Body) -> u32
         _ => next,
     }
 }
+
+#[cfg(test)]
+mod tests;
