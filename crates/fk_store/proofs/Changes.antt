@@ -1,8 +1,8 @@
 -- Changes of a world, as far as a store makes them.
-use Rattle.std.proofs.Common.{◌≡◌, ℕ, Bool, true, false, cond, Option, Some, None, option_map, IsSome, refl, sym, ap, subst, ◌∙◌}
+use Rattle.std.proofs.Common.{◌≡◌, Bool, true, false, cond, Option, Some, None, option_map, IsSome, refl, sym, subst}
 use Rattle.fk_model.specs.Places.{Path, same_path}
 use Rattle.fk_model.specs.Objects.{Body, kind_of}
-use Rattle.fk_model.specs.World.{World, Edit, edited, at_path, apply}
+use Rattle.fk_model.specs.World.{World, Edit, edited, apply}
 use Rattle.fk_model.specs.Objects.Body.{Mutex, Cond, Mapping, Region, Port, Portset, Space, Thread_of, Reference}
 use Rattle.fk_model.specs.World.Change.{Make, Alter}
 use Rattle.fk_model.specs.Valid.{kind_there}

@@ -1,6 +1,5 @@
 -- Enumerated: every object of the world has a name, and its space a home.
-use Rattle.std.proofs.Common.{◌≡◌, ◌↔◌, ℕ, zero, suc, ◌<◌, Bool, true, false, [], ◌∷◌, Option, Some, None, option_map, is_some, IsSome, IfSome, refl, sym, ap, subst, ◌∙◌, arith}
-use Rattle.std.specs.Bool.{IsTrue}
+use Rattle.std.proofs.Common.{Bool, IsTrue, ne_eqb, ◌==◌, ◌≡◌, ◌↔◌, ℕ, ◌<◌, true, ◌∷◌, Option, Some, None, option_map, is_some, IsSome, IfSome, refl, sym, ap, ◌∙◌, arith}
 use Rattle.std.specs.declared.cmp.Ordering.{Ordering}
 use Rattle.std.specs.FinMap.{get}
 use Rattle.fk_model.specs.declared.names.Who.{Who}
@@ -8,12 +7,12 @@ use Rattle.fk_model.specs.Places.{Path}
 use Rattle.fk_model.specs.Objects.{kind_of, and_then}
 use Rattle.fk_model.specs.Valid.{kind_there}
 use Rattle.fk_store.specs.Names.{at}
-use Rattle.fk_store.specs.Orders.{comes_after, IsFirstAfter}
+use Rattle.fk_store.specs.Orders.{IsFirstAfter}
 use Rattle.fk_store.specs.Contents.{Contents, home, is_live}
 use Rattle.fk_store.specs.Paths.{place, path, space_at}
 use Rattle.fk_store.specs.Bodies.{body_by}
-use Rattle.fk_store.specs.World.{world, IsLive, IsSpace}
-use Rattle.fk_store.specs.Kept.{is_there, IsKept}
+use Rattle.fk_store.specs.World.{world, IsSpace}
+use Rattle.fk_store.specs.Kept.{IsKept}
 use Rattle.fk_store.proofs.Homes.{home-found}
 use Rattle.fk_store.proofs.Walks.{not_root, path-home, path-space_at, live-home}
 use Rattle.fk_store.proofs.LookUps.{live-IsSpace, IsSpace-live}
@@ -59,3 +58,14 @@ module _ (m : Contents) (kept : IsKept m) where
         by : (o : Option Who) → found ≡ o → IfSome o (λ who. who.space < n)
         by None e = tt
         by (Some who) e = kept.younger who n (home-found m n who (sym is ∙ e))
+
+-- what tells whether a space is live
+module _ (m : Contents) (kept : IsKept m) (n : ℕ) where
+  tells : (test : Bool) → test ≡ is_live m n → IsTrue test ↔ IsSpace m n
+  tells test is = (λ h. live-IsSpace m kept n (sym is ∙ h), λ h. is ∙ IsSpace-live m kept n h)
+
+  pub tells-root : n ≡ 0 → IsTrue (n == 0) ↔ IsSpace m n
+  tells-root e = tells (n == 0) (rw e refl)
+
+  pub tells-other : (n ≡ 0 → ⊥) → (found : Option Who) → found ≡ home m n → IsTrue (is_some found) ↔ IsSpace m n
+  tells-other other found is = tells (is_some found) (rw (ne_eqb n 0 other) (ap is_some is))

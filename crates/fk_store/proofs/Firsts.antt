@@ -1,15 +1,13 @@
 -- Firsts: the store of the root alone.
-use Rattle.std.proofs.Common.{◌≡◌, ℕ, true, List, [], ◌∷◌, Option, Some, None, option_map, is_some, refl, sym, ap, ◌∙◌, arith}
+use Rattle.std.proofs.Common.{◌≡◌, ℕ, true, [], ◌∷◌, Option, Some, None, option_map, is_some, refl, ap, arith}
 use Rattle.std.specs.FinMap.{get, empty, get-empty}
 use Rattle.fk_model.specs.declared.names.Who.{Who}
-use Rattle.fk_model.specs.declared.body.Body as bodies_of
 use Rattle.fk_model.specs.Places.{Path}
 use Rattle.fk_model.specs.Objects.{and_then}
 use Rattle.fk_store.specs.Names.{at, who_cmp, page_cmp}
 use Rattle.fk_store.specs.Contents.{Contents, birth_of, birth_there}
 use Rattle.fk_store.specs.Paths.{path, space_at}
 use Rattle.fk_store.specs.Bodies.{body_by}
-use Rattle.fk_store.specs.Named.{OnNamed}
 use Rattle.fk_store.specs.World.{world, body_at, page_at, first_world, only_root}
 use Rattle.fk_store.specs.Kept.{is_there, IsKept}
 

@@ -4,6 +4,8 @@ use Rattle.std.specs.Option.{option_copied}
 use Rattle.std.specs.FinMap.{get}
 use Rattle.fk_model.specs.declared.names.Who.{Who}
 use Rattle.fk_model.specs.declared.body.Body.{Body}
+use Rattle.fk_model.specs.Objects.{kind_of}
+use Rattle.fk_model.specs.Valid.{kind_there}
 use Rattle.fk_store.specs.Contents.{Contents}
 use Rattle.fk_store.specs.Paths.{path, place, IsAtHome, IsApart}
 use Rattle.fk_store.specs.Bodies.{body_by}
@@ -17,6 +19,14 @@ use Rattle.fk_store.proofs.LookUps.{body-place, there-IsLive, live-IsSpace, ther
 module _ (m : Contents) (kept : IsKept m) (who : Who) (found : Option (Bor Body)) (is : option_copied found ≡ get m.bodies who) where
   pub found-body : (world m).body (place (path m) who) ≡ option_map (body_by (path m)) (option_copied found)
   found-body = body-place m kept who ∙ ap (option_map (body_by (path m))) (sym is)
+
+  pub found-kind : kind_there (world m) (place (path m) who) ≡ option_map (λ b. kind_of (body_by (path m) b)) (option_copied found)
+  unfolding kind_there
+  found-kind = ap (option_map kind_of) found-body ∙ by (option_copied found)
+    where
+      by : (o : Option Body) → option_map kind_of (option_map (body_by (path m)) o) ≡ option_map (λ b. kind_of (body_by (path m) b)) o
+      by None = refl
+      by (Some b) = refl
 
   pub found-there : IsSome found → is_there m who ≡ true
   found-there some = ap is_some (sym is) ∙ by found some

@@ -1,19 +1,17 @@
 -- The home of a space, and what its look-up tells.
-use Rattle.std.proofs.Common.{◌≡◌, ℕ, Bool, true, false, cond, List, [], ◌∷◌, Option, Some, None, option_map, find, refl, sym, ap, subst, ◌∙◌, T, nat_eq, eqb-true, eq-eqb}
+use Rattle.std.proofs.Common.{◌≡◌, ℕ, Bool, true, false, List, [], ◌∷◌, Option, Some, None, option_map, find, refl, sym, ap, subst, ◌∙◌, T, eqb-true, eq-eqb}
 use Rattle.std.specs.declared.cmp.Ordering.{Ordering}
 use Rattle.std.specs.declared.cmp.Ordering.TheVariants.{Less, Equal, Greater}
-use Rattle.std.specs.Ordering.{is_lt, is_eq, eq_by_cmp}
+use Rattle.std.specs.Ordering.{is_lt, eq_by_cmp}
 use Rattle.std.specs.Cmp.{IsTotalOrder}
 use Rattle.std.proofs.lemmas.Cmp.{tied_itself}
 use Rattle.std.specs.FinMap as finmap
-use Rattle.std.specs.FinMap.{FinMap, is_sorted, get, entries, entries_sorted, get-entries}
+use Rattle.std.specs.FinMap.{is_sorted, get, entries, entries_sorted, get-entries}
 use Rattle.std.specs.FinMap.Entries.{below_all, find_tied}
 use Rattle.fk_model.specs.declared.names.Who.{Who}
 use Rattle.fk_model.specs.declared.body.Body.{Body}
 use Rattle.fk_model.specs.Objects.{and_then}
-use Rattle.fk_store.specs.Names.{who_cmp}
 use Rattle.fk_store.specs.Contents.{Contents, birth_of, birth_there, is_number, home_in, home}
-use Rattle.fk_store.specs.Kept.{IsKept}
 use Rattle.fk_store.proofs.TableLaws.{first, second}
 use Rattle.fk_store.proofs.NameLaws.{who_total}
 

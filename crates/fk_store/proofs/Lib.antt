@@ -20,3 +20,4 @@ pub mod Making
 pub mod NextKeys
 pub mod HoldLaws
 pub mod Enumerated
+pub mod ReachLaws

@@ -1,19 +1,18 @@
 -- Look-ups: what the world has at the path of a name is what the store has under the name.
-use Rattle.std.proofs.Common.{◌≡◌, ℕ, ◌<◌, Bool, true, false, List, [], ◌∷◌, Option, Some, None, option_map, is_some, refl, sym, ap, subst, ◌∙◌}
+use Rattle.std.proofs.Common.{◌≡◌, ℕ, Bool, true, false, List, [], ◌∷◌, Option, Some, None, option_map, is_some, refl, sym, ap, ◌∙◌}
 use Rattle.std.specs.FinMap.{get}
 use Rattle.fk_model.specs.declared.names.Who.{Who}
 use Rattle.fk_model.specs.declared.body.Body as bodies_of
 use Rattle.fk_model.specs.declared.body.Body.TheVariants as bodies
 use Rattle.fk_model.specs.Places.{Path}
-use Rattle.fk_model.specs.Objects.{Body, kind_of, and_then}
-use Rattle.fk_model.specs.World.{World}
+use Rattle.fk_model.specs.Objects.{kind_of, and_then}
 use Rattle.fk_model.specs.Valid as valid
 use Rattle.fk_model.specs.Valid.{kind_there, birth_at}
 use Rattle.fk_store.specs.Names.{at}
 use Rattle.fk_store.specs.Contents.{Contents, birth_of, birth_there, is_live}
 use Rattle.fk_store.specs.Paths.{place, path, space_at, IsAtHome}
 use Rattle.fk_store.specs.Bodies.{body_by}
-use Rattle.fk_store.specs.World.{world, body_at, page_at, IsLive, IsSpace}
+use Rattle.fk_store.specs.World.{world, IsLive, IsSpace}
 use Rattle.fk_store.specs.Kept.{is_there, IsKept}
 use Rattle.fk_store.proofs.Walks.{space_at-path, space_at-lost, live-space_at, path-home}
 

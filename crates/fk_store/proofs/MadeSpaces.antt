@@ -1,29 +1,27 @@
 -- Made spaces: a space with the next birth number in an empty slot of a live space is the one made at the path.
-use Rattle.std.proofs.Common.{◌≡◌, ◌≢◌, ◌⊎◌, inl, inr, ℕ, zero, suc, ◌+◌, ◌<◌, ◌≤◌, Bool, true, false, cond, ◌&&◌, ◌||◌, ◌==◌, List, [], ◌∷◌, Option, Some, None, option_map, is_some, IsSome, refl, sym, ap, subst, ◌∙◌, arith, nat_eq, eqb-true, eq-eqb, ne_eqb, length}
-use Rattle.std.proofs.lemmas.Bool.{eqb-false}
-use Rattle.std.proofs.lemmas.Bool.Decides.{nat_tests}
+use Rattle.std.proofs.Common.{◌≡◌, ◌≢◌, ◌⊎◌, inl, inr, ℕ, zero, suc, ◌+◌, ◌<◌, ◌≤◌, Bool, true, false, cond, ◌&&◌, ◌==◌, List, [], ◌∷◌, Option, Some, None, option_map, refl, sym, ap, subst, ◌∙◌, arith, eq-eqb, length}
 use Rattle.std.specs.Ordering.{eq_by_cmp}
-use Rattle.std.specs.FinMap.{FinMap, get, insert, get-insert}
+use Rattle.std.specs.FinMap.{get, insert, get-insert}
 use Rattle.fk_model.specs.declared.names.Who.{Who}
 use Rattle.fk_model.specs.declared.body.Body as bodies_of
 use Rattle.fk_model.specs.declared.body.Body.TheVariants as bodies
 use Rattle.fk_model.specs.Places.{Path, same_path}
 use Rattle.fk_model.specs.Places.Ptr.{At}
-use Rattle.fk_model.specs.Objects.{Body, kind_of, and_then}
+use Rattle.fk_model.specs.Objects.{and_then}
 use Rattle.fk_model.specs.Objects.Body.{Space}
-use Rattle.fk_model.specs.World.{World, apply, birth_after}
-use Rattle.fk_model.specs.World.Change.{Make, MakeSpace}
+use Rattle.fk_model.specs.World.{apply, birth_after}
+use Rattle.fk_model.specs.World.Change.{MakeSpace}
 use Rattle.fk_store.specs.Names.{at, who_cmp}
 use Rattle.fk_store.specs.Contents.{Contents, birth_of, birth_there, home, is_live}
-use Rattle.fk_store.specs.Paths.{nowhere, place, from_home, path, space_at, IsAtHome}
+use Rattle.fk_store.specs.Paths.{place, from_home, path, space_at}
 use Rattle.fk_store.specs.Bodies.{body_by}
-use Rattle.fk_store.specs.Named.{Each, OnNamed}
+use Rattle.fk_store.specs.Named.{OnNamed}
 use Rattle.fk_store.specs.World.{world, body_at, page_at}
 use Rattle.fk_store.specs.Kept.{is_there, IsSized, IsKept}
 use Rattle.fk_store.proofs.NameLaws.{who_total, who_tied}
 use Rattle.fk_store.proofs.NamedLaws.{OnNamed-map, body_by-named}
 use Rattle.fk_store.proofs.Homes.{home-found, home-none}
-use Rattle.fk_store.proofs.Walks.{not_root, same_path_refl, same_path_true, path-root, path-step, path-home, live-home, there-birth, space_at-path, path-space_at, same_space}
+use Rattle.fk_store.proofs.Walks.{not_root, same_path_true, path-root, path-step, path-home, space_at-path, same_space}
 use Rattle.fk_store.proofs.Sets.{tied, lost_apart}
 use Rattle.fk_store.proofs.Makes.{live-born, after_there, before_there, after_body}
 
@@ -75,9 +73,9 @@ module _ (m : Contents) (kept : IsKept m) (who : Who) (live : is_live m who.spac
       by : (o : Option Who) → home with_space m.next ≡ o → home with_space m.next ≡ Some who
       by None e = absurd (home-none with_space m.next who e here)
       by (Some q) e = elim (births_after q m.next (home-found with_space m.next q e)) [
-          | inl new ↦ e ∙ ap Some new.0
-          | inr old ↦ let low = kept.born q m.next old in absurd (omega arith)
-        ]
+        | inl new ↦ e ∙ ap Some new.0
+        | inr old ↦ let low = kept.born q m.next old in absurd (omega arith)
+      ]
 
   home-old : (n : ℕ) → n ≢ m.next → home with_space n ≡ home m n
   home-old n other = by (home with_space n) refl (home m n) refl
@@ -86,9 +84,9 @@ module _ (m : Contents) (kept : IsKept m) (who : Who) (live : is_live m who.spac
       by None a None b = refl
       by None a (Some q) b = absurd (home-none with_space n q a (births_stay q n (home-found m n q b)))
       by (Some q) a p b = elim (births_after q n (home-found with_space n q a)) [
-          | inl new ↦ absurd (other new.1)
-          | inr old ↦ sym (kept.alone q n old) ∙ b
-        ]
+        | inl new ↦ absurd (other new.1)
+        | inr old ↦ sym (kept.alone q n old) ∙ b
+      ]
 
   live_stays : (n : ℕ) → is_live m n ≡ true → is_live with_space n ≡ true
   live_stays n h = let low = live-born m kept n h in let other : n ≢ m.next = omega arith in rw (home-old n other) h
@@ -146,9 +144,9 @@ module _ (m : Contents) (kept : IsKept m) (who : Who) (live : is_live m who.spac
         by : (o : Option bodies_of.Body) → get (insert m.bodies who (bodies.Space m.next holder)) (at m.next k) ≡ o → o ≡ None
         by None e = refl
         by (Some c) e = elim (before_there m kept who live slot empty (bodies.Space m.next holder) (at m.next k) (rw e refl)) [
-            | inl same ↦ let low = live-born m kept who.space live in let number : m.next ≡ who.space = ap (λ (w : Who). w.space) same in absurd (omega arith)
-            | inr there ↦ let low = live-born m kept m.next (kept.housed (at m.next k) there) in absurd (omega arith)
-          ]
+          | inl same ↦ let low = live-born m kept who.space live in let number : m.next ≡ who.space = ap (λ (w : Who). w.space) same in absurd (omega arith)
+          | inr there ↦ let low = live-born m kept m.next (kept.housed (at m.next k) there) in absurd (omega arith)
+        ]
 
     no_pages : (page : ℕ) → get m.pages (m.next, page) ≡ None
     no_pages page = by (get m.pages (m.next, page)) refl

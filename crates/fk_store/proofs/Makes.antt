@@ -1,32 +1,25 @@
 -- Makes: a body put into an empty slot of a live space is the one made at the path.
-use Rattle.std.proofs.Common.{◌≡◌, ◌≢◌, ◌⊎◌, inl, inr, ℕ, zero, suc, ◌+◌, ◌<◌, ◌≤◌, Bool, true, false, cond, ◌&&◌, ◌||◌, ◌==◌, List, [], ◌∷◌, Option, Some, None, option_map, is_some, IsSome, refl, sym, ap, subst, ◌∙◌, arith, nat_eq, eqb-true, eq-eqb, ne_eqb, length}
-use Rattle.std.proofs.lemmas.Bool.{eqb-false}
-use Rattle.std.proofs.lemmas.Bool.Decides.{nat_tests}
+use Rattle.std.proofs.Common.{◌≡◌, ◌⊎◌, inl, inr, ℕ, zero, suc, ◌<◌, Bool, true, false, cond, [], ◌∷◌, Option, Some, None, is_some, refl, sym, subst, ◌∙◌, arith}
 use Rattle.std.specs.Ordering.{eq_by_cmp}
-use Rattle.std.specs.FinMap.{FinMap, get, insert, get-insert}
+use Rattle.std.specs.FinMap.{get, insert, get-insert}
 use Rattle.fk_model.specs.declared.names.Who.{Who}
 use Rattle.fk_model.specs.declared.body.Body as bodies_of
-use Rattle.fk_model.specs.declared.body.Body.TheVariants as bodies
 use Rattle.fk_model.specs.Places.{Path, same_path}
-use Rattle.fk_model.specs.Objects.{Body, kind_of, and_then}
-use Rattle.fk_model.specs.Objects.Body.{Space}
-use Rattle.fk_model.specs.World.{World, apply, birth_after}
-use Rattle.fk_model.specs.World.Change.{Make, MakeSpace}
-use Rattle.fk_model.specs.Valid.{kind_there}
-use Rattle.fk_store.specs.Names.{at, who_cmp}
+use Rattle.fk_model.specs.Objects.{and_then}
+use Rattle.fk_model.specs.World.{apply}
+use Rattle.fk_model.specs.World.Change.{Make}
+use Rattle.fk_store.specs.Names.{who_cmp}
 use Rattle.fk_store.specs.Contents.{Contents, birth_of, birth_there, home, is_live}
-use Rattle.fk_store.specs.Paths.{nowhere, place, from_home, path, space_at, IsAtHome}
+use Rattle.fk_store.specs.Paths.{place, path}
 use Rattle.fk_store.specs.Bodies.{body_by}
 use Rattle.fk_store.specs.Named.{OnNamed}
-use Rattle.fk_store.specs.World.{world, body_at, page_at, IsLive, IsSpace}
+use Rattle.fk_store.specs.World.{world, body_at}
 use Rattle.fk_store.specs.Kept.{is_there, IsSized, IsKept}
-use Rattle.fk_store.specs.Makes.{making, IsNext, next_by}
 use Rattle.fk_store.proofs.NameLaws.{who_total, who_tied}
 use Rattle.fk_store.proofs.NamedLaws.{OnNamed-map}
-use Rattle.fk_store.proofs.Homes.{home-found, home-none}
-use Rattle.fk_store.proofs.Walks.{not_root, same_path_refl, same_path_true, path-root, path-step, path-home, live-home, there-birth, space_at-path, path-space_at, same_space}
-use Rattle.fk_store.proofs.LookUps.{body-place, IsLive-there, IsSpace-live}
-use Rattle.fk_store.proofs.Sets.{with_body, tied, home-births, is_live-births, path-births, space_at-births, lost_apart, put_at}
+use Rattle.fk_store.proofs.Homes.{home-found}
+use Rattle.fk_store.proofs.Walks.{not_root}
+use Rattle.fk_store.proofs.Sets.{with_body, home-births, is_live-births, path-births, space_at-births, put_at}
 
 module _ (m : Contents) (kept : IsKept m) where
   -- a live space is born

@@ -1,11 +1,11 @@
 -- Making: all that the making of an object owes.
-use Rattle.std.proofs.Common.{◌≡◌, ◌≢◌, ℕ, ◌+◌, ◌<◌, true, Option, Some, None, option_map, is_some, IsSome, ◌∷◌, refl, sym, ap, subst, ◌∙◌, arith}
+use Rattle.std.proofs.Common.{◌≡◌, ◌≢◌, ℕ, ◌<◌, true, Option, Some, None, option_map, IsSome, ◌∷◌, refl, sym, ap, subst, ◌∙◌, arith}
 use Rattle.std.specs.FinMap.{get, insert}
 use Rattle.fk_model.specs.declared.names.Who.{Who}
 use Rattle.fk_model.specs.declared.body.Body.{Body}
 use Rattle.fk_model.specs.declared.body.Body.TheVariants.{Mutex, Cond, Mapping, Region, Port, Portset, Space, Thread, Reference}
 use Rattle.fk_model.specs.Places.{Path}
-use Rattle.fk_model.specs.World.{World, apply}
+use Rattle.fk_model.specs.World.{apply}
 use Rattle.fk_model.specs.World.Change.{Make}
 use Rattle.fk_model.specs.Valid.{kind_there}
 use Rattle.fk_store.specs.Contents.{Contents, birth_of, is_live}
@@ -18,7 +18,7 @@ use Rattle.fk_store.specs.Makes.{making, IsNext, next_by}
 use Rattle.fk_store.proofs.NamedLaws.{OnNamed-map}
 use Rattle.fk_store.proofs.LookUps.{body-place, IsLive-there, IsSpace-live}
 use Rattle.fk_store.proofs.Makes.{live-born, path-made, world-made, kept-made}
-use Rattle.fk_store.proofs.MadeSpaces.{with_space, kept-space, path-old, path-live, path-new, world-space}
+use Rattle.fk_store.proofs.MadeSpaces.{kept-space, path-old, path-live, path-new, world-space}
 use Rattle.fk_store.proofs.Changes.{kinds-making}
 
 -- the contents with a new object

@@ -1,20 +1,20 @@
 -- Pages: a page put or taken away under a name is that at the path.
-use Rattle.std.proofs.Common.{◌≡◌, ℕ, Bool, true, false, cond, ◌&&◌, ◌==◌, List, [], ◌∷◌, Option, Some, None, option_map, is_some, IsSome, refl, sym, ap, subst, ◌∙◌, arith}
+use Rattle.std.proofs.Common.{◌≡◌, ℕ, Bool, true, false, cond, ◌&&◌, ◌==◌, List, [], ◌∷◌, Option, Some, None, option_map, is_some, refl, ap, ◌∙◌, arith}
 use Rattle.std.proofs.lemmas.Bool.Decides.{nat_tests}
 use Rattle.std.specs.Ordering.{eq_by_cmp}
 use Rattle.std.specs.FinMap.{FinMap, get, insert, remove, get-insert, get-remove}
 use Rattle.fk_model.specs.declared.names.Who.{Who}
 use Rattle.fk_model.specs.Places.{Path, same_path}
 use Rattle.fk_model.specs.Objects.{kind_of, and_then}
-use Rattle.fk_model.specs.World.{World, apply}
+use Rattle.fk_model.specs.World.{apply}
 use Rattle.fk_model.specs.World.Change.{PutPage, DropPage}
 use Rattle.fk_model.specs.Valid.{kind_there}
 use Rattle.fk_store.specs.Names.{at, page_cmp}
 use Rattle.fk_store.specs.Contents.{Contents, birth_there, is_live}
-use Rattle.fk_store.specs.Paths.{place, path, space_at}
+use Rattle.fk_store.specs.Paths.{path, space_at}
 use Rattle.fk_store.specs.Bodies.{body_by}
 use Rattle.fk_store.specs.World.{world, body_at, page_at, IsSpace}
-use Rattle.fk_store.specs.Kept.{is_there, IsKept}
+use Rattle.fk_store.specs.Kept.{IsKept}
 use Rattle.fk_store.proofs.NameLaws.{page_total, page_tied}
 use Rattle.fk_store.proofs.Walks.{same_space}
 use Rattle.fk_store.proofs.LookUps.{IsSpace-live}

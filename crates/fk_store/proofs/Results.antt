@@ -1,5 +1,5 @@
 -- What a result tells.
-use Rattle.std.proofs.Common.{Result, Ok, Err, OnOk, OnErr, IsOk, IfOk}
+use Rattle.std.proofs.Common.{Result, Ok, Err, OnOk, OnErr}
 
 -- one fact follows from another on one side
 pub on_ok : {T E : Type 0} (r : Result T E) (P Q : Type 0) → (P → Q) → OnOk r P → OnOk r Q

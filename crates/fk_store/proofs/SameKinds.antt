@@ -1,5 +1,5 @@
 -- Kinds: a body of the kind of what stands under its name, and of its path if it is a space, has its birth number.
-use Rattle.std.proofs.Common.{◌≡◌, ℕ, Bool, true, false, Option, Some, None, option_map, is_some, ◌∷◌, refl, sym, ap, subst, ◌∙◌, arith}
+use Rattle.std.proofs.Common.{◌≡◌, ℕ, Bool, true, false, Option, Some, None, option_map, refl, sym, ap, ◌∙◌, arith}
 use Rattle.std.specs.FinMap.{get}
 use Rattle.fk_model.specs.declared.names.Kind.{Kind}
 use Rattle.fk_model.specs.declared.names.Kind.TheVariants as kinds
@@ -13,7 +13,7 @@ use Rattle.fk_store.specs.Contents.{Contents, birth_of, birth_there, is_live}
 use Rattle.fk_store.specs.Paths.{place, path, space_at, IsAtHome}
 use Rattle.fk_store.specs.Bodies.{body_by}
 use Rattle.fk_store.specs.World.{world}
-use Rattle.fk_store.specs.Kept.{is_there, IsKept}
+use Rattle.fk_store.specs.Kept.{IsKept}
 use Rattle.fk_store.proofs.Walks.{space_at-path, path-home, path-lost, live-home, there-birth}
 use Rattle.fk_store.proofs.LookUps.{body-place}
 

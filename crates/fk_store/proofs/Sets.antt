@@ -1,20 +1,20 @@
 -- Sets: another body for an object of the same kind is the body at its path, and nothing else.
-use Rattle.std.proofs.Common.{◌≡◌, ℕ, zero, suc, ◌<◌, Bool, true, false, cond, ◌&&◌, ◌==◌, List, [], ◌∷◌, Option, Some, None, option_map, is_some, refl, sym, ap, subst, ◌∙◌, arith, nat_eq}
+use Rattle.std.proofs.Common.{◌≡◌, ℕ, zero, suc, Bool, true, false, cond, ◌&&◌, ◌==◌, [], ◌∷◌, Option, Some, None, option_map, is_some, refl, sym, ap, subst, ◌∙◌, arith}
 use Rattle.std.proofs.lemmas.Bool.Decides.{nat_tests}
-use Rattle.std.specs.Ordering.{is_eq, eq_by_cmp, nat_cmp, ordering_then}
-use Rattle.std.specs.FinMap.{FinMap, get, insert, get-insert}
+use Rattle.std.specs.Ordering.{eq_by_cmp}
+use Rattle.std.specs.FinMap.{get, insert, get-insert}
 use Rattle.fk_model.specs.declared.names.Who.{Who}
 use Rattle.fk_model.specs.declared.body.Body as bodies_of
 use Rattle.fk_model.specs.Places.{Path, same_path}
-use Rattle.fk_model.specs.Objects.{Body, kind_of, and_then}
-use Rattle.fk_model.specs.World.{World, Edit, edited, apply}
+use Rattle.fk_model.specs.Objects.{kind_of, and_then}
+use Rattle.fk_model.specs.World.{Edit, edited, apply}
 use Rattle.fk_model.specs.World.Change.{Make, Alter}
 use Rattle.fk_model.specs.Valid.{kind_there}
 use Rattle.fk_store.specs.Names.{at, who_cmp}
 use Rattle.fk_store.specs.Contents.{Contents, birth_of, birth_there, home, is_live}
 use Rattle.fk_store.specs.Paths.{place, from_home, path_by, path, space_at, IsAtHome}
 use Rattle.fk_store.specs.Bodies.{body_by}
-use Rattle.fk_store.specs.World.{world, body_at, page_at, IsLive, IsSpace}
+use Rattle.fk_store.specs.World.{world, body_at, IsLive}
 use Rattle.fk_store.specs.Named.{OnNamed}
 use Rattle.fk_store.specs.Kept.{is_there, IsSized, IsKept}
 use Rattle.fk_store.proofs.NameLaws.{who_total, who_tied}

@@ -1,12 +1,12 @@
 -- What is found at a place among sorted entries, and what an edit there does.
-use Rattle.std.proofs.Common.{◌≡◌, ℕ, zero, suc, ◌+◌, ◌<◌, ◌≤◌, Bool, true, false, cond, not, ◌&&◌, List, [], ◌∷◌, ◌++◌, map, length, get_or, set, take, drop, Some, None, Option, refl, sym, ap, subst, ◌∙◌, arith, T, option_map, Result, Ok, Err, IfOk, IfErr}
+use Rattle.std.proofs.Common.{◌≡◌, ℕ, zero, suc, ◌+◌, ◌<◌, Bool, true, false, cond, not, ◌&&◌, List, [], ◌∷◌, map, length, get_or, set, Some, None, refl, sym, ap, subst, ◌∙◌, arith, T, option_map, Result, Ok, Err, IfOk, IfErr}
 use Rattle.std.specs.declared.cmp.Ordering.{Ordering}
 use Rattle.std.specs.declared.cmp.Ordering.TheVariants.{Less, Equal, Greater}
 use Rattle.std.specs.Ordering.{is_lt, is_eq, eq_by_cmp, ordering_reverse, ordering_index}
 use Rattle.std.specs.List.Sorted.{IsNonDecreasingBy, IsSearchInRange, IsBinarySearchResult}
 use Rattle.std.proofs.lemmas.List.Sorted.{searchable_from_sorted}
 use Rattle.std.specs.Cmp.{IsTotalOrder, alike_right, eq_by_cmp_equiv}
-use Rattle.std.specs.List.{insert, remove, filter}
+use Rattle.std.specs.List.{insert, remove}
 use Rattle.std.specs.FinMap.{FinMap, find, put, is_sorted, entries, from_sorted, get, entries-from_sorted, entries_sorted, entries-insert, same_entries_map, get-from_sorted, IsAntisymmetric, get-entries}
 use Rattle.std.specs.FinMap as finmap
 use Rattle.std.specs.FinMap.Entries.{where_key, is_sorted-put, is_sorted-where_key, find-where_key, below_all}
@@ -113,8 +113,8 @@ module _ {K X : Type 0} {R : K → K → Ordering} (o : IsTotalOrder R) where
   remove_at [] k i s a = absurd (omega (arith, a.in_range))
   remove_at (e ∷ es) k zero s a =
       rw (equal_back o _ _ (a.same e)) (sym (all_pass _ es (λ j d l.
-        let above = below_all_at e.0 es (first _ _ s) j d l in
-        ap (λ r. not (is_eq r)) (sym (o.congr e.0 k _ (a.same e)) ∙ above))))
+      let above = below_all_at e.0 es (first _ _ s) j d l in
+      ap (λ r. not (is_eq r)) (sym (o.congr e.0 k _ (a.same e)) ∙ above))))
   remove_at (e ∷ es) k (suc i) s a = rw (less_back o _ _ (before_at e es k i s a)) (ap (λ l. e ∷ l) (remove_at es k i (second _ _ s) (tail_at e es k i a)))
 
   -- an edit of sorted entries is that edit of the map that they make

@@ -1,5 +1,5 @@
 -- Walks up and down: the path of a space leads to it, and to it alone.
-use Rattle.std.proofs.Common.{◌≡◌, ℕ, zero, suc, ◌<◌, ◌≤◌, Bool, true, false, cond, ◌&&◌, ◌||◌, ◌==◌, List, [], ◌∷◌, Option, Some, None, option_map, is_some, refl, sym, ap, subst, ◌∙◌, arith, nat_eq, eqb-true, eq-eqb, ne_eqb}
+use Rattle.std.proofs.Common.{◌≡◌, ℕ, zero, suc, ◌<◌, ◌≤◌, Bool, true, false, cond, ◌&&◌, ◌||◌, ◌==◌, [], ◌∷◌, Option, Some, None, is_some, refl, ap, subst, ◌∙◌, arith, eqb-true, eq-eqb}
 use Rattle.std.proofs.lemmas.Bool.Decides.{nat_tests}
 use Rattle.std.specs.FinMap.{get}
 use Rattle.fk_model.specs.declared.names.Who.{Who}
@@ -10,7 +10,7 @@ use Rattle.fk_store.specs.Names.{at, same_who}
 use Rattle.fk_store.specs.Contents.{Contents, birth_of, birth_there, home, is_live}
 use Rattle.fk_store.specs.Paths.{nowhere, place, from_home, path_by, path, space_at, IsApart}
 use Rattle.fk_store.specs.Kept.{is_there, IsKept}
-use Rattle.fk_store.proofs.Homes.{home-found, home-none}
+use Rattle.fk_store.proofs.Homes.{home-found}
 
 pub same_path_refl : (x : Path) → same_path x x ≡ true
 unfolding same_path

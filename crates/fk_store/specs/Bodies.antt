@@ -1,6 +1,5 @@
 -- Bodies: the state of an object with its pointers by path.
-use Rattle.std.specs.Prelude.{ℕ, List, [], Option, option_map, unwrap_or}
-use Rattle.fk_model.specs.declared.names.Who.{Who}
+use Rattle.std.specs.Prelude.{ℕ, List, [], option_map, unwrap_or}
 use Rattle.fk_model.specs.declared.names.Ptr as named
 use Rattle.fk_model.specs.declared.names.Ptr.TheVariants as pointers
 use Rattle.fk_model.specs.declared.thread.Mode as modes_of

@@ -1,5 +1,5 @@
 -- Contents: what a store holds, by names.
-use Rattle.std.specs.Prelude.{ℕ, Bool, true, false, ◌||◌, ◌==◌, List, find, Option, Some, None, option_map, is_some, refl}
+use Rattle.std.specs.Prelude.{ℕ, Bool, false, ◌||◌, ◌==◌, List, find, Option, Some, None, option_map, is_some, refl}
 use Rattle.std.specs.FinMap.{FinMap, code, get, entries}
 use Rattle.std.specs.Coded.{Coded, code_by, coded×, coded_ℕ, coded_list}
 use Rattle.fk_model.specs.declared.names.Who.{Who}

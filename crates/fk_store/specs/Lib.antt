@@ -10,3 +10,4 @@ pub mod World
 pub mod Named
 pub mod Kept
 pub mod Makes
+pub mod Reaches

@@ -1,5 +1,5 @@
 -- Orders: what comes after a key.
-use Rattle.std.specs.Prelude.{◌≡◌, Bool, true, IsTrue, IsSome, Option, Some, None}
+use Rattle.std.specs.Prelude.{Bool, true, IsTrue, Option, Some, None}
 use Rattle.std.specs.declared.cmp.Ordering.{Ordering}
 use Rattle.std.specs.Ordering.{is_lt, is_le}
 

@@ -9,8 +9,10 @@
 mod bodies;
 mod mutexes;
 mod pages;
+mod reach;
 mod store;
 mod tables;
 mod threads;
 
+pub use reach::Reach;
 pub use store::Store;

@@ -1,5 +1,5 @@
 //! The store of all objects and pages.
-ghost use Rattle.std.specs.Prelude.{◌≡◌, ◌≢◌, ◌↔◌, ℕ, ◌<◌, ◌∷◌, OnOk, OnErr, IsOk, Some, None, IsSome, IfSome, IfOk, option_map};
+ghost use Rattle.std.specs.Prelude.{◌≡◌, IsTrue, ◌≢◌, ◌↔◌, ℕ, ◌<◌, ◌∷◌, OnOk, OnErr, IsOk, Some, None, IsSome, IfSome, IfOk, option_map};
 ghost use Rattle.std.specs.Option.{option_copied};
 ghost use Rattle.fk_model.specs.Objects.{kind_of};
 ghost use Rattle.fk_model.specs.World.{Edit, edited, apply};
@@ -67,6 +67,7 @@ impl Store {
     /// The body of an object. The root has no name, and so no body here.
     pub fn at(&self, who: Who) -> Option<&Body>
         ensures body { (world self.now).body (place (path self.now) who) ≡ option_map (body_by (path self.now)) (option_copied result) }
+        ensures kind { kind_there (world self.now) (place (path self.now) who) ≡ option_map (λ body. kind_of (body_by (path self.now) body)) (option_copied result) }
         ensures space { IsSome result → IsSpace self.now who.space }
         ensures home { IfSome result (λ body. IsAtHome (path self.now) who body.now) }
         ensures named { IfSome result (λ body. OnNamed (IsLive self.now) body.now) }
@@ -95,6 +96,13 @@ impl Store {
         ensures older { IfSome result (λ who. who.space < space) }
     {
         self.bodies.home(space)
+    }
+
+    /// The space with this birth number is live.
+    pub fn is_live(&self, space: u32) -> bool
+        ensures { IsTrue result ↔ IsSpace self.now space }
+    {
+        space == 0 || self.bodies.home(space).is_some()
     }
 
     /// Gives an object another body of its kind. A space keeps its birth number, what the body names
@@ -175,3 +183,6 @@ fn next_after(next: u32, body: &Body) -> u32
         _ => next,
     }
 }
+
+#[cfg(test)]
+mod tests;

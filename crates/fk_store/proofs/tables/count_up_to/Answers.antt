@@ -1,4 +1,4 @@
-use Rattle.fk_store.proofs.NextKeys.{after-none, after-at, after-gap}
+use Rattle.fk_store.proofs.NextKeys.{after-at}
 use Rattle.fk_store.proofs.tables.count_up_to.Goals as goal
 
 pub returns-in-Ok : goal.returns-in-Ok

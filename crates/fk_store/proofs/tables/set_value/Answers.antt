@@ -1,6 +1,3 @@
-use Rattle.std.proofs.Common.{ap, subst, T, slice_set, ◌∙◌}
-use Rattle.std.specs.FinMap.{is_sorted}
-use Rattle.fk_store.specs.Sorted.{map_of}
 use Rattle.fk_store.proofs.TableLaws.{set_sorted, map_set, get_gap}
 use Rattle.fk_store.proofs.tables.set_value.Goals as goal
 

@@ -1,6 +1,5 @@
 use Rattle.std.proofs.Common.{◌≡◌, sym, ap, ◌∙◌, arith}
 use Rattle.fk_model.specs.Objects.{or_else}
-use Rattle.fk_store.specs.Contents.{home}
 use Rattle.fk_store.specs.World.{IsLive}
 use Rattle.fk_store.proofs.Walks.{younger}
 use Rattle.fk_store.proofs.HoldLaws.{home-root, decider-object, each-or, decided, decided-above, live-apart}

@@ -1,10 +1,7 @@
 use Rattle.std.proofs.Common.{refl, sym, ◌∙◌, is_some, ap}
-use Rattle.std.specs.FinMap.{insert}
-use Rattle.fk_store.specs.World.{world}
-use Rattle.fk_store.specs.Kept.{IsKept}
 use Rattle.fk_store.proofs.Results.{on_ok, on_err, on_both}
 use Rattle.fk_store.proofs.LookUps.{page-path}
-use Rattle.fk_store.proofs.PageLaws.{with_pages, put_page-kept, put_page-world, kinds-pages, paths-pages}
+use Rattle.fk_store.proofs.PageLaws.{put_page-kept, put_page-world, kinds-pages, paths-pages}
 use Rattle.fk_store.proofs.store.Store.put_page.Goals as goal
 
 pub invariant_of-self : goal.invariant_of-self
