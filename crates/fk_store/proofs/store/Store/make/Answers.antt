@@ -1,0 +1,30 @@
+use Rattle.std.proofs.Common.{◌<◌, arith}
+use Rattle.fk_store.specs.World.{world}
+use Rattle.fk_store.proofs.Making.{make-kept, make-world, make-home, make-paths, make-places, make-kinds}
+use Rattle.fk_store.proofs.store.Store.make.Goals as goal
+
+pub next_after-self-inside-requires : goal.next_after-self-inside-requires
+unfolding world
+next_after-self-inside-requires c = rw (← c.self.view_is) at c.requires.birth
+
+pub invariant_of-self-2 : goal.invariant_of-self-2
+invariant_of-self-2 c =
+    let slot : c.args.who.slot < 256 = omega arith in
+    rw (c.next_after-self-inside.ensures, c.in_ok-put.ensures.ok)
+    (make-kept _ c.self.invariant c.args.who slot (rw (← c.self.view_is) at c.requires.space) (rw (← c.self.view_is) at c.requires.empty) c.args.body (rw (← c.self.view_is) at c.requires.birth) (rw (← c.self.view_is) at c.requires.named) c.requires.sized)
+
+pub returns : goal.returns
+returns c =
+    let slot : c.args.who.slot < 256 = omega arith in
+    let space = rw (← c.self.view_is) at c.requires.space in
+    let empty = rw (← c.self.view_is) at c.requires.empty in
+    let birth = rw (← c.self.view_is) at c.requires.birth in
+    let named = rw (← c.self.view_is) at c.requires.named in
+    rw (c.next_after-self-inside.ensures, c.in_ok-put.ensures.ok, ← c.self.view_is) (record {
+      world = make-world _ c.self.invariant c.args.who slot space empty c.args.body birth named c.requires.sized;
+      home = make-home _ c.self.invariant c.args.who slot space empty c.args.body birth named c.requires.sized;
+      err = tt;
+      kinds = make-kinds _ c.self.invariant c.args.who slot space empty c.args.body birth named c.requires.sized;
+      places = make-places _ c.self.invariant c.args.who slot space empty c.args.body birth named c.requires.sized;
+      paths = make-paths _ c.self.invariant c.args.who slot space empty c.args.body birth named c.requires.sized;
+    })

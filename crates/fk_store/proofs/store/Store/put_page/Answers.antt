@@ -1,0 +1,24 @@
+use Rattle.std.proofs.Common.{refl, sym, ◌∙◌, is_some, ap}
+use Rattle.fk_store.proofs.Results.{on_ok, on_err, on_both}
+use Rattle.fk_store.proofs.LookUps.{page-path}
+use Rattle.fk_store.proofs.PageLaws.{put_page-kept, put_page-world, kinds-pages, paths-pages}
+use Rattle.fk_store.proofs.store.Store.put_page.Goals as goal
+
+pub invariant_of-self : goal.invariant_of-self
+invariant_of-self c =
+    let live = rw (← c.self.view_is) at c.requires in
+    on_both c.put.result _ _ _
+    (λ e. rw e (put_page-kept _ c.self.invariant c.args.space c.args.page c.args.words.now live))
+    (λ e. rw e c.self.invariant)
+    c.put.ensures.ok c.put.ensures.err
+
+pub returns : goal.returns
+returns c =
+    let live = rw (← c.self.view_is) at c.requires in
+    rw (← c.self.view_is) (record {
+      world = on_ok c.put.result _ _ (λ e. rw e (put_page-world _ c.self.invariant c.args.space c.args.page c.args.words.now live)) c.put.ensures.ok;
+      there = λ some. c.put.ensures.there (ap is_some (sym (page-path _ c.self.invariant c.args.space c.args.page)) ∙ some);
+      err = on_err c.put.result _ _ (λ e. rw e refl) c.put.ensures.err;
+      kinds = kinds-pages _ c.self.invariant c.put.new.self;
+      paths = paths-pages _ c.self.invariant c.put.new.self;
+    })

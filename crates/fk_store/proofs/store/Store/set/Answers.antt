@@ -1,0 +1,19 @@
+use Rattle.fk_store.proofs.Sets.{set-there, set-kept, set-world, set-edits, set-kinds, set-paths}
+use Rattle.fk_store.proofs.store.Store.set.Goals as goal
+
+pub set-requires : goal.set-requires
+set-requires c = set-there _ c.self.invariant c.args.who c.args.body (rw (← c.self.view_is) at c.requires.kind) (rw (← c.self.view_is) at c.requires.home)
+
+pub invariant_of-self : goal.invariant_of-self
+invariant_of-self c = rw c.set.ensures (set-kept _ c.self.invariant c.args.who c.args.body (rw (← c.self.view_is) at c.requires.kind) (rw (← c.self.view_is) at c.requires.home) (rw (← c.self.view_is) at c.requires.named) c.requires.sized)
+
+pub returns : goal.returns
+returns c =
+    let kind = rw (← c.self.view_is) at c.requires.kind in
+    let home = rw (← c.self.view_is) at c.requires.home in
+    rw (c.set.ensures, ← c.self.view_is) (record {
+      world = set-world _ c.self.invariant c.args.who c.args.body kind home;
+      edits = set-edits _ c.self.invariant c.args.who c.args.body kind home;
+      kinds = set-kinds _ c.self.invariant c.args.who c.args.body kind home;
+      paths = set-paths _ c.self.invariant c.args.who c.args.body kind home;
+    })

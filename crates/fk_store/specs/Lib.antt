@@ -1,0 +1,13 @@
+pub mod Moves
+pub mod Threads
+pub mod Names
+pub mod Orders
+pub mod Sorted
+pub mod Contents
+pub mod Paths
+pub mod Bodies
+pub mod World
+pub mod Named
+pub mod Kept
+pub mod Makes
+pub mod Reaches

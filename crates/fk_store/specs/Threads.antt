@@ -1,0 +1,31 @@
+-- Threads: what a call on a thread finds at a path.
+use Rattle.std.specs.Prelude.{ℕ, Bool, List, [], Option, Some, None}
+use Rattle.fk_model.specs.declared.stage.Stage.{Stage}
+use Rattle.fk_model.specs.Places.{Path, parent}
+use Rattle.fk_model.specs.Objects.{Mode, Thread, thread_of, and_then, holds}
+use Rattle.fk_model.specs.Objects.Mode.{Running, Calling, Halted, Native}
+use Rattle.fk_model.specs.World.{World}
+use Rattle.fk_model.specs.Holds.{is_free}
+
+-- the thread at a path
+abbrev pub thread_at : World → Path → Option Thread
+thread_at w x = and_then thread_of (w.body x)
+
+-- the stages that a thread has before it
+abbrev pub todo_of_mode : Mode → List Stage
+todo_of_mode (Running g) = []
+todo_of_mode (Calling todo rest) = todo
+todo_of_mode (Halted g code) = []
+todo_of_mode (Native g) = []
+
+abbrev pub todo_of_thread : Option Thread → List Stage
+todo_of_thread None = []
+todo_of_thread (Some t) = todo_of_mode t.mode
+
+-- the stages that the thread at a path has before it; none where it is in no call
+unfoldable pub todo_at : World → Path → List Stage
+todo_at w x = todo_of_thread (thread_at w x)
+
+-- a free user thread is at the path
+unfoldable pub is_free_at : World → Path → Bool
+is_free_at w x = holds (is_free w (parent x)) (thread_at w x)

@@ -1,0 +1,106 @@
+//! The bodies of all objects, by their names.
+ghost use Rattle.std.specs.Prelude.{◌≡◌, OnOk, OnErr, IsSome, option_map, find};
+ghost use Rattle.std.specs.Option.{option_copied};
+ghost use Rattle.std.specs.FinMap as map;
+ghost use Rattle.fk_store.specs.Names.{who_cmp};
+ghost use Rattle.fk_store.specs.Orders.{IsFirstAfter};
+ghost use Rattle.fk_store.specs.Contents.{birth_of, is_number, home_in};
+
+use crate::tables::{next_key, put_value, set_value, value_of};
+use fk_model::{Body, NoMemory, Who};
+use std::alloc::Global;
+use std::marker::Model;
+
+/// The bodies of all objects.
+#[derive(Drop)]
+pub struct Bodies {
+    entries: Vec<(Who, Body)>,
+}
+
+impl Model for Bodies {
+    ghost use Rattle.std.specs.Prelude.{T};
+    ghost use Rattle.std.specs.FinMap.{FinMap, is_sorted};
+    ghost use Rattle.std.specs.FinMap as finmap;
+    ghost use Rattle.fk_model.specs.declared.body.Body.{Body};
+    ghost use Rattle.fk_model.specs.contracts.body.Body as body;
+    ghost use Rattle.fk_store.specs.Names.{who_cmp, coded_who};
+    ghost use Rattle.fk_store.specs.Sorted.{map_of};
+
+    ghost Value = { FinMap who_cmp Body };
+
+    ghost coded = { finmap.code coded_who body.the_row.coded };
+
+    ghost view = { λ s. map_of who_cmp s.entries.items };
+
+    ghost invariant = { λ s. T (is_sorted who_cmp s.entries.items) };
+}
+
+impl Bodies {
+    /// No bodies.
+    pub fn new(alloc: Global) -> Bodies
+        ensures { result ≡ map.empty }
+    {
+        Bodies {
+            entries: Vec::new(alloc),
+        }
+    }
+
+    /// The body of an object.
+    pub fn at(&self, who: Who) -> Option<&Body>
+        ensures { option_copied result ≡ map.get self.now who }
+    {
+        value_of(&self.entries, who)
+    }
+
+    /// Gives a live object another body.
+    pub fn set(&mut self, who: Who, body: Body)
+        requires { IsSome (map.get self.old who) }
+        ensures { self.new ≡ map.insert self.old who body }
+    {
+        set_value(&mut self.entries, who, body);
+    }
+
+    /// Puts an object in a slot.
+    pub fn put(&mut self, who: Who, body: Body) -> Result<(), NoMemory>
+        ensures ok { OnOk result (self.new ≡ map.insert self.old who body) }
+        ensures err { OnErr result (self.new ≡ self.old) }
+    {
+        Ok(put_value(&mut self.entries, who, body)?)
+    }
+
+    /// The first object after this one, by space and then by slot; the first of all where there is
+    /// none.
+    pub fn after(&self, who: Option<Who>) -> Option<Who>
+        ensures { IsFirstAfter who_cmp (λ k. IsSome (map.get self.now k)) who result }
+    {
+        next_key(&self.entries, who)
+    }
+
+    /// The place of the space with this birth number.
+    pub fn home(&self, space: u32) -> Option<Who>
+        ensures { result ≡ home_in self.now space }
+    {
+        home_among(&self.entries, space)
+    }
+}
+
+fn home_among(entries: &[(Who, Body)], space: u32) -> Option<Who>
+    ensures { result ≡ option_map (λ e. e.0) (find (λ e. is_number space (birth_of e.1)) entries.now) }
+{
+    for entry in entries {
+        if is_born(&entry.1, space) {
+            return Some(entry.0);
+        }
+    }
+    None
+}
+
+/// It is the space with this birth number.
+fn is_born(body: &Body, space: u32) -> bool
+    ensures { result ≡ is_number space (birth_of body.now) }
+{
+    match body {
+        Body::Space { birth, .. } => *birth == space,
+        _ => false,
+    }
+}

@@ -1,0 +1,18 @@
+//! The store: every object and every page, by the birth numbers of spaces.
+//!
+//! It stands on `fk_model` alone. Contracts see a store by two words: `world`, the abstract machine's
+//! world that the store stands for, and `path`, the path of the space with a birth number. Each
+//! call that changes the store says by them which change of the abstract machine it makes, so
+//! nobody above translates between names and paths.
+#![tactic(auto)]
+
+mod bodies;
+mod mutexes;
+mod pages;
+mod reach;
+mod store;
+mod tables;
+mod threads;
+
+pub use reach::Reach;
+pub use store::Store;

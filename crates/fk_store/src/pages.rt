@@ -1,0 +1,117 @@
+//! The pages of all spaces.
+ghost use Rattle.std.specs.Prelude.{◌≡◌, OnOk, OnErr, IsSome, IsOk, IfOk};
+ghost use Rattle.std.specs.Option.{option_copied};
+ghost use Rattle.std.specs.FinMap as map;
+
+use crate::tables::{place_of, take_away, value_of};
+use fk_model::NoMemory;
+use std::alloc::{AllocError, Global};
+use std::marker::Model;
+
+/// The words of a page.
+#[derive(Drop)]
+pub struct Page {
+    words: Box<[u64; 64]>,
+}
+
+impl Model for Page {
+    ghost use Rattle.std.specs.Prelude.{List, ℕ};
+
+    ghost Value = { List ℕ };
+
+    ghost view = { λ p. p.words.value };
+}
+
+impl Page {
+    /// A page of these words.
+    pub fn of(alloc: Global, words: &[u64; 64]) -> Result<Page, AllocError>
+        ensures { IfOk result (λ page. page ≡ words.now) }
+    {
+        let words = Box::new(alloc, *words)?;
+        Ok(Page { words })
+    }
+
+    /// Its words.
+    pub fn words(&self) -> &[u64; 64]
+        ensures { result.now ≡ self.now }
+    {
+        &self.words
+    }
+
+    /// Writes over all of it.
+    pub fn write(&mut self, words: &[u64; 64])
+        ensures { self.new ≡ words.now }
+    {
+        *self.words = *words;
+    }
+}
+
+/// The pages of all spaces, by the birth number of the space and the number of the page.
+#[derive(Drop)]
+pub struct Pages {
+    entries: Vec<((u32, u8), Page)>,
+}
+
+impl Model for Pages {
+    ghost use Rattle.std.specs.Prelude.{T, List, ℕ};
+    ghost use Rattle.std.specs.Coded.{coded×, coded_list, coded_ℕ};
+    ghost use Rattle.std.specs.FinMap.{FinMap, is_sorted};
+    ghost use Rattle.std.specs.FinMap as finmap;
+    ghost use Rattle.fk_store.specs.Names.{page_cmp};
+    ghost use Rattle.fk_store.specs.Sorted.{map_of};
+
+    ghost Value = { FinMap page_cmp (List ℕ) };
+
+    ghost coded = { finmap.code (coded× coded_ℕ coded_ℕ) (coded_list coded_ℕ) };
+
+    ghost view = { λ s. map_of page_cmp s.entries.items };
+
+    ghost invariant = { λ s. T (is_sorted page_cmp s.entries.items) };
+}
+
+impl Pages {
+    /// No pages.
+    pub fn new(alloc: Global) -> Pages
+        ensures { result ≡ map.empty }
+    {
+        Pages {
+            entries: Vec::new(alloc),
+        }
+    }
+
+    /// The words of a page.
+    pub fn at(&self, space: u32, page: u8) -> Option<&[u64; 64]>
+        ensures { option_copied result ≡ map.get self.now (space, page) }
+    {
+        match value_of(&self.entries, (space, page)) {
+            Some(page) => Some(page.words()),
+            None => None,
+        }
+    }
+
+    /// Makes a page, or writes over the one that is there.
+    pub fn put(&mut self, space: u32, page: u8, words: &[u64; 64]) -> Result<(), NoMemory>
+        ensures ok { OnOk result (self.new ≡ map.insert self.old (space, page) words.now) }
+        ensures err { OnErr result (self.new ≡ self.old) }
+        ensures there { IsSome (map.get self.old (space, page)) → IsOk result }
+    {
+        match place_of(&self.entries, (space, page)) {
+            Ok(at) => {
+                let there = &mut self.entries[at].1;
+                there.write(words);
+                Ok(())
+            }
+            Err(at) => {
+                let new = Page::of(*self.entries.allocator(), words)?;
+                Ok(self.entries.insert(at, ((space, page), new))?)
+            }
+        }
+    }
+
+    /// Takes a page away.
+    pub fn remove(&mut self, space: u32, page: u8)
+        ensures { self.new ≡ map.remove self.old (space, page) }
+    {
+        take_away(&mut self.entries, (space, page));
+    }
+}

@@ -1,0 +1,188 @@
+//! The store of all objects and pages.
+ghost use Rattle.std.specs.Prelude.{◌≡◌, IsTrue, ◌≢◌, ◌↔◌, ℕ, ◌<◌, ◌∷◌, OnOk, OnErr, IsOk, Some, None, IsSome, IfSome, IfOk, option_map};
+ghost use Rattle.std.specs.Option.{option_copied};
+ghost use Rattle.fk_model.specs.Objects.{kind_of};
+ghost use Rattle.fk_model.specs.World.{Edit, edited, apply};
+ghost use Rattle.fk_model.specs.World.Change.{Alter, Make, PutPage, DropPage};
+ghost use Rattle.fk_model.specs.Valid.{kind_there};
+ghost use Rattle.fk_model.specs.Places.{Path};
+ghost use Rattle.fk_model.specs.declared.names.Who.{Who};
+ghost use Rattle.fk_store.specs.Names.{who_cmp};
+ghost use Rattle.fk_store.specs.Orders.{IsFirstAfter};
+ghost use Rattle.fk_store.specs.Makes.{making, IsNext, next_by};
+ghost use Rattle.fk_store.specs.Paths.{path, place, IsAtHome, IsApart};
+ghost use Rattle.fk_store.specs.Bodies.{body_by};
+ghost use Rattle.fk_store.specs.Named.{OnNamed};
+ghost use Rattle.fk_store.specs.Kept.{IsSized};
+ghost use Rattle.fk_store.specs.World.{world, first_world, IsLive, IsSpace};
+
+mod holds;
+
+use crate::bodies::Bodies;
+use crate::pages::Pages;
+use fk_model::{Body, NoMemory, Who};
+use std::alloc::Global;
+use std::marker::Model;
+
+/// Every object and every page, by the birth numbers of spaces.
+#[derive(Drop)]
+pub struct Store {
+    bodies: Bodies,
+    pages: Pages,
+    next: u32,
+}
+
+impl Model for Store {
+    ghost use Rattle.fk_store.specs.Contents.{Contents, coded_contents};
+    ghost use Rattle.fk_store.specs.Kept.{IsKept};
+
+    ghost Value = { Contents };
+
+    ghost coded = { coded_contents };
+
+    ghost view = { λ s. record { bodies = s.bodies; pages = s.pages; next = s.next } };
+
+    ghost invariant = { λ s. IsKept (record { bodies = s.bodies; pages = s.pages; next = s.next }) };
+}
+
+impl Store {
+    /// The root alone.
+    pub fn new(alloc: Global) -> Result<Store, NoMemory>
+        ensures { IfOk result (λ store. world store ≡ first_world) }
+    {
+        Ok(Store {
+            bodies: Bodies::new(alloc),
+            pages: Pages::new(alloc),
+            next: 1,
+        })
+    }
+
+    /// The birth number of the next space.
+    pub fn next_birth(&self) -> u32
+        ensures { result ≡ (world self.now).next }
+    {
+        self.next
+    }
+
+    /// The body of an object. The root has no name, and so no body here.
+    pub fn at(&self, who: Who) -> Option<&Body>
+        ensures body { (world self.now).body (place (path self.now) who) ≡ option_map (body_by (path self.now)) (option_copied result) }
+        ensures kind { kind_there (world self.now) (place (path self.now) who) ≡ option_map (λ body. kind_of (body_by (path self.now) body)) (option_copied result) }
+        ensures space { IsSome result → IsSpace self.now who.space }
+        ensures home { IfSome result (λ body. IsAtHome (path self.now) who body.now) }
+        ensures named { IfSome result (λ body. OnNamed (IsLive self.now) body.now) }
+        ensures sized { IfSome result (λ body. IsSized body.now) }
+        ensures apart { IsSome result → IsApart (path self.now) who }
+    {
+        self.bodies.at(who)
+    }
+
+    /// The first object after this one in the order of space and slot; the first of all where there
+    /// is none.
+    pub fn after(&self, who: Option<Who>) -> Option<Who>
+        ensures first { IsFirstAfter who_cmp (IsLive self.now) who result }
+
+        // Every object but the root has a name.
+        ensures named { (k : ℕ) (s : Path) → IsSome (kind_there (world self.now) (k ∷ s)) → (other : Who) × (place (path self.now) other ≡ k ∷ s) }
+    {
+        self.bodies.after(who)
+    }
+
+    /// The object that is the space with this birth number; nothing for the root, and where no such
+    /// space is live.
+    pub fn home(&self, space: u32) -> Option<Who>
+        ensures some { IsSome result ↔ ((0 < space) × IsSpace self.now space) }
+        ensures place { IfSome result (λ who. path self.now space ≡ place (path self.now) who) }
+        ensures older { IfSome result (λ who. who.space < space) }
+    {
+        self.bodies.home(space)
+    }
+
+    /// The space with this birth number is live.
+    pub fn is_live(&self, space: u32) -> bool
+        ensures { IsTrue result ↔ IsSpace self.now space }
+    {
+        space == 0 || self.bodies.home(space).is_some()
+    }
+
+    /// Gives an object another body of its kind. A space keeps its birth number, what the body names
+    /// is there, and the pages of a mapping or a region are among 0 to 255.
+    pub fn set(&mut self, who: Who, body: Body)
+        requires kind { kind_there (world self.old) (place (path self.old) who) ≡ Some (kind_of (body_by (path self.old) body)) }
+        requires home { IsAtHome (path self.old) who body }
+        requires named { OnNamed (IsLive self.old) body }
+        requires sized { IsSized body }
+        ensures world { world self.new ≡ apply (Make (place (path self.old) who) (body_by (path self.old) body)) (world self.old) }
+        ensures edits { (e : Edit) → option_map (edited e) ((world self.old).body (place (path self.old) who)) ≡ Some (body_by (path self.old) body) → world self.new ≡ apply (Alter (place (path self.old) who) e) (world self.old) }
+        ensures kinds { kind_there (world self.new) ≡ kind_there (world self.old) }
+        ensures paths { path self.new ≡ path self.old }
+    {
+        self.bodies.set(who, body);
+    }
+
+    /// Puts a new object into an empty slot of a live space. A space has the next birth number,
+    /// which is below 2^32 - 1, what the body names is there, and the pages of a mapping or a region
+    /// are among 0 to 255. For want of memory all stays as it was.
+    pub fn make(&mut self, who: Who, body: Body) -> Result<(), NoMemory>
+        requires space { IsSpace self.old who.space }
+        requires empty { (world self.old).body (place (path self.old) who) ≡ None }
+        requires birth { IsNext (world self.old).next body }
+        requires named { OnNamed (IsLive self.old) body }
+        requires sized { IsSized body }
+        ensures world { OnOk result (world self.new ≡ apply (making (place (path self.old) who) (body_by (path self.old) body)) (world self.old)) }
+        ensures home { OnOk result (IsAtHome (path self.new) who body) }
+        ensures err { OnErr result (self.new ≡ self.old) }
+
+        // What was there is of its kind still, and has its path.
+        ensures kinds { (x : Path) → IsSome (kind_there (world self.old) x) → kind_there (world self.new) x ≡ kind_there (world self.old) x }
+        ensures places { (other : Who) → IsLive self.old other → place (path self.new) other ≡ place (path self.old) other }
+        ensures paths { (n : ℕ) → n ≢ (world self.old).next → path self.new n ≡ path self.old n }
+    {
+        self.bodies.put(who, body)?;
+        self.next = next_after(self.next, &body);
+        Ok(())
+    }
+
+    /// The words of a page of a space.
+    pub fn page(&self, space: u32, page: u8) -> Option<&[u64; 64]>
+        ensures { option_copied result ≡ (world self.now).page (path self.now space) page }
+    {
+        self.pages.at(space, page)
+    }
+
+    /// Gives a live space a page with these words, or writes over the one that is there, which
+    /// takes no memory. For want of memory all stays as it was.
+    pub fn put_page(&mut self, space: u32, page: u8, words: &[u64; 64]) -> Result<(), NoMemory>
+        requires { IsSpace self.old space }
+        ensures world { OnOk result (world self.new ≡ apply (PutPage (path self.old space) page words.now) (world self.old)) }
+        ensures there { IsSome ((world self.old).page (path self.old space) page) → IsOk result }
+        ensures err { OnErr result (self.new ≡ self.old) }
+        ensures kinds { kind_there (world self.new) ≡ kind_there (world self.old) }
+        ensures paths { path self.new ≡ path self.old }
+    {
+        self.pages.put(space, page, words)
+    }
+
+    /// Takes a page away from a space, if it is there.
+    pub fn drop_page(&mut self, space: u32, page: u8)
+        ensures world { world self.new ≡ apply (DropPage (path self.old space) page) (world self.old) }
+        ensures kinds { kind_there (world self.new) ≡ kind_there (world self.old) }
+        ensures paths { path self.new ≡ path self.old }
+    {
+        self.pages.remove(space, page);
+    }
+}
+
+/// The next birth number once an object is made.
+fn next_after(next: u32, body: &Body) -> u32
+    requires { IsNext next body.now }
+    ensures { result ≡ next_by next body.now }
+{
+    match body {
+        Body::Space { .. } => next + 1,
+        _ => next,
+    }
+}
+
+#[cfg(test)]
+mod tests;

@@ -1,0 +1,64 @@
+//! Who decides over what is held.
+ghost use Rattle.std.specs.Prelude.{◌≡◌, Some, IfSome, option_map, nat_eq, ◌&&◌};
+ghost use Rattle.fk_model.specs.Places.Ptr.{At};
+ghost use Rattle.fk_model.specs.Holds as holds;
+ghost use Rattle.fk_store.specs.Paths.{path, place, IsApart};
+ghost use Rattle.fk_store.specs.Named.{Each};
+ghost use Rattle.fk_store.specs.World.{world, IsLive};
+
+use crate::Store;
+use fk_model::{Body, Who};
+
+impl Store {
+    /// The thread that decides over an object: the holder of the outermost hold on it or on a space
+    /// above it.
+    pub fn decider(&self, object: Who) -> Option<Who>
+        ensures decider { option_map (λ who. At (place (path self.now) who)) result ≡ holds.decider (world self.now) (place (path self.now) object) }
+        ensures live { Each (IsLive self.now) result }
+        ensures apart { Each (IsApart (path self.now)) result }
+    {
+        let mut holder = self.holder(object);
+        let mut at = object.space;
+        for _above in 0..object.space {
+            match self.bodies.home(at) {
+                None => return holder,
+                Some(who) => {
+                    holder = self.holder(who).or(holder);
+                    at = who.space;
+                }
+            }
+        }
+        holder
+    }
+
+    /// A space is held, or one above it.
+    pub fn is_frozen(&self, space: u32) -> bool
+        ensures { result ≡ holds.is_frozen (world self.now) (path self.now space) }
+    {
+        match self.bodies.home(space) {
+            None => false,
+            Some(who) => self.decider(who).is_some(),
+        }
+    }
+
+    /// An object is held, or a space above it, and somebody else than this thread decides there.
+    pub fn frozen_for(&self, me: Who, object: Who) -> bool
+        ensures { result ≡ holds.is_frozen_for (world self.now) (place (path self.now) me) (place (path self.now) object) }
+    {
+        match self.decider(object) {
+            None => false,
+            Some(holder) => holder != me,
+        }
+    }
+
+    /// The holder of an object, if it is a space that is held.
+    fn holder(&self, object: Who) -> Option<Who>
+        ensures holder { option_map (λ who. At (place (path self.now) who)) result ≡ holds.holder_of ((world self.now).body (place (path self.now) object)) }
+        ensures live { Each (IsLive self.now) result }
+    {
+        match self.at(object) {
+            Some(Body::Space { holder, .. }) => *holder,
+            _ => None,
+        }
+    }
+}

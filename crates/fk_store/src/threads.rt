@@ -1,0 +1,152 @@
+//! What moves do to the thread that makes them.
+ghost use Rattle.std.specs.Prelude.{◌≡◌, ◌≤◌, ℕ, List, [], length, option_map, IfSome};
+ghost use Rattle.std.specs.Option.{option_copied};
+ghost use Rattle.fk_model.specs.Holds as holds;
+ghost use Rattle.fk_model.specs.Objects.Body.{Thread_of};
+ghost use Rattle.fk_model.specs.Places.{Path};
+ghost use Rattle.fk_model.specs.Places.Ptr.{At};
+ghost use Rattle.fk_model.specs.Readers.{fault_on};
+ghost use Rattle.fk_model.specs.World.{apply, edited};
+ghost use Rattle.fk_model.specs.World.Change.{Alter};
+ghost use Rattle.fk_model.specs.World.Edit.{End, Finish, Proceed};
+ghost use Rattle.fk_model.specs.Valid.{kind_there};
+ghost use Rattle.fk_store.specs.Paths.{path, place};
+ghost use Rattle.fk_store.specs.Bodies.{mode_by, thread_by};
+ghost use Rattle.fk_store.specs.Named.{OnNamed};
+ghost use Rattle.fk_store.specs.Threads.{thread_at, todo_at, is_free_at};
+ghost use Rattle.fk_store.specs.World.{world, IsLive};
+
+use crate::store::Store;
+use fk_model::status::OK;
+use fk_model::{Body, Fault, Mode, Thread, Who};
+
+impl Store {
+    /// The thread in a slot, if one is there.
+    pub fn thread(&self, who: Who) -> Option<&Thread>
+        ensures thread { option_map (thread_by (path self.now)) (option_copied result) ≡ thread_at (world self.now) (place (path self.now) who) }
+        ensures named { IfSome result (λ thread. OnNamed (IsLive self.now) (Body.Thread thread.now)) }
+    {
+        match self.at(who) {
+            Some(Body::Thread(thread)) => Some(thread),
+            Some(
+                Body::Mutex { .. }
+                | Body::Cond
+                | Body::Mapping { .. }
+                | Body::Region { .. }
+                | Body::Port { .. }
+                | Body::Portset
+                | Body::Space { .. }
+                | Body::Reference { .. },
+            )
+            | None => None,
+        }
+    }
+
+    /// A user thread is free: no space above it is held, it is not stopped, has no fault, and runs or
+    /// calls. False where no thread is there.
+    #[tactic(auto, unfolding(crate::specs::Threads::is_free_at))]
+    pub fn is_free(&self, who: Who) -> bool
+        ensures { result ≡ is_free_at (world self.now) (place (path self.now) who) }
+    {
+        match self.thread(who) {
+            None => false,
+            Some(thread) => {
+                !self.is_frozen(who.space)
+                    && thread.stops == 0
+                    && thread.fault.is_none()
+                    && is_user(thread.mode)
+            }
+        }
+    }
+
+    /// Ends the call of a thread with a status. What is in no call stays as it is.
+    #[tactic(auto, using(crate::proofs::ThreadLaws::kind_thread, crate::proofs::ThreadLaws::end_nobody))]
+    pub fn end_call(&mut self, me: Who, status: u8)
+        ensures world { world self.new ≡ apply (Alter (place (path self.old) me) (End status [])) (world self.old) }
+        ensures kinds { kind_there (world self.new) ≡ kind_there (world self.old) }
+        ensures paths { path self.new ≡ path self.old }
+    {
+        if let Some(&thread) = self.thread(me) {
+            self.set(me, Body::Thread(ended(thread, status)));
+        }
+    }
+
+    /// Ends the last stage of a thread's call, and the call with it. What is in no call stays as it
+    /// is.
+    #[tactic(auto, using(crate::proofs::ThreadLaws::finish_last))]
+    pub fn finish_call(&mut self, me: Who)
+        requires last { length (todo_at (world self.old) (place (path self.old) me)) ≤ 1 }
+        ensures world { world self.new ≡ apply (Alter (place (path self.old) me) (Finish [])) (world self.old) }
+        ensures kinds { kind_there (world self.new) ≡ kind_there (world self.old) }
+        ensures paths { path self.new ≡ path self.old }
+    {
+        self.end_call(me, OK);
+    }
+
+    /// A thread goes on with these registers, at this counter and in this mode. What is no thread
+    /// stays as it is.
+    #[tactic(auto, using(crate::proofs::ThreadLaws::kind_thread, crate::proofs::ThreadLaws::proceed_nobody), unfolding(fk_model::specs::World::edited))]
+    pub fn proceed(&mut self, me: Who, registers: &[u64; 16], counter: u64, mode: Mode)
+        ensures world { world self.new ≡ apply (Alter (place (path self.old) me) (Proceed (mode_by mode registers.now) counter)) (world self.old) }
+        ensures kinds { kind_there (world self.new) ≡ kind_there (world self.old) }
+        ensures paths { path self.new ≡ path self.old }
+    {
+        if let Some(&thread) = self.thread(me) {
+            let goes_on = Thread {
+                regs: *registers,
+                pc: counter,
+                mode,
+                ..thread
+            };
+            self.set(me, Body::Thread(goes_on));
+        }
+    }
+
+    /// A thread has a fault on a page that is missing, which the port's server may take. What is no
+    /// thread stays as it is.
+    #[tactic(auto, using(crate::proofs::ThreadLaws::kind_thread, crate::proofs::ThreadLaws::raise_nobody), unfolding(fk_model::specs::World::edited))]
+    pub fn raise(&mut self, me: Who, page: u8, write: bool, port: Who)
+        requires port { IsLive self.old port }
+        ensures world { world self.new ≡ apply (fault_on (place (path self.old) me) page write (At (place (path self.old) port))) (world self.old) }
+        ensures kinds { kind_there (world self.new) ≡ kind_there (world self.old) }
+        ensures paths { path self.new ≡ path self.old }
+    {
+        if let Some(&thread) = self.thread(me) {
+            let fault = Fault {
+                page,
+                write,
+                port,
+                taker: None,
+            };
+            let faulty = Thread {
+                fault: Some(fault),
+                ..thread
+            };
+            self.set(me, Body::Thread(faulty));
+        }
+    }
+}
+
+/// It runs or calls.
+fn is_user(mode: Mode) -> bool
+    ensures { (registers : List ℕ) → result ≡ holds.is_user (mode_by mode registers) }
+{
+    match mode {
+        Mode::Running | Mode::Calling => true,
+        Mode::Halted(_) | Mode::Native => false,
+    }
+}
+
+/// A thread whose call has ended with a status.
+fn ended(mut thread: Thread, status: u8) -> Thread
+    ensures edit { (p : ℕ → Path) → edited (End status []) (Thread_of (thread_by p thread)) ≡ Thread_of (thread_by p result) }
+    ensures talk { result.talk ≡ thread.talk }
+    ensures fault { result.fault ≡ thread.fault }
+{
+    if let Mode::Calling = thread.mode {
+        thread.regs[0] = u64::from(status);
+        thread.pc = thread.pc.wrapping_add(1);
+        thread.mode = Mode::Running;
+    }
+    thread
+}
