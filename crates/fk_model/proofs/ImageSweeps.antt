@@ -95,7 +95,7 @@ module _ {root : Path} {see : Ptr → Ptr} {small big : World} (image : IsImage 
   -- ---- the death of what stands at x
 
   module _ (x : Path) where
-    serves_alike : (out : Bool) (peer : Peer) → IfServer out peer Seen → (out ≡ true → serves (x ++ root) peer ≡ false) → serves x (seen_peer see out peer) ≡ serves (x ++ root) peer
+    pub serves_alike : (out : Bool) (peer : Peer) → IfServer out peer Seen → (out ≡ true → serves (x ++ root) peer ≡ false) → serves x (seen_peer see out peer) ≡ serves (x ++ root) peer
     serves_alike true peer h apart = sym (apart refl)
     serves_alike false (Server thread) h apart = leads_alike x thread h
     serves_alike false Service h apart = refl

@@ -1,0 +1,222 @@
+-- The client of a server, and the thread whose fault it has taken, are found alike in an image.
+use Rattle.std.proofs.Common.{◌≡◌, ℕ, zero, suc, ◌+◌, ◌<◌, ◌≤◌, Bool, true, false, cond, not, ◌&&◌, ◌||◌, eqb, List, [], ◌∷◌, ◌++◌, length, find, flat_map, Option, Some, None, IfSome, is_some, option_map, ◌⊎◌, inl, inr, refl, sym, ap, ◌∙◌, arith, append_assoc, append-nil, length-append}
+use Rattle.std.specs.List.{list_any}
+use Rattle.std.proofs.lemmas.Bool.{or_cases, or_left, or_right}
+use Rattle.fk_model.specs.Places.{Path, same_path, strip, is_within, parent, Ptr, leads_to}
+use Rattle.fk_model.specs.Places.Ptr.{Null, Dead, At, Out, Outside, Far}
+use Rattle.fk_model.specs.Objects.{Peer, Talk, Fault, Thread, Body, thread_of, and_then, holds}
+use Rattle.fk_model.specs.Objects.Peer.{Server, Service, Parked}
+use Rattle.fk_model.specs.Objects.Body.{Mutex, Cond, Mapping, Region, Port, Portset, Space, Thread_of, Reference}
+use Rattle.fk_model.specs.World.{World, serves}
+use Rattle.fk_model.specs.Searches.{residents, depth, beneath_by, beneath, objects, talk_at, fault_at, client_of, faulter_of, is_serving}
+use Rattle.fk_model.specs.Valid.{services, IsValid, lies_with}
+use Rattle.fk_model.specs.Cut.{is_out, is_served_by, ports_of, cut_ptr, IsPlain}
+use Rattle.fk_model.specs.Image.{seeing, seen_peer, seen_talk, seen_fault, PtrImage, IsSeen, IfServer, AllInTalk, AllInFault, IsImage, IsApart, AlikeOptions, IsBeneath, IsSeenTalk, IsSeenFault}
+use Rattle.fk_model.specs.Image.PtrImage.{Nulls, Deads, Inside, PortAt, PortOut}
+use Rattle.fk_model.proofs.PlaceLaws.{same_path_refl, same_path_eq, same_path_cancel, strip-append, strip_some, leads_to_at}
+use Rattle.fk_model.proofs.Alike.{alike-is_some}
+use Rattle.fk_model.proofs.ImageMemory.{root_space, root_seen}
+use Rattle.fk_model.proofs.ImageTalks.{talk_at-image, fault_at-image}
+use Rattle.fk_model.proofs.ImageWalks.{list_any-flat_map, any_beneath-image, is_taken-image}
+use Rattle.fk_model.proofs.ImageSweeps.{serves_alike}
+
+-- ---- walks
+
+-- x is among these paths
+abbrev pub is_among : Path → List Path → Bool
+is_among x xs = list_any (same_path x) xs
+
+-- the walk from the root finds every object
+pub record IsWalked (w : World) : Type 0 where
+  pub found : (k : ℕ) (x : Path) → is_some (w.body (k ∷ x)) ≡ true → is_among (k ∷ x) (objects w) ≡ true
+
+any_found : {A : Type 0} (f : A → Bool) (xs : List A) → list_any f xs ≡ true → (x : A) × (f x ≡ true) × ((g : A → Bool) → g x ≡ true → list_any g xs ≡ true)
+any_found f [] h = cc
+any_found f (x ∷ xs) h = by (any_found f xs) (f x) refl h
+  where
+    later : ((y : _) × (f y ≡ true) × ((g : _ → Bool) → g y ≡ true → list_any g xs ≡ true)) → (y : _) × (f y ≡ true) × ((g : _ → Bool) → g y ≡ true → (g x || list_any g xs) ≡ true)
+    later below = (below.0, below.1, λ g e. or_right (g x) (list_any g xs) (below.2 g e))
+
+    by : (list_any f xs ≡ true → (y : _) × (f y ≡ true) × ((g : _ → Bool) → g y ≡ true → list_any g xs ≡ true)) → (b : Bool) → f x ≡ b → (b || list_any f xs) ≡ true → (y : _) × (f y ≡ true) × ((g : _ → Bool) → g y ≡ true → (g x || list_any g xs) ≡ true)
+    by below true e h = (x, e, λ g here. rw here refl)
+    by below false e h = later (below h)
+
+any_by : {A : Type 0} (f : A → Bool) (xs : List A) → list_any f xs ≡ true → (g : A → Bool) → ((x : A) → f x ≡ true → g x ≡ true) → list_any g xs ≡ true
+any_by f xs h g more = let found = any_found f xs h in found.2 g (more found.0 found.1)
+
+or_more : (a b c : Bool) → (a || b) ≡ true → (b ≡ true → c ≡ true) → (a || c) ≡ true
+or_more true b c h more = refl
+or_more false b c h more = more h
+
+-- what a walk finds lies beneath where it began
+walk_beneath : (n : ℕ) (w : World) (s x : Path) → is_among x (beneath_by n w s) ≡ true → (p : Path) × (k : ℕ) × (x ≡ p ++ k ∷ s)
+unfolding beneath_by
+walk_beneath zero w s x h = cc
+walk_beneath (suc n) w s x h = by (walk_beneath n w) (any_found _ (residents w s) (sym (list_any-flat_map (same_path x) (λ k. (k ∷ s) ∷ beneath_by n w (k ∷ s)) (residents w s)) ∙ h))
+  where
+    by : ((s x : Path) → is_among x (beneath_by n w s) ≡ true → (p : Path) × (k : ℕ) × (x ≡ p ++ k ∷ s)) →
+        (k : ℕ) × ((same_path x (k ∷ s) || is_among x (beneath_by n w (k ∷ s))) ≡ true) × ((g : ℕ → Bool) → g k ≡ true → list_any g (residents w s) ≡ true) → (p : Path) × (k : ℕ) × (x ≡ p ++ k ∷ s)
+    by below found = at (or_cases (same_path x (found.0 ∷ s)) _ found.1)
+      where
+        at : (same_path x (found.0 ∷ s) ≡ true) ⊎ (is_among x (beneath_by n w (found.0 ∷ s)) ≡ true) → (p : Path) × (k : ℕ) × (x ≡ p ++ k ∷ s)
+        at (inl e) = ([], found.0, same_path_eq x (found.0 ∷ s) e)
+        at (inr deeper) = let there = below (found.0 ∷ s) x deeper in (there.0 ++ there.1 ∷ [], found.0, there.2 ∙ sym (append_assoc there.0 (there.1 ∷ []) (found.0 ∷ s)))
+
+-- with more fuel it finds no less
+walk_more : (n : ℕ) (w : World) (s x : Path) → is_among x (beneath_by n w s) ≡ true → is_among x (beneath_by (suc n) w s) ≡ true
+unfolding beneath_by
+walk_more zero w s x h = cc
+walk_more (suc n) w s x h =
+    let here = sym (list_any-flat_map (same_path x) (λ k. (k ∷ s) ∷ beneath_by n w (k ∷ s)) (residents w s)) ∙ h in
+    list_any-flat_map (same_path x) (λ k. (k ∷ s) ∷ beneath_by (suc n) w (k ∷ s)) (residents w s)
+    ∙ any_by (λ k. same_path x (k ∷ s) || is_among x (beneath_by n w (k ∷ s))) (residents w s) here (λ k. same_path x (k ∷ s) || is_among x (beneath_by (suc n) w (k ∷ s)))
+    (λ k found. or_more (same_path x (k ∷ s)) _ _ found (walk_more n w (k ∷ s) x))
+
+-- two ends of one list, of which the second is no longer
+shorter_end : (a b r t : Path) → a ++ r ≡ b ++ t → length t ≤ length r → (c : Path) × (r ≡ c ++ t)
+shorter_end [] b r t e short = (b, e)
+shorter_end (k ∷ a) [] r t e short = absurd (omega (arith, ap length e, length-append a r))
+shorter_end (k ∷ a) (j ∷ b) r t e short = let rest : a ++ r ≡ b ++ t = cc e in shorter_end a b r t rest short
+
+-- what lies beneath a space on the way is found from there
+walk_from : (n : ℕ) (w : World) (s p a r x : Path) (i : ℕ) → r ≡ p ++ s → x ≡ a ++ i ∷ r → is_among x (beneath_by n w s) ≡ true → is_among x (beneath_by n w r) ≡ true
+unfolding beneath_by
+walk_from n w s [] a r x i at within h = rw at h
+walk_from zero w s (j ∷ p) a r x i at within h = cc
+walk_from (suc n) w s (j ∷ p) a r x i at within h = by (walk_from n w) (any_found (λ k. same_path x (k ∷ s) || is_among x (beneath_by n w (k ∷ s))) (residents w s) (sym (list_any-flat_map (same_path x) (λ k. (k ∷ s) ∷ beneath_by n w (k ∷ s)) (residents w s)) ∙ h))
+  where
+    long : length r ≡ suc (length p + length s)
+    long = omega (arith, ap length at, length-append p s)
+
+    far : length x ≡ length a + suc (length r)
+    far = omega (arith, ap length within, length-append a (i ∷ r))
+
+    by : ((s p a r x : Path) (i : ℕ) → r ≡ p ++ s → x ≡ a ++ i ∷ r → is_among x (beneath_by n w s) ≡ true → is_among x (beneath_by n w r) ≡ true) →
+        (k : ℕ) × ((same_path x (k ∷ s) || is_among x (beneath_by n w (k ∷ s))) ≡ true) × ((g : ℕ → Bool) → g k ≡ true → list_any g (residents w s) ≡ true) → is_among x (beneath_by (suc n) w r) ≡ true
+    by below found = at_slot (or_cases (same_path x (found.0 ∷ s)) _ found.1)
+      where
+        at_slot : (same_path x (found.0 ∷ s) ≡ true) ⊎ (is_among x (beneath_by n w (found.0 ∷ s)) ≡ true) → is_among x (beneath_by (suc n) w r) ≡ true
+        at_slot (inl e) = absurd (omega (arith, ap length (same_path_eq x (found.0 ∷ s) e), long, far))
+        at_slot (inr deeper) =
+            let there = walk_beneath n w (found.0 ∷ s) x deeper in
+            let ends : (a ++ i ∷ []) ++ r ≡ (there.0 ++ there.1 ∷ []) ++ (found.0 ∷ s) = append_assoc a (i ∷ []) r ∙ sym within ∙ there.2 ∙ sym (append_assoc there.0 (there.1 ∷ []) (found.0 ∷ s)) in
+            let under = shorter_end (a ++ i ∷ []) (there.0 ++ there.1 ∷ []) r (found.0 ∷ s) ends (omega (arith, long)) in
+            walk_more n w r x (below (found.0 ∷ s) under.0 a r x i under.1 within deeper)
+
+-- the outermost slot of a path
+outer_slot : (k : ℕ) (q root : Path) → (a : Path) × (i : ℕ) × (k ∷ (q ++ root) ≡ a ++ i ∷ root)
+outer_slot k [] root = ([], k, refl)
+outer_slot k (j ∷ q) root = let below = outer_slot j q root in (k ∷ below.0, below.1, ap (λ (x : Path). k ∷ x) below.2)
+
+-- ---- the one that passes a test
+
+find_none : (test : Path → Bool) (xs : List Path) → find test xs ≡ None → (x : Path) → is_among x xs ≡ true → test x ≡ false
+find_none test [] h x among = cc
+find_none test (y ∷ ys) h x among = by (find_none test ys) (test y) refl h
+  where
+    by : (find test ys ≡ None → (x : Path) → is_among x ys ≡ true → test x ≡ false) → (b : Bool) → test y ≡ b → cond b (Some y) (find test ys) ≡ None → test x ≡ false
+    by below true e h = cc
+    by below false e h = at (or_cases (same_path x y) (is_among x ys) among)
+      where
+        at : (same_path x y ≡ true) ⊎ (is_among x ys ≡ true) → test x ≡ false
+        at (inl same) = ap test (same_path_eq x y same) ∙ e
+        at (inr later) = below h x later
+
+find_some : (test : Path → Bool) (xs : List Path) (x : Path) → find test xs ≡ Some x → test x ≡ true
+find_some test [] x h = cc
+find_some test (y ∷ ys) x h = by (find_some test ys x) (test y) refl h
+  where
+    by : (find test ys ≡ Some x → test x ≡ true) → (b : Bool) → test y ≡ b → cond b (Some y) (find test ys) ≡ Some x → test x ≡ true
+    by below true e h = let same : y ≡ x = cc in ap test (sym same) ∙ e
+    by below false e h = below h
+
+-- two tests that agree inside, of which the second fails outside and on all objects but one
+module _ (root : Path) (near far : Path → Bool) (xs ys : List Path)
+    (same : (k : ℕ) (q : Path) → near (k ∷ q) ≡ far (k ∷ (q ++ root))) (at_top : near [] ≡ false) (at_root : far root ≡ false)
+    (inside : (x : Path) → far x ≡ true → is_within root x ≡ true) (one : (x y : Path) → far x ≡ true → far y ≡ true → x ≡ y)
+    (all_near : (k : ℕ) (q : Path) → near (k ∷ q) ≡ true → is_among (k ∷ q) xs ≡ true) (all_far : (k : ℕ) (q : Path) → far (k ∷ (q ++ root)) ≡ true → is_among (k ∷ (q ++ root)) ys ≡ true) where
+
+  near-far : (q : Path) → near q ≡ true → far (q ++ root) ≡ true
+  near-far [] h = let none : true ≡ false = sym h ∙ at_top in cc
+  near-far (k ∷ q) h = sym (same k q) ∙ h
+
+  found_near : (x : Path) → far x ≡ true → find near xs ≡ None → ⊥
+  found_near x h none = by (strip root x) refl (inside x h)
+    where
+      at : (q : Path) → x ≡ q ++ root → ⊥
+      at [] e = let off : true ≡ false = sym h ∙ ap far e ∙ at_root in cc
+      at (k ∷ q) e =
+          let on : near (k ∷ q) ≡ true = same k q ∙ ap far (sym e) ∙ h in
+          let off : true ≡ false = sym on ∙ find_none near xs none (k ∷ q) (all_near k q on) in
+          cc
+
+      by : (o : Option Path) → strip root x ≡ o → is_some o ≡ true → ⊥
+      by None e some = cc
+      by (Some q) e some = at q (strip_some root x q e)
+
+  found_far : (q : Path) → near q ≡ true → find far ys ≡ None → ⊥
+  found_far [] h none = let off : true ≡ false = sym h ∙ at_top in cc
+  found_far (k ∷ q) h none = let on : far (k ∷ (q ++ root)) ≡ true = sym (same k q) ∙ h in let off : true ≡ false = sym on ∙ find_none far ys none (k ∷ (q ++ root)) (all_far k q on) in cc
+
+  alike_find : AlikeOptions (IsBeneath root) (find near xs) (find far ys)
+  alike_find = by (find near xs) (find far ys) refl refl
+    where
+      by : (o p : Option Path) → find near xs ≡ o → find far ys ≡ p → AlikeOptions (IsBeneath root) o p
+      by None None d e = tt
+      by (Some q) (Some x) d e = one x (q ++ root) (find_some far ys x e) (near-far q (find_some near xs q d))
+      by None (Some x) d e = absurd (found_near x (find_some far ys x e) d)
+      by (Some q) None d e = absurd (found_far q (find_some near xs q d) e)
+
+-- ---- who serves whom
+
+-- each thread serves one thread at most, one inside none outside, and the walk from the root finds every object
+pub record IsServedAlike (root : Path) (see : Ptr → Ptr) (big : World) : Type 0 where
+  pub walked : IsWalked big
+  pub apart : IsApart root see big
+  pub one : (server x y : Path) → 0 < services big server x → 0 < services big server y → x ≡ y
+  pub inside : (x : Path) → is_within root x ≡ false → is_served_by root (big.body x) ≡ false
+
+module _ {root : Path} {see : Ptr → Ptr} {small big : World} (image : IsImage root see small big) where
+  -- the walk finds every object of the image
+  pub walked-image : IsWalked big → IsWalked small
+  unfolding beneath
+  walked-image walked = record {
+    found = λ k q there.
+      let far = walked.found k (q ++ root) (sym (is_taken-image image (k ∷ q)) ∙ there) in
+      let outer = outer_slot k q root in
+      let near = walk_from depth big [] root outer.0 root (k ∷ (q ++ root)) outer.1 (sym (append-nil root)) outer.2 far in
+      any_beneath-image image (same_path (k ∷ q)) (same_path (k ∷ (q ++ root))) (λ j z. sym (same_path_cancel (k ∷ q) (j ∷ z) root)) [] ∙ near;
+  }
+
+  module _ (facts : IsServedAlike root see big) (k : ℕ) (me : Path) where
+    abbrev server : Path
+    server = k ∷ me
+
+    abbrev serves_at : World → Path → Path → Bool
+    serves_at w server x = holds (λ (talk : Talk). serves server talk.peer) (talk_at w x)
+
+    abbrev takes_at : World → Path → Path → Bool
+    takes_at w server x = holds (λ (fault : Fault). holds (serves server) fault.taker) (fault_at w x)
+
+    serves_same : (j : ℕ) (q : Path) → serves_at small (k ∷ me) (j ∷ q) ≡ serves_at big (k ∷ (me ++ root)) (j ∷ (q ++ root))
+    serves_same j q = by (talk_at small (j ∷ q)) (talk_at big (j ∷ (q ++ root))) refl (talk_at-image image (j ∷ q))
+      where
+        by : (o p : Option Talk) → talk_at big (j ∷ (q ++ root)) ≡ p → AlikeOptions (IsSeenTalk root see big) o p → holds (λ (talk : Talk). serves (k ∷ me) talk.peer) o ≡ holds (λ (talk : Talk). serves (k ∷ (me ++ root)) talk.peer) p
+        by None None is h = refl
+        by (Some seen) (Some talk) is h = rw h.0 (serves_alike image (k ∷ me) (is_out (see talk.port)) talk.peer h.1.1 (facts.apart.talks j q (k ∷ me) talk is))
+        by None (Some talk) is h = absurd h
+        by (Some seen) None is h = absurd h
+
+    takes_same : (j : ℕ) (q : Path) → takes_at small (k ∷ me) (j ∷ q) ≡ takes_at big (k ∷ (me ++ root)) (j ∷ (q ++ root))
+    takes_same j q = by (fault_at small (j ∷ q)) (fault_at big (j ∷ (q ++ root))) refl (fault_at-image image (j ∷ q))
+      where
+        taker : (fault : Fault) (o : Option Peer) → fault_at big (j ∷ (q ++ root)) ≡ Some fault → fault.taker ≡ o → IfSome o (λ taker. IfServer (is_out (see fault.port)) taker (IsSeen root see big)) →
+            holds (serves (k ∷ me)) (option_map (seen_peer see (is_out (see fault.port))) o) ≡ holds (serves (k ∷ (me ++ root))) o
+        taker fault None here is h = refl
+        taker fault (Some peer) here is h = serves_alike image (k ∷ me) (is_out (see fault.port)) peer h (λ out. facts.apart.faults j q (k ∷ me) fault peer here out is)
+
+        by : (o p : Option Fault) → fault_at big (j ∷ (q ++ root)) ≡ p → AlikeOptions (IsSeenFault root see big) o p → holds (λ (fault : Fault). holds (serves (k ∷ me)) fault.taker) o ≡ holds (λ (fault : Fault). holds (serves (k ∷ (me ++ root))) fault.taker) p
+        by None None is h = refl
+        by (Some seen) (Some fault) is h = rw h.0 (taker fault fault.taker is refl h.1.1)
+        by None (Some fault) is h = absurd h
+        by (Some seen) None is h = absurd h
