@@ -220,7 +220,7 @@ module _ {root : Path} {see : Ptr → Ptr} {small big : World} (image : IsImage 
       where
         by : (o p : Option Talk) → talk_at big (j ∷ (q ++ root)) ≡ p → AlikeOptions (IsSeenTalk root see big) o p → holds (λ (talk : Talk). serves me talk.peer) o ≡ holds (λ (talk : Talk). serves (me ++ root) talk.peer) p
         by None None is h = refl
-        by (Some seen) (Some talk) is h = rw h.0 (serves_alike image me (is_out (see talk.port)) talk.peer h.1.1 (facts.apart.talks j q me talk is))
+        by (Some seen) (Some talk) is h = rw h.0 (serves_alike image me (is_out (see talk.port)) talk.peer h.1.1 (λ out. facts.apart.talks j q talk is out me))
         by None (Some talk) is h = absurd h
         by (Some seen) None is h = absurd h
 
@@ -230,7 +230,7 @@ module _ {root : Path} {see : Ptr → Ptr} {small big : World} (image : IsImage 
         taker : (fault : Fault) (o : Option Peer) → fault_at big (j ∷ (q ++ root)) ≡ Some fault → fault.taker ≡ o → IfSome o (λ taker. IfServer (is_out (see fault.port)) taker (IsSeen root see big)) →
             holds (serves me) (option_map (seen_peer see (is_out (see fault.port))) o) ≡ holds (serves (me ++ root)) o
         taker fault None here is h = refl
-        taker fault (Some peer) here is h = serves_alike image me (is_out (see fault.port)) peer h (λ out. facts.apart.faults j q me fault peer here out is)
+        taker fault (Some peer) here is h = serves_alike image me (is_out (see fault.port)) peer h (λ out. facts.apart.faults j q fault peer here out is me)
 
         by : (o p : Option Fault) → fault_at big (j ∷ (q ++ root)) ≡ p → AlikeOptions (IsSeenFault root see big) o p → holds (λ (fault : Fault). holds (serves me) fault.taker) o ≡ holds (λ (fault : Fault). holds (serves (me ++ root)) fault.taker) p
         by None None is h = refl
@@ -353,8 +353,8 @@ module _ (w : World) (nester : Path) (slot : ℕ) (valid : IsValid w) (plain : I
       let same : x ++ slot ∷ nester ≡ nester = rw at.1 at near in
       omega (arith, ap length same, length-append x (slot ∷ nester))
 
-  cut_apart_talk : (k : ℕ) (q x : Path) (talk : Talk) → talk_at w (k ∷ (q ++ slot ∷ nester)) ≡ Some talk → is_out (cut_ptr (ports_of w nester slot) nester slot talk.port) ≡ true → serves (x ++ slot ∷ nester) talk.peer ≡ false
-  cut_apart_talk k q x talk is out = by (serves (x ++ slot ∷ nester) talk.peer) refl
+  cut_apart_talk : (x : Path) (k : ℕ) (q : Path) (talk : Talk) → talk_at w (k ∷ (q ++ slot ∷ nester)) ≡ Some talk → is_out (cut_ptr (ports_of w nester slot) nester slot talk.port) ≡ true → serves (x ++ slot ∷ nester) talk.peer ≡ false
+  cut_apart_talk x k q talk is out = by (serves (x ++ slot ∷ nester) talk.peer) refl
     where
       by : (b : Bool) → serves (x ++ slot ∷ nester) talk.peer ≡ b → b ≡ false
       by false e = refl
@@ -363,8 +363,8 @@ module _ (w : World) (nester : Path) (slot : ℕ) (valid : IsValid w) (plain : I
           let good = good_talk (kind_there w) (k ∷ (q ++ slot ∷ nester)) (w.body (k ∷ (q ++ slot ∷ nester))) talk (valid.good (k ∷ (q ++ slot ∷ nester))) is in
           absurd (near_nester talk.port x out (valid.talks_near (k ∷ (q ++ slot ∷ nester)) talk (At (x ++ slot ∷ nester)) is peer) (rw peer at (and_parts (leads_there (kind_there w) (kinds.Port ∷ []) talk.port) (is_good_peer (kind_there w) talk.peer) good).1))
 
-  cut_apart_fault : (k : ℕ) (q x : Path) (fault : Fault) (taker : Peer) → fault_at w (k ∷ (q ++ slot ∷ nester)) ≡ Some fault → is_out (cut_ptr (ports_of w nester slot) nester slot fault.port) ≡ true → fault.taker ≡ Some taker → serves (x ++ slot ∷ nester) taker ≡ false
-  cut_apart_fault k q x fault taker is out took = by (serves (x ++ slot ∷ nester) taker) refl
+  cut_apart_fault : (x : Path) (k : ℕ) (q : Path) (fault : Fault) (taker : Peer) → fault_at w (k ∷ (q ++ slot ∷ nester)) ≡ Some fault → is_out (cut_ptr (ports_of w nester slot) nester slot fault.port) ≡ true → fault.taker ≡ Some taker → serves (x ++ slot ∷ nester) taker ≡ false
+  cut_apart_fault x k q fault taker is out took = by (serves (x ++ slot ∷ nester) taker) refl
     where
       by : (b : Bool) → serves (x ++ slot ∷ nester) taker ≡ b → b ≡ false
       by false e = refl
@@ -374,7 +374,7 @@ module _ (w : World) (nester : Path) (slot : ℕ) (valid : IsValid w) (plain : I
           absurd (near_nester fault.port x out (valid.faults_near (k ∷ (q ++ slot ∷ nester)) fault (At (x ++ slot ∷ nester)) is peer) (rw peer at (and_parts (leads_there (kind_there w) (kinds.Port ∷ []) fault.port) (all_in (is_good_peer (kind_there w)) fault.taker) good).1))
 
   pub cut-apart : IsApart (slot ∷ nester) (cut_ptr (ports_of w nester slot) nester slot) w
-  cut-apart = record { talks = cut_apart_talk; faults = cut_apart_fault }
+  cut-apart = record { talks = λ k q talk is out x. cut_apart_talk x k q talk is out; faults = λ k q fault taker is out took x. cut_apart_fault x k q fault taker is out took }
 
   pub cut-served : IsWalked w → IsServedAlike (slot ∷ nester) (cut_ptr (ports_of w nester slot) nester slot) w
   cut-served walked = record { walked = walked; apart = cut-apart; one = valid.one_service; inside = plain.served_inside }
@@ -409,7 +409,7 @@ module _ (c : World) (see : Ptr → Ptr) (same : (p : Ptr) → is_out (see p) �
           outside_peer (x ++ []) (is_out fault.port) taker (sym (same fault.port) ∙ out) cc
 
   pub cut_world-apart : IsApart [] see c
-  cut_world-apart = record { talks = outside_talk; faults = outside_fault }
+  cut_world-apart = record { talks = λ k q talk is out x. outside_talk k q x talk is out; faults = λ k q fault taker is out took x. outside_fault k q x fault taker is out took }
 
 module _ {root : Path} {see : Ptr → Ptr} {small big : World} (image : IsImage root see small big) (facts : IsServedAlike root see big) where
   services_same : (server : Path) (j : ℕ) (q : Path) → services small server (j ∷ q) ≡ services big (server ++ root) (j ∷ (q ++ root))
