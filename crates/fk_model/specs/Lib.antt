@@ -32,3 +32,4 @@ pub mod Cut
 pub mod Image
 pub mod ImageChanges
 pub mod Rebind
+pub mod ImageLaws
