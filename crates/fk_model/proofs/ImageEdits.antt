@@ -8,10 +8,11 @@ use Rattle.fk_model.specs.Objects.{Mode, Peer, Talk, Fault, Thread, Window, Exte
 use Rattle.fk_model.specs.Objects.Mode.{Running, Calling, Halted, Native}
 use Rattle.fk_model.specs.Objects.Peer.{Server, Service, Parked}
 use Rattle.fk_model.specs.Objects.Body.{Mutex, Cond, Mapping, Region, Port, Portset, Space, Thread_of, Reference}
-use Rattle.fk_model.specs.World.{World, Edit, edited, finished_in, ended_in}
+use Rattle.fk_model.specs.Holds.{is_porter}
+use Rattle.fk_model.specs.World.{World, Edit, edited, shifted_in, finished_in, ended_in, replaced_in}
 use Rattle.fk_model.specs.World.Edit.{SetLocked, SetWindow, SetExtent, SetMember, SetPointer, SetHolder, Proceed, Shift, Finish, End, Replace, SetStops, SetTalk, CountMoved, PassTurn, SetPeer, SetFault, SetTaker}
 use Rattle.fk_model.specs.Cut.{is_out, seen_by}
-use Rattle.fk_model.specs.Image.{seeing, seen_peer, seen_talk, seen_fault, seen_thread, IsSeen, IfServer, AllInTalk, AllInFault, AllInBody}
+use Rattle.fk_model.specs.Image.{seeing, seen_peer, seen_talk, seen_fault, seen_thread, IsSeen, IfServer, AllInTalk, AllInFault, IsPlainBody}
 use Rattle.fk_model.specs.ImageChanges.{seen_edit, IsSeenEdit}
 
 -- ---- kinds stay
@@ -44,6 +45,27 @@ finished-talk answers t (Calling [] rest) = (refl, refl)
 finished-talk answers t (Calling (stage ∷ []) rest) = (refl, refl)
 finished-talk answers t (Calling (stage ∷ next_stage ∷ todo) rest) = (refl, refl)
 finished-talk answers t mode = (refl, refl)
+
+-- nobody becomes a porter by its own steps
+ended-users : (status : ℕ) (answers : List ℕ) (t : Thread) (mode : Mode) → is_porter t.mode ≡ false → is_porter (ended_in status answers t mode).mode ≡ false
+ended-users status answers t (Calling todo rest) h = refl
+ended-users status answers t mode h = h
+
+finished-users : (answers : List ℕ) (t : Thread) (mode : Mode) → is_porter t.mode ≡ false → is_porter (finished_in answers t mode).mode ≡ false
+finished-users answers t (Calling [] rest) h = refl
+finished-users answers t (Calling (stage ∷ []) rest) h = refl
+finished-users answers t (Calling (stage ∷ next_stage ∷ todo) rest) h = refl
+finished-users answers t mode h = h
+
+shifted-users : (count : ℕ) (mode : Mode) → is_porter mode ≡ false → is_porter (shifted_in count mode) ≡ false
+shifted-users count (Calling [] rest) h = refl
+shifted-users count (Calling (stage ∷ todo) rest) h = refl
+shifted-users count mode h = h
+
+replaced-users : (stage : Stage) (mode : Mode) → is_porter mode ≡ false → is_porter (replaced_in stage mode) ≡ false
+replaced-users stage (Calling [] rest) h = refl
+replaced-users stage (Calling (old ∷ todo) rest) h = refl
+replaced-users stage mode h = h
 
 module _ (see : Ptr → Ptr) where
   abbrev seen : Body → Body
@@ -108,7 +130,7 @@ module _ (see : Ptr → Ptr) where
   edited-seen edit (Thread_of t) near = refl
   edited-seen edit b near = refl
 
-  -- ---- pointers stay such as an image has
+  -- ---- an object stays such as an image has
 
   module _ (P : Ptr → Type 0) where
     talk_kept : (f : Talk → Talk) → ((talk : Talk) → AllInTalk see P talk → AllInTalk see P (f talk)) → (o : Option Talk) → IfSome o (AllInTalk see P) → IfSome (option_map f o) (AllInTalk see P)
@@ -123,8 +145,9 @@ module _ (see : Ptr → Ptr) where
     taker_kept taker None near good h = tt
     taker_kept taker (Some fault) near good h = (h.0, rw near good)
 
-    -- the pointers that an edit makes
+    -- the pointers and the mode that an edit makes
     abbrev pub IsGood : Edit → Type 0
+    IsGood (Proceed mode counter) = is_porter mode ≡ false
     IsGood (SetPointer to) = P to
     IsGood (SetHolder holder) = IfSome holder P
     IsGood (SetTalk talk) = IfSome talk (AllInTalk see P)
@@ -133,7 +156,7 @@ module _ (see : Ptr → Ptr) where
     IsGood (SetTaker taker) = IfSome taker (λ taker. IfServer false taker P)
     IsGood other = Unit {0}
 
-    pub edited-kept : (edit : Edit) (b : Body) → IsNear edit b → IsGood edit → AllInBody see P b → AllInBody see P (edited edit b)
+    pub edited-kept : (edit : Edit) (b : Body) → IsNear edit b → IsGood edit → IsPlainBody see P b → IsPlainBody see P (edited edit b)
     unfolding edited
     edited-kept (SetLocked locked) (Mutex old) near good h = h
     edited-kept (SetLocked locked) b near good h = h
@@ -149,13 +172,16 @@ module _ (see : Ptr → Ptr) where
     edited-kept (SetPointer to) b near good h = h
     edited-kept (SetHolder holder) (Space birth old) near good h = good
     edited-kept (SetHolder holder) b near good h = h
-    edited-kept (Finish answers) (Thread_of t) near good h = rw (finished-talk answers t t.mode).0 (rw (finished-talk answers t t.mode).1 h)
-    edited-kept (End status answers) (Thread_of t) near good h = rw (ended-talk status answers t t.mode).0 (rw (ended-talk status answers t t.mode).1 h)
-    edited-kept (CountMoved count) (Thread_of t) near good h = (talk_kept (λ (talk : Talk). record talk { moved = min MOST_MOVED (talk.moved + count) }) (λ talk h. h) t.talk h.0, h.1)
-    edited-kept (PassTurn turn) (Thread_of t) near good h = (talk_kept (λ (talk : Talk). record talk { turn = turn; moved = 0 }) (λ talk h. h) t.talk h.0, h.1)
-    edited-kept (SetTalk talk) (Thread_of t) near good h = (good, h.1)
-    edited-kept (SetPeer peer) (Thread_of t) near good h = (peer_kept peer t.talk near good h.0, h.1)
-    edited-kept (SetFault fault) (Thread_of t) near good h = (h.0, good)
-    edited-kept (SetTaker taker) (Thread_of t) near good h = (h.0, taker_kept taker t.fault near good h.1)
+    edited-kept (Proceed mode counter) (Thread_of t) near good h = (h.0, h.1, good)
+    edited-kept (Shift count) (Thread_of t) near good h = (h.0, h.1, shifted-users count t.mode h.2)
+    edited-kept (Replace stage) (Thread_of t) near good h = (h.0, h.1, replaced-users stage t.mode h.2)
+    edited-kept (Finish answers) (Thread_of t) near good h = (rw (finished-talk answers t t.mode).0 h.0, rw (finished-talk answers t t.mode).1 h.1, finished-users answers t t.mode h.2)
+    edited-kept (End status answers) (Thread_of t) near good h = (rw (ended-talk status answers t t.mode).0 h.0, rw (ended-talk status answers t t.mode).1 h.1, ended-users status answers t t.mode h.2)
+    edited-kept (CountMoved count) (Thread_of t) near good h = (talk_kept (λ (talk : Talk). record talk { moved = min MOST_MOVED (talk.moved + count) }) (λ talk h. h) t.talk h.0, h.1, h.2)
+    edited-kept (PassTurn turn) (Thread_of t) near good h = (talk_kept (λ (talk : Talk). record talk { turn = turn; moved = 0 }) (λ talk h. h) t.talk h.0, h.1, h.2)
+    edited-kept (SetTalk talk) (Thread_of t) near good h = (good, h.1, h.2)
+    edited-kept (SetPeer peer) (Thread_of t) near good h = (peer_kept peer t.talk near good h.0, h.1, h.2)
+    edited-kept (SetFault fault) (Thread_of t) near good h = (h.0, good, h.2)
+    edited-kept (SetTaker taker) (Thread_of t) near good h = (h.0, taker_kept taker t.fault near good h.1, h.2)
     edited-kept edit (Thread_of t) near good h = h
     edited-kept edit b near good h = h

@@ -14,7 +14,7 @@ use Rattle.fk_model.specs.SpaceRows.{next_page}
 use Rattle.fk_model.specs.Readers.{kind_at}
 use Rattle.fk_model.specs.Valid.{kind_there}
 use Rattle.fk_model.specs.Cut.{seen_by, unheld}
-use Rattle.fk_model.specs.Image.{seeing, seen_window, seen_extent, PtrImage, IsSeen, AllInBody, IsImage, AlikeOptions, IsSeenAs, IsSeenWindow, IsSeenExtent, IsSeenPlace, ReachImage}
+use Rattle.fk_model.specs.Image.{seeing, seen_window, seen_extent, PtrImage, IsSeen, IsPlainBody, IsImage, AlikeOptions, IsSeenAs, IsSeenWindow, IsSeenExtent, IsSeenPlace, ReachImage}
 use Rattle.fk_model.specs.Image.PtrImage.{Nulls, Deads, Inside, PortAt, PortOut}
 use Rattle.fk_model.specs.Image.ReachImage.{Homes, Misses, Bads}
 use Rattle.fk_model.proofs.Alike.{alike_and_then, alike_cond, alike_lowest}
@@ -43,9 +43,9 @@ module _ {root : Path} {see : Ptr → Ptr} {small big : World} (image : IsImage 
 
   pub mapping_at-image : (q : Path) (page : ℕ) → AlikeOptions (IsSeenWindow root see big) (mapping_at small q page) (mapping_at big (q ++ root) page)
   unfolding mapping_at seen_by
-  mapping_at-image q page = alike_lowest (IsSeenWindow root see big) SLOTS _ _ (λ k. rw (image.bodies (k ∷ q)) (by k (big.body (k ∷ (q ++ root))) (image.pointers k q)))
+  mapping_at-image q page = alike_lowest (IsSeenWindow root see big) SLOTS _ _ (λ k. rw (image.bodies (k ∷ q)) (by k (big.body (k ∷ (q ++ root))) (image.plain k q)))
     where
-      by : (k : ℕ) (v : Option Body) → IfSome v (AllInBody see (IsSeen root see big)) →
+      by : (k : ℕ) (v : Option Body) → IfSome v (IsPlainBody see (IsSeen root see big)) →
           AlikeOptions (IsSeenWindow root see big) (and_then (λ (m : Window). cond (covers m.first m.count page) (Some m) None) (and_then mapping_of (option_map (λ b. unheld (k ∷ q) (seen_by (seeing see) b)) v)))
           (and_then (λ (m : Window). cond (covers m.first m.count page) (Some m) None) (and_then mapping_of v))
       by k (Some (Mapping m)) h = alike_cond (IsSeenWindow root see big) (covers m.first m.count page) (seen_window see m) m (refl, h)
@@ -54,9 +54,9 @@ module _ {root : Path} {see : Ptr → Ptr} {small big : World} (image : IsImage 
 
   region-alike : (k : ℕ) (q : Path) → AlikeOptions (IsSeenExtent root see big) (and_then region_of (small.body (k ∷ q))) (and_then region_of (big.body (k ∷ (q ++ root))))
   unfolding seen_by
-  region-alike k q = rw (image.bodies (k ∷ q)) (by (big.body (k ∷ (q ++ root))) (image.pointers k q))
+  region-alike k q = rw (image.bodies (k ∷ q)) (by (big.body (k ∷ (q ++ root))) (image.plain k q))
     where
-      by : (v : Option Body) → IfSome v (AllInBody see (IsSeen root see big)) → AlikeOptions (IsSeenExtent root see big) (and_then region_of (option_map (λ b. unheld (k ∷ q) (seen_by (seeing see) b)) v)) (and_then region_of v)
+      by : (v : Option Body) → IfSome v (IsPlainBody see (IsSeen root see big)) → AlikeOptions (IsSeenExtent root see big) (and_then region_of (option_map (λ b. unheld (k ∷ q) (seen_by (seeing see) b)) v)) (and_then region_of v)
       by (Some (Region r)) h = (refl, h)
       by (Some b) h = tt
       by None h = tt

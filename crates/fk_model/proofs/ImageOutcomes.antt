@@ -18,7 +18,7 @@ use Rattle.fk_model.specs.Readers.{kind_at, is_kind, missed, accessed, own_page_
 use Rattle.fk_model.specs.Talks.{Line}
 use Rattle.fk_model.specs.Moves.{closed}
 use Rattle.fk_model.specs.Cut.{seen_by}
-use Rattle.fk_model.specs.Image.{seeing, seen_talk, seen_thread, IsSeen, AllInTalk, AllInBody, IsImage, under, AlikeResults, AlikeOptions, IsBeneath, IsSeenAs, IsSeenHandle, IsSeenBody, IsSeenThread, IsSeenHolder, PeerImage, EndImage, LineImage, ReachImage}
+use Rattle.fk_model.specs.Image.{seeing, seen_talk, seen_thread, IsSeen, AllInTalk, IsPlainBody, IsImage, under, AlikeResults, AlikeOptions, IsBeneath, IsSeenAs, IsSeenHandle, IsSeenBody, IsSeenThread, IsSeenHolder, PeerImage, EndImage, LineImage, ReachImage}
 use Rattle.fk_model.specs.Image.EndImage.{Ends}
 use Rattle.fk_model.specs.Image.LineImage.{Lines}
 use Rattle.fk_model.specs.Image.ReachImage.{Homes, Misses, Bads}
@@ -69,10 +69,10 @@ module _ {root : Path} {see : Ptr → Ptr} {small big : World} (image : IsImage 
   bind_handle wanted a b f g h go = bind-image (IsSeenHandle root see big wanted) a b f g h (λ seen p h. rw h.0 (go p h.1 h.2))
 
   -- an object, a thread, a holder
-  pub bind_body : (a b : Result Body ℕ) (f g : Body → Outcome) → AlikeResults (IsSeenBody root see big) a b → ((b : Body) → AllInBody see (IsSeen root see big) b → Alike (f (seen_by (seeing see) b)) (g b)) → Alike (a >>= f) (b >>= g)
+  pub bind_body : (a b : Result Body ℕ) (f g : Body → Outcome) → AlikeResults (IsSeenBody root see big) a b → ((b : Body) → IsPlainBody see (IsSeen root see big) b → Alike (f (seen_by (seeing see) b)) (g b)) → Alike (a >>= f) (b >>= g)
   bind_body a b f g h go = bind-image (IsSeenBody root see big) a b f g h (λ seen b h. rw h.0 (go b h.1))
 
-  pub bind_thread : (a b : Result Thread ℕ) (f g : Thread → Outcome) → AlikeResults (IsSeenThread root see big) a b → ((t : Thread) → AllInBody see (IsSeen root see big) (Thread_of t) → Alike (f (seen_thread see t)) (g t)) → Alike (a >>= f) (b >>= g)
+  pub bind_thread : (a b : Result Thread ℕ) (f g : Thread → Outcome) → AlikeResults (IsSeenThread root see big) a b → ((t : Thread) → IsPlainBody see (IsSeen root see big) (Thread_of t) → Alike (f (seen_thread see t)) (g t)) → Alike (a >>= f) (b >>= g)
   bind_thread a b f g h go = bind-image (IsSeenThread root see big) a b f g h (λ seen t h. rw h.0 (go t h.1))
 
   pub bind_holder : (a b : Result (Option Ptr) ℕ) (f g : Option Ptr → Outcome) → AlikeResults (IsSeenHolder root see big) a b →
@@ -81,7 +81,7 @@ module _ {root : Path} {see : Ptr → Ptr} {small big : World} (image : IsImage 
 
   -- a thread with its path
   pub bind_end : (a b : Result (Path × Thread) ℕ) (f g : Path × Thread → Outcome) → AlikeResults (EndImage root see big) a b →
-      ((k : ℕ) (q : Path) (t : Thread) → big.body (k ∷ (q ++ root)) ≡ Some (Thread_of t) → AllInBody see (IsSeen root see big) (Thread_of t) → Alike (f (k ∷ q, seen_thread see t)) (g (k ∷ (q ++ root), t))) →
+      ((k : ℕ) (q : Path) (t : Thread) → big.body (k ∷ (q ++ root)) ≡ Some (Thread_of t) → IsPlainBody see (IsSeen root see big) (Thread_of t) → Alike (f (k ∷ q, seen_thread see t)) (g (k ∷ (q ++ root), t))) →
       Alike (a >>= f) (b >>= g)
   bind_end a b f g h go = bind-image (EndImage root see big) a b f g h by
     where

@@ -16,7 +16,7 @@ use Rattle.fk_model.specs.Holds.{is_frozen, is_unheld}
 use Rattle.fk_model.specs.Readers.{kind_at}
 use Rattle.fk_model.specs.Talks.{Line, line_from, line, path_to, thread_at, is_service_free}
 use Rattle.fk_model.specs.Cut.{is_out, seen_by, unheld}
-use Rattle.fk_model.specs.Image.{seeing, seen_peer, seen_talk, seen_fault, seen_thread, PtrImage, IsSeen, IfServer, AllInTalk, AllInFault, AllInBody, IsImage, AlikeOptions, IsBeneath, IsOuter, IsApart, IsSeenTalk, IsSeenFault, IsSeenThread, PeerImage, EndImage, LineImage}
+use Rattle.fk_model.specs.Image.{seeing, seen_peer, seen_talk, seen_fault, seen_thread, PtrImage, IsSeen, IfServer, AllInTalk, AllInFault, IsPlainBody, IsImage, AlikeOptions, IsBeneath, IsOuter, IsApart, IsSeenTalk, IsSeenFault, IsSeenThread, PeerImage, EndImage, LineImage}
 use Rattle.fk_model.specs.Image.PtrImage.{Nulls, Deads, Inside, PortAt, PortOut}
 use Rattle.fk_model.specs.Image.PeerImage.{Outsiders, Servers, Services, Waiters}
 use Rattle.fk_model.specs.Image.EndImage.{Ends}
@@ -32,7 +32,7 @@ port_no_thread (Some b) h = refl
 module _ {root : Path} {see : Ptr → Ptr} {small big : World} (image : IsImage root see small big) where
   -- ---- threads
 
-  thread-alike : (k : ℕ) (q : Path) (v : Option Body) → IfSome v (AllInBody see (IsSeen root see big)) → AlikeOptions (IsSeenThread root see big) (and_then thread_of (option_map (λ b. unheld (k ∷ q) (seen_by (seeing see) b)) v)) (and_then thread_of v)
+  thread-alike : (k : ℕ) (q : Path) (v : Option Body) → IfSome v (IsPlainBody see (IsSeen root see big)) → AlikeOptions (IsSeenThread root see big) (and_then thread_of (option_map (λ b. unheld (k ∷ q) (seen_by (seeing see) b)) v)) (and_then thread_of v)
   unfolding seen_by
   thread-alike k q (Some (Thread_of t)) h = (refl, h)
   thread-alike k q (Some b) h = tt
@@ -40,7 +40,7 @@ module _ {root : Path} {see : Ptr → Ptr} {small big : World} (image : IsImage 
 
   pub thread_there-image : (q : Path) → AlikeOptions (IsSeenThread root see big) (and_then thread_of (small.body q)) (and_then thread_of (big.body (q ++ root)))
   thread_there-image [] = rw ((root_space image).2, root_seen image) tt
-  thread_there-image (k ∷ q) = rw (image.bodies (k ∷ q)) (thread-alike k q (big.body (k ∷ (q ++ root))) (image.pointers k q))
+  thread_there-image (k ∷ q) = rw (image.bodies (k ∷ q)) (thread-alike k q (big.body (k ∷ (q ++ root))) (image.plain k q))
 
   talk-alike : (o : Option Talk) → IfSome o (AllInTalk see (IsSeen root see big)) → AlikeOptions (IsSeenTalk root see big) (and_then (seeing see).talk o) o
   talk-alike None h = tt
@@ -62,7 +62,7 @@ module _ {root : Path} {see : Ptr → Ptr} {small big : World} (image : IsImage 
 
   -- ---- the thread to which a pointer leads
 
-  end-alike : (k : ℕ) (q : Path) (v : Option Body) → big.body (k ∷ (q ++ root)) ≡ v → IfSome v (AllInBody see (IsSeen root see big)) →
+  end-alike : (k : ℕ) (q : Path) (v : Option Body) → big.body (k ∷ (q ++ root)) ≡ v → IfSome v (IsPlainBody see (IsSeen root see big)) →
       AlikeOptions (EndImage root see big) (and_then (λ (t : Thread). Some (k ∷ q, t)) (and_then thread_of (option_map (λ b. unheld (k ∷ q) (seen_by (seeing see) b)) v))) (and_then (λ (t : Thread). Some (k ∷ (q ++ root), t)) (and_then thread_of v))
   unfolding seen_by
   end-alike k q (Some (Thread_of t)) is h = Ends k q t is h
@@ -73,7 +73,7 @@ module _ {root : Path} {see : Ptr → Ptr} {small big : World} (image : IsImage 
   thread_at-image _ _ Nulls = tt
   thread_at-image _ _ Deads = tt
   thread_at-image _ _ (Inside []) = rw ((root_space image).2, root_seen image) tt
-  thread_at-image _ _ (Inside (k ∷ q)) = rw (image.bodies (k ∷ q)) (end-alike k q (big.body (k ∷ (q ++ root))) refl (image.pointers k q))
+  thread_at-image _ _ (Inside (k ∷ q)) = rw (image.bodies (k ∷ q)) (end-alike k q (big.body (k ∷ (q ++ root))) refl (image.plain k q))
   thread_at-image _ _ (PortAt x slot apart port) = rw (port_no_thread (big.body x) port) tt
   thread_at-image _ _ (PortOut old slot) = tt
 

@@ -17,7 +17,7 @@ use Rattle.fk_model.specs.Talks.{first_stage, path_to, is_service_free}
 use Rattle.fk_model.specs.LinkRows.{user_at, if_read, port_named, connecting_to, Candidate, is_member, slot_in_set, is_parked, is_open, faulting, connecting, resuming, candidate_by, candidate}
 use Rattle.fk_model.specs.LinkRows.Candidate.{Faulting, Connecting, Resuming}
 use Rattle.fk_model.specs.Cut.{is_out, seen_by, unheld}
-use Rattle.fk_model.specs.Image.{seeing, seen_peer, seen_talk, seen_fault, seen_thread, PtrImage, IsSeen, AllInTalk, AllInFault, AllInBody, IsImage, AlikeResults, AlikeOptions, IsSeenAs, IsSeenHandle, IsSeenThread, CandidateImage}
+use Rattle.fk_model.specs.Image.{seeing, seen_peer, seen_talk, seen_fault, seen_thread, PtrImage, IsSeen, AllInTalk, AllInFault, IsPlainBody, IsImage, AlikeResults, AlikeOptions, IsSeenAs, IsSeenHandle, IsSeenThread, CandidateImage}
 use Rattle.fk_model.specs.Image.PtrImage.{Nulls, Deads, Inside, PortAt, PortOut}
 use Rattle.fk_model.specs.Image.CandidateImage.{Faults, Connects, Resumes}
 use Rattle.fk_model.proofs.PlaceLaws.{same_path_eq, same_path_cancel, strip-append}

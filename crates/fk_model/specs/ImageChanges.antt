@@ -4,12 +4,13 @@ use Rattle.fk_model.specs.Places.{Path, is_within, Ptr}
 use Rattle.fk_model.specs.Objects.{Peer, Talk, Fault, Body, and_then}
 use Rattle.fk_model.specs.World.{World, Change, Edit, apply}
 use Rattle.fk_model.specs.World.Change.{Alter, Make, MakeSpace, Kill, Move, PutPage, DropPage}
-use Rattle.fk_model.specs.World.Edit.{SetPointer, SetHolder, SetTalk, SetPeer, SetFault, SetTaker}
+use Rattle.fk_model.specs.World.Edit.{Proceed, SetPointer, SetHolder, SetTalk, SetPeer, SetFault, SetTaker}
 use Rattle.fk_model.specs.Searches.{talk_at, fault_at}
+use Rattle.fk_model.specs.Holds.{is_porter}
 use Rattle.fk_model.specs.Outcomes.{Outcome}
 use Rattle.fk_model.specs.Outcomes.Outcome.{Refused, Waits, Goes}
 use Rattle.fk_model.specs.Cut.{is_out, seen_by}
-use Rattle.fk_model.specs.Image.{seeing, seen_peer, IsSeen, IfServer, AllInTalk, AllInFault, AllInBody, IsApart}
+use Rattle.fk_model.specs.Image.{seeing, seen_peer, IsSeen, IfServer, AllInTalk, AllInFault, IsPlainBody, IsApart}
 
 -- ---- edits
 
@@ -23,7 +24,8 @@ seen_edit see (SetFault fault) = SetFault (and_then (seeing see).fault fault)
 seen_edit see (SetTaker taker) = SetTaker (option_map (seen_peer see false) taker)
 seen_edit see other = other
 
--- the pointers that an edit makes lead inside or to ports outside; it gives a peer or a taker at a port inside alone
+-- an edit that makes pointers which lead inside or to ports outside, sets a peer or a taker at a port inside, and makes
+-- nobody a porter
 abbrev pub IsSeenEdit : Path → (Ptr → Ptr) → World → Path → Edit → Type 0
 IsSeenEdit root see big x (SetPointer to) = IsSeen root see big to
 IsSeenEdit root see big x (SetHolder holder) = IfSome holder (IsSeen root see big)
@@ -31,6 +33,7 @@ IsSeenEdit root see big x (SetTalk talk) = IfSome talk (AllInTalk see (IsSeen ro
 IsSeenEdit root see big x (SetPeer peer) = IfSome (talk_at big x) (λ talk. is_out (see talk.port) ≡ false) × IfServer false peer (IsSeen root see big)
 IsSeenEdit root see big x (SetFault fault) = IfSome fault (AllInFault see (IsSeen root see big))
 IsSeenEdit root see big x (SetTaker taker) = IfSome (fault_at big x) (λ fault. is_out (see fault.port) ≡ false) × IfSome taker (λ taker. IfServer false taker (IsSeen root see big))
+IsSeenEdit root see big x (Proceed mode counter) = is_porter mode ≡ false
 IsSeenEdit root see big x other = Unit {0}
 
 -- ---- changes
@@ -39,7 +42,7 @@ IsSeenEdit root see big x other = Unit {0}
 pub data ImageChange (root : Path) (see : Ptr → Ptr) (big : World) : Change → Change → Type 0 where
   Alters : (k : ℕ) (q : Path) (seen edit : Edit) → seen ≡ seen_edit see edit → IsSeenEdit root see big (k ∷ (q ++ root)) edit →
       ImageChange root see big (Alter (k ∷ q) seen) (Alter (k ∷ (q ++ root)) edit)
-  Makes : (k : ℕ) (q : Path) (seen body : Body) → seen ≡ seen_by (seeing see) body → AllInBody see (IsSeen root see big) body →
+  Makes : (k : ℕ) (q : Path) (seen body : Body) → seen ≡ seen_by (seeing see) body → IsPlainBody see (IsSeen root see big) body →
       ImageChange root see big (Make (k ∷ q) seen) (Make (k ∷ (q ++ root)) body)
   MakesSpace : (k : ℕ) (q : Path) (seen holder : Option Ptr) → seen ≡ and_then (seeing see).holder holder → IfSome holder (IsSeen root see big) →
       ImageChange root see big (MakeSpace (k ∷ q) seen) (MakeSpace (k ∷ (q ++ root)) holder)
