@@ -198,15 +198,14 @@ module _ {root : Path} {see : Ptr → Ptr} {small big : World} (image : IsImage 
   pub space_in-image : (c : Caller) (s : Path) (k : ℕ) → AlikeResults (IsSeenHolder root see big) (object_in small c space_of s k) (object_in big (under root c) space_of (s ++ root) k)
   space_in-image c s k = object_in-image (IsSeenHolder root see big) space_of space_of space-alike c s k
 
-  port-alike : (b : Body) → IsPlainBody see (IsSeen root see big) b → AlikeOptions (λ (seen port : Option ℕ × Bool). seen.0 ≡ port.0) (port_of (seen_by (seeing see) b)) (port_of b)
+  port-alike : (b : Body) → IsPlainBody see (IsSeen root see big) b → AlikeOptions ◌≡◌ (port_of (seen_by (seeing see) b)) (port_of b)
   unfolding seen_by
-  port-alike (Port None served) h = refl
-  port-alike (Port (Some set) served) h = refl
+  port-alike (Port None served) h = rw h refl
+  port-alike (Port (Some set) served) h = rw h refl
   port-alike b h = tt
 
-  -- whether a port is served isn't seen
-  pub port_in-image : (c : Caller) (s : Path) (k : ℕ) → AlikeResults (λ (seen port : Option ℕ × Bool). seen.0 ≡ port.0) (object_in small c port_of s k) (object_in big (under root c) port_of (s ++ root) k)
-  port_in-image c s k = object_in-image (λ (seen port : Option ℕ × Bool). seen.0 ≡ port.0) port_of port_of port-alike c s k
+  pub port_in-image : (c : Caller) (s : Path) (k : ℕ) → AlikeResults ◌≡◌ (object_in small c port_of s k) (object_in big (under root c) port_of (s ++ root) k)
+  port_in-image c s k = object_in-image ◌≡◌ port_of port_of port-alike c s k
 
   pub referred-image : (c : Caller) (wanted : Kind) (k : ℕ) → AlikeResults (IsSeenHandle root see big wanted) (referred small c wanted k) (referred big (under root c) wanted k)
   unfolding referred
