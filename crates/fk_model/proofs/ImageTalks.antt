@@ -113,3 +113,12 @@ module _ {root : Path} {see : Ptr → Ptr} {small big : World} (image : IsImage 
       at : (client : Path) → AlikeOptions (LineImage root see big) (line_from client (λ talk. Server (At client)) (talk_at small client)) (line_from (client ++ root) (λ talk. Server (At (client ++ root))) (talk_at big (client ++ root)))
       at [] = rw ((root_space image).2, root_seen image) tt
       at (k ∷ q) = by k q (talk_at small (k ∷ q)) (talk_at big (k ∷ (q ++ root))) refl (talk_at-image (k ∷ q))
+
+  -- ---- paths
+
+  pub path_to-image : (p seen : Ptr) → PtrImage root big p seen → is_out seen ≡ false → AlikeOptions (IsBeneath root) (path_to seen) (path_to p)
+  path_to-image _ _ Nulls near = tt
+  path_to-image _ _ Deads near = tt
+  path_to-image _ _ (Inside x) near = refl
+  path_to-image _ _ (PortAt x slot apart port) near = cc
+  path_to-image _ _ (PortOut old slot) near = cc

@@ -1,6 +1,6 @@
 //! The laws of the definitions, each the contract of a function that does nothing.
 ghost use Rattle.fk_model.specs.Frame.{MoveKeepsBodies, MoveKeepsPages};
-ghost use Rattle.fk_model.specs.ImageLaws.{CutIsImage, ImageIsCutWorld, RebindingIsImage, ImageReadsAlike, ImageHoldsAlike, ImageServesAlike, LockActsAlike, ImageStays, CutChangesAlike};
+ghost use Rattle.fk_model.specs.ImageLaws.{CutIsImage, ImageIsCutWorld, RebindingIsImage, ImageReadsAlike, ImageHoldsAlike, ImageServesAlike, LockActsAlike, ImageStays, CutChangesAlike, PlainStays};
 ghost use Rattle.fk_model.specs.Laws.{WordsReadBack, TodoWritesBack, WordsKeepLength, RecordIsFull, RecordIsTaken, RecordSetsNothing, RecordChangesNothing};
 
 /// The registers of a calling thread show the stages that were written into them, and the rest.
@@ -93,7 +93,9 @@ pub fn image_stays()
     ensures { ImageStays }
 {}
 
-/// What changes in a plain subtree changes alike in the subtree seen alone.
+/// What changes in a plain subtree changes alike in the subtree seen alone, and the subtree stays plain, if no thread in it
+/// comes to serve one outside.
 pub fn cut_changes_alike()
-    ensures { CutChangesAlike }
+    ensures changes { CutChangesAlike }
+    ensures plain { PlainStays }
 {}
