@@ -18,7 +18,7 @@ use Rattle.fk_model.specs.Cut.{is_out, is_port, ports_of, cut_ptr, seen_by, cut_
 use Rattle.fk_model.specs.Image.{seeing, seen_peer, PtrImage, IsSeen, IfServer, AllInTalk, AllInFault, IsPlainBody, IsImage}
 use Rattle.fk_model.specs.Image.PtrImage.{Nulls, Deads, Inside, PortAt, PortOut}
 use Rattle.fk_model.specs.ImageChanges.{ImageChange, ImageChanges, IsOutside}
-use Rattle.fk_model.specs.ImageChanges.ImageChange.{Alters, Makes, MakesSpace, Kills, Moves, PutsPage, DropsPage}
+use Rattle.fk_model.specs.ImageChanges.ImageChange.{Alters, AltersOut, Makes, MakesSpace, Kills, Moves, PutsPage, DropsPage}
 use Rattle.fk_model.specs.ImageChanges.ImageChanges.{Empty, Both, Beyond}
 use Rattle.fk_model.proofs.PlaceLaws.{strip_some}
 use Rattle.fk_model.proofs.Images.{cut-image}
@@ -28,7 +28,8 @@ use Rattle.fk_model.proofs.ImageSweeps.{kill-image, move-image, kind-swept}
 
 pub change-image : {root : Path} {see : Ptr → Ptr} {small big : World} → IsImage root see small big → (c d : Change) → ImageChange root see big c d → IsImage root see (apply c small) (apply d big)
 unfolding apply
-change-image image _ _ (Alters k q seen edit e h) = rw e (alter-image image k q edit h)
+change-image image _ _ (Alters k q seen edit e h) = rw e (alter-image image false k q edit h)
+change-image image _ _ (AltersOut k q seen edit e h) = rw e (alter-image image true k q edit h)
 change-image image _ _ (Makes k q seen body e h) = rw e (make-image image k q body h)
 change-image image _ _ (MakesSpace k q seen holder e h) = rw e (make_space-image image k q holder h)
 change-image image _ _ (Kills k q apart) = kill-image image apart k q
@@ -50,6 +51,7 @@ kind_off t v u h = rw h refl
 pub kind_outside : {root : Path} {see : Ptr → Ptr} {big : World} (c d : Change) → ImageChange root see big c d → (x : Path) → is_within root x ≡ false → kind_at (apply d big) (At x) ≡ kind_at big (At x)
 unfolding apply
 kind_outside {root} {see} {big} _ _ (Alters k q seen edit e h) x out = kind_off _ (option_map (edited edit) (big.body x)) (big.body x) (outside_apart root (k ∷ q) x out)
+kind_outside {root} {see} {big} _ _ (AltersOut k q seen edit e h) x out = kind_off _ (option_map (edited edit) (big.body x)) (big.body x) (outside_apart root (k ∷ q) x out)
 kind_outside {root} {see} {big} _ _ (Makes k q seen body e h) x out = kind_off _ (Some body) (big.body x) (outside_apart root (k ∷ q) x out)
 kind_outside {root} {see} {big} _ _ (MakesSpace k q seen holder e h) x out = kind_off _ _ (big.body x) (outside_apart root (k ∷ q) x out)
 kind_outside {root} {see} {big} _ _ (Kills k q apart) x out = kind_off _ None _ (outside_apart root (k ∷ q) x out) ∙ kind-swept (without (k ∷ (q ++ root))) x (big.body x)

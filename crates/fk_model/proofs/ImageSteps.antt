@@ -18,7 +18,7 @@ use Rattle.fk_model.specs.ImageChanges.ImageChanges.{Empty, Both, Beyond}
 use Rattle.fk_model.proofs.PlaceLaws.{same_path_eq, same_path_sym, same_path_above, same_path_cancel, same_path_outside, strip-append}
 use Rattle.fk_model.proofs.ImagePointers.{all_in_body, ptr_moved}
 use Rattle.fk_model.proofs.ImageHolds.{strip_none}
-use Rattle.fk_model.proofs.ImageEdits.{kind-edited, IsNear, IsGood, edited-seen, edited-kept}
+use Rattle.fk_model.proofs.ImageEdits.{kind-edited, IsAtPort, IsGood, edited-seen, edited-kept}
 
 -- a path outside is none inside
 pub outside_apart : (root q x : Path) → is_within root x ≡ false → same_path x (q ++ root) ≡ false
@@ -78,32 +78,32 @@ module _ {root : Path} {see : Ptr → Ptr} {small big : World} (image : IsImage 
 
   -- ---- an edit
 
-  is_near : (edit : Edit) (b : Body) (x : Path) → big.body x ≡ Some b → IsSeenEdit root see big x edit → IsNear see edit b
-  is_near (SetPeer peer) b x is h = rw is at h.0
-  is_near (SetTaker taker) b x is h = rw is at h.0
-  is_near edit b x is h = tt
+  at_port : (out : Bool) (edit : Edit) (b : Body) (x : Path) → big.body x ≡ Some b → IsSeenEdit root see big out x edit → IsAtPort see out edit b
+  at_port out (SetPeer peer) b x is h = rw is at h.0
+  at_port out (SetTaker taker) b x is h = rw is at h.0
+  at_port out edit b x is h = tt
 
-  is_good : (edit : Edit) (x : Path) → IsSeenEdit root see big x edit → IsGood see (IsSeen root see big) edit
-  is_good (SetPeer peer) x h = h.1
-  is_good (Proceed mode counter) x h = h
-  is_good (SetPointer to) x h = h
-  is_good (SetHolder holder) x h = h
-  is_good (SetTalk talk) x h = h
-  is_good (SetFault fault) x h = h
-  is_good (SetTaker taker) x h = h.1
-  is_good edit x h = tt
+  is_good : (out : Bool) (edit : Edit) (x : Path) → IsSeenEdit root see big out x edit → IsGood see (IsSeen root see big) out edit
+  is_good out (SetPeer peer) x h = h.1
+  is_good out (Proceed mode counter) x h = h
+  is_good out (SetPointer to) x h = h
+  is_good out (SetHolder holder) x h = h
+  is_good out (SetTalk talk) x h = h
+  is_good out (SetFault fault) x h = h
+  is_good out (SetTaker taker) x h = h.1
+  is_good out edit x h = tt
 
-  pub alter-image : (k : ℕ) (q : Path) (edit : Edit) → IsSeenEdit root see big (k ∷ (q ++ root)) edit → IsImage root see (apply (Alter (k ∷ q) (seen_edit see edit)) small) (apply (Alter (k ∷ (q ++ root)) edit) big)
+  pub alter-image : (out : Bool) (k : ℕ) (q : Path) (edit : Edit) → IsSeenEdit root see big out (k ∷ (q ++ root)) edit → IsImage root see (apply (Alter (k ∷ q) (seen_edit see out edit)) small) (apply (Alter (k ∷ (q ++ root)) edit) big)
   unfolding apply
-  alter-image k q edit h = at_path-image k q (option_map (edited (seen_edit see edit))) (option_map (edited edit)) (rw (image.bodies (k ∷ q)) (alike (big.body (k ∷ (q ++ root))) refl)) (near (big.body (k ∷ (q ++ root))) refl (image.plain k q))
+  alter-image out k q edit h = at_path-image k q (option_map (edited (seen_edit see out edit))) (option_map (edited edit)) (rw (image.bodies (k ∷ q)) (alike (big.body (k ∷ (q ++ root))) refl)) (near (big.body (k ∷ (q ++ root))) refl (image.plain k q))
     where
-      alike : (v : Option Body) → big.body (k ∷ (q ++ root)) ≡ v → shown (k ∷ q) (option_map (edited edit) v) ≡ option_map (edited (seen_edit see edit)) (shown (k ∷ q) v)
+      alike : (v : Option Body) → big.body (k ∷ (q ++ root)) ≡ v → shown (k ∷ q) (option_map (edited edit) v) ≡ option_map (edited (seen_edit see out edit)) (shown (k ∷ q) v)
       alike None is = refl
-      alike (Some b) is = ap Some (edited-seen see edit b (is_near edit b (k ∷ (q ++ root)) is h))
+      alike (Some b) is = ap Some (edited-seen see out edit b (at_port out edit b (k ∷ (q ++ root)) is h))
 
       near : (v : Option Body) → big.body (k ∷ (q ++ root)) ≡ v → Near v → Near (option_map (edited edit) v)
       near None is good = tt
-      near (Some b) is good = edited-kept see (IsSeen root see big) edit b (is_near edit b (k ∷ (q ++ root)) is h) (is_good edit (k ∷ (q ++ root)) h) good
+      near (Some b) is good = edited-kept see (IsSeen root see big) out edit b (at_port out edit b (k ∷ (q ++ root)) is h) (is_good out edit (k ∷ (q ++ root)) h) good
 
   -- ---- a new object
 

@@ -130,12 +130,12 @@ pub record IsApart (root : Path) (see : Ptr → Ptr) (big : World) : Type 0 wher
   pub faults : (k : ℕ) (q : Path) (fault : Fault) (taker : Peer) → fault_at big (k ∷ (q ++ root)) ≡ Some fault → is_out (see fault.port) ≡ true → fault.taker ≡ Some taker → IsOuter root taker
 
 -- x is among these paths
-abbrev pub is_among : Path → List Path → Bool
-is_among x xs = list_any (same_path x) xs
+abbrev pub is_listed : Path → List Path → Bool
+is_listed x xs = list_any (same_path x) xs
 
 -- the walk from the root finds every object
 pub record IsWalked (w : World) : Type 0 where
-  pub found : (k : ℕ) (x : Path) → is_some (w.body (k ∷ x)) ≡ true → is_among (k ∷ x) (objects w) ≡ true
+  pub found : (k : ℕ) (x : Path) → is_some (w.body (k ∷ x)) ≡ true → is_listed (k ∷ x) (objects w) ≡ true
 
 -- each thread serves one thread at most, one inside serves none outside, and the walk from the root finds every object
 pub record IsServedAlike (root : Path) (see : Ptr → Ptr) (big : World) : Type 0 where
