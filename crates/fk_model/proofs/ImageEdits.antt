@@ -1,19 +1,17 @@
 -- An edit acts alike on an object and on what is seen of it, and keeps its pointers such as an image has.
-use Rattle.std.proofs.Common.{◌≡◌, ℕ, ◌+◌, Bool, true, false, min, List, [], ◌∷◌, ◌++◌, Option, Some, None, IfSome, option_map, refl, sym, ap, ◌∙◌}
+use Rattle.std.proofs.Common.{◌≡◌, ℕ, ◌+◌, Bool, false, min, List, [], ◌∷◌, Option, Some, None, IfSome, option_map, refl, ap}
 use Rattle.fk_model.specs.declared.limits.TheConstants.{MOST_MOVED}
 use Rattle.fk_model.specs.declared.stage.Stage.{Stage}
-use Rattle.fk_model.specs.declared.thread.Turn.{Turn}
-use Rattle.fk_model.specs.Places.{Path, Ptr}
-use Rattle.fk_model.specs.Objects.{Mode, Peer, Talk, Fault, Thread, Window, Extent, Body, kind_of, thread_of, and_then}
-use Rattle.fk_model.specs.Objects.Mode.{Running, Calling, Halted, Native}
-use Rattle.fk_model.specs.Objects.Peer.{Server, Service, Parked}
-use Rattle.fk_model.specs.Objects.Body.{Mutex, Cond, Mapping, Region, Port, Portset, Space, Thread_of, Reference}
+use Rattle.fk_model.specs.Places.{Ptr}
+use Rattle.fk_model.specs.Objects.{Mode, Peer, Talk, Fault, Thread, Body, kind_of, thread_of, and_then}
+use Rattle.fk_model.specs.Objects.Mode.{Calling}
+use Rattle.fk_model.specs.Objects.Body.{Mutex, Mapping, Region, Port, Space, Thread_of, Reference}
 use Rattle.fk_model.specs.Holds.{is_porter}
-use Rattle.fk_model.specs.World.{World, Edit, edited, shifted_in, finished_in, ended_in, replaced_in}
-use Rattle.fk_model.specs.World.Edit.{SetLocked, SetWindow, SetExtent, SetMember, SetPointer, SetHolder, Proceed, Shift, Finish, End, Replace, SetStops, SetTalk, CountMoved, PassTurn, SetPeer, SetFault, SetTaker}
+use Rattle.fk_model.specs.World.{Edit, edited, shifted_in, finished_in, ended_in, replaced_in}
+use Rattle.fk_model.specs.World.Edit.{SetLocked, SetWindow, SetExtent, SetMember, SetPointer, SetHolder, Proceed, Shift, Finish, End, Replace, SetTalk, CountMoved, PassTurn, SetPeer, SetFault, SetTaker}
 use Rattle.fk_model.specs.Cut.{is_out, seen_by}
-use Rattle.fk_model.specs.Image.{seeing, seen_peer, seen_talk, seen_fault, seen_thread, IsSeen, IfServer, AllInTalk, AllInFault, IsPlainBody}
-use Rattle.fk_model.specs.ImageChanges.{seen_edit, IsSeenEdit}
+use Rattle.fk_model.specs.Image.{seeing, seen_peer, seen_talk, seen_thread, IfServer, AllInTalk, AllInFault, IsPlainBody}
+use Rattle.fk_model.specs.ImageChanges.{seen_edit}
 
 -- ---- kinds stay
 

@@ -1,5 +1,4 @@
 -- The laws of images.
-use Rattle.std.proofs.Common.{◌∷◌}
 use Rattle.fk_model.specs.ImageLaws.{CutIsImage, ImageIsCutWorld, RebindingIsImage, ImageReadsAlike, ImageHoldsAlike, ImageServesAlike, LockActsAlike, ImageStays, CutChangesAlike, PlainStays}
 use Rattle.fk_model.proofs.Images.{cut-image, image-cut_world, rebind-image}
 use Rattle.fk_model.proofs.ImageReads.{anything_in-image, kind_at-image, handle-image, place-image, referred-image}
@@ -43,7 +42,8 @@ image_reads_alike root see small big image = (
     residents = residents-image image;
     beneath = beneath-image image;
     leaves = leaf-image image;
-  })
+  },
+)
 
 pub image_holds_alike : ImageHoldsAlike
 image_holds_alike root see small big image free = record {

@@ -1,12 +1,12 @@
 -- Rows step by step: what follows an answer that is alike goes alike, and so do the ends of a stage.
-use Rattle.std.proofs.Common.{◌≡◌, ℕ, Bool, true, false, cond, not, ◌&&◌, List, [], ◌∷◌, ◌++◌, Option, Some, None, IfSome, option_map, Result, Ok, Err, refl, sym, ap, ◌∙◌}
+use Rattle.std.proofs.Common.{◌≡◌, ℕ, Bool, true, false, cond, List, [], ◌∷◌, ◌++◌, Option, Some, None, IfSome, Result, Ok, Err, refl}
 use Rattle.fk_model.specs.declared.names.Kind.{Kind}
 use Rattle.fk_model.specs.declared.statuses.halt.TheConstants.{BAD_ADDRESS, MISSING_PAGE}
 use Rattle.fk_model.specs.declared.statuses.status.TheConstants.{OK}
 use Rattle.fk_model.specs.Places.{Path, Ptr}
 use Rattle.fk_model.specs.Objects.{Peer, Talk, Fault, Thread, Body, and_then}
 use Rattle.fk_model.specs.Objects.Body.{Thread_of}
-use Rattle.fk_model.specs.World.{World, Change, apply, apply_all}
+use Rattle.fk_model.specs.World.{World, Change, apply_all}
 use Rattle.fk_model.specs.World.Change.{Alter}
 use Rattle.fk_model.specs.World.Edit.{Finish, End, SetFault}
 use Rattle.fk_model.specs.Searches.{talk_at}
@@ -22,7 +22,7 @@ use Rattle.fk_model.specs.Image.{seeing, seen_talk, seen_thread, IsSeen, AllInTa
 use Rattle.fk_model.specs.Image.EndImage.{Ends}
 use Rattle.fk_model.specs.Image.LineImage.{Lines}
 use Rattle.fk_model.specs.Image.ReachImage.{Homes, Misses, Bads}
-use Rattle.fk_model.specs.ImageChanges.{ImageChange, ImageChanges, IsImageOutcome}
+use Rattle.fk_model.specs.ImageChanges.{ImageChanges, IsImageOutcome}
 use Rattle.fk_model.specs.ImageChanges.ImageChange.{Alters}
 use Rattle.fk_model.specs.ImageChanges.ImageChanges.{Empty, Both, Beyond}
 use Rattle.fk_model.proofs.ImageMemory.{reach_word-image}
@@ -91,7 +91,7 @@ module _ {root : Path} {see : Ptr → Ptr} {small big : World} (image : IsImage 
   -- a line
   pub bind_line : (a b : Result Line ℕ) (f g : Line → Outcome) → AlikeResults (LineImage root see big) a b →
       ((k : ℕ) (q : Path) (talk : Talk) (other seen : Peer) → talk_at big (k ∷ (q ++ root)) ≡ Some talk → AllInTalk see (IsSeen root see big) talk → PeerImage root see big other seen →
-          Alike (f (record { client = k ∷ q; talk = seen_talk see talk; other = seen })) (g (record { client = k ∷ (q ++ root); talk = talk; other = other }))) →
+      Alike (f (record { client = k ∷ q; talk = seen_talk see talk; other = seen })) (g (record { client = k ∷ (q ++ root); talk = talk; other = other }))) →
       Alike (a >>= f) (b >>= g)
   bind_line a b f g h go = bind-image (LineImage root see big) a b f g h by
     where
@@ -172,7 +172,7 @@ module _ {root : Path} {see : Ptr → Ptr} {small big : World} (image : IsImage 
   missed-image : (k : ℕ) (q : Path) (page : ℕ) (write : Bool) (near far : Outcome) (keeper port : Option Ptr) → AlikeOptions (IsSeenAs root see big) keeper port → Alike near far →
       Alike (missed near (k ∷ q) page write keeper) (missed far (k ∷ (q ++ root)) page write port)
   missed-image k q page write near far None None h otherwise = otherwise
-  missed-image k q page write near far (Some seen) (Some port) h otherwise = 
+  missed-image k q page write near far (Some seen) (Some port) h otherwise =
       let fault : Fault = record { page = page; write = write; port = port; taker = None } in
       rw h.0 (Both (Alters k q _ (SetFault (Some fault)) refl (h.1, tt)) Empty)
   missed-image k q page write near far None (Some port) h otherwise = absurd h

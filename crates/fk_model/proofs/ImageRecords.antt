@@ -1,15 +1,12 @@
 -- State records and pointer fields are read alike in an image.
-use Rattle.std.proofs.Common.{◌≡◌, ℕ, ◌-◌, Bool, true, false, cond, not, ◌&&◌, ◌||◌, eqb, leb, List, [], ◌∷◌, ◌++◌, Option, Some, None, IfSome, is_some, is_none, option_map, refl, sym, ap, ◌∙◌}
-use Rattle.fk_model.specs.declared.limits.TheConstants.{RECORD_WORDS, SLOTS}
-use Rattle.fk_model.specs.declared.names.Kind.{Kind}
+use Rattle.std.proofs.Common.{◌≡◌, ℕ, ◌-◌, Bool, false, List, ◌∷◌, ◌++◌, Option, Some, None, is_some, is_none, option_map, refl}
 use Rattle.fk_model.specs.Places.{Path, Ptr}
-use Rattle.fk_model.specs.Places.Ptr.{Null, Dead, At, Out, Outside, Far}
-use Rattle.fk_model.specs.Objects.{Peer, Talk, Fault, Thread, Body, number_of, kind_of, and_then, holds}
-use Rattle.fk_model.specs.Objects.Body.{Mutex, Cond, Mapping, Region, Port, Portset, Space, Thread_of, Reference}
-use Rattle.fk_model.specs.World.{World, Edit}
+use Rattle.fk_model.specs.Objects.{Peer, Talk, Fault, Body, number_of, kind_of, and_then}
+use Rattle.fk_model.specs.Objects.Body.{Mutex, Mapping, Port, Portset, Space, Thread_of}
+use Rattle.fk_model.specs.World.{World}
 use Rattle.fk_model.specs.LinkRows.{portset_of}
-use Rattle.fk_model.specs.Records.{padded, state_words, record_of, talk_words, fault_words, set_edits, is_member_word, is_state, takes_state, word}
-use Rattle.fk_model.specs.StateRows.{Field, field_number, held_kinds, is_native, is_inner}
+use Rattle.fk_model.specs.Records.{state_words, record_of, talk_words, fault_words, set_edits, is_member_word, is_state, takes_state, word}
+use Rattle.fk_model.specs.StateRows.{field_number, held_kinds, is_native, is_inner}
 use Rattle.fk_model.specs.StateRows.Field.{Pointer}
 use Rattle.fk_model.specs.Cut.{seen_by, unheld}
 use Rattle.fk_model.specs.Image.{seeing, PtrImage, IsSeen, IsPlainBody, IsImage}

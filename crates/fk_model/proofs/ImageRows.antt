@@ -1,19 +1,19 @@
 -- The first rows that act alike in an image: a lock, a stop of a thread, an instruction.
-use Rattle.std.proofs.Common.{◌≡◌, ℕ, ◌+◌, ◌%◌, Bool, true, false, not, leb, List, [], ◌∷◌, ◌++◌, Option, Some, None, Result, Ok, Err, refl, sym, ap, ◌∙◌}
+use Rattle.std.proofs.Common.{◌≡◌, ℕ, Bool, true, false, not, leb, List, [], ◌∷◌, ◌++◌, Option, Some, None, refl}
 use Rattle.fk_model.specs.declared.instruction.Act.{Act}
 use Rattle.fk_model.specs.declared.instruction.Act.TheVariants.{Put, Jump, Load, Store, Halt, Call}
-use Rattle.fk_model.specs.declared.limits.TheConstants.{MOST_STOPS, PAGE_WORDS}
+use Rattle.fk_model.specs.declared.limits.TheConstants.{MOST_STOPS}
 use Rattle.fk_model.specs.declared.names.Kind.TheVariants as kinds
 use Rattle.fk_model.specs.declared.stage.Stage.{Stage}
 use Rattle.fk_model.specs.declared.statuses.status.TheConstants as status
 use Rattle.fk_model.specs.Places.{Path, Ptr}
-use Rattle.fk_model.specs.Objects.{Mode, Thread, mutex_of}
+use Rattle.fk_model.specs.Objects.{Mode, mutex_of}
 use Rattle.fk_model.specs.Objects.Mode.{Running, Halted}
 use Rattle.fk_model.specs.World.Edit.{Proceed}
 use Rattle.fk_model.specs.World.{World}
 use Rattle.fk_model.specs.Calls.{todo_of}
 use Rattle.fk_model.specs.Instructions.{act, next}
-use Rattle.fk_model.specs.Reach.{words_at, reach_word}
+use Rattle.fk_model.specs.Reach.{reach_word}
 use Rattle.fk_model.specs.Holds.{is_porter, is_frozen}
 use Rattle.fk_model.specs.Outcomes.{Outcome, Caller}
 use Rattle.fk_model.specs.Readers.{handle, accessed}
@@ -22,9 +22,9 @@ use Rattle.fk_model.specs.SyncRows.{mutex_lock}
 use Rattle.fk_model.specs.SpaceRows.{thread_by, thread_stop}
 use Rattle.fk_model.specs.UserRows.{proceeds, halts_with, word_at, loads, stores, enters, performs, executes, run_row}
 use Rattle.fk_model.specs.Image.{IsSeenHandle, IsImage, under, AlikeResults, EndImage}
-use Rattle.fk_model.specs.ImageChanges.{ImageChange, ImageChanges, IsImageOutcome}
+use Rattle.fk_model.specs.ImageChanges.{IsImageOutcome}
 use Rattle.fk_model.specs.ImageChanges.ImageChange.{Alters, PutsPage}
-use Rattle.fk_model.specs.ImageChanges.ImageChanges.{Empty, Both, Beyond}
+use Rattle.fk_model.specs.ImageChanges.ImageChanges.{Empty, Both}
 use Rattle.fk_model.proofs.Alike.{alike_and_read, alike_or_refuse}
 use Rattle.fk_model.proofs.ImageReads.{mutex-seen, plain_in-image, handle-image}
 use Rattle.fk_model.proofs.ImageMemory.{reach_word-image, words_at-image}

@@ -1,22 +1,21 @@
 -- The client of a server, and the thread whose fault it has taken, are found alike in an image.
-use Rattle.std.proofs.Common.{◌≡◌, ℕ, zero, suc, ◌+◌, ◌<◌, ◌≤◌, Bool, true, false, cond, not, ◌&&◌, ◌||◌, eqb, List, [], ◌∷◌, ◌++◌, length, find, flat_map, Option, Some, None, IfSome, is_some, option_map, ◌⊎◌, inl, inr, refl, sym, ap, ◌∙◌, arith, append_assoc, append-nil, length-append}
+use Rattle.std.proofs.Common.{◌≡◌, ℕ, zero, suc, ◌+◌, ◌<◌, ◌≤◌, Bool, true, false, cond, ◌&&◌, ◌||◌, List, [], ◌∷◌, ◌++◌, length, find, Option, Some, None, IfSome, is_some, option_map, ◌⊎◌, inl, inr, refl, sym, ap, ◌∙◌, arith, append_assoc, append-nil, length-append}
 use Rattle.std.specs.List.{list_any}
 use Rattle.std.proofs.lemmas.List.{append_cancel_right}
-use Rattle.std.proofs.lemmas.Bool.{or_cases, or_left, or_right, and_parts}
+use Rattle.std.proofs.lemmas.Bool.{or_cases, or_right, and_parts}
 use Rattle.fk_model.specs.declared.names.Kind.{Kind}
 use Rattle.fk_model.specs.declared.names.Kind.TheVariants as kinds
-use Rattle.fk_model.specs.Places.{Path, same_path, strip, is_within, parent, Ptr, leads_to}
+use Rattle.fk_model.specs.Places.{Path, same_path, strip, is_within, Ptr}
 use Rattle.fk_model.specs.Places.Ptr.{Null, Dead, At, Out, Outside, Far}
 use Rattle.fk_model.specs.Objects.{Peer, Talk, Fault, Thread, Body, thread_of, and_then, holds}
 use Rattle.fk_model.specs.Objects.Peer.{Server, Service, Parked}
-use Rattle.fk_model.specs.Objects.Body.{Mutex, Cond, Mapping, Region, Port, Portset, Space, Thread_of, Reference}
+use Rattle.fk_model.specs.Objects.Body.{Thread_of}
 use Rattle.fk_model.specs.World.{World, serves}
 use Rattle.fk_model.specs.Searches.{residents, depth, beneath_by, beneath, objects, talk_at, fault_at, client_of, faulter_of, is_serving}
 use Rattle.fk_model.specs.Valid.{services, IsValid, kind_there, is_one_of, leads_there, all_in, is_good, is_good_peer, is_good_talk, is_good_fault, lies_with}
 use Rattle.fk_model.specs.Cut.{is_out, is_served_by, ports_of, cut_out, cut_to, cut_ptr, IsPlain}
-use Rattle.fk_model.specs.Image.{seeing, seen_peer, seen_talk, seen_fault, PtrImage, IsSeen, IfServer, AllInTalk, AllInFault, IsImage, IsCutWorld, IsApart, is_listed, IsWalked, IsServedAlike, AlikeOptions, IsBeneath, IsSeenTalk, IsSeenFault}
-use Rattle.fk_model.specs.Image.PtrImage.{Nulls, Deads, Inside, PortAt, PortOut}
-use Rattle.fk_model.proofs.PlaceLaws.{same_path_refl, same_path_eq, same_path_cancel, strip-append, strip_some, leads_to_at}
+use Rattle.fk_model.specs.Image.{seen_peer, IsSeen, IfServer, IsImage, IsCutWorld, IsApart, is_listed, IsWalked, IsServedAlike, AlikeOptions, IsBeneath, IsSeenTalk, IsSeenFault}
+use Rattle.fk_model.proofs.PlaceLaws.{same_path_eq, same_path_cancel, strip-append, strip_some, leads_to_at}
 use Rattle.fk_model.proofs.Images.{image-cut_world}
 use Rattle.fk_model.proofs.Alike.{alike-is_some}
 use Rattle.fk_model.proofs.ImageMemory.{root_space, root_seen}
@@ -131,7 +130,6 @@ module _ (root : Path) (near far : Path → Bool) (xs ys : List Path)
     (same : (k : ℕ) (q : Path) → near (k ∷ q) ≡ far (k ∷ (q ++ root))) (at_top : near [] ≡ false) (at_root : far root ≡ false)
     (inside : (x : Path) → far x ≡ true → is_within root x ≡ true) (one : (x y : Path) → far x ≡ true → far y ≡ true → x ≡ y)
     (all_near : (k : ℕ) (q : Path) → near (k ∷ q) ≡ true → is_listed (k ∷ q) xs ≡ true) (all_far : (k : ℕ) (q : Path) → far (k ∷ (q ++ root)) ≡ true → is_listed (k ∷ (q ++ root)) ys ≡ true) where
-
   near-far : (q : Path) → near q ≡ true → far (q ++ root) ≡ true
   near-far [] h = let none : true ≡ false = sym h ∙ at_top in cc
   near-far (k ∷ q) h = sym (same k q) ∙ h
@@ -193,10 +191,10 @@ module _ {root : Path} {see : Ptr → Ptr} {small big : World} (image : IsImage 
   unfolding beneath
   walked-image walked = record {
     found = λ k q there.
-      let far = walked.found k (q ++ root) (sym (is_taken-image image (k ∷ q)) ∙ there) in
-      let outer = outer_slot k q root in
-      let near = walk_from depth big [] root outer.0 root (k ∷ (q ++ root)) outer.1 (sym (append-nil root)) outer.2 far in
-      any_beneath-image image (same_path (k ∷ q)) (same_path (k ∷ (q ++ root))) (λ j z. sym (same_path_cancel (k ∷ q) (j ∷ z) root)) [] ∙ near;
+        let far = walked.found k (q ++ root) (sym (is_taken-image image (k ∷ q)) ∙ there) in
+        let outer = outer_slot k q root in
+        let near = walk_from depth big [] root outer.0 root (k ∷ (q ++ root)) outer.1 (sym (append-nil root)) outer.2 far in
+        any_beneath-image image (same_path (k ∷ q)) (same_path (k ∷ (q ++ root))) (λ j z. sym (same_path_cancel (k ∷ q) (j ∷ z) root)) [] ∙ near;
   }
 
   module _ (facts : IsServedAlike root see big) (me : Path) where
@@ -292,7 +290,7 @@ module _ {root : Path} {see : Ptr → Ptr} {small big : World} (image : IsImage 
         (λ j q h. facts.walked.found j (q ++ root) (live_fault (me ++ root) (big.body (j ∷ (q ++ root))) h))
 
     pub is_serving-image : is_serving small me ≡ is_serving big (me ++ root)
-    is_serving-image = 
+    is_serving-image =
         rw (alike-is_some (IsBeneath root) (client_of small me) (client_of big (me ++ root)) client_of-image, alike-is_some (IsBeneath root) (faulter_of small me) (faulter_of big (me ++ root)) faulter_of-image) refl
 
 -- ---- the cut of a plain subtree of a valid world

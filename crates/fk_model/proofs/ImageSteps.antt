@@ -1,21 +1,19 @@
 -- An image stays one where a change of the small world stands for the change of the big one.
-use Rattle.std.proofs.Common.{◌≡◌, ℕ, zero, Bool, true, false, cond, ◌&&◌, eqb, List, [], ◌∷◌, ◌++◌, Option, Some, None, IfSome, option_map, refl, sym, ap, ◌∙◌}
+use Rattle.std.proofs.Common.{◌≡◌, ℕ, Bool, true, false, cond, List, [], ◌∷◌, ◌++◌, Option, Some, None, IfSome, option_map, refl, sym, ap, ◌∙◌}
 use Rattle.fk_model.specs.declared.names.Kind.TheVariants as kinds
 use Rattle.fk_model.specs.Places.{Path, same_path, is_within, Ptr}
 use Rattle.fk_model.specs.Places.Ptr.{At}
-use Rattle.fk_model.specs.Objects.{Talk, Fault, Thread, Body, kind_of, thread_of, and_then}
+use Rattle.fk_model.specs.Objects.{Body, kind_of, and_then}
 use Rattle.fk_model.specs.Objects.Body.{Space}
-use Rattle.fk_model.specs.World.{World, Change, Edit, edited, at_path, with_page, birth_after, apply, apply_all}
+use Rattle.fk_model.specs.World.{World, Change, Edit, edited, at_path, with_page, birth_after, apply}
 use Rattle.fk_model.specs.World.Change.{Alter, Make, MakeSpace, Kill, Move, PutPage, DropPage}
 use Rattle.fk_model.specs.World.Edit.{Proceed, SetPointer, SetHolder, SetTalk, SetPeer, SetFault, SetTaker}
 use Rattle.fk_model.specs.Readers.{kind_at}
 use Rattle.fk_model.specs.Valid.{kind_there}
-use Rattle.fk_model.specs.Cut.{is_out, seen_by, unheld}
-use Rattle.fk_model.specs.Image.{seeing, IsSeen, IfServer, IsPlainBody, IsImage}
-use Rattle.fk_model.specs.ImageChanges.{seen_edit, IsSeenEdit, ImageChange, ImageChanges, IsOutside}
-use Rattle.fk_model.specs.ImageChanges.ImageChange.{Alters, Makes, MakesSpace, Kills, Moves, PutsPage, DropsPage}
-use Rattle.fk_model.specs.ImageChanges.ImageChanges.{Empty, Both, Beyond}
-use Rattle.fk_model.proofs.PlaceLaws.{same_path_eq, same_path_sym, same_path_above, same_path_cancel, same_path_outside, strip-append}
+use Rattle.fk_model.specs.Cut.{seen_by, unheld}
+use Rattle.fk_model.specs.Image.{seeing, IsSeen, IsPlainBody, IsImage}
+use Rattle.fk_model.specs.ImageChanges.{seen_edit, IsSeenEdit, IsOutside}
+use Rattle.fk_model.proofs.PlaceLaws.{same_path_eq, same_path_sym, same_path_above, same_path_cancel, same_path_outside}
 use Rattle.fk_model.proofs.ImagePointers.{all_in_body, ptr_moved}
 use Rattle.fk_model.proofs.ImageHolds.{strip_none}
 use Rattle.fk_model.proofs.ImageEdits.{kind-edited, IsAtPort, IsGood, edited-seen, edited-kept}
@@ -115,7 +113,7 @@ module _ {root : Path} {see : Ptr → Ptr} {small big : World} (image : IsImage 
   unfolding apply seen_by kind_there
   make_space-image k q holder h =
       let made : IsImage root see (at_path (k ∷ q) (λ there. Some (Space small.next (and_then (seeing see).holder holder))) small) (at_path (k ∷ (q ++ root)) (λ there. Some (Space big.next holder)) big) =
-          at_path-image k q (λ there. Some (Space small.next (and_then (seeing see).holder holder))) (λ there. Some (Space big.next holder)) (ap (λ (n : ℕ). Some (Space n (and_then (seeing see).holder holder))) (sym image.unborn)) h in
+      at_path-image k q (λ there. Some (Space small.next (and_then (seeing see).holder holder))) (λ there. Some (Space big.next holder)) (ap (λ (n : ℕ). Some (Space n (and_then (seeing see).holder holder))) (sym image.unborn)) h in
       record {
         bodies = made.bodies;
         pages = made.pages;

@@ -1,20 +1,20 @@
 -- The death and the renaming of an object inside sweep alike over an image.
-use Rattle.std.proofs.Common.{◌≡◌, ℕ, zero, Bool, true, false, cond, ◌&&◌, ◌||◌, eqb, List, [], ◌∷◌, ◌++◌, Option, Some, None, IfSome, option_map, refl, sym, ap, ap₂, ◌∙◌}
+use Rattle.std.proofs.Common.{◌≡◌, ℕ, Bool, true, false, cond, ◌||◌, [], ◌∷◌, ◌++◌, Option, Some, None, IfSome, option_map, refl, sym, ap, ap₂, ◌∙◌}
 use Rattle.fk_model.specs.declared.names.Kind.TheVariants as kinds
-use Rattle.fk_model.specs.Places.{Path, same_path, is_within, parent, slot_of, Ptr, leads_to}
-use Rattle.fk_model.specs.Places.Ptr.{Null, Dead, At, Out, Outside, Far}
+use Rattle.fk_model.specs.Places.{Path, same_path, is_within, Ptr, leads_to}
+use Rattle.fk_model.specs.Places.Ptr.{Dead, At}
 use Rattle.fk_model.specs.Objects.{Peer, Talk, Fault, Thread, Body, kind_of, thread_of, and_then}
 use Rattle.fk_model.specs.Objects.Peer.{Server, Service, Parked}
-use Rattle.fk_model.specs.Objects.Body.{Mutex, Cond, Mapping, Region, Port, Portset, Space, Thread_of, Reference}
-use Rattle.fk_model.specs.World.{World, Change, Sweep, through, serves, set_at, without, talk_without, taker_without, fault_without, following, follow, follow_peer, killed_at, moved_to, apply}
+use Rattle.fk_model.specs.Objects.Body.{Mutex, Mapping, Region, Port, Space, Thread_of, Reference}
+use Rattle.fk_model.specs.World.{World, Sweep, through, serves, set_at, without, talk_without, taker_without, fault_without, following, follow, follow_peer, killed_at, moved_to, apply}
 use Rattle.fk_model.specs.World.Change.{Kill, Move}
 use Rattle.fk_model.specs.Searches.{talk_at, fault_at}
 use Rattle.fk_model.specs.Readers.{kind_at}
 use Rattle.fk_model.specs.Valid.{kind_there}
 use Rattle.fk_model.specs.Cut.{is_out, seen_by, unheld}
-use Rattle.fk_model.specs.Image.{seeing, seen_peer, seen_talk, seen_fault, PtrImage, IsSeen, IfServer, AllInTalk, AllInFault, IsPlainBody, IsImage, IsApart}
-use Rattle.fk_model.specs.Image.PtrImage.{Nulls, Deads, Inside, PortAt, PortOut}
-use Rattle.fk_model.proofs.PlaceLaws.{same_path_eq, same_path_cancel, same_path_above}
+use Rattle.fk_model.specs.Image.{seeing, seen_peer, seen_talk, seen_fault, IsSeen, IfServer, AllInTalk, AllInFault, IsPlainBody, IsImage, IsApart}
+use Rattle.fk_model.specs.Image.PtrImage.{Deads, Inside}
+use Rattle.fk_model.proofs.PlaceLaws.{same_path_cancel, same_path_above}
 use Rattle.fk_model.proofs.ImagePointers.{all_in_body, ptr_moved}
 use Rattle.fk_model.proofs.ImageMemory.{root_space}
 use Rattle.fk_model.proofs.ImageHolds.{leads_to-image}
@@ -183,9 +183,10 @@ module _ {root : Path} {see : Ptr → Ptr} {small big : World} (image : IsImage 
         (shown (j ∷ z) (option_map (through (without (k ∷ (q ++ root))) (j ∷ (z ++ root))) v) ≡ option_map (through (without (k ∷ q)) (j ∷ z)) (shown (j ∷ z) v))
         × IfSome (option_map (through (without (k ∷ (q ++ root))) (j ∷ (z ++ root))) v) (IsPlainBody see Seen)
     swept j z None h hidden = (refl, tt)
-    swept j z (Some b) h hidden =
-        (ap Some (through-seen see Seen (serves (k ∷ (q ++ root))) (without (k ∷ q)) (without (k ∷ (q ++ root))) (without-alike (k ∷ q)) (j ∷ z) (j ∷ (z ++ root)) (death j z) b h hidden),
-        through-kept see Seen (serves (k ∷ (q ++ root))) (without (k ∷ q)) (without (k ∷ (q ++ root))) (without-alike (k ∷ q)) (j ∷ z) (j ∷ (z ++ root)) (death j z) b h hidden)
+    swept j z (Some b) h hidden = (
+      ap Some (through-seen see Seen (serves (k ∷ (q ++ root))) (without (k ∷ q)) (without (k ∷ (q ++ root))) (without-alike (k ∷ q)) (j ∷ z) (j ∷ (z ++ root)) (death j z) b h hidden),
+      through-kept see Seen (serves (k ∷ (q ++ root))) (without (k ∷ q)) (without (k ∷ (q ++ root))) (without-alike (k ∷ q)) (j ∷ z) (j ∷ (z ++ root)) (death j z) b h hidden,
+    )
 
     swept_at : (j : ℕ) (z : Path) → (shown (j ∷ z) (option_map (through (without (k ∷ (q ++ root))) (j ∷ (z ++ root))) (big.body (j ∷ (z ++ root)))) ≡ option_map (through (without (k ∷ q)) (j ∷ z)) (small.body (j ∷ z)))
         × IfSome (option_map (through (without (k ∷ (q ++ root))) (j ∷ (z ++ root))) (big.body (j ∷ (z ++ root)))) (IsPlainBody see Seen)
@@ -298,9 +299,10 @@ module _ {root : Path} {see : Ptr → Ptr} {small big : World} (image : IsImage 
         (shown (j ∷ z) (option_map (through far (j ∷ (z ++ root))) v) ≡ option_map (through near (j ∷ z)) (shown (i ∷ at) v)) × IfSome (option_map (through far (j ∷ (z ++ root))) v) (IsPlainBody see Seen)
     moved i j z at None h = (refl, tt)
     moved i j z at (Some b) h =
-        let sets : (set : ℕ) → far.set (j ∷ (z ++ root)) set ≡ near.set (j ∷ z) set = λ set. rw (set_alike set j z (k ∷ q)) refl in
-        (ap Some (through-seen see Seen (λ peer. false) near far (following-alike (k ∷ q) (slot ∷ q)) (j ∷ z) (j ∷ (z ++ root)) sets b h (nobody_hit b)),
-        through-kept see Seen (λ peer. false) near far (following-alike (k ∷ q) (slot ∷ q)) (j ∷ z) (j ∷ (z ++ root)) sets b h (nobody_hit b))
+        let sets : (set : ℕ) → far.set (j ∷ (z ++ root)) set ≡ near.set (j ∷ z) set = λ set. rw (set_alike set j z (k ∷ q)) refl in (
+          ap Some (through-seen see Seen (λ peer. false) near far (following-alike (k ∷ q) (slot ∷ q)) (j ∷ z) (j ∷ (z ++ root)) sets b h (nobody_hit b)),
+          through-kept see Seen (λ peer. false) near far (following-alike (k ∷ q) (slot ∷ q)) (j ∷ z) (j ∷ (z ++ root)) sets b h (nobody_hit b),
+        )
 
     moved_from : (i j : ℕ) (z there : Path) → (shown (j ∷ z) (option_map (through far (j ∷ (z ++ root))) (big.body (i ∷ (there ++ root)))) ≡ option_map (through near (j ∷ z)) (small.body (i ∷ there)))
         × IfSome (option_map (through far (j ∷ (z ++ root))) (big.body (i ∷ (there ++ root)))) (IsPlainBody see Seen)

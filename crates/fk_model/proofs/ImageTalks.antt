@@ -1,22 +1,17 @@
 -- Threads, and their talks and faults, are read alike in an image.
-use Rattle.std.proofs.Common.{◌≡◌, ℕ, zero, Bool, true, false, cond, not, ◌&&◌, eqb, List, [], ◌∷◌, ◌++◌, Option, Some, None, IfSome, is_some, option_map, Result, Ok, Err, refl, sym, ap, ◌∙◌}
-use Rattle.std.proofs.lemmas.Bool.{and_left, and_right}
+use Rattle.std.proofs.Common.{◌≡◌, ℕ, Bool, true, false, [], ◌∷◌, ◌++◌, Option, Some, None, IfSome, option_map, refl}
 use Rattle.fk_model.specs.declared.names.Kind.TheVariants as kinds
-use Rattle.fk_model.specs.declared.stage.Stage.{Stage}
-use Rattle.fk_model.specs.declared.stage.Stage.TheVariants.{Connect}
 use Rattle.fk_model.specs.declared.thread.Turn.TheVariants as turns
-use Rattle.fk_model.specs.Places.{Path, same_path, strip, is_within, parent, slot_of, Ptr}
-use Rattle.fk_model.specs.Places.Ptr.{Null, Dead, At, Out, Outside, Far}
-use Rattle.fk_model.specs.Objects.{Mode, Peer, Talk, Fault, Thread, Body, kind_of, port_of, thread_of, and_then, or_else, holds}
+use Rattle.fk_model.specs.Places.{Path, Ptr}
+use Rattle.fk_model.specs.Places.Ptr.{At}
+use Rattle.fk_model.specs.Objects.{Peer, Talk, Fault, Thread, Body, kind_of, thread_of, and_then}
 use Rattle.fk_model.specs.Objects.Peer.{Server, Service, Parked}
-use Rattle.fk_model.specs.Objects.Body.{Mutex, Cond, Mapping, Region, Port, Portset, Space, Thread_of, Reference}
+use Rattle.fk_model.specs.Objects.Body.{Thread_of}
 use Rattle.fk_model.specs.World.{World}
 use Rattle.fk_model.specs.Searches.{talk_at, fault_at, client_of}
-use Rattle.fk_model.specs.Holds.{is_frozen, is_unheld}
-use Rattle.fk_model.specs.Readers.{kind_at}
-use Rattle.fk_model.specs.Talks.{Line, line_from, line, path_to, thread_at, is_service_free}
+use Rattle.fk_model.specs.Talks.{line_from, line, path_to, thread_at}
 use Rattle.fk_model.specs.Cut.{is_out, seen_by, unheld}
-use Rattle.fk_model.specs.Image.{seeing, seen_peer, seen_talk, seen_fault, seen_thread, PtrImage, IsSeen, IfServer, AllInTalk, AllInFault, IsPlainBody, IsImage, AlikeOptions, IsBeneath, IsOuter, IsApart, IsSeenTalk, IsSeenFault, IsSeenThread, PeerImage, EndImage, LineImage}
+use Rattle.fk_model.specs.Image.{seeing, seen_peer, PtrImage, IsSeen, IfServer, AllInTalk, AllInFault, IsPlainBody, IsImage, AlikeOptions, IsBeneath, IsOuter, IsApart, IsSeenTalk, IsSeenFault, IsSeenThread, PeerImage, EndImage, LineImage}
 use Rattle.fk_model.specs.Image.PtrImage.{Nulls, Deads, Inside, PortAt, PortOut}
 use Rattle.fk_model.specs.Image.PeerImage.{Outsiders, Servers, Services, Waiters}
 use Rattle.fk_model.specs.Image.EndImage.{Ends}

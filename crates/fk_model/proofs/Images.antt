@@ -1,21 +1,20 @@
 -- The cut of a plain subtree is an image of its world, and a rebinding of an image is one.
-use Rattle.std.proofs.Common.{◌≡◌, ℕ, zero, Bool, true, false, cond, not, ◌&&◌, ◌||◌, eqb, List, [], ◌∷◌, ◌++◌, Option, Some, None, IfSome, is_some, option_map, refl, sym, ap, subst, ◌∙◌, append-nil}
+use Rattle.std.proofs.Common.{◌≡◌, ℕ, Bool, true, false, cond, not, ◌&&◌, eqb, [], ◌∷◌, ◌++◌, Option, Some, None, IfSome, is_some, option_map, refl, sym, ap, subst, ◌∙◌, append-nil}
 use Rattle.std.specs.List.{list_any}
 use Rattle.std.proofs.lemmas.List.Folds.{list_any-append}
 use Rattle.std.proofs.lemmas.Bool.{and_parts}
 use Rattle.fk_model.specs.declared.names.Kind.TheVariants as kinds
-use Rattle.fk_model.specs.Places.{Path, same_path, strip, is_within, Ptr}
+use Rattle.fk_model.specs.Places.{Path, same_path, strip, Ptr}
 use Rattle.fk_model.specs.Places.Ptr.{Null, Dead, At, Out, Outside, Far}
-use Rattle.fk_model.specs.Objects.{Peer, Talk, Fault, Thread, Body, kind_of, port_of, and_then, holds}
+use Rattle.fk_model.specs.Objects.{Peer, Talk, Fault, Body, kind_of, and_then, holds}
 use Rattle.fk_model.specs.Objects.Peer.{Server, Service, Parked}
 use Rattle.fk_model.specs.Objects.Body.{Mutex, Cond, Mapping, Region, Port, Portset, Space, Thread_of, Reference}
 use Rattle.fk_model.specs.World.{World, through}
-use Rattle.fk_model.specs.Searches.{pointers, option_list, peer_pointer, talk_pointers, fault_pointers}
+use Rattle.fk_model.specs.Searches.{option_list, peer_pointer, talk_pointers, fault_pointers}
 use Rattle.fk_model.specs.StateRows.{is_native}
-use Rattle.fk_model.specs.Readers.{kind_at}
 use Rattle.fk_model.specs.Valid.{kind_there}
-use Rattle.fk_model.specs.Cut.{is_port, ports_of, cut_out, cut_to, cut_ptr, is_out, cutting, seen_by, unheld, cut, is_far, has_far, is_served, IsPlain}
-use Rattle.fk_model.specs.Image.{seeing, seen_peer, seen_talk, seen_fault, PtrImage, IsSeen, IfServer, AllInTalk, AllInFault, IsPlainBody, IsImage, IsCutWorld}
+use Rattle.fk_model.specs.Cut.{is_port, ports_of, cut_out, cut_to, cut_ptr, is_out, seen_by, unheld, cut, is_far, has_far, is_served, IsPlain}
+use Rattle.fk_model.specs.Image.{seeing, seen_peer, PtrImage, IsSeen, IfServer, AllInTalk, AllInFault, IsPlainBody, IsImage, IsCutWorld}
 use Rattle.fk_model.specs.Image.PtrImage.{Nulls, Deads, Inside, PortAt, PortOut}
 use Rattle.fk_model.specs.Rebind.{rebound_ptr, rebound_peer, rebinding, rebound}
 use Rattle.fk_model.proofs.FrameLaws.{or_off}

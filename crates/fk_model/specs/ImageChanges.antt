@@ -1,7 +1,7 @@
 -- Changes in an image: which change of the small world stands for which of the big one, and which outcomes are alike.
-use Rattle.std.specs.Prelude.{◌≡◌, ℕ, Bool, true, false, List, [], ◌∷◌, ◌++◌, Option, Some, None, IfSome, option_map}
+use Rattle.std.specs.Prelude.{◌≡◌, ℕ, Bool, true, false, List, [], ◌∷◌, ◌++◌, Option, IfSome, option_map}
 use Rattle.fk_model.specs.Places.{Path, is_within, Ptr}
-use Rattle.fk_model.specs.Objects.{Peer, Talk, Fault, Body, and_then}
+use Rattle.fk_model.specs.Objects.{Body, and_then}
 use Rattle.fk_model.specs.World.{World, Change, Edit, apply}
 use Rattle.fk_model.specs.World.Change.{Alter, Make, MakeSpace, Kill, Move, PutPage, DropPage}
 use Rattle.fk_model.specs.World.Edit.{Proceed, SetPointer, SetHolder, SetTalk, SetPeer, SetFault, SetTaker}

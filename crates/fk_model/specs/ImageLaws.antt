@@ -1,5 +1,5 @@
 -- Laws of images, as statements that are proved.
-use Rattle.std.specs.Prelude.{◌≡◌, ℕ, zero, Bool, false, List, [], ◌∷◌, ◌++◌, map, Option, Some, None, option_map}
+use Rattle.std.specs.Prelude.{◌≡◌, ℕ, Bool, false, List, [], ◌∷◌, ◌++◌, map}
 use Rattle.fk_model.specs.declared.names.Kind.{Kind}
 use Rattle.fk_model.specs.declared.thread.Turn.TheVariants as turns
 use Rattle.fk_model.specs.Places.{Path, is_within, Ptr}
@@ -15,7 +15,7 @@ use Rattle.fk_model.specs.SpaceRows.{next_page}
 use Rattle.fk_model.specs.SyncRows.{mutex_lock}
 use Rattle.fk_model.specs.LinkRows.{candidate}
 use Rattle.fk_model.specs.Cut.{ports_of, cut_ptr, cut, is_served_by, IsPlain}
-use Rattle.fk_model.specs.Image.{seen_thread, PtrImage, IsImage, IsCutWorld, IsApart, IsServedAlike, under, AlikeResults, AlikeOptions, IsBeneath, IsSeenAs, IsSeenHandle, IsSeenBody, IsSeenThread, IsSeenWindow, IsSeenExtent, IsSeenTalk, IsSeenFault, ReachImage, EndImage, LineImage, CandidateImage}
+use Rattle.fk_model.specs.Image.{seen_thread, PtrImage, IsImage, IsCutWorld, IsServedAlike, under, AlikeResults, AlikeOptions, IsBeneath, IsSeenAs, IsSeenHandle, IsSeenBody, IsSeenThread, IsSeenWindow, IsSeenExtent, IsSeenTalk, IsSeenFault, ReachImage, EndImage, LineImage, CandidateImage}
 use Rattle.fk_model.specs.ImageChanges.{ImageChanges, IsImageOutcome}
 use Rattle.fk_model.specs.Rebind.{rebound_ptr, rebound}
 
