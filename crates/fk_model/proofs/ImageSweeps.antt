@@ -95,7 +95,7 @@ module _ {root : Path} {see : Ptr → Ptr} {small big : World} (image : IsImage 
   -- ---- the death of what stands at x
 
   module _ (x : Path) where
-    serves_alike : (out : Bool) (peer : Peer) → IfServer out peer Seen → (out ≡ true → serves (x ++ root) peer ≡ false) → serves x (seen_peer see out peer) ≡ serves (x ++ root) peer
+    pub serves_alike : (out : Bool) (peer : Peer) → IfServer out peer Seen → (out ≡ true → serves (x ++ root) peer ≡ false) → serves x (seen_peer see out peer) ≡ serves (x ++ root) peer
     serves_alike true peer h apart = sym (apart refl)
     serves_alike false (Server thread) h apart = leads_alike x thread h
     serves_alike false Service h apart = refl
@@ -158,11 +158,11 @@ module _ {root : Path} {see : Ptr → Ptr} {small big : World} (image : IsImage 
     where
       of_talk : (o : Option Talk) → talk_at big (k ∷ (q ++ root)) ≡ o → IfSome o (λ talk. is_out (see talk.port) ≡ true → serves (x ++ root) talk.peer ≡ false)
       of_talk None here = tt
-      of_talk (Some talk) here = apart.talks k q x talk here
+      of_talk (Some talk) here = λ out. apart.talks k q talk here out x
 
       of_taker : (fault : Fault) (o : Option Peer) → fault_at big (k ∷ (q ++ root)) ≡ Some fault → fault.taker ≡ o → IfSome o (λ taker. is_out (see fault.port) ≡ true → serves (x ++ root) taker ≡ false)
       of_taker fault None here by = tt
-      of_taker fault (Some taker) here by = λ out. apart.faults k q x fault taker here out by
+      of_taker fault (Some taker) here by = λ out. apart.faults k q fault taker here out by x
 
       of_fault : (o : Option Fault) → fault_at big (k ∷ (q ++ root)) ≡ o → IfSome o (λ fault. IfSome fault.taker (λ taker. is_out (see fault.port) ≡ true → serves (x ++ root) taker ≡ false))
       of_fault None here = tt

@@ -16,7 +16,7 @@ use Rattle.fk_model.specs.Holds.{is_frozen, is_unheld}
 use Rattle.fk_model.specs.Readers.{kind_at}
 use Rattle.fk_model.specs.Talks.{Line, line_from, line, path_to, thread_at, is_service_free}
 use Rattle.fk_model.specs.Cut.{is_out, seen_by, unheld}
-use Rattle.fk_model.specs.Image.{seeing, seen_peer, seen_talk, seen_fault, seen_thread, PtrImage, IsSeen, IfServer, AllInTalk, AllInFault, AllInBody, IsImage, AlikeOptions, IsBeneath, IsSeenTalk, IsSeenFault, IsSeenThread, PeerImage, EndImage, LineImage}
+use Rattle.fk_model.specs.Image.{seeing, seen_peer, seen_talk, seen_fault, seen_thread, PtrImage, IsSeen, IfServer, AllInTalk, AllInFault, AllInBody, IsImage, AlikeOptions, IsBeneath, IsOuter, IsApart, IsSeenTalk, IsSeenFault, IsSeenThread, PeerImage, EndImage, LineImage}
 use Rattle.fk_model.specs.Image.PtrImage.{Nulls, Deads, Inside, PortAt, PortOut}
 use Rattle.fk_model.specs.Image.PeerImage.{Outsiders, Servers, Services, Waiters}
 use Rattle.fk_model.specs.Image.EndImage.{Ends}
@@ -79,20 +79,20 @@ module _ {root : Path} {see : Ptr → Ptr} {small big : World} (image : IsImage 
 
   -- ---- lines
 
-  pub peer-image : (out : Bool) (peer : Peer) → IfServer out peer (IsSeen root see big) → PeerImage root see big peer (seen_peer see out peer)
-  peer-image true peer h = Outsiders peer
-  peer-image false (Server thread) h = Servers thread h
-  peer-image false Service h = Services
-  peer-image false Parked h = Waiters
+  pub peer-image : (out : Bool) (peer : Peer) → IfServer out peer (IsSeen root see big) → (out ≡ true → IsOuter root peer) → PeerImage root see big peer (seen_peer see out peer)
+  peer-image true peer h outer = Outsiders peer (outer refl)
+  peer-image false (Server thread) h outer = Servers thread h
+  peer-image false Service h outer = Services
+  peer-image false Parked h outer = Waiters
 
   -- of the client
-  pub line_client-image : (k : ℕ) (q : Path) → AlikeOptions (LineImage root see big) (line small (k ∷ q) turns.Client) (line big (k ∷ (q ++ root)) turns.Client)
+  pub line_client-image : IsApart root see big → (k : ℕ) (q : Path) → AlikeOptions (LineImage root see big) (line small (k ∷ q) turns.Client) (line big (k ∷ (q ++ root)) turns.Client)
   unfolding line
-  line_client-image k q = by (talk_at small (k ∷ q)) (talk_at big (k ∷ (q ++ root))) refl (talk_at-image (k ∷ q))
+  line_client-image apart k q = by (talk_at small (k ∷ q)) (talk_at big (k ∷ (q ++ root))) refl (talk_at-image (k ∷ q))
     where
       by : (o p : Option Talk) → talk_at big (k ∷ (q ++ root)) ≡ p → AlikeOptions (IsSeenTalk root see big) o p → AlikeOptions (LineImage root see big) (line_from (k ∷ q) (λ talk. talk.peer) o) (line_from (k ∷ (q ++ root)) (λ talk. talk.peer) p)
       by None None is h = tt
-      by (Some seen) (Some talk) is h = rw h.0 (Lines k q talk talk.peer _ is h.1 (peer-image (is_out (see talk.port)) talk.peer h.1.1))
+      by (Some seen) (Some talk) is h = rw h.0 (Lines k q talk talk.peer _ is h.1 (peer-image (is_out (see talk.port)) talk.peer h.1.1 (apart.talks k q talk is)))
       by None (Some talk) is h = absurd h
       by (Some seen) None is h = absurd h
 

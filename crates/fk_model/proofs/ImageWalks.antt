@@ -67,11 +67,11 @@ way_to-image root big space _ _ (PortOut old slot) = refl
 
 -- ---- lists
 
-map-flat_map : {X A B : Type 0} (f : A → B) (g : X → List A) (xs : List X) → map f (flat_map g xs) ≡ flat_map (λ x. map f (g x)) xs
+pub map-flat_map : {X A B : Type 0} (f : A → B) (g : X → List A) (xs : List X) → map f (flat_map g xs) ≡ flat_map (λ x. map f (g x)) xs
 map-flat_map f g [] = refl
 map-flat_map f g (x ∷ xs) = map-append f (g x) (flat_map g xs) ∙ ap (λ (ys : List _). map f (g x) ++ ys) (map-flat_map f g xs)
 
-list_any-flat_map : {X A : Type 0} (f : A → Bool) (g : X → List A) (xs : List X) → list_any f (flat_map g xs) ≡ list_any (λ x. list_any f (g x)) xs
+pub list_any-flat_map : {X A : Type 0} (f : A → Bool) (g : X → List A) (xs : List X) → list_any f (flat_map g xs) ≡ list_any (λ x. list_any f (g x)) xs
 list_any-flat_map f g [] = refl
 list_any-flat_map f g (x ∷ xs) = list_any-append f (g x) (flat_map g xs) ∙ ap (λ (b : Bool). list_any f (g x) || b) (list_any-flat_map f g xs)
 

@@ -117,10 +117,14 @@ pub record IsImage (root : Path) (see : Ptr → Ptr) (small big : World) : Type 
 abbrev pub IsCutWorld : World → Type 0
 IsCutWorld c = IsImage [] (λ p. p) c c
 
+-- a peer is nobody inside
+abbrev pub IsOuter : Path → Peer → Type 0
+IsOuter root peer = (x : Path) → serves (x ++ root) peer ≡ false
+
 -- nobody inside is the peer of a talk at a port outside, or has taken a fault there
 pub record IsApart (root : Path) (see : Ptr → Ptr) (big : World) : Type 0 where
-  pub talks : (k : ℕ) (q x : Path) (talk : Talk) → talk_at big (k ∷ (q ++ root)) ≡ Some talk → is_out (see talk.port) ≡ true → serves (x ++ root) talk.peer ≡ false
-  pub faults : (k : ℕ) (q x : Path) (fault : Fault) (taker : Peer) → fault_at big (k ∷ (q ++ root)) ≡ Some fault → is_out (see fault.port) ≡ true → fault.taker ≡ Some taker → serves (x ++ root) taker ≡ false
+  pub talks : (k : ℕ) (q : Path) (talk : Talk) → talk_at big (k ∷ (q ++ root)) ≡ Some talk → is_out (see talk.port) ≡ true → IsOuter root talk.peer
+  pub faults : (k : ℕ) (q : Path) (fault : Fault) (taker : Peer) → fault_at big (k ∷ (q ++ root)) ≡ Some fault → is_out (see fault.port) ≡ true → fault.taker ≡ Some taker → IsOuter root taker
 
 -- ---- what is read alike
 
@@ -192,7 +196,7 @@ IsSeenFault root see big seen fault = (seen ≡ seen_fault see fault) × AllInFa
 -- a peer of the big world, and what it is seen as
 pub data PeerImage (root : Path) (see : Ptr → Ptr) (big : World) : Peer → Peer → Type 0 where
   -- who is at a port outside
-  Outsiders : (peer : Peer) → PeerImage root see big peer (Server Outside)
+  Outsiders : (peer : Peer) → IsOuter root peer → PeerImage root see big peer (Server Outside)
   Servers : (thread : Ptr) → IsSeen root see big thread → PeerImage root see big (Server thread) (Server (see thread))
   Services : PeerImage root see big Service Service
   Waiters : PeerImage root see big Parked Parked
