@@ -7,7 +7,7 @@ use Rattle.fk_model.specs.World.{World}
 use Rattle.fk_model.specs.Holds.{holder_of, decider, is_frozen, is_frozen_for, is_decided_by, leads_to_frozen, is_user, is_free, is_unheld}
 use Rattle.fk_model.specs.SpaceRows.{is_held_by_other}
 use Rattle.fk_model.specs.Cut.{seen_by, unheld}
-use Rattle.fk_model.specs.Image.{seeing, seen_thread, PtrImage, IsSeen, IsPlainBody, IsImage, AlikeOptions, IsSeenAs}
+use Rattle.fk_model.specs.Image.{seeing, seen_thread, PtrImage, HasImage, IsPlainBody, IsImage, AlikeOptions, IsSeenAs}
 use Rattle.fk_model.specs.Image.PtrImage.{Nulls, Deads, Inside, PortAt, PortOut}
 use Rattle.fk_model.proofs.PlaceLaws.{same_path_sym, same_path_cancel, same_path_outside}
 use Rattle.fk_model.proofs.Alike.{alike_or_else, alike-is_some, alike-holds}
@@ -63,7 +63,7 @@ module _ {root : Path} {see : Ptr → Ptr} {small big : World} (image : IsImage 
   unfolding seen_by
   holder_of-image k q = rw (image.bodies (k ∷ q)) (by (big.body (k ∷ (q ++ root))) (image.plain k q))
     where
-      by : (v : Option Body) → IfSome v (IsPlainBody see (IsSeen root see big)) → AlikeOptions (IsSeenAs root see big) (holder_of (option_map (λ b. unheld (k ∷ q) (seen_by (seeing see) b)) v)) (holder_of v)
+      by : (v : Option Body) → IfSome v (IsPlainBody see (HasImage root see big)) → AlikeOptions (IsSeenAs root see big) (holder_of (option_map (λ b. unheld (k ∷ q) (seen_by (seeing see) b)) v)) (holder_of v)
       by (Some (Space birth (Some holder))) h = (refl, h)
       by (Some (Space birth None)) h = tt
       by (Some b) h = tt

@@ -1,5 +1,5 @@
 -- The laws of images.
-use Rattle.fk_model.specs.ImageLaws.{CutIsImage, ImageIsCutWorld, RebindingIsImage, ImageReadsAlike, ImageHoldsAlike, ImageServesAlike, LockActsAlike, ImageStays, CutChangesAlike, PlainStays}
+use Rattle.fk_model.specs.ImageLaws.{CutIsImage, CutIsServedAlike, ImageIsCutWorld, RebindingIsImage, ImageReadsAlike, ImageHoldsAlike, ImageServesAlike, LockActsAlike, ImageStays, CutChangesAlike, PlainStays}
 use Rattle.fk_model.proofs.Images.{cut-image, image-cut_world, rebind-image}
 use Rattle.fk_model.proofs.ImageReads.{anything_in-image, kind_at-image, handle-image, place-image, referred-image}
 use Rattle.fk_model.proofs.ImageMemory.{mapping_at-image, region_at-image, keeper-image, reach-image, next_page-image}
@@ -7,12 +7,15 @@ use Rattle.fk_model.proofs.ImageHolds.{decider-image, is_frozen-image, is_frozen
 use Rattle.fk_model.proofs.ImageTalks.{thread_there-image, talk_at-image, fault_at-image, thread_at-image, line_client-image, line_server-image}
 use Rattle.fk_model.proofs.ImageWaits.{candidate-image}
 use Rattle.fk_model.proofs.ImageWalks.{residents-image, beneath-image, leaf-image}
-use Rattle.fk_model.proofs.ImageServers.{client_of-image, faulter_of-image}
+use Rattle.fk_model.proofs.ImageServers.{client_of-image, faulter_of-image, cut-served}
 use Rattle.fk_model.proofs.ImageRows.{mutex_lock-image}
 use Rattle.fk_model.proofs.ImageRuns.{changes-image, cut-changes, plain-changes}
 
 pub cut_is_image : CutIsImage
 cut_is_image w nester slot plain = cut-image w nester slot plain
+
+pub cut_is_served_alike : CutIsServedAlike
+cut_is_served_alike w nester slot valid few plain = cut-served w nester slot valid plain few
 
 pub image_is_cut_world : ImageIsCutWorld
 image_is_cut_world root see small big image = image-cut_world image

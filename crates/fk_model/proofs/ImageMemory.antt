@@ -12,7 +12,7 @@ use Rattle.fk_model.specs.Reach.Reach.{Missing, Bad}
 use Rattle.fk_model.specs.SpaceRows.{next_page}
 use Rattle.fk_model.specs.Valid.{kind_there}
 use Rattle.fk_model.specs.Cut.{seen_by, unheld}
-use Rattle.fk_model.specs.Image.{seeing, seen_window, seen_extent, PtrImage, IsSeen, IsPlainBody, IsImage, AlikeOptions, IsSeenAs, IsSeenWindow, IsSeenExtent, IsSeenPlace, ReachImage}
+use Rattle.fk_model.specs.Image.{seeing, seen_window, seen_extent, PtrImage, HasImage, IsPlainBody, IsImage, AlikeOptions, IsSeenAs, IsSeenWindow, IsSeenExtent, IsSeenPlace, ReachImage}
 use Rattle.fk_model.specs.Image.PtrImage.{Nulls, Deads, Inside, PortAt, PortOut}
 use Rattle.fk_model.specs.Image.ReachImage.{Homes, Misses, Bads}
 use Rattle.fk_model.proofs.Alike.{alike_and_then, alike_cond, alike_lowest}
@@ -43,7 +43,7 @@ module _ {root : Path} {see : Ptr → Ptr} {small big : World} (image : IsImage 
   unfolding mapping_at seen_by
   mapping_at-image q page = alike_lowest (IsSeenWindow root see big) SLOTS _ _ (λ k. rw (image.bodies (k ∷ q)) (by k (big.body (k ∷ (q ++ root))) (image.plain k q)))
     where
-      by : (k : ℕ) (v : Option Body) → IfSome v (IsPlainBody see (IsSeen root see big)) →
+      by : (k : ℕ) (v : Option Body) → IfSome v (IsPlainBody see (HasImage root see big)) →
           AlikeOptions (IsSeenWindow root see big) (and_then (λ (m : Window). cond (covers m.first m.count page) (Some m) None) (and_then mapping_of (option_map (λ b. unheld (k ∷ q) (seen_by (seeing see) b)) v)))
           (and_then (λ (m : Window). cond (covers m.first m.count page) (Some m) None) (and_then mapping_of v))
       by k (Some (Mapping m)) h = alike_cond (IsSeenWindow root see big) (covers m.first m.count page) (seen_window see m) m (refl, h)
@@ -54,7 +54,7 @@ module _ {root : Path} {see : Ptr → Ptr} {small big : World} (image : IsImage 
   unfolding seen_by
   region-alike k q = rw (image.bodies (k ∷ q)) (by (big.body (k ∷ (q ++ root))) (image.plain k q))
     where
-      by : (v : Option Body) → IfSome v (IsPlainBody see (IsSeen root see big)) → AlikeOptions (IsSeenExtent root see big) (and_then region_of (option_map (λ b. unheld (k ∷ q) (seen_by (seeing see) b)) v)) (and_then region_of v)
+      by : (v : Option Body) → IfSome v (IsPlainBody see (HasImage root see big)) → AlikeOptions (IsSeenExtent root see big) (and_then region_of (option_map (λ b. unheld (k ∷ q) (seen_by (seeing see) b)) v)) (and_then region_of v)
       by (Some (Region r)) h = (refl, h)
       by (Some b) h = tt
       by None h = tt
@@ -95,7 +95,7 @@ module _ {root : Path} {see : Ptr → Ptr} {small big : World} (image : IsImage 
   at_home-image home away near far (Some words) h g = h
 
   mapped-image : (go : Window → Reach) (on : Window → Reach) (missing lost : Reach) (o p : Option Window) → AlikeOptions (IsSeenWindow root see big) o p →
-      ((m : Window) → IsSeen root see big m.region → ReachImage root see big (go (seen_window see m)) (on m)) → ReachImage root see big missing lost →
+      ((m : Window) → HasImage root see big m.region → ReachImage root see big (go (seen_window see m)) (on m)) → ReachImage root see big missing lost →
       ReachImage root see big (mapped go missing o) (mapped on lost p)
   mapped-image go on missing lost None None h f g = g
   mapped-image go on missing lost (Some seen) (Some m) h f g = rw h.0 (f m h.1)

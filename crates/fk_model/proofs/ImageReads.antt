@@ -15,7 +15,7 @@ use Rattle.fk_model.specs.SyncRows.{cond_of}
 use Rattle.fk_model.specs.LinkRows.{portset_of}
 use Rattle.fk_model.specs.Valid.{kind_there}
 use Rattle.fk_model.specs.Cut.{seen_by, unheld}
-use Rattle.fk_model.specs.Image.{seeing, seen_thread, seen_window, seen_extent, PtrImage, IsSeen, IsPlainBody, IsImage, under, AlikeResults, AlikeOptions, IsBeneath, IsSeenAs, IsSeenHandle, IsSeenBody, IsSeenThread, IsSeenHolder}
+use Rattle.fk_model.specs.Image.{seeing, seen_thread, seen_window, seen_extent, PtrImage, HasImage, IsPlainBody, IsImage, under, AlikeResults, AlikeOptions, IsBeneath, IsSeenAs, IsSeenHandle, IsSeenBody, IsSeenThread, IsSeenHolder}
 use Rattle.fk_model.specs.Image.PtrImage.{Nulls, Deads, Inside, PortAt, PortOut}
 use Rattle.fk_model.proofs.Alike.{alike_same, alike_or_refuse, alike_and_read, alike_if}
 
@@ -89,12 +89,12 @@ module _ {root : Path} {see : Ptr → Ptr} {small big : World} (image : IsImage 
       by false = refl
 
   pub object_in-image : {A B : Type 0} (R : A → B → Type 0) (view : Body → Option A) (view_big : Body → Option B) →
-      ((b : Body) → IsPlainBody see (IsSeen root see big) b → AlikeOptions R (view (seen_by (seeing see) b)) (view_big b)) →
+      ((b : Body) → IsPlainBody see (HasImage root see big) b → AlikeOptions R (view (seen_by (seeing see) b)) (view_big b)) →
       (c : Caller) (s : Path) (k : ℕ) → AlikeResults R (object_in small c view s k) (object_in big (under root c) view_big (s ++ root) k)
   unfolding object_in
   object_in-image R view view_big alike c s k = slot_for-image R c k _ _ (λ k. rw (image.bodies (k ∷ s)) (by k (big.body (k ∷ (s ++ root))) (image.plain k s)))
     where
-      by : (k : ℕ) (v : Option Body) → IfSome v (IsPlainBody see (IsSeen root see big)) → AlikeResults R (seen_as view (option_map (λ b. unheld (k ∷ s) (seen_by (seeing see) b)) v)) (seen_as view_big v)
+      by : (k : ℕ) (v : Option Body) → IfSome v (IsPlainBody see (HasImage root see big)) → AlikeResults R (seen_as view (option_map (λ b. unheld (k ∷ s) (seen_by (seeing see) b)) v)) (seen_as view_big v)
       by k None h = refl
       by k (Some b) h = alike_or_refuse R WRONGKIND (view (seen_by (seeing see) b)) (view_big b) (alike b h)
 
@@ -133,7 +133,7 @@ module _ {root : Path} {see : Ptr → Ptr} {small big : World} (image : IsImage 
       rw port (alike_if (IsSeenHandle root see big wanted) _ WRONGKIND (Out slot) (At x) (λ h. (e, rw (← e) (PortAt x slot apart port), ap (is_kind wanted) port ∙ h)))
   led_to-image wanted _ _ (PortOut old slot) e = alike_if (IsSeenHandle root see big wanted) _ WRONGKIND (Out slot) (Out old) (λ h. (e, rw (← e) (PortOut old slot), h))
 
-  handled-image : (wanted : Kind) (k : ℕ) (s : Path) (v : Option Body) → big.body (k ∷ (s ++ root)) ≡ v → IfSome v (IsPlainBody see (IsSeen root see big)) →
+  handled-image : (wanted : Kind) (k : ℕ) (s : Path) (v : Option Body) → big.body (k ∷ (s ++ root)) ≡ v → IfSome v (IsPlainBody see (HasImage root see big)) →
       AlikeResults (IsSeenHandle root see big wanted) (handled small wanted (k ∷ s) (option_map (λ b. unheld (k ∷ s) (seen_by (seeing see) b)) v)) (handled big wanted (k ∷ (s ++ root)) v)
   unfolding seen_by
   handled-image wanted k s None is h = refl
@@ -174,7 +174,7 @@ module _ {root : Path} {see : Ptr → Ptr} {small big : World} (image : IsImage 
   pub anything_in-image : (c : Caller) (s : Path) (k : ℕ) → AlikeResults (IsSeenBody root see big) (object_in small c anything s k) (object_in big (under root c) anything (s ++ root) k)
   anything_in-image c s k = object_in-image (IsSeenBody root see big) anything anything (λ b h. (refl, h)) c s k
 
-  reference-alike : (b : Body) → IsPlainBody see (IsSeen root see big) b → AlikeOptions (IsSeenAs root see big) (reference_of (seen_by (seeing see) b)) (reference_of b)
+  reference-alike : (b : Body) → IsPlainBody see (HasImage root see big) b → AlikeOptions (IsSeenAs root see big) (reference_of (seen_by (seeing see) b)) (reference_of b)
   unfolding seen_by
   reference-alike (Reference to) h = (refl, h)
   reference-alike b h = tt
@@ -182,7 +182,7 @@ module _ {root : Path} {see : Ptr → Ptr} {small big : World} (image : IsImage 
   pub reference_in-image : (c : Caller) (s : Path) (k : ℕ) → AlikeResults (IsSeenAs root see big) (object_in small c reference_of s k) (object_in big (under root c) reference_of (s ++ root) k)
   reference_in-image c s k = object_in-image (IsSeenAs root see big) reference_of reference_of reference-alike c s k
 
-  thread-alike : (b : Body) → IsPlainBody see (IsSeen root see big) b → AlikeOptions (IsSeenThread root see big) (thread_of (seen_by (seeing see) b)) (thread_of b)
+  thread-alike : (b : Body) → IsPlainBody see (HasImage root see big) b → AlikeOptions (IsSeenThread root see big) (thread_of (seen_by (seeing see) b)) (thread_of b)
   unfolding seen_by
   thread-alike (Thread_of t) h = (refl, h)
   thread-alike b h = tt
@@ -190,7 +190,7 @@ module _ {root : Path} {see : Ptr → Ptr} {small big : World} (image : IsImage 
   pub thread_in-image : (c : Caller) (s : Path) (k : ℕ) → AlikeResults (IsSeenThread root see big) (object_in small c thread_of s k) (object_in big (under root c) thread_of (s ++ root) k)
   thread_in-image c s k = object_in-image (IsSeenThread root see big) thread_of thread_of thread-alike c s k
 
-  space-alike : (b : Body) → IsPlainBody see (IsSeen root see big) b → AlikeOptions (IsSeenHolder root see big) (space_of (seen_by (seeing see) b)) (space_of b)
+  space-alike : (b : Body) → IsPlainBody see (HasImage root see big) b → AlikeOptions (IsSeenHolder root see big) (space_of (seen_by (seeing see) b)) (space_of b)
   unfolding seen_by
   space-alike (Space birth holder) h = (refl, h)
   space-alike b h = tt
@@ -198,7 +198,7 @@ module _ {root : Path} {see : Ptr → Ptr} {small big : World} (image : IsImage 
   pub space_in-image : (c : Caller) (s : Path) (k : ℕ) → AlikeResults (IsSeenHolder root see big) (object_in small c space_of s k) (object_in big (under root c) space_of (s ++ root) k)
   space_in-image c s k = object_in-image (IsSeenHolder root see big) space_of space_of space-alike c s k
 
-  port-alike : (b : Body) → IsPlainBody see (IsSeen root see big) b → AlikeOptions ◌≡◌ (port_of (seen_by (seeing see) b)) (port_of b)
+  port-alike : (b : Body) → IsPlainBody see (HasImage root see big) b → AlikeOptions ◌≡◌ (port_of (seen_by (seeing see) b)) (port_of b)
   unfolding seen_by
   port-alike (Port None served) h = rw h refl
   port-alike (Port (Some set) served) h = rw h refl

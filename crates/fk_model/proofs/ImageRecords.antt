@@ -9,7 +9,7 @@ use Rattle.fk_model.specs.Records.{state_words, record_of, talk_words, fault_wor
 use Rattle.fk_model.specs.StateRows.{field_number, held_kinds, is_native, is_inner}
 use Rattle.fk_model.specs.StateRows.Field.{Pointer}
 use Rattle.fk_model.specs.Cut.{seen_by, unheld}
-use Rattle.fk_model.specs.Image.{seeing, PtrImage, IsSeen, IsPlainBody, IsImage}
+use Rattle.fk_model.specs.Image.{seeing, PtrImage, HasImage, IsPlainBody, IsImage}
 use Rattle.fk_model.specs.Image.PtrImage.{Nulls, Deads, Inside, PortAt, PortOut}
 
 module _ (see : Ptr → Ptr) where
@@ -86,12 +86,12 @@ module _ {root : Path} {see : Ptr → Ptr} {small big : World} (image : IsImage 
   member_word-image : (space : Path) (served : Bool) (n : ℕ) → served ≡ false → is_member_word small space false n ≡ is_member_word big (space ++ root) served n
   member_word-image space served n h = rw (h, portset-image (n - 1) space) refl
 
-  state-image : (space : Path) (b : Body) (words : List ℕ) → IsPlainBody see (IsSeen root see big) b → is_state small space (seen_by (seeing see) b) words ≡ is_state big (space ++ root) b words
+  state-image : (space : Path) (b : Body) (words : List ℕ) → IsPlainBody see (HasImage root see big) b → is_state small space (seen_by (seeing see) b) words ≡ is_state big (space ++ root) b words
   unfolding seen_by
   state-image space (Port set served) words h = member_word-image space served (word words 1) h
   state-image space b words h = refl
 
   -- an object takes the same records
-  pub takes_state-image : (space : Path) (b : Body) (words : List ℕ) → IsPlainBody see (IsSeen root see big) b → takes_state small space (seen_by (seeing see) b) words ≡ takes_state big (space ++ root) b words
+  pub takes_state-image : (space : Path) (b : Body) (words : List ℕ) → IsPlainBody see (HasImage root see big) b → takes_state small space (seen_by (seeing see) b) words ≡ takes_state big (space ++ root) b words
   unfolding takes_state
   takes_state-image space b words h = rw (kind-number see b, state-image space b words h) refl

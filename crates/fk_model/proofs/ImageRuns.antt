@@ -14,7 +14,7 @@ use Rattle.fk_model.specs.Readers.{kind_at, is_kind}
 use Rattle.fk_model.specs.Searches.{option_list, peer_pointer, talk_pointers, fault_pointers}
 use Rattle.fk_model.specs.StateRows.{is_native}
 use Rattle.fk_model.specs.Cut.{is_out, is_port, ports_of, cut_ptr, seen_by, cut_by, cut, is_far, has_far, is_served, is_served_by, IsPlain}
-use Rattle.fk_model.specs.Image.{seeing, seen_peer, PtrImage, IsSeen, IfServer, AllInTalk, AllInFault, IsPlainBody, IsImage}
+use Rattle.fk_model.specs.Image.{seeing, seen_peer, PtrImage, HasImage, IfServer, AllInTalk, AllInFault, IsPlainBody, IsImage}
 use Rattle.fk_model.specs.Image.PtrImage.{Nulls, Deads, Inside, PortAt, PortOut}
 use Rattle.fk_model.specs.ImageChanges.{ImageChange, ImageChanges, IsOutside}
 use Rattle.fk_model.specs.ImageChanges.ImageChange.{Alters, AltersOut, Makes, MakesSpace, Kills, Moves, PutsPage, DropsPage}
@@ -125,7 +125,7 @@ or_neither a b h g = rw (h, g) refl
 
 module _ (root : Path) (see : Ptr → Ptr) (big : World) where
   abbrev Seen : Ptr → Type 0
-  Seen = IsSeen root see big
+  Seen = HasImage root see big
 
   near_one : (p : Ptr) → Seen p → list_any is_far (see p ∷ []) ≡ false
   near_one p h = or_neither (is_far (see p)) false (near_ptr root big p (see p) h) refl

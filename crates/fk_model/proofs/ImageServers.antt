@@ -14,8 +14,9 @@ use Rattle.fk_model.specs.World.{World, serves}
 use Rattle.fk_model.specs.Searches.{residents, depth, beneath_by, beneath, objects, talk_at, fault_at, client_of, faulter_of, is_serving}
 use Rattle.fk_model.specs.Valid.{services, IsValid, kind_there, is_one_of, leads_there, all_in, is_good, is_good_peer, is_good_talk, is_good_fault, lies_with}
 use Rattle.fk_model.specs.Cut.{is_out, is_served_by, ports_of, cut_out, cut_to, cut_ptr, IsPlain}
-use Rattle.fk_model.specs.Image.{seen_peer, IsSeen, IfServer, IsImage, IsCutWorld, IsApart, is_listed, IsWalked, IsServedAlike, AlikeOptions, IsBeneath, IsSeenTalk, IsSeenFault}
+use Rattle.fk_model.specs.Image.{seen_peer, HasImage, IfServer, IsImage, IsCutWorld, IsApart, is_listed, IsWalked, IsServedAlike, AlikeOptions, IsBeneath, IsSeenTalk, IsSeenFault}
 use Rattle.fk_model.proofs.PlaceLaws.{same_path_eq, same_path_cancel, strip-append, strip_some, leads_to_at}
+use Rattle.fk_model.proofs.WalkLaws.{objects-all}
 use Rattle.fk_model.proofs.Images.{image-cut_world}
 use Rattle.fk_model.proofs.Alike.{alike-is_some}
 use Rattle.fk_model.proofs.ImageMemory.{root_space, root_seen}
@@ -210,7 +211,7 @@ module _ {root : Path} {see : Ptr → Ptr} {small big : World} (image : IsImage 
     takes_same : (j : ℕ) (q : Path) → takes_at small me (j ∷ q) ≡ takes_at big (me ++ root) (j ∷ (q ++ root))
     takes_same j q = by (fault_at small (j ∷ q)) (fault_at big (j ∷ (q ++ root))) refl (fault_at-image image (j ∷ q))
       where
-        taker : (fault : Fault) (o : Option Peer) → fault_at big (j ∷ (q ++ root)) ≡ Some fault → fault.taker ≡ o → IfSome o (λ taker. IfServer (is_out (see fault.port)) taker (IsSeen root see big)) →
+        taker : (fault : Fault) (o : Option Peer) → fault_at big (j ∷ (q ++ root)) ≡ Some fault → fault.taker ≡ o → IfSome o (λ taker. IfServer (is_out (see fault.port)) taker (HasImage root see big)) →
             holds (serves me) (option_map (seen_peer see (is_out (see fault.port))) o) ≡ holds (serves (me ++ root)) o
         taker fault None here is h = refl
         taker fault (Some peer) here is h = serves_alike image me (is_out (see fault.port)) peer h (λ out. facts.apart.faults j q fault peer here out is me)
@@ -343,8 +344,8 @@ module _ (w : World) (nester : Path) (slot : ℕ) (valid : IsValid w) (plain : I
       by false e = refl
       by true e =
           let peer = serves_is (x ++ slot ∷ nester) talk.peer e in
-          let good = good_talk (kind_there w) (k ∷ (q ++ slot ∷ nester)) (w.body (k ∷ (q ++ slot ∷ nester))) talk (valid.good (k ∷ (q ++ slot ∷ nester))) is in
-          absurd (near_nester talk.port x out (valid.talks_near (k ∷ (q ++ slot ∷ nester)) talk (At (x ++ slot ∷ nester)) is peer) (rw peer at (and_parts (leads_there (kind_there w) (kinds.Port ∷ []) talk.port) (is_good_peer (kind_there w) talk.peer) good).1))
+          let good = good_talk (kind_there w) (k ∷ (q ++ slot ∷ nester)) (w.body (k ∷ (q ++ slot ∷ nester))) talk (valid.consistent.good (k ∷ (q ++ slot ∷ nester))) is in
+          absurd (near_nester talk.port x out (valid.consistent.talks_near (k ∷ (q ++ slot ∷ nester)) talk (At (x ++ slot ∷ nester)) is peer) (rw peer at (and_parts (leads_there (kind_there w) (kinds.Port ∷ []) talk.port) (is_good_peer (kind_there w) talk.peer) good).1))
 
   cut_apart_fault : (x : Path) (k : ℕ) (q : Path) (fault : Fault) (taker : Peer) → fault_at w (k ∷ (q ++ slot ∷ nester)) ≡ Some fault → is_out (cut_ptr (ports_of w nester slot) nester slot fault.port) ≡ true → fault.taker ≡ Some taker → serves (x ++ slot ∷ nester) taker ≡ false
   cut_apart_fault x k q fault taker is out took = by (serves (x ++ slot ∷ nester) taker) refl
@@ -353,14 +354,14 @@ module _ (w : World) (nester : Path) (slot : ℕ) (valid : IsValid w) (plain : I
       by false e = refl
       by true e =
           let peer = took ∙ ap Some (serves_is (x ++ slot ∷ nester) taker e) in
-          let good = good_fault (kind_there w) (k ∷ (q ++ slot ∷ nester)) (w.body (k ∷ (q ++ slot ∷ nester))) fault (valid.good (k ∷ (q ++ slot ∷ nester))) is in
-          absurd (near_nester fault.port x out (valid.faults_near (k ∷ (q ++ slot ∷ nester)) fault (At (x ++ slot ∷ nester)) is peer) (rw peer at (and_parts (leads_there (kind_there w) (kinds.Port ∷ []) fault.port) (all_in (is_good_peer (kind_there w)) fault.taker) good).1))
+          let good = good_fault (kind_there w) (k ∷ (q ++ slot ∷ nester)) (w.body (k ∷ (q ++ slot ∷ nester))) fault (valid.consistent.good (k ∷ (q ++ slot ∷ nester))) is in
+          absurd (near_nester fault.port x out (valid.consistent.faults_near (k ∷ (q ++ slot ∷ nester)) fault (At (x ++ slot ∷ nester)) is peer) (rw peer at (and_parts (leads_there (kind_there w) (kinds.Port ∷ []) fault.port) (all_in (is_good_peer (kind_there w)) fault.taker) good).1))
 
   pub cut-apart : IsApart (slot ∷ nester) (cut_ptr (ports_of w nester slot) nester slot) w
   cut-apart = record { talks = λ k q talk is out x. cut_apart_talk x k q talk is out; faults = λ k q fault taker is out took x. cut_apart_fault x k q fault taker is out took }
 
-  pub cut-served : IsWalked w → IsServedAlike (slot ∷ nester) (cut_ptr (ports_of w nester slot) nester slot) w
-  cut-served walked = record { walked = walked; apart = cut-apart; one = valid.one_service; inside = plain.served_inside }
+  pub cut-served : w.next ≤ depth → IsServedAlike (slot ∷ nester) (cut_ptr (ports_of w nester slot) nester slot) w
+  cut-served few = record { walked = record { found = objects-all w valid.consistent valid.rooted few }; apart = cut-apart; one = valid.consistent.one_service; inside = plain.served_inside }
 
 -- ---- an image, and a rebinding of it
 

@@ -12,7 +12,7 @@ use Rattle.fk_model.specs.Searches.{talk_at, fault_at}
 use Rattle.fk_model.specs.Readers.{kind_at}
 use Rattle.fk_model.specs.Valid.{kind_there}
 use Rattle.fk_model.specs.Cut.{is_out, seen_by, unheld}
-use Rattle.fk_model.specs.Image.{seeing, seen_peer, seen_talk, seen_fault, IsSeen, IfServer, AllInTalk, AllInFault, IsPlainBody, IsImage, IsApart}
+use Rattle.fk_model.specs.Image.{seeing, seen_peer, seen_talk, seen_fault, HasImage, IfServer, AllInTalk, AllInFault, IsPlainBody, IsImage, IsApart}
 use Rattle.fk_model.specs.Image.PtrImage.{Deads, Inside}
 use Rattle.fk_model.proofs.PlaceLaws.{same_path_cancel, same_path_above}
 use Rattle.fk_model.proofs.ImagePointers.{all_in_body, ptr_moved}
@@ -88,7 +88,7 @@ kind-swept F at (Some b) = ap Some (kind-through F at b)
 
 module _ {root : Path} {see : Ptr → Ptr} {small big : World} (image : IsImage root see small big) where
   abbrev Seen : Ptr → Type 0
-  Seen = IsSeen root see big
+  Seen = HasImage root see big
 
   leads_alike : (x : Path) (p : Ptr) → Seen p → leads_to x (see p) ≡ leads_to (x ++ root) p
   leads_alike x p h = leads_to-image root big x p (see p) h
@@ -218,7 +218,7 @@ module _ {root : Path} {see : Ptr → Ptr} {small big : World} (image : IsImage 
       pages = λ z g. rw (same_path_cancel z (k ∷ q) root, image.pages z g) refl;
       unborn = image.unborn;
       top = rw (same_path_above k q root, (root_space image).2) refl;
-      plain = λ j z. all_in_body see see (λ p. refl) Seen (IsSeen root see (killed_at (k ∷ (q ++ root)) big)) (λ p h. ptr_moved root big (killed_at (k ∷ (q ++ root)) big) killed-ports p (see p) h) _ (killed-near j z);
+      plain = λ j z. all_in_body see see (λ p. refl) Seen (HasImage root see (killed_at (k ∷ (q ++ root)) big)) (λ p h. ptr_moved root big (killed_at (k ∷ (q ++ root)) big) killed-ports p (see p) h) _ (killed-near j z);
       within = image.within;
       null = image.null;
       dead = image.dead;
@@ -338,7 +338,7 @@ module _ {root : Path} {see : Ptr → Ptr} {small big : World} (image : IsImage 
       pages = λ z g. rw (same_path_cancel z (slot ∷ q) root, same_path_cancel z (k ∷ q) root, image.pages z g, image.pages (k ∷ q) g) refl;
       unborn = image.unborn;
       top = rw (same_path_above slot q root, same_path_above k q root, (root_space image).2) refl;
-      plain = λ j z. all_in_body see see (λ p. refl) Seen (IsSeen root see (moved_to (k ∷ (q ++ root)) (slot ∷ (q ++ root)) big)) (λ p h. ptr_moved root big (moved_to (k ∷ (q ++ root)) (slot ∷ (q ++ root)) big) moved-ports p (see p) h) _ (moved-near j z);
+      plain = λ j z. all_in_body see see (λ p. refl) Seen (HasImage root see (moved_to (k ∷ (q ++ root)) (slot ∷ (q ++ root)) big)) (λ p h. ptr_moved root big (moved_to (k ∷ (q ++ root)) (slot ∷ (q ++ root)) big) moved-ports p (see p) h) _ (moved-near j z);
       within = image.within;
       null = image.null;
       dead = image.dead;

@@ -11,7 +11,7 @@ use Rattle.fk_model.specs.World.{World}
 use Rattle.fk_model.specs.Searches.{talk_at, fault_at, client_of}
 use Rattle.fk_model.specs.Talks.{line_from, line, path_to, thread_at}
 use Rattle.fk_model.specs.Cut.{is_out, seen_by, unheld}
-use Rattle.fk_model.specs.Image.{seeing, seen_peer, PtrImage, IsSeen, IfServer, AllInTalk, AllInFault, IsPlainBody, IsImage, AlikeOptions, IsBeneath, IsOuter, IsApart, IsSeenTalk, IsSeenFault, IsSeenThread, PeerImage, EndImage, LineImage}
+use Rattle.fk_model.specs.Image.{seeing, seen_peer, PtrImage, HasImage, IfServer, AllInTalk, AllInFault, IsPlainBody, IsImage, AlikeOptions, IsBeneath, IsOuter, IsApart, IsSeenTalk, IsSeenFault, IsSeenThread, PeerImage, EndImage, LineImage}
 use Rattle.fk_model.specs.Image.PtrImage.{Nulls, Deads, Inside, PortAt, PortOut}
 use Rattle.fk_model.specs.Image.PeerImage.{Outsiders, Servers, Services, Waiters}
 use Rattle.fk_model.specs.Image.EndImage.{Ends}
@@ -27,7 +27,7 @@ port_no_thread (Some b) h = refl
 module _ {root : Path} {see : Ptr → Ptr} {small big : World} (image : IsImage root see small big) where
   -- ---- threads
 
-  thread-alike : (k : ℕ) (q : Path) (v : Option Body) → IfSome v (IsPlainBody see (IsSeen root see big)) → AlikeOptions (IsSeenThread root see big) (and_then thread_of (option_map (λ b. unheld (k ∷ q) (seen_by (seeing see) b)) v)) (and_then thread_of v)
+  thread-alike : (k : ℕ) (q : Path) (v : Option Body) → IfSome v (IsPlainBody see (HasImage root see big)) → AlikeOptions (IsSeenThread root see big) (and_then thread_of (option_map (λ b. unheld (k ∷ q) (seen_by (seeing see) b)) v)) (and_then thread_of v)
   unfolding seen_by
   thread-alike k q (Some (Thread_of t)) h = (refl, h)
   thread-alike k q (Some b) h = tt
@@ -37,11 +37,11 @@ module _ {root : Path} {see : Ptr → Ptr} {small big : World} (image : IsImage 
   thread_there-image [] = rw ((root_space image).2, root_seen image) tt
   thread_there-image (k ∷ q) = rw (image.bodies (k ∷ q)) (thread-alike k q (big.body (k ∷ (q ++ root))) (image.plain k q))
 
-  talk-alike : (o : Option Talk) → IfSome o (AllInTalk see (IsSeen root see big)) → AlikeOptions (IsSeenTalk root see big) (and_then (seeing see).talk o) o
+  talk-alike : (o : Option Talk) → IfSome o (AllInTalk see (HasImage root see big)) → AlikeOptions (IsSeenTalk root see big) (and_then (seeing see).talk o) o
   talk-alike None h = tt
   talk-alike (Some talk) h = (refl, h)
 
-  fault-alike : (o : Option Fault) → IfSome o (AllInFault see (IsSeen root see big)) → AlikeOptions (IsSeenFault root see big) (and_then (seeing see).fault o) o
+  fault-alike : (o : Option Fault) → IfSome o (AllInFault see (HasImage root see big)) → AlikeOptions (IsSeenFault root see big) (and_then (seeing see).fault o) o
   fault-alike None h = tt
   fault-alike (Some fault) h = (refl, h)
 
@@ -57,7 +57,7 @@ module _ {root : Path} {see : Ptr → Ptr} {small big : World} (image : IsImage 
 
   -- ---- the thread to which a pointer leads
 
-  end-alike : (k : ℕ) (q : Path) (v : Option Body) → big.body (k ∷ (q ++ root)) ≡ v → IfSome v (IsPlainBody see (IsSeen root see big)) →
+  end-alike : (k : ℕ) (q : Path) (v : Option Body) → big.body (k ∷ (q ++ root)) ≡ v → IfSome v (IsPlainBody see (HasImage root see big)) →
       AlikeOptions (EndImage root see big) (and_then (λ (t : Thread). Some (k ∷ q, t)) (and_then thread_of (option_map (λ b. unheld (k ∷ q) (seen_by (seeing see) b)) v))) (and_then (λ (t : Thread). Some (k ∷ (q ++ root), t)) (and_then thread_of v))
   unfolding seen_by
   end-alike k q (Some (Thread_of t)) is h = Ends k q t is h
@@ -74,7 +74,7 @@ module _ {root : Path} {see : Ptr → Ptr} {small big : World} (image : IsImage 
 
   -- ---- lines
 
-  pub peer-image : (out : Bool) (peer : Peer) → IfServer out peer (IsSeen root see big) → (out ≡ true → IsOuter root peer) → PeerImage root see big peer (seen_peer see out peer)
+  pub peer-image : (out : Bool) (peer : Peer) → IfServer out peer (HasImage root see big) → (out ≡ true → IsOuter root peer) → PeerImage root see big peer (seen_peer see out peer)
   peer-image true peer h outer = Outsiders peer (outer refl)
   peer-image false (Server thread) h outer = Servers thread h
   peer-image false Service h outer = Services
@@ -99,7 +99,7 @@ module _ {root : Path} {see : Ptr → Ptr} {small big : World} (image : IsImage 
       by : (k : ℕ) (q : Path) (o p : Option Talk) → talk_at big (k ∷ (q ++ root)) ≡ p → AlikeOptions (IsSeenTalk root see big) o p → AlikeOptions (LineImage root see big) (line_from (k ∷ q) (λ talk. Server (At (k ∷ q))) o) (line_from (k ∷ (q ++ root)) (λ talk. Server (At (k ∷ (q ++ root)))) p)
       by k q None None is h = tt
       by k q (Some seen) (Some talk) is h =
-          let inside : IsSeen root see big (At (k ∷ (q ++ root))) = rw (image.within (k ∷ q)) (Inside (k ∷ q)) in
+          let inside : HasImage root see big (At (k ∷ (q ++ root))) = rw (image.within (k ∷ q)) (Inside (k ∷ q)) in
           let server : PeerImage root see big (Server (At (k ∷ (q ++ root)))) (Server (see (At (k ∷ (q ++ root))))) = Servers (At (k ∷ (q ++ root))) inside in
           rw h.0 (Lines k q talk (Server (At (k ∷ (q ++ root)))) (Server (At (k ∷ q))) is h.1 (rw (image.within (k ∷ q)) at server))
       by k q None (Some talk) is h = absurd h

@@ -16,7 +16,7 @@ use Rattle.fk_model.specs.Talks.{first_stage, is_service_free}
 use Rattle.fk_model.specs.LinkRows.{user_at, if_read, port_named, connecting_to, Candidate, is_member, slot_in_set, is_parked, is_open, faulting, connecting, resuming, candidate_by, candidate}
 use Rattle.fk_model.specs.LinkRows.Candidate.{Faulting, Connecting, Resuming}
 use Rattle.fk_model.specs.Cut.{is_out, seen_by, unheld}
-use Rattle.fk_model.specs.Image.{seeing, seen_peer, seen_thread, PtrImage, IsSeen, AllInTalk, AllInFault, IsImage, AlikeResults, AlikeOptions, IsSeenAs, IsSeenHandle, IsSeenThread, CandidateImage}
+use Rattle.fk_model.specs.Image.{seeing, seen_peer, seen_thread, PtrImage, HasImage, AllInTalk, AllInFault, IsImage, AlikeResults, AlikeOptions, IsSeenAs, IsSeenHandle, IsSeenThread, CandidateImage}
 use Rattle.fk_model.specs.Image.PtrImage.{Nulls, Deads, Inside, PortAt, PortOut}
 use Rattle.fk_model.specs.Image.CandidateImage.{Faults, Connects, Resumes}
 use Rattle.fk_model.proofs.PlaceLaws.{same_path_eq, same_path_cancel, strip-append}
@@ -129,10 +129,10 @@ module _ {root : Path} {see : Ptr → Ptr} {small big : World} (image : IsImage 
     abbrev Alike : Candidate → Candidate → Type 0
     Alike = CandidateImage see big (k ∷ (q ++ root))
 
-    faulting-image : (t : Thread) → fault_at big (k ∷ (q ++ root)) ≡ t.fault → IfSome t.fault (AllInFault see (IsSeen root see big)) → AlikeOptions Alike (faulting small space set (seen_thread see t)) (faulting big (space ++ root) set t)
+    faulting-image : (t : Thread) → fault_at big (k ∷ (q ++ root)) ≡ t.fault → IfSome t.fault (AllInFault see (HasImage root see big)) → AlikeOptions Alike (faulting small space set (seen_thread see t)) (faulting big (space ++ root) set t)
     faulting-image t = by t.fault
       where
-        by : (o : Option Fault) → fault_at big (k ∷ (q ++ root)) ≡ o → IfSome o (AllInFault see (IsSeen root see big)) →
+        by : (o : Option Fault) → fault_at big (k ∷ (q ++ root)) ≡ o → IfSome o (AllInFault see (HasImage root see big)) →
             AlikeOptions Alike (and_then (λ (fault : Fault). cond (is_open fault.taker) (option_map (λ slot. Faulting slot fault) (slot_in_set small space set fault.port)) None) (and_then (seeing see).fault o))
             (and_then (λ (fault : Fault). cond (is_open fault.taker) (option_map (λ slot. Faulting slot fault) (slot_in_set big (space ++ root) set fault.port)) None) o)
         by None is h = tt
@@ -142,10 +142,10 @@ module _ {root : Path} {see : Ptr → Ptr} {small big : World} (image : IsImage 
             (found-image Alike (slot_in_set small space set (see fault.port)) _ _ _ _
             (λ slot found. let near = slot_in_set_near small space set slot (see fault.port) found in (ap (λ (out : Bool). is_open (option_map (seen_peer see out) fault.taker)) near ∙ open_near fault.taker, Faults slot fault is near)))
 
-    resuming-image : (t : Thread) → talk_at big (k ∷ (q ++ root)) ≡ t.talk → IfSome t.talk (AllInTalk see (IsSeen root see big)) → AlikeOptions Alike (resuming small space set (seen_thread see t)) (resuming big (space ++ root) set t)
+    resuming-image : (t : Thread) → talk_at big (k ∷ (q ++ root)) ≡ t.talk → IfSome t.talk (AllInTalk see (HasImage root see big)) → AlikeOptions Alike (resuming small space set (seen_thread see t)) (resuming big (space ++ root) set t)
     resuming-image t = by t.talk
       where
-        by : (o : Option Talk) → talk_at big (k ∷ (q ++ root)) ≡ o → IfSome o (AllInTalk see (IsSeen root see big)) →
+        by : (o : Option Talk) → talk_at big (k ∷ (q ++ root)) ≡ o → IfSome o (AllInTalk see (HasImage root see big)) →
             AlikeOptions Alike (and_then (λ (talk : Talk). cond (is_parked (Some talk.peer)) (option_map (λ slot. Resuming slot talk) (slot_in_set small space set talk.port)) None) (and_then (seeing see).talk o))
             (and_then (λ (talk : Talk). cond (is_parked (Some talk.peer)) (option_map (λ slot. Resuming slot talk) (slot_in_set big (space ++ root) set talk.port)) None) o)
         by None is h = tt

@@ -14,7 +14,7 @@ use Rattle.fk_model.specs.Searches.{option_list, peer_pointer, talk_pointers, fa
 use Rattle.fk_model.specs.StateRows.{is_native}
 use Rattle.fk_model.specs.Valid.{kind_there}
 use Rattle.fk_model.specs.Cut.{is_port, ports_of, cut_out, cut_to, cut_ptr, is_out, seen_by, unheld, cut, is_far, has_far, is_served, IsPlain}
-use Rattle.fk_model.specs.Image.{seeing, seen_peer, PtrImage, IsSeen, IfServer, AllInTalk, AllInFault, IsPlainBody, IsImage, IsCutWorld}
+use Rattle.fk_model.specs.Image.{seeing, seen_peer, PtrImage, HasImage, IfServer, AllInTalk, AllInFault, IsPlainBody, IsImage, IsCutWorld}
 use Rattle.fk_model.specs.Image.PtrImage.{Nulls, Deads, Inside, PortAt, PortOut}
 use Rattle.fk_model.specs.Rebind.{rebound_ptr, rebound_peer, rebinding, rebound}
 use Rattle.fk_model.proofs.FrameLaws.{or_off}
@@ -69,7 +69,7 @@ module _ (w : World) (nester : Path) (slot : ℕ) where
   see = cut_ptr (ports_of w nester slot) nester slot
 
   abbrev Seen : Ptr → Type 0
-  Seen = IsSeen (slot ∷ nester) see w
+  Seen = HasImage (slot ∷ nester) see w
 
   near_ptr : (p : Ptr) → list_any is_far (see p ∷ []) ≡ false → Seen p
   near_ptr p near = cut_ptr-image w nester slot p (or_off (is_far (see p)) false near).0
@@ -182,7 +182,7 @@ module _ (bind : ℕ → ℕ) (see : Ptr → Ptr) where
     pages = image.pages;
     unborn = image.unborn;
     top = image.top;
-    plain = λ k q. all_in_body see anew (λ p. rebound-is_out bind (see p)) (IsSeen root see big) (IsSeen root anew big) (λ p h. ptr_anew root big p (see p) h) (big.body (k ∷ (q ++ root))) (image.plain k q);
+    plain = λ k q. all_in_body see anew (λ p. rebound-is_out bind (see p)) (HasImage root see big) (HasImage root anew big) (λ p h. ptr_anew root big p (see p) h) (big.body (k ∷ (q ++ root))) (image.plain k q);
     within = λ x. rw (image.within x) refl;
     null = rw image.null refl;
     dead = rw image.dead refl;
@@ -283,7 +283,7 @@ image-cut_world {root} {see} {small} {big} image = record {
   pages = λ q page. rw (append-nil q) refl;
   unborn = image.unborn;
   top = rw (image.bodies []) (kind-seen see (big.body root) ∙ image.top);
-  plain = λ k q. rw (append-nil q) (rw (image.bodies (k ∷ q)) (all_seen_body see (IsSeen root see big) (IsSeen [] same small) (λ p h. ptr_again root small big p (see p) h) k q (big.body (k ∷ (q ++ root))) (image.plain k q)));
+  plain = λ k q. rw (append-nil q) (rw (image.bodies (k ∷ q)) (all_seen_body see (HasImage root see big) (HasImage [] same small) (λ p h. ptr_again root small big p (see p) h) k q (big.body (k ∷ (q ++ root))) (image.plain k q)));
   within = λ x. ap (λ (y : Path). At y) (append-nil x);
   null = refl;
   dead = refl;

@@ -6,6 +6,8 @@
 use Rattle.std.specs.Prelude.{ℕ, ◌+◌, true, ◌==◌, nat_lt, ◌≡◌, List, [], ◌∷◌, length, Option, Some, None, if◌then◌else◌, slice_index, slice_set}
 use Rattle.std.specs.List.{flat_map}
 use Rattle.fk_model.specs.declared.stage.Stage.{Stage}
+use Rattle.fk_model.specs.declared.stage.Todo.{Todo}
+use Rattle.fk_model.specs.declared.stage.Todo.TheVariants.{One, Two, Three, Four}
 use Rattle.fk_model.specs.declared.stage.Stage.TheVariants.{Create, Destroy, Rename, Search, Point, Clear, Locate, CountIn, GetState, SetState, GetPtr, SetPtr, SpaceHold, SpaceRelease, ThreadStop, ThreadGo, PageGive, PageTake, PageRead, PageNext, MutexLock, MutexTrylock, MutexUnlock, CondWait, CondAsleep, CondSignal, CondBroadcast, Connect, ClientReceive, ClientSend, ClientOver, Disconnect, Wait, ServerReceive, ServerSend, ServerOver, ServerEnd, FaultDone, LinkSet, LinkPark, FaultSet, FaultPark, HoldSet, SpaceMakeHeld}
 
 -- the code of a list of stages; 0 where no call has these stages
@@ -127,6 +129,13 @@ with_values (e ∷ es) g = with_values es (slice_set g e.0 e.1)
 abbrev pub without_values : List (ℕ × ℕ) → List ℕ → List ℕ
 without_values [] g = g
 without_values (e ∷ es) g = without_values es (slice_set g e.0 0)
+
+-- the stages that code keeps, as a list
+abbrev pub stages_of : Todo → List Stage
+stages_of (One a) = a ∷ []
+stages_of (Two a b) = a ∷ b ∷ []
+stages_of (Three a b c) = a ∷ b ∷ c ∷ []
+stages_of (Four a b c d) = a ∷ b ∷ c ∷ d ∷ []
 
 -- what a list of stages says of the registers: its code, and the arguments of each stage
 abbrev pub said_by : List Stage → List (ℕ × ℕ)

@@ -74,8 +74,8 @@ pub data PtrImage (root : Path) (big : World) : Ptr → Ptr → Type 0 where
   PortAt : (x : Path) (slot : ℕ) → is_within root x ≡ false → kind_at big (At x) ≡ Some kinds.Port → PtrImage root big (At x) (Out slot)
   PortOut : (old slot : ℕ) → PtrImage root big (Out old) (Out slot)
 
-abbrev pub IsSeen : Path → (Ptr → Ptr) → World → Ptr → Type 0
-IsSeen root see big p = PtrImage root big p (see p)
+abbrev pub HasImage : Path → (Ptr → Ptr) → World → Ptr → Type 0
+HasImage root see big p = PtrImage root big p (see p)
 
 -- P holds of the pointers that count: who is at a port that is seen outside doesn't
 abbrev pub IfServer : (out : Bool) → Peer → (Ptr → Type 0) → Type 0
@@ -111,7 +111,7 @@ pub record IsImage (root : Path) (see : Ptr → Ptr) (small big : World) : Type 
   -- the root is a space
   pub top : kind_there big root ≡ Some kinds.Space
   -- nothing beneath it leads anywhere but inside or to ports outside, is a porter or a served port
-  pub plain : (k : ℕ) (q : Path) → IfSome (big.body (k ∷ (q ++ root))) (IsPlainBody see (IsSeen root see big))
+  pub plain : (k : ℕ) (q : Path) → IfSome (big.body (k ∷ (q ++ root))) (IsPlainBody see (HasImage root see big))
   pub within : (x : Path) → see (At (x ++ root)) ≡ At x
   pub null : see Null ≡ Null
   pub dead : see Dead ≡ Dead
@@ -170,29 +170,29 @@ IsBeneath root q x = x ≡ q ++ root
 
 -- the same pointer
 abbrev pub IsSeenAs : Path → (Ptr → Ptr) → World → Ptr → Ptr → Type 0
-IsSeenAs root see big seen p = (seen ≡ see p) × IsSeen root see big p
+IsSeenAs root see big seen p = (seen ≡ see p) × HasImage root see big p
 
 -- and it leads to an object of this kind
 abbrev pub IsSeenHandle : Path → (Ptr → Ptr) → World → Kind → Ptr → Ptr → Type 0
-IsSeenHandle root see big wanted seen p = (seen ≡ see p) × IsSeen root see big p × (is_kind wanted (kind_at big p) ≡ true)
+IsSeenHandle root see big wanted seen p = (seen ≡ see p) × HasImage root see big p × (is_kind wanted (kind_at big p) ≡ true)
 
 -- the same object
 abbrev pub IsSeenBody : Path → (Ptr → Ptr) → World → Body → Body → Type 0
-IsSeenBody root see big seen b = (seen ≡ seen_by (seeing see) b) × IsPlainBody see (IsSeen root see big) b
+IsSeenBody root see big seen b = (seen ≡ seen_by (seeing see) b) × IsPlainBody see (HasImage root see big) b
 
 -- the same thread, and the same holder
 abbrev pub IsSeenThread : Path → (Ptr → Ptr) → World → Thread → Thread → Type 0
-IsSeenThread root see big seen t = (seen ≡ seen_thread see t) × IsPlainBody see (IsSeen root see big) (Thread_of t)
+IsSeenThread root see big seen t = (seen ≡ seen_thread see t) × IsPlainBody see (HasImage root see big) (Thread_of t)
 
 abbrev pub IsSeenHolder : Path → (Ptr → Ptr) → World → Option Ptr → Option Ptr → Type 0
-IsSeenHolder root see big seen holder = (seen ≡ and_then (seeing see).holder holder) × IfSome holder (IsSeen root see big)
+IsSeenHolder root see big seen holder = (seen ≡ and_then (seeing see).holder holder) × IfSome holder (HasImage root see big)
 
 -- the same mapping, and the same region
 abbrev pub IsSeenWindow : Path → (Ptr → Ptr) → World → Window → Window → Type 0
-IsSeenWindow root see big seen m = (seen ≡ seen_window see m) × IsSeen root see big m.region
+IsSeenWindow root see big seen m = (seen ≡ seen_window see m) × HasImage root see big m.region
 
 abbrev pub IsSeenExtent : Path → (Ptr → Ptr) → World → Extent → Extent → Type 0
-IsSeenExtent root see big seen r = (seen ≡ seen_extent see r) × IsSeen root see big r.keeper
+IsSeenExtent root see big seen r = (seen ≡ seen_extent see r) × HasImage root see big r.keeper
 
 -- the same page, of a space inside
 abbrev pub IsSeenPlace : Path → Path × ℕ → Path × ℕ → Type 0
@@ -206,26 +206,26 @@ pub data ReachImage (root : Path) (see : Ptr → Ptr) (big : World) : Reach → 
 
 -- the same talk, and the same fault
 abbrev pub IsSeenTalk : Path → (Ptr → Ptr) → World → Talk → Talk → Type 0
-IsSeenTalk root see big seen talk = (seen ≡ seen_talk see talk) × AllInTalk see (IsSeen root see big) talk
+IsSeenTalk root see big seen talk = (seen ≡ seen_talk see talk) × AllInTalk see (HasImage root see big) talk
 
 abbrev pub IsSeenFault : Path → (Ptr → Ptr) → World → Fault → Fault → Type 0
-IsSeenFault root see big seen fault = (seen ≡ seen_fault see fault) × AllInFault see (IsSeen root see big) fault
+IsSeenFault root see big seen fault = (seen ≡ seen_fault see fault) × AllInFault see (HasImage root see big) fault
 
 -- a peer of the big world, and what it is seen as
 pub data PeerImage (root : Path) (see : Ptr → Ptr) (big : World) : Peer → Peer → Type 0 where
   -- who is at a port outside
   Outsiders : (peer : Peer) → IsOuter root peer → PeerImage root see big peer (Server Outside)
-  Servers : (thread : Ptr) → IsSeen root see big thread → PeerImage root see big (Server thread) (Server (see thread))
+  Servers : (thread : Ptr) → HasImage root see big thread → PeerImage root see big (Server thread) (Server (see thread))
   Services : PeerImage root see big Service Service
   Waiters : PeerImage root see big Parked Parked
 
 -- the same thread inside, with its path
 pub data EndImage (root : Path) (see : Ptr → Ptr) (big : World) : Path × Thread → Path × Thread → Type 0 where
-  Ends : (k : ℕ) (q : Path) (t : Thread) → big.body (k ∷ (q ++ root)) ≡ Some (Thread_of t) → IsPlainBody see (IsSeen root see big) (Thread_of t) → EndImage root see big (k ∷ q, seen_thread see t) (k ∷ (q ++ root), t)
+  Ends : (k : ℕ) (q : Path) (t : Thread) → big.body (k ∷ (q ++ root)) ≡ Some (Thread_of t) → IsPlainBody see (HasImage root see big) (Thread_of t) → EndImage root see big (k ∷ q, seen_thread see t) (k ∷ (q ++ root), t)
 
 -- the same talk of a client inside, with who is at the other end
 pub data LineImage (root : Path) (see : Ptr → Ptr) (big : World) : Line → Line → Type 0 where
-  Lines : (k : ℕ) (q : Path) (talk : Talk) (other seen : Peer) → talk_at big (k ∷ (q ++ root)) ≡ Some talk → AllInTalk see (IsSeen root see big) talk → PeerImage root see big other seen →
+  Lines : (k : ℕ) (q : Path) (talk : Talk) (other seen : Peer) → talk_at big (k ∷ (q ++ root)) ≡ Some talk → AllInTalk see (HasImage root see big) talk → PeerImage root see big other seen →
       LineImage root see big (record { client = k ∷ q; talk = seen_talk see talk; other = seen }) (record { client = k ∷ (q ++ root); talk = talk; other = other })
 
 -- the thread at x is the same candidate for a wait; who it asks for stands inside

@@ -10,7 +10,7 @@ use Rattle.fk_model.specs.Holds.{is_porter}
 use Rattle.fk_model.specs.Outcomes.{Outcome}
 use Rattle.fk_model.specs.Outcomes.Outcome.{Refused, Waits, Goes}
 use Rattle.fk_model.specs.Cut.{is_out, seen_by}
-use Rattle.fk_model.specs.Image.{seeing, seen_peer, IsSeen, IfServer, AllInTalk, AllInFault, IsPlainBody, IsApart}
+use Rattle.fk_model.specs.Image.{seeing, seen_peer, HasImage, IfServer, AllInTalk, AllInFault, IsPlainBody, IsApart}
 
 -- ---- edits
 
@@ -27,12 +27,12 @@ seen_edit see out other = other
 -- an edit of the object at x whose pointers lead inside or to ports outside, where they count, and that makes nobody a
 -- porter. `out` says whether the talk or the fault whose peer or taker it sets is at a port outside
 abbrev pub IsSeenEdit : Path → (Ptr → Ptr) → World → (out : Bool) → Path → Edit → Type 0
-IsSeenEdit root see big out x (SetPointer to) = IsSeen root see big to
-IsSeenEdit root see big out x (SetHolder holder) = IfSome holder (IsSeen root see big)
-IsSeenEdit root see big out x (SetTalk talk) = IfSome talk (AllInTalk see (IsSeen root see big))
-IsSeenEdit root see big out x (SetPeer peer) = IfSome (talk_at big x) (λ talk. is_out (see talk.port) ≡ out) × IfServer out peer (IsSeen root see big)
-IsSeenEdit root see big out x (SetFault fault) = IfSome fault (AllInFault see (IsSeen root see big))
-IsSeenEdit root see big out x (SetTaker taker) = IfSome (fault_at big x) (λ fault. is_out (see fault.port) ≡ out) × IfSome taker (λ taker. IfServer out taker (IsSeen root see big))
+IsSeenEdit root see big out x (SetPointer to) = HasImage root see big to
+IsSeenEdit root see big out x (SetHolder holder) = IfSome holder (HasImage root see big)
+IsSeenEdit root see big out x (SetTalk talk) = IfSome talk (AllInTalk see (HasImage root see big))
+IsSeenEdit root see big out x (SetPeer peer) = IfSome (talk_at big x) (λ talk. is_out (see talk.port) ≡ out) × IfServer out peer (HasImage root see big)
+IsSeenEdit root see big out x (SetFault fault) = IfSome fault (AllInFault see (HasImage root see big))
+IsSeenEdit root see big out x (SetTaker taker) = IfSome (fault_at big x) (λ fault. is_out (see fault.port) ≡ out) × IfSome taker (λ taker. IfServer out taker (HasImage root see big))
 IsSeenEdit root see big out x (Proceed mode counter) = is_porter mode ≡ false
 IsSeenEdit root see big out x other = Unit {0}
 
@@ -45,9 +45,9 @@ pub data ImageChange (root : Path) (see : Ptr → Ptr) (big : World) : Change �
   -- of a talk or a fault at a port outside
   AltersOut : (k : ℕ) (q : Path) (seen edit : Edit) → seen ≡ seen_edit see true edit → IsSeenEdit root see big true (k ∷ (q ++ root)) edit →
       ImageChange root see big (Alter (k ∷ q) seen) (Alter (k ∷ (q ++ root)) edit)
-  Makes : (k : ℕ) (q : Path) (seen body : Body) → seen ≡ seen_by (seeing see) body → IsPlainBody see (IsSeen root see big) body →
+  Makes : (k : ℕ) (q : Path) (seen body : Body) → seen ≡ seen_by (seeing see) body → IsPlainBody see (HasImage root see big) body →
       ImageChange root see big (Make (k ∷ q) seen) (Make (k ∷ (q ++ root)) body)
-  MakesSpace : (k : ℕ) (q : Path) (seen holder : Option Ptr) → seen ≡ and_then (seeing see).holder holder → IfSome holder (IsSeen root see big) →
+  MakesSpace : (k : ℕ) (q : Path) (seen holder : Option Ptr) → seen ≡ and_then (seeing see).holder holder → IfSome holder (HasImage root see big) →
       ImageChange root see big (MakeSpace (k ∷ q) seen) (MakeSpace (k ∷ (q ++ root)) holder)
   Kills : (k : ℕ) (q : Path) → IsApart root see big → ImageChange root see big (Kill (k ∷ q)) (Kill (k ∷ (q ++ root)))
   Moves : (k : ℕ) (q : Path) (slot : ℕ) → ImageChange root see big (Move (k ∷ q) slot) (Move (k ∷ (q ++ root)) slot)

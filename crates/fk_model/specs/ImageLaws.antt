@@ -1,11 +1,11 @@
 -- Laws of images, as statements that are proved.
-use Rattle.std.specs.Prelude.{◌≡◌, ℕ, Bool, false, List, [], ◌∷◌, ◌++◌, map}
+use Rattle.std.specs.Prelude.{◌≡◌, ℕ, ◌≤◌, Bool, false, List, [], ◌∷◌, ◌++◌, map}
 use Rattle.fk_model.specs.declared.names.Kind.{Kind}
 use Rattle.fk_model.specs.declared.thread.Turn.TheVariants as turns
 use Rattle.fk_model.specs.Places.{Path, is_within, Ptr}
 use Rattle.fk_model.specs.Objects.{Thread, and_then, thread_of}
 use Rattle.fk_model.specs.World.{World, Change, apply_all}
-use Rattle.fk_model.specs.Searches.{residents, beneath, leaf, talk_at, fault_at, client_of, faulter_of}
+use Rattle.fk_model.specs.Searches.{depth, residents, beneath, leaf, talk_at, fault_at, client_of, faulter_of}
 use Rattle.fk_model.specs.Reach.{mapping_at, region_at, keeper, reach}
 use Rattle.fk_model.specs.Holds.{decider, is_frozen, is_frozen_for, is_free}
 use Rattle.fk_model.specs.Outcomes.{Caller}
@@ -14,6 +14,7 @@ use Rattle.fk_model.specs.Talks.{line, thread_at}
 use Rattle.fk_model.specs.SpaceRows.{next_page}
 use Rattle.fk_model.specs.SyncRows.{mutex_lock}
 use Rattle.fk_model.specs.LinkRows.{candidate}
+use Rattle.fk_model.specs.Valid.{IsValid}
 use Rattle.fk_model.specs.Cut.{ports_of, cut_ptr, cut, is_served_by, IsPlain}
 use Rattle.fk_model.specs.Image.{seen_thread, PtrImage, IsImage, IsCutWorld, IsServedAlike, under, AlikeResults, AlikeOptions, IsBeneath, IsSeenAs, IsSeenHandle, IsSeenBody, IsSeenThread, IsSeenWindow, IsSeenExtent, IsSeenTalk, IsSeenFault, ReachImage, EndImage, LineImage, CandidateImage}
 use Rattle.fk_model.specs.ImageChanges.{ImageChanges, IsImageOutcome}
@@ -24,6 +25,10 @@ use Rattle.fk_model.specs.Rebind.{rebound_ptr, rebound}
 -- a plain subtree, seen alone, is an image of its world
 abbrev pub CutIsImage : Type 0
 CutIsImage = (w : World) (nester : Path) (slot : ℕ) → IsPlain w nester slot → IsImage (slot ∷ nester) (cut_ptr (ports_of w nester slot) nester slot) (cut w nester slot) w
+
+-- where birth numbers are in range, servers are found alike in it
+abbrev pub CutIsServedAlike : Type 0
+CutIsServedAlike = (w : World) (nester : Path) (slot : ℕ) → IsValid w → w.next ≤ depth → IsPlain w nester slot → IsServedAlike (slot ∷ nester) (cut_ptr (ports_of w nester slot) nester slot) w
 
 -- every image is such as a subtree that is seen alone
 abbrev pub ImageIsCutWorld : Type 0

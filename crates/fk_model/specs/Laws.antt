@@ -1,5 +1,6 @@
 -- Laws: what holds of these definitions, as statements that are proved.
-use Rattle.std.specs.Prelude.{◌≡◌, ℕ, true, false, List, length, map, Some}
+use Rattle.std.specs.Prelude.{◌≡◌, ℕ, ◌≤◌, true, false, List, length, map, Option, Some}
+use Rattle.fk_model.specs.declared.moves.Ask.{Ask}
 use Rattle.fk_model.specs.declared.limits.TheConstants.{RECORD_WORDS}
 use Rattle.fk_model.specs.declared.stage.Stage.{Stage}
 use Rattle.fk_model.specs.Places.{Path}
@@ -9,7 +10,10 @@ use Rattle.fk_model.specs.World.{World, apply_all}
 use Rattle.fk_model.specs.World.Change.{Alter}
 use Rattle.fk_model.specs.Records.{record_of, set_edits, set, takes_state}
 use Rattle.fk_model.specs.StateRows.{is_native}
+use Rattle.fk_model.specs.Searches.{depth}
 use Rattle.fk_model.specs.Shapes.{IsShaped, IsInRange}
+use Rattle.fk_model.specs.Moves.{step}
+use Rattle.fk_model.specs.Valid.{IsValid, is_fit}
 
 -- ---- the registers of a calling thread
 
@@ -42,3 +46,11 @@ RecordSetsNothing = (b : Body) → IsShaped b → is_native b ≡ false → set 
 -- and so does the world
 abbrev pub RecordChangesNothing : Type 0
 RecordChangesNothing = (w : World) (x : Path) (b : Body) → w.body x ≡ Some b → IsShaped b → is_native b ≡ false → apply_all (map (Alter x) (set_edits b (record_of b))) w ≡ w
+
+-- ---- validity
+
+-- a fit move keeps a world valid and rooted, whoever moves and whatever it picks. No more birth numbers are given out
+-- than the longest walk has steps
+abbrev pub StepKeepsValid : Type 0
+StepKeepsValid = (w : World) (x : Path) (pick : Option Path) (ask : Ask) → IsValid w → w.next ≤ depth → is_fit w x ask ≡ true →
+    IsValid (step w x pick ask).world

@@ -1,7 +1,7 @@
 -- Valid worlds: what holds of every world that is reached from a valid one by fit moves.
 use Rattle.std.specs.Prelude.{◌≡◌, ℕ, ◌+◌, ◌<◌, ◌≤◌, Bool, true, false, not, ◌&&◌, ◌||◌, ◌==◌, nat_le, nat_lt, IsSome, List, [], ◌∷◌, Option, Some, None, Result, Ok, Err, option_map, if◌then◌else◌, slice_index}
 use Rattle.std.specs.List.{list_any}
-use Rattle.fk_model.specs.declared.limits.TheConstants.{PAGES, MOST_MOVED}
+use Rattle.fk_model.specs.declared.limits.TheConstants.{SLOTS, PAGES, MOST_MOVED}
 use Rattle.fk_model.specs.declared.moves.Ask.{Ask}
 use Rattle.fk_model.specs.declared.moves.Ask.TheVariants as asks
 use Rattle.fk_model.specs.declared.names.Kind.{Kind}
@@ -113,7 +113,8 @@ abbrev pub lies_with : Ptr → Ptr → Type 0
 lies_with (At port) (At server) = parent server ≡ parent port
 lies_with port server = Unit {0}
 
-pub record IsValid (w : World) : Type 0 where
+-- what stands in the slots fits together
+pub record IsConsistent (w : World) : Type 0 where
   -- what has something in it is a space
   pub parents : (k : ℕ) (x : Path) → IsSome (w.body (k ∷ x)) → kind_there w x ≡ Some kinds.Space
   pub good : (x : Path) → all_in (is_good (kind_there w) x) (w.body x) ≡ true
@@ -129,6 +130,15 @@ pub record IsValid (w : World) : Type 0 where
   pub one_service : (server x y : Path) → 0 < services w server x → 0 < services w server y → x ≡ y
   pub one_each : (server x : Path) → services w server x ≤ 1
 
+-- the root is a space, and slots are below 256
+pub record IsRooted (w : World) : Type 0 where
+  pub root : kind_there w [] ≡ Some kinds.Space
+  pub slots : (k : ℕ) (x : Path) → IsSome (w.body (k ∷ x)) → k < SLOTS
+
+pub record IsValid (w : World) : Type 0 where
+  pub consistent : IsConsistent w
+  pub rooted : IsRooted w
+
 -- ---- fit asks: a porter gives words in range, and names a server in its port's space that serves nobody
 
 abbrev pub is_turn_word : ℕ → Bool
@@ -140,9 +150,16 @@ are_talk_words words = is_turn_word (slice_index words 0) && nat_le (slice_index
 abbrev pub are_fault_words : List ℕ → Bool
 are_fault_words words = nat_lt (slice_index words 0) PAGES && nat_le (slice_index words 1) 1
 
+abbrev pub is_near : Ptr → Ptr → Bool
+is_near (At port) (At server) = same_path (parent server) (parent port)
+is_near port server = true
+
+abbrev pub is_idle : World → Ptr → Bool
+is_idle w (At server) = not (is_serving w server)
+is_idle w server = true
+
 abbrev pub is_idle_near : World → Ptr → Ptr → Bool
-is_idle_near w (At port) (At server) = same_path (parent server) (parent port) && not (is_serving w server)
-is_idle_near w port server = true
+is_idle_near w port server = is_near port server && is_idle w server
 
 abbrev pub is_idle_peer : World → Ptr → Option Peer → Bool
 is_idle_peer w port None = true

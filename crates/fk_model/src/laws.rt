@@ -1,7 +1,7 @@
 //! The laws of the definitions, each the contract of a function that does nothing.
 ghost use Rattle.fk_model.specs.Frame.{MoveKeepsBodies, MoveKeepsPages};
-ghost use Rattle.fk_model.specs.ImageLaws.{CutIsImage, ImageIsCutWorld, RebindingIsImage, ImageReadsAlike, ImageHoldsAlike, ImageServesAlike, LockActsAlike, ImageStays, CutChangesAlike, PlainStays};
-ghost use Rattle.fk_model.specs.Laws.{WordsReadBack, TodoWritesBack, WordsKeepLength, RecordIsFull, RecordIsTaken, RecordSetsNothing, RecordChangesNothing};
+ghost use Rattle.fk_model.specs.ImageLaws.{CutIsImage, CutIsServedAlike, ImageIsCutWorld, RebindingIsImage, ImageReadsAlike, ImageHoldsAlike, ImageServesAlike, LockActsAlike, ImageStays, CutChangesAlike, PlainStays};
+ghost use Rattle.fk_model.specs.Laws.{WordsReadBack, TodoWritesBack, WordsKeepLength, RecordIsFull, RecordIsTaken, RecordSetsNothing, RecordChangesNothing, StepKeepsValid};
 
 /// The registers of a calling thread show the stages that were written into them, and the rest.
 pub fn words_read_back()
@@ -50,10 +50,17 @@ pub fn a_move_changes_only_what_it_lists()
     ensures pages { MoveKeepsPages }
 {}
 
+/// A fit move keeps a world valid.
+pub fn a_fit_move_keeps_a_valid_world()
+    ensures { StepKeepsValid }
+{}
+
 /// A subtree that leads nowhere but inside and to its nester's ports, seen alone, is an image of its world: the same
-/// objects and pages, with paths from its root and its outward ports by their slots.
+/// objects and pages, with paths from its root and its outward ports by their slots. In a valid world servers are found
+/// alike in it.
 pub fn cut_is_image()
-    ensures { CutIsImage }
+    ensures image { CutIsImage }
+    ensures served { CutIsServedAlike }
 {}
 
 /// What a subtree that is seen alone is like, every image is like: it is its own image.

@@ -18,6 +18,7 @@ mod stage;
 mod statuses;
 mod text;
 mod thread;
+pub mod worked;
 
 pub use body::Body;
 pub use instruction::{Act, Instr, operation};

@@ -1,0 +1,9 @@
+-- The test of each move is computed; it passes.
+use Rattle.std.proofs.Common.{refl}
+use Rattle.fk_model.specs.WorkedLocks.{locks, one_sleeps, and_locked}
+use Rattle.fk_model.proofs.Tested.{legal-tested}
+use Rattle.fk_model.proofs.worked.locks.a_signal_wakes_a_stopped_sleeper.Goals as goal
+
+pub returns-clause-ready : goal.returns-clause-ready
+unfolding locks
+returns-clause-ready c = legal-tested one_sleeps and_locked refl

@@ -1,0 +1,49 @@
+-- The law of the cut: what a move of the world does to a plain subtree is what the subtree, seen alone, does by the move
+-- as which it is seen.
+use Rattle.std.specs.Prelude.{◌≡◌, ℕ, true, List, ◌∷◌, ◌++◌, Option, Some}
+use Rattle.fk_model.specs.declared.instruction.Act.{Act}
+use Rattle.fk_model.specs.declared.instruction.Act.TheVariants.{Store}
+use Rattle.fk_model.specs.declared.moves.Ask.{Ask}
+use Rattle.fk_model.specs.declared.moves.Ask.TheVariants as asks
+use Rattle.fk_model.specs.declared.stage.Stage.{Stage}
+use Rattle.fk_model.specs.declared.stage.Stage.TheVariants.{Create, Destroy, Rename, Point, GetState, SpaceHold, PageTake, MutexLock, ClientSend, ServerSend, Wait}
+use Rattle.fk_model.specs.Places.{Path, is_within}
+use Rattle.fk_model.specs.Objects.{Mode, Thread, thread_of, and_then}
+use Rattle.fk_model.specs.Objects.Mode.{Running, Calling}
+use Rattle.fk_model.specs.World.{World}
+use Rattle.fk_model.specs.Instructions.{act}
+use Rattle.fk_model.specs.Reach.{reach_word}
+use Rattle.fk_model.specs.Reach.Reach.{Home}
+use Rattle.fk_model.specs.UserRows.{word_at}
+use Rattle.fk_model.specs.Moves.{IsReady}
+use Rattle.fk_model.specs.Valid.{is_fit}
+use Rattle.fk_model.specs.Sound.{IsSound}
+use Rattle.fk_model.specs.Runs.{Event, after}
+use Rattle.fk_model.specs.Cut.{cut, IsPlain}
+use Rattle.fk_model.specs.Further.{Told, IsOnward}
+use Rattle.fk_model.specs.Seen.{Seen, IsSeen}
+use Rattle.fk_model.specs.Seen.Seen.{Onwards, Unseen, Other}
+
+-- what a move that is seen so does to a subtree. An unseen one leaves the cut as it was, by what unseen means
+abbrev pub HasDone : World → Path → ℕ → Event → Seen → Type 0
+HasDone w nester slot e (Onwards m) = IsPlain (after w e) nester slot × ((told : List Told) × IsOnward (cut w nester slot) m told (cut (after w e) nester slot))
+HasDone w nester slot e Unseen = IsPlain (after w e) nester slot
+HasDone w nester slot e Other = Unit {0}
+
+-- the law, for one event of a world that a store can hold
+abbrev pub KeepsCut : World → Path → ℕ → Event → Type 0
+KeepsCut w nester slot e =
+    IsSound w → IsPlain w nester slot → is_fit w e.mover e.ask ≡ true → IsReady w e.mover e.pick e.ask → (seen : Seen) → IsSeen w nester slot e seen → HasDone w nester slot e seen
+
+-- ---- the kinds of move for which it is proved
+
+-- a thread moves that stands at x and is at this stage
+abbrev pub IsAtStage : World → Path → Stage → Type 0
+IsAtStage w x stage = (t : Thread) × (todo : List Stage) × (rest : List ℕ) × (and_then thread_of (w.body x) ≡ Some t) × (t.mode ≡ Calling (stage ∷ todo) rest)
+
+abbrev pub moves : Path → Option Path → Event
+moves x pick = record { mover = x; pick = pick; ask = asks.Run }
+
+-- the law for every move of a user thread at such a stage, inside the subtree or outside
+abbrev pub StageKeepsCut : (Stage → Type 0) → Type 0
+StageKeepsCut IsSuch = (w : World) (nester : Path) (slot : ℕ) (x : Path) (pick : Option Path) (stage : Stage) → IsSuch stage → IsAtStage w x stage → KeepsCut w nester slot (moves x pick)

@@ -1,0 +1,66 @@
+-- Holds: threads of the root beside the space /1, which one of them holds.
+use Rattle.std.specs.Prelude.{ℕ, false, true, List, [], ◌∷◌, ◌++◌, replicate, Option, None, Some}
+use Rattle.fk_model.specs.Places.{Path, Ptr}
+use Rattle.fk_model.specs.Places.Ptr.{Null, At}
+use Rattle.fk_model.specs.Objects.{Body}
+use Rattle.fk_model.specs.Objects.Mode.{Native}
+use Rattle.fk_model.specs.Objects.Body.{Mutex, Mapping, Region, Port, Space, Reference}
+use Rattle.fk_model.specs.World.{World}
+use Rattle.fk_model.specs.Worked.{machine, world_of, page_with, numbered, running, calling, thread_at}
+
+-- the thread that holds or would hold /1, and another one
+abbrev pub holder : Path
+holder = 0 ∷ []
+
+abbrev pub other : Path
+other = 2 ∷ []
+
+-- a thread in /1
+abbrev pub inner : Path
+inner = 0 ∷ 1 ∷ []
+
+-- set r1, 3
+abbrev pub sets_r1 : List ℕ
+sets_r1 = 0x0110_0000_0000_0003 ∷ []
+
+-- slot 5 of the root holds a space that nobody holds
+abbrev pub root_and_1 : Option Ptr → List ℕ → List ℕ → List (Path × Body)
+root_and_1 held g h =
+    (holder, calling 0 g) ∷ (other, calling 0 h) ∷ (1 ∷ [], Space 1 held) ∷ (inner, running 0 []) ∷ (5 ∷ [], Space 2 None) ∷ []
+
+-- the holder is about to hold /1, and the other thread makes a call
+unfoldable pub before_hold : List ℕ → World
+before_hold h = world_of (root_and_1 None (13 ∷ 256 ∷ 1 ∷ []) h) (numbered [] 1000 1 ∷ page_with (1 ∷ []) 0 sets_r1 ∷ [])
+
+-- /1 is held, and both threads make calls. In the root are references to the thread in /1, in slot 8, and to nothing, in
+-- slot 9, and a port in slot 10, to which a reference of /1 leads
+unfoldable pub held : List ℕ → List ℕ → World
+held g h = world_of
+    (root_and_1 (Some (At holder)) g h ++ ((8 ∷ [], Reference (At inner)) ∷ (9 ∷ [], Reference Null) ∷ (10 ∷ [], Port None false) ∷ (7 ∷ 1 ∷ [], Reference (At (10 ∷ []))) ∷ []))
+    (numbered [] 1000 1 ∷ page_with (1 ∷ []) 0 sets_r1 ∷ [])
+
+-- ---- page 10 of the root is a window on page 3 of /1, and a thread of the root stores there
+
+-- store r1, r2, 0
+abbrev pub stores_at_r2 : List ℕ
+stores_at_r2 = 0x0e12_0000_0000_0000 ∷ []
+
+unfoldable pub storing : Option Ptr → World
+storing held = world_of
+    (root_and_1 held [] [] ++ ((6 ∷ [], running 0 (0 ∷ 7 ∷ 640 ∷ [])) ∷ (7 ∷ [], Mapping (record { first = 10; count = 1; offset = 0; write = true; region = At (3 ∷ 1 ∷ []) }))
+    ∷ (3 ∷ 1 ∷ [], Region (record { first = 3; count = 1; write = true; keeper = Null })) ∷ []))
+    (page_with [] 0 stores_at_r2 ∷ numbered (1 ∷ []) 1000 3 ∷ [])
+
+-- ---- /1 has a porter, which holds the space in slot 2 of /1
+
+abbrev pub porter : Path
+porter = 255 ∷ 1 ∷ []
+
+unfoldable pub working_porter : World
+working_porter = world_of
+    ((holder, calling 0 (13 ∷ 256 ∷ 1 ∷ [])) ∷ (1 ∷ [], Space 1 None) ∷ (2 ∷ 1 ∷ [], Space 2 (Some (At porter))) ∷ (porter, thread_at (Native (replicate 16 0)) 0) ∷ []) []
+
+-- ---- to compute in these worlds is to unfold these
+unfoldable pub holds : Unit {0}
+unfolding machine before_hold held storing working_porter
+holds = tt

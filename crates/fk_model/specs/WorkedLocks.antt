@@ -1,0 +1,92 @@
+-- Programs, mutexes and conditions: threads of /1 run the program in its page 0.
+use Rattle.std.specs.Prelude.{ℕ, false, true, List, [], ◌∷◌, ◌++◌, replicate, None}
+use Rattle.fk_model.specs.Places.{Path}
+use Rattle.fk_model.specs.Objects.Body.{Mutex, Cond, Space}
+use Rattle.fk_model.specs.World.{World}
+use Rattle.fk_model.specs.Runs.{Event}
+use Rattle.fk_model.specs.Worked.{machine, world_of, page_with, numbered, running, calling, goes, picks, times}
+
+abbrev pub thread_0 : Path
+thread_0 = 0 ∷ 1 ∷ []
+
+abbrev pub thread_1 : Path
+thread_1 = 1 ∷ 1 ∷ []
+
+-- ---- programs
+
+-- set r1, 3; set r2, 5; sub r3, r1, r2; set r4, 64; shl r5, r2, r4; div r6, r1, r5
+abbrev pub division : List ℕ
+division = 0x0110_0000_0000_0003 ∷ 0x0120_0000_0000_0005 ∷ 0x0431_2000_0000_0000 ∷ 0x0140_0000_0000_0040 ∷ 0x0952_4000_0000_0000 ∷ 0x0b61_5000_0000_0000 ∷ []
+
+-- set r1, 2; addi r1, r1, -1; jnz r1, 1; halt
+abbrev pub countdown : List ℕ
+countdown = 0x0110_0000_0000_0002 ∷ 0x1311_0000_ffff_ffff ∷ 0x1110_0000_0000_0001 ∷ 0x0000_0000_0000_0000 ∷ []
+
+-- one thread, with this program
+unfoldable pub alone_with : List ℕ → World
+alone_with program = world_of ((1 ∷ [], Space 1 None) ∷ (thread_0, running 0 []) ∷ []) (page_with (1 ∷ []) 0 program ∷ [])
+
+-- ---- a mutex in slot 5, which both threads lock
+
+-- set r0, 21; set r1, 5; call; halt
+abbrev pub locks_5 : List ℕ
+locks_5 = 0x0100_0000_0000_0015 ∷ 0x0110_0000_0000_0005 ∷ 0x1400_0000_0000_0000 ∷ 0x0000_0000_0000_0000 ∷ []
+
+abbrev pub mutex : Path
+mutex = 5 ∷ 1 ∷ []
+
+unfoldable pub two_lock : World
+two_lock = world_of ((1 ∷ [], Space 1 None) ∷ (mutex, Mutex false) ∷ (thread_0, running 0 []) ∷ (thread_1, running 0 []) ∷ []) (page_with (1 ∷ []) 0 locks_5 ∷ [])
+
+-- four moves of the first thread, three of the second
+abbrev pub lock_twice : List Event
+lock_twice = times 4 (goes thread_0) ++ times 3 (goes thread_1)
+
+-- ---- a condition in slot 6
+
+-- set r0, 15; set r1, 0; call; set r0, 9; set r1, 256; set r2, 0; set r3, 128; call; set r0, 26; set r1, 6; call;
+-- set r0, 16; set r1, 0; call
+abbrev pub stops_and_signals : List ℕ
+stops_and_signals =
+    0x0100_0000_0000_000f ∷ 0x0110_0000_0000_0000 ∷ 0x1400_0000_0000_0000 ∷
+    0x0100_0000_0000_0009 ∷ 0x0110_0000_0000_0100 ∷ 0x0120_0000_0000_0000 ∷ 0x0130_0000_0000_0080 ∷ 0x1400_0000_0000_0000 ∷
+    0x0100_0000_0000_001a ∷ 0x0110_0000_0000_0006 ∷ 0x1400_0000_0000_0000 ∷
+    0x0100_0000_0000_0010 ∷ 0x0110_0000_0000_0000 ∷ 0x1400_0000_0000_0000 ∷ []
+
+abbrev pub cond : Path
+cond = 6 ∷ 1 ∷ []
+
+-- the first thread has the mutex and is about to wait for the condition
+unfoldable pub one_sleeps : World
+one_sleeps = world_of ((1 ∷ [], Space 1 None) ∷ (mutex, Mutex true) ∷ (cond, Cond) ∷ (thread_0, calling 40 (24 ∷ 6 ∷ 5 ∷ [])) ∷ (thread_1, running 0 []) ∷ []) (page_with (1 ∷ []) 0 stops_and_signals ∷ numbered (1 ∷ []) 1000 2 ∷ [])
+
+abbrev pub sleeper_and_signaller : List Path
+sleeper_and_signaller = thread_0 ∷ thread_1 ∷ mutex ∷ []
+
+-- it sleeps; the second thread stops it, reads its state, signals to it, and lets it go
+abbrev pub sleeps : List Event
+sleeps = goes thread_0 ∷ []
+
+abbrev pub and_stopped : List Event
+and_stopped = sleeps ++ times 4 (goes thread_1)
+
+abbrev pub and_read : List Event
+and_read = and_stopped ++ times 6 (goes thread_1)
+
+abbrev pub and_signalled : List Event
+and_signalled = and_read ++ (times 3 (goes thread_1) ++ picks thread_1 thread_0 ∷ [])
+
+abbrev pub and_let_go : List Event
+and_let_go = and_signalled ++ times 4 (goes thread_1)
+
+abbrev pub and_locked : List Event
+and_locked = and_let_go ++ goes thread_0 ∷ []
+
+-- nobody sleeps on the condition
+unfoldable pub none_sleeps : World
+none_sleeps = world_of ((1 ∷ [], Space 1 None) ∷ (cond, Cond) ∷ (thread_0, running 40 []) ∷ (thread_1, calling 0 (26 ∷ 6 ∷ [])) ∷ []) []
+
+-- ---- to compute in these worlds is to unfold these
+unfoldable pub locks : Unit {0}
+unfolding machine alone_with two_lock one_sleeps none_sleeps
+locks = tt

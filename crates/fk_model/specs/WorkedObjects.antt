@@ -1,0 +1,93 @@
+-- Objects: made, found, renamed and destroyed; references and handles.
+use Rattle.std.specs.Prelude.{ℕ, false, true, List, [], ◌∷◌, ◌++◌, None, Some}
+use Rattle.fk_model.specs.declared.thread.Turn.TheVariants as turns
+use Rattle.fk_model.specs.Places.{Path, Ptr}
+use Rattle.fk_model.specs.Places.Ptr.{Null, Dead, At}
+use Rattle.fk_model.specs.Objects.{Body}
+use Rattle.fk_model.specs.Objects.Body.{Mutex, Port, Portset, Space, Reference}
+use Rattle.fk_model.specs.World.{World}
+use Rattle.fk_model.specs.Runs.{run}
+use Rattle.fk_model.specs.Worked.{machine, world_of, numbered, running, calling, with_talk, served_by, goes, times}
+
+-- ---- one thread of /1 makes a call there
+
+abbrev pub caller : Path
+caller = 0 ∷ 1 ∷ []
+
+-- with these objects in /1 besides
+abbrev pub in_1 : List (Path × Body) → List ℕ → World
+in_1 objects g = world_of ((1 ∷ [], Space 1 None) ∷ (caller, calling 0 g) ∷ objects) []
+
+unfoldable pub alone_in : List ℕ → World
+alone_in g = in_1 [] g
+
+-- the reference in slot 2 leads to the port in slot 6 of the space in slot 4
+unfoldable pub locating : ℕ → World
+locating s = in_1 ((2 ∷ 1 ∷ [], Reference (At (6 ∷ 4 ∷ 1 ∷ []))) ∷ (4 ∷ 1 ∷ [], Space 2 None) ∷ (6 ∷ 4 ∷ 1 ∷ [], Port None false) ∷ []) (7 ∷ 2 ∷ s ∷ [])
+
+-- a space with objects in the slots 3 and 7 alone: the thread that searches, and a mutex
+abbrev pub searcher : Path
+searcher = 3 ∷ 1 ∷ []
+
+unfoldable pub searching : ℕ → World
+searching from = world_of ((1 ∷ [], Space 1 None) ∷ (searcher, calling 0 (4 ∷ 256 ∷ from ∷ [])) ∷ (7 ∷ 1 ∷ [], Mutex false) ∷ []) []
+
+-- references in the slots 1 to 4: to nothing, to what was destroyed, to a port, to the thread; a mutex in 5, a port in 6
+unfoldable pub with_references : List ℕ → World
+with_references g = in_1
+    ((1 ∷ 1 ∷ [], Reference Null) ∷ (2 ∷ 1 ∷ [], Reference Dead) ∷ (3 ∷ 1 ∷ [], Reference (At (6 ∷ 1 ∷ []))) ∷ (4 ∷ 1 ∷ [], Reference (At caller))
+    ∷ (5 ∷ 1 ∷ [], Mutex false) ∷ (6 ∷ 1 ∷ [], Port None false) ∷ (240 ∷ 1 ∷ [], Reference (At caller)) ∷ []) g
+
+-- ---- the space in slot 2 of the root is destroyed, by a thread of the root
+
+abbrev pub destroyer : Path
+destroyer = 0 ∷ []
+
+-- it serves the thread in slot 1 of /2
+abbrev pub server : Path
+server = 1 ∷ []
+
+abbrev pub doomed : List (Path × Body)
+doomed =
+    (destroyer, calling 0 (2 ∷ 256 ∷ 2 ∷ [])) ∷ (server, calling 30 (50 ∷ 0 ∷ 0 ∷ 0 ∷ 64 ∷ 10 ∷ [])) ∷ (3 ∷ [], Port None false)
+    ∷ (2 ∷ [], Space 1 None) ∷ (0 ∷ 2 ∷ [], Reference (At (3 ∷ []))) ∷ (1 ∷ 2 ∷ [], with_talk (served_by (3 ∷ []) server turns.Client 0) (running 20 [])) ∷ (4 ∷ 2 ∷ [], Mutex false)
+    ∷ (5 ∷ [], Reference (At (2 ∷ []))) ∷ (6 ∷ [], Reference (At (1 ∷ 2 ∷ []))) ∷ []
+
+unfoldable pub destroying : World
+destroying = world_of doomed (numbered [] 1000 1 ∷ numbered (2 ∷ []) 2000 0 ∷ [])
+
+-- the objects of /2, and /2 itself; and beside it the server, the references to /2 and to the thread in it, and the caller
+abbrev pub in_2 : List Path
+in_2 = (0 ∷ 2 ∷ []) ∷ (1 ∷ 2 ∷ []) ∷ (4 ∷ 2 ∷ []) ∷ (2 ∷ []) ∷ []
+
+abbrev pub beside_2 : List Path
+beside_2 = server ∷ (5 ∷ []) ∷ (6 ∷ []) ∷ destroyer ∷ []
+
+-- after so many stages
+unfoldable pub destroyed : ℕ → World
+destroyed n = run destroying (times n (goes destroyer))
+
+-- ---- threads of /1 rename a port, a space with an object, and a port set
+
+abbrev pub renamer : ℕ → Path
+renamer k = k ∷ 1 ∷ []
+
+abbrev pub to_rename : List (Path × Body)
+to_rename =
+    (1 ∷ [], Space 1 None) ∷ (2 ∷ [], Space 2 None) ∷ (8 ∷ 1 ∷ [], Space 3 None) ∷ (0 ∷ 8 ∷ 1 ∷ [], Mutex false)
+    ∷ (4 ∷ 1 ∷ [], Port (Some 20) false) ∷ (20 ∷ 1 ∷ [], Portset)
+    ∷ (5 ∷ 1 ∷ [], Reference (At (4 ∷ 1 ∷ []))) ∷ (6 ∷ 1 ∷ [], Reference (At (4 ∷ 1 ∷ []))) ∷ (0 ∷ 2 ∷ [], Reference (At (4 ∷ 1 ∷ [])))
+    ∷ (renamer 10, calling 0 (3 ∷ 256 ∷ 4 ∷ 7 ∷ [])) ∷ (renamer 11, calling 0 (3 ∷ 256 ∷ 7 ∷ 5 ∷ [])) ∷ (renamer 12, calling 0 (3 ∷ 256 ∷ 8 ∷ 9 ∷ []))
+    ∷ (renamer 13, calling 0 (3 ∷ 256 ∷ 20 ∷ 21 ∷ [])) ∷ []
+
+unfoldable pub renaming : World
+renaming = world_of to_rename []
+
+-- the renamed port's old and new slot, and the three references to it
+abbrev pub port_and_references : List Path
+port_and_references = (4 ∷ 1 ∷ []) ∷ (7 ∷ 1 ∷ []) ∷ (5 ∷ 1 ∷ []) ∷ (6 ∷ 1 ∷ []) ∷ (0 ∷ 2 ∷ []) ∷ []
+
+-- ---- to compute in these worlds is to unfold these
+unfoldable pub objects : Unit {0}
+unfolding machine alone_in locating searching with_references destroying destroyed renaming
+objects = tt

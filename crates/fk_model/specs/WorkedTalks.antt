@@ -1,0 +1,154 @@
+-- Talks: a client in /1 and a server thread in /2, linked at the port in slot 3 of /2.
+use Rattle.std.specs.Prelude.{◌≡◌, ℕ, false, true, List, [], ◌∷◌, ◌++◌, map, Option, Some, None}
+use Rattle.fk_model.specs.declared.thread.Turn.{Turn}
+use Rattle.fk_model.specs.declared.thread.Turn.TheVariants as turns
+use Rattle.fk_model.specs.Places.{Path}
+use Rattle.fk_model.specs.Places.Ptr.{At}
+use Rattle.fk_model.specs.Objects.{Talk, Fault, Peer, Body}
+use Rattle.fk_model.specs.Objects.Peer.{Server, Service}
+use Rattle.fk_model.specs.Objects.Body.{Region, Port, Portset, Space, Reference}
+use Rattle.fk_model.specs.World.{World}
+use Rattle.fk_model.specs.Runs.{Event, run}
+use Rattle.fk_model.specs.Worked.{Page, machine, world_of, page_with, numbered, running, calling, with_talk, served_by, registers_at, registers_from, goes, picks, times, accepts, hands_over}
+
+abbrev pub client : Path
+client = 0 ∷ 1 ∷ []
+
+abbrev pub server : Path
+server = 1 ∷ 2 ∷ []
+
+abbrev pub port : Path
+port = 3 ∷ 2 ∷ []
+
+-- the talk at its client's turn, and at its server's
+abbrev pub clients_turn : ℕ → Talk
+clients_turn moved = served_by port server turns.Client moved
+
+abbrev pub servers_turn : ℕ → Talk
+servers_turn moved = served_by port server turns.Server moved
+
+-- ---- a message: the client sends words of /1, which are 1000 and their addresses; in /2 words are 2000 and theirs
+
+-- the client's registers in call 34, and the server's in call 50
+abbrev pub sending : ℕ → ℕ → List ℕ
+sending address count = 34 ∷ 9 ∷ address ∷ count ∷ 448 ∷ 10 ∷ []
+
+abbrev pub receiving : ℕ → ℕ → List ℕ
+receiving into room = 50 ∷ 8 ∷ 7 ∷ 6 ∷ into ∷ room ∷ []
+
+abbrev pub talkers : Body → Body → List (Path × Body)
+talkers client_body server_body = (1 ∷ [], Space 1 None) ∷ (2 ∷ [], Space 2 None) ∷ (client, client_body) ∷ (server, server_body) ∷ (port, Port None false) ∷ []
+
+abbrev pub both_pages : List Page
+both_pages = map (numbered (1 ∷ []) 1000) (2 ∷ 3 ∷ 4 ∷ 5 ∷ 7 ∷ []) ++ map (numbered (2 ∷ []) 2000) (4 ∷ 5 ∷ 6 ∷ [])
+
+unfoldable pub message : ℕ → ℕ → ℕ → ℕ → World
+message address count into room = world_of (talkers (with_talk (clients_turn 0) (calling 20 (sending address count))) (calling 30 (receiving into room))) both_pages
+
+-- 130 words from 182 into 200 words at 315, after so many moves of the client
+unfoldable pub sent : ℕ → World
+sent n = run (message 182 130 315 200) (times n (goes client))
+
+-- both ends show what is left to send and to receive
+abbrev pub AreAt : World → ℕ → ℕ → ℕ → ℕ → Type 0
+AreAt w address count into room = (registers_at w client ≡ registers_from (sending address count)) × (registers_at w server ≡ registers_from (receiving into room))
+
+-- 130 words from 256 into 40 words at 320
+unfoldable pub sent_to_few : ℕ → World
+sent_to_few n = run (message 256 130 320 40) (times n (goes client))
+
+-- ---- calls of a client, with a talk at its own turn and without one. Slot 4 of /1 leads to the port
+
+unfoldable pub linked_in : List ℕ → World
+linked_in g = world_of ((4 ∷ 1 ∷ [], Reference (At port)) ∷ talkers (with_talk (clients_turn 0) (calling 20 g)) (calling 30 (receiving 315 200))) both_pages
+
+unfoldable pub unlinked_in : List ℕ → World
+unlinked_in g = world_of ((4 ∷ 1 ∷ [], Reference (At port)) ∷ talkers (calling 20 g) (calling 30 (48 ∷ 7 ∷ []))) both_pages
+
+-- ---- two threads of the root read the states of both ends, into page 1 of the root
+
+abbrev pub reader : Path
+reader = 5 ∷ []
+
+abbrev pub second_reader : Path
+second_reader = 6 ∷ []
+
+-- the client is /1's object 0, the server /2's object 1
+abbrev pub readers : List (Path × Body)
+readers = (reader, calling 0 (9 ∷ 1 ∷ 0 ∷ 64 ∷ [])) ∷ (second_reader, calling 0 (9 ∷ 2 ∷ 1 ∷ 96 ∷ [])) ∷ []
+
+unfoldable pub watched : World
+watched = world_of (readers ++ talkers (with_talk (clients_turn 0) (calling 20 (sending 182 130))) (calling 30 (receiving 315 200))) (numbered [] 0 1 ∷ both_pages)
+
+abbrev pub sent_and_read : List Event
+sent_and_read = times 3 (goes client) ++ (goes reader ∷ goes second_reader ∷ [])
+
+-- ---- page 5 of /2 is missing. A region there has it kept by port 9 of the root, which is in the set of slot 8
+
+abbrev pub keeper : Path
+keeper = 0 ∷ []
+
+-- set r0, 48; set r1, 8; call; set r0, 17; set r1, 2; set r2, 5; addi r3, r15, -1; call; set r0, 56; call
+abbrev pub waits_and_gives : List ℕ
+waits_and_gives =
+    0x0100_0000_0000_0030 ∷ 0x0110_0000_0000_0008 ∷ 0x1400_0000_0000_0000 ∷
+    0x0100_0000_0000_0011 ∷ 0x0110_0000_0000_0002 ∷ 0x0120_0000_0000_0005 ∷ 0x133f_0000_ffff_ffff ∷ 0x1400_0000_0000_0000 ∷
+    0x0100_0000_0000_0038 ∷ 0x1400_0000_0000_0000 ∷ []
+
+abbrev pub kept_by_root : List (Path × Body)
+kept_by_root =
+    (keeper, running 0 []) ∷ (8 ∷ [], Portset) ∷ (9 ∷ [], Port (Some 8) false)
+    ∷ (4 ∷ 2 ∷ [], Region (record { first = 5; count = 1; write = false; keeper = At (9 ∷ []) })) ∷ []
+
+unfoldable pub kept : World
+kept = world_of (kept_by_root ++ talkers (with_talk (clients_turn 0) (calling 20 (sending 182 130))) (calling 30 (receiving 315 200)))
+    (page_with [] 0 waits_and_gives ∷ (map (numbered (1 ∷ []) 1000) (2 ∷ 3 ∷ 4 ∷ 5 ∷ 7 ∷ []) ++ map (numbered (2 ∷ []) 2000) (4 ∷ 6 ∷ [])))
+
+abbrev pub talkers_and_keeper : List Path
+talkers_and_keeper = client ∷ server ∷ keeper ∷ []
+
+-- the receiver missed page 5 by a write
+abbrev pub missed_5 : Option Peer → Fault
+missed_5 taker = record { page = 5; write = true; port = At (9 ∷ []); taker = taker }
+
+-- five words arrive; the receiver misses the page; the keeper takes the fault, gives a page of zeros, and is done
+abbrev pub arrived : List Event
+arrived = goes client ∷ []
+
+abbrev pub and_missed : List Event
+and_missed = arrived ++ goes server ∷ []
+
+abbrev pub and_taken : List Event
+and_taken = and_missed ++ (times 3 (goes keeper) ++ picks keeper server ∷ [])
+
+abbrev pub and_given : List Event
+and_given = and_taken ++ times 6 (goes keeper)
+
+abbrev pub and_mended : List Event
+and_mended = and_given ++ times 3 (goes keeper)
+
+-- and then the client goes on, so many times
+unfoldable pub mended_and_sent : ℕ → World
+mended_and_sent n = run kept (and_mended ++ times n (goes client))
+
+-- ---- a client calls a port that a server waits at: the port is in the set of slot 8 of /2
+
+unfoldable pub meeting : World
+meeting = world_of
+    ((1 ∷ [], Space 1 None) ∷ (2 ∷ [], Space 2 None) ∷ (4 ∷ 1 ∷ [], Reference (At port)) ∷ (8 ∷ 2 ∷ [], Portset) ∷ (port, Port (Some 8) false)
+    ∷ (client, calling 20 (33 ∷ 4 ∷ 182 ∷ 130 ∷ 448 ∷ 10 ∷ [])) ∷ (server, calling 30 (49 ∷ 8 ∷ 77 ∷ 66 ∷ 315 ∷ 200 ∷ [])) ∷ [])
+    both_pages
+
+-- ---- the server replies ten words from 256 to the client, which receives at 448
+
+unfoldable pub replying : World
+replying = world_of (talkers (with_talk (servers_turn 0) (calling 20 (36 ∷ 9 ∷ 312 ∷ 0 ∷ 448 ∷ 10 ∷ []))) (calling 30 (53 ∷ 8 ∷ 256 ∷ 10 ∷ 315 ∷ 200 ∷ []))) both_pages
+
+-- the server ends the talk instead
+unfoldable pub ending : World
+ending = world_of (talkers (with_talk (servers_turn 0) (calling 20 (36 ∷ 9 ∷ 312 ∷ 0 ∷ 448 ∷ 10 ∷ []))) (calling 30 (55 ∷ []))) both_pages
+
+-- ---- to compute in these worlds is to unfold these
+unfoldable pub talks : Unit {0}
+unfolding machine message sent sent_to_few linked_in unlinked_in watched kept mended_and_sent meeting replying ending
+talks = tt

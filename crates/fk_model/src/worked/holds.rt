@@ -1,0 +1,73 @@
+//! Holds, and what they freeze.
+#![tactic(auto, unfolding(crate::specs::WorkedHolds::holds))]
+
+ghost use Rattle.std.specs.Prelude.{◌≡◌, [], ◌∷◌, ◌++◌, Some, None, true, false, replicate};
+ghost use Rattle.fk_model.specs.declared.stage.Stage.TheVariants.{SpaceRelease, MutexLock};
+ghost use Rattle.fk_model.specs.Places.Ptr.{At, Null};
+ghost use Rattle.fk_model.specs.Objects.Body.{Mutex, Space, Reference};
+ghost use Rattle.fk_model.specs.Outcomes.Said.{Answered};
+ghost use Rattle.fk_model.specs.Runs.{run, IsLegal};
+ghost use Rattle.fk_model.specs.Worked.{IsReadyTo, told, goes, makes, times, running, calling, numbers_from};
+ghost use Rattle.fk_model.specs.WorkedHolds.{holder, other, inner, before_hold, held, storing, porter, working_porter};
+
+/// A thread holds a space, and then nothing in it moves.
+pub fn a_hold_stops_what_it_holds()
+    ensures moves { IsReadyTo (before_hold []) (goes inner) }
+    ensures ready { IsReadyTo (before_hold []) (goes holder) }
+    ensures held { (run (before_hold []) (goes holder ∷ [])).body (1 ∷ []) ≡ Some (Space 1 (Some (At holder))) }
+    ensures done { (run (before_hold []) (goes holder ∷ [])).body holder ≡ Some (running 1 (0 ∷ 256 ∷ 1 ∷ [])) }
+    ensures stands { ¬ IsReadyTo (run (before_hold []) (goes holder ∷ [])) (goes inner) }
+{}
+
+/// While a space is held another thread is refused HELD where it creates in it, and can't hold it; it may read states
+/// there. The holder may create.
+pub fn others_only_read_a_held_space()
+    ensures ready { IsLegal (before_hold (1 ∷ 1 ∷ 0 ∷ 1 ∷ [])) (goes holder ∷ goes other ∷ []) }
+    ensures refused { (run (before_hold (1 ∷ 1 ∷ 0 ∷ 1 ∷ [])) (goes holder ∷ goes other ∷ [])).body other ≡ Some (running 1 (9 ∷ 1 ∷ 0 ∷ 1 ∷ [])) }
+    ensures waits { ¬ IsReadyTo (run (before_hold (13 ∷ 256 ∷ 1 ∷ [])) (goes holder ∷ [])) (goes other) }
+    ensures reads { IsLegal (before_hold (9 ∷ 1 ∷ 0 ∷ 64 ∷ [])) (goes holder ∷ goes other ∷ []) }
+    ensures read { (run (before_hold (9 ∷ 1 ∷ 0 ∷ 64 ∷ [])) (goes holder ∷ goes other ∷ [])).body other ≡ Some (running 1 (0 ∷ 1 ∷ 0 ∷ 64 ∷ [])) }
+    ensures shown { (run (before_hold (9 ∷ 1 ∷ 0 ∷ 64 ∷ [])) (goes holder ∷ goes other ∷ [])).page [] 1 ≡ Some ((8 ∷ []) ++ (replicate 31 0 ++ numbers_from 1096 32)) }
+    ensures may { IsReadyTo (held (1 ∷ 1 ∷ 5 ∷ 1 ∷ []) []) (goes holder) }
+    ensures creates { (run (held (1 ∷ 1 ∷ 5 ∷ 1 ∷ []) []) (goes holder ∷ [])).body (5 ∷ 1 ∷ []) ≡ Some (Mutex false) }
+{}
+
+/// Its holder alone releases a space.
+pub fn only_its_holder_releases_a_space()
+    ensures ready { IsReadyTo (held (14 ∷ 256 ∷ 1 ∷ []) (14 ∷ 256 ∷ 1 ∷ [])) (goes holder) }
+    ensures released { (run (held (14 ∷ 256 ∷ 1 ∷ []) []) (goes holder ∷ [])).body (1 ∷ []) ≡ Some (Space 1 None) }
+    ensures done { (run (held (14 ∷ 256 ∷ 1 ∷ []) []) (goes holder ∷ [])).body holder ≡ Some (running 1 (0 ∷ 256 ∷ 1 ∷ [])) }
+    ensures denied { (run (held [] (14 ∷ 256 ∷ 1 ∷ [])) (goes other ∷ [])).body other ≡ Some (running 1 (13 ∷ 256 ∷ 1 ∷ [])) }
+    ensures stays { (run (held [] (14 ∷ 256 ∷ 1 ∷ [])) (goes other ∷ [])).body (1 ∷ []) ≡ Some (Space 1 (Some (At holder))) }
+    ensures unheld { (run (held [] (14 ∷ 256 ∷ 5 ∷ [])) (goes other ∷ [])).body other ≡ Some (running 1 (13 ∷ 256 ∷ 5 ∷ [])) }
+{}
+
+/// A store through a window on a page of a held space isn't ready, for anybody but the holder.
+pub fn a_held_spaces_pages_are_frozen()
+    ensures ready { IsReadyTo (storing None) (goes (6 ∷ [])) }
+    ensures stored { (run (storing None) (goes (6 ∷ []) ∷ [])).page (1 ∷ []) 3 ≡ Some (7 ∷ numbers_from 1193 63) }
+    ensures waits { ¬ IsReadyTo (storing (Some (At holder))) (goes (6 ∷ [])) }
+    ensures may { IsReadyTo (storing (Some (At (6 ∷ [])))) (goes (6 ∷ [])) }
+{}
+
+/// No pointer comes to lead to what another thread holds, and none that leads there is changed; the holder may do both.
+/// Nor is an object renamed or destroyed to which a pointer of a held space leads.
+pub fn pointers_to_what_is_held_are_frozen()
+    ensures points { ¬ IsReadyTo (held [] (5 ∷ 256 ∷ 9 ∷ 1 ∷ 0 ∷ [])) (goes other) }
+    ensures clears { ¬ IsReadyTo (held [] (6 ∷ 256 ∷ 8 ∷ [])) (goes other) }
+    ensures copies { ¬ IsReadyTo (held [] (5 ∷ 256 ∷ 9 ∷ 256 ∷ 8 ∷ [])) (goes other) }
+    ensures renames { ¬ IsReadyTo (held [] (3 ∷ 256 ∷ 10 ∷ 11 ∷ [])) (goes other) }
+    ensures destroys { ¬ IsReadyTo (held [] (2 ∷ 256 ∷ 10 ∷ [])) (goes other) }
+    ensures holder_points { IsReadyTo (held (5 ∷ 256 ∷ 9 ∷ 1 ∷ 0 ∷ []) []) (goes holder) }
+    ensures holder_clears { IsReadyTo (held (6 ∷ 256 ∷ 8 ∷ []) []) (goes holder) }
+    ensures elsewhere { IsReadyTo (held [] (6 ∷ 256 ∷ 9 ∷ [])) (goes other) }
+{}
+
+/// While a porter holds a space nobody comes to hold one above it; after its release somebody may.
+pub fn nobody_holds_above_a_porters_hold()
+    ensures waits { ¬ IsReadyTo working_porter (goes holder) }
+    ensures releases { IsReadyTo working_porter (makes porter (SpaceRelease 256 2) []) }
+    ensures answer { told working_porter (makes porter (SpaceRelease 256 2) []) ≡ Answered 0 [] }
+    ensures ready { IsReadyTo (run working_porter (makes porter (SpaceRelease 256 2) [] ∷ [])) (goes holder) }
+    ensures done { (run working_porter (makes porter (SpaceRelease 256 2) [] ∷ goes holder ∷ [])).body holder ≡ Some (running 1 (0 ∷ 256 ∷ 1 ∷ [])) }
+{}

@@ -1,0 +1,60 @@
+//! Programs, mutexes and conditions.
+#![tactic(auto, unfolding(crate::specs::WorkedLocks::locks))]
+
+ghost use Rattle.std.specs.Prelude.{◌≡◌, [], ◌∷◌, ◌++◌, Some, true, false, replicate};
+ghost use Rattle.fk_model.specs.Objects.Body.{Mutex};
+ghost use Rattle.fk_model.specs.Runs.{run, IsLegal};
+ghost use Rattle.fk_model.specs.Worked.{scene, IsReadyTo, goes, picks, times, running, calling, halted, stopped, registers_at, registers_from, numbers_from};
+ghost use Rattle.fk_model.specs.WorkedLocks.{alone_with, division, countdown, two_lock, lock_twice, one_sleeps, sleeps, and_stopped, and_read, and_signalled, and_let_go, and_locked, sleeper_and_signaller, none_sleeps, thread_0, thread_1, mutex};
+
+/// A program subtracts past zero, shifts all bits out, and divides by the zero that is left: it halts with code 1.
+pub fn a_zero_divisor_halts_a_program()
+    ensures ready { IsLegal (alone_with division) (times 6 (goes thread_0)) }
+    ensures halts { (run (alone_with division) (times 6 (goes thread_0))).body thread_0 ≡ Some (halted 5 (0 ∷ 3 ∷ 5 ∷ 18446744073709551614 ∷ 64 ∷ []) 1) }
+{}
+
+/// A loop counts a register down to zero, and then the program halts.
+pub fn a_loop_ends_at_zero()
+    ensures ready { IsLegal (alone_with countdown) (times 6 (goes thread_0)) }
+    ensures jumps { (run (alone_with countdown) (times 3 (goes thread_0))).body thread_0 ≡ Some (running 1 (0 ∷ 1 ∷ [])) }
+    ensures halts { (run (alone_with countdown) (times 6 (goes thread_0))).body thread_0 ≡ Some (halted 3 [] 0) }
+{}
+
+/// Two threads lock one mutex. The first has it and goes on; the second stays in its call and isn't ready.
+pub fn one_thread_has_the_mutex_and_the_other_waits()
+    ensures ready { IsLegal two_lock lock_twice }
+    ensures first { (run two_lock lock_twice).body thread_0 ≡ Some (running 3 (0 ∷ 5 ∷ [])) }
+    ensures locked { (run two_lock lock_twice).body mutex ≡ Some (Mutex true) }
+    ensures second { (run two_lock lock_twice).body thread_1 ≡ Some (calling 2 (21 ∷ 5 ∷ [])) }
+    ensures shown { registers_at (run two_lock lock_twice) thread_1 ≡ registers_from (21 ∷ 5 ∷ []) }
+    ensures waits { ¬ IsReadyTo (run two_lock lock_twice) (goes thread_1) }
+    ensures goes_on { IsReadyTo (run two_lock lock_twice) (goes thread_0) }
+    ensures halts { (run two_lock (lock_twice ++ goes thread_0 ∷ [])).body thread_0 ≡ Some (halted 3 (0 ∷ 5 ∷ []) 0) }
+{}
+
+/// A thread that waits for a condition lets its mutex go and sleeps, also while it is stopped. A signal turns its call
+/// into one that locks the mutex, and that is made once the thread may go on.
+pub fn a_signal_wakes_a_stopped_sleeper()
+    ensures ready { IsLegal one_sleeps and_locked }
+    ensures sleeps { scene sleeper_and_signaller (run one_sleeps sleeps) ≡ Some (calling 40 (25 ∷ 6 ∷ 5 ∷ [])) ∷ Some (running 0 []) ∷ Some (Mutex false) ∷ [] }
+    ensures sleeps_on { ¬ IsReadyTo (run one_sleeps sleeps) (goes thread_0) }
+    ensures stopped { scene sleeper_and_signaller (run one_sleeps and_stopped) ≡ Some (stopped 1 (calling 40 (25 ∷ 6 ∷ 5 ∷ []))) ∷ Some (running 3 []) ∷ Some (Mutex false) ∷ [] }
+    ensures no_pick { ¬ IsReadyTo (run one_sleeps (and_read ++ times 3 (goes thread_1))) (goes thread_1) }
+    ensures signalled { scene sleeper_and_signaller (run one_sleeps and_signalled) ≡ Some (stopped 1 (calling 40 (21 ∷ 5 ∷ 5 ∷ []))) ∷ Some (running 11 (0 ∷ 6 ∷ 0 ∷ 128 ∷ [])) ∷ Some (Mutex false) ∷ [] }
+    ensures shown { registers_at (run one_sleeps and_signalled) thread_0 ≡ registers_from (21 ∷ 5 ∷ 5 ∷ []) }
+    ensures waits { ¬ IsReadyTo (run one_sleeps and_signalled) (goes thread_0) }
+    ensures let_go { scene sleeper_and_signaller (run one_sleeps and_let_go) ≡ Some (calling 40 (21 ∷ 5 ∷ 5 ∷ [])) ∷ Some (running 14 (0 ∷ 0 ∷ 0 ∷ 128 ∷ [])) ∷ Some (Mutex false) ∷ [] }
+    ensures locked { scene sleeper_and_signaller (run one_sleeps and_locked) ≡ Some (running 41 (0 ∷ 5 ∷ 5 ∷ [])) ∷ Some (running 14 (0 ∷ 0 ∷ 0 ∷ 128 ∷ [])) ∷ Some (Mutex true) ∷ [] }
+{}
+
+/// The record of a stopped sleeper: its kind, its registers, its counter, that it calls, and its stop count.
+pub fn the_record_of_a_stopped_sleeper()
+    ensures { (run one_sleeps and_read).page (1 ∷ []) 2 ≡ Some ((8 ∷ 25 ∷ 6 ∷ 5 ∷ []) ++ (replicate 13 0 ++ ((40 ∷ 1 ∷ 0 ∷ 1 ∷ []) ++ (replicate 11 0 ++ numbers_from 1160 32)))) }
+{}
+
+/// A signal that nobody sleeps on is done at once. It has no thread to pick.
+pub fn a_signal_without_a_sleeper_is_done_at_once()
+    ensures ready { IsReadyTo none_sleeps (goes thread_1) }
+    ensures done { (run none_sleeps (goes thread_1 ∷ [])).body thread_1 ≡ Some (running 1 (0 ∷ 6 ∷ [])) }
+    ensures no_pick { ¬ IsReadyTo none_sleeps (picks thread_1 thread_0) }
+{}
