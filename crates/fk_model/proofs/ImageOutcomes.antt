@@ -1,14 +1,14 @@
 -- Rows step by step: what follows an answer that is alike goes alike, and so do the ends of a stage.
-use Rattle.std.proofs.Common.{◌≡◌, ℕ, Bool, true, false, cond, not, ◌&&◌, List, [], ◌∷◌, ◌++◌, Option, Some, None, IfSome, option_map, Result, Ok, Err, refl, sym, ap, ◌∙◌}
+use Rattle.std.proofs.Common.{◌≡◌, ℕ, Bool, true, false, cond, List, [], ◌∷◌, ◌++◌, Option, Some, None, IfSome, Result, Ok, Err, refl}
 use Rattle.fk_model.specs.declared.names.Kind.{Kind}
 use Rattle.fk_model.specs.declared.statuses.halt.TheConstants.{BAD_ADDRESS, MISSING_PAGE}
 use Rattle.fk_model.specs.declared.statuses.status.TheConstants.{OK}
 use Rattle.fk_model.specs.Places.{Path, Ptr}
-use Rattle.fk_model.specs.Objects.{Peer, Talk, Fault, Thread, Body, mutex_of, and_then}
+use Rattle.fk_model.specs.Objects.{Peer, Talk, Fault, Thread, Body, and_then}
 use Rattle.fk_model.specs.Objects.Body.{Thread_of}
-use Rattle.fk_model.specs.World.{World, Change, apply, apply_all}
+use Rattle.fk_model.specs.World.{World, Change, apply_all}
 use Rattle.fk_model.specs.World.Change.{Alter}
-use Rattle.fk_model.specs.World.Edit.{SetLocked, Finish, End, SetFault}
+use Rattle.fk_model.specs.World.Edit.{Finish, End, SetFault}
 use Rattle.fk_model.specs.Searches.{talk_at}
 use Rattle.fk_model.specs.Reach.{Reach}
 use Rattle.fk_model.specs.Outcomes.{Said, Outcome, ◌>>=◌, refuse, when, Caller, path_of, done, ended, telling}
@@ -17,16 +17,14 @@ use Rattle.fk_model.specs.Outcomes.Said.{Nothing, Answered}
 use Rattle.fk_model.specs.Readers.{kind_at, is_kind, missed, accessed, own_page_at, own_page, their_page_at, their_page}
 use Rattle.fk_model.specs.Talks.{Line}
 use Rattle.fk_model.specs.Moves.{closed}
-use Rattle.fk_model.specs.SyncRows.{mutex_lock}
 use Rattle.fk_model.specs.Cut.{seen_by}
-use Rattle.fk_model.specs.Image.{seeing, seen_talk, seen_thread, IsSeen, AllInTalk, AllInBody, IsImage, under, AlikeResults, AlikeOptions, IsBeneath, IsSeenAs, IsSeenHandle, IsSeenBody, IsSeenThread, IsSeenHolder, PeerImage, EndImage, LineImage, ReachImage}
+use Rattle.fk_model.specs.Image.{seeing, seen_talk, seen_thread, HasImage, AllInTalk, IsPlainBody, IsImage, under, AlikeResults, AlikeOptions, IsBeneath, IsSeenAs, IsSeenHandle, IsSeenBody, IsSeenThread, IsSeenHolder, PeerImage, EndImage, LineImage, ReachImage}
 use Rattle.fk_model.specs.Image.EndImage.{Ends}
 use Rattle.fk_model.specs.Image.LineImage.{Lines}
 use Rattle.fk_model.specs.Image.ReachImage.{Homes, Misses, Bads}
-use Rattle.fk_model.specs.ImageChanges.{ImageChange, ImageChanges, IsImageOutcome}
+use Rattle.fk_model.specs.ImageChanges.{ImageChanges, IsImageOutcome}
 use Rattle.fk_model.specs.ImageChanges.ImageChange.{Alters}
 use Rattle.fk_model.specs.ImageChanges.ImageChanges.{Empty, Both, Beyond}
-use Rattle.fk_model.proofs.ImageReads.{mutex-seen, plain_in-image}
 use Rattle.fk_model.proofs.ImageMemory.{reach_word-image}
 
 -- ---- lists of changes
@@ -62,28 +60,28 @@ module _ {root : Path} {see : Ptr → Ptr} {small big : World} (image : IsImage 
   bind_path a b f g h go = bind-image (IsBeneath root) a b f g h (λ q x e. rw e (go q))
 
   -- a pointer
-  pub bind_ptr : (a b : Result Ptr ℕ) (f g : Ptr → Outcome) → AlikeResults (IsSeenAs root see big) a b → ((p : Ptr) → IsSeen root see big p → Alike (f (see p)) (g p)) → Alike (a >>= f) (b >>= g)
+  pub bind_ptr : (a b : Result Ptr ℕ) (f g : Ptr → Outcome) → AlikeResults (IsSeenAs root see big) a b → ((p : Ptr) → HasImage root see big p → Alike (f (see p)) (g p)) → Alike (a >>= f) (b >>= g)
   bind_ptr a b f g h go = bind-image (IsSeenAs root see big) a b f g h (λ seen p h. rw h.0 (go p h.1))
 
   -- a handle of an object of a kind
   pub bind_handle : (wanted : Kind) (a b : Result Ptr ℕ) (f g : Ptr → Outcome) → AlikeResults (IsSeenHandle root see big wanted) a b →
-      ((p : Ptr) → IsSeen root see big p → is_kind wanted (kind_at big p) ≡ true → Alike (f (see p)) (g p)) → Alike (a >>= f) (b >>= g)
+      ((p : Ptr) → HasImage root see big p → is_kind wanted (kind_at big p) ≡ true → Alike (f (see p)) (g p)) → Alike (a >>= f) (b >>= g)
   bind_handle wanted a b f g h go = bind-image (IsSeenHandle root see big wanted) a b f g h (λ seen p h. rw h.0 (go p h.1 h.2))
 
   -- an object, a thread, a holder
-  pub bind_body : (a b : Result Body ℕ) (f g : Body → Outcome) → AlikeResults (IsSeenBody root see big) a b → ((b : Body) → AllInBody see (IsSeen root see big) b → Alike (f (seen_by (seeing see) b)) (g b)) → Alike (a >>= f) (b >>= g)
+  pub bind_body : (a b : Result Body ℕ) (f g : Body → Outcome) → AlikeResults (IsSeenBody root see big) a b → ((b : Body) → IsPlainBody see (HasImage root see big) b → Alike (f (seen_by (seeing see) b)) (g b)) → Alike (a >>= f) (b >>= g)
   bind_body a b f g h go = bind-image (IsSeenBody root see big) a b f g h (λ seen b h. rw h.0 (go b h.1))
 
-  pub bind_thread : (a b : Result Thread ℕ) (f g : Thread → Outcome) → AlikeResults (IsSeenThread root see big) a b → ((t : Thread) → AllInBody see (IsSeen root see big) (Thread_of t) → Alike (f (seen_thread see t)) (g t)) → Alike (a >>= f) (b >>= g)
+  pub bind_thread : (a b : Result Thread ℕ) (f g : Thread → Outcome) → AlikeResults (IsSeenThread root see big) a b → ((t : Thread) → IsPlainBody see (HasImage root see big) (Thread_of t) → Alike (f (seen_thread see t)) (g t)) → Alike (a >>= f) (b >>= g)
   bind_thread a b f g h go = bind-image (IsSeenThread root see big) a b f g h (λ seen t h. rw h.0 (go t h.1))
 
   pub bind_holder : (a b : Result (Option Ptr) ℕ) (f g : Option Ptr → Outcome) → AlikeResults (IsSeenHolder root see big) a b →
-      ((holder : Option Ptr) → IfSome holder (IsSeen root see big) → Alike (f (and_then (seeing see).holder holder)) (g holder)) → Alike (a >>= f) (b >>= g)
+      ((holder : Option Ptr) → IfSome holder (HasImage root see big) → Alike (f (and_then (seeing see).holder holder)) (g holder)) → Alike (a >>= f) (b >>= g)
   bind_holder a b f g h go = bind-image (IsSeenHolder root see big) a b f g h (λ seen holder h. rw h.0 (go holder h.1))
 
   -- a thread with its path
   pub bind_end : (a b : Result (Path × Thread) ℕ) (f g : Path × Thread → Outcome) → AlikeResults (EndImage root see big) a b →
-      ((k : ℕ) (q : Path) (t : Thread) → big.body (k ∷ (q ++ root)) ≡ Some (Thread_of t) → AllInBody see (IsSeen root see big) (Thread_of t) → Alike (f (k ∷ q, seen_thread see t)) (g (k ∷ (q ++ root), t))) →
+      ((k : ℕ) (q : Path) (t : Thread) → big.body (k ∷ (q ++ root)) ≡ Some (Thread_of t) → IsPlainBody see (HasImage root see big) (Thread_of t) → Alike (f (k ∷ q, seen_thread see t)) (g (k ∷ (q ++ root), t))) →
       Alike (a >>= f) (b >>= g)
   bind_end a b f g h go = bind-image (EndImage root see big) a b f g h by
     where
@@ -92,7 +90,7 @@ module _ {root : Path} {see : Ptr → Ptr} {small big : World} (image : IsImage 
 
   -- a line
   pub bind_line : (a b : Result Line ℕ) (f g : Line → Outcome) → AlikeResults (LineImage root see big) a b →
-      ((k : ℕ) (q : Path) (talk : Talk) (other seen : Peer) → talk_at big (k ∷ (q ++ root)) ≡ Some talk → AllInTalk see (IsSeen root see big) talk → PeerImage root see big other seen →
+      ((k : ℕ) (q : Path) (talk : Talk) (other seen : Peer) → talk_at big (k ∷ (q ++ root)) ≡ Some talk → AllInTalk see (HasImage root see big) talk → PeerImage root see big other seen →
       Alike (f (record { client = k ∷ q; talk = seen_talk see talk; other = seen })) (g (record { client = k ∷ (q ++ root); talk = talk; other = other }))) →
       Alike (a >>= f) (b >>= g)
   bind_line a b f g h go = bind-image (LineImage root see big) a b f g h by
@@ -201,11 +199,3 @@ module _ {root : Path} {see : Ptr → Ptr} {small big : World} (image : IsImage 
 
   pub their_page-image : (space : Path) (address : ℕ) (go on : Path → ℕ → Outcome) → ((s : Path) (page : ℕ) → Alike (go s page) (on (s ++ root) page)) → Alike (their_page small space address go) (their_page big (space ++ root) address on)
   their_page-image space address go on goes = their_page_at-image go on _ _ (reach_word-image image space address true) goes
-
-  -- ---- a lock
-
-  pub mutex_lock-image : (c : Caller) (m : ℕ) → Alike (mutex_lock small c m) (mutex_lock big (under root c) m)
-  unfolding mutex_lock
-  mutex_lock-image c m =
-      bind_same _ _ _ _ (plain_in-image image mutex_of (mutex-seen see) c c.space m)
-      (λ locked. when-image (not locked) _ _ (done-image c _ _ [] (Both (Alters m c.space _ _ refl tt) Empty)))

@@ -1,23 +1,22 @@
 -- What a wait looks for is found alike in an image: the slots of a set's ports, and the candidates.
-use Rattle.std.proofs.Common.{◌≡◌, ℕ, Bool, true, false, cond, not, ◌&&◌, eqb, List, [], ◌∷◌, ◌++◌, Option, Some, None, IfSome, is_some, option_map, Result, Ok, Err, refl, sym, ap, ◌∙◌}
+use Rattle.std.proofs.Common.{◌≡◌, ℕ, Bool, true, false, cond, not, [], ◌∷◌, ◌++◌, Option, Some, None, IfSome, is_some, option_map, Result, Ok, Err, refl, sym, ap, ◌∙◌}
 use Rattle.std.proofs.lemmas.Bool.{and_left, and_right}
 use Rattle.fk_model.specs.declared.names.Kind.TheVariants as kinds
 use Rattle.fk_model.specs.declared.stage.Stage.{Stage}
 use Rattle.fk_model.specs.declared.stage.Stage.TheVariants.{Connect}
 use Rattle.fk_model.specs.Places.{Path, same_path, strip, is_within, parent, slot_of, Ptr}
 use Rattle.fk_model.specs.Places.Ptr.{Null, Dead, At, Out, Outside, Far}
-use Rattle.fk_model.specs.Objects.{Mode, Peer, Talk, Fault, Thread, Body, port_of, thread_of, and_then, or_else, holds}
+use Rattle.fk_model.specs.Objects.{Peer, Talk, Fault, Thread, Body, port_of, thread_of, and_then, or_else, holds}
 use Rattle.fk_model.specs.Objects.Peer.{Server, Service, Parked}
-use Rattle.fk_model.specs.Objects.Body.{Mutex, Cond, Mapping, Region, Port, Portset, Space, Thread_of, Reference}
+use Rattle.fk_model.specs.Objects.Body.{Port}
 use Rattle.fk_model.specs.World.{World}
 use Rattle.fk_model.specs.Searches.{talk_at, fault_at}
 use Rattle.fk_model.specs.Holds.{holder_of, decider, is_frozen, is_unheld, is_free}
-use Rattle.fk_model.specs.Readers.{handle}
-use Rattle.fk_model.specs.Talks.{first_stage, path_to, is_service_free}
+use Rattle.fk_model.specs.Talks.{first_stage, is_service_free}
 use Rattle.fk_model.specs.LinkRows.{user_at, if_read, port_named, connecting_to, Candidate, is_member, slot_in_set, is_parked, is_open, faulting, connecting, resuming, candidate_by, candidate}
 use Rattle.fk_model.specs.LinkRows.Candidate.{Faulting, Connecting, Resuming}
 use Rattle.fk_model.specs.Cut.{is_out, seen_by, unheld}
-use Rattle.fk_model.specs.Image.{seeing, seen_peer, seen_talk, seen_fault, seen_thread, PtrImage, IsSeen, AllInTalk, AllInFault, AllInBody, IsImage, AlikeResults, AlikeOptions, IsSeenAs, IsSeenHandle, IsSeenThread, CandidateImage}
+use Rattle.fk_model.specs.Image.{seeing, seen_peer, seen_thread, PtrImage, HasImage, AllInTalk, AllInFault, IsImage, AlikeResults, AlikeOptions, IsSeenAs, IsSeenHandle, IsSeenThread, CandidateImage}
 use Rattle.fk_model.specs.Image.PtrImage.{Nulls, Deads, Inside, PortAt, PortOut}
 use Rattle.fk_model.specs.Image.CandidateImage.{Faults, Connects, Resumes}
 use Rattle.fk_model.proofs.PlaceLaws.{same_path_eq, same_path_cancel, strip-append}
@@ -130,10 +129,10 @@ module _ {root : Path} {see : Ptr → Ptr} {small big : World} (image : IsImage 
     abbrev Alike : Candidate → Candidate → Type 0
     Alike = CandidateImage see big (k ∷ (q ++ root))
 
-    faulting-image : (t : Thread) → fault_at big (k ∷ (q ++ root)) ≡ t.fault → IfSome t.fault (AllInFault see (IsSeen root see big)) → AlikeOptions Alike (faulting small space set (seen_thread see t)) (faulting big (space ++ root) set t)
+    faulting-image : (t : Thread) → fault_at big (k ∷ (q ++ root)) ≡ t.fault → IfSome t.fault (AllInFault see (HasImage root see big)) → AlikeOptions Alike (faulting small space set (seen_thread see t)) (faulting big (space ++ root) set t)
     faulting-image t = by t.fault
       where
-        by : (o : Option Fault) → fault_at big (k ∷ (q ++ root)) ≡ o → IfSome o (AllInFault see (IsSeen root see big)) →
+        by : (o : Option Fault) → fault_at big (k ∷ (q ++ root)) ≡ o → IfSome o (AllInFault see (HasImage root see big)) →
             AlikeOptions Alike (and_then (λ (fault : Fault). cond (is_open fault.taker) (option_map (λ slot. Faulting slot fault) (slot_in_set small space set fault.port)) None) (and_then (seeing see).fault o))
             (and_then (λ (fault : Fault). cond (is_open fault.taker) (option_map (λ slot. Faulting slot fault) (slot_in_set big (space ++ root) set fault.port)) None) o)
         by None is h = tt
@@ -143,10 +142,10 @@ module _ {root : Path} {see : Ptr → Ptr} {small big : World} (image : IsImage 
             (found-image Alike (slot_in_set small space set (see fault.port)) _ _ _ _
             (λ slot found. let near = slot_in_set_near small space set slot (see fault.port) found in (ap (λ (out : Bool). is_open (option_map (seen_peer see out) fault.taker)) near ∙ open_near fault.taker, Faults slot fault is near)))
 
-    resuming-image : (t : Thread) → talk_at big (k ∷ (q ++ root)) ≡ t.talk → IfSome t.talk (AllInTalk see (IsSeen root see big)) → AlikeOptions Alike (resuming small space set (seen_thread see t)) (resuming big (space ++ root) set t)
+    resuming-image : (t : Thread) → talk_at big (k ∷ (q ++ root)) ≡ t.talk → IfSome t.talk (AllInTalk see (HasImage root see big)) → AlikeOptions Alike (resuming small space set (seen_thread see t)) (resuming big (space ++ root) set t)
     resuming-image t = by t.talk
       where
-        by : (o : Option Talk) → talk_at big (k ∷ (q ++ root)) ≡ o → IfSome o (AllInTalk see (IsSeen root see big)) →
+        by : (o : Option Talk) → talk_at big (k ∷ (q ++ root)) ≡ o → IfSome o (AllInTalk see (HasImage root see big)) →
             AlikeOptions Alike (and_then (λ (talk : Talk). cond (is_parked (Some talk.peer)) (option_map (λ slot. Resuming slot talk) (slot_in_set small space set talk.port)) None) (and_then (seeing see).talk o))
             (and_then (λ (talk : Talk). cond (is_parked (Some talk.peer)) (option_map (λ slot. Resuming slot talk) (slot_in_set big (space ++ root) set talk.port)) None) o)
         by None is h = tt

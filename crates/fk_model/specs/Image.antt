@@ -4,25 +4,27 @@
 -- image of what it was. The paths of an image begin at the root. `see` says what each pointer is seen as: inside by its
 -- path there, a port outside by a slot. Who is at such a port is seen as Outside, whoever it is. What a move does inside it
 -- does alike in the image.
-use Rattle.std.specs.Prelude.{◌≡◌, ℕ, zero, Bool, true, false, List, [], ◌∷◌, ◌++◌, Option, Some, None, IfSome, option_map, Result, Ok, Err}
+use Rattle.std.specs.Prelude.{◌≡◌, ℕ, zero, ◌<◌, Bool, true, false, List, [], ◌∷◌, ◌++◌, Option, Some, None, IfSome, is_some, option_map, Result, Ok, Err}
+use Rattle.std.specs.List.{list_any}
 use Rattle.fk_model.specs.declared.names.Kind.{Kind}
 use Rattle.fk_model.specs.declared.names.Kind.TheVariants as kinds
-use Rattle.fk_model.specs.Places.{Path, is_within, Ptr}
-use Rattle.fk_model.specs.Places.Ptr.{Null, Dead, At, Out, Outside, Far}
-use Rattle.fk_model.specs.Objects.{Mode, Peer, Talk, Fault, Thread, Window, Extent, Body, thread_of, and_then}
+use Rattle.fk_model.specs.Places.{Path, same_path, is_within, Ptr}
+use Rattle.fk_model.specs.Places.Ptr.{Null, Dead, At, Out, Outside}
+use Rattle.fk_model.specs.Objects.{Peer, Talk, Fault, Thread, Window, Extent, Body, and_then}
 use Rattle.fk_model.specs.Objects.Peer.{Server, Service, Parked}
 use Rattle.fk_model.specs.Objects.Body.{Mutex, Cond, Mapping, Region, Port, Portset, Space, Thread_of, Reference}
 use Rattle.fk_model.specs.World.{World, Sweep, serves}
-use Rattle.fk_model.specs.Searches.{talk_at, fault_at}
+use Rattle.fk_model.specs.Searches.{objects, talk_at, fault_at}
 use Rattle.fk_model.specs.Reach.{Reach}
 use Rattle.fk_model.specs.Reach.Reach.{Home, Missing, Bad}
+use Rattle.fk_model.specs.Holds.{is_porter}
 use Rattle.fk_model.specs.Outcomes.{Caller}
 use Rattle.fk_model.specs.Readers.{kind_at, is_kind}
 use Rattle.fk_model.specs.Talks.{Line}
 use Rattle.fk_model.specs.LinkRows.{Candidate}
 use Rattle.fk_model.specs.LinkRows.Candidate.{Faulting, Connecting, Resuming}
-use Rattle.fk_model.specs.Valid.{kind_there}
-use Rattle.fk_model.specs.Cut.{is_out, seen_by, unheld}
+use Rattle.fk_model.specs.Valid.{kind_there, services}
+use Rattle.fk_model.specs.Cut.{is_out, seen_by, unheld, is_served_by}
 
 -- ---- what is seen of a peer, a talk, a fault and a thread, where `see` says what each pointer is seen as
 
@@ -72,8 +74,8 @@ pub data PtrImage (root : Path) (big : World) : Ptr → Ptr → Type 0 where
   PortAt : (x : Path) (slot : ℕ) → is_within root x ≡ false → kind_at big (At x) ≡ Some kinds.Port → PtrImage root big (At x) (Out slot)
   PortOut : (old slot : ℕ) → PtrImage root big (Out old) (Out slot)
 
-abbrev pub IsSeen : Path → (Ptr → Ptr) → World → Ptr → Type 0
-IsSeen root see big p = PtrImage root big p (see p)
+abbrev pub HasImage : Path → (Ptr → Ptr) → World → Ptr → Type 0
+HasImage root see big p = PtrImage root big p (see p)
 
 -- P holds of the pointers that count: who is at a port that is seen outside doesn't
 abbrev pub IfServer : (out : Bool) → Peer → (Ptr → Type 0) → Type 0
@@ -88,16 +90,17 @@ AllInTalk see P talk = P talk.port × IfServer (is_out (see talk.port)) talk.pee
 abbrev pub AllInFault : (Ptr → Ptr) → (Ptr → Type 0) → Fault → Type 0
 AllInFault see P fault = P fault.port × IfSome fault.taker (λ taker. IfServer (is_out (see fault.port)) taker P)
 
-abbrev pub AllInBody : (Ptr → Ptr) → (Ptr → Type 0) → Body → Type 0
-AllInBody see P (Mutex locked) = Unit {0}
-AllInBody see P Cond = Unit {0}
-AllInBody see P (Mapping m) = P m.region
-AllInBody see P (Region r) = P r.keeper
-AllInBody see P (Port set served) = Unit {0}
-AllInBody see P Portset = Unit {0}
-AllInBody see P (Space birth holder) = IfSome holder P
-AllInBody see P (Thread_of t) = IfSome t.talk (AllInTalk see P) × IfSome t.fault (AllInFault see P)
-AllInBody see P (Reference to) = P to
+-- an object of which each pointer that counts has P. It is no served port, and no porter
+abbrev pub IsPlainBody : (Ptr → Ptr) → (Ptr → Type 0) → Body → Type 0
+IsPlainBody see P (Mutex locked) = Unit {0}
+IsPlainBody see P Cond = Unit {0}
+IsPlainBody see P (Mapping m) = P m.region
+IsPlainBody see P (Region r) = P r.keeper
+IsPlainBody see P (Port set served) = served ≡ false
+IsPlainBody see P Portset = Unit {0}
+IsPlainBody see P (Space birth holder) = IfSome holder P
+IsPlainBody see P (Thread_of t) = IfSome t.talk (AllInTalk see P) × IfSome t.fault (AllInFault see P) × (is_porter t.mode ≡ false)
+IsPlainBody see P (Reference to) = P to
 
 pub record IsImage (root : Path) (see : Ptr → Ptr) (small big : World) : Type 0 where
   -- what stands at each path; who holds the root is no part of it
@@ -107,8 +110,8 @@ pub record IsImage (root : Path) (see : Ptr → Ptr) (small big : World) : Type 
   pub unborn : small.next ≡ zero
   -- the root is a space
   pub top : kind_there big root ≡ Some kinds.Space
-  -- nothing beneath it leads anywhere but inside or to ports outside
-  pub pointers : (k : ℕ) (q : Path) → IfSome (big.body (k ∷ (q ++ root))) (AllInBody see (IsSeen root see big))
+  -- nothing beneath it leads anywhere but inside or to ports outside, is a porter or a served port
+  pub plain : (k : ℕ) (q : Path) → IfSome (big.body (k ∷ (q ++ root))) (IsPlainBody see (HasImage root see big))
   pub within : (x : Path) → see (At (x ++ root)) ≡ At x
   pub null : see Null ≡ Null
   pub dead : see Dead ≡ Dead
@@ -117,10 +120,29 @@ pub record IsImage (root : Path) (see : Ptr → Ptr) (small big : World) : Type 
 abbrev pub IsCutWorld : World → Type 0
 IsCutWorld c = IsImage [] (λ p. p) c c
 
+-- a peer is nobody inside
+abbrev pub IsOuter : Path → Peer → Type 0
+IsOuter root peer = (x : Path) → serves (x ++ root) peer ≡ false
+
 -- nobody inside is the peer of a talk at a port outside, or has taken a fault there
 pub record IsApart (root : Path) (see : Ptr → Ptr) (big : World) : Type 0 where
-  pub talks : (k : ℕ) (q x : Path) (talk : Talk) → talk_at big (k ∷ (q ++ root)) ≡ Some talk → is_out (see talk.port) ≡ true → serves (x ++ root) talk.peer ≡ false
-  pub faults : (k : ℕ) (q x : Path) (fault : Fault) (taker : Peer) → fault_at big (k ∷ (q ++ root)) ≡ Some fault → is_out (see fault.port) ≡ true → fault.taker ≡ Some taker → serves (x ++ root) taker ≡ false
+  pub talks : (k : ℕ) (q : Path) (talk : Talk) → talk_at big (k ∷ (q ++ root)) ≡ Some talk → is_out (see talk.port) ≡ true → IsOuter root talk.peer
+  pub faults : (k : ℕ) (q : Path) (fault : Fault) (taker : Peer) → fault_at big (k ∷ (q ++ root)) ≡ Some fault → is_out (see fault.port) ≡ true → fault.taker ≡ Some taker → IsOuter root taker
+
+-- x is among these paths
+abbrev pub is_listed : Path → List Path → Bool
+is_listed x xs = list_any (same_path x) xs
+
+-- the walk from the root finds every object
+pub record IsWalked (w : World) : Type 0 where
+  pub found : (k : ℕ) (x : Path) → is_some (w.body (k ∷ x)) ≡ true → is_listed (k ∷ x) (objects w) ≡ true
+
+-- each thread serves one thread at most, one inside serves none outside, and the walk from the root finds every object
+pub record IsServedAlike (root : Path) (see : Ptr → Ptr) (big : World) : Type 0 where
+  pub walked : IsWalked big
+  pub apart : IsApart root see big
+  pub one : (server x y : Path) → 0 < services big server x → 0 < services big server y → x ≡ y
+  pub inside : (x : Path) → is_within root x ≡ false → is_served_by root (big.body x) ≡ false
 
 -- ---- what is read alike
 
@@ -148,29 +170,29 @@ IsBeneath root q x = x ≡ q ++ root
 
 -- the same pointer
 abbrev pub IsSeenAs : Path → (Ptr → Ptr) → World → Ptr → Ptr → Type 0
-IsSeenAs root see big seen p = (seen ≡ see p) × IsSeen root see big p
+IsSeenAs root see big seen p = (seen ≡ see p) × HasImage root see big p
 
 -- and it leads to an object of this kind
 abbrev pub IsSeenHandle : Path → (Ptr → Ptr) → World → Kind → Ptr → Ptr → Type 0
-IsSeenHandle root see big wanted seen p = (seen ≡ see p) × IsSeen root see big p × (is_kind wanted (kind_at big p) ≡ true)
+IsSeenHandle root see big wanted seen p = (seen ≡ see p) × HasImage root see big p × (is_kind wanted (kind_at big p) ≡ true)
 
 -- the same object
 abbrev pub IsSeenBody : Path → (Ptr → Ptr) → World → Body → Body → Type 0
-IsSeenBody root see big seen b = (seen ≡ seen_by (seeing see) b) × AllInBody see (IsSeen root see big) b
+IsSeenBody root see big seen b = (seen ≡ seen_by (seeing see) b) × IsPlainBody see (HasImage root see big) b
 
 -- the same thread, and the same holder
 abbrev pub IsSeenThread : Path → (Ptr → Ptr) → World → Thread → Thread → Type 0
-IsSeenThread root see big seen t = (seen ≡ seen_thread see t) × AllInBody see (IsSeen root see big) (Thread_of t)
+IsSeenThread root see big seen t = (seen ≡ seen_thread see t) × IsPlainBody see (HasImage root see big) (Thread_of t)
 
 abbrev pub IsSeenHolder : Path → (Ptr → Ptr) → World → Option Ptr → Option Ptr → Type 0
-IsSeenHolder root see big seen holder = (seen ≡ and_then (seeing see).holder holder) × IfSome holder (IsSeen root see big)
+IsSeenHolder root see big seen holder = (seen ≡ and_then (seeing see).holder holder) × IfSome holder (HasImage root see big)
 
 -- the same mapping, and the same region
 abbrev pub IsSeenWindow : Path → (Ptr → Ptr) → World → Window → Window → Type 0
-IsSeenWindow root see big seen m = (seen ≡ seen_window see m) × IsSeen root see big m.region
+IsSeenWindow root see big seen m = (seen ≡ seen_window see m) × HasImage root see big m.region
 
 abbrev pub IsSeenExtent : Path → (Ptr → Ptr) → World → Extent → Extent → Type 0
-IsSeenExtent root see big seen r = (seen ≡ seen_extent see r) × IsSeen root see big r.keeper
+IsSeenExtent root see big seen r = (seen ≡ seen_extent see r) × HasImage root see big r.keeper
 
 -- the same page, of a space inside
 abbrev pub IsSeenPlace : Path → Path × ℕ → Path × ℕ → Type 0
@@ -184,26 +206,26 @@ pub data ReachImage (root : Path) (see : Ptr → Ptr) (big : World) : Reach → 
 
 -- the same talk, and the same fault
 abbrev pub IsSeenTalk : Path → (Ptr → Ptr) → World → Talk → Talk → Type 0
-IsSeenTalk root see big seen talk = (seen ≡ seen_talk see talk) × AllInTalk see (IsSeen root see big) talk
+IsSeenTalk root see big seen talk = (seen ≡ seen_talk see talk) × AllInTalk see (HasImage root see big) talk
 
 abbrev pub IsSeenFault : Path → (Ptr → Ptr) → World → Fault → Fault → Type 0
-IsSeenFault root see big seen fault = (seen ≡ seen_fault see fault) × AllInFault see (IsSeen root see big) fault
+IsSeenFault root see big seen fault = (seen ≡ seen_fault see fault) × AllInFault see (HasImage root see big) fault
 
 -- a peer of the big world, and what it is seen as
 pub data PeerImage (root : Path) (see : Ptr → Ptr) (big : World) : Peer → Peer → Type 0 where
   -- who is at a port outside
-  Outsiders : (peer : Peer) → PeerImage root see big peer (Server Outside)
-  Servers : (thread : Ptr) → IsSeen root see big thread → PeerImage root see big (Server thread) (Server (see thread))
+  Outsiders : (peer : Peer) → IsOuter root peer → PeerImage root see big peer (Server Outside)
+  Servers : (thread : Ptr) → HasImage root see big thread → PeerImage root see big (Server thread) (Server (see thread))
   Services : PeerImage root see big Service Service
   Waiters : PeerImage root see big Parked Parked
 
 -- the same thread inside, with its path
 pub data EndImage (root : Path) (see : Ptr → Ptr) (big : World) : Path × Thread → Path × Thread → Type 0 where
-  Ends : (k : ℕ) (q : Path) (t : Thread) → big.body (k ∷ (q ++ root)) ≡ Some (Thread_of t) → AllInBody see (IsSeen root see big) (Thread_of t) → EndImage root see big (k ∷ q, seen_thread see t) (k ∷ (q ++ root), t)
+  Ends : (k : ℕ) (q : Path) (t : Thread) → big.body (k ∷ (q ++ root)) ≡ Some (Thread_of t) → IsPlainBody see (HasImage root see big) (Thread_of t) → EndImage root see big (k ∷ q, seen_thread see t) (k ∷ (q ++ root), t)
 
 -- the same talk of a client inside, with who is at the other end
 pub data LineImage (root : Path) (see : Ptr → Ptr) (big : World) : Line → Line → Type 0 where
-  Lines : (k : ℕ) (q : Path) (talk : Talk) (other seen : Peer) → talk_at big (k ∷ (q ++ root)) ≡ Some talk → AllInTalk see (IsSeen root see big) talk → PeerImage root see big other seen →
+  Lines : (k : ℕ) (q : Path) (talk : Talk) (other seen : Peer) → talk_at big (k ∷ (q ++ root)) ≡ Some talk → AllInTalk see (HasImage root see big) talk → PeerImage root see big other seen →
       LineImage root see big (record { client = k ∷ q; talk = seen_talk see talk; other = seen }) (record { client = k ∷ (q ++ root); talk = talk; other = other })
 
 -- the thread at x is the same candidate for a wait; who it asks for stands inside
