@@ -63,24 +63,28 @@ one_sleeps = world_of ((1 ∷ [], Space 1 None) ∷ (mutex, Mutex true) ∷ (con
 abbrev pub sleeper_and_signaller : List Path
 sleeper_and_signaller = thread_0 ∷ thread_1 ∷ mutex ∷ []
 
--- it sleeps; the second thread stops it, reads its state, signals to it, and lets it go
+-- it sleeps; the second thread stops it, reads its state, signals to it, and lets it go; it locks
 abbrev pub sleeps : List Event
 sleeps = goes thread_0 ∷ []
 
-abbrev pub and_stopped : List Event
-and_stopped = sleeps ++ times 4 (goes thread_1)
+abbrev pub stops : List Event
+stops = times 4 (goes thread_1)
 
-abbrev pub and_read : List Event
-and_read = and_stopped ++ times 6 (goes thread_1)
+abbrev pub reads : List Event
+reads = times 6 (goes thread_1)
 
-abbrev pub and_signalled : List Event
-and_signalled = and_read ++ (times 3 (goes thread_1) ++ picks thread_1 thread_0 ∷ [])
+abbrev pub signals : List Event
+signals = times 3 (goes thread_1) ++ picks thread_1 thread_0 ∷ []
 
-abbrev pub and_let_go : List Event
-and_let_go = and_signalled ++ times 4 (goes thread_1)
+abbrev pub lets_go : List Event
+lets_go = times 4 (goes thread_1)
 
-abbrev pub and_locked : List Event
-and_locked = and_let_go ++ goes thread_0 ∷ []
+-- up to its being stopped, and up to the signal
+abbrev pub until_stopped : List Event
+until_stopped = sleeps ++ stops
+
+abbrev pub until_signalled : List Event
+until_signalled = until_stopped ++ (reads ++ signals)
 
 -- nobody sleeps on the condition
 unfoldable pub none_sleeps : World

@@ -56,12 +56,9 @@ doomed =
 unfoldable pub destroying : World
 destroying = world_of doomed (numbered [] 1000 1 ∷ numbered (2 ∷ []) 2000 0 ∷ [])
 
--- the objects of /2, and /2 itself; and beside it the server, the references to /2 and to the thread in it, and the caller
-abbrev pub in_2 : List Path
-in_2 = (0 ∷ 2 ∷ []) ∷ (1 ∷ 2 ∷ []) ∷ (4 ∷ 2 ∷ []) ∷ (2 ∷ []) ∷ []
-
-abbrev pub beside_2 : List Path
-beside_2 = server ∷ (5 ∷ []) ∷ (6 ∷ []) ∷ destroyer ∷ []
+-- the objects of /2, and /2 itself; the server, and the caller; the references to /2 and to the thread in it
+abbrev pub in_2_and_beside : List Path
+in_2_and_beside = (0 ∷ 2 ∷ []) ∷ (1 ∷ 2 ∷ []) ∷ (4 ∷ 2 ∷ []) ∷ (2 ∷ []) ∷ server ∷ destroyer ∷ (5 ∷ []) ∷ (6 ∷ []) ∷ []
 
 -- after so many stages
 unfoldable pub destroyed : ℕ → World

@@ -49,9 +49,15 @@ message address count into room = world_of (talkers (with_talk (clients_turn 0) 
 unfoldable pub sent : ℕ → World
 sent n = run (message 182 130 315 200) (times n (goes client))
 
--- both ends show what is left to send and to receive
-abbrev pub AreAt : World → ℕ → ℕ → ℕ → ℕ → Type 0
-AreAt w address count into room = (registers_at w client ≡ registers_from (sending address count)) × (registers_at w server ≡ registers_from (receiving into room))
+-- the registers of both ends, and what they are with so much left to send and to receive
+abbrev pub ends_at : World → List ℕ × List ℕ
+ends_at w = (registers_at w client, registers_at w server)
+
+abbrev pub left : ℕ → ℕ → ℕ → ℕ → List ℕ × List ℕ
+left address count into room = (registers_from (sending address count), registers_from (receiving into room))
+
+abbrev pub both_ends : List Path
+both_ends = client ∷ server ∷ []
 
 -- 130 words from 256 into 40 words at 320
 unfoldable pub sent_to_few : ℕ → World
@@ -112,24 +118,23 @@ abbrev pub missed_5 : Option Peer → Fault
 missed_5 taker = record { page = 5; write = true; port = At (9 ∷ []); taker = taker }
 
 -- five words arrive; the receiver misses the page; the keeper takes the fault, gives a page of zeros, and is done
-abbrev pub arrived : List Event
-arrived = goes client ∷ []
+abbrev pub arrives : List Event
+arrives = goes client ∷ []
 
-abbrev pub and_missed : List Event
-and_missed = arrived ++ goes server ∷ []
+abbrev pub misses : List Event
+misses = goes server ∷ []
 
-abbrev pub and_taken : List Event
-and_taken = and_missed ++ (times 3 (goes keeper) ++ picks keeper server ∷ [])
+abbrev pub takes : List Event
+takes = times 3 (goes keeper) ++ picks keeper server ∷ []
 
-abbrev pub and_given : List Event
-and_given = and_taken ++ times 6 (goes keeper)
+abbrev pub gives : List Event
+gives = times 6 (goes keeper)
 
-abbrev pub and_mended : List Event
-and_mended = and_given ++ times 3 (goes keeper)
+abbrev pub mends : List Event
+mends = times 3 (goes keeper)
 
--- and then the client goes on, so many times
-unfoldable pub mended_and_sent : ℕ → World
-mended_and_sent n = run kept (and_mended ++ times n (goes client))
+abbrev pub until_mended : List Event
+until_mended = (arrives ++ misses) ++ (takes ++ (gives ++ mends))
 
 -- ---- a client calls a port that a server waits at: the port is in the set of slot 8 of /2
 
@@ -150,5 +155,5 @@ ending = world_of (talkers (with_talk (servers_turn 0) (calling 20 (36 ∷ 9 ∷
 
 -- ---- to compute in these worlds is to unfold these
 unfoldable pub talks : Unit {0}
-unfolding machine message sent sent_to_few linked_in unlinked_in watched kept mended_and_sent meeting replying ending
+unfolding machine message sent sent_to_few linked_in unlinked_in watched kept meeting replying ending
 talks = tt

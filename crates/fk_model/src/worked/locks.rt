@@ -1,11 +1,11 @@
 //! Programs, mutexes and conditions.
 #![tactic(auto, unfolding(crate::specs::WorkedLocks::locks))]
 
-ghost use Rattle.std.specs.Prelude.{◌≡◌, [], ◌∷◌, ◌++◌, Some, true, false, replicate};
+ghost use Rattle.std.specs.Prelude.{◌≡◌, [], ◌∷◌, ◌++◌, Some, true, false, map, replicate};
 ghost use Rattle.fk_model.specs.Objects.Body.{Mutex};
 ghost use Rattle.fk_model.specs.Runs.{run, IsLegal};
-ghost use Rattle.fk_model.specs.Worked.{scene, IsReadyTo, goes, picks, times, running, calling, halted, stopped, registers_at, registers_from, numbers_from};
-ghost use Rattle.fk_model.specs.WorkedLocks.{alone_with, division, countdown, two_lock, lock_twice, one_sleeps, sleeps, and_stopped, and_read, and_signalled, and_let_go, and_locked, sleeper_and_signaller, none_sleeps, thread_0, thread_1, mutex};
+ghost use Rattle.fk_model.specs.Worked.{scene, after_each, IsReadyTo, goes, picks, times, running, calling, halted, stopped, registers_at, registers_from, numbers_from};
+ghost use Rattle.fk_model.specs.WorkedLocks.{alone_with, division, countdown, two_lock, lock_twice, one_sleeps, sleeps, stops, reads, signals, lets_go, until_stopped, until_signalled, sleeper_and_signaller, none_sleeps, thread_0, thread_1, mutex};
 
 /// A program subtracts past zero, shifts all bits out, and divides by the zero that is left: it halts with code 1.
 pub fn a_zero_divisor_halts_a_program()
@@ -35,21 +35,25 @@ pub fn one_thread_has_the_mutex_and_the_other_waits()
 /// A thread that waits for a condition lets its mutex go and sleeps, also while it is stopped. A signal turns its call
 /// into one that locks the mutex, and that is made once the thread may go on.
 pub fn a_signal_wakes_a_stopped_sleeper()
-    ensures ready { IsLegal one_sleeps and_locked }
-    ensures sleeps { scene sleeper_and_signaller (run one_sleeps sleeps) ≡ Some (calling 40 (25 ∷ 6 ∷ 5 ∷ [])) ∷ Some (running 0 []) ∷ Some (Mutex false) ∷ [] }
+    ensures ready { IsLegal one_sleeps (until_signalled ++ (lets_go ++ goes thread_0 ∷ [])) }
+    ensures seen {
+        map (scene sleeper_and_signaller) (after_each one_sleeps (sleeps ∷ stops ∷ (reads ++ signals) ∷ lets_go ∷ (goes thread_0 ∷ []) ∷ [])) ≡
+            (Some (calling 40 (25 ∷ 6 ∷ 5 ∷ [])) ∷ Some (running 0 []) ∷ Some (Mutex false) ∷ [])
+            ∷ (Some (stopped 1 (calling 40 (25 ∷ 6 ∷ 5 ∷ []))) ∷ Some (running 3 []) ∷ Some (Mutex false) ∷ [])
+            ∷ (Some (stopped 1 (calling 40 (21 ∷ 5 ∷ 5 ∷ []))) ∷ Some (running 11 (0 ∷ 6 ∷ 0 ∷ 128 ∷ [])) ∷ Some (Mutex false) ∷ [])
+            ∷ (Some (calling 40 (21 ∷ 5 ∷ 5 ∷ [])) ∷ Some (running 14 (0 ∷ 0 ∷ 0 ∷ 128 ∷ [])) ∷ Some (Mutex false) ∷ [])
+            ∷ (Some (running 41 (0 ∷ 5 ∷ 5 ∷ [])) ∷ Some (running 14 (0 ∷ 0 ∷ 0 ∷ 128 ∷ [])) ∷ Some (Mutex true) ∷ [])
+            ∷ []
+    }
+    ensures shown { registers_at (run one_sleeps until_signalled) thread_0 ≡ registers_from (21 ∷ 5 ∷ 5 ∷ []) }
     ensures sleeps_on { ¬ IsReadyTo (run one_sleeps sleeps) (goes thread_0) }
-    ensures stopped { scene sleeper_and_signaller (run one_sleeps and_stopped) ≡ Some (stopped 1 (calling 40 (25 ∷ 6 ∷ 5 ∷ []))) ∷ Some (running 3 []) ∷ Some (Mutex false) ∷ [] }
-    ensures no_pick { ¬ IsReadyTo (run one_sleeps (and_read ++ times 3 (goes thread_1))) (goes thread_1) }
-    ensures signalled { scene sleeper_and_signaller (run one_sleeps and_signalled) ≡ Some (stopped 1 (calling 40 (21 ∷ 5 ∷ 5 ∷ []))) ∷ Some (running 11 (0 ∷ 6 ∷ 0 ∷ 128 ∷ [])) ∷ Some (Mutex false) ∷ [] }
-    ensures shown { registers_at (run one_sleeps and_signalled) thread_0 ≡ registers_from (21 ∷ 5 ∷ 5 ∷ []) }
-    ensures waits { ¬ IsReadyTo (run one_sleeps and_signalled) (goes thread_0) }
-    ensures let_go { scene sleeper_and_signaller (run one_sleeps and_let_go) ≡ Some (calling 40 (21 ∷ 5 ∷ 5 ∷ [])) ∷ Some (running 14 (0 ∷ 0 ∷ 0 ∷ 128 ∷ [])) ∷ Some (Mutex false) ∷ [] }
-    ensures locked { scene sleeper_and_signaller (run one_sleeps and_locked) ≡ Some (running 41 (0 ∷ 5 ∷ 5 ∷ [])) ∷ Some (running 14 (0 ∷ 0 ∷ 0 ∷ 128 ∷ [])) ∷ Some (Mutex true) ∷ [] }
+    ensures no_pick { ¬ IsReadyTo (run one_sleeps (until_stopped ++ (reads ++ times 3 (goes thread_1)))) (goes thread_1) }
+    ensures waits { ¬ IsReadyTo (run one_sleeps until_signalled) (goes thread_0) }
 {}
 
 /// The record of a stopped sleeper: its kind, its registers, its counter, that it calls, and its stop count.
 pub fn the_record_of_a_stopped_sleeper()
-    ensures { (run one_sleeps and_read).page (1 ∷ []) 2 ≡ Some ((8 ∷ 25 ∷ 6 ∷ 5 ∷ []) ++ (replicate 13 0 ++ ((40 ∷ 1 ∷ 0 ∷ 1 ∷ []) ++ (replicate 11 0 ++ numbers_from 1160 32)))) }
+    ensures { (run one_sleeps (until_stopped ++ reads)).page (1 ∷ []) 2 ≡ Some ((8 ∷ 25 ∷ 6 ∷ 5 ∷ []) ++ (replicate 13 0 ++ ((40 ∷ 1 ∷ 0 ∷ 1 ∷ []) ++ (replicate 11 0 ++ numbers_from 1160 32)))) }
 {}
 
 /// A signal that nobody sleeps on is done at once. It has no thread to pick.

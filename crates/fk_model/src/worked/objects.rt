@@ -1,13 +1,13 @@
 //! Objects, references and handles.
 #![tactic(auto, unfolding(crate::specs::WorkedObjects::objects))]
 
-ghost use Rattle.std.specs.Prelude.{◌≡◌, [], ◌∷◌, ◌++◌, Some, None, true, false};
+ghost use Rattle.std.specs.Prelude.{◌≡◌, [], ◌∷◌, ◌++◌, Some, None, true, false, map, replicate};
 ghost use Rattle.fk_model.specs.declared.thread.Turn.TheVariants as turns;
 ghost use Rattle.fk_model.specs.Places.Ptr.{At, Null, Dead};
 ghost use Rattle.fk_model.specs.Objects.Body.{Mutex, Port, Portset, Space, Reference};
 ghost use Rattle.fk_model.specs.Runs.{run, IsLegal};
-ghost use Rattle.fk_model.specs.Worked.{scene, served_by, registers_at, registers_from, IsReadyTo, goes, times, running, calling, stopped, with_talk, numbers_from};
-ghost use Rattle.fk_model.specs.WorkedObjects.{caller, alone_in, locating, searcher, searching, with_references, destroyer, server, destroying, destroyed, in_2, beside_2, renamer, renaming, port_and_references};
+ghost use Rattle.fk_model.specs.Worked.{scene, after_each, served_by, registers_at, registers_from, IsReadyTo, goes, times, running, calling, stopped, with_talk, numbers_from};
+ghost use Rattle.fk_model.specs.WorkedObjects.{caller, alone_in, locating, searcher, searching, with_references, destroyer, server, destroying, destroyed, in_2_and_beside, renamer, renaming, port_and_references};
 
 /// What a reference leads to lies in slot 4 of the caller's space, and deeper there.
 pub fn a_reference_is_located()
@@ -67,20 +67,20 @@ pub fn references_are_pointed_and_cleared()
 /// thread in it ends its server's call. Pointers to what was destroyed are dead.
 pub fn a_space_is_destroyed_stage_by_stage()
     ensures ready { IsLegal destroying (times 4 (goes destroyer)) }
-    ensures first { scene in_2 (destroyed 1) ≡ None ∷ Some (with_talk (served_by (3 ∷ []) server turns.Client 0) (running 20 [])) ∷ Some (Mutex false) ∷ Some (Space 1 None) ∷ [] }
-    ensures beside_1 { scene beside_2 (destroyed 1) ≡ Some (calling 30 (50 ∷ 0 ∷ 0 ∷ 0 ∷ 64 ∷ 10 ∷ [])) ∷ Some (Reference (At (2 ∷ []))) ∷ Some (Reference (At (1 ∷ 2 ∷ []))) ∷ Some (calling 0 (2 ∷ 256 ∷ 2 ∷ [])) ∷ [] }
-    ensures second { scene in_2 (destroyed 2) ≡ None ∷ None ∷ Some (Mutex false) ∷ Some (Space 1 None) ∷ [] }
-    ensures beside_2 { scene beside_2 (destroyed 2) ≡ Some (running 31 (14 ∷ 0 ∷ 0 ∷ 0 ∷ 64 ∷ 10 ∷ [])) ∷ Some (Reference (At (2 ∷ []))) ∷ Some (Reference Dead) ∷ Some (calling 0 (2 ∷ 256 ∷ 2 ∷ [])) ∷ [] }
-    ensures third { scene in_2 (destroyed 3) ≡ None ∷ None ∷ None ∷ Some (Space 1 None) ∷ [] }
-    ensures shown { registers_at (destroyed 3) destroyer ≡ registers_from (2 ∷ 256 ∷ 2 ∷ []) }
-    ensures fourth { scene (in_2 ++ beside_2) (destroyed 4) ≡ None ∷ None ∷ None ∷ None ∷ Some (running 31 (14 ∷ 0 ∷ 0 ∷ 0 ∷ 64 ∷ 10 ∷ [])) ∷ Some (Reference Dead) ∷ Some (Reference Dead) ∷ Some (running 1 (0 ∷ 256 ∷ 2 ∷ [])) ∷ [] }
-{}
-
-/// The pages of a space are there until it is destroyed itself, and no page of another goes.
-pub fn a_spaces_pages_go_with_it()
-    ensures there { (destroyed 3).page (2 ∷ []) 0 ≡ Some (numbers_from 2000 64) }
-    ensures gone { (destroyed 4).page (2 ∷ []) 0 ≡ None }
-    ensures other { (destroyed 4).page [] 1 ≡ Some (numbers_from 1064 64) }
+    ensures stages {
+        map (scene in_2_and_beside) (after_each destroying (replicate 4 (goes destroyer ∷ []))) ≡
+            (None ∷ Some (with_talk (served_by (3 ∷ []) server turns.Client 0) (running 20 [])) ∷ Some (Mutex false) ∷ Some (Space 1 None)
+                ∷ Some (calling 30 (50 ∷ 0 ∷ 0 ∷ 0 ∷ 64 ∷ 10 ∷ [])) ∷ Some (calling 0 (2 ∷ 256 ∷ 2 ∷ [])) ∷ Some (Reference (At (2 ∷ []))) ∷ Some (Reference (At (1 ∷ 2 ∷ []))) ∷ [])
+            ∷ (None ∷ None ∷ Some (Mutex false) ∷ Some (Space 1 None)
+                ∷ Some (running 31 (14 ∷ 0 ∷ 0 ∷ 0 ∷ 64 ∷ 10 ∷ [])) ∷ Some (calling 0 (2 ∷ 256 ∷ 2 ∷ [])) ∷ Some (Reference (At (2 ∷ []))) ∷ Some (Reference Dead) ∷ [])
+            ∷ (None ∷ None ∷ None ∷ Some (Space 1 None)
+                ∷ Some (running 31 (14 ∷ 0 ∷ 0 ∷ 0 ∷ 64 ∷ 10 ∷ [])) ∷ Some (calling 0 (2 ∷ 256 ∷ 2 ∷ [])) ∷ Some (Reference (At (2 ∷ []))) ∷ Some (Reference Dead) ∷ [])
+            ∷ (None ∷ None ∷ None ∷ None
+                ∷ Some (running 31 (14 ∷ 0 ∷ 0 ∷ 0 ∷ 64 ∷ 10 ∷ [])) ∷ Some (running 1 (0 ∷ 256 ∷ 2 ∷ [])) ∷ Some (Reference Dead) ∷ Some (Reference Dead) ∷ [])
+            ∷ []
+    }
+    ensures shown { registers_at (destroyed 2) destroyer ≡ registers_from (2 ∷ 256 ∷ 2 ∷ []) }
+    ensures pages { map (λ w. w.page (2 ∷ []) 0) (after_each destroying (times 3 (goes destroyer) ∷ (goes destroyer ∷ []) ∷ [])) ≡ Some (numbers_from 2000 64) ∷ None ∷ [] }
 {}
 
 /// A port gets another slot, and each reference to it follows. A slot that is taken is refused, and a space that has an
