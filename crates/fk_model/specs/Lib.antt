@@ -34,3 +34,4 @@ pub mod WorkedObjects
 pub mod WorkedHolds
 pub mod WorkedStates
 pub mod WorkedPorters
+pub mod WorkedInstructions

@@ -4,6 +4,7 @@
 //! the prover computes the moves and compares.
 
 pub mod holds;
+pub mod instructions;
 pub mod locks;
 pub mod memory;
 pub mod objects;
