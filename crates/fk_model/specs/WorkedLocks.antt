@@ -1,10 +1,11 @@
 -- Programs, mutexes and conditions: threads of /1 run the program in its page 0.
-use Rattle.std.specs.Prelude.{ℕ, false, true, List, [], ◌∷◌, ◌++◌, replicate, None}
+use Rattle.std.specs.Prelude.{ℕ, false, true, List, [], ◌∷◌, ◌++◌, replicate, Option, None}
 use Rattle.fk_model.specs.Places.{Path}
+use Rattle.fk_model.specs.Objects.{Body}
 use Rattle.fk_model.specs.Objects.Body.{Mutex, Cond, Space}
 use Rattle.fk_model.specs.World.{World}
-use Rattle.fk_model.specs.Runs.{Event}
-use Rattle.fk_model.specs.Worked.{machine, world_of, page_with, numbered, running, calling, goes, picks, times}
+use Rattle.fk_model.specs.Runs.{Event, run}
+use Rattle.fk_model.specs.Worked.{machine, world_of, page_with, numbered, running, calling, goes, picks, times, stopped}
 
 abbrev pub thread_0 : Path
 thread_0 = 0 ∷ 1 ∷ []
@@ -90,7 +91,21 @@ until_signalled = until_stopped ++ (reads ++ signals)
 unfoldable pub none_sleeps : World
 none_sleeps = world_of ((1 ∷ [], Space 1 None) ∷ (cond, Cond) ∷ (thread_0, running 40 []) ∷ (thread_1, calling 0 (26 ∷ 6 ∷ [])) ∷ []) []
 
+-- ---- the mutex in slot 5 is free, the one in slot 6 locked. Of three sleepers one is stopped, one at another condition
+
+abbrev pub sleeper : ℕ → Path
+sleeper k = k ∷ 1 ∷ []
+
+unfoldable pub locks_and_sleepers : List ℕ → World
+locks_and_sleepers g = world_of
+    ((1 ∷ [], Space 1 None) ∷ (thread_0, calling 0 g) ∷ (5 ∷ 1 ∷ [], Mutex false) ∷ (6 ∷ 1 ∷ [], Mutex true) ∷ (7 ∷ 1 ∷ [], Cond) ∷ (8 ∷ 1 ∷ [], Cond)
+    ∷ (sleeper 10, calling 40 (25 ∷ 7 ∷ 5 ∷ [])) ∷ (sleeper 11, stopped 0xffff (calling 40 (25 ∷ 7 ∷ 6 ∷ []))) ∷ (sleeper 12, calling 40 (25 ∷ 8 ∷ 5 ∷ [])) ∷ []) []
+
+-- what becomes of the caller
+unfoldable pub calls_of : List ℕ → Option Body
+calls_of g = (run (locks_and_sleepers g) (goes thread_0 ∷ [])).body thread_0
+
 -- ---- to compute in these worlds is to unfold these
 unfoldable pub locks : Unit {0}
-unfolding machine alone_with two_lock one_sleeps none_sleeps
+unfolding machine alone_with two_lock one_sleeps none_sleeps locks_and_sleepers calls_of
 locks = tt

@@ -1,13 +1,14 @@
 -- Objects: made, found, renamed and destroyed; references and handles.
-use Rattle.std.specs.Prelude.{ℕ, false, true, List, [], ◌∷◌, ◌++◌, None, Some}
+use Rattle.std.specs.Prelude.{ℕ, false, true, List, [], ◌∷◌, ◌++◌, Option, None, Some}
 use Rattle.fk_model.specs.declared.thread.Turn.TheVariants as turns
 use Rattle.fk_model.specs.Places.{Path, Ptr}
 use Rattle.fk_model.specs.Places.Ptr.{Null, Dead, At}
-use Rattle.fk_model.specs.Objects.{Body}
-use Rattle.fk_model.specs.Objects.Body.{Mutex, Port, Portset, Space, Reference}
+use Rattle.fk_model.specs.Objects.{Peer, Body}
+use Rattle.fk_model.specs.Objects.Peer.{Server}
+use Rattle.fk_model.specs.Objects.Body.{Mutex, Region, Port, Portset, Space, Reference}
 use Rattle.fk_model.specs.World.{World}
 use Rattle.fk_model.specs.Runs.{run}
-use Rattle.fk_model.specs.Worked.{machine, world_of, numbered, running, calling, with_talk, served_by, goes, times}
+use Rattle.fk_model.specs.Worked.{machine, world_of, numbered, running, calling, with_talk, with_fault, served_by, goes, times}
 
 -- ---- one thread of /1 makes a call there
 
@@ -84,7 +85,65 @@ renaming = world_of to_rename []
 abbrev pub port_and_references : List Path
 port_and_references = (4 ∷ 1 ∷ []) ∷ (7 ∷ 1 ∷ []) ∷ (5 ∷ 1 ∷ []) ∷ (6 ∷ 1 ∷ []) ∷ (0 ∷ 2 ∷ []) ∷ []
 
+-- ---- a port of the root, in a set, and all that goes with it: a talk, a fault that is raised and one that is taken, and
+-- the keeper of a region. The caller in slot 0 of the root makes a call
+
+abbrev pub talker : Path
+talker = 0 ∷ 1 ∷ []
+
+abbrev pub faulty : Path
+faulty = 2 ∷ 1 ∷ []
+
+abbrev pub helped : Path
+helped = 4 ∷ 1 ∷ []
+
+abbrev pub root_port : Path
+root_port = 3 ∷ []
+
+abbrev pub helper : Path
+helper = 7 ∷ []
+
+abbrev pub talking : Path → Path → Body → Body
+talking port server b = with_talk (served_by port server turns.Client 0) b
+
+abbrev pub missing_5 : Path → Option Peer → Body → Body
+missing_5 port taker b = with_fault (record { page = 5; write = false; port = At port; taker = taker }) b
+
+abbrev pub kept_by : Ptr → Body
+kept_by keeper = Region (record { first = 0; count = 9; write = false; keeper = keeper })
+
+-- its server in slot 2 of the root; the taker of one fault in slot 7; a native server's port in slot 10
+abbrev pub root_server : Path
+root_server = 2 ∷ []
+
+unfoldable pub related : List ℕ → World
+related g = world_of
+    ((1 ∷ [], Space 2 None) ∷ (root_server, calling 30 (50 ∷ 0 ∷ 0 ∷ 0 ∷ 64 ∷ 10 ∷ [])) ∷ (root_port, Port (Some 8) false) ∷ (8 ∷ [], Portset) ∷ (helper, running 0 []) ∷ (10 ∷ [], Port None true)
+    ∷ (destroyer, calling 0 g) ∷ (talker, talking root_port root_server (calling 20 (38 ∷ []))) ∷ (faulty, missing_5 root_port None (running 0 [])) ∷ (helped, missing_5 root_port (Some (Server (At helper))) (running 0 []))
+    ∷ (3 ∷ 1 ∷ [], kept_by (At root_port)) ∷ [])
+    []
+
+abbrev pub related_ones : List Path
+related_ones = root_server ∷ talker ∷ faulty ∷ helped ∷ (3 ∷ 1 ∷ []) ∷ []
+
+-- what becomes of the caller
+unfoldable pub answer_to : List ℕ → Option Body
+answer_to g = (run (related g) (goes destroyer ∷ [])).body destroyer
+
+-- ---- the thread in slot 5 of the root, which holds the space in slot 6, destroys itself, or another destroys it
+
+abbrev pub space_holder : Path
+space_holder = 5 ∷ []
+
+unfoldable pub holder_dies : World
+holder_dies = world_of ((destroyer, calling 0 (2 ∷ 256 ∷ 5 ∷ [])) ∷ (space_holder, calling 0 (2 ∷ 256 ∷ 5 ∷ [])) ∷ (6 ∷ [], Space 1 (Some (At space_holder))) ∷ []) []
+
+-- ---- a thread of /1/2 names /1, by the reference in slot 1, and its own space there
+
+unfoldable pub beneath_itself : List ℕ → World
+beneath_itself g = world_of ((1 ∷ [], Space 1 None) ∷ (2 ∷ 1 ∷ [], Space 2 None) ∷ (0 ∷ 2 ∷ 1 ∷ [], calling 0 g) ∷ (1 ∷ 2 ∷ 1 ∷ [], Reference (At (1 ∷ []))) ∷ []) []
+
 -- ---- to compute in these worlds is to unfold these
 unfoldable pub objects : Unit {0}
-unfolding machine alone_in locating searching with_references destroying destroyed renaming
+unfolding machine alone_in locating searching with_references destroying destroyed renaming related answer_to holder_dies beneath_itself
 objects = tt

@@ -1,15 +1,15 @@
 -- Talks: a client in /1 and a server thread in /2, linked at the port in slot 3 of /2.
-use Rattle.std.specs.Prelude.{◌≡◌, ℕ, false, true, List, [], ◌∷◌, ◌++◌, map, Option, Some, None}
+use Rattle.std.specs.Prelude.{◌≡◌, ℕ, false, true, List, [], ◌∷◌, ◌++◌, map, Bool, Option, Some, None}
 use Rattle.fk_model.specs.declared.thread.Turn.{Turn}
 use Rattle.fk_model.specs.declared.thread.Turn.TheVariants as turns
 use Rattle.fk_model.specs.Places.{Path}
 use Rattle.fk_model.specs.Places.Ptr.{At}
 use Rattle.fk_model.specs.Objects.{Talk, Fault, Peer, Body}
-use Rattle.fk_model.specs.Objects.Peer.{Server, Service}
+use Rattle.fk_model.specs.Objects.Peer.{Server, Parked}
 use Rattle.fk_model.specs.Objects.Body.{Region, Port, Portset, Space, Reference}
 use Rattle.fk_model.specs.World.{World}
 use Rattle.fk_model.specs.Runs.{Event, run}
-use Rattle.fk_model.specs.Worked.{Page, machine, world_of, page_with, numbered, running, calling, with_talk, served_by, registers_at, registers_from, goes, picks, times, accepts, hands_over}
+use Rattle.fk_model.specs.Worked.{Page, machine, world_of, page_with, numbered, running, calling, stopped, with_talk, with_fault, served_by, registers_at, registers_from, goes, picks, times, accepts, hands_over}
 
 abbrev pub client : Path
 client = 0 ∷ 1 ∷ []
@@ -153,7 +153,39 @@ replying = world_of (talkers (with_talk (servers_turn 0) (calling 20 (36 ∷ 9 �
 unfoldable pub ending : World
 ending = world_of (talkers (with_talk (servers_turn 0) (calling 20 (36 ∷ 9 ∷ 312 ∷ 0 ∷ 448 ∷ 10 ∷ []))) (calling 30 (55 ∷ []))) both_pages
 
+-- ---- the server waits on the set of slot 8 of /2, with the port in it
+
+abbrev pub waited_for : ℕ → Path
+waited_for k = k ∷ 1 ∷ []
+
+abbrev pub parked_talk : Talk
+parked_talk = record { port = At port; peer = Parked; turn = turns.Server; moved = 5 }
+
+abbrev pub fault_at_port : ℕ → Bool → Option Peer → Fault
+fault_at_port page write taker = record { page = page; write = write; port = At port; taker = taker }
+
+-- a parked talk; a raised fault of a stopped thread; a parked fault; a fault that another has taken; a parked talk of a
+-- stopped thread; a stopped thread that connects
+unfoldable pub waiting : World
+waiting = world_of
+    ((1 ∷ [], Space 1 None) ∷ (2 ∷ [], Space 2 None) ∷ (4 ∷ 1 ∷ [], Reference (At port)) ∷ (8 ∷ 2 ∷ [], Portset) ∷ (port, Port (Some 8) false) ∷ (2 ∷ 2 ∷ [], running 0 [])
+    ∷ (server, calling 30 (49 ∷ 8 ∷ 77 ∷ 66 ∷ 315 ∷ 200 ∷ []))
+    ∷ (waited_for 10, with_talk parked_talk (calling 20 (36 ∷ 0 ∷ 0 ∷ 0 ∷ 448 ∷ 10 ∷ [])))
+    ∷ (waited_for 11, stopped 1 (with_fault (fault_at_port 5 true None) (running 0 [])))
+    ∷ (waited_for 12, with_fault (fault_at_port 6 false (Some Parked)) (running 0 []))
+    ∷ (waited_for 13, with_fault (fault_at_port 7 false (Some (Server (At (2 ∷ 2 ∷ []))))) (running 0 []))
+    ∷ (waited_for 14, stopped 1 (with_talk parked_talk (running 0 [])))
+    ∷ (waited_for 15, stopped 1 (calling 0 (32 ∷ 4 ∷ []))) ∷ [])
+    []
+
+unfoldable pub picked : ℕ → World
+picked k = run waiting (picks server (waited_for k) ∷ [])
+
+-- the server waits while it serves
+unfoldable pub still_serving : World
+still_serving = world_of ((8 ∷ 2 ∷ [], Portset) ∷ talkers (with_talk (clients_turn 0) (running 20 [])) (calling 30 (48 ∷ 8 ∷ []))) []
+
 -- ---- to compute in these worlds is to unfold these
 unfoldable pub talks : Unit {0}
-unfolding machine message sent sent_to_few linked_in unlinked_in watched kept meeting replying ending
+unfolding machine message sent sent_to_few linked_in unlinked_in watched kept meeting replying ending waiting picked still_serving
 talks = tt

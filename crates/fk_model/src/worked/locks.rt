@@ -5,7 +5,7 @@ ghost use Rattle.std.specs.Prelude.{◌≡◌, [], ◌∷◌, ◌++◌, Some, tr
 ghost use Rattle.fk_model.specs.Objects.Body.{Mutex};
 ghost use Rattle.fk_model.specs.Runs.{run, IsLegal};
 ghost use Rattle.fk_model.specs.Worked.{scene, after_each, IsReadyTo, goes, picks, times, running, calling, halted, stopped, registers_at, registers_from, numbers_from};
-ghost use Rattle.fk_model.specs.WorkedLocks.{alone_with, division, countdown, two_lock, lock_twice, one_sleeps, sleeps, stops, reads, signals, lets_go, until_stopped, until_signalled, sleeper_and_signaller, none_sleeps, thread_0, thread_1, mutex};
+ghost use Rattle.fk_model.specs.WorkedLocks.{alone_with, division, countdown, two_lock, lock_twice, one_sleeps, sleeps, stops, reads, signals, lets_go, until_stopped, until_signalled, sleeper, locks_and_sleepers, calls_of, sleeper_and_signaller, none_sleeps, thread_0, thread_1, mutex};
 
 /// A program subtracts past zero, shifts all bits out, and divides by the zero that is left: it halts with code 1.
 pub fn a_zero_divisor_halts_a_program()
@@ -61,4 +61,38 @@ pub fn a_signal_without_a_sleeper_is_done_at_once()
     ensures ready { IsReadyTo none_sleeps (goes thread_1) }
     ensures done { (run none_sleeps (goes thread_1 ∷ [])).body thread_1 ≡ Some (running 1 (0 ∷ 6 ∷ [])) }
     ensures no_pick { ¬ IsReadyTo none_sleeps (picks thread_1 thread_0) }
+{}
+
+/// A mutex is tried and unlocked; each is refused where the mutex isn't so. Waiting for a condition asks for a locked one.
+pub fn a_mutex_is_tried_and_unlocked()
+    ensures tried { calls_of (22 ∷ 5 ∷ []) ≡ Some (running 1 (0 ∷ 5 ∷ [])) }
+    ensures locks { (run (locks_and_sleepers (22 ∷ 5 ∷ [])) (goes thread_0 ∷ [])).body (5 ∷ 1 ∷ []) ≡ Some (Mutex true) }
+    ensures not_free { calls_of (22 ∷ 6 ∷ []) ≡ Some (running 1 (16 ∷ 6 ∷ [])) }
+    ensures unlocked { calls_of (23 ∷ 6 ∷ []) ≡ Some (running 1 (0 ∷ 6 ∷ [])) }
+    ensures unlocks { (run (locks_and_sleepers (23 ∷ 6 ∷ [])) (goes thread_0 ∷ [])).body (6 ∷ 1 ∷ []) ≡ Some (Mutex false) }
+    ensures not_locked { calls_of (23 ∷ 5 ∷ []) ≡ Some (running 1 (7 ∷ 5 ∷ [])) }
+    ensures not_held { calls_of (24 ∷ 7 ∷ 5 ∷ []) ≡ Some (running 1 (7 ∷ 7 ∷ 5 ∷ [])) }
+    ensures no_cond { calls_of (24 ∷ 5 ∷ 6 ∷ []) ≡ Some (running 1 (3 ∷ 5 ∷ 6 ∷ [])) }
+{}
+
+/// A broadcast wakes each sleeper of its condition, for the mutex that it will lock, and no other.
+pub fn a_broadcast_wakes_every_sleeper()
+    ensures ready { IsReadyTo (locks_and_sleepers (27 ∷ 7 ∷ [])) (goes thread_0) }
+    ensures wakes {
+        scene (thread_0 ∷ sleeper 10 ∷ sleeper 11 ∷ sleeper 12 ∷ []) (run (locks_and_sleepers (27 ∷ 7 ∷ [])) (goes thread_0 ∷ [])) ≡
+            Some (running 1 (0 ∷ 7 ∷ [])) ∷ Some (calling 40 (21 ∷ 5 ∷ 5 ∷ [])) ∷ Some (stopped 65535 (calling 40 (21 ∷ 6 ∷ 6 ∷ []))) ∷ Some (calling 40 (25 ∷ 8 ∷ 5 ∷ [])) ∷ []
+    }
+{}
+
+/// A thread is stopped at most 65535 times, and isn't let go more often than it was stopped.
+pub fn stop_counts_have_two_ends()
+    ensures full { calls_of (15 ∷ 11 ∷ []) ≡ Some (running 1 (15 ∷ 11 ∷ [])) }
+    ensures not_stopped { calls_of (16 ∷ 10 ∷ []) ≡ Some (running 1 (8 ∷ 10 ∷ [])) }
+    ensures let_go { (run (locks_and_sleepers (16 ∷ 11 ∷ [])) (goes thread_0 ∷ [])).body (sleeper 11) ≡ Some (stopped 65534 (calling 40 (25 ∷ 7 ∷ 6 ∷ []))) }
+{}
+
+/// The instruction `call` answers BADCALL where the first register names no call.
+pub fn no_call_is_answered_at_once()
+    ensures ready { IsReadyTo (alone_with (0x1400_0000_0000_0000 ∷ [])) (goes thread_0) }
+    ensures answered { (run (alone_with (0x1400_0000_0000_0000 ∷ [])) (goes thread_0 ∷ [])).body thread_0 ≡ Some (running 1 (1 ∷ [])) }
 {}

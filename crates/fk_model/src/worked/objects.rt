@@ -4,10 +4,11 @@
 ghost use Rattle.std.specs.Prelude.{◌≡◌, [], ◌∷◌, ◌++◌, Some, None, true, false, map, replicate};
 ghost use Rattle.fk_model.specs.declared.thread.Turn.TheVariants as turns;
 ghost use Rattle.fk_model.specs.Places.Ptr.{At, Null, Dead};
+ghost use Rattle.fk_model.specs.Objects.Peer.{Server};
 ghost use Rattle.fk_model.specs.Objects.Body.{Mutex, Port, Portset, Space, Reference};
 ghost use Rattle.fk_model.specs.Runs.{run, IsLegal};
 ghost use Rattle.fk_model.specs.Worked.{scene, after_each, served_by, registers_at, registers_from, IsReadyTo, goes, times, running, calling, stopped, with_talk, numbers_from};
-ghost use Rattle.fk_model.specs.WorkedObjects.{caller, alone_in, locating, searcher, searching, with_references, destroyer, server, destroying, destroyed, in_2_and_beside, renamer, renaming, port_and_references};
+ghost use Rattle.fk_model.specs.WorkedObjects.{caller, alone_in, locating, searcher, searching, with_references, destroyer, server, destroying, destroyed, in_2_and_beside, renamer, renaming, port_and_references, talker, helped, root_port, root_server, helper, talking, missing_5, kept_by, related, related_ones, answer_to, space_holder, holder_dies, beneath_itself};
 
 /// What a reference leads to lies in slot 4 of the caller's space, and deeper there.
 pub fn a_reference_is_located()
@@ -97,4 +98,48 @@ pub fn references_follow_a_renamed_port()
 pub fn a_port_stays_in_its_renamed_port_set()
     ensures ready { IsLegal renaming (goes (renamer 13) ∷ []) }
     ensures set { scene ((20 ∷ 1 ∷ []) ∷ (21 ∷ 1 ∷ []) ∷ (4 ∷ 1 ∷ []) ∷ []) (run renaming (goes (renamer 13) ∷ [])) ≡ None ∷ Some Portset ∷ Some (Port (Some 21) false) ∷ [] }
+{}
+
+/// With a port its talks and the faults on it are gone, and the calls of both ends of a talk end; the keeper is dead.
+pub fn what_goes_with_a_port()
+    ensures port {
+        scene related_ones (run (related (2 ∷ 256 ∷ 3 ∷ [])) (goes destroyer ∷ [])) ≡
+            Some (running 31 (14 ∷ 0 ∷ 0 ∷ 0 ∷ 64 ∷ 10 ∷ [])) ∷ Some (running 21 (14 ∷ [])) ∷ Some (running 0 []) ∷ Some (running 0 []) ∷ Some (kept_by Dead) ∷ []
+    }
+    ensures done { answer_to (2 ∷ 256 ∷ 3 ∷ []) ≡ Some (running 1 (0 ∷ 256 ∷ 3 ∷ [])) }
+{}
+
+/// With a server its talk is gone, and its client's call ends; a fault that it had taken is raised again. Without its
+/// port set a port is in none.
+pub fn what_goes_with_a_server_and_a_port_set()
+    ensures server {
+        scene related_ones (run (related (2 ∷ 256 ∷ 2 ∷ [])) (goes destroyer ∷ [])) ≡
+            None ∷ Some (running 21 (14 ∷ [])) ∷ Some (missing_5 root_port None (running 0 [])) ∷ Some (missing_5 root_port (Some (Server (At helper))) (running 0 [])) ∷ Some (kept_by (At root_port)) ∷ []
+    }
+    ensures taker { (run (related (2 ∷ 256 ∷ 7 ∷ [])) (goes destroyer ∷ [])).body helped ≡ Some (missing_5 root_port None (running 0 [])) }
+    ensures set { (run (related (2 ∷ 256 ∷ 8 ∷ [])) (goes destroyer ∷ [])).body root_port ≡ Some (Port None false) }
+{}
+
+/// Talks, faults and keepers follow a renamed port and a renamed server. A thread that renames itself ends its call in
+/// its new slot. A served port isn't renamed, and nothing to a slot above 239.
+pub fn talks_and_faults_follow_what_is_renamed()
+    ensures port {
+        scene related_ones (run (related (3 ∷ 256 ∷ 3 ∷ 9 ∷ [])) (goes destroyer ∷ [])) ≡
+            Some (calling 30 (50 ∷ 0 ∷ 0 ∷ 0 ∷ 64 ∷ 10 ∷ [])) ∷ Some (talking (9 ∷ []) root_server (calling 20 (38 ∷ []))) ∷ Some (missing_5 (9 ∷ []) None (running 0 []))
+            ∷ Some (missing_5 (9 ∷ []) (Some (Server (At helper))) (running 0 [])) ∷ Some (kept_by (At (9 ∷ []))) ∷ []
+    }
+    ensures server { scene (talker ∷ (9 ∷ []) ∷ []) (run (related (3 ∷ 256 ∷ 2 ∷ 9 ∷ [])) (goes destroyer ∷ [])) ≡ Some (talking root_port (9 ∷ []) (calling 20 (38 ∷ []))) ∷ Some (calling 30 (50 ∷ 0 ∷ 0 ∷ 0 ∷ 64 ∷ 10 ∷ [])) ∷ [] }
+    ensures taker { (run (related (3 ∷ 256 ∷ 7 ∷ 9 ∷ [])) (goes destroyer ∷ [])).body helped ≡ Some (missing_5 root_port (Some (Server (At (9 ∷ [])))) (running 0 [])) }
+    ensures itself { scene (destroyer ∷ (9 ∷ []) ∷ []) (run (related (3 ∷ 256 ∷ 0 ∷ 9 ∷ [])) (goes destroyer ∷ [])) ≡ None ∷ Some (running 1 (0 ∷ 256 ∷ 0 ∷ 9 ∷ [])) ∷ [] }
+    ensures served { answer_to (3 ∷ 256 ∷ 10 ∷ 9 ∷ []) ≡ Some (running 1 (13 ∷ 256 ∷ 10 ∷ 9 ∷ [])) }
+    ensures too_high { answer_to (3 ∷ 256 ∷ 3 ∷ 240 ∷ []) ≡ Some (running 1 (2 ∷ 256 ∷ 3 ∷ 240 ∷ [])) }
+{}
+
+/// A holder that destroys itself leaves its space unheld; nobody else destroys it. No thread destroys or holds the space
+/// in which it lives.
+pub fn holders_and_own_spaces_are_not_destroyed_by_others()
+    ensures itself { scene (space_holder ∷ (6 ∷ []) ∷ []) (run holder_dies (goes space_holder ∷ [])) ≡ None ∷ Some (Space 1 None) ∷ [] }
+    ensures other { ¬ IsReadyTo holder_dies (goes destroyer) }
+    ensures own_space { (run (beneath_itself (2 ∷ 1 ∷ 2 ∷ [])) (goes (0 ∷ 2 ∷ 1 ∷ []) ∷ [])).body (0 ∷ 2 ∷ 1 ∷ []) ≡ Some (running 1 (13 ∷ 1 ∷ 2 ∷ [])) }
+    ensures own_hold { (run (beneath_itself (13 ∷ 1 ∷ 2 ∷ [])) (goes (0 ∷ 2 ∷ 1 ∷ []) ∷ [])).body (0 ∷ 2 ∷ 1 ∷ []) ≡ Some (running 1 (13 ∷ 1 ∷ 2 ∷ [])) }
 {}

@@ -2,11 +2,12 @@
 #![tactic(auto, unfolding(crate::specs::WorkedTalks::talks))]
 
 ghost use Rattle.std.specs.Prelude.{◌≡◌, [], ◌∷◌, ◌++◌, Some, None, true, false, map, replicate};
+ghost use Rattle.fk_model.specs.declared.thread.Turn.TheVariants as turns;
 ghost use Rattle.fk_model.specs.Places.Ptr.{At};
 ghost use Rattle.fk_model.specs.Objects.Peer.{Server};
 ghost use Rattle.fk_model.specs.Runs.{run, IsLegal};
-ghost use Rattle.fk_model.specs.Worked.{scene, after_each, IsReadyTo, with_fault, goes, picks, times, running, calling, with_talk, registers_at, registers_from, numbers_from};
-ghost use Rattle.fk_model.specs.WorkedTalks.{client, server, clients_turn, servers_turn, sending, receiving, message, sent, ends_at, left, both_ends, sent_to_few, linked_in, unlinked_in, reader, second_reader, watched, sent_and_read, keeper, kept, missed_5, arrives, misses, takes, gives, mends, until_mended, meeting, port, replying, ending};
+ghost use Rattle.fk_model.specs.Worked.{scene, after_each, IsReadyTo, with_fault, goes, picks, times, running, calling, stopped, served_by, with_talk, registers_at, registers_from, numbers_from};
+ghost use Rattle.fk_model.specs.WorkedTalks.{client, server, clients_turn, servers_turn, sending, receiving, message, sent, ends_at, left, both_ends, sent_to_few, linked_in, unlinked_in, reader, second_reader, watched, sent_and_read, keeper, kept, missed_5, arrives, misses, takes, gives, mends, until_mended, meeting, port, replying, ending, waiting, waited_for, fault_at_port, picked, still_serving};
 
 /// A message of 130 words goes in five moves: none moves more words than a page, of either side, has left from the
 /// address on. Both sides' registers say at any time what is left.
@@ -137,4 +138,29 @@ pub fn the_end_of_a_talk_ends_the_other_sides_call()
     ensures by_client { scene both_ends (run (linked_in (39 ∷ [])) (goes client ∷ [])) ≡ Some (running 21 []) ∷ Some (running 31 (14 ∷ 8 ∷ 7 ∷ 6 ∷ 315 ∷ 200 ∷ [])) ∷ [] }
     ensures ends { IsReadyTo ending (goes server) }
     ensures by_server { scene both_ends (run ending (goes server ∷ [])) ≡ Some (running 21 (14 ∷ 9 ∷ 312 ∷ 0 ∷ 448 ∷ 10 ∷ [])) ∷ Some (running 31 []) ∷ [] }
+{}
+
+/// A wait takes up a parked talk, a raised fault also of a stopped thread, and a parked fault; its whole call ends, and
+/// the answers say what there is to know.
+pub fn a_wait_takes_faults_and_parked_talks()
+    ensures ready { IsReadyTo waiting (picks server (waited_for 10)) × (IsReadyTo waiting (picks server (waited_for 11)) × IsReadyTo waiting (picks server (waited_for 12))) }
+    ensures talk { scene (server ∷ waited_for 10 ∷ []) (picked 10) ≡ Some (running 31 (0 ∷ 3 ∷ 2 ∷ 2 ∷ 5 ∷ 200 ∷ [])) ∷ Some (with_talk (served_by port server turns.Server 5) (calling 20 (36 ∷ 0 ∷ 0 ∷ 0 ∷ 448 ∷ 10 ∷ []))) ∷ [] }
+    ensures raised { scene (server ∷ waited_for 11 ∷ []) (picked 11) ≡ Some (running 31 (0 ∷ 3 ∷ 1 ∷ 5 ∷ 1 ∷ 200 ∷ [])) ∷ Some (stopped 1 (with_fault (fault_at_port 5 true (Some (Server (At server)))) (running 0 []))) ∷ [] }
+    ensures parked { scene (server ∷ waited_for 12 ∷ []) (picked 12) ≡ Some (running 31 (0 ∷ 3 ∷ 3 ∷ 6 ∷ 0 ∷ 200 ∷ [])) ∷ Some (with_fault (fault_at_port 6 false (Some (Server (At server)))) (running 0 [])) ∷ [] }
+{}
+
+/// A wait takes no fault that is taken, and no talk or call of a stopped thread. A server that serves doesn't wait.
+pub fn a_wait_takes_nothing_else()
+    ensures taken { ¬ IsReadyTo waiting (picks server (waited_for 13)) }
+    ensures stopped { ¬ IsReadyTo waiting (picks server (waited_for 14)) }
+    ensures connecting { ¬ IsReadyTo waiting (picks server (waited_for 15)) }
+    ensures serving { (run still_serving (goes server ∷ [])).body server ≡ Some (running 31 (11 ∷ 8 ∷ [])) }
+    ensures no_pick { ¬ IsReadyTo still_serving (picks server client) }
+{}
+
+/// A sender whose own page is missing, with nobody to keep it, ends BADADDRESS. With nothing to send it is done at once.
+pub fn a_senders_own_page_comes_first()
+    ensures refused { (run (message 384 10 315 200) (goes client ∷ [])).body client ≡ Some (with_talk (clients_turn 0) (running 21 (12 ∷ 9 ∷ 384 ∷ 10 ∷ 448 ∷ 10 ∷ []))) }
+    ensures nothing { (run (message 384 0 315 200) (goes client ∷ [])).body client ≡ Some (with_talk (clients_turn 0) (calling 20 (35 ∷ 9 ∷ 384 ∷ 0 ∷ 448 ∷ 10 ∷ []))) }
+    ensures full { ends_at (run (message 182 130 315 0) (goes client ∷ [])) ≡ (registers_from (sending 182 130), registers_from (15 ∷ 8 ∷ 7 ∷ 6 ∷ 315 ∷ 0 ∷ [])) }
 {}
