@@ -51,6 +51,12 @@ storing held = world_of
     ∷ (3 ∷ 1 ∷ [], Region (record { first = 3; count = 1; write = true; keeper = Null })) ∷ []))
     (page_with [] 0 stores_at_r2 ∷ numbered (1 ∷ []) 1000 3 ∷ [])
 
+-- ---- /1 is held, and the space in slot 2 of it by the other thread. Slot 3 of the root leads to that space
+
+unfoldable pub held_in_held : List ℕ → List ℕ → World
+held_in_held g h = world_of
+    (root_and_1 (Some (At holder)) g h ++ ((2 ∷ 1 ∷ [], Space 3 (Some (At other))) ∷ (3 ∷ [], Reference (At (2 ∷ 1 ∷ []))) ∷ [])) []
+
 -- ---- /1 has a porter, which holds the space in slot 2 of /1
 
 abbrev pub porter : Path
@@ -62,5 +68,5 @@ working_porter = world_of
 
 -- ---- to compute in these worlds is to unfold these
 unfoldable pub holds : Unit {0}
-unfolding machine before_hold held storing working_porter
+unfolding machine before_hold held storing held_in_held working_porter
 holds = tt

@@ -8,7 +8,7 @@ ghost use Rattle.fk_model.specs.Objects.Body.{Mutex, Space, Reference};
 ghost use Rattle.fk_model.specs.Outcomes.Said.{Answered};
 ghost use Rattle.fk_model.specs.Runs.{run, IsLegal};
 ghost use Rattle.fk_model.specs.Worked.{IsReadyTo, told, goes, makes, times, running, calling, numbers_from};
-ghost use Rattle.fk_model.specs.WorkedHolds.{holder, other, inner, before_hold, held, storing, porter, working_porter};
+ghost use Rattle.fk_model.specs.WorkedHolds.{holder, other, inner, before_hold, held, storing, held_in_held, porter, working_porter};
 
 /// A thread holds a space, and then nothing in it moves.
 pub fn a_hold_stops_what_it_holds()
@@ -70,4 +70,15 @@ pub fn nobody_holds_above_a_porters_hold()
     ensures answer { told working_porter (makes porter (SpaceRelease 256 2) []) ≡ Answered 0 [] }
     ensures ready { IsReadyTo (run working_porter (makes porter (SpaceRelease 256 2) [] ∷ [])) (goes holder) }
     ensures done { (run working_porter (makes porter (SpaceRelease 256 2) [] ∷ goes holder ∷ [])).body holder ≡ Some (running 1 (0 ∷ 256 ∷ 1 ∷ [])) }
+{}
+
+/// Of two holds the outer one's holder decides: the inner one's is refused HELD, also where it releases its own. The
+/// outer holder doesn't come to hold the inner space either.
+pub fn the_outermost_holder_decides()
+    ensures ready { IsReadyTo (held_in_held (1 ∷ 3 ∷ 5 ∷ 1 ∷ []) []) (goes holder) }
+    ensures outer { (run (held_in_held (1 ∷ 3 ∷ 5 ∷ 1 ∷ []) []) (goes holder ∷ [])).body (5 ∷ 2 ∷ 1 ∷ []) ≡ Some (Mutex false) }
+    ensures inner { (run (held_in_held [] (1 ∷ 3 ∷ 5 ∷ 1 ∷ [])) (goes other ∷ [])).body other ≡ Some (running 1 (9 ∷ 3 ∷ 5 ∷ 1 ∷ [])) }
+    ensures release { (run (held_in_held [] (14 ∷ 1 ∷ 2 ∷ [])) (goes other ∷ [])).body other ≡ Some (running 1 (9 ∷ 1 ∷ 2 ∷ [])) }
+    ensures not_holder { (run (held_in_held (14 ∷ 1 ∷ 2 ∷ []) []) (goes holder ∷ [])).body holder ≡ Some (running 1 (13 ∷ 1 ∷ 2 ∷ [])) }
+    ensures waits { ¬ IsReadyTo (held_in_held (13 ∷ 1 ∷ 2 ∷ []) []) (goes holder) }
 {}

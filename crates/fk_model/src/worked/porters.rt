@@ -2,11 +2,11 @@
 #![tactic(auto, unfolding(crate::specs::WorkedPorters::porters))]
 
 ghost use Rattle.std.specs.Prelude.{◌≡◌, [], ◌∷◌, ◌++◌, Some, None, true, false, replicate};
-ghost use Rattle.fk_model.specs.declared.stage.Stage.TheVariants.{Create, CountIn, GetState, SetState, PageGive, PageTake, PageRead, LinkSet, LinkPark, FaultSet, FaultPark, HoldSet, SpaceMakeHeld, MutexLock};
+ghost use Rattle.fk_model.specs.declared.stage.Stage.TheVariants.{Destroy, CountIn, GetPtr, GetState, SetState, PageGive, PageTake, PageRead, LinkSet, LinkPark, FaultSet, FaultPark, HoldSet, SpaceMakeHeld, MutexLock};
 ghost use Rattle.fk_model.specs.declared.thread.Turn.TheVariants as turns;
-ghost use Rattle.fk_model.specs.Places.Ptr.{At};
+ghost use Rattle.fk_model.specs.Places.Ptr.{At, Null};
 ghost use Rattle.fk_model.specs.Objects.Peer.{Server, Parked};
-ghost use Rattle.fk_model.specs.Objects.Body.{Mutex, Space};
+ghost use Rattle.fk_model.specs.Objects.Body.{Mutex, Reference, Space};
 ghost use Rattle.fk_model.specs.Outcomes.Said.{Answered};
 ghost use Rattle.fk_model.specs.Runs.{run, IsLegal};
 ghost use Rattle.fk_model.specs.Worked.{IsReadyTo, told, makes, running, with_talk, with_fault, numbers_from};
@@ -62,4 +62,15 @@ pub fn pointers_from_outside_are_counted()
     ensures ready { IsReadyTo restoring (makes porter (CountIn 1 1 0) []) }
     ensures counted { told restoring (makes porter (CountIn 1 1 0) []) ≡ Answered 0 (2 ∷ []) }
     ensures none { told restoring (makes porter (CountIn 1 1 256) []) ≡ Answered 0 (0 ∷ []) }
+{}
+
+/// A porter is answered after each stage of a destroy, and stays; it gets the fields of threads.
+pub fn a_porter_destroys_and_gets_fields()
+    ensures answer { told restoring (makes porter (Destroy 256 1) []) ≡ Answered 0 [] }
+    ensures gone { (run restoring (makes porter (Destroy 256 1) [] ∷ [])).body subject ≡ None }
+    ensures space { (run restoring (makes porter (Destroy 256 1) [] ∷ [])).body (1 ∷ []) ≡ Some (Space 1 (Some (At porter))) }
+    ensures stays { (run restoring (makes porter (Destroy 256 1) [] ∷ [])).body porter ≡ restoring.body porter }
+    ensures peer { told (run restoring (makes porter (LinkPark 1 0 9) (2 ∷ 5 ∷ []) ∷ [])) (makes porter (GetPtr 1 0 1 241) []) ≡ Answered 0 (3 ∷ []) }
+    ensures no_thread { (run restoring (makes porter (LinkPark 1 0 9) (2 ∷ 5 ∷ []) ∷ makes porter (GetPtr 1 0 1 241) [] ∷ [])).body (241 ∷ []) ≡ Some (Reference Null) }
+    ensures holder { told restoring (makes porter (GetPtr 256 1 0 241) []) ≡ Answered 0 (2 ∷ []) }
 {}

@@ -1,13 +1,13 @@
 //! Native servers and their clients.
 #![tactic(auto, unfolding(crate::specs::WorkedServers::servers))]
 
-ghost use Rattle.std.specs.Prelude.{◌≡◌, [], ◌∷◌, ◌++◌, Some, None, false, replicate};
+ghost use Rattle.std.specs.Prelude.{◌≡◌, [], ◌∷◌, ◌++◌, Some, None, true, false, replicate};
 ghost use Rattle.fk_model.specs.declared.thread.Turn.TheVariants as turns;
 ghost use Rattle.fk_model.specs.Places.Ptr.{At};
-ghost use Rattle.fk_model.specs.Outcomes.Said.{Taken, Words, Passed, Given, Full};
+ghost use Rattle.fk_model.specs.Outcomes.Said.{Taken, Words, Passed, Given, Full, Ended};
 ghost use Rattle.fk_model.specs.Runs.{run, IsLegal};
 ghost use Rattle.fk_model.specs.Worked.{IsReadyTo, told, goes, accepts, gives, hands_over, running, calling, halted, with_talk, registers_at, registers_from, numbers_from};
-ghost use Rattle.fk_model.specs.WorkedServers.{client, port, served, to_console, entered, and_accepted, and_sent_one, and_sent_two, and_turned, and_returned, awaiting};
+ghost use Rattle.fk_model.specs.WorkedServers.{client, port, served, to_console, entered, and_accepted, and_sent_one, and_sent_two, and_turned, and_returned, awaiting, second, two_clients, leaving};
 
 /// A program sends 70 words to a native server in two blocks, the first of them 64 words, and gets the turn back.
 pub fn a_program_sends_words_to_a_native_server()
@@ -39,4 +39,15 @@ pub fn a_native_server_gives_its_reply()
     ensures given { told (awaiting 4) (gives port (8 ∷ [])) ≡ Given (At port) 1 }
     ensures full { (run (awaiting 0) (gives port (8 ∷ []) ∷ [])).body client ≡ Some (with_talk (served turns.Server 0) (running 21 (15 ∷ 1 ∷ 128 ∷ 0 ∷ 192 ∷ 0 ∷ []))) }
     ensures told_full { told (awaiting 0) (gives port (8 ∷ [])) ≡ Full (At port) }
+{}
+
+/// A native server takes up a parked talk where it stands, and has one client at a time. It is told of the end.
+pub fn a_native_server_has_one_client()
+    ensures ready { IsReadyTo two_clients (accepts port client) }
+    ensures taken_up { told two_clients (accepts port client) ≡ Taken (At port) client true turns.Server 5 }
+    ensures client { (run two_clients (accepts port client ∷ [])).body client ≡ Some (with_talk (served turns.Server 5) (calling 20 (36 ∷ 1 ∷ 128 ∷ 0 ∷ 192 ∷ 4 ∷ []))) }
+    ensures other { IsReadyTo two_clients (accepts port second) }
+    ensures one { ¬ IsReadyTo (run two_clients (accepts port client ∷ [])) (accepts port second) }
+    ensures ended { told leaving (goes client) ≡ Ended (At port) }
+    ensures left { (run leaving (goes client ∷ [])).body client ≡ Some (running 21 []) }
 {}

@@ -6,7 +6,7 @@ ghost use Rattle.fk_model.specs.Places.Ptr.{At, Null};
 ghost use Rattle.fk_model.specs.Objects.Body.{Mutex, Mapping, Region, Port, Reference};
 ghost use Rattle.fk_model.specs.Runs.{run};
 ghost use Rattle.fk_model.specs.Worked.{IsReadyTo, goes, running, calling, halted, stopped};
-ghost use Rattle.fk_model.specs.WorkedStates.{caller, setting, pointing};
+ghost use Rattle.fk_model.specs.WorkedStates.{caller, setting, setting_by, records, in_call_21, pointing};
 
 /// The state of a running thread that isn't stopped isn't set.
 pub fn a_running_thread_takes_no_state()
@@ -55,4 +55,13 @@ pub fn pointer_fields_are_got_and_set()
     ensures thread { (run (pointing (11 ∷ 256 ∷ 1 ∷ 0 ∷ 8 ∷ [])) (goes caller ∷ [])).body caller ≡ Some (running 1 (13 ∷ 256 ∷ 1 ∷ 0 ∷ 8 ∷ [])) }
     ensures set { (run (pointing (12 ∷ 256 ∷ 7 ∷ 0 ∷ 10 ∷ [])) (goes caller ∷ [])).body (7 ∷ 1 ∷ []) ≡ Some (Region (record { first = 0; count = 1; write = false; keeper = At (5 ∷ 1 ∷ []) })) }
     ensures wrong_kind { (run (pointing (12 ∷ 256 ∷ 7 ∷ 0 ∷ 9 ∷ [])) (goes caller ∷ [])).body caller ≡ Some (running 1 (3 ∷ 256 ∷ 7 ∷ 0 ∷ 9 ∷ [])) }
+{}
+
+/// A record goes to a multiple of 32, in a page that is there.
+pub fn a_record_goes_to_a_page()
+    ensures ready { IsReadyTo (setting_by (9 ∷ 256 ∷ 3 ∷ 96 ∷ [])) (goes caller) }
+    ensures shown { (run (setting_by (9 ∷ 256 ∷ 4 ∷ 96 ∷ [])) (goes caller ∷ [])).page (1 ∷ []) 1 ≡ Some (records in_call_21 (3 ∷ 0 ∷ 1 ∷ [])) }
+    ensures between { (run (setting_by (9 ∷ 256 ∷ 3 ∷ 80 ∷ [])) (goes caller ∷ [])).body caller ≡ Some (running 1 (12 ∷ 256 ∷ 3 ∷ 80 ∷ [])) }
+    ensures missing { (run (setting_by (9 ∷ 256 ∷ 3 ∷ 640 ∷ [])) (goes caller ∷ [])).body caller ≡ Some (running 1 (12 ∷ 256 ∷ 3 ∷ 640 ∷ [])) }
+    ensures past_the_end { (run (setting_by (9 ∷ 256 ∷ 3 ∷ 16384 ∷ [])) (goes caller ∷ [])).body caller ≡ Some (running 1 (12 ∷ 256 ∷ 3 ∷ 16384 ∷ [])) }
 {}
