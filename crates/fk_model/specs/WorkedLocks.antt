@@ -99,7 +99,7 @@ sleeper k = k ∷ 1 ∷ []
 unfoldable pub locks_and_sleepers : List ℕ → World
 locks_and_sleepers g = world_of
     ((1 ∷ [], Space 1 None) ∷ (thread_0, calling 0 g) ∷ (5 ∷ 1 ∷ [], Mutex false) ∷ (6 ∷ 1 ∷ [], Mutex true) ∷ (7 ∷ 1 ∷ [], Cond) ∷ (8 ∷ 1 ∷ [], Cond)
-    ∷ (sleeper 10, calling 40 (25 ∷ 7 ∷ 5 ∷ [])) ∷ (sleeper 11, stopped 0xffff (calling 40 (25 ∷ 7 ∷ 6 ∷ []))) ∷ (sleeper 12, calling 40 (25 ∷ 8 ∷ 5 ∷ [])) ∷ []) []
+    ∷ (sleeper 10, calling 40 (25 ∷ 7 ∷ 5 ∷ [])) ∷ (sleeper 11, stopped 0xffff (calling 40 (25 ∷ 7 ∷ 6 ∷ []))) ∷ (sleeper 12, calling 40 (25 ∷ 8 ∷ 5 ∷ [])) ∷ (2 ∷ [], Space 2 None) ∷ (0 ∷ 2 ∷ [], calling 40 (25 ∷ 7 ∷ 5 ∷ [])) ∷ []) []
 
 -- what becomes of the caller
 unfoldable pub calls_of : List ℕ → Option Body

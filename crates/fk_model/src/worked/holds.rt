@@ -8,7 +8,7 @@ ghost use Rattle.fk_model.specs.Objects.Body.{Mutex, Space, Reference};
 ghost use Rattle.fk_model.specs.Outcomes.Said.{Answered};
 ghost use Rattle.fk_model.specs.Runs.{run, IsLegal};
 ghost use Rattle.fk_model.specs.Worked.{IsReadyTo, told, goes, makes, times, running, calling, numbers_from};
-ghost use Rattle.fk_model.specs.WorkedHolds.{holder, other, inner, before_hold, held, storing, held_in_held, porter, working_porter};
+ghost use Rattle.fk_model.specs.WorkedHolds.{holder, other, inner, before_hold, held, storing, held_in_held, talk_across, client, server, fault_across, porter, working_porter};
 
 /// A thread holds a space, and then nothing in it moves.
 pub fn a_hold_stops_what_it_holds()
@@ -81,4 +81,18 @@ pub fn the_outermost_holder_decides()
     ensures release { (run (held_in_held [] (14 ∷ 1 ∷ 2 ∷ [])) (goes other ∷ [])).body other ≡ Some (running 1 (9 ∷ 1 ∷ 2 ∷ [])) }
     ensures not_holder { (run (held_in_held (14 ∷ 1 ∷ 2 ∷ []) []) (goes holder ∷ [])).body holder ≡ Some (running 1 (13 ∷ 1 ∷ 2 ∷ [])) }
     ensures waits { ¬ IsReadyTo (held_in_held (13 ∷ 1 ∷ 2 ∷ []) []) (goes holder) }
+{}
+
+/// Nobody sends to a thread in a held space, nor ends a talk with it, from either side; no fault of a thread there ends.
+pub fn talks_and_faults_stand_across_a_hold()
+    ensures sends { IsReadyTo (talk_across None None (37 ∷ 0 ∷ 128 ∷ 5 ∷ []) (50 ∷ 0 ∷ 0 ∷ 0 ∷ 256 ∷ 9 ∷ [])) (goes client) }
+    ensures held_receiver { ¬ IsReadyTo (talk_across None (Some (At holder)) (37 ∷ 0 ∷ 128 ∷ 5 ∷ []) (50 ∷ 0 ∷ 0 ∷ 0 ∷ 256 ∷ 9 ∷ [])) (goes client) }
+    ensures held_sender { ¬ IsReadyTo (talk_across (Some (At holder)) None (37 ∷ 0 ∷ 128 ∷ 5 ∷ []) (50 ∷ 0 ∷ 0 ∷ 0 ∷ 256 ∷ 9 ∷ [])) (goes client) }
+    ensures disconnects { IsReadyTo (talk_across None None (39 ∷ []) (50 ∷ [])) (goes client) }
+    ensures held_server { ¬ IsReadyTo (talk_across None (Some (At holder)) (39 ∷ []) (50 ∷ [])) (goes client) }
+    ensures ends { IsReadyTo (talk_across None None (50 ∷ []) (55 ∷ [])) (goes server) }
+    ensures held_client { ¬ IsReadyTo (talk_across (Some (At holder)) None (50 ∷ []) (55 ∷ [])) (goes server) }
+    ensures fault_ends { IsReadyTo (fault_across None) (goes other) }
+    ensures held_fault { ¬ IsReadyTo (fault_across (Some (At holder))) (goes other) }
+    ensures holders_fault { ¬ IsReadyTo (fault_across (Some (At other))) (goes other) }
 {}

@@ -75,6 +75,15 @@ pub fn a_mutex_is_tried_and_unlocked()
     ensures no_cond { calls_of (24 ∷ 5 ∷ 6 ∷ []) ≡ Some (running 1 (3 ∷ 5 ∷ 6 ∷ [])) }
 {}
 
+/// A signal picks a sleeper of its own condition in its own space.
+pub fn a_signal_picks_a_sleeper_of_its_condition()
+    ensures own { IsReadyTo (locks_and_sleepers (26 ∷ 7 ∷ [])) (picks thread_0 (sleeper 10)) }
+    ensures other_cond { ¬ IsReadyTo (locks_and_sleepers (26 ∷ 7 ∷ [])) (picks thread_0 (sleeper 12)) }
+    ensures other_space { ¬ IsReadyTo (locks_and_sleepers (26 ∷ 7 ∷ [])) (picks thread_0 (0 ∷ 2 ∷ [])) }
+    ensures refused { ¬ IsReadyTo (locks_and_sleepers (26 ∷ 5 ∷ [])) (picks thread_0 (sleeper 10)) }
+    ensures wrong_kind { calls_of (26 ∷ 5 ∷ []) ≡ Some (running 1 (3 ∷ 5 ∷ [])) }
+{}
+
 /// A broadcast wakes each sleeper of its condition, for the mutex that it will lock, and no other.
 pub fn a_broadcast_wakes_every_sleeper()
     ensures ready { IsReadyTo (locks_and_sleepers (27 ∷ 7 ∷ [])) (goes thread_0) }

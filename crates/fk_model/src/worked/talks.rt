@@ -56,12 +56,13 @@ pub fn a_full_receiver_is_ended_and_the_sender_stays()
 {}
 
 /// Without a talk Over is refused NOTLINKED; at the client's own turn its Receive is refused WRONGTURN; and a client with
-/// a talk is refused LINKED where it connects once more.
+/// a talk is refused LINKED where it connects once more. Without a taken fault its end is refused NOTLINKED too.
 pub fn a_clients_calls_ask_for_its_talk()
     ensures ready { IsReadyTo (unlinked_in (38 ∷ [])) (goes client) }
     ensures no_talk { (run (unlinked_in (38 ∷ [])) (goes client ∷ [])).body client ≡ Some (running 21 (10 ∷ [])) }
     ensures own_turn { (run (linked_in (36 ∷ [])) (goes client ∷ [])).body client ≡ Some (with_talk (clients_turn 0) (running 21 (18 ∷ []))) }
     ensures linked { (run (linked_in (32 ∷ 4 ∷ [])) (goes client ∷ [])).body client ≡ Some (with_talk (clients_turn 0) (running 21 (11 ∷ 4 ∷ []))) }
+    ensures no_fault { (run (unlinked_in (56 ∷ [])) (goes client ∷ [])).body client ≡ Some (running 21 (10 ∷ [])) }
     ensures waits { ¬ IsReadyTo (unlinked_in (32 ∷ 4 ∷ [])) (goes client) }
 {}
 
