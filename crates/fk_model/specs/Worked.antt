@@ -154,6 +154,10 @@ registers_in (Some t) = registers_of t.mode
 unfoldable pub registers_at : World → Path → List ℕ
 registers_at w x = registers_in (and_then thread_of (w.body x))
 
+-- what a user thread is after its own move
+abbrev pub becomes : World → Path → Option Body
+becomes w x = (run w (goes x ∷ [])).body x
+
 -- what stands at some paths
 abbrev pub scene : List Path → World → List (Option Body)
 scene xs w = map w.body xs

@@ -73,6 +73,13 @@ talk_across hold_1 hold_2 g h = world_of
     ∷ (client, with_talk (served_by (3 ∷ 2 ∷ []) server turns.Client 0) (calling 20 g)) ∷ (server, calling 30 h) ∷ [])
     (numbered (1 ∷ []) 1000 2 ∷ numbered (2 ∷ []) 2000 4 ∷ [])
 
+-- a send and a receive
+abbrev pub sends_5 : List ℕ
+sends_5 = 37 ∷ 0 ∷ 128 ∷ 5 ∷ []
+
+abbrev pub receives_9 : List ℕ
+receives_9 = 50 ∷ 0 ∷ 0 ∷ 0 ∷ 256 ∷ 9 ∷ []
+
 -- ---- a thread of /1, which is held or not, has a fault that a thread of the root has taken
 
 unfoldable pub fault_across : Option Ptr → World

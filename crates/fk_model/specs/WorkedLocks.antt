@@ -5,7 +5,7 @@ use Rattle.fk_model.specs.Objects.{Body}
 use Rattle.fk_model.specs.Objects.Body.{Mutex, Cond, Space}
 use Rattle.fk_model.specs.World.{World}
 use Rattle.fk_model.specs.Runs.{Event, run}
-use Rattle.fk_model.specs.Worked.{machine, world_of, page_with, numbered, running, calling, goes, picks, times, stopped}
+use Rattle.fk_model.specs.Worked.{machine, world_of, page_with, numbered, numbers_from, running, calling, goes, picks, times, stopped}
 
 abbrev pub thread_0 : Path
 thread_0 = 0 ∷ 1 ∷ []
@@ -80,12 +80,22 @@ signals = times 3 (goes thread_1) ++ picks thread_1 thread_0 ∷ []
 abbrev pub lets_go : List Event
 lets_go = times 4 (goes thread_1)
 
--- up to its being stopped, and up to the signal
+abbrev pub parts : List (List Event)
+parts = sleeps ∷ stops ∷ (reads ++ signals) ∷ lets_go ∷ (goes thread_0 ∷ []) ∷ []
+
+-- up to its being stopped, up to the call that signals, and up to the signal
 abbrev pub until_stopped : List Event
 until_stopped = sleeps ++ stops
 
+abbrev pub until_signalling : List Event
+until_signalling = until_stopped ++ (reads ++ times 3 (goes thread_1))
+
 abbrev pub until_signalled : List Event
 until_signalled = until_stopped ++ (reads ++ signals)
+
+-- its record: a thread with these registers, at counter 40, that calls and is stopped once; and what else is in the page
+abbrev pub page_with_record : List ℕ
+page_with_record = (8 ∷ 25 ∷ 6 ∷ 5 ∷ []) ++ (replicate 13 0 ++ ((40 ∷ 1 ∷ 0 ∷ 1 ∷ []) ++ (replicate 11 0 ++ numbers_from 1160 32)))
 
 -- nobody sleeps on the condition
 unfoldable pub none_sleeps : World
@@ -95,6 +105,9 @@ none_sleeps = world_of ((1 ∷ [], Space 1 None) ∷ (cond, Cond) ∷ (thread_0,
 
 abbrev pub sleeper : ℕ → Path
 sleeper k = k ∷ 1 ∷ []
+
+abbrev pub caller_and_sleepers : List Path
+caller_and_sleepers = thread_0 ∷ sleeper 10 ∷ sleeper 11 ∷ sleeper 12 ∷ []
 
 unfoldable pub locks_and_sleepers : List ℕ → World
 locks_and_sleepers g = world_of

@@ -34,6 +34,10 @@ to_console = world_of
     ((port, Port None true) ∷ (1 ∷ [], Space 1 None) ∷ (1 ∷ 1 ∷ [], Reference (At port)) ∷ (client, running 0 []) ∷ [])
     (page_with (1 ∷ []) 0 sends_70 ∷ page_with (1 ∷ []) 2 [] ∷ page_with (1 ∷ []) 3 [] ∷ [])
 
+-- its registers in that call: the code, and what is left to send
+abbrev pub still_sending : ℕ → ℕ → ℕ → List ℕ
+still_sending code address count = code ∷ 1 ∷ address ∷ count ∷ 0 ∷ 0 ∷ 7 ∷ 192 ∷ []
+
 -- it enters its call, is accepted, sends two blocks, hands over the turn and gets it back
 abbrev pub entered : List Event
 entered = times 8 (goes client)

@@ -48,6 +48,10 @@ setting_by g = world_of
 abbrev pub setting : ℕ → ℕ → World
 setting x address = setting_by (10 ∷ 256 ∷ x ∷ address ∷ [])
 
+-- the mapping after its record was set
+abbrev pub set_mapping : Body
+set_mapping = Mapping (record { first = 10; count = 4; offset = 2; write = true; region = At (7 ∷ 1 ∷ []) })
+
 -- ---- pointer fields: slot 8 holds a reference to nothing, slot 9 one to the region in slot 7, slot 10 one to the port
 
 unfoldable pub pointing : List ℕ → World

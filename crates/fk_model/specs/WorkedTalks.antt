@@ -33,6 +33,10 @@ servers_turn moved = served_by port server turns.Server moved
 abbrev pub sending : ℕ → ℕ → List ℕ
 sending address count = 34 ∷ 9 ∷ address ∷ count ∷ 448 ∷ 10 ∷ []
 
+-- all is sent
+abbrev pub sent_all : List ℕ
+sent_all = 35 ∷ 9 ∷ 312 ∷ 0 ∷ 448 ∷ 10 ∷ []
+
 abbrev pub receiving : ℕ → ℕ → List ℕ
 receiving into room = 50 ∷ 8 ∷ 7 ∷ 6 ∷ into ∷ room ∷ []
 
@@ -117,6 +121,13 @@ talkers_and_keeper = client ∷ server ∷ keeper ∷ []
 abbrev pub missed_5 : Option Peer → Fault
 missed_5 taker = record { page = 5; write = true; port = At (9 ∷ []); taker = taker }
 
+-- the client after its first block, and the server that has taken it
+abbrev pub sent_5 : Body
+sent_5 = with_talk (clients_turn 5) (calling 20 (sending 187 125))
+
+abbrev pub received_5 : Body
+received_5 = calling 30 (receiving 320 195)
+
 -- five words arrive; the receiver misses the page; the keeper takes the fault, gives a page of zeros, and is done
 abbrev pub arrives : List Event
 arrives = goes client ∷ []
@@ -132,6 +143,9 @@ gives = times 6 (goes keeper)
 
 abbrev pub mends : List Event
 mends = times 3 (goes keeper)
+
+abbrev pub parts : List (List Event)
+parts = arrives ∷ misses ∷ takes ∷ (gives ++ mends) ∷ []
 
 abbrev pub until_mended : List Event
 until_mended = (arrives ++ misses) ++ (takes ++ (gives ++ mends))
@@ -164,13 +178,20 @@ parked_talk = record { port = At port; peer = Parked; turn = turns.Server; moved
 abbrev pub fault_at_port : ℕ → Bool → Option Peer → Fault
 fault_at_port page write taker = record { page = page; write = write; port = At port; taker = taker }
 
+abbrev pub receives_10 : Body
+receives_10 = calling 20 (36 ∷ 0 ∷ 0 ∷ 0 ∷ 448 ∷ 10 ∷ [])
+
+-- a fault that the server has taken
+abbrev pub taken_fault : ℕ → Bool → Fault
+taken_fault page write = fault_at_port page write (Some (Server (At server)))
+
 -- a parked talk; a raised fault of a stopped thread; a parked fault; a fault that another has taken; a parked talk of a
 -- stopped thread; a stopped thread that connects
 unfoldable pub waiting : World
 waiting = world_of
     ((1 ∷ [], Space 1 None) ∷ (2 ∷ [], Space 2 None) ∷ (4 ∷ 1 ∷ [], Reference (At port)) ∷ (8 ∷ 2 ∷ [], Portset) ∷ (port, Port (Some 8) false) ∷ (2 ∷ 2 ∷ [], running 0 [])
     ∷ (server, calling 30 (49 ∷ 8 ∷ 77 ∷ 66 ∷ 315 ∷ 200 ∷ []))
-    ∷ (waited_for 10, with_talk parked_talk (calling 20 (36 ∷ 0 ∷ 0 ∷ 0 ∷ 448 ∷ 10 ∷ [])))
+    ∷ (waited_for 10, with_talk parked_talk receives_10)
     ∷ (waited_for 11, stopped 1 (with_fault (fault_at_port 5 true None) (running 0 [])))
     ∷ (waited_for 12, with_fault (fault_at_port 6 false (Some Parked)) (running 0 []))
     ∷ (waited_for 13, with_fault (fault_at_port 7 false (Some (Server (At (2 ∷ 2 ∷ []))))) (running 0 []))
