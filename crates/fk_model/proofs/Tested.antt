@@ -76,6 +76,7 @@ outcome-tested w me Waits h = absurd (false≢true h)
 
 pub legal-tested : (w : World) (es : List Event) → is_legal w es ≡ true → IsLegal w es
 legal-tested w [] h = tt
-legal-tested w (e ∷ es) h =
-    (outcome-tested w e.mover (outcome w e.mover e.pick e.ask) (and_left _ (is_legal (after w e) es) h),
-     legal-tested (after w e) es (and_right (goes_allowed w e.mover (outcome w e.mover e.pick e.ask)) _ h))
+legal-tested w (e ∷ es) h = (
+  outcome-tested w e.mover (outcome w e.mover e.pick e.ask) (and_left _ (is_legal (after w e) es) h),
+  legal-tested (after w e) es (and_right (goes_allowed w e.mover (outcome w e.mover e.pick e.ask)) _ h),
+)

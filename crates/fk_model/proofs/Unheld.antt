@@ -156,9 +156,9 @@ change-unheld (MakeSpace x holder) calm w free q = cc
 change-unheld (Kill x) calm w free q = either-unheld (same_path q x) None (option_map (through (without x) q) (w.body q)) refl (swept-unheld (without x) q (w.body q) (free q))
 change-unheld (Move x slot) calm w free q =
     either-unheld (same_path q (slot ∷ parent x)) (option_map (through (following x (slot ∷ parent x)) (slot ∷ parent x)) (w.body x))
-        (if same_path q x then None else option_map (through (following x (slot ∷ parent x)) q) (w.body q))
-        (swept-unheld (following x (slot ∷ parent x)) (slot ∷ parent x) (w.body x) (free x))
-        (either-unheld (same_path q x) None (option_map (through (following x (slot ∷ parent x)) q) (w.body q)) refl (swept-unheld (following x (slot ∷ parent x)) q (w.body q) (free q)))
+    (if same_path q x then None else option_map (through (following x (slot ∷ parent x)) q) (w.body q))
+    (swept-unheld (following x (slot ∷ parent x)) (slot ∷ parent x) (w.body x) (free x))
+    (either-unheld (same_path q x) None (option_map (through (following x (slot ∷ parent x)) q) (w.body q)) refl (swept-unheld (following x (slot ∷ parent x)) q (w.body q) (free q)))
 change-unheld (PutPage space page words) calm w free q = free q
 change-unheld (DropPage space page) calm w free q = free q
 

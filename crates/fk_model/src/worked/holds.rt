@@ -14,9 +14,7 @@ ghost use Rattle.fk_model.specs.WorkedHolds.{holder, other, inner, before_hold, 
 pub fn a_hold_stops_what_it_holds()
     ensures moves { IsReadyTo (before_hold []) (goes inner) }
     ensures ready { IsReadyTo (before_hold []) (goes holder) }
-    ensures held {
-        (run (before_hold []) (goes holder ∷ [])).body (1 ∷ []) ≡ Some (Space 1 (Some (At holder)))
-    }
+    ensures held { (run (before_hold []) (goes holder ∷ [])).body (1 ∷ []) ≡ Some (Space 1 (Some (At holder))) }
     ensures done { becomes (before_hold []) holder ≡ Some (running 1 (0 ∷ 256 ∷ 1 ∷ [])) }
     ensures stands { ¬ IsReadyTo (run (before_hold []) (goes holder ∷ [])) (goes inner) }
 {}
@@ -25,56 +23,34 @@ pub fn a_hold_stops_what_it_holds()
 /// it may read states there. The holder may create.
 pub fn others_only_read_a_held_space()
     ensures ready { IsLegal (before_hold (1 ∷ 1 ∷ 0 ∷ 1 ∷ [])) (goes holder ∷ goes other ∷ []) }
-    ensures refused {
-        (run (before_hold (1 ∷ 1 ∷ 0 ∷ 1 ∷ [])) (goes holder ∷ goes other ∷ [])).body other ≡
-            Some (running 1 (9 ∷ 1 ∷ 0 ∷ 1 ∷ []))
-    }
-    ensures waits {
-        ¬ IsReadyTo (run (before_hold (13 ∷ 256 ∷ 1 ∷ [])) (goes holder ∷ [])) (goes other)
-    }
+    ensures refused { (run (before_hold (1 ∷ 1 ∷ 0 ∷ 1 ∷ [])) (goes holder ∷ goes other ∷ [])).body other ≡
+        Some (running 1 (9 ∷ 1 ∷ 0 ∷ 1 ∷ [])) }
+    ensures waits { ¬ IsReadyTo (run (before_hold (13 ∷ 256 ∷ 1 ∷ [])) (goes holder ∷ [])) (goes other) }
     ensures reads { IsLegal (before_hold (9 ∷ 1 ∷ 0 ∷ 64 ∷ [])) (goes holder ∷ goes other ∷ []) }
-    ensures read {
-        (run (before_hold (9 ∷ 1 ∷ 0 ∷ 64 ∷ [])) (goes holder ∷ goes other ∷ [])).body other ≡
-            Some (running 1 (0 ∷ 1 ∷ 0 ∷ 64 ∷ []))
-    }
-    ensures shown {
-        (run (before_hold (9 ∷ 1 ∷ 0 ∷ 64 ∷ [])) (goes holder ∷ goes other ∷ [])).page [] 1 ≡
-            Some ((8 ∷ []) ++ (replicate 31 0 ++ numbers_from 1096 32))
-    }
+    ensures read { (run (before_hold (9 ∷ 1 ∷ 0 ∷ 64 ∷ [])) (goes holder ∷ goes other ∷ [])).body other ≡
+        Some (running 1 (0 ∷ 1 ∷ 0 ∷ 64 ∷ [])) }
+    ensures shown { (run (before_hold (9 ∷ 1 ∷ 0 ∷ 64 ∷ [])) (goes holder ∷ goes other ∷ [])).page [] 1 ≡
+        Some ((8 ∷ []) ++ (replicate 31 0 ++ numbers_from 1096 32)) }
     ensures may { IsReadyTo (held (1 ∷ 1 ∷ 5 ∷ 1 ∷ []) []) (goes holder) }
-    ensures creates {
-        (run (held (1 ∷ 1 ∷ 5 ∷ 1 ∷ []) []) (goes holder ∷ [])).body (5 ∷ 1 ∷ []) ≡
-            Some (Mutex false)
-    }
+    ensures creates { (run (held (1 ∷ 1 ∷ 5 ∷ 1 ∷ []) []) (goes holder ∷ [])).body (5 ∷ 1 ∷ []) ≡
+        Some (Mutex false) }
 {}
 
 /// Its holder alone releases a space.
 pub fn only_its_holder_releases_a_space()
     ensures ready { IsReadyTo (held (14 ∷ 256 ∷ 1 ∷ []) (14 ∷ 256 ∷ 1 ∷ [])) (goes holder) }
-    ensures released {
-        (run (held (14 ∷ 256 ∷ 1 ∷ []) []) (goes holder ∷ [])).body (1 ∷ []) ≡ Some (Space 1 None)
-    }
-    ensures done {
-        becomes (held (14 ∷ 256 ∷ 1 ∷ []) []) holder ≡ Some (running 1 (0 ∷ 256 ∷ 1 ∷ []))
-    }
-    ensures denied {
-        becomes (held [] (14 ∷ 256 ∷ 1 ∷ [])) other ≡ Some (running 1 (13 ∷ 256 ∷ 1 ∷ []))
-    }
-    ensures stays {
-        (run (held [] (14 ∷ 256 ∷ 1 ∷ [])) (goes other ∷ [])).body (1 ∷ []) ≡
-            Some (Space 1 (Some (At holder)))
-    }
-    ensures unheld {
-        becomes (held [] (14 ∷ 256 ∷ 5 ∷ [])) other ≡ Some (running 1 (13 ∷ 256 ∷ 5 ∷ []))
-    }
+    ensures released { (run (held (14 ∷ 256 ∷ 1 ∷ []) []) (goes holder ∷ [])).body (1 ∷ []) ≡ Some (Space 1 None) }
+    ensures done { becomes (held (14 ∷ 256 ∷ 1 ∷ []) []) holder ≡ Some (running 1 (0 ∷ 256 ∷ 1 ∷ [])) }
+    ensures denied { becomes (held [] (14 ∷ 256 ∷ 1 ∷ [])) other ≡ Some (running 1 (13 ∷ 256 ∷ 1 ∷ [])) }
+    ensures stays { (run (held [] (14 ∷ 256 ∷ 1 ∷ [])) (goes other ∷ [])).body (1 ∷ []) ≡
+        Some (Space 1 (Some (At holder))) }
+    ensures unheld { becomes (held [] (14 ∷ 256 ∷ 5 ∷ [])) other ≡ Some (running 1 (13 ∷ 256 ∷ 5 ∷ [])) }
 {}
 
 /// A store through a window on a page of a held space isn't ready, for anybody but the holder.
 pub fn a_held_spaces_pages_are_frozen()
     ensures ready { IsReadyTo (storing None) (goes (6 ∷ [])) }
-    ensures stored {
-        (run (storing None) (goes (6 ∷ []) ∷ [])).page (1 ∷ []) 3 ≡ Some (7 ∷ numbers_from 1193 63)
-    }
+    ensures stored { (run (storing None) (goes (6 ∷ []) ∷ [])).page (1 ∷ []) 3 ≡ Some (7 ∷ numbers_from 1193 63) }
     ensures waits { ¬ IsReadyTo (storing (Some (At holder))) (goes (6 ∷ [])) }
     ensures may { IsReadyTo (storing (Some (At (6 ∷ [])))) (goes (6 ∷ [])) }
 {}
@@ -98,32 +74,20 @@ pub fn nobody_holds_above_a_porters_hold()
     ensures waits { ¬ IsReadyTo working_porter (goes holder) }
     ensures releases { IsReadyTo working_porter (makes porter (SpaceRelease 256 2) []) }
     ensures answer { told working_porter (makes porter (SpaceRelease 256 2) []) ≡ Answered 0 [] }
-    ensures ready {
-        IsReadyTo (run working_porter (makes porter (SpaceRelease 256 2) [] ∷ [])) (goes holder)
-    }
-    ensures done {
-        (run working_porter (makes porter (SpaceRelease 256 2) [] ∷ goes holder ∷ [])).body holder ≡
-            Some (running 1 (0 ∷ 256 ∷ 1 ∷ []))
-    }
+    ensures ready { IsReadyTo (run working_porter (makes porter (SpaceRelease 256 2) [] ∷ [])) (goes holder) }
+    ensures done { (run working_porter (makes porter (SpaceRelease 256 2) [] ∷ goes holder ∷ [])).body holder ≡
+        Some (running 1 (0 ∷ 256 ∷ 1 ∷ [])) }
 {}
 
 /// Of two holds the outer one's holder decides: the inner one's is refused HELD, also where it
 /// releases its own. The outer holder doesn't come to hold the inner space either.
 pub fn the_outermost_holder_decides()
     ensures ready { IsReadyTo (held_in_held (1 ∷ 3 ∷ 5 ∷ 1 ∷ []) []) (goes holder) }
-    ensures outer {
-        (run (held_in_held (1 ∷ 3 ∷ 5 ∷ 1 ∷ []) []) (goes holder ∷ [])).body (5 ∷ 2 ∷ 1 ∷ []) ≡
-            Some (Mutex false)
-    }
-    ensures inner {
-        becomes (held_in_held [] (1 ∷ 3 ∷ 5 ∷ 1 ∷ [])) other ≡ Some (running 1 (9 ∷ 3 ∷ 5 ∷ 1 ∷ []))
-    }
-    ensures release {
-        becomes (held_in_held [] (14 ∷ 1 ∷ 2 ∷ [])) other ≡ Some (running 1 (9 ∷ 1 ∷ 2 ∷ []))
-    }
-    ensures not_holder {
-        becomes (held_in_held (14 ∷ 1 ∷ 2 ∷ []) []) holder ≡ Some (running 1 (13 ∷ 1 ∷ 2 ∷ []))
-    }
+    ensures outer { (run (held_in_held (1 ∷ 3 ∷ 5 ∷ 1 ∷ []) []) (goes holder ∷ [])).body (5 ∷ 2 ∷ 1 ∷ []) ≡
+        Some (Mutex false) }
+    ensures inner { becomes (held_in_held [] (1 ∷ 3 ∷ 5 ∷ 1 ∷ [])) other ≡ Some (running 1 (9 ∷ 3 ∷ 5 ∷ 1 ∷ [])) }
+    ensures release { becomes (held_in_held [] (14 ∷ 1 ∷ 2 ∷ [])) other ≡ Some (running 1 (9 ∷ 1 ∷ 2 ∷ [])) }
+    ensures not_holder { becomes (held_in_held (14 ∷ 1 ∷ 2 ∷ []) []) holder ≡ Some (running 1 (13 ∷ 1 ∷ 2 ∷ [])) }
     ensures waits { ¬ IsReadyTo (held_in_held (13 ∷ 1 ∷ 2 ∷ []) []) (goes holder) }
 {}
 
@@ -131,20 +95,12 @@ pub fn the_outermost_holder_decides()
 /// a thread there ends.
 pub fn talks_and_faults_stand_across_a_hold()
     ensures sends { IsReadyTo (talk_across None None sends_5 receives_9) (goes client) }
-    ensures held_receiver {
-        ¬ IsReadyTo (talk_across None (Some (At holder)) sends_5 receives_9) (goes client)
-    }
-    ensures held_sender {
-        ¬ IsReadyTo (talk_across (Some (At holder)) None sends_5 receives_9) (goes client)
-    }
+    ensures held_receiver { ¬ IsReadyTo (talk_across None (Some (At holder)) sends_5 receives_9) (goes client) }
+    ensures held_sender { ¬ IsReadyTo (talk_across (Some (At holder)) None sends_5 receives_9) (goes client) }
     ensures disconnects { IsReadyTo (talk_across None None (39 ∷ []) (50 ∷ [])) (goes client) }
-    ensures held_server {
-        ¬ IsReadyTo (talk_across None (Some (At holder)) (39 ∷ []) (50 ∷ [])) (goes client)
-    }
+    ensures held_server { ¬ IsReadyTo (talk_across None (Some (At holder)) (39 ∷ []) (50 ∷ [])) (goes client) }
     ensures ends { IsReadyTo (talk_across None None (50 ∷ []) (55 ∷ [])) (goes server) }
-    ensures held_client {
-        ¬ IsReadyTo (talk_across (Some (At holder)) None (50 ∷ []) (55 ∷ [])) (goes server)
-    }
+    ensures held_client { ¬ IsReadyTo (talk_across (Some (At holder)) None (50 ∷ []) (55 ∷ [])) (goes server) }
     ensures fault_ends { IsReadyTo (fault_across None) (goes other) }
     ensures held_fault { ¬ IsReadyTo (fault_across (Some (At holder))) (goes other) }
     ensures holders_fault { ¬ IsReadyTo (fault_across (Some (At other))) (goes other) }
