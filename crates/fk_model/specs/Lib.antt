@@ -47,3 +47,4 @@ pub mod Image
 pub mod ImageChanges
 pub mod Rebind
 pub mod ImageLaws
+pub mod WorkedInstructions

@@ -132,6 +132,11 @@ hands_over port = record { mover = port; pick = None; ask = asks.Over }
 abbrev pub gives : Path → List ℕ → Event
 gives port words = record { mover = port; pick = None; ask = asks.Give (filled_to 64 words) (length words) }
 
+-- the worlds after a first list of moves, after a second one from there on, and so on
+unfoldable pub after_each : World → List (List Event) → List World
+after_each w [] = []
+after_each w (es ∷ ess) = let v = run w es in v ∷ after_each v ess
+
 abbrev pub IsReadyTo : World → Event → Type 0
 IsReadyTo w e = IsReady w e.mover e.pick e.ask
 
@@ -149,11 +154,15 @@ registers_in (Some t) = registers_of t.mode
 unfoldable pub registers_at : World → Path → List ℕ
 registers_at w x = registers_in (and_then thread_of (w.body x))
 
+-- what a user thread is after its own move
+abbrev pub becomes : World → Path → Option Body
+becomes w x = (run w (goes x ∷ [])).body x
+
 -- what stands at some paths
 abbrev pub scene : List Path → World → List (Option Body)
 scene xs w = map w.body xs
 
 -- ---- to compute a move is to unfold all of these
 unfoldable pub machine : Unit {0}
-unfolding body_in page_in world_of numbers_from registers_at same_path strip code_of words todo_of rest_of edited apply apply_all lowest slots residents beneath_by beneath leaf_by leaf client_of faulter_of clients_at client_at mapping_at region_at keeper reach_by reach decider object_in handle place referred line run_row_by mutex_lock mutex_trylock mutex_unlock cond_wait cond_asleep sleepers cond_signal cond_broadcast send receive over connect candidate wait disconnect link_set link_park fault_done fault_set fault_park space_hold space_release thread_stop thread_go page_give page_take page_read next_page page_next hold_set space_make_held record_of set takes_state get_state set_state get_ptr set_ptr create destroy rename search point clear locate count_in accept_row give_row over_row call_row outcome step run
+unfolding body_in page_in world_of numbers_from registers_at after_each same_path strip code_of words todo_of rest_of edited apply apply_all lowest slots residents beneath_by beneath leaf_by leaf client_of faulter_of clients_at client_at mapping_at region_at keeper reach_by reach decider object_in handle place referred line run_row_by mutex_lock mutex_trylock mutex_unlock cond_wait cond_asleep sleepers cond_signal cond_broadcast send receive over connect candidate wait disconnect link_set link_park fault_done fault_set fault_park space_hold space_release thread_stop thread_go page_give page_take page_read next_page page_next hold_set space_make_held record_of set takes_state get_state set_state get_ptr set_ptr create destroy rename search point clear locate count_in accept_row give_row over_row call_row outcome step run
 machine = tt

@@ -1,12 +1,14 @@
 -- Holds: threads of the root beside the space /1, which one of them holds.
 use Rattle.std.specs.Prelude.{ℕ, false, true, List, [], ◌∷◌, ◌++◌, replicate, Option, None, Some}
+use Rattle.fk_model.specs.declared.thread.Turn.TheVariants as turns
 use Rattle.fk_model.specs.Places.{Path, Ptr}
 use Rattle.fk_model.specs.Places.Ptr.{Null, At}
 use Rattle.fk_model.specs.Objects.{Body}
 use Rattle.fk_model.specs.Objects.Mode.{Native}
+use Rattle.fk_model.specs.Objects.Peer.{Server}
 use Rattle.fk_model.specs.Objects.Body.{Mutex, Mapping, Region, Port, Space, Reference}
 use Rattle.fk_model.specs.World.{World}
-use Rattle.fk_model.specs.Worked.{machine, world_of, page_with, numbered, running, calling, thread_at}
+use Rattle.fk_model.specs.Worked.{machine, world_of, page_with, numbered, running, calling, thread_at, with_talk, with_fault, served_by}
 
 -- the thread that holds or would hold /1, and another one
 abbrev pub holder : Path
@@ -51,6 +53,41 @@ storing held = world_of
     ∷ (3 ∷ 1 ∷ [], Region (record { first = 3; count = 1; write = true; keeper = Null })) ∷ []))
     (page_with [] 0 stores_at_r2 ∷ numbered (1 ∷ []) 1000 3 ∷ [])
 
+-- ---- /1 is held, and the space in slot 2 of it by the other thread. Slot 3 of the root leads to that space
+
+unfoldable pub held_in_held : List ℕ → List ℕ → World
+held_in_held g h = world_of
+    (root_and_1 (Some (At holder)) g h ++ ((2 ∷ 1 ∷ [], Space 3 (Some (At other))) ∷ (3 ∷ [], Reference (At (2 ∷ 1 ∷ []))) ∷ [])) []
+
+-- ---- a client in /1 talks with a server in /2; the holder holds one of the two spaces, or none
+
+abbrev pub client : Path
+client = 0 ∷ 1 ∷ []
+
+abbrev pub server : Path
+server = 1 ∷ 2 ∷ []
+
+unfoldable pub talk_across : Option Ptr → Option Ptr → List ℕ → List ℕ → World
+talk_across hold_1 hold_2 g h = world_of
+    ((holder, running 0 []) ∷ (1 ∷ [], Space 1 hold_1) ∷ (2 ∷ [], Space 2 hold_2) ∷ (3 ∷ 2 ∷ [], Port None false)
+    ∷ (client, with_talk (served_by (3 ∷ 2 ∷ []) server turns.Client 0) (calling 20 g)) ∷ (server, calling 30 h) ∷ [])
+    (numbered (1 ∷ []) 1000 2 ∷ numbered (2 ∷ []) 2000 4 ∷ [])
+
+-- a send and a receive
+abbrev pub sends_5 : List ℕ
+sends_5 = 37 ∷ 0 ∷ 128 ∷ 5 ∷ []
+
+abbrev pub receives_9 : List ℕ
+receives_9 = 50 ∷ 0 ∷ 0 ∷ 0 ∷ 256 ∷ 9 ∷ []
+
+-- ---- a thread of /1, which is held or not, has a fault that a thread of the root has taken
+
+unfoldable pub fault_across : Option Ptr → World
+fault_across held = world_of
+    ((holder, running 0 []) ∷ (other, calling 0 (56 ∷ [])) ∷ (10 ∷ [], Port None false) ∷ (1 ∷ [], Space 1 held)
+    ∷ (inner, with_fault (record { page = 5; write = false; port = At (10 ∷ []); taker = Some (Server (At other)) }) (running 0 [])) ∷ [])
+    []
+
 -- ---- /1 has a porter, which holds the space in slot 2 of /1
 
 abbrev pub porter : Path
@@ -62,5 +99,5 @@ working_porter = world_of
 
 -- ---- to compute in these worlds is to unfold these
 unfoldable pub holds : Unit {0}
-unfolding machine before_hold held storing working_porter
+unfolding machine before_hold held storing held_in_held talk_across fault_across working_porter
 holds = tt

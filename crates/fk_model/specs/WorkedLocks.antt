@@ -1,10 +1,11 @@
 -- Programs, mutexes and conditions: threads of /1 run the program in its page 0.
-use Rattle.std.specs.Prelude.{ℕ, false, true, List, [], ◌∷◌, ◌++◌, replicate, None}
+use Rattle.std.specs.Prelude.{ℕ, false, true, List, [], ◌∷◌, ◌++◌, replicate, Option, None}
 use Rattle.fk_model.specs.Places.{Path}
+use Rattle.fk_model.specs.Objects.{Body}
 use Rattle.fk_model.specs.Objects.Body.{Mutex, Cond, Space}
 use Rattle.fk_model.specs.World.{World}
-use Rattle.fk_model.specs.Runs.{Event}
-use Rattle.fk_model.specs.Worked.{machine, world_of, page_with, numbered, running, calling, goes, picks, times}
+use Rattle.fk_model.specs.Runs.{Event, run}
+use Rattle.fk_model.specs.Worked.{machine, world_of, page_with, numbered, numbers_from, running, calling, goes, picks, times, stopped}
 
 abbrev pub thread_0 : Path
 thread_0 = 0 ∷ 1 ∷ []
@@ -63,30 +64,61 @@ one_sleeps = world_of ((1 ∷ [], Space 1 None) ∷ (mutex, Mutex true) ∷ (con
 abbrev pub sleeper_and_signaller : List Path
 sleeper_and_signaller = thread_0 ∷ thread_1 ∷ mutex ∷ []
 
--- it sleeps; the second thread stops it, reads its state, signals to it, and lets it go
+-- it sleeps; the second thread stops it, reads its state, signals to it, and lets it go; it locks
 abbrev pub sleeps : List Event
 sleeps = goes thread_0 ∷ []
 
-abbrev pub and_stopped : List Event
-and_stopped = sleeps ++ times 4 (goes thread_1)
+abbrev pub stops : List Event
+stops = times 4 (goes thread_1)
 
-abbrev pub and_read : List Event
-and_read = and_stopped ++ times 6 (goes thread_1)
+abbrev pub reads : List Event
+reads = times 6 (goes thread_1)
 
-abbrev pub and_signalled : List Event
-and_signalled = and_read ++ (times 3 (goes thread_1) ++ picks thread_1 thread_0 ∷ [])
+abbrev pub signals : List Event
+signals = times 3 (goes thread_1) ++ picks thread_1 thread_0 ∷ []
 
-abbrev pub and_let_go : List Event
-and_let_go = and_signalled ++ times 4 (goes thread_1)
+abbrev pub lets_go : List Event
+lets_go = times 4 (goes thread_1)
 
-abbrev pub and_locked : List Event
-and_locked = and_let_go ++ goes thread_0 ∷ []
+abbrev pub parts : List (List Event)
+parts = sleeps ∷ stops ∷ (reads ++ signals) ∷ lets_go ∷ (goes thread_0 ∷ []) ∷ []
+
+-- up to its being stopped, up to the call that signals, and up to the signal
+abbrev pub until_stopped : List Event
+until_stopped = sleeps ++ stops
+
+abbrev pub until_signalling : List Event
+until_signalling = until_stopped ++ (reads ++ times 3 (goes thread_1))
+
+abbrev pub until_signalled : List Event
+until_signalled = until_stopped ++ (reads ++ signals)
+
+-- its record: a thread with these registers, at counter 40, that calls and is stopped once; and what else is in the page
+abbrev pub page_with_record : List ℕ
+page_with_record = (8 ∷ 25 ∷ 6 ∷ 5 ∷ []) ++ (replicate 13 0 ++ ((40 ∷ 1 ∷ 0 ∷ 1 ∷ []) ++ (replicate 11 0 ++ numbers_from 1160 32)))
 
 -- nobody sleeps on the condition
 unfoldable pub none_sleeps : World
 none_sleeps = world_of ((1 ∷ [], Space 1 None) ∷ (cond, Cond) ∷ (thread_0, running 40 []) ∷ (thread_1, calling 0 (26 ∷ 6 ∷ [])) ∷ []) []
 
+-- ---- the mutex in slot 5 is free, the one in slot 6 locked. Of three sleepers one is stopped, one at another condition
+
+abbrev pub sleeper : ℕ → Path
+sleeper k = k ∷ 1 ∷ []
+
+abbrev pub caller_and_sleepers : List Path
+caller_and_sleepers = thread_0 ∷ sleeper 10 ∷ sleeper 11 ∷ sleeper 12 ∷ []
+
+unfoldable pub locks_and_sleepers : List ℕ → World
+locks_and_sleepers g = world_of
+    ((1 ∷ [], Space 1 None) ∷ (thread_0, calling 0 g) ∷ (5 ∷ 1 ∷ [], Mutex false) ∷ (6 ∷ 1 ∷ [], Mutex true) ∷ (7 ∷ 1 ∷ [], Cond) ∷ (8 ∷ 1 ∷ [], Cond)
+    ∷ (sleeper 10, calling 40 (25 ∷ 7 ∷ 5 ∷ [])) ∷ (sleeper 11, stopped 0xffff (calling 40 (25 ∷ 7 ∷ 6 ∷ []))) ∷ (sleeper 12, calling 40 (25 ∷ 8 ∷ 5 ∷ [])) ∷ (2 ∷ [], Space 2 None) ∷ (0 ∷ 2 ∷ [], calling 40 (25 ∷ 7 ∷ 5 ∷ [])) ∷ []) []
+
+-- what becomes of the caller
+unfoldable pub calls_of : List ℕ → Option Body
+calls_of g = (run (locks_and_sleepers g) (goes thread_0 ∷ [])).body thread_0
+
 -- ---- to compute in these worlds is to unfold these
 unfoldable pub locks : Unit {0}
-unfolding machine alone_with two_lock one_sleeps none_sleeps
+unfolding machine alone_with two_lock one_sleeps none_sleeps locks_and_sleepers calls_of
 locks = tt

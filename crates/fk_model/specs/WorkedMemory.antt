@@ -7,7 +7,8 @@ use Rattle.fk_model.specs.Places.Ptr.{Null, At}
 use Rattle.fk_model.specs.Objects.{Talk, Body}
 use Rattle.fk_model.specs.Objects.Body.{Mapping, Region, Port, Space}
 use Rattle.fk_model.specs.World.{World}
-use Rattle.fk_model.specs.Worked.{Page, machine, world_of, page_with, numbered, numbers_from, running, calling, with_talk, served_by}
+use Rattle.fk_model.specs.Runs.{run}
+use Rattle.fk_model.specs.Worked.{Page, machine, world_of, page_with, numbered, numbers_from, running, calling, with_talk, with_fault, served_by, goes}
 
 -- ---- pages of /1: the pages 0, 1 and 2 are there, and each thread is in one call
 
@@ -22,6 +23,10 @@ giving_and_taking = world_of
     ∷ (thread 4, calling 0 (17 ∷ 256 ∷ 256 ∷ 0 ∷ []))
     ∷ (thread 5, calling 0 (19 ∷ 256 ∷ 1 ∷ 128 ∷ [])) ∷ (thread 6, calling 0 (17 ∷ 256 ∷ 7 ∷ 64 ∷ [])) ∷ [])
     (numbered (1 ∷ []) 1000 0 ∷ numbered (1 ∷ []) 1000 1 ∷ numbered (1 ∷ []) 1000 2 ∷ [])
+
+-- the first thread gives page 5, the third takes it
+unfoldable pub given_and_taken : World
+given_and_taken = run giving_and_taking (goes (thread 0) ∷ goes (thread 2) ∷ [])
 
 -- the pages 0 and 3 are there
 unfoldable pub two_pages : World
@@ -91,6 +96,10 @@ window count write address = world_of
 abbrev pub all_pages : Ptr → List (Path × Body)
 all_pages keeper = (thread 1, Region (record { first = 0; count = 256; write = false; keeper = keeper })) ∷ []
 
+-- the thread missed page 5 by a read
+abbrev pub missed_5 : Body
+missed_5 = with_fault (record { page = 5; write = false; port = At (9 ∷ []); taker = None }) (running 0 (0 ∷ 0 ∷ 128 ∷ []))
+
 unfoldable pub missing : List (Path × Body) → ℕ → World
 missing regions address = world_of
     (regions ++ ((1 ∷ [], Space 1 None) ∷ (9 ∷ [], Port None false) ∷ (thread 0, running 0 (0 ∷ 0 ∷ address ∷ [])) ∷ []))
@@ -98,5 +107,5 @@ missing regions address = world_of
 
 -- ---- to compute in these worlds is to unfold these
 unfoldable pub memory : Unit {0}
-unfolding machine giving_and_taking two_pages chain_to loop window missing
+unfolding machine giving_and_taking given_and_taken two_pages chain_to loop window missing
 memory = tt

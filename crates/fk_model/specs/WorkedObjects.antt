@@ -1,13 +1,14 @@
 -- Objects: made, found, renamed and destroyed; references and handles.
-use Rattle.std.specs.Prelude.{ℕ, false, true, List, [], ◌∷◌, ◌++◌, None, Some}
+use Rattle.std.specs.Prelude.{ℕ, false, true, List, [], ◌∷◌, ◌++◌, Option, None, Some}
 use Rattle.fk_model.specs.declared.thread.Turn.TheVariants as turns
 use Rattle.fk_model.specs.Places.{Path, Ptr}
 use Rattle.fk_model.specs.Places.Ptr.{Null, Dead, At}
-use Rattle.fk_model.specs.Objects.{Body}
-use Rattle.fk_model.specs.Objects.Body.{Mutex, Port, Portset, Space, Reference}
+use Rattle.fk_model.specs.Objects.{Peer, Body}
+use Rattle.fk_model.specs.Objects.Peer.{Server}
+use Rattle.fk_model.specs.Objects.Body.{Mutex, Region, Port, Portset, Space, Reference}
 use Rattle.fk_model.specs.World.{World}
-use Rattle.fk_model.specs.Runs.{run}
-use Rattle.fk_model.specs.Worked.{machine, world_of, numbered, running, calling, with_talk, served_by, goes, times}
+use Rattle.fk_model.specs.Runs.{Event, run}
+use Rattle.fk_model.specs.Worked.{machine, world_of, scene, numbered, running, calling, with_talk, with_fault, served_by, goes, times}
 
 -- ---- one thread of /1 makes a call there
 
@@ -47,21 +48,36 @@ destroyer = 0 ∷ []
 abbrev pub server : Path
 server = 1 ∷ []
 
+-- the server receives, and is ended
+abbrev pub server_receives : Body
+server_receives = calling 30 (50 ∷ 0 ∷ 0 ∷ 0 ∷ 64 ∷ 10 ∷ [])
+
+abbrev pub server_ended : Body
+server_ended = running 31 (14 ∷ 0 ∷ 0 ∷ 0 ∷ 64 ∷ 10 ∷ [])
+
+abbrev pub still_destroys : Body
+still_destroys = calling 0 (2 ∷ 256 ∷ 2 ∷ [])
+
+-- the thread of /2 that it serves
+abbrev pub served_one : Body
+served_one = with_talk (served_by (3 ∷ []) server turns.Client 0) (running 20 [])
+
 abbrev pub doomed : List (Path × Body)
 doomed =
-    (destroyer, calling 0 (2 ∷ 256 ∷ 2 ∷ [])) ∷ (server, calling 30 (50 ∷ 0 ∷ 0 ∷ 0 ∷ 64 ∷ 10 ∷ [])) ∷ (3 ∷ [], Port None false)
-    ∷ (2 ∷ [], Space 1 None) ∷ (0 ∷ 2 ∷ [], Reference (At (3 ∷ []))) ∷ (1 ∷ 2 ∷ [], with_talk (served_by (3 ∷ []) server turns.Client 0) (running 20 [])) ∷ (4 ∷ 2 ∷ [], Mutex false)
+    (destroyer, still_destroys) ∷ (server, server_receives) ∷ (3 ∷ [], Port None false)
+    ∷ (2 ∷ [], Space 1 None) ∷ (0 ∷ 2 ∷ [], Reference (At (3 ∷ []))) ∷ (1 ∷ 2 ∷ [], served_one) ∷ (4 ∷ 2 ∷ [], Mutex false)
     ∷ (5 ∷ [], Reference (At (2 ∷ []))) ∷ (6 ∷ [], Reference (At (1 ∷ 2 ∷ []))) ∷ []
 
 unfoldable pub destroying : World
 destroying = world_of doomed (numbered [] 1000 1 ∷ numbered (2 ∷ []) 2000 0 ∷ [])
 
--- the objects of /2, and /2 itself; and beside it the server, the references to /2 and to the thread in it, and the caller
-abbrev pub in_2 : List Path
-in_2 = (0 ∷ 2 ∷ []) ∷ (1 ∷ 2 ∷ []) ∷ (4 ∷ 2 ∷ []) ∷ (2 ∷ []) ∷ []
+-- the objects of /2, and /2 itself; the server, and the caller; the references to /2 and to the thread in it
+abbrev pub in_2_and_beside : List Path
+in_2_and_beside = (0 ∷ 2 ∷ []) ∷ (1 ∷ 2 ∷ []) ∷ (4 ∷ 2 ∷ []) ∷ (2 ∷ []) ∷ server ∷ destroyer ∷ (5 ∷ []) ∷ (6 ∷ []) ∷ []
 
-abbrev pub beside_2 : List Path
-beside_2 = server ∷ (5 ∷ []) ∷ (6 ∷ []) ∷ destroyer ∷ []
+-- three stages, and the last one
+abbrev pub up_to_the_last : List (List Event)
+up_to_the_last = times 3 (goes destroyer) ∷ (goes destroyer ∷ []) ∷ []
 
 -- after so many stages
 unfoldable pub destroyed : ℕ → World
@@ -83,11 +99,77 @@ to_rename =
 unfoldable pub renaming : World
 renaming = world_of to_rename []
 
+-- the port set's old and new slot, and the port
+abbrev pub port_set_and_port : List Path
+port_set_and_port = (20 ∷ 1 ∷ []) ∷ (21 ∷ 1 ∷ []) ∷ (4 ∷ 1 ∷ []) ∷ []
+
 -- the renamed port's old and new slot, and the three references to it
 abbrev pub port_and_references : List Path
 port_and_references = (4 ∷ 1 ∷ []) ∷ (7 ∷ 1 ∷ []) ∷ (5 ∷ 1 ∷ []) ∷ (6 ∷ 1 ∷ []) ∷ (0 ∷ 2 ∷ []) ∷ []
 
+-- ---- a port of the root, in a set, and all that goes with it: a talk, a fault that is raised and one that is taken, and
+-- the keeper of a region. The caller in slot 0 of the root makes a call
+
+abbrev pub talker : Path
+talker = 0 ∷ 1 ∷ []
+
+abbrev pub faulty : Path
+faulty = 2 ∷ 1 ∷ []
+
+abbrev pub helped : Path
+helped = 4 ∷ 1 ∷ []
+
+abbrev pub root_port : Path
+root_port = 3 ∷ []
+
+abbrev pub helper : Path
+helper = 7 ∷ []
+
+abbrev pub talking : Path → Path → Body → Body
+talking port server b = with_talk (served_by port server turns.Client 0) b
+
+abbrev pub missing_5 : Path → Option Peer → Body → Body
+missing_5 port taker b = with_fault (record { page = 5; write = false; port = At port; taker = taker }) b
+
+abbrev pub kept_by : Ptr → Body
+kept_by keeper = Region (record { first = 0; count = 9; write = false; keeper = keeper })
+
+-- its server in slot 2 of the root; the taker of one fault in slot 7; a native server's port in slot 10
+abbrev pub root_server : Path
+root_server = 2 ∷ []
+
+unfoldable pub related : List ℕ → World
+related g = world_of
+    ((1 ∷ [], Space 2 None) ∷ (root_server, server_receives) ∷ (root_port, Port (Some 8) false) ∷ (8 ∷ [], Portset) ∷ (helper, running 0 []) ∷ (10 ∷ [], Port None true)
+    ∷ (destroyer, calling 0 g) ∷ (talker, talking root_port root_server (calling 20 (38 ∷ []))) ∷ (faulty, missing_5 root_port None (running 0 [])) ∷ (helped, missing_5 root_port (Some (Server (At helper))) (running 0 []))
+    ∷ (3 ∷ 1 ∷ [], kept_by (At root_port)) ∷ [])
+    []
+
+abbrev pub related_ones : List Path
+related_ones = root_server ∷ talker ∷ faulty ∷ helped ∷ (3 ∷ 1 ∷ []) ∷ []
+
+-- what stands at some paths after the call
+unfoldable pub scene_after : List Path → List ℕ → List (Option Body)
+scene_after xs g = scene xs (run (related g) (goes destroyer ∷ []))
+
+-- what becomes of the caller
+unfoldable pub answer_to : List ℕ → Option Body
+answer_to g = (run (related g) (goes destroyer ∷ [])).body destroyer
+
+-- ---- the thread in slot 5 of the root, which holds the space in slot 6, destroys itself, or another destroys it
+
+abbrev pub space_holder : Path
+space_holder = 5 ∷ []
+
+unfoldable pub holder_dies : World
+holder_dies = world_of ((destroyer, calling 0 (2 ∷ 256 ∷ 5 ∷ [])) ∷ (space_holder, calling 0 (2 ∷ 256 ∷ 5 ∷ [])) ∷ (6 ∷ [], Space 1 (Some (At space_holder))) ∷ []) []
+
+-- ---- a thread of /1/2 names /1, by the reference in slot 1, and its own space there
+
+unfoldable pub beneath_itself : List ℕ → World
+beneath_itself g = world_of ((1 ∷ [], Space 1 None) ∷ (2 ∷ 1 ∷ [], Space 2 None) ∷ (0 ∷ 2 ∷ 1 ∷ [], calling 0 g) ∷ (1 ∷ 2 ∷ 1 ∷ [], Reference (At (1 ∷ []))) ∷ []) []
+
 -- ---- to compute in these worlds is to unfold these
 unfoldable pub objects : Unit {0}
-unfolding machine alone_in locating searching with_references destroying destroyed renaming
+unfolding machine alone_in locating searching with_references destroying destroyed renaming related scene_after answer_to holder_dies beneath_itself
 objects = tt

@@ -1,13 +1,15 @@
 -- Porters: the porter of the root makes talks, faults and holders again in the space /1, which it holds.
-use Rattle.std.specs.Prelude.{ℕ, false, true, List, [], ◌∷◌, ◌++◌, replicate, None, Some}
+use Rattle.std.specs.Prelude.{ℕ, Bool, false, true, Option, List, [], ◌∷◌, ◌++◌, replicate, None, Some}
+use Rattle.fk_model.specs.declared.stage.Stage.TheVariants.{LinkPark}
 use Rattle.fk_model.specs.declared.thread.Turn.{Turn}
 use Rattle.fk_model.specs.Places.{Path}
 use Rattle.fk_model.specs.Places.Ptr.{At}
-use Rattle.fk_model.specs.Objects.{Talk, Peer}
+use Rattle.fk_model.specs.Objects.{Talk, Peer, Body}
 use Rattle.fk_model.specs.Objects.Mode.{Native}
 use Rattle.fk_model.specs.Objects.Body.{Mutex, Port, Space, Reference}
 use Rattle.fk_model.specs.World.{World}
-use Rattle.fk_model.specs.Worked.{machine, world_of, numbered, running, calling, thread_at}
+use Rattle.fk_model.specs.Runs.{run}
+use Rattle.fk_model.specs.Worked.{machine, world_of, numbered, running, calling, thread_at, with_talk, with_fault, makes}
 
 abbrev pub porter : Path
 porter = 255 ∷ []
@@ -34,7 +36,22 @@ restoring = world_of
 abbrev pub talk_with : Peer → Turn → ℕ → Talk
 talk_with peer turn moved = record { port = At port; peer = peer; turn = turn; moved = moved }
 
+-- the subject has a parked talk at the server's turn, of which 5 words were moved
+unfoldable pub parked : World
+parked = run restoring (makes porter (LinkPark 1 0 9) (2 ∷ 5 ∷ []) ∷ [])
+
+abbrev pub subject_with : Talk → Body
+subject_with talk = with_talk talk (running 20 (1 ∷ 2 ∷ []))
+
+-- the subject with a fault on page 5
+abbrev pub subject_missing_5 : Bool → Option Peer → Body
+subject_missing_5 write taker = with_fault (record { page = 5; write = write; port = At port; taker = taker }) (running 20 (1 ∷ 2 ∷ []))
+
+-- the record of a thread that runs at counter 5 with 7 and 6 in its first registers
+abbrev pub runs_at_5 : List ℕ
+runs_at_5 = 8 ∷ 7 ∷ 6 ∷ (replicate 14 0 ++ (5 ∷ replicate 14 0))
+
 -- ---- to compute in this world is to unfold these
 unfoldable pub porters : Unit {0}
-unfolding machine restoring
+unfolding machine restoring parked
 porters = tt

@@ -5,7 +5,7 @@ use Rattle.fk_model.specs.declared.thread.Turn.TheVariants as turns
 use Rattle.fk_model.specs.Places.{Path}
 use Rattle.fk_model.specs.Places.Ptr.{At}
 use Rattle.fk_model.specs.Objects.{Talk}
-use Rattle.fk_model.specs.Objects.Peer.{Service}
+use Rattle.fk_model.specs.Objects.Peer.{Service, Parked}
 use Rattle.fk_model.specs.Objects.Body.{Port, Space, Reference}
 use Rattle.fk_model.specs.World.{World}
 use Rattle.fk_model.specs.Runs.{Event}
@@ -34,6 +34,10 @@ to_console = world_of
     ((port, Port None true) ∷ (1 ∷ [], Space 1 None) ∷ (1 ∷ 1 ∷ [], Reference (At port)) ∷ (client, running 0 []) ∷ [])
     (page_with (1 ∷ []) 0 sends_70 ∷ page_with (1 ∷ []) 2 [] ∷ page_with (1 ∷ []) 3 [] ∷ [])
 
+-- its registers in that call: the code, and what is left to send
+abbrev pub still_sending : ℕ → ℕ → ℕ → List ℕ
+still_sending code address count = code ∷ 1 ∷ address ∷ count ∷ 0 ∷ 0 ∷ 7 ∷ 192 ∷ []
+
 -- it enters its call, is accepted, sends two blocks, hands over the turn and gets it back
 abbrev pub entered : List Event
 entered = times 8 (goes client)
@@ -60,7 +64,21 @@ awaiting room = world_of
     ((port, Port None true) ∷ (1 ∷ [], Space 1 None) ∷ (client, with_talk (served turns.Server 0) (calling 20 (36 ∷ 1 ∷ 128 ∷ 0 ∷ 192 ∷ room ∷ []))) ∷ [])
     (numbered (1 ∷ []) 1000 3 ∷ [])
 
+-- ---- a client with a parked talk at the server's turn, and one that connects
+
+abbrev pub second : Path
+second = 2 ∷ 1 ∷ []
+
+unfoldable pub two_clients : World
+two_clients = world_of
+    ((port, Port None true) ∷ (1 ∷ [], Space 1 None) ∷ (1 ∷ 1 ∷ [], Reference (At port)) ∷ (second, calling 20 (32 ∷ 1 ∷ []))
+    ∷ (client, with_talk (record { port = At port; peer = Parked; turn = turns.Server; moved = 5 }) (calling 20 (36 ∷ 1 ∷ 128 ∷ 0 ∷ 192 ∷ 4 ∷ []))) ∷ []) []
+
+-- a client ends its talk
+unfoldable pub leaving : World
+leaving = world_of ((port, Port None true) ∷ (1 ∷ [], Space 1 None) ∷ (client, with_talk (served turns.Client 0) (calling 20 (39 ∷ []))) ∷ []) []
+
 -- ---- to compute in these worlds is to unfold these
 unfoldable pub servers : Unit {0}
-unfolding machine to_console awaiting
+unfolding machine to_console awaiting two_clients leaving
 servers = tt

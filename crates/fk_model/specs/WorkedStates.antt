@@ -10,7 +10,7 @@ use Rattle.fk_model.specs.Worked.{machine, world_of, page_with, filled_to, runni
 abbrev pub caller : Path
 caller = 0 ∷ 1 ∷ []
 
--- ---- records: the caller sets the object in slot x by the record at an address
+-- ---- records, in the pages 1 to 5
 
 -- a running thread that isn't stopped, a thread that is stopped, a mutex, a mapping, a port, a port set
 abbrev pub subjects : List (Path × Body)
@@ -34,15 +34,23 @@ in_no_call = 8 ∷ 40 ∷ 3 ∷ (replicate 14 0 ++ (9 ∷ 1 ∷ 0 ∷ 0 ∷ []))
 abbrev pub halted_twice_stopped : List ℕ
 halted_twice_stopped = 8 ∷ 21 ∷ 3 ∷ (replicate 14 0 ++ (9 ∷ 2 ∷ 7 ∷ 2 ∷ []))
 
-unfoldable pub setting : ℕ → ℕ → World
-setting x address = world_of
-    ((1 ∷ [], Space 1 None) ∷ (caller, calling 0 (10 ∷ 256 ∷ x ∷ address ∷ [])) ∷ subjects)
+unfoldable pub setting_by : List ℕ → World
+setting_by g = world_of
+    ((1 ∷ [], Space 1 None) ∷ (caller, calling 0 g) ∷ subjects)
     (page_with (1 ∷ []) 1 (records in_call_21 in_no_call)
     ∷ page_with (1 ∷ []) 2 (records halted_twice_stopped (1 ∷ 2 ∷ []))
     ∷ page_with (1 ∷ []) 3 (records (1 ∷ 1 ∷ []) (3 ∷ 10 ∷ 4 ∷ 2 ∷ 1 ∷ []))
     ∷ page_with (1 ∷ []) 4 (records (3 ∷ 250 ∷ 7 ∷ 2 ∷ 1 ∷ []) (5 ∷ 7 ∷ []))
     ∷ page_with (1 ∷ []) 5 (records (5 ∷ 6 ∷ []) (4 ∷ 8 ∷ 9 ∷ 1 ∷ []))
     ∷ [])
+
+-- the caller sets the object in slot x by the record at an address
+abbrev pub setting : ℕ → ℕ → World
+setting x address = setting_by (10 ∷ 256 ∷ x ∷ address ∷ [])
+
+-- the mapping after its record was set
+abbrev pub set_mapping : Body
+set_mapping = Mapping (record { first = 10; count = 4; offset = 2; write = true; region = At (7 ∷ 1 ∷ []) })
 
 -- ---- pointer fields: slot 8 holds a reference to nothing, slot 9 one to the region in slot 7, slot 10 one to the port
 
@@ -52,5 +60,5 @@ pointing g = world_of
 
 -- ---- to compute in these worlds is to unfold these
 unfoldable pub states : Unit {0}
-unfolding machine setting pointing
+unfolding machine setting_by pointing
 states = tt

@@ -1,15 +1,15 @@
 -- Talks: a client in /1 and a server thread in /2, linked at the port in slot 3 of /2.
-use Rattle.std.specs.Prelude.{◌≡◌, ℕ, false, true, List, [], ◌∷◌, ◌++◌, map, Option, Some, None}
+use Rattle.std.specs.Prelude.{◌≡◌, ℕ, false, true, List, [], ◌∷◌, ◌++◌, map, Bool, Option, Some, None}
 use Rattle.fk_model.specs.declared.thread.Turn.{Turn}
 use Rattle.fk_model.specs.declared.thread.Turn.TheVariants as turns
 use Rattle.fk_model.specs.Places.{Path}
 use Rattle.fk_model.specs.Places.Ptr.{At}
 use Rattle.fk_model.specs.Objects.{Talk, Fault, Peer, Body}
-use Rattle.fk_model.specs.Objects.Peer.{Server, Service}
+use Rattle.fk_model.specs.Objects.Peer.{Server, Parked}
 use Rattle.fk_model.specs.Objects.Body.{Region, Port, Portset, Space, Reference}
 use Rattle.fk_model.specs.World.{World}
 use Rattle.fk_model.specs.Runs.{Event, run}
-use Rattle.fk_model.specs.Worked.{Page, machine, world_of, page_with, numbered, running, calling, with_talk, served_by, registers_at, registers_from, goes, picks, times, accepts, hands_over}
+use Rattle.fk_model.specs.Worked.{Page, machine, world_of, page_with, numbered, running, calling, stopped, with_talk, with_fault, served_by, registers_at, registers_from, goes, picks, times, accepts, hands_over}
 
 abbrev pub client : Path
 client = 0 ∷ 1 ∷ []
@@ -33,6 +33,10 @@ servers_turn moved = served_by port server turns.Server moved
 abbrev pub sending : ℕ → ℕ → List ℕ
 sending address count = 34 ∷ 9 ∷ address ∷ count ∷ 448 ∷ 10 ∷ []
 
+-- all is sent
+abbrev pub sent_all : List ℕ
+sent_all = 35 ∷ 9 ∷ 312 ∷ 0 ∷ 448 ∷ 10 ∷ []
+
 abbrev pub receiving : ℕ → ℕ → List ℕ
 receiving into room = 50 ∷ 8 ∷ 7 ∷ 6 ∷ into ∷ room ∷ []
 
@@ -49,9 +53,15 @@ message address count into room = world_of (talkers (with_talk (clients_turn 0) 
 unfoldable pub sent : ℕ → World
 sent n = run (message 182 130 315 200) (times n (goes client))
 
--- both ends show what is left to send and to receive
-abbrev pub AreAt : World → ℕ → ℕ → ℕ → ℕ → Type 0
-AreAt w address count into room = (registers_at w client ≡ registers_from (sending address count)) × (registers_at w server ≡ registers_from (receiving into room))
+-- the registers of both ends, and what they are with so much left to send and to receive
+abbrev pub ends_at : World → List ℕ × List ℕ
+ends_at w = (registers_at w client, registers_at w server)
+
+abbrev pub left : ℕ → ℕ → ℕ → ℕ → List ℕ × List ℕ
+left address count into room = (registers_from (sending address count), registers_from (receiving into room))
+
+abbrev pub both_ends : List Path
+both_ends = client ∷ server ∷ []
 
 -- 130 words from 256 into 40 words at 320
 unfoldable pub sent_to_few : ℕ → World
@@ -111,25 +121,34 @@ talkers_and_keeper = client ∷ server ∷ keeper ∷ []
 abbrev pub missed_5 : Option Peer → Fault
 missed_5 taker = record { page = 5; write = true; port = At (9 ∷ []); taker = taker }
 
+-- the client after its first block, and the server that has taken it
+abbrev pub sent_5 : Body
+sent_5 = with_talk (clients_turn 5) (calling 20 (sending 187 125))
+
+abbrev pub received_5 : Body
+received_5 = calling 30 (receiving 320 195)
+
 -- five words arrive; the receiver misses the page; the keeper takes the fault, gives a page of zeros, and is done
-abbrev pub arrived : List Event
-arrived = goes client ∷ []
+abbrev pub arrives : List Event
+arrives = goes client ∷ []
 
-abbrev pub and_missed : List Event
-and_missed = arrived ++ goes server ∷ []
+abbrev pub misses : List Event
+misses = goes server ∷ []
 
-abbrev pub and_taken : List Event
-and_taken = and_missed ++ (times 3 (goes keeper) ++ picks keeper server ∷ [])
+abbrev pub takes : List Event
+takes = times 3 (goes keeper) ++ picks keeper server ∷ []
 
-abbrev pub and_given : List Event
-and_given = and_taken ++ times 6 (goes keeper)
+abbrev pub gives : List Event
+gives = times 6 (goes keeper)
 
-abbrev pub and_mended : List Event
-and_mended = and_given ++ times 3 (goes keeper)
+abbrev pub mends : List Event
+mends = times 3 (goes keeper)
 
--- and then the client goes on, so many times
-unfoldable pub mended_and_sent : ℕ → World
-mended_and_sent n = run kept (and_mended ++ times n (goes client))
+abbrev pub parts : List (List Event)
+parts = arrives ∷ misses ∷ takes ∷ (gives ++ mends) ∷ []
+
+abbrev pub until_mended : List Event
+until_mended = (arrives ++ misses) ++ (takes ++ (gives ++ mends))
 
 -- ---- a client calls a port that a server waits at: the port is in the set of slot 8 of /2
 
@@ -148,7 +167,46 @@ replying = world_of (talkers (with_talk (servers_turn 0) (calling 20 (36 ∷ 9 �
 unfoldable pub ending : World
 ending = world_of (talkers (with_talk (servers_turn 0) (calling 20 (36 ∷ 9 ∷ 312 ∷ 0 ∷ 448 ∷ 10 ∷ []))) (calling 30 (55 ∷ []))) both_pages
 
+-- ---- the server waits on the set of slot 8 of /2, with the port in it
+
+abbrev pub waited_for : ℕ → Path
+waited_for k = k ∷ 1 ∷ []
+
+abbrev pub parked_talk : Talk
+parked_talk = record { port = At port; peer = Parked; turn = turns.Server; moved = 5 }
+
+abbrev pub fault_at_port : ℕ → Bool → Option Peer → Fault
+fault_at_port page write taker = record { page = page; write = write; port = At port; taker = taker }
+
+abbrev pub receives_10 : Body
+receives_10 = calling 20 (36 ∷ 0 ∷ 0 ∷ 0 ∷ 448 ∷ 10 ∷ [])
+
+-- a fault that the server has taken
+abbrev pub taken_fault : ℕ → Bool → Fault
+taken_fault page write = fault_at_port page write (Some (Server (At server)))
+
+-- a parked talk; a raised fault of a stopped thread; a parked fault; a fault that another has taken; a parked talk of a
+-- stopped thread; a stopped thread that connects
+unfoldable pub waiting : World
+waiting = world_of
+    ((1 ∷ [], Space 1 None) ∷ (2 ∷ [], Space 2 None) ∷ (4 ∷ 1 ∷ [], Reference (At port)) ∷ (8 ∷ 2 ∷ [], Portset) ∷ (port, Port (Some 8) false) ∷ (2 ∷ 2 ∷ [], running 0 [])
+    ∷ (server, calling 30 (49 ∷ 8 ∷ 77 ∷ 66 ∷ 315 ∷ 200 ∷ []))
+    ∷ (waited_for 10, with_talk parked_talk receives_10)
+    ∷ (waited_for 11, stopped 1 (with_fault (fault_at_port 5 true None) (running 0 [])))
+    ∷ (waited_for 12, with_fault (fault_at_port 6 false (Some Parked)) (running 0 []))
+    ∷ (waited_for 13, with_fault (fault_at_port 7 false (Some (Server (At (2 ∷ 2 ∷ []))))) (running 0 []))
+    ∷ (waited_for 14, stopped 1 (with_talk parked_talk (running 0 [])))
+    ∷ (waited_for 15, stopped 1 (calling 0 (32 ∷ 4 ∷ []))) ∷ [])
+    []
+
+unfoldable pub picked : ℕ → World
+picked k = run waiting (picks server (waited_for k) ∷ [])
+
+-- the server waits while it serves
+unfoldable pub still_serving : World
+still_serving = world_of ((8 ∷ 2 ∷ [], Portset) ∷ talkers (with_talk (clients_turn 0) (running 20 [])) (calling 30 (48 ∷ 8 ∷ []))) []
+
 -- ---- to compute in these worlds is to unfold these
 unfoldable pub talks : Unit {0}
-unfolding machine message sent sent_to_few linked_in unlinked_in watched kept mended_and_sent meeting replying ending
+unfolding machine message sent sent_to_few linked_in unlinked_in watched kept meeting replying ending waiting picked still_serving
 talks = tt

@@ -1,9 +1,10 @@
 //! Worked examples of the machine: small worlds, and what moves make of them.
 //!
-//! Each example is a function that does nothing and ensures what is so. The values are reckoned by hand from the rules;
-//! the prover computes the moves and compares.
+//! Each example is a function that does nothing and ensures what is so. The values are reckoned by
+//! hand from the rules; the prover computes the moves and compares.
 
 pub mod holds;
+pub mod instructions;
 pub mod locks;
 pub mod memory;
 pub mod objects;

@@ -2,18 +2,18 @@
 #![tactic(auto, unfolding(crate::specs::WorkedPorters::porters))]
 
 ghost use Rattle.std.specs.Prelude.{◌≡◌, [], ◌∷◌, ◌++◌, Some, None, true, false, replicate};
-ghost use Rattle.fk_model.specs.declared.stage.Stage.TheVariants.{Create, CountIn, GetState, SetState, PageGive, PageTake, PageRead, LinkSet, LinkPark, FaultSet, FaultPark, HoldSet, SpaceMakeHeld, MutexLock};
+ghost use Rattle.fk_model.specs.declared.stage.Stage.TheVariants.{Destroy, CountIn, GetPtr, GetState, SetState, PageGive, PageTake, PageRead, LinkSet, LinkPark, FaultSet, FaultPark, HoldSet, SpaceMakeHeld, MutexLock};
 ghost use Rattle.fk_model.specs.declared.thread.Turn.TheVariants as turns;
-ghost use Rattle.fk_model.specs.Places.Ptr.{At};
+ghost use Rattle.fk_model.specs.Places.Ptr.{At, Null};
 ghost use Rattle.fk_model.specs.Objects.Peer.{Server, Parked};
-ghost use Rattle.fk_model.specs.Objects.Body.{Mutex, Space};
+ghost use Rattle.fk_model.specs.Objects.Body.{Mutex, Reference, Space};
 ghost use Rattle.fk_model.specs.Outcomes.Said.{Answered};
 ghost use Rattle.fk_model.specs.Runs.{run, IsLegal};
-ghost use Rattle.fk_model.specs.Worked.{IsReadyTo, told, makes, running, with_talk, with_fault, numbers_from};
-ghost use Rattle.fk_model.specs.WorkedPorters.{porter, subject, port, server, restoring, talk_with};
+ghost use Rattle.fk_model.specs.Worked.{IsReadyTo, told, makes, running, numbers_from};
+ghost use Rattle.fk_model.specs.WorkedPorters.{porter, subject, port, server, restoring, parked, talk_with, subject_with, subject_missing_5, runs_at_5};
 
-/// A porter is answered directly: with the record of an object and the words of a page, or with a refusal. It stays as
-/// it is.
+/// A porter is answered directly: with the record of an object and the words of a page, or with a
+/// refusal. It stays as it is.
 pub fn a_porter_is_answered_directly()
     ensures ready { IsReadyTo restoring (makes porter (GetState 1 4 0) []) }
     ensures record { told restoring (makes porter (GetState 1 4 0) []) ≡ Answered 0 (1 ∷ 1 ∷ replicate 30 0) }
@@ -25,41 +25,65 @@ pub fn a_porter_is_answered_directly()
 
 /// A porter gives records and pages themselves.
 pub fn a_porter_gives_words_directly()
-    ensures set { (run restoring (makes porter (SetState 1 4 0) (1 ∷ 0 ∷ []) ∷ [])).body (4 ∷ 1 ∷ []) ≡ Some (Mutex false) }
-    ensures running { (run restoring (makes porter (SetState 1 0 0) ((8 ∷ 7 ∷ 6 ∷ []) ++ (replicate 14 0 ++ (5 ∷ [])) ++ replicate 14 0) ∷ [])).body subject ≡ Some (running 5 (7 ∷ 6 ∷ [])) }
-    ensures given { (run restoring (makes porter (PageGive 1 6 0) (numbers_from 5 64) ∷ [])).page (1 ∷ []) 6 ≡ Some (numbers_from 5 64) }
+    ensures set { (run restoring (makes porter (SetState 1 4 0) (1 ∷ 0 ∷ []) ∷ [])).body (4 ∷ 1 ∷ []) ≡
+        Some (Mutex false) }
+    ensures running { (run restoring (makes porter (SetState 1 0 0) runs_at_5 ∷ [])).body subject ≡
+        Some (running 5 (7 ∷ 6 ∷ [])) }
+    ensures given { (run restoring (makes porter (PageGive 1 6 0) (numbers_from 5 64) ∷ [])).page (1 ∷ []) 6 ≡
+        Some (numbers_from 5 64) }
     ensures occupied { told restoring (makes porter (PageGive 1 4 0) (numbers_from 5 64)) ≡ Answered 4 [] }
 {}
 
 /// A porter makes a talk again, with a server thread or parked at a port of its own space.
 pub fn a_porter_restores_talks()
     ensures ready { IsReadyTo restoring (makes porter (LinkSet 1 0 240 241) (1 ∷ 64 ∷ [])) }
-    ensures served { (run restoring (makes porter (LinkSet 1 0 240 241) (1 ∷ 64 ∷ []) ∷ [])).body subject ≡ Some (with_talk (talk_with (Server (At server)) turns.Client 64) (running 20 (1 ∷ 2 ∷ []))) }
-    ensures parked { (run restoring (makes porter (LinkPark 1 0 9) (2 ∷ 5 ∷ []) ∷ [])).body subject ≡ Some (with_talk (talk_with Parked turns.Server 5) (running 20 (1 ∷ 2 ∷ []))) }
+    ensures served { (run restoring (makes porter (LinkSet 1 0 240 241) (1 ∷ 64 ∷ []) ∷ [])).body subject ≡
+        Some (subject_with (talk_with (Server (At server)) turns.Client 64)) }
+    ensures parked { parked.body subject ≡ Some (subject_with (talk_with Parked turns.Server 5)) }
     ensures no_port { told restoring (makes porter (LinkPark 1 0 5) (2 ∷ 5 ∷ [])) ≡ Answered 3 [] }
     ensures empty { told restoring (makes porter (LinkPark 1 0 10) (2 ∷ 5 ∷ [])) ≡ Answered 2 [] }
 {}
 
 /// A porter makes a fault again: raised, taken by a thread, or parked at a port of its own space.
 pub fn a_porter_restores_faults()
-    ensures raised { (run restoring (makes porter (FaultSet 1 0 240 256) (5 ∷ 1 ∷ []) ∷ [])).body subject ≡ Some (with_fault (record { page = 5; write = true; port = At port; taker = None }) (running 20 (1 ∷ 2 ∷ []))) }
-    ensures taken { (run restoring (makes porter (FaultSet 1 0 240 241) (5 ∷ 0 ∷ []) ∷ [])).body subject ≡ Some (with_fault (record { page = 5; write = false; port = At port; taker = Some (Server (At server)) }) (running 20 (1 ∷ 2 ∷ []))) }
-    ensures parked { (run restoring (makes porter (FaultPark 1 0 9 1) (5 ∷ 1 ∷ []) ∷ [])).body subject ≡ Some (with_fault (record { page = 5; write = true; port = At port; taker = Some Parked }) (running 20 (1 ∷ 2 ∷ []))) }
-    ensures raised_there { (run restoring (makes porter (FaultPark 1 0 9 0) (5 ∷ 1 ∷ []) ∷ [])).body subject ≡ Some (with_fault (record { page = 5; write = true; port = At port; taker = None }) (running 20 (1 ∷ 2 ∷ []))) }
+    ensures raised { (run restoring (makes porter (FaultSet 1 0 240 256) (5 ∷ 1 ∷ []) ∷ [])).body subject ≡
+        Some (subject_missing_5 true None) }
+    ensures taken { (run restoring (makes porter (FaultSet 1 0 240 241) (5 ∷ 0 ∷ []) ∷ [])).body subject ≡
+        Some (subject_missing_5 false (Some (Server (At server)))) }
+    ensures parked { (run restoring (makes porter (FaultPark 1 0 9 1) (5 ∷ 1 ∷ []) ∷ [])).body subject ≡
+        Some (subject_missing_5 true (Some Parked)) }
+    ensures raised_there { (run restoring (makes porter (FaultPark 1 0 9 0) (5 ∷ 1 ∷ []) ∷ [])).body subject ≡
+        Some (subject_missing_5 true None) }
 {}
 
 /// A porter makes a space that it holds, and gives a space a holder.
 pub fn a_porter_makes_held_spaces()
-    ensures ready { IsLegal restoring (makes porter (SpaceMakeHeld 7) [] ∷ makes porter (HoldSet 1 3 241) [] ∷ []) }
-    ensures made { (run restoring (makes porter (SpaceMakeHeld 7) [] ∷ [])).body (7 ∷ []) ≡ Some (Space 100 (Some (At porter))) }
+    ensures ready { IsLegal restoring (
+        makes porter (SpaceMakeHeld 7) [] ∷ makes porter (HoldSet 1 3 241) [] ∷ []) }
+    ensures made { (run restoring (makes porter (SpaceMakeHeld 7) [] ∷ [])).body (7 ∷ []) ≡
+        Some (Space 100 (Some (At porter))) }
     ensures taken { told restoring (makes porter (SpaceMakeHeld 9) []) ≡ Answered 4 [] }
-    ensures held { (run restoring (makes porter (HoldSet 1 3 241) [] ∷ [])).body (3 ∷ 1 ∷ []) ≡ Some (Space 2 (Some (At server))) }
+    ensures held { (run restoring (makes porter (HoldSet 1 3 241) [] ∷ [])).body (3 ∷ 1 ∷ []) ≡
+        Some (Space 2 (Some (At server))) }
 {}
 
-/// Two pointers lead to the thread from outside its subtree: one in the root and one in /2. The one beside it lies
-/// inside, and the porter's scratch doesn't count.
+/// Two pointers lead to the thread from outside its subtree: one in the root and one in /2. The one
+/// beside it lies inside, and the porter's scratch doesn't count.
 pub fn pointers_from_outside_are_counted()
     ensures ready { IsReadyTo restoring (makes porter (CountIn 1 1 0) []) }
     ensures counted { told restoring (makes porter (CountIn 1 1 0) []) ≡ Answered 0 (2 ∷ []) }
     ensures none { told restoring (makes porter (CountIn 1 1 256) []) ≡ Answered 0 (0 ∷ []) }
+{}
+
+/// A porter is answered after each stage of a destroy, and stays; it gets the fields of threads.
+pub fn a_porter_destroys_and_gets_fields()
+    ensures answer { told restoring (makes porter (Destroy 256 1) []) ≡ Answered 0 [] }
+    ensures gone { (run restoring (makes porter (Destroy 256 1) [] ∷ [])).body subject ≡ None }
+    ensures space { (run restoring (makes porter (Destroy 256 1) [] ∷ [])).body (1 ∷ []) ≡
+        Some (Space 1 (Some (At porter))) }
+    ensures stays { (run restoring (makes porter (Destroy 256 1) [] ∷ [])).body porter ≡ restoring.body porter }
+    ensures peer { told parked (makes porter (GetPtr 1 0 1 241) []) ≡ Answered 0 (3 ∷ []) }
+    ensures no_thread { (run parked (makes porter (GetPtr 1 0 1 241) [] ∷ [])).body (241 ∷ []) ≡
+        Some (Reference Null) }
+    ensures holder { told restoring (makes porter (GetPtr 256 1 0 241) []) ≡ Answered 0 (2 ∷ []) }
 {}

@@ -1,9 +1,10 @@
 -- The test of each move is computed; it passes.
-use Rattle.std.proofs.Common.{refl}
-use Rattle.fk_model.specs.WorkedLocks.{locks, one_sleeps, and_locked}
+use Rattle.std.proofs.Common.{[], ◌∷◌, ◌++◌, refl}
+use Rattle.fk_model.specs.Worked.{goes}
+use Rattle.fk_model.specs.WorkedLocks.{locks, one_sleeps, thread_0, lets_go, until_signalled}
 use Rattle.fk_model.proofs.Tested.{legal-tested}
 use Rattle.fk_model.proofs.worked.locks.a_signal_wakes_a_stopped_sleeper.Goals as goal
 
 pub returns-clause-ready : goal.returns-clause-ready
 unfolding locks
-returns-clause-ready c = legal-tested one_sleeps and_locked refl
+returns-clause-ready c = legal-tested one_sleeps (until_signalled ++ (lets_go ++ goes thread_0 ∷ [])) refl

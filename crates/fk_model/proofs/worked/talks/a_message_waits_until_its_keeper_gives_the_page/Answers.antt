@@ -1,10 +1,10 @@
 -- The test of each move is computed; it passes.
 use Rattle.std.proofs.Common.{◌++◌, refl}
 use Rattle.fk_model.specs.Worked.{goes, times}
-use Rattle.fk_model.specs.WorkedTalks.{talks, client, kept, and_mended}
+use Rattle.fk_model.specs.WorkedTalks.{talks, client, kept, until_mended}
 use Rattle.fk_model.proofs.Tested.{legal-tested}
 use Rattle.fk_model.proofs.worked.talks.a_message_waits_until_its_keeper_gives_the_page.Goals as goal
 
 pub returns-clause-ready : goal.returns-clause-ready
 unfolding talks
-returns-clause-ready c = legal-tested kept (and_mended ++ times 4 (goes client)) refl
+returns-clause-ready c = legal-tested kept (until_mended ++ times 4 (goes client)) refl
