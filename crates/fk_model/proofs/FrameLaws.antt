@@ -1,16 +1,16 @@
 -- What a list of changes doesn't name stays.
-use Rattle.std.proofs.Common.{◌≡◌, ℕ, Bool, true, false, cond, ◌&&◌, ◌||◌, ◌==◌, eqb, List, [], ◌∷◌, ◌++◌, Option, Some, None, option_map, refl, ap, sym, ◌∙◌}
+use Rattle.std.proofs.Common.{◌≡◌, ℕ, Bool, true, false, cond, ◌||◌, List, [], ◌∷◌, ◌++◌, Option, Some, None, option_map, refl, ap, sym, ◌∙◌}
 use Rattle.std.specs.List.{list_any}
 use Rattle.std.proofs.lemmas.List.Folds.{list_any-append}
 use Rattle.fk_model.specs.declared.moves.Ask.{Ask}
-use Rattle.fk_model.specs.Places.{Path, same_path, parent, slot_of, Ptr, leads_to}
-use Rattle.fk_model.specs.Objects.{Peer, Talk, Fault, Thread, Window, Extent, Body, and_then, holds}
+use Rattle.fk_model.specs.Places.{Path, same_path, parent, Ptr, leads_to}
+use Rattle.fk_model.specs.Objects.{Peer, Talk, Fault, Thread, Body, and_then, holds}
 use Rattle.fk_model.specs.Objects.Body.{Mapping, Region, Port, Space, Thread_of, Reference}
 use Rattle.fk_model.specs.Objects.Peer.{Server}
-use Rattle.fk_model.specs.World.{World, Change, Sweep, apply, apply_all, through, without, following, talk_without, taker_without, fault_without, follow, follow_peer, serves, set_at}
+use Rattle.fk_model.specs.World.{World, Change, Sweep, apply, apply_all, through, without, following, taker_without, follow_peer, serves, set_at}
 use Rattle.fk_model.specs.World.Change.{Alter, Make, MakeSpace, Kill, Move, PutPage, DropPage}
-use Rattle.fk_model.specs.Searches.{pointers, option_list, talk_pointers, fault_pointers, peer_pointer}
-use Rattle.fk_model.specs.Freezing.{is_in_set, is_swept}
+use Rattle.fk_model.specs.Searches.{option_list, talk_pointers, fault_pointers, peer_pointer}
+use Rattle.fk_model.specs.Freezing.{is_swept}
 use Rattle.fk_model.specs.Outcomes.{Outcome}
 use Rattle.fk_model.specs.Outcomes.Outcome.{Goes}
 use Rattle.fk_model.specs.Moves.{outcome, step, stepped}

@@ -11,7 +11,6 @@ use Rattle.fk_model.specs.Objects.{Mode, mutex_of}
 use Rattle.fk_model.specs.Objects.Mode.{Running, Halted}
 use Rattle.fk_model.specs.World.Edit.{Proceed}
 use Rattle.fk_model.specs.World.{World}
-use Rattle.fk_model.specs.Calls.{todo_of}
 use Rattle.fk_model.specs.Instructions.{act, next}
 use Rattle.fk_model.specs.Reach.{reach_word}
 use Rattle.fk_model.specs.Holds.{is_porter, is_frozen}

@@ -1,7 +1,7 @@
 -- Paths: when two are the same, and what lies beneath what.
-use Rattle.std.proofs.Common.{◌≡◌, ◌≢◌, ℕ, Bool, true, false, if◌then◌else◌, ◌&&◌, ◌==◌, List, [], ◌∷◌, ◌++◌, length, Option, Some, None, option_map, refl, ap, sym, arith, length-append, eqb-true, eq-eqb}
+use Rattle.std.proofs.Common.{◌≡◌, ℕ, Bool, true, false, if◌then◌else◌, ◌&&◌, ◌==◌, [], ◌∷◌, ◌++◌, length, Option, Some, None, option_map, refl, ap, sym, arith, length-append, eqb-true, eq-eqb}
 use Rattle.std.proofs.lemmas.Bool.{and_parts}
-use Rattle.fk_model.specs.Places.{Path, same_path, strip, parent, Ptr, leads_to}
+use Rattle.fk_model.specs.Places.{Path, same_path, strip, Ptr, leads_to}
 use Rattle.fk_model.specs.Places.Ptr.{Null, Dead, At, Out, Outside, Far}
 
 pub same_path_refl : (x : Path) → same_path x x ≡ true

@@ -1,9 +1,8 @@
 -- Closed subtrees: nothing inside leads out but to ports of the nester, and nothing outside leads in.
-use Rattle.std.specs.Prelude.{◌≡◌, ℕ, ◌<◌, nat_lt, Bool, true, false, not, ◌&&◌, ◌||◌, ◌==◌, List, [], ◌∷◌, ◌++◌, Option, Some, None, option_map, if◌then◌else◌}
+use Rattle.std.specs.Prelude.{◌≡◌, ℕ, nat_lt, Bool, not, ◌&&◌, ◌||◌, List, [], ◌∷◌, ◌++◌, Option, Some, None, option_map, if◌then◌else◌}
 use Rattle.std.specs.List.{list_any}
-use Rattle.fk_model.specs.Places.{Path, parent, is_within, Ptr}
-use Rattle.fk_model.specs.Places.Ptr.{Null, Dead, At, Out, Outside, Far}
-use Rattle.fk_model.specs.Objects.{Talk, Fault, Thread, Window, Extent, Body, and_then, or_else, holds}
+use Rattle.fk_model.specs.Places.{Path, parent, is_within}
+use Rattle.fk_model.specs.Objects.{Talk, Fault, Thread, Body, and_then, or_else, holds}
 use Rattle.fk_model.specs.Objects.Body.{Mutex, Cond, Mapping, Region, Port, Portset, Space, Thread_of, Reference}
 use Rattle.fk_model.specs.World.{World}
 use Rattle.fk_model.specs.Searches.{objects, pointers_to}

@@ -3,12 +3,12 @@
 -- Paths begin at the subtree's root. A pointer to a port in a slot of the nester becomes Out of that slot; the peer of a
 -- talk there, or the taker of a fault there, becomes Outside, whoever it is. Every other pointer that leads out becomes
 -- Far. Birth numbers, and who holds the root, aren't part of it; nor is whether a port is served.
-use Rattle.std.specs.Prelude.{◌≡◌, ℕ, zero, Bool, true, false, not, ◌&&◌, ◌||◌, ◌==◌, List, [], ◌∷◌, ◌++◌, Option, Some, None, option_map, if◌then◌else◌}
+use Rattle.std.specs.Prelude.{◌≡◌, ℕ, zero, Bool, true, false, not, ◌&&◌, ◌||◌, ◌==◌, [], ◌∷◌, ◌++◌, Option, Some, None, option_map, if◌then◌else◌}
 use Rattle.std.specs.List.{list_any}
-use Rattle.fk_model.specs.Places.{Path, same_path, strip, is_within, Ptr, leads_to}
+use Rattle.fk_model.specs.Places.{Path, same_path, strip, is_within, Ptr}
 use Rattle.fk_model.specs.Places.Ptr.{Null, Dead, At, Out, Outside, Far}
-use Rattle.fk_model.specs.Objects.{Mode, Peer, Talk, Fault, Thread, Window, Extent, Body, port_of, thread_of, and_then, holds}
-use Rattle.fk_model.specs.Objects.Body.{Mutex, Cond, Mapping, Region, Port, Portset, Space, Thread_of, Reference}
+use Rattle.fk_model.specs.Objects.{Peer, Talk, Fault, Thread, Body, port_of, thread_of, and_then, holds}
+use Rattle.fk_model.specs.Objects.Body.{Port, Space}
 use Rattle.fk_model.specs.Objects.Peer.{Server, Service, Parked}
 use Rattle.fk_model.specs.World.{World, Sweep, through}
 use Rattle.fk_model.specs.Searches.{pointers}

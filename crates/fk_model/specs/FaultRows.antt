@@ -1,5 +1,5 @@
 -- Faults: their end, and what a porter restores. They are raised where memory is reached, and taken by wait.
-use Rattle.std.specs.Prelude.{ℕ, Bool, not, ◌==◌, List, [], ◌∷◌, Option, Some, None, Result, Ok, Err, option_map, if◌then◌else◌, slice_index}
+use Rattle.std.specs.Prelude.{ℕ, ◌==◌, [], ◌∷◌, Option, Some, None, Result, Ok, if◌then◌else◌, slice_index}
 use Rattle.fk_model.specs.declared.limits.TheConstants.{OWN_SPACE}
 use Rattle.fk_model.specs.declared.names.Kind.TheVariants as kinds
 use Rattle.fk_model.specs.declared.statuses.status.TheConstants.{NOTLINKED, HELD}

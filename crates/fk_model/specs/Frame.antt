@@ -1,8 +1,8 @@
 -- The frame: which bodies and pages a list of changes names. All others stay.
-use Rattle.std.specs.Prelude.{◌≡◌, ℕ, Bool, true, false, ◌&&◌, ◌||◌, ◌==◌, List, [], ◌∷◌, Option}
+use Rattle.std.specs.Prelude.{◌≡◌, ℕ, Bool, false, ◌&&◌, ◌||◌, ◌==◌, List, [], ◌∷◌, Option}
 use Rattle.fk_model.specs.declared.moves.Ask.{Ask}
 use Rattle.fk_model.specs.Places.{Path, same_path, parent}
-use Rattle.fk_model.specs.World.{World, Change, apply, apply_all}
+use Rattle.fk_model.specs.World.{World, Change, apply}
 use Rattle.fk_model.specs.World.Change.{Alter, Make, MakeSpace, Kill, Move, PutPage, DropPage}
 use Rattle.fk_model.specs.Freezing.{is_swept}
 use Rattle.fk_model.specs.Outcomes.{Outcome}

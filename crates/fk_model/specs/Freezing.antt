@@ -3,11 +3,11 @@
 -- What is frozen, by a hold of which another thread is the outermost holder, isn't changed; no pointer that leads to it
 -- is changed; and no pointer is changed so that it leads to it. A change counts where a row lists it, also where it
 -- writes what was there before.
-use Rattle.std.specs.Prelude.{◌≡◌, ℕ, Bool, true, false, not, ◌&&◌, ◌||◌, List, [], ◌∷◌, ◌++◌, Option, Some, None, if◌then◌else◌}
+use Rattle.std.specs.Prelude.{◌≡◌, Bool, true, false, not, ◌&&◌, ◌||◌, List, [], ◌∷◌, ◌++◌, Option, Some, None, if◌then◌else◌}
 use Rattle.std.specs.List.{list_any}
 use Rattle.fk_model.specs.Places.{Path, same_path, Ptr, leads_to}
-use Rattle.fk_model.specs.Objects.{Mode, Peer, Talk, Fault, Thread, Window, Extent, Body, and_then, holds}
-use Rattle.fk_model.specs.Objects.Body.{Mutex, Cond, Mapping, Region, Port, Portset, Space, Thread_of, Reference}
+use Rattle.fk_model.specs.Objects.{Talk, Fault, Body, holds}
+use Rattle.fk_model.specs.Objects.Body.{Port, Thread_of}
 use Rattle.fk_model.specs.World.{World, Change, Edit, set_at, serves}
 use Rattle.fk_model.specs.World.Change.{Alter, Make, MakeSpace, Kill, Move, PutPage, DropPage}
 use Rattle.fk_model.specs.World.Edit.{SetPointer, SetHolder, SetTalk, SetPeer, SetFault, SetTaker}

@@ -3,7 +3,7 @@
 -- Movers, picks, threads and spaces are named by their paths in the subtree. A peer outside is taken to be free, and to
 -- stand at the Receive that a Send or an Over needs; how many words it takes is said with the move. Of what the outside
 -- does, only the inside half is made.
-use Rattle.std.specs.Prelude.{◌≡◌, ℕ, ◌+◌, ◌%◌, min, Bool, true, false, not, ◌&&◌, ◌||◌, ◌==◌, nat_le, nat_lt, is_none, is_some, List, [], ◌∷◌, ◌++◌, length, Option, Some, None, if◌then◌else◌}
+use Rattle.std.specs.Prelude.{◌≡◌, ℕ, ◌%◌, min, Bool, true, false, ◌&&◌, ◌==◌, nat_le, nat_lt, is_none, is_some, List, [], ◌∷◌, ◌++◌, length, Option, Some, None, if◌then◌else◌}
 use Rattle.std.specs.List.{flat_map}
 use Rattle.fk_model.specs.declared.limits.TheConstants.{PAGE_WORDS, MOST_WORDS}
 use Rattle.fk_model.specs.declared.statuses.status.TheConstants.{FULL, ENDED}
@@ -11,25 +11,25 @@ use Rattle.fk_model.specs.declared.stage.Stage.{Stage}
 use Rattle.fk_model.specs.declared.stage.Stage.TheVariants.{ClientSend, ClientOver}
 use Rattle.fk_model.specs.declared.thread.Turn.TheVariants as turns
 use Rattle.fk_model.specs.Places.{Path, parent, Ptr}
-use Rattle.fk_model.specs.Places.Ptr.{Null, Dead, At, Out, Outside, Far}
-use Rattle.fk_model.specs.Objects.{Mode, Peer, Talk, Fault, Thread, Body, thread_of, space_of, and_then, or_else, holds}
-use Rattle.fk_model.specs.Objects.Mode.{Running, Calling, Halted, Native}
-use Rattle.fk_model.specs.Objects.Peer.{Server, Service, Parked}
-use Rattle.fk_model.specs.World.{World, Change, Edit, apply_all}
-use Rattle.fk_model.specs.World.Change.{Alter, Make, MakeSpace, Kill, Move, PutPage, DropPage}
+use Rattle.fk_model.specs.Places.Ptr.{Outside}
+use Rattle.fk_model.specs.Objects.{Mode, Peer, Talk, Fault, Thread, thread_of, space_of, and_then, holds}
+use Rattle.fk_model.specs.Objects.Mode.{Calling}
+use Rattle.fk_model.specs.Objects.Peer.{Server}
+use Rattle.fk_model.specs.World.{World, Change, apply_all}
+use Rattle.fk_model.specs.World.Change.{Alter, Kill, PutPage, DropPage}
 use Rattle.fk_model.specs.World.Edit.{Shift, Finish, End, SetTalk, CountMoved, PassTurn, SetFault, SetTaker}
-use Rattle.fk_model.specs.Searches.{talk_at, fault_at}
+use Rattle.fk_model.specs.Searches.{talk_at}
 use Rattle.fk_model.specs.Reach.{words_at}
 use Rattle.fk_model.specs.Holds.{is_free, is_unheld}
 use Rattle.fk_model.specs.Outcomes.{Said, Outcome, ◌>>=◌, when, Caller, path_of, done, telling}
 use Rattle.fk_model.specs.Outcomes.Outcome.{Refused, Waits, Goes}
 use Rattle.fk_model.specs.Outcomes.Said.{Nothing, Words, Passed}
 use Rattle.fk_model.specs.Readers.{own_page, their_page}
-use Rattle.fk_model.specs.Talks.{Line, receiving, same_side, is_talking, first_stage}
-use Rattle.fk_model.specs.TransferRows.{in_turn, has_sent, block, to_page_end, overwritten, moved_words, send, over, passes}
+use Rattle.fk_model.specs.Talks.{Line, receiving, same_side, is_talking}
+use Rattle.fk_model.specs.TransferRows.{in_turn, has_sent, block, to_page_end, overwritten, moved_words, passes}
 use Rattle.fk_model.specs.LinkRows.{connecting_to, new_talk, user_at}
 use Rattle.fk_model.specs.Freezing.{AreAllowed}
-use Rattle.fk_model.specs.Moves.{closed, call_row, user_move, goes_on, GoesAllowed}
+use Rattle.fk_model.specs.Moves.{closed, user_move, goes_on}
 use Rattle.fk_model.specs.Cut.{is_out}
 
 -- ---- what the outside does to a subtree

@@ -1,10 +1,10 @@
 -- Holds: which threads are free, and what is frozen for whom.
 --
 -- A space is frozen where it or a space above it is held. The holder of the outermost hold on the path decides there.
-use Rattle.std.specs.Prelude.{ℕ, Bool, true, false, not, ◌&&◌, ◌||◌, ◌==◌, is_some, is_none, List, [], ◌∷◌, Option, Some, None}
-use Rattle.fk_model.specs.Places.{Path, parent, Ptr, leads_to}
+use Rattle.std.specs.Prelude.{Bool, true, false, not, ◌&&◌, ◌==◌, is_some, is_none, [], ◌∷◌, Option}
+use Rattle.fk_model.specs.Places.{Path, Ptr, leads_to}
 use Rattle.fk_model.specs.Places.Ptr.{At}
-use Rattle.fk_model.specs.Objects.{Mode, Thread, Body, space_of, thread_of, and_then, or_else, holds}
+use Rattle.fk_model.specs.Objects.{Mode, Thread, Body, space_of, and_then, or_else, holds}
 use Rattle.fk_model.specs.Objects.Mode.{Running, Calling, Halted, Native}
 use Rattle.fk_model.specs.World.{World}
 

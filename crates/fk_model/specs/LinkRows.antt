@@ -1,5 +1,5 @@
 -- Talks begin and end: connect, disconnect, wait, end, and the talks that a porter restores.
-use Rattle.std.specs.Prelude.{ℕ, Bool, true, false, not, ◌&&◌, ◌==◌, is_some, List, [], ◌∷◌, ◌++◌, map, Option, Some, None, Result, Ok, Err, option_map, if◌then◌else◌, slice_index}
+use Rattle.std.specs.Prelude.{ℕ, Bool, true, false, ◌&&◌, ◌==◌, is_some, List, [], ◌∷◌, ◌++◌, map, Option, Some, None, Result, Ok, Err, option_map, if◌then◌else◌, slice_index}
 use Rattle.fk_model.specs.declared.names.Kind.TheVariants as kinds
 use Rattle.fk_model.specs.declared.stage.Stage.{Stage}
 use Rattle.fk_model.specs.declared.stage.Stage.TheVariants.{Connect}
@@ -17,7 +17,7 @@ use Rattle.fk_model.specs.World.Edit.{Finish, End, SetTalk, SetPeer, SetTaker}
 use Rattle.fk_model.specs.Searches.{is_serving, talk_at}
 use Rattle.fk_model.specs.Holds.{is_free, is_unheld, is_frozen_for}
 use Rattle.fk_model.specs.Outcomes.{Said, Outcome, ◌>>=◌, refuse, or_refuse, Caller, path_of, done, ended, telling}
-use Rattle.fk_model.specs.Outcomes.Outcome.{Refused, Waits}
+use Rattle.fk_model.specs.Outcomes.Outcome.{Waits}
 use Rattle.fk_model.specs.Outcomes.Said.{Nothing, Ended}
 use Rattle.fk_model.specs.Readers.{object_in, handle, place, referred}
 use Rattle.fk_model.specs.Talks.{Line, line, ends_beyond, first_stage, path_to}

@@ -1,5 +1,5 @@
 -- Moves: which move is ready, and what it does.
-use Rattle.std.specs.Prelude.{◌≡◌, ℕ, Bool, true, false, not, ◌&&◌, ◌||◌, ◌==◌, is_none, is_some, List, [], ◌∷◌, take, Option, Some, None, if◌then◌else◌}
+use Rattle.std.specs.Prelude.{ℕ, Bool, true, false, ◌&&◌, ◌||◌, is_none, List, [], ◌∷◌, take, Option, Some, None, if◌then◌else◌}
 use Rattle.fk_model.specs.declared.moves.Ask.{Ask}
 use Rattle.fk_model.specs.declared.moves.Ask.TheVariants as asks
 use Rattle.fk_model.specs.declared.stage.Stage.{Stage}
@@ -7,9 +7,9 @@ use Rattle.fk_model.specs.declared.stage.Stage.TheVariants.{Create, Destroy, Ren
 use Rattle.fk_model.specs.declared.statuses.status.TheConstants.{DENIED}
 use Rattle.fk_model.specs.declared.thread.Turn.TheVariants as turns
 use Rattle.fk_model.specs.Places.{Path, parent, slot_of}
-use Rattle.fk_model.specs.Objects.{Mode, Thread, Body, thread_of, and_then}
-use Rattle.fk_model.specs.Objects.Mode.{Running, Calling, Halted, Native}
-use Rattle.fk_model.specs.World.{World, Change, apply_all}
+use Rattle.fk_model.specs.Objects.{Mode, Thread, thread_of, and_then}
+use Rattle.fk_model.specs.Objects.Mode.{Running, Calling}
+use Rattle.fk_model.specs.World.{World, apply_all}
 use Rattle.fk_model.specs.World.Change.{Alter}
 use Rattle.fk_model.specs.World.Edit.{End}
 use Rattle.fk_model.specs.Holds.{is_free, is_unheld, is_porter}

@@ -1,22 +1,21 @@
 -- Native servers: accept a client, give it words, hand it the turn. None of these is ever refused.
-use Rattle.std.specs.Prelude.{ℕ, ◌+◌, ◌-◌, ◌%◌, min, Bool, true, false, not, ◌&&◌, ◌==◌, is_none, is_some, List, [], ◌∷◌, take, length, Option, Some, None, if◌then◌else◌}
-use Rattle.fk_model.specs.declared.limits.TheConstants.{PAGE_WORDS, MOST_WORDS}
+use Rattle.std.specs.Prelude.{ℕ, ◌%◌, Bool, true, false, ◌&&◌, ◌==◌, is_none, List, [], ◌∷◌, take, length, Option, Some, None, if◌then◌else◌}
+use Rattle.fk_model.specs.declared.limits.TheConstants.{PAGE_WORDS}
 use Rattle.fk_model.specs.declared.statuses.status.TheConstants.{FULL}
-use Rattle.fk_model.specs.declared.thread.Turn.{Turn}
 use Rattle.fk_model.specs.declared.thread.Turn.TheVariants as turns
-use Rattle.fk_model.specs.Places.{Path, parent, Ptr, leads_to}
+use Rattle.fk_model.specs.Places.{Path, parent, leads_to}
 use Rattle.fk_model.specs.Places.Ptr.{At}
-use Rattle.fk_model.specs.Objects.{Peer, Talk, Thread, Body, port_of, thread_of, and_then, holds}
+use Rattle.fk_model.specs.Objects.{Talk, Thread, port_of, thread_of, and_then, holds}
 use Rattle.fk_model.specs.Objects.Peer.{Service}
-use Rattle.fk_model.specs.World.{World, Change}
+use Rattle.fk_model.specs.World.{World}
 use Rattle.fk_model.specs.World.Change.{Alter, PutPage}
 use Rattle.fk_model.specs.World.Edit.{Shift, Finish, End, SetTalk, CountMoved, PassTurn, SetPeer}
-use Rattle.fk_model.specs.Searches.{talk_at, client_at}
+use Rattle.fk_model.specs.Searches.{client_at}
 use Rattle.fk_model.specs.Reach.{words_at}
 use Rattle.fk_model.specs.Holds.{is_free, is_unheld}
-use Rattle.fk_model.specs.Outcomes.{Said, Outcome, when}
+use Rattle.fk_model.specs.Outcomes.{Outcome, when}
 use Rattle.fk_model.specs.Outcomes.Outcome.{Waits, Goes}
-use Rattle.fk_model.specs.Outcomes.Said.{Nothing, Taken, Given, Full, Passed}
+use Rattle.fk_model.specs.Outcomes.Said.{Taken, Given, Full, Passed}
 use Rattle.fk_model.specs.Readers.{their_page}
 use Rattle.fk_model.specs.Talks.{receiving, same_side}
 use Rattle.fk_model.specs.TransferRows.{overwritten, moved_words}

@@ -1,5 +1,5 @@
 -- Objects: create, destroy, rename, search, point, clear, locate, count_in.
-use Rattle.std.specs.Prelude.{ℕ, ◌+◌, Bool, true, false, not, ◌&&◌, ◌||◌, ◌==◌, nat_le, is_some, List, [], ◌∷◌, ◌++◌, filter, sum_by, length, Option, Some, None, Result, Ok, Err, option_map, if◌then◌else◌, replicate}
+use Rattle.std.specs.Prelude.{ℕ, Bool, false, not, ◌&&◌, ◌==◌, nat_le, is_some, List, [], ◌∷◌, ◌++◌, filter, sum_by, length, Option, Some, None, Result, Ok, Err, option_map, if◌then◌else◌, replicate}
 use Rattle.std.specs.List.{flat_map, list_any}
 use Rattle.fk_model.specs.declared.limits.TheConstants.{OWN_SPACE, SLOTS, LAST_USER_SLOT, FIRST_SCRATCH_SLOT, LAST_SCRATCH_SLOT}
 use Rattle.fk_model.specs.declared.names.Kind.{Kind}
@@ -8,16 +8,15 @@ use Rattle.fk_model.specs.declared.thread.Turn.{Turn}
 use Rattle.fk_model.specs.declared.thread.Turn.TheVariants as turns
 use Rattle.fk_model.specs.Places.{Path, same_path, strip, is_within, parent, slot_of, Ptr}
 use Rattle.fk_model.specs.Places.Ptr.{Null, Dead, At, Out, Outside, Far}
-use Rattle.fk_model.specs.Objects.{Mode, Peer, Talk, Thread, Window, Extent, Body, kind_of, same_kind, number_of, reference_of, port_of, and_then, holds}
+use Rattle.fk_model.specs.Objects.{Talk, Body, kind_of, same_kind, number_of, reference_of, port_of, holds}
 use Rattle.fk_model.specs.Objects.Mode.{Running}
-use Rattle.fk_model.specs.Objects.Body.{Mutex, Cond, Mapping, Region, Port, Portset, Space, Thread_of, Reference}
+use Rattle.fk_model.specs.Objects.Body.{Mutex, Cond, Mapping, Region, Port, Portset, Thread_of, Reference}
 use Rattle.fk_model.specs.World.{World, Change}
 use Rattle.fk_model.specs.World.Change.{Alter, Make, MakeSpace, Kill, Move}
 use Rattle.fk_model.specs.World.Edit.{SetPointer}
 use Rattle.fk_model.specs.Searches.{lowest, has_residents, objects, leaf, clients_at, client_at, pointers_to}
 use Rattle.fk_model.specs.Holds.{is_frozen_for}
 use Rattle.fk_model.specs.Outcomes.{Said, Outcome, ◌>>=◌, refuse, or_refuse, Caller, path_of, last_slot, done, done_at, stays, telling}
-use Rattle.fk_model.specs.Outcomes.Outcome.{Refused}
 use Rattle.fk_model.specs.Outcomes.Said.{Nothing, Ended}
 use Rattle.fk_model.specs.Readers.{and_read, slot_for, object_in, anything, place, kind_at}
 use Rattle.fk_model.specs.Talks.{line, Line, ends_beyond, talking_end}

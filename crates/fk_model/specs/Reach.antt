@@ -3,11 +3,11 @@
 -- A home page that is there answers. Otherwise the mapping in the lowest slot that covers the page leads on, by at most
 -- 16 mappings. Where nothing leads on the page is missing there, and the keeper of the region in the lowest slot that
 -- covers it may be told.
-use Rattle.std.specs.Prelude.{ℕ, zero, suc, ◌+◌, ◌-◌, ◌/◌, Bool, not, ◌&&◌, ◌||◌, nat_lt, List, Option, Some, None, option_map, if◌then◌else◌, unwrap_or, ◌∷◌, []}
+use Rattle.std.specs.Prelude.{ℕ, zero, suc, ◌+◌, ◌-◌, ◌/◌, Bool, not, ◌&&◌, ◌||◌, nat_lt, List, Option, Some, None, if◌then◌else◌, unwrap_or, ◌∷◌, []}
 use Rattle.fk_model.specs.declared.limits.TheConstants.{SLOTS, MAPPINGS, PAGE_WORDS, SPACE_WORDS}
 use Rattle.fk_model.specs.Places.{Path, parent, Ptr}
 use Rattle.fk_model.specs.Places.Ptr.{Null, Dead, At, Out, Outside, Far}
-use Rattle.fk_model.specs.Objects.{Window, Extent, Body, mapping_of, region_of, covers, and_then}
+use Rattle.fk_model.specs.Objects.{Window, Extent, mapping_of, region_of, covers, and_then}
 use Rattle.fk_model.specs.World.{World}
 use Rattle.fk_model.specs.Searches.{lowest}
 

@@ -2,23 +2,22 @@
 --
 -- A slot that the caller can't name, and an empty one, is BADHANDLE; an object of another kind is WRONGKIND. Where a
 -- reference is followed one to nothing is NULLREF, one to what was destroyed is DEAD, and then the kind counts again.
-use Rattle.std.specs.Prelude.{ℕ, ◌+◌, Bool, true, false, not, ◌&&◌, ◌||◌, ◌==◌, nat_le, nat_lt, is_some, List, [], ◌∷◌, Option, Some, None, Result, Ok, Err, if◌then◌else◌}
-use Rattle.fk_model.specs.declared.limits.TheConstants.{OWN_SPACE, PAGE_WORDS}
+use Rattle.std.specs.Prelude.{ℕ, Bool, true, false, ◌==◌, nat_le, [], ◌∷◌, Option, Some, None, Result, Ok, Err, if◌then◌else◌}
+use Rattle.fk_model.specs.declared.limits.TheConstants.{OWN_SPACE}
 use Rattle.fk_model.specs.declared.names.Kind.{Kind}
 use Rattle.fk_model.specs.declared.names.Kind.TheVariants as kinds
-use Rattle.fk_model.specs.declared.stage.Stage.{Stage}
 use Rattle.fk_model.specs.declared.statuses.halt.TheConstants.{BAD_ADDRESS, MISSING_PAGE}
 use Rattle.fk_model.specs.declared.statuses.status.TheConstants.{BADHANDLE, WRONGKIND, NULLREF, DEAD, BADADDRESS}
 use Rattle.fk_model.specs.Places.{Path, Ptr}
 use Rattle.fk_model.specs.Places.Ptr.{Null, Dead, At, Out, Outside, Far}
-use Rattle.fk_model.specs.Objects.{Mode, Peer, Talk, Fault, Thread, Body, kind_of, same_kind, thread_of, reference_of, and_then}
-use Rattle.fk_model.specs.Objects.Body.{Reference, Port, Thread_of}
+use Rattle.fk_model.specs.Objects.{Body, kind_of, same_kind, reference_of, and_then}
+use Rattle.fk_model.specs.Objects.Body.{Reference}
 use Rattle.fk_model.specs.World.{World, Change}
 use Rattle.fk_model.specs.World.Change.{Alter}
 use Rattle.fk_model.specs.World.Edit.{SetFault}
 use Rattle.fk_model.specs.Reach.{Reach, reach_word}
 use Rattle.fk_model.specs.Reach.Reach.{Home, Missing, Bad}
-use Rattle.fk_model.specs.Outcomes.{Said, Outcome, Caller, path_of, last_slot, or_refuse}
+use Rattle.fk_model.specs.Outcomes.{Outcome, Caller, path_of, last_slot, or_refuse}
 use Rattle.fk_model.specs.Outcomes.Said.{Nothing}
 use Rattle.fk_model.specs.Outcomes.Outcome.{Refused, Waits, Goes}
 

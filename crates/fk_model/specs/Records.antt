@@ -1,11 +1,10 @@
 -- State records: the 32 words that say all of an object but its pointers, and what it is to set them.
-use Rattle.std.specs.Prelude.{ℕ, ◌+◌, ◌-◌, Bool, true, false, not, ◌&&◌, ◌||◌, ◌==◌, nat_le, nat_lt, is_none, is_some, List, [], ◌∷◌, ◌++◌, length, take, drop, replicate, Option, Some, None, Result, Ok, Err, if◌then◌else◌, slice_index}
+use Rattle.std.specs.Prelude.{ℕ, ◌+◌, ◌-◌, Bool, true, not, ◌&&◌, ◌||◌, ◌==◌, nat_le, nat_lt, is_none, is_some, List, [], ◌∷◌, ◌++◌, length, take, drop, replicate, Option, Some, None, if◌then◌else◌, slice_index}
 use Rattle.fk_model.specs.declared.limits.TheConstants.{RECORD_WORDS, PAGES, SLOTS, MOST_STOPS}
 use Rattle.fk_model.specs.declared.stage.Stage.{Stage}
-use Rattle.fk_model.specs.declared.thread.Turn.{Turn}
 use Rattle.fk_model.specs.Places.{Path}
 use Rattle.fk_model.specs.Calls.{todo_of, rest_of}
-use Rattle.fk_model.specs.Objects.{Mode, Peer, Talk, Fault, Thread, Window, Extent, Body, registers_of, number_of, kind_of}
+use Rattle.fk_model.specs.Objects.{Mode, Talk, Fault, Body, registers_of, number_of, kind_of}
 use Rattle.fk_model.specs.Objects.Mode.{Running, Calling, Halted, Native}
 use Rattle.fk_model.specs.Objects.Body.{Mutex, Cond, Mapping, Region, Port, Portset, Space, Thread_of, Reference}
 use Rattle.fk_model.specs.World.{World, Edit, edited}

@@ -1,5 +1,5 @@
 -- Runs: lists of moves, each with what it asks for.
-use Rattle.std.specs.Prelude.{ℕ, List, [], ◌∷◌, Option}
+use Rattle.std.specs.Prelude.{List, [], ◌∷◌, Option}
 use Rattle.fk_model.specs.declared.moves.Ask.{Ask}
 use Rattle.fk_model.specs.Places.{Path}
 use Rattle.fk_model.specs.World.{World}

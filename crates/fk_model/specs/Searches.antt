@@ -2,10 +2,10 @@
 --
 -- A walk goes from space to space. Each space is younger than the one in which it lies, and birth numbers are below
 -- 2^32, so no walk is longer.
-use Rattle.std.specs.Prelude.{ℕ, zero, suc, ◌+◌, ◌^◌, Bool, true, false, not, ◌&&◌, ◌||◌, List, [], ◌∷◌, ◌++◌, filter, find, is_some, is_none, Option, Some, None, option_map, if◌then◌else◌, count_by, sum_by}
-use Rattle.std.specs.List.{flat_map, list_any}
+use Rattle.std.specs.Prelude.{ℕ, zero, suc, ◌^◌, Bool, true, false, ◌&&◌, ◌||◌, List, [], ◌∷◌, ◌++◌, filter, find, is_some, Option, Some, None, option_map, count_by}
+use Rattle.std.specs.List.{flat_map}
 use Rattle.fk_model.specs.declared.limits.TheConstants.{SLOTS}
-use Rattle.fk_model.specs.Places.{Path, same_path, Ptr, leads_to}
+use Rattle.fk_model.specs.Places.{Path, Ptr, leads_to}
 use Rattle.fk_model.specs.Objects.{Peer, Talk, Fault, Thread, Body, thread_of, and_then, or_else, holds}
 use Rattle.fk_model.specs.Objects.Body.{Mutex, Cond, Mapping, Region, Port, Portset, Space, Thread_of, Reference}
 use Rattle.fk_model.specs.Objects.Peer.{Server, Service, Parked}

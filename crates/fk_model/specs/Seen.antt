@@ -1,6 +1,6 @@
 -- How a move of the world looks from within a subtree: as a move of its own, as something that the outside does to it, as
 -- nothing, or as something else, of which no law speaks.
-use Rattle.std.specs.Prelude.{◌≡◌, ◌⊎◌, ℕ, ◌+◌, Bool, true, false, not, ◌&&◌, ◌||◌, is_none, is_some, List, [], ◌∷◌, ◌++◌, take, Option, Some, None, Result, Ok, Err, option_map, unwrap_or, if◌then◌else◌}
+use Rattle.std.specs.Prelude.{◌≡◌, ◌⊎◌, ℕ, Bool, true, false, not, ◌&&◌, ◌||◌, is_none, List, [], ◌∷◌, Option, Some, None, Result, Ok, Err, option_map, unwrap_or, if◌then◌else◌}
 use Rattle.std.specs.List.{list_any}
 use Rattle.std.specs.Option.{option_map_or}
 use Rattle.fk_model.specs.declared.moves.Ask.{Ask}
@@ -8,13 +8,12 @@ use Rattle.fk_model.specs.declared.moves.Ask.TheVariants as asks
 use Rattle.fk_model.specs.declared.stage.Stage.{Stage}
 use Rattle.fk_model.specs.declared.stage.Stage.TheVariants.{Wait, ServerSend, ServerOver, ServerEnd, PageGive, PageTake, ClientSend}
 use Rattle.fk_model.specs.declared.stage.Stage.TheVariants as stages
-use Rattle.fk_model.specs.Places.{Path, same_path, strip, is_within, parent, slot_of, Ptr}
-use Rattle.fk_model.specs.Places.Ptr.{Null, Dead, At, Out, Outside, Far}
-use Rattle.fk_model.specs.Objects.{Mode, Peer, Talk, Fault, Thread, Body, thread_of, mapping_of, Window, and_then, or_else, holds}
-use Rattle.fk_model.specs.Objects.Mode.{Running, Calling, Halted, Native}
-use Rattle.fk_model.specs.Objects.Peer.{Server, Service, Parked}
-use Rattle.fk_model.specs.World.{World, Change, Edit}
-use Rattle.fk_model.specs.World.Change.{Alter, Make, MakeSpace, Kill, Move, PutPage, DropPage}
+use Rattle.fk_model.specs.Places.{Path, same_path, strip, is_within, parent, Ptr}
+use Rattle.fk_model.specs.Places.Ptr.{At}
+use Rattle.fk_model.specs.Objects.{Peer, Talk, Fault, Thread, thread_of, and_then, holds}
+use Rattle.fk_model.specs.Objects.Peer.{Server}
+use Rattle.fk_model.specs.World.{World, Change}
+use Rattle.fk_model.specs.World.Change.{Alter, PutPage, DropPage}
 use Rattle.fk_model.specs.World.Edit.{End, SetTalk, CountMoved, SetFault}
 use Rattle.fk_model.specs.Searches.{talk_at, fault_at, client_of, faulter_of, client_at, pointers}
 use Rattle.fk_model.specs.Outcomes.{Said, Outcome, Caller, path_of}
@@ -24,9 +23,9 @@ use Rattle.fk_model.specs.Readers.{place}
 use Rattle.fk_model.specs.Talks.{receiving, first_stage}
 use Rattle.fk_model.specs.declared.thread.Turn.TheVariants as turns
 use Rattle.fk_model.specs.TransferRows.{block}
-use Rattle.fk_model.specs.LinkRows.{Candidate, candidate, if_read, user_at}
+use Rattle.fk_model.specs.LinkRows.{Candidate, candidate, user_at}
 use Rattle.fk_model.specs.LinkRows.Candidate.{Faulting, Connecting, Resuming}
-use Rattle.fk_model.specs.Moves.{outcome, porter_at, step}
+use Rattle.fk_model.specs.Moves.{outcome, porter_at}
 use Rattle.fk_model.specs.Runs.{Event, after}
 use Rattle.fk_model.specs.Frame.{listed}
 use Rattle.fk_model.specs.Cut.{cut}

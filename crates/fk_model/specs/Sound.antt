@@ -1,5 +1,5 @@
 -- What a store, and the core above it, keep more strongly than validity.
-use Rattle.std.specs.Prelude.{◌≡◌, ℕ, ◌<◌, ◌≤◌, Bool, true, false, not, ◌&&◌, ◌==◌, nat_le, is_some, List, ◌∷◌, length, Option, Some, None, if◌then◌else◌}
+use Rattle.std.specs.Prelude.{◌≡◌, ℕ, ◌<◌, ◌≤◌, Bool, true, false, not, ◌&&◌, ◌==◌, nat_le, is_some, ◌∷◌, Some, if◌then◌else◌}
 use Rattle.fk_model.specs.declared.limits.TheConstants.{LAST_USER_SLOT, LAST_SCRATCH_SLOT, LAST_PORTER_SLOT, MOST_STOPS}
 use Rattle.fk_model.specs.Places.{Path, parent, is_within, Ptr}
 use Rattle.fk_model.specs.Places.Ptr.{At}

@@ -1,12 +1,12 @@
 -- Spaces: holds, stop counts and pages.
-use Rattle.std.specs.Prelude.{ℕ, ◌+◌, ◌-◌, ◌%◌, Bool, true, false, not, ◌&&◌, ◌||◌, ◌==◌, nat_le, nat_lt, is_some, List, [], ◌∷◌, length, take, replicate, Option, Some, None, Result, Ok, Err, option_map, if◌then◌else◌}
+use Rattle.std.specs.Prelude.{ℕ, ◌+◌, ◌-◌, ◌%◌, Bool, true, false, not, ◌&&◌, ◌||◌, ◌==◌, nat_le, nat_lt, is_some, List, [], ◌∷◌, replicate, Option, Some, None, Result, option_map, if◌then◌else◌}
 use Rattle.std.specs.List.{list_any}
-use Rattle.fk_model.specs.declared.limits.TheConstants.{SLOTS, PAGES, PAGE_WORDS, MOST_STOPS, ZEROS}
+use Rattle.fk_model.specs.declared.limits.TheConstants.{PAGES, PAGE_WORDS, MOST_STOPS, ZEROS}
 use Rattle.fk_model.specs.declared.names.Kind.TheVariants as kinds
 use Rattle.fk_model.specs.declared.statuses.status.TheConstants as status
-use Rattle.fk_model.specs.Places.{Path, is_within, Ptr, leads_to}
+use Rattle.fk_model.specs.Places.{Path, is_within, leads_to}
 use Rattle.fk_model.specs.Places.Ptr.{At}
-use Rattle.fk_model.specs.Objects.{Thread, space_of, thread_of, and_then, holds}
+use Rattle.fk_model.specs.Objects.{Thread, space_of, holds}
 use Rattle.fk_model.specs.World.{World}
 use Rattle.fk_model.specs.World.Change.{Alter, MakeSpace, PutPage, DropPage}
 use Rattle.fk_model.specs.World.Edit.{SetHolder, SetStops}
@@ -16,7 +16,6 @@ use Rattle.fk_model.specs.Holds.{holder_of, is_frozen_for, is_porter}
 use Rattle.fk_model.specs.Outcomes.{Outcome, ◌>>=◌, refuse, or_refuse, when, Caller, path_of, done}
 use Rattle.fk_model.specs.Readers.{and_read, slot_for, object_in, handle, place, referred, own_page}
 use Rattle.fk_model.specs.Talks.{thread_at}
-use Rattle.fk_model.specs.TransferRows.{overwritten}
 
 -- ---- holds
 

@@ -1,5 +1,5 @@
 -- Mutexes and conditions. They are taken in the caller's own space, in no other.
-use Rattle.std.specs.Prelude.{ℕ, Bool, true, false, not, ◌&&◌, ◌==◌, is_some, List, [], ◌∷◌, map, Option, Some, None, Result, Ok, Err, if◌then◌else◌}
+use Rattle.std.specs.Prelude.{ℕ, Bool, true, false, not, ◌==◌, List, [], ◌∷◌, Option, Some, None, if◌then◌else◌}
 use Rattle.std.specs.List.{flat_map}
 use Rattle.fk_model.specs.declared.limits.TheConstants.{SLOTS}
 use Rattle.fk_model.specs.declared.stage.Stage.{Stage}
@@ -7,13 +7,13 @@ use Rattle.fk_model.specs.declared.stage.Stage.TheVariants.{MutexLock, CondAslee
 use Rattle.fk_model.specs.declared.statuses.status.TheConstants.{NOTLOCKED, NONE}
 use Rattle.fk_model.specs.Places.{Path, same_path, parent}
 use Rattle.fk_model.specs.Objects.{Thread, Body, mutex_of, thread_of, and_then}
-use Rattle.fk_model.specs.Objects.Body.{Mutex, Cond, Mapping, Region, Port, Portset, Space, Thread_of, Reference}
+use Rattle.fk_model.specs.Objects.Body.{Cond}
 use Rattle.fk_model.specs.World.{World, Change}
 use Rattle.fk_model.specs.World.Change.{Alter}
 use Rattle.fk_model.specs.World.Edit.{SetLocked, Replace}
 use Rattle.fk_model.specs.Searches.{slots}
 use Rattle.fk_model.specs.Outcomes.{Outcome, ◌>>=◌, refuse, when, Caller, path_of, done}
-use Rattle.fk_model.specs.Outcomes.Outcome.{Refused, Waits, Goes}
+use Rattle.fk_model.specs.Outcomes.Outcome.{Waits, Goes}
 use Rattle.fk_model.specs.Outcomes.Said.{Nothing}
 use Rattle.fk_model.specs.Readers.{object_in}
 use Rattle.fk_model.specs.Talks.{first_stage}

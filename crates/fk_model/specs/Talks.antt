@@ -2,22 +2,19 @@
 --
 -- A thread has at most one talk as a client and serves at most one. So the side on which a stage acts says which talk
 -- it is of.
-use Rattle.std.specs.Prelude.{ℕ, Bool, true, false, not, ◌&&◌, List, [], ◌∷◌, ◌++◌, filter, Option, Some, None, Result, Ok, Err, if◌then◌else◌}
-use Rattle.std.specs.List.{flat_map}
+use Rattle.std.specs.Prelude.{ℕ, Bool, true, false, List, [], ◌∷◌, Option, Some, None, if◌then◌else◌}
 use Rattle.fk_model.specs.declared.stage.Stage.{Stage}
-use Rattle.fk_model.specs.declared.stage.Stage.TheVariants.{Connect, ClientReceive, ClientSend, ClientOver, ServerReceive, ServerSend, ServerOver}
-use Rattle.fk_model.specs.declared.statuses.status.TheConstants.{NOTLINKED, WRONGTURN}
+use Rattle.fk_model.specs.declared.stage.Stage.TheVariants.{ClientReceive, ClientSend, ClientOver, ServerReceive, ServerSend, ServerOver}
 use Rattle.fk_model.specs.declared.thread.Turn.{Turn}
 use Rattle.fk_model.specs.declared.thread.Turn.TheVariants as turns
 use Rattle.fk_model.specs.Places.{Path, parent, Ptr}
 use Rattle.fk_model.specs.Places.Ptr.{Null, Dead, At, Out, Outside, Far}
-use Rattle.fk_model.specs.Objects.{Mode, Peer, Talk, Thread, Body, thread_of, and_then, holds}
-use Rattle.fk_model.specs.Objects.Mode.{Running, Calling, Halted, Native}
+use Rattle.fk_model.specs.Objects.{Mode, Peer, Talk, Thread, thread_of, and_then, holds}
+use Rattle.fk_model.specs.Objects.Mode.{Calling}
 use Rattle.fk_model.specs.Objects.Peer.{Server, Service, Parked}
 use Rattle.fk_model.specs.World.{World}
 use Rattle.fk_model.specs.Searches.{talk_at, client_of}
 use Rattle.fk_model.specs.Holds.{is_unheld}
-use Rattle.fk_model.specs.Outcomes.{or_refuse, refuse}
 
 -- a side of a talk is named as its turn is
 abbrev pub other_side : Turn → Turn

@@ -2,13 +2,12 @@
 --
 -- A Send moves a block of words from one page to one page, at most 64, and advances both sides. So a message of any
 -- length is sent block by block, and each side's registers say at any time what is left.
-use Rattle.std.specs.Prelude.{ℕ, zero, suc, ◌+◌, ◌-◌, ◌%◌, min, Bool, true, false, not, ◌&&◌, ◌==◌, is_some, List, [], ◌∷◌, ◌++◌, take, drop, length, Option, Some, None, Result, Ok, Err, if◌then◌else◌}
+use Rattle.std.specs.Prelude.{ℕ, ◌+◌, ◌-◌, ◌%◌, min, true, false, ◌&&◌, ◌==◌, is_some, List, [], ◌∷◌, ◌++◌, take, drop, length, Option, Some, None, Result, Ok, Err, if◌then◌else◌}
 use Rattle.fk_model.specs.declared.limits.TheConstants.{PAGE_WORDS, MOST_WORDS}
 use Rattle.fk_model.specs.declared.statuses.status.TheConstants.{NOTLINKED, WRONGTURN, FULL}
 use Rattle.fk_model.specs.declared.thread.Turn.{Turn}
-use Rattle.fk_model.specs.declared.thread.Turn.TheVariants as turns
 use Rattle.fk_model.specs.Places.{Path, parent, Ptr}
-use Rattle.fk_model.specs.Objects.{Peer, Talk, Thread}
+use Rattle.fk_model.specs.Objects.{Peer, Thread}
 use Rattle.fk_model.specs.Objects.Peer.{Server, Service, Parked}
 use Rattle.fk_model.specs.World.{World, Change}
 use Rattle.fk_model.specs.World.Change.{Alter, PutPage}
@@ -16,7 +15,7 @@ use Rattle.fk_model.specs.World.Edit.{Shift, Finish, End, CountMoved, PassTurn}
 use Rattle.fk_model.specs.Reach.{words_at}
 use Rattle.fk_model.specs.Holds.{is_free}
 use Rattle.fk_model.specs.Outcomes.{Said, Outcome, ◌>>=◌, when, Caller, path_of, done, telling}
-use Rattle.fk_model.specs.Outcomes.Outcome.{Refused, Waits, Goes}
+use Rattle.fk_model.specs.Outcomes.Outcome.{Waits, Goes}
 use Rattle.fk_model.specs.Outcomes.Said.{Nothing, Words, Passed}
 use Rattle.fk_model.specs.Readers.{own_page, their_page}
 use Rattle.fk_model.specs.Talks.{Line, line, other_side, same_side, receiving, thread_at, is_service_free}

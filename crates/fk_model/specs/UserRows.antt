@@ -1,5 +1,5 @@
 -- One instruction of a running thread. A word, and the word that it loads or stores, are where reach finds them.
-use Rattle.std.specs.Prelude.{ℕ, ◌%◌, Bool, true, false, List, [], ◌∷◌, Option, Some, None, slice_index, slice_set}
+use Rattle.std.specs.Prelude.{ℕ, ◌%◌, true, false, List, [], ◌∷◌, Option, Some, None, slice_index, slice_set}
 use Rattle.fk_model.specs.declared.instruction.Act.{Act}
 use Rattle.fk_model.specs.declared.instruction.Act.TheVariants.{Put, Jump, Load, Store, Halt, Call}
 use Rattle.fk_model.specs.declared.limits.TheConstants.{PAGE_WORDS}
@@ -10,7 +10,7 @@ use Rattle.fk_model.specs.Calls.{todo_of, rest_of}
 use Rattle.fk_model.specs.Instructions.{act, next}
 use Rattle.fk_model.specs.Objects.{Mode}
 use Rattle.fk_model.specs.Objects.Mode.{Running, Calling, Halted}
-use Rattle.fk_model.specs.World.{World, Change}
+use Rattle.fk_model.specs.World.{World}
 use Rattle.fk_model.specs.World.Change.{Alter, PutPage}
 use Rattle.fk_model.specs.World.Edit.{Proceed}
 use Rattle.fk_model.specs.Reach.{reach_word, words_at}

@@ -10,7 +10,7 @@ use Rattle.fk_model.specs.declared.stage.Stage.{Stage}
 use Rattle.fk_model.specs.declared.stage.Stage.TheVariants.{LinkSet, LinkPark, FaultSet, FaultPark}
 use Rattle.fk_model.specs.Places.{Path, same_path, parent, Ptr}
 use Rattle.fk_model.specs.Places.Ptr.{Null, Dead, At, Out, Outside, Far}
-use Rattle.fk_model.specs.Objects.{Mode, Peer, Talk, Fault, Thread, Window, Extent, Body, kind_of, same_kind, port_of, and_then, holds}
+use Rattle.fk_model.specs.Objects.{Peer, Talk, Fault, Body, kind_of, same_kind, port_of, and_then, holds}
 use Rattle.fk_model.specs.Objects.Peer.{Server, Service, Parked}
 use Rattle.fk_model.specs.Objects.Body.{Mutex, Cond, Mapping, Region, Port, Portset, Space, Thread_of, Reference}
 use Rattle.fk_model.specs.World.{World, set_at, serves}

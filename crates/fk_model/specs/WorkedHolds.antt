@@ -6,7 +6,7 @@ use Rattle.fk_model.specs.Places.Ptr.{Null, At}
 use Rattle.fk_model.specs.Objects.{Body}
 use Rattle.fk_model.specs.Objects.Mode.{Native}
 use Rattle.fk_model.specs.Objects.Peer.{Server}
-use Rattle.fk_model.specs.Objects.Body.{Mutex, Mapping, Region, Port, Space, Reference}
+use Rattle.fk_model.specs.Objects.Body.{Mapping, Region, Port, Space, Reference}
 use Rattle.fk_model.specs.World.{World}
 use Rattle.fk_model.specs.Worked.{machine, world_of, page_with, numbered, running, calling, thread_at, with_talk, with_fault, served_by}
 

@@ -1,5 +1,5 @@
 -- Memory: pages given and taken, mappings and regions, and pages that are missing.
-use Rattle.std.specs.Prelude.{ℕ, ◌+◌, false, true, Bool, List, [], ◌∷◌, ◌++◌, None, Option, Some}
+use Rattle.std.specs.Prelude.{ℕ, ◌+◌, false, true, Bool, List, [], ◌∷◌, ◌++◌, None}
 use Rattle.std.specs.List.{flat_map}
 use Rattle.fk_model.specs.declared.thread.Turn.TheVariants as turns
 use Rattle.fk_model.specs.Places.{Path, Ptr}
@@ -8,7 +8,7 @@ use Rattle.fk_model.specs.Objects.{Talk, Body}
 use Rattle.fk_model.specs.Objects.Body.{Mapping, Region, Port, Space}
 use Rattle.fk_model.specs.World.{World}
 use Rattle.fk_model.specs.Runs.{run}
-use Rattle.fk_model.specs.Worked.{Page, machine, world_of, page_with, numbered, numbers_from, running, calling, with_talk, with_fault, served_by, goes}
+use Rattle.fk_model.specs.Worked.{machine, world_of, page_with, numbered, numbers_from, running, calling, with_talk, with_fault, served_by, goes}
 
 -- ---- pages of /1: the pages 0, 1 and 2 are there, and each thread is in one call
 

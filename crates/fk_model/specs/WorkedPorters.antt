@@ -9,7 +9,7 @@ use Rattle.fk_model.specs.Objects.Mode.{Native}
 use Rattle.fk_model.specs.Objects.Body.{Mutex, Port, Space, Reference}
 use Rattle.fk_model.specs.World.{World}
 use Rattle.fk_model.specs.Runs.{run}
-use Rattle.fk_model.specs.Worked.{machine, world_of, numbered, running, calling, thread_at, with_talk, with_fault, makes}
+use Rattle.fk_model.specs.Worked.{machine, world_of, numbered, running, thread_at, with_talk, with_fault, makes}
 
 abbrev pub porter : Path
 porter = 255 ∷ []

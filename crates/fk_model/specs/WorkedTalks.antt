@@ -1,6 +1,5 @@
 -- Talks: a client in /1 and a server thread in /2, linked at the port in slot 3 of /2.
-use Rattle.std.specs.Prelude.{◌≡◌, ℕ, false, true, List, [], ◌∷◌, ◌++◌, map, Bool, Option, Some, None}
-use Rattle.fk_model.specs.declared.thread.Turn.{Turn}
+use Rattle.std.specs.Prelude.{ℕ, false, true, List, [], ◌∷◌, ◌++◌, map, Bool, Option, Some, None}
 use Rattle.fk_model.specs.declared.thread.Turn.TheVariants as turns
 use Rattle.fk_model.specs.Places.{Path}
 use Rattle.fk_model.specs.Places.Ptr.{At}
@@ -9,7 +8,7 @@ use Rattle.fk_model.specs.Objects.Peer.{Server, Parked}
 use Rattle.fk_model.specs.Objects.Body.{Region, Port, Portset, Space, Reference}
 use Rattle.fk_model.specs.World.{World}
 use Rattle.fk_model.specs.Runs.{Event, run}
-use Rattle.fk_model.specs.Worked.{Page, machine, world_of, page_with, numbered, running, calling, stopped, with_talk, with_fault, served_by, registers_at, registers_from, goes, picks, times, accepts, hands_over}
+use Rattle.fk_model.specs.Worked.{Page, machine, world_of, page_with, numbered, running, calling, stopped, with_talk, with_fault, served_by, registers_at, registers_from, goes, picks, times}
 
 abbrev pub client : Path
 client = 0 ∷ 1 ∷ []

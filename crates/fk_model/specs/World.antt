@@ -13,7 +13,7 @@ use Rattle.fk_model.specs.Places.{Path, same_path, parent, slot_of, Ptr, leads_t
 use Rattle.fk_model.specs.Places.Ptr.{Dead, At}
 use Rattle.fk_model.specs.Calls.{words, left_by, with_answers}
 use Rattle.fk_model.specs.Instructions as instructions
-use Rattle.fk_model.specs.Objects.{Mode, Peer, Talk, Fault, Thread, Window, Extent, Body, and_then}
+use Rattle.fk_model.specs.Objects.{Mode, Peer, Talk, Fault, Thread, Body, and_then}
 use Rattle.fk_model.specs.Objects.Mode.{Running, Calling}
 use Rattle.fk_model.specs.Objects.Peer.{Server, Service, Parked}
 use Rattle.fk_model.specs.Objects.Body.{Mutex, Cond, Mapping, Region, Port, Portset, Space, Thread_of, Reference}
