@@ -9,6 +9,7 @@ mod status;
 #[cfg(test)]
 mod tests;
 mod top;
+mod trace;
 
 pub use status::{Status, fault_line};
 pub use top::{Outcome, fluke_top};
