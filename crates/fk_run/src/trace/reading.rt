@@ -1,5 +1,5 @@
 //! Reading a trace, move by move.
-ghost use Rattle.std.specs.Prelude.{◌≡◌, ◌×◌, ℕ, List, Option, position, ⊤, IfOk, IfSome, IfNone, Err};
+ghost use Rattle.std.specs.Prelude.{◌≡◌, ◌==◌, ℕ, List, Option, position, ⊤, IfOk, IfSome, IfNone, Err};
 ghost use Rattle.std.specs.Option.{option_map};
 ghost use Rattle.fk_run.specs.Trace.{line, first_line, move_text, IsMove, BeginsWithNone, HasNoFirstLine, Spells, IsFirstBad, IsWithin, Gives};
 ghost use Rattle.fk_run.specs.TraceReading as steps;
