@@ -60,9 +60,14 @@ pub record Spells (MayFollow : List Move → Move → Type 0) (text : List ℕ) 
   pub legal : AreLegal MayFollow moves
   pub spelled : text ≡ trace_text moves
 
+-- a text begins with the line of a move
+pub record BeginsWith (text : List ℕ) (move : Move) (after : List ℕ) : Type 0 where
+  pub range : IsMove move
+  pub spelled : text ≡ line (move_text move) ++ after
+
 -- a text begins with the line of no move that is allowed
 abbrev pub BeginsWithNone : (Move → Type 0) → List ℕ → Type 0
-BeginsWithNone IsAllowed text = (move : Move) (after : List ℕ) → IsMove move → text ≡ line (move_text move) ++ after → ¬ IsAllowed move
+BeginsWithNone IsAllowed text = (move : Move) (after : List ℕ) → BeginsWith text move after → ¬ IsAllowed move
 
 -- a text begins with the trace of legal moves, and goes on, but not with the line of a move that may follow them
 pub record StopsAfter (MayFollow : List Move → Move → Type 0) (text : List ℕ) (moves : List Move) : Type 0 where
@@ -84,6 +89,11 @@ IsFirstBad MayFollow text index = (HasNoFirstLine text × (index ≡ 0)) ⊎ ((m
 -- a move may follow fewer moves than the budget has
 abbrev pub IsWithin : ℕ → List Move → Move → Type 0
 IsWithin budget done move = length done < budget
+
+-- why a trace isn't played: its first bad line, or want of memory
+abbrev pub IsCause : (List Move → Move → Type 0) → List ℕ → PlayFail → Type 0
+IsCause MayFollow text (Trace index) = IsFirstBad MayFollow text index
+IsCause MayFollow text NoMemory = Unit {0}
 
 -- what comes of the trace of these moves: the moves, or there is no memory for them
 abbrev pub Gives : List Move → Result (List Move) PlayFail → Type 0
