@@ -1,5 +1,5 @@
 -- The line of a move is read as that move, and a line that is read is that of the move.
-use Rattle.std.proofs.Common.{◌≡◌, ℕ, ◌^◌, ◌<◌, ◌≤◌, ◌==◌, Bool, true, false, List, [], ◌∷◌, ◌++◌, length, Option, Some, None, decimal, IfSome, refl, sym, ap, ◌∙◌, append_assoc, rules, arith}
+use Rattle.std.proofs.Common.{◌≡◌, ℕ, ◌^◌, ◌<◌, ◌≤◌, ◌==◌, false, List, ◌∷◌, ◌++◌, Option, Some, None, decimal, IfSome, refl, sym, ap, ◌∙◌, arith}
 use Rattle.std.proofs.lemmas.List.{append-nil}
 use Rattle.std.proofs.lemmas.Option.{same_Some}
 use Rattle.fk_model.specs.declared.moves.Who.{Who}
@@ -21,8 +21,8 @@ decimal_lacks c n low small = decimal_avoids (λ b. b == c) (λ b. apart c b low
 who_avoids : (c : ℕ) → c < 46 → (who : Who) → IsName who → Avoids c (who_text who)
 who_avoids c low who n =
     avoids_both c (decimal who.space) (46 ∷ decimal who.slot)
-      (decimal_lacks c who.space (omega arith) (omega (arith, n.space)))
-      (below c low, decimal_lacks c who.slot (omega arith) (omega (arith, n.slot)))
+    (decimal_lacks c who.space (omega arith) (omega (arith, n.space)))
+    (below c low, decimal_lacks c who.slot (omega arith) (omega (arith, n.slot)))
   where
     below : (c : ℕ) → c < 46 → (46 == c) ≡ false
     below c low = grind arith
@@ -30,9 +30,11 @@ who_avoids c low who n =
 who_back : (who : Who) → IsName who → who_of (who_text who) ≡ Some who
 unfolding who_of
 who_back who n =
-    rw (cut_at-at 46 (decimal who.space) (decimal who.slot) (decimal_lacks 46 who.space (omega arith) (omega (arith, n.space))),
-        plain_number_up_to-decimal 4294967295 who.space (omega (arith, n.space)) (omega arith),
-        plain_number_up_to-decimal 255 who.slot (omega (arith, n.slot)) (omega arith)) refl
+    rw (
+      cut_at-at 46 (decimal who.space) (decimal who.slot) (decimal_lacks 46 who.space (omega arith) (omega (arith, n.space))),
+      plain_number_up_to-decimal 4294967295 who.space (omega (arith, n.space)) (omega arith),
+      plain_number_up_to-decimal 255 who.slot (omega (arith, n.slot)) (omega arith),
+    ) refl
 
 back_at : (who : Who) (pick : Option Who) → IsName who → IfSome pick IsName → move_of (who_text who ++ pick_text pick) ≡ Some (record { who = who; pick = pick })
 unfolding move_of

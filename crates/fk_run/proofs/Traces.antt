@@ -1,16 +1,15 @@
 -- A text is a trace of legal moves in one way at most, or stops being one at one place.
-use Rattle.std.proofs.Common.{◌≡◌, ◌≢◌, ℕ, ◌+◌, ◌<◌, Bool, true, false, List, [], ◌∷◌, ◌++◌, length, drop, Option, Some, None, Result, Ok, Err, IfOk, IfErr, All, codes, refl, sym, ap, subst, ◌∙◌, append_assoc, rules, arith, ◌⊎◌, inl, inr}
+use Rattle.std.proofs.Common.{◌≡◌, ℕ, List, [], ◌∷◌, ◌++◌, length, drop, Some, None, All, refl, sym, ap, subst, ◌∙◌, append_assoc, arith, inl, inr}
 use Rattle.std.proofs.lemmas.List.{append-nil}
 use Rattle.std.proofs.Math.Seq.{drop-append_seam}
 use Rattle.std.proofs.lemmas.List.Elements.{All-push, All-nil, All-head, All-tail}
 use Rattle.std.proofs.lemmas.Option.{same_Some}
 use Rattle.std.specs.Bool.{⊤}
-use Rattle.std.specs.List.{flat_map}
 use Rattle.fk_model.specs.declared.moves.Move.{Move}
-use Rattle.fk_run.specs.Trace.{move_text, line, first_line, lines_of, trace_text, IsMove, EachMayFollow, AreLegal, Spells, BeginsWith, BeginsWithNone, StopsAfter, HasNoFirstLine, IsFirstBad}
+use Rattle.fk_run.specs.Trace.{move_text, line, first_line, lines_of, trace_text, IsMove, EachMayFollow, AreLegal, Spells, BeginsWith, BeginsWithNone, IsFirstBad}
 use Rattle.fk_run.specs.TraceReading.{cut_at, move_of}
 use Rattle.fk_run.proofs.Cuts.{cut_at-at, cut_at-parts}
-use Rattle.fk_run.proofs.Lines.{IsLineOf, move_of-text, move_of-only, move_avoids}
+use Rattle.fk_run.proofs.Lines.{move_of-text, move_of-only, move_avoids}
 
 -- no moves are legal, whatever may follow
 pub AreLegal-none : (MayFollow : List Move → Move → Type 0) → AreLegal MayFollow []
@@ -85,7 +84,7 @@ record IsSameTrace (ms : List Move) (r : List ℕ) (ns : List Move) (s : List �
   rest : r ≡ s
 
 same_lines : (MayFollow : List Move → Move → Type 0) (done ms ns : List Move) (r s : List ℕ) → All IsMove ms → All IsMove ns → EachMayFollow MayFollow done ms → EachMayFollow MayFollow done ns
-  → lines_of ms ++ r ≡ lines_of ns ++ s → BeginsWithNone (MayFollow (done ++ ms)) r → BeginsWithNone (MayFollow (done ++ ns)) s → IsSameTrace ms r ns s
+    → lines_of ms ++ r ≡ lines_of ns ++ s → BeginsWithNone (MayFollow (done ++ ms)) r → BeginsWithNone (MayFollow (done ++ ns)) s → IsSameTrace ms r ns s
 same_lines F done [] [] r s _ _ _ _ same stops stops' = record { moves = refl; rest = same }
 same_lines F done [] (n ∷ ns) r s _ are _ all same stops stops' =
     absurd (stops n (lines_of ns ++ s) (record { range = All-head IsMove n ns are; spelled = same ∙ append_assoc (line (move_text n)) (lines_of ns) s }) (subst (λ (before : List Move). F before n) (sym (append-nil done)) all.0))
@@ -93,8 +92,8 @@ same_lines F done (m ∷ ms) [] r s are _ all _ same stops stops' =
     absurd (stops' m (lines_of ms ++ r) (record { range = All-head IsMove m ms are; spelled = sym same ∙ append_assoc (line (move_text m)) (lines_of ms) r }) (subst (λ (before : List Move). F before m) (sym (append-nil done)) all.0))
 same_lines F done (m ∷ ms) (n ∷ ns) r s are_ms are_ns all_ms all_ns same stops stops' =
     let front = same_front (lines_of (m ∷ ms) ++ r) m n (lines_of ms ++ r) (lines_of ns ++ s)
-        (record { range = All-head IsMove m ms are_ms; spelled = append_assoc (line (move_text m)) (lines_of ms) r })
-        (record { range = All-head IsMove n ns are_ns; spelled = same ∙ append_assoc (line (move_text n)) (lines_of ns) s }) in
+    (record { range = All-head IsMove m ms are_ms; spelled = append_assoc (line (move_text m)) (lines_of ms) r })
+    (record { range = All-head IsMove n ns are_ns; spelled = same ∙ append_assoc (line (move_text n)) (lines_of ns) s }) in
     let follows : EachMayFollow F (done ++ m ∷ []) ns = subst (λ (k : Move). EachMayFollow F (done ++ k ∷ []) ns) (sym front.move) all_ns.1 in
     let stops_ms : BeginsWithNone (F ((done ++ m ∷ []) ++ ms)) r = subst (λ (before : List Move). BeginsWithNone (F before) r) (sym (append_assoc done (m ∷ []) ms)) stops in
     let stops_ns : BeginsWithNone (F ((done ++ m ∷ []) ++ ns)) s = subst (λ (before : List Move). BeginsWithNone (F before) s) (ap (λ (k : Move). done ++ k ∷ ns) (sym front.move) ∙ sym (append_assoc done (m ∷ []) ns)) stops' in
@@ -110,7 +109,7 @@ pub BeginsWithNone-empty : (IsAllowed : Move → Type 0) → BeginsWithNone IsAl
 BeginsWithNone-empty IsAllowed = λ move after begins allowed. no_line (move_text move) after begins.spelled
 
 same_traces : (MayFollow : List Move → Move → Type 0) (text : List ℕ) (ms ns : List Move) (r s : List ℕ) → AreLegal MayFollow ms → AreLegal MayFollow ns → text ≡ trace_text ms ++ r → text ≡ trace_text ns ++ s
-  → BeginsWithNone (MayFollow ms) r → BeginsWithNone (MayFollow ns) s → IsSameTrace ms r ns s
+    → BeginsWithNone (MayFollow ms) r → BeginsWithNone (MayFollow ns) s → IsSameTrace ms r ns s
 same_traces F text ms ns r s legal_ms legal_ns here there stops_ms stops_ns =
     let same : first_line ++ (lines_of ms ++ r) ≡ first_line ++ (lines_of ns ++ s) = sym (append_assoc first_line (lines_of ms) r) ∙ sym here ∙ there ∙ append_assoc first_line (lines_of ns) s in
     let lines : lines_of ms ++ r ≡ lines_of ns ++ s = sym (drop-append_seam first_line (lines_of ms ++ r)) ∙ ap (drop (length first_line)) same ∙ drop-append_seam first_line (lines_of ns ++ s) in

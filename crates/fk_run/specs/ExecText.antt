@@ -1,5 +1,5 @@
 -- What `exec` writes.
-use Rattle.std.specs.Prelude.{ℕ, List, ◌∷◌, ◌++◌, Option, Some, None, codes, decimal}
+use Rattle.std.specs.Prelude.{ℕ, List, ◌++◌, Option, Some, None, codes, decimal}
 use Rattle.std.specs.List.{flat_map}
 
 -- the code of the halt, or that the budget was used, and how many instructions were made

@@ -5,3 +5,4 @@ pub mod Exec
 pub mod Top
 pub mod Trace
 pub mod TraceReading
+pub mod Report

@@ -5,7 +5,7 @@ use Rattle.std.specs.Cmp.Lexicographic.{pointwise}
 use Rattle.fk_run.specs.declared.command.Command.{Command}
 use Rattle.fk_run.specs.declared.command.Command.TheVariants.{Exec}
 use Rattle.fk_run.specs.declared.status.Status.{Status}
-use Rattle.fk_run.specs.declared.status.Status.TheVariants.{Ok, Usage, TooLong, BadText, Budget, ReadFault, WriteFault, NoMemory}
+use Rattle.fk_run.specs.declared.status.Status.TheVariants.{Ok, Usage, TooLong, Budget, ReadFault, WriteFault, NoMemory}
 use Rattle.fk_run.specs.Exec.{exec_status}
 
 -- the command that the words are; none where they are no command

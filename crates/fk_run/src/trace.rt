@@ -6,9 +6,13 @@ ghost use Rattle.std.specs.Prelude.{◌≡◌};
 ghost use Rattle.fk_run.specs.declared.trace.PlayFail.TheVariants as fails;
 
 mod reading;
+#[cfg(test)]
+mod tests;
 mod writing;
 
 use fk_model::NoMemory;
+pub use reading::read_trace;
+pub use writing::trace_text;
 
 /// Why a trace isn't played to its end.
 #[derive(Clone, Copy, Debug, PartialEq, Eq)]

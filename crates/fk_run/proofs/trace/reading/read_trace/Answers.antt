@@ -1,6 +1,5 @@
-use Rattle.std.proofs.Common.{◌≡◌, ◌≢◌, ℕ, ◌<◌, List, [], ◌∷◌, ◌++◌, length, ap, sym, subst, ◌∙◌, inl, inr, rules, arith, refl}
-use Rattle.fk_model.specs.declared.moves.Move.{Move}
-use Rattle.fk_run.specs.Trace.{trace_text, AreLegal, IsWithin, Spells, BeginsWithNone, StopsAfter}
+use Rattle.std.proofs.Common.{◌≡◌, ℕ, ◌<◌, [], ◌∷◌, ◌++◌, length, ap, sym, subst, ◌∙◌, inl, inr, rules, arith, refl}
+use Rattle.fk_run.specs.Trace.{trace_text, AreLegal, IsWithin, Spells, BeginsWithNone}
 use Rattle.fk_run.proofs.Traces.{AreLegal-more, trace_text-more, Spells-same, Spells-not_bad, trace_text-all}
 use Rattle.fk_run.proofs.trace.reading.read_trace.Goals as goal
 
@@ -10,13 +9,17 @@ returns-in_default-clause-back c = λ moves spells. Spells-not_bad (IsWithin c.a
 pub returns-in_default-next_move-clause-cause : goal.returns-in_default-next_move-clause-cause
 returns-in_default-next_move-clause-cause c =
     let stops : BeginsWithNone (IsWithin c.args.budget c.loop-rest.moves) c.loop-rest.rest.now = subst (λ (n : ℕ). BeginsWithNone (λ _. n < c.args.budget) c.loop-rest.rest.now) c.len-index.ensures c.in_default-next_move.ensures.none in
-    inr (c.loop-rest.moves, record {
-      legal = c.loop-rest.invariant.legal;
-      rest = c.loop-rest.rest.now;
-      spelled = c.loop-rest.invariant.spelled;
-      goes_on = search rules;
-      stops = stops;
-    }, c.len-index.ensures)
+    inr (
+      c.loop-rest.moves,
+      record {
+        legal = c.loop-rest.invariant.legal;
+        rest = c.loop-rest.rest.now;
+        spelled = c.loop-rest.invariant.spelled;
+        goes_on = search rules;
+        stops = stops;
+      },
+      c.len-index.ensures,
+    )
 
 pub loop-rest-preserved : goal.loop-rest-preserved
 loop-rest-preserved c =
