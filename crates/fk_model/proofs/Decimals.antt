@@ -41,7 +41,7 @@ number_back most token some digits fits = rw (some, digits, le-leb (value_of tok
 leads : (token : List ℕ) → has_leading_zero token ≡ false → (length token == 0) ≡ false → get_or token 0 0 ≡ 48 → length token ≡ 1
 leads [] h some e = absurd (cc)
 leads (b ∷ []) h some e = refl
-leads (b ∷ c ∷ bs) h some e = absurd (cc (ap (λ x. x == 48) e))
+leads (b ∷ c ∷ bs) h some e = absurd (cc)
 
 no_lead_of : (token : List ℕ) → (get_or token 0 0 ≡ 48 → length token ≡ 1) → has_leading_zero token ≡ false
 no_lead_of [] h = refl
@@ -74,6 +74,14 @@ plain_number_up_to-only most n token m h = by (has_leading_zero token) refl h
         let read = number_is most n token h in
         let long : 0 < length token = grind (arith, read.some) in
         rw read.value (sym (decimal-digits_value own token read.digits long (leads token e read.some) (omega (arith, read.value, read.fits))))
+
+-- a number that is read is at most `most`
+pub plain_number_up_to-le : (most n : ℕ) (token : List ℕ) → plain_number_up_to most token ≡ Some n → n ≤ most
+plain_number_up_to-le most n token h = by (has_leading_zero token) h
+  where
+    by : (t : Bool) → (if t then None else number_up_to most token) ≡ Some n → n ≤ most
+    by true h = absurd (cc)
+    by false h = (number_is most n token h).fits
 
 digits_avoid : (p : ℕ → Bool) → ((b : ℕ) → 48 ≤ b → b ≤ 57 → p b ≡ false) → (bs : List ℕ) → list_all is_digit bs ≡ true → AllByRecursion (λ b. p b ≡ false) bs
 digits_avoid p avoids [] d = tt

@@ -48,3 +48,4 @@ pub mod ImageChanges
 pub mod Rebind
 pub mod ImageLaws
 pub mod WorkedInstructions
+pub mod Names

@@ -2,7 +2,7 @@
 ghost use Rattle.std.specs.Prelude.{◌≡◌, IfOk, string_bytes};
 ghost use Rattle.fk_run.specs.Status.{number_of, fault_line_of};
 
-use fk_model::NoMemory;
+use fk_model::{NoMemory, Text};
 use std::alloc::Global;
 
 /// How a call of the program ends.
@@ -16,12 +16,21 @@ pub enum Status {
     TooLong,
     /// The text isn't assembled. Today `line` is always 0 and `reason` is 7.
     BadText { line: u32, reason: u8 },
+    /// The scenario is refused by this rule, in this section, at the entry with this index.
+    BadScenario { rule: u8, section: u8, index: u32 },
+    /// The shelf has nothing of this name, which is needed.
+    Absent { name: Text },
+    /// The line of the move with this index is the first of the trace that is misspelled, whose move
+    /// isn't ready, or that stands at the budget.
+    BadTrace { index: u64 },
     /// The thread ran for as many instructions as the budget has, and didn't halt. All else was done.
     Budget { budget: u64 },
     /// A read of the source failed.
     ReadFault,
     /// A write to the sink failed.
     WriteFault,
+    /// A get or a put of the shelf failed.
+    ShelfFault,
     /// There is no memory for what was asked.
     NoMemory,
 }
@@ -36,9 +45,13 @@ impl Status {
             Status::Usage => 2,
             Status::TooLong => 3,
             Status::BadText { .. } => 4,
+            Status::BadScenario { .. } => 5,
+            Status::Absent { .. } => 6,
+            Status::BadTrace { .. } => 8,
             Status::Budget { .. } => 10,
             Status::ReadFault => 11,
             Status::WriteFault => 12,
+            Status::ShelfFault => 13,
             Status::NoMemory => 14,
         }
     }
@@ -59,9 +72,20 @@ pub fn fault_line(alloc: Global, status: &Status) -> Result<String, NoMemory>
         Status::BadText { line, reason } => {
             format!(in alloc; "fluke: bad text line {line} reason {reason}")?
         }
+        Status::BadScenario {
+            rule,
+            section,
+            index,
+        } => format!(in alloc; "fluke: bad scenario rule {rule} section {section} index {index}")?,
+        Status::Absent { name } => {
+            let name = name.as_str();
+            format!(in alloc; "fluke: absent {name}")?
+        }
+        Status::BadTrace { index } => format!(in alloc; "fluke: bad trace index {index}")?,
         Status::Budget { budget } => format!(in alloc; "fluke: budget {budget}")?,
         Status::ReadFault => String::from_str(alloc, "fluke: read fault")?,
         Status::WriteFault => String::from_str(alloc, "fluke: write fault")?,
+        Status::ShelfFault => String::from_str(alloc, "fluke: shelf fault")?,
         Status::NoMemory => String::from_str(alloc, "fluke: no memory")?,
     };
     Ok(line)

@@ -1,6 +1,7 @@
 //! Whole calls over sources and sinks in memory.
 use crate::{Outcome, Status, fault_line, fluke_top};
 use fk_causes::{MemSink, MemSource};
+use fk_model::{Text, is_name};
 use std::alloc::Global;
 use std::test::Fail;
 
@@ -190,17 +191,59 @@ fn each_status_has_its_number_and_its_line(rt: HostRuntime) -> Result<(), Fail> 
             "fluke: bad text line 3 reason 4",
         ),
         (
+            Status::BadScenario {
+                rule: 7,
+                section: 4,
+                index: 65536,
+            },
+            5,
+            "fluke: bad scenario rule 7 section 4 index 65536",
+        ),
+        (
+            Status::Absent {
+                name: Text::of(rt.alloc(), "nosuch")?,
+            },
+            6,
+            "fluke: absent nosuch",
+        ),
+        (Status::BadTrace { index: 7 }, 8, "fluke: bad trace index 7"),
+        (
             Status::Budget { budget: 100_000 },
             10,
             "fluke: budget 100000",
         ),
         (Status::ReadFault, 11, "fluke: read fault"),
         (Status::WriteFault, 12, "fluke: write fault"),
+        (Status::ShelfFault, 13, "fluke: shelf fault"),
         (Status::NoMemory, 14, "fluke: no memory"),
     ];
     for (status, number, line) in &statuses {
         assert_eq!(rt; status.number(), *number);
         assert_eq!(rt; fault_line(rt.alloc(), status)?.as_str(), *line);
+    }
+    Ok(())
+}
+
+#[test]
+fn names_have_1_to_32_of_their_characters(rt: HostRuntime) -> Result<(), Fail> {
+    let names = [
+        ("a", true),
+        ("trace_09_z", true),
+        ("0", true),
+        ("_", true),
+        ("abcdefghijklmnopqrstuvwxyz012345", true),
+        ("", false),
+        ("abcdefghijklmnopqrstuvwxyz0123456", false),
+        ("A", false),
+        ("a.img", false),
+        ("a b", false),
+        ("../a", false),
+        ("\u{e9}", false),
+        ("`", false),
+        ("{", false),
+    ];
+    for (name, wanted) in names {
+        assert_eq!(rt; is_name(name.as_bytes()), wanted, "{name}");
     }
     Ok(())
 }

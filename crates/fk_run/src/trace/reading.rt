@@ -1,0 +1,111 @@
+//! Reading a trace, move by move.
+ghost use Rattle.std.specs.Prelude.{◌≡◌, ◌==◌, ◌++◌, ◌<◌, List, position, ⊤, IfOk, IfErr, IfSome, IfNone, OnSome};
+ghost use Rattle.std.specs.Option.{option_map};
+ghost use Rattle.fk_run.specs.Trace.{first_line, BeginsWith, BeginsWithNone, HasNoFirstLine, Spells, IsWithin, IsCause, Gives};
+ghost use Rattle.fk_run.specs.TraceReading as steps;
+ghost use Rattle.fk_model.specs.declared.moves.Move as moves_of;
+
+use super::PlayFail;
+use fk_model::{List as Items, Move, Who, plain_number_up_to};
+use std::alloc::Global;
+
+fn index_of(byte: u8, text: &[u8]) -> Option<usize>
+    ensures { result ≡ position (λ b. b == byte) text.now }
+{
+    text.iter().position(|b| *b == byte)
+}
+
+/// What stands before and after the first such byte.
+#[tactic(auto, unfolding(crate::specs::TraceReading::cut_at))]
+fn cut_at(byte: u8, text: &[u8]) -> Option<(&[u8], &[u8])>
+    ensures { option_map (λ parts. (parts.0.now, parts.1.now)) result ≡ steps.cut_at byte text.now }
+{
+    let at = index_of(byte, text)?;
+    Some((&text[..at], &text[at + 1..]))
+}
+
+#[tactic(auto, unfolding(crate::specs::TraceReading::who_of))]
+fn who_of(text: &[u8]) -> Option<Who>
+    ensures { result ≡ steps.who_of text.now }
+{
+    let (space, slot) = cut_at(b'.', text)?;
+    let space = plain_number_up_to(4_294_967_295, space)?;
+    let slot = plain_number_up_to(255, slot)?;
+    Some(Who {
+        space: space as u32,
+        slot: slot as u8,
+    })
+}
+
+#[tactic(auto, unfolding(crate::specs::TraceReading::move_of))]
+fn move_of(text: &[u8]) -> Option<Move>
+    ensures { result ≡ steps.move_of text.now }
+{
+    match cut_at(b' ', text) {
+        None => Some(Move {
+            who: who_of(text)?,
+            pick: None,
+        }),
+        Some((who, pick)) => Some(Move {
+            who: who_of(who)?,
+            pick: Some(who_of(pick)?),
+        }),
+    }
+}
+
+/// What stands after the first line of a trace, where a text begins with that.
+fn after_first_line(text: &[u8]) -> Option<&[u8]>
+    ensures found { IfSome result (λ rest. text.now ≡ first_line ++ rest.now) }
+    ensures none { IfNone result (HasNoFirstLine text.now) }
+{
+    text.strip_prefix(b"fluke-trace 1\n")
+}
+
+/// The move whose line a text begins with, and what stands after that line.
+fn first_move(text: &[u8]) -> Option<(Move, &[u8])>
+    ensures found { IfSome result (λ first. BeginsWith text.now first.0 first.1.now) }
+    ensures none { IfNone result (BeginsWithNone (λ _. ⊤) text.now) }
+{
+    let (line, after) = cut_at(b'\n', text)?;
+    Some((move_of(line)?, after))
+}
+
+/// The move whose line a text begins with, where it may follow so many others, and what stands after
+/// that line.
+fn next_move(budget: u64, done: u64, text: &[u8]) -> Option<(Move, &[u8])>
+    ensures found { IfSome result (λ first. BeginsWith text.now first.0 first.1.now) }
+    ensures within { OnSome result (done < budget) }
+    ensures none { IfNone result (BeginsWithNone (λ _. done < budget) text.now) }
+{
+    if done < budget {
+        first_move(text)
+    } else {
+        None
+    }
+}
+
+/// The moves of a trace, of which there may be as many as the budget has.
+///
+/// # Errors
+///
+/// `Trace` with the index of the first line that is misspelled or stands at the budget; a bad first
+/// line of the text counts as that of the move 0. `NoMemory` where there is no memory for the moves.
+pub fn read_trace(alloc: Global, budget: u64, text: &[u8]) -> Result<Items<Move>, PlayFail>
+    ensures found { IfOk result (λ moves. Spells (IsWithin budget) text.now moves) }
+    ensures cause { IfErr result (λ fail. IsCause (IsWithin budget) text.now fail) }
+    ensures back { (moves : List moves_of.Move) → Spells (IsWithin budget) text.now moves → Gives moves result }
+{
+    let Some(mut rest) = after_first_line(text) else {
+        return Err(PlayFail::Trace { index: 0 });
+    };
+    let mut moves = Items::new(alloc);
+    while !rest.is_empty() {
+        let index = moves.len() as u64;
+        let Some((one, after)) = next_move(budget, index, rest) else {
+            return Err(PlayFail::Trace { index });
+        };
+        moves.push(one)?;
+        rest = after;
+    }
+    Ok(moves)
+}
