@@ -18,3 +18,4 @@ pub mod NextKeys
 pub mod HoldLaws
 pub mod Enumerated
 pub mod ReachLaws
+pub mod Scans

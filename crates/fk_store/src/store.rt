@@ -1,5 +1,5 @@
 //! The store of all objects and pages.
-ghost use Rattle.std.specs.Prelude.{◌≡◌, IsTrue, ◌≢◌, ◌↔◌, ℕ, ◌<◌, ◌∷◌, OnOk, OnErr, IsOk, Some, None, IsSome, IfSome, IfOk, option_map};
+ghost use Rattle.std.specs.Prelude.{◌≡◌, IsTrue, ◌≢◌, ◌↔◌, ℕ, ◌<◌, ◌≤◌, ◌*◌, ◌∷◌, OnOk, OnErr, IsOk, Some, None, IsSome, IfSome, IfOk, option_map};
 ghost use Rattle.std.specs.Option.{option_copied};
 ghost use Rattle.fk_model.specs.Objects.{kind_of};
 ghost use Rattle.fk_model.specs.World.{Edit, edited, apply};
@@ -7,7 +7,7 @@ ghost use Rattle.fk_model.specs.World.Change.{Alter, Make, PutPage, DropPage};
 ghost use Rattle.fk_model.specs.Valid.{kind_there};
 ghost use Rattle.fk_model.specs.Places.{Path};
 ghost use Rattle.fk_model.specs.declared.names.Who.{Who};
-ghost use Rattle.fk_store.specs.Names.{who_cmp};
+ghost use Rattle.fk_store.specs.Names.{who_cmp, rank};
 ghost use Rattle.fk_store.specs.Orders.{IsFirstAfter};
 ghost use Rattle.fk_store.specs.Makes.{making, IsNext, next_by};
 ghost use Rattle.fk_store.specs.Paths.{path, IsAtHome, IsApart};
@@ -82,6 +82,10 @@ impl Store {
     /// is none.
     pub fn after(&self, who: Option<Who>) -> Option<Who>
         ensures first { IsFirstAfter who_cmp (IsLive self.now) who result }
+
+        // So a scan of all objects comes to its end.
+        ensures rises { IfSome result (λ next. rank who < rank (Some next)) }
+        ensures ends { IfSome result (λ next. rank (Some next) ≤ (world self.now).next * 256) }
 
         // Every object but the root has a name.
         ensures named { (k : ℕ) (s : Path) → IsSome (kind_there (world self.now) (k ∷ s))
