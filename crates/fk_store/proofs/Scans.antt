@@ -1,9 +1,9 @@
 -- Scans: a loop over all objects, from each to the next.
-use Rattle.std.proofs.Common.{◌≡◌, ℕ, ◌+◌, ◌*◌, ◌<◌, ◌≤◌, min, IfSome, ◌⊎◌, inl, inr, Bool, true, false, Option, Some, None, refl, sym, ap, subst, ◌∙◌, arith}
+use Rattle.std.proofs.Common.{◌≡◌, ◌*◌, ◌<◌, ◌≤◌, IfSome, Bool, true, false, Option, Some, None, refl, subst, arith}
 use Rattle.std.proofs.lemmas.Bool.Decides.{nat_tests}
 use Rattle.std.specs.declared.cmp.Ordering.{Ordering}
 use Rattle.std.specs.declared.cmp.Ordering.TheVariants.{Less, Equal, Greater}
-use Rattle.std.specs.Ordering.{is_lt, is_le, ordering_reverse, nat_cmp, ordering_then}
+use Rattle.std.specs.Ordering.{is_lt, is_le}
 use Rattle.fk_model.specs.declared.names.Who.{Who}
 use Rattle.fk_store.specs.Names.{who_cmp, rank}
 use Rattle.fk_store.specs.Orders.{comes_after, IsFirstAfter}
@@ -11,7 +11,7 @@ use Rattle.fk_store.specs.Contents.{Contents}
 use Rattle.fk_store.specs.World.{world}
 use Rattle.fk_store.specs.Kept.{is_there, IsKept}
 use Rattle.fk_store.proofs.Makes.{live-born}
-use Rattle.fk_store.proofs.NameLaws.{who_total, who_exact}
+use Rattle.fk_store.proofs.NameLaws.{who_exact}
 
 module _ (P : Who → Type 0) (k : Option Who) (who : Who) (first : IsFirstAfter who_cmp P k (Some who)) where
   -- those that don't come after the next one are those that were passed, and the next one
