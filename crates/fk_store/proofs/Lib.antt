@@ -21,3 +21,4 @@ pub mod NextKeys
 pub mod HoldLaws
 pub mod Enumerated
 pub mod ReachLaws
+pub mod Scans
