@@ -17,6 +17,7 @@ ghost use Rattle.fk_store.specs.Kept.{IsSized};
 ghost use Rattle.fk_store.specs.World.{world, first_world, IsLive, IsSpace};
 
 mod holds;
+mod words;
 
 use crate::bodies::Bodies;
 use crate::pages::Pages;
