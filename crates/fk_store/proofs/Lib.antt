@@ -22,3 +22,4 @@ pub mod NextKeys
 pub mod HoldLaws
 pub mod Enumerated
 pub mod ReachLaws
+pub mod Scans

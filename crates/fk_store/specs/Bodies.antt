@@ -1,15 +1,15 @@
--- Bodies: the state of an object with its pointers by path.
+-- Bodies: the state of an object, stored with its pointers by name, with its pointers by path.
 use Rattle.std.specs.Prelude.{ℕ, List, [], option_map, unwrap_or}
-use Rattle.fk_model.specs.declared.names.Ptr as named
+use Rattle.fk_model.specs.declared.names.Ptr.{Ptr as StoredPtr}
 use Rattle.fk_model.specs.declared.names.Ptr.TheVariants as pointers
-use Rattle.fk_model.specs.declared.thread.Mode as modes_of
+use Rattle.fk_model.specs.declared.thread.Mode.{Mode as StoredMode}
 use Rattle.fk_model.specs.declared.thread.Mode.TheVariants as modes
-use Rattle.fk_model.specs.declared.thread.Peer as peers_of
+use Rattle.fk_model.specs.declared.thread.Peer.{Peer as StoredPeer}
 use Rattle.fk_model.specs.declared.thread.Peer.TheVariants as peers
-use Rattle.fk_model.specs.declared.thread.Talk as talks_of
-use Rattle.fk_model.specs.declared.thread.Fault as faults_of
-use Rattle.fk_model.specs.declared.thread.Thread as threads_of
-use Rattle.fk_model.specs.declared.body.Body as bodies_of
+use Rattle.fk_model.specs.declared.thread.Talk.{Talk as StoredTalk}
+use Rattle.fk_model.specs.declared.thread.Fault.{Fault as StoredFault}
+use Rattle.fk_model.specs.declared.thread.Thread.{Thread as StoredThread}
+use Rattle.fk_model.specs.declared.body.Body.{Body as StoredBody}
 use Rattle.fk_model.specs.declared.body.Body.TheVariants as bodies
 use Rattle.fk_model.specs.Places.{Path, Ptr}
 use Rattle.fk_model.specs.Places.Ptr.{Null, Dead, At}
@@ -24,33 +24,33 @@ use Rattle.fk_store.specs.Paths.{place}
 abbrev pub calling : List ℕ → Mode
 calling g = let todo = unwrap_or (todo_of g) [] in Calling todo (rest_of todo g)
 
-abbrev pub mode_by : modes_of.Mode → List ℕ → Mode
+abbrev pub mode_by : StoredMode → List ℕ → Mode
 mode_by modes.Running g = Running g
 mode_by modes.Calling g = calling g
 mode_by (modes.Halted code) g = Halted g code
 mode_by modes.Native g = Native g
 
 -- what follows takes the paths of spaces
-abbrev pub pointer_by : (ℕ → Path) → named.Ptr → Ptr
+abbrev pub pointer_by : (ℕ → Path) → StoredPtr → Ptr
 pointer_by path pointers.Null = Null
 pointer_by path pointers.Dead = Dead
 pointer_by path (pointers.At who) = At (place path who)
 
-abbrev pub peer_by : (ℕ → Path) → peers_of.Peer → Peer
+abbrev pub peer_by : (ℕ → Path) → StoredPeer → Peer
 peer_by path (peers.Thread who) = Server (At (place path who))
 peer_by path peers.Service = Service
 peer_by path peers.Parked = Parked
 
-abbrev pub talk_by : (ℕ → Path) → talks_of.Talk → Talk
+abbrev pub talk_by : (ℕ → Path) → StoredTalk → Talk
 talk_by path talk = record { port = At (place path talk.port); peer = peer_by path talk.peer; turn = talk.turn; moved = talk.moved }
 
-abbrev pub fault_by : (ℕ → Path) → faults_of.Fault → Fault
+abbrev pub fault_by : (ℕ → Path) → StoredFault → Fault
 fault_by path fault = record { page = fault.page; write = fault.write; port = At (place path fault.port); taker = option_map (peer_by path) fault.taker }
 
-abbrev pub thread_by : (ℕ → Path) → threads_of.Thread → Thread
+abbrev pub thread_by : (ℕ → Path) → StoredThread → Thread
 thread_by path t = record { mode = mode_by t.mode t.regs; counter = t.pc; stops = t.stops; talk = option_map (talk_by path) t.talk; fault = option_map (fault_by path) t.fault }
 
-abbrev pub body_by : (ℕ → Path) → bodies_of.Body → Body
+abbrev pub body_by : (ℕ → Path) → StoredBody → Body
 body_by path (bodies.Mutex locked) = Mutex locked
 body_by path bodies.Cond = Cond
 body_by path (bodies.Mapping first count offset write region) = Mapping (record { first = first; count = count; offset = offset; write = write; region = pointer_by path region })

@@ -1,5 +1,5 @@
 -- Names: an object is named by the birth number of its space and its slot there, a page likewise. Their orders.
-use Rattle.std.specs.Prelude.{ℕ, Bool, ◌&&◌, ◌==◌, refl}
+use Rattle.std.specs.Prelude.{ℕ, ◌+◌, ◌*◌, min, Bool, ◌&&◌, ◌==◌, Option, Some, None, refl}
 use Rattle.std.specs.declared.cmp.Ordering.{Ordering}
 use Rattle.std.specs.Ordering.{nat_cmp, ordering_then}
 use Rattle.std.specs.Coded.{Coded, code_by, coded×, coded_ℕ}
@@ -22,3 +22,8 @@ page_cmp a b = ordering_then (nat_cmp a.0 b.0) (nat_cmp a.1 b.1)
 
 abbrev pub coded_who : Coded Who
 coded_who = code_by (ℕ × ℕ) (coded× coded_ℕ coded_ℕ) (λ w. (w.space, w.slot)) (λ p. at p.0 p.1) (λ _. refl)
+
+-- how many names there are up to this one; none where there is no name. It rises where a scan goes on
+abbrev pub rank : Option Who → ℕ
+rank None = 0
+rank (Some who) = 1 + (who.space * 256 + min 255 who.slot)

@@ -6,6 +6,7 @@ use Rattle.fk_model.specs.Objects.{Body, and_then}
 use Rattle.fk_model.specs.Objects.Body.{Space}
 use Rattle.fk_model.specs.World.{World}
 use Rattle.fk_model.specs.Valid.{kind_there, birth_at}
+use Rattle.fk_model.specs.declared.body.Body.{Body as StoredBody}
 use Rattle.fk_model.specs.declared.names.Who.{Who}
 use Rattle.fk_store.specs.Names.{at}
 use Rattle.fk_store.specs.Contents.{Contents}
@@ -27,9 +28,16 @@ page_at m s page = and_then (λ n. get m.pages (n, page)) (space_at m s)
 unfoldable pub world : Contents → World
 world m = record { body = body_at m; page = page_at m; next = m.next }
 
+-- the path of an object, and a body by paths
+abbrev pub place_of : Contents → Who → Path
+place_of m who = place (path m) who
+
+abbrev pub body_of : Contents → StoredBody → Body
+body_of m b = body_by (path m) b
+
 -- the object is there
 abbrev pub IsLive : Contents → Who → Type 0
-IsLive m who = IsSome (kind_there (world m) (place (path m) who))
+IsLive m who = IsSome (kind_there (world m) (place_of m who))
 
 -- the space with this birth number is there
 abbrev pub IsSpace : Contents → ℕ → Type 0

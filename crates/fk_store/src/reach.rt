@@ -32,7 +32,7 @@ pub enum Reach {
 
 /// The state of a mapping.
 #[derive(Clone, Copy)]
-pub struct Window {
+struct Window {
     first: u8,
     count: u16,
     offset: u8,
@@ -42,7 +42,7 @@ pub struct Window {
 
 /// The state of a region.
 #[derive(Clone, Copy)]
-pub struct Extent {
+struct Extent {
     first: u8,
     count: u16,
     write: bool,
@@ -51,7 +51,7 @@ pub struct Extent {
 
 /// What one page of a space comes to.
 #[derive(Clone, Copy)]
-pub enum Hop {
+enum Hop {
     Home,
     Missing(Option<Who>),
     Broken,
@@ -115,7 +115,8 @@ impl Store {
     /// the keeper.
     #[tactic(auto, using(crate::proofs::ReachLaws::hops))]
     pub fn reach(&self, space: u32, page: u8, write: bool) -> Reach
-        ensures { reach_by (path self.now) result ≡ definition.reach (world self.now) (path self.now space) page write }
+        ensures { reach_by (path self.now) result
+            ≡ definition.reach (world self.now) (path self.now space) page write }
     {
         let mut at = space;
         let mut here = page;
@@ -146,7 +147,8 @@ impl Store {
 
     /// What a page comes to after 16 mappings.
     fn last(&self, space: u32, page: u8, write: bool) -> Reach
-        ensures { reach_by (path self.now) result ≡ definition.reach_by zero (world self.now) (path self.now space) page write }
+        ensures { reach_by (path self.now) result
+            ≡ definition.reach_by zero (world self.now) (path self.now space) page write }
     {
         match self.hop(space, page, write) {
             Hop::Home => Reach::Home { space, page },
@@ -162,8 +164,11 @@ impl Store {
     /// What one page of a space comes to.
     #[tactic(auto, unfolding(fk_model::specs::Reach::reach_by))]
     fn hop(&self, space: u32, page: u8, write: bool) -> Hop
-        ensures more { (n : ℕ) → definition.reach_by (suc n) (world self.now) (path self.now space) page write ≡ hop_by (path self.now) (λ s other. definition.reach_by n (world self.now) s other write) (path self.now space) page result }
-        ensures last { definition.reach_by zero (world self.now) (path self.now space) page write ≡ hop_by (path self.now) (λ s other. definition.Reach.Bad) (path self.now space) page result }
+        ensures more { (n : ℕ) → let on = λ (s : Path) (other : ℕ). definition.reach_by n (world self.now) s other write in
+            definition.reach_by (suc n) (world self.now) (path self.now space) page write
+            ≡ hop_by (path self.now) on (path self.now space) page result }
+        ensures last { definition.reach_by zero (world self.now) (path self.now space) page write
+            ≡ hop_by (path self.now) (λ s other. definition.Reach.Bad) (path self.now space) page result }
     {
         if self.page(space, page).is_some() {
             return Hop::Home;
@@ -179,7 +184,8 @@ impl Store {
 
     /// The mapping in the lowest slot that covers a page.
     fn mapping_at(&self, space: u32, page: u8) -> Option<Window>
-        ensures { option_map (window_by (path self.now)) result ≡ definition.mapping_at (world self.now) (path self.now space) page }
+        ensures { option_map (window_by (path self.now)) result
+            ≡ definition.mapping_at (world self.now) (path self.now space) page }
     {
         for slot in 0..256u16 {
             let found = self.mapping_in(space, slot as u8, page);
@@ -192,7 +198,8 @@ impl Store {
 
     /// The mapping in a slot, where there is one that covers a page.
     fn mapping_in(&self, space: u32, slot: u8, page: u8) -> Option<Window>
-        ensures { option_map (window_by (path self.now)) result ≡ covering_mapping (world self.now) (path self.now space) page slot }
+        ensures { option_map (window_by (path self.now)) result
+            ≡ covering_mapping (world self.now) (path self.now space) page slot }
     {
         let mapping = window_of(self.at(Who { space, slot })?)?;
         if covers(mapping.first, mapping.count, page) {
@@ -204,7 +211,8 @@ impl Store {
 
     /// The region in the lowest slot that covers a page.
     fn region_at(&self, space: u32, page: u8) -> Option<Extent>
-        ensures { option_map (extent_by (path self.now)) result ≡ definition.region_at (world self.now) (path self.now space) page }
+        ensures { option_map (extent_by (path self.now)) result
+            ≡ definition.region_at (world self.now) (path self.now space) page }
     {
         for slot in 0..256u16 {
             let found = self.region_in(space, slot as u8, page);
@@ -217,7 +225,8 @@ impl Store {
 
     /// The region in a slot, where there is one that covers a page.
     fn region_in(&self, space: u32, slot: u8, page: u8) -> Option<Extent>
-        ensures { option_map (extent_by (path self.now)) result ≡ covering_region (world self.now) (path self.now space) page slot }
+        ensures { option_map (extent_by (path self.now)) result
+            ≡ covering_region (world self.now) (path self.now space) page slot }
     {
         let region = extent_of(self.at(Who { space, slot })?)?;
         if covers(region.first, region.count, page) {
@@ -245,7 +254,9 @@ impl Store {
 
     /// The page of another space to which a mapping leads.
     fn led_by(&self, mapping: &Window, page: u8, write: bool) -> Option<(u32, u8)>
-        ensures { option_map (place_by (path self.now)) result ≡ definition.led_by (world self.now) (window_by (path self.now) mapping.now) page write (pointer_by (path self.now) mapping.now.region) }
+        ensures { let m = window_by (path self.now) mapping.now in
+            option_map (place_by (path self.now)) result
+            ≡ definition.led_by (world self.now) m page write m.region }
     {
         match mapping.region {
             Ptr::At(to) => self.led_to(mapping, page, write, to),
@@ -255,7 +266,11 @@ impl Store {
 
     /// The same where the mapping leads to this object.
     fn led_to(&self, mapping: &Window, page: u8, write: bool, to: Who) -> Option<(u32, u8)>
-        ensures { option_map (place_by (path self.now)) result ≡ and_then (definition.page_in (window_by (path self.now) mapping.now) page write (place (path self.now) to)) (and_then region_of ((world self.now).body (place (path self.now) to))) }
+        ensures { let region = place (path self.now) to in
+            option_map (place_by (path self.now)) result
+            ≡ and_then
+            (definition.page_in (window_by (path self.now) mapping.now) page write region)
+            (and_then region_of ((world self.now).body region)) }
     {
         let body = self.at(to)?;
         let region = extent_of(body)?;

@@ -1,5 +1,5 @@
 //! The store of all objects and pages.
-ghost use Rattle.std.specs.Prelude.{◌≡◌, IsTrue, ◌≢◌, ◌↔◌, ℕ, ◌<◌, ◌∷◌, OnOk, OnErr, IsOk, Some, None, IsSome, IfSome, IfOk, option_map};
+ghost use Rattle.std.specs.Prelude.{◌≡◌, IsTrue, ◌≢◌, ◌↔◌, ℕ, ◌<◌, ◌≤◌, ◌*◌, ◌∷◌, OnOk, OnErr, IsOk, Some, None, IsSome, IfSome, IfOk, option_map};
 ghost use Rattle.std.specs.Option.{option_copied};
 ghost use Rattle.fk_model.specs.Objects.{kind_of};
 ghost use Rattle.fk_model.specs.World.{Edit, edited, apply};
@@ -7,14 +7,13 @@ ghost use Rattle.fk_model.specs.World.Change.{Alter, Make, PutPage, DropPage};
 ghost use Rattle.fk_model.specs.Valid.{kind_there};
 ghost use Rattle.fk_model.specs.Places.{Path};
 ghost use Rattle.fk_model.specs.declared.names.Who.{Who};
-ghost use Rattle.fk_store.specs.Names.{who_cmp};
+ghost use Rattle.fk_store.specs.Names.{who_cmp, rank};
 ghost use Rattle.fk_store.specs.Orders.{IsFirstAfter};
 ghost use Rattle.fk_store.specs.Makes.{making, IsNext, next_by};
-ghost use Rattle.fk_store.specs.Paths.{path, place, IsAtHome, IsApart};
-ghost use Rattle.fk_store.specs.Bodies.{body_by};
+ghost use Rattle.fk_store.specs.Paths.{path, IsAtHome, IsApart};
 ghost use Rattle.fk_store.specs.Named.{OnNamed};
 ghost use Rattle.fk_store.specs.Kept.{IsSized};
-ghost use Rattle.fk_store.specs.World.{world, first_world, IsLive, IsSpace};
+ghost use Rattle.fk_store.specs.World.{world, first_world, place_of, body_of, IsLive, IsSpace};
 
 mod holds;
 mod words;
@@ -67,8 +66,10 @@ impl Store {
 
     /// The body of an object. The root has no name, and so no body here.
     pub fn at(&self, who: Who) -> Option<&Body>
-        ensures body { (world self.now).body (place (path self.now) who) ≡ option_map (body_by (path self.now)) (option_copied result) }
-        ensures kind { kind_there (world self.now) (place (path self.now) who) ≡ option_map (λ body. kind_of (body_by (path self.now) body)) (option_copied result) }
+        ensures body { (world self.now).body (place_of self.now who)
+            ≡ option_map (body_of self.now) (option_copied result) }
+        ensures kind { kind_there (world self.now) (place_of self.now who)
+            ≡ option_map (λ body. kind_of (body_of self.now body)) (option_copied result) }
         ensures space { IsSome result → IsSpace self.now who.space }
         ensures home { IfSome result (λ body. IsAtHome (path self.now) who body.now) }
         ensures named { IfSome result (λ body. OnNamed (IsLive self.now) body.now) }
@@ -83,8 +84,13 @@ impl Store {
     pub fn after(&self, who: Option<Who>) -> Option<Who>
         ensures first { IsFirstAfter who_cmp (IsLive self.now) who result }
 
+        // So a scan of all objects comes to its end.
+        ensures rises { IfSome result (λ next. rank who < rank (Some next)) }
+        ensures ends { IfSome result (λ next. rank (Some next) ≤ (world self.now).next * 256) }
+
         // Every object but the root has a name.
-        ensures named { (k : ℕ) (s : Path) → IsSome (kind_there (world self.now) (k ∷ s)) → (other : Who) × (place (path self.now) other ≡ k ∷ s) }
+        ensures named { (k : ℕ) (s : Path) → IsSome (kind_there (world self.now) (k ∷ s))
+            → (other : Who) × (place_of self.now other ≡ k ∷ s) }
     {
         self.bodies.after(who)
     }
@@ -93,7 +99,7 @@ impl Store {
     /// space is live.
     pub fn home(&self, space: u32) -> Option<Who>
         ensures some { IsSome result ↔ ((0 < space) × IsSpace self.now space) }
-        ensures place { IfSome result (λ who. path self.now space ≡ place (path self.now) who) }
+        ensures place { IfSome result (λ who. path self.now space ≡ place_of self.now who) }
         ensures older { IfSome result (λ who. who.space < space) }
     {
         self.bodies.home(space)
@@ -109,12 +115,16 @@ impl Store {
     /// Gives an object another body of its kind. A space keeps its birth number, what the body names
     /// is there, and the pages of a mapping or a region are among 0 to 255.
     pub fn set(&mut self, who: Who, body: Body)
-        requires kind { kind_there (world self.old) (place (path self.old) who) ≡ Some (kind_of (body_by (path self.old) body)) }
+        requires kind { kind_there (world self.old) (place_of self.old who)
+            ≡ Some (kind_of (body_of self.old body)) }
         requires home { IsAtHome (path self.old) who body }
         requires named { OnNamed (IsLive self.old) body }
         requires sized { IsSized body }
-        ensures world { world self.new ≡ apply (Make (place (path self.old) who) (body_by (path self.old) body)) (world self.old) }
-        ensures edits { (e : Edit) → option_map (edited e) ((world self.old).body (place (path self.old) who)) ≡ Some (body_by (path self.old) body) → world self.new ≡ apply (Alter (place (path self.old) who) e) (world self.old) }
+        ensures world { world self.new ≡ apply (Make (place_of self.old who) (body_of self.old body)) (world self.old) }
+        ensures edits { (e : Edit)
+            → option_map (edited e) ((world self.old).body (place_of self.old who))
+            ≡ Some (body_of self.old body)
+            → world self.new ≡ apply (Alter (place_of self.old who) e) (world self.old) }
         ensures kinds { kind_there (world self.new) ≡ kind_there (world self.old) }
         ensures paths { path self.new ≡ path self.old }
     {
@@ -126,17 +136,19 @@ impl Store {
     /// are among 0 to 255. For want of memory all stays as it was.
     pub fn make(&mut self, who: Who, body: Body) -> Result<(), NoMemory>
         requires space { IsSpace self.old who.space }
-        requires empty { (world self.old).body (place (path self.old) who) ≡ None }
+        requires empty { (world self.old).body (place_of self.old who) ≡ None }
         requires birth { IsNext (world self.old).next body }
         requires named { OnNamed (IsLive self.old) body }
         requires sized { IsSized body }
-        ensures world { OnOk result (world self.new ≡ apply (making (place (path self.old) who) (body_by (path self.old) body)) (world self.old)) }
+        ensures world { let change = making (place_of self.old who) (body_of self.old body) in
+            OnOk result (world self.new ≡ apply change (world self.old)) }
         ensures home { OnOk result (IsAtHome (path self.new) who body) }
         ensures err { OnErr result (self.new ≡ self.old) }
 
         // What was there is of its kind still, and has its path.
-        ensures kinds { (x : Path) → IsSome (kind_there (world self.old) x) → kind_there (world self.new) x ≡ kind_there (world self.old) x }
-        ensures places { (other : Who) → IsLive self.old other → place (path self.new) other ≡ place (path self.old) other }
+        ensures kinds { (x : Path) → IsSome (kind_there (world self.old) x)
+            → kind_there (world self.new) x ≡ kind_there (world self.old) x }
+        ensures places { (other : Who) → IsLive self.old other → place_of self.new other ≡ place_of self.old other }
         ensures paths { (n : ℕ) → n ≢ (world self.old).next → path self.new n ≡ path self.old n }
     {
         self.bodies.put(who, body)?;
@@ -155,7 +167,8 @@ impl Store {
     /// takes no memory. For want of memory all stays as it was.
     pub fn put_page(&mut self, space: u32, page: u8, words: &[u64; 64]) -> Result<(), NoMemory>
         requires { IsSpace self.old space }
-        ensures world { OnOk result (world self.new ≡ apply (PutPage (path self.old space) page words.now) (world self.old)) }
+        ensures world { let change = PutPage (path self.old space) page words.now in
+            OnOk result (world self.new ≡ apply change (world self.old)) }
         ensures there { IsSome ((world self.old).page (path self.old space) page) → IsOk result }
         ensures err { OnErr result (self.new ≡ self.old) }
         ensures kinds { kind_there (world self.new) ≡ kind_there (world self.old) }

@@ -2,9 +2,9 @@
 ghost use Rattle.std.specs.Prelude.{◌≡◌, Some, IfSome, option_map, nat_eq, ◌&&◌};
 ghost use Rattle.fk_model.specs.Places.Ptr.{At};
 ghost use Rattle.fk_model.specs.Holds as holds;
-ghost use Rattle.fk_store.specs.Paths.{path, place, IsApart};
+ghost use Rattle.fk_store.specs.Paths.{path, IsApart};
 ghost use Rattle.fk_store.specs.Named.{Each};
-ghost use Rattle.fk_store.specs.World.{world, IsLive};
+ghost use Rattle.fk_store.specs.World.{world, place_of, IsLive};
 
 use crate::Store;
 use fk_model::{Body, Who};
@@ -13,7 +13,8 @@ impl Store {
     /// The thread that decides over an object: the holder of the outermost hold on it or on a space
     /// above it.
     pub fn decider(&self, object: Who) -> Option<Who>
-        ensures decider { option_map (λ who. At (place (path self.now) who)) result ≡ holds.decider (world self.now) (place (path self.now) object) }
+        ensures decider { option_map (λ who. At (place_of self.now who)) result
+            ≡ holds.decider (world self.now) (place_of self.now object) }
         ensures live { Each (IsLive self.now) result }
         ensures apart { Each (IsApart (path self.now)) result }
     {
@@ -43,7 +44,7 @@ impl Store {
 
     /// An object is held, or a space above it, and somebody else than this thread decides there.
     pub fn frozen_for(&self, me: Who, object: Who) -> bool
-        ensures { result ≡ holds.is_frozen_for (world self.now) (place (path self.now) me) (place (path self.now) object) }
+        ensures { result ≡ holds.is_frozen_for (world self.now) (place_of self.now me) (place_of self.now object) }
     {
         match self.decider(object) {
             None => false,
@@ -53,7 +54,8 @@ impl Store {
 
     /// The holder of an object, if it is a space that is held.
     fn holder(&self, object: Who) -> Option<Who>
-        ensures holder { option_map (λ who. At (place (path self.now) who)) result ≡ holds.holder_of ((world self.now).body (place (path self.now) object)) }
+        ensures holder { option_map (λ who. At (place_of self.now who)) result
+            ≡ holds.holder_of ((world self.now).body (place_of self.now object)) }
         ensures live { Each (IsLive self.now) result }
     {
         match self.at(object) {
