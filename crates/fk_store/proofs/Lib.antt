@@ -1,3 +1,4 @@
+pub mod WordLaws
 pub mod Freedom
 pub mod MutexLaws
 pub mod ThreadLaws

@@ -16,6 +16,7 @@ ghost use Rattle.fk_store.specs.Kept.{IsSized};
 ghost use Rattle.fk_store.specs.World.{world, first_world, place_of, body_of, IsLive, IsSpace};
 
 mod holds;
+mod words;
 
 use crate::bodies::Bodies;
 use crate::pages::Pages;

@@ -1,0 +1,61 @@
+//! Where the words of a space are.
+ghost use Rattle.std.specs.Prelude.{◌≡◌, ◌<◌, IsSome, slice_set};
+ghost use Rattle.fk_model.specs.Reach as definition;
+ghost use Rattle.fk_model.specs.Holds as holds;
+ghost use Rattle.fk_model.specs.World.{apply};
+ghost use Rattle.fk_model.specs.World.Change.{PutPage};
+ghost use Rattle.fk_model.specs.Valid.{kind_there};
+ghost use Rattle.fk_store.specs.Paths.{path, place};
+ghost use Rattle.fk_store.specs.Reaches.{reach_by};
+ghost use Rattle.fk_store.specs.Words.{IsReached};
+ghost use Rattle.fk_store.specs.World.{world, IsSpace};
+
+use crate::{Reach, Store};
+use fk_model::Who;
+use fk_model::limits::{PAGE_WORDS, SPACE_WORDS};
+
+impl Store {
+    /// Where the word at an address of a space is read or written; bad past the last page.
+    pub fn reach_word(&self, space: u32, address: u64, write: bool) -> Reach
+        ensures reach { reach_by (path self.now) result ≡ definition.reach_word (world self.now) (path self.now space) address write }
+
+        // A page that answers is there, and so is a keeper.
+        ensures there { IsReached self.now result }
+    {
+        let _bodies = &self.bodies;
+        if address < SPACE_WORDS {
+            self.reach(space, (address / PAGE_WORDS) as u8, write)
+        } else {
+            Reach::Bad
+        }
+    }
+
+    /// Writes a word of a page that is there.
+    pub fn put_word(&mut self, space: u32, page: u8, at: u8, word: u64)
+        requires space { IsSpace self.old space }
+        requires there { IsSome ((world self.old).page (path self.old space) page) }
+        requires at { at < 64 }
+        ensures world { world self.new ≡ apply (PutPage (path self.old space) page (slice_set (definition.words_at (world self.old) (path self.old space) page) at word)) (world self.old) }
+        ensures kinds { kind_there (world self.new) ≡ kind_there (world self.old) }
+        ensures paths { path self.new ≡ path self.old }
+    {
+        match self.page(space, page) {
+            Some(&old) => {
+                let mut words = old;
+                words[at as usize] = word;
+                self.put_page(space, page, &words).unwrap();
+            }
+            None => unreachable!(),
+        }
+    }
+
+    /// A space is held, or one above it, and somebody else than this thread decides there.
+    pub fn space_frozen_for(&self, me: Who, space: u32) -> bool
+        ensures { result ≡ holds.is_frozen_for (world self.now) (place (path self.now) me) (path self.now space) }
+    {
+        match self.bodies.home(space) {
+            None => false,
+            Some(who) => self.frozen_for(me, who),
+        }
+    }
+}
