@@ -2,7 +2,7 @@
 use Rattle.std.proofs.Common.{◌≡◌, ℕ, ◌^◌, ◌<◌, ◌≤◌, ◌==◌, false, List, ◌∷◌, ◌++◌, Option, Some, None, decimal, IfSome, refl, sym, ap, ◌∙◌, arith}
 use Rattle.std.proofs.lemmas.List.{append-nil}
 use Rattle.std.proofs.lemmas.Option.{same_Some}
-use Rattle.fk_model.specs.declared.moves.Who.{Who}
+use Rattle.fk_model.specs.declared.names.Who.{Who}
 use Rattle.fk_model.specs.declared.moves.Move.{Move}
 use Rattle.fk_model.specs.Numbers.{plain_number_up_to}
 use Rattle.fk_model.proofs.Decimals.{plain_number_up_to-decimal, plain_number_up_to-only, plain_number_up_to-le, decimal_avoids}

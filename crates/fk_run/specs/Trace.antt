@@ -1,7 +1,7 @@
 -- Traces: how the moves of a run are spelled, and where a text stops being a trace.
 use Rattle.std.specs.Prelude.{◌≡◌, ◌≢◌, ◌⊎◌, ℕ, ◌^◌, ◌<◌, List, [], ◌∷◌, ◌++◌, Option, Some, None, Result, Ok, Err, IfSome, All, codes, decimal, length}
 use Rattle.std.specs.List.{flat_map}
-use Rattle.fk_model.specs.declared.moves.Who.{Who}
+use Rattle.fk_model.specs.declared.names.Who.{Who}
 use Rattle.fk_model.specs.declared.moves.Move.{Move}
 use Rattle.fk_run.specs.declared.trace.PlayFail.{PlayFail}
 use Rattle.fk_run.specs.declared.trace.PlayFail.TheVariants.{Trace, NoMemory}

@@ -1,7 +1,7 @@
 -- How the line of a move is read. No promise rests on these steps: they are proved to read just what is spelled.
 use Rattle.std.specs.Prelude.{ℕ, ◌+◌, ◌==◌, List, Option, Some, None, take, drop, position}
 use Rattle.std.specs.Option.{option_map}
-use Rattle.fk_model.specs.declared.moves.Who.{Who}
+use Rattle.fk_model.specs.declared.names.Who.{Who}
 use Rattle.fk_model.specs.declared.moves.Move.{Move}
 use Rattle.fk_model.specs.Numbers.{plain_number_up_to}
 
