@@ -1,5 +1,5 @@
 -- What every scenario that is read keeps: what a machine rests on that begins with it.
-use Rattle.std.specs.Prelude.{◌≡◌, ℕ, ◌<◌, ◌≤◌, Bool, true, false, List, [], ◌∷◌, ◌++◌, length, All, Option, IfSome}
+use Rattle.std.specs.Prelude.{◌≡◌, ℕ, ◌<◌, ◌≤◌, true, false, List, [], ◌∷◌, ◌++◌, length, All, IfSome}
 use Rattle.fk_scenario.specs.declared.scenario.Program.{Program}
 use Rattle.fk_scenario.specs.declared.scenario.SpaceEntry.{SpaceEntry}
 use Rattle.fk_scenario.specs.declared.scenario.ObjectEntry.{ObjectEntry}

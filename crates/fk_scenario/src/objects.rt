@@ -6,7 +6,9 @@ ghost use Rattle.fk_scenario.specs.Gives.{Gives, Answers};
 ghost use Rattle.fk_scenario.specs.Objects as definitions;
 
 use crate::fail::{Fail, ScenarioFail};
-use crate::fields::{KEYS, RANGES, flag_in, integer_in, integers_in, known, needed_text, unless, up_to, words_of};
+use crate::fields::{
+    KEYS, RANGES, flag_in, integer_in, integers_in, known, needed_text, unless, up_to, words_of,
+};
 use crate::paths::{FORMS, parent, path_of};
 use crate::programs::index_at;
 use crate::scenario::{ObjectEntry, SpaceEntry, Spec};
