@@ -1,5 +1,5 @@
 -- A text has at most 16384 words.
-use Rattle.std.proofs.Common.{◌≡◌, ℕ, ◌≤◌, Bool, true, false, nat_lt, cond, List, [], ◌∷◌, ◌++◌, length, length-append, Option, Some, None, option_and_then, ok_or, Result, Ok, Err, refl, ap, arith}
+use Rattle.std.proofs.Common.{◌≡◌, ℕ, ◌≤◌, Bool, true, false, nat_lt, cond, List, [], ◌∷◌, ◌++◌, length, length-append, Option, Some, None, option_and_then, ok_or, Ok, refl, ap, arith}
 use Rattle.std.proofs.lemmas.Bool.{ltb-true}
 use Rattle.fk_asm.specs.Assembler.{word_of_line, with_word, with_tokens, with_lines, assembled, fault}
 use Rattle.fk_asm.specs.Lines.{lines_of, tokens_of}

@@ -1,11 +1,11 @@
 -- A scenario that is read keeps what a machine rests on.
-use Rattle.std.proofs.Common.{◌≡◌, ℕ, ℤ, pos, negsuc, ◌+◌, ◌<◌, ◌≤◌, Bool, true, false, not, ◌&&◌, ◌||◌, ◌==◌, nat_le, nat_lt, cond, List, [], ◌∷◌, ◌++◌, append_assoc, append-nil, length, Option, Some, None, Result, Ok, Err, IfSome, unwrap_or, refl, ap, sym, subst, codes, arith}
+use Rattle.std.proofs.Common.{◌≡◌, ℕ, ℤ, pos, negsuc, ◌+◌, ◌<◌, ◌≤◌, Bool, true, false, not, ◌&&◌, ◌||◌, ◌==◌, nat_le, nat_lt, cond, List, [], ◌∷◌, ◌++◌, append_assoc, append-nil, length, Option, Some, None, Result, Ok, Err, IfSome, unwrap_or, refl, ap, subst, codes, arith}
 use Rattle.std.proofs.lemmas.Bool.{leb-true, ltb-true}
 use Rattle.std.proofs.lemmas.List.Elements.{All-nil, All-push}
 use Rattle.std.proofs.lemmas.List.Quantifiers.{position-Some}
 use Rattle.std.proofs.lemmas.List.Sums.{sum_by_push}
 use Rattle.std.proofs.lemmas.Slice.Eq.{bytes_eq-Decides}
-use Rattle.std.specs.List.{All, count_by, list_all, position, slice_split}
+use Rattle.std.specs.List.{All, list_all, slice_split}
 use Rattle.std.specs.Result.{result_ok}
 use Rattle.std.specs.Str.{bytes_eq}
 use Rattle.toml.specs.Data.{Data, Items, no_items, item, Members, no_members, member, as_str, as_table}
@@ -19,7 +19,7 @@ use Rattle.fk_scenario.specs.declared.scenario.ObjectEntry.{ObjectEntry}
 use Rattle.fk_scenario.specs.declared.scenario.Scenario.{Scenario}
 use Rattle.fk_scenario.specs.declared.scenario.Spec.{Spec}
 use Rattle.fk_scenario.specs.declared.scenario.Spec.TheVariants.{Thread, Mutex}
-use Rattle.fk_scenario.specs.Gives.{◌>>=◌, or_rule, unless, placed}
+use Rattle.fk_scenario.specs.Gives.{or_rule, unless, placed}
 use Rattle.fk_scenario.specs.Fields.{known, text_in, flag_in, integer_in, array_in, table_in, needed_text, needed_integer, integers_in, bytes_from, words_from, ranged, up_to}
 use Rattle.fk_scenario.specs.Paths.{is_name, is_slash, slots_from, path_of, parent}
 use Rattle.fk_scenario.specs.Programs.{words_of, program_of, programs_from, position_of, index_of}
@@ -173,7 +173,7 @@ space_kept programs done ms s h few =
     after (index_of programs program) _ s h (λ index is_index h.
     let same : record { path = path; program = index; pages = pages; nester = false } ≡ s = cc in
     let keeps : KeepsSpace programs done (record { path = path; program = index; pages = pages; nester = false }) =
-        record { slots = path_kept text path is_path; stands = unless-Ok 5 _ x stands; has_program = index_kept programs program index is_index } in
+    record { slots = path_kept text path is_path; stands = unless-Ok 5 _ x stands; has_program = index_kept programs program index is_index } in
     let counted = space_counted done text (record { path = path; program = index; pages = pages; nester = false }) (unless-Ok 3 _ w room) is_path few in
     subst (λ (s : SpaceEntry). KeepsSpace programs done s × (count_beneath (done ++ s ∷ []) ≤ 255)) same (keeps, counted)))))))))))
 

@@ -1,6 +1,5 @@
 -- What is known of a reading that wasn't refused: each of its steps wasn't.
 use Rattle.std.proofs.Common.{◌≡◌, ℕ, Bool, true, false, Option, Some, None, Result, Ok, Err, refl}
-use Rattle.fk_scenario.specs.declared.fail.ScenarioError.{ScenarioError}
 use Rattle.fk_scenario.specs.Gives.{◌>>=◌, or_rule, unless, placed}
 
 -- what follows from the first step and from the rest after it

@@ -5,6 +5,7 @@ use Rattle.std.specs.Str.{bytes_eq}
 use Rattle.toml.specs.Data.{Data, Items, no_items, item, Members, no_members, member, get_member, as_str, as_integer, as_bool, as_array, as_table}
 use Rattle.fk_scenario.specs.Gives.{◌>>=◌, or_rule}
 
+-- a key is one of these
 abbrev pub is_among : List (List ℕ) → List ℕ → Bool
 is_among keys key = list_any (bytes_eq key) keys
 
@@ -18,6 +19,7 @@ abbrev pub typed : {A : Type 0} → (Data → Option A) → Option Data → Resu
 typed read None = Ok None
 typed read (Some value) = or_rule 2 (read value) >>= λ x. Ok (Some x)
 
+-- the text, the flag, the integer, the array and the table at a key
 unfoldable pub text_in : List ℕ → Members → Result (Option (List ℕ)) ℕ
 text_in key ms = typed as_str (get_member key ms)
 
@@ -33,10 +35,11 @@ array_in key ms = typed as_array (get_member key ms)
 unfoldable pub table_in : List ℕ → Members → Result (Option Members) ℕ
 table_in key ms = typed as_table (get_member key ms)
 
--- a key that isn't there is rule 2 too where it has to be
+-- the text at a key that has to be there, else rule 2 too
 unfoldable pub needed_text : List ℕ → Members → Result (List ℕ) ℕ
 needed_text key ms = text_in key ms >>= or_rule 2
 
+-- the same for an integer
 unfoldable pub needed_integer : List ℕ → Members → Result ℤ ℕ
 needed_integer key ms = integer_in key ms >>= or_rule 2
 
@@ -50,6 +53,7 @@ abbrev pub integers_of : Option Items → Result (List ℤ) ℕ
 integers_of None = Ok []
 integers_of (Some ds) = integers_from [] ds
 
+-- the integers in the array at a key
 unfoldable pub integers_in : List ℕ → Members → Result (List ℤ) ℕ
 integers_in key ms = array_in key ms >>= integers_of
 
@@ -58,16 +62,17 @@ abbrev pub ranged : ℕ → ℕ → ℤ → Result ℕ ℕ
 ranged low high (pos n) = if nat_le low n && nat_le n high then Ok n else Err 3
 ranged low high (negsuc n) = Err 3
 
--- 0 where no number is written
+-- a number up to the highest, 0 where none is written
 abbrev pub up_to : ℕ → Option ℤ → Result ℕ ℕ
 up_to high None = Ok 0
 up_to high (Some z) = ranged 0 high z
 
+-- numbers from 0 to 255 after those so far
 unfoldable pub bytes_from : List ℕ → List ℤ → Result (List ℕ) ℕ
 bytes_from done [] = Ok done
 bytes_from done (z ∷ zs) = ranged 0 255 z >>= λ n. bytes_from (done ++ n ∷ []) zs
 
--- the numbers of a TOML document end at 2^63 - 1
+-- numbers from 0 to 2^63 - 1, where those of a TOML document end
 unfoldable pub words_from : List ℕ → List ℤ → Result (List ℕ) ℕ
 words_from done [] = Ok done
 words_from done (z ∷ zs) = ranged 0 9223372036854775807 z >>= λ n. words_from (done ++ n ∷ []) zs

@@ -1,5 +1,5 @@
--- What every scenario that is read keeps: what a machine rests on that begins with it.
-use Rattle.std.specs.Prelude.{◌≡◌, ℕ, ◌<◌, ◌≤◌, Bool, true, false, List, [], ◌∷◌, ◌++◌, length, All, Option, IfSome}
+-- What every scenario that is read keeps, and a machine that begins with it rests on.
+use Rattle.std.specs.Prelude.{◌≡◌, ℕ, ◌<◌, ◌≤◌, true, false, List, [], ◌∷◌, ◌++◌, length, All, IfSome}
 use Rattle.fk_scenario.specs.declared.scenario.Program.{Program}
 use Rattle.fk_scenario.specs.declared.scenario.SpaceEntry.{SpaceEntry}
 use Rattle.fk_scenario.specs.declared.scenario.ObjectEntry.{ObjectEntry}
@@ -10,12 +10,12 @@ use Rattle.fk_scenario.specs.Paths.{parent}
 use Rattle.fk_scenario.specs.Spaces.{has_space, is_there, may_stand, count_beneath}
 use Rattle.fk_scenario.specs.Taken.{has_object}
 
--- each of the elements after some others keeps its rules among those before it
+-- each of some elements is right after those before it
 abbrev pub EachAfter : {X : Type 0} → (List X → X → Type 0) → List X → List X → Type 0
 EachAfter P before [] = Unit {0}
 EachAfter P before (x ∷ xs) = P before x × EachAfter P (before ++ x ∷ []) xs
 
--- the slots of a path are those that users may name
+-- the slots of a path are ones that users may name
 abbrev pub AreSlots : List ℕ → Type 0
 AreSlots path = All (λ slot. slot ≤ 239) path
 
@@ -40,6 +40,7 @@ pub record KeepsObject (spaces : List SpaceEntry) (before : List ObjectEntry) (o
   pub no_object : has_object before o.path ≡ false
   pub in_range : IsInRange o.spec
 
+-- the numbers are in their ranges, and all entries stand where they may
 pub record Keeps (s : Scenario) : Type 0 where
   pub budget : (1 ≤ s.budget) × (s.budget ≤ 1000000)
   pub workers : (1 ≤ s.workers) × (s.workers ≤ 8)

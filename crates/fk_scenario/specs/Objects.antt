@@ -1,5 +1,5 @@
 -- The objects of a document. Each kind has a reader of its own, with its keys, types and ranges.
-use Rattle.std.specs.Prelude.{ℕ, ◌<◌, Bool, false, not, ◌&&◌, nat_le, nat_lt, List, [], ◌∷◌, ◌++◌, length, Result, Ok, Err, if◌then◌else◌, codes, unwrap_or}
+use Rattle.std.specs.Prelude.{ℕ, false, not, ◌&&◌, nat_le, nat_lt, List, [], ◌∷◌, ◌++◌, length, Result, Ok, Err, if◌then◌else◌, codes, unwrap_or}
 use Rattle.std.specs.Str.{bytes_eq}
 use Rattle.toml.specs.Data.{Data, Items, no_items, item, Members, as_table}
 use Rattle.fk_scenario.specs.declared.fail.ScenarioError.{ScenarioError}
@@ -13,6 +13,7 @@ use Rattle.fk_scenario.specs.Paths.{path_of, parent}
 use Rattle.fk_scenario.specs.Spaces.{has_space, is_there}
 use Rattle.fk_scenario.specs.Taken.{has_object}
 
+-- a thread: all that isn't written is 0
 unfoldable pub thread_of : Members → Result Spec ℕ
 thread_of ms = do
   _ ← known (codes "at" ∷ codes "kind" ∷ codes "entry" ∷ codes "regs" ∷ codes "stops" ∷ []) ms
@@ -25,6 +26,7 @@ thread_of ms = do
   stops ← up_to 65535 stops
   Ok (Thread entry regs stops)
 
+-- a mutex, which is free where nothing is written
 unfoldable pub mutex_of : Members → Result Spec ℕ
 mutex_of ms = do
   _ ← known (codes "at" ∷ codes "kind" ∷ codes "locked" ∷ []) ms
@@ -35,13 +37,14 @@ mutex_of ms = do
 unfoldable pub unknown_of : Members → Result Spec ℕ
 unknown_of ms = known (codes "at" ∷ codes "kind" ∷ []) ms >>= λ _. Err 4
 
+-- what an object of a kind is
 unfoldable pub spec_of : List ℕ → Members → Result Spec ℕ
 spec_of kind ms =
     if bytes_eq kind (codes "thread") then thread_of ms
     else if bytes_eq kind (codes "mutex") then mutex_of ms
     else unknown_of ms
 
--- an object among those before it: its space is there (5), and no space or object is in its slot (6)
+-- an object after those before it: its keys, types and ranges (2, 3), forms (4), its space (5), and its slot, in which no space and no object is (6)
 unfoldable pub object_of : List SpaceEntry → List ObjectEntry → Members → Result ObjectEntry ℕ
 object_of spaces done ms = do
   text ← needed_text (codes "at") ms
@@ -53,7 +56,7 @@ object_of spaces done ms = do
   _ ← unless 6 (not (has_space spaces path) && not (has_object done path))
   Ok (record { path = path; spec = spec })
 
--- an entry that is no table is rule 2
+-- the object of an entry; one that is no table is rule 2
 unfoldable pub object_at : List SpaceEntry → List ObjectEntry → Data → Result ObjectEntry ℕ
 object_at spaces done value = or_rule 2 (as_table value) >>= object_of spaces done
 

@@ -17,6 +17,7 @@ unfoldable pub slots_from : List ℕ → List (List ℕ) → Result (List ℕ) �
 slots_from done [] = Ok done
 slots_from done (piece ∷ pieces) = or_rule 4 (plain_number_up_to 239 piece) >>= λ slot. slots_from (done ++ slot ∷ []) pieces
 
+-- what stands before each slot
 abbrev pub is_slash : ℕ → Bool
 is_slash byte = byte == 47
 
@@ -26,6 +27,6 @@ path_of [] = Err 4
 path_of (byte ∷ []) = if is_slash byte then Ok [] else Err 4
 path_of (byte ∷ more ∷ text) = if is_slash byte then slots_from [] (slice_split is_slash (more ∷ text)) else Err 4
 
--- all but the last slot
+-- the path of the space in which a path's object lies: all but the last slot
 abbrev pub parent : List ℕ → List ℕ
 parent path = take (length path - 1) path

@@ -1,5 +1,5 @@
 -- The programs of a document.
-use Rattle.std.specs.Prelude.{ℕ, List, [], ◌∷◌, ◌++◌, length, position, Option, Some, None, Result, Ok, Err}
+use Rattle.std.specs.Prelude.{ℕ, List, [], ◌∷◌, ◌++◌, length, position, Option, Some, None, Result, Ok}
 use Rattle.std.specs.Result.{result_ok}
 use Rattle.std.specs.Str.{bytes_eq}
 use Rattle.toml.specs.Data.{Data, Members, no_members, member, as_str}
@@ -9,7 +9,7 @@ use Rattle.fk_scenario.specs.declared.scenario.Program.{Program}
 use Rattle.fk_scenario.specs.Gives.{◌>>=◌, or_rule, unless, placed}
 use Rattle.fk_scenario.specs.Paths.{is_name}
 
--- a text that isn't assembled is rule 8
+-- the words of a text; one that isn't assembled is rule 8
 abbrev pub words_of : List ℕ → Result (List ℕ) ℕ
 words_of text = or_rule 8 (result_ok (assembled text))
 
@@ -26,6 +26,7 @@ unfoldable pub programs_from : List Program → Members → Result (List Program
 programs_from done no_members = Ok done
 programs_from done (member name value rest) = placed 2 (length done) (program_of name value) >>= λ program. programs_from (done ++ program ∷ []) rest
 
+-- which program has this name
 abbrev pub position_of : List Program → List ℕ → Option ℕ
 position_of programs name = position (λ p. bytes_eq p.name name) programs
 

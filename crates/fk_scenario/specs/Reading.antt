@@ -46,7 +46,7 @@ top_of ms = do
   workers ← ranged 1 8 (unwrap_or workers (pos 1))
   Ok (record { budget = budget; workers = workers; programs = unwrap_or programs no_members; spaces = unwrap_or spaces no_items; objects = unwrap_or objects no_items })
 
--- the sections of a document in their order, each entry by its rules; nothing in today's scenarios needs a second round, after which pointers are sought
+-- the sections of a document in their order, each entry by its rules; a second round, over what pointers lead to, has nothing to refuse in scenarios of today
 unfoldable pub scenario_of : Members → Result Scenario ScenarioError
 scenario_of ms = do
   top ← placed 1 0 (top_of ms)
@@ -73,6 +73,7 @@ abbrev pub without_place : Result Scenario ScenarioError → Result Scenario Sce
 without_place (Ok scenario) = Ok scenario
 without_place (Err error) = Err (record { rule = 11; section = 0; index = 0 })
 
+-- the same of what a function answers
 abbrev pub fail_without_place : ScenarioFail → ScenarioFail
 fail_without_place (Refused error) = Refused (record { rule = 11; section = 0; index = 0 })
 fail_without_place NoMemory = NoMemory

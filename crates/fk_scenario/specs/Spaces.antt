@@ -1,5 +1,5 @@
 -- The spaces of a document.
-use Rattle.std.specs.Prelude.{ℕ, Bool, false, not, ◌&&◌, ◌||◌, ◌==◌, nat_lt, List, [], ◌∷◌, ◌++◌, length, count_by, Option, Some, None, Result, Ok, Err, if◌then◌else◌, codes}
+use Rattle.std.specs.Prelude.{ℕ, Bool, false, not, ◌&&◌, ◌||◌, ◌==◌, nat_lt, List, [], ◌∷◌, ◌++◌, length, count_by, Option, Some, None, Result, Ok, if◌then◌else◌, codes}
 use Rattle.std.specs.List.{list_any}
 use Rattle.std.specs.Str.{bytes_eq}
 use Rattle.toml.specs.Data.{Data, Items, no_items, item, Members, as_table}
@@ -11,7 +11,7 @@ use Rattle.fk_scenario.specs.Fields.{known, text_in, needed_text, integers_in, b
 use Rattle.fk_scenario.specs.Paths.{is_name, path_of, parent}
 use Rattle.fk_scenario.specs.Programs.{index_of}
 
--- a program's name is written, and is none
+-- a program is named by what is no name
 abbrev pub is_no_name : Option (List ℕ) → Bool
 is_no_name None = false
 is_no_name (Some name) = not (is_name name)
@@ -20,7 +20,7 @@ is_no_name (Some name) = not (is_name name)
 abbrev pub has_space : List SpaceEntry → List ℕ → Bool
 has_space spaces path = list_any (λ s. bytes_eq s.path path) spaces
 
--- the root is there without an entry
+-- the root is there without an entry, and any other space with one
 abbrev pub is_there : List SpaceEntry → List ℕ → Bool
 is_there spaces path = length path == 0 || has_space spaces path
 
@@ -32,11 +32,11 @@ may_stand done path = if length path == 0 then length done == 0 else is_there do
 abbrev pub count_beneath : List SpaceEntry → ℕ
 count_beneath spaces = count_by (λ s. not (length s.path == 0)) spaces
 
--- 256 spaces are the most, with the root; the text of the root's path adds none
+-- there is room for a space: 256 are the most, with the root, and the text of the root's path adds none
 abbrev pub has_room : List SpaceEntry → List ℕ → Bool
 has_room done text = bytes_eq text (codes "/") || nat_lt (count_beneath done) 255
 
--- a space among those before it: rule 2, then 3, and so on
+-- a space after those before it: its keys and types (2), ranges (3), forms (4), place (5) and program (8)
 unfoldable pub space_of : List Program → List SpaceEntry → Members → Result SpaceEntry ℕ
 space_of programs done ms = do
   _ ← known (codes "path" ∷ codes "program" ∷ codes "pages" ∷ []) ms
@@ -51,7 +51,7 @@ space_of programs done ms = do
   program ← index_of programs program
   Ok (record { path = path; program = program; pages = pages; nester = false })
 
--- an entry that is no table is rule 2
+-- the space of an entry; one that is no table is rule 2
 unfoldable pub space_at : List Program → List SpaceEntry → Data → Result SpaceEntry ℕ
 space_at programs done value = or_rule 2 (as_table value) >>= space_of programs done
 

@@ -1,5 +1,5 @@
 //! Why no scenario is read.
-ghost use Rattle.std.specs.Prelude.{◌≡◌};
+ghost use Rattle.std.specs.Prelude.{◌≡◌, IfOk};
 ghost use Rattle.fk_scenario.specs.declared.fail.Fail.TheVariants as fails;
 ghost use Rattle.fk_scenario.specs.declared.fail.ScenarioFail.TheVariants as ends;
 
@@ -31,6 +31,28 @@ pub enum ScenarioFail {
     NoMemory,
 }
 
+/// The rules that an entry may break, by their numbers.
+pub mod rule {
+    /// An unknown key, a missing one, or a wrong type.
+    pub const KEYS: u8 = 2;
+
+    /// A number or a length out of its range, or too many spaces.
+    pub const RANGES: u8 = 3;
+
+    /// An ill-formed path or name, or an unknown kind.
+    pub const FORMS: u8 = 4;
+
+    /// A space whose parent isn't there, that is there already, or that is the root and not the first; an
+    /// object in a space that isn't there.
+    pub const PLACES: u8 = 5;
+
+    /// A slot that is taken already.
+    pub const SLOTS: u8 = 6;
+
+    /// A program that isn't there or isn't assembled.
+    pub const PROGRAMS: u8 = 8;
+}
+
 /// Why an entry isn't read: the rule that it breaks.
 #[derive(Drop)]
 pub enum Fail {
@@ -53,6 +75,16 @@ impl Fail {
             }),
             Fail::NoMemory => ScenarioFail::NoMemory,
         }
+    }
+}
+
+/// A number of entries as an index. More than an index can count don't fit in memory.
+pub fn index_at(count: usize) -> Result<u32, NoMemory>
+    ensures { IfOk result (λ index. index ≡ count) }
+{
+    match u32::try_from(count) {
+        Ok(index) => Ok(index),
+        Err(_) => Err(NoMemory),
     }
 }
 

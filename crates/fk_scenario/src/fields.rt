@@ -2,26 +2,24 @@
 ghost use Rattle.std.specs.Prelude.{◌≡◌, ◌≤◌, [], map, option_map, IfOk};
 ghost use Rattle.toml.specs.Data.{get_member};
 ghost use Rattle.toml.specs.View.{view, table_view, array_view};
-ghost use Rattle.fk_scenario.specs.Gives.{Gives, unless as or_refused};
+ghost use Rattle.fk_scenario.specs.Gives.{Gives, unless as refused_unless};
 ghost use Rattle.fk_scenario.specs.Fields as fields;
 
-use crate::fail::Fail;
+use crate::fail::{Fail, rule};
 use fk_model::List;
 use std::alloc::Global;
 use toml::value::Array;
 use toml::{Table, Value};
 
-/// The rule of keys: an unknown one, a missing one, or a wrong type.
-pub const KEYS: u8 = 2;
-
-/// The rule of numbers and lengths out of their range.
-pub const RANGES: u8 = 3;
-
 /// Refuses by a rule unless a test holds.
-pub fn unless(rule: u8, holds: bool) -> Result<(), Fail>
-    ensures { Gives (λ x. x) result (or_refused rule holds) }
+pub fn unless(broken: u8, holds: bool) -> Result<(), Fail>
+    ensures { Gives (λ x. x) result (refused_unless broken holds) }
 {
-    if holds { Ok(()) } else { Err(Fail::Rule(rule)) }
+    if holds {
+        Ok(())
+    } else {
+        Err(Fail::Rule(broken))
+    }
 }
 
 /// What a key has.
@@ -49,7 +47,7 @@ pub fn known(keys: &[&str], table: &Table) -> Result<(), Fail>
 {
     for (key, _) in table {
         if !is_among(keys, key.as_str()) {
-            return Err(Fail::Rule(KEYS));
+            return Err(Fail::Rule(rule::KEYS));
         }
     }
     Ok(())
@@ -64,7 +62,7 @@ pub fn text_in<'a>(table: &'a Table, key: &str) -> Result<Option<&'a str>, Fail>
         None => Ok(None),
         Some(value) => match value.as_str() {
             Some(text) => Ok(Some(text)),
-            None => Err(Fail::Rule(KEYS)),
+            None => Err(Fail::Rule(rule::KEYS)),
         },
     }
 }
@@ -76,7 +74,7 @@ pub fn needed_text<'a>(table: &'a Table, key: &str) -> Result<&'a str, Fail>
 {
     match text_in(table, key)? {
         Some(text) => Ok(text),
-        None => Err(Fail::Rule(KEYS)),
+        None => Err(Fail::Rule(rule::KEYS)),
     }
 }
 
@@ -89,7 +87,7 @@ pub fn flag_in(table: &Table, key: &str) -> Result<Option<bool>, Fail>
         None => Ok(None),
         Some(value) => match value.as_bool() {
             Some(flag) => Ok(Some(flag)),
-            None => Err(Fail::Rule(KEYS)),
+            None => Err(Fail::Rule(rule::KEYS)),
         },
     }
 }
@@ -103,7 +101,7 @@ pub fn integer_in(table: &Table, key: &str) -> Result<Option<i64>, Fail>
         None => Ok(None),
         Some(value) => match value.as_integer() {
             Some(number) => Ok(Some(number)),
-            None => Err(Fail::Rule(KEYS)),
+            None => Err(Fail::Rule(rule::KEYS)),
         },
     }
 }
@@ -115,7 +113,7 @@ pub fn needed_integer(table: &Table, key: &str) -> Result<i64, Fail>
 {
     match integer_in(table, key)? {
         Some(number) => Ok(number),
-        None => Err(Fail::Rule(KEYS)),
+        None => Err(Fail::Rule(rule::KEYS)),
     }
 }
 
@@ -128,7 +126,7 @@ pub fn array_in<'a>(table: &'a Table, key: &str) -> Result<Option<&'a Array>, Fa
         None => Ok(None),
         Some(value) => match value.as_array() {
             Some(array) => Ok(Some(array)),
-            None => Err(Fail::Rule(KEYS)),
+            None => Err(Fail::Rule(rule::KEYS)),
         },
     }
 }
@@ -142,7 +140,7 @@ pub fn table_in<'a>(table: &'a Table, key: &str) -> Result<Option<&'a Table>, Fa
         None => Ok(None),
         Some(value) => match value.as_table() {
             Some(found) => Ok(Some(found)),
-            None => Err(Fail::Rule(KEYS)),
+            None => Err(Fail::Rule(rule::KEYS)),
         },
     }
 }
@@ -154,7 +152,7 @@ pub fn ranged(low: u64, high: u64, number: i64) -> Result<u64, Fail>
 {
     match u64::try_from(number) {
         Ok(number) if low <= number && number <= high => Ok(number),
-        _ => Err(Fail::Rule(RANGES)),
+        _ => Err(Fail::Rule(rule::RANGES)),
     }
 }
 
@@ -177,7 +175,7 @@ fn integers_of(alloc: Global, array: &Array) -> Result<List<i64>, Fail>
     for value in array {
         match value.as_integer() {
             Some(number) => numbers.push(number)?,
-            None => return Err(Fail::Rule(KEYS)),
+            None => return Err(Fail::Rule(rule::KEYS)),
         }
     }
     Ok(numbers)

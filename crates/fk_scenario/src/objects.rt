@@ -5,20 +5,18 @@ ghost use Rattle.toml.specs.View.{view, table_view, array_view};
 ghost use Rattle.fk_scenario.specs.Gives.{Gives, Answers};
 ghost use Rattle.fk_scenario.specs.Objects as definitions;
 
-use crate::fail::{Fail, ScenarioFail};
-use crate::fields::{KEYS, RANGES, flag_in, integer_in, integers_in, known, needed_text, unless, up_to, words_of};
-use crate::paths::{FORMS, parent, path_of};
-use crate::programs::index_at;
+use crate::fail::{Fail, ScenarioFail, index_at, rule};
+use crate::fields::{
+    flag_in, integer_in, integers_in, known, needed_text, unless, up_to, words_of,
+};
+use crate::paths::{parent, path_of};
 use crate::scenario::{ObjectEntry, SpaceEntry, Spec};
-use crate::spaces::{PLACES, has_space, is_there};
+use crate::spaces::{has_space, is_there};
 use crate::taken::Objects;
 use fk_model::List;
 use std::alloc::Global;
 use toml::value::Array;
 use toml::{Table, Value};
-
-/// The rule of slots that are taken twice.
-const SLOTS: u8 = 6;
 
 const SECTION: u8 = 4;
 
@@ -32,7 +30,7 @@ fn thread_of(alloc: Global, table: &Table) -> Result<Spec, Fail>
     let stops = integer_in(table, "stops")?;
     let entry = up_to(16_383, entry)?;
     let regs = words_of(alloc, regs.as_slice())?;
-    unless(RANGES, regs.len() <= 16)?;
+    unless(rule::RANGES, regs.len() <= 16)?;
     let stops = up_to(65_535, stops)?;
     Ok(Spec::Thread {
         entry: entry as u16,
@@ -58,7 +56,7 @@ fn unknown_of(table: &Table) -> Result<Spec, Fail>
     ensures { Gives (λ x. x) result (definitions.unknown_of (table_view table.now)) }
 {
     known(&["at", "kind"], table)?;
-    Err(Fail::Rule(FORMS))
+    Err(Fail::Rule(rule::FORMS))
 }
 
 #[tactic(auto, unfolding(crate::specs::Objects::spec_of))]
@@ -85,10 +83,10 @@ fn object_of(
     let kind = needed_text(table, "kind")?;
     let spec = spec_of(alloc, kind, table)?;
     let path = path_of(alloc, text)?;
-    unless(FORMS, path.len() > 0)?;
-    unless(PLACES, is_there(spaces, parent(path.as_slice())))?;
+    unless(rule::FORMS, path.len() > 0)?;
+    unless(rule::PLACES, is_there(spaces, parent(path.as_slice())))?;
     unless(
-        SLOTS,
+        rule::SLOTS,
         !has_space(spaces, path.as_slice()) && !done.has(path.as_slice()),
     )?;
     Ok(ObjectEntry { path, spec })
@@ -105,7 +103,7 @@ fn object_at(
 {
     match value.as_table() {
         Some(table) => object_of(alloc, spaces, done, table),
-        None => Err(Fail::Rule(KEYS)),
+        None => Err(Fail::Rule(rule::KEYS)),
     }
 }
 

@@ -4,12 +4,9 @@ ghost use Rattle.std.specs.List.{list_all, slice_split};
 ghost use Rattle.fk_scenario.specs.Gives.{Gives};
 ghost use Rattle.fk_scenario.specs.Paths as paths;
 
-use crate::fail::Fail;
+use crate::fail::{Fail, rule};
 use fk_model::{List, plain_number_up_to};
 use std::alloc::{AllocError, Global};
-
-/// The rule of ill-formed paths and names, and of unknown kinds.
-pub const FORMS: u8 = 4;
 
 fn are_name_bytes(bytes: &[u8]) -> bool
     ensures { result ≡ list_all paths.is_name_byte bytes.now }
@@ -40,7 +37,7 @@ fn slots_of(alloc: Global, pieces: &[&[u8]]) -> Result<List<u8>, Fail>
     for piece in pieces {
         match plain_number_up_to(239, piece) {
             Some(slot) => slots.push(slot as u8)?,
-            None => return Err(Fail::Rule(FORMS)),
+            None => return Err(Fail::Rule(rule::FORMS)),
         }
     }
     Ok(slots)
@@ -57,7 +54,7 @@ pub fn path_of(alloc: Global, text: &str) -> Result<List<u8>, Fail>
             let pieces = pieces_of(alloc, slots)?;
             slots_of(alloc, &pieces)
         }
-        _ => Err(Fail::Rule(FORMS)),
+        _ => Err(Fail::Rule(rule::FORMS)),
     }
 }
 

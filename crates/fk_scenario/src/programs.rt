@@ -1,40 +1,27 @@
 //! The programs of a document.
-ghost use Rattle.std.specs.Prelude.{◌≡◌, [], option_map, unwrap_or, IfOk, length};
+ghost use Rattle.std.specs.Prelude.{◌≡◌, [], option_map, unwrap_or};
 ghost use Rattle.toml.specs.Data.{no_members};
 ghost use Rattle.toml.specs.View.{view, table_view};
 ghost use Rattle.fk_scenario.specs.Gives.{Gives, Answers};
 ghost use Rattle.fk_scenario.specs.Programs as definitions;
 
-use crate::fail::{Fail, ScenarioFail};
-use crate::fields::{KEYS, unless};
-use crate::paths::{FORMS, is_name};
+use crate::fail::{Fail, ScenarioFail, index_at, rule};
+use crate::fields::unless;
+use crate::paths::is_name;
 use crate::scenario::Program;
 use fk_asm::{AsmFail, assemble};
-use fk_model::{List, NoMemory, Text};
+use fk_model::{List, Text};
 use std::alloc::Global;
 use toml::{Table, Value};
 
-/// The rule of programs that aren't there or aren't assembled.
-const PROGRAMS: u8 = 8;
-
 const SECTION: u8 = 2;
-
-/// A number of entries as an index. More than an index has room for don't fit in memory.
-pub fn index_at(count: usize) -> Result<u32, NoMemory>
-    ensures { IfOk result (λ index. index ≡ count) }
-{
-    match u32::try_from(count) {
-        Ok(index) => Ok(index),
-        Err(_) => Err(NoMemory),
-    }
-}
 
 fn words_of(alloc: Global, text: &str) -> Result<List<u64>, Fail>
     ensures { Gives (λ x. x) result (definitions.words_of text.now) }
 {
     match assemble(alloc, text.as_bytes()) {
         Ok(words) => Ok(List::of(words)),
-        Err(AsmFail::Text(_)) => Err(Fail::Rule(PROGRAMS)),
+        Err(AsmFail::Text(_)) => Err(Fail::Rule(rule::PROGRAMS)),
         Err(AsmFail::NoMemory) => Err(Fail::NoMemory),
     }
 }
@@ -45,9 +32,9 @@ fn program_of(alloc: Global, name: &str, value: &Value) -> Result<Program, Fail>
 {
     let text = match value.as_str() {
         Some(text) => text,
-        None => return Err(Fail::Rule(KEYS)),
+        None => return Err(Fail::Rule(rule::KEYS)),
     };
-    unless(FORMS, is_name(name))?;
+    unless(rule::FORMS, is_name(name))?;
     let words = words_of(alloc, text)?;
     Ok(Program {
         name: Text::of(alloc, name)?,
@@ -98,7 +85,7 @@ pub fn index_of(programs: &[Program], name: Option<&str>) -> Result<Option<u32>,
         None => Ok(None),
         Some(name) => match position_of(programs, name) {
             Some(index) => Ok(Some(index_at(index)?)),
-            None => Err(Fail::Rule(PROGRAMS)),
+            None => Err(Fail::Rule(rule::PROGRAMS)),
         },
     }
 }

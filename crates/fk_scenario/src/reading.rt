@@ -16,6 +16,9 @@ use std::alloc::Global;
 use toml::Table;
 use toml::value::Array;
 
+#[cfg(test)]
+mod tests;
+
 /// The bytes are no TOML document.
 const NO_DOCUMENT: ScenarioFail = ScenarioFail::Scenario(ScenarioError {
     rule: 1,

@@ -5,18 +5,15 @@ ghost use Rattle.toml.specs.View.{view, table_view, array_view};
 ghost use Rattle.fk_scenario.specs.Gives.{Gives, Answers};
 ghost use Rattle.fk_scenario.specs.Spaces as definitions;
 
-use crate::fail::{Fail, ScenarioFail};
-use crate::fields::{KEYS, RANGES, bytes_of, integers_in, known, needed_text, text_in, unless};
-use crate::paths::{FORMS, is_name, parent, path_of};
-use crate::programs::{index_at, index_of};
+use crate::fail::{Fail, ScenarioFail, index_at, rule};
+use crate::fields::{bytes_of, integers_in, known, needed_text, text_in, unless};
+use crate::paths::{is_name, parent, path_of};
+use crate::programs::index_of;
 use crate::scenario::{Program, SpaceEntry};
 use fk_model::List;
 use std::alloc::Global;
 use toml::value::Array;
 use toml::{Table, Value};
-
-/// The rule of spaces that aren't there, are there twice, or come too late.
-pub const PLACES: u8 = 5;
 
 const SECTION: u8 = 3;
 
@@ -79,10 +76,10 @@ fn space_of(
     let program = text_in(table, "program")?;
     let pages = integers_in(alloc, table, "pages")?;
     let pages = bytes_of(alloc, pages.as_slice())?;
-    unless(RANGES, has_room(done, text))?;
+    unless(rule::RANGES, has_room(done, text))?;
     let path = path_of(alloc, text)?;
-    unless(FORMS, !is_no_name(program))?;
-    unless(PLACES, may_stand(done, path.as_slice()))?;
+    unless(rule::FORMS, !is_no_name(program))?;
+    unless(rule::PLACES, may_stand(done, path.as_slice()))?;
     let program = index_of(programs, program)?;
     Ok(SpaceEntry {
         path,
@@ -103,7 +100,7 @@ fn space_at(
 {
     match value.as_table() {
         Some(table) => space_of(alloc, programs, done, table),
-        None => Err(Fail::Rule(KEYS)),
+        None => Err(Fail::Rule(rule::KEYS)),
     }
 }
 

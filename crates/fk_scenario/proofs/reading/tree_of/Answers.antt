@@ -1,5 +1,3 @@
-use Rattle.std.proofs.Common.{◌≡◌, false, true, IsTrue, sym, ◌∙◌}
-use Rattle.toml.specs.Errors.{IsMemory}
 use Rattle.toml.specs.View.{table_view}
 use Rattle.fk_scenario.proofs.Trees.{tree_found, no_tree}
 use Rattle.fk_scenario.proofs.reading.tree_of.Goals as goal
