@@ -1,12 +1,12 @@
 -- Where nobody holds a space, the freezing rule allows every change.
 use Rattle.std.proofs.lemmas.Bool.{false≢true}
-use Rattle.std.proofs.Common.{◌≡◌, ℕ, Bool, true, false, not, ◌&&◌, ◌||◌, List, [], ◌∷◌, refl, cond}
+use Rattle.std.proofs.Common.{◌≡◌, ℕ, Bool, true, false, not, ◌&&◌, ◌||◌, List, [], ◌∷◌, refl}
 use Rattle.std.specs.Prelude.{Option, Some, None, option_map, is_none, if◌then◌else◌}
 use Rattle.std.specs.List.{list_all, list_any}
 use Rattle.fk_model.specs.Places.{Path, Ptr, same_path, parent}
-use Rattle.fk_model.specs.Places.Ptr.{Null, Dead, At, Out, Outside, Far}
+use Rattle.fk_model.specs.Places.Ptr.{At}
 use Rattle.fk_model.specs.Objects.{Thread, Body, and_then}
-use Rattle.fk_model.specs.Objects.Body.{Mutex, Cond, Mapping, Region, Port, Portset, Space, Thread_of, Reference}
+use Rattle.fk_model.specs.Objects.Body.{Mutex, Mapping, Region, Port, Space, Thread_of, Reference}
 use Rattle.fk_model.specs.World.{World, Change, Edit, Sweep, edited, apply, apply_all, on_thread, through, without, following, with_locked, with_window, with_extent, with_member, with_pointer}
 use Rattle.fk_model.specs.World.Change.{Alter, Make, MakeSpace, Kill, Move, PutPage, DropPage}
 use Rattle.fk_model.specs.World.Edit.{SetLocked, SetWindow, SetExtent, SetMember, SetPointer, SetHolder, Proceed, Shift, Finish, End, Replace, SetStops, SetTalk, CountMoved, PassTurn, SetPeer, SetFault, SetTaker}
@@ -15,7 +15,7 @@ use Rattle.fk_model.specs.Outcomes.{Outcome}
 use Rattle.fk_model.specs.Outcomes.Outcome.{Refused, Waits, Goes}
 use Rattle.fk_model.specs.Searches.{pointers, option_list}
 use Rattle.fk_model.specs.Freezing.{changed_pointers, made_pointers, body_pointers, are_unfrozen, may_be_swept, may_follow, is_swept, lost_with, IsAllowed, AreAllowed}
-use Rattle.fk_model.specs.Moves.{outcome, step, stepped, GoesAllowed, IsReady}
+use Rattle.fk_model.specs.Moves.{outcome, step, stepped, GoesAllowed}
 use Rattle.fk_model.specs.Runs.{Event, after, IsLegal}
 use Rattle.fk_model.specs.Worked.{body_in}
 use Rattle.fk_model.proofs.Tested.{and_left, and_right}

@@ -6,7 +6,7 @@ use Rattle.fk_model.specs.Places.Ptr.{Null, At}
 use Rattle.fk_model.specs.Objects.{Body}
 use Rattle.fk_model.specs.Objects.Mode.{Native}
 use Rattle.fk_model.specs.Objects.Peer.{Server}
-use Rattle.fk_model.specs.Objects.Body.{Mutex, Mapping, Region, Port, Space, Reference}
+use Rattle.fk_model.specs.Objects.Body.{Mapping, Region, Port, Space, Reference}
 use Rattle.fk_model.specs.World.{World}
 use Rattle.fk_model.specs.Worked.{machine, world_of, page_with, numbered, running, calling, thread_at, with_talk, with_fault, served_by}
 
@@ -14,6 +14,7 @@ use Rattle.fk_model.specs.Worked.{machine, world_of, page_with, numbered, runnin
 abbrev pub holder : Path
 holder = 0 ∷ []
 
+-- another thread of the root
 abbrev pub other : Path
 other = 2 ∷ []
 
@@ -47,6 +48,7 @@ held g h = world_of
 abbrev pub stores_at_r2 : List ℕ
 stores_at_r2 = 0x0e12_0000_0000_0000 ∷ []
 
+-- /1 is held by somebody, or not
 unfoldable pub storing : Option Ptr → World
 storing held = world_of
     (root_and_1 held [] [] ++ ((6 ∷ [], running 0 (0 ∷ 7 ∷ 640 ∷ [])) ∷ (7 ∷ [], Mapping (record { first = 10; count = 1; offset = 0; write = true; region = At (3 ∷ 1 ∷ []) }))
@@ -55,18 +57,22 @@ storing held = world_of
 
 -- ---- /1 is held, and the space in slot 2 of it by the other thread. Slot 3 of the root leads to that space
 
+-- both threads make calls
 unfoldable pub held_in_held : List ℕ → List ℕ → World
 held_in_held g h = world_of
     (root_and_1 (Some (At holder)) g h ++ ((2 ∷ 1 ∷ [], Space 3 (Some (At other))) ∷ (3 ∷ [], Reference (At (2 ∷ 1 ∷ []))) ∷ [])) []
 
 -- ---- a client in /1 talks with a server in /2; the holder holds one of the two spaces, or none
 
+-- the client
 abbrev pub client : Path
 client = 0 ∷ 1 ∷ []
 
+-- the server
 abbrev pub server : Path
 server = 1 ∷ 2 ∷ []
 
+-- who holds /1 and who holds /2, and the calls of the client and of the server
 unfoldable pub talk_across : Option Ptr → Option Ptr → List ℕ → List ℕ → World
 talk_across hold_1 hold_2 g h = world_of
     ((holder, running 0 []) ∷ (1 ∷ [], Space 1 hold_1) ∷ (2 ∷ [], Space 2 hold_2) ∷ (3 ∷ 2 ∷ [], Port None false)
@@ -82,6 +88,7 @@ receives_9 = 50 ∷ 0 ∷ 0 ∷ 0 ∷ 256 ∷ 9 ∷ []
 
 -- ---- a thread of /1, which is held or not, has a fault that a thread of the root has taken
 
+-- the other thread of the root is done with the fault
 unfoldable pub fault_across : Option Ptr → World
 fault_across held = world_of
     ((holder, running 0 []) ∷ (other, calling 0 (56 ∷ [])) ∷ (10 ∷ [], Port None false) ∷ (1 ∷ [], Space 1 held)
@@ -90,9 +97,11 @@ fault_across held = world_of
 
 -- ---- /1 has a porter, which holds the space in slot 2 of /1
 
+-- the porter of /1
 abbrev pub porter : Path
 porter = 255 ∷ 1 ∷ []
 
+-- a thread of the root would hold /1
 unfoldable pub working_porter : World
 working_porter = world_of
     ((holder, calling 0 (13 ∷ 256 ∷ 1 ∷ [])) ∷ (1 ∷ [], Space 1 None) ∷ (2 ∷ 1 ∷ [], Space 2 (Some (At porter))) ∷ (porter, thread_at (Native (replicate 16 0)) 0) ∷ []) []

@@ -9,8 +9,9 @@ use Rattle.fk_model.specs.Objects.Mode.{Native}
 use Rattle.fk_model.specs.Objects.Body.{Mutex, Port, Space, Reference}
 use Rattle.fk_model.specs.World.{World}
 use Rattle.fk_model.specs.Runs.{run}
-use Rattle.fk_model.specs.Worked.{machine, world_of, numbered, running, calling, thread_at, with_talk, with_fault, makes}
+use Rattle.fk_model.specs.Worked.{machine, world_of, numbered, running, thread_at, with_talk, with_fault, makes}
 
+-- the porter of the root
 abbrev pub porter : Path
 porter = 255 ∷ []
 
@@ -18,9 +19,11 @@ porter = 255 ∷ []
 abbrev pub subject : Path
 subject = 0 ∷ 1 ∷ []
 
+-- a port of the root
 abbrev pub port : Path
 port = 9 ∷ []
 
+-- a thread of the root
 abbrev pub server : Path
 server = 5 ∷ []
 
@@ -33,6 +36,7 @@ restoring = world_of
     ∷ (6 ∷ [], Reference (At subject)) ∷ (2 ∷ [], Space 3 None) ∷ (0 ∷ 2 ∷ [], Reference (At subject)) ∷ [])
     (numbered (1 ∷ []) 1000 4 ∷ [])
 
+-- a talk at the port
 abbrev pub talk_with : Peer → Turn → ℕ → Talk
 talk_with peer turn moved = record { port = At port; peer = peer; turn = turn; moved = moved }
 
@@ -40,6 +44,7 @@ talk_with peer turn moved = record { port = At port; peer = peer; turn = turn; m
 unfoldable pub parked : World
 parked = run restoring (makes porter (LinkPark 1 0 9) (2 ∷ 5 ∷ []) ∷ [])
 
+-- the subject with a talk
 abbrev pub subject_with : Talk → Body
 subject_with talk = with_talk talk (running 20 (1 ∷ 2 ∷ []))
 
