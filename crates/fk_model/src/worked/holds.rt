@@ -1,13 +1,13 @@
 //! Holds, and what they freeze.
 #![tactic(auto, unfolding(crate::specs::WorkedHolds::holds))]
 
-ghost use Rattle.std.specs.Prelude.{◌≡◌, [], ◌∷◌, ◌++◌, Some, None, true, false, replicate};
-ghost use Rattle.fk_model.specs.declared.stage.Stage.TheVariants.{SpaceRelease, MutexLock};
-ghost use Rattle.fk_model.specs.Places.Ptr.{At, Null};
-ghost use Rattle.fk_model.specs.Objects.Body.{Mutex, Space, Reference};
+ghost use Rattle.std.specs.Prelude.{◌≡◌, [], ◌∷◌, ◌++◌, Some, None, false, replicate};
+ghost use Rattle.fk_model.specs.declared.stage.Stage.TheVariants.{SpaceRelease};
+ghost use Rattle.fk_model.specs.Places.Ptr.{At};
+ghost use Rattle.fk_model.specs.Objects.Body.{Mutex, Space};
 ghost use Rattle.fk_model.specs.Outcomes.Said.{Answered};
 ghost use Rattle.fk_model.specs.Runs.{run, IsLegal};
-ghost use Rattle.fk_model.specs.Worked.{becomes, IsReadyTo, told, goes, makes, times, running, calling, numbers_from};
+ghost use Rattle.fk_model.specs.Worked.{becomes, IsReadyTo, told, goes, makes, running, numbers_from};
 ghost use Rattle.fk_model.specs.WorkedHolds.{holder, other, inner, before_hold, held, storing, held_in_held, talk_across, sends_5, receives_9, client, server, fault_across, porter, working_porter};
 
 /// A thread holds a space, and then nothing in it moves.

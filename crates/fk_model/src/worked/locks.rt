@@ -1,10 +1,10 @@
 //! Programs, mutexes and conditions.
 #![tactic(auto, unfolding(crate::specs::WorkedLocks::locks))]
 
-ghost use Rattle.std.specs.Prelude.{◌≡◌, [], ◌∷◌, ◌++◌, Some, true, false, map, replicate};
+ghost use Rattle.std.specs.Prelude.{◌≡◌, [], ◌∷◌, ◌++◌, Some, true, false, map};
 ghost use Rattle.fk_model.specs.Objects.Body.{Mutex};
 ghost use Rattle.fk_model.specs.Runs.{run, IsLegal};
-ghost use Rattle.fk_model.specs.Worked.{becomes, scene, after_each, IsReadyTo, goes, picks, times, running, calling, halted, stopped, registers_at, registers_from, numbers_from};
+ghost use Rattle.fk_model.specs.Worked.{becomes, scene, after_each, IsReadyTo, goes, picks, times, running, calling, halted, stopped, registers_at, registers_from};
 ghost use Rattle.fk_model.specs.WorkedLocks.{alone_with, division, countdown, two_lock, lock_twice, one_sleeps, sleeps, reads, lets_go, parts, until_stopped, until_signalling, until_signalled, page_with_record, sleeper, caller_and_sleepers, locks_and_sleepers, calls_of, sleeper_and_signaller, none_sleeps, thread_0, thread_1, mutex};
 
 /// A program subtracts past zero, shifts all bits out, and divides by the zero that is left: it
