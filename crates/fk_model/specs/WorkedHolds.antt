@@ -36,11 +36,13 @@ unfoldable pub before_hold : List ℕ → World
 before_hold h = world_of (root_and_1 None (13 ∷ 256 ∷ 1 ∷ []) h) (numbered [] 1000 1 ∷ page_with (1 ∷ []) 0 sets_r1 ∷ [])
 
 -- /1 is held, and both threads make calls. In the root are references to the thread in /1, in slot 8, and to nothing, in
--- slot 9, and a port in slot 10, to which a reference of /1 leads
+-- slot 9, and a port in slot 10, to which a reference of /1 leads. Page 2
+-- begins with the record of a thread that runs. In the space in slot 5 is another that is held
 unfoldable pub held : List ℕ → List ℕ → World
 held g h = world_of
-    (root_and_1 (Some (At holder)) g h ++ ((8 ∷ [], Reference (At inner)) ∷ (9 ∷ [], Reference Null) ∷ (10 ∷ [], Port None false) ∷ (7 ∷ 1 ∷ [], Reference (At (10 ∷ []))) ∷ []))
-    (numbered [] 1000 1 ∷ page_with (1 ∷ []) 0 sets_r1 ∷ [])
+    (root_and_1 (Some (At holder)) g h ++ ((8 ∷ [], Reference (At inner)) ∷ (9 ∷ [], Reference Null) ∷ (10 ∷ [], Port None false) ∷ (7 ∷ 1 ∷ [], Reference (At (10 ∷ [])))
+    ∷ (0 ∷ 5 ∷ [], Space 3 (Some (At holder))) ∷ []))
+    (numbered [] 1000 1 ∷ page_with [] 2 (8 ∷ 5 ∷ []) ∷ page_with (1 ∷ []) 0 sets_r1 ∷ [])
 
 -- ---- page 10 of the root is a window on page 3 of /1, and a thread of the root stores there
 

@@ -105,3 +105,17 @@ pub fn talks_and_faults_stand_across_a_hold()
     ensures held_fault { ¬ IsReadyTo (fault_across (Some (At holder))) (goes other) }
     ensures holders_fault { ¬ IsReadyTo (fault_across (Some (At other))) (goes other) }
 {}
+
+/// A call is refused HELD that names a thread of a held space to stop it or to set its state, and
+/// one that would destroy a held space first. The holder sets the state of a thread there, though
+/// nobody stopped it.
+pub fn what_is_held_is_refused()
+    ensures stops { becomes (held [] (15 ∷ 8 ∷ [])) other ≡ Some (running 1 (9 ∷ 8 ∷ [])) }
+    ensures sets { becomes (held [] (10 ∷ 1 ∷ 0 ∷ 128 ∷ [])) other ≡ Some (running 1 (9 ∷ 1 ∷ 0 ∷ 128 ∷ [])) }
+    ensures destroys { becomes (held [] (2 ∷ 1 ∷ 0 ∷ [])) other ≡ Some (running 1 (9 ∷ 1 ∷ 0 ∷ [])) }
+    ensures destroys_above { becomes (held [] (2 ∷ 256 ∷ 5 ∷ [])) other ≡ Some (running 1 (9 ∷ 256 ∷ 5 ∷ [])) }
+    ensures gives { becomes (held [] (17 ∷ 1 ∷ 3 ∷ 64 ∷ [])) other ≡ Some (running 1 (9 ∷ 1 ∷ 3 ∷ 64 ∷ [])) }
+    ensures ready { IsReadyTo (held (10 ∷ 1 ∷ 0 ∷ 128 ∷ []) []) (goes holder) }
+    ensures holder_sets { (run (held (10 ∷ 1 ∷ 0 ∷ 128 ∷ []) []) (goes holder ∷ [])).body inner ≡
+        Some (running 0 (5 ∷ [])) }
+{}

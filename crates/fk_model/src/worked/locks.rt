@@ -60,8 +60,7 @@ pub fn a_signal_wakes_a_stopped_sleeper()
 /// The record of a stopped sleeper: its kind, its registers, its counter, that it calls, and its
 /// stop count.
 pub fn the_record_of_a_stopped_sleeper()
-    ensures { (run one_sleeps (until_stopped ++ reads)).page (1 ∷ []) 2 ≡
-        Some page_with_record }
+    ensures { (run one_sleeps (until_stopped ++ reads)).page (1 ∷ []) 2 ≡ Some page_with_record }
 {}
 
 /// A signal that nobody sleeps on is done at once. It has no thread to pick.
@@ -83,6 +82,8 @@ pub fn a_mutex_is_tried_and_unlocked()
         Some (Mutex false) }
     ensures not_locked { calls_of (23 ∷ 5 ∷ []) ≡ Some (running 1 (7 ∷ 5 ∷ [])) }
     ensures not_held { calls_of (24 ∷ 7 ∷ 5 ∷ []) ≡ Some (running 1 (7 ∷ 7 ∷ 5 ∷ [])) }
+    ensures asleep { calls_of (25 ∷ 9 ∷ 5 ∷ []) ≡ Some (running 1 (2 ∷ 9 ∷ 5 ∷ [])) }
+    ensures asleep_for { calls_of (25 ∷ 7 ∷ 9 ∷ []) ≡ Some (running 1 (2 ∷ 7 ∷ 9 ∷ [])) }
     ensures no_cond { calls_of (24 ∷ 5 ∷ 6 ∷ []) ≡ Some (running 1 (3 ∷ 5 ∷ 6 ∷ [])) }
 {}
 
