@@ -27,12 +27,14 @@ port = 9 ∷ []
 abbrev pub server : Path
 server = 5 ∷ []
 
--- scratch 240 leads to the port, 241 to the server. A reference of the root and one of /2 lead to the subject
+-- scratch 240 leads to the port, 241 to the server, 242 to the subject, 243 to a port in a space that the server holds.
+-- A reference of the root and one of /2 lead to the subject
 unfoldable pub restoring : World
 restoring = world_of
     ((porter, thread_at (Native (replicate 16 0)) 0) ∷ (port, Port None false) ∷ (server, running 0 [])
     ∷ (240 ∷ [], Reference (At port)) ∷ (241 ∷ [], Reference (At server)) ∷ (242 ∷ [], Reference (At subject))
     ∷ (1 ∷ [], Space 1 (Some (At porter))) ∷ (subject, running 20 (1 ∷ 2 ∷ [])) ∷ (3 ∷ 1 ∷ [], Space 2 None) ∷ (4 ∷ 1 ∷ [], Mutex true) ∷ (5 ∷ 1 ∷ [], Reference (At subject))
+    ∷ (8 ∷ [], Space 4 (Some (At server))) ∷ (1 ∷ 8 ∷ [], Port None false) ∷ (243 ∷ [], Reference (At (1 ∷ 8 ∷ [])))
     ∷ (6 ∷ [], Reference (At subject)) ∷ (2 ∷ [], Space 3 None) ∷ (0 ∷ 2 ∷ [], Reference (At subject)) ∷ [])
     (numbered (1 ∷ []) 1000 4 ∷ [])
 
