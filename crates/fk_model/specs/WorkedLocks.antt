@@ -113,7 +113,8 @@ page_with_record = (8 ∷ 25 ∷ 6 ∷ 5 ∷ []) ++ (replicate 13 0 ++ ((40 ∷ 
 unfoldable pub none_sleeps : World
 none_sleeps = world_of ((1 ∷ [], Space 1 None) ∷ (cond, Cond) ∷ (thread_0, running 40 []) ∷ (thread_1, calling 0 (26 ∷ 6 ∷ [])) ∷ []) []
 
--- ---- the mutex in slot 5 is free, the one in slot 6 locked. Of three sleepers one is stopped, one at another condition
+-- ---- the mutex in slot 5 is free, the one in slot 6 locked. Of three sleepers one is stopped, one at another condition.
+-- Another thread is stopped twice; a thread of another space sleeps
 
 -- a sleeper
 abbrev pub sleeper : ℕ → Path
@@ -127,7 +128,7 @@ caller_and_sleepers = thread_0 ∷ sleeper 10 ∷ sleeper 11 ∷ sleeper 12 ∷ 
 unfoldable pub locks_and_sleepers : List ℕ → World
 locks_and_sleepers g = world_of
     ((1 ∷ [], Space 1 None) ∷ (thread_0, calling 0 g) ∷ (5 ∷ 1 ∷ [], Mutex false) ∷ (6 ∷ 1 ∷ [], Mutex true) ∷ (7 ∷ 1 ∷ [], Cond) ∷ (8 ∷ 1 ∷ [], Cond)
-    ∷ (sleeper 10, calling 40 (25 ∷ 7 ∷ 5 ∷ [])) ∷ (sleeper 11, stopped 0xffff (calling 40 (25 ∷ 7 ∷ 6 ∷ []))) ∷ (sleeper 12, calling 40 (25 ∷ 8 ∷ 5 ∷ [])) ∷ (2 ∷ [], Space 2 None) ∷ (0 ∷ 2 ∷ [], calling 40 (25 ∷ 7 ∷ 5 ∷ [])) ∷ []) []
+    ∷ (sleeper 10, calling 40 (25 ∷ 7 ∷ 5 ∷ [])) ∷ (sleeper 11, stopped 0xffff (calling 40 (25 ∷ 7 ∷ 6 ∷ []))) ∷ (sleeper 12, calling 40 (25 ∷ 8 ∷ 5 ∷ [])) ∷ (sleeper 13, stopped 2 (running 3 [])) ∷ (2 ∷ [], Space 2 None) ∷ (0 ∷ 2 ∷ [], calling 40 (25 ∷ 7 ∷ 5 ∷ [])) ∷ []) []
 
 -- what becomes of the caller
 unfoldable pub calls_of : List ℕ → Option Body

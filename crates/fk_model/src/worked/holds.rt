@@ -99,6 +99,8 @@ pub fn talks_and_faults_stand_across_a_hold()
     ensures held_sender { ¬ IsReadyTo (talk_across (Some (At holder)) None sends_5 receives_9) (goes client) }
     ensures disconnects { IsReadyTo (talk_across None None (39 ∷ []) (50 ∷ [])) (goes client) }
     ensures held_server { ¬ IsReadyTo (talk_across None (Some (At holder)) (39 ∷ []) (50 ∷ [])) (goes client) }
+    ensures idle_server { IsReadyTo (talk_across None None (39 ∷ []) (48 ∷ [])) (goes client) }
+    ensures held_idle_server { ¬ IsReadyTo (talk_across None (Some (At holder)) (39 ∷ []) (48 ∷ [])) (goes client) }
     ensures ends { IsReadyTo (talk_across None None (50 ∷ []) (55 ∷ [])) (goes server) }
     ensures held_client { ¬ IsReadyTo (talk_across (Some (At holder)) None (50 ∷ []) (55 ∷ [])) (goes server) }
     ensures fault_ends { IsReadyTo (fault_across None) (goes other) }

@@ -108,6 +108,8 @@ pub fn a_broadcast_wakes_every_sleeper()
 /// A thread is stopped at most 65535 times, and isn't let go more often than it was stopped.
 pub fn stop_counts_have_two_ends()
     ensures full { calls_of (15 ∷ 11 ∷ []) ≡ Some (running 1 (15 ∷ 11 ∷ [])) }
+    ensures once_more { (run (locks_and_sleepers (15 ∷ 13 ∷ [])) (goes thread_0 ∷ [])).body (sleeper 13) ≡
+        Some (stopped 3 (running 3 [])) }
     ensures not_stopped { calls_of (16 ∷ 10 ∷ []) ≡ Some (running 1 (8 ∷ 10 ∷ [])) }
     ensures let_go { (run (locks_and_sleepers (16 ∷ 11 ∷ [])) (goes thread_0 ∷ [])).body (sleeper 11) ≡
         Some (stopped 65534 (calling 40 (25 ∷ 7 ∷ 6 ∷ []))) }
