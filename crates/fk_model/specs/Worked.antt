@@ -46,6 +46,7 @@ pub record Page : Type 0 where
   pub page : ℕ
   pub words : List ℕ
 
+-- the words of a page, by such a list
 unfoldable pub page_in : List Page → Path → ℕ → Option (List ℕ)
 page_in [] s page = None
 page_in (p ∷ ps) s page = if same_path p.space s && p.page == page then Some p.words else page_in ps s page
@@ -65,6 +66,7 @@ numbers_from first (suc n) = first ∷ numbers_from (first + 1) n
 abbrev pub filled_to : ℕ → List ℕ → List ℕ
 filled_to n words = words ++ replicate (n - length words) 0
 
+-- a page that begins with these words, and has zeros after them
 abbrev pub page_with : Path → ℕ → List ℕ → Page
 page_with s page words = record { space = s; page = page; words = filled_to 64 words }
 
@@ -78,19 +80,23 @@ numbered s base page = record { space = s; page = page; words = numbers_from (ba
 abbrev pub registers_from : List ℕ → List ℕ
 registers_from g = filled_to 16 g
 
+-- a thread that is at this, with nothing else to say of it
 abbrev pub thread_at : Mode → ℕ → Body
 thread_at mode counter = Thread_of (record { mode = mode; counter = counter; stops = 0; talk = None; fault = None })
 
--- a thread at a counter, with these first registers: it runs, is in the call that they name, or has halted with a code
+-- one that runs, from a counter on, with these first registers
 abbrev pub running : ℕ → List ℕ → Body
 running counter g = thread_at (Running (registers_from g)) counter
 
+-- one in the call that these registers name
 abbrev pub calling : ℕ → List ℕ → Body
 calling counter g = thread_at (calling_by (registers_from g) (todo_of (registers_from g))) counter
 
+-- one that has halted with a code
 abbrev pub halted : ℕ → List ℕ → ℕ → Body
 halted counter g code = thread_at (Halted (registers_from g) code) counter
 
+-- a thread with a talk, with a fault, and one that is stopped so often
 abbrev pub with_talk : Talk → Body → Body
 with_talk talk b = on_thread (λ t. record t { talk = Some talk }) b
 
@@ -106,13 +112,15 @@ served_by port server turn moved = record { port = At port; peer = Server (At se
 
 -- ---- moves
 
--- a user thread goes on, with or without a pick
+-- a user thread goes on
 abbrev pub goes : Path → Event
 goes x = record { mover = x; pick = None; ask = asks.Run }
 
+-- and picks another
 abbrev pub picks : Path → Path → Event
 picks x picked = record { mover = x; pick = Some picked; ask = asks.Run }
 
+-- a move, so many times
 abbrev pub times : ℕ → Event → List Event
 times n e = replicate n e
 
@@ -120,10 +128,11 @@ times n e = replicate n e
 abbrev pub makes : Path → Stage → List ℕ → Event
 makes porter stage words = record { mover = porter; pick = None; ask = asks.Call stage words }
 
--- the native server of a port accepts a client, and hands over its turn
+-- the native server of a port accepts a client
 abbrev pub accepts : Path → Path → Event
 accepts port client = record { mover = port; pick = Some client; ask = asks.Accept }
 
+-- it hands its turn over
 abbrev pub hands_over : Path → Event
 hands_over port = record { mover = port; pick = None; ask = asks.Over }
 
@@ -136,6 +145,7 @@ unfoldable pub after_each : World → List (List Event) → List World
 after_each w [] = []
 after_each w (es ∷ ess) = let v = run w es in v ∷ after_each v ess
 
+-- the move is ready
 abbrev pub IsReadyTo : World → Event → Type 0
 IsReadyTo w e = IsReady w e.mover e.pick e.ask
 
@@ -145,6 +155,7 @@ told w e = (step w e.mover e.pick e.ask).said
 
 -- ---- what there is to see
 
+-- none where there is no thread
 abbrev pub registers_in : Option Thread → List ℕ
 registers_in None = []
 registers_in (Some t) = registers_of t.mode

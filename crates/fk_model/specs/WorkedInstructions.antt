@@ -4,6 +4,7 @@ use Rattle.fk_model.specs.declared.instruction.Act.{Act}
 use Rattle.fk_model.specs.Instructions.{act}
 use Rattle.fk_model.specs.Worked.{registers_from}
 
+-- what each of these words asks for
 abbrev pub asked : List ℕ → List Act
 asked words = map (λ word. act word (registers_from (0 ∷ 12 ∷ 10 ∷ 0xffff_ffff_ffff_ffff ∷ 64 ∷ 0 ∷ [])) 9) words
 

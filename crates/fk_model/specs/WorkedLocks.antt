@@ -7,6 +7,7 @@ use Rattle.fk_model.specs.World.{World}
 use Rattle.fk_model.specs.Runs.{Event, run}
 use Rattle.fk_model.specs.Worked.{machine, world_of, page_with, numbered, numbers_from, running, calling, goes, picks, times, stopped}
 
+-- the two threads
 abbrev pub thread_0 : Path
 thread_0 = 0 ∷ 1 ∷ []
 
@@ -33,9 +34,11 @@ alone_with program = world_of ((1 ∷ [], Space 1 None) ∷ (thread_0, running 0
 abbrev pub locks_5 : List ℕ
 locks_5 = 0x0100_0000_0000_0015 ∷ 0x0110_0000_0000_0005 ∷ 0x1400_0000_0000_0000 ∷ 0x0000_0000_0000_0000 ∷ []
 
+-- the mutex
 abbrev pub mutex : Path
 mutex = 5 ∷ 1 ∷ []
 
+-- both threads run that program
 unfoldable pub two_lock : World
 two_lock = world_of ((1 ∷ [], Space 1 None) ∷ (mutex, Mutex false) ∷ (thread_0, running 0 []) ∷ (thread_1, running 0 []) ∷ []) (page_with (1 ∷ []) 0 locks_5 ∷ [])
 
@@ -54,6 +57,7 @@ stops_and_signals =
     0x0100_0000_0000_001a ∷ 0x0110_0000_0000_0006 ∷ 0x1400_0000_0000_0000 ∷
     0x0100_0000_0000_0010 ∷ 0x0110_0000_0000_0000 ∷ 0x1400_0000_0000_0000 ∷ []
 
+-- the condition
 abbrev pub cond : Path
 cond = 6 ∷ 1 ∷ []
 
@@ -61,35 +65,43 @@ cond = 6 ∷ 1 ∷ []
 unfoldable pub one_sleeps : World
 one_sleeps = world_of ((1 ∷ [], Space 1 None) ∷ (mutex, Mutex true) ∷ (cond, Cond) ∷ (thread_0, calling 40 (24 ∷ 6 ∷ 5 ∷ [])) ∷ (thread_1, running 0 []) ∷ []) (page_with (1 ∷ []) 0 stops_and_signals ∷ numbered (1 ∷ []) 1000 2 ∷ [])
 
+-- what there is to look at
 abbrev pub sleeper_and_signaller : List Path
 sleeper_and_signaller = thread_0 ∷ thread_1 ∷ mutex ∷ []
 
--- it sleeps; the second thread stops it, reads its state, signals to it, and lets it go; it locks
+-- it sleeps
 abbrev pub sleeps : List Event
 sleeps = goes thread_0 ∷ []
 
+-- it is stopped
 abbrev pub stops : List Event
 stops = times 4 (goes thread_1)
 
+-- its state is read
 abbrev pub reads : List Event
 reads = times 6 (goes thread_1)
 
+-- it is signalled to
 abbrev pub signals : List Event
 signals = times 3 (goes thread_1) ++ picks thread_1 thread_0 ∷ []
 
+-- it is let go
 abbrev pub lets_go : List Event
 lets_go = times 4 (goes thread_1)
 
+-- all of it, in parts, up to its lock
 abbrev pub parts : List (List Event)
 parts = sleeps ∷ stops ∷ (reads ++ signals) ∷ lets_go ∷ (goes thread_0 ∷ []) ∷ []
 
--- up to its being stopped, up to the call that signals, and up to the signal
+-- up to its being stopped
 abbrev pub until_stopped : List Event
 until_stopped = sleeps ++ stops
 
+-- up to the call that signals
 abbrev pub until_signalling : List Event
 until_signalling = until_stopped ++ (reads ++ times 3 (goes thread_1))
 
+-- up to the signal
 abbrev pub until_signalled : List Event
 until_signalled = until_stopped ++ (reads ++ signals)
 
@@ -101,18 +113,22 @@ page_with_record = (8 ∷ 25 ∷ 6 ∷ 5 ∷ []) ++ (replicate 13 0 ++ ((40 ∷ 
 unfoldable pub none_sleeps : World
 none_sleeps = world_of ((1 ∷ [], Space 1 None) ∷ (cond, Cond) ∷ (thread_0, running 40 []) ∷ (thread_1, calling 0 (26 ∷ 6 ∷ [])) ∷ []) []
 
--- ---- the mutex in slot 5 is free, the one in slot 6 locked. Of three sleepers one is stopped, one at another condition
+-- ---- the mutex in slot 5 is free, the one in slot 6 locked. Of three sleepers one is stopped, one at another condition.
+-- Another thread is stopped twice; a thread of another space sleeps
 
+-- a sleeper
 abbrev pub sleeper : ℕ → Path
 sleeper k = k ∷ 1 ∷ []
 
+-- what there is to look at
 abbrev pub caller_and_sleepers : List Path
 caller_and_sleepers = thread_0 ∷ sleeper 10 ∷ sleeper 11 ∷ sleeper 12 ∷ []
 
+-- the first thread makes a call
 unfoldable pub locks_and_sleepers : List ℕ → World
 locks_and_sleepers g = world_of
     ((1 ∷ [], Space 1 None) ∷ (thread_0, calling 0 g) ∷ (5 ∷ 1 ∷ [], Mutex false) ∷ (6 ∷ 1 ∷ [], Mutex true) ∷ (7 ∷ 1 ∷ [], Cond) ∷ (8 ∷ 1 ∷ [], Cond)
-    ∷ (sleeper 10, calling 40 (25 ∷ 7 ∷ 5 ∷ [])) ∷ (sleeper 11, stopped 0xffff (calling 40 (25 ∷ 7 ∷ 6 ∷ []))) ∷ (sleeper 12, calling 40 (25 ∷ 8 ∷ 5 ∷ [])) ∷ (2 ∷ [], Space 2 None) ∷ (0 ∷ 2 ∷ [], calling 40 (25 ∷ 7 ∷ 5 ∷ [])) ∷ []) []
+    ∷ (sleeper 10, calling 40 (25 ∷ 7 ∷ 5 ∷ [])) ∷ (sleeper 11, stopped 0xffff (calling 40 (25 ∷ 7 ∷ 6 ∷ []))) ∷ (sleeper 12, calling 40 (25 ∷ 8 ∷ 5 ∷ [])) ∷ (sleeper 13, stopped 2 (running 3 [])) ∷ (2 ∷ [], Space 2 None) ∷ (0 ∷ 2 ∷ [], calling 40 (25 ∷ 7 ∷ 5 ∷ [])) ∷ []) []
 
 -- what becomes of the caller
 unfoldable pub calls_of : List ℕ → Option Body

@@ -12,9 +12,11 @@ use Rattle.fk_model.specs.Worked.{machine, world_of, page_with, numbered, number
 
 -- ---- pages of /1: the pages 0, 1 and 2 are there, and each thread is in one call
 
+-- a thread of /1, by its slot
 abbrev pub thread : ℕ → Path
 thread k = k ∷ 1 ∷ []
 
+-- two give page 5, two take it; one gives page 256, one reads page 1, one gives a copy of it
 unfoldable pub giving_and_taking : World
 giving_and_taking = world_of
     ((1 ∷ [], Space 1 None)
@@ -36,15 +38,19 @@ two_pages = world_of
 
 -- ---- spaces /1 to /18: each but the last maps page 3 to the region in slot 1 of the next, which covers page 3
 
+-- a mapping of page 3 to a region
 abbrev pub maps_3_to : Path → Body
 maps_3_to region = Mapping (record { first = 3; count = 1; offset = 0; write = false; region = At region })
 
+-- a region of page 3
 abbrev pub covers_3 : Body
 covers_3 = Region (record { first = 3; count = 1; write = false; keeper = Null })
 
+-- a space with both
 abbrev pub chain_link : ℕ → List (Path × Body)
 chain_link k = (k ∷ [], Space k None) ∷ (0 ∷ k ∷ [], maps_3_to (1 ∷ (k + 1) ∷ [])) ∷ (1 ∷ k ∷ [], covers_3) ∷ []
 
+-- the eighteen spaces
 abbrev pub chain_of_18 : List (Path × Body)
 chain_of_18 = flat_map chain_link (numbers_from 1 17) ++ ((18 ∷ [], Space 18 None) ∷ (1 ∷ 18 ∷ [], covers_3) ∷ [])
 
@@ -54,15 +60,19 @@ chain_of_18 = flat_map chain_link (numbers_from 1 17) ++ ((18 ∷ [], Space 18 N
 abbrev pub loads_192 : List ℕ
 loads_192 = 0x0d12_0000_0000_00c0 ∷ []
 
+-- the thread that loads
 abbrev pub loader : Path
 loader = 2 ∷ 1 ∷ []
 
+-- the thread that sends
 abbrev pub sender : Path
 sender = 3 ∷ 1 ∷ []
 
+-- its talk
 abbrev pub to_root : ℕ → Talk
 to_root moved = served_by (20 ∷ []) (21 ∷ []) turns.Client moved
 
+-- both threads, and the server
 abbrev pub load_and_send : List (Path × Body)
 load_and_send =
     (loader, running 0 []) ∷ (sender, with_talk (to_root 0) (calling 0 (37 ∷ 0 ∷ 192 ∷ 1 ∷ [])))
@@ -93,6 +103,7 @@ window count write address = world_of
 
 -- ---- a load from a page that is missing; a region covers it or doesn't, and its keeper is port 9 of the root
 
+-- a region of all pages of /1, with this keeper
 abbrev pub all_pages : Ptr → List (Path × Body)
 all_pages keeper = (thread 1, Region (record { first = 0; count = 256; write = false; keeper = keeper })) ∷ []
 
@@ -100,6 +111,7 @@ all_pages keeper = (thread 1, Region (record { first = 0; count = 256; write = f
 abbrev pub missed_5 : Body
 missed_5 = with_fault (record { page = 5; write = false; port = At (9 ∷ []); taker = None }) (running 0 (0 ∷ 0 ∷ 128 ∷ []))
 
+-- the thread loads from an address and 192
 unfoldable pub missing : List (Path × Body) → ℕ → World
 missing regions address = world_of
     (regions ++ ((1 ∷ [], Space 1 None) ∷ (9 ∷ [], Port None false) ∷ (thread 0, running 0 (0 ∷ 0 ∷ address ∷ [])) ∷ []))

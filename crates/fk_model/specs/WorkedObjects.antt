@@ -12,6 +12,7 @@ use Rattle.fk_model.specs.Worked.{machine, world_of, scene, numbered, running, c
 
 -- ---- one thread of /1 makes a call there
 
+-- the thread
 abbrev pub caller : Path
 caller = 0 ∷ 1 ∷ []
 
@@ -19,6 +20,7 @@ caller = 0 ∷ 1 ∷ []
 abbrev pub in_1 : List (Path × Body) → List ℕ → World
 in_1 objects g = world_of ((1 ∷ [], Space 1 None) ∷ (caller, calling 0 g) ∷ objects) []
 
+-- with nothing else
 unfoldable pub alone_in : List ℕ → World
 alone_in g = in_1 [] g
 
@@ -30,6 +32,7 @@ locating s = in_1 ((2 ∷ 1 ∷ [], Reference (At (6 ∷ 4 ∷ 1 ∷ []))) ∷ (
 abbrev pub searcher : Path
 searcher = 3 ∷ 1 ∷ []
 
+-- it searches from a slot on
 unfoldable pub searching : ℕ → World
 searching from = world_of ((1 ∷ [], Space 1 None) ∷ (searcher, calling 0 (4 ∷ 256 ∷ from ∷ [])) ∷ (7 ∷ 1 ∷ [], Mutex false) ∷ []) []
 
@@ -41,6 +44,7 @@ with_references g = in_1
 
 -- ---- the space in slot 2 of the root is destroyed, by a thread of the root
 
+-- the caller
 abbrev pub destroyer : Path
 destroyer = 0 ∷ []
 
@@ -48,13 +52,15 @@ destroyer = 0 ∷ []
 abbrev pub server : Path
 server = 1 ∷ []
 
--- the server receives, and is ended
+-- the server receives
 abbrev pub server_receives : Body
 server_receives = calling 30 (50 ∷ 0 ∷ 0 ∷ 0 ∷ 64 ∷ 10 ∷ [])
 
+-- it is ended with ENDED
 abbrev pub server_ended : Body
 server_ended = running 31 (14 ∷ 0 ∷ 0 ∷ 0 ∷ 64 ∷ 10 ∷ [])
 
+-- the caller still destroys
 abbrev pub still_destroys : Body
 still_destroys = calling 0 (2 ∷ 256 ∷ 2 ∷ [])
 
@@ -62,12 +68,14 @@ still_destroys = calling 0 (2 ∷ 256 ∷ 2 ∷ [])
 abbrev pub served_one : Body
 served_one = with_talk (served_by (3 ∷ []) server turns.Client 0) (running 20 [])
 
+-- what there is at first, but for the root
 abbrev pub doomed : List (Path × Body)
 doomed =
     (destroyer, still_destroys) ∷ (server, server_receives) ∷ (3 ∷ [], Port None false)
     ∷ (2 ∷ [], Space 1 None) ∷ (0 ∷ 2 ∷ [], Reference (At (3 ∷ []))) ∷ (1 ∷ 2 ∷ [], served_one) ∷ (4 ∷ 2 ∷ [], Mutex false)
     ∷ (5 ∷ [], Reference (At (2 ∷ []))) ∷ (6 ∷ [], Reference (At (1 ∷ 2 ∷ []))) ∷ []
 
+-- each space has a page
 unfoldable pub destroying : World
 destroying = world_of doomed (numbered [] 1000 1 ∷ numbered (2 ∷ []) 2000 0 ∷ [])
 
@@ -85,9 +93,11 @@ destroyed n = run destroying (times n (goes destroyer))
 
 -- ---- threads of /1 rename a port, a space with an object, and a port set
 
+-- a thread that renames
 abbrev pub renamer : ℕ → Path
 renamer k = k ∷ 1 ∷ []
 
+-- what there is at first, but for the root
 abbrev pub to_rename : List (Path × Body)
 to_rename =
     (1 ∷ [], Space 1 None) ∷ (2 ∷ [], Space 2 None) ∷ (8 ∷ 1 ∷ [], Space 3 None) ∷ (0 ∷ 8 ∷ 1 ∷ [], Mutex false)
@@ -96,6 +106,7 @@ to_rename =
     ∷ (renamer 10, calling 0 (3 ∷ 256 ∷ 4 ∷ 7 ∷ [])) ∷ (renamer 11, calling 0 (3 ∷ 256 ∷ 7 ∷ 5 ∷ [])) ∷ (renamer 12, calling 0 (3 ∷ 256 ∷ 8 ∷ 9 ∷ []))
     ∷ (renamer 13, calling 0 (3 ∷ 256 ∷ 20 ∷ 21 ∷ [])) ∷ []
 
+-- nothing is in memory
 unfoldable pub renaming : World
 renaming = world_of to_rename []
 
@@ -110,27 +121,35 @@ port_and_references = (4 ∷ 1 ∷ []) ∷ (7 ∷ 1 ∷ []) ∷ (5 ∷ 1 ∷ [])
 -- ---- a port of the root, in a set, and all that goes with it: a talk, a fault that is raised and one that is taken, and
 -- the keeper of a region. The caller in slot 0 of the root makes a call
 
+-- the client of a talk at the port
 abbrev pub talker : Path
 talker = 0 ∷ 1 ∷ []
 
+-- a thread with a fault that is raised on the port
 abbrev pub faulty : Path
 faulty = 2 ∷ 1 ∷ []
 
+-- a thread with a fault that was raised there and is taken
 abbrev pub helped : Path
 helped = 4 ∷ 1 ∷ []
 
+-- the port
 abbrev pub root_port : Path
 root_port = 3 ∷ []
 
+-- the taker of that fault
 abbrev pub helper : Path
 helper = 7 ∷ []
 
+-- a thread in a talk
 abbrev pub talking : Path → Path → Body → Body
 talking port server b = with_talk (served_by port server turns.Client 0) b
 
+-- a thread with a fault on page 5
 abbrev pub missing_5 : Path → Option Peer → Body → Body
 missing_5 port taker b = with_fault (record { page = 5; write = false; port = At port; taker = taker }) b
 
+-- a region with a keeper
 abbrev pub kept_by : Ptr → Body
 kept_by keeper = Region (record { first = 0; count = 9; write = false; keeper = keeper })
 
@@ -138,6 +157,7 @@ kept_by keeper = Region (record { first = 0; count = 9; write = false; keeper = 
 abbrev pub root_server : Path
 root_server = 2 ∷ []
 
+-- the caller makes a call
 unfoldable pub related : List ℕ → World
 related g = world_of
     ((1 ∷ [], Space 2 None) ∷ (root_server, server_receives) ∷ (root_port, Port (Some 8) false) ∷ (8 ∷ [], Portset) ∷ (helper, running 0 []) ∷ (10 ∷ [], Port None true)
@@ -145,6 +165,7 @@ related g = world_of
     ∷ (3 ∷ 1 ∷ [], kept_by (At root_port)) ∷ [])
     []
 
+-- what there is to look at
 abbrev pub related_ones : List Path
 related_ones = root_server ∷ talker ∷ faulty ∷ helped ∷ (3 ∷ 1 ∷ []) ∷ []
 
@@ -158,14 +179,17 @@ answer_to g = (run (related g) (goes destroyer ∷ [])).body destroyer
 
 -- ---- the thread in slot 5 of the root, which holds the space in slot 6, destroys itself, or another destroys it
 
+-- the holder
 abbrev pub space_holder : Path
 space_holder = 5 ∷ []
 
+-- both are in call 2
 unfoldable pub holder_dies : World
 holder_dies = world_of ((destroyer, calling 0 (2 ∷ 256 ∷ 5 ∷ [])) ∷ (space_holder, calling 0 (2 ∷ 256 ∷ 5 ∷ [])) ∷ (6 ∷ [], Space 1 (Some (At space_holder))) ∷ []) []
 
 -- ---- a thread of /1/2 names /1, by the reference in slot 1, and its own space there
 
+-- it makes a call
 unfoldable pub beneath_itself : List ℕ → World
 beneath_itself g = world_of ((1 ∷ [], Space 1 None) ∷ (2 ∷ 1 ∷ [], Space 2 None) ∷ (0 ∷ 2 ∷ 1 ∷ [], calling 0 g) ∷ (1 ∷ 2 ∷ 1 ∷ [], Reference (At (1 ∷ []))) ∷ []) []
 

@@ -11,12 +11,15 @@ use Rattle.fk_model.specs.World.{World}
 use Rattle.fk_model.specs.Runs.{Event}
 use Rattle.fk_model.specs.Worked.{machine, world_of, page_with, numbered, running, calling, with_talk, goes, times, accepts, hands_over}
 
+-- the client
 abbrev pub client : Path
 client = 0 ∷ 1 ∷ []
 
+-- the port
 abbrev pub port : Path
 port = 9 ∷ []
 
+-- its talk with the native server
 abbrev pub served : Turn → ℕ → Talk
 served turn moved = record { port = At port; peer = Service; turn = turn; moved = moved }
 
@@ -29,6 +32,7 @@ sends_70 =
     0x0100_0000_0000_0021 ∷ 0x0110_0000_0000_0001 ∷ 0x0120_0000_0000_0080 ∷ 0x0130_0000_0000_0046 ∷ 0x1400_0000_0000_0000 ∷
     0x0000_0000_0000_0000 ∷ []
 
+-- it has the pages 0, 2 and 3
 unfoldable pub to_console : World
 to_console = world_of
     ((port, Port None true) ∷ (1 ∷ [], Space 1 None) ∷ (1 ∷ 1 ∷ [], Reference (At port)) ∷ (client, running 0 []) ∷ [])
@@ -38,27 +42,33 @@ to_console = world_of
 abbrev pub still_sending : ℕ → ℕ → ℕ → List ℕ
 still_sending code address count = code ∷ 1 ∷ address ∷ count ∷ 0 ∷ 0 ∷ 7 ∷ 192 ∷ []
 
--- it enters its call, is accepted, sends two blocks, hands over the turn and gets it back
+-- it enters its call
 abbrev pub entered : List Event
 entered = times 8 (goes client)
 
+-- it is accepted
 abbrev pub and_accepted : List Event
 and_accepted = entered ++ accepts port client ∷ []
 
+-- it sends a block
 abbrev pub and_sent_one : List Event
 and_sent_one = and_accepted ++ goes client ∷ []
 
+-- it sends another
 abbrev pub and_sent_two : List Event
 and_sent_two = and_sent_one ++ goes client ∷ []
 
+-- it hands over the turn
 abbrev pub and_turned : List Event
 and_turned = and_sent_two ++ goes client ∷ []
 
+-- it gets the turn back
 abbrev pub and_returned : List Event
 and_returned = and_turned ++ hands_over port ∷ []
 
 -- ---- a client receives so many words at 192, at its server's turn
 
+-- page 3 is there
 unfoldable pub awaiting : ℕ → World
 awaiting room = world_of
     ((port, Port None true) ∷ (1 ∷ [], Space 1 None) ∷ (client, with_talk (served turns.Server 0) (calling 20 (36 ∷ 1 ∷ 128 ∷ 0 ∷ 192 ∷ room ∷ []))) ∷ [])
@@ -66,9 +76,11 @@ awaiting room = world_of
 
 -- ---- a client with a parked talk at the server's turn, and one that connects
 
+-- the one that connects
 abbrev pub second : Path
 second = 2 ∷ 1 ∷ []
 
+-- the first waits for the native server
 unfoldable pub two_clients : World
 two_clients = world_of
     ((port, Port None true) ∷ (1 ∷ [], Space 1 None) ∷ (1 ∷ 1 ∷ [], Reference (At port)) ∷ (second, calling 20 (32 ∷ 1 ∷ []))

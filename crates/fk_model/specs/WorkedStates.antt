@@ -7,6 +7,7 @@ use Rattle.fk_model.specs.Objects.Body.{Mutex, Mapping, Region, Port, Portset, S
 use Rattle.fk_model.specs.World.{World}
 use Rattle.fk_model.specs.Worked.{machine, world_of, page_with, filled_to, running, calling, stopped}
 
+-- the thread that sets and gets
 abbrev pub caller : Path
 caller = 0 ∷ 1 ∷ []
 
@@ -27,13 +28,15 @@ records a b = filled_to 32 a ++ filled_to 32 b
 abbrev pub in_call_21 : List ℕ
 in_call_21 = 8 ∷ 21 ∷ 3 ∷ (replicate 14 0 ++ (9 ∷ 1 ∷ 0 ∷ 0 ∷ []))
 
--- the same with 40, which is no call, in its first register; and one that has halted with code 7 and is stopped twice
+-- the same with 40, which is no call, in its first register
 abbrev pub in_no_call : List ℕ
 in_no_call = 8 ∷ 40 ∷ 3 ∷ (replicate 14 0 ++ (9 ∷ 1 ∷ 0 ∷ 0 ∷ []))
 
+-- one that has halted with code 7 and is stopped twice
 abbrev pub halted_twice_stopped : List ℕ
 halted_twice_stopped = 8 ∷ 21 ∷ 3 ∷ (replicate 14 0 ++ (9 ∷ 2 ∷ 7 ∷ 2 ∷ []))
 
+-- the caller makes a call
 unfoldable pub setting_by : List ℕ → World
 setting_by g = world_of
     ((1 ∷ [], Space 1 None) ∷ (caller, calling 0 g) ∷ subjects)
@@ -54,6 +57,7 @@ set_mapping = Mapping (record { first = 10; count = 4; offset = 2; write = true;
 
 -- ---- pointer fields: slot 8 holds a reference to nothing, slot 9 one to the region in slot 7, slot 10 one to the port
 
+-- the caller makes a call
 unfoldable pub pointing : List ℕ → World
 pointing g = world_of
     ((1 ∷ [], Space 1 None) ∷ (caller, calling 0 g) ∷ (8 ∷ 1 ∷ [], Reference Null) ∷ (9 ∷ 1 ∷ [], Reference (At (7 ∷ 1 ∷ []))) ∷ (10 ∷ 1 ∷ [], Reference (At (5 ∷ 1 ∷ []))) ∷ subjects) []

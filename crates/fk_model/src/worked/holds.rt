@@ -1,13 +1,13 @@
 //! Holds, and what they freeze.
 #![tactic(auto, unfolding(crate::specs::WorkedHolds::holds))]
 
-ghost use Rattle.std.specs.Prelude.{◌≡◌, [], ◌∷◌, ◌++◌, Some, None, true, false, replicate};
-ghost use Rattle.fk_model.specs.declared.stage.Stage.TheVariants.{SpaceRelease, MutexLock};
-ghost use Rattle.fk_model.specs.Places.Ptr.{At, Null};
-ghost use Rattle.fk_model.specs.Objects.Body.{Mutex, Space, Reference};
+ghost use Rattle.std.specs.Prelude.{◌≡◌, [], ◌∷◌, ◌++◌, Some, None, false, replicate};
+ghost use Rattle.fk_model.specs.declared.stage.Stage.TheVariants.{SpaceRelease};
+ghost use Rattle.fk_model.specs.Places.Ptr.{At};
+ghost use Rattle.fk_model.specs.Objects.Body.{Mutex, Space};
 ghost use Rattle.fk_model.specs.Outcomes.Said.{Answered};
 ghost use Rattle.fk_model.specs.Runs.{run, IsLegal};
-ghost use Rattle.fk_model.specs.Worked.{becomes, IsReadyTo, told, goes, makes, times, running, calling, numbers_from};
+ghost use Rattle.fk_model.specs.Worked.{becomes, IsReadyTo, told, goes, makes, running, numbers_from};
 ghost use Rattle.fk_model.specs.WorkedHolds.{holder, other, inner, before_hold, held, storing, held_in_held, talk_across, sends_5, receives_9, client, server, fault_across, porter, working_porter};
 
 /// A thread holds a space, and then nothing in it moves.
@@ -99,9 +99,25 @@ pub fn talks_and_faults_stand_across_a_hold()
     ensures held_sender { ¬ IsReadyTo (talk_across (Some (At holder)) None sends_5 receives_9) (goes client) }
     ensures disconnects { IsReadyTo (talk_across None None (39 ∷ []) (50 ∷ [])) (goes client) }
     ensures held_server { ¬ IsReadyTo (talk_across None (Some (At holder)) (39 ∷ []) (50 ∷ [])) (goes client) }
+    ensures idle_server { IsReadyTo (talk_across None None (39 ∷ []) (48 ∷ [])) (goes client) }
+    ensures held_idle_server { ¬ IsReadyTo (talk_across None (Some (At holder)) (39 ∷ []) (48 ∷ [])) (goes client) }
     ensures ends { IsReadyTo (talk_across None None (50 ∷ []) (55 ∷ [])) (goes server) }
     ensures held_client { ¬ IsReadyTo (talk_across (Some (At holder)) None (50 ∷ []) (55 ∷ [])) (goes server) }
     ensures fault_ends { IsReadyTo (fault_across None) (goes other) }
     ensures held_fault { ¬ IsReadyTo (fault_across (Some (At holder))) (goes other) }
     ensures holders_fault { ¬ IsReadyTo (fault_across (Some (At other))) (goes other) }
+{}
+
+/// A call is refused HELD that names a thread of a held space to stop it or to set its state, and
+/// one that would destroy a held space first. The holder sets the state of a thread there, though
+/// nobody stopped it.
+pub fn what_is_held_is_refused()
+    ensures stops { becomes (held [] (15 ∷ 8 ∷ [])) other ≡ Some (running 1 (9 ∷ 8 ∷ [])) }
+    ensures sets { becomes (held [] (10 ∷ 1 ∷ 0 ∷ 128 ∷ [])) other ≡ Some (running 1 (9 ∷ 1 ∷ 0 ∷ 128 ∷ [])) }
+    ensures destroys { becomes (held [] (2 ∷ 1 ∷ 0 ∷ [])) other ≡ Some (running 1 (9 ∷ 1 ∷ 0 ∷ [])) }
+    ensures destroys_above { becomes (held [] (2 ∷ 256 ∷ 5 ∷ [])) other ≡ Some (running 1 (9 ∷ 256 ∷ 5 ∷ [])) }
+    ensures gives { becomes (held [] (17 ∷ 1 ∷ 3 ∷ 64 ∷ [])) other ≡ Some (running 1 (9 ∷ 1 ∷ 3 ∷ 64 ∷ [])) }
+    ensures ready { IsReadyTo (held (10 ∷ 1 ∷ 0 ∷ 128 ∷ []) []) (goes holder) }
+    ensures holder_sets { (run (held (10 ∷ 1 ∷ 0 ∷ 128 ∷ []) []) (goes holder ∷ [])).body inner ≡
+        Some (running 0 (5 ∷ [])) }
 {}

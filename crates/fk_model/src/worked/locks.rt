@@ -1,10 +1,10 @@
 //! Programs, mutexes and conditions.
 #![tactic(auto, unfolding(crate::specs::WorkedLocks::locks))]
 
-ghost use Rattle.std.specs.Prelude.{◌≡◌, [], ◌∷◌, ◌++◌, Some, true, false, map, replicate};
+ghost use Rattle.std.specs.Prelude.{◌≡◌, [], ◌∷◌, ◌++◌, Some, true, false, map};
 ghost use Rattle.fk_model.specs.Objects.Body.{Mutex};
 ghost use Rattle.fk_model.specs.Runs.{run, IsLegal};
-ghost use Rattle.fk_model.specs.Worked.{becomes, scene, after_each, IsReadyTo, goes, picks, times, running, calling, halted, stopped, registers_at, registers_from, numbers_from};
+ghost use Rattle.fk_model.specs.Worked.{becomes, scene, after_each, IsReadyTo, goes, picks, times, running, calling, halted, stopped, registers_at, registers_from};
 ghost use Rattle.fk_model.specs.WorkedLocks.{alone_with, division, countdown, two_lock, lock_twice, one_sleeps, sleeps, reads, lets_go, parts, until_stopped, until_signalling, until_signalled, page_with_record, sleeper, caller_and_sleepers, locks_and_sleepers, calls_of, sleeper_and_signaller, none_sleeps, thread_0, thread_1, mutex};
 
 /// A program subtracts past zero, shifts all bits out, and divides by the zero that is left: it
@@ -60,8 +60,7 @@ pub fn a_signal_wakes_a_stopped_sleeper()
 /// The record of a stopped sleeper: its kind, its registers, its counter, that it calls, and its
 /// stop count.
 pub fn the_record_of_a_stopped_sleeper()
-    ensures { (run one_sleeps (until_stopped ++ reads)).page (1 ∷ []) 2 ≡
-        Some page_with_record }
+    ensures { (run one_sleeps (until_stopped ++ reads)).page (1 ∷ []) 2 ≡ Some page_with_record }
 {}
 
 /// A signal that nobody sleeps on is done at once. It has no thread to pick.
@@ -83,6 +82,8 @@ pub fn a_mutex_is_tried_and_unlocked()
         Some (Mutex false) }
     ensures not_locked { calls_of (23 ∷ 5 ∷ []) ≡ Some (running 1 (7 ∷ 5 ∷ [])) }
     ensures not_held { calls_of (24 ∷ 7 ∷ 5 ∷ []) ≡ Some (running 1 (7 ∷ 7 ∷ 5 ∷ [])) }
+    ensures asleep { calls_of (25 ∷ 9 ∷ 5 ∷ []) ≡ Some (running 1 (2 ∷ 9 ∷ 5 ∷ [])) }
+    ensures asleep_for { calls_of (25 ∷ 7 ∷ 9 ∷ []) ≡ Some (running 1 (2 ∷ 7 ∷ 9 ∷ [])) }
     ensures no_cond { calls_of (24 ∷ 5 ∷ 6 ∷ []) ≡ Some (running 1 (3 ∷ 5 ∷ 6 ∷ [])) }
 {}
 
@@ -107,6 +108,8 @@ pub fn a_broadcast_wakes_every_sleeper()
 /// A thread is stopped at most 65535 times, and isn't let go more often than it was stopped.
 pub fn stop_counts_have_two_ends()
     ensures full { calls_of (15 ∷ 11 ∷ []) ≡ Some (running 1 (15 ∷ 11 ∷ [])) }
+    ensures once_more { (run (locks_and_sleepers (15 ∷ 13 ∷ [])) (goes thread_0 ∷ [])).body (sleeper 13) ≡
+        Some (stopped 3 (running 3 [])) }
     ensures not_stopped { calls_of (16 ∷ 10 ∷ []) ≡ Some (running 1 (8 ∷ 10 ∷ [])) }
     ensures let_go { (run (locks_and_sleepers (16 ∷ 11 ∷ [])) (goes thread_0 ∷ [])).body (sleeper 11) ≡
         Some (stopped 65534 (calling 40 (25 ∷ 7 ∷ 6 ∷ []))) }

@@ -1,10 +1,10 @@
 //! Pages, mappings and regions.
 #![tactic(auto, unfolding(crate::specs::WorkedMemory::memory))]
 
-ghost use Rattle.std.specs.Prelude.{◌≡◌, ℕ, [], ◌∷◌, ◌++◌, Some, None, true, false, replicate};
+ghost use Rattle.std.specs.Prelude.{◌≡◌, [], ◌∷◌, ◌++◌, Some, None, true, false, replicate};
 ghost use Rattle.fk_model.specs.Places.Ptr.{At, Null, Dead};
 ghost use Rattle.fk_model.specs.Runs.{run, IsLegal};
-ghost use Rattle.fk_model.specs.Worked.{becomes, IsReadyTo, goes, running, calling, halted, with_talk, numbers_from};
+ghost use Rattle.fk_model.specs.Worked.{becomes, IsReadyTo, goes, running, halted, with_talk, numbers_from};
 ghost use Rattle.fk_model.specs.WorkedMemory.{thread, giving_and_taking, given_and_taken, two_pages, loader, sender, to_root, chain_to, loop, window, all_pages, missed_5, missing};
 
 /// A page of zeros is given once. It is taken once: its words go to the caller's page. There is no

@@ -1,12 +1,12 @@
 //! Objects, references and handles.
 #![tactic(auto, unfolding(crate::specs::WorkedObjects::objects))]
 
-ghost use Rattle.std.specs.Prelude.{◌≡◌, [], ◌∷◌, ◌++◌, Some, None, true, false, map, replicate};
+ghost use Rattle.std.specs.Prelude.{◌≡◌, [], ◌∷◌, Some, None, false, map, replicate};
 ghost use Rattle.fk_model.specs.Places.Ptr.{At, Null, Dead};
 ghost use Rattle.fk_model.specs.Objects.Peer.{Server};
 ghost use Rattle.fk_model.specs.Objects.Body.{Mutex, Port, Portset, Space, Reference};
 ghost use Rattle.fk_model.specs.Runs.{run, IsLegal};
-ghost use Rattle.fk_model.specs.Worked.{becomes, scene, after_each, registers_at, registers_from, IsReadyTo, goes, times, running, calling, stopped, with_talk, numbers_from};
+ghost use Rattle.fk_model.specs.Worked.{becomes, scene, after_each, registers_at, registers_from, IsReadyTo, goes, times, running, calling, stopped, numbers_from};
 ghost use Rattle.fk_model.specs.WorkedObjects.{caller, alone_in, locating, searcher, searching, with_references, destroyer, server_receives, server_ended, still_destroys, served_one, destroying, up_to_the_last, destroyed, in_2_and_beside, renamer, renaming, port_and_references, port_set_and_port, talker, helped, root_port, root_server, helper, talking, missing_5, kept_by, related, related_ones, scene_after, answer_to, space_holder, holder_dies, beneath_itself};
 
 /// What a reference leads to lies in slot 4 of the caller's space, and deeper there.

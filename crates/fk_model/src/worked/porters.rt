@@ -1,7 +1,7 @@
 //! Porters and their calls.
 #![tactic(auto, unfolding(crate::specs::WorkedPorters::porters))]
 
-ghost use Rattle.std.specs.Prelude.{◌≡◌, [], ◌∷◌, ◌++◌, Some, None, true, false, replicate};
+ghost use Rattle.std.specs.Prelude.{◌≡◌, [], ◌∷◌, Some, None, true, false, replicate};
 ghost use Rattle.fk_model.specs.declared.stage.Stage.TheVariants.{Destroy, CountIn, GetPtr, GetState, SetState, PageGive, PageTake, PageRead, LinkSet, LinkPark, FaultSet, FaultPark, HoldSet, SpaceMakeHeld, MutexLock};
 ghost use Rattle.fk_model.specs.declared.thread.Turn.TheVariants as turns;
 ghost use Rattle.fk_model.specs.Places.Ptr.{At, Null};
@@ -34,12 +34,14 @@ pub fn a_porter_gives_words_directly()
     ensures occupied { told restoring (makes porter (PageGive 1 4 0) (numbers_from 5 64)) ≡ Answered 4 [] }
 {}
 
-/// A porter makes a talk again, with a server thread or parked at a port of its own space.
+/// A porter makes a talk again, with a server thread or parked at a port of its own space; not at a
+/// port that another holds.
 pub fn a_porter_restores_talks()
     ensures ready { IsReadyTo restoring (makes porter (LinkSet 1 0 240 241) (1 ∷ 64 ∷ [])) }
     ensures served { (run restoring (makes porter (LinkSet 1 0 240 241) (1 ∷ 64 ∷ []) ∷ [])).body subject ≡
         Some (subject_with (talk_with (Server (At server)) turns.Client 64)) }
     ensures parked { parked.body subject ≡ Some (subject_with (talk_with Parked turns.Server 5)) }
+    ensures held_port { ¬ IsReadyTo restoring (makes porter (LinkSet 1 0 243 241) (1 ∷ 64 ∷ [])) }
     ensures no_port { told restoring (makes porter (LinkPark 1 0 5) (2 ∷ 5 ∷ [])) ≡ Answered 3 [] }
     ensures empty { told restoring (makes porter (LinkPark 1 0 10) (2 ∷ 5 ∷ [])) ≡ Answered 2 [] }
 {}
@@ -48,6 +50,7 @@ pub fn a_porter_restores_talks()
 pub fn a_porter_restores_faults()
     ensures raised { (run restoring (makes porter (FaultSet 1 0 240 256) (5 ∷ 1 ∷ []) ∷ [])).body subject ≡
         Some (subject_missing_5 true None) }
+    ensures held_port { ¬ IsReadyTo restoring (makes porter (FaultSet 1 0 243 256) (5 ∷ 1 ∷ [])) }
     ensures taken { (run restoring (makes porter (FaultSet 1 0 240 241) (5 ∷ 0 ∷ []) ∷ [])).body subject ≡
         Some (subject_missing_5 false (Some (Server (At server)))) }
     ensures parked { (run restoring (makes porter (FaultPark 1 0 9 1) (5 ∷ 1 ∷ []) ∷ [])).body subject ≡

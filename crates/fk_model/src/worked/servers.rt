@@ -1,12 +1,12 @@
 //! Native servers and their clients.
 #![tactic(auto, unfolding(crate::specs::WorkedServers::servers))]
 
-ghost use Rattle.std.specs.Prelude.{◌≡◌, [], ◌∷◌, ◌++◌, Some, None, true, false, replicate};
+ghost use Rattle.std.specs.Prelude.{◌≡◌, [], ◌∷◌, ◌++◌, Some, true, false, replicate};
 ghost use Rattle.fk_model.specs.declared.thread.Turn.TheVariants as turns;
 ghost use Rattle.fk_model.specs.Places.Ptr.{At};
 ghost use Rattle.fk_model.specs.Outcomes.Said.{Taken, Words, Passed, Given, Full, Ended};
 ghost use Rattle.fk_model.specs.Runs.{run, IsLegal};
-ghost use Rattle.fk_model.specs.Worked.{becomes, IsReadyTo, told, goes, accepts, gives, hands_over, running, calling, halted, with_talk, registers_at, registers_from, numbers_from};
+ghost use Rattle.fk_model.specs.Worked.{becomes, IsReadyTo, told, goes, accepts, gives, hands_over, running, calling, halted, with_talk, numbers_from};
 ghost use Rattle.fk_model.specs.WorkedServers.{client, port, served, to_console, still_sending, entered, and_accepted, and_sent_one, and_sent_two, and_turned, and_returned, awaiting, second, two_clients, leaving};
 
 /// A program sends 70 words to a native server in two blocks, the first of them 64 words, and gets

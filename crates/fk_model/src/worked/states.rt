@@ -1,9 +1,9 @@
 //! State records, and pointer fields.
 #![tactic(auto, unfolding(crate::specs::WorkedStates::states))]
 
-ghost use Rattle.std.specs.Prelude.{◌≡◌, [], ◌∷◌, Some, None, true, false};
+ghost use Rattle.std.specs.Prelude.{◌≡◌, [], ◌∷◌, Some, true, false};
 ghost use Rattle.fk_model.specs.Places.Ptr.{At, Null};
-ghost use Rattle.fk_model.specs.Objects.Body.{Mutex, Mapping, Region, Port, Reference};
+ghost use Rattle.fk_model.specs.Objects.Body.{Mutex, Region, Port, Reference};
 ghost use Rattle.fk_model.specs.Runs.{run};
 ghost use Rattle.fk_model.specs.Worked.{becomes, IsReadyTo, goes, running, calling, halted, stopped};
 ghost use Rattle.fk_model.specs.WorkedStates.{caller, setting, setting_by, records, in_call_21, set_mapping, pointing};
