@@ -4,11 +4,11 @@ use Rattle.fk_model.specs.declared.names.Kind.{Kind}
 use Rattle.fk_model.specs.declared.statuses.halt.TheConstants.{BAD_ADDRESS, MISSING_PAGE}
 use Rattle.fk_model.specs.declared.statuses.status.TheConstants.{OK}
 use Rattle.fk_model.specs.Places.{Path, Ptr}
-use Rattle.fk_model.specs.Objects.{Peer, Talk, Fault, Thread, Body, mutex_of, and_then}
+use Rattle.fk_model.specs.Objects.{Peer, Talk, Fault, Thread, Body, and_then}
 use Rattle.fk_model.specs.Objects.Body.{Thread_of}
 use Rattle.fk_model.specs.World.{World, Change, apply, apply_all}
 use Rattle.fk_model.specs.World.Change.{Alter}
-use Rattle.fk_model.specs.World.Edit.{SetLocked, Finish, End, SetFault}
+use Rattle.fk_model.specs.World.Edit.{Finish, End, SetFault}
 use Rattle.fk_model.specs.Searches.{talk_at}
 use Rattle.fk_model.specs.Reach.{Reach}
 use Rattle.fk_model.specs.Outcomes.{Said, Outcome, ◌>>=◌, refuse, when, Caller, path_of, done, ended, telling}
@@ -17,7 +17,6 @@ use Rattle.fk_model.specs.Outcomes.Said.{Nothing, Answered}
 use Rattle.fk_model.specs.Readers.{kind_at, is_kind, missed, accessed, own_page_at, own_page, their_page_at, their_page}
 use Rattle.fk_model.specs.Talks.{Line}
 use Rattle.fk_model.specs.Moves.{closed}
-use Rattle.fk_model.specs.SyncRows.{mutex_lock}
 use Rattle.fk_model.specs.Cut.{seen_by}
 use Rattle.fk_model.specs.Image.{seeing, seen_talk, seen_thread, IsSeen, AllInTalk, AllInBody, IsImage, under, AlikeResults, AlikeOptions, IsBeneath, IsSeenAs, IsSeenHandle, IsSeenBody, IsSeenThread, IsSeenHolder, PeerImage, EndImage, LineImage, ReachImage}
 use Rattle.fk_model.specs.Image.EndImage.{Ends}
@@ -26,7 +25,6 @@ use Rattle.fk_model.specs.Image.ReachImage.{Homes, Misses, Bads}
 use Rattle.fk_model.specs.ImageChanges.{ImageChange, ImageChanges, IsImageOutcome}
 use Rattle.fk_model.specs.ImageChanges.ImageChange.{Alters}
 use Rattle.fk_model.specs.ImageChanges.ImageChanges.{Empty, Both, Beyond}
-use Rattle.fk_model.proofs.ImageReads.{mutex-seen, plain_in-image}
 use Rattle.fk_model.proofs.ImageMemory.{reach_word-image}
 
 -- ---- lists of changes
@@ -201,11 +199,3 @@ module _ {root : Path} {see : Ptr → Ptr} {small big : World} (image : IsImage 
 
   pub their_page-image : (space : Path) (address : ℕ) (go on : Path → ℕ → Outcome) → ((s : Path) (page : ℕ) → Alike (go s page) (on (s ++ root) page)) → Alike (their_page small space address go) (their_page big (space ++ root) address on)
   their_page-image space address go on goes = their_page_at-image go on _ _ (reach_word-image image space address true) goes
-
-  -- ---- a lock
-
-  pub mutex_lock-image : (c : Caller) (m : ℕ) → Alike (mutex_lock small c m) (mutex_lock big (under root c) m)
-  unfolding mutex_lock
-  mutex_lock-image c m =
-      bind_same _ _ _ _ (plain_in-image image mutex_of (mutex-seen see) c c.space m)
-      (λ locked. when-image (not locked) _ _ (done-image c _ _ [] (Both (Alters m c.space _ _ refl tt) Empty)))

@@ -14,7 +14,7 @@ use Rattle.fk_model.specs.World.{World, serves}
 use Rattle.fk_model.specs.Searches.{residents, depth, beneath_by, beneath, objects, talk_at, fault_at, client_of, faulter_of, is_serving}
 use Rattle.fk_model.specs.Valid.{services, IsValid, kind_there, is_one_of, leads_there, all_in, is_good, is_good_peer, is_good_talk, is_good_fault, lies_with}
 use Rattle.fk_model.specs.Cut.{is_out, is_served_by, ports_of, cut_out, cut_to, cut_ptr, IsPlain}
-use Rattle.fk_model.specs.Image.{seeing, seen_peer, seen_talk, seen_fault, PtrImage, IsSeen, IfServer, AllInTalk, AllInFault, IsImage, IsCutWorld, IsApart, AlikeOptions, IsBeneath, IsSeenTalk, IsSeenFault}
+use Rattle.fk_model.specs.Image.{seeing, seen_peer, seen_talk, seen_fault, PtrImage, IsSeen, IfServer, AllInTalk, AllInFault, IsImage, IsCutWorld, IsApart, is_among, IsWalked, IsServedAlike, AlikeOptions, IsBeneath, IsSeenTalk, IsSeenFault}
 use Rattle.fk_model.specs.Image.PtrImage.{Nulls, Deads, Inside, PortAt, PortOut}
 use Rattle.fk_model.proofs.PlaceLaws.{same_path_refl, same_path_eq, same_path_cancel, strip-append, strip_some, leads_to_at}
 use Rattle.fk_model.proofs.Images.{image-cut_world}
@@ -25,14 +25,6 @@ use Rattle.fk_model.proofs.ImageWalks.{list_any-flat_map, any_beneath-image, is_
 use Rattle.fk_model.proofs.ImageSweeps.{serves_alike}
 
 -- ---- walks
-
--- x is among these paths
-abbrev pub is_among : Path → List Path → Bool
-is_among x xs = list_any (same_path x) xs
-
--- the walk from the root finds every object
-pub record IsWalked (w : World) : Type 0 where
-  pub found : (k : ℕ) (x : Path) → is_some (w.body (k ∷ x)) ≡ true → is_among (k ∷ x) (objects w) ≡ true
 
 any_found : {A : Type 0} (f : A → Bool) (xs : List A) → list_any f xs ≡ true → (x : A) × (f x ≡ true) × ((g : A → Bool) → g x ≡ true → list_any g xs ≡ true)
 any_found f [] h = cc
@@ -194,13 +186,6 @@ or_true false = refl
 
 served_fault : (root q : Path) (t : Thread) (fault : Fault) → t.fault ≡ Some fault → fault.taker ≡ Some (Server (At (q ++ root))) → is_served_by root (Some (Thread_of t)) ≡ true
 served_fault root q t fault is taker = rw (is, taker, strip-append root q) (or_true _)
-
--- each thread serves one thread at most, one inside none outside, and the walk from the root finds every object
-pub record IsServedAlike (root : Path) (see : Ptr → Ptr) (big : World) : Type 0 where
-  pub walked : IsWalked big
-  pub apart : IsApart root see big
-  pub one : (server x y : Path) → 0 < services big server x → 0 < services big server y → x ≡ y
-  pub inside : (x : Path) → is_within root x ≡ false → is_served_by root (big.body x) ≡ false
 
 module _ {root : Path} {see : Ptr → Ptr} {small big : World} (image : IsImage root see small big) where
   -- the walk finds every object of the image

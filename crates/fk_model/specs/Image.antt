@@ -4,16 +4,17 @@
 -- image of what it was. The paths of an image begin at the root. `see` says what each pointer is seen as: inside by its
 -- path there, a port outside by a slot. Who is at such a port is seen as Outside, whoever it is. What a move does inside it
 -- does alike in the image.
-use Rattle.std.specs.Prelude.{◌≡◌, ℕ, zero, Bool, true, false, List, [], ◌∷◌, ◌++◌, Option, Some, None, IfSome, option_map, Result, Ok, Err}
+use Rattle.std.specs.Prelude.{◌≡◌, ℕ, zero, ◌<◌, Bool, true, false, List, [], ◌∷◌, ◌++◌, Option, Some, None, IfSome, is_some, option_map, Result, Ok, Err}
+use Rattle.std.specs.List.{list_any}
 use Rattle.fk_model.specs.declared.names.Kind.{Kind}
 use Rattle.fk_model.specs.declared.names.Kind.TheVariants as kinds
-use Rattle.fk_model.specs.Places.{Path, is_within, Ptr}
+use Rattle.fk_model.specs.Places.{Path, same_path, is_within, Ptr}
 use Rattle.fk_model.specs.Places.Ptr.{Null, Dead, At, Out, Outside, Far}
 use Rattle.fk_model.specs.Objects.{Mode, Peer, Talk, Fault, Thread, Window, Extent, Body, thread_of, and_then}
 use Rattle.fk_model.specs.Objects.Peer.{Server, Service, Parked}
 use Rattle.fk_model.specs.Objects.Body.{Mutex, Cond, Mapping, Region, Port, Portset, Space, Thread_of, Reference}
 use Rattle.fk_model.specs.World.{World, Sweep, serves}
-use Rattle.fk_model.specs.Searches.{talk_at, fault_at}
+use Rattle.fk_model.specs.Searches.{objects, talk_at, fault_at}
 use Rattle.fk_model.specs.Reach.{Reach}
 use Rattle.fk_model.specs.Reach.Reach.{Home, Missing, Bad}
 use Rattle.fk_model.specs.Outcomes.{Caller}
@@ -21,8 +22,8 @@ use Rattle.fk_model.specs.Readers.{kind_at, is_kind}
 use Rattle.fk_model.specs.Talks.{Line}
 use Rattle.fk_model.specs.LinkRows.{Candidate}
 use Rattle.fk_model.specs.LinkRows.Candidate.{Faulting, Connecting, Resuming}
-use Rattle.fk_model.specs.Valid.{kind_there}
-use Rattle.fk_model.specs.Cut.{is_out, seen_by, unheld}
+use Rattle.fk_model.specs.Valid.{kind_there, services}
+use Rattle.fk_model.specs.Cut.{is_out, seen_by, unheld, is_served_by}
 
 -- ---- what is seen of a peer, a talk, a fault and a thread, where `see` says what each pointer is seen as
 
@@ -125,6 +126,21 @@ IsOuter root peer = (x : Path) → serves (x ++ root) peer ≡ false
 pub record IsApart (root : Path) (see : Ptr → Ptr) (big : World) : Type 0 where
   pub talks : (k : ℕ) (q : Path) (talk : Talk) → talk_at big (k ∷ (q ++ root)) ≡ Some talk → is_out (see talk.port) ≡ true → IsOuter root talk.peer
   pub faults : (k : ℕ) (q : Path) (fault : Fault) (taker : Peer) → fault_at big (k ∷ (q ++ root)) ≡ Some fault → is_out (see fault.port) ≡ true → fault.taker ≡ Some taker → IsOuter root taker
+
+-- x is among these paths
+abbrev pub is_among : Path → List Path → Bool
+is_among x xs = list_any (same_path x) xs
+
+-- the walk from the root finds every object
+pub record IsWalked (w : World) : Type 0 where
+  pub found : (k : ℕ) (x : Path) → is_some (w.body (k ∷ x)) ≡ true → is_among (k ∷ x) (objects w) ≡ true
+
+-- each thread serves one thread at most, one inside serves none outside, and the walk from the root finds every object
+pub record IsServedAlike (root : Path) (see : Ptr → Ptr) (big : World) : Type 0 where
+  pub walked : IsWalked big
+  pub apart : IsApart root see big
+  pub one : (server x y : Path) → 0 < services big server x → 0 < services big server y → x ≡ y
+  pub inside : (x : Path) → is_within root x ≡ false → is_served_by root (big.body x) ≡ false
 
 -- ---- what is read alike
 

@@ -45,3 +45,4 @@ pub mod WorkedPorters
 pub mod Image
 pub mod ImageChanges
 pub mod Rebind
+pub mod ImageLaws

@@ -1,0 +1,96 @@
+-- Laws of images, as statements that are proved.
+use Rattle.std.specs.Prelude.{◌≡◌, ℕ, zero, Bool, false, List, [], ◌∷◌, ◌++◌, map, Option, Some, None, option_map}
+use Rattle.fk_model.specs.declared.names.Kind.{Kind}
+use Rattle.fk_model.specs.declared.thread.Turn.TheVariants as turns
+use Rattle.fk_model.specs.Places.{Path, Ptr}
+use Rattle.fk_model.specs.Objects.{Thread, and_then, thread_of}
+use Rattle.fk_model.specs.World.{World, Change, apply_all}
+use Rattle.fk_model.specs.Searches.{residents, beneath, leaf, talk_at, fault_at, client_of, faulter_of}
+use Rattle.fk_model.specs.Reach.{mapping_at, region_at, keeper, reach}
+use Rattle.fk_model.specs.Holds.{decider, is_frozen, is_frozen_for, is_free}
+use Rattle.fk_model.specs.Outcomes.{Caller}
+use Rattle.fk_model.specs.Readers.{anything, object_in, kind_at, handle, place, referred}
+use Rattle.fk_model.specs.Talks.{line, thread_at}
+use Rattle.fk_model.specs.SpaceRows.{next_page}
+use Rattle.fk_model.specs.SyncRows.{mutex_lock}
+use Rattle.fk_model.specs.LinkRows.{candidate}
+use Rattle.fk_model.specs.Cut.{ports_of, cut_ptr, cut, IsPlain}
+use Rattle.fk_model.specs.Image.{seen_thread, PtrImage, IsImage, IsCutWorld, IsApart, IsServedAlike, under, AlikeResults, AlikeOptions, IsBeneath, IsSeenAs, IsSeenHandle, IsSeenBody, IsSeenThread, IsSeenWindow, IsSeenExtent, IsSeenTalk, IsSeenFault, ReachImage, EndImage, LineImage, CandidateImage}
+use Rattle.fk_model.specs.ImageChanges.{ImageChanges, IsImageOutcome}
+use Rattle.fk_model.specs.Rebind.{rebound_ptr, rebound}
+
+-- ---- what is an image
+
+-- a plain subtree, seen alone, is an image of its world
+abbrev pub CutIsImage : Type 0
+CutIsImage = (w : World) (nester : Path) (slot : ℕ) → IsPlain w nester slot → IsImage (slot ∷ nester) (cut_ptr (ports_of w nester slot) nester slot) (cut w nester slot) w
+
+-- every image is such as a subtree that is seen alone
+abbrev pub ImageIsCutWorld : Type 0
+ImageIsCutWorld = (root : Path) (see : Ptr → Ptr) (small big : World) → IsImage root see small big → IsCutWorld small
+
+-- and such a world with other outward ports is an image of what it was
+abbrev pub RebindingIsImage : Type 0
+RebindingIsImage = (bind : ℕ → ℕ) (c : World) → IsCutWorld c → IsImage [] (rebound_ptr bind) (rebound bind c) c
+
+-- ---- what is read alike in every image
+
+-- slots, handles and memory
+pub record ReadsAlike (root : Path) (see : Ptr → Ptr) (small big : World) : Type 0 where
+  pub objects : (c : Caller) (s : Path) (k : ℕ) → AlikeResults (IsSeenBody root see big) (object_in small c anything s k) (object_in big (under root c) anything (s ++ root) k)
+  pub kinds : (p seen : Ptr) → PtrImage root big p seen → kind_at small seen ≡ kind_at big p
+  pub handles : (c : Caller) (wanted : Kind) (h : ℕ) → AlikeResults (IsSeenHandle root see big wanted) (handle small c wanted h) (handle big (under root c) wanted h)
+  pub places : (c : Caller) (s : ℕ) → AlikeResults (IsBeneath root) (place small c s) (place big (under root c) s)
+  pub references : (c : Caller) (wanted : Kind) (k : ℕ) → AlikeResults (IsSeenHandle root see big wanted) (referred small c wanted k) (referred big (under root c) wanted k)
+  pub mappings : (q : Path) (page : ℕ) → AlikeOptions (IsSeenWindow root see big) (mapping_at small q page) (mapping_at big (q ++ root) page)
+  pub regions : (q : Path) (page : ℕ) → AlikeOptions (IsSeenExtent root see big) (region_at small q page) (region_at big (q ++ root) page)
+  pub keepers : (q : Path) (page : ℕ) → AlikeOptions (IsSeenAs root see big) (keeper small q page) (keeper big (q ++ root) page)
+  pub reaches : (q : Path) (page : ℕ) (write : Bool) → ReachImage root see big (reach small q page write) (reach big (q ++ root) page write)
+  pub next_pages : (q : Path) (from : ℕ) → next_page small q from ≡ next_page big (q ++ root) from
+
+-- threads, and what lies in a space
+pub record FindsAlike (root : Path) (see : Ptr → Ptr) (small big : World) : Type 0 where
+  pub threads : (q : Path) → AlikeOptions (IsSeenThread root see big) (and_then thread_of (small.body q)) (and_then thread_of (big.body (q ++ root)))
+  pub talks : (q : Path) → AlikeOptions (IsSeenTalk root see big) (talk_at small q) (talk_at big (q ++ root))
+  pub faults : (q : Path) → AlikeOptions (IsSeenFault root see big) (fault_at small q) (fault_at big (q ++ root))
+  pub ends : (p seen : Ptr) → PtrImage root big p seen → AlikeOptions (EndImage root see big) (thread_at small seen) (thread_at big p)
+  pub residents : (q : Path) → residents small q ≡ residents big (q ++ root)
+  pub beneath : (q : Path) → beneath big (q ++ root) ≡ map (λ x. x ++ root) (beneath small q)
+  pub leaves : (q : Path) → leaf big (q ++ root) ≡ leaf small q ++ root
+
+abbrev pub ImageReadsAlike : Type 0
+ImageReadsAlike = (root : Path) (see : Ptr → Ptr) (small big : World) → IsImage root see small big → ReadsAlike root see small big × FindsAlike root see small big
+
+-- holds, where nothing at or above the root is held
+pub record HoldsAlike (root : Path) (see : Ptr → Ptr) (small big : World) : Type 0 where
+  pub deciders : (q : Path) → AlikeOptions (IsSeenAs root see big) (decider small q) (decider big (q ++ root))
+  pub frozen : (q : Path) → is_frozen small q ≡ is_frozen big (q ++ root)
+  pub frozen_for : (me q : Path) → is_frozen_for small me q ≡ is_frozen_for big (me ++ root) (q ++ root)
+  pub free : (q : Path) (t : Thread) → is_free small q (seen_thread see t) ≡ is_free big (q ++ root) t
+  pub candidates : (space : Path) (set k : ℕ) (q : Path) → AlikeOptions (CandidateImage see big (k ∷ (q ++ root))) (candidate small space set (k ∷ q)) (candidate big (space ++ root) set (k ∷ (q ++ root)))
+
+abbrev pub ImageHoldsAlike : Type 0
+ImageHoldsAlike = (root : Path) (see : Ptr → Ptr) (small big : World) → IsImage root see small big → is_frozen big root ≡ false → HoldsAlike root see small big
+
+-- who serves whom, where no thread inside serves one outside
+pub record ServesAlike (root : Path) (see : Ptr → Ptr) (small big : World) : Type 0 where
+  pub clients : (server : Path) → AlikeOptions (IsBeneath root) (client_of small server) (client_of big (server ++ root))
+  pub faulters : (server : Path) → AlikeOptions (IsBeneath root) (faulter_of small server) (faulter_of big (server ++ root))
+  pub client_lines : (k : ℕ) (q : Path) → AlikeOptions (LineImage root see big) (line small (k ∷ q) turns.Client) (line big (k ∷ (q ++ root)) turns.Client)
+  pub server_lines : (server : Path) → AlikeOptions (LineImage root see big) (line small server turns.Server) (line big (server ++ root) turns.Server)
+
+abbrev pub ImageServesAlike : Type 0
+ImageServesAlike = (root : Path) (see : Ptr → Ptr) (small big : World) → IsImage root see small big → IsServedAlike root see big → ServesAlike root see small big
+
+-- ---- what is done alike in every image
+
+abbrev pub LockActsAlike : Type 0
+LockActsAlike = (root : Path) (see : Ptr → Ptr) (small big : World) → IsImage root see small big → (c : Caller) (m : ℕ) → IsImageOutcome root see big (mutex_lock small c m) (mutex_lock big (under root c) m)
+
+-- an image stays one through changes that are alike
+abbrev pub ImageStays : Type 0
+ImageStays = (root : Path) (see : Ptr → Ptr) (small big : World) (cs ds : List Change) → IsImage root see small big → ImageChanges root see big cs ds → IsImage root see (apply_all cs small) (apply_all ds big)
+
+-- what changes in a plain subtree changes alike in the subtree seen alone
+abbrev pub CutChangesAlike : Type 0
+CutChangesAlike = (w : World) (nester : Path) (slot : ℕ) (cs ds : List Change) → IsPlain w nester slot → ImageChanges (slot ∷ nester) (cut_ptr (ports_of w nester slot) nester slot) w cs ds → cut (apply_all ds w) nester slot ≡ apply_all cs (cut w nester slot)
