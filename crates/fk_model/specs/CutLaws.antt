@@ -47,3 +47,12 @@ moves x pick = record { mover = x; pick = pick; ask = asks.Run }
 -- the law for every move of a user thread at such a stage, inside the subtree or outside
 abbrev pub StageKeepsCut : (Stage → Type 0) → Type 0
 StageKeepsCut IsSuch = (w : World) (nester : Path) (slot : ℕ) (x : Path) (pick : Option Path) (stage : Stage) → IsSuch stage → IsAtStage w x stage → KeepsCut w nester slot (moves x pick)
+
+-- the law for every move of a user thread inside the subtree that is at such a stage
+abbrev pub StageInsideKeepsCut : (Stage → Type 0) → Type 0
+StageInsideKeepsCut IsSuch = (w : World) (nester : Path) (slot : ℕ) (x : Path) (pick : Option Path) (stage : Stage) → IsSuch stage → is_within (slot ∷ nester) x ≡ true → IsAtStage w x stage → KeepsCut w nester slot (moves x pick)
+
+-- ---- which stages are meant
+
+abbrev pub IsLock : Stage → Type 0
+IsLock stage = (m : ℕ) × (stage ≡ MutexLock m)

@@ -6,6 +6,7 @@
 #![tactic(auto)]
 
 mod body;
+pub mod cut_laws;
 mod instruction;
 mod job;
 pub mod laws;
