@@ -25,10 +25,10 @@ use Rattle.fk_model.proofs.PlaceLaws.{same_path_cancel}
 use Rattle.fk_model.proofs.ImageMemory.{root_seen}
 use Rattle.fk_model.proofs.ImageHolds.{leads_to-image, is_frozen_for-image}
 
-both_off : (a b : Bool) → a ≡ false → b ≡ false → (a || b) ≡ false
+pub both_off : (a b : Bool) → a ≡ false → b ≡ false → (a || b) ≡ false
 both_off a b h g = rw h g
 
-not_off : (a : Bool) → not a ≡ true → a ≡ false
+pub not_off : (a : Bool) → not a ≡ true → a ≡ false
 not_off false h = refl
 not_off true h = cc
 

@@ -1,4 +1,4 @@
-use Rattle.fk_model.proofs.CutHolds.{changes-allowed}
+use Rattle.fk_model.proofs.CutPlain.{changes-clear}
 use Rattle.fk_model.proofs.cut_laws.a_lock_inside_keeps_the_cut.Goals as goal
 
 pub returns : goal.returns
