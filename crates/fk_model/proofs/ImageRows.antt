@@ -19,7 +19,7 @@ use Rattle.fk_model.specs.Readers.{handle, accessed}
 use Rattle.fk_model.specs.Talks.{thread_at}
 use Rattle.fk_model.specs.SyncRows.{mutex_lock}
 use Rattle.fk_model.specs.SpaceRows.{thread_by, thread_stop}
-use Rattle.fk_model.specs.UserRows.{proceeds, halts_with, word_at, loads, stores, enters, performs, executes, run_row}
+use Rattle.fk_model.specs.UserRows.{proceeds, halts_with, word_at, loads, stores, enters, performs, executes, run_row_by, run_row}
 use Rattle.fk_model.specs.Image.{IsSeenHandle, IsImage, under, AlikeResults, EndImage}
 use Rattle.fk_model.specs.ImageChanges.{ImageChange, ImageChanges, IsImageOutcome}
 use Rattle.fk_model.specs.ImageChanges.ImageChange.{Alters, PutsPage}
@@ -69,7 +69,7 @@ module _ {root : Path} {see : Ptr → Ptr} {small big : World} (image : IsImage 
       accessed-image image slot space write (halts_with (slot ∷ space) g counter) (halts_with (slot ∷ (space ++ root)) g counter) go on (reach_word small space address write) (reach_word big (space ++ root) address write)
       (reach_word-image image space address write) (λ code. proceeds-image slot space (Halted g code) counter) goes
 
-  performs-image : (space : Path) (slot : ℕ) (g : List ℕ) (counter : ℕ) (a : Act) → Alike (performs small space (slot ∷ space) g counter a) (performs big (space ++ root) (slot ∷ (space ++ root)) g counter a)
+  performs-image : (space : Path) (slot : ℕ) (g : List ℕ) (counter : ℕ) (a : Act) → Alike (performs todo_of small space (slot ∷ space) g counter a) (performs todo_of big (space ++ root) (slot ∷ (space ++ root)) g counter a)
   performs-image space slot g counter (Put register value) = proceeds-image slot space _ _
   performs-image space slot g counter (Jump to) = proceeds-image slot space _ _
   performs-image space slot g counter (Load register address) =
@@ -86,7 +86,7 @@ module _ {root : Path} {see : Ptr → Ptr} {small big : World} (image : IsImage 
       by (Some todo) = proceeds-image slot space _ _
 
   pub run_row-image : (space : Path) (slot : ℕ) (g : List ℕ) (counter : ℕ) → Alike (run_row small space slot g counter) (run_row big (space ++ root) slot g counter)
-  unfolding run_row
+  unfolding run_row_by
   run_row-image space slot g counter =
-      access space slot false g counter counter (executes small space (slot ∷ space) g counter) (executes big (space ++ root) (slot ∷ (space ++ root)) g counter)
+      access space slot false g counter counter (executes todo_of small space (slot ∷ space) g counter) (executes todo_of big (space ++ root) (slot ∷ (space ++ root)) g counter)
       (λ s page. rw (words_at-image image s page) (performs-image space slot g counter (act (word_at big (s ++ root) page counter) g counter)))
