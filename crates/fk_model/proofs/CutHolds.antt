@@ -15,10 +15,10 @@ use Rattle.fk_model.specs.Searches.{pointers, option_list, peer_pointer, talk_po
 use Rattle.fk_model.specs.Holds.{is_frozen, is_frozen_for, leads_to_frozen}
 use Rattle.fk_model.specs.Freezing.{body_pointers, of_talk, of_fault, changed_pointers, made_pointers, are_unfrozen, is_in_set, is_swept, talk_lost, fault_lost, lost_with, may_be_swept, may_follow, MayAlter, MayMake, MayKill, MayMove, IsAllowed, AreAllowed}
 use Rattle.fk_model.specs.Cut.{is_out, seen_by, unheld}
-use Rattle.fk_model.specs.Image.{seeing, seen_peer, seen_talk, seen_fault, PtrImage, IsSeen, IfServer, AllInTalk, AllInFault, AllInBody, IsImage}
+use Rattle.fk_model.specs.Image.{seeing, seen_peer, seen_talk, seen_fault, PtrImage, IsSeen, IfServer, AllInTalk, AllInFault, IsPlainBody, IsImage}
 use Rattle.fk_model.specs.Image.PtrImage.{Nulls, Deads, Inside, PortAt, PortOut}
 use Rattle.fk_model.specs.ImageChanges.{seen_edit, IsSeenEdit, ImageChange, ImageChanges}
-use Rattle.fk_model.specs.ImageChanges.ImageChange.{Alters, Makes, MakesSpace, Kills, Moves, PutsPage, DropsPage}
+use Rattle.fk_model.specs.ImageChanges.ImageChange.{Alters, AltersOut, Makes, MakesSpace, Kills, Moves, PutsPage, DropsPage}
 use Rattle.fk_model.specs.ImageChanges.ImageChanges.{Empty, Both, Beyond}
 use Rattle.fk_model.proofs.FrameLaws.{or_off}
 use Rattle.fk_model.proofs.PlaceLaws.{same_path_cancel}
@@ -78,7 +78,7 @@ module _ (root : Path) (see : Ptr → Ptr) (v : World) (f g : Ptr → Bool) (out
       let both = or_off (list_any g c) (list_any g d) (sym (list_any-append g c d) ∙ off) in
       list_any-append f a b ∙ both_off _ _ (first both.0) (then both.1)
 
-  pub body_off : (b : Body) → AllInBody see (IsSeen root see v) b → Off (pointers (seen_by (seeing see) b)) (pointers b)
+  pub body_off : (b : Body) → IsPlainBody see (IsSeen root see v) b → Off (pointers (seen_by (seeing see) b)) (pointers b)
   unfolding seen_by
   body_off (Mapping m) h off = ptr_off m.region h off
   body_off (Region r) h off = ptr_off r.keeper h off
@@ -97,33 +97,33 @@ module _ (root : Path) (see : Ptr → Ptr) (v : World) (f g : Ptr → Bool) (out
 
   -- ---- what an edit changes, and what it makes
 
-  changed_off : (edit : Edit) (b : Body) → AllInBody see (IsSeen root see v) b → Off (changed_pointers (seen_edit see edit) (seen_by (seeing see) b)) (changed_pointers edit b)
+  changed_off : (out : Bool) (edit : Edit) (b : Body) → IsPlainBody see (IsSeen root see v) b → Off (changed_pointers (seen_edit see out edit) (seen_by (seeing see) b)) (changed_pointers edit b)
   unfolding seen_by
-  changed_off (SetPointer to) b h off = body_off b h off
-  changed_off (SetHolder holder) b h off = body_off b h off
-  changed_off (SetTalk talk) (Thread_of t) h off = talk_off t.talk h.0 off
-  changed_off (SetTalk talk) b h off = refl
-  changed_off (SetPeer peer) (Thread_of t) h off = peer_of_off t.talk h.0 off
-  changed_off (SetPeer peer) b h off = refl
-  changed_off (SetFault fault) (Thread_of t) h off = fault_off t.fault h.1 off
-  changed_off (SetFault fault) b h off = refl
-  changed_off (SetTaker taker) (Thread_of t) h off = taker_of_off t.fault h.1 off
-  changed_off (SetTaker taker) b h off = refl
-  changed_off edit b h off = refl
+  changed_off out (SetPointer to) b h off = body_off b h off
+  changed_off out (SetHolder holder) b h off = body_off b h off
+  changed_off out (SetTalk talk) (Thread_of t) h off = talk_off t.talk h.0 off
+  changed_off out (SetTalk talk) b h off = refl
+  changed_off out (SetPeer peer) (Thread_of t) h off = peer_of_off t.talk h.0 off
+  changed_off out (SetPeer peer) b h off = refl
+  changed_off out (SetFault fault) (Thread_of t) h off = fault_off t.fault h.1 off
+  changed_off out (SetFault fault) b h off = refl
+  changed_off out (SetTaker taker) (Thread_of t) h off = taker_of_off t.fault h.1 off
+  changed_off out (SetTaker taker) b h off = refl
+  changed_off out edit b h off = refl
 
-  pub changed_there_off : (edit : Edit) (k : ℕ) (q : Path) (o : Option Body) → IfSome o (AllInBody see (IsSeen root see v)) →
-      Off (option_list (changed_pointers (seen_edit see edit)) (option_map (λ b. unheld (k ∷ q) (seen_by (seeing see) b)) o)) (option_list (changed_pointers edit) o)
-  changed_there_off edit k q None h off = refl
-  changed_there_off edit k q (Some b) h off = changed_off edit b h off
+  pub changed_there_off : (out : Bool) (edit : Edit) (k : ℕ) (q : Path) (o : Option Body) → IfSome o (IsPlainBody see (IsSeen root see v)) →
+      Off (option_list (changed_pointers (seen_edit see out edit)) (option_map (λ b. unheld (k ∷ q) (seen_by (seeing see) b)) o)) (option_list (changed_pointers edit) o)
+  changed_there_off out edit k q None h off = refl
+  changed_there_off out edit k q (Some b) h off = changed_off out edit b h off
 
-  pub made_off : (edit : Edit) (x : Path) → IsSeenEdit root see v x edit → Off (made_pointers (seen_edit see edit)) (made_pointers edit)
-  made_off (SetPointer to) x h off = ptr_off to h off
-  made_off (SetHolder holder) x h off = holder_off holder h off
-  made_off (SetTalk talk) x h off = talk_off talk h off
-  made_off (SetPeer peer) x h off = peer_off false peer h.1 off
-  made_off (SetFault fault) x h off = fault_off fault h off
-  made_off (SetTaker taker) x h off = taker_off false taker h.1 off
-  made_off edit x h off = refl
+  pub made_off : (out : Bool) (edit : Edit) (x : Path) → IsSeenEdit root see v out x edit → Off (made_pointers (seen_edit see out edit)) (made_pointers edit)
+  made_off out (SetPointer to) x h off = ptr_off to h off
+  made_off out (SetHolder holder) x h off = holder_off holder h off
+  made_off out (SetTalk talk) x h off = talk_off talk h off
+  made_off out (SetPeer peer) x h off = peer_off out peer h.1 off
+  made_off out (SetFault fault) x h off = fault_off fault h off
+  made_off out (SetTaker taker) x h off = taker_off out taker h.1 off
+  made_off out edit x h off = refl
 
 -- ---- the rule
 
@@ -148,11 +148,11 @@ module _ {root : Path} {see : Ptr → Ptr} {small big : World} (image : IsImage 
   unfrozen : (seen ps : List Ptr) → (list_any far ps ≡ false → list_any near seen ≡ false) → are_unfrozen big (me ++ root) ps ≡ true → are_unfrozen small me seen ≡ true
   unfrozen seen ps off h = ap not (off (not_off (list_any far ps) h))
 
-  alter-allowed : (v : World) (k : ℕ) (q : Path) (edit : Edit) → IsSeenEdit root see v (k ∷ (q ++ root)) edit → MayAlter big (me ++ root) (k ∷ (q ++ root)) edit → MayAlter small me (k ∷ q) (seen_edit see edit)
-  alter-allowed v k q edit h may = record {
+  alter-allowed : (v : World) (out : Bool) (k : ℕ) (q : Path) (edit : Edit) → IsSeenEdit root see v out (k ∷ (q ++ root)) edit → MayAlter big (me ++ root) (k ∷ (q ++ root)) edit → MayAlter small me (k ∷ q) (seen_edit see out edit)
+  alter-allowed v out k q edit h may = record {
     object = object (k ∷ q) may.object;
-    changed = unfrozen (option_list (changed_pointers (seen_edit see edit)) (small.body (k ∷ q))) (option_list (changed_pointers edit) (big.body (k ∷ (q ++ root)))) (rw (image.bodies (k ∷ q)) (changed_there_off root see big near far refl (λ p. thaws big p (see p)) edit k q (big.body (k ∷ (q ++ root))) (image.pointers k q))) may.changed;
-    made = unfrozen (made_pointers (seen_edit see edit)) (made_pointers edit) (made_off root see v near far refl (λ p. thaws v p (see p)) edit (k ∷ (q ++ root)) h) may.made;
+    changed = unfrozen (option_list (changed_pointers (seen_edit see out edit)) (small.body (k ∷ q))) (option_list (changed_pointers edit) (big.body (k ∷ (q ++ root)))) (rw (image.bodies (k ∷ q)) (changed_there_off root see big near far refl (λ p. thaws big p (see p)) out edit k q (big.body (k ∷ (q ++ root))) (image.plain k q))) may.changed;
+    made = unfrozen (made_pointers (seen_edit see out edit)) (made_pointers edit) (made_off root see v near far refl (λ p. thaws v p (see p)) out edit (k ∷ (q ++ root)) h) may.made;
   }
 
   -- ---- what a death sweeps
@@ -166,7 +166,7 @@ module _ {root : Path} {see : Ptr → Ptr} {small big : World} (image : IsImage 
   set_off x j z (Port (Some k) served) = same_path_cancel (k ∷ z) x root
   set_off x j z b = refl
 
-  swept_off : (x : Path) (j : ℕ) (z : Path) (o : Option Body) → IfSome o (AllInBody see (IsSeen root see big)) → is_swept (x ++ root) (j ∷ (z ++ root)) o ≡ false → is_swept x (j ∷ z) (option_map (λ b. unheld (j ∷ z) (seen_by (seeing see) b)) o) ≡ false
+  swept_off : (x : Path) (j : ℕ) (z : Path) (o : Option Body) → IfSome o (IsPlainBody see (IsSeen root see big)) → is_swept (x ++ root) (j ∷ (z ++ root)) o ≡ false → is_swept x (j ∷ z) (option_map (λ b. unheld (j ∷ z) (seen_by (seeing see) b)) o) ≡ false
   swept_off x j z None h off = refl
   swept_off x j z (Some b) h off =
       let both = or_off (list_any (leads_to (x ++ root)) (pointers b)) _ off in
@@ -195,7 +195,7 @@ module _ {root : Path} {see : Ptr → Ptr} {small big : World} (image : IsImage 
   fault_lost_off x (Some fault) h off =
       if_lost (leads_to x (see fault.port)) (leads_to (x ++ root) fault.port) _ _ (leads_off x fault.port h.0) (of_fault_off root see big near far refl (λ p. thaws big p (see p)) fault h) off
 
-  lost_off : (x : Path) (j : ℕ) (z : Path) (o : Option Body) → IfSome o (AllInBody see (IsSeen root see big)) → list_any far (lost_with (x ++ root) o) ≡ false → list_any near (lost_with x (option_map (λ b. unheld (j ∷ z) (seen_by (seeing see) b)) o)) ≡ false
+  lost_off : (x : Path) (j : ℕ) (z : Path) (o : Option Body) → IfSome o (IsPlainBody see (IsSeen root see big)) → list_any far (lost_with (x ++ root) o) ≡ false → list_any near (lost_with x (option_map (λ b. unheld (j ∷ z) (seen_by (seeing see) b)) o)) ≡ false
   unfolding seen_by
   lost_off x j z (Some (Thread_of t)) h off =
       joined_off root see big near far refl (λ p. thaws big p (see p)) (option_list (talk_lost x) (and_then (seeing see).talk t.talk)) (option_list (fault_lost x) (and_then (seeing see).fault t.fault)) (option_list (talk_lost (x ++ root)) t.talk) (option_list (fault_lost (x ++ root)) t.fault)
@@ -212,32 +212,33 @@ module _ {root : Path} {see : Ptr → Ptr} {small big : World} (image : IsImage 
   may_be_swept-image x [] may = rw (root_seen image) refl
   may_be_swept-image x (j ∷ z) may =
       by_sweep (is_swept x (j ∷ z) (small.body (j ∷ z))) (is_swept (x ++ root) (j ∷ (z ++ root)) (big.body (j ∷ (z ++ root)))) _ (not (is_frozen_for big (me ++ root) (j ∷ (z ++ root))) && are_unfrozen big (me ++ root) (lost_with (x ++ root) (big.body (j ∷ (z ++ root)))))
-      (λ off. rw (image.bodies (j ∷ z)) (swept_off x j z (big.body (j ∷ (z ++ root))) (image.pointers j z) off))
+      (λ off. rw (image.bodies (j ∷ z)) (swept_off x j z (big.body (j ∷ (z ++ root))) (image.plain j z) off))
       (λ both.
           let parts = and_parts (not (is_frozen_for big (me ++ root) (j ∷ (z ++ root)))) _ both in
           and_from _ _ (ap not (object (j ∷ z) (not_off _ parts.0)))
-          (unfrozen (lost_with x (small.body (j ∷ z))) (lost_with (x ++ root) (big.body (j ∷ (z ++ root)))) (λ off. rw (image.bodies (j ∷ z)) (lost_off x j z (big.body (j ∷ (z ++ root))) (image.pointers j z) off)) parts.1))
+          (unfrozen (lost_with x (small.body (j ∷ z))) (lost_with (x ++ root) (big.body (j ∷ (z ++ root)))) (λ off. rw (image.bodies (j ∷ z)) (lost_off x j z (big.body (j ∷ (z ++ root))) (image.plain j z) off)) parts.1))
       (may (j ∷ (z ++ root)))
 
   may_follow-image : (x q : Path) → ((z : Path) → may_follow big (me ++ root) (x ++ root) z ≡ true) → may_follow small me x q ≡ true
   may_follow-image x [] may = rw (root_seen image) refl
   may_follow-image x (j ∷ z) may =
       by_sweep (is_swept x (j ∷ z) (small.body (j ∷ z))) (is_swept (x ++ root) (j ∷ (z ++ root)) (big.body (j ∷ (z ++ root)))) _ (not (is_frozen_for big (me ++ root) (j ∷ (z ++ root))))
-      (λ off. rw (image.bodies (j ∷ z)) (swept_off x j z (big.body (j ∷ (z ++ root))) (image.pointers j z) off))
+      (λ off. rw (image.bodies (j ∷ z)) (swept_off x j z (big.body (j ∷ (z ++ root))) (image.plain j z) off))
       (λ free. ap not (object (j ∷ z) (not_off _ free)))
       (may (j ∷ (z ++ root)))
 
-  body_there_off : (k : ℕ) (q : Path) (o : Option Body) → IfSome o (AllInBody see (IsSeen root see big)) → list_any far (body_pointers o) ≡ false → list_any near (body_pointers (option_map (λ b. unheld (k ∷ q) (seen_by (seeing see) b)) o)) ≡ false
+  body_there_off : (k : ℕ) (q : Path) (o : Option Body) → IfSome o (IsPlainBody see (IsSeen root see big)) → list_any far (body_pointers o) ≡ false → list_any near (body_pointers (option_map (λ b. unheld (k ∷ q) (seen_by (seeing see) b)) o)) ≡ false
   body_there_off k q None h off = refl
   body_there_off k q (Some b) h off = body_off root see big near far refl (λ p. thaws big p (see p)) b h off
 
   change-allowed : (v : World) (c d : Change) → ImageChange root see v c d → IsAllowed big (me ++ root) d → IsAllowed small me c
-  change-allowed v _ _ (Alters k q seen edit e h) may = rw e (alter-allowed v k q edit h may)
+  change-allowed v _ _ (Alters k q seen edit e h) may = rw e (alter-allowed v false k q edit h may)
+  change-allowed v _ _ (AltersOut k q seen edit e h) may = rw e (alter-allowed v true k q edit h may)
   change-allowed v _ _ (Makes k q seen body e h) may = rw e (record { object = object (k ∷ q) may.object; made = unfrozen (pointers (seen_by (seeing see) body)) (pointers body) (body_off root see v near far refl (λ p. thaws v p (see p)) body h) may.made })
   change-allowed v _ _ (MakesSpace k q seen holder e h) may = rw e (record { object = object (k ∷ q) may.object; made = unfrozen (option_list (λ p. p ∷ []) (and_then (seeing see).holder holder)) (option_list (λ p. p ∷ []) holder) (holder_off root see v near far refl (λ p. thaws v p (see p)) holder h) may.made })
   change-allowed v _ _ (Kills k q apart) may = record {
     object = object (k ∷ q) may.object;
-    changed = unfrozen (body_pointers (small.body (k ∷ q))) (body_pointers (big.body (k ∷ (q ++ root)))) (λ off. rw (image.bodies (k ∷ q)) (body_there_off k q (big.body (k ∷ (q ++ root))) (image.pointers k q) off)) may.changed;
+    changed = unfrozen (body_pointers (small.body (k ∷ q))) (body_pointers (big.body (k ∷ (q ++ root)))) (λ off. rw (image.bodies (k ∷ q)) (body_there_off k q (big.body (k ∷ (q ++ root))) (image.plain k q) off)) may.changed;
     others = λ z. may_be_swept-image (k ∷ q) z may.others;
   }
   change-allowed v _ _ (Moves k q slot) may = record { object = object (k ∷ q) may.object; others = λ z. may_follow-image (k ∷ q) z may.others }

@@ -16,7 +16,7 @@ use Rattle.fk_model.specs.Searches.{pointers}
 use Rattle.fk_model.specs.Holds.{is_porter}
 use Rattle.fk_model.specs.StateRows.{is_native}
 use Rattle.fk_model.specs.Cut.{ports_of, cut_ptr, cut, seen_by, unheld, is_far, has_far, is_served, is_inner_peer, is_served_by, IsPlain}
-use Rattle.fk_model.specs.Image.{seeing, PtrImage, IsSeen, AllInBody, IsImage}
+use Rattle.fk_model.specs.Image.{seeing, PtrImage, IsSeen, IsPlainBody, IsImage}
 use Rattle.fk_model.specs.Image.PtrImage.{Nulls, Deads, Inside, PortAt, PortOut}
 use Rattle.fk_model.proofs.FrameLaws.{or_off}
 use Rattle.fk_model.proofs.PlaceLaws.{same_path_eq, strip-append, strip_some}
@@ -321,9 +321,9 @@ near_seen root w _ _ (PortOut old slot) = refl
 
 pub image-near : {root : Path} {see : Ptr → Ptr} {small big : World} → IsImage root see small big → (q : Path) → has_far (small.body q) ≡ false
 image-near {root} {see} {small} {big} image [] = rw (root_seen image) refl
-image-near {root} {see} {small} {big} image (k ∷ q) = rw (image.bodies (k ∷ q)) (by (big.body (k ∷ (q ++ root))) (image.pointers k q))
+image-near {root} {see} {small} {big} image (k ∷ q) = rw (image.bodies (k ∷ q)) (by (big.body (k ∷ (q ++ root))) (image.plain k q))
   where
-    by : (o : Option Body) → IfSome o (AllInBody see (IsSeen root see big)) → has_far (option_map (λ b. unheld (k ∷ q) (seen_by (seeing see) b)) o) ≡ false
+    by : (o : Option Body) → IfSome o (IsPlainBody see (IsSeen root see big)) → has_far (option_map (λ b. unheld (k ∷ q) (seen_by (seeing see) b)) o) ≡ false
     by None h = refl
     by (Some b) h = body_off root see big is_far (λ p. false) refl (λ p h off. near_seen root big p (see p) h) b h (never (pointers b))
 

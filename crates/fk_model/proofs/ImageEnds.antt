@@ -1,23 +1,23 @@
 -- Changes of several threads at once are alike in an image: the ends of talks, and the sleepers of a condition.
-use Rattle.std.proofs.Common.{◌≡◌, ℕ, Bool, true, false, cond, List, [], ◌∷◌, ◌++◌, map, flat_map, Option, Some, None, is_some, option_map, refl, sym, ap, ◌∙◌}
+use Rattle.std.proofs.Common.{◌≡◌, ℕ, Bool, true, false, cond, List, [], ◌∷◌, ◌++◌, flat_map, Option, Some, None, is_some, refl}
 use Rattle.fk_model.specs.declared.limits.TheConstants.{SLOTS}
 use Rattle.fk_model.specs.declared.thread.Turn.{Turn}
 use Rattle.fk_model.specs.declared.thread.Turn.TheVariants as turns
 use Rattle.fk_model.specs.Places.{Path, same_path, strip, is_within, Ptr}
-use Rattle.fk_model.specs.Places.Ptr.{Null, Dead, At, Out, Outside, Far}
-use Rattle.fk_model.specs.Objects.{Mode, Peer, Talk, Thread, Body, thread_of, and_then}
+use Rattle.fk_model.specs.Places.Ptr.{At}
+use Rattle.fk_model.specs.Objects.{Peer, Thread, thread_of, and_then}
 use Rattle.fk_model.specs.Objects.Peer.{Server, Service, Parked}
-use Rattle.fk_model.specs.World.{World, Change, apply_all}
+use Rattle.fk_model.specs.World.{World}
 use Rattle.fk_model.specs.Searches.{slots}
 use Rattle.fk_model.specs.Talks.{Line, is_talking, thread_at, if_talking, talking_end, served_end, ends_beyond}
 use Rattle.fk_model.specs.SyncRows.{asleep_on, woken, sleepers}
 use Rattle.fk_model.specs.LinkRows.{end_all}
-use Rattle.fk_model.specs.Image.{PtrImage, IsSeen, IsImage, AlikeOptions, IsOuter, PeerImage, EndImage, LineImage}
+use Rattle.fk_model.specs.Image.{PtrImage, IsImage, AlikeOptions, IsOuter, PeerImage, EndImage, LineImage}
 use Rattle.fk_model.specs.Image.PtrImage.{Inside}
 use Rattle.fk_model.specs.Image.PeerImage.{Outsiders, Servers, Services, Waiters}
 use Rattle.fk_model.specs.Image.EndImage.{Ends}
 use Rattle.fk_model.specs.Image.LineImage.{Lines}
-use Rattle.fk_model.specs.ImageChanges.{ImageChange, ImageChanges}
+use Rattle.fk_model.specs.ImageChanges.{ImageChanges}
 use Rattle.fk_model.specs.ImageChanges.ImageChange.{Alters}
 use Rattle.fk_model.specs.ImageChanges.ImageChanges.{Empty, Both, Beyond}
 use Rattle.fk_model.proofs.PlaceLaws.{same_path_refl, strip_some}

@@ -1,15 +1,13 @@
 -- What is held, and who is free, inside is so in an image, where nothing at or above the root is held.
-use Rattle.std.proofs.Common.{◌≡◌, ℕ, Bool, true, false, not, ◌&&◌, eqb, List, [], ◌∷◌, ◌++◌, Option, Some, None, IfSome, is_some, is_none, option_map, refl, sym, ap, ◌∙◌}
-use Rattle.fk_model.specs.declared.names.Kind.TheVariants as kinds
-use Rattle.fk_model.specs.Places.{Path, same_path, strip, is_within, Ptr, leads_to}
-use Rattle.fk_model.specs.Places.Ptr.{Null, Dead, At, Out, Outside, Far}
-use Rattle.fk_model.specs.Objects.{Mode, Fault, Thread, Body, space_of, and_then, or_else, holds}
-use Rattle.fk_model.specs.Objects.Body.{Mutex, Cond, Mapping, Region, Port, Portset, Space, Thread_of, Reference}
+use Rattle.std.proofs.Common.{◌≡◌, ℕ, Bool, true, false, not, ◌&&◌, eqb, [], ◌∷◌, ◌++◌, Option, Some, None, IfSome, is_some, is_none, option_map, refl, sym, ap, ◌∙◌}
+use Rattle.fk_model.specs.Places.{Path, strip, is_within, Ptr, leads_to}
+use Rattle.fk_model.specs.Objects.{Fault, Thread, Body, and_then, or_else}
+use Rattle.fk_model.specs.Objects.Body.{Space}
 use Rattle.fk_model.specs.World.{World}
 use Rattle.fk_model.specs.Holds.{holder_of, decider, is_frozen, is_frozen_for, is_decided_by, leads_to_frozen, is_user, is_free, is_unheld}
 use Rattle.fk_model.specs.SpaceRows.{is_held_by_other}
 use Rattle.fk_model.specs.Cut.{seen_by, unheld}
-use Rattle.fk_model.specs.Image.{seeing, seen_fault, seen_thread, PtrImage, IsSeen, AllInBody, IsImage, AlikeOptions, IsSeenAs}
+use Rattle.fk_model.specs.Image.{seeing, seen_thread, PtrImage, IsSeen, IsPlainBody, IsImage, AlikeOptions, IsSeenAs}
 use Rattle.fk_model.specs.Image.PtrImage.{Nulls, Deads, Inside, PortAt, PortOut}
 use Rattle.fk_model.proofs.PlaceLaws.{same_path_sym, same_path_cancel, same_path_outside}
 use Rattle.fk_model.proofs.Alike.{alike_or_else, alike-is_some, alike-holds}
@@ -63,9 +61,9 @@ module _ {root : Path} {see : Ptr → Ptr} {small big : World} (image : IsImage 
 
   pub holder_of-image : (k : ℕ) (q : Path) → AlikeOptions (IsSeenAs root see big) (holder_of (small.body (k ∷ q))) (holder_of (big.body (k ∷ (q ++ root))))
   unfolding seen_by
-  holder_of-image k q = rw (image.bodies (k ∷ q)) (by (big.body (k ∷ (q ++ root))) (image.pointers k q))
+  holder_of-image k q = rw (image.bodies (k ∷ q)) (by (big.body (k ∷ (q ++ root))) (image.plain k q))
     where
-      by : (v : Option Body) → IfSome v (AllInBody see (IsSeen root see big)) → AlikeOptions (IsSeenAs root see big) (holder_of (option_map (λ b. unheld (k ∷ q) (seen_by (seeing see) b)) v)) (holder_of v)
+      by : (v : Option Body) → IfSome v (IsPlainBody see (IsSeen root see big)) → AlikeOptions (IsSeenAs root see big) (holder_of (option_map (λ b. unheld (k ∷ q) (seen_by (seeing see) b)) v)) (holder_of v)
       by (Some (Space birth (Some holder))) h = (refl, h)
       by (Some (Space birth None)) h = tt
       by (Some b) h = tt

@@ -1,6 +1,5 @@
 -- The laws of images.
-use Rattle.std.proofs.Common.{◌∷◌}
-use Rattle.fk_model.specs.ImageLaws.{CutIsImage, ImageIsCutWorld, RebindingIsImage, ImageReadsAlike, ImageHoldsAlike, ImageServesAlike, LockActsAlike, ImageStays, CutChangesAlike}
+use Rattle.fk_model.specs.ImageLaws.{CutIsImage, ImageIsCutWorld, RebindingIsImage, ImageReadsAlike, ImageHoldsAlike, ImageServesAlike, LockActsAlike, ImageStays, CutChangesAlike, PlainStays}
 use Rattle.fk_model.proofs.Images.{cut-image, image-cut_world, rebind-image}
 use Rattle.fk_model.proofs.ImageReads.{anything_in-image, kind_at-image, handle-image, place-image, referred-image}
 use Rattle.fk_model.proofs.ImageMemory.{mapping_at-image, region_at-image, keeper-image, reach-image, next_page-image}
@@ -10,7 +9,7 @@ use Rattle.fk_model.proofs.ImageWaits.{candidate-image}
 use Rattle.fk_model.proofs.ImageWalks.{residents-image, beneath-image, leaf-image}
 use Rattle.fk_model.proofs.ImageServers.{client_of-image, faulter_of-image}
 use Rattle.fk_model.proofs.ImageRows.{mutex_lock-image}
-use Rattle.fk_model.proofs.ImageRuns.{changes-image, cut-changes}
+use Rattle.fk_model.proofs.ImageRuns.{changes-image, cut-changes, plain-changes}
 
 pub cut_is_image : CutIsImage
 cut_is_image w nester slot plain = cut-image w nester slot plain
@@ -43,7 +42,8 @@ image_reads_alike root see small big image = (
     residents = residents-image image;
     beneath = beneath-image image;
     leaves = leaf-image image;
-  })
+  },
+)
 
 pub image_holds_alike : ImageHoldsAlike
 image_holds_alike root see small big image free = record {
@@ -70,3 +70,6 @@ image_stays root see small big cs ds image changes = changes-image small big cs 
 
 pub cut_changes_alike : CutChangesAlike
 cut_changes_alike w nester slot cs ds plain changes = cut-changes w nester slot cs ds plain changes
+
+pub plain_stays : PlainStays
+plain_stays w nester slot cs ds plain changes inside = plain-changes w nester slot cs ds plain changes inside

@@ -1,20 +1,18 @@
 -- Pages are reached alike in an image.
-use Rattle.std.proofs.Common.{◌≡◌, ℕ, zero, suc, ◌+◌, ◌-◌, ◌/◌, Bool, true, false, cond, not, ◌&&◌, ◌||◌, ltb, leb, List, [], ◌∷◌, ◌++◌, Option, Some, None, IfSome, option_map, refl, sym, ap, ◌∙◌}
+use Rattle.std.proofs.Common.{◌≡◌, ℕ, zero, suc, ◌+◌, ◌-◌, ◌/◌, Bool, true, false, cond, ltb, leb, List, [], ◌∷◌, ◌++◌, Option, Some, None, IfSome, option_map, refl, ap}
 use Rattle.fk_model.specs.declared.limits.TheConstants.{SLOTS, MAPPINGS, PAGES, PAGE_WORDS, SPACE_WORDS}
 use Rattle.fk_model.specs.declared.names.Kind.TheVariants as kinds
-use Rattle.fk_model.specs.Places.{Path, parent, Ptr}
-use Rattle.fk_model.specs.Places.Ptr.{Null, Dead, At, Out, Outside, Far}
-use Rattle.fk_model.specs.Objects.{Window, Extent, Body, kind_of, mapping_of, region_of, covers, and_then, or_else}
-use Rattle.fk_model.specs.Objects.Body.{Mutex, Cond, Mapping, Region, Port, Portset, Space, Thread_of, Reference}
+use Rattle.fk_model.specs.Places.{Path, Ptr}
+use Rattle.fk_model.specs.Objects.{Window, Extent, Body, kind_of, mapping_of, region_of, covers, and_then}
+use Rattle.fk_model.specs.Objects.Body.{Mapping, Region, Space}
 use Rattle.fk_model.specs.World.{World}
 use Rattle.fk_model.specs.Searches.{lowest}
 use Rattle.fk_model.specs.Reach.{Reach, mapping_at, region_at, live_keeper, keeper, page_in, led_by, followed, mapped, at_home, reach_by, reach, reach_word, words_at}
-use Rattle.fk_model.specs.Reach.Reach.{Home, Missing, Bad}
+use Rattle.fk_model.specs.Reach.Reach.{Missing, Bad}
 use Rattle.fk_model.specs.SpaceRows.{next_page}
-use Rattle.fk_model.specs.Readers.{kind_at}
 use Rattle.fk_model.specs.Valid.{kind_there}
 use Rattle.fk_model.specs.Cut.{seen_by, unheld}
-use Rattle.fk_model.specs.Image.{seeing, seen_window, seen_extent, PtrImage, IsSeen, AllInBody, IsImage, AlikeOptions, IsSeenAs, IsSeenWindow, IsSeenExtent, IsSeenPlace, ReachImage}
+use Rattle.fk_model.specs.Image.{seeing, seen_window, seen_extent, PtrImage, IsSeen, IsPlainBody, IsImage, AlikeOptions, IsSeenAs, IsSeenWindow, IsSeenExtent, IsSeenPlace, ReachImage}
 use Rattle.fk_model.specs.Image.PtrImage.{Nulls, Deads, Inside, PortAt, PortOut}
 use Rattle.fk_model.specs.Image.ReachImage.{Homes, Misses, Bads}
 use Rattle.fk_model.proofs.Alike.{alike_and_then, alike_cond, alike_lowest}
@@ -43,9 +41,9 @@ module _ {root : Path} {see : Ptr → Ptr} {small big : World} (image : IsImage 
 
   pub mapping_at-image : (q : Path) (page : ℕ) → AlikeOptions (IsSeenWindow root see big) (mapping_at small q page) (mapping_at big (q ++ root) page)
   unfolding mapping_at seen_by
-  mapping_at-image q page = alike_lowest (IsSeenWindow root see big) SLOTS _ _ (λ k. rw (image.bodies (k ∷ q)) (by k (big.body (k ∷ (q ++ root))) (image.pointers k q)))
+  mapping_at-image q page = alike_lowest (IsSeenWindow root see big) SLOTS _ _ (λ k. rw (image.bodies (k ∷ q)) (by k (big.body (k ∷ (q ++ root))) (image.plain k q)))
     where
-      by : (k : ℕ) (v : Option Body) → IfSome v (AllInBody see (IsSeen root see big)) →
+      by : (k : ℕ) (v : Option Body) → IfSome v (IsPlainBody see (IsSeen root see big)) →
           AlikeOptions (IsSeenWindow root see big) (and_then (λ (m : Window). cond (covers m.first m.count page) (Some m) None) (and_then mapping_of (option_map (λ b. unheld (k ∷ q) (seen_by (seeing see) b)) v)))
           (and_then (λ (m : Window). cond (covers m.first m.count page) (Some m) None) (and_then mapping_of v))
       by k (Some (Mapping m)) h = alike_cond (IsSeenWindow root see big) (covers m.first m.count page) (seen_window see m) m (refl, h)
@@ -54,9 +52,9 @@ module _ {root : Path} {see : Ptr → Ptr} {small big : World} (image : IsImage 
 
   region-alike : (k : ℕ) (q : Path) → AlikeOptions (IsSeenExtent root see big) (and_then region_of (small.body (k ∷ q))) (and_then region_of (big.body (k ∷ (q ++ root))))
   unfolding seen_by
-  region-alike k q = rw (image.bodies (k ∷ q)) (by (big.body (k ∷ (q ++ root))) (image.pointers k q))
+  region-alike k q = rw (image.bodies (k ∷ q)) (by (big.body (k ∷ (q ++ root))) (image.plain k q))
     where
-      by : (v : Option Body) → IfSome v (AllInBody see (IsSeen root see big)) → AlikeOptions (IsSeenExtent root see big) (and_then region_of (option_map (λ b. unheld (k ∷ q) (seen_by (seeing see) b)) v)) (and_then region_of v)
+      by : (v : Option Body) → IfSome v (IsPlainBody see (IsSeen root see big)) → AlikeOptions (IsSeenExtent root see big) (and_then region_of (option_map (λ b. unheld (k ∷ q) (seen_by (seeing see) b)) v)) (and_then region_of v)
       by (Some (Region r)) h = (refl, h)
       by (Some b) h = tt
       by None h = tt

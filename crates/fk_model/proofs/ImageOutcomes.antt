@@ -1,12 +1,12 @@
 -- Rows step by step: what follows an answer that is alike goes alike, and so do the ends of a stage.
-use Rattle.std.proofs.Common.{◌≡◌, ℕ, Bool, true, false, cond, not, ◌&&◌, List, [], ◌∷◌, ◌++◌, Option, Some, None, IfSome, option_map, Result, Ok, Err, refl, sym, ap, ◌∙◌}
+use Rattle.std.proofs.Common.{◌≡◌, ℕ, Bool, true, false, cond, List, [], ◌∷◌, ◌++◌, Option, Some, None, IfSome, Result, Ok, Err, refl}
 use Rattle.fk_model.specs.declared.names.Kind.{Kind}
 use Rattle.fk_model.specs.declared.statuses.halt.TheConstants.{BAD_ADDRESS, MISSING_PAGE}
 use Rattle.fk_model.specs.declared.statuses.status.TheConstants.{OK}
 use Rattle.fk_model.specs.Places.{Path, Ptr}
 use Rattle.fk_model.specs.Objects.{Peer, Talk, Fault, Thread, Body, and_then}
 use Rattle.fk_model.specs.Objects.Body.{Thread_of}
-use Rattle.fk_model.specs.World.{World, Change, apply, apply_all}
+use Rattle.fk_model.specs.World.{World, Change, apply_all}
 use Rattle.fk_model.specs.World.Change.{Alter}
 use Rattle.fk_model.specs.World.Edit.{Finish, End, SetFault}
 use Rattle.fk_model.specs.Searches.{talk_at}
@@ -18,11 +18,11 @@ use Rattle.fk_model.specs.Readers.{kind_at, is_kind, missed, accessed, own_page_
 use Rattle.fk_model.specs.Talks.{Line}
 use Rattle.fk_model.specs.Moves.{closed}
 use Rattle.fk_model.specs.Cut.{seen_by}
-use Rattle.fk_model.specs.Image.{seeing, seen_talk, seen_thread, IsSeen, AllInTalk, AllInBody, IsImage, under, AlikeResults, AlikeOptions, IsBeneath, IsSeenAs, IsSeenHandle, IsSeenBody, IsSeenThread, IsSeenHolder, PeerImage, EndImage, LineImage, ReachImage}
+use Rattle.fk_model.specs.Image.{seeing, seen_talk, seen_thread, IsSeen, AllInTalk, IsPlainBody, IsImage, under, AlikeResults, AlikeOptions, IsBeneath, IsSeenAs, IsSeenHandle, IsSeenBody, IsSeenThread, IsSeenHolder, PeerImage, EndImage, LineImage, ReachImage}
 use Rattle.fk_model.specs.Image.EndImage.{Ends}
 use Rattle.fk_model.specs.Image.LineImage.{Lines}
 use Rattle.fk_model.specs.Image.ReachImage.{Homes, Misses, Bads}
-use Rattle.fk_model.specs.ImageChanges.{ImageChange, ImageChanges, IsImageOutcome}
+use Rattle.fk_model.specs.ImageChanges.{ImageChanges, IsImageOutcome}
 use Rattle.fk_model.specs.ImageChanges.ImageChange.{Alters}
 use Rattle.fk_model.specs.ImageChanges.ImageChanges.{Empty, Both, Beyond}
 use Rattle.fk_model.proofs.ImageMemory.{reach_word-image}
@@ -69,10 +69,10 @@ module _ {root : Path} {see : Ptr → Ptr} {small big : World} (image : IsImage 
   bind_handle wanted a b f g h go = bind-image (IsSeenHandle root see big wanted) a b f g h (λ seen p h. rw h.0 (go p h.1 h.2))
 
   -- an object, a thread, a holder
-  pub bind_body : (a b : Result Body ℕ) (f g : Body → Outcome) → AlikeResults (IsSeenBody root see big) a b → ((b : Body) → AllInBody see (IsSeen root see big) b → Alike (f (seen_by (seeing see) b)) (g b)) → Alike (a >>= f) (b >>= g)
+  pub bind_body : (a b : Result Body ℕ) (f g : Body → Outcome) → AlikeResults (IsSeenBody root see big) a b → ((b : Body) → IsPlainBody see (IsSeen root see big) b → Alike (f (seen_by (seeing see) b)) (g b)) → Alike (a >>= f) (b >>= g)
   bind_body a b f g h go = bind-image (IsSeenBody root see big) a b f g h (λ seen b h. rw h.0 (go b h.1))
 
-  pub bind_thread : (a b : Result Thread ℕ) (f g : Thread → Outcome) → AlikeResults (IsSeenThread root see big) a b → ((t : Thread) → AllInBody see (IsSeen root see big) (Thread_of t) → Alike (f (seen_thread see t)) (g t)) → Alike (a >>= f) (b >>= g)
+  pub bind_thread : (a b : Result Thread ℕ) (f g : Thread → Outcome) → AlikeResults (IsSeenThread root see big) a b → ((t : Thread) → IsPlainBody see (IsSeen root see big) (Thread_of t) → Alike (f (seen_thread see t)) (g t)) → Alike (a >>= f) (b >>= g)
   bind_thread a b f g h go = bind-image (IsSeenThread root see big) a b f g h (λ seen t h. rw h.0 (go t h.1))
 
   pub bind_holder : (a b : Result (Option Ptr) ℕ) (f g : Option Ptr → Outcome) → AlikeResults (IsSeenHolder root see big) a b →
@@ -81,7 +81,7 @@ module _ {root : Path} {see : Ptr → Ptr} {small big : World} (image : IsImage 
 
   -- a thread with its path
   pub bind_end : (a b : Result (Path × Thread) ℕ) (f g : Path × Thread → Outcome) → AlikeResults (EndImage root see big) a b →
-      ((k : ℕ) (q : Path) (t : Thread) → big.body (k ∷ (q ++ root)) ≡ Some (Thread_of t) → AllInBody see (IsSeen root see big) (Thread_of t) → Alike (f (k ∷ q, seen_thread see t)) (g (k ∷ (q ++ root), t))) →
+      ((k : ℕ) (q : Path) (t : Thread) → big.body (k ∷ (q ++ root)) ≡ Some (Thread_of t) → IsPlainBody see (IsSeen root see big) (Thread_of t) → Alike (f (k ∷ q, seen_thread see t)) (g (k ∷ (q ++ root), t))) →
       Alike (a >>= f) (b >>= g)
   bind_end a b f g h go = bind-image (EndImage root see big) a b f g h by
     where
@@ -91,7 +91,7 @@ module _ {root : Path} {see : Ptr → Ptr} {small big : World} (image : IsImage 
   -- a line
   pub bind_line : (a b : Result Line ℕ) (f g : Line → Outcome) → AlikeResults (LineImage root see big) a b →
       ((k : ℕ) (q : Path) (talk : Talk) (other seen : Peer) → talk_at big (k ∷ (q ++ root)) ≡ Some talk → AllInTalk see (IsSeen root see big) talk → PeerImage root see big other seen →
-          Alike (f (record { client = k ∷ q; talk = seen_talk see talk; other = seen })) (g (record { client = k ∷ (q ++ root); talk = talk; other = other }))) →
+      Alike (f (record { client = k ∷ q; talk = seen_talk see talk; other = seen })) (g (record { client = k ∷ (q ++ root); talk = talk; other = other }))) →
       Alike (a >>= f) (b >>= g)
   bind_line a b f g h go = bind-image (LineImage root see big) a b f g h by
     where
@@ -172,7 +172,7 @@ module _ {root : Path} {see : Ptr → Ptr} {small big : World} (image : IsImage 
   missed-image : (k : ℕ) (q : Path) (page : ℕ) (write : Bool) (near far : Outcome) (keeper port : Option Ptr) → AlikeOptions (IsSeenAs root see big) keeper port → Alike near far →
       Alike (missed near (k ∷ q) page write keeper) (missed far (k ∷ (q ++ root)) page write port)
   missed-image k q page write near far None None h otherwise = otherwise
-  missed-image k q page write near far (Some seen) (Some port) h otherwise = 
+  missed-image k q page write near far (Some seen) (Some port) h otherwise =
       let fault : Fault = record { page = page; write = write; port = port; taker = None } in
       rw h.0 (Both (Alters k q _ (SetFault (Some fault)) refl (h.1, tt)) Empty)
   missed-image k q page write near far None (Some port) h otherwise = absurd h

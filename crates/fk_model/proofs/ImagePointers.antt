@@ -1,15 +1,15 @@
 -- What holds of each pointer that counts, carried from one way to see, or from one world, to another.
-use Rattle.std.proofs.Common.{◌≡◌, ℕ, Bool, true, false, List, [], ◌∷◌, ◌++◌, Option, Some, None, IfSome, refl}
+use Rattle.std.proofs.Common.{◌≡◌, Bool, true, false, Option, Some, None, IfSome}
 use Rattle.fk_model.specs.declared.names.Kind.TheVariants as kinds
 use Rattle.fk_model.specs.Places.{Path, is_within, Ptr}
 use Rattle.fk_model.specs.Places.Ptr.{At}
-use Rattle.fk_model.specs.Objects.{Peer, Talk, Fault, Thread, Body}
+use Rattle.fk_model.specs.Objects.{Peer, Talk, Fault, Body}
 use Rattle.fk_model.specs.Objects.Peer.{Server, Service, Parked}
-use Rattle.fk_model.specs.Objects.Body.{Mutex, Cond, Mapping, Region, Port, Portset, Space, Thread_of, Reference}
+use Rattle.fk_model.specs.Objects.Body.{Mapping, Region, Port, Space, Thread_of, Reference}
 use Rattle.fk_model.specs.World.{World}
 use Rattle.fk_model.specs.Readers.{kind_at}
 use Rattle.fk_model.specs.Cut.{is_out}
-use Rattle.fk_model.specs.Image.{PtrImage, IfServer, AllInTalk, AllInFault, AllInBody}
+use Rattle.fk_model.specs.Image.{PtrImage, IfServer, AllInTalk, AllInFault, IsPlainBody}
 use Rattle.fk_model.specs.Image.PtrImage.{Nulls, Deads, Inside, PortAt, PortOut}
 
 -- two ways to see that agree on what leads out
@@ -32,12 +32,13 @@ module _ (see anew : Ptr → Ptr) (out : (p : Ptr) → is_out (anew p) ≡ is_ou
   all_in_fault None h = tt
   all_in_fault (Some fault) h = rw (out fault.port) (more fault.port h.0, all_in_taker (is_out (see fault.port)) fault.taker h.1)
 
-  pub all_in_body : (v : Option Body) → IfSome v (AllInBody see P) → IfSome v (AllInBody anew Q)
+  pub all_in_body : (v : Option Body) → IfSome v (IsPlainBody see P) → IfSome v (IsPlainBody anew Q)
   all_in_body (Some (Mapping m)) h = more m.region h
   all_in_body (Some (Region r)) h = more r.keeper h
   all_in_body (Some (Space birth (Some holder))) h = more holder h
   all_in_body (Some (Space birth None)) h = tt
-  all_in_body (Some (Thread_of t)) h = (all_in_talk t.talk h.0, all_in_fault t.fault h.1)
+  all_in_body (Some (Port set served)) h = h
+  all_in_body (Some (Thread_of t)) h = (all_in_talk t.talk h.0, all_in_fault t.fault h.1, h.2)
   all_in_body (Some (Reference to)) h = more to h
   all_in_body (Some b) h = tt
   all_in_body None h = tt

@@ -1,21 +1,21 @@
 -- What is read in slots, and by handles, is read alike in an image.
-use Rattle.std.proofs.Common.{◌≡◌, ℕ, Bool, true, false, cond, leb, eqb, List, [], ◌∷◌, ◌++◌, Option, Some, None, IfSome, option_map, Result, Ok, Err, refl, sym, ap, ◌∙◌}
+use Rattle.std.proofs.Common.{◌≡◌, ℕ, Bool, true, false, cond, leb, eqb, [], ◌∷◌, ◌++◌, Option, Some, None, IfSome, option_map, Result, Ok, Err, refl, sym, ap, ◌∙◌}
 use Rattle.fk_model.specs.declared.limits.TheConstants.{OWN_SPACE}
 use Rattle.fk_model.specs.declared.names.Kind.{Kind}
 use Rattle.fk_model.specs.declared.names.Kind.TheVariants as kinds
 use Rattle.fk_model.specs.declared.statuses.status.TheConstants.{BADHANDLE, WRONGKIND}
 use Rattle.fk_model.specs.Places.{Path, Ptr}
-use Rattle.fk_model.specs.Places.Ptr.{Null, Dead, At, Out, Outside, Far}
-use Rattle.fk_model.specs.Objects.{Peer, Talk, Fault, Thread, Window, Extent, Body, kind_of, same_kind, mutex_of, mapping_of, region_of, port_of, space_of, thread_of, reference_of, and_then}
+use Rattle.fk_model.specs.Places.Ptr.{At, Out}
+use Rattle.fk_model.specs.Objects.{Body, kind_of, same_kind, mutex_of, mapping_of, region_of, port_of, space_of, thread_of, reference_of, and_then}
 use Rattle.fk_model.specs.Objects.Body.{Mutex, Cond, Mapping, Region, Port, Portset, Space, Thread_of, Reference}
 use Rattle.fk_model.specs.World.{World}
-use Rattle.fk_model.specs.Outcomes.{Caller, last_slot, or_refuse}
+use Rattle.fk_model.specs.Outcomes.{Caller, last_slot}
 use Rattle.fk_model.specs.Readers.{and_read, slot_for, seen_as, anything, object_in, kind_at, is_kind, led_to, handled, handle, path_at, place, referred}
 use Rattle.fk_model.specs.SyncRows.{cond_of}
 use Rattle.fk_model.specs.LinkRows.{portset_of}
 use Rattle.fk_model.specs.Valid.{kind_there}
 use Rattle.fk_model.specs.Cut.{seen_by, unheld}
-use Rattle.fk_model.specs.Image.{seeing, seen_thread, seen_window, seen_extent, PtrImage, IsSeen, AllInBody, IsImage, under, AlikeResults, AlikeOptions, IsBeneath, IsSeenAs, IsSeenHandle, IsSeenBody, IsSeenThread, IsSeenHolder}
+use Rattle.fk_model.specs.Image.{seeing, seen_thread, seen_window, seen_extent, PtrImage, IsSeen, IsPlainBody, IsImage, under, AlikeResults, AlikeOptions, IsBeneath, IsSeenAs, IsSeenHandle, IsSeenBody, IsSeenThread, IsSeenHolder}
 use Rattle.fk_model.specs.Image.PtrImage.{Nulls, Deads, Inside, PortAt, PortOut}
 use Rattle.fk_model.proofs.Alike.{alike_same, alike_or_refuse, alike_and_read, alike_if}
 
@@ -89,12 +89,12 @@ module _ {root : Path} {see : Ptr → Ptr} {small big : World} (image : IsImage 
       by false = refl
 
   pub object_in-image : {A B : Type 0} (R : A → B → Type 0) (view : Body → Option A) (view_big : Body → Option B) →
-      ((b : Body) → AllInBody see (IsSeen root see big) b → AlikeOptions R (view (seen_by (seeing see) b)) (view_big b)) →
+      ((b : Body) → IsPlainBody see (IsSeen root see big) b → AlikeOptions R (view (seen_by (seeing see) b)) (view_big b)) →
       (c : Caller) (s : Path) (k : ℕ) → AlikeResults R (object_in small c view s k) (object_in big (under root c) view_big (s ++ root) k)
   unfolding object_in
-  object_in-image R view view_big alike c s k = slot_for-image R c k _ _ (λ k. rw (image.bodies (k ∷ s)) (by k (big.body (k ∷ (s ++ root))) (image.pointers k s)))
+  object_in-image R view view_big alike c s k = slot_for-image R c k _ _ (λ k. rw (image.bodies (k ∷ s)) (by k (big.body (k ∷ (s ++ root))) (image.plain k s)))
     where
-      by : (k : ℕ) (v : Option Body) → IfSome v (AllInBody see (IsSeen root see big)) → AlikeResults R (seen_as view (option_map (λ b. unheld (k ∷ s) (seen_by (seeing see) b)) v)) (seen_as view_big v)
+      by : (k : ℕ) (v : Option Body) → IfSome v (IsPlainBody see (IsSeen root see big)) → AlikeResults R (seen_as view (option_map (λ b. unheld (k ∷ s) (seen_by (seeing see) b)) v)) (seen_as view_big v)
       by k None h = refl
       by k (Some b) h = alike_or_refuse R WRONGKIND (view (seen_by (seeing see) b)) (view_big b) (alike b h)
 
@@ -133,7 +133,7 @@ module _ {root : Path} {see : Ptr → Ptr} {small big : World} (image : IsImage 
       rw port (alike_if (IsSeenHandle root see big wanted) _ WRONGKIND (Out slot) (At x) (λ h. (e, rw (← e) (PortAt x slot apart port), ap (is_kind wanted) port ∙ h)))
   led_to-image wanted _ _ (PortOut old slot) e = alike_if (IsSeenHandle root see big wanted) _ WRONGKIND (Out slot) (Out old) (λ h. (e, rw (← e) (PortOut old slot), h))
 
-  handled-image : (wanted : Kind) (k : ℕ) (s : Path) (v : Option Body) → big.body (k ∷ (s ++ root)) ≡ v → IfSome v (AllInBody see (IsSeen root see big)) →
+  handled-image : (wanted : Kind) (k : ℕ) (s : Path) (v : Option Body) → big.body (k ∷ (s ++ root)) ≡ v → IfSome v (IsPlainBody see (IsSeen root see big)) →
       AlikeResults (IsSeenHandle root see big wanted) (handled small wanted (k ∷ s) (option_map (λ b. unheld (k ∷ s) (seen_by (seeing see) b)) v)) (handled big wanted (k ∷ (s ++ root)) v)
   unfolding seen_by
   handled-image wanted k s None is h = refl
@@ -144,7 +144,7 @@ module _ {root : Path} {see : Ptr → Ptr} {small big : World} (image : IsImage 
 
   pub handle-image : (c : Caller) (wanted : Kind) (h : ℕ) → AlikeResults (IsSeenHandle root see big wanted) (handle small c wanted h) (handle big (under root c) wanted h)
   unfolding handle
-  handle-image c wanted h = slot_for-image (IsSeenHandle root see big wanted) c h _ _ (λ h. rw (image.bodies (h ∷ c.space)) (handled-image wanted h c.space (big.body (h ∷ (c.space ++ root))) refl (image.pointers h c.space)))
+  handle-image c wanted h = slot_for-image (IsSeenHandle root see big wanted) c h _ _ (λ h. rw (image.bodies (h ∷ c.space)) (handled-image wanted h c.space (big.body (h ∷ (c.space ++ root))) refl (image.plain h c.space)))
 
   -- a handle of a space leads inside
   path_at-image : (p seen : Ptr) → PtrImage root big p seen → is_kind kinds.Space (kind_at big p) ≡ true → AlikeResults (IsBeneath root) (path_at seen) (path_at p)
@@ -174,7 +174,7 @@ module _ {root : Path} {see : Ptr → Ptr} {small big : World} (image : IsImage 
   pub anything_in-image : (c : Caller) (s : Path) (k : ℕ) → AlikeResults (IsSeenBody root see big) (object_in small c anything s k) (object_in big (under root c) anything (s ++ root) k)
   anything_in-image c s k = object_in-image (IsSeenBody root see big) anything anything (λ b h. (refl, h)) c s k
 
-  reference-alike : (b : Body) → AllInBody see (IsSeen root see big) b → AlikeOptions (IsSeenAs root see big) (reference_of (seen_by (seeing see) b)) (reference_of b)
+  reference-alike : (b : Body) → IsPlainBody see (IsSeen root see big) b → AlikeOptions (IsSeenAs root see big) (reference_of (seen_by (seeing see) b)) (reference_of b)
   unfolding seen_by
   reference-alike (Reference to) h = (refl, h)
   reference-alike b h = tt
@@ -182,7 +182,7 @@ module _ {root : Path} {see : Ptr → Ptr} {small big : World} (image : IsImage 
   pub reference_in-image : (c : Caller) (s : Path) (k : ℕ) → AlikeResults (IsSeenAs root see big) (object_in small c reference_of s k) (object_in big (under root c) reference_of (s ++ root) k)
   reference_in-image c s k = object_in-image (IsSeenAs root see big) reference_of reference_of reference-alike c s k
 
-  thread-alike : (b : Body) → AllInBody see (IsSeen root see big) b → AlikeOptions (IsSeenThread root see big) (thread_of (seen_by (seeing see) b)) (thread_of b)
+  thread-alike : (b : Body) → IsPlainBody see (IsSeen root see big) b → AlikeOptions (IsSeenThread root see big) (thread_of (seen_by (seeing see) b)) (thread_of b)
   unfolding seen_by
   thread-alike (Thread_of t) h = (refl, h)
   thread-alike b h = tt
@@ -190,7 +190,7 @@ module _ {root : Path} {see : Ptr → Ptr} {small big : World} (image : IsImage 
   pub thread_in-image : (c : Caller) (s : Path) (k : ℕ) → AlikeResults (IsSeenThread root see big) (object_in small c thread_of s k) (object_in big (under root c) thread_of (s ++ root) k)
   thread_in-image c s k = object_in-image (IsSeenThread root see big) thread_of thread_of thread-alike c s k
 
-  space-alike : (b : Body) → AllInBody see (IsSeen root see big) b → AlikeOptions (IsSeenHolder root see big) (space_of (seen_by (seeing see) b)) (space_of b)
+  space-alike : (b : Body) → IsPlainBody see (IsSeen root see big) b → AlikeOptions (IsSeenHolder root see big) (space_of (seen_by (seeing see) b)) (space_of b)
   unfolding seen_by
   space-alike (Space birth holder) h = (refl, h)
   space-alike b h = tt
@@ -198,15 +198,14 @@ module _ {root : Path} {see : Ptr → Ptr} {small big : World} (image : IsImage 
   pub space_in-image : (c : Caller) (s : Path) (k : ℕ) → AlikeResults (IsSeenHolder root see big) (object_in small c space_of s k) (object_in big (under root c) space_of (s ++ root) k)
   space_in-image c s k = object_in-image (IsSeenHolder root see big) space_of space_of space-alike c s k
 
-  port-alike : (b : Body) → AllInBody see (IsSeen root see big) b → AlikeOptions (λ (seen port : Option ℕ × Bool). seen.0 ≡ port.0) (port_of (seen_by (seeing see) b)) (port_of b)
+  port-alike : (b : Body) → IsPlainBody see (IsSeen root see big) b → AlikeOptions ◌≡◌ (port_of (seen_by (seeing see) b)) (port_of b)
   unfolding seen_by
-  port-alike (Port None served) h = refl
-  port-alike (Port (Some set) served) h = refl
+  port-alike (Port None served) h = rw h refl
+  port-alike (Port (Some set) served) h = rw h refl
   port-alike b h = tt
 
-  -- whether a port is served isn't seen
-  pub port_in-image : (c : Caller) (s : Path) (k : ℕ) → AlikeResults (λ (seen port : Option ℕ × Bool). seen.0 ≡ port.0) (object_in small c port_of s k) (object_in big (under root c) port_of (s ++ root) k)
-  port_in-image c s k = object_in-image (λ (seen port : Option ℕ × Bool). seen.0 ≡ port.0) port_of port_of port-alike c s k
+  pub port_in-image : (c : Caller) (s : Path) (k : ℕ) → AlikeResults ◌≡◌ (object_in small c port_of s k) (object_in big (under root c) port_of (s ++ root) k)
+  port_in-image c s k = object_in-image ◌≡◌ port_of port_of port-alike c s k
 
   pub referred-image : (c : Caller) (wanted : Kind) (k : ℕ) → AlikeResults (IsSeenHandle root see big wanted) (referred small c wanted k) (referred big (under root c) wanted k)
   unfolding referred

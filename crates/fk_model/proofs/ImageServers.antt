@@ -1,22 +1,21 @@
 -- The client of a server, and the thread whose fault it has taken, are found alike in an image.
-use Rattle.std.proofs.Common.{◌≡◌, ℕ, zero, suc, ◌+◌, ◌<◌, ◌≤◌, Bool, true, false, cond, not, ◌&&◌, ◌||◌, eqb, List, [], ◌∷◌, ◌++◌, length, find, flat_map, Option, Some, None, IfSome, is_some, option_map, ◌⊎◌, inl, inr, refl, sym, ap, ◌∙◌, arith, append_assoc, append-nil, length-append}
+use Rattle.std.proofs.Common.{◌≡◌, ℕ, zero, suc, ◌+◌, ◌<◌, ◌≤◌, Bool, true, false, cond, ◌&&◌, ◌||◌, List, [], ◌∷◌, ◌++◌, length, find, Option, Some, None, IfSome, is_some, option_map, ◌⊎◌, inl, inr, refl, sym, ap, ◌∙◌, arith, append_assoc, append-nil, length-append}
 use Rattle.std.specs.List.{list_any}
 use Rattle.std.proofs.lemmas.List.{append_cancel_right}
-use Rattle.std.proofs.lemmas.Bool.{or_cases, or_left, or_right, and_parts}
+use Rattle.std.proofs.lemmas.Bool.{or_cases, or_right, and_parts}
 use Rattle.fk_model.specs.declared.names.Kind.{Kind}
 use Rattle.fk_model.specs.declared.names.Kind.TheVariants as kinds
-use Rattle.fk_model.specs.Places.{Path, same_path, strip, is_within, parent, Ptr, leads_to}
+use Rattle.fk_model.specs.Places.{Path, same_path, strip, is_within, Ptr}
 use Rattle.fk_model.specs.Places.Ptr.{Null, Dead, At, Out, Outside, Far}
 use Rattle.fk_model.specs.Objects.{Peer, Talk, Fault, Thread, Body, thread_of, and_then, holds}
 use Rattle.fk_model.specs.Objects.Peer.{Server, Service, Parked}
-use Rattle.fk_model.specs.Objects.Body.{Mutex, Cond, Mapping, Region, Port, Portset, Space, Thread_of, Reference}
+use Rattle.fk_model.specs.Objects.Body.{Thread_of}
 use Rattle.fk_model.specs.World.{World, serves}
 use Rattle.fk_model.specs.Searches.{residents, depth, beneath_by, beneath, objects, talk_at, fault_at, client_of, faulter_of, is_serving}
 use Rattle.fk_model.specs.Valid.{services, IsValid, kind_there, is_one_of, leads_there, all_in, is_good, is_good_peer, is_good_talk, is_good_fault, lies_with}
 use Rattle.fk_model.specs.Cut.{is_out, is_served_by, ports_of, cut_out, cut_to, cut_ptr, IsPlain}
-use Rattle.fk_model.specs.Image.{seeing, seen_peer, seen_talk, seen_fault, PtrImage, IsSeen, IfServer, AllInTalk, AllInFault, IsImage, IsCutWorld, IsApart, is_among, IsWalked, IsServedAlike, AlikeOptions, IsBeneath, IsSeenTalk, IsSeenFault}
-use Rattle.fk_model.specs.Image.PtrImage.{Nulls, Deads, Inside, PortAt, PortOut}
-use Rattle.fk_model.proofs.PlaceLaws.{same_path_refl, same_path_eq, same_path_cancel, strip-append, strip_some, leads_to_at}
+use Rattle.fk_model.specs.Image.{seen_peer, IsSeen, IfServer, IsImage, IsCutWorld, IsApart, is_listed, IsWalked, IsServedAlike, AlikeOptions, IsBeneath, IsSeenTalk, IsSeenFault}
+use Rattle.fk_model.proofs.PlaceLaws.{same_path_eq, same_path_cancel, strip-append, strip_some, leads_to_at}
 use Rattle.fk_model.proofs.Images.{image-cut_world}
 use Rattle.fk_model.proofs.Alike.{alike-is_some}
 use Rattle.fk_model.proofs.ImageMemory.{root_space, root_seen}
@@ -45,27 +44,27 @@ or_more true b c h more = refl
 or_more false b c h more = more h
 
 -- what a walk finds lies beneath where it began
-walk_beneath : (n : ℕ) (w : World) (s x : Path) → is_among x (beneath_by n w s) ≡ true → (p : Path) × (k : ℕ) × (x ≡ p ++ k ∷ s)
+walk_beneath : (n : ℕ) (w : World) (s x : Path) → is_listed x (beneath_by n w s) ≡ true → (p : Path) × (k : ℕ) × (x ≡ p ++ k ∷ s)
 unfolding beneath_by
 walk_beneath zero w s x h = cc
 walk_beneath (suc n) w s x h = by (walk_beneath n w) (any_found _ (residents w s) (sym (list_any-flat_map (same_path x) (λ k. (k ∷ s) ∷ beneath_by n w (k ∷ s)) (residents w s)) ∙ h))
   where
-    by : ((s x : Path) → is_among x (beneath_by n w s) ≡ true → (p : Path) × (k : ℕ) × (x ≡ p ++ k ∷ s)) →
-        (k : ℕ) × ((same_path x (k ∷ s) || is_among x (beneath_by n w (k ∷ s))) ≡ true) × ((g : ℕ → Bool) → g k ≡ true → list_any g (residents w s) ≡ true) → (p : Path) × (k : ℕ) × (x ≡ p ++ k ∷ s)
+    by : ((s x : Path) → is_listed x (beneath_by n w s) ≡ true → (p : Path) × (k : ℕ) × (x ≡ p ++ k ∷ s)) →
+        (k : ℕ) × ((same_path x (k ∷ s) || is_listed x (beneath_by n w (k ∷ s))) ≡ true) × ((g : ℕ → Bool) → g k ≡ true → list_any g (residents w s) ≡ true) → (p : Path) × (k : ℕ) × (x ≡ p ++ k ∷ s)
     by below found = at (or_cases (same_path x (found.0 ∷ s)) _ found.1)
       where
-        at : (same_path x (found.0 ∷ s) ≡ true) ⊎ (is_among x (beneath_by n w (found.0 ∷ s)) ≡ true) → (p : Path) × (k : ℕ) × (x ≡ p ++ k ∷ s)
+        at : (same_path x (found.0 ∷ s) ≡ true) ⊎ (is_listed x (beneath_by n w (found.0 ∷ s)) ≡ true) → (p : Path) × (k : ℕ) × (x ≡ p ++ k ∷ s)
         at (inl e) = ([], found.0, same_path_eq x (found.0 ∷ s) e)
         at (inr deeper) = let there = below (found.0 ∷ s) x deeper in (there.0 ++ there.1 ∷ [], found.0, there.2 ∙ sym (append_assoc there.0 (there.1 ∷ []) (found.0 ∷ s)))
 
 -- with more fuel it finds no less
-walk_more : (n : ℕ) (w : World) (s x : Path) → is_among x (beneath_by n w s) ≡ true → is_among x (beneath_by (suc n) w s) ≡ true
+walk_more : (n : ℕ) (w : World) (s x : Path) → is_listed x (beneath_by n w s) ≡ true → is_listed x (beneath_by (suc n) w s) ≡ true
 unfolding beneath_by
 walk_more zero w s x h = cc
 walk_more (suc n) w s x h =
     let here = sym (list_any-flat_map (same_path x) (λ k. (k ∷ s) ∷ beneath_by n w (k ∷ s)) (residents w s)) ∙ h in
     list_any-flat_map (same_path x) (λ k. (k ∷ s) ∷ beneath_by (suc n) w (k ∷ s)) (residents w s)
-    ∙ any_by (λ k. same_path x (k ∷ s) || is_among x (beneath_by n w (k ∷ s))) (residents w s) here (λ k. same_path x (k ∷ s) || is_among x (beneath_by (suc n) w (k ∷ s)))
+    ∙ any_by (λ k. same_path x (k ∷ s) || is_listed x (beneath_by n w (k ∷ s))) (residents w s) here (λ k. same_path x (k ∷ s) || is_listed x (beneath_by (suc n) w (k ∷ s)))
     (λ k found. or_more (same_path x (k ∷ s)) _ _ found (walk_more n w (k ∷ s) x))
 
 -- two ends of one list, of which the second is no longer
@@ -75,11 +74,11 @@ shorter_end (k ∷ a) [] r t e short = absurd (omega (arith, ap length e, length
 shorter_end (k ∷ a) (j ∷ b) r t e short = let rest : a ++ r ≡ b ++ t = cc e in shorter_end a b r t rest short
 
 -- what lies beneath a space on the way is found from there
-walk_from : (n : ℕ) (w : World) (s p a r x : Path) (i : ℕ) → r ≡ p ++ s → x ≡ a ++ i ∷ r → is_among x (beneath_by n w s) ≡ true → is_among x (beneath_by n w r) ≡ true
+walk_from : (n : ℕ) (w : World) (s p a r x : Path) (i : ℕ) → r ≡ p ++ s → x ≡ a ++ i ∷ r → is_listed x (beneath_by n w s) ≡ true → is_listed x (beneath_by n w r) ≡ true
 unfolding beneath_by
 walk_from n w s [] a r x i at within h = rw at h
 walk_from zero w s (j ∷ p) a r x i at within h = cc
-walk_from (suc n) w s (j ∷ p) a r x i at within h = by (walk_from n w) (any_found (λ k. same_path x (k ∷ s) || is_among x (beneath_by n w (k ∷ s))) (residents w s) (sym (list_any-flat_map (same_path x) (λ k. (k ∷ s) ∷ beneath_by n w (k ∷ s)) (residents w s)) ∙ h))
+walk_from (suc n) w s (j ∷ p) a r x i at within h = by (walk_from n w) (any_found (λ k. same_path x (k ∷ s) || is_listed x (beneath_by n w (k ∷ s))) (residents w s) (sym (list_any-flat_map (same_path x) (λ k. (k ∷ s) ∷ beneath_by n w (k ∷ s)) (residents w s)) ∙ h))
   where
     long : length r ≡ suc (length p + length s)
     long = omega (arith, ap length at, length-append p s)
@@ -87,11 +86,11 @@ walk_from (suc n) w s (j ∷ p) a r x i at within h = by (walk_from n w) (any_fo
     far : length x ≡ length a + suc (length r)
     far = omega (arith, ap length within, length-append a (i ∷ r))
 
-    by : ((s p a r x : Path) (i : ℕ) → r ≡ p ++ s → x ≡ a ++ i ∷ r → is_among x (beneath_by n w s) ≡ true → is_among x (beneath_by n w r) ≡ true) →
-        (k : ℕ) × ((same_path x (k ∷ s) || is_among x (beneath_by n w (k ∷ s))) ≡ true) × ((g : ℕ → Bool) → g k ≡ true → list_any g (residents w s) ≡ true) → is_among x (beneath_by (suc n) w r) ≡ true
+    by : ((s p a r x : Path) (i : ℕ) → r ≡ p ++ s → x ≡ a ++ i ∷ r → is_listed x (beneath_by n w s) ≡ true → is_listed x (beneath_by n w r) ≡ true) →
+        (k : ℕ) × ((same_path x (k ∷ s) || is_listed x (beneath_by n w (k ∷ s))) ≡ true) × ((g : ℕ → Bool) → g k ≡ true → list_any g (residents w s) ≡ true) → is_listed x (beneath_by (suc n) w r) ≡ true
     by below found = at_slot (or_cases (same_path x (found.0 ∷ s)) _ found.1)
       where
-        at_slot : (same_path x (found.0 ∷ s) ≡ true) ⊎ (is_among x (beneath_by n w (found.0 ∷ s)) ≡ true) → is_among x (beneath_by (suc n) w r) ≡ true
+        at_slot : (same_path x (found.0 ∷ s) ≡ true) ⊎ (is_listed x (beneath_by n w (found.0 ∷ s)) ≡ true) → is_listed x (beneath_by (suc n) w r) ≡ true
         at_slot (inl e) = absurd (omega (arith, ap length (same_path_eq x (found.0 ∷ s) e), long, far))
         at_slot (inr deeper) =
             let there = walk_beneath n w (found.0 ∷ s) x deeper in
@@ -106,15 +105,15 @@ outer_slot k (j ∷ q) root = let below = outer_slot j q root in (k ∷ below.0,
 
 -- ---- the one that passes a test
 
-find_none : (test : Path → Bool) (xs : List Path) → find test xs ≡ None → (x : Path) → is_among x xs ≡ true → test x ≡ false
+find_none : (test : Path → Bool) (xs : List Path) → find test xs ≡ None → (x : Path) → is_listed x xs ≡ true → test x ≡ false
 find_none test [] h x among = cc
 find_none test (y ∷ ys) h x among = by (find_none test ys) (test y) refl h
   where
-    by : (find test ys ≡ None → (x : Path) → is_among x ys ≡ true → test x ≡ false) → (b : Bool) → test y ≡ b → cond b (Some y) (find test ys) ≡ None → test x ≡ false
+    by : (find test ys ≡ None → (x : Path) → is_listed x ys ≡ true → test x ≡ false) → (b : Bool) → test y ≡ b → cond b (Some y) (find test ys) ≡ None → test x ≡ false
     by below true e h = cc
-    by below false e h = at (or_cases (same_path x y) (is_among x ys) among)
+    by below false e h = at (or_cases (same_path x y) (is_listed x ys) among)
       where
-        at : (same_path x y ≡ true) ⊎ (is_among x ys ≡ true) → test x ≡ false
+        at : (same_path x y ≡ true) ⊎ (is_listed x ys ≡ true) → test x ≡ false
         at (inl same) = ap test (same_path_eq x y same) ∙ e
         at (inr later) = below h x later
 
@@ -130,8 +129,7 @@ find_some test (y ∷ ys) x h = by (find_some test ys x) (test y) refl h
 module _ (root : Path) (near far : Path → Bool) (xs ys : List Path)
     (same : (k : ℕ) (q : Path) → near (k ∷ q) ≡ far (k ∷ (q ++ root))) (at_top : near [] ≡ false) (at_root : far root ≡ false)
     (inside : (x : Path) → far x ≡ true → is_within root x ≡ true) (one : (x y : Path) → far x ≡ true → far y ≡ true → x ≡ y)
-    (all_near : (k : ℕ) (q : Path) → near (k ∷ q) ≡ true → is_among (k ∷ q) xs ≡ true) (all_far : (k : ℕ) (q : Path) → far (k ∷ (q ++ root)) ≡ true → is_among (k ∷ (q ++ root)) ys ≡ true) where
-
+    (all_near : (k : ℕ) (q : Path) → near (k ∷ q) ≡ true → is_listed (k ∷ q) xs ≡ true) (all_far : (k : ℕ) (q : Path) → far (k ∷ (q ++ root)) ≡ true → is_listed (k ∷ (q ++ root)) ys ≡ true) where
   near-far : (q : Path) → near q ≡ true → far (q ++ root) ≡ true
   near-far [] h = let none : true ≡ false = sym h ∙ at_top in cc
   near-far (k ∷ q) h = sym (same k q) ∙ h
@@ -193,10 +191,10 @@ module _ {root : Path} {see : Ptr → Ptr} {small big : World} (image : IsImage 
   unfolding beneath
   walked-image walked = record {
     found = λ k q there.
-      let far = walked.found k (q ++ root) (sym (is_taken-image image (k ∷ q)) ∙ there) in
-      let outer = outer_slot k q root in
-      let near = walk_from depth big [] root outer.0 root (k ∷ (q ++ root)) outer.1 (sym (append-nil root)) outer.2 far in
-      any_beneath-image image (same_path (k ∷ q)) (same_path (k ∷ (q ++ root))) (λ j z. sym (same_path_cancel (k ∷ q) (j ∷ z) root)) [] ∙ near;
+        let far = walked.found k (q ++ root) (sym (is_taken-image image (k ∷ q)) ∙ there) in
+        let outer = outer_slot k q root in
+        let near = walk_from depth big [] root outer.0 root (k ∷ (q ++ root)) outer.1 (sym (append-nil root)) outer.2 far in
+        any_beneath-image image (same_path (k ∷ q)) (same_path (k ∷ (q ++ root))) (λ j z. sym (same_path_cancel (k ∷ q) (j ∷ z) root)) [] ∙ near;
   }
 
   module _ (facts : IsServedAlike root see big) (me : Path) where
@@ -292,7 +290,7 @@ module _ {root : Path} {see : Ptr → Ptr} {small big : World} (image : IsImage 
         (λ j q h. facts.walked.found j (q ++ root) (live_fault (me ++ root) (big.body (j ∷ (q ++ root))) h))
 
     pub is_serving-image : is_serving small me ≡ is_serving big (me ++ root)
-    is_serving-image = 
+    is_serving-image =
         rw (alike-is_some (IsBeneath root) (client_of small me) (client_of big (me ++ root)) client_of-image, alike-is_some (IsBeneath root) (faulter_of small me) (faulter_of big (me ++ root)) faulter_of-image) refl
 
 -- ---- the cut of a plain subtree of a valid world

@@ -1,24 +1,22 @@
 -- An image stays one where a change of the small world stands for the change of the big one.
-use Rattle.std.proofs.Common.{◌≡◌, ℕ, zero, Bool, true, false, cond, ◌&&◌, eqb, List, [], ◌∷◌, ◌++◌, Option, Some, None, IfSome, option_map, refl, sym, ap, ◌∙◌}
+use Rattle.std.proofs.Common.{◌≡◌, ℕ, Bool, true, false, cond, List, [], ◌∷◌, ◌++◌, Option, Some, None, IfSome, option_map, refl, sym, ap, ◌∙◌}
 use Rattle.fk_model.specs.declared.names.Kind.TheVariants as kinds
 use Rattle.fk_model.specs.Places.{Path, same_path, is_within, Ptr}
 use Rattle.fk_model.specs.Places.Ptr.{At}
-use Rattle.fk_model.specs.Objects.{Talk, Fault, Thread, Body, kind_of, thread_of, and_then}
+use Rattle.fk_model.specs.Objects.{Body, kind_of, and_then}
 use Rattle.fk_model.specs.Objects.Body.{Space}
-use Rattle.fk_model.specs.World.{World, Change, Edit, edited, at_path, with_page, birth_after, apply, apply_all}
+use Rattle.fk_model.specs.World.{World, Change, Edit, edited, at_path, with_page, birth_after, apply}
 use Rattle.fk_model.specs.World.Change.{Alter, Make, MakeSpace, Kill, Move, PutPage, DropPage}
-use Rattle.fk_model.specs.World.Edit.{SetPointer, SetHolder, SetTalk, SetPeer, SetFault, SetTaker}
+use Rattle.fk_model.specs.World.Edit.{Proceed, SetPointer, SetHolder, SetTalk, SetPeer, SetFault, SetTaker}
 use Rattle.fk_model.specs.Readers.{kind_at}
 use Rattle.fk_model.specs.Valid.{kind_there}
-use Rattle.fk_model.specs.Cut.{is_out, seen_by, unheld}
-use Rattle.fk_model.specs.Image.{seeing, IsSeen, IfServer, AllInBody, IsImage}
-use Rattle.fk_model.specs.ImageChanges.{seen_edit, IsSeenEdit, ImageChange, ImageChanges, IsOutside}
-use Rattle.fk_model.specs.ImageChanges.ImageChange.{Alters, Makes, MakesSpace, Kills, Moves, PutsPage, DropsPage}
-use Rattle.fk_model.specs.ImageChanges.ImageChanges.{Empty, Both, Beyond}
-use Rattle.fk_model.proofs.PlaceLaws.{same_path_eq, same_path_sym, same_path_above, same_path_cancel, same_path_outside, strip-append}
+use Rattle.fk_model.specs.Cut.{seen_by, unheld}
+use Rattle.fk_model.specs.Image.{seeing, IsSeen, IsPlainBody, IsImage}
+use Rattle.fk_model.specs.ImageChanges.{seen_edit, IsSeenEdit, IsOutside}
+use Rattle.fk_model.proofs.PlaceLaws.{same_path_eq, same_path_sym, same_path_above, same_path_cancel, same_path_outside}
 use Rattle.fk_model.proofs.ImagePointers.{all_in_body, ptr_moved}
 use Rattle.fk_model.proofs.ImageHolds.{strip_none}
-use Rattle.fk_model.proofs.ImageEdits.{kind-edited, IsNear, IsGood, edited-seen, edited-kept}
+use Rattle.fk_model.proofs.ImageEdits.{kind-edited, IsAtPort, IsGood, edited-seen, edited-kept}
 
 -- a path outside is none inside
 pub outside_apart : (root q x : Path) → is_within root x ≡ false → same_path x (q ++ root) ≡ false
@@ -38,7 +36,7 @@ module _ {root : Path} {see : Ptr → Ptr} {small big : World} (image : IsImage 
   shown q v = option_map (λ b. unheld q (seen_by (seeing see) b)) v
 
   abbrev Near : Option Body → Type 0
-  Near v = IfSome v (AllInBody see (IsSeen root see big))
+  Near v = IfSome v (IsPlainBody see (IsSeen root see big))
 
   -- ---- a change at one path inside
 
@@ -56,12 +54,12 @@ module _ {root : Path} {see : Ptr → Ptr} {small big : World} (image : IsImage 
     stay_ports : (x : Path) → is_within root x ≡ false → kind_at big (At x) ≡ Some kinds.Port → and_then (λ b. Some (kind_of b)) (cond (same_path x (k ∷ (q ++ root))) (g (big.body x)) (big.body x)) ≡ Some kinds.Port
     stay_ports x apart port = rw (outside_apart root (k ∷ q) x apart) port
 
-    near_inside : (j : ℕ) (z : Path) → IfSome (cond (same_path (j ∷ (z ++ root)) (k ∷ (q ++ root))) (g (big.body (j ∷ (z ++ root)))) (big.body (j ∷ (z ++ root)))) (AllInBody see (IsSeen root see big))
+    near_inside : (j : ℕ) (z : Path) → IfSome (cond (same_path (j ∷ (z ++ root)) (k ∷ (q ++ root))) (g (big.body (j ∷ (z ++ root)))) (big.body (j ∷ (z ++ root)))) (IsPlainBody see (IsSeen root see big))
     near_inside j z = by (same_path (j ∷ (z ++ root)) (k ∷ (q ++ root))) refl
       where
         by : (t : Bool) → same_path (j ∷ (z ++ root)) (k ∷ (q ++ root)) ≡ t → Near (cond t (g (big.body (j ∷ (z ++ root)))) (big.body (j ∷ (z ++ root))))
         by true e = let same = same_path_eq (j ∷ (z ++ root)) (k ∷ (q ++ root)) e in rw same near
-        by false e = image.pointers j z
+        by false e = image.plain j z
 
     pub at_path-image : IsImage root see (at_path (k ∷ q) f small) (at_path (k ∷ (q ++ root)) g big)
     unfolding kind_there
@@ -70,7 +68,7 @@ module _ {root : Path} {see : Ptr → Ptr} {small big : World} (image : IsImage 
       pages = image.pages;
       unborn = image.unborn;
       top = rw (same_path_above k q root) image.top;
-      pointers = λ j z. all_in_body see see (λ p. refl) (IsSeen root see big) (IsSeen root see (at_path (k ∷ (q ++ root)) g big)) (λ p h. ptr_moved root big (at_path (k ∷ (q ++ root)) g big) stay_ports p (see p) h) _ (near_inside j z);
+      plain = λ j z. all_in_body see see (λ p. refl) (IsSeen root see big) (IsSeen root see (at_path (k ∷ (q ++ root)) g big)) (λ p h. ptr_moved root big (at_path (k ∷ (q ++ root)) g big) stay_ports p (see p) h) _ (near_inside j z);
       within = image.within;
       null = image.null;
       dead = image.dead;
@@ -78,35 +76,36 @@ module _ {root : Path} {see : Ptr → Ptr} {small big : World} (image : IsImage 
 
   -- ---- an edit
 
-  is_near : (edit : Edit) (b : Body) (x : Path) → big.body x ≡ Some b → IsSeenEdit root see big x edit → IsNear see edit b
-  is_near (SetPeer peer) b x is h = rw is at h.0
-  is_near (SetTaker taker) b x is h = rw is at h.0
-  is_near edit b x is h = tt
+  at_port : (out : Bool) (edit : Edit) (b : Body) (x : Path) → big.body x ≡ Some b → IsSeenEdit root see big out x edit → IsAtPort see out edit b
+  at_port out (SetPeer peer) b x is h = rw is at h.0
+  at_port out (SetTaker taker) b x is h = rw is at h.0
+  at_port out edit b x is h = tt
 
-  is_good : (edit : Edit) (x : Path) → IsSeenEdit root see big x edit → IsGood see (IsSeen root see big) edit
-  is_good (SetPeer peer) x h = h.1
-  is_good (SetPointer to) x h = h
-  is_good (SetHolder holder) x h = h
-  is_good (SetTalk talk) x h = h
-  is_good (SetFault fault) x h = h
-  is_good (SetTaker taker) x h = h.1
-  is_good edit x h = tt
+  is_good : (out : Bool) (edit : Edit) (x : Path) → IsSeenEdit root see big out x edit → IsGood see (IsSeen root see big) out edit
+  is_good out (SetPeer peer) x h = h.1
+  is_good out (Proceed mode counter) x h = h
+  is_good out (SetPointer to) x h = h
+  is_good out (SetHolder holder) x h = h
+  is_good out (SetTalk talk) x h = h
+  is_good out (SetFault fault) x h = h
+  is_good out (SetTaker taker) x h = h.1
+  is_good out edit x h = tt
 
-  pub alter-image : (k : ℕ) (q : Path) (edit : Edit) → IsSeenEdit root see big (k ∷ (q ++ root)) edit → IsImage root see (apply (Alter (k ∷ q) (seen_edit see edit)) small) (apply (Alter (k ∷ (q ++ root)) edit) big)
+  pub alter-image : (out : Bool) (k : ℕ) (q : Path) (edit : Edit) → IsSeenEdit root see big out (k ∷ (q ++ root)) edit → IsImage root see (apply (Alter (k ∷ q) (seen_edit see out edit)) small) (apply (Alter (k ∷ (q ++ root)) edit) big)
   unfolding apply
-  alter-image k q edit h = at_path-image k q (option_map (edited (seen_edit see edit))) (option_map (edited edit)) (rw (image.bodies (k ∷ q)) (alike (big.body (k ∷ (q ++ root))) refl)) (near (big.body (k ∷ (q ++ root))) refl (image.pointers k q))
+  alter-image out k q edit h = at_path-image k q (option_map (edited (seen_edit see out edit))) (option_map (edited edit)) (rw (image.bodies (k ∷ q)) (alike (big.body (k ∷ (q ++ root))) refl)) (near (big.body (k ∷ (q ++ root))) refl (image.plain k q))
     where
-      alike : (v : Option Body) → big.body (k ∷ (q ++ root)) ≡ v → shown (k ∷ q) (option_map (edited edit) v) ≡ option_map (edited (seen_edit see edit)) (shown (k ∷ q) v)
+      alike : (v : Option Body) → big.body (k ∷ (q ++ root)) ≡ v → shown (k ∷ q) (option_map (edited edit) v) ≡ option_map (edited (seen_edit see out edit)) (shown (k ∷ q) v)
       alike None is = refl
-      alike (Some b) is = ap Some (edited-seen see edit b (is_near edit b (k ∷ (q ++ root)) is h))
+      alike (Some b) is = ap Some (edited-seen see out edit b (at_port out edit b (k ∷ (q ++ root)) is h))
 
       near : (v : Option Body) → big.body (k ∷ (q ++ root)) ≡ v → Near v → Near (option_map (edited edit) v)
       near None is good = tt
-      near (Some b) is good = edited-kept see (IsSeen root see big) edit b (is_near edit b (k ∷ (q ++ root)) is h) (is_good edit (k ∷ (q ++ root)) h) good
+      near (Some b) is good = edited-kept see (IsSeen root see big) out edit b (at_port out edit b (k ∷ (q ++ root)) is h) (is_good out edit (k ∷ (q ++ root)) h) good
 
   -- ---- a new object
 
-  pub make-image : (k : ℕ) (q : Path) (body : Body) → AllInBody see (IsSeen root see big) body → IsImage root see (apply (Make (k ∷ q) (seen_by (seeing see) body)) small) (apply (Make (k ∷ (q ++ root)) body) big)
+  pub make-image : (k : ℕ) (q : Path) (body : Body) → IsPlainBody see (IsSeen root see big) body → IsImage root see (apply (Make (k ∷ q) (seen_by (seeing see) body)) small) (apply (Make (k ∷ (q ++ root)) body) big)
   unfolding apply
   make-image k q body h = at_path-image k q (λ there. Some (seen_by (seeing see) body)) (λ there. Some body) refl h
 
@@ -114,13 +113,13 @@ module _ {root : Path} {see : Ptr → Ptr} {small big : World} (image : IsImage 
   unfolding apply seen_by kind_there
   make_space-image k q holder h =
       let made : IsImage root see (at_path (k ∷ q) (λ there. Some (Space small.next (and_then (seeing see).holder holder))) small) (at_path (k ∷ (q ++ root)) (λ there. Some (Space big.next holder)) big) =
-          at_path-image k q (λ there. Some (Space small.next (and_then (seeing see).holder holder))) (λ there. Some (Space big.next holder)) (ap (λ (n : ℕ). Some (Space n (and_then (seeing see).holder holder))) (sym image.unborn)) h in
+      at_path-image k q (λ there. Some (Space small.next (and_then (seeing see).holder holder))) (λ there. Some (Space big.next holder)) (ap (λ (n : ℕ). Some (Space n (and_then (seeing see).holder holder))) (sym image.unborn)) h in
       record {
         bodies = made.bodies;
         pages = made.pages;
         unborn = ap birth_after image.unborn;
         top = made.top;
-        pointers = λ j z. all_in_body see see (λ p. refl) (IsSeen root see (at_path (k ∷ (q ++ root)) (λ there. Some (Space big.next holder)) big)) (IsSeen root see (apply (MakeSpace (k ∷ (q ++ root)) holder) big)) (λ p h. ptr_moved root _ _ (λ x apart port. port) p (see p) h) _ (made.pointers j z);
+        plain = λ j z. all_in_body see see (λ p. refl) (IsSeen root see (at_path (k ∷ (q ++ root)) (λ there. Some (Space big.next holder)) big)) (IsSeen root see (apply (MakeSpace (k ∷ (q ++ root)) holder) big)) (λ p h. ptr_moved root _ _ (λ x apart port. port) p (see p) h) _ (made.plain j z);
         within = image.within;
         null = image.null;
         dead = image.dead;
@@ -135,7 +134,7 @@ module _ {root : Path} {see : Ptr → Ptr} {small big : World} (image : IsImage 
     pages = λ z g. rw (same_path_cancel z q root, image.pages z g) refl;
     unborn = image.unborn;
     top = image.top;
-    pointers = λ j z. all_in_body see see (λ p. refl) (IsSeen root see big) (IsSeen root see (with_page (q ++ root) page words big)) (λ p h. ptr_moved root _ _ (λ x apart port. port) p (see p) h) _ (image.pointers j z);
+    plain = λ j z. all_in_body see see (λ p. refl) (IsSeen root see big) (IsSeen root see (with_page (q ++ root) page words big)) (λ p h. ptr_moved root _ _ (λ x apart port. port) p (see p) h) _ (image.plain j z);
     within = image.within;
     null = image.null;
     dead = image.dead;
@@ -153,8 +152,8 @@ module _ {root : Path} {see : Ptr → Ptr} {small big : World} (image : IsImage 
     pages = image.pages;
     unborn = image.unborn;
     top = rw (outside_body x edit apart []) image.top;
-    pointers = λ j z. rw (outside_body x edit apart (j ∷ z))
-        (all_in_body see see (λ p. refl) (IsSeen root see big) (IsSeen root see (at_path x (option_map (edited edit)) big)) (λ p h. ptr_moved root _ _ (λ y out port. kind_kept edit (same_path y x) (big.body y) ∙ port) p (see p) h) _ (image.pointers j z));
+    plain = λ j z. rw (outside_body x edit apart (j ∷ z))
+        (all_in_body see see (λ p. refl) (IsSeen root see big) (IsSeen root see (at_path x (option_map (edited edit)) big)) (λ p h. ptr_moved root _ _ (λ y out port. kind_kept edit (same_path y x) (big.body y) ∙ port) p (see p) h) _ (image.plain j z));
     within = image.within;
     null = image.null;
     dead = image.dead;
@@ -167,7 +166,7 @@ module _ {root : Path} {see : Ptr → Ptr} {small big : World} (image : IsImage 
     pages = λ z g. rw (same_path_outside root z space (strip_none root space apart)) (image.pages z g);
     unborn = image.unborn;
     top = image.top;
-    pointers = λ j z. all_in_body see see (λ p. refl) (IsSeen root see big) (IsSeen root see (with_page space page words big)) (λ p h. ptr_moved root _ _ (λ x out port. port) p (see p) h) _ (image.pointers j z);
+    plain = λ j z. all_in_body see see (λ p. refl) (IsSeen root see big) (IsSeen root see (with_page space page words big)) (λ p h. ptr_moved root _ _ (λ x out port. port) p (see p) h) _ (image.plain j z);
     within = image.within;
     null = image.null;
     dead = image.dead;

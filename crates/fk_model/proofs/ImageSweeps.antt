@@ -1,20 +1,20 @@
 -- The death and the renaming of an object inside sweep alike over an image.
-use Rattle.std.proofs.Common.{◌≡◌, ℕ, zero, Bool, true, false, cond, ◌&&◌, ◌||◌, eqb, List, [], ◌∷◌, ◌++◌, Option, Some, None, IfSome, option_map, refl, sym, ap, ap₂, ◌∙◌}
+use Rattle.std.proofs.Common.{◌≡◌, ℕ, Bool, true, false, cond, ◌||◌, [], ◌∷◌, ◌++◌, Option, Some, None, IfSome, option_map, refl, sym, ap, ap₂, ◌∙◌}
 use Rattle.fk_model.specs.declared.names.Kind.TheVariants as kinds
-use Rattle.fk_model.specs.Places.{Path, same_path, is_within, parent, slot_of, Ptr, leads_to}
-use Rattle.fk_model.specs.Places.Ptr.{Null, Dead, At, Out, Outside, Far}
+use Rattle.fk_model.specs.Places.{Path, same_path, is_within, Ptr, leads_to}
+use Rattle.fk_model.specs.Places.Ptr.{Dead, At}
 use Rattle.fk_model.specs.Objects.{Peer, Talk, Fault, Thread, Body, kind_of, thread_of, and_then}
 use Rattle.fk_model.specs.Objects.Peer.{Server, Service, Parked}
-use Rattle.fk_model.specs.Objects.Body.{Mutex, Cond, Mapping, Region, Port, Portset, Space, Thread_of, Reference}
-use Rattle.fk_model.specs.World.{World, Change, Sweep, through, serves, set_at, without, talk_without, taker_without, fault_without, following, follow, follow_peer, killed_at, moved_to, apply}
+use Rattle.fk_model.specs.Objects.Body.{Mutex, Mapping, Region, Port, Space, Thread_of, Reference}
+use Rattle.fk_model.specs.World.{World, Sweep, through, serves, set_at, without, talk_without, taker_without, fault_without, following, follow, follow_peer, killed_at, moved_to, apply}
 use Rattle.fk_model.specs.World.Change.{Kill, Move}
 use Rattle.fk_model.specs.Searches.{talk_at, fault_at}
 use Rattle.fk_model.specs.Readers.{kind_at}
 use Rattle.fk_model.specs.Valid.{kind_there}
 use Rattle.fk_model.specs.Cut.{is_out, seen_by, unheld}
-use Rattle.fk_model.specs.Image.{seeing, seen_peer, seen_talk, seen_fault, PtrImage, IsSeen, IfServer, AllInTalk, AllInFault, AllInBody, IsImage, IsApart}
-use Rattle.fk_model.specs.Image.PtrImage.{Nulls, Deads, Inside, PortAt, PortOut}
-use Rattle.fk_model.proofs.PlaceLaws.{same_path_eq, same_path_cancel, same_path_above}
+use Rattle.fk_model.specs.Image.{seeing, seen_peer, seen_talk, seen_fault, IsSeen, IfServer, AllInTalk, AllInFault, IsPlainBody, IsImage, IsApart}
+use Rattle.fk_model.specs.Image.PtrImage.{Deads, Inside}
+use Rattle.fk_model.proofs.PlaceLaws.{same_path_cancel, same_path_above}
 use Rattle.fk_model.proofs.ImagePointers.{all_in_body, ptr_moved}
 use Rattle.fk_model.proofs.ImageMemory.{root_space}
 use Rattle.fk_model.proofs.ImageHolds.{leads_to-image}
@@ -54,7 +54,7 @@ module _ (see : Ptr → Ptr) (P : Ptr → Type 0) (hit : Peer → Bool) (f F : S
   fault-swept None h apart = (refl, tt)
   fault-swept (Some fault) h apart = alike.fault fault h apart
 
-  pub through-seen : (b : Body) → AllInBody see P b → NoneHidden see hit b → seen_by (seeing see) (through F there b) ≡ through f here (seen_by (seeing see) b)
+  pub through-seen : (b : Body) → IsPlainBody see P b → NoneHidden see hit b → seen_by (seeing see) (through F there b) ≡ through f here (seen_by (seeing see) b)
   unfolding seen_by
   through-seen (Mapping m) h apart = ap (λ (p : Ptr). Mapping (record m { region = p })) (alike.pointer m.region h).0
   through-seen (Region r) h apart = ap (λ (p : Ptr). Region (record r { keeper = p })) (alike.pointer r.keeper h).0
@@ -68,12 +68,13 @@ module _ (see : Ptr → Ptr) (P : Ptr → Type 0) (hit : Peer → Bool) (f F : S
   through-seen (Reference to) h apart = ap Reference (alike.pointer to h).0
   through-seen b h apart = refl
 
-  pub through-kept : (b : Body) → AllInBody see P b → NoneHidden see hit b → AllInBody see P (through F there b)
+  pub through-kept : (b : Body) → IsPlainBody see P b → NoneHidden see hit b → IsPlainBody see P (through F there b)
   through-kept (Mapping m) h apart = (alike.pointer m.region h).1
   through-kept (Region r) h apart = (alike.pointer r.keeper h).1
   through-kept (Space birth None) h apart = tt
   through-kept (Space birth (Some p)) h apart = (alike.holder p h).1
-  through-kept (Thread_of t) h apart = ((talk-swept t.talk h.0 apart.0).1, (fault-swept t.fault h.1 apart.1).1)
+  through-kept (Port set served) h apart = h
+  through-kept (Thread_of t) h apart = ((talk-swept t.talk h.0 apart.0).1, (fault-swept t.fault h.1 apart.1).1, h.2)
   through-kept (Reference to) h apart = (alike.pointer to h).1
   through-kept b h apart = tt
 
@@ -178,17 +179,18 @@ module _ {root : Path} {see : Ptr → Ptr} {small big : World} (image : IsImage 
     death : (j : ℕ) (z : Path) (set : ℕ) → (without (k ∷ (q ++ root))).set (j ∷ (z ++ root)) set ≡ (without (k ∷ q)).set (j ∷ z) set
     death j z set = rw (set_alike set j z (k ∷ q)) refl
 
-    swept : (j : ℕ) (z : Path) (v : Option Body) → IfSome v (AllInBody see Seen) → IfSome v (NoneHidden see (serves (k ∷ (q ++ root)))) →
+    swept : (j : ℕ) (z : Path) (v : Option Body) → IfSome v (IsPlainBody see Seen) → IfSome v (NoneHidden see (serves (k ∷ (q ++ root)))) →
         (shown (j ∷ z) (option_map (through (without (k ∷ (q ++ root))) (j ∷ (z ++ root))) v) ≡ option_map (through (without (k ∷ q)) (j ∷ z)) (shown (j ∷ z) v))
-        × IfSome (option_map (through (without (k ∷ (q ++ root))) (j ∷ (z ++ root))) v) (AllInBody see Seen)
+        × IfSome (option_map (through (without (k ∷ (q ++ root))) (j ∷ (z ++ root))) v) (IsPlainBody see Seen)
     swept j z None h hidden = (refl, tt)
-    swept j z (Some b) h hidden =
-        (ap Some (through-seen see Seen (serves (k ∷ (q ++ root))) (without (k ∷ q)) (without (k ∷ (q ++ root))) (without-alike (k ∷ q)) (j ∷ z) (j ∷ (z ++ root)) (death j z) b h hidden),
-        through-kept see Seen (serves (k ∷ (q ++ root))) (without (k ∷ q)) (without (k ∷ (q ++ root))) (without-alike (k ∷ q)) (j ∷ z) (j ∷ (z ++ root)) (death j z) b h hidden)
+    swept j z (Some b) h hidden = (
+      ap Some (through-seen see Seen (serves (k ∷ (q ++ root))) (without (k ∷ q)) (without (k ∷ (q ++ root))) (without-alike (k ∷ q)) (j ∷ z) (j ∷ (z ++ root)) (death j z) b h hidden),
+      through-kept see Seen (serves (k ∷ (q ++ root))) (without (k ∷ q)) (without (k ∷ (q ++ root))) (without-alike (k ∷ q)) (j ∷ z) (j ∷ (z ++ root)) (death j z) b h hidden,
+    )
 
     swept_at : (j : ℕ) (z : Path) → (shown (j ∷ z) (option_map (through (without (k ∷ (q ++ root))) (j ∷ (z ++ root))) (big.body (j ∷ (z ++ root)))) ≡ option_map (through (without (k ∷ q)) (j ∷ z)) (small.body (j ∷ z)))
-        × IfSome (option_map (through (without (k ∷ (q ++ root))) (j ∷ (z ++ root))) (big.body (j ∷ (z ++ root)))) (AllInBody see Seen)
-    swept_at j z = rw (image.bodies (j ∷ z)) (swept j z (big.body (j ∷ (z ++ root))) (image.pointers j z) (none_hidden apart (k ∷ q) j z (big.body (j ∷ (z ++ root))) refl))
+        × IfSome (option_map (through (without (k ∷ (q ++ root))) (j ∷ (z ++ root))) (big.body (j ∷ (z ++ root)))) (IsPlainBody see Seen)
+    swept_at j z = rw (image.bodies (j ∷ z)) (swept j z (big.body (j ∷ (z ++ root))) (image.plain j z) (none_hidden apart (k ∷ q) j z (big.body (j ∷ (z ++ root))) refl))
 
     killed-body : (z : Path) → (killed_at (k ∷ q) small).body z ≡ shown z ((killed_at (k ∷ (q ++ root)) big).body (z ++ root))
     unfolding seen_by same_path
@@ -199,10 +201,10 @@ module _ {root : Path} {see : Ptr → Ptr} {small big : World} (image : IsImage 
         by true = refl
         by false = sym (swept_at j z).0
 
-    killed-near : (j : ℕ) (z : Path) → IfSome ((killed_at (k ∷ (q ++ root)) big).body (j ∷ (z ++ root))) (AllInBody see Seen)
+    killed-near : (j : ℕ) (z : Path) → IfSome ((killed_at (k ∷ (q ++ root)) big).body (j ∷ (z ++ root))) (IsPlainBody see Seen)
     killed-near j z = by (same_path (j ∷ (z ++ root)) (k ∷ (q ++ root)))
       where
-        by : (t : Bool) → IfSome (cond t None (option_map (through (without (k ∷ (q ++ root))) (j ∷ (z ++ root))) (big.body (j ∷ (z ++ root))))) (AllInBody see Seen)
+        by : (t : Bool) → IfSome (cond t None (option_map (through (without (k ∷ (q ++ root))) (j ∷ (z ++ root))) (big.body (j ∷ (z ++ root))))) (IsPlainBody see Seen)
         by true = tt
         by false = (swept_at j z).1
 
@@ -216,7 +218,7 @@ module _ {root : Path} {see : Ptr → Ptr} {small big : World} (image : IsImage 
       pages = λ z g. rw (same_path_cancel z (k ∷ q) root, image.pages z g) refl;
       unborn = image.unborn;
       top = rw (same_path_above k q root, (root_space image).2) refl;
-      pointers = λ j z. all_in_body see see (λ p. refl) Seen (IsSeen root see (killed_at (k ∷ (q ++ root)) big)) (λ p h. ptr_moved root big (killed_at (k ∷ (q ++ root)) big) killed-ports p (see p) h) _ (killed-near j z);
+      plain = λ j z. all_in_body see see (λ p. refl) Seen (IsSeen root see (killed_at (k ∷ (q ++ root)) big)) (λ p h. ptr_moved root big (killed_at (k ∷ (q ++ root)) big) killed-ports p (see p) h) _ (killed-near j z);
       within = image.within;
       null = image.null;
       dead = image.dead;
@@ -293,17 +295,18 @@ module _ {root : Path} {see : Ptr → Ptr} {small big : World} (image : IsImage 
     far = following (k ∷ (q ++ root)) (slot ∷ (q ++ root))
 
     -- what stands at a path inside, seen at this path after the move
-    moved : (i j : ℕ) (z at : Path) (v : Option Body) → IfSome v (AllInBody see Seen) →
-        (shown (j ∷ z) (option_map (through far (j ∷ (z ++ root))) v) ≡ option_map (through near (j ∷ z)) (shown (i ∷ at) v)) × IfSome (option_map (through far (j ∷ (z ++ root))) v) (AllInBody see Seen)
+    moved : (i j : ℕ) (z at : Path) (v : Option Body) → IfSome v (IsPlainBody see Seen) →
+        (shown (j ∷ z) (option_map (through far (j ∷ (z ++ root))) v) ≡ option_map (through near (j ∷ z)) (shown (i ∷ at) v)) × IfSome (option_map (through far (j ∷ (z ++ root))) v) (IsPlainBody see Seen)
     moved i j z at None h = (refl, tt)
     moved i j z at (Some b) h =
-        let sets : (set : ℕ) → far.set (j ∷ (z ++ root)) set ≡ near.set (j ∷ z) set = λ set. rw (set_alike set j z (k ∷ q)) refl in
-        (ap Some (through-seen see Seen (λ peer. false) near far (following-alike (k ∷ q) (slot ∷ q)) (j ∷ z) (j ∷ (z ++ root)) sets b h (nobody_hit b)),
-        through-kept see Seen (λ peer. false) near far (following-alike (k ∷ q) (slot ∷ q)) (j ∷ z) (j ∷ (z ++ root)) sets b h (nobody_hit b))
+        let sets : (set : ℕ) → far.set (j ∷ (z ++ root)) set ≡ near.set (j ∷ z) set = λ set. rw (set_alike set j z (k ∷ q)) refl in (
+          ap Some (through-seen see Seen (λ peer. false) near far (following-alike (k ∷ q) (slot ∷ q)) (j ∷ z) (j ∷ (z ++ root)) sets b h (nobody_hit b)),
+          through-kept see Seen (λ peer. false) near far (following-alike (k ∷ q) (slot ∷ q)) (j ∷ z) (j ∷ (z ++ root)) sets b h (nobody_hit b),
+        )
 
     moved_from : (i j : ℕ) (z there : Path) → (shown (j ∷ z) (option_map (through far (j ∷ (z ++ root))) (big.body (i ∷ (there ++ root)))) ≡ option_map (through near (j ∷ z)) (small.body (i ∷ there)))
-        × IfSome (option_map (through far (j ∷ (z ++ root))) (big.body (i ∷ (there ++ root)))) (AllInBody see Seen)
-    moved_from i j z there = rw (image.bodies (i ∷ there)) (moved i j z there (big.body (i ∷ (there ++ root))) (image.pointers i there))
+        × IfSome (option_map (through far (j ∷ (z ++ root))) (big.body (i ∷ (there ++ root)))) (IsPlainBody see Seen)
+    moved_from i j z there = rw (image.bodies (i ∷ there)) (moved i j z there (big.body (i ∷ (there ++ root))) (image.plain i there))
 
     moved-body : (z : Path) → (moved_to (k ∷ q) (slot ∷ q) small).body z ≡ shown z ((moved_to (k ∷ (q ++ root)) (slot ∷ (q ++ root)) big).body (z ++ root))
     unfolding seen_by same_path
@@ -317,10 +320,10 @@ module _ {root : Path} {see : Ptr → Ptr} {small big : World} (image : IsImage 
         by false true = refl
         by false false = sym (moved_from j j z z).0
 
-    moved-near : (j : ℕ) (z : Path) → IfSome ((moved_to (k ∷ (q ++ root)) (slot ∷ (q ++ root)) big).body (j ∷ (z ++ root))) (AllInBody see Seen)
+    moved-near : (j : ℕ) (z : Path) → IfSome ((moved_to (k ∷ (q ++ root)) (slot ∷ (q ++ root)) big).body (j ∷ (z ++ root))) (IsPlainBody see Seen)
     moved-near j z = by (same_path (j ∷ (z ++ root)) (slot ∷ (q ++ root))) (same_path (j ∷ (z ++ root)) (k ∷ (q ++ root)))
       where
-        by : (t u : Bool) → IfSome (cond t (option_map (through far (slot ∷ (q ++ root))) (big.body (k ∷ (q ++ root)))) (cond u None (option_map (through far (j ∷ (z ++ root))) (big.body (j ∷ (z ++ root)))))) (AllInBody see Seen)
+        by : (t u : Bool) → IfSome (cond t (option_map (through far (slot ∷ (q ++ root))) (big.body (k ∷ (q ++ root)))) (cond u None (option_map (through far (j ∷ (z ++ root))) (big.body (j ∷ (z ++ root)))))) (IsPlainBody see Seen)
         by true u = (moved_from k slot q q).1
         by false true = tt
         by false false = (moved_from j j z z).1
@@ -335,7 +338,7 @@ module _ {root : Path} {see : Ptr → Ptr} {small big : World} (image : IsImage 
       pages = λ z g. rw (same_path_cancel z (slot ∷ q) root, same_path_cancel z (k ∷ q) root, image.pages z g, image.pages (k ∷ q) g) refl;
       unborn = image.unborn;
       top = rw (same_path_above slot q root, same_path_above k q root, (root_space image).2) refl;
-      pointers = λ j z. all_in_body see see (λ p. refl) Seen (IsSeen root see (moved_to (k ∷ (q ++ root)) (slot ∷ (q ++ root)) big)) (λ p h. ptr_moved root big (moved_to (k ∷ (q ++ root)) (slot ∷ (q ++ root)) big) moved-ports p (see p) h) _ (moved-near j z);
+      plain = λ j z. all_in_body see see (λ p. refl) Seen (IsSeen root see (moved_to (k ∷ (q ++ root)) (slot ∷ (q ++ root)) big)) (λ p h. ptr_moved root big (moved_to (k ∷ (q ++ root)) (slot ∷ (q ++ root)) big) moved-ports p (see p) h) _ (moved-near j z);
       within = image.within;
       null = image.null;
       dead = image.dead;

@@ -1,22 +1,17 @@
 -- Threads, and their talks and faults, are read alike in an image.
-use Rattle.std.proofs.Common.{◌≡◌, ℕ, zero, Bool, true, false, cond, not, ◌&&◌, eqb, List, [], ◌∷◌, ◌++◌, Option, Some, None, IfSome, is_some, option_map, Result, Ok, Err, refl, sym, ap, ◌∙◌}
-use Rattle.std.proofs.lemmas.Bool.{and_left, and_right}
+use Rattle.std.proofs.Common.{◌≡◌, ℕ, Bool, true, false, [], ◌∷◌, ◌++◌, Option, Some, None, IfSome, option_map, refl}
 use Rattle.fk_model.specs.declared.names.Kind.TheVariants as kinds
-use Rattle.fk_model.specs.declared.stage.Stage.{Stage}
-use Rattle.fk_model.specs.declared.stage.Stage.TheVariants.{Connect}
 use Rattle.fk_model.specs.declared.thread.Turn.TheVariants as turns
-use Rattle.fk_model.specs.Places.{Path, same_path, strip, is_within, parent, slot_of, Ptr}
-use Rattle.fk_model.specs.Places.Ptr.{Null, Dead, At, Out, Outside, Far}
-use Rattle.fk_model.specs.Objects.{Mode, Peer, Talk, Fault, Thread, Body, kind_of, port_of, thread_of, and_then, or_else, holds}
+use Rattle.fk_model.specs.Places.{Path, Ptr}
+use Rattle.fk_model.specs.Places.Ptr.{At}
+use Rattle.fk_model.specs.Objects.{Peer, Talk, Fault, Thread, Body, kind_of, thread_of, and_then}
 use Rattle.fk_model.specs.Objects.Peer.{Server, Service, Parked}
-use Rattle.fk_model.specs.Objects.Body.{Mutex, Cond, Mapping, Region, Port, Portset, Space, Thread_of, Reference}
+use Rattle.fk_model.specs.Objects.Body.{Thread_of}
 use Rattle.fk_model.specs.World.{World}
 use Rattle.fk_model.specs.Searches.{talk_at, fault_at, client_of}
-use Rattle.fk_model.specs.Holds.{is_frozen, is_unheld}
-use Rattle.fk_model.specs.Readers.{kind_at}
-use Rattle.fk_model.specs.Talks.{Line, line_from, line, path_to, thread_at, is_service_free}
+use Rattle.fk_model.specs.Talks.{line_from, line, path_to, thread_at}
 use Rattle.fk_model.specs.Cut.{is_out, seen_by, unheld}
-use Rattle.fk_model.specs.Image.{seeing, seen_peer, seen_talk, seen_fault, seen_thread, PtrImage, IsSeen, IfServer, AllInTalk, AllInFault, AllInBody, IsImage, AlikeOptions, IsBeneath, IsOuter, IsApart, IsSeenTalk, IsSeenFault, IsSeenThread, PeerImage, EndImage, LineImage}
+use Rattle.fk_model.specs.Image.{seeing, seen_peer, PtrImage, IsSeen, IfServer, AllInTalk, AllInFault, IsPlainBody, IsImage, AlikeOptions, IsBeneath, IsOuter, IsApart, IsSeenTalk, IsSeenFault, IsSeenThread, PeerImage, EndImage, LineImage}
 use Rattle.fk_model.specs.Image.PtrImage.{Nulls, Deads, Inside, PortAt, PortOut}
 use Rattle.fk_model.specs.Image.PeerImage.{Outsiders, Servers, Services, Waiters}
 use Rattle.fk_model.specs.Image.EndImage.{Ends}
@@ -32,7 +27,7 @@ port_no_thread (Some b) h = refl
 module _ {root : Path} {see : Ptr → Ptr} {small big : World} (image : IsImage root see small big) where
   -- ---- threads
 
-  thread-alike : (k : ℕ) (q : Path) (v : Option Body) → IfSome v (AllInBody see (IsSeen root see big)) → AlikeOptions (IsSeenThread root see big) (and_then thread_of (option_map (λ b. unheld (k ∷ q) (seen_by (seeing see) b)) v)) (and_then thread_of v)
+  thread-alike : (k : ℕ) (q : Path) (v : Option Body) → IfSome v (IsPlainBody see (IsSeen root see big)) → AlikeOptions (IsSeenThread root see big) (and_then thread_of (option_map (λ b. unheld (k ∷ q) (seen_by (seeing see) b)) v)) (and_then thread_of v)
   unfolding seen_by
   thread-alike k q (Some (Thread_of t)) h = (refl, h)
   thread-alike k q (Some b) h = tt
@@ -40,7 +35,7 @@ module _ {root : Path} {see : Ptr → Ptr} {small big : World} (image : IsImage 
 
   pub thread_there-image : (q : Path) → AlikeOptions (IsSeenThread root see big) (and_then thread_of (small.body q)) (and_then thread_of (big.body (q ++ root)))
   thread_there-image [] = rw ((root_space image).2, root_seen image) tt
-  thread_there-image (k ∷ q) = rw (image.bodies (k ∷ q)) (thread-alike k q (big.body (k ∷ (q ++ root))) (image.pointers k q))
+  thread_there-image (k ∷ q) = rw (image.bodies (k ∷ q)) (thread-alike k q (big.body (k ∷ (q ++ root))) (image.plain k q))
 
   talk-alike : (o : Option Talk) → IfSome o (AllInTalk see (IsSeen root see big)) → AlikeOptions (IsSeenTalk root see big) (and_then (seeing see).talk o) o
   talk-alike None h = tt
@@ -62,7 +57,7 @@ module _ {root : Path} {see : Ptr → Ptr} {small big : World} (image : IsImage 
 
   -- ---- the thread to which a pointer leads
 
-  end-alike : (k : ℕ) (q : Path) (v : Option Body) → big.body (k ∷ (q ++ root)) ≡ v → IfSome v (AllInBody see (IsSeen root see big)) →
+  end-alike : (k : ℕ) (q : Path) (v : Option Body) → big.body (k ∷ (q ++ root)) ≡ v → IfSome v (IsPlainBody see (IsSeen root see big)) →
       AlikeOptions (EndImage root see big) (and_then (λ (t : Thread). Some (k ∷ q, t)) (and_then thread_of (option_map (λ b. unheld (k ∷ q) (seen_by (seeing see) b)) v))) (and_then (λ (t : Thread). Some (k ∷ (q ++ root), t)) (and_then thread_of v))
   unfolding seen_by
   end-alike k q (Some (Thread_of t)) is h = Ends k q t is h
@@ -73,7 +68,7 @@ module _ {root : Path} {see : Ptr → Ptr} {small big : World} (image : IsImage 
   thread_at-image _ _ Nulls = tt
   thread_at-image _ _ Deads = tt
   thread_at-image _ _ (Inside []) = rw ((root_space image).2, root_seen image) tt
-  thread_at-image _ _ (Inside (k ∷ q)) = rw (image.bodies (k ∷ q)) (end-alike k q (big.body (k ∷ (q ++ root))) refl (image.pointers k q))
+  thread_at-image _ _ (Inside (k ∷ q)) = rw (image.bodies (k ∷ q)) (end-alike k q (big.body (k ∷ (q ++ root))) refl (image.plain k q))
   thread_at-image _ _ (PortAt x slot apart port) = rw (port_no_thread (big.body x) port) tt
   thread_at-image _ _ (PortOut old slot) = tt
 
@@ -113,3 +108,12 @@ module _ {root : Path} {see : Ptr → Ptr} {small big : World} (image : IsImage 
       at : (client : Path) → AlikeOptions (LineImage root see big) (line_from client (λ talk. Server (At client)) (talk_at small client)) (line_from (client ++ root) (λ talk. Server (At (client ++ root))) (talk_at big (client ++ root)))
       at [] = rw ((root_space image).2, root_seen image) tt
       at (k ∷ q) = by k q (talk_at small (k ∷ q)) (talk_at big (k ∷ (q ++ root))) refl (talk_at-image (k ∷ q))
+
+  -- ---- paths
+
+  pub path_to-image : (p seen : Ptr) → PtrImage root big p seen → is_out seen ≡ false → AlikeOptions (IsBeneath root) (path_to seen) (path_to p)
+  path_to-image _ _ Nulls near = tt
+  path_to-image _ _ Deads near = tt
+  path_to-image _ _ (Inside x) near = refl
+  path_to-image _ _ (PortAt x slot apart port) near = cc
+  path_to-image _ _ (PortOut old slot) near = cc

@@ -1,17 +1,15 @@
 -- Walks inside go alike in an image: what lies in a space, beneath it, and first.
-use Rattle.std.proofs.Common.{◌≡◌, ℕ, zero, suc, ◌+◌, ◌<◌, ◌≤◌, Bool, true, false, cond, ◌&&◌, ◌||◌, eqb, List, [], ◌∷◌, ◌++◌, length, map, filter, flat_map, Option, Some, None, is_some, option_map, refl, sym, ap, ◌∙◌, arith, append_assoc, length-append}
+use Rattle.std.proofs.Common.{◌≡◌, ℕ, zero, suc, ◌<◌, Bool, true, false, cond, ◌||◌, List, [], ◌∷◌, ◌++◌, length, map, filter, flat_map, Option, Some, None, is_some, option_map, refl, sym, ap, ◌∙◌, arith, append_assoc, length-append}
 use Rattle.std.specs.List.{list_any}
 use Rattle.std.proofs.lemmas.List.Folds.{list_any-append}
 use Rattle.std.proofs.lemmas.List.{map-append}
 use Rattle.fk_model.specs.declared.limits.TheConstants.{SLOTS}
 use Rattle.fk_model.specs.Places.{Path, same_path, strip, is_within, Ptr}
-use Rattle.fk_model.specs.Places.Ptr.{Null, Dead, At, Out, Outside, Far}
-use Rattle.fk_model.specs.Objects.{Thread, Body, thread_of, and_then}
-use Rattle.fk_model.specs.Objects.Body.{Mutex, Cond, Mapping, Region, Port, Portset, Space, Thread_of, Reference}
+use Rattle.fk_model.specs.Objects.{Body}
+use Rattle.fk_model.specs.Objects.Body.{Thread_of}
 use Rattle.fk_model.specs.World.{World}
 use Rattle.fk_model.specs.Searches.{lowest, slots, residents, has_residents, depth, beneath_by, beneath, first_resident, leaf_from, leaf_by, leaf}
-use Rattle.fk_model.specs.Talks.{first_stage}
-use Rattle.fk_model.specs.SyncRows.{mutex_after, asleep_on}
+use Rattle.fk_model.specs.SyncRows.{asleep_on}
 use Rattle.fk_model.specs.ObjectRows.{way_down, way_to}
 use Rattle.fk_model.specs.Cut.{seen_by, unheld}
 use Rattle.fk_model.specs.Image.{seeing, PtrImage, IsImage, AlikeOptions}

@@ -1,20 +1,20 @@
 -- The cut of a plain subtree is an image of its world, and a rebinding of an image is one.
-use Rattle.std.proofs.Common.{◌≡◌, ℕ, zero, Bool, true, false, cond, not, ◌&&◌, ◌||◌, eqb, List, [], ◌∷◌, ◌++◌, Option, Some, None, IfSome, is_some, option_map, refl, sym, ap, subst, ◌∙◌, append-nil}
+use Rattle.std.proofs.Common.{◌≡◌, ℕ, Bool, true, false, cond, not, ◌&&◌, eqb, [], ◌∷◌, ◌++◌, Option, Some, None, IfSome, is_some, option_map, refl, sym, ap, subst, ◌∙◌, append-nil}
 use Rattle.std.specs.List.{list_any}
 use Rattle.std.proofs.lemmas.List.Folds.{list_any-append}
 use Rattle.std.proofs.lemmas.Bool.{and_parts}
 use Rattle.fk_model.specs.declared.names.Kind.TheVariants as kinds
-use Rattle.fk_model.specs.Places.{Path, same_path, strip, is_within, Ptr}
+use Rattle.fk_model.specs.Places.{Path, same_path, strip, Ptr}
 use Rattle.fk_model.specs.Places.Ptr.{Null, Dead, At, Out, Outside, Far}
-use Rattle.fk_model.specs.Objects.{Peer, Talk, Fault, Thread, Body, kind_of, port_of, and_then, holds}
+use Rattle.fk_model.specs.Objects.{Peer, Talk, Fault, Body, kind_of, and_then, holds}
 use Rattle.fk_model.specs.Objects.Peer.{Server, Service, Parked}
 use Rattle.fk_model.specs.Objects.Body.{Mutex, Cond, Mapping, Region, Port, Portset, Space, Thread_of, Reference}
 use Rattle.fk_model.specs.World.{World, through}
-use Rattle.fk_model.specs.Searches.{pointers, option_list, peer_pointer, talk_pointers, fault_pointers}
-use Rattle.fk_model.specs.Readers.{kind_at}
+use Rattle.fk_model.specs.Searches.{option_list, peer_pointer, talk_pointers, fault_pointers}
+use Rattle.fk_model.specs.StateRows.{is_native}
 use Rattle.fk_model.specs.Valid.{kind_there}
-use Rattle.fk_model.specs.Cut.{is_port, ports_of, cut_out, cut_to, cut_ptr, is_out, cutting, seen_by, unheld, cut, is_far, has_far, IsPlain}
-use Rattle.fk_model.specs.Image.{seeing, seen_peer, seen_talk, seen_fault, PtrImage, IsSeen, IfServer, AllInTalk, AllInFault, AllInBody, IsImage, IsCutWorld}
+use Rattle.fk_model.specs.Cut.{is_port, ports_of, cut_out, cut_to, cut_ptr, is_out, seen_by, unheld, cut, is_far, has_far, is_served, IsPlain}
+use Rattle.fk_model.specs.Image.{seeing, seen_peer, PtrImage, IsSeen, IfServer, AllInTalk, AllInFault, IsPlainBody, IsImage, IsCutWorld}
 use Rattle.fk_model.specs.Image.PtrImage.{Nulls, Deads, Inside, PortAt, PortOut}
 use Rattle.fk_model.specs.Rebind.{rebound_ptr, rebound_peer, rebinding, rebound}
 use Rattle.fk_model.proofs.FrameLaws.{or_off}
@@ -96,18 +96,19 @@ module _ (w : World) (nester : Path) (slot : ℕ) where
       let both = or_off (is_far (see fault.port)) _ near in
       (cut_ptr-image w nester slot fault.port both.0, near_taker (is_out (see fault.port)) fault.taker both.1)
 
-  near_body : (v : Option Body) → has_far (option_map (λ b. seen_by (seeing see) b) v) ≡ false → IfSome v (AllInBody see Seen)
+  near_body : (v : Option Body) → has_far (option_map (λ b. seen_by (seeing see) b) v) ≡ false → holds is_native v ≡ false → holds is_served v ≡ false → IfSome v (IsPlainBody see Seen)
   unfolding seen_by
-  near_body None near = tt
-  near_body (Some (Mapping m)) near = near_ptr m.region near
-  near_body (Some (Region r)) near = near_ptr r.keeper near
-  near_body (Some (Space birth None)) near = tt
-  near_body (Some (Space birth (Some holder))) near = near_ptr holder near
-  near_body (Some (Thread_of t)) near =
+  near_body None near users unserved = tt
+  near_body (Some (Mapping m)) near users unserved = near_ptr m.region near
+  near_body (Some (Region r)) near users unserved = near_ptr r.keeper near
+  near_body (Some (Port set served)) near users unserved = unserved
+  near_body (Some (Space birth None)) near users unserved = tt
+  near_body (Some (Space birth (Some holder))) near users unserved = near_ptr holder near
+  near_body (Some (Thread_of t)) near users unserved =
       let both = or_off _ _ (sym (list_any-append is_far (option_list talk_pointers (and_then (seeing see).talk t.talk)) (option_list fault_pointers (and_then (seeing see).fault t.fault))) ∙ near) in
-      (near_talk t.talk both.0, near_fault t.fault both.1)
-  near_body (Some (Reference to)) near = near_ptr to near
-  near_body (Some b) near = tt
+      (near_talk t.talk both.0, near_fault t.fault both.1, users)
+  near_body (Some (Reference to)) near users unserved = near_ptr to near
+  near_body (Some b) near users unserved = tt
 
   pub cut-image : IsPlain w nester slot → IsImage (slot ∷ nester) see (cut w nester slot) w
   unfolding cut kind_there
@@ -116,7 +117,7 @@ module _ (w : World) (nester : Path) (slot : ℕ) where
     pages = λ q page. refl;
     unborn = refl;
     top = rw plain.root refl;
-    pointers = λ k q. near_body (w.body (k ∷ (q ++ slot ∷ nester))) (plain.near (k ∷ q));
+    plain = λ k q. near_body (w.body (k ∷ (q ++ slot ∷ nester))) (plain.near (k ∷ q)) (plain.no_porter (k ∷ q)) (plain.unserved (k ∷ q));
     within = λ x. rw (strip-append (slot ∷ nester) x) refl;
     null = refl;
     dead = refl;
@@ -181,7 +182,7 @@ module _ (bind : ℕ → ℕ) (see : Ptr → Ptr) where
     pages = image.pages;
     unborn = image.unborn;
     top = image.top;
-    pointers = λ k q. all_in_body see anew (λ p. rebound-is_out bind (see p)) (IsSeen root see big) (IsSeen root anew big) (λ p h. ptr_anew root big p (see p) h) (big.body (k ∷ (q ++ root))) (image.pointers k q);
+    plain = λ k q. all_in_body see anew (λ p. rebound-is_out bind (see p)) (IsSeen root see big) (IsSeen root anew big) (λ p h. ptr_anew root big p (see p) h) (big.body (k ∷ (q ++ root))) (image.plain k q);
     within = λ x. rw (image.within x) refl;
     null = rw image.null refl;
     dead = rw image.dead refl;
@@ -250,13 +251,14 @@ module _ (see : Ptr → Ptr) where
     all_seen_fault None h = tt
     all_seen_fault (Some fault) h = (more fault.port h.0, all_seen_taker (is_out (see fault.port)) fault.taker h.1)
 
-    all_seen_body : (k : ℕ) (q : Path) (v : Option Body) → IfSome v (AllInBody see P) → IfSome (option_map (λ b. unheld (k ∷ q) (seen_by (seeing see) b)) v) (AllInBody same Q)
+    all_seen_body : (k : ℕ) (q : Path) (v : Option Body) → IfSome v (IsPlainBody see P) → IfSome (option_map (λ b. unheld (k ∷ q) (seen_by (seeing see) b)) v) (IsPlainBody same Q)
     unfolding seen_by
     all_seen_body k q (Some (Mapping m)) h = more m.region h
     all_seen_body k q (Some (Region r)) h = more r.keeper h
     all_seen_body k q (Some (Space birth (Some holder))) h = more holder h
     all_seen_body k q (Some (Space birth None)) h = tt
-    all_seen_body k q (Some (Thread_of t)) h = (all_seen_talk t.talk h.0, all_seen_fault t.fault h.1)
+    all_seen_body k q (Some (Port set served)) h = refl
+    all_seen_body k q (Some (Thread_of t)) h = (all_seen_talk t.talk h.0, all_seen_fault t.fault h.1, h.2)
     all_seen_body k q (Some (Reference to)) h = more to h
     all_seen_body k q (Some b) h = tt
     all_seen_body k q None h = tt
@@ -281,7 +283,7 @@ image-cut_world {root} {see} {small} {big} image = record {
   pages = λ q page. rw (append-nil q) refl;
   unborn = image.unborn;
   top = rw (image.bodies []) (kind-seen see (big.body root) ∙ image.top);
-  pointers = λ k q. rw (append-nil q) (rw (image.bodies (k ∷ q)) (all_seen_body see (IsSeen root see big) (IsSeen [] same small) (λ p h. ptr_again root small big p (see p) h) k q (big.body (k ∷ (q ++ root))) (image.pointers k q)));
+  plain = λ k q. rw (append-nil q) (rw (image.bodies (k ∷ q)) (all_seen_body see (IsSeen root see big) (IsSeen [] same small) (λ p h. ptr_again root small big p (see p) h) k q (big.body (k ∷ (q ++ root))) (image.plain k q)));
   within = λ x. ap (λ (y : Path). At y) (append-nil x);
   null = refl;
   dead = refl;

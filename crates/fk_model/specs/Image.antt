@@ -9,14 +9,15 @@ use Rattle.std.specs.List.{list_any}
 use Rattle.fk_model.specs.declared.names.Kind.{Kind}
 use Rattle.fk_model.specs.declared.names.Kind.TheVariants as kinds
 use Rattle.fk_model.specs.Places.{Path, same_path, is_within, Ptr}
-use Rattle.fk_model.specs.Places.Ptr.{Null, Dead, At, Out, Outside, Far}
-use Rattle.fk_model.specs.Objects.{Mode, Peer, Talk, Fault, Thread, Window, Extent, Body, thread_of, and_then}
+use Rattle.fk_model.specs.Places.Ptr.{Null, Dead, At, Out, Outside}
+use Rattle.fk_model.specs.Objects.{Peer, Talk, Fault, Thread, Window, Extent, Body, and_then}
 use Rattle.fk_model.specs.Objects.Peer.{Server, Service, Parked}
 use Rattle.fk_model.specs.Objects.Body.{Mutex, Cond, Mapping, Region, Port, Portset, Space, Thread_of, Reference}
 use Rattle.fk_model.specs.World.{World, Sweep, serves}
 use Rattle.fk_model.specs.Searches.{objects, talk_at, fault_at}
 use Rattle.fk_model.specs.Reach.{Reach}
 use Rattle.fk_model.specs.Reach.Reach.{Home, Missing, Bad}
+use Rattle.fk_model.specs.Holds.{is_porter}
 use Rattle.fk_model.specs.Outcomes.{Caller}
 use Rattle.fk_model.specs.Readers.{kind_at, is_kind}
 use Rattle.fk_model.specs.Talks.{Line}
@@ -89,16 +90,17 @@ AllInTalk see P talk = P talk.port × IfServer (is_out (see talk.port)) talk.pee
 abbrev pub AllInFault : (Ptr → Ptr) → (Ptr → Type 0) → Fault → Type 0
 AllInFault see P fault = P fault.port × IfSome fault.taker (λ taker. IfServer (is_out (see fault.port)) taker P)
 
-abbrev pub AllInBody : (Ptr → Ptr) → (Ptr → Type 0) → Body → Type 0
-AllInBody see P (Mutex locked) = Unit {0}
-AllInBody see P Cond = Unit {0}
-AllInBody see P (Mapping m) = P m.region
-AllInBody see P (Region r) = P r.keeper
-AllInBody see P (Port set served) = Unit {0}
-AllInBody see P Portset = Unit {0}
-AllInBody see P (Space birth holder) = IfSome holder P
-AllInBody see P (Thread_of t) = IfSome t.talk (AllInTalk see P) × IfSome t.fault (AllInFault see P)
-AllInBody see P (Reference to) = P to
+-- an object of which each pointer that counts has P. It is no served port, and no porter
+abbrev pub IsPlainBody : (Ptr → Ptr) → (Ptr → Type 0) → Body → Type 0
+IsPlainBody see P (Mutex locked) = Unit {0}
+IsPlainBody see P Cond = Unit {0}
+IsPlainBody see P (Mapping m) = P m.region
+IsPlainBody see P (Region r) = P r.keeper
+IsPlainBody see P (Port set served) = served ≡ false
+IsPlainBody see P Portset = Unit {0}
+IsPlainBody see P (Space birth holder) = IfSome holder P
+IsPlainBody see P (Thread_of t) = IfSome t.talk (AllInTalk see P) × IfSome t.fault (AllInFault see P) × (is_porter t.mode ≡ false)
+IsPlainBody see P (Reference to) = P to
 
 pub record IsImage (root : Path) (see : Ptr → Ptr) (small big : World) : Type 0 where
   -- what stands at each path; who holds the root is no part of it
@@ -108,8 +110,8 @@ pub record IsImage (root : Path) (see : Ptr → Ptr) (small big : World) : Type 
   pub unborn : small.next ≡ zero
   -- the root is a space
   pub top : kind_there big root ≡ Some kinds.Space
-  -- nothing beneath it leads anywhere but inside or to ports outside
-  pub pointers : (k : ℕ) (q : Path) → IfSome (big.body (k ∷ (q ++ root))) (AllInBody see (IsSeen root see big))
+  -- nothing beneath it leads anywhere but inside or to ports outside, is a porter or a served port
+  pub plain : (k : ℕ) (q : Path) → IfSome (big.body (k ∷ (q ++ root))) (IsPlainBody see (IsSeen root see big))
   pub within : (x : Path) → see (At (x ++ root)) ≡ At x
   pub null : see Null ≡ Null
   pub dead : see Dead ≡ Dead
@@ -128,12 +130,12 @@ pub record IsApart (root : Path) (see : Ptr → Ptr) (big : World) : Type 0 wher
   pub faults : (k : ℕ) (q : Path) (fault : Fault) (taker : Peer) → fault_at big (k ∷ (q ++ root)) ≡ Some fault → is_out (see fault.port) ≡ true → fault.taker ≡ Some taker → IsOuter root taker
 
 -- x is among these paths
-abbrev pub is_among : Path → List Path → Bool
-is_among x xs = list_any (same_path x) xs
+abbrev pub is_listed : Path → List Path → Bool
+is_listed x xs = list_any (same_path x) xs
 
 -- the walk from the root finds every object
 pub record IsWalked (w : World) : Type 0 where
-  pub found : (k : ℕ) (x : Path) → is_some (w.body (k ∷ x)) ≡ true → is_among (k ∷ x) (objects w) ≡ true
+  pub found : (k : ℕ) (x : Path) → is_some (w.body (k ∷ x)) ≡ true → is_listed (k ∷ x) (objects w) ≡ true
 
 -- each thread serves one thread at most, one inside serves none outside, and the walk from the root finds every object
 pub record IsServedAlike (root : Path) (see : Ptr → Ptr) (big : World) : Type 0 where
@@ -176,11 +178,11 @@ IsSeenHandle root see big wanted seen p = (seen ≡ see p) × IsSeen root see bi
 
 -- the same object
 abbrev pub IsSeenBody : Path → (Ptr → Ptr) → World → Body → Body → Type 0
-IsSeenBody root see big seen b = (seen ≡ seen_by (seeing see) b) × AllInBody see (IsSeen root see big) b
+IsSeenBody root see big seen b = (seen ≡ seen_by (seeing see) b) × IsPlainBody see (IsSeen root see big) b
 
 -- the same thread, and the same holder
 abbrev pub IsSeenThread : Path → (Ptr → Ptr) → World → Thread → Thread → Type 0
-IsSeenThread root see big seen t = (seen ≡ seen_thread see t) × AllInBody see (IsSeen root see big) (Thread_of t)
+IsSeenThread root see big seen t = (seen ≡ seen_thread see t) × IsPlainBody see (IsSeen root see big) (Thread_of t)
 
 abbrev pub IsSeenHolder : Path → (Ptr → Ptr) → World → Option Ptr → Option Ptr → Type 0
 IsSeenHolder root see big seen holder = (seen ≡ and_then (seeing see).holder holder) × IfSome holder (IsSeen root see big)
@@ -219,7 +221,7 @@ pub data PeerImage (root : Path) (see : Ptr → Ptr) (big : World) : Peer → Pe
 
 -- the same thread inside, with its path
 pub data EndImage (root : Path) (see : Ptr → Ptr) (big : World) : Path × Thread → Path × Thread → Type 0 where
-  Ends : (k : ℕ) (q : Path) (t : Thread) → big.body (k ∷ (q ++ root)) ≡ Some (Thread_of t) → AllInBody see (IsSeen root see big) (Thread_of t) → EndImage root see big (k ∷ q, seen_thread see t) (k ∷ (q ++ root), t)
+  Ends : (k : ℕ) (q : Path) (t : Thread) → big.body (k ∷ (q ++ root)) ≡ Some (Thread_of t) → IsPlainBody see (IsSeen root see big) (Thread_of t) → EndImage root see big (k ∷ q, seen_thread see t) (k ∷ (q ++ root), t)
 
 -- the same talk of a client inside, with who is at the other end
 pub data LineImage (root : Path) (see : Ptr → Ptr) (big : World) : Line → Line → Type 0 where

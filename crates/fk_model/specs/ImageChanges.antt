@@ -1,45 +1,51 @@
 -- Changes in an image: which change of the small world stands for which of the big one, and which outcomes are alike.
-use Rattle.std.specs.Prelude.{◌≡◌, ℕ, Bool, true, false, List, [], ◌∷◌, ◌++◌, Option, Some, None, IfSome, option_map}
+use Rattle.std.specs.Prelude.{◌≡◌, ℕ, Bool, true, false, List, [], ◌∷◌, ◌++◌, Option, IfSome, option_map}
 use Rattle.fk_model.specs.Places.{Path, is_within, Ptr}
-use Rattle.fk_model.specs.Objects.{Peer, Talk, Fault, Body, and_then}
+use Rattle.fk_model.specs.Objects.{Body, and_then}
 use Rattle.fk_model.specs.World.{World, Change, Edit, apply}
 use Rattle.fk_model.specs.World.Change.{Alter, Make, MakeSpace, Kill, Move, PutPage, DropPage}
-use Rattle.fk_model.specs.World.Edit.{SetPointer, SetHolder, SetTalk, SetPeer, SetFault, SetTaker}
+use Rattle.fk_model.specs.World.Edit.{Proceed, SetPointer, SetHolder, SetTalk, SetPeer, SetFault, SetTaker}
 use Rattle.fk_model.specs.Searches.{talk_at, fault_at}
+use Rattle.fk_model.specs.Holds.{is_porter}
 use Rattle.fk_model.specs.Outcomes.{Outcome}
 use Rattle.fk_model.specs.Outcomes.Outcome.{Refused, Waits, Goes}
 use Rattle.fk_model.specs.Cut.{is_out, seen_by}
-use Rattle.fk_model.specs.Image.{seeing, seen_peer, IsSeen, IfServer, AllInTalk, AllInFault, AllInBody, IsApart}
+use Rattle.fk_model.specs.Image.{seeing, seen_peer, IsSeen, IfServer, AllInTalk, AllInFault, IsPlainBody, IsApart}
 
 -- ---- edits
 
--- what an edit is seen as
-abbrev pub seen_edit : (Ptr → Ptr) → Edit → Edit
-seen_edit see (SetPointer to) = SetPointer (see to)
-seen_edit see (SetHolder holder) = SetHolder (and_then (seeing see).holder holder)
-seen_edit see (SetTalk talk) = SetTalk (and_then (seeing see).talk talk)
-seen_edit see (SetPeer peer) = SetPeer (seen_peer see false peer)
-seen_edit see (SetFault fault) = SetFault (and_then (seeing see).fault fault)
-seen_edit see (SetTaker taker) = SetTaker (option_map (seen_peer see false) taker)
-seen_edit see other = other
+-- what an edit is seen as; `out` where it sets who is at a port that is seen outside
+abbrev pub seen_edit : (Ptr → Ptr) → (out : Bool) → Edit → Edit
+seen_edit see out (SetPointer to) = SetPointer (see to)
+seen_edit see out (SetHolder holder) = SetHolder (and_then (seeing see).holder holder)
+seen_edit see out (SetTalk talk) = SetTalk (and_then (seeing see).talk talk)
+seen_edit see out (SetPeer peer) = SetPeer (seen_peer see out peer)
+seen_edit see out (SetFault fault) = SetFault (and_then (seeing see).fault fault)
+seen_edit see out (SetTaker taker) = SetTaker (option_map (seen_peer see out) taker)
+seen_edit see out other = other
 
--- the pointers that an edit makes lead inside or to ports outside; it gives a peer or a taker at a port inside alone
-abbrev pub IsSeenEdit : Path → (Ptr → Ptr) → World → Path → Edit → Type 0
-IsSeenEdit root see big x (SetPointer to) = IsSeen root see big to
-IsSeenEdit root see big x (SetHolder holder) = IfSome holder (IsSeen root see big)
-IsSeenEdit root see big x (SetTalk talk) = IfSome talk (AllInTalk see (IsSeen root see big))
-IsSeenEdit root see big x (SetPeer peer) = IfSome (talk_at big x) (λ talk. is_out (see talk.port) ≡ false) × IfServer false peer (IsSeen root see big)
-IsSeenEdit root see big x (SetFault fault) = IfSome fault (AllInFault see (IsSeen root see big))
-IsSeenEdit root see big x (SetTaker taker) = IfSome (fault_at big x) (λ fault. is_out (see fault.port) ≡ false) × IfSome taker (λ taker. IfServer false taker (IsSeen root see big))
-IsSeenEdit root see big x other = Unit {0}
+-- an edit of the object at x whose pointers lead inside or to ports outside, where they count, and that makes nobody a
+-- porter. `out` says whether the talk or the fault whose peer or taker it sets is at a port outside
+abbrev pub IsSeenEdit : Path → (Ptr → Ptr) → World → (out : Bool) → Path → Edit → Type 0
+IsSeenEdit root see big out x (SetPointer to) = IsSeen root see big to
+IsSeenEdit root see big out x (SetHolder holder) = IfSome holder (IsSeen root see big)
+IsSeenEdit root see big out x (SetTalk talk) = IfSome talk (AllInTalk see (IsSeen root see big))
+IsSeenEdit root see big out x (SetPeer peer) = IfSome (talk_at big x) (λ talk. is_out (see talk.port) ≡ out) × IfServer out peer (IsSeen root see big)
+IsSeenEdit root see big out x (SetFault fault) = IfSome fault (AllInFault see (IsSeen root see big))
+IsSeenEdit root see big out x (SetTaker taker) = IfSome (fault_at big x) (λ fault. is_out (see fault.port) ≡ out) × IfSome taker (λ taker. IfServer out taker (IsSeen root see big))
+IsSeenEdit root see big out x (Proceed mode counter) = is_porter mode ≡ false
+IsSeenEdit root see big out x other = Unit {0}
 
 -- ---- changes
 
 -- a change of the small world, and the change of the big one for which it stands
 pub data ImageChange (root : Path) (see : Ptr → Ptr) (big : World) : Change → Change → Type 0 where
-  Alters : (k : ℕ) (q : Path) (seen edit : Edit) → seen ≡ seen_edit see edit → IsSeenEdit root see big (k ∷ (q ++ root)) edit →
+  Alters : (k : ℕ) (q : Path) (seen edit : Edit) → seen ≡ seen_edit see false edit → IsSeenEdit root see big false (k ∷ (q ++ root)) edit →
       ImageChange root see big (Alter (k ∷ q) seen) (Alter (k ∷ (q ++ root)) edit)
-  Makes : (k : ℕ) (q : Path) (seen body : Body) → seen ≡ seen_by (seeing see) body → AllInBody see (IsSeen root see big) body →
+  -- of a talk or a fault at a port outside
+  AltersOut : (k : ℕ) (q : Path) (seen edit : Edit) → seen ≡ seen_edit see true edit → IsSeenEdit root see big true (k ∷ (q ++ root)) edit →
+      ImageChange root see big (Alter (k ∷ q) seen) (Alter (k ∷ (q ++ root)) edit)
+  Makes : (k : ℕ) (q : Path) (seen body : Body) → seen ≡ seen_by (seeing see) body → IsPlainBody see (IsSeen root see big) body →
       ImageChange root see big (Make (k ∷ q) seen) (Make (k ∷ (q ++ root)) body)
   MakesSpace : (k : ℕ) (q : Path) (seen holder : Option Ptr) → seen ≡ and_then (seeing see).holder holder → IfSome holder (IsSeen root see big) →
       ImageChange root see big (MakeSpace (k ∷ q) seen) (MakeSpace (k ∷ (q ++ root)) holder)

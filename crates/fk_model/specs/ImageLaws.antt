@@ -1,8 +1,8 @@
 -- Laws of images, as statements that are proved.
-use Rattle.std.specs.Prelude.{◌≡◌, ℕ, zero, Bool, false, List, [], ◌∷◌, ◌++◌, map, Option, Some, None, option_map}
+use Rattle.std.specs.Prelude.{◌≡◌, ℕ, Bool, false, List, [], ◌∷◌, ◌++◌, map}
 use Rattle.fk_model.specs.declared.names.Kind.{Kind}
 use Rattle.fk_model.specs.declared.thread.Turn.TheVariants as turns
-use Rattle.fk_model.specs.Places.{Path, Ptr}
+use Rattle.fk_model.specs.Places.{Path, is_within, Ptr}
 use Rattle.fk_model.specs.Objects.{Thread, and_then, thread_of}
 use Rattle.fk_model.specs.World.{World, Change, apply_all}
 use Rattle.fk_model.specs.Searches.{residents, beneath, leaf, talk_at, fault_at, client_of, faulter_of}
@@ -14,8 +14,8 @@ use Rattle.fk_model.specs.Talks.{line, thread_at}
 use Rattle.fk_model.specs.SpaceRows.{next_page}
 use Rattle.fk_model.specs.SyncRows.{mutex_lock}
 use Rattle.fk_model.specs.LinkRows.{candidate}
-use Rattle.fk_model.specs.Cut.{ports_of, cut_ptr, cut, IsPlain}
-use Rattle.fk_model.specs.Image.{seen_thread, PtrImage, IsImage, IsCutWorld, IsApart, IsServedAlike, under, AlikeResults, AlikeOptions, IsBeneath, IsSeenAs, IsSeenHandle, IsSeenBody, IsSeenThread, IsSeenWindow, IsSeenExtent, IsSeenTalk, IsSeenFault, ReachImage, EndImage, LineImage, CandidateImage}
+use Rattle.fk_model.specs.Cut.{ports_of, cut_ptr, cut, is_served_by, IsPlain}
+use Rattle.fk_model.specs.Image.{seen_thread, PtrImage, IsImage, IsCutWorld, IsServedAlike, under, AlikeResults, AlikeOptions, IsBeneath, IsSeenAs, IsSeenHandle, IsSeenBody, IsSeenThread, IsSeenWindow, IsSeenExtent, IsSeenTalk, IsSeenFault, ReachImage, EndImage, LineImage, CandidateImage}
 use Rattle.fk_model.specs.ImageChanges.{ImageChanges, IsImageOutcome}
 use Rattle.fk_model.specs.Rebind.{rebound_ptr, rebound}
 
@@ -94,3 +94,8 @@ ImageStays = (root : Path) (see : Ptr → Ptr) (small big : World) (cs ds : List
 -- what changes in a plain subtree changes alike in the subtree seen alone
 abbrev pub CutChangesAlike : Type 0
 CutChangesAlike = (w : World) (nester : Path) (slot : ℕ) (cs ds : List Change) → IsPlain w nester slot → ImageChanges (slot ∷ nester) (cut_ptr (ports_of w nester slot) nester slot) w cs ds → cut (apply_all ds w) nester slot ≡ apply_all cs (cut w nester slot)
+
+-- and the subtree stays plain, if no thread in it comes to serve one outside
+abbrev pub PlainStays : Type 0
+PlainStays = (w : World) (nester : Path) (slot : ℕ) (cs ds : List Change) → IsPlain w nester slot → ImageChanges (slot ∷ nester) (cut_ptr (ports_of w nester slot) nester slot) w cs ds →
+    ((x : Path) → is_within (slot ∷ nester) x ≡ false → is_served_by (slot ∷ nester) ((apply_all ds w).body x) ≡ false) → IsPlain (apply_all ds w) nester slot
