@@ -56,3 +56,15 @@ StageInsideKeepsCut IsSuch = (w : World) (nester : Path) (slot : ℕ) (x : Path)
 
 abbrev pub IsLock : Stage → Type 0
 IsLock stage = (m : ℕ) × (stage ≡ MutexLock m)
+
+abbrev pub IsCreate : Stage → Type 0
+IsCreate stage = (s : ℕ) × (x : ℕ) × (kind : ℕ) × (stage ≡ Create s x kind)
+
+abbrev pub IsPoint : Stage → Type 0
+IsPoint stage = (s : ℕ) × (x : ℕ) × (s2 : ℕ) × (x2 : ℕ) × (stage ≡ Point s x s2 x2)
+
+abbrev pub IsGetState : Stage → Type 0
+IsGetState stage = (s : ℕ) × (x : ℕ) × (address : ℕ) × (stage ≡ GetState s x address)
+
+abbrev pub IsHold : Stage → Type 0
+IsHold stage = (s : ℕ) × (x : ℕ) × (stage ≡ SpaceHold s x)
