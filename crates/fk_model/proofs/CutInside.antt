@@ -69,7 +69,7 @@ quiet-done root c cs answers quiet = by c.is_porter
     by true = quiet-goes quiet
     by false = quiet-goes (quiet-then root cs _ quiet (tt, tt))
 
-quiet-with_pick : (root : Path) (chosen : Bool) (pick : Option Path) (o : Outcome) → Quiet root o → Quiet root (with_pick chosen pick o)
+pub quiet-with_pick : (root : Path) (chosen : Bool) (pick : Option Path) (o : Outcome) → Quiet root o → Quiet root (with_pick chosen pick o)
 quiet-with_pick root chosen pick (Refused status) h = quiet-when root (is_none pick) (Refused status) h
 quiet-with_pick root chosen pick Waits h = h
 quiet-with_pick root chosen pick (Goes cs said) h = quiet-when root (chosen || is_none pick) (Goes cs said) h
@@ -97,7 +97,7 @@ module _ {root : Path} {see : Ptr → Ptr} {small big : World} (image : IsImage 
   when_same a true near far e h = rw e h
   when_same a false near far e h = tt
 
-  with_pick-image : (chosen : Bool) (p pick : Option Path) (near far : Outcome) → is_none p ≡ is_none pick → Alike near far → Alike (with_pick chosen p near) (with_pick chosen pick far)
+  pub with_pick-image : (chosen : Bool) (p pick : Option Path) (near far : Outcome) → is_none p ≡ is_none pick → Alike near far → Alike (with_pick chosen p near) (with_pick chosen pick far)
   with_pick-image chosen p pick near Waits e h = tt
   with_pick-image chosen p pick (Refused status) (Refused refusal) e h = when_same (is_none p) (is_none pick) (Refused status) (Refused refusal) e h
   with_pick-image chosen p pick (Goes cs said) (Goes ds told) e h = when_same (chosen || is_none p) (chosen || is_none pick) (Goes cs said) (Goes ds told) (ap (λ b. chosen || b) e) h
@@ -251,18 +251,25 @@ module _ (w : World) (nester : Path) (slot : ℕ) (plain : IsPlain w nester slot
           AlikeHere (own_stage small (k ∷ q) p n mode (goes_on small (k ∷ q) p (seen_thread see at.0) mode)) (goes_on w me pick at.0 mode) × AlikeHere (goes_on small (k ∷ q) p (seen_thread see at.0) mode) (goes_on w me pick at.0 mode)
       by mode e p n h = rw e (rw (silent n (user_at (k ∷ q)) (call_row small (user_at (k ∷ q)) p stage), call_closed small (k ∷ q) p stage) h, h)
 
--- ---- the law for a stage, inside
+-- ---- a thread inside stands beneath the root
 
 no_thread : (birth : ℕ) (holder : Option Ptr) (v : Option Body) (t : Thread) → v ≡ Some (Space birth holder) → and_then thread_of v ≡ Some t → ⊥
 no_thread birth holder v t e h = let none : and_then thread_of v ≡ None = rw e refl in cc
 
-pub inside_stages : (IsSuch : Stage → Type 0) → ((w : World) (nester : Path) (slot : ℕ) → IsPlain w nester slot → (k : ℕ) (q : Path) (pick : Option Path) (stage : Stage) → IsSuch stage → IsAtStage w (k ∷ (q ++ slot ∷ nester)) stage → KeepsCut w nester slot (moves (k ∷ (q ++ slot ∷ nester)) pick)) → StageInsideKeepsCut IsSuch
-inside_stages IsSuch law w nester slot x pick stage such within at sound plain = by (strip (slot ∷ nester) x) refl within
+pub thread_beneath : (w : World) (nester : Path) (slot : ℕ) → IsPlain w nester slot → (x : Path) (t : Thread) → is_within (slot ∷ nester) x ≡ true → and_then thread_of (w.body x) ≡ Some t → (k : ℕ) × (q : Path) × (x ≡ k ∷ (q ++ slot ∷ nester))
+thread_beneath w nester slot plain x t within at = by (strip (slot ∷ nester) x) refl within
   where
-    beneath : (q : Path) → x ≡ q ++ slot ∷ nester → is_fit w x asks.Run ≡ true → IsReady w x pick asks.Run → (seen : Seen) → IsSeen w nester slot (moves x pick) seen → HasDone w nester slot (moves x pick) seen
-    beneath [] e = absurd (no_thread plain.birth plain.holder (w.body x) at.0 (rw e plain.root) at.3)
-    beneath (k ∷ q) e = rw e (law w nester slot plain k q pick stage such (rw e at at) sound plain)
+    beneath : (q : Path) → x ≡ q ++ slot ∷ nester → (k : ℕ) × (q : Path) × (x ≡ k ∷ (q ++ slot ∷ nester))
+    beneath [] e = absurd (no_thread plain.birth plain.holder (w.body x) t (rw e plain.root) at)
+    beneath (k ∷ q) e = (k, q, e)
 
-    by : (o : Option Path) → strip (slot ∷ nester) x ≡ o → is_some o ≡ true → is_fit w x asks.Run ≡ true → IsReady w x pick asks.Run → (seen : Seen) → IsSeen w nester slot (moves x pick) seen → HasDone w nester slot (moves x pick) seen
+    by : (o : Option Path) → strip (slot ∷ nester) x ≡ o → is_some o ≡ true → (k : ℕ) × (q : Path) × (x ≡ k ∷ (q ++ slot ∷ nester))
     by None e within = cc
     by (Some q) e within = beneath q (strip_some (slot ∷ nester) x q e)
+
+-- ---- the law for a stage, inside
+
+pub inside_stages : (IsSuch : Stage → Type 0) → ((w : World) (nester : Path) (slot : ℕ) → IsPlain w nester slot → (k : ℕ) (q : Path) (pick : Option Path) (stage : Stage) → IsSuch stage → IsAtStage w (k ∷ (q ++ slot ∷ nester)) stage → KeepsCut w nester slot (moves (k ∷ (q ++ slot ∷ nester)) pick)) → StageInsideKeepsCut IsSuch
+inside_stages IsSuch law w nester slot x pick stage such within at sound plain =
+    let under = thread_beneath w nester slot plain x at.0 within at.3 in
+    rw under.2 (law w nester slot plain under.0 under.1 pick stage such (rw under.2 at at) sound plain)

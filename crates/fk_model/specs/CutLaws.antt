@@ -68,3 +68,13 @@ IsGetState stage = (s : ℕ) × (x : ℕ) × (address : ℕ) × (stage ≡ GetSt
 
 abbrev pub IsHold : Stage → Type 0
 IsHold stage = (s : ℕ) × (x : ℕ) × (stage ≡ SpaceHold s x)
+
+-- ---- instructions
+
+-- a running thread stands at x
+abbrev pub IsRunning : World → Path → Type 0
+IsRunning w x = (t : Thread) × (g : List ℕ) × (and_then thread_of (w.body x) ≡ Some t) × (t.mode ≡ Running g)
+
+-- the law for every instruction of a user thread, also for one that stores through a mapping
+abbrev pub InstructionKeepsCut : Type 0
+InstructionKeepsCut = (w : World) (nester : Path) (slot : ℕ) (x : Path) (pick : Option Path) → IsRunning w x → KeepsCut w nester slot (moves x pick)
