@@ -12,6 +12,7 @@ use Rattle.fk_model.specs.World.Edit.{End}
 use Rattle.fk_model.specs.Holds.{is_frozen, is_free}
 use Rattle.fk_model.specs.Outcomes.{Said, Outcome, ◌>>=◌, refuse, or_refuse, when, Caller, path_of, done_at, done, ended}
 use Rattle.fk_model.specs.Outcomes.Outcome.{Refused, Waits, Goes}
+use Rattle.fk_model.specs.Outcomes.Said.{Nothing, Answered}
 use Rattle.fk_model.specs.LinkRows.{user_at}
 use Rattle.fk_model.specs.Freezing.{AreAllowed}
 use Rattle.fk_model.specs.Moves.{stage_row, is_for_porters, is_denied, allowed_row, chooses, with_pick, closed, call_row, goes_on, user_move, outcome, GoesAllowed, IsReady, stepped, step}
@@ -21,9 +22,9 @@ use Rattle.fk_model.specs.Sound.{IsSound}
 use Rattle.fk_model.specs.Runs.{Event, after}
 use Rattle.fk_model.specs.Frame.{listed}
 use Rattle.fk_model.specs.Cut.{ports_of, cut_ptr, cut, seen_by, unheld, IsPlain}
-use Rattle.fk_model.specs.Further.{Onward, Told, talks_outside, outside_row, own_stage, own_move, own_row, thread_in, onward_row, told_by, OnwardTo, IsOnward}
+use Rattle.fk_model.specs.Further.{Onward, Told, talks_outside, outside_row, own_stage, own_move, own_row, thread_in, onward_row, told_by_said, told_by, OnwardTo, IsOnward}
 use Rattle.fk_model.specs.Further.Onward.{Own, ByOthers}
-use Rattle.fk_model.specs.Seen.{Seen, sends_out, only_fills, words_out, picked_inside, own_of, outer_touch, row_of, seen_row, writes_through, changes_of, IsSeen}
+use Rattle.fk_model.specs.Seen.{Seen, said_by, sends_out, only_fills, words_out, picked_inside, own_of, outer_touch, row_of, seen_row, writes_through, changes_of, IsSeen}
 use Rattle.fk_model.specs.Seen.Seen.{Onwards, Unseen, Other}
 use Rattle.fk_model.specs.CutLaws.{HasDone, KeepsCut, IsAtStage, moves, StageInsideKeepsCut}
 use Rattle.fk_model.specs.Image.{seeing, seen_thread, IsImage, under}
@@ -38,17 +39,22 @@ use Rattle.fk_model.proofs.CutPlain.{AreQuiet, IsClear, changes-clear, clear-pla
 
 -- ---- rows whose changes are quiet
 
+-- the outside hears nothing of it but by its changes
 pub record Quiet (root : Path) (o : Outcome) : Type 0 where
   pub quiet : AreQuiet root (listed o)
+  pub mute : (x : Path) → told_by_said x (said_by o) ≡ []
 
 pub quiet-refused : {root : Path} {status : ℕ} → Quiet root (Refused status)
-quiet-refused = record { quiet = tt }
+quiet-refused = record { quiet = tt; mute = λ x. refl }
 
 pub quiet-waits : {root : Path} → Quiet root Waits
-quiet-waits = record { quiet = tt }
+quiet-waits = record { quiet = tt; mute = λ x. refl }
 
-pub quiet-goes : {root : Path} {cs : List Change} {said : Said} → AreQuiet root cs → Quiet root (Goes cs said)
-quiet-goes quiet = record { quiet = quiet }
+pub quiet-goes : {root : Path} {cs : List Change} → AreQuiet root cs → Quiet root (Goes cs Nothing)
+quiet-goes quiet = record { quiet = quiet; mute = λ x. refl }
+
+quiet-answers : {root : Path} {cs : List Change} {status : ℕ} {words : List ℕ} → AreQuiet root cs → Quiet root (Goes cs (Answered status words))
+quiet-answers quiet = record { quiet = quiet; mute = λ x. refl }
 
 pub quiet-then : (root : Path) (cs ds : List Change) → AreQuiet root cs → AreQuiet root ds → AreQuiet root (cs ++ ds)
 quiet-then root [] ds h g = g
@@ -66,7 +72,7 @@ pub quiet-done : (root : Path) (c : Caller) (cs : List Change) (answers : List �
 quiet-done root c cs answers quiet = by c.is_porter
   where
     by : (porter : Bool) → Quiet root (done_at (path_of c) (record c { is_porter = porter }) cs answers)
-    by true = quiet-goes quiet
+    by true = quiet-answers quiet
     by false = quiet-goes (quiet-then root cs _ quiet (tt, tt))
 
 pub quiet-with_pick : (root : Path) (chosen : Bool) (pick : Option Path) (o : Outcome) → Quiet root o → Quiet root (with_pick chosen pick o)
@@ -93,7 +99,7 @@ module _ {root : Path} {see : Ptr → Ptr} {small big : World} (image : IsImage 
   abbrev Alike : Outcome → Outcome → Type 0
   Alike = IsImageOutcome root see big
 
-  when_same : (a b : Bool) (near far : Outcome) → a ≡ b → Alike near far → Alike (when a near) (when b far)
+  pub when_same : (a b : Bool) (near far : Outcome) → a ≡ b → Alike near far → Alike (when a near) (when b far)
   when_same a true near far e h = rw e h
   when_same a false near far e h = tt
 

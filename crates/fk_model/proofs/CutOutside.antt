@@ -22,7 +22,9 @@ use Rattle.fk_model.specs.Further.Onward.{Own, ByOthers}
 use Rattle.fk_model.specs.Seen.{Seen, stage_touch, thread_in, caller_stage, outer_touch, row_of, IsSeen}
 use Rattle.fk_model.specs.Seen.Seen.{Onwards, Unseen, Other}
 use Rattle.fk_model.specs.CutLaws.{HasDone, KeepsCut, IsAtStage, moves, StageInsideKeepsCut, StageKeepsCut}
+use Rattle.fk_model.specs.Image.{IsImage}
 use Rattle.fk_model.specs.ImageChanges.{IsImageOutcome}
+use Rattle.fk_model.proofs.Images.{cut-image}
 use Rattle.fk_model.proofs.ImageHolds.{strip_none}
 use Rattle.fk_model.proofs.CutPlain.{AreQuiet, IsClear, changes-clear, clear-plain, same-plain}
 use Rattle.fk_model.proofs.CutInside.{Quiet, quiet-when, quiet-call, stage_inside, inside_stages}
@@ -70,8 +72,8 @@ pub record IsInner (stage : Stage) : Type 0 where
   pub silent : (w : World) (n : ℕ) (c : Caller) (o : Outcome) → outside_row w c n stage o ≡ o
   pub untouching : (w : World) (root : Path) (c : Caller) (pick : Option Path) (cs : List Change) → stage_touch w root c pick cs stage ≡ None
   pub quiet : (root : Path) (w : World) (c : Caller) (pick : Option Path) → Quiet root (stage_row w c pick stage)
-  pub alike : (w : World) (nester : Path) (slot : ℕ) → IsPlain w nester slot → is_frozen w (slot ∷ nester) ≡ false → (k : ℕ) (q : Path) (p pick : Option Path) →
-      IsImageOutcome (slot ∷ nester) (cut_ptr (ports_of w nester slot) nester slot) w (stage_row (cut w nester slot) (user_at (k ∷ q)) p stage) (stage_row w (user_at (k ∷ (q ++ slot ∷ nester))) pick stage)
+  pub alike : (root : Path) (see : Ptr → Ptr) (small big : World) → IsImage root see small big → is_frozen big root ≡ false → (k : ℕ) (q : Path) (p pick : Option Path) →
+      IsImageOutcome root see big (stage_row small (user_at (k ∷ q)) p stage) (stage_row big (user_at (k ∷ (q ++ root))) pick stage)
 
 pub inner_stages : (IsSuch : Stage → Type 0) → ((stage : Stage) → IsSuch stage → IsInner stage) → StageKeepsCut IsSuch
 inner_stages IsSuch inner w nester slot x pick stage such at sound plain = by (is_within (slot ∷ nester) x) refl
@@ -79,7 +81,7 @@ inner_stages IsSuch inner w nester slot x pick stage such at sound plain = by (i
     law : (w : World) (nester : Path) (slot : ℕ) → IsPlain w nester slot → (k : ℕ) (q : Path) (pick : Option Path) (stage : Stage) → IsSuch stage → IsAtStage w (k ∷ (q ++ slot ∷ nester)) stage → KeepsCut w nester slot (moves (k ∷ (q ++ slot ∷ nester)) pick)
     law w nester slot plain k q pick stage such at =
         let is = inner stage such in
-        stage_inside w nester slot plain k q pick stage at (is.silent (cut w nester slot)) (λ p e free. is.alike w nester slot plain free k q p pick) (is.quiet (slot ∷ nester) w (user_at (k ∷ (q ++ slot ∷ nester))) pick)
+        stage_inside w nester slot plain k q pick stage at (is.silent (cut w nester slot)) (λ p e free. is.alike (slot ∷ nester) (cut_ptr (ports_of w nester slot) nester slot) (cut w nester slot) w (cut-image w nester slot plain) free k q p pick) (is.quiet (slot ∷ nester) w (user_at (k ∷ (q ++ slot ∷ nester))) pick)
 
     by : (b : Bool) → is_within (slot ∷ nester) x ≡ b → is_fit w x asks.Run ≡ true → IsReady w x pick asks.Run → (seen : Seen) → IsSeen w nester slot (moves x pick) seen → HasDone w nester slot (moves x pick) seen
     by true e = inside_stages IsSuch law w nester slot x pick stage such e at sound plain

@@ -17,12 +17,13 @@ use Rattle.fk_model.specs.SpaceRows.{space_hold}
 use Rattle.fk_model.specs.Records.{record_of}
 use Rattle.fk_model.specs.StateRows.{shows, shows_to, get_state}
 use Rattle.fk_model.specs.ObjectRows.{new_object, create, point}
+use Rattle.fk_model.specs.RebindLaws.{StageRebinds}
 use Rattle.fk_model.specs.CutLaws.{StageKeepsCut, IsLock, IsCreate, IsPoint, IsGetState, IsHold}
-use Rattle.fk_model.proofs.Images.{cut-image}
 use Rattle.fk_model.proofs.ImageRows.{mutex_lock-image}
 use Rattle.fk_model.proofs.CutPlain.{IsQuiet, AreQuiet}
 use Rattle.fk_model.proofs.CutInside.{Quiet, quiet-refused, quiet-waits, quiet-goes, quiet->>=, quiet-when, quiet-done}
 use Rattle.fk_model.proofs.CutOutside.{IsInner, inner_stages}
+use Rattle.fk_model.proofs.CutRebound.{inner_rebinds}
 use Rattle.fk_model.proofs.CutImages.{create-image, point-image, get_state-image, space_hold-image}
 
 -- ---- which changes the rows make
@@ -87,42 +88,72 @@ quiet-create root w c s x kind = search (quiet-made, quiet-new, quiet->>=, quiet
 
 -- ---- the laws
 
-pub lock_keeps : StageKeepsCut IsLock
-lock_keeps = inner_stages IsLock (λ stage such. rw such.1 (record {
+lock_inner : (stage : Stage) → IsLock stage → IsInner stage
+lock_inner stage such = rw such.1 (record {
   silent = λ w n c o. refl;
   untouching = λ w root c pick cs. refl;
   quiet = λ root w c pick. quiet-lock root w c such.0;
-  alike = λ w nester slot plain free k q p pick. mutex_lock-image (cut-image w nester slot plain) (user_at (k ∷ q)) such.0;
-}))
+  alike = λ root see small big image free k q p pick. mutex_lock-image image (user_at (k ∷ q)) such.0;
+})
 
-pub point_keeps : StageKeepsCut IsPoint
-point_keeps = inner_stages IsPoint (λ stage such. rw such.4 (record {
+pub lock_keeps : StageKeepsCut IsLock
+lock_keeps = inner_stages IsLock lock_inner
+
+pub lock_rebinds : StageRebinds IsLock
+lock_rebinds = inner_rebinds IsLock lock_inner
+
+point_inner : (stage : Stage) → IsPoint stage → IsInner stage
+point_inner stage such = rw such.4 (record {
   silent = λ w n c o. refl;
   untouching = λ w root c pick cs. refl;
   quiet = λ root w c pick. quiet-point root w c such.0 such.1 such.2 such.3;
-  alike = λ w nester slot plain free k q p pick. point-image (cut-image w nester slot plain) free (user_at (k ∷ q)) such.0 such.1 such.2 such.3;
-}))
+  alike = λ root see small big image free k q p pick. point-image image free (user_at (k ∷ q)) such.0 such.1 such.2 such.3;
+})
 
-pub get_state_keeps : StageKeepsCut IsGetState
-get_state_keeps = inner_stages IsGetState (λ stage such. rw such.3 (record {
+pub point_keeps : StageKeepsCut IsPoint
+point_keeps = inner_stages IsPoint point_inner
+
+pub point_rebinds : StageRebinds IsPoint
+point_rebinds = inner_rebinds IsPoint point_inner
+
+get_state_inner : (stage : Stage) → IsGetState stage → IsInner stage
+get_state_inner stage such = rw such.3 (record {
   silent = λ w n c o. refl;
   untouching = λ w root c pick cs. refl;
   quiet = λ root w c pick. quiet-get_state root w c such.0 such.1 such.2;
-  alike = λ w nester slot plain free k q p pick. get_state-image (cut-image w nester slot plain) (user_at (k ∷ q)) such.0 such.1 such.2;
-}))
+  alike = λ root see small big image free k q p pick. get_state-image image (user_at (k ∷ q)) such.0 such.1 such.2;
+})
 
-pub hold_keeps : StageKeepsCut IsHold
-hold_keeps = inner_stages IsHold (λ stage such. rw such.2 (record {
+pub get_state_keeps : StageKeepsCut IsGetState
+get_state_keeps = inner_stages IsGetState get_state_inner
+
+pub get_state_rebinds : StageRebinds IsGetState
+get_state_rebinds = inner_rebinds IsGetState get_state_inner
+
+hold_inner : (stage : Stage) → IsHold stage → IsInner stage
+hold_inner stage such = rw such.2 (record {
   silent = λ w n c o. refl;
   untouching = λ w root c pick cs. refl;
   quiet = λ root w c pick. quiet-hold root w c such.0 such.1;
-  alike = λ w nester slot plain free k q p pick. space_hold-image (cut-image w nester slot plain) free (user_at (k ∷ q)) such.0 such.1;
-}))
+  alike = λ root see small big image free k q p pick. space_hold-image image free (user_at (k ∷ q)) such.0 such.1;
+})
 
-pub create_keeps : StageKeepsCut IsCreate
-create_keeps = inner_stages IsCreate (λ stage such. rw such.3 (record {
+pub hold_keeps : StageKeepsCut IsHold
+hold_keeps = inner_stages IsHold hold_inner
+
+pub hold_rebinds : StageRebinds IsHold
+hold_rebinds = inner_rebinds IsHold hold_inner
+
+create_inner : (stage : Stage) → IsCreate stage → IsInner stage
+create_inner stage such = rw such.3 (record {
   silent = λ w n c o. refl;
   untouching = λ w root c pick cs. refl;
   quiet = λ root w c pick. quiet-create root w c such.0 such.1 such.2;
-  alike = λ w nester slot plain free k q p pick. create-image (cut-image w nester slot plain) free (user_at (k ∷ q)) such.0 such.1 such.2;
-}))
+  alike = λ root see small big image free k q p pick. create-image image free (user_at (k ∷ q)) such.0 such.1 such.2;
+})
+
+pub create_keeps : StageKeepsCut IsCreate
+create_keeps = inner_stages IsCreate create_inner
+
+pub create_rebinds : StageRebinds IsCreate
+create_rebinds = inner_rebinds IsCreate create_inner

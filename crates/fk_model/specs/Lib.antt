@@ -45,4 +45,5 @@ pub mod WorkedPorters
 pub mod Image
 pub mod ImageChanges
 pub mod Rebind
+pub mod RebindLaws
 pub mod ImageLaws

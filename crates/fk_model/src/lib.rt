@@ -15,6 +15,7 @@ mod list;
 mod memory;
 mod moves;
 mod names;
+pub mod rebind_laws;
 mod stage;
 mod statuses;
 mod text;
