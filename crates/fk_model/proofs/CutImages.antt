@@ -1,19 +1,19 @@
 -- More rows that act alike in an image: new objects, references, records, holds.
-use Rattle.std.proofs.Common.{◌≡◌, ℕ, ◌+◌, ◌%◌, eqb, leb, Bool, true, false, cond, not, ◌&&◌, List, [], ◌∷◌, ◌++◌, Option, Some, None, is_some, option_map, Result, Ok, Err, refl, sym, ap, ◌∙◌}
+use Rattle.std.proofs.Common.{◌≡◌, ℕ, ◌+◌, ◌%◌, eqb, leb, Bool, true, false, cond, not, ◌&&◌, ◌||◌, List, [], ◌∷◌, ◌++◌, Option, Some, None, is_some, option_map, Result, Ok, Err, refl, sym, ap, ◌∙◌}
 use Rattle.std.specs.List.{list_any}
-use Rattle.fk_model.specs.declared.limits.TheConstants.{PAGE_WORDS}
+use Rattle.fk_model.specs.declared.limits.TheConstants.{PAGE_WORDS, LAST_USER_SLOT}
 use Rattle.fk_model.specs.declared.names.Kind.{Kind}
 use Rattle.fk_model.specs.declared.statuses.status.TheConstants as status
-use Rattle.fk_model.specs.Places.{Path, is_within, Ptr}
+use Rattle.fk_model.specs.Places.{Path, same_path, is_within, Ptr}
 use Rattle.fk_model.specs.Places.Ptr.{Null, At}
 use Rattle.fk_model.specs.Objects.{Thread, Window, Extent, Body, kind_of, same_kind, space_of, reference_of, and_then, holds}
 use Rattle.fk_model.specs.Objects.Mode.{Running}
 use Rattle.std.specs.Prelude.{replicate}
 use Rattle.fk_model.specs.Objects.Body.{Mutex, Cond, Mapping, Region, Port, Portset, Space, Thread_of, Reference}
-use Rattle.fk_model.specs.World.{World, Change}
-use Rattle.fk_model.specs.World.Change.{Alter, Make, MakeSpace, PutPage}
-use Rattle.fk_model.specs.World.Edit.{SetPointer, SetHolder}
-use Rattle.fk_model.specs.Searches.{beneath}
+use Rattle.fk_model.specs.World.{World, Change, apply}
+use Rattle.fk_model.specs.World.Change.{Alter, Make, MakeSpace, Move, PutPage}
+use Rattle.fk_model.specs.World.Edit.{Finish, SetPointer, SetHolder}
+use Rattle.fk_model.specs.Searches.{beneath, has_residents}
 use Rattle.fk_model.specs.Reach.{words_at}
 use Rattle.fk_model.specs.Holds.{holder_of, is_frozen, is_frozen_for, is_porter}
 use Rattle.fk_model.specs.Outcomes.{Outcome, ◌>>=◌, refuse, or_refuse, when, Caller, path_of, last_slot, done}
@@ -23,21 +23,23 @@ use Rattle.fk_model.specs.Talks.{thread_at}
 use Rattle.fk_model.specs.TransferRows.{overwritten}
 use Rattle.fk_model.specs.Records.{record_of}
 use Rattle.fk_model.specs.StateRows.{is_bad_record_address, shows, shows_to, get_state, referable}
-use Rattle.fk_model.specs.SpaceRows.{has_porter, is_held_by_other, space_hold}
-use Rattle.fk_model.specs.ObjectRows.{new_object, create, pointer_to, pointer_in, point}
+use Rattle.fk_model.specs.SpaceRows.{has_porter, is_held_by_other, space_hold, is_page, is_bad_target, copies, copies_home, page_take}
+use Rattle.fk_model.specs.LinkRows.{user_at}
+use Rattle.fk_model.specs.ObjectRows.{new_object, create, pointer_to, pointer_in, point, is_served, rename}
 use Rattle.fk_model.specs.Cut.{seen_by}
 use Rattle.fk_model.specs.Image.{seeing, seen_thread, PtrImage, IsSeen, IsPlainBody, IsImage, under, AlikeResults, AlikeOptions, IsSeenAs, IsSeenHolder, EndImage}
 use Rattle.fk_model.specs.Image.PtrImage.{Nulls, Deads, Inside, PortAt, PortOut}
 use Rattle.fk_model.specs.Image.EndImage.{Ends}
 use Rattle.fk_model.specs.ImageChanges.{ImageChange, ImageChanges, IsImageOutcome}
-use Rattle.fk_model.specs.ImageChanges.ImageChange.{Alters, Makes, MakesSpace, PutsPage}
+use Rattle.fk_model.specs.ImageChanges.ImageChange.{Alters, Makes, MakesSpace, Moves, PutsPage, DropsPage}
 use Rattle.fk_model.specs.ImageChanges.ImageChanges.{Empty, Both}
-use Rattle.fk_model.proofs.Alike.{alike_if, alike_or_refuse, alike-holds}
+use Rattle.fk_model.proofs.Alike.{alike_same, alike_if, alike_or_refuse, alike-holds}
+use Rattle.fk_model.proofs.PlaceLaws.{same_path_cancel}
 use Rattle.fk_model.proofs.ImageReads.{place-image, anything_in-image, reference_in-image, space_in-image, object_in-image}
 use Rattle.fk_model.proofs.ImageMemory.{words_at-image}
 use Rattle.fk_model.proofs.ImageHolds.{holder_of-image, is_held_by_other-image, is_frozen_for-image}
 use Rattle.fk_model.proofs.ImageTalks.{thread_at-image}
-use Rattle.fk_model.proofs.ImageWalks.{is_within_inside, is_taken-image, any_beneath-image}
+use Rattle.fk_model.proofs.ImageWalks.{is_within_inside, is_taken-image, has_residents-image, any_beneath-image}
 use Rattle.fk_model.proofs.ImageRecords.{record-seen}
 use Rattle.fk_model.proofs.ImageOutcomes.{bind-image, bind_any, bind_same, bind_path, bind_ptr, bind_body, bind_holder, refuse-image, when-image, when_more, done-image, own_page-image}
 
@@ -151,3 +153,46 @@ module _ {root : Path} {see : Ptr → Ptr} {small big : World} (image : IsImage 
       (λ unheld. bind-image image (ImageChange root see big) _ _ _ _ (alike_or_refuse (ImageChange root see big) status.WRONGKIND (new_object (x ∷ space) kind) (new_object (x ∷ (space ++ root)) kind) (new_object-image x space kind))
       (λ made making h. refuse-image image status.OCCUPIED (is_some (small.body (x ∷ space))) (is_some (big.body (x ∷ (space ++ root)))) _ _ (is_taken-image image (x ∷ space))
       (λ empty. done-image image c (made ∷ []) (making ∷ []) [] (Both h Empty))))))
+
+  -- ---- a page that is taken
+
+  copies-image : (c : Caller) (space : Path) (page : ℕ) (drops : Bool) (words : List ℕ) (s : Path) (own : ℕ) → Alike (copies c space page drops words s own) (copies (under root c) (space ++ root) page drops words (s ++ root) own)
+  copies-image c space page true words s own = done-image image c _ _ [] (Both (PutsPage s own words) (Both (DropsPage space page) Empty))
+  copies-image c space page false words s own = done-image image c _ _ [] (Both (PutsPage s own words) Empty)
+
+  copies_home-image : (c : Caller) (space : Path) (page : ℕ) (drops : Bool) (s : Path) (own : ℕ) → Alike (copies_home small c space page drops s own) (copies_home big (under root c) (space ++ root) page drops (s ++ root) own)
+  copies_home-image c space page drops s own =
+      bind_same image (or_refuse status.NONE (small.page space page)) (or_refuse status.NONE (big.page (space ++ root) page)) _ _
+      (alike_or_refuse ◌≡◌ status.NONE (small.page space page) (big.page (space ++ root) page) (alike_same (small.page space page) (big.page (space ++ root) page) (image.pages space page)))
+      (λ words. copies-image c space page drops words s own)
+
+  pub page_take-image : is_frozen big root ≡ false → (k : ℕ) (q : Path) (s page address : ℕ) → Alike (page_take small (user_at (k ∷ q)) s page address) (page_take big (user_at (k ∷ (q ++ root))) s page address)
+  unfolding page_take
+  page_take-image free k q s page address =
+      bind_path image _ _ _ _ (place-image image (user_at (k ∷ q)) s)
+      (λ space. refuse-image image status.HELD (is_frozen_for small (k ∷ q) space) (is_frozen_for big (k ∷ (q ++ root)) (space ++ root)) _ _ (is_frozen_for-image image free (k ∷ q) space)
+      (λ unheld. refuse-image image status.BADADDRESS (not (is_page page) || is_bad_target (user_at (k ∷ q)) address) (not (is_page page) || is_bad_target (user_at (k ∷ q)) address) _ _ refl
+      (λ good. own_page-image image (user_at (k ∷ q)) address true _ _ (λ t own. copies_home-image (user_at (k ∷ q)) space page true t own))))
+
+  -- ---- a rename
+
+  finishes : (k j : ℕ) (q z : Path) (b : Bool) (now : World) → ImageChanges root see now (Alter (cond b (k ∷ q) (j ∷ z)) (Finish []) ∷ []) (Alter (cond b (k ∷ (q ++ root)) (j ∷ (z ++ root))) (Finish []) ∷ [])
+  finishes k j q z true now = Both (Alters k q _ (Finish []) refl tt) Empty
+  finishes k j q z false now = Both (Alters j z _ (Finish []) refl tt) Empty
+
+  plain_unserved : (b : Body) → IsPlainBody see (IsSeen root see big) b → is_served (seen_by (seeing see) b) ≡ is_served b
+  unfolding seen_by
+  plain_unserved (Port set served) h = sym h
+  plain_unserved b h = refl
+
+  pub rename-image : is_frozen big root ≡ false → (j : ℕ) (z : Path) (s x y : ℕ) → Alike (rename small (user_at (j ∷ z)) s x y) (rename big (user_at (j ∷ (z ++ root))) s x y)
+  unfolding rename
+  rename-image free j z s x y =
+      bind_path image _ _ _ _ (place-image image (user_at (j ∷ z)) s)
+      (λ space. bind_body image _ _ _ _ (anything_in-image image (user_at (j ∷ z)) space x)
+      (λ b near. refuse-image image status.HELD (is_frozen_for small (j ∷ z) (x ∷ space)) (is_frozen_for big (j ∷ (z ++ root)) (x ∷ (space ++ root))) _ _ (is_frozen_for-image image free (j ∷ z) (x ∷ space))
+      (λ unheld. refuse-image image status.BADHANDLE (not (leb y LAST_USER_SLOT)) (not (leb y LAST_USER_SLOT)) _ _ refl
+      (λ named. refuse-image image status.DENIED (is_served (seen_by (seeing see) b)) (is_served b) _ _ (plain_unserved b near)
+      (λ unserved. refuse-image image status.OCCUPIED (is_some (small.body (y ∷ space))) (is_some (big.body (y ∷ (space ++ root)))) _ _ (is_taken-image image (y ∷ space))
+      (λ empty. refuse-image image status.NOTEMPTY (has_residents small (x ∷ space)) (has_residents big (x ∷ (space ++ root))) _ _ (has_residents-image image (x ∷ space))
+      (λ alone. Both (Moves x space y) (rw (same_path_cancel (j ∷ z) (x ∷ space) root) (finishes y j space z (same_path (j ∷ z) (x ∷ space)) (apply (Move (x ∷ (space ++ root)) y) big))))))))))

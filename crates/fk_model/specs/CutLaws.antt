@@ -69,6 +69,12 @@ IsGetState stage = (s : ℕ) × (x : ℕ) × (address : ℕ) × (stage ≡ GetSt
 abbrev pub IsHold : Stage → Type 0
 IsHold stage = (s : ℕ) × (x : ℕ) × (stage ≡ SpaceHold s x)
 
+abbrev pub IsPageTake : Stage → Type 0
+IsPageTake stage = (s : ℕ) × (page : ℕ) × (address : ℕ) × (stage ≡ PageTake s page address)
+
+abbrev pub IsRename : Stage → Type 0
+IsRename stage = (s : ℕ) × (x : ℕ) × (y : ℕ) × (stage ≡ Rename s x y)
+
 -- ---- instructions
 
 -- a running thread stands at x
