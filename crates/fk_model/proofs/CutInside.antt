@@ -10,7 +10,7 @@ use Rattle.fk_model.specs.World.{World, Change, apply_all}
 use Rattle.fk_model.specs.World.Change.{Alter}
 use Rattle.fk_model.specs.World.Edit.{End}
 use Rattle.fk_model.specs.Holds.{is_frozen, is_free}
-use Rattle.fk_model.specs.Outcomes.{Said, Outcome, ◌>>=◌, refuse, or_refuse, when, Caller, path_of, done_at, done, ended}
+use Rattle.fk_model.specs.Outcomes.{Said, Outcome, ◌>>=◌, refuse, or_refuse, when, Caller, path_of, done_at, done, stays, telling}
 use Rattle.fk_model.specs.Outcomes.Outcome.{Refused, Waits, Goes}
 use Rattle.fk_model.specs.Outcomes.Said.{Nothing, Answered}
 use Rattle.fk_model.specs.LinkRows.{user_at}
@@ -67,6 +67,28 @@ quiet->>= root (Err status) go quiet = quiet-refused
 pub quiet-when : (root : Path) (test : Bool) (o : Outcome) → Quiet root o → Quiet root (when test o)
 quiet-when root true o quiet = quiet
 quiet-when root false o quiet = quiet-waits
+
+pub quiet-bind : {A : Type 0} (root : Path) (r : Result A ℕ) (go : A → Outcome) → ((a : A) → r ≡ Ok a → Quiet root (go a)) → Quiet root (r >>= go)
+quiet-bind root (Ok a) go quiet = quiet a refl
+quiet-bind root (Err status) go quiet = quiet-refused
+
+pub quiet-telling : (root : Path) (said : Said) (o : Outcome) → ((x : Path) → told_by_said x said ≡ []) → Quiet root o → Quiet root (telling said o)
+quiet-telling root said (Goes cs Nothing) hush h = record { quiet = h.quiet; mute = hush }
+quiet-telling root said o hush h = h
+
+pub quiet-stays : (root : Path) (c : Caller) (cs : List Change) → AreQuiet root cs → Quiet root (stays c cs)
+quiet-stays root c cs quiet = by c.is_porter
+  where
+    by : (porter : Bool) → Quiet root (stays (record c { is_porter = porter }) cs)
+    by true = quiet-answers quiet
+    by false = quiet-goes quiet
+
+pub quiet-done_at : (root me : Path) (c : Caller) (cs : List Change) (answers : List ℕ) → AreQuiet root cs → Quiet root (done_at me c cs answers)
+quiet-done_at root me c cs answers quiet = by c.is_porter
+  where
+    by : (porter : Bool) → Quiet root (done_at me (record c { is_porter = porter }) cs answers)
+    by true = quiet-answers quiet
+    by false = quiet-goes (quiet-then root cs _ quiet (tt, tt))
 
 pub quiet-done : (root : Path) (c : Caller) (cs : List Change) (answers : List ℕ) → AreQuiet root cs → Quiet root (done c cs answers)
 quiet-done root c cs answers quiet = by c.is_porter

@@ -75,6 +75,16 @@ pub record IsInner (stage : Stage) : Type 0 where
   pub alike : (root : Path) (see : Ptr → Ptr) (small big : World) → IsImage root see small big → is_frozen big root ≡ false → (k : ℕ) (q : Path) (p pick : Option Path) →
       IsImageOutcome root see big (stage_row small (user_at (k ∷ q)) p stage) (stage_row big (user_at (k ∷ (q ++ root))) pick stage)
 
+-- what a move of its own by a thread at such a stage needs in a subtree that is seen alone
+pub record IsOwn (stage : Stage) : Type 0 where
+  pub silent : (w : World) (n : ℕ) (c : Caller) (o : Outcome) → outside_row w c n stage o ≡ o
+  pub quiet : (w : World) (x : Path) (pick : Option Path) → Quiet [] (stage_row w (user_at x) pick stage)
+  pub alike : (root : Path) (see : Ptr → Ptr) (small big : World) → IsImage root see small big → is_frozen big root ≡ false → (k : ℕ) (q : Path) (p pick : Option Path) →
+      IsImageOutcome root see big (stage_row small (user_at (k ∷ q)) p stage) (stage_row big (user_at (k ∷ (q ++ root))) pick stage)
+
+pub inner_own : (stage : Stage) → IsInner stage → IsOwn stage
+inner_own stage inner = record { silent = inner.silent; quiet = λ w x pick. inner.quiet [] w (user_at x) pick; alike = inner.alike }
+
 pub inner_stages : (IsSuch : Stage → Type 0) → ((stage : Stage) → IsSuch stage → IsInner stage) → StageKeepsCut IsSuch
 inner_stages IsSuch inner w nester slot x pick stage such at sound plain = by (is_within (slot ∷ nester) x) refl
   where

@@ -45,6 +45,8 @@ use Rattle.fk_model.proofs.CutPlain.{AreQuiet, changes-clear, clear-plain, image
 use Rattle.fk_model.proofs.CutInside.{Quiet, quiet-refused, quiet-waits, quiet-goes, quiet->>=, quiet-when, quiet-done, quiet-call, stage_inside, inside_stages}
 use Rattle.fk_model.proofs.CutOutside.{stepped-plain, stage_outcome, stage_called}
 use Rattle.fk_model.proofs.CutRows.{quiet-own_page}
+use Rattle.fk_model.specs.RebindLaws.{StageRebinds}
+use Rattle.fk_model.proofs.CutRebound.{own_rebinds}
 use Rattle.fk_model.proofs.CutImages.{page_take-image}
 
 -- ---- what the outside does to a plain subtree
@@ -210,3 +212,10 @@ page_take_keeps w nester slot x pick stage such at sound plain = by (is_within (
     by : (b : Bool) → is_within (slot ∷ nester) x ≡ b → is_fit w x asks.Run ≡ true → IsReady w x pick asks.Run → (seen : Seen) → IsSeen w nester slot (moves x pick) seen → HasDone w nester slot (moves x pick) seen
     by true e = inside_stages IsPageTake law w nester slot x pick stage such e at sound plain
     by false e = take_outside w nester slot plain x pick such.0 such.1 such.2 e (rw such.3 at at) sound plain
+
+pub page_take_rebinds : StageRebinds IsPageTake
+page_take_rebinds = own_rebinds IsPageTake (λ stage such. rw such.3 (record {
+  silent = λ w n c o. refl;
+  quiet = λ w x pick. quiet-page_take [] w x such.0 such.1 such.2;
+  alike = λ root see small big image free k q p pick. page_take-image image free k q such.0 such.1 such.2;
+}))

@@ -37,7 +37,7 @@ use Rattle.fk_model.proofs.ImageHolds.{is_free-image}
 use Rattle.fk_model.proofs.ImageRuns.{changes-image}
 use Rattle.fk_model.proofs.CutHolds.{changes-allowed}
 use Rattle.fk_model.proofs.CutInside.{Quiet, quiet-when, quiet-call, when_same, call_row-image, call_closed}
-use Rattle.fk_model.proofs.CutOutside.{IsInner}
+use Rattle.fk_model.proofs.CutOutside.{IsInner, IsOwn, inner_own}
 
 -- two images of one world by the same eyes are one
 same_image : (root : Path) (see : Ptr → Ptr) (one other big : World) → IsImage root see one big → IsImage root see other big → one ≡ other
@@ -131,7 +131,7 @@ module _ (bind : ℕ → ℕ) (c : World) (image : IsImage [] (rebound_ptr bind)
 
 -- ---- the row of a stage
 
-row_is : (c : World) (x : Path) (p : Option Path) (n : ℕ) (stage : Stage) → IsInner stage → (t : Thread) (todo : List Stage) (rest : List ℕ) → thread_in c x ≡ Some t → t.mode ≡ Calling (stage ∷ todo) rest →
+row_is : (c : World) (x : Path) (p : Option Path) (n : ℕ) (stage : Stage) → IsOwn stage → (t : Thread) (todo : List Stage) (rest : List ℕ) → thread_in c x ≡ Some t → t.mode ≡ Calling (stage ∷ todo) rest →
     onward_row c (Own x p n) ≡ when (is_free c (parent x) t) (call_row c (user_at x) p stage)
 unfolding onward_row
 row_is c x p n stage inner t todo rest is e = rw is (by (talks_outside c x && is_none p) t.mode e)
@@ -150,7 +150,7 @@ thread_named see c small x image t is = by (thread_in small x) (and_then thread_
     by (Some seen) None h e = absurd h
 
 -- the rows of a stage act alike in an image at the same path
-alike_there : (see : Ptr → Ptr) (c small : World) (image : IsImage [] see small c) → is_frozen c [] ≡ false → (k : ℕ) (q : Path) (p : Option Path) (stage : Stage) → IsInner stage → (t : Thread) →
+alike_there : (see : Ptr → Ptr) (c small : World) (image : IsImage [] see small c) → is_frozen c [] ≡ false → (k : ℕ) (q : Path) (p : Option Path) (stage : Stage) → IsOwn stage → (t : Thread) →
     IsImageOutcome [] see c (when (is_free small q (seen_thread see t)) (call_row small (user_at (k ∷ q)) p stage)) (when (is_free c q t) (call_row c (user_at (k ∷ q)) p stage))
 alike_there see c small image free k q p stage inner t =
     when_same image (is_free small q (seen_thread see t)) (is_free c q t) (call_row small (user_at (k ∷ q)) p stage) (call_row c (user_at (k ∷ q)) p stage)
@@ -181,7 +181,7 @@ module _ (bind : ℕ → ℕ) (c : World) (world : IsCutWorld c) (k : ℕ) (q : 
   gone_anew p n (Refused status) (Goes ds said) h again hushed silent told later onward = absurd h
   gone_anew p n Waits (Goes ds said) h again hushed silent told later onward = absurd h
 
-  stage_anew : (p : Option Path) (n : ℕ) (stage : Stage) → IsInner stage → IsAtStage c (k ∷ q) stage → (told : List Told) (later : World) → IsOnward c (Own (k ∷ q) p n) told later → IsOnward (rebound bind c) (Own (k ∷ q) p n) (map (rebound_told bind) told) (rebound bind later)
+  stage_anew : (p : Option Path) (n : ℕ) (stage : Stage) → IsOwn stage → IsAtStage c (k ∷ q) stage → (told : List Told) (later : World) → IsOnward c (Own (k ∷ q) p n) told later → IsOnward (rebound bind c) (Own (k ∷ q) p n) (map (rebound_told bind) told) (rebound bind later)
   stage_anew p n stage inner at told later onward =
       let t = at.0 in
       let see : Ptr → Ptr = rebound_ptr bind in
@@ -190,7 +190,7 @@ module _ (bind : ℕ → ℕ) (c : World) (world : IsCutWorld c) (k : ℕ) (q : 
       let near : Outcome = when (is_free (rebound bind c) q (seen_thread see t)) (call_row (rebound bind c) (user_at (k ∷ q)) p stage) in
       let far_is : onward_row c (Own (k ∷ q) p n) ≡ far = row_is c (k ∷ q) p n stage inner t at.1 at.2 at.3 at.4 in
       let near_is : onward_row (rebound bind c) (Own (k ∷ q) p n) ≡ near = row_is (rebound bind c) (k ∷ q) p n stage inner (seen_thread see t) at.1 at.2 (thread_named see c (rebound bind c) (k ∷ q) image_of t at.3) at.4 in
-      let quiet : (w : World) (b : Bool) → Quiet [] (when b (call_row w (user_at (k ∷ q)) p stage)) = λ w b. quiet-when [] b (call_row w (user_at (k ∷ q)) p stage) (quiet-call [] w (k ∷ q) p stage (inner.quiet [] w (user_at (k ∷ q)) p)) in
+      let quiet : (w : World) (b : Bool) → Quiet [] (when b (call_row w (user_at (k ∷ q)) p stage)) = λ w b. quiet-when [] b (call_row w (user_at (k ∷ q)) p stage) (quiet-call [] w (k ∷ q) p stage (inner.quiet w (k ∷ q) p)) in
       subst (λ (o : Outcome). OnwardTo (rebound bind c) (Own (k ∷ q) p n) o (map (rebound_told bind) told) (rebound bind later)) (sym near_is)
       (gone_anew p n near far (alike_there see c (rebound bind c) image_of free k q p stage inner t) (unseen t (alike_there (λ p. p) c c world free k q p stage inner t))
       ((quiet (rebound bind c) (is_free (rebound bind c) q (seen_thread see t))).mute (k ∷ q)) ((quiet c (is_free c q t)).mute (k ∷ q)) told later
@@ -204,9 +204,12 @@ module _ (bind : ℕ → ℕ) (c : World) (world : IsCutWorld c) (k : ℕ) (q : 
           free_same None = refl
           free_same (Some fault) = refl
 
-pub inner_rebinds : (IsSuch : Stage → Type 0) → ((stage : Stage) → IsSuch stage → IsInner stage) → StageRebinds IsSuch
-inner_rebinds IsSuch inner c [] p n stage such at bind told later world onward = absurd (no_thread at.0 (c.body []) (root_seen world) at.3)
+pub own_rebinds : (IsSuch : Stage → Type 0) → ((stage : Stage) → IsSuch stage → IsOwn stage) → StageRebinds IsSuch
+own_rebinds IsSuch inner c [] p n stage such at bind told later world onward = absurd (no_thread at.0 (c.body []) (root_seen world) at.3)
   where
     no_thread : (t : Thread) (v : Option Body) → v ≡ Some (Space zero None) → and_then thread_of v ≡ Some t → ⊥
     no_thread t v e h = let none : and_then thread_of v ≡ None = rw e refl in cc
-inner_rebinds IsSuch inner c (k ∷ q) p n stage such at bind told later world onward = stage_anew bind c world k q p n stage (inner stage such) at told later onward
+own_rebinds IsSuch inner c (k ∷ q) p n stage such at bind told later world onward = stage_anew bind c world k q p n stage (inner stage such) at told later onward
+
+pub inner_rebinds : (IsSuch : Stage → Type 0) → ((stage : Stage) → IsSuch stage → IsInner stage) → StageRebinds IsSuch
+inner_rebinds IsSuch inner = own_rebinds IsSuch (λ stage such. inner_own stage (inner stage such))

@@ -1,6 +1,6 @@
 -- The law of the cut: what a move of the world does to a plain subtree is what the subtree, seen alone, does by the move
 -- as which it is seen.
-use Rattle.std.specs.Prelude.{◌≡◌, ℕ, true, List, ◌∷◌, ◌++◌, Option, Some}
+use Rattle.std.specs.Prelude.{◌≡◌, ℕ, true, false, List, ◌∷◌, ◌++◌, Option, Some}
 use Rattle.fk_model.specs.declared.instruction.Act.{Act}
 use Rattle.fk_model.specs.declared.instruction.Act.TheVariants.{Store}
 use Rattle.fk_model.specs.declared.moves.Ask.{Ask}
@@ -52,6 +52,10 @@ StageKeepsCut IsSuch = (w : World) (nester : Path) (slot : ℕ) (x : Path) (pick
 abbrev pub StageInsideKeepsCut : (Stage → Type 0) → Type 0
 StageInsideKeepsCut IsSuch = (w : World) (nester : Path) (slot : ℕ) (x : Path) (pick : Option Path) (stage : Stage) → IsSuch stage → is_within (slot ∷ nester) x ≡ true → IsAtStage w x stage → KeepsCut w nester slot (moves x pick)
 
+-- the law for every move of a user thread outside the subtree that is at such a stage
+abbrev pub StageOutsideKeepsCut : (Stage → Type 0) → Type 0
+StageOutsideKeepsCut IsSuch = (w : World) (nester : Path) (slot : ℕ) (x : Path) (pick : Option Path) (stage : Stage) → IsSuch stage → is_within (slot ∷ nester) x ≡ false → IsAtStage w x stage → KeepsCut w nester slot (moves x pick)
+
 -- ---- which stages are meant
 
 abbrev pub IsLock : Stage → Type 0
@@ -74,6 +78,9 @@ IsPageTake stage = (s : ℕ) × (page : ℕ) × (address : ℕ) × (stage ≡ Pa
 
 abbrev pub IsRename : Stage → Type 0
 IsRename stage = (s : ℕ) × (x : ℕ) × (y : ℕ) × (stage ≡ Rename s x y)
+
+abbrev pub IsDestroy : Stage → Type 0
+IsDestroy stage = (s : ℕ) × (x : ℕ) × (stage ≡ Destroy s x)
 
 -- ---- instructions
 

@@ -1,6 +1,6 @@
 //! The law of the cut, each kind of move the contract of a function that does nothing: what a move of the world does to a
 //! subtree is what the subtree, seen alone, does by the move as which it is seen.
-ghost use Rattle.fk_model.specs.CutLaws.{InstructionKeepsCut, IsCreate, IsGetState, IsHold, IsLock, IsPoint, StageKeepsCut};
+ghost use Rattle.fk_model.specs.CutLaws.{InstructionKeepsCut, IsCreate, IsDestroy, IsGetState, IsHold, IsLock, IsPageTake, IsPoint, IsRename, StageInsideKeepsCut, StageKeepsCut, StageOutsideKeepsCut};
 
 /// A thread that makes an instruction, also one that stores through a mapping: inside, the subtree does so by itself;
 /// outside, it sees nothing of it, or no law speaks of it.
@@ -31,4 +31,20 @@ pub fn a_read_record_keeps_the_cut()
 /// A thread that holds a space: inside, the subtree does so by itself; outside, it sees nothing of it, or no law speaks of it.
 pub fn a_hold_keeps_the_cut()
     ensures { StageKeepsCut IsHold }
+{}
+
+/// A thread that takes a page: inside, the subtree does so by itself; outside, the subtree sees that a page of it is taken, or
+/// sees nothing of it, or no law speaks of it.
+pub fn a_taken_page_keeps_the_cut()
+    ensures { StageKeepsCut IsPageTake }
+{}
+
+/// A thread inside that gives an object another slot does so in the subtree by itself.
+pub fn a_new_name_inside_keeps_the_cut()
+    ensures { StageInsideKeepsCut IsRename }
+{}
+
+/// A thread outside that destroys an object: the subtree sees nothing of it and stays plain, or no law speaks of it.
+pub fn a_death_outside_keeps_the_cut()
+    ensures { StageOutsideKeepsCut IsDestroy }
 {}

@@ -1,6 +1,6 @@
 //! The law of rebinding, each kind of move the contract of a function that does nothing: a subtree that is seen alone does,
 //! with other outward ports, what it did, also where two of them get one name.
-ghost use Rattle.fk_model.specs.CutLaws.{IsCreate, IsGetState, IsHold, IsLock, IsPoint};
+ghost use Rattle.fk_model.specs.CutLaws.{IsCreate, IsGetState, IsHold, IsLock, IsPageTake, IsPoint, IsRename};
 ghost use Rattle.fk_model.specs.RebindLaws.{StageRebinds};
 
 /// A thread of the subtree that locks a mutex does so with other outward ports, and the outside hears the same at these.
@@ -26,4 +26,15 @@ pub fn a_read_record_rebinds()
 /// A thread of the subtree that holds a space does so with other outward ports, and the outside hears the same at these.
 pub fn a_hold_rebinds()
     ensures { StageRebinds IsHold }
+{}
+
+/// A thread of the subtree that takes a page does so with other outward ports, and the outside hears the same at these.
+pub fn a_taken_page_rebinds()
+    ensures { StageRebinds IsPageTake }
+{}
+
+/// A thread of the subtree that gives an object another slot does so with other outward ports, and the outside hears the same
+/// at these.
+pub fn a_new_name_rebinds()
+    ensures { StageRebinds IsRename }
 {}

@@ -1,4 +1,3 @@
-use Rattle.fk_model.proofs.CutPages.{has_touched}
 use Rattle.fk_model.proofs.CutRows.{lock_keeps}
 use Rattle.fk_model.proofs.cut_laws.a_lock_keeps_the_cut.Goals as goal
 
