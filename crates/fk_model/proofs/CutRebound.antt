@@ -204,11 +204,32 @@ module _ (bind : ℕ → ℕ) (c : World) (world : IsCutWorld c) (k : ℕ) (q : 
           free_same None = refl
           free_same (Some fault) = refl
 
+pub no_thread : (t : Thread) (v : Option Body) → v ≡ Some (Space zero None) → and_then thread_of v ≡ Some t → ⊥
+no_thread t v e h = let none : and_then thread_of v ≡ None = rw e refl in cc
+
+-- a row of a free thread that acts alike in every image at the same path
+pub row_anew : (bind : ℕ → ℕ) (c : World) (world : IsCutWorld c) (k : ℕ) (q : Path) (p : Option Path) (n : ℕ) (t : Thread) (row : World → Outcome) →
+    onward_row c (Own (k ∷ q) p n) ≡ when (is_free c q t) (row c) →
+    (thread_in (rebound bind c) (k ∷ q) ≡ Some (seen_thread (rebound_ptr bind) t) → onward_row (rebound bind c) (Own (k ∷ q) p n) ≡ when (is_free (rebound bind c) q (seen_thread (rebound_ptr bind) t)) (row (rebound bind c))) →
+    thread_in c (k ∷ q) ≡ Some t →
+    ((see : Ptr → Ptr) (small : World) → IsImage [] see small c → IsImageOutcome [] see c (row small) (row c)) → ((w : World) → Quiet [] (row w)) →
+    (told : List Told) (later : World) → IsOnward c (Own (k ∷ q) p n) told later → IsOnward (rebound bind c) (Own (k ∷ q) p n) (map (rebound_told bind) told) (rebound bind later)
+row_anew bind c world k q p n t row far_is near_by is alike quiet told later onward =
+    let see : Ptr → Ptr = rebound_ptr bind in
+    let image : IsImage [] see (rebound bind c) c = rebound-image bind (λ p. p) [] c c world in
+    let free = top_free c world in
+    let far : Outcome = when (is_free c q t) (row c) in
+    let near : Outcome = when (is_free (rebound bind c) q (seen_thread see t)) (row (rebound bind c)) in
+    let near_is : onward_row (rebound bind c) (Own (k ∷ q) p n) ≡ near = near_by (thread_named see c (rebound bind c) (k ∷ q) image t is) in
+    subst (λ (o : Outcome). OnwardTo (rebound bind c) (Own (k ∷ q) p n) o (map (rebound_told bind) told) (rebound bind later)) (sym near_is)
+    (gone_anew bind c world k q p n near far
+        (when_same image (is_free (rebound bind c) q (seen_thread see t)) (is_free c q t) (row (rebound bind c)) (row c) (is_free-image image free q t ∙ ap (λ (y : Path). is_free c y t) (append-nil q)) (alike see (rebound bind c) image))
+        (when_same world (is_free c q t) (is_free c q t) (row c) (row c) refl (alike (λ p. p) c world))
+        ((quiet-when [] (is_free (rebound bind c) q (seen_thread see t)) (row (rebound bind c)) (quiet (rebound bind c))).mute (k ∷ q)) ((quiet-when [] (is_free c q t) (row c) (quiet c)).mute (k ∷ q)) told later
+        (subst (λ (o : Outcome). OnwardTo c (Own (k ∷ q) p n) o told later) far_is onward))
+
 pub own_rebinds : (IsSuch : Stage → Type 0) → ((stage : Stage) → IsSuch stage → IsOwn stage) → StageRebinds IsSuch
 own_rebinds IsSuch inner c [] p n stage such at bind told later world onward = absurd (no_thread at.0 (c.body []) (root_seen world) at.3)
-  where
-    no_thread : (t : Thread) (v : Option Body) → v ≡ Some (Space zero None) → and_then thread_of v ≡ Some t → ⊥
-    no_thread t v e h = let none : and_then thread_of v ≡ None = rw e refl in cc
 own_rebinds IsSuch inner c (k ∷ q) p n stage such at bind told later world onward = stage_anew bind c world k q p n stage (inner stage such) at told later onward
 
 pub inner_rebinds : (IsSuch : Stage → Type 0) → ((stage : Stage) → IsSuch stage → IsInner stage) → StageRebinds IsSuch

@@ -1,5 +1,5 @@
 -- The law of the cut for instructions.
-use Rattle.std.proofs.Common.{◌≡◌, ℕ, Bool, true, false, List, [], ◌∷◌, ◌++◌, Option, Some, None, is_none, refl, sym, ap, ◌∙◌}
+use Rattle.std.proofs.Common.{◌≡◌, ℕ, Bool, true, false, List, [], ◌∷◌, ◌++◌, Option, Some, None, is_none, cond, ◌&&◌, refl, sym, ap, subst, ◌∙◌, append-nil}
 use Rattle.fk_model.specs.declared.instruction.Act.{Act}
 use Rattle.fk_model.specs.declared.instruction.Act.TheVariants.{Put, Jump, Load, Store, Halt, Call}
 use Rattle.fk_model.specs.declared.moves.Ask.TheVariants as asks
@@ -16,11 +16,16 @@ use Rattle.fk_model.specs.Holds.{is_free, is_porter}
 use Rattle.fk_model.specs.Outcomes.{Outcome, when}
 use Rattle.fk_model.specs.Readers.{accessed}
 use Rattle.fk_model.specs.UserRows.{proceeds, halts_with, word_at, enters, performs, executes, run_row_by, run_row}
-use Rattle.fk_model.specs.Moves.{goes_on, outcome, IsReady}
+use Rattle.fk_model.specs.Moves.{with_pick, goes_on, outcome, IsReady}
 use Rattle.fk_model.specs.Valid.{is_fit}
 use Rattle.fk_model.specs.Runs.{Event}
 use Rattle.fk_model.specs.Cut.{ports_of, cut_ptr, cut, IsPlain}
-use Rattle.fk_model.specs.Further.{own_stage}
+use Rattle.fk_model.specs.Further.{talks_outside, own_stage, thread_in, onward_row}
+use Rattle.fk_model.specs.Further.Onward.{Own}
+use Rattle.fk_model.specs.Rebind.{rebound_ptr, rebound}
+use Rattle.fk_model.specs.RebindLaws.{InstructionRebinds}
+use Rattle.fk_model.proofs.ImageMemory.{root_seen}
+use Rattle.fk_model.proofs.CutRebound.{no_thread, row_anew}
 use Rattle.fk_model.specs.Seen.{Seen, caller_stage, IsSeen}
 use Rattle.fk_model.specs.CutLaws.{HasDone, KeepsCut, moves, IsRunning, InstructionKeepsCut}
 use Rattle.fk_model.specs.Image.{seen_thread}
@@ -95,3 +100,25 @@ instruction_keeps w nester slot x pick at sound plain = by (is_within (slot ∷ 
         let under = thread_beneath w nester slot plain x at.0 e at.2 in
         rw under.2 (inside w nester slot plain under.0 under.1 pick (rw under.2 at at) sound plain)
     by false e = outside_law w nester slot plain (moves x pick) e (quiet-outcome (slot ∷ nester) w x pick at) (rw (no_stage w x at) refl) sound plain
+
+-- ---- with other outward ports
+
+run_is : (c : World) (k : ℕ) (q : Path) (p : Option Path) (n : ℕ) (t : Thread) (g : List ℕ) → thread_in c (k ∷ q) ≡ Some t → t.mode ≡ Running g → onward_row c (Own (k ∷ q) p n) ≡ when (is_free c q t) (with_pick false p (run_row c q k g t.counter))
+unfolding onward_row
+run_is c k q p n t g is e = rw is (by (talks_outside c (k ∷ q) && is_none p) t.mode e)
+  where
+    by : (test : Bool) (mode : Mode) → mode ≡ Running g → cond test (when (is_free c q t) (own_stage c (k ∷ q) p n mode (goes_on c (k ∷ q) p t mode))) (when (is_free c q t) (goes_on c (k ∷ q) p t mode)) ≡ when (is_free c q t) (with_pick false p (run_row c q k g t.counter))
+    by true mode e = rw e refl
+    by false mode e = rw e refl
+
+pub instruction_rebinds : InstructionRebinds
+instruction_rebinds c [] p n at bind told later world onward = absurd (no_thread at.0 (c.body []) (root_seen world) at.2)
+instruction_rebinds c (k ∷ q) p n at bind told later world onward =
+    row_anew bind c world k q p n at.0 (λ w. with_pick false p (run_row w q k at.1 at.0.counter))
+    (run_is c k q p n at.0 at.1 at.2 at.3)
+    (λ is. run_is (rebound bind c) k q p n (seen_thread (rebound_ptr bind) at.0) at.1 is at.3)
+    at.2
+    (λ see small image. with_pick-image image false p p (run_row small q k at.1 at.0.counter) (run_row c q k at.1 at.0.counter) refl
+        (subst (λ (y : Path). IsImageOutcome [] see c (run_row small q k at.1 at.0.counter) (run_row c y k at.1 at.0.counter)) (append-nil q) (run_row-image image q k at.1 at.0.counter)))
+    (λ w. quiet-with_pick [] false p (run_row w q k at.1 at.0.counter) (quiet-run [] w q k at.1 at.0.counter))
+    told later onward

@@ -6,7 +6,7 @@ use Rattle.fk_model.specs.Places.{Path}
 use Rattle.fk_model.specs.World.{World}
 use Rattle.fk_model.specs.Further.{Onward, Told, IsOnward}
 use Rattle.fk_model.specs.Further.Onward.{Own}
-use Rattle.fk_model.specs.CutLaws.{IsAtStage}
+use Rattle.fk_model.specs.CutLaws.{IsAtStage, IsRunning}
 use Rattle.fk_model.specs.Image.{IsCutWorld}
 use Rattle.fk_model.specs.Rebind.{rebound, rebound_told}
 
@@ -17,3 +17,7 @@ Rebinds c m = (bind : ℕ → ℕ) (told : List Told) (later : World) → IsCutW
 -- the law for every move of its own by a thread that is at such a stage
 abbrev pub StageRebinds : (Stage → Type 0) → Type 0
 StageRebinds IsSuch = (c : World) (x : Path) (pick : Option Path) (taken : ℕ) (stage : Stage) → IsSuch stage → IsAtStage c x stage → Rebinds c (Own x pick taken)
+
+-- and for every instruction
+abbrev pub InstructionRebinds : Type 0
+InstructionRebinds = (c : World) (x : Path) (pick : Option Path) (taken : ℕ) → IsRunning c x → Rebinds c (Own x pick taken)
