@@ -39,7 +39,7 @@ module _ (w : World) (nester : Path) (slot : ℕ) (plain : IsPlain w nester slot
   stepped-plain Waits quiet same = plain
   stepped-plain (Refused status) quiet same = plain
 
-  untouched : (e : Event) (o : Outcome) (r : Option Path) (m : Onward) → r ≡ None → outer_touch w root e.mover e.pick e.ask o ≡ None → row_of w root e o r ≡ Some m → ⊥
+  pub untouched : (e : Event) (o : Outcome) (r : Option Path) (m : Onward) → r ≡ None → outer_touch w root e.mover e.pick e.ask o ≡ None → row_of w root e o r ≡ Some m → ⊥
   untouched e o r m out none = rw out (rw none (λ h. cc))
 
   -- who moves without a touch

@@ -48,3 +48,8 @@ pub fn a_new_name_inside_keeps_the_cut()
 pub fn a_death_outside_keeps_the_cut()
     ensures { StageOutsideKeepsCut IsDestroy }
 {}
+
+/// A thread outside that gives an object another slot: the subtree sees nothing of it and stays plain, or no law speaks of it.
+pub fn a_new_name_outside_keeps_the_cut()
+    ensures { StageOutsideKeepsCut IsRename }
+{}
