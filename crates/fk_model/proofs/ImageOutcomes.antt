@@ -41,7 +41,7 @@ module _ {root : Path} {see : Ptr → Ptr} {small big : World} (image : IsImage 
 
   -- ---- the next step of a row, after an answer
 
-  bind-image : {A B : Type 0} (R : A → B → Type 0) (a : Result A ℕ) (b : Result B ℕ) (f : A → Outcome) (g : B → Outcome) → AlikeResults R a b → ((x : A) (y : B) → R x y → Alike (f x) (g y)) → Alike (a >>= f) (b >>= g)
+  pub bind-image : {A B : Type 0} (R : A → B → Type 0) (a : Result A ℕ) (b : Result B ℕ) (f : A → Outcome) (g : B → Outcome) → AlikeResults R a b → ((x : A) (y : B) → R x y → Alike (f x) (g y)) → Alike (a >>= f) (b >>= g)
   bind-image R (Ok x) (Ok y) f g h go = go x y h
   bind-image R (Err status) (Err refusal) f g h go = h
   bind-image R (Ok x) (Err refusal) f g h go = absurd h

@@ -11,6 +11,7 @@ use Rattle.fk_model.specs.Objects.{Mode, mutex_of}
 use Rattle.fk_model.specs.Objects.Mode.{Running, Halted}
 use Rattle.fk_model.specs.World.Edit.{Proceed}
 use Rattle.fk_model.specs.World.{World}
+use Rattle.fk_model.specs.Calls.{todo_of}
 use Rattle.fk_model.specs.Instructions.{act, next}
 use Rattle.fk_model.specs.Reach.{reach_word}
 use Rattle.fk_model.specs.Holds.{is_porter, is_frozen}
@@ -19,7 +20,7 @@ use Rattle.fk_model.specs.Readers.{handle, accessed}
 use Rattle.fk_model.specs.Talks.{thread_at}
 use Rattle.fk_model.specs.SyncRows.{mutex_lock}
 use Rattle.fk_model.specs.SpaceRows.{thread_by, thread_stop}
-use Rattle.fk_model.specs.UserRows.{proceeds, halts_with, word_at, loads, stores, enters, performs, executes, run_row_by}
+use Rattle.fk_model.specs.UserRows.{proceeds, halts_with, word_at, loads, stores, enters, performs, executes, run_row_by, run_row}
 use Rattle.fk_model.specs.Image.{IsSeenHandle, IsImage, under, AlikeResults, EndImage}
 use Rattle.fk_model.specs.ImageChanges.{IsImageOutcome}
 use Rattle.fk_model.specs.ImageChanges.ImageChange.{Alters, PutsPage}
@@ -69,25 +70,24 @@ module _ {root : Path} {see : Ptr → Ptr} {small big : World} (image : IsImage 
       accessed-image image slot space write (halts_with (slot ∷ space) g counter) (halts_with (slot ∷ (space ++ root)) g counter) go on (reach_word small space address write) (reach_word big (space ++ root) address write)
       (reach_word-image image space address write) (λ code. proceeds-image slot space (Halted g code) counter refl) goes
 
-  module _ (known : List ℕ → Option (List Stage)) where
-    performs-image : (space : Path) (slot : ℕ) (g : List ℕ) (counter : ℕ) (a : Act) → Alike (performs known small space (slot ∷ space) g counter a) (performs known big (space ++ root) (slot ∷ (space ++ root)) g counter a)
-    performs-image space slot g counter (Put register value) = proceeds-image slot space _ _ refl
-    performs-image space slot g counter (Jump to) = proceeds-image slot space _ _ refl
-    performs-image space slot g counter (Load register address) =
-        access space slot false g counter address (loads small (slot ∷ space) g counter register address) (loads big (slot ∷ (space ++ root)) g counter register address)
-        (λ s page. rw (words_at-image image s page) (proceeds-image slot space _ _ refl))
-    performs-image space slot g counter (Store address value) =
-        access space slot true g counter address (stores small (slot ∷ space) g counter address value) (stores big (slot ∷ (space ++ root)) g counter address value)
-        (λ s page. rw (words_at-image image s page) (Both (PutsPage s page _) (Both (Alters slot space _ (Proceed (Running g) (next counter)) refl refl) Empty)))
-    performs-image space slot g counter (Halt code) = proceeds-image slot space _ _ refl
-    performs-image space slot g counter Call = by (known g)
-      where
-        by : (o : Option (List Stage)) → Alike (enters (slot ∷ space) g counter o) (enters (slot ∷ (space ++ root)) g counter o)
-        by None = proceeds-image slot space _ _ refl
-        by (Some todo) = proceeds-image slot space _ _ refl
+  performs-image : (space : Path) (slot : ℕ) (g : List ℕ) (counter : ℕ) (a : Act) → Alike (performs todo_of small space (slot ∷ space) g counter a) (performs todo_of big (space ++ root) (slot ∷ (space ++ root)) g counter a)
+  performs-image space slot g counter (Put register value) = proceeds-image slot space _ _ refl
+  performs-image space slot g counter (Jump to) = proceeds-image slot space _ _ refl
+  performs-image space slot g counter (Load register address) =
+      access space slot false g counter address (loads small (slot ∷ space) g counter register address) (loads big (slot ∷ (space ++ root)) g counter register address)
+      (λ s page. rw (words_at-image image s page) (proceeds-image slot space _ _ refl))
+  performs-image space slot g counter (Store address value) =
+      access space slot true g counter address (stores small (slot ∷ space) g counter address value) (stores big (slot ∷ (space ++ root)) g counter address value)
+      (λ s page. rw (words_at-image image s page) (Both (PutsPage s page _) (Both (Alters slot space _ (Proceed (Running g) (next counter)) refl refl) Empty)))
+  performs-image space slot g counter (Halt code) = proceeds-image slot space _ _ refl
+  performs-image space slot g counter Call = by (todo_of g)
+    where
+      by : (o : Option (List Stage)) → Alike (enters (slot ∷ space) g counter o) (enters (slot ∷ (space ++ root)) g counter o)
+      by None = proceeds-image slot space _ _ refl
+      by (Some todo) = proceeds-image slot space _ _ refl
 
-    pub run_row-image : (space : Path) (slot : ℕ) (g : List ℕ) (counter : ℕ) → Alike (run_row_by known small space slot g counter) (run_row_by known big (space ++ root) slot g counter)
-    unfolding run_row_by
-    run_row-image space slot g counter =
-        access space slot false g counter counter (executes known small space (slot ∷ space) g counter) (executes known big (space ++ root) (slot ∷ (space ++ root)) g counter)
-        (λ s page. rw (words_at-image image s page) (performs-image space slot g counter (act (word_at big (s ++ root) page counter) g counter)))
+  pub run_row-image : (space : Path) (slot : ℕ) (g : List ℕ) (counter : ℕ) → Alike (run_row small space slot g counter) (run_row big (space ++ root) slot g counter)
+  unfolding run_row_by
+  run_row-image space slot g counter =
+      access space slot false g counter counter (executes todo_of small space (slot ∷ space) g counter) (executes todo_of big (space ++ root) (slot ∷ (space ++ root)) g counter)
+      (λ s page. rw (words_at-image image s page) (performs-image space slot g counter (act (word_at big (s ++ root) page counter) g counter)))

@@ -118,18 +118,15 @@ has_far body = holds (λ b. list_any is_far (pointers b)) body
 abbrev pub is_served : Body → Bool
 is_served b = holds (λ (port : Option ℕ × Bool). port.1) (port_of b)
 
+-- a peer that is a thread inside
+abbrev pub is_inner_peer : Path → Peer → Bool
+is_inner_peer root (Server (At x)) = is_within root x
+is_inner_peer root other = false
+
 -- an outside thread whose talk or fault an inside thread serves
 abbrev pub is_served_by : Path → Option Body → Bool
-is_served_by root body = holds (λ (t : Thread). holds (λ (talk : Talk). is_inner talk.peer) t.talk || holds (λ (fault : Fault). holds is_inner fault.taker) t.fault) (and_then thread_of body)
-  where
-    leads_in : Ptr → Bool
-    leads_in (At x) = is_within root x
-    leads_in other = false
-
-    is_inner : Peer → Bool
-    is_inner (Server thread) = leads_in thread
-    is_inner Service = false
-    is_inner Parked = false
+is_served_by root body =
+    holds (λ (t : Thread). holds (λ (talk : Talk). is_inner_peer root talk.peer) t.talk || holds (λ (fault : Fault). holds (is_inner_peer root) fault.taker) t.fault) (and_then thread_of body)
 
 pub record IsPlain (w : World) (nester : Path) (slot : ℕ) : Type 0 where
   pub birth : ℕ

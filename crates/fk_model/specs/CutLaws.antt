@@ -1,12 +1,20 @@
 -- The law of the cut: what a move of the world does to a plain subtree is what the subtree, seen alone, does by the move
 -- as which it is seen.
-use Rattle.std.specs.Prelude.{◌≡◌, ℕ, true, List, ◌∷◌, Option, Some}
+use Rattle.std.specs.Prelude.{◌≡◌, ℕ, true, false, List, ◌∷◌, ◌++◌, Option, Some}
+use Rattle.fk_model.specs.declared.instruction.Act.{Act}
+use Rattle.fk_model.specs.declared.instruction.Act.TheVariants.{Store}
+use Rattle.fk_model.specs.declared.moves.Ask.{Ask}
 use Rattle.fk_model.specs.declared.moves.Ask.TheVariants as asks
 use Rattle.fk_model.specs.declared.stage.Stage.{Stage}
-use Rattle.fk_model.specs.Places.{Path}
-use Rattle.fk_model.specs.Objects.{Thread, thread_of, and_then}
-use Rattle.fk_model.specs.Objects.Mode.{Calling}
+use Rattle.fk_model.specs.declared.stage.Stage.TheVariants.{Create, Destroy, Rename, Point, GetState, SpaceHold, PageTake, MutexLock, ClientSend, ServerSend, Wait}
+use Rattle.fk_model.specs.Places.{Path, is_within}
+use Rattle.fk_model.specs.Objects.{Mode, Thread, thread_of, and_then}
+use Rattle.fk_model.specs.Objects.Mode.{Running, Calling}
 use Rattle.fk_model.specs.World.{World}
+use Rattle.fk_model.specs.Instructions.{act}
+use Rattle.fk_model.specs.Reach.{reach_word}
+use Rattle.fk_model.specs.Reach.Reach.{Home}
+use Rattle.fk_model.specs.UserRows.{word_at}
 use Rattle.fk_model.specs.Moves.{IsReady}
 use Rattle.fk_model.specs.Valid.{is_fit}
 use Rattle.fk_model.specs.Sound.{IsSound}
@@ -39,3 +47,47 @@ moves x pick = record { mover = x; pick = pick; ask = asks.Run }
 -- the law for every move of a user thread at such a stage, inside the subtree or outside
 abbrev pub StageKeepsCut : (Stage → Type 0) → Type 0
 StageKeepsCut IsSuch = (w : World) (nester : Path) (slot : ℕ) (x : Path) (pick : Option Path) (stage : Stage) → IsSuch stage → IsAtStage w x stage → KeepsCut w nester slot (moves x pick)
+
+-- the law for every move of a user thread inside the subtree that is at such a stage
+abbrev pub StageInsideKeepsCut : (Stage → Type 0) → Type 0
+StageInsideKeepsCut IsSuch = (w : World) (nester : Path) (slot : ℕ) (x : Path) (pick : Option Path) (stage : Stage) → IsSuch stage → is_within (slot ∷ nester) x ≡ true → IsAtStage w x stage → KeepsCut w nester slot (moves x pick)
+
+-- the law for every move of a user thread outside the subtree that is at such a stage
+abbrev pub StageOutsideKeepsCut : (Stage → Type 0) → Type 0
+StageOutsideKeepsCut IsSuch = (w : World) (nester : Path) (slot : ℕ) (x : Path) (pick : Option Path) (stage : Stage) → IsSuch stage → is_within (slot ∷ nester) x ≡ false → IsAtStage w x stage → KeepsCut w nester slot (moves x pick)
+
+-- ---- which stages are meant
+
+abbrev pub IsLock : Stage → Type 0
+IsLock stage = (m : ℕ) × (stage ≡ MutexLock m)
+
+abbrev pub IsCreate : Stage → Type 0
+IsCreate stage = (s : ℕ) × (x : ℕ) × (kind : ℕ) × (stage ≡ Create s x kind)
+
+abbrev pub IsPoint : Stage → Type 0
+IsPoint stage = (s : ℕ) × (x : ℕ) × (s2 : ℕ) × (x2 : ℕ) × (stage ≡ Point s x s2 x2)
+
+abbrev pub IsGetState : Stage → Type 0
+IsGetState stage = (s : ℕ) × (x : ℕ) × (address : ℕ) × (stage ≡ GetState s x address)
+
+abbrev pub IsHold : Stage → Type 0
+IsHold stage = (s : ℕ) × (x : ℕ) × (stage ≡ SpaceHold s x)
+
+abbrev pub IsPageTake : Stage → Type 0
+IsPageTake stage = (s : ℕ) × (page : ℕ) × (address : ℕ) × (stage ≡ PageTake s page address)
+
+abbrev pub IsRename : Stage → Type 0
+IsRename stage = (s : ℕ) × (x : ℕ) × (y : ℕ) × (stage ≡ Rename s x y)
+
+abbrev pub IsDestroy : Stage → Type 0
+IsDestroy stage = (s : ℕ) × (x : ℕ) × (stage ≡ Destroy s x)
+
+-- ---- instructions
+
+-- a running thread stands at x
+abbrev pub IsRunning : World → Path → Type 0
+IsRunning w x = (t : Thread) × (g : List ℕ) × (and_then thread_of (w.body x) ≡ Some t) × (t.mode ≡ Running g)
+
+-- the law for every instruction of a user thread, also for one that stores through a mapping
+abbrev pub InstructionKeepsCut : Type 0
+InstructionKeepsCut = (w : World) (nester : Path) (slot : ℕ) (x : Path) (pick : Option Path) → IsRunning w x → KeepsCut w nester slot (moves x pick)

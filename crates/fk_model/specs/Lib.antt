@@ -46,6 +46,7 @@ pub mod WorkedPorters
 pub mod Image
 pub mod ImageChanges
 pub mod Rebind
+pub mod RebindLaws
 pub mod ImageLaws
 pub mod WorkedInstructions
 pub mod Names

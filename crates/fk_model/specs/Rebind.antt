@@ -5,6 +5,8 @@ use Rattle.fk_model.specs.Places.Ptr.{Null, Dead, At, Out, Outside, Far}
 use Rattle.fk_model.specs.Objects.{Peer}
 use Rattle.fk_model.specs.Objects.Peer.{Server, Service, Parked}
 use Rattle.fk_model.specs.World.{World, Sweep, through}
+use Rattle.fk_model.specs.Further.{Told}
+use Rattle.fk_model.specs.Further.Told.{ToldWords, ToldOver, ToldEnd, ToldFault}
 
 -- slot i of the nester becomes slot `bind i`
 abbrev pub rebound_ptr : (ℕ → ℕ) → Ptr → Ptr
@@ -36,3 +38,10 @@ rebound bind c = record {
   page = c.page;
   next = c.next;
 }
+
+-- what is told names the port by its new name. A move names no port
+abbrev pub rebound_told : (ℕ → ℕ) → Told → Told
+rebound_told bind (ToldWords thread port words) = ToldWords thread (rebound_ptr bind port) words
+rebound_told bind (ToldOver thread port) = ToldOver thread (rebound_ptr bind port)
+rebound_told bind (ToldEnd thread port) = ToldEnd thread (rebound_ptr bind port)
+rebound_told bind (ToldFault thread port page write) = ToldFault thread (rebound_ptr bind port) page write

@@ -28,7 +28,7 @@ use Rattle.fk_model.specs.LinkRows.Candidate.{Faulting, Connecting, Resuming}
 use Rattle.fk_model.specs.Moves.{outcome, porter_at}
 use Rattle.fk_model.specs.Runs.{Event, after}
 use Rattle.fk_model.specs.Frame.{listed}
-use Rattle.fk_model.specs.Cut.{cut}
+use Rattle.fk_model.specs.Cut.{cut, is_inner_peer}
 use Rattle.fk_model.specs.Further.{Touch, Onward}
 use Rattle.fk_model.specs.Further.Touch.{Taken, Given, Filled, Handed, Left, FaultTaken, FaultDone, PageGiven, PageTaken}
 use Rattle.fk_model.specs.Further.Onward.{Own, ByOthers}
@@ -67,10 +67,6 @@ writes_inside root (c ∷ cs) = writes_inside root cs
 abbrev pub only_fills : Path → List Change → Bool
 only_fills root (Alter x (End status answers) ∷ []) = not (is_within root x)
 only_fills root other = false
-
-abbrev pub is_inner_peer : Path → Peer → Bool
-is_inner_peer root (Server (At x)) = is_within root x
-is_inner_peer root other = false
 
 -- a thread inside comes to serve one outside
 abbrev pub serves_outside : Path → List Change → Bool

@@ -6,6 +6,7 @@
 #![tactic(auto)]
 
 mod body;
+pub mod cut_laws;
 mod instruction;
 mod job;
 pub mod laws;
@@ -16,6 +17,7 @@ mod moves;
 mod name;
 mod names;
 mod number;
+pub mod rebind_laws;
 mod stage;
 mod statuses;
 mod text;

@@ -1,0 +1,55 @@
+//! The law of the cut, each kind of move the contract of a function that does nothing: what a move of the world does to a
+//! subtree is what the subtree, seen alone, does by the move as which it is seen.
+ghost use Rattle.fk_model.specs.CutLaws.{InstructionKeepsCut, IsCreate, IsDestroy, IsGetState, IsHold, IsLock, IsPageTake, IsPoint, IsRename, StageInsideKeepsCut, StageKeepsCut, StageOutsideKeepsCut};
+
+/// A thread that makes an instruction, also one that stores through a mapping: inside, the subtree does so by itself;
+/// outside, it sees nothing of it, or no law speaks of it.
+pub fn an_instruction_keeps_the_cut()
+    ensures { InstructionKeepsCut }
+{}
+
+/// A thread that locks a mutex: inside, the subtree does so by itself; outside, it sees nothing of it, or no law speaks of it.
+pub fn a_lock_keeps_the_cut()
+    ensures { StageKeepsCut IsLock }
+{}
+
+/// A thread that creates an object: inside, the subtree does so by itself; outside, it sees nothing of it, or no law speaks of it.
+pub fn a_new_object_keeps_the_cut()
+    ensures { StageKeepsCut IsCreate }
+{}
+
+/// A thread that points a reference at an object: inside, the subtree does so by itself; outside, it sees nothing of it, or no law speaks of it.
+pub fn a_new_pointer_keeps_the_cut()
+    ensures { StageKeepsCut IsPoint }
+{}
+
+/// A thread that reads the record of an object into its memory: inside, the subtree does so by itself; outside, it sees nothing of it, or no law speaks of it.
+pub fn a_read_record_keeps_the_cut()
+    ensures { StageKeepsCut IsGetState }
+{}
+
+/// A thread that holds a space: inside, the subtree does so by itself; outside, it sees nothing of it, or no law speaks of it.
+pub fn a_hold_keeps_the_cut()
+    ensures { StageKeepsCut IsHold }
+{}
+
+/// A thread that takes a page: inside, the subtree does so by itself; outside, the subtree sees that a page of it is taken, or
+/// sees nothing of it, or no law speaks of it.
+pub fn a_taken_page_keeps_the_cut()
+    ensures { StageKeepsCut IsPageTake }
+{}
+
+/// A thread inside that gives an object another slot does so in the subtree by itself.
+pub fn a_new_name_inside_keeps_the_cut()
+    ensures { StageInsideKeepsCut IsRename }
+{}
+
+/// A thread outside that destroys an object: the subtree sees nothing of it and stays plain, or no law speaks of it.
+pub fn a_death_outside_keeps_the_cut()
+    ensures { StageOutsideKeepsCut IsDestroy }
+{}
+
+/// A thread outside that gives an object another slot: the subtree sees nothing of it and stays plain, or no law speaks of it.
+pub fn a_new_name_outside_keeps_the_cut()
+    ensures { StageOutsideKeepsCut IsRename }
+{}
