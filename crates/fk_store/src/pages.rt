@@ -1,9 +1,12 @@
 //! The pages of all spaces.
-ghost use Rattle.std.specs.Prelude.{◌≡◌, OnOk, OnErr, IsSome, IsOk, IfOk};
+ghost use Rattle.std.specs.Prelude.{◌≡◌, T, OnOk, OnErr, IsSome, IsOk, IfOk, IfErr};
 ghost use Rattle.std.specs.Option.{option_copied};
 ghost use Rattle.std.specs.FinMap as map;
+ghost use Rattle.std.specs.FinMap.{is_sorted};
+ghost use Rattle.fk_store.specs.Names.{page_cmp};
+ghost use Rattle.fk_store.specs.Sorted.{IsAt, IsGap, map_of};
 
-use crate::tables::{place_of, take_away, value_of};
+use crate::tables::{place_of, take_away};
 use fk_model::NoMemory;
 use std::alloc::{AllocError, Global};
 use std::marker::Model;
@@ -83,7 +86,7 @@ impl Pages {
     pub fn at(&self, space: u32, page: u8) -> Option<&[u64; 64]>
         ensures { option_copied result ≡ map.get self.now (space, page) }
     {
-        match value_of(&self.entries, (space, page)) {
+        match page_of(&self.entries, space, page) {
             Some(page) => Some(page.words()),
             None => None,
         }
@@ -95,7 +98,7 @@ impl Pages {
         ensures err { OnErr result (self.new ≡ self.old) }
         ensures there { IsSome (map.get self.old (space, page)) → IsOk result }
     {
-        match place_of(&self.entries, (space, page)) {
+        match place_of_page(&self.entries, space, page) {
             Ok(at) => {
                 let there = &mut self.entries[at].1;
                 there.write(words);
@@ -114,4 +117,31 @@ impl Pages {
     {
         take_away(&mut self.entries, (space, page));
     }
+}
+
+/// A page.
+#[inline]
+fn page_of(entries: &[((u32, u8), Page)], space: u32, page: u8) -> Option<&Page>
+    requires { T (is_sorted page_cmp entries.now) }
+    ensures { option_copied result ≡ map.get (map_of page_cmp entries.now) (space, page) }
+{
+    match place_of_page(entries, space, page) {
+        Ok(at) => Some(&entries[at].1),
+        Err(_) => None,
+    }
+}
+
+/// Where a page stands, or where it would go. In the first space, where that has all pages, it is
+/// found at its number.
+#[inline]
+fn place_of_page(entries: &[((u32, u8), Page)], space: u32, page: u8) -> Result<usize, usize>
+    requires { T (is_sorted page_cmp entries.now) }
+    ensures found { IfOk result (IsAt page_cmp entries.now (space, page)) }
+    ensures gap { IfErr result (IsGap page_cmp entries.now (space, page)) }
+{
+    let at = usize::from(page);
+    if at < entries.len() && entries[at].0 == (space, page) {
+        return Ok(at);
+    }
+    place_of(entries, (space, page))
 }

@@ -114,7 +114,10 @@ module _ (m : Contents) (me : Who) (t : threads_of.Thread) (free : is_free_at (w
   may_itself e plain = may_alter (world m) _ _ e plain (free_itself (world m) me.slot (path m me.space) free)
 
   allowed : (e : Effect) → IsTrue (is_allowed m me e) ↔ GoesAllowed (world m) (place (path m) me) (outcome_by m me t e)
-  allowed (effects.Proceeds registers counter mode) = ((λ h. (may_itself _ (record { changed = λ b. refl; made = refl }), tt)), (λ h. refl))
+  allowed (effects.Puts register value) = ((λ h. (may_itself _ (record { changed = λ b. refl; made = refl }), tt)), (λ h. refl))
+  allowed (effects.Jumps counter) = ((λ h. (may_itself _ (record { changed = λ b. refl; made = refl }), tt)), (λ h. refl))
+  allowed (effects.Halts code) = ((λ h. (may_itself _ (record { changed = λ b. refl; made = refl }), tt)), (λ h. refl))
+  allowed effects.Enters = ((λ h. (may_itself _ (record { changed = λ b. refl; made = refl }), tt)), (λ h. refl))
   allowed (effects.Stores space page at value) = by (is_frozen_for (world m) (place (path m) me) (path m space)) refl
     where
       by : (b : Bool) → is_frozen_for (world m) (place (path m) me) (path m space) ≡ b → IsTrue (not b) ↔ GoesAllowed (world m) (place (path m) me) (outcome_by m me t (effects.Stores space page at value))

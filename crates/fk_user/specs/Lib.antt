@@ -1,3 +1,4 @@
 pub mod Built
 pub mod Known
 pub mod Effects
+pub mod Readings

@@ -1,20 +1,21 @@
 //! What an instruction comes to.
-ghost use Rattle.std.specs.Prelude.{◌≡◌, ◌<◌, ◌%◌, ℕ, slice_index, slice_set, is_some, IsSome, IfSome, IfNone};
+ghost use Rattle.std.specs.Prelude.{◌≡◌, ◌<◌, ℕ, is_some, IsSome, IfSome, IfNone};
 ghost use Rattle.fk_model.specs.declared.names.Who.{Who};
 ghost use Rattle.fk_model.specs.Instructions as instructions;
 ghost use Rattle.fk_model.specs.Instructions.{IsAct};
-ghost use Rattle.fk_model.specs.UserRows.{run_row_by, performs, enters, word_at, proceeds, halts_with};
+ghost use Rattle.fk_model.specs.UserRows.{run_row_by, performs, word_at};
 ghost use Rattle.fk_store.specs.Contents.{Contents};
 ghost use Rattle.fk_store.specs.Paths.{path, place};
 ghost use Rattle.fk_store.specs.World.{world};
 ghost use Rattle.fk_user.specs.Effects.{outcome_by, IsEffect};
 ghost use Rattle.fk_user.specs.Known.{known_by, no_calls};
+ghost use Rattle.fk_user.specs.Readings.{read_at, read_by, IsRead};
 
 use fk_isa::{Act, act_of, decode};
 use fk_model::halt::{BAD_ADDRESS, MISSING_PAGE, UNKNOWN_OPERATION};
-use fk_model::limits::PAGE_WORDS;
+use fk_model::limits::{PAGE_WORDS, SPACE_WORDS};
 use fk_model::status::BADCALL;
-use fk_model::{Mode, Thread, Who};
+use fk_model::{Thread, Who};
 use fk_stages::todo;
 use fk_store::{Reach, Store};
 
@@ -30,12 +31,14 @@ pub enum Known {
 /// What an instruction comes to.
 #[derive(Clone, Copy)]
 pub enum Effect {
-    /// The thread goes on.
-    Proceeds {
-        registers: [u64; 16],
-        counter: u64,
-        mode: Mode,
-    },
+    /// A register gets a value, and the next instruction follows.
+    Puts { register: u8, value: u64 },
+    /// The instruction at this counter follows.
+    Jumps { counter: u64 },
+    /// The thread halts where it stands.
+    Halts { code: u8 },
+    /// The thread enters the call that its registers name.
+    Enters,
     /// A word of a page gets a value, and the next instruction follows.
     Stores {
         space: u32,
@@ -45,6 +48,47 @@ pub enum Effect {
     },
     /// A page is missing, and the port of its keeper is told.
     Faults { page: u8, write: bool, port: Who },
+}
+
+/// What is read at an address.
+#[derive(Clone, Copy)]
+enum Reading {
+    Word(u64),
+    /// This page is missing. The port `keeper` takes the faults on it.
+    Absent {
+        page: u8,
+        keeper: Option<Who>,
+    },
+    Nowhere,
+}
+
+/// The word at an address in a page that is there.
+fn word_in(store: &Store, space: u32, page: u8, address: u64) -> u64
+    requires { IsSome ((world store.now).page (path store.now space) page) }
+    ensures { result ≡ word_at (world store.now) (path store.now space) page address }
+{
+    match store.page(space, page) {
+        Some(words) => words[(address % PAGE_WORDS) as usize],
+        None => unreachable!(),
+    }
+}
+
+/// What is read at an address of a space. A page that is there answers at once.
+#[tactic(auto, using(crate::proofs::ReadLaws::read_home))]
+fn read(store: &Store, space: u32, address: u64) -> Reading
+    ensures read { read_by (path store.now) result ≡ read_at (world store.now) (path store.now space) address }
+    ensures live { IsRead store.now result }
+{
+    if address < SPACE_WORDS {
+        if let Some(words) = store.page(space, (address / PAGE_WORDS) as u8) {
+            return Reading::Word(words[(address % PAGE_WORDS) as usize]);
+        }
+    }
+    match store.reach_word(space, address, false) {
+        Reach::Home { space, page } => Reading::Word(word_in(store, space, page, address)),
+        Reach::Missing { page, keeper, .. } => Reading::Absent { page, keeper },
+        Reach::Bad => Reading::Nowhere,
+    }
 }
 
 /// What a word asks for of a thread. An unknown instruction halts.
@@ -60,50 +104,14 @@ fn act(word: u64, thread: &Thread) -> Act
     }
 }
 
-/// The word at an address in a page that is there.
-fn word_in(store: &Store, space: u32, page: u8, address: u64) -> u64
-    requires { IsSome ((world store.now).page (path store.now space) page) }
-    ensures { result ≡ word_at (world store.now) (path store.now space) page address }
-{
-    match store.page(space, page) {
-        Some(words) => words[(address % PAGE_WORDS) as usize],
-        None => unreachable!(),
-    }
-}
-
-/// The thread goes on with a value in a register.
-fn puts(thread: &Thread, register: u8, value: u64) -> Effect
-    requires { register < 16 }
-    ensures { result ≡ Effect.Proceeds (slice_set thread.now.regs register value) (instructions.next thread.now.pc) Mode.Running }
-{
-    let mut registers = thread.regs;
-    registers[register as usize] = value;
-    Effect::Proceeds {
-        registers,
-        counter: thread.pc.wrapping_add(1),
-        mode: Mode::Running,
-    }
-}
-
-/// The thread halts where its counter stands.
-fn halts(thread: &Thread, code: u8) -> Effect
-    ensures { result ≡ Effect.Proceeds thread.now.regs thread.now.pc (Mode.Halted code) }
-{
-    Effect::Proceeds {
-        registers: thread.regs,
-        counter: thread.pc,
-        mode: Mode::Halted(code),
-    }
-}
-
 /// A page is missing: its keeper is told, or the thread halts where nobody keeps it.
-fn misses(thread: &Thread, page: u8, write: bool, keeper: Option<Who>) -> Effect
+fn misses(page: u8, write: bool, keeper: Option<Who>) -> Effect
     ensures kept { IfSome keeper (λ port. result ≡ Effect.Faults page write port) }
-    ensures unkept { IfNone keeper (result ≡ Effect.Proceeds thread.now.regs thread.now.pc (Mode.Halted MISSING_PAGE)) }
+    ensures unkept { IfNone keeper (result ≡ Effect.Halts MISSING_PAGE) }
 {
     match keeper {
         Some(port) => Effect::Faults { page, write, port },
-        None => halts(thread, MISSING_PAGE),
+        None => Effect::Halts { code: MISSING_PAGE },
     }
 }
 
@@ -117,36 +125,16 @@ fn is_known(known: Known, registers: &[u64; 16]) -> bool
     }
 }
 
-/// The thread enters the call that its registers name, or is told that they name none.
-#[tactic(auto, using(crate::proofs::Entries::entered, crate::proofs::Entries::refused))]
-fn enters(thread: &Thread, known: Known) -> Effect
-    ensures outcome { (m : Contents) → (me : Who) → outcome_by m me thread.now result ≡ enters (place (path m) me) thread.now.regs thread.now.pc (known_by known thread.now.regs) }
-    ensures fits { (m : Contents) → IsEffect m result }
-{
-    if is_known(known, &thread.regs) {
-        Effect::Proceeds {
-            registers: thread.regs,
-            counter: thread.pc,
-            mode: Mode::Calling,
-        }
-    } else {
-        puts(thread, 0, u64::from(BADCALL))
-    }
-}
-
 /// A register gets the word at an address.
 fn loads(store: &Store, me: Who, thread: &Thread, register: u8, address: u64) -> Effect
     requires { register < 16 }
     ensures outcome { outcome_by store.now me thread.now result ≡ performs no_calls (world store.now) (path store.now me.space) (place (path store.now) me) thread.now.regs thread.now.pc (Act.Load register address) }
     ensures fits { IsEffect store.now result }
 {
-    match store.reach_word(me.space, address, false) {
-        Reach::Home { space, page } => {
-            let value = word_in(store, space, page, address);
-            puts(thread, register, value)
-        }
-        Reach::Missing { page, keeper, .. } => misses(thread, page, false, keeper),
-        Reach::Bad => halts(thread, BAD_ADDRESS),
+    match read(store, me.space, address) {
+        Reading::Word(value) => Effect::Puts { register, value },
+        Reading::Absent { page, keeper } => misses(page, false, keeper),
+        Reading::Nowhere => Effect::Halts { code: BAD_ADDRESS },
     }
 }
 
@@ -162,28 +150,29 @@ fn stores(store: &Store, me: Who, thread: &Thread, address: u64, value: u64) -> 
             at: (address % PAGE_WORDS) as u8,
             value,
         },
-        Reach::Missing { page, keeper, .. } => misses(thread, page, true, keeper),
-        Reach::Bad => halts(thread, BAD_ADDRESS),
+        Reach::Missing { page, keeper, .. } => misses(page, true, keeper),
+        Reach::Bad => Effect::Halts { code: BAD_ADDRESS },
     }
 }
 
 /// What an act comes to.
+#[tactic(auto, using(crate::proofs::Entries::entered, crate::proofs::Entries::refused))]
 fn performs(store: &Store, me: Who, thread: &Thread, known: Known, act: Act) -> Effect
     requires { IsAct act }
     ensures outcome { outcome_by store.now me thread.now result ≡ performs (known_by known) (world store.now) (path store.now me.space) (place (path store.now) me) thread.now.regs thread.now.pc act }
     ensures fits { IsEffect store.now result }
 {
     match act {
-        Act::Put { register, value } => puts(thread, register, value),
-        Act::Jump { counter } => Effect::Proceeds {
-            registers: thread.regs,
-            counter,
-            mode: Mode::Running,
-        },
+        Act::Put { register, value } => Effect::Puts { register, value },
+        Act::Jump { counter } => Effect::Jumps { counter },
         Act::Load { register, address } => loads(store, me, thread, register, address),
         Act::Store { address, value } => stores(store, me, thread, address, value),
-        Act::Halt { code } => halts(thread, code),
-        Act::Call => enters(thread, known),
+        Act::Halt { code } => Effect::Halts { code },
+        Act::Call if is_known(known, &thread.regs) => Effect::Enters,
+        Act::Call => Effect::Puts {
+            register: 0,
+            value: u64::from(BADCALL),
+        },
     }
 }
 
@@ -193,12 +182,9 @@ pub fn effect_of(store: &Store, me: Who, thread: &Thread, known: Known) -> Effec
     ensures outcome { outcome_by store.now me thread.now result ≡ run_row_by (known_by known) (world store.now) (path store.now me.space) me.slot thread.now.regs thread.now.pc }
     ensures fits { IsEffect store.now result }
 {
-    match store.reach_word(me.space, thread.pc, false) {
-        Reach::Home { space, page } => {
-            let word = word_in(store, space, page, thread.pc);
-            performs(store, me, thread, known, act(word, thread))
-        }
-        Reach::Missing { page, keeper, .. } => misses(thread, page, false, keeper),
-        Reach::Bad => halts(thread, BAD_ADDRESS),
+    match read(store, me.space, thread.pc) {
+        Reading::Word(word) => performs(store, me, thread, known, act(word, thread)),
+        Reading::Absent { page, keeper } => misses(page, false, keeper),
+        Reading::Nowhere => Effect::Halts { code: BAD_ADDRESS },
     }
 }

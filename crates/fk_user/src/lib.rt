@@ -28,7 +28,7 @@ fn is_allowed(store: &Store, me: Who, effect: Effect) -> bool
     ensures { result ≡ is_allowed store.now me effect }
 {
     match effect {
-        Effect::Proceeds { .. } => true,
+        Effect::Puts { .. } | Effect::Jumps { .. } | Effect::Halts { .. } | Effect::Enters => true,
         Effect::Stores { space, .. } => !store.space_frozen_for(me, space),
         Effect::Faults { port, .. } => !store.frozen_for(me, port),
     }
@@ -42,12 +42,18 @@ fn apply(store: &mut Store, me: Who, thread: &Thread, effect: Effect)
     ensures kinds { kind_there (world store.new) ≡ kind_there (world store.old) }
     ensures paths { path store.new ≡ path store.old }
 {
+    let next = thread.pc.wrapping_add(1);
     match effect {
-        Effect::Proceeds {
-            registers,
-            counter,
-            mode,
-        } => store.proceed(me, &registers, counter, mode),
+        Effect::Puts { register, value } => {
+            let mut registers = thread.regs;
+            registers[register as usize] = value;
+            store.proceed(me, &registers, next, Mode::Running);
+        }
+        Effect::Jumps { counter } => store.proceed(me, &thread.regs, counter, Mode::Running),
+        Effect::Halts { code } => {
+            store.proceed(me, &thread.regs, thread.pc, Mode::Halted(code));
+        }
+        Effect::Enters => store.proceed(me, &thread.regs, thread.pc, Mode::Calling),
         Effect::Stores {
             space,
             page,
@@ -55,12 +61,7 @@ fn apply(store: &mut Store, me: Who, thread: &Thread, effect: Effect)
             value,
         } => {
             store.put_word(space, page, at, value);
-            store.proceed(
-                me,
-                &thread.regs,
-                thread.pc.wrapping_add(1),
-                Mode::Running,
-            );
+            store.proceed(me, &thread.regs, next, Mode::Running);
         }
         Effect::Faults { page, write, port } => store.raise(me, page, write, port),
     }
