@@ -93,7 +93,6 @@ words-status g status long = by (todo_of g) refl
 
 -- ---- the end of a call
 
-
 pub ended-calling : (p : ℕ → Path) (t : threads_of.Thread) (status : ℕ) → length t.regs ≡ 16 → t.mode ≡ modes.Calling →
     edited (End status []) (Thread_of (thread_by p t)) ≡ Thread_of (thread_by p (record t { regs = slice_set t.regs 0 status; pc = (t.pc + 1) % 2 ^ 64; mode = modes.Running }))
 unfolding edited

@@ -32,11 +32,18 @@ pub enum Known {
 #[derive(Clone, Copy)]
 pub enum Effect {
     /// A register gets a value, and the next instruction follows.
-    Puts { register: u8, value: u64 },
+    Puts {
+        register: u8,
+        value: u64,
+    },
     /// The instruction at this counter follows.
-    Jumps { counter: u64 },
+    Jumps {
+        counter: u64,
+    },
     /// The thread halts where it stands.
-    Halts { code: u8 },
+    Halts {
+        code: u8,
+    },
     /// The thread enters the call that its registers name.
     Enters,
     /// A word of a page gets a value, and the next instruction follows.
@@ -47,7 +54,11 @@ pub enum Effect {
         value: u64,
     },
     /// A page is missing, and the port of its keeper is told.
-    Faults { page: u8, write: bool, port: Who },
+    Faults {
+        page: u8,
+        write: bool,
+        port: Who,
+    },
 }
 
 /// What is read at an address.
@@ -55,10 +66,7 @@ pub enum Effect {
 enum Reading {
     Word(u64),
     /// This page is missing. The port `keeper` takes the faults on it.
-    Absent {
-        page: u8,
-        keeper: Option<Who>,
-    },
+    Absent { page: u8, keeper: Option<Who> },
     Nowhere,
 }
 
