@@ -8,19 +8,18 @@ ghost use Rattle.fk_model.specs.Worked.{becomes, scene, after_each, IsReadyTo, g
 ghost use Rattle.fk_model.specs.WorkedLocks.{alone_with, division, countdown, two_lock, lock_twice, one_sleeps, sleeps, reads, lets_go, parts, until_stopped, until_signalling, until_signalled, page_with_record, sleeper, caller_and_sleepers, locks_and_sleepers, calls_of, sleeper_and_signaller, none_sleeps, thread_0, thread_1, mutex};
 
 /// A program subtracts past zero, shifts all bits out, and divides by the zero that is left: it
-/// halts with code 1.
-pub fn a_zero_divisor_halts_a_program()
+/// halts with code 1. A loop counts a register down to zero, and then its program halts. The
+/// instruction `call` answers BADCALL where the first register names no call.
+pub fn programs_run_to_their_halt()
     ensures ready { IsLegal (alone_with division) (times 6 (goes thread_0)) }
     ensures halts { (run (alone_with division) (times 6 (goes thread_0))).body thread_0 ≡
         Some (halted 5 (0 ∷ 3 ∷ 5 ∷ 18446744073709551614 ∷ 64 ∷ []) 1) }
-{}
-
-/// A loop counts a register down to zero, and then the program halts.
-pub fn a_loop_ends_at_zero()
-    ensures ready { IsLegal (alone_with countdown) (times 6 (goes thread_0)) }
+    ensures loops { IsLegal (alone_with countdown) (times 6 (goes thread_0)) }
     ensures jumps { (run (alone_with countdown) (times 3 (goes thread_0))).body thread_0 ≡
         Some (running 1 (0 ∷ 1 ∷ [])) }
-    ensures halts { (run (alone_with countdown) (times 6 (goes thread_0))).body thread_0 ≡ Some (halted 3 [] 0) }
+    ensures ends { (run (alone_with countdown) (times 6 (goes thread_0))).body thread_0 ≡ Some (halted 3 [] 0) }
+    ensures enters_none { IsReadyTo (alone_with (0x1400_0000_0000_0000 ∷ [])) (goes thread_0) }
+    ensures no_call { becomes (alone_with (0x1400_0000_0000_0000 ∷ [])) thread_0 ≡ Some (running 1 (1 ∷ [])) }
 {}
 
 /// Two threads lock one mutex. The first has it and goes on; the second stays in its call and isn't
@@ -39,6 +38,7 @@ pub fn one_thread_has_the_mutex_and_the_other_waits()
 
 /// A thread that waits for a condition lets its mutex go and sleeps, also while it is stopped. A
 /// signal turns its call into one that locks the mutex, and that is made once the thread may go on.
+/// Its record shows that it is stopped.
 pub fn a_signal_wakes_a_stopped_sleeper()
     ensures ready { IsLegal one_sleeps (until_signalled ++ (lets_go ++ goes thread_0 ∷ [])) }
     ensures seen { map (scene sleeper_and_signaller) (after_each one_sleeps parts) ≡
@@ -55,12 +55,7 @@ pub fn a_signal_wakes_a_stopped_sleeper()
     ensures sleeps_on { ¬ IsReadyTo (run one_sleeps sleeps) (goes thread_0) }
     ensures no_pick { ¬ IsReadyTo (run one_sleeps until_signalling) (goes thread_1) }
     ensures waits { ¬ IsReadyTo (run one_sleeps until_signalled) (goes thread_0) }
-{}
-
-/// The record of a stopped sleeper: its kind, its registers, its counter, that it calls, and its
-/// stop count.
-pub fn the_record_of_a_stopped_sleeper()
-    ensures { (run one_sleeps (until_stopped ++ reads)).page (1 ∷ []) 2 ≡ Some page_with_record }
+    ensures record { (run one_sleeps (until_stopped ++ reads)).page (1 ∷ []) 2 ≡ Some page_with_record }
 {}
 
 /// A signal that nobody sleeps on is done at once. It has no thread to pick.
@@ -113,10 +108,4 @@ pub fn stop_counts_have_two_ends()
     ensures not_stopped { calls_of (16 ∷ 10 ∷ []) ≡ Some (running 1 (8 ∷ 10 ∷ [])) }
     ensures let_go { (run (locks_and_sleepers (16 ∷ 11 ∷ [])) (goes thread_0 ∷ [])).body (sleeper 11) ≡
         Some (stopped 65534 (calling 40 (25 ∷ 7 ∷ 6 ∷ []))) }
-{}
-
-/// The instruction `call` answers BADCALL where the first register names no call.
-pub fn no_call_is_answered_at_once()
-    ensures ready { IsReadyTo (alone_with (0x1400_0000_0000_0000 ∷ [])) (goes thread_0) }
-    ensures answered { becomes (alone_with (0x1400_0000_0000_0000 ∷ [])) thread_0 ≡ Some (running 1 (1 ∷ [])) }
 {}

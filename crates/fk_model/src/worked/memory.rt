@@ -43,27 +43,20 @@ pub fn the_next_page_is_found()
     ensures none { becomes two_pages (thread 1) ≡ Some (running 1 (16 ∷ 256 ∷ 4 ∷ [])) }
 {}
 
-/// A page is reached by 16 mappings: it is loaded from, and sent from.
-pub fn sixteen_mappings_are_followed()
+/// A page is reached by 16 mappings: it is loaded from, and sent from. Not by 17, nor where it is
+/// mapped to itself: a load halts with code 2, and a send ends BADADDRESS.
+pub fn sixteen_mappings_are_followed_and_no_more()
     ensures ready { IsLegal (chain_to 17) (goes loader ∷ goes sender ∷ []) }
     ensures loads { becomes (chain_to 17) loader ≡ Some (running 1 (0 ∷ 5 ∷ [])) }
     ensures sends { becomes (chain_to 17) sender ≡ Some (with_talk (to_root 1) (running 1 (0 ∷ 0 ∷ 193 ∷ []))) }
     ensures arrives { (run (chain_to 17) (goes sender ∷ [])).page [] 1 ≡ Some (5 ∷ numbers_from 2065 63) }
-{}
-
-/// Not by 17: a load halts with code 2, and a send ends BADADDRESS.
-pub fn seventeen_mappings_are_not_followed()
-    ensures ready { IsLegal (chain_to 18) (goes loader ∷ goes sender ∷ []) }
-    ensures halts { becomes (chain_to 18) loader ≡ Some (halted 0 [] 2) }
-    ensures ends { becomes (chain_to 18) sender ≡
+    ensures ready_at_17 { IsLegal (chain_to 18) (goes loader ∷ goes sender ∷ []) }
+    ensures halts_at_17 { becomes (chain_to 18) loader ≡ Some (halted 0 [] 2) }
+    ensures ends_at_17 { becomes (chain_to 18) sender ≡
         Some (with_talk (to_root 0) (running 1 (12 ∷ 0 ∷ 192 ∷ 1 ∷ []))) }
-{}
-
-/// Nor does a page that is mapped to itself lead anywhere.
-pub fn a_page_mapped_to_itself_is_a_bad_address()
-    ensures ready { IsLegal loop (goes loader ∷ goes sender ∷ []) }
-    ensures halts { becomes loop loader ≡ Some (halted 0 [] 2) }
-    ensures ends { becomes loop sender ≡ Some (with_talk (to_root 0) (running 1 (12 ∷ 0 ∷ 192 ∷ 1 ∷ []))) }
+    ensures ready_in_loop { IsLegal loop (goes loader ∷ goes sender ∷ []) }
+    ensures halts_in_loop { becomes loop loader ≡ Some (halted 0 [] 2) }
+    ensures ends_in_loop { becomes loop sender ≡ Some (with_talk (to_root 0) (running 1 (12 ∷ 0 ∷ 192 ∷ 1 ∷ []))) }
 {}
 
 /// A store to word 5 of page 12 goes through a window from page 10 on, at page 2 of a region from

@@ -95,7 +95,7 @@ pub fn a_space_is_destroyed_stage_by_stage()
 {}
 
 /// A port gets another slot, and each reference to it follows. A slot that is taken is refused, and
-/// a space that has an object in it.
+/// a space that has an object in it. A port stays in its set when that is renamed.
 pub fn references_follow_a_renamed_port()
     ensures ready { IsLegal renaming (goes (renamer 10) ∷ goes (renamer 11) ∷ goes (renamer 12) ∷ []) }
     ensures done { becomes renaming (renamer 10) ≡ Some (running 1 (0 ∷ 256 ∷ 4 ∷ 7 ∷ [])) }
@@ -105,27 +105,19 @@ pub fn references_follow_a_renamed_port()
     ensures occupied { (run renaming (goes (renamer 10) ∷ goes (renamer 11) ∷ [])).body (renamer 11) ≡
         Some (running 1 (4 ∷ 256 ∷ 7 ∷ 5 ∷ [])) }
     ensures not_empty { becomes renaming (renamer 12) ≡ Some (running 1 (17 ∷ 256 ∷ 8 ∷ 9 ∷ [])) }
-{}
-
-/// The set of a port follows its renamed port set.
-pub fn a_port_stays_in_its_renamed_port_set()
-    ensures ready { IsLegal renaming (goes (renamer 13) ∷ []) }
+    ensures ready_set { IsLegal renaming (goes (renamer 13) ∷ []) }
     ensures set { scene port_set_and_port (run renaming (goes (renamer 13) ∷ [])) ≡
         None ∷ Some Portset ∷ Some (Port (Some 21) false) ∷ [] }
 {}
 
 /// With a port its talks and the faults on it are gone, and the calls of both ends of a talk end;
-/// the keeper is dead.
-pub fn what_goes_with_a_port()
+/// the keeper is dead. With a server its talk is gone, and its client's call ends; a fault that it
+/// had taken is raised again. Without its port set a port is in none.
+pub fn talks_and_faults_end_with_what_is_destroyed()
     ensures port { scene_after related_ones (2 ∷ 256 ∷ 3 ∷ []) ≡
         Some server_ended ∷ Some (running 21 (14 ∷ [])) ∷ Some (running 0 [])
         ∷ Some (running 0 []) ∷ Some (kept_by Dead) ∷ [] }
     ensures done { answer_to (2 ∷ 256 ∷ 3 ∷ []) ≡ Some (running 1 (0 ∷ 256 ∷ 3 ∷ [])) }
-{}
-
-/// With a server its talk is gone, and its client's call ends; a fault that it had taken is raised
-/// again. Without its port set a port is in none.
-pub fn what_goes_with_a_server_and_a_port_set()
     ensures server { scene_after related_ones (2 ∷ 256 ∷ 2 ∷ []) ≡
         None ∷ Some (running 21 (14 ∷ [])) ∷ Some (missing_5 root_port None (running 0 []))
         ∷ Some (missing_5 root_port (Some (Server (At helper))) (running 0 []))

@@ -13,18 +13,14 @@ ghost use Rattle.fk_model.specs.Worked.{IsReadyTo, told, makes, running, numbers
 ghost use Rattle.fk_model.specs.WorkedPorters.{porter, subject, port, server, restoring, parked, talk_with, subject_with, subject_missing_5, runs_at_5};
 
 /// A porter is answered directly: with the record of an object and the words of a page, or with a
-/// refusal. It stays as it is.
-pub fn a_porter_is_answered_directly()
+/// refusal. It stays as it is. It gives records and pages themselves.
+pub fn a_porter_gives_and_gets_words_directly()
     ensures ready { IsReadyTo restoring (makes porter (GetState 1 4 0) []) }
     ensures record { told restoring (makes porter (GetState 1 4 0) []) ≡ Answered 0 (1 ∷ 1 ∷ replicate 30 0) }
     ensures page { told restoring (makes porter (PageRead 1 4 0) []) ≡ Answered 0 (numbers_from 1256 64) }
     ensures taken { (run restoring (makes porter (PageTake 1 4 0) [] ∷ [])).page (1 ∷ []) 4 ≡ None }
     ensures denied { told restoring (makes porter (MutexLock 4) []) ≡ Answered 13 [] }
     ensures stays { (run restoring (makes porter (GetState 1 4 0) [] ∷ [])).body porter ≡ restoring.body porter }
-{}
-
-/// A porter gives records and pages themselves.
-pub fn a_porter_gives_words_directly()
     ensures set { (run restoring (makes porter (SetState 1 4 0) (1 ∷ 0 ∷ []) ∷ [])).body (4 ∷ 1 ∷ []) ≡
         Some (Mutex false) }
     ensures running { (run restoring (makes porter (SetState 1 0 0) runs_at_5 ∷ [])).body subject ≡
@@ -34,9 +30,9 @@ pub fn a_porter_gives_words_directly()
     ensures occupied { told restoring (makes porter (PageGive 1 4 0) (numbers_from 5 64)) ≡ Answered 4 [] }
 {}
 
-/// A porter makes a talk again, with a server thread or parked at a port of its own space; not at a
-/// port that another holds.
-pub fn a_porter_restores_talks()
+/// A porter makes a talk again, with a server thread or parked at a port of its own space, and a
+/// fault, raised, taken by a thread, or parked; not at a port that another holds.
+pub fn a_porter_restores_talks_and_faults()
     ensures ready { IsReadyTo restoring (makes porter (LinkSet 1 0 240 241) (1 ∷ 64 ∷ [])) }
     ensures served { (run restoring (makes porter (LinkSet 1 0 240 241) (1 ∷ 64 ∷ []) ∷ [])).body subject ≡
         Some (subject_with (talk_with (Server (At server)) turns.Client 64)) }
@@ -44,18 +40,14 @@ pub fn a_porter_restores_talks()
     ensures held_port { ¬ IsReadyTo restoring (makes porter (LinkSet 1 0 243 241) (1 ∷ 64 ∷ [])) }
     ensures no_port { told restoring (makes porter (LinkPark 1 0 5) (2 ∷ 5 ∷ [])) ≡ Answered 3 [] }
     ensures empty { told restoring (makes porter (LinkPark 1 0 10) (2 ∷ 5 ∷ [])) ≡ Answered 2 [] }
-{}
-
-/// A porter makes a fault again: raised, taken by a thread, or parked at a port of its own space.
-pub fn a_porter_restores_faults()
-    ensures raised { (run restoring (makes porter (FaultSet 1 0 240 256) (5 ∷ 1 ∷ []) ∷ [])).body subject ≡
+    ensures fault_raised { (run restoring (makes porter (FaultSet 1 0 240 256) (5 ∷ 1 ∷ []) ∷ [])).body subject ≡
         Some (subject_missing_5 true None) }
-    ensures held_port { ¬ IsReadyTo restoring (makes porter (FaultSet 1 0 243 256) (5 ∷ 1 ∷ [])) }
-    ensures taken { (run restoring (makes porter (FaultSet 1 0 240 241) (5 ∷ 0 ∷ []) ∷ [])).body subject ≡
+    ensures fault_held { ¬ IsReadyTo restoring (makes porter (FaultSet 1 0 243 256) (5 ∷ 1 ∷ [])) }
+    ensures fault_taken { (run restoring (makes porter (FaultSet 1 0 240 241) (5 ∷ 0 ∷ []) ∷ [])).body subject ≡
         Some (subject_missing_5 false (Some (Server (At server)))) }
-    ensures parked { (run restoring (makes porter (FaultPark 1 0 9 1) (5 ∷ 1 ∷ []) ∷ [])).body subject ≡
+    ensures fault_parked { (run restoring (makes porter (FaultPark 1 0 9 1) (5 ∷ 1 ∷ []) ∷ [])).body subject ≡
         Some (subject_missing_5 true (Some Parked)) }
-    ensures raised_there { (run restoring (makes porter (FaultPark 1 0 9 0) (5 ∷ 1 ∷ []) ∷ [])).body subject ≡
+    ensures fault_raised_there { (run restoring (makes porter (FaultPark 1 0 9 0) (5 ∷ 1 ∷ []) ∷ [])).body subject ≡
         Some (subject_missing_5 true None) }
 {}
 

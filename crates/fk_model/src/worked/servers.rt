@@ -27,17 +27,13 @@ pub fn a_program_sends_words_to_a_native_server()
         Some (with_talk (served turns.Client 0) (running 8 (still_sending 0 198 0))) }
     ensures halts { (run to_console (and_returned ++ goes client ∷ [])).body client ≡
         Some (with_talk (served turns.Client 0) (halted 8 (still_sending 0 198 0) 0)) }
-{}
-
-/// The server is told of its client, of each block as it comes, and of both changes of the turn.
-pub fn a_native_server_is_told_of_its_talk()
-    ensures taken { told (run to_console entered) (accepts port client) ≡
+    ensures told_taken { told (run to_console entered) (accepts port client) ≡
         Taken (At port) client false turns.Client 0 }
-    ensures first { told (run to_console and_accepted) (goes client) ≡ Words (At port) (replicate 64 0) }
-    ensures second { told (run to_console and_sent_one) (goes client) ≡
+    ensures told_first { told (run to_console and_accepted) (goes client) ≡ Words (At port) (replicate 64 0) }
+    ensures told_second { told (run to_console and_sent_one) (goes client) ≡
         Words (At port) (7 ∷ 0 ∷ 0 ∷ 0 ∷ 0 ∷ 0 ∷ []) }
-    ensures turned { told (run to_console and_sent_two) (goes client) ≡ Passed (At port) }
-    ensures returned { told (run to_console and_turned) (hands_over port) ≡ Passed (At port) }
+    ensures told_turned { told (run to_console and_sent_two) (goes client) ≡ Passed (At port) }
+    ensures told_returned { told (run to_console and_turned) (hands_over port) ≡ Passed (At port) }
 {}
 
 /// A native server gives its reply into its client's page. A client without room is ended with

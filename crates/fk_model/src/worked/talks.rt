@@ -10,28 +10,18 @@ ghost use Rattle.fk_model.specs.Worked.{becomes, scene, after_each, IsReadyTo, w
 ghost use Rattle.fk_model.specs.WorkedTalks.{client, server, clients_turn, servers_turn, sending, receiving, message, sent, ends_at, left, sent_all, both_ends, sent_to_few, linked_in, unlinked_in, reader, second_reader, watched, sent_and_read, keeper, kept, sent_5, received_5, missed_5, arrives, misses, parts, talkers_and_keeper, until_mended, meeting, replying, ending, waiting, waited_for, receives_10, taken_fault, picked, still_serving};
 
 /// A message of 130 words goes in five moves: none moves more words than a page, of either side,
-/// has left from the address on. Both sides' registers say at any time what is left.
+/// has left from the address on. Both sides' registers say at any time what is left, as if they had
+/// called with it; the talk counts the words.
 pub fn a_message_moves_block_by_block()
     ensures ready { IsLegal (message 182 130 315 200) (times 5 (goes client)) }
     ensures start { ends_at (message 182 130 315 200) ≡ left 182 130 315 200 }
     ensures moves { map ends_at (after_each (message 182 130 315 200) (replicate 4 (goes client ∷ []))) ≡
-        left 187 125 320 195
-        ∷ left 192 120 325 190
-        ∷ left 251 61 384 131
-        ∷ left 256 56 389 126
-        ∷ [] }
-    ensures sent { ends_at (sent 5) ≡
-        (registers_from sent_all, registers_from (receiving 445 70)) }
-{}
-
-/// Between two moves the client and the server are as if they had called with what is left. The
-/// talk counts the words.
-pub fn a_message_can_be_taken_up_between_two_moves()
+        left 187 125 320 195 ∷ left 192 120 325 190 ∷ left 251 61 384 131 ∷ left 256 56 389 126 ∷ [] }
+    ensures sent { ends_at (sent 5) ≡ (registers_from sent_all, registers_from (receiving 445 70)) }
     ensures between { scene both_ends (sent 3) ≡
         Some (with_talk (clients_turn 69) (calling 20 (sending 251 61)))
         ∷ Some (calling 30 (receiving 384 131)) ∷ [] }
-    ensures sent { (sent 5).body client ≡
-        Some (with_talk (clients_turn 130) (calling 20 sent_all)) }
+    ensures all_sent { (sent 5).body client ≡ Some (with_talk (clients_turn 130) (calling 20 sent_all)) }
 {}
 
 /// The words of a message arrive in their order, and no other word of a page changes.
@@ -100,8 +90,7 @@ pub fn a_message_waits_until_its_keeper_gives_the_page()
     ensures ready { IsLegal kept (until_mended ++ times 4 (goes client)) }
     ensures seen { map (scene talkers_and_keeper) (after_each kept parts) ≡
         (Some sent_5 ∷ Some received_5 ∷ Some (running 0 []) ∷ [])
-        ∷ (Some sent_5 ∷ Some (with_fault (missed_5 None) received_5) ∷ Some (running 0 [])
-        ∷ [])
+        ∷ (Some sent_5 ∷ Some (with_fault (missed_5 None) received_5) ∷ Some (running 0 []) ∷ [])
         ∷ (Some sent_5 ∷ Some (with_fault (missed_5 (Some (Server (At keeper)))) received_5)
         ∷ Some (running 3 (0 ∷ 9 ∷ 1 ∷ 5 ∷ 1 ∷ [])) ∷ [])
         ∷ (Some sent_5 ∷ Some received_5
@@ -111,12 +100,8 @@ pub fn a_message_waits_until_its_keeper_gives_the_page()
     ensures faulty { ¬ IsReadyTo (run kept (arrives ++ misses)) (goes server) }
     ensures given { (run kept until_mended).page (2 ∷ []) 5 ≡ Some (replicate 64 0) }
     ensures goes_on { map ends_at (after_each kept (until_mended ∷ replicate 4 (goes client ∷ []))) ≡
-        left 187 125 320 195
-        ∷ left 192 120 325 190
-        ∷ left 251 61 384 131
-        ∷ left 256 56 389 126
-        ∷ (registers_from sent_all, registers_from (receiving 445 70))
-        ∷ [] }
+        left 187 125 320 195 ∷ left 192 120 325 190 ∷ left 251 61 384 131 ∷ left 256 56 389 126
+        ∷ (registers_from sent_all, registers_from (receiving 445 70)) ∷ [] }
     ensures words { (run kept (until_mended ++ times 4 (goes client))).page (2 ∷ []) 5 ≡
         Some (numbers_from 1187 64) }
 {}
@@ -156,7 +141,8 @@ pub fn the_end_of_a_talk_ends_the_other_sides_call()
 {}
 
 /// A wait takes up a parked talk, a raised fault also of a stopped thread, and a parked fault; its
-/// whole call ends, and the answers say what there is to know.
+/// whole call ends, and the answers say what there is to know. It takes no fault that is taken, and
+/// no talk or call of a stopped thread. A server that serves doesn't wait.
 pub fn a_wait_takes_faults_and_parked_talks()
     ensures ready { IsReadyTo waiting (picks server (waited_for 10))
         × (IsReadyTo waiting (picks server (waited_for 11))
@@ -170,13 +156,8 @@ pub fn a_wait_takes_faults_and_parked_talks()
     ensures parked { scene (server ∷ waited_for 12 ∷ []) (picked 12) ≡
         Some (running 31 (0 ∷ 3 ∷ 3 ∷ 6 ∷ 0 ∷ 200 ∷ []))
         ∷ Some (with_fault (taken_fault 6 false) (running 0 [])) ∷ [] }
-{}
-
-/// A wait takes no fault that is taken, and no talk or call of a stopped thread. A server that
-/// serves doesn't wait.
-pub fn a_wait_takes_nothing_else()
-    ensures taken { ¬ IsReadyTo waiting (picks server (waited_for 13)) }
-    ensures stopped { ¬ IsReadyTo waiting (picks server (waited_for 14)) }
+    ensures not_taken { ¬ IsReadyTo waiting (picks server (waited_for 13)) }
+    ensures not_stopped { ¬ IsReadyTo waiting (picks server (waited_for 14)) }
     ensures connecting { ¬ IsReadyTo waiting (picks server (waited_for 15)) }
     ensures serving { becomes still_serving server ≡ Some (running 31 (11 ∷ 8 ∷ [])) }
     ensures no_pick { ¬ IsReadyTo still_serving (picks server client) }

@@ -9,3 +9,7 @@ use Rattle.fk_model.proofs.worked.objects.references_follow_a_renamed_port.Goals
 pub returns-clause-ready : goal.returns-clause-ready
 unfolding objects
 returns-clause-ready c = legal-unheld renaming (goes (renamer 10) ∷ goes (renamer 11) ∷ goes (renamer 12) ∷ []) (list-unheld (([], Space 0 None) ∷ to_rename) refl) refl
+
+pub returns-clause-ready_set : goal.returns-clause-ready_set
+unfolding objects
+returns-clause-ready_set c = legal-unheld renaming (goes (renamer 13) ∷ []) (list-unheld (([], Space 0 None) ∷ to_rename) refl) refl
