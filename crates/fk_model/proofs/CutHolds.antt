@@ -214,9 +214,9 @@ module _ {root : Path} {see : Ptr → Ptr} {small big : World} (image : IsImage 
       by_sweep (is_swept x (j ∷ z) (small.body (j ∷ z))) (is_swept (x ++ root) (j ∷ (z ++ root)) (big.body (j ∷ (z ++ root)))) _ (not (is_frozen_for big (me ++ root) (j ∷ (z ++ root))) && are_unfrozen big (me ++ root) (lost_with (x ++ root) (big.body (j ∷ (z ++ root)))))
       (λ off. rw (image.bodies (j ∷ z)) (swept_off x j z (big.body (j ∷ (z ++ root))) (image.plain j z) off))
       (λ both.
-          let parts = and_parts (not (is_frozen_for big (me ++ root) (j ∷ (z ++ root)))) _ both in
-          and_from _ _ (ap not (object (j ∷ z) (not_off _ parts.0)))
-          (unfrozen (lost_with x (small.body (j ∷ z))) (lost_with (x ++ root) (big.body (j ∷ (z ++ root)))) (λ off. rw (image.bodies (j ∷ z)) (lost_off x j z (big.body (j ∷ (z ++ root))) (image.plain j z) off)) parts.1))
+      let parts = and_parts (not (is_frozen_for big (me ++ root) (j ∷ (z ++ root)))) _ both in
+      and_from _ _ (ap not (object (j ∷ z) (not_off _ parts.0)))
+      (unfrozen (lost_with x (small.body (j ∷ z))) (lost_with (x ++ root) (big.body (j ∷ (z ++ root)))) (λ off. rw (image.bodies (j ∷ z)) (lost_off x j z (big.body (j ∷ (z ++ root))) (image.plain j z) off)) parts.1))
       (may (j ∷ (z ++ root)))
 
   may_follow-image : (x q : Path) → ((z : Path) → may_follow big (me ++ root) (x ++ root) z ≡ true) → may_follow small me x q ≡ true

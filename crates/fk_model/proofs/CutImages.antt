@@ -95,11 +95,11 @@ module _ {root : Path} {see : Ptr → Ptr} {small big : World} (image : IsImage 
       (λ near far. refuse-image image status.HELD (is_frozen_for small (path_of c) space) (is_frozen_for big (path_of (under root c)) (space ++ root)) _ _ (is_frozen_for-image image free (c.slot ∷ c.space) space)
       (λ unheld. refuse-image image status.DENIED (is_within (x ∷ space) c.space) (is_within (x ∷ (space ++ root)) (c.space ++ root)) _ _ (sym (is_within_inside root (x ∷ space) c.space))
       (λ apart. same_when image
-          (not (is_held_by_other small (path_of c) (x ∷ space)) && not (list_any (has_porter small) (beneath small (x ∷ space))))
-          (not (is_held_by_other big (path_of (under root c)) (x ∷ (space ++ root))) && not (list_any (has_porter big) (beneath big (x ∷ (space ++ root))))) _ _
-          (rw (is_held_by_other-image image (c.slot ∷ c.space) x space, any_beneath-image image (has_porter small) (has_porter big) has_porter-image (x ∷ space)) refl)
-          (done-image image c _ _ []
-              (Both (Alters x space _ (SetHolder (Some (At (c.slot ∷ (c.space ++ root))))) (ap (λ (p : Ptr). SetHolder (Some p)) (sym (image.within (c.slot ∷ c.space)))) (rw (image.within (c.slot ∷ c.space)) (Inside (c.slot ∷ c.space)))) Empty))))))
+      (not (is_held_by_other small (path_of c) (x ∷ space)) && not (list_any (has_porter small) (beneath small (x ∷ space))))
+      (not (is_held_by_other big (path_of (under root c)) (x ∷ (space ++ root))) && not (list_any (has_porter big) (beneath big (x ∷ (space ++ root))))) _ _
+      (rw (is_held_by_other-image image (c.slot ∷ c.space) x space, any_beneath-image image (has_porter small) (has_porter big) has_porter-image (x ∷ space)) refl)
+      (done-image image c _ _ []
+      (Both (Alters x space _ (SetHolder (Some (At (c.slot ∷ (c.space ++ root))))) (ap (λ (p : Ptr). SetHolder (Some p)) (sym (image.within (c.slot ∷ c.space)))) (rw (image.within (c.slot ∷ c.space)) (Inside (c.slot ∷ c.space)))) Empty))))))
 
   -- ---- a reference
 

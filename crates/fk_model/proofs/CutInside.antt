@@ -194,9 +194,10 @@ module _ (w : World) (nester : Path) (slot : ℕ) (plain : IsPlain w nester slot
   pub has_gone : (p : Option Path) (n : ℕ) (near far : Outcome) → is_frozen w root ≡ false → AlikeHere near far → AreQuiet root (listed far) → GoesAllowed w me far → HasGone (Own (k ∷ q) p n) near far
   has_gone p n (Goes cs said) (Goes ds told) free h quiet ready =
       let image = cut-image w nester slot plain in
-      let cuts = cut-changes w nester slot cs ds plain h in
-      ( image-plain (apply_all ds w) (apply_all cs small) see nester slot (changes-image small w cs ds h image) cuts (changes-clear root w ds quiet (clear-plain w nester slot plain))
-      , (told_by small (Own (k ∷ q) p n) cs said, (changes-allowed image free (k ∷ q) w cs ds h ready, refl, cuts)))
+      let cuts = cut-changes w nester slot cs ds plain h in (
+        image-plain (apply_all ds w) (apply_all cs small) see nester slot (changes-image small w cs ds h image) cuts (changes-clear root w ds quiet (clear-plain w nester slot plain)),
+        (told_by small (Own (k ∷ q) p n) cs said, (changes-allowed image free (k ∷ q) w cs ds h ready, refl, cuts)),
+      )
   has_gone p n near Waits free h quiet ready = absurd ready
   has_gone p n near (Refused status) free h quiet ready = absurd ready
   has_gone p n (Refused status) (Goes ds told) free h quiet ready = absurd h

@@ -56,9 +56,10 @@ pub has_touched : (w : World) (nester : Path) (slot : ℕ) → IsPlain w nester 
     IsPlain (apply_all ds w) nester slot × ((told : List Told) × IsOnward (cut w nester slot) (ByOthers touch) told (cut (apply_all ds w) nester slot))
 unfolding onward_row
 has_touched w nester slot plain touch cs ds said row h quiet =
-    let cuts = cut-changes w nester slot cs ds plain h in
-    ( image-plain (apply_all ds w) (apply_all cs (cut w nester slot)) (cut_ptr (ports_of w nester slot) nester slot) nester slot (changes-image (cut w nester slot) w cs ds h (cut-image w nester slot plain)) cuts (changes-clear (slot ∷ nester) w ds quiet (clear-plain w nester slot plain))
-    , ([], rw row (tt, refl, cuts)))
+    let cuts = cut-changes w nester slot cs ds plain h in (
+      image-plain (apply_all ds w) (apply_all cs (cut w nester slot)) (cut_ptr (ports_of w nester slot) nester slot) nester slot (changes-image (cut w nester slot) w cs ds h (cut-image w nester slot plain)) cuts (changes-clear (slot ∷ nester) w ds quiet (clear-plain w nester slot plain)),
+      ([], rw row (tt, refl, cuts)),
+    )
 
 -- ---- what the row of a page that is taken comes to
 

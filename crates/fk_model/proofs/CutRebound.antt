@@ -172,10 +172,11 @@ module _ (bind : ℕ → ℕ) (c : World) (world : IsCutWorld c) (k : ℕ) (q : 
       let world_now : IsCutWorld now = changes-image c c ds ds again world in
       let same : rebound bind now ≡ apply_all cs (rebound bind c) = same_image [] (rebound_ptr bind) (rebound bind now) (apply_all cs (rebound bind c)) now (rebound-image bind (λ p. p) [] now now world_now) (changes-image (rebound bind c) c cs ds h image_of) in
       let heard : List Told = flat_map (told_by_change c) ds in
-      let hears : List Told = flat_map (told_by_change (rebound bind c)) cs in
-      ( changes-allowed image_of (top_free c world) (k ∷ q) c cs ds h (subst (λ (y : Path). AreAllowed c (k ∷ y) ds) (sym (append-nil q)) onward.0)
-      , ap (map (rebound_told bind)) (onward.1 ∙ ap (λ (l : List Told). heard ++ l) silent ∙ append-nil heard) ∙ sym (changes_told bind c image_of c cs ds h) ∙ sym (append-nil hears) ∙ ap (λ (l : List Told). hears ++ l) (sym hushed)
-      , ap (rebound bind) onward.2 ∙ same)
+      let hears : List Told = flat_map (told_by_change (rebound bind c)) cs in (
+        changes-allowed image_of (top_free c world) (k ∷ q) c cs ds h (subst (λ (y : Path). AreAllowed c (k ∷ y) ds) (sym (append-nil q)) onward.0),
+        ap (map (rebound_told bind)) (onward.1 ∙ ap (λ (l : List Told). heard ++ l) silent ∙ append-nil heard) ∙ sym (changes_told bind c image_of c cs ds h) ∙ sym (append-nil hears) ∙ ap (λ (l : List Told). hears ++ l) (sym hushed),
+        ap (rebound bind) onward.2 ∙ same,
+      )
   gone_anew p n near Waits h again hushed silent told later onward = absurd onward
   gone_anew p n near (Refused status) h again hushed silent told later onward = absurd onward
   gone_anew p n (Refused status) (Goes ds said) h again hushed silent told later onward = absurd h
@@ -223,10 +224,10 @@ row_anew bind c world k q p n t row far_is near_by is alike quiet told later onw
     let near_is : onward_row (rebound bind c) (Own (k ∷ q) p n) ≡ near = near_by (thread_named see c (rebound bind c) (k ∷ q) image t is) in
     subst (λ (o : Outcome). OnwardTo (rebound bind c) (Own (k ∷ q) p n) o (map (rebound_told bind) told) (rebound bind later)) (sym near_is)
     (gone_anew bind c world k q p n near far
-        (when_same image (is_free (rebound bind c) q (seen_thread see t)) (is_free c q t) (row (rebound bind c)) (row c) (is_free-image image free q t ∙ ap (λ (y : Path). is_free c y t) (append-nil q)) (alike see (rebound bind c) image))
-        (when_same world (is_free c q t) (is_free c q t) (row c) (row c) refl (alike (λ p. p) c world))
-        ((quiet-when [] (is_free (rebound bind c) q (seen_thread see t)) (row (rebound bind c)) (quiet (rebound bind c))).mute (k ∷ q)) ((quiet-when [] (is_free c q t) (row c) (quiet c)).mute (k ∷ q)) told later
-        (subst (λ (o : Outcome). OnwardTo c (Own (k ∷ q) p n) o told later) far_is onward))
+    (when_same image (is_free (rebound bind c) q (seen_thread see t)) (is_free c q t) (row (rebound bind c)) (row c) (is_free-image image free q t ∙ ap (λ (y : Path). is_free c y t) (append-nil q)) (alike see (rebound bind c) image))
+    (when_same world (is_free c q t) (is_free c q t) (row c) (row c) refl (alike (λ p. p) c world))
+    ((quiet-when [] (is_free (rebound bind c) q (seen_thread see t)) (row (rebound bind c)) (quiet (rebound bind c))).mute (k ∷ q)) ((quiet-when [] (is_free c q t) (row c) (quiet c)).mute (k ∷ q)) told later
+    (subst (λ (o : Outcome). OnwardTo c (Own (k ∷ q) p n) o told later) far_is onward))
 
 pub own_rebinds : (IsSuch : Stage → Type 0) → ((stage : Stage) → IsSuch stage → IsOwn stage) → StageRebinds IsSuch
 own_rebinds IsSuch inner c [] p n stage such at bind told later world onward = absurd (no_thread at.0 (c.body []) (root_seen world) at.3)

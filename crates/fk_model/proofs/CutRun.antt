@@ -86,7 +86,7 @@ module _ (w : World) (nester : Path) (slot : ℕ) (plain : IsPlain w nester slot
   alike mode e p n same =
       let image = cut-image w nester slot plain in
       let runs : Alike (goes_on small (k ∷ q) p (seen_thread see at.0) (Running at.1)) (goes_on w (k ∷ (q ++ slot ∷ nester)) pick at.0 (Running at.1)) =
-          with_pick-image image false p pick (run_row small q k at.1 at.0.counter) (run_row w (q ++ slot ∷ nester) k at.1 at.0.counter) same (run_row-image image q k at.1 at.0.counter) in
+      with_pick-image image false p pick (run_row small q k at.1 at.0.counter) (run_row w (q ++ slot ∷ nester) k at.1 at.0.counter) same (run_row-image image q k at.1 at.0.counter) in
       rw e (runs, runs)
 
   inside : KeepsCut w nester slot (moves (k ∷ (q ++ slot ∷ nester)) pick)
@@ -119,6 +119,6 @@ instruction_rebinds c (k ∷ q) p n at bind told later world onward =
     (λ is. run_is (rebound bind c) k q p n (seen_thread (rebound_ptr bind) at.0) at.1 is at.3)
     at.2
     (λ see small image. with_pick-image image false p p (run_row small q k at.1 at.0.counter) (run_row c q k at.1 at.0.counter) refl
-        (subst (λ (y : Path). IsImageOutcome [] see c (run_row small q k at.1 at.0.counter) (run_row c y k at.1 at.0.counter)) (append-nil q) (run_row-image image q k at.1 at.0.counter)))
+    (subst (λ (y : Path). IsImageOutcome [] see c (run_row small q k at.1 at.0.counter) (run_row c y k at.1 at.0.counter)) (append-nil q) (run_row-image image q k at.1 at.0.counter)))
     (λ w. quiet-with_pick [] false p (run_row w q k at.1 at.0.counter) (quiet-run [] w q k at.1 at.0.counter))
     told later onward
