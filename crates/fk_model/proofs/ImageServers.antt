@@ -343,8 +343,8 @@ module _ (w : World) (nester : Path) (slot : ℕ) (valid : IsValid w) (plain : I
       by false e = refl
       by true e =
           let peer = serves_is (x ++ slot ∷ nester) talk.peer e in
-          let good = good_talk (kind_there w) (k ∷ (q ++ slot ∷ nester)) (w.body (k ∷ (q ++ slot ∷ nester))) talk (valid.good (k ∷ (q ++ slot ∷ nester))) is in
-          absurd (near_nester talk.port x out (valid.talks_near (k ∷ (q ++ slot ∷ nester)) talk (At (x ++ slot ∷ nester)) is peer) (rw peer at (and_parts (leads_there (kind_there w) (kinds.Port ∷ []) talk.port) (is_good_peer (kind_there w) talk.peer) good).1))
+          let good = good_talk (kind_there w) (k ∷ (q ++ slot ∷ nester)) (w.body (k ∷ (q ++ slot ∷ nester))) talk (valid.consistent.good (k ∷ (q ++ slot ∷ nester))) is in
+          absurd (near_nester talk.port x out (valid.consistent.talks_near (k ∷ (q ++ slot ∷ nester)) talk (At (x ++ slot ∷ nester)) is peer) (rw peer at (and_parts (leads_there (kind_there w) (kinds.Port ∷ []) talk.port) (is_good_peer (kind_there w) talk.peer) good).1))
 
   cut_apart_fault : (x : Path) (k : ℕ) (q : Path) (fault : Fault) (taker : Peer) → fault_at w (k ∷ (q ++ slot ∷ nester)) ≡ Some fault → is_out (cut_ptr (ports_of w nester slot) nester slot fault.port) ≡ true → fault.taker ≡ Some taker → serves (x ++ slot ∷ nester) taker ≡ false
   cut_apart_fault x k q fault taker is out took = by (serves (x ++ slot ∷ nester) taker) refl
@@ -353,14 +353,14 @@ module _ (w : World) (nester : Path) (slot : ℕ) (valid : IsValid w) (plain : I
       by false e = refl
       by true e =
           let peer = took ∙ ap Some (serves_is (x ++ slot ∷ nester) taker e) in
-          let good = good_fault (kind_there w) (k ∷ (q ++ slot ∷ nester)) (w.body (k ∷ (q ++ slot ∷ nester))) fault (valid.good (k ∷ (q ++ slot ∷ nester))) is in
-          absurd (near_nester fault.port x out (valid.faults_near (k ∷ (q ++ slot ∷ nester)) fault (At (x ++ slot ∷ nester)) is peer) (rw peer at (and_parts (leads_there (kind_there w) (kinds.Port ∷ []) fault.port) (all_in (is_good_peer (kind_there w)) fault.taker) good).1))
+          let good = good_fault (kind_there w) (k ∷ (q ++ slot ∷ nester)) (w.body (k ∷ (q ++ slot ∷ nester))) fault (valid.consistent.good (k ∷ (q ++ slot ∷ nester))) is in
+          absurd (near_nester fault.port x out (valid.consistent.faults_near (k ∷ (q ++ slot ∷ nester)) fault (At (x ++ slot ∷ nester)) is peer) (rw peer at (and_parts (leads_there (kind_there w) (kinds.Port ∷ []) fault.port) (all_in (is_good_peer (kind_there w)) fault.taker) good).1))
 
   pub cut-apart : IsApart (slot ∷ nester) (cut_ptr (ports_of w nester slot) nester slot) w
   cut-apart = record { talks = λ k q talk is out x. cut_apart_talk x k q talk is out; faults = λ k q fault taker is out took x. cut_apart_fault x k q fault taker is out took }
 
   pub cut-served : IsWalked w → IsServedAlike (slot ∷ nester) (cut_ptr (ports_of w nester slot) nester slot) w
-  cut-served walked = record { walked = walked; apart = cut-apart; one = valid.one_service; inside = plain.served_inside }
+  cut-served walked = record { walked = walked; apart = cut-apart; one = valid.consistent.one_service; inside = plain.served_inside }
 
 -- ---- an image, and a rebinding of it
 
