@@ -154,7 +154,7 @@ call_closed w x p stage = closed_again x _
 
 -- ---- a thread inside
 
-thread_seen : (see : Ptr → Ptr) (k : ℕ) (q : Path) (v : Option Body) (t : Thread) → and_then thread_of v ≡ Some t → and_then thread_of (option_map (λ b. unheld (k ∷ q) (seen_by (seeing see) b)) v) ≡ Some (seen_thread see t)
+pub thread_seen : (see : Ptr → Ptr) (k : ℕ) (q : Path) (v : Option Body) (t : Thread) → and_then thread_of v ≡ Some t → and_then thread_of (option_map (λ b. unheld (k ∷ q) (seen_by (seeing see) b)) v) ≡ Some (seen_thread see t)
 unfolding seen_by
 thread_seen see k q (Some (Thread_of u)) t h = ap (option_map (seen_thread see)) h
 thread_seen see k q (Some (Mutex locked)) t h = cc

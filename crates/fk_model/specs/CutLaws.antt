@@ -91,3 +91,9 @@ IsRunning w x = (t : Thread) × (g : List ℕ) × (and_then thread_of (w.body x)
 -- the law for every instruction of a user thread, also for one that stores through a mapping
 abbrev pub InstructionKeepsCut : Type 0
 InstructionKeepsCut = (w : World) (nester : Path) (slot : ℕ) (x : Path) (pick : Option Path) → IsRunning w x → KeepsCut w nester slot (moves x pick)
+
+-- ---- native servers
+
+-- the law for every accept of a native server
+abbrev pub AcceptKeepsCut : Type 0
+AcceptKeepsCut = (w : World) (nester : Path) (slot : ℕ) (port : Path) (pick : Option Path) → KeepsCut w nester slot (record { mover = port; pick = pick; ask = asks.Accept })

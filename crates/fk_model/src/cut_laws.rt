@@ -1,6 +1,6 @@
 //! The law of the cut, each kind of move the contract of a function that does nothing: what a move of the world does to a
 //! subtree is what the subtree, seen alone, does by the move as which it is seen.
-ghost use Rattle.fk_model.specs.CutLaws.{InstructionKeepsCut, IsCreate, IsDestroy, IsGetState, IsHold, IsLock, IsPageTake, IsPoint, IsRename, StageInsideKeepsCut, StageKeepsCut, StageOutsideKeepsCut};
+ghost use Rattle.fk_model.specs.CutLaws.{AcceptKeepsCut, InstructionKeepsCut, IsCreate, IsDestroy, IsGetState, IsHold, IsLock, IsPageTake, IsPoint, IsRename, StageInsideKeepsCut, StageKeepsCut, StageOutsideKeepsCut};
 
 /// A thread that makes an instruction, also one that stores through a mapping: inside, the subtree does so by itself;
 /// outside, it sees nothing of it, or no law speaks of it.
@@ -52,4 +52,10 @@ pub fn a_death_outside_keeps_the_cut()
 /// A thread outside that gives an object another slot: the subtree sees nothing of it and stays plain, or no law speaks of it.
 pub fn a_new_name_outside_keeps_the_cut()
     ensures { StageOutsideKeepsCut IsRename }
+{}
+
+/// A native server that accepts a thread: the subtree sees that its thread is taken at its Connect, or sees nothing of it, or no
+/// law speaks of it.
+pub fn an_accept_keeps_the_cut()
+    ensures { AcceptKeepsCut }
 {}
