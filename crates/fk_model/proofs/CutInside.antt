@@ -188,7 +188,7 @@ module _ (w : World) (nester : Path) (slot : ℕ) (plain : IsPlain w nester slot
   AlikeHere = IsImageOutcome root see w
 
   -- what the cut does after its row, and the world after its own
-  abbrev HasGone : Onward → Outcome → Outcome → Type 0
+  abbrev pub HasGone : Onward → Outcome → Outcome → Type 0
   HasGone m near far = IsPlain (stepped w far).world nester slot × ((told : List Told) × OnwardTo small m near told (cut (stepped w far).world nester slot))
 
   pub has_gone : (p : Option Path) (n : ℕ) (near far : Outcome) → is_frozen w root ≡ false → AlikeHere near far → AreQuiet root (listed far) → GoesAllowed w me far → HasGone (Own (k ∷ q) p n) near far
@@ -221,7 +221,7 @@ module _ (w : World) (nester : Path) (slot : ℕ) (plain : IsPlain w nester slot
         (either_way root see w (talks_outside small (k ∷ q) && is_none p) (is_free small q (seen_thread see t)) _ _ far (is_free-image image free q t ∙ e) both.0 both.1)
         quiet ready
 
-    seen_is : thread_in small (k ∷ q) ≡ Some (seen_thread see t)
+    pub seen_is : thread_in small (k ∷ q) ≡ Some (seen_thread see t)
     seen_is = rw ((cut-image w nester slot plain).bodies (k ∷ q)) (thread_seen see k q (w.body me) t is)
 
     pub move_alike : (p : Option Path) (n : ℕ) → (is_frozen w root ≡ false → IsAlikeBy p n) → AreQuiet root (listed far) → IsReady w me pick asks.Run →
@@ -234,12 +234,12 @@ module _ (w : World) (nester : Path) (slot : ℕ) (plain : IsPlain w nester slot
 
     -- ---- how it is seen
 
-    own_form : (test : Bool) (n : ℕ) (r : Option (Option Path)) (m : Onward) → cond test None (option_map (λ (p : Option Path). Own (k ∷ q) p n) r) ≡ Some m → (p : Option Path) × (r ≡ Some p) × (m ≡ Own (k ∷ q) p n)
+    pub own_form : (test : Bool) (n : ℕ) (r : Option (Option Path)) (m : Onward) → cond test None (option_map (λ (p : Option Path). Own (k ∷ q) p n) r) ≡ Some m → (p : Option Path) × (r ≡ Some p) × (m ≡ Own (k ∷ q) p n)
     own_form true n r m h = cc
     own_form false n None m h = cc
     own_form false n (Some p) m h = (p, refl, cc)
 
-    picked_none : (p : Option Path) → picked_inside root pick ≡ Some p → is_none p ≡ is_none pick
+    pub picked_none : (p : Option Path) → picked_inside root pick ≡ Some p → is_none p ≡ is_none pick
     picked_none p h = by pick h
       where
         deeper : (o : Option Path) → option_map (λ (z : Path). Some z) o ≡ Some p → is_none p ≡ false
@@ -250,7 +250,7 @@ module _ (w : World) (nester : Path) (slot : ℕ) (plain : IsPlain w nester slot
         by None h = let e : p ≡ None = cc in rw e refl
         by (Some x) h = deeper (strip root x) h
 
-    own_row_of : (e : Event) (out : Outcome) (o : Option Path) (m : Onward) → o ≡ Some (k ∷ q) → row_of w root e out o ≡ Some m → own_of w root e.mover (k ∷ q) e.pick (listed out) ≡ Some m
+    pub own_row_of : (e : Event) (out : Outcome) (o : Option Path) (m : Onward) → o ≡ Some (k ∷ q) → row_of w root e out o ≡ Some m → own_of w root e.mover (k ∷ q) e.pick (listed out) ≡ Some m
     own_row_of e out o m is = rw is (λ h. h)
 
     pub inside_law : ((p : Option Path) (n : ℕ) → is_none p ≡ is_none pick → is_frozen w root ≡ false → IsAlikeBy p n) → AreQuiet root (listed far) → KeepsCut w nester slot (moves me pick)

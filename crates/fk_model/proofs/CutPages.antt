@@ -161,15 +161,15 @@ module _ (w : World) (nester : Path) (slot : ℕ) (plain : IsPlain w nester slot
 
 -- ---- the law
 
-taken_row : (w : World) (root : Path) (e : Event) (o : Outcome) (r : Option Path) (called : Option Stage) (stage : Stage) (m : Onward) → r ≡ None → called ≡ Some stage →
+pub taken_row : (w : World) (root : Path) (e : Event) (o : Outcome) (r : Option Path) (called : Option Stage) (stage : Stage) (m : Onward) → r ≡ None → called ≡ Some stage →
     option_map (λ (t : Touch). ByOthers t) (and_then (stage_touch w root (user_at e.mover) e.pick (listed o)) called) ≡ Some m → option_map (λ (t : Touch). ByOthers t) (stage_touch w root (user_at e.mover) e.pick (listed o) stage) ≡ Some m
 taken_row w root e o r called stage m out is = rw is (λ h. h)
 
-seen_outside : (w : World) (root x : Path) (pick : Option Path) (o : Outcome) (r : Option Path) (m : Onward) → r ≡ None → row_of w root (moves x pick) o r ≡ Some m → option_map (λ (t : Touch). ByOthers t) (outer_touch w root x pick asks.Run o) ≡ Some m
+pub seen_outside : (w : World) (root x : Path) (pick : Option Path) (o : Outcome) (r : Option Path) (m : Onward) → r ≡ None → row_of w root (moves x pick) o r ≡ Some m → option_map (λ (t : Touch). ByOthers t) (outer_touch w root x pick asks.Run o) ≡ Some m
 seen_outside w root x pick o r m out = rw out (λ h. h)
 
 -- who moves stands nowhere but in a space
-stands_in_slot : (w : World) → IsSound w → (x : Path) (t : Thread) → and_then thread_of (w.body x) ≡ Some t → slot_of x ∷ parent x ≡ x
+pub stands_in_slot : (w : World) → IsSound w → (x : Path) (t : Thread) → and_then thread_of (w.body x) ≡ Some t → slot_of x ∷ parent x ≡ x
 unfolding kind_there
 stands_in_slot w sound [] t at = absurd (by (w.body []) sound.valid.rooted.root at)
   where

@@ -35,17 +35,19 @@ use Rattle.fk_model.proofs.ImageMemory.{root_seen}
 use Rattle.fk_model.proofs.ImageTalks.{thread_there-image, talk_at-image}
 use Rattle.fk_model.proofs.ImageHolds.{is_free-image}
 use Rattle.fk_model.proofs.ImageRuns.{changes-image}
+use Rattle.fk_model.proofs.ImageSends.{SaidImage, IsHeard}
+use Rattle.fk_model.proofs.ImageSends.SaidImage.{Hushed, SaysWords, SaysPassed}
 use Rattle.fk_model.proofs.CutHolds.{changes-allowed}
 use Rattle.fk_model.proofs.CutInside.{Quiet, quiet-when, quiet-call, when_same, call_row-image, call_closed}
 use Rattle.fk_model.proofs.CutOutside.{IsInner, IsOwn, inner_own}
 
 -- two images of one world by the same eyes are one
-same_image : (root : Path) (see : Ptr → Ptr) (one other big : World) → IsImage root see one big → IsImage root see other big → one ≡ other
+pub same_image : (root : Path) (see : Ptr → Ptr) (one other big : World) → IsImage root see one big → IsImage root see other big → one ≡ other
 same_image root see one other big h g = λ i. record { body = λ q. (h.bodies q ∙ sym (g.bodies q)) i; page = λ q page. (h.pages q page ∙ sym (g.pages q page)) i; next = (h.unborn ∙ sym g.unborn) i }
 
 -- ---- what is told
 
-out_kept : (bind : ℕ → ℕ) (p : Ptr) → is_out (rebound_ptr bind p) ≡ is_out p
+pub out_kept : (bind : ℕ → ℕ) (p : Ptr) → is_out (rebound_ptr bind p) ≡ is_out p
 out_kept bind (Rattle.fk_model.specs.Places.Ptr.Out slot) = refl
 out_kept bind p = refl
 
@@ -140,7 +142,7 @@ row_is c x p n stage inner t todo rest is e = rw is (by (talks_outside c x && is
     by true mode e = rw e (rw (inner.silent c n (user_at x) (call_row c (user_at x) p stage), call_closed c x p stage) refl)
     by false mode e = rw e refl
 
-thread_named : (see : Ptr → Ptr) (c small : World) (x : Path) (image : IsImage [] see small c) (t : Thread) → thread_in c x ≡ Some t → thread_in small x ≡ Some (seen_thread see t)
+pub thread_named : (see : Ptr → Ptr) (c small : World) (x : Path) (image : IsImage [] see small c) (t : Thread) → thread_in c x ≡ Some t → thread_in small x ≡ Some (seen_thread see t)
 thread_named see c small x image t is = by (thread_in small x) (and_then thread_of (c.body (x ++ []))) (thread_there-image image x) (ap (λ (y : Path). and_then thread_of (c.body y)) (append-nil x) ∙ is)
   where
     by : (seen o : Option Thread) → AlikeOptions (IsSeenThread [] see c) seen o → o ≡ Some t → seen ≡ Some (seen_thread see t)
@@ -157,7 +159,15 @@ alike_there see c small image free k q p stage inner t =
     (is_free-image image free q t ∙ ap (λ (y : Path). is_free c y t) (append-nil q))
     (subst (λ (y : Path). IsImageOutcome [] see c (call_row small (user_at (k ∷ q)) p stage) (call_row c (user_at (k ∷ y)) p stage)) (append-nil q) (call_row-image image k q p p stage refl (inner.alike [] see small c image free k q p p)))
 
-top_free : (c : World) → IsCutWorld c → is_frozen c [] ≡ false
+-- rows that tell nothing
+quiet_heard : (see : Ptr → Ptr) (near far : Outcome) → Quiet [] near → Quiet [] far → IsHeard see near far
+quiet_heard see (Goes cs was) (Goes ds said) h g = Hushed was said h.mute g.mute
+quiet_heard see (Refused status) (Goes ds said) h g = tt
+quiet_heard see Waits (Goes ds said) h g = tt
+quiet_heard see near Waits h g = tt
+quiet_heard see near (Refused status) h g = tt
+
+pub top_free : (c : World) → IsCutWorld c → is_frozen c [] ≡ false
 unfolding decider
 top_free c world = rw (root_seen world) refl
 
@@ -165,22 +175,29 @@ module _ (bind : ℕ → ℕ) (c : World) (world : IsCutWorld c) (k : ℕ) (q : 
   abbrev image_of : IsImage [] (rebound_ptr bind) (rebound bind c) c
   image_of = rebound-image bind (λ p. p) [] c c world
 
-  gone_anew : (p : Option Path) (n : ℕ) (near far : Outcome) → IsImageOutcome [] (rebound_ptr bind) c near far → IsImageOutcome [] (λ p. p) c far far → told_by_said (k ∷ q) (said_by near) ≡ [] → told_by_said (k ∷ q) (said_by far) ≡ [] →
+  said_anew : (x : Path) (was said : Said) → SaidImage (rebound_ptr bind) was said → map (rebound_told bind) (told_by_said x said) ≡ told_by_said x was
+  said_anew x _ _ (Hushed was said h g) = ap (map (rebound_told bind)) (g x) ∙ sym (h x)
+  said_anew x _ _ (SaysWords port words) = refl
+  said_anew x _ _ (SaysPassed port) = refl
+
+  pub gone_anew : (p : Option Path) (n : ℕ) (near far : Outcome) → IsImageOutcome [] (rebound_ptr bind) c near far → IsImageOutcome [] (λ p. p) c far far → IsHeard (rebound_ptr bind) near far →
       (told : List Told) (later : World) → OnwardTo c (Own (k ∷ q) p n) far told later → OnwardTo (rebound bind c) (Own (k ∷ q) p n) near (map (rebound_told bind) told) (rebound bind later)
-  gone_anew p n (Goes cs was) (Goes ds said) h again hushed silent told later onward =
+  gone_anew p n (Goes cs was) (Goes ds said) h again heard told later onward =
       let now : World = apply_all ds c in
       let world_now : IsCutWorld now = changes-image c c ds ds again world in
       let same : rebound bind now ≡ apply_all cs (rebound bind c) = same_image [] (rebound_ptr bind) (rebound bind now) (apply_all cs (rebound bind c)) now (rebound-image bind (λ p. p) [] now now world_now) (changes-image (rebound bind c) c cs ds h image_of) in
-      let heard : List Told = flat_map (told_by_change c) ds in
-      let hears : List Told = flat_map (told_by_change (rebound bind c)) cs in (
+      let hears : List Told = flat_map (told_by_change c) ds in
+      let says : List Told = told_by_said (k ∷ q) said in
+      let changed : map (rebound_told bind) hears ≡ flat_map (told_by_change (rebound bind c)) cs = sym (changes_told bind c image_of c cs ds h) in
+      let spoken = said_anew (k ∷ q) was said heard in (
         changes-allowed image_of (top_free c world) (k ∷ q) c cs ds h (subst (λ (y : Path). AreAllowed c (k ∷ y) ds) (sym (append-nil q)) onward.0),
-        ap (map (rebound_told bind)) (onward.1 ∙ ap (λ (l : List Told). heard ++ l) silent ∙ append-nil heard) ∙ sym (changes_told bind c image_of c cs ds h) ∙ sym (append-nil hears) ∙ ap (λ (l : List Told). hears ++ l) (sym hushed),
+        ap (map (rebound_told bind)) onward.1 ∙ joined bind c image_of hears says ∙ (λ i. changed i ++ spoken i),
         ap (rebound bind) onward.2 ∙ same,
       )
-  gone_anew p n near Waits h again hushed silent told later onward = absurd onward
-  gone_anew p n near (Refused status) h again hushed silent told later onward = absurd onward
-  gone_anew p n (Refused status) (Goes ds said) h again hushed silent told later onward = absurd h
-  gone_anew p n Waits (Goes ds said) h again hushed silent told later onward = absurd h
+  gone_anew p n near Waits h again heard told later onward = absurd onward
+  gone_anew p n near (Refused status) h again heard told later onward = absurd onward
+  gone_anew p n (Refused status) (Goes ds said) h again heard told later onward = absurd h
+  gone_anew p n Waits (Goes ds said) h again heard told later onward = absurd h
 
   stage_anew : (p : Option Path) (n : ℕ) (stage : Stage) → IsOwn stage → IsAtStage c (k ∷ q) stage → (told : List Told) (later : World) → IsOnward c (Own (k ∷ q) p n) told later → IsOnward (rebound bind c) (Own (k ∷ q) p n) (map (rebound_told bind) told) (rebound bind later)
   stage_anew p n stage inner at told later onward =
@@ -194,7 +211,7 @@ module _ (bind : ℕ → ℕ) (c : World) (world : IsCutWorld c) (k : ℕ) (q : 
       let quiet : (w : World) (b : Bool) → Quiet [] (when b (call_row w (user_at (k ∷ q)) p stage)) = λ w b. quiet-when [] b (call_row w (user_at (k ∷ q)) p stage) (quiet-call [] w (k ∷ q) p stage (inner.quiet w (k ∷ q) p)) in
       subst (λ (o : Outcome). OnwardTo (rebound bind c) (Own (k ∷ q) p n) o (map (rebound_told bind) told) (rebound bind later)) (sym near_is)
       (gone_anew p n near far (alike_there see c (rebound bind c) image_of free k q p stage inner t) (unseen t (alike_there (λ p. p) c c world free k q p stage inner t))
-      ((quiet (rebound bind c) (is_free (rebound bind c) q (seen_thread see t))).mute (k ∷ q)) ((quiet c (is_free c q t)).mute (k ∷ q)) told later
+      (quiet_heard see near far (quiet (rebound bind c) (is_free (rebound bind c) q (seen_thread see t))) (quiet c (is_free c q t))) told later
       (subst (λ (o : Outcome). OnwardTo c (Own (k ∷ q) p n) o told later) far_is onward))
     where
       -- a world that is its own image is not changed by that
@@ -226,7 +243,7 @@ row_anew bind c world k q p n t row far_is near_by is alike quiet told later onw
     (gone_anew bind c world k q p n near far
     (when_same image (is_free (rebound bind c) q (seen_thread see t)) (is_free c q t) (row (rebound bind c)) (row c) (is_free-image image free q t ∙ ap (λ (y : Path). is_free c y t) (append-nil q)) (alike see (rebound bind c) image))
     (when_same world (is_free c q t) (is_free c q t) (row c) (row c) refl (alike (λ p. p) c world))
-    ((quiet-when [] (is_free (rebound bind c) q (seen_thread see t)) (row (rebound bind c)) (quiet (rebound bind c))).mute (k ∷ q)) ((quiet-when [] (is_free c q t) (row c) (quiet c)).mute (k ∷ q)) told later
+    (quiet_heard see near far (quiet-when [] (is_free (rebound bind c) q (seen_thread see t)) (row (rebound bind c)) (quiet (rebound bind c))) (quiet-when [] (is_free c q t) (row c) (quiet c))) told later
     (subst (λ (o : Outcome). OnwardTo c (Own (k ∷ q) p n) o told later) far_is onward))
 
 pub own_rebinds : (IsSuch : Stage → Type 0) → ((stage : Stage) → IsSuch stage → IsOwn stage) → StageRebinds IsSuch

@@ -118,7 +118,7 @@ find_none test (y ∷ ys) h x among = by (find_none test ys) (test y) refl h
         at (inl same) = ap test (same_path_eq x y same) ∙ e
         at (inr later) = below h x later
 
-find_some : (test : Path → Bool) (xs : List Path) (x : Path) → find test xs ≡ Some x → test x ≡ true
+pub find_some : (test : Path → Bool) (xs : List Path) (x : Path) → find test xs ≡ Some x → test x ≡ true
 find_some test [] x h = cc
 find_some test (y ∷ ys) x h = by (find_some test ys x) (test y) refl h
   where
@@ -170,7 +170,7 @@ serves_at w server x = holds (λ (talk : Talk). serves server talk.peer) (talk_a
 abbrev takes_at : World → Path → Path → Bool
 takes_at w server x = holds (λ (fault : Fault). holds (serves server) fault.taker) (fault_at w x)
 
-serves_is : (server : Path) (peer : Peer) → serves server peer ≡ true → peer ≡ Server (At server)
+pub serves_is : (server : Path) (peer : Peer) → serves server peer ≡ true → peer ≡ Server (At server)
 serves_is server (Server thread) h = ap Server (leads_to_at server thread h)
 serves_is server Service h = cc
 serves_is server Parked h = cc
@@ -317,7 +317,7 @@ out_port ports nester slot (At x) h = by (strip (slot ∷ nester) x) h
     by (Some q) h = cc
     by None h = out x h
 
-good_talk : (there : Path → Option Kind) (at : Path) (v : Option Body) (talk : Talk) → all_in (is_good there at) v ≡ true → and_then (λ (t : Thread). t.talk) (and_then thread_of v) ≡ Some talk → is_good_talk there talk ≡ true
+pub good_talk : (there : Path → Option Kind) (at : Path) (v : Option Body) (talk : Talk) → all_in (is_good there at) v ≡ true → and_then (λ (t : Thread). t.talk) (and_then thread_of v) ≡ Some talk → is_good_talk there talk ≡ true
 good_talk there at (Some (Thread_of t)) talk good is = let talks = (and_parts (all_in (is_good_talk there) t.talk) _ good).0 in rw is at talks
 good_talk there at (Some b) talk good is = cc
 good_talk there at None talk good is = cc

@@ -123,9 +123,9 @@ in_next (suc n) w rooted s y k h few live =
     by j (inl e) rest = rw (e) (in_first n w rooted k y (omega (arith, ap length e)) live)
     by j (inr g) rest = rest j g
 
-in_walk : (n : ℕ) (w : World) → IsConsistent w → IsRooted w → (x : Path) (k : ℕ) → IsSome (w.body (k ∷ x)) → length (k ∷ x) ≤ n → IsIn (k ∷ x) (beneath_by n w [])
-in_walk n w valid rooted [] k live few = in_first n w rooted k [] (omega arith) live
-in_walk n w valid rooted (j ∷ y) k live few = in_next n w rooted [] (j ∷ y) k (in_walk n w valid rooted y j (live_above w valid k (j ∷ y) live) (omega arith)) (omega arith) live
+in_walk : (n : ℕ) (w : World) → ((k : ℕ) (x : Path) → IsSome (w.body (k ∷ x)) → IsSome (w.body x)) → IsRooted w → (x : Path) (k : ℕ) → IsSome (w.body (k ∷ x)) → length (k ∷ x) ≤ n → IsIn (k ∷ x) (beneath_by n w [])
+in_walk n w above rooted [] k live few = in_first n w rooted k [] (omega arith) live
+in_walk n w above rooted (j ∷ y) k live few = in_next n w rooted [] (j ∷ y) k (in_walk n w above rooted y j (above k (j ∷ y) live) (omega arith)) (omega arith) live
 
 of_walk : (n : ℕ) (w : World) (s x : Path) → IsIn x (beneath_by n w s) → IsSome (w.body x)
 unfolding beneath_by
@@ -138,9 +138,13 @@ of_walk (suc n) w s x h = let found = of_flat_map (λ j. (j ∷ s) ∷ beneath_b
 
 -- ---- every object
 
-pub in_objects : (w : World) → IsConsistent w → IsRooted w → w.next ≤ depth → (k : ℕ) (x : Path) → IsSome (w.body (k ∷ x)) → IsIn (k ∷ x) (objects w)
+-- where what has something in it is live, and no path is too long
+pub walked : (w : World) → ((k : ℕ) (x : Path) → IsSome (w.body (k ∷ x)) → IsSome (w.body x)) → IsRooted w → (k : ℕ) (x : Path) → IsSome (w.body (k ∷ x)) → length (k ∷ x) ≤ depth → IsIn (k ∷ x) (objects w)
 unfolding beneath
-in_objects w valid rooted few k x live = in_walk depth w valid rooted x k live (le_trans (short w valid (k ∷ x) live) few)
+walked w above rooted k x live few = in_walk depth w above rooted x k live few
+
+pub in_objects : (w : World) → IsConsistent w → IsRooted w → w.next ≤ depth → (k : ℕ) (x : Path) → IsSome (w.body (k ∷ x)) → IsIn (k ∷ x) (objects w)
+in_objects w valid rooted few k x live = walked w (live_above w valid) rooted k x live (le_trans (short w valid (k ∷ x) live) few)
 
 pub of_objects : (w : World) (x : Path) → IsIn x (objects w) → IsSome (w.body x)
 unfolding beneath

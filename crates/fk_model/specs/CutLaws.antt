@@ -1,16 +1,18 @@
 -- The law of the cut: what a move of the world does to a plain subtree is what the subtree, seen alone, does by the move
 -- as which it is seen.
-use Rattle.std.specs.Prelude.{◌≡◌, ℕ, true, false, List, ◌∷◌, ◌++◌, Option, Some}
+use Rattle.std.specs.Prelude.{◌≡◌, ℕ, ◌≤◌, true, false, List, ◌∷◌, ◌++◌, length, Option, Some}
+use Rattle.fk_model.specs.declared.limits.TheConstants.{PAGE_WORDS}
 use Rattle.fk_model.specs.declared.instruction.Act.{Act}
 use Rattle.fk_model.specs.declared.instruction.Act.TheVariants.{Store}
 use Rattle.fk_model.specs.declared.moves.Ask.{Ask}
 use Rattle.fk_model.specs.declared.moves.Ask.TheVariants as asks
 use Rattle.fk_model.specs.declared.stage.Stage.{Stage}
-use Rattle.fk_model.specs.declared.stage.Stage.TheVariants.{Create, Destroy, Rename, Point, GetState, SpaceHold, PageTake, MutexLock, ClientSend, ServerSend, Wait}
+use Rattle.fk_model.specs.declared.stage.Stage.TheVariants.{Create, Destroy, Rename, Point, GetState, SpaceHold, PageTake, MutexLock, ClientSend, ClientOver, ServerSend, ServerOver}
 use Rattle.fk_model.specs.Places.{Path, is_within}
 use Rattle.fk_model.specs.Objects.{Mode, Thread, thread_of, and_then}
 use Rattle.fk_model.specs.Objects.Mode.{Running, Calling}
 use Rattle.fk_model.specs.World.{World}
+use Rattle.fk_model.specs.Searches.{depth}
 use Rattle.fk_model.specs.Instructions.{act}
 use Rattle.fk_model.specs.Reach.{reach_word}
 use Rattle.fk_model.specs.Reach.Reach.{Home}
@@ -97,3 +99,33 @@ InstructionKeepsCut = (w : World) (nester : Path) (slot : ℕ) (x : Path) (pick 
 -- the law for every accept of a native server
 abbrev pub AcceptKeepsCut : Type 0
 AcceptKeepsCut = (w : World) (nester : Path) (slot : ℕ) (port : Path) (pick : Option Path) → KeepsCut w nester slot (record { mover = port; pick = pick; ask = asks.Accept })
+
+-- ---- messages
+
+abbrev pub IsServerSend : Stage → Type 0
+IsServerSend stage = (address : ℕ) × (count : ℕ) × (stage ≡ ServerSend address count)
+
+abbrev pub IsClientSend : Stage → Type 0
+IsClientSend stage = (address : ℕ) × (count : ℕ) × (stage ≡ ClientSend address count)
+
+abbrev pub IsServerOver : Stage → Type 0
+IsServerOver stage = stage ≡ ServerOver
+
+abbrev pub IsClientOver : Stage → Type 0
+IsClientOver stage = stage ≡ ClientOver
+
+-- the law for every move of a user thread inside the subtree that is at such a stage of a server, while birth numbers are
+-- below 2^32: whom it serves is found by a walk from the root, which else may not come so far
+abbrev pub ServerInsideKeepsCut : (Stage → Type 0) → Type 0
+ServerInsideKeepsCut IsSuch =
+    (w : World) (nester : Path) (slot : ℕ) (x : Path) (pick : Option Path) (stage : Stage) → w.next ≤ depth → IsSuch stage → is_within (slot ∷ nester) x ≡ true → IsAtStage w x stage → KeepsCut w nester slot (moves x pick)
+
+-- every page has all its words
+abbrev pub HasFullPages : World → Type 0
+HasFullPages w = (s : Path) (page : ℕ) (words : List ℕ) → w.page s page ≡ Some words → length words ≡ PAGE_WORDS
+
+-- the law for every move of a user thread at such a stage of a server, inside the subtree or outside, while birth numbers are
+-- below 2^32 and pages are full: what arrived is read back from the receiver's page
+abbrev pub ServerKeepsCut : (Stage → Type 0) → Type 0
+ServerKeepsCut IsSuch =
+    (w : World) (nester : Path) (slot : ℕ) (x : Path) (pick : Option Path) (stage : Stage) → w.next ≤ depth → HasFullPages w → IsSuch stage → IsAtStage w x stage → KeepsCut w nester slot (moves x pick)

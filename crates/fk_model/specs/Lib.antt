@@ -22,6 +22,7 @@ pub mod NativeRows
 pub mod Freezing
 pub mod Moves
 pub mod Runs
+pub mod Who
 pub mod Rules
 pub mod Shapes
 pub mod Valid

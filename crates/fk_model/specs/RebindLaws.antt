@@ -4,8 +4,8 @@ use Rattle.std.specs.Prelude.{ℕ, List, map, Option}
 use Rattle.fk_model.specs.declared.stage.Stage.{Stage}
 use Rattle.fk_model.specs.Places.{Path}
 use Rattle.fk_model.specs.World.{World}
-use Rattle.fk_model.specs.Further.{Onward, Told, IsOnward}
-use Rattle.fk_model.specs.Further.Onward.{Own}
+use Rattle.fk_model.specs.Further.{Touch, Onward, Told, IsOnward}
+use Rattle.fk_model.specs.Further.Onward.{Own, ByOthers}
 use Rattle.fk_model.specs.CutLaws.{IsAtStage, IsRunning}
 use Rattle.fk_model.specs.Image.{IsCutWorld}
 use Rattle.fk_model.specs.Rebind.{rebound, rebound_told}
@@ -21,3 +21,7 @@ StageRebinds IsSuch = (c : World) (x : Path) (pick : Option Path) (taken : ℕ) 
 -- and for every instruction
 abbrev pub InstructionRebinds : Type 0
 InstructionRebinds = (c : World) (x : Path) (pick : Option Path) (taken : ℕ) → IsRunning c x → Rebinds c (Own x pick taken)
+
+-- and for whatever the outside does to the subtree
+abbrev pub TouchRebinds : Type 0
+TouchRebinds = (c : World) (touch : Touch) → Rebinds c (ByOthers touch)

@@ -1,6 +1,6 @@
 //! The law of the cut, each kind of move the contract of a function that does nothing: what a move of the world does to a
 //! subtree is what the subtree, seen alone, does by the move as which it is seen.
-ghost use Rattle.fk_model.specs.CutLaws.{AcceptKeepsCut, InstructionKeepsCut, IsCreate, IsDestroy, IsGetState, IsHold, IsLock, IsPageTake, IsPoint, IsRename, StageInsideKeepsCut, StageKeepsCut, StageOutsideKeepsCut};
+ghost use Rattle.fk_model.specs.CutLaws.{AcceptKeepsCut, InstructionKeepsCut, IsClientOver, IsClientSend, IsCreate, IsDestroy, IsGetState, IsHold, IsLock, IsPageTake, IsPoint, IsRename, IsServerOver, IsServerSend, ServerInsideKeepsCut, ServerKeepsCut, StageInsideKeepsCut, StageKeepsCut, StageOutsideKeepsCut};
 
 /// A thread that makes an instruction, also one that stores through a mapping: inside, the subtree does so by itself;
 /// outside, it sees nothing of it, or no law speaks of it.
@@ -58,4 +58,33 @@ pub fn a_new_name_outside_keeps_the_cut()
 /// law speaks of it.
 pub fn an_accept_keeps_the_cut()
     ensures { AcceptKeepsCut }
+{}
+
+/// A server inside that sends words to its client does so in the subtree by itself, while birth numbers are below 2^32.
+pub fn words_of_a_server_inside_keep_the_cut()
+    ensures { ServerInsideKeepsCut IsServerSend }
+{}
+
+/// A server inside that hands its client the turn does so in the subtree by itself, while birth numbers are below 2^32.
+pub fn a_turn_of_a_server_inside_keeps_the_cut()
+    ensures { ServerInsideKeepsCut IsServerOver }
+{}
+
+/// A client that sends words: inside, to a peer inside or outside, the subtree does so by itself, and how many words a peer
+/// outside takes is seen with the move; outside, it sees nothing of it, or no law speaks of it.
+pub fn words_of_a_client_keep_the_cut()
+    ensures { StageKeepsCut IsClientSend }
+{}
+
+/// A client that hands its peer the turn: inside, the subtree does so by itself; outside, it sees nothing of it, or no law
+/// speaks of it.
+pub fn a_turn_of_a_client_keeps_the_cut()
+    ensures { StageKeepsCut IsClientOver }
+{}
+
+/// A server that sends words to its client: inside, the subtree does so by itself; outside, the subtree sees that words are given
+/// to its thread, or that it has no room for them, or sees nothing of it, or no law speaks of it. While birth numbers are below
+/// 2^32 and pages are full.
+pub fn words_of_a_server_keep_the_cut()
+    ensures { ServerKeepsCut IsServerSend }
 {}

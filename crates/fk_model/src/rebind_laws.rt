@@ -1,7 +1,7 @@
 //! The law of rebinding, each kind of move the contract of a function that does nothing: a subtree that is seen alone does,
 //! with other outward ports, what it did, also where two of them get one name.
-ghost use Rattle.fk_model.specs.CutLaws.{IsCreate, IsGetState, IsHold, IsLock, IsPageTake, IsPoint, IsRename};
-ghost use Rattle.fk_model.specs.RebindLaws.{InstructionRebinds, StageRebinds};
+ghost use Rattle.fk_model.specs.CutLaws.{IsClientOver, IsClientSend, IsCreate, IsGetState, IsHold, IsLock, IsPageTake, IsPoint, IsRename, IsServerOver, IsServerSend};
+ghost use Rattle.fk_model.specs.RebindLaws.{InstructionRebinds, StageRebinds, TouchRebinds};
 
 /// A thread of the subtree that locks a mutex does so with other outward ports, and the outside hears the same at these.
 pub fn a_lock_rebinds()
@@ -42,4 +42,34 @@ pub fn a_taken_page_rebinds()
 /// at these.
 pub fn a_new_name_rebinds()
     ensures { StageRebinds IsRename }
+{}
+
+/// A server of the subtree that sends words to its client does so with other outward ports, and the outside hears the same at
+/// these.
+pub fn words_of_a_server_rebind()
+    ensures { StageRebinds IsServerSend }
+{}
+
+/// A server of the subtree that hands its client the turn does so with other outward ports, and the outside hears the same at
+/// these.
+pub fn a_turn_of_a_server_rebinds()
+    ensures { StageRebinds IsServerOver }
+{}
+
+/// A client of the subtree that sends words, inside or to a peer outside, does so with other outward ports, and the outside hears
+/// the same words at these.
+pub fn words_of_a_client_rebind()
+    ensures { StageRebinds IsClientSend }
+{}
+
+/// A client of the subtree that hands its peer the turn, inside or outside, does so with other outward ports, and the outside
+/// hears of it at these.
+pub fn a_turn_of_a_client_rebinds()
+    ensures { StageRebinds IsClientOver }
+{}
+
+/// Whatever the outside does to a subtree it does with other outward ports, and the subtree goes on as it did: it takes a thread at
+/// its Connect, gives words or finds no room, hands the turn, ends a talk, takes a fault or ends it, gives a page or takes one.
+pub fn what_the_outside_does_rebinds()
+    ensures { TouchRebinds }
 {}

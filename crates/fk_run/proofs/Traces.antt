@@ -12,8 +12,8 @@ use Rattle.fk_run.proofs.Cuts.{cut_at-at, cut_at-parts}
 use Rattle.fk_run.proofs.Lines.{move_of-text, move_of-only, move_avoids}
 
 -- no moves are legal, whatever may follow
-pub AreLegal-none : (MayFollow : List Move → Move → Type 0) → AreLegal MayFollow []
-AreLegal-none MayFollow = record { ranges = All-nil IsMove; follow = tt }
+pub none_are_legal : (MayFollow : List Move → Move → Type 0) → AreLegal MayFollow []
+none_are_legal MayFollow = record { ranges = All-nil IsMove; follow = tt }
 
 more_follow : (MayFollow : List Move → Move → Type 0) (done moves : List Move) (move : Move) → EachMayFollow MayFollow done moves → MayFollow (done ++ moves) move → EachMayFollow MayFollow done (moves ++ move ∷ [])
 more_follow MayFollow done [] move all may = (subst (λ (before : List Move). MayFollow before move) (append-nil done) may, tt)

@@ -2,7 +2,14 @@ pub mod Machine
 pub mod ExecText
 pub mod Status
 pub mod Exec
+pub mod Commands
 pub mod Top
 pub mod Trace
 pub mod TraceReading
 pub mod Report
+pub mod Boot
+pub mod Threads
+pub mod Play
+pub mod Parts
+pub mod Stands
+pub mod Alone

@@ -45,8 +45,8 @@ apply s (Halt code) = halt s code
 apply s Call = put s 0 1
 
 -- one instruction: the word at the counter is read, and what it asks for is done; a counter past the memory halts with code 2
-abbrev pub step : State → State
-step s =
+abbrev pub instructed : State → State
+instructed s =
     if nat_lt s.counter WORDS
     then apply s (act (slice_index s.memory s.counter) s.registers s.counter)
     else halt s 2
@@ -54,6 +54,10 @@ step s =
 -- it has not halted
 abbrev pub is_running : State → Bool
 is_running s = is_none s.halted
+
+-- a thread that has halted makes no instruction
+abbrev pub step : State → State
+step s = if is_running s then instructed s else s
 
 -- at most so many instructions, up to a halt
 unfoldable pub run : ℕ → State → State

@@ -5,7 +5,7 @@ use Rattle.fk_model.specs.declared.thread.Mode.{Mode}
 use Rattle.fk_model.specs.declared.thread.Mode.TheVariants.{Running, Calling, Halted, Native}
 use Rattle.fk_run.specs.declared.end.End.{End}
 use Rattle.fk_run.specs.declared.end.End.TheVariants as ends
-use Rattle.fk_run.specs.declared.report.ThreadState.{ThreadState}
+use Rattle.fk_run.specs.declared.threads.ThreadState.{ThreadState}
 
 -- a slash before each slot, from the root inwards; in a path the root's slot stands last
 abbrev pub path_text : List ℕ → List ℕ

@@ -3,8 +3,8 @@ use Rattle.std.specs.Prelude.{◌≡◌, ◌≢◌, ◌⊎◌, ℕ, ◌^◌, ◌
 use Rattle.std.specs.List.{flat_map}
 use Rattle.fk_model.specs.declared.names.Who.{Who}
 use Rattle.fk_model.specs.declared.moves.Move.{Move}
-use Rattle.fk_run.specs.declared.trace.PlayFail.{PlayFail}
-use Rattle.fk_run.specs.declared.trace.PlayFail.TheVariants.{Trace, NoMemory}
+use Rattle.fk_run.specs.declared.play.PlayFail.{PlayFail}
+use Rattle.fk_run.specs.declared.play.PlayFail.TheVariants.{Trace, NoMemory}
 
 -- an object's name: the birth number of its space, a dot, its slot
 abbrev pub who_text : Who → List ℕ
@@ -85,10 +85,6 @@ HasNoFirstLine text = (rest : List ℕ) → text ≢ first_line ++ rest
 -- counts as that of the move 0
 abbrev pub IsFirstBad : (List Move → Move → Type 0) → List ℕ → ℕ → Type 0
 IsFirstBad MayFollow text index = (HasNoFirstLine text × (index ≡ 0)) ⊎ ((moves : List Move) × StopsAfter MayFollow text moves × (index ≡ length moves))
-
--- a move may follow fewer moves than the budget has
-abbrev pub IsWithin : ℕ → List Move → Move → Type 0
-IsWithin budget done move = length done < budget
 
 -- why a trace isn't played: its first bad line, or want of memory
 abbrev pub IsCause : (List Move → Move → Type 0) → List ℕ → PlayFail → Type 0

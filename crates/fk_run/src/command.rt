@@ -1,20 +1,27 @@
 //! The words of the command line.
-ghost use Rattle.std.specs.Prelude.{◌≡◌, map, string_bytes};
-ghost use Rattle.fk_run.specs.Top.{command_of as command_in};
+ghost use Rattle.std.specs.Prelude.{◌≡◌, map, option_map, string_bytes};
+ghost use Rattle.fk_run.specs.Commands as commands;
+
+use fk_model::is_name;
 
 /// What the words of the command line ask for.
 #[derive(Clone, Copy)]
-pub enum Command {
+pub enum Command<'a> {
     /// Assembles the source's text and runs it as one thread.
     Exec,
+    /// Runs the source's scenario by the moves of the trace with this name.
+    Play(&'a str),
 }
 
 /// The command of these words, if they are one.
-pub fn command_of(words: &[String]) -> Option<Command>
-    ensures { result ≡ command_in (map string_bytes words.now) }
+pub fn command_of(words: &[String]) -> Option<Command<'_>>
+    ensures { option_map commands.seen result ≡ commands.command_of (map string_bytes words.now) }
 {
     match words {
         [word] if word.as_str() == "exec" => Some(Command::Exec),
+        [word, name] if word.as_str() == "play" && is_name(name.as_bytes()) => {
+            Some(Command::Play(name.as_str()))
+        }
         _ => None,
     }
 }

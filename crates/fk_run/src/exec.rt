@@ -45,6 +45,7 @@ fn run_text(alloc: Global, text: &[u8]) -> Result<Ended, AsmFail>
 /// Reads the source to its end, assembles its text and runs it, and writes how the run ended.
 pub fn exec<R: Source, W: Sink>(alloc: Global, source: &mut R, sink: &mut W) -> Status
     ensures usage { result ≡ Status.Usage → ⊥ }
+    ensures shelf { result ≡ Status.ShelfFault → ⊥ }
     ensures answer { IfSome (R.left source.old) (λ bytes. IsAnswer result (exec_status bytes)) }
     ensures read_fault { result ≡ Status.ReadFault → Rose (R.faults source.old) (R.faults source.new) }
     ensures write_fault { result ≡ Status.WriteFault → Rose (W.faults sink.old) (W.faults sink.new) }

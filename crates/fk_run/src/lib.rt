@@ -9,18 +9,23 @@
 //! and that `fault_line` says of a status what the definitions say. It always returns.
 #![tactic(auto)]
 
+mod boot;
 mod command;
 mod end;
 mod exec;
 mod exec_text;
 mod machine;
+mod play;
+mod playing;
 mod report;
+mod source_text;
 mod status;
 #[cfg(test)]
 mod tests;
+mod threads;
 mod top;
 mod trace;
 
 pub use end::End;
 pub use status::{Status, fault_line};
-pub use top::{Outcome, fluke_top};
+pub use top::{Outcome, Report, fluke_top};

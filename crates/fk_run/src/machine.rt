@@ -1,44 +1,50 @@
-//! A thread alone with its memory.
-ghost use Rattle.std.specs.Prelude.{◌≡◌, ◌<◌, ◌≤◌, IfOk, vec_len};
-ghost use Rattle.fk_model.specs.Instructions.{IsAct};
-ghost use Rattle.fk_model.specs.Instructions as instructions;
+//! A thread alone with its memory, over the store.
+ghost use Rattle.std.specs.Prelude.{◌≡◌, ◌≤◌, IfOk, length, vec_len};
+ghost use Rattle.fk_store.specs.Bodies.{mode_by};
+ghost use Rattle.fk_store.specs.World.{world};
+ghost use Rattle.fk_run.specs.Alone as alone;
+ghost use Rattle.fk_run.specs.Alone.{filled};
 ghost use Rattle.fk_run.specs.Machine as machines;
 
-use fk_isa::{Act, act_of, decode};
-use fk_model::NoMemory;
+use fk_model::{Body, Mode, NoMemory, Thread, Who};
+use fk_store::Store;
+use fk_user::take_alone;
+use std::alloc::Global;
 use std::marker::Model;
 
 /// How many words the 256 pages of a space hold.
 pub const WORDS: usize = 16384;
 
-/// The code of a halt at an address past the memory.
-const BAD_ADDRESS: u8 = 2;
+/// Where the thread stands: in slot 0 of the root.
+const ALONE: Who = Who { space: 0, slot: 0 };
 
-/// The code of a halt at a word that holds no instruction.
-const UNKNOWN_OPERATION: u8 = 3;
+/// The thread before its first instruction.
+const FRESH: Thread = Thread {
+    regs: [0; 16],
+    pc: 0,
+    mode: Mode::Running,
+    stops: 0,
+    talk: None,
+    fault: None,
+};
 
-/// The answer to a call that there is not.
-const BAD_CALL: u64 = 1;
-
-/// A thread alone with its memory, and no kernel that its calls could enter.
+/// A thread alone with its memory, and no kernel that its calls could enter: it stands in the root,
+/// and its memory is the root's 256 pages.
 #[derive(Drop)]
 pub struct Machine {
-    registers: [u64; 16],
-    counter: u64,
-    halted: Option<u8>,
-    memory: Vec<u64>,
+    store: Store,
 }
 
 impl Model for Machine {
-    ghost use Rattle.std.specs.Prelude.{◌≡◌, length};
+    ghost use Rattle.fk_store.specs.World.{world};
+    ghost use Rattle.fk_run.specs.Alone.{IsAlone, state_of};
     ghost use Rattle.fk_run.specs.Machine.{State};
-    ghost use Rattle.fk_run.specs.declared.machine.TheConstants.{WORDS};
 
     ghost Value = { State };
 
-    ghost view = { λ m. record { registers = m.registers; counter = m.counter; halted = m.halted; memory = m.memory.items } };
+    ghost view = { λ m. state_of (world m.store) };
 
-    ghost invariant = { λ m. length m.memory.items ≡ WORDS };
+    ghost invariant = { λ m. IsAlone (world m.store) };
 }
 
 impl Machine {
@@ -48,41 +54,39 @@ impl Machine {
         ensures { IfOk result (λ m. m ≡ machines.start program.items) }
     {
         program.resize(WORDS, 0)?;
-        Ok(Machine {
-            registers: [0; 16],
-            counter: 0,
-            halted: None,
-            memory: program,
-        })
+        let mut store = filled(*program.allocator(), &program)?;
+        store.make(ALONE, Body::Thread(FRESH))?;
+        Ok(Machine { store })
     }
 
     /// The registers, from `r0` on.
     pub fn registers(&self) -> &[u64; 16]
         ensures { result.now ≡ self.now.registers }
     {
-        &self.registers
+        match self.store.thread(ALONE) {
+            Some(thread) => &thread.regs,
+            None => unreachable!(),
+        }
     }
 
     /// The code with which the thread halted, if it did.
     pub fn halted(&self) -> Option<u8>
         ensures { result ≡ self.now.halted }
     {
-        self.halted
+        match self.store.thread(ALONE) {
+            Some(thread) => code_of(thread),
+            None => unreachable!(),
+        }
     }
 
     /// Makes one instruction: reads the word at the counter, and does what it asks for. A counter or
     /// an address past the memory halts with code 2, an unknown instruction with code 3, a zero
     /// divisor with code 1. A halt leaves the counter. `call` puts 1, for no such call, into `r0`.
+    /// A thread that has halted stays as it is.
     pub fn step(&mut self)
         ensures { self.new ≡ machines.step self.old }
     {
-        if self.counter < WORDS as u64 {
-            let word = self.memory[self.counter as usize];
-            let act = act(word, &self.registers, self.counter);
-            self.apply(act);
-        } else {
-            self.halt(BAD_ADDRESS);
-        }
+        take_alone(&mut self.store, ALONE);
     }
 
     /// Makes at most so many instructions, up to a halt, and says how many they were. The one that
@@ -93,74 +97,46 @@ impl Machine {
         ensures count { result ≡ machines.events budget self.old }
     {
         for event in 0..budget {
-            if self.halted.is_some() {
+            if self.halted().is_some() {
                 return event;
             }
             self.step();
         }
         budget
     }
-
-    /// Does what an act asks for.
-    #[inline]
-    fn apply(&mut self, act: Act)
-        requires { IsAct act }
-        ensures { self.new ≡ machines.apply self.old act }
-    {
-        match act {
-            Act::Put { register, value } => self.put(register, value),
-            Act::Jump { counter } => self.counter = counter,
-            Act::Load { register, address } => {
-                if address < WORDS as u64 {
-                    let value = self.memory[address as usize];
-                    self.put(register, value);
-                } else {
-                    self.halt(BAD_ADDRESS);
-                }
-            }
-            Act::Store { address, value } => {
-                if address < WORDS as u64 {
-                    self.memory[address as usize] = value;
-                    self.counter = self.counter.wrapping_add(1);
-                } else {
-                    self.halt(BAD_ADDRESS);
-                }
-            }
-            Act::Halt { code } => self.halt(code),
-            Act::Call => self.put(0, BAD_CALL),
-        }
-    }
-
-    /// Halts with a code, where the counter stands.
-    #[inline]
-    fn halt(&mut self, code: u8)
-        ensures { self.new ≡ machines.halt self.old code }
-    {
-        self.halted = Some(code);
-    }
-
-    /// Puts a value into a register, and goes on to the next instruction.
-    #[inline]
-    fn put(&mut self, register: u8, value: u64)
-        requires { register < 16 }
-        ensures { self.new ≡ machines.put self.old register value }
-    {
-        self.registers[register as usize] = value;
-        self.counter = self.counter.wrapping_add(1);
-    }
 }
 
-/// What a word asks for with these registers and at this counter. An unknown instruction halts.
-#[inline]
-fn act(word: u64, registers: &[u64; 16], counter: u64) -> Act
-    ensures act { result ≡ instructions.act word registers.now counter }
-    ensures in_range { IsAct result }
+/// The root alone, with these words in its 256 pages.
+fn filled(alloc: Global, words: &[u64]) -> Result<Store, NoMemory>
+    requires { length words.now ≡ WORDS }
+    ensures { IfOk result (λ store. world store ≡ filled 256 words.now) }
 {
-    match decode(word) {
-        Some(instr) => act_of(instr, registers, counter),
-        None => Act::Halt {
-            code: UNKNOWN_OPERATION,
-        },
+    let mut store = Store::new(alloc)?;
+    for page in 0..256u16 {
+        let page = page as u8;
+        store.put_page(0, page, &page_of(words, page))?;
+    }
+    Ok(store)
+}
+
+/// The words of a page of all these words.
+fn page_of(words: &[u64], page: u8) -> [u64; 64]
+    requires { length words.now ≡ WORDS }
+    ensures { result ≡ alone.page_of words.now page }
+{
+    let first = usize::from(page) * 64;
+    let mut copy = [0; 64];
+    copy.copy_from_slice(&words[first..first + 64]);
+    copy
+}
+
+/// The code with which a thread has halted, if it has.
+fn code_of(thread: &Thread) -> Option<u8>
+    ensures { result ≡ alone.code_of (mode_by thread.now.mode thread.now.regs) }
+{
+    match thread.mode {
+        Mode::Halted(code) => Some(code),
+        Mode::Running | Mode::Calling | Mode::Native => None,
     }
 }
 

@@ -6,16 +6,9 @@ ghost use Rattle.fk_run.specs.Report as definitions;
 mod tests;
 
 use crate::end::End;
-use fk_model::{List, Mode};
+use crate::threads::ThreadState;
+use fk_model::Mode;
 use std::alloc::{AllocError, Global};
-
-/// A thread as the report has it. Its path goes from its slot outwards: the last slot is one of the
-/// root's.
-#[derive(Debug, Drop)]
-pub struct ThreadState {
-    pub path: List<u8>,
-    pub mode: Mode,
-}
 
 /// A path as text: a slash before each slot, from the root inwards.
 fn path_text(alloc: Global, path: &[u8]) -> Result<String, AllocError>

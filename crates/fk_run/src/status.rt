@@ -1,9 +1,10 @@
 //! How a call of the program ends.
 ghost use Rattle.std.specs.Prelude.{◌≡◌, IfOk, string_bytes};
 ghost use Rattle.fk_run.specs.Status.{number_of, fault_line_of};
+ghost use Rattle.fk_run.specs.declared.status.Status.TheVariants as statuses;
 
 use fk_model::{NoMemory, Text};
-use std::alloc::Global;
+use std::alloc::{AllocError, Global};
 
 /// How a call of the program ends.
 #[derive(Debug, Drop, PartialEq, Eq)]
@@ -54,6 +55,22 @@ impl Status {
             Status::ShelfFault => 13,
             Status::NoMemory => 14,
         }
+    }
+}
+
+impl From<NoMemory> for Status {
+    ghost from_gives = { λ _ status. status ≡ statuses.NoMemory };
+
+    fn from(_: NoMemory) -> Status {
+        Status::NoMemory
+    }
+}
+
+impl From<AllocError> for Status {
+    ghost from_gives = { λ _ status. status ≡ statuses.NoMemory };
+
+    fn from(_: AllocError) -> Status {
+        Status::NoMemory
     }
 }
 

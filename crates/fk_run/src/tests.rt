@@ -1,16 +1,18 @@
-//! Whole calls over sources and sinks in memory.
+//! Whole calls over sources, sinks and shelves in memory.
+mod plays;
+
 use crate::{Outcome, Status, fault_line, fluke_top};
-use fk_causes::{MemSink, MemSource};
+use fk_causes::{MemShelf, MemSink, MemSource, Shelf};
 use fk_model::{Text, is_name};
 use std::alloc::Global;
 use std::test::Fail;
 
 const ZEROS: &str = "halt 0 events 1\nregs 0 0 0 0 0 0 0 0 0 0 0 0 0 0 0 0\n";
 
-/// What a call came to: its status, and what it wrote.
+/// What a call came to: its outcome, and what it wrote.
 #[derive(Drop)]
 struct Called {
-    status: Status,
+    outcome: Outcome,
     written: Vec<u8>,
 }
 
@@ -32,16 +34,30 @@ fn sink_of(alloc: Global, room: u32, failing: u64) -> Result<MemSink, Fail> {
     Ok(MemSink::new(alloc, room, vec![in alloc; failing]?)?)
 }
 
-fn call(
+/// A shelf with a trace under `t.trc`, whose call with this number fails; the first is the put of the
+/// trace, and 0 is none.
+fn shelf_of(alloc: Global, trace: &[u8], failing: u64) -> Result<MemShelf, Fail> {
+    let mut shelf = MemShelf::new(vec![in alloc; failing]?);
+    shelf.put("t.trc", trace)?;
+    Ok(shelf)
+}
+
+fn call_over(
     alloc: Global,
     words: &[&str],
     mut source: MemSource,
     mut sink: MemSink,
+    mut shelf: MemShelf,
 ) -> Result<Called, Fail> {
     let words = owned(alloc, words)?;
-    let Outcome { status } = fluke_top(alloc, &words, &mut source, &mut sink);
+    let outcome = fluke_top(alloc, &words, &mut source, &mut sink, &mut shelf);
     let written = sink.bytes().to_vec(alloc)?;
-    Ok(Called { status, written })
+    Ok(Called { outcome, written })
+}
+
+/// A call that has no need of a shelf.
+fn call(alloc: Global, words: &[&str], source: MemSource, sink: MemSink) -> Result<Called, Fail> {
+    call_over(alloc, words, source, sink, shelf_of(alloc, b"", 0)?)
 }
 
 /// Runs `exec` over a text, where nothing fails.
@@ -102,7 +118,7 @@ const ROWS: [(&str, u8, &str); 11] = [
 fn texts_end_as_worked_by_hand(rt: HostRuntime) -> Result<(), Fail> {
     for (text, number, written) in ROWS {
         let called = exec(rt.alloc(), text.as_bytes().to_vec(rt.alloc())?)?;
-        assert_eq!(rt; called.status.number(), number, "{text}");
+        assert_eq!(rt; called.outcome.status.number(), number, "{text}");
         assert_eq!(rt; called.written.as_slice(), written.as_bytes(), "{text}");
     }
     Ok(())
@@ -126,7 +142,11 @@ fn texts_and_programs_have_a_limit(rt: HostRuntime) -> Result<(), Fail> {
     ];
     for (line, count, number) in rows {
         let called = exec(rt.alloc(), repeated(rt.alloc(), line.as_bytes(), count)?)?;
-        assert_eq!(rt; called.status.number(), number, "{count} times {line}");
+        assert_eq!(rt;
+            called.outcome.status.number(),
+            number,
+            "{count} times {line}"
+        );
         let written = if number == 0 { ZEROS } else { "" };
         assert_eq!(rt;
             called.written.as_slice(),
@@ -139,11 +159,21 @@ fn texts_and_programs_have_a_limit(rt: HostRuntime) -> Result<(), Fail> {
 
 #[test]
 fn other_words_are_no_command(rt: HostRuntime) -> Result<(), Fail> {
-    let lines: [&[&str]; 4] = [&[], &["exec", "exec"], &["--help"], &["check"]];
+    let lines: [&[&str]; 9] = [
+        &[],
+        &["exec", "exec"],
+        &["--help"],
+        &["check"],
+        &["play"],
+        &["play", "A"],
+        &["play", ""],
+        &["play", "t.trc"],
+        &["play", "t", "t"],
+    ];
     for words in lines {
         let source = source_of(rt.alloc(), Vec::new(rt.alloc()), 1)?;
         let called = call(rt.alloc(), words, source, sink_of(rt.alloc(), 1000, 1)?)?;
-        assert_eq!(rt; called.status, Status::Usage);
+        assert_eq!(rt; called.outcome.status, Status::Usage);
         assert_eq!(rt; called.written.len(), 0);
     }
     Ok(())
@@ -169,7 +199,11 @@ fn a_fault_at_each_call_is_told(rt: HostRuntime) -> Result<(), Fail> {
         let source = source_of(rt.alloc(), repeated(rt.alloc(), b" ", bytes)?, read)?;
         let sink = sink_of(rt.alloc(), room, write)?;
         let called = call(rt.alloc(), &["exec"], source, sink)?;
-        assert_eq!(rt; called.status.number(), number, "read {read} write {write}");
+        assert_eq!(rt;
+            called.outcome.status.number(),
+            number,
+            "read {read} write {write}"
+        );
         assert_eq!(rt;
             called.written.as_slice(),
             written.as_bytes(),

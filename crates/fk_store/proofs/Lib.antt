@@ -23,3 +23,4 @@ pub mod HoldLaws
 pub mod Enumerated
 pub mod ReachLaws
 pub mod Scans
+pub mod Born

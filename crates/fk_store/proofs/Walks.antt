@@ -8,7 +8,8 @@ use Rattle.fk_model.specs.Places.{Path, same_path}
 use Rattle.fk_model.specs.Objects.{and_then}
 use Rattle.fk_store.specs.Names.{at, same_who}
 use Rattle.fk_store.specs.Contents.{Contents, birth_of, birth_there, home, is_live}
-use Rattle.fk_store.specs.Paths.{nowhere, place, from_home, path_by, path, space_at, IsApart}
+use Rattle.fk_model.specs.Who.{nowhere}
+use Rattle.fk_store.specs.Paths.{place, from_home, path_by, path, space_at, IsApart}
 use Rattle.fk_store.specs.Kept.{is_there, IsKept}
 use Rattle.fk_store.proofs.Homes.{home-found}
 

@@ -1,13 +1,15 @@
 -- Words: a page that answers is there, and the keeper of a missing one too.
-use Rattle.std.proofs.Common.{◌≡◌, ℕ, zero, suc, Bool, true, false, cond, if◌then◌else◌, List, [], ◌∷◌, Option, Some, None, option_map, is_some, IsSome, refl, sym, ap, subst, ◌∙◌}
+use Rattle.std.proofs.Common.{◌≡◌, ℕ, zero, suc, ◌/◌, ◌<◌, Bor, Bool, true, false, cond, if◌then◌else◌, List, [], ◌∷◌, Option, Some, None, option_map, is_some, IsSome, refl, sym, ap, subst, ◌∙◌}
+use Rattle.std.proofs.lemmas.Bool.{lt-ltb}
 use Rattle.std.proofs.lemmas.Option.{same_Some}
+use Rattle.std.specs.Option.{option_copied}
 use Rattle.std.specs.FinMap.{get}
 use Rattle.fk_model.specs.declared.names.Who.{Who}
 use Rattle.fk_model.specs.declared.names.Ptr as named
 use Rattle.fk_model.specs.declared.names.Ptr.TheVariants as pointers
 use Rattle.fk_model.specs.declared.body.Body as bodies_of
 use Rattle.fk_model.specs.declared.body.Body.TheVariants as bodies
-use Rattle.fk_model.specs.declared.limits.TheConstants.{SLOTS, MAPPINGS}
+use Rattle.fk_model.specs.declared.limits.TheConstants.{SLOTS, MAPPINGS, PAGE_WORDS, SPACE_WORDS}
 use Rattle.fk_model.specs.Places.{Path, Ptr}
 use Rattle.fk_model.specs.Places.Ptr.{Null, Dead, At, Out, Outside, Far}
 use Rattle.fk_model.specs.Objects.{Window, Extent, Body, region_of, covers, and_then}
@@ -64,6 +66,18 @@ reach_by-ends (suc n) w s page write = home_or w s page _ (mapped_or w _ _ (mapp
 reach-ends : (w : World) (s : Path) (page : ℕ) (write : Bool) → Ends w (definition.reach w s page write)
 unfolding definition.reach
 reach-ends w s page write = reach_by-ends MAPPINGS w s page write
+
+-- a page that is there answers
+pub reach_home : (w : World) (s : Path) (page : ℕ) (write : Bool) (words : List ℕ) → Some words ≡ w.page s page → definition.reach w s page write ≡ Home s page
+unfolding definition.reach definition.reach_by
+reach_home w s page write words there = ap (at_home (Home s page) _) (sym there)
+
+pub reach_there : (w : World) (s : Path) (page : ℕ) (write : Bool) → is_some (w.page s page) ≡ true → definition.reach w s page write ≡ Home s page
+reach_there w s page write some = by (w.page s page) refl some
+  where
+    by : (o : Option (List ℕ)) → w.page s page ≡ o → is_some o ≡ true → definition.reach w s page write ≡ Home s page
+    by None e some = absurd (cc)
+    by (Some words) e some = reach_home w s page write words (sym e)
 
 -- ---- a region's keeper is there
 
@@ -132,3 +146,18 @@ module _ (m : Contents) (kept : IsKept m) where
       by (reaches.Home s page) ends = (live-IsSpace m kept s (kept.paged s page (sym (ap is_some (page-path m kept s page)) ∙ ends)), ends)
       by (reaches.Missing s page o) ends = port page s o ends
       by reaches.Bad ends = tt
+
+  -- a page that is looked up is there, with its space
+  pub page_found : (space page : ℕ) (found : Option (Bor (List ℕ))) → option_copied found ≡ get m.pages (space, page) → is_some found ≡ true → IsReached m (reaches.Home space page)
+  page_found space page found is some = (live-IsSpace m kept space (kept.paged space page there), ap is_some (page-path m kept space page) ∙ there)
+    where
+      by : (o : Option (Bor (List ℕ))) → is_some o ≡ true → is_some (option_copied o) ≡ true
+      by None some = some
+      by (Some a) some = refl
+
+      there : is_some (get m.pages (space, page)) ≡ true
+      there = ap is_some (sym is) ∙ by found some
+
+-- a page that is there answers at each of its words
+pub reach_word_there : (w : World) (s : Path) (address : ℕ) (write : Bool) → address < SPACE_WORDS → is_some (w.page s (address / PAGE_WORDS)) ≡ true → Home s (address / PAGE_WORDS) ≡ definition.reach_word w s address write
+reach_word_there w s address write low some = rw (lt-ltb address SPACE_WORDS low, reach_there w s (address / PAGE_WORDS) write some) refl

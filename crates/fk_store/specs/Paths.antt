@@ -5,12 +5,9 @@ use Rattle.fk_model.specs.declared.body.Body.{Body}
 use Rattle.fk_model.specs.declared.body.Body.TheVariants.{Mutex, Cond, Mapping, Region, Port, Portset, Space, Thread, Reference}
 use Rattle.fk_model.specs.Places.{Path, same_path}
 use Rattle.fk_model.specs.Objects.{and_then}
+use Rattle.fk_model.specs.Who.{nowhere}
 use Rattle.fk_store.specs.Names.{at, same_who}
 use Rattle.fk_store.specs.Contents.{Contents, birth_there, home}
-
--- a path at which nothing stands, since no slot has this number
-abbrev pub nowhere : Path
-nowhere = 256 ∷ []
 
 -- the path of an object, where the paths of spaces are these
 abbrev pub place : (ℕ → Path) → Who → Path

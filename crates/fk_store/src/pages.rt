@@ -1,5 +1,5 @@
 //! The pages of all spaces.
-ghost use Rattle.std.specs.Prelude.{◌≡◌, T, OnOk, OnErr, IsSome, IsOk, IfOk, IfErr};
+ghost use Rattle.std.specs.Prelude.{◌≡◌, ◌<◌, [], T, unwrap_or, slice_set, OnOk, OnErr, IsSome, IsOk, IfOk, IfErr};
 ghost use Rattle.std.specs.Option.{option_copied};
 ghost use Rattle.std.specs.FinMap as map;
 ghost use Rattle.std.specs.FinMap.{is_sorted};
@@ -46,6 +46,14 @@ impl Page {
         ensures { self.new ≡ words.now }
     {
         *self.words = *words;
+    }
+
+    /// Writes over one word.
+    pub fn put(&mut self, at: u8, word: u64)
+        requires { at < 64 }
+        ensures { self.new ≡ slice_set self.old at word }
+    {
+        self.words[at as usize] = word;
     }
 }
 
@@ -108,6 +116,21 @@ impl Pages {
                 let new = Page::of(*self.entries.allocator(), words)?;
                 Ok(self.entries.insert(at, ((space, page), new))?)
             }
+        }
+    }
+
+    /// Writes over one word of a page that is there.
+    pub fn put_word(&mut self, space: u32, page: u8, at: u8, word: u64)
+        requires there { IsSome (map.get self.old (space, page)) }
+        requires at { at < 64 }
+        ensures { self.new ≡ map.insert self.old (space, page) (slice_set (unwrap_or (map.get self.old (space, page)) []) at word) }
+    {
+        match place_of_page(&self.entries, space, page) {
+            Ok(i) => {
+                let there = &mut self.entries[i].1;
+                there.put(at, word);
+            }
+            Err(_) => unreachable!(),
         }
     }
 

@@ -6,6 +6,7 @@ ghost use Rattle.fk_model.specs.World.{Edit, edited, apply};
 ghost use Rattle.fk_model.specs.World.Change.{Alter, Make, PutPage, DropPage};
 ghost use Rattle.fk_model.specs.Valid.{kind_there};
 ghost use Rattle.fk_model.specs.Places.{Path};
+ghost use Rattle.fk_model.specs.Who.{space_born};
 ghost use Rattle.fk_model.specs.declared.names.Who.{Who};
 ghost use Rattle.fk_store.specs.Names.{who_cmp, rank};
 ghost use Rattle.fk_store.specs.Orders.{IsFirstAfter};
@@ -62,6 +63,13 @@ impl Store {
         ensures { result ≡ (world self.now).next }
     {
         self.next
+    }
+
+    /// The path of a space is the one that the world finds by its birth number.
+    pub fn names(&self)
+        ensures { path self.now ≡ space_born (world self.now) }
+    {
+        let _below_2_32 = self.next;
     }
 
     /// The body of an object. The root has no name, and so no body here.

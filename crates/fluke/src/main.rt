@@ -1,10 +1,12 @@
-//! The program `fluke`: the words of its command line, over the standard streams.
+//! The program `fluke`: the words of its command line, over the standard streams and the current
+//! folder.
 //!
-//! It stands on `fk_run` for all that it does, and on `fk_causes` for the streams. It adds only what
-//! no contract can speak of: the arguments, the line on standard error, and the exit status.
+//! It stands on `fk_run` for all that it does, and on `fk_causes` for the streams and the folder. It
+//! adds only what no contract can speak of: the arguments, the line on standard error, and the exit
+//! status.
 #![tactic(auto)]
 
-use fk_causes::{StdSink, StdSource};
+use fk_causes::{FolderShelf, StdSink, StdSource};
 use fk_run::{Outcome, Status, fault_line, fluke_top};
 use std::env::Env;
 use std::io::ErrorKind;
@@ -37,7 +39,14 @@ fn main(rt: HostRuntime) -> ExitCode {
         Ok(words) => {
             let mut source = StdSource::new(rt.stdin());
             let mut sink = StdSink::new(rt.stdout());
-            let Outcome { status } = fluke_top(rt.alloc(), &words, &mut source, &mut sink);
+            let mut shelf = FolderShelf::new(&rt);
+            let Outcome { status, .. } = fluke_top(
+                rt.alloc(),
+                &words,
+                &mut source,
+                &mut sink,
+                &mut shelf,
+            );
             status
         }
         Err(status) => status,

@@ -1,6 +1,7 @@
 //! Texts of reports.
-use super::{ThreadState, report_text};
+use super::report_text;
 use crate::End;
+use crate::threads::ThreadState;
 use fk_model::{List, Mode};
 use std::alloc::Global;
 use std::test::Fail;

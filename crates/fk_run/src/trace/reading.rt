@@ -1,13 +1,10 @@
-//! Reading a trace, move by move.
-ghost use Rattle.std.specs.Prelude.{◌≡◌, ◌==◌, ◌++◌, ◌<◌, List, position, ⊤, IfOk, IfErr, IfSome, IfNone, OnSome};
+//! Reading a trace, line by line.
+ghost use Rattle.std.specs.Prelude.{◌≡◌, ◌==◌, ◌++◌, position, ⊤, IfSome, IfNone};
 ghost use Rattle.std.specs.Option.{option_map};
-ghost use Rattle.fk_run.specs.Trace.{first_line, BeginsWith, BeginsWithNone, HasNoFirstLine, Spells, IsWithin, IsCause, Gives};
+ghost use Rattle.fk_run.specs.Trace.{first_line, BeginsWith, BeginsWithNone, HasNoFirstLine};
 ghost use Rattle.fk_run.specs.TraceReading as steps;
-ghost use Rattle.fk_model.specs.declared.moves.Move as moves_of;
 
-use super::PlayFail;
-use fk_model::{List as Items, Move, Who, plain_number_up_to};
-use std::alloc::Global;
+use fk_model::{Move, Who, plain_number_up_to};
 
 fn index_of(byte: u8, text: &[u8]) -> Option<usize>
     ensures { result ≡ position (λ b. b == byte) text.now }
@@ -54,7 +51,7 @@ fn move_of(text: &[u8]) -> Option<Move>
 }
 
 /// What stands after the first line of a trace, where a text begins with that.
-fn after_first_line(text: &[u8]) -> Option<&[u8]>
+pub fn after_first_line(text: &[u8]) -> Option<&[u8]>
     ensures found { IfSome result (λ rest. text.now ≡ first_line ++ rest.now) }
     ensures none { IfNone result (HasNoFirstLine text.now) }
 {
@@ -62,50 +59,10 @@ fn after_first_line(text: &[u8]) -> Option<&[u8]>
 }
 
 /// The move whose line a text begins with, and what stands after that line.
-fn first_move(text: &[u8]) -> Option<(Move, &[u8])>
+pub fn first_move(text: &[u8]) -> Option<(Move, &[u8])>
     ensures found { IfSome result (λ first. BeginsWith text.now first.0 first.1.now) }
     ensures none { IfNone result (BeginsWithNone (λ _. ⊤) text.now) }
 {
     let (line, after) = cut_at(b'\n', text)?;
     Some((move_of(line)?, after))
-}
-
-/// The move whose line a text begins with, where it may follow so many others, and what stands after
-/// that line.
-fn next_move(budget: u64, done: u64, text: &[u8]) -> Option<(Move, &[u8])>
-    ensures found { IfSome result (λ first. BeginsWith text.now first.0 first.1.now) }
-    ensures within { OnSome result (done < budget) }
-    ensures none { IfNone result (BeginsWithNone (λ _. done < budget) text.now) }
-{
-    if done < budget {
-        first_move(text)
-    } else {
-        None
-    }
-}
-
-/// The moves of a trace, of which there may be as many as the budget has.
-///
-/// # Errors
-///
-/// `Trace` with the index of the first line that is misspelled or stands at the budget; a bad first
-/// line of the text counts as that of the move 0. `NoMemory` where there is no memory for the moves.
-pub fn read_trace(alloc: Global, budget: u64, text: &[u8]) -> Result<Items<Move>, PlayFail>
-    ensures found { IfOk result (λ moves. Spells (IsWithin budget) text.now moves) }
-    ensures cause { IfErr result (λ fail. IsCause (IsWithin budget) text.now fail) }
-    ensures back { (moves : List moves_of.Move) → Spells (IsWithin budget) text.now moves → Gives moves result }
-{
-    let Some(mut rest) = after_first_line(text) else {
-        return Err(PlayFail::Trace { index: 0 });
-    };
-    let mut moves = Items::new(alloc);
-    while !rest.is_empty() {
-        let index = moves.len() as u64;
-        let Some((one, after)) = next_move(budget, index, rest) else {
-            return Err(PlayFail::Trace { index });
-        };
-        moves.push(one)?;
-        rest = after;
-    }
-    Ok(moves)
 }

@@ -1,5 +1,5 @@
 //! Texts of traces, good and bad.
-use super::{PlayFail, read_trace, trace_text};
+use super::{first_move, trace_text};
 use fk_model::{Move, Who};
 use std::test::Fail;
 
@@ -11,7 +11,7 @@ const B: Who = Who {
 };
 
 #[test]
-fn a_trace_is_written_and_read_back(rt: HostRuntime) -> Result<(), Fail> {
+fn a_trace_has_a_line_for_each_move(rt: HostRuntime) -> Result<(), Fail> {
     let none: &[Move] = &[];
     let some = [
         Move { who: A, pick: None },
@@ -24,58 +24,54 @@ fn a_trace_is_written_and_read_back(rt: HostRuntime) -> Result<(), Fail> {
             pick: Some(B),
         },
     ];
-    let traces = [
-        (none, "fluke-trace 1\n"),
-        (
-            some.as_slice(),
-            "fluke-trace 1\n0.0\n4294967295.255 0.0\n0.0 4294967295.255\n",
-        ),
+    assert_eq!(rt; trace_text(rt.alloc(), none)?.as_str(), "fluke-trace 1\n");
+    assert_eq!(rt;
+        trace_text(rt.alloc(), &some)?.as_str(),
+        "fluke-trace 1\n0.0\n4294967295.255 0.0\n0.0 4294967295.255\n"
+    );
+    Ok(())
+}
+
+#[test]
+fn a_line_is_read_back(rt: HostRuntime) -> Result<(), Fail> {
+    let lines: [(&str, Who, Option<Who>, &str); 4] = [
+        ("0.0\n", A, None, ""),
+        ("0.0\n\nx", A, None, "\nx"),
+        ("4294967295.255 0.0\n1.0\n", B, Some(A), "1.0\n"),
+        ("0.0 4294967295.255\n", A, Some(B), ""),
     ];
-    for (moves, text) in traces {
-        assert_eq!(rt; trace_text(rt.alloc(), moves)?.as_str(), text);
-        let read = read_trace(rt.alloc(), 3, text.as_bytes())?;
-        assert_eq!(rt; read.as_slice(), moves, "{text}");
+    for (text, who, pick, rest) in lines {
+        let read = first_move(text.as_bytes());
+        assert_eq!(rt; read, Some((Move { who, pick }, rest.as_bytes())), "{text}");
     }
     Ok(())
 }
 
 #[test]
-fn the_first_bad_line_is_told(rt: HostRuntime) -> Result<(), Fail> {
-    let texts = [
-        // The first line.
-        ("", 0),
-        ("fluke-trace 1", 0),
-        ("fluke-trace 2\n1.0\n", 0),
-        ("fluke-trace 1\r\n1.0\n", 0),
-        ("fluke-trace 01\n1.0\n", 0),
-        ("1.0\n", 0),
-        // A line of a move.
-        ("fluke-trace 1\nx\n", 0),
-        ("fluke-trace 1\n1\n", 0),
-        ("fluke-trace 1\n1.\n", 0),
-        ("fluke-trace 1\n.1\n", 0),
-        ("fluke-trace 1\n1.0.0\n", 0),
-        ("fluke-trace 1\n+1.0\n", 0),
-        ("fluke-trace 1\n1.0\r\n", 0),
-        ("fluke-trace 1\n1.0\n\n", 1),
-        ("fluke-trace 1\n1.0\n01.0\n", 1),
-        ("fluke-trace 1\n1.0\n1.00\n", 1),
-        ("fluke-trace 1\n1.0\n1.256\n", 1),
-        ("fluke-trace 1\n1.0\n4294967296.0\n", 1),
-        ("fluke-trace 1\n1.0\n18446744073709551617.0\n", 1),
-        ("fluke-trace 1\n1.0\n1.0 \n1.0\n", 1),
-        ("fluke-trace 1\n1.0\n 1.0\n1.0\n", 1),
-        ("fluke-trace 1\n1.0 1.1\n1.0  1.1\n", 1),
-        ("fluke-trace 1\n1.0 1.1\n1.0 1.1 1.2\n", 1),
-        // The last line feed.
-        ("fluke-trace 1\n1.0\n1.1", 1),
-        // The budget, of three moves: the line there is bad, whatever it is.
-        ("fluke-trace 1\n1.0\n1.1\n1.2\n1.3\n", 3),
-        ("fluke-trace 1\n1.0\n1.1\n1.2\nx", 3),
+fn a_misspelled_line_is_refused(rt: HostRuntime) -> Result<(), Fail> {
+    let lines = [
+        "",
+        "\n",
+        "x\n",
+        "1\n",
+        "1.\n",
+        ".1\n",
+        "1.0.0\n",
+        "+1.0\n",
+        "1.0\r\n",
+        "01.0\n",
+        "1.00\n",
+        "1.256\n",
+        "4294967296.0\n",
+        "18446744073709551617.0\n",
+        "1.0 \n",
+        " 1.0\n",
+        "1.0  1.1\n",
+        "1.0 1.1 1.2\n",
+        "1.0",
     ];
-    for (text, index) in texts {
-        let read = read_trace(rt.alloc(), 3, text.as_bytes());
-        assert_eq!(rt; read.err(), Some(PlayFail::Trace { index }), "{text}");
+    for text in lines {
+        assert!(rt; first_move(text.as_bytes()).is_none(), "{text}");
     }
     Ok(())
 }

@@ -15,19 +15,22 @@ use fk_model::Who;
 use fk_model::limits::{PAGE_WORDS, SPACE_WORDS};
 
 impl Store {
-    /// Where the word at an address of a space is read or written; bad past the last page.
+    /// Where the word at an address of a space is read or written; bad past the last page. A page
+    /// that is there answers at once.
     pub fn reach_word(&self, space: u32, address: u64, write: bool) -> Reach
         ensures reach { reach_by (path self.now) result ≡ definition.reach_word (world self.now) (path self.now space) address write }
 
         // A page that answers is there, and so is a keeper.
         ensures there { IsReached self.now result }
     {
-        let _bodies = &self.bodies;
-        if address < SPACE_WORDS {
-            self.reach(space, (address / PAGE_WORDS) as u8, write)
-        } else {
-            Reach::Bad
+        if address >= SPACE_WORDS {
+            return Reach::Bad;
         }
+        let page = (address / PAGE_WORDS) as u8;
+        if self.pages.at(space, page).is_some() {
+            return Reach::Home { space, page };
+        }
+        self.reach(space, page, write)
     }
 
     /// Writes a word of a page that is there.
@@ -39,14 +42,7 @@ impl Store {
         ensures kinds { kind_there (world self.new) ≡ kind_there (world self.old) }
         ensures paths { path self.new ≡ path self.old }
     {
-        match self.page(space, page) {
-            Some(&old) => {
-                let mut words = old;
-                words[at as usize] = word;
-                self.put_page(space, page, &words).unwrap();
-            }
-            None => unreachable!(),
-        }
+        self.pages.put_word(space, page, at, word);
     }
 
     /// A space is held, or one above it, and somebody else than this thread decides there.

@@ -1,0 +1,4 @@
+pub mod BuiltCalls
+pub mod Doings
+pub mod Readiness
+pub mod Scans

@@ -1,0 +1,21 @@
+use Rattle.std.proofs.Common.{sym, inl, inr}
+use Rattle.fk_kernel.proofs.Doings.{idle_nobody, idle_halted, idle_native, idle_unbuilt, does_run, does_call}
+use Rattle.fk_kernel.proofs.doing.doing_of.Goals as goal
+
+pub returns-in-None : goal.returns-in-None
+returns-in-None c pick = idle_nobody _ _ pick (sym c.in-None.ensures.thread)
+
+pub returns-in-Running : goal.returns-in-Running
+returns-in-Running c = does_run _ _ _ _ c.in-Some.ensures.thread c.in-Running.is
+
+pub returns-in-Some-stage_in : goal.returns-in-Some-stage_in
+returns-in-Some-stage_in c = does_call _ _ _ _ _ c.in-Some.ensures.thread c.in-Calling.is c.in-Some-stage_in.ensures
+
+pub returns-in-None-stage_in : goal.returns-in-None-stage_in
+returns-in-None-stage_in c pick = idle_unbuilt _ _ _ pick _ c.in-Some.ensures.thread c.in-Calling.is c.in-None-stage_in.ensures
+
+pub returns-in-Halted : goal.returns-in-Halted
+returns-in-Halted c pick = elim c.in-Halted.is [
+  | inl halted ↦ idle_halted _ _ _ pick _ halted.0 c.in-Some.ensures.thread halted.1
+  | inr native ↦ idle_native _ _ _ pick _ c.in-Some.ensures.thread native
+]

@@ -1,0 +1,31 @@
+-- Commands: what the words of the command line ask for.
+use Rattle.std.specs.Prelude.{ℕ, List, [], ◌∷◌, ◌++◌, Option, Some, None, nat_eq, if◌then◌else◌, codes}
+use Rattle.std.specs.Cmp.Lexicographic.{pointwise}
+use Rattle.fk_model.specs.Names.{is_name}
+use Rattle.fk_run.specs.declared.command.Command as code
+use Rattle.fk_run.specs.declared.command.Command.TheVariants as variants
+
+pub data Command : Type 0 where
+  -- the source's text is assembled and run as one thread
+  Exec : Command
+  -- the source's scenario is run by the moves of the trace with this name
+  Play : (name : List ℕ) → Command
+
+-- the same as the code has it
+abbrev pub seen : code.Command → Command
+seen variants.Exec = Exec
+seen (variants.Play name) = Play name.now
+
+abbrev pub play_of : List ℕ → Option Command
+play_of name = if is_name name then Some (Play name) else None
+
+-- the command that the words are; none where they are no command
+abbrev pub command_of : List (List ℕ) → Option Command
+command_of [] = None
+command_of (word ∷ []) = if pointwise nat_eq word (codes "exec") then Some Exec else None
+command_of (word ∷ name ∷ []) = if pointwise nat_eq word (codes "play") then play_of name else None
+command_of (word ∷ name ∷ more ∷ words) = None
+
+-- the name under which a trace lies on the shelf
+abbrev pub trace_name : List ℕ → List ℕ
+trace_name name = name ++ codes ".trc"
