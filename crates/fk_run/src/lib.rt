@@ -1,12 +1,14 @@
-//! The top call: the words of the command line and the bytes of a source in, a text and a status out.
+//! The top call: the words of the command line, the bytes of a source and the files of a shelf in, a
+//! text and an outcome out.
 //!
-//! It stands on `fk_asm` for the words of a text, on `fk_isa` for the words of instructions, on
-//! `fk_causes` for the source and the sink, and on `fk_model` for what an instruction does. `machine`
-//! runs the words that the assembler makes, and `exec` joins the two.
+//! It stands on `fk_asm` for programs, on `fk_scenario` for scenarios, on `fk_store`, `fk_user` and
+//! `fk_kernel` for what moves do, and on `fk_causes` for the source, the sink and the shelf. `exec`
+//! assembles a text and lets `machine` run it. `playing` makes the first world of a scenario (`boot`),
+//! makes the moves of a trace (`trace`, `play`), and writes the report (`threads`, `report`).
 //!
-//! It promises that `fluke_top` ends with exactly the status, and writes exactly the bytes, that the
-//! definitions in `specs/` call for; that it answers a fault only where one happened in this call;
-//! and that `fault_line` says of a status what the definitions say. It always returns.
+//! It promises that `fluke_top` ends with the outcome, and writes the bytes, that the definitions in
+//! `specs/` call for (`Top.antt`); that it answers a fault only where one happened in this call; and
+//! that `fault_line` says of a status what the definitions say. It always returns.
 #![tactic(auto)]
 
 mod boot;
