@@ -103,7 +103,7 @@ module _ (w : World) (nester : Path) (slot : ℕ) (plain : IsPlain w nester slot
   IsTouched m later = IsPlain later nester slot × ((told : List Told) × IsOnward small m told (cut later nester slot))
 
   -- a port outside is seen by its slot
-  outward : (p seen : Ptr) → PtrImage root w p seen → p ≡ At port → is_within root port ≡ false → (i : ℕ) × (seen ≡ Out i)
+  pub outward : (p seen : Ptr) → PtrImage root w p seen → p ≡ At port → is_within root port ≡ false → (i : ℕ) × (seen ≡ Out i)
   outward _ _ Nulls e out = cc
   outward _ _ Deads e out = cc
   outward _ _ (Inside x) e out = let same : x ++ root ≡ port = cc in let here : is_within root port ≡ true = rw (sym same) (ap is_some (strip-append root x)) in cc
@@ -145,7 +145,7 @@ module _ (w : World) (nester : Path) (slot : ℕ) (plain : IsPlain w nester slot
   asked = record { mover = port; pick = pick; ask = asks.Accept }
 
   -- a port inside isn't served
-  unready : is_within root port ≡ true → (o : Outcome) → is_serving_port w port ≡ true → ⊥
+  pub unready : is_within root port ≡ true → (o : Outcome) → is_serving_port w port ≡ true → ⊥
   unready within o serving = by (strip root port) refl within
     where
       unserved : (v : Option Body) → holds is_served v ≡ false → holds (λ (state : Option ℕ × Bool). state.1) (and_then port_of v) ≡ true → ⊥

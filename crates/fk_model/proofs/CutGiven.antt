@@ -1,56 +1,53 @@
 -- The law of the cut for a Send of a server outside: the subtree sees that words are given to a thread of it, or that it has
 -- no room for them.
-use Rattle.std.proofs.Common.{◌≡◌, ℕ, zero, suc, ◌+◌, ◌-◌, ◌/◌, ◌%◌, ◌<◌, ◌≤◌, eqb, leb, ltb, min, Bool, true, false, cond, not, ◌&&◌, ◌||◌, List, [], ◌∷◌, ◌++◌, take, drop, length, Option, Some, None, is_some, is_none, option_map, unwrap_or, Result, Ok, Err, refl, sym, ap, subst, ◌∙◌, arith, append_assoc, length-append}
-use Rattle.std.proofs.lemmas.Bool.{le-leb, lt-ltb, eqb-false, and_parts}
+use Rattle.std.proofs.Common.{◌≡◌, ℕ, zero, suc, ◌+◌, ◌/◌, ◌%◌, ◌<◌, ◌≤◌, eqb, ltb, min, Bool, true, false, cond, ◌&&◌, List, [], ◌∷◌, ◌++◌, take, drop, length, Option, Some, None, is_some, is_none, option_map, unwrap_or, Ok, Err, refl, sym, ap, subst, ◌∙◌, arith}
+use Rattle.std.proofs.lemmas.Bool.{le-leb, lt-ltb, ne_eqb, and_parts}
 use Rattle.std.proofs.lemmas.List.{length-drop, length-take-le}
 use Rattle.std.proofs.Math.Seq.{drop-append_seam, take-append_seam}
 use Rattle.fk_model.specs.declared.limits.TheConstants.{PAGE_WORDS, SPACE_WORDS, MAPPINGS, MOST_WORDS}
-use Rattle.fk_model.specs.declared.names.Kind.{Kind}
 use Rattle.fk_model.specs.declared.names.Kind.TheVariants as kinds
 use Rattle.fk_model.specs.declared.moves.Ask.TheVariants as asks
-use Rattle.fk_model.specs.declared.statuses.status.TheConstants.{BADADDRESS, FULL, WRONGTURN, DENIED}
-use Rattle.fk_model.specs.declared.stage.Stage.{Stage}
+use Rattle.fk_model.specs.declared.statuses.status.TheConstants.{BADADDRESS, FULL, WRONGTURN}
 use Rattle.fk_model.specs.declared.stage.Stage.TheVariants.{ServerSend}
-use Rattle.fk_model.specs.declared.thread.Turn.{Turn}
 use Rattle.fk_model.specs.declared.thread.Turn.TheVariants as turns
 use Rattle.fk_model.specs.Places.{Path, same_path, strip, is_within, parent, slot_of, Ptr}
-use Rattle.fk_model.specs.Places.Ptr.{Null, Dead, At, Out, Outside, Far}
-use Rattle.fk_model.specs.Objects.{Mode, Peer, Talk, Fault, Thread, Body, kind_of, thread_of, and_then, holds}
-use Rattle.fk_model.specs.Objects.Mode.{Running, Calling}
-use Rattle.fk_model.specs.Objects.Peer.{Server, Service, Parked}
-use Rattle.fk_model.specs.Objects.Body.{Space, Thread_of}
+use Rattle.fk_model.specs.Places.Ptr.{At}
+use Rattle.fk_model.specs.Objects.{Talk, Thread, thread_of, and_then, holds}
+use Rattle.fk_model.specs.Objects.Peer.{Server}
+use Rattle.fk_model.specs.Objects.Body.{Space}
 use Rattle.fk_model.specs.World.{World, Change, apply_all, serves}
 use Rattle.fk_model.specs.World.Change.{Alter, PutPage}
 use Rattle.fk_model.specs.World.Edit.{Shift, Finish, End, CountMoved, SetFault}
-use Rattle.fk_model.specs.Searches.{talk_at, client_of, objects}
+use Rattle.fk_model.specs.Searches.{talk_at, client_of, client_at, objects}
 use Rattle.fk_model.specs.Reach.{Reach, at_home, mapped, followed, mapping_at, keeper, led_by, reach_by, reach, reach_word, words_at}
 use Rattle.fk_model.specs.Reach.Reach.{Home, Missing, Bad}
-use Rattle.fk_model.specs.Holds.{is_frozen, is_free}
+use Rattle.fk_model.specs.Holds.{is_free}
 use Rattle.fk_model.specs.Outcomes.{Said, Outcome, ◌>>=◌, when, done}
 use Rattle.fk_model.specs.Outcomes.Outcome.{Refused, Waits, Goes}
-use Rattle.fk_model.specs.Outcomes.Said.{Nothing}
+use Rattle.fk_model.specs.Outcomes.Said.{Nothing, Full, Given as SaidGiven}
+use Rattle.fk_model.specs.NativeRows.{is_serving_port, if_receiving, gives_words, gives_to, give_row}
 use Rattle.fk_model.specs.Readers.{own_page_at, own_page, their_page_at, their_page}
 use Rattle.fk_model.specs.Talks.{Line, line, same_side, receiving, thread_at}
-use Rattle.fk_model.specs.TransferRows.{overwritten, block, to_page_end, moved_words, has_sent, sends_words, sends_into, sends_to_thread, sends_to, sends, send}
+use Rattle.fk_model.specs.TransferRows.{overwritten, block, to_page_end, moved_words, sends_words, sends_into, sends_to_thread, sends, send}
 use Rattle.fk_model.specs.LinkRows.{user_at}
-use Rattle.fk_model.specs.Moves.{stage_row, is_for_porters, chooses, with_pick, closed, call_row, outcome, IsReady, stepped, step}
-use Rattle.fk_model.specs.Valid.{IsValid, is_fit, kind_there, is_one_of, leads_there, is_good_peer, lies_with}
+use Rattle.fk_model.specs.Moves.{with_pick, closed, call_row, outcome, IsReady, stepped, step}
+use Rattle.fk_model.specs.Valid.{is_fit, kind_there, leads_there, is_good_peer, lies_with}
 use Rattle.fk_model.specs.Sound.{IsSound}
 use Rattle.fk_model.specs.Frame.{listed}
 use Rattle.fk_model.specs.Cut.{is_out, ports_of, cut_ptr, cut, IsPlain}
-use Rattle.fk_model.specs.Further.{Touch, Onward, Told, is_outside_talk, if_awaiting, given_at, given_to, filled_at, thread_in, touch_row, IsOnward}
+use Rattle.fk_model.specs.Further.{Touch, Onward, Told, if_awaiting, given_to, filled_at, thread_in, touch_row, IsOnward}
 use Rattle.fk_model.specs.Further.Touch.{Given, Filled}
 use Rattle.fk_model.specs.Further.Onward.{ByOthers}
-use Rattle.fk_model.specs.CutLaws.{HasDone, KeepsCut, IsAtStage, moves, IsServerSend, HasFullPages, ServerKeepsCut}
+use Rattle.fk_model.specs.CutLaws.{HasDone, KeepsCut, IsAtStage, moves, IsServerSend, StageKeepsCut}
 use Rattle.fk_model.specs.Seen.Seen.{Onwards, Unseen, Other}
-use Rattle.fk_model.specs.Seen.{Seen, count_in, page_in, fills, given_by, given_of, received_words, on_inner, stage_touch, IsSeen}
-use Rattle.fk_model.specs.Image.{seeing, seen_talk, seen_thread, PtrImage, HasImage, AllInTalk, IsImage, ReachImage}
+use Rattle.fk_model.specs.Seen.{Seen, count_in, page_in, fills, given_by, given_of, received_words, on_inner, IsSeen}
+use Rattle.fk_model.specs.Image.{seen_thread, PtrImage, ReachImage}
 use Rattle.fk_model.specs.Image.PtrImage.{Nulls, Deads, Inside, PortAt, PortOut}
 use Rattle.fk_model.specs.Image.ReachImage.{Homes, Misses, Bads}
 use Rattle.fk_model.specs.ImageChanges.{ImageChanges}
 use Rattle.fk_model.specs.ImageChanges.ImageChange.{Alters, PutsPage}
 use Rattle.fk_model.specs.ImageChanges.ImageChanges.{Empty, Both, Beyond}
-use Rattle.fk_model.proofs.PlaceLaws.{same_path_eq, same_path_refl, strip_some, strip-append}
+use Rattle.fk_model.proofs.PlaceLaws.{same_path_eq, same_path_refl, strip-append}
 use Rattle.fk_model.proofs.Images.{cut-image}
 use Rattle.fk_model.proofs.ImageMemory.{reach_word-image, words_at-image}
 use Rattle.fk_model.proofs.ImageHolds.{strip_none, is_free-image, unheld-free}
@@ -97,6 +94,10 @@ there-word w s address write = by (ltb address SPACE_WORDS)
     by true = there-reach_by MAPPINGS w s (address / PAGE_WORDS) write
     by false = tt
 
+-- every page has all its words
+abbrev pub HasFullPages : World → Type 0
+HasFullPages w = (s : Path) (page : ℕ) (words : List ℕ) → w.page s page ≡ Some words → length words ≡ PAGE_WORDS
+
 full_page : (w : World) → HasFullPages w → (s : Path) (page : ℕ) → is_some (w.page s page) ≡ true → length (words_at w s page) ≡ PAGE_WORDS
 full_page w full s page there = by (w.page s page) refl there
   where
@@ -115,10 +116,6 @@ take_back m at page words inside long =
     let rest : List ℕ = words ++ drop (at + length words) page in
     let behind : drop at (take at page ++ rest) ≡ rest = subst (λ (n : ℕ). drop n (take at page ++ rest) ≡ rest) head (drop-append_seam (take at page) rest) in
     ap (take m) behind ∙ subst (λ (n : ℕ). take n rest ≡ words) long (take-append_seam words (drop (at + length words) page))
-
--- what arrived is what was sent
-block_back : (m address into : ℕ) (page other : List ℕ) → length page ≡ PAGE_WORDS → length other ≡ PAGE_WORDS → m ≤ to_page_end address → block m into (overwritten other (into % PAGE_WORDS) (block m address page)) ≡ block m address page
-block_back m address into page other long wide fits = take_back m (into % PAGE_WORDS) other (block m address page) (omega (arith, wide)) (block_long m address page long fits)
 
 -- ---- whom a server outside serves, it serves at a port outside
 
@@ -208,7 +205,7 @@ module _ (w : World) (nester : Path) (slot : ℕ) (plain : IsPlain w nester slot
   touches-when true o h = h
   touches-when false o h = nothing_seen Waits refl refl
 
-  touches-picked : (pick : Option Path) (o : Outcome) → Touches o → Touches (with_pick false pick o)
+  pub touches-picked : (pick : Option Path) (o : Outcome) → Touches o → Touches (with_pick false pick o)
   touches-picked pick (Refused status) h = touches-when (is_none pick) (Refused status) h
   touches-picked pick Waits h = h
   touches-picked pick (Goes cs said) h = touches-when (is_none pick) (Goes cs said) h
@@ -243,22 +240,7 @@ module _ (w : World) (nester : Path) (slot : ℕ) (plain : IsPlain w nester slot
 
     -- ---- the words that it gets
 
-    module _ (address count : ℕ) (page : List ℕ) (long : length page ≡ PAGE_WORDS) (some : 0 < moved_words address count receive.0 receive.1) where
-      abbrev m : ℕ
-      m = moved_words address count receive.0 receive.1
-
-      abbrev words : List ℕ
-      words = block m address page
-
-      fits : m ≤ to_page_end address
-      fits = omega arith
-
-      longs : length words ≡ m
-      longs = block_long m address page long fits
-
-      room : m ≤ min MOST_WORDS (min receive.1 (to_page_end receive.0))
-      room = omega arith
-
+    module _ (m : ℕ) (words : List ℕ) (longs : length words ≡ m) (some : 0 < m) (room : m ≤ min MOST_WORDS (min receive.1 (to_page_end receive.0))) where
       module _ (s : Path) (p : ℕ) (home : reach_word small z receive.0 true ≡ Home s p) (there : is_some (w.page (s ++ root) p) ≡ true) where
         abbrev put : List ℕ
         put = overwritten (words_at w (s ++ root) p) (receive.0 % PAGE_WORDS) words
@@ -274,7 +256,7 @@ module _ (w : World) (nester : Path) (slot : ℕ) (plain : IsPlain w nester slot
         given_row = rw here (awaiting (given_to small (k ∷ z) words) ∙ rw (lt-ltb 0 (length words) (omega (arith, longs, some)), le-leb (length words) (min MOST_WORDS (min receive.1 (to_page_end receive.0))) (omega (arith, longs, room)), home, words_at-image (cut-image w nester slot plain) s p) refl)
 
         read_back : received_words w client m put ≡ words
-        read_back = rw (is, awaits) (block_back m address receive.0 page (words_at w (s ++ root) p) long (full_page w full (s ++ root) p there) fits)
+        read_back = rw (is, awaits) (take_back m (receive.0 % PAGE_WORDS) (words_at w (s ++ root) p) words (omega (arith, full_page w full (s ++ root) p there)) longs)
 
         given : (tail : List Change) (said : Said) → ImageChanges root see (apply_all (far []) w) [] tail → AreQuiet root tail → Touches (Goes (far tail) said)
         unfolding apply_all
@@ -283,14 +265,25 @@ module _ (w : World) (nester : Path) (slot : ℕ) (plain : IsPlain w nester slot
             let form : touch ≡ Given (k ∷ z) words = cc in
             rw form (has_touched w nester slot plain (Given (k ∷ z) words) near (far tail) Nothing given_row (Both (PutsPage s p put) (Both (Alters k z (CountMoved (length words)) (CountMoved m) (ap (λ (n : ℕ). CountMoved n) longs) tt) (Both (Alters k z (Shift (length words)) (Shift m) (ap (λ (n : ℕ). Shift n) longs) tt) beyond))) (tt, (tt, (tt, quiet))))
 
-        sent : Touches (sends_words (user_at x) client client m address count page receive.0 (s ++ root) p (words_at w (s ++ root) p))
-        sent = by (eqb m count)
-          where
-            by : (b : Bool) → Touches (cond b (Goes (far (Alter me (Shift m) ∷ Alter me (Finish []) ∷ [])) Nothing) (Goes (far (Alter me (Shift m) ∷ [])) Nothing))
-            by true = given (Alter me (Shift m) ∷ Alter me (Finish []) ∷ []) Nothing (Beyond out (Beyond out Empty)) (tt, (tt, tt))
-            by false = given (Alter me (Shift m) ∷ []) Nothing (Beyond out Empty) (tt, tt)
+  -- ---- the row of a Send
 
-  -- ---- the row
+  sent : (turn : same_side talk.turn turns.Server ≡ true) (free : is_free w (z ++ root) t ≡ true) (receive : ℕ × ℕ) (awaits : receiving turns.Client t.mode ≡ Some receive) (address count : ℕ) (page : List ℕ) → length page ≡ PAGE_WORDS → 0 < moved_words address count receive.0 receive.1 →
+      (s : Path) (p : ℕ) → reach_word small z receive.0 true ≡ Home s p → is_some (w.page (s ++ root) p) ≡ true → Touches (sends_words (user_at x) client client (moved_words address count receive.0 receive.1) address count page receive.0 (s ++ root) p (words_at w (s ++ root) p))
+  sent turn free receive awaits address count page long some s p home there = by (eqb m count)
+    where
+      m : ℕ
+      m = moved_words address count receive.0 receive.1
+
+      far : List Change → List Change
+      far tail = PutPage (s ++ root) p (overwritten (words_at w (s ++ root) p) (receive.0 % PAGE_WORDS) (block (moved_words address count receive.0 receive.1) address page)) ∷ Alter client (CountMoved (moved_words address count receive.0 receive.1)) ∷ Alter client (Shift (moved_words address count receive.0 receive.1)) ∷ tail
+
+      goes : (tail : List Change) → ImageChanges root see (apply_all (far []) w) [] tail → AreQuiet root tail → Touches (Goes (far tail) Nothing)
+      goes tail beyond quiet =
+          given turn free receive awaits (moved_words address count receive.0 receive.1) (block (moved_words address count receive.0 receive.1) address page) (block_long (moved_words address count receive.0 receive.1) address page long (omega arith)) some (omega arith) s p home there tail Nothing beyond quiet
+
+      by : (b : Bool) → Touches (cond b (Goes (far (Alter me (Shift m) ∷ Alter me (Finish []) ∷ [])) Nothing) (Goes (far (Alter me (Shift m) ∷ [])) Nothing))
+      by true = goes (Alter me (Shift m) ∷ Alter me (Finish []) ∷ []) (Beyond out (Beyond out Empty)) (tt, (tt, tt))
+      by false = goes (Alter me (Shift m) ∷ []) (Beyond out Empty) (tt, tt)
 
   their : (turn : same_side talk.turn turns.Server ≡ true) (free : is_free w (z ++ root) t ≡ true) (receive : ℕ × ℕ) (awaits : receiving turns.Client t.mode ≡ Some receive) (address count : ℕ) (page : List ℕ) → length page ≡ PAGE_WORDS → 0 < moved_words address count receive.0 receive.1 →
       (a b : Reach) → reach_word small z receive.0 true ≡ a → IsThere w b → ReachImage root see w a b → Touches (their_page_at (λ s other. sends_words (user_at x) client client (moved_words address count receive.0 receive.1) address count page receive.0 s other (words_at w s other)) b)
@@ -336,6 +329,41 @@ module _ (w : World) (nester : Path) (slot : ℕ) (plain : IsPlain w nester slot
   call_seen : client_of w me ≡ Some client → (address count : ℕ) (pick : Option Path) → Touches (call_row w (user_at x) pick (ServerSend address count))
   unfolding call_row
   call_seen served address count pick = touches-closed _ (touches-picked pick _ (send_seen served address count))
+
+  -- ---- the row of a native server
+
+  touches-so : (b : Bool) (o : Outcome) → (b ≡ true → Touches o) → Touches (when b o)
+  touches-so true o h = h refl
+  touches-so false o h = nothing_seen Waits refl refl
+
+  native_words : same_side talk.turn turns.Server ≡ true → is_free w (z ++ root) t ≡ true → (receive : ℕ × ℕ) → receiving turns.Client t.mode ≡ Some receive → (port : Path) (words : List ℕ) → 0 < moved_words 0 (length words) receive.0 receive.1 → (a b : Reach) → reach_word small z receive.0 true ≡ a → IsThere w b → ReachImage root see w a b →
+      Touches (their_page_at (gives_words w port client words receive.0 receive.1) b)
+  native_words turn free receive awaits port words some _ _ home there (Homes s p) =
+      let m : ℕ = moved_words 0 (length words) receive.0 receive.1 in
+      given turn free receive awaits m (take m words) (length-take-le m words (omega arith)) some (omega arith) s p home there [] (SaidGiven (At port) m) Empty tt
+  native_words turn free receive awaits port words some _ _ home there (Misses s p keeper kept h) = nothing_seen Waits refl refl
+  native_words turn free receive awaits port words some _ _ home there Bads = nothing_seen Waits refl refl
+
+  native_gives : same_side talk.turn turns.Server ≡ true → is_free w (z ++ root) t ≡ true → (receive : ℕ × ℕ) → receiving turns.Client t.mode ≡ Some receive → (port : Path) (words : List ℕ) → eqb (length words) 0 ≡ false → Touches (gives_to w port words client receive)
+  native_gives turn free receive awaits port words many = by (eqb receive.1 0) refl
+    where
+      by : (b : Bool) → eqb receive.1 0 ≡ b → Touches (cond b (Goes (Alter client (End FULL []) ∷ []) (Full (At port))) (their_page w (z ++ root) receive.0 (gives_words w port client words receive.0 receive.1)))
+      by true e = filled turn free receive awaits e
+      by false e =
+          native_words turn free receive awaits port words (some_words 0 (length words) receive.0 receive.1 many e) (reach_word small z receive.0 true) (reach_word w (z ++ root) receive.0 true) refl (there-word w (z ++ root) receive.0 true)
+          (reach_word-image (cut-image w nester slot plain) z receive.0 true)
+
+  native_client : (go : Path → ℕ × ℕ → Outcome) → (same_side talk.turn turns.Server ≡ true → is_free w (z ++ root) t ≡ true → (receive : ℕ × ℕ) → receiving turns.Client t.mode ≡ Some receive → Touches (go client receive)) → Touches (if_receiving w client go t)
+  native_client go goes = by (receiving turns.Client t.mode) refl
+    where
+      by : (o : Option (ℕ × ℕ)) → receiving turns.Client t.mode ≡ o → Touches (if_receiving w client go t)
+      by None e = rw e (touches-when _ Waits (nothing_seen Waits refl refl))
+      by (Some receive) e = rw (e, its) (touches-so (is_free w (z ++ root) t && same_side talk.turn turns.Server) (go client receive) (λ on. let both = and_parts (is_free w (z ++ root) t) (same_side talk.turn turns.Server) on in goes both.1 both.0 receive e))
+
+  pub give_seen : (port : Path) → client_at w port ≡ Some client → (words : List ℕ) → Touches (give_row w port words)
+  unfolding give_row
+  give_seen port served [] = touches-when (is_serving_port w port) _ (nothing_seen (Goes [] (SaidGiven (At port) 0)) refl refl)
+  give_seen port served (word ∷ words) = touches-when (is_serving_port w port) _ (rw (served, is) (native_client (gives_to w port (word ∷ words)) (λ turn free receive awaits. native_gives turn free receive awaits port (word ∷ words) (ne_eqb (length (word ∷ words)) 0 (λ e. omega (arith, e))))))
 
 -- ---- the law
 
@@ -394,14 +422,14 @@ send_outside w nester slot plain full j s pick address count out at sound same f
     (rw is.1 (still-when (slot ∷ nester) (is_free w s is.0) _ (still-call (slot ∷ nester) w (j ∷ s) pick (ServerSend address count) (still-send (slot ∷ nester) w (j ∷ s) turns.Server address count)))) seen.1.0
 send_outside w nester slot plain full j s pick address count out at sound same fit ready Other seen = tt
 
-pub server_words_keep : ServerKeepsCut IsServerSend
-server_words_keep w nester slot x pick stage few full such at sound plain = by (is_within (slot ∷ nester) x) refl
+pub server_words_keep : StageKeepsCut IsServerSend
+server_words_keep w nester slot x pick stage such at sound plain = by (is_within (slot ∷ nester) x) refl
   where
     outside : (y : Path) → y ≡ x → (j : ℕ) (s : Path) → j ∷ s ≡ y → is_within (slot ∷ nester) x ≡ false → is_fit w x asks.Run ≡ true → IsReady w x pick asks.Run → (seen : Seen) → IsSeen w nester slot (moves x pick) seen → HasDone w nester slot (moves x pick) seen
     outside y e j s f out =
         let here : x ≡ j ∷ s = sym (f ∙ e) in
-        rw here (send_outside w nester slot plain full j s pick such.0 such.1 (rw here at out) (rw (such.2, here) at at) sound plain)
+        rw here (send_outside w nester slot plain sound.full j s pick such.0 such.1 (rw here at out) (rw (such.2, here) at at) sound plain)
 
     by : (b : Bool) → is_within (slot ∷ nester) x ≡ b → is_fit w x asks.Run ≡ true → IsReady w x pick asks.Run → (seen : Seen) → IsSeen w nester slot (moves x pick) seen → HasDone w nester slot (moves x pick) seen
-    by true e = server_send_keeps w nester slot x pick stage few such e at sound plain
+    by true e = server_send_keeps w nester slot x pick stage such e at sound plain
     by false e = outside x refl (slot_of x) (parent x) (stands_in_slot w sound x at.0 at.3) e

@@ -97,7 +97,7 @@ module _ (w : World) (nester : Path) (slot : ℕ) (plain : IsPlain w nester slot
       own_law w nester slot plain k q (Some y) stage at (still-call root w me (Some y) stage still) (λ p e free f fills through. rw (picked w me y stage picks) tt) sound same
 
 -- by a thread inside, and by one outside
-whole : (IsSuch : Stage → Type 0) → StageInsideKeepsCut IsSuch → ((w : World) (nester : Path) (slot : ℕ) → IsPlain w nester slot → (x : Path) (pick : Option Path) (stage : Stage) → IsSuch stage → is_within (slot ∷ nester) x ≡ false → IsAtStage w x stage → KeepsCut w nester slot (moves x pick)) → StageKeepsCut IsSuch
+pub whole : (IsSuch : Stage → Type 0) → StageInsideKeepsCut IsSuch → ((w : World) (nester : Path) (slot : ℕ) → IsPlain w nester slot → (x : Path) (pick : Option Path) (stage : Stage) → IsSuch stage → is_within (slot ∷ nester) x ≡ false → IsAtStage w x stage → KeepsCut w nester slot (moves x pick)) → StageKeepsCut IsSuch
 whole IsSuch inside outside w nester slot x pick stage such at sound plain = by (is_within (slot ∷ nester) x) refl
   where
     by : (b : Bool) → is_within (slot ∷ nester) x ≡ b → is_fit w x asks.Run ≡ true → IsReady w x pick asks.Run → (seen : Seen) → IsSeen w nester slot (moves x pick) seen → HasDone w nester slot (moves x pick) seen

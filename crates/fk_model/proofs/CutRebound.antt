@@ -160,7 +160,7 @@ alike_there see c small image free k q p stage inner t =
     (subst (λ (y : Path). IsImageOutcome [] see c (call_row small (user_at (k ∷ q)) p stage) (call_row c (user_at (k ∷ y)) p stage)) (append-nil q) (call_row-image image k q p p stage refl (inner.alike [] see small c image free k q p p)))
 
 -- rows that tell nothing
-quiet_heard : (see : Ptr → Ptr) (near far : Outcome) → Quiet [] near → Quiet [] far → IsHeard see near far
+pub quiet_heard : (see : Ptr → Ptr) (near far : Outcome) → Quiet [] near → Quiet [] far → IsHeard see near far
 quiet_heard see (Goes cs was) (Goes ds said) h g = Hushed was said h.mute g.mute
 quiet_heard see (Refused status) (Goes ds said) h g = tt
 quiet_heard see Waits (Goes ds said) h g = tt

@@ -31,7 +31,7 @@ use Rattle.fk_model.specs.Further.{Onward, Told, talks_outside, outside_row, own
 use Rattle.fk_model.specs.Further.Onward.{Own}
 use Rattle.fk_model.specs.Seen.{sends_out, only_fills, writes_inside, words_out, picked_inside, own_of, stage_touch, outer_touch, row_of}
 use Rattle.fk_model.specs.Seen.Seen.{Onwards, Unseen, Other}
-use Rattle.fk_model.specs.CutLaws.{KeepsCut, IsAtStage, moves, IsServerSend, IsServerOver, ServerInsideKeepsCut}
+use Rattle.fk_model.specs.CutLaws.{KeepsCut, IsAtStage, moves, IsServerSend, IsServerOver, StageInsideKeepsCut}
 use Rattle.fk_model.specs.Image.{seen_thread}
 use Rattle.fk_model.specs.ImageChanges.{IsImageOutcome}
 use Rattle.fk_model.proofs.PlaceLaws.{strip-append}
@@ -48,10 +48,10 @@ use Rattle.fk_model.proofs.CutOutside.{untouched, stage_outcome, stage_called}
 pub record Still (root : Path) (o : Outcome) : Type 0 where
   pub quiet : AreQuiet root (listed o)
 
-still-goes : {root : Path} {cs : List Change} {said : Said} → AreQuiet root cs → Still root (Goes cs said)
+pub still-goes : {root : Path} {cs : List Change} {said : Said} → AreQuiet root cs → Still root (Goes cs said)
 still-goes quiet = record { quiet = quiet }
 
-still-waits : {root : Path} → Still root Waits
+pub still-waits : {root : Path} → Still root Waits
 still-waits = record { quiet = tt }
 
 still-refused : {root : Path} {status : ℕ} → Still root (Refused status)
@@ -65,7 +65,7 @@ pub still-when : (root : Path) (test : Bool) (o : Outcome) → Still root o → 
 still-when root true o still = still
 still-when root false o still = still-waits
 
-still-if : (root : Path) (test : Bool) (o p : Outcome) → Still root o → Still root p → Still root (cond test o p)
+pub still-if : (root : Path) (test : Bool) (o p : Outcome) → Still root o → Still root p → Still root (cond test o p)
 still-if root true o p h g = h
 still-if root false o p h g = g
 
@@ -75,12 +75,12 @@ still-own root me write go (Missing s page None) still = still-refused
 still-own root me write go (Missing s page (Some port)) still = still-goes ((λ out. refl), tt)
 still-own root me write go Bad still = still-refused
 
-still-their : (root : Path) (go : Path → ℕ → Outcome) (r : Reach) → ((s : Path) (page : ℕ) → Still root (go s page)) → Still root (their_page_at go r)
+pub still-their : (root : Path) (go : Path → ℕ → Outcome) (r : Reach) → ((s : Path) (page : ℕ) → Still root (go s page)) → Still root (their_page_at go r)
 still-their root go (Home s page) still = still s page
 still-their root go (Missing s page keeper) still = still-waits
 still-their root go Bad still = still-waits
 
-still-picked : (root : Path) (chosen : Bool) (pick : Option Path) (o : Outcome) → Still root o → Still root (with_pick chosen pick o)
+pub still-picked : (root : Path) (chosen : Bool) (pick : Option Path) (o : Outcome) → Still root o → Still root (with_pick chosen pick o)
 still-picked root chosen pick (Refused status) h = still-when root (is_none pick) (Refused status) h
 still-picked root chosen pick Waits h = h
 still-picked root chosen pick (Goes cs said) h = still-when root (chosen || is_none pick) (Goes cs said) h
@@ -275,8 +275,8 @@ module _ (w : World) (nester : Path) (slot : ℕ) (plain : IsPlain w nester slot
 
 -- ---- by a server
 
-pub server_send_keeps : ServerInsideKeepsCut IsServerSend
-server_send_keeps w nester slot x pick stage few such within at sound plain =
+pub server_send_keeps : StageInsideKeepsCut IsServerSend
+server_send_keeps w nester slot x pick stage such within at sound plain =
     let under = thread_beneath w nester slot plain x at.0 within at.3 in
     rw under.2 (law under.0 under.1 (rw (under.2, such.2) at at) sound plain)
   where
@@ -284,10 +284,10 @@ server_send_keeps w nester slot x pick stage few such within at sound plain =
     law k q at sound plain =
         let image = cut-image w nester slot plain in
         silent_law w nester slot plain k q pick (ServerSend such.0 such.1) at (λ n o. refl) (still-send (slot ∷ nester) w (k ∷ (q ++ slot ∷ nester)) turns.Server such.0 such.1)
-        (λ p free. (send-same image free k q turns.Server such.0 such.1 (server_near image (k ∷ q) (client_of-image image (cut-served w nester slot sound.valid plain few) (k ∷ q)))).0) sound plain
+        (λ p free. (send-same image free k q turns.Server such.0 such.1 (server_near image (k ∷ q) (client_of-image image (cut-served w nester slot sound.valid plain sound.few) (k ∷ q)))).0) sound plain
 
-pub server_over_keeps : ServerInsideKeepsCut IsServerOver
-server_over_keeps w nester slot x pick stage few such within at sound plain =
+pub server_over_keeps : StageInsideKeepsCut IsServerOver
+server_over_keeps w nester slot x pick stage such within at sound plain =
     let under = thread_beneath w nester slot plain x at.0 within at.3 in
     rw under.2 (law under.0 under.1 (rw (under.2, such) at at) sound plain)
   where
@@ -295,4 +295,4 @@ server_over_keeps w nester slot x pick stage few such within at sound plain =
     law k q at sound plain =
         let image = cut-image w nester slot plain in
         silent_law w nester slot plain k q pick ServerOver at (λ n o. refl) (still-over (slot ∷ nester) w (k ∷ (q ++ slot ∷ nester)) turns.Server)
-        (λ p free. (over-same image free k q turns.Server (server_near image (k ∷ q) (client_of-image image (cut-served w nester slot sound.valid plain few) (k ∷ q)))).0) sound plain
+        (λ p free. (over-same image free k q turns.Server (server_near image (k ∷ q) (client_of-image image (cut-served w nester slot sound.valid plain sound.few) (k ∷ q)))).0) sound plain

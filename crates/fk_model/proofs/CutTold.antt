@@ -56,7 +56,7 @@ module _ {root : Path} {see : Ptr → Ptr} {small big : World} (image : IsImage 
   same_closed k q Waits (Refused refusal) h = absurd h.0
   same_closed k q Waits (Goes ds told) h = absurd h.0
 
-  same_call : (k : ℕ) (q : Path) (p : Option Path) (stage : Stage) → chooses stage ≡ false → is_for_porters stage ≡ false → Same image (stage_row small (user_at (k ∷ q)) None stage) (stage_row big (user_at (k ∷ (q ++ root))) None stage) →
+  pub same_call : (k : ℕ) (q : Path) (p : Option Path) (stage : Stage) → chooses stage ≡ false → is_for_porters stage ≡ false → Same image (stage_row small (user_at (k ∷ q)) None stage) (stage_row big (user_at (k ∷ (q ++ root))) None stage) →
       Same image (call_row small (user_at (k ∷ q)) p stage) (call_row big (user_at (k ∷ (q ++ root))) p stage)
   same_call k q None stage picks users h = rw (alone small (k ∷ q) stage picks users, alone big (k ∷ (q ++ root)) stage picks users) (same_closed k q _ _ h)
   same_call k q (Some y) stage picks users h = rw (picked big (k ∷ (q ++ root)) y stage picks) (tt, tt)
@@ -82,7 +82,7 @@ module _ {root : Path} {see : Ptr → Ptr} {small big : World} (image : IsImage 
       by (Some seen) None is h = absurd h
 
 -- of a world that is all inside, the clients are found alike
-client_same : {see : Ptr → Ptr} {small big : World} (image : IsImage [] see small big) → IsApart [] see big → (me : Path) → AlikeOptions (IsBeneath []) (client_of small me) (client_of big (me ++ []))
+pub client_same : {see : Ptr → Ptr} {small big : World} (image : IsImage [] see small big) → IsApart [] see big → (me : Path) → AlikeOptions (IsBeneath []) (client_of small me) (client_of big (me ++ []))
 unfolding client_of
 client_same {see} {small} {big} image apart me =
     subst (λ (xs : List Path). AlikeOptions (IsBeneath []) (find (λ c. holds (λ (talk : Talk). serves me talk.peer) (talk_at small c)) (objects small)) (find (λ c. holds (λ (talk : Talk). serves (me ++ []) talk.peer) (talk_at big c)) xs)) (sym (beneath-image image []))
@@ -91,7 +91,7 @@ client_same {see} {small} {big} image apart me =
 -- ---- a row of its own, at the same path
 
 -- the row of a move of its own, of a thread at a stage
-abbrev its_row : Option Path → ℕ → Stage → World → Path → Outcome
+abbrev pub its_row : Option Path → ℕ → Stage → World → Path → Outcome
 its_row p n stage w x = cond (talks_outside w x && is_none p) (closed (user_at x) (outside_row w (user_at x) n stage (call_row w (user_at x) p stage))) (call_row w (user_at x) p stage)
 
 its_row_is : (p : Option Path) (n : ℕ) (stage : Stage) (w : World) (x : Path) (t : Thread) (todo : List Stage) (rest : List ℕ) → thread_in w x ≡ Some t → t.mode ≡ Calling (stage ∷ todo) rest → onward_row w (Own x p n) ≡ when (is_free w (parent x) t) (its_row p n stage w x)
@@ -104,7 +104,7 @@ its_row_is p n stage w x t todo rest is e = ap (own_row w x p n) is ∙ own_is w
     by false = refl
 
 -- rows that are alike and heard alike in every image with the same ports outside
-abbrev IsRebound : Option Path → ℕ → Stage → Type 0
+abbrev pub IsRebound : Option Path → ℕ → Stage → Type 0
 IsRebound p n stage = (see : Ptr → Ptr) (small c : World) (image : IsImage [] see small c) → ((p : Ptr) → is_out (see p) ≡ is_out p) → IsCutWorld c → (k : ℕ) (q : Path) → Same image (its_row p n stage small (k ∷ q)) (its_row p n stage c (k ∷ (q ++ [])))
 
 module _ (bind : ℕ → ℕ) (c : World) (world : IsCutWorld c) (k : ℕ) (q : Path) (p : Option Path) (n : ℕ) (stage : Stage) (at : IsAtStage c (k ∷ q) stage) (alike : IsRebound p n stage) where
@@ -124,13 +124,13 @@ module _ (bind : ℕ → ℕ) (c : World) (world : IsCutWorld c) (k : ℕ) (q : 
       subst (λ (o : Outcome). OnwardTo (rebound bind c) (Own (k ∷ q) p n) o (map (rebound_told bind) told) (rebound bind later)) (sym near_is)
       (gone_anew bind c world k q p n _ _ near.0 far.0 near.1 told later (subst (λ (o : Outcome). OnwardTo c (Own (k ∷ q) p n) o told later) far_is onward))
 
-told_rebinds : (IsSuch : Stage → Type 0) → ((p : Option Path) (n : ℕ) (stage : Stage) → IsSuch stage → IsRebound p n stage) → StageRebinds IsSuch
+pub told_rebinds : (IsSuch : Stage → Type 0) → ((p : Option Path) (n : ℕ) (stage : Stage) → IsSuch stage → IsRebound p n stage) → StageRebinds IsSuch
 told_rebinds IsSuch alike c [] p n stage such at bind told later world onward = absurd (no_thread at.0 (c.body []) (root_seen world) at.3)
 told_rebinds IsSuch alike c (k ∷ q) p n stage such at bind told later world onward = told_anew bind c world k q p n stage at (alike p n stage such) told later onward
 
 -- ---- a server
 
-silent_row : (p : Option Path) (n : ℕ) (stage : Stage) (w : World) (x : Path) → ((n : ℕ) (o : Outcome) → outside_row w (user_at x) n stage o ≡ o) → its_row p n stage w x ≡ call_row w (user_at x) p stage
+pub silent_row : (p : Option Path) (n : ℕ) (stage : Stage) (w : World) (x : Path) → ((n : ℕ) (o : Outcome) → outside_row w (user_at x) n stage o ≡ o) → its_row p n stage w x ≡ call_row w (user_at x) p stage
 silent_row p n stage w x silent = rw (silent n (call_row w (user_at x) p stage), call_closed w x p stage) (by (talks_outside w x && is_none p))
   where
     by : (b : Bool) → cond b (call_row w (user_at x) p stage) (call_row w (user_at x) p stage) ≡ call_row w (user_at x) p stage

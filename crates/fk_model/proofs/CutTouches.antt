@@ -1,46 +1,42 @@
 -- The law of rebinding for what the outside does to a subtree: with other outward ports it is done in the same way.
-use Rattle.std.proofs.Common.{◌≡◌, ℕ, ◌%◌, eqb, leb, ltb, min, Bool, true, false, cond, not, ◌&&◌, List, [], ◌∷◌, ◌++◌, map, length, Option, Some, None, IfSome, is_none, is_some, option_map, refl, sym, ap, subst, ◌∙◌, append-nil}
+use Rattle.std.proofs.Common.{◌≡◌, ℕ, ◌%◌, eqb, leb, ltb, min, Bool, true, false, cond, ◌&&◌, List, [], ◌∷◌, ◌++◌, map, length, Option, Some, None, IfSome, is_none, is_some, option_map, refl, sym, ap, subst, ◌∙◌, append-nil}
 use Rattle.std.proofs.lemmas.Bool.{and_parts}
 use Rattle.fk_model.specs.declared.limits.TheConstants.{PAGE_WORDS, MOST_WORDS}
 use Rattle.fk_model.specs.declared.statuses.status.TheConstants.{FULL, ENDED}
 use Rattle.fk_model.specs.declared.thread.Turn.TheVariants as turns
 use Rattle.fk_model.specs.Places.{Path, Ptr}
 use Rattle.fk_model.specs.Places.Ptr.{Outside}
-use Rattle.fk_model.specs.Objects.{Peer, Talk, Fault, Thread, Body, space_of, thread_of, and_then, holds}
+use Rattle.fk_model.specs.Objects.{Peer, Talk, Fault, Thread, Body, space_of, and_then, holds}
 use Rattle.fk_model.specs.Objects.Peer.{Server}
-use Rattle.fk_model.specs.Objects.Body.{Space, Thread_of}
-use Rattle.fk_model.specs.World.{World, Change, apply_all}
-use Rattle.fk_model.specs.World.Change.{Alter, PutPage, DropPage}
+use Rattle.fk_model.specs.Objects.Body.{Space}
+use Rattle.fk_model.specs.World.{World, apply_all}
+use Rattle.fk_model.specs.World.Change.{Alter}
 use Rattle.fk_model.specs.World.Edit.{Shift, Finish, End, SetTalk, CountMoved, PassTurn, SetFault, SetTaker}
-use Rattle.fk_model.specs.Searches.{talk_at, fault_at}
 use Rattle.fk_model.specs.Reach.{words_at}
-use Rattle.fk_model.specs.Holds.{is_frozen, is_free, is_unheld}
-use Rattle.fk_model.specs.Outcomes.{Said, Outcome, when}
+use Rattle.fk_model.specs.Holds.{is_free, is_unheld}
+use Rattle.fk_model.specs.Outcomes.{Outcome, when}
 use Rattle.fk_model.specs.Outcomes.Outcome.{Refused, Waits, Goes}
-use Rattle.fk_model.specs.Outcomes.Said.{Nothing}
 use Rattle.fk_model.specs.Talks.{same_side, receiving, is_talking}
 use Rattle.fk_model.specs.TransferRows.{overwritten, to_page_end}
-use Rattle.fk_model.specs.LinkRows.{connecting_to, new_talk}
+use Rattle.fk_model.specs.LinkRows.{new_talk}
 use Rattle.fk_model.specs.Cut.{is_out, seen_by, unheld}
-use Rattle.fk_model.specs.Further.{Touch, Onward, Told, is_outside, on_found, is_outside_talk, taken_at, if_awaiting, given_at, given_to, filled_at, handed_to, left_by_peer, taken_fault, done_fault, thread_in, touch_row, onward_row, OnwardTo, IsOnward}
+use Rattle.fk_model.specs.Further.{Touch, Told, is_outside, on_found, is_outside_talk, taken_at, if_awaiting, given_at, given_to, left_by_peer, taken_fault, done_fault, thread_in, touch_row, onward_row, OnwardTo}
 use Rattle.fk_model.specs.Further.Touch.{Taken, Given, Filled, Handed, Left, FaultTaken, FaultDone, PageGiven, PageTaken}
 use Rattle.fk_model.specs.Further.Onward.{ByOthers}
-use Rattle.fk_model.specs.Image.{seeing, seen_peer, seen_talk, seen_fault, seen_thread, HasImage, IfServer, AllInTalk, AllInFault, IsPlainBody, IsImage, IsCutWorld, AlikeOptions, IsSeenAs, IsSeenThread}
-use Rattle.fk_model.specs.ImageChanges.{seen_edit, ImageChanges, IsImageOutcome}
+use Rattle.fk_model.specs.Image.{seeing, seen_peer, seen_talk, seen_fault, seen_thread, IsImage, IsCutWorld, AlikeOptions, IsSeenAs, IsSeenThread}
+use Rattle.fk_model.specs.ImageChanges.{ImageChanges, IsImageOutcome}
 use Rattle.fk_model.specs.ImageChanges.ImageChange.{Alters, AltersOut, PutsPage, DropsPage}
 use Rattle.fk_model.specs.ImageChanges.ImageChanges.{Empty, Both}
 use Rattle.fk_model.specs.Rebind.{rebound_ptr, rebound, rebound_told}
-use Rattle.fk_model.specs.RebindLaws.{Rebinds, TouchRebinds}
+use Rattle.fk_model.specs.RebindLaws.{TouchRebinds}
 use Rattle.fk_model.proofs.Images.{rebound-image}
-use Rattle.fk_model.proofs.ImageMemory.{root_space, root_seen, words_at-image}
+use Rattle.fk_model.proofs.ImageMemory.{root_space, words_at-image}
 use Rattle.fk_model.proofs.ImageHolds.{is_unheld-image, is_free-image}
 use Rattle.fk_model.proofs.ImageTalks.{thread_there-image}
 use Rattle.fk_model.proofs.ImageWaits.{connecting_to-image}
-use Rattle.fk_model.proofs.ImageOutcomes.{append-image, their_page-image}
+use Rattle.fk_model.proofs.ImageOutcomes.{their_page-image}
 use Rattle.fk_model.proofs.ImageRuns.{changes-image}
-use Rattle.fk_model.proofs.CutInside.{when_same}
 use Rattle.fk_model.proofs.CutRebound.{same_image, out_kept, top_free}
-use Rattle.fk_model.proofs.CutClients.{peer_out}
 
 -- ---- who is outside, in a world that is all inside
 

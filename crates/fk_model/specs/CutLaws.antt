@@ -7,7 +7,7 @@ use Rattle.fk_model.specs.declared.instruction.Act.TheVariants.{Store}
 use Rattle.fk_model.specs.declared.moves.Ask.{Ask}
 use Rattle.fk_model.specs.declared.moves.Ask.TheVariants as asks
 use Rattle.fk_model.specs.declared.stage.Stage.{Stage}
-use Rattle.fk_model.specs.declared.stage.Stage.TheVariants.{Create, Destroy, Rename, Point, GetState, SpaceHold, PageTake, MutexLock, ClientSend, ClientOver, ServerSend, ServerOver}
+use Rattle.fk_model.specs.declared.stage.Stage.TheVariants.{Create, Destroy, Rename, Point, GetState, SpaceHold, PageTake, MutexLock, ClientSend, ClientOver, ServerSend, ServerOver, ServerEnd, Disconnect}
 use Rattle.fk_model.specs.Places.{Path, is_within}
 use Rattle.fk_model.specs.Objects.{Mode, Thread, thread_of, and_then}
 use Rattle.fk_model.specs.Objects.Mode.{Running, Calling}
@@ -114,18 +114,18 @@ IsServerOver stage = stage ≡ ServerOver
 abbrev pub IsClientOver : Stage → Type 0
 IsClientOver stage = stage ≡ ClientOver
 
--- the law for every move of a user thread inside the subtree that is at such a stage of a server, while birth numbers are
--- below 2^32: whom it serves is found by a walk from the root, which else may not come so far
-abbrev pub ServerInsideKeepsCut : (Stage → Type 0) → Type 0
-ServerInsideKeepsCut IsSuch =
-    (w : World) (nester : Path) (slot : ℕ) (x : Path) (pick : Option Path) (stage : Stage) → w.next ≤ depth → IsSuch stage → is_within (slot ∷ nester) x ≡ true → IsAtStage w x stage → KeepsCut w nester slot (moves x pick)
+-- the law for every give of a native server
+abbrev pub GiveKeepsCut : Type 0
+GiveKeepsCut = (w : World) (nester : Path) (slot : ℕ) (port : Path) (pick : Option Path) (words : List ℕ) (len : ℕ) → KeepsCut w nester slot (record { mover = port; pick = pick; ask = asks.Give words len })
 
--- every page has all its words
-abbrev pub HasFullPages : World → Type 0
-HasFullPages w = (s : Path) (page : ℕ) (words : List ℕ) → w.page s page ≡ Some words → length words ≡ PAGE_WORDS
+-- the law for every Over of a native server
+abbrev pub OverKeepsCut : Type 0
+OverKeepsCut = (w : World) (nester : Path) (slot : ℕ) (port : Path) (pick : Option Path) → KeepsCut w nester slot (record { mover = port; pick = pick; ask = asks.Over })
 
--- the law for every move of a user thread at such a stage of a server, inside the subtree or outside, while birth numbers are
--- below 2^32 and pages are full: what arrived is read back from the receiver's page
-abbrev pub ServerKeepsCut : (Stage → Type 0) → Type 0
-ServerKeepsCut IsSuch =
-    (w : World) (nester : Path) (slot : ℕ) (x : Path) (pick : Option Path) (stage : Stage) → w.next ≤ depth → HasFullPages w → IsSuch stage → IsAtStage w x stage → KeepsCut w nester slot (moves x pick)
+-- ---- ends
+
+abbrev pub IsDisconnect : Stage → Type 0
+IsDisconnect stage = stage ≡ Disconnect
+
+abbrev pub IsServerEnd : Stage → Type 0
+IsServerEnd stage = stage ≡ ServerEnd

@@ -14,7 +14,7 @@ use Rattle.fk_model.specs.Objects.{Peer, Talk, Fault, Thread, thread_of, and_the
 use Rattle.fk_model.specs.Objects.Peer.{Server}
 use Rattle.fk_model.specs.World.{World, Change}
 use Rattle.fk_model.specs.World.Change.{Alter, PutPage, DropPage}
-use Rattle.fk_model.specs.World.Edit.{End, SetTalk, CountMoved, SetFault}
+use Rattle.fk_model.specs.World.Edit.{End, SetTalk, CountMoved, PassTurn, SetFault}
 use Rattle.fk_model.specs.Searches.{talk_at, fault_at, client_of, faulter_of, client_at, pointers}
 use Rattle.fk_model.specs.Outcomes.{Said, Outcome, Caller, path_of}
 use Rattle.fk_model.specs.Outcomes.Outcome.{Refused, Waits, Goes}
@@ -56,6 +56,18 @@ abbrev pub drops_page : List Change → Bool
 drops_page [] = false
 drops_page (DropPage s page ∷ cs) = true
 drops_page (c ∷ cs) = drops_page cs
+
+-- a turn is passed
+abbrev pub passes_turn : List Change → Bool
+passes_turn [] = false
+passes_turn (Alter x (PassTurn turn) ∷ cs) = true
+passes_turn (c ∷ cs) = passes_turn cs
+
+-- a talk is ended
+abbrev pub ends_talk : List Change → Bool
+ends_talk [] = false
+ends_talk (Alter x (SetTalk None) ∷ cs) = true
+ends_talk (c ∷ cs) = ends_talk cs
 
 -- a page within the subtree is put
 abbrev pub writes_inside : Path → List Change → Bool
@@ -145,8 +157,8 @@ on_place root touch (Err status) = None
 abbrev pub stage_touch : World → Path → Caller → Option Path → List Change → Stage → Option Touch
 stage_touch w root c pick changes (Wait set) = on_inner root (λ x q. taken_as q (candidate w c.space set x)) pick
 stage_touch w root c pick changes (ServerSend address count) = on_inner root (given_of w changes) (client_of w (path_of c))
-stage_touch w root c pick changes ServerOver = on_inner root (λ x q. Some (Handed q)) (client_of w (path_of c))
-stage_touch w root c pick changes ServerEnd = on_inner root (λ x q. Some (Left q)) (client_of w (path_of c))
+stage_touch w root c pick changes ServerOver = if passes_turn changes then on_inner root (λ x q. Some (Handed q)) (client_of w (path_of c)) else None
+stage_touch w root c pick changes ServerEnd = if ends_talk changes then on_inner root (λ x q. Some (Left q)) (client_of w (path_of c)) else None
 stage_touch w root c pick changes stages.FaultDone = on_inner root (λ x q. Some (FaultDone q)) (faulter_of w (path_of c))
 stage_touch w root c pick changes (PageGive s page address) = on_place root (λ q. page_given q page (page_in changes)) (place w c s)
 stage_touch w root c pick changes (PageTake s page address) = if drops_page changes then on_place root (λ q. Some (PageTaken q page)) (place w c s) else None

@@ -1,12 +1,12 @@
 -- What a store, and the core above it, keep more strongly than validity.
-use Rattle.std.specs.Prelude.{◌≡◌, ℕ, ◌<◌, ◌≤◌, Bool, true, false, not, ◌&&◌, ◌==◌, nat_le, is_some, ◌∷◌, Some, if◌then◌else◌}
-use Rattle.fk_model.specs.declared.limits.TheConstants.{LAST_USER_SLOT, LAST_SCRATCH_SLOT, LAST_PORTER_SLOT, MOST_STOPS}
+use Rattle.std.specs.Prelude.{◌≡◌, ℕ, ◌<◌, ◌≤◌, Bool, true, false, not, ◌&&◌, ◌==◌, nat_le, is_some, List, ◌∷◌, length, Some, if◌then◌else◌}
+use Rattle.fk_model.specs.declared.limits.TheConstants.{LAST_USER_SLOT, LAST_SCRATCH_SLOT, LAST_PORTER_SLOT, MOST_STOPS, PAGE_WORDS}
 use Rattle.fk_model.specs.Places.{Path, parent, is_within, Ptr}
 use Rattle.fk_model.specs.Places.Ptr.{At}
 use Rattle.fk_model.specs.Objects.{Peer, Talk, Fault, Thread, Body, thread_of, reference_of, and_then, holds}
 use Rattle.fk_model.specs.Objects.Peer.{Server, Service, Parked}
 use Rattle.fk_model.specs.World.{World}
-use Rattle.fk_model.specs.Searches.{talk_at, fault_at}
+use Rattle.fk_model.specs.Searches.{depth, talk_at, fault_at}
 use Rattle.fk_model.specs.Holds.{holder_of}
 use Rattle.fk_model.specs.Shapes.{IsShapedMode, IsCodeInRange}
 use Rattle.fk_model.specs.StateRows.{is_native}
@@ -31,6 +31,9 @@ stands_in k b =
 
 pub record IsSound (w : World) : Type 0 where
   pub valid : IsValid w
+  -- birth numbers are below 2^32, and each page has all its words
+  pub few : w.next ≤ depth
+  pub full : (s : Path) (page : ℕ) (words : List ℕ) → w.page s page ≡ Some words → length words ≡ PAGE_WORDS
   -- a space is younger than the one in which it lies
   pub younger : (k : ℕ) (x : Path) (birth above : ℕ) → birth_at w (k ∷ x) ≡ Some birth → birth_at w x ≡ Some above → above < birth
   pub shaped : (x : Path) (t : Thread) → and_then thread_of (w.body x) ≡ Some t → IsShapedMode t.mode

@@ -1,6 +1,6 @@
 //! The law of the cut, each kind of move the contract of a function that does nothing: what a move of the world does to a
 //! subtree is what the subtree, seen alone, does by the move as which it is seen.
-ghost use Rattle.fk_model.specs.CutLaws.{AcceptKeepsCut, InstructionKeepsCut, IsClientOver, IsClientSend, IsCreate, IsDestroy, IsGetState, IsHold, IsLock, IsPageTake, IsPoint, IsRename, IsServerOver, IsServerSend, ServerInsideKeepsCut, ServerKeepsCut, StageInsideKeepsCut, StageKeepsCut, StageOutsideKeepsCut};
+ghost use Rattle.fk_model.specs.CutLaws.{AcceptKeepsCut, GiveKeepsCut, InstructionKeepsCut, IsClientOver, IsClientSend, IsCreate, IsDestroy, IsDisconnect, IsGetState, IsHold, IsLock, IsPageTake, IsPoint, IsRename, IsServerEnd, IsServerOver, IsServerSend, OverKeepsCut, StageInsideKeepsCut, StageKeepsCut, StageOutsideKeepsCut};
 
 /// A thread that makes an instruction, also one that stores through a mapping: inside, the subtree does so by itself;
 /// outside, it sees nothing of it, or no law speaks of it.
@@ -60,16 +60,6 @@ pub fn an_accept_keeps_the_cut()
     ensures { AcceptKeepsCut }
 {}
 
-/// A server inside that sends words to its client does so in the subtree by itself, while birth numbers are below 2^32.
-pub fn words_of_a_server_inside_keep_the_cut()
-    ensures { ServerInsideKeepsCut IsServerSend }
-{}
-
-/// A server inside that hands its client the turn does so in the subtree by itself, while birth numbers are below 2^32.
-pub fn a_turn_of_a_server_inside_keeps_the_cut()
-    ensures { ServerInsideKeepsCut IsServerOver }
-{}
-
 /// A client that sends words: inside, to a peer inside or outside, the subtree does so by itself, and how many words a peer
 /// outside takes is seen with the move; outside, it sees nothing of it, or no law speaks of it.
 pub fn words_of_a_client_keep_the_cut()
@@ -83,8 +73,42 @@ pub fn a_turn_of_a_client_keeps_the_cut()
 {}
 
 /// A server that sends words to its client: inside, the subtree does so by itself; outside, the subtree sees that words are given
-/// to its thread, or that it has no room for them, or sees nothing of it, or no law speaks of it. While birth numbers are below
-/// 2^32 and pages are full.
+/// to its thread, or that it has no room for them, or sees nothing of it, or no law speaks of it.
 pub fn words_of_a_server_keep_the_cut()
-    ensures { ServerKeepsCut IsServerSend }
+    ensures { StageKeepsCut IsServerSend }
+{}
+
+/// A native server that gives words to its client: the subtree sees that they are given to its thread, or that it has no room for
+/// them, or sees nothing of it, or no law speaks of it.
+pub fn words_of_a_native_server_keep_the_cut()
+    ensures { GiveKeepsCut }
+{}
+
+/// A native server that hands its client the turn: the subtree sees that its thread is handed the turn, or sees nothing of it, or
+/// no law speaks of it.
+pub fn a_turn_of_a_native_server_keeps_the_cut()
+    ensures { OverKeepsCut }
+{}
+
+/// A client that ends its talk, with a peer inside or outside: inside, the subtree does so by itself; outside, it sees nothing of
+/// it, or no law speaks of it.
+pub fn an_end_by_a_client_keeps_the_cut()
+    ensures { StageKeepsCut IsDisconnect }
+{}
+
+/// A server inside that ends the talk of its client does so in the subtree by itself.
+pub fn an_end_by_a_server_inside_keeps_the_cut()
+    ensures { StageInsideKeepsCut IsServerEnd }
+{}
+
+/// A server outside that ends the talk of its client: the subtree sees that its thread is left, or sees nothing of it, or no law
+/// speaks of it.
+pub fn an_end_by_a_server_outside_keeps_the_cut()
+    ensures { StageOutsideKeepsCut IsServerEnd }
+{}
+
+/// A server that hands its client the turn: inside, the subtree does so by itself; outside, the subtree sees that its thread is
+/// handed the turn, or sees nothing of it, or no law speaks of it.
+pub fn a_turn_of_a_server_keeps_the_cut()
+    ensures { StageKeepsCut IsServerOver }
 {}

@@ -1,6 +1,6 @@
 //! The law of rebinding, each kind of move the contract of a function that does nothing: a subtree that is seen alone does,
 //! with other outward ports, what it did, also where two of them get one name.
-ghost use Rattle.fk_model.specs.CutLaws.{IsClientOver, IsClientSend, IsCreate, IsGetState, IsHold, IsLock, IsPageTake, IsPoint, IsRename, IsServerOver, IsServerSend};
+ghost use Rattle.fk_model.specs.CutLaws.{IsClientOver, IsClientSend, IsCreate, IsDisconnect, IsGetState, IsHold, IsLock, IsPageTake, IsPoint, IsRename, IsServerEnd, IsServerOver, IsServerSend};
 ghost use Rattle.fk_model.specs.RebindLaws.{InstructionRebinds, StageRebinds, TouchRebinds};
 
 /// A thread of the subtree that locks a mutex does so with other outward ports, and the outside hears the same at these.
@@ -66,6 +66,17 @@ pub fn words_of_a_client_rebind()
 /// hears of it at these.
 pub fn a_turn_of_a_client_rebinds()
     ensures { StageRebinds IsClientOver }
+{}
+
+/// A client of the subtree that ends its talk does so with other outward ports, and the outside hears of it at these.
+pub fn an_end_by_a_client_rebinds()
+    ensures { StageRebinds IsDisconnect }
+{}
+
+/// A server of the subtree that ends the talk of its client does so with other outward ports, and the outside hears the same at
+/// these.
+pub fn an_end_by_a_server_rebinds()
+    ensures { StageRebinds IsServerEnd }
 {}
 
 /// Whatever the outside does to a subtree it does with other outward ports, and the subtree goes on as it did: it takes a thread at

@@ -56,7 +56,7 @@ last slots h =
 pub place-at : (m : Contents) (slots : List ℕ) (space : ℕ) → 1 ≤ length slots → path m space ≡ reverse (take (length slots - 1) slots) → get_or slots (length slots - 1) 0 ∷ path m space ≡ reverse slots
 place-at m slots space h e = rw e (sym (last slots h))
 
--- a space may be made where no space is but the root
+-- a space that can stand and isn't the root has a place
 pub has-place : (w : World) (slots : List ℕ) → CanStand w slots → 1 ≤ length slots → HasPlace w slots
 has-place w [] can h = absurd (omega arith)
 has-place w (k ∷ slots) can h = can
