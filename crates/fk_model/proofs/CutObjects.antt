@@ -66,7 +66,7 @@ rename_inside = inside_stages IsRename law
         (λ p e free. rename-image (cut-image w nester slot plain) free k q such.0 such.1 such.2)
         (quiet-rename (slot ∷ nester) w (user_at (k ∷ (q ++ slot ∷ nester))) such.0 such.1 such.2 (λ space at. place_inside w nester slot plain k q such.0 such.1 such.2 space at))
 
-all_within : (x : Path) → is_within [] x ≡ true
+pub all_within : (x : Path) → is_within [] x ≡ true
 all_within x = rw (sym (append-nil x)) (rw (strip-append [] x) refl)
 
 pub rename_rebinds : StageRebinds IsRename
@@ -108,7 +108,7 @@ quiet-destroys root w c x gone = quiet-telling root (told_with w gone (w.body go
     by true = quiet-done root c (kills w gone) [] (tt, quiet-ends root (ends_with w gone (w.body gone)))
     by false = quiet-stays root c (kills w gone) (tt, quiet-ends root (ends_with w gone (w.body gone)))
 
-quiet-destroy : (root : Path) (w : World) (c : Caller) (s x : ℕ) → Quiet root (destroy w c s x)
+pub quiet-destroy : (root : Path) (w : World) (c : Caller) (s x : ℕ) → Quiet root (destroy w c s x)
 unfolding destroy
 quiet-destroy root w c s x =
     quiet->>= root (place w c s) _ (λ space.

@@ -52,7 +52,7 @@ module _ {root : Path} {see : Ptr → Ptr} {small big : World} (image : IsImage 
   pub talking_end-image : (side : Turn) (p seen : Ptr) (now : World) → PtrImage root big p seen → ImageChanges root see now (end_all (talking_end small side seen)) (end_all (talking_end big side p))
   talking_end-image side p seen now h = talking-image side (thread_at small seen) (thread_at big p) now (thread_at-image image p seen h)
 
-  outsider : (side : Turn) (x : Path) (now : World) (o : Option Thread) → is_within root x ≡ false → ImageChanges root see now [] (end_all (if_talking side (and_then (λ (t : Thread). Some (x, t)) o)))
+  pub outsider : (side : Turn) (x : Path) (now : World) (o : Option Thread) → is_within root x ≡ false → ImageChanges root see now [] (end_all (if_talking side (and_then (λ (t : Thread). Some (x, t)) o)))
   outsider side x now None out = Empty
   outsider side x now (Some t) out = by (is_talking side t.mode)
     where
@@ -60,7 +60,7 @@ module _ {root : Path} {see : Ptr → Ptr} {small big : World} (image : IsImage 
       by true = Beyond out Empty
       by false = Empty
 
-  outsider_end : (now : World) (peer : Peer) → IsOuter root peer → ImageChanges root see now [] (end_all (served_end big peer))
+  pub outsider_end : (now : World) (peer : Peer) → IsOuter root peer → ImageChanges root see now [] (end_all (served_end big peer))
   outsider_end now (Server (At x)) outer = outsider turns.Server x now (and_then thread_of (big.body x)) (outer-outside root x outer)
   outsider_end now (Server p) outer = Empty
   outsider_end now Service outer = Empty

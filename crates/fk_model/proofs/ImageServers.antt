@@ -176,7 +176,7 @@ serves_is server Service h = cc
 serves_is server Parked h = cc
 
 -- an outside thread whose talk or fault an inside thread has
-served_talk : (root q : Path) (t : Thread) (talk : Talk) → t.talk ≡ Some talk → talk.peer ≡ Server (At (q ++ root)) → is_served_by root (Some (Thread_of t)) ≡ true
+pub served_talk : (root q : Path) (t : Thread) (talk : Talk) → t.talk ≡ Some talk → talk.peer ≡ Server (At (q ++ root)) → is_served_by root (Some (Thread_of t)) ≡ true
 served_talk root q t talk is peer = rw (is, peer, strip-append root q) refl
 
 or_true : (a : Bool) → (a || true) ≡ true

@@ -112,3 +112,9 @@ pub fn an_end_by_a_server_outside_keeps_the_cut()
 pub fn a_turn_of_a_server_keeps_the_cut()
     ensures { StageKeepsCut IsServerOver }
 {}
+
+/// A thread inside that destroys an object, itself, a port with clients or a thread with talks among them, does so in the subtree by
+/// itself; the ends of talks outside aren't seen.
+pub fn a_death_inside_keeps_the_cut()
+    ensures { StageInsideKeepsCut IsDestroy }
+{}

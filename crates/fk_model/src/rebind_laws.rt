@@ -1,6 +1,6 @@
 //! The law of rebinding, each kind of move the contract of a function that does nothing: a subtree that is seen alone does,
 //! with other outward ports, what it did, also where two of them get one name.
-ghost use Rattle.fk_model.specs.CutLaws.{IsClientOver, IsClientSend, IsCreate, IsDisconnect, IsGetState, IsHold, IsLock, IsPageTake, IsPoint, IsRename, IsServerEnd, IsServerOver, IsServerSend};
+ghost use Rattle.fk_model.specs.CutLaws.{IsClientOver, IsClientSend, IsCreate, IsDestroy, IsDisconnect, IsGetState, IsHold, IsLock, IsPageTake, IsPoint, IsRename, IsServerEnd, IsServerOver, IsServerSend};
 ghost use Rattle.fk_model.specs.RebindLaws.{InstructionRebinds, StageRebinds, TouchRebinds};
 
 /// A thread of the subtree that locks a mutex does so with other outward ports, and the outside hears the same at these.
@@ -83,4 +83,10 @@ pub fn an_end_by_a_server_rebinds()
 /// its Connect, gives words or finds no room, hands the turn, ends a talk, takes a fault or ends it, gives a page or takes one.
 pub fn what_the_outside_does_rebinds()
     ensures { TouchRebinds }
+{}
+
+/// A thread of the subtree that destroys an object does so with other outward ports, and the outside hears at these of the talks that
+/// end.
+pub fn a_death_rebinds()
+    ensures { StageRebinds IsDestroy }
 {}
