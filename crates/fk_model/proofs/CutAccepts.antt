@@ -38,7 +38,7 @@ use Rattle.fk_model.proofs.ImageHolds.{strip_none, is_free-image, unheld-free}
 use Rattle.fk_model.proofs.ImageWaits.{connecting_to-image}
 use Rattle.fk_model.proofs.CutInside.{Quiet, quiet-waits, thread_seen, thread_beneath}
 use Rattle.fk_model.proofs.CutOutside.{stepped-plain}
-use Rattle.fk_model.proofs.CutPages.{has_touched}
+use Rattle.fk_model.proofs.CutTaken.{taken_here}
 
 abbrev takes_talk : Path → Path → List Change
 takes_talk port x = Alter x (SetTalk (Some (new_talk (At port) Service))) ∷ Alter x (Finish []) ∷ []
@@ -110,35 +110,6 @@ module _ (w : World) (nester : Path) (slot : ℕ) (plain : IsPlain w nester slot
   outward _ _ (PortAt x i apart kind) e out = (i, refl)
   outward _ _ (PortOut old i) e out = cc
 
-  module _ (k : ℕ) (q : Path) (t : Thread) (at : and_then thread_of (w.body (k ∷ (q ++ root))) ≡ Some t) (free : is_free w (q ++ root) t ≡ true) (connects : connecting_to w (k ∷ (q ++ root)) t ≡ Some (At port)) (out : is_within root port ≡ false) where
-    named : (near far : Option Ptr) → AlikeOptions (IsSeenAs root see w) near far → far ≡ Some (At port) → (near ≡ Some (see (At port))) × IsSeenPtr root see w (At port)
-    named (Some seen) (Some p) h e = let is : p ≡ At port = cc in (ap Some (h.0 ∙ ap see is), rw is at h.1)
-    named None None h e = cc
-    named (Some seen) None h e = absurd h
-    named None (Some p) h e = absurd h
-
-    talk_seen : (i : ℕ) → see (At port) ≡ Out i → SetTalk (Some (new_talk (Out i) (Server Outside))) ≡ seen_edit see false (SetTalk (Some (new_talk (At port) Service)))
-    talk_seen i e = rw e refl
-
-    talk_good : (i : ℕ) → see (At port) ≡ Out i → IsSeenPtr root see w (At port) → AllInTalk see (IsSeenPtr root see w) (new_talk (At port) Service)
-    talk_good i e h = (h, rw e tt)
-
-    row : (i : ℕ) → thread_in small (k ∷ q) ≡ Some (seen_thread see t) → is_free small q (seen_thread see t) ≡ true → connecting_to small (k ∷ q) (seen_thread see t) ≡ Some (Out i) →
-        touch_row small (Taken (k ∷ q)) ≡ Goes (Alter (k ∷ q) (SetTalk (Some (new_talk (Out i) (Server Outside)))) ∷ Alter (k ∷ q) (Finish []) ∷ []) Nothing
-    unfolding touch_row
-    row i is free to = rw is (rw free (rw to refl))
-
-    accepted_here : IsTouched (ByOthers (Taken (k ∷ q))) (apply_all (takes_talk port (k ∷ (q ++ root))) w)
-    accepted_here =
-        let image = cut-image w nester slot plain in
-        let loose = unheld-free image q t free in
-        let name = named (connecting_to small (k ∷ q) (seen_thread see t)) (connecting_to w (k ∷ (q ++ root)) t) (connecting_to-image image k q t) connects in
-        let outer = outward (At port) (see (At port)) name.1 refl out in
-        has_touched w nester slot plain (Taken (k ∷ q)) (Alter (k ∷ q) (SetTalk (Some (new_talk (Out outer.0) (Server Outside)))) ∷ Alter (k ∷ q) (Finish []) ∷ []) (takes_talk port (k ∷ (q ++ root))) Nothing
-        (row outer.0 (rw (image.bodies (k ∷ q)) (thread_seen see k q (w.body (k ∷ (q ++ root))) t at)) (is_free-image image loose q t ∙ free) (name.0 ∙ ap Some outer.1))
-        (Both (Alters k q (SetTalk (Some (new_talk (Out outer.0) (Server Outside)))) (SetTalk (Some (new_talk (At port) Service))) (talk_seen outer.0 outer.1) (talk_good outer.0 outer.1 name.1)) (Both (Alters k q _ (Finish []) refl tt) Empty))
-        ((λ apart. refl), (tt, tt))
-
   -- ---- the law
 
   abbrev asked : Event
@@ -196,7 +167,7 @@ module _ (w : World) (nester : Path) (slot : ℕ) (plain : IsPlain w nester slot
       same_strip a b h = cc
 
       goes : (k : ℕ) (q : Path) (x : Path) → x ≡ k ∷ (q ++ root) → and_then thread_of (w.body x) ≡ Some v.1 → is_free w (parent x) v.1 ≡ true → connecting_to w x v.1 ≡ Some (At port) → IsTouched (ByOthers (Taken (k ∷ q))) (apply_all (takes_talk port x) w)
-      goes k q x is = rw is (λ at free connects. accepted_here k q v.1 at free connects out)
+      goes k q x is = rw is (λ at free connects. taken_here w nester slot plain k q v.1 at port out Service [] tt tt (λ inside. refl) free connects)
 
       by : (r : Option Path) → strip root v.0 ≡ r → option_map (λ (t : Touch). ByOthers t) (and_then (λ (q : Path). Some (Taken q)) r) ≡ Some m → IsTouched m (apply_all (takes_talk port v.0) w)
       by None e h = cc

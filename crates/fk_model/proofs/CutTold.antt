@@ -47,7 +47,7 @@ use Rattle.fk_model.proofs.CutClients.{alone, picked, outside_at, outside_talk}
 -- ---- calls act and are heard alike
 
 module _ {root : Path} {see : Ptr → Ptr} {small big : World} (image : IsImage root see small big) where
-  same_closed : (k : ℕ) (q : Path) (near far : Outcome) → Same image near far → Same image (closed (user_at (k ∷ q)) near) (closed (user_at (k ∷ (q ++ root))) far)
+  pub same_closed : (k : ℕ) (q : Path) (near far : Outcome) → Same image near far → Same image (closed (user_at (k ∷ q)) near) (closed (user_at (k ∷ (q ++ root))) far)
   same_closed k q near Waits h = (tt, tt)
   same_closed k q (Refused status) (Refused refusal) h = (Both (Alters k q (End status []) (End refusal []) (ap (λ (s : ℕ). End s []) h.0) tt) Empty, says_nothing)
   same_closed k q (Goes cs said) (Goes ds told) h = h
@@ -63,7 +63,7 @@ module _ {root : Path} {see : Ptr → Ptr} {small big : World} (image : IsImage 
 
   -- ---- who serves whom, in a list of the same objects
 
-  found_same : (near far : Path → Bool) (xs : List Path) → ((x : Path) → near x ≡ far (x ++ root)) → AlikeOptions (IsBeneath root) (find near xs) (find far (map (λ x. x ++ root) xs))
+  pub found_same : (near far : Path → Bool) (xs : List Path) → ((x : Path) → near x ≡ far (x ++ root)) → AlikeOptions (IsBeneath root) (find near xs) (find far (map (λ x. x ++ root) xs))
   found_same near far [] same = tt
   found_same near far (x ∷ xs) same = rw (same x) (by (far (x ++ root)) (found_same near far xs same))
     where

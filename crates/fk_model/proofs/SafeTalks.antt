@@ -47,7 +47,7 @@ member-port w x set (Some (Port of_set served)) e h = kind-there w x (Port of_se
 member-port w x set None e h = cc
 member-port w x set (Some b) e h = cc
 
-slot-found : (w : World) (space : Path) (set : ℕ) (port : Ptr) (slot : ℕ) → slot_in_set w space set port ≡ Some slot → PortIn w space slot port
+pub slot-found : (w : World) (space : Path) (set : ℕ) (port : Ptr) (slot : ℕ) → slot_in_set w space set port ≡ Some slot → PortIn w space slot port
 slot-found w space set (At x) slot h = by (same_path (parent x) space && is_member set (w.body x)) refl h
   where
     by : (t : Bool) → (same_path (parent x) space && is_member set (w.body x)) ≡ t → (if t then Some (slot_of x) else None) ≡ Some slot → PortIn w space slot (At x)

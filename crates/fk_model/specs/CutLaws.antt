@@ -7,7 +7,7 @@ use Rattle.fk_model.specs.declared.instruction.Act.TheVariants.{Store}
 use Rattle.fk_model.specs.declared.moves.Ask.{Ask}
 use Rattle.fk_model.specs.declared.moves.Ask.TheVariants as asks
 use Rattle.fk_model.specs.declared.stage.Stage.{Stage}
-use Rattle.fk_model.specs.declared.stage.Stage.TheVariants.{Create, Destroy, Rename, Point, GetState, SpaceHold, PageTake, MutexLock, ClientSend, ClientOver, ServerSend, ServerOver, ServerEnd, Disconnect}
+use Rattle.fk_model.specs.declared.stage.Stage.TheVariants.{Create, Destroy, Rename, Point, GetState, SpaceHold, PageTake, MutexLock, ClientSend, ClientOver, ServerSend, ServerOver, ServerEnd, Disconnect, Wait}
 use Rattle.fk_model.specs.Places.{Path, is_within}
 use Rattle.fk_model.specs.Objects.{Mode, Thread, thread_of, and_then}
 use Rattle.fk_model.specs.Objects.Mode.{Running, Calling}
@@ -129,3 +129,13 @@ IsDisconnect stage = stage ≡ Disconnect
 
 abbrev pub IsServerEnd : Stage → Type 0
 IsServerEnd stage = stage ≡ ServerEnd
+
+-- ---- waits
+
+abbrev pub IsWait : Stage → Type 0
+IsWait stage = (set : ℕ) × (stage ≡ Wait set)
+
+-- the law for every call of a porter with such a stage. There is no porter in a plain subtree, so it stands outside
+abbrev pub CallKeepsCut : (Stage → Type 0) → Type 0
+CallKeepsCut IsSuch =
+    (w : World) (nester : Path) (slot : ℕ) (x : Path) (pick : Option Path) (stage : Stage) (words : List ℕ) → IsSuch stage → KeepsCut w nester slot (record { mover = x; pick = pick; ask = asks.Call stage words })

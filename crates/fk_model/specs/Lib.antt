@@ -44,6 +44,7 @@ pub mod WorkedObjects
 pub mod WorkedHolds
 pub mod WorkedStates
 pub mod WorkedPorters
+pub mod WorkedCuts
 pub mod Image
 pub mod ImageChanges
 pub mod Rebind

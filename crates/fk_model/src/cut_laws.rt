@@ -1,6 +1,6 @@
 //! The law of the cut, each kind of move the contract of a function that does nothing: what a move of the world does to a
 //! subtree is what the subtree, seen alone, does by the move as which it is seen.
-ghost use Rattle.fk_model.specs.CutLaws.{AcceptKeepsCut, GiveKeepsCut, InstructionKeepsCut, IsClientOver, IsClientSend, IsCreate, IsDestroy, IsDisconnect, IsGetState, IsHold, IsLock, IsPageTake, IsPoint, IsRename, IsServerEnd, IsServerOver, IsServerSend, OverKeepsCut, StageInsideKeepsCut, StageKeepsCut, StageOutsideKeepsCut};
+ghost use Rattle.fk_model.specs.CutLaws.{AcceptKeepsCut, CallKeepsCut, GiveKeepsCut, InstructionKeepsCut, IsClientOver, IsClientSend, IsCreate, IsDestroy, IsDisconnect, IsGetState, IsHold, IsLock, IsPageTake, IsPoint, IsRename, IsServerEnd, IsServerOver, IsServerSend, IsWait, OverKeepsCut, StageInsideKeepsCut, StageKeepsCut, StageOutsideKeepsCut};
 
 /// A thread that makes an instruction, also one that stores through a mapping: inside, the subtree does so by itself;
 /// outside, it sees nothing of it, or no law speaks of it.
@@ -117,4 +117,22 @@ pub fn a_turn_of_a_server_keeps_the_cut()
 /// itself; the ends of talks outside aren't seen.
 pub fn a_death_inside_keeps_the_cut()
     ensures { StageInsideKeepsCut IsDestroy }
+{}
+
+/// A thread inside that waits at a port set and picks nobody outside, whatever it comes to: it takes a client at its Connect, a
+/// fault or a parked talk. The subtree does so by itself.
+pub fn a_wait_inside_keeps_the_cut()
+    ensures { StageInsideKeepsCut IsWait }
+{}
+
+/// A thread outside that waits at a port set: the subtree sees that its thread is taken at its Connect, or that a fault of it is
+/// taken, or sees nothing of it, or no law speaks of it.
+pub fn a_wait_outside_keeps_the_cut()
+    ensures { StageOutsideKeepsCut IsWait }
+{}
+
+/// A porter that waits at a port set: the subtree sees that its thread is taken at its Connect, or that a fault of it is taken, or
+/// sees nothing of it, or no law speaks of it.
+pub fn a_wait_of_a_porter_keeps_the_cut()
+    ensures { CallKeepsCut IsWait }
 {}

@@ -1,6 +1,6 @@
 //! The law of rebinding, each kind of move the contract of a function that does nothing: a subtree that is seen alone does,
 //! with other outward ports, what it did, also where two of them get one name.
-ghost use Rattle.fk_model.specs.CutLaws.{IsClientOver, IsClientSend, IsCreate, IsDestroy, IsDisconnect, IsGetState, IsHold, IsLock, IsPageTake, IsPoint, IsRename, IsServerEnd, IsServerOver, IsServerSend};
+ghost use Rattle.fk_model.specs.CutLaws.{IsClientOver, IsClientSend, IsCreate, IsDestroy, IsDisconnect, IsGetState, IsHold, IsLock, IsPageTake, IsPoint, IsRename, IsServerEnd, IsServerOver, IsServerSend, IsWait};
 ghost use Rattle.fk_model.specs.RebindLaws.{InstructionRebinds, StageRebinds, TouchRebinds};
 
 /// A thread of the subtree that locks a mutex does so with other outward ports, and the outside hears the same at these.
@@ -89,4 +89,10 @@ pub fn what_the_outside_does_rebinds()
 /// end.
 pub fn a_death_rebinds()
     ensures { StageRebinds IsDestroy }
+{}
+
+/// A thread of the subtree that waits at a port set, and takes a client, a fault or a parked talk, does so with other outward
+/// ports, and the outside hears the same at these.
+pub fn a_wait_rebinds()
+    ensures { StageRebinds IsWait }
 {}

@@ -3,6 +3,7 @@
 //! Each example is a function that does nothing and ensures what is so. The values are reckoned by
 //! hand from the rules; the prover computes the moves and compares.
 
+pub mod cuts;
 pub mod holds;
 pub mod instructions;
 pub mod locks;

@@ -1,0 +1,62 @@
+-- The law of rebinding for a wait.
+use Rattle.std.proofs.Common.{◌≡◌, ℕ, Bool, true, false, ◌||◌, List, [], ◌∷◌, ◌++◌, find, Option, Some, None, IfSome, is_some, option_map, refl, sym, subst, append-nil}
+use Rattle.fk_model.specs.declared.stage.Stage.TheVariants.{Wait}
+use Rattle.fk_model.specs.Places.{Path, Ptr}
+use Rattle.fk_model.specs.Objects.{Peer, Fault, holds}
+use Rattle.fk_model.specs.World.{World, serves}
+use Rattle.fk_model.specs.Searches.{fault_at, client_of, faulter_of, is_serving, objects}
+use Rattle.fk_model.specs.LinkRows.{user_at}
+use Rattle.fk_model.specs.Moves.{call_row}
+use Rattle.fk_model.specs.Cut.{is_out}
+use Rattle.fk_model.specs.CutLaws.{IsWait}
+use Rattle.fk_model.specs.Image.{seen_peer, HasImage, IfServer, IsImage, IsCutWorld, IsApart, IsBeneath, AlikeOptions, IsSeenFault}
+use Rattle.fk_model.specs.RebindLaws.{StageRebinds}
+use Rattle.fk_model.proofs.Alike.{alike-is_some}
+use Rattle.fk_model.proofs.ImageMemory.{root_space, root_seen}
+use Rattle.fk_model.proofs.ImageTalks.{fault_at-image}
+use Rattle.fk_model.proofs.ImageWalks.{beneath-image}
+use Rattle.fk_model.proofs.ImageSweeps.{serves_alike}
+use Rattle.fk_model.proofs.ImageServers.{cut_world-apart}
+use Rattle.fk_model.proofs.ImageSends.{Same}
+use Rattle.fk_model.proofs.ImagePicks.{wait_call-image}
+use Rattle.fk_model.proofs.CutRebound.{top_free}
+use Rattle.fk_model.proofs.CutTold.{found_same, client_same, silent_row, told_rebinds}
+
+-- ---- whose fault a thread has taken, in a world that is all inside
+
+module _ {root : Path} {see : Ptr → Ptr} {small big : World} (image : IsImage root see small big) (apart : IsApart root see big) (me : Path) where
+  taker_like : (j : ℕ) (q : Path) (fault : Fault) (o : Option Peer) → fault_at big (j ∷ (q ++ root)) ≡ Some fault → fault.taker ≡ o → IfSome o (λ taker. IfServer (is_out (see fault.port)) taker (HasImage root see big)) →
+      holds (serves me) (option_map (seen_peer see (is_out (see fault.port))) o) ≡ holds (serves (me ++ root)) o
+  taker_like j q fault None is took h = refl
+  taker_like j q fault (Some peer) is took h = serves_alike image me (is_out (see fault.port)) peer h (λ out. apart.faults j q fault peer is out took me)
+
+  takes_like : (x : Path) → holds (λ (fault : Fault). holds (serves me) fault.taker) (fault_at small x) ≡ holds (λ (fault : Fault). holds (serves (me ++ root)) fault.taker) (fault_at big (x ++ root))
+  takes_like [] = rw ((root_space image).2, root_seen image) refl
+  takes_like (j ∷ q) = by (fault_at small (j ∷ q)) (fault_at big (j ∷ (q ++ root))) refl (fault_at-image image (j ∷ q))
+    where
+      by : (o p : Option Fault) → fault_at big (j ∷ (q ++ root)) ≡ p → AlikeOptions (IsSeenFault root see big) o p → holds (λ (fault : Fault). holds (serves me) fault.taker) o ≡ holds (λ (fault : Fault). holds (serves (me ++ root)) fault.taker) p
+      by None None is h = refl
+      by (Some seen) (Some fault) is h = rw h.0 (taker_like j q fault fault.taker is refl h.1.1)
+      by None (Some fault) is h = absurd h
+      by (Some seen) None is h = absurd h
+
+faulter_same : {see : Ptr → Ptr} {small big : World} (image : IsImage [] see small big) → IsApart [] see big → (me : Path) → AlikeOptions (IsBeneath []) (faulter_of small me) (faulter_of big (me ++ []))
+unfolding faulter_of
+faulter_same {see} {small} {big} image apart me =
+    subst (λ (xs : List Path). AlikeOptions (IsBeneath []) (find (λ c. holds (λ (fault : Fault). holds (serves me) fault.taker) (fault_at small c)) (objects small)) (find (λ c. holds (λ (fault : Fault). holds (serves (me ++ [])) fault.taker) (fault_at big c)) xs)) (sym (beneath-image image []))
+    (found_same image _ _ (objects small) (takes_like image apart me))
+
+serving_same : {see : Ptr → Ptr} {small big : World} (image : IsImage [] see small big) → IsApart [] see big → (me : Path) → is_serving small me ≡ is_serving big (me ++ [])
+serving_same {see} {small} {big} image apart me =
+    rw (alike-is_some (IsBeneath []) (client_of small me) (client_of big (me ++ [])) (client_same image apart me), alike-is_some (IsBeneath []) (faulter_of small me) (faulter_of big (me ++ [])) (faulter_same image apart me)) refl
+
+-- ---- the law
+
+same_pick : (p : Option Path) → AlikeOptions (IsBeneath []) p p
+same_pick None = tt
+same_pick (Some z) = sym (append-nil z)
+
+pub wait_rebinds : StageRebinds IsWait
+wait_rebinds = told_rebinds IsWait (λ p n stage such see small c image outs world k q. rw such.1
+    (rw (silent_row p n (Wait such.0) small (k ∷ q) (λ n o. refl), silent_row p n (Wait such.0) c (k ∷ (q ++ [])) (λ n o. refl))
+    (wait_call-image image (top_free c world) k q such.0 (serving_same image (cut_world-apart c see outs world) (k ∷ q)) p p (same_pick p))))
