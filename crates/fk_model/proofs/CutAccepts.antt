@@ -1,42 +1,37 @@
 -- The law of the cut for a native server that accepts a thread.
-use Rattle.std.proofs.Common.{◌≡◌, ◌⊎◌, inl, inr, ℕ, Bool, true, false, cond, not, ◌&&◌, List, [], ◌∷◌, ◌++◌, Option, Some, None, is_some, is_none, option_map, refl, sym, ap, ◌∙◌}
+use Rattle.std.proofs.Common.{◌≡◌, ◌⊎◌, inl, inr, ℕ, Bool, true, false, cond, ◌&&◌, List, [], ◌∷◌, ◌++◌, Option, Some, None, is_some, is_none, option_map, refl, sym, ap, ◌∙◌}
 use Rattle.std.proofs.lemmas.Bool.{and_parts}
 use Rattle.fk_model.specs.declared.moves.Ask.TheVariants as asks
 use Rattle.fk_model.specs.declared.thread.Turn.{Turn}
 use Rattle.fk_model.specs.declared.thread.Turn.TheVariants as turns
 use Rattle.fk_model.specs.Places.{Path, strip, is_within, parent, Ptr, leads_to}
-use Rattle.fk_model.specs.Places.Ptr.{At, Out, Outside}
-use Rattle.fk_model.specs.Objects.{Peer, Talk, Thread, Body, port_of, thread_of, and_then, holds}
-use Rattle.fk_model.specs.Objects.Peer.{Server, Service, Parked}
+use Rattle.fk_model.specs.Places.Ptr.{At, Out}
+use Rattle.fk_model.specs.Objects.{Talk, Thread, Body, port_of, thread_of, and_then, holds}
+use Rattle.fk_model.specs.Objects.Peer.{Service}
 use Rattle.fk_model.specs.World.{World, Change, apply_all}
 use Rattle.fk_model.specs.World.Change.{Alter}
 use Rattle.fk_model.specs.World.Edit.{Finish, SetTalk, SetPeer}
 use Rattle.fk_model.specs.Searches.{client_at}
-use Rattle.fk_model.specs.Holds.{is_frozen, is_free, is_unheld}
-use Rattle.fk_model.specs.Outcomes.{Said, Outcome, when}
-use Rattle.fk_model.specs.Outcomes.Outcome.{Refused, Waits, Goes}
-use Rattle.fk_model.specs.Outcomes.Said.{Nothing, Taken as SaidTaken}
+use Rattle.fk_model.specs.Holds.{is_free, is_unheld}
+use Rattle.fk_model.specs.Outcomes.{Outcome, when}
+use Rattle.fk_model.specs.Outcomes.Outcome.{Waits, Goes}
+use Rattle.fk_model.specs.Outcomes.Said.{Taken as SaidTaken}
 use Rattle.fk_model.specs.LinkRows.{connecting_to, new_talk}
 use Rattle.fk_model.specs.NativeRows.{is_serving_port, connects_here, parked_here, takes_up, accepts_thread, accepts_found, accepts, accept_row}
 use Rattle.fk_model.specs.Moves.{outcome, GoesAllowed, stepped, step}
 use Rattle.fk_model.specs.Cut.{is_served, ports_of, cut_ptr, cut, IsPlain}
-use Rattle.fk_model.specs.Further.{Touch, Onward, Told, on_found, taken_at, thread_in, touch_row, IsOnward}
+use Rattle.fk_model.specs.Further.{Touch, Onward, Told, IsOnward}
 use Rattle.fk_model.specs.Further.Touch.{Taken}
 use Rattle.fk_model.specs.Further.Onward.{ByOthers}
-use Rattle.fk_model.specs.Seen.{Seen, on_inner, accepted, said_by, outer_touch, row_of, IsSeen}
+use Rattle.fk_model.specs.Seen.{on_inner, accepted, said_by, row_of}
 use Rattle.fk_model.specs.Seen.Seen.{Onwards, Unseen, Other}
 use Rattle.fk_model.specs.Runs.{Event}
-use Rattle.fk_model.specs.CutLaws.{KeepsCut, AcceptKeepsCut}
-use Rattle.fk_model.specs.Image.{seen_thread, PtrImage, HasImage as IsSeenPtr, IsImage, AlikeOptions, IsSeenAs, AllInTalk}
+use Rattle.fk_model.specs.Image.{PtrImage}
 use Rattle.fk_model.specs.Image.PtrImage.{Nulls, Deads, Inside, PortAt, PortOut}
-use Rattle.fk_model.specs.ImageChanges.{seen_edit}
-use Rattle.fk_model.specs.ImageChanges.ImageChange.{Alters}
-use Rattle.fk_model.specs.ImageChanges.ImageChanges.{Empty, Both}
+use Rattle.fk_model.specs.CutLaws.{KeepsCut, AcceptKeepsCut}
 use Rattle.fk_model.proofs.PlaceLaws.{strip-append, strip_some, leads_to_at}
-use Rattle.fk_model.proofs.Images.{cut-image}
-use Rattle.fk_model.proofs.ImageHolds.{strip_none, is_free-image, unheld-free}
-use Rattle.fk_model.proofs.ImageWaits.{connecting_to-image}
-use Rattle.fk_model.proofs.CutInside.{Quiet, quiet-waits, thread_seen, thread_beneath}
+use Rattle.fk_model.proofs.ImageHolds.{strip_none}
+use Rattle.fk_model.proofs.CutInside.{Quiet, quiet-waits, thread_beneath}
 use Rattle.fk_model.proofs.CutOutside.{stepped-plain}
 use Rattle.fk_model.proofs.CutTaken.{taken_here}
 

@@ -1,53 +1,48 @@
 -- The law of the cut for an Over of a server outside: the subtree sees that a thread of it is handed the turn.
-use Rattle.std.proofs.Common.{◌≡◌, ℕ, Bool, true, false, cond, not, ◌&&◌, List, [], ◌∷◌, ◌++◌, Option, Some, None, is_some, is_none, option_map, Result, Ok, Err, refl, sym, ap, subst, ◌∙◌}
+use Rattle.std.proofs.Common.{◌≡◌, ℕ, Bool, true, false, cond, ◌&&◌, List, [], ◌∷◌, ◌++◌, Option, Some, None, is_some, is_none, option_map, Ok, Err, refl, sym, ap, subst, ◌∙◌}
 use Rattle.std.proofs.lemmas.Bool.{and_parts}
-use Rattle.fk_model.specs.declared.names.Kind.TheVariants as kinds
 use Rattle.fk_model.specs.declared.moves.Ask.TheVariants as asks
 use Rattle.fk_model.specs.declared.statuses.status.TheConstants.{WRONGTURN}
-use Rattle.fk_model.specs.declared.stage.Stage.{Stage}
 use Rattle.fk_model.specs.declared.stage.Stage.TheVariants.{ServerOver}
 use Rattle.fk_model.specs.declared.thread.Turn.{Turn}
 use Rattle.fk_model.specs.declared.thread.Turn.TheVariants as turns
 use Rattle.fk_model.specs.Places.{Path, same_path, strip, is_within, parent, slot_of, Ptr}
 use Rattle.fk_model.specs.Places.Ptr.{At}
-use Rattle.fk_model.specs.Objects.{Mode, Peer, Talk, Thread, Body, thread_of, and_then, holds}
-use Rattle.fk_model.specs.Objects.Mode.{Running, Calling}
+use Rattle.fk_model.specs.Objects.{Mode, Talk, Thread, Body, thread_of, and_then}
+use Rattle.fk_model.specs.Objects.Mode.{Calling}
 use Rattle.fk_model.specs.Objects.Peer.{Server}
-use Rattle.fk_model.specs.Objects.Body.{Mutex, Cond, Mapping, Region, Port, Portset, Space, Thread_of, Reference}
-use Rattle.fk_model.specs.World.{World, Change, on_talk, finished_in, edited, apply, apply_all}
+use Rattle.fk_model.specs.Objects.Body.{Thread_of}
+use Rattle.fk_model.specs.World.{World, on_talk, finished_in, edited, apply, apply_all}
 use Rattle.fk_model.specs.World.Change.{Alter}
-use Rattle.fk_model.specs.World.Edit.{Finish, End, PassTurn}
-use Rattle.fk_model.specs.Searches.{talk_at, client_of}
+use Rattle.fk_model.specs.World.Edit.{Finish, PassTurn}
+use Rattle.fk_model.specs.Searches.{client_of}
 use Rattle.fk_model.specs.Holds.{is_free}
-use Rattle.fk_model.specs.Outcomes.{Said, Outcome, ◌>>=◌, when}
+use Rattle.fk_model.specs.Outcomes.{Outcome, ◌>>=◌, when}
 use Rattle.fk_model.specs.Outcomes.Outcome.{Refused, Waits, Goes}
 use Rattle.fk_model.specs.Outcomes.Said.{Nothing}
 use Rattle.fk_model.specs.Talks.{Line, line, same_side, receiving, thread_at}
 use Rattle.fk_model.specs.TransferRows.{passes_to_thread, passes_to, over}
 use Rattle.fk_model.specs.LinkRows.{user_at}
 use Rattle.fk_model.specs.Moves.{with_pick, closed, call_row, outcome, IsReady, stepped, step}
-use Rattle.fk_model.specs.Valid.{is_fit, kind_there, leads_there, is_good_peer}
+use Rattle.fk_model.specs.Valid.{is_fit}
 use Rattle.fk_model.specs.Sound.{IsSound}
 use Rattle.fk_model.specs.Frame.{listed}
 use Rattle.fk_model.specs.Cut.{is_out, ports_of, cut_ptr, cut, IsPlain}
-use Rattle.fk_model.specs.Further.{Touch, Onward, Told, if_awaiting, handed_to, thread_in, touch_row, IsOnward}
+use Rattle.fk_model.specs.Further.{Touch, Onward, Told, thread_in, touch_row, IsOnward}
 use Rattle.fk_model.specs.Further.Touch.{Handed}
 use Rattle.fk_model.specs.Further.Onward.{ByOthers}
 use Rattle.fk_model.specs.Seen.{Seen, passes_turn, on_inner, IsSeen}
 use Rattle.fk_model.specs.Seen.Seen.{Onwards, Unseen, Other}
 use Rattle.fk_model.specs.CutLaws.{HasDone, KeepsCut, IsAtStage, moves, IsServerOver, StageKeepsCut}
 use Rattle.fk_model.specs.Image.{seen_thread}
-use Rattle.fk_model.specs.ImageChanges.{ImageChanges}
 use Rattle.fk_model.specs.ImageChanges.ImageChange.{Alters}
 use Rattle.fk_model.specs.ImageChanges.ImageChanges.{Empty, Both, Beyond}
 use Rattle.fk_model.proofs.PlaceLaws.{strip-append}
 use Rattle.fk_model.proofs.Images.{cut-image}
 use Rattle.fk_model.proofs.ImageHolds.{strip_none, is_free-image, unheld-free}
-use Rattle.fk_model.proofs.ImageServers.{good_talk}
 use Rattle.fk_model.proofs.CutInside.{thread_seen, thread_beneath}
 use Rattle.fk_model.proofs.CutOutside.{stage_outcome, stage_called}
 use Rattle.fk_model.proofs.CutPages.{has_touched, seen_outside, taken_row, stands_in_slot}
-use Rattle.fk_model.proofs.CutClients.{outside_at}
 use Rattle.fk_model.proofs.CutSends.{still-when, still-call, still-over, still-plain, server_over_keeps}
 use Rattle.fk_model.proofs.CutGiven.{its_client, served_outward}
 

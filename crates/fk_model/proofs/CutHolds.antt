@@ -3,17 +3,16 @@ use Rattle.std.proofs.Common.{◌≡◌, ℕ, Bool, true, false, cond, not, ◌&
 use Rattle.std.specs.List.{list_any}
 use Rattle.std.proofs.lemmas.List.Folds.{list_any-append}
 use Rattle.std.proofs.lemmas.Bool.{and_parts, and_from}
-use Rattle.fk_model.specs.Places.{Path, same_path, Ptr, leads_to}
+use Rattle.fk_model.specs.Places.{Path, Ptr, leads_to}
 use Rattle.fk_model.specs.Places.Ptr.{Outside}
-use Rattle.fk_model.specs.Objects.{Peer, Talk, Fault, Thread, Body, and_then, holds}
+use Rattle.fk_model.specs.Objects.{Peer, Talk, Fault, Body, and_then}
 use Rattle.fk_model.specs.Objects.Peer.{Server, Service, Parked}
-use Rattle.fk_model.specs.Objects.Body.{Mutex, Cond, Mapping, Region, Port, Portset, Space, Thread_of, Reference}
-use Rattle.fk_model.specs.World.{World, Change, Edit, set_at, serves, apply}
-use Rattle.fk_model.specs.World.Change.{Alter, Make, MakeSpace, Kill, Move, PutPage, DropPage}
+use Rattle.fk_model.specs.Objects.Body.{Mapping, Region, Port, Space, Thread_of, Reference}
+use Rattle.fk_model.specs.World.{World, Change, Edit, serves, apply}
 use Rattle.fk_model.specs.World.Edit.{SetPointer, SetHolder, SetTalk, SetPeer, SetFault, SetTaker}
 use Rattle.fk_model.specs.Searches.{pointers, option_list, peer_pointer, talk_pointers, fault_pointers}
 use Rattle.fk_model.specs.Holds.{is_frozen, is_frozen_for, leads_to_frozen}
-use Rattle.fk_model.specs.Freezing.{body_pointers, of_talk, of_fault, changed_pointers, made_pointers, are_unfrozen, is_in_set, is_swept, talk_lost, fault_lost, lost_with, may_be_swept, may_follow, MayAlter, MayMake, MayKill, MayMove, IsAllowed, AreAllowed}
+use Rattle.fk_model.specs.Freezing.{body_pointers, changed_pointers, made_pointers, are_unfrozen, is_in_set, is_swept, talk_lost, fault_lost, lost_with, may_be_swept, may_follow, MayAlter, IsAllowed, AreAllowed}
 use Rattle.fk_model.specs.Cut.{is_out, seen_by, unheld}
 use Rattle.fk_model.specs.Image.{seeing, seen_peer, seen_talk, seen_fault, PtrImage, HasImage, IfServer, AllInTalk, AllInFault, IsPlainBody, IsImage}
 use Rattle.fk_model.specs.Image.PtrImage.{Nulls, Deads, Inside, PortAt, PortOut}

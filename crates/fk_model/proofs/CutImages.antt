@@ -1,34 +1,32 @@
 -- More rows that act alike in an image: new objects, references, records, holds.
-use Rattle.std.proofs.Common.{◌≡◌, ℕ, ◌+◌, ◌%◌, eqb, leb, Bool, true, false, cond, not, ◌&&◌, ◌||◌, List, [], ◌∷◌, ◌++◌, Option, Some, None, is_some, option_map, Result, Ok, Err, refl, sym, ap, ◌∙◌}
+use Rattle.std.proofs.Common.{◌≡◌, ℕ, ◌%◌, eqb, leb, Bool, true, false, cond, not, ◌&&◌, ◌||◌, List, [], ◌∷◌, ◌++◌, Option, Some, None, is_some, refl, sym, ap}
 use Rattle.std.specs.List.{list_any}
 use Rattle.fk_model.specs.declared.limits.TheConstants.{PAGE_WORDS, LAST_USER_SLOT}
-use Rattle.fk_model.specs.declared.names.Kind.{Kind}
 use Rattle.fk_model.specs.declared.statuses.status.TheConstants as status
 use Rattle.fk_model.specs.Places.{Path, same_path, is_within, Ptr}
 use Rattle.fk_model.specs.Places.Ptr.{Null, At}
-use Rattle.fk_model.specs.Objects.{Thread, Window, Extent, Body, kind_of, same_kind, space_of, reference_of, and_then, holds}
+use Rattle.fk_model.specs.Objects.{Thread, Body, space_of, reference_of}
 use Rattle.fk_model.specs.Objects.Mode.{Running}
 use Rattle.std.specs.Prelude.{replicate}
 use Rattle.fk_model.specs.Objects.Body.{Mutex, Cond, Mapping, Region, Port, Portset, Space, Thread_of, Reference}
 use Rattle.fk_model.specs.World.{World, Change, apply}
-use Rattle.fk_model.specs.World.Change.{Alter, Make, MakeSpace, Move, PutPage}
+use Rattle.fk_model.specs.World.Change.{Alter, Move}
 use Rattle.fk_model.specs.World.Edit.{Finish, SetPointer, SetHolder}
 use Rattle.fk_model.specs.Searches.{beneath, has_residents}
 use Rattle.fk_model.specs.Reach.{words_at}
 use Rattle.fk_model.specs.Holds.{holder_of, is_frozen, is_frozen_for, is_porter}
-use Rattle.fk_model.specs.Outcomes.{Outcome, ◌>>=◌, refuse, or_refuse, when, Caller, path_of, last_slot, done}
-use Rattle.fk_model.specs.Outcomes.Outcome.{Refused, Waits, Goes}
-use Rattle.fk_model.specs.Readers.{slot_for, object_in, anything, place, own_page}
+use Rattle.fk_model.specs.Outcomes.{Outcome, or_refuse, when, Caller, path_of, last_slot, done}
+use Rattle.fk_model.specs.Readers.{slot_for, object_in, own_page}
 use Rattle.fk_model.specs.Talks.{thread_at}
 use Rattle.fk_model.specs.TransferRows.{overwritten}
 use Rattle.fk_model.specs.Records.{record_of}
-use Rattle.fk_model.specs.StateRows.{is_bad_record_address, shows, shows_to, get_state, referable}
+use Rattle.fk_model.specs.StateRows.{is_bad_record_address, shows, get_state}
 use Rattle.fk_model.specs.SpaceRows.{has_porter, is_held_by_other, space_hold, is_page, is_bad_target, copies, copies_home, page_take}
 use Rattle.fk_model.specs.LinkRows.{user_at}
-use Rattle.fk_model.specs.ObjectRows.{new_object, create, pointer_to, pointer_in, point, is_served, rename}
+use Rattle.fk_model.specs.ObjectRows.{new_object, create, pointer_to, point, is_served, rename}
 use Rattle.fk_model.specs.Cut.{seen_by}
-use Rattle.fk_model.specs.Image.{seeing, seen_thread, PtrImage, HasImage, IsPlainBody, IsImage, under, AlikeResults, AlikeOptions, IsSeenAs, IsSeenHolder, EndImage}
-use Rattle.fk_model.specs.Image.PtrImage.{Nulls, Deads, Inside, PortAt, PortOut}
+use Rattle.fk_model.specs.Image.{seeing, HasImage, IsPlainBody, IsImage, under, AlikeResults, AlikeOptions, IsSeenAs, IsSeenHolder, EndImage}
+use Rattle.fk_model.specs.Image.PtrImage.{Nulls, Inside}
 use Rattle.fk_model.specs.Image.EndImage.{Ends}
 use Rattle.fk_model.specs.ImageChanges.{ImageChange, ImageChanges, IsImageOutcome}
 use Rattle.fk_model.specs.ImageChanges.ImageChange.{Alters, Makes, MakesSpace, Moves, PutsPage, DropsPage}
@@ -41,7 +39,7 @@ use Rattle.fk_model.proofs.ImageHolds.{holder_of-image, is_held_by_other-image, 
 use Rattle.fk_model.proofs.ImageTalks.{thread_at-image}
 use Rattle.fk_model.proofs.ImageWalks.{is_within_inside, is_taken-image, has_residents-image, any_beneath-image}
 use Rattle.fk_model.proofs.ImageRecords.{record-seen}
-use Rattle.fk_model.proofs.ImageOutcomes.{bind-image, bind_any, bind_same, bind_path, bind_ptr, bind_body, bind_holder, refuse-image, when-image, when_more, done-image, own_page-image}
+use Rattle.fk_model.proofs.ImageOutcomes.{bind-image, bind_any, bind_same, bind_path, bind_ptr, bind_body, refuse-image, when-image, done-image, own_page-image}
 
 -- a new thread
 abbrev fresh_thread : Thread

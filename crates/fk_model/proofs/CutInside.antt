@@ -1,41 +1,36 @@
 -- A thread inside a plain subtree moves: what the world's row does is what the row of the cut does, and the subtree stays plain.
-use Rattle.std.proofs.Common.{◌≡◌, ℕ, Bool, true, false, cond, not, ◌&&◌, ◌||◌, List, [], ◌∷◌, ◌++◌, Option, Some, None, is_some, is_none, option_map, Result, Ok, Err, refl, sym, ap, inl, inr, ◌∙◌}
+use Rattle.std.proofs.Common.{◌≡◌, ℕ, Bool, true, false, cond, ◌&&◌, ◌||◌, List, [], ◌∷◌, ◌++◌, Option, Some, None, is_some, is_none, option_map, Result, Ok, Err, refl, ap, ◌∙◌}
 use Rattle.fk_model.specs.declared.moves.Ask.TheVariants as asks
 use Rattle.fk_model.specs.declared.stage.Stage.{Stage}
-use Rattle.fk_model.specs.Places.{Path, same_path, strip, is_within, parent, slot_of, Ptr}
-use Rattle.fk_model.specs.Objects.{Mode, Talk, Thread, Body, thread_of, and_then, holds}
-use Rattle.fk_model.specs.Objects.Mode.{Running, Calling}
+use Rattle.fk_model.specs.Places.{Path, strip, is_within, Ptr}
+use Rattle.fk_model.specs.Objects.{Mode, Thread, Body, thread_of, and_then}
+use Rattle.fk_model.specs.Objects.Mode.{Calling}
 use Rattle.fk_model.specs.Objects.Body.{Mutex, Cond, Mapping, Region, Port, Portset, Space, Thread_of, Reference}
 use Rattle.fk_model.specs.World.{World, Change, apply_all}
-use Rattle.fk_model.specs.World.Change.{Alter}
-use Rattle.fk_model.specs.World.Edit.{End}
 use Rattle.fk_model.specs.Holds.{is_frozen, is_free}
-use Rattle.fk_model.specs.Outcomes.{Said, Outcome, ◌>>=◌, refuse, or_refuse, when, Caller, path_of, done_at, done, stays, telling}
+use Rattle.fk_model.specs.Outcomes.{Said, Outcome, ◌>>=◌, when, Caller, path_of, done_at, done, stays, telling}
 use Rattle.fk_model.specs.Outcomes.Outcome.{Refused, Waits, Goes}
 use Rattle.fk_model.specs.Outcomes.Said.{Nothing, Answered}
 use Rattle.fk_model.specs.LinkRows.{user_at}
-use Rattle.fk_model.specs.Freezing.{AreAllowed}
-use Rattle.fk_model.specs.Moves.{stage_row, is_for_porters, is_denied, allowed_row, chooses, with_pick, closed, call_row, goes_on, user_move, outcome, GoesAllowed, IsReady, stepped, step}
+use Rattle.fk_model.specs.Moves.{stage_row, is_for_porters, chooses, with_pick, closed, call_row, goes_on, user_move, outcome, GoesAllowed, IsReady, stepped, step}
 use Rattle.fk_model.specs.declared.statuses.status.TheConstants.{DENIED}
-use Rattle.fk_model.specs.Valid.{is_fit}
-use Rattle.fk_model.specs.Sound.{IsSound}
 use Rattle.fk_model.specs.Runs.{Event, after}
 use Rattle.fk_model.specs.Frame.{listed}
 use Rattle.fk_model.specs.Cut.{ports_of, cut_ptr, cut, seen_by, unheld, IsPlain}
 use Rattle.fk_model.specs.Further.{Onward, Told, talks_outside, outside_row, own_stage, own_move, own_row, thread_in, onward_row, told_by_said, told_by, OnwardTo, IsOnward}
-use Rattle.fk_model.specs.Further.Onward.{Own, ByOthers}
-use Rattle.fk_model.specs.Seen.{Seen, said_by, sends_out, only_fills, words_out, picked_inside, own_of, outer_touch, row_of, seen_row, writes_through, changes_of, IsSeen}
+use Rattle.fk_model.specs.Further.Onward.{Own}
+use Rattle.fk_model.specs.Seen.{said_by, words_out, picked_inside, own_of, row_of}
 use Rattle.fk_model.specs.Seen.Seen.{Onwards, Unseen, Other}
-use Rattle.fk_model.specs.CutLaws.{HasDone, KeepsCut, IsAtStage, moves, StageInsideKeepsCut}
-use Rattle.fk_model.specs.Image.{seeing, seen_thread, IsImage, under}
-use Rattle.fk_model.specs.ImageChanges.{ImageChange, ImageChanges, IsImageOutcome}
+use Rattle.fk_model.specs.CutLaws.{KeepsCut, IsAtStage, moves, StageInsideKeepsCut}
+use Rattle.fk_model.specs.Image.{seeing, seen_thread, IsImage}
+use Rattle.fk_model.specs.ImageChanges.{IsImageOutcome}
 use Rattle.fk_model.proofs.PlaceLaws.{strip-append, strip_some}
 use Rattle.fk_model.proofs.Images.{cut-image}
 use Rattle.fk_model.proofs.ImageHolds.{is_free-image, unheld-free}
 use Rattle.fk_model.proofs.ImageOutcomes.{closed-image}
 use Rattle.fk_model.proofs.ImageRuns.{changes-image, cut-changes}
 use Rattle.fk_model.proofs.CutHolds.{changes-allowed}
-use Rattle.fk_model.proofs.CutPlain.{AreQuiet, IsClear, changes-clear, clear-plain, image-plain}
+use Rattle.fk_model.proofs.CutPlain.{AreQuiet, changes-clear, clear-plain, image-plain}
 
 -- ---- rows whose changes are quiet
 

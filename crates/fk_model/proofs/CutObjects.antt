@@ -4,20 +4,20 @@ use Rattle.fk_model.specs.declared.limits.TheConstants.{LAST_USER_SLOT}
 use Rattle.fk_model.specs.declared.statuses.status.TheConstants as status
 use Rattle.fk_model.specs.declared.stage.Stage.{Stage}
 use Rattle.fk_model.specs.declared.stage.Stage.TheVariants.{Destroy, Rename}
-use Rattle.fk_model.specs.Places.{Path, same_path, is_within, Ptr}
-use Rattle.fk_model.specs.Objects.{Peer, Talk, Thread, Body}
+use Rattle.fk_model.specs.Places.{Path, same_path, is_within}
+use Rattle.fk_model.specs.Objects.{Peer, Talk, Body}
 use Rattle.fk_model.specs.Objects.Peer.{Server, Service, Parked}
-use Rattle.fk_model.specs.Objects.Body.{Mutex, Cond, Mapping, Region, Port, Portset, Space, Thread_of, Reference}
-use Rattle.fk_model.specs.World.{World, Change}
-use Rattle.fk_model.specs.World.Change.{Move, Kill}
+use Rattle.fk_model.specs.Objects.Body.{Port, Thread_of}
+use Rattle.fk_model.specs.World.{World}
+use Rattle.fk_model.specs.World.Change.{Move}
 use Rattle.fk_model.specs.Searches.{has_residents, leaf, client_at}
 use Rattle.fk_model.specs.Holds.{is_frozen_for}
-use Rattle.fk_model.specs.Outcomes.{Outcome, ◌>>=◌, refuse, Caller, path_of, done_at, done, stays, telling}
+use Rattle.fk_model.specs.Outcomes.{refuse, Caller, path_of, done, stays}
 use Rattle.fk_model.specs.Readers.{anything, object_in, place}
 use Rattle.fk_model.specs.LinkRows.{user_at, end_all}
 use Rattle.fk_model.specs.Further.{told_by_said}
 use Rattle.fk_model.specs.ObjectRows.{is_served, renamed, rename, ends_with, told_with, told_client, told_port, kills, destroys, destroy}
-use Rattle.fk_model.specs.Cut.{ports_of, cut_ptr, cut, IsPlain}
+use Rattle.fk_model.specs.Cut.{cut, IsPlain}
 use Rattle.fk_model.specs.CutLaws.{KeepsCut, IsAtStage, moves, StageInsideKeepsCut, StageOutsideKeepsCut, IsRename, IsDestroy}
 use Rattle.fk_model.specs.Image.{AlikeResults, IsBeneath}
 use Rattle.fk_model.proofs.PlaceLaws.{strip-append}

@@ -1,32 +1,29 @@
 -- A thread outside a plain subtree moves, where its row is no touch: nothing is seen of it, or it is no move of the law.
-use Rattle.std.proofs.Common.{◌≡◌, ℕ, Bool, true, false, List, [], ◌∷◌, ◌++◌, Option, Some, None, is_some, is_none, option_map, refl, sym, ap, ◌∙◌}
+use Rattle.std.proofs.Common.{◌≡◌, ℕ, Bool, true, false, List, [], ◌∷◌, ◌++◌, Option, Some, None, refl}
 use Rattle.fk_model.specs.declared.moves.Ask.TheVariants as asks
 use Rattle.fk_model.specs.declared.stage.Stage.{Stage}
 use Rattle.fk_model.specs.Places.{Path, strip, is_within, parent, Ptr}
-use Rattle.fk_model.specs.Objects.{Mode, Thread, Body, thread_of, and_then}
-use Rattle.fk_model.specs.Objects.Mode.{Running, Calling}
+use Rattle.fk_model.specs.Objects.{Mode, Thread}
+use Rattle.fk_model.specs.Objects.Mode.{Calling}
 use Rattle.fk_model.specs.World.{World, Change, apply_all}
 use Rattle.fk_model.specs.Holds.{is_frozen, is_free}
 use Rattle.fk_model.specs.Outcomes.{Outcome, when, Caller}
 use Rattle.fk_model.specs.Outcomes.Outcome.{Refused, Waits, Goes}
 use Rattle.fk_model.specs.LinkRows.{user_at}
-use Rattle.fk_model.specs.Talks.{first_stage}
-use Rattle.fk_model.specs.Moves.{stage_row, call_row, goes_on, user_move, outcome, GoesAllowed, IsReady, stepped, step}
+use Rattle.fk_model.specs.Moves.{stage_row, call_row, goes_on, outcome, IsReady, stepped, step}
 use Rattle.fk_model.specs.Valid.{is_fit}
-use Rattle.fk_model.specs.Sound.{IsSound}
-use Rattle.fk_model.specs.Runs.{Event, after}
+use Rattle.fk_model.specs.Runs.{Event}
 use Rattle.fk_model.specs.Frame.{listed}
 use Rattle.fk_model.specs.Cut.{ports_of, cut_ptr, cut, IsPlain}
-use Rattle.fk_model.specs.Further.{Touch, Onward, outside_row}
-use Rattle.fk_model.specs.Further.Onward.{Own, ByOthers}
-use Rattle.fk_model.specs.Seen.{Seen, stage_touch, thread_in, caller_stage, outer_touch, row_of, IsSeen}
+use Rattle.fk_model.specs.Further.{Onward, outside_row}
+use Rattle.fk_model.specs.Seen.{Seen, stage_touch, caller_stage, outer_touch, row_of, IsSeen}
 use Rattle.fk_model.specs.Seen.Seen.{Onwards, Unseen, Other}
-use Rattle.fk_model.specs.CutLaws.{HasDone, KeepsCut, IsAtStage, moves, StageInsideKeepsCut, StageKeepsCut}
+use Rattle.fk_model.specs.CutLaws.{HasDone, KeepsCut, IsAtStage, moves, StageKeepsCut}
 use Rattle.fk_model.specs.Image.{IsImage}
 use Rattle.fk_model.specs.ImageChanges.{IsImageOutcome}
 use Rattle.fk_model.proofs.Images.{cut-image}
 use Rattle.fk_model.proofs.ImageHolds.{strip_none}
-use Rattle.fk_model.proofs.CutPlain.{AreQuiet, IsClear, changes-clear, clear-plain, same-plain}
+use Rattle.fk_model.proofs.CutPlain.{changes-clear, clear-plain, same-plain}
 use Rattle.fk_model.proofs.CutInside.{Quiet, quiet-when, quiet-call, stage_inside, inside_stages}
 
 module _ (w : World) (nester : Path) (slot : ℕ) (plain : IsPlain w nester slot) where

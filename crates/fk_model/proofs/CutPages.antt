@@ -1,40 +1,39 @@
 -- The law of the cut for a page that is taken: by a thread inside, or by one outside, which the subtree sees.
-use Rattle.std.proofs.Common.{◌≡◌, ◌⊎◌, inl, inr, ℕ, Bool, true, false, cond, not, ◌&&◌, ◌||◌, List, [], ◌∷◌, ◌++◌, Option, Some, None, is_some, is_none, option_map, Result, Ok, Err, refl, sym, ap, ◌∙◌}
+use Rattle.std.proofs.Common.{◌≡◌, ◌⊎◌, inl, inr, ℕ, Bool, true, false, cond, not, ◌&&◌, ◌||◌, List, [], ◌∷◌, ◌++◌, Option, Some, None, is_some, is_none, option_map, Result, Ok, Err, refl}
 use Rattle.fk_model.specs.declared.moves.Ask.TheVariants as asks
 use Rattle.fk_model.specs.declared.statuses.status.TheConstants as status
 use Rattle.fk_model.specs.declared.statuses.status.TheConstants.{DENIED}
 use Rattle.fk_model.specs.declared.stage.Stage.{Stage}
 use Rattle.fk_model.specs.declared.stage.Stage.TheVariants.{PageTake}
 use Rattle.fk_model.specs.declared.names.Kind.TheVariants as kinds
-use Rattle.fk_model.specs.Places.{Path, strip, is_within, parent, slot_of, Ptr}
-use Rattle.fk_model.specs.Objects.{Mode, Thread, Body, kind_of, thread_of, and_then, holds}
+use Rattle.fk_model.specs.Places.{Path, strip, is_within, parent, slot_of}
+use Rattle.fk_model.specs.Objects.{Thread, Body, kind_of, thread_of, and_then, holds}
 use Rattle.fk_model.specs.Objects.Body.{Mutex, Cond, Mapping, Region, Port, Portset, Space, Thread_of, Reference}
 use Rattle.fk_model.specs.World.{World, Change, apply_all}
 use Rattle.fk_model.specs.World.Change.{Alter, PutPage, DropPage}
 use Rattle.fk_model.specs.World.Edit.{Finish}
 use Rattle.fk_model.specs.Reach.{Reach, reach_word}
 use Rattle.fk_model.specs.Reach.Reach.{Home, Missing, Bad}
-use Rattle.fk_model.specs.Holds.{is_frozen, is_frozen_for, is_free}
+use Rattle.fk_model.specs.Holds.{is_frozen_for, is_free}
 use Rattle.fk_model.specs.Outcomes.{Said, Outcome, ◌>>=◌, refuse, or_refuse, when, Caller, path_of}
 use Rattle.fk_model.specs.Outcomes.Outcome.{Refused, Waits, Goes}
 use Rattle.fk_model.specs.Outcomes.Said.{Nothing}
-use Rattle.fk_model.specs.Readers.{place, own_page_at, own_page}
+use Rattle.fk_model.specs.Readers.{place, own_page_at}
 use Rattle.fk_model.specs.LinkRows.{user_at}
-use Rattle.fk_model.specs.SpaceRows.{is_page, is_bad_target, copies, copies_home, copies_to, page_take}
-use Rattle.fk_model.specs.Moves.{stage_row, with_pick, closed, call_row, outcome, IsReady, stepped, step}
+use Rattle.fk_model.specs.SpaceRows.{is_page, is_bad_target, copies, copies_home, page_take}
+use Rattle.fk_model.specs.Moves.{with_pick, closed, call_row, outcome, IsReady, stepped, step}
 use Rattle.fk_model.specs.Valid.{kind_there, is_fit}
 use Rattle.fk_model.specs.Sound.{IsSound}
-use Rattle.fk_model.specs.Runs.{Event, after}
+use Rattle.fk_model.specs.Runs.{Event}
 use Rattle.fk_model.specs.Frame.{listed}
 use Rattle.fk_model.specs.Cut.{ports_of, cut_ptr, cut, IsPlain}
-use Rattle.fk_model.specs.Further.{Touch, Onward, Told, touch_row, onward_row, OnwardTo, IsOnward}
+use Rattle.fk_model.specs.Further.{Touch, Onward, Told, touch_row, onward_row, IsOnward}
 use Rattle.fk_model.specs.Further.Touch.{PageTaken}
-use Rattle.fk_model.specs.Further.Onward.{Own, ByOthers}
-use Rattle.fk_model.specs.Seen.{Seen, drops_page, on_place, is_page_row, stage_touch, writes_inside, writes_through, changes_of, sends_out, outer_touch, row_of, seen_row, IsSeen}
+use Rattle.fk_model.specs.Further.Onward.{ByOthers}
+use Rattle.fk_model.specs.Seen.{Seen, drops_page, on_place, is_page_row, stage_touch, writes_inside, sends_out, outer_touch, row_of, seen_row, IsSeen}
 use Rattle.fk_model.specs.Seen.Seen.{Onwards, Unseen, Other}
 use Rattle.fk_model.specs.CutLaws.{HasDone, KeepsCut, IsAtStage, moves, StageKeepsCut, IsPageTake}
-use Rattle.fk_model.specs.Image.{IsImage}
-use Rattle.fk_model.specs.ImageChanges.{ImageChange, ImageChanges}
+use Rattle.fk_model.specs.ImageChanges.{ImageChanges}
 use Rattle.fk_model.specs.ImageChanges.ImageChange.{DropsPage}
 use Rattle.fk_model.specs.ImageChanges.ImageChanges.{Empty, Both, Beyond}
 use Rattle.fk_model.proofs.PlaceLaws.{strip_some}
@@ -42,7 +41,7 @@ use Rattle.fk_model.proofs.Images.{cut-image}
 use Rattle.fk_model.proofs.ImageHolds.{strip_none}
 use Rattle.fk_model.proofs.ImageRuns.{changes-image, cut-changes}
 use Rattle.fk_model.proofs.CutPlain.{AreQuiet, changes-clear, clear-plain, image-plain}
-use Rattle.fk_model.proofs.CutInside.{Quiet, quiet-refused, quiet-waits, quiet-goes, quiet->>=, quiet-when, quiet-done, quiet-call, stage_inside, inside_stages}
+use Rattle.fk_model.proofs.CutInside.{Quiet, quiet->>=, quiet-when, quiet-done, quiet-call, stage_inside, inside_stages}
 use Rattle.fk_model.proofs.CutOutside.{stepped-plain, stage_outcome, stage_called}
 use Rattle.fk_model.proofs.CutRows.{quiet-own_page}
 use Rattle.fk_model.specs.RebindLaws.{StageRebinds}

@@ -1,25 +1,25 @@
 -- The law of the cut for a thread inside whose row reads its pick.
-use Rattle.std.proofs.Common.{◌≡◌, ℕ, Bool, true, false, cond, not, ◌&&◌, ◌||◌, List, [], ◌∷◌, ◌++◌, Option, Some, None, is_some, is_none, option_map, refl, sym, ap, ◌∙◌}
+use Rattle.std.proofs.Common.{◌≡◌, ℕ, Bool, true, false, ◌∷◌, ◌++◌, Option, Some, None, option_map, refl}
 use Rattle.fk_model.specs.declared.moves.Ask.TheVariants as asks
 use Rattle.fk_model.specs.declared.stage.Stage.{Stage}
-use Rattle.fk_model.specs.Places.{Path, strip, is_within, parent, Ptr}
+use Rattle.fk_model.specs.Places.{Path, strip, Ptr}
 use Rattle.fk_model.specs.Objects.{Mode}
 use Rattle.fk_model.specs.Objects.Mode.{Calling}
 use Rattle.fk_model.specs.World.{World}
 use Rattle.fk_model.specs.Holds.{is_frozen, is_free}
 use Rattle.fk_model.specs.Outcomes.{Outcome, when, Caller}
 use Rattle.fk_model.specs.LinkRows.{user_at}
-use Rattle.fk_model.specs.Moves.{stage_row, call_row, goes_on, outcome, GoesAllowed, stepped, step}
+use Rattle.fk_model.specs.Moves.{call_row, goes_on, outcome, stepped, step}
 use Rattle.fk_model.specs.Frame.{listed}
 use Rattle.fk_model.specs.Cut.{ports_of, cut_ptr, cut, IsPlain}
 use Rattle.fk_model.specs.Further.{outside_row, own_stage}
-use Rattle.fk_model.specs.Seen.{serves_outside, words_out, picked_inside, own_of}
+use Rattle.fk_model.specs.Seen.{serves_outside, words_out, picked_inside}
 use Rattle.fk_model.specs.Seen.Seen.{Onwards, Unseen, Other}
 use Rattle.fk_model.specs.CutLaws.{KeepsCut, IsAtStage, moves}
 use Rattle.fk_model.specs.Image.{seen_thread, AlikeOptions, IsBeneath}
 use Rattle.fk_model.specs.ImageChanges.{IsImageOutcome}
 use Rattle.fk_model.proofs.PlaceLaws.{strip-append, strip_some}
-use Rattle.fk_model.proofs.CutInside.{Quiet, quiet-when, call_closed, own_form, own_row_of, move_alike}
+use Rattle.fk_model.proofs.CutInside.{Quiet, call_closed, own_form, own_row_of, move_alike}
 use Rattle.fk_model.proofs.CutOutside.{stepped-plain, stage_outcome}
 
 -- whom it picks stands beneath the root, at the path that is picked in the cut
@@ -50,7 +50,8 @@ module _ (w : World) (nester : Path) (slot : ℕ) (plain : IsPlain w nester slot
   abbrev far : Outcome
   far = call_row w (user_at me) pick stage
 
-  -- the law, by the call's outcome in the cut for the same pick, and by what it changes: where it picks nobody outside, or where nothing of it is seen
+  -- the law, where the call acts alike in the cut with the same pick, and what it changes is quiet: where it picks nobody outside,
+  -- and where nothing of it is seen
   pub picked_law : ((n : ℕ) (c : Caller) (o : Outcome) → outside_row small c n stage o ≡ o) →
       ((p : Option Path) → AlikeOptions (IsBeneath root) p pick → is_frozen w root ≡ false → AlikeHere (call_row small (user_at (k ∷ q)) p stage) far) →
       ((p : Option Path) → picked_inside root pick ≡ Some p → Quiet root far) →

@@ -1,23 +1,21 @@
 -- The law of the cut for a wait of a porter, which stands outside.
-use Rattle.std.proofs.Common.{◌≡◌, inl, ℕ, Bool, true, false, cond, ◌&&◌, List, [], ◌∷◌, ◌++◌, Option, Some, None, is_some, option_map, Result, Ok, Err, refl, sym, ap, ◌∙◌}
+use Rattle.std.proofs.Common.{◌≡◌, ℕ, Bool, true, false, ◌&&◌, List, ◌∷◌, Option, Some, None, is_some, option_map, Result, Ok, Err, refl}
 use Rattle.fk_model.specs.declared.moves.Ask.TheVariants as asks
-use Rattle.fk_model.specs.declared.statuses.status.TheConstants.{DENIED, LINKED}
+use Rattle.fk_model.specs.declared.statuses.status.TheConstants.{LINKED}
 use Rattle.fk_model.specs.declared.stage.Stage.{Stage}
 use Rattle.fk_model.specs.declared.stage.Stage.TheVariants.{Wait}
-use Rattle.fk_model.specs.Places.{Path, strip, is_within, parent, slot_of}
-use Rattle.fk_model.specs.Objects.{Mode, Thread, Body, thread_of, and_then, holds}
-use Rattle.fk_model.specs.Objects.Mode.{Running, Calling, Halted, Native}
-use Rattle.fk_model.specs.Objects.Body.{Mutex, Cond, Mapping, Region, Port, Portset, Space, Thread_of, Reference}
+use Rattle.fk_model.specs.Places.{Path, strip, is_within, parent}
+use Rattle.fk_model.specs.Objects.{Thread, Body, thread_of, and_then, holds}
+use Rattle.fk_model.specs.Objects.Body.{Thread_of}
 use Rattle.fk_model.specs.World.{World}
 use Rattle.fk_model.specs.Searches.{is_serving}
 use Rattle.fk_model.specs.Holds.{is_porter, is_unheld}
 use Rattle.fk_model.specs.Outcomes.{Outcome, ◌>>=◌, refuse, when, Caller, path_of}
-use Rattle.fk_model.specs.Outcomes.Outcome.{Refused, Waits, Goes}
+use Rattle.fk_model.specs.Outcomes.Outcome.{Waits}
 use Rattle.fk_model.specs.Readers.{object_in}
 use Rattle.fk_model.specs.LinkRows.{portset_of, wait}
 use Rattle.fk_model.specs.StateRows.{is_native}
-use Rattle.fk_model.specs.Moves.{is_denied, with_pick, closed, call_row, porter_at, porter_move, outcome, GoesAllowed, stepped, step}
-use Rattle.fk_model.specs.Valid.{is_fit}
+use Rattle.fk_model.specs.Moves.{with_pick, closed, call_row, porter_at, porter_move, outcome, GoesAllowed, step}
 use Rattle.fk_model.specs.Sound.{IsSound}
 use Rattle.fk_model.specs.Runs.{Event}
 use Rattle.fk_model.specs.Cut.{IsPlain}
@@ -28,9 +26,9 @@ use Rattle.fk_model.specs.Seen.Seen.{Onwards, Unseen, Other}
 use Rattle.fk_model.specs.CutLaws.{HasDone, KeepsCut, IsWait, CallKeepsCut}
 use Rattle.fk_model.proofs.PlaceLaws.{strip_some}
 use Rattle.fk_model.proofs.ImageHolds.{strip_none}
-use Rattle.fk_model.proofs.WaitViews.{View, view-call, view-when, quiet-view}
+use Rattle.fk_model.proofs.WaitViews.{View, view-call, quiet-view}
 use Rattle.fk_model.proofs.CutInside.{Quiet, quiet-waits}
-use Rattle.fk_model.proofs.CutOutside.{stepped-plain, untouched}
+use Rattle.fk_model.proofs.CutOutside.{stepped-plain}
 use Rattle.fk_model.proofs.CutPages.{stands_in_slot}
 use Rattle.fk_model.proofs.CutWaiters.{touched}
 

@@ -1,5 +1,5 @@
 -- A move of a subtree that is seen alone is the same move of it with other outward ports.
-use Rattle.std.proofs.Common.{◌≡◌, ℕ, zero, Bool, true, false, cond, not, ◌&&◌, List, [], ◌∷◌, ◌++◌, map, Option, Some, None, is_none, is_some, option_map, refl, sym, ap, subst, ◌∙◌, append-nil}
+use Rattle.std.proofs.Common.{◌≡◌, ℕ, zero, Bool, true, false, cond, ◌&&◌, List, [], ◌∷◌, ◌++◌, map, Option, Some, None, is_none, option_map, refl, sym, ap, subst, ◌∙◌, append-nil}
 use Rattle.std.specs.List.{flat_map}
 use Rattle.fk_model.specs.declared.stage.Stage.{Stage}
 use Rattle.fk_model.specs.Places.{Path, strip, is_within, parent, Ptr}
@@ -10,25 +10,23 @@ use Rattle.fk_model.specs.World.{World, Change, Edit, apply, apply_all}
 use Rattle.fk_model.specs.World.Change.{Alter, Make, MakeSpace, Kill, Move, PutPage, DropPage}
 use Rattle.fk_model.specs.World.Edit.{SetTalk, SetFault}
 use Rattle.fk_model.specs.Searches.{talk_at}
-use Rattle.fk_model.specs.Holds.{decider, holder_of, is_frozen, is_free}
-use Rattle.fk_model.specs.Outcomes.{Said, Outcome, when, Caller}
+use Rattle.fk_model.specs.Holds.{decider, is_frozen, is_free}
+use Rattle.fk_model.specs.Outcomes.{Said, Outcome, when}
 use Rattle.fk_model.specs.Outcomes.Outcome.{Refused, Waits, Goes}
 use Rattle.fk_model.specs.LinkRows.{user_at}
 use Rattle.fk_model.specs.Freezing.{AreAllowed}
-use Rattle.fk_model.specs.Moves.{stage_row, call_row, goes_on}
-use Rattle.fk_model.specs.Frame.{listed}
+use Rattle.fk_model.specs.Moves.{call_row, goes_on}
 use Rattle.fk_model.specs.Cut.{is_out}
-use Rattle.fk_model.specs.Further.{Onward, Told, talks_outside, own_stage, own_move, own_row, thread_in, onward_row, told_end, told_fault, told_by_change, told_by_said, told_by, OnwardTo, IsOnward}
+use Rattle.fk_model.specs.Further.{Told, talks_outside, own_stage, thread_in, onward_row, told_end, told_fault, told_by_change, told_by_said, OnwardTo, IsOnward}
 use Rattle.fk_model.specs.Further.Onward.{Own}
-use Rattle.fk_model.specs.Further.Told.{ToldWords, ToldOver, ToldEnd, ToldFault}
-use Rattle.fk_model.specs.Seen.{said_by}
+use Rattle.fk_model.specs.Further.Told.{ToldEnd, ToldFault}
 use Rattle.fk_model.specs.CutLaws.{IsAtStage}
-use Rattle.fk_model.specs.Image.{seeing, seen_talk, seen_fault, seen_thread, IsImage, IsCutWorld, AlikeOptions, IsSeenTalk, IsSeenThread}
+use Rattle.fk_model.specs.Image.{seeing, seen_fault, seen_thread, IsImage, IsCutWorld, AlikeOptions, IsSeenTalk, IsSeenThread}
 use Rattle.fk_model.specs.ImageChanges.{seen_edit, ImageChange, ImageChanges, IsOutside, IsImageOutcome}
 use Rattle.fk_model.specs.ImageChanges.ImageChange.{Alters, AltersOut, Makes, MakesSpace, Kills, Moves, PutsPage, DropsPage}
 use Rattle.fk_model.specs.ImageChanges.ImageChanges.{Empty, Both, Beyond}
 use Rattle.fk_model.specs.Rebind.{rebound_ptr, rebound, rebound_told}
-use Rattle.fk_model.specs.RebindLaws.{Rebinds, StageRebinds}
+use Rattle.fk_model.specs.RebindLaws.{StageRebinds}
 use Rattle.fk_model.proofs.PlaceLaws.{strip-append}
 use Rattle.fk_model.proofs.Images.{rebound-image}
 use Rattle.fk_model.proofs.ImageMemory.{root_seen}

@@ -1,27 +1,24 @@
 -- The law of the cut for a thread outside that gives an object another slot.
-use Rattle.std.proofs.Common.{◌≡◌, ◌⊎◌, inl, inr, ℕ, leb, Bool, true, false, cond, not, ◌||◌, List, [], ◌∷◌, ◌++◌, Option, Some, None, is_some, is_none, option_map, Result, Ok, Err, refl, sym, ap, ◌∙◌}
+use Rattle.std.proofs.Common.{◌≡◌, ◌⊎◌, inl, inr, ℕ, leb, Bool, true, false, cond, not, [], ◌∷◌, Option, Some, None, is_some, is_none, option_map, Result, Ok, Err, refl, sym, ap, ◌∙◌}
 use Rattle.fk_model.specs.declared.limits.TheConstants.{LAST_USER_SLOT}
 use Rattle.fk_model.specs.declared.statuses.status.TheConstants as status
 use Rattle.fk_model.specs.declared.moves.Ask.TheVariants as asks
-use Rattle.fk_model.specs.declared.stage.Stage.{Stage}
 use Rattle.fk_model.specs.declared.stage.Stage.TheVariants.{Rename}
-use Rattle.fk_model.specs.Places.{Path, same_path, strip, is_within, parent, Ptr}
+use Rattle.fk_model.specs.Places.{Path, same_path, strip, is_within, parent}
 use Rattle.fk_model.specs.Objects.{Body}
-use Rattle.fk_model.specs.Objects.Body.{Space}
-use Rattle.fk_model.specs.World.{World, Change, edited, through, following, apply, apply_all}
+use Rattle.fk_model.specs.World.{World, edited, through, following, apply, apply_all}
 use Rattle.fk_model.specs.World.Change.{Alter, Move}
 use Rattle.fk_model.specs.World.Edit.{Finish}
 use Rattle.fk_model.specs.Searches.{has_residents}
 use Rattle.fk_model.specs.Holds.{is_free, is_frozen_for}
-use Rattle.fk_model.specs.Outcomes.{Said, Outcome, ◌>>=◌, refuse, when, Caller, path_of}
+use Rattle.fk_model.specs.Outcomes.{Outcome, ◌>>=◌, refuse, when, path_of}
 use Rattle.fk_model.specs.Outcomes.Outcome.{Refused, Waits, Goes}
 use Rattle.fk_model.specs.Outcomes.Said.{Nothing}
 use Rattle.fk_model.specs.Readers.{anything, object_in, place}
 use Rattle.fk_model.specs.LinkRows.{user_at}
 use Rattle.fk_model.specs.ObjectRows.{is_served, renamed, rename}
 use Rattle.fk_model.specs.Moves.{with_pick, closed, call_row, outcome, stepped, step}
-use Rattle.fk_model.specs.Cut.{ports_of, cut_ptr, cutting, seen_by, unheld, cut, IsPlain}
-use Rattle.fk_model.specs.Seen.{Seen, outer_touch}
+use Rattle.fk_model.specs.Cut.{seen_by, cut, IsPlain}
 use Rattle.fk_model.specs.Seen.Seen.{Onwards, Unseen, Other}
 use Rattle.fk_model.specs.CutLaws.{KeepsCut, IsAtStage, moves, StageOutsideKeepsCut, IsRename}
 use Rattle.fk_model.proofs.PlaceLaws.{same_path_eq, same_path_refl}

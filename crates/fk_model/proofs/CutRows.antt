@@ -1,15 +1,12 @@
 -- The law of the cut, row by row.
-use Rattle.std.proofs.Common.{◌≡◌, ℕ, eqb, Bool, true, false, cond, not, ◌&&◌, ◌||◌, List, [], ◌∷◌, ◌++◌, Option, Some, None, IfSome, is_some, Result, Ok, Err, refl, sym, ap, ◌∙◌}
+use Rattle.std.proofs.Common.{ℕ, eqb, Bool, true, false, cond, not, [], ◌∷◌, Option, Some, None, IfSome, refl}
 use Rattle.fk_model.specs.declared.stage.Stage.{Stage}
-use Rattle.fk_model.specs.declared.stage.Stage.TheVariants.{MutexLock, Create, Point, GetState, SpaceHold}
-use Rattle.fk_model.specs.Places.{Path, Ptr}
-use Rattle.fk_model.specs.Places.Ptr.{Null}
+use Rattle.fk_model.specs.Places.{Path}
 use Rattle.fk_model.specs.Objects.{Body}
-use Rattle.fk_model.specs.Objects.Body.{Mutex, Cond, Mapping, Region, Port, Portset, Space, Thread_of, Reference}
 use Rattle.fk_model.specs.World.{World, Change}
 use Rattle.fk_model.specs.Reach.{Reach, reach_word}
 use Rattle.fk_model.specs.Reach.Reach.{Home, Missing, Bad}
-use Rattle.fk_model.specs.Outcomes.{Outcome, ◌>>=◌, refuse, or_refuse, when, Caller, path_of, done_at, done}
+use Rattle.fk_model.specs.Outcomes.{Outcome, ◌>>=◌, or_refuse, Caller, path_of, done}
 use Rattle.fk_model.specs.Readers.{own_page_at, own_page}
 use Rattle.fk_model.specs.LinkRows.{user_at}
 use Rattle.fk_model.specs.SyncRows.{mutex_lock, sets}
@@ -20,7 +17,7 @@ use Rattle.fk_model.specs.ObjectRows.{new_object, create, point}
 use Rattle.fk_model.specs.RebindLaws.{StageRebinds}
 use Rattle.fk_model.specs.CutLaws.{StageKeepsCut, IsLock, IsCreate, IsPoint, IsGetState, IsHold}
 use Rattle.fk_model.proofs.ImageRows.{mutex_lock-image}
-use Rattle.fk_model.proofs.CutPlain.{IsQuiet, AreQuiet}
+use Rattle.fk_model.proofs.CutPlain.{IsQuiet}
 use Rattle.fk_model.proofs.CutInside.{Quiet, quiet-refused, quiet-waits, quiet-goes, quiet->>=, quiet-when, quiet-done}
 use Rattle.fk_model.proofs.CutOutside.{IsInner, inner_stages}
 use Rattle.fk_model.proofs.CutRebound.{inner_rebinds}

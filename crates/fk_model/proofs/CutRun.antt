@@ -1,11 +1,11 @@
 -- The law of the cut for instructions.
-use Rattle.std.proofs.Common.{◌≡◌, ℕ, Bool, true, false, List, [], ◌∷◌, ◌++◌, Option, Some, None, is_none, cond, ◌&&◌, refl, sym, ap, subst, ◌∙◌, append-nil}
+use Rattle.std.proofs.Common.{◌≡◌, ℕ, Bool, true, false, List, [], ◌∷◌, ◌++◌, Option, Some, None, is_none, cond, ◌&&◌, refl, subst, append-nil}
 use Rattle.fk_model.specs.declared.instruction.Act.{Act}
 use Rattle.fk_model.specs.declared.instruction.Act.TheVariants.{Put, Jump, Load, Store, Halt, Call}
 use Rattle.fk_model.specs.declared.moves.Ask.TheVariants as asks
 use Rattle.fk_model.specs.declared.stage.Stage.{Stage}
 use Rattle.fk_model.specs.Places.{Path, is_within, parent, slot_of, Ptr}
-use Rattle.fk_model.specs.Objects.{Mode, Thread, thread_of, and_then}
+use Rattle.fk_model.specs.Objects.{Mode, Thread}
 use Rattle.fk_model.specs.Objects.Mode.{Running, Halted}
 use Rattle.fk_model.specs.World.{World}
 use Rattle.fk_model.specs.Calls.{todo_of}
@@ -18,7 +18,6 @@ use Rattle.fk_model.specs.Readers.{accessed}
 use Rattle.fk_model.specs.UserRows.{proceeds, halts_with, word_at, enters, performs, executes, run_row_by, run_row}
 use Rattle.fk_model.specs.Moves.{with_pick, goes_on, outcome, IsReady}
 use Rattle.fk_model.specs.Valid.{is_fit}
-use Rattle.fk_model.specs.Runs.{Event}
 use Rattle.fk_model.specs.Cut.{ports_of, cut_ptr, cut, IsPlain}
 use Rattle.fk_model.specs.Further.{talks_outside, own_stage, thread_in, onward_row}
 use Rattle.fk_model.specs.Further.Onward.{Own}

@@ -1,8 +1,8 @@
 -- A subtree sees that its thread is taken at its Connect, or that its fault is taken, by whomever outside that is.
-use Rattle.std.proofs.Common.{◌≡◌, ℕ, Bool, true, false, cond, not, ◌&&◌, List, [], ◌∷◌, ◌++◌, Option, Some, None, IfSome, is_some, is_none, option_map, refl, sym, ap, ◌∙◌}
+use Rattle.std.proofs.Common.{◌≡◌, ℕ, Bool, true, false, not, List, [], ◌∷◌, ◌++◌, Option, Some, None, IfSome, is_some, is_none, option_map, refl, sym, ap, ◌∙◌}
 use Rattle.fk_model.specs.Places.{Path, is_within, Ptr}
 use Rattle.fk_model.specs.Places.Ptr.{At, Out, Outside}
-use Rattle.fk_model.specs.Objects.{Peer, Fault, Thread, thread_of, and_then, holds}
+use Rattle.fk_model.specs.Objects.{Peer, Fault, Thread, thread_of, and_then}
 use Rattle.fk_model.specs.Objects.Peer.{Server}
 use Rattle.fk_model.specs.World.{World, Change, apply, apply_all}
 use Rattle.fk_model.specs.World.Change.{Alter}
@@ -23,7 +23,7 @@ use Rattle.fk_model.specs.ImageChanges.ImageChange.{Alters, AltersOut}
 use Rattle.fk_model.specs.ImageChanges.ImageChanges.{Empty, Both, Beyond}
 use Rattle.fk_model.proofs.PlaceLaws.{strip-append}
 use Rattle.fk_model.proofs.Images.{cut-image}
-use Rattle.fk_model.proofs.ImageHolds.{is_free-image, is_unheld-image, none-unfrozen, root_unfrozen, unheld-free}
+use Rattle.fk_model.proofs.ImageHolds.{is_free-image, is_unheld-image, root_unfrozen, unheld-free}
 use Rattle.fk_model.proofs.ImageTalks.{thread_there-image}
 use Rattle.fk_model.proofs.ImageWaits.{connecting_to-image}
 use Rattle.fk_model.proofs.CutPlain.{AreQuiet}

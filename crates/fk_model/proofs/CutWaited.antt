@@ -1,15 +1,13 @@
 -- The law of rebinding for a wait.
-use Rattle.std.proofs.Common.{◌≡◌, ℕ, Bool, true, false, ◌||◌, List, [], ◌∷◌, ◌++◌, find, Option, Some, None, IfSome, is_some, option_map, refl, sym, subst, append-nil}
+use Rattle.std.proofs.Common.{◌≡◌, ℕ, List, [], ◌∷◌, ◌++◌, find, Option, Some, None, IfSome, option_map, refl, sym, subst, append-nil}
 use Rattle.fk_model.specs.declared.stage.Stage.TheVariants.{Wait}
 use Rattle.fk_model.specs.Places.{Path, Ptr}
 use Rattle.fk_model.specs.Objects.{Peer, Fault, holds}
 use Rattle.fk_model.specs.World.{World, serves}
 use Rattle.fk_model.specs.Searches.{fault_at, client_of, faulter_of, is_serving, objects}
-use Rattle.fk_model.specs.LinkRows.{user_at}
-use Rattle.fk_model.specs.Moves.{call_row}
 use Rattle.fk_model.specs.Cut.{is_out}
 use Rattle.fk_model.specs.CutLaws.{IsWait}
-use Rattle.fk_model.specs.Image.{seen_peer, HasImage, IfServer, IsImage, IsCutWorld, IsApart, IsBeneath, AlikeOptions, IsSeenFault}
+use Rattle.fk_model.specs.Image.{seen_peer, HasImage, IfServer, IsImage, IsApart, IsBeneath, AlikeOptions, IsSeenFault}
 use Rattle.fk_model.specs.RebindLaws.{StageRebinds}
 use Rattle.fk_model.proofs.Alike.{alike-is_some}
 use Rattle.fk_model.proofs.ImageMemory.{root_space, root_seen}
@@ -17,7 +15,6 @@ use Rattle.fk_model.proofs.ImageTalks.{fault_at-image}
 use Rattle.fk_model.proofs.ImageWalks.{beneath-image}
 use Rattle.fk_model.proofs.ImageSweeps.{serves_alike}
 use Rattle.fk_model.proofs.ImageServers.{cut_world-apart}
-use Rattle.fk_model.proofs.ImageSends.{Same}
 use Rattle.fk_model.proofs.ImagePicks.{wait_call-image}
 use Rattle.fk_model.proofs.CutRebound.{top_free}
 use Rattle.fk_model.proofs.CutTold.{found_same, client_same, silent_row, told_rebinds}

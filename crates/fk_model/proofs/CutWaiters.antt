@@ -1,20 +1,16 @@
 -- The law of the cut for a wait, by a thread outside.
-use Rattle.std.proofs.Common.{◌≡◌, ◌⊎◌, inl, inr, ℕ, ◌≤◌, Bool, true, false, cond, not, ◌&&◌, ◌||◌, List, [], ◌∷◌, ◌++◌, Option, Some, None, is_some, is_none, option_map, refl, sym, ap, ◌∙◌}
+use Rattle.std.proofs.Common.{◌≡◌, inl, inr, ℕ, Bool, true, false, cond, List, [], ◌∷◌, ◌++◌, Option, Some, None, is_some, is_none, option_map, refl, sym, ap, ◌∙◌}
 use Rattle.fk_model.specs.declared.moves.Ask.TheVariants as asks
 use Rattle.fk_model.specs.declared.names.Kind.TheVariants as kinds
 use Rattle.fk_model.specs.declared.statuses.status.TheConstants.{OK}
-use Rattle.fk_model.specs.declared.stage.Stage.{Stage}
 use Rattle.fk_model.specs.declared.stage.Stage.TheVariants.{Wait}
 use Rattle.fk_model.specs.Places.{Path, strip, is_within, parent, slot_of, Ptr}
 use Rattle.fk_model.specs.Places.Ptr.{At}
-use Rattle.fk_model.specs.Objects.{Mode, Fault, Thread, Body, thread_of, and_then, holds}
-use Rattle.fk_model.specs.Objects.Body.{Thread_of}
-use Rattle.fk_model.specs.Objects.Mode.{Running, Calling, Halted, Native}
+use Rattle.fk_model.specs.Objects.{Fault, Thread, thread_of, and_then}
 use Rattle.fk_model.specs.Objects.Peer.{Server}
-use Rattle.fk_model.specs.World.{World, Change, Edit, ended_in, edited, apply, apply_all}
+use Rattle.fk_model.specs.World.{World, Change}
 use Rattle.fk_model.specs.World.Change.{Alter}
-use Rattle.fk_model.specs.World.Edit.{End, Finish, SetTalk, SetPeer, SetTaker}
-use Rattle.fk_model.specs.Searches.{depth}
+use Rattle.fk_model.specs.World.Edit.{End, Finish, SetTalk, SetTaker}
 use Rattle.fk_model.specs.Holds.{is_free, is_unheld}
 use Rattle.fk_model.specs.Outcomes.{Outcome, when, Caller, path_of}
 use Rattle.fk_model.specs.Outcomes.Outcome.{Goes}
@@ -23,31 +19,23 @@ use Rattle.fk_model.specs.LinkRows.{user_at, connecting_to, new_talk, Candidate,
 use Rattle.fk_model.specs.LinkRows.Candidate.{Faulting, Connecting, Resuming}
 use Rattle.fk_model.specs.Moves.{call_row, outcome, GoesAllowed, stepped, step}
 use Rattle.fk_model.specs.Valid.{kind_there, is_fit}
-use Rattle.fk_model.specs.Frame.{listed}
-use Rattle.fk_model.specs.Cut.{ports_of, cut_ptr, cut, IsPlain}
+use Rattle.fk_model.specs.Cut.{cut, IsPlain}
 use Rattle.fk_model.specs.Sound.{IsSound}
-use Rattle.fk_model.specs.Further.{Touch, Onward, Told, thread_in, IsOnward}
+use Rattle.fk_model.specs.Further.{Touch, Onward, Told, IsOnward}
 use Rattle.fk_model.specs.Further.Touch.{Taken, FaultTaken}
 use Rattle.fk_model.specs.Further.Onward.{ByOthers}
-use Rattle.fk_model.specs.Seen.{Seen, serves_outside, picked_inside, on_inner, taken_as, IsSeen}
+use Rattle.fk_model.specs.Seen.{Seen, on_inner, taken_as, IsSeen}
 use Rattle.fk_model.specs.Seen.Seen.{Onwards, Unseen, Other}
 use Rattle.fk_model.specs.CutLaws.{HasDone, KeepsCut, IsAtStage, moves, IsWait, StageOutsideKeepsCut}
-use Rattle.fk_model.specs.Image.{seen_thread}
-use Rattle.fk_model.specs.ImageChanges.ImageChange.{Alters}
-use Rattle.fk_model.specs.ImageChanges.ImageChanges.{Empty, Both, Beyond}
-use Rattle.fk_model.proofs.PlaceLaws.{same_path_refl, strip-append, strip_some}
-use Rattle.fk_model.proofs.SafeTalks.{PortIn, slot-found}
+use Rattle.fk_model.proofs.PlaceLaws.{strip-append, strip_some}
+use Rattle.fk_model.proofs.SafeTalks.{slot-found}
 use Rattle.fk_model.proofs.Images.{cut-image}
-use Rattle.fk_model.proofs.ImageRuns.{cut-changes}
 use Rattle.fk_model.proofs.ImageHolds.{strip_none}
-use Rattle.fk_model.proofs.ImageServers.{is_serving-image, cut-served}
-use Rattle.fk_model.proofs.ImagePicks.{wait_call-image}
 use Rattle.fk_model.proofs.WaitViews.{View, view-call, view-when, IsFound, candidate-found, quiet-view, quiet-idle}
-use Rattle.fk_model.proofs.CutInside.{Quiet, quiet-waits, quiet-when, seen_is, thread_beneath}
+use Rattle.fk_model.proofs.CutInside.{Quiet, quiet-when, thread_beneath}
 use Rattle.fk_model.proofs.CutOutside.{outside_law, stepped-plain, stage_outcome, stage_called}
 use Rattle.fk_model.proofs.CutPages.{taken_row, seen_outside, stands_in_slot}
 use Rattle.fk_model.proofs.CutTaken.{taken_here, fault_here}
-use Rattle.fk_model.proofs.CutPicks.{picked_law}
 
 module _ (w : World) (nester : Path) (slot : ℕ) (plain : IsPlain w nester slot) (sound : IsSound w) (c : Caller) (set : ℕ) (out : is_within (slot ∷ nester) (path_of c) ≡ false) where
   abbrev root : Path

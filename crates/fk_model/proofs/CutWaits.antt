@@ -1,52 +1,34 @@
 -- The law of the cut for a wait, by a thread inside.
-use Rattle.std.proofs.Common.{◌≡◌, ◌⊎◌, inl, inr, ℕ, ◌≤◌, Bool, true, false, cond, not, ◌&&◌, ◌||◌, List, [], ◌∷◌, ◌++◌, Option, Some, None, is_some, is_none, option_map, refl, sym, ap, ◌∙◌}
-use Rattle.fk_model.specs.declared.moves.Ask.TheVariants as asks
-use Rattle.fk_model.specs.declared.names.Kind.TheVariants as kinds
+use Rattle.std.proofs.Common.{◌≡◌, inl, inr, ℕ, ◌≤◌, Bool, true, false, List, [], ◌∷◌, ◌++◌, Option, Some, None, is_some, option_map, refl, sym, ap, ◌∙◌}
 use Rattle.fk_model.specs.declared.statuses.status.TheConstants.{OK}
-use Rattle.fk_model.specs.declared.stage.Stage.{Stage}
 use Rattle.fk_model.specs.declared.stage.Stage.TheVariants.{Wait}
-use Rattle.fk_model.specs.Places.{Path, strip, is_within, parent, slot_of, Ptr}
-use Rattle.fk_model.specs.Places.Ptr.{At}
-use Rattle.fk_model.specs.Objects.{Mode, Fault, Thread, Body, thread_of, and_then, holds}
+use Rattle.fk_model.specs.Places.{Path, strip, is_within, Ptr}
+use Rattle.fk_model.specs.Objects.{Mode, Thread, Body, thread_of, and_then, holds}
 use Rattle.fk_model.specs.Objects.Body.{Thread_of}
 use Rattle.fk_model.specs.Objects.Mode.{Running, Calling, Halted, Native}
-use Rattle.fk_model.specs.Objects.Peer.{Server}
-use Rattle.fk_model.specs.World.{World, Change, Edit, ended_in, edited, apply, apply_all}
+use Rattle.fk_model.specs.World.{World, Edit, ended_in, edited, apply, apply_all}
 use Rattle.fk_model.specs.World.Change.{Alter}
-use Rattle.fk_model.specs.World.Edit.{End, Finish, SetTalk, SetPeer, SetTaker}
+use Rattle.fk_model.specs.World.Edit.{End}
 use Rattle.fk_model.specs.Searches.{depth}
-use Rattle.fk_model.specs.Holds.{is_free, is_unheld}
-use Rattle.fk_model.specs.Outcomes.{Outcome, when, Caller, path_of}
-use Rattle.fk_model.specs.Outcomes.Outcome.{Goes}
-use Rattle.fk_model.specs.Outcomes.Said.{Nothing, Answered}
-use Rattle.fk_model.specs.LinkRows.{user_at, connecting_to, new_talk, Candidate, slot_in_set, candidate, flag, takes}
+use Rattle.fk_model.specs.Outcomes.{Outcome}
+use Rattle.fk_model.specs.LinkRows.{user_at, Candidate, takes}
 use Rattle.fk_model.specs.LinkRows.Candidate.{Faulting, Connecting, Resuming}
-use Rattle.fk_model.specs.Moves.{call_row, outcome, GoesAllowed, stepped, step}
-use Rattle.fk_model.specs.Valid.{kind_there}
+use Rattle.fk_model.specs.Moves.{call_row, stepped}
 use Rattle.fk_model.specs.Frame.{listed}
 use Rattle.fk_model.specs.Cut.{ports_of, cut_ptr, cut, IsPlain}
 use Rattle.fk_model.specs.Sound.{IsSound}
-use Rattle.fk_model.specs.Further.{Touch, Onward, Told, thread_in, IsOnward}
-use Rattle.fk_model.specs.Further.Touch.{Taken, FaultTaken}
-use Rattle.fk_model.specs.Further.Onward.{ByOthers}
-use Rattle.fk_model.specs.Seen.{Seen, serves_outside, picked_inside, on_inner, taken_as, IsSeen}
-use Rattle.fk_model.specs.Seen.Seen.{Onwards, Unseen, Other}
-use Rattle.fk_model.specs.CutLaws.{HasDone, KeepsCut, IsAtStage, moves, IsWait, StageInsideKeepsCut, StageOutsideKeepsCut}
-use Rattle.fk_model.specs.Image.{seen_thread}
+use Rattle.fk_model.specs.Further.{thread_in}
+use Rattle.fk_model.specs.Seen.{serves_outside, picked_inside}
+use Rattle.fk_model.specs.CutLaws.{KeepsCut, IsAtStage, moves, IsWait, StageInsideKeepsCut}
 use Rattle.fk_model.specs.ImageChanges.ImageChange.{Alters}
 use Rattle.fk_model.specs.ImageChanges.ImageChanges.{Empty, Both, Beyond}
-use Rattle.fk_model.proofs.PlaceLaws.{same_path_refl, strip-append, strip_some}
-use Rattle.fk_model.proofs.SafeTalks.{PortIn, slot-found}
+use Rattle.fk_model.proofs.PlaceLaws.{same_path_refl, strip-append}
 use Rattle.fk_model.proofs.Images.{cut-image}
 use Rattle.fk_model.proofs.ImageRuns.{cut-changes}
-use Rattle.fk_model.proofs.ImageHolds.{strip_none}
 use Rattle.fk_model.proofs.ImageServers.{is_serving-image, cut-served}
 use Rattle.fk_model.proofs.ImagePicks.{wait_call-image}
-use Rattle.fk_model.proofs.WaitViews.{View, view-call, view-when, IsFound, candidate-found, quiet-view, quiet-idle}
-use Rattle.fk_model.proofs.CutInside.{Quiet, quiet-waits, quiet-when, seen_is, thread_beneath}
-use Rattle.fk_model.proofs.CutOutside.{outside_law, stepped-plain, stage_outcome, stage_called}
-use Rattle.fk_model.proofs.CutPages.{taken_row, seen_outside, stands_in_slot}
-use Rattle.fk_model.proofs.CutTaken.{taken_here, fault_here}
+use Rattle.fk_model.proofs.WaitViews.{View, view-call, quiet-view, quiet-idle}
+use Rattle.fk_model.proofs.CutInside.{Quiet, quiet-waits, seen_is, thread_beneath}
 use Rattle.fk_model.proofs.CutPicks.{picked_law}
 
 -- ---- a call that ends leaves another cut

@@ -1,10 +1,10 @@
 -- A wait goes alike in an image, where whom it picks lies inside: the same candidate is taken. The outside hears nothing of it.
-use Rattle.std.proofs.Common.{◌≡◌, ℕ, Bool, true, false, cond, ◌||◌, List, [], ◌∷◌, ◌++◌, Option, Some, None, IfSome, is_some, is_none, option_map, Result, Ok, Err, refl, ap}
+use Rattle.std.proofs.Common.{◌≡◌, ℕ, Bool, true, false, cond, [], ◌∷◌, ◌++◌, Option, Some, None, IfSome, is_some, is_none, option_map, refl, ap}
 use Rattle.fk_model.specs.declared.stage.Stage.TheVariants.{Wait}
 use Rattle.fk_model.specs.declared.statuses.status.TheConstants.{OK, LINKED}
 use Rattle.fk_model.specs.Places.{Path, parent, Ptr}
 use Rattle.fk_model.specs.Places.Ptr.{At}
-use Rattle.fk_model.specs.Objects.{Peer, Talk, Fault, and_then}
+use Rattle.fk_model.specs.Objects.{Peer, Talk, Fault}
 use Rattle.fk_model.specs.Objects.Peer.{Server}
 use Rattle.fk_model.specs.World.{World}
 use Rattle.fk_model.specs.World.Edit.{Finish, End, SetTalk, SetPeer, SetTaker}
@@ -12,8 +12,7 @@ use Rattle.fk_model.specs.Searches.{talk_at, fault_at, is_serving}
 use Rattle.fk_model.specs.Holds.{is_frozen, is_unheld}
 use Rattle.fk_model.specs.Outcomes.{Outcome, refuse}
 use Rattle.fk_model.specs.Outcomes.Outcome.{Refused, Waits, Goes}
-use Rattle.fk_model.specs.LinkRows.{new_talk, user_at, Candidate, candidate_by, candidate, takes, takes_picked, portset_of, wait}
-use Rattle.fk_model.specs.LinkRows.Candidate.{Faulting, Connecting, Resuming}
+use Rattle.fk_model.specs.LinkRows.{new_talk, user_at, Candidate, candidate, takes, takes_picked, portset_of, wait}
 use Rattle.fk_model.specs.Moves.{with_pick, call_row}
 use Rattle.fk_model.specs.Cut.{is_out}
 use Rattle.fk_model.specs.Image.{seen_peer, HasImage, AllInTalk, IsImage, AlikeResults, AlikeOptions, IsBeneath, CandidateImage}

@@ -1,5 +1,5 @@
 -- What a wait comes to: it isn't ready, or takes the thread that it picks, as what it is for the set.
-use Rattle.std.proofs.Common.{◌≡◌, ◌⊎◌, inl, inr, ℕ, Bool, true, false, cond, ◌&&◌, ◌||◌, List, [], ◌∷◌, ◌++◌, Option, Some, None, is_some, is_none, option_map, Result, Ok, Err, refl, sym, ◌∙◌}
+use Rattle.std.proofs.Common.{◌≡◌, ◌⊎◌, inl, inr, ℕ, Bool, true, false, cond, List, [], ◌∷◌, Option, Some, None, option_map, Result, Ok, Err, refl}
 use Rattle.fk_model.specs.declared.statuses.status.TheConstants.{DENIED, LINKED}
 use Rattle.fk_model.specs.declared.stage.Stage.TheVariants.{Wait}
 use Rattle.fk_model.specs.Places.{Path, is_within, parent, Ptr}
@@ -8,17 +8,17 @@ use Rattle.fk_model.specs.Objects.{Talk, Fault, Thread, thread_of, and_then, or_
 use Rattle.fk_model.specs.Objects.Peer.{Server}
 use Rattle.fk_model.specs.World.{World, Change}
 use Rattle.fk_model.specs.World.Change.{Alter}
-use Rattle.fk_model.specs.World.Edit.{End, Finish, SetTalk, SetPeer, SetTaker}
+use Rattle.fk_model.specs.World.Edit.{Finish, SetTalk, SetPeer, SetTaker}
 use Rattle.fk_model.specs.Searches.{is_serving}
 use Rattle.fk_model.specs.Holds.{is_free, is_unheld}
 use Rattle.fk_model.specs.Outcomes.{Said, Outcome, ◌>>=◌, refuse, when, Caller, path_of, ended}
 use Rattle.fk_model.specs.Outcomes.Outcome.{Refused, Waits, Goes}
 use Rattle.fk_model.specs.Readers.{object_in}
-use Rattle.fk_model.specs.LinkRows.{connecting_to, new_talk, Candidate, slot_in_set, is_open, is_parked, faulting, connecting, resuming, candidate_by, candidate, takes, takes_picked, portset_of, wait, user_at}
+use Rattle.fk_model.specs.LinkRows.{connecting_to, new_talk, Candidate, slot_in_set, is_open, is_parked, faulting, connecting, resuming, candidate_by, candidate, takes, portset_of, wait, user_at}
 use Rattle.fk_model.specs.LinkRows.Candidate.{Faulting, Connecting, Resuming}
 use Rattle.fk_model.specs.Moves.{is_denied, with_pick, closed, call_row}
 use Rattle.fk_model.proofs.CutPlain.{AreQuiet}
-use Rattle.fk_model.proofs.CutInside.{Quiet, quiet-waits, quiet-goes, quiet-done, quiet-then, quiet-call, quiet->>=, quiet-refused}
+use Rattle.fk_model.proofs.CutInside.{Quiet, quiet-waits, quiet-goes, quiet-done, quiet-then, quiet-call, quiet->>=}
 
 -- ---- the row, with a pick
 

@@ -1,22 +1,13 @@
 -- The law of the cut: what a move of the world does to a plain subtree is what the subtree, seen alone, does by the move
 -- as which it is seen.
-use Rattle.std.specs.Prelude.{◌≡◌, ℕ, ◌≤◌, true, false, List, ◌∷◌, ◌++◌, length, Option, Some}
-use Rattle.fk_model.specs.declared.limits.TheConstants.{PAGE_WORDS}
-use Rattle.fk_model.specs.declared.instruction.Act.{Act}
-use Rattle.fk_model.specs.declared.instruction.Act.TheVariants.{Store}
-use Rattle.fk_model.specs.declared.moves.Ask.{Ask}
+use Rattle.std.specs.Prelude.{◌≡◌, ℕ, true, false, List, ◌∷◌, Option, Some}
 use Rattle.fk_model.specs.declared.moves.Ask.TheVariants as asks
 use Rattle.fk_model.specs.declared.stage.Stage.{Stage}
 use Rattle.fk_model.specs.declared.stage.Stage.TheVariants.{Create, Destroy, Rename, Point, GetState, SpaceHold, PageTake, MutexLock, ClientSend, ClientOver, ServerSend, ServerOver, ServerEnd, Disconnect, Wait}
 use Rattle.fk_model.specs.Places.{Path, is_within}
-use Rattle.fk_model.specs.Objects.{Mode, Thread, thread_of, and_then}
+use Rattle.fk_model.specs.Objects.{Thread, thread_of, and_then}
 use Rattle.fk_model.specs.Objects.Mode.{Running, Calling}
 use Rattle.fk_model.specs.World.{World}
-use Rattle.fk_model.specs.Searches.{depth}
-use Rattle.fk_model.specs.Instructions.{act}
-use Rattle.fk_model.specs.Reach.{reach_word}
-use Rattle.fk_model.specs.Reach.Reach.{Home}
-use Rattle.fk_model.specs.UserRows.{word_at}
 use Rattle.fk_model.specs.Moves.{IsReady}
 use Rattle.fk_model.specs.Valid.{is_fit}
 use Rattle.fk_model.specs.Sound.{IsSound}

@@ -10,8 +10,7 @@ use Rattle.fk_model.specs.declared.stage.Stage.TheVariants.{Wait, ServerSend, Se
 use Rattle.fk_model.specs.declared.stage.Stage.TheVariants as stages
 use Rattle.fk_model.specs.Places.{Path, same_path, strip, is_within, parent, Ptr}
 use Rattle.fk_model.specs.Places.Ptr.{At}
-use Rattle.fk_model.specs.Objects.{Peer, Talk, Fault, Thread, thread_of, and_then, holds}
-use Rattle.fk_model.specs.Objects.Peer.{Server}
+use Rattle.fk_model.specs.Objects.{Talk, Fault, Thread, thread_of, and_then, holds}
 use Rattle.fk_model.specs.World.{World, Change}
 use Rattle.fk_model.specs.World.Change.{Alter, PutPage, DropPage}
 use Rattle.fk_model.specs.World.Edit.{End, SetTalk, CountMoved, PassTurn, SetFault}

@@ -7,7 +7,7 @@ use Rattle.fk_model.specs.Places.{Path, Ptr}
 use Rattle.fk_model.specs.Places.Ptr.{Null, At}
 use Rattle.fk_model.specs.Objects.{Peer, Talk, Fault, Body}
 use Rattle.fk_model.specs.Objects.Mode.{Native}
-use Rattle.fk_model.specs.Objects.Peer.{Server, Parked}
+use Rattle.fk_model.specs.Objects.Peer.{Parked}
 use Rattle.fk_model.specs.Objects.Body.{Mapping, Region, Port, Portset, Space, Reference}
 use Rattle.fk_model.specs.World.{World}
 use Rattle.fk_model.specs.Cut.{seen_by, cut}
