@@ -1,5 +1,5 @@
 -- Prepared: what the parts of `play` come to together.
-use Rattle.std.proofs.Common.{◌≡◌, ◌≤◌, ℕ, Bool, true, false, List, Option, Some, None, Result, Ok, Err, IfOk, IfErr, IfSome, length, refl, sym, ap, subst, ◌∙◌, arith, nat_lt, string_bytes}
+use Rattle.std.proofs.Common.{◌≡◌, ◌≤◌, ℕ, Bool, true, false, List, Option, Some, None, Result, Ok, Err, IfOk, IfErr, IfSome, length, refl, subst, arith, nat_lt, string_bytes}
 use Rattle.std.proofs.lemmas.Bool.Decides.{nat_tests}
 use Rattle.std.specs.Bool.{OnFalse}
 use Rattle.fk_causes.specs.Causes.{AppendsPrefix}
@@ -12,7 +12,7 @@ use Rattle.fk_run.specs.declared.status.Status.TheVariants.{BadTrace, NoMemory}
 use Rattle.fk_run.specs.Commands.{Exec, Play, trace_name}
 use Rattle.fk_run.specs.Exec.{exec_status, exec_output}
 use Rattle.fk_run.specs.Parts.{IsRunFail, IsRun, IsPrepared}
-use Rattle.fk_run.specs.Top.{IsPlayed, IsPlay, IsPlayOf, IsCalledFor, IsOutput, refused, was_cut_short}
+use Rattle.fk_run.specs.Top.{IsPlayed, IsPlayOf, IsCalledFor, IsOutput, refused, was_cut_short}
 
 -- one fact of what a result has gives another
 pub on_ok : {A E : Type 0} (P Q : A → Type 0) → ((a : A) → P a → Q a) → (r : Result A E) → IfOk r P → IfOk r Q

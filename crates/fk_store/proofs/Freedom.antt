@@ -1,10 +1,9 @@
 -- Freedom: what a free thread's move comes to, and what isn't frozen for it.
-use Rattle.std.proofs.Common.{◌≡◌, ℕ, Bool, true, false, not, ◌&&◌, ◌==◌, is_some, List, [], ◌∷◌, Option, Some, None, refl, sym, ap, subst, ◌∙◌}
+use Rattle.std.proofs.Common.{◌≡◌, ℕ, Bool, true, false, not, ◌&&◌, ◌==◌, is_some, List, [], ◌∷◌, Option, Some, None, refl, ap, ◌∙◌}
 use Rattle.fk_model.specs.declared.moves.Ask.TheVariants as asks
-use Rattle.fk_model.specs.declared.names.Kind.TheVariants as kinds
 use Rattle.fk_model.specs.declared.stage.Stage.{Stage}
 use Rattle.fk_model.specs.Places.{Path, Ptr}
-use Rattle.fk_model.specs.Objects.{Mode, Thread, Body, kind_of, thread_of, and_then, holds}
+use Rattle.fk_model.specs.Objects.{Mode, Thread, Body, thread_of, and_then, holds}
 use Rattle.fk_model.specs.Objects.Mode.{Running, Calling, Halted, Native}
 use Rattle.fk_model.specs.Objects.Body.{Mutex, Cond, Mapping, Region, Port, Portset, Space, Thread_of, Reference}
 use Rattle.fk_model.specs.World.{World, Edit}

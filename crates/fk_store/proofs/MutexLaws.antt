@@ -1,10 +1,10 @@
 -- Changes of the mutex at a path.
-use Rattle.std.proofs.Common.{◌≡◌, Bool, true, false, cond, Option, Some, None, option_map, refl, ap}
+use Rattle.std.proofs.Common.{◌≡◌, Bool, true, false, cond, Option, Some, None, option_map, refl}
 use Rattle.fk_model.specs.declared.names.Kind.TheVariants as kinds
 use Rattle.fk_model.specs.Places.{Path, same_path}
 use Rattle.fk_model.specs.Objects.{Body, kind_of, mutex_of, thread_of, and_then}
 use Rattle.fk_model.specs.Objects.Body.{Mutex, Cond, Mapping, Region, Port, Portset, Space, Thread_of, Reference}
-use Rattle.fk_model.specs.World.{World, Edit, edited, apply}
+use Rattle.fk_model.specs.World.{World, edited, apply}
 use Rattle.fk_model.specs.World.Edit.{SetLocked}
 use Rattle.fk_model.specs.World.Change.{Alter}
 use Rattle.fk_model.specs.Valid.{kind_there}

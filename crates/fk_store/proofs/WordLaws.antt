@@ -1,5 +1,5 @@
 -- Words: a page that answers is there, and the keeper of a missing one too.
-use Rattle.std.proofs.Common.{◌≡◌, ℕ, zero, suc, ◌/◌, ◌<◌, Bor, Bool, true, false, cond, if◌then◌else◌, List, [], ◌∷◌, Option, Some, None, option_map, is_some, IsSome, refl, sym, ap, subst, ◌∙◌}
+use Rattle.std.proofs.Common.{◌≡◌, ℕ, zero, suc, ◌/◌, ◌<◌, Bor, Bool, true, false, cond, if◌then◌else◌, List, ◌∷◌, Option, Some, None, option_map, is_some, IsSome, refl, sym, ap, subst, ◌∙◌}
 use Rattle.std.proofs.lemmas.Bool.{lt-ltb}
 use Rattle.std.proofs.lemmas.Option.{same_Some}
 use Rattle.std.specs.Option.{option_copied}
@@ -10,9 +10,9 @@ use Rattle.fk_model.specs.declared.names.Ptr.TheVariants as pointers
 use Rattle.fk_model.specs.declared.body.Body as bodies_of
 use Rattle.fk_model.specs.declared.body.Body.TheVariants as bodies
 use Rattle.fk_model.specs.declared.limits.TheConstants.{SLOTS, MAPPINGS, PAGE_WORDS, SPACE_WORDS}
-use Rattle.fk_model.specs.Places.{Path, Ptr}
-use Rattle.fk_model.specs.Places.Ptr.{Null, Dead, At, Out, Outside, Far}
-use Rattle.fk_model.specs.Objects.{Window, Extent, Body, region_of, covers, and_then}
+use Rattle.fk_model.specs.Places.{Path}
+use Rattle.fk_model.specs.Places.Ptr.{At}
+use Rattle.fk_model.specs.Objects.{Window, Extent, region_of, covers, and_then}
 use Rattle.fk_model.specs.World.{World}
 use Rattle.fk_model.specs.Valid.{kind_there}
 use Rattle.fk_model.specs.Reach as definition
@@ -27,11 +27,10 @@ use Rattle.fk_store.specs.Paths.{place, path, space_at}
 use Rattle.fk_store.specs.Bodies.{body_by, pointer_by}
 use Rattle.fk_store.specs.Named.{Each, OnPointer, OnNamed}
 use Rattle.fk_store.specs.Reaches.{reach_by, keeper_by, covering_region}
-use Rattle.fk_store.specs.World.{world, IsLive, IsSpace}
+use Rattle.fk_store.specs.World.{world, IsLive}
 use Rattle.fk_store.specs.Words.{IsReached}
 use Rattle.fk_store.specs.Kept.{is_there, IsKept}
 use Rattle.fk_store.proofs.LookUps.{page-path, there-IsLive, live-IsSpace}
-use Rattle.fk_store.proofs.Walks.{path-space_at}
 
 -- ---- what a walk ends at
 

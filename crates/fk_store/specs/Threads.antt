@@ -1,5 +1,5 @@
 -- Threads: what a call on a thread finds at a path.
-use Rattle.std.specs.Prelude.{ℕ, Bool, List, [], Option, Some, None}
+use Rattle.std.specs.Prelude.{Bool, List, [], Option, Some, None}
 use Rattle.fk_model.specs.declared.stage.Stage.{Stage}
 use Rattle.fk_model.specs.Places.{Path, parent}
 use Rattle.fk_model.specs.Objects.{Mode, Thread, thread_of, and_then, holds}

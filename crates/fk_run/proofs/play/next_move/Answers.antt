@@ -1,4 +1,4 @@
-use Rattle.std.proofs.Common.{◌<◌, rules}
+use Rattle.std.proofs.Common.{◌<◌}
 use Rattle.fk_store.specs.World.{world}
 use Rattle.fk_run.specs.Play.{IsReadyMove}
 use Rattle.fk_run.proofs.Traces.{BeginsWithNone-first}
