@@ -37,11 +37,11 @@ beside k = k ∷ 2 ∷ []
 abbrev pub two_spaces : List (Path × Body)
 two_spaces = (root_port, Port None true) ∷ (subtree, Space 1 None) ∷ (2 ∷ [], Space 2 None) ∷ []
 
--- ---- pointers of /2 lead into /1, where there is a port in slot 4 and a thread in slot 5
+-- ---- pointers of /2 lead into /1, where there is a port in slot 4 and a thread in slot 3
 
 -- the port and the thread
 abbrev pub inner_port : List (Path × Body)
-inner_port = (inner 4, Port None false) ∷ (inner 5, running 0 []) ∷ []
+inner_port = (inner 4, Port None false) ∷ (inner 3, running 0 []) ∷ []
 
 -- a thread of /2 is about to clear a reference there
 abbrev pub clearer : Path
@@ -109,7 +109,8 @@ memory_of region keeper = world_of
 abbrev pub fault_at : Ptr → Fault
 fault_at port = record { page = 3; write = true; port = port; taker = None }
 
--- at which ports its talk and its fault are, and where the references lead; and one of the root. The port in slot 7 of /2 is far
+-- at which ports its talk and its fault are, where the deep reference leads, and where one of the root does. The port in
+-- slot 7 of /2 is far, and the reference in slot 4 leads to it
 unfoldable pub many : Ptr → Ptr → Ptr → Ptr → World
 many talk fault deep from_root = world_of
     ((inner 0, with_talk (talk_out talk Parked 0) (with_fault (fault_at fault) (running 0 []))) ∷ (inner 2, Space 3 None) ∷ (7 ∷ inner 2, Reference deep)

@@ -20,7 +20,7 @@ pub fn a_pointer_from_outside_opens_a_subtree()
     ensures ready { IsReadyTo led_into (goes clearer) }
     ensures closed { IsClosed (run led_into (goes clearer ∷ [])) [] 1 }
     ensures parked { open_place (talked_into Parked) [] 1 ≡ place (4 ∷ 1 ∷ []) 15 }
-    ensures served { open_place (talked_into (Server (At (inner 5)))) [] 1 ≡ place (4 ∷ 1 ∷ []) 15 }
+    ensures served { open_place (talked_into (Server (At (inner 3)))) [] 1 ≡ place (3 ∷ 1 ∷ []) 15 }
 {}
 
 /// A reference may lead inside, to a port in a slot of the nester, or nowhere. What else is in a
@@ -37,8 +37,8 @@ pub fn a_reference_leads_inside_or_to_the_nesters_ports()
     ensures dead { IsClosed (led_from_1_2 Dead) subtree 2 }
 {}
 
-/// After a block of 64 words to a native server of the nester: the talk is at that port's slot, with
-/// somebody outside, and a subtree in its midst is closed. Another slot's port is another. Whether
+/// A thread inside has sent a block of 64 words to a native server of the nester: its talk is at
+/// that port's slot, with somebody outside, and in the midst of it the subtree is closed. Whether
 /// the peer is native, a thread or none yet isn't seen.
 pub fn a_cut_shows_what_leads_out_by_its_slot()
     ensures ready { IsReadyTo (sending_out Service) (goes (inner 0)) }

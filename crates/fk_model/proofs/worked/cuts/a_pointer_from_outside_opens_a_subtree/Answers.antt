@@ -8,7 +8,7 @@ use Rattle.fk_model.proofs.FewSlots.{HasFew, open_among, walk, open-few, world-f
 use Rattle.fk_model.proofs.worked.cuts.a_pointer_from_outside_opens_a_subtree.Goals as goal
 
 abbrev few : List ℕ
-few = 0 ∷ 1 ∷ 2 ∷ 4 ∷ 5 ∷ 9 ∷ []
+few = 0 ∷ 1 ∷ 2 ∷ 3 ∷ 4 ∷ 9 ∷ []
 
 led_into-few : HasFew few led_into
 unfolding led_into
@@ -28,4 +28,4 @@ returns-clause-parked c = open-few few refl _ (talked_into-few Parked) [] 1 _ re
 
 pub returns-clause-served : goal.returns-clause-served
 unfolding cuts open_among walk
-returns-clause-served c = open-few few refl _ (talked_into-few (Server (At (inner 5)))) [] 1 _ refl
+returns-clause-served c = open-few few refl _ (talked_into-few (Server (At (inner 3)))) [] 1 _ refl
