@@ -9,6 +9,7 @@ ghost use Rattle.fk_model.specs.Objects.Body.{Port, Space, Reference};
 ghost use Rattle.fk_model.specs.Runs.{run};
 ghost use Rattle.fk_model.specs.Cut.{cut};
 ghost use Rattle.fk_model.specs.Closed.{open_place, IsClosed};
+ghost use Rattle.fk_model.specs.Seen.{IsStranger};
 ghost use Rattle.fk_model.specs.Worked.{IsReadyTo, goes, running, with_talk, served_by, filled_to, numbers_from};
 ghost use Rattle.fk_model.specs.WorkedCuts.{place, root_port, subtree, inner, beside, clearer, led_into, talked_into, led_from_1_2, talk_out, still_sending, sending_out, held_twice, with_scratch, memory_of, many, all_inside};
 
@@ -117,4 +118,14 @@ pub fn the_first_place_counts()
     ensures last { open_place (many (At root_port) (At root_port) Null Null) [] 1 ≡ place (4 ∷ 1 ∷ []) 0 }
     ensures lower_field { open_place (many (At root_port) (At root_port) Null (At (inner 4))) [] 1 ≡ place (4 ∷ 1 ∷ []) 0 }
     ensures out_shown { (cut (many (At root_port) (At root_port) Null Null) [] 1).body (4 ∷ []) ≡ Some (Reference Far) }
+{}
+
+/// A thread of a space beside a subtree is a stranger to it once no reference of its space leads there.
+/// One with a talk at a port inside isn't, nor is a thread of a space above it or one inside.
+pub fn a_stranger_has_nothing_that_leads_near()
+    ensures pointer { IsStranger led_into [] 1 clearer → ⊥ }
+    ensures stranger { IsStranger (run led_into (goes clearer ∷ [])) [] 1 clearer }
+    ensures talk { IsStranger (talked_into Parked) [] 1 (beside 0) → ⊥ }
+    ensures above { IsStranger (held_twice None None) [] 1 (0 ∷ []) → ⊥ }
+    ensures inside { IsStranger (held_twice None None) [] 1 (inner 3) → ⊥ }
 {}
