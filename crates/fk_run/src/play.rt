@@ -12,7 +12,7 @@ use fk_model::{Ask, List as Items, Move, NoMemory};
 use std::alloc::Global;
 
 /// Why a trace isn't played to its end.
-#[derive(Clone, Copy, Debug, PartialEq, Eq)]
+#[derive(Clone, Copy)]
 pub enum PlayFail {
     /// The line of the move with this index is the first that is bad.
     Trace { index: u64 },

@@ -19,7 +19,7 @@ use std::collections::BTreeMap;
 
 /// A thread as the report has it. Its path goes from its slot outwards: the last slot is one of the
 /// root's.
-#[derive(Debug, Drop)]
+#[derive(Drop)]
 pub struct ThreadState {
     pub path: List<u8>,
     pub mode: Mode,

@@ -17,14 +17,14 @@ use fk_model::{List as Items, Move};
 use std::alloc::Global;
 
 /// The run of a scenario: its moves in their order, and how it ended.
-#[derive(Debug, Drop)]
+#[derive(Drop)]
 pub struct Report {
     pub history: Items<Move>,
     pub end: End,
 }
 
 /// What a call comes to.
-#[derive(Debug, Drop)]
+#[derive(Drop)]
 pub struct Outcome {
     pub status: Status,
     /// The run, where one was made: with the statuses `Ok`, `Budget` and `WriteFault` of `play`.
