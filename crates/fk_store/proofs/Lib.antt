@@ -2,6 +2,7 @@ pub mod WordLaws
 pub mod Freedom
 pub mod MutexLaws
 pub mod ThreadLaws
+pub mod EditLaws
 pub mod TableLaws
 pub mod NameLaws
 pub mod Homes

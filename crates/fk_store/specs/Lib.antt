@@ -11,4 +11,5 @@ pub mod World
 pub mod Named
 pub mod Kept
 pub mod Makes
+pub mod Edits
 pub mod Reaches

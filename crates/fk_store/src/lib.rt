@@ -7,11 +7,17 @@
 #![tactic(auto)]
 
 mod bodies;
+mod edits;
+mod faults;
+mod memory;
 mod mutexes;
 mod pages;
+mod pointers;
+mod ports;
 mod reach;
 mod store;
 mod tables;
+mod talks;
 mod threads;
 
 pub use reach::Reach;

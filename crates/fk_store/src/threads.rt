@@ -1,14 +1,12 @@
-//! What moves do to the thread that makes them.
+//! What moves do to threads.
 ghost use Rattle.std.specs.Prelude.{◌≡◌, ◌≤◌, ℕ, List, [], length, option_map, IfSome};
 ghost use Rattle.std.specs.Option.{option_copied};
 ghost use Rattle.fk_model.specs.Holds as holds;
 ghost use Rattle.fk_model.specs.Objects.Body.{Thread_of};
 ghost use Rattle.fk_model.specs.Places.{Path};
-ghost use Rattle.fk_model.specs.Places.Ptr.{At};
-ghost use Rattle.fk_model.specs.Readers.{fault_on};
 ghost use Rattle.fk_model.specs.World.{apply, edited};
 ghost use Rattle.fk_model.specs.World.Change.{Alter};
-ghost use Rattle.fk_model.specs.World.Edit.{End, Finish, Proceed};
+ghost use Rattle.fk_model.specs.World.Edit.{End, Finish, Proceed, SetStops};
 ghost use Rattle.fk_model.specs.Valid.{kind_there};
 ghost use Rattle.fk_store.specs.Paths.{path, place};
 ghost use Rattle.fk_store.specs.Bodies.{mode_by, thread_by};
@@ -18,7 +16,7 @@ ghost use Rattle.fk_store.specs.World.{world, IsLive};
 
 use crate::store::Store;
 use fk_model::status::OK;
-use fk_model::{Body, Fault, Mode, Thread, Who};
+use fk_model::{Body, Mode, Thread, Who};
 
 impl Store {
     /// The thread in a slot, if one is there.
@@ -102,27 +100,15 @@ impl Store {
         }
     }
 
-    /// A thread has a fault on a page that is missing, which the port's server may take. What is no
-    /// thread stays as it is.
-    #[tactic(auto, using(crate::proofs::ThreadLaws::kind_thread, crate::proofs::ThreadLaws::raise_nobody), unfolding(fk_model::specs::World::edited))]
-    pub fn raise(&mut self, me: Who, page: u8, write: bool, port: Who)
-        requires port { IsLive self.old port }
-        ensures world { world self.new ≡ apply (fault_on (place (path self.old) me) page write (At (place (path self.old) port))) (world self.old) }
+    /// A thread is stopped so many times. What is no thread stays as it is.
+    #[tactic(auto, using(crate::proofs::ThreadLaws::kind_thread, crate::proofs::EditLaws::stops_nobody), unfolding(fk_model::specs::World::edited))]
+    pub fn set_stops(&mut self, who: Who, stops: u16)
+        ensures world { world self.new ≡ apply (Alter (place (path self.old) who) (SetStops stops)) (world self.old) }
         ensures kinds { kind_there (world self.new) ≡ kind_there (world self.old) }
         ensures paths { path self.new ≡ path self.old }
     {
-        if let Some(&thread) = self.thread(me) {
-            let fault = Fault {
-                page,
-                write,
-                port,
-                taker: None,
-            };
-            let faulty = Thread {
-                fault: Some(fault),
-                ..thread
-            };
-            self.set(me, Body::Thread(faulty));
+        if let Some(&thread) = self.thread(who) {
+            self.set(who, Body::Thread(Thread { stops, ..thread }));
         }
     }
 }

@@ -1,12 +1,17 @@
-//! Who decides over what is held.
+//! Who holds a space, and who decides over what is held.
 ghost use Rattle.std.specs.Prelude.{◌≡◌, Some, IfSome, option_map, nat_eq, ◌&&◌};
 ghost use Rattle.fk_model.specs.Places.Ptr.{At};
 ghost use Rattle.fk_model.specs.Holds as holds;
-ghost use Rattle.fk_store.specs.Paths.{path, IsApart};
+ghost use Rattle.fk_model.specs.World.{apply};
+ghost use Rattle.fk_model.specs.World.Change.{Alter};
+ghost use Rattle.fk_model.specs.World.Edit.{SetHolder};
+ghost use Rattle.fk_model.specs.Valid.{kind_there};
+ghost use Rattle.fk_store.specs.Paths.{path, place, IsApart};
 ghost use Rattle.fk_store.specs.Named.{Each};
 ghost use Rattle.fk_store.specs.World.{world, place_of, IsLive};
 
 use crate::Store;
+use crate::edits::with_holder;
 use fk_model::{Body, Who};
 
 impl Store {
@@ -49,6 +54,19 @@ impl Store {
         match self.decider(object) {
             None => false,
             Some(holder) => holder != me,
+        }
+    }
+
+    /// A space is held by a thread, or by nobody. What is no space stays as it is.
+    #[tactic(auto, using(crate::proofs::EditLaws::alter_nothing))]
+    pub fn set_holder(&mut self, space: Who, holder: Option<Who>)
+        requires holder { Each (IsLive self.old) holder }
+        ensures world { world self.new ≡ apply (Alter (place (path self.old) space) (SetHolder (option_map (λ who. At (place (path self.old) who)) holder))) (world self.old) }
+        ensures kinds { kind_there (world self.new) ≡ kind_there (world self.old) }
+        ensures paths { path self.new ≡ path self.old }
+    {
+        if let Some(&body) = self.at(space) {
+            self.set(space, with_holder(body, holder));
         }
     }
 
