@@ -86,3 +86,9 @@ stays c changes = Goes changes (if c.is_porter then Answered OK [] else Nothing)
 abbrev pub telling : Said → Outcome → Outcome
 telling said (Goes changes Nothing) = Goes changes said
 telling said other = other
+
+-- the changes that the row of a move lists
+abbrev pub listed : Outcome → List Change
+listed (Goes changes said) = changes
+listed (Refused status) = []
+listed Waits = []

@@ -15,7 +15,7 @@ use Rattle.fk_model.specs.World.{World, Change}
 use Rattle.fk_model.specs.World.Change.{Alter, PutPage, DropPage}
 use Rattle.fk_model.specs.World.Edit.{End, SetTalk, CountMoved, PassTurn, SetFault}
 use Rattle.fk_model.specs.Searches.{talk_at, fault_at, client_of, faulter_of, client_at, pointers}
-use Rattle.fk_model.specs.Outcomes.{Said, Outcome, Caller, path_of}
+use Rattle.fk_model.specs.Outcomes.{Said, Outcome, Caller, path_of, listed}
 use Rattle.fk_model.specs.Outcomes.Outcome.{Refused, Waits, Goes}
 use Rattle.fk_model.specs.Outcomes.Said.{Nothing as SaidNothing, Taken as SaidTaken}
 use Rattle.fk_model.specs.Readers.{place}
@@ -26,7 +26,6 @@ use Rattle.fk_model.specs.LinkRows.{Candidate, candidate, user_at}
 use Rattle.fk_model.specs.LinkRows.Candidate.{Faulting, Connecting, Resuming}
 use Rattle.fk_model.specs.Moves.{outcome, porter_at}
 use Rattle.fk_model.specs.Runs.{Event, after}
-use Rattle.fk_model.specs.Frame.{listed}
 use Rattle.fk_model.specs.Cut.{cut, is_inner_peer}
 use Rattle.fk_model.specs.Further.{Touch, Onward}
 use Rattle.fk_model.specs.Further.Touch.{Taken, Given, Filled, Handed, Left, FaultTaken, FaultDone, PageGiven, PageTaken}

@@ -6,10 +6,8 @@
 #![tactic(auto)]
 
 mod body;
-pub mod cut_laws;
 mod instruction;
 mod job;
-pub mod laws;
 pub mod limits;
 mod list;
 mod memory;
@@ -17,12 +15,10 @@ mod moves;
 mod name;
 mod names;
 mod number;
-pub mod rebind_laws;
 mod stage;
 mod statuses;
 mod text;
 mod thread;
-pub mod worked;
 
 pub use body::Body;
 pub use instruction::{Act, Instr, operation};

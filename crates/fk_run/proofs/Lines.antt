@@ -5,7 +5,7 @@ use Rattle.std.proofs.lemmas.Option.{same_Some}
 use Rattle.fk_model.specs.declared.names.Who.{Who}
 use Rattle.fk_model.specs.declared.moves.Move.{Move}
 use Rattle.fk_model.specs.Numbers.{plain_number_up_to}
-use Rattle.fk_model.proofs.Decimals.{plain_number_up_to-decimal, plain_number_up_to-only, plain_number_up_to-le, decimal_avoids}
+use Rattle.fk_model.proofs.numbers.Decimals.{plain_number_up_to-decimal, plain_number_up_to-only, plain_number_up_to-le, decimal_avoids}
 use Rattle.fk_run.specs.Trace.{who_text, pick_text, move_text, IsName, IsMove}
 use Rattle.fk_run.specs.TraceReading.{cut_at, named, who_in, who_of, alone, picking, move_in, move_of}
 use Rattle.fk_run.proofs.Cuts.{Avoids, avoids_both, cut_at-at, cut_at-none, cut_at-parts}

@@ -8,7 +8,7 @@ use Rattle.fk_model.specs.Objects.{Body}
 use Rattle.fk_model.specs.Valid.{birth_at}
 use Rattle.fk_model.specs.World.{World, apply, apply_all}
 use Rattle.fk_model.specs.World.Change.{Make, MakeSpace}
-use Rattle.fk_model.proofs.PlaceLaws.{same_path_refl}
+use Rattle.fk_model.proofs.walks.PlaceLaws.{same_path_refl}
 use Rattle.fk_store.specs.Contents.{Contents}
 use Rattle.fk_store.specs.Paths.{path, space_at}
 use Rattle.fk_store.specs.World.{world, IsSpace}

@@ -11,8 +11,8 @@ use Rattle.fk_model.specs.Searches.{depth, objects}
 use Rattle.fk_model.specs.Valid as valid
 use Rattle.fk_model.specs.Valid.{IsRooted, birth_at, kind_there}
 use Rattle.fk_model.specs.Who.{nowhere, is_born, space_born}
-use Rattle.fk_model.proofs.Members.{IsIn, find_some, find_none}
-use Rattle.fk_model.proofs.WalkLaws.{walked}
+use Rattle.fk_model.proofs.walks.Members.{IsIn, find_some, find_none}
+use Rattle.fk_model.proofs.walks.WalkLaws.{walked}
 use Rattle.fk_store.specs.Names.{at}
 use Rattle.fk_store.specs.Contents.{Contents, home, is_live}
 use Rattle.fk_store.specs.Paths.{path, space_at}

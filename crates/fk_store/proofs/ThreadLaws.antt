@@ -17,7 +17,7 @@ use Rattle.fk_model.specs.World.Change.{Alter}
 use Rattle.fk_model.specs.Readers.{fault_on}
 use Rattle.fk_model.specs.declared.statuses.status.TheConstants.{OK}
 use Rattle.fk_model.specs.Valid.{kind_there}
-use Rattle.fk_model.proofs.CallLaws.{todo_writes_back_lem}
+use Rattle.fk_model.proofs.calls.CallLaws.{todo_writes_back_lem}
 use Rattle.fk_store.specs.Bodies.{mode_by, thread_by}
 use Rattle.fk_store.specs.Threads.{thread_at, todo_of_mode, todo_of_thread, todo_at}
 use Rattle.fk_store.proofs.Walks.{same_path_true}

@@ -18,7 +18,7 @@ use Rattle.fk_model.specs.Valid.{kind_there}
 use Rattle.fk_model.specs.Reach as definition
 use Rattle.fk_model.specs.Reach.Reach.{Home, Missing, Bad}
 use Rattle.fk_model.specs.Reach.{at_home, mapped, followed, keeper, led_by, mapping_at, region_at, live_keeper}
-use Rattle.fk_model.proofs.SafeMemory.{lowest-found}
+use Rattle.fk_model.proofs.walks.Lowest.{lowest-found}
 use Rattle.fk_store.specs.declared.reach.Reach as reaches_of
 use Rattle.fk_store.specs.declared.reach.Reach.TheVariants as reaches
 use Rattle.fk_store.specs.Names.{at}

@@ -1,6 +1,6 @@
 use Rattle.std.proofs.Common.{rules, arith, ◌≡◌, ◌==◌, false, length}
 use Rattle.fk_model.specs.Numbers.{number_up_to}
-use Rattle.fk_model.proofs.Digits.{read_after-number_up_to}
+use Rattle.fk_model.proofs.numbers.Digits.{read_after-number_up_to}
 use Rattle.fk_model.proofs.number.number_up_to.Goals as goal
 
 pub returns-then-is_empty-clause-value : goal.returns-then-is_empty-clause-value

@@ -1,6 +1,6 @@
 use Rattle.std.proofs.Common.{◌≡◌, ◌≤◌, drop}
 use Rattle.fk_model.specs.Numbers.{number_up_to}
-use Rattle.fk_model.proofs.Digits.{read_after}
+use Rattle.fk_model.proofs.numbers.Digits.{read_after}
 use Rattle.fk_model.proofs.number.number_up_to.Given as goal
 
 abbrev pub invariant-loop-digit : goal.invariant-loop-digit

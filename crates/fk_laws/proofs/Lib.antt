@@ -1,0 +1,4 @@
+pub mod Frame
+pub mod Records
+pub mod safety
+pub mod validity

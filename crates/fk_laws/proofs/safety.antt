@@ -1,0 +1,10 @@
+pub mod Safe
+pub mod Outcomes
+pub mod Reads
+pub mod Memory
+pub mod Rows
+pub mod Objects
+pub mod State
+pub mod Talks
+pub mod Given
+pub mod Moves

@@ -1,0 +1,10 @@
+pub mod Ties
+pub mod Outlines
+pub mod TieLaws
+pub mod Edits
+pub mod Makes
+pub mod Kills
+pub mod Renames
+pub mod Changes
+pub mod Steps
+pub mod Alone

@@ -1,5 +1,0 @@
-use Rattle.fk_model.proofs.CutTold.{client_over_rebinds}
-use Rattle.fk_model.proofs.rebind_laws.a_turn_of_a_client_rebinds.Goals as goal
-
-pub returns : goal.returns
-returns c = client_over_rebinds

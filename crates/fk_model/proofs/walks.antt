@@ -1,0 +1,4 @@
+pub mod PlaceLaws
+pub mod Members
+pub mod Lowest
+pub mod WalkLaws

@@ -1,0 +1,5 @@
+pub mod likeness
+pub mod cut
+pub mod rebinding
+pub mod talks
+pub mod waits

@@ -1,0 +1,10 @@
+pub mod Holds
+pub mod Plain
+pub mod Inside
+pub mod Outside
+pub mod Rows
+pub mod Instructions
+pub mod Pages
+pub mod Objects
+pub mod Renames
+pub mod Deaths

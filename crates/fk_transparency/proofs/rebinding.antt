@@ -1,0 +1,4 @@
+pub mod Rebound
+pub mod Messages
+pub mod Touches
+pub mod Waits

@@ -1,0 +1,9 @@
+pub mod Accepts
+pub mod Sends
+pub mod Clients
+pub mod Messages
+pub mod Given
+pub mod Natives
+pub mod Ends
+pub mod Left
+pub mod Handed

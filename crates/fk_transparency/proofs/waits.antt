@@ -1,0 +1,6 @@
+pub mod Taken
+pub mod Picks
+pub mod Views
+pub mod Inside
+pub mod Outside
+pub mod Porters

@@ -1,0 +1,138 @@
+//! The law of the cut, each kind of move the contract of a function that does nothing: what a move of the world does to a
+//! subtree is what the subtree, seen alone, does by the move as which it is seen.
+ghost use Rattle.fk_transparency.specs.CutLaws.{AcceptKeepsCut, CallKeepsCut, GiveKeepsCut, InstructionKeepsCut, IsClientOver, IsClientSend, IsCreate, IsDestroy, IsDisconnect, IsGetState, IsHold, IsLock, IsPageTake, IsPoint, IsRename, IsServerEnd, IsServerOver, IsServerSend, IsWait, OverKeepsCut, StageInsideKeepsCut, StageKeepsCut, StageOutsideKeepsCut};
+
+/// A thread that makes an instruction, also one that stores through a mapping: inside, the subtree does so by itself;
+/// outside, it sees nothing of it, or no law speaks of it.
+pub fn an_instruction_keeps_the_cut()
+    ensures { InstructionKeepsCut }
+{}
+
+/// A thread that locks a mutex: inside, the subtree does so by itself; outside, it sees nothing of it, or no law speaks of it.
+pub fn a_lock_keeps_the_cut()
+    ensures { StageKeepsCut IsLock }
+{}
+
+/// A thread that creates an object: inside, the subtree does so by itself; outside, it sees nothing of it, or no law speaks of it.
+pub fn a_new_object_keeps_the_cut()
+    ensures { StageKeepsCut IsCreate }
+{}
+
+/// A thread that points a reference at an object: inside, the subtree does so by itself; outside, it sees nothing of it, or no law speaks of it.
+pub fn a_new_pointer_keeps_the_cut()
+    ensures { StageKeepsCut IsPoint }
+{}
+
+/// A thread that reads the record of an object into its memory: inside, the subtree does so by itself; outside, it sees nothing of it, or no law speaks of it.
+pub fn a_read_record_keeps_the_cut()
+    ensures { StageKeepsCut IsGetState }
+{}
+
+/// A thread that holds a space: inside, the subtree does so by itself; outside, it sees nothing of it, or no law speaks of it.
+pub fn a_hold_keeps_the_cut()
+    ensures { StageKeepsCut IsHold }
+{}
+
+/// A thread that takes a page: inside, the subtree does so by itself; outside, the subtree sees that a page of it is taken, or
+/// sees nothing of it, or no law speaks of it.
+pub fn a_taken_page_keeps_the_cut()
+    ensures { StageKeepsCut IsPageTake }
+{}
+
+/// A thread inside that gives an object another slot does so in the subtree by itself.
+pub fn a_new_name_inside_keeps_the_cut()
+    ensures { StageInsideKeepsCut IsRename }
+{}
+
+/// A thread outside that destroys an object: the subtree sees nothing of it and stays plain, or no law speaks of it.
+pub fn a_death_outside_keeps_the_cut()
+    ensures { StageOutsideKeepsCut IsDestroy }
+{}
+
+/// A thread outside that gives an object another slot: the subtree sees nothing of it and stays plain, or no law speaks of it.
+pub fn a_new_name_outside_keeps_the_cut()
+    ensures { StageOutsideKeepsCut IsRename }
+{}
+
+/// A native server that accepts a thread: the subtree sees that its thread is taken at its Connect, or sees nothing of it, or no
+/// law speaks of it.
+pub fn an_accept_keeps_the_cut()
+    ensures { AcceptKeepsCut }
+{}
+
+/// A client that sends words: inside, to a peer inside or outside, the subtree does so by itself, and how many words a peer
+/// outside takes is seen with the move; outside, it sees nothing of it, or no law speaks of it.
+pub fn words_of_a_client_keep_the_cut()
+    ensures { StageKeepsCut IsClientSend }
+{}
+
+/// A client that hands its peer the turn: inside, the subtree does so by itself; outside, it sees nothing of it, or no law
+/// speaks of it.
+pub fn a_turn_of_a_client_keeps_the_cut()
+    ensures { StageKeepsCut IsClientOver }
+{}
+
+/// A server that sends words to its client: inside, the subtree does so by itself; outside, the subtree sees that words are given
+/// to its thread, or that it has no room for them, or sees nothing of it, or no law speaks of it.
+pub fn words_of_a_server_keep_the_cut()
+    ensures { StageKeepsCut IsServerSend }
+{}
+
+/// A native server that gives words to its client: the subtree sees that they are given to its thread, or that it has no room for
+/// them, or sees nothing of it, or no law speaks of it.
+pub fn words_of_a_native_server_keep_the_cut()
+    ensures { GiveKeepsCut }
+{}
+
+/// A native server that hands its client the turn: the subtree sees that its thread is handed the turn, or sees nothing of it, or
+/// no law speaks of it.
+pub fn a_turn_of_a_native_server_keeps_the_cut()
+    ensures { OverKeepsCut }
+{}
+
+/// A client that ends its talk, with a peer inside or outside: inside, the subtree does so by itself; outside, it sees nothing of
+/// it, or no law speaks of it.
+pub fn an_end_by_a_client_keeps_the_cut()
+    ensures { StageKeepsCut IsDisconnect }
+{}
+
+/// A server inside that ends the talk of its client does so in the subtree by itself.
+pub fn an_end_by_a_server_inside_keeps_the_cut()
+    ensures { StageInsideKeepsCut IsServerEnd }
+{}
+
+/// A server outside that ends the talk of its client: the subtree sees that its thread is left, or sees nothing of it, or no law
+/// speaks of it.
+pub fn an_end_by_a_server_outside_keeps_the_cut()
+    ensures { StageOutsideKeepsCut IsServerEnd }
+{}
+
+/// A server that hands its client the turn: inside, the subtree does so by itself; outside, the subtree sees that its thread is
+/// handed the turn, or sees nothing of it, or no law speaks of it.
+pub fn a_turn_of_a_server_keeps_the_cut()
+    ensures { StageKeepsCut IsServerOver }
+{}
+
+/// A thread inside that destroys an object, itself, a port with clients or a thread with talks among them, does so in the subtree by
+/// itself; the ends of talks outside aren't seen.
+pub fn a_death_inside_keeps_the_cut()
+    ensures { StageInsideKeepsCut IsDestroy }
+{}
+
+/// A thread inside that waits at a port set and picks nobody outside, whatever it comes to: it takes a client at its Connect, a
+/// fault or a parked talk. The subtree does so by itself.
+pub fn a_wait_inside_keeps_the_cut()
+    ensures { StageInsideKeepsCut IsWait }
+{}
+
+/// A thread outside that waits at a port set: the subtree sees that its thread is taken at its Connect, or that a fault of it is
+/// taken, or sees nothing of it, or no law speaks of it.
+pub fn a_wait_outside_keeps_the_cut()
+    ensures { StageOutsideKeepsCut IsWait }
+{}
+
+/// A porter that waits at a port set: the subtree sees that its thread is taken at its Connect, or that a fault of it is taken, or
+/// sees nothing of it, or no law speaks of it.
+pub fn a_wait_of_a_porter_keeps_the_cut()
+    ensures { CallKeepsCut IsWait }
+{}

@@ -1,0 +1,98 @@
+//! The law of rebinding, each kind of move the contract of a function that does nothing: a subtree that is seen alone does,
+//! with other outward ports, what it did, also where two of them get one name.
+ghost use Rattle.fk_transparency.specs.CutLaws.{IsClientOver, IsClientSend, IsCreate, IsDestroy, IsDisconnect, IsGetState, IsHold, IsLock, IsPageTake, IsPoint, IsRename, IsServerEnd, IsServerOver, IsServerSend, IsWait};
+ghost use Rattle.fk_transparency.specs.RebindLaws.{InstructionRebinds, StageRebinds, TouchRebinds};
+
+/// A thread of the subtree that locks a mutex does so with other outward ports, and the outside hears the same at these.
+pub fn a_lock_rebinds()
+    ensures { StageRebinds IsLock }
+{}
+
+/// A thread of the subtree that creates an object does so with other outward ports, and the outside hears the same at these.
+pub fn a_new_object_rebinds()
+    ensures { StageRebinds IsCreate }
+{}
+
+/// A thread of the subtree that points a reference at an object does so with other outward ports, and the outside hears the same at these.
+pub fn a_new_pointer_rebinds()
+    ensures { StageRebinds IsPoint }
+{}
+
+/// A thread of the subtree that reads the record of an object into its memory does so with other outward ports, and the outside hears the same at these.
+pub fn a_read_record_rebinds()
+    ensures { StageRebinds IsGetState }
+{}
+
+/// A thread of the subtree that holds a space does so with other outward ports, and the outside hears the same at these.
+pub fn a_hold_rebinds()
+    ensures { StageRebinds IsHold }
+{}
+
+/// A thread of the subtree that makes an instruction does so with other outward ports, and the outside hears of a fault at these.
+pub fn an_instruction_rebinds()
+    ensures { InstructionRebinds }
+{}
+
+/// A thread of the subtree that takes a page does so with other outward ports, and the outside hears the same at these.
+pub fn a_taken_page_rebinds()
+    ensures { StageRebinds IsPageTake }
+{}
+
+/// A thread of the subtree that gives an object another slot does so with other outward ports, and the outside hears the same
+/// at these.
+pub fn a_new_name_rebinds()
+    ensures { StageRebinds IsRename }
+{}
+
+/// A server of the subtree that sends words to its client does so with other outward ports, and the outside hears the same at
+/// these.
+pub fn words_of_a_server_rebind()
+    ensures { StageRebinds IsServerSend }
+{}
+
+/// A server of the subtree that hands its client the turn does so with other outward ports, and the outside hears the same at
+/// these.
+pub fn a_turn_of_a_server_rebinds()
+    ensures { StageRebinds IsServerOver }
+{}
+
+/// A client of the subtree that sends words, inside or to a peer outside, does so with other outward ports, and the outside hears
+/// the same words at these.
+pub fn words_of_a_client_rebind()
+    ensures { StageRebinds IsClientSend }
+{}
+
+/// A client of the subtree that hands its peer the turn, inside or outside, does so with other outward ports, and the outside
+/// hears of it at these.
+pub fn a_turn_of_a_client_rebinds()
+    ensures { StageRebinds IsClientOver }
+{}
+
+/// A client of the subtree that ends its talk does so with other outward ports, and the outside hears of it at these.
+pub fn an_end_by_a_client_rebinds()
+    ensures { StageRebinds IsDisconnect }
+{}
+
+/// A server of the subtree that ends the talk of its client does so with other outward ports, and the outside hears the same at
+/// these.
+pub fn an_end_by_a_server_rebinds()
+    ensures { StageRebinds IsServerEnd }
+{}
+
+/// Whatever the outside does to a subtree it does with other outward ports, and the subtree goes on as it did: it takes a thread at
+/// its Connect, gives words or finds no room, hands the turn, ends a talk, takes a fault or ends it, gives a page or takes one.
+pub fn what_the_outside_does_rebinds()
+    ensures { TouchRebinds }
+{}
+
+/// A thread of the subtree that destroys an object does so with other outward ports, and the outside hears at these of the talks that
+/// end.
+pub fn a_death_rebinds()
+    ensures { StageRebinds IsDestroy }
+{}
+
+/// A thread of the subtree that waits at a port set, and takes a client, a fault or a parked talk, does so with other outward
+/// ports, and the outside hears the same at these.
+pub fn a_wait_rebinds()
+    ensures { StageRebinds IsWait }
+{}

@@ -1,0 +1,11 @@
+pub mod Worked
+pub mod Locks
+pub mod Talks
+pub mod Servers
+pub mod Memory
+pub mod Objects
+pub mod Holds
+pub mod States
+pub mod Porters
+pub mod Cuts
+pub mod Instructions
