@@ -50,7 +50,7 @@ module _ (m : Contents) (kept : IsKept m) where
   above : (k : ℕ) (s : Path) → IsSome ((world m).body (k ∷ s)) → IsSome ((world m).body s)
   above k s h = let space = space_there k s h in birth_some ((world m).body s) space.0 (birth_at-space_at m s ∙ space.1)
 
-  rooted : IsRooted (world m)
+  pub rooted : IsRooted (world m)
   unfolding world kind_there
   rooted = record { root = refl; slots = λ k s h. let space = space_there k s h in kept.slots (at space.0 k) space.2 }
 

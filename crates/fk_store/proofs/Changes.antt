@@ -1,10 +1,10 @@
 -- Changes of a world, as far as a store makes them.
-use Rattle.std.proofs.Common.{◌≡◌, Bool, true, false, cond, Option, Some, None, option_map, IsSome, refl, sym, subst}
+use Rattle.std.proofs.Common.{◌≡◌, Bool, true, false, cond, Option, Some, None, option_map, IsSome, refl, sym, ap, subst}
 use Rattle.fk_model.specs.Places.{Path, same_path}
 use Rattle.fk_model.specs.Objects.{Body, kind_of}
-use Rattle.fk_model.specs.World.{World, Edit, edited, apply}
+use Rattle.fk_model.specs.World.{World, Edit, Sweep, edited, through, without, apply}
 use Rattle.fk_model.specs.Objects.Body.{Mutex, Cond, Mapping, Region, Port, Portset, Space, Thread_of, Reference}
-use Rattle.fk_model.specs.World.Change.{Make, Alter}
+use Rattle.fk_model.specs.World.Change.{Make, Alter, Kill}
 use Rattle.fk_model.specs.Valid.{kind_there}
 use Rattle.fk_store.specs.Makes.{making}
 use Rattle.fk_store.proofs.Walks.{same_path_true}
@@ -56,3 +56,24 @@ kinds-making w x new none q some = by new
     by (Space birth holder) = made (Some (Space w.next holder))
     by (Thread_of thread) = made (Some (Thread_of thread))
     by (Reference to) = made (Some (Reference to))
+
+-- a sweep leaves each kind
+kind-through : (f : Sweep) (q : Path) (b : Body) → kind_of (through f q b) ≡ kind_of b
+kind-through f q (Mutex locked) = refl
+kind-through f q Cond = refl
+kind-through f q (Mapping window) = refl
+kind-through f q (Region extent) = refl
+kind-through f q (Port set served) = refl
+kind-through f q Portset = refl
+kind-through f q (Space birth holder) = refl
+kind-through f q (Thread_of thread) = refl
+kind-through f q (Reference to) = refl
+
+kinds-through : (f : Sweep) (q : Path) (o : Option Body) → option_map kind_of (option_map (through f q) o) ≡ option_map kind_of o
+kinds-through f q None = refl
+kinds-through f q (Some b) = ap Some (kind-through f q b)
+
+-- what is destroyed is gone, and all else is of its kind
+pub kinds-kill : (w : World) (x q : Path) → (same_path q x ≡ true → kind_there (apply (Kill x) w) q ≡ None) × (same_path q x ≡ false → kind_there (apply (Kill x) w) q ≡ kind_there w q)
+unfolding kind_there apply
+kinds-kill w x q = (λ here. rw here refl, λ apart. rw apart (kinds-through (without x) q (w.body q)))

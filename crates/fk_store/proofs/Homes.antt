@@ -50,11 +50,11 @@ module _ {K X : Type 0} {R : K → K → Ordering} (o : IsTotalOrder R) where
       by true tied false passes ih = cc
       by false tied false passes ih = ih (cc) (cc)
 
-number_is : (n : ℕ) (o : Option ℕ) → is_number n o ≡ true → o ≡ Some n
+pub number_is : (n : ℕ) (o : Option ℕ) → is_number n o ≡ true → o ≡ Some n
 number_is n None h = absurd (cc)
 number_is n (Some b) h = ap Some (eqb-true b n h)
 
-is_the_number : (n : ℕ) (o : Option ℕ) → o ≡ Some n → is_number n o ≡ true
+pub is_the_number : (n : ℕ) (o : Option ℕ) → o ≡ Some n → is_number n o ≡ true
 is_the_number n o h = rw h (eq-eqb n n refl)
 
 chosen_passes : {A : Type 0} (p : A → Bool) (es : List A) (e : A) → find p es ≡ Some e → p e ≡ true

@@ -25,3 +25,7 @@ pub mod Enumerated
 pub mod ReachLaws
 pub mod Scans
 pub mod Born
+pub mod SweepLaws
+pub mod Without
+pub mod Kills
+pub mod Residents

@@ -1,12 +1,13 @@
 -- The orders of names tell all names apart.
-use Rattle.std.proofs.Common.{◌≡◌, ℕ, true, ap}
+use Rattle.std.proofs.Common.{◌≡◌, ℕ, true, ap, ◌∙◌, arith}
+use Rattle.std.proofs.lemmas.Bool.Decides.{nat_tests}
 use Rattle.std.specs.Ordering.{eq_by_cmp, nat_cmp}
 use Rattle.std.specs.Cmp.{IsTotalOrder, Equal-is, nat_cmp_total}
 use Rattle.std.specs.FinMap.{IsAntisymmetric}
 use Rattle.std.proofs.lemmas.Cmp.{on_total, then_total}
 use Rattle.std.proofs.lemmas.Map.Lookups.{exact_pairs, exact_unsigned}
 use Rattle.fk_model.specs.declared.names.Who.{Who}
-use Rattle.fk_store.specs.Names.{at, who_cmp, page_cmp}
+use Rattle.fk_store.specs.Names.{at, same_who, who_cmp, page_cmp}
 
 pub who_total : IsTotalOrder who_cmp
 who_total = then_total (on_total (λ (w : Who). w.space) nat_cmp_total) (on_total (λ (w : Who). w.slot) nat_cmp_total)
@@ -25,3 +26,12 @@ page_exact a b h = exact_pairs nat_cmp nat_cmp exact_unsigned exact_unsigned a b
 
 pub page_tied : (a b : ℕ × ℕ) → eq_by_cmp page_cmp a b ≡ true → a ≡ b
 page_tied a b h = page_exact a b ((Equal-is (page_cmp a b)).0 h)
+
+pub same_tied : (a b : Who) → eq_by_cmp who_cmp a b ≡ same_who a b
+same_tied a b = grind (arith, nat_tests)
+
+pub same_who_refl : (a : Who) → same_who a a ≡ true
+same_who_refl a = grind (arith, nat_tests)
+
+pub same_who_eq : (a b : Who) → same_who a b ≡ true → a ≡ b
+same_who_eq a b h = who_tied a b (same_tied a b ∙ h)

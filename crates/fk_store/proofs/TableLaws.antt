@@ -7,10 +7,10 @@ use Rattle.std.specs.List.Sorted.{IsNonDecreasingBy, IsSearchInRange, IsBinarySe
 use Rattle.std.proofs.lemmas.List.Sorted.{searchable_from_sorted}
 use Rattle.std.specs.Cmp.{IsTotalOrder, alike_right, eq_by_cmp_equiv}
 use Rattle.std.specs.List.{insert, remove}
-use Rattle.std.specs.FinMap.{FinMap, find, put, is_sorted, entries, from_sorted, get, entries-from_sorted, entries_sorted, entries-insert, same_entries_map, get-from_sorted, IsAntisymmetric, get-entries}
+use Rattle.std.specs.FinMap.{find, put, is_sorted, from_sorted, get, entries-from_sorted, entries-insert, same_entries_map, get-from_sorted, IsAntisymmetric}
 use Rattle.std.specs.FinMap as finmap
 use Rattle.std.specs.FinMap.Entries.{where_key, is_sorted-put, is_sorted-where_key, find-where_key, below_all}
-use Rattle.fk_store.specs.Sorted.{IsAt, IsGap, without, map_of, map_values}
+use Rattle.fk_store.specs.Sorted.{IsAt, IsGap, without, map_of}
 
 pub first : (a b : Bool) → T (a && b) → T a
 first true b p = tt
@@ -172,27 +172,40 @@ module _ {K X : Type 0} {R : K → K → Ordering} (o : IsTotalOrder R) (es : Li
   map_remove_none same g = ap (map_of R) (sym (without_gap o es k i g)) ∙ without_view o same es k s
 
 -- a change of the values alone keeps the order of the keys
-below_values : {K X : Type 0} (R : K → K → Ordering) (f : X → X) (x : K) (es : List (K × X)) → below_all R x (map (λ e. (e.0, f e.1)) es) ≡ below_all R x es
-below_values R f x [] = refl
-below_values R f x (e ∷ es) = ap (λ b. is_lt (R x e.0) && b) (below_values R f x es)
+module _ {K X : Type 0} (R : K → K → Ordering) (f : K → X → X) where
+  abbrev revalued : K × X → K × X
+  revalued e = (e.0, f e.0 e.1)
 
-sorted_values : {K X : Type 0} (R : K → K → Ordering) (f : X → X) (es : List (K × X)) → is_sorted R (map (λ e. (e.0, f e.1)) es) ≡ is_sorted R es
-sorted_values R f [] = refl
-sorted_values R f (e ∷ es) = ap (λ b. b && is_sorted R (map (λ e. (e.0, f e.1)) es)) (below_values R f e.0 es) ∙ ap (λ b. below_all R e.0 es && b) (sorted_values R f es)
+  below_values : (x : K) (es : List (K × X)) → below_all R x (map revalued es) ≡ below_all R x es
+  below_values x [] = refl
+  below_values x (e ∷ es) = ap (λ b. is_lt (R x e.0) && b) (below_values x es)
 
-find_values : {K X : Type 0} (R : K → K → Ordering) (f : X → X) (q : K) (es : List (K × X)) → find R q (map (λ e. (e.0, f e.1)) es) ≡ option_map f (find R q es)
-find_values R f q [] = refl
-find_values R f q (e ∷ es) = elim (eq_by_cmp R q e.0) as (λ b. cond b (Some (f e.1)) (find R q (map (λ e. (e.0, f e.1)) es)) ≡ option_map f (cond b (Some e.1) (find R q es))) [ true ↦ refl | false ↦ find_values R f q es ]
+  sorted_values : (es : List (K × X)) → is_sorted R (map revalued es) ≡ is_sorted R es
+  sorted_values [] = refl
+  sorted_values (e ∷ es) = ap (λ b. b && is_sorted R (map revalued es)) (below_values e.0 es) ∙ ap (λ b. below_all R e.0 es && b) (sorted_values es)
 
-module _ {K X : Type 0} (R : K → K → Ordering) (f : X → X) where
-  pub values_sorted : (es : List (K × X)) → T (is_sorted R es) → T (is_sorted R (map (λ e. (e.0, f e.1)) es))
-  values_sorted es s = subst T (sym (sorted_values R f es)) s
+  pub values_sorted : (es : List (K × X)) → T (is_sorted R es) → T (is_sorted R (map revalued es))
+  values_sorted es s = subst T (sym (sorted_values es)) s
 
-  pub values_view : (es : List (K × X)) → T (is_sorted R es) → from_sorted {R = R} (map (λ e. (e.0, f e.1)) es) ≡ map_values f (from_sorted {R = R} es)
-  values_view es s = ap (λ l. from_sorted {R = R} (map (λ e. (e.0, f e.1)) l)) (sym (entries-from_sorted R es s))
+  module _ (tied : (a b : K) → eq_by_cmp R a b ≡ true → a ≡ b) where
+    find_values : (q : K) (es : List (K × X)) → find R q (map revalued es) ≡ option_map (f q) (find R q es)
+    find_values q [] = refl
+    find_values q (e ∷ es) = by (eq_by_cmp R q e.0) refl (find_values q es)
+      where
+        by : (t : Bool) → eq_by_cmp R q e.0 ≡ t → find R q (map revalued es) ≡ option_map (f q) (find R q es) → cond t (Some (f e.0 e.1)) (find R q (map revalued es)) ≡ option_map (f q) (cond t (Some e.1) (find R q es))
+        by true h rest = ap (λ k. Some (f k e.1)) (sym (tied q e.0 h))
+        by false h rest = rest
 
-  pub get-map_values : (m : FinMap R X) (q : K) → get (map_values f m) q ≡ option_map f (get m q)
-  get-map_values m q = get-from_sorted R _ q (values_sorted _ (entries_sorted m)) ∙ find_values R f q (entries m) ∙ ap (option_map f) (sym (get-entries m q))
+    pub get_values : (es : List (K × X)) (q : K) → T (is_sorted R es) → get (map_of R (map revalued es)) q ≡ option_map (f q) (get (map_of R es) q)
+    get_values es q s = get-from_sorted R _ q (values_sorted es s) ∙ find_values q es ∙ ap (option_map (f q)) (sym (get-from_sorted R es q s))
+
+-- the entries whose keys pass a test
+module _ {K X : Type 0} (R : K → K → Ordering) (test : K → Bool) (tied : (a b : K) → eq_by_cmp R a b ≡ true → a ≡ b) where
+  pub kept_sorted : (es : List (K × X)) → T (is_sorted R es) → T (is_sorted R (where_key R test es))
+  kept_sorted es s = is_sorted-where_key R test es s
+
+  pub get_kept : (es : List (K × X)) (q : K) → T (is_sorted R es) → get (map_of R (where_key R test es)) q ≡ cond (test q) (get (map_of R es) q) None
+  get_kept es q s = get-from_sorted R _ q (kept_sorted es s) ∙ find-where_key R test q (λ x t. ap test (sym (tied q x (ap is_eq t)))) es ∙ ap (λ o. cond (test q) o None) (sym (get-from_sorted R es q s))
 
 -- the keys rise, so the comparisons with one key do
 module _ {K X : Type 0} {R : K → K → Ordering} (o : IsTotalOrder R) where

@@ -35,7 +35,7 @@ not_root n h = grind (arith, nat_tests)
 eq_back : (a b : ℕ) → (a == b) ≡ (b == a)
 eq_back a b = grind (arith, nat_tests)
 
-and_back : (a b : Bool) → (a && b) ≡ (b && a)
+pub and_back : (a b : Bool) → (a && b) ≡ (b && a)
 and_back true true = refl
 and_back true false = refl
 and_back false true = refl

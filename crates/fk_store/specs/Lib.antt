@@ -12,4 +12,5 @@ pub mod Named
 pub mod Kept
 pub mod Makes
 pub mod Edits
+pub mod Sweeps
 pub mod Reaches

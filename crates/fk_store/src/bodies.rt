@@ -1,12 +1,16 @@
 //! The bodies of all objects, by their names.
-ghost use Rattle.std.specs.Prelude.{◌≡◌, OnOk, OnErr, IsSome, option_map, find};
+ghost use Rattle.std.specs.Prelude.{◌≡◌, OnOk, OnErr, IsSome, option_map, find, map as each};
 ghost use Rattle.std.specs.Option.{option_copied};
 ghost use Rattle.std.specs.FinMap as map;
+ghost use Rattle.fk_model.specs.declared.names.Who.{Who};
+ghost use Rattle.fk_model.specs.Objects.{and_then};
 ghost use Rattle.fk_store.specs.Names.{who_cmp};
+ghost use Rattle.fk_store.specs.Sweeps.{body_after, swept};
 ghost use Rattle.fk_store.specs.Orders.{IsFirstAfter};
 ghost use Rattle.fk_store.specs.Contents.{birth_of, is_number, home_in};
 
-use crate::tables::{next_key, put_value, set_value, value_of};
+use crate::sweeps::Sweep;
+use crate::tables::{next_key, put_value, set_value, take_away, value_of};
 use fk_model::{Body, NoMemory, Who};
 use std::alloc::Global;
 use std::marker::Model;
@@ -52,6 +56,16 @@ impl Bodies {
         value_of(&self.entries, who)
     }
 
+    /// The birth number of an object, if it is a space.
+    pub fn birth(&self, who: Who) -> Option<u32>
+        ensures { result ≡ and_then birth_of (map.get self.now who) }
+    {
+        match self.at(who)? {
+            Body::Space { birth, .. } => Some(*birth),
+            _ => None,
+        }
+    }
+
     /// Gives a live object another body.
     pub fn set(&mut self, who: Who, body: Body)
         requires { IsSome (map.get self.old who) }
@@ -68,6 +82,20 @@ impl Bodies {
         Ok(put_value(&mut self.entries, who, body)?)
     }
 
+    /// Takes an object away.
+    pub fn remove(&mut self, who: Who)
+        ensures { self.new ≡ map.remove self.old who }
+    {
+        take_away(&mut self.entries, who);
+    }
+
+    /// Sweeps all bodies.
+    pub fn sweep(&mut self, sweep: Sweep)
+        ensures { (q : Who) → map.get self.new q ≡ option_map (body_after sweep q.space) (map.get self.old q) }
+    {
+        sweep_each(&mut self.entries, sweep);
+    }
+
     /// The first object after this one, by space and then by slot; the first of all where there is
     /// none.
     pub fn after(&self, who: Option<Who>) -> Option<Who>
@@ -81,6 +109,14 @@ impl Bodies {
         ensures { result ≡ home_in self.now space }
     {
         home_among(&self.entries, space)
+    }
+}
+
+fn sweep_each(entries: &mut Vec<(Who, Body)>, sweep: Sweep)
+    ensures { entries.new.items ≡ each (swept sweep) entries.old.items }
+{
+    for entry in entries.iter_mut() {
+        entry.1 = sweep.body(entry.0.space, entry.1);
     }
 }
 

@@ -16,6 +16,7 @@ mod pointers;
 mod ports;
 mod reach;
 mod store;
+mod sweeps;
 mod tables;
 mod talks;
 mod threads;

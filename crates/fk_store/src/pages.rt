@@ -1,8 +1,9 @@
 //! The pages of all spaces.
-ghost use Rattle.std.specs.Prelude.{◌≡◌, ◌<◌, [], T, unwrap_or, slice_set, OnOk, OnErr, IsSome, IsOk, IfOk, IfErr};
+ghost use Rattle.std.specs.Prelude.{◌≡◌, ℕ, ◌<◌, ◌==◌, if◌then◌else◌, None, [], T, unwrap_or, slice_set, OnOk, OnErr, IsSome, IsOk, IfOk, IfErr};
 ghost use Rattle.std.specs.Option.{option_copied};
 ghost use Rattle.std.specs.FinMap as map;
 ghost use Rattle.std.specs.FinMap.{is_sorted};
+ghost use Rattle.fk_store.specs.Contents.{is_number};
 ghost use Rattle.fk_store.specs.Names.{page_cmp};
 ghost use Rattle.fk_store.specs.Sorted.{IsAt, IsGap, map_of};
 
@@ -139,6 +140,21 @@ impl Pages {
         ensures { self.new ≡ map.remove self.old (space, page) }
     {
         take_away(&mut self.entries, (space, page));
+    }
+
+    /// Takes all pages of a space away, if there is one.
+    pub fn remove_all(&mut self, space: Option<u32>)
+        ensures { (n g : ℕ) → map.get self.new (n, g) ≡ if is_number n space then None else map.get self.old (n, g) }
+    {
+        if let Some(space) = space {
+            self.remove_each(space);
+        }
+    }
+
+    fn remove_each(&mut self, space: u32)
+        ensures { (n g : ℕ) → map.get self.new (n, g) ≡ if n == space then None else map.get self.old (n, g) }
+    {
+        self.entries.retain(|entry| entry.0.0 != space);
     }
 }
 

@@ -1,14 +1,15 @@
 //! The store of all objects and pages.
-ghost use Rattle.std.specs.Prelude.{◌≡◌, IsTrue, ◌≢◌, ◌↔◌, ℕ, ◌<◌, ◌≤◌, ◌*◌, ◌∷◌, OnOk, OnErr, IsOk, Some, None, IsSome, IfSome, IfOk, option_map};
+ghost use Rattle.std.specs.Prelude.{◌≡◌, IsTrue, false, ◌≢◌, ◌↔◌, ℕ, ◌<◌, ◌≤◌, ◌*◌, ◌∷◌, OnOk, OnErr, IsOk, Some, None, IsSome, IfSome, IfOk, option_map};
 ghost use Rattle.std.specs.Option.{option_copied};
 ghost use Rattle.fk_model.specs.Objects.{kind_of};
 ghost use Rattle.fk_model.specs.World.{Edit, edited, apply};
-ghost use Rattle.fk_model.specs.World.Change.{Alter, Make, PutPage, DropPage};
+ghost use Rattle.fk_model.specs.World.Change.{Alter, Make, Kill, PutPage, DropPage};
 ghost use Rattle.fk_model.specs.Valid.{kind_there};
-ghost use Rattle.fk_model.specs.Places.{Path};
+ghost use Rattle.fk_model.specs.Searches.{has_residents};
+ghost use Rattle.fk_model.specs.Places.{Path, same_path};
 ghost use Rattle.fk_model.specs.Who.{space_born};
 ghost use Rattle.fk_model.specs.declared.names.Who.{Who};
-ghost use Rattle.fk_store.specs.Names.{who_cmp, rank};
+ghost use Rattle.fk_store.specs.Names.{who_cmp, rank, same_who};
 ghost use Rattle.fk_store.specs.Orders.{IsFirstAfter};
 ghost use Rattle.fk_store.specs.Makes.{making, IsNext, next_by};
 ghost use Rattle.fk_store.specs.Paths.{path, IsAtHome, IsApart};
@@ -21,6 +22,7 @@ mod words;
 
 use crate::bodies::Bodies;
 use crate::pages::Pages;
+use crate::sweeps::Sweep;
 use fk_model::{Body, NoMemory, Who};
 use std::alloc::Global;
 use std::marker::Model;
@@ -162,6 +164,31 @@ impl Store {
         self.bodies.put(who, body)?;
         self.next = next_after(self.next, &body);
         Ok(())
+    }
+
+    /// Destroys an object in which nothing stands, with its pages. Pointers to it are dead, what it
+    /// held is free, its talks and its port's faults end, what it had taken is raised again, and no
+    /// port is in it.
+    pub fn kill(&mut self, who: Who)
+        requires there { IsLive self.old who }
+        requires empty { has_residents (world self.old) (place_of self.old who) ≡ false }
+        ensures world { world self.new ≡ apply (Kill (place_of self.old who)) (world self.old) }
+        ensures gone { kind_there (world self.new) (place_of self.old who) ≡ None }
+
+        // All else is there still, of its kind, and each object and each space keeps its path.
+        ensures kinds { (x : Path) → same_path x (place_of self.old who) ≡ false
+            → kind_there (world self.new) x ≡ kind_there (world self.old) x }
+        ensures lives { (other : Who) → IsLive self.old other → same_who other who ≡ false → IsLive self.new other }
+        ensures places { (other : Who) → IsLive self.old other → place_of self.new other ≡ place_of self.old other }
+        ensures paths { (n : ℕ) → path self.old n ≢ place_of self.old who → path self.new n ≡ path self.old n }
+    {
+        let space = self.bodies.birth(who);
+        self.bodies.sweep(Sweep {
+            from: who,
+            to: None,
+        });
+        self.bodies.remove(who);
+        self.pages.remove_all(space);
     }
 
     /// The words of a page of a space.

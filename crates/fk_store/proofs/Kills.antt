@@ -1,0 +1,294 @@
+-- Kills: an object with nothing in it that is taken away and swept from all bodies is the one destroyed at the path.
+use Rattle.std.proofs.Common.{◌≡◌, ◌≢◌, ℕ, zero, suc, ◌≤◌, Bool, true, false, cond, ◌&&◌, ◌==◌, List, [], ◌∷◌, Option, Some, None, option_map, is_some, refl, sym, ap, subst, ◌∙◌, arith}
+use Rattle.std.specs.FinMap.{FinMap, get, remove, get-remove}
+use Rattle.fk_model.specs.declared.names.Who.{Who}
+use Rattle.fk_model.specs.declared.body.Body as bodies_of
+use Rattle.fk_model.specs.Places.{Path, same_path}
+use Rattle.fk_model.specs.Objects.{and_then}
+use Rattle.fk_model.specs.World.{apply, through, without}
+use Rattle.fk_model.specs.World.Change.{Kill}
+use Rattle.fk_model.specs.Valid.{kind_there}
+use Rattle.fk_store.specs.declared.sweeps.Sweep.{Sweep}
+use Rattle.fk_store.specs.Names.{at, same_who, who_cmp, page_cmp}
+use Rattle.fk_store.specs.Contents.{Contents, birth_of, birth_there, is_number, home, is_live}
+use Rattle.fk_store.specs.Paths.{place, from_home, path, space_at, IsApart}
+use Rattle.fk_store.specs.Bodies.{body_by}
+use Rattle.fk_store.specs.Named.{OnNamed}
+use Rattle.fk_store.specs.World.{world, body_at, page_at, IsLive}
+use Rattle.fk_store.specs.Sweeps.{body_after}
+use Rattle.fk_store.specs.Kept.{is_there, IsSized, IsKept}
+use Rattle.fk_store.proofs.NameLaws.{who_total, same_tied, same_who_refl, same_who_eq}
+use Rattle.fk_store.proofs.NamedLaws.{body_by-named}
+use Rattle.fk_store.proofs.Homes.{home-found, home-none, number_is, is_the_number}
+use Rattle.fk_store.proofs.Walks.{same_path_refl, same_path_true, and_back, path-root, path-step, path-home, space_at-path, path-space_at, same_space, place-apart, there-birth}
+use Rattle.fk_store.proofs.LookUps.{body-place, there-IsLive, IsLive-there}
+use Rattle.fk_store.proofs.Changes.{kinds-kill}
+use Rattle.fk_store.proofs.SweepLaws.{birth-after, sized-after, named-after}
+use Rattle.fk_store.proofs.Without.{body-without}
+
+none_either : {A : Type 0} (t : Bool) → cond {A = Option A} t None None ≡ None
+none_either true = refl
+none_either false = refl
+
+-- all bodies are swept, and one is taken away, with the pages of its space
+pub bodies-taken : (old swept new : FinMap who_cmp bodies_of.Body) (who : Who) → ((q : Who) → get swept q ≡ option_map (body_after (record { from = who; to = None }) q.space) (get old q)) → new ≡ remove swept who →
+    (q : Who) → get new q ≡ cond (same_who q who) None (option_map (body_after (record { from = who; to = None }) q.space) (get old q))
+bodies-taken old swept new who sweeps takes q = rw (takes, get-remove who_total swept who q, same_tied q who, sweeps q) refl
+
+pub pages-taken : (old new : FinMap page_cmp (List ℕ)) (space birth : Option ℕ) → space ≡ birth → ((n g : ℕ) → get new (n, g) ≡ cond (is_number n space) None (get old (n, g))) →
+    (n g : ℕ) → get new (n, g) ≡ cond (is_number n birth) None (get old (n, g))
+pages-taken old new space birth is takes n g = takes n g ∙ ap (λ o. cond (is_number n o) None (get old (n, g))) is
+
+module _ (m : Contents) (kept : IsKept m) (who : Who) (there : is_there m who ≡ true) (empty : (k : ℕ) → (world m).body (k ∷ place (path m) who) ≡ None) where
+  -- nothing stands in it
+  none_in : (n : ℕ) → birth_there m who ≡ Some n → (k : ℕ) → get m.bodies (at n k) ≡ None
+  none_in n is k = by (get m.bodies (at n k)) refl
+    where
+      by : (o : Option bodies_of.Body) → get m.bodies (at n k) ≡ o → o ≡ None
+      by None e = refl
+      by (Some b) e =
+          let here : path m n ≡ place (path m) who = path-home m kept n who (kept.alone who n is) in
+          let some : (world m).body (k ∷ path m n) ≡ Some (body_by (path m) b) = body-place m kept (at n k) ∙ ap (option_map (body_by (path m))) e in
+          let none : (world m).body (k ∷ path m n) ≡ None = subst (λ s. (world m).body (k ∷ s) ≡ None) (sym here) (empty k) in
+          absurd (cc)
+
+  -- so its birth number is that of no space in which something stands
+  housed_off : (q : Who) → is_there m q ≡ true → is_number q.space (birth_there m who) ≡ false
+  housed_off q h = by (is_number q.space (birth_there m who)) refl
+    where
+      by : (t : Bool) → is_number q.space (birth_there m who) ≡ t → t ≡ false
+      by false e = refl
+      by true e = let none = ap is_some (none_in q.space (number_is q.space (birth_there m who) e) q.slot) in absurd (cc)
+
+  -- and a path other than its own leads to another space
+  path_off : (s : Path) (n : ℕ) → space_at m s ≡ Some n → same_path s (place (path m) who) ≡ false → is_number n (birth_there m who) ≡ false
+  path_off s n here apart = by (is_number n (birth_there m who)) refl
+    where
+      by : (t : Bool) → is_number n (birth_there m who) ≡ t → t ≡ false
+      by false e = refl
+      by true e =
+          let up : path m n ≡ place (path m) who = path-home m kept n who (kept.alone who n (number_is n (birth_there m who) e)) in
+          let same : s ≡ place (path m) who = sym (path-space_at m kept s n here) ∙ up in
+          let yes = same_path_refl (place (path m) who) in
+          let no : same_path (place (path m) who) (place (path m) who) ≡ false = subst (λ t. same_path t (place (path m) who) ≡ false) same apart in
+          absurd (cc)
+
+  empty_at : (s : Path) (k : ℕ) → same_path s (place (path m) who) ≡ true → body_at m (k ∷ s) ≡ None
+  unfolding world
+  empty_at s k e = subst (λ t. (world m).body (k ∷ t) ≡ None) (sym (same_path_true s (place (path m) who) e)) (empty k)
+
+  abbrev gone : Sweep
+  gone = record { from = who; to = None }
+
+  module _ (bodies2 : FinMap who_cmp bodies_of.Body) (pages2 : FinMap page_cmp (List ℕ))
+      (bodies : (q : Who) → get bodies2 q ≡ cond (same_who q who) None (option_map (body_after gone q.space) (get m.bodies q)))
+      (pages : (n g : ℕ) → get pages2 (n, g) ≡ cond (is_number n (birth_there m who)) None (get m.pages (n, g))) where
+    abbrev pub killed : Contents
+    killed = record { bodies = bodies2; pages = pages2; next = m.next }
+
+    births : (q : Who) → birth_there killed q ≡ cond (same_who q who) None (birth_there m q)
+    births q = rw (bodies q) (by (same_who q who) (get m.bodies q))
+      where
+        by : (t : Bool) (o : Option bodies_of.Body) → and_then birth_of (cond t None (option_map (body_after gone q.space) o)) ≡ cond t None (and_then birth_of o)
+        by true o = refl
+        by false None = refl
+        by false (Some b) = birth-after gone q.space b
+
+    -- each space that is left was there, and is another
+    births_left : (q : Who) (n : ℕ) → birth_there killed q ≡ Some n → (birth_there m q ≡ Some n) × (same_who q who ≡ false)
+    births_left q n h = by (same_who q who) refl (sym (births q) ∙ h)
+      where
+        by : (t : Bool) → same_who q who ≡ t → cond t None (birth_there m q) ≡ Some n → (birth_there m q ≡ Some n) × (t ≡ false)
+        by true e is = absurd (cc)
+        by false e is = (is, refl)
+
+    births_stay : (q : Who) (n : ℕ) → birth_there m q ≡ Some n → same_who q who ≡ false → birth_there killed q ≡ Some n
+    births_stay q n h e = births q ∙ ap (λ t. cond t None (birth_there m q)) e ∙ h
+
+    there_left : (q : Who) → is_there killed q ≡ true → is_there m q ≡ true
+    there_left q h = by (same_who q who) (get m.bodies q) (sym (ap is_some (bodies q)) ∙ h)
+      where
+        by : (t : Bool) (o : Option bodies_of.Body) → is_some (cond t None (option_map (body_after gone q.space) o)) ≡ true → is_some o ≡ true
+        by true o h = absurd (cc)
+        by false None h = h
+        by false (Some b) h = refl
+
+    there_stays : (q : Who) → is_there m q ≡ true → same_who q who ≡ false → is_there killed q ≡ true
+    there_stays q h e = ap is_some (bodies q ∙ ap (λ t. cond t None (option_map (body_after gone q.space) (get m.bodies q))) e) ∙ by (get m.bodies q) h
+      where
+        by : (o : Option bodies_of.Body) → is_some o ≡ true → is_some (option_map (body_after gone q.space) o) ≡ true
+        by None h = h
+        by (Some b) h = refl
+
+    -- a space that is left has another number
+    left_off : (q : Who) (n : ℕ) → birth_there m q ≡ Some n → same_who q who ≡ false → is_number n (birth_there m who) ≡ false
+    left_off q n here apart = by (is_number n (birth_there m who)) refl
+      where
+        by : (t : Bool) → is_number n (birth_there m who) ≡ t → t ≡ false
+        by false e = refl
+        by true e =
+            let a = kept.alone q n here in
+            let b = kept.alone who n (number_is n (birth_there m who) e) in
+            let same : q ≡ who = cc in
+            let yes = same_who_refl who in
+            let no : same_who who who ≡ false = subst (λ w. same_who w who ≡ false) same apart in
+            absurd (cc)
+
+    home_stays : (n : ℕ) → is_number n (birth_there m who) ≡ false → home killed n ≡ home m n
+    home_stays n off = by (home killed n) refl (home m n) refl
+      where
+        other : (q : Who) → birth_there m q ≡ Some n → (t : Bool) → same_who q who ≡ t → t ≡ false
+        other q h false e = refl
+        other q h true e =
+            let same : q ≡ who = same_who_eq q who e in
+            let yes = is_the_number n (birth_there m who) (subst (λ w. birth_there m w ≡ Some n) same h) in
+            absurd (cc)
+
+        by : (o : Option Who) → home killed n ≡ o → (p : Option Who) → home m n ≡ p → o ≡ p
+        by None a None b = refl
+        by None a (Some q) b = let found = home-found m n q b in absurd (home-none killed n q a (births_stay q n found (other q found (same_who q who) refl)))
+        by (Some q) a p b = sym (kept.alone q n (births_left q n (home-found killed n q a)).0) ∙ b
+
+    live_stays : (n : ℕ) → is_number n (birth_there m who) ≡ false → is_live killed n ≡ is_live m n
+    live_stays n off = rw (home_stays n off) refl
+
+    leads_left : (q : Who) (c : bodies_of.Body) → get bodies2 q ≡ Some c → OnNamed (λ other. is_there killed other ≡ true) c
+    leads_left q c h = by (same_who q who) (get m.bodies q) refl (sym (bodies q) ∙ h)
+      where
+        by : (t : Bool) (o : Option bodies_of.Body) → get m.bodies q ≡ o → cond t None (option_map (body_after gone q.space) o) ≡ Some c → OnNamed (λ other. is_there killed other ≡ true) c
+        by true o e is = absurd (cc)
+        by false None e is = absurd (cc)
+        by false (Some b) e is =
+            let same : body_after gone q.space b ≡ c = cc in
+            subst (OnNamed (λ other. is_there killed other ≡ true)) same (named-after gone (λ other. is_there m other ≡ true) (λ other. is_there killed other ≡ true) there_stays tt q.space b (kept.leads q b e))
+
+    sized_left : (q : Who) (c : bodies_of.Body) → get bodies2 q ≡ Some c → IsSized c
+    sized_left q c h = by (same_who q who) (get m.bodies q) refl (sym (bodies q) ∙ h)
+      where
+        by : (t : Bool) (o : Option bodies_of.Body) → get m.bodies q ≡ o → cond t None (option_map (body_after gone q.space) o) ≡ Some c → IsSized c
+        by true o e is = absurd (cc)
+        by false None e is = absurd (cc)
+        by false (Some b) e is = let same : body_after gone q.space b ≡ c = cc in subst IsSized same (sized-after gone q.space b (kept.sized q b e))
+
+    paged_left : (space page : ℕ) → is_some (get pages2 (space, page)) ≡ true → is_live killed space ≡ true
+    paged_left space page h = by (is_number space (birth_there m who)) refl (sym (ap is_some (pages space page)) ∙ h)
+      where
+        by : (t : Bool) → is_number space (birth_there m who) ≡ t → is_some (cond t None (get m.pages (space, page))) ≡ true → is_live killed space ≡ true
+        by true e is = absurd (cc)
+        by false e is = live_stays space e ∙ kept.paged space page is
+
+    pub kept-killed : IsKept killed
+    kept-killed = record {
+      begun = kept.begun;
+      alone = λ q n h. let left = births_left q n h in home_stays n (left_off q n left.0 left.1) ∙ kept.alone q n left.0;
+      younger = λ q n h. kept.younger q n (births_left q n h).0;
+      born = λ q n h. kept.born q n (births_left q n h).0;
+      slots = λ q h. kept.slots q (there_left q h);
+      housed = λ q h. let before = there_left q h in live_stays q.space (housed_off q before) ∙ kept.housed q before;
+      paged = paged_left;
+      leads = leads_left;
+      sized = sized_left;
+    }
+
+    -- all other spaces keep their paths
+    path_stays : (k n : ℕ) → n ≤ k → is_number n (birth_there m who) ≡ false → path killed n ≡ path m n
+    path_stays k zero low off = path-root killed ∙ sym (path-root m)
+    path_stays zero (suc n) low off = absurd (omega arith)
+    path_stays (suc k) (suc n) low off = path-step killed kept-killed (suc n) (omega arith) ∙ ap (from_home (path killed)) (home_stays (suc n) off) ∙ by (home m (suc n)) refl (path_stays k) ∙ sym (path-step m kept (suc n) (omega arith))
+      where
+        by : (o : Option Who) → home m (suc n) ≡ o → ((q : ℕ) → q ≤ k → is_number q (birth_there m who) ≡ false → path killed q ≡ path m q) → from_home (path killed) (home m (suc n)) ≡ from_home (path m) (home m (suc n))
+        by None e ih = rw e refl
+        by (Some q) e ih =
+            let found = home-found m (suc n) q e in
+            let older = kept.younger q (suc n) found in
+            rw e (ap (λ s. q.slot ∷ s) (ih q.space (omega arith) (housed_off q (there-birth m kept q (suc n) found))))
+
+    pub path-killed : (n : ℕ) → path m n ≢ place (path m) who → path killed n ≡ path m n
+    path-killed n other = path_stays n n (omega arith) (by (is_number n (birth_there m who)) refl)
+      where
+        by : (t : Bool) → is_number n (birth_there m who) ≡ t → t ≡ false
+        by false e = refl
+        by true e = absurd (other (path-home m kept n who (kept.alone who n (number_is n (birth_there m who) e))))
+
+    pub place-killed : (q : Who) → is_there m q ≡ true → place (path killed) q ≡ place (path m) q
+    place-killed q h = ap (λ s. q.slot ∷ s) (path_stays q.space q.space (omega arith) (housed_off q h))
+
+    -- what a walk down finds
+    walk : (s : Path) → space_at killed s ≡ cond (same_path s (place (path m) who)) None (space_at m s)
+    unfolding space_at same_path
+    walk [] = refl
+    walk (k ∷ s) = rw (walk s) (by (same_path s (place (path m) who)) refl)
+      where
+        own : space_at m (place (path m) who) ≡ birth_there m who
+        own = ap (and_then (λ n. birth_there m (at n who.slot))) (space_at-path m kept who.space (kept.housed who there))
+
+        inner : (o : Option ℕ) → birth_there m who ≡ o → and_then (λ n. birth_there m (at n k)) o ≡ None
+        inner None e = refl
+        inner (Some n) e = ap (and_then birth_of) (none_in n e k)
+
+        found : (o : Option ℕ) → space_at m s ≡ o → and_then (λ n. birth_there killed (at n k)) o ≡ cond (k == who.slot && same_path s (path m who.space)) None (and_then (λ n. birth_there m (at n k)) o)
+        found None e = sym (none_either (k == who.slot && same_path s (path m who.space)))
+        found (Some n) e = rw (births (at n k), same_space m kept s n who.space e, and_back (k == who.slot) (n == who.space)) refl
+
+        by : (t : Bool) → same_path s (place (path m) who) ≡ t → and_then (λ n. birth_there killed (at n k)) (cond t None (space_at m s)) ≡ cond (k == who.slot && same_path s (path m who.space)) None (and_then (λ n. birth_there m (at n k)) (space_at m s))
+        by true e =
+            let same : s ≡ place (path m) who = same_path_true s (place (path m) who) e in
+            let here : space_at m s ≡ birth_there m who = ap (space_at m) same ∙ own in
+            rw (here, inner (birth_there m who) refl) (sym (none_either (k == who.slot && same_path s (path m who.space))))
+        by false e = found (space_at m s) refl
+
+    apart : IsApart (path m) who
+    apart = place-apart m kept who (kept.housed who there)
+
+    -- a body that is left, by paths
+    body_left : (n k : ℕ) (b : bodies_of.Body) → get m.bodies (at n k) ≡ Some b → body_by (path killed) (body_after gone n b) ≡ through (without (place (path m) who)) (k ∷ path m n) (body_by (path m) b)
+    body_left n k b e =
+        body_by-named (path killed) (path m) (body_after gone n b)
+        (named-after gone (λ q. is_there m q ≡ true) (λ q. place (path killed) q ≡ place (path m) q) (λ q h other. place-killed q h) tt n b (kept.leads (at n k) b e))
+        ∙ body-without (path m) who apart (at n k) b
+
+    bodies_at : (q : Path) → body_at killed q ≡ cond (same_path q (place (path m) who)) None (option_map (through (without (place (path m) who)) q) (body_at m q))
+    unfolding same_path
+    bodies_at [] = refl
+    bodies_at (k ∷ s) = rw (walk s) (by (same_path s (place (path m) who)) refl)
+      where
+        left : (n : ℕ) → space_at m s ≡ Some n → (t : Bool) (o : Option bodies_of.Body) → get m.bodies (at n k) ≡ o →
+            option_map (body_by (path killed)) (cond t None (option_map (body_after gone n) o)) ≡ cond t None (option_map (through (without (place (path m) who)) (k ∷ s)) (option_map (body_by (path m)) o))
+        left n is true o e = refl
+        left n is false None e = refl
+        left n is false (Some b) e = ap Some (body_left n k b e ∙ ap (λ t. through (without (place (path m) who)) (k ∷ t) (body_by (path m) b)) (path-space_at m kept s n is))
+
+        found : (o : Option ℕ) → space_at m s ≡ o → and_then (λ n. option_map (body_by (path killed)) (get bodies2 (at n k))) o ≡ cond (k == who.slot && same_path s (path m who.space)) None (option_map (through (without (place (path m) who)) (k ∷ s)) (and_then (λ n. option_map (body_by (path m)) (get m.bodies (at n k))) o))
+        found None e = sym (none_either (k == who.slot && same_path s (path m who.space)))
+        found (Some n) e = rw (bodies (at n k), same_space m kept s n who.space e, and_back (k == who.slot) (n == who.space)) (left n e (n == who.space && k == who.slot) (get m.bodies (at n k)) refl)
+
+        by : (t : Bool) → same_path s (place (path m) who) ≡ t → and_then (λ n. option_map (body_by (path killed)) (get bodies2 (at n k))) (cond t None (space_at m s)) ≡ cond (k == who.slot && same_path s (path m who.space)) None (option_map (through (without (place (path m) who)) (k ∷ s)) (body_at m (k ∷ s)))
+        by true e = rw (empty_at s k e) (sym (none_either (k == who.slot && same_path s (path m who.space))))
+        by false e = found (space_at m s) refl
+
+    pages_at : (s : Path) (g : ℕ) → page_at killed s g ≡ cond (same_path s (place (path m) who)) None (page_at m s g)
+    pages_at s g = rw (walk s) (by (same_path s (place (path m) who)) refl)
+      where
+        found : (o : Option ℕ) → space_at m s ≡ o → same_path s (place (path m) who) ≡ false → and_then (λ n. get pages2 (n, g)) o ≡ and_then (λ n. get m.pages (n, g)) o
+        found None e off = refl
+        found (Some n) e off = pages n g ∙ ap (λ t. cond t None (get m.pages (n, g))) (path_off s n e off)
+
+        by : (t : Bool) → same_path s (place (path m) who) ≡ t → and_then (λ n. get pages2 (n, g)) (cond t None (space_at m s)) ≡ cond t None (page_at m s g)
+        by true e = refl
+        by false e = found (space_at m s) refl e
+
+    pub world-killed : world killed ≡ apply (Kill (place (path m) who)) (world m)
+    unfolding world apply
+    world-killed = λ i. record { body = λ q. bodies_at q i; page = λ s g. pages_at s g i; next = m.next }
+
+    pub kinds-killed : (x : Path) → same_path x (place (path m) who) ≡ false → kind_there (world killed) x ≡ kind_there (world m) x
+    kinds-killed x other = ap (λ w. kind_there w x) world-killed ∙ (kinds-kill (world m) (place (path m) who) x).1 other
+
+    pub none-killed : kind_there (world killed) (place (path m) who) ≡ None
+    none-killed = ap (λ w. kind_there w (place (path m) who)) world-killed ∙ (kinds-kill (world m) (place (path m) who) (place (path m) who)).0 (same_path_refl (place (path m) who))
+
+    pub places-killed : (q : Who) → IsLive m q → place (path killed) q ≡ place (path m) q
+    places-killed q h = place-killed q (IsLive-there m kept q h)
+
+    pub lives-killed : (q : Who) → IsLive m q → same_who q who ≡ false → IsLive killed q
+    lives-killed q h other = there-IsLive killed kept-killed q (there_stays q (IsLive-there m kept q h) other)
