@@ -10,58 +10,62 @@ use Rattle.fk_model.specs.declared.stage.Todo.{Todo}
 use Rattle.fk_model.specs.declared.stage.Todo.TheVariants.{One, Two, Three, Four}
 use Rattle.fk_model.specs.declared.stage.Stage.TheVariants.{Create, Destroy, Rename, Search, Point, Clear, Locate, CountIn, GetState, SetState, GetPtr, SetPtr, SpaceHold, SpaceRelease, ThreadStop, ThreadGo, PageGive, PageTake, PageRead, PageNext, MutexLock, MutexTrylock, MutexUnlock, CondWait, CondAsleep, CondSignal, CondBroadcast, Connect, ClientReceive, ClientSend, ClientOver, Disconnect, Wait, ServerReceive, ServerSend, ServerOver, ServerEnd, FaultDone, LinkSet, LinkPark, FaultSet, FaultPark, HoldSet, SpaceMakeHeld}
 
+-- the code of the call that has this stage alone
+abbrev pub code_of_stage : Stage → ℕ
+code_of_stage (Create s x kind) = 1
+code_of_stage (Destroy s x) = 2
+code_of_stage (Rename s x y) = 3
+code_of_stage (Search s from) = 4
+code_of_stage (Point s x s2 x2) = 5
+code_of_stage (Clear s x) = 6
+code_of_stage (Locate reference s) = 7
+code_of_stage (CountIn base s x) = 8
+code_of_stage (GetState s x address) = 9
+code_of_stage (SetState s x address) = 10
+code_of_stage (GetPtr s x field reference) = 11
+code_of_stage (SetPtr s x field reference) = 12
+code_of_stage (SpaceHold s x) = 13
+code_of_stage (SpaceRelease s x) = 14
+code_of_stage (ThreadStop h) = 15
+code_of_stage (ThreadGo h) = 16
+code_of_stage (PageGive s page address) = 17
+code_of_stage (PageTake s page address) = 18
+code_of_stage (PageRead s page address) = 19
+code_of_stage (PageNext s from) = 20
+code_of_stage (MutexLock m) = 21
+code_of_stage (MutexTrylock m) = 22
+code_of_stage (MutexUnlock m) = 23
+code_of_stage (CondWait c m) = 24
+code_of_stage (CondAsleep c m) = 25
+code_of_stage (CondSignal c) = 26
+code_of_stage (CondBroadcast c) = 27
+code_of_stage (Connect h) = 32
+code_of_stage (ClientReceive into room) = 36
+code_of_stage (ClientSend address count) = 37
+code_of_stage ClientOver = 38
+code_of_stage Disconnect = 39
+code_of_stage (Wait set) = 48
+code_of_stage (ServerReceive into room) = 50
+code_of_stage (ServerSend address count) = 51
+code_of_stage ServerOver = 52
+code_of_stage ServerEnd = 55
+code_of_stage FaultDone = 56
+code_of_stage (LinkSet s x port server) = 60
+code_of_stage (LinkPark s x port) = 61
+code_of_stage (FaultSet s x port taker) = 62
+code_of_stage (FaultPark s x port taken) = 63
+code_of_stage (HoldSet s x thread) = 64
+code_of_stage (SpaceMakeHeld x) = 65
+
 -- the code of a list of stages; 0 where no call has these stages
 unfoldable pub code_of : List Stage → ℕ
-code_of (Create s x kind ∷ []) = 1
-code_of (Destroy s x ∷ []) = 2
-code_of (Rename s x y ∷ []) = 3
-code_of (Search s from ∷ []) = 4
-code_of (Point s x s2 x2 ∷ []) = 5
-code_of (Clear s x ∷ []) = 6
-code_of (Locate reference s ∷ []) = 7
-code_of (CountIn base s x ∷ []) = 8
-code_of (GetState s x address ∷ []) = 9
-code_of (SetState s x address ∷ []) = 10
-code_of (GetPtr s x field reference ∷ []) = 11
-code_of (SetPtr s x field reference ∷ []) = 12
-code_of (SpaceHold s x ∷ []) = 13
-code_of (SpaceRelease s x ∷ []) = 14
-code_of (ThreadStop h ∷ []) = 15
-code_of (ThreadGo h ∷ []) = 16
-code_of (PageGive s page address ∷ []) = 17
-code_of (PageTake s page address ∷ []) = 18
-code_of (PageRead s page address ∷ []) = 19
-code_of (PageNext s from ∷ []) = 20
-code_of (MutexLock m ∷ []) = 21
-code_of (MutexTrylock m ∷ []) = 22
-code_of (MutexUnlock m ∷ []) = 23
-code_of (CondWait c m ∷ []) = 24
-code_of (CondAsleep c m ∷ []) = 25
-code_of (CondSignal c ∷ []) = 26
-code_of (CondBroadcast c ∷ []) = 27
-code_of (Connect h ∷ []) = 32
+code_of (stage ∷ []) = code_of_stage stage
 code_of (Connect h ∷ ClientSend address count ∷ ClientOver ∷ ClientReceive into room ∷ []) = 33
 code_of (ClientSend address count ∷ ClientOver ∷ ClientReceive into room ∷ []) = 34
 code_of (ClientOver ∷ ClientReceive into room ∷ []) = 35
-code_of (ClientReceive into room ∷ []) = 36
-code_of (ClientSend address count ∷ []) = 37
-code_of (ClientOver ∷ []) = 38
-code_of (Disconnect ∷ []) = 39
-code_of (Wait set ∷ []) = 48
 code_of (Wait set ∷ ServerReceive into room ∷ []) = 49
-code_of (ServerReceive into room ∷ []) = 50
-code_of (ServerSend address count ∷ []) = 51
-code_of (ServerOver ∷ []) = 52
 code_of (ServerSend address count ∷ ServerOver ∷ ServerReceive into room ∷ []) = 53
 code_of (ServerOver ∷ ServerReceive into room ∷ []) = 54
-code_of (ServerEnd ∷ []) = 55
-code_of (FaultDone ∷ []) = 56
-code_of (LinkSet s x port server ∷ []) = 60
-code_of (LinkPark s x port ∷ []) = 61
-code_of (FaultSet s x port taker ∷ []) = 62
-code_of (FaultPark s x port taken ∷ []) = 63
-code_of (HoldSet s x thread ∷ []) = 64
-code_of (SpaceMakeHeld x ∷ []) = 65
 code_of other = 0
 
 -- the list is that of a call

@@ -3,7 +3,7 @@
 -- Movers, picks, threads and spaces are named by their paths in the subtree. A peer outside is taken to be free, and to
 -- stand at the Receive that a Send or an Over needs; how many words it takes is said with the move. Of what the outside
 -- does, only the inside half is made.
-use Rattle.std.specs.Prelude.{◌≡◌, ℕ, ◌%◌, min, Bool, true, false, ◌&&◌, ◌==◌, nat_le, nat_lt, is_none, is_some, List, [], ◌∷◌, ◌++◌, length, Option, Some, None, if◌then◌else◌}
+use Rattle.std.specs.Prelude.{◌≡◌, ℕ, ◌%◌, min, Bool, true, false, ◌&&◌, ◌||◌, ◌==◌, nat_le, nat_lt, is_none, is_some, List, [], ◌∷◌, ◌++◌, length, Option, Some, None, if◌then◌else◌}
 use Rattle.std.specs.List.{flat_map}
 use Rattle.fk_model.specs.declared.limits.TheConstants.{PAGE_WORDS, MOST_WORDS}
 use Rattle.fk_model.specs.declared.statuses.status.TheConstants.{FULL, ENDED}
@@ -102,6 +102,15 @@ abbrev pub own_row : World → Path → Option Path → ℕ → Option Thread �
 own_row w x pick taken None = Waits
 own_row w x pick taken (Some t) = own_move w x pick taken t
 
+-- words go to a port outside
+abbrev pub goes_out : Outcome → Bool
+goes_out (Goes changes (Words port words)) = is_out port
+goes_out other = false
+
+-- how many words a peer outside takes stands with a move that moves it some; with every other move stands 0
+abbrev pub counted : ℕ → Outcome → Outcome
+counted taken o = when (taken == 0 || goes_out o) o
+
 -- ---- the inside half of what others do
 
 abbrev pub on_found : {A : Type 0} → (A → Outcome) → Option A → Outcome
@@ -163,7 +172,7 @@ touch_row w (PageTaken s page) = when (is_some (w.page s page)) (Goes (DropPage 
 -- ---- runs
 
 unfoldable pub onward_row : World → Onward → Outcome
-onward_row w (Own x pick taken) = own_row w x pick taken (thread_in w x)
+onward_row w (Own x pick taken) = counted taken (own_row w x pick taken (thread_in w x))
 onward_row w (ByOthers touch) = touch_row w touch
 
 -- what the freezing rule asks: of a thread of the subtree as ever. What others do is barred where its row says so alone

@@ -10,7 +10,7 @@ use Rattle.fk_model.specs.Objects.Peer.{Service}
 use Rattle.fk_model.specs.World.{World}
 use Rattle.fk_model.specs.World.Change.{Alter, PutPage}
 use Rattle.fk_model.specs.World.Edit.{Shift, Finish, End, SetTalk, CountMoved, PassTurn, SetPeer}
-use Rattle.fk_model.specs.Searches.{client_at}
+use Rattle.fk_model.specs.Searches.{talk_at, client_at}
 use Rattle.fk_model.specs.Reach.{words_at}
 use Rattle.fk_model.specs.Holds.{is_free, is_unheld}
 use Rattle.fk_model.specs.Outcomes.{Outcome, when}
@@ -86,9 +86,13 @@ gives_to w port words x receive =
     if receive.1 == 0 then Goes (Alter x (End FULL []) ∷ []) (Full (At port))
     else their_page w (parent x) receive.0 (gives_words w port x words receive.0 receive.1)
 
--- with nothing to give it is done at once
+-- the port's client has handed its server the turn
+abbrev pub has_turn : World → Path → Bool
+has_turn w port = holds (λ x. holds (λ (talk : Talk). same_side talk.turn turns.Server) (talk_at w x)) (client_at w port)
+
+-- with nothing to give it is done at once, whatever the client does
 unfoldable pub give_row : World → Path → List ℕ → Outcome
-give_row w port [] = when (is_serving_port w port) (Goes [] (Given (At port) 0))
+give_row w port [] = when (is_serving_port w port && has_turn w port) (Goes [] (Given (At port) 0))
 give_row w port (word ∷ words) = with_client w port (gives_to w port (word ∷ words))
 
 -- ---- over: the client's Receive is done, and the client has the turn

@@ -9,7 +9,7 @@ use Rattle.fk_model.specs.declared.stage.Stage.{Stage}
 use Rattle.fk_model.specs.declared.stage.Stage.TheVariants.{Wait, ServerSend, ServerOver, ServerEnd, PageGive, PageTake, ClientSend}
 use Rattle.fk_model.specs.declared.stage.Stage.TheVariants as stages
 use Rattle.fk_model.specs.Places.{Path, same_path, strip, is_within, parent, Ptr}
-use Rattle.fk_model.specs.Places.Ptr.{At}
+use Rattle.fk_model.specs.Places.Ptr.{Null, Dead, At, Out, Outside, Far}
 use Rattle.fk_model.specs.Objects.{Talk, Fault, Thread, thread_of, and_then, holds}
 use Rattle.fk_model.specs.World.{World, Change}
 use Rattle.fk_model.specs.World.Change.{Alter, PutPage, DropPage}
@@ -96,7 +96,11 @@ is_send other = false
 
 abbrev pub leads_out : Path → Ptr → Bool
 leads_out root (At x) = not (is_within root x)
-leads_out root other = true
+leads_out root Null = false
+leads_out root Dead = false
+leads_out root (Out slot) = true
+leads_out root Outside = true
+leads_out root Far = true
 
 -- it sends to a peer outside
 abbrev pub sends_out : World → Path → Path → Bool

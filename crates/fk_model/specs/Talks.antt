@@ -4,7 +4,7 @@
 -- it is of.
 use Rattle.std.specs.Prelude.{ℕ, Bool, true, false, List, [], ◌∷◌, Option, Some, None, if◌then◌else◌}
 use Rattle.fk_model.specs.declared.stage.Stage.{Stage}
-use Rattle.fk_model.specs.declared.stage.Stage.TheVariants.{ClientReceive, ClientSend, ClientOver, ServerReceive, ServerSend, ServerOver}
+use Rattle.fk_model.specs.declared.stage.Stage.TheVariants.{Create, Destroy, Rename, Search, Point, Clear, Locate, CountIn, GetState, SetState, GetPtr, SetPtr, SpaceHold, SpaceRelease, ThreadStop, ThreadGo, PageGive, PageTake, PageRead, PageNext, MutexLock, MutexTrylock, MutexUnlock, CondWait, CondAsleep, CondSignal, CondBroadcast, Connect, ClientReceive, ClientSend, ClientOver, Disconnect, Wait, ServerReceive, ServerSend, ServerOver, ServerEnd, FaultDone, LinkSet, LinkPark, FaultSet, FaultPark, HoldSet, SpaceMakeHeld}
 use Rattle.fk_model.specs.declared.thread.Turn.{Turn}
 use Rattle.fk_model.specs.declared.thread.Turn.TheVariants as turns
 use Rattle.fk_model.specs.Places.{Path, parent, Ptr}
@@ -54,15 +54,55 @@ receive_on turns.Client (ClientReceive into room) = Some (into, room)
 receive_on turns.Server (ServerReceive into room) = Some (into, room)
 receive_on side other = None
 
--- a Send, an Over or a Receive on this side
+-- the side of a talk on which a stage sends, hands over or receives, if it does
+abbrev pub side_of : Stage → Option Turn
+side_of (Create s x kind) = None
+side_of (Destroy s x) = None
+side_of (Rename s x y) = None
+side_of (Search s from) = None
+side_of (Point s x s2 x2) = None
+side_of (Clear s x) = None
+side_of (Locate reference s) = None
+side_of (CountIn base s x) = None
+side_of (GetState s x address) = None
+side_of (SetState s x address) = None
+side_of (GetPtr s x field reference) = None
+side_of (SetPtr s x field reference) = None
+side_of (SpaceHold s x) = None
+side_of (SpaceRelease s x) = None
+side_of (ThreadStop h) = None
+side_of (ThreadGo h) = None
+side_of (PageGive s page address) = None
+side_of (PageTake s page address) = None
+side_of (PageRead s page address) = None
+side_of (PageNext s from) = None
+side_of (MutexLock m) = None
+side_of (MutexTrylock m) = None
+side_of (MutexUnlock m) = None
+side_of (CondWait c m) = None
+side_of (CondAsleep c m) = None
+side_of (CondSignal c) = None
+side_of (CondBroadcast c) = None
+side_of (Connect h) = None
+side_of (ClientReceive into room) = Some turns.Client
+side_of (ClientSend address count) = Some turns.Client
+side_of ClientOver = Some turns.Client
+side_of Disconnect = None
+side_of (Wait set) = None
+side_of (ServerReceive into room) = Some turns.Server
+side_of (ServerSend address count) = Some turns.Server
+side_of ServerOver = Some turns.Server
+side_of ServerEnd = None
+side_of FaultDone = None
+side_of (LinkSet s x port server) = None
+side_of (LinkPark s x port) = None
+side_of (FaultSet s x port taker) = None
+side_of (FaultPark s x port taken) = None
+side_of (HoldSet s x thread) = None
+side_of (SpaceMakeHeld x) = None
+
 abbrev pub talks_on : Turn → Stage → Bool
-talks_on turns.Client (ClientSend address count) = true
-talks_on turns.Client ClientOver = true
-talks_on turns.Client (ClientReceive into room) = true
-talks_on turns.Server (ServerSend address count) = true
-talks_on turns.Server ServerOver = true
-talks_on turns.Server (ServerReceive into room) = true
-talks_on side other = false
+talks_on side stage = holds (same_side side) (side_of stage)
 
 abbrev pub receiving : Turn → Mode → Option (ℕ × ℕ)
 receiving side mode = and_then (receive_on side) (first_stage mode)

@@ -135,9 +135,18 @@ pub record IsRooted (w : World) : Type 0 where
   pub root : kind_there w [] ≡ Some kinds.Space
   pub slots : (k : ℕ) (x : Path) → IsSome (w.body (k ∷ x)) → k < SLOTS
 
+-- a page lies in a space that is there, and its number is below 256
+pub record HasPlace (w : World) (s : Path) (page : ℕ) : Type 0 where
+  pub space : kind_there w s ≡ Some kinds.Space
+  pub number : page < PAGES
+
+abbrev pub IsPaged : World → Type 0
+IsPaged w = (s : Path) (page : ℕ) → IsSome (w.page s page) → HasPlace w s page
+
 pub record IsValid (w : World) : Type 0 where
   pub consistent : IsConsistent w
   pub rooted : IsRooted w
+  pub paged : IsPaged w
 
 -- ---- fit asks: a porter gives words in range, and names a server in its port's space that serves nobody
 

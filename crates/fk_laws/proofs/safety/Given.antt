@@ -203,17 +203,17 @@ with_client-safe w port go going = elim (cases_Bool (is_serving_port w port)) [
   ])
 ]
 
-gives_to-safe : (w : World) (port : Path) (words : List ℕ) (x : Path) (space : ℕ × ℕ) → SafeOutcome w (gives_to w port words x space)
-gives_to-safe w port words x space = by (space.1 == 0)
+gives_to-safe : (w : World) → Facts w → (port : Path) (words : List ℕ) (x : Path) (space : ℕ × ℕ) → SafeOutcome w (gives_to w port words x space)
+gives_to-safe w facts port words x space = by (space.1 == 0)
   where
     by : (t : Bool) → SafeOutcome w (if t then Goes (Alter x (End FULL []) ∷ []) (Full (At port)) else their_page w (parent x) space.0 (gives_words w port x words space.0 space.1))
     by true = goes (tt, tt)
-    by false = their_page-safe w (parent x) space.0 (gives_words w port x words space.0 space.1) (λ s page. goes (tt, (tt, (tt, tt))))
+    by false = their_page-safe w facts (parent x) space.0 (gives_words w port x words space.0 space.1) (λ s page home. goes (home, (tt, (tt, tt))))
 
-pub give_row-safe : (w : World) (port : Path) (words : List ℕ) → SafeOutcome w (give_row w port words)
+pub give_row-safe : (w : World) → Facts w → (port : Path) (words : List ℕ) → SafeOutcome w (give_row w port words)
 unfolding give_row
-give_row-safe w port [] = search (safe-when, goes)
-give_row-safe w port (word ∷ words) = with_client-safe w port (gives_to w port (word ∷ words)) (gives_to-safe w port (word ∷ words))
+give_row-safe w facts port [] = search (safe-when, goes)
+give_row-safe w facts port (word ∷ words) = with_client-safe w port (gives_to w port (word ∷ words)) (gives_to-safe w facts port (word ∷ words))
 
 pub over_row-safe : (w : World) (port : Path) → SafeOutcome w (over_row w port)
 unfolding over_row

@@ -13,10 +13,11 @@ use Rattle.fk_model.specs.Reach.Reach.{Home, Missing, Bad}
 use Rattle.fk_model.specs.Outcomes.{Outcome, Caller}
 use Rattle.fk_model.specs.Readers.{missed, accessed, own_page_at, own_page, their_page_at, their_page}
 use Rattle.fk_model.specs.Records.{is_extent}
-use Rattle.fk_model.specs.Valid.{IsConsistent, kind_there, leads_there, may_lead, all_in, is_good}
+use Rattle.fk_model.specs.Valid.{IsConsistent, kind_there, leads_there, may_lead, all_in, is_good, HasPlace, IsPaged}
 use Rattle.fk_laws.proofs.safety.Safe.{IfAny}
 use Rattle.fk_laws.proofs.safety.Outcomes.{SafeOutcome, refused, waits, goes}
 use Rattle.fk_model.proofs.walks.Lowest.{lowest-found}
+use Rattle.fk_laws.proofs.safety.Reads.{Facts}
 
 -- what stands in a valid world is good
 pub good-at : (w : World) → IsConsistent w → (x : Path) (b : Body) → w.body x ≡ Some b → is_good (kind_there w) x b ≡ true
@@ -59,7 +60,7 @@ keeper-leads w valid s page port h = by (region_at w s page) refl h
 -- ---- a missing page's keeper
 
 abbrev pub GoodReach : World → Reach → Type 0
-GoodReach w (Home s page) = Unit {0}
+GoodReach w (Home s page) = HasPlace w s page
 GoodReach w (Missing s page keeper) = IfAny (LeadsToPort w) keeper
 GoodReach w Bad = Unit {0}
 
@@ -70,9 +71,12 @@ missing-good w valid s page = by (keeper w s page) refl
     by None e = tt
     by (Some port) e = keeper-leads w valid s page port e
 
-at_home-good : (w : World) (s : Path) (page : ℕ) (away : Reach) (o : Option (List ℕ)) → GoodReach w away → GoodReach w (at_home (Home s page) away o)
-at_home-good w s page away None good = good
-at_home-good w s page away (Some words) good = tt
+at_home-good : (w : World) → IsPaged w → (s : Path) (page : ℕ) (away : Reach) → GoodReach w away → GoodReach w (at_home (Home s page) away (w.page s page))
+at_home-good w paged s page away good = by (w.page s page) refl
+  where
+    by : (o : Option (List ℕ)) → w.page s page ≡ o → GoodReach w (at_home (Home s page) away o)
+    by None e = good
+    by (Some words) e = paged s page (rw e refl)
 
 mapped-good : (w : World) (go : Window → Reach) (missing : Reach) (o : Option Window) → GoodReach w missing → ((m : Window) → GoodReach w (go m)) → GoodReach w (mapped go missing o)
 mapped-good w go missing None here there = here
@@ -82,19 +86,19 @@ followed-good : (w : World) (go : Path → ℕ → Reach) (o : Option (Path × �
 followed-good w go None good = tt
 followed-good w go (Some place) good = good place.0 place.1
 
-reach_by-good : (w : World) → IsConsistent w → (n : ℕ) (s : Path) (page : ℕ) (write : Bool) → GoodReach w (reach_by n w s page write)
+reach_by-good : (w : World) → IsConsistent w → IsPaged w → (n : ℕ) (s : Path) (page : ℕ) (write : Bool) → GoodReach w (reach_by n w s page write)
 unfolding reach_by
-reach_by-good w valid zero s page write =
-    at_home-good w s page _ (w.page s page) (mapped-good w (λ m. Bad) _ (mapping_at w s page) (missing-good w valid s page) (λ m. tt))
-reach_by-good w valid (suc n) s page write =
-    at_home-good w s page _ (w.page s page) (mapped-good w _ _ (mapping_at w s page) (missing-good w valid s page) (λ m. followed-good w _ (led_by w m page write m.region) (λ t other. reach_by-good w valid n t other write)))
+reach_by-good w valid paged zero s page write =
+    at_home-good w paged s page _ (mapped-good w (λ m. Bad) _ (mapping_at w s page) (missing-good w valid s page) (λ m. tt))
+reach_by-good w valid paged (suc n) s page write =
+    at_home-good w paged s page _ (mapped-good w _ _ (mapping_at w s page) (missing-good w valid s page) (λ m. followed-good w _ (led_by w m page write m.region) (λ t other. reach_by-good w valid paged n t other write)))
 
-pub reach_word-good : (w : World) → IsConsistent w → (s : Path) (address : ℕ) (write : Bool) → GoodReach w (reach_word w s address write)
+pub reach_word-good : (w : World) → Facts w → (s : Path) (address : ℕ) (write : Bool) → GoodReach w (reach_word w s address write)
 unfolding reach
-reach_word-good w valid s address write = by (nat_lt address SPACE_WORDS)
+reach_word-good w facts s address write = by (nat_lt address SPACE_WORDS)
   where
     by : (t : Bool) → GoodReach w (if t then reach w s (address / PAGE_WORDS) write else Bad)
-    by true = reach_by-good w valid MAPPINGS s (address / PAGE_WORDS) write
+    by true = reach_by-good w facts.valid facts.paged MAPPINGS s (address / PAGE_WORDS) write
     by false = tt
 
 -- ---- accesses
@@ -103,23 +107,23 @@ missed-safe : (w : World) (otherwise : Outcome) (me : Path) (page : ℕ) (write 
 missed-safe w otherwise me page write None port safe = safe
 missed-safe w otherwise me page write (Some keeper) port safe = goes (record { port = port; taker = tt }, tt)
 
-pub accessed-safe : (w : World) (me : Path) (write : Bool) (halts : ℕ → Outcome) (go : Path → ℕ → Outcome) (r : Reach) → GoodReach w r → ((code : ℕ) → SafeOutcome w (halts code)) → ((s : Path) (page : ℕ) → SafeOutcome w (go s page)) → SafeOutcome w (accessed me write halts go r)
-accessed-safe w me write halts go (Home s page) good halting going = going s page
+pub accessed-safe : (w : World) (me : Path) (write : Bool) (halts : ℕ → Outcome) (go : Path → ℕ → Outcome) (r : Reach) → GoodReach w r → ((code : ℕ) → SafeOutcome w (halts code)) → ((s : Path) (page : ℕ) → HasPlace w s page → SafeOutcome w (go s page)) → SafeOutcome w (accessed me write halts go r)
+accessed-safe w me write halts go (Home s page) good halting going = going s page good
 accessed-safe w me write halts go (Missing s page keeper) good halting going = missed-safe w _ me page write keeper good (halting _)
 accessed-safe w me write halts go Bad good halting going = halting _
 
-own_page_at-safe : (w : World) (me : Path) (write : Bool) (go : Path → ℕ → Outcome) (r : Reach) → GoodReach w r → ((s : Path) (page : ℕ) → SafeOutcome w (go s page)) → SafeOutcome w (own_page_at me write go r)
-own_page_at-safe w me write go (Home s page) good going = going s page
+own_page_at-safe : (w : World) (me : Path) (write : Bool) (go : Path → ℕ → Outcome) (r : Reach) → GoodReach w r → ((s : Path) (page : ℕ) → HasPlace w s page → SafeOutcome w (go s page)) → SafeOutcome w (own_page_at me write go r)
+own_page_at-safe w me write go (Home s page) good going = going s page good
 own_page_at-safe w me write go (Missing s page keeper) good going = missed-safe w _ me page write keeper good refused
 own_page_at-safe w me write go Bad good going = refused
 
-pub own_page-safe : (w : World) → IsConsistent w → (c : Caller) (address : ℕ) (write : Bool) (go : Path → ℕ → Outcome) → ((s : Path) (page : ℕ) → SafeOutcome w (go s page)) → SafeOutcome w (own_page w c address write go)
-own_page-safe w valid c address write go going = own_page_at-safe w _ write go (reach_word w c.space address write) (reach_word-good w valid c.space address write) going
+pub own_page-safe : (w : World) → Facts w → (c : Caller) (address : ℕ) (write : Bool) (go : Path → ℕ → Outcome) → ((s : Path) (page : ℕ) → HasPlace w s page → SafeOutcome w (go s page)) → SafeOutcome w (own_page w c address write go)
+own_page-safe w facts c address write go going = own_page_at-safe w _ write go (reach_word w c.space address write) (reach_word-good w facts c.space address write) going
 
-their_page_at-safe : (w : World) (go : Path → ℕ → Outcome) (r : Reach) → ((s : Path) (page : ℕ) → SafeOutcome w (go s page)) → SafeOutcome w (their_page_at go r)
-their_page_at-safe w go (Home s page) going = going s page
-their_page_at-safe w go (Missing s page keeper) going = waits
-their_page_at-safe w go Bad going = waits
+their_page_at-safe : (w : World) (go : Path → ℕ → Outcome) (r : Reach) → GoodReach w r → ((s : Path) (page : ℕ) → HasPlace w s page → SafeOutcome w (go s page)) → SafeOutcome w (their_page_at go r)
+their_page_at-safe w go (Home s page) good going = going s page good
+their_page_at-safe w go (Missing s page keeper) good going = waits
+their_page_at-safe w go Bad good going = waits
 
-pub their_page-safe : (w : World) (space : Path) (address : ℕ) (go : Path → ℕ → Outcome) → ((s : Path) (page : ℕ) → SafeOutcome w (go s page)) → SafeOutcome w (their_page w space address go)
-their_page-safe w space address go going = their_page_at-safe w go (reach_word w space address true) going
+pub their_page-safe : (w : World) → Facts w → (space : Path) (address : ℕ) (go : Path → ℕ → Outcome) → ((s : Path) (page : ℕ) → HasPlace w s page → SafeOutcome w (go s page)) → SafeOutcome w (their_page w space address go)
+their_page-safe w facts space address go going = their_page_at-safe w go (reach_word w space address true) (reach_word-good w facts space address true) going

@@ -37,17 +37,17 @@ stage_row-safe w c pick (Point s x s2 x2) facts caller fit = point-safe w c s x 
 stage_row-safe w c pick (Clear s x) facts caller fit = clear-safe w c s x
 stage_row-safe w c pick (Locate reference s) facts caller fit = locate-safe w c reference s
 stage_row-safe w c pick (CountIn base s x) facts caller fit = count_in-safe w c base s x
-stage_row-safe w c pick (GetState s x address) facts caller fit = get_state-safe w facts.valid c s x address
-stage_row-safe w c pick (SetState s x address) facts caller fit = set_state-safe w facts.valid c s x address
+stage_row-safe w c pick (GetState s x address) facts caller fit = get_state-safe w facts c s x address
+stage_row-safe w c pick (SetState s x address) facts caller fit = set_state-safe w facts c s x address
 stage_row-safe w c pick (GetPtr s x field reference) facts caller fit = get_ptr-safe w facts.valid c s x field reference
 stage_row-safe w c pick (SetPtr s x field reference) facts caller fit = set_ptr-safe w facts.valid c s x field reference
 stage_row-safe w c pick (SpaceHold s x) facts caller fit = space_hold-safe w c s x caller
 stage_row-safe w c pick (SpaceRelease s x) facts caller fit = space_release-safe w c s x
 stage_row-safe w c pick (ThreadStop h) facts caller fit = thread_stop-safe w c h
 stage_row-safe w c pick (ThreadGo h) facts caller fit = thread_go-safe w c h
-stage_row-safe w c pick (PageGive s page address) facts caller fit = page_give-safe w facts.valid c s page address
-stage_row-safe w c pick (PageTake s page address) facts caller fit = page_take-safe w facts.valid c s page address
-stage_row-safe w c pick (PageRead s page address) facts caller fit = page_read-safe w facts.valid c s page address
+stage_row-safe w c pick (PageGive s page address) facts caller fit = page_give-safe w facts c s page address caller
+stage_row-safe w c pick (PageTake s page address) facts caller fit = page_take-safe w facts c s page address
+stage_row-safe w c pick (PageRead s page address) facts caller fit = page_read-safe w facts c s page address
 stage_row-safe w c pick (PageNext s from) facts caller fit = page_next-safe w c s from
 stage_row-safe w c pick (MutexLock m) facts caller fit = mutex_lock-safe w c m
 stage_row-safe w c pick (MutexTrylock m) facts caller fit = mutex_trylock-safe w c m
@@ -57,13 +57,13 @@ stage_row-safe w c pick (CondAsleep cond m) facts caller fit = cond_asleep-safe 
 stage_row-safe w c pick (CondSignal cond) facts caller fit = cond_signal-safe w c pick cond
 stage_row-safe w c pick (CondBroadcast cond) facts caller fit = cond_broadcast-safe w c cond
 stage_row-safe w c pick (Connect h) facts caller fit = connect-safe w c h
-stage_row-safe w c pick (ClientReceive into room) facts caller fit = receive-safe w facts.valid c turns.Client into room
-stage_row-safe w c pick (ClientSend address count) facts caller fit = send-safe w facts.valid c turns.Client address count
+stage_row-safe w c pick (ClientReceive into room) facts caller fit = receive-safe w facts c turns.Client into room
+stage_row-safe w c pick (ClientSend address count) facts caller fit = send-safe w facts c turns.Client address count
 stage_row-safe w c pick ClientOver facts caller fit = over-safe w c turns.Client
 stage_row-safe w c pick Disconnect facts caller fit = disconnect-safe w c turns.Client
 stage_row-safe w c pick (Wait set) facts caller fit = wait-safe w c pick set facts caller
-stage_row-safe w c pick (ServerReceive into room) facts caller fit = receive-safe w facts.valid c turns.Server into room
-stage_row-safe w c pick (ServerSend address count) facts caller fit = send-safe w facts.valid c turns.Server address count
+stage_row-safe w c pick (ServerReceive into room) facts caller fit = receive-safe w facts c turns.Server into room
+stage_row-safe w c pick (ServerSend address count) facts caller fit = send-safe w facts c turns.Server address count
 stage_row-safe w c pick ServerOver facts caller fit = over-safe w c turns.Server
 stage_row-safe w c pick ServerEnd facts caller fit = disconnect-safe w c turns.Server
 stage_row-safe w c pick FaultDone facts caller fit = fault_done-safe w c
@@ -126,7 +126,7 @@ user-fit w c (FaultPark s x port taken) user = cc
 user-fit w c stage user = refl
 
 goes_on-safe : (w : World) (k : ℕ) (s : Path) (pick : Option Path) (t : Thread) (mode : Mode) → Facts w → IsCaller w (user_at (k ∷ s)) → SafeOutcome w (goes_on w (k ∷ s) pick t mode)
-goes_on-safe w k s pick t (Running g) facts caller = with_pick-safe w false pick _ (run_row-safe w facts.valid s k g t.counter)
+goes_on-safe w k s pick t (Running g) facts caller = with_pick-safe w false pick _ (run_row-safe w facts s k g t.counter)
 goes_on-safe w k s pick t (Calling (stage ∷ todo) rest) facts caller =
     call_row-safe w (user_at (k ∷ s)) pick stage (λ user. stage_row-safe w (user_at (k ∷ s)) pick stage facts caller (user-fit w (user_at (k ∷ s)) stage user))
 goes_on-safe w k s pick t mode facts caller = waits
@@ -151,7 +151,7 @@ unfolding outcome is_fit
 outcome-safe w x pick asks.Run facts fit = user_move-safe w x pick _ facts refl
 outcome-safe w x pick (asks.Call stage words) facts fit = porter_move-safe w x pick stage words _ facts fit refl
 outcome-safe w x pick asks.Accept facts fit = accept_row-safe w x pick facts
-outcome-safe w x pick (asks.Give words len) facts fit = with_pick-safe w false pick _ (give_row-safe w x (take len words))
+outcome-safe w x pick (asks.Give words len) facts fit = with_pick-safe w false pick _ (give_row-safe w facts x (take len words))
 outcome-safe w x pick asks.Over facts fit = with_pick-safe w false pick _ (over_row-safe w x)
 
 pub changes-safe : (w : World) (x : Path) (pick : Option Path) (ask : Ask) (changes : List Change) (said : Said) → Facts w → is_fit w x ask ≡ true → outcome w x pick ask ≡ Goes changes said → AreSafe w changes

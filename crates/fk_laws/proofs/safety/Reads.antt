@@ -14,7 +14,7 @@ use Rattle.fk_model.specs.World.{World}
 use Rattle.fk_model.specs.Searches.{has_residents, leaf, is_serving, client_at}
 use Rattle.fk_model.specs.Outcomes.{Caller, path_of, last_slot, or_refuse}
 use Rattle.fk_model.specs.Readers.{and_read, slot_for, seen_as, object_in, kind_at, is_kind, led_to, handled, handle, path_at, place, referred}
-use Rattle.fk_model.specs.Valid.{IsConsistent, kind_there, is_one_of, leads_there, may_lead, HasService, services, IsRooted}
+use Rattle.fk_model.specs.Valid.{IsConsistent, kind_there, is_one_of, leads_there, may_lead, HasService, services, IsRooted, IsPaged}
 use Rattle.fk_laws.proofs.safety.Safe.{IsAlone}
 
 -- ---- what is known of the world in which a row is judged
@@ -33,6 +33,7 @@ pub record WalkFacts (w : World) : Type 0 where
 pub record Facts (w : World) : Type 0 where
   pub valid : IsConsistent w
   pub rooted : IsRooted w
+  pub paged : IsPaged w
   pub walks : WalkFacts w
 
 -- the caller is a thread, in a space

@@ -12,7 +12,7 @@ use Rattle.fk_model.specs.World.Change.{Alter, Make, MakeSpace, Kill, Move, PutP
 use Rattle.fk_model.specs.Searches.{talk_at, fault_at}
 use Rattle.fk_model.specs.Records.{is_extent}
 use Rattle.fk_model.specs.StateRows.{held_kinds}
-use Rattle.fk_model.specs.Valid.{kind_there, leads_there, may_lead, all_in, is_good, is_good_set, is_served_port, HasService, services, lies_with}
+use Rattle.fk_model.specs.Valid.{kind_there, leads_there, may_lead, all_in, is_good, is_good_set, is_served_port, HasService, services, lies_with, HasPlace}
 
 -- ---- peers
 
@@ -128,7 +128,7 @@ IsSafe w (MakeSpace (k ∷ s) holder) = IsSafeMakeSpace w k s holder
 IsSafe w (Kill x) = IsAlone w x
 IsSafe w (Move [] slot) = ⊥
 IsSafe w (Move (k ∷ s) slot) = IsSafeMove w k s slot
-IsSafe w (PutPage space page words) = Unit {0}
+IsSafe w (PutPage space page words) = HasPlace w space page
 IsSafe w (DropPage space page) = Unit {0}
 
 -- each is safe in the world that the earlier ones leave

@@ -22,22 +22,22 @@ use Rattle.fk_model.specs.StateRows.Field.{Pointer}
 use Rattle.fk_model.specs.Valid.{IsConsistent, kind_there, is_one_of, leads_there, may_lead, all_in, is_good, is_good_set, is_good_talk, is_good_fault, is_good_peer}
 use Rattle.fk_laws.proofs.safety.Safe.{takes_pointer, AreSafe}
 use Rattle.fk_laws.proofs.safety.Outcomes.{SafeOutcome, safe-done, safe_row}
-use Rattle.fk_laws.proofs.safety.Reads.{object_in-found, leads-among, may-among}
+use Rattle.fk_laws.proofs.safety.Reads.{object_in-found, leads-among, may-among, Facts}
 use Rattle.fk_laws.proofs.safety.Memory.{good-at, own_page-safe}
 use Rattle.fk_laws.proofs.safety.Objects.{takes-at, reference-leads, reference-there}
 
 -- ---- get_state
 
-shows_to-safe : (w : World) → IsConsistent w → (c : Caller) (b : Body) (address : ℕ) → SafeOutcome w (shows_to w c b address)
-shows_to-safe w valid c b address = by c.is_porter
+shows_to-safe : (w : World) → Facts w → (c : Caller) (b : Body) (address : ℕ) → SafeOutcome w (shows_to w c b address)
+shows_to-safe w facts c b address = by c.is_porter
   where
     by : (porter : Bool) → SafeOutcome w (if porter then done c [] (record_of b) else own_page w c address true (shows w c b address))
     by true = safe-done w c [] _ tt
-    by false = own_page-safe w valid c address true (shows w c b address) (λ s page. search safe-done)
+    by false = own_page-safe w facts c address true (shows w c b address) (λ s page home. safe-done w c _ [] (home, tt))
 
-pub get_state-safe : (w : World) → IsConsistent w → (c : Caller) (s x address : ℕ) → SafeOutcome w (get_state w c s x address)
+pub get_state-safe : (w : World) → Facts w → (c : Caller) (s x address : ℕ) → SafeOutcome w (get_state w c s x address)
 unfolding get_state
-get_state-safe w valid c s x address = search (safe_row, shows_to-safe)
+get_state-safe w facts c s x address = search (safe_row, shows_to-safe)
 
 -- ---- set_state
 
@@ -72,8 +72,8 @@ sets-goes w c k s b words there takes = safe-done w c _ [] (edits-safe w k s b w
 sets-safe : (w : World) (c : Caller) (k : ℕ) (s : Path) (b : Body) (words : List ℕ) → w.body (k ∷ s) ≡ Some b → SafeOutcome w (sets w c s (k ∷ s) b words)
 sets-safe w c k s b words there = search (safe_row, sets-goes)
 
-sets_from-safe : (w : World) (c : Caller) (k : ℕ) (s : Path) (b : Body) (address : ℕ) → IsConsistent w → object_in w c anything s k ≡ Ok b → SafeOutcome w (sets_from w c s (k ∷ s) b address)
-sets_from-safe w c k s b address valid read = by c.is_porter
+sets_from-safe : (w : World) (c : Caller) (k : ℕ) (s : Path) (b : Body) (address : ℕ) → Facts w → object_in w c anything s k ≡ Ok b → SafeOutcome w (sets_from w c s (k ∷ s) b address)
+sets_from-safe w c k s b address facts read = by c.is_porter
   where
     go : Path → ℕ → Outcome
     go t page = sets w c s (k ∷ s) b (record_at (words_at w t page) address)
@@ -83,11 +83,11 @@ sets_from-safe w c k s b address valid read = by c.is_porter
 
     by : (porter : Bool) → SafeOutcome w (if porter then sets w c s (k ∷ s) b c.words else own_page w c address false go)
     by true = sets-safe w c k s b c.words there
-    by false = own_page-safe w valid c address false go (λ t page. sets-safe w c k s b _ there)
+    by false = own_page-safe w facts c address false go (λ t page home. sets-safe w c k s b _ there)
 
-pub set_state-safe : (w : World) → IsConsistent w → (c : Caller) (s x address : ℕ) → SafeOutcome w (set_state w c s x address)
+pub set_state-safe : (w : World) → Facts w → (c : Caller) (s x address : ℕ) → SafeOutcome w (set_state w c s x address)
 unfolding set_state
-set_state-safe w valid c s x address = search (safe_row, sets_from-safe) depth 9
+set_state-safe w facts c s x address = search (safe_row, sets_from-safe) depth 9
 
 -- ---- get_ptr
 

@@ -1,7 +1,8 @@
 -- A thread inside a plain subtree moves: what the world's row does is what the row of the cut does, and the subtree stays plain.
-use Rattle.std.proofs.Common.{◌≡◌, ℕ, Bool, true, false, cond, ◌&&◌, ◌||◌, List, [], ◌∷◌, ◌++◌, Option, Some, None, is_some, is_none, option_map, Result, Ok, Err, refl, ap, ◌∙◌}
+use Rattle.std.proofs.Common.{◌≡◌, ℕ, Bool, true, false, cond, ◌&&◌, ◌||◌, List, [], ◌∷◌, ◌++◌, Option, Some, None, is_some, is_none, option_map, Result, Ok, Err, refl, sym, ap, ◌∙◌}
 use Rattle.fk_model.specs.declared.moves.Ask.TheVariants as asks
 use Rattle.fk_model.specs.declared.stage.Stage.{Stage}
+use Rattle.fk_model.specs.declared.stage.Stage.TheVariants.{ClientSend}
 use Rattle.fk_model.specs.Places.{Path, strip, is_within, Ptr}
 use Rattle.fk_model.specs.Objects.{Mode, Thread, Body, thread_of, and_then}
 use Rattle.fk_model.specs.Objects.Mode.{Calling}
@@ -16,9 +17,9 @@ use Rattle.fk_model.specs.Moves.{stage_row, is_for_porters, chooses, with_pick, 
 use Rattle.fk_model.specs.declared.statuses.status.TheConstants.{DENIED}
 use Rattle.fk_model.specs.Runs.{Event, after}
 use Rattle.fk_model.specs.Cut.{ports_of, cut_ptr, cut, seen_by, unheld, IsPlain}
-use Rattle.fk_model.specs.Further.{Onward, Told, talks_outside, outside_row, own_stage, own_move, own_row, thread_in, onward_row, told_by_said, told_by, OnwardTo, IsOnward}
+use Rattle.fk_model.specs.Further.{Onward, Told, talks_outside, outside_row, own_stage, own_move, own_row, counted, thread_in, onward_row, told_by_said, told_by, OnwardTo, IsOnward}
 use Rattle.fk_model.specs.Further.Onward.{Own}
-use Rattle.fk_model.specs.Seen.{said_by, words_out, picked_inside, own_of, row_of}
+use Rattle.fk_model.specs.Seen.{said_by, is_send, sends_out, words_out, picked_inside, own_of, row_of}
 use Rattle.fk_model.specs.Seen.Seen.{Onwards, Unseen, Other}
 use Rattle.fk_transparency.specs.CutLaws.{KeepsCut, IsAtStage, moves, StageInsideKeepsCut}
 use Rattle.fk_transparency.specs.Likeness.{seeing, seen_thread, IsLikeness}
@@ -146,6 +147,25 @@ pub call_closed : (w : World) (x : Path) (p : Option Path) (stage : Stage) → c
 unfolding call_row
 call_closed w x p stage = closed_again x _
 
+-- ---- a thread that sends nothing to a peer outside
+
+pub counted_none : (n : ℕ) (o : Outcome) → n ≡ 0 → counted n o ≡ o
+counted_none n o none = rw none refl
+
+pub unsent_counts : (w : World) (root me : Path) (cs : List Change) → sends_out w root me ≡ false → words_out w root me cs ≡ 0
+unsent_counts w root me cs unsent = rw unsent refl
+
+-- a stage of which a peer outside makes nothing else isn't a client's Send
+silent_unsent : (w : World) (c : Caller) (stage : Stage) → ((n : ℕ) (o : Outcome) → outside_row w c n stage o ≡ o) → is_send stage ≡ false
+silent_unsent w c (ClientSend address count) silent = let clash : Waits ≡ Refused 0 = sym (silent 0 Waits) ∙ silent 0 (Refused 0) in cc
+silent_unsent w c stage silent = refl
+
+pub unsent_stage : (w : World) (root me : Path) (stage : Stage) → is_send stage ≡ false → IsAtStage w me stage → sends_out w root me ≡ false
+unsent_stage w root me stage unsent at = rw at.3 (rw at.4 (rw unsent refl))
+
+pub silent_counts : (w c : World) (root me x : Path) (stage : Stage) → IsAtStage w me stage → ((n : ℕ) (o : Outcome) → outside_row c (user_at x) n stage o ≡ o) → (cs : List Change) → words_out w root me cs ≡ 0
+silent_counts w c root me x stage at silent cs = unsent_counts w root me cs (unsent_stage w root me stage (silent_unsent c (user_at x) stage silent) at)
+
 -- ---- a thread inside
 
 pub thread_seen : (see : Ptr → Ptr) (k : ℕ) (q : Path) (v : Option Body) (t : Thread) → and_then thread_of v ≡ Some t → and_then thread_of (option_map (λ b. unheld (k ∷ q) (seen_by (seeing see) b)) v) ≡ Some (seen_thread see t)
@@ -218,13 +238,13 @@ module _ (w : World) (nester : Path) (slot : ℕ) (plain : IsPlain w nester slot
     pub seen_is : thread_in small (k ∷ q) ≡ Some (seen_thread see t)
     seen_is = rw ((cut-like w nester slot plain).bodies (k ∷ q)) (thread_seen see k q (w.body me) t is)
 
-    pub move_alike : (p : Option Path) (n : ℕ) → (is_frozen w root ≡ false → IsAlikeBy p n) → AreQuiet root (listed far) → IsReady w me pick asks.Run →
+    pub move_alike : (p : Option Path) (n : ℕ) → n ≡ 0 → (is_frozen w root ≡ false → IsAlikeBy p n) → AreQuiet root (listed far) → IsReady w me pick asks.Run →
         IsPlain (after w (moves me pick)) nester slot × ((told : List Told) × IsOnward small (Own (k ∷ q) p n) told (cut (after w (moves me pick)) nester slot))
     unfolding step outcome onward_row
-    move_alike p n alike quiet ready = by (and_then thread_of (w.body me)) (thread_in small (k ∷ q)) is seen_is ready
+    move_alike p n none alike quiet ready = by (and_then thread_of (w.body me)) (thread_in small (k ∷ q)) is seen_is ready
       where
-        by : (o seen : Option Thread) → o ≡ Some t → seen ≡ Some (seen_thread see t) → GoesAllowed w me (user_move w me pick o) → HasGone (Own (k ∷ q) p n) (own_row small (k ∷ q) p n seen) (user_move w me pick o)
-        by o seen e f = rw e (rw f (moves_alike p n alike quiet (is_free w (q ++ root) t) refl))
+        by : (o seen : Option Thread) → o ≡ Some t → seen ≡ Some (seen_thread see t) → GoesAllowed w me (user_move w me pick o) → HasGone (Own (k ∷ q) p n) (counted n (own_row small (k ∷ q) p n seen)) (user_move w me pick o)
+        by o seen e f = rw (counted_none n (own_row small (k ∷ q) p n seen) none) (rw e (rw f (moves_alike p n alike quiet (is_free w (q ++ root) t) refl)))
 
     -- ---- how it is seen
 
@@ -247,13 +267,13 @@ module _ (w : World) (nester : Path) (slot : ℕ) (plain : IsPlain w nester slot
     pub own_row_of : (e : Event) (out : Outcome) (o : Option Path) (m : Onward) → o ≡ Some (k ∷ q) → row_of w root e out o ≡ Some m → own_of w root e.mover (k ∷ q) e.pick (listed out) ≡ Some m
     own_row_of e out o m is = rw is (λ h. h)
 
-    pub inside_law : ((p : Option Path) (n : ℕ) → is_none p ≡ is_none pick → is_frozen w root ≡ false → IsAlikeBy p n) → AreQuiet root (listed far) → KeepsCut w nester slot (moves me pick)
-    inside_law alike quiet sound same fit ready (Onwards m) seen =
+    pub inside_law : ((cs : List Change) → words_out w root me cs ≡ 0) → ((p : Option Path) (n : ℕ) → is_none p ≡ is_none pick → is_frozen w root ≡ false → IsAlikeBy p n) → AreQuiet root (listed far) → KeepsCut w nester slot (moves me pick)
+    inside_law none alike quiet sound same fit ready (Onwards m) seen =
         let own = own_row_of (moves me pick) (outcome w me pick asks.Run) (strip root me) m (strip-append root (k ∷ q)) seen.1 in
         let form = own_form _ (words_out w root me (listed (outcome w me pick asks.Run))) (picked_inside root pick) m own in
-        rw form.2 (move_alike form.0 _ (alike form.0 _ (picked_none form.0 form.1)) quiet ready)
-    inside_law alike quiet sound same fit ready Unseen seen = (move_alike pick 0 (alike pick 0 refl) quiet ready).0
-    inside_law alike quiet sound same fit ready Other seen = tt
+        rw form.2 (move_alike form.0 _ (none (listed (outcome w me pick asks.Run))) (alike form.0 _ (picked_none form.0 form.1)) quiet ready)
+    inside_law none alike quiet sound same fit ready Unseen seen = (move_alike pick 0 refl (alike pick 0 refl) quiet ready).0
+    inside_law none alike quiet sound same fit ready Other seen = tt
 
   -- ---- a stage
 
@@ -266,7 +286,7 @@ module _ (w : World) (nester : Path) (slot : ℕ) (plain : IsPlain w nester slot
   stage_inside pick stage at silent alike quiet =
       let t = at.0 in
       let calls = quiet-call root w me pick stage quiet in
-      inside_law pick t at.3
+      inside_law pick t at.3 (silent_counts w small root me (k ∷ q) stage at (λ n o. silent n (user_at (k ∷ q)) o))
       (λ p n e free. by t.mode at.4 p n (call_row-like (cut-like w nester slot plain) k q p pick stage e (alike p e free)))
       (rw (at_stage pick stage at.1 at.2 t t.mode at.4) calls.quiet)
     where

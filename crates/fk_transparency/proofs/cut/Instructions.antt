@@ -1,5 +1,5 @@
 -- The law of the cut for instructions.
-use Rattle.std.proofs.Common.{◌≡◌, ℕ, Bool, true, false, List, [], ◌∷◌, ◌++◌, Option, Some, None, is_none, cond, ◌&&◌, refl, subst, append-nil}
+use Rattle.std.proofs.Common.{◌≡◌, ℕ, Bool, true, false, List, [], ◌∷◌, ◌++◌, Option, Some, None, is_none, cond, ◌&&◌, refl, ap, subst, append-nil}
 use Rattle.fk_model.specs.declared.instruction.Act.{Act}
 use Rattle.fk_model.specs.declared.instruction.Act.TheVariants.{Put, Jump, Load, Store, Halt, Call}
 use Rattle.fk_model.specs.declared.moves.Ask.TheVariants as asks
@@ -19,7 +19,7 @@ use Rattle.fk_model.specs.UserRows.{proceeds, halts_with, word_at, enters, perfo
 use Rattle.fk_model.specs.Moves.{with_pick, goes_on, outcome, IsReady}
 use Rattle.fk_model.specs.Valid.{is_fit}
 use Rattle.fk_model.specs.Cut.{ports_of, cut_ptr, cut, IsPlain}
-use Rattle.fk_model.specs.Further.{talks_outside, own_stage, thread_in, onward_row}
+use Rattle.fk_model.specs.Further.{talks_outside, own_stage, counted, thread_in, onward_row}
 use Rattle.fk_model.specs.Further.Onward.{Own}
 use Rattle.fk_model.specs.Rebind.{rebound_ptr, rebound}
 use Rattle.fk_transparency.specs.RebindLaws.{InstructionRebinds}
@@ -31,7 +31,7 @@ use Rattle.fk_transparency.specs.Likeness.{seen_thread}
 use Rattle.fk_transparency.specs.LikeChanges.{IsLikeOutcome}
 use Rattle.fk_transparency.proofs.likeness.Instances.{cut-like}
 use Rattle.fk_transparency.proofs.likeness.Rows.{run_row-like}
-use Rattle.fk_transparency.proofs.cut.Inside.{Quiet, quiet-goes, quiet-when, quiet-with_pick, with_pick-like, inside_law, thread_beneath}
+use Rattle.fk_transparency.proofs.cut.Inside.{Quiet, quiet-goes, quiet-when, quiet-with_pick, with_pick-like, inside_law, thread_beneath, unsent_counts}
 use Rattle.fk_transparency.proofs.cut.Outside.{outside_law}
 
 module _ (root : Path) where
@@ -89,7 +89,7 @@ module _ (w : World) (nester : Path) (slot : ℕ) (plain : IsPlain w nester slot
       rw e (runs, runs)
 
   inside : KeepsCut w nester slot (moves (k ∷ (q ++ slot ∷ nester)) pick)
-  inside = inside_law w nester slot plain k q pick at.0 at.2 (λ p n e free. alike at.0.mode at.3 p n e) (quiet-runs (slot ∷ nester) w (k ∷ (q ++ slot ∷ nester)) pick at.0 at.0.mode at.1 at.3).quiet
+  inside = inside_law w nester slot plain k q pick at.0 at.2 (λ cs. unsent_counts w (slot ∷ nester) (k ∷ (q ++ slot ∷ nester)) cs (rw at.2 (rw at.3 refl))) (λ p n e free. alike at.0.mode at.3 p n e) (quiet-runs (slot ∷ nester) w (k ∷ (q ++ slot ∷ nester)) pick at.0 at.0.mode at.1 at.3).quiet
 
 pub instruction_keeps : InstructionKeepsCut
 instruction_keeps w nester slot x pick at sound plain = by (is_within (slot ∷ nester) x) refl
@@ -102,9 +102,9 @@ instruction_keeps w nester slot x pick at sound plain = by (is_within (slot ∷ 
 
 -- ---- with other outward ports
 
-run_is : (c : World) (k : ℕ) (q : Path) (p : Option Path) (n : ℕ) (t : Thread) (g : List ℕ) → thread_in c (k ∷ q) ≡ Some t → t.mode ≡ Running g → onward_row c (Own (k ∷ q) p n) ≡ when (is_free c q t) (with_pick false p (run_row c q k g t.counter))
+run_is : (c : World) (k : ℕ) (q : Path) (p : Option Path) (n : ℕ) (t : Thread) (g : List ℕ) → thread_in c (k ∷ q) ≡ Some t → t.mode ≡ Running g → onward_row c (Own (k ∷ q) p n) ≡ counted n (when (is_free c q t) (with_pick false p (run_row c q k g t.counter)))
 unfolding onward_row
-run_is c k q p n t g is e = rw is (by (talks_outside c (k ∷ q) && is_none p) t.mode e)
+run_is c k q p n t g is e = ap (counted n) (rw is (by (talks_outside c (k ∷ q) && is_none p) t.mode e))
   where
     by : (test : Bool) (mode : Mode) → mode ≡ Running g → cond test (when (is_free c q t) (own_stage c (k ∷ q) p n mode (goes_on c (k ∷ q) p t mode))) (when (is_free c q t) (goes_on c (k ∷ q) p t mode)) ≡ when (is_free c q t) (with_pick false p (run_row c q k g t.counter))
     by true mode e = rw e refl

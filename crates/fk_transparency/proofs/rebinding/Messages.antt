@@ -22,7 +22,7 @@ use Rattle.fk_model.specs.TransferRows.{block, moved_words, in_turn}
 use Rattle.fk_model.specs.LinkRows.{user_at}
 use Rattle.fk_model.specs.Moves.{stage_row, is_for_porters, chooses, closed, call_row}
 use Rattle.fk_model.specs.Cut.{is_out}
-use Rattle.fk_model.specs.Further.{Told, is_outside, takes_words, sends_outside, passes_outside, talks_outside, outside_row, own_row, thread_in, onward_row, OnwardTo, IsOnward}
+use Rattle.fk_model.specs.Further.{Told, is_outside, takes_words, sends_outside, passes_outside, talks_outside, outside_row, own_row, counted, thread_in, onward_row, OnwardTo, IsOnward}
 use Rattle.fk_model.specs.Further.Onward.{Own}
 use Rattle.fk_transparency.specs.CutLaws.{IsAtStage, IsServerSend, IsServerOver, IsClientSend, IsClientOver}
 use Rattle.fk_transparency.specs.Likeness.{seen_talk, seen_thread, IsLikeness, IsCutWorld, IsApart, IsBeneath, AlikeOptions, IsSeenTalk}
@@ -94,9 +94,9 @@ client_same {see} {small} {big} like apart me =
 abbrev pub its_row : Option Path → ℕ → Stage → World → Path → Outcome
 its_row p n stage w x = cond (talks_outside w x && is_none p) (closed (user_at x) (outside_row w (user_at x) n stage (call_row w (user_at x) p stage))) (call_row w (user_at x) p stage)
 
-its_row_is : (p : Option Path) (n : ℕ) (stage : Stage) (w : World) (x : Path) (t : Thread) (todo : List Stage) (rest : List ℕ) → thread_in w x ≡ Some t → t.mode ≡ Calling (stage ∷ todo) rest → onward_row w (Own x p n) ≡ when (is_free w (parent x) t) (its_row p n stage w x)
+its_row_is : (p : Option Path) (n : ℕ) (stage : Stage) (w : World) (x : Path) (t : Thread) (todo : List Stage) (rest : List ℕ) → thread_in w x ≡ Some t → t.mode ≡ Calling (stage ∷ todo) rest → onward_row w (Own x p n) ≡ counted n (when (is_free w (parent x) t) (its_row p n stage w x))
 unfolding onward_row
-its_row_is p n stage w x t todo rest is e = ap (own_row w x p n) is ∙ own_is w x p n t stage todo rest e ∙ by (talks_outside w x && is_none p)
+its_row_is p n stage w x t todo rest is e = ap (counted n) (ap (own_row w x p n) is ∙ own_is w x p n t stage todo rest e ∙ by (talks_outside w x && is_none p))
   where
     by : (b : Bool) → cond b (when (is_free w (parent x) t) (closed (user_at x) (outside_row w (user_at x) n stage (call_row w (user_at x) p stage)))) (when (is_free w (parent x) t) (call_row w (user_at x) p stage)) ≡
         when (is_free w (parent x) t) (cond b (closed (user_at x) (outside_row w (user_at x) n stage (call_row w (user_at x) p stage))) (call_row w (user_at x) p stage))

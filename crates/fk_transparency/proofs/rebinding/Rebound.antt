@@ -1,5 +1,5 @@
 -- A move of a subtree that is seen alone is the same move of it with other outward ports.
-use Rattle.std.proofs.Common.{◌≡◌, ℕ, zero, Bool, true, false, cond, ◌&&◌, List, [], ◌∷◌, ◌++◌, map, Option, Some, None, is_none, option_map, refl, sym, ap, subst, ◌∙◌, append-nil}
+use Rattle.std.proofs.Common.{◌≡◌, ℕ, zero, Bool, true, false, cond, eqb, ◌&&◌, ◌||◌, List, [], ◌∷◌, ◌++◌, map, Option, Some, None, is_none, option_map, refl, sym, ap, subst, ◌∙◌, append-nil}
 use Rattle.std.specs.List.{flat_map}
 use Rattle.fk_model.specs.declared.stage.Stage.{Stage}
 use Rattle.fk_model.specs.Places.{Path, strip, is_within, parent, Ptr}
@@ -13,11 +13,12 @@ use Rattle.fk_model.specs.Searches.{talk_at}
 use Rattle.fk_model.specs.Holds.{decider, is_frozen, is_free}
 use Rattle.fk_model.specs.Outcomes.{Said, Outcome, when}
 use Rattle.fk_model.specs.Outcomes.Outcome.{Refused, Waits, Goes}
+use Rattle.fk_model.specs.Outcomes.Said.{Words}
 use Rattle.fk_model.specs.LinkRows.{user_at}
 use Rattle.fk_model.specs.Freezing.{AreAllowed}
 use Rattle.fk_model.specs.Moves.{call_row, goes_on}
 use Rattle.fk_model.specs.Cut.{is_out}
-use Rattle.fk_model.specs.Further.{Told, talks_outside, own_stage, thread_in, onward_row, told_end, told_fault, told_by_change, told_by_said, OnwardTo, IsOnward}
+use Rattle.fk_model.specs.Further.{Told, talks_outside, own_stage, goes_out, counted, thread_in, onward_row, told_end, told_fault, told_by_change, told_by_said, OnwardTo, IsOnward}
 use Rattle.fk_model.specs.Further.Onward.{Own}
 use Rattle.fk_model.specs.Further.Told.{ToldEnd, ToldFault}
 use Rattle.fk_transparency.specs.CutLaws.{IsAtStage}
@@ -132,9 +133,9 @@ module _ (bind : ℕ → ℕ) (c : World) (like : IsLikeness [] (rebound_ptr bin
 -- ---- the row of a stage
 
 row_is : (c : World) (x : Path) (p : Option Path) (n : ℕ) (stage : Stage) → IsOwn stage → (t : Thread) (todo : List Stage) (rest : List ℕ) → thread_in c x ≡ Some t → t.mode ≡ Calling (stage ∷ todo) rest →
-    onward_row c (Own x p n) ≡ when (is_free c (parent x) t) (call_row c (user_at x) p stage)
+    onward_row c (Own x p n) ≡ counted n (when (is_free c (parent x) t) (call_row c (user_at x) p stage))
 unfolding onward_row
-row_is c x p n stage inner t todo rest is e = rw is (by (talks_outside c x && is_none p) t.mode e)
+row_is c x p n stage inner t todo rest is e = ap (counted n) (rw is (by (talks_outside c x && is_none p) t.mode e))
   where
     by : (test : Bool) (mode : Mode) → mode ≡ Calling (stage ∷ todo) rest → cond test (when (is_free c (parent x) t) (own_stage c x p n mode (goes_on c x p t mode))) (when (is_free c (parent x) t) (goes_on c x p t mode)) ≡ when (is_free c (parent x) t) (call_row c (user_at x) p stage)
     by true mode e = rw e (rw (inner.silent c n (user_at x) (call_row c (user_at x) p stage), call_closed c x p stage) refl)
@@ -178,9 +179,9 @@ module _ (bind : ℕ → ℕ) (c : World) (world : IsCutWorld c) (k : ℕ) (q : 
   said_anew x _ _ (SaysWords port words) = refl
   said_anew x _ _ (SaysPassed port) = refl
 
-  pub gone_anew : (p : Option Path) (n : ℕ) (near far : Outcome) → IsLikeOutcome [] (rebound_ptr bind) c near far → IsLikeOutcome [] (λ p. p) c far far → IsHeard (rebound_ptr bind) near far →
+  goes_anew : (p : Option Path) (n : ℕ) (near far : Outcome) → IsLikeOutcome [] (rebound_ptr bind) c near far → IsLikeOutcome [] (λ p. p) c far far → IsHeard (rebound_ptr bind) near far →
       (told : List Told) (later : World) → OnwardTo c (Own (k ∷ q) p n) far told later → OnwardTo (rebound bind c) (Own (k ∷ q) p n) near (map (rebound_told bind) told) (rebound bind later)
-  gone_anew p n (Goes cs was) (Goes ds said) h again heard told later onward =
+  goes_anew p n (Goes cs was) (Goes ds said) h again heard told later onward =
       let now : World = apply_all ds c in
       let world_now : IsCutWorld now = changes-like c c ds ds again world in
       let same : rebound bind now ≡ apply_all cs (rebound bind c) = same_likeness [] (rebound_ptr bind) (rebound bind now) (apply_all cs (rebound bind c)) now (rebound-like bind (λ p. p) [] now now world_now) (changes-like (rebound bind c) c cs ds h likeness_of) in
@@ -192,8 +193,38 @@ module _ (bind : ℕ → ℕ) (c : World) (world : IsCutWorld c) (k : ℕ) (q : 
         ap (map (rebound_told bind)) onward.1 ∙ joined bind c likeness_of hears says ∙ (λ i. changed i ++ spoken i),
         ap (rebound bind) onward.2 ∙ same,
       )
-  gone_anew p n near Waits h again heard told later onward = absurd onward
-  gone_anew p n near (Refused status) h again heard told later onward = absurd onward
+  goes_anew p n near Waits h again heard told later onward = absurd onward
+  goes_anew p n near (Refused status) h again heard told later onward = absurd onward
+  goes_anew p n (Refused status) (Goes ds said) h again heard told later onward = absurd h
+  goes_anew p n Waits (Goes ds said) h again heard told later onward = absurd h
+
+  -- words go out in both or in none
+  hushed : (cs : List Change) (said : Said) → ((x : Path) → told_by_said x said ≡ []) → goes_out (Goes cs said) ≡ false
+  hushed cs (Words port words) hush = let none = hush [] in cc
+  hushed cs said hush = refl
+
+  both_out : (cs ds : List Change) (was said : Said) → SaidLikeness (rebound_ptr bind) was said → goes_out (Goes cs was) ≡ goes_out (Goes ds said)
+  both_out cs ds _ _ (Hushed was said h g) = hushed cs was h ∙ sym (hushed ds said g)
+  both_out cs ds _ _ (SaysWords port words) = out_kept bind port
+  both_out cs ds _ _ (SaysPassed port) = refl
+
+  pub gone_anew : (p : Option Path) (n : ℕ) (near far : Outcome) → IsLikeOutcome [] (rebound_ptr bind) c near far → IsLikeOutcome [] (λ p. p) c far far → IsHeard (rebound_ptr bind) near far →
+      (told : List Told) (later : World) → OnwardTo c (Own (k ∷ q) p n) (counted n far) told later → OnwardTo (rebound bind c) (Own (k ∷ q) p n) (counted n near) (map (rebound_told bind) told) (rebound bind later)
+  gone_anew p n (Goes cs was) (Goes ds said) h again heard told later onward = rw (both_out cs ds was said heard) (by (eqb n 0 || goes_out (Goes ds said)) onward)
+    where
+      by : (b : Bool) → OnwardTo c (Own (k ∷ q) p n) (when b (Goes ds said)) told later → OnwardTo (rebound bind c) (Own (k ∷ q) p n) (when b (Goes cs was)) (map (rebound_told bind) told) (rebound bind later)
+      by true onward = goes_anew p n (Goes cs was) (Goes ds said) h again heard told later onward
+      by false onward = absurd onward
+  gone_anew p n near Waits h again heard told later onward = absurd (idle (eqb n 0 || false) onward)
+    where
+      idle : (b : Bool) → OnwardTo c (Own (k ∷ q) p n) (when b Waits) told later → ⊥
+      idle true h = h
+      idle false h = h
+  gone_anew p n near (Refused status) h again heard told later onward = absurd (idle (eqb n 0 || false) onward)
+    where
+      idle : (b : Bool) → OnwardTo c (Own (k ∷ q) p n) (when b (Refused status)) told later → ⊥
+      idle true h = h
+      idle false h = h
   gone_anew p n (Refused status) (Goes ds said) h again heard told later onward = absurd h
   gone_anew p n Waits (Goes ds said) h again heard told later onward = absurd h
 
@@ -204,8 +235,8 @@ module _ (bind : ℕ → ℕ) (c : World) (world : IsCutWorld c) (k : ℕ) (q : 
       let free = top_free c world in
       let far : Outcome = when (is_free c q t) (call_row c (user_at (k ∷ q)) p stage) in
       let near : Outcome = when (is_free (rebound bind c) q (seen_thread see t)) (call_row (rebound bind c) (user_at (k ∷ q)) p stage) in
-      let far_is : onward_row c (Own (k ∷ q) p n) ≡ far = row_is c (k ∷ q) p n stage inner t at.1 at.2 at.3 at.4 in
-      let near_is : onward_row (rebound bind c) (Own (k ∷ q) p n) ≡ near = row_is (rebound bind c) (k ∷ q) p n stage inner (seen_thread see t) at.1 at.2 (thread_named see c (rebound bind c) (k ∷ q) likeness_of t at.3) at.4 in
+      let far_is : onward_row c (Own (k ∷ q) p n) ≡ counted n far = row_is c (k ∷ q) p n stage inner t at.1 at.2 at.3 at.4 in
+      let near_is : onward_row (rebound bind c) (Own (k ∷ q) p n) ≡ counted n near = row_is (rebound bind c) (k ∷ q) p n stage inner (seen_thread see t) at.1 at.2 (thread_named see c (rebound bind c) (k ∷ q) likeness_of t at.3) at.4 in
       let quiet : (w : World) (b : Bool) → Quiet [] (when b (call_row w (user_at (k ∷ q)) p stage)) = λ w b. quiet-when [] b (call_row w (user_at (k ∷ q)) p stage) (quiet-call [] w (k ∷ q) p stage (inner.quiet w (k ∷ q) p)) in
       subst (λ (o : Outcome). OnwardTo (rebound bind c) (Own (k ∷ q) p n) o (map (rebound_told bind) told) (rebound bind later)) (sym near_is)
       (gone_anew p n near far (alike_there see c (rebound bind c) likeness_of free k q p stage inner t) (unseen t (alike_there (λ p. p) c c world free k q p stage inner t))
@@ -225,8 +256,8 @@ no_thread t v e h = let none : and_then thread_of v ≡ None = rw e refl in cc
 
 -- a row of a free thread that acts alike in every likeness at the same path
 pub row_anew : (bind : ℕ → ℕ) (c : World) (world : IsCutWorld c) (k : ℕ) (q : Path) (p : Option Path) (n : ℕ) (t : Thread) (row : World → Outcome) →
-    onward_row c (Own (k ∷ q) p n) ≡ when (is_free c q t) (row c) →
-    (thread_in (rebound bind c) (k ∷ q) ≡ Some (seen_thread (rebound_ptr bind) t) → onward_row (rebound bind c) (Own (k ∷ q) p n) ≡ when (is_free (rebound bind c) q (seen_thread (rebound_ptr bind) t)) (row (rebound bind c))) →
+    onward_row c (Own (k ∷ q) p n) ≡ counted n (when (is_free c q t) (row c)) →
+    (thread_in (rebound bind c) (k ∷ q) ≡ Some (seen_thread (rebound_ptr bind) t) → onward_row (rebound bind c) (Own (k ∷ q) p n) ≡ counted n (when (is_free (rebound bind c) q (seen_thread (rebound_ptr bind) t)) (row (rebound bind c)))) →
     thread_in c (k ∷ q) ≡ Some t →
     ((see : Ptr → Ptr) (small : World) → IsLikeness [] see small c → IsLikeOutcome [] see c (row small) (row c)) → ((w : World) → Quiet [] (row w)) →
     (told : List Told) (later : World) → IsOnward c (Own (k ∷ q) p n) told later → IsOnward (rebound bind c) (Own (k ∷ q) p n) (map (rebound_told bind) told) (rebound bind later)
@@ -236,7 +267,7 @@ row_anew bind c world k q p n t row far_is near_by is alike quiet told later onw
     let free = top_free c world in
     let far : Outcome = when (is_free c q t) (row c) in
     let near : Outcome = when (is_free (rebound bind c) q (seen_thread see t)) (row (rebound bind c)) in
-    let near_is : onward_row (rebound bind c) (Own (k ∷ q) p n) ≡ near = near_by (thread_named see c (rebound bind c) (k ∷ q) like t is) in
+    let near_is : onward_row (rebound bind c) (Own (k ∷ q) p n) ≡ counted n near = near_by (thread_named see c (rebound bind c) (k ∷ q) like t is) in
     subst (λ (o : Outcome). OnwardTo (rebound bind c) (Own (k ∷ q) p n) o (map (rebound_told bind) told) (rebound bind later)) (sym near_is)
     (gone_anew bind c world k q p n near far
     (when_same like (is_free (rebound bind c) q (seen_thread see t)) (is_free c q t) (row (rebound bind c)) (row c) (is_free-like like free q t ∙ ap (λ (y : Path). is_free c y t) (append-nil q)) (alike see (rebound bind c) like))

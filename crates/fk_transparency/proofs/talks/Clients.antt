@@ -1,11 +1,11 @@
 -- A Send and an Over of a client inside to a peer outside: the cut's own row for them is alike.
-use Rattle.std.proofs.Common.{◌≡◌, ℕ, ◌%◌, ◌<◌, ◌≤◌, eqb, Bool, true, false, cond, not, ◌&&◌, List, [], ◌∷◌, ◌++◌, Option, Some, None, is_some, unwrap_or, Ok, Err, refl, sym, ap, subst, ◌∙◌, arith, append_assoc}
+use Rattle.std.proofs.Common.{◌≡◌, ℕ, ◌%◌, ◌<◌, ◌≤◌, eqb, Bool, true, false, cond, not, ◌&&◌, ◌||◌, List, [], ◌∷◌, ◌++◌, Option, Some, None, is_some, unwrap_or, Ok, Err, refl, sym, ap, subst, ◌∙◌, arith, append_assoc}
 use Rattle.std.proofs.lemmas.Bool.{le-leb, lt-ltb, eqb-false}
 use Rattle.fk_model.specs.declared.limits.TheConstants.{PAGE_WORDS, MOST_WORDS}
 use Rattle.fk_model.specs.declared.statuses.status.TheConstants.{FULL, WRONGTURN}
 use Rattle.fk_model.specs.declared.stage.Stage.{Stage}
 use Rattle.fk_model.specs.declared.thread.Turn.TheVariants as turns
-use Rattle.fk_model.specs.Places.{Path, same_path, strip, is_within, parent, Ptr}
+use Rattle.fk_model.specs.Places.{Path, same_path, strip, is_within, parent, slot_of, Ptr}
 use Rattle.fk_model.specs.Places.Ptr.{Null, Dead, At, Out, Outside, Far}
 use Rattle.fk_model.specs.Objects.{Peer, Talk, Fault, Thread, thread_of, and_then, holds}
 use Rattle.fk_model.specs.Objects.Peer.{Server, Service, Parked}
@@ -25,7 +25,7 @@ use Rattle.fk_model.specs.TransferRows.{overwritten, block, moved_words, in_turn
 use Rattle.fk_model.specs.LinkRows.{user_at}
 use Rattle.fk_model.specs.Moves.{stage_row, is_for_porters, chooses, with_pick, closed, call_row}
 use Rattle.fk_model.specs.Cut.{is_out}
-use Rattle.fk_model.specs.Further.{is_outside, takes_words, sends_outside, passes_outside, talks_outside}
+use Rattle.fk_model.specs.Further.{is_outside, counted, takes_words, sends_outside, passes_outside, talks_outside}
 use Rattle.fk_model.specs.Seen.{count_in, writes_inside, only_fills, leads_out}
 use Rattle.fk_transparency.specs.Likeness.{seen_peer, seen_talk, PtrLikeness, HasLikeness, IfServer, AllInTalk, IsLikeness, IsOuter, AlikeOptions, IsSeenTalk, ReachLikeness}
 use Rattle.fk_transparency.specs.Likeness.PtrLikeness.{Nulls, Deads, Inside, PortAt, PortOut}
@@ -34,7 +34,7 @@ use Rattle.fk_transparency.specs.LikeChanges.{LikeChanges, IsLikeOutcome}
 use Rattle.fk_transparency.specs.LikeChanges.LikeChange.{Alters}
 use Rattle.fk_transparency.specs.LikeChanges.LikeChanges.{Empty, Both, Beyond}
 use Rattle.fk_laws.proofs.Frame.{or_off}
-use Rattle.fk_model.proofs.walks.PlaceLaws.{same_path_refl, strip_some}
+use Rattle.fk_model.proofs.walks.PlaceLaws.{same_path_refl, strip_some, strip-append}
 use Rattle.fk_transparency.proofs.likeness.Memory.{reach_word-like, words_at-like}
 use Rattle.fk_transparency.proofs.likeness.Talks.{talk_at-like}
 use Rattle.fk_transparency.proofs.likeness.Outcomes.{append-like}
@@ -58,7 +58,7 @@ module _ (root : Path) (see : Ptr → Ptr) (big : World) (n : ℕ) where
     pub counts : n ≡ unwrap_or (count_in (listed far)) 0
 
   abbrev pub AlikeTaking : Outcome → Outcome → Type 0
-  AlikeTaking near far = Takes far → IsLikeOutcome root see big near far
+  AlikeTaking near far = Takes far → IsLikeOutcome root see big (counted n near) far
 
 -- who isn't among the peers inside is outside
 outer_at : (w : World) (root : Path) (thread : Ptr) (e : Path × Thread) → IsOuter root (Server thread) → thread_at w thread ≡ Some e → is_within root e.0 ≡ false
@@ -87,7 +87,20 @@ outer_at w root (Out slot) e outer is = cc
 outer_at w root Outside e outer is = cc
 outer_at w root Far e outer is = cc
 
-module _ {root : Path} {see : Ptr → Ptr} {small big : World} (like : IsLikeness root see small big) (k : ℕ) (q : Path) (talk : Talk) (n address count : ℕ) where
+-- words that are sent to a port outside count
+counted_sent : (n m count : ℕ) (x : Path) (cs : List Change) (port : Ptr) (words : List ℕ) → is_out port ≡ true → counted n (has_sent (user_at x) m count cs (Words port words)) ≡ has_sent (user_at x) m count cs (Words port words)
+counted_sent n m count x cs port words out = by (eqb m count)
+  where
+    so : (a : Bool) (ds : List Change) → when (a || is_out port) (Goes ds (Words port words)) ≡ Goes ds (Words port words)
+    so true ds = refl
+    so false ds = rw out refl
+
+    by : (b : Bool) → counted n (cond b (Goes ((cs ++ Alter (slot_of x ∷ parent x) (Shift m) ∷ []) ++ Alter (slot_of x ∷ parent x) (Finish []) ∷ []) (Words port words)) (Goes (cs ++ Alter (slot_of x ∷ parent x) (Shift m) ∷ []) (Words port words))) ≡
+        cond b (Goes ((cs ++ Alter (slot_of x ∷ parent x) (Shift m) ∷ []) ++ Alter (slot_of x ∷ parent x) (Finish []) ∷ []) (Words port words)) (Goes (cs ++ Alter (slot_of x ∷ parent x) (Shift m) ∷ []) (Words port words))
+    by true = so (eqb n 0) _
+    by false = so (eqb n 0) _
+
+module _ {root : Path} {see : Ptr → Ptr} {small big : World} (like : IsLikeness root see small big) (k : ℕ) (q : Path) (talk : Talk) (n address count : ℕ) (outward : is_out (see talk.port) ≡ true) where
   abbrev Alike : Outcome → Outcome → Type 0
   Alike = IsLikeOutcome root see big
 
@@ -101,9 +114,9 @@ module _ {root : Path} {see : Ptr → Ptr} {small big : World} (like : IsLikenes
   near_row page = takes_words (user_at (k ∷ q)) (k ∷ q) (see talk.port) n address count page
 
   -- the row of the cut, where so many words are taken as the big world moves
-  took : (page : List ℕ) (m : ℕ) (ds : List Change) (told : Said) → n ≡ m → 0 < m → m ≤ moved_words address count 0 MOST_WORDS → LikeChanges root see big (Alter (k ∷ q) (CountMoved m) ∷ []) ds → Alike (near_row page) (has_sent (user_at me) m count ds told)
+  took : (page : List ℕ) (m : ℕ) (ds : List Change) (told : Said) → n ≡ m → 0 < m → m ≤ moved_words address count 0 MOST_WORDS → LikeChanges root see big (Alter (k ∷ q) (CountMoved m) ∷ []) ds → Alike (counted n (near_row page)) (has_sent (user_at me) m count ds told)
   took page m ds told e some few h =
-      rw (e, lt-ltb 0 m some, le-leb m (moved_words address count 0 MOST_WORDS) few) (sent-like like k q m count (Alter (k ∷ q) (CountMoved m) ∷ []) ds (Words (see talk.port) (block m address page)) told h)
+      rw (e, lt-ltb 0 m some, le-leb m (moved_words address count 0 MOST_WORDS) few, counted_sent m m count (k ∷ q) (Alter (k ∷ q) (CountMoved m) ∷ []) (see talk.port) (block m address page) outward) (sent-like like k q m count (Alter (k ∷ q) (CountMoved m) ∷ []) ds (Words (see talk.port) (block m address page)) told h)
 
   -- what is listed where words are sent
   sent_list : (P : List Change → Type 0) (m : ℕ) (ds : List Change) (told : Said) → ((tail : List Change) → P (ds ++ tail)) → P (listed (has_sent (user_at me) m count ds told))
@@ -175,20 +188,20 @@ module _ {root : Path} {see : Ptr → Ptr} {small big : World} (like : IsLikenes
 
   at_own : (near far : Path → ℕ → Outcome) (a b : Reach) → ReachLikeness root see big a b → ((s : Path) (page : ℕ) → Taking (near s page) (far (s ++ root) page)) → Taking (own_page_at (k ∷ q) false near a) (own_page_at me false far b)
   at_own near far _ _ (Homes s page) goes = goes s page
-  at_own near far _ _ (Misses s page None None h) goes = λ takes. refl
+  at_own near far _ _ (Misses s page None None h) goes = λ takes. rw (takes.counts) refl
   at_own near far _ _ (Misses s page (Some seen) (Some port) h) goes = λ takes.
       let fault : Fault = record { page = page; write = false; port = port; taker = None } in
-      rw h.0 (Both (Alters k q _ (SetFault (Some fault)) refl (h.1, tt)) Empty)
+      rw (takes.counts, h.0) (Both (Alters k q _ (SetFault (Some fault)) refl (h.1, tt)) Empty)
   at_own near far _ _ (Misses s page None (Some port) h) goes = absurd h
   at_own near far _ _ (Misses s page (Some seen) None h) goes = absurd h
-  at_own near far _ _ Bads goes = λ takes. refl
+  at_own near far _ _ Bads goes = λ takes. rw (takes.counts) refl
 
   sends_out_alike : IsOuter root talk.peer → Taking (sends_outside small (user_at (k ∷ q)) n address count near_line) (sends big (user_at me) turns.Client address count far_line)
   sends_out_alike outer = by (eqb count 0) refl
     where
       by : (b : Bool) → eqb count 0 ≡ b → Taking (cond b (done (user_at (k ∷ q)) [] []) (own_page small (user_at (k ∷ q)) address false (λ s page. takes_words (user_at (k ∷ q)) (k ∷ q) (see talk.port) n address count (words_at small s page))))
           (cond b (done (user_at me) [] []) (own_page big (user_at me) address false (λ s page. sends_to big (user_at me) turns.Client far_line address count (words_at big s page) talk.peer)))
-      by true e = λ takes. Both (Alters k q _ (Finish []) refl tt) Empty
+      by true e = λ takes. rw (takes.counts) (Both (Alters k q _ (Finish []) refl tt) Empty)
       by false e = at_own _ _ _ _ (reach_word-like like q address false) (λ s page. rw (words_at-like like s page) (to (words_at big (s ++ root) page) talk.peer outer e))
 
   -- ---- the row of a Send
@@ -200,7 +213,7 @@ module _ {root : Path} {see : Ptr → Ptr} {small big : World} (like : IsLikenes
     where
       by : (b : Bool) → Taking (cond b (Ok near_line) (Err WRONGTURN) >>= sends_outside small (user_at (k ∷ q)) n address count) (cond b (Ok far_line) (Err WRONGTURN) >>= sends big (user_at me) turns.Client address count)
       by true = sends_out_alike outer
-      by false = λ takes. refl
+      by false = λ takes. rw (takes.counts) refl
 
   -- ---- an Over
 
@@ -253,6 +266,13 @@ picked w x y stage picks = rw picks (by _)
     by (Refused status) = refl
     by Waits = refl
     by (Goes cs said) = refl
+
+pub inward_only : (root : Path) (big : World) (p seen : Ptr) → PtrLikeness root big p seen → is_out seen ≡ false → leads_out root p ≡ false
+inward_only root big _ _ Nulls h = refl
+inward_only root big _ _ Deads h = refl
+inward_only root big _ _ (Inside x) h = rw (strip-append root x) refl
+inward_only root big _ _ (PortAt x slot apart kind) h = cc
+inward_only root big _ _ (PortOut old slot) h = cc
 
 pub outward_only : (root : Path) (big : World) (p seen : Ptr) → PtrLikeness root big p seen → is_out seen ≡ true → leads_out root p ≡ true
 outward_only root big _ _ Nulls h = cc

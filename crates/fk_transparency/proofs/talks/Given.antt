@@ -25,7 +25,7 @@ use Rattle.fk_model.specs.Holds.{is_free}
 use Rattle.fk_model.specs.Outcomes.{Said, Outcome, ◌>>=◌, when, done, listed}
 use Rattle.fk_model.specs.Outcomes.Outcome.{Refused, Waits, Goes}
 use Rattle.fk_model.specs.Outcomes.Said.{Nothing, Full, Given as SaidGiven}
-use Rattle.fk_model.specs.NativeRows.{is_serving_port, if_receiving, gives_words, gives_to, give_row}
+use Rattle.fk_model.specs.NativeRows.{is_serving_port, has_turn, if_receiving, gives_words, gives_to, give_row}
 use Rattle.fk_model.specs.Readers.{own_page_at, own_page, their_page_at, their_page}
 use Rattle.fk_model.specs.Talks.{Line, line, same_side, receiving, thread_at}
 use Rattle.fk_model.specs.TransferRows.{overwritten, block, to_page_end, moved_words, sends_words, sends_into, sends_to_thread, sends, send}
@@ -361,7 +361,7 @@ module _ (w : World) (nester : Path) (slot : ℕ) (plain : IsPlain w nester slot
 
   pub give_seen : (port : Path) → client_at w port ≡ Some client → (words : List ℕ) → Touches (give_row w port words)
   unfolding give_row
-  give_seen port served [] = touches-when (is_serving_port w port) _ (nothing_seen (Goes [] (SaidGiven (At port) 0)) refl refl)
+  give_seen port served [] = touches-when (is_serving_port w port && has_turn w port) _ (nothing_seen (Goes [] (SaidGiven (At port) 0)) refl refl)
   give_seen port served (word ∷ words) = touches-when (is_serving_port w port) _ (rw (served, is) (native_client (gives_to w port (word ∷ words)) (λ turn free receive awaits. native_gives turn free receive awaits port (word ∷ words) (ne_eqb (length (word ∷ words)) 0 (λ e. omega (arith, e))))))
 
 -- ---- the law

@@ -18,7 +18,7 @@ use Rattle.fk_model.specs.Outcomes.{Outcome, when, listed}
 use Rattle.fk_model.specs.Outcomes.Outcome.{Refused, Waits, Goes}
 use Rattle.fk_model.specs.Outcomes.Said.{Nothing}
 use Rattle.fk_model.specs.Talks.{same_side, receiving}
-use Rattle.fk_model.specs.NativeRows.{is_serving_port, if_receiving, with_client, gives_words, gives_to, give_row, passes_client, over_row}
+use Rattle.fk_model.specs.NativeRows.{is_serving_port, has_turn, if_receiving, with_client, gives_words, gives_to, give_row, passes_client, over_row}
 use Rattle.fk_model.specs.Moves.{with_pick, outcome, GoesAllowed, stepped, step}
 use Rattle.fk_model.specs.Valid.{IsValid, kind_there}
 use Rattle.fk_model.specs.Runs.{Event}
@@ -122,12 +122,12 @@ module _ (w : World) (nester : Path) (slot : ℕ) (plain : IsPlain w nester slot
       by true h = h
       by false h = absurd h
 
+  holds_when : (b : Bool) (o : Outcome) → GoesAllowed w port (when b o) → b ≡ true
+  holds_when true o h = refl
+  holds_when false o h = absurd h
+
   serves_when : (o : Outcome) → GoesAllowed w port (when (is_serving_port w port) o) → is_serving_port w port ≡ true
-  serves_when o = by (is_serving_port w port)
-    where
-      by : (b : Bool) → GoesAllowed w port (when b o) → b ≡ true
-      by true h = refl
-      by false h = absurd h
+  serves_when o = holds_when (is_serving_port w port) o
 
   lies_outside : is_serving_port w port ≡ true → is_within root port ≡ false
   lies_outside serving = by (is_within root port) refl
@@ -138,7 +138,7 @@ module _ (w : World) (nester : Path) (slot : ℕ) (plain : IsPlain w nester slot
 
   give_serves : (words : List ℕ) → GoesAllowed w port (give_row w port words) → is_serving_port w port ≡ true
   unfolding give_row
-  give_serves [] = serves_when _
+  give_serves [] = λ ready. (and_parts (is_serving_port w port) (has_turn w port) (holds_when (is_serving_port w port && has_turn w port) _ ready)).0
   give_serves (word ∷ words) = serves_when _
 
   over_serves : GoesAllowed w port (over_row w port) → is_serving_port w port ≡ true
@@ -207,7 +207,7 @@ still_with root w port go still = by (client_at w port) refl
 
 still_give : (root : Path) (w : World) (port : Path) (words : List ℕ) → Still root (give_row w port words)
 unfolding give_row
-still_give root w port [] = still-when root (is_serving_port w port) _ (still-goes tt)
+still_give root w port [] = still-when root (is_serving_port w port && has_turn w port) _ (still-goes tt)
 still_give root w port (word ∷ words) =
     still_with root w port (gives_to w port (word ∷ words))
     (λ x receive. still-if root (eqb receive.1 0) _ _ (still-goes (tt, tt)) (still-their root (gives_words w port x (word ∷ words) receive.0 receive.1) (reach_word w (parent x) receive.0 true) (λ s page. still-goes (tt, (tt, (tt, tt))))))

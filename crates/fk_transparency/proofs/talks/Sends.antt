@@ -26,7 +26,7 @@ use Rattle.fk_model.specs.LinkRows.{user_at}
 use Rattle.fk_model.specs.Moves.{stage_row, is_for_porters, chooses, with_pick, closed, call_row, goes_on, outcome, GoesAllowed, stepped, step}
 use Rattle.fk_model.specs.declared.statuses.status.TheConstants.{DENIED}
 use Rattle.fk_model.specs.Cut.{ports_of, cut_ptr, cut, IsPlain}
-use Rattle.fk_model.specs.Further.{Onward, Told, talks_outside, outside_row, own_stage, own_move, own_row, thread_in, onward_row, IsOnward}
+use Rattle.fk_model.specs.Further.{Onward, Told, talks_outside, outside_row, own_stage, own_move, own_row, counted, thread_in, onward_row, IsOnward}
 use Rattle.fk_model.specs.Further.Onward.{Own}
 use Rattle.fk_model.specs.Seen.{sends_out, only_fills, writes_inside, words_out, picked_inside, own_of, stage_touch, outer_touch, row_of}
 use Rattle.fk_model.specs.Seen.Seen.{Onwards, Unseen, Other}
@@ -39,7 +39,7 @@ use Rattle.fk_transparency.proofs.likeness.Holds.{strip_none, is_free-like, unhe
 use Rattle.fk_transparency.proofs.likeness.Servers.{client_of-like, cut-served}
 use Rattle.fk_transparency.proofs.likeness.Sends.{send-same, over-same, server_near}
 use Rattle.fk_transparency.proofs.cut.Plain.{AreQuiet, changes-clear, clear-plain, same-plain}
-use Rattle.fk_transparency.proofs.cut.Inside.{quiet-then, call_row-like, call_closed, thread_seen, has_gone, HasGone, thread_beneath}
+use Rattle.fk_transparency.proofs.cut.Inside.{quiet-then, call_row-like, call_closed, thread_seen, has_gone, HasGone, thread_beneath, silent_counts}
 use Rattle.fk_transparency.proofs.cut.Outside.{untouched, stage_outcome, stage_called}
 
 -- ---- rows whose changes are quiet, whatever they tell
@@ -172,9 +172,10 @@ own_is c x p n t stage todo rest e = by t.mode e
         cond (talks_outside c x && is_none p) (when (is_free c (parent x) t) (closed (user_at x) (outside_row c (user_at x) n stage (call_row c (user_at x) p stage)))) (when (is_free c (parent x) t) (call_row c (user_at x) p stage))
     by mode e = rw e refl
 
-pub either_way : (root : Path) (see : Ptr → Ptr) (big : World) (test free : Bool) (own other far : Outcome) → free ≡ true → (test ≡ true → IsLikeOutcome root see big own far) → (test ≡ false → IsLikeOutcome root see big other far) → IsLikeOutcome root see big (cond test (when free own) (when free other)) far
-either_way root see big true free own other far e h g = rw e (h refl)
-either_way root see big false free own other far e h g = rw e (g refl)
+pub either_way : (root : Path) (see : Ptr → Ptr) (big : World) (n : ℕ) (test free : Bool) (own other far : Outcome) → free ≡ true → (test ≡ true → IsLikeOutcome root see big (counted n own) far) → (test ≡ false → IsLikeOutcome root see big (counted n other) far) →
+    IsLikeOutcome root see big (counted n (cond test (when free own) (when free other))) far
+either_way root see big n true free own other far e h g = rw e (h refl)
+either_way root see big n false free own other far e h g = rw e (g refl)
 
 module _ (w : World) (nester : Path) (slot : ℕ) (plain : IsPlain w nester slot) (k : ℕ) (q : Path) (pick : Option Path) (stage : Stage) (at : IsAtStage w (k ∷ (q ++ slot ∷ nester)) stage) where
   abbrev root : Path
@@ -212,12 +213,12 @@ module _ (w : World) (nester : Path) (slot : ℕ) (plain : IsPlain w nester slot
   abbrev Gone : Onward → World → Type 0
   Gone m later = IsPlain later nester slot × ((told : List Told) × IsOnward small m told (cut later nester slot))
 
-  gone : (p : Option Path) (n : ℕ) → Still root far → is_free w (q ++ root) t ≡ true → AlikeHere (own p n) far → GoesAllowed w me far → Gone (Own (k ∷ q) p n) (stepped w far).world
+  gone : (p : Option Path) (n : ℕ) → Still root far → is_free w (q ++ root) t ≡ true → AlikeHere (counted n (own p n)) far → GoesAllowed w me far → Gone (Own (k ∷ q) p n) (stepped w far).world
   unfolding onward_row
   gone p n still free alike ready = by (thread_in small (k ∷ q)) (rw ((cut-like w nester slot plain).bodies (k ∷ q)) (thread_seen see k q (w.body me) t at.3))
     where
-      by : (o : Option Thread) → o ≡ Some (seen_thread see t) → HasGone w nester slot plain k q (Own (k ∷ q) p n) (own_row small (k ∷ q) p n o) far
-      by o e = rw e (has_gone w nester slot plain k q p n (own p n) far (unheld-free (cut-like w nester slot plain) q t free) alike still.quiet ready)
+      by : (o : Option Thread) → o ≡ Some (seen_thread see t) → HasGone w nester slot plain k q (Own (k ∷ q) p n) (counted n (own_row small (k ∷ q) p n o)) far
+      by o e = rw e (has_gone w nester slot plain k q p n (counted n (own p n)) far (unheld-free (cut-like w nester slot plain) q t free) alike still.quiet ready)
 
   seen_own : (test : Bool) (n : ℕ) (r : Option (Option Path)) (m : Onward) → cond test None (option_map (λ (p : Option Path). Own (k ∷ q) p n) r) ≡ Some m → (p : Option Path) × (test ≡ false) × (r ≡ Some p) × (m ≡ Own (k ∷ q) p n)
   seen_own true n r m h = cc
@@ -241,7 +242,7 @@ module _ (w : World) (nester : Path) (slot : ℕ) (plain : IsPlain w nester slot
   -- the law, where the row of the cut is alike whenever the move is seen as its own
   pub own_law : Still root far →
       ((p : Option Path) → is_none p ≡ is_none pick → is_frozen w root ≡ false → is_free w (q ++ root) t ≡ true → (sends_out w root me && only_fills root (listed far)) ≡ false → (writes_inside root (listed far) && sends_out w root me) ≡ false →
-      AlikeHere (own p (words_out w root me (listed far))) far) → KeepsCut w nester slot (moves me pick)
+      AlikeHere (counted (words_out w root me (listed far)) (own p (words_out w root me (listed far)))) far) → KeepsCut w nester slot (moves me pick)
   unfolding step
   own_law still alike sound same fit ready (Onwards m) seen = by (is_free w (q ++ root) t) refl
     where
@@ -268,9 +269,10 @@ module _ (w : World) (nester : Path) (slot : ℕ) (plain : IsPlain w nester slot
       let like = cut-like w nester slot plain in
       let row = call_row-like like k q p pick stage e (alike p free) in
       let n : ℕ = words_out w root me (listed far) in
+      let none : n ≡ 0 = silent_counts w small root me (k ∷ q) stage at silent (listed far) in
       rw (own_is small (k ∷ q) p n (seen_thread see t) stage at.1 at.2 at.4)
-      (either_way root see w (talks_outside small (k ∷ q) && is_none p) (is_free small q (seen_thread see t)) _ _ far (is_free-like like free q t ∙ f)
-      (λ on. rw (silent n (call_row small (user_at (k ∷ q)) p stage), call_closed small (k ∷ q) p stage) row) (λ off. row)))
+      (either_way root see w n (talks_outside small (k ∷ q) && is_none p) (is_free small q (seen_thread see t)) _ _ far (is_free-like like free q t ∙ f)
+      (λ on. rw (none, silent 0 (call_row small (user_at (k ∷ q)) p stage), call_closed small (k ∷ q) p stage) row) (λ off. rw none row)))
 
 -- ---- by a server
 

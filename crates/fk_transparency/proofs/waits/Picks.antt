@@ -18,7 +18,7 @@ use Rattle.fk_transparency.specs.CutLaws.{KeepsCut, IsAtStage, moves}
 use Rattle.fk_transparency.specs.Likeness.{seen_thread, AlikeOptions, IsBeneath}
 use Rattle.fk_transparency.specs.LikeChanges.{IsLikeOutcome}
 use Rattle.fk_model.proofs.walks.PlaceLaws.{strip-append, strip_some}
-use Rattle.fk_transparency.proofs.cut.Inside.{Quiet, call_closed, own_form, own_row_of, move_alike}
+use Rattle.fk_transparency.proofs.cut.Inside.{Quiet, call_closed, own_form, own_row_of, move_alike, silent_counts}
 use Rattle.fk_transparency.proofs.cut.Outside.{stepped-plain, stage_outcome}
 
 -- whom it picks stands beneath the root, at the path that is picked in the cut
@@ -61,7 +61,7 @@ module _ (w : World) (nester : Path) (slot : ℕ) (plain : IsPlain w nester slot
       let t = at.0 in
       let own = own_row_of w nester slot plain k q pick t at.3 (moves me pick) (outcome w me pick asks.Run) (strip root me) m (strip-append root (k ∷ q)) seen.1 in
       let form = own_form w nester slot plain k q pick t at.3 _ (words_out w root me (listed (outcome w me pick asks.Run))) (picked_inside root pick) m own in
-      rw form.2 (move_alike w nester slot plain k q pick t at.3 form.0 _ (λ free. by t.mode at.4 form.0 _ (alike form.0 (picked_beneath root pick form.0 form.1) free)) (rw (at_stage t.mode at.4) (quiet form.0 form.1).quiet) ready)
+      rw form.2 (move_alike w nester slot plain k q pick t at.3 form.0 _ (silent_counts w small root me (k ∷ q) stage at (λ n o. silent n (user_at (k ∷ q)) o) (listed (outcome w me pick asks.Run))) (λ free. by t.mode at.4 form.0 _ (alike form.0 (picked_beneath root pick form.0 form.1) free)) (rw (at_stage t.mode at.4) (quiet form.0 form.1).quiet) ready)
     where
       at_stage : (mode : Mode) → mode ≡ Calling (stage ∷ at.1) at.2 → goes_on w me pick at.0 mode ≡ far
       at_stage mode e = rw e refl
