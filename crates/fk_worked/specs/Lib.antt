@@ -9,3 +9,5 @@ pub mod States
 pub mod Porters
 pub mod Cuts
 pub mod Instructions
+pub mod Further
+pub mod Calls

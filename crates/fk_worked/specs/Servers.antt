@@ -90,7 +90,11 @@ two_clients = world_of
 unfoldable pub leaving : World
 leaving = world_of ((port, Port None true) ∷ (1 ∷ [], Space 1 None) ∷ (client, with_talk (served turns.Client 0) (calling 20 (39 ∷ []))) ∷ []) []
 
+-- a client runs on at its server's turn
+unfoldable pub idling : World
+idling = world_of ((port, Port None true) ∷ (1 ∷ [], Space 1 None) ∷ (client, with_talk (served turns.Server 0) (running 20 [])) ∷ []) []
+
 -- ---- to compute in these worlds is to unfold these
 unfoldable pub servers : Unit {0}
-unfolding machine to_console awaiting two_clients leaving
+unfolding machine to_console awaiting two_clients leaving idling
 servers = tt

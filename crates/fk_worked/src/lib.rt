@@ -5,7 +5,9 @@
 //! hand from the rules; the prover computes the moves and compares.
 #![tactic(auto)]
 
+pub mod calls;
 pub mod cuts;
+pub mod further;
 pub mod holds;
 pub mod instructions;
 pub mod locks;

@@ -7,7 +7,7 @@ ghost use Rattle.fk_model.specs.Places.Ptr.{At};
 ghost use Rattle.fk_model.specs.Outcomes.Said.{Taken, Words, Passed, Given, Full, Ended};
 ghost use Rattle.fk_model.specs.Runs.{run, IsLegal};
 ghost use Rattle.fk_worked.specs.Worked.{becomes, IsReadyTo, told, goes, accepts, gives, hands_over, running, calling, halted, with_talk, numbers_from};
-ghost use Rattle.fk_worked.specs.Servers.{client, port, served, to_console, still_sending, entered, and_accepted, and_sent_one, and_sent_two, and_turned, and_returned, awaiting, second, two_clients, leaving};
+ghost use Rattle.fk_worked.specs.Servers.{client, port, served, to_console, still_sending, entered, and_accepted, and_sent_one, and_sent_two, and_turned, and_returned, awaiting, second, two_clients, leaving, idling};
 
 /// A program sends 70 words to a native server in two blocks, the first of them 64 words, and gets
 /// the turn back.
@@ -48,6 +48,19 @@ pub fn a_native_server_gives_its_reply()
     ensures full { (run (awaiting 0) (gives port (8 ∷ []) ∷ [])).body client ≡
         Some (with_talk (served turns.Server 0) (running 21 (15 ∷ 1 ∷ 128 ∷ 0 ∷ 192 ∷ 0 ∷ []))) }
     ensures told_full { told (awaiting 0) (gives port (8 ∷ [])) ≡ Full (At port) }
+{}
+
+/// With nothing to give it is done at once, whatever its client does, but not before it has a client
+/// that has handed it the turn.
+pub fn a_native_server_gives_nothing_at_its_turn()
+    ensures receiving { IsReadyTo (awaiting 4) (gives port []) }
+    ensures given { told (awaiting 4) (gives port []) ≡ Given (At port) 0 }
+    ensures client { (run (awaiting 4) (gives port [] ∷ [])).body client ≡ (awaiting 4).body client }
+    ensures no_room { IsReadyTo (awaiting 0) (gives port []) }
+    ensures running { IsReadyTo idling (gives port []) }
+    ensures no_words { ¬ IsReadyTo idling (gives port (8 ∷ [])) }
+    ensures clients_turn { ¬ IsReadyTo leaving (gives port []) }
+    ensures no_client { ¬ IsReadyTo two_clients (gives port []) }
 {}
 
 /// A native server takes up a parked talk where it stands, and has one client at a time. It is told
