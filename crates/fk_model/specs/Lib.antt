@@ -26,7 +26,7 @@ pub mod Who
 pub mod Rules
 pub mod Shapes
 pub mod Valid
-pub mod Sound
+pub mod Whole
 pub mod Cut
 pub mod Closed
 pub mod Further

@@ -10,7 +10,7 @@ use Rattle.fk_model.specs.Objects.Mode.{Running, Calling}
 use Rattle.fk_model.specs.World.{World}
 use Rattle.fk_model.specs.Moves.{IsReady}
 use Rattle.fk_model.specs.Valid.{is_fit}
-use Rattle.fk_model.specs.Sound.{IsSound}
+use Rattle.fk_model.specs.Whole.{IsWhole}
 use Rattle.fk_model.specs.Runs.{Event, after}
 use Rattle.fk_model.specs.Cut.{cut, IsPlain}
 use Rattle.fk_model.specs.Further.{Told, IsOnward}
@@ -23,10 +23,10 @@ HasDone w nester slot e (Onwards m) = IsPlain (after w e) nester slot × ((told 
 HasDone w nester slot e Unseen = IsPlain (after w e) nester slot
 HasDone w nester slot e Other = Unit {0}
 
--- the law, for one event of a world that a store can hold
+-- the law, for one event
 abbrev pub KeepsCut : World → Path → ℕ → Event → Type 0
 KeepsCut w nester slot e =
-    IsSound w → IsPlain w nester slot → is_fit w e.mover e.ask ≡ true → IsReady w e.mover e.pick e.ask → (seen : Seen) → IsSeen w nester slot e seen → HasDone w nester slot e seen
+    IsWhole w → IsPlain w nester slot → is_fit w e.mover e.ask ≡ true → IsReady w e.mover e.pick e.ask → (seen : Seen) → IsSeen w nester slot e seen → HasDone w nester slot e seen
 
 -- ---- the kinds of move for which it is proved
 

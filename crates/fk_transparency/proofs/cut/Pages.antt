@@ -23,7 +23,7 @@ use Rattle.fk_model.specs.LinkRows.{user_at}
 use Rattle.fk_model.specs.SpaceRows.{is_page, is_bad_target, copies, copies_home, page_take}
 use Rattle.fk_model.specs.Moves.{with_pick, closed, call_row, outcome, IsReady, stepped, step}
 use Rattle.fk_model.specs.Valid.{kind_there, is_fit}
-use Rattle.fk_model.specs.Sound.{IsSound}
+use Rattle.fk_model.specs.Whole.{IsWhole}
 use Rattle.fk_model.specs.Runs.{Event}
 use Rattle.fk_model.specs.Cut.{ports_of, cut_ptr, cut, IsPlain}
 use Rattle.fk_model.specs.Further.{Touch, Onward, Told, touch_row, onward_row, IsOnward}
@@ -167,7 +167,7 @@ pub seen_outside : (w : World) (root x : Path) (pick : Option Path) (o : Outcome
 seen_outside w root x pick o r m out = rw out (λ h. h)
 
 -- who moves stands nowhere but in a space
-pub stands_in_slot : (w : World) → IsSound w → (x : Path) (t : Thread) → and_then thread_of (w.body x) ≡ Some t → slot_of x ∷ parent x ≡ x
+pub stands_in_slot : (w : World) → IsWhole w → (x : Path) (t : Thread) → and_then thread_of (w.body x) ≡ Some t → slot_of x ∷ parent x ≡ x
 unfolding kind_there
 stands_in_slot w sound [] t at = absurd (by (w.body []) sound.valid.rooted.root at)
   where

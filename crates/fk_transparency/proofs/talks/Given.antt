@@ -32,7 +32,7 @@ use Rattle.fk_model.specs.TransferRows.{overwritten, block, to_page_end, moved_w
 use Rattle.fk_model.specs.LinkRows.{user_at}
 use Rattle.fk_model.specs.Moves.{with_pick, closed, call_row, outcome, IsReady, stepped, step}
 use Rattle.fk_model.specs.Valid.{is_fit, kind_there, leads_there, is_good_peer, lies_with}
-use Rattle.fk_model.specs.Sound.{IsSound}
+use Rattle.fk_model.specs.Whole.{HasFullPages, IsWhole}
 use Rattle.fk_model.specs.Cut.{is_out, ports_of, cut_ptr, cut, IsPlain}
 use Rattle.fk_model.specs.Further.{Touch, Onward, Told, if_awaiting, given_to, filled_at, thread_in, touch_row, IsOnward}
 use Rattle.fk_model.specs.Further.Touch.{Given, Filled}
@@ -93,10 +93,6 @@ there-word w s address write = by (ltb address SPACE_WORDS)
     by true = there-reach_by MAPPINGS w s (address / PAGE_WORDS) write
     by false = tt
 
--- every page has all its words
-abbrev pub HasFullPages : World → Type 0
-HasFullPages w = (s : Path) (page : ℕ) (words : List ℕ) → w.page s page ≡ Some words → length words ≡ PAGE_WORDS
-
 full_page : (w : World) → HasFullPages w → (s : Path) (page : ℕ) → is_some (w.page s page) ≡ true → length (words_at w s page) ≡ PAGE_WORDS
 full_page w full s page there = by (w.page s page) refl there
   where
@@ -145,7 +141,7 @@ its_client w j s c served = by (and_then thread_of (w.body c)) refl (find_some (
     by (Some t) is h = of_talk t is t.talk refl h
 
 -- it lies inside, and its talk is at a port outside
-pub served_outward : (w : World) (nester : Path) (slot : ℕ) → IsPlain w nester slot → IsSound w → (j : ℕ) (s : Path) → is_within (slot ∷ nester) (j ∷ s) ≡ false → (k : ℕ) (z : Path) → client_of w (j ∷ s) ≡ Some (k ∷ (z ++ slot ∷ nester)) →
+pub served_outward : (w : World) (nester : Path) (slot : ℕ) → IsPlain w nester slot → IsWhole w → (j : ℕ) (s : Path) → is_within (slot ∷ nester) (j ∷ s) ≡ false → (k : ℕ) (z : Path) → client_of w (j ∷ s) ≡ Some (k ∷ (z ++ slot ∷ nester)) →
     (t : Thread) × (talk : Talk) × (and_then thread_of (w.body (k ∷ (z ++ slot ∷ nester))) ≡ Some t) × (t.talk ≡ Some talk) × (is_out (cut_ptr (ports_of w nester slot) nester slot talk.port) ≡ true)
 served_outward w nester slot plain sound j s out k z served =
     let its = its_client w j s (k ∷ (z ++ slot ∷ nester)) served in
@@ -366,7 +362,7 @@ module _ (w : World) (nester : Path) (slot : ℕ) (plain : IsPlain w nester slot
 
 -- ---- the law
 
-module _ (w : World) (nester : Path) (slot : ℕ) (plain : IsPlain w nester slot) (full : HasFullPages w) (sound : IsSound w) (j : ℕ) (s : Path) (out : is_within (slot ∷ nester) (j ∷ s) ≡ false) (pick : Option Path) (address count : ℕ) (at : IsAtStage w (j ∷ s) (ServerSend address count)) where
+module _ (w : World) (nester : Path) (slot : ℕ) (plain : IsPlain w nester slot) (full : HasFullPages w) (sound : IsWhole w) (j : ℕ) (s : Path) (out : is_within (slot ∷ nester) (j ∷ s) ≡ false) (pick : Option Path) (address count : ℕ) (at : IsAtStage w (j ∷ s) (ServerSend address count)) where
   abbrev asked : Outcome
   asked = outcome w (j ∷ s) pick asks.Run
 

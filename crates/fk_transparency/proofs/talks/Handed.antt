@@ -25,7 +25,7 @@ use Rattle.fk_model.specs.TransferRows.{passes_to_thread, passes_to, over}
 use Rattle.fk_model.specs.LinkRows.{user_at}
 use Rattle.fk_model.specs.Moves.{with_pick, closed, call_row, outcome, IsReady, stepped, step}
 use Rattle.fk_model.specs.Valid.{is_fit}
-use Rattle.fk_model.specs.Sound.{IsSound}
+use Rattle.fk_model.specs.Whole.{IsWhole}
 use Rattle.fk_model.specs.Cut.{is_out, ports_of, cut_ptr, cut, IsPlain}
 use Rattle.fk_model.specs.Further.{Touch, Onward, Told, thread_in, touch_row, IsOnward}
 use Rattle.fk_model.specs.Further.Touch.{Handed}
@@ -155,7 +155,7 @@ module _ (w : World) (nester : Path) (slot : ℕ) (plain : IsPlain w nester slot
 
 -- ---- the law
 
-module _ (w : World) (nester : Path) (slot : ℕ) (plain : IsPlain w nester slot) (sound : IsSound w) (j : ℕ) (s : Path) (out : is_within (slot ∷ nester) (j ∷ s) ≡ false) (pick : Option Path) (at : IsAtStage w (j ∷ s) ServerOver) where
+module _ (w : World) (nester : Path) (slot : ℕ) (plain : IsPlain w nester slot) (sound : IsWhole w) (j : ℕ) (s : Path) (out : is_within (slot ∷ nester) (j ∷ s) ≡ false) (pick : Option Path) (at : IsAtStage w (j ∷ s) ServerOver) where
   abbrev asked : Outcome
   asked = outcome w (j ∷ s) pick asks.Run
 

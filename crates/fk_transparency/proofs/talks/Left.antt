@@ -18,7 +18,7 @@ use Rattle.fk_model.specs.Talks.{line, is_talking}
 use Rattle.fk_model.specs.LinkRows.{user_at, end_all, disconnect}
 use Rattle.fk_model.specs.Moves.{closed, call_row, outcome, GoesAllowed, IsReady, stepped, step}
 use Rattle.fk_model.specs.Valid.{is_fit}
-use Rattle.fk_model.specs.Sound.{IsSound}
+use Rattle.fk_model.specs.Whole.{IsWhole}
 use Rattle.fk_model.specs.Cut.{is_out, ports_of, cut_ptr, cut, IsPlain}
 use Rattle.fk_model.specs.Further.{Touch, Onward, Told, thread_in, touch_row, IsOnward}
 use Rattle.fk_model.specs.Further.Touch.{Left}
@@ -94,7 +94,7 @@ module _ (w : World) (nester : Path) (slot : ℕ) (plain : IsPlain w nester slot
 
 -- ---- the law
 
-module _ (w : World) (nester : Path) (slot : ℕ) (plain : IsPlain w nester slot) (sound : IsSound w) (j : ℕ) (s : Path) (out : is_within (slot ∷ nester) (j ∷ s) ≡ false) (pick : Option Path) (at : IsAtStage w (j ∷ s) ServerEnd) (ready : IsReady w (j ∷ s) pick asks.Run) where
+module _ (w : World) (nester : Path) (slot : ℕ) (plain : IsPlain w nester slot) (sound : IsWhole w) (j : ℕ) (s : Path) (out : is_within (slot ∷ nester) (j ∷ s) ≡ false) (pick : Option Path) (at : IsAtStage w (j ∷ s) ServerEnd) (ready : IsReady w (j ∷ s) pick asks.Run) where
   abbrev asked : Outcome
   asked = outcome w (j ∷ s) pick asks.Run
 

@@ -15,7 +15,7 @@ use Rattle.fk_model.specs.LinkRows.{user_at, Candidate, takes}
 use Rattle.fk_model.specs.LinkRows.Candidate.{Faulting, Connecting, Resuming}
 use Rattle.fk_model.specs.Moves.{call_row, stepped}
 use Rattle.fk_model.specs.Cut.{ports_of, cut_ptr, cut, IsPlain}
-use Rattle.fk_model.specs.Sound.{IsSound}
+use Rattle.fk_model.specs.Whole.{IsWhole}
 use Rattle.fk_model.specs.Further.{thread_in}
 use Rattle.fk_model.specs.Seen.{serves_outside, picked_inside}
 use Rattle.fk_transparency.specs.CutLaws.{KeepsCut, IsAtStage, moves, IsWait, StageInsideKeepsCut}
@@ -103,7 +103,7 @@ module _ (w : World) (nester : Path) (slot : ℕ) (plain : IsPlain w nester slot
       inner None h e = cc
       inner (Some z) h e = cc
 
-  pub wait_inside : w.next ≤ depth → IsSound w → (pick : Option Path) → KeepsCut w nester slot (moves me pick)
+  pub wait_inside : w.next ≤ depth → IsWhole w → (pick : Option Path) → KeepsCut w nester slot (moves me pick)
   wait_inside few sound pick =
       let like = cut-like w nester slot plain in
       picked_law w nester slot plain k q pick (Wait set) at (λ n c o. refl)

@@ -20,7 +20,7 @@ use Rattle.fk_model.specs.LinkRows.Candidate.{Faulting, Connecting, Resuming}
 use Rattle.fk_model.specs.Moves.{call_row, outcome, GoesAllowed, stepped, step}
 use Rattle.fk_model.specs.Valid.{kind_there, is_fit}
 use Rattle.fk_model.specs.Cut.{cut, IsPlain}
-use Rattle.fk_model.specs.Sound.{IsSound}
+use Rattle.fk_model.specs.Whole.{IsWhole}
 use Rattle.fk_model.specs.Further.{Touch, Onward, Told, IsOnward}
 use Rattle.fk_model.specs.Further.Touch.{Taken, FaultTaken}
 use Rattle.fk_model.specs.Further.Onward.{ByOthers}
@@ -37,7 +37,7 @@ use Rattle.fk_transparency.proofs.cut.Outside.{outside_law, stepped-plain, stage
 use Rattle.fk_transparency.proofs.cut.Pages.{taken_row, seen_outside, stands_in_slot}
 use Rattle.fk_transparency.proofs.waits.Taken.{taken_here, fault_here}
 
-module _ (w : World) (nester : Path) (slot : ℕ) (plain : IsPlain w nester slot) (sound : IsSound w) (c : Caller) (set : ℕ) (out : is_within (slot ∷ nester) (path_of c) ≡ false) where
+module _ (w : World) (nester : Path) (slot : ℕ) (plain : IsPlain w nester slot) (sound : IsWhole w) (c : Caller) (set : ℕ) (out : is_within (slot ∷ nester) (path_of c) ≡ false) where
   abbrev root : Path
   root = slot ∷ nester
 
@@ -132,7 +132,7 @@ module _ (w : World) (nester : Path) (slot : ℕ) (plain : IsPlain w nester slot
       by None e h = cc
       by (Some z) e h = takes_touched y z v.0 e is m h
 
-wait_outside : (w : World) (nester : Path) (slot : ℕ) → IsPlain w nester slot → IsSound w → (x : Path) (pick : Option Path) (set : ℕ) → is_within (slot ∷ nester) x ≡ false → IsAtStage w x (Wait set) → KeepsCut w nester slot (moves x pick)
+wait_outside : (w : World) (nester : Path) (slot : ℕ) → IsPlain w nester slot → IsWhole w → (x : Path) (pick : Option Path) (set : ℕ) → is_within (slot ∷ nester) x ≡ false → IsAtStage w x (Wait set) → KeepsCut w nester slot (moves x pick)
 unfolding step
 wait_outside w nester slot plain sound x None set out at again same = outside_law w nester slot plain (moves x None) out (quiet_outside (stage_outcome w nester slot plain x None (Wait set) at)) (rw (stage_called w nester slot plain x (Wait set) at) refl) again same
   where

@@ -16,7 +16,7 @@ use Rattle.fk_model.specs.Readers.{object_in}
 use Rattle.fk_model.specs.LinkRows.{portset_of, wait}
 use Rattle.fk_model.specs.StateRows.{is_native}
 use Rattle.fk_model.specs.Moves.{with_pick, closed, call_row, porter_at, porter_move, outcome, GoesAllowed, step}
-use Rattle.fk_model.specs.Sound.{IsSound}
+use Rattle.fk_model.specs.Whole.{IsWhole}
 use Rattle.fk_model.specs.Runs.{Event}
 use Rattle.fk_model.specs.Cut.{IsPlain}
 use Rattle.fk_model.specs.Further.{Touch, Onward}
@@ -58,7 +58,7 @@ porter_is w x pick stage words (Some t) ready = by (is_porter t.mode) (is_unheld
 
 -- ---- its wait
 
-module _ (w : World) (nester : Path) (slot : ℕ) (plain : IsPlain w nester slot) (sound : IsSound w) (x : Path) (set : ℕ) (words : List ℕ) where
+module _ (w : World) (nester : Path) (slot : ℕ) (plain : IsPlain w nester slot) (sound : IsWhole w) (x : Path) (set : ℕ) (words : List ℕ) where
   abbrev root : Path
   root = slot ∷ nester
 

@@ -1,4 +1,4 @@
--- What a store, and the core above it, keep more strongly than validity.
+-- What a world keeps while a machine runs: what every law of subtrees supposes, and what saving one needs besides.
 use Rattle.std.specs.Prelude.{◌≡◌, ℕ, ◌<◌, ◌≤◌, Bool, true, false, not, ◌&&◌, ◌==◌, nat_le, is_some, List, ◌∷◌, length, Some, if◌then◌else◌}
 use Rattle.fk_model.specs.declared.limits.TheConstants.{LAST_USER_SLOT, LAST_SCRATCH_SLOT, LAST_PORTER_SLOT, MOST_STOPS, PAGE_WORDS}
 use Rattle.fk_model.specs.Places.{Path, parent, is_within, Ptr}
@@ -29,18 +29,28 @@ stands_in k b =
     if nat_le k LAST_USER_SLOT then not (is_native b)
     else (if nat_le k LAST_SCRATCH_SLOT then is_some (reference_of b) else k == LAST_PORTER_SLOT && is_native b)
 
-pub record IsSound (w : World) : Type 0 where
+-- every page has all its words
+abbrev pub HasFullPages : World → Type 0
+HasFullPages w = (s : Path) (page : ℕ) (words : List ℕ) → w.page s page ≡ Some words → length words ≡ PAGE_WORDS
+
+-- valid, with birth numbers below 2^32 and full pages: what the law of the cut supposes, and every fit move keeps
+pub record IsWhole (w : World) : Type 0 where
   pub valid : IsValid w
-  -- birth numbers are below 2^32, and each page has all its words
   pub few : w.next ≤ depth
-  pub full : (s : Path) (page : ℕ) (words : List ℕ) → w.page s page ≡ Some words → length words ≡ PAGE_WORDS
+  pub full : HasFullPages w
+
+-- what a subtree needs besides, so that it can be saved, and made again from what was saved
+pub record IsSavable (w : World) : Type 0 where
   -- a space is younger than the one in which it lies
   pub younger : (k : ℕ) (x : Path) (birth above : ℕ) → birth_at w (k ∷ x) ≡ Some birth → birth_at w x ≡ Some above → above < birth
+  -- a thread is in a call that there is, and its numbers are in range
   pub shaped : (x : Path) (t : Thread) → and_then thread_of (w.body x) ≡ Some t → IsShapedMode t.mode
   pub few_stops : (x : Path) (t : Thread) → and_then thread_of (w.body x) ≡ Some t → t.stops ≤ MOST_STOPS
   pub codes : (x : Path) (t : Thread) → and_then thread_of (w.body x) ≡ Some t → IsCodeInRange t.mode
   -- nobody holds the space in or beneath which it lives
   pub holders_outside : (x y : Path) → holder_of (w.body x) ≡ Some (At y) → is_within x y ≡ false
+  -- who waits to be taken up waits at a nester's port, and a native server serves at its own
   pub talks_placed : (x : Path) (talk : Talk) → talk_at w x ≡ Some talk → is_placed w talk.port talk.peer ≡ true
   pub faults_placed : (x : Path) (fault : Fault) (taker : Peer) → fault_at w x ≡ Some fault → fault.taker ≡ Some taker → is_placed w fault.port taker ≡ true
+  -- slots above 239 are for porters and their scratch
   pub slots_kept : (k : ℕ) (x : Path) (b : Body) → w.body (k ∷ x) ≡ Some b → stands_in k b ≡ true
