@@ -1,3 +1,4 @@
 pub mod Tested
 pub mod Unheld
 pub mod FewSlots
+mod Listed

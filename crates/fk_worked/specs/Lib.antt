@@ -11,3 +11,4 @@ pub mod Cuts
 pub mod Instructions
 pub mod Further
 pub mod Calls
+pub mod Premises

@@ -14,6 +14,7 @@ pub mod locks;
 pub mod memory;
 pub mod objects;
 pub mod porters;
+pub mod premises;
 pub mod servers;
 pub mod states;
 pub mod talks;

@@ -1,0 +1,66 @@
+-- A world that meets every premise of the laws: a nester with a subtree in slot 1, in which there is something of all.
+use Rattle.std.specs.Prelude.{ℕ, true, false, List, [], ◌∷◌, replicate, Option, None, Some}
+use Rattle.fk_model.specs.declared.thread.Turn.TheVariants as turns
+use Rattle.fk_model.specs.Places.{Path, Ptr}
+use Rattle.fk_model.specs.Places.Ptr.{At}
+use Rattle.fk_model.specs.Objects.{Talk, Fault, Body}
+use Rattle.fk_model.specs.Objects.Mode.{Native}
+use Rattle.fk_model.specs.Objects.Peer.{Server, Service, Parked}
+use Rattle.fk_model.specs.Objects.Body.{Mutex, Mapping, Region, Port, Portset, Space, Reference}
+use Rattle.fk_model.specs.World.{World}
+use Rattle.fk_model.specs.Cut.{seen_by, cut}
+use Rattle.fk_model.specs.Closed.{open_place}
+use Rattle.fk_worked.specs.Worked.{Page, machine, world_of, numbered, running, calling, thread_at, with_talk, with_fault}
+
+abbrev pub porter : Path
+porter = 255 ∷ []
+
+-- what stands in a slot of the subtree
+abbrev pub within : ℕ → Path
+within k = k ∷ 1 ∷ []
+
+-- a client sends to the native server of port 9
+abbrev pub to_native : Body
+to_native = with_talk (record { port = At (9 ∷ []); peer = Service; turn = turns.Client; moved = 5 }) (calling 20 (37 ∷ 0 ∷ 128 ∷ 70 ∷ []))
+
+-- a talk at port 8 waits to be taken up
+abbrev pub parked : Body
+parked = with_talk (record { port = At (8 ∷ []); peer = Parked; turn = turns.Server; moved = 0 }) (calling 20 (36 ∷ 0 ∷ 0 ∷ 0 ∷ 128 ∷ 4 ∷ []))
+
+-- a fault that the thread in slot 5 has taken at the port in slot 4
+abbrev pub missing : Body
+missing = with_fault (record { page = 9; write = true; port = At (within 4); taker = Some (Server (At (within 5))) }) (running 3 [])
+
+abbrev pub objects_of : Option Ptr → List (Path × Body)
+objects_of holder =
+    (9 ∷ [], Port None true) ∷ (8 ∷ [], Port None false) ∷ (porter, thread_at (Native (replicate 16 0)) 0)
+    ∷ (1 ∷ [], Space 1 holder) ∷ (within 0, to_native) ∷ (within 2, missing) ∷ (within 3, parked)
+    ∷ (within 4, Port (Some 10) false) ∷ (within 5, running 1 []) ∷ (within 10, Portset)
+    ∷ (within 6, Space 2 (Some (At (within 5)))) ∷ (7 ∷ within 6, Reference (At (within 4)))
+    ∷ (within 7, Region (record { first = 2; count = 1; write = true; keeper = At (8 ∷ []) }))
+    ∷ (within 11, Mapping (record { first = 8; count = 1; offset = 0; write = true; region = At (within 7) })) ∷ (within 12, Mutex true) ∷ []
+
+abbrev pub pages_of : List Page
+pages_of = numbered (1 ∷ []) 1000 2 ∷ numbered (1 ∷ []) 1000 255 ∷ numbered (within 6) 2000 0 ∷ []
+
+-- with this holder of the subtree
+unfoldable pub full_of_all : Option Ptr → World
+full_of_all holder = world_of (objects_of holder) pages_of
+
+-- with one object more, and with one page more
+unfoldable pub with_object : Path → Body → World
+with_object x b = world_of ((x, b) ∷ objects_of None) pages_of
+
+unfoldable pub with_one_page : Path → ℕ → World
+with_one_page space page = world_of (objects_of None) (numbered space 0 page ∷ pages_of)
+
+-- a thread of the nester's that somebody within serves, and one whose fault somebody within has taken
+abbrev pub served_within : Body
+served_within = with_talk (record { port = At (within 4); peer = Server (At (within 5)); turn = turns.Client; moved = 0 }) (running 0 [])
+
+abbrev pub fault_within : Body
+fault_within = with_fault (record { page = 9; write = true; port = At (within 4); taker = Some (Server (At (within 5))) }) (running 0 [])
+
+unfoldable pub premises : Unit {0}
+unfolding machine seen_by cut open_place full_of_all with_object with_one_page
+premises = tt
