@@ -1,3 +1,7 @@
+pub mod Reasons
 pub mod Lines
+pub mod Operands
 pub mod Operations
+pub mod Program
+pub mod Labels
 pub mod Assembler

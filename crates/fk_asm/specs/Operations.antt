@@ -1,18 +1,19 @@
--- The operations by their names, and their operands.
-use Rattle.std.specs.Prelude.{ℕ, ◌-◌, ◌%◌, ◌^◌, Bool, ◌==◌, ◌&&◌, nat_le, nat_eq, List, [], ◌∷◌, drop, Option, Some, None, option_and_then, option_map, if◌then◌else◌, codes}
+-- The operations by their names, and the words of lines.
+use Rattle.std.specs.Prelude.{ℕ, Bool, ◌==◌, nat_eq, List, [], ◌∷◌, Option, Some, None, Result, Ok, Err, if◌then◌else◌, codes, option_map}
 use Rattle.std.specs.Cmp.Lexicographic.{pointwise}
-use Rattle.std.specs.Str.Parse.{starts_with_minus}
+use Rattle.fk_model.specs.Instructions.{word_of}
+use Rattle.fk_model.specs.Numbers.{number_up_to}
 use Rattle.fk_model.specs.declared.instruction.Instr.{Instr}
 use Rattle.fk_model.specs.declared.instruction.operation.TheConstants.{HALT, SET, MOV, ADD, SUB, MUL, AND, OR, XOR, SHL, SHR, DIV, REM, LOAD, STORE, JMP, JZ, JNZ, JLT, ADDI, CALL}
 use Rattle.fk_asm.specs.declared.operations.Shape.{Shape}
 use Rattle.fk_asm.specs.declared.operations.Shape.TheVariants.{Bare, Number, RegisterNumber, TwoRegisters, ThreeRegisters, TwoRegistersNumber}
 use Rattle.fk_asm.specs.declared.operations.Operation.{Operation}
-use Rattle.fk_model.specs.Numbers.{is_digit, number_up_to}
-
--- a step that gives nothing ends the whole with nothing
-infixl 10 ◌>>=◌
-abbrev pub ◌>>=◌ : {A B : Type 0} → Option A → (A → Option B) → Option B
-step >>= rest = option_and_then rest step
+use Rattle.fk_asm.specs.declared.operations.Item as code
+use Rattle.fk_asm.specs.declared.reason.Reason.{Reason}
+use Rattle.fk_asm.specs.declared.reason.Reason.TheVariants as reasons
+use Rattle.fk_asm.specs.Operands as operands
+use Rattle.fk_asm.specs.Operands.{Value, register_of, value_of, is_label}
+use Rattle.fk_asm.specs.Reasons.{◌>>=◌, or_reason}
 
 -- whether a token is this name
 abbrev pub same : List ℕ → List ℕ → Bool
@@ -48,48 +49,83 @@ operation_of name =
     else if same name (codes "call") then with_shape CALL Bare
     else None
 
--- r0 to r9, and r10 to r15
-abbrev pub register_of : List ℕ → Option ℕ
-register_of (r ∷ d ∷ []) = if r == 114 && is_digit d then Some (d - 48) else None
-register_of (r ∷ d ∷ e ∷ []) = if r == 114 && d == 49 && nat_le 48 e && nat_le e 53 then Some (e - 38) else None
-register_of _ = None
+-- a word; where a label is named, its address is still to be put in
+pub record Item : Type 0 where
+  pub word : ℕ
+  pub label : Option (List ℕ)
 
--- the number below 2^32 that is equal to minus this one, modulo 2^32
-abbrev pub negated : ℕ → ℕ
-negated number = (2 ^ 32 - number) % 2 ^ 32
+-- an instruction by its operation and registers, with number 0
+abbrev pub instr : ℕ → ℕ → ℕ → ℕ → Instr
+instr op a b c = record { op = op; a = a; b = b; c = c; n = 0 }
 
--- digits, or a minus and digits: from -2147483648 to 4294967295, modulo 2^32
-abbrev pub number_of : List ℕ → Option ℕ
-number_of token =
-    if starts_with_minus token then option_map negated (number_up_to 2147483648 (drop 1 token))
-    else number_up_to 4294967295 token
+-- the word of an instruction whose number is a value
+abbrev pub with_value : Instr → Value → Item
+with_value i (operands.Number n) = record { word = word_of (record { op = i.op; a = i.a; b = i.b; c = i.c; n = n }); label = None }
+with_value i (operands.Label name) = record { word = word_of i; label = Some name }
 
--- an instruction by its fields in their order
-abbrev pub instr : ℕ → ℕ → ℕ → ℕ → ℕ → Instr
-instr op a b c n = record { op = op; a = a; b = b; c = c; n = n }
+abbrev pub two_registers : ℕ → List ℕ → List ℕ → Result Instr Reason
+two_registers op a b = do
+  a ← register_of a
+  b ← register_of b
+  Ok (instr op a b 0)
 
--- the instruction of an operation with exactly its operands; a field without an operand is 0
-unfoldable pub instruction : ℕ → Shape → List (List ℕ) → Option Instr
-instruction op Bare [] = Some (instr op 0 0 0 0)
+abbrev pub three_registers : ℕ → List ℕ → List ℕ → List ℕ → Result Instr Reason
+three_registers op a b c = do
+  i ← two_registers op a b
+  c ← register_of c
+  Ok (instr op i.a i.b c)
+
+abbrev pub two_registers_number : ℕ → List ℕ → List ℕ → List ℕ → Result Item Reason
+two_registers_number op a b n = do
+  i ← two_registers op a b
+  n ← value_of n
+  Ok (with_value i n)
+
+-- the word of an operation with exactly its operands, which are read from the left
+unfoldable pub instruction : ℕ → Shape → List (List ℕ) → Result Item Reason
+instruction op Bare [] = Ok (with_value (instr op 0 0 0) (operands.Number 0))
 instruction op Number (n ∷ []) = do
-  n ← number_of n
-  Some (instr op 0 0 0 n)
+  n ← value_of n
+  Ok (with_value (instr op 0 0 0) n)
 instruction op RegisterNumber (a ∷ n ∷ []) = do
   a ← register_of a
-  n ← number_of n
-  Some (instr op a 0 0 n)
+  n ← value_of n
+  Ok (with_value (instr op a 0 0) n)
 instruction op TwoRegisters (a ∷ b ∷ []) = do
-  a ← register_of a
-  b ← register_of b
-  Some (instr op a b 0 0)
+  i ← two_registers op a b
+  Ok (with_value i (operands.Number 0))
 instruction op ThreeRegisters (a ∷ b ∷ c ∷ []) = do
-  a ← register_of a
-  b ← register_of b
-  c ← register_of c
-  Some (instr op a b c 0)
-instruction op TwoRegistersNumber (a ∷ b ∷ n ∷ []) = do
-  a ← register_of a
-  b ← register_of b
-  n ← number_of n
-  Some (instr op a b 0 n)
-instruction _ _ _ = None
+  i ← three_registers op a b c
+  Ok (with_value i (operands.Number 0))
+instruction op TwoRegistersNumber (a ∷ b ∷ n ∷ []) = two_registers_number op a b n
+instruction _ _ _ = Err reasons.Form
+
+-- a number of 64 bits without sign, or a label's address
+abbrev pub whole_word : List ℕ → Result Item Reason
+whole_word token =
+    if is_label token then Ok (record { word = 0; label = Some token })
+    else (or_reason reasons.Number (number_up_to 18446744073709551615 token) >>= λ n. Ok (record { word = n; label = None }))
+
+abbrev pub placed : List ℕ → List (List ℕ) → Result Item Reason
+placed name tokens = do
+  operation ← or_reason reasons.Form (operation_of name)
+  instruction operation.number operation.shape tokens
+
+abbrev pub is_word : List ℕ → Bool
+is_word name = same name (codes "word")
+
+-- what a statement places: `word` and its operand, or an operation and its operands
+abbrev pub statement : List ℕ → List (List ℕ) → Result Item Reason
+statement name (n ∷ []) = if is_word name then whole_word n else placed name (n ∷ [])
+statement name tokens = placed name tokens
+
+-- no tokens place nothing
+unfoldable pub item_of : List (List ℕ) → Result (Option Item) Reason
+item_of [] = Ok None
+item_of (name ∷ tokens) = do
+  item ← statement name tokens
+  Ok (Some item)
+
+-- what the code's item is
+abbrev pub item_view : code.Item → Item
+item_view item = record { word = item.word; label = option_map (λ name. name.now) item.label }

@@ -1,67 +1,101 @@
-//! The words of a text.
-ghost use Rattle.std.specs.Prelude.{◌≡◌, ◌≤◌, map, vec_len, ok_or, IfOk, OnOk, IfErr};
+//! The two passes over a text.
+ghost use Rattle.std.specs.Prelude.{◌≡◌, ◌≤◌, [], map, option_map, vec_len, IfOk, IfErr};
+ghost use Rattle.fk_asm.specs.Reasons.{Gives};
+ghost use Rattle.fk_asm.specs.Labels.{line_view};
 ghost use Rattle.fk_asm.specs.Assembler as definitions;
+ghost use Rattle.fk_asm.specs.Assembler.{Answers, IsFail};
 
 use crate::fail::{AsmError, AsmFail};
 use crate::lines::{lines_of, tokens_of};
-use crate::operations::{instruction, operation_of};
-use fk_isa::encode;
+use crate::operations::Item;
+use crate::program::{Lines, line_after};
+use crate::reason::Reason;
 use std::alloc::Global;
 
-/// The words that a program has at most: those of 256 pages of 64 words.
-const MOST_WORDS: usize = 16384;
-
-/// The fault of a text, today without its place and its kind.
-const FAULT: AsmFail = AsmFail::Text(AsmError { line: 0, reason: 7 });
-
-/// The word of a line with these tokens; the first is an operation's name, the others are its operands.
-#[tactic(auto, unfolding(crate::specs::Assembler::word_of_line))]
-fn word_of_line(name: &[u8], operands: &[&[u8]]) -> Option<u64>
-    ensures { result ≡ definitions.word_of_line name.now (map (λ operand. operand.now) operands.now) }
+fn refusal(line: u32, reason: Reason) -> AsmFail
+    ensures { result ≡ definitions.refusal line reason }
 {
-    let operation = operation_of(name)?;
-    let instr = instruction(operation.number, operation.shape, operands)?;
-    Some(encode(instr))
+    AsmFail::Text(AsmError {
+        line,
+        reason: reason.number(),
+    })
 }
 
-/// Adds the word of a line, if it has one.
-#[tactic(auto, unfolding(crate::specs::Assembler::with_tokens))]
-fn add_line(words: &mut Vec<u64>, tokens: &[&[u8]]) -> Result<(), AsmFail>
-    ensures ok { OnOk result (definitions.with_tokens words.old.items (map (λ token. token.now) tokens.now) ≡ Some words.new.items) }
-    ensures text { IfErr result (λ fail. definitions.IsFail fail (ok_or (definitions.with_tokens words.old.items (map (λ token. token.now) tokens.now)) definitions.fault)) }
-    ensures few { vec_len words.old ≤ MOST_WORDS → vec_len words.new ≤ MOST_WORDS }
+/// The lines and one more with these tokens; without tokens it is left out.
+fn with_tokens<'a>(lines: Lines<'a>, number: u32, tokens: &[&'a [u8]]) -> Result<Lines<'a>, AsmFail>
+    ensures { Answers (λ x. x) result (definitions.with_tokens_in lines.entry number (map (λ token. token.now) tokens.now)) }
 {
-    let [name, operands @ ..] = tokens else {
-        return Ok(());
-    };
-    let Some(word) = word_of_line(name, operands) else {
-        return Err(FAULT);
-    };
-    if words.len() >= MOST_WORDS {
-        return Err(FAULT);
+    if tokens.is_empty() {
+        return Ok(lines);
     }
-    words.push(word)?;
-    Ok(())
+    match line_after(&lines, number, tokens) {
+        Ok(line) => Ok(lines.with(line)?),
+        Err(reason) => Err(refusal(number, reason)),
+    }
+}
+
+/// First pass: the lines of a text.
+#[tactic(auto, unfolding(crate::specs::Assembler::lines_from))]
+fn read_lines<'a>(alloc: Global, texts: &[&'a [u8]]) -> Result<Lines<'a>, AsmFail>
+    ensures { Answers (λ x. x) result (definitions.lines_from [] 1 (map (λ text. text.now) texts.now)) }
+{
+    let mut lines = Lines::new(alloc);
+    let mut number = 1u32;
+    for text in texts {
+        let tokens = tokens_of(alloc, text)?;
+        lines = with_tokens(lines, number, &tokens)?;
+        number = match number.checked_add(1) {
+            Some(number) => number,
+            None => return Err(AsmFail::NoMemory),
+        };
+    }
+    Ok(lines)
+}
+
+/// A word, with the address of its label in it.
+fn addressed(lines: &Lines<'_>, item: Item<'_>) -> Result<u64, Reason>
+    ensures { Gives (λ x. x) result (definitions.addressed lines.now item.entry.word (option_map (λ name. name.now) item.entry.label)) }
+{
+    match item.label {
+        None => Ok(item.word),
+        Some(name) => match lines.address_of(name) {
+            Some(address) => Ok(item.word | u64::from(address)),
+            None => Err(Reason::Undefined),
+        },
+    }
+}
+
+/// Second pass: the words of the lines.
+#[tactic(auto, unfolding(crate::specs::Assembler::words_from))]
+fn words_of(alloc: Global, lines: &Lines<'_>) -> Result<Vec<u64>, AsmFail>
+    ensures { Answers (λ words. words.items) result (definitions.words_from lines.now [] lines.now) }
+{
+    let mut words = Vec::new(alloc);
+    for line in lines.as_slice() {
+        if let Some(item) = line.item {
+            match addressed(lines, item) {
+                Ok(word) => words.push(word)?,
+                Err(reason) => return Err(refusal(line.number, reason)),
+            }
+        }
+    }
+    Ok(words)
 }
 
 /// The words of a text, at most 16,384.
 ///
 /// # Errors
 ///
-/// `Text` exactly where the text has no words: where a line isn't of the assembler's form, or there
-/// would be more than 16,384 words. `NoMemory` where there is no memory for the words or for a line's
-/// tokens.
-#[tactic(auto, unfolding(crate::specs::Assembler::with_lines))]
+/// `Text` exactly where a line is refused: the first that is, in the order in which
+/// `specs/Assembler.antt` checks them. `NoMemory` where there is no memory for the lines, their tokens
+/// and labels, or the words.
+#[tactic(auto, unfolding(crate::specs::Assembler::assembled))]
 pub fn assemble(alloc: Global, text: &[u8]) -> Result<Vec<u64>, AsmFail>
     ensures ok { IfOk result (λ words. definitions.assembled text.now ≡ Ok words.items) }
-    ensures text { IfErr result (λ fail. definitions.IsFail fail (definitions.assembled text.now)) }
+    ensures text { IfErr result (λ fail. IsFail fail (definitions.assembled text.now)) }
     ensures few { IfOk result (λ words. vec_len words ≤ 16384) }
 {
-    let lines = lines_of(alloc, text)?;
-    let mut words = Vec::new(alloc);
-    for line in &lines {
-        let tokens = tokens_of(alloc, line)?;
-        add_line(&mut words, &tokens)?;
-    }
-    Ok(words)
+    let texts = lines_of(alloc, text)?;
+    let lines = read_lines(alloc, &texts)?;
+    words_of(alloc, &lines)
 }

@@ -5,9 +5,9 @@ ghost use Rattle.fk_asm.specs.declared.fail.AsmFail.TheVariants.{NoMemory};
 use std::alloc::{AllocError, AllocFailed};
 use thiserror::Error;
 
-/// The fault of a text: its line, and which of the assembler's rules is broken. Today `line` is always
-/// 0 and `reason` is 7, for any fault.
-#[derive(Clone, Copy, Debug, PartialEq, Eq, Error)]
+/// The first line that is refused, counted from 1, and why: a number of 1 to 6, as docs/FORMATS.md has
+/// them.
+#[derive(Clone, Copy, Debug, Error)]
 #[error("line {line} reason {reason}")]
 pub struct AsmError {
     pub line: u32,
@@ -15,12 +15,12 @@ pub struct AsmError {
 }
 
 /// Why there are no words.
-#[derive(Clone, Copy, Debug, PartialEq, Eq, Error)]
+#[derive(Clone, Copy, Debug, Error)]
 pub enum AsmFail {
-    /// The text isn't of the assembler's form, or has more than 16,384 words.
+    /// A line is refused.
     #[error("bad text {0}")]
     Text(AsmError),
-    /// There is no memory for its lines, tokens or words.
+    /// There is no memory for the lines, labels or words.
     #[error("no memory")]
     NoMemory,
 }

@@ -1,17 +1,18 @@
 //! The assembler: from a text to its words.
 //!
-//! It stands on `fk_model` for numbers and instructions, and on `fk_isa` for the words of these. A text
-//! is its lines; a line is an operation with its operands, or nothing, and a comment. The words that
-//! `assemble` gives are exactly those that `specs/Assembler.antt` has for the text, and it refuses
-//! exactly the texts that have none.
+//! It stands on `fk_model` for numbers, names and instructions, and on `fk_isa` for the words of these.
+//! The lines of a text are read in order, each after those before it; then labels become addresses.
+//! `assemble` gives exactly the words that `specs/Assembler.antt` has for the text, or the first line
+//! that it refuses there and why. Its time is linear in the text, but for the look-up of labels.
 #![tactic(auto)]
 
 mod assembler;
 mod fail;
 mod lines;
+mod operands;
 mod operations;
-#[cfg(test)]
-mod tests;
+mod program;
+mod reason;
 
 pub use assembler::assemble;
 pub use fail::{AsmError, AsmFail};

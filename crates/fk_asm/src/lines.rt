@@ -1,5 +1,5 @@
-//! The lines of a text, and the tokens of a line.
-ghost use Rattle.std.specs.Prelude.{◌≡◌, IfOk, map, position};
+//! The lines of a text, the tokens of a line, and the label that it defines.
+ghost use Rattle.std.specs.Prelude.{◌≡◌, IfOk, map, option_map, position};
 ghost use Rattle.std.specs.List.{slice_split, before_first};
 ghost use Rattle.fk_asm.specs.Lines as definitions;
 
@@ -47,4 +47,40 @@ pub fn tokens_of(alloc: Global, line: &[u8]) -> Result<Vec<&[u8]>, AllocError>
         }
     }
     Ok(tokens)
+}
+
+/// The name before the colon that ends a token.
+fn label_in(token: &[u8]) -> Option<&[u8]>
+    ensures { option_map (λ name. name.now) result ≡ definitions.label_in token.now }
+{
+    match token {
+        [name @ .., b':'] => Some(name),
+        _ => None,
+    }
+}
+
+/// The name of the label that a line with these tokens defines.
+pub fn label_of<'a>(tokens: &[&'a [u8]]) -> Option<&'a [u8]>
+    ensures { option_map (λ name. name.now) result ≡ definitions.label_of (map (λ token. token.now) tokens.now) }
+{
+    match tokens {
+        [first, ..] => label_in(first),
+        [] => None,
+    }
+}
+
+/// The tokens after a line's label.
+pub fn unlabelled<'s, 'a>(tokens: &'s [&'a [u8]]) -> &'s [&'a [u8]]
+    ensures { map (λ token. token.now) result.now ≡ definitions.unlabelled (map (λ token. token.now) tokens.now) }
+{
+    match tokens {
+        [first, after @ ..] => {
+            if label_in(first).is_some() {
+                after
+            } else {
+                tokens
+            }
+        }
+        [] => tokens,
+    }
 }

@@ -1,9 +1,14 @@
-//! The operations by their names, and their operands.
-ghost use Rattle.std.specs.Prelude.{◌≡◌, ◌<◌, ◌≤◌, map, IfSome};
+//! The operations by their names, and the words of lines.
+ghost use Rattle.std.specs.Prelude.{◌≡◌, ◌<◌, ◌≤◌, map, IfSome, IfOk, option_map};
 ghost use Rattle.fk_model.specs.Instructions.{IsInstr};
 ghost use Rattle.fk_model.specs.declared.instruction.operation.TheConstants.{CALL};
+ghost use Rattle.fk_asm.specs.Reasons.{Gives};
+ghost use Rattle.fk_asm.specs.Operands as operands;
 ghost use Rattle.fk_asm.specs.Operations as definitions;
 
+use crate::operands::{Value, is_label, register_of, value_of};
+use crate::reason::Reason;
+use fk_isa::encode;
 use fk_model::{Instr, number_up_to, operation};
 
 /// Which operands follow an operation's name.
@@ -24,6 +29,13 @@ pub struct Operation {
     pub shape: Shape,
 }
 
+/// The word of a line. Where a label is named, its address is still to be put in; these bits are 0.
+#[derive(Clone, Copy)]
+pub struct Item<'a> {
+    pub word: u64,
+    pub label: Option<&'a [u8]>,
+}
+
 fn with_shape(number: u8, shape: Shape) -> Option<Operation>
     ensures { result ≡ definitions.with_shape number shape }
 {
@@ -32,7 +44,7 @@ fn with_shape(number: u8, shape: Shape) -> Option<Operation>
 
 /// The operation of a name.
 #[tactic(auto, unfolding(crate::specs::Operations::operation_of))]
-pub fn operation_of(name: &[u8]) -> Option<Operation>
+fn operation_of(name: &[u8]) -> Option<Operation>
     ensures value { result ≡ definitions.operation_of name.now }
     ensures known { IfSome result (λ operation. operation.number ≤ CALL) }
 {
@@ -62,36 +74,26 @@ pub fn operation_of(name: &[u8]) -> Option<Operation>
     }
 }
 
-fn register_of(token: &[u8]) -> Option<u8>
-    ensures value { result ≡ definitions.register_of token.now }
-    ensures known { IfSome result (λ register. register < 16) }
+/// An instruction whose number is a value.
+fn with_value(instr: Instr, value: Value<'_>) -> Item<'_>
+    requires { IsInstr instr }
+    ensures { definitions.item_view result ≡ definitions.with_value instr (operands.value_view value.entry) }
 {
-    match token {
-        [b'r', digit @ b'0'..=b'9'] => Some(*digit - b'0'),
-        [b'r', b'1', digit @ b'0'..=b'5'] => Some(*digit - b'0' + 10),
-        _ => None,
-    }
-}
-
-/// A number from -2147483648 to 4294967295, modulo 2^32.
-fn number_of(token: &[u8]) -> Option<u32>
-    ensures { result ≡ definitions.number_of token.now }
-{
-    match token {
-        [b'-', digits @ ..] => {
-            let number = number_up_to(2_147_483_648, digits)?;
-            Some((number as u32).wrapping_neg())
-        }
-        _ => {
-            let number = number_up_to(4_294_967_295, token)?;
-            Some(number as u32)
-        }
+    match value {
+        Value::Number(n) => Item {
+            word: encode(Instr { n, ..instr }),
+            label: None,
+        },
+        Value::Label(name) => Item {
+            word: encode(instr),
+            label: Some(name),
+        },
     }
 }
 
 /// The instruction of an operation without operands.
 fn bare(op: u8) -> Instr
-    ensures { result ≡ definitions.instr op 0 0 0 0 }
+    ensures { result ≡ definitions.instr op 0 0 0 }
 {
     Instr {
         op,
@@ -102,41 +104,112 @@ fn bare(op: u8) -> Instr
     }
 }
 
-/// The instruction of an operation with exactly its operands.
-#[tactic(auto, unfolding(crate::specs::Operations::instruction))]
-pub fn instruction(op: u8, shape: Shape, operands: &[&[u8]]) -> Option<Instr>
+fn two_registers(op: u8, a: &[u8], b: &[u8]) -> Result<Instr, Reason>
     requires { op ≤ CALL }
-    ensures value { result ≡ definitions.instruction op shape (map (λ operand. operand.now) operands.now) }
-    ensures known { IfSome result IsInstr }
+    ensures value { Gives (λ x. x) result (definitions.two_registers op a.now b.now) }
+    ensures known { IfOk result IsInstr }
+{
+    let a = register_of(a)?;
+    let b = register_of(b)?;
+    Ok(Instr { a, b, ..bare(op) })
+}
+
+fn three_registers(op: u8, a: &[u8], b: &[u8], c: &[u8]) -> Result<Instr, Reason>
+    requires { op ≤ CALL }
+    ensures value { Gives (λ x. x) result (definitions.three_registers op a.now b.now c.now) }
+    ensures known { IfOk result IsInstr }
+{
+    let instr = two_registers(op, a, b)?;
+    let c = register_of(c)?;
+    Ok(Instr { c, ..instr })
+}
+
+fn two_registers_number<'a>(op: u8, a: &[u8], b: &[u8], n: &'a [u8]) -> Result<Item<'a>, Reason>
+    requires { op ≤ CALL }
+    ensures { Gives definitions.item_view result (definitions.two_registers_number op a.now b.now n.now) }
+{
+    let instr = two_registers(op, a, b)?;
+    let n = value_of(n)?;
+    Ok(with_value(instr, n))
+}
+
+/// The word of an operation with exactly its operands.
+#[tactic(auto, unfolding(crate::specs::Operations::instruction))]
+fn instruction<'a>(op: u8, shape: Shape, operands: &[&'a [u8]]) -> Result<Item<'a>, Reason>
+    requires { op ≤ CALL }
+    ensures { Gives definitions.item_view result (definitions.instruction op shape (map (λ operand. operand.now) operands.now)) }
 {
     match (shape, operands) {
-        (Shape::Bare, []) => Some(bare(op)),
-        (Shape::Number, [n]) => Some(Instr {
-            n: number_of(n)?,
-            ..bare(op)
-        }),
-        (Shape::RegisterNumber, [a, n]) => Some(Instr {
-            a: register_of(a)?,
-            n: number_of(n)?,
-            ..bare(op)
-        }),
-        (Shape::TwoRegisters, [a, b]) => Some(Instr {
-            a: register_of(a)?,
-            b: register_of(b)?,
-            ..bare(op)
-        }),
-        (Shape::ThreeRegisters, [a, b, c]) => Some(Instr {
-            a: register_of(a)?,
-            b: register_of(b)?,
-            c: register_of(c)?,
-            ..bare(op)
-        }),
-        (Shape::TwoRegistersNumber, [a, b, n]) => Some(Instr {
-            a: register_of(a)?,
-            b: register_of(b)?,
-            n: number_of(n)?,
-            ..bare(op)
-        }),
-        _ => None,
+        (Shape::Bare, []) => Ok(with_value(bare(op), Value::Number(0))),
+        (Shape::Number, [n]) => Ok(with_value(bare(op), value_of(n)?)),
+        (Shape::RegisterNumber, [a, n]) => {
+            let a = register_of(a)?;
+            let n = value_of(n)?;
+            Ok(with_value(Instr { a, ..bare(op) }, n))
+        }
+        (Shape::TwoRegisters, [a, b]) => Ok(with_value(two_registers(op, a, b)?, Value::Number(0))),
+        (Shape::ThreeRegisters, [a, b, c]) => {
+            Ok(with_value(three_registers(op, a, b, c)?, Value::Number(0)))
+        }
+        (Shape::TwoRegistersNumber, [a, b, n]) => two_registers_number(op, a, b, n),
+        _ => Err(Reason::Form),
+    }
+}
+
+/// A whole word: a number of 64 bits without sign, or the address of a label.
+fn whole_word(token: &[u8]) -> Result<Item<'_>, Reason>
+    ensures { Gives definitions.item_view result (definitions.whole_word token.now) }
+{
+    if is_label(token) {
+        return Ok(Item {
+            word: 0,
+            label: Some(token),
+        });
+    }
+    match number_up_to(u64::MAX, token) {
+        Some(word) => Ok(Item { word, label: None }),
+        None => Err(Reason::Number),
+    }
+}
+
+/// The word of an operation by its name.
+fn placed<'a>(name: &[u8], operands: &[&'a [u8]]) -> Result<Item<'a>, Reason>
+    ensures { Gives definitions.item_view result (definitions.placed name.now (map (λ operand. operand.now) operands.now)) }
+{
+    match operation_of(name) {
+        Some(operation) => instruction(operation.number, operation.shape, operands),
+        None => Err(Reason::Form),
+    }
+}
+
+fn is_word(name: &[u8]) -> bool
+    ensures { result ≡ definitions.is_word name.now }
+{
+    matches!(name, b"word")
+}
+
+/// The word of a statement by its name: `word` or an operation.
+fn statement<'a>(name: &[u8], operands: &[&'a [u8]]) -> Result<Item<'a>, Reason>
+    ensures { Gives definitions.item_view result (definitions.statement name.now (map (λ operand. operand.now) operands.now)) }
+{
+    if let [n] = operands {
+        if is_word(name) {
+            return whole_word(n);
+        }
+    }
+    placed(name, operands)
+}
+
+/// What a statement places: an operation with its operands, or `word` with its one. No tokens place nothing.
+#[tactic(auto, unfolding(crate::specs::Operations::item_of))]
+pub fn item_of<'a>(tokens: &[&'a [u8]]) -> Result<Option<Item<'a>>, Reason>
+    ensures { Gives (option_map definitions.item_view) result (definitions.item_of (map (λ token. token.now) tokens.now)) }
+{
+    match tokens {
+        [] => Ok(None),
+        [name, operands @ ..] => {
+            let item = statement(name, operands)?;
+            Ok(Some(item))
+        }
     }
 }
