@@ -47,7 +47,7 @@ module _ (m : Contents) (kept : IsKept m) where
       by None e is = absurd (cc)
       by (Some n) e is = (n, e, there (get m.bodies (at n k)) is)
 
-  above : (k : ℕ) (s : Path) → IsSome ((world m).body (k ∷ s)) → IsSome ((world m).body s)
+  pub above : (k : ℕ) (s : Path) → IsSome ((world m).body (k ∷ s)) → IsSome ((world m).body s)
   above k s h = let space = space_there k s h in birth_some ((world m).body s) space.0 (birth_at-space_at m s ∙ space.1)
 
   pub rooted : IsRooted (world m)
@@ -62,7 +62,7 @@ module _ (m : Contents) (kept : IsKept m) where
       by (Some who) e is = (who, e)
 
   -- no path is longer than the number of its space
-  short : (k n : ℕ) → n ≤ k → is_live m n ≡ true → length (path m n) ≤ n
+  pub short : (k n : ℕ) → n ≤ k → is_live m n ≡ true → length (path m n) ≤ n
   short k zero low live = rw (path-root m) (omega arith)
   short zero (suc n) low live = absurd (omega arith)
   short (suc k) (suc n) low live =

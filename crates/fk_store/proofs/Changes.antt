@@ -1,10 +1,10 @@
 -- Changes of a world, as far as a store makes them.
-use Rattle.std.proofs.Common.{◌≡◌, Bool, true, false, cond, Option, Some, None, option_map, IsSome, refl, sym, ap, subst}
-use Rattle.fk_model.specs.Places.{Path, same_path}
+use Rattle.std.proofs.Common.{◌≡◌, ℕ, ◌∷◌, Bool, true, false, cond, Option, Some, None, option_map, IsSome, refl, sym, ap, subst}
+use Rattle.fk_model.specs.Places.{Path, same_path, parent}
 use Rattle.fk_model.specs.Objects.{Body, kind_of}
-use Rattle.fk_model.specs.World.{World, Edit, Sweep, edited, through, without, apply}
+use Rattle.fk_model.specs.World.{World, Edit, Sweep, edited, through, without, following, apply}
 use Rattle.fk_model.specs.Objects.Body.{Mutex, Cond, Mapping, Region, Port, Portset, Space, Thread_of, Reference}
-use Rattle.fk_model.specs.World.Change.{Make, Alter, Kill}
+use Rattle.fk_model.specs.World.Change.{Make, Alter, Kill, Move}
 use Rattle.fk_model.specs.Valid.{kind_there}
 use Rattle.fk_store.specs.Makes.{making}
 use Rattle.fk_store.proofs.Walks.{same_path_true}
@@ -77,3 +77,15 @@ kinds-through f q (Some b) = ap Some (kind-through f q b)
 pub kinds-kill : (w : World) (x q : Path) → (same_path q x ≡ true → kind_there (apply (Kill x) w) q ≡ None) × (same_path q x ≡ false → kind_there (apply (Kill x) w) q ≡ kind_there w q)
 unfolding kind_there apply
 kinds-kill w x q = (λ here. rw here refl, λ apart. rw apart (kinds-through (without x) q (w.body q)))
+
+-- what is moved is of its kind in its other slot, and its own is empty. All else is of its kind
+pub kinds-move : (w : World) (x : Path) (slot : ℕ) (q : Path) → let y = slot ∷ parent x in
+    (same_path q y ≡ false → same_path q x ≡ false → kind_there (apply (Move x slot) w) q ≡ kind_there w q)
+    × (same_path q y ≡ false → same_path q x ≡ true → kind_there (apply (Move x slot) w) q ≡ None)
+    × (same_path q y ≡ true → kind_there (apply (Move x slot) w) q ≡ kind_there w x)
+unfolding kind_there apply
+kinds-move w x slot q = (
+  λ a b. rw (a, b) (kinds-through (following x (slot ∷ parent x)) q (w.body q)),
+  λ a b. rw (a, b) refl,
+  λ here. rw here (kinds-through (following x (slot ∷ parent x)) (slot ∷ parent x) (w.body x)),
+)

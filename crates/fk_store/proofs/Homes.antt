@@ -6,11 +6,13 @@ use Rattle.std.specs.Ordering.{is_lt, eq_by_cmp}
 use Rattle.std.specs.Cmp.{IsTotalOrder}
 use Rattle.std.proofs.lemmas.Cmp.{tied_itself}
 use Rattle.std.specs.FinMap as finmap
-use Rattle.std.specs.FinMap.{is_sorted, get, entries, entries_sorted, get-entries}
+use Rattle.std.specs.FinMap.{FinMap, is_sorted, get, entries, entries_sorted, get-entries}
 use Rattle.std.specs.FinMap.Entries.{below_all, find_tied}
 use Rattle.fk_model.specs.declared.names.Who.{Who}
 use Rattle.fk_model.specs.declared.body.Body.{Body}
 use Rattle.fk_model.specs.Objects.{and_then}
+use Rattle.fk_store.specs.Named.{Each}
+use Rattle.fk_store.specs.Names.{who_cmp}
 use Rattle.fk_store.specs.Contents.{Contents, birth_of, birth_there, is_number, home_in, home}
 use Rattle.fk_store.proofs.TableLaws.{first, second}
 use Rattle.fk_store.proofs.NameLaws.{who_total}
@@ -65,34 +67,47 @@ chosen_passes {A = A} p (d ∷ es) e h = by (p d) refl h (chosen_passes p es e)
     by true t is ih = let same : d ≡ e = cc in subst (λ f. p f ≡ true) same t
     by false t is ih = ih (cc)
 
+-- what a search by the values finds among the entries of a map, the map has
+module _ (bodies : FinMap who_cmp Body) (p : Body → Bool) where
+  abbrev found_by : Option Who
+  found_by = option_map (λ e. e.0) (find (λ e. p e.1) (entries bodies))
+
+  pub found-passes : (who : Who) → found_by ≡ Some who → (b : Body) × (get bodies who ≡ Some b) × (p b ≡ true)
+  found-passes who h = by (find (λ e. p e.1) (entries bodies)) refl h
+    where
+      by : (f : Option (Who × Body)) → find (λ e. p e.1) (entries bodies) ≡ f → option_map (λ e. e.0) f ≡ Some who → (b : Body) × (get bodies who ≡ Some b) × (p b ≡ true)
+      by None found is = absurd (cc)
+      by (Some e) found is =
+          let there : get bodies e.0 ≡ Some e.1 = get-entries bodies e.0 ∙ chosen who_total (λ e. p e.1) (entries bodies) e (entries_sorted bodies) found in
+          let same : e.0 ≡ who = cc in
+          (e.1, ap (get bodies) (sym same) ∙ there, chosen_passes (λ e. p e.1) (entries bodies) e found)
+
+  pub none-passes : found_by ≡ None → (who : Who) (b : Body) → get bodies who ≡ Some b → p b ≡ false
+  none-passes h who b there = by (find (λ e. p e.1) (entries bodies)) refl h
+    where
+      by : (f : Option (Who × Body)) → find (λ e. p e.1) (entries bodies) ≡ f → option_map (λ e. e.0) f ≡ None → p b ≡ false
+      by (Some e) found is = absurd (cc)
+      by None found is = unchosen who_total p (entries bodies) who b found (sym (get-entries bodies who) ∙ there)
+
+  pub each-passes : (o : Option Who) → o ≡ found_by → Each (λ who. (b : Body) × (get bodies who ≡ Some b) × (p b ≡ true)) o
+  each-passes None is = tt
+  each-passes (Some who) is = found-passes who (sym is)
+
 -- a home holds the space
 pub home-found : (m : Contents) (n : ℕ) (who : Who) → home m n ≡ Some who → birth_there m who ≡ Some n
 unfolding home_in
-home-found m n who h = by (find p (entries m.bodies)) refl h
-  where
-    p : Who × Body → Bool
-    p e = is_number n (birth_of e.1)
-
-    by : (f : Option (Who × Body)) → find p (entries m.bodies) ≡ f → option_map (λ e. e.0) f ≡ Some who → birth_there m who ≡ Some n
-    by None found is = absurd (cc)
-    by (Some e) found is =
-        let there : get m.bodies e.0 ≡ Some e.1 = get-entries m.bodies e.0 ∙ chosen who_total p (entries m.bodies) e (entries_sorted m.bodies) found in
-        let number = number_is n (birth_of e.1) (chosen_passes p (entries m.bodies) e found) in
-        let same : e.0 ≡ who = cc in
-        subst (λ w. birth_there m w ≡ Some n) same (rw there number)
+home-found m n who h =
+    let found = found-passes m.bodies (λ b. is_number n (birth_of b)) who h in
+    ap (and_then birth_of) found.1 ∙ number_is n (birth_of found.0) found.2
 
 -- where there is no home, no space has the number
 pub home-none : (m : Contents) (n : ℕ) (who : Who) → home m n ≡ None → birth_there m who ≡ Some n → ⊥
 unfolding home_in
-home-none m n who h there = by (find p (entries m.bodies)) refl h (get m.bodies who) refl there
+home-none m n who h there = by (get m.bodies who) refl there
   where
-    p : Who × Body → Bool
-    p e = is_number n (birth_of e.1)
-
-    by : (f : Option (Who × Body)) → find p (entries m.bodies) ≡ f → option_map (λ e. e.0) f ≡ None → (b : Option Body) → get m.bodies who ≡ b → and_then birth_of b ≡ Some n → ⊥
-    by f found is None at number = absurd (cc)
-    by (Some e) found is (Some b) at number = absurd (cc)
-    by None found is (Some b) at number =
-        let fails = unchosen who_total (λ v. is_number n (birth_of v)) (entries m.bodies) who b found (sym (get-entries m.bodies who) ∙ at) in
+    by : (o : Option Body) → get m.bodies who ≡ o → and_then birth_of o ≡ Some n → ⊥
+    by None at number = absurd (cc)
+    by (Some b) at number =
+        let fails = none-passes m.bodies (λ b. is_number n (birth_of b)) h who b at in
         let passes = is_the_number n (birth_of b) number in
         absurd (cc)

@@ -1,5 +1,5 @@
 -- Kills: an object with nothing in it that is taken away and swept from all bodies is the one destroyed at the path.
-use Rattle.std.proofs.Common.{◌≡◌, ◌≢◌, ℕ, zero, suc, ◌≤◌, Bool, true, false, cond, ◌&&◌, ◌==◌, List, [], ◌∷◌, Option, Some, None, option_map, is_some, refl, sym, ap, subst, ◌∙◌, arith}
+use Rattle.std.proofs.Common.{◌≡◌, ◌≢◌, ℕ, Bool, true, false, cond, ◌&&◌, ◌==◌, List, [], ◌∷◌, Option, Some, None, option_map, is_some, refl, sym, ap, subst, ◌∙◌}
 use Rattle.std.specs.FinMap.{FinMap, get, remove, get-remove}
 use Rattle.fk_model.specs.declared.names.Who.{Who}
 use Rattle.fk_model.specs.declared.body.Body as bodies_of
@@ -11,24 +11,21 @@ use Rattle.fk_model.specs.Valid.{kind_there}
 use Rattle.fk_store.specs.declared.sweeps.Sweep.{Sweep}
 use Rattle.fk_store.specs.Names.{at, same_who, who_cmp, page_cmp}
 use Rattle.fk_store.specs.Contents.{Contents, birth_of, birth_there, is_number, home, is_live}
-use Rattle.fk_store.specs.Paths.{place, from_home, path, space_at, IsApart}
+use Rattle.fk_store.specs.Paths.{place, path, space_at}
 use Rattle.fk_store.specs.Bodies.{body_by}
 use Rattle.fk_store.specs.Named.{OnNamed}
 use Rattle.fk_store.specs.World.{world, body_at, page_at, IsLive}
 use Rattle.fk_store.specs.Sweeps.{body_after}
 use Rattle.fk_store.specs.Kept.{is_there, IsSized, IsKept}
-use Rattle.fk_store.proofs.NameLaws.{who_total, same_tied, same_who_refl, same_who_eq}
+use Rattle.fk_store.proofs.NameLaws.{who_total, same_tied, same_who_eq}
 use Rattle.fk_store.proofs.NamedLaws.{body_by-named}
-use Rattle.fk_store.proofs.Homes.{home-found, home-none, number_is, is_the_number}
-use Rattle.fk_store.proofs.Walks.{same_path_refl, same_path_true, and_back, path-root, path-step, path-home, space_at-path, path-space_at, same_space, place-apart, there-birth}
-use Rattle.fk_store.proofs.LookUps.{body-place, there-IsLive, IsLive-there}
+use Rattle.fk_store.proofs.Homes.{home-found, home-none, is_the_number}
+use Rattle.fk_store.proofs.Walks.{same_path_refl, same_path_true, and_back, path-space_at, same_space}
+use Rattle.fk_store.proofs.LookUps.{there-IsLive, IsLive-there}
 use Rattle.fk_store.proofs.Changes.{kinds-kill}
 use Rattle.fk_store.proofs.SweepLaws.{birth-after, sized-after, named-after}
+use Rattle.fk_store.proofs.Alone.{none_either, apart, own, left_off, housed_off, path_off, empty_at, inner, path_stays, place_stays, number_off}
 use Rattle.fk_store.proofs.Without.{body-without}
-
-none_either : {A : Type 0} (t : Bool) → cond {A = Option A} t None None ≡ None
-none_either true = refl
-none_either false = refl
 
 -- all bodies are swept, and one is taken away, with the pages of its space
 pub bodies-taken : (old swept new : FinMap who_cmp bodies_of.Body) (who : Who) → ((q : Who) → get swept q ≡ option_map (body_after (record { from = who; to = None }) q.space) (get old q)) → new ≡ remove swept who →
@@ -40,43 +37,6 @@ pub pages-taken : (old new : FinMap page_cmp (List ℕ)) (space birth : Option �
 pages-taken old new space birth is takes n g = takes n g ∙ ap (λ o. cond (is_number n o) None (get old (n, g))) is
 
 module _ (m : Contents) (kept : IsKept m) (who : Who) (there : is_there m who ≡ true) (empty : (k : ℕ) → (world m).body (k ∷ place (path m) who) ≡ None) where
-  -- nothing stands in it
-  none_in : (n : ℕ) → birth_there m who ≡ Some n → (k : ℕ) → get m.bodies (at n k) ≡ None
-  none_in n is k = by (get m.bodies (at n k)) refl
-    where
-      by : (o : Option bodies_of.Body) → get m.bodies (at n k) ≡ o → o ≡ None
-      by None e = refl
-      by (Some b) e =
-          let here : path m n ≡ place (path m) who = path-home m kept n who (kept.alone who n is) in
-          let some : (world m).body (k ∷ path m n) ≡ Some (body_by (path m) b) = body-place m kept (at n k) ∙ ap (option_map (body_by (path m))) e in
-          let none : (world m).body (k ∷ path m n) ≡ None = subst (λ s. (world m).body (k ∷ s) ≡ None) (sym here) (empty k) in
-          absurd (cc)
-
-  -- so its birth number is that of no space in which something stands
-  housed_off : (q : Who) → is_there m q ≡ true → is_number q.space (birth_there m who) ≡ false
-  housed_off q h = by (is_number q.space (birth_there m who)) refl
-    where
-      by : (t : Bool) → is_number q.space (birth_there m who) ≡ t → t ≡ false
-      by false e = refl
-      by true e = let none = ap is_some (none_in q.space (number_is q.space (birth_there m who) e) q.slot) in absurd (cc)
-
-  -- and a path other than its own leads to another space
-  path_off : (s : Path) (n : ℕ) → space_at m s ≡ Some n → same_path s (place (path m) who) ≡ false → is_number n (birth_there m who) ≡ false
-  path_off s n here apart = by (is_number n (birth_there m who)) refl
-    where
-      by : (t : Bool) → is_number n (birth_there m who) ≡ t → t ≡ false
-      by false e = refl
-      by true e =
-          let up : path m n ≡ place (path m) who = path-home m kept n who (kept.alone who n (number_is n (birth_there m who) e)) in
-          let same : s ≡ place (path m) who = sym (path-space_at m kept s n here) ∙ up in
-          let yes = same_path_refl (place (path m) who) in
-          let no : same_path (place (path m) who) (place (path m) who) ≡ false = subst (λ t. same_path t (place (path m) who) ≡ false) same apart in
-          absurd (cc)
-
-  empty_at : (s : Path) (k : ℕ) → same_path s (place (path m) who) ≡ true → body_at m (k ∷ s) ≡ None
-  unfolding world
-  empty_at s k e = subst (λ t. (world m).body (k ∷ t) ≡ None) (sym (same_path_true s (place (path m) who) e)) (empty k)
-
   abbrev gone : Sweep
   gone = record { from = who; to = None }
 
@@ -119,20 +79,6 @@ module _ (m : Contents) (kept : IsKept m) (who : Who) (there : is_there m who �
         by : (o : Option bodies_of.Body) → is_some o ≡ true → is_some (option_map (body_after gone q.space) o) ≡ true
         by None h = h
         by (Some b) h = refl
-
-    -- a space that is left has another number
-    left_off : (q : Who) (n : ℕ) → birth_there m q ≡ Some n → same_who q who ≡ false → is_number n (birth_there m who) ≡ false
-    left_off q n here apart = by (is_number n (birth_there m who)) refl
-      where
-        by : (t : Bool) → is_number n (birth_there m who) ≡ t → t ≡ false
-        by false e = refl
-        by true e =
-            let a = kept.alone q n here in
-            let b = kept.alone who n (number_is n (birth_there m who) e) in
-            let same : q ≡ who = cc in
-            let yes = same_who_refl who in
-            let no : same_who who who ≡ false = subst (λ w. same_who w who ≡ false) same apart in
-            absurd (cc)
 
     home_stays : (n : ℕ) → is_number n (birth_there m who) ≡ false → home killed n ≡ home m n
     home_stays n off = by (home killed n) refl (home m n) refl
@@ -180,38 +126,21 @@ module _ (m : Contents) (kept : IsKept m) (who : Who) (there : is_there m who �
     pub kept-killed : IsKept killed
     kept-killed = record {
       begun = kept.begun;
-      alone = λ q n h. let left = births_left q n h in home_stays n (left_off q n left.0 left.1) ∙ kept.alone q n left.0;
+      alone = λ q n h. let left = births_left q n h in home_stays n (left_off m kept who there q n left.0 left.1) ∙ kept.alone q n left.0;
       younger = λ q n h. kept.younger q n (births_left q n h).0;
       born = λ q n h. kept.born q n (births_left q n h).0;
       slots = λ q h. kept.slots q (there_left q h);
-      housed = λ q h. let before = there_left q h in live_stays q.space (housed_off q before) ∙ kept.housed q before;
+      housed = λ q h. let before = there_left q h in live_stays q.space (housed_off m kept who there empty q before) ∙ kept.housed q before;
       paged = paged_left;
       leads = leads_left;
       sized = sized_left;
     }
 
-    -- all other spaces keep their paths
-    path_stays : (k n : ℕ) → n ≤ k → is_number n (birth_there m who) ≡ false → path killed n ≡ path m n
-    path_stays k zero low off = path-root killed ∙ sym (path-root m)
-    path_stays zero (suc n) low off = absurd (omega arith)
-    path_stays (suc k) (suc n) low off = path-step killed kept-killed (suc n) (omega arith) ∙ ap (from_home (path killed)) (home_stays (suc n) off) ∙ by (home m (suc n)) refl (path_stays k) ∙ sym (path-step m kept (suc n) (omega arith))
-      where
-        by : (o : Option Who) → home m (suc n) ≡ o → ((q : ℕ) → q ≤ k → is_number q (birth_there m who) ≡ false → path killed q ≡ path m q) → from_home (path killed) (home m (suc n)) ≡ from_home (path m) (home m (suc n))
-        by None e ih = rw e refl
-        by (Some q) e ih =
-            let found = home-found m (suc n) q e in
-            let older = kept.younger q (suc n) found in
-            rw e (ap (λ s. q.slot ∷ s) (ih q.space (omega arith) (housed_off q (there-birth m kept q (suc n) found))))
-
     pub path-killed : (n : ℕ) → path m n ≢ place (path m) who → path killed n ≡ path m n
-    path-killed n other = path_stays n n (omega arith) (by (is_number n (birth_there m who)) refl)
-      where
-        by : (t : Bool) → is_number n (birth_there m who) ≡ t → t ≡ false
-        by false e = refl
-        by true e = absurd (other (path-home m kept n who (kept.alone who n (number_is n (birth_there m who) e))))
+    path-killed n other = path_stays m kept who there empty killed kept-killed home_stays n (number_off m kept who there empty n other)
 
     pub place-killed : (q : Who) → is_there m q ≡ true → place (path killed) q ≡ place (path m) q
-    place-killed q h = ap (λ s. q.slot ∷ s) (path_stays q.space q.space (omega arith) (housed_off q h))
+    place-killed q h = place_stays m kept who there empty killed kept-killed home_stays q h
 
     -- what a walk down finds
     walk : (s : Path) → space_at killed s ≡ cond (same_path s (place (path m) who)) None (space_at m s)
@@ -219,13 +148,6 @@ module _ (m : Contents) (kept : IsKept m) (who : Who) (there : is_there m who �
     walk [] = refl
     walk (k ∷ s) = rw (walk s) (by (same_path s (place (path m) who)) refl)
       where
-        own : space_at m (place (path m) who) ≡ birth_there m who
-        own = ap (and_then (λ n. birth_there m (at n who.slot))) (space_at-path m kept who.space (kept.housed who there))
-
-        inner : (o : Option ℕ) → birth_there m who ≡ o → and_then (λ n. birth_there m (at n k)) o ≡ None
-        inner None e = refl
-        inner (Some n) e = ap (and_then birth_of) (none_in n e k)
-
         found : (o : Option ℕ) → space_at m s ≡ o → and_then (λ n. birth_there killed (at n k)) o ≡ cond (k == who.slot && same_path s (path m who.space)) None (and_then (λ n. birth_there m (at n k)) o)
         found None e = sym (none_either (k == who.slot && same_path s (path m who.space)))
         found (Some n) e = rw (births (at n k), same_space m kept s n who.space e, and_back (k == who.slot) (n == who.space)) refl
@@ -233,19 +155,16 @@ module _ (m : Contents) (kept : IsKept m) (who : Who) (there : is_there m who �
         by : (t : Bool) → same_path s (place (path m) who) ≡ t → and_then (λ n. birth_there killed (at n k)) (cond t None (space_at m s)) ≡ cond (k == who.slot && same_path s (path m who.space)) None (and_then (λ n. birth_there m (at n k)) (space_at m s))
         by true e =
             let same : s ≡ place (path m) who = same_path_true s (place (path m) who) e in
-            let here : space_at m s ≡ birth_there m who = ap (space_at m) same ∙ own in
-            rw (here, inner (birth_there m who) refl) (sym (none_either (k == who.slot && same_path s (path m who.space))))
+            let here : space_at m s ≡ birth_there m who = ap (space_at m) same ∙ own m kept who there in
+            rw (here, inner m kept who there empty (birth_there m who) refl k) (sym (none_either (k == who.slot && same_path s (path m who.space))))
         by false e = found (space_at m s) refl
-
-    apart : IsApart (path m) who
-    apart = place-apart m kept who (kept.housed who there)
 
     -- a body that is left, by paths
     body_left : (n k : ℕ) (b : bodies_of.Body) → get m.bodies (at n k) ≡ Some b → body_by (path killed) (body_after gone n b) ≡ through (without (place (path m) who)) (k ∷ path m n) (body_by (path m) b)
     body_left n k b e =
         body_by-named (path killed) (path m) (body_after gone n b)
         (named-after gone (λ q. is_there m q ≡ true) (λ q. place (path killed) q ≡ place (path m) q) (λ q h other. place-killed q h) tt n b (kept.leads (at n k) b e))
-        ∙ body-without (path m) who apart (at n k) b
+        ∙ body-without (path m) who (apart m kept who there) (at n k) b
 
     bodies_at : (q : Path) → body_at killed q ≡ cond (same_path q (place (path m) who)) None (option_map (through (without (place (path m) who)) q) (body_at m q))
     unfolding same_path
@@ -263,7 +182,7 @@ module _ (m : Contents) (kept : IsKept m) (who : Who) (there : is_there m who �
         found (Some n) e = rw (bodies (at n k), same_space m kept s n who.space e, and_back (k == who.slot) (n == who.space)) (left n e (n == who.space && k == who.slot) (get m.bodies (at n k)) refl)
 
         by : (t : Bool) → same_path s (place (path m) who) ≡ t → and_then (λ n. option_map (body_by (path killed)) (get bodies2 (at n k))) (cond t None (space_at m s)) ≡ cond (k == who.slot && same_path s (path m who.space)) None (option_map (through (without (place (path m) who)) (k ∷ s)) (body_at m (k ∷ s)))
-        by true e = rw (empty_at s k e) (sym (none_either (k == who.slot && same_path s (path m who.space))))
+        by true e = rw (empty_at m kept who there empty s k e) (sym (none_either (k == who.slot && same_path s (path m who.space))))
         by false e = found (space_at m s) refl
 
     pages_at : (s : Path) (g : ℕ) → page_at killed s g ≡ cond (same_path s (place (path m) who)) None (page_at m s g)
@@ -271,7 +190,7 @@ module _ (m : Contents) (kept : IsKept m) (who : Who) (there : is_there m who �
       where
         found : (o : Option ℕ) → space_at m s ≡ o → same_path s (place (path m) who) ≡ false → and_then (λ n. get pages2 (n, g)) o ≡ and_then (λ n. get m.pages (n, g)) o
         found None e off = refl
-        found (Some n) e off = pages n g ∙ ap (λ t. cond t None (get m.pages (n, g))) (path_off s n e off)
+        found (Some n) e off = pages n g ∙ ap (λ t. cond t None (get m.pages (n, g))) (path_off m kept who there empty s n e off)
 
         by : (t : Bool) → same_path s (place (path m) who) ≡ t → and_then (λ n. get pages2 (n, g)) (cond t None (space_at m s)) ≡ cond t None (page_at m s g)
         by true e = refl

@@ -27,5 +27,10 @@ pub mod Scans
 pub mod Born
 pub mod SweepLaws
 pub mod Without
+pub mod Alone
 pub mod Kills
+pub mod Following
+pub mod Renames
 pub mod Residents
+pub mod PartLaws
+pub mod Players

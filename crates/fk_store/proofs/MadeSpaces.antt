@@ -26,7 +26,7 @@ use Rattle.fk_store.proofs.Sets.{tied, lost_apart}
 use Rattle.fk_store.proofs.Makes.{live-born, after_there, before_there, after_body}
 
 -- a path isn't that of something in it
-longer_apart : (k : ℕ) (x : Path) → same_path (k ∷ x) x ≡ false
+pub longer_apart : (k : ℕ) (x : Path) → same_path (k ∷ x) x ≡ false
 longer_apart k x = by (same_path (k ∷ x) x) refl
   where
     by : (b : Bool) → same_path (k ∷ x) x ≡ b → b ≡ false

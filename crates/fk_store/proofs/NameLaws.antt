@@ -1,9 +1,9 @@
 -- The orders of names tell all names apart.
-use Rattle.std.proofs.Common.{◌≡◌, ℕ, true, ap, ◌∙◌, arith}
+use Rattle.std.proofs.Common.{◌≡◌, ℕ, true, cond, Some, None, refl, ap, ◌∙◌, arith}
 use Rattle.std.proofs.lemmas.Bool.Decides.{nat_tests}
 use Rattle.std.specs.Ordering.{eq_by_cmp, nat_cmp}
 use Rattle.std.specs.Cmp.{IsTotalOrder, Equal-is, nat_cmp_total}
-use Rattle.std.specs.FinMap.{IsAntisymmetric}
+use Rattle.std.specs.FinMap.{FinMap, get, insert, remove, get-insert, get-remove, IsAntisymmetric}
 use Rattle.std.proofs.lemmas.Cmp.{on_total, then_total}
 use Rattle.std.proofs.lemmas.Map.Lookups.{exact_pairs, exact_unsigned}
 use Rattle.fk_model.specs.declared.names.Who.{Who}
@@ -35,3 +35,11 @@ same_who_refl a = grind (arith, nat_tests)
 
 pub same_who_eq : (a b : Who) → same_who a b ≡ true → a ≡ b
 same_who_eq a b h = who_tied a b (same_tied a b ∙ h)
+
+pub same_who_back : (a b : Who) → same_who a b ≡ same_who b a
+same_who_back a b = grind (arith, nat_tests)
+
+-- a map in which a key's value goes to another key
+pub get-renamed : {X : Type 0} (old left new : FinMap who_cmp X) (from to : Who) (x : X) → get old from ≡ Some x → left ≡ remove old from → new ≡ insert left to x →
+    (q : Who) → get new q ≡ cond (same_who q to) (get old from) (cond (same_who q from) None (get old q))
+get-renamed old left new from to x there removed inserted q = rw (inserted, get-insert who_total left to x q, removed, get-remove who_total old from q, same_tied q to, same_tied q from, there) refl

@@ -1,15 +1,30 @@
 -- Residents: an object that has none has nothing in it.
-use Rattle.std.proofs.Common.{◌≡◌, ℕ, ◌<◌, false, ◌∷◌, Option, Some, None, refl}
+use Rattle.std.proofs.Common.{Bor, ◌≡◌, ℕ, zero, suc, ◌<◌, ◌≤◌, Bool, true, false, ◌∷◌, Option, Some, None, option_map, is_some, IsSome, refl, sym, ap, subst, ◌∙◌, arith}
+use Rattle.std.specs.FinMap.{get}
+use Rattle.std.specs.Option.{option_copied}
+use Rattle.fk_model.specs.declared.names.Who.{Who}
+use Rattle.fk_model.specs.declared.body.Body as bodies_of
 use Rattle.fk_model.specs.declared.limits.TheConstants.{SLOTS}
 use Rattle.fk_model.specs.Places.{Path}
-use Rattle.fk_model.specs.Objects.{Body}
-use Rattle.fk_model.specs.Searches.{lowest, has_residents}
+use Rattle.fk_model.specs.Objects.{Body, and_then, or_else}
+use Rattle.fk_model.specs.Searches.{lowest, first_resident, has_residents}
+use Rattle.fk_model.specs.World.{World}
 use Rattle.fk_model.proofs.walks.Lowest.{lowest_none}
 use Rattle.fk_model.proofs.walks.WalkLaws.{none_from}
-use Rattle.fk_store.specs.Contents.{Contents}
+use Rattle.fk_store.specs.Contents.{Contents, birth_of, birth_there, is_live}
+use Rattle.fk_store.specs.Paths.{path, place, space_at}
+use Rattle.fk_store.specs.Names.{at}
+use Rattle.fk_store.specs.Bodies.{body_by}
 use Rattle.fk_store.specs.World.{world}
 use Rattle.fk_store.specs.Kept.{IsKept}
+use Rattle.fk_store.proofs.Walks.{space_at-path, space_at-lost, path-home}
+use Rattle.fk_store.proofs.ReachLaws.{lowest-first}
 use Rattle.fk_store.proofs.Born.{rooted}
+use Rattle.fk_store.proofs.LookUps.{body-place}
+
+pub some_mapped : {A B : Type 0} (f : A → B) (o : Option A) → is_some (option_map f o) ≡ is_some o
+some_mapped f None = refl
+some_mapped f (Some a) = refl
 
 pub no_residents : (m : Contents) → IsKept m → (x : Path) → has_residents (world m) x ≡ false → (k : ℕ) → (world m).body (k ∷ x) ≡ None
 no_residents m kept x none k = by ((world m).body (k ∷ x)) refl
@@ -20,3 +35,75 @@ no_residents m kept x none k = by ((world m).body (k ∷ x)) refl
     by : (o : Option Body) → (world m).body (k ∷ x) ≡ o → (world m).body (k ∷ x) ≡ None
     by None e = e
     by (Some b) e = below ((rooted m kept).slots k x (rw e refl))
+
+-- what nothing has at its path is under no name
+pub none_there : (m : Contents) → IsKept m → (who : Who) → (world m).body (place (path m) who) ≡ None → get m.bodies who ≡ None
+none_there m kept who none = by (get m.bodies who) refl
+  where
+    by : (o : Option bodies_of.Body) → get m.bodies who ≡ o → o ≡ None
+    by None e = refl
+    by (Some b) e =
+        let some : (world m).body (place (path m) who) ≡ Some (body_by (path m) b) = body-place m kept who ∙ ap (option_map (body_by (path m))) e in
+        absurd (cc)
+
+-- what is looked up is there where the look-up finds it
+pub found-there : {A B : Type 0} (f : A → B) (o : Option (Bor A)) (b : Option B) → b ≡ option_map f (option_copied o) → is_some o ≡ is_some b
+found-there f None b is = sym (ap is_some is)
+found-there f (Some a) b is = sym (ap is_some is)
+
+-- ---- the lowest one
+
+-- a taken slot
+abbrev pub taken : World → Path → ℕ → Option ℕ
+taken w s k = option_map (λ b. k) (w.body (k ∷ s))
+
+pub resident-found : (w : World) (s : Path) (k : ℕ) → k < 256 → lowest k (taken w s) ≡ None → IsSome (w.body (k ∷ s)) → Some k ≡ first_resident w s
+resident-found w s k low before some = sym (lowest-first 256 k (taken w s) (Some k) before (by (w.body (k ∷ s)) some) refl low)
+  where
+    by : (o : Option Body) → IsSome o → option_map (λ b. k) o ≡ Some k
+    by None h = absurd (cc)
+    by (Some b) h = refl
+
+pub resident-none : (w : World) (s : Path) (k : ℕ) → 256 ≤ k → k ≤ 256 → lowest k (taken w s) ≡ None → None ≡ first_resident w s
+resident-none w s k past low before = let end : k ≡ 256 = omega arith in sym (subst (λ n. lowest n (taken w s) ≡ None) end before)
+
+some_lowest : {A : Type 0} (n : ℕ) (f : ℕ → Option A) → is_some (lowest n (λ k. option_map (λ a. k) (f k))) ≡ is_some (lowest n f)
+unfolding lowest
+some_lowest zero f = refl
+some_lowest {A = A} (suc n) f = by (lowest n (λ k. option_map (λ a. k) (f k))) (lowest n f) (some_lowest n f)
+  where
+    by : (o : Option ℕ) (p : Option A) → is_some o ≡ is_some p → is_some (or_else o (option_map (λ a. n) (f n))) ≡ is_some (or_else p (f n))
+    by None None h = some_mapped (λ a. n) (f n)
+    by None (Some a) h = absurd (cc)
+    by (Some k) None h = absurd (cc)
+    by (Some k) (Some a) h = refl
+
+-- where there is a lowest one there is one
+pub some-resident : (w : World) (s : Path) → is_some (first_resident w s) ≡ has_residents w s
+some-resident w s = some_lowest SLOTS (λ k. w.body (k ∷ s))
+
+lowest-nothing : {A : Type 0} (n : ℕ) (f : ℕ → Option A) → ((k : ℕ) → f k ≡ None) → lowest n f ≡ None
+unfolding lowest
+lowest-nothing zero f none = refl
+lowest-nothing (suc n) f none = rw (lowest-nothing n f none, none n) refl
+
+module _ (m : Contents) (kept : IsKept m) (who : Who) where
+  -- a walk down the path of an object finds its birth number
+  space_at-place : space_at m (place (path m) who) ≡ birth_there m who
+  unfolding space_at
+  space_at-place = by (is_live m who.space) refl
+    where
+      lost : (o : Option bodies_of.Body) → get m.bodies who ≡ o → is_live m who.space ≡ false → and_then birth_of o ≡ None
+      lost None e none = refl
+      lost (Some b) e none = let live = kept.housed who (rw e refl) in absurd (cc)
+
+      by : (t : Bool) → is_live m who.space ≡ t → and_then (λ n. birth_there m (at n who.slot)) (space_at m (path m who.space)) ≡ birth_there m who
+      by true live = rw (space_at-path m kept who.space live) refl
+      by false none = rw (space_at-lost m kept who.space none) (sym (lost (get m.bodies who) refl none))
+
+  pub plain-empty : (o : Option ℕ) → o ≡ birth_there m who → o ≡ None → false ≡ has_residents (world m) (place (path m) who)
+  unfolding world
+  plain-empty o is none = sym (ap is_some (lowest-nothing SLOTS (λ k. (world m).body (k ∷ place (path m) who)) (λ k. rw (space_at-place, ← is, none) refl)))
+
+  pub space-residents : (n : ℕ) → Some n ≡ birth_there m who → is_some (first_resident (world m) (path m n)) ≡ has_residents (world m) (place (path m) who)
+  space-residents n is = ap (λ s. is_some (first_resident (world m) s)) (path-home m kept n who (kept.alone who n (sym is))) ∙ some-resident (world m) (place (path m) who)

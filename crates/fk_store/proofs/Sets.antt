@@ -29,7 +29,7 @@ use Rattle.fk_store.proofs.Walks.{same_path_true, space_at-path, same_space}
 pub tied : (n j : ℕ) (who : Who) → eq_by_cmp who_cmp (at n j) who ≡ (j == who.slot && n == who.space)
 tied n j who = grind (arith, nat_tests)
 
-false_right : (b : Bool) → (b && false) ≡ false
+pub false_right : (b : Bool) → (b && false) ≡ false
 false_right true = refl
 false_right false = refl
 

@@ -13,4 +13,5 @@ pub mod Kept
 pub mod Makes
 pub mod Edits
 pub mod Sweeps
+pub mod Parts
 pub mod Reaches

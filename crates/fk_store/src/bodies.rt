@@ -1,14 +1,18 @@
 //! The bodies of all objects, by their names.
-ghost use Rattle.std.specs.Prelude.{◌≡◌, OnOk, OnErr, IsSome, option_map, find, map as each};
+ghost use Rattle.std.specs.Prelude.{◌≡◌, OnOk, OnErr, IsSome, Some, None, true, false, if◌then◌else◌, option_map, find, map as each};
 ghost use Rattle.std.specs.Option.{option_copied};
 ghost use Rattle.std.specs.FinMap as map;
 ghost use Rattle.fk_model.specs.declared.names.Who.{Who};
+ghost use Rattle.fk_model.specs.declared.body.Body.{Body};
 ghost use Rattle.fk_model.specs.Objects.{and_then};
-ghost use Rattle.fk_store.specs.Names.{who_cmp};
+ghost use Rattle.fk_store.specs.Names.{who_cmp, same_who};
+ghost use Rattle.fk_store.specs.Named.{Each};
+ghost use Rattle.fk_store.specs.Parts.{plays};
 ghost use Rattle.fk_store.specs.Sweeps.{body_after, swept};
 ghost use Rattle.fk_store.specs.Orders.{IsFirstAfter};
 ghost use Rattle.fk_store.specs.Contents.{birth_of, is_number, home_in};
 
+use crate::parts::Part;
 use crate::sweeps::Sweep;
 use crate::tables::{next_key, put_value, set_value, take_away, value_of};
 use fk_model::{Body, NoMemory, Who};
@@ -89,6 +93,25 @@ impl Bodies {
         take_away(&mut self.entries, who);
     }
 
+    /// Gives an object another name, under which it is alone.
+    pub fn rename(&mut self, from: Who, to: Who)
+        requires { IsSome (map.get self.old from) }
+        ensures { (q : Who) → map.get self.new q ≡ if same_who q to then map.get self.old from else (if same_who q from then None else map.get self.old q) }
+    {
+        if let Some(&body) = self.at(from) {
+            take_away(&mut self.entries, from);
+            put_value(&mut self.entries, to, body).unwrap();
+        }
+    }
+
+    /// An object that plays this part; nothing where none does.
+    pub fn first(&self, part: Part) -> Option<Who>
+        ensures some { Each (λ who. (b : Body) × (map.get self.now who ≡ Some b) × (plays part b ≡ true)) result }
+        ensures none { result ≡ None → (who : Who) (b : Body) → map.get self.now who ≡ Some b → plays part b ≡ false }
+    {
+        first_among(&self.entries, part)
+    }
+
     /// Sweeps all bodies.
     pub fn sweep(&mut self, sweep: Sweep)
         ensures { (q : Who) → map.get self.new q ≡ option_map (body_after sweep q.space) (map.get self.old q) }
@@ -125,6 +148,17 @@ fn home_among(entries: &[(Who, Body)], space: u32) -> Option<Who>
 {
     for entry in entries {
         if is_born(&entry.1, space) {
+            return Some(entry.0);
+        }
+    }
+    None
+}
+
+fn first_among(entries: &[(Who, Body)], part: Part) -> Option<Who>
+    ensures { result ≡ option_map (λ e. e.0) (find (λ e. plays part e.1) entries.now) }
+{
+    for entry in entries {
+        if part.is_played_by(&entry.1) {
             return Some(entry.0);
         }
     }

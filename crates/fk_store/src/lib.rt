@@ -12,6 +12,7 @@ mod faults;
 mod memory;
 mod mutexes;
 mod pages;
+mod parts;
 mod pointers;
 mod ports;
 mod reach;

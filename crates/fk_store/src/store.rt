@@ -3,13 +3,13 @@ ghost use Rattle.std.specs.Prelude.{◌≡◌, IsTrue, false, ◌≢◌, ◌↔�
 ghost use Rattle.std.specs.Option.{option_copied};
 ghost use Rattle.fk_model.specs.Objects.{kind_of};
 ghost use Rattle.fk_model.specs.World.{Edit, edited, apply};
-ghost use Rattle.fk_model.specs.World.Change.{Alter, Make, Kill, PutPage, DropPage};
+ghost use Rattle.fk_model.specs.World.Change.{Alter, Make, Kill, Move, PutPage, DropPage};
 ghost use Rattle.fk_model.specs.Valid.{kind_there};
 ghost use Rattle.fk_model.specs.Searches.{has_residents};
 ghost use Rattle.fk_model.specs.Places.{Path, same_path};
 ghost use Rattle.fk_model.specs.Who.{space_born};
 ghost use Rattle.fk_model.specs.declared.names.Who.{Who};
-ghost use Rattle.fk_store.specs.Names.{who_cmp, rank, same_who};
+ghost use Rattle.fk_store.specs.Names.{who_cmp, rank, at, same_who};
 ghost use Rattle.fk_store.specs.Orders.{IsFirstAfter};
 ghost use Rattle.fk_store.specs.Makes.{making, IsNext, next_by};
 ghost use Rattle.fk_store.specs.Paths.{path, IsAtHome, IsApart};
@@ -18,6 +18,8 @@ ghost use Rattle.fk_store.specs.Kept.{IsSized};
 ghost use Rattle.fk_store.specs.World.{world, first_world, place_of, body_of, IsLive, IsSpace};
 
 mod holds;
+mod residents;
+mod served;
 mod words;
 
 use crate::bodies::Bodies;
@@ -189,6 +191,38 @@ impl Store {
         });
         self.bodies.remove(who);
         self.pages.remove_all(space);
+    }
+
+    /// Gives an object in which nothing stands another slot of its space, which is empty. Everything
+    /// that names it follows, as do the ports that are in it, and a space keeps its pages.
+    pub fn move_to(&mut self, from: Who, to: u8)
+        requires there { IsLive self.old from }
+        requires empty { has_residents (world self.old) (place_of self.old from) ≡ false }
+        requires free { (world self.old).body (to ∷ path self.old from.space) ≡ None }
+        ensures world { world self.new ≡ apply (Move (place_of self.old from) to) (world self.old) }
+        ensures left { kind_there (world self.new) (place_of self.old from) ≡ None }
+        ensures moved { kind_there (world self.new) (to ∷ path self.old from.space)
+            ≡ kind_there (world self.old) (place_of self.old from) }
+        ensures target { place_of self.new (at from.space to) ≡ to ∷ path self.old from.space }
+        ensures follows { (n : ℕ) → path self.old n ≡ place_of self.old from → path self.new n ≡ to ∷ path self.old from.space }
+
+        // All else is there still, of its kind, and each name and each other space keeps its path.
+        ensures kinds { (x : Path) → same_path x (place_of self.old from) ≡ false
+            → same_path x (to ∷ path self.old from.space) ≡ false
+            → kind_there (world self.new) x ≡ kind_there (world self.old) x }
+        ensures lives { (other : Who) → IsLive self.old other → same_who other from ≡ false → IsLive self.new other }
+        ensures places { (other : Who) → IsLive self.old other → place_of self.new other ≡ place_of self.old other }
+        ensures paths { (n : ℕ) → path self.old n ≢ place_of self.old from → path self.new n ≡ path self.old n }
+    {
+        let target = Who {
+            space: from.space,
+            slot: to,
+        };
+        self.bodies.sweep(Sweep {
+            from,
+            to: Some(target),
+        });
+        self.bodies.rename(from, target);
     }
 
     /// The words of a page of a space.
