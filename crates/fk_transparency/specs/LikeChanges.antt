@@ -72,10 +72,17 @@ pub data LikeChanges (root : Path) (see : Ptr → Ptr) : World → List Change �
 
 -- ---- outcomes
 
--- what is refused is refused alike, and what goes makes the same changes. Of what waits nothing is said: a hold above the
--- root isn't seen inside. What a move tells isn't compared
+-- what waits waits alike, what is refused is refused alike, and what goes makes the same changes. What a move tells isn't
+-- compared
 abbrev pub IsLikeOutcome : Path → (Ptr → Ptr) → World → Outcome → Outcome → Type 0
-IsLikeOutcome root see big small Waits = Unit {0}
+IsLikeOutcome root see big Waits Waits = Unit {0}
 IsLikeOutcome root see big (Refused status) (Refused refusal) = status ≡ refusal
 IsLikeOutcome root see big (Goes cs said) (Goes ds told) = LikeChanges root see big cs ds
 IsLikeOutcome root see big small other = ⊥
+
+-- so it is unless the outcome of the big world waits: a peer outside may not be at what the other side needs, which isn't
+-- seen inside
+abbrev pub IsLikeUnlessWaiting : Path → (Ptr → Ptr) → World → Outcome → Outcome → Type 0
+IsLikeUnlessWaiting root see big small Waits = Unit {0}
+IsLikeUnlessWaiting root see big small (Refused status) = IsLikeOutcome root see big small (Refused status)
+IsLikeUnlessWaiting root see big small (Goes changes said) = IsLikeOutcome root see big small (Goes changes said)

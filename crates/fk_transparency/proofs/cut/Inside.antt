@@ -23,11 +23,11 @@ use Rattle.fk_model.specs.Seen.{said_by, is_send, sends_out, words_out, picked_i
 use Rattle.fk_model.specs.Seen.Seen.{Onwards, Unseen, Other}
 use Rattle.fk_transparency.specs.CutLaws.{KeepsCut, IsAtStage, moves, StageInsideKeepsCut}
 use Rattle.fk_transparency.specs.Likeness.{seeing, seen_thread, IsLikeness}
-use Rattle.fk_transparency.specs.LikeChanges.{IsLikeOutcome}
+use Rattle.fk_transparency.specs.LikeChanges.{IsLikeOutcome, IsLikeUnlessWaiting}
 use Rattle.fk_model.proofs.walks.PlaceLaws.{strip-append, strip_some}
 use Rattle.fk_transparency.proofs.likeness.Instances.{cut-like}
 use Rattle.fk_transparency.proofs.likeness.Holds.{is_free-like, unheld-free}
-use Rattle.fk_transparency.proofs.likeness.Outcomes.{closed-like}
+use Rattle.fk_transparency.proofs.likeness.Outcomes.{unless_waiting, closed-like}
 use Rattle.fk_transparency.proofs.likeness.ChangeLists.{changes-like, cut-changes}
 use Rattle.fk_transparency.proofs.cut.Holds.{changes-allowed}
 use Rattle.fk_transparency.proofs.cut.Plain.{AreQuiet, changes-clear, clear-plain, like-plain}
@@ -117,11 +117,16 @@ module _ {root : Path} {see : Ptr → Ptr} {small big : World} (like : IsLikenes
   Alike = IsLikeOutcome root see big
 
   pub when_same : (a b : Bool) (near far : Outcome) → a ≡ b → Alike near far → Alike (when a near) (when b far)
-  when_same a true near far e h = rw e h
-  when_same a false near far e h = tt
+  when_same a b near far e h = rw e (by b)
+    where
+      by : (b : Bool) → Alike (when b near) (when b far)
+      by true = h
+      by false = tt
 
   pub with_pick-like : (chosen : Bool) (p pick : Option Path) (near far : Outcome) → is_none p ≡ is_none pick → Alike near far → Alike (with_pick chosen p near) (with_pick chosen pick far)
-  with_pick-like chosen p pick near Waits e h = tt
+  with_pick-like chosen p pick Waits Waits e h = tt
+  with_pick-like chosen p pick (Refused status) Waits e h = absurd h
+  with_pick-like chosen p pick (Goes cs said) Waits e h = absurd h
   with_pick-like chosen p pick (Refused status) (Refused refusal) e h = when_same (is_none p) (is_none pick) (Refused status) (Refused refusal) e h
   with_pick-like chosen p pick (Goes cs said) (Goes ds told) e h = when_same (chosen || is_none p) (chosen || is_none pick) (Goes cs said) (Goes ds told) (ap (λ b. chosen || b) e) h
   with_pick-like chosen p pick (Refused status) (Goes ds told) e h = absurd h
@@ -205,7 +210,7 @@ module _ (w : World) (nester : Path) (slot : ℕ) (plain : IsPlain w nester slot
   abbrev pub HasGone : Onward → Outcome → Outcome → Type 0
   HasGone m near far = IsPlain (stepped w far).world nester slot × ((told : List Told) × OnwardTo small m near told (cut (stepped w far).world nester slot))
 
-  pub has_gone : (p : Option Path) (n : ℕ) (near far : Outcome) → is_frozen w root ≡ false → AlikeHere near far → AreQuiet root (listed far) → GoesAllowed w me far → HasGone (Own (k ∷ q) p n) near far
+  pub has_gone : (p : Option Path) (n : ℕ) (near far : Outcome) → is_frozen w root ≡ false → IsLikeUnlessWaiting root see w near far → AreQuiet root (listed far) → GoesAllowed w me far → HasGone (Own (k ∷ q) p n) near far
   has_gone p n (Goes cs said) (Goes ds told) free h quiet ready =
       let like = cut-like w nester slot plain in
       let cuts = cut-changes w nester slot cs ds plain h in (
@@ -232,7 +237,7 @@ module _ (w : World) (nester : Path) (slot : ℕ) (plain : IsPlain w nester slot
         let free = unheld-free like q t e in
         let both = alike free in
         has_gone p n _ far free
-        (either_way root see w (talks_outside small (k ∷ q) && is_none p) (is_free small q (seen_thread see t)) _ _ far (is_free-like like free q t ∙ e) both.0 both.1)
+        (unless_waiting like _ _ (either_way root see w (talks_outside small (k ∷ q) && is_none p) (is_free small q (seen_thread see t)) _ _ far (is_free-like like free q t ∙ e) both.0 both.1))
         quiet ready
 
     pub seen_is : thread_in small (k ∷ q) ≡ Some (seen_thread see t)

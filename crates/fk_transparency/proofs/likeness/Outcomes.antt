@@ -22,7 +22,7 @@ use Rattle.fk_transparency.specs.Likeness.{seeing, seen_talk, seen_thread, HasLi
 use Rattle.fk_transparency.specs.Likeness.EndLikeness.{Ends}
 use Rattle.fk_transparency.specs.Likeness.LineLikeness.{Lines}
 use Rattle.fk_transparency.specs.Likeness.ReachLikeness.{Homes, Misses, Bads}
-use Rattle.fk_transparency.specs.LikeChanges.{LikeChanges, IsLikeOutcome}
+use Rattle.fk_transparency.specs.LikeChanges.{LikeChanges, IsLikeOutcome, IsLikeUnlessWaiting}
 use Rattle.fk_transparency.specs.LikeChanges.LikeChange.{Alters}
 use Rattle.fk_transparency.specs.LikeChanges.LikeChanges.{Empty, Both, Beyond}
 use Rattle.fk_transparency.proofs.likeness.Memory.{reach_word-like}
@@ -112,10 +112,11 @@ module _ {root : Path} {see : Ptr → Ptr} {small big : World} (like : IsLikenes
   when-like true near far h = h
   when-like false near far h = tt
 
-  -- what waits in the big world may go in the small one
-  pub when_more : (a b : Bool) (near far : Outcome) → (b ≡ true → (a ≡ true) × Alike near far) → Alike (when a near) (when b far)
-  when_more a true near far h = rw (h refl).0 (h refl).1
-  when_more a false near far h = tt
+  -- what is alike is so unless the big world waits
+  pub unless_waiting : (near far : Outcome) → Alike near far → IsLikeUnlessWaiting root see big near far
+  unless_waiting near Waits h = tt
+  unless_waiting near (Refused status) h = h
+  unless_waiting near (Goes changes said) h = h
 
   -- ---- the ends of a stage
 
@@ -136,7 +137,9 @@ module _ {root : Path} {see : Ptr → Ptr} {small big : World} (like : IsLikenes
       by false = append-like h (Both (Alters c.slot c.space _ _ refl tt) Empty)
 
   pub telling-like : (said told : Said) (near far : Outcome) → Alike near far → Alike (telling said near) (telling told far)
-  telling-like said told near Waits h = tt
+  telling-like said told Waits Waits h = tt
+  telling-like said told (Refused status) Waits h = absurd h
+  telling-like said told (Goes cs was) Waits h = absurd h
   telling-like said told (Refused status) (Refused refusal) h = h
   telling-like said told (Goes cs was) (Goes ds heard) h = by was heard
     where
@@ -154,7 +157,9 @@ module _ {root : Path} {see : Ptr → Ptr} {small big : World} (like : IsLikenes
 
   -- a refused stage ends its call
   pub closed-like : (c : Caller) (near far : Outcome) → Alike near far → Alike (closed c near) (closed (under root c) far)
-  closed-like c near Waits h = tt
+  closed-like c Waits Waits h = tt
+  closed-like c (Refused status) Waits h = absurd h
+  closed-like c (Goes cs said) Waits h = absurd h
   closed-like c (Refused status) (Refused refusal) h = rw h (by c.is_porter)
     where
       by : (b : Bool) → Alike (cond b (Goes [] (Answered refusal [])) (Goes (Alter (path_of c) (End refusal []) ∷ []) Nothing))
@@ -166,6 +171,11 @@ module _ {root : Path} {see : Ptr → Ptr} {small big : World} (like : IsLikenes
   closed-like c (Goes cs said) (Refused refusal) h = absurd h
   closed-like c Waits (Refused refusal) h = absurd h
   closed-like c Waits (Goes ds told) h = absurd h
+
+  pub closed-unless : (c : Caller) (near far : Outcome) → IsLikeUnlessWaiting root see big near far → IsLikeUnlessWaiting root see big (closed c near) (closed (under root c) far)
+  closed-unless c near Waits h = tt
+  closed-unless c near (Refused status) h = unless_waiting _ _ (closed-like c near (Refused status) h)
+  closed-unless c near (Goes changes said) h = unless_waiting _ _ (closed-like c near (Goes changes said) h)
 
   -- ---- accesses
 

@@ -22,7 +22,7 @@ use Rattle.fk_transparency.specs.LikeChanges.{seen_edit}
 use Rattle.fk_transparency.specs.LikeChanges.LikeChange.{Alters}
 use Rattle.fk_transparency.specs.LikeChanges.LikeChanges.{Empty, Both}
 use Rattle.fk_transparency.proofs.likeness.Reads.{portset-seen, plain_in-like}
-use Rattle.fk_transparency.proofs.likeness.Memory.{root_space}
+use Rattle.fk_transparency.proofs.likeness.Memory.{root_space, root_seen}
 use Rattle.fk_transparency.proofs.likeness.Waits.{candidate-like}
 use Rattle.fk_transparency.proofs.likeness.Sends.{Same, says_nothing, same_bind, same_when}
 use Rattle.fk_transparency.proofs.rebinding.Messages.{same_closed}
@@ -92,9 +92,17 @@ module _ {root : Path} {see : Ptr → Ptr} {small big : World} (like : IsLikenes
       by true = refl
       by false = refl
 
+  nobody_near : (space : Path) (set : ℕ) → candidate small space set [] ≡ None
+  unfolding candidate
+  nobody_near space set = rw (root_seen like) (by (is_unheld small []))
+    where
+      by : (b : Bool) → cond {A = Option Candidate} b None None ≡ None
+      by true = refl
+      by false = refl
+
   takes_picked-like : is_frozen big root ≡ false → (k : ℕ) (q : Path) (set : ℕ) (p pick : Option Path) → AlikeOptions (IsBeneath root) p pick → Same like (takes_picked small (user_at (k ∷ q)) set p) (takes_picked big (user_at (k ∷ (q ++ root))) set pick)
   takes_picked-like free k q set None None h = (tt, tt)
-  takes_picked-like free k q set (Some []) (Some x) h = rw (h, nobody (q ++ root) set) (tt, tt)
+  takes_picked-like free k q set (Some []) (Some x) h = rw (h, nobody (q ++ root) set, nobody_near q set) (tt, tt)
   takes_picked-like free k q set (Some (j ∷ z)) (Some x) h = rw h (takes_any k q j z (candidate small q set (j ∷ z)) (candidate big (q ++ root) set (j ∷ (z ++ root))) (candidate-like like free q set j z))
   takes_picked-like free k q set None (Some x) h = absurd h
   takes_picked-like free k q set (Some z) None h = absurd h
@@ -115,7 +123,9 @@ module _ {root : Path} {see : Ptr → Ptr} {small big : World} (like : IsLikenes
   none_alike (Some z) None h = absurd h
 
   same_picked : (p pick : Option Path) (near far : Outcome) → is_none p ≡ is_none pick → Same like near far → Same like (with_pick true p near) (with_pick true pick far)
-  same_picked p pick near Waits e h = (tt, tt)
+  same_picked p pick Waits Waits e h = (tt, tt)
+  same_picked p pick (Refused status) Waits e h = absurd h.0
+  same_picked p pick (Goes cs said) Waits e h = absurd h.0
   same_picked p pick (Refused status) (Refused refusal) e h = same_when like (is_none p) (is_none pick) (Refused status) (Refused refusal) e h
   same_picked p pick (Goes cs said) (Goes ds told) e h = h
   same_picked p pick (Refused status) (Goes ds told) e h = absurd h.0

@@ -1,5 +1,5 @@
 -- The first rows that act alike in a likeness: a lock, a stop of a thread, an instruction.
-use Rattle.std.proofs.Common.{◌≡◌, ℕ, Bool, true, false, not, leb, List, [], ◌∷◌, ◌++◌, Option, Some, None, refl}
+use Rattle.std.proofs.Common.{◌≡◌, ℕ, ◌+◌, Bool, true, false, not, leb, List, [], ◌∷◌, ◌++◌, Option, Some, None, refl}
 use Rattle.fk_model.specs.declared.instruction.Act.{Act}
 use Rattle.fk_model.specs.declared.instruction.Act.TheVariants.{Put, Jump, Load, Store, Halt, Call}
 use Rattle.fk_model.specs.declared.limits.TheConstants.{MOST_STOPS}
@@ -9,7 +9,7 @@ use Rattle.fk_model.specs.declared.statuses.status.TheConstants as status
 use Rattle.fk_model.specs.Places.{Path, Ptr}
 use Rattle.fk_model.specs.Objects.{Mode, mutex_of}
 use Rattle.fk_model.specs.Objects.Mode.{Running, Halted}
-use Rattle.fk_model.specs.World.Edit.{Proceed}
+use Rattle.fk_model.specs.World.Edit.{Proceed, SetLocked, SetStops}
 use Rattle.fk_model.specs.World.{World}
 use Rattle.fk_model.specs.Calls.{todo_of}
 use Rattle.fk_model.specs.Instructions.{act, next}
@@ -42,7 +42,7 @@ module _ {root : Path} {see : Ptr → Ptr} {small big : World} (like : IsLikenes
   unfolding mutex_lock
   mutex_lock-like c m =
       bind_same like _ _ _ _ (plain_in-like like mutex_of (mutex-seen see) c c.space m)
-      (λ locked. when-like like (not locked) _ _ (done-like like c _ _ [] (Both (Alters m c.space _ _ refl tt) Empty)))
+      (λ locked. when-like like (not locked) _ _ (done-like like c _ _ [] (Both (Alters m c.space (SetLocked true) (SetLocked true) refl tt) Empty)))
 
   -- ---- a stop
 
@@ -57,7 +57,7 @@ module _ {root : Path} {see : Ptr → Ptr} {small big : World} (like : IsLikenes
       bind_end like _ _ _ _ (thread_by-like c h)
       (λ k q t is near. refuse-like like status.HELD _ _ _ _ (is_frozen_for-like like free (c.slot ∷ c.space) (k ∷ q))
       (λ held. refuse-like like status.FULL (leb MOST_STOPS t.stops) (leb MOST_STOPS t.stops) _ _ refl
-      (λ few. done-like like c _ _ [] (Both (Alters k q _ _ refl tt) Empty))))
+      (λ few. done-like like c _ _ [] (Both (Alters k q (SetStops (t.stops + 1)) (SetStops (t.stops + 1)) refl tt) Empty))))
 
   -- ---- an instruction
 

@@ -86,8 +86,11 @@ module _ {root : Path} {see : Ptr → Ptr} {small big : World} (like : IsLikenes
   same_bind R (Err status) (Ok y) f g h go = absurd h
 
   pub same_when : (a b : Bool) (near far : Outcome) → a ≡ b → Same near far → Same (when a near) (when b far)
-  same_when a true near far e h = rw e h
-  same_when a false near far e h = (tt, tt)
+  same_when a b near far e h = rw e (by b)
+    where
+      by : (b : Bool) → Same (when b near) (when b far)
+      by true = h
+      by false = (tt, tt)
 
   same_own_at : (k : ℕ) (q : Path) (write : Bool) (go on : Path → ℕ → Outcome) (a b : Reach) → ReachLikeness root see big a b → ((s : Path) (page : ℕ) → Same (go s page) (on (s ++ root) page)) → Same (own_page_at (k ∷ q) write go a) (own_page_at (k ∷ (q ++ root)) write on b)
   same_own_at k q write go on _ _ (Homes s page) goes = goes s page

@@ -48,7 +48,9 @@ use Rattle.fk_transparency.proofs.talks.Clients.{alone, picked, outside_at, outs
 
 module _ {root : Path} {see : Ptr → Ptr} {small big : World} (like : IsLikeness root see small big) where
   pub same_closed : (k : ℕ) (q : Path) (near far : Outcome) → Same like near far → Same like (closed (user_at (k ∷ q)) near) (closed (user_at (k ∷ (q ++ root))) far)
-  same_closed k q near Waits h = (tt, tt)
+  same_closed k q Waits Waits h = (tt, tt)
+  same_closed k q (Refused status) Waits h = absurd h.0
+  same_closed k q (Goes cs said) Waits h = absurd h.0
   same_closed k q (Refused status) (Refused refusal) h = (Both (Alters k q (End status []) (End refusal []) (ap (λ (s : ℕ). End s []) h.0) tt) Empty, says_nothing)
   same_closed k q (Goes cs said) (Goes ds told) h = h
   same_closed k q (Refused status) (Goes ds told) h = absurd h.0
@@ -59,7 +61,7 @@ module _ {root : Path} {see : Ptr → Ptr} {small big : World} (like : IsLikenes
   pub same_call : (k : ℕ) (q : Path) (p : Option Path) (stage : Stage) → chooses stage ≡ false → is_for_porters stage ≡ false → Same like (stage_row small (user_at (k ∷ q)) None stage) (stage_row big (user_at (k ∷ (q ++ root))) None stage) →
       Same like (call_row small (user_at (k ∷ q)) p stage) (call_row big (user_at (k ∷ (q ++ root))) p stage)
   same_call k q None stage picks users h = rw (alone small (k ∷ q) stage picks users, alone big (k ∷ (q ++ root)) stage picks users) (same_closed k q _ _ h)
-  same_call k q (Some y) stage picks users h = rw (picked big (k ∷ (q ++ root)) y stage picks) (tt, tt)
+  same_call k q (Some y) stage picks users h = rw (picked small (k ∷ q) y stage picks, picked big (k ∷ (q ++ root)) y stage picks) (tt, tt)
 
   -- ---- who serves whom, in a list of the same objects
 
@@ -175,11 +177,13 @@ client_rebound : (n : ℕ) (stage : Stage) → chooses stage ≡ false → is_fo
     ((see : Ptr → Ptr) (small c : World) (like : IsLikeness [] see small c) (k : ℕ) (q : Path) (talk : Talk) → talk_at small (k ∷ q) ≡ Some (seen_talk see talk) → talk_at c (k ∷ (q ++ [])) ≡ Some talk → (o p : Outcome) →
     Same like (outside_row small (user_at (k ∷ q)) n stage o) (outside_row c (user_at (k ∷ (q ++ []))) n stage p)) →
     (p : Option Path) → IsRebound p n stage
-client_rebound n stage picks users near out (Some y) see small c like outs world k q = rw (picked c (k ∷ (q ++ [])) y stage picks) (by (talks_outside c (k ∷ (q ++ []))))
+client_rebound n stage picks users near out (Some y) see small c like outs world k q = rw (picked small (k ∷ q) y stage picks, picked c (k ∷ (q ++ [])) y stage picks) (by (talks_outside small (k ∷ q)) (talks_outside c (k ∷ (q ++ []))))
   where
-    by : (b : Bool) → Same like (its_row (Some y) n stage small (k ∷ q)) (cond (b && false) (closed (user_at (k ∷ (q ++ []))) (outside_row c (user_at (k ∷ (q ++ []))) n stage Waits)) Waits)
-    by true = (tt, tt)
-    by false = (tt, tt)
+    by : (a b : Bool) → Same like (cond (a && false) (closed (user_at (k ∷ q)) (outside_row small (user_at (k ∷ q)) n stage Waits)) Waits) (cond (b && false) (closed (user_at (k ∷ (q ++ []))) (outside_row c (user_at (k ∷ (q ++ []))) n stage Waits)) Waits)
+    by true true = (tt, tt)
+    by true false = (tt, tt)
+    by false true = (tt, tt)
+    by false false = (tt, tt)
 client_rebound n stage picks users near out None see small c like outs world k q = rw (outside_same see small c like outs world k q) (by (talks_outside c (k ∷ (q ++ []))) refl)
   where
     by : (b : Bool) → talks_outside c (k ∷ (q ++ [])) ≡ b → Same like (cond (b && true) (closed (user_at (k ∷ q)) (outside_row small (user_at (k ∷ q)) n stage (call_row small (user_at (k ∷ q)) None stage))) (call_row small (user_at (k ∷ q)) None stage))

@@ -30,7 +30,7 @@ use Rattle.fk_transparency.specs.LikeChanges.LikeChanges.{Empty, Both}
 use Rattle.fk_model.specs.Rebind.{rebound_ptr, rebound, rebound_told}
 use Rattle.fk_transparency.specs.RebindLaws.{TouchRebinds}
 use Rattle.fk_transparency.proofs.likeness.Instances.{rebound-like}
-use Rattle.fk_transparency.proofs.likeness.Memory.{root_space, words_at-like}
+use Rattle.fk_transparency.proofs.likeness.Memory.{root_space, root_seen, words_at-like}
 use Rattle.fk_transparency.proofs.likeness.Holds.{is_unheld-like, is_free-like}
 use Rattle.fk_transparency.proofs.likeness.Talks.{thread_there-like}
 use Rattle.fk_transparency.proofs.likeness.Waits.{connecting_to-like}
@@ -108,11 +108,11 @@ module _ {see : Ptr → Ptr} {small c : World} (like : IsLikeness [] see small c
       by (Some seen) None e h = absurd h
 
   no_root : (near far : Thread → Outcome) → Alike (on_found near (thread_in small [])) (on_found far (thread_in c []))
-  no_root near far = rw (root_space like).2 tt
+  no_root near far = rw ((root_space like).2, root_seen like) tt
 
   when_so : (a b : Bool) (near far : Outcome) → a ≡ b → (b ≡ true → Alike near far) → Alike (when a near) (when b far)
   when_so a true near far e h = rw e (h refl)
-  when_so a false near far e h = tt
+  when_so a false near far e h = rw e tt
 
   free_here : (q : Path) (t : Thread) → is_free small q (seen_thread see t) ≡ is_free c (q ++ []) t
   free_here q t = is_free-like like (top_free c world) q t

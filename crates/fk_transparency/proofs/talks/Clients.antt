@@ -30,14 +30,14 @@ use Rattle.fk_model.specs.Seen.{count_in, writes_inside, only_fills, leads_out}
 use Rattle.fk_transparency.specs.Likeness.{seen_peer, seen_talk, PtrLikeness, HasLikeness, IfServer, AllInTalk, IsLikeness, IsOuter, AlikeOptions, IsSeenTalk, ReachLikeness}
 use Rattle.fk_transparency.specs.Likeness.PtrLikeness.{Nulls, Deads, Inside, PortAt, PortOut}
 use Rattle.fk_transparency.specs.Likeness.ReachLikeness.{Homes, Misses, Bads}
-use Rattle.fk_transparency.specs.LikeChanges.{LikeChanges, IsLikeOutcome}
+use Rattle.fk_transparency.specs.LikeChanges.{LikeChanges, IsLikeOutcome, IsLikeUnlessWaiting}
 use Rattle.fk_transparency.specs.LikeChanges.LikeChange.{Alters}
 use Rattle.fk_transparency.specs.LikeChanges.LikeChanges.{Empty, Both, Beyond}
 use Rattle.fk_laws.proofs.Frame.{or_off}
 use Rattle.fk_model.proofs.walks.PlaceLaws.{same_path_refl, strip_some, strip-append}
 use Rattle.fk_transparency.proofs.likeness.Memory.{reach_word-like, words_at-like}
 use Rattle.fk_transparency.proofs.likeness.Talks.{talk_at-like}
-use Rattle.fk_transparency.proofs.likeness.Outcomes.{append-like}
+use Rattle.fk_transparency.proofs.likeness.Outcomes.{append-like, unless_waiting}
 use Rattle.fk_transparency.proofs.likeness.Sends.{sent-like}
 
 -- ---- how many words a peer outside takes
@@ -58,7 +58,7 @@ module _ (root : Path) (see : Ptr → Ptr) (big : World) (n : ℕ) where
     pub counts : n ≡ unwrap_or (count_in (listed far)) 0
 
   abbrev pub AlikeTaking : Outcome → Outcome → Type 0
-  AlikeTaking near far = Takes far → IsLikeOutcome root see big (counted n near) far
+  AlikeTaking near far = Takes far → IsLikeUnlessWaiting root see big (counted n near) far
 
 -- who isn't among the peers inside is outside
 outer_at : (w : World) (root : Path) (thread : Ptr) (e : Path × Thread) → IsOuter root (Server thread) → thread_at w thread ≡ Some e → is_within root e.0 ≡ false
@@ -114,9 +114,9 @@ module _ {root : Path} {see : Ptr → Ptr} {small big : World} (like : IsLikenes
   near_row page = takes_words (user_at (k ∷ q)) (k ∷ q) (see talk.port) n address count page
 
   -- the row of the cut, where so many words are taken as the big world moves
-  took : (page : List ℕ) (m : ℕ) (ds : List Change) (told : Said) → n ≡ m → 0 < m → m ≤ moved_words address count 0 MOST_WORDS → LikeChanges root see big (Alter (k ∷ q) (CountMoved m) ∷ []) ds → Alike (counted n (near_row page)) (has_sent (user_at me) m count ds told)
+  took : (page : List ℕ) (m : ℕ) (ds : List Change) (told : Said) → n ≡ m → 0 < m → m ≤ moved_words address count 0 MOST_WORDS → LikeChanges root see big (Alter (k ∷ q) (CountMoved m) ∷ []) ds → IsLikeUnlessWaiting root see big (counted n (near_row page)) (has_sent (user_at me) m count ds told)
   took page m ds told e some few h =
-      rw (e, lt-ltb 0 m some, le-leb m (moved_words address count 0 MOST_WORDS) few, counted_sent m m count (k ∷ q) (Alter (k ∷ q) (CountMoved m) ∷ []) (see talk.port) (block m address page) outward) (sent-like like k q m count (Alter (k ∷ q) (CountMoved m) ∷ []) ds (Words (see talk.port) (block m address page)) told h)
+      rw (e, lt-ltb 0 m some, le-leb m (moved_words address count 0 MOST_WORDS) few, counted_sent m m count (k ∷ q) (Alter (k ∷ q) (CountMoved m) ∷ []) (see talk.port) (block m address page) outward) (unless_waiting like _ _ (sent-like like k q m count (Alter (k ∷ q) (CountMoved m) ∷ []) ds (Words (see talk.port) (block m address page)) told h))
 
   -- what is listed where words are sent
   sent_list : (P : List Change → Type 0) (m : ℕ) (ds : List Change) (told : Said) → ((tail : List Change) → P (ds ++ tail)) → P (listed (has_sent (user_at me) m count ds told))
@@ -217,32 +217,35 @@ module _ {root : Path} {see : Ptr → Ptr} {small big : World} (like : IsLikenes
 
   -- ---- an Over
 
-  passed : (ds : List Change) → LikeChanges root see big [] ds → Alike (passes_outside (user_at (k ∷ q)) near_line) (passes (user_at me) turns.Client me ds)
+  abbrev Passing : Outcome → Outcome → Type 0
+  Passing = IsLikeUnlessWaiting root see big
+
+  passed : (ds : List Change) → LikeChanges root see big [] ds → Passing (passes_outside (user_at (k ∷ q)) near_line) (passes (user_at me) turns.Client me ds)
   passed ds h = append-like (append-like h (Both (Alters k q _ (PassTurn turns.Server) refl tt) Empty)) (Both (Alters k q _ (Finish []) refl tt) Empty)
 
-  passes_thread : (o : Option (Path × Thread)) → ((e : Path × Thread) → o ≡ Some e → is_within root e.0 ≡ false) → Alike (passes_outside (user_at (k ∷ q)) near_line) (passes_to_thread big (user_at me) turns.Client me o)
+  passes_thread : (o : Option (Path × Thread)) → ((e : Path × Thread) → o ≡ Some e → is_within root e.0 ≡ false) → Passing (passes_outside (user_at (k ∷ q)) near_line) (passes_to_thread big (user_at me) turns.Client me o)
   passes_thread None outer = tt
   passes_thread (Some e) outer = by (is_free big (parent e.0) e.1 && is_some (receiving turns.Server e.1.mode))
     where
-      by : (b : Bool) → Alike (passes_outside (user_at (k ∷ q)) near_line) (when b (passes (user_at me) turns.Client me (Alter e.0 (Finish []) ∷ [])))
+      by : (b : Bool) → Passing (passes_outside (user_at (k ∷ q)) near_line) (when b (passes (user_at me) turns.Client me (Alter e.0 (Finish []) ∷ [])))
       by true = passed (Alter e.0 (Finish []) ∷ []) (Beyond (outer e refl) Empty)
       by false = tt
 
-  passes_out : (peer : Peer) → IsOuter root peer → Alike (passes_outside (user_at (k ∷ q)) near_line) (passes_to big (user_at me) turns.Client far_line peer)
+  passes_out : (peer : Peer) → IsOuter root peer → Passing (passes_outside (user_at (k ∷ q)) near_line) (passes_to big (user_at me) turns.Client far_line peer)
   passes_out (Server thread) outer = passes_thread (thread_at big thread) (λ e is. outer_at big root thread e outer is)
   passes_out Service outer = by (is_service_free big talk.port)
     where
-      by : (b : Bool) → Alike (passes_outside (user_at (k ∷ q)) near_line) (when b (Goes (Alter me (PassTurn turns.Server) ∷ Alter me (Finish []) ∷ []) (Passed talk.port)))
+      by : (b : Bool) → Passing (passes_outside (user_at (k ∷ q)) near_line) (when b (Goes (Alter me (PassTurn turns.Server) ∷ Alter me (Finish []) ∷ []) (Passed talk.port)))
       by true = passed [] Empty
       by false = tt
   passes_out Parked outer = tt
 
   pub over_out : talk_at small (k ∷ q) ≡ Some (seen_talk see talk) → talk_at big me ≡ Some talk → IsOuter root talk.peer →
-      Alike (in_turn small (k ∷ q) turns.Client turns.Client >>= passes_outside (user_at (k ∷ q))) (over big (user_at me) turns.Client)
+      Passing (in_turn small (k ∷ q) turns.Client turns.Client >>= passes_outside (user_at (k ∷ q))) (over big (user_at me) turns.Client)
   unfolding over line
   over_out near far outer = rw (near, far) (by (same_side talk.turn turns.Client))
     where
-      by : (b : Bool) → Alike (cond b (Ok near_line) (Err WRONGTURN) >>= passes_outside (user_at (k ∷ q))) (cond b (Ok far_line) (Err WRONGTURN) >>= λ l. passes_to big (user_at me) turns.Client l l.other)
+      by : (b : Bool) → Passing (cond b (Ok near_line) (Err WRONGTURN) >>= passes_outside (user_at (k ∷ q))) (cond b (Ok far_line) (Err WRONGTURN) >>= λ l. passes_to big (user_at me) turns.Client l l.other)
       by true = passes_out talk.peer outer
       by false = refl
 

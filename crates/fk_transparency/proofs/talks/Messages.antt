@@ -21,11 +21,11 @@ use Rattle.fk_model.specs.Further.{talks_outside, outside_row, goes_out, counted
 use Rattle.fk_model.specs.Seen.{Seen, IsSeen, count_in, writes_inside, only_fills, leads_out, sends_out, words_out, is_send}
 use Rattle.fk_transparency.specs.CutLaws.{HasDone, KeepsCut, IsAtStage, moves, IsClientSend, IsClientOver, StageKeepsCut, StageInsideKeepsCut}
 use Rattle.fk_transparency.specs.Likeness.{seen_talk, seen_thread, IsLikeness, IsOuter, AlikeOptions}
-use Rattle.fk_transparency.specs.LikeChanges.{IsLikeOutcome}
+use Rattle.fk_transparency.specs.LikeChanges.{IsLikeOutcome, IsLikeUnlessWaiting}
 use Rattle.fk_transparency.proofs.likeness.Instances.{cut-like}
 use Rattle.fk_transparency.proofs.likeness.Holds.{is_free-like}
 use Rattle.fk_transparency.proofs.likeness.Servers.{cut-apart}
-use Rattle.fk_transparency.proofs.likeness.Outcomes.{closed-like}
+use Rattle.fk_transparency.proofs.likeness.Outcomes.{unless_waiting, closed-like, closed-unless}
 use Rattle.fk_transparency.proofs.likeness.Sends.{NearLine, send-same, over-same, client_near}
 use Rattle.fk_transparency.proofs.cut.Inside.{call_row-like, inside_stages, unsent_counts, unsent_stage}
 use Rattle.fk_transparency.proofs.talks.Sends.{Still, still_outside, own_is, either_way, own_law, still-call, still-send, still-over}
@@ -50,7 +50,7 @@ module _ {root : Path} {see : Ptr → Ptr} {small big : World} (like : IsLikenes
       by true = refl
       by false = refl
 
-  closed_taking : (near far : Outcome) (n : ℕ) → AlikeTaking root see big n near far → Takes root see big n (closed (user_at (k ∷ (q ++ root))) far) → IsLikeOutcome root see big (counted n (closed (user_at (k ∷ q)) near)) (closed (user_at (k ∷ (q ++ root))) far)
+  closed_taking : (near far : Outcome) (n : ℕ) → AlikeTaking root see big n near far → Takes root see big n (closed (user_at (k ∷ (q ++ root))) far) → IsLikeUnlessWaiting root see big (counted n (closed (user_at (k ∷ q)) near)) (closed (user_at (k ∷ (q ++ root))) far)
   closed_taking near (Refused status) n h takes = rw (counted_closed n (k ∷ q) near) (closed-like like (user_at (k ∷ q)) (counted n near) (Refused status) (h (record { puts_none = refl; fills_none = refl; counts = takes.counts })))
   closed_taking near Waits n h takes = tt
   closed_taking near (Goes ds told) n h takes = rw (counted_closed n (k ∷ q) near) (closed-like like (user_at (k ∷ q)) (counted n near) (Goes ds told) (h takes))
@@ -72,6 +72,9 @@ module _ (w : World) (nester : Path) (slot : ℕ) (plain : IsPlain w nester slot
   abbrev AlikeHere : Outcome → Outcome → Type 0
   AlikeHere = IsLikeOutcome root see w
 
+  abbrev WeaklyHere : Outcome → Outcome → Type 0
+  WeaklyHere = IsLikeUnlessWaiting root see w
+
   -- alike where the other end is seen
   abbrev IsAlikeNear : Type 0
   IsAlikeNear = is_frozen w root ≡ false → AlikeOptions (NearLine root see w) (line small (k ∷ q) turns.Client) (line w me turns.Client) → AlikeHere (stage_row small (user_at (k ∷ q)) None stage) (stage_row w (user_at me) None stage)
@@ -80,7 +83,7 @@ module _ (w : World) (nester : Path) (slot : ℕ) (plain : IsPlain w nester slot
   abbrev IsAlikeOut : Type 0
   IsAlikeOut = (talk : Talk) → talk_at small (k ∷ q) ≡ Some (seen_talk see talk) → talk_at w me ≡ Some talk → IsOuter root talk.peer → leads_out root talk.port ≡ true → is_out (see talk.port) ≡ true → (cs : List Change) → cs ≡ listed (closed (user_at me) (stage_row w (user_at me) None stage)) →
       (sends_out w root me && only_fills root cs) ≡ false → (writes_inside root cs && sends_out w root me) ≡ false → (o : Outcome) →
-      AlikeHere (counted (words_out w root me cs) (closed (user_at (k ∷ q)) (outside_row small (user_at (k ∷ q)) (words_out w root me cs) stage o))) (closed (user_at me) (stage_row w (user_at me) None stage))
+      WeaklyHere (counted (words_out w root me cs) (closed (user_at (k ∷ q)) (outside_row small (user_at (k ∷ q)) (words_out w root me cs) stage o))) (closed (user_at me) (stage_row w (user_at me) None stage))
 
   -- a talk inside takes no words to the outside
   stays_inside : talks_outside small (k ∷ q) ≡ false → sends_out w root me ≡ false
@@ -112,11 +115,11 @@ module _ (w : World) (nester : Path) (slot : ℕ) (plain : IsPlain w nester slot
           call_row-like like k q None None stage refl (near free (client_near like k q (λ talk is. (outside_at like k q false off talk is).2)))
       inward (Some y) e free off = cc
 
-      inward_none : (p : Option Path) → is_none p ≡ true → is_frozen w root ≡ false → talks_outside small (k ∷ q) ≡ false → AlikeHere (counted (words_out w root me (listed (call_row w (user_at me) None stage))) (call_row small (user_at (k ∷ q)) p stage)) (call_row w (user_at me) None stage)
-      inward_none p e free off = rw (unsent_counts w root me (listed (call_row w (user_at me) None stage)) (stays_inside off)) (inward p e free off)
+      inward_none : (p : Option Path) → is_none p ≡ true → is_frozen w root ≡ false → talks_outside small (k ∷ q) ≡ false → WeaklyHere (counted (words_out w root me (listed (call_row w (user_at me) None stage))) (call_row small (user_at (k ∷ q)) p stage)) (call_row w (user_at me) None stage)
+      inward_none p e free off = rw (unsent_counts w root me (listed (call_row w (user_at me) None stage)) (stays_inside off)) (unless_waiting (cut-like w nester slot plain) _ _ (inward p e free off))
 
       outward : talks_outside small (k ∷ q) ≡ true → (sends_out w root me && only_fills root (listed (call_row w (user_at me) None stage))) ≡ false → (writes_inside root (listed (call_row w (user_at me) None stage)) && sends_out w root me) ≡ false → (o : Outcome) →
-          AlikeHere (counted (words_out w root me (listed (call_row w (user_at me) None stage))) (closed (user_at (k ∷ q)) (outside_row small (user_at (k ∷ q)) (words_out w root me (listed (call_row w (user_at me) None stage))) stage o))) (call_row w (user_at me) None stage)
+          WeaklyHere (counted (words_out w root me (listed (call_row w (user_at me) None stage))) (closed (user_at (k ∷ q)) (outside_row small (user_at (k ∷ q)) (words_out w root me (listed (call_row w (user_at me) None stage))) stage o))) (call_row w (user_at me) None stage)
       outward on = rw (alone w me stage picks users)
           (let like = cut-like w nester slot plain in
           let there = outside_talk like k q on in
@@ -145,7 +148,7 @@ client_over_keeps = whole IsClientOver (inside_stages IsClientOver law) (λ w ne
         client_law w nester slot plain k q ClientOver (rw such at at) refl refl pick (still-over (slot ∷ nester) w (k ∷ (q ++ slot ∷ nester)) turns.Client)
         (λ free lines. (over-same like free k q turns.Client lines).0)
         (λ talk near far outer leads out cs is fills through o.
-        rw (unsent_counts w (slot ∷ nester) (k ∷ (q ++ slot ∷ nester)) cs (unsent_stage w (slot ∷ nester) (k ∷ (q ++ slot ∷ nester)) ClientOver refl (rw such at at))) (closed-like like (user_at (k ∷ q)) _ _ (over_out like k q talk 0 0 0 out near far outer)))
+        rw (unsent_counts w (slot ∷ nester) (k ∷ (q ++ slot ∷ nester)) cs (unsent_stage w (slot ∷ nester) (k ∷ (q ++ slot ∷ nester)) ClientOver refl (rw such at at))) (closed-unless like (user_at (k ∷ q)) _ _ (over_out like k q talk 0 0 0 out near far outer)))
 
 -- ---- a Send
 

@@ -32,11 +32,12 @@ use Rattle.fk_model.specs.Seen.{sends_out, only_fills, writes_inside, words_out,
 use Rattle.fk_model.specs.Seen.Seen.{Onwards, Unseen, Other}
 use Rattle.fk_transparency.specs.CutLaws.{KeepsCut, IsAtStage, moves, IsServerSend, IsServerOver, StageInsideKeepsCut}
 use Rattle.fk_transparency.specs.Likeness.{seen_thread}
-use Rattle.fk_transparency.specs.LikeChanges.{IsLikeOutcome}
+use Rattle.fk_transparency.specs.LikeChanges.{IsLikeOutcome, IsLikeUnlessWaiting}
 use Rattle.fk_model.proofs.walks.PlaceLaws.{strip-append}
 use Rattle.fk_transparency.proofs.likeness.Instances.{cut-like}
 use Rattle.fk_transparency.proofs.likeness.Holds.{strip_none, is_free-like, unheld-free}
 use Rattle.fk_transparency.proofs.likeness.Servers.{client_of-like, cut-served}
+use Rattle.fk_transparency.proofs.likeness.Outcomes.{unless_waiting}
 use Rattle.fk_transparency.proofs.likeness.Sends.{send-same, over-same, server_near}
 use Rattle.fk_transparency.proofs.cut.Plain.{AreQuiet, changes-clear, clear-plain, same-plain}
 use Rattle.fk_transparency.proofs.cut.Inside.{quiet-then, call_row-like, call_closed, thread_seen, has_gone, HasGone, thread_beneath, silent_counts}
@@ -172,8 +173,8 @@ own_is c x p n t stage todo rest e = by t.mode e
         cond (talks_outside c x && is_none p) (when (is_free c (parent x) t) (closed (user_at x) (outside_row c (user_at x) n stage (call_row c (user_at x) p stage)))) (when (is_free c (parent x) t) (call_row c (user_at x) p stage))
     by mode e = rw e refl
 
-pub either_way : (root : Path) (see : Ptr → Ptr) (big : World) (n : ℕ) (test free : Bool) (own other far : Outcome) → free ≡ true → (test ≡ true → IsLikeOutcome root see big (counted n own) far) → (test ≡ false → IsLikeOutcome root see big (counted n other) far) →
-    IsLikeOutcome root see big (counted n (cond test (when free own) (when free other))) far
+pub either_way : (root : Path) (see : Ptr → Ptr) (big : World) (n : ℕ) (test free : Bool) (own other far : Outcome) → free ≡ true → (test ≡ true → IsLikeUnlessWaiting root see big (counted n own) far) → (test ≡ false → IsLikeUnlessWaiting root see big (counted n other) far) →
+    IsLikeUnlessWaiting root see big (counted n (cond test (when free own) (when free other))) far
 either_way root see big n true free own other far e h g = rw e (h refl)
 either_way root see big n false free own other far e h g = rw e (g refl)
 
@@ -213,7 +214,7 @@ module _ (w : World) (nester : Path) (slot : ℕ) (plain : IsPlain w nester slot
   abbrev Gone : Onward → World → Type 0
   Gone m later = IsPlain later nester slot × ((told : List Told) × IsOnward small m told (cut later nester slot))
 
-  gone : (p : Option Path) (n : ℕ) → Still root far → is_free w (q ++ root) t ≡ true → AlikeHere (counted n (own p n)) far → GoesAllowed w me far → Gone (Own (k ∷ q) p n) (stepped w far).world
+  gone : (p : Option Path) (n : ℕ) → Still root far → is_free w (q ++ root) t ≡ true → IsLikeUnlessWaiting root see w (counted n (own p n)) far → GoesAllowed w me far → Gone (Own (k ∷ q) p n) (stepped w far).world
   unfolding onward_row
   gone p n still free alike ready = by (thread_in small (k ∷ q)) (rw ((cut-like w nester slot plain).bodies (k ∷ q)) (thread_seen see k q (w.body me) t at.3))
     where
@@ -242,7 +243,7 @@ module _ (w : World) (nester : Path) (slot : ℕ) (plain : IsPlain w nester slot
   -- the law, where the row of the cut is alike whenever the move is seen as its own
   pub own_law : Still root far →
       ((p : Option Path) → is_none p ≡ is_none pick → is_frozen w root ≡ false → is_free w (q ++ root) t ≡ true → (sends_out w root me && only_fills root (listed far)) ≡ false → (writes_inside root (listed far) && sends_out w root me) ≡ false →
-      AlikeHere (counted (words_out w root me (listed far)) (own p (words_out w root me (listed far)))) far) → KeepsCut w nester slot (moves me pick)
+      IsLikeUnlessWaiting root see w (counted (words_out w root me (listed far)) (own p (words_out w root me (listed far)))) far) → KeepsCut w nester slot (moves me pick)
   unfolding step
   own_law still alike sound same fit ready (Onwards m) seen = by (is_free w (q ++ root) t) refl
     where
@@ -267,7 +268,7 @@ module _ (w : World) (nester : Path) (slot : ℕ) (plain : IsPlain w nester slot
       own_law (still-call root w me pick stage still)
       (λ p e free f fills through.
       let like = cut-like w nester slot plain in
-      let row = call_row-like like k q p pick stage e (alike p free) in
+      let row = unless_waiting like _ _ (call_row-like like k q p pick stage e (alike p free)) in
       let n : ℕ = words_out w root me (listed far) in
       let none : n ≡ 0 = silent_counts w small root me (k ∷ q) stage at silent (listed far) in
       rw (own_is small (k ∷ q) p n (seen_thread see t) stage at.1 at.2 at.4)
