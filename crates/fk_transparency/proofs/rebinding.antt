@@ -1,3 +1,4 @@
+pub mod Freedom
 pub mod Rebound
 pub mod Messages
 pub mod Touches

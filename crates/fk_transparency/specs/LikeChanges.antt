@@ -1,7 +1,7 @@
 -- Changes in a likeness: which change of the small world stands for which of the big one, and which outcomes are alike.
-use Rattle.std.specs.Prelude.{◌≡◌, ℕ, Bool, true, false, List, [], ◌∷◌, ◌++◌, Option, IfSome, option_map}
+use Rattle.std.specs.Prelude.{◌≡◌, ℕ, Bool, true, false, List, [], ◌∷◌, ◌++◌, Option, Some, IfSome, option_map}
 use Rattle.fk_model.specs.Places.{Path, is_within, Ptr}
-use Rattle.fk_model.specs.Objects.{Body, and_then}
+use Rattle.fk_model.specs.Objects.{Body, and_then, Talk, Fault}
 use Rattle.fk_model.specs.World.{World, Change, Edit, apply}
 use Rattle.fk_model.specs.World.Change.{Alter, Make, MakeSpace, Kill, Move, PutPage, DropPage}
 use Rattle.fk_model.specs.World.Edit.{Proceed, SetPointer, SetHolder, SetTalk, SetPeer, SetFault, SetTaker}
@@ -24,15 +24,22 @@ seen_edit see out (SetFault fault) = SetFault (and_then (seeing see).fault fault
 seen_edit see out (SetTaker taker) = SetTaker (option_map (seen_peer see out) taker)
 seen_edit see out other = other
 
+-- the talk, or the fault, of the thread at x is at a port that is seen outside, or at one inside
+abbrev pub HasTalkSeen : (Ptr → Ptr) → World → (out : Bool) → Path → Type 0
+HasTalkSeen see big out x = (talk : Talk) × (talk_at big x ≡ Some talk) × (is_out (see talk.port) ≡ out)
+
+abbrev pub HasFaultSeen : (Ptr → Ptr) → World → (out : Bool) → Path → Type 0
+HasFaultSeen see big out x = (fault : Fault) × (fault_at big x ≡ Some fault) × (is_out (see fault.port) ≡ out)
+
 -- an edit of the object at x whose pointers lead inside or to ports outside, where they count, and that makes nobody a
 -- porter. `out` says whether the talk or the fault whose peer or taker it sets is at a port outside
 abbrev pub IsSeenEdit : Path → (Ptr → Ptr) → World → (out : Bool) → Path → Edit → Type 0
 IsSeenEdit root see big out x (SetPointer to) = HasLikeness root see big to
 IsSeenEdit root see big out x (SetHolder holder) = IfSome holder (HasLikeness root see big)
 IsSeenEdit root see big out x (SetTalk talk) = IfSome talk (AllInTalk see (HasLikeness root see big))
-IsSeenEdit root see big out x (SetPeer peer) = IfSome (talk_at big x) (λ talk. is_out (see talk.port) ≡ out) × IfServer out peer (HasLikeness root see big)
+IsSeenEdit root see big out x (SetPeer peer) = HasTalkSeen see big out x × IfServer out peer (HasLikeness root see big)
 IsSeenEdit root see big out x (SetFault fault) = IfSome fault (AllInFault see (HasLikeness root see big))
-IsSeenEdit root see big out x (SetTaker taker) = IfSome (fault_at big x) (λ fault. is_out (see fault.port) ≡ out) × IfSome taker (λ taker. IfServer out taker (HasLikeness root see big))
+IsSeenEdit root see big out x (SetTaker taker) = HasFaultSeen see big out x × IfSome taker (λ taker. IfServer out taker (HasLikeness root see big))
 IsSeenEdit root see big out x (Proceed mode counter) = is_porter mode ≡ false
 IsSeenEdit root see big out x other = Unit {0}
 

@@ -1,6 +1,6 @@
 -- The law of rebinding: a subtree that is seen alone does, with other outward ports, what it did, and tells it at these. Two
 -- ports may get one name.
-use Rattle.std.specs.Prelude.{ℕ, List, map, Option}
+use Rattle.std.specs.Prelude.{◌≡◌, ℕ, List, map, Option}
 use Rattle.fk_model.specs.declared.stage.Stage.{Stage}
 use Rattle.fk_model.specs.Places.{Path}
 use Rattle.fk_model.specs.World.{World}
@@ -10,9 +10,15 @@ use Rattle.fk_transparency.specs.CutLaws.{IsAtStage, IsRunning}
 use Rattle.fk_transparency.specs.Likeness.{IsCutWorld}
 use Rattle.fk_model.specs.Rebind.{rebound, rebound_told}
 
--- one move of the subtree, and the same move of it with other outward ports
+-- a move of the subtree, and the same move of it with other outward ports
+pub record RebindsTo (bind : ℕ → ℕ) (c : World) (m : Onward) : Type 0 where
+  -- where it is ready it is ready with these, tells the same at these, and leaves the same
+  pub forth : (told : List Told) (later : World) → IsOnward c m told later → IsOnward (rebound bind c) m (map (rebound_told bind) told) (rebound bind later)
+  -- and it is ready with these only where it is ready
+  pub back : (heard : List Told) (after : World) → IsOnward (rebound bind c) m heard after → (told : List Told) × (later : World) × IsOnward c m told later × (heard ≡ map (rebound_told bind) told) × (after ≡ rebound bind later)
+
 abbrev pub Rebinds : World → Onward → Type 0
-Rebinds c m = (bind : ℕ → ℕ) (told : List Told) (later : World) → IsCutWorld c → IsOnward c m told later → IsOnward (rebound bind c) m (map (rebound_told bind) told) (rebound bind later)
+Rebinds c m = (bind : ℕ → ℕ) → IsCutWorld c → RebindsTo bind c m
 
 -- the law for every move of its own by a thread that is at such a stage
 abbrev pub StageRebinds : (Stage → Type 0) → Type 0

@@ -36,7 +36,8 @@ use Rattle.fk_transparency.proofs.likeness.Servers.{serves_is, served_talk, clie
 use Rattle.fk_transparency.proofs.likeness.Clients.{Thinned, clients_thinned, clients_inside}
 use Rattle.fk_transparency.proofs.likeness.Clients.Thinned.{Nobody, Inner, Outer}
 use Rattle.fk_transparency.proofs.cut.Inside.{stage_inside, thread_beneath}
-use Rattle.fk_transparency.proofs.rebinding.Rebound.{top_free, quiet_heard}
+use Rattle.fk_transparency.proofs.rebinding.Rebound.{quiet_heard}
+use Rattle.fk_transparency.proofs.rebinding.Freedom.{top_free}
 use Rattle.fk_transparency.proofs.rebinding.Messages.{IsRebound, same_call, client_same, silent_row, told_rebinds}
 use Rattle.fk_transparency.proofs.cut.Objects.{all_within, quiet-destroy}
 

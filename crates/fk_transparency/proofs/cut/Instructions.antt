@@ -111,8 +111,8 @@ run_is c k q p n t g is e = ap (counted n) (rw is (by (talks_outside c (k ∷ q)
     by false mode e = rw e refl
 
 pub instruction_rebinds : InstructionRebinds
-instruction_rebinds c [] p n at bind told later world onward = absurd (no_thread at.0 (c.body []) (root_seen world) at.2)
-instruction_rebinds c (k ∷ q) p n at bind told later world onward =
+instruction_rebinds c [] p n at bind world = absurd (no_thread at.0 (c.body []) (root_seen world) at.2)
+instruction_rebinds c (k ∷ q) p n at bind world =
     row_anew bind c world k q p n at.0 (λ w. with_pick false p (run_row w q k at.1 at.0.counter))
     (run_is c k q p n at.0 at.1 at.2 at.3)
     (λ is. run_is (rebound bind c) k q p n (seen_thread (rebound_ptr bind) at.0) at.1 is at.3)
@@ -120,4 +120,3 @@ instruction_rebinds c (k ∷ q) p n at bind told later world onward =
     (λ see small like. with_pick-like like false p p (run_row small q k at.1 at.0.counter) (run_row c q k at.1 at.0.counter) refl
     (subst (λ (y : Path). IsLikeOutcome [] see c (run_row small q k at.1 at.0.counter) (run_row c y k at.1 at.0.counter)) (append-nil q) (run_row-like like q k at.1 at.0.counter)))
     (λ w. quiet-with_pick [] false p (run_row w q k at.1 at.0.counter) (quiet-run [] w q k at.1 at.0.counter))
-    told later onward

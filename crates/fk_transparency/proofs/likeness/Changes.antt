@@ -3,7 +3,7 @@ use Rattle.std.proofs.Common.{◌≡◌, ℕ, Bool, true, false, cond, List, [],
 use Rattle.fk_model.specs.declared.names.Kind.TheVariants as kinds
 use Rattle.fk_model.specs.Places.{Path, same_path, is_within, Ptr}
 use Rattle.fk_model.specs.Places.Ptr.{At}
-use Rattle.fk_model.specs.Objects.{Body, kind_of, and_then}
+use Rattle.fk_model.specs.Objects.{Body, kind_of, and_then, Thread, thread_of}
 use Rattle.fk_model.specs.Objects.Body.{Space}
 use Rattle.fk_model.specs.World.{World, Change, Edit, edited, at_path, with_page, birth_after, apply}
 use Rattle.fk_model.specs.World.Change.{Alter, Make, MakeSpace, Kill, Move, PutPage, DropPage}
@@ -77,8 +77,8 @@ module _ {root : Path} {see : Ptr → Ptr} {small big : World} (like : IsLikenes
   -- ---- an edit
 
   at_port : (out : Bool) (edit : Edit) (b : Body) (x : Path) → big.body x ≡ Some b → IsSeenEdit root see big out x edit → IsAtPort see out edit b
-  at_port out (SetPeer peer) b x is h = rw is at h.0
-  at_port out (SetTaker taker) b x is h = rw is at h.0
+  at_port out (SetPeer peer) b x is h = rw (sym (ap (and_then (λ (t : Thread). t.talk)) (ap (and_then thread_of) is)) ∙ h.0.1) h.0.2
+  at_port out (SetTaker taker) b x is h = rw (sym (ap (and_then (λ (t : Thread). t.fault)) (ap (and_then thread_of) is)) ∙ h.0.1) h.0.2
   at_port out edit b x is h = tt
 
   is_good : (out : Bool) (edit : Edit) (x : Path) → IsSeenEdit root see big out x edit → IsGood see (HasLikeness root see big) out edit

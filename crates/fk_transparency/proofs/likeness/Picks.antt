@@ -1,14 +1,14 @@
 -- A wait goes alike in a likeness, where whom it picks lies inside: the same candidate is taken. The outside hears nothing of it.
-use Rattle.std.proofs.Common.{◌≡◌, ℕ, Bool, true, false, cond, [], ◌∷◌, ◌++◌, Option, Some, None, IfSome, is_some, is_none, option_map, refl, ap}
+use Rattle.std.proofs.Common.{◌≡◌, ℕ, Bool, true, false, cond, [], ◌∷◌, ◌++◌, Option, Some, None, is_some, is_none, option_map, refl, ap}
 use Rattle.fk_model.specs.declared.stage.Stage.TheVariants.{Wait}
 use Rattle.fk_model.specs.declared.statuses.status.TheConstants.{OK, LINKED}
 use Rattle.fk_model.specs.Places.{Path, parent, Ptr}
 use Rattle.fk_model.specs.Places.Ptr.{At}
-use Rattle.fk_model.specs.Objects.{Peer, Talk, Fault}
+use Rattle.fk_model.specs.Objects.{Peer}
 use Rattle.fk_model.specs.Objects.Peer.{Server}
 use Rattle.fk_model.specs.World.{World}
 use Rattle.fk_model.specs.World.Edit.{Finish, End, SetTalk, SetPeer, SetTaker}
-use Rattle.fk_model.specs.Searches.{talk_at, fault_at, is_serving}
+use Rattle.fk_model.specs.Searches.{is_serving}
 use Rattle.fk_model.specs.Holds.{is_frozen, is_unheld}
 use Rattle.fk_model.specs.Outcomes.{Outcome, refuse}
 use Rattle.fk_model.specs.Outcomes.Outcome.{Refused, Waits, Goes}
@@ -60,20 +60,14 @@ module _ {root : Path} {see : Ptr → Ptr} {small big : World} (like : IsLikenes
     talk_inside : (slot : ℕ) → AllInTalk see (HasLikeness root see big) (new_talk (At (slot ∷ (q ++ root))) (Server (At me)))
     talk_inside slot = (stands_inside (slot ∷ q), rw (like.within (slot ∷ q)) (stands_inside (k ∷ q)))
 
-    fault_inside : (fault : Fault) → fault_at big other ≡ Some fault → is_out (see fault.port) ≡ false → IfSome (fault_at big other) (λ (fault : Fault). is_out (see fault.port) ≡ false)
-    fault_inside fault is near = rw is near
-
-    talk_kept : (talk : Talk) → talk_at big other ≡ Some talk → is_out (see talk.port) ≡ false → IfSome (talk_at big other) (λ (talk : Talk). is_out (see talk.port) ≡ false)
-    talk_kept talk is near = rw is near
-
     takes_one : (a b : Candidate) → CandidateLikeness see big other a b → Same like (takes (user_at (k ∷ q)) (j ∷ z) (Some a)) (takes (user_at me) other (Some b))
     takes_one _ _ (Faults slot fault is near) =
         rw (taken_alike (seen_peer see (is_out (see fault.port))) fault.taker)
-        (Both (Alters j z _ (SetTaker (Some (Server (At me)))) (ap (λ (p : Peer). SetTaker (Some p)) server_seen) (fault_inside fault is near, stands_inside (k ∷ q))) (Both (Alters k q _ (End OK _) refl tt) Empty), says_nothing)
+        (Both (Alters j z _ (SetTaker (Some (Server (At me)))) (ap (λ (p : Peer). SetTaker (Some p)) server_seen) ((fault, is, near), stands_inside (k ∷ q))) (Both (Alters k q _ (End OK _) refl tt) Empty), says_nothing)
     takes_one _ _ (Connects slot) =
         (Both (Alters j z _ (SetTalk (Some (new_talk (At (slot ∷ (q ++ root))) (Server (At me))))) (talk_seen slot) (talk_inside slot)) (Both (Alters j z _ (Finish []) refl tt) (Both (Alters k q _ (Finish (slot ∷ 0 ∷ [])) refl tt) Empty)), says_nothing)
     takes_one _ _ (Resumes slot talk is near) =
-        (Both (Alters j z _ (SetPeer (Server (At me))) (ap SetPeer server_seen) (talk_kept talk is near, stands_inside (k ∷ q))) (Both (Alters k q _ (End OK _) refl tt) Empty), says_nothing)
+        (Both (Alters j z _ (SetPeer (Server (At me))) (ap SetPeer server_seen) ((talk, is, near), stands_inside (k ∷ q))) (Both (Alters k q _ (End OK _) refl tt) Empty), says_nothing)
 
     takes_any : (o p : Option Candidate) → AlikeOptions (CandidateLikeness see big other) o p → Same like (takes (user_at (k ∷ q)) (j ∷ z) o) (takes (user_at me) other p)
     takes_any None None h = (tt, tt)

@@ -22,14 +22,14 @@ use Rattle.fk_model.specs.TransferRows.{block, moved_words, in_turn}
 use Rattle.fk_model.specs.LinkRows.{user_at}
 use Rattle.fk_model.specs.Moves.{stage_row, is_for_porters, chooses, closed, call_row}
 use Rattle.fk_model.specs.Cut.{is_out}
-use Rattle.fk_model.specs.Further.{Told, is_outside, takes_words, sends_outside, passes_outside, talks_outside, outside_row, own_row, counted, thread_in, onward_row, OnwardTo, IsOnward}
+use Rattle.fk_model.specs.Further.{is_outside, takes_words, sends_outside, passes_outside, talks_outside, outside_row, own_row, counted, thread_in, onward_row}
 use Rattle.fk_model.specs.Further.Onward.{Own}
 use Rattle.fk_transparency.specs.CutLaws.{IsAtStage, IsServerSend, IsServerOver, IsClientSend, IsClientOver}
 use Rattle.fk_transparency.specs.Likeness.{seen_talk, seen_thread, IsLikeness, IsCutWorld, IsApart, IsBeneath, AlikeOptions, IsSeenTalk}
 use Rattle.fk_transparency.specs.LikeChanges.LikeChange.{Alters}
 use Rattle.fk_transparency.specs.LikeChanges.LikeChanges.{Empty, Both}
-use Rattle.fk_model.specs.Rebind.{rebound_ptr, rebound, rebound_told}
-use Rattle.fk_transparency.specs.RebindLaws.{StageRebinds}
+use Rattle.fk_model.specs.Rebind.{rebound_ptr, rebound}
+use Rattle.fk_transparency.specs.RebindLaws.{RebindsTo, StageRebinds}
 use Rattle.fk_transparency.proofs.likeness.Instances.{rebound-like}
 use Rattle.fk_transparency.proofs.likeness.Memory.{root_space, root_seen, words_at-like}
 use Rattle.fk_transparency.proofs.likeness.Holds.{is_free-like}
@@ -40,7 +40,8 @@ use Rattle.fk_transparency.proofs.likeness.Servers.{cut_world-apart}
 use Rattle.fk_transparency.proofs.likeness.Sends.{NearLine, says_nothing, Same, same_when, same_own, same_sent, send-same, over-same, client_near, server_near}
 use Rattle.fk_transparency.proofs.likeness.Sends.SaidLikeness.{SaysWords, SaysPassed}
 use Rattle.fk_transparency.proofs.cut.Inside.{call_closed}
-use Rattle.fk_transparency.proofs.rebinding.Rebound.{no_thread, out_kept, top_free, thread_named, gone_anew}
+use Rattle.fk_transparency.proofs.rebinding.Freedom.{out_kept, top_free}
+use Rattle.fk_transparency.proofs.rebinding.Rebound.{no_thread, thread_named, rebinds_by}
 use Rattle.fk_transparency.proofs.talks.Sends.{own_is}
 use Rattle.fk_transparency.proofs.talks.Clients.{alone, picked, outside_at, outside_talk}
 
@@ -116,19 +117,18 @@ module _ (bind : ℕ → ℕ) (c : World) (world : IsCutWorld c) (k : ℕ) (q : 
   at_path : (see : Ptr → Ptr) (small : World) (like : IsLikeness [] see small c) → ((p : Ptr) → is_out (see p) ≡ is_out p) → (free : Bool) → free ≡ is_free c q at.0 → Same like (when free (its_row p n stage small (k ∷ q))) (when (is_free c q at.0) (its_row p n stage c (k ∷ q)))
   at_path see small like outs free e = same_when like free (is_free c q at.0) _ _ e (subst (λ (y : Path). Same like (its_row p n stage small (k ∷ q)) (its_row p n stage c (k ∷ y))) (append-nil q) (alike see small c like outs world k q))
 
-  told_anew : (told : List Told) (later : World) → IsOnward c (Own (k ∷ q) p n) told later → IsOnward (rebound bind c) (Own (k ∷ q) p n) (map (rebound_told bind) told) (rebound bind later)
-  told_anew told later onward =
+  told_anew : RebindsTo bind c (Own (k ∷ q) p n)
+  told_anew =
       let see : Ptr → Ptr = rebound_ptr bind in
       let far_is = its_row_is p n stage c (k ∷ q) at.0 at.1 at.2 at.3 at.4 in
       let near_is = its_row_is p n stage (rebound bind c) (k ∷ q) (seen_thread see at.0) at.1 at.2 (thread_named see c (rebound bind c) (k ∷ q) likeness_of at.0 at.3) at.4 in
       let near = at_path see (rebound bind c) likeness_of (out_kept bind) (is_free (rebound bind c) q (seen_thread see at.0)) (is_free-like likeness_of (top_free c world) q at.0 ∙ ap (λ (y : Path). is_free c y at.0) (append-nil q)) in
       let far = at_path (λ p. p) c world (λ p. refl) (is_free c q at.0) refl in
-      subst (λ (o : Outcome). OnwardTo (rebound bind c) (Own (k ∷ q) p n) o (map (rebound_told bind) told) (rebound bind later)) (sym near_is)
-      (gone_anew bind c world k q p n _ _ near.0 far.0 near.1 told later (subst (λ (o : Outcome). OnwardTo c (Own (k ∷ q) p n) o told later) far_is onward))
+      rebinds_by bind c world k q p n _ _ near.0 far.0 near.1 near_is far_is
 
 pub told_rebinds : (IsSuch : Stage → Type 0) → ((p : Option Path) (n : ℕ) (stage : Stage) → IsSuch stage → IsRebound p n stage) → StageRebinds IsSuch
-told_rebinds IsSuch alike c [] p n stage such at bind told later world onward = absurd (no_thread at.0 (c.body []) (root_seen world) at.3)
-told_rebinds IsSuch alike c (k ∷ q) p n stage such at bind told later world onward = told_anew bind c world k q p n stage at (alike p n stage such) told later onward
+told_rebinds IsSuch alike c [] p n stage such at bind world = absurd (no_thread at.0 (c.body []) (root_seen world) at.3)
+told_rebinds IsSuch alike c (k ∷ q) p n stage such at bind world = told_anew bind c world k q p n stage at (alike p n stage such)
 
 -- ---- a server
 

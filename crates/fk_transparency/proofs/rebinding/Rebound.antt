@@ -2,15 +2,15 @@
 use Rattle.std.proofs.Common.{◌≡◌, ℕ, zero, Bool, true, false, cond, eqb, ◌&&◌, ◌||◌, List, [], ◌∷◌, ◌++◌, map, Option, Some, None, is_none, option_map, refl, sym, ap, subst, ◌∙◌, append-nil}
 use Rattle.std.specs.List.{flat_map}
 use Rattle.fk_model.specs.declared.stage.Stage.{Stage}
-use Rattle.fk_model.specs.Places.{Path, strip, is_within, parent, Ptr}
+use Rattle.fk_model.specs.Places.{Path, parent, Ptr}
 use Rattle.fk_model.specs.Objects.{Mode, Peer, Talk, Fault, Thread, Body, thread_of, and_then}
 use Rattle.fk_model.specs.Objects.Mode.{Calling}
 use Rattle.fk_model.specs.Objects.Body.{Space}
 use Rattle.fk_model.specs.World.{World, Change, Edit, apply, apply_all}
-use Rattle.fk_model.specs.World.Change.{Alter, Make, MakeSpace, Kill, Move, PutPage, DropPage}
+use Rattle.fk_model.specs.World.Change.{Alter}
 use Rattle.fk_model.specs.World.Edit.{SetTalk, SetFault}
 use Rattle.fk_model.specs.Searches.{talk_at}
-use Rattle.fk_model.specs.Holds.{decider, is_frozen, is_free}
+use Rattle.fk_model.specs.Holds.{is_frozen, is_free}
 use Rattle.fk_model.specs.Outcomes.{Said, Outcome, when}
 use Rattle.fk_model.specs.Outcomes.Outcome.{Refused, Waits, Goes}
 use Rattle.fk_model.specs.Outcomes.Said.{Words}
@@ -18,17 +18,16 @@ use Rattle.fk_model.specs.LinkRows.{user_at}
 use Rattle.fk_model.specs.Freezing.{AreAllowed}
 use Rattle.fk_model.specs.Moves.{call_row, goes_on}
 use Rattle.fk_model.specs.Cut.{is_out}
-use Rattle.fk_model.specs.Further.{Told, talks_outside, own_stage, goes_out, counted, thread_in, onward_row, told_end, told_fault, told_by_change, told_by_said, OnwardTo, IsOnward}
+use Rattle.fk_model.specs.Further.{Onward, Told, talks_outside, own_stage, goes_out, counted, thread_in, onward_row, told_end, told_fault, told_by_change, told_by_said, told_by, OnwardTo}
 use Rattle.fk_model.specs.Further.Onward.{Own}
 use Rattle.fk_model.specs.Further.Told.{ToldEnd, ToldFault}
 use Rattle.fk_transparency.specs.CutLaws.{IsAtStage}
 use Rattle.fk_transparency.specs.Likeness.{seeing, seen_fault, seen_thread, IsLikeness, IsCutWorld, AlikeOptions, IsSeenTalk, IsSeenThread}
-use Rattle.fk_transparency.specs.LikeChanges.{seen_edit, LikeChange, LikeChanges, IsOutside, IsLikeOutcome}
+use Rattle.fk_transparency.specs.LikeChanges.{seen_edit, LikeChange, LikeChanges, IsLikeOutcome}
 use Rattle.fk_transparency.specs.LikeChanges.LikeChange.{Alters, AltersOut, Makes, MakesSpace, Kills, Moves, PutsPage, DropsPage}
 use Rattle.fk_transparency.specs.LikeChanges.LikeChanges.{Empty, Both, Beyond}
 use Rattle.fk_model.specs.Rebind.{rebound_ptr, rebound, rebound_told}
-use Rattle.fk_transparency.specs.RebindLaws.{StageRebinds}
-use Rattle.fk_model.proofs.walks.PlaceLaws.{strip-append}
+use Rattle.fk_transparency.specs.RebindLaws.{RebindsTo, StageRebinds}
 use Rattle.fk_transparency.proofs.likeness.Instances.{rebound-like}
 use Rattle.fk_transparency.proofs.likeness.Memory.{root_seen}
 use Rattle.fk_transparency.proofs.likeness.Talks.{thread_there-like, talk_at-like}
@@ -37,6 +36,7 @@ use Rattle.fk_transparency.proofs.likeness.ChangeLists.{changes-like}
 use Rattle.fk_transparency.proofs.likeness.Sends.{SaidLikeness, IsHeard}
 use Rattle.fk_transparency.proofs.likeness.Sends.SaidLikeness.{Hushed, SaysWords, SaysPassed}
 use Rattle.fk_transparency.proofs.cut.Holds.{changes-allowed}
+use Rattle.fk_transparency.proofs.rebinding.Freedom.{out_kept, top_free, no_outside, changes_back}
 use Rattle.fk_transparency.proofs.cut.Inside.{Quiet, quiet-when, quiet-call, when_same, call_row-like, call_closed}
 use Rattle.fk_transparency.proofs.cut.Outside.{IsInner, IsOwn, inner_own}
 
@@ -45,10 +45,6 @@ pub same_likeness : (root : Path) (see : Ptr → Ptr) (one other big : World) �
 same_likeness root see one other big h g = λ i. record { body = λ q. (h.bodies q ∙ sym (g.bodies q)) i; page = λ q page. (h.pages q page ∙ sym (g.pages q page)) i; next = (h.unborn ∙ sym g.unborn) i }
 
 -- ---- what is told
-
-pub out_kept : (bind : ℕ → ℕ) (p : Ptr) → is_out (rebound_ptr bind p) ≡ is_out p
-out_kept bind (Rattle.fk_model.specs.Places.Ptr.Out slot) = refl
-out_kept bind p = refl
 
 module _ (bind : ℕ → ℕ) (c : World) (like : IsLikeness [] (rebound_ptr bind) (rebound bind c) c) where
   abbrev see : Ptr → Ptr
@@ -109,19 +105,6 @@ module _ (bind : ℕ → ℕ) (c : World) (like : IsLikeness [] (rebound_ptr bin
   joined [] b = refl
   joined (t ∷ a) b = ap (λ (l : List Told). rebound_told bind t ∷ l) (joined a b)
 
-  -- nothing lies outside the empty path
-  nothing_outside : (x : Path) → is_within [] x ≡ false → ⊥
-  nothing_outside x h = let inside : is_within [] x ≡ true = rw (sym (append-nil x)) (rw (strip-append [] x) refl) in cc
-
-  no_outside : (d : Change) → IsOutside [] d → ⊥
-  no_outside (Alter x edit) h = nothing_outside x h
-  no_outside (PutPage space page words) h = nothing_outside space h
-  no_outside (DropPage space page) h = nothing_outside space h
-  no_outside (Make x body) h = h
-  no_outside (MakeSpace x holder) h = h
-  no_outside (Kill x) h = h
-  no_outside (Move x slot) h = h
-
   changes_told : (v : World) (cs ds : List Change) → LikeChanges [] see v cs ds → flat_map (told_by_change small) cs ≡ renamed (flat_map (told_by_change c) ds)
   changes_told v _ _ Empty = refl
   changes_told v _ _ (Both {c = a} {d = b} {cs = cs} {ds = ds} h hs) =
@@ -158,6 +141,26 @@ alike_there see c small like free k q p stage inner t =
     (is_free-like like free q t ∙ ap (λ (y : Path). is_free c y t) (append-nil q))
     (subst (λ (y : Path). IsLikeOutcome [] see c (call_row small (user_at (k ∷ q)) p stage) (call_row c (user_at (k ∷ y)) p stage)) (append-nil q) (call_row-like like k q p p stage refl (inner.alike [] see small c like free k q p p)))
 
+-- ---- from one outcome to the law, both ways
+
+same_move : (w : World) (m : Onward) (o : Outcome) (told heard : List Told) (later after : World) → OnwardTo w m o told later → OnwardTo w m o heard after → (heard ≡ told) × (after ≡ later)
+same_move w m (Goes cs said) told heard later after h g = (g.1 ∙ sym h.1, g.2 ∙ sym h.2)
+same_move w m Waits told heard later after h g = absurd h
+same_move w m (Refused status) told heard later after h g = absurd h
+
+pub rebinds_from : (bind : ℕ → ℕ) (c : World) (m : Onward) (near far : Outcome) → onward_row (rebound bind c) m ≡ near → onward_row c m ≡ far →
+    ((told : List Told) (later : World) → OnwardTo c m far told later → OnwardTo (rebound bind c) m near (map (rebound_told bind) told) (rebound bind later)) →
+    ((heard : List Told) (after : World) → OnwardTo (rebound bind c) m near heard after → (told : List Told) × (later : World) × OnwardTo c m far told later) → RebindsTo bind c m
+rebinds_from bind c m near far near_is far_is forth back = record {
+  forth = λ told later onward. subst (λ (o : Outcome). OnwardTo (rebound bind c) m o (map (rebound_told bind) told) (rebound bind later)) (sym near_is) (forth told later (subst (λ (o : Outcome). OnwardTo c m o told later) far_is onward));
+  back = λ heard after onward.
+      let here : OnwardTo (rebound bind c) m near heard after = subst (λ (o : Outcome). OnwardTo (rebound bind c) m o heard after) near_is onward in
+      let was = back heard after here in
+      let now = forth was.0 was.1 was.2 in
+      let same = same_move (rebound bind c) m near (map (rebound_told bind) was.0) heard (rebound bind was.1) after now here in
+      (was.0, was.1, subst (λ (o : Outcome). OnwardTo c m o was.0 was.1) (sym far_is) was.2, same.0, same.1);
+}
+
 -- rows that tell nothing
 pub quiet_heard : (see : Ptr → Ptr) (near far : Outcome) → Quiet [] near → Quiet [] far → IsHeard see near far
 quiet_heard see (Goes cs was) (Goes ds said) h g = Hushed was said h.mute g.mute
@@ -165,10 +168,6 @@ quiet_heard see (Refused status) (Goes ds said) h g = tt
 quiet_heard see Waits (Goes ds said) h g = tt
 quiet_heard see near Waits h g = tt
 quiet_heard see near (Refused status) h g = tt
-
-pub top_free : (c : World) → IsCutWorld c → is_frozen c [] ≡ false
-unfolding decider
-top_free c world = rw (root_seen world) refl
 
 module _ (bind : ℕ → ℕ) (c : World) (world : IsCutWorld c) (k : ℕ) (q : Path) where
   abbrev likeness_of : IsLikeness [] (rebound_ptr bind) (rebound bind c) c
@@ -208,7 +207,7 @@ module _ (bind : ℕ → ℕ) (c : World) (world : IsCutWorld c) (k : ℕ) (q : 
   both_out cs ds _ _ (SaysWords port words) = out_kept bind port
   both_out cs ds _ _ (SaysPassed port) = refl
 
-  pub gone_anew : (p : Option Path) (n : ℕ) (near far : Outcome) → IsLikeOutcome [] (rebound_ptr bind) c near far → IsLikeOutcome [] (λ p. p) c far far → IsHeard (rebound_ptr bind) near far →
+  gone_anew : (p : Option Path) (n : ℕ) (near far : Outcome) → IsLikeOutcome [] (rebound_ptr bind) c near far → IsLikeOutcome [] (λ p. p) c far far → IsHeard (rebound_ptr bind) near far →
       (told : List Told) (later : World) → OnwardTo c (Own (k ∷ q) p n) (counted n far) told later → OnwardTo (rebound bind c) (Own (k ∷ q) p n) (counted n near) (map (rebound_told bind) told) (rebound bind later)
   gone_anew p n (Goes cs was) (Goes ds said) h again heard told later onward = rw (both_out cs ds was said heard) (by (eqb n 0 || goes_out (Goes ds said)) onward)
     where
@@ -228,8 +227,38 @@ module _ (bind : ℕ → ℕ) (c : World) (world : IsCutWorld c) (k : ℕ) (q : 
   gone_anew p n (Refused status) (Goes ds said) h again heard told later onward = absurd h
   gone_anew p n Waits (Goes ds said) h again heard told later onward = absurd h
 
-  stage_anew : (p : Option Path) (n : ℕ) (stage : Stage) → IsOwn stage → IsAtStage c (k ∷ q) stage → (told : List Told) (later : World) → IsOnward c (Own (k ∷ q) p n) told later → IsOnward (rebound bind c) (Own (k ∷ q) p n) (map (rebound_told bind) told) (rebound bind later)
-  stage_anew p n stage inner at told later onward =
+  -- and back: it goes only where it went
+  gone_back : (p : Option Path) (n : ℕ) (near far : Outcome) → IsLikeOutcome [] (rebound_ptr bind) c near far → IsLikeOutcome [] (λ p. p) c far far → IsHeard (rebound_ptr bind) near far →
+      (heard : List Told) (after : World) → OnwardTo (rebound bind c) (Own (k ∷ q) p n) (counted n near) heard after → (told : List Told) × (later : World) × OnwardTo c (Own (k ∷ q) p n) (counted n far) told later
+  gone_back p n (Goes cs was) (Goes ds said) h again hears heard after onward = by (eqb n 0 || goes_out (Goes ds said)) (rw (both_out cs ds was said hears) at onward)
+    where
+      by : (b : Bool) → OnwardTo (rebound bind c) (Own (k ∷ q) p n) (when b (Goes cs was)) heard after → (told : List Told) × (later : World) × OnwardTo c (Own (k ∷ q) p n) (when b (Goes ds said)) told later
+      by true onward = (told_by c (Own (k ∷ q) p n) ds said, apply_all ds c, (changes_back bind c world (k ∷ q) c cs ds h again onward.0, refl, refl))
+      by false onward = absurd onward
+  gone_back p n Waits Waits h again hears heard after onward = absurd (idle (eqb n 0 || false) onward)
+    where
+      idle : (b : Bool) → OnwardTo (rebound bind c) (Own (k ∷ q) p n) (when b Waits) heard after → ⊥
+      idle true h = h
+      idle false h = h
+  gone_back p n (Refused status) (Refused refusal) h again hears heard after onward = absurd (idle (eqb n 0 || false) onward)
+    where
+      idle : (b : Bool) → OnwardTo (rebound bind c) (Own (k ∷ q) p n) (when b (Refused status)) heard after → ⊥
+      idle true h = h
+      idle false h = h
+  gone_back p n Waits (Refused refusal) h again hears heard after onward = absurd h
+  gone_back p n Waits (Goes ds said) h again hears heard after onward = absurd h
+  gone_back p n (Refused status) Waits h again hears heard after onward = absurd h
+  gone_back p n (Refused status) (Goes ds said) h again hears heard after onward = absurd h
+  gone_back p n (Goes cs was) Waits h again hears heard after onward = absurd h
+  gone_back p n (Goes cs was) (Refused refusal) h again hears heard after onward = absurd h
+
+  -- a row whose outcome is alike and heard alike
+  pub rebinds_by : (p : Option Path) (n : ℕ) (near far : Outcome) → IsLikeOutcome [] (rebound_ptr bind) c near far → IsLikeOutcome [] (λ p. p) c far far → IsHeard (rebound_ptr bind) near far →
+      onward_row (rebound bind c) (Own (k ∷ q) p n) ≡ counted n near → onward_row c (Own (k ∷ q) p n) ≡ counted n far → RebindsTo bind c (Own (k ∷ q) p n)
+  rebinds_by p n near far h again hears near_is far_is = rebinds_from bind c (Own (k ∷ q) p n) (counted n near) (counted n far) near_is far_is (gone_anew p n near far h again hears) (gone_back p n near far h again hears)
+
+  stage_anew : (p : Option Path) (n : ℕ) (stage : Stage) → IsOwn stage → IsAtStage c (k ∷ q) stage → RebindsTo bind c (Own (k ∷ q) p n)
+  stage_anew p n stage inner at =
       let t = at.0 in
       let see : Ptr → Ptr = rebound_ptr bind in
       let free = top_free c world in
@@ -238,10 +267,8 @@ module _ (bind : ℕ → ℕ) (c : World) (world : IsCutWorld c) (k : ℕ) (q : 
       let far_is : onward_row c (Own (k ∷ q) p n) ≡ counted n far = row_is c (k ∷ q) p n stage inner t at.1 at.2 at.3 at.4 in
       let near_is : onward_row (rebound bind c) (Own (k ∷ q) p n) ≡ counted n near = row_is (rebound bind c) (k ∷ q) p n stage inner (seen_thread see t) at.1 at.2 (thread_named see c (rebound bind c) (k ∷ q) likeness_of t at.3) at.4 in
       let quiet : (w : World) (b : Bool) → Quiet [] (when b (call_row w (user_at (k ∷ q)) p stage)) = λ w b. quiet-when [] b (call_row w (user_at (k ∷ q)) p stage) (quiet-call [] w (k ∷ q) p stage (inner.quiet w (k ∷ q) p)) in
-      subst (λ (o : Outcome). OnwardTo (rebound bind c) (Own (k ∷ q) p n) o (map (rebound_told bind) told) (rebound bind later)) (sym near_is)
-      (gone_anew p n near far (alike_there see c (rebound bind c) likeness_of free k q p stage inner t) (unseen t (alike_there (λ p. p) c c world free k q p stage inner t))
-      (quiet_heard see near far (quiet (rebound bind c) (is_free (rebound bind c) q (seen_thread see t))) (quiet c (is_free c q t))) told later
-      (subst (λ (o : Outcome). OnwardTo c (Own (k ∷ q) p n) o told later) far_is onward))
+      rebinds_by p n near far (alike_there see c (rebound bind c) likeness_of free k q p stage inner t) (unseen t (alike_there (λ p. p) c c world free k q p stage inner t))
+      (quiet_heard see near far (quiet (rebound bind c) (is_free (rebound bind c) q (seen_thread see t))) (quiet c (is_free c q t))) near_is far_is
     where
       -- a world that is its own likeness is not changed by that
       unseen : (t : Thread) → IsLikeOutcome [] (λ p. p) c (when (is_free c q (seen_thread (λ p. p) t)) (call_row c (user_at (k ∷ q)) p stage)) (when (is_free c q t) (call_row c (user_at (k ∷ q)) p stage)) → IsLikeOutcome [] (λ p. p) c (when (is_free c q t) (call_row c (user_at (k ∷ q)) p stage)) (when (is_free c q t) (call_row c (user_at (k ∷ q)) p stage))
@@ -259,25 +286,22 @@ pub row_anew : (bind : ℕ → ℕ) (c : World) (world : IsCutWorld c) (k : ℕ)
     onward_row c (Own (k ∷ q) p n) ≡ counted n (when (is_free c q t) (row c)) →
     (thread_in (rebound bind c) (k ∷ q) ≡ Some (seen_thread (rebound_ptr bind) t) → onward_row (rebound bind c) (Own (k ∷ q) p n) ≡ counted n (when (is_free (rebound bind c) q (seen_thread (rebound_ptr bind) t)) (row (rebound bind c)))) →
     thread_in c (k ∷ q) ≡ Some t →
-    ((see : Ptr → Ptr) (small : World) → IsLikeness [] see small c → IsLikeOutcome [] see c (row small) (row c)) → ((w : World) → Quiet [] (row w)) →
-    (told : List Told) (later : World) → IsOnward c (Own (k ∷ q) p n) told later → IsOnward (rebound bind c) (Own (k ∷ q) p n) (map (rebound_told bind) told) (rebound bind later)
-row_anew bind c world k q p n t row far_is near_by is alike quiet told later onward =
+    ((see : Ptr → Ptr) (small : World) → IsLikeness [] see small c → IsLikeOutcome [] see c (row small) (row c)) → ((w : World) → Quiet [] (row w)) → RebindsTo bind c (Own (k ∷ q) p n)
+row_anew bind c world k q p n t row far_is near_by is alike quiet =
     let see : Ptr → Ptr = rebound_ptr bind in
     let like : IsLikeness [] see (rebound bind c) c = rebound-like bind (λ p. p) [] c c world in
     let free = top_free c world in
     let far : Outcome = when (is_free c q t) (row c) in
     let near : Outcome = when (is_free (rebound bind c) q (seen_thread see t)) (row (rebound bind c)) in
     let near_is : onward_row (rebound bind c) (Own (k ∷ q) p n) ≡ counted n near = near_by (thread_named see c (rebound bind c) (k ∷ q) like t is) in
-    subst (λ (o : Outcome). OnwardTo (rebound bind c) (Own (k ∷ q) p n) o (map (rebound_told bind) told) (rebound bind later)) (sym near_is)
-    (gone_anew bind c world k q p n near far
+    rebinds_by bind c world k q p n near far
     (when_same like (is_free (rebound bind c) q (seen_thread see t)) (is_free c q t) (row (rebound bind c)) (row c) (is_free-like like free q t ∙ ap (λ (y : Path). is_free c y t) (append-nil q)) (alike see (rebound bind c) like))
     (when_same world (is_free c q t) (is_free c q t) (row c) (row c) refl (alike (λ p. p) c world))
-    (quiet_heard see near far (quiet-when [] (is_free (rebound bind c) q (seen_thread see t)) (row (rebound bind c)) (quiet (rebound bind c))) (quiet-when [] (is_free c q t) (row c) (quiet c))) told later
-    (subst (λ (o : Outcome). OnwardTo c (Own (k ∷ q) p n) o told later) far_is onward))
+    (quiet_heard see near far (quiet-when [] (is_free (rebound bind c) q (seen_thread see t)) (row (rebound bind c)) (quiet (rebound bind c))) (quiet-when [] (is_free c q t) (row c) (quiet c))) near_is far_is
 
 pub own_rebinds : (IsSuch : Stage → Type 0) → ((stage : Stage) → IsSuch stage → IsOwn stage) → StageRebinds IsSuch
-own_rebinds IsSuch inner c [] p n stage such at bind told later world onward = absurd (no_thread at.0 (c.body []) (root_seen world) at.3)
-own_rebinds IsSuch inner c (k ∷ q) p n stage such at bind told later world onward = stage_anew bind c world k q p n stage (inner stage such) at told later onward
+own_rebinds IsSuch inner c [] p n stage such at bind world = absurd (no_thread at.0 (c.body []) (root_seen world) at.3)
+own_rebinds IsSuch inner c (k ∷ q) p n stage such at bind world = stage_anew bind c world k q p n stage (inner stage such) at
 
 pub inner_rebinds : (IsSuch : Stage → Type 0) → ((stage : Stage) → IsSuch stage → IsInner stage) → StageRebinds IsSuch
 inner_rebinds IsSuch inner = own_rebinds IsSuch (λ stage such. inner_own stage (inner stage such))

@@ -1,6 +1,7 @@
 -- The law of rebinding for what the outside does to a subtree: with other outward ports it is done in the same way.
-use Rattle.std.proofs.Common.{◌≡◌, ℕ, ◌%◌, eqb, leb, ltb, min, Bool, true, false, cond, ◌&&◌, List, [], ◌∷◌, ◌++◌, map, length, Option, Some, None, IfSome, is_none, is_some, option_map, refl, sym, ap, subst, ◌∙◌, append-nil}
+use Rattle.std.proofs.Common.{◌≡◌, ℕ, ◌%◌, eqb, leb, ltb, min, Bool, true, false, cond, ◌&&◌, List, [], ◌∷◌, ◌++◌, map, length, Option, Some, None, is_none, is_some, option_map, refl, sym, ap, subst, ◌∙◌, append-nil}
 use Rattle.std.proofs.lemmas.Bool.{and_parts}
+use Rattle.fk_model.specs.Searches.{fault_at}
 use Rattle.fk_model.specs.declared.limits.TheConstants.{PAGE_WORDS, MOST_WORDS}
 use Rattle.fk_model.specs.declared.statuses.status.TheConstants.{FULL, ENDED}
 use Rattle.fk_model.specs.declared.thread.Turn.TheVariants as turns
@@ -24,7 +25,7 @@ use Rattle.fk_model.specs.Further.{Touch, Told, is_outside, on_found, is_outside
 use Rattle.fk_model.specs.Further.Touch.{Taken, Given, Filled, Handed, Left, FaultTaken, FaultDone, PageGiven, PageTaken}
 use Rattle.fk_model.specs.Further.Onward.{ByOthers}
 use Rattle.fk_transparency.specs.Likeness.{seeing, seen_peer, seen_talk, seen_fault, seen_thread, IsLikeness, IsCutWorld, AlikeOptions, IsSeenAs, IsSeenThread}
-use Rattle.fk_transparency.specs.LikeChanges.{LikeChanges, IsLikeOutcome}
+use Rattle.fk_transparency.specs.LikeChanges.{LikeChanges, IsLikeOutcome, HasFaultSeen}
 use Rattle.fk_transparency.specs.LikeChanges.LikeChange.{Alters, AltersOut, PutsPage, DropsPage}
 use Rattle.fk_transparency.specs.LikeChanges.LikeChanges.{Empty, Both}
 use Rattle.fk_model.specs.Rebind.{rebound_ptr, rebound, rebound_told}
@@ -36,7 +37,8 @@ use Rattle.fk_transparency.proofs.likeness.Talks.{thread_there-like}
 use Rattle.fk_transparency.proofs.likeness.Waits.{connecting_to-like}
 use Rattle.fk_transparency.proofs.likeness.Outcomes.{their_page-like}
 use Rattle.fk_transparency.proofs.likeness.ChangeLists.{changes-like}
-use Rattle.fk_transparency.proofs.rebinding.Rebound.{same_likeness, out_kept, top_free}
+use Rattle.fk_transparency.proofs.rebinding.Freedom.{out_kept, top_free}
+use Rattle.fk_transparency.proofs.rebinding.Rebound.{same_likeness, rebinds_from}
 
 -- ---- who is outside, in a world that is all inside
 
@@ -161,9 +163,9 @@ module _ {see : Ptr → Ptr} {small c : World} (like : IsLikeness [] see small c
   raised_same None = refl
   raised_same (Some fault) = rw (outs fault.port, none_seen _ fault.taker) refl
 
-  taken_out : (o : Option Fault) → holds (λ (fault : Fault). is_out fault.port && is_none fault.taker) o ≡ true → IfSome o (λ fault. is_out (see fault.port) ≡ true)
-  taken_out None h = tt
-  taken_out (Some fault) h = outs fault.port ∙ (and_parts (is_out fault.port) (is_none fault.taker) h).0
+  taken_out : (x : Path) (o : Option Fault) → fault_at c x ≡ o → holds (λ (fault : Fault). is_out fault.port && is_none fault.taker) o ≡ true → HasFaultSeen see c true x
+  taken_out x None e h = cc
+  taken_out x (Some fault) e h = (fault, e, outs fault.port ∙ (and_parts (is_out fault.port) (is_none fault.taker) h).0)
 
   held_same : (fault : Fault) → fault.taker ≡ option_map (seen_peer (λ p. p) (is_out fault.port)) fault.taker → (is_out (see fault.port) && holds is_outside (option_map (seen_peer see (is_out (see fault.port))) fault.taker)) ≡ (is_out fault.port && holds is_outside fault.taker)
   held_same fault shown = rw (outs fault.port) (by (is_out fault.port) fault.taker shown)
@@ -176,7 +178,7 @@ module _ {see : Ptr → Ptr} {small c : World} (like : IsLikeness [] see small c
   fault_taken_here : (k : ℕ) (q : Path) (t : Thread) → thread_in c (k ∷ (q ++ [])) ≡ Some t → Alike (taken_fault small (k ∷ q) (seen_thread see t)) (taken_fault c (k ∷ (q ++ [])) t)
   fault_taken_here k q t is =
       when_so (is_unheld small q && holds (λ (fault : Fault). is_out fault.port && is_none fault.taker) (and_then (seeing see).fault t.fault)) (is_unheld c (q ++ []) && holds (λ (fault : Fault). is_out fault.port && is_none fault.taker) t.fault) _ _ (rw (is_unheld-like like (top_free c world) q, raised_same t.fault) refl)
-      (λ on. Both (AltersOut k q _ (SetTaker (Some (Server Outside))) refl (rw is (taken_out t.fault (and_parts (is_unheld c (q ++ [])) _ on).1), tt)) Empty)
+      (λ on. Both (AltersOut k q _ (SetTaker (Some (Server Outside))) refl (taken_out (k ∷ (q ++ [])) t.fault (ap (and_then (λ (t : Thread). t.fault)) is) (and_parts (is_unheld c (q ++ [])) _ on).1, tt)) Empty)
 
   fault_done_here : (k : ℕ) (q : Path) (t : Thread) → t ≡ seen_thread (λ p. p) t → Alike (done_fault small (k ∷ q) (seen_thread see t)) (done_fault c (k ∷ (q ++ [])) t)
   fault_done_here k q t shown =
@@ -237,7 +239,17 @@ module _ (bind : ℕ → ℕ) (c : World) (world : IsCutWorld c) (touch : Touch)
   touch_gone (Refused status) (Goes ds said) h again told later onward = absurd h
   touch_gone Waits (Goes ds said) h again told later onward = absurd h
 
+  touch_back : (near far : Outcome) → IsLikeOutcome [] (rebound_ptr bind) c near far → (heard : List Told) (after : World) → OnwardTo (rebound bind c) (ByOthers touch) near heard after → (told : List Told) × (later : World) × OnwardTo c (ByOthers touch) far told later
+  touch_back (Goes cs was) (Goes ds said) h heard after onward = ([], apply_all ds c, (tt, refl, refl))
+  touch_back Waits far h heard after onward = absurd onward
+  touch_back (Refused status) far h heard after onward = absurd onward
+  touch_back (Goes cs was) Waits h heard after onward = absurd h
+  touch_back (Goes cs was) (Refused refusal) h heard after onward = absurd h
+
 pub touch_rebinds : TouchRebinds
 unfolding onward_row
-touch_rebinds c touch bind told later world onward =
-    touch_gone bind c world touch (touch_row (rebound bind c) touch) (touch_row c touch) (touch-like (rebound-like bind (λ p. p) [] c c world) (out_kept bind) world touch) (touch-like world (λ p. refl) world touch) told later onward
+touch_rebinds c touch bind world =
+    let alike = touch-like (rebound-like bind (λ p. p) [] c c world) (out_kept bind) world touch in
+    rebinds_from bind c (ByOthers touch) (touch_row (rebound bind c) touch) (touch_row c touch) refl refl
+    (touch_gone bind c world touch (touch_row (rebound bind c) touch) (touch_row c touch) alike (touch-like world (λ p. refl) world touch))
+    (touch_back bind c world touch (touch_row (rebound bind c) touch) (touch_row c touch) alike)

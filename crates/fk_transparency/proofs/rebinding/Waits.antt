@@ -16,7 +16,7 @@ use Rattle.fk_transparency.proofs.likeness.Walks.{beneath-like}
 use Rattle.fk_transparency.proofs.likeness.Sweeps.{serves_alike}
 use Rattle.fk_transparency.proofs.likeness.Servers.{cut_world-apart}
 use Rattle.fk_transparency.proofs.likeness.Picks.{wait_call-like}
-use Rattle.fk_transparency.proofs.rebinding.Rebound.{top_free}
+use Rattle.fk_transparency.proofs.rebinding.Freedom.{top_free}
 use Rattle.fk_transparency.proofs.rebinding.Messages.{found_same, client_same, silent_row, told_rebinds}
 
 -- ---- whose fault a thread has taken, in a world that is all inside

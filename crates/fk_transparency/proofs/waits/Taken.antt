@@ -7,7 +7,6 @@ use Rattle.fk_model.specs.Objects.Peer.{Server}
 use Rattle.fk_model.specs.World.{World, Change, apply, apply_all}
 use Rattle.fk_model.specs.World.Change.{Alter}
 use Rattle.fk_model.specs.World.Edit.{Finish, SetTalk, SetTaker}
-use Rattle.fk_model.specs.Searches.{fault_at}
 use Rattle.fk_model.specs.Holds.{is_frozen, is_free, is_unheld}
 use Rattle.fk_model.specs.Outcomes.Outcome.{Goes}
 use Rattle.fk_model.specs.Outcomes.Said.{Nothing}
@@ -18,7 +17,7 @@ use Rattle.fk_model.specs.Further.Touch.{Taken, FaultTaken}
 use Rattle.fk_model.specs.Further.Onward.{ByOthers}
 use Rattle.fk_transparency.specs.Likeness.{seen_peer, seen_thread, PtrLikeness, HasLikeness, AlikeOptions, IsSeenAs, IsSeenThread, AllInTalk, AllInFault}
 use Rattle.fk_transparency.specs.Likeness.PtrLikeness.{Nulls, Deads, Inside, PortAt, PortOut}
-use Rattle.fk_transparency.specs.LikeChanges.{seen_edit, LikeChanges, IsOutside}
+use Rattle.fk_transparency.specs.LikeChanges.{seen_edit, LikeChanges, IsOutside, HasFaultSeen}
 use Rattle.fk_transparency.specs.LikeChanges.LikeChange.{Alters, AltersOut}
 use Rattle.fk_transparency.specs.LikeChanges.LikeChanges.{Empty, Both, Beyond}
 use Rattle.fk_model.proofs.walks.PlaceLaws.{strip-append}
@@ -105,8 +104,8 @@ module _ (w : World) (nester : Path) (slot : ℕ) (plain : IsPlain w nester slot
   fault_plain fault is None (Some u) h e = absurd h
   fault_plain fault is (Some seen) None h e = absurd h
 
-  fault_out : (fault : Fault) (i : ℕ) → t.fault ≡ Some fault → see fault.port ≡ Out i → IfSome (fault_at w x) (λ (fault : Fault). is_out (see fault.port) ≡ true)
-  fault_out fault i is e = rw (at) (rw (is, e) refl)
+  fault_out : (fault : Fault) (i : ℕ) → t.fault ≡ Some fault → see fault.port ≡ Out i → HasFaultSeen see w true x
+  fault_out fault i is e = (fault, ap (and_then (λ (t : Thread). t.fault)) at ∙ is, ap is_out e)
 
   raised_seen : (f : Peer → Peer) (o : Option Peer) → is_none o ≡ true → is_none (option_map f o) ≡ true
   raised_seen f None h = refl
