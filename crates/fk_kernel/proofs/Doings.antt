@@ -14,11 +14,12 @@ use Rattle.fk_model.specs.Outcomes.{Outcome, when}
 use Rattle.fk_model.specs.Outcomes.Outcome.{Waits}
 use Rattle.fk_stages.specs.Built.{built_todo}
 use Rattle.fk_store.specs.Bodies.{thread_by}
-use Rattle.fk_store.specs.Threads.{thread_at, todo_at}
+use Rattle.fk_store.specs.Threads.{todo_at}
 use Rattle.fk_sync.specs.Stages.{IsOfMutex}
 use Rattle.fk_user.specs.Built.{is_built_stage, built_on, built_move, built_outcome}
 use Rattle.fk_user.specs.Known.{is_running_at}
 use Rattle.fk_kernel.proofs.BuiltCalls.{is_built_first, built_named, unbuilt_first, built_mutex}
+use Rattle.fk_model.specs.Searches.{thread_at}
 
 -- ---- who doesn't move
 

@@ -16,11 +16,12 @@ use Rattle.fk_model.specs.Outcomes.Outcome.{Refused, Waits, Goes}
 use Rattle.fk_model.specs.Moves.{call_row, with_pick, outcome, GoesAllowed, stepped, step}
 use Rattle.fk_store.specs.Moves.{picked_by}
 use Rattle.fk_store.specs.Paths.{place}
-use Rattle.fk_store.specs.Threads.{thread_at, todo_of_mode, todo_of_thread, todo_at, is_free_at}
+use Rattle.fk_store.specs.Threads.{todo_of_mode, todo_of_thread, todo_at, is_free_at}
 use Rattle.fk_store.proofs.Freedom.{outcome-calling}
 use Rattle.fk_sync.specs.Stages.{IsOfMutex}
 use Rattle.fk_user.specs.Built.{is_built_stage, built_on, built_move, built_outcome, IsBuiltReady, built_step}
 use Rattle.fk_user.specs.Known.{is_running, is_running_at}
+use Rattle.fk_model.specs.Searches.{thread_at}
 
 -- ---- who isn't ready
 

@@ -17,9 +17,9 @@ use Rattle.fk_model.specs.Moves.{call_row, with_pick, closed}
 use Rattle.fk_model.specs.Valid.{kind_there}
 use Rattle.fk_store.specs.Contents.{Contents}
 use Rattle.fk_store.specs.Names.{who_cmp, rank}
-use Rattle.fk_store.specs.Threads.{thread_at}
 use Rattle.fk_store.specs.World.{world, place_of, IsLive}
 use Rattle.fk_user.specs.Built.{is_built_stage, built_on, built_move, built_outcome, IsBuiltReady}
+use Rattle.fk_model.specs.Searches.{thread_at}
 
 -- ---- who is yet to come
 

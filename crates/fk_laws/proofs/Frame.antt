@@ -7,7 +7,7 @@ use Rattle.fk_model.specs.Places.{Path, same_path, parent, Ptr, leads_to}
 use Rattle.fk_model.specs.Objects.{Peer, Talk, Fault, Thread, Body, and_then, holds}
 use Rattle.fk_model.specs.Objects.Body.{Mapping, Region, Port, Space, Thread_of, Reference}
 use Rattle.fk_model.specs.Objects.Peer.{Server}
-use Rattle.fk_model.specs.World.{World, Change, Sweep, apply, apply_all, through, without, following, taker_without, follow_peer, serves, set_at}
+use Rattle.fk_model.specs.World.{World, Change, Sweep, apply, apply_all, through, death_sweep, following, taker_without, follow_peer, serves, set_at}
 use Rattle.fk_model.specs.World.Change.{Alter, Make, MakeSpace, Kill, Move, PutPage, DropPage}
 use Rattle.fk_model.specs.Searches.{option_list, talk_pointers, fault_pointers, peer_pointer}
 use Rattle.fk_model.specs.Freezing.{is_swept}
@@ -48,7 +48,7 @@ taker_apart : (x : Path) (o : Option Peer) → list_any (leads_to x) (option_lis
 taker_apart x None h = refl
 taker_apart x (Some peer) h = rw (peer_apart x peer h) refl
 
-pub without_leaves : (x : Path) → Leaves x (without x)
+pub without_leaves : (x : Path) → Leaves x (death_sweep x)
 without_leaves x = record {
   pointer = λ p h. ptr_apart x _ p h;
   holder = λ p h. rw h refl;
@@ -114,7 +114,7 @@ apply-body (Make x body) w q h = off _ _ _ h
 apply-body (MakeSpace x holder) w q h = off _ _ _ h
 apply-body (Kill x) w q h =
     let both = or_off (same_path q x) _ h in
-    off _ _ _ both.0 ∙ unswept x (without x) (without_leaves x) q (w.body q) both.1
+    off _ _ _ both.0 ∙ unswept x (death_sweep x) (without_leaves x) q (w.body q) both.1
 apply-body (Move x slot) w q h =
     let first = or_off (same_path q (slot ∷ parent x)) _ h in
     let both = or_off (same_path q x) _ first.1 in

@@ -5,15 +5,14 @@ use Rattle.std.proofs.lemmas.List.{length-append, length-replicate}
 use Rattle.fk_model.specs.declared.limits.TheConstants.{RECORD_WORDS, MOST_STOPS, PAGES}
 use Rattle.fk_model.specs.Places.{Path, same_path}
 use Rattle.fk_model.specs.Calls.{words}
-use Rattle.fk_model.specs.Objects.{Mode, Talk, Fault, Thread, Body, registers_of, number_of, kind_of}
+use Rattle.fk_model.specs.Objects.{Mode, Talk, Fault, Thread, Body, registers_of, number_of_kind, kind_of, flag_of}
 use Rattle.fk_model.specs.Objects.Mode.{Running, Calling, Halted, Native}
 use Rattle.fk_model.specs.Objects.Body.{Mutex, Mapping, Region, Port, Thread_of}
 use Rattle.fk_model.specs.Holds.{is_porter}
 use Rattle.fk_model.specs.World.{World, Edit, edited, at_path, apply, apply_all}
 use Rattle.fk_model.specs.World.Change.{Alter}
-use Rattle.fk_model.specs.LinkRows.{flag}
-use Rattle.fk_model.specs.Records.{record_of, set_edits, edited_by, set, takes_state, padded, state_words, mode_number, halt_code, talk_words, fault_words, member_by, member_word, calling_by, mode_by, is_flag, is_extent, is_member_word, is_mode}
-use Rattle.fk_model.specs.Shapes.{IsShapedMode, IsShaped, IsExtent, IsCodeInRange, IsMember, IsInRange}
+use Rattle.fk_model.specs.Records.{record_of, set_edits, edited_by, set, takes_state, padded, state_words, mode_number, halt_code, talk_words, fault_words, member_by, member_word, calling_by, mode_of_record, is_flag, is_page_range, is_member_word, is_mode}
+use Rattle.fk_model.specs.Shapes.{IsShapedMode, IsShaped, IsPageRange, IsCodeInRange, IsMember, IsInRange}
 use Rattle.fk_laws.specs.Laws.{RecordIsFull, RecordSetsNothing, RecordChangesNothing, RecordIsTaken}
 use Rattle.fk_model.proofs.calls.CallLaws.{registers, sixteen, words_read_back_lem, words_keep_length_lem}
 
@@ -43,11 +42,11 @@ state_words-fit b shaped = omega arith
 
 pub record_is_full_lem : RecordIsFull
 unfolding record_of
-record_is_full_lem b shaped = let fits = state_words-fit b shaped in length-padded RECORD_WORDS (number_of (kind_of b) ∷ state_words b) (omega arith)
+record_is_full_lem b shaped = let fits = state_words-fit b shaped in length-padded RECORD_WORDS (number_of_kind (kind_of b) ∷ state_words b) (omega arith)
 
 -- ---- a shown record sets what is there
 
-flag-read : (b : Bool) → eqb (flag b) 1 ≡ b
+flag-read : (b : Bool) → eqb (flag_of b) 1 ≡ b
 flag-read true = refl
 flag-read false = refl
 
@@ -61,7 +60,7 @@ member_word-read : (set : Option ℕ) → member_by (member_word set) ≡ set
 member_word-read None = refl
 member_word-read (Some k) = rw (sum_is_not_0 k, less_one k) refl
 
-mode-read : (mode : Mode) → IsShapedMode mode → is_porter mode ≡ false → mode_by (mode_number mode) (registers_of mode) (halt_code mode) ≡ mode
+mode-read : (mode : Mode) → IsShapedMode mode → is_porter mode ≡ false → mode_of_record (mode_number mode) (registers_of mode) (halt_code mode) ≡ mode
 mode-read (Running g) shaped user = refl
 mode-read (Calling todo rest) shaped user =
     let back = words_read_back_lem todo rest shaped.0 shaped.1 in
@@ -73,7 +72,7 @@ mode-read (Native g) shaped user = cc
 abbrev shown : Thread → List ℕ → List ℕ
 shown t g = padded RECORD_WORDS (8 ∷ g ++ (t.counter ∷ mode_number t.mode ∷ halt_code t.mode ∷ t.stops ∷ []) ++ talk_words t.talk ++ fault_words t.fault)
 
-set-shown : (t : Thread) (r : ℕ → ℕ) → set (Thread_of t) (shown t (registers (r 0) r)) ≡ Thread_of (record t { mode = mode_by (mode_number t.mode) (registers (r 0) r) (halt_code t.mode) })
+set-shown : (t : Thread) (r : ℕ → ℕ) → set (Thread_of t) (shown t (registers (r 0) r)) ≡ Thread_of (record t { mode = mode_of_record (mode_number t.mode) (registers (r 0) r) (halt_code t.mode) })
 unfolding set edited
 set-shown t r = refl
 
@@ -81,7 +80,7 @@ set-thread : (t : Thread) → IsShapedMode t.mode → is_porter t.mode ≡ false
 unfolding record_of
 set-thread t shaped user =
     let g = registers_of t.mode in
-    subst (λ g. set (Thread_of t) (shown t g) ≡ Thread_of (record t { mode = mode_by (mode_number t.mode) g (halt_code t.mode) })) (sixteen g (length-registers_of t.mode shaped)) (set-shown t (λ i. get_or g i 0))
+    subst (λ g. set (Thread_of t) (shown t g) ≡ Thread_of (record t { mode = mode_of_record (mode_number t.mode) g (halt_code t.mode) })) (sixteen g (length-registers_of t.mode shaped)) (set-shown t (λ i. get_or g i 0))
     ∙ ap (λ mode. Thread_of (record t { mode = mode })) (mode-read t.mode shaped user)
 
 pub record_sets_nothing_lem : RecordSetsNothing
@@ -139,11 +138,11 @@ record_changes_nothing_lem w x b there shaped user =
 
 -- ---- a shown record is taken
 
-flag-taken : (b : Bool) → is_flag (flag b) ≡ true
+flag-taken : (b : Bool) → is_flag (flag_of b) ≡ true
 flag-taken true = refl
 flag-taken false = refl
 
-extent-taken : (first count : ℕ) → IsExtent first count → is_extent first count ≡ true
+extent-taken : (first count : ℕ) → IsPageRange first count → is_page_range first count ≡ true
 extent-taken first count extent =
     and_from _ _ (and_from _ _ (le-leb 1 count extent.0) (le-leb count PAGES (omega arith))) (le-leb (first + count) PAGES extent.1)
 

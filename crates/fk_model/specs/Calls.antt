@@ -142,12 +142,12 @@ stages_of (Three a b c) = a ∷ b ∷ c ∷ []
 stages_of (Four a b c d) = a ∷ b ∷ c ∷ d ∷ []
 
 -- what a list of stages says of the registers: its code, and the arguments of each stage
-abbrev pub said_by : List Stage → List (ℕ × ℕ)
-said_by todo = (0, code_of todo) ∷ flat_map arguments todo
+abbrev pub argument_registers : List Stage → List (ℕ × ℕ)
+argument_registers todo = (0, code_of todo) ∷ flat_map arguments todo
 
 -- the 16 registers of a calling thread
 unfoldable pub words : List Stage → List ℕ → List ℕ
-words todo rest = with_values (said_by todo) rest
+words todo rest = with_values (argument_registers todo) rest
 
 -- a call: its code, and its stages as functions of the registers
 pub record Call : Type 0 where
@@ -238,18 +238,18 @@ todo_of g = named_by calls (slice_index g 0) g
 
 -- what the registers hold besides these stages
 unfoldable pub rest_of : List Stage → List ℕ → List ℕ
-rest_of todo g = without_values (said_by todo) g
+rest_of todo g = without_values (argument_registers todo) g
 
 -- 16 words that hold 0 where the stages speak
 pub record IsRest (todo : List Stage) (rest : List ℕ) : Type 0 where
   pub sixteen : length rest ≡ 16
-  pub apart : without_values (said_by todo) rest ≡ rest
+  pub apart : without_values (argument_registers todo) rest ≡ rest
 
 -- ---- what a stage leaves
 
 -- after its first stage a call keeps that stage's arguments, as they were advanced, where the later stages are silent
 abbrev pub left_by : Stage → List Stage → List ℕ → List ℕ
-left_by stage todo rest = without_values (said_by todo) (with_values (arguments stage) rest)
+left_by stage todo rest = without_values (argument_registers todo) (with_values (arguments stage) rest)
 
 -- answers stand from the second register on
 abbrev pub with_answers : List ℕ → List ℕ → List ℕ

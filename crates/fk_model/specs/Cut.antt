@@ -7,7 +7,7 @@ use Rattle.std.specs.Prelude.{◌≡◌, ℕ, zero, Bool, true, false, not, ◌&
 use Rattle.std.specs.List.{list_any}
 use Rattle.fk_model.specs.Places.{Path, same_path, strip, is_within, Ptr}
 use Rattle.fk_model.specs.Places.Ptr.{Null, Dead, At, Out, Outside, Far}
-use Rattle.fk_model.specs.Objects.{Peer, Talk, Fault, Thread, Body, port_of, thread_of, and_then, holds}
+use Rattle.fk_model.specs.Objects.{Peer, Talk, Fault, Thread, Body, port_of, thread_of, and_then, holds, is_served}
 use Rattle.fk_model.specs.Objects.Body.{Port, Space}
 use Rattle.fk_model.specs.Objects.Peer.{Server, Service, Parked}
 use Rattle.fk_model.specs.World.{World, Sweep, through}
@@ -114,9 +114,6 @@ is_far Outside = false
 
 abbrev pub has_far : Option Body → Bool
 has_far body = holds (λ b. list_any is_far (pointers b)) body
-
-abbrev pub is_served : Body → Bool
-is_served b = holds (λ (port : Option ℕ × Bool). port.1) (port_of b)
 
 -- a peer that is a thread inside
 abbrev pub is_inner_peer : Path → Peer → Bool

@@ -13,7 +13,7 @@ use Rattle.fk_model.specs.World.Edit.{SetFault}
 use Rattle.fk_model.specs.Searches.{faulter_of}
 use Rattle.fk_model.specs.Holds.{is_unheld, is_frozen_for}
 use Rattle.fk_model.specs.Outcomes.{Outcome, ◌>>=◌, refuse, or_refuse, when, Caller, path_of, done}
-use Rattle.fk_model.specs.Readers.{and_read, object_in, place, referred}
+use Rattle.fk_model.specs.Readers.{and_read, object_in, space_argument, referred}
 
 -- ---- fault_done: the fault that the caller has taken ends, and its thread tries again. Not while that thread is held
 
@@ -34,7 +34,7 @@ named_taker w c taker = if taker == OWN_SPACE then Ok None else and_read (referr
 
 unfoldable pub fault_set : World → Caller → ℕ → ℕ → ℕ → ℕ → Outcome
 fault_set w c s x port taker = do
-  space ← place w c s
+  space ← space_argument w c s
   _ ← object_in w c thread_of space x
   at ← referred w c kinds.Port port
   by ← named_taker w c taker
@@ -44,7 +44,7 @@ fault_set w c s x port taker = do
 -- raised on a port of the porter's space, or parked there
 unfoldable pub fault_park : World → Caller → ℕ → ℕ → ℕ → ℕ → Outcome
 fault_park w c s x port taken = do
-  space ← place w c s
+  space ← space_argument w c s
   _ ← object_in w c thread_of space x
   _ ← object_in w c port_of c.space port
   _ ← refuse HELD (is_frozen_for w (path_of c) (x ∷ space))

@@ -5,7 +5,7 @@
 -- does, only the inside half is made.
 use Rattle.std.specs.Prelude.{◌≡◌, ℕ, ◌%◌, min, Bool, true, false, ◌&&◌, ◌||◌, ◌==◌, nat_le, nat_lt, is_none, is_some, List, [], ◌∷◌, ◌++◌, length, Option, Some, None, if◌then◌else◌}
 use Rattle.std.specs.List.{flat_map}
-use Rattle.fk_model.specs.declared.limits.TheConstants.{PAGE_WORDS, MOST_WORDS}
+use Rattle.fk_model.specs.declared.limits.TheConstants.{PAGE_WORDS, BLOCK_WORDS}
 use Rattle.fk_model.specs.declared.statuses.status.TheConstants.{FULL, ENDED}
 use Rattle.fk_model.specs.declared.stage.Stage.{Stage}
 use Rattle.fk_model.specs.declared.stage.Stage.TheVariants.{ClientSend, ClientOver}
@@ -18,7 +18,7 @@ use Rattle.fk_model.specs.Objects.Peer.{Server}
 use Rattle.fk_model.specs.World.{World, Change, apply_all}
 use Rattle.fk_model.specs.World.Change.{Alter, Kill, PutPage, DropPage}
 use Rattle.fk_model.specs.World.Edit.{Shift, Finish, End, SetTalk, CountMoved, PassTurn, SetFault, SetTaker}
-use Rattle.fk_model.specs.Searches.{talk_at}
+use Rattle.fk_model.specs.Searches.{talk_at, thread_at}
 use Rattle.fk_model.specs.Reach.{words_at}
 use Rattle.fk_model.specs.Holds.{is_free, is_unheld}
 use Rattle.fk_model.specs.Outcomes.{Said, Outcome, ◌>>=◌, when, Caller, path_of, done, telling}
@@ -71,7 +71,7 @@ is_outside other = false
 -- a peer outside takes at least one word, and no more than the sender's side allows
 abbrev pub takes_words : Caller → Path → Ptr → ℕ → ℕ → ℕ → List ℕ → Outcome
 takes_words c client port taken address count page =
-    when (nat_lt 0 taken && nat_le taken (moved_words address count 0 MOST_WORDS)) (has_sent c taken count (Alter client (CountMoved taken) ∷ []) (Words port (block taken address page)))
+    when (nat_lt 0 taken && nat_le taken (moved_words address count 0 BLOCK_WORDS)) (has_sent c taken count (Alter client (CountMoved taken) ∷ []) (Words port (block taken address page)))
 
 abbrev pub sends_outside : World → Caller → ℕ → ℕ → ℕ → Line → Outcome
 sends_outside w c taken address count l =
@@ -136,7 +136,7 @@ given_at w x words into s page =
 -- a block that the other side gives: at least one word, and no more than the receiver's side allows
 abbrev pub given_to : World → Path → List ℕ → ℕ × ℕ → Outcome
 given_to w x words receive =
-    when (nat_lt 0 (length words) && nat_le (length words) (min MOST_WORDS (min receive.1 (to_page_end receive.0)))) (their_page w (parent x) receive.0 (given_at w x words receive.0))
+    when (nat_lt 0 (length words) && nat_le (length words) (min BLOCK_WORDS (min receive.1 (to_page_end receive.0)))) (their_page w (parent x) receive.0 (given_at w x words receive.0))
 
 abbrev pub filled_at : Path → ℕ × ℕ → Outcome
 filled_at x receive = when (receive.1 == 0) (Goes (Alter x (End FULL []) ∷ []) Nothing)
@@ -149,30 +149,27 @@ left_by_peer x t =
     when (holds is_outside_talk t.talk) (Goes ((if is_talking turns.Client t.mode then Alter x (End ENDED []) ∷ [] else []) ++ Alter x (SetTalk None) ∷ []) Nothing)
 
 -- the fault of a thread that isn't held: raised, or taken by someone outside
-abbrev pub taken_fault : World → Path → Thread → Outcome
-taken_fault w x t = when (is_unheld w (parent x) && holds (λ (fault : Fault). is_out fault.port && is_none fault.taker) t.fault) (Goes (Alter x (SetTaker (Some (Server Outside))) ∷ []) Nothing)
+abbrev pub fault_taken_outside : World → Path → Thread → Outcome
+fault_taken_outside w x t = when (is_unheld w (parent x) && holds (λ (fault : Fault). is_out fault.port && is_none fault.taker) t.fault) (Goes (Alter x (SetTaker (Some (Server Outside))) ∷ []) Nothing)
 
 abbrev pub done_fault : World → Path → Thread → Outcome
 done_fault w x t = when (is_unheld w (parent x) && holds (λ (fault : Fault). is_out fault.port && holds is_outside fault.taker) t.fault) (Goes (Alter x (SetFault None) ∷ []) Nothing)
 
-abbrev pub thread_in : World → Path → Option Thread
-thread_in w x = and_then thread_of (w.body x)
-
 unfoldable pub touch_row : World → Touch → Outcome
-touch_row w (Taken x) = on_found (λ (t : Thread). when (is_free w (parent x) t) (on_found (taken_at w x) (connecting_to w x t))) (thread_in w x)
-touch_row w (Given x words) = on_found (if_awaiting w x (given_to w x words)) (thread_in w x)
-touch_row w (Filled x) = on_found (if_awaiting w x (filled_at x)) (thread_in w x)
-touch_row w (Handed x) = on_found (if_awaiting w x (handed_to x)) (thread_in w x)
-touch_row w (Left x) = on_found (left_by_peer x) (thread_in w x)
-touch_row w (FaultTaken x) = on_found (taken_fault w x) (thread_in w x)
-touch_row w (FaultDone x) = on_found (done_fault w x) (thread_in w x)
+touch_row w (Taken x) = on_found (λ (t : Thread). when (is_free w (parent x) t) (on_found (taken_at w x) (connecting_to w x t))) (thread_at w x)
+touch_row w (Given x words) = on_found (if_awaiting w x (given_to w x words)) (thread_at w x)
+touch_row w (Filled x) = on_found (if_awaiting w x (filled_at x)) (thread_at w x)
+touch_row w (Handed x) = on_found (if_awaiting w x (handed_to x)) (thread_at w x)
+touch_row w (Left x) = on_found (left_by_peer x) (thread_at w x)
+touch_row w (FaultTaken x) = on_found (fault_taken_outside w x) (thread_at w x)
+touch_row w (FaultDone x) = on_found (done_fault w x) (thread_at w x)
 touch_row w (PageGiven s page words) = when (is_some (and_then space_of (w.body s)) && is_none (w.page s page)) (Goes (PutPage s page words ∷ []) Nothing)
 touch_row w (PageTaken s page) = when (is_some (w.page s page)) (Goes (DropPage s page ∷ []) Nothing)
 
 -- ---- runs
 
 unfoldable pub onward_row : World → Onward → Outcome
-onward_row w (Own x pick taken) = counted taken (own_row w x pick taken (thread_in w x))
+onward_row w (Own x pick taken) = counted taken (own_row w x pick taken (thread_at w x))
 onward_row w (ByOthers touch) = touch_row w touch
 
 -- what the freezing rule asks: of a thread of the subtree as ever. What others do is barred where its row says so alone
@@ -181,16 +178,16 @@ OnwardAllowed w (Own x pick taken) changes = AreAllowed w x changes
 OnwardAllowed w (ByOthers touch) changes = Unit {0}
 
 -- a talk that ends, and a fault that is raised, at a port outside
-abbrev pub told_end : Path → Option Talk → List Told
-told_end x None = []
-told_end x (Some talk) = if is_out talk.port then ToldEnd x talk.port ∷ [] else []
+abbrev pub ends_told : Path → Option Talk → List Told
+ends_told x None = []
+ends_told x (Some talk) = if is_out talk.port then ToldEnd x talk.port ∷ [] else []
 
 abbrev pub told_fault : Path → Fault → List Told
 told_fault x fault = if is_out fault.port && is_none fault.taker then ToldFault x fault.port fault.page fault.write ∷ [] else []
 
 abbrev pub told_by_change : World → Change → List Told
-told_by_change w (Kill x) = told_end x (talk_at w x)
-told_by_change w (Alter x (SetTalk None)) = told_end x (talk_at w x)
+told_by_change w (Kill x) = ends_told x (talk_at w x)
+told_by_change w (Alter x (SetTalk None)) = ends_told x (talk_at w x)
 told_by_change w (Alter x (SetFault (Some fault))) = told_fault x fault
 told_by_change w other = []
 

@@ -8,7 +8,7 @@ use Rattle.fk_model.specs.declared.thread.Turn.{Turn}
 use Rattle.fk_model.specs.declared.thread.Turn.TheVariants as turns
 use Rattle.fk_model.specs.Places.{Path, same_path, parent, slot_of, Ptr}
 use Rattle.fk_model.specs.Places.Ptr.{At}
-use Rattle.fk_model.specs.Objects.{Peer, Talk, Fault, Thread, Body, port_of, thread_of, and_then, or_else, holds}
+use Rattle.fk_model.specs.Objects.{Peer, Talk, Fault, Thread, Body, port_of, thread_of, and_then, or_else, holds, flag_of}
 use Rattle.fk_model.specs.Objects.Body.{Portset}
 use Rattle.fk_model.specs.Objects.Peer.{Server, Service, Parked}
 use Rattle.fk_model.specs.World.{World, Change}
@@ -19,7 +19,7 @@ use Rattle.fk_model.specs.Holds.{is_free, is_unheld, is_frozen_for}
 use Rattle.fk_model.specs.Outcomes.{Said, Outcome, ◌>>=◌, refuse, or_refuse, Caller, path_of, done, ended, telling}
 use Rattle.fk_model.specs.Outcomes.Outcome.{Waits}
 use Rattle.fk_model.specs.Outcomes.Said.{Nothing, Ended}
-use Rattle.fk_model.specs.Readers.{object_in, handle, place, referred}
+use Rattle.fk_model.specs.Readers.{object_in, handle, space_argument, referred}
 use Rattle.fk_model.specs.Talks.{Line, line, ends_beyond, first_stage, path_to}
 
 -- ---- connect: a server's wait does it, or the port's native server. By itself it is only refused
@@ -93,26 +93,23 @@ candidate_by w space set x t =
 unfoldable pub candidate : World → Path → ℕ → Path → Option Candidate
 candidate w space set x = if is_unheld w (parent x) then and_then (candidate_by w space set x) (and_then thread_of (w.body x)) else None
 
-abbrev pub flag : Bool → ℕ
-flag b = if b then 1 else 0
-
 abbrev pub turn_number : Turn → ℕ
 turn_number turns.Client = 1
 turn_number turns.Server = 2
 
 -- a call answers the port's slot and 0; a fault 1, a resumed talk 2, a resumed fault 3, and what there is to know of it
-abbrev pub takes : Caller → Path → Option Candidate → Outcome
-takes c x None = Waits
-takes c x (Some (Faulting slot fault)) =
-    ended c (Alter x (SetTaker (Some (Server (At (path_of c))))) ∷ []) (slot ∷ (if is_some fault.taker then 3 else 1) ∷ fault.page ∷ flag fault.write ∷ [])
-takes c x (Some (Connecting slot)) =
+abbrev pub takes_candidate : Caller → Path → Option Candidate → Outcome
+takes_candidate c x None = Waits
+takes_candidate c x (Some (Faulting slot fault)) =
+    ended c (Alter x (SetTaker (Some (Server (At (path_of c))))) ∷ []) (slot ∷ (if is_some fault.taker then 3 else 1) ∷ fault.page ∷ flag_of fault.write ∷ [])
+takes_candidate c x (Some (Connecting slot)) =
     done c (Alter x (SetTalk (Some (new_talk (At (slot ∷ c.space)) (Server (At (path_of c)))))) ∷ Alter x (Finish []) ∷ []) (slot ∷ 0 ∷ [])
-takes c x (Some (Resuming slot talk)) =
+takes_candidate c x (Some (Resuming slot talk)) =
     ended c (Alter x (SetPeer (Server (At (path_of c)))) ∷ []) (slot ∷ 2 ∷ turn_number talk.turn ∷ talk.moved ∷ [])
 
 abbrev pub takes_picked : World → Caller → ℕ → Option Path → Outcome
 takes_picked w c set None = Waits
-takes_picked w c set (Some x) = takes c x (candidate w c.space set x)
+takes_picked w c set (Some x) = takes_candidate c x (candidate w c.space set x)
 
 abbrev pub portset_of : Body → Option Body
 portset_of Portset = Some Portset
@@ -151,7 +148,7 @@ given_talk c port peer = Some (record { port = port; peer = peer; turn = turn_by
 
 unfoldable pub link_set : World → Caller → ℕ → ℕ → ℕ → ℕ → Outcome
 link_set w c s x port server = do
-  space ← place w c s
+  space ← space_argument w c s
   _ ← object_in w c thread_of space x
   at ← referred w c kinds.Port port
   thread ← referred w c kinds.Thread server
@@ -160,7 +157,7 @@ link_set w c s x port server = do
 
 unfoldable pub link_park : World → Caller → ℕ → ℕ → ℕ → Outcome
 link_park w c s x port = do
-  space ← place w c s
+  space ← space_argument w c s
   _ ← object_in w c thread_of space x
   _ ← object_in w c port_of c.space port
   _ ← refuse HELD (is_frozen_for w (path_of c) (x ∷ space))

@@ -46,13 +46,13 @@ abbrev pub accepts_found : World → Path → Path → Option Thread → Outcome
 accepts_found w port x None = Waits
 accepts_found w port x (Some t) = when (is_free w (parent x) t) (accepts_thread w port x t)
 
-abbrev pub accepts : World → Path → Option Path → Outcome
-accepts w port None = Waits
-accepts w port (Some x) = accepts_found w port x (and_then thread_of (w.body x))
+abbrev pub takes_client : World → Path → Option Path → Outcome
+takes_client w port None = Waits
+takes_client w port (Some x) = accepts_found w port x (and_then thread_of (w.body x))
 
 -- not while the port has a client
 unfoldable pub accept_row : World → Path → Option Path → Outcome
-accept_row w port pick = when (is_serving_port w port && is_none (client_at w port)) (accepts w port pick)
+accept_row w port pick = when (is_serving_port w port && is_none (client_at w port)) (takes_client w port pick)
 
 -- ---- the client of a server whose turn it is, where it is free and at its Receive
 

@@ -8,7 +8,7 @@ use Rattle.fk_model.specs.declared.thread.Turn.{Turn}
 use Rattle.fk_model.specs.declared.thread.Turn.TheVariants as turns
 use Rattle.fk_model.specs.Places.{Path, same_path, strip, is_within, parent, slot_of, Ptr}
 use Rattle.fk_model.specs.Places.Ptr.{Null, Dead, At, Out, Outside, Far}
-use Rattle.fk_model.specs.Objects.{Talk, Body, kind_of, same_kind, number_of, reference_of, port_of, holds}
+use Rattle.fk_model.specs.Objects.{Talk, Body, kind_of, same_kind, number_of_kind, reference_of, port_of, holds, is_served}
 use Rattle.fk_model.specs.Objects.Mode.{Running}
 use Rattle.fk_model.specs.Objects.Body.{Mutex, Cond, Mapping, Region, Port, Portset, Thread_of, Reference}
 use Rattle.fk_model.specs.World.{World, Change}
@@ -18,7 +18,7 @@ use Rattle.fk_model.specs.Searches.{lowest, has_residents, objects, leaf, client
 use Rattle.fk_model.specs.Holds.{is_frozen_for}
 use Rattle.fk_model.specs.Outcomes.{Said, Outcome, ◌>>=◌, refuse, or_refuse, Caller, path_of, last_slot, done, done_at, stays, telling}
 use Rattle.fk_model.specs.Outcomes.Said.{Nothing, Ended}
-use Rattle.fk_model.specs.Readers.{and_read, slot_for, object_in, anything, place, kind_at}
+use Rattle.fk_model.specs.Readers.{and_read, slot_for, object_in, anything, space_argument, kind_at}
 use Rattle.fk_model.specs.Talks.{line, Line, ends_beyond, talking_end}
 use Rattle.fk_model.specs.LinkRows.{end_all, told_end}
 use Rattle.fk_model.specs.StateRows.{referable}
@@ -40,7 +40,7 @@ new_object x kind =
 
 unfoldable pub create : World → Caller → ℕ → ℕ → ℕ → Outcome
 create w c s x kind = do
-  space ← place w c s
+  space ← space_argument w c s
   _ ← slot_for c x
   _ ← refuse status.HELD (is_frozen_for w (path_of c) space)
   made ← or_refuse status.WRONGKIND (new_object (x ∷ space) kind)
@@ -58,13 +58,13 @@ abbrev pub ends_on : World → Path → Turn → List Path
 ends_on w x side = ends_in w side (line w x side)
 
 -- both ends of a client's talk
-abbrev pub both_ends : World → Path → List Path
-both_ends w client = talking_end w turns.Client (At client) ++ ends_on w client turns.Client
+abbrev pub ends_of_client : World → Path → List Path
+ends_of_client w client = talking_end w turns.Client (At client) ++ ends_on w client turns.Client
 
 -- whose calls end with an object: the other ends of a thread's talks, both ends of each talk at a port
 abbrev pub ends_with : World → Path → Option Body → List Path
 ends_with w x (Some (Thread_of t)) = ends_on w x turns.Client ++ ends_on w x turns.Server
-ends_with w x (Some (Port set served)) = flat_map (both_ends w) (clients_at w x)
+ends_with w x (Some (Port set served)) = flat_map (ends_of_client w) (clients_at w x)
 ends_with w x other = []
 
 abbrev pub told_client : Option Talk → Said
@@ -91,7 +91,7 @@ destroys w c x gone =
 
 unfoldable pub destroy : World → Caller → ℕ → ℕ → Outcome
 destroy w c s x = do
-  space ← place w c s
+  space ← space_argument w c s
   _ ← object_in w c anything space x
   _ ← refuse status.HELD (is_frozen_for w (path_of c) (x ∷ space))
   _ ← refuse status.DENIED (is_within (x ∷ space) c.space)
@@ -100,16 +100,13 @@ destroy w c s x = do
 
 -- ---- rename: every pointer follows, and the set of each port whose port set is renamed
 
-abbrev pub is_served : Body → Bool
-is_served b = holds (λ (port : Option ℕ × Bool). port.1) (port_of b)
-
 -- a thread that renames itself ends its call in its new slot
 abbrev pub renamed : Path → Path → Path → Path
 renamed x y me = if same_path me x then y else me
 
 unfoldable pub rename : World → Caller → ℕ → ℕ → ℕ → Outcome
 rename w c s x y = do
-  space ← place w c s
+  space ← space_argument w c s
   b ← object_in w c anything space x
   _ ← refuse status.HELD (is_frozen_for w (path_of c) (x ∷ space))
   _ ← refuse status.BADHANDLE (not (nat_le y LAST_USER_SLOT))
@@ -121,11 +118,11 @@ rename w c s x y = do
 -- ---- search: the first taken slot at or above a number, and the kind there. Users see no slot above 239
 
 abbrev pub taken_from : World → Path → ℕ → ℕ → ℕ → Option (ℕ × ℕ)
-taken_from w space last from k = if nat_le from k && nat_le k last then option_map (λ b. (k, number_of (kind_of b))) (w.body (k ∷ space)) else None
+taken_from w space last from k = if nat_le from k && nat_le k last then option_map (λ b. (k, number_of_kind (kind_of b))) (w.body (k ∷ space)) else None
 
 unfoldable pub search : World → Caller → ℕ → ℕ → Outcome
 search w c s from = do
-  space ← place w c s
+  space ← space_argument w c s
   found ← or_refuse status.NONE (lowest SLOTS (taken_from w space (last_slot c) from))
   done c [] (found.0 ∷ found.1 ∷ [])
 
@@ -141,29 +138,29 @@ pointer_in w c space x = object_in w c (pointer_to (x ∷ space)) space x
 
 unfoldable pub point : World → Caller → ℕ → ℕ → ℕ → ℕ → Outcome
 point w c s x s2 x2 = do
-  space ← place w c s
+  space ← space_argument w c s
   _ ← object_in w c reference_of space x
-  space2 ← place w c s2
+  space2 ← space_argument w c s2
   to ← pointer_in w c space2 x2
   _ ← refuse status.HELD (is_frozen_for w (path_of c) (x ∷ space))
   done c (Alter (x ∷ space) (SetPointer to) ∷ []) []
 
 unfoldable pub clear : World → Caller → ℕ → ℕ → Outcome
 clear w c s x = do
-  space ← place w c s
+  space ← space_argument w c s
   _ ← object_in w c reference_of space x
   _ ← refuse status.HELD (is_frozen_for w (path_of c) (x ∷ space))
   done c (Alter (x ∷ space) (SetPointer Null) ∷ []) []
 
 -- ---- locate: where in or beneath a space the object lies to which a reference leads
 
-abbrev pub followed : Ptr → Result Ptr ℕ
-followed Null = Err status.NULLREF
-followed Dead = Err status.DEAD
-followed (At x) = Ok (At x)
-followed (Out slot) = Ok (Out slot)
-followed Outside = Ok Outside
-followed Far = Ok Far
+abbrev pub target_of : Ptr → Result Ptr ℕ
+target_of Null = Err status.NULLREF
+target_of Dead = Err status.DEAD
+target_of (At x) = Ok (At x)
+target_of (Out slot) = Ok (Out slot)
+target_of Outside = Ok Outside
+target_of Far = Ok Far
 
 -- the outermost slot on a way down
 abbrev pub outermost : Path → ℕ
@@ -185,13 +182,13 @@ way_to space Far = None
 
 abbrev pub kind_number : Option Kind → ℕ
 kind_number None = 0
-kind_number (Some kind) = number_of kind
+kind_number (Some kind) = number_of_kind kind
 
 unfoldable pub locate : World → Caller → ℕ → ℕ → Outcome
 locate w c reference s = do
   p ← object_in w c reference_of c.space reference
-  space ← place w c s
-  to ← followed p
+  space ← space_argument w c s
+  to ← target_of p
   way ← or_refuse status.NONE (way_to space to)
   done c [] (way ++ kind_number (kind_at w to) ∷ [])
 
@@ -203,8 +200,8 @@ is_scratch nester q = same_path (parent q) nester && nat_le FIRST_SCRATCH_SLOT (
 abbrev pub counts_from : Path → Path → Path → Bool
 counts_from base nester q = not (is_within base q) && not (is_scratch nester q)
 
-abbrev pub counted : World → Path → Path → Path → ℕ
-counted w base nester x = sum_by (λ q. pointers_to x (w.body q)) (filter (counts_from base nester) ([] ∷ objects w))
+abbrev pub pointer_count : World → Path → Path → Path → ℕ
+pointer_count w base nester x = sum_by (λ q. pointers_to x (w.body q)) (filter (counts_from base nester) ([] ∷ objects w))
 
 -- the object in a slot of a space, or the space itself
 abbrev pub object_or_space : World → Caller → Path → ℕ → Result Path ℕ
@@ -212,7 +209,7 @@ object_or_space w c space x = if x == OWN_SPACE then Ok space else and_read (obj
 
 unfoldable pub count_in : World → Caller → ℕ → ℕ → ℕ → Outcome
 count_in w c base s x = do
-  top ← place w c base
-  space ← place w c s
+  top ← space_argument w c base
+  space ← space_argument w c s
   to ← object_or_space w c space x
-  done c [] (counted w top c.space to ∷ [])
+  done c [] (pointer_count w top c.space to ∷ [])

@@ -1,5 +1,5 @@
 -- Objects: what stands in a slot, with its pointers by path.
-use Rattle.std.specs.Prelude.{ℕ, ◌+◌, Bool, false, ◌&&◌, ◌==◌, nat_le, nat_lt, List, Option, Some, None}
+use Rattle.std.specs.Prelude.{if◌then◌else◌, ℕ, ◌+◌, Bool, false, ◌&&◌, ◌==◌, nat_le, nat_lt, List, Option, Some, None}
 use Rattle.fk_model.specs.declared.names.Kind.{Kind}
 use Rattle.fk_model.specs.declared.names.Kind.TheVariants as kinds
 use Rattle.fk_model.specs.declared.stage.Stage.{Stage}
@@ -81,19 +81,19 @@ pub data Body : Type 0 where
 
 -- ---- kinds
 
-abbrev pub number_of : Kind → ℕ
-number_of kinds.Mutex = 1
-number_of kinds.Cond = 2
-number_of kinds.Mapping = 3
-number_of kinds.Region = 4
-number_of kinds.Port = 5
-number_of kinds.Portset = 6
-number_of kinds.Space = 7
-number_of kinds.Thread = 8
-number_of kinds.Reference = 9
+abbrev pub number_of_kind : Kind → ℕ
+number_of_kind kinds.Mutex = 1
+number_of_kind kinds.Cond = 2
+number_of_kind kinds.Mapping = 3
+number_of_kind kinds.Region = 4
+number_of_kind kinds.Port = 5
+number_of_kind kinds.Portset = 6
+number_of_kind kinds.Space = 7
+number_of_kind kinds.Thread = 8
+number_of_kind kinds.Reference = 9
 
 abbrev pub same_kind : Kind → Kind → Bool
-same_kind a b = number_of a == number_of b
+same_kind a b = number_of_kind a == number_of_kind b
 
 abbrev pub kind_of : Body → Kind
 kind_of (Mutex locked) = kinds.Mutex
@@ -155,3 +155,13 @@ or_else (Some a) b = Some a
 abbrev pub holds : {A : Type 0} → (A → Bool) → Option A → Bool
 holds test None = false
 holds test (Some a) = test a
+
+-- ---- small words
+
+-- a port with a native server
+abbrev pub is_served : Body → Bool
+is_served b = holds (λ (port : Option ℕ × Bool). port.1) (port_of b)
+
+-- a flag as a word
+abbrev pub flag_of : Bool → ℕ
+flag_of b = if b then 1 else 0

@@ -38,14 +38,14 @@ unfoldable pub keeper : World → Path → ℕ → Option Ptr
 keeper w s page = and_then (λ (r : Extent). live_keeper r.keeper) (region_at w s page)
 
 -- the place of a page in a region, as a page of the region's space
-abbrev pub page_in : Window → ℕ → Bool → Path → Extent → Option (Path × ℕ)
-page_in m page write region r =
+abbrev pub page_of_region : Window → ℕ → Bool → Path → Extent → Option (Path × ℕ)
+page_of_region m page write region r =
     let place = m.offset + (page - m.first) in
     if nat_lt place r.count && (not write || (m.write && r.write)) then Some (parent region, r.first + place) else None
 
 -- the page of another space to which a mapping leads
 abbrev pub led_by : World → Window → ℕ → Bool → Ptr → Option (Path × ℕ)
-led_by w m page write (At region) = and_then (page_in m page write region) (and_then region_of (w.body region))
+led_by w m page write (At region) = and_then (page_of_region m page write region) (and_then region_of (w.body region))
 led_by w m page write Null = None
 led_by w m page write Dead = None
 led_by w m page write (Out slot) = None
@@ -65,14 +65,14 @@ at_home home away None = away
 at_home home away (Some words) = home
 
 -- by at most n mappings
-unfoldable pub reach_by : ℕ → World → Path → ℕ → Bool → Reach
-reach_by zero w s page write =
+unfoldable pub reach_within : ℕ → World → Path → ℕ → Bool → Reach
+reach_within zero w s page write =
     at_home (Home s page) (mapped (λ m. Bad) (Missing s page (keeper w s page)) (mapping_at w s page)) (w.page s page)
-reach_by (suc n) w s page write =
-    at_home (Home s page) (mapped (λ m. followed (λ t other. reach_by n w t other write) (led_by w m page write m.region)) (Missing s page (keeper w s page)) (mapping_at w s page)) (w.page s page)
+reach_within (suc n) w s page write =
+    at_home (Home s page) (mapped (λ m. followed (λ t other. reach_within n w t other write) (led_by w m page write m.region)) (Missing s page (keeper w s page)) (mapping_at w s page)) (w.page s page)
 
 unfoldable pub reach : World → Path → ℕ → Bool → Reach
-reach w s page write = reach_by MAPPINGS w s page write
+reach w s page write = reach_within MAPPINGS w s page write
 
 -- where the word at an address is; bad past the last page
 abbrev pub reach_word : World → Path → ℕ → Bool → Reach

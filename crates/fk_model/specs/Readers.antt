@@ -81,8 +81,8 @@ path_at (At x) = Ok x
 path_at other = Err WRONGKIND
 
 -- a place: the caller's own space, or a handle of a space
-unfoldable pub place : World → Caller → ℕ → Result Path ℕ
-place w c s = if s == OWN_SPACE then Ok c.space else and_read (handle w c kinds.Space s) path_at
+unfoldable pub space_argument : World → Caller → ℕ → Result Path ℕ
+space_argument w c s = if s == OWN_SPACE then Ok c.space else and_read (handle w c kinds.Space s) path_at
 
 -- the pointer of a reference in a slot of the caller's own space, followed to an object of one kind
 unfoldable pub referred : World → Caller → Kind → ℕ → Result Ptr ℕ

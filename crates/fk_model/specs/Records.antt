@@ -4,12 +4,12 @@ use Rattle.fk_model.specs.declared.limits.TheConstants.{RECORD_WORDS, PAGES, SLO
 use Rattle.fk_model.specs.declared.stage.Stage.{Stage}
 use Rattle.fk_model.specs.Places.{Path}
 use Rattle.fk_model.specs.Calls.{todo_of, rest_of}
-use Rattle.fk_model.specs.Objects.{Mode, Talk, Fault, Body, registers_of, number_of, kind_of}
+use Rattle.fk_model.specs.Objects.{Mode, Talk, Fault, Body, registers_of, number_of_kind, kind_of, flag_of}
 use Rattle.fk_model.specs.Objects.Mode.{Running, Calling, Halted, Native}
 use Rattle.fk_model.specs.Objects.Body.{Mutex, Cond, Mapping, Region, Port, Portset, Space, Thread_of, Reference}
 use Rattle.fk_model.specs.World.{World, Edit, edited}
 use Rattle.fk_model.specs.World.Edit.{SetLocked, SetWindow, SetExtent, SetMember, Proceed, SetStops}
-use Rattle.fk_model.specs.LinkRows.{flag, turn_number, portset_of}
+use Rattle.fk_model.specs.LinkRows.{turn_number, portset_of}
 use Rattle.fk_model.specs.Objects.{and_then}
 
 -- ---- the record of an object
@@ -32,17 +32,17 @@ talk_words (Some talk) = turn_number talk.turn ∷ talk.moved ∷ []
 -- raised or taken, the page, and whether a write missed it
 abbrev pub fault_words : Option Fault → List ℕ
 fault_words None = 0 ∷ 0 ∷ 0 ∷ []
-fault_words (Some fault) = (if is_none fault.taker then 1 else 2) ∷ fault.page ∷ flag fault.write ∷ []
+fault_words (Some fault) = (if is_none fault.taker then 1 else 2) ∷ fault.page ∷ flag_of fault.write ∷ []
 
 abbrev pub member_word : Option ℕ → ℕ
 member_word None = 0
 member_word (Some set) = 1 + set
 
 abbrev pub state_words : Body → List ℕ
-state_words (Mutex locked) = flag locked ∷ []
+state_words (Mutex locked) = flag_of locked ∷ []
 state_words Cond = []
-state_words (Mapping m) = m.first ∷ m.count ∷ m.offset ∷ flag m.write ∷ []
-state_words (Region r) = r.first ∷ r.count ∷ flag r.write ∷ []
+state_words (Mapping m) = m.first ∷ m.count ∷ m.offset ∷ flag_of m.write ∷ []
+state_words (Region r) = r.first ∷ r.count ∷ flag_of r.write ∷ []
 state_words (Port set served) = member_word set ∷ []
 state_words Portset = []
 state_words (Space birth holder) = []
@@ -55,7 +55,7 @@ abbrev pub padded : ℕ → List ℕ → List ℕ
 padded n words = words ++ replicate (n - length words) 0
 
 unfoldable pub record_of : Body → List ℕ
-record_of b = padded RECORD_WORDS (number_of (kind_of b) ∷ state_words b)
+record_of b = padded RECORD_WORDS (number_of_kind (kind_of b) ∷ state_words b)
 
 -- ---- what a record sets. The words that show the talk and the fault are not set
 
@@ -66,8 +66,8 @@ abbrev pub is_flag : ℕ → Bool
 is_flag n = nat_le n 1
 
 -- pages that a mapping or a region can have
-abbrev pub is_extent : ℕ → ℕ → Bool
-is_extent first count = nat_le 1 count && nat_le count PAGES && nat_le (first + count) PAGES
+abbrev pub is_page_range : ℕ → ℕ → Bool
+is_page_range first count = nat_le 1 count && nat_le count PAGES && nat_le (first + count) PAGES
 
 -- 0, or 1 and the slot of a port set of the space; 0 alone for a served port
 abbrev pub is_member_word : World → Path → Bool → ℕ → Bool
@@ -76,16 +76,16 @@ is_member_word w space served n = n == 0 || (not served && nat_le n SLOTS && is_
 abbrev pub member_by : ℕ → Option ℕ
 member_by n = if n == 0 then None else Some (n - 1)
 
-abbrev pub registers_in : List ℕ → List ℕ
-registers_in words = take 16 (drop 1 words)
+abbrev pub record_registers : List ℕ → List ℕ
+record_registers words = take 16 (drop 1 words)
 
 abbrev pub calling_by : List ℕ → Option (List Stage) → Mode
 calling_by g (Some todo) = Calling todo (rest_of todo g)
 calling_by g None = Running g
 
 -- the mode that a record says
-abbrev pub mode_by : ℕ → List ℕ → ℕ → Mode
-mode_by n g code = if n == 0 then Running g else (if n == 1 then calling_by g (todo_of g) else Halted g code)
+abbrev pub mode_of_record : ℕ → List ℕ → ℕ → Mode
+mode_of_record n g code = if n == 0 then Running g else (if n == 1 then calling_by g (todo_of g) else Halted g code)
 
 -- a mode, and a code that goes with it
 abbrev pub is_mode : List ℕ → ℕ → ℕ → Bool
@@ -100,7 +100,7 @@ set_edits (Region r) words = SetExtent (word words 1) (word words 2) (word words
 set_edits (Port set served) words = SetMember (member_by (word words 1)) ∷ []
 set_edits Portset words = []
 set_edits (Space birth holder) words = []
-set_edits (Thread_of t) words = Proceed (mode_by (word words 18) (registers_in words) (word words 19)) (word words 17) ∷ SetStops (word words 20) ∷ []
+set_edits (Thread_of t) words = Proceed (mode_of_record (word words 18) (record_registers words) (word words 19)) (word words 17) ∷ SetStops (word words 20) ∷ []
 set_edits (Reference to) words = []
 
 abbrev pub edited_by : List Edit → Body → Body
@@ -115,13 +115,13 @@ set b words = edited_by (set_edits b words) b
 abbrev pub is_state : World → Path → Body → List ℕ → Bool
 is_state w space (Mutex locked) words = is_flag (word words 1)
 is_state w space Cond words = true
-is_state w space (Mapping m) words = is_extent (word words 1) (word words 2) && nat_lt (word words 3) PAGES && is_flag (word words 4)
-is_state w space (Region r) words = is_extent (word words 1) (word words 2) && is_flag (word words 3)
+is_state w space (Mapping m) words = is_page_range (word words 1) (word words 2) && nat_lt (word words 3) PAGES && is_flag (word words 4)
+is_state w space (Region r) words = is_page_range (word words 1) (word words 2) && is_flag (word words 3)
 is_state w space (Port set served) words = is_member_word w space served (word words 1)
 is_state w space Portset words = true
 is_state w space (Space birth holder) words = true
-is_state w space (Thread_of t) words = is_mode (registers_in words) (word words 18) (word words 19) && nat_le (word words 20) MOST_STOPS
+is_state w space (Thread_of t) words = is_mode (record_registers words) (word words 18) (word words 19) && nat_le (word words 20) MOST_STOPS
 is_state w space (Reference to) words = true
 
 unfoldable pub takes_state : World → Path → Body → List ℕ → Bool
-takes_state w space b words = word words 0 == number_of (kind_of b) && is_state w space b words
+takes_state w space b words = word words 0 == number_of_kind (kind_of b) && is_state w space b words

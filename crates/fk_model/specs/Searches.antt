@@ -62,11 +62,14 @@ leaf w x = leaf_by depth w x
 
 -- ---- threads by their talks and faults
 
+abbrev pub thread_at : World → Path → Option Thread
+thread_at w c = and_then thread_of (w.body c)
+
 abbrev pub talk_at : World → Path → Option Talk
-talk_at w c = and_then (λ (t : Thread). t.talk) (and_then thread_of (w.body c))
+talk_at w c = and_then (λ (t : Thread). t.talk) (thread_at w c)
 
 abbrev pub fault_at : World → Path → Option Fault
-fault_at w c = and_then (λ (t : Thread). t.fault) (and_then thread_of (w.body c))
+fault_at w c = and_then (λ (t : Thread). t.fault) (thread_at w c)
 
 -- the client whose talk a thread serves
 unfoldable pub client_of : World → Path → Option Path

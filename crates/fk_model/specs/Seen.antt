@@ -14,11 +14,11 @@ use Rattle.fk_model.specs.Objects.{Talk, Fault, Thread, thread_of, and_then, hol
 use Rattle.fk_model.specs.World.{World, Change}
 use Rattle.fk_model.specs.World.Change.{Alter, PutPage, DropPage}
 use Rattle.fk_model.specs.World.Edit.{End, SetTalk, CountMoved, PassTurn, SetFault}
-use Rattle.fk_model.specs.Searches.{talk_at, fault_at, client_of, faulter_of, client_at, pointers}
+use Rattle.fk_model.specs.Searches.{talk_at, fault_at, client_of, faulter_of, client_at, pointers, thread_at}
 use Rattle.fk_model.specs.Outcomes.{Said, Outcome, Caller, path_of, listed}
 use Rattle.fk_model.specs.Outcomes.Outcome.{Refused, Waits, Goes}
 use Rattle.fk_model.specs.Outcomes.Said.{Nothing as SaidNothing, Taken as SaidTaken}
-use Rattle.fk_model.specs.Readers.{place}
+use Rattle.fk_model.specs.Readers.{space_argument}
 use Rattle.fk_model.specs.Talks.{receiving, first_stage}
 use Rattle.fk_model.specs.declared.thread.Turn.TheVariants as turns
 use Rattle.fk_model.specs.TransferRows.{block}
@@ -39,16 +39,16 @@ pub data Seen : Type 0 where
 -- ---- what is read of a row's changes
 
 -- how many words a talk has moved
-abbrev pub count_in : List Change → Option ℕ
-count_in [] = None
-count_in (Alter x (CountMoved k) ∷ cs) = Some k
-count_in (c ∷ cs) = count_in cs
+abbrev pub count_set : List Change → Option ℕ
+count_set [] = None
+count_set (Alter x (CountMoved k) ∷ cs) = Some k
+count_set (c ∷ cs) = count_set cs
 
 -- the words of the first page that is put
-abbrev pub page_in : List Change → Option (List ℕ)
-page_in [] = None
-page_in (PutPage s page words ∷ cs) = Some words
-page_in (c ∷ cs) = page_in cs
+abbrev pub page_put : List Change → Option (List ℕ)
+page_put [] = None
+page_put (PutPage s page words ∷ cs) = Some words
+page_put (c ∷ cs) = page_put cs
 
 abbrev pub drops_page : List Change → Bool
 drops_page [] = false
@@ -87,9 +87,6 @@ serves_outside root (c ∷ cs) = serves_outside root cs
 
 -- ---- a mover inside
 
-abbrev pub thread_in : World → Path → Option Thread
-thread_in w x = and_then thread_of (w.body x)
-
 abbrev pub is_send : Stage → Bool
 is_send (ClientSend address count) = true
 is_send other = false
@@ -104,10 +101,10 @@ leads_out root Far = true
 
 -- it sends to a peer outside
 abbrev pub sends_out : World → Path → Path → Bool
-sends_out w root x = holds (λ (t : Thread). holds is_send (first_stage t.mode) && holds (λ (talk : Talk). leads_out root talk.port) t.talk) (thread_in w x)
+sends_out w root x = holds (λ (t : Thread). holds is_send (first_stage t.mode) && holds (λ (talk : Talk). leads_out root talk.port) t.talk) (thread_at w x)
 
 abbrev pub words_out : World → Path → Path → List Change → ℕ
-words_out w root x changes = if sends_out w root x then unwrap_or (count_in changes) 0 else 0
+words_out w root x changes = if sends_out w root x then unwrap_or (count_set changes) 0 else 0
 
 abbrev pub picked_inside : Path → Option Path → Option (Option Path)
 picked_inside root None = Some None
@@ -123,7 +120,7 @@ own_of w root x q pick changes =
 
 -- k words from the receiver's address on, out of the page that was put
 abbrev pub received_words : World → Path → ℕ → List ℕ → List ℕ
-received_words w x k page = option_map_or (λ (receive : ℕ × ℕ). block k receive.0 page) (and_then (λ (t : Thread). receiving turns.Client t.mode) (thread_in w x)) []
+received_words w x k page = option_map_or (λ (receive : ℕ × ℕ). block k receive.0 page) (and_then (λ (t : Thread). receiving turns.Client t.mode) (thread_at w x)) []
 
 abbrev pub fills : Path → List Change → Bool
 fills x (Alter y (End status answers) ∷ []) = same_path y x
@@ -135,7 +132,7 @@ given_by w x q changes (Some k) (Some page) = Some (Given q (received_words w x 
 given_by w x q changes count page = if fills x changes then Some (Filled q) else None
 
 abbrev pub given_of : World → List Change → Path → Path → Option Touch
-given_of w changes x q = given_by w x q changes (count_in changes) (page_in changes)
+given_of w changes x q = given_by w x q changes (count_set changes) (page_put changes)
 
 -- a touch of the thread at x, where that lies inside
 abbrev pub on_inner : Path → (Path → Path → Option Touch) → Option Path → Option Touch
@@ -162,8 +159,8 @@ stage_touch w root c pick changes (ServerSend address count) = on_inner root (gi
 stage_touch w root c pick changes ServerOver = if passes_turn changes then on_inner root (λ x q. Some (Handed q)) (client_of w (path_of c)) else None
 stage_touch w root c pick changes ServerEnd = if ends_talk changes then on_inner root (λ x q. Some (Left q)) (client_of w (path_of c)) else None
 stage_touch w root c pick changes stages.FaultDone = on_inner root (λ x q. Some (FaultDone q)) (faulter_of w (path_of c))
-stage_touch w root c pick changes (PageGive s page address) = on_place root (λ q. page_given q page (page_in changes)) (place w c s)
-stage_touch w root c pick changes (PageTake s page address) = if drops_page changes then on_place root (λ q. Some (PageTaken q page)) (place w c s) else None
+stage_touch w root c pick changes (PageGive s page address) = on_place root (λ q. page_given q page (page_put changes)) (space_argument w c s)
+stage_touch w root c pick changes (PageTake s page address) = if drops_page changes then on_place root (λ q. Some (PageTaken q page)) (space_argument w c s) else None
 stage_touch w root c pick changes other = None
 
 -- ---- native servers
@@ -175,20 +172,20 @@ is_resumed other = false
 abbrev pub accepted : Said → Path → Path → Option Touch
 accepted told x q = if is_resumed told then None else Some (Taken q)
 
-abbrev pub said_by : Outcome → Said
-said_by (Goes changes told) = told
-said_by (Refused status) = SaidNothing
-said_by Waits = SaidNothing
+abbrev pub outcome_said : Outcome → Said
+outcome_said (Goes changes told) = told
+outcome_said (Refused status) = SaidNothing
+outcome_said Waits = SaidNothing
 
 -- ---- the row of a move
 
 abbrev pub caller_stage : World → Path → Option Stage
-caller_stage w x = and_then (λ (t : Thread). first_stage t.mode) (thread_in w x)
+caller_stage w x = and_then (λ (t : Thread). first_stage t.mode) (thread_at w x)
 
 abbrev pub outer_touch : World → Path → Path → Option Path → Ask → Outcome → Option Touch
 outer_touch w root x pick asks.Run o = and_then (stage_touch w root (user_at x) pick (listed o)) (caller_stage w x)
 outer_touch w root x pick (asks.Call stage words) o = stage_touch w root (porter_at x words) pick (listed o) stage
-outer_touch w root x pick asks.Accept o = on_inner root (accepted (said_by o)) pick
+outer_touch w root x pick asks.Accept o = on_inner root (accepted (outcome_said o)) pick
 outer_touch w root x pick (asks.Give words len) o = on_inner root (given_of w (listed o)) (client_at w x)
 outer_touch w root x pick asks.Over o = on_inner root (λ y q. Some (Handed q)) (client_at w x)
 

@@ -25,8 +25,8 @@ IsShaped other = ⊤
 -- ---- ranges
 
 -- one page or more, and none past the last page of a space
-abbrev pub IsExtent : ℕ → ℕ → Type 0
-IsExtent first count = (1 ≤ count) × (first + count ≤ PAGES)
+abbrev pub IsPageRange : ℕ → ℕ → Type 0
+IsPageRange first count = (1 ≤ count) × (first + count ≤ PAGES)
 
 -- the code of a halted thread is a byte
 abbrev pub IsCodeInRange : Mode → Type 0
@@ -40,8 +40,8 @@ IsMember w space served (Some set) = (served ≡ false) × (set < SLOTS) × (w.b
 
 -- the numbers of an object in this space are within their limits, and a port's set is there
 abbrev pub IsInRange : World → Path → Body → Type 0
-IsInRange w space (Mapping m) = IsExtent m.first m.count × (m.offset < PAGES)
-IsInRange w space (Region r) = IsExtent r.first r.count
+IsInRange w space (Mapping m) = IsPageRange m.first m.count × (m.offset < PAGES)
+IsInRange w space (Region r) = IsPageRange r.first r.count
 IsInRange w space (Port set served) = IsMember w space served set
 IsInRange w space (Thread_of t) = (t.stops ≤ MOST_STOPS) × IsCodeInRange t.mode
 IsInRange w space other = ⊤

@@ -14,14 +14,14 @@ use Rattle.fk_model.specs.Searches.{lowest, beneath}
 use Rattle.fk_model.specs.Reach.{words_at}
 use Rattle.fk_model.specs.Holds.{holder_of, is_frozen_for, is_porter}
 use Rattle.fk_model.specs.Outcomes.{Outcome, ◌>>=◌, refuse, or_refuse, when, Caller, path_of, done}
-use Rattle.fk_model.specs.Readers.{and_read, slot_for, object_in, handle, place, referred, own_page}
-use Rattle.fk_model.specs.Talks.{thread_at}
+use Rattle.fk_model.specs.Readers.{and_read, slot_for, object_in, handle, space_argument, referred, own_page}
+use Rattle.fk_model.specs.Talks.{thread_led_to}
 
 -- ---- holds
 
 -- a space is held by a porter
 abbrev pub has_porter : World → Path → Bool
-has_porter w s = holds (λ holder. holds (λ (e : Path × Thread). is_porter e.1.mode) (thread_at w holder)) (holder_of (w.body s))
+has_porter w s = holds (λ holder. holds (λ (e : Path × Thread). is_porter e.1.mode) (thread_led_to w holder)) (holder_of (w.body s))
 
 abbrev pub is_held_by_other : World → Path → Path → Bool
 is_held_by_other w me s = holds (λ holder. not (leads_to me holder)) (holder_of (w.body s))
@@ -29,7 +29,7 @@ is_held_by_other w me s = holds (λ holder. not (leads_to me holder)) (holder_of
 -- not ready while another holds the space, or a porter a space beneath it
 unfoldable pub space_hold : World → Caller → ℕ → ℕ → Outcome
 space_hold w c s x = do
-  space ← place w c s
+  space ← space_argument w c s
   _ ← object_in w c space_of space x
   _ ← refuse status.HELD (is_frozen_for w (path_of c) space)
   _ ← refuse status.DENIED (is_within (x ∷ space) c.space)
@@ -37,7 +37,7 @@ space_hold w c s x = do
 
 unfoldable pub space_release : World → Caller → ℕ → ℕ → Outcome
 space_release w c s x = do
-  space ← place w c s
+  space ← space_argument w c s
   holder ← object_in w c space_of space x
   _ ← refuse status.HELD (is_frozen_for w (path_of c) space)
   _ ← refuse status.DENIED (not (holds (leads_to (path_of c)) holder))
@@ -46,19 +46,19 @@ space_release w c s x = do
 -- ---- stop counts
 
 -- the thread that a handle names, with its path
-abbrev pub thread_by : World → Caller → ℕ → Result (Path × Thread) ℕ
-thread_by w c h = and_read (handle w c kinds.Thread h) (λ p. or_refuse status.WRONGKIND (thread_at w p))
+abbrev pub thread_by_handle : World → Caller → ℕ → Result (Path × Thread) ℕ
+thread_by_handle w c h = and_read (handle w c kinds.Thread h) (λ p. or_refuse status.WRONGKIND (thread_led_to w p))
 
 unfoldable pub thread_stop : World → Caller → ℕ → Outcome
 thread_stop w c h = do
-  e ← thread_by w c h
+  e ← thread_by_handle w c h
   _ ← refuse status.HELD (is_frozen_for w (path_of c) e.0)
   _ ← refuse status.FULL (nat_le MOST_STOPS e.1.stops)
   done c (Alter e.0 (SetStops (e.1.stops + 1)) ∷ []) []
 
 unfoldable pub thread_go : World → Caller → ℕ → Outcome
 thread_go w c h = do
-  e ← thread_by w c h
+  e ← thread_by_handle w c h
   _ ← refuse status.HELD (is_frozen_for w (path_of c) e.0)
   _ ← refuse status.NOTSTOPPED (e.1.stops == 0)
   done c (Alter e.0 (SetStops (e.1.stops - 1)) ∷ []) []
@@ -72,24 +72,24 @@ abbrev pub is_page_address : ℕ → Bool
 is_page_address address = address % PAGE_WORDS == 0
 
 -- the words become a home page of the space
-abbrev pub gives : World → Caller → Path → ℕ → List ℕ → Outcome
-gives w c space page words = do
+abbrev pub gives_page : World → Caller → Path → ℕ → List ℕ → Outcome
+gives_page w c space page words = do
   _ ← refuse status.OCCUPIED (is_some (w.page space page))
   done c (PutPage space page words ∷ []) []
 
 -- a porter gives the words themselves; an address of all ones stands for a page of zeros
 abbrev pub gives_from : World → Caller → Path → ℕ → ℕ → Outcome
 gives_from w c space page address =
-    if c.is_porter then gives w c space page c.words
-    else (if address == ZEROS then gives w c space page (replicate PAGE_WORDS 0)
-    else own_page w c address false (λ s own. gives w c space page (words_at w s own)))
+    if c.is_porter then gives_page w c space page c.words
+    else (if address == ZEROS then gives_page w c space page (replicate PAGE_WORDS 0)
+    else own_page w c address false (λ s own. gives_page w c space page (words_at w s own)))
 
 abbrev pub is_bad_source : Caller → ℕ → Bool
 is_bad_source c address = not c.is_porter && not (address == ZEROS) && not (is_page_address address)
 
 unfoldable pub page_give : World → Caller → ℕ → ℕ → ℕ → Outcome
 page_give w c s page address = do
-  space ← place w c s
+  space ← space_argument w c s
   _ ← refuse status.HELD (is_frozen_for w (path_of c) space)
   _ ← refuse status.BADADDRESS (not (is_page page) || is_bad_source c address)
   gives_from w c space page address
@@ -119,14 +119,14 @@ is_bad_target c address = not c.is_porter && not (is_page_address address)
 
 unfoldable pub page_take : World → Caller → ℕ → ℕ → ℕ → Outcome
 page_take w c s page address = do
-  space ← place w c s
+  space ← space_argument w c s
   _ ← refuse status.HELD (is_frozen_for w (path_of c) space)
   _ ← refuse status.BADADDRESS (not (is_page page) || is_bad_target c address)
   copies_to w c space page true address
 
 unfoldable pub page_read : World → Caller → ℕ → ℕ → ℕ → Outcome
 page_read w c s page address = do
-  space ← place w c s
+  space ← space_argument w c s
   _ ← refuse status.BADADDRESS (not (is_page page) || is_bad_target c address)
   copies_to w c space page false address
 
@@ -136,7 +136,7 @@ next_page w space from = lowest PAGES (λ page. if nat_le from page then option_
 
 unfoldable pub page_next : World → Caller → ℕ → ℕ → Outcome
 page_next w c s from = do
-  space ← place w c s
+  space ← space_argument w c s
   page ← or_refuse status.NONE (next_page w space from)
   done c [] (page ∷ [])
 
@@ -144,7 +144,7 @@ page_next w c s from = do
 
 unfoldable pub hold_set : World → Caller → ℕ → ℕ → ℕ → Outcome
 hold_set w c s x thread = do
-  space ← place w c s
+  space ← space_argument w c s
   _ ← object_in w c space_of space x
   holder ← referred w c kinds.Thread thread
   _ ← refuse status.HELD (is_frozen_for w (path_of c) (x ∷ space))

@@ -16,7 +16,7 @@ use Rattle.fk_model.specs.World.Edit.{SetPointer}
 use Rattle.fk_model.specs.Reach.{words_at}
 use Rattle.fk_model.specs.Holds.{is_frozen_for, is_decided_by, is_porter}
 use Rattle.fk_model.specs.Outcomes.{Outcome, ◌>>=◌, refuse, or_refuse, Caller, path_of, done}
-use Rattle.fk_model.specs.Readers.{object_in, anything, place, own_page, kind_at}
+use Rattle.fk_model.specs.Readers.{object_in, anything, space_argument, own_page, kind_at}
 use Rattle.fk_model.specs.TransferRows.{overwritten}
 use Rattle.fk_model.specs.Records.{record_of, set_edits, takes_state}
 
@@ -34,7 +34,7 @@ shows_to w c b address =
 
 unfoldable pub get_state : World → Caller → ℕ → ℕ → ℕ → Outcome
 get_state w c s x address = do
-  space ← place w c s
+  space ← space_argument w c s
   b ← object_in w c anything space x
   _ ← refuse status.BADADDRESS (is_bad_record_address c address)
   shows_to w c b address
@@ -49,8 +49,8 @@ abbrev pub is_still : World → Caller → Path → Body → Bool
 is_still w c x (Thread_of t) = not (t.stops == 0) || is_decided_by w (path_of c) x
 is_still w c x other = true
 
-abbrev pub sets : World → Caller → Path → Path → Body → List ℕ → Outcome
-sets w c space x b words = do
+abbrev pub sets_record : World → Caller → Path → Path → Body → List ℕ → Outcome
+sets_record w c space x b words = do
   _ ← refuse status.NOTSTOPPED (not (is_still w c x b))
   _ ← refuse status.BADSTATE (not (takes_state w space b words))
   done c (map (Alter x) (set_edits b words)) []
@@ -61,12 +61,12 @@ record_at page address = take RECORD_WORDS (drop (address % PAGE_WORDS) page)
 
 abbrev pub sets_from : World → Caller → Path → Path → Body → ℕ → Outcome
 sets_from w c space x b address =
-    if c.is_porter then sets w c space x b c.words
-    else own_page w c address false (λ s page. sets w c space x b (record_at (words_at w s page) address))
+    if c.is_porter then sets_record w c space x b c.words
+    else own_page w c address false (λ s page. sets_record w c space x b (record_at (words_at w s page) address))
 
 unfoldable pub set_state : World → Caller → ℕ → ℕ → ℕ → Outcome
 set_state w c s x address = do
-  space ← place w c s
+  space ← space_argument w c s
   b ← object_in w c anything space x
   _ ← refuse status.HELD (is_frozen_for w (path_of c) (x ∷ space))
   _ ← refuse status.DENIED (is_native b)
@@ -134,7 +134,7 @@ field_pointer NoThread = Null
 
 unfoldable pub get_ptr : World → Caller → ℕ → ℕ → ℕ → ℕ → Outcome
 get_ptr w c s x field reference = do
-  space ← place w c s
+  space ← space_argument w c s
   b ← object_in w c anything space x
   _ ← object_in w c reference_of c.space reference
   found ← or_refuse status.BADSTATE (field_of field b)
@@ -152,17 +152,17 @@ held_kinds (Region r) = kinds.Port ∷ []
 held_kinds (Reference to) = referable
 held_kinds other = []
 
-abbrev pub is_among : List Kind → Option Kind → Bool
-is_among wanted None = true
-is_among wanted (Some kind) = list_any (same_kind kind) wanted
+abbrev pub is_of_kinds : List Kind → Option Kind → Bool
+is_of_kinds wanted None = true
+is_of_kinds wanted (Some kind) = list_any (same_kind kind) wanted
 
 unfoldable pub set_ptr : World → Caller → ℕ → ℕ → ℕ → ℕ → Outcome
 set_ptr w c s x field reference = do
-  space ← place w c s
+  space ← space_argument w c s
   b ← object_in w c anything space x
   to ← object_in w c reference_of c.space reference
   _ ← refuse status.HELD (is_frozen_for w (path_of c) (x ∷ space))
   _ ← or_refuse status.BADSTATE (field_of field b)
   _ ← refuse status.DENIED (is_inner b)
-  _ ← refuse status.WRONGKIND (not (is_among (held_kinds b) (kind_at w to)))
+  _ ← refuse status.WRONGKIND (not (is_of_kinds (held_kinds b) (kind_at w to)))
   done c (Alter (x ∷ space) (SetPointer to) ∷ []) []

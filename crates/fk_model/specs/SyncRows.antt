@@ -22,27 +22,27 @@ abbrev pub cond_of : Body → Option Body
 cond_of Cond = Some Cond
 cond_of other = None
 
-abbrev pub sets : Path → Bool → Change
-sets mutex locked = Alter mutex (SetLocked locked)
+abbrev pub sets_locked : Path → Bool → Change
+sets_locked mutex locked = Alter mutex (SetLocked locked)
 
 -- ready where the mutex is free
 unfoldable pub mutex_lock : World → Caller → ℕ → Outcome
 mutex_lock w c m = do
   locked ← object_in w c mutex_of c.space m
-  when (not locked) (done c (sets (m ∷ c.space) true ∷ []) [])
+  when (not locked) (done c (sets_locked (m ∷ c.space) true ∷ []) [])
 
 unfoldable pub mutex_trylock : World → Caller → ℕ → Outcome
 mutex_trylock w c m = do
   locked ← object_in w c mutex_of c.space m
   _ ← refuse NONE locked
-  done c (sets (m ∷ c.space) true ∷ []) []
+  done c (sets_locked (m ∷ c.space) true ∷ []) []
 
 -- who waits for the mutex stays as it is
 unfoldable pub mutex_unlock : World → Caller → ℕ → Outcome
 mutex_unlock w c m = do
   locked ← object_in w c mutex_of c.space m
   _ ← refuse NOTLOCKED (not locked)
-  done c (sets (m ∷ c.space) false ∷ []) []
+  done c (sets_locked (m ∷ c.space) false ∷ []) []
 
 -- unlocks the mutex and sleeps
 unfoldable pub cond_wait : World → Caller → ℕ → ℕ → Outcome
@@ -50,7 +50,7 @@ cond_wait w c cond m = do
   _ ← object_in w c cond_of c.space cond
   locked ← object_in w c mutex_of c.space m
   _ ← refuse NOTLOCKED (not locked)
-  Goes (sets (m ∷ c.space) false ∷ Alter (path_of c) (Replace (CondAsleep cond m)) ∷ []) Nothing
+  Goes (sets_locked (m ∷ c.space) false ∷ Alter (path_of c) (Replace (CondAsleep cond m)) ∷ []) Nothing
 
 -- ready only to be refused: a signal ends it
 unfoldable pub cond_asleep : World → Caller → ℕ → ℕ → Outcome

@@ -121,8 +121,8 @@ path_to Outside = None
 path_to Far = None
 
 -- the thread at the other end, with its path
-abbrev pub thread_at : World → Ptr → Option (Path × Thread)
-thread_at w p = and_then (λ x. and_then (λ t. Some (x, t)) (and_then thread_of (w.body x))) (path_to p)
+abbrev pub thread_led_to : World → Ptr → Option (Path × Thread)
+thread_led_to w p = and_then (λ x. and_then (λ t. Some (x, t)) (and_then thread_of (w.body x))) (path_to p)
 
 -- the native server of a port is free
 abbrev pub is_service_free : World → Ptr → Bool
@@ -134,7 +134,7 @@ if_talking side (Some e) = if is_talking side e.1.mode then e.0 ∷ [] else []
 
 -- a thread whose call ends with a talk: it is at a Send, an Over or a Receive on this side of it
 abbrev pub talking_end : World → Turn → Ptr → List Path
-talking_end w side p = if_talking side (thread_at w p)
+talking_end w side p = if_talking side (thread_led_to w p)
 
 abbrev pub served_end : World → Peer → List Path
 served_end w (Server thread) = talking_end w turns.Server thread

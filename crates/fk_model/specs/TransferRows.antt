@@ -3,7 +3,7 @@
 -- A Send moves a block of words from one page to one page, at most 64, and advances both sides. So a message of any
 -- length is sent block by block, and each side's registers say at any time what is left.
 use Rattle.std.specs.Prelude.{ℕ, ◌+◌, ◌-◌, ◌%◌, min, true, false, ◌&&◌, ◌==◌, is_some, List, [], ◌∷◌, ◌++◌, take, drop, length, Option, Some, None, Result, Ok, Err, if◌then◌else◌}
-use Rattle.fk_model.specs.declared.limits.TheConstants.{PAGE_WORDS, MOST_WORDS}
+use Rattle.fk_model.specs.declared.limits.TheConstants.{PAGE_WORDS, BLOCK_WORDS}
 use Rattle.fk_model.specs.declared.statuses.status.TheConstants.{NOTLINKED, WRONGTURN, FULL}
 use Rattle.fk_model.specs.declared.thread.Turn.{Turn}
 use Rattle.fk_model.specs.Places.{Path, parent, Ptr}
@@ -18,7 +18,7 @@ use Rattle.fk_model.specs.Outcomes.{Said, Outcome, ◌>>=◌, when, Caller, path
 use Rattle.fk_model.specs.Outcomes.Outcome.{Waits, Goes}
 use Rattle.fk_model.specs.Outcomes.Said.{Nothing, Words, Passed}
 use Rattle.fk_model.specs.Readers.{own_page, their_page}
-use Rattle.fk_model.specs.Talks.{Line, line, other_side, same_side, receiving, thread_at, is_service_free}
+use Rattle.fk_model.specs.Talks.{Line, line, other_side, same_side, receiving, thread_led_to, is_service_free}
 
 -- ---- blocks of words
 
@@ -35,7 +35,7 @@ to_page_end address = PAGE_WORDS - address % PAGE_WORDS
 
 -- how many words one move takes from an address, of so many, to an address with so much room
 abbrev pub moved_words : ℕ → ℕ → ℕ → ℕ → ℕ
-moved_words address count into room = min MOST_WORDS (min count (min (to_page_end address) (min room (to_page_end into))))
+moved_words address count into room = min BLOCK_WORDS (min count (min (to_page_end address) (min room (to_page_end into))))
 
 -- ---- the talk in which a stage acts, where it is this side's turn or the other's
 
@@ -78,11 +78,11 @@ sends_to_thread w c side client address count page (Some e) =
 -- a native server has room for 64 words at each of its client's turns, at a page's begin
 abbrev pub sends_to_service : Caller → Path → Ptr → ℕ → ℕ → List ℕ → Outcome
 sends_to_service c client port address count page =
-    let k = moved_words address count 0 MOST_WORDS in
+    let k = moved_words address count 0 BLOCK_WORDS in
     has_sent c k count (Alter client (CountMoved k) ∷ []) (Words port (block k address page))
 
 abbrev pub sends_to : World → Caller → Turn → Line → ℕ → ℕ → List ℕ → Peer → Outcome
-sends_to w c side l address count page (Server thread) = sends_to_thread w c side l.client address count page (thread_at w thread)
+sends_to w c side l address count page (Server thread) = sends_to_thread w c side l.client address count page (thread_led_to w thread)
 sends_to w c side l address count page Service = when (is_service_free w l.talk.port) (sends_to_service c l.client l.talk.port address count page)
 sends_to w c side l address count page Parked = Waits
 
@@ -114,7 +114,7 @@ passes_to_thread w c side client (Some e) =
     when (is_free w (parent e.0) e.1 && is_some (receiving (other_side side) e.1.mode)) (passes c side client (Alter e.0 (Finish []) ∷ []))
 
 abbrev pub passes_to : World → Caller → Turn → Line → Peer → Outcome
-passes_to w c side l (Server thread) = passes_to_thread w c side l.client (thread_at w thread)
+passes_to w c side l (Server thread) = passes_to_thread w c side l.client (thread_led_to w thread)
 passes_to w c side l Service = when (is_service_free w l.talk.port) (telling (Passed l.talk.port) (passes c side l.client []))
 passes_to w c side l Parked = Waits
 

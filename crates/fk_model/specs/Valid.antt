@@ -10,12 +10,12 @@ use Rattle.fk_model.specs.declared.stage.Stage.{Stage}
 use Rattle.fk_model.specs.declared.stage.Stage.TheVariants.{LinkSet, LinkPark, FaultSet, FaultPark}
 use Rattle.fk_model.specs.Places.{Path, same_path, parent, Ptr}
 use Rattle.fk_model.specs.Places.Ptr.{Null, Dead, At, Out, Outside, Far}
-use Rattle.fk_model.specs.Objects.{Peer, Talk, Fault, Body, kind_of, same_kind, port_of, and_then, holds}
+use Rattle.fk_model.specs.Objects.{Peer, Talk, Fault, Body, kind_of, same_kind, port_of, and_then, holds, flag_of}
 use Rattle.fk_model.specs.Objects.Peer.{Server, Service, Parked}
 use Rattle.fk_model.specs.Objects.Body.{Mutex, Cond, Mapping, Region, Port, Portset, Space, Thread_of, Reference}
 use Rattle.fk_model.specs.World.{World, set_at, serves}
 use Rattle.fk_model.specs.Searches.{talk_at, fault_at, is_serving}
-use Rattle.fk_model.specs.Records.{is_extent}
+use Rattle.fk_model.specs.Records.{is_page_range}
 use Rattle.fk_model.specs.StateRows.{referable}
 use Rattle.fk_model.specs.Outcomes.{Caller}
 use Rattle.fk_model.specs.Readers.{and_read, referred}
@@ -73,8 +73,8 @@ is_good_set there at (Some set) served = not served && is_one_of (kinds.Portset 
 abbrev pub is_good : (Path → Option Kind) → Path → Body → Bool
 is_good there at (Mutex locked) = true
 is_good there at Cond = true
-is_good there at (Mapping m) = is_extent m.first m.count && nat_lt m.offset PAGES && may_lead there (kinds.Region ∷ []) m.region
-is_good there at (Region r) = is_extent r.first r.count && may_lead there (kinds.Port ∷ []) r.keeper
+is_good there at (Mapping m) = is_page_range m.first m.count && nat_lt m.offset PAGES && may_lead there (kinds.Region ∷ []) m.region
+is_good there at (Region r) = is_page_range r.first r.count && may_lead there (kinds.Port ∷ []) r.keeper
 is_good there at (Port set served) = is_good_set there at set served
 is_good there at Portset = true
 is_good there at (Space birth holder) = all_in (leads_there there (kinds.Thread ∷ [])) holder
@@ -100,9 +100,6 @@ abbrev pub HasService : World → Path → Ptr → Type 0
 HasService w x port = (talk : Talk) × (talk_at w x ≡ Some talk) × (talk.port ≡ port) × (talk.peer ≡ Service)
 
 -- how often a thread serves another: its talk, and its fault
-abbrev pub flag_of : Bool → ℕ
-flag_of b = if b then 1 else 0
-
 abbrev pub services : World → Path → Path → ℕ
 services w server x =
     flag_of (holds (λ (talk : Talk). serves server talk.peer) (talk_at w x))

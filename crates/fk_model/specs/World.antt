@@ -181,8 +181,8 @@ taker_without x taker = if serves x taker then None else Some taker
 abbrev pub fault_without : Path → Fault → Option Fault
 fault_without x fault = if leads_to x fault.port then None else Some (record fault { taker = and_then (taker_without x) fault.taker })
 
-abbrev pub without : Path → Sweep
-without x = record {
+abbrev pub death_sweep : Path → Sweep
+death_sweep x = record {
   pointer = λ p. if leads_to x p then Dead else p;
   holder = λ p. if leads_to x p then None else Some p;
   talk = talk_without x;
@@ -232,7 +232,7 @@ birth_after next = if next == 0 then 0 else next + 1
 
 abbrev pub killed_at : Path → World → World
 killed_at x w = record {
-  body = λ q. if same_path q x then None else option_map (through (without x) q) (w.body q);
+  body = λ q. if same_path q x then None else option_map (through (death_sweep x) q) (w.body q);
   page = λ s g. if same_path s x then None else w.page s g;
   next = w.next;
 }

@@ -6,14 +6,14 @@
 #![tactic(auto)]
 
 mod body;
+mod file_name;
 mod instruction;
 mod job;
 pub mod limits;
 mod list;
-mod memory;
 mod moves;
-mod name;
 mod names;
+mod no_memory;
 mod number;
 mod stage;
 mod statuses;
@@ -21,13 +21,13 @@ mod text;
 mod thread;
 
 pub use body::Body;
+pub use file_name::is_name;
 pub use instruction::{Act, Instr, operation};
 pub use job::JobSpec;
 pub use list::List;
-pub use memory::NoMemory;
 pub use moves::{Answer, Ask, Move, Reply, Rule, Said};
-pub use name::is_name;
 pub use names::{Kind, Ptr, Who};
+pub use no_memory::NoMemory;
 pub use number::{number_up_to, plain_number_up_to};
 pub use stage::{Stage, Todo};
 pub use statuses::{halt, status};

@@ -25,7 +25,7 @@ pub const MOST_STOPS: u64 = 65535;
 /// The highest count of the words moved in a turn.
 pub const MOST_MOVED: u64 = 65535;
 /// The words that one move of a message takes at most, and the room of a native server.
-pub const MOST_WORDS: u64 = 64;
+pub const BLOCK_WORDS: u64 = 64;
 /// The words of a state record.
 pub const RECORD_WORDS: u64 = 32;
 /// In an address's place: a page of zeros.

@@ -21,7 +21,6 @@ use Rattle.fk_model.specs.Outcomes.{Outcome}
 use Rattle.fk_model.specs.Outcomes.Said.{Nothing}
 use Rattle.fk_model.specs.Moves.{stepped}
 use Rattle.fk_model.specs.UserRows.{proceeds, halts_with, word_at, loads, stores, performs, executes, run_row_by}
-use Rattle.fk_store.specs.Threads.{thread_at}
 use Rattle.fk_store.specs.Names.{at}
 use Rattle.fk_store.specs.Contents.{Contents}
 use Rattle.fk_store.specs.Bodies.{mode_by, thread_by}
@@ -34,6 +33,7 @@ use Rattle.fk_run.specs.Alone.{alone, is_in_no_call, IsAlone, registers_of, code
 use Rattle.fk_run.specs.Machine as machines
 use Rattle.fk_run.specs.Machine.{State}
 use Rattle.fk_run.proofs.Joined.{joined-same, page_low, word_of, word_set}
+use Rattle.fk_model.specs.Searches.{thread_at}
 
 -- the thread once it has gone on
 proceeded : (o : Option Body) (mode : Mode) (counter : ℕ) → and_then thread_of (option_map (edited (Proceed mode counter)) o) ≡ option_map (λ t. at_mode t mode counter) (and_then thread_of o)

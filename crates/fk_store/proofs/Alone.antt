@@ -6,11 +6,11 @@ use Rattle.fk_model.specs.declared.body.Body as bodies_of
 use Rattle.fk_model.specs.Places.{Path, same_path, slot_of}
 use Rattle.fk_model.specs.Objects.{and_then}
 use Rattle.fk_store.specs.Names.{at, same_who}
-use Rattle.fk_store.specs.Contents.{Contents, birth_of, birth_there, is_number, home, is_live}
-use Rattle.fk_store.specs.Paths.{place, from_home, path, space_at, IsApart}
+use Rattle.fk_store.specs.Contents.{Contents, stored_birth, birth_there, is_number, home, is_live}
+use Rattle.fk_store.specs.Paths.{place, from_home, path, space_at, HasOwnPath}
 use Rattle.fk_store.specs.Bodies.{body_by}
 use Rattle.fk_store.specs.World.{world, body_at}
-use Rattle.fk_store.specs.Kept.{is_there, IsKept}
+use Rattle.fk_store.specs.WellFormed.{is_there, IsWellFormed}
 use Rattle.fk_store.proofs.NameLaws.{same_who_refl}
 use Rattle.fk_store.proofs.Homes.{home-found, number_is, is_the_number}
 use Rattle.fk_store.proofs.Walks.{same_path_refl, same_path_true, path-root, path-step, path-home, path-lost, space_at-path, path-space_at, place-apart, there-birth}
@@ -20,8 +20,8 @@ pub none_either : {A : Type 0} (t : Bool) → cond {A = Option A} t None None �
 none_either true = refl
 none_either false = refl
 
-module _ (m : Contents) (kept : IsKept m) (who : Who) (there : is_there m who ≡ true) where
-  pub apart : IsApart (path m) who
+module _ (m : Contents) (kept : IsWellFormed m) (who : Who) (there : is_there m who ≡ true) where
+  pub apart : HasOwnPath (path m) who
   apart = place-apart m kept who (kept.housed who there)
 
   -- a walk down its path finds its birth number
@@ -57,7 +57,7 @@ module _ (m : Contents) (kept : IsKept m) (who : Who) (there : is_there m who �
           let no : same_who who who ≡ false = subst (λ w. same_who w who ≡ false) same apart in
           absurd (cc)
 
-module _ (m : Contents) (kept : IsKept m) (who : Who) (there : is_there m who ≡ true) (empty : (k : ℕ) → (world m).body (k ∷ place (path m) who) ≡ None) where
+module _ (m : Contents) (kept : IsWellFormed m) (who : Who) (there : is_there m who ≡ true) (empty : (k : ℕ) → (world m).body (k ∷ place (path m) who) ≡ None) where
   -- nothing stands in it
   pub none_in : (n : ℕ) → birth_there m who ≡ Some n → (k : ℕ) → get m.bodies (at n k) ≡ None
   none_in n is k = by (get m.bodies (at n k)) refl
@@ -97,10 +97,10 @@ module _ (m : Contents) (kept : IsKept m) (who : Who) (there : is_there m who �
 
   pub inner : (o : Option ℕ) → birth_there m who ≡ o → (k : ℕ) → and_then (λ n. birth_there m (at n k)) o ≡ None
   inner None e k = refl
-  inner (Some n) e k = ap (and_then birth_of) (none_in n e k)
+  inner (Some n) e k = ap (and_then stored_birth) (none_in n e k)
 
   -- where all other spaces have the homes that they had, they keep their paths
-  module _ (m2 : Contents) (kept2 : IsKept m2) (home_stays : (n : ℕ) → is_number n (birth_there m who) ≡ false → home m2 n ≡ home m n) where
+  module _ (m2 : Contents) (kept2 : IsWellFormed m2) (home_stays : (n : ℕ) → is_number n (birth_there m who) ≡ false → home m2 n ≡ home m n) where
     path_by-stays : (k n : ℕ) → n ≤ k → is_number n (birth_there m who) ≡ false → path m2 n ≡ path m n
     path_by-stays k zero low off = path-root m2 ∙ sym (path-root m)
     path_by-stays zero (suc n) low off = absurd (omega arith)

@@ -18,7 +18,7 @@ use Rattle.fk_store.specs.Contents.{Contents, home, is_live}
 use Rattle.fk_store.specs.Paths.{path, space_at}
 use Rattle.fk_store.specs.Bodies.{body_by}
 use Rattle.fk_store.specs.World.{world}
-use Rattle.fk_store.specs.Kept.{is_there, IsKept}
+use Rattle.fk_store.specs.WellFormed.{is_there, IsWellFormed}
 use Rattle.fk_store.proofs.Homes.{home-found}
 use Rattle.fk_store.proofs.Walks.{not_root, path-root, path-home, path-lost, path-space_at, space_at-path, there-birth, younger}
 use Rattle.fk_store.proofs.LookUps.{birth_at-space_at}
@@ -33,7 +33,7 @@ born_is : (n : ℕ) (o : Option ℕ) → is_born n o ≡ true → o ≡ Some n
 born_is n None h = absurd (cc)
 born_is n (Some found) h = ap Some (eqb-true found n h)
 
-module _ (m : Contents) (kept : IsKept m) where
+module _ (m : Contents) (kept : IsWellFormed m) where
   -- what has something in it is live, and slots are below 256
   space_there : (k : ℕ) (s : Path) → IsSome ((world m).body (k ∷ s)) → (n : ℕ) × (space_at m s ≡ Some n) × (is_there m (at n k) ≡ true)
   unfolding world

@@ -2,7 +2,7 @@
 use Rattle.std.proofs.Common.{◌≡◌, ℕ, ◌∷◌, Bool, true, false, cond, Option, Some, None, option_map, IsSome, refl, sym, ap, subst}
 use Rattle.fk_model.specs.Places.{Path, same_path, parent}
 use Rattle.fk_model.specs.Objects.{Body, kind_of}
-use Rattle.fk_model.specs.World.{World, Edit, Sweep, edited, through, without, following, apply}
+use Rattle.fk_model.specs.World.{World, Edit, Sweep, edited, through, death_sweep, following, apply}
 use Rattle.fk_model.specs.Objects.Body.{Mutex, Cond, Mapping, Region, Port, Portset, Space, Thread_of, Reference}
 use Rattle.fk_model.specs.World.Change.{Make, Alter, Kill, Move}
 use Rattle.fk_model.specs.Valid.{kind_there}
@@ -76,7 +76,7 @@ kinds-through f q (Some b) = ap Some (kind-through f q b)
 -- what is destroyed is gone, and all else is of its kind
 pub kinds-kill : (w : World) (x q : Path) → (same_path q x ≡ true → kind_there (apply (Kill x) w) q ≡ None) × (same_path q x ≡ false → kind_there (apply (Kill x) w) q ≡ kind_there w q)
 unfolding kind_there apply
-kinds-kill w x q = (λ here. rw here refl, λ apart. rw apart (kinds-through (without x) q (w.body q)))
+kinds-kill w x q = (λ here. rw here refl, λ apart. rw apart (kinds-through (death_sweep x) q (w.body q)))
 
 -- what is moved is of its kind in its other slot, and its own is empty. All else is of its kind
 pub kinds-move : (w : World) (x : Path) (slot : ℕ) (q : Path) → let y = slot ∷ parent x in

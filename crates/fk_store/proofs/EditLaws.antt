@@ -6,8 +6,8 @@ use Rattle.fk_model.specs.Objects.{Peer, Talk, Fault}
 use Rattle.fk_model.specs.World.{World, Edit, edited, apply}
 use Rattle.fk_model.specs.World.Edit.{SetStops, SetTalk, PassTurn, SetPeer, SetFault, SetTaker}
 use Rattle.fk_model.specs.World.Change.{Alter}
-use Rattle.fk_store.specs.Threads.{thread_at}
 use Rattle.fk_store.proofs.ThreadLaws.{alter-same, alter-nobody}
+use Rattle.fk_model.specs.Searches.{thread_at}
 
 -- where there is nothing nothing changes
 pub alter_nothing : (w : World) (x : Path) (e : Edit) → w.body x ≡ None → w ≡ apply (Alter x e) w

@@ -12,7 +12,7 @@ use Rattle.fk_store.specs.Contents.{Contents, home, is_live}
 use Rattle.fk_store.specs.Paths.{place, path, space_at}
 use Rattle.fk_store.specs.Bodies.{body_by}
 use Rattle.fk_store.specs.World.{world, IsSpace}
-use Rattle.fk_store.specs.Kept.{IsKept}
+use Rattle.fk_store.specs.WellFormed.{IsWellFormed}
 use Rattle.fk_store.proofs.Homes.{home-found}
 use Rattle.fk_store.proofs.Walks.{not_root, path-home, path-space_at, live-home}
 use Rattle.fk_store.proofs.LookUps.{live-IsSpace, IsSpace-live}
@@ -22,7 +22,7 @@ pub first_after-map : {K : Type 0} (R : K → K → Ordering) (P Q : K → Type 
 first_after-map R P Q to from k None h = λ q there later. h q (from q there) later
 first_after-map R P Q to from k (Some next) h = (to next h.0, h.1, λ q there later. h.2 q (from q there) later)
 
-module _ (m : Contents) (kept : IsKept m) where
+module _ (m : Contents) (kept : IsWellFormed m) where
   pub named-object : (k : ℕ) (s : Path) → IsSome (kind_there (world m) (k ∷ s)) → (who : Who) × (place (path m) who ≡ k ∷ s)
   unfolding kind_there world
   named-object k s h = by (space_at m s) refl h
@@ -60,7 +60,7 @@ module _ (m : Contents) (kept : IsKept m) where
         by (Some who) e = kept.younger who n (home-found m n who (sym is ∙ e))
 
 -- what tells whether a space is live
-module _ (m : Contents) (kept : IsKept m) (n : ℕ) where
+module _ (m : Contents) (kept : IsWellFormed m) (n : ℕ) where
   tells : (test : Bool) → test ≡ is_live m n → IsTrue test ↔ IsSpace m n
   tells test is = (λ h. live-IsSpace m kept n (sym is ∙ h), λ h. is ∙ IsSpace-live m kept n h)
 

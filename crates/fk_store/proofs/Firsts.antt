@@ -5,11 +5,11 @@ use Rattle.fk_model.specs.declared.names.Who.{Who}
 use Rattle.fk_model.specs.Places.{Path}
 use Rattle.fk_model.specs.Objects.{and_then}
 use Rattle.fk_store.specs.Names.{at, who_cmp, page_cmp}
-use Rattle.fk_store.specs.Contents.{Contents, birth_of, birth_there}
+use Rattle.fk_store.specs.Contents.{Contents, stored_birth, birth_there}
 use Rattle.fk_store.specs.Paths.{path, space_at}
 use Rattle.fk_store.specs.Bodies.{body_by}
 use Rattle.fk_store.specs.World.{world, body_at, page_at, first_world, only_root}
-use Rattle.fk_store.specs.Kept.{is_there, IsKept}
+use Rattle.fk_store.specs.WellFormed.{is_there, IsWellFormed}
 
 abbrev pub first : Contents
 first = record { bodies = empty; pages = empty; next = 1 }
@@ -18,12 +18,12 @@ none_there : (who : Who) → get first.bodies who ≡ None
 none_there who = get-empty who_cmp who
 
 no_birth : {A : Type 0} (who : Who) (n : ℕ) → birth_there first who ≡ Some n → A
-no_birth who n h = let none = none_there who in let nowhere : and_then birth_of (get first.bodies who) ≡ None = rw none refl in absurd (cc)
+no_birth who n h = let none = none_there who in let nowhere : and_then stored_birth (get first.bodies who) ≡ None = rw none refl in absurd (cc)
 
 no_body : {A : Type 0} (who : Who) → is_there first who ≡ true → A
 no_body who h = let none = none_there who in let nowhere = ap is_some none in absurd (cc)
 
-pub kept-first : IsKept first
+pub kept-first : IsWellFormed first
 kept-first = record {
   begun = omega arith;
   alone = λ who n h. no_birth who n h;

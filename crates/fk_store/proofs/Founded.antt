@@ -7,16 +7,16 @@ use Rattle.fk_model.specs.declared.body.Body.{Body}
 use Rattle.fk_model.specs.Objects.{kind_of}
 use Rattle.fk_model.specs.Valid.{kind_there}
 use Rattle.fk_store.specs.Contents.{Contents}
-use Rattle.fk_store.specs.Paths.{path, place, IsAtHome, IsApart}
+use Rattle.fk_store.specs.Paths.{path, place, IsAtHome, HasOwnPath}
 use Rattle.fk_store.specs.Bodies.{body_by}
 use Rattle.fk_store.specs.Named.{OnNamed}
 use Rattle.fk_store.specs.World.{world, IsLive, IsSpace}
-use Rattle.fk_store.specs.Kept.{is_there, IsSized, IsKept}
+use Rattle.fk_store.specs.WellFormed.{is_there, IsSized, IsWellFormed}
 use Rattle.fk_store.proofs.NamedLaws.{OnNamed-map}
 use Rattle.fk_store.proofs.Walks.{place-apart}
 use Rattle.fk_store.proofs.LookUps.{body-place, there-IsLive, live-IsSpace, there-IsAtHome}
 
-module _ (m : Contents) (kept : IsKept m) (who : Who) (found : Option (Bor Body)) (is : option_copied found ≡ get m.bodies who) where
+module _ (m : Contents) (kept : IsWellFormed m) (who : Who) (found : Option (Bor Body)) (is : option_copied found ≡ get m.bodies who) where
   pub found-body : (world m).body (place (path m) who) ≡ option_map (body_by (path m)) (option_copied found)
   found-body = body-place m kept who ∙ ap (option_map (body_by (path m))) (sym is)
 
@@ -52,7 +52,7 @@ module _ (m : Contents) (kept : IsKept m) (who : Who) (found : Option (Bor Body)
       by None e = tt
       by (Some b) e = OnNamed-map (λ q. is_there m q ≡ true) (IsLive m) (there-IsLive m kept) b.now (kept.leads who b.now (sym is ∙ ap option_copied e))
 
-  pub found-apart : IsSome found → IsApart (path m) who
+  pub found-apart : IsSome found → HasOwnPath (path m) who
   found-apart some = place-apart m kept who (kept.housed who (found-there some))
 
   pub found-sized : IfSome found (λ b. IsSized b.now)

@@ -7,13 +7,13 @@ use Rattle.fk_model.specs.Objects.{Mode, Thread, Body, thread_of, and_then, hold
 use Rattle.fk_model.specs.Objects.Mode.{Running, Calling, Halted, Native}
 use Rattle.fk_model.specs.Objects.Body.{Mutex, Cond, Mapping, Region, Port, Portset, Space, Thread_of, Reference}
 use Rattle.fk_model.specs.World.{World, Edit}
-use Rattle.fk_model.specs.Searches.{option_list}
+use Rattle.fk_model.specs.Searches.{option_list, thread_at}
 use Rattle.fk_model.specs.Freezing.{changed_pointers, made_pointers, MayAlter}
 use Rattle.fk_model.specs.Holds.{decider, holder_of, is_frozen, is_frozen_for, is_free}
 use Rattle.fk_model.specs.Outcomes.{when}
 use Rattle.fk_model.specs.LinkRows.{user_at}
 use Rattle.fk_model.specs.Moves.{call_row, outcome}
-use Rattle.fk_store.specs.Threads.{thread_at, todo_of_mode, todo_of_thread, todo_at, is_free_at}
+use Rattle.fk_store.specs.Threads.{todo_of_mode, todo_of_thread, todo_at, is_free_at}
 
 -- ---- the move of a calling thread
 

@@ -10,23 +10,23 @@ use Rattle.fk_model.specs.Objects.{or_else}
 use Rattle.fk_model.specs.Holds.{holder_of, decider, is_frozen}
 use Rattle.fk_store.specs.Names.{at}
 use Rattle.fk_store.specs.Contents.{Contents, home, is_live}
-use Rattle.fk_store.specs.Paths.{place, path, IsApart}
+use Rattle.fk_store.specs.Paths.{place, path, HasOwnPath}
 use Rattle.fk_store.specs.Bodies.{body_by}
 use Rattle.fk_store.specs.Named.{Each}
 use Rattle.fk_store.specs.World.{world, IsLive}
-use Rattle.fk_store.specs.Kept.{IsKept}
+use Rattle.fk_store.specs.WellFormed.{IsWellFormed}
 use Rattle.fk_store.proofs.Homes.{home-found}
 use Rattle.fk_store.proofs.Walks.{not_root, path-root, path-lost, path-home, place-apart}
 use Rattle.fk_store.proofs.LookUps.{body-place, IsLive-there}
 
-pub home-root : (m : Contents) → IsKept m → home m 0 ≡ None
+pub home-root : (m : Contents) → IsWellFormed m → home m 0 ≡ None
 home-root m kept = by (home m 0) refl
   where
     by : (o : Option Who) → home m 0 ≡ o → o ≡ None
     by None e = refl
     by (Some who) e = let low = kept.younger who 0 (home-found m 0 who e) in absurd (omega arith)
 
-module _ (m : Contents) (kept : IsKept m) where
+module _ (m : Contents) (kept : IsWellFormed m) where
   -- nobody holds the root
   decider-root : decider (world m) [] ≡ None
   unfolding decider world
@@ -73,7 +73,7 @@ pub each-or : {A : Type 0} (P : A → Type 0) (a b : Option A) → Each P a → 
 each-or P None b h k = k
 each-or P (Some a) b h k = h
 
-module _ (m : Contents) (kept : IsKept m) (n : ℕ) (found : Option Who) (all : Option Ptr) (so_far : or_else (decider (world m) (path m n)) (option_map (λ q. At (place (path m) q)) found) ≡ all) where
+module _ (m : Contents) (kept : IsWellFormed m) (n : ℕ) (found : Option Who) (all : Option Ptr) (so_far : or_else (decider (world m) (path m n)) (option_map (λ q. At (place (path m) q)) found) ≡ all) where
   -- at the top the walk is done
   pub decided : home m n ≡ None → option_map (λ q. At (place (path m) q)) found ≡ all
   decided lost = sym (ap (λ o. or_else o (option_map (λ q. At (place (path m) q)) found)) (decider-none m kept n lost)) ∙ so_far
@@ -87,14 +87,14 @@ module _ (m : Contents) (kept : IsKept m) (n : ℕ) (found : Option Who) (all : 
       ∙ so_far
 
 -- who decides has a path of its own
-pub live-apart : (m : Contents) → IsKept m → (found : Option Who) → Each (IsLive m) found → Each (IsApart (path m)) found
+pub live-apart : (m : Contents) → IsWellFormed m → (found : Option Who) → Each (IsLive m) found → Each (HasOwnPath (path m)) found
 live-apart m kept None h = tt
 live-apart m kept (Some who) h = place-apart m kept who (kept.housed who (IsLive-there m kept who h))
 
-pub is_frozen-none : (m : Contents) → IsKept m → (n : ℕ) → home m n ≡ None → false ≡ is_frozen (world m) (path m n)
+pub is_frozen-none : (m : Contents) → IsWellFormed m → (n : ℕ) → home m n ≡ None → false ≡ is_frozen (world m) (path m n)
 is_frozen-none m kept n h = rw (decider-none m kept n h) refl
 
-pub is_frozen-some : (m : Contents) → IsKept m → (n : ℕ) (who : Who) (found : Option Who) → home m n ≡ Some who → option_map (λ q. At (place (path m) q)) found ≡ decider (world m) (place (path m) who) → is_some found ≡ is_frozen (world m) (path m n)
+pub is_frozen-some : (m : Contents) → IsWellFormed m → (n : ℕ) (who : Who) (found : Option Who) → home m n ≡ Some who → option_map (λ q. At (place (path m) q)) found ≡ decider (world m) (place (path m) who) → is_some found ≡ is_frozen (world m) (path m n)
 is_frozen-some m kept n who found up is = rw (path-home m kept n who up, ← is) (by found)
   where
     by : (o : Option Who) → is_some o ≡ is_some (option_map (λ q. At (place (path m) q)) o)

@@ -13,7 +13,7 @@ use Rattle.fk_model.specs.declared.body.Body.{Body}
 use Rattle.fk_model.specs.Objects.{and_then}
 use Rattle.fk_store.specs.Named.{Each}
 use Rattle.fk_store.specs.Names.{who_cmp}
-use Rattle.fk_store.specs.Contents.{Contents, birth_of, birth_there, is_number, home_in, home}
+use Rattle.fk_store.specs.Contents.{Contents, stored_birth, birth_there, is_number, home_in, home}
 use Rattle.fk_store.proofs.TableLaws.{first, second}
 use Rattle.fk_store.proofs.NameLaws.{who_total}
 
@@ -97,17 +97,17 @@ module _ (bodies : FinMap who_cmp Body) (p : Body → Bool) where
 pub home-found : (m : Contents) (n : ℕ) (who : Who) → home m n ≡ Some who → birth_there m who ≡ Some n
 unfolding home_in
 home-found m n who h =
-    let found = found-passes m.bodies (λ b. is_number n (birth_of b)) who h in
-    ap (and_then birth_of) found.1 ∙ number_is n (birth_of found.0) found.2
+    let found = found-passes m.bodies (λ b. is_number n (stored_birth b)) who h in
+    ap (and_then stored_birth) found.1 ∙ number_is n (stored_birth found.0) found.2
 
 -- where there is no home, no space has the number
 pub home-none : (m : Contents) (n : ℕ) (who : Who) → home m n ≡ None → birth_there m who ≡ Some n → ⊥
 unfolding home_in
 home-none m n who h there = by (get m.bodies who) refl there
   where
-    by : (o : Option Body) → get m.bodies who ≡ o → and_then birth_of o ≡ Some n → ⊥
+    by : (o : Option Body) → get m.bodies who ≡ o → and_then stored_birth o ≡ Some n → ⊥
     by None at number = absurd (cc)
     by (Some b) at number =
-        let fails = none-passes m.bodies (λ b. is_number n (birth_of b)) h who b at in
-        let passes = is_the_number n (birth_of b) number in
+        let fails = none-passes m.bodies (λ b. is_number n (stored_birth b)) h who b at in
+        let passes = is_the_number n (stored_birth b) number in
         absurd (cc)

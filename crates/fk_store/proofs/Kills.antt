@@ -5,18 +5,18 @@ use Rattle.fk_model.specs.declared.names.Who.{Who}
 use Rattle.fk_model.specs.declared.body.Body as bodies_of
 use Rattle.fk_model.specs.Places.{Path, same_path}
 use Rattle.fk_model.specs.Objects.{and_then}
-use Rattle.fk_model.specs.World.{apply, through, without}
+use Rattle.fk_model.specs.World.{apply, through, death_sweep}
 use Rattle.fk_model.specs.World.Change.{Kill}
 use Rattle.fk_model.specs.Valid.{kind_there}
 use Rattle.fk_store.specs.declared.sweeps.Sweep.{Sweep}
 use Rattle.fk_store.specs.Names.{at, same_who, who_cmp, page_cmp}
-use Rattle.fk_store.specs.Contents.{Contents, birth_of, birth_there, is_number, home, is_live}
+use Rattle.fk_store.specs.Contents.{Contents, stored_birth, birth_there, is_number, home, is_live}
 use Rattle.fk_store.specs.Paths.{place, path, space_at}
 use Rattle.fk_store.specs.Bodies.{body_by}
 use Rattle.fk_store.specs.Named.{OnNamed}
 use Rattle.fk_store.specs.World.{world, body_at, page_at, IsLive}
 use Rattle.fk_store.specs.Sweeps.{body_after}
-use Rattle.fk_store.specs.Kept.{is_there, IsSized, IsKept}
+use Rattle.fk_store.specs.WellFormed.{is_there, IsSized, IsWellFormed}
 use Rattle.fk_store.proofs.NameLaws.{who_total, same_tied, same_who_eq}
 use Rattle.fk_store.proofs.NamedLaws.{body_by-named}
 use Rattle.fk_store.proofs.Homes.{home-found, home-none, is_the_number}
@@ -36,7 +36,7 @@ pub pages-taken : (old new : FinMap page_cmp (List ℕ)) (space birth : Option �
     (n g : ℕ) → get new (n, g) ≡ cond (is_number n birth) None (get old (n, g))
 pages-taken old new space birth is takes n g = takes n g ∙ ap (λ o. cond (is_number n o) None (get old (n, g))) is
 
-module _ (m : Contents) (kept : IsKept m) (who : Who) (there : is_there m who ≡ true) (empty : (k : ℕ) → (world m).body (k ∷ place (path m) who) ≡ None) where
+module _ (m : Contents) (kept : IsWellFormed m) (who : Who) (there : is_there m who ≡ true) (empty : (k : ℕ) → (world m).body (k ∷ place (path m) who) ≡ None) where
   abbrev gone : Sweep
   gone = record { from = who; to = None }
 
@@ -49,7 +49,7 @@ module _ (m : Contents) (kept : IsKept m) (who : Who) (there : is_there m who �
     births : (q : Who) → birth_there killed q ≡ cond (same_who q who) None (birth_there m q)
     births q = rw (bodies q) (by (same_who q who) (get m.bodies q))
       where
-        by : (t : Bool) (o : Option bodies_of.Body) → and_then birth_of (cond t None (option_map (body_after gone q.space) o)) ≡ cond t None (and_then birth_of o)
+        by : (t : Bool) (o : Option bodies_of.Body) → and_then stored_birth (cond t None (option_map (body_after gone q.space) o)) ≡ cond t None (and_then stored_birth o)
         by true o = refl
         by false None = refl
         by false (Some b) = birth-after gone q.space b
@@ -123,7 +123,7 @@ module _ (m : Contents) (kept : IsKept m) (who : Who) (there : is_there m who �
         by true e is = absurd (cc)
         by false e is = live_stays space e ∙ kept.paged space page is
 
-    pub kept-killed : IsKept killed
+    pub kept-killed : IsWellFormed killed
     kept-killed = record {
       begun = kept.begun;
       alone = λ q n h. let left = births_left q n h in home_stays n (left_off m kept who there q n left.0 left.1) ∙ kept.alone q n left.0;
@@ -160,28 +160,28 @@ module _ (m : Contents) (kept : IsKept m) (who : Who) (there : is_there m who �
         by false e = found (space_at m s) refl
 
     -- a body that is left, by paths
-    body_left : (n k : ℕ) (b : bodies_of.Body) → get m.bodies (at n k) ≡ Some b → body_by (path killed) (body_after gone n b) ≡ through (without (place (path m) who)) (k ∷ path m n) (body_by (path m) b)
+    body_left : (n k : ℕ) (b : bodies_of.Body) → get m.bodies (at n k) ≡ Some b → body_by (path killed) (body_after gone n b) ≡ through (death_sweep (place (path m) who)) (k ∷ path m n) (body_by (path m) b)
     body_left n k b e =
         body_by-named (path killed) (path m) (body_after gone n b)
         (named-after gone (λ q. is_there m q ≡ true) (λ q. place (path killed) q ≡ place (path m) q) (λ q h other. place-killed q h) tt n b (kept.leads (at n k) b e))
         ∙ body-without (path m) who (apart m kept who there) (at n k) b
 
-    bodies_at : (q : Path) → body_at killed q ≡ cond (same_path q (place (path m) who)) None (option_map (through (without (place (path m) who)) q) (body_at m q))
+    bodies_at : (q : Path) → body_at killed q ≡ cond (same_path q (place (path m) who)) None (option_map (through (death_sweep (place (path m) who)) q) (body_at m q))
     unfolding same_path
     bodies_at [] = refl
     bodies_at (k ∷ s) = rw (walk s) (by (same_path s (place (path m) who)) refl)
       where
         left : (n : ℕ) → space_at m s ≡ Some n → (t : Bool) (o : Option bodies_of.Body) → get m.bodies (at n k) ≡ o →
-            option_map (body_by (path killed)) (cond t None (option_map (body_after gone n) o)) ≡ cond t None (option_map (through (without (place (path m) who)) (k ∷ s)) (option_map (body_by (path m)) o))
+            option_map (body_by (path killed)) (cond t None (option_map (body_after gone n) o)) ≡ cond t None (option_map (through (death_sweep (place (path m) who)) (k ∷ s)) (option_map (body_by (path m)) o))
         left n is true o e = refl
         left n is false None e = refl
-        left n is false (Some b) e = ap Some (body_left n k b e ∙ ap (λ t. through (without (place (path m) who)) (k ∷ t) (body_by (path m) b)) (path-space_at m kept s n is))
+        left n is false (Some b) e = ap Some (body_left n k b e ∙ ap (λ t. through (death_sweep (place (path m) who)) (k ∷ t) (body_by (path m) b)) (path-space_at m kept s n is))
 
-        found : (o : Option ℕ) → space_at m s ≡ o → and_then (λ n. option_map (body_by (path killed)) (get bodies2 (at n k))) o ≡ cond (k == who.slot && same_path s (path m who.space)) None (option_map (through (without (place (path m) who)) (k ∷ s)) (and_then (λ n. option_map (body_by (path m)) (get m.bodies (at n k))) o))
+        found : (o : Option ℕ) → space_at m s ≡ o → and_then (λ n. option_map (body_by (path killed)) (get bodies2 (at n k))) o ≡ cond (k == who.slot && same_path s (path m who.space)) None (option_map (through (death_sweep (place (path m) who)) (k ∷ s)) (and_then (λ n. option_map (body_by (path m)) (get m.bodies (at n k))) o))
         found None e = sym (none_either (k == who.slot && same_path s (path m who.space)))
         found (Some n) e = rw (bodies (at n k), same_space m kept s n who.space e, and_back (k == who.slot) (n == who.space)) (left n e (n == who.space && k == who.slot) (get m.bodies (at n k)) refl)
 
-        by : (t : Bool) → same_path s (place (path m) who) ≡ t → and_then (λ n. option_map (body_by (path killed)) (get bodies2 (at n k))) (cond t None (space_at m s)) ≡ cond (k == who.slot && same_path s (path m who.space)) None (option_map (through (without (place (path m) who)) (k ∷ s)) (body_at m (k ∷ s)))
+        by : (t : Bool) → same_path s (place (path m) who) ≡ t → and_then (λ n. option_map (body_by (path killed)) (get bodies2 (at n k))) (cond t None (space_at m s)) ≡ cond (k == who.slot && same_path s (path m who.space)) None (option_map (through (death_sweep (place (path m) who)) (k ∷ s)) (body_at m (k ∷ s)))
         by true e = rw (empty_at m kept who there empty s k e) (sym (none_either (k == who.slot && same_path s (path m who.space))))
         by false e = found (space_at m s) refl
 

@@ -9,18 +9,18 @@ use Rattle.fk_model.specs.Objects.{kind_of, and_then}
 use Rattle.fk_model.specs.Valid as valid
 use Rattle.fk_model.specs.Valid.{kind_there, birth_at}
 use Rattle.fk_store.specs.Names.{at}
-use Rattle.fk_store.specs.Contents.{Contents, birth_of, birth_there, is_live}
+use Rattle.fk_store.specs.Contents.{Contents, stored_birth, birth_there, is_live}
 use Rattle.fk_store.specs.Paths.{place, path, space_at, IsAtHome}
 use Rattle.fk_store.specs.Bodies.{body_by}
 use Rattle.fk_store.specs.World.{world, IsLive, IsSpace}
-use Rattle.fk_store.specs.Kept.{is_there, IsKept}
+use Rattle.fk_store.specs.WellFormed.{is_there, IsWellFormed}
 use Rattle.fk_store.proofs.Walks.{space_at-path, space_at-lost, live-space_at, path-home}
 
 some_mapped : {A B : Type 0} (f : A → B) (o : Option A) → is_some (option_map f o) ≡ is_some o
 some_mapped f None = refl
 some_mapped f (Some a) = refl
 
-birth_by : (path : ℕ → Path) (b : bodies_of.Body) → valid.birth_of (body_by path b) ≡ birth_of b
+birth_by : (path : ℕ → Path) (b : bodies_of.Body) → valid.birth_of (body_by path b) ≡ stored_birth b
 birth_by path (bodies.Mutex locked) = refl
 birth_by path bodies.Cond = refl
 birth_by path (bodies.Mapping first count offset write region) = refl
@@ -31,7 +31,7 @@ birth_by path (bodies.Space birth holder) = refl
 birth_by path (bodies.Thread thread) = refl
 birth_by path (bodies.Reference to) = refl
 
-birth_mapped : (path : ℕ → Path) (o : Option bodies_of.Body) → and_then valid.birth_of (option_map (body_by path) o) ≡ and_then birth_of o
+birth_mapped : (path : ℕ → Path) (o : Option bodies_of.Body) → and_then valid.birth_of (option_map (body_by path) o) ≡ and_then stored_birth o
 birth_mapped path None = refl
 birth_mapped path (Some b) = birth_by path b
 
@@ -45,7 +45,7 @@ birth_at-space_at m (k ∷ s) = by (space_at m s)
     by None = refl
     by (Some n) = birth_mapped (path m) (get m.bodies (at n k))
 
-module _ (m : Contents) (kept : IsKept m) where
+module _ (m : Contents) (kept : IsWellFormed m) where
   -- an object is looked up by its path
   pub body-place : (who : Who) → (world m).body (place (path m) who) ≡ option_map (body_by (path m)) (get m.bodies who)
   unfolding world

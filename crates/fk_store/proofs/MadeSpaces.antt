@@ -12,12 +12,12 @@ use Rattle.fk_model.specs.Objects.Body.{Space}
 use Rattle.fk_model.specs.World.{apply, birth_after}
 use Rattle.fk_model.specs.World.Change.{MakeSpace}
 use Rattle.fk_store.specs.Names.{at, who_cmp}
-use Rattle.fk_store.specs.Contents.{Contents, birth_of, birth_there, home, is_live}
+use Rattle.fk_store.specs.Contents.{Contents, stored_birth, birth_there, home, is_live}
 use Rattle.fk_store.specs.Paths.{place, from_home, path, space_at}
 use Rattle.fk_store.specs.Bodies.{body_by}
 use Rattle.fk_store.specs.Named.{OnNamed}
 use Rattle.fk_store.specs.World.{world, body_at, page_at}
-use Rattle.fk_store.specs.Kept.{is_there, IsSized, IsKept}
+use Rattle.fk_store.specs.WellFormed.{is_there, IsSized, IsWellFormed}
 use Rattle.fk_store.proofs.NameLaws.{who_total, who_tied}
 use Rattle.fk_store.proofs.NamedLaws.{OnNamed-map, body_by-named}
 use Rattle.fk_store.proofs.Homes.{home-found, home-none}
@@ -33,7 +33,7 @@ longer_apart k x = by (same_path (k ∷ x) x) refl
     by false e = refl
     by true e = let same = ap length (same_path_true (k ∷ x) x e) in absurd (omega arith)
 
-module _ (m : Contents) (kept : IsKept m) (who : Who) (live : is_live m who.space ≡ true) (slot : who.slot < 256) (empty : get m.bodies who ≡ None) (holder : Option Who) where
+module _ (m : Contents) (kept : IsWellFormed m) (who : Who) (live : is_live m who.space ≡ true) (slot : who.slot < 256) (empty : get m.bodies who ≡ None) (holder : Option Who) where
   space : bodies_of.Body
   space = bodies.Space m.next holder
 
@@ -45,7 +45,7 @@ module _ (m : Contents) (kept : IsKept m) (who : Who) (live : is_live m who.spac
   new_birth : (q : Who) → birth_there with_space q ≡ cond (eq_by_cmp who_cmp q who) (Some m.next) (birth_there m q)
   new_birth q = rw (get-insert who_total m.bodies who (bodies.Space m.next holder) q) (by (eq_by_cmp who_cmp q who))
     where
-      by : (t : Bool) → and_then birth_of (cond t (Some (bodies.Space m.next holder)) (get m.bodies q)) ≡ cond t (Some m.next) (birth_there m q)
+      by : (t : Bool) → and_then stored_birth (cond t (Some (bodies.Space m.next holder)) (get m.bodies q)) ≡ cond t (Some m.next) (birth_there m q)
       by true = refl
       by false = refl
 
@@ -91,7 +91,7 @@ module _ (m : Contents) (kept : IsKept m) (who : Who) (live : is_live m who.spac
   live_stays : (n : ℕ) → is_live m n ≡ true → is_live with_space n ≡ true
   live_stays n h = let low = live-born m kept n h in let other : n ≢ m.next = omega arith in rw (home-old n other) h
 
-  pub kept-space : OnNamed (λ q. is_there m q ≡ true) (bodies.Space m.next holder) → IsKept with_space
+  pub kept-space : OnNamed (λ q. is_there m q ≡ true) (bodies.Space m.next holder) → IsWellFormed with_space
   kept-space named = record {
     begun = omega arith;
     alone = λ q n h. elim (births_after q n h) [
@@ -109,7 +109,7 @@ module _ (m : Contents) (kept : IsKept m) (who : Who) (live : is_live m who.spac
     sized = after_body m kept who live slot empty (bodies.Space m.next holder) IsSized tt kept.sized;
   }
 
-  module _ (kept2 : IsKept with_space) where
+  module _ (kept2 : IsWellFormed with_space) where
     -- older spaces keep their paths
     path_stays : (k n : ℕ) → n ≤ k → n ≢ m.next → path with_space n ≡ path m n
     path_stays k zero low other = path-root with_space ∙ sym (path-root m)
@@ -191,7 +191,7 @@ module _ (m : Contents) (kept : IsKept m) (who : Who) (live : is_live m who.spac
     walk-space : (s : Path) → space_at with_space s ≡ cond (same_path s (place (path m) who)) (Some m.next) (space_at m s)
     unfolding space_at same_path
     walk-space [] = refl
-    walk-space (k ∷ s) = slots_after (and_then birth_of) m.next refl refl s (walk-space s) k
+    walk-space (k ∷ s) = slots_after (and_then stored_birth) m.next refl refl s (walk-space s) k
 
     names_stay : (c : bodies_of.Body) → OnNamed (λ q. is_there m q ≡ true) c → body_by (path with_space) c ≡ body_by (path m) c
     names_stay c named = body_by-named (path with_space) (path m) c (OnNamed-map (λ q. is_there m q ≡ true) (λ q. place (path with_space) q ≡ place (path m) q) there-place c named)

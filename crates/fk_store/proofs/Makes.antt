@@ -9,19 +9,19 @@ use Rattle.fk_model.specs.Objects.{and_then}
 use Rattle.fk_model.specs.World.{apply}
 use Rattle.fk_model.specs.World.Change.{Make}
 use Rattle.fk_store.specs.Names.{who_cmp}
-use Rattle.fk_store.specs.Contents.{Contents, birth_of, birth_there, home, is_live}
+use Rattle.fk_store.specs.Contents.{Contents, stored_birth, birth_there, home, is_live}
 use Rattle.fk_store.specs.Paths.{place, path}
 use Rattle.fk_store.specs.Bodies.{body_by}
 use Rattle.fk_store.specs.Named.{OnNamed}
 use Rattle.fk_store.specs.World.{world, body_at}
-use Rattle.fk_store.specs.Kept.{is_there, IsSized, IsKept}
+use Rattle.fk_store.specs.WellFormed.{is_there, IsSized, IsWellFormed}
 use Rattle.fk_store.proofs.NameLaws.{who_total, who_tied}
 use Rattle.fk_store.proofs.NamedLaws.{OnNamed-map}
 use Rattle.fk_store.proofs.Homes.{home-found}
 use Rattle.fk_store.proofs.Walks.{not_root}
 use Rattle.fk_store.proofs.Sets.{with_body, home-births, is_live-births, path-births, space_at-births, put_at}
 
-module _ (m : Contents) (kept : IsKept m) where
+module _ (m : Contents) (kept : IsWellFormed m) where
   -- a live space is born
   pub live-born : (n : ℕ) → is_live m n ≡ true → n < m.next
   live-born zero live = kept.begun
@@ -56,11 +56,11 @@ module _ (m : Contents) (kept : IsKept m) where
         by false e = others q c e
 
     -- ---- an object that is no space
-    module _ (plain : birth_of b ≡ None) where
+    module _ (plain : stored_birth b ≡ None) where
       made_births : (q : Who) → birth_there (with_body m who b) q ≡ birth_there m q
       made_births q = rw (get-insert who_total m.bodies who b q) (by (eq_by_cmp who_cmp q who) refl)
         where
-          by : (t : Bool) → eq_by_cmp who_cmp q who ≡ t → and_then birth_of (cond t (Some b) (get m.bodies q)) ≡ birth_there m q
+          by : (t : Bool) → eq_by_cmp who_cmp q who ≡ t → and_then stored_birth (cond t (Some b) (get m.bodies q)) ≡ birth_there m q
           by false e = refl
           by true e = let here : q ≡ who = who_tied q who e in rw (here, empty) plain
 
@@ -75,7 +75,7 @@ module _ (m : Contents) (kept : IsKept m) where
           bodies [] = refl
           bodies (j ∷ s) = rw (path-made, space_at-births m kept (with_body m who b) made_births s) (put_at m kept who live b (body_by (path m)) j s)
 
-      pub kept-made : OnNamed (λ q. is_there m q ≡ true) b → IsSized b → IsKept (with_body m who b)
+      pub kept-made : OnNamed (λ q. is_there m q ≡ true) b → IsSized b → IsWellFormed (with_body m who b)
       kept-made named sized = record {
         begun = kept.begun;
         alone = λ q n h. home-births m kept (with_body m who b) made_births n ∙ kept.alone q n (sym (made_births q) ∙ h);

@@ -8,12 +8,12 @@ use Rattle.fk_model.specs.Places.{Path}
 use Rattle.fk_model.specs.World.{apply}
 use Rattle.fk_model.specs.World.Change.{Make}
 use Rattle.fk_model.specs.Valid.{kind_there}
-use Rattle.fk_store.specs.Contents.{Contents, birth_of, is_live}
+use Rattle.fk_store.specs.Contents.{Contents, stored_birth, is_live}
 use Rattle.fk_store.specs.Paths.{place, path, IsAtHome}
 use Rattle.fk_store.specs.Bodies.{body_by}
 use Rattle.fk_store.specs.Named.{OnNamed}
 use Rattle.fk_store.specs.World.{world, IsLive, IsSpace}
-use Rattle.fk_store.specs.Kept.{is_there, IsSized, IsKept}
+use Rattle.fk_store.specs.WellFormed.{is_there, IsSized, IsWellFormed}
 use Rattle.fk_store.specs.Makes.{making, IsNext, next_by}
 use Rattle.fk_store.proofs.NamedLaws.{OnNamed-map}
 use Rattle.fk_store.proofs.LookUps.{body-place, IsLive-there, IsSpace-live}
@@ -26,12 +26,12 @@ abbrev pub with_made : Contents → Who → Body → Contents
 with_made m who b = record { bodies = insert m.bodies who b; pages = m.pages; next = next_by m.next b }
 
 record IsMade (m : Contents) (who : Who) (b : Body) : Type 0 where
-  kept : IsKept (with_made m who b)
+  kept : IsWellFormed (with_made m who b)
   world : world (with_made m who b) ≡ apply (making (place (path m) who) (body_by (path m) b)) (world m)
   home : IsAtHome (path (with_made m who b)) who b
   paths : (n : ℕ) → n ≢ m.next → path (with_made m who b) n ≡ path m n
 
-module _ (m : Contents) (kept : IsKept m) (who : Who) (slot : who.slot < 256) (space : IsSpace m who.space) (empty : (world m).body (place (path m) who) ≡ None) where
+module _ (m : Contents) (kept : IsWellFormed m) (who : Who) (slot : who.slot < 256) (space : IsSpace m who.space) (empty : (world m).body (place (path m) who) ≡ None) where
   is_empty : get m.bodies who ≡ None
   is_empty = by (get m.bodies who) refl
     where
@@ -46,13 +46,13 @@ module _ (m : Contents) (kept : IsKept m) (who : Who) (slot : who.slot < 256) (s
     are_there : OnNamed (λ q. is_there m q ≡ true) b
     are_there = OnNamed-map (IsLive m) (λ q. is_there m q ≡ true) (IsLive-there m kept) b named
 
-    plain_kept : birth_of b ≡ None → IsSized b → IsKept (record m { bodies = insert m.bodies who b })
+    plain_kept : stored_birth b ≡ None → IsSized b → IsWellFormed (record m { bodies = insert m.bodies who b })
     plain_kept plain sized = kept-made m kept who lives slot is_empty b plain are_there sized
 
-    plain_world : birth_of b ≡ None → world (record m { bodies = insert m.bodies who b }) ≡ apply (Make (place (path m) who) (body_by (path m) b)) (world m)
+    plain_world : stored_birth b ≡ None → world (record m { bodies = insert m.bodies who b }) ≡ apply (Make (place (path m) who) (body_by (path m) b)) (world m)
     plain_world plain = world-made m kept who lives slot is_empty b plain
 
-    plain_paths : birth_of b ≡ None → (n : ℕ) → n ≢ m.next → path (record m { bodies = insert m.bodies who b }) n ≡ path m n
+    plain_paths : stored_birth b ≡ None → (n : ℕ) → n ≢ m.next → path (record m { bodies = insert m.bodies who b }) n ≡ path m n
     plain_paths plain n other = λ i. path-made m kept who lives slot is_empty b plain i n
 
   made_space : (holder : Option Who) → OnNamed (IsLive m) (Space m.next holder) → IsMade m who (Space m.next holder)
@@ -78,7 +78,7 @@ module _ (m : Contents) (kept : IsKept m) (who : Who) (slot : who.slot < 256) (s
   made (Reference to) next named sized = record { kept = plain_kept (Reference to) named refl sized; world = plain_world (Reference to) named refl; home = tt; paths = plain_paths (Reference to) named refl }
 
   module _ (b : Body) (next : IsNext (world m).next b) (named : OnNamed (IsLive m) b) (sized : IsSized b) where
-    pub make-kept : IsKept (with_made m who b)
+    pub make-kept : IsWellFormed (with_made m who b)
     make-kept = (made b next named sized).kept
 
     pub make-world : world (with_made m who b) ≡ apply (making (place (path m) who) (body_by (path m) b)) (world m)

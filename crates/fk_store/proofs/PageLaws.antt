@@ -14,7 +14,7 @@ use Rattle.fk_store.specs.Contents.{Contents, birth_there, is_live}
 use Rattle.fk_store.specs.Paths.{path, space_at}
 use Rattle.fk_store.specs.Bodies.{body_by}
 use Rattle.fk_store.specs.World.{world, body_at, page_at, IsSpace}
-use Rattle.fk_store.specs.Kept.{IsKept}
+use Rattle.fk_store.specs.WellFormed.{IsWellFormed}
 use Rattle.fk_store.proofs.NameLaws.{page_total, page_tied}
 use Rattle.fk_store.proofs.Walks.{same_space}
 use Rattle.fk_store.proofs.LookUps.{IsSpace-live}
@@ -26,7 +26,7 @@ tied n g space page = grind (arith, nat_tests)
 abbrev pub with_pages : Contents → FinMap page_cmp (List ℕ) → Contents
 with_pages m pages = record m { pages = pages }
 
-module _ (m : Contents) (kept : IsKept m) (pages : FinMap page_cmp (List ℕ)) where
+module _ (m : Contents) (kept : IsWellFormed m) (pages : FinMap page_cmp (List ℕ)) where
   births : (who : Who) → birth_there (with_pages m pages) who ≡ birth_there m who
   births who = refl
 
@@ -46,7 +46,7 @@ module _ (m : Contents) (kept : IsKept m) (pages : FinMap page_cmp (List ℕ)) w
   unfolding kind_there world
   kinds-pages = λ i x. option_map kind_of (bodies-pages x i)
 
-  pub kept-pages : ((space page : ℕ) → is_some (get pages (space, page)) ≡ true → is_live m space ≡ true) → IsKept (with_pages m pages)
+  pub kept-pages : ((space page : ℕ) → is_some (get pages (space, page)) ≡ true → is_live m space ≡ true) → IsWellFormed (with_pages m pages)
   kept-pages housed = record {
     begun = kept.begun;
     alone = λ q n h. home-births m kept (with_pages m pages) births n ∙ kept.alone q n h;
@@ -59,7 +59,7 @@ module _ (m : Contents) (kept : IsKept m) (pages : FinMap page_cmp (List ℕ)) w
     sized = kept.sized;
   }
 
-module _ (m : Contents) (kept : IsKept m) (space page : ℕ) where
+module _ (m : Contents) (kept : IsWellFormed m) (space page : ℕ) where
   module _ (words : List ℕ) (live : IsSpace m space) where
     pub put_page-world : world (with_pages m (insert m.pages (space, page) words)) ≡ apply (PutPage (path m space) page words) (world m)
     unfolding world apply
@@ -72,7 +72,7 @@ module _ (m : Contents) (kept : IsKept m) (space page : ℕ) where
             by None none = rw (lost_apart m kept (at space 0) (IsSpace-live m kept space live) s none) refl
             by (Some n) here = rw (get-insert page_total m.pages (space, page) words (n, g), tied n g space page, same_space m kept s n space here) refl
 
-    pub put_page-kept : IsKept (with_pages m (insert m.pages (space, page) words))
+    pub put_page-kept : IsWellFormed (with_pages m (insert m.pages (space, page) words))
     put_page-kept = kept-pages m kept (insert m.pages (space, page) words) (λ q g h. by q g (eq_by_cmp page_cmp (q, g) (space, page)) refl (rw (get-insert page_total m.pages (space, page) words (q, g)) at h))
       where
         by : (q g : ℕ) (t : Bool) → eq_by_cmp page_cmp (q, g) (space, page) ≡ t → is_some (cond (eq_by_cmp page_cmp (q, g) (space, page)) (Some words) (get m.pages (q, g))) ≡ true → is_live m q ≡ true
@@ -94,7 +94,7 @@ module _ (m : Contents) (kept : IsKept m) (space page : ℕ) where
           by None none = none_either (same_path s (path m space) && g == page)
           by (Some n) here = rw (get-remove page_total m.pages (space, page) (n, g), tied n g space page, same_space m kept s n space here) refl
 
-  pub drop_page-kept : IsKept (with_pages m (remove m.pages (space, page)))
+  pub drop_page-kept : IsWellFormed (with_pages m (remove m.pages (space, page)))
   drop_page-kept = kept-pages m kept (remove m.pages (space, page)) (λ q g h. by q g (eq_by_cmp page_cmp (q, g) (space, page)) (rw (get-remove page_total m.pages (space, page) (q, g)) at h))
     where
       by : (q g : ℕ) (t : Bool) → is_some (cond t None (get m.pages (q, g))) ≡ true → is_live m q ≡ true

@@ -17,7 +17,7 @@ use Rattle.fk_model.specs.World.{serves}
 use Rattle.fk_store.specs.declared.parts.Part.{Part}
 use Rattle.fk_store.specs.declared.parts.Part.TheVariants.{Client, Faulter, Guest, Parked}
 use Rattle.fk_store.specs.Names.{same_who}
-use Rattle.fk_store.specs.Paths.{place, IsApart}
+use Rattle.fk_store.specs.Paths.{place, HasOwnPath}
 use Rattle.fk_store.specs.Bodies.{peer_by, talk_by, fault_by, thread_by, body_by}
 use Rattle.fk_store.specs.Named.{Each, OnPeer, OnTalk, OnFault, OnNamed}
 use Rattle.fk_store.specs.Parts.{is_thread, is_service, is_parked, thread_plays, plays, played}
@@ -29,15 +29,15 @@ nobody p (Guest port) = refl
 nobody p (Parked port) = refl
 
 module _ (p : ℕ → Path) where
-  led : (who other : Who) → IsApart p other → same_who other who ≡ leads_to (place p who) (At (place p other))
+  led : (who other : Who) → HasOwnPath p other → same_who other who ≡ leads_to (place p who) (At (place p other))
   led who other apart = sym (apart who).1
 
-  thread-by : (who : Who) (peer : Peer) → OnPeer (IsApart p) peer → is_thread who peer ≡ serves (place p who) (peer_by p peer)
+  thread-by : (who : Who) (peer : Peer) → OnPeer (HasOwnPath p) peer → is_thread who peer ≡ serves (place p who) (peer_by p peer)
   thread-by who (peers.Thread other) h = led who other h
   thread-by who peers.Service h = refl
   thread-by who peers.Parked h = refl
 
-  taker-by : (who : Who) (o : Option Peer) → Each (OnPeer (IsApart p)) o → holds (is_thread who) o ≡ holds (serves (place p who)) (option_map (peer_by p) o)
+  taker-by : (who : Who) (o : Option Peer) → Each (OnPeer (HasOwnPath p)) o → holds (is_thread who) o ≡ holds (serves (place p who)) (option_map (peer_by p) o)
   taker-by who None h = refl
   taker-by who (Some peer) h = thread-by who peer h
 
@@ -51,24 +51,24 @@ module _ (p : ℕ → Path) where
   parked-by peers.Service = refl
   parked-by peers.Parked = refl
 
-  talk-by : (f : talks_of.Talk → Bool) (g : Talk → Bool) → ((talk : talks_of.Talk) → OnTalk (IsApart p) talk → f talk ≡ g (talk_by p talk)) → (o : Option talks_of.Talk) → Each (OnTalk (IsApart p)) o → holds f o ≡ holds g (option_map (talk_by p) o)
+  talk-by : (f : talks_of.Talk → Bool) (g : Talk → Bool) → ((talk : talks_of.Talk) → OnTalk (HasOwnPath p) talk → f talk ≡ g (talk_by p talk)) → (o : Option talks_of.Talk) → Each (OnTalk (HasOwnPath p)) o → holds f o ≡ holds g (option_map (talk_by p) o)
   talk-by f g same None h = refl
   talk-by f g same (Some talk) h = same talk h
 
-  fault-by : (f : faults_of.Fault → Bool) (g : Fault → Bool) → ((fault : faults_of.Fault) → OnFault (IsApart p) fault → f fault ≡ g (fault_by p fault)) → (o : Option faults_of.Fault) → Each (OnFault (IsApart p)) o → holds f o ≡ holds g (option_map (fault_by p) o)
+  fault-by : (f : faults_of.Fault → Bool) (g : Fault → Bool) → ((fault : faults_of.Fault) → OnFault (HasOwnPath p) fault → f fault ≡ g (fault_by p fault)) → (o : Option faults_of.Fault) → Each (OnFault (HasOwnPath p)) o → holds f o ≡ holds g (option_map (fault_by p) o)
   fault-by f g same None h = refl
   fault-by f g same (Some fault) h = same fault h
 
   both-by : (a b c d : Bool) → a ≡ c → b ≡ d → (a && b) ≡ (c && d)
   both-by a b c d e f = λ i. e i && f i
 
-  thread_plays-by : (part : Part) (t : threads_of.Thread) → OnNamed (IsApart p) (bodies.Thread t) → thread_plays part t ≡ played p part (Some (thread_by p t))
+  thread_plays-by : (part : Part) (t : threads_of.Thread) → OnNamed (HasOwnPath p) (bodies.Thread t) → thread_plays part t ≡ played p part (Some (thread_by p t))
   thread_plays-by (Client server) t h = talk-by _ (λ talk. serves (place p server) talk.peer) (λ talk on. thread-by server talk.peer on.1) t.talk h.0
   thread_plays-by (Faulter taker) t h = fault-by _ (λ fault. holds (serves (place p taker)) fault.taker) (λ fault on. taker-by taker fault.taker on.1) t.fault h.1
   thread_plays-by (Guest port) t h = talk-by _ (λ talk. leads_to (place p port) talk.port && searches.is_service talk.peer) (λ talk on. both-by _ _ _ _ (led port talk.port on.0) (service-by talk.peer)) t.talk h.0
   thread_plays-by (Parked port) t h = talk-by _ (λ talk. leads_to (place p port) talk.port && links.is_parked (Some talk.peer)) (λ talk on. both-by _ _ _ _ (led port talk.port on.0) (parked-by talk.peer)) t.talk h.0
 
-  pub plays-by : (part : Part) (b : bodies_of.Body) → OnNamed (IsApart p) b → plays part b ≡ played p part (thread_of (body_by p b))
+  pub plays-by : (part : Part) (b : bodies_of.Body) → OnNamed (HasOwnPath p) b → plays part b ≡ played p part (thread_of (body_by p b))
   plays-by part (bodies.Mutex locked) h = sym (nobody p part)
   plays-by part bodies.Cond h = sym (nobody p part)
   plays-by part (bodies.Mapping first count offset write region) h = sym (nobody p part)

@@ -7,9 +7,9 @@ use Rattle.fk_model.specs.Places.{Path, leads_to}
 use Rattle.fk_model.specs.Places.Ptr.{At}
 use Rattle.fk_model.specs.Objects as objects_of
 use Rattle.fk_model.specs.Objects.Peer.{Server, Service}
-use Rattle.fk_model.specs.Objects.{Peer, Talk, Fault, Thread, Body, thread_of, and_then, holds}
+use Rattle.fk_model.specs.Objects.{Peer, Talk, Fault, Thread, Body, thread_of, and_then, holds, flag_of}
 use Rattle.fk_model.specs.Searches.{depth, objects, talk_at, fault_at, is_service}
-use Rattle.fk_model.specs.Valid.{IsConsistent, kind_there, flag_of, HasService}
+use Rattle.fk_model.specs.Valid.{IsConsistent, kind_there, HasService}
 use Rattle.fk_model.specs.World.{World, serves}
 use Rattle.fk_model.proofs.walks.Members.{IsIn, find_some, find_none}
 use Rattle.fk_model.proofs.walks.WalkLaws.{walked}
@@ -17,11 +17,11 @@ use Rattle.fk_model.proofs.walks.PlaceLaws.{leads_to_at}
 use Rattle.std.proofs.lemmas.Bool.{and_parts}
 use Rattle.fk_store.specs.declared.parts.Part.{Part}
 use Rattle.fk_store.specs.Contents.{Contents}
-use Rattle.fk_store.specs.Paths.{path, place, IsApart}
+use Rattle.fk_store.specs.Paths.{path, place, HasOwnPath}
 use Rattle.fk_store.specs.Bodies.{body_by}
 use Rattle.fk_store.specs.Named.{Each}
 use Rattle.fk_store.specs.World.{world, IsLive}
-use Rattle.fk_store.specs.Kept.{is_there, IsKept}
+use Rattle.fk_store.specs.WellFormed.{is_there, IsWellFormed}
 use Rattle.fk_store.specs.Parts.{plays, played, played_at}
 use Rattle.fk_store.proofs.NamedLaws.{OnNamed-map}
 use Rattle.fk_store.proofs.Walks.{place-apart}
@@ -31,7 +31,7 @@ use Rattle.fk_store.proofs.Born.{above, rooted, short}
 use Rattle.fk_store.proofs.Enumerated.{named-object}
 use Rattle.fk_store.proofs.PartLaws.{nobody, plays-by}
 
-module _ (m : Contents) (kept : IsKept m) (part : Part) where
+module _ (m : Contents) (kept : IsWellFormed m) (part : Part) where
   -- what stands at a path plays the part
   abbrev at_path : Path → Bool
   at_path x = played_at m part x
@@ -42,7 +42,7 @@ module _ (m : Contents) (kept : IsKept m) (part : Part) where
   plays-at : (who : Who) (b : bodies_of.Body) → get m.bodies who ≡ Some b → at_path (place (path m) who) ≡ plays part b
   plays-at who b e =
       ap (λ o. played (path m) part (and_then thread_of o)) (there who b e)
-      ∙ sym (plays-by (path m) part b (OnNamed-map (λ q. is_there m q ≡ true) (IsApart (path m)) (λ q h. place-apart m kept q (kept.housed q h)) b (kept.leads who b e)))
+      ∙ sym (plays-by (path m) part b (OnNamed-map (λ q. is_there m q ≡ true) (HasOwnPath (path m)) (λ q h. place-apart m kept q (kept.housed q h)) b (kept.leads who b e)))
 
   -- an object of the world that plays it has a name
   named_player : (x : Path) → at_path x ≡ true → (who : Who) × (b : bodies_of.Body) × (place (path m) who ≡ x) × (get m.bodies who ≡ Some b) × (plays part b ≡ true)

@@ -58,15 +58,15 @@ region-none w s page i past low before = let end : i ≡ 256 = omega arith in sy
 
 -- ---- a walk of at most 16 mappings
 
-pub reach-begin : (w : World) (s : Path) (page : ℕ) (write : Bool) → definition.reach_by 16 w s page write ≡ definition.reach w s page write
+pub reach-begin : (w : World) (s : Path) (page : ℕ) (write : Bool) → definition.reach_within 16 w s page write ≡ definition.reach w s page write
 unfolding definition.reach
 reach-begin w s page write = refl
 
 -- a hop on is one mapping less to follow
-pub reach-on : (w : World) (s : Path) (page : ℕ) (write : Bool) (next : definition.Reach) (k : ℕ) → ((n : ℕ) → definition.reach_by (suc n) w s page write ≡ next) → k < 16 → definition.reach_by (16 - k) w s page write ≡ next
-reach-on w s page write next k more low = let left : 16 - k ≡ suc (16 - (k + 1)) = omega arith in ap (λ n. definition.reach_by n w s page write) left ∙ more (16 - (k + 1))
+pub reach-on : (w : World) (s : Path) (page : ℕ) (write : Bool) (next : definition.Reach) (k : ℕ) → ((n : ℕ) → definition.reach_within (suc n) w s page write ≡ next) → k < 16 → definition.reach_within (16 - k) w s page write ≡ next
+reach-on w s page write next k more low = let left : 16 - k ≡ suc (16 - (k + 1)) = omega arith in ap (λ n. definition.reach_within n w s page write) left ∙ more (16 - (k + 1))
 
-pub reach-end : (w : World) (s : Path) (page : ℕ) (write : Bool) (k : ℕ) → 16 ≤ k → definition.reach_by (16 - k) w s page write ≡ definition.reach_by zero w s page write
-reach-end w s page write k past = let none : 16 - k ≡ 0 = omega arith in ap (λ n. definition.reach_by n w s page write) none
+pub reach-end : (w : World) (s : Path) (page : ℕ) (write : Bool) (k : ℕ) → 16 ≤ k → definition.reach_within (16 - k) w s page write ≡ definition.reach_within zero w s page write
+reach-end w s page write k past = let none : 16 - k ≡ 0 = omega arith in ap (λ n. definition.reach_within n w s page write) none
 
 pub ruleset hops = (reach-begin, reach-on, reach-end)

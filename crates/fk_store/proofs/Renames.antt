@@ -10,13 +10,13 @@ use Rattle.fk_model.specs.World.Change.{Move}
 use Rattle.fk_model.specs.Valid.{kind_there}
 use Rattle.fk_store.specs.declared.sweeps.Sweep.{Sweep}
 use Rattle.fk_store.specs.Names.{at, same_who, who_cmp}
-use Rattle.fk_store.specs.Contents.{Contents, birth_of, birth_there, is_number, home, is_live}
+use Rattle.fk_store.specs.Contents.{Contents, stored_birth, birth_there, is_number, home, is_live}
 use Rattle.fk_store.specs.Paths.{place, path, space_at}
 use Rattle.fk_store.specs.Bodies.{body_by}
 use Rattle.fk_store.specs.Named.{OnNamed}
 use Rattle.fk_store.specs.World.{world, body_at, page_at, IsLive}
 use Rattle.fk_store.specs.Sweeps.{body_after}
-use Rattle.fk_store.specs.Kept.{is_there, IsSized, IsKept}
+use Rattle.fk_store.specs.WellFormed.{is_there, IsSized, IsWellFormed}
 use Rattle.fk_store.proofs.NameLaws.{same_who_refl, same_who_eq, same_who_back}
 use Rattle.fk_store.proofs.NamedLaws.{body_by-named}
 use Rattle.fk_store.proofs.Homes.{home-found, home-none, number_is, is_the_number}
@@ -37,7 +37,7 @@ pub bodies-renamed : (old swept new : FinMap who_cmp bodies_of.Body) (who : Who)
     (cond (same_who q who) None (option_map (body_after (record { from = who; to = Some (at who.space slot) }) q.space) (get old q)))
 bodies-renamed old swept new who slot sweeps renames q = rw (renames q, sweeps who, sweeps q) refl
 
-module _ (m : Contents) (kept : IsKept m) (who : Who) (there : is_there m who ≡ true) (empty : (k : ℕ) → (world m).body (k ∷ place (path m) who) ≡ None) (slot : ℕ) (low : slot < 256) (free : get m.bodies (at who.space slot) ≡ None) where
+module _ (m : Contents) (kept : IsWellFormed m) (who : Who) (there : is_there m who ≡ true) (empty : (k : ℕ) → (world m).body (k ∷ place (path m) who) ≡ None) (slot : ℕ) (low : slot < 256) (free : get m.bodies (at who.space slot) ≡ None) where
   abbrev target : Who
   target = at who.space slot
 
@@ -63,14 +63,14 @@ module _ (m : Contents) (kept : IsKept m) (who : Who) (there : is_there m who �
     abbrev pub renamed : Contents
     renamed = record { bodies = bodies2; pages = m.pages; next = m.next }
 
-    birth_swept : (space : ℕ) (o : Option bodies_of.Body) → and_then birth_of (option_map (body_after moving space) o) ≡ and_then birth_of o
+    birth_swept : (space : ℕ) (o : Option bodies_of.Body) → and_then stored_birth (option_map (body_after moving space) o) ≡ and_then stored_birth o
     birth_swept space None = refl
     birth_swept space (Some b) = birth-after moving space b
 
     births : (q : Who) → birth_there renamed q ≡ cond (same_who q target) (birth_there m who) (cond (same_who q who) None (birth_there m q))
     births q = rw (bodies q) (by (same_who q target) (same_who q who))
       where
-        by : (t u : Bool) → and_then birth_of (cond t (option_map (body_after moving who.space) (get m.bodies who)) (cond u None (option_map (body_after moving q.space) (get m.bodies q)))) ≡ cond t (birth_there m who) (cond u None (birth_there m q))
+        by : (t u : Bool) → and_then stored_birth (cond t (option_map (body_after moving who.space) (get m.bodies who)) (cond u None (option_map (body_after moving q.space) (get m.bodies q)))) ≡ cond t (birth_there m who) (cond u None (birth_there m q))
         by true u = birth_swept who.space (get m.bodies who)
         by false true = refl
         by false false = birth_swept q.space (get m.bodies q)
@@ -124,7 +124,7 @@ module _ (m : Contents) (kept : IsKept m) (who : Who) (there : is_there m who �
         by : (t : Bool) → same_who q target ≡ t → (u : Bool) → u ≡ false → cond t (birth_there m who) (cond u None (birth_there m q)) ≡ Some n
         by true f u e =
             let same : q ≡ target = same_who_eq q target f in
-            let none : birth_there m q ≡ None = subst (λ w. birth_there m w ≡ None) (sym same) (ap (and_then birth_of) free) in
+            let none : birth_there m q ≡ None = subst (λ w. birth_there m w ≡ None) (sym same) (ap (and_then stored_birth) free) in
             absurd (cc)
         by false f true e = absurd (cc)
         by false f false e = h
@@ -198,7 +198,7 @@ module _ (m : Contents) (kept : IsKept m) (who : Who) (there : is_there m who �
         by false true is = absurd (cc)
         by false false is = swept q (get m.bodies q) refl is
 
-    pub kept-renamed : IsKept renamed
+    pub kept-renamed : IsWellFormed renamed
     kept-renamed = record {
       begun = kept.begun;
       alone = λ q n h. elim (births_from q n h) [
@@ -249,7 +249,7 @@ module _ (m : Contents) (kept : IsKept m) (who : Who) (there : is_there m who �
     -- nothing stood in the other slot
     none_target : space_at m y ≡ None
     unfolding space_at
-    none_target = ap (and_then (λ n. birth_there m (at n slot))) (space_at-path m kept who.space (kept.housed who there)) ∙ ap (and_then birth_of) free
+    none_target = ap (and_then (λ n. birth_there m (at n slot))) (space_at-path m kept who.space (kept.housed who there)) ∙ ap (and_then stored_birth) free
 
     -- a path in the space isn't the space's
     inside_apart : (k : ℕ) (s : Path) → same_path s (k ∷ path m who.space) ≡ true → same_path s (path m who.space) ≡ false
@@ -278,7 +278,7 @@ module _ (m : Contents) (kept : IsKept m) (who : Who) (there : is_there m who �
         by : (t : Bool) → same_path s y ≡ t → (u : Bool) → same_path s x ≡ u → and_then (λ n. birth_there renamed (at n k)) (cond t (birth_there m who) (cond u None (space_at m s))) ≡ births_after k (same_path s (path m who.space)) (space_at m s)
         by true e u f =
             let none : space_at m s ≡ None = ap (space_at m) (same_path_true s y e) ∙ none_target in
-            rw (inside_none birth_of (birth_there m who) refl k, inside_apart slot s e, none, false_right (k == slot), false_right (k == who.slot)) refl
+            rw (inside_none stored_birth (birth_there m who) refl k, inside_apart slot s e, none, false_right (k == slot), false_right (k == who.slot)) refl
         by false e true f =
             let here : space_at m s ≡ birth_there m who = ap (space_at m) (same_path_true s x f) ∙ own m kept who there in
             rw (inside_apart who.slot s f, here, inner m kept who there empty (birth_there m who) refl k, false_right (k == slot), false_right (k == who.slot)) refl

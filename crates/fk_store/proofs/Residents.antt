@@ -11,12 +11,12 @@ use Rattle.fk_model.specs.Searches.{lowest, first_resident, has_residents}
 use Rattle.fk_model.specs.World.{World}
 use Rattle.fk_model.proofs.walks.Lowest.{lowest_none}
 use Rattle.fk_model.proofs.walks.WalkLaws.{none_from}
-use Rattle.fk_store.specs.Contents.{Contents, birth_of, birth_there, is_live}
+use Rattle.fk_store.specs.Contents.{Contents, stored_birth, birth_there, is_live}
 use Rattle.fk_store.specs.Paths.{path, place, space_at}
 use Rattle.fk_store.specs.Names.{at}
 use Rattle.fk_store.specs.Bodies.{body_by}
 use Rattle.fk_store.specs.World.{world}
-use Rattle.fk_store.specs.Kept.{IsKept}
+use Rattle.fk_store.specs.WellFormed.{IsWellFormed}
 use Rattle.fk_store.proofs.Walks.{space_at-path, space_at-lost, path-home}
 use Rattle.fk_store.proofs.ReachLaws.{lowest-first}
 use Rattle.fk_store.proofs.Born.{rooted}
@@ -26,7 +26,7 @@ pub some_mapped : {A B : Type 0} (f : A → B) (o : Option A) → is_some (optio
 some_mapped f None = refl
 some_mapped f (Some a) = refl
 
-pub no_residents : (m : Contents) → IsKept m → (x : Path) → has_residents (world m) x ≡ false → (k : ℕ) → (world m).body (k ∷ x) ≡ None
+pub no_residents : (m : Contents) → IsWellFormed m → (x : Path) → has_residents (world m) x ≡ false → (k : ℕ) → (world m).body (k ∷ x) ≡ None
 no_residents m kept x none k = by ((world m).body (k ∷ x)) refl
   where
     below : k < SLOTS → (world m).body (k ∷ x) ≡ None
@@ -37,7 +37,7 @@ no_residents m kept x none k = by ((world m).body (k ∷ x)) refl
     by (Some b) e = below ((rooted m kept).slots k x (rw e refl))
 
 -- what nothing has at its path is under no name
-pub none_there : (m : Contents) → IsKept m → (who : Who) → (world m).body (place (path m) who) ≡ None → get m.bodies who ≡ None
+pub none_there : (m : Contents) → IsWellFormed m → (who : Who) → (world m).body (place (path m) who) ≡ None → get m.bodies who ≡ None
 none_there m kept who none = by (get m.bodies who) refl
   where
     by : (o : Option bodies_of.Body) → get m.bodies who ≡ o → o ≡ None
@@ -87,13 +87,13 @@ unfolding lowest
 lowest-nothing zero f none = refl
 lowest-nothing (suc n) f none = rw (lowest-nothing n f none, none n) refl
 
-module _ (m : Contents) (kept : IsKept m) (who : Who) where
+module _ (m : Contents) (kept : IsWellFormed m) (who : Who) where
   -- a walk down the path of an object finds its birth number
   space_at-place : space_at m (place (path m) who) ≡ birth_there m who
   unfolding space_at
   space_at-place = by (is_live m who.space) refl
     where
-      lost : (o : Option bodies_of.Body) → get m.bodies who ≡ o → is_live m who.space ≡ false → and_then birth_of o ≡ None
+      lost : (o : Option bodies_of.Body) → get m.bodies who ≡ o → is_live m who.space ≡ false → and_then stored_birth o ≡ None
       lost None e none = refl
       lost (Some b) e none = let live = kept.housed who (rw e refl) in absurd (cc)
 

@@ -9,15 +9,15 @@ use Rattle.fk_model.specs.declared.body.Body.TheVariants.{Mutex, Cond, Mapping, 
 use Rattle.fk_model.specs.Places.{Path, slot_of}
 use Rattle.fk_model.specs.Objects.{kind_of}
 use Rattle.fk_model.specs.Valid.{kind_there}
-use Rattle.fk_store.specs.Contents.{Contents, birth_of, birth_there, is_live}
+use Rattle.fk_store.specs.Contents.{Contents, stored_birth, birth_there, is_live}
 use Rattle.fk_store.specs.Paths.{place, path, space_at, IsAtHome}
 use Rattle.fk_store.specs.Bodies.{body_by}
 use Rattle.fk_store.specs.World.{world}
-use Rattle.fk_store.specs.Kept.{IsKept}
+use Rattle.fk_store.specs.WellFormed.{IsWellFormed}
 use Rattle.fk_store.proofs.Walks.{space_at-path, path-home, path-lost, live-home, there-birth}
 use Rattle.fk_store.proofs.LookUps.{body-place}
 
-no_birth : (p : ℕ → Path) (b : Body) → (kind_of (body_by p b) ≡ kinds.Space → ⊥) → birth_of b ≡ None
+no_birth : (p : ℕ → Path) (b : Body) → (kind_of (body_by p b) ≡ kinds.Space → ⊥) → stored_birth b ≡ None
 no_birth p (Mutex locked) h = refl
 no_birth p Cond h = refl
 no_birth p (Mapping first count offset write region) h = refl
@@ -28,7 +28,7 @@ no_birth p (Space birth holder) h = absurd (h refl)
 no_birth p (Thread thread) h = refl
 no_birth p (Reference to) h = refl
 
-some_birth : (p : ℕ → Path) (b : Body) → kind_of (body_by p b) ≡ kinds.Space → (n : ℕ) × (birth_of b ≡ Some n)
+some_birth : (p : ℕ → Path) (b : Body) → kind_of (body_by p b) ≡ kinds.Space → (n : ℕ) × (stored_birth b ≡ Some n)
 some_birth p (Mutex locked) h = absurd (cc)
 some_birth p Cond h = absurd (cc)
 some_birth p (Mapping first count offset write region) h = absurd (cc)
@@ -39,7 +39,7 @@ some_birth p (Space birth holder) h = (birth, refl)
 some_birth p (Thread thread) h = absurd (cc)
 some_birth p (Reference to) h = absurd (cc)
 
-module _ (m : Contents) (kept : IsKept m) (who : Who) where
+module _ (m : Contents) (kept : IsWellFormed m) (who : Who) where
   -- what has a kind is there
   pub kind-there : (k : Kind) → kind_there (world m) (place (path m) who) ≡ Some k → (old : Body) × (get m.bodies who ≡ Some old) × (kind_of (body_by (path m) old) ≡ k)
   unfolding kind_there
@@ -67,7 +67,7 @@ module _ (m : Contents) (kept : IsKept m) (who : Who) where
           let low = kept.slots who (there-birth m kept who q there) in
           absurd (omega arith)
 
-  pub same-birth : (old b : Body) → get m.bodies who ≡ Some old → kind_of (body_by (path m) old) ≡ kind_of (body_by (path m) b) → IsAtHome (path m) who b → birth_of b ≡ birth_of old
+  pub same-birth : (old b : Body) → get m.bodies who ≡ Some old → kind_of (body_by (path m) old) ≡ kind_of (body_by (path m) b) → IsAtHome (path m) who b → stored_birth b ≡ stored_birth old
   same-birth old (Mutex locked) there kind home = sym (no_birth (path m) old (λ e. absurd (cc)))
   same-birth old Cond there kind home = sym (no_birth (path m) old (λ e. absurd (cc)))
   same-birth old (Mapping first count offset write region) there kind home = sym (no_birth (path m) old (λ e. absurd (cc)))

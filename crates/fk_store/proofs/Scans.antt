@@ -9,7 +9,7 @@ use Rattle.fk_store.specs.Names.{who_cmp, rank}
 use Rattle.fk_store.specs.Orders.{comes_after, IsFirstAfter}
 use Rattle.fk_store.specs.Contents.{Contents}
 use Rattle.fk_store.specs.World.{world}
-use Rattle.fk_store.specs.Kept.{is_there, IsKept}
+use Rattle.fk_store.specs.WellFormed.{is_there, IsWellFormed}
 use Rattle.fk_store.proofs.Makes.{live-born}
 use Rattle.fk_store.proofs.NameLaws.{who_exact}
 
@@ -28,7 +28,7 @@ module _ (P : Who → Type 0) (k : Option Who) (who : Who) (first : IsFirstAfter
       by true e = subst Q (same (who_cmp who other) refl (first.2 other there e) past) here
 
 -- a scan goes on, and comes to its end
-module _ (m : Contents) (kept : IsKept m) (k next : Option Who) (first : IsFirstAfter who_cmp (λ q. is_there m q ≡ true) k next) where
+module _ (m : Contents) (kept : IsWellFormed m) (k next : Option Who) (first : IsFirstAfter who_cmp (λ q. is_there m q ≡ true) k next) where
   pub rank-rises : IfSome next (λ q. rank k < rank (Some q))
   rank-rises = by next first
     where

@@ -11,12 +11,12 @@ use Rattle.fk_model.specs.World.{Edit, edited, apply}
 use Rattle.fk_model.specs.World.Change.{Make, Alter}
 use Rattle.fk_model.specs.Valid.{kind_there}
 use Rattle.fk_store.specs.Names.{at, who_cmp}
-use Rattle.fk_store.specs.Contents.{Contents, birth_of, birth_there, home, is_live}
+use Rattle.fk_store.specs.Contents.{Contents, stored_birth, birth_there, home, is_live}
 use Rattle.fk_store.specs.Paths.{place, from_home, path_by, path, space_at, IsAtHome}
 use Rattle.fk_store.specs.Bodies.{body_by}
 use Rattle.fk_store.specs.World.{world, body_at, IsLive}
 use Rattle.fk_store.specs.Named.{OnNamed}
-use Rattle.fk_store.specs.Kept.{is_there, IsSized, IsKept}
+use Rattle.fk_store.specs.WellFormed.{is_there, IsSized, IsWellFormed}
 use Rattle.fk_store.proofs.NameLaws.{who_total, who_tied}
 use Rattle.fk_store.proofs.NamedLaws.{OnNamed-map}
 use Rattle.fk_store.proofs.Changes.{make-alter, kinds-make}
@@ -34,7 +34,7 @@ false_right true = refl
 false_right false = refl
 
 -- where the births of all spaces stay, so do their homes and paths
-module _ (m : Contents) (kept : IsKept m) (m2 : Contents) (births : (who : Who) → birth_there m2 who ≡ birth_there m who) where
+module _ (m : Contents) (kept : IsWellFormed m) (m2 : Contents) (births : (who : Who) → birth_there m2 who ≡ birth_there m who) where
   pub home-births : (n : ℕ) → home m2 n ≡ home m n
   home-births n = by (home m2 n) refl (home m n) refl
     where
@@ -69,7 +69,7 @@ chosen_mapped : {A B : Type 0} (t : Bool) (f : A → B) (a : A) (o : Option A) �
 chosen_mapped true f a o = refl
 chosen_mapped false f a o = refl
 
-module _ (m : Contents) (kept : IsKept m) (who : Who) (live : is_live m who.space ≡ true) where
+module _ (m : Contents) (kept : IsWellFormed m) (who : Who) (live : is_live m who.space ≡ true) where
   -- where a walk down finds no space, there isn't that of the name
   pub lost_apart : (s : Path) → space_at m s ≡ None → same_path s (path m who.space) ≡ false
   lost_apart s none = by (same_path s (path m who.space)) refl
@@ -91,11 +91,11 @@ module _ (m : Contents) (kept : IsKept m) (who : Who) (live : is_live m who.spac
       by (Some n) here = rw (get-insert who_total m.bodies who b (at n j), tied n j who, same_space m kept s n who.space here) (chosen_mapped (j == who.slot && n == who.space) f b (get m.bodies (at n j)))
 
 -- an object is given another body of the same birth number, if any
-module _ (m : Contents) (kept : IsKept m) (who : Who) (old b : bodies_of.Body) (there : get m.bodies who ≡ Some old) (same : birth_of b ≡ birth_of old) where
+module _ (m : Contents) (kept : IsWellFormed m) (who : Who) (old b : bodies_of.Body) (there : get m.bodies who ≡ Some old) (same : stored_birth b ≡ stored_birth old) where
   put_births : (q : Who) → birth_there (with_body m who b) q ≡ birth_there m q
   put_births q = rw (get-insert who_total m.bodies who b q) (by (eq_by_cmp who_cmp q who) refl)
     where
-      by : (t : Bool) → eq_by_cmp who_cmp q who ≡ t → and_then birth_of (cond t (Some b) (get m.bodies q)) ≡ birth_there m q
+      by : (t : Bool) → eq_by_cmp who_cmp q who ≡ t → and_then stored_birth (cond t (Some b) (get m.bodies q)) ≡ birth_there m q
       by false e = refl
       by true e = let here : q ≡ who = who_tied q who e in rw (here, there) same
 
@@ -135,7 +135,7 @@ module _ (m : Contents) (kept : IsKept m) (who : Who) (old b : bodies_of.Body) (
       by true e = let same : b ≡ c = cc in subst IsSized same sized
       by false e = kept.sized q c e
 
-  pub kept-set : OnNamed (λ q. is_there m q ≡ true) b → IsSized b → IsKept (with_body m who b)
+  pub kept-set : OnNamed (λ q. is_there m q ≡ true) b → IsSized b → IsWellFormed (with_body m who b)
   kept-set named sized = record {
     begun = kept.begun;
     alone = λ q n h. home-births m kept (with_body m who b) put_births n ∙ kept.alone q n (sym (put_births q) ∙ h);
@@ -149,7 +149,7 @@ module _ (m : Contents) (kept : IsKept m) (who : Who) (old b : bodies_of.Body) (
   }
 
 -- what a set of a body of the same kind leaves
-module _ (m : Contents) (kept : IsKept m) (who : Who) (b : bodies_of.Body) (kind : kind_there (world m) (place (path m) who) ≡ Some (kind_of (body_by (path m) b))) (home : IsAtHome (path m) who b) where
+module _ (m : Contents) (kept : IsWellFormed m) (who : Who) (b : bodies_of.Body) (kind : kind_there (world m) (place (path m) who) ≡ Some (kind_of (body_by (path m) b))) (home : IsAtHome (path m) who b) where
   pub set-there : is_there m who ≡ true
   set-there = ap is_some (kind-there m kept who _ kind).1
 
@@ -160,11 +160,11 @@ module _ (m : Contents) (kept : IsKept m) (who : Who) (b : bodies_of.Body) (kind
   unfolding old_body
   old_there = (kind-there m kept who _ kind).1
 
-  keeps_birth : birth_of b ≡ birth_of old_body
+  keeps_birth : stored_birth b ≡ stored_birth old_body
   unfolding old_body
   keeps_birth = same-birth m kept who old_body b old_there (kind-there m kept who _ kind).2 home
 
-  pub set-kept : OnNamed (IsLive m) b → IsSized b → IsKept (with_body m who b)
+  pub set-kept : OnNamed (IsLive m) b → IsSized b → IsWellFormed (with_body m who b)
   set-kept named sized = kept-set m kept who old_body b old_there keeps_birth (OnNamed-map (IsLive m) (λ q. is_there m q ≡ true) (IsLive-there m kept) b named) sized
 
   pub set-world : world (with_body m who b) ≡ apply (Make (place (path m) who) (body_by (path m) b)) (world m)

@@ -19,8 +19,9 @@ use Rattle.fk_model.specs.declared.statuses.status.TheConstants.{OK}
 use Rattle.fk_model.specs.Valid.{kind_there}
 use Rattle.fk_model.proofs.calls.CallLaws.{todo_writes_back_lem}
 use Rattle.fk_store.specs.Bodies.{mode_by, thread_by}
-use Rattle.fk_store.specs.Threads.{thread_at, todo_of_mode, todo_of_thread, todo_at}
+use Rattle.fk_store.specs.Threads.{todo_of_mode, todo_of_thread, todo_at}
 use Rattle.fk_store.proofs.Walks.{same_path_true}
+use Rattle.fk_model.specs.Searches.{thread_at}
 
 -- what is a thread has its kind
 pub kind_thread : (w : World) (x : Path) (t : Thread) → thread_at w x ≡ Some t → kind_there w x ≡ Some kinds.Thread

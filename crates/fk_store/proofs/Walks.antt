@@ -7,10 +7,10 @@ use Rattle.fk_model.specs.declared.body.Body.{Body}
 use Rattle.fk_model.specs.Places.{Path, same_path}
 use Rattle.fk_model.specs.Objects.{and_then}
 use Rattle.fk_store.specs.Names.{at, same_who}
-use Rattle.fk_store.specs.Contents.{Contents, birth_of, birth_there, home, is_live}
+use Rattle.fk_store.specs.Contents.{Contents, stored_birth, birth_there, home, is_live}
 use Rattle.fk_model.specs.Who.{nowhere}
-use Rattle.fk_store.specs.Paths.{place, from_home, path_by, path, space_at, IsApart}
-use Rattle.fk_store.specs.Kept.{is_there, IsKept}
+use Rattle.fk_store.specs.Paths.{place, from_home, path_by, path, space_at, HasOwnPath}
+use Rattle.fk_store.specs.WellFormed.{is_there, IsWellFormed}
 use Rattle.fk_store.proofs.Homes.{home-found}
 
 pub same_path_refl : (x : Path) → same_path x x ≡ true
@@ -45,7 +45,7 @@ pub path-root : (m : Contents) → path m 0 ≡ []
 unfolding path path_by
 path-root m = refl
 
-module _ (m : Contents) (kept : IsKept m) where
+module _ (m : Contents) (kept : IsWellFormed m) where
   pub younger : (n : ℕ) (who : Who) → home m n ≡ Some who → who.space < n
   younger n who h = kept.younger who n (home-found m n who h)
 
@@ -92,7 +92,7 @@ module _ (m : Contents) (kept : IsKept m) where
   pub there-birth : (who : Who) (n : ℕ) → birth_there m who ≡ Some n → is_there m who ≡ true
   there-birth who n = by (get m.bodies who)
     where
-      by : (b : Option Body) → and_then birth_of b ≡ Some n → is_some b ≡ true
+      by : (b : Option Body) → and_then stored_birth b ≡ Some n → is_some b ≡ true
       by None h = absurd (cc)
       by (Some b) h = refl
 
@@ -182,7 +182,7 @@ same_path_back x y = by (same_path x y) refl (same_path y x) refl
     by false e true f = let same = same_path_true y x f in let no : same_path x x ≡ false = subst (λ t. same_path x t ≡ false) same e in let yes = same_path_refl x in absurd (cc)
 
 -- an object of a live space has a path of its own
-pub place-apart : (m : Contents) → IsKept m → (who : Who) → is_live m who.space ≡ true → IsApart (path m) who
+pub place-apart : (m : Contents) → IsWellFormed m → (who : Who) → is_live m who.space ≡ true → HasOwnPath (path m) who
 unfolding same_path
 place-apart m kept who live other = (there, same_path_back (place (path m) who) (place (path m) other) ∙ there ∙ turned)
   where

@@ -13,18 +13,18 @@ use Rattle.fk_model.specs.Places as places
 use Rattle.fk_model.specs.Places.{Path}
 use Rattle.fk_model.specs.Objects as objects
 use Rattle.fk_model.specs.Objects.{and_then}
-use Rattle.fk_model.specs.World.{through, without, serves, talk_without, taker_without, fault_without}
+use Rattle.fk_model.specs.World.{through, death_sweep, serves, talk_without, taker_without, fault_without}
 use Rattle.fk_store.specs.declared.sweeps.Sweep.{Sweep}
 use Rattle.fk_store.specs.Names.{at, same_who}
-use Rattle.fk_store.specs.Paths.{place, IsApart}
+use Rattle.fk_store.specs.Paths.{place, HasOwnPath}
 use Rattle.fk_store.specs.Bodies.{pointer_by, peer_by, talk_by, fault_by, thread_by, body_by}
 use Rattle.fk_store.specs.Sweeps.{after, or_dead, pointer_after, peer_after, talk_after, fault_after, set_after, body_after}
 
-module _ (p : ℕ → Path) (from : Who) (apart : IsApart p from) where
+module _ (p : ℕ → Path) (from : Who) (apart : HasOwnPath p from) where
   abbrev gone : Sweep
   gone = record { from = from; to = None }
 
-  pointer-without : (to : Ptr) → pointer_by p (pointer_after gone to) ≡ (without (place p from)).pointer (pointer_by p to)
+  pointer-without : (to : Ptr) → pointer_by p (pointer_after gone to) ≡ (death_sweep (place p from)).pointer (pointer_by p to)
   pointer-without Null = refl
   pointer-without Dead = refl
   pointer-without (At who) = rw ((apart who).0) (by (same_who who from))
@@ -33,7 +33,7 @@ module _ (p : ℕ → Path) (from : Who) (apart : IsApart p from) where
       by true = refl
       by false = refl
 
-  holder-without : (o : Option Who) → option_map (λ who. places.Ptr.At (place p who)) (and_then (after gone) o) ≡ and_then (without (place p from)).holder (option_map (λ who. places.Ptr.At (place p who)) o)
+  holder-without : (o : Option Who) → option_map (λ who. places.Ptr.At (place p who)) (and_then (after gone) o) ≡ and_then (death_sweep (place p from)).holder (option_map (λ who. places.Ptr.At (place p who)) o)
   holder-without None = refl
   holder-without (Some who) = rw ((apart who).0) (by (same_who who from))
     where
@@ -74,7 +74,7 @@ module _ (p : ℕ → Path) (from : Who) (apart : IsApart p from) where
       by true = refl
       by false = ap (λ taker. Some (record (fault_by p fault) { taker = taker })) (taker-without fault.taker)
 
-  set-without : (space : ℕ) (slot : ℕ) (o : Option ℕ) → and_then (set_after gone space) o ≡ and_then ((without (place p from)).set (slot ∷ p space)) o
+  set-without : (space : ℕ) (slot : ℕ) (o : Option ℕ) → and_then (set_after gone space) o ≡ and_then ((death_sweep (place p from)).set (slot ∷ p space)) o
   set-without space slot None = refl
   set-without space slot (Some set) = rw ((apart (at space set)).0) (by (same_who (at space set) from))
     where
@@ -86,7 +86,7 @@ module _ (p : ℕ → Path) (from : Who) (apart : IsApart p from) where
   and_then-mapped f g h same None = refl
   and_then-mapped f g h same (Some a) = same a
 
-  pub body-without : (who : Who) (b : Body) → body_by p (body_after gone who.space b) ≡ through (without (place p from)) (place p who) (body_by p b)
+  pub body-without : (who : Who) (b : Body) → body_by p (body_after gone who.space b) ≡ through (death_sweep (place p from)) (place p who) (body_by p b)
   body-without who (Mutex locked) = refl
   body-without who Cond = refl
   body-without who (Mapping first count offset write region) = ap (λ to. objects.Body.Mapping (record { first = first; count = count; offset = offset; write = write; region = to })) (pointer-without region)

@@ -29,7 +29,7 @@ use Rattle.fk_store.specs.Named.{Each, OnPointer, OnNamed}
 use Rattle.fk_store.specs.Reaches.{reach_by, keeper_by, covering_region}
 use Rattle.fk_store.specs.World.{world, IsLive}
 use Rattle.fk_store.specs.Words.{IsReached}
-use Rattle.fk_store.specs.Kept.{is_there, IsKept}
+use Rattle.fk_store.specs.WellFormed.{is_there, IsWellFormed}
 use Rattle.fk_store.proofs.LookUps.{page-path, there-IsLive, live-IsSpace}
 
 -- ---- what a walk ends at
@@ -57,8 +57,8 @@ unfolding Ends
 followed_or w go None all = tt
 followed_or w go (Some place) all = all place.0 place.1
 
-reach_by-ends : (n : ℕ) (w : World) (s : Path) (page : ℕ) (write : Bool) → Ends w (definition.reach_by n w s page write)
-unfolding definition.reach_by Ends
+reach_by-ends : (n : ℕ) (w : World) (s : Path) (page : ℕ) (write : Bool) → Ends w (definition.reach_within n w s page write)
+unfolding definition.reach_within Ends
 reach_by-ends zero w s page write = home_or w s page _ (mapped_or w _ _ (mapping_at w s page) (λ m. tt) refl)
 reach_by-ends (suc n) w s page write = home_or w s page _ (mapped_or w _ _ (mapping_at w s page) (λ m. followed_or w _ (led_by w m page write m.region) (λ t other. reach_by-ends n w t other write)) refl)
 
@@ -68,7 +68,7 @@ reach-ends w s page write = reach_by-ends MAPPINGS w s page write
 
 -- a page that is there answers
 pub reach_home : (w : World) (s : Path) (page : ℕ) (write : Bool) (words : List ℕ) → Some words ≡ w.page s page → definition.reach w s page write ≡ Home s page
-unfolding definition.reach definition.reach_by
+unfolding definition.reach definition.reach_within
 reach_home w s page write words there = ap (at_home (Home s page) _) (sym there)
 
 pub reach_there : (w : World) (s : Path) (page : ℕ) (write : Bool) → is_some (w.page s page) ≡ true → definition.reach w s page write ≡ Home s page
@@ -80,7 +80,7 @@ reach_there w s page write some = by (w.page s page) refl some
 
 -- ---- a region's keeper is there
 
-module _ (m : Contents) (kept : IsKept m) where
+module _ (m : Contents) (kept : IsWellFormed m) where
   -- a pointer of a region leads to what is there
   region-live : (b : bodies_of.Body) → OnNamed (λ other. is_there m other ≡ true) b → (r : Extent) → region_of (body_by (path m) b) ≡ Some r → (x : Path) → live_keeper r.keeper ≡ Some (At x) → IsSome (kind_there (world m) x)
   region-live (bodies.Mutex locked) on r is x leads = absurd (cc)

@@ -21,12 +21,12 @@ use Rattle.fk_model.specs.Objects.Body.{Mutex, Cond, Mapping, Region, Port, Port
 use Rattle.fk_store.specs.Paths.{place}
 
 -- the stages that a calling thread has before it, and what else stands in its registers
-abbrev pub calling : List ℕ → Mode
-calling g = let todo = unwrap_or (todo_of g) [] in Calling todo (rest_of todo g)
+abbrev pub calling_mode : List ℕ → Mode
+calling_mode g = let todo = unwrap_or (todo_of g) [] in Calling todo (rest_of todo g)
 
 abbrev pub mode_by : StoredMode → List ℕ → Mode
 mode_by modes.Running g = Running g
-mode_by modes.Calling g = calling g
+mode_by modes.Calling g = calling_mode g
 mode_by (modes.Halted code) g = Halted g code
 mode_by modes.Native g = Native g
 

@@ -20,20 +20,20 @@ coded_contents = code_by (FinMap who_cmp Body × (FinMap page_cmp (List ℕ) × 
     (λ m. (m.bodies, (m.pages, m.next))) (λ p. record { bodies = p.0; pages = p.1.0; next = p.1.1 }) (λ _. refl)
 
 -- the birth number of a space
-abbrev pub birth_of : Body → Option ℕ
-birth_of (Mutex locked) = None
-birth_of Cond = None
-birth_of (Mapping first count offset write region) = None
-birth_of (Region first count write keeper) = None
-birth_of (Port set served) = None
-birth_of Portset = None
-birth_of (Space birth holder) = Some birth
-birth_of (Thread thread) = None
-birth_of (Reference to) = None
+abbrev pub stored_birth : Body → Option ℕ
+stored_birth (Mutex locked) = None
+stored_birth Cond = None
+stored_birth (Mapping first count offset write region) = None
+stored_birth (Region first count write keeper) = None
+stored_birth (Port set served) = None
+stored_birth Portset = None
+stored_birth (Space birth holder) = Some birth
+stored_birth (Thread thread) = None
+stored_birth (Reference to) = None
 
 -- the birth number of the space that stands there
 abbrev pub birth_there : Contents → Who → Option ℕ
-birth_there m who = and_then birth_of (get m.bodies who)
+birth_there m who = and_then stored_birth (get m.bodies who)
 
 abbrev pub is_number : ℕ → Option ℕ → Bool
 is_number n None = false
@@ -41,7 +41,7 @@ is_number n (Some b) = b == n
 
 -- where the space with a birth number stands; nowhere that of the root, and of a space that isn't live
 unfoldable pub home_in : FinMap who_cmp Body → ℕ → Option Who
-home_in bodies n = option_map (λ e. e.0) (find (λ e. is_number n (birth_of e.1)) (entries bodies))
+home_in bodies n = option_map (λ e. e.0) (find (λ e. is_number n (stored_birth e.1)) (entries bodies))
 
 abbrev pub home : Contents → ℕ → Option Who
 home m n = home_in m.bodies n

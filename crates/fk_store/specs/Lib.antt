@@ -9,7 +9,7 @@ pub mod Paths
 pub mod Bodies
 pub mod World
 pub mod Named
-pub mod Kept
+pub mod WellFormed
 pub mod Makes
 pub mod Edits
 pub mod Sweeps

@@ -19,8 +19,8 @@ use Rattle.fk_store.specs.declared.parts.Part.TheVariants.{Client, Faulter, Gues
 use Rattle.fk_store.specs.Contents.{Contents}
 use Rattle.fk_store.specs.Names.{same_who}
 use Rattle.fk_store.specs.Paths.{path, place}
-use Rattle.fk_store.specs.Threads.{thread_at}
 use Rattle.fk_store.specs.World.{world}
+use Rattle.fk_model.specs.Searches.{thread_at}
 
 abbrev pub is_thread : Who → Peer → Bool
 is_thread who (peers.Thread other) = same_who other who

@@ -44,5 +44,5 @@ IsAtHome path who (Thread thread) = Unit {0}
 IsAtHome path who (Reference to) = Unit {0}
 
 -- no other object has its path
-abbrev pub IsApart : (ℕ → Path) → Who → Type 0
-IsApart path who = (other : Who) → (same_path (place path other) (place path who) ≡ same_who other who) × (same_path (place path who) (place path other) ≡ same_who who other)
+abbrev pub HasOwnPath : (ℕ → Path) → Who → Type 0
+HasOwnPath path who = (other : Who) → (same_path (place path other) (place path who) ≡ same_who other who) × (same_path (place path who) (place path other) ≡ same_who who other)

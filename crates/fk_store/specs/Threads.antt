@@ -2,14 +2,11 @@
 use Rattle.std.specs.Prelude.{Bool, List, [], Option, Some, None}
 use Rattle.fk_model.specs.declared.stage.Stage.{Stage}
 use Rattle.fk_model.specs.Places.{Path, parent}
-use Rattle.fk_model.specs.Objects.{Mode, Thread, thread_of, and_then, holds}
+use Rattle.fk_model.specs.Objects.{Mode, Thread, holds}
 use Rattle.fk_model.specs.Objects.Mode.{Running, Calling, Halted, Native}
 use Rattle.fk_model.specs.World.{World}
 use Rattle.fk_model.specs.Holds.{is_free}
-
--- the thread at a path
-abbrev pub thread_at : World → Path → Option Thread
-thread_at w x = and_then thread_of (w.body x)
+use Rattle.fk_model.specs.Searches.{thread_at}
 
 -- the stages that a thread has before it
 abbrev pub todo_of_mode : Mode → List Stage

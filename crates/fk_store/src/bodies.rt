@@ -10,7 +10,7 @@ ghost use Rattle.fk_store.specs.Named.{Each};
 ghost use Rattle.fk_store.specs.Parts.{plays};
 ghost use Rattle.fk_store.specs.Sweeps.{body_after, swept};
 ghost use Rattle.fk_store.specs.Orders.{IsFirstAfter};
-ghost use Rattle.fk_store.specs.Contents.{birth_of, is_number, home_in};
+ghost use Rattle.fk_store.specs.Contents.{stored_birth, is_number, home_in};
 
 use crate::parts::Part;
 use crate::sweeps::Sweep;
@@ -62,7 +62,7 @@ impl Bodies {
 
     /// The birth number of an object, if it is a space.
     pub fn birth(&self, who: Who) -> Option<u32>
-        ensures { result ≡ and_then birth_of (map.get self.now who) }
+        ensures { result ≡ and_then stored_birth (map.get self.now who) }
     {
         match self.at(who)? {
             Body::Space { birth, .. } => Some(*birth),
@@ -144,7 +144,7 @@ fn sweep_each(entries: &mut Vec<(Who, Body)>, sweep: Sweep)
 }
 
 fn home_among(entries: &[(Who, Body)], space: u32) -> Option<Who>
-    ensures { result ≡ option_map (λ e. e.0) (find (λ e. is_number space (birth_of e.1)) entries.now) }
+    ensures { result ≡ option_map (λ e. e.0) (find (λ e. is_number space (stored_birth e.1)) entries.now) }
 {
     for entry in entries {
         if is_born(&entry.1, space) {
@@ -167,7 +167,7 @@ fn first_among(entries: &[(Who, Body)], part: Part) -> Option<Who>
 
 /// It is the space with this birth number.
 fn is_born(body: &Body, space: u32) -> bool
-    ensures { result ≡ is_number space (birth_of body.now) }
+    ensures { result ≡ is_number space (stored_birth body.now) }
 {
     match body {
         Body::Space { birth, .. } => *birth == space,

@@ -2,14 +2,14 @@
 ghost use Rattle.std.specs.Prelude.{◌≡◌, ℕ, true, option_map};
 ghost use Rattle.fk_model.specs.Places.{Path};
 ghost use Rattle.fk_model.specs.Places.Ptr.{At};
-ghost use Rattle.fk_model.specs.Records.{is_extent};
+ghost use Rattle.fk_model.specs.Records.{is_page_range};
 ghost use Rattle.fk_model.specs.World.{edited};
 ghost use Rattle.fk_model.specs.World.Edit.{SetPointer, SetHolder, SetMember, SetWindow, SetExtent};
 ghost use Rattle.fk_model.specs.declared.names.Who.{Who};
 ghost use Rattle.fk_store.specs.Bodies.{body_by, pointer_by};
 ghost use Rattle.fk_store.specs.Contents.{Contents};
 ghost use Rattle.fk_store.specs.Edits.{Keeps};
-ghost use Rattle.fk_store.specs.Kept.{IsSized};
+ghost use Rattle.fk_store.specs.WellFormed.{IsSized};
 ghost use Rattle.fk_store.specs.Named.{OnNamed, OnPointer, Each};
 ghost use Rattle.fk_store.specs.Paths.{place};
 ghost use Rattle.fk_store.specs.World.{IsLive};
@@ -107,7 +107,7 @@ pub fn with_window(body: Body, first: u8, count: u16, offset: u8, write: bool) -
     ensures edit { (p : ℕ → Path) → edited (SetWindow first count offset write) (body_by p body) ≡ body_by p result }
     ensures keeps { (p : ℕ → Path) → Keeps p body result }
     ensures named { (m : Contents) → OnNamed (IsLive m) body → OnNamed (IsLive m) result }
-    ensures sized { is_extent first count ≡ true → IsSized body → IsSized result }
+    ensures sized { is_page_range first count ≡ true → IsSized body → IsSized result }
 {
     match body {
         Body::Mapping { region, .. } => Body::Mapping {
@@ -134,7 +134,7 @@ pub fn with_extent(body: Body, first: u8, count: u16, write: bool) -> Body
     ensures edit { (p : ℕ → Path) → edited (SetExtent first count write) (body_by p body) ≡ body_by p result }
     ensures keeps { (p : ℕ → Path) → Keeps p body result }
     ensures named { (m : Contents) → OnNamed (IsLive m) body → OnNamed (IsLive m) result }
-    ensures sized { is_extent first count ≡ true → IsSized body → IsSized result }
+    ensures sized { is_page_range first count ≡ true → IsSized body → IsSized result }
 {
     match body {
         Body::Region { keeper, .. } => Body::Region {

@@ -6,7 +6,7 @@ ghost use Rattle.fk_model.specs.World.Edit.{SetWindow, SetExtent};
 ghost use Rattle.fk_model.specs.Valid.{kind_there};
 ghost use Rattle.fk_store.specs.Paths.{path, place};
 ghost use Rattle.fk_store.specs.World.{world};
-ghost use Rattle.fk_model.specs.Records.{is_extent};
+ghost use Rattle.fk_model.specs.Records.{is_page_range};
 
 use crate::edits::{with_extent, with_window};
 use crate::store::Store;
@@ -17,7 +17,7 @@ impl Store {
     /// pages of its region from `offset` on. What is no mapping stays as it is.
     #[tactic(auto, using(crate::proofs::EditLaws::alter_nothing))]
     pub fn set_window(&mut self, mapping: Who, first: u8, count: u16, offset: u8, write: bool)
-        requires sized { is_extent first count ≡ true }
+        requires sized { is_page_range first count ≡ true }
         ensures world { world self.new ≡ apply (Alter (place (path self.old) mapping) (SetWindow first count offset write)) (world self.old) }
         ensures kinds { kind_there (world self.new) ≡ kind_there (world self.old) }
         ensures paths { path self.new ≡ path self.old }
@@ -31,7 +31,7 @@ impl Store {
     /// stays as it is.
     #[tactic(auto, using(crate::proofs::EditLaws::alter_nothing))]
     pub fn set_extent(&mut self, region: Who, first: u8, count: u16, write: bool)
-        requires sized { is_extent first count ≡ true }
+        requires sized { is_page_range first count ≡ true }
         ensures world { world self.new ≡ apply (Alter (place (path self.old) region) (SetExtent first count write)) (world self.old) }
         ensures kinds { kind_there (world self.new) ≡ kind_there (world self.old) }
         ensures paths { path self.new ≡ path self.old }

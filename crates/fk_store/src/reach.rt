@@ -148,7 +148,7 @@ impl Store {
     /// What a page comes to after 16 mappings.
     fn last(&self, space: u32, page: u8, write: bool) -> Reach
         ensures { reach_by (path self.now) result
-            ≡ definition.reach_by zero (world self.now) (path self.now space) page write }
+            ≡ definition.reach_within zero (world self.now) (path self.now space) page write }
     {
         match self.hop(space, page, write) {
             Hop::Home => Reach::Home { space, page },
@@ -162,12 +162,12 @@ impl Store {
     }
 
     /// What one page of a space comes to.
-    #[tactic(auto, unfolding(fk_model::specs::Reach::reach_by))]
+    #[tactic(auto, unfolding(fk_model::specs::Reach::reach_within))]
     fn hop(&self, space: u32, page: u8, write: bool) -> Hop
-        ensures more { (n : ℕ) → let on = λ (s : Path) (other : ℕ). definition.reach_by n (world self.now) s other write in
-            definition.reach_by (suc n) (world self.now) (path self.now space) page write
+        ensures more { (n : ℕ) → let on = λ (s : Path) (other : ℕ). definition.reach_within n (world self.now) s other write in
+            definition.reach_within (suc n) (world self.now) (path self.now space) page write
             ≡ hop_by (path self.now) on (path self.now space) page result }
-        ensures last { definition.reach_by zero (world self.now) (path self.now space) page write
+        ensures last { definition.reach_within zero (world self.now) (path self.now space) page write
             ≡ hop_by (path self.now) (λ s other. definition.Reach.Bad) (path self.now space) page result }
     {
         if self.page(space, page).is_some() {
@@ -269,7 +269,7 @@ impl Store {
         ensures { let region = place (path self.now) to in
             option_map (place_by (path self.now)) result
             ≡ and_then
-            (definition.page_in (window_by (path self.now) mapping.now) page write region)
+            (definition.page_of_region (window_by (path self.now) mapping.now) page write region)
             (and_then region_of ((world self.now).body region)) }
     {
         let body = self.at(to)?;

@@ -12,9 +12,9 @@ ghost use Rattle.fk_model.specs.declared.names.Who.{Who};
 ghost use Rattle.fk_store.specs.Names.{who_cmp, rank, at, same_who};
 ghost use Rattle.fk_store.specs.Orders.{IsFirstAfter};
 ghost use Rattle.fk_store.specs.Makes.{making, IsNext, next_by};
-ghost use Rattle.fk_store.specs.Paths.{path, IsAtHome, IsApart};
+ghost use Rattle.fk_store.specs.Paths.{path, IsAtHome, HasOwnPath};
 ghost use Rattle.fk_store.specs.Named.{OnNamed};
-ghost use Rattle.fk_store.specs.Kept.{IsSized};
+ghost use Rattle.fk_store.specs.WellFormed.{IsSized};
 ghost use Rattle.fk_store.specs.World.{world, first_world, place_of, body_of, IsLive, IsSpace};
 
 mod holds;
@@ -39,7 +39,7 @@ pub struct Store {
 
 impl Model for Store {
     ghost use Rattle.fk_store.specs.Contents.{Contents, coded_contents};
-    ghost use Rattle.fk_store.specs.Kept.{IsKept};
+    ghost use Rattle.fk_store.specs.WellFormed.{IsWellFormed};
 
     ghost Value = { Contents };
 
@@ -47,7 +47,7 @@ impl Model for Store {
 
     ghost view = { λ s. record { bodies = s.bodies; pages = s.pages; next = s.next } };
 
-    ghost invariant = { λ s. IsKept (record { bodies = s.bodies; pages = s.pages; next = s.next }) };
+    ghost invariant = { λ s. IsWellFormed (record { bodies = s.bodies; pages = s.pages; next = s.next }) };
 }
 
 impl Store {
@@ -86,7 +86,7 @@ impl Store {
         ensures home { IfSome result (λ body. IsAtHome (path self.now) who body.now) }
         ensures named { IfSome result (λ body. OnNamed (IsLive self.now) body.now) }
         ensures sized { IfSome result (λ body. IsSized body.now) }
-        ensures apart { IsSome result → IsApart (path self.now) who }
+        ensures apart { IsSome result → HasOwnPath (path self.now) who }
     {
         self.bodies.at(who)
     }

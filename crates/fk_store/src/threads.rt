@@ -11,8 +11,9 @@ ghost use Rattle.fk_model.specs.Valid.{kind_there};
 ghost use Rattle.fk_store.specs.Paths.{path, place};
 ghost use Rattle.fk_store.specs.Bodies.{mode_by, thread_by};
 ghost use Rattle.fk_store.specs.Named.{OnNamed};
-ghost use Rattle.fk_store.specs.Threads.{thread_at, todo_at, is_free_at};
+ghost use Rattle.fk_store.specs.Threads.{todo_at, is_free_at};
 ghost use Rattle.fk_store.specs.World.{world, IsLive};
+ghost use Rattle.fk_model.specs.Searches.{thread_at};
 
 use crate::store::Store;
 use fk_model::status::OK;

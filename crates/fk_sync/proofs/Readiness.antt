@@ -15,7 +15,7 @@ use Rattle.fk_model.specs.Holds.{holder_of, is_frozen, is_frozen_for}
 use Rattle.fk_model.specs.Outcomes.{Outcome, when}
 use Rattle.fk_model.specs.Outcomes.Outcome.{Refused, Waits, Goes}
 use Rattle.fk_model.specs.Outcomes.Said.{Nothing}
-use Rattle.fk_model.specs.SyncRows.{sets}
+use Rattle.fk_model.specs.SyncRows.{sets_locked}
 use Rattle.fk_model.specs.Freezing.{AreAllowed, MayAlter}
 use Rattle.fk_model.specs.LinkRows.{user_at}
 use Rattle.fk_model.specs.Moves.{stage_row, call_row, with_pick, closed, outcome, GoesAllowed, IsReady, step}
@@ -100,7 +100,7 @@ module _ (w : World) (p : ℕ → Path) (k space : ℕ) (pick : Option Who) (sta
   refused status is = outcome-judged ∙ rw is refl
 
   -- the verdict sets a mutex
-  goes : (mutex : Who) (locked : Bool) → v ≡ verdicts.Sets mutex locked → outcome w (k ∷ p space) (picked_by p pick) asks.Run ≡ Goes (sets (place p mutex) locked ∷ Alter (k ∷ p space) (Finish []) ∷ []) Nothing
+  goes : (mutex : Who) (locked : Bool) → v ≡ verdicts.Sets mutex locked → outcome w (k ∷ p space) (picked_by p pick) asks.Run ≡ Goes (sets_locked (place p mutex) locked ∷ Alter (k ∷ p space) (Finish []) ∷ []) Nothing
   goes mutex locked is = outcome-judged ∙ rw is refl
 
   may_itself : (e : Edit) → IsPlain e → MayAlter w (k ∷ p space) (k ∷ p space) e

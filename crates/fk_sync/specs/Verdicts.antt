@@ -9,7 +9,7 @@ use Rattle.fk_model.specs.World.Edit.{Finish}
 use Rattle.fk_model.specs.Outcomes.{Outcome}
 use Rattle.fk_model.specs.Outcomes.Outcome.{Refused, Waits, Goes}
 use Rattle.fk_model.specs.Outcomes.Said.{Nothing}
-use Rattle.fk_model.specs.SyncRows.{sets}
+use Rattle.fk_model.specs.SyncRows.{sets_locked}
 use Rattle.fk_model.specs.Valid.{kind_there}
 use Rattle.fk_store.specs.Paths.{place}
 use Rattle.fk_sync.specs.declared.Verdict.{Verdict}
@@ -19,7 +19,7 @@ use Rattle.fk_sync.specs.declared.Verdict.TheVariants as verdicts
 abbrev pub outcome_by : (ℕ → Path) → Path → Verdict → Outcome
 outcome_by path x (verdicts.Refused status) = Refused status
 outcome_by path x verdicts.Waits = Waits
-outcome_by path x (verdicts.Sets mutex locked) = Goes (sets (place path mutex) locked ∷ Alter x (Finish []) ∷ []) Nothing
+outcome_by path x (verdicts.Sets mutex locked) = Goes (sets_locked (place path mutex) locked ∷ Alter x (Finish []) ∷ []) Nothing
 
 -- what is set is a mutex in the user's space
 abbrev pub SetsNear : World → (ℕ → Path) → ℕ → Verdict → Type 0

@@ -10,7 +10,7 @@ use Rattle.fk_model.specs.Holds.{is_porter}
 use Rattle.fk_model.specs.Outcomes.{Outcome}
 use Rattle.fk_model.specs.Outcomes.Outcome.{Refused, Waits, Goes}
 use Rattle.fk_model.specs.Cut.{is_out, seen_by}
-use Rattle.fk_transparency.specs.Likeness.{seeing, seen_peer, HasLikeness, IfServer, AllInTalk, AllInFault, IsPlainBody, IsApart}
+use Rattle.fk_transparency.specs.Likeness.{seeing, seen_peer, HasLikeness, IfServer, AllInTalk, AllInFault, IsPlainBody, ServesNobodyOutside}
 
 -- ---- edits
 
@@ -56,7 +56,7 @@ pub data LikeChange (root : Path) (see : Ptr → Ptr) (big : World) : Change →
       LikeChange root see big (Make (k ∷ q) seen) (Make (k ∷ (q ++ root)) body)
   MakesSpace : (k : ℕ) (q : Path) (seen holder : Option Ptr) → seen ≡ and_then (seeing see).holder holder → IfSome holder (HasLikeness root see big) →
       LikeChange root see big (MakeSpace (k ∷ q) seen) (MakeSpace (k ∷ (q ++ root)) holder)
-  Kills : (k : ℕ) (q : Path) → IsApart root see big → LikeChange root see big (Kill (k ∷ q)) (Kill (k ∷ (q ++ root)))
+  Kills : (k : ℕ) (q : Path) → ServesNobodyOutside root see big → LikeChange root see big (Kill (k ∷ q)) (Kill (k ∷ (q ++ root)))
   Moves : (k : ℕ) (q : Path) (slot : ℕ) → LikeChange root see big (Move (k ∷ q) slot) (Move (k ∷ (q ++ root)) slot)
   PutsPage : (q : Path) (page : ℕ) (words : List ℕ) → LikeChange root see big (PutPage q page words) (PutPage (q ++ root) page words)
   DropsPage : (q : Path) (page : ℕ) → LikeChange root see big (DropPage q page) (DropPage (q ++ root) page)

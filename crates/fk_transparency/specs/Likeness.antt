@@ -125,7 +125,7 @@ abbrev pub IsOuter : Path → Peer → Type 0
 IsOuter root peer = (x : Path) → serves (x ++ root) peer ≡ false
 
 -- nobody inside is the peer of a talk at a port outside, or has taken a fault there
-pub record IsApart (root : Path) (see : Ptr → Ptr) (big : World) : Type 0 where
+pub record ServesNobodyOutside (root : Path) (see : Ptr → Ptr) (big : World) : Type 0 where
   pub talks : (k : ℕ) (q : Path) (talk : Talk) → talk_at big (k ∷ (q ++ root)) ≡ Some talk → is_out (see talk.port) ≡ true → IsOuter root talk.peer
   pub faults : (k : ℕ) (q : Path) (fault : Fault) (taker : Peer) → fault_at big (k ∷ (q ++ root)) ≡ Some fault → is_out (see fault.port) ≡ true → fault.taker ≡ Some taker → IsOuter root taker
 
@@ -140,7 +140,7 @@ pub record IsWalked (w : World) : Type 0 where
 -- each thread serves one thread at most, one inside serves none outside, and the walk from the root finds every object
 pub record IsServedAlike (root : Path) (see : Ptr → Ptr) (big : World) : Type 0 where
   pub walked : IsWalked big
-  pub apart : IsApart root see big
+  pub apart : ServesNobodyOutside root see big
   pub one : (server x y : Path) → 0 < services big server x → 0 < services big server y → x ≡ y
   pub inside : (x : Path) → is_within root x ≡ false → is_served_by root (big.body x) ≡ false
 

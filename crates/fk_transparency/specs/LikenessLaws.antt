@@ -9,8 +9,8 @@ use Rattle.fk_model.specs.Searches.{depth, residents, beneath, leaf, talk_at, fa
 use Rattle.fk_model.specs.Reach.{mapping_at, region_at, keeper, reach}
 use Rattle.fk_model.specs.Holds.{decider, is_frozen, is_frozen_for, is_free}
 use Rattle.fk_model.specs.Outcomes.{Caller}
-use Rattle.fk_model.specs.Readers.{anything, object_in, kind_at, handle, place, referred}
-use Rattle.fk_model.specs.Talks.{line, thread_at}
+use Rattle.fk_model.specs.Readers.{anything, object_in, kind_at, handle, space_argument, referred}
+use Rattle.fk_model.specs.Talks.{line, thread_led_to}
 use Rattle.fk_model.specs.SpaceRows.{next_page}
 use Rattle.fk_model.specs.SyncRows.{mutex_lock}
 use Rattle.fk_model.specs.LinkRows.{candidate}
@@ -45,7 +45,7 @@ pub record ReadsAlike (root : Path) (see : Ptr → Ptr) (small big : World) : Ty
   pub objects : (c : Caller) (s : Path) (k : ℕ) → AlikeResults (IsSeenBody root see big) (object_in small c anything s k) (object_in big (under root c) anything (s ++ root) k)
   pub kinds : (p seen : Ptr) → PtrLikeness root big p seen → kind_at small seen ≡ kind_at big p
   pub handles : (c : Caller) (wanted : Kind) (h : ℕ) → AlikeResults (IsSeenHandle root see big wanted) (handle small c wanted h) (handle big (under root c) wanted h)
-  pub places : (c : Caller) (s : ℕ) → AlikeResults (IsBeneath root) (place small c s) (place big (under root c) s)
+  pub places : (c : Caller) (s : ℕ) → AlikeResults (IsBeneath root) (space_argument small c s) (space_argument big (under root c) s)
   pub references : (c : Caller) (wanted : Kind) (k : ℕ) → AlikeResults (IsSeenHandle root see big wanted) (referred small c wanted k) (referred big (under root c) wanted k)
   pub mappings : (q : Path) (page : ℕ) → AlikeOptions (IsSeenWindow root see big) (mapping_at small q page) (mapping_at big (q ++ root) page)
   pub regions : (q : Path) (page : ℕ) → AlikeOptions (IsSeenExtent root see big) (region_at small q page) (region_at big (q ++ root) page)
@@ -58,7 +58,7 @@ pub record FindsAlike (root : Path) (see : Ptr → Ptr) (small big : World) : Ty
   pub threads : (q : Path) → AlikeOptions (IsSeenThread root see big) (and_then thread_of (small.body q)) (and_then thread_of (big.body (q ++ root)))
   pub talks : (q : Path) → AlikeOptions (IsSeenTalk root see big) (talk_at small q) (talk_at big (q ++ root))
   pub faults : (q : Path) → AlikeOptions (IsSeenFault root see big) (fault_at small q) (fault_at big (q ++ root))
-  pub ends : (p seen : Ptr) → PtrLikeness root big p seen → AlikeOptions (EndLikeness root see big) (thread_at small seen) (thread_at big p)
+  pub ends : (p seen : Ptr) → PtrLikeness root big p seen → AlikeOptions (EndLikeness root see big) (thread_led_to small seen) (thread_led_to big p)
   pub residents : (q : Path) → residents small q ≡ residents big (q ++ root)
   pub beneath : (q : Path) → beneath big (q ++ root) ≡ map (λ x. x ++ root) (beneath small q)
   pub leaves : (q : Path) → leaf big (q ++ root) ≡ leaf small q ++ root

@@ -14,7 +14,7 @@ use Rattle.fk_model.specs.Objects.Body.{Mutex, Cond, Mapping, Region, Port, Port
 use Rattle.fk_model.specs.World.{World, Edit}
 use Rattle.fk_model.specs.World.Edit.{Proceed, SetFault}
 use Rattle.fk_model.specs.Holds.{is_frozen, is_frozen_for, leads_to_frozen, is_free, is_user}
-use Rattle.fk_model.specs.Searches.{option_list, fault_pointers}
+use Rattle.fk_model.specs.Searches.{option_list, fault_pointers, thread_at}
 use Rattle.fk_model.specs.Outcomes.{Outcome, when}
 use Rattle.fk_model.specs.Outcomes.Outcome.{Refused, Waits, Goes}
 use Rattle.fk_model.specs.Freezing.{of_fault, changed_pointers, MayAlter, AreAllowed}
@@ -24,7 +24,7 @@ use Rattle.fk_stages.specs.Built.{built_todo}
 use Rattle.fk_store.specs.Contents.{Contents}
 use Rattle.fk_store.specs.Paths.{path, place}
 use Rattle.fk_store.specs.Bodies.{mode_by, thread_by}
-use Rattle.fk_store.specs.Threads.{thread_at, is_free_at}
+use Rattle.fk_store.specs.Threads.{is_free_at}
 use Rattle.fk_store.specs.World.{world}
 use Rattle.fk_store.proofs.Freedom.{free_thread, free_itself, may_alter, IsPlain}
 use Rattle.fk_user.specs.declared.effect.Effect.{Effect}

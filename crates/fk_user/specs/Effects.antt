@@ -18,7 +18,7 @@ use Rattle.fk_model.specs.Readers.{fault_on}
 use Rattle.fk_model.specs.UserRows.{proceeds}
 use Rattle.fk_store.specs.Contents.{Contents}
 use Rattle.fk_store.specs.Paths.{path, place}
-use Rattle.fk_store.specs.Bodies.{calling}
+use Rattle.fk_store.specs.Bodies.{calling_mode}
 use Rattle.fk_store.specs.World.{world, IsLive, IsSpace}
 use Rattle.fk_user.specs.declared.effect.Effect.{Effect}
 use Rattle.fk_user.specs.declared.effect.Effect.TheVariants as effects
@@ -28,7 +28,7 @@ abbrev pub outcome_by : Contents → Who → Thread → Effect → Outcome
 outcome_by m me t (effects.Puts register value) = proceeds (place (path m) me) (Running (slice_set t.regs register value)) (next t.pc)
 outcome_by m me t (effects.Jumps counter) = proceeds (place (path m) me) (Running t.regs) counter
 outcome_by m me t (effects.Halts code) = proceeds (place (path m) me) (Halted t.regs code) t.pc
-outcome_by m me t effects.Enters = proceeds (place (path m) me) (calling t.regs) t.pc
+outcome_by m me t effects.Enters = proceeds (place (path m) me) (calling_mode t.regs) t.pc
 outcome_by m me t (effects.Stores space page at value) =
     Goes (PutPage (path m space) page (slice_set (words_at (world m) (path m space) page) at value) ∷ Alter (place (path m) me) (Proceed (Running t.regs) (next t.pc)) ∷ []) Nothing
 outcome_by m me t (effects.Faults page write port) = Goes (fault_on (place (path m) me) page write (At (place (path m) port)) ∷ []) Nothing

@@ -6,19 +6,19 @@ use Rattle.fk_model.specs.declared.limits.TheConstants.{SLOTS, PAGES, PAGE_WORDS
 use Rattle.fk_model.specs.declared.names.Kind.TheVariants as kinds
 use Rattle.fk_model.specs.Places.{Path, same_path, strip, is_within, parent, Ptr, leads_to}
 use Rattle.fk_model.specs.Places.Ptr.{Null, Dead, At, Out, Outside, Far}
-use Rattle.fk_model.specs.Objects.{Mode, Peer, Talk, Fault, Thread, Body, kind_of, thread_of, and_then, holds}
+use Rattle.fk_model.specs.Objects.{Mode, Peer, Talk, Fault, Thread, Body, kind_of, thread_of, and_then, holds, is_served, flag_of}
 use Rattle.fk_model.specs.Objects.Peer.{Server, Service, Parked}
 use Rattle.fk_model.specs.Objects.Body.{Mutex, Cond, Mapping, Region, Port, Portset, Space, Thread_of, Reference}
 use Rattle.fk_model.specs.World.{World, serves}
 use Rattle.fk_model.specs.Searches.{depth, talk_at, fault_at, pointers}
 use Rattle.fk_model.specs.Holds.{holder_of}
 use Rattle.fk_model.specs.StateRows.{is_native}
-use Rattle.fk_model.specs.Valid.{kind_there, all_in, is_good, birth_of, birth_at, is_served_port, HasService, flag_of, services, lies_with, IsConsistent, IsRooted, HasPlace, IsPaged, IsValid}
+use Rattle.fk_model.specs.Valid.{kind_there, all_in, is_good, birth_of, birth_at, is_served_port, HasService, services, lies_with, IsConsistent, IsRooted, HasPlace, IsPaged, IsValid}
 use Rattle.fk_model.specs.Shapes.{IsShapedMode, IsCodeInRange}
 use Rattle.fk_model.specs.Whole.{is_placed, stands_in, HasFullPages, IsWhole, IsSavable}
-use Rattle.fk_model.specs.Cut.{ports_of, cutting, seen_by, unheld, cut, is_far, has_far, is_served, is_served_by, IsPlain}
+use Rattle.fk_model.specs.Cut.{ports_of, cutting, seen_by, unheld, cut, is_far, has_far, is_served_by, IsPlain}
 use Rattle.fk_model.proofs.walks.PlaceLaws.{same_path_eq, strip-append}
-use Rattle.fk_worked.specs.Worked.{Page, body_in, page_in}
+use Rattle.fk_worked.specs.Worked.{Page, body_in, page_among}
 
 -- ---- lists
 
@@ -49,14 +49,14 @@ found_of P (e ∷ es) all x b there = by (same_path e.0 x) refl there (found_of 
 abbrev IsPage : (Page → Bool) → Path → ℕ → List ℕ → Type 0
 IsPage test s g words = (p : Page) × (test p ≡ true) × (p.space ≡ s) × (p.page ≡ g) × (p.words ≡ words)
 
-page_found : (test : Page → Bool) (ps : List Page) → list_all test ps ≡ true → (s : Path) (g : ℕ) (words : List ℕ) → page_in ps s g ≡ Some words → IsPage test s g words
-unfolding page_in
+page_found : (test : Page → Bool) (ps : List Page) → list_all test ps ≡ true → (s : Path) (g : ℕ) (words : List ℕ) → page_among ps s g ≡ Some words → IsPage test s g words
+unfolding page_among
 page_found test [] all s g words there = cc
 page_found test (p ∷ ps) all s g words there =
     let each : (test p ≡ true) × (list_all test ps ≡ true) = and_parts (test p) _ all in
     by each.0 (same_path p.space s) refl (eqb p.page g) refl there (page_found test ps each.1 s g words)
   where
-    by : test p ≡ true → (t : Bool) → same_path p.space s ≡ t → (r : Bool) → eqb p.page g ≡ r → cond (t && r) (Some p.words) (page_in ps s g) ≡ Some words → (page_in ps s g ≡ Some words → IsPage test s g words) → IsPage test s g words
+    by : test p ≡ true → (t : Bool) → same_path p.space s ≡ t → (r : Bool) → eqb p.page g ≡ r → cond (t && r) (Some p.words) (page_among ps s g) ≡ Some words → (page_among ps s g ≡ Some words → IsPage test s g words) → IsPage test s g words
     by first true e true f here later = (p, first, same_path_eq p.space s e, eqb-true p.page g f, cc)
     by first true e false f here later = later here
     by first false e r f here later = later here
@@ -119,18 +119,18 @@ no_talk f (Some b) a h = cc
 abbrev pub has_place : World → Page → Bool
 has_place w p = is_space (w.body p.space) && ltb p.page PAGES
 
-pub paged_list : (w : World) (ps : List Page) → ((s : Path) (g : ℕ) → w.page s g ≡ page_in ps s g) → list_all (has_place w) ps ≡ true → IsPaged w
+pub paged_list : (w : World) (ps : List Page) → ((s : Path) (g : ℕ) → w.page s g ≡ page_among ps s g) → list_all (has_place w) ps ≡ true → IsPaged w
 unfolding kind_there
-paged_list w ps pages all s g there = by (page_in ps s g) refl (subst (λ (o : Option (List ℕ)). IsSome o) (pages s g) there)
+paged_list w ps pages all s g there = by (page_among ps s g) refl (subst (λ (o : Option (List ℕ)). IsSome o) (pages s g) there)
   where
-    by : (o : Option (List ℕ)) → page_in ps s g ≡ o → IsSome o → HasPlace w s g
+    by : (o : Option (List ℕ)) → page_among ps s g ≡ o → IsSome o → HasPlace w s g
     by (Some words) e h =
         let its = page_found (has_place w) ps all s g words e in
         let both = and_parts (is_space (w.body its.0.space)) (ltb its.0.page PAGES) its.1 in
         record { space = space_is (w.body s) (subst (λ (v : Path). is_space (w.body v) ≡ true) its.2 both.0); number = subst (λ (v : ℕ). v < PAGES) its.3 (ltb-true its.0.page PAGES both.1) }
     by None e h = cc
 
-module _ (w : World) (es : List (Path × Body)) (ps : List Page) (bodies : (x : Path) → w.body x ≡ body_in es x) (pages : (s : Path) (g : ℕ) → w.page s g ≡ page_in ps s g) (home : ℕ → Path) (whom : Path → Path) (only : Path) (top : w.body [] ≡ Some (Space 0 None))
+module _ (w : World) (es : List (Path × Body)) (ps : List Page) (bodies : (x : Path) → w.body x ≡ body_in es x) (pages : (s : Path) (g : ℕ) → w.page s g ≡ page_among ps s g) (home : ℕ → Path) (whom : Path → Path) (only : Path) (top : w.body [] ≡ Some (Space 0 None))
     (all : list_all (λ e. is_well w home whom only e.0 e.1) es ≡ true) (all_pages : list_all (is_page_well w) ps ≡ true) where
   record Is (x : Path) (b : Body) : Type 0 where
     housed : is_housed w x ≡ true

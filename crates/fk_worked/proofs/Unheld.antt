@@ -7,7 +7,7 @@ use Rattle.fk_model.specs.Places.{Path, Ptr, same_path, parent}
 use Rattle.fk_model.specs.Places.Ptr.{At}
 use Rattle.fk_model.specs.Objects.{Thread, Body, and_then}
 use Rattle.fk_model.specs.Objects.Body.{Mutex, Mapping, Region, Port, Space, Thread_of, Reference}
-use Rattle.fk_model.specs.World.{World, Change, Edit, Sweep, edited, apply, apply_all, on_thread, through, without, following, with_locked, with_window, with_extent, with_member, with_pointer}
+use Rattle.fk_model.specs.World.{World, Change, Edit, Sweep, edited, apply, apply_all, on_thread, through, death_sweep, following, with_locked, with_window, with_extent, with_member, with_pointer}
 use Rattle.fk_model.specs.World.Change.{Alter, Make, MakeSpace, Kill, Move, PutPage, DropPage}
 use Rattle.fk_model.specs.World.Edit.{SetLocked, SetWindow, SetExtent, SetMember, SetPointer, SetHolder, Proceed, Shift, Finish, End, Replace, SetStops, SetTalk, CountMoved, PassTurn, SetPeer, SetFault, SetTaker}
 use Rattle.fk_model.specs.Holds.{holder_of, decider, is_frozen_for, leads_to_frozen}
@@ -153,7 +153,7 @@ unfolding apply
 change-unheld (Alter x edit) calm w free q = either-unheld (same_path q x) (option_map (edited edit) (w.body q)) (w.body q) (edited-unheld x edit calm (w.body q) (free q)) (free q)
 change-unheld (Make x body) calm w free q = cc
 change-unheld (MakeSpace x holder) calm w free q = cc
-change-unheld (Kill x) calm w free q = either-unheld (same_path q x) None (option_map (through (without x) q) (w.body q)) refl (swept-unheld (without x) q (w.body q) (free q))
+change-unheld (Kill x) calm w free q = either-unheld (same_path q x) None (option_map (through (death_sweep x) q) (w.body q)) refl (swept-unheld (death_sweep x) q (w.body q) (free q))
 change-unheld (Move x slot) calm w free q =
     either-unheld (same_path q (slot ∷ parent x)) (option_map (through (following x (slot ∷ parent x)) (slot ∷ parent x)) (w.body x))
     (if same_path q x then None else option_map (through (following x (slot ∷ parent x)) q) (w.body q))

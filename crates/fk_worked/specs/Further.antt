@@ -12,12 +12,12 @@ use Rattle.fk_model.specs.Outcomes.{Outcome, listed}
 use Rattle.fk_model.specs.Outcomes.Outcome.{Refused, Waits, Goes}
 use Rattle.fk_model.specs.Further.{Touch, Onward, Told, touch_row, onward_row, told_by}
 use Rattle.fk_model.specs.Further.Onward.{Own, ByOthers}
-use Rattle.fk_model.specs.Seen.{said_by}
-use Rattle.fk_worked.specs.Worked.{Page, machine, body_in, page_in, page_with, numbered, running, calling, with_talk}
+use Rattle.fk_model.specs.Seen.{outcome_said}
+use Rattle.fk_worked.specs.Worked.{Page, machine, body_in, page_among, page_with, numbered, running, calling, with_talk}
 
 -- a subtree seen alone: its root, which nobody holds, and what lies in it
 unfoldable pub alone_of : List (Path × Body) → List Page → World
-alone_of objects pages = record { body = body_in (([], Space 0 None) ∷ objects); page = page_in pages; next = 0 }
+alone_of objects pages = record { body = body_in (([], Space 0 None) ∷ objects); page = page_among pages; next = 0 }
 
 -- ---- what a move comes to. Where nothing is held the freezing rule bars nothing, so it is ready where its row goes
 
@@ -33,7 +33,7 @@ abbrev pub later : World → Onward → World
 later c m = apply_all (listed (onward_row c m)) c
 
 abbrev pub heard : World → Onward → List Told
-heard c m = told_by c m (listed (onward_row c m)) (said_by (onward_row c m))
+heard c m = told_by c m (listed (onward_row c m)) (outcome_said (onward_row c m))
 
 -- the thread in slot 0 moves, and a peer outside takes so many words
 abbrev pub moves : ℕ → Onward

@@ -8,7 +8,7 @@ use Rattle.fk_model.specs.Objects.Mode.{Native}
 use Rattle.fk_model.specs.Objects.Peer.{Server}
 use Rattle.fk_model.specs.Objects.Body.{Mapping, Region, Port, Space, Reference}
 use Rattle.fk_model.specs.World.{World}
-use Rattle.fk_worked.specs.Worked.{machine, world_of, page_with, numbered, running, calling, thread_at, with_talk, with_fault, served_by}
+use Rattle.fk_worked.specs.Worked.{machine, world_of, page_with, numbered, running, calling, thread_in_mode, with_talk, with_fault, served_by, client, server, stores_at_r2}
 
 -- the thread that holds or would hold /1, and another one
 abbrev pub holder : Path
@@ -46,10 +46,6 @@ held g h = world_of
 
 -- ---- page 10 of the root is a window on page 3 of /1, and a thread of the root stores there
 
--- store r1, r2, 0
-abbrev pub stores_at_r2 : List ℕ
-stores_at_r2 = 0x0e12_0000_0000_0000 ∷ []
-
 -- /1 is held by somebody, or not
 unfoldable pub storing : Option Ptr → World
 storing held = world_of
@@ -65,14 +61,6 @@ held_in_held g h = world_of
     (root_and_1 (Some (At holder)) g h ++ ((2 ∷ 1 ∷ [], Space 3 (Some (At other))) ∷ (3 ∷ [], Reference (At (2 ∷ 1 ∷ []))) ∷ [])) []
 
 -- ---- a client in /1 talks with a server in /2; the holder holds one of the two spaces, or none
-
--- the client
-abbrev pub client : Path
-client = 0 ∷ 1 ∷ []
-
--- the server
-abbrev pub server : Path
-server = 1 ∷ 2 ∷ []
 
 -- who holds /1 and who holds /2, and the calls of the client and of the server
 unfoldable pub talk_across : Option Ptr → Option Ptr → List ℕ → List ℕ → World
@@ -100,15 +88,15 @@ fault_across held = world_of
 -- ---- /1 has a porter, which holds the space in slot 2 of /1
 
 -- the porter of /1
-abbrev pub porter : Path
-porter = 255 ∷ 1 ∷ []
+abbrev pub inner_porter : Path
+inner_porter = 255 ∷ 1 ∷ []
 
 -- a thread of the root would hold /1
 unfoldable pub working_porter : World
 working_porter = world_of
-    ((holder, calling 0 (13 ∷ 256 ∷ 1 ∷ [])) ∷ (1 ∷ [], Space 1 None) ∷ (2 ∷ 1 ∷ [], Space 2 (Some (At porter))) ∷ (porter, thread_at (Native (replicate 16 0)) 0) ∷ []) []
+    ((holder, calling 0 (13 ∷ 256 ∷ 1 ∷ [])) ∷ (1 ∷ [], Space 1 None) ∷ (2 ∷ 1 ∷ [], Space 2 (Some (At inner_porter))) ∷ (inner_porter, thread_in_mode (Native (replicate 16 0)) 0) ∷ []) []
 
 -- ---- to compute in these worlds is to unfold these
-unfoldable pub holds : Unit {0}
+unfoldable pub hold_worlds : Unit {0}
 unfolding machine before_hold held storing held_in_held talk_across fault_across working_porter
-holds = tt
+hold_worlds = tt

@@ -82,16 +82,16 @@ abbrev pub reads : List Event
 reads = times 6 (goes thread_1)
 
 -- it is signalled to
-abbrev pub signals : List Event
-signals = times 3 (goes thread_1) ++ picks thread_1 thread_0 ∷ []
+abbrev pub signals_the_sleeper : List Event
+signals_the_sleeper = times 3 (goes thread_1) ++ picks thread_1 thread_0 ∷ []
 
 -- it is let go
 abbrev pub lets_go : List Event
 lets_go = times 4 (goes thread_1)
 
 -- all of it, in parts, up to its lock
-abbrev pub parts : List (List Event)
-parts = sleeps ∷ stops ∷ (reads ++ signals) ∷ lets_go ∷ (goes thread_0 ∷ []) ∷ []
+abbrev pub signal_parts : List (List Event)
+signal_parts = sleeps ∷ stops ∷ (reads ++ signals_the_sleeper) ∷ lets_go ∷ (goes thread_0 ∷ []) ∷ []
 
 -- up to its being stopped
 abbrev pub until_stopped : List Event
@@ -103,7 +103,7 @@ until_signalling = until_stopped ++ (reads ++ times 3 (goes thread_1))
 
 -- up to the signal
 abbrev pub until_signalled : List Event
-until_signalled = until_stopped ++ (reads ++ signals)
+until_signalled = until_stopped ++ (reads ++ signals_the_sleeper)
 
 -- its record: a thread with these registers, at counter 40, that calls and is stopped once; and what else is in the page
 abbrev pub page_with_record : List ℕ
@@ -135,6 +135,6 @@ unfoldable pub calls_of : List ℕ → Option Body
 calls_of g = (run (locks_and_sleepers g) (goes thread_0 ∷ [])).body thread_0
 
 -- ---- to compute in these worlds is to unfold these
-unfoldable pub locks : Unit {0}
+unfoldable pub lock_worlds : Unit {0}
 unfolding machine alone_with two_lock one_sleeps none_sleeps locks_and_sleepers calls_of
-locks = tt
+lock_worlds = tt

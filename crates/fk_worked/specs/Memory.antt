@@ -8,7 +8,7 @@ use Rattle.fk_model.specs.Objects.{Talk, Body}
 use Rattle.fk_model.specs.Objects.Body.{Mapping, Region, Port, Space}
 use Rattle.fk_model.specs.World.{World}
 use Rattle.fk_model.specs.Runs.{run}
-use Rattle.fk_worked.specs.Worked.{machine, world_of, page_with, numbered, numbers_from, running, calling, with_talk, with_fault, served_by, goes}
+use Rattle.fk_worked.specs.Worked.{machine, world_of, page_with, numbered, numbers_from, running, calling, with_talk, with_fault, served_by, goes, stores_at_r2}
 
 -- ---- pages of /1: the pages 0, 1 and 2 are there, and each thread is in one call
 
@@ -89,10 +89,6 @@ loop = world_of (load_and_send ++ ((1 ∷ [], Space 1 None) ∷ (0 ∷ 1 ∷ [],
 
 -- ---- a window on pages 10 to 13 of /1, which leads to the pages of a region of /2 from its page 2 on
 
--- store r1, r2, 0
-abbrev pub stores_at_r2 : List ℕ
-stores_at_r2 = 0x0e12_0000_0000_0000 ∷ []
-
 -- the region has so many pages from 20 on; the thread stores 7 at an address of /1
 unfoldable pub window : ℕ → Bool → ℕ → World
 window count write address = world_of
@@ -108,8 +104,8 @@ abbrev pub all_pages : Ptr → List (Path × Body)
 all_pages keeper = (thread 1, Region (record { first = 0; count = 256; write = false; keeper = keeper })) ∷ []
 
 -- the thread missed page 5 by a read
-abbrev pub missed_5 : Body
-missed_5 = with_fault (record { page = 5; write = false; port = At (9 ∷ []); taker = None }) (running 0 (0 ∷ 0 ∷ 128 ∷ []))
+abbrev pub thread_that_missed_5 : Body
+thread_that_missed_5 = with_fault (record { page = 5; write = false; port = At (9 ∷ []); taker = None }) (running 0 (0 ∷ 0 ∷ 128 ∷ []))
 
 -- the thread loads from an address and 192
 unfoldable pub missing : List (Path × Body) → ℕ → World
@@ -118,6 +114,6 @@ missing regions address = world_of
     (page_with (1 ∷ []) 0 loads_192 ∷ [])
 
 -- ---- to compute in these worlds is to unfold these
-unfoldable pub memory : Unit {0}
+unfoldable pub memory_worlds : Unit {0}
 unfolding machine giving_and_taking given_and_taken two_pages chain_to loop window missing
-memory = tt
+memory_worlds = tt

@@ -8,13 +8,9 @@ use Rattle.fk_model.specs.Objects.Peer.{Server}
 use Rattle.fk_model.specs.Objects.Body.{Mutex, Region, Port, Portset, Space, Reference}
 use Rattle.fk_model.specs.World.{World}
 use Rattle.fk_model.specs.Runs.{Event, run}
-use Rattle.fk_worked.specs.Worked.{machine, world_of, scene, numbered, running, calling, with_talk, with_fault, served_by, goes, times}
+use Rattle.fk_worked.specs.Worked.{machine, world_of, scene, numbered, running, calling, with_talk, with_fault, served_by, goes, times, caller}
 
 -- ---- one thread of /1 makes a call there
-
--- the thread
-abbrev pub caller : Path
-caller = 0 ∷ 1 ∷ []
 
 -- with these objects in /1 besides
 abbrev pub in_1 : List (Path × Body) → List ℕ → World
@@ -49,8 +45,8 @@ abbrev pub destroyer : Path
 destroyer = 0 ∷ []
 
 -- it serves the thread in slot 1 of /2
-abbrev pub server : Path
-server = 1 ∷ []
+abbrev pub left_server : Path
+left_server = 1 ∷ []
 
 -- the server receives
 abbrev pub server_receives : Body
@@ -66,12 +62,12 @@ still_destroys = calling 0 (2 ∷ 256 ∷ 2 ∷ [])
 
 -- the thread of /2 that it serves
 abbrev pub served_one : Body
-served_one = with_talk (served_by (3 ∷ []) server turns.Client 0) (running 20 [])
+served_one = with_talk (served_by (3 ∷ []) left_server turns.Client 0) (running 20 [])
 
 -- what there is at first, but for the root
 abbrev pub doomed : List (Path × Body)
 doomed =
-    (destroyer, still_destroys) ∷ (server, server_receives) ∷ (3 ∷ [], Port None false)
+    (destroyer, still_destroys) ∷ (left_server, server_receives) ∷ (3 ∷ [], Port None false)
     ∷ (2 ∷ [], Space 1 None) ∷ (0 ∷ 2 ∷ [], Reference (At (3 ∷ []))) ∷ (1 ∷ 2 ∷ [], served_one) ∷ (4 ∷ 2 ∷ [], Mutex false)
     ∷ (5 ∷ [], Reference (At (2 ∷ []))) ∷ (6 ∷ [], Reference (At (1 ∷ 2 ∷ []))) ∷ []
 
@@ -81,7 +77,7 @@ destroying = world_of doomed (numbered [] 1000 1 ∷ numbered (2 ∷ []) 2000 0 
 
 -- the objects of /2, and /2 itself; the server, and the caller; the references to /2 and to the thread in it
 abbrev pub in_2_and_beside : List Path
-in_2_and_beside = (0 ∷ 2 ∷ []) ∷ (1 ∷ 2 ∷ []) ∷ (4 ∷ 2 ∷ []) ∷ (2 ∷ []) ∷ server ∷ destroyer ∷ (5 ∷ []) ∷ (6 ∷ []) ∷ []
+in_2_and_beside = (0 ∷ 2 ∷ []) ∷ (1 ∷ 2 ∷ []) ∷ (4 ∷ 2 ∷ []) ∷ (2 ∷ []) ∷ left_server ∷ destroyer ∷ (5 ∷ []) ∷ (6 ∷ []) ∷ []
 
 -- three stages, and the last one
 abbrev pub up_to_the_last : List (List Event)
@@ -134,8 +130,8 @@ abbrev pub helped : Path
 helped = 4 ∷ 1 ∷ []
 
 -- the port
-abbrev pub root_port : Path
-root_port = 3 ∷ []
+abbrev pub set_port : Path
+set_port = 3 ∷ []
 
 -- the taker of that fault
 abbrev pub helper : Path
@@ -160,9 +156,9 @@ root_server = 2 ∷ []
 -- the caller makes a call
 unfoldable pub related : List ℕ → World
 related g = world_of
-    ((1 ∷ [], Space 2 None) ∷ (root_server, server_receives) ∷ (root_port, Port (Some 8) false) ∷ (8 ∷ [], Portset) ∷ (helper, running 0 []) ∷ (10 ∷ [], Port None true)
-    ∷ (destroyer, calling 0 g) ∷ (talker, talking root_port root_server (calling 20 (38 ∷ []))) ∷ (faulty, missing_5 root_port None (running 0 [])) ∷ (helped, missing_5 root_port (Some (Server (At helper))) (running 0 []))
-    ∷ (3 ∷ 1 ∷ [], kept_by (At root_port)) ∷ [])
+    ((1 ∷ [], Space 2 None) ∷ (root_server, server_receives) ∷ (set_port, Port (Some 8) false) ∷ (8 ∷ [], Portset) ∷ (helper, running 0 []) ∷ (10 ∷ [], Port None true)
+    ∷ (destroyer, calling 0 g) ∷ (talker, talking set_port root_server (calling 20 (38 ∷ []))) ∷ (faulty, missing_5 set_port None (running 0 [])) ∷ (helped, missing_5 set_port (Some (Server (At helper))) (running 0 []))
+    ∷ (3 ∷ 1 ∷ [], kept_by (At set_port)) ∷ [])
     []
 
 -- what there is to look at
@@ -194,6 +190,6 @@ unfoldable pub beneath_itself : List ℕ → World
 beneath_itself g = world_of ((1 ∷ [], Space 1 None) ∷ (2 ∷ 1 ∷ [], Space 2 None) ∷ (0 ∷ 2 ∷ 1 ∷ [], calling 0 g) ∷ (1 ∷ 2 ∷ 1 ∷ [], Reference (At (1 ∷ []))) ∷ []) []
 
 -- ---- to compute in these worlds is to unfold these
-unfoldable pub objects : Unit {0}
+unfoldable pub object_worlds : Unit {0}
 unfolding machine alone_in locating searching with_references destroying destroyed renaming related scene_after answer_to holder_dies beneath_itself
-objects = tt
+object_worlds = tt

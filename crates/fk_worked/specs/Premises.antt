@@ -10,7 +10,7 @@ use Rattle.fk_model.specs.Objects.Body.{Mutex, Mapping, Region, Port, Portset, S
 use Rattle.fk_model.specs.World.{World}
 use Rattle.fk_model.specs.Cut.{seen_by, cut}
 use Rattle.fk_model.specs.Closed.{open_place}
-use Rattle.fk_worked.specs.Worked.{Page, machine, world_of, numbered, running, calling, thread_at, with_talk, with_fault}
+use Rattle.fk_worked.specs.Worked.{Page, machine, world_of, numbered, running, calling, thread_in_mode, with_talk, with_fault}
 
 abbrev pub porter : Path
 porter = 255 ∷ []
@@ -33,7 +33,7 @@ missing = with_fault (record { page = 9; write = true; port = At (within 4); tak
 
 abbrev pub objects_of : Option Ptr → List (Path × Body)
 objects_of holder =
-    (9 ∷ [], Port None true) ∷ (8 ∷ [], Port None false) ∷ (porter, thread_at (Native (replicate 16 0)) 0)
+    (9 ∷ [], Port None true) ∷ (8 ∷ [], Port None false) ∷ (porter, thread_in_mode (Native (replicate 16 0)) 0)
     ∷ (1 ∷ [], Space 1 holder) ∷ (within 0, to_native) ∷ (within 2, missing) ∷ (within 3, parked)
     ∷ (within 4, Port (Some 10) false) ∷ (within 5, running 1 []) ∷ (within 10, Portset)
     ∷ (within 6, Space 2 (Some (At (within 5)))) ∷ (7 ∷ within 6, Reference (At (within 4)))

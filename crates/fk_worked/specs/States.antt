@@ -5,11 +5,7 @@ use Rattle.fk_model.specs.Places.Ptr.{Null, At}
 use Rattle.fk_model.specs.Objects.{Body}
 use Rattle.fk_model.specs.Objects.Body.{Mutex, Mapping, Region, Port, Portset, Space, Reference}
 use Rattle.fk_model.specs.World.{World}
-use Rattle.fk_worked.specs.Worked.{machine, world_of, page_with, filled_to, running, calling, stopped}
-
--- the thread that sets and gets
-abbrev pub caller : Path
-caller = 0 ∷ 1 ∷ []
+use Rattle.fk_worked.specs.Worked.{machine, world_of, page_with, filled_to, running, calling, stopped, caller}
 
 -- ---- records, in the pages 1 to 5
 
@@ -63,6 +59,6 @@ pointing g = world_of
     ((1 ∷ [], Space 1 None) ∷ (caller, calling 0 g) ∷ (8 ∷ 1 ∷ [], Reference Null) ∷ (9 ∷ 1 ∷ [], Reference (At (7 ∷ 1 ∷ []))) ∷ (10 ∷ 1 ∷ [], Reference (At (5 ∷ 1 ∷ []))) ∷ subjects) []
 
 -- ---- to compute in these worlds is to unfold these
-unfoldable pub states : Unit {0}
+unfoldable pub state_worlds : Unit {0}
 unfolding machine setting_by pointing
-states = tt
+state_worlds = tt

@@ -8,15 +8,7 @@ use Rattle.fk_model.specs.Objects.Peer.{Server, Parked}
 use Rattle.fk_model.specs.Objects.Body.{Region, Port, Portset, Space, Reference}
 use Rattle.fk_model.specs.World.{World}
 use Rattle.fk_model.specs.Runs.{Event, run}
-use Rattle.fk_worked.specs.Worked.{Page, machine, world_of, page_with, numbered, running, calling, stopped, with_talk, with_fault, served_by, registers_at, registers_from, goes, picks, times}
-
--- the client
-abbrev pub client : Path
-client = 0 ∷ 1 ∷ []
-
--- the server
-abbrev pub server : Path
-server = 1 ∷ 2 ∷ []
+use Rattle.fk_worked.specs.Worked.{Page, machine, world_of, page_with, numbered, running, calling, stopped, with_talk, with_fault, served_by, registers_at, registers_from, goes, picks, times, client, server}
 
 -- the port
 abbrev pub port : Path
@@ -41,8 +33,8 @@ abbrev pub sent_all : List ℕ
 sent_all = 35 ∷ 9 ∷ 312 ∷ 0 ∷ 448 ∷ 10 ∷ []
 
 -- the server's registers in call 50
-abbrev pub receiving : ℕ → ℕ → List ℕ
-receiving into room = 50 ∷ 8 ∷ 7 ∷ 6 ∷ into ∷ room ∷ []
+abbrev pub asking_to_receive : ℕ → ℕ → List ℕ
+asking_to_receive into room = 50 ∷ 8 ∷ 7 ∷ 6 ∷ into ∷ room ∷ []
 
 -- both ends, their spaces, and the port
 abbrev pub talkers : Body → Body → List (Path × Body)
@@ -54,7 +46,7 @@ both_pages = map (numbered (1 ∷ []) 1000) (2 ∷ 3 ∷ 4 ∷ 5 ∷ 7 ∷ []) +
 
 -- from where and how many words are sent, and into how much room
 unfoldable pub message : ℕ → ℕ → ℕ → ℕ → World
-message address count into room = world_of (talkers (with_talk (clients_turn 0) (calling 20 (sending address count))) (calling 30 (receiving into room))) both_pages
+message address count into room = world_of (talkers (with_talk (clients_turn 0) (calling 20 (sending address count))) (calling 30 (asking_to_receive into room))) both_pages
 
 -- 130 words from 182 into 200 words at 315, after so many moves of the client
 unfoldable pub sent : ℕ → World
@@ -66,7 +58,7 @@ ends_at w = (registers_at w client, registers_at w server)
 
 -- what they are with so much left to send and to receive
 abbrev pub left : ℕ → ℕ → ℕ → ℕ → List ℕ × List ℕ
-left address count into room = (registers_from (sending address count), registers_from (receiving into room))
+left address count into room = (registers_from (sending address count), registers_from (asking_to_receive into room))
 
 -- both ends
 abbrev pub both_ends : List Path
@@ -80,7 +72,7 @@ sent_to_few n = run (message 256 130 320 40) (times n (goes client))
 
 -- the client in a call, with a talk
 unfoldable pub linked_in : List ℕ → World
-linked_in g = world_of ((4 ∷ 1 ∷ [], Reference (At port)) ∷ talkers (with_talk (clients_turn 0) (calling 20 g)) (calling 30 (receiving 315 200))) both_pages
+linked_in g = world_of ((4 ∷ 1 ∷ [], Reference (At port)) ∷ talkers (with_talk (clients_turn 0) (calling 20 g)) (calling 30 (asking_to_receive 315 200))) both_pages
 
 -- and without one
 unfoldable pub unlinked_in : List ℕ → World
@@ -102,7 +94,7 @@ readers = (reader, calling 0 (9 ∷ 1 ∷ 0 ∷ 64 ∷ [])) ∷ (second_reader, 
 
 -- the message, and both readers
 unfoldable pub watched : World
-watched = world_of (readers ++ talkers (with_talk (clients_turn 0) (calling 20 (sending 182 130))) (calling 30 (receiving 315 200))) (numbered [] 0 1 ∷ both_pages)
+watched = world_of (readers ++ talkers (with_talk (clients_turn 0) (calling 20 (sending 182 130))) (calling 30 (asking_to_receive 315 200))) (numbered [] 0 1 ∷ both_pages)
 
 -- three moves of the client, and both reads
 abbrev pub sent_and_read : List Event
@@ -111,8 +103,8 @@ sent_and_read = times 3 (goes client) ++ (goes reader ∷ goes second_reader ∷
 -- ---- page 5 of /2 is missing. A region there has it kept by port 9 of the root, which is in the set of slot 8
 
 -- the keeper's thread
-abbrev pub keeper : Path
-keeper = 0 ∷ []
+abbrev pub keeper_thread : Path
+keeper_thread = 0 ∷ []
 
 -- set r0, 48; set r1, 8; call; set r0, 17; set r1, 2; set r2, 5; addi r3, r15, -1; call; set r0, 56; call
 abbrev pub waits_and_gives : List ℕ
@@ -124,28 +116,28 @@ waits_and_gives =
 -- the keeper's side, and the region
 abbrev pub kept_by_root : List (Path × Body)
 kept_by_root =
-    (keeper, running 0 []) ∷ (8 ∷ [], Portset) ∷ (9 ∷ [], Port (Some 8) false)
+    (keeper_thread, running 0 []) ∷ (8 ∷ [], Portset) ∷ (9 ∷ [], Port (Some 8) false)
     ∷ (4 ∷ 2 ∷ [], Region (record { first = 5; count = 1; write = false; keeper = At (9 ∷ []) })) ∷ []
 
 -- the message, without page 5 of /2
 unfoldable pub kept : World
-kept = world_of (kept_by_root ++ talkers (with_talk (clients_turn 0) (calling 20 (sending 182 130))) (calling 30 (receiving 315 200)))
+kept = world_of (kept_by_root ++ talkers (with_talk (clients_turn 0) (calling 20 (sending 182 130))) (calling 30 (asking_to_receive 315 200)))
     (page_with [] 0 waits_and_gives ∷ (map (numbered (1 ∷ []) 1000) (2 ∷ 3 ∷ 4 ∷ 5 ∷ 7 ∷ []) ++ map (numbered (2 ∷ []) 2000) (4 ∷ 6 ∷ [])))
 
 -- what there is to look at
 abbrev pub talkers_and_keeper : List Path
-talkers_and_keeper = client ∷ server ∷ keeper ∷ []
+talkers_and_keeper = client ∷ server ∷ keeper_thread ∷ []
 
 -- the receiver missed page 5 by a write
-abbrev pub missed_5 : Option Peer → Fault
-missed_5 taker = record { page = 5; write = true; port = At (9 ∷ []); taker = taker }
+abbrev pub write_missed_5 : Option Peer → Fault
+write_missed_5 taker = record { page = 5; write = true; port = At (9 ∷ []); taker = taker }
 
 -- the client after its first block, and the server that has taken it
 abbrev pub sent_5 : Body
 sent_5 = with_talk (clients_turn 5) (calling 20 (sending 187 125))
 
 abbrev pub received_5 : Body
-received_5 = calling 30 (receiving 320 195)
+received_5 = calling 30 (asking_to_receive 320 195)
 
 -- five words arrive
 abbrev pub arrives : List Event
@@ -156,24 +148,24 @@ abbrev pub misses : List Event
 misses = goes server ∷ []
 
 -- the keeper takes the fault
-abbrev pub takes : List Event
-takes = times 3 (goes keeper) ++ picks keeper server ∷ []
+abbrev pub keeper_takes : List Event
+keeper_takes = times 3 (goes keeper_thread) ++ picks keeper_thread server ∷ []
 
 -- it gives a page of zeros
-abbrev pub gives : List Event
-gives = times 6 (goes keeper)
+abbrev pub keeper_gives : List Event
+keeper_gives = times 6 (goes keeper_thread)
 
 -- it is done
 abbrev pub mends : List Event
-mends = times 3 (goes keeper)
+mends = times 3 (goes keeper_thread)
 
 -- all of it, in parts
-abbrev pub parts : List (List Event)
-parts = arrives ∷ misses ∷ takes ∷ (gives ++ mends) ∷ []
+abbrev pub keeper_parts : List (List Event)
+keeper_parts = arrives ∷ misses ∷ keeper_takes ∷ (keeper_gives ++ mends) ∷ []
 
 -- all of it
 abbrev pub until_mended : List Event
-until_mended = (arrives ++ misses) ++ (takes ++ (gives ++ mends))
+until_mended = (arrives ++ misses) ++ (keeper_takes ++ (keeper_gives ++ mends))
 
 -- ---- a client calls a port that a server waits at: the port is in the set of slot 8 of /2
 
@@ -239,6 +231,6 @@ unfoldable pub still_serving : World
 still_serving = world_of ((8 ∷ 2 ∷ [], Portset) ∷ talkers (with_talk (clients_turn 0) (running 20 [])) (calling 30 (48 ∷ 8 ∷ []))) []
 
 -- ---- to compute in these worlds is to unfold these
-unfoldable pub talks : Unit {0}
+unfoldable pub talk_worlds : Unit {0}
 unfolding machine message sent sent_to_few linked_in unlinked_in watched kept meeting replying ending waiting picked still_serving
-talks = tt
+talk_worlds = tt

@@ -15,9 +15,9 @@ use Rattle.fk_model.specs.Objects.Peer.{Server}
 use Rattle.fk_model.specs.Objects.Body.{Thread_of, Space}
 use Rattle.fk_model.specs.World.{World, edited, apply, apply_all, on_thread}
 use Rattle.fk_model.specs.Searches.{lowest, slots, residents, beneath_by, beneath, leaf_by, leaf, client_of, faulter_of, clients_at, client_at}
-use Rattle.fk_model.specs.Reach.{mapping_at, region_at, keeper, reach_by, reach}
+use Rattle.fk_model.specs.Reach.{mapping_at, region_at, keeper, reach_within, reach}
 use Rattle.fk_model.specs.Holds.{decider}
-use Rattle.fk_model.specs.Readers.{object_in, handle, place, referred}
+use Rattle.fk_model.specs.Readers.{object_in, handle, space_argument, referred}
 use Rattle.fk_model.specs.Talks.{line}
 use Rattle.fk_model.specs.UserRows.{run_row_by}
 use Rattle.fk_model.specs.SyncRows.{mutex_lock, mutex_trylock, mutex_unlock, cond_wait, cond_asleep, sleepers, cond_signal, cond_broadcast}
@@ -47,13 +47,13 @@ pub record Page : Type 0 where
   pub words : List ℕ
 
 -- the words of a page, by such a list
-unfoldable pub page_in : List Page → Path → ℕ → Option (List ℕ)
-page_in [] s page = None
-page_in (p ∷ ps) s page = if same_path p.space s && p.page == page then Some p.words else page_in ps s page
+unfoldable pub page_among : List Page → Path → ℕ → Option (List ℕ)
+page_among [] s page = None
+page_among (p ∷ ps) s page = if same_path p.space s && p.page == page then Some p.words else page_among ps s page
 
 -- the root holds no page but those in the list, and is held by nobody
 unfoldable pub world_of : List (Path × Body) → List Page → World
-world_of objects pages = record { body = body_in (([], Space 0 None) ∷ objects); page = page_in pages; next = 100 }
+world_of objects pages = record { body = body_in (([], Space 0 None) ∷ objects); page = page_among pages; next = 100 }
 
 -- ---- words and pages
 
@@ -80,21 +80,38 @@ numbered s base page = record { space = s; page = page; words = numbers_from (ba
 abbrev pub registers_from : List ℕ → List ℕ
 registers_from g = filled_to 16 g
 
+-- threads of /1 and /2, and a port of the root
+abbrev pub caller : Path
+caller = 0 ∷ 1 ∷ []
+
+abbrev pub client : Path
+client = 0 ∷ 1 ∷ []
+
+abbrev pub server : Path
+server = 1 ∷ 2 ∷ []
+
+abbrev pub root_port : Path
+root_port = 9 ∷ []
+
+-- store r1, r2, 0
+abbrev pub stores_at_r2 : List ℕ
+stores_at_r2 = 0x0e12_0000_0000_0000 ∷ []
+
 -- a thread that is at this, with nothing else to say of it
-abbrev pub thread_at : Mode → ℕ → Body
-thread_at mode counter = Thread_of (record { mode = mode; counter = counter; stops = 0; talk = None; fault = None })
+abbrev pub thread_in_mode : Mode → ℕ → Body
+thread_in_mode mode counter = Thread_of (record { mode = mode; counter = counter; stops = 0; talk = None; fault = None })
 
 -- one that runs, from a counter on, with these first registers
 abbrev pub running : ℕ → List ℕ → Body
-running counter g = thread_at (Running (registers_from g)) counter
+running counter g = thread_in_mode (Running (registers_from g)) counter
 
 -- one in the call that these registers name
 abbrev pub calling : ℕ → List ℕ → Body
-calling counter g = thread_at (calling_by (registers_from g) (todo_of (registers_from g))) counter
+calling counter g = thread_in_mode (calling_by (registers_from g) (todo_of (registers_from g))) counter
 
 -- one that has halted with a code
 abbrev pub halted : ℕ → List ℕ → ℕ → Body
-halted counter g code = thread_at (Halted (registers_from g) code) counter
+halted counter g code = thread_in_mode (Halted (registers_from g) code) counter
 
 -- a thread with a talk, with a fault, and one that is stopped so often
 abbrev pub with_talk : Talk → Body → Body
@@ -150,8 +167,8 @@ abbrev pub IsReadyTo : World → Event → Type 0
 IsReadyTo w e = IsReady w e.mover e.pick e.ask
 
 -- what the move tells
-abbrev pub told : World → Event → Said
-told w e = (step w e.mover e.pick e.ask).said
+abbrev pub told_by_move : World → Event → Said
+told_by_move w e = (step w e.mover e.pick e.ask).said
 
 -- ---- what there is to see
 
@@ -174,5 +191,5 @@ scene xs w = map w.body xs
 
 -- ---- to compute a move is to unfold all of these
 unfoldable pub machine : Unit {0}
-unfolding body_in page_in world_of numbers_from registers_at after_each same_path strip code_of words todo_of rest_of edited apply apply_all lowest slots residents beneath_by beneath leaf_by leaf client_of faulter_of clients_at client_at mapping_at region_at keeper reach_by reach decider object_in handle place referred line run_row_by mutex_lock mutex_trylock mutex_unlock cond_wait cond_asleep sleepers cond_signal cond_broadcast send receive over connect candidate wait disconnect link_set link_park fault_done fault_set fault_park space_hold space_release thread_stop thread_go page_give page_take page_read next_page page_next hold_set space_make_held record_of set takes_state get_state set_state get_ptr set_ptr create destroy rename search point clear locate count_in accept_row give_row over_row call_row outcome step run
+unfolding body_in page_among world_of numbers_from registers_at after_each same_path strip code_of words todo_of rest_of edited apply apply_all lowest slots residents beneath_by beneath leaf_by leaf client_of faulter_of clients_at client_at mapping_at region_at keeper reach_within reach decider object_in handle space_argument referred line run_row_by mutex_lock mutex_trylock mutex_unlock cond_wait cond_asleep sleepers cond_signal cond_broadcast send receive over connect candidate wait disconnect link_set link_park fault_done fault_set fault_park space_hold space_release thread_stop thread_go page_give page_take page_read next_page page_next hold_set space_make_held record_of set takes_state get_state set_state get_ptr set_ptr create destroy rename search point clear locate count_in accept_row give_row over_row call_row outcome step run
 machine = tt

@@ -1,5 +1,5 @@
 //! Holds, and what they freeze.
-#![tactic(auto, unfolding(crate::specs::Holds::holds))]
+#![tactic(auto, unfolding(crate::specs::Holds::hold_worlds))]
 
 ghost use Rattle.std.specs.Prelude.{◌≡◌, [], ◌∷◌, ◌++◌, Some, None, false, replicate};
 ghost use Rattle.fk_model.specs.declared.stage.Stage.TheVariants.{SpaceRelease};
@@ -7,8 +7,8 @@ ghost use Rattle.fk_model.specs.Places.Ptr.{At};
 ghost use Rattle.fk_model.specs.Objects.Body.{Mutex, Space};
 ghost use Rattle.fk_model.specs.Outcomes.Said.{Answered};
 ghost use Rattle.fk_model.specs.Runs.{run, IsLegal};
-ghost use Rattle.fk_worked.specs.Worked.{becomes, IsReadyTo, told, goes, makes, running, numbers_from};
-ghost use Rattle.fk_worked.specs.Holds.{holder, other, inner, before_hold, held, storing, held_in_held, talk_across, sends_5, receives_9, client, server, fault_across, porter, working_porter};
+ghost use Rattle.fk_worked.specs.Worked.{becomes, IsReadyTo, told_by_move, goes, makes, running, numbers_from, client, server};
+ghost use Rattle.fk_worked.specs.Holds.{holder, other, inner, before_hold, held, storing, held_in_held, talk_across, sends_5, receives_9, fault_across, inner_porter, working_porter};
 
 /// A thread holds a space, and then nothing in it moves.
 pub fn a_hold_stops_what_it_holds()
@@ -72,10 +72,10 @@ pub fn pointers_to_what_is_held_are_frozen()
 /// While a porter holds a space nobody comes to hold one above it; after its release somebody may.
 pub fn nobody_holds_above_a_porters_hold()
     ensures waits { ¬ IsReadyTo working_porter (goes holder) }
-    ensures releases { IsReadyTo working_porter (makes porter (SpaceRelease 256 2) []) }
-    ensures answer { told working_porter (makes porter (SpaceRelease 256 2) []) ≡ Answered 0 [] }
-    ensures ready { IsReadyTo (run working_porter (makes porter (SpaceRelease 256 2) [] ∷ [])) (goes holder) }
-    ensures done { (run working_porter (makes porter (SpaceRelease 256 2) [] ∷ goes holder ∷ [])).body holder ≡
+    ensures releases { IsReadyTo working_porter (makes inner_porter (SpaceRelease 256 2) []) }
+    ensures answer { told_by_move working_porter (makes inner_porter (SpaceRelease 256 2) []) ≡ Answered 0 [] }
+    ensures ready { IsReadyTo (run working_porter (makes inner_porter (SpaceRelease 256 2) [] ∷ [])) (goes holder) }
+    ensures done { (run working_porter (makes inner_porter (SpaceRelease 256 2) [] ∷ goes holder ∷ [])).body holder ≡
         Some (running 1 (0 ∷ 256 ∷ 1 ∷ [])) }
 {}
 

@@ -1,11 +1,11 @@
 //! Programs, mutexes and conditions.
-#![tactic(auto, unfolding(crate::specs::Locks::locks))]
+#![tactic(auto, unfolding(crate::specs::Locks::lock_worlds))]
 
 ghost use Rattle.std.specs.Prelude.{◌≡◌, [], ◌∷◌, ◌++◌, Some, true, false, map};
 ghost use Rattle.fk_model.specs.Objects.Body.{Mutex};
 ghost use Rattle.fk_model.specs.Runs.{run, IsLegal};
 ghost use Rattle.fk_worked.specs.Worked.{becomes, scene, after_each, IsReadyTo, goes, picks, times, running, calling, halted, stopped, registers_at, registers_from};
-ghost use Rattle.fk_worked.specs.Locks.{alone_with, division, countdown, two_lock, lock_twice, one_sleeps, sleeps, reads, lets_go, parts, until_stopped, until_signalling, until_signalled, page_with_record, sleeper, caller_and_sleepers, locks_and_sleepers, calls_of, sleeper_and_signaller, none_sleeps, thread_0, thread_1, mutex};
+ghost use Rattle.fk_worked.specs.Locks.{alone_with, division, countdown, two_lock, lock_twice, one_sleeps, sleeps, reads, lets_go, signal_parts, until_stopped, until_signalling, until_signalled, page_with_record, sleeper, caller_and_sleepers, locks_and_sleepers, calls_of, sleeper_and_signaller, none_sleeps, thread_0, thread_1, mutex};
 
 /// A program subtracts past zero, shifts all bits out, and divides by the zero that is left: it
 /// halts with code 1. A loop counts a register down to zero, and then its program halts. The
@@ -41,7 +41,7 @@ pub fn one_thread_has_the_mutex_and_the_other_waits()
 /// Its record shows that it is stopped.
 pub fn a_signal_wakes_a_stopped_sleeper()
     ensures ready { IsLegal one_sleeps (until_signalled ++ (lets_go ++ goes thread_0 ∷ [])) }
-    ensures seen { map (scene sleeper_and_signaller) (after_each one_sleeps parts) ≡
+    ensures seen { map (scene sleeper_and_signaller) (after_each one_sleeps signal_parts) ≡
         (Some (calling 40 (25 ∷ 6 ∷ 5 ∷ [])) ∷ Some (running 0 []) ∷ Some (Mutex false) ∷ [])
         ∷ (Some (stopped 1 (calling 40 (25 ∷ 6 ∷ 5 ∷ []))) ∷ Some (running 3 [])
         ∷ Some (Mutex false) ∷ [])

@@ -1,11 +1,11 @@
 //! Pages, mappings and regions.
-#![tactic(auto, unfolding(crate::specs::Memory::memory))]
+#![tactic(auto, unfolding(crate::specs::Memory::memory_worlds))]
 
 ghost use Rattle.std.specs.Prelude.{◌≡◌, [], ◌∷◌, ◌++◌, Some, None, true, false, replicate};
 ghost use Rattle.fk_model.specs.Places.Ptr.{At, Null, Dead};
 ghost use Rattle.fk_model.specs.Runs.{run, IsLegal};
 ghost use Rattle.fk_worked.specs.Worked.{becomes, IsReadyTo, goes, running, halted, with_talk, numbers_from};
-ghost use Rattle.fk_worked.specs.Memory.{thread, giving_and_taking, given_and_taken, two_pages, loader, sender, to_root, chain_to, loop, window, all_pages, missed_5, missing};
+ghost use Rattle.fk_worked.specs.Memory.{thread, giving_and_taking, given_and_taken, two_pages, loader, sender, to_root, chain_to, loop, window, all_pages, thread_that_missed_5, missing};
 
 /// A page of zeros is given once. It is taken once: its words go to the caller's page. There is no
 /// page 256 to give.
@@ -77,7 +77,7 @@ pub fn a_store_goes_through_a_window()
 /// keeps the page the thread halts with code 4, and past the last page with code 2.
 pub fn a_load_from_a_missing_page()
     ensures ready { IsReadyTo (missing (all_pages (At (9 ∷ []))) 128) (goes (thread 0)) }
-    ensures faults { becomes (missing (all_pages (At (9 ∷ []))) 128) (thread 0) ≡ Some missed_5 }
+    ensures faults { becomes (missing (all_pages (At (9 ∷ []))) 128) (thread 0) ≡ Some thread_that_missed_5 }
     ensures not_covered { becomes (missing [] 128) (thread 0) ≡ Some (halted 0 (0 ∷ 0 ∷ 128 ∷ []) 4) }
     ensures no_keeper { becomes (missing (all_pages Null) 128) (thread 0) ≡ Some (halted 0 (0 ∷ 0 ∷ 128 ∷ []) 4) }
     ensures dead_keeper { becomes (missing (all_pages Dead) 128) (thread 0) ≡ Some (halted 0 (0 ∷ 0 ∷ 128 ∷ []) 4) }

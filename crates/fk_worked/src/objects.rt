@@ -1,13 +1,13 @@
 //! Objects, references and handles.
-#![tactic(auto, unfolding(crate::specs::Objects::objects))]
+#![tactic(auto, unfolding(crate::specs::Objects::object_worlds))]
 
 ghost use Rattle.std.specs.Prelude.{◌≡◌, [], ◌∷◌, Some, None, false, map, replicate};
 ghost use Rattle.fk_model.specs.Places.Ptr.{At, Null, Dead};
 ghost use Rattle.fk_model.specs.Objects.Peer.{Server};
 ghost use Rattle.fk_model.specs.Objects.Body.{Mutex, Port, Portset, Space, Reference};
 ghost use Rattle.fk_model.specs.Runs.{run, IsLegal};
-ghost use Rattle.fk_worked.specs.Worked.{becomes, scene, after_each, registers_at, registers_from, IsReadyTo, goes, times, running, calling, stopped, numbers_from};
-ghost use Rattle.fk_worked.specs.Objects.{caller, alone_in, locating, searcher, searching, with_references, destroyer, server_receives, server_ended, still_destroys, served_one, destroying, up_to_the_last, destroyed, in_2_and_beside, renamer, renaming, port_and_references, port_set_and_port, talker, helped, root_port, root_server, helper, talking, missing_5, kept_by, related, related_ones, scene_after, answer_to, space_holder, holder_dies, beneath_itself};
+ghost use Rattle.fk_worked.specs.Worked.{becomes, scene, after_each, registers_at, registers_from, IsReadyTo, goes, times, running, calling, stopped, numbers_from, caller};
+ghost use Rattle.fk_worked.specs.Objects.{alone_in, locating, searcher, searching, with_references, destroyer, server_receives, server_ended, still_destroys, served_one, destroying, up_to_the_last, destroyed, in_2_and_beside, renamer, renaming, port_and_references, port_set_and_port, talker, helped, set_port, root_server, helper, talking, missing_5, kept_by, related, related_ones, scene_after, answer_to, space_holder, holder_dies, beneath_itself};
 
 /// What a reference leads to lies in slot 4 of the caller's space, and deeper there.
 pub fn a_reference_is_located()
@@ -119,12 +119,12 @@ pub fn talks_and_faults_end_with_what_is_destroyed()
         ∷ Some (running 0 []) ∷ Some (kept_by Dead) ∷ [] }
     ensures done { answer_to (2 ∷ 256 ∷ 3 ∷ []) ≡ Some (running 1 (0 ∷ 256 ∷ 3 ∷ [])) }
     ensures server { scene_after related_ones (2 ∷ 256 ∷ 2 ∷ []) ≡
-        None ∷ Some (running 21 (14 ∷ [])) ∷ Some (missing_5 root_port None (running 0 []))
-        ∷ Some (missing_5 root_port (Some (Server (At helper))) (running 0 []))
-        ∷ Some (kept_by (At root_port)) ∷ [] }
+        None ∷ Some (running 21 (14 ∷ [])) ∷ Some (missing_5 set_port None (running 0 []))
+        ∷ Some (missing_5 set_port (Some (Server (At helper))) (running 0 []))
+        ∷ Some (kept_by (At set_port)) ∷ [] }
     ensures taker { (run (related (2 ∷ 256 ∷ 7 ∷ [])) (goes destroyer ∷ [])).body helped ≡
-        Some (missing_5 root_port None (running 0 [])) }
-    ensures set { (run (related (2 ∷ 256 ∷ 8 ∷ [])) (goes destroyer ∷ [])).body root_port ≡
+        Some (missing_5 set_port None (running 0 [])) }
+    ensures set { (run (related (2 ∷ 256 ∷ 8 ∷ [])) (goes destroyer ∷ [])).body set_port ≡
         Some (Port None false) }
 {}
 
@@ -138,9 +138,9 @@ pub fn talks_and_faults_follow_what_is_renamed()
         ∷ Some (missing_5 (9 ∷ []) (Some (Server (At helper))) (running 0 []))
         ∷ Some (kept_by (At (9 ∷ []))) ∷ [] }
     ensures server { scene_after (talker ∷ (9 ∷ []) ∷ []) (3 ∷ 256 ∷ 2 ∷ 9 ∷ []) ≡
-        Some (talking root_port (9 ∷ []) (calling 20 (38 ∷ []))) ∷ Some server_receives ∷ [] }
+        Some (talking set_port (9 ∷ []) (calling 20 (38 ∷ []))) ∷ Some server_receives ∷ [] }
     ensures taker { (run (related (3 ∷ 256 ∷ 7 ∷ 9 ∷ [])) (goes destroyer ∷ [])).body helped ≡
-        Some (missing_5 root_port (Some (Server (At (9 ∷ [])))) (running 0 [])) }
+        Some (missing_5 set_port (Some (Server (At (9 ∷ [])))) (running 0 [])) }
     ensures itself { scene_after (destroyer ∷ (9 ∷ []) ∷ []) (3 ∷ 256 ∷ 0 ∷ 9 ∷ []) ≡
         None ∷ Some (running 1 (0 ∷ 256 ∷ 0 ∷ 9 ∷ [])) ∷ [] }
     ensures served { answer_to (3 ∷ 256 ∷ 10 ∷ 9 ∷ []) ≡ Some (running 1 (13 ∷ 256 ∷ 10 ∷ 9 ∷ [])) }

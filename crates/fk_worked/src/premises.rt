@@ -10,7 +10,7 @@ ghost use Rattle.fk_model.specs.Valid.{IsPaged};
 ghost use Rattle.fk_model.specs.Whole.{IsWhole, IsSavable};
 ghost use Rattle.fk_model.specs.Cut.{IsPlain};
 ghost use Rattle.fk_model.specs.Closed.{IsClosed};
-ghost use Rattle.fk_worked.specs.Worked.{thread_at};
+ghost use Rattle.fk_worked.specs.Worked.{thread_in_mode};
 ghost use Rattle.fk_worked.specs.Premises.{porter, within, full_of_all, with_object, with_one_page, served_within, fault_within};
 
 /// It is valid, has few birth numbers and full pages.
@@ -46,7 +46,7 @@ pub fn a_page_has_its_place()
 pub fn what_isnt_plain()
     ensures far { IsPlain (with_object (within 13) (Reference (At porter))) [] 1 → ⊥ }
     ensures nester { IsPlain (with_object (within 13) (Reference (At []))) [] 1 → ⊥ }
-    ensures porter { IsPlain (with_object (within 255) (thread_at (Native (replicate 16 0)) 0)) [] 1 → ⊥ }
+    ensures porter { IsPlain (with_object (within 255) (thread_in_mode (Native (replicate 16 0)) 0)) [] 1 → ⊥ }
     ensures served { IsPlain (with_object (within 13) (Port None true)) [] 1 → ⊥ }
     ensures talk { IsPlain (with_object (0 ∷ []) served_within) [] 1 → ⊥ }
     ensures fault { IsPlain (with_object (0 ∷ []) fault_within) [] 1 → ⊥ }

@@ -1,12 +1,12 @@
 //! State records, and pointer fields.
-#![tactic(auto, unfolding(crate::specs::States::states))]
+#![tactic(auto, unfolding(crate::specs::States::state_worlds))]
 
 ghost use Rattle.std.specs.Prelude.{◌≡◌, [], ◌∷◌, Some, true, false};
 ghost use Rattle.fk_model.specs.Places.Ptr.{At, Null};
 ghost use Rattle.fk_model.specs.Objects.Body.{Mutex, Region, Port, Reference};
 ghost use Rattle.fk_model.specs.Runs.{run};
-ghost use Rattle.fk_worked.specs.Worked.{becomes, IsReadyTo, goes, running, calling, halted, stopped};
-ghost use Rattle.fk_worked.specs.States.{caller, setting, setting_by, records, in_call_21, set_mapping, pointing};
+ghost use Rattle.fk_worked.specs.Worked.{becomes, IsReadyTo, goes, running, calling, halted, stopped, caller};
+ghost use Rattle.fk_worked.specs.States.{setting, setting_by, records, in_call_21, set_mapping, pointing};
 
 /// The state of a running thread that isn't stopped isn't set.
 pub fn a_running_thread_takes_no_state()

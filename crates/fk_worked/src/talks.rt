@@ -1,13 +1,13 @@
 //! Talks, and messages in them.
-#![tactic(auto, unfolding(crate::specs::Talks::talks))]
+#![tactic(auto, unfolding(crate::specs::Talks::talk_worlds))]
 
 ghost use Rattle.std.specs.Prelude.{◌≡◌, [], ◌∷◌, ◌++◌, Some, None, true, false, map, replicate};
 ghost use Rattle.fk_model.specs.declared.thread.Turn.TheVariants as turns;
 ghost use Rattle.fk_model.specs.Places.Ptr.{At};
 ghost use Rattle.fk_model.specs.Objects.Peer.{Server};
 ghost use Rattle.fk_model.specs.Runs.{run, IsLegal};
-ghost use Rattle.fk_worked.specs.Worked.{becomes, scene, after_each, IsReadyTo, with_fault, goes, picks, times, running, calling, stopped, with_talk, registers_from, numbers_from};
-ghost use Rattle.fk_worked.specs.Talks.{client, server, clients_turn, servers_turn, sending, receiving, message, sent, ends_at, left, sent_all, both_ends, sent_to_few, linked_in, unlinked_in, reader, second_reader, watched, sent_and_read, keeper, kept, sent_5, received_5, missed_5, arrives, misses, parts, talkers_and_keeper, until_mended, meeting, replying, ending, waiting, waited_for, receives_10, taken_fault, picked, still_serving};
+ghost use Rattle.fk_worked.specs.Worked.{becomes, scene, after_each, IsReadyTo, with_fault, goes, picks, times, running, calling, stopped, with_talk, registers_from, numbers_from, client, server};
+ghost use Rattle.fk_worked.specs.Talks.{clients_turn, servers_turn, sending, asking_to_receive, message, sent, ends_at, left, sent_all, both_ends, sent_to_few, linked_in, unlinked_in, reader, second_reader, watched, sent_and_read, keeper_thread, kept, sent_5, received_5, write_missed_5, arrives, misses, keeper_parts, talkers_and_keeper, until_mended, meeting, replying, ending, waiting, waited_for, receives_10, taken_fault, picked, still_serving};
 
 /// A message of 130 words goes in five moves: none moves more words than a page, of either side,
 /// has left from the address on. Both sides' registers say at any time what is left, as if they had
@@ -17,10 +17,10 @@ pub fn a_message_moves_block_by_block()
     ensures start { ends_at (message 182 130 315 200) ≡ left 182 130 315 200 }
     ensures moves { map ends_at (after_each (message 182 130 315 200) (replicate 4 (goes client ∷ []))) ≡
         left 187 125 320 195 ∷ left 192 120 325 190 ∷ left 251 61 384 131 ∷ left 256 56 389 126 ∷ [] }
-    ensures sent { ends_at (sent 5) ≡ (registers_from sent_all, registers_from (receiving 445 70)) }
+    ensures sent { ends_at (sent 5) ≡ (registers_from sent_all, registers_from (asking_to_receive 445 70)) }
     ensures between { scene both_ends (sent 3) ≡
         Some (with_talk (clients_turn 69) (calling 20 (sending 251 61)))
-        ∷ Some (calling 30 (receiving 384 131)) ∷ [] }
+        ∷ Some (calling 30 (asking_to_receive 384 131)) ∷ [] }
     ensures all_sent { (sent 5).body client ≡ Some (with_talk (clients_turn 130) (calling 20 sent_all)) }
 {}
 
@@ -88,10 +88,10 @@ pub fn records_show_a_message_in_its_midst()
 /// the page had been there.
 pub fn a_message_waits_until_its_keeper_gives_the_page()
     ensures ready { IsLegal kept (until_mended ++ times 4 (goes client)) }
-    ensures seen { map (scene talkers_and_keeper) (after_each kept parts) ≡
+    ensures seen { map (scene talkers_and_keeper) (after_each kept keeper_parts) ≡
         (Some sent_5 ∷ Some received_5 ∷ Some (running 0 []) ∷ [])
-        ∷ (Some sent_5 ∷ Some (with_fault (missed_5 None) received_5) ∷ Some (running 0 []) ∷ [])
-        ∷ (Some sent_5 ∷ Some (with_fault (missed_5 (Some (Server (At keeper)))) received_5)
+        ∷ (Some sent_5 ∷ Some (with_fault (write_missed_5 None) received_5) ∷ Some (running 0 []) ∷ [])
+        ∷ (Some sent_5 ∷ Some (with_fault (write_missed_5 (Some (Server (At keeper_thread)))) received_5)
         ∷ Some (running 3 (0 ∷ 9 ∷ 1 ∷ 5 ∷ 1 ∷ [])) ∷ [])
         ∷ (Some sent_5 ∷ Some received_5
         ∷ Some (running 10 (0 ∷ 2 ∷ 5 ∷ 18446744073709551615 ∷ 1 ∷ [])) ∷ []) ∷ [] }
@@ -101,7 +101,7 @@ pub fn a_message_waits_until_its_keeper_gives_the_page()
     ensures given { (run kept until_mended).page (2 ∷ []) 5 ≡ Some (replicate 64 0) }
     ensures goes_on { map ends_at (after_each kept (until_mended ∷ replicate 4 (goes client ∷ []))) ≡
         left 187 125 320 195 ∷ left 192 120 325 190 ∷ left 251 61 384 131 ∷ left 256 56 389 126
-        ∷ (registers_from sent_all, registers_from (receiving 445 70)) ∷ [] }
+        ∷ (registers_from sent_all, registers_from (asking_to_receive 445 70)) ∷ [] }
     ensures words { (run kept (until_mended ++ times 4 (goes client))).page (2 ∷ []) 5 ≡
         Some (numbers_from 1187 64) }
 {}

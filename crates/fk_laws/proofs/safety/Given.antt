@@ -23,7 +23,7 @@ use Rattle.fk_model.specs.Holds.{is_free}
 use Rattle.fk_model.specs.Talks.{receiving, same_side}
 use Rattle.fk_model.specs.LinkRows.{is_parked, new_talk, given_talk, link_set, link_park}
 use Rattle.fk_model.specs.FaultRows.{frees, fault_done, given_fault, named_taker, fault_set, fault_park}
-use Rattle.fk_model.specs.NativeRows.{is_serving_port, connects_here, parked_here, takes_up, accepts_thread, accepts_found, accepts, accept_row, if_receiving, with_client, gives_words, gives_to, give_row, passes_client, over_row}
+use Rattle.fk_model.specs.NativeRows.{is_serving_port, connects_here, parked_here, takes_up, accepts_thread, accepts_found, takes_client, accept_row, if_receiving, with_client, gives_words, gives_to, give_row, passes_client, over_row}
 use Rattle.fk_model.specs.Valid.{kind_there, leads_there, are_talk_words, are_fault_words, is_idle_near, is_idle_peer, is_fit_stage, is_near, is_idle, lies_with, services}
 use Rattle.fk_model.proofs.walks.PlaceLaws.{same_path_eq, leads_to_at}
 use Rattle.fk_laws.proofs.safety.Safe.{IsSafeServer, IsSafeService, IsSafePeer, IsSafeTaker, IsSafeTalk}
@@ -169,13 +169,13 @@ accepts_found-safe : (w : World) (port x : Path) (o : Option Thread) → Facts w
 accepts_found-safe w port x None facts free there = waits
 accepts_found-safe w port x (Some t) facts free there = search (safe-when, accepts_thread-safe)
 
-accepts-safe : (w : World) (port : Path) (pick : Option Path) → Facts w → FreeService w port → SafeOutcome w (accepts w port pick)
+accepts-safe : (w : World) (port : Path) (pick : Option Path) → Facts w → FreeService w port → SafeOutcome w (takes_client w port pick)
 accepts-safe w port None facts free = waits
 accepts-safe w port (Some x) facts free = accepts_found-safe w port x _ facts free refl
 
 pub accept_row-safe : (w : World) (port : Path) (pick : Option Path) → Facts w → SafeOutcome w (accept_row w port pick)
 unfolding accept_row
-accept_row-safe w port pick facts = safe-when w (is_serving_port w port && is_none (client_at w port)) (accepts w port pick) (accepts-safe w port pick facts)
+accept_row-safe w port pick facts = safe-when w (is_serving_port w port && is_none (client_at w port)) (takes_client w port pick) (accepts-safe w port pick facts)
 
 -- ---- give and over
 

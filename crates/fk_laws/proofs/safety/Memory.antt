@@ -8,11 +8,11 @@ use Rattle.fk_model.specs.Places.Ptr.{At, Out}
 use Rattle.fk_model.specs.Objects.{Window, Extent, Body, region_of, covers, and_then}
 use Rattle.fk_model.specs.Objects.Body.{Region}
 use Rattle.fk_model.specs.World.{World}
-use Rattle.fk_model.specs.Reach.{Reach, region_at, mapping_at, live_keeper, keeper, led_by, followed, mapped, at_home, reach_by, reach, reach_word}
+use Rattle.fk_model.specs.Reach.{Reach, region_at, mapping_at, live_keeper, keeper, led_by, followed, mapped, at_home, reach_within, reach, reach_word}
 use Rattle.fk_model.specs.Reach.Reach.{Home, Missing, Bad}
 use Rattle.fk_model.specs.Outcomes.{Outcome, Caller}
 use Rattle.fk_model.specs.Readers.{missed, accessed, own_page_at, own_page, their_page_at, their_page}
-use Rattle.fk_model.specs.Records.{is_extent}
+use Rattle.fk_model.specs.Records.{is_page_range}
 use Rattle.fk_model.specs.Valid.{IsConsistent, kind_there, leads_there, may_lead, all_in, is_good, HasPlace, IsPaged}
 use Rattle.fk_laws.proofs.safety.Safe.{IfAny}
 use Rattle.fk_laws.proofs.safety.Outcomes.{SafeOutcome, refused, waits, goes}
@@ -38,7 +38,7 @@ extent-port w valid x r seen = by (w.body x) (valid.good x) seen
   where
     by : (o : Option Body) → all_in (is_good (kind_there w) x) o ≡ true → and_then region_of o ≡ Some r → may_lead (kind_there w) (kinds.Port ∷ []) r.keeper ≡ true
     by None good h = cc
-    by (Some (Region old)) good h = let same : r ≡ old = cc in rw same ((and_parts (is_extent old.first old.count) _ good).1)
+    by (Some (Region old)) good h = let same : r ≡ old = cc in rw same ((and_parts (is_page_range old.first old.count) _ good).1)
     by (Some b) good h = cc
 
 keeper-leads : (w : World) → IsConsistent w → (s : Path) (page : ℕ) (port : Ptr) → keeper w s page ≡ Some port → LeadsToPort w port
@@ -86,8 +86,8 @@ followed-good : (w : World) (go : Path → ℕ → Reach) (o : Option (Path × �
 followed-good w go None good = tt
 followed-good w go (Some place) good = good place.0 place.1
 
-reach_by-good : (w : World) → IsConsistent w → IsPaged w → (n : ℕ) (s : Path) (page : ℕ) (write : Bool) → GoodReach w (reach_by n w s page write)
-unfolding reach_by
+reach_by-good : (w : World) → IsConsistent w → IsPaged w → (n : ℕ) (s : Path) (page : ℕ) (write : Bool) → GoodReach w (reach_within n w s page write)
+unfolding reach_within
 reach_by-good w valid paged zero s page write =
     at_home-good w paged s page _ (mapped-good w (λ m. Bad) _ (mapping_at w s page) (missing-good w valid s page) (λ m. tt))
 reach_by-good w valid paged (suc n) s page write =

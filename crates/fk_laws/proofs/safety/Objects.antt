@@ -13,7 +13,7 @@ use Rattle.fk_model.specs.World.Change.{Alter, Make, MakeSpace, Move}
 use Rattle.fk_model.specs.World.Edit.{SetPointer, SetHolder}
 use Rattle.fk_model.specs.Searches.{has_residents, leaf}
 use Rattle.fk_model.specs.Outcomes.{Caller, path_of, done, done_at, stays}
-use Rattle.fk_model.specs.Readers.{slot_for, object_in, anything, place, referred}
+use Rattle.fk_model.specs.Readers.{slot_for, object_in, anything, space_argument, referred}
 use Rattle.fk_model.specs.SpaceRows.{space_hold, space_release, hold_set, space_make_held}
 use Rattle.fk_model.specs.StateRows.{referable}
 use Rattle.fk_model.specs.ObjectRows.{new_object, create, kills, destroys, destroy, rename, search as search_row, pointer_to, pointer_in, point, clear, locate, count_in}
@@ -45,7 +45,7 @@ make_space-safe w k s holder place held = record { place = place; held = held }
 new_object-safe : (w : World) (k : ℕ) (s : Path) (kind : ℕ) → IsVacant w k s → IfAny (IsSafe w) (new_object (k ∷ s) kind)
 new_object-safe w k s kind place = search (pick-safe, make-safe, make_space-safe) depth 15
 
-create-goes : (w : World) (c : Caller) (s x j kind : ℕ) (space : Path) (made : Change) → IsCaller w c → place w c s ≡ Ok space → slot_for c x ≡ Ok j → new_object (x ∷ space) kind ≡ Some made → is_some (w.body (x ∷ space)) ≡ false → SafeOutcome w (done c (made ∷ []) [])
+create-goes : (w : World) (c : Caller) (s x j kind : ℕ) (space : Path) (made : Change) → IsCaller w c → space_argument w c s ≡ Ok space → slot_for c x ≡ Ok j → new_object (x ∷ space) kind ≡ Some made → is_some (w.body (x ∷ space)) ≡ false → SafeOutcome w (done c (made ∷ []) [])
 create-goes w c s x j kind space made caller placed slot new free =
     let safe = new_object-safe w x space kind (vacant w c x j space (place-space w c s space caller placed) slot free) in
     safe-done w c (made ∷ []) [] (rw new at safe, tt)

@@ -8,12 +8,12 @@ use Rattle.fk_model.specs.declared.names.Kind.TheVariants as kinds
 use Rattle.fk_model.specs.declared.statuses.status.TheConstants.{BADHANDLE, WRONGKIND}
 use Rattle.fk_model.specs.Places.{Path, Ptr}
 use Rattle.fk_model.specs.Places.Ptr.{At, Out}
-use Rattle.fk_model.specs.Objects.{Thread, Body, kind_of, same_kind, number_of, thread_of, port_of, space_of, reference_of, and_then}
+use Rattle.fk_model.specs.Objects.{Thread, Body, kind_of, same_kind, number_of_kind, thread_of, port_of, space_of, reference_of, and_then}
 use Rattle.fk_model.specs.Objects.Body.{Port, Space, Thread_of, Reference}
 use Rattle.fk_model.specs.World.{World}
 use Rattle.fk_model.specs.Searches.{has_residents, leaf, is_serving, client_at}
 use Rattle.fk_model.specs.Outcomes.{Caller, path_of, last_slot, or_refuse}
-use Rattle.fk_model.specs.Readers.{and_read, slot_for, seen_as, object_in, kind_at, is_kind, led_to, handled, handle, path_at, place, referred}
+use Rattle.fk_model.specs.Readers.{and_read, slot_for, seen_as, object_in, kind_at, is_kind, led_to, handled, handle, path_at, space_argument, referred}
 use Rattle.fk_model.specs.Valid.{IsConsistent, kind_there, is_one_of, leads_there, may_lead, HasService, services, IsRooted, IsPaged}
 use Rattle.fk_laws.proofs.safety.Safe.{IsAlone}
 
@@ -66,7 +66,7 @@ body-reference_of b to seen = cc
 
 -- kinds with one number are alike in every list
 pub same_kind-one_of : (a b : Kind) (wanted : List Kind) → same_kind a b ≡ true → list_any (same_kind b) wanted ≡ true → list_any (same_kind a) wanted ≡ true
-same_kind-one_of a b wanted same among = ap (λ n. list_any (λ k. eqb n (number_of k)) wanted) (eqb-true (number_of a) (number_of b) same) ∙ among
+same_kind-one_of a b wanted same among = ap (λ n. list_any (λ k. eqb n (number_of_kind k)) wanted) (eqb-true (number_of_kind a) (number_of_kind b) same) ∙ among
 
 pub one_of-itself : (kind : Kind) (others : List Kind) → list_any (same_kind kind) (kind ∷ others) ≡ true
 one_of-itself kinds.Mutex others = refl
@@ -131,7 +131,7 @@ at-leads w wanted x h = by (w.body x) h
   where
     by : (o : Option Body) → is_kind wanted (and_then (λ b. Some (kind_of b)) o) ≡ true → is_one_of (wanted ∷ []) (option_map kind_of o) ≡ true
     by None h = cc
-    by (Some b) h = same_kind-one_of (kind_of b) wanted (wanted ∷ []) (eq-eqb _ _ (sym (eqb-true (number_of wanted) (number_of (kind_of b)) h))) (one_of-itself wanted [])
+    by (Some b) h = same_kind-one_of (kind_of b) wanted (wanted ∷ []) (eq-eqb _ _ (sym (eqb-true (number_of_kind wanted) (number_of_kind (kind_of b)) h))) (one_of-itself wanted [])
 
 pub led_to-leads : (w : World) (wanted : Kind) (to p : Ptr) → led_to w wanted to ≡ Ok p → leads_there (kind_there w) (wanted ∷ []) p ≡ true
 led_to-leads w wanted (At x) p h = by (is_kind wanted (kind_at w (At x))) refl h
@@ -153,7 +153,7 @@ handled-leads w wanted x p (Some (Reference to)) e h = led_to-leads w wanted to 
 handled-leads w wanted x p (Some b) e h = by (same_kind wanted (kind_of b)) refl h
   where
     by : (t : Bool) → same_kind wanted (kind_of b) ≡ t → (if t then Ok (At x) else Err WRONGKIND) ≡ Ok p → leads_there (kind_there w) (wanted ∷ []) p ≡ true
-    by true same h = let here : p ≡ At x = cc in rw (here, e) (same_kind-one_of (kind_of b) wanted (wanted ∷ []) (eq-eqb _ _ (sym (eqb-true (number_of wanted) (number_of (kind_of b)) same))) (one_of-itself wanted []))
+    by true same h = let here : p ≡ At x = cc in rw (here, e) (same_kind-one_of (kind_of b) wanted (wanted ∷ []) (eq-eqb _ _ (sym (eqb-true (number_of_kind wanted) (number_of_kind (kind_of b)) same))) (one_of-itself wanted []))
     by false same h = cc
 
 pub handle-leads : (w : World) (c : Caller) (wanted : Kind) (h : ℕ) (p : Ptr) → handle w c wanted h ≡ Ok p → leads_there (kind_there w) (wanted ∷ []) p ≡ true
@@ -181,8 +181,8 @@ space-there w x leads = by (kind_there w x) leads
     by (Some kinds.Space) h = refl
     by (Some kind) h = cc
 
-pub place-space : (w : World) (c : Caller) (s : ℕ) (space : Path) → IsCaller w c → place w c s ≡ Ok space → kind_there w space ≡ Some kinds.Space
-unfolding place
+pub place-space : (w : World) (c : Caller) (s : ℕ) (space : Path) → IsCaller w c → space_argument w c s ≡ Ok space → kind_there w space ≡ Some kinds.Space
+unfolding space_argument
 place-space w c s space caller read = by (eqb s OWN_SPACE) read
   where
     led : (p : Ptr) → leads_there (kind_there w) (kinds.Space ∷ []) p ≡ true → path_at p ≡ Ok space → kind_there w space ≡ Some kinds.Space

@@ -21,13 +21,13 @@ use Rattle.fk_model.specs.Outcomes.{Said, Outcome, Caller, path_of, done, tellin
 use Rattle.fk_model.specs.Outcomes.Said.{Nothing}
 use Rattle.fk_model.specs.Outcomes.Outcome.{Waits, Goes}
 use Rattle.fk_model.specs.Holds.{is_frozen_for}
-use Rattle.fk_model.specs.Readers.{place, own_page, their_page}
+use Rattle.fk_model.specs.Readers.{space_argument, own_page, their_page}
 use Rattle.fk_model.specs.declared.statuses.status.TheConstants.{FULL, HELD, OCCUPIED, BADADDRESS}
-use Rattle.fk_model.specs.Talks.{Line, thread_at}
+use Rattle.fk_model.specs.Talks.{Line, thread_led_to}
 use Rattle.fk_model.specs.UserRows.{word_at, halts_with, loads, stores, enters, performs, executes, run_row, run_row_by}
 use Rattle.fk_model.specs.SyncRows.{mutex_lock, mutex_trylock, mutex_unlock, cond_wait, cond_asleep, woken, asleep_on, sleepers, signals, unless_slept_on, picks_sleeper, cond_signal, cond_broadcast}
 use Rattle.fk_model.specs.TransferRows.{moved_words, has_sent, sends_words, sends_into, sends_to_thread, sends_to, sends, send, awaits, receive, passes_to_thread, passes_to, over, overwritten, block}
-use Rattle.fk_model.specs.SpaceRows.{thread_stop, thread_go, gives, gives_from, page_give, copies, copies_home, answers_home, copies_to, page_take, page_read, page_next, is_page, is_bad_source}
+use Rattle.fk_model.specs.SpaceRows.{thread_stop, thread_go, gives_page, gives_from, page_give, copies, copies_home, answers_home, copies_to, page_take, page_read, page_next, is_page, is_bad_source}
 use Rattle.fk_model.specs.Valid.{HasPlace}
 use Rattle.fk_laws.proofs.safety.Safe.{AreSafe}
 use Rattle.fk_laws.proofs.safety.Outcomes.{SafeOutcome, waits, goes, safe-then, safe-when, safe-done, safe-telling, safe_row, safe->>=, safe-refuse}
@@ -140,7 +140,7 @@ sends_to_thread-safe w facts c side client address count page None = waits
 sends_to_thread-safe w facts c side client address count page (Some e) = search (safe-when, sends_into-safe)
 
 sends_to-safe : (w : World) → Facts w → (c : Caller) (side : Turn) (l : Line) (address count : ℕ) (page : List ℕ) (peer : Peer) → SafeOutcome w (sends_to w c side l address count page peer)
-sends_to-safe w facts c side l address count page (Server thread) = sends_to_thread-safe w facts c side l.client address count page (thread_at w thread)
+sends_to-safe w facts c side l address count page (Server thread) = sends_to_thread-safe w facts c side l.client address count page (thread_led_to w thread)
 sends_to-safe w facts c side l address count page Service = search (safe-when, has_sent-safe)
 sends_to-safe w facts c side l address count page Parked = waits
 
@@ -174,7 +174,7 @@ passes_to_thread-safe w c side client None = waits
 passes_to_thread-safe w c side client (Some e) = search (safe-when, safe-done)
 
 passes_to-safe : (w : World) (c : Caller) (side : Turn) (l : Line) (peer : Peer) → SafeOutcome w (passes_to w c side l peer)
-passes_to-safe w c side l (Server thread) = passes_to_thread-safe w c side l.client (thread_at w thread)
+passes_to-safe w c side l (Server thread) = passes_to_thread-safe w c side l.client (thread_led_to w thread)
 passes_to-safe w c side l Service = search (safe-when, safe-telling, safe-done)
 passes_to-safe w c side l Parked = waits
 
@@ -192,16 +192,16 @@ pub thread_go-safe : (w : World) (c : Caller) (h : ℕ) → SafeOutcome w (threa
 unfolding thread_go
 thread_go-safe w c h = search (safe_row, safe-done) depth 9
 
-gives-safe : (w : World) (c : Caller) (space : Path) (page : ℕ) (words : List ℕ) → HasPlace w space page → SafeOutcome w (gives w c space page words)
+gives-safe : (w : World) (c : Caller) (space : Path) (page : ℕ) (words : List ℕ) → HasPlace w space page → SafeOutcome w (gives_page w c space page words)
 gives-safe w c space page words place = safe-refuse w OCCUPIED (is_some (w.page space page)) _ (λ free. safe-done w c (PutPage space page words ∷ []) [] (place, tt))
 
 gives_from-safe : (w : World) → Facts w → (c : Caller) (space : Path) (page address : ℕ) → HasPlace w space page → SafeOutcome w (gives_from w c space page address)
 gives_from-safe w facts c space page address place = by c.is_porter (address == ZEROS)
   where
     go : Path → ℕ → Outcome
-    go s own = gives w c space page (words_at w s own)
+    go s own = gives_page w c space page (words_at w s own)
 
-    by : (porter zeros : Bool) → SafeOutcome w (if porter then gives w c space page c.words else (if zeros then gives w c space page (replicate PAGE_WORDS 0) else own_page w c address false go))
+    by : (porter zeros : Bool) → SafeOutcome w (if porter then gives_page w c space page c.words else (if zeros then gives_page w c space page (replicate PAGE_WORDS 0) else own_page w c address false go))
     by true zeros = gives-safe w c space page c.words place
     by false true = gives-safe w c space page _ place
     by false false = own_page-safe w facts c address false go (λ s own home. gives-safe w c space page _ place)
@@ -217,7 +217,7 @@ good_page page bad h = ltb-true page PAGES (by (is_page page) h)
 pub page_give-safe : (w : World) → Facts w → (c : Caller) (s page address : ℕ) → IsCaller w c → SafeOutcome w (page_give w c s page address)
 unfolding page_give
 page_give-safe w facts c s page address caller =
-    safe->>= w (place w c s) _ (λ space read. safe-refuse w HELD (is_frozen_for w (path_of c) space) _ (λ free.
+    safe->>= w (space_argument w c s) _ (λ space read. safe-refuse w HELD (is_frozen_for w (path_of c) space) _ (λ free.
     safe-refuse w BADADDRESS (not (is_page page) || is_bad_source c address) _ (λ good.
     gives_from-safe w facts c space page address (record { space = place-space w c s space caller read; number = good_page page (is_bad_source c address) good }))))
 

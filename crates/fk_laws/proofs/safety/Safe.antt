@@ -10,7 +10,7 @@ use Rattle.fk_model.specs.World.{World, Edit, Change, apply}
 use Rattle.fk_model.specs.World.Edit.{SetLocked, SetWindow, SetExtent, SetMember, SetPointer, SetHolder, Proceed, Shift, Finish, End, Replace, SetStops, SetTalk, CountMoved, PassTurn, SetPeer, SetFault, SetTaker}
 use Rattle.fk_model.specs.World.Change.{Alter, Make, MakeSpace, Kill, Move, PutPage, DropPage}
 use Rattle.fk_model.specs.Searches.{talk_at, fault_at}
-use Rattle.fk_model.specs.Records.{is_extent}
+use Rattle.fk_model.specs.Records.{is_page_range}
 use Rattle.fk_model.specs.StateRows.{held_kinds}
 use Rattle.fk_model.specs.Valid.{kind_there, leads_there, may_lead, all_in, is_good, is_good_set, is_served_port, HasService, services, lies_with, HasPlace}
 
@@ -67,8 +67,8 @@ takes_pointer w to other = true
 
 abbrev pub IsSafeEdit : World → Path → Edit → Type 0
 IsSafeEdit w x (SetLocked locked) = Unit {0}
-IsSafeEdit w x (SetWindow first count offset write) = (is_extent first count && nat_lt offset PAGES) ≡ true
-IsSafeEdit w x (SetExtent first count write) = is_extent first count ≡ true
+IsSafeEdit w x (SetWindow first count offset write) = (is_page_range first count && nat_lt offset PAGES) ≡ true
+IsSafeEdit w x (SetExtent first count write) = is_page_range first count ≡ true
 IsSafeEdit w x (SetMember set) = all_in (takes_set w x set) (w.body x) ≡ true
 IsSafeEdit w x (SetPointer to) = all_in (takes_pointer w to) (w.body x) ≡ true
 IsSafeEdit w x (SetHolder holder) = all_in (leads_there (kind_there w) (kinds.Thread ∷ [])) holder ≡ true

@@ -16,8 +16,8 @@ use Rattle.fk_model.specs.LinkRows.{portset_of}
 use Rattle.fk_model.specs.Outcomes.{Outcome, Caller, done}
 use Rattle.fk_model.specs.Readers.{object_in, anything, kind_at, own_page}
 use Rattle.fk_model.specs.Reach.{words_at}
-use Rattle.fk_model.specs.Records.{record_of, is_extent, is_flag, is_member_word, member_by, set_edits, is_state, takes_state, word}
-use Rattle.fk_model.specs.StateRows.{shows, shows_to, get_state, sets, record_at, sets_from, set_state, Field, peer_field, or_null, thread_field, field_of, first_field, field_number, field_pointer, get_ptr, referable, held_kinds, is_among, set_ptr}
+use Rattle.fk_model.specs.Records.{record_of, is_page_range, is_flag, is_member_word, member_by, set_edits, is_state, takes_state, word}
+use Rattle.fk_model.specs.StateRows.{shows, shows_to, get_state, sets_record, record_at, sets_from, set_state, Field, peer_field, or_null, thread_field, field_of, first_field, field_number, field_pointer, get_ptr, referable, held_kinds, is_of_kinds, set_ptr}
 use Rattle.fk_model.specs.StateRows.Field.{Pointer}
 use Rattle.fk_model.specs.Valid.{IsConsistent, kind_there, is_one_of, leads_there, may_lead, all_in, is_good, is_good_set, is_good_talk, is_good_fault, is_good_peer}
 use Rattle.fk_laws.proofs.safety.Safe.{takes_pointer, AreSafe}
@@ -69,19 +69,19 @@ sets-goes : (w : World) (c : Caller) (k : ℕ) (s : Path) (b : Body) (words : Li
 unfolding takes_state
 sets-goes w c k s b words there takes = safe-done w c _ [] (edits-safe w k s b words there (and_parts _ _ (not-false _ takes)).1)
 
-sets-safe : (w : World) (c : Caller) (k : ℕ) (s : Path) (b : Body) (words : List ℕ) → w.body (k ∷ s) ≡ Some b → SafeOutcome w (sets w c s (k ∷ s) b words)
+sets-safe : (w : World) (c : Caller) (k : ℕ) (s : Path) (b : Body) (words : List ℕ) → w.body (k ∷ s) ≡ Some b → SafeOutcome w (sets_record w c s (k ∷ s) b words)
 sets-safe w c k s b words there = search (safe_row, sets-goes)
 
 sets_from-safe : (w : World) (c : Caller) (k : ℕ) (s : Path) (b : Body) (address : ℕ) → Facts w → object_in w c anything s k ≡ Ok b → SafeOutcome w (sets_from w c s (k ∷ s) b address)
 sets_from-safe w c k s b address facts read = by c.is_porter
   where
     go : Path → ℕ → Outcome
-    go t page = sets w c s (k ∷ s) b (record_at (words_at w t page) address)
+    go t page = sets_record w c s (k ∷ s) b (record_at (words_at w t page) address)
 
     there : w.body (k ∷ s) ≡ Some b
     there = let found = object_in-found w c anything s k b read in let same : found.body ≡ b = (let e : Some found.body ≡ Some b = found.seen in cc) in rw same at found.there
 
-    by : (porter : Bool) → SafeOutcome w (if porter then sets w c s (k ∷ s) b c.words else own_page w c address false go)
+    by : (porter : Bool) → SafeOutcome w (if porter then sets_record w c s (k ∷ s) b c.words else own_page w c address false go)
     by true = sets-safe w c k s b c.words there
     by false = own_page-safe w facts c address false go (λ t page home. sets-safe w c k s b _ there)
 
@@ -143,8 +143,8 @@ thread-fit there t n talk fault =
     (either-fit there (n == 3) (Some (or_null (and_then (λ (fault : Fault). and_then (λ taker. Some (peer_field taker)) fault.taker) t.fault))) None (fault_taker-fit there t.fault fault) tt)))
 
 fields-fit : (there : Path → Option Kind) (x : Path) (b : Body) (n : ℕ) → is_good there x b ≡ true → AllFit there (field_of n b)
-fields-fit there x (Mapping m) n good = first-fit there n (Pointer m.region) (may-among there kinds.Region referable m.region refl (and_parts (is_extent m.first m.count && _) _ good).1)
-fields-fit there x (Region r) n good = first-fit there n (Pointer r.keeper) (may-among there kinds.Port referable r.keeper refl (and_parts (is_extent r.first r.count) _ good).1)
+fields-fit there x (Mapping m) n good = first-fit there n (Pointer m.region) (may-among there kinds.Region referable m.region refl (and_parts (is_page_range m.first m.count && _) _ good).1)
+fields-fit there x (Region r) n good = first-fit there n (Pointer r.keeper) (may-among there kinds.Port referable r.keeper refl (and_parts (is_page_range r.first r.count) _ good).1)
 fields-fit there x (Reference to) n good = first-fit there n (Pointer to) good
 fields-fit there x (Space birth holder) n good = first-fit there n (or_null (and_then (λ p. Some (Pointer p)) holder)) (holder-fit there holder good)
 fields-fit there x (Thread_of t) n good = let both = and_parts (all_in (is_good_talk there) t.talk) _ good in thread-fit there t n both.0 both.1
@@ -168,11 +168,11 @@ get_ptr-safe w valid c s x field reference = search (safe_row, get_ptr-goes) dep
 -- ---- set_ptr
 
 -- a pointer among these kinds, where it leads to something
-among-leads : (w : World) (wanted : List Kind) (to : Ptr) → may_lead (kind_there w) referable to ≡ true → is_among wanted (kind_at w to) ≡ true → may_lead (kind_there w) wanted to ≡ true
+among-leads : (w : World) (wanted : List Kind) (to : Ptr) → may_lead (kind_there w) referable to ≡ true → is_of_kinds wanted (kind_at w to) ≡ true → may_lead (kind_there w) wanted to ≡ true
 unfolding kind_there
 among-leads w wanted (At x) may among = by (w.body x) may among
   where
-    by : (o : Option Body) → is_one_of referable (option_map kind_of o) ≡ true → is_among wanted (and_then (λ b. Some (kind_of b)) o) ≡ true → is_one_of wanted (option_map kind_of o) ≡ true
+    by : (o : Option Body) → is_one_of referable (option_map kind_of o) ≡ true → is_of_kinds wanted (and_then (λ b. Some (kind_of b)) o) ≡ true → is_one_of wanted (option_map kind_of o) ≡ true
     by None may among = cc
     by (Some b) may among = among
 among-leads w wanted to may among = refl
@@ -184,7 +184,7 @@ takes-held w to (Reference old) may = may
 takes-held w to b may = refl
 
 set_ptr-goes : (w : World) (c : Caller) (x reference : ℕ) (space : Path) (b : Body) (to : Ptr) → IsConsistent w → object_in w c anything space x ≡ Ok b → object_in w c reference_of c.space reference ≡ Ok to →
-    not (is_among (held_kinds b) (kind_at w to)) ≡ false → SafeOutcome w (done c (Alter (x ∷ space) (SetPointer to) ∷ []) [])
+    not (is_of_kinds (held_kinds b) (kind_at w to)) ≡ false → SafeOutcome w (done c (Alter (x ∷ space) (SetPointer to) ∷ []) [])
 set_ptr-goes w c x reference space b to valid read read2 among =
     let object = object_in-found w c anything space x b read in
     let from = object_in-found w c reference_of c.space reference to read2 in

@@ -14,7 +14,7 @@ use Rattle.fk_model.specs.World.Edit.{SetTalk, SetPeer, SetTaker, Finish}
 use Rattle.fk_model.specs.Searches.{talk_at, fault_at, is_serving}
 use Rattle.fk_model.specs.Outcomes.{Caller, path_of}
 use Rattle.fk_model.specs.Talks.{Line, ends_beyond}
-use Rattle.fk_model.specs.LinkRows.{connect, new_talk, connecting_to, Candidate, is_member, slot_in_set, is_parked, is_open, faulting, connecting, resuming, candidate_by, candidate, takes, takes_picked, wait, end_all, removes, disconnect}
+use Rattle.fk_model.specs.LinkRows.{connect, new_talk, connecting_to, Candidate, is_member, slot_in_set, is_parked, is_open, faulting, connecting, resuming, candidate_by, candidate, takes_candidate, takes_picked, wait, end_all, removes, disconnect}
 use Rattle.fk_model.specs.LinkRows.Candidate.{Faulting, Connecting, Resuming}
 use Rattle.fk_model.specs.Valid.{kind_there, services, lies_with, IsRooted}
 use Rattle.fk_model.proofs.walks.PlaceLaws.{same_path_eq}
@@ -130,7 +130,7 @@ candidate-good w rooted space set x = if_unheld _
     if_unheld true = by _ refl
     if_unheld false = tt
 
-takes-safe : (w : World) (c : Caller) → Facts w → IsCaller w c → is_serving w (path_of c) ≡ false → (x : Path) (o : Option Candidate) → GoodCandidate w c.space x o → SafeOutcome w (takes c x o)
+takes-safe : (w : World) (c : Caller) → Facts w → IsCaller w c → is_serving w (path_of c) ≡ false → (x : Path) (o : Option Candidate) → GoodCandidate w c.space x o → SafeOutcome w (takes_candidate c x o)
 takes-safe w c facts caller idle x None good = waits
 takes-safe w c facts caller idle x (Some (Faulting slot fault)) good = safe-ended w c (Alter x (SetTaker (Some (Server (At (path_of c))))) ∷ []) _ (taker, tt)
   where

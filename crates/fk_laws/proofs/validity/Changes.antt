@@ -6,7 +6,7 @@ use Rattle.fk_model.specs.declared.names.Kind.TheVariants as kinds
 use Rattle.fk_model.specs.Places.{Path, same_path}
 use Rattle.fk_model.specs.Objects.{Body, kind_of}
 use Rattle.fk_model.specs.Objects.Body.{Space}
-use Rattle.fk_model.specs.World.{World, Change, apply, apply_all, at_path, edited, through, without, following, moved_to}
+use Rattle.fk_model.specs.World.{World, Change, apply, apply_all, at_path, edited, through, death_sweep, following, moved_to}
 use Rattle.fk_model.specs.World.Change.{Alter, Make, MakeSpace, Kill, Move, PutPage, DropPage}
 use Rattle.fk_model.specs.Valid.{IsConsistent, kind_there, IsRooted, HasPlace, IsPaged}
 use Rattle.fk_model.proofs.walks.PlaceLaws.{same_path_eq, same_path_ne}
@@ -86,9 +86,9 @@ rooted-kill w x alone rooted = record {
   slots = λ k y. slot k y (same_path (k ∷ y) x);
 }
   where
-    slot : (k : ℕ) (y : Path) (t : Bool) → IsSome (if t then None else option_map (through (without x) (k ∷ y)) (w.body (k ∷ y))) → k < SLOTS
+    slot : (k : ℕ) (y : Path) (t : Bool) → IsSome (if t then None else option_map (through (death_sweep x) (k ∷ y)) (w.body (k ∷ y))) → k < SLOTS
     slot k y true h = cc
-    slot k y false h = rooted.slots k y (live_through (through (without x) (k ∷ y)) (w.body (k ∷ y)) h)
+    slot k y false h = rooted.slots k y (live_through (through (death_sweep x) (k ∷ y)) (w.body (k ∷ y)) h)
 
 rooted-move : (w : World) (k : ℕ) (s : Path) (slot : ℕ) → IsSafeMove w k s slot → IsRooted w → IsRooted (apply (Move (k ∷ s) slot) w)
 unfolding apply kind_there same_path
@@ -155,7 +155,7 @@ unfolding apply kind_there
 paged-kill w x paged = paged-kept w (apply (Kill x) w) paged (λ s page. by s page (same_path s x))
   where
     by : (s : Path) (page : ℕ) (t : Bool) → IsSome (if t then None else w.page s page) →
-        HasPlace w s page × (option_map kind_of (if t then None else option_map (through (without x) s) (w.body s)) ≡ option_map kind_of (w.body s))
+        HasPlace w s page × (option_map kind_of (if t then None else option_map (through (death_sweep x) s) (w.body s)) ≡ option_map kind_of (w.body s))
     by s page true there = cc
     by s page false there = (paged s page there, outline-kind _ ∙ ap (option_map (λ (f : Outline). f.kind)) (outline-without x s (w.body s)) ∙ sym (outline-kind (w.body s)))
 

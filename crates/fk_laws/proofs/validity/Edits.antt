@@ -13,7 +13,7 @@ use Rattle.fk_model.specs.World.{World, Edit, apply, at_path, edited, on_thread,
 use Rattle.fk_model.specs.World.Edit.{SetLocked, SetWindow, SetExtent, SetMember, SetPointer, SetHolder, Proceed, Shift, Finish, End, Replace, SetStops, SetTalk, CountMoved, PassTurn, SetPeer, SetFault, SetTaker}
 use Rattle.fk_model.specs.World.Change.{Alter}
 use Rattle.fk_model.specs.Searches.{talk_at, fault_at}
-use Rattle.fk_model.specs.Records.{is_extent}
+use Rattle.fk_model.specs.Records.{is_page_range}
 use Rattle.fk_model.specs.Valid.{IsConsistent, kind_there, leads_there, may_lead, all_in, is_good, is_good_peer, is_good_talk, is_good_fault, is_served_port}
 use Rattle.fk_laws.proofs.validity.Ties.{Tie, tie_of, claim_of, body_tie, body_claim, tie_at, claim_at, facts, services-load, tie_some}
 use Rattle.fk_laws.proofs.validity.Ties.Tie.{Joins}
@@ -122,11 +122,11 @@ module _ (there : Path → Option Kind) (x : Path) where
   good-locked locked (Mutex old) h = refl
   good-locked locked b h = h
 
-  good-window : (first count offset : ℕ) (write : Bool) → (is_extent first count && nat_lt offset PAGES) ≡ true → (b : Body) → is_good there x b ≡ true → is_good there x (with_window first count offset write b) ≡ true
+  good-window : (first count offset : ℕ) (write : Bool) → (is_page_range first count && nat_lt offset PAGES) ≡ true → (b : Body) → is_good there x b ≡ true → is_good there x (with_window first count offset write b) ≡ true
   good-window first count offset write safe (Mapping m) h = and_from _ _ safe (and_parts _ (may_lead there (kinds.Region ∷ []) m.region) h).1
   good-window first count offset write safe b h = h
 
-  good-extent : (first count : ℕ) (write : Bool) → is_extent first count ≡ true → (b : Body) → is_good there x b ≡ true → is_good there x (with_extent first count write b) ≡ true
+  good-extent : (first count : ℕ) (write : Bool) → is_page_range first count ≡ true → (b : Body) → is_good there x b ≡ true → is_good there x (with_extent first count write b) ≡ true
   good-extent first count write safe (Region r) h = and_from _ _ safe (and_parts _ (may_lead there (kinds.Port ∷ []) r.keeper) h).1
   good-extent first count write safe b h = h
 

@@ -8,7 +8,7 @@ use Rattle.fk_model.specs.Places.Ptr.{Dead, At}
 use Rattle.fk_model.specs.Objects.{Peer, Talk, Fault, Body, kind_of, and_then, holds}
 use Rattle.fk_model.specs.Objects.Peer.{Server, Service}
 use Rattle.fk_model.specs.Objects.Body.{Mutex, Cond, Mapping, Region, Port, Portset, Space, Thread_of, Reference}
-use Rattle.fk_model.specs.World.{World, apply, set_at, serves, through, without, talk_without, taker_without, fault_without}
+use Rattle.fk_model.specs.World.{World, apply, set_at, serves, through, death_sweep, talk_without, taker_without, fault_without}
 use Rattle.fk_model.specs.World.Change.{Kill}
 use Rattle.fk_model.specs.StateRows.{referable}
 use Rattle.fk_model.specs.Valid.{IsConsistent, kind_there, is_one_of, leads_there, may_lead, all_in, is_good, is_good_peer, is_good_talk, is_good_fault, is_good_set, birth_of, birth_at, is_served_port}
@@ -88,7 +88,7 @@ module _ (x : Path) (there : Path → Option Kind) where
       by true e = refl
       by false e = let both = and_parts (not served) (is_one_of (kinds.Portset ∷ []) (there (set_at at set))) h in and_from _ _ both.0 (rw e both.1)
 
-  good-killed : (at : Path) (b : Body) → is_good there at b ≡ true → is_good left at (through (without x) at b) ≡ true
+  good-killed : (at : Path) (b : Body) → is_good there at b ≡ true → is_good left at (through (death_sweep x) at b) ≡ true
   good-killed at (Mapping m) h = let both = and_parts _ (may_lead there (kinds.Region ∷ []) m.region) h in and_from _ _ both.0 (pointer-killed (kinds.Region ∷ []) m.region both.1)
   good-killed at (Region r) h = let both = and_parts _ (may_lead there (kinds.Port ∷ []) r.keeper) h in and_from _ _ both.0 (pointer-killed (kinds.Port ∷ []) r.keeper both.1)
   good-killed at (Port set served) h = set-killed at set served h
@@ -124,15 +124,15 @@ claim-without x (Some fault) tie h = by (leads_to x fault.port) fault.taker h
     by false None g = cc
     by false (Some peer) g = taken peer (serves x peer) g
 
-tie-killed : (x q : Path) (o : Option Body) (port : Ptr) (peer : Peer) → body_tie (option_map (through (without x) q) o) ≡ Some (Joins port peer) → (body_tie o ≡ Some (Joins port peer)) × (leads_to x port ≡ false)
+tie-killed : (x q : Path) (o : Option Body) (port : Ptr) (peer : Peer) → body_tie (option_map (through (death_sweep x) q) o) ≡ Some (Joins port peer) → (body_tie o ≡ Some (Joins port peer)) × (leads_to x port ≡ false)
 tie-killed x q (Some (Thread_of t)) port peer h = tie-without x t.talk port peer h
 tie-killed x q o port peer h = cc
 
-claim-killed : (x q : Path) (o : Option Body) (tie : Tie) → body_claim (option_map (through (without x) q) o) ≡ Some tie → body_claim o ≡ Some tie
+claim-killed : (x q : Path) (o : Option Body) (tie : Tie) → body_claim (option_map (through (death_sweep x) q) o) ≡ Some tie → body_claim o ≡ Some tie
 claim-killed x q (Some (Thread_of t)) tie h = claim-without x t.fault tie h
 claim-killed x q o tie h = cc
 
-pub outline-without : (x q : Path) (o : Option Body) → option_map outline_of (option_map (through (without x) q) o) ≡ option_map outline_of o
+pub outline-without : (x q : Path) (o : Option Body) → option_map outline_of (option_map (through (death_sweep x) q) o) ≡ option_map outline_of o
 outline-without x q (Some (Port set served)) = refl
 outline-without x q (Some (Mutex locked)) = refl
 outline-without x q (Some Cond) = refl
@@ -148,12 +148,12 @@ outline-without x q None = refl
 
 module _ (w : World) (x : Path) (alone : IsAlone w x) (valid : IsConsistent w) where
   abbrev after : World
-  after = record { body = λ q. if same_path q x then None else option_map (through (without x) q) (w.body q); page = λ s g. if same_path s x then None else w.page s g; next = w.next }
+  after = record { body = λ q. if same_path q x then None else option_map (through (death_sweep x) q) (w.body q); page = λ s g. if same_path s x then None else w.page s g; next = w.next }
 
-  put_none : {A : Type 0} (h : Option Body → Option A) → h None ≡ None → ((q : Path) (o : Option Body) → h (option_map (through (without x) q) o) ≡ h o) → (q : Path) → h (after.body q) ≡ put x None (λ q. h (w.body q)) q
+  put_none : {A : Type 0} (h : Option Body → Option A) → h None ≡ None → ((q : Path) (o : Option Body) → h (option_map (through (death_sweep x) q) o) ≡ h o) → (q : Path) → h (after.body q) ≡ put x None (λ q. h (w.body q)) q
   put_none h nothing same q = by (same_path q x)
     where
-      by : (t : Bool) → h (if t then None else option_map (through (without x) q) (w.body q)) ≡ (if t then None else h (w.body q))
+      by : (t : Bool) → h (if t then None else option_map (through (death_sweep x) q) (w.body q)) ≡ (if t then None else h (w.body q))
       by true = nothing
       by false = same q (w.body q)
 
@@ -165,7 +165,7 @@ module _ (w : World) (x : Path) (alone : IsAlone w x) (valid : IsConsistent w) w
   births_after = λ i q. put_none (and_then birth_of) refl (λ q o. outline-birth _ ∙ ap (and_then (λ (f : Outline). f.birth)) (outline-without x q o) ∙ sym (outline-birth o)) q i
 
   served_after : (y : Path) → leads_to x (At y) ≡ false → is_served_port w (At y) ≡ true → is_served_port after (At y) ≡ true
-  served_after y e h = rw e (outline-served (option_map (through (without x) y) (w.body y)) ∙ ap (holds (λ (f : Outline). f.served)) (outline-without x y (w.body y)) ∙ sym (outline-served (w.body y)) ∙ h)
+  served_after y e h = rw e (outline-served (option_map (through (death_sweep x) y) (w.body y)) ∙ ap (holds (λ (f : Outline). f.served)) (outline-without x y (w.body y)) ∙ sym (outline-served (w.body y)) ∙ h)
 
   within_put : {A : Type 0} (a : Path → Option A) (q : Path) (v : A) → put x None a q ≡ Some v → a q ≡ Some v
   within_put a q v h = by (same_path q x) h
@@ -177,14 +177,14 @@ module _ (w : World) (x : Path) (alone : IsAlone w x) (valid : IsConsistent w) w
   tie_after : (q : Path) (port : Ptr) (peer : Peer) → tie_at after q ≡ Some (Joins port peer) → (tie_at w q ≡ Some (Joins port peer)) × (leads_to x port ≡ false)
   tie_after q port peer h = by (same_path q x) h
     where
-      by : (t : Bool) → body_tie (if t then None else option_map (through (without x) q) (w.body q)) ≡ Some (Joins port peer) → (tie_at w q ≡ Some (Joins port peer)) × (leads_to x port ≡ false)
+      by : (t : Bool) → body_tie (if t then None else option_map (through (death_sweep x) q) (w.body q)) ≡ Some (Joins port peer) → (tie_at w q ≡ Some (Joins port peer)) × (leads_to x port ≡ false)
       by true g = cc
       by false g = tie-killed x q (w.body q) port peer g
 
   claim_after : IsWithin (claim_at after) (claim_at w)
   claim_after q tie h = by (same_path q x) h
     where
-      by : (t : Bool) → body_claim (if t then None else option_map (through (without x) q) (w.body q)) ≡ Some tie → claim_at w q ≡ Some tie
+      by : (t : Bool) → body_claim (if t then None else option_map (through (death_sweep x) q) (w.body q)) ≡ Some tie → claim_at w q ≡ Some tie
       by true g = cc
       by false g = claim-killed x q (w.body q) tie g
 
@@ -206,11 +206,11 @@ module _ (w : World) (x : Path) (alone : IsAlone w x) (valid : IsConsistent w) w
       by false false e g = (facts w valid).parents j y g
       by false true e g = let here = same_path_eq y x e in let none : w.body (j ∷ y) ≡ None = rw here (alone.empty j) in let some : is_some (w.body (j ∷ y)) ≡ true = rw (live-kind w (j ∷ y)) at g in let off : false ≡ true = rw none at some in cc
 
-  good_after : (q : Path) (t : Bool) → all_in (is_good (put x None (kind_there w)) q) (if t then None else option_map (through (without x) q) (w.body q)) ≡ true
+  good_after : (q : Path) (t : Bool) → all_in (is_good (put x None (kind_there w)) q) (if t then None else option_map (through (death_sweep x) q) (w.body q)) ≡ true
   good_after q true = refl
   good_after q false = by (w.body q) (valid.good q)
     where
-      by : (o : Option Body) → all_in (is_good (kind_there w) q) o ≡ true → all_in (is_good (put x None (kind_there w)) q) (option_map (through (without x) q) o) ≡ true
+      by : (o : Option Body) → all_in (is_good (kind_there w) q) o ≡ true → all_in (is_good (put x None (kind_there w)) q) (option_map (through (death_sweep x) q) o) ≡ true
       by None h = refl
       by (Some b) h = good-killed x (kind_there w) q b h
 

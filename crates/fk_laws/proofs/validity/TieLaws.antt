@@ -2,11 +2,12 @@
 use Rattle.std.proofs.Common.{◌≡◌, ◌<◌, ◌≤◌, Bool, true, false, if◌then◌else◌, Option, Some, None, refl, arith, add_comm, zero-le}
 use Rattle.fk_model.specs.Places.{Path, same_path, Ptr}
 use Rattle.fk_model.specs.Objects.Peer.{Server, Service}
-use Rattle.fk_model.specs.Valid.{flag_of, lies_with}
+use Rattle.fk_model.specs.Valid.{lies_with}
 use Rattle.fk_model.proofs.walks.PlaceLaws.{same_path_eq}
 use Rattle.fk_laws.proofs.validity.Ties.{Tie, is_tied_to, load, IsServedAll, IsNear, IsSingle, AreTied}
 use Rattle.fk_laws.proofs.validity.Ties.Tie.{Joins}
 use Rattle.fk_laws.proofs.validity.Outlines.{put}
+use Rattle.fk_model.specs.Objects.{flag_of}
 
 load_flip : (s : Path) (a b : Option Tie) → load s a b ≡ load s b a
 load_flip s a b = add_comm (flag_of (is_tied_to s a)) (flag_of (is_tied_to s b))

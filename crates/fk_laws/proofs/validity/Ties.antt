@@ -5,11 +5,11 @@ use Rattle.std.proofs.Common.{◌≡◌, ℕ, ◌+◌, ◌<◌, ◌≤◌, Bool,
 use Rattle.fk_model.specs.declared.names.Kind.{Kind}
 use Rattle.fk_model.specs.declared.names.Kind.TheVariants as kinds
 use Rattle.fk_model.specs.Places.{Path, Ptr}
-use Rattle.fk_model.specs.Objects.{Peer, Talk, Fault, Thread, Body, thread_of, and_then, holds}
+use Rattle.fk_model.specs.Objects.{Peer, Talk, Fault, Thread, Body, thread_of, and_then, holds, flag_of}
 use Rattle.fk_model.specs.Objects.Peer.{Server, Service}
 use Rattle.fk_model.specs.World.{World, serves}
 use Rattle.fk_model.specs.Searches.{talk_at, fault_at}
-use Rattle.fk_model.specs.Valid.{IsConsistent, kind_there, all_in, is_good, birth_at, is_served_port, services, flag_of, lies_with}
+use Rattle.fk_model.specs.Valid.{IsConsistent, kind_there, all_in, is_good, birth_at, is_served_port, services, lies_with}
 use Rattle.fk_model.proofs.walks.WalkLaws.{live-kind}
 
 pub data Tie : Type 0 where

@@ -5,7 +5,7 @@ use Rattle.std.proofs.lemmas.List.{length-set}
 use Rattle.std.proofs.lemmas.Option.{same_Some}
 use Rattle.fk_model.specs.declared.stage.Stage.{Stage}
 use Rattle.fk_model.specs.declared.stage.Stage.TheVariants.{Create, Destroy, Rename, Search, Point, Clear, Locate, CountIn, GetState, SetState, GetPtr, SetPtr, SpaceHold, SpaceRelease, ThreadStop, ThreadGo, PageGive, PageTake, PageRead, PageNext, MutexLock, MutexTrylock, MutexUnlock, CondWait, CondAsleep, CondSignal, CondBroadcast, Connect, ClientReceive, ClientSend, ClientOver, Disconnect, Wait, ServerReceive, ServerSend, ServerOver, ServerEnd, FaultDone, LinkSet, LinkPark, FaultSet, FaultPark, HoldSet, SpaceMakeHeld}
-use Rattle.fk_model.specs.Calls.{Call, calls, code_of, said_by, with_values, without_values, words, todo_of, named_by, rest_of, IsTodo, IsRest}
+use Rattle.fk_model.specs.Calls.{Call, calls, code_of, argument_registers, with_values, without_values, words, todo_of, named_by, rest_of, IsTodo, IsRest}
 
 -- ---- 16 registers, the first apart from the others
 
@@ -36,7 +36,7 @@ sixteen (a ∷ b ∷ c ∷ d ∷ e ∷ f ∷ g ∷ h ∷ i ∷ j ∷ k ∷ l ∷
 -- ---- written, then read
 
 Reads : List Stage → List ℕ → Type 0
-Reads todo rest = (todo_of (words todo rest) ≡ Some todo) × (rest_of todo (words todo rest) ≡ without_values (said_by todo) rest)
+Reads todo rest = (todo_of (words todo rest) ≡ Some todo) × (rest_of todo (words todo rest) ≡ without_values (argument_registers todo) rest)
 
 reads : (todo : List Stage) → IsTodo todo → (r : ℕ → ℕ) → Reads todo (registers (r 0) r)
 unfolding Reads words todo_of rest_of code_of
@@ -102,7 +102,7 @@ words_read_back_lem todo rest is is_rest =
 
 -- these registers are those of the stages and of what they hold besides
 Writes : List ℕ → List Stage → Type 0
-Writes g todo = IsTodo todo × (without_values (said_by todo) (rest_of todo g) ≡ rest_of todo g) × (words todo (rest_of todo g) ≡ g)
+Writes g todo = IsTodo todo × (without_values (argument_registers todo) (rest_of todo g) ≡ rest_of todo g) × (words todo (rest_of todo g) ≡ g)
 
 -- so it is where the registers begin with the code of a call
 abbrev WritesCall : Call → Type 0
@@ -139,11 +139,11 @@ length-with_values (e ∷ es) g = length-with_values es _ ∙ length-set g e.0 e
 
 pub words_keep_length_lem : (todo : List Stage) (rest : List ℕ) → length (words todo rest) ≡ length rest
 unfolding words
-words_keep_length_lem todo rest = length-with_values (said_by todo) rest
+words_keep_length_lem todo rest = length-with_values (argument_registers todo) rest
 
 pub length-rest_of : (todo : List Stage) (g : List ℕ) → length (rest_of todo g) ≡ length g
 unfolding rest_of
-length-rest_of todo g = length-without_values (said_by todo) g
+length-rest_of todo g = length-without_values (argument_registers todo) g
 
 pub todo_writes_back_lem : (g : List ℕ) (todo : List Stage) → length g ≡ 16 → todo_of g ≡ Some todo → IsTodo todo × IsRest todo (rest_of todo g) × (words todo (rest_of todo g) ≡ g)
 unfolding Writes todo_of

@@ -6,7 +6,7 @@ ghost use Rattle.fk_model.specs.World.{apply};
 ghost use Rattle.fk_model.specs.World.Change.{Alter};
 ghost use Rattle.fk_model.specs.World.Edit.{SetHolder};
 ghost use Rattle.fk_model.specs.Valid.{kind_there};
-ghost use Rattle.fk_store.specs.Paths.{path, place, IsApart};
+ghost use Rattle.fk_store.specs.Paths.{path, place, HasOwnPath};
 ghost use Rattle.fk_store.specs.Named.{Each};
 ghost use Rattle.fk_store.specs.World.{world, place_of, IsLive};
 
@@ -21,7 +21,7 @@ impl Store {
         ensures decider { option_map (λ who. At (place_of self.now who)) result
             ≡ holds.decider (world self.now) (place_of self.now object) }
         ensures live { Each (IsLive self.now) result }
-        ensures apart { Each (IsApart (path self.now)) result }
+        ensures apart { Each (HasOwnPath (path self.now)) result }
     {
         let mut holder = self.holder(object);
         let mut at = object.space;

@@ -15,11 +15,11 @@ use Rattle.fk_model.specs.Holds.{is_frozen, is_frozen_for}
 use Rattle.fk_model.specs.Outcomes.{done, stays}
 use Rattle.fk_model.specs.Talks.{Line, line_from, line}
 use Rattle.fk_model.specs.LinkRows.{user_at, end_all}
-use Rattle.fk_model.specs.ObjectRows.{ends_in, ends_on, both_ends, ends_with, kills, destroys, destroy}
+use Rattle.fk_model.specs.ObjectRows.{ends_in, ends_on, ends_of_client, ends_with, kills, destroys, destroy}
 use Rattle.fk_model.specs.Cut.{seen_by, unheld, is_served_by}
 use Rattle.fk_transparency.specs.CutLaws.{KeepsCut, IsAtStage, moves, StageInsideKeepsCut, IsDestroy}
 use Rattle.fk_transparency.specs.RebindLaws.{StageRebinds}
-use Rattle.fk_transparency.specs.Likeness.{seeing, IsLikeness, IsApart, IsOuter, AlikeOptions, IsBeneath, LineLikeness}
+use Rattle.fk_transparency.specs.Likeness.{seeing, IsLikeness, ServesNobodyOutside, IsOuter, AlikeOptions, IsBeneath, LineLikeness}
 use Rattle.fk_transparency.specs.Likeness.PtrLikeness.{Inside}
 use Rattle.fk_transparency.specs.LikeChanges.{LikeChanges, IsLikeOutcome}
 use Rattle.fk_transparency.specs.LikeChanges.LikeChange.{Kills}
@@ -43,7 +43,7 @@ use Rattle.fk_transparency.proofs.cut.Objects.{all_within, quiet-destroy}
 
 -- what a likeness must show alike, for talks to end alike in it
 record IsEndedAlike (root : Path) (see : Ptr → Ptr) (small big : World) : Type 0 where
-  apart : IsApart root see big
+  apart : ServesNobodyOutside root see big
   servers : (me : Path) → AlikeOptions (IsBeneath root) (client_of small me) (client_of big (me ++ root))
   clients : (port : Path) → Thinned root (clients_at small port) (clients_at big (port ++ root))
   inside : (x : Path) → is_within root x ≡ false → is_served_by root (big.body x) ≡ false
@@ -83,7 +83,7 @@ module _ {root : Path} {see : Ptr → Ptr} {small big : World} (like : IsLikenes
   server_ends : (k : ℕ) (q : Path) (now : World) → LikeChanges root see now (end_all (ends_on small (k ∷ q) turns.Server)) (end_all (ends_on big (k ∷ (q ++ root)) turns.Server))
   server_ends k q now = ends_in-like turns.Server (line small (k ∷ q) turns.Server) (line big (k ∷ (q ++ root)) turns.Server) now (line_server-like like (k ∷ q) (facts.servers (k ∷ q)))
 
-  both_ends-like : (k : ℕ) (q : Path) (now : World) → LikeChanges root see now (end_all (both_ends small (k ∷ q))) (end_all (both_ends big (k ∷ (q ++ root))))
+  both_ends-like : (k : ℕ) (q : Path) (now : World) → LikeChanges root see now (end_all (ends_of_client small (k ∷ q))) (end_all (ends_of_client big (k ∷ (q ++ root))))
   both_ends-like k q now =
       rw (end_append _ (ends_on small (k ∷ q) turns.Client), end_append _ (ends_on big (k ∷ (q ++ root)) turns.Client))
       (append-like (talking_end-like like turns.Client (At (k ∷ (q ++ root))) (At (k ∷ q)) now (Inside (k ∷ q))) (client_ends k q _))
@@ -93,19 +93,19 @@ module _ {root : Path} {see : Ptr → Ptr} {small big : World} (like : IsLikenes
   outside_client x now None is off = Empty
   outside_client x now (Some talk) is off = outsider_end like now talk.peer (outer_talk root (big.body x) talk is off)
 
-  outside_ends : (x : Path) (now : World) → is_within root x ≡ false → LikeChanges root see now [] (end_all (both_ends big x))
+  outside_ends : (x : Path) (now : World) → is_within root x ≡ false → LikeChanges root see now [] (end_all (ends_of_client big x))
   unfolding line
   outside_ends x now out =
       rw (end_append _ (ends_on big x turns.Client))
       (append-like {cs = []} (outsider like turns.Client x now (and_then thread_of (big.body x)) out) (outside_client x _ (talk_at big x) refl (facts.inside x out)))
 
-  port_ends : (xs ys : List Path) (now : World) → Thinned root xs ys → LikeChanges root see now (end_all (flat_map (both_ends small) xs)) (end_all (flat_map (both_ends big) ys))
+  port_ends : (xs ys : List Path) (now : World) → Thinned root xs ys → LikeChanges root see now (end_all (flat_map (ends_of_client small) xs)) (end_all (flat_map (ends_of_client big) ys))
   port_ends _ _ now Nobody = Empty
   port_ends _ _ now (Inner k q {xs = xs} {ys = ys} rest) =
-      rw (end_append (both_ends small (k ∷ q)) (flat_map (both_ends small) xs), end_append (both_ends big (k ∷ (q ++ root))) (flat_map (both_ends big) ys))
+      rw (end_append (ends_of_client small (k ∷ q)) (flat_map (ends_of_client small) xs), end_append (ends_of_client big (k ∷ (q ++ root))) (flat_map (ends_of_client big) ys))
       (append-like (both_ends-like k q now) (port_ends xs ys _ rest))
   port_ends _ _ now (Outer x {xs = xs} {ys = ys} out rest) =
-      rw (end_append (both_ends big x) (flat_map (both_ends big) ys))
+      rw (end_append (ends_of_client big x) (flat_map (ends_of_client big) ys))
       (append-like {cs = []} (outside_ends x now out) (port_ends xs ys _ rest))
 
   -- ---- the object that dies

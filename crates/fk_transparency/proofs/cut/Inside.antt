@@ -17,9 +17,9 @@ use Rattle.fk_model.specs.Moves.{stage_row, is_for_porters, chooses, with_pick, 
 use Rattle.fk_model.specs.declared.statuses.status.TheConstants.{DENIED}
 use Rattle.fk_model.specs.Runs.{Event, after}
 use Rattle.fk_model.specs.Cut.{ports_of, cut_ptr, cut, seen_by, unheld, IsPlain}
-use Rattle.fk_model.specs.Further.{Onward, Told, talks_outside, outside_row, own_stage, own_move, own_row, counted, thread_in, onward_row, told_by_said, told_by, OnwardTo, IsOnward}
+use Rattle.fk_model.specs.Further.{Onward, Told, talks_outside, outside_row, own_stage, own_move, own_row, counted, onward_row, told_by_said, told_by, OnwardTo, IsOnward}
 use Rattle.fk_model.specs.Further.Onward.{Own}
-use Rattle.fk_model.specs.Seen.{said_by, is_send, sends_out, words_out, picked_inside, own_of, row_of}
+use Rattle.fk_model.specs.Seen.{outcome_said, is_send, sends_out, words_out, picked_inside, own_of, row_of}
 use Rattle.fk_model.specs.Seen.Seen.{Onwards, Unseen, Other}
 use Rattle.fk_transparency.specs.CutLaws.{KeepsCut, IsAtStage, moves, StageInsideKeepsCut}
 use Rattle.fk_transparency.specs.Likeness.{seeing, seen_thread, IsLikeness}
@@ -31,13 +31,14 @@ use Rattle.fk_transparency.proofs.likeness.Outcomes.{unless_waiting, closed-like
 use Rattle.fk_transparency.proofs.likeness.ChangeLists.{changes-like, cut-changes}
 use Rattle.fk_transparency.proofs.cut.Holds.{changes-allowed}
 use Rattle.fk_transparency.proofs.cut.Plain.{AreQuiet, changes-clear, clear-plain, like-plain}
+use Rattle.fk_model.specs.Searches.{thread_at}
 
 -- ---- rows whose changes are quiet
 
 -- the outside hears nothing of it but by its changes
 pub record Quiet (root : Path) (o : Outcome) : Type 0 where
   pub quiet : AreQuiet root (listed o)
-  pub mute : (x : Path) → told_by_said x (said_by o) ≡ []
+  pub mute : (x : Path) → told_by_said x (outcome_said o) ≡ []
 
 pub quiet-refused : {root : Path} {status : ℕ} → Quiet root (Refused status)
 quiet-refused = record { quiet = tt; mute = λ x. refl }
@@ -240,13 +241,13 @@ module _ (w : World) (nester : Path) (slot : ℕ) (plain : IsPlain w nester slot
         (unless_waiting like _ _ (either_way root see w (talks_outside small (k ∷ q) && is_none p) (is_free small q (seen_thread see t)) _ _ far (is_free-like like free q t ∙ e) both.0 both.1))
         quiet ready
 
-    pub seen_is : thread_in small (k ∷ q) ≡ Some (seen_thread see t)
+    pub seen_is : thread_at small (k ∷ q) ≡ Some (seen_thread see t)
     seen_is = rw ((cut-like w nester slot plain).bodies (k ∷ q)) (thread_seen see k q (w.body me) t is)
 
     pub move_alike : (p : Option Path) (n : ℕ) → n ≡ 0 → (is_frozen w root ≡ false → IsAlikeBy p n) → AreQuiet root (listed far) → IsReady w me pick asks.Run →
         IsPlain (after w (moves me pick)) nester slot × ((told : List Told) × IsOnward small (Own (k ∷ q) p n) told (cut (after w (moves me pick)) nester slot))
     unfolding step outcome onward_row
-    move_alike p n none alike quiet ready = by (and_then thread_of (w.body me)) (thread_in small (k ∷ q)) is seen_is ready
+    move_alike p n none alike quiet ready = by (and_then thread_of (w.body me)) (thread_at small (k ∷ q)) is seen_is ready
       where
         by : (o seen : Option Thread) → o ≡ Some t → seen ≡ Some (seen_thread see t) → GoesAllowed w me (user_move w me pick o) → HasGone (Own (k ∷ q) p n) (counted n (own_row small (k ∷ q) p n seen)) (user_move w me pick o)
         by o seen e f = rw (counted_none n (own_row small (k ∷ q) p n seen) none) (rw e (rw f (moves_alike p n alike quiet (is_free w (q ++ root) t) refl)))

@@ -19,7 +19,7 @@ use Rattle.fk_model.specs.UserRows.{proceeds, halts_with, word_at, enters, perfo
 use Rattle.fk_model.specs.Moves.{with_pick, goes_on, outcome, IsReady}
 use Rattle.fk_model.specs.Valid.{is_fit}
 use Rattle.fk_model.specs.Cut.{ports_of, cut_ptr, cut, IsPlain}
-use Rattle.fk_model.specs.Further.{talks_outside, own_stage, counted, thread_in, onward_row}
+use Rattle.fk_model.specs.Further.{talks_outside, own_stage, counted, onward_row}
 use Rattle.fk_model.specs.Further.Onward.{Own}
 use Rattle.fk_model.specs.Rebind.{rebound_ptr, rebound}
 use Rattle.fk_transparency.specs.RebindLaws.{InstructionRebinds}
@@ -33,6 +33,7 @@ use Rattle.fk_transparency.proofs.likeness.Instances.{cut-like}
 use Rattle.fk_transparency.proofs.likeness.Rows.{run_row-like}
 use Rattle.fk_transparency.proofs.cut.Inside.{Quiet, quiet-goes, quiet-when, quiet-with_pick, with_pick-like, inside_law, thread_beneath, unsent_counts}
 use Rattle.fk_transparency.proofs.cut.Outside.{outside_law}
+use Rattle.fk_model.specs.Searches.{thread_at}
 
 module _ (root : Path) where
   quiet-proceeds : (me : Path) (mode : Mode) (counter : ℕ) → is_porter mode ≡ false → Quiet root (proceeds me mode counter)
@@ -102,7 +103,7 @@ instruction_keeps w nester slot x pick at sound plain = by (is_within (slot ∷ 
 
 -- ---- with other outward ports
 
-run_is : (c : World) (k : ℕ) (q : Path) (p : Option Path) (n : ℕ) (t : Thread) (g : List ℕ) → thread_in c (k ∷ q) ≡ Some t → t.mode ≡ Running g → onward_row c (Own (k ∷ q) p n) ≡ counted n (when (is_free c q t) (with_pick false p (run_row c q k g t.counter)))
+run_is : (c : World) (k : ℕ) (q : Path) (p : Option Path) (n : ℕ) (t : Thread) (g : List ℕ) → thread_at c (k ∷ q) ≡ Some t → t.mode ≡ Running g → onward_row c (Own (k ∷ q) p n) ≡ counted n (when (is_free c q t) (with_pick false p (run_row c q k g t.counter)))
 unfolding onward_row
 run_is c k q p n t g is e = ap (counted n) (rw is (by (talks_outside c (k ∷ q) && is_none p) t.mode e))
   where

@@ -5,7 +5,7 @@ use Rattle.fk_model.specs.declared.statuses.status.TheConstants as status
 use Rattle.fk_model.specs.declared.stage.Stage.{Stage}
 use Rattle.fk_model.specs.declared.stage.Stage.TheVariants.{Destroy, Rename}
 use Rattle.fk_model.specs.Places.{Path, same_path, is_within}
-use Rattle.fk_model.specs.Objects.{Peer, Talk, Body}
+use Rattle.fk_model.specs.Objects.{Peer, Talk, Body, is_served}
 use Rattle.fk_model.specs.Objects.Peer.{Server, Service, Parked}
 use Rattle.fk_model.specs.Objects.Body.{Port, Thread_of}
 use Rattle.fk_model.specs.World.{World}
@@ -13,10 +13,10 @@ use Rattle.fk_model.specs.World.Change.{Move}
 use Rattle.fk_model.specs.Searches.{has_residents, leaf, client_at}
 use Rattle.fk_model.specs.Holds.{is_frozen_for}
 use Rattle.fk_model.specs.Outcomes.{refuse, Caller, path_of, done, stays}
-use Rattle.fk_model.specs.Readers.{anything, object_in, place}
+use Rattle.fk_model.specs.Readers.{anything, object_in, space_argument}
 use Rattle.fk_model.specs.LinkRows.{user_at, end_all}
 use Rattle.fk_model.specs.Further.{told_by_said}
-use Rattle.fk_model.specs.ObjectRows.{is_served, renamed, rename, ends_with, told_with, told_client, told_port, kills, destroys, destroy}
+use Rattle.fk_model.specs.ObjectRows.{renamed, rename, ends_with, told_with, told_client, told_port, kills, destroys, destroy}
 use Rattle.fk_model.specs.Cut.{cut, IsPlain}
 use Rattle.fk_transparency.specs.CutLaws.{KeepsCut, IsAtStage, moves, StageInsideKeepsCut, StageOutsideKeepsCut, IsRename, IsDestroy}
 use Rattle.fk_transparency.specs.Likeness.{AlikeResults, IsBeneath}
@@ -32,10 +32,10 @@ use Rattle.fk_transparency.proofs.likeness.ObjectRows.{rename-like}
 
 -- ---- a rename, inside
 
-quiet-rename : (root : Path) (w : World) (c : Caller) (s x y : ℕ) → ((space : Path) → place w c s ≡ Ok space → is_within root (y ∷ space) ≡ is_within root (x ∷ space)) → Quiet root (rename w c s x y)
+quiet-rename : (root : Path) (w : World) (c : Caller) (s x y : ℕ) → ((space : Path) → space_argument w c s ≡ Ok space → is_within root (y ∷ space) ≡ is_within root (x ∷ space)) → Quiet root (rename w c s x y)
 unfolding rename
 quiet-rename root w c s x y same =
-    quiet-bind root (place w c s) _ (λ space at.
+    quiet-bind root (space_argument w c s) _ (λ space at.
     quiet->>= root (object_in w c anything space x) _ (λ b.
     quiet->>= root (refuse status.HELD (is_frozen_for w (path_of c) (x ∷ space))) _ (λ free.
     quiet->>= root (refuse status.BADHANDLE (not (leb y LAST_USER_SLOT))) _ (λ named.
@@ -45,8 +45,8 @@ quiet-rename root w c s x y same =
     quiet-done_at root (renamed (x ∷ space) (y ∷ space) (path_of c)) c (Move (x ∷ space) y ∷ []) [] (same space at, tt))))))))
 
 -- the places of a thread inside lie inside
-place_inside : (w : World) (nester : Path) (slot : ℕ) → IsPlain w nester slot → (k : ℕ) (q : Path) (s x y : ℕ) (space : Path) → place w (user_at (k ∷ (q ++ slot ∷ nester))) s ≡ Ok space → is_within (slot ∷ nester) (y ∷ space) ≡ is_within (slot ∷ nester) (x ∷ space)
-place_inside w nester slot plain k q s x y space at = by (place (cut w nester slot) (user_at (k ∷ q)) s) (place w (user_at (k ∷ (q ++ slot ∷ nester))) s) (place-like (cut-like w nester slot plain) (user_at (k ∷ q)) s) at
+place_inside : (w : World) (nester : Path) (slot : ℕ) → IsPlain w nester slot → (k : ℕ) (q : Path) (s x y : ℕ) (space : Path) → space_argument w (user_at (k ∷ (q ++ slot ∷ nester))) s ≡ Ok space → is_within (slot ∷ nester) (y ∷ space) ≡ is_within (slot ∷ nester) (x ∷ space)
+place_inside w nester slot plain k q s x y space at = by (space_argument (cut w nester slot) (user_at (k ∷ q)) s) (space_argument w (user_at (k ∷ (q ++ slot ∷ nester))) s) (place-like (cut-like w nester slot plain) (user_at (k ∷ q)) s) at
   where
     here : (j : ℕ) (z : Path) → is_within (slot ∷ nester) (j ∷ (z ++ slot ∷ nester)) ≡ true
     here j z = ap is_some (strip-append (slot ∷ nester) (j ∷ z))
@@ -111,7 +111,7 @@ quiet-destroys root w c x gone = quiet-telling root (told_with w gone (w.body go
 pub quiet-destroy : (root : Path) (w : World) (c : Caller) (s x : ℕ) → Quiet root (destroy w c s x)
 unfolding destroy
 quiet-destroy root w c s x =
-    quiet->>= root (place w c s) _ (λ space.
+    quiet->>= root (space_argument w c s) _ (λ space.
     quiet->>= root (object_in w c anything space x) _ (λ b.
     quiet->>= root (refuse status.HELD (is_frozen_for w (path_of c) (x ∷ space))) _ (λ free.
     quiet->>= root (refuse status.DENIED (is_within (x ∷ space) c.space)) _ (λ apart.

@@ -18,7 +18,7 @@ use Rattle.fk_model.specs.Holds.{is_frozen_for, is_free}
 use Rattle.fk_model.specs.Outcomes.{Said, Outcome, ◌>>=◌, refuse, or_refuse, when, Caller, path_of, listed}
 use Rattle.fk_model.specs.Outcomes.Outcome.{Refused, Waits, Goes}
 use Rattle.fk_model.specs.Outcomes.Said.{Nothing}
-use Rattle.fk_model.specs.Readers.{place, own_page_at}
+use Rattle.fk_model.specs.Readers.{space_argument, own_page_at}
 use Rattle.fk_model.specs.LinkRows.{user_at}
 use Rattle.fk_model.specs.SpaceRows.{is_page, is_bad_target, copies, copies_home, page_take}
 use Rattle.fk_model.specs.Moves.{with_pick, closed, call_row, outcome, IsReady, stepped, step}
@@ -88,24 +88,24 @@ module _ (w : World) (x : Path) (s page address : ℕ) where
   abbrev c : Caller
   c = user_at x
 
-  view-home : (space own_space : Path) (own : ℕ) → place w c s ≡ Ok space → (o : Option (List ℕ)) → w.page space page ≡ o → View w c page (place w c s) (or_refuse status.NONE o >>= (λ words. copies c space page true words own_space own))
+  view-home : (space own_space : Path) (own : ℕ) → space_argument w c s ≡ Ok space → (o : Option (List ℕ)) → w.page space page ≡ o → View w c page (space_argument w c s) (or_refuse status.NONE o >>= (λ words. copies c space page true words own_space own))
   view-home space own_space own at None e = inl refl
   view-home space own_space own at (Some words) e = inr (space, own_space, own, words, at, rw e refl, refl)
 
-  view-own : (space : Path) → place w c s ≡ Ok space → (r : Reach) → View w c page (place w c s) (own_page_at (path_of c) true (copies_home w c space page true) r)
+  view-own : (space : Path) → space_argument w c s ≡ Ok space → (r : Reach) → View w c page (space_argument w c s) (own_page_at (path_of c) true (copies_home w c space page true) r)
   view-own space at (Home t own) = view-home space t own at (w.page space page) refl
   view-own space at (Missing t own None) = inl refl
   view-own space at (Missing t own (Some port)) = inl refl
   view-own space at Bad = inl refl
 
-  view-row : View w c page (place w c s) (page_take w c s page address)
+  view-row : View w c page (space_argument w c s) (page_take w c s page address)
   unfolding page_take
   view-row =
-      view->>= w c page (place w c s) (place w c s) _ (λ space at. view->>= w c page (place w c s) (refuse status.HELD (is_frozen_for w (path_of c) space)) _ (λ free e. view->>= w c page (place w c s) (refuse status.BADADDRESS (not (is_page page) || is_bad_target c address)) _ (λ good f. view-own space at (reach_word w (parent x) address true))))
+      view->>= w c page (space_argument w c s) (space_argument w c s) _ (λ space at. view->>= w c page (space_argument w c s) (refuse status.HELD (is_frozen_for w (path_of c) space)) _ (λ free e. view->>= w c page (space_argument w c s) (refuse status.BADADDRESS (not (is_page page) || is_bad_target c address)) _ (λ good f. view-own space at (reach_word w (parent x) address true))))
 
-  view-call : (pick : Option Path) → View w c page (place w c s) (call_row w c pick (PageTake s page address))
+  view-call : (pick : Option Path) → View w c page (space_argument w c s) (call_row w c pick (PageTake s page address))
   unfolding call_row
-  view-call pick = view-closed w c page (place w c s) x _ (view-with_pick w c page (place w c s) pick (page_take w c s page address) view-row)
+  view-call pick = view-closed w c page (space_argument w c s) x _ (view-with_pick w c page (space_argument w c s) pick (page_take w c s page address) view-row)
 
 quiet-copies : (root : Path) (w : World) (x : Path) (space : Path) (page : ℕ) (t : Path) (own : ℕ) → Quiet root (copies_home w (user_at x) space page true t own)
 quiet-copies root w x space page t own = quiet->>= root (or_refuse status.NONE (w.page space page)) _ (λ words. quiet-done root (user_at x) (PutPage t own words ∷ DropPage space page ∷ []) [] (tt, (tt, tt)))
@@ -113,7 +113,7 @@ quiet-copies root w x space page t own = quiet->>= root (or_refuse status.NONE (
 quiet-page_take : (root : Path) (w : World) (x : Path) (s page address : ℕ) → Quiet root (page_take w (user_at x) s page address)
 unfolding page_take
 quiet-page_take root w x s page address =
-    quiet->>= root (place w (user_at x) s) _ (λ space. quiet->>= root (refuse status.HELD (is_frozen_for w (path_of (user_at x)) space)) _ (λ free. quiet->>= root (refuse status.BADADDRESS (not (is_page page) || is_bad_target (user_at x) address)) _ (λ good. quiet-own_page root w (user_at x) address true (copies_home w (user_at x) space page true) (quiet-copies root w x space page))))
+    quiet->>= root (space_argument w (user_at x) s) _ (λ space. quiet->>= root (refuse status.HELD (is_frozen_for w (path_of (user_at x)) space)) _ (λ free. quiet->>= root (refuse status.BADADDRESS (not (is_page page) || is_bad_target (user_at x) address)) _ (λ good. quiet-own_page root w (user_at x) address true (copies_home w (user_at x) space page true) (quiet-copies root w x space page))))
 
 writes_off : (a within b : Bool) (r : Option Onward) (m : Onward) → r ≡ Some m → within ≡ false → is_page_row m ≡ false → (a && cond within b (not (holds is_page_row r))) ≡ false → a ≡ false
 writes_off false within b r m e out none h = refl
@@ -145,14 +145,14 @@ module _ (w : World) (nester : Path) (slot : ℕ) (plain : IsPlain w nester slot
       off false h = refl
       off true h = h
 
-  touched_by : (o : Outcome) → View w (user_at x) page (place w (user_at x) s) o → (m : Onward) → (is_page_row m ≡ false → writes_inside root (listed o) ≡ false) →
+  touched_by : (o : Outcome) → View w (user_at x) page (space_argument w (user_at x) s) o → (m : Onward) → (is_page_row m ≡ false → writes_inside root (listed o) ≡ false) →
       option_map (λ (t : Touch). ByOthers t) (stage_touch w root (user_at x) pick (listed o) (PageTake s page address)) ≡ Some m → IsTouched m (stepped w o).world
   touched_by o (inl none) m away h = absurd (by (drops_page (listed o)) none h)
     where
-      by : (b : Bool) → b ≡ false → option_map (λ (t : Touch). ByOthers t) (cond b (on_place root (λ (q : Path). Some (PageTaken q page)) (place w (user_at x) s)) None) ≡ Some m → ⊥
+      by : (b : Bool) → b ≡ false → option_map (λ (t : Touch). ByOthers t) (cond b (on_place root (λ (q : Path). Some (PageTaken q page)) (space_argument w (user_at x) s)) None) ≡ Some m → ⊥
       by true e h = cc
       by false e h = cc
-  touched_by o (inr v) m away h = rw v.6 (taken v.0 v.1 v.2 v.3 m v.5 (rw v.6 at away) (strip root v.0) refl (by (place w (user_at x) s) v.4 (rw v.6 at h)))
+  touched_by o (inr v) m away h = rw v.6 (taken v.0 v.1 v.2 v.3 m v.5 (rw v.6 at away) (strip root v.0) refl (by (space_argument w (user_at x) s) v.4 (rw v.6 at h)))
     where
       by : (r : Result Path ℕ) → r ≡ Ok v.0 → option_map (λ (t : Touch). ByOthers t) (on_place root (λ (q : Path). Some (PageTaken q page)) r) ≡ Some m → option_map (λ (t : Touch). ByOthers t) (and_then (λ (q : Path). Some (PageTaken q page)) (strip root v.0)) ≡ Some m
       by r e = rw e (λ h. h)
@@ -189,7 +189,7 @@ unfolding step
 take_outside w nester slot plain x pick s page address out at sound same fit ready (Onwards m) seen =
     let is = stage_outcome w nester slot plain x pick (PageTake s page address) at in
     let o : Outcome = outcome w x pick asks.Run in
-    let view : View w (user_at x) page (place w (user_at x) s) o = rw is.1 (view-when w (user_at x) page (place w (user_at x) s) (is_free w (parent x) is.0) (call_row w (user_at x) pick (PageTake s page address)) (view-call w x s page address pick)) in
+    let view : View w (user_at x) page (space_argument w (user_at x) s) o = rw is.1 (view-when w (user_at x) page (space_argument w (user_at x) s) (is_free w (parent x) is.0) (call_row w (user_at x) pick (PageTake s page address)) (view-call w x s page address pick)) in
     let far = seen_outside w (slot ∷ nester) x pick o (strip (slot ∷ nester) x) m (strip_none (slot ∷ nester) x out) seen.1 in
     let row = taken_row w (slot ∷ nester) (moves x pick) o None _ (PageTake s page address) m refl (stage_called w nester slot plain x (PageTake s page address) at) far in
     touched_by w nester slot plain x pick s page address (rw (stands_in_slot w sound x at.0 at.3) out) o view m

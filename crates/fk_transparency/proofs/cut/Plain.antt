@@ -5,17 +5,17 @@ use Rattle.std.specs.List.{list_any}
 use Rattle.fk_model.specs.declared.stage.Stage.{Stage}
 use Rattle.fk_model.specs.Places.{Path, same_path, strip, is_within, parent, Ptr, leads_to}
 use Rattle.fk_model.specs.Places.Ptr.{At}
-use Rattle.fk_model.specs.Objects.{Mode, Peer, Talk, Fault, Thread, Body, and_then, holds}
+use Rattle.fk_model.specs.Objects.{Mode, Peer, Talk, Fault, Thread, Body, and_then, holds, is_served}
 use Rattle.fk_model.specs.Objects.Mode.{Calling}
 use Rattle.fk_model.specs.Objects.Peer.{Server, Service, Parked}
 use Rattle.fk_model.specs.Objects.Body.{Mutex, Cond, Mapping, Region, Port, Portset, Space, Thread_of, Reference}
-use Rattle.fk_model.specs.World.{World, Change, Edit, Sweep, edited, through, without, following, talk_without, taker_without, fault_without, follow_peer, serves, moved_to, finished_in, ended_in, replaced_in, shifted_in, apply, apply_all}
+use Rattle.fk_model.specs.World.{World, Change, Edit, Sweep, edited, through, death_sweep, following, talk_without, taker_without, fault_without, follow_peer, serves, moved_to, finished_in, ended_in, replaced_in, shifted_in, apply, apply_all}
 use Rattle.fk_model.specs.World.Change.{Alter, Make, MakeSpace, Kill, Move, PutPage, DropPage}
 use Rattle.fk_model.specs.World.Edit.{SetLocked, SetWindow, SetExtent, SetMember, SetPointer, SetHolder, Proceed, Shift, Finish, End, Replace, SetTalk, CountMoved, PassTurn, SetPeer, SetFault, SetTaker}
 use Rattle.fk_model.specs.Searches.{pointers}
 use Rattle.fk_model.specs.Holds.{is_porter}
 use Rattle.fk_model.specs.StateRows.{is_native}
-use Rattle.fk_model.specs.Cut.{ports_of, cut_ptr, cut, seen_by, unheld, is_far, has_far, is_served, is_inner_peer, is_served_by, IsPlain}
+use Rattle.fk_model.specs.Cut.{ports_of, cut_ptr, cut, seen_by, unheld, is_far, has_far, is_inner_peer, is_served_by, IsPlain}
 use Rattle.fk_transparency.specs.Likeness.{seeing, PtrLikeness, HasLikeness, IsPlainBody, IsLikeness}
 use Rattle.fk_transparency.specs.Likeness.PtrLikeness.{Nulls, Deads, Inside, PortAt, PortOut}
 use Rattle.fk_laws.proofs.Frame.{or_off}
@@ -293,9 +293,9 @@ module _ (root : Path) (w : World) (clear : IsClear root w) where
     served_inside = λ z out. if_off (is_served_by root) (same_path z x) (Some (Space w.next holder)) _ (λ e. refl) (clear.served_inside z out);
   }
   change-clear (Kill x) quiet = record {
-    no_porter = λ q. if_off (holds is_native) (same_path (q ++ root) x) None _ (λ e. refl) (native-through (without x) (q ++ root) (w.body (q ++ root)) (clear.no_porter q));
-    unserved = λ q. if_off (holds is_served) (same_path (q ++ root) x) None _ (λ e. refl) (served-through (without x) (q ++ root) (w.body (q ++ root)) (clear.unserved q));
-    served_inside = λ z out. if_off (is_served_by root) (same_path z x) None _ (λ e. refl) (served_by-through root (without x) (talk-left root x) (fault-left root x) z (w.body z) (clear.served_inside z out));
+    no_porter = λ q. if_off (holds is_native) (same_path (q ++ root) x) None _ (λ e. refl) (native-through (death_sweep x) (q ++ root) (w.body (q ++ root)) (clear.no_porter q));
+    unserved = λ q. if_off (holds is_served) (same_path (q ++ root) x) None _ (λ e. refl) (served-through (death_sweep x) (q ++ root) (w.body (q ++ root)) (clear.unserved q));
+    served_inside = λ z out. if_off (is_served_by root) (same_path z x) None _ (λ e. refl) (served_by-through root (death_sweep x) (talk-left root x) (fault-left root x) z (w.body z) (clear.served_inside z out));
   }
   change-clear (Move x slot) quiet = move-clear x (slot ∷ parent x) quiet
   change-clear (PutPage space page words) quiet = record { no_porter = clear.no_porter; unserved = clear.unserved; served_inside = clear.served_inside }

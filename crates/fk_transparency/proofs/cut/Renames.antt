@@ -5,7 +5,7 @@ use Rattle.fk_model.specs.declared.statuses.status.TheConstants as status
 use Rattle.fk_model.specs.declared.moves.Ask.TheVariants as asks
 use Rattle.fk_model.specs.declared.stage.Stage.TheVariants.{Rename}
 use Rattle.fk_model.specs.Places.{Path, same_path, strip, is_within, parent}
-use Rattle.fk_model.specs.Objects.{Body}
+use Rattle.fk_model.specs.Objects.{Body, is_served}
 use Rattle.fk_model.specs.World.{World, edited, through, following, apply, apply_all}
 use Rattle.fk_model.specs.World.Change.{Alter, Move}
 use Rattle.fk_model.specs.World.Edit.{Finish}
@@ -14,9 +14,9 @@ use Rattle.fk_model.specs.Holds.{is_free, is_frozen_for}
 use Rattle.fk_model.specs.Outcomes.{Outcome, ◌>>=◌, refuse, when, path_of}
 use Rattle.fk_model.specs.Outcomes.Outcome.{Refused, Waits, Goes}
 use Rattle.fk_model.specs.Outcomes.Said.{Nothing}
-use Rattle.fk_model.specs.Readers.{anything, object_in, place}
+use Rattle.fk_model.specs.Readers.{anything, object_in, space_argument}
 use Rattle.fk_model.specs.LinkRows.{user_at}
-use Rattle.fk_model.specs.ObjectRows.{is_served, renamed, rename}
+use Rattle.fk_model.specs.ObjectRows.{renamed, rename}
 use Rattle.fk_model.specs.Moves.{with_pick, closed, call_row, outcome, stepped, step}
 use Rattle.fk_model.specs.Cut.{seen_by, cut, IsPlain}
 use Rattle.fk_model.specs.Seen.Seen.{Onwards, Unseen, Other}
@@ -56,7 +56,7 @@ module _ (root : Path) (w : World) (a b : ℕ) where
   view-rename : (x : Path) (s : ℕ) → View (rename w (user_at x) s a b)
   unfolding rename
   view-rename x s =
-      view->>= (place w (user_at x) s) _ (λ space at.
+      view->>= (space_argument w (user_at x) s) _ (λ space at.
       view->>= (object_in w (user_at x) anything space a) _ (λ body is.
       view-empty status.HELD (is_frozen_for w (path_of (user_at x)) (a ∷ space)) _ (λ free.
       view-empty status.BADHANDLE (not (leb b LAST_USER_SLOT)) _ (λ named.

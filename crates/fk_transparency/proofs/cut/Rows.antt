@@ -9,7 +9,7 @@ use Rattle.fk_model.specs.Reach.Reach.{Home, Missing, Bad}
 use Rattle.fk_model.specs.Outcomes.{Outcome, ◌>>=◌, or_refuse, Caller, path_of, done}
 use Rattle.fk_model.specs.Readers.{own_page_at, own_page}
 use Rattle.fk_model.specs.LinkRows.{user_at}
-use Rattle.fk_model.specs.SyncRows.{mutex_lock, sets}
+use Rattle.fk_model.specs.SyncRows.{mutex_lock, sets_locked}
 use Rattle.fk_model.specs.SpaceRows.{space_hold}
 use Rattle.fk_model.specs.Records.{record_of}
 use Rattle.fk_model.specs.StateRows.{shows, shows_to, get_state}
@@ -36,7 +36,7 @@ quiet-own_page root w c address write go quiet = quiet-own_page_at root (path_of
 
 quiet-lock : (root : Path) (w : World) (c : Caller) (m : ℕ) → Quiet root (mutex_lock w c m)
 unfolding mutex_lock
-quiet-lock root w c m = quiet->>= root _ _ (λ locked. quiet-when root (not locked) _ (quiet-done root c (sets (m ∷ c.space) true ∷ []) [] (tt, tt)))
+quiet-lock root w c m = quiet->>= root _ _ (λ locked. quiet-when root (not locked) _ (quiet-done root c (sets_locked (m ∷ c.space) true ∷ []) [] (tt, tt)))
 
 ruleset quiet_row = (quiet->>=, quiet-when, quiet-done, quiet-refused, quiet-waits)
 

@@ -5,15 +5,15 @@ use Rattle.std.proofs.lemmas.List.Folds.{list_any-append}
 use Rattle.fk_model.specs.declared.names.Kind.TheVariants as kinds
 use Rattle.fk_model.specs.Places.{Path, same_path, strip, is_within, Ptr}
 use Rattle.fk_model.specs.Places.Ptr.{At}
-use Rattle.fk_model.specs.Objects.{Peer, Talk, Fault, Body, kind_of, and_then, holds}
+use Rattle.fk_model.specs.Objects.{Peer, Talk, Fault, Body, kind_of, and_then, holds, is_served}
 use Rattle.fk_model.specs.Objects.Peer.{Server, Service, Parked}
 use Rattle.fk_model.specs.Objects.Body.{Mutex, Mapping, Region, Port, Space, Thread_of, Reference}
-use Rattle.fk_model.specs.World.{World, Change, edited, without, following, apply, apply_all}
+use Rattle.fk_model.specs.World.{World, Change, edited, death_sweep, following, apply, apply_all}
 use Rattle.fk_model.specs.World.Change.{Alter, Make, MakeSpace, Kill, Move, PutPage, DropPage}
 use Rattle.fk_model.specs.Readers.{kind_at, is_kind}
 use Rattle.fk_model.specs.Searches.{option_list, peer_pointer, talk_pointers, fault_pointers}
 use Rattle.fk_model.specs.StateRows.{is_native}
-use Rattle.fk_model.specs.Cut.{is_out, is_port, ports_of, cut_ptr, seen_by, cut_by, cut, is_far, has_far, is_served, is_served_by, IsPlain}
+use Rattle.fk_model.specs.Cut.{is_out, is_port, ports_of, cut_ptr, seen_by, cut_by, cut, is_far, has_far, is_served_by, IsPlain}
 use Rattle.fk_transparency.specs.Likeness.{seeing, seen_peer, PtrLikeness, HasLikeness, IfServer, AllInTalk, AllInFault, IsPlainBody, IsLikeness}
 use Rattle.fk_transparency.specs.Likeness.PtrLikeness.{Nulls, Deads, Inside, PortAt, PortOut}
 use Rattle.fk_transparency.specs.LikeChanges.{LikeChange, LikeChanges, IsOutside}
@@ -53,7 +53,7 @@ kind_outside {root} {see} {big} _ _ (Alters k q seen edit e h) x out = kind_off 
 kind_outside {root} {see} {big} _ _ (AltersOut k q seen edit e h) x out = kind_off _ (option_map (edited edit) (big.body x)) (big.body x) (outside_apart root (k ∷ q) x out)
 kind_outside {root} {see} {big} _ _ (Makes k q seen body e h) x out = kind_off _ (Some body) (big.body x) (outside_apart root (k ∷ q) x out)
 kind_outside {root} {see} {big} _ _ (MakesSpace k q seen holder e h) x out = kind_off _ _ (big.body x) (outside_apart root (k ∷ q) x out)
-kind_outside {root} {see} {big} _ _ (Kills k q apart) x out = kind_off _ None _ (outside_apart root (k ∷ q) x out) ∙ kind-swept (without (k ∷ (q ++ root))) x (big.body x)
+kind_outside {root} {see} {big} _ _ (Kills k q apart) x out = kind_off _ None _ (outside_apart root (k ∷ q) x out) ∙ kind-swept (death_sweep (k ∷ (q ++ root))) x (big.body x)
 kind_outside {root} {see} {big} _ _ (Moves k q slot) x out = kind_off _ _ _ (outside_apart root (slot ∷ q) x out) ∙ kind_off _ None _ (outside_apart root (k ∷ q) x out) ∙ kind-swept (following (k ∷ (q ++ root)) (slot ∷ (q ++ root))) x (big.body x)
 kind_outside {root} {see} {big} _ _ (PutsPage q page words) x out = refl
 kind_outside {root} {see} {big} _ _ (DropsPage q page) x out = refl

@@ -9,7 +9,7 @@ use Rattle.fk_model.specs.Objects.{Peer, Thread, thread_of, and_then}
 use Rattle.fk_model.specs.Objects.Peer.{Server, Service, Parked}
 use Rattle.fk_model.specs.World.{World}
 use Rattle.fk_model.specs.Searches.{slots}
-use Rattle.fk_model.specs.Talks.{Line, is_talking, thread_at, if_talking, talking_end, served_end, ends_beyond}
+use Rattle.fk_model.specs.Talks.{Line, is_talking, thread_led_to, if_talking, talking_end, served_end, ends_beyond}
 use Rattle.fk_model.specs.SyncRows.{asleep_on, woken, sleepers}
 use Rattle.fk_model.specs.LinkRows.{end_all}
 use Rattle.fk_transparency.specs.Likeness.{PtrLikeness, IsLikeness, AlikeOptions, IsOuter, PeerLikeness, EndLikeness, LineLikeness}
@@ -50,7 +50,7 @@ module _ {root : Path} {see : Ptr → Ptr} {small big : World} (like : IsLikenes
   talking-like side (Some e) None now h = absurd h
 
   pub talking_end-like : (side : Turn) (p seen : Ptr) (now : World) → PtrLikeness root big p seen → LikeChanges root see now (end_all (talking_end small side seen)) (end_all (talking_end big side p))
-  talking_end-like side p seen now h = talking-like side (thread_at small seen) (thread_at big p) now (thread_at-like like p seen h)
+  talking_end-like side p seen now h = talking-like side (thread_led_to small seen) (thread_led_to big p) now (thread_at-like like p seen h)
 
   pub outsider : (side : Turn) (x : Path) (now : World) (o : Option Thread) → is_within root x ≡ false → LikeChanges root see now [] (end_all (if_talking side (and_then (λ (t : Thread). Some (x, t)) o)))
   outsider side x now None out = Empty

@@ -7,7 +7,7 @@ use Rattle.fk_model.specs.Objects.{Window, Extent, Body, kind_of, mapping_of, re
 use Rattle.fk_model.specs.Objects.Body.{Mapping, Region, Space}
 use Rattle.fk_model.specs.World.{World}
 use Rattle.fk_model.specs.Searches.{lowest}
-use Rattle.fk_model.specs.Reach.{Reach, mapping_at, region_at, live_keeper, keeper, page_in, led_by, followed, mapped, at_home, reach_by, reach, reach_word, words_at}
+use Rattle.fk_model.specs.Reach.{Reach, mapping_at, region_at, live_keeper, keeper, page_of_region, led_by, followed, mapped, at_home, reach_within, reach, reach_word, words_at}
 use Rattle.fk_model.specs.Reach.Reach.{Missing, Bad}
 use Rattle.fk_model.specs.SpaceRows.{next_page}
 use Rattle.fk_model.specs.Valid.{kind_there}
@@ -79,7 +79,7 @@ module _ {root : Path} {see : Ptr → Ptr} {small big : World} (like : IsLikenes
 
   -- ---- reach
 
-  page_in-like : (m : Window) (page : ℕ) (write : Bool) (k : ℕ) (q : Path) (seen r : Extent) → IsSeenExtent root see big seen r → AlikeOptions (IsSeenPlace root) (page_in (seen_window see m) page write (k ∷ q) seen) (page_in m page write (k ∷ (q ++ root)) r)
+  page_in-like : (m : Window) (page : ℕ) (write : Bool) (k : ℕ) (q : Path) (seen r : Extent) → IsSeenExtent root see big seen r → AlikeOptions (IsSeenPlace root) (page_of_region (seen_window see m) page write (k ∷ q) seen) (page_of_region m page write (k ∷ (q ++ root)) r)
   page_in-like m page write k q seen r h = rw h.0 (alike_cond (IsSeenPlace root) _ (q, r.first + (m.offset + (page - m.first))) (q ++ root, r.first + (m.offset + (page - m.first))) (refl, refl))
 
   led_by-like : (m : Window) (page : ℕ) (write : Bool) (p seen : Ptr) → PtrLikeness root big p seen → AlikeOptions (IsSeenPlace root) (led_by small (seen_window see m) page write seen) (led_by big m page write p)
@@ -111,8 +111,8 @@ module _ {root : Path} {see : Ptr → Ptr} {small big : World} (like : IsLikenes
   missing-like : (q : Path) (page : ℕ) → ReachLikeness root see big (Missing q page (keeper small q page)) (Missing (q ++ root) page (keeper big (q ++ root) page))
   missing-like q page = Misses q page (keeper small q page) (keeper big (q ++ root) page) (keeper-like q page)
 
-  pub reach_by-like : (fuel : ℕ) (q : Path) (page : ℕ) (write : Bool) → ReachLikeness root see big (reach_by fuel small q page write) (reach_by fuel big (q ++ root) page write)
-  unfolding reach_by
+  pub reach_by-like : (fuel : ℕ) (q : Path) (page : ℕ) (write : Bool) → ReachLikeness root see big (reach_within fuel small q page write) (reach_within fuel big (q ++ root) page write)
+  unfolding reach_within
   reach_by-like zero q page write =
       rw (like.pages q page)
       (at_home-like _ _ _ _ (big.page (q ++ root) page) (Homes q page)
@@ -121,7 +121,7 @@ module _ {root : Path} {see : Ptr → Ptr} {small big : World} (like : IsLikenes
       rw (like.pages q page)
       (at_home-like _ _ _ _ (big.page (q ++ root) page) (Homes q page)
       (mapped-like _ _ _ _ (mapping_at small q page) (mapping_at big (q ++ root) page) (mapping_at-like q page)
-      (λ m h. followed-like (λ t other. reach_by fuel small t other write) (λ t other. reach_by fuel big t other write) _ _ (led_by-like m page write m.region (see m.region) h) (λ t other. reach_by-like fuel t other write))
+      (λ m h. followed-like (λ t other. reach_within fuel small t other write) (λ t other. reach_within fuel big t other write) _ _ (led_by-like m page write m.region (see m.region) h) (λ t other. reach_by-like fuel t other write))
       (missing-like q page)))
 
   pub reach-like : (q : Path) (page : ℕ) (write : Bool) → ReachLikeness root see big (reach small q page write) (reach big (q ++ root) page write)

@@ -5,7 +5,7 @@ use Rattle.fk_model.specs.declared.limits.TheConstants.{PAGE_WORDS, LAST_USER_SL
 use Rattle.fk_model.specs.declared.statuses.status.TheConstants as status
 use Rattle.fk_model.specs.Places.{Path, same_path, is_within, Ptr}
 use Rattle.fk_model.specs.Places.Ptr.{Null, At}
-use Rattle.fk_model.specs.Objects.{Thread, Body, space_of, reference_of}
+use Rattle.fk_model.specs.Objects.{Thread, Body, space_of, reference_of, is_served}
 use Rattle.fk_model.specs.Objects.Mode.{Running}
 use Rattle.std.specs.Prelude.{replicate}
 use Rattle.fk_model.specs.Objects.Body.{Mutex, Cond, Mapping, Region, Port, Portset, Space, Thread_of, Reference}
@@ -17,13 +17,13 @@ use Rattle.fk_model.specs.Reach.{words_at}
 use Rattle.fk_model.specs.Holds.{holder_of, is_frozen, is_frozen_for, is_porter}
 use Rattle.fk_model.specs.Outcomes.{Outcome, or_refuse, when, Caller, path_of, last_slot, done}
 use Rattle.fk_model.specs.Readers.{slot_for, object_in, own_page}
-use Rattle.fk_model.specs.Talks.{thread_at}
+use Rattle.fk_model.specs.Talks.{thread_led_to}
 use Rattle.fk_model.specs.TransferRows.{overwritten}
 use Rattle.fk_model.specs.Records.{record_of}
 use Rattle.fk_model.specs.StateRows.{is_bad_record_address, shows, get_state}
 use Rattle.fk_model.specs.SpaceRows.{has_porter, is_held_by_other, space_hold, is_page, is_bad_target, copies, copies_home, page_take}
 use Rattle.fk_model.specs.LinkRows.{user_at}
-use Rattle.fk_model.specs.ObjectRows.{new_object, create, pointer_to, point, is_served, rename}
+use Rattle.fk_model.specs.ObjectRows.{new_object, create, pointer_to, point, rename}
 use Rattle.fk_model.specs.Cut.{seen_by}
 use Rattle.fk_transparency.specs.Likeness.{seeing, HasLikeness, IsPlainBody, IsLikeness, under, AlikeResults, AlikeOptions, IsSeenAs, IsSeenHolder, EndLikeness}
 use Rattle.fk_transparency.specs.Likeness.PtrLikeness.{Nulls, Inside}
@@ -83,7 +83,7 @@ module _ {root : Path} {see : Ptr → Ptr} {small big : World} (like : IsLikenes
 
   has_porter-like : (k : ℕ) (q : Path) → has_porter small (k ∷ q) ≡ has_porter big (k ∷ (q ++ root))
   has_porter-like k q = alike-holds (IsSeenAs root see big) (holder_of (small.body (k ∷ q))) (holder_of (big.body (k ∷ (q ++ root)))) _ _ (holder_of-like like k q)
-      (λ seen p h. alike-holds (EndLikeness root see big) (thread_at small seen) (thread_at big p) _ _ (rw h.0 (thread_at-like like p (see p) h.1)) holds_on)
+      (λ seen p h. alike-holds (EndLikeness root see big) (thread_led_to small seen) (thread_led_to big p) _ _ (rw h.0 (thread_at-like like p (see p) h.1)) holds_on)
 
   pub space_hold-like : is_frozen big root ≡ false → (c : Caller) (s x : ℕ) → Alike (space_hold small c s x) (space_hold big (under root c) s x)
   unfolding space_hold

@@ -12,7 +12,7 @@ use Rattle.fk_model.specs.Searches.{is_serving}
 use Rattle.fk_model.specs.Holds.{is_frozen, is_unheld}
 use Rattle.fk_model.specs.Outcomes.{Outcome, refuse}
 use Rattle.fk_model.specs.Outcomes.Outcome.{Refused, Waits, Goes}
-use Rattle.fk_model.specs.LinkRows.{new_talk, user_at, Candidate, candidate, takes, takes_picked, portset_of, wait}
+use Rattle.fk_model.specs.LinkRows.{new_talk, user_at, Candidate, candidate, takes_candidate, takes_picked, portset_of, wait}
 use Rattle.fk_model.specs.Moves.{with_pick, call_row}
 use Rattle.fk_model.specs.Cut.{is_out}
 use Rattle.fk_transparency.specs.Likeness.{seen_peer, HasLikeness, AllInTalk, IsLikeness, AlikeResults, AlikeOptions, IsBeneath, CandidateLikeness}
@@ -60,7 +60,7 @@ module _ {root : Path} {see : Ptr → Ptr} {small big : World} (like : IsLikenes
     talk_inside : (slot : ℕ) → AllInTalk see (HasLikeness root see big) (new_talk (At (slot ∷ (q ++ root))) (Server (At me)))
     talk_inside slot = (stands_inside (slot ∷ q), rw (like.within (slot ∷ q)) (stands_inside (k ∷ q)))
 
-    takes_one : (a b : Candidate) → CandidateLikeness see big other a b → Same like (takes (user_at (k ∷ q)) (j ∷ z) (Some a)) (takes (user_at me) other (Some b))
+    takes_one : (a b : Candidate) → CandidateLikeness see big other a b → Same like (takes_candidate (user_at (k ∷ q)) (j ∷ z) (Some a)) (takes_candidate (user_at me) other (Some b))
     takes_one _ _ (Faults slot fault is near) =
         rw (taken_alike (seen_peer see (is_out (see fault.port))) fault.taker)
         (Both (Alters j z _ (SetTaker (Some (Server (At me)))) (ap (λ (p : Peer). SetTaker (Some p)) server_seen) ((fault, is, near), stands_inside (k ∷ q))) (Both (Alters k q _ (End OK _) refl tt) Empty), says_nothing)
@@ -69,7 +69,7 @@ module _ {root : Path} {see : Ptr → Ptr} {small big : World} (like : IsLikenes
     takes_one _ _ (Resumes slot talk is near) =
         (Both (Alters j z _ (SetPeer (Server (At me))) (ap SetPeer server_seen) ((talk, is, near), stands_inside (k ∷ q))) (Both (Alters k q _ (End OK _) refl tt) Empty), says_nothing)
 
-    takes_any : (o p : Option Candidate) → AlikeOptions (CandidateLikeness see big other) o p → Same like (takes (user_at (k ∷ q)) (j ∷ z) o) (takes (user_at me) other p)
+    takes_any : (o p : Option Candidate) → AlikeOptions (CandidateLikeness see big other) o p → Same like (takes_candidate (user_at (k ∷ q)) (j ∷ z) o) (takes_candidate (user_at me) other p)
     takes_any None None h = (tt, tt)
     takes_any (Some a) (Some b) h = takes_one a b h
     takes_any None (Some b) h = absurd h

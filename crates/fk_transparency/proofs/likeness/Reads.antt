@@ -10,7 +10,7 @@ use Rattle.fk_model.specs.Objects.{Body, kind_of, same_kind, mutex_of, mapping_o
 use Rattle.fk_model.specs.Objects.Body.{Mutex, Cond, Mapping, Region, Port, Portset, Space, Thread_of, Reference}
 use Rattle.fk_model.specs.World.{World}
 use Rattle.fk_model.specs.Outcomes.{Caller, last_slot}
-use Rattle.fk_model.specs.Readers.{and_read, slot_for, seen_as, anything, object_in, kind_at, is_kind, led_to, handled, handle, path_at, place, referred}
+use Rattle.fk_model.specs.Readers.{and_read, slot_for, seen_as, anything, object_in, kind_at, is_kind, led_to, handled, handle, path_at, space_argument, referred}
 use Rattle.fk_model.specs.SyncRows.{cond_of}
 use Rattle.fk_model.specs.LinkRows.{portset_of}
 use Rattle.fk_model.specs.Valid.{kind_there}
@@ -154,8 +154,8 @@ module _ {root : Path} {see : Ptr → Ptr} {small big : World} (like : IsLikenes
   path_at-like _ _ (PortAt x slot apart port) h = let none = sym (ap (is_kind kinds.Space) port) ∙ h in cc
   path_at-like _ _ (PortOut old slot) h = refl
 
-  pub place-like : (c : Caller) (s : ℕ) → AlikeResults (IsBeneath root) (place small c s) (place big (under root c) s)
-  unfolding place
+  pub place-like : (c : Caller) (s : ℕ) → AlikeResults (IsBeneath root) (space_argument small c s) (space_argument big (under root c) s)
+  unfolding space_argument
   place-like c s = by (eqb s OWN_SPACE)
     where
       of_handle : (seen p : Ptr) → IsSeenHandle root see big kinds.Space seen p → AlikeResults (IsBeneath root) (path_at seen) (path_at p)

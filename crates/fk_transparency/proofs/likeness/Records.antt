@@ -1,7 +1,7 @@
 -- State records and pointer fields are read alike in a likeness.
 use Rattle.std.proofs.Common.{◌≡◌, ℕ, ◌-◌, Bool, false, List, ◌∷◌, ◌++◌, Option, Some, None, is_some, is_none, option_map, refl}
 use Rattle.fk_model.specs.Places.{Path, Ptr}
-use Rattle.fk_model.specs.Objects.{Peer, Talk, Fault, Body, number_of, kind_of, and_then}
+use Rattle.fk_model.specs.Objects.{Peer, Talk, Fault, Body, number_of_kind, kind_of, and_then}
 use Rattle.fk_model.specs.Objects.Body.{Mutex, Mapping, Port, Portset, Space, Thread_of}
 use Rattle.fk_model.specs.World.{World}
 use Rattle.fk_model.specs.LinkRows.{portset_of}
@@ -35,7 +35,7 @@ module _ (see : Ptr → Ptr) where
   state-words (Thread_of t) = rw (talk-words t.talk, fault-words t.fault) refl
   state-words b = refl
 
-  kind-number : (b : Body) → number_of (kind_of (seen b)) ≡ number_of (kind_of b)
+  kind-number : (b : Body) → number_of_kind (kind_of (seen b)) ≡ number_of_kind (kind_of b)
   unfolding seen_by
   kind-number (Mutex locked) = refl
   kind-number b = refl

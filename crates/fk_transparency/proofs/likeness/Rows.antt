@@ -17,9 +17,9 @@ use Rattle.fk_model.specs.Reach.{reach_word}
 use Rattle.fk_model.specs.Holds.{is_porter, is_frozen}
 use Rattle.fk_model.specs.Outcomes.{Outcome, Caller}
 use Rattle.fk_model.specs.Readers.{handle, accessed}
-use Rattle.fk_model.specs.Talks.{thread_at}
+use Rattle.fk_model.specs.Talks.{thread_led_to}
 use Rattle.fk_model.specs.SyncRows.{mutex_lock}
-use Rattle.fk_model.specs.SpaceRows.{thread_by, thread_stop}
+use Rattle.fk_model.specs.SpaceRows.{thread_by_handle, thread_stop}
 use Rattle.fk_model.specs.UserRows.{proceeds, halts_with, word_at, loads, stores, enters, performs, executes, run_row_by, run_row}
 use Rattle.fk_transparency.specs.Likeness.{IsSeenHandle, IsLikeness, under, AlikeResults, EndLikeness}
 use Rattle.fk_transparency.specs.LikeChanges.{IsLikeOutcome}
@@ -46,10 +46,10 @@ module _ {root : Path} {see : Ptr → Ptr} {small big : World} (like : IsLikenes
 
   -- ---- a stop
 
-  thread_by-like : (c : Caller) (h : ℕ) → AlikeResults (EndLikeness root see big) (thread_by small c h) (thread_by big (under root c) h)
+  thread_by-like : (c : Caller) (h : ℕ) → AlikeResults (EndLikeness root see big) (thread_by_handle small c h) (thread_by_handle big (under root c) h)
   thread_by-like c h =
       alike_and_read (IsSeenHandle root see big kinds.Thread) (EndLikeness root see big) (handle small c kinds.Thread h) (handle big (under root c) kinds.Thread h) _ _ (handle-like like c kinds.Thread h)
-      (λ seen p is. rw is.0 (alike_or_refuse (EndLikeness root see big) status.WRONGKIND (thread_at small (see p)) (thread_at big p) (thread_at-like like p (see p) is.1)))
+      (λ seen p is. rw is.0 (alike_or_refuse (EndLikeness root see big) status.WRONGKIND (thread_led_to small (see p)) (thread_led_to big p) (thread_at-like like p (see p) is.1)))
 
   pub thread_stop-like : is_frozen big root ≡ false → (c : Caller) (h : ℕ) → Alike (thread_stop small c h) (thread_stop big (under root c) h)
   unfolding thread_stop

@@ -1,6 +1,6 @@
 -- A Send and an Over go alike in a likeness where their other end is seen, and the outside hears of them alike.
 use Rattle.std.proofs.Common.{◌≡◌, ℕ, ◌%◌, eqb, Bool, true, false, cond, not, ◌&&◌, List, [], ◌∷◌, ◌++◌, Option, Some, None, is_some, Result, Ok, Err, refl, sym, ap, ◌∙◌}
-use Rattle.fk_model.specs.declared.limits.TheConstants.{PAGE_WORDS, MOST_WORDS}
+use Rattle.fk_model.specs.declared.limits.TheConstants.{PAGE_WORDS, BLOCK_WORDS}
 use Rattle.fk_model.specs.declared.statuses.status.TheConstants.{FULL, WRONGTURN}
 use Rattle.fk_model.specs.declared.thread.Turn.{Turn}
 use Rattle.fk_model.specs.declared.thread.Turn.TheVariants as turns
@@ -177,7 +177,7 @@ module _ {root : Path} {see : Ptr → Ptr} {small big : World} (like : IsLikenes
     same_to side j z talk _ _ address count page has (Servers thread h) ends = same_to_thread side j z address count page _ _ (thread_at-like like thread (see thread) h)
     same_to side j z talk _ _ address count page has Services ends =
         same_when (is_service_free small (see talk.port)) (is_service_free big talk.port) _ _ (service_free talk.port has (off (is_out (see talk.port)) ends))
-        (same_sent k q (moved_words address count 0 MOST_WORDS) count _ _ _ _ (Both (Alters j z _ (CountMoved (moved_words address count 0 MOST_WORDS)) refl tt) Empty) (SaysWords talk.port (block (moved_words address count 0 MOST_WORDS) address page)))
+        (same_sent k q (moved_words address count 0 BLOCK_WORDS) count _ _ _ _ (Both (Alters j z _ (CountMoved (moved_words address count 0 BLOCK_WORDS)) refl tt) Empty) (SaysWords talk.port (block (moved_words address count 0 BLOCK_WORDS) address page)))
       where
         off : (b : Bool) → not b ≡ true → b ≡ false
         off false h = refl

@@ -14,7 +14,7 @@ use Rattle.fk_model.specs.World.{World, serves}
 use Rattle.fk_model.specs.Searches.{residents, depth, beneath_by, beneath, objects, talk_at, fault_at, client_of, faulter_of, is_serving}
 use Rattle.fk_model.specs.Valid.{services, IsValid, kind_there, is_one_of, leads_there, all_in, is_good, is_good_peer, is_good_talk, is_good_fault, lies_with}
 use Rattle.fk_model.specs.Cut.{is_out, is_served_by, ports_of, cut_out, cut_to, cut_ptr, IsPlain}
-use Rattle.fk_transparency.specs.Likeness.{seen_peer, HasLikeness, IfServer, IsLikeness, IsCutWorld, IsApart, is_listed, IsWalked, IsServedAlike, AlikeOptions, IsBeneath, IsSeenTalk, IsSeenFault}
+use Rattle.fk_transparency.specs.Likeness.{seen_peer, HasLikeness, IfServer, IsLikeness, IsCutWorld, ServesNobodyOutside, is_listed, IsWalked, IsServedAlike, AlikeOptions, IsBeneath, IsSeenTalk, IsSeenFault}
 use Rattle.fk_model.proofs.walks.PlaceLaws.{same_path_eq, same_path_cancel, strip-append, strip_some, leads_to_at}
 use Rattle.fk_model.proofs.walks.WalkLaws.{objects-all}
 use Rattle.fk_transparency.proofs.likeness.Instances.{like-cut_world}
@@ -357,7 +357,7 @@ module _ (w : World) (nester : Path) (slot : ℕ) (valid : IsValid w) (plain : I
           let good = good_fault (kind_there w) (k ∷ (q ++ slot ∷ nester)) (w.body (k ∷ (q ++ slot ∷ nester))) fault (valid.consistent.good (k ∷ (q ++ slot ∷ nester))) is in
           absurd (near_nester fault.port x out (valid.consistent.faults_near (k ∷ (q ++ slot ∷ nester)) fault (At (x ++ slot ∷ nester)) is peer) (rw peer at (and_parts (leads_there (kind_there w) (kinds.Port ∷ []) fault.port) (all_in (is_good_peer (kind_there w)) fault.taker) good).1))
 
-  pub cut-apart : IsApart (slot ∷ nester) (cut_ptr (ports_of w nester slot) nester slot) w
+  pub cut-apart : ServesNobodyOutside (slot ∷ nester) (cut_ptr (ports_of w nester slot) nester slot) w
   cut-apart = record { talks = λ k q talk is out x. cut_apart_talk x k q talk is out; faults = λ k q fault taker is out took x. cut_apart_fault x k q fault taker is out took }
 
   pub cut-served : w.next ≤ depth → IsServedAlike (slot ∷ nester) (cut_ptr (ports_of w nester slot) nester slot) w
@@ -392,7 +392,7 @@ module _ (c : World) (see : Ptr → Ptr) (same : (p : Ptr) → is_out (see p) �
           let peer : Some taker ≡ Some (seen_peer (λ p. p) (is_out fault.port) taker) = rw took at takers in
           outside_peer (x ++ []) (is_out fault.port) taker (sym (same fault.port) ∙ out) cc
 
-  pub cut_world-apart : IsApart [] see c
+  pub cut_world-apart : ServesNobodyOutside [] see c
   cut_world-apart = record { talks = λ k q talk is out x. outside_talk k q x talk is out; faults = λ k q fault taker is out took x. outside_fault k q x fault taker is out took }
 
 module _ {root : Path} {see : Ptr → Ptr} {small big : World} (like : IsLikeness root see small big) (facts : IsServedAlike root see big) where

@@ -6,13 +6,13 @@ use Rattle.fk_model.specs.Places.Ptr.{Dead, At}
 use Rattle.fk_model.specs.Objects.{Peer, Talk, Fault, Thread, Body, kind_of, thread_of, and_then}
 use Rattle.fk_model.specs.Objects.Peer.{Server, Service, Parked}
 use Rattle.fk_model.specs.Objects.Body.{Mutex, Mapping, Region, Port, Space, Thread_of, Reference}
-use Rattle.fk_model.specs.World.{World, Sweep, through, serves, set_at, without, talk_without, taker_without, fault_without, following, follow, follow_peer, killed_at, moved_to, apply}
+use Rattle.fk_model.specs.World.{World, Sweep, through, serves, set_at, death_sweep, talk_without, taker_without, fault_without, following, follow, follow_peer, killed_at, moved_to, apply}
 use Rattle.fk_model.specs.World.Change.{Kill, Move}
 use Rattle.fk_model.specs.Searches.{talk_at, fault_at}
 use Rattle.fk_model.specs.Readers.{kind_at}
 use Rattle.fk_model.specs.Valid.{kind_there}
 use Rattle.fk_model.specs.Cut.{is_out, seen_by, unheld}
-use Rattle.fk_transparency.specs.Likeness.{seeing, seen_peer, seen_talk, seen_fault, HasLikeness, IfServer, AllInTalk, AllInFault, IsPlainBody, IsLikeness, IsApart}
+use Rattle.fk_transparency.specs.Likeness.{seeing, seen_peer, seen_talk, seen_fault, HasLikeness, IfServer, AllInTalk, AllInFault, IsPlainBody, IsLikeness, ServesNobodyOutside}
 use Rattle.fk_transparency.specs.Likeness.PtrLikeness.{Deads, Inside}
 use Rattle.fk_model.proofs.walks.PlaceLaws.{same_path_cancel, same_path_above}
 use Rattle.fk_transparency.proofs.likeness.Pointers.{all_in_body, ptr_moved}
@@ -142,7 +142,7 @@ module _ {root : Path} {see : Ptr → Ptr} {small big : World} (like : IsLikenes
         by true = (refl, tt)
         by false = (ap (λ (o : Option Peer). Some (record fault { port = see fault.port; taker = o })) taker.0, (h.0, taker.1))
 
-    without-alike : SweepAlike see Seen (serves (x ++ root)) (without x) (without (x ++ root))
+    without-alike : SweepAlike see Seen (serves (x ++ root)) (death_sweep x) (death_sweep (x ++ root))
     without-alike = record {
       pointer = λ p h. rw (leads_alike x p h) (dead_or (leads_to (x ++ root) p) p h);
       holder = λ p h. rw (leads_alike x p h) (none_or (leads_to (x ++ root) p) p h);
@@ -154,7 +154,7 @@ module _ {root : Path} {see : Ptr → Ptr} {small big : World} (like : IsLikenes
   abbrev shown : Path → Option Body → Option Body
   shown q v = option_map (λ b. unheld q (seen_by (seeing see) b)) v
 
-  none_hidden : IsApart root see big → (x : Path) (k : ℕ) (q : Path) (v : Option Body) → big.body (k ∷ (q ++ root)) ≡ v → IfSome v (NoneHidden see (serves (x ++ root)))
+  none_hidden : ServesNobodyOutside root see big → (x : Path) (k : ℕ) (q : Path) (v : Option Body) → big.body (k ∷ (q ++ root)) ≡ v → IfSome v (NoneHidden see (serves (x ++ root)))
   none_hidden apart x k q (Some (Thread_of t)) is = (of_talk t.talk (ap (λ (o : Option Body). and_then (λ (t : Thread). t.talk) (and_then thread_of o)) is), of_fault t.fault (ap (λ (o : Option Body). and_then (λ (t : Thread). t.fault) (and_then thread_of o)) is))
     where
       of_talk : (o : Option Talk) → talk_at big (k ∷ (q ++ root)) ≡ o → IfSome o (λ talk. is_out (see talk.port) ≡ true → serves (x ++ root) talk.peer ≡ false)
@@ -175,21 +175,21 @@ module _ {root : Path} {see : Ptr → Ptr} {small big : World} (like : IsLikenes
   set_alike : (set k : ℕ) (z x : Path) → same_path (set_at (k ∷ (z ++ root)) set) (x ++ root) ≡ same_path (set_at (k ∷ z) set) x
   set_alike set k z x = same_path_cancel (set ∷ z) x root
 
-  module _ (apart : IsApart root see big) (k : ℕ) (q : Path) where
-    death : (j : ℕ) (z : Path) (set : ℕ) → (without (k ∷ (q ++ root))).set (j ∷ (z ++ root)) set ≡ (without (k ∷ q)).set (j ∷ z) set
+  module _ (apart : ServesNobodyOutside root see big) (k : ℕ) (q : Path) where
+    death : (j : ℕ) (z : Path) (set : ℕ) → (death_sweep (k ∷ (q ++ root))).set (j ∷ (z ++ root)) set ≡ (death_sweep (k ∷ q)).set (j ∷ z) set
     death j z set = rw (set_alike set j z (k ∷ q)) refl
 
     swept : (j : ℕ) (z : Path) (v : Option Body) → IfSome v (IsPlainBody see Seen) → IfSome v (NoneHidden see (serves (k ∷ (q ++ root)))) →
-        (shown (j ∷ z) (option_map (through (without (k ∷ (q ++ root))) (j ∷ (z ++ root))) v) ≡ option_map (through (without (k ∷ q)) (j ∷ z)) (shown (j ∷ z) v))
-        × IfSome (option_map (through (without (k ∷ (q ++ root))) (j ∷ (z ++ root))) v) (IsPlainBody see Seen)
+        (shown (j ∷ z) (option_map (through (death_sweep (k ∷ (q ++ root))) (j ∷ (z ++ root))) v) ≡ option_map (through (death_sweep (k ∷ q)) (j ∷ z)) (shown (j ∷ z) v))
+        × IfSome (option_map (through (death_sweep (k ∷ (q ++ root))) (j ∷ (z ++ root))) v) (IsPlainBody see Seen)
     swept j z None h hidden = (refl, tt)
     swept j z (Some b) h hidden = (
-      ap Some (through-seen see Seen (serves (k ∷ (q ++ root))) (without (k ∷ q)) (without (k ∷ (q ++ root))) (without-alike (k ∷ q)) (j ∷ z) (j ∷ (z ++ root)) (death j z) b h hidden),
-      through-kept see Seen (serves (k ∷ (q ++ root))) (without (k ∷ q)) (without (k ∷ (q ++ root))) (without-alike (k ∷ q)) (j ∷ z) (j ∷ (z ++ root)) (death j z) b h hidden,
+      ap Some (through-seen see Seen (serves (k ∷ (q ++ root))) (death_sweep (k ∷ q)) (death_sweep (k ∷ (q ++ root))) (without-alike (k ∷ q)) (j ∷ z) (j ∷ (z ++ root)) (death j z) b h hidden),
+      through-kept see Seen (serves (k ∷ (q ++ root))) (death_sweep (k ∷ q)) (death_sweep (k ∷ (q ++ root))) (without-alike (k ∷ q)) (j ∷ z) (j ∷ (z ++ root)) (death j z) b h hidden,
     )
 
-    swept_at : (j : ℕ) (z : Path) → (shown (j ∷ z) (option_map (through (without (k ∷ (q ++ root))) (j ∷ (z ++ root))) (big.body (j ∷ (z ++ root)))) ≡ option_map (through (without (k ∷ q)) (j ∷ z)) (small.body (j ∷ z)))
-        × IfSome (option_map (through (without (k ∷ (q ++ root))) (j ∷ (z ++ root))) (big.body (j ∷ (z ++ root)))) (IsPlainBody see Seen)
+    swept_at : (j : ℕ) (z : Path) → (shown (j ∷ z) (option_map (through (death_sweep (k ∷ (q ++ root))) (j ∷ (z ++ root))) (big.body (j ∷ (z ++ root)))) ≡ option_map (through (death_sweep (k ∷ q)) (j ∷ z)) (small.body (j ∷ z)))
+        × IfSome (option_map (through (death_sweep (k ∷ (q ++ root))) (j ∷ (z ++ root))) (big.body (j ∷ (z ++ root)))) (IsPlainBody see Seen)
     swept_at j z = rw (like.bodies (j ∷ z)) (swept j z (big.body (j ∷ (z ++ root))) (like.plain j z) (none_hidden apart (k ∷ q) j z (big.body (j ∷ (z ++ root))) refl))
 
     killed-body : (z : Path) → (killed_at (k ∷ q) small).body z ≡ shown z ((killed_at (k ∷ (q ++ root)) big).body (z ++ root))
@@ -197,19 +197,19 @@ module _ {root : Path} {see : Ptr → Ptr} {small big : World} (like : IsLikenes
     killed-body [] = rw (same_path_above k q root, like.bodies [], (root_space like).2) refl
     killed-body (j ∷ z) = rw (same_path_cancel (j ∷ z) (k ∷ q) root) (by (same_path (j ∷ z) (k ∷ q)))
       where
-        by : (t : Bool) → cond t None (option_map (through (without (k ∷ q)) (j ∷ z)) (small.body (j ∷ z))) ≡ shown (j ∷ z) (cond t None (option_map (through (without (k ∷ (q ++ root))) (j ∷ (z ++ root))) (big.body (j ∷ (z ++ root)))))
+        by : (t : Bool) → cond t None (option_map (through (death_sweep (k ∷ q)) (j ∷ z)) (small.body (j ∷ z))) ≡ shown (j ∷ z) (cond t None (option_map (through (death_sweep (k ∷ (q ++ root))) (j ∷ (z ++ root))) (big.body (j ∷ (z ++ root)))))
         by true = refl
         by false = sym (swept_at j z).0
 
     killed-near : (j : ℕ) (z : Path) → IfSome ((killed_at (k ∷ (q ++ root)) big).body (j ∷ (z ++ root))) (IsPlainBody see Seen)
     killed-near j z = by (same_path (j ∷ (z ++ root)) (k ∷ (q ++ root)))
       where
-        by : (t : Bool) → IfSome (cond t None (option_map (through (without (k ∷ (q ++ root))) (j ∷ (z ++ root))) (big.body (j ∷ (z ++ root))))) (IsPlainBody see Seen)
+        by : (t : Bool) → IfSome (cond t None (option_map (through (death_sweep (k ∷ (q ++ root))) (j ∷ (z ++ root))) (big.body (j ∷ (z ++ root))))) (IsPlainBody see Seen)
         by true = tt
         by false = (swept_at j z).1
 
     killed-ports : (x : Path) → is_within root x ≡ false → kind_at big (At x) ≡ Some kinds.Port → kind_at (killed_at (k ∷ (q ++ root)) big) (At x) ≡ Some kinds.Port
-    killed-ports x out port = rw (outside_apart root (k ∷ q) x out) (kind-swept (without (k ∷ (q ++ root))) x (big.body x) ∙ port)
+    killed-ports x out port = rw (outside_apart root (k ∷ q) x out) (kind-swept (death_sweep (k ∷ (q ++ root))) x (big.body x) ∙ port)
 
     pub kill-like : IsLikeness root see (apply (Kill (k ∷ q)) small) (apply (Kill (k ∷ (q ++ root))) big)
     unfolding apply kind_there

@@ -9,9 +9,9 @@ use Rattle.fk_model.specs.Objects.Peer.{Server, Service, Parked}
 use Rattle.fk_model.specs.Objects.Body.{Thread_of}
 use Rattle.fk_model.specs.World.{World}
 use Rattle.fk_model.specs.Searches.{talk_at, fault_at, client_of}
-use Rattle.fk_model.specs.Talks.{line_from, line, path_to, thread_at}
+use Rattle.fk_model.specs.Talks.{line_from, line, path_to, thread_led_to}
 use Rattle.fk_model.specs.Cut.{is_out, seen_by, unheld}
-use Rattle.fk_transparency.specs.Likeness.{seeing, seen_peer, PtrLikeness, HasLikeness, IfServer, AllInTalk, AllInFault, IsPlainBody, IsLikeness, AlikeOptions, IsBeneath, IsOuter, IsApart, IsSeenTalk, IsSeenFault, IsSeenThread, PeerLikeness, EndLikeness, LineLikeness}
+use Rattle.fk_transparency.specs.Likeness.{seeing, seen_peer, PtrLikeness, HasLikeness, IfServer, AllInTalk, AllInFault, IsPlainBody, IsLikeness, AlikeOptions, IsBeneath, IsOuter, ServesNobodyOutside, IsSeenTalk, IsSeenFault, IsSeenThread, PeerLikeness, EndLikeness, LineLikeness}
 use Rattle.fk_transparency.specs.Likeness.PtrLikeness.{Nulls, Deads, Inside, PortAt, PortOut}
 use Rattle.fk_transparency.specs.Likeness.PeerLikeness.{Outsiders, Servers, Services, Waiters}
 use Rattle.fk_transparency.specs.Likeness.EndLikeness.{Ends}
@@ -64,7 +64,7 @@ module _ {root : Path} {see : Ptr → Ptr} {small big : World} (like : IsLikenes
   end-alike k q (Some b) is h = tt
   end-alike k q None is h = tt
 
-  pub thread_at-like : (p seen : Ptr) → PtrLikeness root big p seen → AlikeOptions (EndLikeness root see big) (thread_at small seen) (thread_at big p)
+  pub thread_at-like : (p seen : Ptr) → PtrLikeness root big p seen → AlikeOptions (EndLikeness root see big) (thread_led_to small seen) (thread_led_to big p)
   thread_at-like _ _ Nulls = tt
   thread_at-like _ _ Deads = tt
   thread_at-like _ _ (Inside []) = rw ((root_space like).2, root_seen like) tt
@@ -81,7 +81,7 @@ module _ {root : Path} {see : Ptr → Ptr} {small big : World} (like : IsLikenes
   peer-like false Parked h outer = Waiters
 
   -- of the client
-  pub line_client-like : IsApart root see big → (k : ℕ) (q : Path) → AlikeOptions (LineLikeness root see big) (line small (k ∷ q) turns.Client) (line big (k ∷ (q ++ root)) turns.Client)
+  pub line_client-like : ServesNobodyOutside root see big → (k : ℕ) (q : Path) → AlikeOptions (LineLikeness root see big) (line small (k ∷ q) turns.Client) (line big (k ∷ (q ++ root)) turns.Client)
   unfolding line
   line_client-like apart k q = by (talk_at small (k ∷ q)) (talk_at big (k ∷ (q ++ root))) refl (talk_at-like (k ∷ q))
     where

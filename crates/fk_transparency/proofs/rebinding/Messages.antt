@@ -1,6 +1,6 @@
 -- The law of rebinding for a Send and an Over, with what the outside is told of them.
 use Rattle.std.proofs.Common.{◌≡◌, ℕ, eqb, leb, ltb, Bool, true, false, cond, ◌&&◌, List, [], ◌∷◌, ◌++◌, map, find, Option, Some, None, is_none, Ok, Err, refl, sym, ap, subst, ◌∙◌, append-nil}
-use Rattle.fk_model.specs.declared.limits.TheConstants.{MOST_WORDS}
+use Rattle.fk_model.specs.declared.limits.TheConstants.{BLOCK_WORDS}
 use Rattle.fk_model.specs.declared.statuses.status.TheConstants.{WRONGTURN}
 use Rattle.fk_model.specs.declared.stage.Stage.{Stage}
 use Rattle.fk_model.specs.declared.stage.Stage.TheVariants.{ClientSend, ClientOver, ServerSend, ServerOver}
@@ -11,7 +11,7 @@ use Rattle.fk_model.specs.Objects.Mode.{Calling}
 use Rattle.fk_model.specs.World.{World, serves}
 use Rattle.fk_model.specs.World.Change.{Alter}
 use Rattle.fk_model.specs.World.Edit.{Finish, End, CountMoved, PassTurn}
-use Rattle.fk_model.specs.Searches.{talk_at, client_of, objects}
+use Rattle.fk_model.specs.Searches.{talk_at, client_of, objects, thread_at}
 use Rattle.fk_model.specs.Reach.{words_at}
 use Rattle.fk_model.specs.Holds.{is_frozen, is_free}
 use Rattle.fk_model.specs.Outcomes.{Outcome, ◌>>=◌, when, done}
@@ -22,10 +22,10 @@ use Rattle.fk_model.specs.TransferRows.{block, moved_words, in_turn}
 use Rattle.fk_model.specs.LinkRows.{user_at}
 use Rattle.fk_model.specs.Moves.{stage_row, is_for_porters, chooses, closed, call_row}
 use Rattle.fk_model.specs.Cut.{is_out}
-use Rattle.fk_model.specs.Further.{is_outside, takes_words, sends_outside, passes_outside, talks_outside, outside_row, own_row, counted, thread_in, onward_row}
+use Rattle.fk_model.specs.Further.{is_outside, takes_words, sends_outside, passes_outside, talks_outside, outside_row, own_row, counted, onward_row}
 use Rattle.fk_model.specs.Further.Onward.{Own}
 use Rattle.fk_transparency.specs.CutLaws.{IsAtStage, IsServerSend, IsServerOver, IsClientSend, IsClientOver}
-use Rattle.fk_transparency.specs.Likeness.{seen_talk, seen_thread, IsLikeness, IsCutWorld, IsApart, IsBeneath, AlikeOptions, IsSeenTalk}
+use Rattle.fk_transparency.specs.Likeness.{seen_talk, seen_thread, IsLikeness, IsCutWorld, ServesNobodyOutside, IsBeneath, AlikeOptions, IsSeenTalk}
 use Rattle.fk_transparency.specs.LikeChanges.LikeChange.{Alters}
 use Rattle.fk_transparency.specs.LikeChanges.LikeChanges.{Empty, Both}
 use Rattle.fk_model.specs.Rebind.{rebound_ptr, rebound}
@@ -74,7 +74,7 @@ module _ {root : Path} {see : Ptr → Ptr} {small big : World} (like : IsLikenes
       by true h = refl
       by false h = h
 
-  serves_like : IsApart root see big → (me x : Path) → holds (λ (talk : Talk). serves me talk.peer) (talk_at small x) ≡ holds (λ (talk : Talk). serves (me ++ root) talk.peer) (talk_at big (x ++ root))
+  serves_like : ServesNobodyOutside root see big → (me x : Path) → holds (λ (talk : Talk). serves me talk.peer) (talk_at small x) ≡ holds (λ (talk : Talk). serves (me ++ root) talk.peer) (talk_at big (x ++ root))
   serves_like apart me [] = rw ((root_space like).2, root_seen like) refl
   serves_like apart me (j ∷ q) = by (talk_at small (j ∷ q)) (talk_at big (j ∷ (q ++ root))) refl (talk_at-like like (j ∷ q))
     where
@@ -85,7 +85,7 @@ module _ {root : Path} {see : Ptr → Ptr} {small big : World} (like : IsLikenes
       by (Some seen) None is h = absurd h
 
 -- of a world that is all inside, the clients are found alike
-pub client_same : {see : Ptr → Ptr} {small big : World} (like : IsLikeness [] see small big) → IsApart [] see big → (me : Path) → AlikeOptions (IsBeneath []) (client_of small me) (client_of big (me ++ []))
+pub client_same : {see : Ptr → Ptr} {small big : World} (like : IsLikeness [] see small big) → ServesNobodyOutside [] see big → (me : Path) → AlikeOptions (IsBeneath []) (client_of small me) (client_of big (me ++ []))
 unfolding client_of
 client_same {see} {small} {big} like apart me =
     subst (λ (xs : List Path). AlikeOptions (IsBeneath []) (find (λ c. holds (λ (talk : Talk). serves me talk.peer) (talk_at small c)) (objects small)) (find (λ c. holds (λ (talk : Talk). serves (me ++ []) talk.peer) (talk_at big c)) xs)) (sym (beneath-like like []))
@@ -97,7 +97,7 @@ client_same {see} {small} {big} like apart me =
 abbrev pub its_row : Option Path → ℕ → Stage → World → Path → Outcome
 its_row p n stage w x = cond (talks_outside w x && is_none p) (closed (user_at x) (outside_row w (user_at x) n stage (call_row w (user_at x) p stage))) (call_row w (user_at x) p stage)
 
-its_row_is : (p : Option Path) (n : ℕ) (stage : Stage) (w : World) (x : Path) (t : Thread) (todo : List Stage) (rest : List ℕ) → thread_in w x ≡ Some t → t.mode ≡ Calling (stage ∷ todo) rest → onward_row w (Own x p n) ≡ counted n (when (is_free w (parent x) t) (its_row p n stage w x))
+its_row_is : (p : Option Path) (n : ℕ) (stage : Stage) (w : World) (x : Path) (t : Thread) (todo : List Stage) (rest : List ℕ) → thread_at w x ≡ Some t → t.mode ≡ Calling (stage ∷ todo) rest → onward_row w (Own x p n) ≡ counted n (when (is_free w (parent x) t) (its_row p n stage w x))
 unfolding onward_row
 its_row_is p n stage w x t todo rest is e = ap (counted n) (ap (own_row w x p n) is ∙ own_is w x p n t stage todo rest e ∙ by (talks_outside w x && is_none p))
   where
@@ -208,7 +208,7 @@ module _ {root : Path} {see : Ptr → Ptr} {small big : World} (like : IsLikenes
 
   same_takes : (n address count : ℕ) (page : List ℕ) → Same like (takes_words (user_at (k ∷ q)) (k ∷ q) (see talk.port) n address count page) (takes_words (user_at me) me talk.port n address count page)
   same_takes n address count page =
-      same_when like (ltb 0 n && leb n (moved_words address count 0 MOST_WORDS)) (ltb 0 n && leb n (moved_words address count 0 MOST_WORDS)) _ _ refl
+      same_when like (ltb 0 n && leb n (moved_words address count 0 BLOCK_WORDS)) (ltb 0 n && leb n (moved_words address count 0 BLOCK_WORDS)) _ _ refl
       (same_sent like k q n count (Alter (k ∷ q) (CountMoved n) ∷ []) (Alter me (CountMoved n) ∷ []) _ _ (Both (Alters k q _ (CountMoved n) refl tt) Empty) (SaysWords talk.port (block n address page)))
 
   send_told : (n address count : ℕ) → Same like (in_turn small (k ∷ q) turns.Client turns.Client >>= sends_outside small (user_at (k ∷ q)) n address count) (in_turn big me turns.Client turns.Client >>= sends_outside big (user_at me) n address count)

@@ -9,7 +9,7 @@ use Rattle.fk_model.specs.Objects.Body.{Space}
 use Rattle.fk_model.specs.World.{World, Change, Edit, apply, apply_all}
 use Rattle.fk_model.specs.World.Change.{Alter}
 use Rattle.fk_model.specs.World.Edit.{SetTalk, SetFault}
-use Rattle.fk_model.specs.Searches.{talk_at}
+use Rattle.fk_model.specs.Searches.{talk_at, thread_at}
 use Rattle.fk_model.specs.Holds.{is_frozen, is_free}
 use Rattle.fk_model.specs.Outcomes.{Said, Outcome, when}
 use Rattle.fk_model.specs.Outcomes.Outcome.{Refused, Waits, Goes}
@@ -18,7 +18,7 @@ use Rattle.fk_model.specs.LinkRows.{user_at}
 use Rattle.fk_model.specs.Freezing.{AreAllowed}
 use Rattle.fk_model.specs.Moves.{call_row, goes_on}
 use Rattle.fk_model.specs.Cut.{is_out}
-use Rattle.fk_model.specs.Further.{Onward, Told, talks_outside, own_stage, goes_out, counted, thread_in, onward_row, told_end, told_fault, told_by_change, told_by_said, told_by, OnwardTo}
+use Rattle.fk_model.specs.Further.{Onward, Told, talks_outside, own_stage, goes_out, counted, onward_row, ends_told, told_fault, told_by_change, told_by_said, told_by, OnwardTo}
 use Rattle.fk_model.specs.Further.Onward.{Own}
 use Rattle.fk_model.specs.Further.Told.{ToldEnd, ToldFault}
 use Rattle.fk_transparency.specs.CutLaws.{IsAtStage}
@@ -56,7 +56,7 @@ module _ (bind : ℕ → ℕ) (c : World) (like : IsLikeness [] (rebound_ptr bin
   abbrev renamed : List Told → List Told
   renamed = map (rebound_told bind)
 
-  end_told : (x : Path) (o : Option Talk) → told_end x (and_then (seeing see).talk o) ≡ renamed (told_end x o)
+  end_told : (x : Path) (o : Option Talk) → ends_told x (and_then (seeing see).talk o) ≡ renamed (ends_told x o)
   end_told x None = refl
   end_told x (Some talk) = rw (out_kept bind talk.port) (by (is_out talk.port))
     where
@@ -115,7 +115,7 @@ module _ (bind : ℕ → ℕ) (c : World) (like : IsLikeness [] (rebound_ptr bin
 
 -- ---- the row of a stage
 
-row_is : (c : World) (x : Path) (p : Option Path) (n : ℕ) (stage : Stage) → IsOwn stage → (t : Thread) (todo : List Stage) (rest : List ℕ) → thread_in c x ≡ Some t → t.mode ≡ Calling (stage ∷ todo) rest →
+row_is : (c : World) (x : Path) (p : Option Path) (n : ℕ) (stage : Stage) → IsOwn stage → (t : Thread) (todo : List Stage) (rest : List ℕ) → thread_at c x ≡ Some t → t.mode ≡ Calling (stage ∷ todo) rest →
     onward_row c (Own x p n) ≡ counted n (when (is_free c (parent x) t) (call_row c (user_at x) p stage))
 unfolding onward_row
 row_is c x p n stage inner t todo rest is e = ap (counted n) (rw is (by (talks_outside c x && is_none p) t.mode e))
@@ -124,8 +124,8 @@ row_is c x p n stage inner t todo rest is e = ap (counted n) (rw is (by (talks_o
     by true mode e = rw e (rw (inner.silent c n (user_at x) (call_row c (user_at x) p stage), call_closed c x p stage) refl)
     by false mode e = rw e refl
 
-pub thread_named : (see : Ptr → Ptr) (c small : World) (x : Path) (like : IsLikeness [] see small c) (t : Thread) → thread_in c x ≡ Some t → thread_in small x ≡ Some (seen_thread see t)
-thread_named see c small x like t is = by (thread_in small x) (and_then thread_of (c.body (x ++ []))) (thread_there-like like x) (ap (λ (y : Path). and_then thread_of (c.body y)) (append-nil x) ∙ is)
+pub thread_named : (see : Ptr → Ptr) (c small : World) (x : Path) (like : IsLikeness [] see small c) (t : Thread) → thread_at c x ≡ Some t → thread_at small x ≡ Some (seen_thread see t)
+thread_named see c small x like t is = by (thread_at small x) (and_then thread_of (c.body (x ++ []))) (thread_there-like like x) (ap (λ (y : Path). and_then thread_of (c.body y)) (append-nil x) ∙ is)
   where
     by : (seen o : Option Thread) → AlikeOptions (IsSeenThread [] see c) seen o → o ≡ Some t → seen ≡ Some (seen_thread see t)
     by None None h e = cc
@@ -284,8 +284,8 @@ no_thread t v e h = let none : and_then thread_of v ≡ None = rw e refl in cc
 -- a row of a free thread that acts alike in every likeness at the same path
 pub row_anew : (bind : ℕ → ℕ) (c : World) (world : IsCutWorld c) (k : ℕ) (q : Path) (p : Option Path) (n : ℕ) (t : Thread) (row : World → Outcome) →
     onward_row c (Own (k ∷ q) p n) ≡ counted n (when (is_free c q t) (row c)) →
-    (thread_in (rebound bind c) (k ∷ q) ≡ Some (seen_thread (rebound_ptr bind) t) → onward_row (rebound bind c) (Own (k ∷ q) p n) ≡ counted n (when (is_free (rebound bind c) q (seen_thread (rebound_ptr bind) t)) (row (rebound bind c)))) →
-    thread_in c (k ∷ q) ≡ Some t →
+    (thread_at (rebound bind c) (k ∷ q) ≡ Some (seen_thread (rebound_ptr bind) t) → onward_row (rebound bind c) (Own (k ∷ q) p n) ≡ counted n (when (is_free (rebound bind c) q (seen_thread (rebound_ptr bind) t)) (row (rebound bind c)))) →
+    thread_at c (k ∷ q) ≡ Some t →
     ((see : Ptr → Ptr) (small : World) → IsLikeness [] see small c → IsLikeOutcome [] see c (row small) (row c)) → ((w : World) → Quiet [] (row w)) → RebindsTo bind c (Own (k ∷ q) p n)
 row_anew bind c world k q p n t row far_is near_by is alike quiet =
     let see : Ptr → Ptr = rebound_ptr bind in

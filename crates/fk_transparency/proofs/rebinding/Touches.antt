@@ -1,8 +1,8 @@
 -- The law of rebinding for what the outside does to a subtree: with other outward ports it is done in the same way.
 use Rattle.std.proofs.Common.{◌≡◌, ℕ, ◌%◌, eqb, leb, ltb, min, Bool, true, false, cond, ◌&&◌, List, [], ◌∷◌, ◌++◌, map, length, Option, Some, None, is_none, is_some, option_map, refl, sym, ap, subst, ◌∙◌, append-nil}
 use Rattle.std.proofs.lemmas.Bool.{and_parts}
-use Rattle.fk_model.specs.Searches.{fault_at}
-use Rattle.fk_model.specs.declared.limits.TheConstants.{PAGE_WORDS, MOST_WORDS}
+use Rattle.fk_model.specs.Searches.{fault_at, thread_at}
+use Rattle.fk_model.specs.declared.limits.TheConstants.{PAGE_WORDS, BLOCK_WORDS}
 use Rattle.fk_model.specs.declared.statuses.status.TheConstants.{FULL, ENDED}
 use Rattle.fk_model.specs.declared.thread.Turn.TheVariants as turns
 use Rattle.fk_model.specs.Places.{Path, Ptr}
@@ -21,7 +21,7 @@ use Rattle.fk_model.specs.Talks.{same_side, receiving, is_talking}
 use Rattle.fk_model.specs.TransferRows.{overwritten, to_page_end}
 use Rattle.fk_model.specs.LinkRows.{new_talk}
 use Rattle.fk_model.specs.Cut.{is_out, seen_by, unheld}
-use Rattle.fk_model.specs.Further.{Touch, Told, is_outside, on_found, is_outside_talk, taken_at, if_awaiting, given_at, given_to, left_by_peer, taken_fault, done_fault, thread_in, touch_row, onward_row, OnwardTo}
+use Rattle.fk_model.specs.Further.{Touch, Told, is_outside, on_found, is_outside_talk, taken_at, if_awaiting, given_at, given_to, left_by_peer, fault_taken_outside, done_fault, touch_row, onward_row, OnwardTo}
 use Rattle.fk_model.specs.Further.Touch.{Taken, Given, Filled, Handed, Left, FaultTaken, FaultDone, PageGiven, PageTaken}
 use Rattle.fk_model.specs.Further.Onward.{ByOthers}
 use Rattle.fk_transparency.specs.Likeness.{seeing, seen_peer, seen_talk, seen_fault, seen_thread, IsLikeness, IsCutWorld, AlikeOptions, IsSeenAs, IsSeenThread}
@@ -43,8 +43,8 @@ use Rattle.fk_transparency.proofs.rebinding.Rebound.{same_likeness, rebinds_from
 -- ---- who is outside, in a world that is all inside
 
 -- a thread of a cut world has its talk and its fault as a cut shows them
-thread_shown : (c : World) → IsCutWorld c → (x : Path) (t : Thread) → thread_in c x ≡ Some t → t ≡ seen_thread (λ p. p) t
-thread_shown c world x t is = by (thread_in c x) (thread_in c (x ++ [])) is (ap (thread_in c) (append-nil x) ∙ is) (thread_there-like world x)
+thread_shown : (c : World) → IsCutWorld c → (x : Path) (t : Thread) → thread_at c x ≡ Some t → t ≡ seen_thread (λ p. p) t
+thread_shown c world x t is = by (thread_at c x) (thread_at c (x ++ [])) is (ap (thread_at c) (append-nil x) ∙ is) (thread_there-like world x)
   where
     the_one : (a b : Thread) → Some a ≡ Some b → a ≡ b
     the_one a b h = cc
@@ -100,16 +100,16 @@ module _ {see : Ptr → Ptr} {small c : World} (like : IsLikeness [] see small c
 
   -- ---- rows by a thread
 
-  on_thread : (k : ℕ) (q : Path) (near far : Thread → Outcome) → ((t : Thread) → thread_in c (k ∷ (q ++ [])) ≡ Some t → t ≡ seen_thread (λ p. p) t → Alike (near (seen_thread see t)) (far t)) → Alike (on_found near (thread_in small (k ∷ q))) (on_found far (thread_in c (k ∷ (q ++ []))))
-  on_thread k q near far go = by (thread_in small (k ∷ q)) (thread_in c (k ∷ (q ++ []))) refl (thread_there-like like (k ∷ q))
+  on_thread : (k : ℕ) (q : Path) (near far : Thread → Outcome) → ((t : Thread) → thread_at c (k ∷ (q ++ [])) ≡ Some t → t ≡ seen_thread (λ p. p) t → Alike (near (seen_thread see t)) (far t)) → Alike (on_found near (thread_at small (k ∷ q))) (on_found far (thread_at c (k ∷ (q ++ []))))
+  on_thread k q near far go = by (thread_at small (k ∷ q)) (thread_at c (k ∷ (q ++ []))) refl (thread_there-like like (k ∷ q))
     where
-      by : (o p : Option Thread) → thread_in c (k ∷ (q ++ [])) ≡ p → AlikeOptions (IsSeenThread [] see c) o p → Alike (on_found near o) (on_found far p)
+      by : (o p : Option Thread) → thread_at c (k ∷ (q ++ [])) ≡ p → AlikeOptions (IsSeenThread [] see c) o p → Alike (on_found near o) (on_found far p)
       by None None e h = tt
       by (Some seen) (Some t) e h = rw h.0 (go t e (thread_shown c world (k ∷ (q ++ [])) t e))
       by None (Some t) e h = absurd h
       by (Some seen) None e h = absurd h
 
-  no_root : (near far : Thread → Outcome) → Alike (on_found near (thread_in small [])) (on_found far (thread_in c []))
+  no_root : (near far : Thread → Outcome) → Alike (on_found near (thread_at small [])) (on_found far (thread_at c []))
   no_root near far = rw ((root_space like).2, root_seen like) tt
 
   when_so : (a b : Bool) (near far : Outcome) → a ≡ b → (b ≡ true → Alike near far) → Alike (when a near) (when b far)
@@ -142,7 +142,7 @@ module _ {see : Ptr → Ptr} {small c : World} (like : IsLikeness [] see small c
 
   given_here : (k : ℕ) (q : Path) (words : List ℕ) (receive : ℕ × ℕ) → Alike (given_to small (k ∷ q) words receive) (given_to c (k ∷ (q ++ [])) words receive)
   given_here k q words receive =
-      same_test (ltb 0 (length words) && leb (length words) (min MOST_WORDS (min receive.1 (to_page_end receive.0)))) _ _
+      same_test (ltb 0 (length words) && leb (length words) (min BLOCK_WORDS (min receive.1 (to_page_end receive.0)))) _ _
       (their_page-like like q receive.0 (given_at small (k ∷ q) words receive.0) (given_at c (k ∷ (q ++ [])) words receive.0)
       (λ s page. rw (words_at-like like s page) (Both (PutsPage s page (overwritten (words_at c (s ++ []) page) (receive.0 % PAGE_WORDS) words)) (Both (Alters k q _ (CountMoved (length words)) refl tt) (Both (Alters k q _ (Shift (length words)) refl tt) Empty)))))
 
@@ -175,7 +175,7 @@ module _ {see : Ptr → Ptr} {small c : World} (like : IsLikeness [] see small c
       by true None e = refl
       by true (Some taker) e = sym (ap (holds is_outside) e)
 
-  fault_taken_here : (k : ℕ) (q : Path) (t : Thread) → thread_in c (k ∷ (q ++ [])) ≡ Some t → Alike (taken_fault small (k ∷ q) (seen_thread see t)) (taken_fault c (k ∷ (q ++ [])) t)
+  fault_taken_here : (k : ℕ) (q : Path) (t : Thread) → thread_at c (k ∷ (q ++ [])) ≡ Some t → Alike (fault_taken_outside small (k ∷ q) (seen_thread see t)) (fault_taken_outside c (k ∷ (q ++ [])) t)
   fault_taken_here k q t is =
       when_so (is_unheld small q && holds (λ (fault : Fault). is_out fault.port && is_none fault.taker) (and_then (seeing see).fault t.fault)) (is_unheld c (q ++ []) && holds (λ (fault : Fault). is_out fault.port && is_none fault.taker) t.fault) _ _ (rw (is_unheld-like like (top_free c world) q, raised_same t.fault) refl)
       (λ on. Both (AltersOut k q _ (SetTaker (Some (Server Outside))) refl (taken_out (k ∷ (q ++ [])) t.fault (ap (and_then (λ (t : Thread). t.fault)) is) (and_parts (is_unheld c (q ++ [])) _ on).1, tt)) Empty)

@@ -7,7 +7,7 @@ use Rattle.fk_model.specs.World.{World, serves}
 use Rattle.fk_model.specs.Searches.{fault_at, client_of, faulter_of, is_serving, objects}
 use Rattle.fk_model.specs.Cut.{is_out}
 use Rattle.fk_transparency.specs.CutLaws.{IsWait}
-use Rattle.fk_transparency.specs.Likeness.{seen_peer, HasLikeness, IfServer, IsLikeness, IsApart, IsBeneath, AlikeOptions, IsSeenFault}
+use Rattle.fk_transparency.specs.Likeness.{seen_peer, HasLikeness, IfServer, IsLikeness, ServesNobodyOutside, IsBeneath, AlikeOptions, IsSeenFault}
 use Rattle.fk_transparency.specs.RebindLaws.{StageRebinds}
 use Rattle.fk_transparency.proofs.likeness.Alike.{alike-is_some}
 use Rattle.fk_transparency.proofs.likeness.Memory.{root_space, root_seen}
@@ -21,7 +21,7 @@ use Rattle.fk_transparency.proofs.rebinding.Messages.{found_same, client_same, s
 
 -- ---- whose fault a thread has taken, in a world that is all inside
 
-module _ {root : Path} {see : Ptr → Ptr} {small big : World} (like : IsLikeness root see small big) (apart : IsApart root see big) (me : Path) where
+module _ {root : Path} {see : Ptr → Ptr} {small big : World} (like : IsLikeness root see small big) (apart : ServesNobodyOutside root see big) (me : Path) where
   taker_like : (j : ℕ) (q : Path) (fault : Fault) (o : Option Peer) → fault_at big (j ∷ (q ++ root)) ≡ Some fault → fault.taker ≡ o → IfSome o (λ taker. IfServer (is_out (see fault.port)) taker (HasLikeness root see big)) →
       holds (serves me) (option_map (seen_peer see (is_out (see fault.port))) o) ≡ holds (serves (me ++ root)) o
   taker_like j q fault None is took h = refl
@@ -37,13 +37,13 @@ module _ {root : Path} {see : Ptr → Ptr} {small big : World} (like : IsLikenes
       by None (Some fault) is h = absurd h
       by (Some seen) None is h = absurd h
 
-faulter_same : {see : Ptr → Ptr} {small big : World} (like : IsLikeness [] see small big) → IsApart [] see big → (me : Path) → AlikeOptions (IsBeneath []) (faulter_of small me) (faulter_of big (me ++ []))
+faulter_same : {see : Ptr → Ptr} {small big : World} (like : IsLikeness [] see small big) → ServesNobodyOutside [] see big → (me : Path) → AlikeOptions (IsBeneath []) (faulter_of small me) (faulter_of big (me ++ []))
 unfolding faulter_of
 faulter_same {see} {small} {big} like apart me =
     subst (λ (xs : List Path). AlikeOptions (IsBeneath []) (find (λ c. holds (λ (fault : Fault). holds (serves me) fault.taker) (fault_at small c)) (objects small)) (find (λ c. holds (λ (fault : Fault). holds (serves (me ++ [])) fault.taker) (fault_at big c)) xs)) (sym (beneath-like like []))
     (found_same like _ _ (objects small) (takes_like like apart me))
 
-serving_same : {see : Ptr → Ptr} {small big : World} (like : IsLikeness [] see small big) → IsApart [] see big → (me : Path) → is_serving small me ≡ is_serving big (me ++ [])
+serving_same : {see : Ptr → Ptr} {small big : World} (like : IsLikeness [] see small big) → ServesNobodyOutside [] see big → (me : Path) → is_serving small me ≡ is_serving big (me ++ [])
 serving_same {see} {small} {big} like apart me =
     rw (alike-is_some (IsBeneath []) (client_of small me) (client_of big (me ++ [])) (client_same like apart me), alike-is_some (IsBeneath []) (faulter_of small me) (faulter_of big (me ++ [])) (faulter_same like apart me)) refl
 

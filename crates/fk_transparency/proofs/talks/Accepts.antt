@@ -6,7 +6,7 @@ use Rattle.fk_model.specs.declared.thread.Turn.{Turn}
 use Rattle.fk_model.specs.declared.thread.Turn.TheVariants as turns
 use Rattle.fk_model.specs.Places.{Path, strip, is_within, parent, Ptr, leads_to}
 use Rattle.fk_model.specs.Places.Ptr.{At, Out}
-use Rattle.fk_model.specs.Objects.{Talk, Thread, Body, port_of, thread_of, and_then, holds}
+use Rattle.fk_model.specs.Objects.{Talk, Thread, Body, port_of, thread_of, and_then, holds, is_served}
 use Rattle.fk_model.specs.Objects.Peer.{Service}
 use Rattle.fk_model.specs.World.{World, Change, apply_all}
 use Rattle.fk_model.specs.World.Change.{Alter}
@@ -17,13 +17,13 @@ use Rattle.fk_model.specs.Outcomes.{Outcome, when}
 use Rattle.fk_model.specs.Outcomes.Outcome.{Waits, Goes}
 use Rattle.fk_model.specs.Outcomes.Said.{Taken as SaidTaken}
 use Rattle.fk_model.specs.LinkRows.{connecting_to, new_talk}
-use Rattle.fk_model.specs.NativeRows.{is_serving_port, connects_here, parked_here, takes_up, accepts_thread, accepts_found, accepts, accept_row}
+use Rattle.fk_model.specs.NativeRows.{is_serving_port, connects_here, parked_here, takes_up, accepts_thread, accepts_found, takes_client, accept_row}
 use Rattle.fk_model.specs.Moves.{outcome, GoesAllowed, stepped, step}
-use Rattle.fk_model.specs.Cut.{is_served, ports_of, cut_ptr, cut, IsPlain}
+use Rattle.fk_model.specs.Cut.{ports_of, cut_ptr, cut, IsPlain}
 use Rattle.fk_model.specs.Further.{Touch, Onward, Told, IsOnward}
 use Rattle.fk_model.specs.Further.Touch.{Taken}
 use Rattle.fk_model.specs.Further.Onward.{ByOthers}
-use Rattle.fk_model.specs.Seen.{on_inner, accepted, said_by, row_of}
+use Rattle.fk_model.specs.Seen.{on_inner, accepted, outcome_said, row_of}
 use Rattle.fk_model.specs.Seen.Seen.{Onwards, Unseen, Other}
 use Rattle.fk_model.specs.Runs.{Event}
 use Rattle.fk_transparency.specs.Likeness.{PtrLikeness}
@@ -67,7 +67,7 @@ module _ (w : World) (port : Path) (pick : Option Path) where
   view-found x is None e = inl refl
   view-found x is (Some t) e = view-free x t is e (is_free w (parent x) t) refl
 
-  view-accepts : (p : Option Path) → pick ≡ p → View (accepts w port p)
+  view-accepts : (p : Option Path) → pick ≡ p → View (takes_client w port p)
   view-accepts None e = inl refl
   view-accepts (Some x) e = view-found x e (and_then thread_of (w.body x)) refl
 
@@ -77,7 +77,7 @@ module _ (w : World) (port : Path) (pick : Option Path) where
 
   view : View (accept_row w port pick)
   unfolding accept_row
-  view = view-when (is_serving_port w port && is_none (client_at w port)) (accepts w port pick) (view-accepts pick refl)
+  view = view-when (is_serving_port w port && is_none (client_at w port)) (takes_client w port pick) (view-accepts pick refl)
 
   quiet-view : (root : Path) (o : Outcome) → View o → Quiet root o
   quiet-view root o (inl e) = rw e quiet-waits
@@ -128,7 +128,7 @@ module _ (w : World) (nester : Path) (slot : ℕ) (plain : IsPlain w nester slot
   unfolding accept_row
   serving ready = by (is_serving_port w port) (is_none (client_at w port)) ready
     where
-      by : (a b : Bool) → GoesAllowed w port (when (a && b) (accepts w port pick)) → a ≡ true
+      by : (a b : Bool) → GoesAllowed w port (when (a && b) (takes_client w port pick)) → a ≡ true
       by true b h = refl
       by false b h = absurd h
 
@@ -139,10 +139,10 @@ module _ (w : World) (nester : Path) (slot : ℕ) (plain : IsPlain w nester slot
       by false e = refl
       by true e = absurd (unready e Waits (serving ready))
 
-  seen_so : (o : Outcome) (r : Option Path) (m : Onward) → r ≡ None → row_of w root asked o r ≡ Some m → option_map (λ (t : Touch). ByOthers t) (on_inner root (accepted (said_by o)) pick) ≡ Some m
+  seen_so : (o : Outcome) (r : Option Path) (m : Onward) → r ≡ None → row_of w root asked o r ≡ Some m → option_map (λ (t : Touch). ByOthers t) (on_inner root (accepted (outcome_said o)) pick) ≡ Some m
   seen_so o r m none = rw none (λ h. h)
 
-  touched : (o : Outcome) → View w port pick o → (m : Onward) → is_within root port ≡ false → GoesAllowed w port o → option_map (λ (t : Touch). ByOthers t) (on_inner root (accepted (said_by o)) pick) ≡ Some m → IsTouched m (stepped w o).world
+  touched : (o : Outcome) → View w port pick o → (m : Onward) → is_within root port ≡ false → GoesAllowed w port o → option_map (λ (t : Touch). ByOthers t) (on_inner root (accepted (outcome_said o)) pick) ≡ Some m → IsTouched m (stepped w o).world
   touched o (inl e) m out ready h = absurd (rw e at ready)
   touched o (inr (inl v)) m out ready h = absurd (resumed pick (rw v.3 at h))
     where

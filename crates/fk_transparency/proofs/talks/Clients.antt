@@ -1,7 +1,7 @@
 -- A Send and an Over of a client inside to a peer outside: the cut's own row for them is alike.
 use Rattle.std.proofs.Common.{◌≡◌, ℕ, ◌%◌, ◌<◌, ◌≤◌, eqb, Bool, true, false, cond, not, ◌&&◌, ◌||◌, List, [], ◌∷◌, ◌++◌, Option, Some, None, is_some, unwrap_or, Ok, Err, refl, sym, ap, subst, ◌∙◌, arith, append_assoc}
 use Rattle.std.proofs.lemmas.Bool.{le-leb, lt-ltb, eqb-false}
-use Rattle.fk_model.specs.declared.limits.TheConstants.{PAGE_WORDS, MOST_WORDS}
+use Rattle.fk_model.specs.declared.limits.TheConstants.{PAGE_WORDS, BLOCK_WORDS}
 use Rattle.fk_model.specs.declared.statuses.status.TheConstants.{FULL, WRONGTURN}
 use Rattle.fk_model.specs.declared.stage.Stage.{Stage}
 use Rattle.fk_model.specs.declared.thread.Turn.TheVariants as turns
@@ -20,13 +20,13 @@ use Rattle.fk_model.specs.Outcomes.{Said, Outcome, ◌>>=◌, when, done, listed
 use Rattle.fk_model.specs.Outcomes.Outcome.{Refused, Waits, Goes}
 use Rattle.fk_model.specs.Outcomes.Said.{Nothing, Words, Passed}
 use Rattle.fk_model.specs.Readers.{own_page_at, own_page, their_page_at, their_page}
-use Rattle.fk_model.specs.Talks.{Line, line, same_side, receiving, thread_at, is_service_free}
+use Rattle.fk_model.specs.Talks.{Line, line, same_side, receiving, thread_led_to, is_service_free}
 use Rattle.fk_model.specs.TransferRows.{overwritten, block, moved_words, in_turn, has_sent, sends_words, sends_into, sends_to_thread, sends_to_service, sends_to, sends, send, passes, passes_to_thread, passes_to, over}
 use Rattle.fk_model.specs.LinkRows.{user_at}
 use Rattle.fk_model.specs.Moves.{stage_row, is_for_porters, chooses, with_pick, closed, call_row}
 use Rattle.fk_model.specs.Cut.{is_out}
 use Rattle.fk_model.specs.Further.{is_outside, counted, takes_words, sends_outside, passes_outside, talks_outside}
-use Rattle.fk_model.specs.Seen.{count_in, writes_inside, only_fills, leads_out}
+use Rattle.fk_model.specs.Seen.{count_set, writes_inside, only_fills, leads_out}
 use Rattle.fk_transparency.specs.Likeness.{seen_peer, seen_talk, PtrLikeness, HasLikeness, IfServer, AllInTalk, IsLikeness, IsOuter, AlikeOptions, IsSeenTalk, ReachLikeness}
 use Rattle.fk_transparency.specs.Likeness.PtrLikeness.{Nulls, Deads, Inside, PortAt, PortOut}
 use Rattle.fk_transparency.specs.Likeness.ReachLikeness.{Homes, Misses, Bads}
@@ -45,7 +45,7 @@ use Rattle.fk_transparency.proofs.likeness.Sends.{sent-like}
 pub some_words : (address count into room : ℕ) → eqb count 0 ≡ false → eqb room 0 ≡ false → 0 < moved_words address count into room
 some_words address count into room many wide = omega (arith, eqb-false count 0 many, eqb-false room 0 wide)
 
-no_more : (address count into room : ℕ) → moved_words address count into room ≤ moved_words address count 0 MOST_WORDS
+no_more : (address count into room : ℕ) → moved_words address count into room ≤ moved_words address count 0 BLOCK_WORDS
 no_more address count into room = omega arith
 
 -- ---- far rows whose changes are those of a move of its own, with n words taken
@@ -55,13 +55,13 @@ module _ (root : Path) (see : Ptr → Ptr) (big : World) (n : ℕ) where
   pub record Takes (far : Outcome) : Type 0 where
     pub puts_none : writes_inside root (listed far) ≡ false
     pub fills_none : only_fills root (listed far) ≡ false
-    pub counts : n ≡ unwrap_or (count_in (listed far)) 0
+    pub counts : n ≡ unwrap_or (count_set (listed far)) 0
 
   abbrev pub AlikeTaking : Outcome → Outcome → Type 0
   AlikeTaking near far = Takes far → IsLikeUnlessWaiting root see big (counted n near) far
 
 -- who isn't among the peers inside is outside
-outer_at : (w : World) (root : Path) (thread : Ptr) (e : Path × Thread) → IsOuter root (Server thread) → thread_at w thread ≡ Some e → is_within root e.0 ≡ false
+outer_at : (w : World) (root : Path) (thread : Ptr) (e : Path × Thread) → IsOuter root (Server thread) → thread_led_to w thread ≡ Some e → is_within root e.0 ≡ false
 outer_at w root (At x) e outer is = by (and_then thread_of (w.body x)) is
   where
     outside : (r : Option Path) → strip root x ≡ r → is_some r ≡ false
@@ -114,9 +114,9 @@ module _ {root : Path} {see : Ptr → Ptr} {small big : World} (like : IsLikenes
   near_row page = takes_words (user_at (k ∷ q)) (k ∷ q) (see talk.port) n address count page
 
   -- the row of the cut, where so many words are taken as the big world moves
-  took : (page : List ℕ) (m : ℕ) (ds : List Change) (told : Said) → n ≡ m → 0 < m → m ≤ moved_words address count 0 MOST_WORDS → LikeChanges root see big (Alter (k ∷ q) (CountMoved m) ∷ []) ds → IsLikeUnlessWaiting root see big (counted n (near_row page)) (has_sent (user_at me) m count ds told)
+  took : (page : List ℕ) (m : ℕ) (ds : List Change) (told : Said) → n ≡ m → 0 < m → m ≤ moved_words address count 0 BLOCK_WORDS → LikeChanges root see big (Alter (k ∷ q) (CountMoved m) ∷ []) ds → IsLikeUnlessWaiting root see big (counted n (near_row page)) (has_sent (user_at me) m count ds told)
   took page m ds told e some few h =
-      rw (e, lt-ltb 0 m some, le-leb m (moved_words address count 0 MOST_WORDS) few, counted_sent m m count (k ∷ q) (Alter (k ∷ q) (CountMoved m) ∷ []) (see talk.port) (block m address page) outward) (unless_waiting like _ _ (sent-like like k q m count (Alter (k ∷ q) (CountMoved m) ∷ []) ds (Words (see talk.port) (block m address page)) told h))
+      rw (e, lt-ltb 0 m some, le-leb m (moved_words address count 0 BLOCK_WORDS) few, counted_sent m m count (k ∷ q) (Alter (k ∷ q) (CountMoved m) ∷ []) (see talk.port) (block m address page) outward) (unless_waiting like _ _ (sent-like like k q m count (Alter (k ∷ q) (CountMoved m) ∷ []) ds (Words (see talk.port) (block m address page)) told h))
 
   -- what is listed where words are sent
   sent_list : (P : List Change → Type 0) (m : ℕ) (ds : List Change) (told : Said) → ((tail : List Change) → P (ds ++ tail)) → P (listed (has_sent (user_at me) m count ds told))
@@ -130,11 +130,11 @@ module _ {root : Path} {see : Ptr → Ptr} {small big : World} (like : IsLikenes
 
   module _ (y : Path) (out : is_within root y ≡ false) where
     -- the words go to a page of a space
-    puts : (page : List ℕ) (m into : ℕ) (s : Path) (other : ℕ) (words : List ℕ) → 0 < m → m ≤ moved_words address count 0 MOST_WORDS →
+    puts : (page : List ℕ) (m into : ℕ) (s : Path) (other : ℕ) (words : List ℕ) → 0 < m → m ≤ moved_words address count 0 BLOCK_WORDS →
         Taking (near_row page) (sends_words (user_at me) me y m address count page into s other words)
     puts page m into s other words some few takes =
         let ds : List Change = PutPage s other (overwritten words (into % PAGE_WORDS) (block m address page)) ∷ Alter me (CountMoved m) ∷ Alter y (Shift m) ∷ [] in
-        let counted : unwrap_or (count_in (listed (has_sent (user_at me) m count ds Nothing))) 0 ≡ m = sent_list (λ cs. unwrap_or (count_in cs) 0 ≡ m) m ds Nothing (λ tail. refl) in
+        let counted : unwrap_or (count_set (listed (has_sent (user_at me) m count ds Nothing))) 0 ≡ m = sent_list (λ cs. unwrap_or (count_set cs) 0 ≡ m) m ds Nothing (λ tail. refl) in
         let apart = sent_list (λ cs. writes_inside root cs ≡ false → is_within root s ≡ false) m ds Nothing (λ tail h. (or_off (is_within root s) _ h).0) takes.puts_none in
         took page m ds Nothing (takes.counts ∙ counted) some few (Beyond apart (Both (Alters k q _ (CountMoved m) refl tt) (Beyond out Empty)))
 
@@ -172,14 +172,14 @@ module _ {root : Path} {see : Ptr → Ptr} {small big : World} (like : IsLikenes
   to_service : (page : List ℕ) (b : Bool) → eqb count 0 ≡ false → Taking (near_row page) (when b (sends_to_service (user_at me) me talk.port address count page))
   to_service page false many = λ takes. tt
   to_service page true many = λ takes.
-      let m : ℕ = moved_words address count 0 MOST_WORDS in
+      let m : ℕ = moved_words address count 0 BLOCK_WORDS in
       let ds : List Change = Alter me (CountMoved m) ∷ [] in
       let told : Said = Words talk.port (block m address page) in
-      let counted : unwrap_or (count_in (listed (has_sent (user_at me) m count ds told))) 0 ≡ m = sent_list (λ cs. unwrap_or (count_in cs) 0 ≡ m) m ds told (λ tail. refl) in
-      took page m ds told (takes.counts ∙ counted) (some_words address count 0 MOST_WORDS many refl) (no_more address count 0 MOST_WORDS) (Both (Alters k q _ (CountMoved m) refl tt) Empty)
+      let counted : unwrap_or (count_set (listed (has_sent (user_at me) m count ds told))) 0 ≡ m = sent_list (λ cs. unwrap_or (count_set cs) 0 ≡ m) m ds told (λ tail. refl) in
+      took page m ds told (takes.counts ∙ counted) (some_words address count 0 BLOCK_WORDS many refl) (no_more address count 0 BLOCK_WORDS) (Both (Alters k q _ (CountMoved m) refl tt) Empty)
 
   to : (page : List ℕ) (peer : Peer) → IsOuter root peer → eqb count 0 ≡ false → Taking (near_row page) (sends_to big (user_at me) turns.Client far_line address count page peer)
-  to page (Server thread) outer many = to_thread page (thread_at big thread) (λ e is. outer_at big root thread e outer is) many
+  to page (Server thread) outer many = to_thread page (thread_led_to big thread) (λ e is. outer_at big root thread e outer is) many
   to page Service outer many = to_service page (is_service_free big talk.port) many
   to page Parked outer many = λ takes. tt
 
@@ -232,7 +232,7 @@ module _ {root : Path} {see : Ptr → Ptr} {small big : World} (like : IsLikenes
       by false = tt
 
   passes_out : (peer : Peer) → IsOuter root peer → Passing (passes_outside (user_at (k ∷ q)) near_line) (passes_to big (user_at me) turns.Client far_line peer)
-  passes_out (Server thread) outer = passes_thread (thread_at big thread) (λ e is. outer_at big root thread e outer is)
+  passes_out (Server thread) outer = passes_thread (thread_led_to big thread) (λ e is. outer_at big root thread e outer is)
   passes_out Service outer = by (is_service_free big talk.port)
     where
       by : (b : Bool) → Passing (passes_outside (user_at (k ∷ q)) near_line) (when b (Goes (Alter me (PassTurn turns.Server) ∷ Alter me (Finish []) ∷ []) (Passed talk.port)))

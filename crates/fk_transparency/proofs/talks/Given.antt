@@ -4,7 +4,7 @@ use Rattle.std.proofs.Common.{◌≡◌, ℕ, zero, suc, ◌+◌, ◌/◌, ◌%�
 use Rattle.std.proofs.lemmas.Bool.{le-leb, lt-ltb, ne_eqb, and_parts}
 use Rattle.std.proofs.lemmas.List.{length-drop, length-take-le}
 use Rattle.std.proofs.Math.Seq.{drop-append_seam, take-append_seam}
-use Rattle.fk_model.specs.declared.limits.TheConstants.{PAGE_WORDS, SPACE_WORDS, MAPPINGS, MOST_WORDS}
+use Rattle.fk_model.specs.declared.limits.TheConstants.{PAGE_WORDS, SPACE_WORDS, MAPPINGS, BLOCK_WORDS}
 use Rattle.fk_model.specs.declared.names.Kind.TheVariants as kinds
 use Rattle.fk_model.specs.declared.moves.Ask.TheVariants as asks
 use Rattle.fk_model.specs.declared.statuses.status.TheConstants.{BADADDRESS, FULL, WRONGTURN}
@@ -18,8 +18,8 @@ use Rattle.fk_model.specs.Objects.Body.{Space}
 use Rattle.fk_model.specs.World.{World, Change, apply_all, serves}
 use Rattle.fk_model.specs.World.Change.{Alter, PutPage}
 use Rattle.fk_model.specs.World.Edit.{Shift, Finish, End, CountMoved, SetFault}
-use Rattle.fk_model.specs.Searches.{talk_at, client_of, client_at, objects}
-use Rattle.fk_model.specs.Reach.{Reach, at_home, mapped, followed, mapping_at, keeper, led_by, reach_by, reach, reach_word, words_at}
+use Rattle.fk_model.specs.Searches.{talk_at, client_of, client_at, objects, thread_at}
+use Rattle.fk_model.specs.Reach.{Reach, at_home, mapped, followed, mapping_at, keeper, led_by, reach_within, reach, reach_word, words_at}
 use Rattle.fk_model.specs.Reach.Reach.{Home, Missing, Bad}
 use Rattle.fk_model.specs.Holds.{is_free}
 use Rattle.fk_model.specs.Outcomes.{Said, Outcome, ◌>>=◌, when, done, listed}
@@ -27,19 +27,19 @@ use Rattle.fk_model.specs.Outcomes.Outcome.{Refused, Waits, Goes}
 use Rattle.fk_model.specs.Outcomes.Said.{Nothing, Full, Given as SaidGiven}
 use Rattle.fk_model.specs.NativeRows.{is_serving_port, has_turn, if_receiving, gives_words, gives_to, give_row}
 use Rattle.fk_model.specs.Readers.{own_page_at, own_page, their_page_at, their_page}
-use Rattle.fk_model.specs.Talks.{Line, line, same_side, receiving, thread_at}
+use Rattle.fk_model.specs.Talks.{Line, line, same_side, receiving, thread_led_to}
 use Rattle.fk_model.specs.TransferRows.{overwritten, block, to_page_end, moved_words, sends_words, sends_into, sends_to_thread, sends, send}
 use Rattle.fk_model.specs.LinkRows.{user_at}
 use Rattle.fk_model.specs.Moves.{with_pick, closed, call_row, outcome, IsReady, stepped, step}
 use Rattle.fk_model.specs.Valid.{is_fit, kind_there, leads_there, is_good_peer, lies_with}
 use Rattle.fk_model.specs.Whole.{HasFullPages, IsWhole}
 use Rattle.fk_model.specs.Cut.{is_out, ports_of, cut_ptr, cut, IsPlain}
-use Rattle.fk_model.specs.Further.{Touch, Onward, Told, if_awaiting, given_to, filled_at, thread_in, touch_row, IsOnward}
+use Rattle.fk_model.specs.Further.{Touch, Onward, Told, if_awaiting, given_to, filled_at, touch_row, IsOnward}
 use Rattle.fk_model.specs.Further.Touch.{Given, Filled}
 use Rattle.fk_model.specs.Further.Onward.{ByOthers}
 use Rattle.fk_transparency.specs.CutLaws.{HasDone, KeepsCut, IsAtStage, moves, IsServerSend, StageKeepsCut}
 use Rattle.fk_model.specs.Seen.Seen.{Onwards, Unseen, Other}
-use Rattle.fk_model.specs.Seen.{Seen, count_in, page_in, fills, given_by, given_of, received_words, on_inner, IsSeen}
+use Rattle.fk_model.specs.Seen.{Seen, count_set, page_put, fills, given_by, given_of, received_words, on_inner, IsSeen}
 use Rattle.fk_transparency.specs.Likeness.{seen_thread, PtrLikeness, ReachLikeness}
 use Rattle.fk_transparency.specs.Likeness.PtrLikeness.{Nulls, Deads, Inside, PortAt, PortOut}
 use Rattle.fk_transparency.specs.Likeness.ReachLikeness.{Homes, Misses, Bads}
@@ -78,8 +78,8 @@ there-followed : (w : World) (go : Path → ℕ → Reach) (o : Option (Path × 
 there-followed w go None h = tt
 there-followed w go (Some place) h = h place.0 place.1
 
-there-reach_by : (n : ℕ) (w : World) (s : Path) (page : ℕ) (write : Bool) → IsThere w (reach_by n w s page write)
-unfolding reach_by
+there-reach_by : (n : ℕ) (w : World) (s : Path) (page : ℕ) (write : Bool) → IsThere w (reach_within n w s page write)
+unfolding reach_within
 there-reach_by zero w s page write = there-home w s page _ (w.page s page) refl (there-mapped w _ _ (mapping_at w s page) (λ m. tt) tt)
 there-reach_by (suc n) w s page write =
     there-home w s page _ (w.page s page) refl
@@ -176,10 +176,10 @@ module _ (w : World) (nester : Path) (slot : ℕ) (plain : IsPlain w nester slot
   abbrev Touches : Outcome → Type 0
   Touches o = (touch : Touch) → given_of w (listed o) client (k ∷ z) ≡ Some touch → IsTouched touch (stepped w o).world
 
-  nothing_seen : (o : Outcome) → count_in (listed o) ≡ None → fills client (listed o) ≡ false → Touches o
-  nothing_seen o uncounted unfilled touch h = absurd (by (count_in (listed o)) (fills client (listed o)) uncounted unfilled h)
+  nothing_seen : (o : Outcome) → count_set (listed o) ≡ None → fills client (listed o) ≡ false → Touches o
+  nothing_seen o uncounted unfilled touch h = absurd (by (count_set (listed o)) (fills client (listed o)) uncounted unfilled h)
     where
-      by : (count : Option ℕ) (b : Bool) → count ≡ None → b ≡ false → given_by w client (k ∷ z) (listed o) count (page_in (listed o)) ≡ Some touch → ⊥
+      by : (count : Option ℕ) (b : Bool) → count ≡ None → b ≡ false → given_by w client (k ∷ z) (listed o) count (page_put (listed o)) ≡ Some touch → ⊥
       by count b e f = rw e (λ h. let off = rw unfilled at h in cc)
 
   not_client : same_path me client ≡ false
@@ -214,7 +214,7 @@ module _ (w : World) (nester : Path) (slot : ℕ) (plain : IsPlain w nester slot
   -- ---- the client awaits words
 
   module _ (turn : same_side talk.turn turns.Server ≡ true) (free : is_free w (z ++ root) t ≡ true) (receive : ℕ × ℕ) (awaits : receiving turns.Client t.mode ≡ Some receive) where
-    here : thread_in small (k ∷ z) ≡ Some (seen_thread see t)
+    here : thread_at small (k ∷ z) ≡ Some (seen_thread see t)
     here = rw ((cut-like w nester slot plain).bodies (k ∷ z)) (thread_seen see k z (w.body client) t is)
 
     free_here : is_free small z (seen_thread see t) ≡ true
@@ -235,7 +235,7 @@ module _ (w : World) (nester : Path) (slot : ℕ) (plain : IsPlain w nester slot
 
     -- ---- the words that it gets
 
-    module _ (m : ℕ) (words : List ℕ) (longs : length words ≡ m) (some : 0 < m) (room : m ≤ min MOST_WORDS (min receive.1 (to_page_end receive.0))) where
+    module _ (m : ℕ) (words : List ℕ) (longs : length words ≡ m) (some : 0 < m) (room : m ≤ min BLOCK_WORDS (min receive.1 (to_page_end receive.0))) where
       module _ (s : Path) (p : ℕ) (home : reach_word small z receive.0 true ≡ Home s p) (there : is_some (w.page (s ++ root) p) ≡ true) where
         abbrev put : List ℕ
         put = overwritten (words_at w (s ++ root) p) (receive.0 % PAGE_WORDS) words
@@ -248,7 +248,7 @@ module _ (w : World) (nester : Path) (slot : ℕ) (plain : IsPlain w nester slot
 
         given_row : touch_row small (Given (k ∷ z) words) ≡ Goes near Nothing
         unfolding touch_row
-        given_row = rw here (awaiting (given_to small (k ∷ z) words) ∙ rw (lt-ltb 0 (length words) (omega (arith, longs, some)), le-leb (length words) (min MOST_WORDS (min receive.1 (to_page_end receive.0))) (omega (arith, longs, room)), home, words_at-like (cut-like w nester slot plain) s p) refl)
+        given_row = rw here (awaiting (given_to small (k ∷ z) words) ∙ rw (lt-ltb 0 (length words) (omega (arith, longs, some)), le-leb (length words) (min BLOCK_WORDS (min receive.1 (to_page_end receive.0))) (omega (arith, longs, room)), home, words_at-like (cut-like w nester slot plain) s p) refl)
 
         read_back : received_words w client m put ≡ words
         read_back = rw (is, awaits) (take_back m (receive.0 % PAGE_WORDS) (words_at w (s ++ root) p) words (omega (arith, full_page w full (s ++ root) p there)) longs)
@@ -296,7 +296,7 @@ module _ (w : World) (nester : Path) (slot : ℕ) (plain : IsPlain w nester slot
           their turn free receive awaits address count page long (some_words address count receive.0 receive.1 many e) (reach_word small z receive.0 true) (reach_word w (z ++ root) receive.0 true) refl (there-word w (z ++ root) receive.0 true)
           (reach_word-like (cut-like w nester slot plain) z receive.0 true)
 
-  to_thread : same_side talk.turn turns.Server ≡ true → (address count : ℕ) (page : List ℕ) → length page ≡ PAGE_WORDS → eqb count 0 ≡ false → Touches (sends_to_thread w (user_at x) turns.Server client address count page (thread_at w (At client)))
+  to_thread : same_side talk.turn turns.Server ≡ true → (address count : ℕ) (page : List ℕ) → length page ≡ PAGE_WORDS → eqb count 0 ≡ false → Touches (sends_to_thread w (user_at x) turns.Server client address count page (thread_led_to w (At client)))
   to_thread turn address count page long many = rw is (by (is_free w (z ++ root) t) refl)
     where
       by : (b : Bool) → is_free w (z ++ root) t ≡ b → Touches (when b (sends_into w (user_at x) client client address count page (receiving turns.Client t.mode)))
@@ -309,7 +309,7 @@ module _ (w : World) (nester : Path) (slot : ℕ) (plain : IsPlain w nester slot
   sends_seen : same_side talk.turn turns.Server ≡ true → (address count : ℕ) → Touches (sends w (user_at x) turns.Server address count its_line)
   sends_seen turn address count = by (eqb count 0) refl
     where
-      by : (b : Bool) → eqb count 0 ≡ b → Touches (cond b (done (user_at x) [] []) (own_page w (user_at x) address false (λ s page. sends_to_thread w (user_at x) turns.Server client address count (words_at w s page) (thread_at w (At client)))))
+      by : (b : Bool) → eqb count 0 ≡ b → Touches (cond b (done (user_at x) [] []) (own_page w (user_at x) address false (λ s page. sends_to_thread w (user_at x) turns.Server client address count (words_at w s page) (thread_led_to w (At client)))))
       by true e = nothing_seen (Goes (Alter me (Finish []) ∷ []) Nothing) refl refl
       by false e = touches-own _ (reach_word w (parent x) address false) (there-word w (parent x) address false) (λ s page there. to_thread turn address count (words_at w s page) (full_page w full s page there) e)
 

@@ -15,19 +15,19 @@ use Rattle.fk_model.specs.Objects.Body.{Thread_of}
 use Rattle.fk_model.specs.World.{World, on_talk, finished_in, edited, apply, apply_all}
 use Rattle.fk_model.specs.World.Change.{Alter}
 use Rattle.fk_model.specs.World.Edit.{Finish, PassTurn}
-use Rattle.fk_model.specs.Searches.{client_of}
+use Rattle.fk_model.specs.Searches.{client_of, thread_at}
 use Rattle.fk_model.specs.Holds.{is_free}
 use Rattle.fk_model.specs.Outcomes.{Outcome, ◌>>=◌, when, listed}
 use Rattle.fk_model.specs.Outcomes.Outcome.{Refused, Waits, Goes}
 use Rattle.fk_model.specs.Outcomes.Said.{Nothing}
-use Rattle.fk_model.specs.Talks.{Line, line, same_side, receiving, thread_at}
+use Rattle.fk_model.specs.Talks.{Line, line, same_side, receiving, thread_led_to}
 use Rattle.fk_model.specs.TransferRows.{passes_to_thread, passes_to, over}
 use Rattle.fk_model.specs.LinkRows.{user_at}
 use Rattle.fk_model.specs.Moves.{with_pick, closed, call_row, outcome, IsReady, stepped, step}
 use Rattle.fk_model.specs.Valid.{is_fit}
 use Rattle.fk_model.specs.Whole.{IsWhole}
 use Rattle.fk_model.specs.Cut.{is_out, ports_of, cut_ptr, cut, IsPlain}
-use Rattle.fk_model.specs.Further.{Touch, Onward, Told, thread_in, touch_row, IsOnward}
+use Rattle.fk_model.specs.Further.{Touch, Onward, Told, touch_row, IsOnward}
 use Rattle.fk_model.specs.Further.Touch.{Handed}
 use Rattle.fk_model.specs.Further.Onward.{ByOthers}
 use Rattle.fk_model.specs.Seen.{Seen, passes_turn, on_inner, IsSeen}
@@ -114,7 +114,7 @@ module _ (w : World) (nester : Path) (slot : ℕ) (plain : IsPlain w nester slot
   hands-picked pick (Goes cs said) h = hands-when (is_none pick) (Goes cs said) (λ on. h)
 
   module _ (turn : same_side talk.turn turns.Server ≡ true) (free : is_free w (z ++ root) t ≡ true) (receive : ℕ × ℕ) (awaits : receiving turns.Client t.mode ≡ Some receive) where
-    here : thread_in small (k ∷ z) ≡ Some (seen_thread see t)
+    here : thread_at small (k ∷ z) ≡ Some (seen_thread see t)
     here = rw ((cut-like w nester slot plain).bodies (k ∷ z)) (thread_seen see k z (w.body client) t is)
 
     free_here : is_free small z (seen_thread see t) ≡ true
@@ -131,7 +131,7 @@ module _ (w : World) (nester : Path) (slot : ℕ) (plain : IsPlain w nester slot
         (has_touched w nester slot plain (Handed (k ∷ z)) (Alter (k ∷ z) (PassTurn turns.Client) ∷ Alter (k ∷ z) (Finish []) ∷ []) (Alter client (PassTurn turns.Client) ∷ Alter client (Finish []) ∷ Alter me (Finish []) ∷ []) Nothing handed_row
         (Both (Alters k z _ (PassTurn turns.Client) refl tt) (Both (Alters k z _ (Finish []) refl tt) (Beyond out Empty))) (tt, (tt, (tt, tt))))
 
-  to_thread : same_side talk.turn turns.Server ≡ true → Hands (passes_to_thread w (user_at x) turns.Server client (thread_at w (At client)))
+  to_thread : same_side talk.turn turns.Server ≡ true → Hands (passes_to_thread w (user_at x) turns.Server client (thread_led_to w (At client)))
   to_thread turn = rw is (hands-when (is_free w (z ++ root) t && is_some (receiving turns.Client t.mode)) _ (λ on passed. by (receiving turns.Client t.mode) refl (and_parts (is_free w (z ++ root) t) (is_some (receiving turns.Client t.mode)) on)))
     where
       by : (o : Option (ℕ × ℕ)) → receiving turns.Client t.mode ≡ o → (is_free w (z ++ root) t ≡ true) × (is_some (receiving turns.Client t.mode) ≡ true) → HasHanded (apply_all (Alter client (Finish []) ∷ Alter client (PassTurn turns.Client) ∷ Alter me (Finish []) ∷ []) w)

@@ -9,7 +9,7 @@ use Rattle.fk_model.specs.Objects.{Talk, Thread, thread_of, and_then}
 use Rattle.fk_model.specs.World.{World, apply_all}
 use Rattle.fk_model.specs.World.Change.{Alter}
 use Rattle.fk_model.specs.World.Edit.{Finish, End, SetTalk}
-use Rattle.fk_model.specs.Searches.{client_of}
+use Rattle.fk_model.specs.Searches.{client_of, thread_at}
 use Rattle.fk_model.specs.Holds.{is_free}
 use Rattle.fk_model.specs.Outcomes.{Outcome, when}
 use Rattle.fk_model.specs.Outcomes.Outcome.{Goes}
@@ -20,7 +20,7 @@ use Rattle.fk_model.specs.Moves.{closed, call_row, outcome, GoesAllowed, IsReady
 use Rattle.fk_model.specs.Valid.{is_fit}
 use Rattle.fk_model.specs.Whole.{IsWhole}
 use Rattle.fk_model.specs.Cut.{is_out, ports_of, cut_ptr, cut, IsPlain}
-use Rattle.fk_model.specs.Further.{Touch, Onward, Told, thread_in, touch_row, IsOnward}
+use Rattle.fk_model.specs.Further.{Touch, Onward, Told, touch_row, IsOnward}
 use Rattle.fk_model.specs.Further.Touch.{Left}
 use Rattle.fk_model.specs.Further.Onward.{ByOthers}
 use Rattle.fk_model.specs.Seen.{Seen, on_inner, IsSeen}
@@ -68,7 +68,7 @@ module _ (w : World) (nester : Path) (slot : ℕ) (plain : IsPlain w nester slot
   left_row : (b : Bool) → is_talking turns.Client t.mode ≡ b → touch_row small (Left (k ∷ z)) ≡ Goes (cond b (Alter (k ∷ z) (End ENDED []) ∷ []) [] ++ Alter (k ∷ z) (SetTalk None) ∷ []) Nothing
   unfolding touch_row
   left_row b talking =
-      let here : thread_in small (k ∷ z) ≡ Some (seen_thread see t) = rw ((cut-like w nester slot plain).bodies (k ∷ z)) (thread_seen see k z (w.body client) t is) in
+      let here : thread_at small (k ∷ z) ≡ Some (seen_thread see t) = rw ((cut-like w nester slot plain).bodies (k ∷ z)) (thread_seen see k z (w.body client) t is) in
       rw (here, its, talking) (rw outward refl)
 
   left : (b : Bool) → is_talking turns.Client t.mode ≡ b → HasLeft (apply_all ((end_all (cond b (client ∷ []) []) ++ Alter client (SetTalk None) ∷ []) ++ Alter me (Finish []) ∷ []) w)

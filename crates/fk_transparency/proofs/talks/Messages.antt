@@ -18,7 +18,7 @@ use Rattle.fk_model.specs.Moves.{stage_row, is_for_porters, chooses, closed, cal
 use Rattle.fk_model.specs.Valid.{is_fit}
 use Rattle.fk_model.specs.Cut.{ports_of, cut_ptr, cut, IsPlain, is_out}
 use Rattle.fk_model.specs.Further.{talks_outside, outside_row, goes_out, counted}
-use Rattle.fk_model.specs.Seen.{Seen, IsSeen, count_in, writes_inside, only_fills, leads_out, sends_out, words_out, is_send}
+use Rattle.fk_model.specs.Seen.{Seen, IsSeen, count_set, writes_inside, only_fills, leads_out, sends_out, words_out, is_send}
 use Rattle.fk_transparency.specs.CutLaws.{HasDone, KeepsCut, IsAtStage, moves, IsClientSend, IsClientOver, StageKeepsCut, StageInsideKeepsCut}
 use Rattle.fk_transparency.specs.Likeness.{seen_talk, seen_thread, IsLikeness, IsOuter, AlikeOptions}
 use Rattle.fk_transparency.specs.LikeChanges.{IsLikeOutcome, IsLikeUnlessWaiting}
@@ -160,7 +160,7 @@ module _ (w : World) (root : Path) (me : Path) (address count : ℕ) (at : IsAtS
       talk_is : at.0.talk ≡ Some talk
       talk_is = sym (ap (and_then (λ (t : Thread). t.talk)) at.3) ∙ here
 
-  taking : (b : Bool) (cs : List Change) → b ≡ true → (b && only_fills root cs) ≡ false → (writes_inside root cs && b) ≡ false → (only_fills root cs ≡ false) × (writes_inside root cs ≡ false) × (cond b (unwrap_or (count_in cs) 0) 0 ≡ unwrap_or (count_in cs) 0)
+  taking : (b : Bool) (cs : List Change) → b ≡ true → (b && only_fills root cs) ≡ false → (writes_inside root cs && b) ≡ false → (only_fills root cs ≡ false) × (writes_inside root cs ≡ false) × (cond b (unwrap_or (count_set cs) 0) 0 ≡ unwrap_or (count_set cs) 0)
   taking true cs e fills through = (fills, right_off (writes_inside root cs) through, refl)
     where
       right_off : (a : Bool) → (a && true) ≡ false → a ≡ false

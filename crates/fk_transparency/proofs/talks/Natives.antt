@@ -11,7 +11,7 @@ use Rattle.fk_model.specs.Objects.Body.{Port}
 use Rattle.fk_model.specs.World.{World}
 use Rattle.fk_model.specs.World.Change.{Alter}
 use Rattle.fk_model.specs.World.Edit.{Finish, PassTurn}
-use Rattle.fk_model.specs.Searches.{is_service, talk_at, client_at, objects}
+use Rattle.fk_model.specs.Searches.{is_service, talk_at, client_at, objects, thread_at}
 use Rattle.fk_model.specs.Reach.{reach_word}
 use Rattle.fk_model.specs.Holds.{is_free}
 use Rattle.fk_model.specs.Outcomes.{Outcome, when, listed}
@@ -23,7 +23,7 @@ use Rattle.fk_model.specs.Moves.{with_pick, outcome, GoesAllowed, stepped, step}
 use Rattle.fk_model.specs.Valid.{IsValid, kind_there}
 use Rattle.fk_model.specs.Runs.{Event}
 use Rattle.fk_model.specs.Cut.{is_out, ports_of, cut_ptr, cut, IsPlain}
-use Rattle.fk_model.specs.Further.{Touch, Onward, Told, thread_in, touch_row, IsOnward}
+use Rattle.fk_model.specs.Further.{Touch, Onward, Told, touch_row, IsOnward}
 use Rattle.fk_model.specs.Further.Touch.{Handed}
 use Rattle.fk_model.specs.Further.Onward.{ByOthers}
 use Rattle.fk_model.specs.Seen.{given_of, on_inner, outer_touch, row_of}
@@ -166,7 +166,7 @@ module _ (w : World) (nester : Path) (slot : ℕ) (plain : IsPlain w nester slot
     unfolding touch_row
     handed turn free receive awaits ready =
         let like = cut-like w nester slot plain in
-        let here : thread_in small (k ∷ z) ≡ Some (seen_thread see t) = rw (like.bodies (k ∷ z)) (thread_seen see k z (w.body client) t is) in
+        let here : thread_at small (k ∷ z) ≡ Some (seen_thread see t) = rw (like.bodies (k ∷ z)) (thread_seen see k z (w.body client) t is) in
         let free_here : is_free small z (seen_thread see t) ≡ true = is_free-like like (unheld-free like z t free) z t ∙ free in
         let row : touch_row small (Handed (k ∷ z)) ≡ Goes (Alter (k ∷ z) (PassTurn turns.Client) ∷ Alter (k ∷ z) (Finish []) ∷ []) Nothing = rw (here, free_here, its, awaits) (rw (outside, turn) refl) in
         has_touched w nester slot plain (Handed (k ∷ z)) (Alter (k ∷ z) (PassTurn turns.Client) ∷ Alter (k ∷ z) (Finish []) ∷ []) (Alter client (PassTurn turns.Client) ∷ Alter client (Finish []) ∷ []) Nothing row

@@ -1,6 +1,6 @@
 -- The law of the cut for a Send and an Over of a thread inside, to a peer inside or outside.
 use Rattle.std.proofs.Common.{◌≡◌, ℕ, ◌%◌, eqb, Bool, true, false, cond, ◌&&◌, ◌||◌, List, [], ◌∷◌, ◌++◌, Option, Some, None, is_some, is_none, option_map, Result, Ok, Err, refl, sym, ap, subst, ◌∙◌}
-use Rattle.fk_model.specs.declared.limits.TheConstants.{PAGE_WORDS, MOST_WORDS}
+use Rattle.fk_model.specs.declared.limits.TheConstants.{PAGE_WORDS, BLOCK_WORDS}
 use Rattle.fk_model.specs.declared.moves.Ask.TheVariants as asks
 use Rattle.fk_model.specs.declared.stage.Stage.{Stage}
 use Rattle.fk_model.specs.declared.stage.Stage.TheVariants.{ServerSend, ServerOver}
@@ -20,13 +20,13 @@ use Rattle.fk_model.specs.Outcomes.{Said, Outcome, ◌>>=◌, when, listed}
 use Rattle.fk_model.specs.Outcomes.Outcome.{Refused, Waits, Goes}
 use Rattle.fk_model.specs.Outcomes.Said.{Nothing, Words}
 use Rattle.fk_model.specs.Readers.{own_page_at, their_page_at}
-use Rattle.fk_model.specs.Talks.{Line, receiving, other_side, thread_at, is_service_free}
+use Rattle.fk_model.specs.Talks.{Line, receiving, other_side, thread_led_to, is_service_free}
 use Rattle.fk_model.specs.TransferRows.{overwritten, block, has_sent, moved_words, sends_into, sends_to_thread, sends_to, sends, send, passes, passes_to_thread, passes_to, over}
 use Rattle.fk_model.specs.LinkRows.{user_at}
 use Rattle.fk_model.specs.Moves.{stage_row, is_for_porters, chooses, with_pick, closed, call_row, goes_on, outcome, GoesAllowed, stepped, step}
 use Rattle.fk_model.specs.declared.statuses.status.TheConstants.{DENIED}
 use Rattle.fk_model.specs.Cut.{ports_of, cut_ptr, cut, IsPlain}
-use Rattle.fk_model.specs.Further.{Onward, Told, talks_outside, outside_row, own_stage, own_move, own_row, counted, thread_in, onward_row, IsOnward}
+use Rattle.fk_model.specs.Further.{Onward, Told, talks_outside, outside_row, own_stage, own_move, own_row, counted, onward_row, IsOnward}
 use Rattle.fk_model.specs.Further.Onward.{Own}
 use Rattle.fk_model.specs.Seen.{sends_out, only_fills, writes_inside, words_out, picked_inside, own_of, stage_touch, outer_touch, row_of}
 use Rattle.fk_model.specs.Seen.Seen.{Onwards, Unseen, Other}
@@ -42,6 +42,7 @@ use Rattle.fk_transparency.proofs.likeness.Sends.{send-same, over-same, server_n
 use Rattle.fk_transparency.proofs.cut.Plain.{AreQuiet, changes-clear, clear-plain, same-plain}
 use Rattle.fk_transparency.proofs.cut.Inside.{quiet-then, call_row-like, call_closed, thread_seen, has_gone, HasGone, thread_beneath, silent_counts}
 use Rattle.fk_transparency.proofs.cut.Outside.{untouched, stage_outcome, stage_called}
+use Rattle.fk_model.specs.Searches.{thread_at}
 
 -- ---- rows whose changes are quiet, whatever they tell
 
@@ -113,8 +114,8 @@ still-to_thread root w x side client address count page None = still-waits
 still-to_thread root w x side client address count page (Some e) = still-when root (is_free w (parent e.0) e.1) _ (still-into root w x client e.0 address count page (receiving (other_side side) e.1.mode))
 
 still-to : (root : Path) (w : World) (x : Path) (side : Turn) (address count : ℕ) (l : Line) (page : List ℕ) (peer : Peer) → Still root (sends_to w (user_at x) side l address count page peer)
-still-to root w x side address count l page (Server thread) = still-to_thread root w x side l.client address count page (thread_at w thread)
-still-to root w x side address count l page Service = still-when root (is_service_free w l.talk.port) _ (still-sent root x (moved_words address count 0 MOST_WORDS) count (Alter l.client (CountMoved (moved_words address count 0 MOST_WORDS)) ∷ []) (Words l.talk.port (block (moved_words address count 0 MOST_WORDS) address page)) (tt, tt))
+still-to root w x side address count l page (Server thread) = still-to_thread root w x side l.client address count page (thread_led_to w thread)
+still-to root w x side address count l page Service = still-when root (is_service_free w l.talk.port) _ (still-sent root x (moved_words address count 0 BLOCK_WORDS) count (Alter l.client (CountMoved (moved_words address count 0 BLOCK_WORDS)) ∷ []) (Words l.talk.port (block (moved_words address count 0 BLOCK_WORDS) address page)) (tt, tt))
 still-to root w x side address count l page Parked = still-waits
 
 still-sends : (root : Path) (w : World) (x : Path) (side : Turn) (address count : ℕ) (l : Line) → Still root (sends w (user_at x) side address count l)
@@ -131,7 +132,7 @@ still-passes : (root : Path) (x : Path) (side : Turn) (client : Path) (cs : List
 still-passes root x side client cs quiet = still-goes (quiet-then root (cs ++ Alter client (PassTurn (other_side side)) ∷ []) (Alter (slot_of x ∷ parent x) (Finish []) ∷ []) (quiet-then root cs (Alter client (PassTurn (other_side side)) ∷ []) quiet (tt, tt)) (tt, tt))
 
 still-passes_to : (root : Path) (w : World) (x : Path) (side : Turn) (l : Line) (peer : Peer) → Still root (passes_to w (user_at x) side l peer)
-still-passes_to root w x side l (Server thread) = by (thread_at w thread)
+still-passes_to root w x side l (Server thread) = by (thread_led_to w thread)
   where
     by : (o : Option (Path × Thread)) → Still root (passes_to_thread w (user_at x) side l.client o)
     by None = still-waits
@@ -216,7 +217,7 @@ module _ (w : World) (nester : Path) (slot : ℕ) (plain : IsPlain w nester slot
 
   gone : (p : Option Path) (n : ℕ) → Still root far → is_free w (q ++ root) t ≡ true → IsLikeUnlessWaiting root see w (counted n (own p n)) far → GoesAllowed w me far → Gone (Own (k ∷ q) p n) (stepped w far).world
   unfolding onward_row
-  gone p n still free alike ready = by (thread_in small (k ∷ q)) (rw ((cut-like w nester slot plain).bodies (k ∷ q)) (thread_seen see k q (w.body me) t at.3))
+  gone p n still free alike ready = by (thread_at small (k ∷ q)) (rw ((cut-like w nester slot plain).bodies (k ∷ q)) (thread_seen see k q (w.body me) t at.3))
     where
       by : (o : Option Thread) → o ≡ Some (seen_thread see t) → HasGone w nester slot plain k q (Own (k ∷ q) p n) (counted n (own_row small (k ∷ q) p n o)) far
       by o e = rw e (has_gone w nester slot plain k q p n (counted n (own p n)) far (unheld-free (cut-like w nester slot plain) q t free) alike still.quiet ready)

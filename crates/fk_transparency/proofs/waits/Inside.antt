@@ -9,14 +9,13 @@ use Rattle.fk_model.specs.Objects.Mode.{Running, Calling, Halted, Native}
 use Rattle.fk_model.specs.World.{World, Edit, ended_in, edited, apply, apply_all}
 use Rattle.fk_model.specs.World.Change.{Alter}
 use Rattle.fk_model.specs.World.Edit.{End}
-use Rattle.fk_model.specs.Searches.{depth}
+use Rattle.fk_model.specs.Searches.{depth, thread_at}
 use Rattle.fk_model.specs.Outcomes.{Outcome, listed}
-use Rattle.fk_model.specs.LinkRows.{user_at, Candidate, takes}
+use Rattle.fk_model.specs.LinkRows.{user_at, Candidate, takes_candidate}
 use Rattle.fk_model.specs.LinkRows.Candidate.{Faulting, Connecting, Resuming}
 use Rattle.fk_model.specs.Moves.{call_row, stepped}
 use Rattle.fk_model.specs.Cut.{ports_of, cut_ptr, cut, IsPlain}
 use Rattle.fk_model.specs.Whole.{IsWhole}
-use Rattle.fk_model.specs.Further.{thread_in}
 use Rattle.fk_model.specs.Seen.{serves_outside, picked_inside}
 use Rattle.fk_transparency.specs.CutLaws.{KeepsCut, IsAtStage, moves, IsWait, StageInsideKeepsCut}
 use Rattle.fk_transparency.specs.LikeChanges.LikeChange.{Alters}
@@ -45,7 +44,7 @@ ended-rests status answers t = by t.mode refl
     by (Halted g code) e = rw e refl
     by (Native g) e = rw e refl
 
-rests : (c : World) (x : Path) (status : ℕ) (answers : List ℕ) → holds (λ (t : Thread). calls t.mode) (thread_in (apply_all (Alter x (End status answers) ∷ []) c) x) ≡ false
+rests : (c : World) (x : Path) (status : ℕ) (answers : List ℕ) → holds (λ (t : Thread). calls t.mode) (thread_at (apply_all (Alter x (End status answers) ∷ []) c) x) ≡ false
 unfolding apply apply_all edited
 rests c x status answers = rw (same_path_refl x) (by (c.body x))
   where
@@ -66,7 +65,7 @@ module _ (w : World) (nester : Path) (slot : ℕ) (plain : IsPlain w nester slot
   abbrev see : Ptr → Ptr
   see = cut_ptr (ports_of w nester slot) nester slot
 
-  calls_there : holds (λ (t : Thread). calls t.mode) (thread_in (cut w nester slot) (k ∷ q)) ≡ true
+  calls_there : holds (λ (t : Thread). calls t.mode) (thread_at (cut w nester slot) (k ∷ q)) ≡ true
   calls_there = rw (seen_is w nester slot plain k q None at.0 at.3) (rw (at.4) refl)
 
   not_ended : (y : Path) (edit : Edit) (answers : List ℕ) → is_within root y ≡ false → cut (apply_all (Alter y edit ∷ Alter me (End OK answers) ∷ []) w) nester slot ≡ cut w nester slot → ⊥
@@ -74,11 +73,11 @@ module _ (w : World) (nester : Path) (slot : ℕ) (plain : IsPlain w nester slot
       let small : World = cut w nester slot in
       let gone = cut-changes w nester slot (Alter (k ∷ q) (End OK answers) ∷ []) (Alter y edit ∷ Alter me (End OK answers) ∷ []) plain (Beyond out (Both (Alters k q (End OK answers) (End OK answers) refl tt) Empty)) in
       let still : apply_all (Alter (k ∷ q) (End OK answers) ∷ []) small ≡ small = sym gone ∙ same in
-      let clash : false ≡ true = sym (rests small (k ∷ q) OK answers) ∙ ap (λ (c : World). holds (λ (t : Thread). calls t.mode) (thread_in c (k ∷ q))) still ∙ calls_there in
+      let clash : false ≡ true = sym (rests small (k ∷ q) OK answers) ∙ ap (λ (c : World). holds (λ (t : Thread). calls t.mode) (thread_at c (k ∷ q))) still ∙ calls_there in
       cc
 
   -- who is inside takes nobody outside unseen
-  takes_apart : (y : Path) (found : Candidate) → is_within root y ≡ false → cut (stepped w (takes (user_at me) y (Some found))).world nester slot ≡ cut w nester slot → serves_outside root (listed (takes (user_at me) y (Some found))) ≡ false → ⊥
+  takes_apart : (y : Path) (found : Candidate) → is_within root y ≡ false → cut (stepped w (takes_candidate (user_at me) y (Some found))).world nester slot ≡ cut w nester slot → serves_outside root (listed (takes_candidate (user_at me) y (Some found))) ≡ false → ⊥
   takes_apart y (Faulting at_port fault) out same none = not_ended y _ _ out same
   takes_apart y (Resuming at_port talk) out same none = not_ended y _ _ out same
   takes_apart y (Connecting at_port) out same none = let inside = strip-append root (k ∷ q) in let clash : true ≡ false = rw (out, inside) at none in cc

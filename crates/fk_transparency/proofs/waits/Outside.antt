@@ -6,7 +6,7 @@ use Rattle.fk_model.specs.declared.statuses.status.TheConstants.{OK}
 use Rattle.fk_model.specs.declared.stage.Stage.TheVariants.{Wait}
 use Rattle.fk_model.specs.Places.{Path, strip, is_within, parent, slot_of, Ptr}
 use Rattle.fk_model.specs.Places.Ptr.{At}
-use Rattle.fk_model.specs.Objects.{Fault, Thread, thread_of, and_then}
+use Rattle.fk_model.specs.Objects.{Fault, Thread, thread_of, and_then, flag_of}
 use Rattle.fk_model.specs.Objects.Peer.{Server}
 use Rattle.fk_model.specs.World.{World, Change}
 use Rattle.fk_model.specs.World.Change.{Alter}
@@ -15,7 +15,7 @@ use Rattle.fk_model.specs.Holds.{is_free, is_unheld}
 use Rattle.fk_model.specs.Outcomes.{Outcome, when, Caller, path_of}
 use Rattle.fk_model.specs.Outcomes.Outcome.{Goes}
 use Rattle.fk_model.specs.Outcomes.Said.{Nothing, Answered}
-use Rattle.fk_model.specs.LinkRows.{user_at, connecting_to, new_talk, Candidate, slot_in_set, candidate, flag, takes}
+use Rattle.fk_model.specs.LinkRows.{user_at, connecting_to, new_talk, Candidate, slot_in_set, candidate, takes_candidate}
 use Rattle.fk_model.specs.LinkRows.Candidate.{Faulting, Connecting, Resuming}
 use Rattle.fk_model.specs.Moves.{call_row, outcome, GoesAllowed, stepped, step}
 use Rattle.fk_model.specs.Valid.{kind_there, is_fit}
@@ -67,7 +67,7 @@ module _ (w : World) (nester : Path) (slot : ℕ) (plain : IsPlain w nester slot
       (found.at ∙ ap At path, stands_beside at_port (rw path at found.kind))
 
   connect_touched : (k : ℕ) (q : Path) (t : Thread) (at_port : ℕ) (port : Ptr) → and_then thread_of (w.body (k ∷ (q ++ root))) ≡ Some t → is_free w (q ++ root) t ≡ true → connecting_to w (k ∷ (q ++ root)) t ≡ Some port → slot_in_set w c.space set port ≡ Some at_port →
-      IsTouched (ByOthers (Taken (k ∷ q))) (stepped w (takes c (k ∷ (q ++ root)) (Some (Connecting at_port)))).world
+      IsTouched (ByOthers (Taken (k ∷ q))) (stepped w (takes_candidate c (k ∷ (q ++ root)) (Some (Connecting at_port)))).world
   connect_touched k q t at_port port at free to e = by c.is_porter
     where
       beside : (port ≡ At (at_port ∷ c.space)) × (is_within root (at_port ∷ c.space) ≡ false)
@@ -81,7 +81,7 @@ module _ (w : World) (nester : Path) (slot : ℕ) (plain : IsPlain w nester slot
       by false = taken_here w nester slot plain k q t at (at_port ∷ c.space) beside.1 (Server (At (path_of c))) (Alter (path_of c) (Finish (at_port ∷ 0 ∷ [])) ∷ []) (out, tt) (tt, tt) (λ inside. out) free (to ∙ ap Some beside.0)
 
   fault_touched : (k : ℕ) (q : Path) (t : Thread) (at_port : ℕ) (fault : Fault) → and_then thread_of (w.body (k ∷ (q ++ root))) ≡ Some t → is_unheld w (q ++ root) ≡ true → t.fault ≡ Some fault → is_none fault.taker ≡ true → slot_in_set w c.space set fault.port ≡ Some at_port →
-      IsTouched (ByOthers (FaultTaken (k ∷ q))) (stepped w (takes c (k ∷ (q ++ root)) (Some (Faulting at_port fault)))).world
+      IsTouched (ByOthers (FaultTaken (k ∷ q))) (stepped w (takes_candidate c (k ∷ (q ++ root)) (Some (Faulting at_port fault)))).world
   fault_touched k q t at_port fault at unheld is raised e = by c.is_porter (cond (is_some fault.taker) 3 1)
     where
       beside : (fault.port ≡ At (at_port ∷ c.space)) × (is_within root (at_port ∷ c.space) ≡ false)
@@ -90,15 +90,15 @@ module _ (w : World) (nester : Path) (slot : ℕ) (plain : IsPlain w nester slot
       taken : List Change
       taken = Alter (k ∷ (q ++ root)) (SetTaker (Some (Server (At (path_of c))))) ∷ []
 
-      by : (b : Bool) (kind : ℕ) → IsTouched (ByOthers (FaultTaken (k ∷ q))) (stepped w (cond b (Goes taken (Answered OK (at_port ∷ kind ∷ fault.page ∷ flag fault.write ∷ []))) (Goes (taken ++ Alter (path_of c) (End OK (at_port ∷ kind ∷ fault.page ∷ flag fault.write ∷ [])) ∷ []) Nothing))).world
+      by : (b : Bool) (kind : ℕ) → IsTouched (ByOthers (FaultTaken (k ∷ q))) (stepped w (cond b (Goes taken (Answered OK (at_port ∷ kind ∷ fault.page ∷ flag_of fault.write ∷ []))) (Goes (taken ++ Alter (path_of c) (End OK (at_port ∷ kind ∷ fault.page ∷ flag_of fault.write ∷ [])) ∷ []) Nothing))).world
       by true kind = fault_here w nester slot plain k q t at (at_port ∷ c.space) beside.1 (Server (At (path_of c))) [] tt tt (λ inside. out) fault is beside.0 raised unheld
-      by false kind = fault_here w nester slot plain k q t at (at_port ∷ c.space) beside.1 (Server (At (path_of c))) (Alter (path_of c) (End OK (at_port ∷ kind ∷ fault.page ∷ flag fault.write ∷ [])) ∷ []) (out, tt) (tt, tt) (λ inside. out) fault is beside.0 raised unheld
+      by false kind = fault_here w nester slot plain k q t at (at_port ∷ c.space) beside.1 (Server (At (path_of c))) (Alter (path_of c) (End OK (at_port ∷ kind ∷ fault.page ∷ flag_of fault.write ∷ [])) ∷ []) (out, tt) (tt, tt) (λ inside. out) fault is beside.0 raised unheld
 
   same_strip : (a b : Path) → Some a ≡ Some b → a ≡ b
   same_strip a b h = cc
 
   -- whom it takes is seen as a touch of the thread at z
-  takes_touched : (y z : Path) (found : Candidate) → strip root y ≡ Some z → IsFound w c.space set y (Some found) → (m : Onward) → option_map (λ (touch : Touch). ByOthers touch) (taken_as z (Some found)) ≡ Some m → IsTouched m (stepped w (takes c y (Some found))).world
+  takes_touched : (y z : Path) (found : Candidate) → strip root y ≡ Some z → IsFound w c.space set y (Some found) → (m : Onward) → option_map (λ (touch : Touch). ByOthers touch) (taken_as z (Some found)) ≡ Some m → IsTouched m (stepped w (takes_candidate c y (Some found))).world
   takes_touched y z (Resuming at_port talk) e is m h = cc
   takes_touched y z (Connecting at_port) e is m h =
       let form : m ≡ ByOthers (Taken z) = cc in
@@ -106,14 +106,14 @@ module _ (w : World) (nester : Path) (slot : ℕ) (plain : IsPlain w nester slot
       let here : z ≡ under.0 ∷ under.1 = same_strip z (under.0 ∷ under.1) (sym e ∙ ap (strip root) under.2 ∙ strip-append root (under.0 ∷ under.1)) in
       rw (form, here) (goes under.0 under.1 y under.2 is.2 is.3 is.4)
     where
-      goes : (k : ℕ) (q : Path) (y : Path) → y ≡ k ∷ (q ++ root) → and_then thread_of (w.body y) ≡ Some is.0 → is_free w (parent y) is.0 ≡ true → connecting_to w y is.0 ≡ Some is.1 → IsTouched (ByOthers (Taken (k ∷ q))) (stepped w (takes c y (Some (Connecting at_port)))).world
+      goes : (k : ℕ) (q : Path) (y : Path) → y ≡ k ∷ (q ++ root) → and_then thread_of (w.body y) ≡ Some is.0 → is_free w (parent y) is.0 ≡ true → connecting_to w y is.0 ≡ Some is.1 → IsTouched (ByOthers (Taken (k ∷ q))) (stepped w (takes_candidate c y (Some (Connecting at_port)))).world
       goes k q y e = rw e (λ at free to. connect_touched k q is.0 at_port is.1 at free to is.5)
   takes_touched y z (Faulting at_port fault) e is m h = by (is_none fault.taker) refl h
     where
-      goes : (k : ℕ) (q : Path) (y : Path) → is_none fault.taker ≡ true → y ≡ k ∷ (q ++ root) → and_then thread_of (w.body y) ≡ Some is.0 → is_unheld w (parent y) ≡ true → IsTouched (ByOthers (FaultTaken (k ∷ q))) (stepped w (takes c y (Some (Faulting at_port fault)))).world
+      goes : (k : ℕ) (q : Path) (y : Path) → is_none fault.taker ≡ true → y ≡ k ∷ (q ++ root) → and_then thread_of (w.body y) ≡ Some is.0 → is_unheld w (parent y) ≡ true → IsTouched (ByOthers (FaultTaken (k ∷ q))) (stepped w (takes_candidate c y (Some (Faulting at_port fault)))).world
       goes k q y raised e = rw e (λ at unheld. fault_touched k q is.0 at_port fault at unheld is.3 raised is.4)
 
-      by : (b : Bool) → is_none fault.taker ≡ b → option_map (λ (touch : Touch). ByOthers touch) (cond b (Some (FaultTaken z)) None) ≡ Some m → IsTouched m (stepped w (takes c y (Some (Faulting at_port fault)))).world
+      by : (b : Bool) → is_none fault.taker ≡ b → option_map (λ (touch : Touch). ByOthers touch) (cond b (Some (FaultTaken z)) None) ≡ Some m → IsTouched m (stepped w (takes_candidate c y (Some (Faulting at_port fault)))).world
       by false raised h = cc
       by true raised h =
           let form : m ≡ ByOthers (FaultTaken z) = cc in
@@ -128,7 +128,7 @@ module _ (w : World) (nester : Path) (slot : ℕ) (plain : IsPlain w nester slot
       is : IsFound w c.space set y (Some v.0)
       is = rw (v.1) at (candidate-found w c.space set y)
 
-      by : (r : Option Path) → strip root y ≡ r → option_map (λ (touch : Touch). ByOthers touch) (and_then (λ (q : Path). taken_as q (Some v.0)) r) ≡ Some m → IsTouched m (stepped w (takes c y (Some v.0))).world
+      by : (r : Option Path) → strip root y ≡ r → option_map (λ (touch : Touch). ByOthers touch) (and_then (λ (q : Path). taken_as q (Some v.0)) r) ≡ Some m → IsTouched m (stepped w (takes_candidate c y (Some v.0))).world
       by None e h = cc
       by (Some z) e h = takes_touched y z v.0 e is m h
 

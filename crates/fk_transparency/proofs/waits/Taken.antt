@@ -12,7 +12,7 @@ use Rattle.fk_model.specs.Outcomes.Outcome.{Goes}
 use Rattle.fk_model.specs.Outcomes.Said.{Nothing}
 use Rattle.fk_model.specs.LinkRows.{connecting_to, new_talk}
 use Rattle.fk_model.specs.Cut.{is_out, is_inner_peer, ports_of, cut_ptr, cut, IsPlain}
-use Rattle.fk_model.specs.Further.{Onward, Told, thread_in, touch_row, IsOnward}
+use Rattle.fk_model.specs.Further.{Onward, Told, touch_row, IsOnward}
 use Rattle.fk_model.specs.Further.Touch.{Taken, FaultTaken}
 use Rattle.fk_model.specs.Further.Onward.{ByOthers}
 use Rattle.fk_transparency.specs.Likeness.{seen_peer, seen_thread, PtrLikeness, HasLikeness, AlikeOptions, IsSeenAs, IsSeenThread, AllInTalk, AllInFault}
@@ -28,6 +28,7 @@ use Rattle.fk_transparency.proofs.likeness.Waits.{connecting_to-like}
 use Rattle.fk_transparency.proofs.cut.Plain.{AreQuiet}
 use Rattle.fk_transparency.proofs.cut.Inside.{thread_seen}
 use Rattle.fk_transparency.proofs.cut.Pages.{has_touched}
+use Rattle.fk_model.specs.Searches.{thread_at}
 
 -- changes outside, of which nothing is seen
 abbrev pub AreBeyond : Path → List Change → Type 0
@@ -62,7 +63,7 @@ module _ (w : World) (nester : Path) (slot : ℕ) (plain : IsPlain w nester slot
   abbrev pub IsTouched : Onward → World → Type 0
   IsTouched m later = IsPlain later nester slot × ((told : List Told) × IsOnward small m told (cut later nester slot))
 
-  seen_there : thread_in small (k ∷ q) ≡ Some (seen_thread see t)
+  seen_there : thread_at small (k ∷ q) ≡ Some (seen_thread see t)
   seen_there = rw ((cut-like w nester slot plain).bodies (k ∷ q)) (thread_seen see k q (w.body x) t at)
 
   -- ---- at its Connect

@@ -14,7 +14,7 @@ use Rattle.fk_model.specs.Holds.{is_free, is_unheld}
 use Rattle.fk_model.specs.Outcomes.{Said, Outcome, ◌>>=◌, refuse, when, Caller, path_of, ended}
 use Rattle.fk_model.specs.Outcomes.Outcome.{Refused, Waits, Goes}
 use Rattle.fk_model.specs.Readers.{object_in}
-use Rattle.fk_model.specs.LinkRows.{connecting_to, new_talk, Candidate, slot_in_set, is_open, is_parked, faulting, connecting, resuming, candidate_by, candidate, takes, portset_of, wait, user_at}
+use Rattle.fk_model.specs.LinkRows.{connecting_to, new_talk, Candidate, slot_in_set, is_open, is_parked, faulting, connecting, resuming, candidate_by, candidate, takes_candidate, portset_of, wait, user_at}
 use Rattle.fk_model.specs.LinkRows.Candidate.{Faulting, Connecting, Resuming}
 use Rattle.fk_model.specs.Moves.{is_denied, with_pick, closed, call_row}
 use Rattle.fk_transparency.proofs.cut.Plain.{AreQuiet}
@@ -24,7 +24,7 @@ use Rattle.fk_transparency.proofs.cut.Inside.{Quiet, quiet-waits, quiet-goes, qu
 
 module _ (w : World) (c : Caller) (set : ℕ) (y : Path) where
   abbrev pub View : Outcome → Type 0
-  View o = (o ≡ Waits) ⊎ ((found : Candidate) × (candidate w c.space set y ≡ Some found) × (o ≡ takes c y (Some found)))
+  View o = (o ≡ Waits) ⊎ ((found : Candidate) × (candidate w c.space set y ≡ Some found) × (o ≡ takes_candidate c y (Some found)))
 
   abbrev ends : Outcome → Outcome
   ends o = closed c (with_pick true (Some y) o)
@@ -38,12 +38,12 @@ module _ (w : World) (c : Caller) (set : ℕ) (y : Path) where
   goes_both true cs ds said told = refl
   goes_both false cs ds said told = refl
 
-  takes_goes : (found : Candidate) → ends (takes c y (Some found)) ≡ takes c y (Some found)
+  takes_goes : (found : Candidate) → ends (takes_candidate c y (Some found)) ≡ takes_candidate c y (Some found)
   takes_goes (Faulting slot fault) = goes_both c.is_porter _ _ _ _
   takes_goes (Connecting slot) = goes_both c.is_porter _ _ _ _
   takes_goes (Resuming slot talk) = goes_both c.is_porter _ _ _ _
 
-  view-takes : (o : Option Candidate) → candidate w c.space set y ≡ o → View (ends (takes c y o))
+  view-takes : (o : Option Candidate) → candidate w c.space set y ≡ o → View (ends (takes_candidate c y o))
   view-takes None e = inl refl
   view-takes (Some found) e = inr (found, e, takes_goes found)
 
@@ -147,7 +147,7 @@ quiet-ended root c cs answers quiet = by c.is_porter
     by false = quiet-goes (quiet-then root cs _ quiet (tt, tt))
 
 -- nobody inside comes to serve the outside, unless who waits stands inside and takes a thread outside
-pub quiet-takes : (root : Path) (c : Caller) (y : Path) (found : Candidate) → (is_within root y ≡ false → is_within root (path_of c) ≡ false) → Quiet root (takes c y (Some found))
+pub quiet-takes : (root : Path) (c : Caller) (y : Path) (found : Candidate) → (is_within root y ≡ false → is_within root (path_of c) ≡ false) → Quiet root (takes_candidate c y (Some found))
 quiet-takes root c y (Faulting slot fault) apart = quiet-ended root c (Alter y (SetTaker (Some (Server (At (path_of c))))) ∷ []) _ (apart, tt)
 quiet-takes root c y (Connecting slot) apart = quiet-done root c (Alter y (SetTalk (Some (new_talk (At (slot ∷ c.space)) (Server (At (path_of c)))))) ∷ Alter y (Finish []) ∷ []) _ (apart, (tt, tt))
 quiet-takes root c y (Resuming slot talk) apart = quiet-ended root c (Alter y (SetPeer (Server (At (path_of c)))) ∷ []) _ (apart, tt)

@@ -1,6 +1,6 @@
 -- Few slots are taken, and the walks look at these.
 use Rattle.std.proofs.Common.{ℕ, List, [], ◌∷◌, refl}
-use Rattle.fk_worked.specs.Cuts.{cuts, all_inside}
+use Rattle.fk_worked.specs.Cuts.{cut_worlds, all_inside}
 use Rattle.fk_worked.proofs.FewSlots.{HasFew, open_among, walk, open-few, world-few}
 use Rattle.fk_worked.proofs.cuts.a_cut_shows_what_is_inside_by_its_path.Goals as goal
 
@@ -12,5 +12,5 @@ unfolding all_inside
 all_inside-few = world-few few _ _ refl
 
 pub returns-clause-closed : goal.returns-clause-closed
-unfolding cuts open_among walk
+unfolding cut_worlds open_among walk
 returns-clause-closed c = open-few few refl _ all_inside-few [] 1 _ refl

@@ -3,7 +3,7 @@ use Rattle.std.proofs.Common.{ℕ, List, [], ◌∷◌, refl}
 use Rattle.fk_model.specs.Places.Ptr.{At}
 use Rattle.fk_model.specs.Objects.{Peer}
 use Rattle.fk_model.specs.Objects.Peer.{Server, Parked}
-use Rattle.fk_worked.specs.Cuts.{cuts, inner, led_into, talked_into}
+use Rattle.fk_worked.specs.Cuts.{cut_worlds, in_subtree, led_into, talked_into}
 use Rattle.fk_worked.proofs.FewSlots.{HasFew, open_among, walk, open-few, world-few}
 use Rattle.fk_worked.proofs.cuts.a_pointer_from_outside_opens_a_subtree.Goals as goal
 
@@ -19,13 +19,13 @@ unfolding talked_into
 talked_into-few peer = world-few few _ _ refl
 
 pub returns-clause-open : goal.returns-clause-open
-unfolding cuts open_among walk
+unfolding cut_worlds open_among walk
 returns-clause-open c = open-few few refl _ led_into-few [] 1 _ refl
 
 pub returns-clause-parked : goal.returns-clause-parked
-unfolding cuts open_among walk
+unfolding cut_worlds open_among walk
 returns-clause-parked c = open-few few refl _ (talked_into-few Parked) [] 1 _ refl
 
 pub returns-clause-served : goal.returns-clause-served
-unfolding cuts open_among walk
-returns-clause-served c = open-few few refl _ (talked_into-few (Server (At (inner 3)))) [] 1 _ refl
+unfolding cut_worlds open_among walk
+returns-clause-served c = open-few few refl _ (talked_into-few (Server (At (in_subtree 3)))) [] 1 _ refl

@@ -12,7 +12,7 @@ use Rattle.fk_model.specs.Searches.{pointers}
 use Rattle.fk_model.specs.Runs.{run}
 use Rattle.fk_model.specs.Seen.{leads_near, is_led_near}
 use Rattle.fk_worked.specs.Worked.{goes}
-use Rattle.fk_worked.specs.Cuts.{cuts, beside, clearer, led_into}
+use Rattle.fk_worked.specs.Cuts.{cut_worlds, beside, clearer, led_into}
 use Rattle.fk_worked.proofs.FewSlots.{HasFew, is_among, world-few}
 use Rattle.fk_worked.proofs.Tested.{and_left, and_right}
 use Rattle.fk_worked.proofs.cuts.a_stranger_has_nothing_that_leads_near.Goals as goal
@@ -21,19 +21,19 @@ never : true ≡ false → ⊥
 never h = cc
 
 pub returns-clause-pointer : goal.returns-clause-pointer
-unfolding cuts
+unfolding cut_worlds
 returns-clause-pointer c = λ s. never (s.apart 0)
 
 pub returns-clause-talk : goal.returns-clause-talk
-unfolding cuts
+unfolding cut_worlds
 returns-clause-talk c = λ s. never s.no_talk
 
 pub returns-clause-above : goal.returns-clause-above
-unfolding cuts
+unfolding cut_worlds
 returns-clause-above c = λ s. never s.aside
 
 pub returns-clause-inside : goal.returns-clause-inside
-unfolding cuts
+unfolding cut_worlds
 returns-clause-inside c = λ s. never s.outside
 
 -- ---- once the reference is cleared, no slot of the space leads near
@@ -66,7 +66,7 @@ alters-none x q e w none = by (same_path q x)
     by false = none
 
 is_cleared : run led_into (goes clearer ∷ []) ≡ apply_all cleared led_into
-unfolding cuts
+unfolding cut_worlds
 is_cleared = refl
 
 cleared-none : (q : Path) → led_into.body q ≡ None → (run led_into (goes clearer ∷ [])).body q ≡ None
@@ -74,7 +74,7 @@ unfolding apply_all
 cleared-none q none = rw is_cleared (alters-none clearer q (Finish []) (apply (Alter (beside 0) (SetPointer Null)) led_into) (alters-none (beside 0) q (SetPointer Null) led_into none))
 
 apart : (k : ℕ) → is_led_near (run led_into (goes clearer ∷ [])) (1 ∷ []) (k ∷ 2 ∷ []) ≡ false
-unfolding cuts
+unfolding cut_worlds
 apart k = by (is_among few k) refl
   where
     flip : (b : Bool) → not b ≡ true → b ≡ false
@@ -86,5 +86,5 @@ apart k = by (is_among few k) refl
     by false e = ap (holds (λ b. list_any (leads_near (1 ∷ [])) (pointers b))) (cleared-none (k ∷ 2 ∷ []) (led_into-few.none k (2 ∷ []) e))
 
 pub returns-clause-stranger : goal.returns-clause-stranger
-unfolding cuts
+unfolding cut_worlds
 returns-clause-stranger c = record { outside = refl; aside = refl; apart = apart; no_talk = refl; no_fault = refl }

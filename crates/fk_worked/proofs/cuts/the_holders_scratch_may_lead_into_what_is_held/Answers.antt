@@ -2,7 +2,7 @@
 use Rattle.std.proofs.Common.{◌≡◌, ℕ, true, List, [], ◌∷◌, Option, None, Some, refl}
 use Rattle.fk_model.specs.Places.{Path, Ptr}
 use Rattle.fk_model.specs.Places.Ptr.{At}
-use Rattle.fk_worked.specs.Cuts.{cuts, beside, with_scratch}
+use Rattle.fk_worked.specs.Cuts.{cut_worlds, beside, with_scratch}
 use Rattle.fk_worked.proofs.FewSlots.{HasFew, is_at_few, open_among, walk, open-few, world-few}
 use Rattle.fk_worked.proofs.cuts.the_holders_scratch_may_lead_into_what_is_held.Goals as goal
 
@@ -14,25 +14,25 @@ unfolding with_scratch
 scratch-few holder scratch here = world-few few _ _ (rw here refl)
 
 pub returns-clause-lowest : goal.returns-clause-lowest
-unfolding cuts open_among walk
+unfolding cut_worlds open_among walk
 returns-clause-lowest c = open-few few refl _ (scratch-few (Some (At (255 ∷ []))) (240 ∷ []) refl) [] 1 _ refl
 
 pub returns-clause-highest : goal.returns-clause-highest
-unfolding cuts open_among walk
+unfolding cut_worlds open_among walk
 returns-clause-highest c = open-few few refl _ (scratch-few (Some (At (255 ∷ []))) (254 ∷ []) refl) [] 1 _ refl
 
 pub returns-clause-below : goal.returns-clause-below
-unfolding cuts open_among walk
+unfolding cut_worlds open_among walk
 returns-clause-below c = open-few few refl _ (scratch-few (Some (At (255 ∷ []))) (239 ∷ []) refl) [] 1 _ refl
 
 pub returns-clause-unheld : goal.returns-clause-unheld
-unfolding cuts open_among walk
+unfolding cut_worlds open_among walk
 returns-clause-unheld c = open-few few refl _ (scratch-few None (240 ∷ []) refl) [] 1 _ refl
 
 pub returns-clause-others : goal.returns-clause-others
-unfolding cuts open_among walk
+unfolding cut_worlds open_among walk
 returns-clause-others c = open-few few refl _ (scratch-few (Some (At (255 ∷ []))) (beside 240) refl) [] 1 _ refl
 
 pub returns-clause-of_other : goal.returns-clause-of_other
-unfolding cuts open_among walk
+unfolding cut_worlds open_among walk
 returns-clause-of_other c = open-few few refl _ (scratch-few (Some (At (beside 255))) (240 ∷ []) refl) [] 1 _ refl

@@ -1,10 +1,10 @@
 -- The test of each move is computed; it passes.
 use Rattle.std.proofs.Common.{[], ◌∷◌, ◌++◌, refl}
 use Rattle.fk_worked.specs.Worked.{goes}
-use Rattle.fk_worked.specs.Locks.{locks, one_sleeps, thread_0, lets_go, until_signalled}
+use Rattle.fk_worked.specs.Locks.{lock_worlds, one_sleeps, thread_0, lets_go, until_signalled}
 use Rattle.fk_worked.proofs.Tested.{legal-tested}
 use Rattle.fk_worked.proofs.locks.a_signal_wakes_a_stopped_sleeper.Goals as goal
 
 pub returns-clause-ready : goal.returns-clause-ready
-unfolding locks
+unfolding lock_worlds
 returns-clause-ready c = legal-tested one_sleeps (until_signalled ++ (lets_go ++ goes thread_0 ∷ [])) refl

@@ -2,10 +2,10 @@
 use Rattle.std.proofs.Common.{[], ◌∷◌, None, refl}
 use Rattle.fk_model.specs.Objects.Body.{Space}
 use Rattle.fk_worked.specs.Worked.{goes, times}
-use Rattle.fk_worked.specs.Objects.{objects, destroyer, destroying, doomed}
+use Rattle.fk_worked.specs.Objects.{object_worlds, destroyer, destroying, doomed}
 use Rattle.fk_worked.proofs.Unheld.{legal-unheld, list-unheld}
 use Rattle.fk_worked.proofs.objects.a_space_is_destroyed_stage_by_stage.Goals as goal
 
 pub returns-clause-ready : goal.returns-clause-ready
-unfolding objects
+unfolding object_worlds
 returns-clause-ready c = legal-unheld destroying (times 4 (goes destroyer)) (list-unheld (([], Space 0 None) ∷ doomed) refl) refl

@@ -4,7 +4,7 @@ use Rattle.std.specs.FinMap.{get}
 use Rattle.fk_model.specs.declared.names.Who.{Who}
 use Rattle.fk_model.specs.declared.body.Body.{Body}
 use Rattle.fk_model.specs.declared.body.Body.TheVariants.{Mutex, Cond, Mapping, Region, Port, Portset, Space, Thread, Reference}
-use Rattle.fk_model.specs.Records.{is_extent}
+use Rattle.fk_model.specs.Records.{is_page_range}
 use Rattle.fk_store.specs.Contents.{Contents, birth_there, home, is_live}
 use Rattle.fk_store.specs.Named.{OnNamed}
 
@@ -16,15 +16,15 @@ is_there m who = is_some (get m.bodies who)
 abbrev pub IsSized : Body → Type 0
 IsSized (Mutex locked) = Unit {0}
 IsSized Cond = Unit {0}
-IsSized (Mapping first count offset write region) = is_extent first count ≡ true
-IsSized (Region first count write keeper) = is_extent first count ≡ true
+IsSized (Mapping first count offset write region) = is_page_range first count ≡ true
+IsSized (Region first count write keeper) = is_page_range first count ≡ true
 IsSized (Port set served) = Unit {0}
 IsSized Portset = Unit {0}
 IsSized (Space birth holder) = Unit {0}
 IsSized (Thread thread) = Unit {0}
 IsSized (Reference to) = Unit {0}
 
-pub record IsKept (m : Contents) : Type 0 where
+pub record IsWellFormed (m : Contents) : Type 0 where
   -- the root is born
   pub begun : 0 < m.next
   -- no two spaces have one birth number
