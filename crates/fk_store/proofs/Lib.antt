@@ -3,8 +3,6 @@ pub mod Freedom
 pub mod MutexLaws
 pub mod ThreadLaws
 pub mod EditLaws
-pub mod TableLaws
-pub mod NameLaws
 pub mod Homes
 pub mod Walks
 pub mod LookUps
@@ -19,7 +17,6 @@ pub mod Results
 pub mod Makes
 pub mod MadeSpaces
 pub mod Making
-pub mod NextKeys
 pub mod HoldLaws
 pub mod Enumerated
 pub mod ReachLaws

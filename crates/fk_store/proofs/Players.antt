@@ -15,14 +15,15 @@ use Rattle.fk_model.proofs.walks.Members.{IsIn, find_some, find_none}
 use Rattle.fk_model.proofs.walks.WalkLaws.{walked}
 use Rattle.fk_model.proofs.walks.PlaceLaws.{leads_to_at}
 use Rattle.std.proofs.lemmas.Bool.{and_parts}
-use Rattle.fk_store.specs.declared.parts.Part.{Part}
+use Rattle.fk_tables.specs.declared.parts.Part.{Part}
 use Rattle.fk_store.specs.Contents.{Contents}
 use Rattle.fk_store.specs.Paths.{path, place, HasOwnPath}
 use Rattle.fk_store.specs.Bodies.{body_by}
 use Rattle.fk_store.specs.Named.{Each}
 use Rattle.fk_store.specs.World.{world, IsLive}
 use Rattle.fk_store.specs.WellFormed.{is_there, IsWellFormed}
-use Rattle.fk_store.specs.Parts.{plays, played, played_at}
+use Rattle.fk_tables.specs.Parts.{plays}
+use Rattle.fk_store.specs.Parts.{played, played_at}
 use Rattle.fk_store.proofs.NamedLaws.{OnNamed-map}
 use Rattle.fk_store.proofs.Walks.{place-apart}
 use Rattle.fk_store.proofs.LookUps.{body-place, there-IsLive}
@@ -72,7 +73,7 @@ module _ (m : Contents) (kept : IsWellFormed m) (part : Part) where
         let long = short m kept who.space who.space (omega arith) housed in
         walked (world m) (above m kept) (rooted m kept) who.slot (path m who.space) (rw (there who b e) refl) (omega arith)
 
-    module _ (found : Option Who) (some : Each (λ who. (b : bodies_of.Body) × (get m.bodies who ≡ Some b) × (plays part b ≡ true)) found) (none : found ≡ None → (who : Who) (b : bodies_of.Body) → get m.bodies who ≡ Some b → plays part b ≡ false) where
+    module _ (found : Option Who) (some : IfSome found (λ who. (b : bodies_of.Body) × (get m.bodies who ≡ Some b) × (plays part b ≡ true))) (none : found ≡ None → (who : Who) (b : bodies_of.Body) → get m.bodies who ≡ Some b → plays part b ≡ false) where
       pub nobody-plays : found ≡ None → (x : Path) → at_path x ≡ false
       nobody-plays e x = by (at_path x) refl
         where
@@ -81,17 +82,17 @@ module _ (m : Contents) (kept : IsWellFormed m) (part : Part) where
           by true h = let who = named_player x h in let no = none e who.0 who.1 who.3 in let yes = who.4 in absurd (cc)
 
       -- who is found plays it, and is there
-      pub found-plays : Each (λ who. at_path (place (path m) who) ≡ true) found
+      pub found-plays : IfSome found (λ who. at_path (place (path m) who) ≡ true)
       found-plays = by found some
         where
-          by : (o : Option Who) → Each (λ who. (b : bodies_of.Body) × (get m.bodies who ≡ Some b) × (plays part b ≡ true)) o → Each (λ who. at_path (place (path m) who) ≡ true) o
+          by : (o : Option Who) → IfSome o (λ who. (b : bodies_of.Body) × (get m.bodies who ≡ Some b) × (plays part b ≡ true)) → IfSome o (λ who. at_path (place (path m) who) ≡ true)
           by None h = tt
           by (Some who) h = plays-at who h.0 h.1 ∙ h.2
 
       pub found-lives : Each (IsLive m) found
       found-lives = by found some
         where
-          by : (o : Option Who) → Each (λ who. (b : bodies_of.Body) × (get m.bodies who ≡ Some b) × (plays part b ≡ true)) o → Each (IsLive m) o
+          by : (o : Option Who) → IfSome o (λ who. (b : bodies_of.Body) × (get m.bodies who ≡ Some b) × (plays part b ≡ true)) → Each (IsLive m) o
           by None h = tt
           by (Some who) h = there-IsLive m kept who (rw h.1 refl)
 
@@ -102,7 +103,7 @@ module _ (m : Contents) (kept : IsWellFormed m) (part : Part) where
       pub found-some : is_some found ≡ is_some search_all
       found-some = by found refl some search_all refl
         where
-          by : (o : Option Who) → found ≡ o → Each (λ who. (b : bodies_of.Body) × (get m.bodies who ≡ Some b) × (plays part b ≡ true)) o → (p : Option Path) → search_all ≡ p → is_some o ≡ is_some p
+          by : (o : Option Who) → found ≡ o → IfSome o (λ who. (b : bodies_of.Body) × (get m.bodies who ≡ Some b) × (plays part b ≡ true)) → (p : Option Path) → search_all ≡ p → is_some o ≡ is_some p
           by None e h None f = refl
           by None e h (Some x) f = let yes = (find_some at_path x (objects (world m)) f).1 in let no = nobody-plays e x in absurd (cc)
           by (Some who) e h (Some x) f = refl
@@ -115,7 +116,7 @@ module _ (m : Contents) (kept : IsWellFormed m) (part : Part) where
       pub found-same : ((x y : Path) → at_path x ≡ true → at_path y ≡ true → x ≡ y) → option_map (place (path m)) found ≡ search_all
       found-same one = by found found-plays found-some search_all refl
         where
-          by : (o : Option Who) → Each (λ who. at_path (place (path m) who) ≡ true) o → is_some o ≡ is_some search_all → (p : Option Path) → search_all ≡ p → option_map (place (path m)) o ≡ p
+          by : (o : Option Who) → IfSome o (λ who. at_path (place (path m) who) ≡ true) → is_some o ≡ is_some search_all → (p : Option Path) → search_all ≡ p → option_map (place (path m)) o ≡ p
           by None h same None f = refl
           by None h same (Some x) f = absurd (cc)
           by (Some who) h same None f = absurd (cc)
@@ -154,7 +155,3 @@ module _ (w : World) (valid : IsConsistent w) where
           by : (o : Option Talk) → talk_at w x ≡ o → holds (λ (talk : Talk). leads_to port talk.port && is_service talk.peer) o ≡ true → HasService w x (At port)
           by None e g = cc
           by (Some talk) e g = let both = and_parts (leads_to port talk.port) (is_service talk.peer) g in (talk, e, leads_to_at port talk.port both.0, service talk.peer both.1)
-
-pub each-if : {A : Type 0} (P : A → Type 0) (o : Option A) → Each P o → IfSome o P
-each-if P None h = tt
-each-if P (Some a) h = h

@@ -1,5 +1,5 @@
 -- What a result tells.
-use Rattle.std.proofs.Common.{Result, Ok, Err, IsOk, OnOk, OnErr}
+use Rattle.std.proofs.Common.{Result, Ok, Err, OnOk, OnErr}
 
 -- one fact follows from another on one side
 pub on_ok : {T E : Type 0} (r : Result T E) (P Q : Type 0) → (P → Q) → OnOk r P → OnOk r Q
@@ -14,8 +14,3 @@ on_err (Err e) P Q f h = f h
 pub on_both : {T E : Type 0} (r : Result T E) (P Q R : Type 0) → (P → R) → (Q → R) → OnOk r P → OnErr r Q → R
 on_both (Ok x) P Q R f g h k = f h
 on_both (Err e) P Q R f g h k = g k
-
--- a fact of what is well
-pub of_ok : {T E : Type 0} (r : Result T E) (P : Type 0) → IsOk r → OnOk r P → P
-of_ok (Ok x) P ok h = h
-of_ok (Err e) P ok h = cc

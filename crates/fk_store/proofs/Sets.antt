@@ -17,7 +17,7 @@ use Rattle.fk_store.specs.Bodies.{body_by}
 use Rattle.fk_store.specs.World.{world, body_at, IsLive}
 use Rattle.fk_store.specs.Named.{OnNamed}
 use Rattle.fk_store.specs.WellFormed.{is_there, IsSized, IsWellFormed}
-use Rattle.fk_store.proofs.NameLaws.{who_total, who_tied}
+use Rattle.fk_tables.proofs.NameLaws.{who_total, who_tied}
 use Rattle.fk_store.proofs.NamedLaws.{OnNamed-map}
 use Rattle.fk_store.proofs.Changes.{make-alter, kinds-make}
 use Rattle.fk_store.proofs.LookUps.{IsLive-there}

@@ -11,13 +11,13 @@ use Rattle.fk_model.specs.declared.body.Body.{Body}
 use Rattle.fk_model.specs.declared.body.Body.TheVariants.{Mutex, Cond, Mapping, Region, Port, Portset, Space, Thread, Reference}
 use Rattle.fk_model.specs.Places.{Path}
 use Rattle.fk_model.specs.Objects.{kind_of, and_then}
-use Rattle.fk_store.specs.declared.sweeps.Sweep.{Sweep}
+use Rattle.fk_tables.specs.declared.sweeps.Sweep.{Sweep}
 use Rattle.fk_store.specs.Names.{same_who}
 use Rattle.fk_store.specs.Contents.{stored_birth}
 use Rattle.fk_store.specs.Bodies.{body_by}
 use Rattle.fk_store.specs.Named.{Each, OnPointer, OnPeer, OnTalk, OnFault, OnNamed}
 use Rattle.fk_store.specs.WellFormed.{IsSized}
-use Rattle.fk_store.specs.Sweeps.{after, or_dead, pointer_after, peer_after, talk_after, fault_after, body_after}
+use Rattle.fk_tables.specs.Sweeps.{after, or_dead, pointer_after, peer_after, talk_after, fault_after, body_after}
 
 module _ (sweep : Sweep) (space : ℕ) where
   pub birth-after : (b : Body) → stored_birth (body_after sweep space b) ≡ stored_birth b

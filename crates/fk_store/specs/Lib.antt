@@ -3,7 +3,6 @@ pub mod Moves
 pub mod Threads
 pub mod Names
 pub mod Orders
-pub mod Sorted
 pub mod Contents
 pub mod Paths
 pub mod Bodies
@@ -12,6 +11,5 @@ pub mod Named
 pub mod WellFormed
 pub mod Makes
 pub mod Edits
-pub mod Sweeps
 pub mod Parts
 pub mod Reaches

@@ -1,27 +1,7 @@
--- Names: an object is named by the birth number of its space and its slot there, a page likewise. Their orders.
-use Rattle.std.specs.Prelude.{ℕ, ◌+◌, ◌*◌, min, Bool, ◌&&◌, ◌==◌, Option, Some, None, refl}
-use Rattle.std.specs.declared.cmp.Ordering.{Ordering}
-use Rattle.std.specs.Ordering.{nat_cmp, ordering_then}
-use Rattle.std.specs.Coded.{Coded, code_by, coded×, coded_ℕ}
+-- Names: those of objects and pages, and how many come before one.
+use Rattle.std.specs.Prelude.{ℕ, ◌+◌, ◌*◌, min, Option, Some, None}
 use Rattle.fk_model.specs.declared.names.Who.{Who}
-
--- the object in a slot of a space
-abbrev pub at : ℕ → ℕ → Who
-at space slot = record { space = space; slot = slot }
-
-abbrev pub same_who : Who → Who → Bool
-same_who a b = a.space == b.space && a.slot == b.slot
-
--- by space, and then by slot
-abbrev pub who_cmp : Who → Who → Ordering
-who_cmp a b = ordering_then (nat_cmp a.space b.space) (nat_cmp a.slot b.slot)
-
--- by space, and then by page
-abbrev pub page_cmp : ℕ × ℕ → ℕ × ℕ → Ordering
-page_cmp a b = ordering_then (nat_cmp a.0 b.0) (nat_cmp a.1 b.1)
-
-abbrev pub coded_who : Coded Who
-coded_who = code_by (ℕ × ℕ) (coded× coded_ℕ coded_ℕ) (λ w. (w.space, w.slot)) (λ p. at p.0 p.1) (λ _. refl)
+pub use Rattle.fk_tables.specs.Names.{at, same_who, who_cmp, page_cmp, coded_who}
 
 -- how many names there are up to this one; none where there is no name. It rises where a scan goes on
 abbrev pub rank : Option Who → ℕ

@@ -22,10 +22,8 @@ mod residents;
 mod served;
 mod words;
 
-use crate::bodies::Bodies;
-use crate::pages::Pages;
-use crate::sweeps::Sweep;
 use fk_model::{Body, NoMemory, Who};
+use fk_tables::{Bodies, Pages, Sweep};
 use std::alloc::Global;
 use std::marker::Model;
 

@@ -11,8 +11,8 @@ ghost use Rattle.fk_store.specs.Parts.{played_at};
 ghost use Rattle.fk_store.specs.World.{world, place_of, IsLive};
 
 use crate::Store;
-use crate::parts::Part;
 use fk_model::Who;
+use fk_tables::Part;
 
 impl Store {
     /// The client of the talk that a thread serves.

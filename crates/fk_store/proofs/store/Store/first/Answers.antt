@@ -1,6 +1,6 @@
 use Rattle.std.proofs.Common.{◌≤◌, arith}
 use Rattle.fk_model.specs.Searches.{depth}
-use Rattle.fk_store.proofs.Players.{found-same, found-some, found-plays, found-lives, nobody-plays, each-if}
+use Rattle.fk_store.proofs.Players.{found-same, found-some, found-plays, found-lives, nobody-plays}
 use Rattle.fk_store.proofs.store.Store.first.Goals as goal
 
 pub returns : goal.returns
@@ -9,7 +9,7 @@ returns c =
     rw (← c.self.view_is) (record {
       some = found-some _ c.self.invariant c.args.part few c.first.result c.first.ensures.some c.first.ensures.none;
       same = found-same _ c.self.invariant c.args.part few c.first.result c.first.ensures.some c.first.ensures.none;
-      plays = each-if _ c.first.result (found-plays _ c.self.invariant c.args.part few c.first.result c.first.ensures.some c.first.ensures.none);
+      plays = found-plays _ c.self.invariant c.args.part few c.first.result c.first.ensures.some c.first.ensures.none;
       nobody = nobody-plays _ c.self.invariant c.args.part few c.first.result c.first.ensures.some c.first.ensures.none;
       live = found-lives _ c.self.invariant c.args.part few c.first.result c.first.ensures.some c.first.ensures.none;
     })

@@ -1,6 +1,0 @@
-use Rattle.fk_store.specs.Names.{who_cmp}
-use Rattle.fk_store.proofs.TableLaws.{map_of-nil}
-use Rattle.fk_store.proofs.bodies.Bodies.new.Goals as goal
-
-pub returns : goal.returns
-returns c = rw c.new.ensures.items (map_of-nil who_cmp)

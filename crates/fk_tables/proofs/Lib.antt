@@ -1,0 +1,5 @@
+pub mod NameLaws
+pub mod TableLaws
+pub mod NextKeys
+pub mod Found
+pub mod Results

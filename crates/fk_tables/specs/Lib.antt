@@ -1,0 +1,6 @@
+pub mod Names
+pub mod Orders
+pub mod Sorted
+pub mod Births
+pub mod Sweeps
+pub mod Parts

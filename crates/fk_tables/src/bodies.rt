@@ -1,0 +1,175 @@
+//! The bodies of all objects, by their names.
+ghost use Rattle.std.specs.Prelude.{◌≡◌, OnOk, OnErr, IsSome, IfSome, Some, None, true, false, if◌then◌else◌, option_map, find, map as each};
+ghost use Rattle.std.specs.Option.{option_copied};
+ghost use Rattle.std.specs.FinMap as map;
+ghost use Rattle.fk_model.specs.declared.names.Who.{Who};
+ghost use Rattle.fk_model.specs.declared.body.Body.{Body};
+ghost use Rattle.fk_model.specs.Objects.{and_then};
+ghost use Rattle.fk_tables.specs.Names.{who_cmp, same_who};
+ghost use Rattle.fk_tables.specs.Parts.{plays};
+ghost use Rattle.fk_tables.specs.Sweeps.{body_after, swept};
+ghost use Rattle.fk_tables.specs.Orders.{IsFirstAfter};
+ghost use Rattle.fk_tables.specs.Births.{stored_birth, is_number, home_in};
+
+use crate::parts::Part;
+use crate::sweeps::Sweep;
+use crate::tables::{next_key, put_value, set_value, take_away, value_of};
+use fk_model::{Body, NoMemory, Who};
+use std::alloc::Global;
+use std::marker::Model;
+
+/// The bodies of all objects.
+#[derive(Drop)]
+pub struct Bodies {
+    entries: Vec<(Who, Body)>,
+}
+
+impl Model for Bodies {
+    ghost use Rattle.std.specs.Prelude.{T};
+    ghost use Rattle.std.specs.FinMap.{FinMap, is_sorted};
+    ghost use Rattle.std.specs.FinMap as finmap;
+    ghost use Rattle.fk_model.specs.declared.body.Body.{Body};
+    ghost use Rattle.fk_model.specs.contracts.body.Body as body;
+    ghost use Rattle.fk_tables.specs.Names.{who_cmp, coded_who};
+    ghost use Rattle.fk_tables.specs.Sorted.{map_of};
+
+    ghost Value = { FinMap who_cmp Body };
+
+    ghost coded = { finmap.code coded_who body.the_row.coded };
+
+    ghost view = { λ s. map_of who_cmp s.entries.items };
+
+    ghost invariant = { λ s. T (is_sorted who_cmp s.entries.items) };
+}
+
+impl Bodies {
+    /// No bodies.
+    pub fn new(alloc: Global) -> Bodies
+        ensures { result ≡ map.empty }
+    {
+        Bodies {
+            entries: Vec::new(alloc),
+        }
+    }
+
+    /// The body of an object.
+    pub fn at(&self, who: Who) -> Option<&Body>
+        ensures { option_copied result ≡ map.get self.now who }
+    {
+        value_of(&self.entries, who)
+    }
+
+    /// The birth number of an object, if it is a space.
+    pub fn birth(&self, who: Who) -> Option<u32>
+        ensures { result ≡ and_then stored_birth (map.get self.now who) }
+    {
+        match self.at(who)? {
+            Body::Space { birth, .. } => Some(*birth),
+            _ => None,
+        }
+    }
+
+    /// Gives a live object another body.
+    pub fn set(&mut self, who: Who, body: Body)
+        requires { IsSome (map.get self.old who) }
+        ensures { self.new ≡ map.insert self.old who body }
+    {
+        set_value(&mut self.entries, who, body);
+    }
+
+    /// Puts an object in a slot.
+    pub fn put(&mut self, who: Who, body: Body) -> Result<(), NoMemory>
+        ensures ok { OnOk result (self.new ≡ map.insert self.old who body) }
+        ensures err { OnErr result (self.new ≡ self.old) }
+    {
+        Ok(put_value(&mut self.entries, who, body)?)
+    }
+
+    /// Takes an object away.
+    pub fn remove(&mut self, who: Who)
+        ensures { self.new ≡ map.remove self.old who }
+    {
+        take_away(&mut self.entries, who);
+    }
+
+    /// Gives an object another name, under which it is alone.
+    pub fn rename(&mut self, from: Who, to: Who)
+        requires { IsSome (map.get self.old from) }
+        ensures { (q : Who) → map.get self.new q ≡ if same_who q to then map.get self.old from else (if same_who q from then None else map.get self.old q) }
+    {
+        if let Some(&body) = self.at(from) {
+            take_away(&mut self.entries, from);
+            put_value(&mut self.entries, to, body).unwrap();
+        }
+    }
+
+    /// An object that plays this part; nothing where none does.
+    pub fn first(&self, part: Part) -> Option<Who>
+        ensures some { IfSome result (λ who. (b : Body) × (map.get self.now who ≡ Some b) × (plays part b ≡ true)) }
+        ensures none { result ≡ None → (who : Who) (b : Body) → map.get self.now who ≡ Some b → plays part b ≡ false }
+    {
+        first_among(&self.entries, part)
+    }
+
+    /// Sweeps all bodies.
+    pub fn sweep(&mut self, sweep: Sweep)
+        ensures { (q : Who) → map.get self.new q ≡ option_map (body_after sweep q.space) (map.get self.old q) }
+    {
+        sweep_each(&mut self.entries, sweep);
+    }
+
+    /// The first object after this one, by space and then by slot; the first of all where there is
+    /// none.
+    pub fn after(&self, who: Option<Who>) -> Option<Who>
+        ensures { IsFirstAfter who_cmp (λ k. IsSome (map.get self.now k)) who result }
+    {
+        next_key(&self.entries, who)
+    }
+
+    /// The place of the space with this birth number.
+    pub fn home(&self, space: u32) -> Option<Who>
+        ensures { result ≡ home_in self.now space }
+    {
+        home_among(&self.entries, space)
+    }
+}
+
+fn sweep_each(entries: &mut Vec<(Who, Body)>, sweep: Sweep)
+    ensures { entries.new.items ≡ each (swept sweep) entries.old.items }
+{
+    for entry in entries.iter_mut() {
+        entry.1 = sweep.body(entry.0.space, entry.1);
+    }
+}
+
+fn home_among(entries: &[(Who, Body)], space: u32) -> Option<Who>
+    ensures { result ≡ option_map (λ e. e.0) (find (λ e. is_number space (stored_birth e.1)) entries.now) }
+{
+    for entry in entries {
+        if is_born(&entry.1, space) {
+            return Some(entry.0);
+        }
+    }
+    None
+}
+
+fn first_among(entries: &[(Who, Body)], part: Part) -> Option<Who>
+    ensures { result ≡ option_map (λ e. e.0) (find (λ e. plays part e.1) entries.now) }
+{
+    for entry in entries {
+        if part.is_played_by(&entry.1) {
+            return Some(entry.0);
+        }
+    }
+    None
+}
+
+/// It is the space with this birth number.
+fn is_born(body: &Body, space: u32) -> bool
+    ensures { result ≡ is_number space (stored_birth body.now) }
+{
+    match body {
+        Body::Space { birth, .. } => *birth == space,
+        _ => false,
+    }
+}
