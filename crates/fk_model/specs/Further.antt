@@ -12,7 +12,7 @@ use Rattle.fk_model.specs.declared.stage.Stage.TheVariants.{ClientSend, ClientOv
 use Rattle.fk_model.specs.declared.thread.Turn.TheVariants as turns
 use Rattle.fk_model.specs.Places.{Path, parent, Ptr}
 use Rattle.fk_model.specs.Places.Ptr.{Outside}
-use Rattle.fk_model.specs.Objects.{Mode, Peer, Talk, Fault, Thread, thread_of, space_of, and_then, holds}
+use Rattle.fk_model.specs.Objects.{Mode, Peer, Talk, Fault, Thread, space_of, and_then, holds}
 use Rattle.fk_model.specs.Objects.Mode.{Calling}
 use Rattle.fk_model.specs.Objects.Peer.{Server}
 use Rattle.fk_model.specs.World.{World, Change, apply_all}

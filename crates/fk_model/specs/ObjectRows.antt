@@ -8,7 +8,7 @@ use Rattle.fk_model.specs.declared.thread.Turn.{Turn}
 use Rattle.fk_model.specs.declared.thread.Turn.TheVariants as turns
 use Rattle.fk_model.specs.Places.{Path, same_path, strip, is_within, parent, slot_of, Ptr}
 use Rattle.fk_model.specs.Places.Ptr.{Null, Dead, At, Out, Outside, Far}
-use Rattle.fk_model.specs.Objects.{Talk, Body, kind_of, same_kind, number_of_kind, reference_of, port_of, holds, is_served}
+use Rattle.fk_model.specs.Objects.{Talk, Body, kind_of, same_kind, number_of_kind, reference_of, is_served}
 use Rattle.fk_model.specs.Objects.Mode.{Running}
 use Rattle.fk_model.specs.Objects.Body.{Mutex, Cond, Mapping, Region, Port, Portset, Thread_of, Reference}
 use Rattle.fk_model.specs.World.{World, Change}

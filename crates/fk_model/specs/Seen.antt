@@ -8,9 +8,10 @@ use Rattle.fk_model.specs.declared.moves.Ask.TheVariants as asks
 use Rattle.fk_model.specs.declared.stage.Stage.{Stage}
 use Rattle.fk_model.specs.declared.stage.Stage.TheVariants.{Wait, ServerSend, ServerOver, ServerEnd, PageGive, PageTake, ClientSend}
 use Rattle.fk_model.specs.declared.stage.Stage.TheVariants as stages
+use Rattle.fk_model.specs.declared.thread.Turn.TheVariants as turns
 use Rattle.fk_model.specs.Places.{Path, same_path, strip, is_within, parent, Ptr}
 use Rattle.fk_model.specs.Places.Ptr.{Null, Dead, At, Out, Outside, Far}
-use Rattle.fk_model.specs.Objects.{Talk, Fault, Thread, thread_of, and_then, holds}
+use Rattle.fk_model.specs.Objects.{Talk, Fault, Thread, and_then, holds}
 use Rattle.fk_model.specs.World.{World, Change}
 use Rattle.fk_model.specs.World.Change.{Alter, PutPage, DropPage}
 use Rattle.fk_model.specs.World.Edit.{End, SetTalk, CountMoved, PassTurn, SetFault}
@@ -20,7 +21,6 @@ use Rattle.fk_model.specs.Outcomes.Outcome.{Refused, Waits, Goes}
 use Rattle.fk_model.specs.Outcomes.Said.{Nothing as SaidNothing, Taken as SaidTaken}
 use Rattle.fk_model.specs.Readers.{space_argument}
 use Rattle.fk_model.specs.Talks.{receiving, first_stage}
-use Rattle.fk_model.specs.declared.thread.Turn.TheVariants as turns
 use Rattle.fk_model.specs.TransferRows.{block}
 use Rattle.fk_model.specs.LinkRows.{Candidate, candidate, user_at}
 use Rattle.fk_model.specs.LinkRows.Candidate.{Faulting, Connecting, Resuming}

@@ -8,3 +8,4 @@ pub mod Pages
 pub mod Objects
 pub mod Renames
 pub mod Deaths
+pub mod Calls

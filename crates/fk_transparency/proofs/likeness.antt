@@ -21,3 +21,4 @@ pub mod ObjectRows
 pub mod Sends
 pub mod Clients
 pub mod Picks
+pub mod PlainRows

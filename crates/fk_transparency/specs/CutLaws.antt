@@ -1,14 +1,14 @@
 -- The law of the cut: what a move of the world does to a plain subtree is what the subtree, seen alone, does by the move
 -- as which it is seen.
-use Rattle.std.specs.Prelude.{◌≡◌, ℕ, true, false, List, ◌∷◌, Option, Some}
+use Rattle.std.specs.Prelude.{◌≡◌, ℕ, Bool, true, false, List, ◌∷◌, Option, Some}
 use Rattle.fk_model.specs.declared.moves.Ask.TheVariants as asks
 use Rattle.fk_model.specs.declared.stage.Stage.{Stage}
-use Rattle.fk_model.specs.declared.stage.Stage.TheVariants.{Create, Destroy, Rename, Point, GetState, SpaceHold, PageTake, MutexLock, ClientSend, ClientOver, ServerSend, ServerOver, ServerEnd, Disconnect, Wait}
+use Rattle.fk_model.specs.declared.stage.Stage.TheVariants.{Create, Destroy, Rename, Search, Point, Clear, Locate, CountIn, GetState, SetState, GetPtr, SetPtr, SpaceHold, SpaceRelease, ThreadStop, ThreadGo, PageGive, PageTake, PageRead, PageNext, MutexLock, MutexTrylock, MutexUnlock, CondWait, CondAsleep, CondSignal, CondBroadcast, Connect, ClientReceive, ClientSend, ClientOver, Disconnect, Wait, ServerReceive, ServerSend, ServerOver, ServerEnd, FaultDone, LinkSet, LinkPark, FaultSet, FaultPark, HoldSet, SpaceMakeHeld}
 use Rattle.fk_model.specs.Places.{Path, is_within}
 use Rattle.fk_model.specs.Objects.{Thread, thread_of, and_then}
 use Rattle.fk_model.specs.Objects.Mode.{Running, Calling}
 use Rattle.fk_model.specs.World.{World}
-use Rattle.fk_model.specs.Moves.{IsReady}
+use Rattle.fk_model.specs.Moves.{is_for_porters, is_for_users, IsReady}
 use Rattle.fk_model.specs.Valid.{is_fit}
 use Rattle.fk_model.specs.Whole.{IsWhole}
 use Rattle.fk_model.specs.Runs.{Event, after}
@@ -51,20 +51,65 @@ StageOutsideKeepsCut IsSuch = (w : World) (nester : Path) (slot : ℕ) (x : Path
 
 -- ---- which stages are meant
 
-abbrev pub IsLock : Stage → Type 0
-IsLock stage = (m : ℕ) × (stage ≡ MutexLock m)
+-- of these stages nothing is seen from outside, and they pick nobody: each changes what lies in the caller's reach, or waits
+abbrev pub is_plain_stage : Stage → Bool
+is_plain_stage (Create s x kind) = true
+is_plain_stage (Destroy s x) = false
+is_plain_stage (Rename s x y) = false
+is_plain_stage (Search s from) = true
+is_plain_stage (Point s x s2 x2) = true
+is_plain_stage (Clear s x) = true
+is_plain_stage (Locate reference s) = true
+is_plain_stage (CountIn base s x) = false
+is_plain_stage (GetState s x address) = true
+is_plain_stage (SetState s x address) = true
+is_plain_stage (GetPtr s x field reference) = true
+is_plain_stage (SetPtr s x field reference) = true
+is_plain_stage (SpaceHold s x) = true
+is_plain_stage (SpaceRelease s x) = true
+is_plain_stage (ThreadStop h) = true
+is_plain_stage (ThreadGo h) = true
+is_plain_stage (PageGive s page address) = false
+is_plain_stage (PageTake s page address) = false
+is_plain_stage (PageRead s page address) = true
+is_plain_stage (PageNext s from) = true
+is_plain_stage (MutexLock m) = true
+is_plain_stage (MutexTrylock m) = true
+is_plain_stage (MutexUnlock m) = true
+is_plain_stage (CondWait c m) = true
+is_plain_stage (CondAsleep c m) = true
+is_plain_stage (CondSignal c) = false
+is_plain_stage (CondBroadcast c) = true
+is_plain_stage (Connect h) = true
+is_plain_stage (ClientReceive into room) = true
+is_plain_stage (ClientSend address count) = false
+is_plain_stage ClientOver = false
+is_plain_stage Disconnect = false
+is_plain_stage (Wait set) = false
+is_plain_stage (ServerReceive into room) = false
+is_plain_stage (ServerSend address count) = false
+is_plain_stage ServerOver = false
+is_plain_stage ServerEnd = false
+is_plain_stage FaultDone = false
+is_plain_stage (LinkSet s x port server) = false
+is_plain_stage (LinkPark s x port) = false
+is_plain_stage (FaultSet s x port taker) = false
+is_plain_stage (FaultPark s x port taken) = false
+is_plain_stage (HoldSet s x thread) = false
+is_plain_stage (SpaceMakeHeld x) = false
 
-abbrev pub IsCreate : Stage → Type 0
-IsCreate stage = (s : ℕ) × (x : ℕ) × (kind : ℕ) × (stage ≡ Create s x kind)
+abbrev pub IsPlainStage : Stage → Type 0
+IsPlainStage stage = is_plain_stage stage ≡ true
 
-abbrev pub IsPoint : Stage → Type 0
-IsPoint stage = (s : ℕ) × (x : ℕ) × (s2 : ℕ) × (x2 : ℕ) × (stage ≡ Point s x s2 x2)
+-- those that a user, or a porter, is denied
+abbrev pub IsForPorters : Stage → Type 0
+IsForPorters stage = is_for_porters stage ≡ true
 
-abbrev pub IsGetState : Stage → Type 0
-IsGetState stage = (s : ℕ) × (x : ℕ) × (address : ℕ) × (stage ≡ GetState s x address)
+abbrev pub IsForUsers : Stage → Type 0
+IsForUsers stage = is_for_users stage ≡ true
 
-abbrev pub IsHold : Stage → Type 0
-IsHold stage = (s : ℕ) × (x : ℕ) × (stage ≡ SpaceHold s x)
+abbrev pub IsServerReceive : Stage → Type 0
+IsServerReceive stage = (into : ℕ) × (room : ℕ) × (stage ≡ ServerReceive into room)
 
 abbrev pub IsPageTake : Stage → Type 0
 IsPageTake stage = (s : ℕ) × (page : ℕ) × (address : ℕ) × (stage ≡ PageTake s page address)

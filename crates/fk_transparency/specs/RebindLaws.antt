@@ -6,9 +6,9 @@ use Rattle.fk_model.specs.Places.{Path}
 use Rattle.fk_model.specs.World.{World}
 use Rattle.fk_model.specs.Further.{Touch, Onward, Told, IsOnward}
 use Rattle.fk_model.specs.Further.Onward.{Own, ByOthers}
+use Rattle.fk_model.specs.Rebind.{rebound, rebound_told}
 use Rattle.fk_transparency.specs.CutLaws.{IsAtStage, IsRunning}
 use Rattle.fk_transparency.specs.Likeness.{IsCutWorld}
-use Rattle.fk_model.specs.Rebind.{rebound, rebound_told}
 
 -- a move of the subtree, and the same move of it with other outward ports
 pub record RebindsTo (bind : ℕ → ℕ) (c : World) (m : Onward) : Type 0 where

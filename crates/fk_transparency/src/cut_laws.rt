@@ -1,6 +1,6 @@
 //! The law of the cut, each kind of move the contract of a function that does nothing: what a move of the world does to a
 //! subtree is what the subtree, seen alone, does by the move as which it is seen.
-ghost use Rattle.fk_transparency.specs.CutLaws.{AcceptKeepsCut, CallKeepsCut, GiveKeepsCut, InstructionKeepsCut, IsClientOver, IsClientSend, IsCreate, IsDestroy, IsDisconnect, IsGetState, IsHold, IsLock, IsPageTake, IsPoint, IsRename, IsServerEnd, IsServerOver, IsServerSend, IsWait, OverKeepsCut, StageInsideKeepsCut, StageKeepsCut, StageOutsideKeepsCut};
+ghost use Rattle.fk_transparency.specs.CutLaws.{AcceptKeepsCut, CallKeepsCut, GiveKeepsCut, InstructionKeepsCut, IsClientOver, IsClientSend, IsDestroy, IsDisconnect, IsForPorters, IsForUsers, IsPageTake, IsPlainStage, IsRename, IsServerEnd, IsServerOver, IsServerSend, IsWait, OverKeepsCut, StageInsideKeepsCut, StageKeepsCut, StageOutsideKeepsCut};
 
 /// A thread that makes an instruction, also one that stores through a mapping: inside, the subtree does so by itself;
 /// outside, it sees nothing of it, or no law speaks of it.
@@ -8,29 +8,10 @@ pub fn an_instruction_keeps_the_cut()
     ensures { InstructionKeepsCut }
 {}
 
-/// A thread that locks a mutex: inside, the subtree does so by itself; outside, it sees nothing of it, or no law speaks of it.
-pub fn a_lock_keeps_the_cut()
-    ensures { StageKeepsCut IsLock }
-{}
-
-/// A thread that creates an object: inside, the subtree does so by itself; outside, it sees nothing of it, or no law speaks of it.
-pub fn a_new_object_keeps_the_cut()
-    ensures { StageKeepsCut IsCreate }
-{}
-
-/// A thread that points a reference at an object: inside, the subtree does so by itself; outside, it sees nothing of it, or no law speaks of it.
-pub fn a_new_pointer_keeps_the_cut()
-    ensures { StageKeepsCut IsPoint }
-{}
-
-/// A thread that reads the record of an object into its memory: inside, the subtree does so by itself; outside, it sees nothing of it, or no law speaks of it.
-pub fn a_read_record_keeps_the_cut()
-    ensures { StageKeepsCut IsGetState }
-{}
-
-/// A thread that holds a space: inside, the subtree does so by itself; outside, it sees nothing of it, or no law speaks of it.
-pub fn a_hold_keeps_the_cut()
-    ensures { StageKeepsCut IsHold }
+/// A thread at a stage of which nothing is seen from outside: inside, the subtree does so by itself; outside, it sees nothing of
+/// it, or no law speaks of it.
+pub fn a_plain_stage_keeps_the_cut()
+    ensures { StageKeepsCut IsPlainStage }
 {}
 
 /// A thread that takes a page: inside, the subtree does so by itself; outside, the subtree sees that a page of it is taken, or
@@ -129,6 +110,26 @@ pub fn a_wait_inside_keeps_the_cut()
 /// taken, or sees nothing of it, or no law speaks of it.
 pub fn a_wait_outside_keeps_the_cut()
     ensures { StageOutsideKeepsCut IsWait }
+{}
+
+/// A porter at a stage of which nothing is seen from outside: the subtree sees nothing of it, or no law speaks of it.
+pub fn a_plain_call_of_a_porter_keeps_the_cut()
+    ensures { CallKeepsCut IsPlainStage }
+{}
+
+/// A porter that destroys an object: the subtree sees nothing of it and stays plain, or no law speaks of it.
+pub fn a_death_by_a_porter_keeps_the_cut()
+    ensures { CallKeepsCut IsDestroy }
+{}
+
+/// A porter that is denied a call: the subtree sees nothing of it.
+pub fn a_denied_call_of_a_porter_keeps_the_cut()
+    ensures { CallKeepsCut IsForUsers }
+{}
+
+/// A thread that is denied a call: inside, its call ends in the subtree as in the world; outside, nothing of it is seen.
+pub fn a_denied_stage_keeps_the_cut()
+    ensures { StageKeepsCut IsForPorters }
 {}
 
 /// A porter that waits at a port set: the subtree sees that its thread is taken at its Connect, or that a fault of it is taken, or

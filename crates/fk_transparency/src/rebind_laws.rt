@@ -1,36 +1,17 @@
 //! The law of rebinding, each kind of move the contract of a function that does nothing: a subtree that is seen alone does,
 //! with other outward ports, what it did, also where two of them get one name.
-ghost use Rattle.fk_transparency.specs.CutLaws.{IsClientOver, IsClientSend, IsCreate, IsDestroy, IsDisconnect, IsGetState, IsHold, IsLock, IsPageTake, IsPoint, IsRename, IsServerEnd, IsServerOver, IsServerSend, IsWait};
+ghost use Rattle.fk_transparency.specs.CutLaws.{IsClientOver, IsClientSend, IsDestroy, IsDisconnect, IsPageTake, IsPlainStage, IsRename, IsServerEnd, IsServerOver, IsServerSend, IsWait};
 ghost use Rattle.fk_transparency.specs.RebindLaws.{InstructionRebinds, StageRebinds, TouchRebinds};
-
-/// A thread of the subtree that locks a mutex does so with other outward ports, and the outside hears the same at these.
-pub fn a_lock_rebinds()
-    ensures { StageRebinds IsLock }
-{}
-
-/// A thread of the subtree that creates an object does so with other outward ports, and the outside hears the same at these.
-pub fn a_new_object_rebinds()
-    ensures { StageRebinds IsCreate }
-{}
-
-/// A thread of the subtree that points a reference at an object does so with other outward ports, and the outside hears the same at these.
-pub fn a_new_pointer_rebinds()
-    ensures { StageRebinds IsPoint }
-{}
-
-/// A thread of the subtree that reads the record of an object into its memory does so with other outward ports, and the outside hears the same at these.
-pub fn a_read_record_rebinds()
-    ensures { StageRebinds IsGetState }
-{}
-
-/// A thread of the subtree that holds a space does so with other outward ports, and the outside hears the same at these.
-pub fn a_hold_rebinds()
-    ensures { StageRebinds IsHold }
-{}
 
 /// A thread of the subtree that makes an instruction does so with other outward ports, and the outside hears of a fault at these.
 pub fn an_instruction_rebinds()
     ensures { InstructionRebinds }
+{}
+
+/// A thread of the subtree at a stage of which nothing is seen from outside does the same with other outward ports, and the outside
+/// hears the same at these.
+pub fn a_plain_stage_rebinds()
+    ensures { StageRebinds IsPlainStage }
 {}
 
 /// A thread of the subtree that takes a page does so with other outward ports, and the outside hears the same at these.

@@ -14,9 +14,9 @@ use Rattle.fk_model.specs.Outcomes.{Outcome, Caller}
 use Rattle.fk_model.specs.Readers.{missed, accessed, own_page_at, own_page, their_page_at, their_page}
 use Rattle.fk_model.specs.Records.{is_page_range}
 use Rattle.fk_model.specs.Valid.{IsConsistent, kind_there, leads_there, may_lead, all_in, is_good, HasPlace, IsPaged}
+use Rattle.fk_model.proofs.walks.Lowest.{lowest-found}
 use Rattle.fk_laws.proofs.safety.Safe.{IfAny}
 use Rattle.fk_laws.proofs.safety.Outcomes.{SafeOutcome, refused, waits, goes}
-use Rattle.fk_model.proofs.walks.Lowest.{lowest-found}
 use Rattle.fk_laws.proofs.safety.Reads.{Facts}
 
 -- what stands in a valid world is good

@@ -6,12 +6,12 @@ use Rattle.fk_model.specs.Outcomes.{Outcome}
 use Rattle.fk_model.specs.Outcomes.Outcome.{Goes}
 use Rattle.fk_model.specs.Moves.{outcome, step, stepped}
 use Rattle.fk_model.specs.Valid.{IsConsistent, IsRooted, IsValid}
+use Rattle.fk_model.proofs.walks.WalkLaws.{idle, no_service}
 use Rattle.fk_laws.specs.Laws.{StepKeepsValid}
 use Rattle.fk_laws.proofs.safety.Outcomes.{SafeOutcome}
 use Rattle.fk_laws.proofs.safety.Reads.{WalkFacts, Facts}
 use Rattle.fk_laws.proofs.safety.Moves.{outcome-safe}
 use Rattle.fk_laws.proofs.validity.Changes.{valid-apply_all, rooted-apply_all, paged-apply_all}
-use Rattle.fk_model.proofs.walks.WalkLaws.{idle, no_service}
 use Rattle.fk_laws.proofs.validity.Alone.{alone, leaf-alone}
 
 walk_facts : (w : World) → IsConsistent w → IsRooted w → w.next ≤ depth → WalkFacts w

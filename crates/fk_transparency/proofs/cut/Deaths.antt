@@ -17,6 +17,7 @@ use Rattle.fk_model.specs.Talks.{Line, line_from, line}
 use Rattle.fk_model.specs.LinkRows.{user_at, end_all}
 use Rattle.fk_model.specs.ObjectRows.{ends_in, ends_on, ends_of_client, ends_with, kills, destroys, destroy}
 use Rattle.fk_model.specs.Cut.{seen_by, unheld, is_served_by}
+use Rattle.fk_model.proofs.walks.PlaceLaws.{same_path_cancel}
 use Rattle.fk_transparency.specs.CutLaws.{KeepsCut, IsAtStage, moves, StageInsideKeepsCut, IsDestroy}
 use Rattle.fk_transparency.specs.RebindLaws.{StageRebinds}
 use Rattle.fk_transparency.specs.Likeness.{seeing, IsLikeness, ServesNobodyOutside, IsOuter, AlikeOptions, IsBeneath, LineLikeness}
@@ -24,7 +25,6 @@ use Rattle.fk_transparency.specs.Likeness.PtrLikeness.{Inside}
 use Rattle.fk_transparency.specs.LikeChanges.{LikeChanges, IsLikeOutcome}
 use Rattle.fk_transparency.specs.LikeChanges.LikeChange.{Kills}
 use Rattle.fk_transparency.specs.LikeChanges.LikeChanges.{Empty, Both}
-use Rattle.fk_model.proofs.walks.PlaceLaws.{same_path_cancel}
 use Rattle.fk_transparency.proofs.likeness.Instances.{cut-like}
 use Rattle.fk_transparency.proofs.likeness.Reads.{place-like, anything_in-like}
 use Rattle.fk_transparency.proofs.likeness.Holds.{is_frozen_for-like}

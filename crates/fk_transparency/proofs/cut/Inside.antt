@@ -3,6 +3,7 @@ use Rattle.std.proofs.Common.{◌≡◌, ℕ, Bool, true, false, cond, ◌&&◌,
 use Rattle.fk_model.specs.declared.moves.Ask.TheVariants as asks
 use Rattle.fk_model.specs.declared.stage.Stage.{Stage}
 use Rattle.fk_model.specs.declared.stage.Stage.TheVariants.{ClientSend}
+use Rattle.fk_model.specs.declared.statuses.status.TheConstants.{DENIED}
 use Rattle.fk_model.specs.Places.{Path, strip, is_within, Ptr}
 use Rattle.fk_model.specs.Objects.{Mode, Thread, Body, thread_of, and_then}
 use Rattle.fk_model.specs.Objects.Mode.{Calling}
@@ -14,17 +15,16 @@ use Rattle.fk_model.specs.Outcomes.Outcome.{Refused, Waits, Goes}
 use Rattle.fk_model.specs.Outcomes.Said.{Nothing, Answered}
 use Rattle.fk_model.specs.LinkRows.{user_at}
 use Rattle.fk_model.specs.Moves.{stage_row, is_for_porters, chooses, with_pick, closed, call_row, goes_on, user_move, outcome, GoesAllowed, IsReady, stepped, step}
-use Rattle.fk_model.specs.declared.statuses.status.TheConstants.{DENIED}
 use Rattle.fk_model.specs.Runs.{Event, after}
 use Rattle.fk_model.specs.Cut.{ports_of, cut_ptr, cut, seen_by, unheld, IsPlain}
 use Rattle.fk_model.specs.Further.{Onward, Told, talks_outside, outside_row, own_stage, own_move, own_row, counted, onward_row, told_by_said, told_by, OnwardTo, IsOnward}
 use Rattle.fk_model.specs.Further.Onward.{Own}
 use Rattle.fk_model.specs.Seen.{outcome_said, is_send, sends_out, words_out, picked_inside, own_of, row_of}
 use Rattle.fk_model.specs.Seen.Seen.{Onwards, Unseen, Other}
+use Rattle.fk_model.proofs.walks.PlaceLaws.{strip-append, strip_some}
 use Rattle.fk_transparency.specs.CutLaws.{KeepsCut, IsAtStage, moves, StageInsideKeepsCut}
 use Rattle.fk_transparency.specs.Likeness.{seeing, seen_thread, IsLikeness}
 use Rattle.fk_transparency.specs.LikeChanges.{IsLikeOutcome, IsLikeUnlessWaiting}
-use Rattle.fk_model.proofs.walks.PlaceLaws.{strip-append, strip_some}
 use Rattle.fk_transparency.proofs.likeness.Instances.{cut-like}
 use Rattle.fk_transparency.proofs.likeness.Holds.{is_free-like, unheld-free}
 use Rattle.fk_transparency.proofs.likeness.Outcomes.{unless_waiting, closed-like}
@@ -286,19 +286,24 @@ module _ (w : World) (nester : Path) (slot : ℕ) (plain : IsPlain w nester slot
   at_stage : (pick : Option Path) (stage : Stage) (todo : List Stage) (rest : List ℕ) (t : Thread) (mode : Mode) → mode ≡ Calling (stage ∷ todo) rest → goes_on w me pick t mode ≡ call_row w (user_at me) pick stage
   at_stage pick stage todo rest t mode e = rw e refl
 
-  pub stage_inside : (pick : Option Path) (stage : Stage) → IsAtStage w me stage → ((n : ℕ) (c : Caller) (o : Outcome) → outside_row small c n stage o ≡ o) →
-      ((p : Option Path) → is_none p ≡ is_none pick → is_frozen w root ≡ false → AlikeHere (stage_row small (user_at (k ∷ q)) p stage) (stage_row w (user_at me) pick stage)) →
-      Quiet root (stage_row w (user_at me) pick stage) → KeepsCut w nester slot (moves me pick)
-  stage_inside pick stage at silent alike quiet =
+  pub call_inside : (pick : Option Path) (stage : Stage) → IsAtStage w me stage → ((n : ℕ) (c : Caller) (o : Outcome) → outside_row small c n stage o ≡ o) →
+      ((p : Option Path) → is_none p ≡ is_none pick → is_frozen w root ≡ false → AlikeHere (call_row small (user_at (k ∷ q)) p stage) (call_row w (user_at me) pick stage)) →
+      Quiet root (call_row w (user_at me) pick stage) → KeepsCut w nester slot (moves me pick)
+  call_inside pick stage at silent alike calls =
       let t = at.0 in
-      let calls = quiet-call root w me pick stage quiet in
       inside_law pick t at.3 (silent_counts w small root me (k ∷ q) stage at (λ n o. silent n (user_at (k ∷ q)) o))
-      (λ p n e free. by t.mode at.4 p n (call_row-like (cut-like w nester slot plain) k q p pick stage e (alike p e free)))
+      (λ p n e free. by t.mode at.4 p n (alike p e free))
       (rw (at_stage pick stage at.1 at.2 t t.mode at.4) calls.quiet)
     where
       by : (mode : Mode) → mode ≡ Calling (stage ∷ at.1) at.2 → (p : Option Path) (n : ℕ) → AlikeHere (call_row small (user_at (k ∷ q)) p stage) (call_row w (user_at me) pick stage) →
           AlikeHere (own_stage small (k ∷ q) p n mode (goes_on small (k ∷ q) p (seen_thread see at.0) mode)) (goes_on w me pick at.0 mode) × AlikeHere (goes_on small (k ∷ q) p (seen_thread see at.0) mode) (goes_on w me pick at.0 mode)
       by mode e p n h = rw e (rw (silent n (user_at (k ∷ q)) (call_row small (user_at (k ∷ q)) p stage), call_closed small (k ∷ q) p stage) h, h)
+
+  pub stage_inside : (pick : Option Path) (stage : Stage) → IsAtStage w me stage → ((n : ℕ) (c : Caller) (o : Outcome) → outside_row small c n stage o ≡ o) →
+      ((p : Option Path) → is_none p ≡ is_none pick → is_frozen w root ≡ false → AlikeHere (stage_row small (user_at (k ∷ q)) p stage) (stage_row w (user_at me) pick stage)) →
+      Quiet root (stage_row w (user_at me) pick stage) → KeepsCut w nester slot (moves me pick)
+  stage_inside pick stage at silent alike quiet =
+      call_inside pick stage at silent (λ p e free. call_row-like (cut-like w nester slot plain) k q p pick stage e (alike p e free)) (quiet-call root w me pick stage quiet)
 
 -- ---- a thread inside stands beneath the root
 

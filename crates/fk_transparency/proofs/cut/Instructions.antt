@@ -22,13 +22,13 @@ use Rattle.fk_model.specs.Cut.{ports_of, cut_ptr, cut, IsPlain}
 use Rattle.fk_model.specs.Further.{talks_outside, own_stage, counted, onward_row}
 use Rattle.fk_model.specs.Further.Onward.{Own}
 use Rattle.fk_model.specs.Rebind.{rebound_ptr, rebound}
-use Rattle.fk_transparency.specs.RebindLaws.{InstructionRebinds}
-use Rattle.fk_transparency.proofs.likeness.Memory.{root_seen}
-use Rattle.fk_transparency.proofs.rebinding.Rebound.{no_thread, row_anew}
 use Rattle.fk_model.specs.Seen.{Seen, caller_stage, IsSeen}
+use Rattle.fk_transparency.specs.RebindLaws.{InstructionRebinds}
 use Rattle.fk_transparency.specs.CutLaws.{HasDone, KeepsCut, moves, IsRunning, InstructionKeepsCut}
 use Rattle.fk_transparency.specs.Likeness.{seen_thread}
 use Rattle.fk_transparency.specs.LikeChanges.{IsLikeOutcome}
+use Rattle.fk_transparency.proofs.likeness.Memory.{root_seen}
+use Rattle.fk_transparency.proofs.rebinding.Rebound.{no_thread, row_anew}
 use Rattle.fk_transparency.proofs.likeness.Instances.{cut-like}
 use Rattle.fk_transparency.proofs.likeness.Rows.{run_row-like}
 use Rattle.fk_transparency.proofs.cut.Inside.{Quiet, quiet-goes, quiet-when, quiet-with_pick, with_pick-like, inside_law, thread_beneath, unsent_counts}

@@ -31,11 +31,12 @@ use Rattle.fk_model.specs.Further.Touch.{PageTaken}
 use Rattle.fk_model.specs.Further.Onward.{ByOthers}
 use Rattle.fk_model.specs.Seen.{Seen, drops_page, on_place, is_page_row, stage_touch, writes_inside, sends_out, outer_touch, row_of, seen_row, IsSeen}
 use Rattle.fk_model.specs.Seen.Seen.{Onwards, Unseen, Other}
+use Rattle.fk_model.proofs.walks.PlaceLaws.{strip_some}
 use Rattle.fk_transparency.specs.CutLaws.{HasDone, KeepsCut, IsAtStage, moves, StageKeepsCut, IsPageTake}
 use Rattle.fk_transparency.specs.LikeChanges.{LikeChanges}
 use Rattle.fk_transparency.specs.LikeChanges.LikeChange.{DropsPage}
 use Rattle.fk_transparency.specs.LikeChanges.LikeChanges.{Empty, Both, Beyond}
-use Rattle.fk_model.proofs.walks.PlaceLaws.{strip_some}
+use Rattle.fk_transparency.specs.RebindLaws.{StageRebinds}
 use Rattle.fk_transparency.proofs.likeness.Instances.{cut-like}
 use Rattle.fk_transparency.proofs.likeness.Holds.{strip_none}
 use Rattle.fk_transparency.proofs.likeness.ChangeLists.{changes-like, cut-changes}
@@ -43,7 +44,6 @@ use Rattle.fk_transparency.proofs.cut.Plain.{AreQuiet, changes-clear, clear-plai
 use Rattle.fk_transparency.proofs.cut.Inside.{Quiet, quiet->>=, quiet-when, quiet-done, quiet-call, stage_inside, inside_stages}
 use Rattle.fk_transparency.proofs.cut.Outside.{stepped-plain, stage_outcome, stage_called}
 use Rattle.fk_transparency.proofs.cut.Rows.{quiet-own_page}
-use Rattle.fk_transparency.specs.RebindLaws.{StageRebinds}
 use Rattle.fk_transparency.proofs.rebinding.Rebound.{own_rebinds}
 use Rattle.fk_transparency.proofs.likeness.ObjectRows.{page_take-like}
 

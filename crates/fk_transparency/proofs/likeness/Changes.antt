@@ -11,9 +11,9 @@ use Rattle.fk_model.specs.World.Edit.{Proceed, SetPointer, SetHolder, SetTalk, S
 use Rattle.fk_model.specs.Readers.{kind_at}
 use Rattle.fk_model.specs.Valid.{kind_there}
 use Rattle.fk_model.specs.Cut.{seen_by, unheld}
+use Rattle.fk_model.proofs.walks.PlaceLaws.{same_path_eq, same_path_sym, same_path_above, same_path_cancel, same_path_outside}
 use Rattle.fk_transparency.specs.Likeness.{seeing, HasLikeness, IsPlainBody, IsLikeness}
 use Rattle.fk_transparency.specs.LikeChanges.{seen_edit, IsSeenEdit, IsOutside}
-use Rattle.fk_model.proofs.walks.PlaceLaws.{same_path_eq, same_path_sym, same_path_above, same_path_cancel, same_path_outside}
 use Rattle.fk_transparency.proofs.likeness.Pointers.{all_in_body, ptr_moved}
 use Rattle.fk_transparency.proofs.likeness.Holds.{strip_none}
 use Rattle.fk_transparency.proofs.likeness.Edits.{kind-edited, IsAtPort, IsGood, edited-seen, edited-kept}

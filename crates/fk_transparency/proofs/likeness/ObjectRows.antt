@@ -1,13 +1,13 @@
 -- More rows that act alike in a likeness: new objects, references, records, holds.
 use Rattle.std.proofs.Common.{◌≡◌, ℕ, ◌%◌, eqb, leb, Bool, true, false, cond, not, ◌&&◌, ◌||◌, List, [], ◌∷◌, ◌++◌, Option, Some, None, is_some, refl, sym, ap}
 use Rattle.std.specs.List.{list_any}
+use Rattle.std.specs.Prelude.{replicate}
 use Rattle.fk_model.specs.declared.limits.TheConstants.{PAGE_WORDS, LAST_USER_SLOT}
 use Rattle.fk_model.specs.declared.statuses.status.TheConstants as status
 use Rattle.fk_model.specs.Places.{Path, same_path, is_within, Ptr}
 use Rattle.fk_model.specs.Places.Ptr.{Null, At}
 use Rattle.fk_model.specs.Objects.{Thread, Body, space_of, reference_of, is_served}
 use Rattle.fk_model.specs.Objects.Mode.{Running}
-use Rattle.std.specs.Prelude.{replicate}
 use Rattle.fk_model.specs.Objects.Body.{Mutex, Cond, Mapping, Region, Port, Portset, Space, Thread_of, Reference}
 use Rattle.fk_model.specs.World.{World, Change, apply}
 use Rattle.fk_model.specs.World.Change.{Alter, Move}
@@ -25,6 +25,7 @@ use Rattle.fk_model.specs.SpaceRows.{has_porter, is_held_by_other, space_hold, i
 use Rattle.fk_model.specs.LinkRows.{user_at}
 use Rattle.fk_model.specs.ObjectRows.{new_object, create, pointer_to, point, rename}
 use Rattle.fk_model.specs.Cut.{seen_by}
+use Rattle.fk_model.proofs.walks.PlaceLaws.{same_path_cancel}
 use Rattle.fk_transparency.specs.Likeness.{seeing, HasLikeness, IsPlainBody, IsLikeness, under, AlikeResults, AlikeOptions, IsSeenAs, IsSeenHolder, EndLikeness}
 use Rattle.fk_transparency.specs.Likeness.PtrLikeness.{Nulls, Inside}
 use Rattle.fk_transparency.specs.Likeness.EndLikeness.{Ends}
@@ -32,7 +33,6 @@ use Rattle.fk_transparency.specs.LikeChanges.{LikeChange, LikeChanges, IsLikeOut
 use Rattle.fk_transparency.specs.LikeChanges.LikeChange.{Alters, Makes, MakesSpace, Moves, PutsPage, DropsPage}
 use Rattle.fk_transparency.specs.LikeChanges.LikeChanges.{Empty, Both}
 use Rattle.fk_transparency.proofs.likeness.Alike.{alike_same, alike_if, alike_or_refuse, alike-holds}
-use Rattle.fk_model.proofs.walks.PlaceLaws.{same_path_cancel}
 use Rattle.fk_transparency.proofs.likeness.Reads.{place-like, anything_in-like, reference_in-like, space_in-like, object_in-like}
 use Rattle.fk_transparency.proofs.likeness.Memory.{words_at-like}
 use Rattle.fk_transparency.proofs.likeness.Holds.{holder_of-like, is_held_by_other-like, is_frozen_for-like}
@@ -158,7 +158,7 @@ module _ {root : Path} {see : Ptr → Ptr} {small big : World} (like : IsLikenes
   copies-like c space page true words s own = done-like like c _ _ [] (Both (PutsPage s own words) (Both (DropsPage space page) Empty))
   copies-like c space page false words s own = done-like like c _ _ [] (Both (PutsPage s own words) Empty)
 
-  copies_home-like : (c : Caller) (space : Path) (page : ℕ) (drops : Bool) (s : Path) (own : ℕ) → Alike (copies_home small c space page drops s own) (copies_home big (under root c) (space ++ root) page drops (s ++ root) own)
+  pub copies_home-like : (c : Caller) (space : Path) (page : ℕ) (drops : Bool) (s : Path) (own : ℕ) → Alike (copies_home small c space page drops s own) (copies_home big (under root c) (space ++ root) page drops (s ++ root) own)
   copies_home-like c space page drops s own =
       bind_same like (or_refuse status.NONE (small.page space page)) (or_refuse status.NONE (big.page (space ++ root) page)) _ _
       (alike_or_refuse ◌≡◌ status.NONE (small.page space page) (big.page (space ++ root) page) (alike_same (small.page space page) (big.page (space ++ root) page) (like.pages space page)))

@@ -46,7 +46,7 @@ module _ {root : Path} {see : Ptr → Ptr} {small big : World} (like : IsLikenes
 
   -- ---- a stop
 
-  thread_by-like : (c : Caller) (h : ℕ) → AlikeResults (EndLikeness root see big) (thread_by_handle small c h) (thread_by_handle big (under root c) h)
+  pub thread_by-like : (c : Caller) (h : ℕ) → AlikeResults (EndLikeness root see big) (thread_by_handle small c h) (thread_by_handle big (under root c) h)
   thread_by-like c h =
       alike_and_read (IsSeenHandle root see big kinds.Thread) (EndLikeness root see big) (handle small c kinds.Thread h) (handle big (under root c) kinds.Thread h) _ _ (handle-like like c kinds.Thread h)
       (λ seen p is. rw is.0 (alike_or_refuse (EndLikeness root see big) status.WRONGKIND (thread_led_to small (see p)) (thread_led_to big p) (thread_at-like like p (see p) is.1)))

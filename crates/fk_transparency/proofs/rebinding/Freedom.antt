@@ -16,11 +16,11 @@ use Rattle.fk_model.specs.Holds.{decider, is_frozen, is_frozen_for, leads_to_fro
 use Rattle.fk_model.specs.Freezing.{body_pointers, changed_pointers, made_pointers, are_unfrozen, is_in_set, is_swept, talk_lost, fault_lost, lost_with, may_be_swept, may_follow, IsAllowed, AreAllowed}
 use Rattle.fk_model.specs.Cut.{is_out, seen_by}
 use Rattle.fk_model.specs.Rebind.{rebound_ptr, rebound}
+use Rattle.fk_model.proofs.walks.PlaceLaws.{strip-append}
 use Rattle.fk_transparency.specs.Likeness.{seeing, seen_peer, seen_talk, seen_fault, IsLikeness, IsCutWorld}
 use Rattle.fk_transparency.specs.LikeChanges.{seen_edit, IsSeenEdit, LikeChange, LikeChanges, IsOutside}
 use Rattle.fk_transparency.specs.LikeChanges.LikeChange.{Alters, AltersOut, Makes, MakesSpace, Kills, Moves, PutsPage, DropsPage}
 use Rattle.fk_transparency.specs.LikeChanges.LikeChanges.{Empty, Both, Beyond}
-use Rattle.fk_model.proofs.walks.PlaceLaws.{strip-append}
 use Rattle.fk_transparency.proofs.likeness.Instances.{rebound-like}
 use Rattle.fk_transparency.proofs.likeness.Memory.{root_seen}
 use Rattle.fk_transparency.proofs.likeness.Holds.{is_frozen_for-like}

@@ -24,11 +24,11 @@ use Rattle.fk_model.specs.Moves.{stage_row, is_for_porters, chooses, closed, cal
 use Rattle.fk_model.specs.Cut.{is_out}
 use Rattle.fk_model.specs.Further.{is_outside, takes_words, sends_outside, passes_outside, talks_outside, outside_row, own_row, counted, onward_row}
 use Rattle.fk_model.specs.Further.Onward.{Own}
+use Rattle.fk_model.specs.Rebind.{rebound_ptr, rebound}
 use Rattle.fk_transparency.specs.CutLaws.{IsAtStage, IsServerSend, IsServerOver, IsClientSend, IsClientOver}
 use Rattle.fk_transparency.specs.Likeness.{seen_talk, seen_thread, IsLikeness, IsCutWorld, ServesNobodyOutside, IsBeneath, AlikeOptions, IsSeenTalk}
 use Rattle.fk_transparency.specs.LikeChanges.LikeChange.{Alters}
 use Rattle.fk_transparency.specs.LikeChanges.LikeChanges.{Empty, Both}
-use Rattle.fk_model.specs.Rebind.{rebound_ptr, rebound}
 use Rattle.fk_transparency.specs.RebindLaws.{RebindsTo, StageRebinds}
 use Rattle.fk_transparency.proofs.likeness.Instances.{rebound-like}
 use Rattle.fk_transparency.proofs.likeness.Memory.{root_space, root_seen, words_at-like}

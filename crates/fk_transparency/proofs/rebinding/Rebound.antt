@@ -21,12 +21,12 @@ use Rattle.fk_model.specs.Cut.{is_out}
 use Rattle.fk_model.specs.Further.{Onward, Told, talks_outside, own_stage, goes_out, counted, onward_row, ends_told, told_fault, told_by_change, told_by_said, told_by, OnwardTo}
 use Rattle.fk_model.specs.Further.Onward.{Own}
 use Rattle.fk_model.specs.Further.Told.{ToldEnd, ToldFault}
+use Rattle.fk_model.specs.Rebind.{rebound_ptr, rebound, rebound_told}
 use Rattle.fk_transparency.specs.CutLaws.{IsAtStage}
 use Rattle.fk_transparency.specs.Likeness.{seeing, seen_fault, seen_thread, IsLikeness, IsCutWorld, AlikeOptions, IsSeenTalk, IsSeenThread}
 use Rattle.fk_transparency.specs.LikeChanges.{seen_edit, LikeChange, LikeChanges, IsLikeOutcome}
 use Rattle.fk_transparency.specs.LikeChanges.LikeChange.{Alters, AltersOut, Makes, MakesSpace, Kills, Moves, PutsPage, DropsPage}
 use Rattle.fk_transparency.specs.LikeChanges.LikeChanges.{Empty, Both, Beyond}
-use Rattle.fk_model.specs.Rebind.{rebound_ptr, rebound, rebound_told}
 use Rattle.fk_transparency.specs.RebindLaws.{RebindsTo, StageRebinds}
 use Rattle.fk_transparency.proofs.likeness.Instances.{rebound-like}
 use Rattle.fk_transparency.proofs.likeness.Memory.{root_seen}

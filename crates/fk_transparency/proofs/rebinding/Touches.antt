@@ -1,10 +1,10 @@
 -- The law of rebinding for what the outside does to a subtree: with other outward ports it is done in the same way.
 use Rattle.std.proofs.Common.{◌≡◌, ℕ, ◌%◌, eqb, leb, ltb, min, Bool, true, false, cond, ◌&&◌, List, [], ◌∷◌, ◌++◌, map, length, Option, Some, None, is_none, is_some, option_map, refl, sym, ap, subst, ◌∙◌, append-nil}
 use Rattle.std.proofs.lemmas.Bool.{and_parts}
-use Rattle.fk_model.specs.Searches.{fault_at, thread_at}
 use Rattle.fk_model.specs.declared.limits.TheConstants.{PAGE_WORDS, BLOCK_WORDS}
 use Rattle.fk_model.specs.declared.statuses.status.TheConstants.{FULL, ENDED}
 use Rattle.fk_model.specs.declared.thread.Turn.TheVariants as turns
+use Rattle.fk_model.specs.Searches.{fault_at, thread_at}
 use Rattle.fk_model.specs.Places.{Path, Ptr}
 use Rattle.fk_model.specs.Places.Ptr.{Outside}
 use Rattle.fk_model.specs.Objects.{Peer, Talk, Fault, Thread, Body, space_of, and_then, holds}
@@ -24,11 +24,11 @@ use Rattle.fk_model.specs.Cut.{is_out, seen_by, unheld}
 use Rattle.fk_model.specs.Further.{Touch, Told, is_outside, on_found, is_outside_talk, taken_at, if_awaiting, given_at, given_to, left_by_peer, fault_taken_outside, done_fault, touch_row, onward_row, OnwardTo}
 use Rattle.fk_model.specs.Further.Touch.{Taken, Given, Filled, Handed, Left, FaultTaken, FaultDone, PageGiven, PageTaken}
 use Rattle.fk_model.specs.Further.Onward.{ByOthers}
+use Rattle.fk_model.specs.Rebind.{rebound_ptr, rebound, rebound_told}
 use Rattle.fk_transparency.specs.Likeness.{seeing, seen_peer, seen_talk, seen_fault, seen_thread, IsLikeness, IsCutWorld, AlikeOptions, IsSeenAs, IsSeenThread}
 use Rattle.fk_transparency.specs.LikeChanges.{LikeChanges, IsLikeOutcome, HasFaultSeen}
 use Rattle.fk_transparency.specs.LikeChanges.LikeChange.{Alters, AltersOut, PutsPage, DropsPage}
 use Rattle.fk_transparency.specs.LikeChanges.LikeChanges.{Empty, Both}
-use Rattle.fk_model.specs.Rebind.{rebound_ptr, rebound, rebound_told}
 use Rattle.fk_transparency.specs.RebindLaws.{TouchRebinds}
 use Rattle.fk_transparency.proofs.likeness.Instances.{rebound-like}
 use Rattle.fk_transparency.proofs.likeness.Memory.{root_space, root_seen, words_at-like}

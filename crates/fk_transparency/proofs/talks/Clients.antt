@@ -27,14 +27,14 @@ use Rattle.fk_model.specs.Moves.{stage_row, is_for_porters, chooses, with_pick, 
 use Rattle.fk_model.specs.Cut.{is_out}
 use Rattle.fk_model.specs.Further.{is_outside, counted, takes_words, sends_outside, passes_outside, talks_outside}
 use Rattle.fk_model.specs.Seen.{count_set, writes_inside, only_fills, leads_out}
+use Rattle.fk_model.proofs.walks.PlaceLaws.{same_path_refl, strip_some, strip-append}
+use Rattle.fk_laws.proofs.Frame.{or_off}
 use Rattle.fk_transparency.specs.Likeness.{seen_peer, seen_talk, PtrLikeness, HasLikeness, IfServer, AllInTalk, IsLikeness, IsOuter, AlikeOptions, IsSeenTalk, ReachLikeness}
 use Rattle.fk_transparency.specs.Likeness.PtrLikeness.{Nulls, Deads, Inside, PortAt, PortOut}
 use Rattle.fk_transparency.specs.Likeness.ReachLikeness.{Homes, Misses, Bads}
 use Rattle.fk_transparency.specs.LikeChanges.{LikeChanges, IsLikeOutcome, IsLikeUnlessWaiting}
 use Rattle.fk_transparency.specs.LikeChanges.LikeChange.{Alters}
 use Rattle.fk_transparency.specs.LikeChanges.LikeChanges.{Empty, Both, Beyond}
-use Rattle.fk_laws.proofs.Frame.{or_off}
-use Rattle.fk_model.proofs.walks.PlaceLaws.{same_path_refl, strip_some, strip-append}
 use Rattle.fk_transparency.proofs.likeness.Memory.{reach_word-like, words_at-like}
 use Rattle.fk_transparency.proofs.likeness.Talks.{talk_at-like}
 use Rattle.fk_transparency.proofs.likeness.Outcomes.{append-like, unless_waiting}

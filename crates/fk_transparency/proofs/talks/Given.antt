@@ -37,16 +37,16 @@ use Rattle.fk_model.specs.Cut.{is_out, ports_of, cut_ptr, cut, IsPlain}
 use Rattle.fk_model.specs.Further.{Touch, Onward, Told, if_awaiting, given_to, filled_at, touch_row, IsOnward}
 use Rattle.fk_model.specs.Further.Touch.{Given, Filled}
 use Rattle.fk_model.specs.Further.Onward.{ByOthers}
-use Rattle.fk_transparency.specs.CutLaws.{HasDone, KeepsCut, IsAtStage, moves, IsServerSend, StageKeepsCut}
 use Rattle.fk_model.specs.Seen.Seen.{Onwards, Unseen, Other}
 use Rattle.fk_model.specs.Seen.{Seen, count_set, page_put, fills, given_by, given_of, received_words, on_inner, IsSeen}
+use Rattle.fk_model.proofs.walks.PlaceLaws.{same_path_eq, same_path_refl, strip-append}
+use Rattle.fk_transparency.specs.CutLaws.{HasDone, KeepsCut, IsAtStage, moves, IsServerSend, StageKeepsCut}
 use Rattle.fk_transparency.specs.Likeness.{seen_thread, PtrLikeness, ReachLikeness}
 use Rattle.fk_transparency.specs.Likeness.PtrLikeness.{Nulls, Deads, Inside, PortAt, PortOut}
 use Rattle.fk_transparency.specs.Likeness.ReachLikeness.{Homes, Misses, Bads}
 use Rattle.fk_transparency.specs.LikeChanges.{LikeChanges}
 use Rattle.fk_transparency.specs.LikeChanges.LikeChange.{Alters, PutsPage}
 use Rattle.fk_transparency.specs.LikeChanges.LikeChanges.{Empty, Both, Beyond}
-use Rattle.fk_model.proofs.walks.PlaceLaws.{same_path_eq, same_path_refl, strip-append}
 use Rattle.fk_transparency.proofs.likeness.Instances.{cut-like}
 use Rattle.fk_transparency.proofs.likeness.Memory.{reach_word-like, words_at-like}
 use Rattle.fk_transparency.proofs.likeness.Holds.{strip_none, is_free-like, unheld-free}

@@ -32,11 +32,11 @@ use Rattle.fk_model.specs.Further.Touch.{Handed}
 use Rattle.fk_model.specs.Further.Onward.{ByOthers}
 use Rattle.fk_model.specs.Seen.{Seen, passes_turn, on_inner, IsSeen}
 use Rattle.fk_model.specs.Seen.Seen.{Onwards, Unseen, Other}
+use Rattle.fk_model.proofs.walks.PlaceLaws.{strip-append}
 use Rattle.fk_transparency.specs.CutLaws.{HasDone, KeepsCut, IsAtStage, moves, IsServerOver, StageKeepsCut}
 use Rattle.fk_transparency.specs.Likeness.{seen_thread}
 use Rattle.fk_transparency.specs.LikeChanges.LikeChange.{Alters}
 use Rattle.fk_transparency.specs.LikeChanges.LikeChanges.{Empty, Both, Beyond}
-use Rattle.fk_model.proofs.walks.PlaceLaws.{strip-append}
 use Rattle.fk_transparency.proofs.likeness.Instances.{cut-like}
 use Rattle.fk_transparency.proofs.likeness.Holds.{strip_none, is_free-like, unheld-free}
 use Rattle.fk_transparency.proofs.cut.Inside.{thread_seen, thread_beneath}

@@ -28,11 +28,11 @@ use Rattle.fk_model.specs.Further.Touch.{Handed}
 use Rattle.fk_model.specs.Further.Onward.{ByOthers}
 use Rattle.fk_model.specs.Seen.{given_of, on_inner, outer_touch, row_of}
 use Rattle.fk_model.specs.Seen.Seen.{Onwards, Unseen, Other}
+use Rattle.fk_model.proofs.walks.PlaceLaws.{strip-append, leads_to_at}
 use Rattle.fk_transparency.specs.CutLaws.{GiveKeepsCut, OverKeepsCut}
 use Rattle.fk_transparency.specs.Likeness.{seen_thread}
 use Rattle.fk_transparency.specs.LikeChanges.LikeChange.{Alters}
 use Rattle.fk_transparency.specs.LikeChanges.LikeChanges.{Empty, Both}
-use Rattle.fk_model.proofs.walks.PlaceLaws.{strip-append, leads_to_at}
 use Rattle.fk_transparency.proofs.likeness.Instances.{cut-like}
 use Rattle.fk_transparency.proofs.likeness.Holds.{strip_none, is_free-like, unheld-free}
 use Rattle.fk_transparency.proofs.likeness.Servers.{find_some}

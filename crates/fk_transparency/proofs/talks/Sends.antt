@@ -6,6 +6,7 @@ use Rattle.fk_model.specs.declared.stage.Stage.{Stage}
 use Rattle.fk_model.specs.declared.stage.Stage.TheVariants.{ServerSend, ServerOver}
 use Rattle.fk_model.specs.declared.thread.Turn.{Turn}
 use Rattle.fk_model.specs.declared.thread.Turn.TheVariants as turns
+use Rattle.fk_model.specs.declared.statuses.status.TheConstants.{DENIED}
 use Rattle.fk_model.specs.Places.{Path, strip, is_within, parent, slot_of, Ptr}
 use Rattle.fk_model.specs.Objects.{Mode, Peer, Thread}
 use Rattle.fk_model.specs.Objects.Peer.{Server, Service, Parked}
@@ -24,16 +25,15 @@ use Rattle.fk_model.specs.Talks.{Line, receiving, other_side, thread_led_to, is_
 use Rattle.fk_model.specs.TransferRows.{overwritten, block, has_sent, moved_words, sends_into, sends_to_thread, sends_to, sends, send, passes, passes_to_thread, passes_to, over}
 use Rattle.fk_model.specs.LinkRows.{user_at}
 use Rattle.fk_model.specs.Moves.{stage_row, is_for_porters, chooses, with_pick, closed, call_row, goes_on, outcome, GoesAllowed, stepped, step}
-use Rattle.fk_model.specs.declared.statuses.status.TheConstants.{DENIED}
 use Rattle.fk_model.specs.Cut.{ports_of, cut_ptr, cut, IsPlain}
 use Rattle.fk_model.specs.Further.{Onward, Told, talks_outside, outside_row, own_stage, own_move, own_row, counted, onward_row, IsOnward}
 use Rattle.fk_model.specs.Further.Onward.{Own}
 use Rattle.fk_model.specs.Seen.{sends_out, only_fills, writes_inside, words_out, picked_inside, own_of, stage_touch, outer_touch, row_of}
 use Rattle.fk_model.specs.Seen.Seen.{Onwards, Unseen, Other}
+use Rattle.fk_model.proofs.walks.PlaceLaws.{strip-append}
 use Rattle.fk_transparency.specs.CutLaws.{KeepsCut, IsAtStage, moves, IsServerSend, IsServerOver, StageInsideKeepsCut}
 use Rattle.fk_transparency.specs.Likeness.{seen_thread}
 use Rattle.fk_transparency.specs.LikeChanges.{IsLikeOutcome, IsLikeUnlessWaiting}
-use Rattle.fk_model.proofs.walks.PlaceLaws.{strip-append}
 use Rattle.fk_transparency.proofs.likeness.Instances.{cut-like}
 use Rattle.fk_transparency.proofs.likeness.Holds.{strip_none, is_free-like, unheld-free}
 use Rattle.fk_transparency.proofs.likeness.Servers.{client_of-like, cut-served}

@@ -17,10 +17,10 @@ use Rattle.fk_model.specs.Moves.{call_row, stepped}
 use Rattle.fk_model.specs.Cut.{ports_of, cut_ptr, cut, IsPlain}
 use Rattle.fk_model.specs.Whole.{IsWhole}
 use Rattle.fk_model.specs.Seen.{serves_outside, picked_inside}
+use Rattle.fk_model.proofs.walks.PlaceLaws.{same_path_refl, strip-append}
 use Rattle.fk_transparency.specs.CutLaws.{KeepsCut, IsAtStage, moves, IsWait, StageInsideKeepsCut}
 use Rattle.fk_transparency.specs.LikeChanges.LikeChange.{Alters}
 use Rattle.fk_transparency.specs.LikeChanges.LikeChanges.{Empty, Both, Beyond}
-use Rattle.fk_model.proofs.walks.PlaceLaws.{same_path_refl, strip-append}
 use Rattle.fk_transparency.proofs.likeness.Instances.{cut-like}
 use Rattle.fk_transparency.proofs.likeness.ChangeLists.{cut-changes}
 use Rattle.fk_transparency.proofs.likeness.Servers.{is_serving-like, cut-served}

@@ -26,9 +26,9 @@ use Rattle.fk_model.specs.Further.Touch.{Taken, FaultTaken}
 use Rattle.fk_model.specs.Further.Onward.{ByOthers}
 use Rattle.fk_model.specs.Seen.{Seen, on_inner, taken_as, IsSeen}
 use Rattle.fk_model.specs.Seen.Seen.{Onwards, Unseen, Other}
-use Rattle.fk_transparency.specs.CutLaws.{HasDone, KeepsCut, IsAtStage, moves, IsWait, StageOutsideKeepsCut}
 use Rattle.fk_model.proofs.walks.PlaceLaws.{strip-append, strip_some}
 use Rattle.fk_laws.proofs.safety.Talks.{slot-found}
+use Rattle.fk_transparency.specs.CutLaws.{HasDone, KeepsCut, IsAtStage, moves, IsWait, StageOutsideKeepsCut}
 use Rattle.fk_transparency.proofs.likeness.Instances.{cut-like}
 use Rattle.fk_transparency.proofs.likeness.Holds.{strip_none}
 use Rattle.fk_transparency.proofs.waits.Views.{View, view-call, view-when, IsFound, candidate-found, quiet-view, quiet-idle}

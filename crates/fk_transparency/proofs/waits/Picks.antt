@@ -14,10 +14,10 @@ use Rattle.fk_model.specs.Cut.{ports_of, cut_ptr, cut, IsPlain}
 use Rattle.fk_model.specs.Further.{outside_row, own_stage}
 use Rattle.fk_model.specs.Seen.{serves_outside, words_out, picked_inside}
 use Rattle.fk_model.specs.Seen.Seen.{Onwards, Unseen, Other}
+use Rattle.fk_model.proofs.walks.PlaceLaws.{strip-append, strip_some}
 use Rattle.fk_transparency.specs.CutLaws.{KeepsCut, IsAtStage, moves}
 use Rattle.fk_transparency.specs.Likeness.{seen_thread, AlikeOptions, IsBeneath}
 use Rattle.fk_transparency.specs.LikeChanges.{IsLikeOutcome}
-use Rattle.fk_model.proofs.walks.PlaceLaws.{strip-append, strip_some}
 use Rattle.fk_transparency.proofs.cut.Inside.{Quiet, call_closed, own_form, own_row_of, move_alike, silent_counts}
 use Rattle.fk_transparency.proofs.cut.Outside.{stepped-plain, stage_outcome}
 

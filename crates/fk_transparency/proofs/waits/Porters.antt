@@ -1,21 +1,18 @@
 -- The law of the cut for a wait of a porter, which stands outside.
-use Rattle.std.proofs.Common.{◌≡◌, ℕ, Bool, true, false, ◌&&◌, List, ◌∷◌, Option, Some, None, is_some, option_map, Result, Ok, Err, refl}
+use Rattle.std.proofs.Common.{◌≡◌, ℕ, true, false, List, ◌∷◌, Option, Some, None, option_map, Result, Ok, Err, refl}
 use Rattle.fk_model.specs.declared.moves.Ask.TheVariants as asks
 use Rattle.fk_model.specs.declared.statuses.status.TheConstants.{LINKED}
-use Rattle.fk_model.specs.declared.stage.Stage.{Stage}
 use Rattle.fk_model.specs.declared.stage.Stage.TheVariants.{Wait}
 use Rattle.fk_model.specs.Places.{Path, strip, is_within, parent}
-use Rattle.fk_model.specs.Objects.{Thread, Body, thread_of, and_then, holds}
-use Rattle.fk_model.specs.Objects.Body.{Thread_of}
+use Rattle.fk_model.specs.Objects.{Thread, Body, thread_of, and_then}
 use Rattle.fk_model.specs.World.{World}
 use Rattle.fk_model.specs.Searches.{is_serving}
-use Rattle.fk_model.specs.Holds.{is_porter, is_unheld}
-use Rattle.fk_model.specs.Outcomes.{Outcome, ◌>>=◌, refuse, when, Caller, path_of}
+use Rattle.fk_model.specs.Holds.{is_porter}
+use Rattle.fk_model.specs.Outcomes.{Outcome, ◌>>=◌, refuse, Caller, path_of}
 use Rattle.fk_model.specs.Outcomes.Outcome.{Waits}
 use Rattle.fk_model.specs.Readers.{object_in}
 use Rattle.fk_model.specs.LinkRows.{portset_of, wait}
-use Rattle.fk_model.specs.StateRows.{is_native}
-use Rattle.fk_model.specs.Moves.{with_pick, closed, call_row, porter_at, porter_move, outcome, GoesAllowed, step}
+use Rattle.fk_model.specs.Moves.{with_pick, closed, call_row, porter_at, outcome, GoesAllowed, step}
 use Rattle.fk_model.specs.Whole.{IsWhole}
 use Rattle.fk_model.specs.Runs.{Event}
 use Rattle.fk_model.specs.Cut.{IsPlain}
@@ -24,37 +21,13 @@ use Rattle.fk_model.specs.Further.Onward.{ByOthers}
 use Rattle.fk_model.specs.Seen.{Seen, outer_touch, row_of, IsSeen}
 use Rattle.fk_model.specs.Seen.Seen.{Onwards, Unseen, Other}
 use Rattle.fk_transparency.specs.CutLaws.{HasDone, KeepsCut, IsWait, CallKeepsCut}
-use Rattle.fk_model.proofs.walks.PlaceLaws.{strip_some}
 use Rattle.fk_transparency.proofs.likeness.Holds.{strip_none}
 use Rattle.fk_transparency.proofs.waits.Views.{View, view-call, quiet-view}
 use Rattle.fk_transparency.proofs.cut.Inside.{Quiet, quiet-waits}
 use Rattle.fk_transparency.proofs.cut.Outside.{stepped-plain}
+use Rattle.fk_transparency.proofs.cut.Calls.{porter_outside, porter_is}
 use Rattle.fk_transparency.proofs.cut.Pages.{stands_in_slot}
 use Rattle.fk_transparency.proofs.waits.Outside.{touched}
-
--- ---- a porter stands outside
-
-native_there : (v : Option Body) (t : Thread) → and_then thread_of v ≡ Some t → is_porter t.mode ≡ true → holds is_native v ≡ true
-native_there (Some (Thread_of u)) t h porter = let same : u ≡ t = cc in rw same porter
-native_there (Some b) t h porter = cc
-native_there None t h porter = cc
-
-porter_outside : (w : World) (nester : Path) (slot : ℕ) → IsPlain w nester slot → (x : Path) (t : Thread) → and_then thread_of (w.body x) ≡ Some t → is_porter t.mode ≡ true → is_within (slot ∷ nester) x ≡ false
-porter_outside w nester slot plain x t at porter = by (strip (slot ∷ nester) x) refl
-  where
-    by : (o : Option Path) → strip (slot ∷ nester) x ≡ o → is_some o ≡ false
-    by None e = refl
-    by (Some q) e = let here = strip_some (slot ∷ nester) x q e in let native = native_there (w.body x) t at porter in let none : holds is_native (w.body x) ≡ false = rw here (plain.no_porter q) in cc
-
--- a porter's call that is ready
-porter_is : (w : World) (x : Path) (pick : Option Path) (stage : Stage) (words : List ℕ) (o : Option Thread) → GoesAllowed w x (porter_move w x pick stage words o) → (t : Thread) × (o ≡ Some t) × (is_porter t.mode ≡ true) × (porter_move w x pick stage words o ≡ call_row w (porter_at x words) pick stage)
-porter_is w x pick stage words None ready = absurd ready
-porter_is w x pick stage words (Some t) ready = by (is_porter t.mode) (is_unheld w (parent x)) refl ready
-  where
-    by : (a b : Bool) → is_porter t.mode ≡ a → GoesAllowed w x (when (a && b) (call_row w (porter_at x words) pick stage)) → (u : Thread) × (Some t ≡ Some u) × (is_porter u.mode ≡ true) × (when (a && b) (call_row w (porter_at x words) pick stage) ≡ call_row w (porter_at x words) pick stage)
-    by true true e ready = (t, refl, e, refl)
-    by true false e ready = absurd ready
-    by false b e ready = absurd ready
 
 -- ---- its wait
 

@@ -15,12 +15,12 @@ use Rattle.fk_model.specs.Cut.{is_out, is_inner_peer, ports_of, cut_ptr, cut, Is
 use Rattle.fk_model.specs.Further.{Onward, Told, touch_row, IsOnward}
 use Rattle.fk_model.specs.Further.Touch.{Taken, FaultTaken}
 use Rattle.fk_model.specs.Further.Onward.{ByOthers}
+use Rattle.fk_model.proofs.walks.PlaceLaws.{strip-append}
 use Rattle.fk_transparency.specs.Likeness.{seen_peer, seen_thread, PtrLikeness, HasLikeness, AlikeOptions, IsSeenAs, IsSeenThread, AllInTalk, AllInFault}
 use Rattle.fk_transparency.specs.Likeness.PtrLikeness.{Nulls, Deads, Inside, PortAt, PortOut}
 use Rattle.fk_transparency.specs.LikeChanges.{seen_edit, LikeChanges, IsOutside, HasFaultSeen}
 use Rattle.fk_transparency.specs.LikeChanges.LikeChange.{Alters, AltersOut}
 use Rattle.fk_transparency.specs.LikeChanges.LikeChanges.{Empty, Both, Beyond}
-use Rattle.fk_model.proofs.walks.PlaceLaws.{strip-append}
 use Rattle.fk_transparency.proofs.likeness.Instances.{cut-like}
 use Rattle.fk_transparency.proofs.likeness.Holds.{is_free-like, is_unheld-like, root_unfrozen, unheld-free}
 use Rattle.fk_transparency.proofs.likeness.Talks.{thread_there-like}
