@@ -92,8 +92,10 @@ thread_parts x t h = or_off _ _ (sym (list_any-append (leads_to x) (option_list 
 
 pub unswept : (x : Path) (f : Sweep) → Leaves x f → (q : Path) (v : Option Body) → is_swept x q v ≡ false → option_map (through f q) v ≡ v
 unswept x f leaves q None h = refl
-unswept x f leaves q (Some (Mapping m)) h = ap (λ (p : Ptr). Some (Mapping (record m { region = p }))) (leaves.pointer m.region (one_apart x m.region (or_off _ false h).0))
-unswept x f leaves q (Some (Region r)) h = ap (λ (p : Ptr). Some (Region (record r { keeper = p }))) (leaves.pointer r.keeper (one_apart x r.keeper (or_off _ false h).0))
+unswept x f leaves q (Some (Mapping m)) h =
+    ap (λ (p : Ptr). Some (Mapping (record m { region = p }))) (leaves.pointer m.region (one_apart x m.region (or_off _ false h).0))
+unswept x f leaves q (Some (Region r)) h =
+    ap (λ (p : Ptr). Some (Region (record r { keeper = p }))) (leaves.pointer r.keeper (one_apart x r.keeper (or_off _ false h).0))
 unswept x f leaves q (Some (Port set served)) h = ap (λ (o : Option ℕ). Some (Port o served)) (set_stays x f leaves q set h)
 unswept x f leaves q (Some (Space birth holder)) h = ap (λ (o : Option Ptr). Some (Space birth o)) (holder_stays x f leaves holder (or_off _ false h).0)
 unswept x f leaves q (Some (Thread_of t)) h =
@@ -148,7 +150,8 @@ body_kept : (w : World) (o : Outcome) (q : Path) → name_body w (listed o) q �
 body_kept w (Goes changes said) q h = apply_all-body changes w q h
 body_kept w o q h = refl
 
-pub move_keeps_bodies : (w : World) (x : Path) (pick : Option Path) (ask : Ask) (q : Path) → name_body w (listed (outcome w x pick ask)) q ≡ false → (step w x pick ask).world.body q ≡ w.body q
+pub move_keeps_bodies : (w : World) (x : Path) (pick : Option Path) (ask : Ask) (q : Path) →
+    name_body w (listed (outcome w x pick ask)) q ≡ false → (step w x pick ask).world.body q ≡ w.body q
 unfolding step
 move_keeps_bodies w x pick ask q h = body_kept w (outcome w x pick ask) q h
 
@@ -156,6 +159,7 @@ page_kept : (w : World) (o : Outcome) (s : Path) (page : ℕ) → name_page (lis
 page_kept w (Goes changes said) s page h = apply_all-page changes w s page h
 page_kept w o s page h = refl
 
-pub move_keeps_pages : (w : World) (x : Path) (pick : Option Path) (ask : Ask) (s : Path) (page : ℕ) → name_page (listed (outcome w x pick ask)) s page ≡ false → (step w x pick ask).world.page s page ≡ w.page s page
+pub move_keeps_pages : (w : World) (x : Path) (pick : Option Path) (ask : Ask) (s : Path) (page : ℕ) →
+    name_page (listed (outcome w x pick ask)) s page ≡ false → (step w x pick ask).world.page s page ≡ w.page s page
 unfolding step
 move_keeps_pages w x pick ask s page h = page_kept w (outcome w x pick ask) s page h

@@ -36,7 +36,8 @@ length-registers_of (Halted g code) shaped = shaped
 length-registers_of (Native g) shaped = shaped
 
 state_words-fit : (b : Body) → IsShaped b → length (state_words b) < RECORD_WORDS
-state_words-fit (Thread_of t) shaped = simp length-append (omega (arith, length-registers_of t.mode shaped, length-talk_words t.talk, length-fault_words t.fault))
+state_words-fit (Thread_of t) shaped =
+    simp length-append (omega (arith, length-registers_of t.mode shaped, length-talk_words t.talk, length-fault_words t.fault))
 state_words-fit (Mutex locked) shaped = omega arith
 state_words-fit b shaped = omega arith
 
@@ -72,7 +73,8 @@ mode-read (Native g) shaped user = cc
 abbrev shown : Thread → List ℕ → List ℕ
 shown t g = padded RECORD_WORDS (8 ∷ g ++ (t.counter ∷ mode_number t.mode ∷ halt_code t.mode ∷ t.stops ∷ []) ++ talk_words t.talk ++ fault_words t.fault)
 
-set-shown : (t : Thread) (r : ℕ → ℕ) → set (Thread_of t) (shown t (registers (r 0) r)) ≡ Thread_of (record t { mode = mode_of_record (mode_number t.mode) (registers (r 0) r) (halt_code t.mode) })
+set-shown : (t : Thread) (r : ℕ → ℕ) →
+    set (Thread_of t) (shown t (registers (r 0) r)) ≡ Thread_of (record t { mode = mode_of_record (mode_number t.mode) (registers (r 0) r) (halt_code t.mode) })
 unfolding set edited
 set-shown t r = refl
 
@@ -80,7 +82,8 @@ set-thread : (t : Thread) → IsShapedMode t.mode → is_porter t.mode ≡ false
 unfolding record_of
 set-thread t shaped user =
     let g = registers_of t.mode in
-    subst (λ g. set (Thread_of t) (shown t g) ≡ Thread_of (record t { mode = mode_of_record (mode_number t.mode) g (halt_code t.mode) })) (sixteen g (length-registers_of t.mode shaped)) (set-shown t (λ i. get_or g i 0))
+    subst (λ g. set (Thread_of t) (shown t g) ≡ Thread_of (record t { mode = mode_of_record (mode_number t.mode) g (halt_code t.mode) }))
+    (sixteen g (length-registers_of t.mode shaped)) (set-shown t (λ i. get_or g i 0))
     ∙ ap (λ mode. Thread_of (record t { mode = mode })) (mode-read t.mode shaped user)
 
 pub record_sets_nothing_lem : RecordSetsNothing
@@ -117,7 +120,8 @@ apply_all-edits x [] w = λ i. record { body = λ q. by (same_path q x) (w.body 
 apply_all-edits x (edit ∷ edits) w =
     apply_all-edits x edits (apply (Alter x edit) w) ∙ (λ i. record { body = λ q. by (same_path q x) (w.body q) i; page = w.page; next = w.next })
   where
-    by : (t : Bool) (b : Option Body) → cond t (option_map (edited_by edits) (cond t (option_map (edited edit) b) b)) (cond t (option_map (edited edit) b) b) ≡ cond t (option_map (edited_by (edit ∷ edits)) b) b
+    by : (t : Bool) (b : Option Body) → cond t (option_map (edited_by edits) (cond t (option_map (edited edit) b) b))
+        (cond t (option_map (edited edit) b) b) ≡ cond t (option_map (edited_by (edit ∷ edits)) b) b
     by true None = refl
     by true (Some b) = refl
     by false b = refl
@@ -146,26 +150,31 @@ extent-taken : (first count : ℕ) → IsPageRange first count → is_page_range
 extent-taken first count extent =
     and_from _ _ (and_from _ _ (le-leb 1 count extent.0) (le-leb count PAGES (omega arith))) (le-leb (first + count) PAGES extent.1)
 
-member-taken : (w : World) (space : Path) (served : Bool) (set : Option ℕ) → IsMember w space served set → is_member_word w space served (member_word set) ≡ true
+member-taken : (w : World) (space : Path) (served : Bool) (set : Option ℕ) →
+    IsMember w space served set → is_member_word w space served (member_word set) ≡ true
 member-taken w space served None member = refl
 member-taken w space served (Some k) member =
     rw (sum_is_not_0 k, less_one k, member.0, member.2, le-leb (1 + k) PAGES (omega arith)) refl
 
-mode-taken : (mode : Mode) → IsShapedMode mode → IsCodeInRange mode → is_porter mode ≡ false → is_mode (registers_of mode) (mode_number mode) (halt_code mode) ≡ true
+mode-taken : (mode : Mode) →
+    IsShapedMode mode → IsCodeInRange mode → is_porter mode ≡ false → is_mode (registers_of mode) (mode_number mode) (halt_code mode) ≡ true
 mode-taken (Running g) shaped range user = refl
 mode-taken (Calling todo rest) shaped range user = rw ((words_read_back_lem todo rest shaped.0 shaped.1).0) refl
 mode-taken (Halted g code) shaped range user = and_from _ _ (le-leb code 255 range) (or_right (eqb code 0) true refl)
 mode-taken (Native g) shaped range user = cc
 
-takes-shown : (w : World) (space : Path) (t : Thread) (r : ℕ → ℕ) → takes_state w space (Thread_of t) (shown t (registers (r 0) r)) ≡ (is_mode (registers (r 0) r) (mode_number t.mode) (halt_code t.mode) && leb t.stops MOST_STOPS)
+takes-shown : (w : World) (space : Path) (t : Thread) (r : ℕ → ℕ) → takes_state w
+    space (Thread_of t) (shown t (registers (r 0) r)) ≡ (is_mode (registers (r 0) r) (mode_number t.mode) (halt_code t.mode) && leb t.stops MOST_STOPS)
 unfolding takes_state
 takes-shown w space t r = refl
 
-thread-taken : (w : World) (space : Path) (t : Thread) → IsShapedMode t.mode → IsInRange w space (Thread_of t) → is_porter t.mode ≡ false → takes_state w space (Thread_of t) (record_of (Thread_of t)) ≡ true
+thread-taken : (w : World) (space : Path) (t : Thread) →
+    IsShapedMode t.mode → IsInRange w space (Thread_of t) → is_porter t.mode ≡ false → takes_state w space (Thread_of t) (record_of (Thread_of t)) ≡ true
 unfolding record_of
 thread-taken w space t shaped range user =
     let g = registers_of t.mode in
-    subst (λ g. takes_state w space (Thread_of t) (shown t g) ≡ (is_mode g (mode_number t.mode) (halt_code t.mode) && leb t.stops MOST_STOPS)) (sixteen g (length-registers_of t.mode shaped)) (takes-shown w space t (λ i. get_or g i 0))
+    subst (λ g. takes_state w space (Thread_of t) (shown t g) ≡ (is_mode g (mode_number t.mode) (halt_code t.mode) && leb t.stops MOST_STOPS))
+    (sixteen g (length-registers_of t.mode shaped)) (takes-shown w space t (λ i. get_or g i 0))
     ∙ and_from _ _ (mode-taken t.mode shaped range.1 user) (le-leb t.stops MOST_STOPS range.0)
 
 pub record_is_taken_lem : RecordIsTaken

@@ -19,11 +19,13 @@ use Rattle.fk_model.specs.Valid.{IsValid, is_fit}
 
 -- the registers in which a call's stages and a rest are written show these stages, and this rest
 abbrev pub WordsReadBack : Type 0
-WordsReadBack = (todo : List Stage) (rest : List ℕ) → IsTodo todo → IsRest todo rest → (todo_of (words todo rest) ≡ Some todo) × (rest_of todo (words todo rest) ≡ rest)
+WordsReadBack = (todo : List Stage) (rest : List ℕ) →
+    IsTodo todo → IsRest todo rest → (todo_of (words todo rest) ≡ Some todo) × (rest_of todo (words todo rest) ≡ rest)
 
 -- 16 registers that show stages show those of a call, with a rest; and these, written, are the same registers
 abbrev pub TodoWritesBack : Type 0
-TodoWritesBack = (g : List ℕ) (todo : List Stage) → length g ≡ 16 → todo_of g ≡ Some todo → IsTodo todo × IsRest todo (rest_of todo g) × (words todo (rest_of todo g) ≡ g)
+TodoWritesBack = (g : List ℕ) (todo : List Stage) →
+    length g ≡ 16 → todo_of g ≡ Some todo → IsTodo todo × IsRest todo (rest_of todo g) × (words todo (rest_of todo g) ≡ g)
 
 -- stages are written into as many registers as the rest has
 abbrev pub WordsKeepLength : Type 0
@@ -45,7 +47,8 @@ RecordSetsNothing = (b : Body) → IsShaped b → is_native b ≡ false → set 
 
 -- and so does the world
 abbrev pub RecordChangesNothing : Type 0
-RecordChangesNothing = (w : World) (x : Path) (b : Body) → w.body x ≡ Some b → IsShaped b → is_native b ≡ false → apply_all (map (Alter x) (set_edits b (record_of b))) w ≡ w
+RecordChangesNothing = (w : World) (x : Path) (b : Body) →
+    w.body x ≡ Some b → IsShaped b → is_native b ≡ false → apply_all (map (Alter x) (set_edits b (record_of b))) w ≡ w
 
 -- ---- validity
 

@@ -123,7 +123,8 @@ is_inner_peer root other = false
 -- an outside thread whose talk or fault an inside thread serves
 abbrev pub is_served_by : Path → Option Body → Bool
 is_served_by root body =
-    holds (λ (t : Thread). holds (λ (talk : Talk). is_inner_peer root talk.peer) t.talk || holds (λ (fault : Fault). holds (is_inner_peer root) fault.taker) t.fault) (and_then thread_of body)
+    holds (λ (t : Thread). holds (λ (talk : Talk). is_inner_peer root talk.peer) t.talk
+    || holds (λ (fault : Fault). holds (is_inner_peer root) fault.taker) t.fault) (and_then thread_of body)
 
 pub record IsPlain (w : World) (nester : Path) (slot : ℕ) : Type 0 where
   pub birth : ℕ

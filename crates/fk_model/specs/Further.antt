@@ -71,7 +71,8 @@ is_outside other = false
 -- a peer outside takes at least one word, and no more than the sender's side allows
 abbrev pub takes_words : Caller → Path → Ptr → ℕ → ℕ → ℕ → List ℕ → Outcome
 takes_words c client port taken address count page =
-    when (nat_lt 0 taken && nat_le taken (moved_words address count 0 BLOCK_WORDS)) (has_sent c taken count (Alter client (CountMoved taken) ∷ []) (Words port (block taken address page)))
+    when (nat_lt 0 taken && nat_le taken (moved_words address count 0 BLOCK_WORDS))
+    (has_sent c taken count (Alter client (CountMoved taken) ∷ []) (Words port (block taken address page)))
 
 abbrev pub sends_outside : World → Caller → ℕ → ℕ → ℕ → Line → Outcome
 sends_outside w c taken address count l =
@@ -96,7 +97,9 @@ own_stage w x pick taken other otherwise = otherwise
 
 abbrev pub own_move : World → Path → Option Path → ℕ → Thread → Outcome
 own_move w x pick taken t =
-    if talks_outside w x && is_none pick then when (is_free w (parent x) t) (own_stage w x pick taken t.mode (goes_on w x pick t t.mode)) else user_move w x pick (Some t)
+    if talks_outside w x && is_none pick
+    then when (is_free w (parent x) t) (own_stage w x pick taken t.mode (goes_on w x pick t t.mode))
+    else user_move w x pick (Some t)
 
 abbrev pub own_row : World → Path → Option Path → ℕ → Option Thread → Outcome
 own_row w x pick taken None = Waits
@@ -127,16 +130,19 @@ taken_at w x port = when (is_out port) (Goes (Alter x (SetTalk (Some (new_talk p
 -- a free thread with a talk outside, at the server's turn and at its Receive
 abbrev pub if_awaiting : World → Path → (ℕ × ℕ → Outcome) → Thread → Outcome
 if_awaiting w x go t =
-    when (is_free w (parent x) t && holds (λ (talk : Talk). is_outside_talk talk && same_side talk.turn turns.Server) t.talk) (on_found go (receiving turns.Client t.mode))
+    when (is_free w (parent x) t && holds (λ (talk : Talk). is_outside_talk talk && same_side talk.turn turns.Server) t.talk)
+    (on_found go (receiving turns.Client t.mode))
 
 abbrev pub given_at : World → Path → List ℕ → ℕ → Path → ℕ → Outcome
 given_at w x words into s page =
-    Goes (PutPage s page (overwritten (words_at w s page) (into % PAGE_WORDS) words) ∷ Alter x (CountMoved (length words)) ∷ Alter x (Shift (length words)) ∷ []) Nothing
+    Goes (PutPage s page (overwritten (words_at w s page) (into % PAGE_WORDS) words)
+    ∷ Alter x (CountMoved (length words)) ∷ Alter x (Shift (length words)) ∷ []) Nothing
 
 -- a block that the other side gives: at least one word, and no more than the receiver's side allows
 abbrev pub given_to : World → Path → List ℕ → ℕ × ℕ → Outcome
 given_to w x words receive =
-    when (nat_lt 0 (length words) && nat_le (length words) (min BLOCK_WORDS (min receive.1 (to_page_end receive.0)))) (their_page w (parent x) receive.0 (given_at w x words receive.0))
+    when (nat_lt 0 (length words) && nat_le (length words) (min BLOCK_WORDS (min receive.1 (to_page_end receive.0))))
+    (their_page w (parent x) receive.0 (given_at w x words receive.0))
 
 abbrev pub filled_at : Path → ℕ × ℕ → Outcome
 filled_at x receive = when (receive.1 == 0) (Goes (Alter x (End FULL []) ∷ []) Nothing)
@@ -146,14 +152,17 @@ handed_to x receive = Goes (Alter x (PassTurn turns.Client) ∷ Alter x (Finish 
 
 abbrev pub left_by_peer : Path → Thread → Outcome
 left_by_peer x t =
-    when (holds is_outside_talk t.talk) (Goes ((if is_talking turns.Client t.mode then Alter x (End ENDED []) ∷ [] else []) ++ Alter x (SetTalk None) ∷ []) Nothing)
+    when (holds is_outside_talk t.talk)
+    (Goes ((if is_talking turns.Client t.mode then Alter x (End ENDED []) ∷ [] else []) ++ Alter x (SetTalk None) ∷ []) Nothing)
 
 -- the fault of a thread that isn't held: raised, or taken by someone outside
 abbrev pub fault_taken_outside : World → Path → Thread → Outcome
-fault_taken_outside w x t = when (is_unheld w (parent x) && holds (λ (fault : Fault). is_out fault.port && is_none fault.taker) t.fault) (Goes (Alter x (SetTaker (Some (Server Outside))) ∷ []) Nothing)
+fault_taken_outside w x t = when (is_unheld w (parent x) && holds (λ (fault : Fault). is_out fault.port && is_none fault.taker) t.fault)
+    (Goes (Alter x (SetTaker (Some (Server Outside))) ∷ []) Nothing)
 
 abbrev pub done_fault : World → Path → Thread → Outcome
-done_fault w x t = when (is_unheld w (parent x) && holds (λ (fault : Fault). is_out fault.port && holds is_outside fault.taker) t.fault) (Goes (Alter x (SetFault None) ∷ []) Nothing)
+done_fault w x t = when (is_unheld w (parent x) && holds (λ (fault : Fault). is_out fault.port && holds is_outside fault.taker) t.fault)
+    (Goes (Alter x (SetFault None) ∷ []) Nothing)
 
 unfoldable pub touch_row : World → Touch → Outcome
 touch_row w (Taken x) = on_found (λ (t : Thread). when (is_free w (parent x) t) (on_found (taken_at w x) (connecting_to w x t))) (thread_at w x)
@@ -213,4 +222,5 @@ IsOnward w m told after = OnwardTo w m (onward_row w m) told after
 -- a list of moves is ready, each at its place, tells this, and leaves this
 pub data IsFurther : World → List Onward → List Told → World → Type 0 where
   Still : (c : World) → IsFurther c [] [] c
-  Then : (c d e : World) (m : Onward) (ms : List Onward) (told later : List Told) → IsOnward c m told d → IsFurther d ms later e → IsFurther c (m ∷ ms) (told ++ later) e
+  Then : (c d e : World) (m : Onward) (ms : List Onward) (told later : List Told) →
+      IsOnward c m told d → IsFurther d ms later e → IsFurther c (m ∷ ms) (told ++ later) e

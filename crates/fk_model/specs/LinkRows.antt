@@ -77,13 +77,15 @@ is_open None = true
 is_open (Some peer) = is_parked (Some peer)
 
 abbrev pub faulting : World → Path → ℕ → Thread → Option Candidate
-faulting w space set t = and_then (λ (fault : Fault). if is_open fault.taker then option_map (λ slot. Faulting slot fault) (slot_in_set w space set fault.port) else None) t.fault
+faulting w space set t =
+    and_then (λ (fault : Fault). if is_open fault.taker then option_map (λ slot. Faulting slot fault) (slot_in_set w space set fault.port) else None) t.fault
 
 abbrev pub connecting : World → Path → ℕ → Path → Thread → Option Candidate
 connecting w space set x t = option_map Connecting (and_then (slot_in_set w space set) (connecting_to w x t))
 
 abbrev pub resuming : World → Path → ℕ → Thread → Option Candidate
-resuming w space set t = and_then (λ (talk : Talk). if is_parked (Some talk.peer) then option_map (λ slot. Resuming slot talk) (slot_in_set w space set talk.port) else None) t.talk
+resuming w space set t =
+    and_then (λ (talk : Talk). if is_parked (Some talk.peer) then option_map (λ slot. Resuming slot talk) (slot_in_set w space set talk.port) else None) t.talk
 
 abbrev pub candidate_by : World → Path → ℕ → Path → Thread → Option Candidate
 candidate_by w space set x t =

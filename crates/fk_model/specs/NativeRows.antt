@@ -39,7 +39,8 @@ takes_up port x (Some talk) = Goes (Alter x (SetPeer Service) ∷ []) (Taken (At
 
 abbrev pub accepts_thread : World → Path → Path → Thread → Outcome
 accepts_thread w port x t =
-    if connects_here w port x t then Goes (Alter x (SetTalk (Some (new_talk (At port) Service))) ∷ Alter x (Finish []) ∷ []) (Taken (At port) x false turns.Client 0)
+    if connects_here w port x t
+    then Goes (Alter x (SetTalk (Some (new_talk (At port) Service))) ∷ Alter x (Finish []) ∷ []) (Taken (At port) x false turns.Client 0)
     else takes_up port x (parked_here port t)
 
 abbrev pub accepts_found : World → Path → Path → Option Thread → Outcome
@@ -57,7 +58,8 @@ accept_row w port pick = when (is_serving_port w port && is_none (client_at w po
 -- ---- the client of a server whose turn it is, where it is free and at its Receive
 
 abbrev pub if_receiving : World → Path → (Path → ℕ × ℕ → Outcome) → Thread → Outcome
-if_receiving w x go t = when (is_free w (parent x) t && holds (λ (talk : Talk). same_side talk.turn turns.Server) t.talk) (received (receiving turns.Client t.mode))
+if_receiving w x go t =
+    when (is_free w (parent x) t && holds (λ (talk : Talk). same_side talk.turn turns.Server) t.talk) (received (receiving turns.Client t.mode))
   where
     received : Option (ℕ × ℕ) → Outcome
     received None = Waits
@@ -79,7 +81,8 @@ with_client w port go = when (is_serving_port w port) (client (client_at w port)
 abbrev pub gives_words : World → Path → Path → List ℕ → ℕ → ℕ → Path → ℕ → Outcome
 gives_words w port x words into room s page =
     let k = moved_words 0 (length words) into room in
-    Goes (PutPage s page (overwritten (words_at w s page) (into % PAGE_WORDS) (take k words)) ∷ Alter x (CountMoved k) ∷ Alter x (Shift k) ∷ []) (Given (At port) k)
+    Goes (PutPage s page (overwritten (words_at w s page) (into % PAGE_WORDS) (take k words)) ∷ Alter x (CountMoved k) ∷ Alter x (Shift k) ∷ [])
+    (Given (At port) k)
 
 abbrev pub gives_to : World → Path → List ℕ → Path → ℕ × ℕ → Outcome
 gives_to w port words x receive =

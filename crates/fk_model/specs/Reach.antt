@@ -69,7 +69,8 @@ unfoldable pub reach_within : ℕ → World → Path → ℕ → Bool → Reach
 reach_within zero w s page write =
     at_home (Home s page) (mapped (λ m. Bad) (Missing s page (keeper w s page)) (mapping_at w s page)) (w.page s page)
 reach_within (suc n) w s page write =
-    at_home (Home s page) (mapped (λ m. followed (λ t other. reach_within n w t other write) (led_by w m page write m.region)) (Missing s page (keeper w s page)) (mapping_at w s page)) (w.page s page)
+    at_home (Home s page) (mapped (λ m. followed (λ t other. reach_within n w t other write) (led_by w m page write m.region))
+    (Missing s page (keeper w s page)) (mapping_at w s page)) (w.page s page)
 
 unfoldable pub reach : World → Path → ℕ → Bool → Reach
 reach w s page write = reach_within MAPPINGS w s page write

@@ -100,7 +100,8 @@ set_edits (Region r) words = SetExtent (word words 1) (word words 2) (word words
 set_edits (Port set served) words = SetMember (member_by (word words 1)) ∷ []
 set_edits Portset words = []
 set_edits (Space birth holder) words = []
-set_edits (Thread_of t) words = Proceed (mode_of_record (word words 18) (record_registers words) (word words 19)) (word words 17) ∷ SetStops (word words 20) ∷ []
+set_edits (Thread_of t) words =
+    Proceed (mode_of_record (word words 18) (record_registers words) (word words 19)) (word words 17) ∷ SetStops (word words 20) ∷ []
 set_edits (Reference to) words = []
 
 abbrev pub edited_by : List Edit → Body → Body

@@ -120,7 +120,8 @@ own_of w root x q pick changes =
 
 -- k words from the receiver's address on, out of the page that was put
 abbrev pub received_words : World → Path → ℕ → List ℕ → List ℕ
-received_words w x k page = option_map_or (λ (receive : ℕ × ℕ). block k receive.0 page) (and_then (λ (t : Thread). receiving turns.Client t.mode) (thread_at w x)) []
+received_words w x k page =
+    option_map_or (λ (receive : ℕ × ℕ). block k receive.0 page) (and_then (λ (t : Thread). receiving turns.Client t.mode) (thread_at w x)) []
 
 abbrev pub fills : Path → List Change → Bool
 fills x (Alter y (End status answers) ∷ []) = same_path y x
@@ -160,7 +161,8 @@ stage_touch w root c pick changes ServerOver = if passes_turn changes then on_in
 stage_touch w root c pick changes ServerEnd = if ends_talk changes then on_inner root (λ x q. Some (Left q)) (client_of w (path_of c)) else None
 stage_touch w root c pick changes stages.FaultDone = on_inner root (λ x q. Some (FaultDone q)) (faulter_of w (path_of c))
 stage_touch w root c pick changes (PageGive s page address) = on_place root (λ q. page_given q page (page_put changes)) (space_argument w c s)
-stage_touch w root c pick changes (PageTake s page address) = if drops_page changes then on_place root (λ q. Some (PageTaken q page)) (space_argument w c s) else None
+stage_touch w root c pick changes (PageTake s page address) =
+    if drops_page changes then on_place root (λ q. Some (PageTaken q page)) (space_argument w c s) else None
 stage_touch w root c pick changes other = None
 
 -- ---- native servers

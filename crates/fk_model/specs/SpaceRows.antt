@@ -33,7 +33,8 @@ space_hold w c s x = do
   _ ← object_in w c space_of space x
   _ ← refuse status.HELD (is_frozen_for w (path_of c) space)
   _ ← refuse status.DENIED (is_within (x ∷ space) c.space)
-  when (not (is_held_by_other w (path_of c) (x ∷ space)) && not (list_any (has_porter w) (beneath w (x ∷ space)))) (done c (Alter (x ∷ space) (SetHolder (Some (At (path_of c)))) ∷ []) [])
+  when (not (is_held_by_other w (path_of c) (x ∷ space)) && not (list_any (has_porter w) (beneath w (x ∷ space))))
+      (done c (Alter (x ∷ space) (SetHolder (Some (At (path_of c)))) ∷ []) [])
 
 unfoldable pub space_release : World → Caller → ℕ → ℕ → Outcome
 space_release w c s x = do

@@ -68,7 +68,8 @@ abbrev pub sends_into : World → Caller → Path → Path → ℕ → ℕ → L
 sends_into w c client y address count page None = Waits
 sends_into w c client y address count page (Some receive) =
     if receive.1 == 0 then Goes (Alter y (End FULL []) ∷ []) Nothing
-    else their_page w (parent y) receive.0 (λ t other_page. sends_words c client y (moved_words address count receive.0 receive.1) address count page receive.0 t other_page (words_at w t other_page))
+    else their_page w (parent y) receive.0 (λ t other_page.
+    sends_words c client y (moved_words address count receive.0 receive.1) address count page receive.0 t other_page (words_at w t other_page))
 
 abbrev pub sends_to_thread : World → Caller → Turn → Path → ℕ → ℕ → List ℕ → Option (Path × Thread) → Outcome
 sends_to_thread w c side client address count page None = Waits

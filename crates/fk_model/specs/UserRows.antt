@@ -46,8 +46,10 @@ enters me g counter None = proceeds me (Running (slice_set g 0 BADCALL)) (next c
 abbrev pub performs : (List ℕ → Option (List Stage)) → World → Path → Path → List ℕ → ℕ → Act → Outcome
 performs known w space me g counter (Put register value) = proceeds me (Running (slice_set g register value)) (next counter)
 performs known w space me g counter (Jump to) = proceeds me (Running g) to
-performs known w space me g counter (Load register address) = accessed me false (halts_with me g counter) (loads w me g counter register address) (reach_word w space address false)
-performs known w space me g counter (Store address value) = accessed me true (halts_with me g counter) (stores w me g counter address value) (reach_word w space address true)
+performs known w space me g counter (Load register address) =
+    accessed me false (halts_with me g counter) (loads w me g counter register address) (reach_word w space address false)
+performs known w space me g counter (Store address value) =
+    accessed me true (halts_with me g counter) (stores w me g counter address value) (reach_word w space address true)
 performs known w space me g counter (Halt code) = halts_with me g counter code
 performs known w space me g counter Call = enters me g counter (known g)
 

@@ -87,7 +87,8 @@ ended_in status answers t (Calling todo rest) = at_mode t (Running (with_answers
 ended_in status answers t other = t
 
 abbrev pub finished_in : List ℕ → Thread → Mode → Thread
-finished_in answers t (Calling (stage ∷ next_stage ∷ todo) rest) = at_mode t (Calling (next_stage ∷ todo) (with_answers answers (left_by stage (next_stage ∷ todo) rest))) t.counter
+finished_in answers t (Calling (stage ∷ next_stage ∷ todo) rest) =
+    at_mode t (Calling (next_stage ∷ todo) (with_answers answers (left_by stage (next_stage ∷ todo) rest))) t.counter
 finished_in answers t mode = ended_in OK answers t mode
 
 abbrev pub replaced_in : Stage → Mode → Mode

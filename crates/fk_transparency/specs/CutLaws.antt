@@ -26,7 +26,8 @@ HasDone w nester slot e Other = Unit {0}
 -- the law, for one event
 abbrev pub KeepsCut : World → Path → ℕ → Event → Type 0
 KeepsCut w nester slot e =
-    IsWhole w → IsPlain w nester slot → is_fit w e.mover e.ask ≡ true → IsReady w e.mover e.pick e.ask → (seen : Seen) → IsSeen w nester slot e seen → HasDone w nester slot e seen
+    IsWhole w → IsPlain w nester slot →
+    is_fit w e.mover e.ask ≡ true → IsReady w e.mover e.pick e.ask → (seen : Seen) → IsSeen w nester slot e seen → HasDone w nester slot e seen
 
 -- ---- the kinds of move for which it is proved
 
@@ -39,15 +40,18 @@ moves x pick = record { mover = x; pick = pick; ask = asks.Run }
 
 -- the law for every move of a user thread at such a stage, inside the subtree or outside
 abbrev pub StageKeepsCut : (Stage → Type 0) → Type 0
-StageKeepsCut IsSuch = (w : World) (nester : Path) (slot : ℕ) (x : Path) (pick : Option Path) (stage : Stage) → IsSuch stage → IsAtStage w x stage → KeepsCut w nester slot (moves x pick)
+StageKeepsCut IsSuch = (w : World) (nester : Path) (slot : ℕ) (x : Path) (pick : Option Path) (stage : Stage) →
+    IsSuch stage → IsAtStage w x stage → KeepsCut w nester slot (moves x pick)
 
 -- the law for every move of a user thread inside the subtree that is at such a stage
 abbrev pub StageInsideKeepsCut : (Stage → Type 0) → Type 0
-StageInsideKeepsCut IsSuch = (w : World) (nester : Path) (slot : ℕ) (x : Path) (pick : Option Path) (stage : Stage) → IsSuch stage → is_within (slot ∷ nester) x ≡ true → IsAtStage w x stage → KeepsCut w nester slot (moves x pick)
+StageInsideKeepsCut IsSuch = (w : World) (nester : Path) (slot : ℕ) (x : Path) (pick : Option Path) (stage : Stage) →
+    IsSuch stage → is_within (slot ∷ nester) x ≡ true → IsAtStage w x stage → KeepsCut w nester slot (moves x pick)
 
 -- the law for every move of a user thread outside the subtree that is at such a stage
 abbrev pub StageOutsideKeepsCut : (Stage → Type 0) → Type 0
-StageOutsideKeepsCut IsSuch = (w : World) (nester : Path) (slot : ℕ) (x : Path) (pick : Option Path) (stage : Stage) → IsSuch stage → is_within (slot ∷ nester) x ≡ false → IsAtStage w x stage → KeepsCut w nester slot (moves x pick)
+StageOutsideKeepsCut IsSuch = (w : World) (nester : Path) (slot : ℕ) (x : Path) (pick : Option Path) (stage : Stage) →
+    IsSuch stage → is_within (slot ∷ nester) x ≡ false → IsAtStage w x stage → KeepsCut w nester slot (moves x pick)
 
 -- ---- which stages are meant
 
@@ -134,7 +138,8 @@ InstructionKeepsCut = (w : World) (nester : Path) (slot : ℕ) (x : Path) (pick 
 
 -- the law for every accept of a native server
 abbrev pub AcceptKeepsCut : Type 0
-AcceptKeepsCut = (w : World) (nester : Path) (slot : ℕ) (port : Path) (pick : Option Path) → KeepsCut w nester slot (record { mover = port; pick = pick; ask = asks.Accept })
+AcceptKeepsCut = (w : World) (nester : Path) (slot : ℕ) (port : Path) (pick : Option Path) →
+    KeepsCut w nester slot (record { mover = port; pick = pick; ask = asks.Accept })
 
 -- ---- messages
 
@@ -152,11 +157,13 @@ IsClientOver stage = stage ≡ ClientOver
 
 -- the law for every give of a native server
 abbrev pub GiveKeepsCut : Type 0
-GiveKeepsCut = (w : World) (nester : Path) (slot : ℕ) (port : Path) (pick : Option Path) (words : List ℕ) (len : ℕ) → KeepsCut w nester slot (record { mover = port; pick = pick; ask = asks.Give words len })
+GiveKeepsCut = (w : World) (nester : Path) (slot : ℕ) (port : Path) (pick : Option Path) (words : List ℕ) (len : ℕ) →
+    KeepsCut w nester slot (record { mover = port; pick = pick; ask = asks.Give words len })
 
 -- the law for every Over of a native server
 abbrev pub OverKeepsCut : Type 0
-OverKeepsCut = (w : World) (nester : Path) (slot : ℕ) (port : Path) (pick : Option Path) → KeepsCut w nester slot (record { mover = port; pick = pick; ask = asks.Over })
+OverKeepsCut = (w : World) (nester : Path) (slot : ℕ) (port : Path) (pick : Option Path) →
+    KeepsCut w nester slot (record { mover = port; pick = pick; ask = asks.Over })
 
 -- ---- ends
 
@@ -174,4 +181,5 @@ IsWait stage = (set : ℕ) × (stage ≡ Wait set)
 -- the law for every call of a porter with such a stage. There is no porter in a plain subtree, so it stands outside
 abbrev pub CallKeepsCut : (Stage → Type 0) → Type 0
 CallKeepsCut IsSuch =
-    (w : World) (nester : Path) (slot : ℕ) (x : Path) (pick : Option Path) (stage : Stage) (words : List ℕ) → IsSuch stage → KeepsCut w nester slot (record { mover = x; pick = pick; ask = asks.Call stage words })
+    (w : World) (nester : Path) (slot : ℕ) (x : Path) (pick : Option Path) (stage : Stage) (words : List ℕ) →
+    IsSuch stage → KeepsCut w nester slot (record { mover = x; pick = pick; ask = asks.Call stage words })

@@ -74,7 +74,8 @@ IsOutside root (Move x slot) = ⊥
 -- change by change, each in the world in which it is made; what is outside is left out
 pub data LikeChanges (root : Path) (see : Ptr → Ptr) : World → List Change → List Change → Type 0 where
   Empty : {big : World} → LikeChanges root see big [] []
-  Both : {big : World} {c d : Change} {cs ds : List Change} → LikeChange root see big c d → LikeChanges root see (apply d big) cs ds → LikeChanges root see big (c ∷ cs) (d ∷ ds)
+  Both : {big : World} {c d : Change} {cs ds : List Change} →
+      LikeChange root see big c d → LikeChanges root see (apply d big) cs ds → LikeChanges root see big (c ∷ cs) (d ∷ ds)
   Beyond : {big : World} {d : Change} {cs ds : List Change} → IsOutside root d → LikeChanges root see (apply d big) cs ds → LikeChanges root see big cs (d ∷ ds)
 
 -- ---- outcomes

@@ -127,7 +127,8 @@ IsOuter root peer = (x : Path) → serves (x ++ root) peer ≡ false
 -- nobody inside is the peer of a talk at a port outside, or has taken a fault there
 pub record ServesNobodyOutside (root : Path) (see : Ptr → Ptr) (big : World) : Type 0 where
   pub talks : (k : ℕ) (q : Path) (talk : Talk) → talk_at big (k ∷ (q ++ root)) ≡ Some talk → is_out (see talk.port) ≡ true → IsOuter root talk.peer
-  pub faults : (k : ℕ) (q : Path) (fault : Fault) (taker : Peer) → fault_at big (k ∷ (q ++ root)) ≡ Some fault → is_out (see fault.port) ≡ true → fault.taker ≡ Some taker → IsOuter root taker
+  pub faults : (k : ℕ) (q : Path) (fault : Fault) (taker : Peer) →
+      fault_at big (k ∷ (q ++ root)) ≡ Some fault → is_out (see fault.port) ≡ true → fault.taker ≡ Some taker → IsOuter root taker
 
 -- x is among these paths
 abbrev pub is_listed : Path → List Path → Bool
@@ -201,7 +202,8 @@ IsSeenPlace root place there = IsBeneath root place.0 there.0 × (place.1 ≡ th
 -- an access comes to the same
 pub data ReachLikeness (root : Path) (see : Ptr → Ptr) (big : World) : Reach → Reach → Type 0 where
   Homes : (s : Path) (page : ℕ) → ReachLikeness root see big (Home s page) (Home (s ++ root) page)
-  Misses : (s : Path) (page : ℕ) (keeper port : Option Ptr) → AlikeOptions (IsSeenAs root see big) keeper port → ReachLikeness root see big (Missing s page keeper) (Missing (s ++ root) page port)
+  Misses : (s : Path) (page : ℕ) (keeper port : Option Ptr) →
+      AlikeOptions (IsSeenAs root see big) keeper port → ReachLikeness root see big (Missing s page keeper) (Missing (s ++ root) page port)
   Bads : ReachLikeness root see big Bad Bad
 
 -- the same talk, and the same fault
@@ -221,15 +223,20 @@ pub data PeerLikeness (root : Path) (see : Ptr → Ptr) (big : World) : Peer →
 
 -- the same thread inside, with its path
 pub data EndLikeness (root : Path) (see : Ptr → Ptr) (big : World) : Path × Thread → Path × Thread → Type 0 where
-  Ends : (k : ℕ) (q : Path) (t : Thread) → big.body (k ∷ (q ++ root)) ≡ Some (Thread_of t) → IsPlainBody see (HasLikeness root see big) (Thread_of t) → EndLikeness root see big (k ∷ q, seen_thread see t) (k ∷ (q ++ root), t)
+  Ends : (k : ℕ) (q : Path) (t : Thread) → big.body (k ∷ (q ++ root)) ≡ Some (Thread_of t) →
+      IsPlainBody see (HasLikeness root see big) (Thread_of t) → EndLikeness root see big (k ∷ q, seen_thread see t) (k ∷ (q ++ root), t)
 
 -- the same talk of a client inside, with who is at the other end
 pub data LineLikeness (root : Path) (see : Ptr → Ptr) (big : World) : Line → Line → Type 0 where
-  Lines : (k : ℕ) (q : Path) (talk : Talk) (other seen : Peer) → talk_at big (k ∷ (q ++ root)) ≡ Some talk → AllInTalk see (HasLikeness root see big) talk → PeerLikeness root see big other seen →
-      LineLikeness root see big (record { client = k ∷ q; talk = seen_talk see talk; other = seen }) (record { client = k ∷ (q ++ root); talk = talk; other = other })
+  Lines : (k : ℕ) (q : Path) (talk : Talk) (other seen : Peer) →
+      talk_at big (k ∷ (q ++ root)) ≡ Some talk → AllInTalk see (HasLikeness root see big) talk → PeerLikeness root see big other seen →
+      LineLikeness root
+      see big (record { client = k ∷ q; talk = seen_talk see talk; other = seen }) (record { client = k ∷ (q ++ root); talk = talk; other = other })
 
 -- the thread at x is the same candidate for a wait; who it asks for stands inside
 pub data CandidateLikeness (see : Ptr → Ptr) (big : World) (x : Path) : Candidate → Candidate → Type 0 where
-  Faults : (slot : ℕ) (fault : Fault) → fault_at big x ≡ Some fault → is_out (see fault.port) ≡ false → CandidateLikeness see big x (Faulting slot (seen_fault see fault)) (Faulting slot fault)
+  Faults : (slot : ℕ) (fault : Fault) →
+      fault_at big x ≡ Some fault → is_out (see fault.port) ≡ false → CandidateLikeness see big x (Faulting slot (seen_fault see fault)) (Faulting slot fault)
   Connects : (slot : ℕ) → CandidateLikeness see big x (Connecting slot) (Connecting slot)
-  Resumes : (slot : ℕ) (talk : Talk) → talk_at big x ≡ Some talk → is_out (see talk.port) ≡ false → CandidateLikeness see big x (Resuming slot (seen_talk see talk)) (Resuming slot talk)
+  Resumes : (slot : ℕ) (talk : Talk) →
+      talk_at big x ≡ Some talk → is_out (see talk.port) ≡ false → CandidateLikeness see big x (Resuming slot (seen_talk see talk)) (Resuming slot talk)

@@ -15,14 +15,16 @@ pub record RebindsTo (bind : ℕ → ℕ) (c : World) (m : Onward) : Type 0 wher
   -- where it is ready it is ready with these, tells the same at these, and leaves the same
   pub forth : (told : List Told) (later : World) → IsOnward c m told later → IsOnward (rebound bind c) m (map (rebound_told bind) told) (rebound bind later)
   -- and it is ready with these only where it is ready
-  pub back : (heard : List Told) (after : World) → IsOnward (rebound bind c) m heard after → (told : List Told) × (later : World) × IsOnward c m told later × (heard ≡ map (rebound_told bind) told) × (after ≡ rebound bind later)
+  pub back : (heard : List Told) (after : World) → IsOnward (rebound bind c) m heard after →
+      (told : List Told) × (later : World) × IsOnward c m told later × (heard ≡ map (rebound_told bind) told) × (after ≡ rebound bind later)
 
 abbrev pub Rebinds : World → Onward → Type 0
 Rebinds c m = (bind : ℕ → ℕ) → IsCutWorld c → RebindsTo bind c m
 
 -- the law for every move of its own by a thread that is at such a stage
 abbrev pub StageRebinds : (Stage → Type 0) → Type 0
-StageRebinds IsSuch = (c : World) (x : Path) (pick : Option Path) (taken : ℕ) (stage : Stage) → IsSuch stage → IsAtStage c x stage → Rebinds c (Own x pick taken)
+StageRebinds IsSuch = (c : World) (x : Path) (pick : Option Path) (taken : ℕ) (stage : Stage) →
+    IsSuch stage → IsAtStage c x stage → Rebinds c (Own x pick taken)
 
 -- and for every instruction
 abbrev pub InstructionRebinds : Type 0

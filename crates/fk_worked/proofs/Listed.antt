@@ -1,35 +1,37 @@
 -- What is tested of each object that a world lists holds of the world: that it is valid, whole, plain and savable.
-use Rattle.std.proofs.Common.{◌≡◌, ℕ, ◌+◌, ◌<◌, ◌≤◌, eqb, ltb, leb, Bool, true, false, not, ◌&&◌, ◌||◌, cond, IsSome, is_some, is_none, List, [], ◌∷◌, ◌++◌, length, Option, Some, None, IfSome, option_map, refl, sym, ap, subst, ◌∙◌, arith}
+use Rattle.std.proofs.Common.{◌≡◌, ℕ, ◌+◌, ◌<◌, ◌≤◌, eqb, ltb, Bool, true, false, not, ◌&&◌, ◌||◌, cond, IsSome, is_some, is_none, List, [], ◌∷◌, ◌++◌, length, Option, Some, None, option_map, refl, sym, subst, ◌∙◌, arith}
 use Rattle.std.specs.List.{list_all, list_any}
-use Rattle.std.proofs.lemmas.Bool.{and_parts, eqb-true, ltb-true, leb-true}
+use Rattle.std.proofs.lemmas.Bool.{and_parts, eqb-true, ltb-true}
 use Rattle.fk_model.specs.declared.limits.TheConstants.{SLOTS, PAGES, PAGE_WORDS, MOST_STOPS}
 use Rattle.fk_model.specs.declared.names.Kind.TheVariants as kinds
-use Rattle.fk_model.specs.Places.{Path, same_path, strip, is_within, parent, Ptr, leads_to}
-use Rattle.fk_model.specs.Places.Ptr.{Null, Dead, At, Out, Outside, Far}
-use Rattle.fk_model.specs.Objects.{Mode, Peer, Talk, Fault, Thread, Body, kind_of, thread_of, and_then, holds, is_served, flag_of}
+use Rattle.fk_model.specs.Places.{Path, same_path, strip, is_within, parent, Ptr}
+use Rattle.fk_model.specs.Places.Ptr.{At}
+use Rattle.fk_model.specs.Objects.{Peer, Talk, Fault, Thread, Body, kind_of, thread_of, and_then, holds, is_served, flag_of}
 use Rattle.fk_model.specs.Objects.Peer.{Server, Service, Parked}
-use Rattle.fk_model.specs.Objects.Body.{Mutex, Cond, Mapping, Region, Port, Portset, Space, Thread_of, Reference}
+use Rattle.fk_model.specs.Objects.Body.{Space, Thread_of}
 use Rattle.fk_model.specs.World.{World, serves}
 use Rattle.fk_model.specs.Searches.{depth, talk_at, fault_at, pointers}
 use Rattle.fk_model.specs.Holds.{holder_of}
 use Rattle.fk_model.specs.StateRows.{is_native}
 use Rattle.fk_model.specs.Valid.{kind_there, all_in, is_good, birth_of, birth_at, is_served_port, HasService, services, lies_with, IsConsistent, IsRooted, HasPlace, IsPaged, IsValid}
 use Rattle.fk_model.specs.Shapes.{IsShapedMode, IsCodeInRange}
-use Rattle.fk_model.specs.Whole.{is_placed, stands_in, HasFullPages, IsWhole, IsSavable}
+use Rattle.fk_model.specs.Whole.{is_placed, stands_in, IsWhole, IsSavable}
 use Rattle.fk_model.specs.Cut.{ports_of, cutting, seen_by, unheld, cut, is_far, has_far, is_served_by, IsPlain}
 use Rattle.fk_model.proofs.walks.PlaceLaws.{same_path_eq, strip-append}
 use Rattle.fk_worked.specs.Worked.{Page, body_in, page_among}
 
 -- ---- lists
 
-pub found : (test : Path → Body → Bool) (es : List (Path × Body)) → list_all (λ e. test e.0 e.1) es ≡ true → (x : Path) (b : Body) → body_in es x ≡ Some b → test x b ≡ true
+pub found : (test : Path → Body → Bool) (es : List (Path × Body)) →
+    list_all (λ e. test e.0 e.1) es ≡ true → (x : Path) (b : Body) → body_in es x ≡ Some b → test x b ≡ true
 unfolding body_in
 found test [] all x b there = cc
 found test (e ∷ es) all x b there =
     let each : (test e.0 e.1 ≡ true) × (list_all (λ e. test e.0 e.1) es ≡ true) = and_parts (test e.0 e.1) _ all in
     by each.0 (same_path e.0 x) refl there (found test es each.1 x b)
   where
-    by : test e.0 e.1 ≡ true → (t : Bool) → same_path e.0 x ≡ t → cond t (Some e.1) (body_in es x) ≡ Some b → (body_in es x ≡ Some b → test x b ≡ true) → test x b ≡ true
+    by : test e.0 e.1 ≡ true →
+        (t : Bool) → same_path e.0 x ≡ t → cond t (Some e.1) (body_in es x) ≡ Some b → (body_in es x ≡ Some b → test x b ≡ true) → test x b ≡ true
     by first true same here later = let place = same_path_eq e.0 x same in let what : e.1 ≡ b = cc in rw (← place, ← what) first
     by first false same here later = later here
 
@@ -49,14 +51,16 @@ found_of P (e ∷ es) all x b there = by (same_path e.0 x) refl there (found_of 
 abbrev IsPage : (Page → Bool) → Path → ℕ → List ℕ → Type 0
 IsPage test s g words = (p : Page) × (test p ≡ true) × (p.space ≡ s) × (p.page ≡ g) × (p.words ≡ words)
 
-page_found : (test : Page → Bool) (ps : List Page) → list_all test ps ≡ true → (s : Path) (g : ℕ) (words : List ℕ) → page_among ps s g ≡ Some words → IsPage test s g words
+page_found : (test : Page → Bool) (ps : List Page) →
+    list_all test ps ≡ true → (s : Path) (g : ℕ) (words : List ℕ) → page_among ps s g ≡ Some words → IsPage test s g words
 unfolding page_among
 page_found test [] all s g words there = cc
 page_found test (p ∷ ps) all s g words there =
     let each : (test p ≡ true) × (list_all test ps ≡ true) = and_parts (test p) _ all in
     by each.0 (same_path p.space s) refl (eqb p.page g) refl there (page_found test ps each.1 s g words)
   where
-    by : test p ≡ true → (t : Bool) → same_path p.space s ≡ t → (r : Bool) → eqb p.page g ≡ r → cond (t && r) (Some p.words) (page_among ps s g) ≡ Some words → (page_among ps s g ≡ Some words → IsPage test s g words) → IsPage test s g words
+    by : test p ≡ true → (t : Bool) → same_path p.space s ≡ t → (r : Bool) → eqb p.page g ≡ r →
+        cond (t && r) (Some p.words) (page_among ps s g) ≡ Some words → (page_among ps s g ≡ Some words → IsPage test s g words) → IsPage test s g words
     by first true e true f here later = (p, first, same_path_eq p.space s e, eqb-true p.page g f, cc)
     by first true e false f here later = later here
     by first false e r f here later = later here
@@ -111,7 +115,8 @@ space_is (Some (Space birth holder)) h = refl
 space_is None h = cc
 space_is (Some b) h = cc
 
-no_talk : {A : Type 0} (f : Thread → Option A) (o : Option Body) (a : A) → and_then f (and_then thread_of o) ≡ Some a → (t : Thread) × (o ≡ Some (Thread_of t)) × (f t ≡ Some a)
+no_talk : {A : Type 0} (f : Thread → Option A) (o : Option Body) (a : A) →
+    and_then f (and_then thread_of o) ≡ Some a → (t : Thread) × (o ≡ Some (Thread_of t)) × (f t ≡ Some a)
 no_talk f (Some (Thread_of t)) a h = (t, refl, h)
 no_talk f None a h = cc
 no_talk f (Some b) a h = cc
@@ -127,10 +132,14 @@ paged_list w ps pages all s g there = by (page_among ps s g) refl (subst (λ (o 
     by (Some words) e h =
         let its = page_found (has_place w) ps all s g words e in
         let both = and_parts (is_space (w.body its.0.space)) (ltb its.0.page PAGES) its.1 in
-        record { space = space_is (w.body s) (subst (λ (v : Path). is_space (w.body v) ≡ true) its.2 both.0); number = subst (λ (v : ℕ). v < PAGES) its.3 (ltb-true its.0.page PAGES both.1) }
+        record {
+          space = space_is (w.body s) (subst (λ (v : Path). is_space (w.body v) ≡ true) its.2 both.0);
+          number = subst (λ (v : ℕ). v < PAGES) its.3 (ltb-true its.0.page PAGES both.1);
+        }
     by None e h = cc
 
-module _ (w : World) (es : List (Path × Body)) (ps : List Page) (bodies : (x : Path) → w.body x ≡ body_in es x) (pages : (s : Path) (g : ℕ) → w.page s g ≡ page_among ps s g) (home : ℕ → Path) (whom : Path → Path) (only : Path) (top : w.body [] ≡ Some (Space 0 None))
+module _ (w : World) (es : List (Path × Body)) (ps : List Page) (bodies : (x : Path) → w.body x ≡ body_in es x)
+    (pages : (s : Path) (g : ℕ) → w.page s g ≡ page_among ps s g) (home : ℕ → Path) (whom : Path → Path) (only : Path) (top : w.body [] ≡ Some (Space 0 None))
     (all : list_all (λ e. is_well w home whom only e.0 e.1) es ≡ true) (all_pages : list_all (is_page_well w) ps ≡ true) where
   record Is (x : Path) (b : Body) : Type 0 where
     housed : is_housed w x ≡ true
@@ -171,13 +180,16 @@ module _ (w : World) (es : List (Path × Body)) (ps : List Page) (bodies : (x : 
       by None e h = cc
       by (Some b) e h = cc
 
-  joined : (x : Path) (t : Thread) → w.body x ≡ Some (Thread_of t) → (all_in (talks_well w whom only x) t.talk ≡ true) × (all_in (faults_well whom x) t.fault ≡ true) × ((is_none t.talk || is_none t.fault) ≡ true)
+  joined : (x : Path) (t : Thread) → w.body x ≡ Some (Thread_of t) →
+      (all_in (talks_well w whom only x) t.talk ≡ true) × (all_in (faults_well whom x) t.fault ≡ true) × ((is_none t.talk || is_none t.fault) ≡ true)
   joined x t there =
-      let a = and_parts (all_in (talks_well w whom only x) t.talk && all_in (faults_well whom x) t.fault) (is_none t.talk || is_none t.fault) (each x (Thread_of t) there).joins in
+      let a = and_parts (all_in (talks_well w whom only x) t.talk && all_in (faults_well whom x) t.fault)
+      (is_none t.talk || is_none t.fault) (each x (Thread_of t) there).joins in
       let c = and_parts (all_in (talks_well w whom only x) t.talk) (all_in (faults_well whom x) t.fault) a.0 in
       (c.0, c.1, a.1)
 
-  talk_is : (x : Path) (talk : Talk) → talk_at w x ≡ Some talk → (serves_well whom x talk.port talk.peer ≡ true) × (is_native_well w only x talk.port talk.peer ≡ true)
+  talk_is : (x : Path) (talk : Talk) →
+      talk_at w x ≡ Some talk → (serves_well whom x talk.port talk.peer ≡ true) × (is_native_well w only x talk.port talk.peer ≡ true)
   talk_is x talk h =
       let there = no_talk (λ (t : Thread). t.talk) (w.body x) talk h in
       and_parts (serves_well whom x talk.port talk.peer) _ (rw there.2 at (joined x there.0 there.1).0)
@@ -196,7 +208,8 @@ module _ (w : World) (es : List (Path × Body)) (ps : List Page) (bodies : (x : 
   near_is x port server h = tt
 
   whom_is : (x server : Path) (port : Ptr) (peer : Peer) → serves_well whom x port peer ≡ true → serves server peer ≡ true → whom server ≡ x
-  whom_is x server port (Server (At s)) h g = let same = same_path_eq s server g in rw (← same) (same_path_eq (whom s) x (and_parts (same_path (whom s) x) _ h).0)
+  whom_is x server port (Server (At s)) h g = let same = same_path_eq s server g in
+      rw (← same) (same_path_eq (whom s) x (and_parts (same_path (whom s) x) _ h).0)
   whom_is x server port (Server p) h g = cc
   whom_is x server port Service h g = cc
   whom_is x server port Parked h g = cc
@@ -205,7 +218,8 @@ module _ (w : World) (es : List (Path × Body)) (ps : List Page) (bodies : (x : 
   talk_serves x server (Some talk) e h = whom_is x server talk.port talk.peer (talk_is x talk e).0 h
   talk_serves x server None e h = cc
 
-  fault_serves : (x server : Path) (o : Option Fault) → fault_at w x ≡ o → holds (λ (fault : Fault). holds (serves server) fault.taker) o ≡ true → whom server ≡ x
+  fault_serves : (x server : Path) (o : Option Fault) →
+      fault_at w x ≡ o → holds (λ (fault : Fault). holds (serves server) fault.taker) o ≡ true → whom server ≡ x
   fault_serves x server (Some fault) e h = by fault.taker (fault_is x fault e) h
     where
       by : (p : Option Peer) → all_in (serves_well whom x fault.port) p ≡ true → holds (serves server) p ≡ true → whom server ≡ x
@@ -214,9 +228,11 @@ module _ (w : World) (es : List (Path × Body)) (ps : List Page) (bodies : (x : 
   fault_serves x server None e h = cc
 
   serving_is : (server x : Path) → 0 < services w server x → whom server ≡ x
-  serving_is server x = by (holds (λ (talk : Talk). serves server talk.peer) (talk_at w x)) refl (holds (λ (fault : Fault). holds (serves server) fault.taker) (fault_at w x)) refl
+  serving_is server x = by (holds (λ (talk : Talk). serves server talk.peer) (talk_at w x))
+      refl (holds (λ (fault : Fault). holds (serves server) fault.taker) (fault_at w x)) refl
     where
-      by : (a : Bool) → holds (λ (talk : Talk). serves server talk.peer) (talk_at w x) ≡ a → (b : Bool) → holds (λ (fault : Fault). holds (serves server) fault.taker) (fault_at w x) ≡ b → 0 < flag_of a + flag_of b → whom server ≡ x
+      by : (a : Bool) → holds (λ (talk : Talk). serves server talk.peer) (talk_at w x) ≡ a →
+          (b : Bool) → holds (λ (fault : Fault). holds (serves server) fault.taker) (fault_at w x) ≡ b → 0 < flag_of a + flag_of b → whom server ≡ x
       by true e b f h = talk_serves x server (talk_at w x) refl e
       by false e true f h = fault_serves x server (fault_at w x) refl f
       by false e false f h = absurd (omega (arith, h))
@@ -228,13 +244,15 @@ module _ (w : World) (es : List (Path × Body)) (ps : List Page) (bodies : (x : 
   serves_one : (server x : Path) → services w server x ≤ 1
   serves_one server x = by (w.body x) refl
     where
-      two : (o : Option Talk) (p : Option Fault) → (is_none o || is_none p) ≡ true → flag_of (holds (λ (talk : Talk). serves server talk.peer) o) + flag_of (holds (λ (fault : Fault). holds (serves server) fault.taker) p) ≤ 1
+      two : (o : Option Talk) (p : Option Fault) → (is_none o || is_none p) ≡ true →
+          flag_of (holds (λ (talk : Talk). serves server talk.peer) o) + flag_of (holds (λ (fault : Fault). holds (serves server) fault.taker) p) ≤ 1
       two None p h = omega (arith, at_most (holds (λ (fault : Fault). holds (serves server) fault.taker) p))
       two (Some talk) None h = omega (arith, at_most (serves server talk.peer))
       two (Some talk) (Some fault) h = cc
 
       by : (o : Option Body) → w.body x ≡ o →
-          flag_of (holds (λ (talk : Talk). serves server talk.peer) (and_then (λ (t : Thread). t.talk) (and_then thread_of o))) + flag_of (holds (λ (fault : Fault). holds (serves server) fault.taker) (and_then (λ (t : Thread). t.fault) (and_then thread_of o))) ≤ 1
+          flag_of (holds (λ (talk : Talk). serves server talk.peer) (and_then (λ (t : Thread). t.talk) (and_then thread_of o)))
+          + flag_of (holds (λ (fault : Fault). holds (serves server) fault.taker) (and_then (λ (t : Thread). t.fault) (and_then thread_of o))) ≤ 1
       by (Some (Thread_of t)) e = two t.talk t.fault (joined x t e).2
       by None e = omega arith
       by (Some b) e = omega arith
@@ -287,7 +305,8 @@ module _ (w : World) (es : List (Path × Body)) (ps : List Page) (bodies : (x : 
 -- of one outside, and of one at q in the subtree
 abbrev is_plain_by : World → Path → ℕ → Body → Option Path → Bool
 is_plain_by w nester slot b None = not (is_served_by (slot ∷ nester) (Some b))
-is_plain_by w nester slot b (Some q) = not (is_native b) && not (is_served b) && not (list_any is_far (pointers (unheld q (seen_by (cutting (ports_of w nester slot) nester slot) b))))
+is_plain_by w nester slot b (Some q) =
+    not (is_native b) && not (is_served b) && not (list_any is_far (pointers (unheld q (seen_by (cutting (ports_of w nester slot) nester slot) b))))
 
 abbrev pub is_plain_at : World → Path → ℕ → Path → Body → Bool
 is_plain_at w nester slot x b = is_plain_by w nester slot b (strip (slot ∷ nester) x)
@@ -296,7 +315,8 @@ is_not : (b : Bool) → not b ≡ true → b ≡ false
 is_not true h = cc
 is_not false h = refl
 
-module _ (w : World) (es : List (Path × Body)) (bodies : (x : Path) → w.body x ≡ body_in es x) (nester : Path) (slot : ℕ) (all : list_all (λ e. is_plain_at w nester slot e.0 e.1) es ≡ true) where
+module _ (w : World) (es : List (Path × Body))
+    (bodies : (x : Path) → w.body x ≡ body_in es x) (nester : Path) (slot : ℕ) (all : list_all (λ e. is_plain_at w nester slot e.0 e.1) es ≡ true) where
   abbrev root : Path
   root = slot ∷ nester
 
@@ -326,7 +346,8 @@ module _ (w : World) (es : List (Path × Body)) (bodies : (x : Path) → w.body 
   unfolding cut
   near q = by (w.body (q ++ root)) refl
     where
-      by : (o : Option Body) → w.body (q ++ root) ≡ o → has_far (option_map (λ b. unheld q (seen_by (cutting (ports_of w nester slot) nester slot) b)) o) ≡ false
+      by : (o : Option Body) →
+          w.body (q ++ root) ≡ o → has_far (option_map (λ b. unheld q (seen_by (cutting (ports_of w nester slot) nester slot) b)) o) ≡ false
       by None e = refl
       by (Some b) e = (inside q b e).near
 
@@ -364,7 +385,8 @@ is_held_from_outside x (Space birth (Some (At y))) = not (is_within x y)
 is_held_from_outside x other = true
 
 abbrev joins_in_place : World → Body → Bool
-joins_in_place w (Thread_of t) = all_in (λ (talk : Talk). is_placed w talk.port talk.peer) t.talk && all_in (λ (fault : Fault). all_in (is_placed w fault.port) fault.taker) t.fault
+joins_in_place w (Thread_of t) =
+    all_in (λ (talk : Talk). is_placed w talk.port talk.peer) t.talk && all_in (λ (fault : Fault). all_in (is_placed w fault.port) fault.taker) t.fault
 joins_in_place w other = true
 
 abbrev stands_well : Path → Body → Bool
@@ -374,7 +396,8 @@ stands_well (k ∷ s) b = stands_in k b
 abbrev pub is_savable_at : World → Path → Body → Bool
 is_savable_at w x b = is_younger w x b && is_held_from_outside x b && joins_in_place w b && stands_well x b
 
-module _ (w : World) (es : List (Path × Body)) (bodies : (x : Path) → w.body x ≡ body_in es x) (all : list_all (λ e. is_savable_at w e.0 e.1) es ≡ true) (shapes : All IsShapedAt es) where
+module _ (w : World) (es : List (Path × Body))
+    (bodies : (x : Path) → w.body x ≡ body_in es x) (all : list_all (λ e. is_savable_at w e.0 e.1) es ≡ true) (shapes : All IsShapedAt es) where
   record IsSavableHere (x : Path) (b : Body) : Type 0 where
     younger : is_younger w x b ≡ true
     held : is_held_from_outside x b ≡ true
@@ -423,7 +446,8 @@ module _ (w : World) (es : List (Path × Body)) (bodies : (x : Path) → w.body 
       by None e h = cc
       by (Some b) e h = cc
 
-  joined_at : (x : Path) (t : Thread) → w.body x ≡ Some (Thread_of t) → (all_in (λ (talk : Talk). is_placed w talk.port talk.peer) t.talk ≡ true) × (all_in (λ (fault : Fault). all_in (is_placed w fault.port) fault.taker) t.fault ≡ true)
+  joined_at : (x : Path) (t : Thread) → w.body x ≡ Some (Thread_of t) → (all_in (λ (talk : Talk). is_placed w talk.port talk.peer) t.talk ≡ true) ×
+      (all_in (λ (fault : Fault). all_in (is_placed w fault.port) fault.taker) t.fault ≡ true)
   joined_at x t there = and_parts (all_in (λ (talk : Talk). is_placed w talk.port talk.peer) t.talk) _ (here x (Thread_of t) there).joins
 
   pub savable : IsSavable w
@@ -434,6 +458,7 @@ module _ (w : World) (es : List (Path × Body)) (bodies : (x : Path) → w.body 
     codes = λ x t h. (shaped_at x t h).1;
     holders_outside = holder_apart;
     talks_placed = λ x talk h. let there = no_talk (λ (t : Thread). t.talk) (w.body x) talk h in rw there.2 at (joined_at x there.0 there.1).0;
-    faults_placed = λ x fault taker h g. let there = no_talk (λ (t : Thread). t.fault) (w.body x) fault h in rw g at (rw there.2 at (joined_at x there.0 there.1).1);
+    faults_placed = λ x fault taker h g. let there = no_talk (λ (t : Thread). t.fault) (w.body x) fault h in
+        rw g at (rw there.2 at (joined_at x there.0 there.1).1);
     slots_kept = λ k x b there. (here (k ∷ x) b there).stands;
   }

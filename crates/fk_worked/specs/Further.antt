@@ -1,8 +1,8 @@
 -- Further runs of subtrees that are seen alone: which moves are ready there, what they leave, and what the outside hears.
-use Rattle.std.specs.Prelude.{ℕ, Bool, true, false, List, [], ◌∷◌, ◌++◌, Option, Some, None}
+use Rattle.std.specs.Prelude.{ℕ, Bool, true, false, List, [], ◌∷◌, None}
 use Rattle.fk_model.specs.declared.thread.Turn.{Turn}
 use Rattle.fk_model.specs.declared.thread.Turn.TheVariants as turns
-use Rattle.fk_model.specs.Places.{Path, Ptr}
+use Rattle.fk_model.specs.Places.{Path}
 use Rattle.fk_model.specs.Places.Ptr.{Out, Outside}
 use Rattle.fk_model.specs.Objects.{Talk, Body}
 use Rattle.fk_model.specs.Objects.Peer.{Server}
@@ -10,10 +10,10 @@ use Rattle.fk_model.specs.Objects.Body.{Mutex, Region, Space}
 use Rattle.fk_model.specs.World.{World, apply_all}
 use Rattle.fk_model.specs.Outcomes.{Outcome, listed}
 use Rattle.fk_model.specs.Outcomes.Outcome.{Refused, Waits, Goes}
-use Rattle.fk_model.specs.Further.{Touch, Onward, Told, touch_row, onward_row, told_by}
-use Rattle.fk_model.specs.Further.Onward.{Own, ByOthers}
+use Rattle.fk_model.specs.Further.{Onward, Told, touch_row, onward_row, told_by}
+use Rattle.fk_model.specs.Further.Onward.{Own}
 use Rattle.fk_model.specs.Seen.{outcome_said}
-use Rattle.fk_worked.specs.Worked.{Page, machine, body_in, page_among, page_with, numbered, running, calling, with_talk}
+use Rattle.fk_worked.specs.Worked.{Page, machine, body_in, page_among, numbered, calling, with_talk}
 
 -- a subtree seen alone: its root, which nobody holds, and what lies in it
 unfoldable pub alone_of : List (Path × Body) → List Page → World
@@ -46,7 +46,8 @@ outward turn moved = record { port = Out 9; peer = Server Outside; turn = turn; 
 
 -- at the call that these registers name; pages 2 and 3 are there, and nobody keeps others
 unfoldable pub talking_out : Turn → ℕ → List ℕ → World
-talking_out turn moved g = alone_of ((0 ∷ [], with_talk (outward turn moved) (calling 20 g)) ∷ (1 ∷ [], Mutex false) ∷ []) (numbered [] 1000 2 ∷ numbered [] 1000 3 ∷ [])
+talking_out turn moved g =
+    alone_of ((0 ∷ [], with_talk (outward turn moved) (calling 20 g)) ∷ (1 ∷ [], Mutex false) ∷ []) (numbered [] 1000 2 ∷ numbered [] 1000 3 ∷ [])
 
 -- it sends so many words from an address on
 abbrev pub sending : ℕ → ℕ → World

@@ -33,10 +33,12 @@ live_keeper-leads w (At x) port may live = let same : port ≡ At x = cc in rw s
 live_keeper-leads w (Out slot) port may live = let same : port ≡ Out slot = cc in rw same refl
 live_keeper-leads w p port may live = cc
 
-extent-port : (w : World) → IsConsistent w → (x : Path) (r : Extent) → and_then region_of (w.body x) ≡ Some r → may_lead (kind_there w) (kinds.Port ∷ []) r.keeper ≡ true
+extent-port : (w : World) →
+    IsConsistent w → (x : Path) (r : Extent) → and_then region_of (w.body x) ≡ Some r → may_lead (kind_there w) (kinds.Port ∷ []) r.keeper ≡ true
 extent-port w valid x r seen = by (w.body x) (valid.good x) seen
   where
-    by : (o : Option Body) → all_in (is_good (kind_there w) x) o ≡ true → and_then region_of o ≡ Some r → may_lead (kind_there w) (kinds.Port ∷ []) r.keeper ≡ true
+    by : (o : Option Body) →
+        all_in (is_good (kind_there w) x) o ≡ true → and_then region_of o ≡ Some r → may_lead (kind_there w) (kinds.Port ∷ []) r.keeper ≡ true
     by None good h = cc
     by (Some (Region old)) good h = let same : r ≡ old = cc in rw same ((and_parts (is_page_range old.first old.count) _ good).1)
     by (Some b) good h = cc
@@ -45,7 +47,8 @@ keeper-leads : (w : World) → IsConsistent w → (s : Path) (page : ℕ) (port 
 unfolding keeper region_at
 keeper-leads w valid s page port h = by (region_at w s page) refl h
   where
-    one : (k : ℕ) (r : Extent) (o : Option Extent) → and_then region_of (w.body (k ∷ s)) ≡ o → and_then (λ (r : Extent). if covers r.first r.count page then Some r else None) o ≡ Some r → may_lead (kind_there w) (kinds.Port ∷ []) r.keeper ≡ true
+    one : (k : ℕ) (r : Extent) (o : Option Extent) → and_then region_of (w.body (k ∷ s)) ≡ o →
+        and_then (λ (r : Extent). if covers r.first r.count page then Some r else None) o ≡ Some r → may_lead (kind_there w) (kinds.Port ∷ []) r.keeper ≡ true
     one k r None e h = cc
     one k r (Some old) e h = test (covers old.first old.count page) h
       where
@@ -78,7 +81,8 @@ at_home-good w paged s page away good = by (w.page s page) refl
     by None e = good
     by (Some words) e = paged s page (rw e refl)
 
-mapped-good : (w : World) (go : Window → Reach) (missing : Reach) (o : Option Window) → GoodReach w missing → ((m : Window) → GoodReach w (go m)) → GoodReach w (mapped go missing o)
+mapped-good : (w : World) (go : Window → Reach) (missing : Reach) (o : Option Window) →
+    GoodReach w missing → ((m : Window) → GoodReach w (go m)) → GoodReach w (mapped go missing o)
 mapped-good w go missing None here there = here
 mapped-good w go missing (Some m) here there = there m
 
@@ -91,7 +95,8 @@ unfolding reach_within
 reach_by-good w valid paged zero s page write =
     at_home-good w paged s page _ (mapped-good w (λ m. Bad) _ (mapping_at w s page) (missing-good w valid s page) (λ m. tt))
 reach_by-good w valid paged (suc n) s page write =
-    at_home-good w paged s page _ (mapped-good w _ _ (mapping_at w s page) (missing-good w valid s page) (λ m. followed-good w _ (led_by w m page write m.region) (λ t other. reach_by-good w valid paged n t other write)))
+    at_home-good w paged s page _ (mapped-good w _ _ (mapping_at w s page)
+    (missing-good w valid s page) (λ m. followed-good w _ (led_by w m page write m.region) (λ t other. reach_by-good w valid paged n t other write)))
 
 pub reach_word-good : (w : World) → Facts w → (s : Path) (address : ℕ) (write : Bool) → GoodReach w (reach_word w s address write)
 unfolding reach
@@ -103,27 +108,35 @@ reach_word-good w facts s address write = by (nat_lt address SPACE_WORDS)
 
 -- ---- accesses
 
-missed-safe : (w : World) (otherwise : Outcome) (me : Path) (page : ℕ) (write : Bool) (keeper : Option Ptr) → IfAny (LeadsToPort w) keeper → SafeOutcome w otherwise → SafeOutcome w (missed otherwise me page write keeper)
+missed-safe : (w : World) (otherwise : Outcome) (me : Path) (page : ℕ) (write : Bool) (keeper : Option Ptr) →
+    IfAny (LeadsToPort w) keeper → SafeOutcome w otherwise → SafeOutcome w (missed otherwise me page write keeper)
 missed-safe w otherwise me page write None port safe = safe
 missed-safe w otherwise me page write (Some keeper) port safe = goes (record { port = port; taker = tt }, tt)
 
-pub accessed-safe : (w : World) (me : Path) (write : Bool) (halts : ℕ → Outcome) (go : Path → ℕ → Outcome) (r : Reach) → GoodReach w r → ((code : ℕ) → SafeOutcome w (halts code)) → ((s : Path) (page : ℕ) → HasPlace w s page → SafeOutcome w (go s page)) → SafeOutcome w (accessed me write halts go r)
+pub accessed-safe : (w : World) (me : Path) (write : Bool) (halts : ℕ → Outcome) (go : Path → ℕ → Outcome) (r : Reach) →
+    GoodReach w r → ((code : ℕ) → SafeOutcome w (halts code)) →
+    ((s : Path) (page : ℕ) → HasPlace w s page → SafeOutcome w (go s page)) → SafeOutcome w (accessed me write halts go r)
 accessed-safe w me write halts go (Home s page) good halting going = going s page good
 accessed-safe w me write halts go (Missing s page keeper) good halting going = missed-safe w _ me page write keeper good (halting _)
 accessed-safe w me write halts go Bad good halting going = halting _
 
-own_page_at-safe : (w : World) (me : Path) (write : Bool) (go : Path → ℕ → Outcome) (r : Reach) → GoodReach w r → ((s : Path) (page : ℕ) → HasPlace w s page → SafeOutcome w (go s page)) → SafeOutcome w (own_page_at me write go r)
+own_page_at-safe : (w : World) (me : Path) (write : Bool) (go : Path → ℕ → Outcome) (r : Reach) →
+    GoodReach w r → ((s : Path) (page : ℕ) → HasPlace w s page → SafeOutcome w (go s page)) → SafeOutcome w (own_page_at me write go r)
 own_page_at-safe w me write go (Home s page) good going = going s page good
 own_page_at-safe w me write go (Missing s page keeper) good going = missed-safe w _ me page write keeper good refused
 own_page_at-safe w me write go Bad good going = refused
 
-pub own_page-safe : (w : World) → Facts w → (c : Caller) (address : ℕ) (write : Bool) (go : Path → ℕ → Outcome) → ((s : Path) (page : ℕ) → HasPlace w s page → SafeOutcome w (go s page)) → SafeOutcome w (own_page w c address write go)
-own_page-safe w facts c address write go going = own_page_at-safe w _ write go (reach_word w c.space address write) (reach_word-good w facts c.space address write) going
+pub own_page-safe : (w : World) → Facts w → (c : Caller) (address : ℕ) (write : Bool) (go : Path → ℕ → Outcome) →
+    ((s : Path) (page : ℕ) → HasPlace w s page → SafeOutcome w (go s page)) → SafeOutcome w (own_page w c address write go)
+own_page-safe w facts c address write go going =
+    own_page_at-safe w _ write go (reach_word w c.space address write) (reach_word-good w facts c.space address write) going
 
-their_page_at-safe : (w : World) (go : Path → ℕ → Outcome) (r : Reach) → GoodReach w r → ((s : Path) (page : ℕ) → HasPlace w s page → SafeOutcome w (go s page)) → SafeOutcome w (their_page_at go r)
+their_page_at-safe : (w : World) (go : Path → ℕ → Outcome) (r : Reach) →
+    GoodReach w r → ((s : Path) (page : ℕ) → HasPlace w s page → SafeOutcome w (go s page)) → SafeOutcome w (their_page_at go r)
 their_page_at-safe w go (Home s page) good going = going s page good
 their_page_at-safe w go (Missing s page keeper) good going = waits
 their_page_at-safe w go Bad good going = waits
 
-pub their_page-safe : (w : World) → Facts w → (space : Path) (address : ℕ) (go : Path → ℕ → Outcome) → ((s : Path) (page : ℕ) → HasPlace w s page → SafeOutcome w (go s page)) → SafeOutcome w (their_page w space address go)
+pub their_page-safe : (w : World) → Facts w → (space : Path) (address : ℕ) (go : Path → ℕ → Outcome) →
+    ((s : Path) (page : ℕ) → HasPlace w s page → SafeOutcome w (go s page)) → SafeOutcome w (their_page w space address go)
 their_page-safe w facts space address go going = their_page_at-safe w go (reach_word w space address true) (reach_word-good w facts space address true) going

@@ -28,7 +28,8 @@ use Rattle.fk_laws.proofs.safety.Given.{link_set-safe, link_park-safe, fault_don
 
 -- ---- one stage
 
-stage_row-safe : (w : World) (c : Caller) (pick : Option Path) (stage : Stage) → Facts w → IsCaller w c → is_fit_stage w c stage ≡ true → SafeOutcome w (stage_row w c pick stage)
+stage_row-safe : (w : World) (c : Caller) (pick : Option Path) (stage : Stage) →
+    Facts w → IsCaller w c → is_fit_stage w c stage ≡ true → SafeOutcome w (stage_row w c pick stage)
 stage_row-safe w c pick (Create s x kind) facts caller fit = create-safe w c s x kind caller
 stage_row-safe w c pick (Destroy s x) facts caller fit = destroy-safe w c s x facts
 stage_row-safe w c pick (Rename s x y) facts caller fit = rename-safe w c s x y facts
@@ -74,7 +75,8 @@ stage_row-safe w c pick (FaultPark s x port taken) facts caller fit = fault_park
 stage_row-safe w c pick (HoldSet s x thread) facts caller fit = hold_set-safe w c s x thread
 stage_row-safe w c pick (SpaceMakeHeld x) facts caller fit = space_make_held-safe w c x caller
 
-allowed_row-safe : (w : World) (c : Caller) (pick : Option Path) (stage : Stage) → (is_denied c stage ≡ false → SafeOutcome w (stage_row w c pick stage)) → SafeOutcome w (allowed_row w c pick stage)
+allowed_row-safe : (w : World) (c : Caller) (pick : Option Path) (stage : Stage) →
+    (is_denied c stage ≡ false → SafeOutcome w (stage_row w c pick stage)) → SafeOutcome w (allowed_row w c pick stage)
 allowed_row-safe w c pick stage safe = by (is_denied c stage) refl
   where
     by : (t : Bool) → is_denied c stage ≡ t → SafeOutcome w (if t then Refused DENIED else stage_row w c pick stage)
@@ -97,9 +99,11 @@ closed-safe w c (Refused status) safe = by c.is_porter
 closed-safe w c Waits safe = waits
 closed-safe w c (Goes changes said) safe = goes safe.safe
 
-call_row-safe : (w : World) (c : Caller) (pick : Option Path) (stage : Stage) → (is_denied c stage ≡ false → SafeOutcome w (stage_row w c pick stage)) → SafeOutcome w (call_row w c pick stage)
+call_row-safe : (w : World) (c : Caller) (pick : Option Path) (stage : Stage) →
+    (is_denied c stage ≡ false → SafeOutcome w (stage_row w c pick stage)) → SafeOutcome w (call_row w c pick stage)
 unfolding call_row
-call_row-safe w c pick stage safe = closed-safe w c _ (with_pick-safe w (chooses stage) pick (allowed_row w c pick stage) (allowed_row-safe w c pick stage safe))
+call_row-safe w c pick stage safe =
+    closed-safe w c _ (with_pick-safe w (chooses stage) pick (allowed_row w c pick stage) (allowed_row-safe w c pick stage safe))
 
 -- ---- who moves
 
@@ -125,24 +129,29 @@ user-fit w c (FaultSet s x port taker) user = cc
 user-fit w c (FaultPark s x port taken) user = cc
 user-fit w c stage user = refl
 
-goes_on-safe : (w : World) (k : ℕ) (s : Path) (pick : Option Path) (t : Thread) (mode : Mode) → Facts w → IsCaller w (user_at (k ∷ s)) → SafeOutcome w (goes_on w (k ∷ s) pick t mode)
+goes_on-safe : (w : World) (k : ℕ) (s : Path) (pick : Option Path) (t : Thread) (mode : Mode) →
+    Facts w → IsCaller w (user_at (k ∷ s)) → SafeOutcome w (goes_on w (k ∷ s) pick t mode)
 goes_on-safe w k s pick t (Running g) facts caller = with_pick-safe w false pick _ (run_row-safe w facts s k g t.counter)
 goes_on-safe w k s pick t (Calling (stage ∷ todo) rest) facts caller =
     call_row-safe w (user_at (k ∷ s)) pick stage (λ user. stage_row-safe w (user_at (k ∷ s)) pick stage facts caller (user-fit w (user_at (k ∷ s)) stage user))
 goes_on-safe w k s pick t mode facts caller = waits
 
-user_move-safe : (w : World) (x : Path) (pick : Option Path) (o : Option Thread) → Facts w → and_then thread_of (w.body x) ≡ o → SafeOutcome w (user_move w x pick o)
+user_move-safe : (w : World) (x : Path) (pick : Option Path) (o : Option Thread) →
+    Facts w → and_then thread_of (w.body x) ≡ o → SafeOutcome w (user_move w x pick o)
 user_move-safe w x pick None facts there = waits
 user_move-safe w [] pick (Some t) facts there = absurd (rootless w facts.rooted t there)
 user_move-safe w (k ∷ s) pick (Some t) facts there =
-    safe-when w (is_free w s t) (goes_on w (k ∷ s) pick t t.mode) (λ free. goes_on-safe w k s pick t t.mode facts (thread-caller w facts.valid (user_at (k ∷ s)) t there))
+    safe-when w (is_free w s t)
+    (goes_on w (k ∷ s) pick t t.mode) (λ free. goes_on-safe w k s pick t t.mode facts (thread-caller w facts.valid (user_at (k ∷ s)) t there))
 
-porter_move-safe : (w : World) (x : Path) (pick : Option Path) (stage : Stage) (words : List ℕ) (o : Option Thread) → Facts w → is_fit_stage w (porter_at x words) stage ≡ true → and_then thread_of (w.body x) ≡ o → SafeOutcome w (porter_move w x pick stage words o)
+porter_move-safe : (w : World) (x : Path) (pick : Option Path) (stage : Stage) (words : List ℕ) (o : Option Thread) →
+    Facts w → is_fit_stage w (porter_at x words) stage ≡ true → and_then thread_of (w.body x) ≡ o → SafeOutcome w (porter_move w x pick stage words o)
 porter_move-safe w x pick stage words None facts fit there = waits
 porter_move-safe w [] pick stage words (Some t) facts fit there = absurd (rootless w facts.rooted t there)
 porter_move-safe w (k ∷ s) pick stage words (Some t) facts fit there =
     safe-when w (is_porter t.mode && is_unheld w s) (call_row w (porter_at (k ∷ s) words) pick stage)
-    (λ free. call_row-safe w (porter_at (k ∷ s) words) pick stage (λ porter. stage_row-safe w (porter_at (k ∷ s) words) pick stage facts (thread-caller w facts.valid (porter_at (k ∷ s) words) t there) fit))
+    (λ free. call_row-safe w (porter_at (k ∷ s) words)
+    pick stage (λ porter. stage_row-safe w (porter_at (k ∷ s) words) pick stage facts (thread-caller w facts.valid (porter_at (k ∷ s) words) t there) fit))
 
 -- ---- a move
 
@@ -153,6 +162,3 @@ outcome-safe w x pick (asks.Call stage words) facts fit = porter_move-safe w x p
 outcome-safe w x pick asks.Accept facts fit = accept_row-safe w x pick facts
 outcome-safe w x pick (asks.Give words len) facts fit = with_pick-safe w false pick _ (give_row-safe w facts x (take len words))
 outcome-safe w x pick asks.Over facts fit = with_pick-safe w false pick _ (over_row-safe w x)
-
-pub changes-safe : (w : World) (x : Path) (pick : Option Path) (ask : Ask) (changes : List Change) (said : Said) → Facts w → is_fit w x ask ≡ true → outcome w x pick ask ≡ Goes changes said → AreSafe w changes
-changes-safe w x pick ask changes said facts fit comes = let safe = rw comes at (outcome-safe w x pick ask facts fit) in safe.safe

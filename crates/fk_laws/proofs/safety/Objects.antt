@@ -29,23 +29,27 @@ nothing-there : {A : Type 0} (o : Option A) → is_some o ≡ false → o ≡ No
 nothing-there None free = refl
 nothing-there (Some a) free = cc
 
-vacant : (w : World) (c : Caller) (k j : ℕ) (s : Path) → kind_there w s ≡ Some kinds.Space → slot_for c k ≡ Ok j → is_some (w.body (k ∷ s)) ≡ false → IsVacant w k s
+vacant : (w : World) (c : Caller) (k j : ℕ) (s : Path) →
+    kind_there w s ≡ Some kinds.Space → slot_for c k ≡ Ok j → is_some (w.body (k ∷ s)) ≡ false → IsVacant w k s
 vacant w c k j s space slot free = record { slot = slot_for-fits c k j slot; space = space; empty = nothing-there _ free }
 
 pick-safe : (w : World) (t : Bool) (c : Change) (rest : Option Change) → IsSafe w c → IfAny (IsSafe w) rest → IfAny (IsSafe w) (if t then Some c else rest)
 pick-safe w true c rest here others = here
 pick-safe w false c rest here others = others
 
-make-safe : (w : World) (k : ℕ) (s : Path) (body : Body) → IsVacant w k s → is_plain body ≡ true → is_good (kind_there w) (k ∷ s) body ≡ true → IsSafe w (Make (k ∷ s) body)
+make-safe : (w : World) (k : ℕ) (s : Path) (body : Body) →
+    IsVacant w k s → is_plain body ≡ true → is_good (kind_there w) (k ∷ s) body ≡ true → IsSafe w (Make (k ∷ s) body)
 make-safe w k s body place plain good = record { place = place; plain = plain; good = good }
 
-make_space-safe : (w : World) (k : ℕ) (s : Path) (holder : Option Ptr) → IsVacant w k s → all_in (leads_there (kind_there w) (kinds.Thread ∷ [])) holder ≡ true → IsSafe w (MakeSpace (k ∷ s) holder)
+make_space-safe : (w : World) (k : ℕ) (s : Path) (holder : Option Ptr) →
+    IsVacant w k s → all_in (leads_there (kind_there w) (kinds.Thread ∷ [])) holder ≡ true → IsSafe w (MakeSpace (k ∷ s) holder)
 make_space-safe w k s holder place held = record { place = place; held = held }
 
 new_object-safe : (w : World) (k : ℕ) (s : Path) (kind : ℕ) → IsVacant w k s → IfAny (IsSafe w) (new_object (k ∷ s) kind)
 new_object-safe w k s kind place = search (pick-safe, make-safe, make_space-safe) depth 15
 
-create-goes : (w : World) (c : Caller) (s x j kind : ℕ) (space : Path) (made : Change) → IsCaller w c → space_argument w c s ≡ Ok space → slot_for c x ≡ Ok j → new_object (x ∷ space) kind ≡ Some made → is_some (w.body (x ∷ space)) ≡ false → SafeOutcome w (done c (made ∷ []) [])
+create-goes : (w : World) (c : Caller) (s x j kind : ℕ) (space : Path) (made : Change) → IsCaller w c → space_argument w c s ≡ Ok space →
+    slot_for c x ≡ Ok j → new_object (x ∷ space) kind ≡ Some made → is_some (w.body (x ∷ space)) ≡ false → SafeOutcome w (done c (made ∷ []) [])
 create-goes w c s x j kind space made caller placed slot new free =
     let safe = new_object-safe w x space kind (vacant w c x j space (place-space w c s space caller placed) slot free) in
     safe-done w c (made ∷ []) [] (rw new at safe, tt)
@@ -74,7 +78,8 @@ unfolding destroy
 destroy-safe w c s x facts = search (safe_row, destroy-goes) depth 9
 
 rename-goes : (w : World) (c : Caller) (me : Path) (x y : ℕ) (space : Path) (b : Body) → Facts w → object_in w c anything space x ≡ Ok b →
-    not (leb y LAST_USER_SLOT) ≡ false → is_some (w.body (y ∷ space)) ≡ false → has_residents w (x ∷ space) ≡ false → SafeOutcome w (done_at me c (Move (x ∷ space) y ∷ []) [])
+    not (leb y LAST_USER_SLOT) ≡ false →
+    is_some (w.body (y ∷ space)) ≡ false → has_residents w (x ∷ space) ≡ false → SafeOutcome w (done_at me c (Move (x ∷ space) y ∷ []) [])
 rename-goes w c me x y space b facts read fits free empty =
     let found = object_in-found w c anything space x b read in
     let low = leb-true y LAST_USER_SLOT (not-false _ fits) in
@@ -94,7 +99,8 @@ rename-safe w c s x y facts = search (safe_row, rename-goes) depth 12
 
 -- ---- point and clear
 
-pub takes-at : (w : World) (x : Path) (to old : Ptr) → w.body x ≡ Some (Reference old) → may_lead (kind_there w) referable to ≡ true → all_in (takes_pointer w to) (w.body x) ≡ true
+pub takes-at : (w : World) (x : Path) (to old : Ptr) →
+    w.body x ≡ Some (Reference old) → may_lead (kind_there w) referable to ≡ true → all_in (takes_pointer w to) (w.body x) ≡ true
 takes-at w x to old there may = rw there may
 
 -- the pointer of a reference may stand in any other
@@ -104,7 +110,8 @@ reference-leads w x to valid there = good-at w valid x (Reference to) there
 pub reference-there : (w : World) (x : Path) (to : Ptr) → Found w reference_of x to → w.body x ≡ Some (Reference to)
 reference-there w x to found = let same = body-reference_of found.body to found.seen in rw (← same) found.there
 
-pointer_to-leads : (w : World) (x : Path) (to : Ptr) (b : Body) → IsConsistent w → w.body x ≡ Some b → pointer_to x b ≡ Some to → may_lead (kind_there w) referable to ≡ true
+pointer_to-leads : (w : World) (x : Path) (to : Ptr) (b : Body) →
+    IsConsistent w → w.body x ≡ Some b → pointer_to x b ≡ Some to → may_lead (kind_there w) referable to ≡ true
 pointer_to-leads w x to (Reference old) valid there seen = let same : to ≡ old = cc in rw same (reference-leads w x old valid there)
 pointer_to-leads w x to b valid there seen = by (list_any (same_kind (kind_of b)) referable) refl seen
   where
@@ -112,12 +119,14 @@ pointer_to-leads w x to b valid there seen = by (list_any (same_kind (kind_of b)
     by true e h = let same : to ≡ At x = cc in let kind = kind-there w x b there in rw (same, kind) e
     by false e h = cc
 
-point-goes : (w : World) (c : Caller) (x x2 : ℕ) (space space2 : Path) (old to : Ptr) → IsConsistent w → object_in w c reference_of space x ≡ Ok old → pointer_in w c space2 x2 ≡ Ok to →
+point-goes : (w : World) (c : Caller) (x x2 : ℕ) (space space2 : Path) (old to : Ptr) →
+    IsConsistent w → object_in w c reference_of space x ≡ Ok old → pointer_in w c space2 x2 ≡ Ok to →
     SafeOutcome w (done c (Alter (x ∷ space) (SetPointer to) ∷ []) [])
 point-goes w c x x2 space space2 old to valid read read2 =
     let from = object_in-found w c (pointer_to (x2 ∷ space2)) space2 x2 to read2 in
     let may = pointer_to-leads w (x2 ∷ space2) to from.body valid from.there from.seen in
-    safe-done w c (Alter (x ∷ space) (SetPointer to) ∷ []) [] (takes-at w (x ∷ space) to old (reference-there w _ old (object_in-found w c reference_of space x old read)) may, tt)
+    safe-done w c (Alter (x ∷ space) (SetPointer to) ∷ [])
+    [] (takes-at w (x ∷ space) to old (reference-there w _ old (object_in-found w c reference_of space x old read)) may, tt)
 
 pub point-safe : (w : World) (c : Caller) (s x s2 x2 : ℕ) → IsConsistent w → SafeOutcome w (point w c s x s2 x2)
 unfolding point
@@ -171,16 +180,19 @@ pub space_release-safe : (w : World) (c : Caller) (s x : ℕ) → SafeOutcome w 
 unfolding space_release
 space_release-safe w c s x = search (safe_row, release-goes) depth 9
 
-hold_set-goes : (w : World) (c : Caller) (x : Path) (thread : ℕ) (holder : Ptr) → referred w c kinds.Thread thread ≡ Ok holder → SafeOutcome w (done c (Alter x (SetHolder (Some holder)) ∷ []) [])
+hold_set-goes : (w : World) (c : Caller) (x : Path) (thread : ℕ) (holder : Ptr) →
+    referred w c kinds.Thread thread ≡ Ok holder → SafeOutcome w (done c (Alter x (SetHolder (Some holder)) ∷ []) [])
 hold_set-goes w c x thread holder read = safe-done w c (Alter x (SetHolder (Some holder)) ∷ []) [] (referred-leads w c kinds.Thread thread holder read, tt)
 
 pub hold_set-safe : (w : World) (c : Caller) (s x thread : ℕ) → SafeOutcome w (hold_set w c s x thread)
 unfolding hold_set
 hold_set-safe w c s x thread = search (safe_row, hold_set-goes) depth 9
 
-make_held-goes : (w : World) (c : Caller) (x j : ℕ) → IsCaller w c → slot_for c x ≡ Ok j → is_some (w.body (x ∷ c.space)) ≡ false → SafeOutcome w (done c (MakeSpace (x ∷ c.space) (Some (At (path_of c))) ∷ []) [])
+make_held-goes : (w : World) (c : Caller) (x j : ℕ) → IsCaller w c →
+    slot_for c x ≡ Ok j → is_some (w.body (x ∷ c.space)) ≡ false → SafeOutcome w (done c (MakeSpace (x ∷ c.space) (Some (At (path_of c))) ∷ []) [])
 make_held-goes w c x j caller slot free =
-    safe-done w c (MakeSpace (x ∷ c.space) (Some (At (path_of c))) ∷ []) [] (make_space-safe w x c.space _ (vacant w c x j c.space caller.space slot free) (caller-leads w c caller), tt)
+    safe-done w c (MakeSpace (x ∷ c.space) (Some (At (path_of c))) ∷ [])
+    [] (make_space-safe w x c.space _ (vacant w c x j c.space caller.space slot free) (caller-leads w c caller), tt)
 
 pub space_make_held-safe : (w : World) (c : Caller) (x : ℕ) → IsCaller w c → SafeOutcome w (space_make_held w c x)
 unfolding space_make_held

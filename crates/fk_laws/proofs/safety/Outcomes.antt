@@ -44,11 +44,13 @@ pub safe->>= : {A : Type 0} (w : World) (r : Result A ℕ) (go : A → Outcome) 
 safe->>= w (Ok a) go safe = safe a refl
 safe->>= w (Err status) go safe = refused
 
-pub safe-refuse : (w : World) (status : ℕ) (test : Bool) (go : Unit {0} → Outcome) → (test ≡ false → SafeOutcome w (go tt)) → SafeOutcome w (refuse status test >>= go)
+pub safe-refuse : (w : World) (status : ℕ) (test : Bool) (go : Unit {0} → Outcome) →
+    (test ≡ false → SafeOutcome w (go tt)) → SafeOutcome w (refuse status test >>= go)
 safe-refuse w status true go safe = refused
 safe-refuse w status false go safe = safe refl
 
-pub safe-or_refuse : {A : Type 0} (w : World) (status : ℕ) (o : Option A) (go : A → Outcome) → ((a : A) → o ≡ Some a → SafeOutcome w (go a)) → SafeOutcome w (or_refuse status o >>= go)
+pub safe-or_refuse : {A : Type 0} (w : World) (status : ℕ) (o : Option A) (go : A → Outcome) →
+    ((a : A) → o ≡ Some a → SafeOutcome w (go a)) → SafeOutcome w (or_refuse status o >>= go)
 safe-or_refuse w status (Some a) go safe = safe a refl
 safe-or_refuse w status None go safe = refused
 

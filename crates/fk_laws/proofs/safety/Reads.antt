@@ -52,10 +52,6 @@ pub kind-port_of : (b : Body) (port : Option ℕ × Bool) → port_of b ≡ Some
 kind-port_of (Port set served) port seen = refl
 kind-port_of b port seen = cc
 
-pub kind-space_of : (b : Body) (holder : Option Ptr) → space_of b ≡ Some holder → kind_of b ≡ kinds.Space
-kind-space_of (Space birth old) holder seen = refl
-kind-space_of b holder seen = cc
-
 pub body-thread_of : (b : Body) (t : Thread) → thread_of b ≡ Some t → b ≡ Thread_of t
 body-thread_of (Thread_of old) t seen = cc
 body-thread_of b t seen = cc
@@ -73,7 +69,8 @@ one_of-itself kinds.Mutex others = refl
 one_of-itself kind others = refl
 
 -- what leads to one kind leads to one of several among which it is
-pub leads-among : (there : Path → Option Kind) (kind : Kind) (wanted : List Kind) (p : Ptr) → list_any (same_kind kind) wanted ≡ true → leads_there there (kind ∷ []) p ≡ true → may_lead there wanted p ≡ true
+pub leads-among : (there : Path → Option Kind) (kind : Kind) (wanted : List Kind) (p : Ptr) →
+    list_any (same_kind kind) wanted ≡ true → leads_there there (kind ∷ []) p ≡ true → may_lead there wanted p ≡ true
 leads-among there kind wanted (At x) among leads = by (there x) leads
   where
     by : (o : Option Kind) → is_one_of (kind ∷ []) o ≡ true → is_one_of wanted o ≡ true
@@ -85,7 +82,8 @@ leads-among there kind wanted (At x) among leads = by (there x) leads
         one false h = cc
 leads-among there kind wanted p among leads = refl
 
-pub may-among : (there : Path → Option Kind) (kind : Kind) (wanted : List Kind) (p : Ptr) → list_any (same_kind kind) wanted ≡ true → may_lead there (kind ∷ []) p ≡ true → may_lead there wanted p ≡ true
+pub may-among : (there : Path → Option Kind) (kind : Kind) (wanted : List Kind) (p : Ptr) →
+    list_any (same_kind kind) wanted ≡ true → may_lead there (kind ∷ []) p ≡ true → may_lead there wanted p ≡ true
 may-among there kind wanted (At x) among may = leads-among there kind wanted (At x) among may
 may-among there kind wanted p among may = refl
 
@@ -115,7 +113,8 @@ seen-found : {A : Type 0} (w : World) (view : Body → Option A) (x : Path) (a :
 seen-found w view x a None e h = cc
 seen-found w view x a (Some b) e h = record { body = b; there = e; seen = or_refuse-some WRONGKIND (view b) a h }
 
-pub object_in-found : {A : Type 0} (w : World) (c : Caller) (view : Body → Option A) (s : Path) (k : ℕ) (a : A) → object_in w c view s k ≡ Ok a → Found w view (k ∷ s) a
+pub object_in-found : {A : Type 0} (w : World) (c : Caller) (view : Body → Option A) (s : Path) (k : ℕ) (a : A) →
+    object_in w c view s k ≡ Ok a → Found w view (k ∷ s) a
 unfolding object_in
 object_in-found w c view s k a read = by (leb k (last_slot c)) read
   where
@@ -131,12 +130,14 @@ at-leads w wanted x h = by (w.body x) h
   where
     by : (o : Option Body) → is_kind wanted (and_then (λ b. Some (kind_of b)) o) ≡ true → is_one_of (wanted ∷ []) (option_map kind_of o) ≡ true
     by None h = cc
-    by (Some b) h = same_kind-one_of (kind_of b) wanted (wanted ∷ []) (eq-eqb _ _ (sym (eqb-true (number_of_kind wanted) (number_of_kind (kind_of b)) h))) (one_of-itself wanted [])
+    by (Some b) h = same_kind-one_of (kind_of b)
+        wanted (wanted ∷ []) (eq-eqb _ _ (sym (eqb-true (number_of_kind wanted) (number_of_kind (kind_of b)) h))) (one_of-itself wanted [])
 
 pub led_to-leads : (w : World) (wanted : Kind) (to p : Ptr) → led_to w wanted to ≡ Ok p → leads_there (kind_there w) (wanted ∷ []) p ≡ true
 led_to-leads w wanted (At x) p h = by (is_kind wanted (kind_at w (At x))) refl h
   where
-    by : (t : Bool) → is_kind wanted (kind_at w (At x)) ≡ t → (if t then Ok (At x) else Err WRONGKIND) ≡ Ok p → leads_there (kind_there w) (wanted ∷ []) p ≡ true
+    by : (t : Bool) →
+        is_kind wanted (kind_at w (At x)) ≡ t → (if t then Ok (At x) else Err WRONGKIND) ≡ Ok p → leads_there (kind_there w) (wanted ∷ []) p ≡ true
     by true e h = let same : p ≡ At x = cc in rw same (at-leads w wanted x e)
     by false e h = cc
 led_to-leads w wanted (Out slot) p h = by (is_kind wanted (kind_at w (Out slot))) h
@@ -146,25 +147,29 @@ led_to-leads w wanted (Out slot) p h = by (is_kind wanted (kind_at w (Out slot))
     by false h = cc
 led_to-leads w wanted to p h = cc
 
-handled-leads : (w : World) (wanted : Kind) (x : Path) (p : Ptr) (o : Option Body) → w.body x ≡ o → handled w wanted x o ≡ Ok p → leads_there (kind_there w) (wanted ∷ []) p ≡ true
+handled-leads : (w : World) (wanted : Kind) (x : Path) (p : Ptr) (o : Option Body) →
+    w.body x ≡ o → handled w wanted x o ≡ Ok p → leads_there (kind_there w) (wanted ∷ []) p ≡ true
 unfolding kind_there
 handled-leads w wanted x p None e h = cc
 handled-leads w wanted x p (Some (Reference to)) e h = led_to-leads w wanted to p h
 handled-leads w wanted x p (Some b) e h = by (same_kind wanted (kind_of b)) refl h
   where
     by : (t : Bool) → same_kind wanted (kind_of b) ≡ t → (if t then Ok (At x) else Err WRONGKIND) ≡ Ok p → leads_there (kind_there w) (wanted ∷ []) p ≡ true
-    by true same h = let here : p ≡ At x = cc in rw (here, e) (same_kind-one_of (kind_of b) wanted (wanted ∷ []) (eq-eqb _ _ (sym (eqb-true (number_of_kind wanted) (number_of_kind (kind_of b)) same))) (one_of-itself wanted []))
+    by true same h = let here : p ≡ At x = cc in rw (here, e) (same_kind-one_of (kind_of b)
+        wanted (wanted ∷ []) (eq-eqb _ _ (sym (eqb-true (number_of_kind wanted) (number_of_kind (kind_of b)) same))) (one_of-itself wanted []))
     by false same h = cc
 
 pub handle-leads : (w : World) (c : Caller) (wanted : Kind) (h : ℕ) (p : Ptr) → handle w c wanted h ≡ Ok p → leads_there (kind_there w) (wanted ∷ []) p ≡ true
 unfolding handle
 handle-leads w c wanted h p read = by (leb h (last_slot c)) read
   where
-    by : (t : Bool) → and_read (if t then Ok h else Err BADHANDLE) (λ h. handled w wanted (h ∷ c.space) (w.body (h ∷ c.space))) ≡ Ok p → leads_there (kind_there w) (wanted ∷ []) p ≡ true
+    by : (t : Bool) → and_read (if t then Ok h else Err BADHANDLE) (λ h. handled w wanted (h ∷ c.space) (w.body (h ∷ c.space))) ≡ Ok p →
+        leads_there (kind_there w) (wanted ∷ []) p ≡ true
     by true found = handled-leads w wanted (h ∷ c.space) p _ refl found
     by false found = cc
 
-pub referred-leads : (w : World) (c : Caller) (wanted : Kind) (k : ℕ) (p : Ptr) → referred w c wanted k ≡ Ok p → leads_there (kind_there w) (wanted ∷ []) p ≡ true
+pub referred-leads : (w : World) (c : Caller) (wanted : Kind) (k : ℕ) (p : Ptr) →
+    referred w c wanted k ≡ Ok p → leads_there (kind_there w) (wanted ∷ []) p ≡ true
 unfolding referred
 referred-leads w c wanted k p read = by (object_in w c reference_of c.space k) read
   where

@@ -40,18 +40,23 @@ enters-safe : (w : World) (me : Path) (g : List ℕ) (counter : ℕ) (todo : Opt
 enters-safe w me g counter (Some todo) = goes (tt, tt)
 enters-safe w me g counter None = goes (tt, tt)
 
-performs-safe : (known : List ℕ → Option (List Stage)) (w : World) → Facts w → (space me : Path) (g : List ℕ) (counter : ℕ) (act : Act) → SafeOutcome w (performs known w space me g counter act)
+performs-safe : (known : List ℕ → Option (List Stage)) (w : World) →
+    Facts w → (space me : Path) (g : List ℕ) (counter : ℕ) (act : Act) → SafeOutcome w (performs known w space me g counter act)
 performs-safe known w facts space me g counter (Load register address) =
-    accessed-safe w me false (halts_with me g counter) (loads w me g counter register address) (reach_word w space address false) (reach_word-good w facts space address false) (λ code. goes (tt, tt)) (λ s page home. goes (tt, tt))
+    accessed-safe w me false (halts_with me g counter) (loads w me g counter register address)
+    (reach_word w space address false) (reach_word-good w facts space address false) (λ code. goes (tt, tt)) (λ s page home. goes (tt, tt))
 performs-safe known w facts space me g counter (Store address value) =
-    accessed-safe w me true (halts_with me g counter) (stores w me g counter address value) (reach_word w space address true) (reach_word-good w facts space address true) (λ code. goes (tt, tt)) (λ s page home. goes (home, (tt, tt)))
+    accessed-safe w me true (halts_with me g counter) (stores w me g counter address value)
+    (reach_word w space address true) (reach_word-good w facts space address true) (λ code. goes (tt, tt)) (λ s page home. goes (home, (tt, tt)))
 performs-safe known w facts space me g counter Call = enters-safe w me g counter (known g)
 performs-safe known w facts space me g counter act = goes (tt, tt)
 
 pub run_row-safe : (w : World) → Facts w → (space : Path) (slot : ℕ) (g : List ℕ) (counter : ℕ) → SafeOutcome w (run_row w space slot g counter)
 unfolding run_row_by
 run_row-safe w facts space slot g counter =
-    accessed-safe w (slot ∷ space) false (halts_with (slot ∷ space) g counter) (executes todo_of w space (slot ∷ space) g counter) (reach_word w space counter false) (reach_word-good w facts space counter false) (λ code. goes (tt, tt)) (λ s page home. performs-safe todo_of w facts space (slot ∷ space) g counter (act (word_at w s page counter) g counter))
+    accessed-safe w (slot ∷ space) false (halts_with (slot ∷ space) g counter)
+    (executes todo_of w space (slot ∷ space) g counter) (reach_word w space counter false) (reach_word-good w facts space counter false)
+    (λ code. goes (tt, tt)) (λ s page home. performs-safe todo_of w facts space (slot ∷ space) g counter (act (word_at w s page counter) g counter))
 
 -- ---- mutexes and conditions
 
@@ -115,11 +120,13 @@ has_sent-safe w c k count cs said safe = by (k == count)
     shifts : AreSafe w (cs ++ Alter (path_of c) (Shift k) ∷ [])
     shifts = safe-then cs _ w safe (λ v. (tt, tt))
 
-    by : (t : Bool) → SafeOutcome w (if t then telling said (done c (cs ++ Alter (path_of c) (Shift k) ∷ []) []) else Goes (cs ++ Alter (path_of c) (Shift k) ∷ []) said)
+    by : (t : Bool) →
+        SafeOutcome w (if t then telling said (done c (cs ++ Alter (path_of c) (Shift k) ∷ []) []) else Goes (cs ++ Alter (path_of c) (Shift k) ∷ []) said)
     by true = safe-telling w said _ (safe-done w c _ [] shifts)
     by false = goes shifts
 
-sends_into-safe : (w : World) → Facts w → (c : Caller) (client y : Path) (address count : ℕ) (page : List ℕ) (space : Option (ℕ × ℕ)) → SafeOutcome w (sends_into w c client y address count page space)
+sends_into-safe : (w : World) → Facts w → (c : Caller) (client y : Path) (address count : ℕ) (page : List ℕ) (space : Option (ℕ × ℕ)) →
+    SafeOutcome w (sends_into w c client y address count page space)
 sends_into-safe w facts c client y address count page None = waits
 sends_into-safe w facts c client y address count page (Some space) = by (space.1 == 0)
   where
@@ -135,11 +142,13 @@ sends_into-safe w facts c client y address count page (Some space) = by (space.1
     by true = goes (tt, tt)
     by false = their_page-safe w facts (parent y) space.0 go (λ t other home. has_sent-safe w c _ count (moves t other) Nothing (home, (tt, (tt, tt))))
 
-sends_to_thread-safe : (w : World) → Facts w → (c : Caller) (side : Turn) (client : Path) (address count : ℕ) (page : List ℕ) (e : Option (Path × Thread)) → SafeOutcome w (sends_to_thread w c side client address count page e)
+sends_to_thread-safe : (w : World) → Facts w → (c : Caller) (side : Turn) (client : Path) (address count : ℕ) (page : List ℕ) (e : Option (Path × Thread)) →
+    SafeOutcome w (sends_to_thread w c side client address count page e)
 sends_to_thread-safe w facts c side client address count page None = waits
 sends_to_thread-safe w facts c side client address count page (Some e) = search (safe-when, sends_into-safe)
 
-sends_to-safe : (w : World) → Facts w → (c : Caller) (side : Turn) (l : Line) (address count : ℕ) (page : List ℕ) (peer : Peer) → SafeOutcome w (sends_to w c side l address count page peer)
+sends_to-safe : (w : World) → Facts w →
+    (c : Caller) (side : Turn) (l : Line) (address count : ℕ) (page : List ℕ) (peer : Peer) → SafeOutcome w (sends_to w c side l address count page peer)
 sends_to-safe w facts c side l address count page (Server thread) = sends_to_thread-safe w facts c side l.client address count page (thread_led_to w thread)
 sends_to-safe w facts c side l address count page Service = search (safe-when, has_sent-safe)
 sends_to-safe w facts c side l address count page Parked = waits
@@ -193,15 +202,18 @@ unfolding thread_go
 thread_go-safe w c h = search (safe_row, safe-done) depth 9
 
 gives-safe : (w : World) (c : Caller) (space : Path) (page : ℕ) (words : List ℕ) → HasPlace w space page → SafeOutcome w (gives_page w c space page words)
-gives-safe w c space page words place = safe-refuse w OCCUPIED (is_some (w.page space page)) _ (λ free. safe-done w c (PutPage space page words ∷ []) [] (place, tt))
+gives-safe w c space page words place =
+    safe-refuse w OCCUPIED (is_some (w.page space page)) _ (λ free. safe-done w c (PutPage space page words ∷ []) [] (place, tt))
 
-gives_from-safe : (w : World) → Facts w → (c : Caller) (space : Path) (page address : ℕ) → HasPlace w space page → SafeOutcome w (gives_from w c space page address)
+gives_from-safe : (w : World) →
+    Facts w → (c : Caller) (space : Path) (page address : ℕ) → HasPlace w space page → SafeOutcome w (gives_from w c space page address)
 gives_from-safe w facts c space page address place = by c.is_porter (address == ZEROS)
   where
     go : Path → ℕ → Outcome
     go s own = gives_page w c space page (words_at w s own)
 
-    by : (porter zeros : Bool) → SafeOutcome w (if porter then gives_page w c space page c.words else (if zeros then gives_page w c space page (replicate PAGE_WORDS 0) else own_page w c address false go))
+    by : (porter zeros : Bool) → SafeOutcome w (if porter
+        then gives_page w c space page c.words else (if zeros then gives_page w c space page (replicate PAGE_WORDS 0) else own_page w c address false go))
     by true zeros = gives-safe w c space page c.words place
     by false true = gives-safe w c space page _ place
     by false false = own_page-safe w facts c address false go (λ s own home. gives-safe w c space page _ place)
@@ -219,23 +231,27 @@ unfolding page_give
 page_give-safe w facts c s page address caller =
     safe->>= w (space_argument w c s) _ (λ space read. safe-refuse w HELD (is_frozen_for w (path_of c) space) _ (λ free.
     safe-refuse w BADADDRESS (not (is_page page) || is_bad_source c address) _ (λ good.
-    gives_from-safe w facts c space page address (record { space = place-space w c s space caller read; number = good_page page (is_bad_source c address) good }))))
+    gives_from-safe w
+    facts c space page address (record { space = place-space w c s space caller read; number = good_page page (is_bad_source c address) good }))))
 
 -- the page may go
 drops-safe : (w : World) (space : Path) (page : ℕ) (drops : Bool) → AreSafe w (if drops then DropPage space page ∷ [] else [])
 drops-safe w space page true = (tt, tt)
 drops-safe w space page false = tt
 
-copies-safe : (w : World) (c : Caller) (space : Path) (page : ℕ) (drops : Bool) (words : List ℕ) (s : Path) (own : ℕ) → HasPlace w s own → SafeOutcome w (copies c space page drops words s own)
+copies-safe : (w : World) (c : Caller) (space : Path) (page : ℕ) (drops : Bool) (words : List ℕ) (s : Path) (own : ℕ) →
+    HasPlace w s own → SafeOutcome w (copies c space page drops words s own)
 copies-safe w c space page drops words s own home = safe-done w c _ [] (home, drops-safe _ space page drops)
 
-copies_home-safe : (w : World) (c : Caller) (space : Path) (page : ℕ) (drops : Bool) (s : Path) (own : ℕ) → HasPlace w s own → SafeOutcome w (copies_home w c space page drops s own)
+copies_home-safe : (w : World) (c : Caller) (space : Path) (page : ℕ) (drops : Bool) (s : Path) (own : ℕ) →
+    HasPlace w s own → SafeOutcome w (copies_home w c space page drops s own)
 copies_home-safe w c space page drops s own home = search (safe_row, copies-safe)
 
 answers_home-safe : (w : World) (c : Caller) (space : Path) (page : ℕ) (drops : Bool) → SafeOutcome w (answers_home w c space page drops)
 answers_home-safe w c space page drops = search (safe_row, safe-done, drops-safe)
 
-copies_to-safe : (w : World) → Facts w → (c : Caller) (space : Path) (page : ℕ) (drops : Bool) (address : ℕ) → SafeOutcome w (copies_to w c space page drops address)
+copies_to-safe : (w : World) →
+    Facts w → (c : Caller) (space : Path) (page : ℕ) (drops : Bool) (address : ℕ) → SafeOutcome w (copies_to w c space page drops address)
 copies_to-safe w facts c space page drops address = by c.is_porter
   where
     by : (porter : Bool) → SafeOutcome w (if porter then answers_home w c space page drops else own_page w c address true (copies_home w c space page drops))

@@ -29,7 +29,8 @@ pub idle-serves : (w : World) → Facts w → (server : Path) → is_serving w s
 idle-serves w facts server idle s q leads = let same = same_path_eq server s leads in rw (← same) (facts.walks.idle server idle q)
 
 -- the caller may serve at a port of its space
-caller-serves : (w : World) (c : Caller) → Facts w → IsCaller w c → is_serving w (path_of c) ≡ false → (port : Ptr) → lies_with port (At (path_of c)) → IsSafeServer w port (At (path_of c))
+caller-serves : (w : World) (c : Caller) →
+    Facts w → IsCaller w c → is_serving w (path_of c) ≡ false → (port : Ptr) → lies_with port (At (path_of c)) → IsSafeServer w port (At (path_of c))
 caller-serves w c facts caller idle port near = record { good = caller-leads w c caller; near = near; idle = idle-serves w facts (path_of c) idle }
 
 -- ---- wait
@@ -50,8 +51,10 @@ member-port w x set (Some b) e h = cc
 pub slot-found : (w : World) (space : Path) (set : ℕ) (port : Ptr) (slot : ℕ) → slot_in_set w space set port ≡ Some slot → PortIn w space slot port
 slot-found w space set (At x) slot h = by (same_path (parent x) space && is_member set (w.body x)) refl h
   where
-    by : (t : Bool) → (same_path (parent x) space && is_member set (w.body x)) ≡ t → (if t then Some (slot_of x) else None) ≡ Some slot → PortIn w space slot (At x)
-    by true e h = let both = and_parts _ _ e in record { path = x; at = refl; near = same_path_eq _ _ both.0; kind = member-port w x set _ refl both.1; named = cc }
+    by : (t : Bool) →
+        (same_path (parent x) space && is_member set (w.body x)) ≡ t → (if t then Some (slot_of x) else None) ≡ Some slot → PortIn w space slot (At x)
+    by true e h = let both = and_parts _ _ e in
+        record { path = x; at = refl; near = same_path_eq _ _ both.0; kind = member-port w x set _ refl both.1; named = cc }
     by false e h = cc
 slot-found w space set port slot h = cc
 
@@ -59,7 +62,8 @@ slot-found w space set port slot h = cc
 port-lies : (w : World) (space : Path) (slot k : ℕ) (port : Ptr) → PortIn w space slot port → lies_with port (At (k ∷ space))
 port-lies w space slot k port found = let at = found.at in rw at (sym found.near)
 
-port-slot : (w : World) → IsRooted w → (space : Path) (slot : ℕ) (path : Path) → parent path ≡ space → kind_there w path ≡ Some kinds.Port → slot_of path ≡ slot → kind_there w (slot ∷ space) ≡ Some kinds.Port
+port-slot : (w : World) → IsRooted w → (space : Path) (slot : ℕ) (path : Path) →
+    parent path ≡ space → kind_there w path ≡ Some kinds.Port → slot_of path ≡ slot → kind_there w (slot ∷ space) ≡ Some kinds.Port
 port-slot w rooted space slot [] near kind named = let root = rooted.root in cc
 port-slot w rooted space slot (k ∷ s) near kind named = rw (← near, ← named) kind
 
@@ -69,37 +73,46 @@ GoodCandidate w space x (Some (Faulting slot fault)) = (fault_at w x ≡ Some fa
 GoodCandidate w space x (Some (Connecting slot)) = kind_there w (slot ∷ space) ≡ Some kinds.Port
 GoodCandidate w space x (Some (Resuming slot talk)) = (talk_at w x ≡ Some talk) × PortIn w space slot talk.port
 
-or_else-good : (w : World) (space x : Path) (a b : Option Candidate) → GoodCandidate w space x a → GoodCandidate w space x b → GoodCandidate w space x (or_else a b)
+or_else-good : (w : World) (space x : Path) (a b : Option Candidate) →
+    GoodCandidate w space x a → GoodCandidate w space x b → GoodCandidate w space x (or_else a b)
 or_else-good w space x None b first second = second
 or_else-good w space x (Some a) b first second = first
 
-faulting-good : (w : World) (space : Path) (set : ℕ) (x : Path) (t : Thread) → and_then thread_of (w.body x) ≡ Some t → GoodCandidate w space x (faulting w space set t)
+faulting-good : (w : World) (space : Path) (set : ℕ) (x : Path) (t : Thread) →
+    and_then thread_of (w.body x) ≡ Some t → GoodCandidate w space x (faulting w space set t)
 faulting-good w space set x t there = by t.fault refl
   where
-    slot : (fault : Fault) → t.fault ≡ Some fault → (o : Option ℕ) → slot_in_set w space set fault.port ≡ o → GoodCandidate w space x (option_map (λ slot. Faulting slot fault) o)
+    slot : (fault : Fault) →
+        t.fault ≡ Some fault → (o : Option ℕ) → slot_in_set w space set fault.port ≡ o → GoodCandidate w space x (option_map (λ slot. Faulting slot fault) o)
     slot fault e None found = tt
     slot fault e (Some k) found = (rw there e, slot-found w space set fault.port k found)
 
-    test : (fault : Fault) → t.fault ≡ Some fault → (open_ : Bool) → GoodCandidate w space x (if open_ then option_map (λ slot. Faulting slot fault) (slot_in_set w space set fault.port) else None)
+    test : (fault : Fault) → t.fault ≡ Some fault →
+        (open_ : Bool) → GoodCandidate w space x (if open_ then option_map (λ slot. Faulting slot fault) (slot_in_set w space set fault.port) else None)
     test fault e true = slot fault e _ refl
     test fault e false = tt
 
-    by : (o : Option Fault) → t.fault ≡ o → GoodCandidate w space x (and_then (λ (fault : Fault). if is_open fault.taker then option_map (λ slot. Faulting slot fault) (slot_in_set w space set fault.port) else None) o)
+    by : (o : Option Fault) → t.fault ≡ o → GoodCandidate w space
+        x (and_then (λ (fault : Fault). if is_open fault.taker then option_map (λ slot. Faulting slot fault) (slot_in_set w space set fault.port) else None) o)
     by None e = tt
     by (Some fault) e = test fault e (is_open fault.taker)
 
-resuming-good : (w : World) (space : Path) (set : ℕ) (x : Path) (t : Thread) → and_then thread_of (w.body x) ≡ Some t → GoodCandidate w space x (resuming w space set t)
+resuming-good : (w : World) (space : Path) (set : ℕ) (x : Path) (t : Thread) →
+    and_then thread_of (w.body x) ≡ Some t → GoodCandidate w space x (resuming w space set t)
 resuming-good w space set x t there = by t.talk refl
   where
-    slot : (talk : Talk) → t.talk ≡ Some talk → (o : Option ℕ) → slot_in_set w space set talk.port ≡ o → GoodCandidate w space x (option_map (λ slot. Resuming slot talk) o)
+    slot : (talk : Talk) →
+        t.talk ≡ Some talk → (o : Option ℕ) → slot_in_set w space set talk.port ≡ o → GoodCandidate w space x (option_map (λ slot. Resuming slot talk) o)
     slot talk e None found = tt
     slot talk e (Some k) found = (rw there e, slot-found w space set talk.port k found)
 
-    test : (talk : Talk) → t.talk ≡ Some talk → (parked : Bool) → GoodCandidate w space x (if parked then option_map (λ slot. Resuming slot talk) (slot_in_set w space set talk.port) else None)
+    test : (talk : Talk) → t.talk ≡ Some talk →
+        (parked : Bool) → GoodCandidate w space x (if parked then option_map (λ slot. Resuming slot talk) (slot_in_set w space set talk.port) else None)
     test talk e true = slot talk e _ refl
     test talk e false = tt
 
-    by : (o : Option Talk) → t.talk ≡ o → GoodCandidate w space x (and_then (λ (talk : Talk). if is_parked (Some talk.peer) then option_map (λ slot. Resuming slot talk) (slot_in_set w space set talk.port) else None) o)
+    by : (o : Option Talk) → t.talk ≡ o → GoodCandidate w space x
+        (and_then (λ (talk : Talk). if is_parked (Some talk.peer) then option_map (λ slot. Resuming slot talk) (slot_in_set w space set talk.port) else None) o)
     by None e = tt
     by (Some talk) e = test talk e (is_parked (Some talk.peer))
 
@@ -118,8 +131,10 @@ candidate-good : (w : World) → IsRooted w → (space : Path) (set : ℕ) (x : 
 unfolding candidate
 candidate-good w rooted space set x = if_unheld _
   where
-    free : (t : Thread) (is_so : Bool) → and_then thread_of (w.body x) ≡ Some t → GoodCandidate w space x (if is_so then or_else (connecting w space set x t) (resuming w space set t) else None)
-    free t true there = or_else-good w space x (connecting w space set x t) (resuming w space set t) (connecting-good w rooted space set x t) (resuming-good w space set x t there)
+    free : (t : Thread) (is_so : Bool) →
+        and_then thread_of (w.body x) ≡ Some t → GoodCandidate w space x (if is_so then or_else (connecting w space set x t) (resuming w space set t) else None)
+    free t true there = or_else-good w
+        space x (connecting w space set x t) (resuming w space set t) (connecting-good w rooted space set x t) (resuming-good w space set x t there)
     free t false there = tt
 
     by : (o : Option Thread) → and_then thread_of (w.body x) ≡ o → GoodCandidate w space x (and_then (candidate_by w space set x) o)
@@ -130,24 +145,30 @@ candidate-good w rooted space set x = if_unheld _
     if_unheld true = by _ refl
     if_unheld false = tt
 
-takes-safe : (w : World) (c : Caller) → Facts w → IsCaller w c → is_serving w (path_of c) ≡ false → (x : Path) (o : Option Candidate) → GoodCandidate w c.space x o → SafeOutcome w (takes_candidate c x o)
+takes-safe : (w : World) (c : Caller) → Facts w →
+    IsCaller w c → is_serving w (path_of c) ≡ false → (x : Path) (o : Option Candidate) → GoodCandidate w c.space x o → SafeOutcome w (takes_candidate c x o)
 takes-safe w c facts caller idle x None good = waits
 takes-safe w c facts caller idle x (Some (Faulting slot fault)) good = safe-ended w c (Alter x (SetTaker (Some (Server (At (path_of c))))) ∷ []) _ (taker, tt)
   where
     taker : (found : Fault) → fault_at w x ≡ Some found → IsSafeServer w found.port (At (path_of c))
-    taker found at = let there = good.0 in let same : found ≡ fault = cc in rw same (caller-serves w c facts caller idle fault.port (port-lies w c.space slot c.slot fault.port good.1))
-takes-safe w c facts caller idle x (Some (Connecting slot)) good = safe-done w c (Alter x (SetTalk (Some (new_talk (At (slot ∷ c.space)) (Server (At (path_of c)))))) ∷ Alter x (Finish []) ∷ []) _ (talk, (tt, tt))
+    taker found at = let there = good.0 in
+        let same : found ≡ fault = cc in rw same (caller-serves w c facts caller idle fault.port (port-lies w c.space slot c.slot fault.port good.1))
+takes-safe w c facts caller idle x (Some (Connecting slot)) good =
+    safe-done w c (Alter x (SetTalk (Some (new_talk (At (slot ∷ c.space)) (Server (At (path_of c)))))) ∷ Alter x (Finish []) ∷ []) _ (talk, (tt, tt))
   where
     talk : IsSafeTalk w x (new_talk (At (slot ∷ c.space)) (Server (At (path_of c))))
     talk = record { port = rw good refl; peer = caller-serves w c facts caller idle (At (slot ∷ c.space)) refl }
 takes-safe w c facts caller idle x (Some (Resuming slot talk)) good = safe-ended w c (Alter x (SetPeer (Server (At (path_of c)))) ∷ []) _ (peer, tt)
   where
     peer : (found : Talk) → talk_at w x ≡ Some found → IsSafePeer w x found.port (Server (At (path_of c)))
-    peer found at = let there = good.0 in let same : found ≡ talk = cc in rw same (caller-serves w c facts caller idle talk.port (port-lies w c.space slot c.slot talk.port good.1))
+    peer found at = let there = good.0 in
+        let same : found ≡ talk = cc in rw same (caller-serves w c facts caller idle talk.port (port-lies w c.space slot c.slot talk.port good.1))
 
-takes_picked-safe : (w : World) (c : Caller) (set : ℕ) (pick : Option Path) → Facts w → IsCaller w c → is_serving w (path_of c) ≡ false → SafeOutcome w (takes_picked w c set pick)
+takes_picked-safe : (w : World) (c : Caller) (set : ℕ) (pick : Option Path) →
+    Facts w → IsCaller w c → is_serving w (path_of c) ≡ false → SafeOutcome w (takes_picked w c set pick)
 takes_picked-safe w c set None facts caller idle = waits
-takes_picked-safe w c set (Some x) facts caller idle = takes-safe w c facts caller idle x (candidate w c.space set x) (candidate-good w facts.rooted c.space set x)
+takes_picked-safe w c set (Some x) facts caller idle =
+    takes-safe w c facts caller idle x (candidate w c.space set x) (candidate-good w facts.rooted c.space set x)
 
 pub wait-safe : (w : World) (c : Caller) (pick : Option Path) (set : ℕ) → Facts w → IsCaller w c → SafeOutcome w (wait w c pick set)
 unfolding wait
@@ -160,7 +181,8 @@ unfolding connect
 connect-safe w c h = search safe_row
 
 removes-safe : (w : World) (c : Caller) (side : Turn) (l : Line) → SafeOutcome w (removes w c side l)
-removes-safe w c side l = safe-telling w _ _ (safe-done w c (end_all (ends_beyond w side l) ++ Alter l.client (SetTalk None) ∷ []) [] (safe-then (end_all (ends_beyond w side l)) _ w (safe-end_all _ w) (λ v. (tt, tt))))
+removes-safe w c side l = safe-telling w _ _ (safe-done w c (end_all (ends_beyond w side l) ++ Alter l.client (SetTalk None) ∷ [])
+    [] (safe-then (end_all (ends_beyond w side l)) _ w (safe-end_all _ w) (λ v. (tt, tt))))
 
 pub disconnect-safe : (w : World) (c : Caller) (side : Turn) → SafeOutcome w (disconnect w c side)
 unfolding disconnect

@@ -30,7 +30,8 @@ unmapped : {A B : Type 0} (f : A → B) (o : Option A) → option_map f o ≡ No
 unmapped f None h = refl
 unmapped f (Some a) h = cc
 
-leaf_by-empty : (n : ℕ) (w : World) → IsRooted w → (x : Path) → ((q : Path) → IsSome (w.body q) → length q ≤ length x + n) → (k : ℕ) → w.body (k ∷ leaf_by n w x) ≡ None
+leaf_by-empty : (n : ℕ) (w : World) →
+    IsRooted w → (x : Path) → ((q : Path) → IsSome (w.body q) → length q ≤ length x + n) → (k : ℕ) → w.body (k ∷ leaf_by n w x) ≡ None
 unfolding leaf_by
 leaf_by-empty zero w rooted x few k = by (w.body (k ∷ x)) refl
   where
@@ -39,8 +40,10 @@ leaf_by-empty zero w rooted x few k = by (w.body (k ∷ x)) refl
     by (Some b) e = absurd (omega (arith, few (k ∷ x) (rw e refl)))
 leaf_by-empty (suc n) w rooted x few k = by (first_resident w x) refl (λ j. leaf_by-empty n w rooted (j ∷ x) (λ q live. omega (arith, few q live)) k)
   where
-    by : (o : Option ℕ) → first_resident w x ≡ o → ((j : ℕ) → w.body (k ∷ leaf_by n w (j ∷ x)) ≡ None) → w.body (k ∷ leaf_from (λ j. leaf_by n w (j ∷ x)) x o) ≡ None
-    by None e rest = empty_all w rooted x (λ j below. unmapped (λ b. j) (w.body (j ∷ x)) (lowest_none SLOTS (λ k. option_map (λ b. k) (w.body (k ∷ x))) e j below)) k
+    by : (o : Option ℕ) →
+        first_resident w x ≡ o → ((j : ℕ) → w.body (k ∷ leaf_by n w (j ∷ x)) ≡ None) → w.body (k ∷ leaf_from (λ j. leaf_by n w (j ∷ x)) x o) ≡ None
+    by None e rest =
+        empty_all w rooted x (λ j below. unmapped (λ b. j) (w.body (j ∷ x)) (lowest_none SLOTS (λ k. option_map (λ b. k) (w.body (k ∷ x))) e j below)) k
     by (Some j) e rest = rest j
 
 leaf_by-inner : (n : ℕ) (w : World) (k : ℕ) (s : Path) → leaf_by n w (k ∷ s) ≡ [] → ⊥

@@ -49,7 +49,8 @@ live_through : (f : Body → Body) (o : Option Body) → IsSome (option_map f o)
 live_through f None h = h
 live_through f (Some b) h = refl
 
-same_kind_through : (f : Body → Body) → ((b : Body) → outline_of (f b) ≡ outline_of b) → (o : Option Body) → option_map kind_of (option_map f o) ≡ option_map kind_of o
+same_kind_through : (f : Body → Body) →
+    ((b : Body) → outline_of (f b) ≡ outline_of b) → (o : Option Body) → option_map kind_of (option_map f o) ≡ option_map kind_of o
 same_kind_through f same None = refl
 same_kind_through f same (Some b) = ap (λ (t : Outline). Some t.kind) (same b)
 
@@ -68,7 +69,8 @@ rooted-at w x f same rooted = record {
     slot k y true h = rooted.slots k y (live_through f (w.body (k ∷ y)) h)
     slot k y false h = rooted.slots k y h
 
-rooted-made : (w : World) (k : ℕ) (s : Path) (body : Body) (n : ℕ) → IsVacant w k s → IsRooted w → IsRooted (record { body = λ q. if same_path q (k ∷ s) then Some body else w.body q; page = w.page; next = n })
+rooted-made : (w : World) (k : ℕ) (s : Path) (body : Body) (n : ℕ) →
+    IsVacant w k s → IsRooted w → IsRooted (record { body = λ q. if same_path q (k ∷ s) then Some body else w.body q; page = w.page; next = n })
 unfolding kind_there same_path
 rooted-made w k s body n place rooted = record {
   root = rooted.root;
@@ -82,7 +84,8 @@ rooted-made w k s body n place rooted = record {
 rooted-kill : (w : World) (x : Path) → IsAlone w x → IsRooted w → IsRooted (apply (Kill x) w)
 unfolding apply kind_there
 rooted-kill w x alone rooted = record {
-  root = rw (same_path_ne [] x (λ e. alone.inner (sym e))) (outline-kind _ ∙ ap (option_map (λ (f : Outline). f.kind)) (outline-without x [] (w.body [])) ∙ sym (outline-kind (w.body [])) ∙ rooted.root);
+  root = rw (same_path_ne [] x (λ e. alone.inner (sym e)))
+      (outline-kind _ ∙ ap (option_map (λ (f : Outline). f.kind)) (outline-without x [] (w.body [])) ∙ sym (outline-kind (w.body [])) ∙ rooted.root);
   slots = λ k y. slot k y (same_path (k ∷ y) x);
 }
   where
@@ -93,12 +96,14 @@ rooted-kill w x alone rooted = record {
 rooted-move : (w : World) (k : ℕ) (s : Path) (slot : ℕ) → IsSafeMove w k s slot → IsRooted w → IsRooted (apply (Move (k ∷ s) slot) w)
 unfolding apply kind_there same_path
 rooted-move w k s slot safe rooted = record {
-  root = outline-kind _ ∙ ap (option_map (λ (f : Outline). f.kind)) (outline-following (k ∷ s) (slot ∷ s) [] (w.body [])) ∙ sym (outline-kind (w.body [])) ∙ rooted.root;
+  root = outline-kind _
+      ∙ ap (option_map (λ (f : Outline). f.kind)) (outline-following (k ∷ s) (slot ∷ s) [] (w.body [])) ∙ sym (outline-kind (w.body [])) ∙ rooted.root;
   slots = λ j y. by j y (same_path (j ∷ y) (slot ∷ s)) refl (same_path (j ∷ y) (k ∷ s));
 }
   where
     by : (j : ℕ) (y : Path) (t : Bool) → same_path (j ∷ y) (slot ∷ s) ≡ t → (r : Bool) →
-        IsSome (if t then option_map (through (following (k ∷ s) (slot ∷ s)) (slot ∷ s)) (w.body (k ∷ s)) else (if r then None else option_map (through (following (k ∷ s) (slot ∷ s)) (j ∷ y)) (w.body (j ∷ y)))) → j < SLOTS
+        IsSome (if t then option_map (through (following (k ∷ s) (slot ∷ s)) (slot ∷ s)) (w.body (k ∷ s))
+        else (if r then None else option_map (through (following (k ∷ s) (slot ∷ s)) (j ∷ y)) (w.body (j ∷ y)))) → j < SLOTS
     by j y true e r h = let here = same_path_eq (j ∷ y) (slot ∷ s) e in let same : j ≡ slot = cc in rw same safe.slot_fits
     by j y false e true h = cc
     by j y false e false h = rooted.slots j y (live_through (through (following (k ∷ s) (slot ∷ s)) (j ∷ y)) (w.body (j ∷ y)) h)
@@ -142,11 +147,13 @@ not_paged : (w : World) → IsPaged w → (x : Path) → w.body x ≡ None → (
 unfolding kind_there
 not_paged w paged x empty page there = let space = (paged x page there).space in let none : option_map kind_of (w.body x) ≡ None = rw empty refl in cc
 
-paged-made : (w : World) (x : Path) (body : Body) (n : ℕ) → w.body x ≡ None → IsPaged w → IsPaged (record { body = λ q. if same_path q x then Some body else w.body q; page = w.page; next = n })
+paged-made : (w : World) (x : Path) (body : Body) (n : ℕ) →
+    w.body x ≡ None → IsPaged w → IsPaged (record { body = λ q. if same_path q x then Some body else w.body q; page = w.page; next = n })
 unfolding kind_there
 paged-made w x body n empty paged = paged-kept w _ paged (λ s page there. (paged s page there, by s page there (same_path s x) refl))
   where
-    by : (s : Path) (page : ℕ) → IsSome (w.page s page) → (t : Bool) → same_path s x ≡ t → option_map kind_of (if t then Some body else w.body s) ≡ option_map kind_of (w.body s)
+    by : (s : Path) (page : ℕ) →
+        IsSome (w.page s page) → (t : Bool) → same_path s x ≡ t → option_map kind_of (if t then Some body else w.body s) ≡ option_map kind_of (w.body s)
     by s page there true e = let here = same_path_eq s x e in absurd (not_paged w paged x empty page (rw here at there))
     by s page there false e = refl
 
@@ -157,7 +164,8 @@ paged-kill w x paged = paged-kept w (apply (Kill x) w) paged (λ s page. by s pa
     by : (s : Path) (page : ℕ) (t : Bool) → IsSome (if t then None else w.page s page) →
         HasPlace w s page × (option_map kind_of (if t then None else option_map (through (death_sweep x) s) (w.body s)) ≡ option_map kind_of (w.body s))
     by s page true there = cc
-    by s page false there = (paged s page there, outline-kind _ ∙ ap (option_map (λ (f : Outline). f.kind)) (outline-without x s (w.body s)) ∙ sym (outline-kind (w.body s)))
+    by s page false there =
+        (paged s page there, outline-kind _ ∙ ap (option_map (λ (f : Outline). f.kind)) (outline-without x s (w.body s)) ∙ sym (outline-kind (w.body s)))
 
 paged-move : (w : World) (x y : Path) → IsPaged w → IsPaged (moved_to x y w)
 unfolding kind_there
@@ -167,7 +175,8 @@ paged-move w x y paged s page there = let its = by (same_path s y) (same_path s 
     follows at o = outline-kind _ ∙ ap (option_map (λ (f : Outline). f.kind)) (outline-following x y at o) ∙ sym (outline-kind o)
 
     by : (t r : Bool) → IsSome (if t then w.page x page else (if r then None else w.page s page)) →
-        (option_map kind_of (if t then option_map (through (following x y) y) (w.body x) else (if r then None else option_map (through (following x y) s) (w.body s))) ≡ Some kinds.Space) × (page < PAGES)
+        (option_map kind_of (if t then option_map (through (following x y) y) (w.body x)
+        else (if r then None else option_map (through (following x y) s) (w.body s))) ≡ Some kinds.Space) × (page < PAGES)
     by true r there = let its = paged x page there in (follows y (w.body x) ∙ its.space, its.number)
     by false true there = cc
     by false false there = let its = paged s page there in (follows s (w.body s) ∙ its.space, its.number)
@@ -176,7 +185,8 @@ paged-put : (w : World) (space : Path) (page : ℕ) (words : List ℕ) → HasPl
 unfolding apply kind_there
 paged-put w space page words place paged = paged-kept w _ paged (λ s g there. (by s g (same_path s space) refl (eqb g page) refl there, refl))
   where
-    by : (s : Path) (g : ℕ) (t : Bool) → same_path s space ≡ t → (r : Bool) → eqb g page ≡ r → IsSome (if t && r then Some words else w.page s g) → HasPlace w s g
+    by : (s : Path) (g : ℕ) (t : Bool) →
+        same_path s space ≡ t → (r : Bool) → eqb g page ≡ r → IsSome (if t && r then Some words else w.page s g) → HasPlace w s g
     by s g true e true f there = let here = same_path_eq s space e in let number = eqb-true g page f in rw (here, number) place
     by s g true e false f there = paged s g there
     by s g false e r f there = paged s g there

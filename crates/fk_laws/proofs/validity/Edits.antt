@@ -47,12 +47,14 @@ good-tie : (there : Path → Option Kind) (o : Option Talk) → all_in (is_good_
 good-tie there None = refl
 good-tie there (Some talk) = refl
 
-good-light : (there : Path → Option Kind) (x : Path) (f : Thread → Thread) → IsLight f → (b : Body) → is_good there x b ≡ true → is_good there x (on_thread f b) ≡ true
+good-light : (there : Path → Option Kind) (x : Path) (f : Thread → Thread) →
+    IsLight f → (b : Body) → is_good there x b ≡ true → is_good there x (on_thread f b) ≡ true
 good-light there x f light (Thread_of t) h = rw (good-tie there (f t).talk, light.talk t, ← good-tie there t.talk, light.fault t) h
 good-light there x f light b h = h
 
 valid-light : (w : World) (x : Path) (f : Thread → Thread) → IsLight f → IsConsistent w → IsConsistent (at_path x (option_map (on_thread f)) w)
-valid-light w x f light valid = valid-at_quiet w x (on_thread f) (outline-on_thread f) (tie-light f light) (claim-light f light) (λ b e h. good-light (kind_there w) x f light b h) valid
+valid-light w x f light valid =
+    valid-at_quiet w x (on_thread f) (outline-on_thread f) (tie-light f light) (claim-light f light) (λ b e h. good-light (kind_there w) x f light b h) valid
 
 ended-talk : (status : ℕ) (answers : List ℕ) (t : Thread) (m : Mode) → (ended_in status answers t m).talk ≡ t.talk
 ended-talk status answers t (Calling todo rest) = refl
@@ -87,7 +89,8 @@ seen_of b = record { outline = outline_of b; tie = body_tie (Some b); claim = bo
 valid-seen : (w : World) (x : Path) (f : Body → Body) → ((b : Body) → seen_of (f b) ≡ seen_of b) →
     ((b : Body) → w.body x ≡ Some b → is_good (kind_there w) x b ≡ true → is_good (kind_there w) x (f b) ≡ true) →
     IsConsistent w → IsConsistent (at_path x (option_map f) w)
-valid-seen w x f same keeps valid = valid-at_quiet w x f (λ b. ap (λ (s : Seen). s.outline) (same b)) (λ b. ap (λ (s : Seen). s.tie) (same b)) (λ b. ap (λ (s : Seen). s.claim) (same b)) keeps valid
+valid-seen w x f same keeps valid = valid-at_quiet w
+    x f (λ b. ap (λ (s : Seen). s.outline) (same b)) (λ b. ap (λ (s : Seen). s.tie) (same b)) (λ b. ap (λ (s : Seen). s.claim) (same b)) keeps valid
 
 seen-locked : (locked : Bool) (b : Body) → seen_of (with_locked locked b) ≡ seen_of b
 seen-locked locked (Mutex old) = refl
@@ -122,23 +125,28 @@ module _ (there : Path → Option Kind) (x : Path) where
   good-locked locked (Mutex old) h = refl
   good-locked locked b h = h
 
-  good-window : (first count offset : ℕ) (write : Bool) → (is_page_range first count && nat_lt offset PAGES) ≡ true → (b : Body) → is_good there x b ≡ true → is_good there x (with_window first count offset write b) ≡ true
+  good-window : (first count offset : ℕ) (write : Bool) → (is_page_range first count && nat_lt offset PAGES) ≡ true →
+      (b : Body) → is_good there x b ≡ true → is_good there x (with_window first count offset write b) ≡ true
   good-window first count offset write safe (Mapping m) h = and_from _ _ safe (and_parts _ (may_lead there (kinds.Region ∷ []) m.region) h).1
   good-window first count offset write safe b h = h
 
-  good-extent : (first count : ℕ) (write : Bool) → is_page_range first count ≡ true → (b : Body) → is_good there x b ≡ true → is_good there x (with_extent first count write b) ≡ true
+  good-extent : (first count : ℕ) (write : Bool) →
+      is_page_range first count ≡ true → (b : Body) → is_good there x b ≡ true → is_good there x (with_extent first count write b) ≡ true
   good-extent first count write safe (Region r) h = and_from _ _ safe (and_parts _ (may_lead there (kinds.Port ∷ []) r.keeper) h).1
   good-extent first count write safe b h = h
 
-  good-holder : (holder : Option Ptr) → all_in (leads_there there (kinds.Thread ∷ [])) holder ≡ true → (b : Body) → is_good there x b ≡ true → is_good there x (with_holder holder b) ≡ true
+  good-holder : (holder : Option Ptr) →
+      all_in (leads_there there (kinds.Thread ∷ [])) holder ≡ true → (b : Body) → is_good there x b ≡ true → is_good there x (with_holder holder b) ≡ true
   good-holder holder safe (Space birth old) h = safe
   good-holder holder safe b h = h
 
-good-member : (w : World) (x : Path) (set : Option ℕ) (b : Body) → takes_set w x set b ≡ true → is_good (kind_there w) x b ≡ true → is_good (kind_there w) x (with_member set b) ≡ true
+good-member : (w : World) (x : Path) (set : Option ℕ) (b : Body) →
+    takes_set w x set b ≡ true → is_good (kind_there w) x b ≡ true → is_good (kind_there w) x (with_member set b) ≡ true
 good-member w x set (Port old served) safe h = safe
 good-member w x set b safe h = h
 
-good-pointer : (w : World) (x : Path) (to : Ptr) (b : Body) → takes_pointer w to b ≡ true → is_good (kind_there w) x b ≡ true → is_good (kind_there w) x (with_pointer to b) ≡ true
+good-pointer : (w : World) (x : Path) (to : Ptr) (b : Body) →
+    takes_pointer w to b ≡ true → is_good (kind_there w) x b ≡ true → is_good (kind_there w) x (with_pointer to b) ≡ true
 good-pointer w x to (Mapping m) safe h = and_from _ _ (and_parts _ (may_lead (kind_there w) (kinds.Region ∷ []) m.region) h).0 safe
 good-pointer w x to (Region r) safe h = and_from _ _ (and_parts _ (may_lead (kind_there w) (kinds.Port ∷ []) r.keeper) h).0 safe
 good-pointer w x to (Reference old) safe h = safe
@@ -168,7 +176,8 @@ fit-parked a b port = record { near = λ p s h. cc; idle = λ s h. cc }
 fit_talk-none : (served : Ptr → Bool) (a b : Path → Option Tie) (x : Path) → IsFitTalk served a b x None
 fit_talk-none served a b x = record { fit = fit-none a b; at_served = λ port h. cc; alone = λ port q h g. cc }
 
-fit_talk-peer : (w : World) (x : Path) (port : Ptr) (peer : Peer) → IsSafePeer w x port peer → IsFitTalk (is_served_port w) (tie_at w) (claim_at w) x (Some (Joins port peer))
+fit_talk-peer : (w : World) (x : Path) (port : Ptr) (peer : Peer) →
+    IsSafePeer w x port peer → IsFitTalk (is_served_port w) (tie_at w) (claim_at w) x (Some (Joins port peer))
 fit_talk-peer w x port (Server server) safe = record { fit = fit-server w port server safe; at_served = λ p h. cc; alone = λ p q h g. cc }
 fit_talk-peer w x port Service safe = record {
   fit = fit-service (tie_at w) (claim_at w) port;
@@ -195,7 +204,8 @@ claim-on_thread : (g : Thread → Thread) → ((t : Thread) → (g t).fault ≡ 
 claim-on_thread g same (Thread_of t) = ap (and_then claim_of) (same t)
 claim-on_thread g same b = refl
 
-good-on_thread : (there : Path → Option Kind) (x : Path) (g : Thread → Thread) (o : Option Body) → ((t : Thread) → o ≡ Some (Thread_of t) → is_good there x (Thread_of t) ≡ true → is_good there x (Thread_of (g t)) ≡ true) →
+good-on_thread : (there : Path → Option Kind) (x : Path) (g : Thread → Thread) (o : Option Body) →
+    ((t : Thread) → o ≡ Some (Thread_of t) → is_good there x (Thread_of t) ≡ true → is_good there x (Thread_of (g t)) ≡ true) →
     (b : Body) → o ≡ Some b → is_good there x b ≡ true → is_good there x (on_thread g b) ≡ true
 good-on_thread there x g o keeps (Thread_of t) e h = keeps t e h
 good-on_thread there x g o keeps b e h = h
@@ -225,7 +235,8 @@ valid-fault w x g same fit keeps valid =
 -- ---- each of the four
 
 module _ (w : World) (x : Path) where
-  fit-set_talk : (talk : Option Talk) → IfAny (IsSafeTalk w x) talk → (o : Option Body) → IsFitTalk (is_served_port w) (tie_at w) (claim_at w) x (body_tie (option_map (on_thread (λ t. record t { talk = talk })) o))
+  fit-set_talk : (talk : Option Talk) → IfAny (IsSafeTalk w x) talk →
+      (o : Option Body) → IsFitTalk (is_served_port w) (tie_at w) (claim_at w) x (body_tie (option_map (on_thread (λ t. record t { talk = talk })) o))
   fit-set_talk None safe (Some (Thread_of t)) = fit_talk-none _ _ _ x
   fit-set_talk (Some talk) safe (Some (Thread_of t)) = fit_talk-peer w x talk.port talk.peer safe.peer
   fit-set_talk talk safe o = fit_talk-none _ _ _ x
@@ -249,16 +260,21 @@ module _ (w : World) (x : Path) where
   good_fault None safe = refl
   good_fault (Some fault) safe = and_from _ _ safe.port (good_taker fault.port fault.taker safe.taker)
 
-  valid-set_talk : (talk : Option Talk) → IfAny (IsSafeTalk w x) talk → IsConsistent w → IsConsistent (at_path x (option_map (on_thread (λ t. record t { talk = talk }))) w)
-  valid-set_talk talk safe valid = valid-talk w x (λ t. record t { talk = talk }) (λ t. refl) (fit-set_talk talk safe (w.body x)) (λ t e h. and_from _ _ (good_talk talk safe) (and_parts (all_in (is_good_talk (kind_there w)) t.talk) _ h).1) valid
+  valid-set_talk : (talk : Option Talk) →
+      IfAny (IsSafeTalk w x) talk → IsConsistent w → IsConsistent (at_path x (option_map (on_thread (λ t. record t { talk = talk }))) w)
+  valid-set_talk talk safe valid = valid-talk w x (λ t. record t { talk = talk }) (λ t. refl)
+      (fit-set_talk talk safe (w.body x)) (λ t e h. and_from _ _ (good_talk talk safe) (and_parts (all_in (is_good_talk (kind_there w)) t.talk) _ h).1) valid
 
-  fit-set_fault : (fault : Option Fault) → IfAny (IsSafeFault w) fault → (o : Option Body) → IsFit (tie_at w) (claim_at w) (body_claim (option_map (on_thread (λ t. record t { fault = fault })) o))
+  fit-set_fault : (fault : Option Fault) →
+      IfAny (IsSafeFault w) fault → (o : Option Body) → IsFit (tie_at w) (claim_at w) (body_claim (option_map (on_thread (λ t. record t { fault = fault })) o))
   fit-set_fault None safe (Some (Thread_of t)) = fit-none _ _
   fit-set_fault (Some fault) safe (Some (Thread_of t)) = fit-taker w fault.port fault.taker safe.taker
   fit-set_fault fault safe o = fit-none _ _
 
-  valid-set_fault : (fault : Option Fault) → IfAny (IsSafeFault w) fault → IsConsistent w → IsConsistent (at_path x (option_map (on_thread (λ t. record t { fault = fault }))) w)
-  valid-set_fault fault safe valid = valid-fault w x (λ t. record t { fault = fault }) (λ t. refl) (fit-set_fault fault safe (w.body x)) (λ t e h. and_from _ _ (and_parts _ (all_in (is_good_fault (kind_there w)) t.fault) h).0 (good_fault fault safe)) valid
+  valid-set_fault : (fault : Option Fault) →
+      IfAny (IsSafeFault w) fault → IsConsistent w → IsConsistent (at_path x (option_map (on_thread (λ t. record t { fault = fault }))) w)
+  valid-set_fault fault safe valid = valid-fault w x (λ t. record t { fault = fault }) (λ t. refl) (fit-set_fault fault safe (w.body x))
+      (λ t e h. and_from _ _ (and_parts _ (all_in (is_good_fault (kind_there w)) t.fault) h).0 (good_fault fault safe)) valid
 
   abbrev with_peer : Peer → Talk → Talk
   with_peer peer talk = record talk { peer = peer }
@@ -266,15 +282,19 @@ module _ (w : World) (x : Path) where
   abbrev with_taker : Option Peer → Fault → Fault
   with_taker taker fault = record fault { taker = taker }
 
-  fit-new_peer : (peer : Peer) (o : Option Talk) → ((talk : Talk) → o ≡ Some talk → IsSafePeer w x talk.port peer) → IsFitTalk (is_served_port w) (tie_at w) (claim_at w) x (option_map tie_of (option_map (with_peer peer) o))
+  fit-new_peer : (peer : Peer) (o : Option Talk) → ((talk : Talk) → o ≡ Some talk → IsSafePeer w x talk.port peer) →
+      IsFitTalk (is_served_port w) (tie_at w) (claim_at w) x (option_map tie_of (option_map (with_peer peer) o))
   fit-new_peer peer None safe = fit_talk-none _ _ _ x
   fit-new_peer peer (Some talk) safe = fit_talk-peer w x talk.port peer (safe talk refl)
 
-  fit-set_peer : (peer : Peer) (o : Option Body) → ((talk : Talk) → and_then (λ (t : Thread). t.talk) (and_then thread_of o) ≡ Some talk → IsSafePeer w x talk.port peer) → IsFitTalk (is_served_port w) (tie_at w) (claim_at w) x (body_tie (option_map (on_thread (on_talk (with_peer peer))) o))
+  fit-set_peer : (peer : Peer) (o : Option Body) →
+      ((talk : Talk) → and_then (λ (t : Thread). t.talk) (and_then thread_of o) ≡ Some talk → IsSafePeer w x talk.port peer) →
+      IsFitTalk (is_served_port w) (tie_at w) (claim_at w) x (body_tie (option_map (on_thread (on_talk (with_peer peer))) o))
   fit-set_peer peer (Some (Thread_of t)) safe = fit-new_peer peer t.talk safe
   fit-set_peer peer o safe = fit_talk-none _ _ _ x
 
-  good-new_peer : (peer : Peer) (o : Option Talk) → ((talk : Talk) → o ≡ Some talk → IsSafePeer w x talk.port peer) → all_in (is_good_talk (kind_there w)) o ≡ true → all_in (is_good_talk (kind_there w)) (option_map (with_peer peer) o) ≡ true
+  good-new_peer : (peer : Peer) (o : Option Talk) → ((talk : Talk) → o ≡ Some talk → IsSafePeer w x talk.port peer) →
+      all_in (is_good_talk (kind_there w)) o ≡ true → all_in (is_good_talk (kind_there w)) (option_map (with_peer peer) o) ≡ true
   good-new_peer peer None safe h = refl
   good-new_peer peer (Some talk) safe h = and_from _ _ (and_parts _ (is_good_peer (kind_there w) talk.peer) h).0 (good_peer talk.port peer (safe talk refl))
 
@@ -284,45 +304,65 @@ module _ (w : World) (x : Path) where
   fault_there : (t : Thread) (fault : Fault) → w.body x ≡ Some (Thread_of t) → t.fault ≡ Some fault → fault_at w x ≡ Some fault
   fault_there t fault e h = rw e h
 
-  valid-set_peer : (peer : Peer) → ((talk : Talk) → talk_at w x ≡ Some talk → IsSafePeer w x talk.port peer) → IsConsistent w → IsConsistent (at_path x (option_map (on_thread (on_talk (with_peer peer)))) w)
+  valid-set_peer : (peer : Peer) → ((talk : Talk) → talk_at w x ≡ Some talk → IsSafePeer w x talk.port peer) →
+      IsConsistent w → IsConsistent (at_path x (option_map (on_thread (on_talk (with_peer peer)))) w)
   valid-set_peer peer safe valid = valid-talk w x (on_talk (with_peer peer)) (λ t. refl) (fit-set_peer peer (w.body x) safe)
-      (λ t e h. let both = and_parts (all_in (is_good_talk (kind_there w)) t.talk) (all_in (is_good_fault (kind_there w)) t.fault) h in and_from _ _ (good-new_peer peer t.talk (λ talk g. safe talk (talk_there t talk e g)) both.0) both.1) valid
+      (λ t e h. let both = and_parts (all_in (is_good_talk (kind_there w)) t.talk) (all_in (is_good_fault (kind_there w)) t.fault) h in
+      and_from _ _ (good-new_peer peer t.talk (λ talk g. safe talk (talk_there t talk e g)) both.0) both.1) valid
 
-  fit-new_taker : (taker : Option Peer) (o : Option Fault) → ((fault : Fault) → o ≡ Some fault → IsSafeTaker w fault.port taker) → IsFit (tie_at w) (claim_at w) (and_then claim_of (option_map (with_taker taker) o))
+  fit-new_taker : (taker : Option Peer) (o : Option Fault) →
+      ((fault : Fault) → o ≡ Some fault → IsSafeTaker w fault.port taker) → IsFit (tie_at w) (claim_at w) (and_then claim_of (option_map (with_taker taker) o))
   fit-new_taker taker None safe = fit-none _ _
   fit-new_taker taker (Some fault) safe = fit-taker w fault.port taker (safe fault refl)
 
-  fit-set_taker : (taker : Option Peer) (o : Option Body) → ((fault : Fault) → and_then (λ (t : Thread). t.fault) (and_then thread_of o) ≡ Some fault → IsSafeTaker w fault.port taker) → IsFit (tie_at w) (claim_at w) (body_claim (option_map (on_thread (on_fault (with_taker taker))) o))
+  fit-set_taker : (taker : Option Peer) (o : Option Body) →
+      ((fault : Fault) → and_then (λ (t : Thread). t.fault) (and_then thread_of o) ≡ Some fault → IsSafeTaker w fault.port taker) →
+      IsFit (tie_at w) (claim_at w) (body_claim (option_map (on_thread (on_fault (with_taker taker))) o))
   fit-set_taker taker (Some (Thread_of t)) safe = fit-new_taker taker t.fault safe
   fit-set_taker taker o safe = fit-none _ _
 
-  good-new_taker : (taker : Option Peer) (o : Option Fault) → ((fault : Fault) → o ≡ Some fault → IsSafeTaker w fault.port taker) → all_in (is_good_fault (kind_there w)) o ≡ true → all_in (is_good_fault (kind_there w)) (option_map (with_taker taker) o) ≡ true
+  good-new_taker : (taker : Option Peer) (o : Option Fault) → ((fault : Fault) → o ≡ Some fault → IsSafeTaker w fault.port taker) →
+      all_in (is_good_fault (kind_there w)) o ≡ true → all_in (is_good_fault (kind_there w)) (option_map (with_taker taker) o) ≡ true
   good-new_taker taker None safe h = refl
-  good-new_taker taker (Some fault) safe h = and_from _ _ (and_parts _ (all_in (is_good_peer (kind_there w)) fault.taker) h).0 (good_taker fault.port taker (safe fault refl))
+  good-new_taker taker (Some fault) safe h =
+      and_from _ _ (and_parts _ (all_in (is_good_peer (kind_there w)) fault.taker) h).0 (good_taker fault.port taker (safe fault refl))
 
-  valid-set_taker : (taker : Option Peer) → ((fault : Fault) → fault_at w x ≡ Some fault → IsSafeTaker w fault.port taker) → IsConsistent w → IsConsistent (at_path x (option_map (on_thread (on_fault (with_taker taker)))) w)
+  valid-set_taker : (taker : Option Peer) → ((fault : Fault) → fault_at w x ≡ Some fault → IsSafeTaker w fault.port taker) →
+      IsConsistent w → IsConsistent (at_path x (option_map (on_thread (on_fault (with_taker taker)))) w)
   valid-set_taker taker safe valid = valid-fault w x (on_fault (with_taker taker)) (λ t. refl) (fit-set_taker taker (w.body x) safe)
-      (λ t e h. let both = and_parts (all_in (is_good_talk (kind_there w)) t.talk) (all_in (is_good_fault (kind_there w)) t.fault) h in and_from _ _ both.0 (good-new_taker taker t.fault (λ fault g. safe fault (fault_there t fault e g)) both.1)) valid
+      (λ t e h. let both = and_parts (all_in (is_good_talk (kind_there w)) t.talk) (all_in (is_good_fault (kind_there w)) t.fault) h in
+      and_from _ _ both.0 (good-new_taker taker t.fault (λ fault g. safe fault (fault_there t fault e g)) both.1)) valid
 
 -- ---- every edit
 
 pub valid-edit : (edit : Edit) (w : World) (x : Path) → IsSafeEdit w x edit → IsConsistent w → IsConsistent (apply (Alter x edit) w)
 unfolding apply edited
 valid-edit (SetLocked locked) w x safe valid = valid-seen w x (with_locked locked) (seen-locked locked) (λ b e. good-locked (kind_there w) x locked b) valid
-valid-edit (SetWindow first count offset write) w x safe valid = valid-seen w x (with_window first count offset write) (seen-window first count offset write) (λ b e. good-window (kind_there w) x first count offset write safe b) valid
-valid-edit (SetExtent first count write) w x safe valid = valid-seen w x (with_extent first count write) (seen-extent first count write) (λ b e. good-extent (kind_there w) x first count write safe b) valid
-valid-edit (SetMember set) w x safe valid = valid-seen w x (with_member set) (seen-member set) (λ b e. good-member w x set b (at_body (takes_set w x set) (w.body x) b e safe)) valid
-valid-edit (SetPointer to) w x safe valid = valid-seen w x (with_pointer to) (seen-pointer to) (λ b e. good-pointer w x to b (at_body (takes_pointer w to) (w.body x) b e safe)) valid
-valid-edit (SetHolder holder) w x safe valid = valid-seen w x (with_holder holder) (seen-holder holder) (λ b e. good-holder (kind_there w) x holder safe b) valid
+valid-edit (SetWindow first count offset write) w x safe valid = valid-seen w
+    x (with_window first count offset write) (seen-window first count offset write) (λ b e. good-window (kind_there w) x first count offset write safe b) valid
+valid-edit (SetExtent first count write) w x safe valid =
+    valid-seen w x (with_extent first count write) (seen-extent first count write) (λ b e. good-extent (kind_there w) x first count write safe b) valid
+valid-edit (SetMember set) w x safe valid =
+    valid-seen w x (with_member set) (seen-member set) (λ b e. good-member w x set b (at_body (takes_set w x set) (w.body x) b e safe)) valid
+valid-edit (SetPointer to) w x safe valid =
+    valid-seen w x (with_pointer to) (seen-pointer to) (λ b e. good-pointer w x to b (at_body (takes_pointer w to) (w.body x) b e safe)) valid
+valid-edit (SetHolder holder) w x safe valid =
+    valid-seen w x (with_holder holder) (seen-holder holder) (λ b e. good-holder (kind_there w) x holder safe b) valid
 valid-edit (Proceed mode counter) w x safe valid = valid-light w x (λ t. at_mode t mode counter) (record { talk = λ t. refl; fault = λ t. refl }) valid
-valid-edit (Shift count) w x safe valid = valid-light w x (λ t. at_mode t (shifted_in count t.mode) t.counter) (record { talk = λ t. refl; fault = λ t. refl }) valid
-valid-edit (Finish answers) w x safe valid = valid-light w x (λ t. finished_in answers t t.mode) (record { talk = λ t. ap (option_map tie_of) (finished-talk answers t t.mode); fault = λ t. finished-fault answers t t.mode }) valid
-valid-edit (End status answers) w x safe valid = valid-light w x (λ t. ended_in status answers t t.mode) (record { talk = λ t. ap (option_map tie_of) (ended-talk status answers t t.mode); fault = λ t. ended-fault status answers t t.mode }) valid
-valid-edit (Replace stage) w x safe valid = valid-light w x (λ t. at_mode t (replaced_in stage t.mode) t.counter) (record { talk = λ t. refl; fault = λ t. refl }) valid
+valid-edit (Shift count) w x safe valid =
+    valid-light w x (λ t. at_mode t (shifted_in count t.mode) t.counter) (record { talk = λ t. refl; fault = λ t. refl }) valid
+valid-edit (Finish answers) w x safe valid = valid-light w x (λ t. finished_in answers t t.mode)
+    (record { talk = λ t. ap (option_map tie_of) (finished-talk answers t t.mode); fault = λ t. finished-fault answers t t.mode }) valid
+valid-edit (End status answers) w x safe valid = valid-light w x (λ t. ended_in status answers t t.mode)
+    (record { talk = λ t. ap (option_map tie_of) (ended-talk status answers t t.mode); fault = λ t. ended-fault status answers t t.mode }) valid
+valid-edit (Replace stage) w x safe valid =
+    valid-light w x (λ t. at_mode t (replaced_in stage t.mode) t.counter) (record { talk = λ t. refl; fault = λ t. refl }) valid
 valid-edit (SetStops stops) w x safe valid = valid-light w x (λ t. record t { stops = stops }) (record { talk = λ t. refl; fault = λ t. refl }) valid
 valid-edit (SetTalk talk) w x safe valid = valid-set_talk w x talk safe valid
-valid-edit (CountMoved count) w x safe valid = valid-light w x (on_talk (λ talk. record talk { moved = min MOST_MOVED (talk.moved + count) })) (record { talk = λ t. same_tie _ (λ talk. refl) t.talk; fault = λ t. refl }) valid
-valid-edit (PassTurn turn) w x safe valid = valid-light w x (on_talk (λ talk. record talk { turn = turn; moved = 0 })) (record { talk = λ t. same_tie _ (λ talk. refl) t.talk; fault = λ t. refl }) valid
+valid-edit (CountMoved count) w x safe valid = valid-light w x (on_talk (λ talk. record talk { moved = min MOST_MOVED (talk.moved + count) }))
+    (record { talk = λ t. same_tie _ (λ talk. refl) t.talk; fault = λ t. refl }) valid
+valid-edit (PassTurn turn) w x safe valid = valid-light w
+    x (on_talk (λ talk. record talk { turn = turn; moved = 0 })) (record { talk = λ t. same_tie _ (λ talk. refl) t.talk; fault = λ t. refl }) valid
 valid-edit (SetPeer peer) w x safe valid = valid-set_peer w x peer safe valid
 valid-edit (SetFault fault) w x safe valid = valid-set_fault w x fault safe valid
 valid-edit (SetTaker taker) w x safe valid = valid-set_taker w x taker safe valid

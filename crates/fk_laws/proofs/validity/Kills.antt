@@ -43,7 +43,8 @@ module _ (x : Path) (there : Path → Option Kind) where
   peer-kept (Server server) e h = leads-kept (kinds.Thread ∷ []) server e h
   peer-kept peer e h = h
 
-  holder-killed : (o : Option Ptr) → all_in (leads_there there (kinds.Thread ∷ [])) o ≡ true → all_in (leads_there left (kinds.Thread ∷ [])) (and_then (λ p. if leads_to x p then None else Some p) o) ≡ true
+  holder-killed : (o : Option Ptr) → all_in (leads_there there (kinds.Thread ∷ [])) o ≡ true →
+      all_in (leads_there left (kinds.Thread ∷ [])) (and_then (λ p. if leads_to x p then None else Some p) o) ≡ true
   holder-killed None h = refl
   holder-killed (Some p) h = by (leads_to x p) refl
     where
@@ -74,13 +75,15 @@ module _ (x : Path) (there : Path → Option Kind) where
   fault-killed None h = refl
   fault-killed (Some fault) h = by (leads_to x fault.port) refl
     where
-      by : (t : Bool) → leads_to x fault.port ≡ t → all_in (is_good_fault left) (if t then None else Some (record fault { taker = and_then (taker_without x) fault.taker })) ≡ true
+      by : (t : Bool) → leads_to x fault.port ≡ t →
+          all_in (is_good_fault left) (if t then None else Some (record fault { taker = and_then (taker_without x) fault.taker })) ≡ true
       by true e = refl
       by false e =
           let both = and_parts (leads_there there (kinds.Port ∷ []) fault.port) (all_in (is_good_peer there) fault.taker) h in
           and_from _ _ (leads-kept (kinds.Port ∷ []) fault.port e both.0) (taker-killed fault.taker both.1)
 
-  set-killed : (at : Path) (o : Option ℕ) (served : Bool) → is_good_set there at o served ≡ true → is_good_set left at (and_then (λ set. if same_path (set_at at set) x then None else Some set) o) served ≡ true
+  set-killed : (at : Path) (o : Option ℕ) (served : Bool) →
+      is_good_set there at o served ≡ true → is_good_set left at (and_then (λ set. if same_path (set_at at set) x then None else Some set) o) served ≡ true
   set-killed at None served h = refl
   set-killed at (Some set) served h = by (same_path (set_at at set) x) refl
     where
@@ -89,8 +92,10 @@ module _ (x : Path) (there : Path → Option Kind) where
       by false e = let both = and_parts (not served) (is_one_of (kinds.Portset ∷ []) (there (set_at at set))) h in and_from _ _ both.0 (rw e both.1)
 
   good-killed : (at : Path) (b : Body) → is_good there at b ≡ true → is_good left at (through (death_sweep x) at b) ≡ true
-  good-killed at (Mapping m) h = let both = and_parts _ (may_lead there (kinds.Region ∷ []) m.region) h in and_from _ _ both.0 (pointer-killed (kinds.Region ∷ []) m.region both.1)
-  good-killed at (Region r) h = let both = and_parts _ (may_lead there (kinds.Port ∷ []) r.keeper) h in and_from _ _ both.0 (pointer-killed (kinds.Port ∷ []) r.keeper both.1)
+  good-killed at (Mapping m) h = let both = and_parts _ (may_lead there (kinds.Region ∷ []) m.region) h in
+      and_from _ _ both.0 (pointer-killed (kinds.Region ∷ []) m.region both.1)
+  good-killed at (Region r) h = let both = and_parts _ (may_lead there (kinds.Port ∷ []) r.keeper) h in
+      and_from _ _ both.0 (pointer-killed (kinds.Port ∷ []) r.keeper both.1)
   good-killed at (Port set served) h = set-killed at set served h
   good-killed at (Space birth holder) h = holder-killed holder h
   good-killed at (Thread_of t) h =
@@ -103,11 +108,13 @@ module _ (x : Path) (there : Path → Option Kind) where
 
 -- ---- ties are kept or lost
 
-tie-without : (x : Path) (o : Option Talk) (port : Ptr) (peer : Peer) → option_map tie_of (and_then (talk_without x) o) ≡ Some (Joins port peer) → (option_map tie_of o ≡ Some (Joins port peer)) × (leads_to x port ≡ false)
+tie-without : (x : Path) (o : Option Talk) (port : Ptr) (peer : Peer) →
+    option_map tie_of (and_then (talk_without x) o) ≡ Some (Joins port peer) → (option_map tie_of o ≡ Some (Joins port peer)) × (leads_to x port ≡ false)
 tie-without x None port peer h = cc
 tie-without x (Some talk) port peer h = by (leads_to x talk.port || serves x talk.peer) refl h
   where
-    by : (t : Bool) → (leads_to x talk.port || serves x talk.peer) ≡ t → option_map tie_of (if t then None else Some talk) ≡ Some (Joins port peer) → (Some (Joins talk.port talk.peer) ≡ Some (Joins port peer)) × (leads_to x port ≡ false)
+    by : (t : Bool) → (leads_to x talk.port || serves x talk.peer) ≡ t → option_map tie_of (if t then None else Some talk) ≡ Some (Joins port peer) →
+        (Some (Joins talk.port talk.peer) ≡ Some (Joins port peer)) × (leads_to x port ≡ false)
     by true e g = cc
     by false e g = let same : talk.port ≡ port = cc in let off = (or_parts (leads_to x talk.port) (serves x talk.peer) e).0 in (g, rw same at off)
 
@@ -119,12 +126,14 @@ claim-without x (Some fault) tie h = by (leads_to x fault.port) fault.taker h
     taken peer true g = cc
     taken peer false g = g
 
-    by : (t : Bool) (taker : Option Peer) → and_then claim_of (if t then None else Some (record fault { taker = and_then (taker_without x) taker })) ≡ Some tie → option_map (Joins fault.port) taker ≡ Some tie
+    by : (t : Bool) (taker : Option Peer) → and_then claim_of
+        (if t then None else Some (record fault { taker = and_then (taker_without x) taker })) ≡ Some tie → option_map (Joins fault.port) taker ≡ Some tie
     by true taker g = cc
     by false None g = cc
     by false (Some peer) g = taken peer (serves x peer) g
 
-tie-killed : (x q : Path) (o : Option Body) (port : Ptr) (peer : Peer) → body_tie (option_map (through (death_sweep x) q) o) ≡ Some (Joins port peer) → (body_tie o ≡ Some (Joins port peer)) × (leads_to x port ≡ false)
+tie-killed : (x q : Path) (o : Option Body) (port : Ptr) (peer : Peer) →
+    body_tie (option_map (through (death_sweep x) q) o) ≡ Some (Joins port peer) → (body_tie o ≡ Some (Joins port peer)) × (leads_to x port ≡ false)
 tie-killed x q (Some (Thread_of t)) port peer h = tie-without x t.talk port peer h
 tie-killed x q o port peer h = cc
 
@@ -148,9 +157,14 @@ outline-without x q None = refl
 
 module _ (w : World) (x : Path) (alone : IsAlone w x) (valid : IsConsistent w) where
   abbrev after : World
-  after = record { body = λ q. if same_path q x then None else option_map (through (death_sweep x) q) (w.body q); page = λ s g. if same_path s x then None else w.page s g; next = w.next }
+  after = record {
+    body = λ q. if same_path q x then None else option_map (through (death_sweep x) q) (w.body q);
+    page = λ s g. if same_path s x then None else w.page s g;
+    next = w.next;
+  }
 
-  put_none : {A : Type 0} (h : Option Body → Option A) → h None ≡ None → ((q : Path) (o : Option Body) → h (option_map (through (death_sweep x) q) o) ≡ h o) → (q : Path) → h (after.body q) ≡ put x None (λ q. h (w.body q)) q
+  put_none : {A : Type 0} (h : Option Body → Option A) → h None ≡ None →
+      ((q : Path) (o : Option Body) → h (option_map (through (death_sweep x) q) o) ≡ h o) → (q : Path) → h (after.body q) ≡ put x None (λ q. h (w.body q)) q
   put_none h nothing same q = by (same_path q x)
     where
       by : (t : Bool) → h (if t then None else option_map (through (death_sweep x) q) (w.body q)) ≡ (if t then None else h (w.body q))
@@ -159,13 +173,16 @@ module _ (w : World) (x : Path) (alone : IsAlone w x) (valid : IsConsistent w) w
 
   kinds_after : kind_there after ≡ put x None (kind_there w)
   unfolding kind_there
-  kinds_after = λ i q. put_none (option_map kind_of) refl (λ q o. outline-kind _ ∙ ap (option_map (λ (f : Outline). f.kind)) (outline-without x q o) ∙ sym (outline-kind o)) q i
+  kinds_after = λ i q.
+      put_none (option_map kind_of) refl (λ q o. outline-kind _ ∙ ap (option_map (λ (f : Outline). f.kind)) (outline-without x q o) ∙ sym (outline-kind o)) q i
 
   births_after : birth_at after ≡ put x None (birth_at w)
-  births_after = λ i q. put_none (and_then birth_of) refl (λ q o. outline-birth _ ∙ ap (and_then (λ (f : Outline). f.birth)) (outline-without x q o) ∙ sym (outline-birth o)) q i
+  births_after = λ i q.
+      put_none (and_then birth_of) refl (λ q o. outline-birth _ ∙ ap (and_then (λ (f : Outline). f.birth)) (outline-without x q o) ∙ sym (outline-birth o)) q i
 
   served_after : (y : Path) → leads_to x (At y) ≡ false → is_served_port w (At y) ≡ true → is_served_port after (At y) ≡ true
-  served_after y e h = rw e (outline-served (option_map (through (death_sweep x) y) (w.body y)) ∙ ap (holds (λ (f : Outline). f.served)) (outline-without x y (w.body y)) ∙ sym (outline-served (w.body y)) ∙ h)
+  served_after y e h = rw e (outline-served (option_map (through (death_sweep x) y) (w.body y))
+      ∙ ap (holds (λ (f : Outline). f.served)) (outline-without x y (w.body y)) ∙ sym (outline-served (w.body y)) ∙ h)
 
   within_put : {A : Type 0} (a : Path → Option A) (q : Path) (v : A) → put x None a q ≡ Some v → a q ≡ Some v
   within_put a q v h = by (same_path q x) h
@@ -174,10 +191,12 @@ module _ (w : World) (x : Path) (alone : IsAlone w x) (valid : IsConsistent w) w
       by true g = cc
       by false g = g
 
-  tie_after : (q : Path) (port : Ptr) (peer : Peer) → tie_at after q ≡ Some (Joins port peer) → (tie_at w q ≡ Some (Joins port peer)) × (leads_to x port ≡ false)
+  tie_after : (q : Path) (port : Ptr) (peer : Peer) →
+      tie_at after q ≡ Some (Joins port peer) → (tie_at w q ≡ Some (Joins port peer)) × (leads_to x port ≡ false)
   tie_after q port peer h = by (same_path q x) h
     where
-      by : (t : Bool) → body_tie (if t then None else option_map (through (death_sweep x) q) (w.body q)) ≡ Some (Joins port peer) → (tie_at w q ≡ Some (Joins port peer)) × (leads_to x port ≡ false)
+      by : (t : Bool) → body_tie (if t then None else option_map (through (death_sweep x) q) (w.body q)) ≡ Some (Joins port peer) →
+          (tie_at w q ≡ Some (Joins port peer)) × (leads_to x port ≡ false)
       by true g = cc
       by false g = tie-killed x q (w.body q) port peer g
 
@@ -204,19 +223,23 @@ module _ (w : World) (x : Path) (alone : IsAlone w x) (valid : IsConsistent w) w
       by : (t r : Bool) → same_path y x ≡ r → IsSome (if t then None else kind_there w (j ∷ y)) → (if r then None else kind_there w y) ≡ Some kinds.Space
       by true r e g = cc
       by false false e g = (facts w valid).parents j y g
-      by false true e g = let here = same_path_eq y x e in let none : w.body (j ∷ y) ≡ None = rw here (alone.empty j) in let some : is_some (w.body (j ∷ y)) ≡ true = rw (live-kind w (j ∷ y)) at g in let off : false ≡ true = rw none at some in cc
+      by false true e g = let here = same_path_eq y x e in let none : w.body (j ∷ y) ≡ None = rw here (alone.empty j) in
+          let some : is_some (w.body (j ∷ y)) ≡ true = rw (live-kind w (j ∷ y)) at g in let off : false ≡ true = rw none at some in cc
 
-  good_after : (q : Path) (t : Bool) → all_in (is_good (put x None (kind_there w)) q) (if t then None else option_map (through (death_sweep x) q) (w.body q)) ≡ true
+  good_after : (q : Path) (t : Bool) →
+      all_in (is_good (put x None (kind_there w)) q) (if t then None else option_map (through (death_sweep x) q) (w.body q)) ≡ true
   good_after q true = refl
   good_after q false = by (w.body q) (valid.good q)
     where
-      by : (o : Option Body) → all_in (is_good (kind_there w) q) o ≡ true → all_in (is_good (put x None (kind_there w)) q) (option_map (through (death_sweep x) q) o) ≡ true
+      by : (o : Option Body) →
+          all_in (is_good (kind_there w) q) o ≡ true → all_in (is_good (put x None (kind_there w)) q) (option_map (through (death_sweep x) q) o) ≡ true
       by None h = refl
       by (Some b) h = good-killed x (kind_there w) q b h
 
   valid-after : IsConsistent after
   valid-after =
-      valid-from after (same_facts (put x None (kind_there w)) (kind_there after) (put x None (birth_at w)) (birth_at after) (is_served_port after) (is_served_port after) (tie_at after) (tie_at after) (claim_at after) (claim_at after)
+      valid-from after (same_facts (put x None (kind_there w)) (kind_there after) (put x None (birth_at w))
+      (birth_at after) (is_served_port after) (is_served_port after) (tie_at after) (tie_at after) (claim_at after) (claim_at after)
       (sym kinds_after) (sym births_after) refl refl refl new)
       (λ q. subst (λ (there : Path → Option Kind). all_in (is_good there q) (after.body q) ≡ true) (sym kinds_after) (good_after q (same_path q x)))
     where
@@ -225,7 +248,8 @@ module _ (w : World) (x : Path) (alone : IsAlone w x) (valid : IsConsistent w) w
         parents = parents_after;
         apart = λ y z number h g. valid.apart y z number (within_put (birth_at w) y number h) (within_put (birth_at w) z number g);
         born = λ y number h. valid.born y number (within_put (birth_at w) y number h);
-        tied = tied_within (is_served_port w) (is_served_port after) (tie_at w) (claim_at w) (tie_at after) (claim_at after) tie_within claim_after still_served (facts w valid).tied;
+        tied = tied_within (is_served_port w)
+            (is_served_port after) (tie_at w) (claim_at w) (tie_at after) (claim_at after) tie_within claim_after still_served (facts w valid).tied;
       }
 
 pub valid-kill : (w : World) (x : Path) → IsAlone w x → IsConsistent w → IsConsistent (apply (Kill x) w)

@@ -47,7 +47,8 @@ module _ (there more : Path → Option Kind) (grows : Grows there more) where
   all-grows f g less (Some a) h = less a h
 
   talk-grows : (talk : Talk) → is_good_talk there talk ≡ true → is_good_talk more talk ≡ true
-  talk-grows talk h = let both = and_parts (leads_there there (kinds.Port ∷ []) talk.port) (is_good_peer there talk.peer) h in and_from _ _ (leads-grows (kinds.Port ∷ []) talk.port both.0) (peer-grows talk.peer both.1)
+  talk-grows talk h = let both = and_parts (leads_there there (kinds.Port ∷ []) talk.port) (is_good_peer there talk.peer) h in
+      and_from _ _ (leads-grows (kinds.Port ∷ []) talk.port both.0) (peer-grows talk.peer both.1)
 
   fault-grows : (fault : Fault) → is_good_fault there fault ≡ true → is_good_fault more fault ≡ true
   fault-grows fault h =
@@ -56,16 +57,21 @@ module _ (there more : Path → Option Kind) (grows : Grows there more) where
 
   set-grows : (at : Path) (set : Option ℕ) (served : Bool) → is_good_set there at set served ≡ true → is_good_set more at set served ≡ true
   set-grows at None served h = refl
-  set-grows at (Some set) served h = let both = and_parts _ (is_one_of (kinds.Portset ∷ []) (there (set_at at set))) h in and_from _ _ both.0 (one_of-grows (kinds.Portset ∷ []) (set_at at set) both.1)
+  set-grows at (Some set) served h = let both = and_parts _ (is_one_of (kinds.Portset ∷ []) (there (set_at at set))) h in
+      and_from _ _ both.0 (one_of-grows (kinds.Portset ∷ []) (set_at at set) both.1)
 
   pub good-grows : (at : Path) (b : Body) → is_good there at b ≡ true → is_good more at b ≡ true
-  good-grows at (Mapping m) h = let both = and_parts _ (may_lead there (kinds.Region ∷ []) m.region) h in and_from _ _ both.0 (may-grows (kinds.Region ∷ []) m.region both.1)
-  good-grows at (Region r) h = let both = and_parts _ (may_lead there (kinds.Port ∷ []) r.keeper) h in and_from _ _ both.0 (may-grows (kinds.Port ∷ []) r.keeper both.1)
+  good-grows at (Mapping m) h = let both = and_parts _ (may_lead there (kinds.Region ∷ []) m.region) h in
+      and_from _ _ both.0 (may-grows (kinds.Region ∷ []) m.region both.1)
+  good-grows at (Region r) h = let both = and_parts _ (may_lead there (kinds.Port ∷ []) r.keeper) h in
+      and_from _ _ both.0 (may-grows (kinds.Port ∷ []) r.keeper both.1)
   good-grows at (Port set served) h = set-grows at set served h
-  good-grows at (Space birth holder) h = all-grows (leads_there there (kinds.Thread ∷ [])) (leads_there more (kinds.Thread ∷ [])) (leads-grows (kinds.Thread ∷ [])) holder h
+  good-grows at (Space birth holder) h =
+      all-grows (leads_there there (kinds.Thread ∷ [])) (leads_there more (kinds.Thread ∷ [])) (leads-grows (kinds.Thread ∷ [])) holder h
   good-grows at (Thread_of t) h =
       let both = and_parts (all_in (is_good_talk there) t.talk) (all_in (is_good_fault there) t.fault) h in
-      and_from _ _ (all-grows (is_good_talk there) (is_good_talk more) talk-grows t.talk both.0) (all-grows (is_good_fault there) (is_good_fault more) fault-grows t.fault both.1)
+      and_from _ _ (all-grows (is_good_talk there) (is_good_talk more) talk-grows t.talk both.0)
+      (all-grows (is_good_fault there) (is_good_fault more) fault-grows t.fault both.1)
   good-grows at (Reference to) h = may-grows referable to h
   good-grows at b h = h
 
@@ -87,22 +93,27 @@ module _ (w : World) (k : ℕ) (s : Path) (body : Body) (n : ℕ) (place : IsVac
   births_made = λ i q. put_at (k ∷ s) (and_then birth_of) (λ there. Some body) w.body q i
 
   ties_made : body_tie (Some body) ≡ None → tie_at made ≡ tie_at w
-  ties_made none = (λ i q. put_at (k ∷ s) body_tie (λ there. Some body) w.body q i) ∙ put_kept (k ∷ s) (body_tie (Some body)) (tie_at w) (rw (none, place.empty) refl)
+  ties_made none =
+      (λ i q. put_at (k ∷ s) body_tie (λ there. Some body) w.body q i) ∙ put_kept (k ∷ s) (body_tie (Some body)) (tie_at w) (rw (none, place.empty) refl)
 
   claims_made : body_claim (Some body) ≡ None → claim_at made ≡ claim_at w
-  claims_made none = (λ i q. put_at (k ∷ s) body_claim (λ there. Some body) w.body q i) ∙ put_kept (k ∷ s) (body_claim (Some body)) (claim_at w) (rw (none, place.empty) refl)
+  claims_made none =
+      (λ i q. put_at (k ∷ s) body_claim (λ there. Some body) w.body q i) ∙ put_kept (k ∷ s) (body_claim (Some body)) (claim_at w) (rw (none, place.empty) refl)
 
   more : Grows (kind_there w) (put (k ∷ s) (Some (kind_of body)) (kind_there w))
   more q kind h = by (same_path q (k ∷ s)) refl
     where
       by : (t : Bool) → same_path q (k ∷ s) ≡ t → (if t then Some (kind_of body) else kind_there w q) ≡ Some kind
-      by true e = let here = same_path_eq q (k ∷ s) e in let none : kind_there w (k ∷ s) ≡ None = nothing_there in let some : kind_there w (k ∷ s) ≡ Some kind = rw here at h in cc
+      by true e = let here = same_path_eq q (k ∷ s) e in
+          let none : kind_there w (k ∷ s) ≡ None = nothing_there in let some : kind_there w (k ∷ s) ≡ Some kind = rw here at h in cc
       by false e = h
 
-  parents_made : (j : ℕ) (y : Path) → IsSome (put (k ∷ s) (Some (kind_of body)) (kind_there w) (j ∷ y)) → put (k ∷ s) (Some (kind_of body)) (kind_there w) y ≡ Some kinds.Space
+  parents_made : (j : ℕ) (y : Path) →
+      IsSome (put (k ∷ s) (Some (kind_of body)) (kind_there w) (j ∷ y)) → put (k ∷ s) (Some (kind_of body)) (kind_there w) y ≡ Some kinds.Space
   parents_made j y = by (same_path (j ∷ y) (k ∷ s)) refl
     where
-      by : (t : Bool) → same_path (j ∷ y) (k ∷ s) ≡ t → IsSome (if t then Some (kind_of body) else kind_there w (j ∷ y)) → put (k ∷ s) (Some (kind_of body)) (kind_there w) y ≡ Some kinds.Space
+      by : (t : Bool) → same_path (j ∷ y) (k ∷ s) ≡ t →
+          IsSome (if t then Some (kind_of body) else kind_there w (j ∷ y)) → put (k ∷ s) (Some (kind_of body)) (kind_there w) y ≡ Some kinds.Space
       by true e h = let here = same_path_eq (j ∷ y) (k ∷ s) e in let above : y ≡ s = cc in rw (above, same_path_above k [] s) place.space
       by false e h = more y kinds.Space ((facts w valid).parents j y h)
 
@@ -115,31 +126,43 @@ module _ (w : World) (k : ℕ) (s : Path) (body : Body) (n : ℕ) (place : IsVac
   served_made p h = cc
 
   pub valid-made : body_tie (Some body) ≡ None → body_claim (Some body) ≡ None → is_good (kind_there w) (k ∷ s) body ≡ true →
-      ((x y : Path) (number : ℕ) → put (k ∷ s) (birth_of body) (birth_at w) x ≡ Some number → put (k ∷ s) (birth_of body) (birth_at w) y ≡ Some number → x ≡ y) →
+      ((x y : Path) (number : ℕ) →
+      put (k ∷ s) (birth_of body) (birth_at w) x ≡ Some number → put (k ∷ s) (birth_of body) (birth_at w) y ≡ Some number → x ≡ y) →
       ((x : Path) (number : ℕ) → put (k ∷ s) (birth_of body) (birth_at w) x ≡ Some number → number < n) →
       IsConsistent made
   valid-made no_tie no_claim good apart born =
-      valid-from made (same_facts (put (k ∷ s) (Some (kind_of body)) (kind_there w)) (kind_there made) (put (k ∷ s) (birth_of body) (birth_at w)) (birth_at made) (is_served_port made) (is_served_port made) (tie_at w) (tie_at made) (claim_at w) (claim_at made)
+      valid-from made (same_facts (put (k ∷ s) (Some (kind_of body)) (kind_there w)) (kind_there made) (put (k ∷ s) (birth_of body) (birth_at w))
+      (birth_at made) (is_served_port made) (is_served_port made) (tie_at w) (tie_at made) (claim_at w) (claim_at made)
       (sym kinds_made) (sym births_made) refl (sym (ties_made no_tie)) (sym (claims_made no_claim)) new)
       (λ q. subst (λ (there : Path → Option Kind). all_in (is_good there q) (made.body q) ≡ true) (sym kinds_made) (by q (same_path q (k ∷ s)) refl))
     where
       old : AreTied (is_served_port w) (tie_at w) (claim_at w)
       old = (facts w valid).tied
 
-      new : AreFacts (put (k ∷ s) (Some (kind_of body)) (kind_there w)) (put (k ∷ s) (birth_of body) (birth_at w)) n (is_served_port made) (tie_at w) (claim_at w)
+      new : AreFacts
+          (put (k ∷ s) (Some (kind_of body)) (kind_there w)) (put (k ∷ s) (birth_of body) (birth_at w)) n (is_served_port made) (tie_at w) (claim_at w)
       new = record {
         parents = parents_made;
         apart = apart;
         born = born;
-        tied = record { served_all = λ x port h. served_made port (old.served_all x port h); one_client = old.one_client; talks_near = old.talks_near; claims_near = old.claims_near; single = old.single };
+        tied = record {
+          served_all = λ x port h. served_made port (old.served_all x port h);
+          one_client = old.one_client;
+          talks_near = old.talks_near;
+          claims_near = old.claims_near;
+          single = old.single;
+        };
       }
 
-      grown : (q : Path) (o : Option Body) → all_in (is_good (kind_there w) q) o ≡ true → all_in (is_good (put (k ∷ s) (Some (kind_of body)) (kind_there w)) q) o ≡ true
+      grown : (q : Path) (o : Option Body) →
+          all_in (is_good (kind_there w) q) o ≡ true → all_in (is_good (put (k ∷ s) (Some (kind_of body)) (kind_there w)) q) o ≡ true
       grown q None h = refl
       grown q (Some b) h = good-grows (kind_there w) (put (k ∷ s) (Some (kind_of body)) (kind_there w)) more q b h
 
-      by : (q : Path) (t : Bool) → same_path q (k ∷ s) ≡ t → all_in (is_good (put (k ∷ s) (Some (kind_of body)) (kind_there w)) q) (if t then Some body else w.body q) ≡ true
-      by q true e = let here = same_path_eq q (k ∷ s) e in rw here (good-grows (kind_there w) (put (k ∷ s) (Some (kind_of body)) (kind_there w)) more (k ∷ s) body good)
+      by : (q : Path) (t : Bool) →
+          same_path q (k ∷ s) ≡ t → all_in (is_good (put (k ∷ s) (Some (kind_of body)) (kind_there w)) q) (if t then Some body else w.body q) ≡ true
+      by q true e = let here = same_path_eq q (k ∷ s) e in
+          rw here (good-grows (kind_there w) (put (k ∷ s) (Some (kind_of body)) (kind_there w)) more (k ∷ s) body good)
       by q false e = grown q (w.body q) (valid.good q)
 
 no_tie_plain : (b : Body) → is_plain b ≡ true → body_tie (Some b) ≡ None
@@ -189,7 +212,8 @@ after_birth w s valid h = by (w.body s) refl h
     by (Some (Reference to)) e g = cc
     by None e g = cc
 
-pub valid-make_space : (w : World) (k : ℕ) (s : Path) (holder : Option Ptr) → IsSafeMakeSpace w k s holder → IsConsistent w → IsConsistent (apply (MakeSpace (k ∷ s) holder) w)
+pub valid-make_space : (w : World) (k : ℕ) (s : Path) (holder : Option Ptr) →
+    IsSafeMakeSpace w k s holder → IsConsistent w → IsConsistent (apply (MakeSpace (k ∷ s) holder) w)
 unfolding apply
 valid-make_space w k s holder safe valid =
     valid-made w k s (Space w.next holder) (birth_after w.next) safe.place valid refl refl safe.held
@@ -199,7 +223,8 @@ valid-make_space w k s holder safe valid =
     next : birth_after w.next ≡ w.next + 1
     next = after_birth w s valid safe.place.space
 
-    apart : (x y : Path) (number : ℕ) (t : Bool) → same_path x (k ∷ s) ≡ t → (r : Bool) → same_path y (k ∷ s) ≡ r → (if t then Some w.next else birth_at w x) ≡ Some number → (if r then Some w.next else birth_at w y) ≡ Some number → x ≡ y
+    apart : (x y : Path) (number : ℕ) (t : Bool) → same_path x (k ∷ s) ≡ t → (r : Bool) →
+        same_path y (k ∷ s) ≡ r → (if t then Some w.next else birth_at w x) ≡ Some number → (if r then Some w.next else birth_at w y) ≡ Some number → x ≡ y
     apart x y number true e true f h g = let left = same_path_eq x (k ∷ s) e in let right = same_path_eq y (k ∷ s) f in rw (left, right) refl
     apart x y number true e false f h g = let same : w.next ≡ number = cc in let below = valid.born y number g in absurd (omega arith)
     apart x y number false e true f h g = let same : w.next ≡ number = cc in let below = valid.born x number h in absurd (omega arith)

@@ -28,7 +28,8 @@ pub outline-birth : (o : Option Body) → and_then birth_of o ≡ and_then (λ (
 outline-birth None = refl
 outline-birth (Some b) = refl
 
-pub outline-served : (o : Option Body) → holds (λ (port : Option ℕ × Bool). port.1) (and_then port_of o) ≡ holds (λ (f : Outline). f.served) (option_map outline_of o)
+pub outline-served : (o : Option Body) →
+    holds (λ (port : Option ℕ × Bool). port.1) (and_then port_of o) ≡ holds (λ (f : Outline). f.served) (option_map outline_of o)
 outline-served None = refl
 outline-served (Some b) = refl
 
@@ -51,14 +52,16 @@ module _ (w v : World) (same : (q : Path) → option_map outline_of (v.body q) �
 abbrev pub put : {A : Type 0} → Path → A → (Path → A) → Path → A
 put x u a q = if same_path q x then u else a q
 
-pub put_at : {A : Type 0} (x : Path) (h : Option Body → A) (f : Option Body → Option Body) (body : Path → Option Body) (q : Path) → h (if same_path q x then f (body q) else body q) ≡ put x (h (f (body x))) (λ q. h (body q)) q
+pub put_at : {A : Type 0} (x : Path) (h : Option Body → A) (f : Option Body → Option Body) (body : Path → Option Body) (q : Path) →
+    h (if same_path q x then f (body q) else body q) ≡ put x (h (f (body x))) (λ q. h (body q)) q
 put_at x h f body q = by (same_path q x) refl
   where
     by : (b : Bool) → same_path q x ≡ b → h (if b then f (body q) else body q) ≡ (if b then h (f (body x)) else h (body q))
     by true e = let same = same_path_eq q x e in rw same refl
     by false e = refl
 
-pub same_facts : {n : ℕ} (k l : Path → Option Kind) (b c : Path → Option ℕ) (s t : Ptr → Bool) (x y z u : Path → Option Tie) → k ≡ l → b ≡ c → s ≡ t → x ≡ y → z ≡ u → AreFacts k b n s x z → AreFacts l c n t y u
+pub same_facts : {n : ℕ} (k l : Path → Option Kind) (b c : Path → Option ℕ) (s t : Ptr → Bool) (x y z u : Path → Option Tie) →
+    k ≡ l → b ≡ c → s ≡ t → x ≡ y → z ≡ u → AreFacts k b n s x z → AreFacts l c n t y u
 same_facts k l b c s t x y z u e f g p q h = rw (← e, ← f, ← g, ← p, ← q) h
 
 -- the body at one path is changed to one with the same outline
@@ -67,7 +70,8 @@ pub valid-at : (w : World) (x : Path) (f : Body → Body) → ((b : Body) → ou
     AreTied (is_served_port w) (put x (body_tie (option_map f (w.body x))) (tie_at w)) (put x (body_claim (option_map f (w.body x))) (claim_at w)) →
     IsConsistent w → IsConsistent (at_path x (option_map f) w)
 valid-at w x f outlined keeps tied valid =
-    valid-from v (same_facts (kind_there w) (kind_there v) (birth_at w) (birth_at v) (is_served_port w) (is_served_port v) _ (tie_at v) _ (claim_at v) (sym kinds) (sym (same_births w v same)) (sym (same_served w v same)) (sym ties) (sym claims) old)
+    valid-from v (same_facts (kind_there w) (kind_there v) (birth_at w) (birth_at v) (is_served_port w)
+    (is_served_port v) _ (tie_at v) _ (claim_at v) (sym kinds) (sym (same_births w v same)) (sym (same_served w v same)) (sym ties) (sym claims) old)
     (λ q. subst (λ (k : Path → Option Kind). all_in (is_good k q) (v.body q) ≡ true) (sym kinds) (good q (same_path q x) refl))
   where
     v : World
@@ -93,7 +97,8 @@ valid-at w x f outlined keeps tied valid =
     claims : claim_at v ≡ put x (body_claim (option_map f (w.body x))) (claim_at w)
     claims = λ i q. put_at x body_claim (option_map f) w.body q i
 
-    old : AreFacts (kind_there w) (birth_at w) w.next (is_served_port w) (put x (body_tie (option_map f (w.body x))) (tie_at w)) (put x (body_claim (option_map f (w.body x))) (claim_at w))
+    old : AreFacts (kind_there w) (birth_at w)
+        w.next (is_served_port w) (put x (body_tie (option_map f (w.body x))) (tie_at w)) (put x (body_claim (option_map f (w.body x))) (claim_at w))
     old = let f = facts w valid in record { parents = f.parents; apart = f.apart; born = f.born; tied = tied }
 
     good_there : (o : Option Body) → w.body x ≡ o → all_in (is_good (kind_there w) x) o ≡ true → all_in (is_good (kind_there w) x) (option_map f o) ≡ true

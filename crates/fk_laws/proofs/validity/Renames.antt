@@ -51,7 +51,8 @@ module _ (x y : Path) (apart : same_path y x ≡ false) where
   same-swap q r = by (same_path (swap x y q) r) refl
     where
       by : (t : Bool) → same_path (swap x y q) r ≡ t → t ≡ same_path q (swap x y r)
-      by true e = let here = same_path_eq (swap x y q) r e in let back : q ≡ swap x y r = sym (swap-swap q) ∙ ap (swap x y) here in sym (rw back (same_path_refl (swap x y r)))
+      by true e = let here = same_path_eq (swap x y q) r e in
+          let back : q ≡ swap x y r = sym (swap-swap q) ∙ ap (swap x y) here in sym (rw back (same_path_refl (swap x y r)))
       by false e = sym (same_path_ne q (swap x y r) (λ g. same_path_apart (swap x y q) r e (ap (swap x y) g ∙ swap-swap r)))
 
   swap-parent : parent x ≡ parent y → (q : Path) → parent (swap x y q) ≡ parent q
@@ -106,13 +107,17 @@ module _ (x y : Path) (apart : same_path y x ≡ false) where
   lies-turned same port server h = tt
 
   tied-turned_all : (served still : Ptr → Bool) (a b c d : Path → Option Tie) → parent x ≡ parent y →
-      ((p : Ptr) → still p ≡ served (turned p)) → ((q : Path) → c q ≡ option_map turned_tie (a (swap x y q))) → ((q : Path) → d q ≡ option_map turned_tie (b (swap x y q))) →
+      ((p : Ptr) → still p ≡ served (turned p)) →
+      ((q : Path) → c q ≡ option_map turned_tie (a (swap x y q))) → ((q : Path) → d q ≡ option_map turned_tie (b (swap x y q))) →
       AreTied served a b → AreTied still c d
   tied-turned_all served still a b c d same stays talks claims tied = record {
     served_all = λ q port h. stays port ∙ tied.served_all (swap x y q) (turned port) (old_talk q port Service h);
-    one_client = λ q r port h g. swap_same q r (tied.one_client (swap x y q) (swap x y r) (turned port) (old_talk q port Service h) (old_talk r port Service g));
-    talks_near = λ q port server h. lies-turned same port server (tied.talks_near (swap x y q) (turned port) (turned server) (old_talk q port (Server server) h));
-    claims_near = λ q port server h. lies-turned same port server (tied.claims_near (swap x y q) (turned port) (turned server) (tie_back (b (swap x y q)) port (Server server) (sym (claims q) ∙ h)));
+    one_client =
+        λ q r port h g. swap_same q r (tied.one_client (swap x y q) (swap x y r) (turned port) (old_talk q port Service h) (old_talk r port Service g));
+    talks_near =
+        λ q port server h. lies-turned same port server (tied.talks_near (swap x y q) (turned port) (turned server) (old_talk q port (Server server) h));
+    claims_near = λ q port server h. lies-turned
+        same port server (tied.claims_near (swap x y q) (turned port) (turned server) (tie_back (b (swap x y q)) port (Server server) (sym (claims q) ∙ h)));
     single = λ s. record {
       one = λ q r h g. swap_same q r ((tied.single (swap x y s)).one (swap x y q) (swap x y r) (rw (loads s q) at h) (rw (loads s r) at g));
       each = λ q. rw (loads s q) ((tied.single (swap x y s)).each (swap x y q));
@@ -168,13 +173,15 @@ module _ (x y : Path) (apart : same_path y x ≡ false) where
     peer-moved Service h = refl
     peer-moved Parked h = refl
 
-    holder-moved : (o : Option Ptr) → all_in (leads_there there (kinds.Thread ∷ [])) o ≡ true → all_in (leads_there moved (kinds.Thread ∷ [])) (and_then (λ p. Some (follow x y p)) o) ≡ true
+    holder-moved : (o : Option Ptr) →
+        all_in (leads_there there (kinds.Thread ∷ [])) o ≡ true → all_in (leads_there moved (kinds.Thread ∷ [])) (and_then (λ p. Some (follow x y p)) o) ≡ true
     holder-moved None h = refl
     holder-moved (Some p) h = leads-moved (kinds.Thread ∷ []) p h
 
     talk-moved : (o : Option Talk) → all_in (is_good_talk there) o ≡ true → all_in (is_good_talk moved) (and_then (following x y).talk o) ≡ true
     talk-moved None h = refl
-    talk-moved (Some talk) h = let both = and_parts (leads_there there (kinds.Port ∷ []) talk.port) (is_good_peer there talk.peer) h in and_from _ _ (leads-moved (kinds.Port ∷ []) talk.port both.0) (peer-moved talk.peer both.1)
+    talk-moved (Some talk) h = let both = and_parts (leads_there there (kinds.Port ∷ []) talk.port) (is_good_peer there talk.peer) h in
+        and_from _ _ (leads-moved (kinds.Port ∷ []) talk.port both.0) (peer-moved talk.peer both.1)
 
     taker-moved : (o : Option Peer) → all_in (is_good_peer there) o ≡ true → all_in (is_good_peer moved) (option_map (follow_peer x y) o) ≡ true
     taker-moved None h = refl
@@ -182,28 +189,35 @@ module _ (x y : Path) (apart : same_path y x ≡ false) where
 
     fault-moved : (o : Option Fault) → all_in (is_good_fault there) o ≡ true → all_in (is_good_fault moved) (and_then (following x y).fault o) ≡ true
     fault-moved None h = refl
-    fault-moved (Some fault) h = let both = and_parts (leads_there there (kinds.Port ∷ []) fault.port) (all_in (is_good_peer there) fault.taker) h in and_from _ _ (leads-moved (kinds.Port ∷ []) fault.port both.0) (taker-moved fault.taker both.1)
+    fault-moved (Some fault) h = let both = and_parts (leads_there there (kinds.Port ∷ []) fault.port) (all_in (is_good_peer there) fault.taker) h in
+        and_from _ _ (leads-moved (kinds.Port ∷ []) fault.port both.0) (taker-moved fault.taker both.1)
 
     -- a port's set follows within the space
-    set-moved : parent x ≡ parent y → slot_of y ∷ parent y ≡ y → (q : Path) (o : Option ℕ) (served : Bool) → is_good_set there (swap x y q) o served ≡ true → is_good_set moved q (and_then ((following x y).set q) o) served ≡ true
+    set-moved : parent x ≡ parent y → slot_of y ∷ parent y ≡ y → (q : Path) (o : Option ℕ) (served : Bool) →
+        is_good_set there (swap x y q) o served ≡ true → is_good_set moved q (and_then ((following x y).set q) o) served ≡ true
     set-moved same whole q None served h = refl
     set-moved same whole q (Some set) served h =
         let both = and_parts (not served) (is_one_of (kinds.Portset ∷ []) (there (set ∷ parent (swap x y q)))) h in
         let old : is_one_of (kinds.Portset ∷ []) (there (set ∷ parent q)) ≡ true = rw (swap-parent same q) at both.1 in
         and_from _ _ both.0 (by (same_path (set ∷ parent q) x) refl (same_path (set ∷ parent q) y) refl old)
       where
-        by : (t : Bool) → same_path (set ∷ parent q) x ≡ t → (r : Bool) → same_path (set ∷ parent q) y ≡ r → is_one_of (kinds.Portset ∷ []) (there (set ∷ parent q)) ≡ true → is_one_of (kinds.Portset ∷ []) (there (swap x y ((if t then slot_of y else set) ∷ parent q))) ≡ true
+        by : (t : Bool) → same_path (set ∷ parent q) x ≡ t → (r : Bool) → same_path (set ∷ parent q) y ≡ r → is_one_of (kinds.Portset ∷ [])
+            (there (set ∷ parent q)) ≡ true → is_one_of (kinds.Portset ∷ []) (there (swap x y ((if t then slot_of y else set) ∷ parent q))) ≡ true
         by true e r f g =
             let here = same_path_eq (set ∷ parent q) x e in
             let above : parent q ≡ parent y = ap parent here ∙ same in
             let there_now : slot_of y ∷ parent q ≡ y = ap (λ z. slot_of y ∷ z) above ∙ whole in
             rw (there_now, swap_y, ← here) g
-        by false e true f g = let here = same_path_eq (set ∷ parent q) y f in let none : there (set ∷ parent q) ≡ None = rw here empty in let off : false ≡ true = rw none at g in cc
+        by false e true f g = let here = same_path_eq (set ∷ parent q) y f in
+            let none : there (set ∷ parent q) ≡ None = rw here empty in let off : false ≡ true = rw none at g in cc
         by false e false f g = rw (swap_other (set ∷ parent q) e f) g
 
-    good-moved : parent x ≡ parent y → slot_of y ∷ parent y ≡ y → (q : Path) (b : Body) → is_good there (swap x y q) b ≡ true → is_good moved q (through (following x y) q b) ≡ true
-    good-moved same whole q (Mapping m) h = let both = and_parts _ (may_lead there (kinds.Region ∷ []) m.region) h in and_from _ _ both.0 (may-moved (kinds.Region ∷ []) m.region both.1)
-    good-moved same whole q (Region r) h = let both = and_parts _ (may_lead there (kinds.Port ∷ []) r.keeper) h in and_from _ _ both.0 (may-moved (kinds.Port ∷ []) r.keeper both.1)
+    good-moved : parent x ≡ parent y →
+        slot_of y ∷ parent y ≡ y → (q : Path) (b : Body) → is_good there (swap x y q) b ≡ true → is_good moved q (through (following x y) q b) ≡ true
+    good-moved same whole q (Mapping m) h = let both = and_parts _ (may_lead there (kinds.Region ∷ []) m.region) h in
+        and_from _ _ both.0 (may-moved (kinds.Region ∷ []) m.region both.1)
+    good-moved same whole q (Region r) h = let both = and_parts _ (may_lead there (kinds.Port ∷ []) r.keeper) h in
+        and_from _ _ both.0 (may-moved (kinds.Port ∷ []) r.keeper both.1)
     good-moved same whole q (Port set served) h = set-moved same whole q set served h
     good-moved same whole q (Space birth holder) h = holder-moved holder h
     good-moved same whole q (Thread_of t) h =
@@ -214,21 +228,26 @@ module _ (x y : Path) (apart : same_path y x ≡ false) where
     good-moved same whole q Cond h = refl
     good-moved same whole q Portset h = refl
 
-    talk-tie : (o : Option Talk) → all_in (is_good_talk there) o ≡ true → option_map tie_of (and_then (following x y).talk o) ≡ option_map turned_tie (option_map tie_of o)
+    talk-tie : (o : Option Talk) →
+        all_in (is_good_talk there) o ≡ true → option_map tie_of (and_then (following x y).talk o) ≡ option_map turned_tie (option_map tie_of o)
     talk-tie None h = refl
     talk-tie (Some talk) h =
         let both = and_parts (leads_there there (kinds.Port ∷ []) talk.port) (is_good_peer there talk.peer) h in
         ap₂ (λ (p : Ptr) (q : Peer). Some (Joins p q)) (follow-turned (kinds.Port ∷ []) talk.port both.0) (peer-turned talk.peer both.1)
 
-    fault-tie : (o : Option Fault) → all_in (is_good_fault there) o ≡ true → and_then claim_of (and_then (following x y).fault o) ≡ option_map turned_tie (and_then claim_of o)
+    fault-tie : (o : Option Fault) →
+        all_in (is_good_fault there) o ≡ true → and_then claim_of (and_then (following x y).fault o) ≡ option_map turned_tie (and_then claim_of o)
     fault-tie None h = refl
-    fault-tie (Some fault) h = let both = and_parts (leads_there there (kinds.Port ∷ []) fault.port) (all_in (is_good_peer there) fault.taker) h in by fault.taker both.1 both.0
+    fault-tie (Some fault) h =
+        let both = and_parts (leads_there there (kinds.Port ∷ []) fault.port) (all_in (is_good_peer there) fault.taker) h in by fault.taker both.1 both.0
       where
-        by : (o : Option Peer) → all_in (is_good_peer there) o ≡ true → leads_there there (kinds.Port ∷ []) fault.port ≡ true → option_map (Joins (follow x y fault.port)) (option_map (follow_peer x y) o) ≡ option_map turned_tie (option_map (Joins fault.port) o)
+        by : (o : Option Peer) → all_in (is_good_peer there) o ≡ true → leads_there there (kinds.Port ∷ []) fault.port ≡ true →
+            option_map (Joins (follow x y fault.port)) (option_map (follow_peer x y) o) ≡ option_map turned_tie (option_map (Joins fault.port) o)
         by None g f = refl
         by (Some peer) g f = ap₂ (λ (p : Ptr) (q : Peer). Some (Joins p q)) (follow-turned (kinds.Port ∷ []) fault.port f) (peer-turned peer g)
 
-    body-tie : (q z : Path) (o : Option Body) → all_in (is_good there z) o ≡ true → body_tie (option_map (through (following x y) q) o) ≡ option_map turned_tie (body_tie o)
+    body-tie : (q z : Path) (o : Option Body) →
+        all_in (is_good there z) o ≡ true → body_tie (option_map (through (following x y) q) o) ≡ option_map turned_tie (body_tie o)
     body-tie q z (Some (Thread_of t)) h = talk-tie t.talk (and_parts (all_in (is_good_talk there) t.talk) (all_in (is_good_fault there) t.fault) h).0
     body-tie q z (Some (Mutex locked)) h = refl
     body-tie q z (Some Cond) h = refl
@@ -240,7 +259,8 @@ module _ (x y : Path) (apart : same_path y x ≡ false) where
     body-tie q z (Some (Reference to)) h = refl
     body-tie q z None h = refl
 
-    body-claim : (q z : Path) (o : Option Body) → all_in (is_good there z) o ≡ true → body_claim (option_map (through (following x y) q) o) ≡ option_map turned_tie (body_claim o)
+    body-claim : (q z : Path) (o : Option Body) →
+        all_in (is_good there z) o ≡ true → body_claim (option_map (through (following x y) q) o) ≡ option_map turned_tie (body_claim o)
     body-claim q z (Some (Thread_of t)) h = fault-tie t.fault (and_parts (all_in (is_good_talk there) t.talk) (all_in (is_good_fault there) t.fault) h).1
     body-claim q z (Some (Mutex locked)) h = refl
     body-claim q z (Some Cond) h = refl
@@ -290,31 +310,38 @@ module _ (w : World) (k : ℕ) (s : Path) (slot : ℕ) (safe : IsSafeMove w k s 
   bodies q = by (same_path q new) refl (same_path q old) refl
     where
       by : (t : Bool) → same_path q new ≡ t → (r : Bool) → same_path q old ≡ r →
-          (if t then option_map (through (following old new) new) (w.body old) else (if r then None else option_map (through (following old new) q) (w.body q))) ≡ option_map (through (following old new) q) (w.body (if r then new else (if t then old else q)))
+          (if t then option_map (through (following old new) new) (w.body old) else (if r then None else option_map (through (following old new) q) (w.body q)))
+          ≡ option_map (through (following old new) q) (w.body (if r then new else (if t then old else q)))
       by true e true f = let left = same_path_eq q new e in let right = same_path_eq q old f in absurd (same_path_apart new old apart_slots (sym left ∙ right))
       by true e false f = let here = same_path_eq q new e in rw here refl
       by false e true f = rw safe.empty refl
       by false e false f = refl
 
-  through_swap : {A : Type 0} (h : Option Body → A) → ((q : Path) (o : Option Body) → h (option_map (through (following old new) q) o) ≡ h o) → (q : Path) → h (after.body q) ≡ h (w.body (swap old new q))
+  through_swap : {A : Type 0} (h : Option Body → A) →
+      ((q : Path) (o : Option Body) → h (option_map (through (following old new) q) o) ≡ h o) → (q : Path) → h (after.body q) ≡ h (w.body (swap old new q))
   through_swap h same q = ap h (bodies q) ∙ same q (w.body (swap old new q))
 
   kinds_after : kind_there after ≡ (λ q. kind_there w (swap old new q))
   unfolding kind_there
-  kinds_after = λ i q. through_swap (option_map kind_of) (λ q o. outline-kind _ ∙ ap (option_map (λ (f : Outline). f.kind)) (outline-following old new q o) ∙ sym (outline-kind o)) q i
+  kinds_after = λ i q. through_swap
+      (option_map kind_of) (λ q o. outline-kind _ ∙ ap (option_map (λ (f : Outline). f.kind)) (outline-following old new q o) ∙ sym (outline-kind o)) q i
 
   births_after : birth_at after ≡ (λ q. birth_at w (swap old new q))
-  births_after = λ i q. through_swap (and_then birth_of) (λ q o. outline-birth _ ∙ ap (and_then (λ (f : Outline). f.birth)) (outline-following old new q o) ∙ sym (outline-birth o)) q i
+  births_after = λ i q. through_swap
+      (and_then birth_of) (λ q o. outline-birth _ ∙ ap (and_then (λ (f : Outline). f.birth)) (outline-following old new q o) ∙ sym (outline-birth o)) q i
 
   served_after : (p : Ptr) → is_served_port after p ≡ is_served_port w (turned old new apart_slots p)
-  served_after (At q) = through_swap (λ o. holds (λ (port : Option ℕ × Bool). port.1) (and_then port_of o)) (λ q o. outline-served (option_map (through (following old new) q) o) ∙ ap (holds (λ (f : Outline). f.served)) (outline-following old new q o) ∙ sym (outline-served o)) q
+  served_after (At q) = through_swap (λ o. holds (λ (port : Option ℕ × Bool). port.1) (and_then port_of o)) (λ q o. outline-served
+      (option_map (through (following old new) q) o) ∙ ap (holds (λ (f : Outline). f.served)) (outline-following old new q o) ∙ sym (outline-served o)) q
   served_after p = refl
 
   ties_after : (q : Path) → tie_at after q ≡ option_map (turned_tie old new apart_slots) (tie_at w (swap old new q))
-  ties_after q = ap body_tie (bodies q) ∙ body-tie old new apart_slots (kind_there w) nothing_there q (swap old new q) (w.body (swap old new q)) (valid.good (swap old new q))
+  ties_after q = ap body_tie (bodies q)
+      ∙ body-tie old new apart_slots (kind_there w) nothing_there q (swap old new q) (w.body (swap old new q)) (valid.good (swap old new q))
 
   claims_after : (q : Path) → claim_at after q ≡ option_map (turned_tie old new apart_slots) (claim_at w (swap old new q))
-  claims_after q = ap body_claim (bodies q) ∙ body-claim old new apart_slots (kind_there w) nothing_there q (swap old new q) (w.body (swap old new q)) (valid.good (swap old new q))
+  claims_after q = ap body_claim (bodies q)
+      ∙ body-claim old new apart_slots (kind_there w) nothing_there q (swap old new q) (w.body (swap old new q)) (valid.good (swap old new q))
 
   space_above : kind_there w s ≡ Some kinds.Space
   space_above = valid.parents k s safe.live
@@ -325,7 +352,8 @@ module _ (w : World) (k : ℕ) (s : Path) (slot : ℕ) (safe : IsSafeMove w k s 
       at_space : z ≡ s → kind_there w (swap old new z) ≡ Some kinds.Space
       at_space e = rw (e, same_path_above k [] s, same_path_above slot [] s) space_above
 
-      above : (t : Bool) → same_path z old ≡ t → (r : Bool) → same_path z new ≡ r → kind_there w z ≡ Some kinds.Space → IsSome (kind_there w (j ∷ z)) → kind_there w (if t then new else (if r then old else z)) ≡ Some kinds.Space
+      above : (t : Bool) → same_path z old ≡ t → (r : Bool) → same_path z new ≡ r →
+          kind_there w z ≡ Some kinds.Space → IsSome (kind_there w (j ∷ z)) → kind_there w (if t then new else (if r then old else z)) ≡ Some kinds.Space
       above true e r f g h =
           let here = same_path_eq z old e in
           let none : w.body (j ∷ z) ≡ None = rw here (safe.alone j) in
@@ -334,7 +362,8 @@ module _ (w : World) (k : ℕ) (s : Path) (slot : ℕ) (safe : IsSafeMove w k s 
       above false e true f g h = let here = same_path_eq z new f in let none : kind_there w z ≡ None = rw here nothing_there in cc
       above false e false f g h = g
 
-      by : (t : Bool) → same_path (j ∷ z) old ≡ t → (r : Bool) → same_path (j ∷ z) new ≡ r → IsSome (kind_there w (if t then new else (if r then old else j ∷ z))) → kind_there w (swap old new z) ≡ Some kinds.Space
+      by : (t : Bool) → same_path (j ∷ z) old ≡ t → (r : Bool) →
+          same_path (j ∷ z) new ≡ r → IsSome (kind_there w (if t then new else (if r then old else j ∷ z))) → kind_there w (swap old new z) ≡ Some kinds.Space
       by true e r f h = let off : false ≡ true = rw nothing_there at h in cc
       by false e true f h = let here = same_path_eq (j ∷ z) new f in at_space (cc)
       by false e false f h = above (same_path z old) refl (same_path z new) refl ((facts w valid).parents j z h) h
@@ -342,13 +371,15 @@ module _ (w : World) (k : ℕ) (s : Path) (slot : ℕ) (safe : IsSafeMove w k s 
   good_after : (q : Path) → all_in (is_good (λ z. kind_there w (swap old new z)) q) (after.body q) ≡ true
   good_after q = rw (bodies q) (by (w.body (swap old new q)) (valid.good (swap old new q)))
     where
-      by : (o : Option Body) → all_in (is_good (kind_there w) (swap old new q)) o ≡ true → all_in (is_good (λ z. kind_there w (swap old new z)) q) (option_map (through (following old new) q) o) ≡ true
+      by : (o : Option Body) → all_in (is_good (kind_there w) (swap old new q)) o ≡ true →
+          all_in (is_good (λ z. kind_there w (swap old new z)) q) (option_map (through (following old new) q) o) ≡ true
       by None h = refl
       by (Some b) h = good-moved old new apart_slots (kind_there w) nothing_there refl refl q b h
 
   valid-after : IsConsistent after
   valid-after =
-      valid-from after (same_facts (λ q. kind_there w (swap old new q)) (kind_there after) (λ q. birth_at w (swap old new q)) (birth_at after) (is_served_port after) (is_served_port after) (tie_at after) (tie_at after) (claim_at after) (claim_at after)
+      valid-from after (same_facts (λ q. kind_there w (swap old new q)) (kind_there after) (λ q. birth_at w (swap old new q))
+      (birth_at after) (is_served_port after) (is_served_port after) (tie_at after) (tie_at after) (claim_at after) (claim_at after)
       (sym kinds_after) (sym births_after) refl refl refl now)
       (λ q. subst (λ (there : Path → Option Kind). all_in (is_good there q) (after.body q) ≡ true) (sym kinds_after) (good_after q))
     where
@@ -357,7 +388,8 @@ module _ (w : World) (k : ℕ) (s : Path) (slot : ℕ) (safe : IsSafeMove w k s 
         parents = parents_after;
         apart = λ y z number h g. swap_same old new apart_slots y z (valid.apart (swap old new y) (swap old new z) number h g);
         born = λ y number h. valid.born (swap old new y) number h;
-        tied = tied-turned_all old new apart_slots (is_served_port w) (is_served_port after) (tie_at w) (claim_at w) (tie_at after) (claim_at after) refl served_after ties_after claims_after (facts w valid).tied;
+        tied = tied-turned_all old new apart_slots (is_served_port w)
+            (is_served_port after) (tie_at w) (claim_at w) (tie_at after) (claim_at after) refl served_after ties_after claims_after (facts w valid).tied;
       }
 
 pub valid-move : (w : World) (k : ℕ) (s : Path) (slot : ℕ) → IsSafeMove w k s slot → IsConsistent w → IsConsistent (apply (Move (k ∷ s) slot) w)

@@ -15,7 +15,8 @@ use Rattle.fk_laws.proofs.validity.Changes.{valid-apply_all, rooted-apply_all, p
 use Rattle.fk_laws.proofs.validity.Alone.{alone, leaf-alone}
 
 walk_facts : (w : World) → IsConsistent w → IsRooted w → w.next ≤ depth → WalkFacts w
-walk_facts w valid rooted born = record { idle = idle w valid rooted born; no_service = no_service w valid rooted born; alone = alone w rooted; leaf_alone = leaf-alone w valid rooted born }
+walk_facts w valid rooted born =
+    record { idle = idle w valid rooted born; no_service = no_service w valid rooted born; alone = alone w rooted; leaf_alone = leaf-alone w valid rooted born }
 
 stepped-valid : (w : World) (o : Outcome) → IsValid w → SafeOutcome w o → IsValid (stepped w o).world
 stepped-valid w (Goes changes said) valid safe = record {

@@ -25,7 +25,8 @@ single_less s a b c d less single = record {
   each = λ x. omega (arith, less x, single.each x);
 }
 
-pub single_put : (s x : Path) (u : Option Tie) (a b : Path → Option Tie) → (is_tied_to s u ≡ true → (q : Path) → load s (a q) (b q) ≡ 0) → IsSingle s a b → IsSingle s (put x u a) b
+pub single_put : (s x : Path) (u : Option Tie) (a b : Path → Option Tie) →
+    (is_tied_to s u ≡ true → (q : Path) → load s (a q) (b q) ≡ 0) → IsSingle s a b → IsSingle s (put x u a) b
 single_put s x u a b idle single = by (is_tied_to s u) refl
   where
     least : (q : Path) (t : Bool) → is_tied_to s u ≡ false → load s (if t then u else a q) (b q) ≤ load s (a q) (b q)
@@ -57,14 +58,16 @@ pub record IsFitTalk (served : Ptr → Bool) (a b : Path → Option Tie) (x : Pa
   pub at_served : (port : Ptr) → u ≡ Some (Joins port Service) → served port ≡ true
   pub alone : (port : Ptr) (q : Path) → u ≡ Some (Joins port Service) → a q ≡ Some (Joins port Service) → q ≡ x
 
-near_put : (x : Path) (u : Option Tie) (a : Path → Option Tie) → ((port server : Ptr) → u ≡ Some (Joins port (Server server)) → lies_with port server) → IsNear a → IsNear (put x u a)
+near_put : (x : Path) (u : Option Tie) (a : Path → Option Tie) →
+    ((port server : Ptr) → u ≡ Some (Joins port (Server server)) → lies_with port server) → IsNear a → IsNear (put x u a)
 near_put x u a near old q port server = by (same_path q x)
   where
     by : (t : Bool) → (if t then u else a q) ≡ Some (Joins port (Server server)) → lies_with port server
     by true h = near port server h
     by false h = old q port server h
 
-pub put_talk : (served : Ptr → Bool) (a b : Path → Option Tie) (x : Path) (u : Option Tie) → IsFitTalk served a b x u → AreTied served a b → AreTied served (put x u a) b
+pub put_talk : (served : Ptr → Bool) (a b : Path → Option Tie) (x : Path) (u : Option Tie) →
+    IsFitTalk served a b x u → AreTied served a b → AreTied served (put x u a) b
 put_talk served a b x u new tied = record {
   served_all = λ q port. served_by q port (same_path q x);
   one_client = λ y z port. one_of y z port (same_path y x) refl (same_path z x) refl;
@@ -77,7 +80,8 @@ put_talk served a b x u new tied = record {
     served_by q port true h = new.at_served port h
     served_by q port false h = tied.served_all q port h
 
-    one_of : (y z : Path) (port : Ptr) (t : Bool) → same_path y x ≡ t → (r : Bool) → same_path z x ≡ r → (if t then u else a y) ≡ Some (Joins port Service) → (if r then u else a z) ≡ Some (Joins port Service) → y ≡ z
+    one_of : (y z : Path) (port : Ptr) (t : Bool) → same_path y x ≡ t →
+        (r : Bool) → same_path z x ≡ r → (if t then u else a y) ≡ Some (Joins port Service) → (if r then u else a z) ≡ Some (Joins port Service) → y ≡ z
     one_of y z port true e true f h g = let left = same_path_eq y x e in let right = same_path_eq z x f in rw (left, right) refl
     one_of y z port true e false f h g = let left = same_path_eq y x e in let right = new.alone port z h g in rw (left, right) refl
     one_of y z port false e true f h g = let left = new.alone port y g h in let right = same_path_eq z x f in rw (left, right) refl
@@ -101,7 +105,8 @@ flag_within : (s : Path) (c a : Option Tie) → ((tie : Tie) → c ≡ Some tie 
 flag_within s None a within = zero-le
 flag_within s (Some tie) a within = rw (within tie refl) (omega arith)
 
-pub tied_within : (served still : Ptr → Bool) (a b c d : Path → Option Tie) → IsWithin c a → IsWithin d b → IsServedAll still c → AreTied served a b → AreTied still c d
+pub tied_within : (served still : Ptr → Bool) (a b c d : Path → Option Tie) →
+    IsWithin c a → IsWithin d b → IsServedAll still c → AreTied served a b → AreTied still c d
 tied_within served still a b c d talks claims all tied = record {
   served_all = all;
   one_client = λ x y port h g. tied.one_client x y port (talks x _ h) (talks y _ g);

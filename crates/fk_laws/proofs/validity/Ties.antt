@@ -77,22 +77,27 @@ HaveFacts w = AreFacts (kind_there w) (birth_at w) w.next (is_served_port w) (ti
 
 -- ---- there and back
 
-pub tie_some : (o : Option Talk) (port : Ptr) (peer : Peer) → option_map tie_of o ≡ Some (Joins port peer) → (talk : Talk) × (o ≡ Some talk) × (talk.port ≡ port) × (talk.peer ≡ peer)
+pub tie_some : (o : Option Talk) (port : Ptr) (peer : Peer) →
+    option_map tie_of o ≡ Some (Joins port peer) → (talk : Talk) × (o ≡ Some talk) × (talk.port ≡ port) × (talk.peer ≡ peer)
 tie_some None port peer h = cc
 tie_some (Some talk) port peer h = (talk, refl, cc, cc)
 
-pub tie_from : (o : Option Talk) (talk : Talk) (port : Ptr) (peer : Peer) → o ≡ Some talk → talk.port ≡ port → talk.peer ≡ peer → option_map tie_of o ≡ Some (Joins port peer)
+pub tie_from : (o : Option Talk) (talk : Talk) (port : Ptr) (peer : Peer) →
+    o ≡ Some talk → talk.port ≡ port → talk.peer ≡ peer → option_map tie_of o ≡ Some (Joins port peer)
 tie_from o talk port peer e p q = rw (e, p, q) refl
 
-pub claim_some : (o : Option Fault) (port : Ptr) (peer : Peer) → and_then claim_of o ≡ Some (Joins port peer) → (fault : Fault) × (o ≡ Some fault) × (fault.port ≡ port) × (fault.taker ≡ Some peer)
+pub claim_some : (o : Option Fault) (port : Ptr) (peer : Peer) →
+    and_then claim_of o ≡ Some (Joins port peer) → (fault : Fault) × (o ≡ Some fault) × (fault.port ≡ port) × (fault.taker ≡ Some peer)
 claim_some None port peer h = cc
 claim_some (Some fault) port peer h = by fault.taker refl h
   where
-    by : (taker : Option Peer) → fault.taker ≡ taker → option_map (Joins fault.port) taker ≡ Some (Joins port peer) → (f : Fault) × (Some fault ≡ Some f) × (f.port ≡ port) × (f.taker ≡ Some peer)
+    by : (taker : Option Peer) → fault.taker ≡ taker →
+        option_map (Joins fault.port) taker ≡ Some (Joins port peer) → (f : Fault) × (Some fault ≡ Some f) × (f.port ≡ port) × (f.taker ≡ Some peer)
     by None e g = cc
     by (Some taker) e g = (fault, refl, cc, cc)
 
-pub claim_from : (o : Option Fault) (fault : Fault) (port : Ptr) (peer : Peer) → o ≡ Some fault → fault.port ≡ port → fault.taker ≡ Some peer → and_then claim_of o ≡ Some (Joins port peer)
+pub claim_from : (o : Option Fault) (fault : Fault) (port : Ptr) (peer : Peer) →
+    o ≡ Some fault → fault.port ≡ port → fault.taker ≡ Some peer → and_then claim_of o ≡ Some (Joins port peer)
 claim_from o fault port peer e p q = rw (e, p, q) refl
 
 tie_serves : (server : Path) (o : Option Talk) → holds (λ (talk : Talk). serves server talk.peer) o ≡ is_tied_to server (option_map tie_of o)
@@ -118,8 +123,10 @@ facts w valid = record {
   tied = record {
     served_all = λ x port h. valid.served x port (tie_some (talk_at w x) port Service h);
     one_client = λ x y port h g. valid.one_client x y port (tie_some (talk_at w x) port Service h) (tie_some (talk_at w y) port Service g);
-    talks_near = λ x port server h. let found = tie_some (talk_at w x) port (Server server) h in let near = valid.talks_near x found.0 server found.1 found.3 in rw found.2 at near;
-    claims_near = λ x port server h. let found = claim_some (fault_at w x) port (Server server) h in let near = valid.faults_near x found.0 server found.1 found.3 in rw found.2 at near;
+    talks_near = λ x port server h. let found = tie_some (talk_at w x) port (Server server) h in
+        let near = valid.talks_near x found.0 server found.1 found.3 in rw found.2 at near;
+    claims_near = λ x port server h. let found = claim_some (fault_at w x) port (Server server) h in
+        let near = valid.faults_near x found.0 server found.1 found.3 in rw found.2 at near;
     single = λ server. record {
       one = λ x y h g. valid.one_service server x y (rw (services-load w server x) h) (rw (services-load w server y) g);
       each = λ x. rw (services-load w server x) at (valid.one_each server x);
@@ -134,7 +141,8 @@ valid-from w f good = record {
   apart = f.apart;
   born = f.born;
   served = λ x port h. f.tied.served_all x port (tie_from (talk_at w x) h.0 port Service h.1 h.2 h.3);
-  one_client = λ x y port h g. f.tied.one_client x y port (tie_from (talk_at w x) h.0 port Service h.1 h.2 h.3) (tie_from (talk_at w y) g.0 port Service g.1 g.2 g.3);
+  one_client =
+      λ x y port h g. f.tied.one_client x y port (tie_from (talk_at w x) h.0 port Service h.1 h.2 h.3) (tie_from (talk_at w y) g.0 port Service g.1 g.2 g.3);
   talks_near = λ x talk server e q. f.tied.talks_near x talk.port server (tie_from (talk_at w x) talk talk.port (Server server) e refl q);
   faults_near = λ x fault taker e q. f.tied.claims_near x fault.port taker (claim_from (fault_at w x) fault fault.port (Server taker) e refl q);
   one_service = λ server x y h g. (f.tied.single server).one x y (rw (services-load w server x) at h) (rw (services-load w server y) at g);

@@ -92,7 +92,8 @@ reads (HoldSet s x thread ∷ []) is r = (refl, refl)
 reads (SpaceMakeHeld x ∷ []) is r = (refl, refl)
 reads other is r = absurd (false≢true is)
 
-pub words_read_back_lem : (todo : List Stage) (rest : List ℕ) → IsTodo todo → IsRest todo rest → (todo_of (words todo rest) ≡ Some todo) × (rest_of todo (words todo rest) ≡ rest)
+pub words_read_back_lem : (todo : List Stage) (rest : List ℕ) →
+    IsTodo todo → IsRest todo rest → (todo_of (words todo rest) ≡ Some todo) × (rest_of todo (words todo rest) ≡ rest)
 unfolding Reads
 words_read_back_lem todo rest is is_rest =
     let both = subst (Reads todo) (sixteen rest is_rest.sixteen) (reads todo is (λ i. get_or rest i 0)) in
@@ -116,14 +117,16 @@ each_writes : Each WritesCall calls
 unfolding Writes words rest_of code_of
 each_writes = assumption
 
-found_writes : (cs : List Call) (r : ℕ → ℕ) (todo : List Stage) → Each WritesCall cs → named_by cs (r 0) (registers (r 0) r) ≡ Some todo → Writes (registers (r 0) r) todo
+found_writes : (cs : List Call) (r : ℕ → ℕ) (todo : List Stage) →
+    Each WritesCall cs → named_by cs (r 0) (registers (r 0) r) ≡ Some todo → Writes (registers (r 0) r) todo
 found_writes [] r todo each named = cc
 found_writes (c ∷ cs) r todo each named = by (eqb (r 0) c.code) refl (found_writes cs r todo each.1) named
   where
     g : List ℕ
     g = registers (r 0) r
 
-    by : (b : Bool) → eqb (r 0) c.code ≡ b → (named_by cs (r 0) g ≡ Some todo → Writes g todo) → cond b (Some (c.todo g)) (named_by cs (r 0) g) ≡ Some todo → Writes g todo
+    by : (b : Bool) →
+        eqb (r 0) c.code ≡ b → (named_by cs (r 0) g ≡ Some todo → Writes g todo) → cond b (Some (c.todo g)) (named_by cs (r 0) g) ≡ Some todo → Writes g todo
     by true is later named =
         let here = subst (λ code. Writes (registers code r) (c.todo (registers code r))) (sym (eqb-true _ _ is)) (each.0 r) in
         subst (Writes g) (same_Some _ _ named) here
@@ -145,7 +148,8 @@ pub length-rest_of : (todo : List Stage) (g : List ℕ) → length (rest_of todo
 unfolding rest_of
 length-rest_of todo g = length-without_values (argument_registers todo) g
 
-pub todo_writes_back_lem : (g : List ℕ) (todo : List Stage) → length g ≡ 16 → todo_of g ≡ Some todo → IsTodo todo × IsRest todo (rest_of todo g) × (words todo (rest_of todo g) ≡ g)
+pub todo_writes_back_lem : (g : List ℕ) (todo : List Stage) →
+    length g ≡ 16 → todo_of g ≡ Some todo → IsTodo todo × IsRest todo (rest_of todo g) × (words todo (rest_of todo g) ≡ g)
 unfolding Writes todo_of
 todo_writes_back_lem g todo long named =
     let same = sixteen g long in

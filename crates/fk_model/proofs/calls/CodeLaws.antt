@@ -21,7 +21,8 @@ found_code : (cs : List Call) (g : List ℕ) (todo : List Stage) → Each HasCod
 found_code [] g todo each named = absurd (cc)
 found_code (c ∷ cs) g todo each named = by (eqb (slice_index g 0) c.code) refl (found_code cs g todo each.1) named
   where
-    by : (b : Bool) → eqb (slice_index g 0) c.code ≡ b → (named_by cs (slice_index g 0) g ≡ Some todo → code_of todo ≡ slice_index g 0) → cond b (Some (c.todo g)) (named_by cs (slice_index g 0) g) ≡ Some todo → code_of todo ≡ slice_index g 0
+    by : (b : Bool) → eqb (slice_index g 0) c.code ≡ b → (named_by cs (slice_index g 0) g ≡ Some todo → code_of todo ≡ slice_index g 0) →
+        cond b (Some (c.todo g)) (named_by cs (slice_index g 0) g) ≡ Some todo → code_of todo ≡ slice_index g 0
     by true is later named = ap code_of (sym (same_Some _ _ named)) ∙ each.0 g ∙ sym (eqb-true _ _ is)
     by false is later named = later named
 
@@ -30,7 +31,8 @@ unfolding todo_of
 code_named g todo named = found_code calls g todo each_code named
 
 -- a call that is known is named by registers that hold a code that is known, and the other way round
-pub known_code : (known : Known) (g : List ℕ) (todo : List Stage) → todo_known known g ≡ Some todo → (todo_of g ≡ Some todo) × (known.calls (code_of todo) ≡ true)
+pub known_code : (known : Known) (g : List ℕ) (todo : List Stage) →
+    todo_known known g ≡ Some todo → (todo_of g ≡ Some todo) × (known.calls (code_of todo) ≡ true)
 known_code known g todo is = by (known.calls (slice_index g 0)) refl is
   where
     by : (b : Bool) → known.calls (slice_index g 0) ≡ b → cond b (todo_of g) None ≡ Some todo → (todo_of g ≡ Some todo) × (known.calls (code_of todo) ≡ true)

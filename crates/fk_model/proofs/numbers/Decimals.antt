@@ -22,7 +22,8 @@ number_is : (most n : ℕ) (token : List ℕ) → number_up_to most token ≡ So
 unfolding number_up_to
 number_is most n token h = by (length token == 0) (list_all is_digit token) (nat_le (value_of token) most) refl refl refl h
   where
-    by : (s d t : Bool) → (length token == 0) ≡ s → list_all is_digit token ≡ d → nat_le (value_of token) most ≡ t → (if not s && d && t then Some (value_of token) else None) ≡ Some n
+    by : (s d t : Bool) → (length token == 0) ≡ s →
+        list_all is_digit token ≡ d → nat_le (value_of token) most ≡ t → (if not s && d && t then Some (value_of token) else None) ≡ Some n
         → IsRead most n token
     by false true true s d t e =
         let same : value_of token ≡ n = same_Some _ _ e in
@@ -33,7 +34,8 @@ number_is most n token h = by (length token == 0) (list_all is_digit token) (nat
     by true d t s e u f = absurd (cc)
 
 -- digits of at most `most` are read
-number_back : (most : ℕ) (token : List ℕ) → (length token == 0) ≡ false → list_all is_digit token ≡ true → value_of token ≤ most → number_up_to most token ≡ Some (value_of token)
+number_back : (most : ℕ) (token : List ℕ) →
+    (length token == 0) ≡ false → list_all is_digit token ≡ true → value_of token ≤ most → number_up_to most token ≡ Some (value_of token)
 unfolding number_up_to
 number_back most token some digits fits = rw (some, digits, le-leb (value_of token) most fits) refl
 

@@ -27,8 +27,10 @@ read_after-whole : (most n : ℕ) (bs : List ℕ) → n ≤ most → read_after 
 read_after-whole most n [] h = rw (le-leb n most h) refl
 read_after-whole most n (b ∷ bs) h = by (is_digit b) (nat_le (n * 10 + (b - 48)) most) refl refl (read_after-whole most (n * 10 + (b - 48)) bs)
   where
-    by : (d t : Bool) → is_digit b ≡ d → nat_le (n * 10 + (b - 48)) most ≡ t → (n * 10 + (b - 48) ≤ most → read_after most (n * 10 + (b - 48)) bs ≡ read_whole most (n * 10 + (b - 48)) bs)
-        → (if d && t then read_after most (n * 10 + (b - 48)) bs else None) ≡ (if (d && list_all is_digit bs) && nat_le (value_after (n * 10 + (b - 48)) bs) most then Some (value_after (n * 10 + (b - 48)) bs) else None)
+    by : (d t : Bool) → is_digit b ≡ d →
+        nat_le (n * 10 + (b - 48)) most ≡ t → (n * 10 + (b - 48) ≤ most → read_after most (n * 10 + (b - 48)) bs ≡ read_whole most (n * 10 + (b - 48)) bs)
+        → (if d && t then read_after most (n * 10 + (b - 48)) bs else None)
+        ≡ (if (d && list_all is_digit bs) && nat_le (value_after (n * 10 + (b - 48)) bs) most then Some (value_after (n * 10 + (b - 48)) bs) else None)
     by true true e f more = more (leb-true (n * 10 + (b - 48)) most f)
     by true false e f more = by_all (list_all is_digit bs)
       where

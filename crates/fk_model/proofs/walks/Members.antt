@@ -38,7 +38,8 @@ module _ {A : Type 0} where
   of_filter test x [] h = absurd h
   of_filter test x (z ∷ xs) h = by (test z) refl (of_filter test x xs) h
     where
-      by : (b : Bool) → test z ≡ b → (IsIn x (filter test xs) → IsIn x xs × (test x ≡ true)) → IsIn x (if b then z ∷ filter test xs else filter test xs) → ((z ≡ x) ⊎ IsIn x xs) × (test x ≡ true)
+      by : (b : Bool) → test z ≡ b → (IsIn x (filter test xs) → IsIn x xs × (test x ≡ true)) →
+          IsIn x (if b then z ∷ filter test xs else filter test xs) → ((z ≡ x) ⊎ IsIn x xs) × (test x ≡ true)
       by true e rest (inl g) = (inl g, rw g at e)
       by true e rest (inr g) = let both = rest g in (inr both.0, both.1)
       by false e rest g = let both = rest g in (inr both.0, both.1)
@@ -47,7 +48,8 @@ module _ {A : Type 0} where
   find_none test x [] none h = absurd h
   find_none test x (z ∷ xs) none h = by (test z) refl none h (find_none test x xs)
     where
-      by : (b : Bool) → test z ≡ b → (if b then Some z else find test xs) ≡ None → (z ≡ x) ⊎ IsIn x xs → (find test xs ≡ None → IsIn x xs → test x ≡ false) → test x ≡ false
+      by : (b : Bool) →
+          test z ≡ b → (if b then Some z else find test xs) ≡ None → (z ≡ x) ⊎ IsIn x xs → (find test xs ≡ None → IsIn x xs → test x ≡ false) → test x ≡ false
       by true e none h rest = cc
       by false e none (inl g) rest = rw (← g) e
       by false e none (inr g) rest = rest none g
@@ -56,7 +58,8 @@ module _ {A : Type 0} where
   find_some test x [] h = cc
   find_some test x (z ∷ xs) h = by (test z) refl h (find_some test x xs)
     where
-      by : (b : Bool) → test z ≡ b → (if b then Some z else find test xs) ≡ Some x → (find test xs ≡ Some x → IsIn x xs × (test x ≡ true)) → ((z ≡ x) ⊎ IsIn x xs) × (test x ≡ true)
+      by : (b : Bool) → test z ≡ b →
+          (if b then Some z else find test xs) ≡ Some x → (find test xs ≡ Some x → IsIn x xs × (test x ≡ true)) → ((z ≡ x) ⊎ IsIn x xs) × (test x ≡ true)
       by true e g rest = let same : z ≡ x = cc in (inl same, rw same at e)
       by false e g rest = let both = rest g in (inr both.0, both.1)
 
@@ -73,7 +76,8 @@ module _ {A : Type 0} where
   of_any test [] h = cc
   of_any test (z ∷ xs) h = by (test z) refl h (of_any test xs)
     where
-      by : (b : Bool) → test z ≡ b → (b || list_any test xs) ≡ true → (list_any test xs ≡ true → (x : A) × IsIn x xs × (test x ≡ true)) → (x : A) × ((z ≡ x) ⊎ IsIn x xs) × (test x ≡ true)
+      by : (b : Bool) → test z ≡ b →
+          (b || list_any test xs) ≡ true → (list_any test xs ≡ true → (x : A) × IsIn x xs × (test x ≡ true)) → (x : A) × ((z ≡ x) ⊎ IsIn x xs) × (test x ≡ true)
       by true e g rest = (z, inl refl, e)
       by false e g rest = let found = rest g in (found.0, inr found.1, found.2)
 
@@ -87,6 +91,7 @@ module _ {A B : Type 0} where
   of_flat_map f x [] h = absurd h
   of_flat_map f x (z ∷ ys) h = by (in_either x (f z) (flat_map f ys) h) (of_flat_map f x ys)
     where
-      by : IsIn x (f z) ⊎ IsIn x (flat_map f ys) → (IsIn x (flat_map f ys) → (y : A) × IsIn y ys × IsIn x (f y)) → (y : A) × ((z ≡ y) ⊎ IsIn y ys) × IsIn x (f y)
+      by : IsIn x (f z) ⊎ IsIn x (flat_map f ys) →
+          (IsIn x (flat_map f ys) → (y : A) × IsIn y ys × IsIn x (f y)) → (y : A) × ((z ≡ y) ⊎ IsIn y ys) × IsIn x (f y)
       by (inl g) rest = (z, inl refl, g)
       by (inr g) rest = let found = rest g in (found.0, inr found.1, found.2)

@@ -77,7 +77,8 @@ strip_some r (k ∷ x) q h = by (strip_some r x) (same_path (k ∷ x) r) refl h
     deeper None below h = cc
     deeper (Some z) below h = let under = below z refl in let joined : q ≡ k ∷ z = cc in rw (joined, ← under) refl
 
-    by : ((z : Path) → strip r x ≡ Some z → x ≡ z ++ r) → (b : Bool) → same_path (k ∷ x) r ≡ b → (if b then Some [] else option_map (λ z. k ∷ z) (strip r x)) ≡ Some q → k ∷ x ≡ q ++ r
+    by : ((z : Path) → strip r x ≡ Some z → x ≡ z ++ r) →
+        (b : Bool) → same_path (k ∷ x) r ≡ b → (if b then Some [] else option_map (λ z. k ∷ z) (strip r x)) ≡ Some q → k ∷ x ≡ q ++ r
     by below true e h = let at_root = same_path_eq (k ∷ x) r e in let none : q ≡ [] = cc in rw none at_root
     by below false e h = deeper (strip r x) below h
 

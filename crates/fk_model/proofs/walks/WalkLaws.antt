@@ -67,16 +67,19 @@ numbers-long w (k ∷ x) = ap suc (numbers-long w x)
 
 numbers-below : (w : World) → IsConsistent w → (x : Path) → IsSome (w.body x) → (q : ℕ) → list_any (eqb q) (numbers w x) ≡ true → q < w.next
 numbers-below w valid [] live q h = cc
-numbers-below w valid (k ∷ x) live q h = by (or_cases (eqb q (number w x)) (list_any (eqb q) (numbers w x)) h) (numbers-below w valid x (live_above w valid k x live) q)
+numbers-below w valid (k ∷ x) live q h =
+    by (or_cases (eqb q (number w x)) (list_any (eqb q) (numbers w x)) h) (numbers-below w valid x (live_above w valid k x live) q)
   where
     by : (eqb q (number w x) ≡ true) ⊎ (list_any (eqb q) (numbers w x) ≡ true) → (list_any (eqb q) (numbers w x) ≡ true → q < w.next) → q < w.next
     by (inl e) rest = let below = valid.born x (number w x) (numbered w valid k x live) in let same = eqb-true q (number w x) e in omega arith
     by (inr e) rest = rest e
 
 -- a longer path's number is none of these
-numbers-other : (w : World) → IsConsistent w → (x z : Path) → birth_at w x ≡ Some (number w x) → length z ≤ length x → IsSome (w.body z) → AllByRecursion (λ n. eqb (number w x) n ≡ false) (numbers w z)
+numbers-other : (w : World) → IsConsistent w →
+    (x z : Path) → birth_at w x ≡ Some (number w x) → length z ≤ length x → IsSome (w.body z) → AllByRecursion (λ n. eqb (number w x) n ≡ false) (numbers w z)
 numbers-other w valid x [] is long live = tt
-numbers-other w valid x (k ∷ z) is long live = (ne_eqb (number w x) (number w z) other, numbers-other w valid x z is (omega arith) (live_above w valid k z live))
+numbers-other w valid x (k ∷ z) is long live =
+    (ne_eqb (number w x) (number w z) other, numbers-other w valid x z is (omega arith) (live_above w valid k z live))
   where
     other : number w x ≡ number w z → ⊥
     other e = let same = valid.apart x z (number w z) (is ∙ ap Some e) (numbered w valid k z live) in omega (arith, ap length same)
@@ -89,7 +92,8 @@ numbers-distinct w valid (k ∷ x) live =
     (numbers-other w valid x x (numbered w valid k x live) (omega arith) above, numbers-distinct w valid x above)
 
 pub short : (w : World) → IsConsistent w → (x : Path) → IsSome (w.body x) → length x ≤ w.next
-short w valid x live = rw (← numbers-long w x) (length-le_from_distinct_below (numbers w x) w.next (numbers-distinct w valid x live) (numbers-below w valid x live))
+short w valid x live =
+    rw (← numbers-long w x) (length-le_from_distinct_below (numbers w x) w.next (numbers-distinct w valid x live) (numbers-below w valid x live))
 
 -- ---- the residents of a space
 
@@ -118,54 +122,57 @@ in_first zero w rooted k s h live = absurd (omega arith)
 in_first (suc n) w rooted k s h live = in_flat_map (λ k. (k ∷ s) ∷ beneath_by n w (k ∷ s)) k (k ∷ s) (residents w s) (in_residents w rooted k s live) (inl refl)
 
 -- with an object the walk comes to what lies in it
-in_next : (n : ℕ) (w : World) → IsRooted w → (s y : Path) (k : ℕ) → IsIn y (beneath_by n w s) → length y < n + length s → IsSome (w.body (k ∷ y)) → IsIn (k ∷ y) (beneath_by n w s)
+in_next : (n : ℕ) (w : World) →
+    IsRooted w → (s y : Path) (k : ℕ) → IsIn y (beneath_by n w s) → length y < n + length s → IsSome (w.body (k ∷ y)) → IsIn (k ∷ y) (beneath_by n w s)
 unfolding beneath_by
 in_next zero w rooted s y k h few live = absurd h
 in_next (suc n) w rooted s y k h few live =
     let found = of_flat_map (λ j. (j ∷ s) ∷ beneath_by n w (j ∷ s)) y (residents w s) h in
-    in_flat_map (λ j. (j ∷ s) ∷ beneath_by n w (j ∷ s)) found.0 (k ∷ y) (residents w s) found.1 (inr (by found.0 found.2 (λ j g. in_next n w rooted (j ∷ s) y k g (omega arith) live)))
+    in_flat_map (λ j. (j ∷ s) ∷ beneath_by n w (j ∷ s))
+    found.0 (k ∷ y) (residents w s) found.1 (inr (by found.0 found.2 (λ j g. in_next n w rooted (j ∷ s) y k g (omega arith) live)))
   where
-    by : (j : ℕ) → (j ∷ s ≡ y) ⊎ IsIn y (beneath_by n w (j ∷ s)) → ((j : ℕ) → IsIn y (beneath_by n w (j ∷ s)) → IsIn (k ∷ y) (beneath_by n w (j ∷ s))) → IsIn (k ∷ y) (beneath_by n w (j ∷ s))
+    by : (j : ℕ) → (j ∷ s ≡ y) ⊎ IsIn y (beneath_by n w (j ∷ s)) →
+        ((j : ℕ) → IsIn y (beneath_by n w (j ∷ s)) → IsIn (k ∷ y) (beneath_by n w (j ∷ s))) → IsIn (k ∷ y) (beneath_by n w (j ∷ s))
     by j (inl e) rest = rw (e) (in_first n w rooted k y (omega (arith, ap length e)) live)
     by j (inr g) rest = rest j g
 
-in_walk : (n : ℕ) (w : World) → ((k : ℕ) (x : Path) → IsSome (w.body (k ∷ x)) → IsSome (w.body x)) → IsRooted w → (x : Path) (k : ℕ) → IsSome (w.body (k ∷ x)) → length (k ∷ x) ≤ n → IsIn (k ∷ x) (beneath_by n w [])
+in_walk : (n : ℕ) (w : World) → ((k : ℕ) (x : Path) → IsSome (w.body (k ∷ x)) → IsSome (w.body x)) →
+    IsRooted w → (x : Path) (k : ℕ) → IsSome (w.body (k ∷ x)) → length (k ∷ x) ≤ n → IsIn (k ∷ x) (beneath_by n w [])
 in_walk n w above rooted [] k live few = in_first n w rooted k [] (omega arith) live
-in_walk n w above rooted (j ∷ y) k live few = in_next n w rooted [] (j ∷ y) k (in_walk n w above rooted y j (above k (j ∷ y) live) (omega arith)) (omega arith) live
+in_walk n w above rooted (j ∷ y) k live few =
+    in_next n w rooted [] (j ∷ y) k (in_walk n w above rooted y j (above k (j ∷ y) live) (omega arith)) (omega arith) live
 
 of_walk : (n : ℕ) (w : World) (s x : Path) → IsIn x (beneath_by n w s) → IsSome (w.body x)
 unfolding beneath_by
 of_walk zero w s x h = absurd h
-of_walk (suc n) w s x h = let found = of_flat_map (λ j. (j ∷ s) ∷ beneath_by n w (j ∷ s)) x (residents w s) h in by found.0 (of_residents w found.0 s found.1) found.2 (of_walk n w (found.0 ∷ s) x)
+of_walk (suc n) w s x h = let found = of_flat_map (λ j. (j ∷ s) ∷ beneath_by n w (j ∷ s)) x (residents w s) h in
+    by found.0 (of_residents w found.0 s found.1) found.2 (of_walk n w (found.0 ∷ s) x)
   where
-    by : (j : ℕ) → IsSome (w.body (j ∷ s)) → (j ∷ s ≡ x) ⊎ IsIn x (beneath_by n w (j ∷ s)) → (IsIn x (beneath_by n w (j ∷ s)) → IsSome (w.body x)) → IsSome (w.body x)
+    by : (j : ℕ) →
+        IsSome (w.body (j ∷ s)) → (j ∷ s ≡ x) ⊎ IsIn x (beneath_by n w (j ∷ s)) → (IsIn x (beneath_by n w (j ∷ s)) → IsSome (w.body x)) → IsSome (w.body x)
     by j live (inl e) rest = rw e at live
     by j live (inr g) rest = rest g
 
 -- ---- every object
 
 -- where what has something in it is live, and no path is too long
-pub walked : (w : World) → ((k : ℕ) (x : Path) → IsSome (w.body (k ∷ x)) → IsSome (w.body x)) → IsRooted w → (k : ℕ) (x : Path) → IsSome (w.body (k ∷ x)) → length (k ∷ x) ≤ depth → IsIn (k ∷ x) (objects w)
+pub walked : (w : World) → ((k : ℕ) (x : Path) → IsSome (w.body (k ∷ x)) → IsSome (w.body x)) →
+    IsRooted w → (k : ℕ) (x : Path) → IsSome (w.body (k ∷ x)) → length (k ∷ x) ≤ depth → IsIn (k ∷ x) (objects w)
 unfolding beneath
 walked w above rooted k x live few = in_walk depth w above rooted x k live few
 
 pub in_objects : (w : World) → IsConsistent w → IsRooted w → w.next ≤ depth → (k : ℕ) (x : Path) → IsSome (w.body (k ∷ x)) → IsIn (k ∷ x) (objects w)
 in_objects w valid rooted few k x live = walked w (live_above w valid) rooted k x live (le_trans (short w valid (k ∷ x) live) few)
 
-pub of_objects : (w : World) (x : Path) → IsIn x (objects w) → IsSome (w.body x)
-unfolding beneath
-of_objects w x h = of_walk depth w [] x h
-
-pub objects-all : (w : World) → IsConsistent w → IsRooted w → w.next ≤ depth → (k : ℕ) (x : Path) → IsSome (w.body (k ∷ x)) → list_any (same_path (k ∷ x)) (objects w) ≡ true
+pub objects-all : (w : World) →
+    IsConsistent w → IsRooted w → w.next ≤ depth → (k : ℕ) (x : Path) → IsSome (w.body (k ∷ x)) → list_any (same_path (k ∷ x)) (objects w) ≡ true
 objects-all w valid rooted few k x live = any_in (same_path (k ∷ x)) (k ∷ x) (objects w) (in_objects w valid rooted few k x live) (same_path_refl (k ∷ x))
-
-pub objects-live : (w : World) (x : Path) → list_any (same_path x) (objects w) ≡ true → IsSome (w.body x)
-objects-live w x h = let found = of_any (same_path x) (objects w) h in let same = same_path_eq x found.0 found.2 in rw same (of_objects w found.0 found.1)
 
 -- ---- who serves
 
 -- a test that no object passes, and nothing else could
-no_thread : (w : World) → IsConsistent w → IsRooted w → w.next ≤ depth → (test : Option Thread → Bool) → test None ≡ false → find (λ c. test (and_then thread_of (w.body c))) (objects w) ≡ None → (q : Path) → test (and_then thread_of (w.body q)) ≡ false
+no_thread : (w : World) → IsConsistent w → IsRooted w → w.next ≤ depth → (test : Option Thread → Bool) →
+    test None ≡ false → find (λ c. test (and_then thread_of (w.body c))) (objects w) ≡ None → (q : Path) → test (and_then thread_of (w.body q)) ≡ false
 unfolding kind_there
 no_thread w valid rooted few test nothing none [] = by (w.body []) rooted.root
   where
@@ -196,11 +203,13 @@ pub none_from : {A : Type 0} (o : Option A) → is_some o ≡ false → o ≡ No
 none_from None h = refl
 none_from (Some a) h = cc
 
-pub no_client : (w : World) → IsConsistent w → IsRooted w → w.next ≤ depth → (server : Path) → client_of w server ≡ None → (q : Path) → holds (λ (talk : Talk). serves server talk.peer) (talk_at w q) ≡ false
+pub no_client : (w : World) → IsConsistent w → IsRooted w →
+    w.next ≤ depth → (server : Path) → client_of w server ≡ None → (q : Path) → holds (λ (talk : Talk). serves server talk.peer) (talk_at w q) ≡ false
 unfolding client_of
 no_client w valid rooted few server none q = no_thread w valid rooted few (serves_by_talk server) refl none q
 
-pub no_faulter : (w : World) → IsConsistent w → IsRooted w → w.next ≤ depth → (server : Path) → faulter_of w server ≡ None → (q : Path) → holds (λ (fault : Fault). holds (serves server) fault.taker) (fault_at w q) ≡ false
+pub no_faulter : (w : World) → IsConsistent w → IsRooted w → w.next ≤ depth →
+    (server : Path) → faulter_of w server ≡ None → (q : Path) → holds (λ (fault : Fault). holds (serves server) fault.taker) (fault_at w q) ≡ false
 unfolding faulter_of
 no_faulter w valid rooted few server none q = no_thread w valid rooted few (serves_by_fault server) refl none q
 
@@ -208,13 +217,17 @@ no_faulter w valid rooted few server none q = no_thread w valid rooted few (serv
 pub idle : (w : World) → IsConsistent w → IsRooted w → w.next ≤ depth → (server : Path) → is_serving w server ≡ false → (q : Path) → services w server q ≡ 0
 idle w valid rooted few server h q =
     let both = or_parts (is_some (client_of w server)) (is_some (faulter_of w server)) h in
-    rw (no_client w valid rooted few server (none_from (client_of w server) both.0) q, no_faulter w valid rooted few server (none_from (faulter_of w server) both.1) q) refl
+    rw (
+      no_client w valid rooted few server (none_from (client_of w server) both.0) q,
+      no_faulter w valid rooted few server (none_from (faulter_of w server) both.1) q,
+    ) refl
 
 abbrev served_here : Path → Option Thread → Bool
 served_here port o = holds (λ (talk : Talk). leads_to port talk.port && is_service talk.peer) (and_then (λ (t : Thread). t.talk) o)
 
 -- a served port without a client
-pub no_service : (w : World) → IsConsistent w → IsRooted w → w.next ≤ depth → (port : Path) → client_at w port ≡ None → (q : Path) → HasService w q (At port) → ⊥
+pub no_service : (w : World) →
+    IsConsistent w → IsRooted w → w.next ≤ depth → (port : Path) → client_at w port ≡ None → (q : Path) → HasService w q (At port) → ⊥
 unfolding client_at
 no_service w valid rooted few port none q h =
     let off = no_thread w valid rooted few (served_here port) refl none q in
@@ -222,24 +235,3 @@ no_service w valid rooted few port none q h =
     cc
 
 -- ---- who is found
-
-pub client-found : (w : World) (server c : Path) → client_of w server ≡ Some c → holds (λ (talk : Talk). serves server talk.peer) (talk_at w c) ≡ true
-unfolding client_of
-client-found w server c h = (find_some (λ c. serves_by_talk server (and_then thread_of (w.body c))) c (objects w) h).1
-
-pub faulter-found : (w : World) (server c : Path) → faulter_of w server ≡ Some c → holds (λ (fault : Fault). holds (serves server) fault.taker) (fault_at w c) ≡ true
-unfolding faulter_of
-faulter-found w server c h = (find_some (λ c. serves_by_fault server (and_then thread_of (w.body c))) c (objects w) h).1
-
-pub service-found : (w : World) (port c : Path) → client_at w port ≡ Some c → HasService w c (At port)
-unfolding client_at
-service-found w port c h = by (talk_at w c) refl (find_some (λ c. served_here port (and_then thread_of (w.body c))) c (objects w) h).1
-  where
-    service : (peer : Peer) → is_service peer ≡ true → peer ≡ Service
-    service Service h = refl
-    service (Server server) h = cc
-    service Parked h = cc
-
-    by : (o : Option Talk) → talk_at w c ≡ o → holds (λ (talk : Talk). leads_to port talk.port && is_service talk.peer) o ≡ true → HasService w c (At port)
-    by None e g = cc
-    by (Some talk) e g = let both = and_parts (leads_to port talk.port) (is_service talk.peer) g in (talk, e, leads_to_at port talk.port both.0, service talk.peer both.1)

@@ -36,19 +36,24 @@ native_there (Some (Thread_of u)) t h porter = let same : u ≡ t = cc in rw sam
 native_there (Some b) t h porter = cc
 native_there None t h porter = cc
 
-pub porter_outside : (w : World) (nester : Path) (slot : ℕ) → IsPlain w nester slot → (x : Path) (t : Thread) → and_then thread_of (w.body x) ≡ Some t → is_porter t.mode ≡ true → is_within (slot ∷ nester) x ≡ false
+pub porter_outside : (w : World) (nester : Path) (slot : ℕ) →
+    IsPlain w nester slot → (x : Path) (t : Thread) → and_then thread_of (w.body x) ≡ Some t → is_porter t.mode ≡ true → is_within (slot ∷ nester) x ≡ false
 porter_outside w nester slot plain x t at porter = by (strip (slot ∷ nester) x) refl
   where
     by : (o : Option Path) → strip (slot ∷ nester) x ≡ o → is_some o ≡ false
     by None e = refl
-    by (Some q) e = let here = strip_some (slot ∷ nester) x q e in let native = native_there (w.body x) t at porter in let none : holds is_native (w.body x) ≡ false = rw here (plain.no_porter q) in cc
+    by (Some q) e = let here = strip_some (slot ∷ nester) x q e in
+        let native = native_there (w.body x) t at porter in let none : holds is_native (w.body x) ≡ false = rw here (plain.no_porter q) in cc
 
 -- a porter's call that is ready
-pub porter_is : (w : World) (x : Path) (pick : Option Path) (stage : Stage) (words : List ℕ) (o : Option Thread) → GoesAllowed w x (porter_move w x pick stage words o) → (t : Thread) × (o ≡ Some t) × (is_porter t.mode ≡ true) × (porter_move w x pick stage words o ≡ call_row w (porter_at x words) pick stage)
+pub porter_is : (w : World) (x : Path) (pick : Option Path) (stage : Stage) (words : List ℕ) (o : Option Thread) →
+    GoesAllowed w x (porter_move w x pick stage words o) →
+    (t : Thread) × (o ≡ Some t) × (is_porter t.mode ≡ true) × (porter_move w x pick stage words o ≡ call_row w (porter_at x words) pick stage)
 porter_is w x pick stage words None ready = absurd ready
 porter_is w x pick stage words (Some t) ready = by (is_porter t.mode) (is_unheld w (parent x)) refl ready
   where
-    by : (a b : Bool) → is_porter t.mode ≡ a → GoesAllowed w x (when (a && b) (call_row w (porter_at x words) pick stage)) → (u : Thread) × (Some t ≡ Some u) × (is_porter u.mode ≡ true) × (when (a && b) (call_row w (porter_at x words) pick stage) ≡ call_row w (porter_at x words) pick stage)
+    by : (a b : Bool) → is_porter t.mode ≡ a → GoesAllowed w x (when (a && b) (call_row w (porter_at x words) pick stage)) → (u : Thread) ×
+        (Some t ≡ Some u) × (is_porter u.mode ≡ true) × (when (a && b) (call_row w (porter_at x words) pick stage) ≡ call_row w (porter_at x words) pick stage)
     by true true e ready = (t, refl, e, refl)
     by true false e ready = absurd ready
     by false b e ready = absurd ready
@@ -64,23 +69,31 @@ denied : (root : Path) (b : Bool) (o : Outcome) → Quiet root o → Quiet root 
 denied root true o h = quiet-refused
 denied root false o h = h
 
-pub quiet-porter : (root : Path) (w : World) (x : Path) (words : List ℕ) (pick : Option Path) (stage : Stage) → Quiet root (stage_row w (porter_at x words) pick stage) → Quiet root (call_row w (porter_at x words) pick stage)
+pub quiet-porter : (root : Path) (w : World) (x : Path) (words : List ℕ) (pick : Option Path) (stage : Stage) →
+    Quiet root (stage_row w (porter_at x words) pick stage) → Quiet root (call_row w (porter_at x words) pick stage)
 unfolding call_row
-quiet-porter root w x words pick stage h = answered root x words _ (quiet-with_pick root (chooses stage) pick _ (denied root (is_for_users stage) (stage_row w (porter_at x words) pick stage) h))
+quiet-porter root w x words pick stage h =
+    answered root x words _ (quiet-with_pick root (chooses stage) pick _ (denied root (is_for_users stage) (stage_row w (porter_at x words) pick stage) h))
 
 -- whatever the call is, where its row is quiet and touches nothing
-pub quiet_call : (w : World) (nester : Path) (slot : ℕ) (x : Path) (pick : Option Path) (stage : Stage) (words : List ℕ) → Quiet (slot ∷ nester) (call_row w (porter_at x words) pick stage) →
-    stage_touch w (slot ∷ nester) (porter_at x words) pick (listed (call_row w (porter_at x words) pick stage)) stage ≡ None → KeepsCut w nester slot (record { mover = x; pick = pick; ask = asks.Call stage words })
+pub quiet_call : (w : World) (nester : Path) (slot : ℕ) (x : Path) (pick : Option Path) (stage : Stage) (words : List ℕ) →
+    Quiet (slot ∷ nester) (call_row w (porter_at x words) pick stage) →
+    stage_touch w (slot ∷ nester) (porter_at x words) pick (listed (call_row w (porter_at x words) pick stage)) stage ≡ None →
+    KeepsCut w nester slot (record { mover = x; pick = pick; ask = asks.Call stage words })
 unfolding outcome
 quiet_call w nester slot x pick stage words quiet untouched sound plain fit ready =
     let is = porter_is w x pick stage words (and_then thread_of (w.body x)) ready in
     outside_law w nester slot plain (record { mover = x; pick = pick; ask = asks.Call stage words }) (porter_outside w nester slot plain x is.0 is.1 is.2)
     (rw (is.3) quiet) (rw (is.3) untouched) sound plain fit ready
 
-pub quiet_calls : (IsSuch : Stage → Type 0) → ((stage : Stage) → IsSuch stage → (root : Path) (w : World) (c : Caller) (pick : Option Path) → Quiet root (stage_row w c pick stage)) →
-    ((stage : Stage) → IsSuch stage → (w : World) (root : Path) (c : Caller) (pick : Option Path) (cs : List Change) → stage_touch w root c pick cs stage ≡ None) → CallKeepsCut IsSuch
+pub quiet_calls : (IsSuch : Stage → Type 0) →
+    ((stage : Stage) → IsSuch stage → (root : Path) (w : World) (c : Caller) (pick : Option Path) → Quiet root (stage_row w c pick stage)) →
+    ((stage : Stage) → IsSuch stage →
+    (w : World) (root : Path) (c : Caller) (pick : Option Path) (cs : List Change) → stage_touch w root c pick cs stage ≡ None) → CallKeepsCut IsSuch
 quiet_calls IsSuch quiet untouching w nester slot x pick stage words such =
-    quiet_call w nester slot x pick stage words (quiet-porter (slot ∷ nester) w x words pick stage (quiet stage such (slot ∷ nester) w (porter_at x words) pick)) (untouching stage such w (slot ∷ nester) (porter_at x words) pick (listed (call_row w (porter_at x words) pick stage)))
+    quiet_call w
+    nester slot x pick stage words (quiet-porter (slot ∷ nester) w x words pick stage (quiet stage such (slot ∷ nester) w (porter_at x words) pick))
+    (untouching stage such w (slot ∷ nester) (porter_at x words) pick (listed (call_row w (porter_at x words) pick stage)))
 
 pub plain_calls_keep : CallKeepsCut IsPlainStage
 plain_calls_keep = quiet_calls IsPlainStage (λ stage such. (plain_inner stage such).quiet) (λ stage such. (plain_inner stage such).untouching)
@@ -96,7 +109,8 @@ none_inner root touch (Some x) none = by (strip root x)
     by (Some q) = none x q
 
 -- what is refused touches nothing
-refused_touch : (w : World) (root : Path) (c : Caller) (pick : Option Path) (stage : Stage) → is_for_users stage ≡ true → stage_touch w root c pick [] stage ≡ None
+refused_touch : (w : World) (root : Path) (c : Caller) (pick : Option Path) (stage : Stage) →
+    is_for_users stage ≡ true → stage_touch w root c pick [] stage ≡ None
 refused_touch w root c pick (ServerSend address count) users = none_inner root (given_of w []) _ (λ x q. refl)
 refused_touch w root c pick (Wait set) users = cc
 refused_touch w root c pick FaultDone users = cc
@@ -104,27 +118,33 @@ refused_touch w root c pick (PageGive s page address) users = cc
 refused_touch w root c pick (PageTake s page address) users = cc
 refused_touch w root c pick stage users = refl
 
-denied_call : (w : World) (x : Path) (words : List ℕ) (pick : Option Path) (stage : Stage) → is_for_users stage ≡ true → call_row w (porter_at x words) pick stage ≡ closed (porter_at x words) (with_pick (chooses stage) pick (Refused DENIED))
+denied_call : (w : World) (x : Path) (words : List ℕ) (pick : Option Path) (stage : Stage) →
+    is_for_users stage ≡ true → call_row w (porter_at x words) pick stage ≡ closed (porter_at x words) (with_pick (chooses stage) pick (Refused DENIED))
 unfolding call_row
 denied_call w x words pick stage users = rw users refl
 
-nothing_listed : (x : Path) (words : List ℕ) (chosen : Bool) (pick : Option Path) → listed (closed (porter_at x words) (with_pick chosen pick (Refused DENIED))) ≡ []
+nothing_listed : (x : Path) (words : List ℕ) (chosen : Bool) (pick : Option Path) →
+    listed (closed (porter_at x words) (with_pick chosen pick (Refused DENIED))) ≡ []
 nothing_listed x words chosen None = refl
 nothing_listed x words chosen (Some y) = refl
 
 pub denied_calls_keep : CallKeepsCut IsForUsers
 denied_calls_keep w nester slot x pick stage words such =
     quiet_call w nester slot x pick stage words
-    (rw (denied_call w x words pick stage such) (answered (slot ∷ nester) x words _ (quiet-with_pick (slot ∷ nester) (chooses stage) pick (Refused DENIED) quiet-refused)))
-    (rw (denied_call w x words pick stage such, nothing_listed x words (chooses stage) pick) (refused_touch w (slot ∷ nester) (porter_at x words) pick stage such))
+    (rw (denied_call w x words pick stage such)
+    (answered (slot ∷ nester) x words _ (quiet-with_pick (slot ∷ nester) (chooses stage) pick (Refused DENIED) quiet-refused)))
+    (rw (denied_call w x words pick stage such, nothing_listed x words (chooses stage) pick)
+    (refused_touch w (slot ∷ nester) (porter_at x words) pick stage such))
 
 -- ---- a stage that a user is denied
 
-denied_stage : (w : World) (x : Path) (pick : Option Path) (stage : Stage) → is_for_porters stage ≡ true → call_row w (user_at x) pick stage ≡ closed (user_at x) (with_pick (chooses stage) pick (Refused DENIED))
+denied_stage : (w : World) (x : Path) (pick : Option Path) (stage : Stage) →
+    is_for_porters stage ≡ true → call_row w (user_at x) pick stage ≡ closed (user_at x) (with_pick (chooses stage) pick (Refused DENIED))
 unfolding call_row
 denied_stage w x pick stage porters = rw porters refl
 
-quiet-denied : (root : Path) (w : World) (x : Path) (pick : Option Path) (stage : Stage) → is_for_porters stage ≡ true → Quiet root (call_row w (user_at x) pick stage)
+quiet-denied : (root : Path) (w : World) (x : Path) (pick : Option Path) (stage : Stage) →
+    is_for_porters stage ≡ true → Quiet root (call_row w (user_at x) pick stage)
 quiet-denied root w x pick stage porters = rw (denied_stage w x pick stage porters) (by (chooses stage) pick)
   where
     by : (chosen : Bool) (pick : Option Path) → Quiet root (closed (user_at x) (with_pick chosen pick (Refused DENIED)))
@@ -136,7 +156,8 @@ silent-denied w n c o (ClientSend address count) porters = cc
 silent-denied w n c o ClientOver porters = cc
 silent-denied w n c o stage porters = refl
 
-untouching-denied : (w : World) (root : Path) (c : Caller) (pick : Option Path) (cs : List Change) (stage : Stage) → is_for_porters stage ≡ true → stage_touch w root c pick cs stage ≡ None
+untouching-denied : (w : World) (root : Path) (c : Caller) (pick : Option Path) (cs : List Change) (stage : Stage) →
+    is_for_porters stage ≡ true → stage_touch w root c pick cs stage ≡ None
 untouching-denied w root c pick cs (Wait set) porters = cc
 untouching-denied w root c pick cs (ServerSend address count) porters = cc
 untouching-denied w root c pick cs ServerOver porters = cc
@@ -146,7 +167,8 @@ untouching-denied w root c pick cs (PageGive s page address) porters = cc
 untouching-denied w root c pick cs (PageTake s page address) porters = cc
 untouching-denied w root c pick cs stage porters = refl
 
-pub denied_like : {root : Path} {see : Ptr → Ptr} {small big : World} (like : IsLikeness root see small big) (k : ℕ) (q : Path) (p pick : Option Path) (stage : Stage) → is_for_porters stage ≡ true → is_none p ≡ is_none pick →
+pub denied_like : {root : Path} {see : Ptr → Ptr} {small big : World}
+    (like : IsLikeness root see small big) (k : ℕ) (q : Path) (p pick : Option Path) (stage : Stage) → is_for_porters stage ≡ true → is_none p ≡ is_none pick →
     IsLikeOutcome root see big (call_row small (user_at (k ∷ q)) p stage) (call_row big (user_at (k ∷ (q ++ root))) pick stage)
 denied_like {root} {see} {small} {big} like k q p pick stage porters e =
     rw (denied_stage small (k ∷ q) p stage porters, denied_stage big (k ∷ (q ++ root)) pick stage porters)
@@ -155,20 +177,26 @@ denied_like {root} {see} {small} {big} like k q p pick stage porters e =
 pub denied_stages_keep : StageKeepsCut IsForPorters
 denied_stages_keep w nester slot x pick stage such at sound plain = by (is_within (slot ∷ nester) x) refl
   where
-    law : (w : World) (nester : Path) (slot : ℕ) → IsPlain w nester slot → (k : ℕ) (q : Path) (pick : Option Path) (stage : Stage) → IsForPorters stage → IsAtStage w (k ∷ (q ++ slot ∷ nester)) stage → KeepsCut w nester slot (moves (k ∷ (q ++ slot ∷ nester)) pick)
+    law : (w : World) (nester : Path) (slot : ℕ) → IsPlain w nester slot → (k : ℕ) (q : Path) (pick : Option Path) (stage : Stage) →
+        IsForPorters stage → IsAtStage w (k ∷ (q ++ slot ∷ nester)) stage → KeepsCut w nester slot (moves (k ∷ (q ++ slot ∷ nester)) pick)
     law w nester slot plain k q pick stage such at =
         call_inside w nester slot plain k q pick stage at (λ n c o. silent-denied (cut w nester slot) n c o stage such)
-        (λ p e free. denied_like (cut-like w nester slot plain) k q p pick stage such e) (quiet-denied (slot ∷ nester) w (k ∷ (q ++ slot ∷ nester)) pick stage such)
+        (λ p e free. denied_like (cut-like w nester slot plain) k q p pick stage such e)
+        (quiet-denied (slot ∷ nester) w (k ∷ (q ++ slot ∷ nester)) pick stage such)
 
-    by : (b : Bool) → is_within (slot ∷ nester) x ≡ b → is_fit w x asks.Run ≡ true → IsReady w x pick asks.Run → (seen : Seen) → IsSeen w nester slot (moves x pick) seen → HasDone w nester slot (moves x pick) seen
+    by : (b : Bool) → is_within (slot ∷ nester) x ≡ b → is_fit w x asks.Run ≡ true →
+        IsReady w x pick asks.Run → (seen : Seen) → IsSeen w nester slot (moves x pick) seen → HasDone w nester slot (moves x pick) seen
     by true e = inside_stages IsForPorters law w nester slot x pick stage such e at sound plain
     by false e =
         let is = stage_outcome w nester slot plain x pick stage at in
         outside_law w nester slot plain (moves x pick) e
-        (rw is.1 (quiet-when (slot ∷ nester) (is_free w (parent x) is.0) (call_row w (user_at x) pick stage) (quiet-denied (slot ∷ nester) w x pick stage such)))
-        (rw (stage_called w nester slot plain x stage at) (untouching-denied w (slot ∷ nester) (user_at x) pick (listed (outcome w x pick asks.Run)) stage such)) sound plain
+        (rw is.1
+        (quiet-when (slot ∷ nester) (is_free w (parent x) is.0) (call_row w (user_at x) pick stage) (quiet-denied (slot ∷ nester) w x pick stage such)))
+        (rw (stage_called w nester slot plain x stage at)
+        (untouching-denied w (slot ∷ nester) (user_at x) pick (listed (outcome w x pick asks.Run)) stage such)) sound plain
 
 -- ---- a death, and the calls for porters alone that name no server
 
 pub destroy_calls_keep : CallKeepsCut IsDestroy
-destroy_calls_keep = quiet_calls IsDestroy (λ stage such root w c pick. rw such.2 (quiet-destroy root w c such.0 such.1)) (λ stage such w root c pick cs. rw such.2 refl)
+destroy_calls_keep =
+    quiet_calls IsDestroy (λ stage such root w c pick. rw such.2 (quiet-destroy root w c such.0 such.1)) (λ stage such w root c pick cs. rw such.2 refl)

@@ -52,7 +52,8 @@ end_append : (xs ys : List Path) → end_all (xs ++ ys) ≡ end_all xs ++ end_al
 end_append xs ys = map-append _ xs ys
 
 -- the peer of a talk outside is nobody inside
-outer_talk : (root : Path) (v : Option Body) (talk : Talk) → and_then (λ (t : Thread). t.talk) (and_then thread_of v) ≡ Some talk → is_served_by root v ≡ false → IsOuter root talk.peer
+outer_talk : (root : Path) (v : Option Body) (talk : Talk) →
+    and_then (λ (t : Thread). t.talk) (and_then thread_of v) ≡ Some talk → is_served_by root v ≡ false → IsOuter root talk.peer
 outer_talk root (Some (Thread_of t)) talk is off x = by (serves (x ++ root) talk.peer) refl
   where
     by : (b : Bool) → serves (x ++ root) talk.peer ≡ b → b ≡ false
@@ -71,25 +72,32 @@ outer_talk root None talk is off x = cc
 module _ {root : Path} {see : Ptr → Ptr} {small big : World} (like : IsLikeness root see small big) (facts : IsEndedAlike root see small big) where
   -- ---- the ends of talks
 
-  ends_in-like : (side : Turn) (near far : Option Line) (now : World) → AlikeOptions (LineLikeness root see big) near far → LikeChanges root see now (end_all (ends_in small side near)) (end_all (ends_in big side far))
+  ends_in-like : (side : Turn) (near far : Option Line) (now : World) →
+      AlikeOptions (LineLikeness root see big) near far → LikeChanges root see now (end_all (ends_in small side near)) (end_all (ends_in big side far))
   ends_in-like side None None now h = Empty
   ends_in-like side (Some near) (Some far) now h = ends_beyond-like like side near far now h
   ends_in-like side None (Some far) now h = absurd h
   ends_in-like side (Some near) None now h = absurd h
 
-  client_ends : (k : ℕ) (q : Path) (now : World) → LikeChanges root see now (end_all (ends_on small (k ∷ q) turns.Client)) (end_all (ends_on big (k ∷ (q ++ root)) turns.Client))
-  client_ends k q now = ends_in-like turns.Client (line small (k ∷ q) turns.Client) (line big (k ∷ (q ++ root)) turns.Client) now (line_client-like like facts.apart k q)
+  client_ends : (k : ℕ) (q : Path) (now : World) →
+      LikeChanges root see now (end_all (ends_on small (k ∷ q) turns.Client)) (end_all (ends_on big (k ∷ (q ++ root)) turns.Client))
+  client_ends k q now =
+      ends_in-like turns.Client (line small (k ∷ q) turns.Client) (line big (k ∷ (q ++ root)) turns.Client) now (line_client-like like facts.apart k q)
 
-  server_ends : (k : ℕ) (q : Path) (now : World) → LikeChanges root see now (end_all (ends_on small (k ∷ q) turns.Server)) (end_all (ends_on big (k ∷ (q ++ root)) turns.Server))
-  server_ends k q now = ends_in-like turns.Server (line small (k ∷ q) turns.Server) (line big (k ∷ (q ++ root)) turns.Server) now (line_server-like like (k ∷ q) (facts.servers (k ∷ q)))
+  server_ends : (k : ℕ) (q : Path) (now : World) →
+      LikeChanges root see now (end_all (ends_on small (k ∷ q) turns.Server)) (end_all (ends_on big (k ∷ (q ++ root)) turns.Server))
+  server_ends k q now = ends_in-like turns.Server
+      (line small (k ∷ q) turns.Server) (line big (k ∷ (q ++ root)) turns.Server) now (line_server-like like (k ∷ q) (facts.servers (k ∷ q)))
 
-  both_ends-like : (k : ℕ) (q : Path) (now : World) → LikeChanges root see now (end_all (ends_of_client small (k ∷ q))) (end_all (ends_of_client big (k ∷ (q ++ root))))
+  both_ends-like : (k : ℕ) (q : Path) (now : World) →
+      LikeChanges root see now (end_all (ends_of_client small (k ∷ q))) (end_all (ends_of_client big (k ∷ (q ++ root))))
   both_ends-like k q now =
       rw (end_append _ (ends_on small (k ∷ q) turns.Client), end_append _ (ends_on big (k ∷ (q ++ root)) turns.Client))
       (append-like (talking_end-like like turns.Client (At (k ∷ (q ++ root))) (At (k ∷ q)) now (Inside (k ∷ q))) (client_ends k q _))
 
   -- of a client outside
-  outside_client : (x : Path) (now : World) (o : Option Talk) → talk_at big x ≡ o → is_served_by root (big.body x) ≡ false → LikeChanges root see now [] (end_all (ends_in big turns.Client (line_from x (λ talk. talk.peer) o)))
+  outside_client : (x : Path) (now : World) (o : Option Talk) → talk_at big x ≡ o →
+      is_served_by root (big.body x) ≡ false → LikeChanges root see now [] (end_all (ends_in big turns.Client (line_from x (λ talk. talk.peer) o)))
   outside_client x now None is off = Empty
   outside_client x now (Some talk) is off = outsider_end like now talk.peer (outer_talk root (big.body x) talk is off)
 
@@ -97,12 +105,17 @@ module _ {root : Path} {see : Ptr → Ptr} {small big : World} (like : IsLikenes
   unfolding line
   outside_ends x now out =
       rw (end_append _ (ends_on big x turns.Client))
-      (append-like {cs = []} (outsider like turns.Client x now (and_then thread_of (big.body x)) out) (outside_client x _ (talk_at big x) refl (facts.inside x out)))
+      (append-like {cs = []} (outsider like turns.Client x now (and_then thread_of (big.body x)) out)
+      (outside_client x _ (talk_at big x) refl (facts.inside x out)))
 
-  port_ends : (xs ys : List Path) (now : World) → Thinned root xs ys → LikeChanges root see now (end_all (flat_map (ends_of_client small) xs)) (end_all (flat_map (ends_of_client big) ys))
+  port_ends : (xs ys : List Path) (now : World) →
+      Thinned root xs ys → LikeChanges root see now (end_all (flat_map (ends_of_client small) xs)) (end_all (flat_map (ends_of_client big) ys))
   port_ends _ _ now Nobody = Empty
   port_ends _ _ now (Inner k q {xs = xs} {ys = ys} rest) =
-      rw (end_append (ends_of_client small (k ∷ q)) (flat_map (ends_of_client small) xs), end_append (ends_of_client big (k ∷ (q ++ root))) (flat_map (ends_of_client big) ys))
+      rw (
+        end_append (ends_of_client small (k ∷ q)) (flat_map (ends_of_client small) xs),
+        end_append (ends_of_client big (k ∷ (q ++ root))) (flat_map (ends_of_client big) ys),
+      )
       (append-like (both_ends-like k q now) (port_ends xs ys _ rest))
   port_ends _ _ now (Outer x {xs = xs} {ys = ys} out rest) =
       rw (end_append (ends_of_client big x) (flat_map (ends_of_client big) ys))
@@ -110,10 +123,14 @@ module _ {root : Path} {see : Ptr → Ptr} {small big : World} (like : IsLikenes
 
   -- ---- the object that dies
 
-  ends_with-like : (k : ℕ) (q : Path) (v : Option Body) (now : World) → LikeChanges root see now (end_all (ends_with small (k ∷ q) (option_map (λ b. unheld (k ∷ q) (seen_by (seeing see) b)) v))) (end_all (ends_with big (k ∷ (q ++ root)) v))
+  ends_with-like : (k : ℕ) (q : Path) (v : Option Body) (now : World) → LikeChanges root
+      see now (end_all (ends_with small (k ∷ q) (option_map (λ b. unheld (k ∷ q) (seen_by (seeing see) b)) v))) (end_all (ends_with big (k ∷ (q ++ root)) v))
   unfolding seen_by
   ends_with-like k q (Some (Thread_of t)) now =
-      rw (end_append (ends_on small (k ∷ q) turns.Client) (ends_on small (k ∷ q) turns.Server), end_append (ends_on big (k ∷ (q ++ root)) turns.Client) (ends_on big (k ∷ (q ++ root)) turns.Server))
+      rw (
+        end_append (ends_on small (k ∷ q) turns.Client) (ends_on small (k ∷ q) turns.Server),
+        end_append (ends_on big (k ∷ (q ++ root)) turns.Client) (ends_on big (k ∷ (q ++ root)) turns.Server),
+      )
       (append-like (client_ends k q now) (server_ends k q _))
   ends_with-like k q (Some (Port set served)) now = port_ends (clients_at small (k ∷ q)) (clients_at big (k ∷ (q ++ root))) now (facts.clients (k ∷ q))
   ends_with-like k q (Some b) now = Empty
@@ -122,7 +139,8 @@ module _ {root : Path} {see : Ptr → Ptr} {small big : World} (like : IsLikenes
   kills-like : (k : ℕ) (q : Path) → LikeChanges root see big (kills small (k ∷ q)) (kills big (k ∷ (q ++ root)))
   kills-like k q = rw (like.bodies (k ∷ q)) (Both (Kills k q facts.apart) (ends_with-like k q (big.body (k ∷ (q ++ root))) _))
 
-  destroys-like : (j : ℕ) (z x : Path) (k : ℕ) (q : Path) → IsLikeOutcome root see big (destroys small (user_at (j ∷ z)) x (k ∷ q)) (destroys big (user_at (j ∷ (z ++ root))) (x ++ root) (k ∷ (q ++ root)))
+  destroys-like : (j : ℕ) (z x : Path) (k : ℕ) (q : Path) →
+      IsLikeOutcome root see big (destroys small (user_at (j ∷ z)) x (k ∷ q)) (destroys big (user_at (j ∷ (z ++ root))) (x ++ root) (k ∷ (q ++ root)))
   destroys-like j z x k q = telling-like like _ _ _ _ (rw (same_path_cancel (k ∷ q) x root) (by (same_path (k ∷ q) x)))
     where
       by : (b : Bool) → IsLikeOutcome root see big (cond b (done (user_at (j ∷ z)) (kills small (k ∷ q)) []) (stays (user_at (j ∷ z)) (kills small (k ∷ q))))
@@ -130,19 +148,26 @@ module _ {root : Path} {see : Ptr → Ptr} {small big : World} (like : IsLikenes
       by true = done-like like (user_at (j ∷ z)) (kills small (k ∷ q)) (kills big (k ∷ (q ++ root))) [] (kills-like k q)
       by false = kills-like k q
 
-  leaf_dies : (j : ℕ) (z x gone there : Path) → there ≡ gone ++ root → (k : ℕ) × (q : Path) × (gone ≡ k ∷ q) → IsLikeOutcome root see big (destroys small (user_at (j ∷ z)) x gone) (destroys big (user_at (j ∷ (z ++ root))) (x ++ root) there)
+  leaf_dies : (j : ℕ) (z x gone there : Path) → there ≡ gone ++ root → (k : ℕ) × (q : Path) × (gone ≡ k ∷ q) →
+      IsLikeOutcome root see big (destroys small (user_at (j ∷ z)) x gone) (destroys big (user_at (j ∷ (z ++ root))) (x ++ root) there)
   leaf_dies j z x gone there same at =
-      subst (λ (y : Path). IsLikeOutcome root see big (destroys small (user_at (j ∷ z)) x gone) (destroys big (user_at (j ∷ (z ++ root))) (x ++ root) y)) (sym same)
-      (subst (λ (y : Path). IsLikeOutcome root see big (destroys small (user_at (j ∷ z)) x y) (destroys big (user_at (j ∷ (z ++ root))) (x ++ root) (y ++ root))) (sym at.2) (destroys-like j z x at.0 at.1))
+      subst (λ (y : Path). IsLikeOutcome root see big (destroys small (user_at (j ∷ z)) x gone) (destroys big (user_at (j ∷ (z ++ root))) (x ++ root) y))
+      (sym same)
+      (subst (λ (y : Path). IsLikeOutcome root see big
+      (destroys small (user_at (j ∷ z)) x y) (destroys big (user_at (j ∷ (z ++ root))) (x ++ root) (y ++ root))) (sym at.2) (destroys-like j z x at.0 at.1))
 
-  destroy-like : is_frozen big root ≡ false → (j : ℕ) (z : Path) (s x : ℕ) → IsLikeOutcome root see big (destroy small (user_at (j ∷ z)) s x) (destroy big (user_at (j ∷ (z ++ root))) s x)
+  destroy-like : is_frozen big root ≡ false →
+      (j : ℕ) (z : Path) (s x : ℕ) → IsLikeOutcome root see big (destroy small (user_at (j ∷ z)) s x) (destroy big (user_at (j ∷ (z ++ root))) s x)
   unfolding destroy
   destroy-like free j z s x =
       bind_path like _ _ _ _ (place-like like (user_at (j ∷ z)) s)
       (λ space. bind_body like _ _ _ _ (anything_in-like like (user_at (j ∷ z)) space x)
-      (λ b near. refuse-like like status.HELD (is_frozen_for small (j ∷ z) (x ∷ space)) (is_frozen_for big (j ∷ (z ++ root)) (x ∷ (space ++ root))) _ _ (is_frozen_for-like like free (j ∷ z) (x ∷ space))
-      (λ unheld. refuse-like like status.DENIED (is_within (x ∷ space) z) (is_within (x ∷ (space ++ root)) (z ++ root)) _ _ (sym (is_within_inside root (x ∷ space) z))
-      (λ apart. refuse-like like status.HELD (is_frozen_for small (j ∷ z) (leaf small (x ∷ space))) (is_frozen_for big (j ∷ (z ++ root)) (leaf big (x ∷ (space ++ root)))) _ _
+      (λ b near. refuse-like like status.HELD (is_frozen_for small (j ∷ z) (x ∷ space))
+      (is_frozen_for big (j ∷ (z ++ root)) (x ∷ (space ++ root))) _ _ (is_frozen_for-like like free (j ∷ z) (x ∷ space))
+      (λ unheld.
+      refuse-like like status.DENIED (is_within (x ∷ space) z) (is_within (x ∷ (space ++ root)) (z ++ root)) _ _ (sym (is_within_inside root (x ∷ space) z))
+      (λ apart. refuse-like
+      like status.HELD (is_frozen_for small (j ∷ z) (leaf small (x ∷ space))) (is_frozen_for big (j ∷ (z ++ root)) (leaf big (x ∷ (space ++ root)))) _ _
       (is_frozen_for-like like free (j ∷ z) (leaf small (x ∷ space)) ∙ ap (is_frozen_for big (j ∷ (z ++ root))) (sym (leaf-like like (x ∷ space))))
       (λ loose. leaf_dies j z (x ∷ space) (leaf small (x ∷ space)) (leaf big (x ∷ (space ++ root))) (leaf-like like (x ∷ space)) (leaf_below small x space))))))
 

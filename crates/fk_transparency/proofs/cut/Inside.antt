@@ -107,9 +107,11 @@ quiet-allowed : (root : Path) (b : Bool) (o : Outcome) → Quiet root o → Quie
 quiet-allowed root true o h = quiet-refused
 quiet-allowed root false o h = h
 
-pub quiet-call : (root : Path) (w : World) (x : Path) (pick : Option Path) (stage : Stage) → Quiet root (stage_row w (user_at x) pick stage) → Quiet root (call_row w (user_at x) pick stage)
+pub quiet-call : (root : Path) (w : World) (x : Path) (pick : Option Path) (stage : Stage) →
+    Quiet root (stage_row w (user_at x) pick stage) → Quiet root (call_row w (user_at x) pick stage)
 unfolding call_row
-quiet-call root w x pick stage h = quiet-closed root x _ (quiet-with_pick root (chooses stage) pick _ (quiet-allowed root (is_for_porters stage) (stage_row w (user_at x) pick stage) h))
+quiet-call root w x pick stage h =
+    quiet-closed root x _ (quiet-with_pick root (chooses stage) pick _ (quiet-allowed root (is_for_porters stage) (stage_row w (user_at x) pick stage) h))
 
 -- ---- calls act alike
 
@@ -124,12 +126,14 @@ module _ {root : Path} {see : Ptr → Ptr} {small big : World} (like : IsLikenes
       by true = h
       by false = tt
 
-  pub with_pick-like : (chosen : Bool) (p pick : Option Path) (near far : Outcome) → is_none p ≡ is_none pick → Alike near far → Alike (with_pick chosen p near) (with_pick chosen pick far)
+  pub with_pick-like : (chosen : Bool) (p pick : Option Path) (near far : Outcome) →
+      is_none p ≡ is_none pick → Alike near far → Alike (with_pick chosen p near) (with_pick chosen pick far)
   with_pick-like chosen p pick Waits Waits e h = tt
   with_pick-like chosen p pick (Refused status) Waits e h = absurd h
   with_pick-like chosen p pick (Goes cs said) Waits e h = absurd h
   with_pick-like chosen p pick (Refused status) (Refused refusal) e h = when_same (is_none p) (is_none pick) (Refused status) (Refused refusal) e h
-  with_pick-like chosen p pick (Goes cs said) (Goes ds told) e h = when_same (chosen || is_none p) (chosen || is_none pick) (Goes cs said) (Goes ds told) (ap (λ b. chosen || b) e) h
+  with_pick-like chosen p pick (Goes cs said) (Goes ds told) e h =
+      when_same (chosen || is_none p) (chosen || is_none pick) (Goes cs said) (Goes ds told) (ap (λ b. chosen || b) e) h
   with_pick-like chosen p pick (Refused status) (Goes ds told) e h = absurd h
   with_pick-like chosen p pick (Goes cs said) (Refused refusal) e h = absurd h
   with_pick-like chosen p pick Waits (Refused refusal) e h = absurd h
@@ -139,17 +143,20 @@ module _ {root : Path} {see : Ptr → Ptr} {small big : World} (like : IsLikenes
   allowed-like true near far h = refl
   allowed-like false near far h = h
 
-  pub call_row-like : (k : ℕ) (q : Path) (p pick : Option Path) (stage : Stage) → is_none p ≡ is_none pick → Alike (stage_row small (user_at (k ∷ q)) p stage) (stage_row big (user_at (k ∷ (q ++ root))) pick stage) →
+  pub call_row-like : (k : ℕ) (q : Path) (p pick : Option Path) (stage : Stage) →
+      is_none p ≡ is_none pick → Alike (stage_row small (user_at (k ∷ q)) p stage) (stage_row big (user_at (k ∷ (q ++ root))) pick stage) →
       Alike (call_row small (user_at (k ∷ q)) p stage) (call_row big (user_at (k ∷ (q ++ root))) pick stage)
   unfolding call_row
-  call_row-like k q p pick stage e h = closed-like like (user_at (k ∷ q)) _ _ (with_pick-like (chooses stage) p pick _ _ e (allowed-like (is_for_porters stage) _ _ h))
+  call_row-like k q p pick stage e h =
+      closed-like like (user_at (k ∷ q)) _ _ (with_pick-like (chooses stage) p pick _ _ e (allowed-like (is_for_porters stage) _ _ h))
 
 closed_again : (x : Path) (o : Outcome) → closed (user_at x) (closed (user_at x) o) ≡ closed (user_at x) o
 closed_again x (Refused status) = refl
 closed_again x Waits = refl
 closed_again x (Goes cs said) = refl
 
-pub call_closed : (w : World) (x : Path) (p : Option Path) (stage : Stage) → closed (user_at x) (call_row w (user_at x) p stage) ≡ call_row w (user_at x) p stage
+pub call_closed : (w : World) (x : Path) (p : Option Path) (stage : Stage) →
+    closed (user_at x) (call_row w (user_at x) p stage) ≡ call_row w (user_at x) p stage
 unfolding call_row
 call_closed w x p stage = closed_again x _
 
@@ -169,12 +176,14 @@ silent_unsent w c stage silent = refl
 pub unsent_stage : (w : World) (root me : Path) (stage : Stage) → is_send stage ≡ false → IsAtStage w me stage → sends_out w root me ≡ false
 unsent_stage w root me stage unsent at = rw at.3 (rw at.4 (rw unsent refl))
 
-pub silent_counts : (w c : World) (root me x : Path) (stage : Stage) → IsAtStage w me stage → ((n : ℕ) (o : Outcome) → outside_row c (user_at x) n stage o ≡ o) → (cs : List Change) → words_out w root me cs ≡ 0
+pub silent_counts : (w c : World) (root me x : Path) (stage : Stage) →
+    IsAtStage w me stage → ((n : ℕ) (o : Outcome) → outside_row c (user_at x) n stage o ≡ o) → (cs : List Change) → words_out w root me cs ≡ 0
 silent_counts w c root me x stage at silent cs = unsent_counts w root me cs (unsent_stage w root me stage (silent_unsent c (user_at x) stage silent) at)
 
 -- ---- a thread inside
 
-pub thread_seen : (see : Ptr → Ptr) (k : ℕ) (q : Path) (v : Option Body) (t : Thread) → and_then thread_of v ≡ Some t → and_then thread_of (option_map (λ b. unheld (k ∷ q) (seen_by (seeing see) b)) v) ≡ Some (seen_thread see t)
+pub thread_seen : (see : Ptr → Ptr) (k : ℕ) (q : Path) (v : Option Body) (t : Thread) →
+    and_then thread_of v ≡ Some t → and_then thread_of (option_map (λ b. unheld (k ∷ q) (seen_by (seeing see) b)) v) ≡ Some (seen_thread see t)
 unfolding seen_by
 thread_seen see k q (Some (Thread_of u)) t h = ap (option_map (seen_thread see)) h
 thread_seen see k q (Some (Mutex locked)) t h = cc
@@ -187,7 +196,8 @@ thread_seen see k q (Some (Space birth holder)) t h = cc
 thread_seen see k q (Some (Reference to)) t h = cc
 thread_seen see k q None t h = cc
 
-either_way : (root : Path) (see : Ptr → Ptr) (big : World) (test free : Bool) (own other far : Outcome) → free ≡ true → IsLikeOutcome root see big own far → IsLikeOutcome root see big other far → IsLikeOutcome root see big (cond test (when free own) (when free other)) far
+either_way : (root : Path) (see : Ptr → Ptr) (big : World) (test free : Bool) (own other far : Outcome) → free ≡ true →
+    IsLikeOutcome root see big own far → IsLikeOutcome root see big other far → IsLikeOutcome root see big (cond test (when free own) (when free other)) far
 either_way root see big true free own other far e h g = rw e h
 either_way root see big false free own other far e h g = rw e g
 
@@ -211,11 +221,13 @@ module _ (w : World) (nester : Path) (slot : ℕ) (plain : IsPlain w nester slot
   abbrev pub HasGone : Onward → Outcome → Outcome → Type 0
   HasGone m near far = IsPlain (stepped w far).world nester slot × ((told : List Told) × OnwardTo small m near told (cut (stepped w far).world nester slot))
 
-  pub has_gone : (p : Option Path) (n : ℕ) (near far : Outcome) → is_frozen w root ≡ false → IsLikeUnlessWaiting root see w near far → AreQuiet root (listed far) → GoesAllowed w me far → HasGone (Own (k ∷ q) p n) near far
+  pub has_gone : (p : Option Path) (n : ℕ) (near far : Outcome) → is_frozen w root ≡ false →
+      IsLikeUnlessWaiting root see w near far → AreQuiet root (listed far) → GoesAllowed w me far → HasGone (Own (k ∷ q) p n) near far
   has_gone p n (Goes cs said) (Goes ds told) free h quiet ready =
       let like = cut-like w nester slot plain in
       let cuts = cut-changes w nester slot cs ds plain h in (
-        like-plain (apply_all ds w) (apply_all cs small) see nester slot (changes-like small w cs ds h like) cuts (changes-clear root w ds quiet (clear-plain w nester slot plain)),
+        like-plain (apply_all ds w)
+            (apply_all cs small) see nester slot (changes-like small w cs ds h like) cuts (changes-clear root w ds quiet (clear-plain w nester slot plain)),
         (told_by small (Own (k ∷ q) p n) cs said, (changes-allowed like free (k ∷ q) w cs ds h ready, refl, cuts)),
       )
   has_gone p n near Waits free h quiet ready = absurd ready
@@ -229,16 +241,19 @@ module _ (w : World) (nester : Path) (slot : ℕ) (plain : IsPlain w nester slot
     far = goes_on w me pick t t.mode
 
     abbrev IsAlikeBy : Option Path → ℕ → Type 0
-    IsAlikeBy p n = AlikeHere (own_stage small (k ∷ q) p n t.mode (goes_on small (k ∷ q) p (seen_thread see t) t.mode)) far × AlikeHere (goes_on small (k ∷ q) p (seen_thread see t) t.mode) far
+    IsAlikeBy p n = AlikeHere (own_stage small (k ∷ q) p n t.mode (goes_on small (k ∷ q) p (seen_thread see t) t.mode)) far ×
+        AlikeHere (goes_on small (k ∷ q) p (seen_thread see t) t.mode) far
 
-    moves_alike : (p : Option Path) (n : ℕ) → (is_frozen w root ≡ false → IsAlikeBy p n) → AreQuiet root (listed far) → (b : Bool) → is_free w (q ++ root) t ≡ b → GoesAllowed w me (when b far) → HasGone (Own (k ∷ q) p n) (own_move small (k ∷ q) p n (seen_thread see t)) (when b far)
+    moves_alike : (p : Option Path) (n : ℕ) → (is_frozen w root ≡ false → IsAlikeBy p n) → AreQuiet root (listed far) → (b : Bool) →
+        is_free w (q ++ root) t ≡ b → GoesAllowed w me (when b far) → HasGone (Own (k ∷ q) p n) (own_move small (k ∷ q) p n (seen_thread see t)) (when b far)
     moves_alike p n alike quiet false e ready = absurd ready
     moves_alike p n alike quiet true e ready =
         let like = cut-like w nester slot plain in
         let free = unheld-free like q t e in
         let both = alike free in
         has_gone p n _ far free
-        (unless_waiting like _ _ (either_way root see w (talks_outside small (k ∷ q) && is_none p) (is_free small q (seen_thread see t)) _ _ far (is_free-like like free q t ∙ e) both.0 both.1))
+        (unless_waiting like _ _ (either_way root
+        see w (talks_outside small (k ∷ q) && is_none p) (is_free small q (seen_thread see t)) _ _ far (is_free-like like free q t ∙ e) both.0 both.1))
         quiet ready
 
     pub seen_is : thread_at small (k ∷ q) ≡ Some (seen_thread see t)
@@ -249,12 +264,14 @@ module _ (w : World) (nester : Path) (slot : ℕ) (plain : IsPlain w nester slot
     unfolding step outcome onward_row
     move_alike p n none alike quiet ready = by (and_then thread_of (w.body me)) (thread_at small (k ∷ q)) is seen_is ready
       where
-        by : (o seen : Option Thread) → o ≡ Some t → seen ≡ Some (seen_thread see t) → GoesAllowed w me (user_move w me pick o) → HasGone (Own (k ∷ q) p n) (counted n (own_row small (k ∷ q) p n seen)) (user_move w me pick o)
+        by : (o seen : Option Thread) → o ≡ Some t → seen ≡ Some (seen_thread see t) →
+            GoesAllowed w me (user_move w me pick o) → HasGone (Own (k ∷ q) p n) (counted n (own_row small (k ∷ q) p n seen)) (user_move w me pick o)
         by o seen e f = rw (counted_none n (own_row small (k ∷ q) p n seen) none) (rw e (rw f (moves_alike p n alike quiet (is_free w (q ++ root) t) refl)))
 
     -- ---- how it is seen
 
-    pub own_form : (test : Bool) (n : ℕ) (r : Option (Option Path)) (m : Onward) → cond test None (option_map (λ (p : Option Path). Own (k ∷ q) p n) r) ≡ Some m → (p : Option Path) × (r ≡ Some p) × (m ≡ Own (k ∷ q) p n)
+    pub own_form : (test : Bool) (n : ℕ) (r : Option (Option Path)) (m : Onward) →
+        cond test None (option_map (λ (p : Option Path). Own (k ∷ q) p n) r) ≡ Some m → (p : Option Path) × (r ≡ Some p) × (m ≡ Own (k ∷ q) p n)
     own_form true n r m h = cc
     own_form false n None m h = cc
     own_form false n (Some p) m h = (p, refl, cc)
@@ -270,10 +287,13 @@ module _ (w : World) (nester : Path) (slot : ℕ) (plain : IsPlain w nester slot
         by None h = let e : p ≡ None = cc in rw e refl
         by (Some x) h = deeper (strip root x) h
 
-    pub own_row_of : (e : Event) (out : Outcome) (o : Option Path) (m : Onward) → o ≡ Some (k ∷ q) → row_of w root e out o ≡ Some m → own_of w root e.mover (k ∷ q) e.pick (listed out) ≡ Some m
+    pub own_row_of : (e : Event) (out : Outcome) (o : Option Path) (m : Onward) →
+        o ≡ Some (k ∷ q) → row_of w root e out o ≡ Some m → own_of w root e.mover (k ∷ q) e.pick (listed out) ≡ Some m
     own_row_of e out o m is = rw is (λ h. h)
 
-    pub inside_law : ((cs : List Change) → words_out w root me cs ≡ 0) → ((p : Option Path) (n : ℕ) → is_none p ≡ is_none pick → is_frozen w root ≡ false → IsAlikeBy p n) → AreQuiet root (listed far) → KeepsCut w nester slot (moves me pick)
+    pub inside_law : ((cs : List Change) → words_out w root me cs ≡ 0) →
+        ((p : Option Path) (n : ℕ) → is_none p ≡ is_none pick → is_frozen w root ≡ false → IsAlikeBy p n) →
+        AreQuiet root (listed far) → KeepsCut w nester slot (moves me pick)
     inside_law none alike quiet sound same fit ready (Onwards m) seen =
         let own = own_row_of (moves me pick) (outcome w me pick asks.Run) (strip root me) m (strip-append root (k ∷ q)) seen.1 in
         let form = own_form _ (words_out w root me (listed (outcome w me pick asks.Run))) (picked_inside root pick) m own in
@@ -283,11 +303,13 @@ module _ (w : World) (nester : Path) (slot : ℕ) (plain : IsPlain w nester slot
 
   -- ---- a stage
 
-  at_stage : (pick : Option Path) (stage : Stage) (todo : List Stage) (rest : List ℕ) (t : Thread) (mode : Mode) → mode ≡ Calling (stage ∷ todo) rest → goes_on w me pick t mode ≡ call_row w (user_at me) pick stage
+  at_stage : (pick : Option Path) (stage : Stage) (todo : List Stage) (rest : List ℕ) (t : Thread) (mode : Mode) →
+      mode ≡ Calling (stage ∷ todo) rest → goes_on w me pick t mode ≡ call_row w (user_at me) pick stage
   at_stage pick stage todo rest t mode e = rw e refl
 
   pub call_inside : (pick : Option Path) (stage : Stage) → IsAtStage w me stage → ((n : ℕ) (c : Caller) (o : Outcome) → outside_row small c n stage o ≡ o) →
-      ((p : Option Path) → is_none p ≡ is_none pick → is_frozen w root ≡ false → AlikeHere (call_row small (user_at (k ∷ q)) p stage) (call_row w (user_at me) pick stage)) →
+      ((p : Option Path) →
+      is_none p ≡ is_none pick → is_frozen w root ≡ false → AlikeHere (call_row small (user_at (k ∷ q)) p stage) (call_row w (user_at me) pick stage)) →
       Quiet root (call_row w (user_at me) pick stage) → KeepsCut w nester slot (moves me pick)
   call_inside pick stage at silent alike calls =
       let t = at.0 in
@@ -295,22 +317,27 @@ module _ (w : World) (nester : Path) (slot : ℕ) (plain : IsPlain w nester slot
       (λ p n e free. by t.mode at.4 p n (alike p e free))
       (rw (at_stage pick stage at.1 at.2 t t.mode at.4) calls.quiet)
     where
-      by : (mode : Mode) → mode ≡ Calling (stage ∷ at.1) at.2 → (p : Option Path) (n : ℕ) → AlikeHere (call_row small (user_at (k ∷ q)) p stage) (call_row w (user_at me) pick stage) →
-          AlikeHere (own_stage small (k ∷ q) p n mode (goes_on small (k ∷ q) p (seen_thread see at.0) mode)) (goes_on w me pick at.0 mode) × AlikeHere (goes_on small (k ∷ q) p (seen_thread see at.0) mode) (goes_on w me pick at.0 mode)
+      by : (mode : Mode) → mode ≡ Calling (stage ∷ at.1) at.2 →
+          (p : Option Path) (n : ℕ) → AlikeHere (call_row small (user_at (k ∷ q)) p stage) (call_row w (user_at me) pick stage) →
+          AlikeHere (own_stage small (k ∷ q) p n mode (goes_on small (k ∷ q) p (seen_thread see at.0) mode)) (goes_on w me pick at.0 mode) ×
+          AlikeHere (goes_on small (k ∷ q) p (seen_thread see at.0) mode) (goes_on w me pick at.0 mode)
       by mode e p n h = rw e (rw (silent n (user_at (k ∷ q)) (call_row small (user_at (k ∷ q)) p stage), call_closed small (k ∷ q) p stage) h, h)
 
   pub stage_inside : (pick : Option Path) (stage : Stage) → IsAtStage w me stage → ((n : ℕ) (c : Caller) (o : Outcome) → outside_row small c n stage o ≡ o) →
-      ((p : Option Path) → is_none p ≡ is_none pick → is_frozen w root ≡ false → AlikeHere (stage_row small (user_at (k ∷ q)) p stage) (stage_row w (user_at me) pick stage)) →
+      ((p : Option Path) →
+      is_none p ≡ is_none pick → is_frozen w root ≡ false → AlikeHere (stage_row small (user_at (k ∷ q)) p stage) (stage_row w (user_at me) pick stage)) →
       Quiet root (stage_row w (user_at me) pick stage) → KeepsCut w nester slot (moves me pick)
   stage_inside pick stage at silent alike quiet =
-      call_inside pick stage at silent (λ p e free. call_row-like (cut-like w nester slot plain) k q p pick stage e (alike p e free)) (quiet-call root w me pick stage quiet)
+      call_inside pick
+      stage at silent (λ p e free. call_row-like (cut-like w nester slot plain) k q p pick stage e (alike p e free)) (quiet-call root w me pick stage quiet)
 
 -- ---- a thread inside stands beneath the root
 
 no_thread : (birth : ℕ) (holder : Option Ptr) (v : Option Body) (t : Thread) → v ≡ Some (Space birth holder) → and_then thread_of v ≡ Some t → ⊥
 no_thread birth holder v t e h = let none : and_then thread_of v ≡ None = rw e refl in cc
 
-pub thread_beneath : (w : World) (nester : Path) (slot : ℕ) → IsPlain w nester slot → (x : Path) (t : Thread) → is_within (slot ∷ nester) x ≡ true → and_then thread_of (w.body x) ≡ Some t → (k : ℕ) × (q : Path) × (x ≡ k ∷ (q ++ slot ∷ nester))
+pub thread_beneath : (w : World) (nester : Path) (slot : ℕ) → IsPlain w nester slot → (x : Path) (t : Thread) →
+    is_within (slot ∷ nester) x ≡ true → and_then thread_of (w.body x) ≡ Some t → (k : ℕ) × (q : Path) × (x ≡ k ∷ (q ++ slot ∷ nester))
 thread_beneath w nester slot plain x t within at = by (strip (slot ∷ nester) x) refl within
   where
     beneath : (q : Path) → x ≡ q ++ slot ∷ nester → (k : ℕ) × (q : Path) × (x ≡ k ∷ (q ++ slot ∷ nester))
@@ -323,7 +350,9 @@ thread_beneath w nester slot plain x t within at = by (strip (slot ∷ nester) x
 
 -- ---- the law for a stage, inside
 
-pub inside_stages : (IsSuch : Stage → Type 0) → ((w : World) (nester : Path) (slot : ℕ) → IsPlain w nester slot → (k : ℕ) (q : Path) (pick : Option Path) (stage : Stage) → IsSuch stage → IsAtStage w (k ∷ (q ++ slot ∷ nester)) stage → KeepsCut w nester slot (moves (k ∷ (q ++ slot ∷ nester)) pick)) → StageInsideKeepsCut IsSuch
+pub inside_stages : (IsSuch : Stage → Type 0) →
+    ((w : World) (nester : Path) (slot : ℕ) → IsPlain w nester slot → (k : ℕ) (q : Path) (pick : Option Path) (stage : Stage) →
+    IsSuch stage → IsAtStage w (k ∷ (q ++ slot ∷ nester)) stage → KeepsCut w nester slot (moves (k ∷ (q ++ slot ∷ nester)) pick)) → StageInsideKeepsCut IsSuch
 inside_stages IsSuch law w nester slot x pick stage such within at sound plain =
     let under = thread_beneath w nester slot plain x at.0 within at.3 in
     rw under.2 (law w nester slot plain under.0 under.1 pick stage such (rw under.2 at at) sound plain)

@@ -32,7 +32,8 @@ use Rattle.fk_transparency.proofs.likeness.ObjectRows.{rename-like}
 
 -- ---- a rename, inside
 
-quiet-rename : (root : Path) (w : World) (c : Caller) (s x y : ℕ) → ((space : Path) → space_argument w c s ≡ Ok space → is_within root (y ∷ space) ≡ is_within root (x ∷ space)) → Quiet root (rename w c s x y)
+quiet-rename : (root : Path) (w : World) (c : Caller) (s x y : ℕ) →
+    ((space : Path) → space_argument w c s ≡ Ok space → is_within root (y ∷ space) ≡ is_within root (x ∷ space)) → Quiet root (rename w c s x y)
 unfolding rename
 quiet-rename root w c s x y same =
     quiet-bind root (space_argument w c s) _ (λ space at.
@@ -45,13 +46,16 @@ quiet-rename root w c s x y same =
     quiet-done_at root (renamed (x ∷ space) (y ∷ space) (path_of c)) c (Move (x ∷ space) y ∷ []) [] (same space at, tt))))))))
 
 -- the places of a thread inside lie inside
-place_inside : (w : World) (nester : Path) (slot : ℕ) → IsPlain w nester slot → (k : ℕ) (q : Path) (s x y : ℕ) (space : Path) → space_argument w (user_at (k ∷ (q ++ slot ∷ nester))) s ≡ Ok space → is_within (slot ∷ nester) (y ∷ space) ≡ is_within (slot ∷ nester) (x ∷ space)
-place_inside w nester slot plain k q s x y space at = by (space_argument (cut w nester slot) (user_at (k ∷ q)) s) (space_argument w (user_at (k ∷ (q ++ slot ∷ nester))) s) (place-like (cut-like w nester slot plain) (user_at (k ∷ q)) s) at
+place_inside : (w : World) (nester : Path) (slot : ℕ) → IsPlain w nester slot → (k : ℕ) (q : Path) (s x y : ℕ) (space : Path) →
+    space_argument w (user_at (k ∷ (q ++ slot ∷ nester))) s ≡ Ok space → is_within (slot ∷ nester) (y ∷ space) ≡ is_within (slot ∷ nester) (x ∷ space)
+place_inside w nester slot plain k q s x y space at = by (space_argument (cut w nester slot) (user_at (k ∷ q)) s)
+    (space_argument w (user_at (k ∷ (q ++ slot ∷ nester))) s) (place-like (cut-like w nester slot plain) (user_at (k ∷ q)) s) at
   where
     here : (j : ℕ) (z : Path) → is_within (slot ∷ nester) (j ∷ (z ++ slot ∷ nester)) ≡ true
     here j z = ap is_some (strip-append (slot ∷ nester) (j ∷ z))
 
-    by : (near far : Result Path ℕ) → AlikeResults (IsBeneath (slot ∷ nester)) near far → far ≡ Ok space → is_within (slot ∷ nester) (y ∷ space) ≡ is_within (slot ∷ nester) (x ∷ space)
+    by : (near far : Result Path ℕ) →
+        AlikeResults (IsBeneath (slot ∷ nester)) near far → far ≡ Ok space → is_within (slot ∷ nester) (y ∷ space) ≡ is_within (slot ∷ nester) (x ∷ space)
     by (Ok z) (Ok there) h e = let is : space ≡ z ++ slot ∷ nester = cc in rw is (here y z ∙ sym (here x z))
     by (Err status) (Err refusal) h e = cc
     by (Ok z) (Err refusal) h e = absurd h
@@ -60,11 +64,13 @@ place_inside w nester slot plain k q s x y space at = by (space_argument (cut w 
 pub rename_inside : StageInsideKeepsCut IsRename
 rename_inside = inside_stages IsRename law
   where
-    law : (w : World) (nester : Path) (slot : ℕ) → IsPlain w nester slot → (k : ℕ) (q : Path) (pick : Option Path) (stage : Stage) → IsRename stage → IsAtStage w (k ∷ (q ++ slot ∷ nester)) stage → KeepsCut w nester slot (moves (k ∷ (q ++ slot ∷ nester)) pick)
+    law : (w : World) (nester : Path) (slot : ℕ) → IsPlain w nester slot → (k : ℕ) (q : Path) (pick : Option Path) (stage : Stage) →
+        IsRename stage → IsAtStage w (k ∷ (q ++ slot ∷ nester)) stage → KeepsCut w nester slot (moves (k ∷ (q ++ slot ∷ nester)) pick)
     law w nester slot plain k q pick stage such at =
         stage_inside w nester slot plain k q pick (Rename such.0 such.1 such.2) (rw such.3 at at) (λ n c o. refl)
         (λ p e free. rename-like (cut-like w nester slot plain) free k q such.0 such.1 such.2)
-        (quiet-rename (slot ∷ nester) w (user_at (k ∷ (q ++ slot ∷ nester))) such.0 such.1 such.2 (λ space at. place_inside w nester slot plain k q such.0 such.1 such.2 space at))
+        (quiet-rename (slot ∷ nester)
+        w (user_at (k ∷ (q ++ slot ∷ nester))) such.0 such.1 such.2 (λ space at. place_inside w nester slot plain k q such.0 such.1 such.2 space at))
 
 pub all_within : (x : Path) → is_within [] x ≡ true
 all_within x = rw (sym (append-nil x)) (rw (strip-append [] x) refl)
@@ -120,4 +126,5 @@ quiet-destroy root w c s x =
 
 pub destroy_outside : StageOutsideKeepsCut IsDestroy
 destroy_outside w nester slot x pick stage such out at sound plain =
-    stage_outside w nester slot plain x pick (Destroy such.0 such.1) out (rw such.2 at at) (λ cs. refl) (quiet-destroy (slot ∷ nester) w (user_at x) such.0 such.1) sound plain
+    stage_outside w nester
+    slot plain x pick (Destroy such.0 such.1) out (rw such.2 at at) (λ cs. refl) (quiet-destroy (slot ∷ nester) w (user_at x) such.0 such.1) sound plain

@@ -119,29 +119,35 @@ served-edited edit (Thread_of t) h = refl
 served-edited edit b h = h
 
 -- a talk that is changed with its peer kept
-talk_same : (root : Path) (f : Talk → Talk) → ((talk : Talk) → (f talk).peer ≡ talk.peer) → (o : Option Talk) → holds (λ (talk : Talk). is_inner_peer root talk.peer) o ≡ false → holds (λ (talk : Talk). is_inner_peer root talk.peer) (option_map f o) ≡ false
+talk_same : (root : Path) (f : Talk → Talk) → ((talk : Talk) → (f talk).peer ≡ talk.peer) → (o : Option Talk) →
+    holds (λ (talk : Talk). is_inner_peer root talk.peer) o ≡ false → holds (λ (talk : Talk). is_inner_peer root talk.peer) (option_map f o) ≡ false
 talk_same root f same None h = refl
 talk_same root f same (Some talk) h = rw (same talk) h
 
-talk_new : (root : Path) (peer : Peer) (o : Option Talk) → is_inner_peer root peer ≡ false → holds (λ (talk : Talk). is_inner_peer root talk.peer) (option_map (λ (talk : Talk). record talk { peer = peer }) o) ≡ false
+talk_new : (root : Path) (peer : Peer) (o : Option Talk) → is_inner_peer root peer ≡ false →
+    holds (λ (talk : Talk). is_inner_peer root talk.peer) (option_map (λ (talk : Talk). record talk { peer = peer }) o) ≡ false
 talk_new root peer None h = refl
 talk_new root peer (Some talk) h = h
 
-fault_new : (root : Path) (taker : Option Peer) (o : Option Fault) → holds (is_inner_peer root) taker ≡ false → holds (λ (fault : Fault). holds (is_inner_peer root) fault.taker) (option_map (λ (fault : Fault). record fault { taker = taker }) o) ≡ false
+fault_new : (root : Path) (taker : Option Peer) (o : Option Fault) → holds (is_inner_peer root) taker ≡ false →
+    holds (λ (fault : Fault). holds (is_inner_peer root) fault.taker) (option_map (λ (fault : Fault). record fault { taker = taker }) o) ≡ false
 fault_new root taker None h = refl
 fault_new root taker (Some fault) h = h
 
-ended-served : (root : Path) (status : ℕ) (answers : List ℕ) (t : Thread) (m : Mode) → is_served_by root (Some (Thread_of t)) ≡ false → is_served_by root (Some (Thread_of (ended_in status answers t m))) ≡ false
+ended-served : (root : Path) (status : ℕ) (answers : List ℕ) (t : Thread) (m : Mode) →
+    is_served_by root (Some (Thread_of t)) ≡ false → is_served_by root (Some (Thread_of (ended_in status answers t m))) ≡ false
 ended-served root status answers t (Calling todo rest) h = h
 ended-served root status answers t m h = h
 
-finished-served : (root : Path) (answers : List ℕ) (t : Thread) (m : Mode) → is_served_by root (Some (Thread_of t)) ≡ false → is_served_by root (Some (Thread_of (finished_in answers t m))) ≡ false
+finished-served : (root : Path) (answers : List ℕ) (t : Thread) (m : Mode) →
+    is_served_by root (Some (Thread_of t)) ≡ false → is_served_by root (Some (Thread_of (finished_in answers t m))) ≡ false
 finished-served root answers t (Calling [] rest) h = h
 finished-served root answers t (Calling (stage ∷ []) rest) h = h
 finished-served root answers t (Calling (stage ∷ next_stage ∷ todo) rest) h = h
 finished-served root answers t m h = h
 
-served_by-edited : (root x : Path) (edit : Edit) (b : Body) → IsQuietEdit root x edit → is_within root x ≡ false → is_served_by root (Some b) ≡ false → is_served_by root (Some (edited edit b)) ≡ false
+served_by-edited : (root x : Path) (edit : Edit) (b : Body) →
+    IsQuietEdit root x edit → is_within root x ≡ false → is_served_by root (Some b) ≡ false → is_served_by root (Some (edited edit b)) ≡ false
 unfolding edited
 served_by-edited root x (SetLocked locked) (Mutex old) quiet out h = refl
 served_by-edited root x (SetLocked locked) b quiet out h = h
@@ -159,12 +165,18 @@ served_by-edited root x (SetHolder holder) (Space birth old) quiet out h = refl
 served_by-edited root x (SetHolder holder) b quiet out h = h
 served_by-edited root x (Finish answers) (Thread_of t) quiet out h = finished-served root answers t t.mode h
 served_by-edited root x (End status answers) (Thread_of t) quiet out h = ended-served root status answers t t.mode h
-served_by-edited root x (CountMoved count) (Thread_of t) quiet out h = let both = or_off (holds (λ (talk : Talk). is_inner_peer root talk.peer) t.talk) _ h in both_off _ _ (talk_same root _ (λ talk. refl) t.talk both.0) both.1
-served_by-edited root x (PassTurn turn) (Thread_of t) quiet out h = let both = or_off (holds (λ (talk : Talk). is_inner_peer root talk.peer) t.talk) _ h in both_off _ _ (talk_same root _ (λ talk. refl) t.talk both.0) both.1
-served_by-edited root x (SetTalk talk) (Thread_of t) quiet out h = let both = or_off (holds (λ (talk : Talk). is_inner_peer root talk.peer) t.talk) _ h in both_off _ _ (quiet out) both.1
-served_by-edited root x (SetPeer peer) (Thread_of t) quiet out h = let both = or_off (holds (λ (talk : Talk). is_inner_peer root talk.peer) t.talk) _ h in both_off _ _ (talk_new root peer t.talk (quiet out)) both.1
-served_by-edited root x (SetFault fault) (Thread_of t) quiet out h = let both = or_off (holds (λ (talk : Talk). is_inner_peer root talk.peer) t.talk) _ h in both_off _ _ both.0 (quiet out)
-served_by-edited root x (SetTaker taker) (Thread_of t) quiet out h = let both = or_off (holds (λ (talk : Talk). is_inner_peer root talk.peer) t.talk) _ h in both_off _ _ both.0 (fault_new root taker t.fault (quiet out))
+served_by-edited root x (CountMoved count) (Thread_of t) quiet out h = let both = or_off (holds (λ (talk : Talk). is_inner_peer root talk.peer) t.talk) _ h in
+    both_off _ _ (talk_same root _ (λ talk. refl) t.talk both.0) both.1
+served_by-edited root x (PassTurn turn) (Thread_of t) quiet out h = let both = or_off (holds (λ (talk : Talk). is_inner_peer root talk.peer) t.talk) _ h in
+    both_off _ _ (talk_same root _ (λ talk. refl) t.talk both.0) both.1
+served_by-edited root x (SetTalk talk) (Thread_of t) quiet out h =
+    let both = or_off (holds (λ (talk : Talk). is_inner_peer root talk.peer) t.talk) _ h in both_off _ _ (quiet out) both.1
+served_by-edited root x (SetPeer peer) (Thread_of t) quiet out h = let both = or_off (holds (λ (talk : Talk). is_inner_peer root talk.peer) t.talk) _ h in
+    both_off _ _ (talk_new root peer t.talk (quiet out)) both.1
+served_by-edited root x (SetFault fault) (Thread_of t) quiet out h =
+    let both = or_off (holds (λ (talk : Talk). is_inner_peer root talk.peer) t.talk) _ h in both_off _ _ both.0 (quiet out)
+served_by-edited root x (SetTaker taker) (Thread_of t) quiet out h = let both = or_off (holds (λ (talk : Talk). is_inner_peer root talk.peer) t.talk) _ h in
+    both_off _ _ both.0 (fault_new root taker t.fault (quiet out))
 served_by-edited root x edit (Thread_of t) quiet out h = h
 served_by-edited root x edit b quiet out h = h
 
@@ -180,25 +192,31 @@ served-through f q (Some (Mutex locked)) h = refl
 served-through f q (Some b) h = h
 served-through f q None h = refl
 
-module _ (root : Path) (f : Sweep) (talks : (talk : Talk) → is_inner_peer root talk.peer ≡ false → holds (λ (talk : Talk). is_inner_peer root talk.peer) (f.talk talk) ≡ false)
-    (faults : (fault : Fault) → holds (is_inner_peer root) fault.taker ≡ false → holds (λ (fault : Fault). holds (is_inner_peer root) fault.taker) (f.fault fault) ≡ false) where
-  talk-through : (o : Option Talk) → holds (λ (talk : Talk). is_inner_peer root talk.peer) o ≡ false → holds (λ (talk : Talk). is_inner_peer root talk.peer) (and_then f.talk o) ≡ false
+module _ (root : Path)
+    (f : Sweep) (talks : (talk : Talk) → is_inner_peer root talk.peer ≡ false → holds (λ (talk : Talk). is_inner_peer root talk.peer) (f.talk talk) ≡ false)
+    (faults : (fault : Fault) →
+    holds (is_inner_peer root) fault.taker ≡ false → holds (λ (fault : Fault). holds (is_inner_peer root) fault.taker) (f.fault fault) ≡ false) where
+  talk-through : (o : Option Talk) →
+      holds (λ (talk : Talk). is_inner_peer root talk.peer) o ≡ false → holds (λ (talk : Talk). is_inner_peer root talk.peer) (and_then f.talk o) ≡ false
   talk-through None h = refl
   talk-through (Some talk) h = talks talk h
 
-  fault-through : (o : Option Fault) → holds (λ (fault : Fault). holds (is_inner_peer root) fault.taker) o ≡ false → holds (λ (fault : Fault). holds (is_inner_peer root) fault.taker) (and_then f.fault o) ≡ false
+  fault-through : (o : Option Fault) → holds (λ (fault : Fault). holds (is_inner_peer root) fault.taker) o ≡ false →
+      holds (λ (fault : Fault). holds (is_inner_peer root) fault.taker) (and_then f.fault o) ≡ false
   fault-through None h = refl
   fault-through (Some fault) h = faults fault h
 
   served_by-through : (q : Path) (o : Option Body) → is_served_by root o ≡ false → is_served_by root (option_map (through f q) o) ≡ false
   served_by-through q (Some (Thread_of t)) h =
-      let both = or_off (holds (λ (talk : Talk). is_inner_peer root talk.peer) t.talk) _ h in both_off _ _ (talk-through t.talk both.0) (fault-through t.fault both.1)
+      let both = or_off (holds (λ (talk : Talk). is_inner_peer root talk.peer) t.talk) _ h in
+      both_off _ _ (talk-through t.talk both.0) (fault-through t.fault both.1)
   served_by-through q (Some (Mutex locked)) h = refl
   served_by-through q (Some b) h = refl
   served_by-through q None h = refl
 
 -- who dies serves nobody more
-talk-left : (root x : Path) (talk : Talk) → is_inner_peer root talk.peer ≡ false → holds (λ (talk : Talk). is_inner_peer root talk.peer) (talk_without x talk) ≡ false
+talk-left : (root x : Path) (talk : Talk) →
+    is_inner_peer root talk.peer ≡ false → holds (λ (talk : Talk). is_inner_peer root talk.peer) (talk_without x talk) ≡ false
 talk-left root x talk h = by (leads_to x talk.port || serves x talk.peer)
   where
     by : (b : Bool) → holds (λ (talk : Talk). is_inner_peer root talk.peer) (cond b None (Some talk)) ≡ false
@@ -213,15 +231,18 @@ taker-left root x (Some taker) h = by (serves x taker)
     by true = refl
     by false = h
 
-fault-left : (root x : Path) (fault : Fault) → holds (is_inner_peer root) fault.taker ≡ false → holds (λ (fault : Fault). holds (is_inner_peer root) fault.taker) (fault_without x fault) ≡ false
+fault-left : (root x : Path) (fault : Fault) →
+    holds (is_inner_peer root) fault.taker ≡ false → holds (λ (fault : Fault). holds (is_inner_peer root) fault.taker) (fault_without x fault) ≡ false
 fault-left root x fault h = by (leads_to x fault.port)
   where
-    by : (b : Bool) → holds (λ (fault : Fault). holds (is_inner_peer root) fault.taker) (cond b None (Some (record fault { taker = and_then (taker_without x) fault.taker }))) ≡ false
+    by : (b : Bool) → holds (λ (fault : Fault). holds (is_inner_peer root) fault.taker)
+        (cond b None (Some (record fault { taker = and_then (taker_without x) fault.taker }))) ≡ false
     by true = refl
     by false = taker-left root x fault.taker h
 
 -- who is renamed stays inside, or outside
-peer-followed : (root x y : Path) → is_within root y ≡ is_within root x → (peer : Peer) → is_inner_peer root peer ≡ false → is_inner_peer root (follow_peer x y peer) ≡ false
+peer-followed : (root x y : Path) →
+    is_within root y ≡ is_within root x → (peer : Peer) → is_inner_peer root peer ≡ false → is_inner_peer root (follow_peer x y peer) ≡ false
 peer-followed root x y same (Server (At z)) h = by (same_path z x) refl
   where
     by : (b : Bool) → same_path z x ≡ b → is_inner_peer root (Server (cond b (At y) (At z))) ≡ false
@@ -231,7 +252,8 @@ peer-followed root x y same (Server p) h = refl
 peer-followed root x y same Service h = refl
 peer-followed root x y same Parked h = refl
 
-taker-followed : (root x y : Path) → is_within root y ≡ is_within root x → (o : Option Peer) → holds (is_inner_peer root) o ≡ false → holds (is_inner_peer root) (option_map (follow_peer x y) o) ≡ false
+taker-followed : (root x y : Path) → is_within root y ≡ is_within root x →
+    (o : Option Peer) → holds (is_inner_peer root) o ≡ false → holds (is_inner_peer root) (option_map (follow_peer x y) o) ≡ false
 taker-followed root x y same None h = refl
 taker-followed root x y same (Some taker) h = peer-followed root x y same taker h
 
@@ -241,7 +263,8 @@ if_off : (T : Option Body → Bool) (t : Bool) (a b : Option Body) → (t ≡ tr
 if_off T true a b on off = on refl
 if_off T false a b on off = off
 
-native_there : (root x : Path) (edit : Edit) (o : Option Body) → IsQuietEdit root x edit → holds is_native o ≡ false → holds is_native (option_map (edited edit) o) ≡ false
+native_there : (root x : Path) (edit : Edit) (o : Option Body) →
+    IsQuietEdit root x edit → holds is_native o ≡ false → holds is_native (option_map (edited edit) o) ≡ false
 native_there root x edit None quiet h = refl
 native_there root x edit (Some b) quiet h = native-edited root x edit b quiet h
 
@@ -249,7 +272,8 @@ served_there : (edit : Edit) (o : Option Body) → holds is_served o ≡ false �
 served_there edit None h = refl
 served_there edit (Some b) h = served-edited edit b h
 
-served_by_there : (root x : Path) (edit : Edit) (o : Option Body) → IsQuietEdit root x edit → is_within root x ≡ false → is_served_by root o ≡ false → is_served_by root (option_map (edited edit) o) ≡ false
+served_by_there : (root x : Path) (edit : Edit) (o : Option Body) →
+    IsQuietEdit root x edit → is_within root x ≡ false → is_served_by root o ≡ false → is_served_by root (option_map (edited edit) o) ≡ false
 served_by_there root x edit None quiet out h = refl
 served_by_there root x edit (Some b) quiet out h = served_by-edited root x edit b quiet out h
 
@@ -267,20 +291,29 @@ module _ (root : Path) (w : World) (clear : IsClear root w) where
 
   move-clear : (x y : Path) → is_within root y ≡ is_within root x → IsClear root (moved_to x y w)
   move-clear x y same = record {
-    no_porter = λ q. if_off (holds is_native) (same_path (q ++ root) y) _ _ (λ e. native-through (following x y) y (w.body x) (inside (holds is_native) clear.no_porter x (sym same ∙ ap (is_within root) (sym (same_path_eq (q ++ root) y e)) ∙ within_root q)))
-        (if_off (holds is_native) (same_path (q ++ root) x) None _ (λ e. refl) (native-through (following x y) (q ++ root) (w.body (q ++ root)) (clear.no_porter q)));
-    unserved = λ q. if_off (holds is_served) (same_path (q ++ root) y) _ _ (λ e. served-through (following x y) y (w.body x) (inside (holds is_served) clear.unserved x (sym same ∙ ap (is_within root) (sym (same_path_eq (q ++ root) y e)) ∙ within_root q)))
-        (if_off (holds is_served) (same_path (q ++ root) x) None _ (λ e. refl) (served-through (following x y) (q ++ root) (w.body (q ++ root)) (clear.unserved q)));
-    served_inside = λ z out. if_off (is_served_by root) (same_path z y) _ _ (λ e. served_by-through root (following x y) (λ talk h. peer-followed root x y same talk.peer h) (λ fault h. taker-followed root x y same fault.taker h) y (w.body x) (clear.served_inside x (sym same ∙ ap (is_within root) (sym (same_path_eq z y e)) ∙ out)))
-        (if_off (is_served_by root) (same_path z x) None _ (λ e. refl) (served_by-through root (following x y) (λ talk h. peer-followed root x y same talk.peer h) (λ fault h. taker-followed root x y same fault.taker h) z (w.body z) (clear.served_inside z out)));
+    no_porter = λ q. if_off (holds is_native) (same_path (q ++ root) y) _ _ (λ e. native-through (following x y)
+        y (w.body x) (inside (holds is_native) clear.no_porter x (sym same ∙ ap (is_within root) (sym (same_path_eq (q ++ root) y e)) ∙ within_root q)))
+        (if_off (holds is_native)
+        (same_path (q ++ root) x) None _ (λ e. refl) (native-through (following x y) (q ++ root) (w.body (q ++ root)) (clear.no_porter q)));
+    unserved = λ q. if_off (holds is_served) (same_path (q ++ root) y) _ _ (λ e. served-through (following x y)
+        y (w.body x) (inside (holds is_served) clear.unserved x (sym same ∙ ap (is_within root) (sym (same_path_eq (q ++ root) y e)) ∙ within_root q)))
+        (if_off (holds is_served)
+        (same_path (q ++ root) x) None _ (λ e. refl) (served-through (following x y) (q ++ root) (w.body (q ++ root)) (clear.unserved q)));
+    served_inside = λ z out. if_off (is_served_by root) (same_path z y) _ _
+        (λ e. served_by-through root (following x y) (λ talk h. peer-followed root x y same talk.peer h) (λ fault h. taker-followed root x y same fault.taker h)
+        y (w.body x) (clear.served_inside x (sym same ∙ ap (is_within root) (sym (same_path_eq z y e)) ∙ out)))
+        (if_off (is_served_by root) (same_path z x) None _ (λ e. refl) (served_by-through root (following x y) (λ talk h.
+        peer-followed root x y same talk.peer h) (λ fault h. taker-followed root x y same fault.taker h) z (w.body z) (clear.served_inside z out)));
   }
 
   pub change-clear : (c : Change) → IsQuiet root c → IsClear root (apply c w)
   unfolding apply
   change-clear (Alter x edit) quiet = record {
-    no_porter = λ q. if_off (holds is_native) (same_path (q ++ root) x) _ _ (λ e. native_there root x edit (w.body (q ++ root)) quiet (clear.no_porter q)) (clear.no_porter q);
+    no_porter = λ q. if_off
+        (holds is_native) (same_path (q ++ root) x) _ _ (λ e. native_there root x edit (w.body (q ++ root)) quiet (clear.no_porter q)) (clear.no_porter q);
     unserved = λ q. if_off (holds is_served) (same_path (q ++ root) x) _ _ (λ e. served_there edit (w.body (q ++ root)) (clear.unserved q)) (clear.unserved q);
-    served_inside = λ z out. if_off (is_served_by root) (same_path z x) _ _ (λ e. served_by_there root x edit (w.body z) quiet (ap (is_within root) (sym (same_path_eq z x e)) ∙ out) (clear.served_inside z out)) (clear.served_inside z out);
+    served_inside = λ z out. if_off (is_served_by root) (same_path z x) _ _ (λ e. served_by_there
+        root x edit (w.body z) quiet (ap (is_within root) (sym (same_path_eq z x e)) ∙ out) (clear.served_inside z out)) (clear.served_inside z out);
   }
   change-clear (Make x body) quiet = record {
     no_porter = λ q. if_off (holds is_native) (same_path (q ++ root) x) (Some body) _ (λ e. quiet.no_porter) (clear.no_porter q);
@@ -293,9 +326,12 @@ module _ (root : Path) (w : World) (clear : IsClear root w) where
     served_inside = λ z out. if_off (is_served_by root) (same_path z x) (Some (Space w.next holder)) _ (λ e. refl) (clear.served_inside z out);
   }
   change-clear (Kill x) quiet = record {
-    no_porter = λ q. if_off (holds is_native) (same_path (q ++ root) x) None _ (λ e. refl) (native-through (death_sweep x) (q ++ root) (w.body (q ++ root)) (clear.no_porter q));
-    unserved = λ q. if_off (holds is_served) (same_path (q ++ root) x) None _ (λ e. refl) (served-through (death_sweep x) (q ++ root) (w.body (q ++ root)) (clear.unserved q));
-    served_inside = λ z out. if_off (is_served_by root) (same_path z x) None _ (λ e. refl) (served_by-through root (death_sweep x) (talk-left root x) (fault-left root x) z (w.body z) (clear.served_inside z out));
+    no_porter = λ q. if_off
+        (holds is_native) (same_path (q ++ root) x) None _ (λ e. refl) (native-through (death_sweep x) (q ++ root) (w.body (q ++ root)) (clear.no_porter q));
+    unserved = λ q. if_off
+        (holds is_served) (same_path (q ++ root) x) None _ (λ e. refl) (served-through (death_sweep x) (q ++ root) (w.body (q ++ root)) (clear.unserved q));
+    served_inside = λ z out. if_off (is_served_by root) (same_path z x)
+        None _ (λ e. refl) (served_by-through root (death_sweep x) (talk-left root x) (fault-left root x) z (w.body z) (clear.served_inside z out));
   }
   change-clear (Move x slot) quiet = move-clear x (slot ∷ parent x) quiet
   change-clear (PutPage space page words) quiet = record { no_porter = clear.no_porter; unserved = clear.unserved; served_inside = clear.served_inside }
@@ -323,14 +359,16 @@ pub like-near : {root : Path} {see : Ptr → Ptr} {small big : World} → IsLike
 like-near {root} {see} {small} {big} like [] = rw (root_seen like) refl
 like-near {root} {see} {small} {big} like (k ∷ q) = rw (like.bodies (k ∷ q)) (by (big.body (k ∷ (q ++ root))) (like.plain k q))
   where
-    by : (o : Option Body) → IfSome o (IsPlainBody see (HasLikeness root see big)) → has_far (option_map (λ b. unheld (k ∷ q) (seen_by (seeing see) b)) o) ≡ false
+    by : (o : Option Body) →
+        IfSome o (IsPlainBody see (HasLikeness root see big)) → has_far (option_map (λ b. unheld (k ∷ q) (seen_by (seeing see) b)) o) ≡ false
     by None h = refl
     by (Some b) h = body_off root see big is_far (λ p. false) refl (λ p h off. near_seen root big p (see p) h) b h (never (pointers b))
 
 pub clear-plain : (w : World) (nester : Path) (slot : ℕ) → IsPlain w nester slot → IsClear (slot ∷ nester) w
 clear-plain w nester slot plain = record { no_porter = plain.no_porter; unserved = plain.unserved; served_inside = plain.served_inside }
 
-pub like-plain : (w small : World) (see : Ptr → Ptr) (nester : Path) (slot : ℕ) → IsLikeness (slot ∷ nester) see small w → cut w nester slot ≡ small → IsClear (slot ∷ nester) w → IsPlain w nester slot
+pub like-plain : (w small : World) (see : Ptr → Ptr) (nester : Path) (slot : ℕ) →
+    IsLikeness (slot ∷ nester) see small w → cut w nester slot ≡ small → IsClear (slot ∷ nester) w → IsPlain w nester slot
 like-plain w small see nester slot like same clear = record {
   birth = (root_space like).0;
   holder = (root_space like).1;
@@ -342,7 +380,8 @@ like-plain w small see nester slot like same clear = record {
 }
 
 -- a world with the same cut
-root_of : (see : Ptr → Ptr) (o : Option Body) → option_map (λ b. unheld [] (seen_by (seeing see) b)) o ≡ Some (Space zero None) → (birth : ℕ) × (holder : Option Ptr) × (o ≡ Some (Space birth holder))
+root_of : (see : Ptr → Ptr) (o : Option Body) →
+    option_map (λ b. unheld [] (seen_by (seeing see) b)) o ≡ Some (Space zero None) → (birth : ℕ) × (holder : Option Ptr) × (o ≡ Some (Space birth holder))
 unfolding seen_by
 root_of see (Some (Space birth holder)) h = (birth, holder, refl)
 root_of see (Some (Mutex locked)) h = cc
@@ -355,7 +394,8 @@ root_of see (Some (Thread_of t)) h = cc
 root_of see (Some (Reference to)) h = cc
 root_of see None h = cc
 
-pub same-plain : (w v : World) (nester : Path) (slot : ℕ) → IsPlain w nester slot → cut v nester slot ≡ cut w nester slot → IsClear (slot ∷ nester) v → IsPlain v nester slot
+pub same-plain : (w v : World) (nester : Path) (slot : ℕ) →
+    IsPlain w nester slot → cut v nester slot ≡ cut w nester slot → IsClear (slot ∷ nester) v → IsPlain v nester slot
 unfolding cut seen_by
 same-plain w v nester slot plain same clear =
     let top : (cut w nester slot).body [] ≡ Some (Space zero None) = rw plain.root refl in

@@ -29,7 +29,8 @@ use Rattle.fk_transparency.proofs.cut.Outside.{stepped-plain, untouched, stage_o
 -- a quiet row, or one that gives a slot which was empty
 module _ (root : Path) (w : World) (a b : ℕ) where
   abbrev View : Outcome → Type 0
-  View o = Quiet root o ⊎ ((space : Path) × (me : Path) × (is_some (w.body (b ∷ space)) ≡ false) × (o ≡ Goes (Move (a ∷ space) b ∷ Alter me (Finish []) ∷ []) Nothing))
+  View o = Quiet root o ⊎
+      ((space : Path) × (me : Path) × (is_some (w.body (b ∷ space)) ≡ false) × (o ≡ Goes (Move (a ∷ space) b ∷ Alter me (Finish []) ∷ []) Nothing))
 
   view->>= : {A : Type 0} (r : Result A ℕ) (go : A → Outcome) → ((a : A) → r ≡ Ok a → View (go a)) → View (r >>= go)
   view->>= (Ok a) go h = h a refl
@@ -98,7 +99,8 @@ module _ (w : World) (nester : Path) (slot : ℕ) (plain : IsPlain w nester slot
       let both : is_some ((cut v nester slot).body []) ≡ is_some ((cut w nester slot).body []) = ap (λ (c : World). is_some (c.body [])) same in
       cc
 
-  left : (a b : ℕ) (space me : Path) → same_path (b ∷ space) root ≡ false → a ∷ space ≡ root → (apply_all (Move (a ∷ space) b ∷ Alter me (Finish []) ∷ []) w).body root ≡ None
+  left : (a b : ℕ) (space me : Path) →
+      same_path (b ∷ space) root ≡ false → a ∷ space ≡ root → (apply_all (Move (a ∷ space) b ∷ Alter me (Finish []) ∷ []) w).body root ≡ None
   unfolding apply apply_all
   left a b space me new at = rw (sym at) (by (same_path (a ∷ space) me))
     where
@@ -107,16 +109,22 @@ module _ (w : World) (nester : Path) (slot : ℕ) (plain : IsPlain w nester slot
         where
           by : (t : Bool) → same_path (a ∷ space) (b ∷ space) ≡ t → t ≡ false
           by false e = refl
-          by true e = let same = same_path_eq (a ∷ space) (b ∷ space) e in let there : same_path (b ∷ space) root ≡ true = rw (sym same) (rw at (same_path_refl root)) in cc
+          by true e = let same = same_path_eq (a ∷ space) (b ∷ space) e in
+              let there : same_path (b ∷ space) root ≡ true = rw (sym same) (rw at (same_path_refl root)) in cc
 
       moved : (o p : Option Body) → cond (same_path (a ∷ space) (b ∷ space)) o (cond (same_path (a ∷ space) (a ∷ space)) None p) ≡ None
       moved o p = rw (apart, same_path_refl (a ∷ space)) refl
 
-      by : (t : Bool) → cond t (option_map (edited (Finish [])) (cond (same_path (a ∷ space) (b ∷ space)) (option_map (through (following (a ∷ space) (b ∷ space)) (b ∷ space)) (w.body (a ∷ space))) (cond (same_path (a ∷ space) (a ∷ space)) None (option_map (through (following (a ∷ space) (b ∷ space)) (a ∷ space)) (w.body (a ∷ space)))))) (cond (same_path (a ∷ space) (b ∷ space)) (option_map (through (following (a ∷ space) (b ∷ space)) (b ∷ space)) (w.body (a ∷ space))) (cond (same_path (a ∷ space) (a ∷ space)) None (option_map (through (following (a ∷ space) (b ∷ space)) (a ∷ space)) (w.body (a ∷ space))))) ≡ None
+      by : (t : Bool) → cond t (option_map (edited (Finish []))
+          (cond (same_path (a ∷ space) (b ∷ space)) (option_map (through (following (a ∷ space) (b ∷ space)) (b ∷ space)) (w.body (a ∷ space)))
+          (cond (same_path (a ∷ space) (a ∷ space)) None (option_map (through (following (a ∷ space) (b ∷ space)) (a ∷ space)) (w.body (a ∷ space))))))
+          (cond (same_path (a ∷ space) (b ∷ space)) (option_map (through (following (a ∷ space) (b ∷ space)) (b ∷ space)) (w.body (a ∷ space)))
+          (cond (same_path (a ∷ space) (a ∷ space)) None (option_map (through (following (a ∷ space) (b ∷ space)) (a ∷ space)) (w.body (a ∷ space))))) ≡ None
       by true = ap (option_map (edited (Finish []))) (moved _ _)
       by false = moved _ _
 
-  renamed-plain : (a b : ℕ) (o : Outcome) → View root w a b o → cut (stepped w o).world nester slot ≡ cut w nester slot → IsPlain (stepped w o).world nester slot
+  renamed-plain : (a b : ℕ) (o : Outcome) →
+      View root w a b o → cut (stepped w o).world nester slot ≡ cut w nester slot → IsPlain (stepped w o).world nester slot
   renamed-plain a b o (inl quiet) same = stepped-plain w nester slot plain o quiet same
   renamed-plain a b o (inr v) same = by (same_path (a ∷ v.0) root) refl
     where
@@ -125,15 +133,18 @@ module _ (w : World) (nester : Path) (slot : ℕ) (plain : IsPlain w nester slot
 
       by : (t : Bool) → same_path (a ∷ v.0) root ≡ t → IsPlain (stepped w o).world nester slot
       by true e = absurd (gone _ (left a b v.0 v.1 (full (b ∷ v.0) v.2) (same_path_eq (a ∷ v.0) root e)) here)
-      by false e = stepped-plain w nester slot plain o (rw v.3 (quiet-goes (within_slot root v.0 b (full (b ∷ v.0) v.2) ∙ sym (within_slot root v.0 a e), (tt, tt)))) same
+      by false e = stepped-plain w
+          nester slot plain o (rw v.3 (quiet-goes (within_slot root v.0 b (full (b ∷ v.0) v.2) ∙ sym (within_slot root v.0 a e), (tt, tt)))) same
 
   rename_by : (x : Path) (pick : Option Path) (s a b : ℕ) → is_within root x ≡ false → IsAtStage w x (Rename s a b) → KeepsCut w nester slot (moves x pick)
   unfolding step
   rename_by x pick s a b out at sound same fit ready (Onwards m) seen =
-      absurd (untouched w nester slot plain (moves x pick) (outcome w x pick asks.Run) (strip root x) m (strip_none root x out) (rw (stage_called w nester slot plain x (Rename s a b) at) refl) seen.1)
+      absurd (untouched w nester slot plain (moves x pick)
+      (outcome w x pick asks.Run) (strip root x) m (strip_none root x out) (rw (stage_called w nester slot plain x (Rename s a b) at) refl) seen.1)
   rename_by x pick s a b out at sound same fit ready Unseen seen =
       let is = stage_outcome w nester slot plain x pick (Rename s a b) at in
-      let view : View root w a b (outcome w x pick asks.Run) = rw is.1 (view-when root w a b (is_free w (parent x) is.0) (call_row w (user_at x) pick (Rename s a b)) (view-call root w a b x pick s)) in
+      let view : View root w a b (outcome w x pick asks.Run) = rw is.1
+      (view-when root w a b (is_free w (parent x) is.0) (call_row w (user_at x) pick (Rename s a b)) (view-call root w a b x pick s)) in
       renamed-plain a b (outcome w x pick asks.Run) view seen.1.0
   rename_by x pick s a b out at sound same fit ready Other seen = tt
 

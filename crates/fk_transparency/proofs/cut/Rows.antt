@@ -41,18 +41,21 @@ use Rattle.fk_transparency.proofs.likeness.ObjectRows.{create-like, point-like, 
 
 -- ---- which changes the rows make
 
-quiet-own_page_at : (root me : Path) (write : Bool) (go : Path → ℕ → Outcome) (r : Reach) → ((s : Path) (page : ℕ) → Quiet root (go s page)) → Quiet root (own_page_at me write go r)
+quiet-own_page_at : (root me : Path) (write : Bool) (go : Path → ℕ → Outcome) (r : Reach) →
+    ((s : Path) (page : ℕ) → Quiet root (go s page)) → Quiet root (own_page_at me write go r)
 quiet-own_page_at root me write go (Home s page) quiet = quiet s page
 quiet-own_page_at root me write go (Missing s page None) quiet = quiet-refused
 quiet-own_page_at root me write go (Missing s page (Some port)) quiet = quiet-goes ((λ out. refl), tt)
 quiet-own_page_at root me write go Bad quiet = quiet-refused
 
-pub quiet-own_page : (root : Path) (w : World) (c : Caller) (address : ℕ) (write : Bool) (go : Path → ℕ → Outcome) → ((s : Path) (page : ℕ) → Quiet root (go s page)) → Quiet root (own_page w c address write go)
+pub quiet-own_page : (root : Path) (w : World) (c : Caller) (address : ℕ) (write : Bool) (go : Path → ℕ → Outcome) →
+    ((s : Path) (page : ℕ) → Quiet root (go s page)) → Quiet root (own_page w c address write go)
 quiet-own_page root w c address write go quiet = quiet-own_page_at root (path_of c) write go (reach_word w c.space address write) quiet
 
 quiet-mutex_lock : (root : Path) (w : World) (c : Caller) (m : ℕ) → Quiet root (mutex_lock w c m)
 unfolding mutex_lock
-quiet-mutex_lock root w c m = quiet->>= root _ _ (λ locked. quiet-when root (not locked) _ (quiet-done root c (sets_locked (m ∷ c.space) true ∷ []) [] (tt, tt)))
+quiet-mutex_lock root w c m =
+    quiet->>= root _ _ (λ locked. quiet-when root (not locked) _ (quiet-done root c (sets_locked (m ∷ c.space) true ∷ []) [] (tt, tt)))
 
 ruleset quiet_row = (quiet->>=, quiet-when, quiet-done, quiet-refused, quiet-waits)
 
@@ -91,7 +94,8 @@ quiet-new root x kind =
     (quiet_or root (eqb kind 8) _ _ (record { no_porter = refl; unserved = refl; served_outside = refl })
     (quiet_or root (eqb kind 9) _ None (record { no_porter = refl; unserved = refl; served_outside = refl }) tt))))))))
 
-quiet-made : (root : Path) (status : ℕ) (o : Option Change) (go : Change → Outcome) → IfSome o (IsQuiet root) → ((c : Change) → IsQuiet root c → Quiet root (go c)) → Quiet root (or_refuse status o >>= go)
+quiet-made : (root : Path) (status : ℕ) (o : Option Change) (go : Change → Outcome) →
+    IfSome o (IsQuiet root) → ((c : Change) → IsQuiet root c → Quiet root (go c)) → Quiet root (or_refuse status o >>= go)
 quiet-made root status None go h quiet = quiet-refused
 quiet-made root status (Some c) go h quiet = quiet c h
 
@@ -128,9 +132,11 @@ quiet-sets root w c space x b words = search (quiet_row, quiet-edits) depth 9
 quiet-sets_from : (root : Path) (w : World) (c : Caller) (space x : Path) (b : Body) (address : ℕ) → Quiet root (sets_from w c space x b address)
 quiet-sets_from root w c space x b address = by c.is_porter
   where
-    by : (porter : Bool) → Quiet root (cond porter (sets_record w c space x b c.words) (own_page w c address false (λ s page. sets_record w c space x b (record_at (words_at w s page) address))))
+    by : (porter : Bool) → Quiet root (cond porter
+        (sets_record w c space x b c.words) (own_page w c address false (λ s page. sets_record w c space x b (record_at (words_at w s page) address))))
     by true = quiet-sets root w c space x b c.words
-    by false = quiet-own_page root w c address false (λ s page. sets_record w c space x b (record_at (words_at w s page) address)) (λ s page. quiet-sets root w c space x b _)
+    by false = quiet-own_page root
+        w c address false (λ s page. sets_record w c space x b (record_at (words_at w s page) address)) (λ s page. quiet-sets root w c space x b _)
 
 quiet-set_state : (root : Path) (w : World) (c : Caller) (s x address : ℕ) → Quiet root (set_state w c s x address)
 unfolding set_state
@@ -251,7 +257,8 @@ quiet-plain root w c pick stage such = cc
 
 -- ---- they act alike
 
-alike-plain : (root : Path) (see : Ptr → Ptr) (small big : World) → IsLikeness root see small big → is_frozen big root ≡ false → (k : ℕ) (q : Path) (p pick : Option Path) (stage : Stage) → IsPlainStage stage →
+alike-plain : (root : Path) (see : Ptr → Ptr) (small big : World) →
+    IsLikeness root see small big → is_frozen big root ≡ false → (k : ℕ) (q : Path) (p pick : Option Path) (stage : Stage) → IsPlainStage stage →
     IsLikeOutcome root see big (stage_row small (user_at (k ∷ q)) p stage) (stage_row big (user_at (k ∷ (q ++ root))) pick stage)
 alike-plain root see small big like free k q p pick (Create s x kind) such = create-like like free (user_at (k ∷ q)) s x kind
 alike-plain root see small big like free k q p pick (Search s from) such = search-like like (user_at (k ∷ q)) s from
@@ -275,7 +282,8 @@ alike-plain root see small big like free k q p pick (CondWait slot m) such = con
 alike-plain root see small big like free k q p pick (CondAsleep slot m) such = cond_asleep-like like (user_at (k ∷ q)) slot m
 alike-plain root see small big like free k q p pick (CondBroadcast slot) such = cond_broadcast-like like (user_at (k ∷ q)) slot
 alike-plain root see small big like free k q p pick (Connect h) such = connect-like like (user_at (k ∷ q)) h
-alike-plain root see small big like free k q p pick (ClientReceive into room) such = receive-like like (user_at (k ∷ q)) turns.Client into room (client_turns like k q)
+alike-plain root see small big like free k q p pick (ClientReceive into room) such =
+    receive-like like (user_at (k ∷ q)) turns.Client into room (client_turns like k q)
 alike-plain root see small big like free k q p pick stage such = cc
 
 -- ---- a peer outside makes nothing else of them, and they touch nothing
@@ -285,7 +293,8 @@ silent-plain w n c o (ClientSend address count) such = cc
 silent-plain w n c o ClientOver such = cc
 silent-plain w n c o stage such = refl
 
-untouching-plain : (w : World) (root : Path) (c : Caller) (pick : Option Path) (cs : List Change) (stage : Stage) → IsPlainStage stage → stage_touch w root c pick cs stage ≡ None
+untouching-plain : (w : World) (root : Path) (c : Caller) (pick : Option Path) (cs : List Change) (stage : Stage) →
+    IsPlainStage stage → stage_touch w root c pick cs stage ≡ None
 untouching-plain w root c pick cs (Wait set) such = cc
 untouching-plain w root c pick cs (ServerSend address count) such = cc
 untouching-plain w root c pick cs ServerOver such = cc

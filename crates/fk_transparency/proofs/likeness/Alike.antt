@@ -14,7 +14,8 @@ alike_same (Some a) (Some b) e = cc
 alike_same None (Some b) e = cc
 alike_same (Some a) None e = cc
 
-pub alike_or_refuse : {A B : Type 0} (R : A → B → Type 0) (status : ℕ) (a : Option A) (b : Option B) → AlikeOptions R a b → AlikeResults R (or_refuse status a) (or_refuse status b)
+pub alike_or_refuse : {A B : Type 0} (R : A → B → Type 0) (status : ℕ) (a : Option A) (b : Option B) →
+    AlikeOptions R a b → AlikeResults R (or_refuse status a) (or_refuse status b)
 alike_or_refuse R status None None h = refl
 alike_or_refuse R status (Some a) (Some b) h = h
 alike_or_refuse R status None (Some b) h = absurd h
@@ -28,7 +29,8 @@ alike_and_read R Q (Ok x) (Err refusal) f g h go = absurd h
 alike_and_read R Q (Err status) (Ok y) f g h go = absurd h
 
 -- both are refused where the test fails
-pub alike_if : {A B : Type 0} (R : A → B → Type 0) (test : Bool) (status : ℕ) (a : A) (b : B) → (test ≡ true → R a b) → AlikeResults R (cond {A = Result A ℕ} test (Ok a) (Err status)) (cond {A = Result B ℕ} test (Ok b) (Err status))
+pub alike_if : {A B : Type 0} (R : A → B → Type 0) (test : Bool) (status : ℕ) (a : A) (b : B) →
+    (test ≡ true → R a b) → AlikeResults R (cond {A = Result A ℕ} test (Ok a) (Err status)) (cond {A = Result B ℕ} test (Ok b) (Err status))
 alike_if R true status a b h = h refl
 alike_if R false status a b h = refl
 
@@ -41,7 +43,8 @@ alike_and_then R Q (Some x) (Some y) f g h go = go x y h
 alike_and_then R Q None (Some y) f g h go = absurd h
 alike_and_then R Q (Some x) None f g h go = absurd h
 
-pub alike_or_else : {A B : Type 0} (R : A → B → Type 0) (a c : Option A) (b d : Option B) → AlikeOptions R a b → AlikeOptions R c d → AlikeOptions R (or_else a c) (or_else b d)
+pub alike_or_else : {A B : Type 0} (R : A → B → Type 0) (a c : Option A) (b d : Option B) →
+    AlikeOptions R a b → AlikeOptions R c d → AlikeOptions R (or_else a c) (or_else b d)
 alike_or_else R None c None d h g = g
 alike_or_else R (Some x) c (Some y) d h g = h
 alike_or_else R None c (Some y) d h g = absurd h
@@ -51,7 +54,8 @@ pub alike_cond : {A B : Type 0} (R : A → B → Type 0) (test : Bool) (a : A) (
 alike_cond R true a b h = h
 alike_cond R false a b h = tt
 
-pub alike_lowest : {A B : Type 0} (R : A → B → Type 0) (n : ℕ) (f : ℕ → Option A) (g : ℕ → Option B) → ((k : ℕ) → AlikeOptions R (f k) (g k)) → AlikeOptions R (lowest n f) (lowest n g)
+pub alike_lowest : {A B : Type 0} (R : A → B → Type 0) (n : ℕ) (f : ℕ → Option A) (g : ℕ → Option B) →
+    ((k : ℕ) → AlikeOptions R (f k) (g k)) → AlikeOptions R (lowest n f) (lowest n g)
 unfolding lowest
 alike_lowest R zero f g h = tt
 alike_lowest R (suc n) f g h = alike_or_else R (lowest n f) (f n) (lowest n g) (g n) (alike_lowest R n f g h) (h n)
@@ -62,7 +66,8 @@ alike-is_some R (Some a) (Some b) h = refl
 alike-is_some R None (Some b) h = absurd h
 alike-is_some R (Some a) None h = absurd h
 
-pub alike-holds : {A B : Type 0} (R : A → B → Type 0) (a : Option A) (b : Option B) (f : A → Bool) (g : B → Bool) → AlikeOptions R a b → ((x : A) (y : B) → R x y → f x ≡ g y) → holds f a ≡ holds g b
+pub alike-holds : {A B : Type 0} (R : A → B → Type 0) (a : Option A) (b : Option B) (f : A → Bool) (g : B → Bool) →
+    AlikeOptions R a b → ((x : A) (y : B) → R x y → f x ≡ g y) → holds f a ≡ holds g b
 alike-holds R None None f g h same = refl
 alike-holds R (Some a) (Some b) f g h same = same a b h
 alike-holds R None (Some b) f g h same = absurd h

@@ -25,7 +25,8 @@ use Rattle.fk_transparency.proofs.likeness.Memory.{root_space}
 use Rattle.fk_transparency.proofs.likeness.Changes.{alter-like, make-like, make_space-like, page-like, outside-like, outside_apart, kind_kept}
 use Rattle.fk_transparency.proofs.likeness.Sweeps.{kill-like, move-like, kind-swept}
 
-pub change-like : {root : Path} {see : Ptr → Ptr} {small big : World} → IsLikeness root see small big → (c d : Change) → LikeChange root see big c d → IsLikeness root see (apply c small) (apply d big)
+pub change-like : {root : Path} {see : Ptr → Ptr} {small big : World} →
+    IsLikeness root see small big → (c d : Change) → LikeChange root see big c d → IsLikeness root see (apply c small) (apply d big)
 unfolding apply
 change-like like _ _ (Alters k q seen edit e h) = rw e (alter-like like false k q edit h)
 change-like like _ _ (AltersOut k q seen edit e h) = rw e (alter-like like true k q edit h)
@@ -36,7 +37,8 @@ change-like like _ _ (Moves k q slot) = move-like like k slot q
 change-like like _ _ (PutsPage q page words) = page-like like q page (Some words)
 change-like like _ _ (DropsPage q page) = page-like like q page None
 
-pub changes-like : {root : Path} {see : Ptr → Ptr} (small big : World) (cs ds : List Change) → LikeChanges root see big cs ds → IsLikeness root see small big → IsLikeness root see (apply_all cs small) (apply_all ds big)
+pub changes-like : {root : Path} {see : Ptr → Ptr} (small big : World) (cs ds : List Change) →
+    LikeChanges root see big cs ds → IsLikeness root see small big → IsLikeness root see (apply_all cs small) (apply_all ds big)
 unfolding apply_all
 changes-like small _ _ _ Empty like = like
 changes-like small _ _ _ (Both {c = c} {d = d} h hs) like = changes-like (apply c small) _ _ _ hs (change-like like c d h)
@@ -47,14 +49,19 @@ changes-like small _ _ _ (Beyond {d = d} out hs) like = changes-like small _ _ _
 kind_off : (t : Bool) (v u : Option Body) → t ≡ false → and_then (λ b. Some (kind_of b)) (cond t v u) ≡ and_then (λ b. Some (kind_of b)) u
 kind_off t v u h = rw h refl
 
-pub kind_outside : {root : Path} {see : Ptr → Ptr} {big : World} (c d : Change) → LikeChange root see big c d → (x : Path) → is_within root x ≡ false → kind_at (apply d big) (At x) ≡ kind_at big (At x)
+pub kind_outside : {root : Path} {see : Ptr → Ptr} {big : World} (c d : Change) →
+    LikeChange root see big c d → (x : Path) → is_within root x ≡ false → kind_at (apply d big) (At x) ≡ kind_at big (At x)
 unfolding apply
-kind_outside {root} {see} {big} _ _ (Alters k q seen edit e h) x out = kind_off _ (option_map (edited edit) (big.body x)) (big.body x) (outside_apart root (k ∷ q) x out)
-kind_outside {root} {see} {big} _ _ (AltersOut k q seen edit e h) x out = kind_off _ (option_map (edited edit) (big.body x)) (big.body x) (outside_apart root (k ∷ q) x out)
+kind_outside {root} {see} {big} _ _ (Alters k q seen edit e h) x out =
+    kind_off _ (option_map (edited edit) (big.body x)) (big.body x) (outside_apart root (k ∷ q) x out)
+kind_outside {root} {see} {big} _ _ (AltersOut k q seen edit e h) x out =
+    kind_off _ (option_map (edited edit) (big.body x)) (big.body x) (outside_apart root (k ∷ q) x out)
 kind_outside {root} {see} {big} _ _ (Makes k q seen body e h) x out = kind_off _ (Some body) (big.body x) (outside_apart root (k ∷ q) x out)
 kind_outside {root} {see} {big} _ _ (MakesSpace k q seen holder e h) x out = kind_off _ _ (big.body x) (outside_apart root (k ∷ q) x out)
-kind_outside {root} {see} {big} _ _ (Kills k q apart) x out = kind_off _ None _ (outside_apart root (k ∷ q) x out) ∙ kind-swept (death_sweep (k ∷ (q ++ root))) x (big.body x)
-kind_outside {root} {see} {big} _ _ (Moves k q slot) x out = kind_off _ _ _ (outside_apart root (slot ∷ q) x out) ∙ kind_off _ None _ (outside_apart root (k ∷ q) x out) ∙ kind-swept (following (k ∷ (q ++ root)) (slot ∷ (q ++ root))) x (big.body x)
+kind_outside {root} {see} {big} _ _ (Kills k q apart) x out =
+    kind_off _ None _ (outside_apart root (k ∷ q) x out) ∙ kind-swept (death_sweep (k ∷ (q ++ root))) x (big.body x)
+kind_outside {root} {see} {big} _ _ (Moves k q slot) x out = kind_off _ _ _ (outside_apart root (slot ∷ q) x out)
+    ∙ kind_off _ None _ (outside_apart root (k ∷ q) x out) ∙ kind-swept (following (k ∷ (q ++ root)) (slot ∷ (q ++ root))) x (big.body x)
 kind_outside {root} {see} {big} _ _ (PutsPage q page words) x out = refl
 kind_outside {root} {see} {big} _ _ (DropsPage q page) x out = refl
 
@@ -68,7 +75,8 @@ kind_beyond root big (MakeSpace y holder) out x = absurd out
 kind_beyond root big (Kill y) out x = absurd out
 kind_beyond root big (Move y slot) out x = absurd out
 
-pub kinds_outside : {root : Path} {see : Ptr → Ptr} (big : World) (cs ds : List Change) → LikeChanges root see big cs ds → (x : Path) → is_within root x ≡ false → kind_at (apply_all ds big) (At x) ≡ kind_at big (At x)
+pub kinds_outside : {root : Path} {see : Ptr → Ptr} (big : World) (cs ds : List Change) →
+    LikeChanges root see big cs ds → (x : Path) → is_within root x ≡ false → kind_at (apply_all ds big) (At x) ≡ kind_at big (At x)
 unfolding apply_all
 kinds_outside big _ _ Empty x out = refl
 kinds_outside big _ _ (Both {c = c} {d = d} h hs) x out = kinds_outside (apply d big) _ _ hs x out ∙ kind_outside c d h x out
@@ -93,23 +101,28 @@ slot_outside nester slot i apart = by (strip (slot ∷ nester) (i ∷ nester)) r
     by None e = refl
     by (Some q) e = absurd (root_of q (strip_some (slot ∷ nester) (i ∷ nester) q e))
 
-ports_stay : (w v : World) (nester : Path) (slot : ℕ) → ((x : Path) → is_within (slot ∷ nester) x ≡ false → kind_at v (At x) ≡ kind_at w (At x)) → (i : ℕ) → ports_of v nester slot i ≡ ports_of w nester slot i
+ports_stay : (w v : World) (nester : Path) (slot : ℕ) →
+    ((x : Path) → is_within (slot ∷ nester) x ≡ false → kind_at v (At x) ≡ kind_at w (At x)) → (i : ℕ) → ports_of v nester slot i ≡ ports_of w nester slot i
 ports_stay w v nester slot stay i = by (eqb i slot) refl
   where
     by : (t : Bool) → eqb i slot ≡ t → (not t && is_port (v.body (i ∷ nester))) ≡ (not t && is_port (w.body (i ∷ nester)))
     by true e = refl
-    by false e = is_port-kind (v.body (i ∷ nester)) ∙ ap (holds (λ kind. is_kind kinds.Port (Some kind))) (stay (i ∷ nester) (slot_outside nester slot i e)) ∙ sym (is_port-kind (w.body (i ∷ nester)))
+    by false e = is_port-kind (v.body (i ∷ nester))
+        ∙ ap (holds (λ kind. is_kind kinds.Port (Some kind))) (stay (i ∷ nester) (slot_outside nester slot i e)) ∙ sym (is_port-kind (w.body (i ∷ nester)))
 
 -- a likeness by the eyes of a cut is the cut
-like-cut : (ports : ℕ → Bool) (v small : World) (nester : Path) (slot : ℕ) → IsLikeness (slot ∷ nester) (cut_ptr ports nester slot) small v → cut_by ports v nester slot ≡ small
+like-cut : (ports : ℕ → Bool) (v small : World) (nester : Path) (slot : ℕ) →
+    IsLikeness (slot ∷ nester) (cut_ptr ports nester slot) small v → cut_by ports v nester slot ≡ small
 like-cut ports v small nester slot like = sym (λ i. record { body = λ q. like.bodies q i; page = λ q page. like.pages q page i; next = like.unborn i })
 
-pub cut-changes : (w : World) (nester : Path) (slot : ℕ) (cs ds : List Change) → IsPlain w nester slot → LikeChanges (slot ∷ nester) (cut_ptr (ports_of w nester slot) nester slot) w cs ds → cut (apply_all ds w) nester slot ≡ apply_all cs (cut w nester slot)
+pub cut-changes : (w : World) (nester : Path) (slot : ℕ) (cs ds : List Change) → IsPlain w nester slot →
+    LikeChanges (slot ∷ nester) (cut_ptr (ports_of w nester slot) nester slot) w cs ds → cut (apply_all ds w) nester slot ≡ apply_all cs (cut w nester slot)
 unfolding cut
 cut-changes w nester slot cs ds plain h =
     let after : World = apply_all ds w in
     ap (λ (ports : ℕ → Bool). cut_by ports after nester slot) (λ i k. ports_stay w after nester slot (kinds_outside w cs ds h) k i)
-    ∙ like-cut (ports_of w nester slot) after (apply_all cs (cut w nester slot)) nester slot (changes-like (cut w nester slot) w cs ds h (cut-like w nester slot plain))
+    ∙ like-cut (ports_of w nester slot)
+    after (apply_all cs (cut w nester slot)) nester slot (changes-like (cut w nester slot) w cs ds h (cut-like w nester slot plain))
 
 -- ---- a plain subtree stays plain
 
@@ -138,15 +151,18 @@ module _ (root : Path) (see : Ptr → Ptr) (big : World) where
 
   near_talk : (o : Option Talk) → IfSome o (AllInTalk see Seen) → list_any is_far (option_list talk_pointers (and_then (seeing see).talk o)) ≡ false
   near_talk None h = refl
-  near_talk (Some talk) h = or_neither (is_far (see talk.port)) _ (near_ptr root big talk.port (see talk.port) h.0) (near_peer (is_out (see talk.port)) talk.peer h.1)
+  near_talk (Some talk) h =
+      or_neither (is_far (see talk.port)) _ (near_ptr root big talk.port (see talk.port) h.0) (near_peer (is_out (see talk.port)) talk.peer h.1)
 
-  near_taker : (out : Bool) (o : Option Peer) → IfSome o (λ taker. IfServer out taker Seen) → list_any is_far (option_list peer_pointer (option_map (seen_peer see out) o)) ≡ false
+  near_taker : (out : Bool) (o : Option Peer) →
+      IfSome o (λ taker. IfServer out taker Seen) → list_any is_far (option_list peer_pointer (option_map (seen_peer see out) o)) ≡ false
   near_taker out None h = refl
   near_taker out (Some taker) h = near_peer out taker h
 
   near_fault : (o : Option Fault) → IfSome o (AllInFault see Seen) → list_any is_far (option_list fault_pointers (and_then (seeing see).fault o)) ≡ false
   near_fault None h = refl
-  near_fault (Some fault) h = or_neither (is_far (see fault.port)) _ (near_ptr root big fault.port (see fault.port) h.0) (near_taker (is_out (see fault.port)) fault.taker h.1)
+  near_fault (Some fault) h =
+      or_neither (is_far (see fault.port)) _ (near_ptr root big fault.port (see fault.port) h.0) (near_taker (is_out (see fault.port)) fault.taker h.1)
 
   near_body : (v : Option Body) → IfSome v (IsPlainBody see Seen) → has_far (option_map (λ b. seen_by (seeing see) b) v) ≡ false
   unfolding seen_by
@@ -154,7 +170,8 @@ module _ (root : Path) (see : Ptr → Ptr) (big : World) where
   near_body (Some (Region r)) h = near_one r.keeper h
   near_body (Some (Space birth (Some holder))) h = near_one holder h
   near_body (Some (Space birth None)) h = refl
-  near_body (Some (Thread_of t)) h = list_any-append is_far (option_list talk_pointers (and_then (seeing see).talk t.talk)) _ ∙ or_neither _ _ (near_talk t.talk h.0) (near_fault t.fault h.1)
+  near_body (Some (Thread_of t)) h =
+      list_any-append is_far (option_list talk_pointers (and_then (seeing see).talk t.talk)) _ ∙ or_neither _ _ (near_talk t.talk h.0) (near_fault t.fault h.1)
   near_body (Some (Reference to)) h = near_one to h
   near_body (Some b) h = refl
   near_body None h = refl
@@ -170,7 +187,8 @@ module _ (root : Path) (see : Ptr → Ptr) (big : World) where
   unserved None h = refl
 
 -- where the cut of a subtree is a likeness it is plain, if no thread inside serves one outside
-pub like-plain : (w : World) (nester : Path) (slot : ℕ) (small : World) → IsLikeness (slot ∷ nester) (cut_ptr (ports_of w nester slot) nester slot) small w → ((x : Path) → is_within (slot ∷ nester) x ≡ false → is_served_by (slot ∷ nester) (w.body x) ≡ false) → IsPlain w nester slot
+pub like-plain : (w : World) (nester : Path) (slot : ℕ) (small : World) → IsLikeness (slot ∷ nester) (cut_ptr (ports_of w nester slot) nester slot) small w →
+    ((x : Path) → is_within (slot ∷ nester) x ≡ false → is_served_by (slot ∷ nester) (w.body x) ≡ false) → IsPlain w nester slot
 unfolding cut seen_by
 like-plain w nester slot small like inside =
     let top = root_space like in
@@ -192,9 +210,11 @@ like-plain w nester slot small like inside =
     alone (k ∷ q) = unserved (slot ∷ nester) see w (w.body (k ∷ (q ++ slot ∷ nester))) (like.plain k q)
 
 -- a plain subtree stays plain through changes that are alike in its cut, if no thread inside comes to serve one outside
-pub plain-changes : (w : World) (nester : Path) (slot : ℕ) (cs ds : List Change) → IsPlain w nester slot → LikeChanges (slot ∷ nester) (cut_ptr (ports_of w nester slot) nester slot) w cs ds →
+pub plain-changes : (w : World) (nester : Path) (slot : ℕ) (cs ds : List Change) →
+    IsPlain w nester slot → LikeChanges (slot ∷ nester) (cut_ptr (ports_of w nester slot) nester slot) w cs ds →
     ((x : Path) → is_within (slot ∷ nester) x ≡ false → is_served_by (slot ∷ nester) ((apply_all ds w).body x) ≡ false) → IsPlain (apply_all ds w) nester slot
 plain-changes w nester slot cs ds plain h inside =
     let after : World = apply_all ds w in
     let ports : ports_of after nester slot ≡ ports_of w nester slot = λ i k. ports_stay w after nester slot (kinds_outside w cs ds h) k i in
-    like-plain after nester slot (apply_all cs (cut w nester slot)) (rw ports (changes-like (cut w nester slot) w cs ds h (cut-like w nester slot plain))) inside
+    like-plain after
+    nester slot (apply_all cs (cut w nester slot)) (rw ports (changes-like (cut w nester slot) w cs ds h (cut-like w nester slot plain))) inside

@@ -34,7 +34,8 @@ kind-edited edit b = refl
 
 -- ---- on a thread
 
-ended-talk : (status : ℕ) (answers : List ℕ) (t : Thread) (mode : Mode) → ((ended_in status answers t mode).talk ≡ t.talk) × ((ended_in status answers t mode).fault ≡ t.fault)
+ended-talk : (status : ℕ) (answers : List ℕ) (t : Thread) (mode : Mode) →
+    ((ended_in status answers t mode).talk ≡ t.talk) × ((ended_in status answers t mode).fault ≡ t.fault)
 ended-talk status answers t (Calling todo rest) = (refl, refl)
 ended-talk status answers t mode = (refl, refl)
 
@@ -69,7 +70,8 @@ module _ (see : Ptr → Ptr) where
   abbrev seen : Body → Body
   seen b = seen_by (seeing see) b
 
-  ended-seen : (status : ℕ) (answers : List ℕ) (t : Thread) (mode : Mode) → seen_thread see (ended_in status answers t mode) ≡ ended_in status answers (seen_thread see t) mode
+  ended-seen : (status : ℕ) (answers : List ℕ) (t : Thread) (mode : Mode) →
+      seen_thread see (ended_in status answers t mode) ≡ ended_in status answers (seen_thread see t) mode
   ended-seen status answers t (Calling todo rest) = refl
   ended-seen status answers t mode = refl
 
@@ -80,17 +82,20 @@ module _ (see : Ptr → Ptr) where
   finished-seen answers t mode = refl
 
   -- what changes no port and no peer
-  counted : (f : Talk → Talk) → ((talk : Talk) → seen_talk see (f talk) ≡ f (seen_talk see talk)) → (o : Option Talk) → and_then (seeing see).talk (option_map f o) ≡ option_map f (and_then (seeing see).talk o)
+  counted : (f : Talk → Talk) → ((talk : Talk) → seen_talk see (f talk) ≡ f (seen_talk see talk)) →
+      (o : Option Talk) → and_then (seeing see).talk (option_map f o) ≡ option_map f (and_then (seeing see).talk o)
   counted f same None = refl
   counted f same (Some talk) = ap Some (same talk)
 
   peer_set : (out : Bool) (peer : Peer) (o : Option Talk) → IfSome o (λ talk. is_out (see talk.port) ≡ out) →
-      and_then (seeing see).talk (option_map (λ (talk : Talk). record talk { peer = peer }) o) ≡ option_map (λ (talk : Talk). record talk { peer = seen_peer see out peer }) (and_then (seeing see).talk o)
+      and_then (seeing see).talk (option_map (λ (talk : Talk). record talk { peer = peer }) o) ≡ option_map
+      (λ (talk : Talk). record talk { peer = seen_peer see out peer }) (and_then (seeing see).talk o)
   peer_set out peer None near = refl
   peer_set out peer (Some talk) near = ap (λ (out : Bool). Some (record talk { port = see talk.port; peer = seen_peer see out peer })) near
 
   taker_set : (out : Bool) (taker : Option Peer) (o : Option Fault) → IfSome o (λ fault. is_out (see fault.port) ≡ out) →
-      and_then (seeing see).fault (option_map (λ (fault : Fault). record fault { taker = taker }) o) ≡ option_map (λ (fault : Fault). record fault { taker = option_map (seen_peer see out) taker }) (and_then (seeing see).fault o)
+      and_then (seeing see).fault (option_map (λ (fault : Fault). record fault { taker = taker }) o) ≡ option_map
+      (λ (fault : Fault). record fault { taker = option_map (seen_peer see out) taker }) (and_then (seeing see).fault o)
   taker_set out taker None near = refl
   taker_set out taker (Some fault) near = ap (λ (out : Bool). Some (record fault { port = see fault.port; taker = option_map (seen_peer see out) taker })) near
 
@@ -123,23 +128,29 @@ module _ (see : Ptr → Ptr) where
   edited-seen out (PassTurn turn) (Thread_of t) near =
       let talk = counted (λ (talk : Talk). record talk { turn = turn; moved = 0 }) (λ talk. refl) t.talk in
       ap (λ (o : Option Talk). Thread_of (record t { talk = o; fault = and_then (seeing see).fault t.fault })) talk
-  edited-seen out (SetPeer peer) (Thread_of t) near = ap (λ (o : Option Talk). Thread_of (record t { talk = o; fault = and_then (seeing see).fault t.fault })) (peer_set out peer t.talk near)
-  edited-seen out (SetTaker taker) (Thread_of t) near = ap (λ (o : Option Fault). Thread_of (record t { talk = and_then (seeing see).talk t.talk; fault = o })) (taker_set out taker t.fault near)
+  edited-seen out (SetPeer peer) (Thread_of t) near =
+      ap (λ (o : Option Talk). Thread_of (record t { talk = o; fault = and_then (seeing see).fault t.fault })) (peer_set out peer t.talk near)
+  edited-seen out (SetTaker taker) (Thread_of t) near =
+      ap (λ (o : Option Fault). Thread_of (record t { talk = and_then (seeing see).talk t.talk; fault = o })) (taker_set out taker t.fault near)
   edited-seen out edit (Thread_of t) near = refl
   edited-seen out edit b near = refl
 
   -- ---- an object stays such as a likeness has
 
   module _ (P : Ptr → Type 0) where
-    talk_kept : (f : Talk → Talk) → ((talk : Talk) → AllInTalk see P talk → AllInTalk see P (f talk)) → (o : Option Talk) → IfSome o (AllInTalk see P) → IfSome (option_map f o) (AllInTalk see P)
+    talk_kept : (f : Talk → Talk) → ((talk : Talk) → AllInTalk see P talk → AllInTalk see P (f talk)) →
+        (o : Option Talk) → IfSome o (AllInTalk see P) → IfSome (option_map f o) (AllInTalk see P)
     talk_kept f keeps None h = tt
     talk_kept f keeps (Some talk) h = keeps talk h
 
-    peer_kept : (out : Bool) (peer : Peer) (o : Option Talk) → IfSome o (λ talk. is_out (see talk.port) ≡ out) → IfServer out peer P → IfSome o (AllInTalk see P) → IfSome (option_map (λ (talk : Talk). record talk { peer = peer }) o) (AllInTalk see P)
+    peer_kept : (out : Bool) (peer : Peer) (o : Option Talk) → IfSome o (λ talk. is_out (see talk.port) ≡ out) →
+        IfServer out peer P → IfSome o (AllInTalk see P) → IfSome (option_map (λ (talk : Talk). record talk { peer = peer }) o) (AllInTalk see P)
     peer_kept out peer None near good h = tt
     peer_kept out peer (Some talk) near good h = (h.0, rw near good)
 
-    taker_kept : (out : Bool) (taker : Option Peer) (o : Option Fault) → IfSome o (λ fault. is_out (see fault.port) ≡ out) → IfSome taker (λ taker. IfServer out taker P) → IfSome o (AllInFault see P) → IfSome (option_map (λ (fault : Fault). record fault { taker = taker }) o) (AllInFault see P)
+    taker_kept : (out : Bool) (taker : Option Peer) (o : Option Fault) →
+        IfSome o (λ fault. is_out (see fault.port) ≡ out) → IfSome taker (λ taker. IfServer out taker P) →
+        IfSome o (AllInFault see P) → IfSome (option_map (λ (fault : Fault). record fault { taker = taker }) o) (AllInFault see P)
     taker_kept out taker None near good h = tt
     taker_kept out taker (Some fault) near good h = (h.0, rw near good)
 
@@ -173,10 +184,14 @@ module _ (see : Ptr → Ptr) where
     edited-kept out (Proceed mode counter) (Thread_of t) near good h = (h.0, h.1, good)
     edited-kept out (Shift count) (Thread_of t) near good h = (h.0, h.1, shifted-users count t.mode h.2)
     edited-kept out (Replace stage) (Thread_of t) near good h = (h.0, h.1, replaced-users stage t.mode h.2)
-    edited-kept out (Finish answers) (Thread_of t) near good h = (rw (finished-talk answers t t.mode).0 h.0, rw (finished-talk answers t t.mode).1 h.1, finished-users answers t t.mode h.2)
-    edited-kept out (End status answers) (Thread_of t) near good h = (rw (ended-talk status answers t t.mode).0 h.0, rw (ended-talk status answers t t.mode).1 h.1, ended-users status answers t t.mode h.2)
-    edited-kept out (CountMoved count) (Thread_of t) near good h = (talk_kept (λ (talk : Talk). record talk { moved = min MOST_MOVED (talk.moved + count) }) (λ talk h. h) t.talk h.0, h.1, h.2)
-    edited-kept out (PassTurn turn) (Thread_of t) near good h = (talk_kept (λ (talk : Talk). record talk { turn = turn; moved = 0 }) (λ talk h. h) t.talk h.0, h.1, h.2)
+    edited-kept out (Finish answers) (Thread_of t) near good h =
+        (rw (finished-talk answers t t.mode).0 h.0, rw (finished-talk answers t t.mode).1 h.1, finished-users answers t t.mode h.2)
+    edited-kept out (End status answers) (Thread_of t) near good h =
+        (rw (ended-talk status answers t t.mode).0 h.0, rw (ended-talk status answers t t.mode).1 h.1, ended-users status answers t t.mode h.2)
+    edited-kept out (CountMoved count) (Thread_of t) near good h =
+        (talk_kept (λ (talk : Talk). record talk { moved = min MOST_MOVED (talk.moved + count) }) (λ talk h. h) t.talk h.0, h.1, h.2)
+    edited-kept out (PassTurn turn) (Thread_of t) near good h =
+        (talk_kept (λ (talk : Talk). record talk { turn = turn; moved = 0 }) (λ talk h. h) t.talk h.0, h.1, h.2)
     edited-kept out (SetTalk talk) (Thread_of t) near good h = (good, h.1, h.2)
     edited-kept out (SetPeer peer) (Thread_of t) near good h = (peer_kept out peer t.talk near good h.0, h.1, h.2)
     edited-kept out (SetFault fault) (Thread_of t) near good h = (h.0, good, h.2)

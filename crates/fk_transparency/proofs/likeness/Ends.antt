@@ -31,12 +31,14 @@ outer-outside root x outer = by (strip root x) refl
   where
     by : (o : Option Path) → strip root x ≡ o → is_some o ≡ false
     by None e = refl
-    by (Some q) e = let here = strip_some root x q e in let off = outer q in let on = same_path_refl (q ++ root) in let there : same_path (q ++ root) (q ++ root) ≡ false = rw here at off in cc
+    by (Some q) e = let here = strip_some root x q e in
+        let off = outer q in let on = same_path_refl (q ++ root) in let there : same_path (q ++ root) (q ++ root) ≡ false = rw here at off in cc
 
 module _ {root : Path} {see : Ptr → Ptr} {small big : World} (like : IsLikeness root see small big) where
   -- ---- the ends of talks
 
-  talking-like : (side : Turn) (a b : Option (Path × Thread)) (now : World) → AlikeOptions (EndLikeness root see big) a b → LikeChanges root see now (end_all (if_talking side a)) (end_all (if_talking side b))
+  talking-like : (side : Turn) (a b : Option (Path × Thread)) (now : World) →
+      AlikeOptions (EndLikeness root see big) a b → LikeChanges root see now (end_all (if_talking side a)) (end_all (if_talking side b))
   talking-like side None None now h = Empty
   talking-like side (Some e) (Some f) now h = by e f h
     where
@@ -44,15 +46,18 @@ module _ {root : Path} {see : Ptr → Ptr} {small big : World} (like : IsLikenes
       if_on k q true = Both (Alters k q _ _ refl tt) Empty
       if_on k q false = Empty
 
-      by : (e f : Path × Thread) → EndLikeness root see big e f → LikeChanges root see now (end_all (if_talking side (Some e))) (end_all (if_talking side (Some f)))
+      by : (e f : Path × Thread) →
+          EndLikeness root see big e f → LikeChanges root see now (end_all (if_talking side (Some e))) (end_all (if_talking side (Some f)))
       by _ _ (Ends k q t is near) = if_on k q (is_talking side t.mode)
   talking-like side None (Some f) now h = absurd h
   talking-like side (Some e) None now h = absurd h
 
-  pub talking_end-like : (side : Turn) (p seen : Ptr) (now : World) → PtrLikeness root big p seen → LikeChanges root see now (end_all (talking_end small side seen)) (end_all (talking_end big side p))
+  pub talking_end-like : (side : Turn) (p seen : Ptr) (now : World) →
+      PtrLikeness root big p seen → LikeChanges root see now (end_all (talking_end small side seen)) (end_all (talking_end big side p))
   talking_end-like side p seen now h = talking-like side (thread_led_to small seen) (thread_led_to big p) now (thread_at-like like p seen h)
 
-  pub outsider : (side : Turn) (x : Path) (now : World) (o : Option Thread) → is_within root x ≡ false → LikeChanges root see now [] (end_all (if_talking side (and_then (λ (t : Thread). Some (x, t)) o)))
+  pub outsider : (side : Turn) (x : Path) (now : World) (o : Option Thread) →
+      is_within root x ≡ false → LikeChanges root see now [] (end_all (if_talking side (and_then (λ (t : Thread). Some (x, t)) o)))
   outsider side x now None out = Empty
   outsider side x now (Some t) out = by (is_talking side t.mode)
     where
@@ -66,15 +71,18 @@ module _ {root : Path} {see : Ptr → Ptr} {small big : World} (like : IsLikenes
   outsider_end now Service outer = Empty
   outsider_end now Parked outer = Empty
 
-  pub served_end-like : (peer seen : Peer) (now : World) → PeerLikeness root see big peer seen → LikeChanges root see now (end_all (served_end small seen)) (end_all (served_end big peer))
+  pub served_end-like : (peer seen : Peer) (now : World) →
+      PeerLikeness root see big peer seen → LikeChanges root see now (end_all (served_end small seen)) (end_all (served_end big peer))
   served_end-like _ _ now (Outsiders peer outer) = outsider_end now peer outer
   served_end-like _ _ now (Servers thread h) = talking_end-like turns.Server thread (see thread) now h
   served_end-like _ _ now Services = Empty
   served_end-like _ _ now Waiters = Empty
 
-  pub ends_beyond-like : (side : Turn) (near far : Line) (now : World) → LineLikeness root see big near far → LikeChanges root see now (end_all (ends_beyond small side near)) (end_all (ends_beyond big side far))
+  pub ends_beyond-like : (side : Turn) (near far : Line) (now : World) →
+      LineLikeness root see big near far → LikeChanges root see now (end_all (ends_beyond small side near)) (end_all (ends_beyond big side far))
   ends_beyond-like turns.Client _ _ now (Lines k q talk other seen is h peer) = served_end-like other seen now peer
-  ends_beyond-like turns.Server _ _ now (Lines k q talk other seen is h peer) = talking_end-like turns.Client (At (k ∷ (q ++ root))) (At (k ∷ q)) now (Inside (k ∷ q))
+  ends_beyond-like turns.Server _ _ now (Lines k q talk other seen is h peer) =
+      talking_end-like turns.Client (At (k ∷ (q ++ root))) (At (k ∷ q)) now (Inside (k ∷ q))
 
   -- ---- sleepers
 
@@ -83,9 +91,11 @@ module _ {root : Path} {see : Ptr → Ptr} {small big : World} (like : IsLikenes
   woken-like k q now (Some m) = Both (Alters k q _ _ refl tt) Empty
 
   sleepers_in : (space : Path) (slot : ℕ) (ks : List ℕ) (now : World) →
-      LikeChanges root see now (flat_map (λ k. woken (k ∷ space) (asleep_on slot (small.body (k ∷ space)))) ks) (flat_map (λ k. woken (k ∷ (space ++ root)) (asleep_on slot (big.body (k ∷ (space ++ root))))) ks)
+      LikeChanges root see now (flat_map (λ k. woken (k ∷ space) (asleep_on slot (small.body (k ∷ space)))) ks)
+      (flat_map (λ k. woken (k ∷ (space ++ root)) (asleep_on slot (big.body (k ∷ (space ++ root))))) ks)
   sleepers_in space slot [] now = Empty
-  sleepers_in space slot (k ∷ ks) now = append-like (rw (asleep_on-like like slot k space) (woken-like k space now (asleep_on slot (big.body (k ∷ (space ++ root)))))) (sleepers_in space slot ks _)
+  sleepers_in space slot (k ∷ ks) now = append-like
+      (rw (asleep_on-like like slot k space) (woken-like k space now (asleep_on slot (big.body (k ∷ (space ++ root)))))) (sleepers_in space slot ks _)
 
   pub sleepers-like : (space : Path) (slot : ℕ) (now : World) → LikeChanges root see now (sleepers small space slot) (sleepers big (space ++ root) slot)
   unfolding sleepers

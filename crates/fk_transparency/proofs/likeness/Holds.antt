@@ -63,20 +63,23 @@ module _ {root : Path} {see : Ptr → Ptr} {small big : World} (like : IsLikenes
   unfolding seen_by
   holder_of-like k q = rw (like.bodies (k ∷ q)) (by (big.body (k ∷ (q ++ root))) (like.plain k q))
     where
-      by : (v : Option Body) → IfSome v (IsPlainBody see (HasLikeness root see big)) → AlikeOptions (IsSeenAs root see big) (holder_of (option_map (λ b. unheld (k ∷ q) (seen_by (seeing see) b)) v)) (holder_of v)
+      by : (v : Option Body) → IfSome v (IsPlainBody see (HasLikeness root see big)) →
+          AlikeOptions (IsSeenAs root see big) (holder_of (option_map (λ b. unheld (k ∷ q) (seen_by (seeing see) b)) v)) (holder_of v)
       by (Some (Space birth (Some holder))) h = (refl, h)
       by (Some (Space birth None)) h = tt
       by (Some b) h = tt
       by None h = tt
 
   pub is_held_by_other-like : (me : Path) (k : ℕ) (q : Path) → is_held_by_other small me (k ∷ q) ≡ is_held_by_other big (me ++ root) (k ∷ (q ++ root))
-  is_held_by_other-like me k q = alike-holds (IsSeenAs root see big) (holder_of (small.body (k ∷ q))) (holder_of (big.body (k ∷ (q ++ root)))) _ _ (holder_of-like k q) (seen_leads_past me)
+  is_held_by_other-like me k q = alike-holds (IsSeenAs root see big)
+      (holder_of (small.body (k ∷ q))) (holder_of (big.body (k ∷ (q ++ root)))) _ _ (holder_of-like k q) (seen_leads_past me)
 
   module _ (free : is_frozen big root ≡ false) where
     pub decider-like : (q : Path) → AlikeOptions (IsSeenAs root see big) (decider small q) (decider big (q ++ root))
     unfolding decider
     decider-like [] = rw (none-unfrozen big root free, root_seen like) tt
-    decider-like (k ∷ q) = alike_or_else (IsSeenAs root see big) (decider small q) (holder_of (small.body (k ∷ q))) (decider big (q ++ root)) (holder_of (big.body (k ∷ (q ++ root)))) (decider-like q) (holder_of-like k q)
+    decider-like (k ∷ q) = alike_or_else (IsSeenAs root see big) (decider small q)
+        (holder_of (small.body (k ∷ q))) (decider big (q ++ root)) (holder_of (big.body (k ∷ (q ++ root)))) (decider-like q) (holder_of-like k q)
 
     pub is_frozen-like : (q : Path) → is_frozen small q ≡ is_frozen big (q ++ root)
     is_frozen-like q = alike-is_some (IsSeenAs root see big) (decider small q) (decider big (q ++ root)) (decider-like q)
@@ -88,7 +91,8 @@ module _ {root : Path} {see : Ptr → Ptr} {small big : World} (like : IsLikenes
     is_decided_by-like me q = alike-holds (IsSeenAs root see big) (decider small q) (decider big (q ++ root)) _ _ (decider-like q) (seen_leads_to me)
 
     -- a port outside may be frozen, and isn't seen to be
-    pub leads_to_frozen-like : (me : Path) (p seen : Ptr) → PtrLikeness root big p seen → leads_to_frozen big (me ++ root) p ≡ false → leads_to_frozen small me seen ≡ false
+    pub leads_to_frozen-like : (me : Path) (p seen : Ptr) →
+        PtrLikeness root big p seen → leads_to_frozen big (me ++ root) p ≡ false → leads_to_frozen small me seen ≡ false
     leads_to_frozen-like me _ _ Nulls h = refl
     leads_to_frozen-like me _ _ Deads h = refl
     leads_to_frozen-like me _ _ (Inside x) h = is_frozen_for-like me x ∙ h

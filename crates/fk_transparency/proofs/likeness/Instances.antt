@@ -35,10 +35,12 @@ port_kind (Some (Thread_of t)) h = cc
 port_kind (Some (Reference to)) h = cc
 port_kind None h = cc
 
-ports_port : (w : World) (nester : Path) (slot i : ℕ) → ports_of w nester slot i ≡ true → and_then (λ b. Some (kind_of b)) (w.body (i ∷ nester)) ≡ Some kinds.Port
+ports_port : (w : World) (nester : Path) (slot i : ℕ) →
+    ports_of w nester slot i ≡ true → and_then (λ b. Some (kind_of b)) (w.body (i ∷ nester)) ≡ Some kinds.Port
 ports_port w nester slot i h = port_kind (w.body (i ∷ nester)) (and_parts (not (eqb i slot)) _ h).1
 
-cut_ptr-like : (w : World) (nester : Path) (slot : ℕ) (p : Ptr) → is_far (cut_ptr (ports_of w nester slot) nester slot p) ≡ false → PtrLikeness (slot ∷ nester) w p (cut_ptr (ports_of w nester slot) nester slot p)
+cut_ptr-like : (w : World) (nester : Path) (slot : ℕ) (p : Ptr) →
+    is_far (cut_ptr (ports_of w nester slot) nester slot p) ≡ false → PtrLikeness (slot ∷ nester) w p (cut_ptr (ports_of w nester slot) nester slot p)
 cut_ptr-like w nester slot Null near = Nulls
 cut_ptr-like w nester slot Dead near = Deads
 cut_ptr-like w nester slot (Out i) near = cc
@@ -53,14 +55,16 @@ cut_ptr-like w nester slot (At x) near = by (strip (slot ∷ nester) x) refl nea
     out [] apart far = cc
     out (i ∷ y) apart far = at (same_path y nester && ports i) refl far
       where
-        at : (b : Bool) → (same_path y nester && ports i) ≡ b → is_far (cond b (Out i) Far) ≡ false → PtrLikeness (slot ∷ nester) w (At (i ∷ y)) (cond b (Out i) Far)
+        at : (b : Bool) →
+            (same_path y nester && ports i) ≡ b → is_far (cond b (Out i) Far) ≡ false → PtrLikeness (slot ∷ nester) w (At (i ∷ y)) (cond b (Out i) Far)
         at false e far = cc
         at true e far =
             let both = and_parts (same_path y nester) (ports i) e in
             let same = same_path_eq y nester both.0 in
             PortAt (i ∷ y) i (ap is_some apart) (rw same (ports_port w nester slot i both.1))
 
-    by : (o : Option Path) → strip (slot ∷ nester) x ≡ o → is_far (cut_to ports nester x o) ≡ false → PtrLikeness (slot ∷ nester) w (At x) (cut_to ports nester x o)
+    by : (o : Option Path) →
+        strip (slot ∷ nester) x ≡ o → is_far (cut_to ports nester x o) ≡ false → PtrLikeness (slot ∷ nester) w (At x) (cut_to ports nester x o)
     by (Some q) e far = rw (strip_some (slot ∷ nester) x q e) (Inside q)
     by None e far = out x e far
 
@@ -86,7 +90,8 @@ module _ (w : World) (nester : Path) (slot : ℕ) where
       let both = or_off (is_far (see talk.port)) _ near in
       (cut_ptr-like w nester slot talk.port both.0, near_peer (is_out (see talk.port)) talk.peer both.1)
 
-  near_taker : (out : Bool) (o : Option Peer) → list_any is_far (option_list peer_pointer (option_map (seen_peer see out) o)) ≡ false → IfSome o (λ taker. IfServer out taker Seen)
+  near_taker : (out : Bool) (o : Option Peer) →
+      list_any is_far (option_list peer_pointer (option_map (seen_peer see out) o)) ≡ false → IfSome o (λ taker. IfServer out taker Seen)
   near_taker out None near = tt
   near_taker out (Some taker) near = near_peer out taker near
 
@@ -96,7 +101,8 @@ module _ (w : World) (nester : Path) (slot : ℕ) where
       let both = or_off (is_far (see fault.port)) _ near in
       (cut_ptr-like w nester slot fault.port both.0, near_taker (is_out (see fault.port)) fault.taker both.1)
 
-  near_body : (v : Option Body) → has_far (option_map (λ b. seen_by (seeing see) b) v) ≡ false → holds is_native v ≡ false → holds is_served v ≡ false → IfSome v (IsPlainBody see Seen)
+  near_body : (v : Option Body) →
+      has_far (option_map (λ b. seen_by (seeing see) b) v) ≡ false → holds is_native v ≡ false → holds is_served v ≡ false → IfSome v (IsPlainBody see Seen)
   unfolding seen_by
   near_body None near users unserved = tt
   near_body (Some (Mapping m)) near users unserved = near_ptr m.region near
@@ -105,7 +111,8 @@ module _ (w : World) (nester : Path) (slot : ℕ) where
   near_body (Some (Space birth None)) near users unserved = tt
   near_body (Some (Space birth (Some holder))) near users unserved = near_ptr holder near
   near_body (Some (Thread_of t)) near users unserved =
-      let both = or_off _ _ (sym (list_any-append is_far (option_list talk_pointers (and_then (seeing see).talk t.talk)) (option_list fault_pointers (and_then (seeing see).fault t.fault))) ∙ near) in
+      let both = or_off _ _ (sym (list_any-append is_far
+      (option_list talk_pointers (and_then (seeing see).talk t.talk)) (option_list fault_pointers (and_then (seeing see).fault t.fault))) ∙ near) in
       (near_talk t.talk both.0, near_fault t.fault both.1, users)
   near_body (Some (Reference to)) near users unserved = near_ptr to near
   near_body (Some b) near users unserved = tt
@@ -145,11 +152,13 @@ module _ (bind : ℕ → ℕ) (see : Ptr → Ptr) where
 
   talk_anew : (o : Option Talk) → and_then (rebinding bind).talk (and_then (seeing see).talk o) ≡ and_then (seeing anew).talk o
   talk_anew None = refl
-  talk_anew (Some talk) = rw (rebound-is_out bind (see talk.port)) (ap (λ (peer : Peer). Some (record talk { port = anew talk.port; peer = peer })) (peer_anew (is_out (see talk.port)) talk.peer))
+  talk_anew (Some talk) = rw (rebound-is_out bind (see talk.port))
+      (ap (λ (peer : Peer). Some (record talk { port = anew talk.port; peer = peer })) (peer_anew (is_out (see talk.port)) talk.peer))
 
   fault_anew : (o : Option Fault) → and_then (rebinding bind).fault (and_then (seeing see).fault o) ≡ and_then (seeing anew).fault o
   fault_anew None = refl
-  fault_anew (Some fault) = rw (rebound-is_out bind (see fault.port)) (ap (λ (taker : Option Peer). Some (record fault { port = anew fault.port; taker = taker })) (taker_anew (is_out (see fault.port)) fault.taker))
+  fault_anew (Some fault) = rw (rebound-is_out bind (see fault.port))
+      (ap (λ (taker : Option Peer). Some (record fault { port = anew fault.port; taker = taker })) (taker_anew (is_out (see fault.port)) fault.taker))
 
   body_anew : (q : Path) (b : Body) → through (rebinding bind) q (unheld q (seen_by (seeing see) b)) ≡ unheld q (seen_by (seeing anew) b)
   unfolding seen_by
@@ -161,10 +170,12 @@ module _ (bind : ℕ → ℕ) (see : Ptr → Ptr) where
   body_anew (k ∷ q) (Port (Some set) served) = refl
   body_anew (k ∷ q) (Space birth None) = refl
   body_anew (k ∷ q) (Space birth (Some holder)) = refl
-  body_anew (k ∷ q) (Thread_of t) = let talk = talk_anew t.talk in let fault = fault_anew t.fault in λ i. Thread_of (record t { talk = talk i; fault = fault i })
+  body_anew (k ∷ q) (Thread_of t) = let talk = talk_anew t.talk in
+      let fault = fault_anew t.fault in λ i. Thread_of (record t { talk = talk i; fault = fault i })
   body_anew (k ∷ q) b = refl
 
-  there_anew : (q : Path) (v : Option Body) → option_map (through (rebinding bind) q) (option_map (λ b. unheld q (seen_by (seeing see) b)) v) ≡ option_map (λ b. unheld q (seen_by (seeing anew) b)) v
+  there_anew : (q : Path) (v : Option Body) →
+      option_map (through (rebinding bind) q) (option_map (λ b. unheld q (seen_by (seeing see) b)) v) ≡ option_map (λ b. unheld q (seen_by (seeing anew) b)) v
   there_anew q None = refl
   there_anew q (Some b) = ap Some (body_anew q b)
 
@@ -182,7 +193,8 @@ module _ (bind : ℕ → ℕ) (see : Ptr → Ptr) where
     pages = like.pages;
     unborn = like.unborn;
     top = like.top;
-    plain = λ k q. all_in_body see anew (λ p. rebound-is_out bind (see p)) (HasLikeness root see big) (HasLikeness root anew big) (λ p h. ptr_anew root big p (see p) h) (big.body (k ∷ (q ++ root))) (like.plain k q);
+    plain = λ k q. all_in_body see anew (λ p. rebound-is_out bind (see p))
+        (HasLikeness root see big) (HasLikeness root anew big) (λ p h. ptr_anew root big p (see p) h) (big.body (k ∷ (q ++ root))) (like.plain k q);
     within = λ x. rw (like.within x) refl;
     null = rw like.null refl;
     dead = rw like.dead refl;
@@ -213,7 +225,8 @@ module _ (see : Ptr → Ptr) where
 
   fault_again : (o : Option Fault) → and_then (seeing same).fault (and_then (seeing see).fault o) ≡ and_then (seeing see).fault o
   fault_again None = refl
-  fault_again (Some fault) = ap (λ (taker : Option Peer). Some (record fault { port = see fault.port; taker = taker })) (taker_again (is_out (see fault.port)) fault.taker)
+  fault_again (Some fault) =
+      ap (λ (taker : Option Peer). Some (record fault { port = see fault.port; taker = taker })) (taker_again (is_out (see fault.port)) fault.taker)
 
   body_again : (q : Path) (b : Body) → unheld q (seen_by (seeing same) (unheld q (seen_by (seeing see) b))) ≡ unheld q (seen_by (seeing see) b)
   unfolding seen_by
@@ -225,10 +238,12 @@ module _ (see : Ptr → Ptr) where
   body_again (k ∷ q) (Port (Some set) served) = refl
   body_again (k ∷ q) (Space birth None) = refl
   body_again (k ∷ q) (Space birth (Some holder)) = refl
-  body_again (k ∷ q) (Thread_of t) = let talk = talk_again t.talk in let fault = fault_again t.fault in λ i. Thread_of (record t { talk = talk i; fault = fault i })
+  body_again (k ∷ q) (Thread_of t) = let talk = talk_again t.talk in
+      let fault = fault_again t.fault in λ i. Thread_of (record t { talk = talk i; fault = fault i })
   body_again (k ∷ q) b = refl
 
-  there_again : (q : Path) (v : Option Body) → option_map (λ b. unheld q (seen_by (seeing see) b)) v ≡ option_map (λ b. unheld q (seen_by (seeing same) b)) (option_map (λ b. unheld q (seen_by (seeing see) b)) v)
+  there_again : (q : Path) (v : Option Body) → option_map (λ b. unheld q (seen_by (seeing see) b))
+      v ≡ option_map (λ b. unheld q (seen_by (seeing same) b)) (option_map (λ b. unheld q (seen_by (seeing see) b)) v)
   there_again q None = refl
   there_again q (Some b) = ap Some (sym (body_again q b))
 
@@ -243,7 +258,8 @@ module _ (see : Ptr → Ptr) where
     all_seen_talk None h = tt
     all_seen_talk (Some talk) h = (more talk.port h.0, all_seen_peer (is_out (see talk.port)) talk.peer h.1)
 
-    all_seen_taker : (out : Bool) (o : Option Peer) → IfSome o (λ taker. IfServer out taker P) → IfSome (option_map (seen_peer see out) o) (λ taker. IfServer out taker Q)
+    all_seen_taker : (out : Bool) (o : Option Peer) →
+        IfSome o (λ taker. IfServer out taker P) → IfSome (option_map (seen_peer see out) o) (λ taker. IfServer out taker Q)
     all_seen_taker out None h = tt
     all_seen_taker out (Some taker) h = all_seen_peer out taker h
 
@@ -251,7 +267,8 @@ module _ (see : Ptr → Ptr) where
     all_seen_fault None h = tt
     all_seen_fault (Some fault) h = (more fault.port h.0, all_seen_taker (is_out (see fault.port)) fault.taker h.1)
 
-    all_seen_body : (k : ℕ) (q : Path) (v : Option Body) → IfSome v (IsPlainBody see P) → IfSome (option_map (λ b. unheld (k ∷ q) (seen_by (seeing see) b)) v) (IsPlainBody same Q)
+    all_seen_body : (k : ℕ) (q : Path) (v : Option Body) →
+        IfSome v (IsPlainBody see P) → IfSome (option_map (λ b. unheld (k ∷ q) (seen_by (seeing see) b)) v) (IsPlainBody same Q)
     unfolding seen_by
     all_seen_body k q (Some (Mapping m)) h = more m.region h
     all_seen_body k q (Some (Region r)) h = more r.keeper h
@@ -283,7 +300,8 @@ like-cut_world {root} {see} {small} {big} like = record {
   pages = λ q page. rw (append-nil q) refl;
   unborn = like.unborn;
   top = rw (like.bodies []) (kind-seen see (big.body root) ∙ like.top);
-  plain = λ k q. rw (append-nil q) (rw (like.bodies (k ∷ q)) (all_seen_body see (HasLikeness root see big) (HasLikeness [] same small) (λ p h. ptr_again root small big p (see p) h) k q (big.body (k ∷ (q ++ root))) (like.plain k q)));
+  plain = λ k q. rw (append-nil q) (rw (like.bodies (k ∷ q)) (all_seen_body see
+      (HasLikeness root see big) (HasLikeness [] same small) (λ p h. ptr_again root small big p (see p) h) k q (big.body (k ∷ (q ++ root))) (like.plain k q)));
   within = λ x. ap (λ (y : Path). At y) (append-nil x);
   null = refl;
   dead = refl;

@@ -45,7 +45,8 @@ use Rattle.fk_transparency.proofs.likeness.Outcomes.{bind-like, bind_any, bind_s
 abbrev fresh_thread : Thread
 fresh_thread = record { mode = Running (replicate 16 0); counter = 0; stops = 1; talk = None; fault = None }
 
-same_when : {root : Path} {see : Ptr → Ptr} {small big : World} (like : IsLikeness root see small big) (a b : Bool) (near far : Outcome) → a ≡ b → IsLikeOutcome root see big near far → IsLikeOutcome root see big (when a near) (when b far)
+same_when : {root : Path} {see : Ptr → Ptr} {small big : World} (like : IsLikeness root see small big) (a b : Bool) (near far : Outcome) →
+    a ≡ b → IsLikeOutcome root see big near far → IsLikeOutcome root see big (when a near) (when b far)
 same_when like a b near far e h = rw e (when-like like b near far h)
 
 module _ {root : Path} {see : Ptr → Ptr} {small big : World} (like : IsLikeness root see small big) where
@@ -60,8 +61,10 @@ module _ {root : Path} {see : Ptr → Ptr} {small big : World} (like : IsLikenes
 
   -- ---- a record
 
-  shows-like : (c : Caller) (b : Body) (address : ℕ) (s : Path) (page : ℕ) → Alike (shows small c (seen_by (seeing see) b) address s page) (shows big (under root c) b address (s ++ root) page)
-  shows-like c b address s page = rw (words_at-like like s page, record-seen see b) (done-like like c _ _ [] (Both (PutsPage s page (overwritten (words_at big (s ++ root) page) (address % PAGE_WORDS) (record_of b))) Empty))
+  shows-like : (c : Caller) (b : Body) (address : ℕ) (s : Path) (page : ℕ) →
+      Alike (shows small c (seen_by (seeing see) b) address s page) (shows big (under root c) b address (s ++ root) page)
+  shows-like c b address s page = rw (words_at-like like s page, record-seen see b)
+      (done-like like c _ _ [] (Both (PutsPage s page (overwritten (words_at big (s ++ root) page) (address % PAGE_WORDS) (record_of b))) Empty))
 
   pub get_state-like : (c : Caller) (s x address : ℕ) → Alike (get_state small c s x address) (get_state big (under root c) s x address)
   unfolding get_state
@@ -71,7 +74,8 @@ module _ {root : Path} {see : Ptr → Ptr} {small big : World} (like : IsLikenes
       (λ b near. refuse-like like status.BADADDRESS (is_bad_record_address c address) (is_bad_record_address c address) _ _ refl
       (λ good. by b c.is_porter)))
     where
-      by : (b : Body) (porter : Bool) → Alike (cond porter (done c [] (record_of (seen_by (seeing see) b))) (own_page small c address true (shows small c (seen_by (seeing see) b) address)))
+      by : (b : Body) (porter : Bool) →
+          Alike (cond porter (done c [] (record_of (seen_by (seeing see) b))) (own_page small c address true (shows small c (seen_by (seeing see) b) address)))
           (cond porter (done (under root c) [] (record_of b)) (own_page big (under root c) address true (shows big (under root c) b address)))
       by b true = rw (record-seen see b) (done-like like c [] [] (record_of b) Empty)
       by b false = own_page-like like c address true _ _ (shows-like c b address)
@@ -82,26 +86,33 @@ module _ {root : Path} {see : Ptr → Ptr} {small big : World} (like : IsLikenes
   holds_on _ _ (Ends k q t is near) = refl
 
   has_porter-like : (k : ℕ) (q : Path) → has_porter small (k ∷ q) ≡ has_porter big (k ∷ (q ++ root))
-  has_porter-like k q = alike-holds (IsSeenAs root see big) (holder_of (small.body (k ∷ q))) (holder_of (big.body (k ∷ (q ++ root)))) _ _ (holder_of-like like k q)
-      (λ seen p h. alike-holds (EndLikeness root see big) (thread_led_to small seen) (thread_led_to big p) _ _ (rw h.0 (thread_at-like like p (see p) h.1)) holds_on)
+  has_porter-like k q =
+      alike-holds (IsSeenAs root see big) (holder_of (small.body (k ∷ q))) (holder_of (big.body (k ∷ (q ++ root)))) _ _ (holder_of-like like k q)
+      (λ seen p h.
+      alike-holds (EndLikeness root see big) (thread_led_to small seen) (thread_led_to big p) _ _ (rw h.0 (thread_at-like like p (see p) h.1)) holds_on)
 
   pub space_hold-like : is_frozen big root ≡ false → (c : Caller) (s x : ℕ) → Alike (space_hold small c s x) (space_hold big (under root c) s x)
   unfolding space_hold
   space_hold-like free c s x =
       bind_path like _ _ _ _ (place-like like c s)
-      (λ space. bind_any like (IsSeenHolder root see big) (object_in small c space_of space x) (object_in big (under root c) space_of (space ++ root) x) _ _ (space_in-like like c space x)
-      (λ near far. refuse-like like status.HELD (is_frozen_for small (path_of c) space) (is_frozen_for big (path_of (under root c)) (space ++ root)) _ _ (is_frozen_for-like like free (c.slot ∷ c.space) space)
-      (λ unheld. refuse-like like status.DENIED (is_within (x ∷ space) c.space) (is_within (x ∷ (space ++ root)) (c.space ++ root)) _ _ (sym (is_within_inside root (x ∷ space) c.space))
+      (λ space. bind_any like (IsSeenHolder root see big)
+      (object_in small c space_of space x) (object_in big (under root c) space_of (space ++ root) x) _ _ (space_in-like like c space x)
+      (λ near far. refuse-like like status.HELD (is_frozen_for small (path_of c) space)
+      (is_frozen_for big (path_of (under root c)) (space ++ root)) _ _ (is_frozen_for-like like free (c.slot ∷ c.space) space)
+      (λ unheld. refuse-like like status.DENIED
+      (is_within (x ∷ space) c.space) (is_within (x ∷ (space ++ root)) (c.space ++ root)) _ _ (sym (is_within_inside root (x ∷ space) c.space))
       (λ apart. same_when like
       (not (is_held_by_other small (path_of c) (x ∷ space)) && not (list_any (has_porter small) (beneath small (x ∷ space))))
       (not (is_held_by_other big (path_of (under root c)) (x ∷ (space ++ root))) && not (list_any (has_porter big) (beneath big (x ∷ (space ++ root))))) _ _
       (rw (is_held_by_other-like like (c.slot ∷ c.space) x space, any_beneath-like like (has_porter small) (has_porter big) has_porter-like (x ∷ space)) refl)
       (done-like like c _ _ []
-      (Both (Alters x space _ (SetHolder (Some (At (c.slot ∷ (c.space ++ root))))) (ap (λ (p : Ptr). SetHolder (Some p)) (sym (like.within (c.slot ∷ c.space)))) (rw (like.within (c.slot ∷ c.space)) (Inside (c.slot ∷ c.space)))) Empty))))))
+      (Both (Alters x space _ (SetHolder (Some (At (c.slot ∷ (c.space ++ root))))) (ap (λ (p : Ptr). SetHolder (Some p)) (sym (like.within (c.slot ∷ c.space))))
+      (rw (like.within (c.slot ∷ c.space)) (Inside (c.slot ∷ c.space)))) Empty))))))
 
   -- ---- a reference
 
-  pointer_seen : (space : Path) (x : ℕ) (b : Body) → IsPlainBody see (HasLikeness root see big) b → AlikeOptions (IsSeenAs root see big) (pointer_to (x ∷ space) (seen_by (seeing see) b)) (pointer_to (x ∷ (space ++ root)) b)
+  pointer_seen : (space : Path) (x : ℕ) (b : Body) → IsPlainBody see (HasLikeness root see big) b →
+      AlikeOptions (IsSeenAs root see big) (pointer_to (x ∷ space) (seen_by (seeing see) b)) (pointer_to (x ∷ (space ++ root)) b)
   unfolding seen_by
   pointer_seen space x (Reference to) h = (refl, h)
   pointer_seen space x (Mutex locked) h = tt
@@ -117,15 +128,19 @@ module _ {root : Path} {see : Ptr → Ptr} {small big : World} (like : IsLikenes
   unfolding point
   point-like free c s x s2 x2 =
       bind_path like _ _ _ _ (place-like like c s)
-      (λ space. bind_any like (IsSeenAs root see big) (object_in small c reference_of space x) (object_in big (under root c) reference_of (space ++ root) x) _ _ (reference_in-like like c space x)
+      (λ space. bind_any like (IsSeenAs root see big)
+      (object_in small c reference_of space x) (object_in big (under root c) reference_of (space ++ root) x) _ _ (reference_in-like like c space x)
       (λ near far. bind_path like _ _ _ _ (place-like like c s2)
-      (λ space2. bind_ptr like _ _ _ _ (object_in-like like (IsSeenAs root see big) (pointer_to (x2 ∷ space2)) (pointer_to (x2 ∷ (space2 ++ root))) (pointer_seen space2 x2) c space2 x2)
-      (λ to h. refuse-like like status.HELD (is_frozen_for small (path_of c) (x ∷ space)) (is_frozen_for big (path_of (under root c)) (x ∷ (space ++ root))) _ _ (is_frozen_for-like like free (c.slot ∷ c.space) (x ∷ space))
+      (λ space2. bind_ptr like _ _
+      _ _ (object_in-like like (IsSeenAs root see big) (pointer_to (x2 ∷ space2)) (pointer_to (x2 ∷ (space2 ++ root))) (pointer_seen space2 x2) c space2 x2)
+      (λ to h. refuse-like like status.HELD (is_frozen_for small (path_of c) (x ∷ space))
+      (is_frozen_for big (path_of (under root c)) (x ∷ (space ++ root))) _ _ (is_frozen_for-like like free (c.slot ∷ c.space) (x ∷ space))
       (λ unheld. done-like like c _ _ [] (Both (Alters x space _ (SetPointer to) refl h) Empty))))))
 
   -- ---- a new object
 
-  new_or : (t : Bool) (a b : Change) (o p : Option Change) → LikeChange root see big a b → AlikeOptions (LikeChange root see big) o p → AlikeOptions (LikeChange root see big) (cond t (Some a) o) (cond t (Some b) p)
+  new_or : (t : Bool) (a b : Change) (o p : Option Change) →
+      LikeChange root see big a b → AlikeOptions (LikeChange root see big) o p → AlikeOptions (LikeChange root see big) (cond t (Some a) o) (cond t (Some b) p)
   new_or true a b o p h g = h
   new_or false a b o p h g = g
 
@@ -134,8 +149,10 @@ module _ {root : Path} {see : Ptr → Ptr} {small big : World} (like : IsLikenes
   new_object-like k q kind =
       new_or (eqb kind 1) _ _ _ _ (Makes k q _ (Mutex false) refl tt)
       (new_or (eqb kind 2) _ _ _ _ (Makes k q _ Cond refl tt)
-      (new_or (eqb kind 3) _ _ _ _ (Makes k q (Mapping (record { first = 0; count = 1; offset = 0; write = false; region = Null })) (Mapping (record { first = 0; count = 1; offset = 0; write = false; region = Null })) (rw like.null refl) null-like)
-      (new_or (eqb kind 4) _ _ _ _ (Makes k q (Region (record { first = 0; count = 1; write = false; keeper = Null })) (Region (record { first = 0; count = 1; write = false; keeper = Null })) (rw like.null refl) null-like)
+      (new_or (eqb kind 3) _ _ _ _ (Makes k q (Mapping (record { first = 0; count = 1; offset = 0; write = false; region = Null }))
+      (Mapping (record { first = 0; count = 1; offset = 0; write = false; region = Null })) (rw like.null refl) null-like)
+      (new_or (eqb kind 4) _ _ _ _ (Makes k q (Region (record { first = 0; count = 1; write = false; keeper = Null }))
+      (Region (record { first = 0; count = 1; write = false; keeper = Null })) (rw like.null refl) null-like)
       (new_or (eqb kind 5) _ _ _ _ (Makes k q _ (Port None false) refl refl)
       (new_or (eqb kind 6) _ _ _ _ (Makes k q _ Portset refl tt)
       (new_or (eqb kind 7) _ _ _ _ (MakesSpace k q _ None refl tt)
@@ -147,34 +164,44 @@ module _ {root : Path} {see : Ptr → Ptr} {small big : World} (like : IsLikenes
   create-like free c s x kind =
       bind_path like _ _ _ _ (place-like like c s)
       (λ space. bind_any like ◌≡◌ (slot_for c x) (slot_for (under root c) x) _ _ (slot_for-like c x)
-      (λ near far. refuse-like like status.HELD (is_frozen_for small (path_of c) space) (is_frozen_for big (path_of (under root c)) (space ++ root)) _ _ (is_frozen_for-like like free (c.slot ∷ c.space) space)
-      (λ unheld. bind-like like (LikeChange root see big) _ _ _ _ (alike_or_refuse (LikeChange root see big) status.WRONGKIND (new_object (x ∷ space) kind) (new_object (x ∷ (space ++ root)) kind) (new_object-like x space kind))
-      (λ made making h. refuse-like like status.OCCUPIED (is_some (small.body (x ∷ space))) (is_some (big.body (x ∷ (space ++ root)))) _ _ (is_taken-like like (x ∷ space))
+      (λ near far. refuse-like like status.HELD (is_frozen_for small (path_of c) space)
+      (is_frozen_for big (path_of (under root c)) (space ++ root)) _ _ (is_frozen_for-like like free (c.slot ∷ c.space) space)
+      (λ unheld. bind-like like (LikeChange root see big) _ _ _ _ (alike_or_refuse (LikeChange root see big)
+      status.WRONGKIND (new_object (x ∷ space) kind) (new_object (x ∷ (space ++ root)) kind) (new_object-like x space kind))
+      (λ made making h.
+      refuse-like like status.OCCUPIED (is_some (small.body (x ∷ space))) (is_some (big.body (x ∷ (space ++ root)))) _ _ (is_taken-like like (x ∷ space))
       (λ empty. done-like like c (made ∷ []) (making ∷ []) [] (Both h Empty))))))
 
   -- ---- a page that is taken
 
-  copies-like : (c : Caller) (space : Path) (page : ℕ) (drops : Bool) (words : List ℕ) (s : Path) (own : ℕ) → Alike (copies c space page drops words s own) (copies (under root c) (space ++ root) page drops words (s ++ root) own)
+  copies-like : (c : Caller) (space : Path) (page : ℕ) (drops : Bool) (words : List ℕ) (s : Path) (own : ℕ) →
+      Alike (copies c space page drops words s own) (copies (under root c) (space ++ root) page drops words (s ++ root) own)
   copies-like c space page true words s own = done-like like c _ _ [] (Both (PutsPage s own words) (Both (DropsPage space page) Empty))
   copies-like c space page false words s own = done-like like c _ _ [] (Both (PutsPage s own words) Empty)
 
-  pub copies_home-like : (c : Caller) (space : Path) (page : ℕ) (drops : Bool) (s : Path) (own : ℕ) → Alike (copies_home small c space page drops s own) (copies_home big (under root c) (space ++ root) page drops (s ++ root) own)
+  pub copies_home-like : (c : Caller) (space : Path) (page : ℕ) (drops : Bool) (s : Path) (own : ℕ) →
+      Alike (copies_home small c space page drops s own) (copies_home big (under root c) (space ++ root) page drops (s ++ root) own)
   copies_home-like c space page drops s own =
       bind_same like (or_refuse status.NONE (small.page space page)) (or_refuse status.NONE (big.page (space ++ root) page)) _ _
-      (alike_or_refuse ◌≡◌ status.NONE (small.page space page) (big.page (space ++ root) page) (alike_same (small.page space page) (big.page (space ++ root) page) (like.pages space page)))
+      (alike_or_refuse ◌≡◌ status.NONE
+      (small.page space page) (big.page (space ++ root) page) (alike_same (small.page space page) (big.page (space ++ root) page) (like.pages space page)))
       (λ words. copies-like c space page drops words s own)
 
-  pub page_take-like : is_frozen big root ≡ false → (k : ℕ) (q : Path) (s page address : ℕ) → Alike (page_take small (user_at (k ∷ q)) s page address) (page_take big (user_at (k ∷ (q ++ root))) s page address)
+  pub page_take-like : is_frozen big root ≡ false → (k : ℕ) (q : Path) (s page address : ℕ) →
+      Alike (page_take small (user_at (k ∷ q)) s page address) (page_take big (user_at (k ∷ (q ++ root))) s page address)
   unfolding page_take
   page_take-like free k q s page address =
       bind_path like _ _ _ _ (place-like like (user_at (k ∷ q)) s)
-      (λ space. refuse-like like status.HELD (is_frozen_for small (k ∷ q) space) (is_frozen_for big (k ∷ (q ++ root)) (space ++ root)) _ _ (is_frozen_for-like like free (k ∷ q) space)
-      (λ unheld. refuse-like like status.BADADDRESS (not (is_page page) || is_bad_target (user_at (k ∷ q)) address) (not (is_page page) || is_bad_target (user_at (k ∷ q)) address) _ _ refl
+      (λ space. refuse-like like
+      status.HELD (is_frozen_for small (k ∷ q) space) (is_frozen_for big (k ∷ (q ++ root)) (space ++ root)) _ _ (is_frozen_for-like like free (k ∷ q) space)
+      (λ unheld. refuse-like like status.BADADDRESS
+      (not (is_page page) || is_bad_target (user_at (k ∷ q)) address) (not (is_page page) || is_bad_target (user_at (k ∷ q)) address) _ _ refl
       (λ good. own_page-like like (user_at (k ∷ q)) address true _ _ (λ t own. copies_home-like (user_at (k ∷ q)) space page true t own))))
 
   -- ---- a rename
 
-  finishes : (k j : ℕ) (q z : Path) (b : Bool) (now : World) → LikeChanges root see now (Alter (cond b (k ∷ q) (j ∷ z)) (Finish []) ∷ []) (Alter (cond b (k ∷ (q ++ root)) (j ∷ (z ++ root))) (Finish []) ∷ [])
+  finishes : (k j : ℕ) (q z : Path) (b : Bool) (now : World) →
+      LikeChanges root see now (Alter (cond b (k ∷ q) (j ∷ z)) (Finish []) ∷ []) (Alter (cond b (k ∷ (q ++ root)) (j ∷ (z ++ root))) (Finish []) ∷ [])
   finishes k j q z true now = Both (Alters k q _ (Finish []) refl tt) Empty
   finishes k j q z false now = Both (Alters j z _ (Finish []) refl tt) Empty
 
@@ -183,14 +210,19 @@ module _ {root : Path} {see : Ptr → Ptr} {small big : World} (like : IsLikenes
   plain_unserved (Port set served) h = sym h
   plain_unserved b h = refl
 
-  pub rename-like : is_frozen big root ≡ false → (j : ℕ) (z : Path) (s x y : ℕ) → Alike (rename small (user_at (j ∷ z)) s x y) (rename big (user_at (j ∷ (z ++ root))) s x y)
+  pub rename-like : is_frozen big root ≡ false →
+      (j : ℕ) (z : Path) (s x y : ℕ) → Alike (rename small (user_at (j ∷ z)) s x y) (rename big (user_at (j ∷ (z ++ root))) s x y)
   unfolding rename
   rename-like free j z s x y =
       bind_path like _ _ _ _ (place-like like (user_at (j ∷ z)) s)
       (λ space. bind_body like _ _ _ _ (anything_in-like like (user_at (j ∷ z)) space x)
-      (λ b near. refuse-like like status.HELD (is_frozen_for small (j ∷ z) (x ∷ space)) (is_frozen_for big (j ∷ (z ++ root)) (x ∷ (space ++ root))) _ _ (is_frozen_for-like like free (j ∷ z) (x ∷ space))
+      (λ b near. refuse-like like status.HELD (is_frozen_for small (j ∷ z) (x ∷ space))
+      (is_frozen_for big (j ∷ (z ++ root)) (x ∷ (space ++ root))) _ _ (is_frozen_for-like like free (j ∷ z) (x ∷ space))
       (λ unheld. refuse-like like status.BADHANDLE (not (leb y LAST_USER_SLOT)) (not (leb y LAST_USER_SLOT)) _ _ refl
       (λ named. refuse-like like status.DENIED (is_served (seen_by (seeing see) b)) (is_served b) _ _ (plain_unserved b near)
-      (λ unserved. refuse-like like status.OCCUPIED (is_some (small.body (y ∷ space))) (is_some (big.body (y ∷ (space ++ root)))) _ _ (is_taken-like like (y ∷ space))
-      (λ empty. refuse-like like status.NOTEMPTY (has_residents small (x ∷ space)) (has_residents big (x ∷ (space ++ root))) _ _ (has_residents-like like (x ∷ space))
-      (λ alone. Both (Moves x space y) (rw (same_path_cancel (j ∷ z) (x ∷ space) root) (finishes y j space z (same_path (j ∷ z) (x ∷ space)) (apply (Move (x ∷ (space ++ root)) y) big))))))))))
+      (λ unserved.
+      refuse-like like status.OCCUPIED (is_some (small.body (y ∷ space))) (is_some (big.body (y ∷ (space ++ root)))) _ _ (is_taken-like like (y ∷ space))
+      (λ empty.
+      refuse-like like status.NOTEMPTY (has_residents small (x ∷ space)) (has_residents big (x ∷ (space ++ root))) _ _ (has_residents-like like (x ∷ space))
+      (λ alone. Both (Moves x space y) (rw (same_path_cancel (j ∷ z) (x ∷ space) root)
+      (finishes y j space z (same_path (j ∷ z) (x ∷ space)) (apply (Move (x ∷ (space ++ root)) y) big))))))))))

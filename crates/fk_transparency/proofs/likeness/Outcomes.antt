@@ -1,6 +1,5 @@
 -- Rows step by step: what follows an answer that is alike goes alike, and so do the ends of a stage.
 use Rattle.std.proofs.Common.{◌≡◌, ℕ, Bool, true, false, cond, List, [], ◌∷◌, ◌++◌, Option, Some, None, IfSome, Result, Ok, Err, refl}
-use Rattle.fk_model.specs.declared.names.Kind.{Kind}
 use Rattle.fk_model.specs.declared.statuses.halt.TheConstants.{BAD_ADDRESS, MISSING_PAGE}
 use Rattle.fk_model.specs.declared.statuses.status.TheConstants.{OK}
 use Rattle.fk_model.specs.Places.{Path, Ptr}
@@ -11,14 +10,14 @@ use Rattle.fk_model.specs.World.Change.{Alter}
 use Rattle.fk_model.specs.World.Edit.{Finish, End, SetFault}
 use Rattle.fk_model.specs.Searches.{talk_at}
 use Rattle.fk_model.specs.Reach.{Reach}
-use Rattle.fk_model.specs.Outcomes.{Said, Outcome, ◌>>=◌, refuse, when, Caller, path_of, done, ended, telling}
+use Rattle.fk_model.specs.Outcomes.{Said, Outcome, ◌>>=◌, refuse, when, Caller, path_of, done, telling}
 use Rattle.fk_model.specs.Outcomes.Outcome.{Refused, Waits, Goes}
 use Rattle.fk_model.specs.Outcomes.Said.{Nothing, Answered}
-use Rattle.fk_model.specs.Readers.{kind_at, is_kind, missed, accessed, own_page_at, own_page, their_page_at, their_page}
+use Rattle.fk_model.specs.Readers.{missed, accessed, own_page_at, own_page, their_page_at, their_page}
 use Rattle.fk_model.specs.Talks.{Line}
 use Rattle.fk_model.specs.Moves.{closed}
 use Rattle.fk_model.specs.Cut.{seen_by}
-use Rattle.fk_transparency.specs.Likeness.{seeing, seen_talk, seen_thread, HasLikeness, AllInTalk, IsPlainBody, IsLikeness, under, AlikeResults, AlikeOptions, IsBeneath, IsSeenAs, IsSeenHandle, IsSeenBody, IsSeenThread, IsSeenHolder, PeerLikeness, EndLikeness, LineLikeness, ReachLikeness}
+use Rattle.fk_transparency.specs.Likeness.{seeing, seen_talk, seen_thread, HasLikeness, AllInTalk, IsPlainBody, IsLikeness, under, AlikeResults, AlikeOptions, IsBeneath, IsSeenAs, IsSeenBody, IsSeenHolder, PeerLikeness, EndLikeness, LineLikeness, ReachLikeness}
 use Rattle.fk_transparency.specs.Likeness.EndLikeness.{Ends}
 use Rattle.fk_transparency.specs.Likeness.LineLikeness.{Lines}
 use Rattle.fk_transparency.specs.Likeness.ReachLikeness.{Homes, Misses, Bads}
@@ -29,7 +28,8 @@ use Rattle.fk_transparency.proofs.likeness.Memory.{reach_word-like}
 
 -- ---- lists of changes
 
-pub append-like : {root : Path} {see : Ptr → Ptr} {big : World} {cs ds es fs : List Change} → LikeChanges root see big cs ds → LikeChanges root see (apply_all ds big) es fs → LikeChanges root see big (cs ++ es) (ds ++ fs)
+pub append-like : {root : Path} {see : Ptr → Ptr} {big : World} {cs ds es fs : List Change} →
+    LikeChanges root see big cs ds → LikeChanges root see (apply_all ds big) es fs → LikeChanges root see big (cs ++ es) (ds ++ fs)
 unfolding apply_all
 append-like Empty h = h
 append-like (Both c cs) h = Both c (append-like cs h)
@@ -41,14 +41,16 @@ module _ {root : Path} {see : Ptr → Ptr} {small big : World} (like : IsLikenes
 
   -- ---- the next step of a row, after an answer
 
-  pub bind-like : {A B : Type 0} (R : A → B → Type 0) (a : Result A ℕ) (b : Result B ℕ) (f : A → Outcome) (g : B → Outcome) → AlikeResults R a b → ((x : A) (y : B) → R x y → Alike (f x) (g y)) → Alike (a >>= f) (b >>= g)
+  pub bind-like : {A B : Type 0} (R : A → B → Type 0) (a : Result A ℕ) (b : Result B ℕ) (f : A → Outcome) (g : B → Outcome) →
+      AlikeResults R a b → ((x : A) (y : B) → R x y → Alike (f x) (g y)) → Alike (a >>= f) (b >>= g)
   bind-like R (Ok x) (Ok y) f g h go = go x y h
   bind-like R (Err status) (Err refusal) f g h go = h
   bind-like R (Ok x) (Err refusal) f g h go = absurd h
   bind-like R (Err status) (Ok y) f g h go = absurd h
 
   -- the answers don't matter
-  pub bind_any : {A B : Type 0} (R : A → B → Type 0) (a : Result A ℕ) (b : Result B ℕ) (f : A → Outcome) (g : B → Outcome) → AlikeResults R a b → ((x : A) (y : B) → Alike (f x) (g y)) → Alike (a >>= f) (b >>= g)
+  pub bind_any : {A B : Type 0} (R : A → B → Type 0) (a : Result A ℕ) (b : Result B ℕ) (f : A → Outcome) (g : B → Outcome) →
+      AlikeResults R a b → ((x : A) (y : B) → Alike (f x) (g y)) → Alike (a >>= f) (b >>= g)
   bind_any R a b f g h go = bind-like R a b f g h (λ x y same. go x y)
 
   -- one answer
@@ -56,32 +58,29 @@ module _ {root : Path} {see : Ptr → Ptr} {small big : World} (like : IsLikenes
   bind_same a b f g h go = bind-like ◌≡◌ a b f g h (λ x y e. rw e (go y))
 
   -- a space inside
-  pub bind_path : (a b : Result Path ℕ) (f g : Path → Outcome) → AlikeResults (IsBeneath root) a b → ((q : Path) → Alike (f q) (g (q ++ root))) → Alike (a >>= f) (b >>= g)
+  pub bind_path : (a b : Result Path ℕ) (f g : Path → Outcome) →
+      AlikeResults (IsBeneath root) a b → ((q : Path) → Alike (f q) (g (q ++ root))) → Alike (a >>= f) (b >>= g)
   bind_path a b f g h go = bind-like (IsBeneath root) a b f g h (λ q x e. rw e (go q))
 
   -- a pointer
-  pub bind_ptr : (a b : Result Ptr ℕ) (f g : Ptr → Outcome) → AlikeResults (IsSeenAs root see big) a b → ((p : Ptr) → HasLikeness root see big p → Alike (f (see p)) (g p)) → Alike (a >>= f) (b >>= g)
+  pub bind_ptr : (a b : Result Ptr ℕ) (f g : Ptr → Outcome) →
+      AlikeResults (IsSeenAs root see big) a b → ((p : Ptr) → HasLikeness root see big p → Alike (f (see p)) (g p)) → Alike (a >>= f) (b >>= g)
   bind_ptr a b f g h go = bind-like (IsSeenAs root see big) a b f g h (λ seen p h. rw h.0 (go p h.1))
 
-  -- a handle of an object of a kind
-  pub bind_handle : (wanted : Kind) (a b : Result Ptr ℕ) (f g : Ptr → Outcome) → AlikeResults (IsSeenHandle root see big wanted) a b →
-      ((p : Ptr) → HasLikeness root see big p → is_kind wanted (kind_at big p) ≡ true → Alike (f (see p)) (g p)) → Alike (a >>= f) (b >>= g)
-  bind_handle wanted a b f g h go = bind-like (IsSeenHandle root see big wanted) a b f g h (λ seen p h. rw h.0 (go p h.1 h.2))
-
   -- an object, a thread, a holder
-  pub bind_body : (a b : Result Body ℕ) (f g : Body → Outcome) → AlikeResults (IsSeenBody root see big) a b → ((b : Body) → IsPlainBody see (HasLikeness root see big) b → Alike (f (seen_by (seeing see) b)) (g b)) → Alike (a >>= f) (b >>= g)
+  pub bind_body : (a b : Result Body ℕ) (f g : Body → Outcome) → AlikeResults (IsSeenBody root see big) a b →
+      ((b : Body) → IsPlainBody see (HasLikeness root see big) b → Alike (f (seen_by (seeing see) b)) (g b)) → Alike (a >>= f) (b >>= g)
   bind_body a b f g h go = bind-like (IsSeenBody root see big) a b f g h (λ seen b h. rw h.0 (go b h.1))
 
-  pub bind_thread : (a b : Result Thread ℕ) (f g : Thread → Outcome) → AlikeResults (IsSeenThread root see big) a b → ((t : Thread) → IsPlainBody see (HasLikeness root see big) (Thread_of t) → Alike (f (seen_thread see t)) (g t)) → Alike (a >>= f) (b >>= g)
-  bind_thread a b f g h go = bind-like (IsSeenThread root see big) a b f g h (λ seen t h. rw h.0 (go t h.1))
-
   pub bind_holder : (a b : Result (Option Ptr) ℕ) (f g : Option Ptr → Outcome) → AlikeResults (IsSeenHolder root see big) a b →
-      ((holder : Option Ptr) → IfSome holder (HasLikeness root see big) → Alike (f (and_then (seeing see).holder holder)) (g holder)) → Alike (a >>= f) (b >>= g)
+      ((holder : Option Ptr) → IfSome holder (HasLikeness root see big) → Alike (f (and_then (seeing see).holder holder)) (g holder)) →
+      Alike (a >>= f) (b >>= g)
   bind_holder a b f g h go = bind-like (IsSeenHolder root see big) a b f g h (λ seen holder h. rw h.0 (go holder h.1))
 
   -- a thread with its path
   pub bind_end : (a b : Result (Path × Thread) ℕ) (f g : Path × Thread → Outcome) → AlikeResults (EndLikeness root see big) a b →
-      ((k : ℕ) (q : Path) (t : Thread) → big.body (k ∷ (q ++ root)) ≡ Some (Thread_of t) → IsPlainBody see (HasLikeness root see big) (Thread_of t) → Alike (f (k ∷ q, seen_thread see t)) (g (k ∷ (q ++ root), t))) →
+      ((k : ℕ) (q : Path) (t : Thread) → big.body (k ∷ (q ++ root)) ≡ Some (Thread_of t) →
+      IsPlainBody see (HasLikeness root see big) (Thread_of t) → Alike (f (k ∷ q, seen_thread see t)) (g (k ∷ (q ++ root), t))) →
       Alike (a >>= f) (b >>= g)
   bind_end a b f g h go = bind-like (EndLikeness root see big) a b f g h by
     where
@@ -90,7 +89,8 @@ module _ {root : Path} {see : Ptr → Ptr} {small big : World} (like : IsLikenes
 
   -- a line
   pub bind_line : (a b : Result Line ℕ) (f g : Line → Outcome) → AlikeResults (LineLikeness root see big) a b →
-      ((k : ℕ) (q : Path) (talk : Talk) (other seen : Peer) → talk_at big (k ∷ (q ++ root)) ≡ Some talk → AllInTalk see (HasLikeness root see big) talk → PeerLikeness root see big other seen →
+      ((k : ℕ) (q : Path) (talk : Talk) (other seen : Peer) →
+      talk_at big (k ∷ (q ++ root)) ≡ Some talk → AllInTalk see (HasLikeness root see big) talk → PeerLikeness root see big other seen →
       Alike (f (record { client = k ∷ q; talk = seen_talk see talk; other = seen })) (g (record { client = k ∷ (q ++ root); talk = talk; other = other }))) →
       Alike (a >>= f) (b >>= g)
   bind_line a b f g h go = bind-like (LineLikeness root see big) a b f g h by
@@ -100,7 +100,8 @@ module _ {root : Path} {see : Ptr → Ptr} {small big : World} (like : IsLikenes
 
   -- ---- checks
 
-  pub refuse-like : (status : ℕ) (a b : Bool) (f g : Unit {0} → Outcome) → a ≡ b → (b ≡ false → Alike (f tt) (g tt)) → Alike (refuse status a >>= f) (refuse status b >>= g)
+  pub refuse-like : (status : ℕ) (a b : Bool) (f g : Unit {0} → Outcome) →
+      a ≡ b → (b ≡ false → Alike (f tt) (g tt)) → Alike (refuse status a >>= f) (refuse status b >>= g)
   refuse-like status a b f g same go = rw same (by b refl)
     where
       by : (t : Bool) → b ≡ t → Alike (refuse status t >>= f) (refuse status t >>= g)
@@ -120,19 +121,12 @@ module _ {root : Path} {see : Ptr → Ptr} {small big : World} (like : IsLikenes
 
   -- ---- the ends of a stage
 
-  pub done-like : (c : Caller) (cs ds : List Change) (answers : List ℕ) → LikeChanges root see big cs ds → Alike (done c cs answers) (done (under root c) ds answers)
+  pub done-like : (c : Caller) (cs ds : List Change) (answers : List ℕ) →
+      LikeChanges root see big cs ds → Alike (done c cs answers) (done (under root c) ds answers)
   done-like c cs ds answers h = by c.is_porter
     where
       by : (b : Bool) → Alike (cond b (Goes cs (Answered OK answers)) (Goes (cs ++ Alter (path_of c) (Finish answers) ∷ []) Nothing))
           (cond b (Goes ds (Answered OK answers)) (Goes (ds ++ Alter (path_of (under root c)) (Finish answers) ∷ []) Nothing))
-      by true = h
-      by false = append-like h (Both (Alters c.slot c.space _ _ refl tt) Empty)
-
-  pub ended-like : (c : Caller) (cs ds : List Change) (answers : List ℕ) → LikeChanges root see big cs ds → Alike (ended c cs answers) (ended (under root c) ds answers)
-  ended-like c cs ds answers h = by c.is_porter
-    where
-      by : (b : Bool) → Alike (cond b (Goes cs (Answered OK answers)) (Goes (cs ++ Alter (path_of c) (End OK answers) ∷ []) Nothing))
-          (cond b (Goes ds (Answered OK answers)) (Goes (ds ++ Alter (path_of (under root c)) (End OK answers) ∷ []) Nothing))
       by true = h
       by false = append-like h (Both (Alters c.slot c.space _ _ refl tt) Empty)
 
@@ -172,14 +166,16 @@ module _ {root : Path} {see : Ptr → Ptr} {small big : World} (like : IsLikenes
   closed-like c Waits (Refused refusal) h = absurd h
   closed-like c Waits (Goes ds told) h = absurd h
 
-  pub closed-unless : (c : Caller) (near far : Outcome) → IsLikeUnlessWaiting root see big near far → IsLikeUnlessWaiting root see big (closed c near) (closed (under root c) far)
+  pub closed-unless : (c : Caller) (near far : Outcome) →
+      IsLikeUnlessWaiting root see big near far → IsLikeUnlessWaiting root see big (closed c near) (closed (under root c) far)
   closed-unless c near Waits h = tt
   closed-unless c near (Refused status) h = unless_waiting _ _ (closed-like c near (Refused status) h)
   closed-unless c near (Goes changes said) h = unless_waiting _ _ (closed-like c near (Goes changes said) h)
 
   -- ---- accesses
 
-  missed-like : (k : ℕ) (q : Path) (page : ℕ) (write : Bool) (near far : Outcome) (keeper port : Option Ptr) → AlikeOptions (IsSeenAs root see big) keeper port → Alike near far →
+  missed-like : (k : ℕ) (q : Path) (page : ℕ) (write : Bool) (near far : Outcome) (keeper port : Option Ptr) →
+      AlikeOptions (IsSeenAs root see big) keeper port → Alike near far →
       Alike (missed near (k ∷ q) page write keeper) (missed far (k ∷ (q ++ root)) page write port)
   missed-like k q page write near far None None h otherwise = otherwise
   missed-like k q page write near far (Some seen) (Some port) h otherwise =
@@ -188,24 +184,30 @@ module _ {root : Path} {see : Ptr → Ptr} {small big : World} (like : IsLikenes
   missed-like k q page write near far None (Some port) h otherwise = absurd h
   missed-like k q page write near far (Some seen) None h otherwise = absurd h
 
-  pub accessed-like : (k : ℕ) (q : Path) (write : Bool) (halts stops : ℕ → Outcome) (go on : Path → ℕ → Outcome) (a b : Reach) → ReachLikeness root see big a b → ((code : ℕ) → Alike (halts code) (stops code)) → ((s : Path) (page : ℕ) → Alike (go s page) (on (s ++ root) page)) →
+  pub accessed-like : (k : ℕ) (q : Path) (write : Bool) (halts stops : ℕ → Outcome) (go on : Path → ℕ → Outcome) (a b : Reach) →
+      ReachLikeness root see big a b → ((code : ℕ) → Alike (halts code) (stops code)) → ((s : Path) (page : ℕ) → Alike (go s page) (on (s ++ root) page)) →
       Alike (accessed (k ∷ q) write halts go a) (accessed (k ∷ (q ++ root)) write stops on b)
   accessed-like k q write halts stops go on _ _ (Homes s page) stop goes = goes s page
   accessed-like k q write halts stops go on _ _ (Misses s page keeper port h) stop goes = missed-like k q page write _ _ keeper port h (stop MISSING_PAGE)
   accessed-like k q write halts stops go on _ _ Bads stop goes = stop BAD_ADDRESS
 
-  own_page_at-like : (k : ℕ) (q : Path) (write : Bool) (go on : Path → ℕ → Outcome) (a b : Reach) → ReachLikeness root see big a b → ((s : Path) (page : ℕ) → Alike (go s page) (on (s ++ root) page)) → Alike (own_page_at (k ∷ q) write go a) (own_page_at (k ∷ (q ++ root)) write on b)
+  own_page_at-like : (k : ℕ) (q : Path) (write : Bool) (go on : Path → ℕ → Outcome) (a b : Reach) → ReachLikeness root see big a b →
+      ((s : Path) (page : ℕ) → Alike (go s page) (on (s ++ root) page)) → Alike (own_page_at (k ∷ q) write go a) (own_page_at (k ∷ (q ++ root)) write on b)
   own_page_at-like k q write go on _ _ (Homes s page) goes = goes s page
   own_page_at-like k q write go on _ _ (Misses s page keeper port h) goes = missed-like k q page write _ _ keeper port h refl
   own_page_at-like k q write go on _ _ Bads goes = refl
 
-  pub own_page-like : (c : Caller) (address : ℕ) (write : Bool) (go on : Path → ℕ → Outcome) → ((s : Path) (page : ℕ) → Alike (go s page) (on (s ++ root) page)) → Alike (own_page small c address write go) (own_page big (under root c) address write on)
+  pub own_page-like : (c : Caller) (address : ℕ) (write : Bool) (go on : Path → ℕ → Outcome) →
+      ((s : Path) (page : ℕ) → Alike (go s page) (on (s ++ root) page)) →
+      Alike (own_page small c address write go) (own_page big (under root c) address write on)
   own_page-like c address write go on goes = own_page_at-like c.slot c.space write go on _ _ (reach_word-like like c.space address write) goes
 
-  their_page_at-like : (go on : Path → ℕ → Outcome) (a b : Reach) → ReachLikeness root see big a b → ((s : Path) (page : ℕ) → Alike (go s page) (on (s ++ root) page)) → Alike (their_page_at go a) (their_page_at on b)
+  their_page_at-like : (go on : Path → ℕ → Outcome) (a b : Reach) →
+      ReachLikeness root see big a b → ((s : Path) (page : ℕ) → Alike (go s page) (on (s ++ root) page)) → Alike (their_page_at go a) (their_page_at on b)
   their_page_at-like go on _ _ (Homes s page) goes = goes s page
   their_page_at-like go on _ _ (Misses s page keeper port h) goes = tt
   their_page_at-like go on _ _ Bads goes = tt
 
-  pub their_page-like : (space : Path) (address : ℕ) (go on : Path → ℕ → Outcome) → ((s : Path) (page : ℕ) → Alike (go s page) (on (s ++ root) page)) → Alike (their_page small space address go) (their_page big (space ++ root) address on)
+  pub their_page-like : (space : Path) (address : ℕ) (go on : Path → ℕ → Outcome) →
+      ((s : Path) (page : ℕ) → Alike (go s page) (on (s ++ root) page)) → Alike (their_page small space address go) (their_page big (space ++ root) address on)
   their_page-like space address go on goes = their_page_at-like go on _ _ (reach_word-like like space address true) goes

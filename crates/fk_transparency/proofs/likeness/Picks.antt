@@ -54,22 +54,34 @@ module _ {root : Path} {see : Ptr → Ptr} {small big : World} (like : IsLikenes
     server_seen : Server (At (k ∷ q)) ≡ seen_peer see false (Server (At me))
     server_seen = rw (like.within (k ∷ q)) refl
 
-    talk_seen : (slot : ℕ) → SetTalk (Some (new_talk (At (slot ∷ q)) (Server (At (k ∷ q))))) ≡ seen_edit see false (SetTalk (Some (new_talk (At (slot ∷ (q ++ root))) (Server (At me)))))
+    talk_seen : (slot : ℕ) → SetTalk (Some (new_talk (At (slot ∷ q)) (Server (At (k ∷ q))))) ≡ seen_edit
+        see false (SetTalk (Some (new_talk (At (slot ∷ (q ++ root))) (Server (At me)))))
     talk_seen slot = rw (like.within (slot ∷ q), like.within (k ∷ q)) refl
 
     talk_inside : (slot : ℕ) → AllInTalk see (HasLikeness root see big) (new_talk (At (slot ∷ (q ++ root))) (Server (At me)))
     talk_inside slot = (stands_inside (slot ∷ q), rw (like.within (slot ∷ q)) (stands_inside (k ∷ q)))
 
-    takes_one : (a b : Candidate) → CandidateLikeness see big other a b → Same like (takes_candidate (user_at (k ∷ q)) (j ∷ z) (Some a)) (takes_candidate (user_at me) other (Some b))
+    takes_one : (a b : Candidate) →
+        CandidateLikeness see big other a b → Same like (takes_candidate (user_at (k ∷ q)) (j ∷ z) (Some a)) (takes_candidate (user_at me) other (Some b))
     takes_one _ _ (Faults slot fault is near) =
-        rw (taken_alike (seen_peer see (is_out (see fault.port))) fault.taker)
-        (Both (Alters j z _ (SetTaker (Some (Server (At me)))) (ap (λ (p : Peer). SetTaker (Some p)) server_seen) ((fault, is, near), stands_inside (k ∷ q))) (Both (Alters k q _ (End OK _) refl tt) Empty), says_nothing)
-    takes_one _ _ (Connects slot) =
-        (Both (Alters j z _ (SetTalk (Some (new_talk (At (slot ∷ (q ++ root))) (Server (At me))))) (talk_seen slot) (talk_inside slot)) (Both (Alters j z _ (Finish []) refl tt) (Both (Alters k q _ (Finish (slot ∷ 0 ∷ [])) refl tt) Empty)), says_nothing)
-    takes_one _ _ (Resumes slot talk is near) =
-        (Both (Alters j z _ (SetPeer (Server (At me))) (ap SetPeer server_seen) ((talk, is, near), stands_inside (k ∷ q))) (Both (Alters k q _ (End OK _) refl tt) Empty), says_nothing)
+        rw (taken_alike (seen_peer see (is_out (see fault.port))) fault.taker) (
+          Both (Alters j z _ (SetTaker (Some (Server (At me)))) (ap (λ (p : Peer). SetTaker (Some p)) server_seen) ((fault, is, near), stands_inside (k ∷ q)))
+              (Both (Alters k q _ (End OK _) refl tt) Empty),
+          says_nothing,
+        )
+    takes_one _ _ (Connects slot) = (
+      Both (Alters j z _ (SetTalk (Some (new_talk (At (slot ∷ (q ++ root))) (Server (At me))))) (talk_seen slot) (talk_inside slot))
+          (Both (Alters j z _ (Finish []) refl tt) (Both (Alters k q _ (Finish (slot ∷ 0 ∷ [])) refl tt) Empty)),
+      says_nothing,
+    )
+    takes_one _ _ (Resumes slot talk is near) = (
+      Both (Alters j z _ (SetPeer (Server (At me))) (ap SetPeer server_seen) ((talk, is, near), stands_inside (k ∷ q)))
+          (Both (Alters k q _ (End OK _) refl tt) Empty),
+      says_nothing,
+    )
 
-    takes_any : (o p : Option Candidate) → AlikeOptions (CandidateLikeness see big other) o p → Same like (takes_candidate (user_at (k ∷ q)) (j ∷ z) o) (takes_candidate (user_at me) other p)
+    takes_any : (o p : Option Candidate) →
+        AlikeOptions (CandidateLikeness see big other) o p → Same like (takes_candidate (user_at (k ∷ q)) (j ∷ z) o) (takes_candidate (user_at me) other p)
     takes_any None None h = (tt, tt)
     takes_any (Some a) (Some b) h = takes_one a b h
     takes_any None (Some b) h = absurd h
@@ -94,19 +106,23 @@ module _ {root : Path} {see : Ptr → Ptr} {small big : World} (like : IsLikenes
       by true = refl
       by false = refl
 
-  takes_picked-like : is_frozen big root ≡ false → (k : ℕ) (q : Path) (set : ℕ) (p pick : Option Path) → AlikeOptions (IsBeneath root) p pick → Same like (takes_picked small (user_at (k ∷ q)) set p) (takes_picked big (user_at (k ∷ (q ++ root))) set pick)
+  takes_picked-like : is_frozen big root ≡ false → (k : ℕ) (q : Path) (set : ℕ) (p pick : Option Path) →
+      AlikeOptions (IsBeneath root) p pick → Same like (takes_picked small (user_at (k ∷ q)) set p) (takes_picked big (user_at (k ∷ (q ++ root))) set pick)
   takes_picked-like free k q set None None h = (tt, tt)
   takes_picked-like free k q set (Some []) (Some x) h = rw (h, nobody (q ++ root) set, nobody_near q set) (tt, tt)
-  takes_picked-like free k q set (Some (j ∷ z)) (Some x) h = rw h (takes_any k q j z (candidate small q set (j ∷ z)) (candidate big (q ++ root) set (j ∷ (z ++ root))) (candidate-like like free q set j z))
+  takes_picked-like free k q set (Some (j ∷ z)) (Some x) h =
+      rw h (takes_any k q j z (candidate small q set (j ∷ z)) (candidate big (q ++ root) set (j ∷ (z ++ root))) (candidate-like like free q set j z))
   takes_picked-like free k q set None (Some x) h = absurd h
   takes_picked-like free k q set (Some z) None h = absurd h
 
-  pub wait-like : is_frozen big root ≡ false → (k : ℕ) (q : Path) (set : ℕ) → is_serving small (k ∷ q) ≡ is_serving big (k ∷ (q ++ root)) → (p pick : Option Path) → AlikeOptions (IsBeneath root) p pick →
+  pub wait-like : is_frozen big root ≡ false → (k : ℕ) (q : Path) (set : ℕ) →
+      is_serving small (k ∷ q) ≡ is_serving big (k ∷ (q ++ root)) → (p pick : Option Path) → AlikeOptions (IsBeneath root) p pick →
       Same like (wait small (user_at (k ∷ q)) p set) (wait big (user_at (k ∷ (q ++ root))) pick set)
   unfolding wait
   wait-like free k q set serving p pick h =
       same_bind like ◌≡◌ _ _ _ _ (plain_in-like like portset_of (portset-seen see) (user_at (k ∷ q)) q set)
-      (λ a b e. same_bind like (λ x y. Unit {0}) _ _ _ _ (refused_alike LINKED (is_serving small (k ∷ q)) (is_serving big (k ∷ (q ++ root))) serving) (λ x y u. takes_picked-like free k q set p pick h))
+      (λ a b e. same_bind like (λ x y. Unit {0}) _
+      _ _ _ (refused_alike LINKED (is_serving small (k ∷ q)) (is_serving big (k ∷ (q ++ root))) serving) (λ x y u. takes_picked-like free k q set p pick h))
 
   -- ---- the call
 
@@ -116,7 +132,8 @@ module _ {root : Path} {see : Ptr → Ptr} {small big : World} (like : IsLikenes
   none_alike None (Some x) h = absurd h
   none_alike (Some z) None h = absurd h
 
-  same_picked : (p pick : Option Path) (near far : Outcome) → is_none p ≡ is_none pick → Same like near far → Same like (with_pick true p near) (with_pick true pick far)
+  same_picked : (p pick : Option Path) (near far : Outcome) →
+      is_none p ≡ is_none pick → Same like near far → Same like (with_pick true p near) (with_pick true pick far)
   same_picked p pick Waits Waits e h = (tt, tt)
   same_picked p pick (Refused status) Waits e h = absurd h.0
   same_picked p pick (Goes cs said) Waits e h = absurd h.0
@@ -127,7 +144,9 @@ module _ {root : Path} {see : Ptr → Ptr} {small big : World} (like : IsLikenes
   same_picked p pick Waits (Refused refusal) e h = absurd h.0
   same_picked p pick Waits (Goes ds told) e h = absurd h.0
 
-  pub wait_call-like : is_frozen big root ≡ false → (k : ℕ) (q : Path) (set : ℕ) → is_serving small (k ∷ q) ≡ is_serving big (k ∷ (q ++ root)) → (p pick : Option Path) → AlikeOptions (IsBeneath root) p pick →
+  pub wait_call-like : is_frozen big root ≡ false → (k : ℕ) (q : Path) (set : ℕ) →
+      is_serving small (k ∷ q) ≡ is_serving big (k ∷ (q ++ root)) → (p pick : Option Path) → AlikeOptions (IsBeneath root) p pick →
       Same like (call_row small (user_at (k ∷ q)) p (Wait set)) (call_row big (user_at (k ∷ (q ++ root))) pick (Wait set))
   unfolding call_row
-  wait_call-like free k q set serving p pick h = same_closed like k q _ _ (same_picked p pick _ _ (none_alike p pick h) (wait-like free k q set serving p pick h))
+  wait_call-like free k q set serving p pick h =
+      same_closed like k q _ _ (same_picked p pick _ _ (none_alike p pick h) (wait-like free k q set serving p pick h))

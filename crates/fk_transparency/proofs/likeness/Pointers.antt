@@ -44,7 +44,9 @@ module _ (see anew : Ptr → Ptr) (out : (p : Ptr) → is_out (anew p) ≡ is_ou
   all_in_body None h = tt
 
 -- what leads to a port outside still does where ports outside stay ports
-pub ptr_moved : (root : Path) (big after : World) → ((x : Path) → is_within root x ≡ false → kind_at big (At x) ≡ Some kinds.Port → kind_at after (At x) ≡ Some kinds.Port) → (p seen : Ptr) → PtrLikeness root big p seen → PtrLikeness root after p seen
+pub ptr_moved : (root : Path) (big after : World) →
+    ((x : Path) → is_within root x ≡ false → kind_at big (At x) ≡ Some kinds.Port → kind_at after (At x) ≡ Some kinds.Port) →
+    (p seen : Ptr) → PtrLikeness root big p seen → PtrLikeness root after p seen
 ptr_moved root big after stay _ _ Nulls = Nulls
 ptr_moved root big after stay _ _ Deads = Deads
 ptr_moved root big after stay _ _ (Inside x) = Inside x

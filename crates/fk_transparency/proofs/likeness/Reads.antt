@@ -13,9 +13,8 @@ use Rattle.fk_model.specs.Outcomes.{Caller, last_slot}
 use Rattle.fk_model.specs.Readers.{and_read, slot_for, seen_as, anything, object_in, kind_at, is_kind, led_to, handled, handle, path_at, space_argument, referred}
 use Rattle.fk_model.specs.SyncRows.{cond_of}
 use Rattle.fk_model.specs.LinkRows.{portset_of}
-use Rattle.fk_model.specs.Valid.{kind_there}
 use Rattle.fk_model.specs.Cut.{seen_by, unheld}
-use Rattle.fk_transparency.specs.Likeness.{seeing, seen_thread, seen_window, seen_extent, PtrLikeness, HasLikeness, IsPlainBody, IsLikeness, under, AlikeResults, AlikeOptions, IsBeneath, IsSeenAs, IsSeenHandle, IsSeenBody, IsSeenThread, IsSeenHolder}
+use Rattle.fk_transparency.specs.Likeness.{seeing, seen_thread, seen_window, seen_extent, PtrLikeness, HasLikeness, IsPlainBody, IsLikeness, under, AlikeResults, AlikeOptions, IsBeneath, IsSeenAs, IsSeenHandle, IsSeenBody, IsSeenHolder}
 use Rattle.fk_transparency.specs.Likeness.PtrLikeness.{Nulls, Deads, Inside, PortAt, PortOut}
 use Rattle.fk_transparency.proofs.likeness.Alike.{alike_same, alike_or_refuse, alike_and_read, alike_if}
 
@@ -81,10 +80,12 @@ module _ (see : Ptr → Ptr) where
 module _ {root : Path} {see : Ptr → Ptr} {small big : World} (like : IsLikeness root see small big) where
   -- ---- an object in a slot
 
-  slot_for-like : {A B : Type 0} (R : A → B → Type 0) (c : Caller) (k : ℕ) (f : ℕ → Result A ℕ) (g : ℕ → Result B ℕ) → ((k : ℕ) → AlikeResults R (f k) (g k)) → AlikeResults R (and_read (slot_for c k) f) (and_read (slot_for (under root c) k) g)
+  slot_for-like : {A B : Type 0} (R : A → B → Type 0) (c : Caller) (k : ℕ) (f : ℕ → Result A ℕ) (g : ℕ → Result B ℕ) →
+      ((k : ℕ) → AlikeResults R (f k) (g k)) → AlikeResults R (and_read (slot_for c k) f) (and_read (slot_for (under root c) k) g)
   slot_for-like R c k f g h = by (leb k (last_slot c))
     where
-      by : (t : Bool) → AlikeResults R (and_read (cond {A = Result ℕ ℕ} t (Ok k) (Err BADHANDLE)) f) (and_read (cond {A = Result ℕ ℕ} t (Ok k) (Err BADHANDLE)) g)
+      by : (t : Bool) →
+          AlikeResults R (and_read (cond {A = Result ℕ ℕ} t (Ok k) (Err BADHANDLE)) f) (and_read (cond {A = Result ℕ ℕ} t (Ok k) (Err BADHANDLE)) g)
       by true = h k
       by false = refl
 
@@ -94,7 +95,8 @@ module _ {root : Path} {see : Ptr → Ptr} {small big : World} (like : IsLikenes
   unfolding object_in
   object_in-like R view view_big alike c s k = slot_for-like R c k _ _ (λ k. rw (like.bodies (k ∷ s)) (by k (big.body (k ∷ (s ++ root))) (like.plain k s)))
     where
-      by : (k : ℕ) (v : Option Body) → IfSome v (IsPlainBody see (HasLikeness root see big)) → AlikeResults R (seen_as view (option_map (λ b. unheld (k ∷ s) (seen_by (seeing see) b)) v)) (seen_as view_big v)
+      by : (k : ℕ) (v : Option Body) → IfSome v (IsPlainBody see (HasLikeness root see big)) →
+          AlikeResults R (seen_as view (option_map (λ b. unheld (k ∷ s) (seen_by (seeing see) b)) v)) (seen_as view_big v)
       by k None h = refl
       by k (Some b) h = alike_or_refuse R WRONGKIND (view (seen_by (seeing see) b)) (view_big b) (alike b h)
 
@@ -107,14 +109,6 @@ module _ {root : Path} {see : Ptr → Ptr} {small big : World} (like : IsLikenes
       by None = refl
       by (Some b) = ap Some (kind-seen see q b)
 
-  pub kind_there-like : (q : Path) → kind_there small q ≡ kind_there big (q ++ root)
-  unfolding kind_there
-  kind_there-like q = rw (like.bodies q) (by (big.body (q ++ root)))
-    where
-      by : (v : Option Body) → option_map kind_of (option_map (λ b. unheld q (seen_by (seeing see) b)) v) ≡ option_map kind_of v
-      by None = refl
-      by (Some b) = ap Some (kind-seen see q b)
-
   pub kind_at-like : (p seen : Ptr) → PtrLikeness root big p seen → kind_at small seen ≡ kind_at big p
   kind_at-like _ _ Nulls = refl
   kind_at-like _ _ Deads = refl
@@ -124,30 +118,41 @@ module _ {root : Path} {see : Ptr → Ptr} {small big : World} (like : IsLikenes
 
   -- ---- handles
 
-  pub led_to-like : (wanted : Kind) (p seen : Ptr) → PtrLikeness root big p seen → seen ≡ see p → AlikeResults (IsSeenHandle root see big wanted) (led_to small wanted seen) (led_to big wanted p)
+  pub led_to-like : (wanted : Kind) (p seen : Ptr) →
+      PtrLikeness root big p seen → seen ≡ see p → AlikeResults (IsSeenHandle root see big wanted) (led_to small wanted seen) (led_to big wanted p)
   led_to-like wanted _ _ Nulls e = refl
   led_to-like wanted _ _ Deads e = refl
   led_to-like wanted _ _ (Inside x) e =
       rw (kind-there x) (alike_if (IsSeenHandle root see big wanted) _ WRONGKIND (At x) (At (x ++ root)) (λ h. (e, rw (← e) (Inside x), h)))
   led_to-like wanted _ _ (PortAt x slot apart port) e =
-      rw port (alike_if (IsSeenHandle root see big wanted) _ WRONGKIND (Out slot) (At x) (λ h. (e, rw (← e) (PortAt x slot apart port), ap (is_kind wanted) port ∙ h)))
-  led_to-like wanted _ _ (PortOut old slot) e = alike_if (IsSeenHandle root see big wanted) _ WRONGKIND (Out slot) (Out old) (λ h. (e, rw (← e) (PortOut old slot), h))
+      rw port (alike_if (IsSeenHandle root see big wanted)
+      _ WRONGKIND (Out slot) (At x) (λ h. (e, rw (← e) (PortAt x slot apart port), ap (is_kind wanted) port ∙ h)))
+  led_to-like wanted _ _ (PortOut old slot) e =
+      alike_if (IsSeenHandle root see big wanted) _ WRONGKIND (Out slot) (Out old) (λ h. (e, rw (← e) (PortOut old slot), h))
 
   handled-like : (wanted : Kind) (k : ℕ) (s : Path) (v : Option Body) → big.body (k ∷ (s ++ root)) ≡ v → IfSome v (IsPlainBody see (HasLikeness root see big)) →
-      AlikeResults (IsSeenHandle root see big wanted) (handled small wanted (k ∷ s) (option_map (λ b. unheld (k ∷ s) (seen_by (seeing see) b)) v)) (handled big wanted (k ∷ (s ++ root)) v)
+      AlikeResults (IsSeenHandle root see big wanted)
+      (handled small wanted (k ∷ s) (option_map (λ b. unheld (k ∷ s) (seen_by (seeing see) b)) v)) (handled big wanted (k ∷ (s ++ root)) v)
   unfolding seen_by
   handled-like wanted k s None is h = refl
   handled-like wanted k s (Some (Reference to)) is h = led_to-like wanted to (see to) h refl
   handled-like wanted k s (Some b) is h =
       alike_if (IsSeenHandle root see big wanted) (same_kind wanted (kind_of b)) WRONGKIND (At (k ∷ s)) (At (k ∷ (s ++ root)))
-      (λ g. (sym (like.within (k ∷ s)), rw (like.within (k ∷ s)) (Inside (k ∷ s)), ap (λ (o : Option Body). is_kind wanted (and_then (λ b. Some (kind_of b)) o)) is ∙ g))
+      (λ g. (
+        sym (like.within (k ∷ s)),
+        rw (like.within (k ∷ s)) (Inside (k ∷ s)),
+        ap (λ (o : Option Body). is_kind wanted (and_then (λ b. Some (kind_of b)) o)) is ∙ g,
+      ))
 
-  pub handle-like : (c : Caller) (wanted : Kind) (h : ℕ) → AlikeResults (IsSeenHandle root see big wanted) (handle small c wanted h) (handle big (under root c) wanted h)
+  pub handle-like : (c : Caller) (wanted : Kind) (h : ℕ) →
+      AlikeResults (IsSeenHandle root see big wanted) (handle small c wanted h) (handle big (under root c) wanted h)
   unfolding handle
-  handle-like c wanted h = slot_for-like (IsSeenHandle root see big wanted) c h _ _ (λ h. rw (like.bodies (h ∷ c.space)) (handled-like wanted h c.space (big.body (h ∷ (c.space ++ root))) refl (like.plain h c.space)))
+  handle-like c wanted h = slot_for-like (IsSeenHandle root see big wanted)
+      c h _ _ (λ h. rw (like.bodies (h ∷ c.space)) (handled-like wanted h c.space (big.body (h ∷ (c.space ++ root))) refl (like.plain h c.space)))
 
   -- a handle of a space leads inside
-  path_at-like : (p seen : Ptr) → PtrLikeness root big p seen → is_kind kinds.Space (kind_at big p) ≡ true → AlikeResults (IsBeneath root) (path_at seen) (path_at p)
+  path_at-like : (p seen : Ptr) →
+      PtrLikeness root big p seen → is_kind kinds.Space (kind_at big p) ≡ true → AlikeResults (IsBeneath root) (path_at seen) (path_at p)
   path_at-like _ _ Nulls h = refl
   path_at-like _ _ Deads h = refl
   path_at-like _ _ (Inside x) h = refl
@@ -161,52 +166,45 @@ module _ {root : Path} {see : Ptr → Ptr} {small big : World} (like : IsLikenes
       of_handle : (seen p : Ptr) → IsSeenHandle root see big kinds.Space seen p → AlikeResults (IsBeneath root) (path_at seen) (path_at p)
       of_handle seen p h = rw h.0 (path_at-like p (see p) h.1 h.2)
 
-      by : (t : Bool) → AlikeResults (IsBeneath root) (cond {A = Result Path ℕ} t (Ok c.space) (and_read (handle small c kinds.Space s) path_at)) (cond {A = Result Path ℕ} t (Ok (c.space ++ root)) (and_read (handle big (under root c) kinds.Space s) path_at))
+      by : (t : Bool) → AlikeResults (IsBeneath root) (cond {A = Result Path ℕ} t (Ok c.space) (and_read (handle small c kinds.Space s) path_at))
+          (cond {A = Result Path ℕ} t (Ok (c.space ++ root)) (and_read (handle big (under root c) kinds.Space s) path_at))
       by true = refl
-      by false = alike_and_read (IsSeenHandle root see big kinds.Space) (IsBeneath root) (handle small c kinds.Space s) (handle big (under root c) kinds.Space s) path_at path_at (handle-like c kinds.Space s) of_handle
+      by false = alike_and_read (IsSeenHandle root see big kinds.Space)
+          (IsBeneath root) (handle small c kinds.Space s) (handle big (under root c) kinds.Space s) path_at path_at (handle-like c kinds.Space s) of_handle
 
   -- ---- objects of each kind
 
   -- a view to which no pointer matters
-  pub plain_in-like : {A : Type 0} (view : Body → Option A) → ((b : Body) → view (seen_by (seeing see) b) ≡ view b) → (c : Caller) (s : Path) (k : ℕ) → AlikeResults ◌≡◌ (object_in small c view s k) (object_in big (under root c) view (s ++ root) k)
+  pub plain_in-like : {A : Type 0} (view : Body → Option A) → ((b : Body) → view (seen_by (seeing see) b) ≡ view b) →
+      (c : Caller) (s : Path) (k : ℕ) → AlikeResults ◌≡◌ (object_in small c view s k) (object_in big (under root c) view (s ++ root) k)
   plain_in-like view same c s k = object_in-like ◌≡◌ view view (λ b h. alike_same (view (seen_by (seeing see) b)) (view b) (same b)) c s k
 
-  pub anything_in-like : (c : Caller) (s : Path) (k : ℕ) → AlikeResults (IsSeenBody root see big) (object_in small c anything s k) (object_in big (under root c) anything (s ++ root) k)
+  pub anything_in-like : (c : Caller) (s : Path) (k : ℕ) →
+      AlikeResults (IsSeenBody root see big) (object_in small c anything s k) (object_in big (under root c) anything (s ++ root) k)
   anything_in-like c s k = object_in-like (IsSeenBody root see big) anything anything (λ b h. (refl, h)) c s k
 
-  reference-alike : (b : Body) → IsPlainBody see (HasLikeness root see big) b → AlikeOptions (IsSeenAs root see big) (reference_of (seen_by (seeing see) b)) (reference_of b)
+  reference-alike : (b : Body) →
+      IsPlainBody see (HasLikeness root see big) b → AlikeOptions (IsSeenAs root see big) (reference_of (seen_by (seeing see) b)) (reference_of b)
   unfolding seen_by
   reference-alike (Reference to) h = (refl, h)
   reference-alike b h = tt
 
-  pub reference_in-like : (c : Caller) (s : Path) (k : ℕ) → AlikeResults (IsSeenAs root see big) (object_in small c reference_of s k) (object_in big (under root c) reference_of (s ++ root) k)
+  pub reference_in-like : (c : Caller) (s : Path) (k : ℕ) →
+      AlikeResults (IsSeenAs root see big) (object_in small c reference_of s k) (object_in big (under root c) reference_of (s ++ root) k)
   reference_in-like c s k = object_in-like (IsSeenAs root see big) reference_of reference_of reference-alike c s k
 
-  thread-alike : (b : Body) → IsPlainBody see (HasLikeness root see big) b → AlikeOptions (IsSeenThread root see big) (thread_of (seen_by (seeing see) b)) (thread_of b)
-  unfolding seen_by
-  thread-alike (Thread_of t) h = (refl, h)
-  thread-alike b h = tt
-
-  pub thread_in-like : (c : Caller) (s : Path) (k : ℕ) → AlikeResults (IsSeenThread root see big) (object_in small c thread_of s k) (object_in big (under root c) thread_of (s ++ root) k)
-  thread_in-like c s k = object_in-like (IsSeenThread root see big) thread_of thread_of thread-alike c s k
-
-  space-alike : (b : Body) → IsPlainBody see (HasLikeness root see big) b → AlikeOptions (IsSeenHolder root see big) (space_of (seen_by (seeing see) b)) (space_of b)
+  space-alike : (b : Body) →
+      IsPlainBody see (HasLikeness root see big) b → AlikeOptions (IsSeenHolder root see big) (space_of (seen_by (seeing see) b)) (space_of b)
   unfolding seen_by
   space-alike (Space birth holder) h = (refl, h)
   space-alike b h = tt
 
-  pub space_in-like : (c : Caller) (s : Path) (k : ℕ) → AlikeResults (IsSeenHolder root see big) (object_in small c space_of s k) (object_in big (under root c) space_of (s ++ root) k)
+  pub space_in-like : (c : Caller) (s : Path) (k : ℕ) →
+      AlikeResults (IsSeenHolder root see big) (object_in small c space_of s k) (object_in big (under root c) space_of (s ++ root) k)
   space_in-like c s k = object_in-like (IsSeenHolder root see big) space_of space_of space-alike c s k
 
-  port-alike : (b : Body) → IsPlainBody see (HasLikeness root see big) b → AlikeOptions ◌≡◌ (port_of (seen_by (seeing see) b)) (port_of b)
-  unfolding seen_by
-  port-alike (Port None served) h = rw h refl
-  port-alike (Port (Some set) served) h = rw h refl
-  port-alike b h = tt
-
-  pub port_in-like : (c : Caller) (s : Path) (k : ℕ) → AlikeResults ◌≡◌ (object_in small c port_of s k) (object_in big (under root c) port_of (s ++ root) k)
-  port_in-like c s k = object_in-like ◌≡◌ port_of port_of port-alike c s k
-
-  pub referred-like : (c : Caller) (wanted : Kind) (k : ℕ) → AlikeResults (IsSeenHandle root see big wanted) (referred small c wanted k) (referred big (under root c) wanted k)
+  pub referred-like : (c : Caller) (wanted : Kind) (k : ℕ) →
+      AlikeResults (IsSeenHandle root see big wanted) (referred small c wanted k) (referred big (under root c) wanted k)
   unfolding referred
-  referred-like c wanted k = alike_and_read (IsSeenAs root see big) (IsSeenHandle root see big wanted) _ _ (led_to small wanted) (led_to big wanted) (reference_in-like c c.space k) (λ seen p h. rw h.0 (led_to-like wanted p (see p) h.1 refl))
+  referred-like c wanted k = alike_and_read (IsSeenAs root see big) (IsSeenHandle root see big wanted)
+      _ _ (led_to small wanted) (led_to big wanted) (reference_in-like c c.space k) (λ seen p h. rw h.0 (led_to-like wanted p (see p) h.1 refl))

@@ -86,12 +86,14 @@ module _ {root : Path} {see : Ptr → Ptr} {small big : World} (like : IsLikenes
   member_word-like : (space : Path) (served : Bool) (n : ℕ) → served ≡ false → is_member_word small space false n ≡ is_member_word big (space ++ root) served n
   member_word-like space served n h = rw (h, portset-like (n - 1) space) refl
 
-  state-like : (space : Path) (b : Body) (words : List ℕ) → IsPlainBody see (HasLikeness root see big) b → is_state small space (seen_by (seeing see) b) words ≡ is_state big (space ++ root) b words
+  state-like : (space : Path) (b : Body) (words : List ℕ) →
+      IsPlainBody see (HasLikeness root see big) b → is_state small space (seen_by (seeing see) b) words ≡ is_state big (space ++ root) b words
   unfolding seen_by
   state-like space (Port set served) words h = member_word-like space served (word words 1) h
   state-like space b words h = refl
 
   -- an object takes the same records
-  pub takes_state-like : (space : Path) (b : Body) (words : List ℕ) → IsPlainBody see (HasLikeness root see big) b → takes_state small space (seen_by (seeing see) b) words ≡ takes_state big (space ++ root) b words
+  pub takes_state-like : (space : Path) (b : Body) (words : List ℕ) →
+      IsPlainBody see (HasLikeness root see big) b → takes_state small space (seen_by (seeing see) b) words ≡ takes_state big (space ++ root) b words
   unfolding takes_state
   takes_state-like space b words h = rw (kind-number see b, state-like space b words h) refl

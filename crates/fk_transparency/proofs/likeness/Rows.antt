@@ -48,8 +48,10 @@ module _ {root : Path} {see : Ptr → Ptr} {small big : World} (like : IsLikenes
 
   pub thread_by-like : (c : Caller) (h : ℕ) → AlikeResults (EndLikeness root see big) (thread_by_handle small c h) (thread_by_handle big (under root c) h)
   thread_by-like c h =
-      alike_and_read (IsSeenHandle root see big kinds.Thread) (EndLikeness root see big) (handle small c kinds.Thread h) (handle big (under root c) kinds.Thread h) _ _ (handle-like like c kinds.Thread h)
-      (λ seen p is. rw is.0 (alike_or_refuse (EndLikeness root see big) status.WRONGKIND (thread_led_to small (see p)) (thread_led_to big p) (thread_at-like like p (see p) is.1)))
+      alike_and_read (IsSeenHandle root see big kinds.Thread)
+      (EndLikeness root see big) (handle small c kinds.Thread h) (handle big (under root c) kinds.Thread h) _ _ (handle-like like c kinds.Thread h)
+      (λ seen p is. rw is.0 (alike_or_refuse (EndLikeness root see big)
+      status.WRONGKIND (thread_led_to small (see p)) (thread_led_to big p) (thread_at-like like p (see p) is.1)))
 
   pub thread_stop-like : is_frozen big root ≡ false → (c : Caller) (h : ℕ) → Alike (thread_stop small c h) (thread_stop big (under root c) h)
   unfolding thread_stop
@@ -61,23 +63,30 @@ module _ {root : Path} {see : Ptr → Ptr} {small big : World} (like : IsLikenes
 
   -- ---- an instruction
 
-  proceeds-like : (k : ℕ) (q : Path) (mode : Mode) (counter : ℕ) → is_porter mode ≡ false → Alike (proceeds (k ∷ q) mode counter) (proceeds (k ∷ (q ++ root)) mode counter)
+  proceeds-like : (k : ℕ) (q : Path) (mode : Mode) (counter : ℕ) →
+      is_porter mode ≡ false → Alike (proceeds (k ∷ q) mode counter) (proceeds (k ∷ (q ++ root)) mode counter)
   proceeds-like k q mode counter user = Both (Alters k q _ (Proceed mode counter) refl user) Empty
 
-  access : (space : Path) (slot : ℕ) (write : Bool) (g : List ℕ) (counter address : ℕ) (go on : Path → ℕ → Outcome) → ((s : Path) (page : ℕ) → Alike (go s page) (on (s ++ root) page)) →
-      Alike (accessed (slot ∷ space) write (halts_with (slot ∷ space) g counter) go (reach_word small space address write)) (accessed (slot ∷ (space ++ root)) write (halts_with (slot ∷ (space ++ root)) g counter) on (reach_word big (space ++ root) address write))
+  access : (space : Path) (slot : ℕ) (write : Bool) (g : List ℕ) (counter address : ℕ) (go on : Path → ℕ → Outcome) →
+      ((s : Path) (page : ℕ) → Alike (go s page) (on (s ++ root) page)) →
+      Alike (accessed (slot ∷ space) write (halts_with (slot ∷ space) g counter) go (reach_word small space address write))
+      (accessed (slot ∷ (space ++ root)) write (halts_with (slot ∷ (space ++ root)) g counter) on (reach_word big (space ++ root) address write))
   access space slot write g counter address go on goes =
-      accessed-like like slot space write (halts_with (slot ∷ space) g counter) (halts_with (slot ∷ (space ++ root)) g counter) go on (reach_word small space address write) (reach_word big (space ++ root) address write)
+      accessed-like like slot space write (halts_with (slot ∷ space) g counter)
+      (halts_with (slot ∷ (space ++ root)) g counter) go on (reach_word small space address write) (reach_word big (space ++ root) address write)
       (reach_word-like like space address write) (λ code. proceeds-like slot space (Halted g code) counter refl) goes
 
-  performs-like : (space : Path) (slot : ℕ) (g : List ℕ) (counter : ℕ) (a : Act) → Alike (performs todo_of small space (slot ∷ space) g counter a) (performs todo_of big (space ++ root) (slot ∷ (space ++ root)) g counter a)
+  performs-like : (space : Path) (slot : ℕ) (g : List ℕ) (counter : ℕ) (a : Act) →
+      Alike (performs todo_of small space (slot ∷ space) g counter a) (performs todo_of big (space ++ root) (slot ∷ (space ++ root)) g counter a)
   performs-like space slot g counter (Put register value) = proceeds-like slot space _ _ refl
   performs-like space slot g counter (Jump to) = proceeds-like slot space _ _ refl
   performs-like space slot g counter (Load register address) =
-      access space slot false g counter address (loads small (slot ∷ space) g counter register address) (loads big (slot ∷ (space ++ root)) g counter register address)
+      access space
+      slot false g counter address (loads small (slot ∷ space) g counter register address) (loads big (slot ∷ (space ++ root)) g counter register address)
       (λ s page. rw (words_at-like like s page) (proceeds-like slot space _ _ refl))
   performs-like space slot g counter (Store address value) =
-      access space slot true g counter address (stores small (slot ∷ space) g counter address value) (stores big (slot ∷ (space ++ root)) g counter address value)
+      access space
+      slot true g counter address (stores small (slot ∷ space) g counter address value) (stores big (slot ∷ (space ++ root)) g counter address value)
       (λ s page. rw (words_at-like like s page) (Both (PutsPage s page _) (Both (Alters slot space _ (Proceed (Running g) (next counter)) refl refl) Empty)))
   performs-like space slot g counter (Halt code) = proceeds-like slot space _ _ refl
   performs-like space slot g counter Call = by (todo_of g)
@@ -86,8 +95,10 @@ module _ {root : Path} {see : Ptr → Ptr} {small big : World} (like : IsLikenes
       by None = proceeds-like slot space _ _ refl
       by (Some todo) = proceeds-like slot space _ _ refl
 
-  pub run_row-like : (space : Path) (slot : ℕ) (g : List ℕ) (counter : ℕ) → Alike (run_row small space slot g counter) (run_row big (space ++ root) slot g counter)
+  pub run_row-like : (space : Path) (slot : ℕ) (g : List ℕ) (counter : ℕ) →
+      Alike (run_row small space slot g counter) (run_row big (space ++ root) slot g counter)
   unfolding run_row_by
   run_row-like space slot g counter =
-      access space slot false g counter counter (executes todo_of small space (slot ∷ space) g counter) (executes todo_of big (space ++ root) (slot ∷ (space ++ root)) g counter)
+      access space slot false
+      g counter counter (executes todo_of small space (slot ∷ space) g counter) (executes todo_of big (space ++ root) (slot ∷ (space ++ root)) g counter)
       (λ s page. rw (words_at-like like s page) (performs-like space slot g counter (act (word_at big (s ++ root) page counter) g counter)))

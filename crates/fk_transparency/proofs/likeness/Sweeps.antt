@@ -32,10 +32,13 @@ NoneHidden see hit other = Unit {0}
 pub record SweepAlike (see : Ptr → Ptr) (P : Ptr → Type 0) (hit : Peer → Bool) (f F : Sweep) : Type 0 where
   pub pointer : (p : Ptr) → P p → (see (F.pointer p) ≡ f.pointer (see p)) × P (F.pointer p)
   pub holder : (p : Ptr) → P p → (and_then (seeing see).holder (F.holder p) ≡ f.holder (see p)) × IfSome (F.holder p) P
-  pub talk : (talk : Talk) → AllInTalk see P talk → (is_out (see talk.port) ≡ true → hit talk.peer ≡ false) → (and_then (seeing see).talk (F.talk talk) ≡ f.talk (seen_talk see talk)) × IfSome (F.talk talk) (AllInTalk see P)
-  pub fault : (fault : Fault) → AllInFault see P fault → IfSome fault.taker (λ taker. is_out (see fault.port) ≡ true → hit taker ≡ false) → (and_then (seeing see).fault (F.fault fault) ≡ f.fault (seen_fault see fault)) × IfSome (F.fault fault) (AllInFault see P)
+  pub talk : (talk : Talk) → AllInTalk see P talk → (is_out (see talk.port) ≡ true → hit talk.peer ≡ false) →
+      (and_then (seeing see).talk (F.talk talk) ≡ f.talk (seen_talk see talk)) × IfSome (F.talk talk) (AllInTalk see P)
+  pub fault : (fault : Fault) → AllInFault see P fault → IfSome fault.taker (λ taker. is_out (see fault.port) ≡ true → hit taker ≡ false) →
+      (and_then (seeing see).fault (F.fault fault) ≡ f.fault (seen_fault see fault)) × IfSome (F.fault fault) (AllInFault see P)
 
-module _ (see : Ptr → Ptr) (P : Ptr → Type 0) (hit : Peer → Bool) (f F : Sweep) (alike : SweepAlike see P hit f F) (here there : Path) (sets : (set : ℕ) → F.set there set ≡ f.set here set) where
+module _ (see : Ptr → Ptr) (P : Ptr → Type 0)
+    (hit : Peer → Bool) (f F : Sweep) (alike : SweepAlike see P hit f F) (here there : Path) (sets : (set : ℕ) → F.set there set ≡ f.set here set) where
   set-swept : (o : Option ℕ) → and_then (λ (set : ℕ). Some set) (and_then (F.set there) o) ≡ and_then (f.set here) (and_then (λ (set : ℕ). Some set) o)
   set-swept None = refl
   set-swept (Some set) = rw (sets set) (by (f.set here set))
@@ -49,12 +52,14 @@ module _ (see : Ptr → Ptr) (P : Ptr → Type 0) (hit : Peer → Bool) (f F : S
   talk-swept None h apart = (refl, tt)
   talk-swept (Some talk) h apart = alike.talk talk h apart
 
-  fault-swept : (o : Option Fault) → IfSome o (AllInFault see P) → IfSome o (λ fault. IfSome fault.taker (λ taker. is_out (see fault.port) ≡ true → hit taker ≡ false)) →
+  fault-swept : (o : Option Fault) →
+      IfSome o (AllInFault see P) → IfSome o (λ fault. IfSome fault.taker (λ taker. is_out (see fault.port) ≡ true → hit taker ≡ false)) →
       (and_then (seeing see).fault (and_then F.fault o) ≡ and_then f.fault (and_then (seeing see).fault o)) × IfSome (and_then F.fault o) (AllInFault see P)
   fault-swept None h apart = (refl, tt)
   fault-swept (Some fault) h apart = alike.fault fault h apart
 
-  pub through-seen : (b : Body) → IsPlainBody see P b → NoneHidden see hit b → seen_by (seeing see) (through F there b) ≡ through f here (seen_by (seeing see) b)
+  pub through-seen : (b : Body) →
+      IsPlainBody see P b → NoneHidden see hit b → seen_by (seeing see) (through F there b) ≡ through f here (seen_by (seeing see) b)
   unfolding seen_by
   through-seen (Mapping m) h apart = ap (λ (p : Ptr). Mapping (record m { region = p })) (alike.pointer m.region h).0
   through-seen (Region r) h apart = ap (λ (p : Ptr). Region (record r { keeper = p })) (alike.pointer r.keeper h).0
@@ -96,7 +101,8 @@ module _ {root : Path} {see : Ptr → Ptr} {small big : World} (like : IsLikenes
   -- ---- the death of what stands at x
 
   module _ (x : Path) where
-    pub serves_alike : (out : Bool) (peer : Peer) → IfServer out peer Seen → (out ≡ true → serves (x ++ root) peer ≡ false) → serves x (seen_peer see out peer) ≡ serves (x ++ root) peer
+    pub serves_alike : (out : Bool) (peer : Peer) →
+        IfServer out peer Seen → (out ≡ true → serves (x ++ root) peer ≡ false) → serves x (seen_peer see out peer) ≡ serves (x ++ root) peer
     serves_alike true peer h apart = sym (apart refl)
     serves_alike false (Server thread) h apart = leads_alike x thread h
     serves_alike false Service h apart = refl
@@ -106,39 +112,51 @@ module _ {root : Path} {see : Ptr → Ptr} {small big : World} (like : IsLikenes
     dead_or true p h = (like.dead, rw like.dead Deads)
     dead_or false p h = (refl, h)
 
-    none_or : (t : Bool) (p : Ptr) → Seen p → (and_then (seeing see).holder (cond t None (Some p)) ≡ cond t None (Some (see p))) × IfSome (cond t None (Some p)) Seen
+    none_or : (t : Bool) (p : Ptr) →
+        Seen p → (and_then (seeing see).holder (cond t None (Some p)) ≡ cond t None (Some (see p))) × IfSome (cond t None (Some p)) Seen
     none_or true p h = (refl, tt)
     none_or false p h = (refl, h)
 
-    no_talk_or : (t : Bool) (talk : Talk) → AllInTalk see Seen talk → (and_then (seeing see).talk (cond t None (Some talk)) ≡ cond t None (Some (seen_talk see talk))) × IfSome (cond t None (Some talk)) (AllInTalk see Seen)
+    no_talk_or : (t : Bool) (talk : Talk) → AllInTalk see Seen talk →
+        (and_then (seeing see).talk (cond t None (Some talk)) ≡ cond t None (Some (seen_talk see talk))) × IfSome (cond t None (Some talk)) (AllInTalk see Seen)
     no_talk_or true talk h = (refl, tt)
     no_talk_or false talk h = (refl, h)
 
-    taker_swept : (out : Bool) (o : Option Peer) → IfSome o (λ taker. IfServer out taker Seen) → IfSome o (λ taker. out ≡ true → serves (x ++ root) taker ≡ false) →
-        (option_map (seen_peer see out) (and_then (taker_without (x ++ root)) o) ≡ and_then (taker_without x) (option_map (seen_peer see out) o)) × IfSome (and_then (taker_without (x ++ root)) o) (λ taker. IfServer out taker Seen)
+    taker_swept : (out : Bool) (o : Option Peer) →
+        IfSome o (λ taker. IfServer out taker Seen) → IfSome o (λ taker. out ≡ true → serves (x ++ root) taker ≡ false) →
+        (option_map (seen_peer see out) (and_then (taker_without (x ++ root)) o) ≡ and_then (taker_without x) (option_map (seen_peer see out) o)) ×
+        IfSome (and_then (taker_without (x ++ root)) o) (λ taker. IfServer out taker Seen)
     taker_swept out None h apart = (refl, tt)
     taker_swept out (Some taker) h apart = rw (serves_alike out taker h apart) (by (serves (x ++ root) taker))
       where
-        by : (t : Bool) → (option_map (seen_peer see out) (cond t None (Some taker)) ≡ cond t None (Some (seen_peer see out taker))) × IfSome (cond t None (Some taker)) (λ taker. IfServer out taker Seen)
+        by : (t : Bool) → (option_map (seen_peer see out) (cond t None (Some taker)) ≡ cond t None (Some (seen_peer see out taker))) ×
+            IfSome (cond t None (Some taker)) (λ taker. IfServer out taker Seen)
         by true = (refl, tt)
         by false = (refl, h)
 
     without-talk : (talk : Talk) → AllInTalk see Seen talk → (is_out (see talk.port) ≡ true → serves (x ++ root) talk.peer ≡ false) →
-        (and_then (seeing see).talk (talk_without (x ++ root) talk) ≡ talk_without x (seen_talk see talk)) × IfSome (talk_without (x ++ root) talk) (AllInTalk see Seen)
-    without-talk talk h apart = rw (leads_alike x talk.port h.0, serves_alike (is_out (see talk.port)) talk.peer h.1 apart) (no_talk_or (leads_to (x ++ root) talk.port || serves (x ++ root) talk.peer) talk h)
+        (and_then (seeing see).talk (talk_without (x ++ root) talk) ≡ talk_without x (seen_talk see talk)) ×
+        IfSome (talk_without (x ++ root) talk) (AllInTalk see Seen)
+    without-talk talk h apart = rw (leads_alike x talk.port h.0, serves_alike (is_out (see talk.port)) talk.peer h.1 apart)
+        (no_talk_or (leads_to (x ++ root) talk.port || serves (x ++ root) talk.peer) talk h)
 
-    without-fault : (fault : Fault) → AllInFault see Seen fault → IfSome fault.taker (λ taker. is_out (see fault.port) ≡ true → serves (x ++ root) taker ≡ false) →
-        (and_then (seeing see).fault (fault_without (x ++ root) fault) ≡ fault_without x (seen_fault see fault)) × IfSome (fault_without (x ++ root) fault) (AllInFault see Seen)
+    without-fault : (fault : Fault) →
+        AllInFault see Seen fault → IfSome fault.taker (λ taker. is_out (see fault.port) ≡ true → serves (x ++ root) taker ≡ false) →
+        (and_then (seeing see).fault (fault_without (x ++ root) fault) ≡ fault_without x (seen_fault see fault)) ×
+        IfSome (fault_without (x ++ root) fault) (AllInFault see Seen)
     without-fault fault h apart = rw (leads_alike x fault.port h.0) (by (leads_to (x ++ root) fault.port))
       where
-        taker : (option_map (seen_peer see (is_out (see fault.port))) (and_then (taker_without (x ++ root)) fault.taker) ≡ and_then (taker_without x) (option_map (seen_peer see (is_out (see fault.port))) fault.taker))
+        taker : (option_map (seen_peer see (is_out (see fault.port)))
+            (and_then (taker_without (x ++ root)) fault.taker) ≡ and_then (taker_without x) (option_map (seen_peer see (is_out (see fault.port))) fault.taker))
             × IfSome (and_then (taker_without (x ++ root)) fault.taker) (λ taker. IfServer (is_out (see fault.port)) taker Seen)
         taker = taker_swept (is_out (see fault.port)) fault.taker h.1 apart
 
         rest : Fault
         rest = record fault { taker = and_then (taker_without (x ++ root)) fault.taker }
 
-        by : (t : Bool) → (and_then (seeing see).fault (cond t None (Some rest)) ≡ cond t None (Some (record fault { port = see fault.port; taker = and_then (taker_without x) (seen_fault see fault).taker }))) × IfSome (cond t None (Some rest)) (AllInFault see Seen)
+        by : (t : Bool) → (and_then (seeing see).fault (cond t None (Some rest)) ≡ cond
+            t None (Some (record fault { port = see fault.port; taker = and_then (taker_without x) (seen_fault see fault).taker }))) ×
+            IfSome (cond t None (Some rest)) (AllInFault see Seen)
         by true = (refl, tt)
         by false = (ap (λ (o : Option Peer). Some (record fault { port = see fault.port; taker = o })) taker.0, (h.0, taker.1))
 
@@ -154,18 +172,24 @@ module _ {root : Path} {see : Ptr → Ptr} {small big : World} (like : IsLikenes
   abbrev shown : Path → Option Body → Option Body
   shown q v = option_map (λ b. unheld q (seen_by (seeing see) b)) v
 
-  none_hidden : ServesNobodyOutside root see big → (x : Path) (k : ℕ) (q : Path) (v : Option Body) → big.body (k ∷ (q ++ root)) ≡ v → IfSome v (NoneHidden see (serves (x ++ root)))
-  none_hidden apart x k q (Some (Thread_of t)) is = (of_talk t.talk (ap (λ (o : Option Body). and_then (λ (t : Thread). t.talk) (and_then thread_of o)) is), of_fault t.fault (ap (λ (o : Option Body). and_then (λ (t : Thread). t.fault) (and_then thread_of o)) is))
+  none_hidden : ServesNobodyOutside root see big →
+      (x : Path) (k : ℕ) (q : Path) (v : Option Body) → big.body (k ∷ (q ++ root)) ≡ v → IfSome v (NoneHidden see (serves (x ++ root)))
+  none_hidden apart x k q (Some (Thread_of t)) is = (
+    of_talk t.talk (ap (λ (o : Option Body). and_then (λ (t : Thread). t.talk) (and_then thread_of o)) is),
+    of_fault t.fault (ap (λ (o : Option Body). and_then (λ (t : Thread). t.fault) (and_then thread_of o)) is),
+  )
     where
       of_talk : (o : Option Talk) → talk_at big (k ∷ (q ++ root)) ≡ o → IfSome o (λ talk. is_out (see talk.port) ≡ true → serves (x ++ root) talk.peer ≡ false)
       of_talk None here = tt
       of_talk (Some talk) here = λ out. apart.talks k q talk here out x
 
-      of_taker : (fault : Fault) (o : Option Peer) → fault_at big (k ∷ (q ++ root)) ≡ Some fault → fault.taker ≡ o → IfSome o (λ taker. is_out (see fault.port) ≡ true → serves (x ++ root) taker ≡ false)
+      of_taker : (fault : Fault) (o : Option Peer) →
+          fault_at big (k ∷ (q ++ root)) ≡ Some fault → fault.taker ≡ o → IfSome o (λ taker. is_out (see fault.port) ≡ true → serves (x ++ root) taker ≡ false)
       of_taker fault None here by = tt
       of_taker fault (Some taker) here by = λ out. apart.faults k q fault taker here out by x
 
-      of_fault : (o : Option Fault) → fault_at big (k ∷ (q ++ root)) ≡ o → IfSome o (λ fault. IfSome fault.taker (λ taker. is_out (see fault.port) ≡ true → serves (x ++ root) taker ≡ false))
+      of_fault : (o : Option Fault) → fault_at big (k ∷ (q ++ root)) ≡ o →
+          IfSome o (λ fault. IfSome fault.taker (λ taker. is_out (see fault.port) ≡ true → serves (x ++ root) taker ≡ false))
       of_fault None here = tt
       of_fault (Some fault) here = of_taker fault fault.taker here refl
   none_hidden apart x k q (Some b) is = tt
@@ -180,35 +204,43 @@ module _ {root : Path} {see : Ptr → Ptr} {small big : World} (like : IsLikenes
     death j z set = rw (set_alike set j z (k ∷ q)) refl
 
     swept : (j : ℕ) (z : Path) (v : Option Body) → IfSome v (IsPlainBody see Seen) → IfSome v (NoneHidden see (serves (k ∷ (q ++ root)))) →
-        (shown (j ∷ z) (option_map (through (death_sweep (k ∷ (q ++ root))) (j ∷ (z ++ root))) v) ≡ option_map (through (death_sweep (k ∷ q)) (j ∷ z)) (shown (j ∷ z) v))
+        (shown (j ∷ z)
+        (option_map (through (death_sweep (k ∷ (q ++ root))) (j ∷ (z ++ root))) v) ≡ option_map (through (death_sweep (k ∷ q)) (j ∷ z)) (shown (j ∷ z) v))
         × IfSome (option_map (through (death_sweep (k ∷ (q ++ root))) (j ∷ (z ++ root))) v) (IsPlainBody see Seen)
     swept j z None h hidden = (refl, tt)
     swept j z (Some b) h hidden = (
-      ap Some (through-seen see Seen (serves (k ∷ (q ++ root))) (death_sweep (k ∷ q)) (death_sweep (k ∷ (q ++ root))) (without-alike (k ∷ q)) (j ∷ z) (j ∷ (z ++ root)) (death j z) b h hidden),
-      through-kept see Seen (serves (k ∷ (q ++ root))) (death_sweep (k ∷ q)) (death_sweep (k ∷ (q ++ root))) (without-alike (k ∷ q)) (j ∷ z) (j ∷ (z ++ root)) (death j z) b h hidden,
+      ap Some (through-seen see Seen (serves (k ∷ (q ++ root)))
+          (death_sweep (k ∷ q)) (death_sweep (k ∷ (q ++ root))) (without-alike (k ∷ q)) (j ∷ z) (j ∷ (z ++ root)) (death j z) b h hidden),
+      through-kept see Seen (serves (k ∷ (q ++ root)))
+          (death_sweep (k ∷ q)) (death_sweep (k ∷ (q ++ root))) (without-alike (k ∷ q)) (j ∷ z) (j ∷ (z ++ root)) (death j z) b h hidden,
     )
 
-    swept_at : (j : ℕ) (z : Path) → (shown (j ∷ z) (option_map (through (death_sweep (k ∷ (q ++ root))) (j ∷ (z ++ root))) (big.body (j ∷ (z ++ root)))) ≡ option_map (through (death_sweep (k ∷ q)) (j ∷ z)) (small.body (j ∷ z)))
+    swept_at : (j : ℕ) (z : Path) → (shown (j ∷ z) (option_map (through (death_sweep (k ∷ (q ++ root))) (j ∷ (z ++ root))) (big.body (j ∷ (z ++ root))))
+        ≡ option_map (through (death_sweep (k ∷ q)) (j ∷ z)) (small.body (j ∷ z)))
         × IfSome (option_map (through (death_sweep (k ∷ (q ++ root))) (j ∷ (z ++ root))) (big.body (j ∷ (z ++ root)))) (IsPlainBody see Seen)
-    swept_at j z = rw (like.bodies (j ∷ z)) (swept j z (big.body (j ∷ (z ++ root))) (like.plain j z) (none_hidden apart (k ∷ q) j z (big.body (j ∷ (z ++ root))) refl))
+    swept_at j z =
+        rw (like.bodies (j ∷ z)) (swept j z (big.body (j ∷ (z ++ root))) (like.plain j z) (none_hidden apart (k ∷ q) j z (big.body (j ∷ (z ++ root))) refl))
 
     killed-body : (z : Path) → (killed_at (k ∷ q) small).body z ≡ shown z ((killed_at (k ∷ (q ++ root)) big).body (z ++ root))
     unfolding seen_by same_path
     killed-body [] = rw (same_path_above k q root, like.bodies [], (root_space like).2) refl
     killed-body (j ∷ z) = rw (same_path_cancel (j ∷ z) (k ∷ q) root) (by (same_path (j ∷ z) (k ∷ q)))
       where
-        by : (t : Bool) → cond t None (option_map (through (death_sweep (k ∷ q)) (j ∷ z)) (small.body (j ∷ z))) ≡ shown (j ∷ z) (cond t None (option_map (through (death_sweep (k ∷ (q ++ root))) (j ∷ (z ++ root))) (big.body (j ∷ (z ++ root)))))
+        by : (t : Bool) → cond t None (option_map (through (death_sweep (k ∷ q)) (j ∷ z)) (small.body (j ∷ z))) ≡ shown
+            (j ∷ z) (cond t None (option_map (through (death_sweep (k ∷ (q ++ root))) (j ∷ (z ++ root))) (big.body (j ∷ (z ++ root)))))
         by true = refl
         by false = sym (swept_at j z).0
 
     killed-near : (j : ℕ) (z : Path) → IfSome ((killed_at (k ∷ (q ++ root)) big).body (j ∷ (z ++ root))) (IsPlainBody see Seen)
     killed-near j z = by (same_path (j ∷ (z ++ root)) (k ∷ (q ++ root)))
       where
-        by : (t : Bool) → IfSome (cond t None (option_map (through (death_sweep (k ∷ (q ++ root))) (j ∷ (z ++ root))) (big.body (j ∷ (z ++ root))))) (IsPlainBody see Seen)
+        by : (t : Bool) →
+            IfSome (cond t None (option_map (through (death_sweep (k ∷ (q ++ root))) (j ∷ (z ++ root))) (big.body (j ∷ (z ++ root))))) (IsPlainBody see Seen)
         by true = tt
         by false = (swept_at j z).1
 
-    killed-ports : (x : Path) → is_within root x ≡ false → kind_at big (At x) ≡ Some kinds.Port → kind_at (killed_at (k ∷ (q ++ root)) big) (At x) ≡ Some kinds.Port
+    killed-ports : (x : Path) →
+        is_within root x ≡ false → kind_at big (At x) ≡ Some kinds.Port → kind_at (killed_at (k ∷ (q ++ root)) big) (At x) ≡ Some kinds.Port
     killed-ports x out port = rw (outside_apart root (k ∷ q) x out) (kind-swept (death_sweep (k ∷ (q ++ root))) x (big.body x) ∙ port)
 
     pub kill-like : IsLikeness root see (apply (Kill (k ∷ q)) small) (apply (Kill (k ∷ (q ++ root))) big)
@@ -218,7 +250,8 @@ module _ {root : Path} {see : Ptr → Ptr} {small big : World} (like : IsLikenes
       pages = λ z g. rw (same_path_cancel z (k ∷ q) root, like.pages z g) refl;
       unborn = like.unborn;
       top = rw (same_path_above k q root, (root_space like).2) refl;
-      plain = λ j z. all_in_body see see (λ p. refl) Seen (HasLikeness root see (killed_at (k ∷ (q ++ root)) big)) (λ p h. ptr_moved root big (killed_at (k ∷ (q ++ root)) big) killed-ports p (see p) h) _ (killed-near j z);
+      plain = λ j z. all_in_body see see (λ p. refl) Seen (HasLikeness root see (killed_at (k ∷ (q ++ root)) big))
+          (λ p h. ptr_moved root big (killed_at (k ∷ (q ++ root)) big) killed-ports p (see p) h) _ (killed-near j z);
       within = like.within;
       null = like.null;
       dead = like.dead;
@@ -246,14 +279,17 @@ module _ {root : Path} {see : Ptr → Ptr} {small big : World} (like : IsLikenes
     out_alike : (p : Ptr) → Seen p → is_out (see (follow (x ++ root) (y ++ root) p)) ≡ is_out (see p)
     out_alike p h = ap is_out (follow_alike p h).0 ∙ out_still (see p)
 
-    peer_follows : (out : Bool) (peer : Peer) → IfServer out peer Seen → (seen_peer see out (follow_peer (x ++ root) (y ++ root) peer) ≡ follow_peer x y (seen_peer see out peer)) × IfServer out (follow_peer (x ++ root) (y ++ root) peer) Seen
+    peer_follows : (out : Bool) (peer : Peer) →
+        IfServer out peer Seen → (seen_peer see out (follow_peer (x ++ root) (y ++ root) peer) ≡ follow_peer x y (seen_peer see out peer)) ×
+        IfServer out (follow_peer (x ++ root) (y ++ root) peer) Seen
     peer_follows true peer h = (refl, tt)
     peer_follows false (Server thread) h = (ap Server (follow_alike thread h).0, (follow_alike thread h).1)
     peer_follows false Service h = (refl, tt)
     peer_follows false Parked h = (refl, tt)
 
     taker_follows : (out : Bool) (o : Option Peer) → IfSome o (λ taker. IfServer out taker Seen) →
-        (option_map (seen_peer see out) (option_map (follow_peer (x ++ root) (y ++ root)) o) ≡ option_map (follow_peer x y) (option_map (seen_peer see out) o)) × IfSome (option_map (follow_peer (x ++ root) (y ++ root)) o) (λ taker. IfServer out taker Seen)
+        (option_map (seen_peer see out) (option_map (follow_peer (x ++ root) (y ++ root)) o) ≡ option_map (follow_peer x y)
+        (option_map (seen_peer see out) o)) × IfSome (option_map (follow_peer (x ++ root) (y ++ root)) o) (λ taker. IfServer out taker Seen)
     taker_follows out None h = (refl, tt)
     taker_follows out (Some taker) h = (ap Some (peer_follows out taker h).0, (peer_follows out taker h).1)
 
@@ -296,7 +332,8 @@ module _ {root : Path} {see : Ptr → Ptr} {small big : World} (like : IsLikenes
 
     -- what stands at a path inside, seen at this path after the move
     moved : (i j : ℕ) (z at : Path) (v : Option Body) → IfSome v (IsPlainBody see Seen) →
-        (shown (j ∷ z) (option_map (through far (j ∷ (z ++ root))) v) ≡ option_map (through near (j ∷ z)) (shown (i ∷ at) v)) × IfSome (option_map (through far (j ∷ (z ++ root))) v) (IsPlainBody see Seen)
+        (shown (j ∷ z) (option_map (through far (j ∷ (z ++ root))) v) ≡ option_map (through near (j ∷ z)) (shown (i ∷ at) v)) ×
+        IfSome (option_map (through far (j ∷ (z ++ root))) v) (IsPlainBody see Seen)
     moved i j z at None h = (refl, tt)
     moved i j z at (Some b) h =
         let sets : (set : ℕ) → far.set (j ∷ (z ++ root)) set ≡ near.set (j ∷ z) set = λ set. rw (set_alike set j z (k ∷ q)) refl in (
@@ -304,18 +341,21 @@ module _ {root : Path} {see : Ptr → Ptr} {small big : World} (like : IsLikenes
           through-kept see Seen (λ peer. false) near far (following-alike (k ∷ q) (slot ∷ q)) (j ∷ z) (j ∷ (z ++ root)) sets b h (nobody_hit b),
         )
 
-    moved_from : (i j : ℕ) (z there : Path) → (shown (j ∷ z) (option_map (through far (j ∷ (z ++ root))) (big.body (i ∷ (there ++ root)))) ≡ option_map (through near (j ∷ z)) (small.body (i ∷ there)))
+    moved_from : (i j : ℕ) (z there : Path) → (shown (j ∷ z)
+        (option_map (through far (j ∷ (z ++ root))) (big.body (i ∷ (there ++ root)))) ≡ option_map (through near (j ∷ z)) (small.body (i ∷ there)))
         × IfSome (option_map (through far (j ∷ (z ++ root))) (big.body (i ∷ (there ++ root)))) (IsPlainBody see Seen)
     moved_from i j z there = rw (like.bodies (i ∷ there)) (moved i j z there (big.body (i ∷ (there ++ root))) (like.plain i there))
 
     moved-body : (z : Path) → (moved_to (k ∷ q) (slot ∷ q) small).body z ≡ shown z ((moved_to (k ∷ (q ++ root)) (slot ∷ (q ++ root)) big).body (z ++ root))
     unfolding seen_by same_path
     moved-body [] = rw (same_path_above slot q root, same_path_above k q root, like.bodies [], (root_space like).2) refl
-    moved-body (j ∷ z) = rw (same_path_cancel (j ∷ z) (slot ∷ q) root, same_path_cancel (j ∷ z) (k ∷ q) root) (by (same_path (j ∷ z) (slot ∷ q)) (same_path (j ∷ z) (k ∷ q)))
+    moved-body (j ∷ z) =
+        rw (same_path_cancel (j ∷ z) (slot ∷ q) root, same_path_cancel (j ∷ z) (k ∷ q) root) (by (same_path (j ∷ z) (slot ∷ q)) (same_path (j ∷ z) (k ∷ q)))
       where
         by : (t u : Bool) →
             cond t (option_map (through near (slot ∷ q)) (small.body (k ∷ q))) (cond u None (option_map (through near (j ∷ z)) (small.body (j ∷ z))))
-            ≡ shown (j ∷ z) (cond t (option_map (through far (slot ∷ (q ++ root))) (big.body (k ∷ (q ++ root)))) (cond u None (option_map (through far (j ∷ (z ++ root))) (big.body (j ∷ (z ++ root))))))
+            ≡ shown (j ∷ z) (cond t (option_map (through far (slot ∷ (q ++ root))) (big.body (k ∷ (q ++ root))))
+            (cond u None (option_map (through far (j ∷ (z ++ root))) (big.body (j ∷ (z ++ root))))))
         by true u = sym (moved_from k slot q q).0
         by false true = refl
         by false false = sym (moved_from j j z z).0
@@ -323,12 +363,14 @@ module _ {root : Path} {see : Ptr → Ptr} {small big : World} (like : IsLikenes
     moved-near : (j : ℕ) (z : Path) → IfSome ((moved_to (k ∷ (q ++ root)) (slot ∷ (q ++ root)) big).body (j ∷ (z ++ root))) (IsPlainBody see Seen)
     moved-near j z = by (same_path (j ∷ (z ++ root)) (slot ∷ (q ++ root))) (same_path (j ∷ (z ++ root)) (k ∷ (q ++ root)))
       where
-        by : (t u : Bool) → IfSome (cond t (option_map (through far (slot ∷ (q ++ root))) (big.body (k ∷ (q ++ root)))) (cond u None (option_map (through far (j ∷ (z ++ root))) (big.body (j ∷ (z ++ root)))))) (IsPlainBody see Seen)
+        by : (t u : Bool) → IfSome (cond t (option_map (through far (slot ∷ (q ++ root))) (big.body (k ∷ (q ++ root))))
+            (cond u None (option_map (through far (j ∷ (z ++ root))) (big.body (j ∷ (z ++ root)))))) (IsPlainBody see Seen)
         by true u = (moved_from k slot q q).1
         by false true = tt
         by false false = (moved_from j j z z).1
 
-    moved-ports : (x : Path) → is_within root x ≡ false → kind_at big (At x) ≡ Some kinds.Port → kind_at (moved_to (k ∷ (q ++ root)) (slot ∷ (q ++ root)) big) (At x) ≡ Some kinds.Port
+    moved-ports : (x : Path) →
+        is_within root x ≡ false → kind_at big (At x) ≡ Some kinds.Port → kind_at (moved_to (k ∷ (q ++ root)) (slot ∷ (q ++ root)) big) (At x) ≡ Some kinds.Port
     moved-ports x out port = rw (outside_apart root (slot ∷ q) x out, outside_apart root (k ∷ q) x out) (kind-swept far x (big.body x) ∙ port)
 
     pub move-like : IsLikeness root see (apply (Move (k ∷ q) slot) small) (apply (Move (k ∷ (q ++ root)) slot) big)
@@ -338,7 +380,8 @@ module _ {root : Path} {see : Ptr → Ptr} {small big : World} (like : IsLikenes
       pages = λ z g. rw (same_path_cancel z (slot ∷ q) root, same_path_cancel z (k ∷ q) root, like.pages z g, like.pages (k ∷ q) g) refl;
       unborn = like.unborn;
       top = rw (same_path_above slot q root, same_path_above k q root, (root_space like).2) refl;
-      plain = λ j z. all_in_body see see (λ p. refl) Seen (HasLikeness root see (moved_to (k ∷ (q ++ root)) (slot ∷ (q ++ root)) big)) (λ p h. ptr_moved root big (moved_to (k ∷ (q ++ root)) (slot ∷ (q ++ root)) big) moved-ports p (see p) h) _ (moved-near j z);
+      plain = λ j z. all_in_body see see (λ p. refl) Seen (HasLikeness root see (moved_to (k ∷ (q ++ root)) (slot ∷ (q ++ root)) big))
+          (λ p h. ptr_moved root big (moved_to (k ∷ (q ++ root)) (slot ∷ (q ++ root)) big) moved-ports p (see p) h) _ (moved-near j z);
       within = like.within;
       null = like.null;
       dead = like.dead;

@@ -1,18 +1,18 @@
 -- What a wait looks for is found alike in a likeness: the slots of a set's ports, and the candidates.
-use Rattle.std.proofs.Common.{◌≡◌, ℕ, Bool, true, false, cond, not, [], ◌∷◌, ◌++◌, Option, Some, None, IfSome, is_some, option_map, Result, Ok, Err, refl, sym, ap, ◌∙◌}
+use Rattle.std.proofs.Common.{◌≡◌, ℕ, Bool, true, false, cond, [], ◌∷◌, ◌++◌, Option, Some, None, IfSome, is_some, option_map, Result, Ok, Err, refl, sym, ap, ◌∙◌}
 use Rattle.std.proofs.lemmas.Bool.{and_left, and_right}
 use Rattle.fk_model.specs.declared.names.Kind.TheVariants as kinds
 use Rattle.fk_model.specs.declared.stage.Stage.{Stage}
 use Rattle.fk_model.specs.declared.stage.Stage.TheVariants.{Connect}
 use Rattle.fk_model.specs.Places.{Path, same_path, strip, is_within, parent, slot_of, Ptr}
 use Rattle.fk_model.specs.Places.Ptr.{Null, Dead, At, Out, Outside, Far}
-use Rattle.fk_model.specs.Objects.{Peer, Talk, Fault, Thread, Body, port_of, thread_of, and_then, or_else, holds}
+use Rattle.fk_model.specs.Objects.{Peer, Talk, Fault, Thread, Body, thread_of, and_then, or_else}
 use Rattle.fk_model.specs.Objects.Peer.{Server, Service, Parked}
 use Rattle.fk_model.specs.Objects.Body.{Port}
 use Rattle.fk_model.specs.World.{World}
 use Rattle.fk_model.specs.Searches.{talk_at, fault_at}
-use Rattle.fk_model.specs.Holds.{holder_of, decider, is_frozen, is_unheld, is_free}
-use Rattle.fk_model.specs.Talks.{first_stage, is_service_free}
+use Rattle.fk_model.specs.Holds.{is_frozen, is_unheld, is_free}
+use Rattle.fk_model.specs.Talks.{first_stage}
 use Rattle.fk_model.specs.LinkRows.{user_at, if_read, port_named, connecting_to, Candidate, is_member, slot_in_set, is_parked, is_open, faulting, connecting, resuming, candidate_by, candidate}
 use Rattle.fk_model.specs.LinkRows.Candidate.{Faulting, Connecting, Resuming}
 use Rattle.fk_model.specs.Cut.{is_out, seen_by, unheld}
@@ -23,7 +23,7 @@ use Rattle.fk_model.proofs.walks.PlaceLaws.{same_path_eq, same_path_cancel, stri
 use Rattle.fk_transparency.proofs.likeness.Reads.{handle-like}
 use Rattle.fk_transparency.proofs.likeness.Alike.{alike_or_else}
 use Rattle.fk_transparency.proofs.likeness.Memory.{root_space, root_seen}
-use Rattle.fk_transparency.proofs.likeness.Holds.{none-unfrozen, or_else-none, is_unheld-like, is_free-like}
+use Rattle.fk_transparency.proofs.likeness.Holds.{is_unheld-like, is_free-like}
 use Rattle.fk_transparency.proofs.likeness.Talks.{thread_there-like}
 
 off : {A : Type 0} (t : Bool) (a : A) → t ≡ false → cond t (Some a) None ≡ None
@@ -61,13 +61,16 @@ module _ {root : Path} {see : Ptr → Ptr} {small big : World} (like : IsLikenes
       by (Some b) = refl
       by None = refl
 
-  pub slot_in_set-like : (space : Path) (set : ℕ) (p seen : Ptr) → PtrLikeness root big p seen → slot_in_set small space set seen ≡ slot_in_set big (space ++ root) set p
+  pub slot_in_set-like : (space : Path) (set : ℕ) (p seen : Ptr) →
+      PtrLikeness root big p seen → slot_in_set small space set seen ≡ slot_in_set big (space ++ root) set p
   slot_in_set-like space set _ _ Nulls = refl
   slot_in_set-like space set _ _ Deads = refl
   slot_in_set-like space set _ _ (Inside []) =
-      rw ((root_space like).2, root_seen like) (off _ 0 (and_right (same_path [] space) false refl) ∙ sym (off _ (slot_of root) (and_right (same_path (parent root) (space ++ root)) false refl)))
+      rw ((root_space like).2, root_seen like)
+      (off _ 0 (and_right (same_path [] space) false refl) ∙ sym (off _ (slot_of root) (and_right (same_path (parent root) (space ++ root)) false refl)))
   slot_in_set-like space set _ _ (Inside (k ∷ q)) = rw (is_member-like set k q, same_path_cancel q space root) refl
-  slot_in_set-like space set _ _ (PortAt x slot apart port) = sym (off _ (slot_of x) (and_left (same_path (parent x) (space ++ root)) (is_member set (big.body x)) (parent_outside root space x apart)))
+  slot_in_set-like space set _ _ (PortAt x slot apart port) =
+      sym (off _ (slot_of x) (and_left (same_path (parent x) (space ++ root)) (is_member set (big.body x)) (parent_outside root space x apart)))
   slot_in_set-like space set _ _ (PortOut old slot) = refl
 
   -- a port of a set stands inside
@@ -91,21 +94,25 @@ module _ {root : Path} {see : Ptr → Ptr} {small big : World} (like : IsLikenes
   if_read-like (Ok seen) (Err refusal) h = absurd h
   if_read-like (Err status) (Ok p) h = absurd h
 
-  port_named-like : (k : ℕ) (q : Path) (stage : Stage) → AlikeOptions (IsSeenAs root see big) (port_named small (k ∷ q) stage) (port_named big (k ∷ (q ++ root)) stage)
+  port_named-like : (k : ℕ) (q : Path) (stage : Stage) →
+      AlikeOptions (IsSeenAs root see big) (port_named small (k ∷ q) stage) (port_named big (k ∷ (q ++ root)) stage)
   port_named-like k q (Connect h) = if_read-like _ _ (handle-like like (user_at (k ∷ q)) kinds.Port h)
   port_named-like k q stage = tt
 
-  pub connecting_to-like : (k : ℕ) (q : Path) (t : Thread) → AlikeOptions (IsSeenAs root see big) (connecting_to small (k ∷ q) (seen_thread see t)) (connecting_to big (k ∷ (q ++ root)) t)
+  pub connecting_to-like : (k : ℕ) (q : Path) (t : Thread) →
+      AlikeOptions (IsSeenAs root see big) (connecting_to small (k ∷ q) (seen_thread see t)) (connecting_to big (k ∷ (q ++ root)) t)
   connecting_to-like k q t = rw (no_talk t.talk) (by (is_some t.talk) (first_stage t.mode))
     where
-      by : (b : Bool) (stage : Option Stage) → AlikeOptions (IsSeenAs root see big) (cond b None (and_then (port_named small (k ∷ q)) stage)) (cond b None (and_then (port_named big (k ∷ (q ++ root))) stage))
+      by : (b : Bool) (stage : Option Stage) → AlikeOptions (IsSeenAs root see big)
+          (cond b None (and_then (port_named small (k ∷ q)) stage)) (cond b None (and_then (port_named big (k ∷ (q ++ root))) stage))
       by true stage = tt
       by false None = tt
       by false (Some stage) = port_named-like k q stage
 
   -- ---- candidates
 
-  found-like : (R : Candidate → Candidate → Type 0) (found : Option ℕ) (a b : Bool) (f g : ℕ → Candidate) → ((slot : ℕ) → found ≡ Some slot → (a ≡ b) × R (f slot) (g slot)) → AlikeOptions R (cond a (option_map f found) None) (cond b (option_map g found) None)
+  found-like : (R : Candidate → Candidate → Type 0) (found : Option ℕ) (a b : Bool) (f g : ℕ → Candidate) →
+      ((slot : ℕ) → found ≡ Some slot → (a ≡ b) × R (f slot) (g slot)) → AlikeOptions R (cond a (option_map f found) None) (cond b (option_map g found) None)
   found-like R None true true f g h = tt
   found-like R None true false f g h = tt
   found-like R None false true f g h = tt
@@ -129,46 +136,57 @@ module _ {root : Path} {see : Ptr → Ptr} {small big : World} (like : IsLikenes
     abbrev Alike : Candidate → Candidate → Type 0
     Alike = CandidateLikeness see big (k ∷ (q ++ root))
 
-    faulting-like : (t : Thread) → fault_at big (k ∷ (q ++ root)) ≡ t.fault → IfSome t.fault (AllInFault see (HasLikeness root see big)) → AlikeOptions Alike (faulting small space set (seen_thread see t)) (faulting big (space ++ root) set t)
+    faulting-like : (t : Thread) → fault_at big (k ∷ (q ++ root)) ≡ t.fault → IfSome t.fault (AllInFault see (HasLikeness root see big)) →
+        AlikeOptions Alike (faulting small space set (seen_thread see t)) (faulting big (space ++ root) set t)
     faulting-like t = by t.fault
       where
         by : (o : Option Fault) → fault_at big (k ∷ (q ++ root)) ≡ o → IfSome o (AllInFault see (HasLikeness root see big)) →
-            AlikeOptions Alike (and_then (λ (fault : Fault). cond (is_open fault.taker) (option_map (λ slot. Faulting slot fault) (slot_in_set small space set fault.port)) None) (and_then (seeing see).fault o))
-            (and_then (λ (fault : Fault). cond (is_open fault.taker) (option_map (λ slot. Faulting slot fault) (slot_in_set big (space ++ root) set fault.port)) None) o)
+            AlikeOptions Alike (and_then (λ (fault : Fault). cond
+            (is_open fault.taker) (option_map (λ slot. Faulting slot fault) (slot_in_set small space set fault.port)) None) (and_then (seeing see).fault o))
+            (and_then (λ (fault : Fault).
+            cond (is_open fault.taker) (option_map (λ slot. Faulting slot fault) (slot_in_set big (space ++ root) set fault.port)) None) o)
         by None is h = tt
         by (Some fault) is h =
             let alike = slot_in_set-like space set fault.port (see fault.port) h.0 in
             rw (← alike)
             (found-like Alike (slot_in_set small space set (see fault.port)) _ _ _ _
-            (λ slot found. let near = slot_in_set_near small space set slot (see fault.port) found in (ap (λ (out : Bool). is_open (option_map (seen_peer see out) fault.taker)) near ∙ open_near fault.taker, Faults slot fault is near)))
+            (λ slot found. let near = slot_in_set_near small space set slot (see fault.port) found in
+            (ap (λ (out : Bool). is_open (option_map (seen_peer see out) fault.taker)) near ∙ open_near fault.taker, Faults slot fault is near)))
 
-    resuming-like : (t : Thread) → talk_at big (k ∷ (q ++ root)) ≡ t.talk → IfSome t.talk (AllInTalk see (HasLikeness root see big)) → AlikeOptions Alike (resuming small space set (seen_thread see t)) (resuming big (space ++ root) set t)
+    resuming-like : (t : Thread) → talk_at big (k ∷ (q ++ root)) ≡ t.talk → IfSome t.talk (AllInTalk see (HasLikeness root see big)) →
+        AlikeOptions Alike (resuming small space set (seen_thread see t)) (resuming big (space ++ root) set t)
     resuming-like t = by t.talk
       where
         by : (o : Option Talk) → talk_at big (k ∷ (q ++ root)) ≡ o → IfSome o (AllInTalk see (HasLikeness root see big)) →
-            AlikeOptions Alike (and_then (λ (talk : Talk). cond (is_parked (Some talk.peer)) (option_map (λ slot. Resuming slot talk) (slot_in_set small space set talk.port)) None) (and_then (seeing see).talk o))
-            (and_then (λ (talk : Talk). cond (is_parked (Some talk.peer)) (option_map (λ slot. Resuming slot talk) (slot_in_set big (space ++ root) set talk.port)) None) o)
+            AlikeOptions Alike (and_then (λ (talk : Talk). cond (is_parked (Some talk.peer))
+            (option_map (λ slot. Resuming slot talk) (slot_in_set small space set talk.port)) None) (and_then (seeing see).talk o))
+            (and_then (λ (talk : Talk).
+            cond (is_parked (Some talk.peer)) (option_map (λ slot. Resuming slot talk) (slot_in_set big (space ++ root) set talk.port)) None) o)
         by None is h = tt
         by (Some talk) is h =
             let alike = slot_in_set-like space set talk.port (see talk.port) h.0 in
             rw (← alike)
             (found-like Alike (slot_in_set small space set (see talk.port)) _ _ _ _
-            (λ slot found. let near = slot_in_set_near small space set slot (see talk.port) found in (ap (λ (out : Bool). is_parked (Some (seen_peer see out talk.peer))) near ∙ parked_near talk.peer, Resumes slot talk is near)))
+            (λ slot found. let near = slot_in_set_near small space set slot (see talk.port) found in
+            (ap (λ (out : Bool). is_parked (Some (seen_peer see out talk.peer))) near ∙ parked_near talk.peer, Resumes slot talk is near)))
 
-    connecting-like : (t : Thread) → AlikeOptions Alike (connecting small space set (k ∷ q) (seen_thread see t)) (connecting big (space ++ root) set (k ∷ (q ++ root)) t)
+    connecting-like : (t : Thread) →
+        AlikeOptions Alike (connecting small space set (k ∷ q) (seen_thread see t)) (connecting big (space ++ root) set (k ∷ (q ++ root)) t)
     connecting-like t = by (connecting_to small (k ∷ q) (seen_thread see t)) (connecting_to big (k ∷ (q ++ root)) t) (connecting_to-like k q t)
       where
         slots : (o : Option ℕ) → AlikeOptions Alike (option_map Connecting o) (option_map Connecting o)
         slots None = tt
         slots (Some slot) = Connects slot
 
-        by : (o p : Option Ptr) → AlikeOptions (IsSeenAs root see big) o p → AlikeOptions Alike (option_map Connecting (and_then (slot_in_set small space set) o)) (option_map Connecting (and_then (slot_in_set big (space ++ root) set) p))
+        by : (o p : Option Ptr) → AlikeOptions (IsSeenAs root see big) o p → AlikeOptions Alike
+            (option_map Connecting (and_then (slot_in_set small space set) o)) (option_map Connecting (and_then (slot_in_set big (space ++ root) set) p))
         by None None h = tt
         by (Some seen) (Some p) h = rw (h.0, slot_in_set-like space set p (see p) h.1) (slots (slot_in_set big (space ++ root) set p))
         by None (Some p) h = absurd h
         by (Some seen) None h = absurd h
 
-  pub candidate-like : is_frozen big root ≡ false → (space : Path) (set k : ℕ) (q : Path) → AlikeOptions (CandidateLikeness see big (k ∷ (q ++ root))) (candidate small space set (k ∷ q)) (candidate big (space ++ root) set (k ∷ (q ++ root)))
+  pub candidate-like : is_frozen big root ≡ false → (space : Path) (set k : ℕ) (q : Path) →
+      AlikeOptions (CandidateLikeness see big (k ∷ (q ++ root))) (candidate small space set (k ∷ q)) (candidate big (space ++ root) set (k ∷ (q ++ root)))
   unfolding candidate
   candidate-like free space set k q = rw (is_unheld-like like free q) (by (is_unheld big (q ++ root)))
     where
@@ -180,41 +198,21 @@ module _ {root : Path} {see : Ptr → Ptr} {small big : World} (like : IsLikenes
       of_thread None None is h = tt
       of_thread (Some seen) (Some t) is h =
           rw (h.0, is_free-like like free q t)
-          (alike_or_else Alike (faulting small space set (seen_thread see t)) _ (faulting big (space ++ root) set t) _ (faulting-like space set k q t (ap (and_then (λ (t : Thread). t.fault)) is) h.1.1) (if_free (is_free big (q ++ root) t)))
+          (alike_or_else Alike (faulting small space set (seen_thread see t)) _ (faulting big (space ++ root) set t)
+          _ (faulting-like space set k q t (ap (and_then (λ (t : Thread). t.fault)) is) h.1.1) (if_free (is_free big (q ++ root) t)))
         where
-          if_free : (b : Bool) → AlikeOptions Alike (cond b (or_else (connecting small space set (k ∷ q) (seen_thread see t)) (resuming small space set (seen_thread see t))) None) (cond b (or_else (connecting big (space ++ root) set (k ∷ (q ++ root)) t) (resuming big (space ++ root) set t)) None)
-          if_free true = alike_or_else Alike (connecting small space set (k ∷ q) (seen_thread see t)) (resuming small space set (seen_thread see t)) (connecting big (space ++ root) set (k ∷ (q ++ root)) t) (resuming big (space ++ root) set t)
+          if_free : (b : Bool) →
+              AlikeOptions Alike (cond b (or_else (connecting small space set (k ∷ q) (seen_thread see t)) (resuming small space set (seen_thread see t))) None)
+              (cond b (or_else (connecting big (space ++ root) set (k ∷ (q ++ root)) t) (resuming big (space ++ root) set t)) None)
+          if_free true = alike_or_else Alike (connecting small space set (k ∷ q) (seen_thread see t))
+              (resuming small space set (seen_thread see t)) (connecting big (space ++ root) set (k ∷ (q ++ root)) t) (resuming big (space ++ root) set t)
               (connecting-like space set k q t) (resuming-like space set k q t (ap (and_then (λ (t : Thread). t.talk)) is) h.1.0)
           if_free false = tt
       of_thread None (Some t) is h = absurd h
       of_thread (Some seen) None is h = absurd h
 
-      by : (b : Bool) → AlikeOptions Alike (cond b (and_then (candidate_by small space set (k ∷ q)) (and_then thread_of (small.body (k ∷ q)))) None) (cond b (and_then (candidate_by big (space ++ root) set (k ∷ (q ++ root))) (and_then thread_of (big.body (k ∷ (q ++ root))))) None)
+      by : (b : Bool) → AlikeOptions Alike (cond b (and_then (candidate_by small space set (k ∷ q)) (and_then thread_of (small.body (k ∷ q)))) None)
+          (cond b (and_then (candidate_by big (space ++ root) set (k ∷ (q ++ root))) (and_then thread_of (big.body (k ∷ (q ++ root))))) None)
       by true = of_thread (and_then thread_of (small.body (k ∷ q))) (and_then thread_of (big.body (k ∷ (q ++ root)))) refl (thread_there-like like (k ∷ q))
       by false = tt
-
-  -- ---- native servers
-
-  -- no port is seen served
-  pub unserved-like : (k : ℕ) (q : Path) → holds (λ (port : Option ℕ × Bool). port.1) (and_then port_of (small.body (k ∷ q))) ≡ false
-  unfolding seen_by
-  unserved-like k q = rw (like.bodies (k ∷ q)) (by (big.body (k ∷ (q ++ root))))
-    where
-      by : (v : Option Body) → holds (λ (port : Option ℕ × Bool). port.1) (and_then port_of (option_map (λ b. unheld (k ∷ q) (seen_by (seeing see) b)) v)) ≡ false
-      by (Some (Port set served)) = refl
-      by (Some b) = refl
-      by None = refl
-
-  above_free : (x : Path) → decider big x ≡ None → is_unheld big (parent x) ≡ true
-  unfolding decider
-  above_free [] h = ap (λ (o : Option Ptr). not (is_some o)) h
-  above_free (k ∷ x) h = ap (λ (o : Option Ptr). not (is_some o)) (or_else-none (decider big x) (holder_of (big.body (k ∷ x))) h)
-
-  -- the native server of a port that is seen inside is free alike
-  pub is_service_free-like : is_frozen big root ≡ false → (p seen : Ptr) → PtrLikeness root big p seen → is_out seen ≡ false → is_service_free small seen ≡ is_service_free big p
-  is_service_free-like free _ _ Nulls near = refl
-  is_service_free-like free _ _ Deads near = refl
-  is_service_free-like free _ _ (Inside []) near = is_unheld-like like free [] ∙ ap (λ (o : Option Ptr). not (is_some o)) (none-unfrozen big root free) ∙ sym (above_free root (none-unfrozen big root free))
-  is_service_free-like free _ _ (Inside (k ∷ q)) near = is_unheld-like like free q
-  is_service_free-like free _ _ (PortAt x slot apart port) near = cc
-  is_service_free-like free _ _ (PortOut old slot) near = cc
+      -- ---- native servers

@@ -100,7 +100,8 @@ module _ {root : Path} {see : Ptr → Ptr} {small big : World} (like : IsLikenes
   leaf_by-like zero q = refl
   leaf_by-like (suc n) q = rw (first_resident-like q) (by (λ k. leaf_by-like n (k ∷ q)) (first_resident big (q ++ root)))
     where
-      by : ((k : ℕ) → leaf_by n big (k ∷ (q ++ root)) ≡ leaf_by n small (k ∷ q) ++ root) → (o : Option ℕ) → leaf_from (λ k. leaf_by n big (k ∷ (q ++ root))) (q ++ root) o ≡ leaf_from (λ k. leaf_by n small (k ∷ q)) q o ++ root
+      by : ((k : ℕ) → leaf_by n big (k ∷ (q ++ root)) ≡ leaf_by n small (k ∷ q) ++ root) →
+          (o : Option ℕ) → leaf_from (λ k. leaf_by n big (k ∷ (q ++ root))) (q ++ root) o ≡ leaf_from (λ k. leaf_by n small (k ∷ q)) q o ++ root
       by below None = refl
       by below (Some k) = below k
 
@@ -116,7 +117,8 @@ module _ {root : Path} {see : Ptr → Ptr} {small big : World} (like : IsLikenes
       by (Some b) = tt
 
   pub has_residents-like : (q : Path) → has_residents small q ≡ has_residents big (q ++ root)
-  has_residents-like q = alike-is_some (λ (seen b : Body). Unit {0}) (lowest SLOTS (λ k. small.body (k ∷ q))) (lowest SLOTS (λ k. big.body (k ∷ (q ++ root)))) (alike_lowest (λ (seen b : Body). Unit {0}) SLOTS _ _ (λ k. taken-alike k q))
+  has_residents-like q = alike-is_some (λ (seen b : Body). Unit {0}) (lowest SLOTS (λ k. small.body (k ∷ q)))
+      (lowest SLOTS (λ k. big.body (k ∷ (q ++ root)))) (alike_lowest (λ (seen b : Body). Unit {0}) SLOTS _ _ (λ k. taken-alike k q))
 
   -- ---- all that lies beneath
 
@@ -136,7 +138,8 @@ module _ {root : Path} {see : Ptr → Ptr} {small big : World} (like : IsLikenes
   beneath-like q = beneath_by-like depth q
 
   -- a test that what lies inside passes alike
-  any_beneath_by : (f g : Path → Bool) → ((k : ℕ) (q : Path) → f (k ∷ q) ≡ g (k ∷ (q ++ root))) → (n : ℕ) (q : Path) → list_any f (beneath_by n small q) ≡ list_any g (beneath_by n big (q ++ root))
+  any_beneath_by : (f g : Path → Bool) → ((k : ℕ) (q : Path) → f (k ∷ q) ≡ g (k ∷ (q ++ root))) →
+      (n : ℕ) (q : Path) → list_any f (beneath_by n small q) ≡ list_any g (beneath_by n big (q ++ root))
   unfolding beneath_by
   any_beneath_by f g same zero q = refl
   any_beneath_by f g same (suc n) q =
@@ -145,7 +148,8 @@ module _ {root : Path} {see : Ptr → Ptr} {small big : World} (like : IsLikenes
       ∙ ap (λ (test : ℕ → Bool). list_any test (residents small q)) (λ i k. same k q i || any_beneath_by f g same n (k ∷ q) i)
       ∙ sym (list_any-flat_map g (λ k. (k ∷ (q ++ root)) ∷ beneath_by n big (k ∷ (q ++ root))) (residents small q)))
 
-  pub any_beneath-like : (f g : Path → Bool) → ((k : ℕ) (q : Path) → f (k ∷ q) ≡ g (k ∷ (q ++ root))) → (q : Path) → list_any f (beneath small q) ≡ list_any g (beneath big (q ++ root))
+  pub any_beneath-like : (f g : Path → Bool) →
+      ((k : ℕ) (q : Path) → f (k ∷ q) ≡ g (k ∷ (q ++ root))) → (q : Path) → list_any f (beneath small q) ≡ list_any g (beneath big (q ++ root))
   unfolding beneath
   any_beneath-like f g same q = any_beneath_by f g same depth q
 
@@ -166,7 +170,8 @@ unfolding leaf_by
 leaf_by_below zero w k q = (k, q, refl)
 leaf_by_below (suc n) w k q = by (λ j. leaf_by_below n w j (k ∷ q)) (first_resident w (k ∷ q))
   where
-    by : ((j : ℕ) → (i : ℕ) × (z : Path) × (leaf_by n w (j ∷ k ∷ q) ≡ i ∷ z)) → (o : Option ℕ) → (j : ℕ) × (z : Path) × (leaf_from (λ j. leaf_by n w (j ∷ k ∷ q)) (k ∷ q) o ≡ j ∷ z)
+    by : ((j : ℕ) → (i : ℕ) × (z : Path) × (leaf_by n w (j ∷ k ∷ q) ≡ i ∷ z)) →
+        (o : Option ℕ) → (j : ℕ) × (z : Path) × (leaf_from (λ j. leaf_by n w (j ∷ k ∷ q)) (k ∷ q) o ≡ j ∷ z)
     by below None = (k, q, refl)
     by below (Some j) = below j
 

@@ -51,7 +51,8 @@ no_outside (Move x slot) h = h
 
 -- ---- a test f of what is seen, and a test g of what was, that agree on every pointer
 
-module _ (see : Ptr → Ptr) (outs : (p : Ptr) → is_out (see p) ≡ is_out p) (f g : Ptr → Bool) (f_off : f Outside ≡ false) (g_off : g Outside ≡ false) (same : (p : Ptr) → f (see p) ≡ g p) where
+module _ (see : Ptr → Ptr) (outs : (p : Ptr) → is_out (see p) ≡ is_out p)
+    (f g : Ptr → Bool) (f_off : f Outside ≡ false) (g_off : g Outside ≡ false) (same : (p : Ptr) → f (see p) ≡ g p) where
   abbrev Same : List Ptr → List Ptr → Type 0
   Same seen ps = list_any f seen ≡ list_any g ps
 
@@ -65,7 +66,8 @@ module _ (see : Ptr → Ptr) (outs : (p : Ptr) → is_out (see p) ≡ is_out p) 
   peer_same false Service shown = refl
   peer_same false Parked shown = refl
 
-  taker_same : (out : Bool) (o : Option Peer) → o ≡ option_map (seen_peer itself out) o → Same (option_list peer_pointer (option_map (seen_peer see out) o)) (option_list peer_pointer o)
+  taker_same : (out : Bool) (o : Option Peer) →
+      o ≡ option_map (seen_peer itself out) o → Same (option_list peer_pointer (option_map (seen_peer see out) o)) (option_list peer_pointer o)
   taker_same out None shown = refl
   taker_same out (Some taker) shown = peer_same out taker (the_one taker (seen_peer itself out taker) shown)
     where
@@ -76,19 +78,24 @@ module _ (see : Ptr → Ptr) (outs : (p : Ptr) → is_out (see p) ≡ is_out p) 
   joins a b xs ys e h = rw (e, h) refl
 
   pub talk_same : (talk : Talk) → talk ≡ seen_talk itself talk → Same (talk_pointers (seen_talk see talk)) (talk_pointers talk)
-  talk_same talk shown = joins (f (see talk.port)) (g talk.port) _ _ (same talk.port) (rw (outs talk.port) (peer_same (is_out talk.port) talk.peer (ap (λ (t : Talk). t.peer) shown)))
+  talk_same talk shown = joins (f (see talk.port))
+      (g talk.port) _ _ (same talk.port) (rw (outs talk.port) (peer_same (is_out talk.port) talk.peer (ap (λ (t : Talk). t.peer) shown)))
 
   pub fault_same : (fault : Fault) → fault ≡ seen_fault itself fault → Same (fault_pointers (seen_fault see fault)) (fault_pointers fault)
-  fault_same fault shown = joins (f (see fault.port)) (g fault.port) _ _ (same fault.port) ((λ i. list_any f (option_list peer_pointer (option_map (seen_peer see (outs fault.port i)) fault.taker))) ∙ taker_same (is_out fault.port) fault.taker (ap (λ (t : Fault). t.taker) shown))
+  fault_same fault shown = joins (f (see fault.port))
+      (g fault.port) _ _ (same fault.port) ((λ i. list_any f (option_list peer_pointer (option_map (seen_peer see (outs fault.port i)) fault.taker)))
+      ∙ taker_same (is_out fault.port) fault.taker (ap (λ (t : Fault). t.taker) shown))
 
-  talks_same : (o : Option Talk) → o ≡ and_then (seeing itself).talk o → Same (option_list talk_pointers (and_then (seeing see).talk o)) (option_list talk_pointers o)
+  talks_same : (o : Option Talk) →
+      o ≡ and_then (seeing itself).talk o → Same (option_list talk_pointers (and_then (seeing see).talk o)) (option_list talk_pointers o)
   talks_same None shown = refl
   talks_same (Some talk) shown = talk_same talk (the_one talk (seen_talk itself talk) shown)
     where
       the_one : (a b : Talk) → Some a ≡ Some b → a ≡ b
       the_one a b h = cc
 
-  faults_same : (o : Option Fault) → o ≡ and_then (seeing itself).fault o → Same (option_list fault_pointers (and_then (seeing see).fault o)) (option_list fault_pointers o)
+  faults_same : (o : Option Fault) →
+      o ≡ and_then (seeing itself).fault o → Same (option_list fault_pointers (and_then (seeing see).fault o)) (option_list fault_pointers o)
   faults_same None shown = refl
   faults_same (Some fault) shown = fault_same fault (the_one fault (seen_fault itself fault) shown)
     where
@@ -115,7 +122,9 @@ module _ (see : Ptr → Ptr) (outs : (p : Ptr) → is_out (see p) ≡ is_out p) 
   body_same (Mapping m) shown = one_same m.region
   body_same (Region r) shown = one_same r.keeper
   body_same (Space birth holder) shown = holder_same holder
-  body_same (Thread_of t) shown = joined_same (option_list talk_pointers (and_then (seeing see).talk t.talk)) (option_list fault_pointers (and_then (seeing see).fault t.fault)) (option_list talk_pointers t.talk) (option_list fault_pointers t.fault) (talks_same t.talk (talk_shown t shown)) (faults_same t.fault (fault_shown t shown))
+  body_same (Thread_of t) shown = joined_same (option_list talk_pointers (and_then (seeing see).talk t.talk))
+      (option_list fault_pointers (and_then (seeing see).fault t.fault)) (option_list talk_pointers t.talk)
+      (option_list fault_pointers t.fault) (talks_same t.talk (talk_shown t shown)) (faults_same t.fault (fault_shown t shown))
   body_same (Reference to) shown = one_same to
   body_same (Mutex locked) shown = refl
   body_same Cond shown = refl
@@ -124,21 +133,27 @@ module _ (see : Ptr → Ptr) (outs : (p : Ptr) → is_out (see p) ≡ is_out p) 
 
   -- ---- what an edit changes, and what it makes
 
-  peers_same : (o : Option Talk) → o ≡ and_then (seeing itself).talk o → Same (option_list (λ talk. peer_pointer talk.peer) (and_then (seeing see).talk o)) (option_list (λ talk. peer_pointer talk.peer) o)
+  peers_same : (o : Option Talk) → o ≡ and_then (seeing itself).talk o →
+      Same (option_list (λ talk. peer_pointer talk.peer) (and_then (seeing see).talk o)) (option_list (λ talk. peer_pointer talk.peer) o)
   peers_same None shown = refl
-  peers_same (Some talk) shown = rw (outs talk.port) (peer_same (is_out talk.port) talk.peer (ap (λ (t : Talk). t.peer) (the_one talk (seen_talk itself talk) shown)))
+  peers_same (Some talk) shown =
+      rw (outs talk.port) (peer_same (is_out talk.port) talk.peer (ap (λ (t : Talk). t.peer) (the_one talk (seen_talk itself talk) shown)))
     where
       the_one : (a b : Talk) → Some a ≡ Some b → a ≡ b
       the_one a b h = cc
 
-  takers_same : (o : Option Fault) → o ≡ and_then (seeing itself).fault o → Same (option_list (λ fault. option_list peer_pointer fault.taker) (and_then (seeing see).fault o)) (option_list (λ fault. option_list peer_pointer fault.taker) o)
+  takers_same : (o : Option Fault) →
+      o ≡ and_then (seeing itself).fault o → Same (option_list (λ fault. option_list peer_pointer fault.taker) (and_then (seeing see).fault o))
+      (option_list (λ fault. option_list peer_pointer fault.taker) o)
   takers_same None shown = refl
-  takers_same (Some fault) shown = rw (outs fault.port) (taker_same (is_out fault.port) fault.taker (ap (λ (t : Fault). t.taker) (the_one fault (seen_fault itself fault) shown)))
+  takers_same (Some fault) shown =
+      rw (outs fault.port) (taker_same (is_out fault.port) fault.taker (ap (λ (t : Fault). t.taker) (the_one fault (seen_fault itself fault) shown)))
     where
       the_one : (a b : Fault) → Some a ≡ Some b → a ≡ b
       the_one a b h = cc
 
-  pub changed_same : (out : Bool) (edit : Edit) (b : Body) → b ≡ seen_by (seeing itself) b → Same (changed_pointers (seen_edit see out edit) (seen_by (seeing see) b)) (changed_pointers edit b)
+  pub changed_same : (out : Bool) (edit : Edit) (b : Body) →
+      b ≡ seen_by (seeing itself) b → Same (changed_pointers (seen_edit see out edit) (seen_by (seeing see) b)) (changed_pointers edit b)
   unfolding seen_by
   changed_same out (SetPointer to) b shown = body_same b shown
   changed_same out (SetHolder holder) b shown = body_same b shown
@@ -217,7 +232,9 @@ module _ (bind : ℕ → ℕ) (c : World) (world : IsCutWorld c) (me : Path) whe
   body_far k q = world.bodies (k ∷ q) ∙ ap (λ (y : Path). option_map (λ b. seen_by (seeing itself) b) (c.body (k ∷ y))) (append-nil q)
 
   -- what is the same for an object as it is seen is the same where it stands
-  there : {A : Type 0} (f g : Option Body → A) → f None ≡ g None → ((b : Body) → b ≡ seen_by (seeing itself) b → f (Some (seen_by (seeing see) b)) ≡ g (Some b)) → (k : ℕ) (q : Path) → f (small.body (k ∷ q)) ≡ g (c.body (k ∷ q))
+  there : {A : Type 0} (f g : Option Body → A) →
+      f None ≡ g None → ((b : Body) → b ≡ seen_by (seeing itself) b → f (Some (seen_by (seeing see) b)) ≡ g (Some b)) →
+      (k : ℕ) (q : Path) → f (small.body (k ∷ q)) ≡ g (c.body (k ∷ q))
   there {A} f g none some k q = ap f (body_near k q) ∙ by (c.body (k ∷ q)) (body_far k q)
     where
       the_one : (a b : Body) → Some a ≡ Some b → a ≡ b
@@ -230,12 +247,15 @@ module _ (bind : ℕ → ℕ) (c : World) (world : IsCutWorld c) (me : Path) whe
   unfrozen : (seen ps : List Ptr) → list_any near seen ≡ list_any far ps → are_unfrozen small me seen ≡ true → are_unfrozen c me ps ≡ true
   unfrozen seen ps e h = sym (ap not e) ∙ h
 
-  alter_back : (out : Bool) (k : ℕ) (q : Path) (edit : Edit) → edit ≡ seen_edit itself out edit → IsAllowed small me (Alter (k ∷ q) (seen_edit see out edit)) → IsAllowed c me (Alter (k ∷ q) edit)
+  alter_back : (out : Bool) (k : ℕ) (q : Path) (edit : Edit) →
+      edit ≡ seen_edit itself out edit → IsAllowed small me (Alter (k ∷ q) (seen_edit see out edit)) → IsAllowed c me (Alter (k ∷ q) edit)
   alter_back out k q edit shown may = record {
     object = sym (frozen_same (k ∷ q)) ∙ may.object;
     changed = unfrozen (option_list (changed_pointers (seen_edit see out edit)) (small.body (k ∷ q))) (option_list (changed_pointers edit) (c.body (k ∷ q)))
-        (there (λ o. list_any near (option_list (changed_pointers (seen_edit see out edit)) o)) (λ o. list_any far (option_list (changed_pointers edit) o)) refl (λ b is. changed_same see (out_kept bind) near far refl refl thaw_same out edit b is) k q) may.changed;
-    made = unfrozen (made_pointers (seen_edit see out edit)) (made_pointers edit) (made_same see (out_kept bind) near far refl refl thaw_same out edit shown) may.made;
+        (there (λ o. list_any near (option_list (changed_pointers (seen_edit see out edit)) o)) (λ o. list_any far (option_list (changed_pointers edit) o))
+        refl (λ b is. changed_same see (out_kept bind) near far refl refl thaw_same out edit b is) k q) may.changed;
+    made = unfrozen (made_pointers (seen_edit see out edit))
+        (made_pointers edit) (made_same see (out_kept bind) near far refl refl thaw_same out edit shown) may.made;
   }
 
   -- ---- a death and a new name
@@ -261,7 +281,8 @@ module _ (bind : ℕ → ℕ) (c : World) (world : IsCutWorld c) (me : Path) whe
   if_same a true seen ps e h = rw e h
   if_same a false seen ps e h = rw e refl
 
-  talk_lost_same : (x : Path) (o : Option Talk) → o ≡ and_then (seeing itself).talk o → list_any near (option_list (talk_lost x) (and_then (seeing see).talk o)) ≡ list_any far (option_list (talk_lost x) o)
+  talk_lost_same : (x : Path) (o : Option Talk) → o ≡ and_then (seeing itself).talk o →
+      list_any near (option_list (talk_lost x) (and_then (seeing see).talk o)) ≡ list_any far (option_list (talk_lost x) o)
   talk_lost_same x None shown = refl
   talk_lost_same x (Some talk) shown =
       let is = the_one talk (seen_talk itself talk) shown in
@@ -272,9 +293,11 @@ module _ (bind : ℕ → ℕ) (c : World) (world : IsCutWorld c) (me : Path) whe
       the_one : (a b : Talk) → Some a ≡ Some b → a ≡ b
       the_one a b h = cc
 
-  fault_lost_same : (x : Path) (o : Option Fault) → o ≡ and_then (seeing itself).fault o → list_any near (option_list (fault_lost x) (and_then (seeing see).fault o)) ≡ list_any far (option_list (fault_lost x) o)
+  fault_lost_same : (x : Path) (o : Option Fault) → o ≡ and_then (seeing itself).fault o →
+      list_any near (option_list (fault_lost x) (and_then (seeing see).fault o)) ≡ list_any far (option_list (fault_lost x) o)
   fault_lost_same x None shown = refl
-  fault_lost_same x (Some fault) shown = if_same (leads_to x (see fault.port)) (leads_to x fault.port) _ _ (leads_same x fault.port) (fault_same see (out_kept bind) near far refl refl thaw_same fault (the_one fault (seen_fault itself fault) shown))
+  fault_lost_same x (Some fault) shown = if_same (leads_to x (see fault.port)) (leads_to x fault.port)
+      _ _ (leads_same x fault.port) (fault_same see (out_kept bind) near far refl refl thaw_same fault (the_one fault (seen_fault itself fault) shown))
     where
       the_one : (a b : Fault) → Some a ≡ Some b → a ≡ b
       the_one a b h = cc
@@ -285,8 +308,10 @@ module _ (bind : ℕ → ℕ) (c : World) (world : IsCutWorld c) (me : Path) whe
     where
       of_body : (b : Body) → b ≡ seen_by (seeing itself) b → list_any near (lost_with x (Some (seen_by (seeing see) b))) ≡ list_any far (lost_with x (Some b))
       of_body (Thread_of t) shown =
-          joined_same see (out_kept bind) near far refl refl thaw_same (option_list (talk_lost x) (and_then (seeing see).talk t.talk)) (option_list (fault_lost x) (and_then (seeing see).fault t.fault)) (option_list (talk_lost x) t.talk) (option_list (fault_lost x) t.fault)
-          (talk_lost_same x t.talk (talk_shown see (out_kept bind) near far refl refl thaw_same t shown)) (fault_lost_same x t.fault (fault_shown see (out_kept bind) near far refl refl thaw_same t shown))
+          joined_same see (out_kept bind) near far refl refl thaw_same (option_list (talk_lost x) (and_then (seeing see).talk t.talk))
+          (option_list (fault_lost x) (and_then (seeing see).fault t.fault)) (option_list (talk_lost x) t.talk) (option_list (fault_lost x) t.fault)
+          (talk_lost_same x t.talk (talk_shown see (out_kept bind) near far refl refl thaw_same t shown))
+          (fault_lost_same x t.fault (fault_shown see (out_kept bind) near far refl refl thaw_same t shown))
       of_body b shown = refl
 
   may_be_swept_back : (x q : Path) → may_be_swept small me x q ≡ true → may_be_swept c me x q ≡ true
@@ -302,13 +327,15 @@ module _ (bind : ℕ → ℕ) (c : World) (world : IsCutWorld c) (me : Path) whe
   kill_back k q may = record {
     object = sym (frozen_same (k ∷ q)) ∙ may.object;
     changed = unfrozen (body_pointers (small.body (k ∷ q))) (body_pointers (c.body (k ∷ q)))
-        (there (λ o. list_any near (body_pointers o)) (λ o. list_any far (body_pointers o)) refl (λ b is. body_same see (out_kept bind) near far refl refl thaw_same b is) k q) may.changed;
+        (there (λ o. list_any near (body_pointers o))
+        (λ o. list_any far (body_pointers o)) refl (λ b is. body_same see (out_kept bind) near far refl refl thaw_same b is) k q) may.changed;
     others = λ z. may_be_swept_back (k ∷ q) z (may.others z);
   }
 
   -- ---- each change, which is seen as itself
 
-  shown_edit : (v : World) (x y : Path) (s e : Edit) → LikeChange [] itself v (Alter x s) (Alter y e) → (out : Bool) × (s ≡ seen_edit itself out e) × IsSeenEdit [] itself v out y e
+  shown_edit : (v : World) (x y : Path) (s e : Edit) →
+      LikeChange [] itself v (Alter x s) (Alter y e) → (out : Bool) × (s ≡ seen_edit itself out e) × IsSeenEdit [] itself v out y e
   shown_edit v _ _ _ _ (Alters k q seen edit e h) = (false, e, h)
   shown_edit v _ _ _ _ (AltersOut k q seen edit e h) = (true, e, h)
 
@@ -316,7 +343,8 @@ module _ (bind : ℕ → ℕ) (c : World) (world : IsCutWorld c) (me : Path) whe
   shown_body v _ _ _ _ (Makes k q seen body e h) = e
 
   -- whose peer is set has one talk, at one port
-  shown_at : (v : World) (a b : Bool) (y : Path) (edit : Edit) → IsSeenEdit [] see v a y edit → IsSeenEdit [] itself v b y edit → edit ≡ seen_edit itself b edit → edit ≡ seen_edit itself a edit
+  shown_at : (v : World) (a b : Bool) (y : Path) (edit : Edit) →
+      IsSeenEdit [] see v a y edit → IsSeenEdit [] itself v b y edit → edit ≡ seen_edit itself b edit → edit ≡ seen_edit itself a edit
   shown_at v a b y (SetPeer peer) h g shown =
       let same : h.0.0 ≡ g.0.0 = the_one h.0.0 g.0.0 (sym h.0.1 ∙ g.0.1) in
       let one : a ≡ b = sym h.0.2 ∙ out_kept bind h.0.0.port ∙ ap (λ (talk : Talk). is_out talk.port) same ∙ g.0.2 in
@@ -336,28 +364,43 @@ module _ (bind : ℕ → ℕ) (c : World) (world : IsCutWorld c) (me : Path) whe
   change_back : (v : World) (a b : Change) → LikeChange [] see v a b → LikeChange [] itself v b b → IsAllowed small me a → IsAllowed c me b
   change_back v _ _ (Alters k q seen edit e h) again may =
       let own = shown_edit v _ _ edit edit again in
-      subst (λ (y : Path). IsAllowed c me (Alter (k ∷ y) edit)) (sym (append-nil q)) (alter_back false k q edit (shown_at v false own.0 (k ∷ (q ++ [])) edit h own.2 own.1) (rw e at may))
+      subst (λ (y : Path). IsAllowed c me (Alter (k ∷ y) edit))
+      (sym (append-nil q)) (alter_back false k q edit (shown_at v false own.0 (k ∷ (q ++ [])) edit h own.2 own.1) (rw e at may))
   change_back v _ _ (AltersOut k q seen edit e h) again may =
       let own = shown_edit v _ _ edit edit again in
-      subst (λ (y : Path). IsAllowed c me (Alter (k ∷ y) edit)) (sym (append-nil q)) (alter_back true k q edit (shown_at v true own.0 (k ∷ (q ++ [])) edit h own.2 own.1) (rw e at may))
+      subst (λ (y : Path). IsAllowed c me (Alter (k ∷ y) edit))
+      (sym (append-nil q)) (alter_back true k q edit (shown_at v true own.0 (k ∷ (q ++ [])) edit h own.2 own.1) (rw e at may))
   change_back v _ _ (Makes k q seen body e h) again may =
       let own = shown_body v _ _ body body again in
       let made = rw e at may.made in
-      subst (λ (y : Path). IsAllowed c me (Make (k ∷ y) body)) (sym (append-nil q)) (record { object = sym (frozen_same (k ∷ q)) ∙ may.object; made = unfrozen (pointers (seen_by (seeing see) body)) (pointers body) (body_same see (out_kept bind) near far refl refl thaw_same body own) made })
+      subst (λ (y : Path). IsAllowed c me (Make (k ∷ y) body)) (sym (append-nil q)) (record {
+        object = sym (frozen_same (k ∷ q)) ∙ may.object;
+        made =
+            unfrozen (pointers (seen_by (seeing see) body)) (pointers body) (body_same see (out_kept bind) near far refl refl thaw_same body own) made;
+      })
   change_back v _ _ (MakesSpace k q seen holder e h) again may =
       let made = rw e at may.made in
-      subst (λ (y : Path). IsAllowed c me (MakeSpace (k ∷ y) holder)) (sym (append-nil q)) (record { object = sym (frozen_same (k ∷ q)) ∙ may.object; made = unfrozen (option_list (λ p. p ∷ []) (and_then (seeing see).holder holder)) (option_list (λ p. p ∷ []) holder) (holder_same see (out_kept bind) near far refl refl thaw_same holder) made })
+      subst (λ (y : Path). IsAllowed c me (MakeSpace (k ∷ y) holder)) (sym (append-nil q))
+      (record {
+        object = sym (frozen_same (k ∷ q)) ∙ may.object;
+        made = unfrozen (option_list (λ p. p ∷ []) (and_then (seeing see).holder holder))
+            (option_list (λ p. p ∷ []) holder) (holder_same see (out_kept bind) near far refl refl thaw_same holder) made;
+      })
   change_back v _ _ (Kills k q apart) again may = subst (λ (y : Path). IsAllowed c me (Kill (k ∷ y))) (sym (append-nil q)) (kill_back k q may)
   change_back v _ _ (Moves k q slot) again may =
-      subst (λ (y : Path). IsAllowed c me (Move (k ∷ y) slot)) (sym (append-nil q)) (record { object = sym (frozen_same (k ∷ q)) ∙ may.object; others = λ z. may_follow_back (k ∷ q) z (may.others z) })
-  change_back v _ _ (PutsPage q page words) again may = subst (λ (y : Path). IsAllowed c me (PutPage y page words)) (sym (append-nil q)) (sym (frozen_same q) ∙ may)
+      subst (λ (y : Path). IsAllowed c me (Move (k ∷ y) slot))
+      (sym (append-nil q)) (record { object = sym (frozen_same (k ∷ q)) ∙ may.object; others = λ z. may_follow_back (k ∷ q) z (may.others z) })
+  change_back v _ _ (PutsPage q page words) again may =
+      subst (λ (y : Path). IsAllowed c me (PutPage y page words)) (sym (append-nil q)) (sym (frozen_same q) ∙ may)
   change_back v _ _ (DropsPage q page) again may = subst (λ (y : Path). IsAllowed c me (DropPage y page)) (sym (append-nil q)) (sym (frozen_same q) ∙ may)
 
-  shown_list : (v : World) (b : Change) (cs ds : List Change) → LikeChanges [] itself v (b ∷ cs) (b ∷ ds) → LikeChange [] itself v b b × LikeChanges [] itself (apply b v) cs ds
+  shown_list : (v : World) (b : Change) (cs ds : List Change) →
+      LikeChanges [] itself v (b ∷ cs) (b ∷ ds) → LikeChange [] itself v b b × LikeChanges [] itself (apply b v) cs ds
   shown_list v b cs ds (Both h hs) = (h, hs)
   shown_list v b cs ds (Beyond out hs) = absurd (no_outside b out)
 
-  pub changes_back : (v : World) (cs ds : List Change) → LikeChanges [] see v cs ds → LikeChanges [] itself v ds ds → AreAllowed small me cs → AreAllowed c me ds
+  pub changes_back : (v : World) (cs ds : List Change) →
+      LikeChanges [] see v cs ds → LikeChanges [] itself v ds ds → AreAllowed small me cs → AreAllowed c me ds
   changes_back v _ _ Empty again may = tt
   changes_back v _ _ (Both {c = a} {d = b} {cs = cs} {ds = ds} h hs) again may =
       let both = shown_list v b ds ds again in

@@ -42,7 +42,8 @@ use Rattle.fk_transparency.proofs.cut.Outside.{IsInner, IsOwn, inner_own}
 
 -- two likenesses of one world by the same eyes are one
 pub same_likeness : (root : Path) (see : Ptr → Ptr) (one other big : World) → IsLikeness root see one big → IsLikeness root see other big → one ≡ other
-same_likeness root see one other big h g = λ i. record { body = λ q. (h.bodies q ∙ sym (g.bodies q)) i; page = λ q page. (h.pages q page ∙ sym (g.pages q page)) i; next = (h.unborn ∙ sym g.unborn) i }
+same_likeness root see one other big h g = λ i.
+    record { body = λ q. (h.bodies q ∙ sym (g.bodies q)) i; page = λ q page. (h.pages q page ∙ sym (g.pages q page)) i; next = (h.unborn ∙ sym g.unborn) i }
 
 -- ---- what is told
 
@@ -71,7 +72,8 @@ module _ (bind : ℕ → ℕ) (c : World) (like : IsLikeness [] (rebound_ptr bin
   fault_told : (x : Path) (fault : Fault) → told_fault x (seen_fault see fault) ≡ renamed (told_fault x fault)
   fault_told x fault = rw (none_seen _ fault.taker, out_kept bind fault.port) (by (is_out fault.port && is_none fault.taker))
     where
-      by : (b : Bool) → cond b (ToldFault x (see fault.port) fault.page fault.write ∷ []) [] ≡ renamed (cond b (ToldFault x fault.port fault.page fault.write ∷ []) [])
+      by : (b : Bool) →
+          cond b (ToldFault x (see fault.port) fault.page fault.write ∷ []) [] ≡ renamed (cond b (ToldFault x fault.port fault.page fault.write ∷ []) [])
       by true = refl
       by false = refl
 
@@ -92,8 +94,12 @@ module _ (bind : ℕ → ℕ) (c : World) (like : IsLikeness [] (rebound_ptr bin
   edit_told x out edit = refl
 
   change_told : (v : World) (a b : Change) → LikeChange [] see v a b → told_by_change small a ≡ renamed (told_by_change c b)
-  change_told v _ _ (Alters k q seen edit e h) = rw e (subst (λ (y : Path). told_by_change small (Alter (k ∷ q) (seen_edit see false edit)) ≡ renamed (told_by_change c (Alter (k ∷ y) edit))) (sym (append-nil q)) (edit_told (k ∷ q) false edit))
-  change_told v _ _ (AltersOut k q seen edit e h) = rw e (subst (λ (y : Path). told_by_change small (Alter (k ∷ q) (seen_edit see true edit)) ≡ renamed (told_by_change c (Alter (k ∷ y) edit))) (sym (append-nil q)) (edit_told (k ∷ q) true edit))
+  change_told v _ _ (Alters k q seen edit e h) =
+      rw e (subst (λ (y : Path). told_by_change small (Alter (k ∷ q) (seen_edit see false edit)) ≡ renamed (told_by_change c (Alter (k ∷ y) edit)))
+      (sym (append-nil q)) (edit_told (k ∷ q) false edit))
+  change_told v _ _ (AltersOut k q seen edit e h) =
+      rw e (subst (λ (y : Path). told_by_change small (Alter (k ∷ q) (seen_edit see true edit)) ≡ renamed (told_by_change c (Alter (k ∷ y) edit)))
+      (sym (append-nil q)) (edit_told (k ∷ q) true edit))
   change_told v _ _ (Makes k q seen body e h) = refl
   change_told v _ _ (MakesSpace k q seen holder e h) = refl
   change_told v _ _ (Kills k q apart) = rw (append-nil q, talk_seen (k ∷ q)) (end_told (k ∷ q) (talk_at c (k ∷ q)))
@@ -115,17 +121,22 @@ module _ (bind : ℕ → ℕ) (c : World) (like : IsLikeness [] (rebound_ptr bin
 
 -- ---- the row of a stage
 
-row_is : (c : World) (x : Path) (p : Option Path) (n : ℕ) (stage : Stage) → IsOwn stage → (t : Thread) (todo : List Stage) (rest : List ℕ) → thread_at c x ≡ Some t → t.mode ≡ Calling (stage ∷ todo) rest →
+row_is : (c : World) (x : Path) (p : Option Path) (n : ℕ) (stage : Stage) →
+    IsOwn stage → (t : Thread) (todo : List Stage) (rest : List ℕ) → thread_at c x ≡ Some t → t.mode ≡ Calling (stage ∷ todo) rest →
     onward_row c (Own x p n) ≡ counted n (when (is_free c (parent x) t) (call_row c (user_at x) p stage))
 unfolding onward_row
 row_is c x p n stage inner t todo rest is e = ap (counted n) (rw is (by (talks_outside c x && is_none p) t.mode e))
   where
-    by : (test : Bool) (mode : Mode) → mode ≡ Calling (stage ∷ todo) rest → cond test (when (is_free c (parent x) t) (own_stage c x p n mode (goes_on c x p t mode))) (when (is_free c (parent x) t) (goes_on c x p t mode)) ≡ when (is_free c (parent x) t) (call_row c (user_at x) p stage)
+    by : (test : Bool) (mode : Mode) →
+        mode ≡ Calling (stage ∷ todo) rest → cond test (when (is_free c (parent x) t) (own_stage c x p n mode (goes_on c x p t mode)))
+        (when (is_free c (parent x) t) (goes_on c x p t mode)) ≡ when (is_free c (parent x) t) (call_row c (user_at x) p stage)
     by true mode e = rw e (rw (inner.silent c n (user_at x) (call_row c (user_at x) p stage), call_closed c x p stage) refl)
     by false mode e = rw e refl
 
-pub thread_named : (see : Ptr → Ptr) (c small : World) (x : Path) (like : IsLikeness [] see small c) (t : Thread) → thread_at c x ≡ Some t → thread_at small x ≡ Some (seen_thread see t)
-thread_named see c small x like t is = by (thread_at small x) (and_then thread_of (c.body (x ++ []))) (thread_there-like like x) (ap (λ (y : Path). and_then thread_of (c.body y)) (append-nil x) ∙ is)
+pub thread_named : (see : Ptr → Ptr) (c small : World) (x : Path) (like : IsLikeness [] see small c) (t : Thread) →
+    thread_at c x ≡ Some t → thread_at small x ≡ Some (seen_thread see t)
+thread_named see c small x like t is = by (thread_at small x)
+    (and_then thread_of (c.body (x ++ []))) (thread_there-like like x) (ap (λ (y : Path). and_then thread_of (c.body y)) (append-nil x) ∙ is)
   where
     by : (seen o : Option Thread) → AlikeOptions (IsSeenThread [] see c) seen o → o ≡ Some t → seen ≡ Some (seen_thread see t)
     by None None h e = cc
@@ -134,25 +145,31 @@ thread_named see c small x like t is = by (thread_at small x) (and_then thread_o
     by (Some seen) None h e = absurd h
 
 -- the rows of a stage act alike in a likeness at the same path
-alike_there : (see : Ptr → Ptr) (c small : World) (like : IsLikeness [] see small c) → is_frozen c [] ≡ false → (k : ℕ) (q : Path) (p : Option Path) (stage : Stage) → IsOwn stage → (t : Thread) →
-    IsLikeOutcome [] see c (when (is_free small q (seen_thread see t)) (call_row small (user_at (k ∷ q)) p stage)) (when (is_free c q t) (call_row c (user_at (k ∷ q)) p stage))
+alike_there : (see : Ptr → Ptr) (c small : World) (like : IsLikeness [] see small c) →
+    is_frozen c [] ≡ false → (k : ℕ) (q : Path) (p : Option Path) (stage : Stage) → IsOwn stage → (t : Thread) →
+    IsLikeOutcome [] see
+    c (when (is_free small q (seen_thread see t)) (call_row small (user_at (k ∷ q)) p stage)) (when (is_free c q t) (call_row c (user_at (k ∷ q)) p stage))
 alike_there see c small like free k q p stage inner t =
     when_same like (is_free small q (seen_thread see t)) (is_free c q t) (call_row small (user_at (k ∷ q)) p stage) (call_row c (user_at (k ∷ q)) p stage)
     (is_free-like like free q t ∙ ap (λ (y : Path). is_free c y t) (append-nil q))
-    (subst (λ (y : Path). IsLikeOutcome [] see c (call_row small (user_at (k ∷ q)) p stage) (call_row c (user_at (k ∷ y)) p stage)) (append-nil q) (call_row-like like k q p p stage refl (inner.alike [] see small c like free k q p p)))
+    (subst (λ (y : Path). IsLikeOutcome [] see c (call_row small (user_at (k ∷ q)) p stage) (call_row c (user_at (k ∷ y)) p stage))
+    (append-nil q) (call_row-like like k q p p stage refl (inner.alike [] see small c like free k q p p)))
 
 -- ---- from one outcome to the law, both ways
 
-same_move : (w : World) (m : Onward) (o : Outcome) (told heard : List Told) (later after : World) → OnwardTo w m o told later → OnwardTo w m o heard after → (heard ≡ told) × (after ≡ later)
+same_move : (w : World) (m : Onward) (o : Outcome) (told heard : List Told) (later after : World) →
+    OnwardTo w m o told later → OnwardTo w m o heard after → (heard ≡ told) × (after ≡ later)
 same_move w m (Goes cs said) told heard later after h g = (g.1 ∙ sym h.1, g.2 ∙ sym h.2)
 same_move w m Waits told heard later after h g = absurd h
 same_move w m (Refused status) told heard later after h g = absurd h
 
 pub rebinds_from : (bind : ℕ → ℕ) (c : World) (m : Onward) (near far : Outcome) → onward_row (rebound bind c) m ≡ near → onward_row c m ≡ far →
     ((told : List Told) (later : World) → OnwardTo c m far told later → OnwardTo (rebound bind c) m near (map (rebound_told bind) told) (rebound bind later)) →
-    ((heard : List Told) (after : World) → OnwardTo (rebound bind c) m near heard after → (told : List Told) × (later : World) × OnwardTo c m far told later) → RebindsTo bind c m
+    ((heard : List Told) (after : World) → OnwardTo (rebound bind c) m near heard after → (told : List Told) × (later : World) × OnwardTo c m far told later) →
+    RebindsTo bind c m
 rebinds_from bind c m near far near_is far_is forth back = record {
-  forth = λ told later onward. subst (λ (o : Outcome). OnwardTo (rebound bind c) m o (map (rebound_told bind) told) (rebound bind later)) (sym near_is) (forth told later (subst (λ (o : Outcome). OnwardTo c m o told later) far_is onward));
+  forth = λ told later onward. subst (λ (o : Outcome). OnwardTo (rebound bind c) m o (map (rebound_told bind) told) (rebound bind later))
+      (sym near_is) (forth told later (subst (λ (o : Outcome). OnwardTo c m o told later) far_is onward));
   back = λ heard after onward.
       let here : OnwardTo (rebound bind c) m near heard after = subst (λ (o : Outcome). OnwardTo (rebound bind c) m o heard after) near_is onward in
       let was = back heard after here in
@@ -178,12 +195,15 @@ module _ (bind : ℕ → ℕ) (c : World) (world : IsCutWorld c) (k : ℕ) (q : 
   said_anew x _ _ (SaysWords port words) = refl
   said_anew x _ _ (SaysPassed port) = refl
 
-  goes_anew : (p : Option Path) (n : ℕ) (near far : Outcome) → IsLikeOutcome [] (rebound_ptr bind) c near far → IsLikeOutcome [] (λ p. p) c far far → IsHeard (rebound_ptr bind) near far →
-      (told : List Told) (later : World) → OnwardTo c (Own (k ∷ q) p n) far told later → OnwardTo (rebound bind c) (Own (k ∷ q) p n) near (map (rebound_told bind) told) (rebound bind later)
+  goes_anew : (p : Option Path) (n : ℕ) (near far : Outcome) →
+      IsLikeOutcome [] (rebound_ptr bind) c near far → IsLikeOutcome [] (λ p. p) c far far → IsHeard (rebound_ptr bind) near far →
+      (told : List Told) (later : World) →
+      OnwardTo c (Own (k ∷ q) p n) far told later → OnwardTo (rebound bind c) (Own (k ∷ q) p n) near (map (rebound_told bind) told) (rebound bind later)
   goes_anew p n (Goes cs was) (Goes ds said) h again heard told later onward =
       let now : World = apply_all ds c in
       let world_now : IsCutWorld now = changes-like c c ds ds again world in
-      let same : rebound bind now ≡ apply_all cs (rebound bind c) = same_likeness [] (rebound_ptr bind) (rebound bind now) (apply_all cs (rebound bind c)) now (rebound-like bind (λ p. p) [] now now world_now) (changes-like (rebound bind c) c cs ds h likeness_of) in
+      let same : rebound bind now ≡ apply_all cs (rebound bind c) = same_likeness [] (rebound_ptr bind) (rebound bind now)
+      (apply_all cs (rebound bind c)) now (rebound-like bind (λ p. p) [] now now world_now) (changes-like (rebound bind c) c cs ds h likeness_of) in
       let hears : List Told = flat_map (told_by_change c) ds in
       let says : List Told = told_by_said (k ∷ q) said in
       let changed : map (rebound_told bind) hears ≡ flat_map (told_by_change (rebound bind c)) cs = sym (changes_told bind c likeness_of c cs ds h) in
@@ -207,11 +227,15 @@ module _ (bind : ℕ → ℕ) (c : World) (world : IsCutWorld c) (k : ℕ) (q : 
   both_out cs ds _ _ (SaysWords port words) = out_kept bind port
   both_out cs ds _ _ (SaysPassed port) = refl
 
-  gone_anew : (p : Option Path) (n : ℕ) (near far : Outcome) → IsLikeOutcome [] (rebound_ptr bind) c near far → IsLikeOutcome [] (λ p. p) c far far → IsHeard (rebound_ptr bind) near far →
-      (told : List Told) (later : World) → OnwardTo c (Own (k ∷ q) p n) (counted n far) told later → OnwardTo (rebound bind c) (Own (k ∷ q) p n) (counted n near) (map (rebound_told bind) told) (rebound bind later)
-  gone_anew p n (Goes cs was) (Goes ds said) h again heard told later onward = rw (both_out cs ds was said heard) (by (eqb n 0 || goes_out (Goes ds said)) onward)
+  gone_anew : (p : Option Path) (n : ℕ) (near far : Outcome) →
+      IsLikeOutcome [] (rebound_ptr bind) c near far → IsLikeOutcome [] (λ p. p) c far far → IsHeard (rebound_ptr bind) near far →
+      (told : List Told) (later : World) → OnwardTo c (Own (k ∷ q) p n) (counted n far) told later →
+      OnwardTo (rebound bind c) (Own (k ∷ q) p n) (counted n near) (map (rebound_told bind) told) (rebound bind later)
+  gone_anew p n (Goes cs was) (Goes ds said) h again heard told later onward =
+      rw (both_out cs ds was said heard) (by (eqb n 0 || goes_out (Goes ds said)) onward)
     where
-      by : (b : Bool) → OnwardTo c (Own (k ∷ q) p n) (when b (Goes ds said)) told later → OnwardTo (rebound bind c) (Own (k ∷ q) p n) (when b (Goes cs was)) (map (rebound_told bind) told) (rebound bind later)
+      by : (b : Bool) → OnwardTo c (Own (k ∷ q) p n) (when b (Goes ds said)) told later →
+          OnwardTo (rebound bind c) (Own (k ∷ q) p n) (when b (Goes cs was)) (map (rebound_told bind) told) (rebound bind later)
       by true onward = goes_anew p n (Goes cs was) (Goes ds said) h again heard told later onward
       by false onward = absurd onward
   gone_anew p n near Waits h again heard told later onward = absurd (idle (eqb n 0 || false) onward)
@@ -228,11 +252,15 @@ module _ (bind : ℕ → ℕ) (c : World) (world : IsCutWorld c) (k : ℕ) (q : 
   gone_anew p n Waits (Goes ds said) h again heard told later onward = absurd h
 
   -- and back: it goes only where it went
-  gone_back : (p : Option Path) (n : ℕ) (near far : Outcome) → IsLikeOutcome [] (rebound_ptr bind) c near far → IsLikeOutcome [] (λ p. p) c far far → IsHeard (rebound_ptr bind) near far →
-      (heard : List Told) (after : World) → OnwardTo (rebound bind c) (Own (k ∷ q) p n) (counted n near) heard after → (told : List Told) × (later : World) × OnwardTo c (Own (k ∷ q) p n) (counted n far) told later
-  gone_back p n (Goes cs was) (Goes ds said) h again hears heard after onward = by (eqb n 0 || goes_out (Goes ds said)) (rw (both_out cs ds was said hears) at onward)
+  gone_back : (p : Option Path) (n : ℕ) (near far : Outcome) →
+      IsLikeOutcome [] (rebound_ptr bind) c near far → IsLikeOutcome [] (λ p. p) c far far → IsHeard (rebound_ptr bind) near far →
+      (heard : List Told) (after : World) → OnwardTo (rebound bind c) (Own (k ∷ q) p n) (counted n near) heard after →
+      (told : List Told) × (later : World) × OnwardTo c (Own (k ∷ q) p n) (counted n far) told later
+  gone_back p n (Goes cs was) (Goes ds said) h again hears heard after onward =
+      by (eqb n 0 || goes_out (Goes ds said)) (rw (both_out cs ds was said hears) at onward)
     where
-      by : (b : Bool) → OnwardTo (rebound bind c) (Own (k ∷ q) p n) (when b (Goes cs was)) heard after → (told : List Told) × (later : World) × OnwardTo c (Own (k ∷ q) p n) (when b (Goes ds said)) told later
+      by : (b : Bool) → OnwardTo (rebound bind c) (Own (k ∷ q) p n) (when b (Goes cs was)) heard after →
+          (told : List Told) × (later : World) × OnwardTo c (Own (k ∷ q) p n) (when b (Goes ds said)) told later
       by true onward = (told_by c (Own (k ∷ q) p n) ds said, apply_all ds c, (changes_back bind c world (k ∷ q) c cs ds h again onward.0, refl, refl))
       by false onward = absurd onward
   gone_back p n Waits Waits h again hears heard after onward = absurd (idle (eqb n 0 || false) onward)
@@ -253,9 +281,11 @@ module _ (bind : ℕ → ℕ) (c : World) (world : IsCutWorld c) (k : ℕ) (q : 
   gone_back p n (Goes cs was) (Refused refusal) h again hears heard after onward = absurd h
 
   -- a row whose outcome is alike and heard alike
-  pub rebinds_by : (p : Option Path) (n : ℕ) (near far : Outcome) → IsLikeOutcome [] (rebound_ptr bind) c near far → IsLikeOutcome [] (λ p. p) c far far → IsHeard (rebound_ptr bind) near far →
+  pub rebinds_by : (p : Option Path) (n : ℕ) (near far : Outcome) →
+      IsLikeOutcome [] (rebound_ptr bind) c near far → IsLikeOutcome [] (λ p. p) c far far → IsHeard (rebound_ptr bind) near far →
       onward_row (rebound bind c) (Own (k ∷ q) p n) ≡ counted n near → onward_row c (Own (k ∷ q) p n) ≡ counted n far → RebindsTo bind c (Own (k ∷ q) p n)
-  rebinds_by p n near far h again hears near_is far_is = rebinds_from bind c (Own (k ∷ q) p n) (counted n near) (counted n far) near_is far_is (gone_anew p n near far h again hears) (gone_back p n near far h again hears)
+  rebinds_by p n near far h again hears near_is far_is = rebinds_from bind
+      c (Own (k ∷ q) p n) (counted n near) (counted n far) near_is far_is (gone_anew p n near far h again hears) (gone_back p n near far h again hears)
 
   stage_anew : (p : Option Path) (n : ℕ) (stage : Stage) → IsOwn stage → IsAtStage c (k ∷ q) stage → RebindsTo bind c (Own (k ∷ q) p n)
   stage_anew p n stage inner at =
@@ -265,16 +295,23 @@ module _ (bind : ℕ → ℕ) (c : World) (world : IsCutWorld c) (k : ℕ) (q : 
       let far : Outcome = when (is_free c q t) (call_row c (user_at (k ∷ q)) p stage) in
       let near : Outcome = when (is_free (rebound bind c) q (seen_thread see t)) (call_row (rebound bind c) (user_at (k ∷ q)) p stage) in
       let far_is : onward_row c (Own (k ∷ q) p n) ≡ counted n far = row_is c (k ∷ q) p n stage inner t at.1 at.2 at.3 at.4 in
-      let near_is : onward_row (rebound bind c) (Own (k ∷ q) p n) ≡ counted n near = row_is (rebound bind c) (k ∷ q) p n stage inner (seen_thread see t) at.1 at.2 (thread_named see c (rebound bind c) (k ∷ q) likeness_of t at.3) at.4 in
-      let quiet : (w : World) (b : Bool) → Quiet [] (when b (call_row w (user_at (k ∷ q)) p stage)) = λ w b. quiet-when [] b (call_row w (user_at (k ∷ q)) p stage) (quiet-call [] w (k ∷ q) p stage (inner.quiet w (k ∷ q) p)) in
-      rebinds_by p n near far (alike_there see c (rebound bind c) likeness_of free k q p stage inner t) (unseen t (alike_there (λ p. p) c c world free k q p stage inner t))
+      let near_is : onward_row (rebound bind c) (Own (k ∷ q) p n) ≡ counted n near = row_is (rebound bind c)
+      (k ∷ q) p n stage inner (seen_thread see t) at.1 at.2 (thread_named see c (rebound bind c) (k ∷ q) likeness_of t at.3) at.4 in
+      let quiet : (w : World) (b : Bool) → Quiet [] (when b (call_row w (user_at (k ∷ q)) p stage)) = λ w b.
+      quiet-when [] b (call_row w (user_at (k ∷ q)) p stage) (quiet-call [] w (k ∷ q) p stage (inner.quiet w (k ∷ q) p)) in
+      rebinds_by p n near
+      far (alike_there see c (rebound bind c) likeness_of free k q p stage inner t) (unseen t (alike_there (λ p. p) c c world free k q p stage inner t))
       (quiet_heard see near far (quiet (rebound bind c) (is_free (rebound bind c) q (seen_thread see t))) (quiet c (is_free c q t))) near_is far_is
     where
       -- a world that is its own likeness is not changed by that
-      unseen : (t : Thread) → IsLikeOutcome [] (λ p. p) c (when (is_free c q (seen_thread (λ p. p) t)) (call_row c (user_at (k ∷ q)) p stage)) (when (is_free c q t) (call_row c (user_at (k ∷ q)) p stage)) → IsLikeOutcome [] (λ p. p) c (when (is_free c q t) (call_row c (user_at (k ∷ q)) p stage)) (when (is_free c q t) (call_row c (user_at (k ∷ q)) p stage))
-      unseen t h = subst (λ (b : Bool). IsLikeOutcome [] (λ p. p) c (when b (call_row c (user_at (k ∷ q)) p stage)) (when (is_free c q t) (call_row c (user_at (k ∷ q)) p stage))) (free_same t.fault) h
+      unseen : (t : Thread) → IsLikeOutcome [] (λ p. p) c (when (is_free c q (seen_thread (λ p. p) t)) (call_row c (user_at (k ∷ q)) p stage))
+          (when (is_free c q t) (call_row c (user_at (k ∷ q)) p stage)) → IsLikeOutcome []
+          (λ p. p) c (when (is_free c q t) (call_row c (user_at (k ∷ q)) p stage)) (when (is_free c q t) (call_row c (user_at (k ∷ q)) p stage))
+      unseen t h = subst (λ (b : Bool). IsLikeOutcome
+          [] (λ p. p) c (when b (call_row c (user_at (k ∷ q)) p stage)) (when (is_free c q t) (call_row c (user_at (k ∷ q)) p stage))) (free_same t.fault) h
         where
-          free_same : (o : Option Fault) → is_free c q (record t { talk = and_then (seeing (λ p. p)).talk t.talk; fault = and_then (seeing (λ p. p)).fault o }) ≡ is_free c q (record t { fault = o })
+          free_same : (o : Option Fault) → is_free c
+              q (record t { talk = and_then (seeing (λ p. p)).talk t.talk; fault = and_then (seeing (λ p. p)).fault o }) ≡ is_free c q (record t { fault = o })
           free_same None = refl
           free_same (Some fault) = refl
 
@@ -284,9 +321,11 @@ no_thread t v e h = let none : and_then thread_of v ≡ None = rw e refl in cc
 -- a row of a free thread that acts alike in every likeness at the same path
 pub row_anew : (bind : ℕ → ℕ) (c : World) (world : IsCutWorld c) (k : ℕ) (q : Path) (p : Option Path) (n : ℕ) (t : Thread) (row : World → Outcome) →
     onward_row c (Own (k ∷ q) p n) ≡ counted n (when (is_free c q t) (row c)) →
-    (thread_at (rebound bind c) (k ∷ q) ≡ Some (seen_thread (rebound_ptr bind) t) → onward_row (rebound bind c) (Own (k ∷ q) p n) ≡ counted n (when (is_free (rebound bind c) q (seen_thread (rebound_ptr bind) t)) (row (rebound bind c)))) →
+    (thread_at (rebound bind c) (k ∷ q) ≡ Some (seen_thread (rebound_ptr bind) t) → onward_row (rebound bind c)
+    (Own (k ∷ q) p n) ≡ counted n (when (is_free (rebound bind c) q (seen_thread (rebound_ptr bind) t)) (row (rebound bind c)))) →
     thread_at c (k ∷ q) ≡ Some t →
-    ((see : Ptr → Ptr) (small : World) → IsLikeness [] see small c → IsLikeOutcome [] see c (row small) (row c)) → ((w : World) → Quiet [] (row w)) → RebindsTo bind c (Own (k ∷ q) p n)
+    ((see : Ptr → Ptr) (small : World) → IsLikeness [] see small c → IsLikeOutcome [] see c (row small) (row c)) →
+    ((w : World) → Quiet [] (row w)) → RebindsTo bind c (Own (k ∷ q) p n)
 row_anew bind c world k q p n t row far_is near_by is alike quiet =
     let see : Ptr → Ptr = rebound_ptr bind in
     let like : IsLikeness [] see (rebound bind c) c = rebound-like bind (λ p. p) [] c c world in
@@ -295,9 +334,11 @@ row_anew bind c world k q p n t row far_is near_by is alike quiet =
     let near : Outcome = when (is_free (rebound bind c) q (seen_thread see t)) (row (rebound bind c)) in
     let near_is : onward_row (rebound bind c) (Own (k ∷ q) p n) ≡ counted n near = near_by (thread_named see c (rebound bind c) (k ∷ q) like t is) in
     rebinds_by bind c world k q p n near far
-    (when_same like (is_free (rebound bind c) q (seen_thread see t)) (is_free c q t) (row (rebound bind c)) (row c) (is_free-like like free q t ∙ ap (λ (y : Path). is_free c y t) (append-nil q)) (alike see (rebound bind c) like))
+    (when_same like (is_free (rebound bind c) q (seen_thread see t)) (is_free c q t)
+    (row (rebound bind c)) (row c) (is_free-like like free q t ∙ ap (λ (y : Path). is_free c y t) (append-nil q)) (alike see (rebound bind c) like))
     (when_same world (is_free c q t) (is_free c q t) (row c) (row c) refl (alike (λ p. p) c world))
-    (quiet_heard see near far (quiet-when [] (is_free (rebound bind c) q (seen_thread see t)) (row (rebound bind c)) (quiet (rebound bind c))) (quiet-when [] (is_free c q t) (row c) (quiet c))) near_is far_is
+    (quiet_heard see near far (quiet-when [] (is_free (rebound bind c) q (seen_thread see t)) (row (rebound bind c)) (quiet (rebound bind c)))
+    (quiet-when [] (is_free c q t) (row c) (quiet c))) near_is far_is
 
 pub own_rebinds : (IsSuch : Stage → Type 0) → ((stage : Stage) → IsSuch stage → IsOwn stage) → StageRebinds IsSuch
 own_rebinds IsSuch inner c [] p n stage such at bind world = absurd (no_thread at.0 (c.body []) (root_seen world) at.3)

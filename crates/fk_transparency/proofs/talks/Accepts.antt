@@ -44,7 +44,8 @@ module _ (w : World) (port : Path) (pick : Option Path) where
   -- it waits; or takes a talk up; or the picked thread is free and at its Connect to the port
   abbrev View : Outcome → Type 0
   View o = (o ≡ Waits) ⊎ (((x : Path) × (turn : Turn) × (moved : ℕ) × (o ≡ Goes (Alter x (SetPeer Service) ∷ []) (SaidTaken (At port) x true turn moved))) ⊎
-      ((x : Path) × (t : Thread) × (pick ≡ Some x) × (and_then thread_of (w.body x) ≡ Some t) × (is_free w (parent x) t ≡ true) × (connecting_to w x t ≡ Some (At port)) × (o ≡ Goes (takes_talk port x) (SaidTaken (At port) x false turns.Client 0))))
+      ((x : Path) × (t : Thread) × (pick ≡ Some x) × (and_then thread_of (w.body x) ≡ Some t) × (is_free w (parent x) t ≡ true) ×
+      (connecting_to w x t ≡ Some (At port)) × (o ≡ Goes (takes_talk port x) (SaidTaken (At port) x false turns.Client 0))))
 
   view-up : (x : Path) (o : Option Talk) → View (takes_up port x o)
   view-up x None = inl refl
@@ -54,12 +55,14 @@ module _ (w : World) (port : Path) (pick : Option Path) where
   connected (Some p) h = ap Some (leads_to_at port p h)
   connected None h = cc
 
-  view-thread : (x : Path) (t : Thread) → pick ≡ Some x → and_then thread_of (w.body x) ≡ Some t → is_free w (parent x) t ≡ true → (b : Bool) → connects_here w port x t ≡ b →
+  view-thread : (x : Path) (t : Thread) →
+      pick ≡ Some x → and_then thread_of (w.body x) ≡ Some t → is_free w (parent x) t ≡ true → (b : Bool) → connects_here w port x t ≡ b →
       View (cond b (Goes (takes_talk port x) (SaidTaken (At port) x false turns.Client 0)) (takes_up port x (parked_here port t)))
   view-thread x t is at free true e = inr (inr (x, t, is, at, free, connected (connecting_to w x t) e, refl))
   view-thread x t is at free false e = view-up x (parked_here port t)
 
-  view-free : (x : Path) (t : Thread) → pick ≡ Some x → and_then thread_of (w.body x) ≡ Some t → (b : Bool) → is_free w (parent x) t ≡ b → View (when b (accepts_thread w port x t))
+  view-free : (x : Path) (t : Thread) →
+      pick ≡ Some x → and_then thread_of (w.body x) ≡ Some t → (b : Bool) → is_free w (parent x) t ≡ b → View (when b (accepts_thread w port x t))
   view-free x t is at true e = view-thread x t is at e (connects_here w port x t) refl
   view-free x t is at false e = inl refl
 
@@ -101,7 +104,8 @@ module _ (w : World) (nester : Path) (slot : ℕ) (plain : IsPlain w nester slot
   pub outward : (p seen : Ptr) → PtrLikeness root w p seen → p ≡ At port → is_within root port ≡ false → (i : ℕ) × (seen ≡ Out i)
   outward _ _ Nulls e out = cc
   outward _ _ Deads e out = cc
-  outward _ _ (Inside x) e out = let same : x ++ root ≡ port = cc in let here : is_within root port ≡ true = rw (sym same) (ap is_some (strip-append root x)) in cc
+  outward _ _ (Inside x) e out = let same : x ++ root ≡ port = cc in
+      let here : is_within root port ≡ true = rw (sym same) (ap is_some (strip-append root x)) in cc
   outward _ _ (PortAt x i apart kind) e out = (i, refl)
   outward _ _ (PortOut old i) e out = cc
 
@@ -122,7 +126,8 @@ module _ (w : World) (nester : Path) (slot : ℕ) (plain : IsPlain w nester slot
       by None e h = cc
       by (Some q) e h =
           let at = strip_some root port q e in
-          unserved (w.body port) (rw at (plain.unserved q)) (and_parts (holds (λ (state : Option ℕ × Bool). state.1) (and_then port_of (w.body port))) (is_unheld w (parent port)) serving).0
+          unserved (w.body port) (rw at (plain.unserved q))
+          (and_parts (holds (λ (state : Option ℕ × Bool). state.1) (and_then port_of (w.body port))) (is_unheld w (parent port)) serving).0
 
   serving : GoesAllowed w port (accept_row w port pick) → is_serving_port w port ≡ true
   unfolding accept_row
@@ -139,10 +144,12 @@ module _ (w : World) (nester : Path) (slot : ℕ) (plain : IsPlain w nester slot
       by false e = refl
       by true e = absurd (unready e Waits (serving ready))
 
-  seen_so : (o : Outcome) (r : Option Path) (m : Onward) → r ≡ None → row_of w root asked o r ≡ Some m → option_map (λ (t : Touch). ByOthers t) (on_inner root (accepted (outcome_said o)) pick) ≡ Some m
+  seen_so : (o : Outcome) (r : Option Path) (m : Onward) →
+      r ≡ None → row_of w root asked o r ≡ Some m → option_map (λ (t : Touch). ByOthers t) (on_inner root (accepted (outcome_said o)) pick) ≡ Some m
   seen_so o r m none = rw none (λ h. h)
 
-  touched : (o : Outcome) → View w port pick o → (m : Onward) → is_within root port ≡ false → GoesAllowed w port o → option_map (λ (t : Touch). ByOthers t) (on_inner root (accepted (outcome_said o)) pick) ≡ Some m → IsTouched m (stepped w o).world
+  touched : (o : Outcome) → View w port pick o → (m : Onward) → is_within root port ≡ false →
+      GoesAllowed w port o → option_map (λ (t : Touch). ByOthers t) (on_inner root (accepted (outcome_said o)) pick) ≡ Some m → IsTouched m (stepped w o).world
   touched o (inl e) m out ready h = absurd (rw e at ready)
   touched o (inr (inl v)) m out ready h = absurd (resumed pick (rw v.3 at h))
     where
@@ -155,16 +162,20 @@ module _ (w : World) (nester : Path) (slot : ℕ) (plain : IsPlain w nester slot
       resumed (Some x) h = deeper (strip root x) h
   touched o (inr (inr v)) m out ready h = rw v.6 (by (strip root v.0) refl (named pick v.2 (rw v.6 at h)))
     where
-      named : (p : Option Path) → p ≡ Some v.0 → option_map (λ (t : Touch). ByOthers t) (on_inner root (accepted (SaidTaken (At port) v.0 false turns.Client 0)) p) ≡ Some m → option_map (λ (t : Touch). ByOthers t) (and_then (λ (q : Path). Some (Taken q)) (strip root v.0)) ≡ Some m
+      named : (p : Option Path) →
+          p ≡ Some v.0 → option_map (λ (t : Touch). ByOthers t) (on_inner root (accepted (SaidTaken (At port) v.0 false turns.Client 0)) p) ≡ Some m →
+          option_map (λ (t : Touch). ByOthers t) (and_then (λ (q : Path). Some (Taken q)) (strip root v.0)) ≡ Some m
       named p e = rw e (λ h. h)
 
       same_strip : (a b : Path) → Some a ≡ Some b → a ≡ b
       same_strip a b h = cc
 
-      goes : (k : ℕ) (q : Path) (x : Path) → x ≡ k ∷ (q ++ root) → and_then thread_of (w.body x) ≡ Some v.1 → is_free w (parent x) v.1 ≡ true → connecting_to w x v.1 ≡ Some (At port) → IsTouched (ByOthers (Taken (k ∷ q))) (apply_all (takes_talk port x) w)
+      goes : (k : ℕ) (q : Path) (x : Path) → x ≡ k ∷ (q ++ root) → and_then thread_of (w.body x) ≡ Some v.1 →
+          is_free w (parent x) v.1 ≡ true → connecting_to w x v.1 ≡ Some (At port) → IsTouched (ByOthers (Taken (k ∷ q))) (apply_all (takes_talk port x) w)
       goes k q x is = rw is (λ at free connects. taken_here w nester slot plain k q v.1 at port out Service [] tt tt (λ inside. refl) free connects)
 
-      by : (r : Option Path) → strip root v.0 ≡ r → option_map (λ (t : Touch). ByOthers t) (and_then (λ (q : Path). Some (Taken q)) r) ≡ Some m → IsTouched m (apply_all (takes_talk port v.0) w)
+      by : (r : Option Path) → strip root v.0 ≡ r →
+          option_map (λ (t : Touch). ByOthers t) (and_then (λ (q : Path). Some (Taken q)) r) ≡ Some m → IsTouched m (apply_all (takes_talk port v.0) w)
       by None e h = cc
       by (Some z) e h =
           let form : m ≡ ByOthers (Taken z) = cc in
@@ -177,7 +188,8 @@ module _ (w : World) (nester : Path) (slot : ℕ) (plain : IsPlain w nester slot
   accept_law sound same fit ready (Onwards m) seen =
       let out = outside ready in
       touched (accept_row w port pick) (view w port pick) m out ready (seen_so (accept_row w port pick) (strip root port) m (strip_none root port out) seen.1)
-  accept_law sound same fit ready Unseen seen = stepped-plain w nester slot plain (accept_row w port pick) (quiet-view w port pick root (accept_row w port pick) (view w port pick)) seen.1.0
+  accept_law sound same fit ready Unseen seen =
+      stepped-plain w nester slot plain (accept_row w port pick) (quiet-view w port pick root (accept_row w port pick) (view w port pick)) seen.1.0
   accept_law sound same fit ready Other seen = tt
 
 pub accept_keeps : AcceptKeepsCut

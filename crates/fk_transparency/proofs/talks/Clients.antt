@@ -61,7 +61,8 @@ module _ (root : Path) (see : Ptr → Ptr) (big : World) (n : ℕ) where
   AlikeTaking near far = Takes far → IsLikeUnlessWaiting root see big (counted n near) far
 
 -- who isn't among the peers inside is outside
-outer_at : (w : World) (root : Path) (thread : Ptr) (e : Path × Thread) → IsOuter root (Server thread) → thread_led_to w thread ≡ Some e → is_within root e.0 ≡ false
+outer_at : (w : World) (root : Path) (thread : Ptr) (e : Path × Thread) →
+    IsOuter root (Server thread) → thread_led_to w thread ≡ Some e → is_within root e.0 ≡ false
 outer_at w root (At x) e outer is = by (and_then thread_of (w.body x)) is
   where
     outside : (r : Option Path) → strip root x ≡ r → is_some r ≡ false
@@ -88,19 +89,24 @@ outer_at w root Outside e outer is = cc
 outer_at w root Far e outer is = cc
 
 -- words that are sent to a port outside count
-counted_sent : (n m count : ℕ) (x : Path) (cs : List Change) (port : Ptr) (words : List ℕ) → is_out port ≡ true → counted n (has_sent (user_at x) m count cs (Words port words)) ≡ has_sent (user_at x) m count cs (Words port words)
+counted_sent : (n m count : ℕ) (x : Path) (cs : List Change) (port : Ptr) (words : List ℕ) →
+    is_out port ≡ true → counted n (has_sent (user_at x) m count cs (Words port words)) ≡ has_sent (user_at x) m count cs (Words port words)
 counted_sent n m count x cs port words out = by (eqb m count)
   where
     so : (a : Bool) (ds : List Change) → when (a || is_out port) (Goes ds (Words port words)) ≡ Goes ds (Words port words)
     so true ds = refl
     so false ds = rw out refl
 
-    by : (b : Bool) → counted n (cond b (Goes ((cs ++ Alter (slot_of x ∷ parent x) (Shift m) ∷ []) ++ Alter (slot_of x ∷ parent x) (Finish []) ∷ []) (Words port words)) (Goes (cs ++ Alter (slot_of x ∷ parent x) (Shift m) ∷ []) (Words port words))) ≡
-        cond b (Goes ((cs ++ Alter (slot_of x ∷ parent x) (Shift m) ∷ []) ++ Alter (slot_of x ∷ parent x) (Finish []) ∷ []) (Words port words)) (Goes (cs ++ Alter (slot_of x ∷ parent x) (Shift m) ∷ []) (Words port words))
+    by : (b : Bool) →
+        counted n (cond b (Goes ((cs ++ Alter (slot_of x ∷ parent x) (Shift m) ∷ []) ++ Alter (slot_of x ∷ parent x) (Finish []) ∷ []) (Words port words))
+        (Goes (cs ++ Alter (slot_of x ∷ parent x) (Shift m) ∷ []) (Words port words))) ≡
+        cond b (Goes ((cs ++ Alter (slot_of x ∷ parent x) (Shift m) ∷ []) ++ Alter (slot_of x ∷ parent x) (Finish []) ∷ []) (Words port words))
+        (Goes (cs ++ Alter (slot_of x ∷ parent x) (Shift m) ∷ []) (Words port words))
     by true = so (eqb n 0) _
     by false = so (eqb n 0) _
 
-module _ {root : Path} {see : Ptr → Ptr} {small big : World} (like : IsLikeness root see small big) (k : ℕ) (q : Path) (talk : Talk) (n address count : ℕ) (outward : is_out (see talk.port) ≡ true) where
+module _ {root : Path} {see : Ptr → Ptr} {small big : World}
+    (like : IsLikeness root see small big) (k : ℕ) (q : Path) (talk : Talk) (n address count : ℕ) (outward : is_out (see talk.port) ≡ true) where
   abbrev Alike : Outcome → Outcome → Type 0
   Alike = IsLikeOutcome root see big
 
@@ -114,15 +120,24 @@ module _ {root : Path} {see : Ptr → Ptr} {small big : World} (like : IsLikenes
   near_row page = takes_words (user_at (k ∷ q)) (k ∷ q) (see talk.port) n address count page
 
   -- the row of the cut, where so many words are taken as the big world moves
-  took : (page : List ℕ) (m : ℕ) (ds : List Change) (told : Said) → n ≡ m → 0 < m → m ≤ moved_words address count 0 BLOCK_WORDS → LikeChanges root see big (Alter (k ∷ q) (CountMoved m) ∷ []) ds → IsLikeUnlessWaiting root see big (counted n (near_row page)) (has_sent (user_at me) m count ds told)
+  took : (page : List ℕ) (m : ℕ) (ds : List Change) (told : Said) → n ≡ m → 0 < m → m ≤ moved_words address count 0 BLOCK_WORDS → LikeChanges root
+      see big (Alter (k ∷ q) (CountMoved m) ∷ []) ds → IsLikeUnlessWaiting root see big (counted n (near_row page)) (has_sent (user_at me) m count ds told)
   took page m ds told e some few h =
-      rw (e, lt-ltb 0 m some, le-leb m (moved_words address count 0 BLOCK_WORDS) few, counted_sent m m count (k ∷ q) (Alter (k ∷ q) (CountMoved m) ∷ []) (see talk.port) (block m address page) outward) (unless_waiting like _ _ (sent-like like k q m count (Alter (k ∷ q) (CountMoved m) ∷ []) ds (Words (see talk.port) (block m address page)) told h))
+      rw (
+        e,
+        lt-ltb 0 m some,
+        le-leb m (moved_words address count 0 BLOCK_WORDS) few,
+        counted_sent m m count (k ∷ q) (Alter (k ∷ q) (CountMoved m) ∷ []) (see talk.port) (block m address page) outward,
+      )
+      (unless_waiting like _ _ (sent-like like k q m count (Alter (k ∷ q) (CountMoved m) ∷ []) ds (Words (see talk.port) (block m address page)) told h))
 
   -- what is listed where words are sent
-  sent_list : (P : List Change → Type 0) (m : ℕ) (ds : List Change) (told : Said) → ((tail : List Change) → P (ds ++ tail)) → P (listed (has_sent (user_at me) m count ds told))
+  sent_list : (P : List Change → Type 0) (m : ℕ) (ds : List Change) (told : Said) →
+      ((tail : List Change) → P (ds ++ tail)) → P (listed (has_sent (user_at me) m count ds told))
   sent_list P m ds told h = by (eqb m count)
     where
-      by : (b : Bool) → P (listed (cond b (Goes ((ds ++ Alter me (Shift m) ∷ []) ++ Alter me (Finish []) ∷ []) told) (Goes (ds ++ Alter me (Shift m) ∷ []) told)))
+      by : (b : Bool) →
+          P (listed (cond b (Goes ((ds ++ Alter me (Shift m) ∷ []) ++ Alter me (Finish []) ∷ []) told) (Goes (ds ++ Alter me (Shift m) ∷ []) told)))
       by true = subst P (sym (append_assoc ds (Alter me (Shift m) ∷ []) (Alter me (Finish []) ∷ []))) (h (Alter me (Shift m) ∷ Alter me (Finish []) ∷ []))
       by false = h (Alter me (Shift m) ∷ [])
 
@@ -133,9 +148,12 @@ module _ {root : Path} {see : Ptr → Ptr} {small big : World} (like : IsLikenes
     puts : (page : List ℕ) (m into : ℕ) (s : Path) (other : ℕ) (words : List ℕ) → 0 < m → m ≤ moved_words address count 0 BLOCK_WORDS →
         Taking (near_row page) (sends_words (user_at me) me y m address count page into s other words)
     puts page m into s other words some few takes =
-        let ds : List Change = PutPage s other (overwritten words (into % PAGE_WORDS) (block m address page)) ∷ Alter me (CountMoved m) ∷ Alter y (Shift m) ∷ [] in
-        let counted : unwrap_or (count_set (listed (has_sent (user_at me) m count ds Nothing))) 0 ≡ m = sent_list (λ cs. unwrap_or (count_set cs) 0 ≡ m) m ds Nothing (λ tail. refl) in
-        let apart = sent_list (λ cs. writes_inside root cs ≡ false → is_within root s ≡ false) m ds Nothing (λ tail h. (or_off (is_within root s) _ h).0) takes.puts_none in
+        let ds : List Change = PutPage s other (overwritten words (into % PAGE_WORDS) (block m address page))
+        ∷ Alter me (CountMoved m) ∷ Alter y (Shift m) ∷ [] in
+        let counted : unwrap_or (count_set (listed (has_sent (user_at me) m count ds Nothing)))
+        0 ≡ m = sent_list (λ cs. unwrap_or (count_set cs) 0 ≡ m) m ds Nothing (λ tail. refl) in
+        let apart = sent_list (λ cs. writes_inside root cs ≡ false → is_within root s ≡ false)
+        m ds Nothing (λ tail h. (or_off (is_within root s) _ h).0) takes.puts_none in
         took page m ds Nothing (takes.counts ∙ counted) some few (Beyond apart (Both (Alters k q _ (CountMoved m) refl tt) (Beyond out Empty)))
 
     into : (page : List ℕ) (o : Option (ℕ × ℕ)) → eqb count 0 ≡ false → Taking (near_row page) (sends_into big (user_at me) me y address count page o)
@@ -145,12 +163,16 @@ module _ {root : Path} {see : Ptr → Ptr} {small big : World} (like : IsLikenes
         m : ℕ
         m = moved_words address count receive.0 receive.1
 
-        there : eqb receive.1 0 ≡ false → (r : Reach) → Taking (near_row page) (their_page_at (λ t other. sends_words (user_at me) me y (moved_words address count receive.0 receive.1) address count page receive.0 t other (words_at big t other)) r)
-        there wide (Home s other) = puts page (moved_words address count receive.0 receive.1) receive.0 s other (words_at big s other) (some_words address count receive.0 receive.1 many wide) (no_more address count receive.0 receive.1)
+        there : eqb receive.1 0 ≡ false → (r : Reach) → Taking (near_row page) (their_page_at (λ t other.
+            sends_words (user_at me) me y (moved_words address count receive.0 receive.1) address count page receive.0 t other (words_at big t other)) r)
+        there wide (Home s other) = puts page (moved_words address count receive.0 receive.1)
+            receive.0 s other (words_at big s other) (some_words address count receive.0 receive.1 many wide) (no_more address count receive.0 receive.1)
         there wide (Missing s other keeper) = λ takes. tt
         there wide Bad = λ takes. tt
 
-        by : (b : Bool) → eqb receive.1 0 ≡ b → Taking (near_row page) (cond b (Goes (Alter y (End FULL []) ∷ []) Nothing) (their_page big (parent y) receive.0 (λ t other. sends_words (user_at me) me y (moved_words address count receive.0 receive.1) address count page receive.0 t other (words_at big t other))))
+        by : (b : Bool) →
+            eqb receive.1 0 ≡ b → Taking (near_row page) (cond b (Goes (Alter y (End FULL []) ∷ []) Nothing) (their_page big (parent y) receive.0 (λ t other.
+            sends_words (user_at me) me y (moved_words address count receive.0 receive.1) address count page receive.0 t other (words_at big t other))))
         by true e = λ takes. absurd (filled (is_within root y) out takes.fills_none)
           where
             filled : (b : Bool) → b ≡ false → not b ≡ false → ⊥
@@ -158,7 +180,8 @@ module _ {root : Path} {see : Ptr → Ptr} {small big : World} (like : IsLikenes
             filled true h g = cc
         by false e = there e (reach_word big (parent y) receive.0 true)
 
-  to_thread : (page : List ℕ) (o : Option (Path × Thread)) → ((e : Path × Thread) → o ≡ Some e → is_within root e.0 ≡ false) → eqb count 0 ≡ false → Taking (near_row page) (sends_to_thread big (user_at me) turns.Client me address count page o)
+  to_thread : (page : List ℕ) (o : Option (Path × Thread)) → ((e : Path × Thread) → o ≡ Some e → is_within root e.0 ≡ false) →
+      eqb count 0 ≡ false → Taking (near_row page) (sends_to_thread big (user_at me) turns.Client me address count page o)
   to_thread page None outer many = λ takes. tt
   to_thread page (Some e) outer many = by (is_free big (parent e.0) e.1)
     where
@@ -169,16 +192,20 @@ module _ {root : Path} {see : Ptr → Ptr} {small big : World} (like : IsLikenes
   abbrev far_line : Line
   far_line = record { client = me; talk = talk; other = talk.peer }
 
-  to_service : (page : List ℕ) (b : Bool) → eqb count 0 ≡ false → Taking (near_row page) (when b (sends_to_service (user_at me) me talk.port address count page))
+  to_service : (page : List ℕ) (b : Bool) →
+      eqb count 0 ≡ false → Taking (near_row page) (when b (sends_to_service (user_at me) me talk.port address count page))
   to_service page false many = λ takes. tt
   to_service page true many = λ takes.
       let m : ℕ = moved_words address count 0 BLOCK_WORDS in
       let ds : List Change = Alter me (CountMoved m) ∷ [] in
       let told : Said = Words talk.port (block m address page) in
-      let counted : unwrap_or (count_set (listed (has_sent (user_at me) m count ds told))) 0 ≡ m = sent_list (λ cs. unwrap_or (count_set cs) 0 ≡ m) m ds told (λ tail. refl) in
-      took page m ds told (takes.counts ∙ counted) (some_words address count 0 BLOCK_WORDS many refl) (no_more address count 0 BLOCK_WORDS) (Both (Alters k q _ (CountMoved m) refl tt) Empty)
+      let counted : unwrap_or
+      (count_set (listed (has_sent (user_at me) m count ds told))) 0 ≡ m = sent_list (λ cs. unwrap_or (count_set cs) 0 ≡ m) m ds told (λ tail. refl) in
+      took page m ds told (takes.counts ∙ counted) (some_words address count 0 BLOCK_WORDS many refl)
+      (no_more address count 0 BLOCK_WORDS) (Both (Alters k q _ (CountMoved m) refl tt) Empty)
 
-  to : (page : List ℕ) (peer : Peer) → IsOuter root peer → eqb count 0 ≡ false → Taking (near_row page) (sends_to big (user_at me) turns.Client far_line address count page peer)
+  to : (page : List ℕ) (peer : Peer) →
+      IsOuter root peer → eqb count 0 ≡ false → Taking (near_row page) (sends_to big (user_at me) turns.Client far_line address count page peer)
   to page (Server thread) outer many = to_thread page (thread_led_to big thread) (λ e is. outer_at big root thread e outer is) many
   to page Service outer many = to_service page (is_service_free big talk.port) many
   to page Parked outer many = λ takes. tt
@@ -186,7 +213,8 @@ module _ {root : Path} {see : Ptr → Ptr} {small big : World} (like : IsLikenes
   abbrev near_line : Line
   near_line = record { client = k ∷ q; talk = seen_talk see talk; other = (seen_talk see talk).peer }
 
-  at_own : (near far : Path → ℕ → Outcome) (a b : Reach) → ReachLikeness root see big a b → ((s : Path) (page : ℕ) → Taking (near s page) (far (s ++ root) page)) → Taking (own_page_at (k ∷ q) false near a) (own_page_at me false far b)
+  at_own : (near far : Path → ℕ → Outcome) (a b : Reach) → ReachLikeness root see big a b →
+      ((s : Path) (page : ℕ) → Taking (near s page) (far (s ++ root) page)) → Taking (own_page_at (k ∷ q) false near a) (own_page_at me false far b)
   at_own near far _ _ (Homes s page) goes = goes s page
   at_own near far _ _ (Misses s page None None h) goes = λ takes. rw (takes.counts) refl
   at_own near far _ _ (Misses s page (Some seen) (Some port) h) goes = λ takes.
@@ -196,22 +224,28 @@ module _ {root : Path} {see : Ptr → Ptr} {small big : World} (like : IsLikenes
   at_own near far _ _ (Misses s page (Some seen) None h) goes = absurd h
   at_own near far _ _ Bads goes = λ takes. rw (takes.counts) refl
 
-  sends_out_alike : IsOuter root talk.peer → Taking (sends_outside small (user_at (k ∷ q)) n address count near_line) (sends big (user_at me) turns.Client address count far_line)
+  sends_out_alike : IsOuter root talk.peer →
+      Taking (sends_outside small (user_at (k ∷ q)) n address count near_line) (sends big (user_at me) turns.Client address count far_line)
   sends_out_alike outer = by (eqb count 0) refl
     where
-      by : (b : Bool) → eqb count 0 ≡ b → Taking (cond b (done (user_at (k ∷ q)) [] []) (own_page small (user_at (k ∷ q)) address false (λ s page. takes_words (user_at (k ∷ q)) (k ∷ q) (see talk.port) n address count (words_at small s page))))
-          (cond b (done (user_at me) [] []) (own_page big (user_at me) address false (λ s page. sends_to big (user_at me) turns.Client far_line address count (words_at big s page) talk.peer)))
+      by : (b : Bool) → eqb count 0 ≡ b → Taking (cond b (done (user_at (k ∷ q)) [] []) (own_page small
+          (user_at (k ∷ q)) address false (λ s page. takes_words (user_at (k ∷ q)) (k ∷ q) (see talk.port) n address count (words_at small s page))))
+          (cond b (done (user_at me) [] []) (own_page big
+          (user_at me) address false (λ s page. sends_to big (user_at me) turns.Client far_line address count (words_at big s page) talk.peer)))
       by true e = λ takes. rw (takes.counts) (Both (Alters k q _ (Finish []) refl tt) Empty)
-      by false e = at_own _ _ _ _ (reach_word-like like q address false) (λ s page. rw (words_at-like like s page) (to (words_at big (s ++ root) page) talk.peer outer e))
+      by false e = at_own _
+          _ _ _ (reach_word-like like q address false) (λ s page. rw (words_at-like like s page) (to (words_at big (s ++ root) page) talk.peer outer e))
 
   -- ---- the row of a Send
 
   pub send_out : talk_at small (k ∷ q) ≡ Some (seen_talk see talk) → talk_at big me ≡ Some talk → IsOuter root talk.peer →
-      Taking (in_turn small (k ∷ q) turns.Client turns.Client >>= sends_outside small (user_at (k ∷ q)) n address count) (send big (user_at me) turns.Client address count)
+      Taking (in_turn small (k ∷ q) turns.Client turns.Client >>= sends_outside small (user_at (k ∷ q)) n address count)
+      (send big (user_at me) turns.Client address count)
   unfolding send line
   send_out near far outer = rw (near, far) (by (same_side talk.turn turns.Client))
     where
-      by : (b : Bool) → Taking (cond b (Ok near_line) (Err WRONGTURN) >>= sends_outside small (user_at (k ∷ q)) n address count) (cond b (Ok far_line) (Err WRONGTURN) >>= sends big (user_at me) turns.Client address count)
+      by : (b : Bool) → Taking (cond b (Ok near_line) (Err WRONGTURN) >>= sends_outside small (user_at (k ∷ q)) n address count)
+          (cond b (Ok far_line) (Err WRONGTURN) >>= sends big (user_at me) turns.Client address count)
       by true = sends_out_alike outer
       by false = λ takes. rw (takes.counts) refl
 
@@ -223,7 +257,8 @@ module _ {root : Path} {see : Ptr → Ptr} {small big : World} (like : IsLikenes
   passed : (ds : List Change) → LikeChanges root see big [] ds → Passing (passes_outside (user_at (k ∷ q)) near_line) (passes (user_at me) turns.Client me ds)
   passed ds h = append-like (append-like h (Both (Alters k q _ (PassTurn turns.Server) refl tt) Empty)) (Both (Alters k q _ (Finish []) refl tt) Empty)
 
-  passes_thread : (o : Option (Path × Thread)) → ((e : Path × Thread) → o ≡ Some e → is_within root e.0 ≡ false) → Passing (passes_outside (user_at (k ∷ q)) near_line) (passes_to_thread big (user_at me) turns.Client me o)
+  passes_thread : (o : Option (Path × Thread)) → ((e : Path × Thread) → o ≡ Some e → is_within root e.0 ≡ false) →
+      Passing (passes_outside (user_at (k ∷ q)) near_line) (passes_to_thread big (user_at me) turns.Client me o)
   passes_thread None outer = tt
   passes_thread (Some e) outer = by (is_free big (parent e.0) e.1 && is_some (receiving turns.Server e.1.mode))
     where
@@ -235,7 +270,8 @@ module _ {root : Path} {see : Ptr → Ptr} {small big : World} (like : IsLikenes
   passes_out (Server thread) outer = passes_thread (thread_led_to big thread) (λ e is. outer_at big root thread e outer is)
   passes_out Service outer = by (is_service_free big talk.port)
     where
-      by : (b : Bool) → Passing (passes_outside (user_at (k ∷ q)) near_line) (when b (Goes (Alter me (PassTurn turns.Server) ∷ Alter me (Finish []) ∷ []) (Passed talk.port)))
+      by : (b : Bool) →
+          Passing (passes_outside (user_at (k ∷ q)) near_line) (when b (Goes (Alter me (PassTurn turns.Server) ∷ Alter me (Finish []) ∷ []) (Passed talk.port)))
       by true = passed [] Empty
       by false = tt
   passes_out Parked outer = tt
@@ -245,14 +281,16 @@ module _ {root : Path} {see : Ptr → Ptr} {small big : World} (like : IsLikenes
   unfolding over line
   over_out near far outer = rw (near, far) (by (same_side talk.turn turns.Client))
     where
-      by : (b : Bool) → Passing (cond b (Ok near_line) (Err WRONGTURN) >>= passes_outside (user_at (k ∷ q))) (cond b (Ok far_line) (Err WRONGTURN) >>= λ l. passes_to big (user_at me) turns.Client l l.other)
+      by : (b : Bool) → Passing (cond b (Ok near_line) (Err WRONGTURN) >>= passes_outside (user_at (k ∷ q)))
+          (cond b (Ok far_line) (Err WRONGTURN) >>= λ l. passes_to big (user_at me) turns.Client l l.other)
       by true = passes_out talk.peer outer
       by false = refl
 
 -- ---- a client inside
 
 -- a call of no pick that is for users
-pub alone : (w : World) (x : Path) (stage : Stage) → chooses stage ≡ false → is_for_porters stage ≡ false → call_row w (user_at x) None stage ≡ closed (user_at x) (stage_row w (user_at x) None stage)
+pub alone : (w : World) (x : Path) (stage : Stage) →
+    chooses stage ≡ false → is_for_porters stage ≡ false → call_row w (user_at x) None stage ≡ closed (user_at x) (stage_row w (user_at x) None stage)
 unfolding call_row
 alone w x stage picks porters = rw (picks, porters) (by (stage_row w (user_at x) None stage))
   where
@@ -292,7 +330,8 @@ not_outside root big _ _ (Inside x) = refl
 not_outside root big _ _ (PortAt x slot apart kind) = refl
 not_outside root big _ _ (PortOut old slot) = refl
 
-pub peer_out : (root : Path) (see : Ptr → Ptr) (big : World) (out : Bool) (peer : Peer) → IfServer out peer (HasLikeness root see big) → is_outside (seen_peer see out peer) ≡ out
+pub peer_out : (root : Path) (see : Ptr → Ptr) (big : World) (out : Bool) (peer : Peer) →
+    IfServer out peer (HasLikeness root see big) → is_outside (seen_peer see out peer) ≡ out
 peer_out root see big true peer h = refl
 peer_out root see big false (Server thread) h = not_outside root big thread (see thread) h
 peer_out root see big false Service h = refl
@@ -300,17 +339,23 @@ peer_out root see big false Parked h = refl
 
 module _ {root : Path} {see : Ptr → Ptr} {small big : World} (like : IsLikeness root see small big) (k : ℕ) (q : Path) where
   -- the peer of a talk is seen outside exactly where its port is
-  pub outside_at : (b : Bool) → talks_outside small (k ∷ q) ≡ b → (talk : Talk) → talk_at big (k ∷ (q ++ root)) ≡ Some talk → (talk_at small (k ∷ q) ≡ Some (seen_talk see talk)) × AllInTalk see (HasLikeness root see big) talk × (is_out (see talk.port) ≡ b)
+  pub outside_at : (b : Bool) → talks_outside small (k ∷ q) ≡ b → (talk : Talk) → talk_at big (k ∷ (q ++ root)) ≡ Some talk →
+      (talk_at small (k ∷ q) ≡ Some (seen_talk see talk)) × AllInTalk see (HasLikeness root see big) talk × (is_out (see talk.port) ≡ b)
   outside_at b outside talk is = by (talk_at small (k ∷ q)) refl (talk_at big (k ∷ (q ++ root))) is (talk_at-like like (k ∷ q))
     where
-      by : (o : Option Talk) → talk_at small (k ∷ q) ≡ o → (p : Option Talk) → p ≡ Some talk → AlikeOptions (IsSeenTalk root see big) o p → (talk_at small (k ∷ q) ≡ Some (seen_talk see talk)) × AllInTalk see (HasLikeness root see big) talk × (is_out (see talk.port) ≡ b)
+      by : (o : Option Talk) → talk_at small (k ∷ q) ≡ o → (p : Option Talk) → p ≡ Some talk → AlikeOptions (IsSeenTalk root see big) o p →
+          (talk_at small (k ∷ q) ≡ Some (seen_talk see talk)) × AllInTalk see (HasLikeness root see big) talk × (is_out (see talk.port) ≡ b)
       by None at None e h = cc
       by (Some seen) at None e h = absurd h
       by None at (Some found) e h = absurd h
       by (Some seen) at (Some found) e h =
           let both : IsSeenTalk root see big seen talk = subst (λ (f : Talk). IsSeenTalk root see big seen f) (the_one found talk e) h in
-          let seen_at : talk_at small (k ∷ q) ≡ Some (seen_talk see talk) = at ∙ ap Some both.0 in
-          (seen_at, both.1, sym (peer_out root see big (is_out (see talk.port)) talk.peer both.1.1) ∙ sym (ap (holds (λ (talk : Talk). is_outside talk.peer)) seen_at) ∙ outside)
+          let seen_at : talk_at small (k ∷ q) ≡ Some (seen_talk see talk) = at ∙ ap Some both.0 in (
+            seen_at,
+            both.1,
+            sym (peer_out root see big (is_out (see talk.port)) talk.peer both.1.1)
+                ∙ sym (ap (holds (λ (talk : Talk). is_outside talk.peer)) seen_at) ∙ outside,
+          )
         where
           the_one : (a b : Talk) → Some a ≡ Some b → a ≡ b
           the_one a b h = cc
@@ -319,7 +364,8 @@ module _ {root : Path} {see : Ptr → Ptr} {small big : World} (like : IsLikenes
   pub outside_talk : talks_outside small (k ∷ q) ≡ true → (talk : Talk) × (talk_at big (k ∷ (q ++ root)) ≡ Some talk)
   outside_talk outside = by (talk_at small (k ∷ q)) (talk_at big (k ∷ (q ++ root))) refl outside (talk_at-like like (k ∷ q))
     where
-      by : (o p : Option Talk) → talk_at big (k ∷ (q ++ root)) ≡ p → holds (λ (talk : Talk). is_outside talk.peer) o ≡ true → AlikeOptions (IsSeenTalk root see big) o p → (talk : Talk) × (talk_at big (k ∷ (q ++ root)) ≡ Some talk)
+      by : (o p : Option Talk) → talk_at big (k ∷ (q ++ root)) ≡ p → holds (λ (talk : Talk). is_outside talk.peer) o ≡ true →
+          AlikeOptions (IsSeenTalk root see big) o p → (talk : Talk) × (talk_at big (k ∷ (q ++ root)) ≡ Some talk)
       by o (Some talk) is e h = (talk, is)
       by None None is e h = cc
       by (Some seen) None is e h = absurd h

@@ -43,12 +43,16 @@ module _ {root : Path} {see : Ptr → Ptr} {small big : World} (like : IsLikenes
       IsLikeOutcome root see big (disconnect small (user_at (k ∷ q)) side) (disconnect big (user_at (k ∷ (q ++ root))) side)
   unfolding disconnect
   disconnect-like k q side lines =
-      bind_line like (or_refuse NOTLINKED (line small (k ∷ q) side)) (or_refuse NOTLINKED (line big (k ∷ (q ++ root)) side)) _ _ (alike_or_refuse (LineLikeness root see big) NOTLINKED _ _ lines)
+      bind_line like (or_refuse NOTLINKED (line small (k ∷ q) side))
+      (or_refuse NOTLINKED (line big (k ∷ (q ++ root)) side)) _ _ (alike_or_refuse (LineLikeness root see big) NOTLINKED _ _ lines)
       (λ j z talk other seen is has peer.
       let near : Line = record { client = j ∷ z; talk = seen_talk see talk; other = seen } in
       let far : Line = record { client = j ∷ (z ++ root); talk = talk; other = other } in
-      telling-like like (told_end near.talk seen) (told_end talk other) (done (user_at (k ∷ q)) (end_all (ends_beyond small side near) ++ Alter (j ∷ z) (SetTalk None) ∷ []) []) (done (user_at (k ∷ (q ++ root))) (end_all (ends_beyond big side far) ++ Alter (j ∷ (z ++ root)) (SetTalk None) ∷ []) [])
-      (done-like like (user_at (k ∷ q)) _ _ [] (append-like (ends_beyond-like like side _ _ big (Lines j z talk other seen is has peer)) (Both (Alters j z _ (SetTalk None) refl tt) Empty))))
+      telling-like like (told_end near.talk seen)
+      (told_end talk other) (done (user_at (k ∷ q)) (end_all (ends_beyond small side near) ++ Alter (j ∷ z) (SetTalk None) ∷ []) [])
+      (done (user_at (k ∷ (q ++ root))) (end_all (ends_beyond big side far) ++ Alter (j ∷ (z ++ root)) (SetTalk None) ∷ []) [])
+      (done-like like (user_at (k ∷ q))
+      _ _ [] (append-like (ends_beyond-like like side _ _ big (Lines j z talk other seen is has peer)) (Both (Alters j z _ (SetTalk None) refl tt) Empty))))
 
 quiet-ends : (root : Path) (xs : List Path) → AreQuiet root (end_all xs)
 quiet-ends root [] = tt
@@ -64,17 +68,21 @@ unfolding disconnect
 quiet-disconnect root w x side =
     quiet->>= root _ _
     (λ l. quiet-telling root (told_end l.talk l.other) _ (hushed_end l.talk l.other)
-    (quiet-done root (user_at x) (end_all (ends_beyond w side l) ++ Alter l.client (SetTalk None) ∷ []) [] (quiet-then root (end_all (ends_beyond w side l)) (Alter l.client (SetTalk None) ∷ []) (quiet-ends root (ends_beyond w side l)) ((λ out. refl), tt))))
+    (quiet-done root (user_at x) (end_all (ends_beyond w side l) ++ Alter l.client (SetTalk None) ∷ []) []
+    (quiet-then root (end_all (ends_beyond w side l)) (Alter l.client (SetTalk None) ∷ []) (quiet-ends root (ends_beyond w side l)) ((λ out. refl), tt))))
 
 -- ---- by the client
 
 pub disconnect_keeps : StageKeepsCut IsDisconnect
-disconnect_keeps = whole IsDisconnect (inside_stages IsDisconnect law) (λ w nester slot plain x pick stage such out at. stage_outside w nester slot plain x pick Disconnect out (rw such at at) (λ cs. refl) (quiet-disconnect (slot ∷ nester) w x turns.Client))
+disconnect_keeps = whole IsDisconnect (inside_stages IsDisconnect law) (λ w nester slot plain x pick stage such out at.
+    stage_outside w nester slot plain x pick Disconnect out (rw such at at) (λ cs. refl) (quiet-disconnect (slot ∷ nester) w x turns.Client))
   where
-    law : (w : World) (nester : Path) (slot : ℕ) → IsPlain w nester slot → (k : ℕ) (q : Path) (pick : Option Path) (stage : Stage) → IsDisconnect stage → IsAtStage w (k ∷ (q ++ slot ∷ nester)) stage → KeepsCut w nester slot (moves (k ∷ (q ++ slot ∷ nester)) pick)
+    law : (w : World) (nester : Path) (slot : ℕ) → IsPlain w nester slot → (k : ℕ) (q : Path) (pick : Option Path) (stage : Stage) →
+        IsDisconnect stage → IsAtStage w (k ∷ (q ++ slot ∷ nester)) stage → KeepsCut w nester slot (moves (k ∷ (q ++ slot ∷ nester)) pick)
     law w nester slot plain k q pick stage such at sound same =
         stage_inside w nester slot plain k q pick Disconnect (rw such at at) (λ n c o. refl)
-        (λ p e free. disconnect-like (cut-like w nester slot plain) k q turns.Client (line_client-like (cut-like w nester slot plain) (cut-apart w nester slot sound.valid plain) k q)) (quiet-disconnect (slot ∷ nester) w (k ∷ (q ++ slot ∷ nester)) turns.Client) sound same
+        (λ p e free. disconnect-like (cut-like w nester slot plain) k q turns.Client (line_client-like (cut-like w nester slot plain)
+        (cut-apart w nester slot sound.valid plain) k q)) (quiet-disconnect (slot ∷ nester) w (k ∷ (q ++ slot ∷ nester)) turns.Client) sound same
 
 pub disconnect_rebinds : StageRebinds IsDisconnect
 disconnect_rebinds = told_rebinds IsDisconnect (λ p n stage such. rw such (law p n))
@@ -82,8 +90,11 @@ disconnect_rebinds = told_rebinds IsDisconnect (λ p n stage such. rw such (law 
     law : (p : Option Path) (n : ℕ) → IsRebound p n Disconnect
     law p n see small c like outs world k q =
         rw (silent_row p n Disconnect small (k ∷ q) (λ n o. refl), silent_row p n Disconnect c (k ∷ (q ++ [])) (λ n o. refl))
-        (same_call like k q p Disconnect refl refl
-        (disconnect-like like k q turns.Client (line_client-like like (cut_world-apart c see outs world) k q), quiet_heard see (disconnect small (user_at (k ∷ q)) turns.Client) (disconnect c (user_at (k ∷ (q ++ []))) turns.Client) (quiet-disconnect [] small (k ∷ q) turns.Client) (quiet-disconnect [] c (k ∷ (q ++ [])) turns.Client)))
+        (same_call like k q p Disconnect refl refl (
+          disconnect-like like k q turns.Client (line_client-like like (cut_world-apart c see outs world) k q),
+          quiet_heard see (disconnect small (user_at (k ∷ q)) turns.Client) (disconnect c (user_at (k ∷ (q ++ []))) turns.Client)
+              (quiet-disconnect [] small (k ∷ q) turns.Client) (quiet-disconnect [] c (k ∷ (q ++ [])) turns.Client),
+        ))
 
 -- ---- by the server
 
@@ -96,7 +107,9 @@ end_keeps w nester slot x pick stage such within at sound plain =
     law k q at sound plain =
         let like = cut-like w nester slot plain in
         stage_inside w nester slot plain k q pick ServerEnd at (λ n c o. refl)
-        (λ p e free. disconnect-like like k q turns.Server (line_server-like like (k ∷ q) (client_of-like like (cut-served w nester slot sound.valid plain sound.few) (k ∷ q)))) (quiet-disconnect (slot ∷ nester) w (k ∷ (q ++ slot ∷ nester)) turns.Server) sound plain
+        (λ p e free. disconnect-like
+        like k q turns.Server (line_server-like like (k ∷ q) (client_of-like like (cut-served w nester slot sound.valid plain sound.few) (k ∷ q))))
+        (quiet-disconnect (slot ∷ nester) w (k ∷ (q ++ slot ∷ nester)) turns.Server) sound plain
 
 pub end_rebinds : StageRebinds IsServerEnd
 end_rebinds = told_rebinds IsServerEnd (λ p n stage such. rw such (law p n))
@@ -104,5 +117,8 @@ end_rebinds = told_rebinds IsServerEnd (λ p n stage such. rw such (law p n))
     law : (p : Option Path) (n : ℕ) → IsRebound p n ServerEnd
     law p n see small c like outs world k q =
         rw (silent_row p n ServerEnd small (k ∷ q) (λ n o. refl), silent_row p n ServerEnd c (k ∷ (q ++ [])) (λ n o. refl))
-        (same_call like k q p ServerEnd refl refl
-        (disconnect-like like k q turns.Server (line_server-like like (k ∷ q) (client_same like (cut_world-apart c see outs world) (k ∷ q))), quiet_heard see (disconnect small (user_at (k ∷ q)) turns.Server) (disconnect c (user_at (k ∷ (q ++ []))) turns.Server) (quiet-disconnect [] small (k ∷ q) turns.Server) (quiet-disconnect [] c (k ∷ (q ++ [])) turns.Server)))
+        (same_call like k q p ServerEnd refl refl (
+          disconnect-like like k q turns.Server (line_server-like like (k ∷ q) (client_same like (cut_world-apart c see outs world) (k ∷ q))),
+          quiet_heard see (disconnect small (user_at (k ∷ q)) turns.Server) (disconnect c (user_at (k ∷ (q ++ []))) turns.Server)
+              (quiet-disconnect [] small (k ∷ q) turns.Server) (quiet-disconnect [] c (k ∷ (q ++ [])) turns.Server),
+        ))

@@ -66,11 +66,13 @@ IsThere w (Home s page) = is_some (w.page s page) ≡ true
 IsThere w (Missing s page keeper) = Unit {0}
 IsThere w Bad = Unit {0}
 
-there-home : (w : World) (s : Path) (page : ℕ) (away : Reach) (o : Option (List ℕ)) → w.page s page ≡ o → IsThere w away → IsThere w (at_home (Home s page) away o)
+there-home : (w : World) (s : Path) (page : ℕ) (away : Reach) (o : Option (List ℕ)) →
+    w.page s page ≡ o → IsThere w away → IsThere w (at_home (Home s page) away o)
 there-home w s page away None e h = h
 there-home w s page away (Some words) e h = ap is_some e
 
-there-mapped : (w : World) (go : _ → Reach) (missing : Reach) (o : Option _) → ((m : _) → IsThere w (go m)) → IsThere w missing → IsThere w (mapped go missing o)
+there-mapped : (w : World) (go : _ → Reach) (missing : Reach) (o : Option _) →
+    ((m : _) → IsThere w (go m)) → IsThere w missing → IsThere w (mapped go missing o)
 there-mapped w go missing None h g = g
 there-mapped w go missing (Some m) h g = h m
 
@@ -115,7 +117,8 @@ take_back m at page words inside long =
 -- ---- whom a server outside serves, it serves at a port outside
 
 module _ (w : World) (root : Path) (birth : ℕ) (holder : Option Ptr) (top : w.body root ≡ Some (Space birth holder)) where
-  port_out : (j : ℕ) (s : Path) → is_within root (j ∷ s) ≡ false → (p seen : Ptr) → PtrLikeness root w p seen → leads_there (kind_there w) (kinds.Port ∷ []) p ≡ true → lies_with p (At (j ∷ s)) → is_out seen ≡ true
+  port_out : (j : ℕ) (s : Path) → is_within root (j ∷ s) ≡ false →
+      (p seen : Ptr) → PtrLikeness root w p seen → leads_there (kind_there w) (kinds.Port ∷ []) p ≡ true → lies_with p (At (j ∷ s)) → is_out seen ≡ true
   unfolding kind_there
   port_out j s out _ _ Nulls good near = cc
   port_out j s out _ _ Deads good near = cc
@@ -128,32 +131,43 @@ module _ (w : World) (root : Path) (birth : ℕ) (holder : Option Ptr) (top : w.
   port_out j s out _ _ (PortOut old slot) good near = refl
 
 -- who is served, with its talk
-pub its_client : (w : World) (j : ℕ) (s c : Path) → client_of w (j ∷ s) ≡ Some c → (t : Thread) × (talk : Talk) × (and_then thread_of (w.body c) ≡ Some t) × (t.talk ≡ Some talk) × (talk.peer ≡ Server (At (j ∷ s)))
+pub its_client : (w : World) (j : ℕ) (s c : Path) → client_of w (j ∷ s) ≡ Some c →
+    (t : Thread) × (talk : Talk) × (and_then thread_of (w.body c) ≡ Some t) × (t.talk ≡ Some talk) × (talk.peer ≡ Server (At (j ∷ s)))
 unfolding client_of
-its_client w j s c served = by (and_then thread_of (w.body c)) refl (find_some (λ (y : Path). holds (λ (talk : Talk). serves (j ∷ s) talk.peer) (talk_at w y)) (objects w) c served)
+its_client w j s c served =
+    by (and_then thread_of (w.body c)) refl (find_some (λ (y : Path). holds (λ (talk : Talk). serves (j ∷ s) talk.peer) (talk_at w y)) (objects w) c served)
   where
-    of_talk : (t : Thread) → and_then thread_of (w.body c) ≡ Some t → (o : Option Talk) → t.talk ≡ o → holds (λ (talk : Talk). serves (j ∷ s) talk.peer) o ≡ true → (t : Thread) × (talk : Talk) × (and_then thread_of (w.body c) ≡ Some t) × (t.talk ≡ Some talk) × (talk.peer ≡ Server (At (j ∷ s)))
+    of_talk : (t : Thread) → and_then thread_of (w.body c) ≡ Some t → (o : Option Talk) → t.talk ≡ o → holds (λ (talk : Talk). serves (j ∷ s) talk.peer)
+        o ≡ true → (t : Thread) × (talk : Talk) × (and_then thread_of (w.body c) ≡ Some t) × (t.talk ≡ Some talk) × (talk.peer ≡ Server (At (j ∷ s)))
     of_talk t is None its h = cc
     of_talk t is (Some talk) its h = (t, talk, is, its, serves_is (j ∷ s) talk.peer h)
 
-    by : (o : Option Thread) → and_then thread_of (w.body c) ≡ o → holds (λ (talk : Talk). serves (j ∷ s) talk.peer) (and_then (λ (t : Thread). t.talk) o) ≡ true → (t : Thread) × (talk : Talk) × (and_then thread_of (w.body c) ≡ Some t) × (t.talk ≡ Some talk) × (talk.peer ≡ Server (At (j ∷ s)))
+    by : (o : Option Thread) →
+        and_then thread_of (w.body c) ≡ o → holds (λ (talk : Talk). serves (j ∷ s) talk.peer) (and_then (λ (t : Thread). t.talk) o) ≡ true →
+        (t : Thread) × (talk : Talk) × (and_then thread_of (w.body c) ≡ Some t) × (t.talk ≡ Some talk) × (talk.peer ≡ Server (At (j ∷ s)))
     by None is h = cc
     by (Some t) is h = of_talk t is t.talk refl h
 
 -- it lies inside, and its talk is at a port outside
-pub served_outward : (w : World) (nester : Path) (slot : ℕ) → IsPlain w nester slot → IsWhole w → (j : ℕ) (s : Path) → is_within (slot ∷ nester) (j ∷ s) ≡ false → (k : ℕ) (z : Path) → client_of w (j ∷ s) ≡ Some (k ∷ (z ++ slot ∷ nester)) →
-    (t : Thread) × (talk : Talk) × (and_then thread_of (w.body (k ∷ (z ++ slot ∷ nester))) ≡ Some t) × (t.talk ≡ Some talk) × (is_out (cut_ptr (ports_of w nester slot) nester slot talk.port) ≡ true)
+pub served_outward : (w : World) (nester : Path) (slot : ℕ) → IsPlain w nester slot →
+    IsWhole w → (j : ℕ) (s : Path) → is_within (slot ∷ nester) (j ∷ s) ≡ false → (k : ℕ) (z : Path) → client_of w (j ∷ s) ≡ Some (k ∷ (z ++ slot ∷ nester)) →
+    (t : Thread) × (talk : Talk) × (and_then thread_of (w.body (k ∷ (z ++ slot ∷ nester))) ≡ Some t) ×
+    (t.talk ≡ Some talk) × (is_out (cut_ptr (ports_of w nester slot) nester slot talk.port) ≡ true)
 served_outward w nester slot plain sound j s out k z served =
     let its = its_client w j s (k ∷ (z ++ slot ∷ nester)) served in
     let talk = its.1 in
     let talks : talk_at w (k ∷ (z ++ slot ∷ nester)) ≡ Some talk = ap (and_then (λ (t : Thread). t.talk)) its.2 ∙ its.3 in
     let seen = outside_at (cut-like w nester slot plain) k z _ refl talk talks in
-    let good = good_talk (kind_there w) (k ∷ (z ++ slot ∷ nester)) (w.body (k ∷ (z ++ slot ∷ nester))) talk (sound.valid.consistent.good (k ∷ (z ++ slot ∷ nester))) talks in
+    let good = good_talk (kind_there w)
+    (k ∷ (z ++ slot ∷ nester)) (w.body (k ∷ (z ++ slot ∷ nester))) talk (sound.valid.consistent.good (k ∷ (z ++ slot ∷ nester))) talks in
     let near = sound.valid.consistent.talks_near (k ∷ (z ++ slot ∷ nester)) talk (At (j ∷ s)) talks its.4 in
-    let port = port_out w (slot ∷ nester) plain.birth plain.holder plain.root j s out talk.port (cut_ptr (ports_of w nester slot) nester slot talk.port) seen.1.0 (and_parts (leads_there (kind_there w) (kinds.Port ∷ []) talk.port) (is_good_peer (kind_there w) talk.peer) good).0 near in
+    let port = port_out w (slot ∷ nester) plain.birth plain.holder plain.root j s out talk.port (cut_ptr (ports_of w nester slot) nester slot talk.port)
+    seen.1.0 (and_parts (leads_there (kind_there w) (kinds.Port ∷ []) talk.port) (is_good_peer (kind_there w) talk.peer) good).0 near in
     (its.0, talk, its.2, its.3, port)
 
-module _ (w : World) (nester : Path) (slot : ℕ) (plain : IsPlain w nester slot) (full : HasFullPages w) (x : Path) (out : is_within (slot ∷ nester) (slot_of x ∷ parent x) ≡ false) (k : ℕ) (z : Path) (t : Thread) (is : and_then thread_of (w.body (k ∷ (z ++ slot ∷ nester))) ≡ Some t) (talk : Talk) (its : t.talk ≡ Some talk) (outward : is_out (cut_ptr (ports_of w nester slot) nester slot talk.port) ≡ true) where
+module _ (w : World) (nester : Path) (slot : ℕ) (plain : IsPlain w nester slot) (full : HasFullPages w) (x : Path) (out : is_within
+    (slot ∷ nester) (slot_of x ∷ parent x) ≡ false) (k : ℕ) (z : Path) (t : Thread) (is : and_then thread_of (w.body (k ∷ (z ++ slot ∷ nester))) ≡ Some t)
+    (talk : Talk) (its : t.talk ≡ Some talk) (outward : is_out (cut_ptr (ports_of w nester slot) nester slot talk.port) ≡ true) where
   abbrev root : Path
   root = slot ∷ nester
 
@@ -205,15 +219,18 @@ module _ (w : World) (nester : Path) (slot : ℕ) (plain : IsPlain w nester slot
   touches-picked pick Waits h = h
   touches-picked pick (Goes cs said) h = touches-when (is_none pick) (Goes cs said) h
 
-  touches-own : (go : Path → ℕ → Outcome) (r : Reach) → IsThere w r → ((s : Path) (page : ℕ) → is_some (w.page s page) ≡ true → Touches (go s page)) → Touches (own_page_at me false go r)
+  touches-own : (go : Path → ℕ → Outcome) (r : Reach) →
+      IsThere w r → ((s : Path) (page : ℕ) → is_some (w.page s page) ≡ true → Touches (go s page)) → Touches (own_page_at me false go r)
   touches-own go (Home s page) there h = h s page there
   touches-own go (Missing s page None) there h = nothing_seen (Refused BADADDRESS) refl refl
-  touches-own go (Missing s page (Some port)) there h = nothing_seen (Goes (Alter me (SetFault (Some (record { page = page; write = false; port = port; taker = None }))) ∷ []) Nothing) refl refl
+  touches-own go (Missing s page (Some port)) there h =
+      nothing_seen (Goes (Alter me (SetFault (Some (record { page = page; write = false; port = port; taker = None }))) ∷ []) Nothing) refl refl
   touches-own go Bad there h = nothing_seen (Refused BADADDRESS) refl refl
 
   -- ---- the client awaits words
 
-  module _ (turn : same_side talk.turn turns.Server ≡ true) (free : is_free w (z ++ root) t ≡ true) (receive : ℕ × ℕ) (awaits : receiving turns.Client t.mode ≡ Some receive) where
+  module _ (turn : same_side talk.turn turns.Server ≡ true)
+      (free : is_free w (z ++ root) t ≡ true) (receive : ℕ × ℕ) (awaits : receiving turns.Client t.mode ≡ Some receive) where
     here : thread_at small (k ∷ z) ≡ Some (seen_thread see t)
     here = rw ((cut-like w nester slot plain).bodies (k ∷ z)) (thread_seen see k z (w.body client) t is)
 
@@ -231,7 +248,8 @@ module _ (w : World) (nester : Path) (slot : ℕ) (plain : IsPlain w nester slot
     filled none touch h =
         let same = rw (same_path_refl client) at h in
         let form : touch ≡ Filled (k ∷ z) = cc in
-        rw form (has_touched w nester slot plain (Filled (k ∷ z)) (Alter (k ∷ z) (End FULL []) ∷ []) (Alter client (End FULL []) ∷ []) Nothing (filled_row none) (Both (Alters k z _ (End FULL []) refl tt) Empty) (tt, tt))
+        rw form (has_touched w nester slot plain (Filled (k ∷ z)) (Alter (k ∷ z) (End FULL []) ∷ [])
+        (Alter client (End FULL []) ∷ []) Nothing (filled_row none) (Both (Alters k z _ (End FULL []) refl tt) Empty) (tt, tt))
 
     -- ---- the words that it gets
 
@@ -248,58 +266,83 @@ module _ (w : World) (nester : Path) (slot : ℕ) (plain : IsPlain w nester slot
 
         given_row : touch_row small (Given (k ∷ z) words) ≡ Goes near Nothing
         unfolding touch_row
-        given_row = rw here (awaiting (given_to small (k ∷ z) words) ∙ rw (lt-ltb 0 (length words) (omega (arith, longs, some)), le-leb (length words) (min BLOCK_WORDS (min receive.1 (to_page_end receive.0))) (omega (arith, longs, room)), home, words_at-like (cut-like w nester slot plain) s p) refl)
+        given_row =
+            rw here (awaiting (given_to small (k ∷ z) words) ∙ rw (
+              lt-ltb 0 (length words) (omega (arith, longs, some)),
+              le-leb (length words) (min BLOCK_WORDS
+                  (min receive.1 (to_page_end receive.0))) (omega (arith, longs, room)),
+              home,
+              words_at-like (cut-like w nester slot plain) s p,
+            ) refl)
 
         read_back : received_words w client m put ≡ words
-        read_back = rw (is, awaits) (take_back m (receive.0 % PAGE_WORDS) (words_at w (s ++ root) p) words (omega (arith, full_page w full (s ++ root) p there)) longs)
+        read_back =
+            rw (is, awaits) (take_back m (receive.0 % PAGE_WORDS) (words_at w (s ++ root) p) words (omega (arith, full_page w full (s ++ root) p there)) longs)
 
         given : (tail : List Change) (said : Said) → LikeChanges root see (apply_all (far []) w) [] tail → AreQuiet root tail → Touches (Goes (far tail) said)
         unfolding apply_all
         given tail said beyond quiet touch h =
             let shown : Some (Given (k ∷ z) words) ≡ Some touch = subst (λ (v : List ℕ). Some (Given (k ∷ z) v) ≡ Some touch) read_back h in
             let form : touch ≡ Given (k ∷ z) words = cc in
-            rw form (has_touched w nester slot plain (Given (k ∷ z) words) near (far tail) Nothing given_row (Both (PutsPage s p put) (Both (Alters k z (CountMoved (length words)) (CountMoved m) (ap (λ (n : ℕ). CountMoved n) longs) tt) (Both (Alters k z (Shift (length words)) (Shift m) (ap (λ (n : ℕ). Shift n) longs) tt) beyond))) (tt, (tt, (tt, quiet))))
+            rw form (has_touched w nester slot plain (Given (k ∷ z) words) near (far tail)
+            Nothing given_row (Both (PutsPage s p put) (Both (Alters k z (CountMoved (length words)) (CountMoved m) (ap (λ (n : ℕ). CountMoved n) longs) tt)
+            (Both (Alters k z (Shift (length words)) (Shift m) (ap (λ (n : ℕ). Shift n) longs) tt) beyond))) (tt, (tt, (tt, quiet))))
 
   -- ---- the row of a Send
 
-  sent : (turn : same_side talk.turn turns.Server ≡ true) (free : is_free w (z ++ root) t ≡ true) (receive : ℕ × ℕ) (awaits : receiving turns.Client t.mode ≡ Some receive) (address count : ℕ) (page : List ℕ) → length page ≡ PAGE_WORDS → 0 < moved_words address count receive.0 receive.1 →
-      (s : Path) (p : ℕ) → reach_word small z receive.0 true ≡ Home s p → is_some (w.page (s ++ root) p) ≡ true → Touches (sends_words (user_at x) client client (moved_words address count receive.0 receive.1) address count page receive.0 (s ++ root) p (words_at w (s ++ root) p))
+  sent : (turn : same_side talk.turn turns.Server ≡ true)
+      (free : is_free w (z ++ root) t ≡ true) (receive : ℕ × ℕ) (awaits : receiving turns.Client t.mode ≡ Some receive) (address count : ℕ) (page : List ℕ) →
+      length page ≡ PAGE_WORDS → 0 < moved_words address count receive.0 receive.1 →
+      (s : Path) (p : ℕ) → reach_word small z receive.0 true ≡ Home s p → is_some (w.page (s ++ root) p) ≡ true → Touches (sends_words (user_at x)
+      client client (moved_words address count receive.0 receive.1) address count page receive.0 (s ++ root) p (words_at w (s ++ root) p))
   sent turn free receive awaits address count page long some s p home there = by (eqb m count)
     where
       m : ℕ
       m = moved_words address count receive.0 receive.1
 
       far : List Change → List Change
-      far tail = PutPage (s ++ root) p (overwritten (words_at w (s ++ root) p) (receive.0 % PAGE_WORDS) (block (moved_words address count receive.0 receive.1) address page)) ∷ Alter client (CountMoved (moved_words address count receive.0 receive.1)) ∷ Alter client (Shift (moved_words address count receive.0 receive.1)) ∷ tail
+      far tail = PutPage (s ++ root)
+          p (overwritten (words_at w (s ++ root) p) (receive.0 % PAGE_WORDS) (block (moved_words address count receive.0 receive.1) address page)) ∷ Alter
+          client (CountMoved (moved_words address count receive.0 receive.1)) ∷ Alter client (Shift (moved_words address count receive.0 receive.1)) ∷ tail
 
       goes : (tail : List Change) → LikeChanges root see (apply_all (far []) w) [] tail → AreQuiet root tail → Touches (Goes (far tail) Nothing)
       goes tail beyond quiet =
-          given turn free receive awaits (moved_words address count receive.0 receive.1) (block (moved_words address count receive.0 receive.1) address page) (block_long (moved_words address count receive.0 receive.1) address page long (omega arith)) some (omega arith) s p home there tail Nothing beyond quiet
+          given turn free receive awaits (moved_words address count receive.0 receive.1) (block (moved_words address count receive.0 receive.1) address page)
+          (block_long (moved_words address count receive.0 receive.1) address page long (omega arith))
+          some (omega arith) s p home there tail Nothing beyond quiet
 
       by : (b : Bool) → Touches (cond b (Goes (far (Alter me (Shift m) ∷ Alter me (Finish []) ∷ [])) Nothing) (Goes (far (Alter me (Shift m) ∷ [])) Nothing))
       by true = goes (Alter me (Shift m) ∷ Alter me (Finish []) ∷ []) (Beyond out (Beyond out Empty)) (tt, (tt, tt))
       by false = goes (Alter me (Shift m) ∷ []) (Beyond out Empty) (tt, tt)
 
-  their : (turn : same_side talk.turn turns.Server ≡ true) (free : is_free w (z ++ root) t ≡ true) (receive : ℕ × ℕ) (awaits : receiving turns.Client t.mode ≡ Some receive) (address count : ℕ) (page : List ℕ) → length page ≡ PAGE_WORDS → 0 < moved_words address count receive.0 receive.1 →
-      (a b : Reach) → reach_word small z receive.0 true ≡ a → IsThere w b → ReachLikeness root see w a b → Touches (their_page_at (λ s other. sends_words (user_at x) client client (moved_words address count receive.0 receive.1) address count page receive.0 s other (words_at w s other)) b)
+  their : (turn : same_side talk.turn turns.Server ≡ true)
+      (free : is_free w (z ++ root) t ≡ true) (receive : ℕ × ℕ) (awaits : receiving turns.Client t.mode ≡ Some receive) (address count : ℕ) (page : List ℕ) →
+      length page ≡ PAGE_WORDS → 0 < moved_words address count receive.0 receive.1 →
+      (a b : Reach) → reach_word small z receive.0 true ≡ a → IsThere w b → ReachLikeness root see w a b → Touches (their_page_at (λ s other.
+      sends_words (user_at x) client client (moved_words address count receive.0 receive.1) address count page receive.0 s other (words_at w s other)) b)
   their turn free receive awaits address count page long some _ _ e there (Homes s p) = sent turn free receive awaits address count page long some s p e there
   their turn free receive awaits address count page long some _ _ e there (Misses s p keeper port h) = nothing_seen Waits refl refl
   their turn free receive awaits address count page long some _ _ e there Bads = nothing_seen Waits refl refl
 
-  into : same_side talk.turn turns.Server ≡ true → is_free w (z ++ root) t ≡ true → (address count : ℕ) (page : List ℕ) → length page ≡ PAGE_WORDS → eqb count 0 ≡ false → (o : Option (ℕ × ℕ)) → receiving turns.Client t.mode ≡ o → Touches (sends_into w (user_at x) client client address count page o)
+  into : same_side talk.turn turns.Server ≡ true → is_free w (z ++ root) t ≡ true → (address count : ℕ) (page : List ℕ) → length page ≡ PAGE_WORDS →
+      eqb count 0 ≡ false → (o : Option (ℕ × ℕ)) → receiving turns.Client t.mode ≡ o → Touches (sends_into w (user_at x) client client address count page o)
   into turn free address count page long many None awaits = nothing_seen Waits refl refl
   into turn free address count page long many (Some receive) awaits = by (eqb receive.1 0) refl
     where
-      by : (b : Bool) → eqb receive.1 0 ≡ b → Touches (cond b (Goes (Alter client (End FULL []) ∷ []) Nothing) (their_page w (z ++ root) receive.0 (λ s other. sends_words (user_at x) client client (moved_words address count receive.0 receive.1) address count page receive.0 s other (words_at w s other))))
+      by : (b : Bool) → eqb receive.1 0 ≡ b → Touches (cond b (Goes (Alter client (End FULL []) ∷ []) Nothing) (their_page w (z ++ root) receive.0 (λ s other.
+          sends_words (user_at x) client client (moved_words address count receive.0 receive.1) address count page receive.0 s other (words_at w s other))))
       by true e = filled turn free receive awaits e
       by false e =
-          their turn free receive awaits address count page long (some_words address count receive.0 receive.1 many e) (reach_word small z receive.0 true) (reach_word w (z ++ root) receive.0 true) refl (there-word w (z ++ root) receive.0 true)
+          their turn free receive awaits address count page long (some_words address count receive.0 receive.1 many e)
+          (reach_word small z receive.0 true) (reach_word w (z ++ root) receive.0 true) refl (there-word w (z ++ root) receive.0 true)
           (reach_word-like (cut-like w nester slot plain) z receive.0 true)
 
-  to_thread : same_side talk.turn turns.Server ≡ true → (address count : ℕ) (page : List ℕ) → length page ≡ PAGE_WORDS → eqb count 0 ≡ false → Touches (sends_to_thread w (user_at x) turns.Server client address count page (thread_led_to w (At client)))
+  to_thread : same_side talk.turn turns.Server ≡ true → (address count : ℕ) (page : List ℕ) → length page ≡ PAGE_WORDS →
+      eqb count 0 ≡ false → Touches (sends_to_thread w (user_at x) turns.Server client address count page (thread_led_to w (At client)))
   to_thread turn address count page long many = rw is (by (is_free w (z ++ root) t) refl)
     where
-      by : (b : Bool) → is_free w (z ++ root) t ≡ b → Touches (when b (sends_into w (user_at x) client client address count page (receiving turns.Client t.mode)))
+      by : (b : Bool) →
+          is_free w (z ++ root) t ≡ b → Touches (when b (sends_into w (user_at x) client client address count page (receiving turns.Client t.mode)))
       by true e = into turn e address count page long many (receiving turns.Client t.mode) refl
       by false e = nothing_seen Waits refl refl
 
@@ -309,9 +352,11 @@ module _ (w : World) (nester : Path) (slot : ℕ) (plain : IsPlain w nester slot
   sends_seen : same_side talk.turn turns.Server ≡ true → (address count : ℕ) → Touches (sends w (user_at x) turns.Server address count its_line)
   sends_seen turn address count = by (eqb count 0) refl
     where
-      by : (b : Bool) → eqb count 0 ≡ b → Touches (cond b (done (user_at x) [] []) (own_page w (user_at x) address false (λ s page. sends_to_thread w (user_at x) turns.Server client address count (words_at w s page) (thread_led_to w (At client)))))
+      by : (b : Bool) → eqb count 0 ≡ b → Touches (cond b (done (user_at x) [] []) (own_page w (user_at x)
+          address false (λ s page. sends_to_thread w (user_at x) turns.Server client address count (words_at w s page) (thread_led_to w (At client)))))
       by true e = nothing_seen (Goes (Alter me (Finish []) ∷ []) Nothing) refl refl
-      by false e = touches-own _ (reach_word w (parent x) address false) (there-word w (parent x) address false) (λ s page there. to_thread turn address count (words_at w s page) (full_page w full s page there) e)
+      by false e = touches-own _ (reach_word w (parent x) address false)
+          (there-word w (parent x) address false) (λ s page there. to_thread turn address count (words_at w s page) (full_page w full s page there) e)
 
   send_seen : client_of w me ≡ Some client → (address count : ℕ) → Touches (send w (user_at x) turns.Server address count)
   unfolding send line
@@ -331,100 +376,127 @@ module _ (w : World) (nester : Path) (slot : ℕ) (plain : IsPlain w nester slot
   touches-so true o h = h refl
   touches-so false o h = nothing_seen Waits refl refl
 
-  native_words : same_side talk.turn turns.Server ≡ true → is_free w (z ++ root) t ≡ true → (receive : ℕ × ℕ) → receiving turns.Client t.mode ≡ Some receive → (port : Path) (words : List ℕ) → 0 < moved_words 0 (length words) receive.0 receive.1 → (a b : Reach) → reach_word small z receive.0 true ≡ a → IsThere w b → ReachLikeness root see w a b →
+  native_words : same_side talk.turn turns.Server ≡ true → is_free w (z ++ root) t ≡ true →
+      (receive : ℕ × ℕ) → receiving turns.Client t.mode ≡ Some receive → (port : Path) (words : List ℕ) → 0 < moved_words 0 (length words) receive.0 receive.1 →
+      (a b : Reach) → reach_word small z receive.0 true ≡ a → IsThere w b → ReachLikeness root see w a b →
       Touches (their_page_at (gives_words w port client words receive.0 receive.1) b)
   native_words turn free receive awaits port words some _ _ home there (Homes s p) =
       let m : ℕ = moved_words 0 (length words) receive.0 receive.1 in
-      given turn free receive awaits m (take m words) (length-take-le m words (omega arith)) some (omega arith) s p home there [] (SaidGiven (At port) m) Empty tt
+      given turn
+      free receive awaits m (take m words) (length-take-le m words (omega arith)) some (omega arith) s p home there [] (SaidGiven (At port) m) Empty tt
   native_words turn free receive awaits port words some _ _ home there (Misses s p keeper kept h) = nothing_seen Waits refl refl
   native_words turn free receive awaits port words some _ _ home there Bads = nothing_seen Waits refl refl
 
-  native_gives : same_side talk.turn turns.Server ≡ true → is_free w (z ++ root) t ≡ true → (receive : ℕ × ℕ) → receiving turns.Client t.mode ≡ Some receive → (port : Path) (words : List ℕ) → eqb (length words) 0 ≡ false → Touches (gives_to w port words client receive)
+  native_gives : same_side talk.turn turns.Server ≡ true → is_free w (z ++ root) t ≡ true → (receive : ℕ × ℕ) → receiving turns.Client t.mode ≡ Some receive →
+      (port : Path) (words : List ℕ) → eqb (length words) 0 ≡ false → Touches (gives_to w port words client receive)
   native_gives turn free receive awaits port words many = by (eqb receive.1 0) refl
     where
-      by : (b : Bool) → eqb receive.1 0 ≡ b → Touches (cond b (Goes (Alter client (End FULL []) ∷ []) (Full (At port))) (their_page w (z ++ root) receive.0 (gives_words w port client words receive.0 receive.1)))
+      by : (b : Bool) → eqb receive.1 0 ≡ b → Touches (cond b
+          (Goes (Alter client (End FULL []) ∷ []) (Full (At port))) (their_page w (z ++ root) receive.0 (gives_words w port client words receive.0 receive.1)))
       by true e = filled turn free receive awaits e
       by false e =
-          native_words turn free receive awaits port words (some_words 0 (length words) receive.0 receive.1 many e) (reach_word small z receive.0 true) (reach_word w (z ++ root) receive.0 true) refl (there-word w (z ++ root) receive.0 true)
+          native_words turn free receive awaits port words (some_words 0 (length words) receive.0 receive.1 many e)
+          (reach_word small z receive.0 true) (reach_word w (z ++ root) receive.0 true) refl (there-word w (z ++ root) receive.0 true)
           (reach_word-like (cut-like w nester slot plain) z receive.0 true)
 
-  native_client : (go : Path → ℕ × ℕ → Outcome) → (same_side talk.turn turns.Server ≡ true → is_free w (z ++ root) t ≡ true → (receive : ℕ × ℕ) → receiving turns.Client t.mode ≡ Some receive → Touches (go client receive)) → Touches (if_receiving w client go t)
+  native_client : (go : Path → ℕ × ℕ → Outcome) → (same_side talk.turn turns.Server ≡ true → is_free w (z ++ root) t ≡ true →
+      (receive : ℕ × ℕ) → receiving turns.Client t.mode ≡ Some receive → Touches (go client receive)) → Touches (if_receiving w client go t)
   native_client go goes = by (receiving turns.Client t.mode) refl
     where
       by : (o : Option (ℕ × ℕ)) → receiving turns.Client t.mode ≡ o → Touches (if_receiving w client go t)
       by None e = rw e (touches-when _ Waits (nothing_seen Waits refl refl))
-      by (Some receive) e = rw (e, its) (touches-so (is_free w (z ++ root) t && same_side talk.turn turns.Server) (go client receive) (λ on. let both = and_parts (is_free w (z ++ root) t) (same_side talk.turn turns.Server) on in goes both.1 both.0 receive e))
+      by (Some receive) e = rw (e, its) (touches-so (is_free w (z ++ root) t && same_side talk.turn turns.Server)
+          (go client receive) (λ on. let both = and_parts (is_free w (z ++ root) t) (same_side talk.turn turns.Server) on in goes both.1 both.0 receive e))
 
   pub give_seen : (port : Path) → client_at w port ≡ Some client → (words : List ℕ) → Touches (give_row w port words)
   unfolding give_row
   give_seen port served [] = touches-when (is_serving_port w port && has_turn w port) _ (nothing_seen (Goes [] (SaidGiven (At port) 0)) refl refl)
-  give_seen port served (word ∷ words) = touches-when (is_serving_port w port) _ (rw (served, is) (native_client (gives_to w port (word ∷ words)) (λ turn free receive awaits. native_gives turn free receive awaits port (word ∷ words) (ne_eqb (length (word ∷ words)) 0 (λ e. omega (arith, e))))))
+  give_seen port served (word ∷ words) = touches-when (is_serving_port w port) _ (rw (served, is) (native_client (gives_to w port (word ∷ words))
+      (λ turn free receive awaits. native_gives turn free receive awaits port (word ∷ words) (ne_eqb (length (word ∷ words)) 0 (λ e. omega (arith, e))))))
 
 -- ---- the law
 
-module _ (w : World) (nester : Path) (slot : ℕ) (plain : IsPlain w nester slot) (full : HasFullPages w) (sound : IsWhole w) (j : ℕ) (s : Path) (out : is_within (slot ∷ nester) (j ∷ s) ≡ false) (pick : Option Path) (address count : ℕ) (at : IsAtStage w (j ∷ s) (ServerSend address count)) where
+module _ (w : World) (nester : Path) (slot : ℕ) (plain : IsPlain w nester slot) (full : HasFullPages w) (sound : IsWhole w) (j : ℕ) (s : Path)
+    (out : is_within (slot ∷ nester) (j ∷ s) ≡ false) (pick : Option Path) (address count : ℕ) (at : IsAtStage w (j ∷ s) (ServerSend address count)) where
   abbrev asked : Outcome
   asked = outcome w (j ∷ s) pick asks.Run
 
   abbrev Touched : Touch → Type 0
-  Touched touch = IsPlain (stepped w asked).world nester slot × ((told : List Told) × IsOnward (cut w nester slot) (ByOthers touch) told (cut (stepped w asked).world nester slot))
+  Touched touch = IsPlain (stepped w asked).world nester slot ×
+      ((told : List Told) × IsOnward (cut w nester slot) (ByOthers touch) told (cut (stepped w asked).world nester slot))
 
-  touched_inside : (k : ℕ) (z : Path) → client_of w (j ∷ s) ≡ Some (k ∷ (z ++ slot ∷ nester)) → (touch : Touch) → given_of w (listed asked) (k ∷ (z ++ slot ∷ nester)) (k ∷ z) ≡ Some touch → Touched touch
+  touched_inside : (k : ℕ) (z : Path) → client_of w (j ∷ s) ≡ Some (k ∷ (z ++ slot ∷ nester)) →
+      (touch : Touch) → given_of w (listed asked) (k ∷ (z ++ slot ∷ nester)) (k ∷ z) ≡ Some touch → Touched touch
   touched_inside k z served =
       let its = served_outward w nester slot plain sound j s out k z served in
       let row = stage_outcome w nester slot plain (j ∷ s) pick (ServerSend address count) at in
       let calls = call_seen w nester slot plain full (j ∷ s) out k z its.0 its.2 its.1 its.3 its.4 served address count pick in
-      subst (λ (o : Outcome). (touch : Touch) → given_of w (listed o) (k ∷ (z ++ slot ∷ nester)) (k ∷ z) ≡ Some touch → IsPlain (stepped w o).world nester slot × ((told : List Told) × IsOnward (cut w nester slot) (ByOthers touch) told (cut (stepped w o).world nester slot))) (sym row.1)
-      (touches-when w nester slot plain full (j ∷ s) out k z its.0 its.2 its.1 its.3 its.4 (is_free w s row.0) (call_row w (user_at (j ∷ s)) pick (ServerSend address count)) calls)
+      subst (λ (o : Outcome). (touch : Touch) → given_of w (listed o) (k ∷ (z ++ slot ∷ nester)) (k ∷ z) ≡ Some touch → IsPlain (stepped w o).world
+      nester slot × ((told : List Told) × IsOnward (cut w nester slot) (ByOthers touch) told (cut (stepped w o).world nester slot))) (sym row.1)
+      (touches-when w nester slot
+      plain full (j ∷ s) out k z its.0 its.2 its.1 its.3 its.4 (is_free w s row.0) (call_row w (user_at (j ∷ s)) pick (ServerSend address count)) calls)
 
-  touched_at : (c q : Path) (k : ℕ) (z : Path) → c ≡ k ∷ (z ++ slot ∷ nester) → q ≡ k ∷ z → client_of w (j ∷ s) ≡ Some c → (touch : Touch) → given_of w (listed asked) c q ≡ Some touch → Touched touch
+  touched_at : (c q : Path) (k : ℕ) (z : Path) →
+      c ≡ k ∷ (z ++ slot ∷ nester) → q ≡ k ∷ z → client_of w (j ∷ s) ≡ Some c → (touch : Touch) → given_of w (listed asked) c q ≡ Some touch → Touched touch
   touched_at c q k z e f served touch = rw (e, f) (touched_inside k z (served ∙ ap (λ (y : Path). Some y) e) touch)
 
   abbrev TouchedBy : Onward → Type 0
-  TouchedBy m = IsPlain (stepped w asked).world nester slot × ((told : List Told) × IsOnward (cut w nester slot) m told (cut (stepped w asked).world nester slot))
+  TouchedBy m =
+      IsPlain (stepped w asked).world nester slot × ((told : List Told) × IsOnward (cut w nester slot) m told (cut (stepped w asked).world nester slot))
 
-  touched_by : (onward : Onward) → option_map (λ (touch : Touch). ByOthers touch) (on_inner (slot ∷ nester) (given_of w (listed asked)) (client_of w (j ∷ s))) ≡ Some onward → TouchedBy onward
+  touched_by : (onward : Onward) → option_map (λ (touch : Touch). ByOthers touch)
+      (on_inner (slot ∷ nester) (given_of w (listed asked)) (client_of w (j ∷ s))) ≡ Some onward → TouchedBy onward
   touched_by onward = by (client_of w (j ∷ s)) refl
     where
       same_path_is : (a b : Path) → Some a ≡ Some b → a ≡ b
       same_path_is a b h = cc
 
-      of_touch : (c q : Path) (o : Option Touch) → ((touch : Touch) → o ≡ Some touch → Touched touch) → option_map (λ (touch : Touch). ByOthers touch) o ≡ Some onward → TouchedBy onward
+      of_touch : (c q : Path) (o : Option Touch) →
+          ((touch : Touch) → o ≡ Some touch → Touched touch) → option_map (λ (touch : Touch). ByOthers touch) o ≡ Some onward → TouchedBy onward
       of_touch c q None go h = cc
       of_touch c q (Some touch) go h = let form : onward ≡ ByOthers touch = cc in rw form (go touch refl)
 
-      of_path : (c : Path) → client_of w (j ∷ s) ≡ Some c → (r : Option Path) → strip (slot ∷ nester) c ≡ r → option_map (λ (touch : Touch). ByOthers touch) (and_then (given_of w (listed asked) c) r) ≡ Some onward → TouchedBy onward
+      of_path : (c : Path) → client_of w (j ∷ s) ≡ Some c → (r : Option Path) → strip (slot ∷ nester) c ≡ r →
+          option_map (λ (touch : Touch). ByOthers touch) (and_then (given_of w (listed asked) c) r) ≡ Some onward → TouchedBy onward
       of_path c served None e h = cc
       of_path c served (Some q) e h =
           let its = its_client w j s c served in
           let under = thread_beneath w nester slot plain c its.0 (ap is_some e) its.2 in
-          let place : q ≡ under.0 ∷ under.1 = same_path_is q (under.0 ∷ under.1) (sym e ∙ ap (strip (slot ∷ nester)) under.2 ∙ strip-append (slot ∷ nester) (under.0 ∷ under.1)) in
+          let place : q ≡ under.0
+          ∷ under.1 = same_path_is q (under.0 ∷ under.1) (sym e ∙ ap (strip (slot ∷ nester)) under.2 ∙ strip-append (slot ∷ nester) (under.0 ∷ under.1)) in
           of_touch c q (given_of w (listed asked) c q) (touched_at c q under.0 under.1 under.2 place served) h
 
-      by : (o : Option Path) → client_of w (j ∷ s) ≡ o → option_map (λ (touch : Touch). ByOthers touch) (on_inner (slot ∷ nester) (given_of w (listed asked)) o) ≡ Some onward → TouchedBy onward
+      by : (o : Option Path) → client_of w (j ∷ s) ≡ o →
+          option_map (λ (touch : Touch). ByOthers touch) (on_inner (slot ∷ nester) (given_of w (listed asked)) o) ≡ Some onward → TouchedBy onward
       by None served h = cc
       by (Some c) served h = of_path c served (strip (slot ∷ nester) c) refl h
 
-send_outside : (w : World) (nester : Path) (slot : ℕ) → IsPlain w nester slot → HasFullPages w → (j : ℕ) (s : Path) (pick : Option Path) (address count : ℕ) → is_within (slot ∷ nester) (j ∷ s) ≡ false → IsAtStage w (j ∷ s) (ServerSend address count) → KeepsCut w nester slot (moves (j ∷ s) pick)
+send_outside : (w : World) (nester : Path) (slot : ℕ) → IsPlain w nester slot → HasFullPages w → (j : ℕ) (s : Path) (pick : Option Path) (address count : ℕ) →
+    is_within (slot ∷ nester) (j ∷ s) ≡ false → IsAtStage w (j ∷ s) (ServerSend address count) → KeepsCut w nester slot (moves (j ∷ s) pick)
 unfolding step
 send_outside w nester slot plain full j s pick address count out at sound same fit ready (Onwards m) seen =
-    let far = seen_outside w (slot ∷ nester) (j ∷ s) pick (outcome w (j ∷ s) pick asks.Run) (strip (slot ∷ nester) (j ∷ s)) m (strip_none (slot ∷ nester) (j ∷ s) out) seen.1 in
+    let far = seen_outside w
+    (slot ∷ nester) (j ∷ s) pick (outcome w (j ∷ s) pick asks.Run) (strip (slot ∷ nester) (j ∷ s)) m (strip_none (slot ∷ nester) (j ∷ s) out) seen.1 in
     touched_by w nester slot plain full sound j s out pick address count at m
-    (taken_row w (slot ∷ nester) (moves (j ∷ s) pick) (outcome w (j ∷ s) pick asks.Run) None _ (ServerSend address count) m refl (stage_called w nester slot plain (j ∷ s) (ServerSend address count) at) far)
+    (taken_row w (slot ∷ nester) (moves (j ∷ s) pick)
+    (outcome w (j ∷ s) pick asks.Run) None _ (ServerSend address count) m refl (stage_called w nester slot plain (j ∷ s) (ServerSend address count) at) far)
 send_outside w nester slot plain full j s pick address count out at sound same fit ready Unseen seen =
     let is = stage_outcome w nester slot plain (j ∷ s) pick (ServerSend address count) at in
     still-plain w nester slot plain (outcome w (j ∷ s) pick asks.Run)
-    (rw is.1 (still-when (slot ∷ nester) (is_free w s is.0) _ (still-call (slot ∷ nester) w (j ∷ s) pick (ServerSend address count) (still-send (slot ∷ nester) w (j ∷ s) turns.Server address count)))) seen.1.0
+    (rw is.1 (still-when (slot ∷ nester) (is_free w s is.0)
+    _ (still-call (slot ∷ nester) w (j ∷ s) pick (ServerSend address count) (still-send (slot ∷ nester) w (j ∷ s) turns.Server address count)))) seen.1.0
 send_outside w nester slot plain full j s pick address count out at sound same fit ready Other seen = tt
 
 pub server_words_keep : StageKeepsCut IsServerSend
 server_words_keep w nester slot x pick stage such at sound plain = by (is_within (slot ∷ nester) x) refl
   where
-    outside : (y : Path) → y ≡ x → (j : ℕ) (s : Path) → j ∷ s ≡ y → is_within (slot ∷ nester) x ≡ false → is_fit w x asks.Run ≡ true → IsReady w x pick asks.Run → (seen : Seen) → IsSeen w nester slot (moves x pick) seen → HasDone w nester slot (moves x pick) seen
+    outside : (y : Path) → y ≡ x → (j : ℕ) (s : Path) → j ∷ s ≡ y → is_within (slot ∷ nester) x ≡ false → is_fit w x asks.Run ≡ true →
+        IsReady w x pick asks.Run → (seen : Seen) → IsSeen w nester slot (moves x pick) seen → HasDone w nester slot (moves x pick) seen
     outside y e j s f out =
         let here : x ≡ j ∷ s = sym (f ∙ e) in
         rw here (send_outside w nester slot plain sound.full j s pick such.0 such.1 (rw here at out) (rw (such.2, here) at at) sound plain)
 
-    by : (b : Bool) → is_within (slot ∷ nester) x ≡ b → is_fit w x asks.Run ≡ true → IsReady w x pick asks.Run → (seen : Seen) → IsSeen w nester slot (moves x pick) seen → HasDone w nester slot (moves x pick) seen
+    by : (b : Bool) → is_within (slot ∷ nester) x ≡ b → is_fit w x asks.Run ≡ true →
+        IsReady w x pick asks.Run → (seen : Seen) → IsSeen w nester slot (moves x pick) seen → HasDone w nester slot (moves x pick) seen
     by true e = server_send_keeps w nester slot x pick stage such e at sound plain
     by false e = outside x refl (slot_of x) (parent x) (stands_in_slot w sound x at.0 at.3) e

@@ -51,26 +51,31 @@ body_either : (turn : Turn) (b : Body) → edited (PassTurn turn) (edited (Finis
 unfolding edited
 body_either turn (Thread_of t) = by t.mode
   where
-    by : (m : Mode) → Thread_of (on_talk (λ talk. record talk { turn = turn; moved = 0 }) (finished_in [] t m)) ≡ Thread_of (finished_in [] (on_talk (λ talk. record talk { turn = turn; moved = 0 }) t) m)
+    by : (m : Mode) → Thread_of (on_talk (λ talk. record talk { turn = turn; moved = 0 }) (finished_in [] t m)) ≡ Thread_of
+        (finished_in [] (on_talk (λ talk. record talk { turn = turn; moved = 0 }) t) m)
     by (Calling [] rest) = refl
     by (Calling (stage ∷ []) rest) = refl
     by (Calling (stage ∷ then ∷ todo) rest) = refl
     by m = refl
 body_either turn b = refl
 
-there_either : (turn : Turn) (b : Bool) (v : Option Body) → cond b (option_map (edited (PassTurn turn)) (cond b (option_map (edited (Finish [])) v) v)) (cond b (option_map (edited (Finish [])) v) v) ≡
+there_either : (turn : Turn) (b : Bool) (v : Option Body) →
+    cond b (option_map (edited (PassTurn turn)) (cond b (option_map (edited (Finish [])) v) v)) (cond b (option_map (edited (Finish [])) v) v) ≡
     cond b (option_map (edited (Finish [])) (cond b (option_map (edited (PassTurn turn)) v) v)) (cond b (option_map (edited (PassTurn turn)) v) v)
 there_either turn true None = refl
 there_either turn true (Some b) = ap (λ (d : Body). Some d) (body_either turn b)
 there_either turn false v = refl
 
-either_order : (turn : Turn) (x : Path) (w : World) → apply (Alter x (PassTurn turn)) (apply (Alter x (Finish [])) w) ≡ apply (Alter x (Finish [])) (apply (Alter x (PassTurn turn)) w)
+either_order : (turn : Turn) (x : Path) (w : World) →
+    apply (Alter x (PassTurn turn)) (apply (Alter x (Finish [])) w) ≡ apply (Alter x (Finish [])) (apply (Alter x (PassTurn turn)) w)
 unfolding apply
 either_order turn x w = λ i. record { body = λ q. there_either turn (same_path q x) (w.body q) i; page = w.page; next = w.next }
 
 -- ---- the turn is handed
 
-module _ (w : World) (nester : Path) (slot : ℕ) (plain : IsPlain w nester slot) (x : Path) (out : is_within (slot ∷ nester) (slot_of x ∷ parent x) ≡ false) (k : ℕ) (z : Path) (t : Thread) (is : and_then thread_of (w.body (k ∷ (z ++ slot ∷ nester))) ≡ Some t) (talk : Talk) (its : t.talk ≡ Some talk) (outward : is_out (cut_ptr (ports_of w nester slot) nester slot talk.port) ≡ true) where
+module _ (w : World) (nester : Path) (slot : ℕ) (plain : IsPlain w nester slot) (x : Path) (out : is_within (slot ∷ nester) (slot_of x ∷ parent x) ≡ false)
+    (k : ℕ) (z : Path) (t : Thread) (is : and_then thread_of (w.body (k ∷ (z ++ slot ∷ nester))) ≡ Some t)
+    (talk : Talk) (its : t.talk ≡ Some talk) (outward : is_out (cut_ptr (ports_of w nester slot) nester slot talk.port) ≡ true) where
   abbrev root : Path
   root = slot ∷ nester
 
@@ -113,7 +118,8 @@ module _ (w : World) (nester : Path) (slot : ℕ) (plain : IsPlain w nester slot
   hands-picked pick Waits h = h
   hands-picked pick (Goes cs said) h = hands-when (is_none pick) (Goes cs said) (λ on. h)
 
-  module _ (turn : same_side talk.turn turns.Server ≡ true) (free : is_free w (z ++ root) t ≡ true) (receive : ℕ × ℕ) (awaits : receiving turns.Client t.mode ≡ Some receive) where
+  module _ (turn : same_side talk.turn turns.Server ≡ true)
+      (free : is_free w (z ++ root) t ≡ true) (receive : ℕ × ℕ) (awaits : receiving turns.Client t.mode ≡ Some receive) where
     here : thread_at small (k ∷ z) ≡ Some (seen_thread see t)
     here = rw ((cut-like w nester slot plain).bodies (k ∷ z)) (thread_seen see k z (w.body client) t is)
 
@@ -128,13 +134,16 @@ module _ (w : World) (nester : Path) (slot : ℕ) (plain : IsPlain w nester slot
     unfolding apply_all
     handed =
         rw (either_order turns.Client client w)
-        (has_touched w nester slot plain (Handed (k ∷ z)) (Alter (k ∷ z) (PassTurn turns.Client) ∷ Alter (k ∷ z) (Finish []) ∷ []) (Alter client (PassTurn turns.Client) ∷ Alter client (Finish []) ∷ Alter me (Finish []) ∷ []) Nothing handed_row
+        (has_touched w nester slot plain (Handed (k ∷ z)) (Alter (k ∷ z) (PassTurn turns.Client) ∷ Alter (k ∷ z) (Finish []) ∷ [])
+        (Alter client (PassTurn turns.Client) ∷ Alter client (Finish []) ∷ Alter me (Finish []) ∷ []) Nothing handed_row
         (Both (Alters k z _ (PassTurn turns.Client) refl tt) (Both (Alters k z _ (Finish []) refl tt) (Beyond out Empty))) (tt, (tt, (tt, tt))))
 
   to_thread : same_side talk.turn turns.Server ≡ true → Hands (passes_to_thread w (user_at x) turns.Server client (thread_led_to w (At client)))
-  to_thread turn = rw is (hands-when (is_free w (z ++ root) t && is_some (receiving turns.Client t.mode)) _ (λ on passed. by (receiving turns.Client t.mode) refl (and_parts (is_free w (z ++ root) t) (is_some (receiving turns.Client t.mode)) on)))
+  to_thread turn = rw is (hands-when (is_free w (z ++ root) t && is_some (receiving turns.Client t.mode))
+      _ (λ on passed. by (receiving turns.Client t.mode) refl (and_parts (is_free w (z ++ root) t) (is_some (receiving turns.Client t.mode)) on)))
     where
-      by : (o : Option (ℕ × ℕ)) → receiving turns.Client t.mode ≡ o → (is_free w (z ++ root) t ≡ true) × (is_some (receiving turns.Client t.mode) ≡ true) → HasHanded (apply_all (Alter client (Finish []) ∷ Alter client (PassTurn turns.Client) ∷ Alter me (Finish []) ∷ []) w)
+      by : (o : Option (ℕ × ℕ)) → receiving turns.Client t.mode ≡ o → (is_free w (z ++ root) t ≡ true) × (is_some (receiving turns.Client t.mode) ≡ true) →
+          HasHanded (apply_all (Alter client (Finish []) ∷ Alter client (PassTurn turns.Client) ∷ Alter me (Finish []) ∷ []) w)
       by None e both = let off : is_some (receiving turns.Client t.mode) ≡ false = ap is_some e in let clash : true ≡ false = sym both.1 ∙ off in cc
       by (Some receive) e both = handed turn both.0 receive e
 
@@ -145,7 +154,8 @@ module _ (w : World) (nester : Path) (slot : ℕ) (plain : IsPlain w nester slot
   unfolding over line
   over_hands served = rw (served, ap (and_then (λ (t : Thread). t.talk)) is ∙ its) (by (same_side talk.turn turns.Server) refl)
     where
-      by : (b : Bool) → same_side talk.turn turns.Server ≡ b → Hands (cond b (Ok its_line) (Err WRONGTURN) >>= λ l. passes_to w (user_at x) turns.Server l l.other)
+      by : (b : Bool) →
+          same_side talk.turn turns.Server ≡ b → Hands (cond b (Ok its_line) (Err WRONGTURN) >>= λ l. passes_to w (user_at x) turns.Server l l.other)
       by true e = to_thread e
       by false e = no_hands (Refused WRONGTURN) refl
 
@@ -155,62 +165,77 @@ module _ (w : World) (nester : Path) (slot : ℕ) (plain : IsPlain w nester slot
 
 -- ---- the law
 
-module _ (w : World) (nester : Path) (slot : ℕ) (plain : IsPlain w nester slot) (sound : IsWhole w) (j : ℕ) (s : Path) (out : is_within (slot ∷ nester) (j ∷ s) ≡ false) (pick : Option Path) (at : IsAtStage w (j ∷ s) ServerOver) where
+module _ (w : World) (nester : Path) (slot : ℕ) (plain : IsPlain w nester slot)
+    (sound : IsWhole w) (j : ℕ) (s : Path) (out : is_within (slot ∷ nester) (j ∷ s) ≡ false) (pick : Option Path) (at : IsAtStage w (j ∷ s) ServerOver) where
   abbrev asked : Outcome
   asked = outcome w (j ∷ s) pick asks.Run
 
   abbrev DoneBy : Onward → Type 0
   DoneBy m = IsPlain (stepped w asked).world nester slot × ((told : List Told) × IsOnward (cut w nester slot) m told (cut (stepped w asked).world nester slot))
 
-  handed_inside : (k : ℕ) (z : Path) → client_of w (j ∷ s) ≡ Some (k ∷ (z ++ slot ∷ nester)) → passes_turn (listed asked) ≡ true → DoneBy (ByOthers (Handed (k ∷ z)))
+  handed_inside : (k : ℕ) (z : Path) →
+      client_of w (j ∷ s) ≡ Some (k ∷ (z ++ slot ∷ nester)) → passes_turn (listed asked) ≡ true → DoneBy (ByOthers (Handed (k ∷ z)))
   handed_inside k z served =
       let its = served_outward w nester slot plain sound j s out k z served in
       let row = stage_outcome w nester slot plain (j ∷ s) pick ServerOver at in
-      subst (λ (o : Outcome). passes_turn (listed o) ≡ true → IsPlain (stepped w o).world nester slot × ((told : List Told) × IsOnward (cut w nester slot) (ByOthers (Handed (k ∷ z))) told (cut (stepped w o).world nester slot))) (sym row.1)
-      (hands-when w nester slot plain (j ∷ s) out k z its.0 its.2 its.1 its.3 its.4 (is_free w s row.0) (call_row w (user_at (j ∷ s)) pick ServerOver) (λ on. call_hands w nester slot plain (j ∷ s) out k z its.0 its.2 its.1 its.3 its.4 served pick))
+      subst (λ (o : Outcome). passes_turn (listed o) ≡ true → IsPlain (stepped w o).world nester slot ×
+      ((told : List Told) × IsOnward (cut w nester slot) (ByOthers (Handed (k ∷ z))) told (cut (stepped w o).world nester slot))) (sym row.1)
+      (hands-when w nester slot plain (j ∷ s) out k z its.0 its.2 its.1 its.3 its.4 (is_free w s row.0)
+      (call_row w (user_at (j ∷ s)) pick ServerOver) (λ on. call_hands w nester slot plain (j ∷ s) out k z its.0 its.2 its.1 its.3 its.4 served pick))
 
-  handed_at : (c q : Path) (k : ℕ) (z : Path) → c ≡ k ∷ (z ++ slot ∷ nester) → q ≡ k ∷ z → client_of w (j ∷ s) ≡ Some c → passes_turn (listed asked) ≡ true → DoneBy (ByOthers (Handed q))
+  handed_at : (c q : Path) (k : ℕ) (z : Path) →
+      c ≡ k ∷ (z ++ slot ∷ nester) → q ≡ k ∷ z → client_of w (j ∷ s) ≡ Some c → passes_turn (listed asked) ≡ true → DoneBy (ByOthers (Handed q))
   handed_at c q k z e f served = rw f (handed_inside k z (served ∙ ap (λ (y : Path). Some y) e))
 
-  done_by : (m : Onward) → option_map (λ (touch : Touch). ByOthers touch) (cond (passes_turn (listed asked)) (on_inner (slot ∷ nester) (λ x q. Some (Handed q)) (client_of w (j ∷ s))) None) ≡ Some m → DoneBy m
+  done_by : (m : Onward) → option_map (λ (touch : Touch). ByOthers touch)
+      (cond (passes_turn (listed asked)) (on_inner (slot ∷ nester) (λ x q. Some (Handed q)) (client_of w (j ∷ s))) None) ≡ Some m → DoneBy m
   done_by m = by (passes_turn (listed asked)) refl (client_of w (j ∷ s)) refl
     where
       same_path_is : (a b : Path) → Some a ≡ Some b → a ≡ b
       same_path_is a b h = cc
 
-      of_path : (c : Path) → client_of w (j ∷ s) ≡ Some c → passes_turn (listed asked) ≡ true → (r : Option Path) → strip (slot ∷ nester) c ≡ r → option_map (λ (touch : Touch). ByOthers touch) (and_then (λ (q : Path). Some (Handed q)) r) ≡ Some m → DoneBy m
+      of_path : (c : Path) → client_of w (j ∷ s) ≡ Some c → passes_turn (listed asked) ≡ true → (r : Option Path) →
+          strip (slot ∷ nester) c ≡ r → option_map (λ (touch : Touch). ByOthers touch) (and_then (λ (q : Path). Some (Handed q)) r) ≡ Some m → DoneBy m
       of_path c served passed None e h = cc
       of_path c served passed (Some q) e h =
           let its = its_client w j s c served in
           let under = thread_beneath w nester slot plain c its.0 (ap is_some e) its.2 in
-          let place : q ≡ under.0 ∷ under.1 = same_path_is q (under.0 ∷ under.1) (sym e ∙ ap (strip (slot ∷ nester)) under.2 ∙ strip-append (slot ∷ nester) (under.0 ∷ under.1)) in
+          let place : q ≡ under.0
+          ∷ under.1 = same_path_is q (under.0 ∷ under.1) (sym e ∙ ap (strip (slot ∷ nester)) under.2 ∙ strip-append (slot ∷ nester) (under.0 ∷ under.1)) in
           let form : m ≡ ByOthers (Handed q) = cc in
           rw form (handed_at c q under.0 under.1 under.2 place served passed)
 
-      by : (b : Bool) → passes_turn (listed asked) ≡ b → (o : Option Path) → client_of w (j ∷ s) ≡ o → option_map (λ (touch : Touch). ByOthers touch) (cond b (on_inner (slot ∷ nester) (λ x q. Some (Handed q)) o) None) ≡ Some m → DoneBy m
+      by : (b : Bool) → passes_turn (listed asked) ≡ b → (o : Option Path) → client_of w (j ∷ s) ≡ o →
+          option_map (λ (touch : Touch). ByOthers touch) (cond b (on_inner (slot ∷ nester) (λ x q. Some (Handed q)) o) None) ≡ Some m → DoneBy m
       by false passed o served h = cc
       by true passed None served h = cc
       by true passed (Some c) served h = of_path c served passed (strip (slot ∷ nester) c) refl h
 
-over_outside : (w : World) (nester : Path) (slot : ℕ) → IsPlain w nester slot → (j : ℕ) (s : Path) (pick : Option Path) → is_within (slot ∷ nester) (j ∷ s) ≡ false → IsAtStage w (j ∷ s) ServerOver → KeepsCut w nester slot (moves (j ∷ s) pick)
+over_outside : (w : World) (nester : Path) (slot : ℕ) → IsPlain w nester slot → (j : ℕ) (s : Path) (pick : Option Path) →
+    is_within (slot ∷ nester) (j ∷ s) ≡ false → IsAtStage w (j ∷ s) ServerOver → KeepsCut w nester slot (moves (j ∷ s) pick)
 unfolding step
 over_outside w nester slot plain j s pick out at sound same fit ready (Onwards m) seen =
-    let far = seen_outside w (slot ∷ nester) (j ∷ s) pick (outcome w (j ∷ s) pick asks.Run) (strip (slot ∷ nester) (j ∷ s)) m (strip_none (slot ∷ nester) (j ∷ s) out) seen.1 in
-    done_by w nester slot plain sound j s out pick at m (taken_row w (slot ∷ nester) (moves (j ∷ s) pick) (outcome w (j ∷ s) pick asks.Run) None _ ServerOver m refl (stage_called w nester slot plain (j ∷ s) ServerOver at) far)
+    let far = seen_outside w
+    (slot ∷ nester) (j ∷ s) pick (outcome w (j ∷ s) pick asks.Run) (strip (slot ∷ nester) (j ∷ s)) m (strip_none (slot ∷ nester) (j ∷ s) out) seen.1 in
+    done_by w nester slot plain sound j s out pick at m (taken_row w (slot ∷ nester)
+    (moves (j ∷ s) pick) (outcome w (j ∷ s) pick asks.Run) None _ ServerOver m refl (stage_called w nester slot plain (j ∷ s) ServerOver at) far)
 over_outside w nester slot plain j s pick out at sound same fit ready Unseen seen =
     let is = stage_outcome w nester slot plain (j ∷ s) pick ServerOver at in
     still-plain w nester slot plain (outcome w (j ∷ s) pick asks.Run)
-    (rw is.1 (still-when (slot ∷ nester) (is_free w s is.0) _ (still-call (slot ∷ nester) w (j ∷ s) pick ServerOver (still-over (slot ∷ nester) w (j ∷ s) turns.Server)))) seen.1.0
+    (rw is.1 (still-when (slot ∷ nester)
+    (is_free w s is.0) _ (still-call (slot ∷ nester) w (j ∷ s) pick ServerOver (still-over (slot ∷ nester) w (j ∷ s) turns.Server)))) seen.1.0
 over_outside w nester slot plain j s pick out at sound same fit ready Other seen = tt
 
 pub server_turn_keeps : StageKeepsCut IsServerOver
 server_turn_keeps w nester slot x pick stage such at sound plain = by (is_within (slot ∷ nester) x) refl
   where
-    outside : (y : Path) → y ≡ x → (j : ℕ) (s : Path) → j ∷ s ≡ y → is_within (slot ∷ nester) x ≡ false → is_fit w x asks.Run ≡ true → IsReady w x pick asks.Run → (seen : Seen) → IsSeen w nester slot (moves x pick) seen → HasDone w nester slot (moves x pick) seen
+    outside : (y : Path) → y ≡ x → (j : ℕ) (s : Path) → j ∷ s ≡ y → is_within (slot ∷ nester) x ≡ false → is_fit w x asks.Run ≡ true →
+        IsReady w x pick asks.Run → (seen : Seen) → IsSeen w nester slot (moves x pick) seen → HasDone w nester slot (moves x pick) seen
     outside y e j s f out =
         let here : x ≡ j ∷ s = sym (f ∙ e) in
         rw here (over_outside w nester slot plain j s pick (rw here at out) (rw (such, here) at at) sound plain)
 
-    by : (b : Bool) → is_within (slot ∷ nester) x ≡ b → is_fit w x asks.Run ≡ true → IsReady w x pick asks.Run → (seen : Seen) → IsSeen w nester slot (moves x pick) seen → HasDone w nester slot (moves x pick) seen
+    by : (b : Bool) → is_within (slot ∷ nester) x ≡ b → is_fit w x asks.Run ≡ true →
+        IsReady w x pick asks.Run → (seen : Seen) → IsSeen w nester slot (moves x pick) seen → HasDone w nester slot (moves x pick) seen
     by true e = server_over_keeps w nester slot x pick stage such e at sound plain
     by false e = outside x refl (slot_of x) (parent x) (stands_in_slot w sound x at.0 at.3) e

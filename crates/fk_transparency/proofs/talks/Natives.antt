@@ -45,15 +45,21 @@ use Rattle.fk_transparency.proofs.talks.Given.{give_seen, touches-picked}
 
 -- ---- whom a port's native server serves
 
-native_client : (w : World) (port c : Path) → client_at w port ≡ Some c → (t : Thread) × (talk : Talk) × (and_then thread_of (w.body c) ≡ Some t) × (t.talk ≡ Some talk) × (talk.port ≡ At port)
+native_client : (w : World) (port c : Path) →
+    client_at w port ≡ Some c → (t : Thread) × (talk : Talk) × (and_then thread_of (w.body c) ≡ Some t) × (t.talk ≡ Some talk) × (talk.port ≡ At port)
 unfolding client_at
-native_client w port c served = by (and_then thread_of (w.body c)) refl (find_some (λ (y : Path). holds (λ (talk : Talk). leads_to port talk.port && is_service talk.peer) (talk_at w y)) (objects w) c served)
+native_client w port c served = by (and_then thread_of (w.body c))
+    refl (find_some (λ (y : Path). holds (λ (talk : Talk). leads_to port talk.port && is_service talk.peer) (talk_at w y)) (objects w) c served)
   where
-    of_talk : (t : Thread) → and_then thread_of (w.body c) ≡ Some t → (o : Option Talk) → t.talk ≡ o → holds (λ (talk : Talk). leads_to port talk.port && is_service talk.peer) o ≡ true → (t : Thread) × (talk : Talk) × (and_then thread_of (w.body c) ≡ Some t) × (t.talk ≡ Some talk) × (talk.port ≡ At port)
+    of_talk : (t : Thread) → and_then thread_of (w.body c) ≡ Some t →
+        (o : Option Talk) → t.talk ≡ o → holds (λ (talk : Talk). leads_to port talk.port && is_service talk.peer) o ≡ true →
+        (t : Thread) × (talk : Talk) × (and_then thread_of (w.body c) ≡ Some t) × (t.talk ≡ Some talk) × (talk.port ≡ At port)
     of_talk t is None its h = cc
     of_talk t is (Some talk) its h = (t, talk, is, its, leads_to_at port talk.port (and_parts (leads_to port talk.port) (is_service talk.peer) h).0)
 
-    by : (o : Option Thread) → and_then thread_of (w.body c) ≡ o → holds (λ (talk : Talk). leads_to port talk.port && is_service talk.peer) (and_then (λ (t : Thread). t.talk) o) ≡ true → (t : Thread) × (talk : Talk) × (and_then thread_of (w.body c) ≡ Some t) × (t.talk ≡ Some talk) × (talk.port ≡ At port)
+    by : (o : Option Thread) → and_then thread_of (w.body c) ≡ o →
+        holds (λ (talk : Talk). leads_to port talk.port && is_service talk.peer) (and_then (λ (t : Thread). t.talk) o) ≡ true →
+        (t : Thread) × (talk : Talk) × (and_then thread_of (w.body c) ≡ Some t) × (t.talk ≡ Some talk) × (talk.port ≡ At port)
     by None is h = cc
     by (Some t) is h = of_talk t is t.talk refl h
 
@@ -67,7 +73,8 @@ module _ (w : World) (nester : Path) (slot : ℕ) (plain : IsPlain w nester slot
   abbrev small : World
   small = cut w nester slot
 
-  native_outward : is_within root port ≡ false → (k : ℕ) (z : Path) → client_at w port ≡ Some (k ∷ (z ++ root)) → (t : Thread) × (talk : Talk) × (and_then thread_of (w.body (k ∷ (z ++ root))) ≡ Some t) × (t.talk ≡ Some talk) × (is_out (see talk.port) ≡ true)
+  native_outward : is_within root port ≡ false → (k : ℕ) (z : Path) → client_at w port ≡ Some (k ∷ (z ++ root)) →
+      (t : Thread) × (talk : Talk) × (and_then thread_of (w.body (k ∷ (z ++ root))) ≡ Some t) × (t.talk ≡ Some talk) × (is_out (see talk.port) ≡ true)
   native_outward out k z served =
       let its = native_client w port (k ∷ (z ++ root)) served in
       let talk = its.1 in
@@ -81,21 +88,25 @@ module _ (w : World) (nester : Path) (slot : ℕ) (plain : IsPlain w nester slot
   abbrev DoneBy : Onward → World → Type 0
   DoneBy m later = IsPlain later nester slot × ((told : List Told) × IsOnward small m told (cut later nester slot))
 
-  by_client : (later : World) (f : Path → Path → Option Touch) (m : Onward) → ((k : ℕ) (z : Path) → client_at w port ≡ Some (k ∷ (z ++ root)) → (touch : Touch) → f (k ∷ (z ++ root)) (k ∷ z) ≡ Some touch → DoneBy (ByOthers touch) later) →
+  by_client : (later : World) (f : Path → Path → Option Touch) (m : Onward) → ((k : ℕ) (z : Path) →
+      client_at w port ≡ Some (k ∷ (z ++ root)) → (touch : Touch) → f (k ∷ (z ++ root)) (k ∷ z) ≡ Some touch → DoneBy (ByOthers touch) later) →
       option_map (λ (touch : Touch). ByOthers touch) (on_inner root f (client_at w port)) ≡ Some m → DoneBy m later
   by_client later f m go = by (client_at w port) refl
     where
       same_path_is : (a b : Path) → Some a ≡ Some b → a ≡ b
       same_path_is a b h = cc
 
-      of_touch : (o : Option Touch) → ((touch : Touch) → o ≡ Some touch → DoneBy (ByOthers touch) later) → option_map (λ (touch : Touch). ByOthers touch) o ≡ Some m → DoneBy m later
+      of_touch : (o : Option Touch) →
+          ((touch : Touch) → o ≡ Some touch → DoneBy (ByOthers touch) later) → option_map (λ (touch : Touch). ByOthers touch) o ≡ Some m → DoneBy m later
       of_touch None go h = cc
       of_touch (Some touch) go h = let form : m ≡ ByOthers touch = cc in rw form (go touch refl)
 
-      at_place : (c q : Path) (k : ℕ) (z : Path) → c ≡ k ∷ (z ++ root) → q ≡ k ∷ z → client_at w port ≡ Some c → (touch : Touch) → f c q ≡ Some touch → DoneBy (ByOthers touch) later
+      at_place : (c q : Path) (k : ℕ) (z : Path) →
+          c ≡ k ∷ (z ++ root) → q ≡ k ∷ z → client_at w port ≡ Some c → (touch : Touch) → f c q ≡ Some touch → DoneBy (ByOthers touch) later
       at_place c q k z e g served touch = rw (e, g) (go k z (served ∙ ap (λ (y : Path). Some y) e) touch)
 
-      of_path : (c : Path) → client_at w port ≡ Some c → (r : Option Path) → strip root c ≡ r → option_map (λ (touch : Touch). ByOthers touch) (and_then (f c) r) ≡ Some m → DoneBy m later
+      of_path : (c : Path) → client_at w port ≡ Some c →
+          (r : Option Path) → strip root c ≡ r → option_map (λ (touch : Touch). ByOthers touch) (and_then (f c) r) ≡ Some m → DoneBy m later
       of_path c served None e h = cc
       of_path c served (Some q) e h =
           let its = native_client w port c served in
@@ -145,12 +156,14 @@ module _ (w : World) (nester : Path) (slot : ℕ) (plain : IsPlain w nester slot
   unfolding over_row
   over_serves = serves_when _
 
-  seen_touch : (e : Event) (o : Outcome) (r : Option Path) (m : Onward) → r ≡ None → row_of w root e o r ≡ Some m → option_map (λ (touch : Touch). ByOthers touch) (outer_touch w root e.mover e.pick e.ask o) ≡ Some m
+  seen_touch : (e : Event) (o : Outcome) (r : Option Path) (m : Onward) →
+      r ≡ None → row_of w root e o r ≡ Some m → option_map (λ (touch : Touch). ByOthers touch) (outer_touch w root e.mover e.pick e.ask o) ≡ Some m
   seen_touch e o r m none = rw none (λ h. h)
 
   -- ---- an Over
 
-  module _ (k : ℕ) (z : Path) (t : Thread) (is : and_then thread_of (w.body (k ∷ (z ++ slot ∷ nester))) ≡ Some t) (talk : Talk) (its : t.talk ≡ Some talk) (outside : is_out (cut_ptr (ports_of w nester slot) nester slot talk.port) ≡ true) where
+  module _ (k : ℕ) (z : Path) (t : Thread) (is : and_then thread_of (w.body (k ∷ (z ++ slot ∷ nester))) ≡ Some t)
+      (talk : Talk) (its : t.talk ≡ Some talk) (outside : is_out (cut_ptr (ports_of w nester slot) nester slot talk.port) ≡ true) where
     abbrev client : Path
     client = k ∷ (z ++ root)
 
@@ -162,14 +175,17 @@ module _ (w : World) (nester : Path) (slot : ℕ) (plain : IsPlain w nester slot
     hands-so true o h = h refl
     hands-so false o h = λ ready. absurd ready
 
-    handed : same_side talk.turn turns.Server ≡ true → is_free w (z ++ root) t ≡ true → (receive : ℕ × ℕ) → receiving turns.Client t.mode ≡ Some receive → Hands (passes_client port client receive)
+    handed : same_side talk.turn turns.Server ≡ true →
+        is_free w (z ++ root) t ≡ true → (receive : ℕ × ℕ) → receiving turns.Client t.mode ≡ Some receive → Hands (passes_client port client receive)
     unfolding touch_row
     handed turn free receive awaits ready =
         let like = cut-like w nester slot plain in
         let here : thread_at small (k ∷ z) ≡ Some (seen_thread see t) = rw (like.bodies (k ∷ z)) (thread_seen see k z (w.body client) t is) in
         let free_here : is_free small z (seen_thread see t) ≡ true = is_free-like like (unheld-free like z t free) z t ∙ free in
-        let row : touch_row small (Handed (k ∷ z)) ≡ Goes (Alter (k ∷ z) (PassTurn turns.Client) ∷ Alter (k ∷ z) (Finish []) ∷ []) Nothing = rw (here, free_here, its, awaits) (rw (outside, turn) refl) in
-        has_touched w nester slot plain (Handed (k ∷ z)) (Alter (k ∷ z) (PassTurn turns.Client) ∷ Alter (k ∷ z) (Finish []) ∷ []) (Alter client (PassTurn turns.Client) ∷ Alter client (Finish []) ∷ []) Nothing row
+        let row : touch_row small (Handed (k ∷ z)) ≡ Goes
+        (Alter (k ∷ z) (PassTurn turns.Client) ∷ Alter (k ∷ z) (Finish []) ∷ []) Nothing = rw (here, free_here, its, awaits) (rw (outside, turn) refl) in
+        has_touched w nester slot plain (Handed (k ∷ z)) (Alter (k ∷ z) (PassTurn turns.Client) ∷ Alter (k ∷ z) (Finish []) ∷ [])
+        (Alter client (PassTurn turns.Client) ∷ Alter client (Finish []) ∷ []) Nothing row
         (Both (Alters k z _ (PassTurn turns.Client) refl tt) (Both (Alters k z _ (Finish []) refl tt) Empty)) (tt, (tt, tt))
 
     hands_client : Hands (if_receiving w client (passes_client port) t)
@@ -177,7 +193,8 @@ module _ (w : World) (nester : Path) (slot : ℕ) (plain : IsPlain w nester slot
       where
         by : (o : Option (ℕ × ℕ)) → receiving turns.Client t.mode ≡ o → Hands (if_receiving w client (passes_client port) t)
         by None e = rw e (hands-so _ Waits (λ on ready. absurd ready))
-        by (Some receive) e = rw (e, its) (hands-so (is_free w (z ++ root) t && same_side talk.turn turns.Server) (passes_client port client receive) (λ on. let both = and_parts (is_free w (z ++ root) t) (same_side talk.turn turns.Server) on in handed both.1 both.0 receive e))
+        by (Some receive) e = rw (e, its) (hands-so (is_free w (z ++ root) t && same_side talk.turn turns.Server) (passes_client port client receive)
+            (λ on. let both = and_parts (is_free w (z ++ root) t) (same_side talk.turn turns.Server) on in handed both.1 both.0 receive e))
 
     over_hands : client_at w port ≡ Some client → Hands (over_row w port)
     unfolding over_row
@@ -190,7 +207,8 @@ module _ (w : World) (nester : Path) (slot : ℕ) (plain : IsPlain w nester slot
 
 -- ---- which changes they make
 
-still_with : (root : Path) (w : World) (port : Path) (go : Path → ℕ × ℕ → Outcome) → ((x : Path) (receive : ℕ × ℕ) → Still root (go x receive)) → Still root (with_client w port go)
+still_with : (root : Path) (w : World) (port : Path) (go : Path → ℕ × ℕ → Outcome) →
+    ((x : Path) (receive : ℕ × ℕ) → Still root (go x receive)) → Still root (with_client w port go)
 still_with root w port go still = by (client_at w port) refl
   where
     of_mode : (x : Path) (t : Thread) (o : Option (ℕ × ℕ)) → receiving turns.Client t.mode ≡ o → Still root (if_receiving w x go t)
@@ -210,7 +228,8 @@ unfolding give_row
 still_give root w port [] = still-when root (is_serving_port w port && has_turn w port) _ (still-goes tt)
 still_give root w port (word ∷ words) =
     still_with root w port (gives_to w port (word ∷ words))
-    (λ x receive. still-if root (eqb receive.1 0) _ _ (still-goes (tt, tt)) (still-their root (gives_words w port x (word ∷ words) receive.0 receive.1) (reach_word w (parent x) receive.0 true) (λ s page. still-goes (tt, (tt, (tt, tt))))))
+    (λ x receive. still-if root (eqb receive.1 0) _ _ (still-goes (tt, tt)) (still-their root
+    (gives_words w port x (word ∷ words) receive.0 receive.1) (reach_word w (parent x) receive.0 true) (λ s page. still-goes (tt, (tt, (tt, tt))))))
 
 still_over : (root : Path) (w : World) (port : Path) → Still root (over_row w port)
 unfolding over_row
@@ -225,7 +244,8 @@ slots_of (k ∷ port) h = refl
 
 not_root : (w : World) (birth : ℕ) (holder : Option Ptr) (port : Path) → IsValid w → is_serving_port w port ≡ true → port ≡ [] → ⊥
 unfolding kind_there
-not_root w birth holder port valid serving is = by (w.body []) valid.rooted.root (rw is at (and_parts (holds (λ (state : Option ℕ × Bool). state.1) (and_then port_of (w.body port))) _ serving).0)
+not_root w birth holder port valid serving is =
+    by (w.body []) valid.rooted.root (rw is at (and_parts (holds (λ (state : Option ℕ × Bool). state.1) (and_then port_of (w.body port))) _ serving).0)
   where
     by : (o : Option Body) → option_map kind_of o ≡ Some kinds.Space → holds (λ (state : Option ℕ × Bool). state.1) (and_then port_of o) ≡ true → ⊥
     by None e h = cc
@@ -235,7 +255,8 @@ not_root w birth holder port valid serving is = by (w.body []) valid.rooted.root
 pub give_keeps : GiveKeepsCut
 unfolding step outcome
 give_keeps w nester slot port pick words len sound plain fit ready (Onwards m) seen =
-    let serving = give_serves w nester slot plain port pick (take len words) (picked_goes w nester slot plain port pick (give_row w port (take len words)) ready) in
+    let serving = give_serves w
+    nester slot plain port pick (take len words) (picked_goes w nester slot plain port pick (give_row w port (take len words)) ready) in
     let out = lies_outside w nester slot plain port pick serving in
     let here = slots_of port (not_root w plain.birth plain.holder port sound.valid serving) in
     let o : Outcome = with_pick false pick (give_row w port (take len words)) in
@@ -244,10 +265,13 @@ give_keeps w nester slot port pick words len sound plain fit ready (Onwards m) s
     let its = native_outward w nester slot plain port pick out k z served in
     let root : Path = slot ∷ nester in
     let beyond : is_within root (slot_of port ∷ parent port) ≡ false = ap (is_within root) here ∙ out in
-    touches-picked w nester slot plain sound.full port beyond k z its.0 its.2 its.1 its.3 its.4 pick (give_row w port (take len words)) (give_seen w nester slot plain sound.full port beyond k z its.0 its.2 its.1 its.3 its.4 port served (take len words)))
-    (seen_touch w nester slot plain port pick (record { mover = port; pick = pick; ask = asks.Give words len }) o (strip (slot ∷ nester) port) m (strip_none (slot ∷ nester) port out) seen.1)
+    touches-picked w nester slot plain sound.full port beyond k z its.0 its.2 its.1 its.3 its.4 pick (give_row w port (take len words))
+    (give_seen w nester slot plain sound.full port beyond k z its.0 its.2 its.1 its.3 its.4 port served (take len words)))
+    (seen_touch w nester slot plain port
+    pick (record { mover = port; pick = pick; ask = asks.Give words len }) o (strip (slot ∷ nester) port) m (strip_none (slot ∷ nester) port out) seen.1)
 give_keeps w nester slot port pick words len sound plain fit ready Unseen seen =
-    still-plain w nester slot plain (with_pick false pick (give_row w port (take len words))) (still-picked (slot ∷ nester) false pick (give_row w port (take len words)) (still_give (slot ∷ nester) w port (take len words))) seen.1.0
+    still-plain w nester slot plain (with_pick false pick (give_row w port (take len words)))
+    (still-picked (slot ∷ nester) false pick (give_row w port (take len words)) (still_give (slot ∷ nester) w port (take len words))) seen.1.0
 give_keeps w nester slot port pick words len sound plain fit ready Other seen = tt
 
 pub over_keeps : OverKeepsCut
@@ -260,8 +284,11 @@ over_keeps w nester slot port pick sound plain fit ready (Onwards m) seen =
     (λ k z served touch shown.
     let its = native_outward w nester slot plain port pick out k z served in
     let form : touch ≡ Handed (k ∷ z) = cc in
-    rw form (picked_hands w nester slot plain port pick k z its.0 its.2 its.1 its.3 its.4 (over_row w port) (over_hands w nester slot plain port pick k z its.0 its.2 its.1 its.3 its.4 served) ready))
-    (seen_touch w nester slot plain port pick (record { mover = port; pick = pick; ask = asks.Over }) o (strip (slot ∷ nester) port) m (strip_none (slot ∷ nester) port out) seen.1)
+    rw form (picked_hands w nester slot plain port
+    pick k z its.0 its.2 its.1 its.3 its.4 (over_row w port) (over_hands w nester slot plain port pick k z its.0 its.2 its.1 its.3 its.4 served) ready))
+    (seen_touch w nester slot
+    plain port pick (record { mover = port; pick = pick; ask = asks.Over }) o (strip (slot ∷ nester) port) m (strip_none (slot ∷ nester) port out) seen.1)
 over_keeps w nester slot port pick sound plain fit ready Unseen seen =
-    still-plain w nester slot plain (with_pick false pick (over_row w port)) (still-picked (slot ∷ nester) false pick (over_row w port) (still_over (slot ∷ nester) w port)) seen.1.0
+    still-plain w nester slot
+    plain (with_pick false pick (over_row w port)) (still-picked (slot ∷ nester) false pick (over_row w port) (still_over (slot ∷ nester) w port)) seen.1.0
 over_keeps w nester slot port pick sound plain fit ready Other seen = tt

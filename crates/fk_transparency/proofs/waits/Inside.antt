@@ -44,7 +44,8 @@ ended-rests status answers t = by t.mode refl
     by (Halted g code) e = rw e refl
     by (Native g) e = rw e refl
 
-rests : (c : World) (x : Path) (status : ℕ) (answers : List ℕ) → holds (λ (t : Thread). calls t.mode) (thread_at (apply_all (Alter x (End status answers) ∷ []) c) x) ≡ false
+rests : (c : World) (x : Path) (status : ℕ) (answers : List ℕ) →
+    holds (λ (t : Thread). calls t.mode) (thread_at (apply_all (Alter x (End status answers) ∷ []) c) x) ≡ false
 unfolding apply apply_all edited
 rests c x status answers = rw (same_path_refl x) (by (c.body x))
   where
@@ -55,7 +56,8 @@ rests c x status answers = rw (same_path_refl x) (by (c.body x))
 
 -- ---- by a thread inside
 
-module _ (w : World) (nester : Path) (slot : ℕ) (plain : IsPlain w nester slot) (k : ℕ) (q : Path) (set : ℕ) (at : IsAtStage w (k ∷ (q ++ slot ∷ nester)) (Wait set)) where
+module _ (w : World)
+    (nester : Path) (slot : ℕ) (plain : IsPlain w nester slot) (k : ℕ) (q : Path) (set : ℕ) (at : IsAtStage w (k ∷ (q ++ slot ∷ nester)) (Wait set)) where
   abbrev root : Path
   root = slot ∷ nester
 
@@ -68,25 +70,31 @@ module _ (w : World) (nester : Path) (slot : ℕ) (plain : IsPlain w nester slot
   calls_there : holds (λ (t : Thread). calls t.mode) (thread_at (cut w nester slot) (k ∷ q)) ≡ true
   calls_there = rw (seen_is w nester slot plain k q None at.0 at.3) (rw (at.4) refl)
 
-  not_ended : (y : Path) (edit : Edit) (answers : List ℕ) → is_within root y ≡ false → cut (apply_all (Alter y edit ∷ Alter me (End OK answers) ∷ []) w) nester slot ≡ cut w nester slot → ⊥
+  not_ended : (y : Path) (edit : Edit) (answers : List ℕ) →
+      is_within root y ≡ false → cut (apply_all (Alter y edit ∷ Alter me (End OK answers) ∷ []) w) nester slot ≡ cut w nester slot → ⊥
   not_ended y edit answers out same =
       let small : World = cut w nester slot in
-      let gone = cut-changes w nester slot (Alter (k ∷ q) (End OK answers) ∷ []) (Alter y edit ∷ Alter me (End OK answers) ∷ []) plain (Beyond out (Both (Alters k q (End OK answers) (End OK answers) refl tt) Empty)) in
+      let gone = cut-changes w nester slot (Alter (k ∷ q) (End OK answers) ∷ [])
+      (Alter y edit ∷ Alter me (End OK answers) ∷ []) plain (Beyond out (Both (Alters k q (End OK answers) (End OK answers) refl tt) Empty)) in
       let still : apply_all (Alter (k ∷ q) (End OK answers) ∷ []) small ≡ small = sym gone ∙ same in
-      let clash : false ≡ true = sym (rests small (k ∷ q) OK answers) ∙ ap (λ (c : World). holds (λ (t : Thread). calls t.mode) (thread_at c (k ∷ q))) still ∙ calls_there in
+      let clash : false ≡ true = sym (rests small (k ∷ q) OK answers)
+      ∙ ap (λ (c : World). holds (λ (t : Thread). calls t.mode) (thread_at c (k ∷ q))) still ∙ calls_there in
       cc
 
   -- who is inside takes nobody outside unseen
-  takes_apart : (y : Path) (found : Candidate) → is_within root y ≡ false → cut (stepped w (takes_candidate (user_at me) y (Some found))).world nester slot ≡ cut w nester slot → serves_outside root (listed (takes_candidate (user_at me) y (Some found))) ≡ false → ⊥
+  takes_apart : (y : Path) (found : Candidate) → is_within root y ≡ false → cut (stepped w (takes_candidate (user_at me) y (Some found))).world
+      nester slot ≡ cut w nester slot → serves_outside root (listed (takes_candidate (user_at me) y (Some found))) ≡ false → ⊥
   takes_apart y (Faulting at_port fault) out same none = not_ended y _ _ out same
   takes_apart y (Resuming at_port talk) out same none = not_ended y _ _ out same
   takes_apart y (Connecting at_port) out same none = let inside = strip-append root (k ∷ q) in let clash : true ≡ false = rw (out, inside) at none in cc
 
-  view_apart : (y : Path) (o : Outcome) → is_within root y ≡ false → View w (user_at me) set y o → cut (stepped w o).world nester slot ≡ cut w nester slot → serves_outside root (listed o) ≡ false → Quiet root o
+  view_apart : (y : Path) (o : Outcome) → is_within root y ≡ false →
+      View w (user_at me) set y o → cut (stepped w o).world nester slot ≡ cut w nester slot → serves_outside root (listed o) ≡ false → Quiet root o
   view_apart y o out (inl e) same none = rw e quiet-waits
   view_apart y o out (inr v) same none = absurd (takes_apart y v.0 out (rw (v.2) at same) (rw (v.2) at none))
 
-  apart : (pick : Option Path) → picked_inside root pick ≡ None → cut (stepped w (call_row w (user_at me) pick (Wait set))).world nester slot ≡ cut w nester slot → serves_outside root (listed (call_row w (user_at me) pick (Wait set))) ≡ false → Quiet root (call_row w (user_at me) pick (Wait set))
+  apart : (pick : Option Path) → picked_inside root pick ≡ None → cut (stepped w (call_row w (user_at me) pick (Wait set))).world nester slot ≡ cut
+      w nester slot → serves_outside root (listed (call_row w (user_at me) pick (Wait set))) ≡ false → Quiet root (call_row w (user_at me) pick (Wait set))
   apart None h same none = cc
   apart (Some y) h same none = view_apart y (call_row w (user_at me) (Some y) (Wait set)) (beyond (strip root y) h) (view-call w (user_at me) set y) same none
     where
@@ -96,7 +104,8 @@ module _ (w : World) (nester : Path) (slot : ℕ) (plain : IsPlain w nester slot
 
   quiet_inside : (pick p : Option Path) → picked_inside root pick ≡ Some p → Quiet root (call_row w (user_at me) pick (Wait set))
   quiet_inside None p h = quiet-idle root w me set
-  quiet_inside (Some y) p h = quiet-view root w (user_at me) set y (call_row w (user_at me) (Some y) (Wait set)) (λ out. absurd (inner (strip root y) h out)) (view-call w (user_at me) set y)
+  quiet_inside (Some y) p h = quiet-view root
+      w (user_at me) set y (call_row w (user_at me) (Some y) (Wait set)) (λ out. absurd (inner (strip root y) h out)) (view-call w (user_at me) set y)
     where
       inner : (o : Option Path) → option_map (λ (z : Path). Some z) o ≡ Some p → is_some o ≡ false → ⊥
       inner None h e = cc

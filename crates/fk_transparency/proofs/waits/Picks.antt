@@ -30,7 +30,8 @@ picked_beneath root (Some x) p h = by (strip root x) refl h
     by None e h = cc
     by (Some z) e h = let same : p ≡ Some z = cc in rw same (strip_some root x z e)
 
-module _ (w : World) (nester : Path) (slot : ℕ) (plain : IsPlain w nester slot) (k : ℕ) (q : Path) (pick : Option Path) (stage : Stage) (at : IsAtStage w (k ∷ (q ++ slot ∷ nester)) stage) where
+module _ (w : World) (nester : Path)
+    (slot : ℕ) (plain : IsPlain w nester slot) (k : ℕ) (q : Path) (pick : Option Path) (stage : Stage) (at : IsAtStage w (k ∷ (q ++ slot ∷ nester)) stage) where
   abbrev root : Path
   root = slot ∷ nester
 
@@ -59,15 +60,19 @@ module _ (w : World) (nester : Path) (slot : ℕ) (plain : IsPlain w nester slot
   unfolding step
   picked_law silent alike quiet apart sound same fit ready (Onwards m) seen =
       let t = at.0 in
-      let own = own_row_of w nester slot plain k q pick t at.3 (moves me pick) (outcome w me pick asks.Run) (strip root me) m (strip-append root (k ∷ q)) seen.1 in
+      let own = own_row_of w
+      nester slot plain k q pick t at.3 (moves me pick) (outcome w me pick asks.Run) (strip root me) m (strip-append root (k ∷ q)) seen.1 in
       let form = own_form w nester slot plain k q pick t at.3 _ (words_out w root me (listed (outcome w me pick asks.Run))) (picked_inside root pick) m own in
-      rw form.2 (move_alike w nester slot plain k q pick t at.3 form.0 _ (silent_counts w small root me (k ∷ q) stage at (λ n o. silent n (user_at (k ∷ q)) o) (listed (outcome w me pick asks.Run))) (λ free. by t.mode at.4 form.0 _ (alike form.0 (picked_beneath root pick form.0 form.1) free)) (rw (at_stage t.mode at.4) (quiet form.0 form.1).quiet) ready)
+      rw form.2 (move_alike w nester slot plain k q pick
+      t at.3 form.0 _ (silent_counts w small root me (k ∷ q) stage at (λ n o. silent n (user_at (k ∷ q)) o) (listed (outcome w me pick asks.Run))) (λ free.
+      by t.mode at.4 form.0 _ (alike form.0 (picked_beneath root pick form.0 form.1) free)) (rw (at_stage t.mode at.4) (quiet form.0 form.1).quiet) ready)
     where
       at_stage : (mode : Mode) → mode ≡ Calling (stage ∷ at.1) at.2 → goes_on w me pick at.0 mode ≡ far
       at_stage mode e = rw e refl
 
       by : (mode : Mode) → mode ≡ Calling (stage ∷ at.1) at.2 → (p : Option Path) (n : ℕ) → AlikeHere (call_row small (user_at (k ∷ q)) p stage) far →
-          AlikeHere (own_stage small (k ∷ q) p n mode (goes_on small (k ∷ q) p (seen_thread see at.0) mode)) (goes_on w me pick at.0 mode) × AlikeHere (goes_on small (k ∷ q) p (seen_thread see at.0) mode) (goes_on w me pick at.0 mode)
+          AlikeHere (own_stage small (k ∷ q) p n mode (goes_on small (k ∷ q) p (seen_thread see at.0) mode)) (goes_on w me pick at.0 mode) ×
+          AlikeHere (goes_on small (k ∷ q) p (seen_thread see at.0) mode) (goes_on w me pick at.0 mode)
       by mode e p n h = rw e (rw (silent n (user_at (k ∷ q)) (call_row small (user_at (k ∷ q)) p stage), call_closed small (k ∷ q) p stage) h, h)
   picked_law silent alike quiet apart sound same fit ready Unseen seen =
       let is = stage_outcome w nester slot plain me pick stage at in
@@ -80,7 +85,8 @@ module _ (w : World) (nester : Path) (slot : ℕ) (plain : IsPlain w nester slot
           by_pick None e = apart e still none
           by_pick (Some p) e = quiet p e
 
-      by : (b : Bool) (o : Outcome) → o ≡ when b far → (cut (stepped w o).world nester slot ≡ cut w nester slot) × (serves_outside root (listed o) ≡ false) → IsPlain (stepped w o).world nester slot
+      by : (b : Bool) (o : Outcome) → o ≡ when b far →
+          (cut (stepped w o).world nester slot ≡ cut w nester slot) × (serves_outside root (listed o) ≡ false) → IsPlain (stepped w o).world nester slot
       by true o e h = rw e (stepped-plain w nester slot plain far (quiet_far (rw e at h.0) (rw e at h.1)) (rw e at h.0))
       by false o e h = rw e plain
   picked_law silent alike quiet apart sound same fit ready Other seen = tt

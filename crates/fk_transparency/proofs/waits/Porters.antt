@@ -54,7 +54,8 @@ module _ (w : World) (nester : Path) (slot : ℕ) (plain : IsPlain w nester slot
   abbrev asked : Option Path → Event
   asked pick = record { mover = x; pick = pick; ask = asks.Call (Wait set) words }
 
-  seen_so : (pick : Option Path) (o : Outcome) (r : Option Path) (m : Onward) → r ≡ None → row_of w root (asked pick) o r ≡ Some m → option_map (λ (touch : Touch). ByOthers touch) (outer_touch w root x pick (asks.Call (Wait set) words) o) ≡ Some m
+  seen_so : (pick : Option Path) (o : Outcome) (r : Option Path) (m : Onward) → r ≡ None → row_of w root (asked pick) o r ≡ Some m →
+      option_map (λ (touch : Touch). ByOthers touch) (outer_touch w root x pick (asks.Call (Wait set) words) o) ≡ Some m
   seen_so pick o r m none = rw none (λ h. h)
 
   quiet_call : (pick : Option Path) → is_within root (path_of c) ≡ false → Quiet root (call_row w c pick (Wait set))
@@ -65,14 +66,18 @@ module _ (w : World) (nester : Path) (slot : ℕ) (plain : IsPlain w nester slot
   unfolding step outcome
   wait_call pick again same fit ready seen shown = by pick (porter_is w x pick (Wait set) words (and_then thread_of (w.body x)) ready) ready seen shown
     where
-      by : (pick : Option Path) → (t : Thread) × (and_then thread_of (w.body x) ≡ Some t) × (is_porter t.mode ≡ true) × (outcome w x pick (asks.Call (Wait set) words) ≡ call_row w c pick (Wait set)) → GoesAllowed w x (outcome w x pick (asks.Call (Wait set) words)) →
+      by : (pick : Option Path) → (t : Thread) × (and_then thread_of (w.body x) ≡ Some t) × (is_porter t.mode ≡ true) ×
+          (outcome w x pick (asks.Call (Wait set) words) ≡ call_row w c pick (Wait set)) → GoesAllowed w x (outcome w x pick (asks.Call (Wait set) words)) →
           (seen : Seen) → IsSeen w nester slot (asked pick) seen → HasDone w nester slot (asked pick) seen
-      by None is ready (Onwards m) shown = let none : None ≡ Some m = seen_so None (outcome w x None (asks.Call (Wait set) words)) (strip root x) m (strip_none root x (porter_outside w nester slot plain x is.0 is.1 is.2)) shown.1 in cc
+      by None is ready (Onwards m) shown = let none : None ≡ Some m = seen_so None (outcome w x None (asks.Call (Wait set) words))
+          (strip root x) m (strip_none root x (porter_outside w nester slot plain x is.0 is.1 is.2)) shown.1 in cc
       by (Some y) is ready (Onwards m) shown =
           let o : Outcome = outcome w x (Some y) (asks.Call (Wait set) words) in
           let view : View w c set y o = rw (is.3) (view-call w c set y) in
-          touched w nester slot plain sound c set (beside is.0 is.1 is.2) x y o view m ready (seen_so (Some y) o (strip root x) m (strip_none root x (porter_outside w nester slot plain x is.0 is.1 is.2)) shown.1)
-      by pick is ready Unseen shown = stepped-plain w nester slot plain (outcome w x pick (asks.Call (Wait set) words)) (rw (is.3) (quiet_call pick (beside is.0 is.1 is.2))) shown.1.0
+          touched w nester slot plain sound c set (beside is.0 is.1 is.2)
+          x y o view m ready (seen_so (Some y) o (strip root x) m (strip_none root x (porter_outside w nester slot plain x is.0 is.1 is.2)) shown.1)
+      by pick is ready Unseen shown =
+          stepped-plain w nester slot plain (outcome w x pick (asks.Call (Wait set) words)) (rw (is.3) (quiet_call pick (beside is.0 is.1 is.2))) shown.1.0
       by pick is ready Other shown = tt
 
 pub wait_call_keeps : CallKeepsCut IsWait

@@ -40,14 +40,17 @@ beyond [] big h = Empty
 beyond (d ∷ ds) big h = Beyond h.0 (beyond ds (apply d big) h.1)
 
 -- a port outside is seen by its slot
-outward : (root : Path) (w : World) (port : Path) (p seen : Ptr) → PtrLikeness root w p seen → p ≡ At port → is_within root port ≡ false → (i : ℕ) × (seen ≡ Out i)
+outward : (root : Path) (w : World) (port : Path) (p seen : Ptr) →
+    PtrLikeness root w p seen → p ≡ At port → is_within root port ≡ false → (i : ℕ) × (seen ≡ Out i)
 outward root w port _ _ Nulls e out = cc
 outward root w port _ _ Deads e out = cc
-outward root w port _ _ (Inside x) e out = let same : x ++ root ≡ port = cc in let here : is_within root port ≡ true = rw (sym same) (ap is_some (strip-append root x)) in cc
+outward root w port _ _ (Inside x) e out = let same : x ++ root ≡ port = cc in
+    let here : is_within root port ≡ true = rw (sym same) (ap is_some (strip-append root x)) in cc
 outward root w port _ _ (PortAt x i apart kind) e out = (i, refl)
 outward root w port _ _ (PortOut old i) e out = cc
 
-module _ (w : World) (nester : Path) (slot : ℕ) (plain : IsPlain w nester slot) (k : ℕ) (q : Path) (t : Thread) (at : and_then thread_of (w.body (k ∷ (q ++ slot ∷ nester))) ≡ Some t) (port : Path) (out : is_within (slot ∷ nester) port ≡ false) where
+module _ (w : World) (nester : Path) (slot : ℕ) (plain : IsPlain w nester slot) (k : ℕ) (q : Path)
+    (t : Thread) (at : and_then thread_of (w.body (k ∷ (q ++ slot ∷ nester))) ≡ Some t) (port : Path) (out : is_within (slot ∷ nester) port ≡ false) where
   abbrev root : Path
   root = slot ∷ nester
 
@@ -68,40 +71,49 @@ module _ (w : World) (nester : Path) (slot : ℕ) (plain : IsPlain w nester slot
 
   -- ---- at its Connect
 
-  named : (near far : Option Ptr) → AlikeOptions (IsSeenAs root see w) near far → far ≡ Some (At port) → (near ≡ Some (see (At port))) × HasLikeness root see w (At port)
+  named : (near far : Option Ptr) →
+      AlikeOptions (IsSeenAs root see w) near far → far ≡ Some (At port) → (near ≡ Some (see (At port))) × HasLikeness root see w (At port)
   named (Some seen) (Some p) h e = let is : p ≡ At port = cc in (ap Some (h.0 ∙ ap see is), rw is at h.1)
   named None None h e = cc
   named (Some seen) None h e = absurd h
   named None (Some p) h e = absurd h
 
-  talk_seen : (peer : Peer) (i : ℕ) → see (At port) ≡ Out i → SetTalk (Some (new_talk (Out i) (Server Outside))) ≡ seen_edit see false (SetTalk (Some (new_talk (At port) peer)))
+  talk_seen : (peer : Peer) (i : ℕ) →
+      see (At port) ≡ Out i → SetTalk (Some (new_talk (Out i) (Server Outside))) ≡ seen_edit see false (SetTalk (Some (new_talk (At port) peer)))
   talk_seen peer i e = rw e refl
 
-  talk_good : (peer : Peer) (i : ℕ) → see (At port) ≡ Out i → HasLikeness root see w (At port) → AllInTalk see (HasLikeness root see w) (new_talk (At port) peer)
+  talk_good : (peer : Peer) (i : ℕ) →
+      see (At port) ≡ Out i → HasLikeness root see w (At port) → AllInTalk see (HasLikeness root see w) (new_talk (At port) peer)
   talk_good peer i e h = (h, rw e tt)
 
-  taken_row : (i : ℕ) → is_free small q (seen_thread see t) ≡ true → connecting_to small (k ∷ q) (seen_thread see t) ≡ Some (Out i) → touch_row small (Taken (k ∷ q)) ≡ Goes (Alter (k ∷ q) (SetTalk (Some (new_talk (Out i) (Server Outside)))) ∷ Alter (k ∷ q) (Finish []) ∷ []) Nothing
+  taken_row : (i : ℕ) → is_free small q (seen_thread see t) ≡ true → connecting_to small (k ∷ q) (seen_thread see t) ≡ Some (Out i) →
+      touch_row small (Taken (k ∷ q)) ≡ Goes (Alter (k ∷ q) (SetTalk (Some (new_talk (Out i) (Server Outside)))) ∷ Alter (k ∷ q) (Finish []) ∷ []) Nothing
   unfolding touch_row
   taken_row i free to = rw (seen_there) (rw free (rw to refl))
 
   -- a free thread, which somebody outside accepts at a port outside
-  pub taken_here : (peer : Peer) (later : List Change) → AreBeyond root later → AreQuiet root later → (is_within root x ≡ false → is_inner_peer root peer ≡ false) → is_free w (q ++ root) t ≡ true → connecting_to w x t ≡ Some (At port) →
+  pub taken_here : (peer : Peer) (later : List Change) → AreBeyond root later → AreQuiet root later →
+      (is_within root x ≡ false → is_inner_peer root peer ≡ false) → is_free w (q ++ root) t ≡ true → connecting_to w x t ≡ Some (At port) →
       IsTouched (ByOthers (Taken (k ∷ q))) (apply_all (Alter x (SetTalk (Some (new_talk (At port) peer))) ∷ Alter x (Finish []) ∷ later) w)
   taken_here peer later apart quiet outer free connects =
       let like = cut-like w nester slot plain in
       let loose = unheld-free like q t free in
       let name = named (connecting_to small (k ∷ q) (seen_thread see t)) (connecting_to w x t) (connecting_to-like like k q t) connects in
       let i = outward root w port (At port) (see (At port)) name.1 refl out in
-      has_touched w nester slot plain (Taken (k ∷ q)) (Alter (k ∷ q) (SetTalk (Some (new_talk (Out i.0) (Server Outside)))) ∷ Alter (k ∷ q) (Finish []) ∷ []) (Alter x (SetTalk (Some (new_talk (At port) peer))) ∷ Alter x (Finish []) ∷ later) Nothing
+      has_touched w nester slot plain (Taken (k ∷ q)) (Alter (k ∷ q) (SetTalk (Some (new_talk (Out i.0) (Server Outside)))) ∷ Alter (k ∷ q) (Finish []) ∷ [])
+      (Alter x (SetTalk (Some (new_talk (At port) peer))) ∷ Alter x (Finish []) ∷ later) Nothing
       (taken_row i.0 (is_free-like like loose q t ∙ free) (name.0 ∙ ap Some i.1))
-      (Both (Alters k q (SetTalk (Some (new_talk (Out i.0) (Server Outside)))) (SetTalk (Some (new_talk (At port) peer))) (talk_seen peer i.0 i.1) (talk_good peer i.0 i.1 name.1)) (Both (Alters k q _ (Finish []) refl tt) (beyond later _ apart)))
+      (Both (Alters k q (SetTalk (Some (new_talk (Out i.0) (Server Outside)))) (SetTalk (Some (new_talk (At port) peer)))
+      (talk_seen peer i.0 i.1) (talk_good peer i.0 i.1 name.1)) (Both (Alters k q _ (Finish []) refl tt) (beyond later _ apart)))
       (outer, (tt, quiet))
 
   -- ---- with a fault
 
-  fault_plain : (fault : Fault) → t.fault ≡ Some fault → (near far : Option Thread) → AlikeOptions (IsSeenThread root see w) near far → far ≡ Some t → HasLikeness root see w fault.port
+  fault_plain : (fault : Fault) →
+      t.fault ≡ Some fault → (near far : Option Thread) → AlikeOptions (IsSeenThread root see w) near far → far ≡ Some t → HasLikeness root see w fault.port
   fault_plain fault is None None h e = cc
-  fault_plain fault is (Some seen) (Some u) h e = let same : u ≡ t = cc in let good : IfSome t.fault (AllInFault see (HasLikeness root see w)) = rw same at h.1.1 in (rw is at good).0
+  fault_plain fault is (Some seen) (Some u) h e = let same : u ≡ t = cc in
+      let good : IfSome t.fault (AllInFault see (HasLikeness root see w)) = rw same at h.1.1 in (rw is at good).0
   fault_plain fault is None (Some u) h e = absurd h
   fault_plain fault is (Some seen) None h e = absurd h
 
@@ -112,19 +124,23 @@ module _ (w : World) (nester : Path) (slot : ℕ) (plain : IsPlain w nester slot
   raised_seen f None h = refl
   raised_seen f (Some taker) h = cc
 
-  fault_row : (fault : Fault) (i : ℕ) → t.fault ≡ Some fault → see fault.port ≡ Out i → is_none fault.taker ≡ true → is_unheld small q ≡ true → touch_row small (FaultTaken (k ∷ q)) ≡ Goes (Alter (k ∷ q) (SetTaker (Some (Server Outside))) ∷ []) Nothing
+  fault_row : (fault : Fault) (i : ℕ) → t.fault ≡ Some fault → see fault.port ≡ Out i → is_none fault.taker ≡ true →
+      is_unheld small q ≡ true → touch_row small (FaultTaken (k ∷ q)) ≡ Goes (Alter (k ∷ q) (SetTaker (Some (Server Outside))) ∷ []) Nothing
   unfolding touch_row
   fault_row fault i is e raised unheld = rw (seen_there) (rw (unheld, is, e) (rw (raised_seen (seen_peer see true) fault.taker raised) refl))
 
   -- a thread that isn't held, whose fault at a port outside somebody outside takes
-  pub fault_here : (peer : Peer) (later : List Change) → AreBeyond root later → AreQuiet root later → (is_within root x ≡ false → is_inner_peer root peer ≡ false) → (fault : Fault) → t.fault ≡ Some fault → fault.port ≡ At port → is_none fault.taker ≡ true → is_unheld w (q ++ root) ≡ true →
+  pub fault_here : (peer : Peer) (later : List Change) →
+      AreBeyond root later → AreQuiet root later → (is_within root x ≡ false → is_inner_peer root peer ≡ false) →
+      (fault : Fault) → t.fault ≡ Some fault → fault.port ≡ At port → is_none fault.taker ≡ true → is_unheld w (q ++ root) ≡ true →
       IsTouched (ByOthers (FaultTaken (k ∷ q))) (apply_all (Alter x (SetTaker (Some peer)) ∷ later) w)
   fault_here peer later apart quiet outer fault is to raised unheld =
       let like = cut-like w nester slot plain in
       let loose = root_loose (is_frozen w (q ++ root)) refl unheld in
       let good = fault_plain fault is (and_then thread_of (small.body (k ∷ q))) (and_then thread_of (w.body x)) (thread_there-like like (k ∷ q)) at in
       let i = outward root w port fault.port (see fault.port) good to out in
-      has_touched w nester slot plain (FaultTaken (k ∷ q)) (Alter (k ∷ q) (SetTaker (Some (Server Outside))) ∷ []) (Alter x (SetTaker (Some peer)) ∷ later) Nothing
+      has_touched w
+      nester slot plain (FaultTaken (k ∷ q)) (Alter (k ∷ q) (SetTaker (Some (Server Outside))) ∷ []) (Alter x (SetTaker (Some peer)) ∷ later) Nothing
       (fault_row fault i.0 is i.1 raised (is_unheld-like like loose q ∙ unheld))
       (Both (AltersOut k q (SetTaker (Some (Server Outside))) (SetTaker (Some peer)) refl (fault_out fault i.0 is i.1, tt)) (beyond later _ apart))
       (outer, quiet)

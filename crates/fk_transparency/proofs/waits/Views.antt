@@ -49,7 +49,8 @@ module _ (w : World) (c : Caller) (set : ℕ) (y : Path) where
 
   view-wait : View (ends (wait w c (Some y) set))
   unfolding wait
-  view-wait = view->>= (object_in w c portset_of c.space set) _ (λ a. view->>= (refuse LINKED (is_serving w (path_of c))) _ (λ b. view-takes (candidate w c.space set y) refl))
+  view-wait = view->>= (object_in w c portset_of c.space set)
+      _ (λ a. view->>= (refuse LINKED (is_serving w (path_of c))) _ (λ b. view-takes (candidate w c.space set y) refl))
 
   view-allowed : (b : Bool) → View (ends (cond b (Refused DENIED) (wait w c (Some y) set)))
   view-allowed true = inl refl
@@ -67,8 +68,10 @@ module _ (w : World) (c : Caller) (set : ℕ) (y : Path) where
 
 -- a free thread at its Connect to such a port; a thread that isn't held, with a fault at one
 abbrev pub IsFound : World → Path → ℕ → Path → Option Candidate → Type 0
-IsFound w space set y (Some (Connecting slot)) = (t : Thread) × (port : Ptr) × (and_then thread_of (w.body y) ≡ Some t) × (is_free w (parent y) t ≡ true) × (connecting_to w y t ≡ Some port) × (slot_in_set w space set port ≡ Some slot)
-IsFound w space set y (Some (Faulting slot fault)) = (t : Thread) × (and_then thread_of (w.body y) ≡ Some t) × (is_unheld w (parent y) ≡ true) × (t.fault ≡ Some fault) × (slot_in_set w space set fault.port ≡ Some slot)
+IsFound w space set y (Some (Connecting slot)) = (t : Thread) × (port : Ptr) ×
+    (and_then thread_of (w.body y) ≡ Some t) × (is_free w (parent y) t ≡ true) × (connecting_to w y t ≡ Some port) × (slot_in_set w space set port ≡ Some slot)
+IsFound w space set y (Some (Faulting slot fault)) = (t : Thread) ×
+    (and_then thread_of (w.body y) ≡ Some t) × (is_unheld w (parent y) ≡ true) × (t.fault ≡ Some fault) × (slot_in_set w space set fault.port ≡ Some slot)
 IsFound w space set y (Some (Resuming slot talk)) = Unit {0}
 IsFound w space set y None = Unit {0}
 
@@ -83,15 +86,18 @@ module _ (w : World) (space : Path) (set : ℕ) (y : Path) where
   found-fault : (t : Thread) → and_then thread_of (w.body y) ≡ Some t → is_unheld w (parent y) ≡ true → Found (faulting w space set t)
   found-fault t at unheld = by t.fault refl
     where
-      slots : (fault : Fault) → t.fault ≡ Some fault → (o : Option ℕ) → slot_in_set w space set fault.port ≡ o → Found (option_map (λ slot. Faulting slot fault) o)
+      slots : (fault : Fault) →
+          t.fault ≡ Some fault → (o : Option ℕ) → slot_in_set w space set fault.port ≡ o → Found (option_map (λ slot. Faulting slot fault) o)
       slots fault is None e = tt
       slots fault is (Some slot) e = (t, at, unheld, is, e)
 
-      test : (fault : Fault) → t.fault ≡ Some fault → (b : Bool) → Found (cond b (option_map (λ slot. Faulting slot fault) (slot_in_set w space set fault.port)) None)
+      test : (fault : Fault) →
+          t.fault ≡ Some fault → (b : Bool) → Found (cond b (option_map (λ slot. Faulting slot fault) (slot_in_set w space set fault.port)) None)
       test fault is true = slots fault is (slot_in_set w space set fault.port) refl
       test fault is false = tt
 
-      by : (o : Option Fault) → t.fault ≡ o → Found (and_then (λ (fault : Fault). cond (is_open fault.taker) (option_map (λ slot. Faulting slot fault) (slot_in_set w space set fault.port)) None) o)
+      by : (o : Option Fault) → t.fault ≡ o → Found
+          (and_then (λ (fault : Fault). cond (is_open fault.taker) (option_map (λ slot. Faulting slot fault) (slot_in_set w space set fault.port)) None) o)
       by None is = tt
       by (Some fault) is = test fault is (is_open fault.taker)
 
@@ -117,7 +123,8 @@ module _ (w : World) (space : Path) (set : ℕ) (y : Path) where
       test talk true = slots talk (slot_in_set w space set talk.port)
       test talk false = tt
 
-      by : (o : Option Talk) → Found (and_then (λ (talk : Talk). cond (is_parked (Some talk.peer)) (option_map (λ slot. Resuming slot talk) (slot_in_set w space set talk.port)) None) o)
+      by : (o : Option Talk) → Found
+          (and_then (λ (talk : Talk). cond (is_parked (Some talk.peer)) (option_map (λ slot. Resuming slot talk) (slot_in_set w space set talk.port)) None) o)
       by None = tt
       by (Some talk) = test talk (is_parked (Some talk.peer))
 
@@ -125,7 +132,8 @@ module _ (w : World) (space : Path) (set : ℕ) (y : Path) where
   unfolding candidate
   candidate-found = by (is_unheld w (parent y)) refl
     where
-      if_free : (t : Thread) (b : Bool) → and_then thread_of (w.body y) ≡ Some t → is_free w (parent y) t ≡ b → Found (cond b (or_else (connecting w space set y t) (resuming w space set t)) None)
+      if_free : (t : Thread) (b : Bool) → and_then thread_of (w.body y) ≡ Some t →
+          is_free w (parent y) t ≡ b → Found (cond b (or_else (connecting w space set y t) (resuming w space set t)) None)
       if_free t true at e = found-either (connecting w space set y t) (resuming w space set t) (found-connect t at e) (found-talk t)
       if_free t false at e = tt
 
@@ -147,16 +155,20 @@ quiet-ended root c cs answers quiet = by c.is_porter
     by false = quiet-goes (quiet-then root cs _ quiet (tt, tt))
 
 -- nobody inside comes to serve the outside, unless who waits stands inside and takes a thread outside
-pub quiet-takes : (root : Path) (c : Caller) (y : Path) (found : Candidate) → (is_within root y ≡ false → is_within root (path_of c) ≡ false) → Quiet root (takes_candidate c y (Some found))
+pub quiet-takes : (root : Path) (c : Caller) (y : Path) (found : Candidate) →
+    (is_within root y ≡ false → is_within root (path_of c) ≡ false) → Quiet root (takes_candidate c y (Some found))
 quiet-takes root c y (Faulting slot fault) apart = quiet-ended root c (Alter y (SetTaker (Some (Server (At (path_of c))))) ∷ []) _ (apart, tt)
-quiet-takes root c y (Connecting slot) apart = quiet-done root c (Alter y (SetTalk (Some (new_talk (At (slot ∷ c.space)) (Server (At (path_of c)))))) ∷ Alter y (Finish []) ∷ []) _ (apart, (tt, tt))
+quiet-takes root c y (Connecting slot) apart =
+    quiet-done root c (Alter y (SetTalk (Some (new_talk (At (slot ∷ c.space)) (Server (At (path_of c)))))) ∷ Alter y (Finish []) ∷ []) _ (apart, (tt, tt))
 quiet-takes root c y (Resuming slot talk) apart = quiet-ended root c (Alter y (SetPeer (Server (At (path_of c)))) ∷ []) _ (apart, tt)
 
-pub quiet-view : (root : Path) (w : World) (c : Caller) (set : ℕ) (y : Path) (o : Outcome) → (is_within root y ≡ false → is_within root (path_of c) ≡ false) → View w c set y o → Quiet root o
+pub quiet-view : (root : Path) (w : World) (c : Caller) (set : ℕ) (y : Path) (o : Outcome) →
+    (is_within root y ≡ false → is_within root (path_of c) ≡ false) → View w c set y o → Quiet root o
 quiet-view root w c set y o apart (inl e) = rw e quiet-waits
 quiet-view root w c set y o apart (inr v) = rw v.2 (quiet-takes root c y v.0 apart)
 
 -- it picks nobody
 pub quiet-idle : (root : Path) (w : World) (x : Path) (set : ℕ) → Quiet root (call_row w (user_at x) None (Wait set))
 unfolding wait
-quiet-idle root w x set = quiet-call root w x None (Wait set) (quiet->>= root (object_in w (user_at x) portset_of (parent x) set) _ (λ a. quiet->>= root (refuse LINKED (is_serving w (path_of (user_at x)))) _ (λ b. quiet-waits)))
+quiet-idle root w x set = quiet-call root w x None (Wait set) (quiet->>= root
+    (object_in w (user_at x) portset_of (parent x) set) _ (λ a. quiet->>= root (refuse LINKED (is_serving w (path_of (user_at x)))) _ (λ b. quiet-waits)))

@@ -1,8 +1,7 @@
-use Rattle.std.proofs.Common.{ℕ, ◌<◌, [], ◌∷◌, Some, None, refl, arith}
-use Rattle.fk_model.specs.Objects.Body.{Space}
+use Rattle.std.proofs.Common.{[], ◌∷◌, refl, arith}
 use Rattle.fk_model.specs.Valid.{kind_there}
 use Rattle.fk_worked.specs.Worked.{numbered}
-use Rattle.fk_worked.specs.Premises.{premises, within, objects_of, pages_of, with_one_page}
+use Rattle.fk_worked.specs.Premises.{premises, within, pages_of, with_one_page}
 use Rattle.fk_worked.proofs.Listed.{paged_list}
 use Rattle.fk_worked.proofs.premises.a_page_has_its_place.Goals as goal
 

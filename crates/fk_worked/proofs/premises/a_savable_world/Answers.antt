@@ -1,4 +1,4 @@
-use Rattle.std.proofs.Common.{ℕ, ◌≤◌, List, [], ◌∷◌, Option, Some, None, refl, arith}
+use Rattle.std.proofs.Common.{◌≤◌, [], ◌∷◌, Option, Some, None, refl, arith}
 use Rattle.fk_model.specs.declared.limits.TheConstants.{MOST_STOPS}
 use Rattle.fk_model.specs.Places.{Ptr}
 use Rattle.fk_model.specs.Places.Ptr.{At}
@@ -17,4 +17,5 @@ returns-clause-free c = savable (full_of_all None) (([], Space 0 None) ∷ objec
 
 pub returns-clause-held : goal.returns-clause-held
 unfolding premises
-returns-clause-held c = savable (full_of_all (Some (At porter))) (([], Space 0 None) ∷ objects_of (Some (At porter))) (λ x. refl) refl (shapes (Some (At porter)))
+returns-clause-held c =
+    savable (full_of_all (Some (At porter))) (([], Space 0 None) ∷ objects_of (Some (At porter))) (λ x. refl) refl (shapes (Some (At porter)))

@@ -1,9 +1,8 @@
-use Rattle.std.proofs.Common.{ℕ, zero, suc, ◌≤◌, ◌∷◌, [], List, Bool, true, if◌then◌else◌, eqb, Option, Some, None, refl, arith}
-use Rattle.fk_model.specs.Places.{Path, Ptr, same_path}
+use Rattle.std.proofs.Common.{ℕ, ◌∷◌, [], if◌then◌else◌, eqb, Some, None, refl, arith}
+use Rattle.fk_model.specs.Places.{Path, same_path}
 use Rattle.fk_model.specs.Places.Ptr.{At}
 use Rattle.fk_model.specs.Valid.{kind_there}
 use Rattle.fk_model.specs.Objects.Body.{Space}
-use Rattle.fk_worked.specs.Worked.{world_of}
 use Rattle.fk_worked.specs.Premises.{premises, porter, within, objects_of, pages_of, full_of_all}
 use Rattle.fk_worked.proofs.Listed.{whole}
 use Rattle.fk_worked.proofs.premises.a_whole_world.Goals as goal
@@ -14,8 +13,10 @@ home n = if eqb n 0 then [] else (if eqb n 1 then 1 ∷ [] else within 6)
 
 pub returns-clause-free : goal.returns-clause-free
 unfolding premises home kind_there
-returns-clause-free c = whole (full_of_all None) (([], Space 0 None) ∷ objects_of None) pages_of (λ x. refl) (λ s g. refl) home (λ s. within 2) (within 0) refl refl refl (omega arith)
+returns-clause-free c = whole (full_of_all None)
+    (([], Space 0 None) ∷ objects_of None) pages_of (λ x. refl) (λ s g. refl) home (λ s. within 2) (within 0) refl refl refl (omega arith)
 
 pub returns-clause-held : goal.returns-clause-held
 unfolding premises home kind_there
-returns-clause-held c = whole (full_of_all (Some (At porter))) (([], Space 0 None) ∷ objects_of (Some (At porter))) pages_of (λ x. refl) (λ s g. refl) home (λ s. within 2) (within 0) refl refl refl (omega arith)
+returns-clause-held c = whole (full_of_all (Some (At porter)))
+    (([], Space 0 None) ∷ objects_of (Some (At porter))) pages_of (λ x. refl) (λ s g. refl) home (λ s. within 2) (within 0) refl refl refl (omega arith)
