@@ -1,0 +1,23 @@
+//! Images: a subtree in records, as a checkpoint keeps it.
+//!
+//! It stands on `fk_model`, over whose worlds `specs/Picture.antt` says what subtree an image stands for.
+//! `specs/Valid.antt` says which images are valid: those whose numbers fit their fields, whose spaces stand
+//! in preorder, and whose pointers lead to what their fields may hold (`specs/Links.antt`). It promises the
+//! parts of that test that a reader needs, equal copies, and which ports of the nester an image leads to.
+#![tactic(auto)]
+
+mod boxed;
+mod copy;
+mod image;
+mod links;
+mod objects;
+mod open;
+mod outs;
+mod ranges;
+
+pub use boxed::BoxedThread;
+pub use image::{FaultRec, Image, Link, ObjectRec, PageRec, Rec, SpaceRec, TalkRec, ThreadRec};
+pub use links::{is_set_of, kind_at, leads_to_keeper, leads_to_port, leads_to_region, serves};
+pub use objects::{Objects, kind_of};
+pub use open::Open;
+pub use ranges::{is_code, is_extent, is_member, is_mode};

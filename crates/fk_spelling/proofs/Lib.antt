@@ -1,0 +1,5 @@
+pub mod Basics
+pub mod Again
+pub mod Taken
+pub mod Leads
+pub mod RoundTrip

@@ -1,0 +1,5 @@
+pub mod Spelling
+pub mod Fields
+pub mod Offsets
+pub mod Reading
+pub mod Spells
