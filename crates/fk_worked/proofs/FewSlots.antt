@@ -30,7 +30,8 @@ filter-filter : (p q : ℕ → Bool) → ((k : ℕ) → q k ≡ false → p k �
 filter-filter p q less [] = refl
 filter-filter p q less (k ∷ ks) = by (q k) refl (filter-filter p q less ks)
   where
-    by : (b : Bool) → q k ≡ b → filter p ks ≡ filter p (filter q ks) → (if p k then k ∷ filter p ks else filter p ks) ≡ filter p (if b then k ∷ filter q ks else filter q ks)
+    by : (b : Bool) →
+        q k ≡ b → filter p ks ≡ filter p (filter q ks) → (if p k then k ∷ filter p ks else filter p ks) ≡ filter p (if b then k ∷ filter q ks else filter q ks)
     by true e rest = rw rest refl
     by false e rest = rw (less k e) rest
 
@@ -45,7 +46,8 @@ few_residents few w s = filter (λ k. is_some (w.body (k ∷ s))) few
 few_residents-all : (few : List ℕ) → are_rising few → (w : World) → HasFew few w → (s : Path) → residents w s ≡ few_residents few w s
 unfolding residents
 few_residents-all few rising w has s =
-    filter-filter (λ k. is_some (w.body (k ∷ s))) (is_among few) (λ k none. ap is_some (has.none k s none)) (slots SLOTS) ∙ ap (filter (λ k. is_some (w.body (k ∷ s)))) rising
+    filter-filter (λ k. is_some (w.body (k ∷ s))) (is_among few) (λ k none. ap is_some (has.none k s none)) (slots SLOTS)
+    ∙ ap (filter (λ k. is_some (w.body (k ∷ s)))) rising
 
 unfoldable pub walk : List ℕ → ℕ → World → Path → List Path
 walk few zero w s = []
@@ -56,7 +58,8 @@ unfolding beneath_by walk
 walk-all few rising zero w has s = refl
 walk-all few rising (suc n) w has s =
     ap (flat_map (λ k. (k ∷ s) ∷ beneath_by n w (k ∷ s))) (few_residents-all few rising w has s)
-    ∙ flat_map-same (λ k. (k ∷ s) ∷ beneath_by n w (k ∷ s)) (λ k. (k ∷ s) ∷ walk few n w (k ∷ s)) (λ k. ap (λ below. (k ∷ s) ∷ below) (walk-all few rising n w has (k ∷ s))) (few_residents few w s)
+    ∙ flat_map-same (λ k. (k ∷ s) ∷ beneath_by n w (k ∷ s))
+    (λ k. (k ∷ s) ∷ walk few n w (k ∷ s)) (λ k. ap (λ below. (k ∷ s) ∷ below) (walk-all few rising n w has (k ∷ s))) (few_residents few w s)
 
 objects-few : (few : List ℕ) → are_rising few → (w : World) → HasFew few w → objects w ≡ walk few depth w []
 unfolding beneath
@@ -67,7 +70,8 @@ objects-few few rising w has = walk-all few rising depth w has []
 -- by the objects of the whole world and those of the cut
 unfoldable pub open_among : World → Path → ℕ → List Path → List Path → Option Place
 open_among w nester slot all inside =
-    first_place (λ q. or_else (far_field ((cut w nester slot).body q)) (when_bad (list_any (leads_in_from w (slot ∷ nester) (q ++ slot ∷ nester)) ([] ∷ all)) led_to_from_outside)) slot ([] ∷ inside)
+    first_place (λ q. or_else (far_field ((cut w nester slot).body q))
+    (when_bad (list_any (leads_in_from w (slot ∷ nester) (q ++ slot ∷ nester)) ([] ∷ all)) led_to_from_outside)) slot ([] ∷ inside)
 
 cut-few : (few : List ℕ) (w : World) → HasFew few w → (nester : Path) (slot : ℕ) → HasFew few (cut w nester slot)
 unfolding cut
@@ -86,7 +90,8 @@ abbrev pub is_at_few : List ℕ → Path → Bool
 is_at_few few [] = true
 is_at_few few (k ∷ s) = is_among few k
 
-list-few : (few : List ℕ) (es : List (Path × Body)) → list_all (λ e. is_at_few few e.0) es ≡ true → (k : ℕ) (s : Path) → is_among few k ≡ false → body_in es (k ∷ s) ≡ None
+list-few : (few : List ℕ) (es : List (Path × Body)) →
+    list_all (λ e. is_at_few few e.0) es ≡ true → (k : ℕ) (s : Path) → is_among few k ≡ false → body_in es (k ∷ s) ≡ None
 unfolding body_in
 list-few few [] all k s none = refl
 list-few few (e ∷ es) all k s none = by (same_path e.0 (k ∷ s)) refl (list-few few es (and_right _ _ all) k s none)

@@ -54,10 +54,18 @@ is_not false h = refl
 change-tested : (w : World) (me : Path) (c : Change) → is_allowed w me c ≡ true → IsAllowed w me c
 change-tested w me (Alter x edit) h =
     let both : may_make w me x (made_pointers edit) ≡ true = and_left _ (are_unfrozen w me (option_list (changed_pointers edit) (w.body x))) h in
-    record { object = is_not _ (and_left _ _ both); changed = and_right (may_make w me x (made_pointers edit)) _ h; made = and_right (not (is_frozen_for w me x)) _ both }
-change-tested w me (Make x body) h = record { object = is_not _ (and_left _ (are_unfrozen w me (pointers body)) h); made = and_right (not (is_frozen_for w me x)) _ h }
+    record {
+      object = is_not _ (and_left _ _ both);
+      changed = and_right (may_make w me x (made_pointers edit)) _ h;
+      made = and_right (not (is_frozen_for w me x)) _ both;
+    }
+change-tested w me (Make x body) h =
+    record { object = is_not _ (and_left _ (are_unfrozen w me (pointers body)) h); made = and_right (not (is_frozen_for w me x)) _ h }
 change-tested w me (MakeSpace x holder) h =
-    record { object = is_not _ (and_left _ (are_unfrozen w me (option_list (λ (p : Ptr). p ∷ []) holder)) h); made = and_right (not (is_frozen_for w me x)) _ h }
+    record {
+      object = is_not _ (and_left _ (are_unfrozen w me (option_list (λ (p : Ptr). p ∷ []) holder)) h);
+      made = and_right (not (is_frozen_for w me x)) _ h;
+    }
 change-tested w me (Kill x) h = absurd (false≢true h)
 change-tested w me (Move x slot) h = absurd (false≢true h)
 change-tested w me (PutPage space page words) h = is_not _ h

@@ -62,8 +62,10 @@ change-allowed w me free (Alter x edit) = record {
   made = all_unfrozen w me free (made_pointers edit);
 }
 change-allowed w me free (Make x body) = record { object = not_frozen w me free x; made = all_unfrozen w me free (pointers body) }
-change-allowed w me free (MakeSpace x holder) = record { object = not_frozen w me free x; made = all_unfrozen w me free (option_list (λ (p : Ptr). p ∷ []) holder) }
-change-allowed w me free (Kill x) = record { object = not_frozen w me free x; changed = all_unfrozen w me free (body_pointers (w.body x)); others = sweeps w me x free }
+change-allowed w me free (MakeSpace x holder) =
+    record { object = not_frozen w me free x; made = all_unfrozen w me free (option_list (λ (p : Ptr). p ∷ []) holder) }
+change-allowed w me free (Kill x) =
+    record { object = not_frozen w me free x; changed = all_unfrozen w me free (body_pointers (w.body x)); others = sweeps w me x free }
 change-allowed w me free (Move x slot) = record { object = not_frozen w me free x; others = follows w me x free }
 change-allowed w me free (PutPage space page words) = not_frozen w me free space
 change-allowed w me free (DropPage space page) = not_frozen w me free space
@@ -132,7 +134,8 @@ edited-holder x (SetPeer peer) calm b = thread-holder _ b
 edited-holder x (SetFault fault) calm b = thread-holder _ b
 edited-holder x (SetTaker taker) calm b = thread-holder _ b
 
-edited-unheld : (x : Path) (edit : Edit) → is_calm (Alter x edit) ≡ true → (b : Option Body) → holder_of b ≡ None → holder_of (option_map (edited edit) b) ≡ None
+edited-unheld : (x : Path) (edit : Edit) →
+    is_calm (Alter x edit) ≡ true → (b : Option Body) → holder_of b ≡ None → holder_of (option_map (edited edit) b) ≡ None
 edited-unheld x edit calm None free = refl
 edited-unheld x edit calm (Some b) free = rw (edited-holder x edit calm b) free
 
@@ -150,15 +153,18 @@ either-unheld false a b p q = q
 
 change-unheld : (c : Change) → is_calm c ≡ true → (w : World) → IsUnheld w → IsUnheld (apply c w)
 unfolding apply
-change-unheld (Alter x edit) calm w free q = either-unheld (same_path q x) (option_map (edited edit) (w.body q)) (w.body q) (edited-unheld x edit calm (w.body q) (free q)) (free q)
+change-unheld (Alter x edit) calm w free q =
+    either-unheld (same_path q x) (option_map (edited edit) (w.body q)) (w.body q) (edited-unheld x edit calm (w.body q) (free q)) (free q)
 change-unheld (Make x body) calm w free q = cc
 change-unheld (MakeSpace x holder) calm w free q = cc
-change-unheld (Kill x) calm w free q = either-unheld (same_path q x) None (option_map (through (death_sweep x) q) (w.body q)) refl (swept-unheld (death_sweep x) q (w.body q) (free q))
+change-unheld (Kill x) calm w free q =
+    either-unheld (same_path q x) None (option_map (through (death_sweep x) q) (w.body q)) refl (swept-unheld (death_sweep x) q (w.body q) (free q))
 change-unheld (Move x slot) calm w free q =
     either-unheld (same_path q (slot ∷ parent x)) (option_map (through (following x (slot ∷ parent x)) (slot ∷ parent x)) (w.body x))
     (if same_path q x then None else option_map (through (following x (slot ∷ parent x)) q) (w.body q))
     (swept-unheld (following x (slot ∷ parent x)) (slot ∷ parent x) (w.body x) (free x))
-    (either-unheld (same_path q x) None (option_map (through (following x (slot ∷ parent x)) q) (w.body q)) refl (swept-unheld (following x (slot ∷ parent x)) q (w.body q) (free q)))
+    (either-unheld (same_path q x)
+    None (option_map (through (following x (slot ∷ parent x)) q) (w.body q)) refl (swept-unheld (following x (slot ∷ parent x)) q (w.body q) (free q)))
 change-unheld (PutPage space page words) calm w free q = free q
 change-unheld (DropPage space page) calm w free q = free q
 
@@ -197,8 +203,10 @@ after-unheld w e free calm = outcome-unheld w free (outcome w e.mover e.pick e.a
 
 pub legal-unheld : (w : World) (es : List Event) → IsUnheld w → all_go_calmly w es ≡ true → IsLegal w es
 legal-unheld w [] free calm = tt
-legal-unheld w (e ∷ es) free calm =
-    (outcome-allowed w e.mover free (outcome w e.mover e.pick e.ask) (and_left _ _ calm), legal-unheld (after w e) es (after-unheld w e free (and_left _ _ calm)) (and_right _ _ calm))
+legal-unheld w (e ∷ es) free calm = (
+  outcome-allowed w e.mover free (outcome w e.mover e.pick e.ask) (and_left _ _ calm),
+  legal-unheld (after w e) es (after-unheld w e free (and_left _ _ calm)) (and_right _ _ calm),
+)
 
 -- ---- a world by lists in which no space of the list is held
 
@@ -212,4 +220,5 @@ none_is (Some p) h = absurd (false≢true h)
 pub list-unheld : (es : List (Path × Body)) → list_all is_unheld_entry es ≡ true → (x : Path) → holder_of (body_in es x) ≡ None
 unfolding body_in
 list-unheld [] free x = refl
-list-unheld (e ∷ es) free x = either-unheld (same_path e.0 x) (Some e.1) (body_in es x) (none_is (holder_of (Some e.1)) (and_left _ _ free)) (list-unheld es (and_right _ _ free) x)
+list-unheld (e ∷ es) free x =
+    either-unheld (same_path e.0 x) (Some e.1) (body_in es x) (none_is (holder_of (Some e.1)) (and_left _ _ free)) (list-unheld es (and_right _ _ free) x)

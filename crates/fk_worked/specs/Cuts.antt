@@ -57,7 +57,8 @@ talked_into peer = world_of
 -- which leads there. The nester has a port in slot 9 and a port set in slot 8
 unfoldable pub led_from_1_2 : Ptr → World
 led_from_1_2 to = world_of
-    ((3 ∷ in_subtree 2, Reference to) ∷ (root_port, Port None false) ∷ (subtree, Space 1 None) ∷ (in_subtree 9, Port None false) ∷ (in_subtree 8, Portset) ∷ (in_subtree 2, Space 2 None) ∷ []) []
+    ((3 ∷ in_subtree 2, Reference to) ∷ (root_port, Port None false)
+    ∷ (subtree, Space 1 None) ∷ (in_subtree 9, Port None false) ∷ (in_subtree 8, Portset) ∷ (in_subtree 2, Space 2 None) ∷ []) []
 
 -- ---- a thread of /1 sends 70 words from 128 on to port 9, of which the 65th is 7; port 10 is another of the root
 
@@ -97,7 +98,8 @@ with_scratch holder scratch = world_of
 -- where the mapping leads, and the keeper. Slot 6 of the root is a region too, and slot 7 of /2 a port
 unfoldable pub memory_of : Ptr → Ptr → World
 memory_of region keeper = world_of
-    ((in_subtree 3, Mapping (record { first = 8; count = 1; offset = 0; write = true; region = region })) ∷ (in_subtree 5, Region (record { first = 2; count = 1; write = true; keeper = keeper }))
+    ((in_subtree 3, Mapping (record { first = 8; count = 1; offset = 0; write = true; region = region }))
+    ∷ (in_subtree 5, Region (record { first = 2; count = 1; write = true; keeper = keeper }))
     ∷ (6 ∷ [], Region (record { first = 2; count = 1; write = true; keeper = Null })) ∷ (beside 7, Port None false) ∷ two_spaces) []
 
 -- ---- many places: in /1 are a thread, a space with a reference in slot 7, and a reference in slot 4
@@ -110,7 +112,8 @@ missed_3 port = record { page = 3; write = true; port = port; taker = None }
 -- slot 7 of /2 is far, and the reference in slot 4 leads to it
 unfoldable pub many : Ptr → Ptr → Ptr → Ptr → World
 many talk fault deep from_root = world_of
-    ((in_subtree 0, with_talk (talk_out talk Parked 0) (with_fault (missed_3 fault) (running 0 []))) ∷ (in_subtree 2, Space 3 None) ∷ (7 ∷ in_subtree 2, Reference deep)
+    ((in_subtree 0, with_talk (talk_out talk Parked 0) (with_fault (missed_3 fault) (running 0 [])))
+    ∷ (in_subtree 2, Space 3 None) ∷ (7 ∷ in_subtree 2, Reference deep)
     ∷ (in_subtree 4, Reference (At (beside 7))) ∷ (6 ∷ [], Reference from_root) ∷ (beside 7, Port None false) ∷ two_spaces) []
 
 -- ---- what is inside: a client in slot 0, a server in slot 5 and a port in slot 4, in the set of slot 6; a space in slot 2
@@ -118,7 +121,8 @@ many talk fault deep from_root = world_of
 -- with a page in both spaces
 unfoldable pub all_inside : World
 all_inside = world_of
-    ((in_subtree 0, with_talk (served_by (in_subtree 4) (in_subtree 5) turns.Server 3) (running 0 [])) ∷ (in_subtree 5, running 1 []) ∷ (in_subtree 4, Port (Some 6) true) ∷ (in_subtree 6, Portset)
+    ((in_subtree 0, with_talk (served_by (in_subtree 4) (in_subtree 5) turns.Server 3) (running 0 []))
+    ∷ (in_subtree 5, running 1 []) ∷ (in_subtree 4, Port (Some 6) true) ∷ (in_subtree 6, Portset)
     ∷ (in_subtree 2, Space 3 (Some (At (in_subtree 5)))) ∷ (7 ∷ in_subtree 2, Reference (At subtree)) ∷ (6 ∷ [], Reference Null) ∷ two_spaces)
     (numbered subtree 1000 3 ∷ numbered (in_subtree 2) 2000 3 ∷ numbered [] 3000 3 ∷ [])
 

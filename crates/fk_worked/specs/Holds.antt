@@ -40,7 +40,8 @@ before_hold h = world_of (root_and_1 None (13 ∷ 256 ∷ 1 ∷ []) h) (numbered
 -- begins with the record of a thread that runs. In the space in slot 5 is another that is held
 unfoldable pub held : List ℕ → List ℕ → World
 held g h = world_of
-    (root_and_1 (Some (At holder)) g h ++ ((8 ∷ [], Reference (At inner)) ∷ (9 ∷ [], Reference Null) ∷ (10 ∷ [], Port None false) ∷ (7 ∷ 1 ∷ [], Reference (At (10 ∷ [])))
+    (root_and_1 (Some (At holder)) g h
+    ++ ((8 ∷ [], Reference (At inner)) ∷ (9 ∷ [], Reference Null) ∷ (10 ∷ [], Port None false) ∷ (7 ∷ 1 ∷ [], Reference (At (10 ∷ [])))
     ∷ (0 ∷ 5 ∷ [], Space 3 (Some (At holder))) ∷ []))
     (numbered [] 1000 1 ∷ page_with [] 2 (8 ∷ 5 ∷ []) ∷ page_with (1 ∷ []) 0 sets_r1 ∷ [])
 
@@ -49,7 +50,8 @@ held g h = world_of
 -- /1 is held by somebody, or not
 unfoldable pub storing : Option Ptr → World
 storing held = world_of
-    (root_and_1 held [] [] ++ ((6 ∷ [], running 0 (0 ∷ 7 ∷ 640 ∷ [])) ∷ (7 ∷ [], Mapping (record { first = 10; count = 1; offset = 0; write = true; region = At (3 ∷ 1 ∷ []) }))
+    (root_and_1 held [] []
+    ++ ((6 ∷ [], running 0 (0 ∷ 7 ∷ 640 ∷ [])) ∷ (7 ∷ [], Mapping (record { first = 10; count = 1; offset = 0; write = true; region = At (3 ∷ 1 ∷ []) }))
     ∷ (3 ∷ 1 ∷ [], Region (record { first = 3; count = 1; write = true; keeper = Null })) ∷ []))
     (page_with [] 0 stores_at_r2 ∷ numbered (1 ∷ []) 1000 3 ∷ [])
 
@@ -94,7 +96,8 @@ inner_porter = 255 ∷ 1 ∷ []
 -- a thread of the root would hold /1
 unfoldable pub working_porter : World
 working_porter = world_of
-    ((holder, calling 0 (13 ∷ 256 ∷ 1 ∷ [])) ∷ (1 ∷ [], Space 1 None) ∷ (2 ∷ 1 ∷ [], Space 2 (Some (At inner_porter))) ∷ (inner_porter, thread_in_mode (Native (replicate 16 0)) 0) ∷ []) []
+    ((holder, calling 0 (13 ∷ 256 ∷ 1 ∷ []))
+    ∷ (1 ∷ [], Space 1 None) ∷ (2 ∷ 1 ∷ [], Space 2 (Some (At inner_porter))) ∷ (inner_porter, thread_in_mode (Native (replicate 16 0)) 0) ∷ []) []
 
 -- ---- to compute in these worlds is to unfold these
 unfoldable pub hold_worlds : Unit {0}

@@ -40,7 +40,8 @@ mutex = 5 ∷ 1 ∷ []
 
 -- both threads run that program
 unfoldable pub two_lock : World
-two_lock = world_of ((1 ∷ [], Space 1 None) ∷ (mutex, Mutex false) ∷ (thread_0, running 0 []) ∷ (thread_1, running 0 []) ∷ []) (page_with (1 ∷ []) 0 locks_5 ∷ [])
+two_lock =
+    world_of ((1 ∷ [], Space 1 None) ∷ (mutex, Mutex false) ∷ (thread_0, running 0 []) ∷ (thread_1, running 0 []) ∷ []) (page_with (1 ∷ []) 0 locks_5 ∷ [])
 
 -- four moves of the first thread, three of the second
 abbrev pub lock_twice : List Event
@@ -63,7 +64,8 @@ cond = 6 ∷ 1 ∷ []
 
 -- the first thread has the mutex and is about to wait for the condition
 unfoldable pub one_sleeps : World
-one_sleeps = world_of ((1 ∷ [], Space 1 None) ∷ (mutex, Mutex true) ∷ (cond, Cond) ∷ (thread_0, calling 40 (24 ∷ 6 ∷ 5 ∷ [])) ∷ (thread_1, running 0 []) ∷ []) (page_with (1 ∷ []) 0 stops_and_signals ∷ numbered (1 ∷ []) 1000 2 ∷ [])
+one_sleeps = world_of ((1 ∷ [], Space 1 None) ∷ (mutex, Mutex true) ∷ (cond, Cond) ∷ (thread_0, calling 40 (24 ∷ 6 ∷ 5 ∷ [])) ∷ (thread_1, running 0 []) ∷ [])
+    (page_with (1 ∷ []) 0 stops_and_signals ∷ numbered (1 ∷ []) 1000 2 ∷ [])
 
 -- what there is to look at
 abbrev pub sleeper_and_signaller : List Path
@@ -128,7 +130,8 @@ caller_and_sleepers = thread_0 ∷ sleeper 10 ∷ sleeper 11 ∷ sleeper 12 ∷ 
 unfoldable pub locks_and_sleepers : List ℕ → World
 locks_and_sleepers g = world_of
     ((1 ∷ [], Space 1 None) ∷ (thread_0, calling 0 g) ∷ (5 ∷ 1 ∷ [], Mutex false) ∷ (6 ∷ 1 ∷ [], Mutex true) ∷ (7 ∷ 1 ∷ [], Cond) ∷ (8 ∷ 1 ∷ [], Cond)
-    ∷ (sleeper 10, calling 40 (25 ∷ 7 ∷ 5 ∷ [])) ∷ (sleeper 11, stopped 0xffff (calling 40 (25 ∷ 7 ∷ 6 ∷ []))) ∷ (sleeper 12, calling 40 (25 ∷ 8 ∷ 5 ∷ [])) ∷ (sleeper 13, stopped 2 (running 3 [])) ∷ (2 ∷ [], Space 2 None) ∷ (0 ∷ 2 ∷ [], calling 40 (25 ∷ 7 ∷ 5 ∷ [])) ∷ []) []
+    ∷ (sleeper 10, calling 40 (25 ∷ 7 ∷ 5 ∷ [])) ∷ (sleeper 11, stopped 0xffff (calling 40 (25 ∷ 7 ∷ 6 ∷ []))) ∷ (sleeper 12, calling 40 (25 ∷ 8 ∷ 5 ∷ []))
+    ∷ (sleeper 13, stopped 2 (running 3 [])) ∷ (2 ∷ [], Space 2 None) ∷ (0 ∷ 2 ∷ [], calling 40 (25 ∷ 7 ∷ 5 ∷ [])) ∷ []) []
 
 -- what becomes of the caller
 unfoldable pub calls_of : List ℕ → Option Body

@@ -156,8 +156,10 @@ root_server = 2 ∷ []
 -- the caller makes a call
 unfoldable pub related : List ℕ → World
 related g = world_of
-    ((1 ∷ [], Space 2 None) ∷ (root_server, server_receives) ∷ (set_port, Port (Some 8) false) ∷ (8 ∷ [], Portset) ∷ (helper, running 0 []) ∷ (10 ∷ [], Port None true)
-    ∷ (destroyer, calling 0 g) ∷ (talker, talking set_port root_server (calling 20 (38 ∷ []))) ∷ (faulty, missing_5 set_port None (running 0 [])) ∷ (helped, missing_5 set_port (Some (Server (At helper))) (running 0 []))
+    ((1 ∷ [], Space 2 None)
+    ∷ (root_server, server_receives) ∷ (set_port, Port (Some 8) false) ∷ (8 ∷ [], Portset) ∷ (helper, running 0 []) ∷ (10 ∷ [], Port None true)
+    ∷ (destroyer, calling 0 g) ∷ (talker, talking set_port root_server (calling 20 (38 ∷ [])))
+    ∷ (faulty, missing_5 set_port None (running 0 [])) ∷ (helped, missing_5 set_port (Some (Server (At helper))) (running 0 []))
     ∷ (3 ∷ 1 ∷ [], kept_by (At set_port)) ∷ [])
     []
 
@@ -181,13 +183,15 @@ space_holder = 5 ∷ []
 
 -- both are in call 2
 unfoldable pub holder_dies : World
-holder_dies = world_of ((destroyer, calling 0 (2 ∷ 256 ∷ 5 ∷ [])) ∷ (space_holder, calling 0 (2 ∷ 256 ∷ 5 ∷ [])) ∷ (6 ∷ [], Space 1 (Some (At space_holder))) ∷ []) []
+holder_dies =
+    world_of ((destroyer, calling 0 (2 ∷ 256 ∷ 5 ∷ [])) ∷ (space_holder, calling 0 (2 ∷ 256 ∷ 5 ∷ [])) ∷ (6 ∷ [], Space 1 (Some (At space_holder))) ∷ []) []
 
 -- ---- a thread of /1/2 names /1, by the reference in slot 1, and its own space there
 
 -- it makes a call
 unfoldable pub beneath_itself : List ℕ → World
-beneath_itself g = world_of ((1 ∷ [], Space 1 None) ∷ (2 ∷ 1 ∷ [], Space 2 None) ∷ (0 ∷ 2 ∷ 1 ∷ [], calling 0 g) ∷ (1 ∷ 2 ∷ 1 ∷ [], Reference (At (1 ∷ []))) ∷ []) []
+beneath_itself g =
+    world_of ((1 ∷ [], Space 1 None) ∷ (2 ∷ 1 ∷ [], Space 2 None) ∷ (0 ∷ 2 ∷ 1 ∷ [], calling 0 g) ∷ (1 ∷ 2 ∷ 1 ∷ [], Reference (At (1 ∷ []))) ∷ []) []
 
 -- ---- to compute in these worlds is to unfold these
 unfoldable pub object_worlds : Unit {0}

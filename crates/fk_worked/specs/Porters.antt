@@ -29,7 +29,8 @@ unfoldable pub restoring : World
 restoring = world_of
     ((porter, thread_in_mode (Native (replicate 16 0)) 0) ∷ (root_port, Port None false) ∷ (restored_server, running 0 [])
     ∷ (240 ∷ [], Reference (At root_port)) ∷ (241 ∷ [], Reference (At restored_server)) ∷ (242 ∷ [], Reference (At subject))
-    ∷ (1 ∷ [], Space 1 (Some (At porter))) ∷ (subject, running 20 (1 ∷ 2 ∷ [])) ∷ (3 ∷ 1 ∷ [], Space 2 None) ∷ (4 ∷ 1 ∷ [], Mutex true) ∷ (5 ∷ 1 ∷ [], Reference (At subject))
+    ∷ (1 ∷ [], Space 1 (Some (At porter)))
+    ∷ (subject, running 20 (1 ∷ 2 ∷ [])) ∷ (3 ∷ 1 ∷ [], Space 2 None) ∷ (4 ∷ 1 ∷ [], Mutex true) ∷ (5 ∷ 1 ∷ [], Reference (At subject))
     ∷ (8 ∷ [], Space 4 (Some (At restored_server))) ∷ (1 ∷ 8 ∷ [], Port None false) ∷ (243 ∷ [], Reference (At (1 ∷ 8 ∷ [])))
     ∷ (6 ∷ [], Reference (At subject)) ∷ (2 ∷ [], Space 3 None) ∷ (0 ∷ 2 ∷ [], Reference (At subject)) ∷ [])
     (numbered (1 ∷ []) 1000 4 ∷ [])

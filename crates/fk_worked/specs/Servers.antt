@@ -76,7 +76,8 @@ second = 2 ∷ 1 ∷ []
 unfoldable pub two_clients : World
 two_clients = world_of
     ((root_port, Port None true) ∷ (1 ∷ [], Space 1 None) ∷ (1 ∷ 1 ∷ [], Reference (At root_port)) ∷ (second, calling 20 (32 ∷ 1 ∷ []))
-    ∷ (client, with_talk (record { port = At root_port; peer = Parked; turn = turns.Server; moved = 5 }) (calling 20 (36 ∷ 1 ∷ 128 ∷ 0 ∷ 192 ∷ 4 ∷ []))) ∷ []) []
+    ∷ (client, with_talk (record { port = At root_port; peer = Parked; turn = turns.Server; moved = 5 }) (calling 20 (36 ∷ 1 ∷ 128 ∷ 0 ∷ 192 ∷ 4 ∷ [])))
+    ∷ []) []
 
 -- a client ends its talk
 unfoldable pub leaving : World

@@ -56,7 +56,8 @@ set_mapping = Mapping (record { first = 10; count = 4; offset = 2; write = true;
 -- the caller makes a call
 unfoldable pub pointing : List ℕ → World
 pointing g = world_of
-    ((1 ∷ [], Space 1 None) ∷ (caller, calling 0 g) ∷ (8 ∷ 1 ∷ [], Reference Null) ∷ (9 ∷ 1 ∷ [], Reference (At (7 ∷ 1 ∷ []))) ∷ (10 ∷ 1 ∷ [], Reference (At (5 ∷ 1 ∷ []))) ∷ subjects) []
+    ((1 ∷ [], Space 1 None) ∷ (caller, calling 0 g)
+    ∷ (8 ∷ 1 ∷ [], Reference Null) ∷ (9 ∷ 1 ∷ [], Reference (At (7 ∷ 1 ∷ []))) ∷ (10 ∷ 1 ∷ [], Reference (At (5 ∷ 1 ∷ []))) ∷ subjects) []
 
 -- ---- to compute in these worlds is to unfold these
 unfoldable pub state_worlds : Unit {0}

@@ -46,7 +46,8 @@ both_pages = map (numbered (1 ∷ []) 1000) (2 ∷ 3 ∷ 4 ∷ 5 ∷ 7 ∷ []) +
 
 -- from where and how many words are sent, and into how much room
 unfoldable pub message : ℕ → ℕ → ℕ → ℕ → World
-message address count into room = world_of (talkers (with_talk (clients_turn 0) (calling 20 (sending address count))) (calling 30 (asking_to_receive into room))) both_pages
+message address count into room =
+    world_of (talkers (with_talk (clients_turn 0) (calling 20 (sending address count))) (calling 30 (asking_to_receive into room))) both_pages
 
 -- 130 words from 182 into 200 words at 315, after so many moves of the client
 unfoldable pub sent : ℕ → World
@@ -72,7 +73,8 @@ sent_to_few n = run (message 256 130 320 40) (times n (goes client))
 
 -- the client in a call, with a talk
 unfoldable pub linked_in : List ℕ → World
-linked_in g = world_of ((4 ∷ 1 ∷ [], Reference (At port)) ∷ talkers (with_talk (clients_turn 0) (calling 20 g)) (calling 30 (asking_to_receive 315 200))) both_pages
+linked_in g =
+    world_of ((4 ∷ 1 ∷ [], Reference (At port)) ∷ talkers (with_talk (clients_turn 0) (calling 20 g)) (calling 30 (asking_to_receive 315 200))) both_pages
 
 -- and without one
 unfoldable pub unlinked_in : List ℕ → World
@@ -94,7 +96,8 @@ readers = (reader, calling 0 (9 ∷ 1 ∷ 0 ∷ 64 ∷ [])) ∷ (second_reader, 
 
 -- the message, and both readers
 unfoldable pub watched : World
-watched = world_of (readers ++ talkers (with_talk (clients_turn 0) (calling 20 (sending 182 130))) (calling 30 (asking_to_receive 315 200))) (numbered [] 0 1 ∷ both_pages)
+watched = world_of (readers ++ talkers (with_talk (clients_turn 0) (calling 20 (sending 182 130))) (calling 30 (asking_to_receive 315 200)))
+    (numbered [] 0 1 ∷ both_pages)
 
 -- three moves of the client, and both reads
 abbrev pub sent_and_read : List Event
@@ -180,7 +183,8 @@ meeting = world_of
 
 -- page 7 of /1 is there, and page 4 of /2
 unfoldable pub replying : World
-replying = world_of (talkers (with_talk (servers_turn 0) (calling 20 (36 ∷ 9 ∷ 312 ∷ 0 ∷ 448 ∷ 10 ∷ []))) (calling 30 (53 ∷ 8 ∷ 256 ∷ 10 ∷ 315 ∷ 200 ∷ []))) both_pages
+replying =
+    world_of (talkers (with_talk (servers_turn 0) (calling 20 (36 ∷ 9 ∷ 312 ∷ 0 ∷ 448 ∷ 10 ∷ []))) (calling 30 (53 ∷ 8 ∷ 256 ∷ 10 ∷ 315 ∷ 200 ∷ []))) both_pages
 
 -- the server ends the talk instead
 unfoldable pub ending : World
@@ -212,7 +216,8 @@ taken_fault page write = fault_at_port page write (Some (Server (At server)))
 -- stopped thread; a stopped thread that connects
 unfoldable pub waiting : World
 waiting = world_of
-    ((1 ∷ [], Space 1 None) ∷ (2 ∷ [], Space 2 None) ∷ (4 ∷ 1 ∷ [], Reference (At port)) ∷ (8 ∷ 2 ∷ [], Portset) ∷ (port, Port (Some 8) false) ∷ (2 ∷ 2 ∷ [], running 0 [])
+    ((1 ∷ [], Space 1 None)
+    ∷ (2 ∷ [], Space 2 None) ∷ (4 ∷ 1 ∷ [], Reference (At port)) ∷ (8 ∷ 2 ∷ [], Portset) ∷ (port, Port (Some 8) false) ∷ (2 ∷ 2 ∷ [], running 0 [])
     ∷ (server, calling 30 (49 ∷ 8 ∷ 77 ∷ 66 ∷ 315 ∷ 200 ∷ []))
     ∷ (waited_for 10, with_talk parked_talk receives_10)
     ∷ (waited_for 11, stopped 1 (with_fault (fault_at_port 5 true None) (running 0 [])))

@@ -71,7 +71,8 @@ is_cleared = refl
 
 cleared-none : (q : Path) → led_into.body q ≡ None → (run led_into (goes clearer ∷ [])).body q ≡ None
 unfolding apply_all
-cleared-none q none = rw is_cleared (alters-none clearer q (Finish []) (apply (Alter (beside 0) (SetPointer Null)) led_into) (alters-none (beside 0) q (SetPointer Null) led_into none))
+cleared-none q none = rw is_cleared
+    (alters-none clearer q (Finish []) (apply (Alter (beside 0) (SetPointer Null)) led_into) (alters-none (beside 0) q (SetPointer Null) led_into none))
 
 apart : (k : ℕ) → is_led_near (run led_into (goes clearer ∷ [])) (1 ∷ []) (k ∷ 2 ∷ []) ≡ false
 unfolding cut_worlds

@@ -7,3 +7,27 @@ use Rattle.fk_worked.proofs.locks.one_thread_has_the_mutex_and_the_other_waits.G
 pub returns-clause-ready : goal.returns-clause-ready
 unfolding lock_worlds
 returns-clause-ready c = legal-tested two_lock lock_twice refl
+
+pub returns-clause-first : goal.returns-clause-first
+unfolding lock_worlds
+returns-clause-first c = refl
+
+pub returns-clause-locked : goal.returns-clause-locked
+unfolding lock_worlds
+returns-clause-locked c = refl
+
+pub returns-clause-second : goal.returns-clause-second
+unfolding lock_worlds
+returns-clause-second c = refl
+
+pub returns-clause-shown : goal.returns-clause-shown
+unfolding lock_worlds
+returns-clause-shown c = refl
+
+pub returns-clause-waits : goal.returns-clause-waits
+unfolding lock_worlds
+returns-clause-waits c ready = absurd ready
+
+pub returns-clause-halts : goal.returns-clause-halts
+unfolding lock_worlds
+returns-clause-halts c = refl

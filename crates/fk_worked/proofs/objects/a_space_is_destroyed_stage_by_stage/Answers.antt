@@ -9,3 +9,15 @@ use Rattle.fk_worked.proofs.objects.a_space_is_destroyed_stage_by_stage.Goals as
 pub returns-clause-ready : goal.returns-clause-ready
 unfolding object_worlds
 returns-clause-ready c = legal-unheld destroying (times 4 (goes destroyer)) (list-unheld (([], Space 0 None) ∷ doomed) refl) refl
+
+pub returns-clause-stages : goal.returns-clause-stages
+unfolding object_worlds
+returns-clause-stages c = refl
+
+pub returns-clause-shown : goal.returns-clause-shown
+unfolding object_worlds
+returns-clause-shown c = refl
+
+pub returns-clause-pages : goal.returns-clause-pages
+unfolding object_worlds
+returns-clause-pages c = refl

@@ -8,7 +8,8 @@ use Rattle.fk_worked.proofs.objects.references_follow_a_renamed_port.Goals as go
 
 pub returns-clause-ready : goal.returns-clause-ready
 unfolding object_worlds
-returns-clause-ready c = legal-unheld renaming (goes (renamer 10) ∷ goes (renamer 11) ∷ goes (renamer 12) ∷ []) (list-unheld (([], Space 0 None) ∷ to_rename) refl) refl
+returns-clause-ready c =
+    legal-unheld renaming (goes (renamer 10) ∷ goes (renamer 11) ∷ goes (renamer 12) ∷ []) (list-unheld (([], Space 0 None) ∷ to_rename) refl) refl
 
 pub returns-clause-ready_set : goal.returns-clause-ready_set
 unfolding object_worlds

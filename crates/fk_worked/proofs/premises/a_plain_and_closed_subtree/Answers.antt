@@ -21,7 +21,8 @@ returns-clause-plain c = plain (full_of_all None) (([], Space 0 None) ∷ object
 
 pub returns-clause-plain_held : goal.returns-clause-plain_held
 unfolding premises
-returns-clause-plain_held c = plain (full_of_all (Some (At porter))) (([], Space 0 None) ∷ objects_of (Some (At porter))) (λ x. refl) [] 1 refl 1 (Some (At porter)) refl
+returns-clause-plain_held c =
+    plain (full_of_all (Some (At porter))) (([], Space 0 None) ∷ objects_of (Some (At porter))) (λ x. refl) [] 1 refl 1 (Some (At porter)) refl
 
 pub returns-clause-closed : goal.returns-clause-closed
 unfolding premises open_among walk
