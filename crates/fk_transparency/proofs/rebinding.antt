@@ -3,3 +3,4 @@ pub mod Rebound
 pub mod Messages
 pub mod Touches
 pub mod Waits
+pub mod Denied

@@ -7,3 +7,4 @@ pub mod Natives
 pub mod Ends
 pub mod Left
 pub mod Handed
+pub mod Receives

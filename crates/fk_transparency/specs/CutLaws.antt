@@ -1,10 +1,11 @@
 -- The law of the cut: what a move of the world does to a plain subtree is what the subtree, seen alone, does by the move
 -- as which it is seen.
-use Rattle.std.specs.Prelude.{◌≡◌, ℕ, Bool, true, false, List, ◌∷◌, Option, Some}
+use Rattle.std.specs.Prelude.{◌≡◌, ℕ, Bool, true, false, not, ◌&&◌, ◌||◌, ◌==◌, List, ◌∷◌, Option, Some}
 use Rattle.fk_model.specs.declared.moves.Ask.TheVariants as asks
 use Rattle.fk_model.specs.declared.stage.Stage.{Stage}
 use Rattle.fk_model.specs.declared.stage.Stage.TheVariants.{Create, Destroy, Rename, Search, Point, Clear, Locate, CountIn, GetState, SetState, GetPtr, SetPtr, SpaceHold, SpaceRelease, ThreadStop, ThreadGo, PageGive, PageTake, PageRead, PageNext, MutexLock, MutexTrylock, MutexUnlock, CondWait, CondAsleep, CondSignal, CondBroadcast, Connect, ClientReceive, ClientSend, ClientOver, Disconnect, Wait, ServerReceive, ServerSend, ServerOver, ServerEnd, FaultDone, LinkSet, LinkPark, FaultSet, FaultPark, HoldSet, SpaceMakeHeld}
 use Rattle.fk_model.specs.Places.{Path, is_within}
+use Rattle.fk_model.specs.Calls.{code_of_stage}
 use Rattle.fk_model.specs.Objects.{Thread, thread_of, and_then}
 use Rattle.fk_model.specs.Objects.Mode.{Running, Calling}
 use Rattle.fk_model.specs.World.{World}
@@ -111,6 +112,16 @@ IsForPorters stage = is_for_porters stage ≡ true
 
 abbrev pub IsForUsers : Stage → Type 0
 IsForUsers stage = is_for_users stage ≡ true
+
+-- a porter's stages that name a server, by code, and its other own ones
+abbrev pub names_server : Stage → Bool
+names_server stage = code_of_stage stage == 60 || code_of_stage stage == 62
+
+abbrev pub IsServerNamed : Stage → Type 0
+IsServerNamed stage = names_server stage ≡ true
+
+abbrev pub IsServerless : Stage → Type 0
+IsServerless stage = (is_for_porters stage && not (names_server stage)) ≡ true
 
 abbrev pub IsServerReceive : Stage → Type 0
 IsServerReceive stage = (into : ℕ) × (room : ℕ) × (stage ≡ ServerReceive into room)

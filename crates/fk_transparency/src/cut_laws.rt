@@ -1,6 +1,6 @@
 //! The law of the cut, each kind of move the contract of a function that does nothing: what a move of the world does to a
 //! subtree is what the subtree, seen alone, does by the move as which it is seen.
-ghost use Rattle.fk_transparency.specs.CutLaws.{AcceptKeepsCut, CallKeepsCut, GiveKeepsCut, InstructionKeepsCut, IsClientOver, IsClientSend, IsDestroy, IsDisconnect, IsForPorters, IsForUsers, IsPageTake, IsPlainStage, IsRename, IsServerEnd, IsServerOver, IsServerSend, IsWait, OverKeepsCut, StageInsideKeepsCut, StageKeepsCut, StageOutsideKeepsCut};
+ghost use Rattle.fk_transparency.specs.CutLaws.{AcceptKeepsCut, CallKeepsCut, GiveKeepsCut, InstructionKeepsCut, IsClientOver, IsClientSend, IsDestroy, IsDisconnect, IsForPorters, IsForUsers, IsPageTake, IsPlainStage, IsRename, IsServerEnd, IsServerNamed, IsServerOver, IsServerReceive, IsServerSend, IsServerless, IsWait, OverKeepsCut, StageInsideKeepsCut, StageKeepsCut, StageOutsideKeepsCut};
 
 /// A thread that makes an instruction, also one that stores through a mapping: inside, the subtree does so by itself;
 /// outside, it sees nothing of it, or no law speaks of it.
@@ -112,9 +112,27 @@ pub fn a_wait_outside_keeps_the_cut()
     ensures { StageOutsideKeepsCut IsWait }
 {}
 
+/// A server that receives: inside, its stage is refused, or raises a fault, or waits in the subtree as in the world; outside, the
+/// subtree sees nothing of it.
+pub fn a_receive_of_a_server_keeps_the_cut()
+    ensures { StageKeepsCut IsServerReceive }
+{}
+
 /// A porter at a stage of which nothing is seen from outside: the subtree sees nothing of it, or no law speaks of it.
 pub fn a_plain_call_of_a_porter_keeps_the_cut()
     ensures { CallKeepsCut IsPlainStage }
+{}
+
+/// A porter that counts pointers, makes a talk or a fault that waits, sets a holder or makes a space: the subtree sees nothing of
+/// it, or no law speaks of it.
+pub fn an_own_call_of_a_porter_keeps_the_cut()
+    ensures { CallKeepsCut IsServerless }
+{}
+
+/// A porter that makes a talk or a fault again with its server: the subtree sees nothing of it, where nobody inside comes to serve
+/// the outside, or no law speaks of it.
+pub fn a_talk_made_by_a_porter_keeps_the_cut()
+    ensures { CallKeepsCut IsServerNamed }
 {}
 
 /// A porter that destroys an object: the subtree sees nothing of it and stays plain, or no law speaks of it.

@@ -1,6 +1,6 @@
 //! The law of rebinding, each kind of move the contract of a function that does nothing: a subtree that is seen alone does,
 //! with other outward ports, what it did, also where two of them get one name.
-ghost use Rattle.fk_transparency.specs.CutLaws.{IsClientOver, IsClientSend, IsDestroy, IsDisconnect, IsPageTake, IsPlainStage, IsRename, IsServerEnd, IsServerOver, IsServerSend, IsWait};
+ghost use Rattle.fk_transparency.specs.CutLaws.{IsClientOver, IsClientSend, IsDestroy, IsDisconnect, IsForPorters, IsPageTake, IsPlainStage, IsRename, IsServerEnd, IsServerOver, IsServerReceive, IsServerSend, IsWait};
 ghost use Rattle.fk_transparency.specs.RebindLaws.{InstructionRebinds, StageRebinds, TouchRebinds};
 
 /// A thread of the subtree that makes an instruction does so with other outward ports, and the outside hears of a fault at these.
@@ -14,6 +14,11 @@ pub fn a_plain_stage_rebinds()
     ensures { StageRebinds IsPlainStage }
 {}
 
+/// A thread of the subtree that is denied a call is denied it with other outward ports.
+pub fn a_denied_stage_rebinds()
+    ensures { StageRebinds IsForPorters }
+{}
+
 /// A thread of the subtree that takes a page does so with other outward ports, and the outside hears the same at these.
 pub fn a_taken_page_rebinds()
     ensures { StageRebinds IsPageTake }
@@ -23,6 +28,11 @@ pub fn a_taken_page_rebinds()
 /// at these.
 pub fn a_new_name_rebinds()
     ensures { StageRebinds IsRename }
+{}
+
+/// A server of the subtree that receives does the same with other outward ports, and the outside hears the same at these.
+pub fn a_receive_of_a_server_rebinds()
+    ensures { StageRebinds IsServerReceive }
 {}
 
 /// A server of the subtree that sends words to its client does so with other outward ports, and the outside hears the same at

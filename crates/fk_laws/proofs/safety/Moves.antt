@@ -10,14 +10,13 @@ use Rattle.fk_model.specs.Places.{Path}
 use Rattle.fk_model.specs.Objects.{Mode, Thread, Body, thread_of, and_then}
 use Rattle.fk_model.specs.Objects.Mode.{Running, Calling}
 use Rattle.fk_model.specs.Objects.Body.{Thread_of}
-use Rattle.fk_model.specs.World.{World, Change}
-use Rattle.fk_model.specs.Outcomes.{Said, Outcome, Caller, path_of}
+use Rattle.fk_model.specs.World.{World}
+use Rattle.fk_model.specs.Outcomes.{Outcome, Caller, path_of}
 use Rattle.fk_model.specs.Outcomes.Outcome.{Refused, Waits, Goes}
 use Rattle.fk_model.specs.LinkRows.{user_at}
 use Rattle.fk_model.specs.Holds.{is_free, is_unheld, is_porter}
 use Rattle.fk_model.specs.Moves.{stage_row, is_for_porters, is_denied, allowed_row, chooses, with_pick, closed, call_row, goes_on, user_move, porter_at, porter_move, outcome}
 use Rattle.fk_model.specs.Valid.{IsConsistent, is_fit_stage, is_fit, IsRooted}
-use Rattle.fk_laws.proofs.safety.Safe.{AreSafe}
 use Rattle.fk_laws.proofs.safety.Outcomes.{SafeOutcome, refused, waits, goes, safe-when}
 use Rattle.fk_laws.proofs.safety.Reads.{Facts, IsCaller, kind-there, body-thread_of}
 use Rattle.fk_laws.proofs.safety.Rows.{run_row-safe, mutex_lock-safe, mutex_trylock-safe, mutex_unlock-safe, cond_wait-safe, cond_asleep-safe, cond_signal-safe, cond_broadcast-safe, send-safe, receive-safe, over-safe, thread_stop-safe, thread_go-safe, page_give-safe, page_take-safe, page_read-safe, page_next-safe}

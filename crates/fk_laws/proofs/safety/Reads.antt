@@ -8,8 +8,8 @@ use Rattle.fk_model.specs.declared.names.Kind.TheVariants as kinds
 use Rattle.fk_model.specs.declared.statuses.status.TheConstants.{BADHANDLE, WRONGKIND}
 use Rattle.fk_model.specs.Places.{Path, Ptr}
 use Rattle.fk_model.specs.Places.Ptr.{At, Out}
-use Rattle.fk_model.specs.Objects.{Thread, Body, kind_of, same_kind, number_of_kind, thread_of, port_of, space_of, reference_of, and_then}
-use Rattle.fk_model.specs.Objects.Body.{Port, Space, Thread_of, Reference}
+use Rattle.fk_model.specs.Objects.{Thread, Body, kind_of, same_kind, number_of_kind, thread_of, port_of, reference_of, and_then}
+use Rattle.fk_model.specs.Objects.Body.{Port, Thread_of, Reference}
 use Rattle.fk_model.specs.World.{World}
 use Rattle.fk_model.specs.Searches.{has_residents, leaf, is_serving, client_at}
 use Rattle.fk_model.specs.Outcomes.{Caller, path_of, last_slot, or_refuse}

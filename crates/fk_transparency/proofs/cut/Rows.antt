@@ -57,7 +57,7 @@ unfolding mutex_lock
 quiet-mutex_lock root w c m =
     quiet->>= root _ _ (λ locked. quiet-when root (not locked) _ (quiet-done root c (sets_locked (m ∷ c.space) true ∷ []) [] (tt, tt)))
 
-ruleset quiet_row = (quiet->>=, quiet-when, quiet-done, quiet-refused, quiet-waits)
+pub ruleset quiet_row = (quiet->>=, quiet-when, quiet-done, quiet-refused, quiet-waits)
 
 quiet-point : (root : Path) (w : World) (c : Caller) (s x s2 x2 : ℕ) → Quiet root (point w c s x s2 x2)
 unfolding point
