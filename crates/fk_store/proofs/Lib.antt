@@ -31,3 +31,6 @@ pub mod Renames
 pub mod Residents
 pub mod PartLaws
 pub mod Players
+pub mod Lists
+pub mod Listed
+pub mod PointerLaws

@@ -32,17 +32,26 @@ use Rattle.fk_store.proofs.Born.{above, rooted, short}
 use Rattle.fk_store.proofs.Enumerated.{named-object}
 use Rattle.fk_store.proofs.PartLaws.{nobody, plays-by}
 
+module _ (m : Contents) (kept : IsWellFormed m) where
+  there : (who : Who) (b : bodies_of.Body) → get m.bodies who ≡ Some b → (world m).body (place (path m) who) ≡ Some (body_by (path m) b)
+  there who b e = body-place m kept who ∙ ap (option_map (body_by (path m))) e
+
+  -- each object is among those of the world
+  pub among : m.next ≤ depth → (who : Who) (b : bodies_of.Body) → get m.bodies who ≡ Some b → IsIn (place (path m) who) (objects (world m))
+  among few who b e =
+      let housed = kept.housed who (rw e refl) in
+      let low = live-born m kept who.space housed in
+      let long = short m kept who.space who.space (omega arith) housed in
+      walked (world m) (above m kept) (rooted m kept) who.slot (path m who.space) (rw (there who b e) refl) (omega arith)
+
 module _ (m : Contents) (kept : IsWellFormed m) (part : Part) where
   -- what stands at a path plays the part
   abbrev at_path : Path → Bool
   at_path x = played_at m part x
 
-  there : (who : Who) (b : bodies_of.Body) → get m.bodies who ≡ Some b → (world m).body (place (path m) who) ≡ Some (body_by (path m) b)
-  there who b e = body-place m kept who ∙ ap (option_map (body_by (path m))) e
-
   plays-at : (who : Who) (b : bodies_of.Body) → get m.bodies who ≡ Some b → at_path (place (path m) who) ≡ plays part b
   plays-at who b e =
-      ap (λ o. played (path m) part (and_then thread_of o)) (there who b e)
+      ap (λ o. played (path m) part (and_then thread_of o)) (there m kept who b e)
       ∙ sym (plays-by (path m) part b (OnNamed-map (λ q. is_there m q ≡ true) (HasOwnPath (path m)) (λ q h. place-apart m kept q (kept.housed q h)) b (kept.leads who b e)))
 
   -- an object of the world that plays it has a name
@@ -66,13 +75,6 @@ module _ (m : Contents) (kept : IsWellFormed m) (part : Part) where
           found who.0 who.1 (get m.bodies who.0) refl
 
   module _ (few : m.next ≤ depth) where
-    among : (who : Who) (b : bodies_of.Body) → get m.bodies who ≡ Some b → IsIn (place (path m) who) (objects (world m))
-    among who b e =
-        let housed = kept.housed who (rw e refl) in
-        let low = live-born m kept who.space housed in
-        let long = short m kept who.space who.space (omega arith) housed in
-        walked (world m) (above m kept) (rooted m kept) who.slot (path m who.space) (rw (there who b e) refl) (omega arith)
-
     module _ (found : Option Who) (some : IfSome found (λ who. (b : bodies_of.Body) × (get m.bodies who ≡ Some b) × (plays part b ≡ true))) (none : found ≡ None → (who : Who) (b : bodies_of.Body) → get m.bodies who ≡ Some b → plays part b ≡ false) where
       pub nobody-plays : found ≡ None → (x : Path) → at_path x ≡ false
       nobody-plays e x = by (at_path x) refl
@@ -108,7 +110,7 @@ module _ (m : Contents) (kept : IsWellFormed m) (part : Part) where
           by None e h (Some x) f = let yes = (find_some at_path x (objects (world m)) f).1 in let no = nobody-plays e x in absurd (cc)
           by (Some who) e h (Some x) f = refl
           by (Some who) e h None f =
-              let no = find_none at_path (place (path m) who) (objects (world m)) f (among who h.0 h.1) in
+              let no = find_none at_path (place (path m) who) (objects (world m)) f (among m kept few who h.0 h.1) in
               let yes = plays-at who h.0 h.1 ∙ h.2 in
               absurd (cc)
 

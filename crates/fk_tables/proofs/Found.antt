@@ -1,5 +1,5 @@
 -- Found: what a search among the entries of a map tells.
-use Rattle.std.proofs.Common.{◌≡◌, Bool, true, false, List, [], ◌∷◌, Option, Some, None, option_map, find, IfSome, refl, sym, ap, subst, ◌∙◌, T}
+use Rattle.std.proofs.Common.{cond, inl, inr, ◌≡◌, Bool, true, false, List, [], ◌∷◌, Option, Some, None, option_map, find, IfSome, refl, sym, ap, subst, ◌∙◌, T}
 use Rattle.std.specs.declared.cmp.Ordering.{Ordering}
 use Rattle.std.specs.declared.cmp.Ordering.TheVariants.{Less, Equal, Greater}
 use Rattle.std.specs.Ordering.{is_lt, eq_by_cmp}
@@ -11,7 +11,8 @@ use Rattle.std.specs.FinMap.Entries.{below_all, find_tied}
 use Rattle.fk_model.specs.declared.names.Who.{Who}
 use Rattle.fk_model.specs.declared.body.Body.{Body}
 use Rattle.fk_tables.specs.Names.{who_cmp}
-use Rattle.fk_tables.proofs.TableLaws.{first, second}
+use Rattle.fk_tables.proofs.TableLaws.{first, second, less, less_back}
+use Rattle.fk_model.proofs.walks.Members.{IsIn}
 use Rattle.fk_tables.proofs.NameLaws.{who_total}
 
 module _ {K X : Type 0} {R : K → K → Ordering} (o : IsTotalOrder R) where
@@ -82,3 +83,29 @@ module _ (bodies : FinMap who_cmp Body) (p : Body → Bool) where
   pub each-passes : (o : Option Who) → o ≡ found_by → IfSome o (λ who. (b : Body) × (get bodies who ≡ Some b) × (p b ≡ true))
   each-passes None is = tt
   each-passes (Some who) is = found-passes who (sym is)
+
+-- ---- the entries of a map
+
+module _ {K X : Type 0} {R : K → K → Ordering} (o : IsTotalOrder R) where
+  below_member : (x : K) (es : List (K × X)) (e : K × X) → T (below_all R x es) → IsIn e es → R x e.0 ≡ Less
+  below_member x [] e h g = absurd g
+  below_member x (d ∷ es) e h (inl same) = ap (λ (c : K × X). R x c.0) (sym same) ∙ less (R x d.0) (first _ _ h)
+  below_member x (d ∷ es) e h (inr g) = below_member x es e (second _ _ h) g
+
+  -- each is found by its key
+  pub member-found : (es : List (K × X)) (e : K × X) → T (is_sorted R es) → IsIn e es → finmap.find R e.0 es ≡ Some e.1
+  member-found [] e s h = absurd h
+  member-found (d ∷ es) e s (inl same) = subst (λ c. finmap.find R c.0 (d ∷ es) ≡ Some c.1) same (rw (tied_itself o d.0) refl)
+  member-found (d ∷ es) e s (inr h) = rw (less_back o d.0 e.0 (below_member d.0 es e (first _ _ s) h)) (member-found es e (second _ _ s) h)
+
+  -- and what is found by a key is one
+  pub found-member : (es : List (K × X)) (k : K) (v : X) → finmap.find R k es ≡ Some v → (e : K × X) × IsIn e es × (eq_by_cmp R k e.0 ≡ true) × (e.1 ≡ v)
+  found-member [] k v h = absurd (cc)
+  found-member (d ∷ es) k v h = by (eq_by_cmp R k d.0) refl h (found-member es k v)
+    where
+      by : (t : Bool) → eq_by_cmp R k d.0 ≡ t → cond t (Some d.1) (finmap.find R k es) ≡ Some v → (finmap.find R k es ≡ Some v → (e : K × X) × IsIn e es × (eq_by_cmp R k e.0 ≡ true) × (e.1 ≡ v)) → (e : K × X) × IsIn e (d ∷ es) × (eq_by_cmp R k e.0 ≡ true) × (e.1 ≡ v)
+      by true t is rest = (d, inl refl, t, cc)
+      by false t is rest = let found = rest is in (found.0, inr found.1, found.2, found.3)
+
+  pub first_apart : (d : K × X) (es : List (K × X)) (e : K × X) → T (is_sorted R (d ∷ es)) → IsIn e es → R d.0 e.0 ≡ Less
+  first_apart d es e s h = below_member d.0 es e (first _ _ s) h

@@ -4,3 +4,4 @@ pub mod Sorted
 pub mod Births
 pub mod Sweeps
 pub mod Parts
+pub mod Pointers

@@ -7,10 +7,14 @@ ghost use Rattle.fk_model.specs.declared.body.Body.{Body};
 ghost use Rattle.fk_model.specs.Objects.{and_then};
 ghost use Rattle.fk_tables.specs.Names.{who_cmp, same_who};
 ghost use Rattle.fk_tables.specs.Parts.{plays};
+ghost use Rattle.fk_tables.specs.Pointers.{body_hits};
+ghost use Rattle.std.specs.FinMap.{entries};
+ghost use Rattle.std.specs.List.{sum_by};
 ghost use Rattle.fk_tables.specs.Sweeps.{body_after, swept};
 ghost use Rattle.fk_tables.specs.Orders.{IsFirstAfter};
 ghost use Rattle.fk_tables.specs.Births.{stored_birth, is_number, home_in};
 
+use crate::hits::hits;
 use crate::parts::Part;
 use crate::sweeps::Sweep;
 use crate::tables::{next_key, put_value, set_value, take_away, value_of};
@@ -111,6 +115,13 @@ impl Bodies {
         first_among(&self.entries, part)
     }
 
+    /// How many pointers of all bodies lead to an object.
+    pub fn pointers_at(&self, who: Who) -> u64
+        ensures { result ≡ sum_by (λ e. body_hits who e.1) (entries self.now) }
+    {
+        count_hits(&self.entries, who)
+    }
+
     /// Sweeps all bodies.
     pub fn sweep(&mut self, sweep: Sweep)
         ensures { (q : Who) → map.get self.new q ≡ option_map (body_after sweep q.space) (map.get self.old q) }
@@ -151,6 +162,16 @@ fn home_among(entries: &[(Who, Body)], space: u32) -> Option<Who>
         }
     }
     None
+}
+
+fn count_hits(entries: &[(Who, Body)], who: Who) -> u64
+    ensures { result ≡ sum_by (λ e. body_hits who e.1) entries.now }
+{
+    let mut count = 0;
+    for entry in entries {
+        count += hits(who, &entry.1);
+    }
+    count
 }
 
 fn first_among(entries: &[(Who, Body)], part: Part) -> Option<Who>

@@ -7,6 +7,7 @@
 #![tactic(auto)]
 
 mod bodies;
+mod hits;
 mod pages;
 mod parts;
 mod sweeps;

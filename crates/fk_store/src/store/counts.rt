@@ -1,0 +1,18 @@
+//! How many pointers lead to an object.
+ghost use Rattle.std.specs.Prelude.{◌≡◌};
+ghost use Rattle.std.specs.List.{sum_by};
+ghost use Rattle.fk_model.specs.Searches.{objects, pointers_to};
+ghost use Rattle.fk_store.specs.World.{world, place_of};
+
+use crate::Store;
+use fk_model::Who;
+
+impl Store {
+    /// How many pointers of all objects lead to an object.
+    pub fn pointers_at(&self, who: Who) -> u64
+        ensures { result ≡ sum_by (λ x. pointers_to (place_of self.now who) ((world self.now).body x)) (objects (world self.now)) }
+    {
+        let _below_2_32 = self.next;
+        self.bodies.pointers_at(who)
+    }
+}
