@@ -9,3 +9,4 @@ pub mod Objects
 pub mod Renames
 pub mod Deaths
 pub mod Calls
+pub mod Gifts

@@ -4,3 +4,5 @@ pub mod Views
 pub mod Inside
 pub mod Outside
 pub mod Porters
+pub mod Signals
+pub mod FaultEnds

@@ -129,6 +129,15 @@ IsServerReceive stage = (into : ℕ) × (room : ℕ) × (stage ≡ ServerReceive
 abbrev pub IsPageTake : Stage → Type 0
 IsPageTake stage = (s : ℕ) × (page : ℕ) × (address : ℕ) × (stage ≡ PageTake s page address)
 
+abbrev pub IsPageGive : Stage → Type 0
+IsPageGive stage = (s : ℕ) × (page : ℕ) × (address : ℕ) × (stage ≡ PageGive s page address)
+
+abbrev pub IsSignal : Stage → Type 0
+IsSignal stage = (cond : ℕ) × (stage ≡ CondSignal cond)
+
+abbrev pub IsFaultDone : Stage → Type 0
+IsFaultDone stage = stage ≡ FaultDone
+
 abbrev pub IsRename : Stage → Type 0
 IsRename stage = (s : ℕ) × (x : ℕ) × (y : ℕ) × (stage ≡ Rename s x y)
 

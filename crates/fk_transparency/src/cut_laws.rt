@@ -1,6 +1,6 @@
 //! The law of the cut, each kind of move the contract of a function that does nothing: what a move of the world does to a
 //! subtree is what the subtree, seen alone, does by the move as which it is seen.
-ghost use Rattle.fk_transparency.specs.CutLaws.{AcceptKeepsCut, CallKeepsCut, GiveKeepsCut, InstructionKeepsCut, IsClientOver, IsClientSend, IsDestroy, IsDisconnect, IsForPorters, IsForUsers, IsPageTake, IsPlainStage, IsRename, IsServerEnd, IsServerNamed, IsServerOver, IsServerReceive, IsServerSend, IsServerless, IsWait, OverKeepsCut, StageInsideKeepsCut, StageKeepsCut, StageOutsideKeepsCut};
+ghost use Rattle.fk_transparency.specs.CutLaws.{AcceptKeepsCut, CallKeepsCut, GiveKeepsCut, InstructionKeepsCut, IsClientOver, IsClientSend, IsDestroy, IsDisconnect, IsFaultDone, IsForPorters, IsForUsers, IsPageGive, IsPageTake, IsPlainStage, IsRename, IsServerEnd, IsServerNamed, IsServerOver, IsServerReceive, IsServerSend, IsServerless, IsSignal, IsWait, OverKeepsCut, StageInsideKeepsCut, StageKeepsCut, StageOutsideKeepsCut};
 
 /// A thread that makes an instruction, also one that stores through a mapping: inside, the subtree does so by itself;
 /// outside, it sees nothing of it, or no law speaks of it.
@@ -18,6 +18,22 @@ pub fn a_plain_stage_keeps_the_cut()
 /// sees nothing of it, or no law speaks of it.
 pub fn a_taken_page_keeps_the_cut()
     ensures { StageKeepsCut IsPageTake }
+{}
+
+/// A thread inside that gives a space a page does so in the subtree by itself.
+pub fn a_given_page_inside_keeps_the_cut()
+    ensures { StageInsideKeepsCut IsPageGive }
+{}
+
+/// A thread that signals a condition, whomever it wakes: inside, the subtree does so by itself; outside, it sees nothing of it, or
+/// no law speaks of it.
+pub fn a_signal_keeps_the_cut()
+    ensures { StageKeepsCut IsSignal }
+{}
+
+/// A thread inside that ends the fault that it has taken does so in the subtree by itself.
+pub fn an_end_of_a_fault_inside_keeps_the_cut()
+    ensures { StageInsideKeepsCut IsFaultDone }
 {}
 
 /// A thread inside that gives an object another slot does so in the subtree by itself.

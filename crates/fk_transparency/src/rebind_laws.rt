@@ -1,6 +1,6 @@
 //! The law of rebinding, each kind of move the contract of a function that does nothing: a subtree that is seen alone does,
 //! with other outward ports, what it did, also where two of them get one name.
-ghost use Rattle.fk_transparency.specs.CutLaws.{IsClientOver, IsClientSend, IsDestroy, IsDisconnect, IsForPorters, IsPageTake, IsPlainStage, IsRename, IsServerEnd, IsServerOver, IsServerReceive, IsServerSend, IsWait};
+ghost use Rattle.fk_transparency.specs.CutLaws.{IsClientOver, IsClientSend, IsDestroy, IsDisconnect, IsFaultDone, IsForPorters, IsPageGive, IsPageTake, IsPlainStage, IsRename, IsServerEnd, IsServerOver, IsServerReceive, IsServerSend, IsSignal, IsWait};
 ghost use Rattle.fk_transparency.specs.RebindLaws.{InstructionRebinds, StageRebinds, TouchRebinds};
 
 /// A thread of the subtree that makes an instruction does so with other outward ports, and the outside hears of a fault at these.
@@ -22,6 +22,21 @@ pub fn a_denied_stage_rebinds()
 /// A thread of the subtree that takes a page does so with other outward ports, and the outside hears the same at these.
 pub fn a_taken_page_rebinds()
     ensures { StageRebinds IsPageTake }
+{}
+
+/// A thread of the subtree that gives a space a page does so with other outward ports, and the outside hears the same at these.
+pub fn a_given_page_rebinds()
+    ensures { StageRebinds IsPageGive }
+{}
+
+/// A thread of the subtree that signals a condition wakes the same thread with other outward ports.
+pub fn a_signal_rebinds()
+    ensures { StageRebinds IsSignal }
+{}
+
+/// A thread of the subtree that ends the fault that it has taken does so with other outward ports.
+pub fn an_end_of_a_fault_rebinds()
+    ensures { StageRebinds IsFaultDone }
 {}
 
 /// A thread of the subtree that gives an object another slot does so with other outward ports, and the outside hears the same

@@ -86,7 +86,7 @@ module _ {root : Path} {see : Ptr → Ptr} {small big : World} (like : IsLikenes
 
   -- ---- sleepers
 
-  woken-like : (k : ℕ) (q : Path) (now : World) (o : Option ℕ) → LikeChanges root see now (woken (k ∷ q) o) (woken (k ∷ (q ++ root)) o)
+  pub woken-like : (k : ℕ) (q : Path) (now : World) (o : Option ℕ) → LikeChanges root see now (woken (k ∷ q) o) (woken (k ∷ (q ++ root)) o)
   woken-like k q now None = Empty
   woken-like k q now (Some m) = Both (Alters k q _ _ refl tt) Empty
 

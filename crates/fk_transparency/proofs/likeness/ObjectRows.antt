@@ -2,7 +2,7 @@
 use Rattle.std.proofs.Common.{◌≡◌, ℕ, ◌%◌, eqb, leb, Bool, true, false, cond, not, ◌&&◌, ◌||◌, List, [], ◌∷◌, ◌++◌, Option, Some, None, is_some, refl, sym, ap}
 use Rattle.std.specs.List.{list_any}
 use Rattle.std.specs.Prelude.{replicate}
-use Rattle.fk_model.specs.declared.limits.TheConstants.{PAGE_WORDS, LAST_USER_SLOT}
+use Rattle.fk_model.specs.declared.limits.TheConstants.{PAGE_WORDS, LAST_USER_SLOT, ZEROS}
 use Rattle.fk_model.specs.declared.statuses.status.TheConstants as status
 use Rattle.fk_model.specs.Places.{Path, same_path, is_within, Ptr}
 use Rattle.fk_model.specs.Places.Ptr.{Null, At}
@@ -21,7 +21,7 @@ use Rattle.fk_model.specs.Talks.{thread_led_to}
 use Rattle.fk_model.specs.TransferRows.{overwritten}
 use Rattle.fk_model.specs.Records.{record_of}
 use Rattle.fk_model.specs.StateRows.{is_bad_record_address, shows, get_state}
-use Rattle.fk_model.specs.SpaceRows.{has_porter, is_held_by_other, space_hold, is_page, is_bad_target, copies, copies_home, page_take}
+use Rattle.fk_model.specs.SpaceRows.{has_porter, is_held_by_other, space_hold, is_page, is_bad_target, copies, copies_home, page_take, gives_page, is_bad_source, page_give}
 use Rattle.fk_model.specs.LinkRows.{user_at}
 use Rattle.fk_model.specs.ObjectRows.{new_object, create, pointer_to, point, rename}
 use Rattle.fk_model.specs.Cut.{seen_by}
@@ -197,6 +197,36 @@ module _ {root : Path} {see : Ptr → Ptr} {small big : World} (like : IsLikenes
       (λ unheld. refuse-like like status.BADADDRESS
       (not (is_page page) || is_bad_target (user_at (k ∷ q)) address) (not (is_page page) || is_bad_target (user_at (k ∷ q)) address) _ _ refl
       (λ good. own_page-like like (user_at (k ∷ q)) address true _ _ (λ t own. copies_home-like (user_at (k ∷ q)) space page true t own))))
+
+  -- ---- a page that is given
+
+  gives_page-like : (c : Caller) (space : Path) (page : ℕ) (words : List ℕ) →
+      Alike (gives_page small c space page words) (gives_page big (under root c) (space ++ root) page words)
+  gives_page-like c space page words =
+      refuse-like like status.OCCUPIED (is_some (small.page space page)) (is_some (big.page (space ++ root) page)) _ _
+      (ap (λ (o : Option (List ℕ)). is_some o) (like.pages space page))
+      (λ empty. done-like like c _ _ [] (Both (PutsPage space page words) Empty))
+
+  pub page_give-like : is_frozen big root ≡ false → (k : ℕ) (q : Path) (s page address : ℕ) →
+      Alike (page_give small (user_at (k ∷ q)) s page address) (page_give big (user_at (k ∷ (q ++ root))) s page address)
+  unfolding page_give
+  page_give-like free k q s page address =
+      bind_path like _ _ _ _ (place-like like (user_at (k ∷ q)) s)
+      (λ space. refuse-like like
+      status.HELD (is_frozen_for small (k ∷ q) space) (is_frozen_for big (k ∷ (q ++ root)) (space ++ root)) _ _ (is_frozen_for-like like free (k ∷ q) space)
+      (λ unheld. refuse-like like status.BADADDRESS
+      (not (is_page page) || is_bad_source (user_at (k ∷ q)) address) (not (is_page page) || is_bad_source (user_at (k ∷ q)) address) _ _ refl
+      (λ good. by space (eqb address ZEROS))))
+    where
+      by : (space : Path) (b : Bool) → Alike
+          (cond b (gives_page small (user_at (k ∷ q)) space page (replicate PAGE_WORDS 0))
+          (own_page small (user_at (k ∷ q)) address false (λ s own. gives_page small (user_at (k ∷ q)) space page (words_at small s own))))
+          (cond b (gives_page big (user_at (k ∷ (q ++ root))) (space ++ root) page (replicate PAGE_WORDS 0))
+          (own_page big (user_at (k ∷ (q ++ root))) address false
+          (λ s own. gives_page big (user_at (k ∷ (q ++ root))) (space ++ root) page (words_at big s own))))
+      by space true = gives_page-like (user_at (k ∷ q)) space page (replicate PAGE_WORDS 0)
+      by space false = own_page-like like (user_at (k ∷ q)) address false _ _
+          (λ s own. rw (words_at-like like s own) (gives_page-like (user_at (k ∷ q)) space page (words_at big (s ++ root) own)))
 
   -- ---- a rename
 

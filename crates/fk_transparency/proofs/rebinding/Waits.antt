@@ -40,7 +40,7 @@ module _ {root : Path} {see : Ptr → Ptr} {small big : World} (like : IsLikenes
       by None (Some fault) is h = absurd h
       by (Some seen) None is h = absurd h
 
-faulter_same : {see : Ptr → Ptr} {small big : World} (like : IsLikeness [] see small big) →
+pub faulter_same : {see : Ptr → Ptr} {small big : World} (like : IsLikeness [] see small big) →
     ServesNobodyOutside [] see big → (me : Path) → AlikeOptions (IsBeneath []) (faulter_of small me) (faulter_of big (me ++ []))
 unfolding faulter_of
 faulter_same {see} {small} {big} like apart me =
@@ -58,7 +58,7 @@ serving_same {see} {small} {big} like apart me =
 
 -- ---- the law
 
-same_pick : (p : Option Path) → AlikeOptions (IsBeneath []) p p
+pub same_pick : (p : Option Path) → AlikeOptions (IsBeneath []) p p
 same_pick None = tt
 same_pick (Some z) = sym (append-nil z)
 
