@@ -21,13 +21,13 @@ alone_of objects pages = record { body = body_in (([], Space 0 None) ∷ objects
 
 -- ---- what a move comes to. Where nothing is held the freezing rule bars nothing, so it is ready where its row goes
 
-abbrev pub goes : Outcome → Bool
-goes (Goes changes said) = true
-goes (Refused status) = false
-goes Waits = false
+abbrev pub is_going : Outcome → Bool
+is_going (Goes changes said) = true
+is_going (Refused status) = false
+is_going Waits = false
 
 abbrev pub is_ready : World → Onward → Bool
-is_ready c m = goes (onward_row c m)
+is_ready c m = is_going (onward_row c m)
 
 abbrev pub later : World → Onward → World
 later c m = apply_all (listed (onward_row c m)) c
@@ -36,8 +36,8 @@ abbrev pub heard : World → Onward → List Told
 heard c m = told_by c m (listed (onward_row c m)) (outcome_said (onward_row c m))
 
 -- the thread in slot 0 moves, and a peer outside takes so many words
-abbrev pub moves : ℕ → Onward
-moves taken = Own (0 ∷ []) None taken
+abbrev pub own_move_taking : ℕ → Onward
+own_move_taking taken = Own (0 ∷ []) None taken
 
 -- ---- a client whose talk is at port 9 of the nester
 
@@ -50,8 +50,8 @@ talking_out turn moved g =
     alone_of ((0 ∷ [], with_talk (outward turn moved) (calling 20 g)) ∷ (1 ∷ [], Mutex false) ∷ []) (numbered [] 1000 2 ∷ numbered [] 1000 3 ∷ [])
 
 -- it sends so many words from an address on
-abbrev pub sending : ℕ → ℕ → World
-sending address count = talking_out turns.Client 0 (37 ∷ 0 ∷ address ∷ count ∷ [])
+abbrev pub sending_out : ℕ → ℕ → World
+sending_out address count = talking_out turns.Client 0 (37 ∷ 0 ∷ address ∷ count ∷ [])
 
 -- port 9 keeps the pages from 8 on
 unfoldable pub kept_out : List ℕ → World

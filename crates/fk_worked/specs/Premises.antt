@@ -12,8 +12,8 @@ use Rattle.fk_model.specs.Cut.{seen_by, cut}
 use Rattle.fk_model.specs.Closed.{open_place}
 use Rattle.fk_worked.specs.Worked.{Page, machine, world_of, numbered, running, calling, thread_in_mode, with_talk, with_fault}
 
-abbrev pub porter : Path
-porter = 255 ∷ []
+abbrev pub nesters_porter : Path
+nesters_porter = 255 ∷ []
 
 -- what stands in a slot of the subtree
 abbrev pub within : ℕ → Path
@@ -24,17 +24,17 @@ abbrev pub to_native : Body
 to_native = with_talk (record { port = At (9 ∷ []); peer = Service; turn = turns.Client; moved = 5 }) (calling 20 (37 ∷ 0 ∷ 128 ∷ 70 ∷ []))
 
 -- a talk at port 8 waits to be taken up
-abbrev pub parked : Body
-parked = with_talk (record { port = At (8 ∷ []); peer = Parked; turn = turns.Server; moved = 0 }) (calling 20 (36 ∷ 0 ∷ 0 ∷ 0 ∷ 128 ∷ 4 ∷ []))
+abbrev pub parked_client : Body
+parked_client = with_talk (record { port = At (8 ∷ []); peer = Parked; turn = turns.Server; moved = 0 }) (calling 20 (36 ∷ 0 ∷ 0 ∷ 0 ∷ 128 ∷ 4 ∷ []))
 
 -- a fault that the thread in slot 5 has taken at the port in slot 4
-abbrev pub missing : Body
-missing = with_fault (record { page = 9; write = true; port = At (within 4); taker = Some (Server (At (within 5))) }) (running 3 [])
+abbrev pub faulty_thread : Body
+faulty_thread = with_fault (record { page = 9; write = true; port = At (within 4); taker = Some (Server (At (within 5))) }) (running 3 [])
 
 abbrev pub objects_of : Option Ptr → List (Path × Body)
 objects_of holder =
-    (9 ∷ [], Port None true) ∷ (8 ∷ [], Port None false) ∷ (porter, thread_in_mode (Native (replicate 16 0)) 0)
-    ∷ (1 ∷ [], Space 1 holder) ∷ (within 0, to_native) ∷ (within 2, missing) ∷ (within 3, parked)
+    (9 ∷ [], Port None true) ∷ (8 ∷ [], Port None false) ∷ (nesters_porter, thread_in_mode (Native (replicate 16 0)) 0)
+    ∷ (1 ∷ [], Space 1 holder) ∷ (within 0, to_native) ∷ (within 2, faulty_thread) ∷ (within 3, parked_client)
     ∷ (within 4, Port (Some 10) false) ∷ (within 5, running 1 []) ∷ (within 10, Portset)
     ∷ (within 6, Space 2 (Some (At (within 5)))) ∷ (7 ∷ within 6, Reference (At (within 4)))
     ∷ (within 7, Region (record { first = 2; count = 1; write = true; keeper = At (8 ∷ []) }))

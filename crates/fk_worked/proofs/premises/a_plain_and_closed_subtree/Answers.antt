@@ -3,7 +3,7 @@ use Rattle.std.proofs.Common.{ℕ, List, [], ◌∷◌, Option, Some, None, refl
 use Rattle.fk_model.specs.Places.{Ptr}
 use Rattle.fk_model.specs.Places.Ptr.{At}
 use Rattle.fk_model.specs.Objects.Body.{Space}
-use Rattle.fk_worked.specs.Premises.{premises, porter, objects_of, full_of_all}
+use Rattle.fk_worked.specs.Premises.{premises, nesters_porter, objects_of, full_of_all}
 use Rattle.fk_worked.proofs.FewSlots.{HasFew, open_among, walk, open-few, world-few}
 use Rattle.fk_worked.proofs.Listed.{plain}
 use Rattle.fk_worked.proofs.premises.a_plain_and_closed_subtree.Goals as goal
@@ -22,7 +22,8 @@ returns-clause-plain c = plain (full_of_all None) (([], Space 0 None) ∷ object
 pub returns-clause-plain_held : goal.returns-clause-plain_held
 unfolding premises
 returns-clause-plain_held c =
-    plain (full_of_all (Some (At porter))) (([], Space 0 None) ∷ objects_of (Some (At porter))) (λ x. refl) [] 1 refl 1 (Some (At porter)) refl
+    plain (full_of_all (Some (At nesters_porter)))
+    (([], Space 0 None) ∷ objects_of (Some (At nesters_porter))) (λ x. refl) [] 1 refl 1 (Some (At nesters_porter)) refl
 
 pub returns-clause-closed : goal.returns-clause-closed
 unfolding premises open_among walk
@@ -30,4 +31,4 @@ returns-clause-closed c = open-few few refl _ (has_few None) [] 1 _ refl
 
 pub returns-clause-closed_held : goal.returns-clause-closed_held
 unfolding premises open_among walk
-returns-clause-closed_held c = open-few few refl _ (has_few (Some (At porter))) [] 1 _ refl
+returns-clause-closed_held c = open-few few refl _ (has_few (Some (At nesters_porter))) [] 1 _ refl

@@ -3,7 +3,7 @@ use Rattle.fk_model.specs.declared.limits.TheConstants.{MOST_STOPS}
 use Rattle.fk_model.specs.Places.{Ptr}
 use Rattle.fk_model.specs.Places.Ptr.{At}
 use Rattle.fk_model.specs.Objects.Body.{Space}
-use Rattle.fk_worked.specs.Premises.{premises, porter, objects_of, full_of_all}
+use Rattle.fk_worked.specs.Premises.{premises, nesters_porter, objects_of, full_of_all}
 use Rattle.fk_worked.proofs.Listed.{All, IsShapedAt, savable}
 use Rattle.fk_worked.proofs.premises.a_savable_world.Goals as goal
 
@@ -18,4 +18,5 @@ returns-clause-free c = savable (full_of_all None) (([], Space 0 None) ∷ objec
 pub returns-clause-held : goal.returns-clause-held
 unfolding premises
 returns-clause-held c =
-    savable (full_of_all (Some (At porter))) (([], Space 0 None) ∷ objects_of (Some (At porter))) (λ x. refl) refl (shapes (Some (At porter)))
+    savable (full_of_all (Some (At nesters_porter)))
+    (([], Space 0 None) ∷ objects_of (Some (At nesters_porter))) (λ x. refl) refl (shapes (Some (At nesters_porter)))

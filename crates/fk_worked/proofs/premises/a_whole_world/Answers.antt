@@ -3,7 +3,7 @@ use Rattle.fk_model.specs.Places.{Path, same_path}
 use Rattle.fk_model.specs.Places.Ptr.{At}
 use Rattle.fk_model.specs.Valid.{kind_there}
 use Rattle.fk_model.specs.Objects.Body.{Space}
-use Rattle.fk_worked.specs.Premises.{premises, porter, within, objects_of, pages_of, full_of_all}
+use Rattle.fk_worked.specs.Premises.{premises, nesters_porter, within, objects_of, pages_of, full_of_all}
 use Rattle.fk_worked.proofs.Listed.{whole}
 use Rattle.fk_worked.proofs.premises.a_whole_world.Goals as goal
 
@@ -18,5 +18,5 @@ returns-clause-free c = whole (full_of_all None)
 
 pub returns-clause-held : goal.returns-clause-held
 unfolding premises home kind_there
-returns-clause-held c = whole (full_of_all (Some (At porter)))
-    (([], Space 0 None) ∷ objects_of (Some (At porter))) pages_of (λ x. refl) (λ s g. refl) home (λ s. within 2) (within 0) refl refl refl (omega arith)
+returns-clause-held c = whole (full_of_all (Some (At nesters_porter)))
+    (([], Space 0 None) ∷ objects_of (Some (At nesters_porter))) pages_of (λ x. refl) (λ s g. refl) home (λ s. within 2) (within 0) refl refl refl (omega arith)
