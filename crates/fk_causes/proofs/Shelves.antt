@@ -15,24 +15,30 @@ use Rattle.std.proofs.lemmas.Map.Text.{btree_map_updates_text}
 use Rattle.fk_causes.specs.Shelf.{files_of}
 
 find_map : (name : List ℕ) (es : List (String Global × Vec ℕ Global))
-    → find (slice_cmp nat_cmp) name (map (λ e. (string_bytes e.0, e.1.items)) es) ≡ option_map (λ bytes. bytes.items) (lookup (is_at (λ k. slice_cmp nat_cmp name (string_bytes k))) es)
+    → find (slice_cmp nat_cmp) name
+    (map (λ e. (string_bytes e.0, e.1.items)) es) ≡ option_map (λ bytes. bytes.items) (lookup (is_at (λ k. slice_cmp nat_cmp name (string_bytes k))) es)
 find_map name [] = refl
-find_map name (e ∷ es) = ap (cond (is_eq (slice_cmp nat_cmp name (string_bytes e.0))) (Some e.1.items)) (find_map name es) ∙ by (is_eq (slice_cmp nat_cmp name (string_bytes e.0))) (lookup (is_at (λ k. slice_cmp nat_cmp name (string_bytes k))) es)
+find_map name (e ∷ es) = ap (cond (is_eq (slice_cmp nat_cmp name (string_bytes e.0))) (Some e.1.items)) (find_map name es)
+    ∙ by (is_eq (slice_cmp nat_cmp name (string_bytes e.0))) (lookup (is_at (λ k. slice_cmp nat_cmp name (string_bytes k))) es)
   where
-    by : (t : Bool) (o : Option (Vec ℕ Global)) → cond t (Some e.1.items) (option_map (λ bytes. bytes.items) o) ≡ option_map (λ bytes. bytes.items) (cond t (Some e.1) o)
+    by : (t : Bool) (o : Option (Vec ℕ Global)) →
+        cond t (Some e.1.items) (option_map (λ bytes. bytes.items) o) ≡ option_map (λ bytes. bytes.items) (cond t (Some e.1) o)
     by true o = refl
     by false o = refl
 
 -- the bytes under a name are those of the tree
-pub get_files_of : (m : BTreeMap (String Global) (Vec ℕ Global)) (name : List ℕ) → get (files_of m.entries) name ≡ option_map (λ bytes. bytes.items) (get_by_text m name)
+pub get_files_of : (m : BTreeMap (String Global) (Vec ℕ Global)) (name : List ℕ) →
+    get (files_of m.entries) name ≡ option_map (λ bytes. bytes.items) (get_by_text m name)
 get_files_of m name = get-from_entries nat_list_cmp_total (map (λ e. (string_bytes e.0, e.1.items)) m.entries) name ∙ find_map name m.entries
 
 -- after an insertion the name has the new bytes
-pub get_files_of_inserted : (m n : BTreeMap (String Global) (Vec ℕ Global)) (name : List ℕ) (bytes : Vec ℕ Global) → UpdatesBy string_cmp (λ k. slice_cmp nat_cmp name (string_bytes k)) m n (Some bytes) → get (files_of n.entries) name ≡ Some bytes.items
+pub get_files_of_inserted : (m n : BTreeMap (String Global) (Vec ℕ Global)) (name : List ℕ) (bytes : Vec ℕ Global) →
+    UpdatesBy string_cmp (λ k. slice_cmp nat_cmp name (string_bytes k)) m n (Some bytes) → get (files_of n.entries) name ≡ Some bytes.items
 get_files_of_inserted m n name bytes updates = get_files_of n name ∙ ap (option_map (λ (v : Vec ℕ Global). v.items)) updates.1
 
 -- and every other name has what it had
-pub get_files_of_other : (m n : BTreeMap (String Global) (Vec ℕ Global)) (name other : List ℕ) (bytes : Vec ℕ Global) → UpdatesBy string_cmp (λ k. slice_cmp nat_cmp name (string_bytes k)) m n (Some bytes) → other ≢ name
+pub get_files_of_other : (m n : BTreeMap (String Global) (Vec ℕ Global)) (name other : List ℕ) (bytes : Vec ℕ Global) →
+    UpdatesBy string_cmp (λ k. slice_cmp nat_cmp name (string_bytes k)) m n (Some bytes) → other ≢ name
     → get (files_of n.entries) other ≡ get (files_of m.entries) other
 get_files_of_other m n name other bytes updates differs =
     let apart : bytes_eq name other ≡ false = false_from_ne_true _ (λ same. differs (sym (same_text name other (sym same)))) in

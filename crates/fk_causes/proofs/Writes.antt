@@ -11,7 +11,8 @@ Appends-append (Some l) (Some m) None xs ys first then = absurd then
 Appends-append (Some l) (Some m) (Some n) xs ys first then = rw (then, first) (append_assoc l xs ys)
 
 -- a text up to a place, and then some of the rest
-pub Appends-take-add : (a b c : Option (List ℕ)) (text : List ℕ) (done count : ℕ) → Appends a b (take done text) → Appends b c (take count (take (length text - done) (drop done text))) → Appends a c (take (done + count) text)
+pub Appends-take-add : (a b c : Option (List ℕ)) (text : List ℕ) (done count : ℕ) →
+    Appends a b (take done text) → Appends b c (take count (take (length text - done) (drop done text))) → Appends a c (take (done + count) text)
 Appends-take-add a b c text done count first then =
     let short : length (drop done text) ≤ length text - done = simp length-drop (omega arith) in
     rw (take-add done count text) (Appends-append a b c _ _ first (rw (take_all (length text - done) (drop done text) short) at then))

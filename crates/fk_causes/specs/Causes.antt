@@ -1,5 +1,5 @@
 -- Why a call of the outside may fail, and what the loops do to bytes that are told.
-use Rattle.std.specs.Prelude.{◌≡◌, ℕ, if◌then◌else◌, is_ok, ◌+◌, ◌-◌, ◌^◌, ◌≤◌, min, Result, OnErr, List, Option, length, take}
+use Rattle.std.specs.Prelude.{◌≡◌, ⊤, ℕ, if◌then◌else◌, is_ok, ◌+◌, ◌-◌, ◌^◌, ◌≤◌, min, Result, OnErr, List, Option, Some, None, length, take}
 use Rattle.std.specs.Io.KnownBytes.{Appends, Consumes}
 
 -- a count goes on by one, and stands still at its last value
@@ -18,6 +18,11 @@ pub record HasCause {T E : Type 0} (before now : ℕ) (result : Result T E) : Ty
 -- a call that failed counted one fault, and another none
 abbrev pub CountsFault : {T E : Type 0} → ℕ → ℕ → Result T E → Type 0
 CountsFault before now result = now ≡ (if is_ok result then before else counted before)
+
+-- a source may have held these bytes: where it tells what is left, they are just that
+abbrev pub MayHold : Option (List ℕ) → List ℕ → Type 0
+MayHold None bytes = ⊤
+MayHold (Some left) bytes = bytes ≡ left
 
 -- told bytes have lost at most so many from their front
 pub record ConsumesAtMost (most : ℕ) (old new : Option (List ℕ)) : Type 0 where

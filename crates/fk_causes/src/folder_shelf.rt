@@ -1,5 +1,7 @@
 //! The files of the current folder as a shelf. This is the trusted edge.
-ghost use Rattle.std.specs.Prelude.{◌≡◌, None};
+ghost use Rattle.std.specs.Prelude.{◌≡◌, None, Some, IfOk, OnOk};
+ghost use Rattle.std.specs.Option.{option_map};
+ghost use Rattle.fk_causes.specs.Shelf.{HasAt, HasShelfCause, CountsFailure};
 
 use crate::shelf::{Shelf, ShelfFail};
 use std::fs::OpenFile;
@@ -61,7 +63,13 @@ impl<R: Files + AllocGlobal> Shelf for FolderShelf<'_, R> {
 
     ghost failed_puts = { λ s. s.failed_puts };
 
-    fn get(&mut self, name: &str) -> Result<Option<Vec<u8>>, ShelfFail> {
+    fn get(&mut self, name: &str) -> Result<Option<Vec<u8>>, ShelfFail>
+        ensures found { IfOk result (λ found. HasAt None name.now (option_map (λ bytes. bytes.items) found)) }
+        ensures cause { HasShelfCause self.old.failed_gets self.new.failed_gets result }
+        ensures same_puts { self.new.failed_puts ≡ self.old.failed_puts }
+
+        ensures gets { CountsFailure self.old.failed_gets self.new.failed_gets result }
+    {
         match read_file(self.rt, name) {
             Ok(Some(bytes)) => Ok(Some(bytes)),
             Err(error) if error.kind() == ErrorKind::NotFound => Ok(None),
@@ -73,7 +81,13 @@ impl<R: Files + AllocGlobal> Shelf for FolderShelf<'_, R> {
         }
     }
 
-    fn put(&mut self, name: &str, bytes: &[u8]) -> Result<(), ShelfFail> {
+    fn put(&mut self, name: &str, bytes: &[u8]) -> Result<(), ShelfFail>
+        ensures stored { OnOk result (HasAt None name.now (Some bytes.now)) }
+        ensures cause { HasShelfCause self.old.failed_puts self.new.failed_puts result }
+        ensures same_gets { self.new.failed_gets ≡ self.old.failed_gets }
+
+        ensures puts { CountsFailure self.old.failed_puts self.new.failed_puts result }
+    {
         if !is_long(bytes) && fs::write(self.rt, name, bytes).is_ok() {
             return Ok(());
         }

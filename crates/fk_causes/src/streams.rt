@@ -1,5 +1,8 @@
 //! Readers and writers of std as a source and a sink. This is the trusted edge.
-ghost use Rattle.std.specs.Prelude.{◌≡◌};
+ghost use Rattle.std.specs.Prelude.{◌≡◌, ◌<◌, IfOk, length};
+ghost use Rattle.std.specs.Io.{ReadsAtMost, WritesAtMost};
+ghost use Rattle.std.specs.Io.KnownBytes.{ReadConsumes, WriteAppends};
+ghost use Rattle.fk_causes.specs.Causes.{HasCause, Rose, CountsFault};
 
 use crate::traits::{Failed, Sink, Source};
 use std::io::{Read, Write};
@@ -27,7 +30,13 @@ impl<R: Read> Source for StdSource<R> {
 
     ghost faults = { λ s. s.faults };
 
-    fn read(&mut self, into: &mut [u8]) -> Result<usize, Failed> {
+    fn read(&mut self, into: &mut [u8]) -> Result<usize, Failed>
+        ensures bound { ReadsAtMost result into.new }
+        ensures bytes { ReadConsumes (R.remaining self.old.reader) (R.remaining self.new.reader) result into.new }
+        ensures cause { HasCause self.old.faults self.new.faults result }
+
+        ensures faults { CountsFault self.old.faults self.new.faults result }
+    {
         match self.reader.read(into) {
             Ok(count) => Ok(count),
             Err(_) => {
@@ -62,7 +71,15 @@ impl<W: Write> Sink for StdSink<W> {
 
     ghost faults = { λ s. s.faults };
 
-    fn write(&mut self, piece: &[u8]) -> Result<usize, Failed> {
+    fn write(&mut self, piece: &[u8]) -> Result<usize, Failed>
+        ensures bound { WritesAtMost result piece.now }
+        ensures bytes { WriteAppends (W.contents self.old.writer) (W.contents self.new.writer) result piece.now }
+        ensures cause { HasCause self.old.faults self.new.faults result }
+        ensures zero { IfOk result (λ count. count ≡ 0 → 0 < length piece.now
+            → Rose self.old.faults self.new.faults) }
+
+        ensures faults { CountsFault self.old.faults self.new.faults result }
+    {
         match self.writer.write(piece) {
             Ok(count) if count > 0 || piece.is_empty() => Ok(count),
             _ => {

@@ -1,7 +1,7 @@
 //! All of a source, and all of a text to a sink.
-ghost use Rattle.std.specs.Prelude.{◌≡◌, ◌+◌, ◌<◌, ◌≤◌, IfOk, IfSome, OnOk, OnErr, length, vec_len};
+ghost use Rattle.std.specs.Prelude.{◌≡◌, ◌+◌, ◌<◌, ◌≤◌, ℕ, List, IfOk, OnOk, OnErr, length, vec_len};
 ghost use Rattle.std.specs.Io.KnownBytes.{IsAtEnd, Appends};
-ghost use Rattle.fk_causes.specs.Causes.{HasCause, Rose, AppendsPrefix, ConsumesAtMost};
+ghost use Rattle.fk_causes.specs.Causes.{HasCause, Rose, MayHold, AppendsPrefix, ConsumesAtMost};
 
 use crate::traits::{Failed, Sink, Source};
 use std::alloc::Global;
@@ -28,13 +28,13 @@ pub enum ReadError {
 /// only where the source's count of faults rose. `NoMemory` where the text can't grow. What was
 /// read is gone from the source then.
 pub fn read_all<R: Source>(alloc: Global, source: &mut R) -> Result<Vec<u8>, ReadError>
-    ensures all { IfOk result (λ text. IfSome (R.left source.old) (λ bytes. text.items ≡ bytes)) }
+    ensures all { IfOk result (λ text. MayHold (R.left source.old) text.items) }
     ensures end { OnOk result (IsAtEnd (R.left source.new)) }
     ensures taken { ConsumesAtMost (LIMIT + 1) (R.left source.old) (R.left source.new) }
 
     ensures short { IfOk result (λ text. vec_len text ≤ LIMIT) }
     ensures too_long { result ≡ Err ReadError.TooLong
-        → IfSome (R.left source.old) (λ bytes. LIMIT < length bytes) }
+        → (bytes : List ℕ) × MayHold (R.left source.old) bytes × (LIMIT < length bytes) }
     ensures read_fault { result ≡ Err ReadError.ReadFault
         → Rose (R.faults source.old) (R.faults source.new) }
     ensures later { R.faults source.old ≤ R.faults source.new }
