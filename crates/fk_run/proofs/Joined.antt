@@ -3,7 +3,7 @@ use Rattle.std.proofs.Common.{◌≡◌, ℕ, zero, suc, ◌+◌, ◌-◌, ◌*�
 use Rattle.std.proofs.Math.Seq.{take-add, get_or-append_right}
 use Rattle.std.proofs.lemmas.Bool.{eqb-false, ne_eqb}
 use Rattle.std.proofs.lemmas.List.{get_or_append_left, set-append_left, set-append_right, length-append, length-take, length-drop, take_all}
-use Rattle.fk_run.specs.Alone.{joined, page_of}
+use Rattle.fk_run.specs.LoneThread.{joined, page_of}
 
 -- the first n pages have so many words
 pub joined-length : (n : ℕ) (words : ℕ → List ℕ) → ((page : ℕ) → page < n → length (words page) ≡ 64) → length (joined n words) ≡ n * 64
@@ -22,7 +22,8 @@ joined-same zero a b same = refl
 joined-same (suc n) a b same = rw (joined-same n a b (λ page low. same page (omega (arith, low))), same n (omega arith)) refl
 
 -- a word of a page
-pub joined-index : (n : ℕ) (words : ℕ → List ℕ) (page at : ℕ) → ((page : ℕ) → page < n → length (words page) ≡ 64) → page < n → at < 64 → slice_index (joined n words) (page * 64 + at) ≡ slice_index (words page) at
+pub joined-index : (n : ℕ) (words : ℕ → List ℕ) (page at : ℕ) →
+    ((page : ℕ) → page < n → length (words page) ≡ 64) → page < n → at < 64 → slice_index (joined n words) (page * 64 + at) ≡ slice_index (words page) at
 unfolding joined
 joined-index zero words page at long low within = absurd (omega (arith, low))
 joined-index (suc n) words page at long low within = by (page == n) refl (joined-index n words page at (λ other less. long other (omega (arith, less))))
@@ -60,7 +61,8 @@ joined-set (suc n) words page at value long low within = by (n == page) refl (jo
         let same : n ≡ page = eqb-true n page e in
         let start : n * 64 ≤ page * 64 + at = omega (arith, same) in
         let left : page * 64 + at - n * 64 ≡ at = omega (arith, same) in
-        let kept : joined n words ≡ joined n changed = joined-same n words changed (λ other less. let apart = ne_eqb other page (λ f. absurd (omega (arith, less, f, same))) in rw apart refl) in
+        let kept : joined n words ≡ joined n
+        changed = joined-same n words changed (λ other less. let apart = ne_eqb other page (λ f. absurd (omega (arith, less, f, same))) in rw apart refl) in
         set-append_right (joined n words) (words n) (n * 64) (page * 64 + at) value before start ∙
         rw (left, kept, same) refl
     by false e ih =
@@ -95,5 +97,7 @@ module _ (words : ℕ → List ℕ) (long : (page : ℕ) → page < 256 → leng
   pub word_of : slice_index (joined 256 words) address ≡ slice_index (words (address / 64)) (address % 64)
   word_of = ap (slice_index (joined 256 words)) (sym place_in) ∙ joined-index 256 words (address / 64) (address % 64) long page_low (omega arith)
 
-  pub word_set : (value : ℕ) → slice_set (joined 256 words) address value ≡ joined 256 (λ other. if other == address / 64 then slice_set (words (address / 64)) (address % 64) value else words other)
-  word_set value = ap (λ a. slice_set (joined 256 words) a value) (sym place_in) ∙ joined-set 256 words (address / 64) (address % 64) value long page_low (omega arith)
+  pub word_set : (value : ℕ) → slice_set (joined 256 words)
+      address value ≡ joined 256 (λ other. if other == address / 64 then slice_set (words (address / 64)) (address % 64) value else words other)
+  word_set value =
+      ap (λ a. slice_set (joined 256 words) a value) (sym place_in) ∙ joined-set 256 words (address / 64) (address % 64) value long page_low (omega arith)

@@ -1,5 +1,5 @@
 -- Commands: what the words of the command line ask for.
-use Rattle.std.specs.Prelude.{ℕ, List, [], ◌∷◌, ◌++◌, Option, Some, None, nat_eq, if◌then◌else◌, codes}
+use Rattle.std.specs.Prelude.{ℕ, Bool, true, false, List, [], ◌∷◌, ◌++◌, Option, Some, None, nat_eq, if◌then◌else◌, codes}
 use Rattle.std.specs.Cmp.Lexicographic.{pointwise}
 use Rattle.fk_model.specs.Names.{is_name}
 use Rattle.fk_run.specs.declared.command.Command as code
@@ -25,6 +25,18 @@ command_of [] = None
 command_of (word ∷ []) = if pointwise nat_eq word (codes "exec") then Some Exec else None
 command_of (word ∷ name ∷ []) = if pointwise nat_eq word (codes "play") then play_of name else None
 command_of (word ∷ name ∷ more ∷ words) = None
+
+-- ---- what a command looks at
+
+abbrev pub reads_source : Option Command → Bool
+reads_source None = false
+reads_source (Some Exec) = true
+reads_source (Some (Play name)) = true
+
+abbrev pub reads_shelf : Option Command → Bool
+reads_shelf None = false
+reads_shelf (Some Exec) = false
+reads_shelf (Some (Play name)) = true
 
 -- the name under which a trace lies on the shelf
 abbrev pub trace_name : List ℕ → List ℕ

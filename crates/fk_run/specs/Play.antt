@@ -1,47 +1,27 @@
--- What the playing of a trace comes to: which moves are legal, and how a run ends.
-use Rattle.std.specs.Prelude.{◌≡◌, ◌<◌, ℕ, Bool, true, false, List, [], ◌∷◌, length, Some}
-use Rattle.fk_model.specs.declared.moves.Ask.TheVariants as asks
+-- The command `play`: what a scenario and a trace come to.
+use Rattle.std.specs.Prelude.{◌≡◌, ◌<◌, ℕ, Bool, true, false, List, [], length, Option, Some, None, Result, Ok, Err}
+use Rattle.fk_causes.specs.Shelf.{FileMap, HasAt}
+use Rattle.fk_kernel.specs.Events.{IsAnyReady}
 use Rattle.fk_model.specs.declared.moves.Move.{Move}
-use Rattle.fk_model.specs.declared.thread.Mode.{Mode}
-use Rattle.fk_model.specs.declared.thread.Mode.TheVariants as modes
-use Rattle.fk_model.specs.Places.{Path}
-use Rattle.fk_model.specs.Who.{event_of}
 use Rattle.fk_model.specs.World.{World}
-use Rattle.fk_kernel.specs.Events.{IsReadyEvent, step_of, IsAnyReady}
-use Rattle.fk_run.specs.declared.end.End.{End}
-use Rattle.fk_run.specs.declared.end.End.TheVariants as ends
-use Rattle.fk_run.specs.Report.{report_text}
-use Rattle.fk_run.specs.declared.threads.ThreadState.{ThreadState}
-use Rattle.fk_run.specs.Threads.{state_at, AreThreads}
-
--- ---- histories
-
--- a user's move is ready in a world
-abbrev pub IsReadyMove : World → Move → Type 0
-IsReadyMove w move = IsReadyEvent w (event_of w asks.Run move)
-
--- the world after a user's move
-abbrev pub after : World → Move → World
-after w move = (step_of w (event_of w asks.Run move)).world
-
--- the world after some moves
-unfoldable pub played : World → List Move → World
-played w [] = w
-played w (move ∷ moves) = played (after w move) moves
-
--- a move may follow those that are done: the budget has one more, and the move is ready after them
-abbrev pub MayPlay : ℕ → World → List Move → Move → Type 0
-MayPlay budget first done move = (length done < budget) × IsReadyMove (played first done) move
+use Rattle.fk_scenario.specs.declared.fail.ScenarioError.{ScenarioError}
+use Rattle.fk_scenario.specs.declared.scenario.Scenario.{Scenario}
+use Rattle.fk_report.specs.declared.end.End.{End}
+use Rattle.fk_report.specs.declared.end.End.TheVariants as ends
+use Rattle.fk_run.specs.declared.status.Status.{Status}
+use Rattle.fk_run.specs.declared.status.Status.TheVariants.{Ok as Done, BadScenario, Absent, BadTrace, Budget}
+use Rattle.fk_report.specs.declared.threads.ThreadState.{ThreadState}
+use Rattle.fk_run.specs.declared.top.Outcome.{Outcome}
+use Rattle.fk_run.specs.declared.top.Report.{Report}
+use Rattle.fk_boot.specs.FirstWorld.{booted}
+use Rattle.fk_run.specs.Commands.{trace_name}
+use Rattle.fk_run.specs.Outcomes.{IsRefused}
+use Rattle.fk_run.specs.Replay.{MayPlay, played}
+use Rattle.fk_report.specs.Report.{report_text}
+use Rattle.fk_report.specs.Threads.{AreThreads, HaveHalted}
+use Rattle.fk_traces.specs.Trace.{Spells, IsFirstBad}
 
 -- ---- how a run ends
-
-abbrev pub is_halted : Mode → Bool
-is_halted (modes.Halted code) = true
-is_halted other = false
-
--- every user thread has halted
-abbrev pub HaveHalted : World → Type 0
-HaveHalted w = (x : Path) (t : ThreadState) → state_at w x ≡ Some t → is_halted t.mode ≡ true
 
 -- how a run of so many moves ends in a world
 abbrev pub IsEnd : ℕ → ℕ → World → End → Type 0
@@ -50,8 +30,35 @@ IsEnd budget events w ends.Quiet = (¬ IsAnyReady w) × (¬ HaveHalted w)
 IsEnd budget events w ends.Budget = IsAnyReady w × (events ≡ budget)
 IsEnd budget events w ends.Listed = IsAnyReady w × (events < budget)
 
--- ---- what is written
+-- a run that used its budget tells so
+abbrev pub status_of_end : ℕ → End → Status
+status_of_end budget ends.Halted = Done
+status_of_end budget ends.Quiet = Done
+status_of_end budget ends.Budget = Budget budget
+status_of_end budget ends.Listed = Done
 
--- the report of a run that began in a world and made these moves
-abbrev pub IsReport : World → List Move → End → List ℕ → Type 0
-IsReport first moves end text = (threads : List ThreadState) × AreThreads (played first moves) threads × (text ≡ report_text (length moves) end threads)
+-- ---- what a run comes to
+
+-- the report's moves are the trace's, each legal in its turn from the scenario's first world, and it ends as their run
+-- does; what is written is the report of their last world
+pub record IsRun (s : Scenario) (trace : List ℕ) (report : Report) (text : List ℕ) : Type 0 where
+  pub spelled : Spells (MayPlay s.budget (booted s)) trace report.history
+  pub end : IsEnd s.budget (length report.history) (played (booted s) report.history) report.end
+  pub threads : List ThreadState
+  pub are : AreThreads (played (booted s) report.history) threads
+  pub written : text ≡ report_text (length report.history) report.end threads
+
+-- a trace is refused by the index of its first bad line, or there is a report of its run
+abbrev pub IsPlayed : Scenario → List ℕ → Status → Option Report → List ℕ → Type 0
+IsPlayed s trace status None text = (index : ℕ) × (status ≡ BadTrace index) × IsFirstBad (MayPlay s.budget (booted s)) trace index × (text ≡ [])
+IsPlayed s trace status (Some report) text = IsRun s trace report text × (status ≡ status_of_end s.budget report.end)
+
+-- the same of a trace that may not be there
+abbrev pub IsTraced : List ℕ → Scenario → Option (List ℕ) → Outcome → List ℕ → Type 0
+IsTraced name s None outcome text = IsRefused (Absent name) outcome text
+IsTraced name s (Some trace) outcome text = IsPlayed s trace outcome.status outcome.report text
+
+-- what a scenario, or its refusal, and the files of the shelf come to
+abbrev pub IsPlay : List ℕ → Option FileMap → Result Scenario ScenarioError → Outcome → List ℕ → Type 0
+IsPlay name files (Err e) outcome text = IsRefused (BadScenario e.rule e.section e.index) outcome text
+IsPlay name files (Ok s) outcome text = (trace : Option (List ℕ)) × HasAt files (trace_name name) trace × IsTraced name s trace outcome text

@@ -2,8 +2,8 @@
 ghost use Rattle.std.specs.Prelude.{◌≡◌, ◌≤◌, IfOk, length, vec_len};
 ghost use Rattle.fk_store.specs.Bodies.{mode_by};
 ghost use Rattle.fk_store.specs.World.{world};
-ghost use Rattle.fk_run.specs.Alone as alone;
-ghost use Rattle.fk_run.specs.Alone.{filled};
+ghost use Rattle.fk_run.specs.LoneThread as alone;
+ghost use Rattle.fk_run.specs.LoneThread.{filled};
 ghost use Rattle.fk_run.specs.Machine as machines;
 
 use fk_model::{Body, Mode, NoMemory, Thread, Who};
@@ -37,7 +37,7 @@ pub struct Machine {
 
 impl Model for Machine {
     ghost use Rattle.fk_store.specs.World.{world};
-    ghost use Rattle.fk_run.specs.Alone.{IsAlone, state_of};
+    ghost use Rattle.fk_run.specs.LoneThread.{IsAlone, state_of};
     ghost use Rattle.fk_run.specs.Machine.{State};
 
     ghost Value = { State };

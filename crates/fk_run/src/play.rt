@@ -1,90 +1,138 @@
-//! Playing a trace: each move is made as its line is read.
-ghost use Rattle.std.specs.Prelude.{◌≡◌, ◌<◌, ◌≤◌, List, length, IfOk, IfErr, IfSome, IfNone};
-ghost use Rattle.fk_model.specs.declared.moves.Move as moves_of;
-ghost use Rattle.fk_run.specs.Trace.{BeginsWith, BeginsWithNone, Spells, IsCause, Gives};
-ghost use Rattle.fk_run.specs.Play.{IsReadyMove, MayPlay, played};
-ghost use Rattle.fk_run.specs.declared.play.PlayFail.TheVariants as fails;
+//! The command `play`: a scenario is run by the moves of a trace.
+ghost use Rattle.std.specs.Prelude.{◌≡◌, ◌≤◌, Ok, Some, IfOk, IfErr};
+ghost use Rattle.fk_causes.specs.Causes.{Rose};
+ghost use Rattle.fk_causes.specs.Shelf.{HasAt};
+ghost use Rattle.fk_scenario.specs.Kept.{Keeps};
+ghost use Rattle.fk_scenario.specs.Reading.{told};
 ghost use Rattle.fk_store.specs.World.{world};
+ghost use Rattle.fk_run.specs.Commands.{trace_name};
+ghost use Rattle.fk_run.specs.Play.{IsEnd, IsPlay, IsPlayed, status_of_end};
+ghost use Rattle.fk_run.specs.Prepared.{ComesTo, IsRefusal, IsScenarioFail, IsTraceFail, outcome_of};
+ghost use Rattle.fk_run.specs.Status.{progress_of, Finished};
+ghost use Rattle.fk_report.specs.Threads.{AreThreads};
 
-use crate::trace::{after_first_line, first_move};
+use crate::prepared::Prepared;
+use crate::replay::{ReplayFail, replay};
+use crate::status::Status;
+use crate::top::Report;
+use fk_boot::boot;
+use fk_causes::{Shelf, ShelfFail};
 use fk_kernel::Kernel;
-use fk_model::{Ask, List as Items, Move, NoMemory};
+use fk_model::Text;
+use fk_report::{End, ThreadState, have_halted, report_text, threads_of};
+use fk_scenario::{Scenario, ScenarioFail, read_scenario};
 use std::alloc::Global;
 
-/// Why a trace isn't played to its end.
-#[derive(Clone, Copy)]
-pub enum PlayFail {
-    /// The line of the move with this index is the first that is bad.
-    Trace { index: u64 },
-    /// There is no memory for the moves.
-    NoMemory,
-}
-
-impl From<NoMemory> for PlayFail {
-    ghost from_gives = { λ _ fail. fail ≡ fails.NoMemory };
-
-    fn from(_: NoMemory) -> PlayFail {
-        PlayFail::NoMemory
-    }
-}
-
-/// The move whose line a text begins with, where it is ready and may be made after so many others,
-/// and what stands after that line.
-fn next_move<'a>(
-    kernel: &Kernel,
-    budget: u64,
-    done: u64,
-    text: &'a [u8],
-) -> Option<(Move, &'a [u8])>
-    ensures found { IfSome result (λ next. BeginsWith text.now next.0 next.1.now) }
-    ensures may { IfSome result (λ next. (done < budget) × IsReadyMove (world kernel.now) next.0) }
-    ensures none { IfNone result
-        (BeginsWithNone (λ move. (done < budget) × IsReadyMove (world kernel.now) move) text.now) }
+/// The scenario that a text is.
+fn scenario_of(alloc: Global, text: &[u8]) -> Result<Scenario, Status>
+    ensures read { IfOk result (λ scenario. told text.now ≡ Ok scenario) }
+    ensures keeps { IfOk result Keeps }
+    ensures fail { IfErr result (IsScenarioFail (told text.now)) }
 {
-    if done >= budget {
-        return None;
-    }
-    let (one, after) = first_move(text)?;
-    if kernel.ready(&one, &Ask::Run) {
-        Some((one, after))
-    } else {
-        None
+    match read_scenario(alloc, text, &[]) {
+        Ok(scenario) => Ok(scenario),
+        Err(ScenarioFail::Scenario(error)) => Err(Status::BadScenario {
+            rule: error.rule,
+            section: error.section,
+            index: error.index,
+        }),
+        Err(ScenarioFail::NoMemory) => Err(Status::NoMemory),
     }
 }
 
-/// Makes the moves of a trace, of which there may be as many as the budget has, and answers them.
+/// The trace that the shelf has under a name.
+fn trace_of<H: Shelf>(alloc: Global, shelf: &mut H, name: &str) -> Result<Vec<u8>, Status>
+    ensures found { IfOk result (λ trace. HasAt (H.files shelf.old) (trace_name name.now) (Some trace.items)) }
+    ensures fail { IfErr result (IsTraceFail name.now (H.files shelf.old) (H.failed_gets shelf.old) (H.failed_gets shelf.new)) }
+    ensures same_files { H.files shelf.new ≡ H.files shelf.old }
+    ensures same_puts { H.failed_puts shelf.new ≡ H.failed_puts shelf.old }
+{
+    let file = format!(in alloc; "{name}.trc")?;
+    match shelf.get(file.as_str()) {
+        Ok(Some(trace)) => Ok(trace),
+        Ok(None) => Err(Status::Absent {
+            name: Text::of(alloc, name)?,
+        }),
+        Err(ShelfFail::Failed) => Err(Status::ShelfFault),
+        Err(ShelfFail::NoMemory) => Err(Status::NoMemory),
+    }
+}
+
+/// How a run ends that made so many of the budget's moves and left the kernel with these threads.
+fn end_of(kernel: &mut Kernel, threads: &[ThreadState], events: u64, budget: u64) -> End
+    requires threads { AreThreads (world kernel.old) threads.now }
+    requires within { events ≤ budget }
+    ensures end { IsEnd budget events (world kernel.old) result }
+    ensures same { kernel.new ≡ kernel.old }
+{
+    if kernel.next().is_some() {
+        if events < budget {
+            End::Listed
+        } else {
+            End::Budget
+        }
+    } else if have_halted(threads) {
+        End::Halted
+    } else {
+        End::Quiet
+    }
+}
+
+/// The status of a run that ended so.
+fn status_of(end: End, budget: u64) -> Status
+    ensures status { result ≡ status_of_end budget end }
+    ensures finished { progress_of result ≡ Finished }
+{
+    match end {
+        End::Budget => Status::Budget { budget },
+        End::Halted | End::Quiet | End::Listed => Status::Ok,
+    }
+}
+
+/// Plays a trace from the first world of a scenario.
+fn play_scenario(alloc: Global, scenario: &Scenario, trace: &[u8]) -> Result<Prepared, Status>
+    requires { Keeps scenario.now }
+    ensures comes { ComesTo (λ outcome. IsPlayed scenario.now trace.now outcome.status outcome.report) result }
+    ensures refusal { IfErr result (IsRefusal ⊥ ⊥) }
+{
+    let budget = scenario.budget;
+    let mut kernel = Kernel::of(boot(alloc, scenario)?)?;
+    let history = match replay(alloc, &mut kernel, budget, trace) {
+        Ok(history) => history,
+        Err(ReplayFail::Trace { index }) => return Err(Status::BadTrace { index }),
+        Err(ReplayFail::NoMemory) => return Err(Status::NoMemory),
+    };
+    let events = history.len() as u64;
+    let threads = threads_of(alloc, kernel.store())?;
+    let end = end_of(&mut kernel, threads.as_slice(), events, budget);
+    let output = report_text(alloc, events, end, threads.as_slice())?;
+    Ok(Prepared {
+        status: status_of(end, budget),
+        report: Some(Report { history, end }),
+        output,
+    })
+}
+
+/// Plays the trace with this name, which the shelf has, from the first world of the scenario that a
+/// text is.
 ///
 /// # Errors
 ///
-/// `Trace` with the index of the first line that is misspelled, whose move isn't ready in its turn,
-/// or that stands at the budget; a bad first line of the text counts as that of the move 0.
-/// `NoMemory` where there is no memory for the moves.
-#[tactic(auto, using(crate::proofs::Plays::played_nil, crate::proofs::Traces::none_are_legal))]
-pub fn play(
+/// `BadScenario` for a text that is no scenario. `Absent` where the shelf has no such trace, and
+/// `ShelfFault` where the get of it failed. `BadTrace` with the index of its first bad line.
+/// `NoMemory` where there is no memory for any of it.
+pub fn play<H: Shelf>(
     alloc: Global,
-    kernel: &mut Kernel,
-    budget: u64,
+    name: &str,
     text: &[u8],
-) -> Result<Items<Move>, PlayFail>
-    ensures found { IfOk result (λ moves. Spells (MayPlay budget (world kernel.old)) text.now moves) }
-    ensures few { IfOk result (λ moves. length moves ≤ budget) }
-    ensures world { IfOk result (λ moves. world kernel.new ≡ played (world kernel.old) moves) }
-    ensures cause { IfErr result (λ fail. IsCause (MayPlay budget (world kernel.old)) text.now fail) }
-    ensures back { (moves : List moves_of.Move)
-        → Spells (MayPlay budget (world kernel.old)) text.now moves → Gives moves result }
+    shelf: &mut H,
+) -> Result<Prepared, Status>
+    ensures comes { ComesTo (IsPlay name.now (H.files shelf.old) (told text.now)) result }
+    ensures refusal { IfErr result (IsRefusal ⊥ (Rose (H.failed_gets shelf.old) (H.failed_gets shelf.new))) }
+    ensures same_files { H.files shelf.new ≡ H.files shelf.old }
+    ensures same_puts { H.failed_puts shelf.new ≡ H.failed_puts shelf.old }
 {
-    let Some(mut rest) = after_first_line(text) else {
-        return Err(PlayFail::Trace { index: 0 });
-    };
-    let mut moves = Items::new(alloc);
-    while !rest.is_empty() {
-        let index = moves.len() as u64;
-        let Some((one, after)) = next_move(kernel, budget, index, rest) else {
-            return Err(PlayFail::Trace { index });
-        };
-        moves.push(one)?;
-        kernel.step(&one, &Ask::Run)?;
-        rest = after;
-    }
-    Ok(moves)
+    let scenario = scenario_of(alloc, text)?;
+    let trace = trace_of(alloc, shelf, name)?;
+    play_scenario(alloc, &scenario, &trace)
 }

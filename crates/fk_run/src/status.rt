@@ -1,6 +1,6 @@
 //! How a call of the program ends.
 ghost use Rattle.std.specs.Prelude.{◌≡◌, IfOk, string_bytes};
-ghost use Rattle.fk_run.specs.Status.{number_of, fault_line_of};
+ghost use Rattle.fk_run.specs.Status.{status_number, fault_line_of};
 ghost use Rattle.fk_run.specs.declared.status.Status.TheVariants as statuses;
 
 use fk_model::{NoMemory, Text};
@@ -39,7 +39,7 @@ pub enum Status {
 impl Status {
     /// The status with which the process exits.
     pub fn number(&self) -> u8
-        ensures { result ≡ number_of self.now }
+        ensures { result ≡ status_number self.now }
     {
         match self {
             Status::Ok => 0,

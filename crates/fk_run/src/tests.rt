@@ -69,7 +69,6 @@ fn exec(alloc: Global, text: Vec<u8>) -> Result<Called, Fail> {
 
 /// A text, the number of its status, and what is written for it.
 const ROWS: [(&str, u8, &str); 11] = [
-    ("l: halt", 4, ""),
     ("halt\n", 0, ZEROS),
     ("", 0, ZEROS),
     (

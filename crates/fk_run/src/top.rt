@@ -1,19 +1,22 @@
 //! The top call: the words of the command line, from the source and the shelf to the sink.
-ghost use Rattle.std.specs.Prelude.{◌≡◌, ◌↔◌, ℕ, List, None, IfSome, map, string_bytes};
+ghost use Rattle.std.specs.Prelude.{◌≡◌, ◌↔◌, Some, None, OnOk, IfErr, map, string_bytes};
 ghost use Rattle.std.specs.Bool.{OnTrue, OnFalse};
-ghost use Rattle.std.specs.Io.KnownBytes.{Appends, IsAtEnd, Keeps};
-ghost use Rattle.fk_causes.specs.Causes.{Rose, AppendsPrefix};
-ghost use Rattle.fk_run.specs.Commands as commands;
-ghost use Rattle.fk_run.specs.Top.{IsCalledFor, IsOutput, with_status, was_cut_short, has_read_all, has_written_all, has_written_nothing};
-ghost use Rattle.fk_run.specs.declared.status.Status as statuses;
+ghost use Rattle.std.specs.Io.KnownBytes.{IsAtEnd, Keeps};
+ghost use Rattle.fk_causes.specs.Causes.{Rose};
+ghost use Rattle.fk_run.specs.Commands.{command_of, reads_source, reads_shelf, seen};
+ghost use Rattle.fk_run.specs.Prepared.{ComesTo, IsRefusal};
+ghost use Rattle.fk_run.specs.Status.{was_cut_short, has_written_nothing};
+ghost use Rattle.fk_run.specs.Top.{IsDue, IsDone, IsCutOff, has_read_all};
 
 use crate::command::{Command, command_of};
-use crate::end::End;
 use crate::exec::exec;
-use crate::playing::play_command;
+use crate::play::play;
+use crate::prepared::Prepared;
+use crate::source_text::source_text;
 use crate::status::Status;
-use fk_causes::{Shelf, Sink, Source};
+use fk_causes::{Failed, Shelf, Sink, Source, write_all};
 use fk_model::{List as Items, Move};
+use fk_report::End;
 use std::alloc::Global;
 
 /// The run of a scenario: its moves in their order, and how it ended.
@@ -31,6 +34,33 @@ pub struct Outcome {
     pub report: Option<Report>,
 }
 
+/// Does all of a command but the writing.
+///
+/// # Errors
+///
+/// Why there is nothing to write.
+fn prepare<R: Source, H: Shelf>(
+    alloc: Global,
+    command: Command<'_>,
+    source: &mut R,
+    shelf: &mut H,
+) -> Result<Prepared, Status>
+    ensures comes { ComesTo (IsDue (Some (seen command.entry)) (R.left source.old) (H.files shelf.old)) result }
+    ensures refusal { IfErr result (IsRefusal (Rose (R.faults source.old) (R.faults source.new))
+        (Rose (H.failed_gets shelf.old) (H.failed_gets shelf.new))) }
+    ensures all_read { OnOk result (OnTrue (reads_source (Some (seen command.entry))) (IsAtEnd (R.left source.new))) }
+    ensures all_read_before { IfErr result (λ status. OnTrue (has_read_all (Some (seen command.entry)) status) (IsAtEnd (R.left source.new))) }
+    ensures source { OnFalse (reads_source (Some (seen command.entry))) (source.new ≡ source.old) }
+    ensures shelf { OnFalse (reads_shelf (Some (seen command.entry))) (shelf.new ≡ shelf.old) }
+    ensures same_files { H.files shelf.new ≡ H.files shelf.old }
+    ensures same_puts { H.failed_puts shelf.new ≡ H.failed_puts shelf.old }
+{
+    match command {
+        Command::Exec => exec(alloc, &source_text(alloc, source)?),
+        Command::Play(name) => play(alloc, name, &source_text(alloc, source)?, shelf),
+    }
+}
+
 /// Does the command that the words are, over the bytes of the source and the files of the shelf, and
 /// writes to the sink.
 ///
@@ -40,11 +70,12 @@ pub struct Outcome {
 /// and writes the report of that run; NAME is 1 to 32 characters of `a` to `z`, `0` to `9` and `_`.
 ///
 /// The status of the outcome says how the call ended. `Usage` comes exactly for words that are no
-/// command, and leaves the source, the sink and the shelf as they were. Where the source tells its
-/// bytes, the outcome is the one that they and the shelf's files call for, unless a read, a write, a
-/// get or the memory failed. `ReadFault`, `WriteFault` and `ShelfFault` come only where that
-/// object's count of faults rose in this call; `NoMemory` where there is no memory for the text, for
-/// what is made of it, or for the output.
+/// command, and leaves the source, the sink and the shelf as they were. Unless a read, a write, a get
+/// or the memory failed, the outcome and the output are those that the bytes of the source and the
+/// files of the shelf call for: where these are told, those that are told, and some that they may have
+/// held where not. `ReadFault`, `WriteFault` and `ShelfFault` come only where that object's count of
+/// faults rose in this call; `NoMemory` where there is no memory for the text, for what is made of
+/// it, or for the output.
 ///
 /// The whole output is written after `Ok` and `Budget`, a prefix of it after `WriteFault`, and
 /// nothing otherwise. No file of the shelf changes.
@@ -55,43 +86,53 @@ pub fn fluke_top<R: Source, W: Sink, H: Shelf>(
     sink: &mut W,
     shelf: &mut H,
 ) -> Outcome
-    ensures usage { (result.status ≡ Status.Usage) ↔ (commands.command_of (map string_bytes words.now) ≡ None) }
+    ensures usage { (result.status ≡ Status.Usage) ↔ (command_of (map string_bytes words.now) ≡ None) }
     ensures untouched { result.status ≡ Status.Usage
         → (source.new ≡ source.old) × (sink.new ≡ sink.old) × (shelf.new ≡ shelf.old) }
 
-    ensures answer { OnFalse (was_cut_short result.status) (IfSome (R.left source.old) (λ bytes.
-        IsCalledFor (commands.command_of (map string_bytes words.now)) (H.files shelf.old) bytes result)) }
+    ensures done { OnFalse (was_cut_short result.status) (IsDone (command_of (map string_bytes words.now))
+        (R.left source.old) (H.files shelf.old) (W.written sink.old) (W.written sink.new) result) }
     ensures read_fault { result.status ≡ Status.ReadFault → Rose (R.faults source.old) (R.faults source.new) }
-    ensures write_fault { result.status ≡ Status.WriteFault → Rose (W.faults sink.old) (W.faults sink.new) }
     ensures shelf_fault { result.status ≡ Status.ShelfFault
         → Rose (H.failed_gets shelf.old) (H.failed_gets shelf.new) }
+    ensures write_fault { result.status ≡ Status.WriteFault → Rose (W.faults sink.old) (W.faults sink.new) }
+    ensures cut_off { result.status ≡ Status.WriteFault → IsCutOff (command_of (map string_bytes words.now))
+        (R.left source.old) (H.files shelf.old) (W.written sink.old) (W.written sink.new) result }
 
-    ensures all_read { OnTrue (has_read_all result.status) (IsAtEnd (R.left source.new)) }
-    ensures written { OnTrue (has_written_all result.status) (IfSome (R.left source.old) (λ bytes. (text : List ℕ)
-        × IsOutput (commands.command_of (map string_bytes words.now)) bytes result.report text
-        × Appends (W.written sink.old) (W.written sink.new) text)) }
+    ensures all_read { OnTrue (has_read_all (command_of (map string_bytes words.now)) result.status)
+        (IsAtEnd (R.left source.new)) }
     ensures nothing { OnTrue (has_written_nothing result.status) (Keeps (W.written sink.old) (W.written sink.new)) }
     ensures no_report { OnTrue (has_written_nothing result.status) (result.report ≡ None) }
 
-    // After a write that failed the output is that of a call whose writes don't fail, up to a place.
-    ensures prefix { result.status ≡ Status.WriteFault → IfSome (R.left source.old) (λ bytes. (status : statuses.Status)
-        × IsCalledFor (commands.command_of (map string_bytes words.now)) (H.files shelf.old) bytes (with_status status result)
-        × (text : List ℕ)
-        × IsOutput (commands.command_of (map string_bytes words.now)) bytes result.report text
-        × AppendsPrefix (W.written sink.old) (W.written sink.new) text) }
-
+    ensures source { OnFalse (reads_source (command_of (map string_bytes words.now))) (source.new ≡ source.old) }
+    ensures shelf { OnFalse (reads_shelf (command_of (map string_bytes words.now))) (shelf.new ≡ shelf.old) }
     ensures same_files { H.files shelf.new ≡ H.files shelf.old }
     ensures same_puts { H.failed_puts shelf.new ≡ H.failed_puts shelf.old }
 {
-    match command_of(words) {
-        Some(Command::Exec) => Outcome {
-            status: exec(alloc, source, sink),
-            report: None,
-        },
-        Some(Command::Play(name)) => play_command(alloc, name, source, sink, shelf),
-        None => Outcome {
+    let Some(command) = command_of(words) else {
+        return Outcome {
             status: Status::Usage,
             report: None,
+        };
+    };
+    let Prepared {
+        status,
+        report,
+        output,
+    } = match prepare(alloc, command, source, shelf) {
+        Ok(prepared) => prepared,
+        Err(status) => {
+            return Outcome {
+                status,
+                report: None,
+            };
+        }
+    };
+    match write_all(sink, output.as_bytes()) {
+        Ok(()) => Outcome { status, report },
+        Err(Failed) => Outcome {
+            status: Status::WriteFault,
+            report,
         },
     }
 }

@@ -1,7 +1,7 @@
 //! Scenarios played by traces.
 use super::{Called, call_over, shelf_of, sink_of, source_of};
-use crate::trace::trace_text;
 use crate::{End, Status, fault_line};
+use fk_traces::trace_text;
 use std::alloc::Global;
 use std::test::Fail;
 

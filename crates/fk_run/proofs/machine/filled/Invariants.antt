@@ -1,6 +1,6 @@
 use Rattle.std.proofs.Common.{◌≡◌}
 use Rattle.fk_store.specs.World.{world}
-use Rattle.fk_run.specs.Alone.{filled}
+use Rattle.fk_run.specs.LoneThread.{filled}
 use Rattle.fk_run.proofs.machine.filled.Given as goal
 
 -- so many pages are there

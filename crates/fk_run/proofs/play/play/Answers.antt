@@ -1,55 +1,17 @@
-use Rattle.std.proofs.Common.{◌≡◌, ℕ, ◌<◌, ◌≤◌, [], ◌∷◌, ◌++◌, length, length-append, ap, sym, subst, ◌∙◌, inl, inr, rules, arith, refl}
-use Rattle.fk_model.specs.Moves.{Step}
-use Rattle.fk_model.specs.World.{World}
-use Rattle.fk_store.specs.World.{world}
-use Rattle.fk_run.specs.Trace.{trace_text, AreLegal, Spells, BeginsWithNone}
-use Rattle.fk_run.specs.Play.{IsReadyMove, MayPlay, after, played}
-use Rattle.fk_run.proofs.Plays.{played-more}
-use Rattle.fk_run.proofs.Traces.{AreLegal-more, trace_text-more, Spells-same, Spells-not_bad, trace_text-all}
+use Rattle.std.proofs.Common.{◌≡◌, ℕ, List, Ok, Some, rules}
+use Rattle.fk_causes.specs.Shelf.{HasAt}
+use Rattle.fk_scenario.specs.Reading.{told}
+use Rattle.fk_run.specs.declared.top.Outcome.{Outcome}
+use Rattle.fk_run.specs.Commands.{trace_name}
+use Rattle.fk_run.specs.Play.{IsPlayed, IsPlay}
+use Rattle.fk_run.proofs.Due.{comes-also}
 use Rattle.fk_run.proofs.play.play.Goals as goal
 
-pub returns-in_default-clause-back : goal.returns-in_default-clause-back
-returns-in_default-clause-back c = λ moves spells. Spells-not_bad (MayPlay c.args.budget (world c.args.kernel.now)) c.args.text.now moves 0 spells (inl (c.in_default.ensures.none, refl))
-
-pub returns-in_default-next_move-clause-cause : goal.returns-in_default-next_move-clause-cause
-returns-in_default-next_move-clause-cause c =
-    let M = MayPlay c.args.budget (world c.args.kernel.now) in
-    let stops : BeginsWithNone (M c.loop-rest.moves) c.loop-rest.rest.now =
-    subst (λ (w : World). BeginsWithNone (λ move. (length c.loop-rest.moves < c.args.budget) × IsReadyMove w move) c.loop-rest.rest.now) c.loop-rest.invariant.made
-    (subst (λ (n : ℕ). BeginsWithNone (λ move. (n < c.args.budget) × IsReadyMove (world c.loop-rest.kernel) move) c.loop-rest.rest.now) c.len-index.ensures c.in_default-next_move.ensures.none) in
-    inr (
-      c.loop-rest.moves,
-      record {
-        legal = c.loop-rest.invariant.legal;
-        rest = c.loop-rest.rest.now;
-        spelled = c.loop-rest.invariant.spelled;
-        goes_on = search rules;
-        stops = stops;
-      },
-      c.len-index.ensures,
-    )
-
-pub loop-rest-preserved : goal.loop-rest-preserved
-loop-rest-preserved c =
-    let M = MayPlay c.args.budget (world c.args.kernel.now) in
-    let next = c.in-Some-next_move.ensures.found in
-    let may = c.in-Some-next_move.ensures.may in
-    let within : length c.loop-rest.moves < c.args.budget = omega (arith, may.0, c.len-index.ensures) in
-    let ready : IsReadyMove (played (world c.args.kernel.now) c.loop-rest.moves) c.in-Some-next_move.one = subst (λ (w : World). IsReadyMove w c.in-Some-next_move.one) c.loop-rest.invariant.made may.1 in
-    let more : AreLegal M (c.loop-rest.moves ++ c.in-Some-next_move.one ∷ []) = AreLegal-more M c.loop-rest.moves c.in-Some-next_move.one c.loop-rest.invariant.legal next.range (within, ready) in
-    let spelled = c.loop-rest.invariant.spelled ∙ ap (λ rest. trace_text c.loop-rest.moves ++ rest) next.spelled ∙ sym (trace_text-more c.loop-rest.moves c.in-Some-next_move.one c.in-Some-next_move.after.now) in
-    let made : world c.step.new.self ≡ played (world c.args.kernel.now) (c.loop-rest.moves ++ c.in-Some-next_move.one ∷ []) =
-    ap (λ (s : Step). s.world) (sym c.in_ok-step.ensures.step) ∙ ap (λ (w : World). after w c.in-Some-next_move.one) c.loop-rest.invariant.made ∙ sym (played-more (world c.args.kernel.now) c.loop-rest.moves c.in-Some-next_move.one) in
-    let few : length (c.loop-rest.moves ++ c.in-Some-next_move.one ∷ []) ≤ c.args.budget = omega (arith, within, length-append c.loop-rest.moves (c.in-Some-next_move.one ∷ [])) in
-    rw c.in_ok-push.ensures.ok (record { legal = more; spelled = spelled; made = made; few = few })
-
-pub returns-in_default-next_move-clause-back : goal.returns-in_default-next_move-clause-back
-returns-in_default-next_move-clause-back c = λ moves spells.
-    Spells-not_bad (MayPlay c.args.budget (world c.args.kernel.now)) c.args.text.now moves c.len-index.result spells (returns-in_default-next_move-clause-cause c)
-
-pub returns-clause-back : goal.returns-clause-back
-returns-clause-back c = λ moves spells.
-    let M = MayPlay c.args.budget (world c.args.kernel.now) in
-    let none : length c.loop-rest.rest.now ≡ 0 = search rules in
-    let read : Spells M c.args.text.now c.loop-rest.moves = record { legal = c.loop-rest.invariant.legal; spelled = trace_text-all c.args.text.now c.loop-rest.moves c.loop-rest.rest.now c.loop-rest.invariant.spelled none } in
-    Spells-same M c.args.text.now c.loop-rest.moves moves read spells
+pub returns-clause-comes : goal.returns-clause-comes
+returns-clause-comes g c =
+    let reading : told c.args.text.now ≡ Ok c.in_ok-scenario.scenario = search rules in
+    let found : HasAt (g.H.Shelf.files c.args.shelf.now) (trace_name c.args.name.now) (Some c.in_ok-trace.trace.items) = search rules in
+    comes-also (λ outcome. IsPlayed c.in_ok-scenario.scenario c.in_ok-trace.trace.items outcome.status outcome.report)
+    (IsPlay c.args.name.now (g.H.Shelf.files c.args.shelf.now) (told c.args.text.now))
+    (λ outcome text played. rw reading (Some c.in_ok-trace.trace.items, found, played))
+    c.play_scenario.result (rw (← c.deref.ensures.value) c.play_scenario.ensures.comes)

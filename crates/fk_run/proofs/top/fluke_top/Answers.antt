@@ -1,5 +1,9 @@
-use Rattle.fk_run.proofs.Prepared.{exec_prefix}
+use Rattle.std.proofs.Common.{◌≡◌, None, map, string_bytes, rules}
+use Rattle.fk_run.specs.Commands.{command_of}
+use Rattle.fk_run.proofs.Due.{no-command}
 use Rattle.fk_run.proofs.top.fluke_top.Goals as goal
 
-pub returns-in-Some-Exec-clause-prefix : goal.returns-in-Some-Exec-clause-prefix
-returns-in-Some-Exec-clause-prefix g c = λ is. rw (← c.in-Some-Exec.ensures, c.in-Some-Exec.field-0-is) (exec_prefix _ (g.H.Shelf.files c.args.shelf.now) _ _ (c.exec.ensures.prefix is))
+pub returns-in_default-clause-done : goal.returns-in_default-clause-done
+returns-in_default-clause-done g c =
+    let none : command_of (map string_bytes c.args.words.now) ≡ None = search rules in
+    no-command _ none _ _ _

@@ -1,4 +1,4 @@
-use Rattle.fk_run.proofs.Alone.{never-none, read-halted}
+use Rattle.fk_run.proofs.LoneSteps.{never-none, read-halted}
 use Rattle.fk_run.proofs.machine.Machine.halted.Goals as goal
 
 pub unreachable-requires : goal.unreachable-requires

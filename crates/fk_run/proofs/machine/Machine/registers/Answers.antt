@@ -1,4 +1,4 @@
-use Rattle.fk_run.proofs.Alone.{never-none, read-registers}
+use Rattle.fk_run.proofs.LoneSteps.{never-none, read-registers}
 use Rattle.fk_run.proofs.machine.Machine.registers.Goals as goal
 
 pub unreachable-requires : goal.unreachable-requires

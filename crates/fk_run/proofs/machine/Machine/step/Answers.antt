@@ -1,4 +1,4 @@
-use Rattle.fk_run.proofs.Alone.{step-store}
+use Rattle.fk_run.proofs.LoneSteps.{step-store}
 use Rattle.fk_run.proofs.machine.Machine.step.Goals as goal
 
 pub invariant_of-self : goal.invariant_of-self

@@ -1,0 +1,90 @@
+-- The first world of a scenario: what its entries make, in the order of the file.
+use Rattle.std.specs.Prelude.{ℕ, ◌*◌, ◌-◌, nat_lt, List, [], ◌∷◌, ◌++◌, map, length, take, drop, reverse, replicate, Option, Some, None, if◌then◌else◌}
+use Rattle.std.specs.List.{flat_map, slice_get}
+use Rattle.fk_model.specs.declared.limits.TheConstants.{PAGES, PAGE_WORDS}
+use Rattle.fk_model.specs.Places.{Path}
+use Rattle.fk_model.specs.Objects.{Body, and_then}
+use Rattle.fk_model.specs.Objects.Mode.{Running}
+use Rattle.fk_model.specs.Objects.Body.{Mutex, Thread_of}
+use Rattle.fk_model.specs.World.{World, Change, apply_all}
+use Rattle.fk_model.specs.World.Change.{Make, MakeSpace, PutPage}
+use Rattle.fk_model.specs.Searches.{slots}
+use Rattle.fk_store.specs.World.{first_world}
+use Rattle.fk_scenario.specs.declared.scenario.Program.{Program}
+use Rattle.fk_scenario.specs.declared.scenario.SpaceEntry.{SpaceEntry}
+use Rattle.fk_scenario.specs.declared.scenario.ObjectEntry.{ObjectEntry}
+use Rattle.fk_scenario.specs.declared.scenario.Scenario.{Scenario}
+use Rattle.fk_scenario.specs.declared.scenario.Spec.{Spec}
+use Rattle.fk_scenario.specs.declared.scenario.Spec.TheVariants as specs
+
+-- ---- pages
+
+-- the words of a page: those that are given, and zeros after them
+abbrev pub page_words : List ℕ → List ℕ
+page_words words = words ++ replicate (PAGE_WORDS - length words) 0
+
+-- pages of zeros
+abbrev pub zero_pages : Path → List ℕ → List Change
+zero_pages space pages = map (λ page. PutPage space page (page_words [])) pages
+
+-- the part of a program that stands in a page of its space
+abbrev pub program_page : Path → List ℕ → ℕ → List Change
+program_page space words page =
+    if nat_lt (page * PAGE_WORDS) (length words)
+    then PutPage space page (page_words (take PAGE_WORDS (drop (page * PAGE_WORDS) words))) ∷ []
+    else []
+
+-- a program stands at address 0
+abbrev pub program_pages : Path → List ℕ → List Change
+program_pages space words = flat_map (program_page space words) (slots PAGES)
+
+-- the words of the program with an index; none where a space has no program
+abbrev pub words_in : Option Program → List ℕ
+words_in None = []
+words_in (Some program) = program.words
+
+abbrev pub words_of_program : List Program → Option ℕ → List ℕ
+words_of_program programs index = words_in (and_then (slice_get programs) index)
+
+-- ---- spaces and objects. Texts name the slots of a path from the root down, and a world from the object up
+
+-- the root is there already
+abbrev pub space_itself : Path → List Change
+space_itself [] = []
+space_itself (k ∷ s) = MakeSpace (k ∷ s) None ∷ []
+
+-- a space, with its pages of zeros and its program
+abbrev pub space_changes : List Program → SpaceEntry → List Change
+space_changes programs s =
+    let space = reverse s.path in
+    space_itself space ++ (zero_pages space s.pages ++ program_pages space (words_of_program programs s.program))
+
+-- a thread runs from its entry on, with zeros in the registers that aren't given
+abbrev pub first_body : Spec → Option Body
+first_body (specs.Thread entry regs stops) =
+    Some (Thread_of (record { mode = Running (regs ++ replicate (16 - length regs) 0); counter = entry; stops = stops; talk = None; fault = None }))
+first_body (specs.Mutex locked) = Some (Mutex locked)
+-- the reader gives none of these yet
+first_body specs.Cond = None
+first_body specs.Portset = None
+first_body (specs.Mapping region first count offset write) = None
+first_body (specs.Region first count write keeper) = None
+first_body (specs.Port set) = None
+first_body (specs.Reference to) = None
+
+abbrev pub make_at : Path → Option Body → List Change
+make_at x None = []
+make_at x (Some body) = Make x body ∷ []
+
+abbrev pub object_changes : ObjectEntry → List Change
+object_changes o = make_at (reverse o.path) (first_body o.spec)
+
+-- ---- the whole
+
+-- the spaces in the order of the file, so that their birth numbers count from 1, and then the objects
+abbrev pub boot_changes : Scenario → List Change
+boot_changes s = flat_map (space_changes s.programs) s.spaces ++ flat_map object_changes s.objects
+
+-- the world with which a scenario begins
+unfoldable pub booted : Scenario → World
+booted s = apply_all (boot_changes s) first_world

@@ -1,0 +1,76 @@
+//! The store with which a scenario begins.
+ghost use Rattle.std.specs.Prelude.{◌≡◌, ◌≤◌, [], OnOk, IfOk};
+ghost use Rattle.std.specs.List.{flat_map};
+ghost use Rattle.fk_model.specs.World.{apply_all};
+ghost use Rattle.fk_scenario.specs.Kept.{EachAfter, KeepsSpace, KeepsObject, Keeps};
+ghost use Rattle.fk_scenario.specs.Spaces.{count_beneath};
+ghost use Rattle.fk_store.specs.World.{world, first_world};
+ghost use Rattle.fk_boot.specs.FirstWorld.{booted, space_changes, object_changes};
+ghost use Rattle.fk_boot.specs.MadeSoFar.{CanStand, AreBorn, HasSpaces};
+
+use crate::making::{make_object, make_space};
+use crate::pages::{put_program, put_zeros, words_of_program};
+use fk_model::NoMemory;
+use fk_scenario::{ObjectEntry, Program, Scenario, SpaceEntry};
+use fk_store::Store;
+use std::alloc::Global;
+
+/// Makes a space with its pages of zeros and its program.
+fn put_space(store: &mut Store, programs: &[Program], entry: &SpaceEntry) -> Result<(), NoMemory>
+    requires place { CanStand (world store.old) entry.now.path }
+    requires births { AreBorn (world store.old) }
+    requires few { (world store.old).next ≤ 256 }
+    ensures { OnOk result (world store.new ≡ apply_all (space_changes programs.now entry.now) (world store.old)) }
+{
+    let space = make_space(store, entry.path.as_slice())?;
+    put_zeros(store, space, entry.pages.as_slice())?;
+    put_program(store, space, words_of_program(programs, entry.program))
+}
+
+/// Makes the spaces of a scenario, in the order of its file.
+fn make_spaces(
+    store: &mut Store,
+    programs: &[Program],
+    entries: &[SpaceEntry],
+) -> Result<(), NoMemory>
+    requires first { world store.old ≡ first_world }
+    requires keeps { EachAfter (KeepsSpace programs.now) [] entries.now }
+    requires few { count_beneath entries.now ≤ 255 }
+    ensures world { OnOk result (world store.new ≡ apply_all (flat_map (space_changes programs.now) entries.now) (world store.old)) }
+    ensures stands { OnOk result (HasSpaces (world store.new) entries.now) }
+{
+    for entry in entries {
+        put_space(store, programs, entry)?;
+    }
+    Ok(())
+}
+
+/// Makes the objects of a scenario, in the order of its file.
+fn make_objects(
+    store: &mut Store,
+    spaces: &[SpaceEntry],
+    entries: &[ObjectEntry],
+) -> Result<(), NoMemory>
+    requires spaces { HasSpaces (world store.old) spaces.now }
+    requires keeps { EachAfter (KeepsObject spaces.now) [] entries.now }
+    ensures { OnOk result (world store.new ≡ apply_all (flat_map object_changes entries.now) (world store.old)) }
+{
+    for entry in entries {
+        make_object(store, entry)?;
+    }
+    Ok(())
+}
+
+/// The store with which a scenario begins: its spaces with their pages of zeros and their programs,
+/// and then its objects, each made in the order of the file. Spaces have birth numbers from 1 on,
+/// and the root 0. For want of memory there is none.
+pub fn boot(alloc: Global, scenario: &Scenario) -> Result<Store, NoMemory>
+    requires { Keeps scenario.now }
+    ensures { IfOk result (λ store. world store ≡ booted scenario.now) }
+{
+    let mut store = Store::new(alloc)?;
+    let spaces = scenario.spaces.as_slice();
+    make_spaces(&mut store, scenario.programs.as_slice(), spaces)?;
+    make_objects(&mut store, spaces, scenario.objects.as_slice())?;
+    Ok(store)
+}

@@ -1,0 +1,15 @@
+//! The first world of a scenario.
+//!
+//! It stands on `fk_scenario` for scenarios and on `fk_store` for the world that a store is. It
+//! promises that `boot` gives a store of the world that `specs/FirstWorld.antt` has: what the entries
+//! of the scenario make of a world that has the root alone, in the order of the file. It is never
+//! refused but for want of memory, since a scenario that was read keeps what this rests on.
+#![tactic(auto)]
+
+mod entries;
+mod making;
+mod pages;
+#[cfg(test)]
+mod tests;
+
+pub use entries::boot;

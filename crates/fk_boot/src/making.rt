@@ -1,0 +1,112 @@
+//! The spaces and the objects with which a scenario begins.
+ghost use Rattle.std.specs.Prelude.{◌≡◌, ℕ, ◌≤◌, ◌∷◌, length, reverse, Some, None, OnOk, IfOk, IfSome};
+ghost use Rattle.fk_model.specs.Objects.Body.{Thread_of};
+ghost use Rattle.fk_model.specs.Places.{Path};
+ghost use Rattle.fk_model.specs.Valid.{birth_at};
+ghost use Rattle.fk_model.specs.World.{apply_all};
+ghost use Rattle.fk_scenario.specs.Kept.{IsInRange};
+ghost use Rattle.fk_scenario.specs.declared.scenario.Spec.TheVariants as specs;
+ghost use Rattle.fk_store.specs.Bodies.{thread_by};
+ghost use Rattle.fk_store.specs.Paths.{path};
+ghost use Rattle.fk_store.specs.World.{world, IsSpace};
+ghost use Rattle.fk_boot.specs.FirstWorld as definitions;
+ghost use Rattle.fk_boot.specs.MadeSoFar.{HasPlace, CanStand, AreBorn};
+
+use fk_model::{Body, Mode, NoMemory, Thread, Who};
+use fk_scenario::{ObjectEntry, Spec};
+use fk_store::Store;
+
+/// The birth number of the space in a slot of a space.
+fn space_in(store: &Store, space: u32, slot: u8) -> Option<u32>
+    ensures birth { result ≡ birth_at (world store.now) (slot ∷ path store.now space) }
+    ensures path { IfSome result (λ birth. path store.now birth ≡ slot ∷ path store.now space) }
+{
+    match store.at(Who { space, slot }) {
+        Some(Body::Space { birth, .. }) => Some(*birth),
+        _ => None,
+    }
+}
+
+/// The birth number of the space with these slots from the root down.
+fn find_space(store: &Store, slots: &[u8]) -> Option<u32>
+    ensures birth { result ≡ birth_at (world store.now) (reverse slots.now) }
+    ensures path { IfSome result (λ birth. path store.now birth ≡ reverse slots.now) }
+{
+    let mut space = 0;
+    for slot in slots {
+        space = space_in(store, space, *slot)?;
+    }
+    Some(space)
+}
+
+/// Makes a space, unless it is the root, and gives its birth number.
+pub fn make_space(store: &mut Store, slots: &[u8]) -> Result<u32, NoMemory>
+    requires place { CanStand (world store.old) slots.now }
+    requires births { AreBorn (world store.old) }
+    requires few { (world store.old).next ≤ 256 }
+    ensures world { OnOk result (world store.new ≡ apply_all (definitions.space_itself (reverse slots.now)) (world store.old)) }
+    ensures path { IfOk result (λ space. path store.new space ≡ reverse slots.now) }
+    ensures space { IfOk result (λ space. IsSpace store.new space) }
+{
+    let [above @ .., slot] = slots else {
+        return Ok(0);
+    };
+    let space = find_space(store, above).unwrap();
+    let birth = store.next_birth();
+    let who = Who { space, slot: *slot };
+    store.make(
+        who,
+        Body::Space {
+            birth,
+            holder: None,
+        },
+    )?;
+    Ok(birth)
+}
+
+/// A thread that runs from its entry on, with these first registers, at most 16, and zeros in the
+/// others.
+fn first_thread(entry: u16, given: &[u64], stops: u16) -> Thread
+    requires { length given.now ≤ 16 }
+    ensures body { (paths : ℕ → Path) → Some (Thread_of (thread_by paths result)) ≡ definitions.first_body (specs.Thread entry given.now stops) }
+    ensures talk { result.talk ≡ None }
+    ensures fault { result.fault ≡ None }
+{
+    let mut regs = [0; 16];
+    regs[..given.len()].copy_from_slice(given);
+    Thread {
+        regs,
+        pc: u64::from(entry),
+        mode: Mode::Running,
+        stops,
+        talk: None,
+        fault: None,
+    }
+}
+
+/// Makes an object.
+pub fn make_object(store: &mut Store, object: &ObjectEntry) -> Result<(), NoMemory>
+    requires place { HasPlace (world store.old) object.now.path }
+    requires range { IsInRange object.now.spec }
+    ensures { OnOk result (world store.new ≡ apply_all (definitions.object_changes object.now) (world store.old)) }
+{
+    let [above @ .., slot] = object.path.as_slice() else {
+        return Ok(());
+    };
+    let space = find_space(store, above).unwrap();
+    let who = Who { space, slot: *slot };
+    match &object.spec {
+        Spec::Thread { entry, regs, stops } => {
+            let thread = first_thread(*entry, regs.as_slice(), *stops);
+            store.make(who, Body::Thread(thread))
+        }
+        Spec::Mutex { locked } => store.make(who, Body::Mutex { locked: *locked }),
+        // The reader gives none of these yet.
+        Spec::Cond
+        | Spec::Portset
+        | Spec::Mapping { .. }
+        | Spec::Region { .. }
+        | Spec::Port { .. }
+        | Spec::Reference { .. } => Ok(()),
+    }
+}

@@ -1,0 +1,4 @@
+pub mod KeptThreads
+pub mod ThreadScans
+pub mod Halts
+pub mod ThreadPaths

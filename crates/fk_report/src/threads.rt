@@ -1,0 +1,204 @@
+//! The user threads of a store, as a report has them.
+ghost use Rattle.std.specs.Prelude.{◌≡◌, ◌<◌, ◌↔◌, IsTrue, IfOk, OnOk, IfSome, IfNone, Contains, Some, [], reverse};
+ghost use Rattle.std.specs.List.{list_all};
+ghost use Rattle.std.specs.BTreeMap.{values, IsOrdered};
+ghost use Rattle.fk_store.specs.Paths.{path};
+ghost use Rattle.fk_store.specs.World.{world, place_of, IsLive};
+ghost use Rattle.fk_model.specs.Places.{Path};
+ghost use Rattle.fk_model.specs.World.{World};
+ghost use Rattle.fk_report.specs.Threads.{state_at, AreThreads, AreKept, by_slots, is_halted, HaveHalted};
+
+#[cfg(test)]
+mod tests;
+
+use fk_model::{List, Mode, NoMemory, Who};
+use fk_store::Store;
+use std::alloc::Global;
+use std::collections::BTreeMap;
+
+/// A thread as the report has it. Its path goes from its slot outwards: the last slot is one of the
+/// root's.
+#[derive(Drop)]
+pub struct ThreadState {
+    pub path: List<u8>,
+    pub mode: Mode,
+}
+
+/// The space in which an object lies; nothing where that is the root.
+fn space_of(store: &Store, who: Who) -> Option<Who>
+    requires { IsLive store.now who }
+    ensures root { IfNone result (path store.now who.space ≡ []) }
+    ensures place { IfSome result (λ space. path store.now who.space ≡ place_of store.now space) }
+    ensures live { IfSome result (λ space. IsLive store.now space) }
+    ensures older { IfSome result (λ space. space.space < who.space) }
+{
+    // What is there lies in a live space, so only the root has no home.
+    store.at(who)?;
+    store.home(who.space)
+}
+
+/// The path of an object, from its slot outwards.
+///
+/// # Errors
+///
+/// There is no memory for it.
+fn path_of(alloc: Global, store: &Store, who: Who) -> Result<List<u8>, NoMemory>
+    requires { IsLive store.now who }
+    ensures { IfOk result (λ path. path ≡ place_of store.now who) }
+{
+    let mut path = List::new(alloc);
+    path.push(who.slot)?;
+    let mut at = who;
+    while let Some(space) = space_of(store, at) {
+        path.push(space.slot)?;
+        at = space;
+    }
+    Ok(path)
+}
+
+/// The state of the user thread that stands in a slot, if one does.
+///
+/// # Errors
+///
+/// There is no memory for its path.
+fn state_of(alloc: Global, store: &Store, who: Who) -> Result<Option<ThreadState>, NoMemory>
+    ensures { IfOk result (λ state. state ≡ state_at (world store.now) (place_of store.now who)) }
+{
+    let Some(thread) = store.thread(who) else {
+        return Ok(None);
+    };
+    match thread.mode {
+        Mode::Native => Ok(None),
+        mode => Ok(Some(ThreadState {
+            path: path_of(alloc, store, who)?,
+            mode,
+        })),
+    }
+}
+
+/// A path from the root down.
+///
+/// # Errors
+///
+/// There is no memory for it.
+fn from_root(alloc: Global, path: &[u8]) -> Result<Vec<u8>, NoMemory>
+    ensures { IfOk result (λ slots. slots.items ≡ reverse path.now) }
+{
+    let mut slots = Vec::from_slice(alloc, path)?;
+    slots.reverse();
+    Ok(slots)
+}
+
+/// Keeps a thread under its path from the root down, which is how paths are compared.
+///
+/// # Errors
+///
+/// There is no memory for it.
+fn keep(
+    alloc: Global,
+    kept: &mut BTreeMap<Vec<u8>, ThreadState>,
+    thread: ThreadState,
+) -> Result<(), NoMemory>
+    ensures kept { (w : World) → state_at w thread.path ≡ Some thread → AreKept w kept.old.entries
+        → OnOk result (AreKept w kept.new.entries) }
+    ensures others { (w : World) → state_at w thread.path ≡ Some thread → AreKept w kept.old.entries
+        → (other : ThreadState) → state_at w other.path ≡ Some other
+        → Contains (values kept.old) other → OnOk result (Contains (values kept.new) other) }
+    ensures itself { OnOk result (Contains (values kept.new) thread) }
+{
+    let slots = from_root(alloc, thread.path.as_slice())?;
+    kept.insert(slots, thread)?;
+    Ok(())
+}
+
+/// Keeps the user thread that stands in a slot, if one does.
+///
+/// # Errors
+///
+/// There is no memory for it.
+fn keep_at(
+    alloc: Global,
+    kept: &mut BTreeMap<Vec<u8>, ThreadState>,
+    store: &Store,
+    who: Who,
+) -> Result<(), NoMemory>
+    ensures kept { AreKept (world store.now) kept.old.entries → OnOk result (AreKept (world store.now) kept.new.entries) }
+    ensures others { AreKept (world store.now) kept.old.entries
+        → (other : ThreadState) → state_at (world store.now) other.path ≡ Some other
+        → Contains (values kept.old) other → OnOk result (Contains (values kept.new) other) }
+    ensures itself { (thread : ThreadState) → state_at (world store.now) (place_of store.now who) ≡ Some thread
+        → OnOk result (Contains (values kept.new) thread) }
+{
+    match state_of(alloc, store, who)? {
+        None => Ok(()),
+        Some(thread) => keep(alloc, kept, thread),
+    }
+}
+
+/// The user threads of a store, by their paths from the root down.
+///
+/// # Errors
+///
+/// There is no memory for them.
+fn kept_of(alloc: Global, store: &Store) -> Result<BTreeMap<Vec<u8>, ThreadState>, NoMemory>
+    ensures kept { IfOk result (λ kept. AreKept (world store.now) kept.entries) }
+    ensures whole { IfOk result (λ kept. (x : Path) → (thread : ThreadState)
+        → state_at (world store.now) x ≡ Some thread → Contains (values kept) thread) }
+{
+    let mut kept = BTreeMap::new(alloc);
+    let mut at = store.after(None);
+    while let Some(who) = at {
+        keep_at(alloc, &mut kept, store, who)?;
+        at = store.after(Some(who));
+    }
+    Ok(kept)
+}
+
+/// The threads that are kept, in the order of their paths.
+///
+/// # Errors
+///
+/// There is no memory for the list.
+fn listed(
+    alloc: Global,
+    kept: BTreeMap<Vec<u8>, ThreadState>,
+) -> Result<List<ThreadState>, NoMemory>
+    ensures values { IfOk result (λ threads. threads ≡ values kept) }
+    ensures ordered { OnOk result (IsOrdered by_slots kept) }
+{
+    let mut threads = List::new(alloc);
+    for (_, thread) in kept {
+        threads.push(thread)?;
+    }
+    Ok(threads)
+}
+
+/// The user threads of a store, in the order of their paths.
+///
+/// # Errors
+///
+/// There is no memory for the list.
+pub fn threads_of(alloc: Global, store: &Store) -> Result<List<ThreadState>, NoMemory>
+    ensures { IfOk result (λ threads. AreThreads (world store.now) threads) }
+{
+    let kept = kept_of(alloc, store)?;
+    listed(alloc, kept)
+}
+
+/// Each of these threads has halted.
+fn each_has_halted(threads: &[ThreadState]) -> bool
+    ensures { result ≡ list_all (λ (t : ThreadState). is_halted t.mode) threads.now }
+{
+    threads
+        .iter()
+        .all(|thread| matches!(thread.mode, Mode::Halted(_)))
+}
+
+/// Whether each of these threads has halted. Where they are all user threads of a world, that says
+/// whether every user thread has.
+pub fn have_halted(threads: &[ThreadState]) -> bool
+    ensures each { result ≡ list_all (λ (t : ThreadState). is_halted t.mode) threads.now }
+    ensures world { (w : World) → AreThreads w threads.now → (IsTrue result ↔ HaveHalted w) }
+{
+    each_has_halted(threads)
+}

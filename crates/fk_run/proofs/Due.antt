@@ -1,0 +1,43 @@
+-- What is due, from what the parts of a call come to.
+use Rattle.std.proofs.Common.{◌≡◌, ℕ, Bool, true, false, List, [], Option, Some, None, Result, Ok, Err, refl, sym, append-nil}
+use Rattle.std.specs.Bool.{OnFalse}
+use Rattle.std.specs.Io.KnownBytes.{Appends}
+use Rattle.fk_causes.specs.Causes.{MayHold}
+use Rattle.fk_causes.specs.Shelf.{FileMap}
+use Rattle.fk_run.specs.declared.prepared.Prepared.{Prepared}
+use Rattle.fk_run.specs.declared.status.Status.{Status}
+use Rattle.fk_run.specs.declared.status.Status.TheVariants.{Usage}
+use Rattle.fk_run.specs.declared.top.Outcome.{Outcome}
+use Rattle.fk_run.specs.Commands.{Command}
+use Rattle.fk_run.specs.Outcomes.{without_report}
+use Rattle.fk_run.specs.Prepared.{ComesTo}
+use Rattle.fk_run.specs.Status.{was_cut_short}
+use Rattle.fk_run.specs.Top.{IsDone}
+
+-- one fact of an outcome and an output gives another
+pub comes-also : (P Q : Outcome → List ℕ → Type 0) →
+    ((outcome : Outcome) (text : List ℕ) → P outcome text → Q outcome text) → (r : Result Prepared Status) → ComesTo P r → ComesTo Q r
+comes-also P Q f (Ok run) comes = (f _ _ comes.0, comes.1)
+comes-also P Q f (Err status) comes = by (was_cut_short status) comes
+  where
+    by : (b : Bool) → OnFalse b (P (without_report status) []) → OnFalse b (Q (without_report status) [])
+    by true h = tt
+    by false h = f _ _ h
+
+-- what a source may hold: what it tells, or else anything
+held : (left : Option (List ℕ)) → (bytes : List ℕ) × MayHold left bytes
+held None = ([], tt)
+held (Some bytes) = (bytes, refl)
+
+appended-nothing : (written : Option (List ℕ)) → Appends written written []
+appended-nothing None = tt
+appended-nothing (Some bytes) = sym (append-nil bytes)
+
+-- words that are no command
+pub no-command : (command : Option Command) → command ≡ None →
+    (left : Option (List ℕ)) (files : Option FileMap) (written : Option (List ℕ)) → IsDone command left files written written (without_report Usage)
+no-command command none left files written = record {
+  text = [];
+  due = record { bytes = (held left).0; held = (held left).1; called_for = rw none (refl, refl) };
+  written = appended-nothing written;
+}

@@ -1,7 +1,0 @@
-use Rattle.std.proofs.Common.{◌≡◌, ◌++◌, drop, string_bytes}
-use Rattle.std.specs.List.{flat_map}
-use Rattle.fk_run.specs.Report as definitions
-use Rattle.fk_run.proofs.report.report_text.Given as goal
-
-abbrev pub invariant-loop-thread : goal.invariant-loop-thread
-invariant-loop-thread l = string_bytes l.text ++ flat_map definitions.thread_line (drop l.thread-index l.threads) ≡ definitions.report_text l.events l.fn.end l.threads

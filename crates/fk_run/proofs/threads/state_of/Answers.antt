@@ -1,7 +1,0 @@
-use Rattle.std.proofs.Common.{sym}
-use Rattle.fk_store.specs.World.{world, place_of}
-use Rattle.fk_run.proofs.ThreadPaths.{thread-there}
-use Rattle.fk_run.proofs.threads.state_of.Goals as goal
-
-pub path_of-requires : goal.path_of-requires
-path_of-requires c = thread-there (world c.args.store.now) (place_of c.args.store.now c.args.who) _ (sym c.in-Some.ensures.thread)

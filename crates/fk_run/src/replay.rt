@@ -1,0 +1,90 @@
+//! Playing a trace: each move is made as its line is read.
+ghost use Rattle.std.specs.Prelude.{◌≡◌, ◌<◌, ◌≤◌, List, length, IfOk, IfErr, IfSome, IfNone};
+ghost use Rattle.fk_model.specs.declared.moves.Move as moves_of;
+ghost use Rattle.fk_traces.specs.Trace.{BeginsWith, BeginsWithNone, Spells};
+ghost use Rattle.fk_run.specs.Replay.{IsReadyMove, MayPlay, played, IsCause, GivesMoves};
+ghost use Rattle.fk_run.specs.declared.replay.ReplayFail.TheVariants as fails;
+ghost use Rattle.fk_store.specs.World.{world};
+
+use fk_kernel::Kernel;
+use fk_model::{Ask, List as Items, Move, NoMemory};
+use fk_traces::{after_first_line, first_move};
+use std::alloc::Global;
+
+/// Why a trace isn't played to its end.
+#[derive(Clone, Copy)]
+pub enum ReplayFail {
+    /// The line of the move with this index is the first that is bad.
+    Trace { index: u64 },
+    /// There is no memory for the moves.
+    NoMemory,
+}
+
+impl From<NoMemory> for ReplayFail {
+    ghost from_gives = { λ _ fail. fail ≡ fails.NoMemory };
+
+    fn from(_: NoMemory) -> ReplayFail {
+        ReplayFail::NoMemory
+    }
+}
+
+/// The move whose line a text begins with, where it is ready and may be made after so many others,
+/// and what stands after that line.
+fn next_move<'a>(
+    kernel: &Kernel,
+    budget: u64,
+    done: u64,
+    text: &'a [u8],
+) -> Option<(Move, &'a [u8])>
+    ensures found { IfSome result (λ next. BeginsWith text.now next.0 next.1.now) }
+    ensures may { IfSome result (λ next. (done < budget) × IsReadyMove (world kernel.now) next.0) }
+    ensures none { IfNone result
+        (BeginsWithNone (λ move. (done < budget) × IsReadyMove (world kernel.now) move) text.now) }
+{
+    if done >= budget {
+        return None;
+    }
+    let (one, after) = first_move(text)?;
+    if kernel.ready(&one, &Ask::Run) {
+        Some((one, after))
+    } else {
+        None
+    }
+}
+
+/// Makes the moves of a trace, of which there may be as many as the budget has, and answers them.
+///
+/// # Errors
+///
+/// `Trace` with the index of the first line that is misspelled, whose move isn't ready in its turn,
+/// or that stands at the budget; a bad first line of the text counts as that of the move 0.
+/// `NoMemory` where there is no memory for the moves.
+#[tactic(auto, using(crate::proofs::Replays::played_nil, fk_traces::proofs::Traces::none_are_legal))]
+pub fn replay(
+    alloc: Global,
+    kernel: &mut Kernel,
+    budget: u64,
+    text: &[u8],
+) -> Result<Items<Move>, ReplayFail>
+    ensures found { IfOk result (λ moves. Spells (MayPlay budget (world kernel.old)) text.now moves) }
+    ensures few { IfOk result (λ moves. length moves ≤ budget) }
+    ensures world { IfOk result (λ moves. world kernel.new ≡ played (world kernel.old) moves) }
+    ensures cause { IfErr result (λ fail. IsCause (MayPlay budget (world kernel.old)) text.now fail) }
+    ensures back { (moves : List moves_of.Move)
+        → Spells (MayPlay budget (world kernel.old)) text.now moves → GivesMoves moves result }
+{
+    let Some(mut rest) = after_first_line(text) else {
+        return Err(ReplayFail::Trace { index: 0 });
+    };
+    let mut moves = Items::new(alloc);
+    while !rest.is_empty() {
+        let index = moves.len() as u64;
+        let Some((one, after)) = next_move(kernel, budget, index, rest) else {
+            return Err(ReplayFail::Trace { index });
+        };
+        moves.push(one)?;
+        kernel.step(&one, &Ask::Run)?;
+        rest = after;
+    }
+    Ok(moves)
+}
