@@ -57,7 +57,8 @@ module _ (m : Contents) (kept : IsWellFormed m) (who : Who) (there : is_there m 
           let no : same_who who who ≡ false = subst (λ w. same_who w who ≡ false) same apart in
           absurd (cc)
 
-module _ (m : Contents) (kept : IsWellFormed m) (who : Who) (there : is_there m who ≡ true) (empty : (k : ℕ) → (world m).body (k ∷ place (path m) who) ≡ None) where
+module _
+    (m : Contents) (kept : IsWellFormed m) (who : Who) (there : is_there m who ≡ true) (empty : (k : ℕ) → (world m).body (k ∷ place (path m) who) ≡ None) where
   -- nothing stands in it
   pub none_in : (n : ℕ) → birth_there m who ≡ Some n → (k : ℕ) → get m.bodies (at n k) ≡ None
   none_in n is k = by (get m.bodies (at n k)) refl
@@ -104,9 +105,11 @@ module _ (m : Contents) (kept : IsWellFormed m) (who : Who) (there : is_there m 
     path_by-stays : (k n : ℕ) → n ≤ k → is_number n (birth_there m who) ≡ false → path m2 n ≡ path m n
     path_by-stays k zero low off = path-root m2 ∙ sym (path-root m)
     path_by-stays zero (suc n) low off = absurd (omega arith)
-    path_by-stays (suc k) (suc n) low off = path-step m2 kept2 (suc n) (omega arith) ∙ ap (from_home (path m2)) (home_stays (suc n) off) ∙ by (home m (suc n)) refl (path_by-stays k) ∙ sym (path-step m kept (suc n) (omega arith))
+    path_by-stays (suc k) (suc n) low off = path-step m2 kept2 (suc n) (omega arith)
+        ∙ ap (from_home (path m2)) (home_stays (suc n) off) ∙ by (home m (suc n)) refl (path_by-stays k) ∙ sym (path-step m kept (suc n) (omega arith))
       where
-        by : (o : Option Who) → home m (suc n) ≡ o → ((q : ℕ) → q ≤ k → is_number q (birth_there m who) ≡ false → path m2 q ≡ path m q) → from_home (path m2) (home m (suc n)) ≡ from_home (path m) (home m (suc n))
+        by : (o : Option Who) → home m (suc n) ≡ o → ((q : ℕ) → q ≤ k → is_number q (birth_there m who) ≡ false → path m2 q ≡ path m q) →
+            from_home (path m2) (home m (suc n)) ≡ from_home (path m) (home m (suc n))
         by None e ih = rw e refl
         by (Some q) e ih =
             let found = home-found m (suc n) q e in

@@ -43,7 +43,8 @@ module _ (m : Contents) (kept : IsWellFormed m) where
       there None is = absurd (cc)
       there (Some b) is = refl
 
-      by : (o : Option ℕ) → space_at m s ≡ o → is_some (and_then (λ n. option_map (body_by (path m)) (get m.bodies (at n k))) o) ≡ true → (n : ℕ) × (space_at m s ≡ Some n) × (is_there m (at n k) ≡ true)
+      by : (o : Option ℕ) → space_at m s ≡ o → is_some (and_then (λ n. option_map (body_by (path m)) (get m.bodies (at n k))) o) ≡ true →
+          (n : ℕ) × (space_at m s ≡ Some n) × (is_there m (at n k) ≡ true)
       by None e is = absurd (cc)
       by (Some n) e is = (n, e, there (get m.bodies (at n k)) is)
 

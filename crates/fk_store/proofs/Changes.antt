@@ -10,7 +10,8 @@ use Rattle.fk_store.specs.Makes.{making}
 use Rattle.fk_store.proofs.Walks.{same_path_true}
 
 -- f and g at one path, where they answer alike what stands there
-alike_at : (w : World) (x : Path) (f g : Option Body → Option Body) → f (w.body x) ≡ g (w.body x) → (q : Path) → cond (same_path q x) (f (w.body q)) (w.body q) ≡ cond (same_path q x) (g (w.body q)) (w.body q)
+alike_at : (w : World) (x : Path) (f g : Option Body → Option Body) →
+    f (w.body x) ≡ g (w.body x) → (q : Path) → cond (same_path q x) (f (w.body q)) (w.body q) ≡ cond (same_path q x) (g (w.body q)) (w.body q)
 alike_at w x f g same q = by (same_path q x) refl
   where
     by : (t : Bool) → same_path q x ≡ t → cond t (f (w.body q)) (w.body q) ≡ cond t (g (w.body q)) (w.body q)
@@ -35,13 +36,15 @@ kinds-make w x new kind = λ i q. at q i
         by true e = subst (λ y. Some (kind_of new) ≡ option_map kind_of (w.body y)) (sym (same_path_true q x e)) (sym kind)
 
 -- what is made where nothing stood leaves the kinds of all else
-pub kinds-making : (w : World) (x : Path) (new : Body) → w.body x ≡ None → (q : Path) → IsSome (kind_there w q) → kind_there (apply (making x new) w) q ≡ kind_there w q
+pub kinds-making : (w : World) (x : Path) (new : Body) →
+    w.body x ≡ None → (q : Path) → IsSome (kind_there w q) → kind_there (apply (making x new) w) q ≡ kind_there w q
 unfolding kind_there apply
 kinds-making w x new none q some = by new
   where
     apart : (t : Bool) → same_path q x ≡ t → t ≡ false
     apart false e = refl
-    apart true e = let here = same_path_true q x e in let nothing : w.body q ≡ None = rw here none in let kind : option_map kind_of (w.body q) ≡ None = rw nothing refl in absurd (cc)
+    apart true e = let here = same_path_true q x e in
+        let nothing : w.body q ≡ None = rw here none in let kind : option_map kind_of (w.body q) ≡ None = rw nothing refl in absurd (cc)
 
     made : (b : Option Body) → option_map kind_of (cond (same_path q x) b (w.body q)) ≡ kind_there w q
     made b = rw (apart (same_path q x) refl) refl
@@ -74,7 +77,8 @@ kinds-through f q None = refl
 kinds-through f q (Some b) = ap Some (kind-through f q b)
 
 -- what is destroyed is gone, and all else is of its kind
-pub kinds-kill : (w : World) (x q : Path) → (same_path q x ≡ true → kind_there (apply (Kill x) w) q ≡ None) × (same_path q x ≡ false → kind_there (apply (Kill x) w) q ≡ kind_there w q)
+pub kinds-kill : (w : World) (x q : Path) →
+    (same_path q x ≡ true → kind_there (apply (Kill x) w) q ≡ None) × (same_path q x ≡ false → kind_there (apply (Kill x) w) q ≡ kind_there w q)
 unfolding kind_there apply
 kinds-kill w x q = (λ here. rw here refl, λ apart. rw apart (kinds-through (death_sweep x) q (w.body q)))
 

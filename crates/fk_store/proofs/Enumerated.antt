@@ -18,7 +18,8 @@ use Rattle.fk_store.proofs.Walks.{not_root, path-home, path-space_at, live-home}
 use Rattle.fk_store.proofs.LookUps.{live-IsSpace, IsSpace-live}
 
 -- the first of those for which P holds is that of those for which Q holds, where the two say one thing
-pub first_after-map : {K : Type 0} (R : K → K → Ordering) (P Q : K → Type 0) → ((k : K) → P k → Q k) → ((k : K) → Q k → P k) → (k next : Option K) → IsFirstAfter R P k next → IsFirstAfter R Q k next
+pub first_after-map : {K : Type 0} (R : K → K → Ordering) (P Q : K → Type 0) →
+    ((k : K) → P k → Q k) → ((k : K) → Q k → P k) → (k next : Option K) → IsFirstAfter R P k next → IsFirstAfter R Q k next
 first_after-map R P Q to from k None h = λ q there later. h q (from q there) later
 first_after-map R P Q to from k (Some next) h = (to next h.0, h.1, λ q there later. h.2 q (from q there) later)
 
@@ -27,7 +28,8 @@ module _ (m : Contents) (kept : IsWellFormed m) where
   unfolding kind_there world
   named-object k s h = by (space_at m s) refl h
     where
-      by : (o : Option ℕ) → space_at m s ≡ o → is_some (option_map kind_of (and_then (λ n. option_map (body_by (path m)) (get m.bodies (at n k))) o)) ≡ true → (who : Who) × (place (path m) who ≡ k ∷ s)
+      by : (o : Option ℕ) → space_at m s ≡ o → is_some (option_map kind_of (and_then (λ n. option_map (body_by (path m)) (get m.bodies (at n k))) o)) ≡ true →
+          (who : Who) × (place (path m) who ≡ k ∷ s)
       by None e some = absurd (cc)
       by (Some n) e some = (at n k, ap (λ t. k ∷ t) (path-space_at m kept s n e))
 

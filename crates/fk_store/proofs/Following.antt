@@ -39,26 +39,31 @@ module _ (p : ℕ → Path) (from to : Who) (apart : HasOwnPath p from) where
       by true = refl
       by false = refl
 
-  holder-following : (o : Option Who) → option_map (λ who. places.Ptr.At (place p who)) (and_then (after moving) o) ≡ and_then (following x y).holder (option_map (λ who. places.Ptr.At (place p who)) o)
+  holder-following : (o : Option Who) → option_map (λ who. places.Ptr.At (place p who))
+      (and_then (after moving) o) ≡ and_then (following x y).holder (option_map (λ who. places.Ptr.At (place p who)) o)
   holder-following None = refl
   holder-following (Some who) = rw ((apart who).0) (by (same_who who from))
     where
-      by : (t : Bool) → option_map (λ who. places.Ptr.At (place p who)) (if t then Some to else Some who) ≡ Some (if t then places.Ptr.At y else places.Ptr.At (place p who))
+      by : (t : Bool) →
+          option_map (λ who. places.Ptr.At (place p who)) (if t then Some to else Some who) ≡ Some (if t then places.Ptr.At y else places.Ptr.At (place p who))
       by true = refl
       by false = refl
 
   peer-following : (peer : Peer) → option_map (peer_by p) (peer_after moving peer) ≡ Some (follow_peer x y (peer_by p peer))
   peer-following (peers.Thread who) = rw ((apart who).0) (by (same_who who from))
     where
-      by : (t : Bool) → option_map (peer_by p) (option_map peers.Thread (if t then Some to else Some who)) ≡ Some (objects.Peer.Server (if t then places.Ptr.At y else places.Ptr.At (place p who)))
+      by : (t : Bool) → option_map (peer_by p)
+          (option_map peers.Thread (if t then Some to else Some who)) ≡ Some (objects.Peer.Server (if t then places.Ptr.At y else places.Ptr.At (place p who)))
       by true = refl
       by false = refl
   peer-following peers.Service = refl
   peer-following peers.Parked = refl
 
   -- a talk of these parts
-  talk-parts : (talk : Talk) (port : Option Who) (peer : Option Peer) (to_port : places.Ptr) (by_peer : objects.Peer) → option_map (λ who. places.Ptr.At (place p who)) port ≡ Some to_port → option_map (peer_by p) peer ≡ Some by_peer →
-      option_map (talk_by p) (and_then (λ port. option_map (λ peer. record talk { port = port; peer = peer }) peer) port) ≡ Some (record (talk_by p talk) { port = to_port; peer = by_peer })
+  talk-parts : (talk : Talk) (port : Option Who) (peer : Option Peer) (to_port : places.Ptr) (by_peer : objects.Peer) →
+      option_map (λ who. places.Ptr.At (place p who)) port ≡ Some to_port → option_map (peer_by p) peer ≡ Some by_peer →
+      option_map (talk_by p) (and_then (λ port. option_map (λ peer. record talk { port = port; peer = peer }) peer) port) ≡ Some
+      (record (talk_by p talk) { port = to_port; peer = by_peer })
   talk-parts talk None peer to_port by_peer a b = absurd (cc)
   talk-parts talk (Some port) None to_port by_peer a b = absurd (cc)
   talk-parts talk (Some port) (Some peer) to_port by_peer a b =
@@ -76,8 +81,10 @@ module _ (p : ℕ → Path) (from to : Who) (apart : HasOwnPath p from) where
   taker-following None = refl
   taker-following (Some peer) = peer-following peer
 
-  fault-parts : (fault : Fault) (port : Option Who) (taker : Option Peer) (to_port : places.Ptr) → option_map (λ who. places.Ptr.At (place p who)) port ≡ Some to_port →
-      option_map (fault_by p) (option_map (λ port. record fault { port = port; taker = taker }) port) ≡ Some (record (fault_by p fault) { port = to_port; taker = option_map (peer_by p) taker })
+  fault-parts : (fault : Fault) (port : Option Who) (taker : Option Peer) (to_port : places.Ptr) →
+      option_map (λ who. places.Ptr.At (place p who)) port ≡ Some to_port →
+      option_map (fault_by p) (option_map (λ port. record fault { port = port; taker = taker }) port) ≡ Some
+      (record (fault_by p fault) { port = to_port; taker = option_map (peer_by p) taker })
   fault-parts fault None taker to_port a = absurd (cc)
   fault-parts fault (Some port) taker to_port a =
       let at_port : places.Ptr.At (place p port) ≡ to_port = cc in
@@ -95,7 +102,8 @@ module _ (p : ℕ → Path) (from to : Who) (apart : HasOwnPath p from) where
       by true = refl
       by false = refl
 
-  and_then-mapped : {A B : Type 0} (f : A → B) (g : A → Option A) (h : B → Option B) → ((a : A) → option_map f (g a) ≡ h (f a)) → (o : Option A) → option_map f (and_then g o) ≡ and_then h (option_map f o)
+  and_then-mapped : {A B : Type 0} (f : A → B) (g : A → Option A) (h : B → Option B) →
+      ((a : A) → option_map f (g a) ≡ h (f a)) → (o : Option A) → option_map f (and_then g o) ≡ and_then h (option_map f o)
   and_then-mapped f g h same None = refl
   and_then-mapped f g h same (Some a) = same a
 
@@ -103,8 +111,10 @@ module _ (p : ℕ → Path) (from to : Who) (apart : HasOwnPath p from) where
   pub body-following : (space slot : ℕ) (b : Body) → body_by p (body_after moving space b) ≡ through (following x y) (slot ∷ p space) (body_by p b)
   body-following space slot (Mutex locked) = refl
   body-following space slot Cond = refl
-  body-following space slot (Mapping first count offset write region) = ap (λ to. objects.Body.Mapping (record { first = first; count = count; offset = offset; write = write; region = to })) (pointer-following region)
-  body-following space slot (Region first count write keeper) = ap (λ to. objects.Body.Region (record { first = first; count = count; write = write; keeper = to })) (pointer-following keeper)
+  body-following space slot (Mapping first count offset write region) =
+      ap (λ to. objects.Body.Mapping (record { first = first; count = count; offset = offset; write = write; region = to })) (pointer-following region)
+  body-following space slot (Region first count write keeper) =
+      ap (λ to. objects.Body.Region (record { first = first; count = count; write = write; keeper = to })) (pointer-following keeper)
   body-following space slot (Port set served) = ap (λ set. objects.Body.Port set served) (set-following space slot set)
   body-following space slot Portset = refl
   body-following space slot (Space birth holder) = ap (objects.Body.Space birth) (holder-following holder)

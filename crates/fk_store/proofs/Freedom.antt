@@ -32,7 +32,8 @@ pub outcome-calling : (w : World) (k : ℕ) (s : Path) (pick : Option Path) (sta
 unfolding outcome todo_at is_free_at
 outcome-calling w k s pick stage todo is = by (thread_at w (k ∷ s)) refl is
   where
-    by : (o : Option Thread) → thread_at w (k ∷ s) ≡ o → todo_of_thread o ≡ stage ∷ todo → outcome w (k ∷ s) pick asks.Run ≡ when (is_free_at w (k ∷ s)) (call_row w (user_at (k ∷ s)) pick stage)
+    by : (o : Option Thread) → thread_at w (k ∷ s) ≡ o →
+        todo_of_thread o ≡ stage ∷ todo → outcome w (k ∷ s) pick asks.Run ≡ when (is_free_at w (k ∷ s)) (call_row w (user_at (k ∷ s)) pick stage)
     by None e is = absurd (cc)
     by (Some t) e is = let calling = todo_calling t stage todo is in rw (e, calling.1) refl
 
@@ -49,7 +50,8 @@ undecided w s free = by (decider w s) free
 pub unfrozen_space : (w : World) (me s : Path) → is_frozen w s ≡ false → is_frozen_for w me s ≡ false
 unfrozen_space w me s free = rw (undecided w s free) refl
 
-pub unfrozen_object : (w : World) (me : Path) (k : ℕ) (s : Path) → is_frozen w s ≡ false → holder_of (w.body (k ∷ s)) ≡ None → is_frozen_for w me (k ∷ s) ≡ false
+pub unfrozen_object : (w : World) (me : Path) (k : ℕ) (s : Path) →
+    is_frozen w s ≡ false → holder_of (w.body (k ∷ s)) ≡ None → is_frozen_for w me (k ∷ s) ≡ false
 unfolding decider
 unfrozen_object w me k s free none = rw (undecided w s free, none) refl
 

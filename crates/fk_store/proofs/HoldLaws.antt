@@ -52,12 +52,14 @@ module _ (m : Contents) (kept : IsWellFormed m) where
   decider-none (suc n) h = decider-lost (suc n) (rw (not_root (suc n) (omega arith), h) refl)
 
   -- and else goes on from there
-  decider-home : (n : ℕ) (who : Who) → home m n ≡ Some who → decider (world m) (path m n) ≡ or_else (decider (world m) (path m who.space)) (holder_of ((world m).body (place (path m) who)))
+  decider-home : (n : ℕ) (who : Who) →
+      home m n ≡ Some who → decider (world m) (path m n) ≡ or_else (decider (world m) (path m who.space)) (holder_of ((world m).body (place (path m) who)))
   unfolding decider
   decider-home n who h = rw (path-home m kept n who h) refl
 
 -- an object's decider is that of its space, or else its own holder
-pub decider-object : (m : Contents) (who : Who) → decider (world m) (place (path m) who) ≡ or_else (decider (world m) (path m who.space)) (holder_of ((world m).body (place (path m) who)))
+pub decider-object : (m : Contents) (who : Who) →
+    decider (world m) (place (path m) who) ≡ or_else (decider (world m) (path m who.space)) (holder_of ((world m).body (place (path m) who)))
 unfolding decider
 decider-object m who = refl
 
@@ -73,17 +75,22 @@ pub each-or : {A : Type 0} (P : A → Type 0) (a b : Option A) → Each P a → 
 each-or P None b h k = k
 each-or P (Some a) b h k = h
 
-module _ (m : Contents) (kept : IsWellFormed m) (n : ℕ) (found : Option Who) (all : Option Ptr) (so_far : or_else (decider (world m) (path m n)) (option_map (λ q. At (place (path m) q)) found) ≡ all) where
+module _ (m : Contents) (kept : IsWellFormed m) (n : ℕ)
+    (found : Option Who) (all : Option Ptr) (so_far : or_else (decider (world m) (path m n)) (option_map (λ q. At (place (path m) q)) found) ≡ all) where
   -- at the top the walk is done
   pub decided : home m n ≡ None → option_map (λ q. At (place (path m) q)) found ≡ all
   decided lost = sym (ap (λ o. or_else o (option_map (λ q. At (place (path m) q)) found)) (decider-none m kept n lost)) ∙ so_far
 
   -- a step up
-  pub decided-above : (who : Who) (here : Option Who) → home m n ≡ Some who → option_map (λ q. At (place (path m) q)) here ≡ holder_of ((world m).body (place (path m) who)) → or_else (decider (world m) (path m who.space)) (option_map (λ q. At (place (path m) q)) (option_or here found)) ≡ all
+  pub decided-above : (who : Who) (here : Option Who) →
+      home m n ≡ Some who → option_map (λ q. At (place (path m) q)) here ≡ holder_of ((world m).body (place (path m) who)) →
+      or_else (decider (world m) (path m who.space)) (option_map (λ q. At (place (path m) q)) (option_or here found)) ≡ all
   decided-above who here up is =
       ap (or_else (decider (world m) (path m who.space))) (or_mapped (λ q. At (place (path m) q)) here found)
-      ∙ sym (or_else-assoc (decider (world m) (path m who.space)) (option_map (λ q. At (place (path m) q)) here) (option_map (λ q. At (place (path m) q)) found))
-      ∙ ap (λ o. or_else o (option_map (λ q. At (place (path m) q)) found)) (ap (or_else (decider (world m) (path m who.space))) is ∙ sym (decider-home m kept n who up))
+      ∙ sym
+      (or_else-assoc (decider (world m) (path m who.space)) (option_map (λ q. At (place (path m) q)) here) (option_map (λ q. At (place (path m) q)) found))
+      ∙ ap (λ o. or_else o (option_map (λ q. At (place (path m) q)) found))
+      (ap (or_else (decider (world m) (path m who.space))) is ∙ sym (decider-home m kept n who up))
       ∙ so_far
 
 -- who decides has a path of its own
@@ -94,7 +101,8 @@ live-apart m kept (Some who) h = place-apart m kept who (kept.housed who (IsLive
 pub is_frozen-none : (m : Contents) → IsWellFormed m → (n : ℕ) → home m n ≡ None → false ≡ is_frozen (world m) (path m n)
 is_frozen-none m kept n h = rw (decider-none m kept n h) refl
 
-pub is_frozen-some : (m : Contents) → IsWellFormed m → (n : ℕ) (who : Who) (found : Option Who) → home m n ≡ Some who → option_map (λ q. At (place (path m) q)) found ≡ decider (world m) (place (path m) who) → is_some found ≡ is_frozen (world m) (path m n)
+pub is_frozen-some : (m : Contents) → IsWellFormed m → (n : ℕ) (who : Who) (found : Option Who) → home m n ≡ Some who →
+    option_map (λ q. At (place (path m) q)) found ≡ decider (world m) (place (path m) who) → is_some found ≡ is_frozen (world m) (path m n)
 is_frozen-some m kept n who found up is = rw (path-home m kept n who up, ← is) (by found)
   where
     by : (o : Option Who) → is_some o ≡ is_some (option_map (λ q. At (place (path m) q)) o)

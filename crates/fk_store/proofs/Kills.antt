@@ -28,15 +28,18 @@ use Rattle.fk_store.proofs.Alone.{none_either, apart, own, left_off, housed_off,
 use Rattle.fk_store.proofs.Without.{body-without}
 
 -- all bodies are swept, and one is taken away, with the pages of its space
-pub bodies-taken : (old swept new : FinMap who_cmp bodies_of.Body) (who : Who) → ((q : Who) → get swept q ≡ option_map (body_after (record { from = who; to = None }) q.space) (get old q)) → new ≡ remove swept who →
+pub bodies-taken : (old swept new : FinMap who_cmp bodies_of.Body) (who : Who) →
+    ((q : Who) → get swept q ≡ option_map (body_after (record { from = who; to = None }) q.space) (get old q)) → new ≡ remove swept who →
     (q : Who) → get new q ≡ cond (same_who q who) None (option_map (body_after (record { from = who; to = None }) q.space) (get old q))
 bodies-taken old swept new who sweeps takes q = rw (takes, get-remove who_total swept who q, same_tied q who, sweeps q) refl
 
-pub pages-taken : (old new : FinMap page_cmp (List ℕ)) (space birth : Option ℕ) → space ≡ birth → ((n g : ℕ) → get new (n, g) ≡ cond (is_number n space) None (get old (n, g))) →
+pub pages-taken : (old new : FinMap page_cmp (List ℕ)) (space birth : Option ℕ) →
+    space ≡ birth → ((n g : ℕ) → get new (n, g) ≡ cond (is_number n space) None (get old (n, g))) →
     (n g : ℕ) → get new (n, g) ≡ cond (is_number n birth) None (get old (n, g))
 pages-taken old new space birth is takes n g = takes n g ∙ ap (λ o. cond (is_number n o) None (get old (n, g))) is
 
-module _ (m : Contents) (kept : IsWellFormed m) (who : Who) (there : is_there m who ≡ true) (empty : (k : ℕ) → (world m).body (k ∷ place (path m) who) ≡ None) where
+module _
+    (m : Contents) (kept : IsWellFormed m) (who : Who) (there : is_there m who ≡ true) (empty : (k : ℕ) → (world m).body (k ∷ place (path m) who) ≡ None) where
   abbrev gone : Sweep
   gone = record { from = who; to = None }
 
@@ -49,7 +52,8 @@ module _ (m : Contents) (kept : IsWellFormed m) (who : Who) (there : is_there m 
     births : (q : Who) → birth_there killed q ≡ cond (same_who q who) None (birth_there m q)
     births q = rw (bodies q) (by (same_who q who) (get m.bodies q))
       where
-        by : (t : Bool) (o : Option bodies_of.Body) → and_then stored_birth (cond t None (option_map (body_after gone q.space) o)) ≡ cond t None (and_then stored_birth o)
+        by : (t : Bool) (o : Option bodies_of.Body) →
+            and_then stored_birth (cond t None (option_map (body_after gone q.space) o)) ≡ cond t None (and_then stored_birth o)
         by true o = refl
         by false None = refl
         by false (Some b) = birth-after gone q.space b
@@ -101,12 +105,14 @@ module _ (m : Contents) (kept : IsWellFormed m) (who : Who) (there : is_there m 
     leads_left : (q : Who) (c : bodies_of.Body) → get bodies2 q ≡ Some c → OnNamed (λ other. is_there killed other ≡ true) c
     leads_left q c h = by (same_who q who) (get m.bodies q) refl (sym (bodies q) ∙ h)
       where
-        by : (t : Bool) (o : Option bodies_of.Body) → get m.bodies q ≡ o → cond t None (option_map (body_after gone q.space) o) ≡ Some c → OnNamed (λ other. is_there killed other ≡ true) c
+        by : (t : Bool) (o : Option bodies_of.Body) →
+            get m.bodies q ≡ o → cond t None (option_map (body_after gone q.space) o) ≡ Some c → OnNamed (λ other. is_there killed other ≡ true) c
         by true o e is = absurd (cc)
         by false None e is = absurd (cc)
         by false (Some b) e is =
             let same : body_after gone q.space b ≡ c = cc in
-            subst (OnNamed (λ other. is_there killed other ≡ true)) same (named-after gone (λ other. is_there m other ≡ true) (λ other. is_there killed other ≡ true) there_stays tt q.space b (kept.leads q b e))
+            subst (OnNamed (λ other. is_there killed other ≡ true))
+            same (named-after gone (λ other. is_there m other ≡ true) (λ other. is_there killed other ≡ true) there_stays tt q.space b (kept.leads q b e))
 
     sized_left : (q : Who) (c : bodies_of.Body) → get bodies2 q ≡ Some c → IsSized c
     sized_left q c h = by (same_who q who) (get m.bodies q) refl (sym (bodies q) ∙ h)
@@ -148,11 +154,13 @@ module _ (m : Contents) (kept : IsWellFormed m) (who : Who) (there : is_there m 
     walk [] = refl
     walk (k ∷ s) = rw (walk s) (by (same_path s (place (path m) who)) refl)
       where
-        found : (o : Option ℕ) → space_at m s ≡ o → and_then (λ n. birth_there killed (at n k)) o ≡ cond (k == who.slot && same_path s (path m who.space)) None (and_then (λ n. birth_there m (at n k)) o)
+        found : (o : Option ℕ) → space_at m s ≡ o → and_then (λ n. birth_there killed (at n k))
+            o ≡ cond (k == who.slot && same_path s (path m who.space)) None (and_then (λ n. birth_there m (at n k)) o)
         found None e = sym (none_either (k == who.slot && same_path s (path m who.space)))
         found (Some n) e = rw (births (at n k), same_space m kept s n who.space e, and_back (k == who.slot) (n == who.space)) refl
 
-        by : (t : Bool) → same_path s (place (path m) who) ≡ t → and_then (λ n. birth_there killed (at n k)) (cond t None (space_at m s)) ≡ cond (k == who.slot && same_path s (path m who.space)) None (and_then (λ n. birth_there m (at n k)) (space_at m s))
+        by : (t : Bool) → same_path s (place (path m) who) ≡ t → and_then (λ n. birth_there killed (at n k))
+            (cond t None (space_at m s)) ≡ cond (k == who.slot && same_path s (path m who.space)) None (and_then (λ n. birth_there m (at n k)) (space_at m s))
         by true e =
             let same : s ≡ place (path m) who = same_path_true s (place (path m) who) e in
             let here : space_at m s ≡ birth_there m who = ap (space_at m) same ∙ own m kept who there in
@@ -160,35 +168,46 @@ module _ (m : Contents) (kept : IsWellFormed m) (who : Who) (there : is_there m 
         by false e = found (space_at m s) refl
 
     -- a body that is left, by paths
-    body_left : (n k : ℕ) (b : bodies_of.Body) → get m.bodies (at n k) ≡ Some b → body_by (path killed) (body_after gone n b) ≡ through (death_sweep (place (path m) who)) (k ∷ path m n) (body_by (path m) b)
+    body_left : (n k : ℕ) (b : bodies_of.Body) → get m.bodies (at n k) ≡ Some b →
+        body_by (path killed) (body_after gone n b) ≡ through (death_sweep (place (path m) who)) (k ∷ path m n) (body_by (path m) b)
     body_left n k b e =
         body_by-named (path killed) (path m) (body_after gone n b)
-        (named-after gone (λ q. is_there m q ≡ true) (λ q. place (path killed) q ≡ place (path m) q) (λ q h other. place-killed q h) tt n b (kept.leads (at n k) b e))
+        (named-after gone
+        (λ q. is_there m q ≡ true) (λ q. place (path killed) q ≡ place (path m) q) (λ q h other. place-killed q h) tt n b (kept.leads (at n k) b e))
         ∙ body-without (path m) who (apart m kept who there) (at n k) b
 
-    bodies_at : (q : Path) → body_at killed q ≡ cond (same_path q (place (path m) who)) None (option_map (through (death_sweep (place (path m) who)) q) (body_at m q))
+    bodies_at : (q : Path) →
+        body_at killed q ≡ cond (same_path q (place (path m) who)) None (option_map (through (death_sweep (place (path m) who)) q) (body_at m q))
     unfolding same_path
     bodies_at [] = refl
     bodies_at (k ∷ s) = rw (walk s) (by (same_path s (place (path m) who)) refl)
       where
         left : (n : ℕ) → space_at m s ≡ Some n → (t : Bool) (o : Option bodies_of.Body) → get m.bodies (at n k) ≡ o →
-            option_map (body_by (path killed)) (cond t None (option_map (body_after gone n) o)) ≡ cond t None (option_map (through (death_sweep (place (path m) who)) (k ∷ s)) (option_map (body_by (path m)) o))
+            option_map (body_by (path killed)) (cond t None (option_map (body_after gone n) o)) ≡ cond
+            t None (option_map (through (death_sweep (place (path m) who)) (k ∷ s)) (option_map (body_by (path m)) o))
         left n is true o e = refl
         left n is false None e = refl
-        left n is false (Some b) e = ap Some (body_left n k b e ∙ ap (λ t. through (death_sweep (place (path m) who)) (k ∷ t) (body_by (path m) b)) (path-space_at m kept s n is))
+        left n is false (Some b) e =
+            ap Some (body_left n k b e ∙ ap (λ t. through (death_sweep (place (path m) who)) (k ∷ t) (body_by (path m) b)) (path-space_at m kept s n is))
 
-        found : (o : Option ℕ) → space_at m s ≡ o → and_then (λ n. option_map (body_by (path killed)) (get bodies2 (at n k))) o ≡ cond (k == who.slot && same_path s (path m who.space)) None (option_map (through (death_sweep (place (path m) who)) (k ∷ s)) (and_then (λ n. option_map (body_by (path m)) (get m.bodies (at n k))) o))
+        found : (o : Option ℕ) → space_at m s ≡ o →
+            and_then (λ n. option_map (body_by (path killed)) (get bodies2 (at n k))) o ≡ cond (k == who.slot && same_path s (path m who.space))
+            None (option_map (through (death_sweep (place (path m) who)) (k ∷ s)) (and_then (λ n. option_map (body_by (path m)) (get m.bodies (at n k))) o))
         found None e = sym (none_either (k == who.slot && same_path s (path m who.space)))
-        found (Some n) e = rw (bodies (at n k), same_space m kept s n who.space e, and_back (k == who.slot) (n == who.space)) (left n e (n == who.space && k == who.slot) (get m.bodies (at n k)) refl)
+        found (Some n) e = rw (bodies (at n k), same_space m kept s n who.space e, and_back (k == who.slot) (n == who.space))
+            (left n e (n == who.space && k == who.slot) (get m.bodies (at n k)) refl)
 
-        by : (t : Bool) → same_path s (place (path m) who) ≡ t → and_then (λ n. option_map (body_by (path killed)) (get bodies2 (at n k))) (cond t None (space_at m s)) ≡ cond (k == who.slot && same_path s (path m who.space)) None (option_map (through (death_sweep (place (path m) who)) (k ∷ s)) (body_at m (k ∷ s)))
+        by : (t : Bool) →
+            same_path s (place (path m) who) ≡ t → and_then (λ n. option_map (body_by (path killed)) (get bodies2 (at n k))) (cond t None (space_at m s)) ≡ cond
+            (k == who.slot && same_path s (path m who.space)) None (option_map (through (death_sweep (place (path m) who)) (k ∷ s)) (body_at m (k ∷ s)))
         by true e = rw (empty_at m kept who there empty s k e) (sym (none_either (k == who.slot && same_path s (path m who.space))))
         by false e = found (space_at m s) refl
 
     pages_at : (s : Path) (g : ℕ) → page_at killed s g ≡ cond (same_path s (place (path m) who)) None (page_at m s g)
     pages_at s g = rw (walk s) (by (same_path s (place (path m) who)) refl)
       where
-        found : (o : Option ℕ) → space_at m s ≡ o → same_path s (place (path m) who) ≡ false → and_then (λ n. get pages2 (n, g)) o ≡ and_then (λ n. get m.pages (n, g)) o
+        found : (o : Option ℕ) →
+            space_at m s ≡ o → same_path s (place (path m) who) ≡ false → and_then (λ n. get pages2 (n, g)) o ≡ and_then (λ n. get m.pages (n, g)) o
         found None e off = refl
         found (Some n) e off = pages n g ∙ ap (λ t. cond t None (get m.pages (n, g))) (path_off m kept who there empty s n e off)
 
@@ -204,7 +223,8 @@ module _ (m : Contents) (kept : IsWellFormed m) (who : Who) (there : is_there m 
     kinds-killed x other = ap (λ w. kind_there w x) world-killed ∙ (kinds-kill (world m) (place (path m) who) x).1 other
 
     pub none-killed : kind_there (world killed) (place (path m) who) ≡ None
-    none-killed = ap (λ w. kind_there w (place (path m) who)) world-killed ∙ (kinds-kill (world m) (place (path m) who) (place (path m) who)).0 (same_path_refl (place (path m) who))
+    none-killed = ap (λ w. kind_there w (place (path m) who)) world-killed
+        ∙ (kinds-kill (world m) (place (path m) who) (place (path m) who)).0 (same_path_refl (place (path m) who))
 
     pub places-killed : (q : Who) → IsLive m q → place (path killed) q ≡ place (path m) q
     places-killed q h = place-killed q (IsLive-there m kept q h)

@@ -1,11 +1,11 @@
 -- Listed: the walk through all objects of a world comes to none of them twice.
-use Rattle.std.proofs.Common.{◌≡◌, ℕ, zero, suc, ◌<◌, inl, inr, List, [], ◌∷◌, ◌++◌, length, is_some, refl, sym, ap, ◌∙◌, arith}
+use Rattle.std.proofs.Common.{◌≡◌, ℕ, zero, suc, ◌<◌, inl, inr, List, [], ◌∷◌, ◌++◌, length, is_some, IsSome, refl, sym, ap, subst, ◌∙◌, arith}
 use Rattle.std.proofs.lemmas.List.{append_assoc, length-append}
 use Rattle.fk_model.specs.declared.limits.TheConstants.{SLOTS}
 use Rattle.fk_model.specs.Places.{Path, slot_of}
 use Rattle.fk_model.specs.World.{World}
 use Rattle.fk_model.specs.Searches.{slots, residents, depth, beneath_by, beneath, objects}
-use Rattle.fk_model.proofs.walks.Members.{IsIn, in_either, of_flat_map}
+use Rattle.fk_model.proofs.walks.Members.{IsIn, in_either, of_filter, of_flat_map}
 use Rattle.fk_store.proofs.Lists.{Differ, differ-append, differ-filter, differ-flat_map}
 
 below_slots : (n k : ℕ) → IsIn k (slots n) → k < n
@@ -74,3 +74,18 @@ objects-differ w = walk-differs depth w []
 pub not_root : (w : World) (y : Path) → IsIn y (objects w) → 0 < length y
 unfolding beneath
 not_root w y h = in_longer depth w [] y h
+
+-- and all that it comes to is there
+in_lives : (n : ℕ) (w : World) (s x : Path) → IsIn x (beneath_by n w s) → IsSome (w.body x)
+unfolding beneath_by residents
+in_lives zero w s x h = absurd h
+in_lives (suc n) w s x h =
+    let found = of_flat_map (block n w s) x (residents w s) h in
+    elim found.2 [
+      | inl e ↦ subst (λ x. IsSome (w.body x)) e (of_filter (λ k. is_some (w.body (k ∷ s))) found.0 (slots SLOTS) found.1).1
+      | inr g ↦ in_lives n w (found.0 ∷ s) x g
+    ]
+
+pub objects-live : (w : World) (x : Path) → IsIn x (objects w) → IsSome (w.body x)
+unfolding beneath
+objects-live w x h = in_lives depth w [] x h

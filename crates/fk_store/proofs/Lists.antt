@@ -42,7 +42,8 @@ module _ {A : Type 0} where
       let three = sum_by-cons f x b in
       omega (arith, one, two, three)
 
-  pub same_sum : (f : A → ℕ) (xs ys : List A) → Differ xs → Differ ys → ((z : A) → IsIn z xs → IsIn z ys) → ((z : A) → IsIn z ys → IsIn z xs) → sum_by f xs ≡ sum_by f ys
+  pub same_sum : (f : A → ℕ) (xs ys : List A) →
+      Differ xs → Differ ys → ((z : A) → IsIn z xs → IsIn z ys) → ((z : A) → IsIn z ys → IsIn z xs) → sum_by f xs ≡ sum_by f ys
   same_sum f [] [] dx dy to from = refl
   same_sum f [] (y ∷ ys) dx dy to from = absurd (from y (inl refl))
   same_sum f (x ∷ xs) ys dx dy to from =
@@ -51,7 +52,8 @@ module _ {A : Type 0} where
       sum_by-cons f x xs
       ∙ ap (λ n. f x + n) (same_sum f xs (s.0 ++ s.1) dx.1 out.1
       (λ z h. elim (out_of x z s.0 s.1 (subst (IsIn z) s.2 (to z (inr h)))) [ inl e ↦ absurd (dx.0 (subst (λ w. IsIn w xs) (sym e) h)) | inr g ↦ g ])
-      (λ z h. elim (from z (subst (IsIn z) (sym s.2) (into x z s.0 s.1 h))) [ inl e ↦ absurd (out.0 (subst (λ w. IsIn w (s.0 ++ s.1)) (sym e) h)) | inr g ↦ g ]))
+      (λ z h.
+      elim (from z (subst (IsIn z) (sym s.2) (into x z s.0 s.1 h))) [ inl e ↦ absurd (out.0 (subst (λ w. IsIn w (s.0 ++ s.1)) (sym e) h)) | inr g ↦ g ]))
       ∙ sym (sum-middle f x s.0 s.1)
       ∙ ap (sum_by f) (sym s.2)
 
@@ -68,7 +70,8 @@ module _ {A : Type 0} where
       by true rest = (λ g. h.0 (of_filter test x xs g).0, rest)
       by false rest = rest
 
-  pub differ-flat_map : {B : Type 0} (g : B → List A) (ks : List B) → Differ ks → ((k : B) → Differ (g k)) → ((k j : B) (y : A) → IsIn y (g k) → IsIn y (g j) → k ≡ j) → Differ (flat_map g ks)
+  pub differ-flat_map : {B : Type 0} (g : B → List A) (ks : List B) →
+      Differ ks → ((k : B) → Differ (g k)) → ((k j : B) (y : A) → IsIn y (g k) → IsIn y (g j) → k ≡ j) → Differ (flat_map g ks)
   differ-flat_map g [] dk each apart = tt
   differ-flat_map g (k ∷ ks) dk each apart =
       differ-append (g k) (flat_map g ks) (each k) (differ-flat_map g ks dk.1 each apart)

@@ -41,7 +41,8 @@ unfolding world space_at
 birth_at-space_at m [] = refl
 birth_at-space_at m (k ∷ s) = by (space_at m s)
   where
-    by : (o : Option ℕ) → and_then valid.birth_of (and_then (λ n. option_map (body_by (path m)) (get m.bodies (at n k))) o) ≡ and_then (λ n. birth_there m (at n k)) o
+    by : (o : Option ℕ) →
+        and_then valid.birth_of (and_then (λ n. option_map (body_by (path m)) (get m.bodies (at n k))) o) ≡ and_then (λ n. birth_there m (at n k)) o
     by None = refl
     by (Some n) = birth_mapped (path m) (get m.bodies (at n k))
 
@@ -55,7 +56,8 @@ module _ (m : Contents) (kept : IsWellFormed m) where
       none None e lost = refl
       none (Some b) e lost = let there : is_there m who ≡ true = rw e refl in let live = kept.housed who there in absurd (cc)
 
-      by : (b : Bool) → is_live m who.space ≡ b → and_then (λ n. option_map (body_by (path m)) (get m.bodies (at n who.slot))) (space_at m (path m who.space)) ≡ option_map (body_by (path m)) (get m.bodies who)
+      by : (b : Bool) → is_live m who.space ≡ b → and_then (λ n. option_map (body_by (path m)) (get m.bodies (at n who.slot)))
+          (space_at m (path m who.space)) ≡ option_map (body_by (path m)) (get m.bodies who)
       by true live = rw (space_at-path m kept who.space live) refl
       by false lost = rw (space_at-lost m kept who.space lost) (none (get m.bodies who) refl lost)
 

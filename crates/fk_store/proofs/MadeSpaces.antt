@@ -33,7 +33,8 @@ longer_apart k x = by (same_path (k ∷ x) x) refl
     by false e = refl
     by true e = let same = ap length (same_path_true (k ∷ x) x e) in absurd (omega arith)
 
-module _ (m : Contents) (kept : IsWellFormed m) (who : Who) (live : is_live m who.space ≡ true) (slot : who.slot < 256) (empty : get m.bodies who ≡ None) (holder : Option Who) where
+module _ (m : Contents) (kept : IsWellFormed m)
+    (who : Who) (live : is_live m who.space ≡ true) (slot : who.slot < 256) (empty : get m.bodies who ≡ None) (holder : Option Who) where
   space : bodies_of.Body
   space = bodies.Space m.next holder
 
@@ -101,11 +102,14 @@ module _ (m : Contents) (kept : IsWellFormed m) (who : Who) (live : is_live m wh
     younger = λ q n h. elim (births_after q n h) [ inl new ↦ rw (new.0, new.1) (live-born m kept who.space live) | inr old ↦ kept.younger q n old ];
     born = λ q n h. elim (births_after q n h) [ inl new ↦ rw new.1 (omega arith) | inr old ↦ let low = kept.born q n old in omega arith ];
     slots = λ q h. elim (before_there m kept who live slot empty (bodies.Space m.next holder) q h) [ inl e ↦ rw e slot | inr there ↦ kept.slots q there ];
-    housed = λ q h. live_stays q.space (elim (before_there m kept who live slot empty (bodies.Space m.next holder) q h) [ inl e ↦ rw e live | inr there ↦ kept.housed q there ]);
+    housed = λ q h. live_stays
+        q.space (elim (before_there m kept who live slot empty (bodies.Space m.next holder) q h) [ inl e ↦ rw e live | inr there ↦ kept.housed q there ]);
     paged = λ n page h. live_stays n (kept.paged n page h);
     leads = after_body m kept who live slot empty (bodies.Space m.next holder) (OnNamed (λ q. is_there with_space q ≡ true))
-        (OnNamed-map (λ q. is_there m q ≡ true) (λ q. is_there with_space q ≡ true) (after_there m kept who live slot empty (bodies.Space m.next holder)) (bodies.Space m.next holder) named)
-        (λ q c h. OnNamed-map (λ q. is_there m q ≡ true) (λ q. is_there with_space q ≡ true) (after_there m kept who live slot empty (bodies.Space m.next holder)) c (kept.leads q c h));
+        (OnNamed-map (λ q. is_there m q ≡ true)
+        (λ q. is_there with_space q ≡ true) (after_there m kept who live slot empty (bodies.Space m.next holder)) (bodies.Space m.next holder) named)
+        (λ q c h. OnNamed-map (λ q. is_there m q ≡ true)
+        (λ q. is_there with_space q ≡ true) (after_there m kept who live slot empty (bodies.Space m.next holder)) c (kept.leads q c h));
     sized = after_body m kept who live slot empty (bodies.Space m.next holder) IsSized tt kept.sized;
   }
 
@@ -114,9 +118,11 @@ module _ (m : Contents) (kept : IsWellFormed m) (who : Who) (live : is_live m wh
     path_stays : (k n : ℕ) → n ≤ k → n ≢ m.next → path with_space n ≡ path m n
     path_stays k zero low other = path-root with_space ∙ sym (path-root m)
     path_stays zero (suc n) low other = absurd (omega arith)
-    path_stays (suc k) (suc n) low other = path-step with_space kept2 (suc n) (omega arith) ∙ ap (from_home (path with_space)) (home-old (suc n) other) ∙ by (home m (suc n)) refl (path_stays k) ∙ sym (path-step m kept (suc n) (omega arith))
+    path_stays (suc k) (suc n) low other = path-step with_space kept2 (suc n) (omega arith)
+        ∙ ap (from_home (path with_space)) (home-old (suc n) other) ∙ by (home m (suc n)) refl (path_stays k) ∙ sym (path-step m kept (suc n) (omega arith))
       where
-        by : (o : Option Who) → home m (suc n) ≡ o → ((q : ℕ) → q ≤ k → q ≢ m.next → path with_space q ≡ path m q) → from_home (path with_space) (home m (suc n)) ≡ from_home (path m) (home m (suc n))
+        by : (o : Option Who) → home m (suc n) ≡ o →
+            ((q : ℕ) → q ≤ k → q ≢ m.next → path with_space q ≡ path m q) → from_home (path with_space) (home m (suc n)) ≡ from_home (path m) (home m (suc n))
         by None e ih = rw e refl
         by (Some q) e ih =
             let found = home-found m (suc n) q e in
@@ -161,7 +167,8 @@ module _ (m : Contents) (kept : IsWellFormed m) (who : Who) (live : is_live m wh
     none_before = rw (space_at-path m kept who.space live, empty) refl
 
     -- what stands in a path's slots after, where a walk down the path finds the new space, another one or none
-    slots_after : {A : Type 0} (f : Option bodies_of.Body → Option A) (new : A) → f None ≡ None → f (Some (bodies.Space m.next holder)) ≡ Some new → (s : Path) → space_at with_space s ≡ cond (same_path s (place (path m) who)) (Some m.next) (space_at m s) → (k : ℕ)
+    slots_after : {A : Type 0} (f : Option bodies_of.Body → Option A) (new : A) → f None ≡ None → f (Some (bodies.Space m.next holder)) ≡ Some new →
+        (s : Path) → space_at with_space s ≡ cond (same_path s (place (path m) who)) (Some m.next) (space_at m s) → (k : ℕ)
         → and_then (λ n. f (get (insert m.bodies who (bodies.Space m.next holder)) (at n k))) (space_at with_space s)
         ≡ cond (same_path (k ∷ s) (place (path m) who)) (Some new) (and_then (λ n. f (get m.bodies (at n k))) (space_at m s))
     unfolding same_path
@@ -175,11 +182,15 @@ module _ (m : Contents) (kept : IsWellFormed m) (who : Who) (live : is_live m wh
         false_right true = refl
         false_right false = refl
 
-        found : (o : Option ℕ) → space_at m s ≡ o → and_then (λ n. f (get (insert m.bodies who (bodies.Space m.next holder)) (at n k))) o ≡ cond (same_path (k ∷ s) (place (path m) who)) (Some new) (and_then (λ n. f (get m.bodies (at n k))) o)
+        found : (o : Option ℕ) → space_at m s ≡ o → and_then (λ n. f (get (insert m.bodies who (bodies.Space m.next holder)) (at n k)))
+            o ≡ cond (same_path (k ∷ s) (place (path m) who)) (Some new) (and_then (λ n. f (get m.bodies (at n k))) o)
         found None none = rw (lost_apart m kept who live s none, false_right (k == who.slot)) refl
-        found (Some n) here = rw (get-insert who_total m.bodies who (bodies.Space m.next holder) (at n k), tied n k who, same_space m kept s n who.space here) (chosen (k == who.slot && n == who.space) (get m.bodies (at n k)))
+        found (Some n) here = rw (get-insert who_total m.bodies who (bodies.Space m.next holder) (at n k), tied n k who, same_space m kept s n who.space here)
+            (chosen (k == who.slot && n == who.space) (get m.bodies (at n k)))
 
-        by : (t : Bool) → same_path s (place (path m) who) ≡ t → and_then (λ n. f (get (insert m.bodies who (bodies.Space m.next holder)) (at n k))) (cond t (Some m.next) (space_at m s)) ≡ cond (same_path (k ∷ s) (place (path m) who)) (Some new) (and_then (λ n. f (get m.bodies (at n k))) (space_at m s))
+        by : (t : Bool) → same_path s (place (path m) who) ≡ t →
+            and_then (λ n. f (get (insert m.bodies who (bodies.Space m.next holder)) (at n k))) (cond t (Some m.next) (space_at m s)) ≡ cond
+            (same_path (k ∷ s) (place (path m) who)) (Some new) (and_then (λ n. f (get m.bodies (at n k))) (space_at m s))
         by false e = found (space_at m s) refl
         by true e =
             let here : s ≡ place (path m) who = same_path_true s (place (path m) who) e in
@@ -194,10 +205,12 @@ module _ (m : Contents) (kept : IsWellFormed m) (who : Who) (live : is_live m wh
     walk-space (k ∷ s) = slots_after (and_then stored_birth) m.next refl refl s (walk-space s) k
 
     names_stay : (c : bodies_of.Body) → OnNamed (λ q. is_there m q ≡ true) c → body_by (path with_space) c ≡ body_by (path m) c
-    names_stay c named = body_by-named (path with_space) (path m) c (OnNamed-map (λ q. is_there m q ≡ true) (λ q. place (path with_space) q ≡ place (path m) q) there-place c named)
+    names_stay c named = body_by-named (path with_space)
+        (path m) c (OnNamed-map (λ q. is_there m q ≡ true) (λ q. place (path with_space) q ≡ place (path m) q) there-place c named)
 
     -- the world has the space at the path
-    pub world-space : OnNamed (λ q. is_there m q ≡ true) (bodies.Space m.next holder) → world with_space ≡ apply (MakeSpace (place (path m) who) (option_map (λ q. At (place (path m) q)) holder)) (world m)
+    pub world-space : OnNamed (λ q. is_there m q ≡ true) (bodies.Space m.next holder) →
+        world with_space ≡ apply (MakeSpace (place (path m) who) (option_map (λ q. At (place (path m) q)) holder)) (world m)
     unfolding world apply same_path
     world-space named = λ i. record { body = λ q. all q i; page = λ s page. pages s page i; next = next i }
       where
@@ -205,22 +218,27 @@ module _ (m : Contents) (kept : IsWellFormed m) (who : Who) (live : is_live m wh
         next = rw (not_root m.next kept.begun) refl
 
         -- the pointers of bodies lead where they led
-        values : (s : Path) (k : ℕ) → and_then (λ n. option_map (body_by (path with_space)) (get m.bodies (at n k))) (space_at m s) ≡ and_then (λ n. option_map (body_by (path m)) (get m.bodies (at n k))) (space_at m s)
+        values : (s : Path) (k : ℕ) → and_then (λ n. option_map (body_by (path with_space)) (get m.bodies (at n k)))
+            (space_at m s) ≡ and_then (λ n. option_map (body_by (path m)) (get m.bodies (at n k))) (space_at m s)
         values s k = ap (λ f. and_then f (space_at m s)) (λ i n. by n (get m.bodies (at n k)) refl i)
           where
-            by : (n : ℕ) (o : Option bodies_of.Body) → get m.bodies (at n k) ≡ o → option_map (body_by (path with_space)) (get m.bodies (at n k)) ≡ option_map (body_by (path m)) (get m.bodies (at n k))
+            by : (n : ℕ) (o : Option bodies_of.Body) → get m.bodies (at n k) ≡ o →
+                option_map (body_by (path with_space)) (get m.bodies (at n k)) ≡ option_map (body_by (path m)) (get m.bodies (at n k))
             by n None e = rw e refl
             by n (Some c) e = rw e (ap Some (names_stay c (kept.leads (at n k) c e)))
 
-        all : (q : Path) → body_at with_space q ≡ cond (same_path q (place (path m) who)) (Some (Space m.next (option_map (λ q. At (place (path m) q)) holder))) (body_at m q)
+        all : (q : Path) →
+            body_at with_space q ≡ cond (same_path q (place (path m) who)) (Some (Space m.next (option_map (λ q. At (place (path m) q)) holder))) (body_at m q)
         all [] = refl
-        all (k ∷ s) = slots_after (option_map (body_by (path with_space))) (Space m.next (option_map (λ q. At (place (path m) q)) holder)) refl (ap Some (names_stay (bodies.Space m.next holder) named)) s (walk-space s) k
+        all (k ∷ s) = slots_after (option_map (body_by (path with_space)))
+            (Space m.next (option_map (λ q. At (place (path m) q)) holder)) refl (ap Some (names_stay (bodies.Space m.next holder) named)) s (walk-space s) k
             ∙ ap (cond (same_path (k ∷ s) (place (path m) who)) (Some (Space m.next (option_map (λ q. At (place (path m) q)) holder)))) (values s k)
 
         pages : (s : Path) (page : ℕ) → page_at with_space s page ≡ page_at m s page
         pages s page = rw (walk-space s) (by (same_path s (place (path m) who)) refl)
           where
-            by : (t : Bool) → same_path s (place (path m) who) ≡ t → and_then (λ n. get m.pages (n, page)) (cond t (Some m.next) (space_at m s)) ≡ and_then (λ n. get m.pages (n, page)) (space_at m s)
+            by : (t : Bool) → same_path s (place (path m) who) ≡ t →
+                and_then (λ n. get m.pages (n, page)) (cond t (Some m.next) (space_at m s)) ≡ and_then (λ n. get m.pages (n, page)) (space_at m s)
             by false e = refl
             by true e =
                 let here : s ≡ place (path m) who = same_path_true s (place (path m) who) e in

@@ -44,11 +44,13 @@ module _ (m : Contents) (kept : IsWellFormed m) where
     pub before_there : (q : Who) → is_some (get (insert m.bodies who b) q) ≡ true → (q ≡ who) ⊎ (is_there m q ≡ true)
     before_there q h = by (eq_by_cmp who_cmp q who) refl (rw (get-insert who_total m.bodies who b q) at h)
       where
-        by : (t : Bool) → eq_by_cmp who_cmp q who ≡ t → is_some (cond (eq_by_cmp who_cmp q who) (Some b) (get m.bodies q)) ≡ true → (q ≡ who) ⊎ (is_there m q ≡ true)
+        by : (t : Bool) →
+            eq_by_cmp who_cmp q who ≡ t → is_some (cond (eq_by_cmp who_cmp q who) (Some b) (get m.bodies q)) ≡ true → (q ≡ who) ⊎ (is_there m q ≡ true)
         by true e h = inl (who_tied q who e)
         by false e h = inr (rw e at h)
 
-    pub after_body : (P : bodies_of.Body → Type 0) → P b → ((q : Who) (c : bodies_of.Body) → get m.bodies q ≡ Some c → P c) → (q : Who) (c : bodies_of.Body) → get (insert m.bodies who b) q ≡ Some c → P c
+    pub after_body : (P : bodies_of.Body → Type 0) →
+        P b → ((q : Who) (c : bodies_of.Body) → get m.bodies q ≡ Some c → P c) → (q : Who) (c : bodies_of.Body) → get (insert m.bodies who b) q ≡ Some c → P c
     after_body P here others q c h = by (eq_by_cmp who_cmp q who) (sym (get-insert who_total m.bodies who b q) ∙ h)
       where
         by : (t : Bool) → cond t (Some b) (get m.bodies q) ≡ Some c → P c
@@ -69,7 +71,11 @@ module _ (m : Contents) (kept : IsWellFormed m) where
 
       pub world-made : world (with_body m who b) ≡ apply (Make (place (path m) who) (body_by (path m) b)) (world m)
       unfolding world apply same_path
-      world-made = λ i. record { body = λ q. bodies q i; page = λ s page. and_then (λ n. get m.pages (n, page)) (space_at-births m kept (with_body m who b) made_births s i); next = m.next }
+      world-made = λ i. record {
+        body = λ q. bodies q i;
+        page = λ s page. and_then (λ n. get m.pages (n, page)) (space_at-births m kept (with_body m who b) made_births s i);
+        next = m.next;
+      }
         where
           bodies : (q : Path) → body_at (with_body m who b) q ≡ cond (same_path q (place (path m) who)) (Some (body_by (path m) b)) (body_at m q)
           bodies [] = refl
@@ -82,9 +88,11 @@ module _ (m : Contents) (kept : IsWellFormed m) where
         younger = λ q n h. kept.younger q n (sym (made_births q) ∙ h);
         born = λ q n h. kept.born q n (sym (made_births q) ∙ h);
         slots = λ q h. elim (before_there q h) [ inl e ↦ rw e slot | inr there ↦ kept.slots q there ];
-        housed = λ q h. is_live-births m kept (with_body m who b) made_births q.space ∙ elim (before_there q h) [ inl e ↦ rw e live | inr there ↦ kept.housed q there ];
+        housed = λ q h. is_live-births m kept (with_body m who b) made_births q.space
+            ∙ elim (before_there q h) [ inl e ↦ rw e live | inr there ↦ kept.housed q there ];
         paged = λ space page h. is_live-births m kept (with_body m who b) made_births space ∙ kept.paged space page h;
-        leads = after_body (OnNamed (λ q. is_there (with_body m who b) q ≡ true)) (OnNamed-map (λ q. is_there m q ≡ true) (λ q. is_there (with_body m who b) q ≡ true) after_there b named)
+        leads = after_body (OnNamed (λ q. is_there (with_body m who b) q ≡ true))
+            (OnNamed-map (λ q. is_there m q ≡ true) (λ q. is_there (with_body m who b) q ≡ true) after_there b named)
             (λ q c h. OnNamed-map (λ q. is_there m q ≡ true) (λ q. is_there (with_body m who b) q ≡ true) after_there c (kept.leads q c h));
         sized = after_body IsSized sized kept.sized;
       }

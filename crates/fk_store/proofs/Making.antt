@@ -31,13 +31,15 @@ record IsMade (m : Contents) (who : Who) (b : Body) : Type 0 where
   home : IsAtHome (path (with_made m who b)) who b
   paths : (n : ℕ) → n ≢ m.next → path (with_made m who b) n ≡ path m n
 
-module _ (m : Contents) (kept : IsWellFormed m) (who : Who) (slot : who.slot < 256) (space : IsSpace m who.space) (empty : (world m).body (place (path m) who) ≡ None) where
+module _ (m : Contents)
+    (kept : IsWellFormed m) (who : Who) (slot : who.slot < 256) (space : IsSpace m who.space) (empty : (world m).body (place (path m) who) ≡ None) where
   is_empty : get m.bodies who ≡ None
   is_empty = by (get m.bodies who) refl
     where
       by : (o : Option Body) → get m.bodies who ≡ o → get m.bodies who ≡ None
       by None e = e
-      by (Some b) e = let there : (world m).body (place (path m) who) ≡ Some (body_by (path m) b) = body-place m kept who ∙ ap (option_map (body_by (path m))) e in absurd (cc)
+      by (Some b) e = let there : (world m).body (place (path m) who) ≡ Some (body_by (path m) b) = body-place m kept who
+          ∙ ap (option_map (body_by (path m))) e in absurd (cc)
 
   lives : is_live m who.space ≡ true
   lives = IsSpace-live m kept who.space space
@@ -61,21 +63,56 @@ module _ (m : Contents) (kept : IsWellFormed m) (who : Who) (slot : who.slot < 2
       record {
         kept = kept2;
         world = world-space m kept who lives slot is_empty holder kept2 (are_there (Space m.next holder) named);
-        home = path-new m kept who lives slot is_empty holder kept2 ∙ ap (λ s. who.slot ∷ s) (sym (path-live m kept who lives slot is_empty holder kept2 who.space lives));
+        home = path-new m kept who lives slot is_empty holder kept2
+            ∙ ap (λ s. who.slot ∷ s) (sym (path-live m kept who lives slot is_empty holder kept2 who.space lives));
         paths = path-old m kept who lives slot is_empty holder kept2;
       }
 
   made : (b : Body) → IsNext (world m).next b → OnNamed (IsLive m) b → IsSized b → IsMade m who b
   unfolding world
-  made (Mutex locked) next named sized = record { kept = plain_kept (Mutex locked) named refl sized; world = plain_world (Mutex locked) named refl; home = tt; paths = plain_paths (Mutex locked) named refl }
-  made Cond next named sized = record { kept = plain_kept Cond named refl sized; world = plain_world Cond named refl; home = tt; paths = plain_paths Cond named refl }
-  made (Mapping first count offset write region) next named sized = record { kept = plain_kept (Mapping first count offset write region) named refl sized; world = plain_world (Mapping first count offset write region) named refl; home = tt; paths = plain_paths (Mapping first count offset write region) named refl }
-  made (Region first count write keeper) next named sized = record { kept = plain_kept (Region first count write keeper) named refl sized; world = plain_world (Region first count write keeper) named refl; home = tt; paths = plain_paths (Region first count write keeper) named refl }
-  made (Port set served) next named sized = record { kept = plain_kept (Port set served) named refl sized; world = plain_world (Port set served) named refl; home = tt; paths = plain_paths (Port set served) named refl }
-  made Portset next named sized = record { kept = plain_kept Portset named refl sized; world = plain_world Portset named refl; home = tt; paths = plain_paths Portset named refl }
+  made (Mutex locked) next named sized = record {
+    kept = plain_kept (Mutex locked) named refl sized;
+    world = plain_world (Mutex locked) named refl;
+    home = tt;
+    paths = plain_paths (Mutex locked) named refl;
+  }
+  made Cond next named sized =
+      record { kept = plain_kept Cond named refl sized; world = plain_world Cond named refl; home = tt; paths = plain_paths Cond named refl }
+  made (Mapping first count offset write region) next named sized =
+      record {
+        kept = plain_kept (Mapping first count offset write region) named refl sized;
+        world = plain_world (Mapping first count offset write region)
+            named refl;
+        home = tt;
+        paths = plain_paths (Mapping first count offset write region) named refl;
+      }
+  made (Region first count write keeper) next named sized = record {
+    kept = plain_kept (Region first count write keeper) named refl sized;
+    world = plain_world (Region first count write keeper) named refl;
+    home = tt;
+    paths = plain_paths (Region first count write keeper) named refl;
+  }
+  made (Port set served) next named sized = record {
+    kept = plain_kept (Port set served) named refl sized;
+    world = plain_world (Port set served) named refl;
+    home = tt;
+    paths = plain_paths (Port set served) named refl;
+  }
+  made Portset next named sized =
+      record { kept = plain_kept Portset named refl sized; world = plain_world Portset named refl; home = tt; paths = plain_paths Portset named refl }
   made (Space birth holder) next named sized = subst (λ n. IsMade m who (Space n holder)) (sym next.0) (made_space holder named)
-  made (Thread thread) next named sized = record { kept = plain_kept (Thread thread) named refl sized; world = plain_world (Thread thread) named refl; home = tt; paths = plain_paths (Thread thread) named refl }
-  made (Reference to) next named sized = record { kept = plain_kept (Reference to) named refl sized; world = plain_world (Reference to) named refl; home = tt; paths = plain_paths (Reference to) named refl }
+  made (Thread thread) next named sized = record {
+    kept = plain_kept (Thread thread) named refl sized;
+    world = plain_world (Thread thread) named refl;
+    home = tt;
+    paths = plain_paths (Thread thread) named refl;
+  }
+  made (Reference to) next named sized = record {
+    kept = plain_kept (Reference to) named refl sized;
+    world = plain_world (Reference to) named refl;
+    home = tt;
+    paths = plain_paths (Reference to) named refl;
+  }
 
   module _ (b : Body) (next : IsNext (world m).next b) (named : OnNamed (IsLive m) b) (sized : IsSized b) where
     pub make-kept : IsWellFormed (with_made m who b)

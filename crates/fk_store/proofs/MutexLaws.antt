@@ -29,7 +29,8 @@ kind_mutex w x old is = by (w.body x) is
     by (Some (Reference to)) is = absurd (cc)
 
 -- and becomes a mutex
-pub locked_mutex : (w : World) (x : Path) (old locked : Bool) → Some old ≡ and_then mutex_of (w.body x) → option_map (edited (SetLocked locked)) (w.body x) ≡ Some (Mutex locked)
+pub locked_mutex : (w : World) (x : Path) (old locked : Bool) →
+    Some old ≡ and_then mutex_of (w.body x) → option_map (edited (SetLocked locked)) (w.body x) ≡ Some (Mutex locked)
 unfolding edited
 locked_mutex w x old locked is = by (w.body x) is
   where
@@ -67,7 +68,8 @@ pub todo_locked : (w : World) (x y : Path) (locked : Bool) → todo_at (apply (A
 unfolding todo_at apply edited
 todo_locked w x y locked = by (same_path x y) (w.body x)
   where
-    by : (t : Bool) (b : Option Body) → todo_of_thread (and_then thread_of (cond t (option_map (edited (SetLocked locked)) b) b)) ≡ todo_of_thread (and_then thread_of b)
+    by : (t : Bool) (b : Option Body) →
+        todo_of_thread (and_then thread_of (cond t (option_map (edited (SetLocked locked)) b) b)) ≡ todo_of_thread (and_then thread_of b)
     by false b = refl
     by true None = refl
     by true (Some (Mutex old)) = refl

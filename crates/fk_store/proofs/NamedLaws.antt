@@ -71,15 +71,27 @@ module _ (p q : ℕ → Path) where
   talk_same talk h = λ i. record { port = places.Ptr.At (h.0 i); peer = peer_same talk.peer h.1 i; turn = talk.turn; moved = talk.moved }
 
   fault_same : (fault : Fault) → OnFault Same fault → fault_by p fault ≡ fault_by q fault
-  fault_same fault h = λ i. record { page = fault.page; write = fault.write; port = places.Ptr.At (h.0 i); taker = each_same (peer_by p) (peer_by q) (OnPeer Same) peer_same fault.taker h.1 i }
+  fault_same fault h = λ i. record {
+    page = fault.page;
+    write = fault.write;
+    port = places.Ptr.At (h.0 i);
+    taker = each_same (peer_by p) (peer_by q) (OnPeer Same) peer_same fault.taker h.1 i;
+  }
 
   pub body_by-named : (b : Body) → OnNamed (λ who. place p who ≡ place q who) b → body_by p b ≡ body_by q b
   body_by-named (Mutex locked) h = refl
   body_by-named Cond h = refl
-  body_by-named (Mapping first count offset write region) h = ap (λ to. objects.Body.Mapping (record { first = first; count = count; offset = offset; write = write; region = to })) (pointer_same region h)
-  body_by-named (Region first count write keeper) h = ap (λ to. objects.Body.Region (record { first = first; count = count; write = write; keeper = to })) (pointer_same keeper h)
+  body_by-named (Mapping first count offset write region) h =
+      ap (λ to. objects.Body.Mapping (record { first = first; count = count; offset = offset; write = write; region = to })) (pointer_same region h)
+  body_by-named (Region first count write keeper) h =
+      ap (λ to. objects.Body.Region (record { first = first; count = count; write = write; keeper = to })) (pointer_same keeper h)
   body_by-named (Port set served) h = refl
   body_by-named Portset h = refl
-  body_by-named (Space birth holder) h = ap (objects.Body.Space birth) (each_same (λ who. places.Ptr.At (place p who)) (λ who. places.Ptr.At (place q who)) Same (λ who e. ap places.Ptr.At e) holder h)
-  body_by-named (Thread thread) h = λ i. objects.Body.Thread_of (record (thread_by p thread) { talk = each_same (talk_by p) (talk_by q) (OnTalk Same) talk_same thread.talk h.0 i; fault = each_same (fault_by p) (fault_by q) (OnFault Same) fault_same thread.fault h.1 i })
+  body_by-named (Space birth holder) h = ap (objects.Body.Space birth)
+      (each_same (λ who. places.Ptr.At (place p who)) (λ who. places.Ptr.At (place q who)) Same (λ who e. ap places.Ptr.At e) holder h)
+  body_by-named (Thread thread) h = λ i. objects.Body.Thread_of (record (thread_by p thread) {
+    talk = each_same (talk_by p)
+        (talk_by q) (OnTalk Same) talk_same thread.talk h.0 i;
+    fault = each_same (fault_by p) (fault_by q) (OnFault Same) fault_same thread.fault h.1 i;
+  })
   body_by-named (Reference to) h = ap objects.Body.Reference (pointer_same to h)

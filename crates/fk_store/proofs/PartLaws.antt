@@ -52,22 +52,28 @@ module _ (p : ℕ → Path) where
   parked-by peers.Service = refl
   parked-by peers.Parked = refl
 
-  talk-by : (f : talks_of.Talk → Bool) (g : Talk → Bool) → ((talk : talks_of.Talk) → OnTalk (HasOwnPath p) talk → f talk ≡ g (talk_by p talk)) → (o : Option talks_of.Talk) → Each (OnTalk (HasOwnPath p)) o → holds f o ≡ holds g (option_map (talk_by p) o)
+  talk-by : (f : talks_of.Talk → Bool) (g : Talk → Bool) → ((talk : talks_of.Talk) → OnTalk (HasOwnPath p) talk → f talk ≡ g (talk_by p talk)) →
+      (o : Option talks_of.Talk) → Each (OnTalk (HasOwnPath p)) o → holds f o ≡ holds g (option_map (talk_by p) o)
   talk-by f g same None h = refl
   talk-by f g same (Some talk) h = same talk h
 
-  fault-by : (f : faults_of.Fault → Bool) (g : Fault → Bool) → ((fault : faults_of.Fault) → OnFault (HasOwnPath p) fault → f fault ≡ g (fault_by p fault)) → (o : Option faults_of.Fault) → Each (OnFault (HasOwnPath p)) o → holds f o ≡ holds g (option_map (fault_by p) o)
+  fault-by : (f : faults_of.Fault → Bool) (g : Fault → Bool) → ((fault : faults_of.Fault) → OnFault (HasOwnPath p) fault → f fault ≡ g (fault_by p fault)) →
+      (o : Option faults_of.Fault) → Each (OnFault (HasOwnPath p)) o → holds f o ≡ holds g (option_map (fault_by p) o)
   fault-by f g same None h = refl
   fault-by f g same (Some fault) h = same fault h
 
   both-by : (a b c d : Bool) → a ≡ c → b ≡ d → (a && b) ≡ (c && d)
   both-by a b c d e f = λ i. e i && f i
 
-  thread_plays-by : (part : Part) (t : threads_of.Thread) → OnNamed (HasOwnPath p) (bodies.Thread t) → thread_plays part t ≡ played p part (Some (thread_by p t))
+  thread_plays-by : (part : Part) (t : threads_of.Thread) →
+      OnNamed (HasOwnPath p) (bodies.Thread t) → thread_plays part t ≡ played p part (Some (thread_by p t))
   thread_plays-by (Client server) t h = talk-by _ (λ talk. serves (place p server) talk.peer) (λ talk on. thread-by server talk.peer on.1) t.talk h.0
-  thread_plays-by (Faulter taker) t h = fault-by _ (λ fault. holds (serves (place p taker)) fault.taker) (λ fault on. taker-by taker fault.taker on.1) t.fault h.1
-  thread_plays-by (Guest port) t h = talk-by _ (λ talk. leads_to (place p port) talk.port && searches.is_service talk.peer) (λ talk on. both-by _ _ _ _ (led port talk.port on.0) (service-by talk.peer)) t.talk h.0
-  thread_plays-by (Parked port) t h = talk-by _ (λ talk. leads_to (place p port) talk.port && links.is_parked (Some talk.peer)) (λ talk on. both-by _ _ _ _ (led port talk.port on.0) (parked-by talk.peer)) t.talk h.0
+  thread_plays-by (Faulter taker) t h =
+      fault-by _ (λ fault. holds (serves (place p taker)) fault.taker) (λ fault on. taker-by taker fault.taker on.1) t.fault h.1
+  thread_plays-by (Guest port) t h = talk-by _ (λ talk. leads_to (place p port) talk.port && searches.is_service talk.peer)
+      (λ talk on. both-by _ _ _ _ (led port talk.port on.0) (service-by talk.peer)) t.talk h.0
+  thread_plays-by (Parked port) t h = talk-by _ (λ talk. leads_to (place p port) talk.port && links.is_parked (Some talk.peer))
+      (λ talk on. both-by _ _ _ _ (led port talk.port on.0) (parked-by talk.peer)) t.talk h.0
 
   pub plays-by : (part : Part) (b : bodies_of.Body) → OnNamed (HasOwnPath p) b → plays part b ≡ played p part (thread_of (body_by p b))
   plays-by part (bodies.Mutex locked) h = sym (nobody p part)

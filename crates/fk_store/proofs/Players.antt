@@ -52,22 +52,27 @@ module _ (m : Contents) (kept : IsWellFormed m) (part : Part) where
   plays-at : (who : Who) (b : bodies_of.Body) → get m.bodies who ≡ Some b → at_path (place (path m) who) ≡ plays part b
   plays-at who b e =
       ap (λ o. played (path m) part (and_then thread_of o)) (there m kept who b e)
-      ∙ sym (plays-by (path m) part b (OnNamed-map (λ q. is_there m q ≡ true) (HasOwnPath (path m)) (λ q h. place-apart m kept q (kept.housed q h)) b (kept.leads who b e)))
+      ∙ sym (plays-by (path m)
+      part b (OnNamed-map (λ q. is_there m q ≡ true) (HasOwnPath (path m)) (λ q h. place-apart m kept q (kept.housed q h)) b (kept.leads who b e)))
 
   -- an object of the world that plays it has a name
-  named_player : (x : Path) → at_path x ≡ true → (who : Who) × (b : bodies_of.Body) × (place (path m) who ≡ x) × (get m.bodies who ≡ Some b) × (plays part b ≡ true)
+  named_player : (x : Path) →
+      at_path x ≡ true → (who : Who) × (b : bodies_of.Body) × (place (path m) who ≡ x) × (get m.bodies who ≡ Some b) × (plays part b ≡ true)
   unfolding world kind_there
   named_player [] h = let none = nobody (path m) part in absurd (cc)
   named_player (k ∷ s) h = by ((world m).body (k ∷ s)) refl
     where
-      found : (who : Who) → place (path m) who ≡ k ∷ s → (o : Option bodies_of.Body) → get m.bodies who ≡ o → (who : Who) × (b : bodies_of.Body) × (place (path m) who ≡ k ∷ s) × (get m.bodies who ≡ Some b) × (plays part b ≡ true)
+      found : (who : Who) → place (path m) who ≡ k ∷ s → (o : Option bodies_of.Body) →
+          get m.bodies who ≡ o → (who : Who) × (b : bodies_of.Body) × (place (path m) who ≡ k ∷ s) × (get m.bodies who ≡ Some b) × (plays part b ≡ true)
       found who here None e =
-          let empty : (world m).body (k ∷ s) ≡ None = subst (λ x. (world m).body x ≡ None) here (body-place m kept who ∙ ap (option_map (body_by (path m))) e) in
+          let empty : (world m).body
+          (k ∷ s) ≡ None = subst (λ x. (world m).body x ≡ None) here (body-place m kept who ∙ ap (option_map (body_by (path m))) e) in
           let none = ap (λ o. played (path m) part (and_then thread_of o)) empty ∙ nobody (path m) part in
           absurd (cc)
       found who here (Some b) e = (who, b, here, e, sym (plays-at who b e) ∙ ap at_path here ∙ h)
 
-      by : (o : Option Body) → (world m).body (k ∷ s) ≡ o → (who : Who) × (b : bodies_of.Body) × (place (path m) who ≡ k ∷ s) × (get m.bodies who ≡ Some b) × (plays part b ≡ true)
+      by : (o : Option Body) →
+          (world m).body (k ∷ s) ≡ o → (who : Who) × (b : bodies_of.Body) × (place (path m) who ≡ k ∷ s) × (get m.bodies who ≡ Some b) × (plays part b ≡ true)
       by None e = let none = ap (λ o. played (path m) part (and_then thread_of o)) e ∙ nobody (path m) part in absurd (cc)
       by (Some b) e =
           let some : IsSome (kind_there (world m) (k ∷ s)) = rw e refl in
@@ -75,7 +80,8 @@ module _ (m : Contents) (kept : IsWellFormed m) (part : Part) where
           found who.0 who.1 (get m.bodies who.0) refl
 
   module _ (few : m.next ≤ depth) where
-    module _ (found : Option Who) (some : IfSome found (λ who. (b : bodies_of.Body) × (get m.bodies who ≡ Some b) × (plays part b ≡ true))) (none : found ≡ None → (who : Who) (b : bodies_of.Body) → get m.bodies who ≡ Some b → plays part b ≡ false) where
+    module _ (found : Option Who) (some : IfSome found (λ who. (b : bodies_of.Body) × (get m.bodies who ≡ Some b) × (plays part b ≡ true)))
+        (none : found ≡ None → (who : Who) (b : bodies_of.Body) → get m.bodies who ≡ Some b → plays part b ≡ false) where
       pub nobody-plays : found ≡ None → (x : Path) → at_path x ≡ false
       nobody-plays e x = by (at_path x) refl
         where
@@ -87,7 +93,8 @@ module _ (m : Contents) (kept : IsWellFormed m) (part : Part) where
       pub found-plays : IfSome found (λ who. at_path (place (path m) who) ≡ true)
       found-plays = by found some
         where
-          by : (o : Option Who) → IfSome o (λ who. (b : bodies_of.Body) × (get m.bodies who ≡ Some b) × (plays part b ≡ true)) → IfSome o (λ who. at_path (place (path m) who) ≡ true)
+          by : (o : Option Who) → IfSome o (λ who. (b : bodies_of.Body) × (get m.bodies who ≡ Some b) × (plays part b ≡ true)) →
+              IfSome o (λ who. at_path (place (path m) who) ≡ true)
           by None h = tt
           by (Some who) h = plays-at who h.0 h.1 ∙ h.2
 
@@ -105,7 +112,8 @@ module _ (m : Contents) (kept : IsWellFormed m) (part : Part) where
       pub found-some : is_some found ≡ is_some search_all
       found-some = by found refl some search_all refl
         where
-          by : (o : Option Who) → found ≡ o → IfSome o (λ who. (b : bodies_of.Body) × (get m.bodies who ≡ Some b) × (plays part b ≡ true)) → (p : Option Path) → search_all ≡ p → is_some o ≡ is_some p
+          by : (o : Option Who) → found ≡ o → IfSome o (λ who. (b : bodies_of.Body) × (get m.bodies who ≡ Some b) × (plays part b ≡ true)) →
+              (p : Option Path) → search_all ≡ p → is_some o ≡ is_some p
           by None e h None f = refl
           by None e h (Some x) f = let yes = (find_some at_path x (objects (world m)) f).1 in let no = nobody-plays e x in absurd (cc)
           by (Some who) e h (Some x) f = refl
@@ -118,7 +126,8 @@ module _ (m : Contents) (kept : IsWellFormed m) (part : Part) where
       pub found-same : ((x y : Path) → at_path x ≡ true → at_path y ≡ true → x ≡ y) → option_map (place (path m)) found ≡ search_all
       found-same one = by found found-plays found-some search_all refl
         where
-          by : (o : Option Who) → IfSome o (λ who. at_path (place (path m) who) ≡ true) → is_some o ≡ is_some search_all → (p : Option Path) → search_all ≡ p → option_map (place (path m)) o ≡ p
+          by : (o : Option Who) → IfSome o (λ who. at_path (place (path m) who) ≡ true) →
+              is_some o ≡ is_some search_all → (p : Option Path) → search_all ≡ p → option_map (place (path m)) o ≡ p
           by None h same None f = refl
           by None h same (Some x) f = absurd (cc)
           by (Some who) h same None f = absurd (cc)
@@ -131,19 +140,22 @@ flag_true true h = omega arith
 flag_true false h = absurd (cc)
 
 module _ (w : World) (valid : IsConsistent w) where
-  pub one_client : (server x y : Path) → holds (λ (talk : Talk). serves server talk.peer) (talk_at w x) ≡ true → holds (λ (talk : Talk). serves server talk.peer) (talk_at w y) ≡ true → x ≡ y
+  pub one_client : (server x y : Path) →
+      holds (λ (talk : Talk). serves server talk.peer) (talk_at w x) ≡ true → holds (λ (talk : Talk). serves server talk.peer) (talk_at w y) ≡ true → x ≡ y
   one_client server x y a b =
       let first = flag_true _ a in
       let second = flag_true _ b in
       valid.one_service server x y (omega arith) (omega arith)
 
-  pub one_faulter : (taker x y : Path) → holds (λ (fault : Fault). holds (serves taker) fault.taker) (fault_at w x) ≡ true → holds (λ (fault : Fault). holds (serves taker) fault.taker) (fault_at w y) ≡ true → x ≡ y
+  pub one_faulter : (taker x y : Path) → holds (λ (fault : Fault). holds (serves taker) fault.taker) (fault_at w x) ≡ true →
+      holds (λ (fault : Fault). holds (serves taker) fault.taker) (fault_at w y) ≡ true → x ≡ y
   one_faulter taker x y a b =
       let first = flag_true _ a in
       let second = flag_true _ b in
       valid.one_service taker x y (omega arith) (omega arith)
 
-  pub one_guest : (port x y : Path) → holds (λ (talk : Talk). leads_to port talk.port && is_service talk.peer) (talk_at w x) ≡ true → holds (λ (talk : Talk). leads_to port talk.port && is_service talk.peer) (talk_at w y) ≡ true → x ≡ y
+  pub one_guest : (port x y : Path) → holds (λ (talk : Talk). leads_to port talk.port && is_service talk.peer) (talk_at w x) ≡ true →
+      holds (λ (talk : Talk). leads_to port talk.port && is_service talk.peer) (talk_at w y) ≡ true → x ≡ y
   one_guest port x y a b = valid.one_client x y (At port) (guest x a) (guest y b)
     where
       service : (peer : Peer) → is_service peer ≡ true → peer ≡ Service
@@ -154,6 +166,8 @@ module _ (w : World) (valid : IsConsistent w) where
       guest : (x : Path) → holds (λ (talk : Talk). leads_to port talk.port && is_service talk.peer) (talk_at w x) ≡ true → HasService w x (At port)
       guest x h = by (talk_at w x) refl h
         where
-          by : (o : Option Talk) → talk_at w x ≡ o → holds (λ (talk : Talk). leads_to port talk.port && is_service talk.peer) o ≡ true → HasService w x (At port)
+          by : (o : Option Talk) →
+              talk_at w x ≡ o → holds (λ (talk : Talk). leads_to port talk.port && is_service talk.peer) o ≡ true → HasService w x (At port)
           by None e g = cc
-          by (Some talk) e g = let both = and_parts (leads_to port talk.port) (is_service talk.peer) g in (talk, e, leads_to_at port talk.port both.0, service talk.peer both.1)
+          by (Some talk) e g = let both = and_parts (leads_to port talk.port) (is_service talk.peer) g in
+              (talk, e, leads_to_at port talk.port both.0, service talk.peer both.1)

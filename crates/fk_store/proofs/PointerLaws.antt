@@ -23,7 +23,6 @@ use Rattle.fk_model.specs.Objects.{Body, kind_of}
 use Rattle.fk_model.specs.Searches.{depth, objects, pointers_to, option_list, peer_pointer, talk_pointers, fault_pointers}
 use Rattle.fk_model.specs.Valid.{kind_there}
 use Rattle.fk_model.proofs.walks.Members.{IsIn}
-use Rattle.fk_model.proofs.walks.WalkLaws.{of_objects}
 use Rattle.fk_tables.specs.Names.{who_cmp}
 use Rattle.fk_tables.specs.Pointers.{hit, hits_in, pointer_hits, peer_hits, talk_hits, fault_hits, body_hits}
 use Rattle.fk_tables.proofs.NameLaws.{who_total, who_tied, same_who_eq}
@@ -40,7 +39,7 @@ use Rattle.fk_store.proofs.LookUps.{body-place}
 use Rattle.fk_store.proofs.Enumerated.{named-object}
 use Rattle.fk_store.proofs.Players.{among}
 use Rattle.fk_store.proofs.Lists.{Differ, same_sum}
-use Rattle.fk_store.proofs.Listed.{objects-differ, not_root}
+use Rattle.fk_store.proofs.Listed.{objects-differ, objects-live, not_root}
 
 some_kind : (o : Option Body) → IsSome o → IsSome (option_map kind_of o)
 some_kind None h = h
@@ -74,24 +73,30 @@ module _ (p : ℕ → Path) (who : Who) where
   peer_hits-by peers.Parked h = refl
 
   talk_hits-by : (talk : talks_of.Talk) → OnTalk (HasOwnPath p) talk → talk_hits who talk ≡ sum_by to (talk_pointers (talk_by p talk))
-  talk_hits-by talk h = (λ i. hit-by talk.port h.0 i + peer_hits-by talk.peer h.1 i) ∙ sym (sum_by-cons to (At (place p talk.port)) (peer_pointer (peer_by p talk.peer)))
+  talk_hits-by talk h =
+      (λ i. hit-by talk.port h.0 i + peer_hits-by talk.peer h.1 i) ∙ sym (sum_by-cons to (At (place p talk.port)) (peer_pointer (peer_by p talk.peer)))
 
-  taker_hits-by : (o : Option peers_of.Peer) → Each (OnPeer (HasOwnPath p)) o → hits_in (peer_hits who) o ≡ sum_by to (option_list peer_pointer (option_map (peer_by p) o))
+  taker_hits-by : (o : Option peers_of.Peer) →
+      Each (OnPeer (HasOwnPath p)) o → hits_in (peer_hits who) o ≡ sum_by to (option_list peer_pointer (option_map (peer_by p) o))
   taker_hits-by None h = refl
   taker_hits-by (Some peer) h = peer_hits-by peer h
 
   fault_hits-by : (fault : faults_of.Fault) → OnFault (HasOwnPath p) fault → fault_hits who fault ≡ sum_by to (fault_pointers (fault_by p fault))
-  fault_hits-by fault h = (λ i. hit-by fault.port h.0 i + taker_hits-by fault.taker h.1 i) ∙ sym (sum_by-cons to (At (place p fault.port)) (option_list peer_pointer (option_map (peer_by p) fault.taker)))
+  fault_hits-by fault h = (λ i. hit-by fault.port h.0 i + taker_hits-by fault.taker h.1 i)
+      ∙ sym (sum_by-cons to (At (place p fault.port)) (option_list peer_pointer (option_map (peer_by p) fault.taker)))
 
-  talks_hits-by : (o : Option talks_of.Talk) → Each (OnTalk (HasOwnPath p)) o → hits_in (talk_hits who) o ≡ sum_by to (option_list talk_pointers (option_map (talk_by p) o))
+  talks_hits-by : (o : Option talks_of.Talk) →
+      Each (OnTalk (HasOwnPath p)) o → hits_in (talk_hits who) o ≡ sum_by to (option_list talk_pointers (option_map (talk_by p) o))
   talks_hits-by None h = refl
   talks_hits-by (Some talk) h = talk_hits-by talk h
 
-  faults_hits-by : (o : Option faults_of.Fault) → Each (OnFault (HasOwnPath p)) o → hits_in (fault_hits who) o ≡ sum_by to (option_list fault_pointers (option_map (fault_by p) o))
+  faults_hits-by : (o : Option faults_of.Fault) →
+      Each (OnFault (HasOwnPath p)) o → hits_in (fault_hits who) o ≡ sum_by to (option_list fault_pointers (option_map (fault_by p) o))
   faults_hits-by None h = refl
   faults_hits-by (Some fault) h = fault_hits-by fault h
 
-  holder_hits-by : (o : Option Who) → Each (HasOwnPath p) o → hits_in (hit who) o ≡ sum_by to (option_list (λ ptr. ptr ∷ []) (option_map (λ who. At (place p who)) o))
+  holder_hits-by : (o : Option Who) →
+      Each (HasOwnPath p) o → hits_in (hit who) o ≡ sum_by to (option_list (λ ptr. ptr ∷ []) (option_map (λ who. At (place p who)) o))
   holder_hits-by None h = refl
   holder_hits-by (Some holder) h = hit-by holder h ∙ alone (At (place p holder))
 
@@ -105,7 +110,8 @@ module _ (p : ℕ → Path) (who : Who) where
   body_hits-by (bodies.Space birth holder) h = holder_hits-by holder h
   body_hits-by (bodies.Thread thread) h =
       (λ i. talks_hits-by thread.talk h.0 i + faults_hits-by thread.fault h.1 i)
-      ∙ sym (sum_by-append to (option_list talk_pointers (option_map (talk_by p) thread.talk)) (option_list fault_pointers (option_map (fault_by p) thread.fault)))
+      ∙ sym (sum_by-append to
+      (option_list talk_pointers (option_map (talk_by p) thread.talk)) (option_list fault_pointers (option_map (fault_by p) thread.fault)))
   body_hits-by (bodies.Reference to) h = pointer_hits-by to h
 
 -- ---- all bodies
@@ -158,18 +164,21 @@ module _ (m : Contents) (kept : IsWellFormed m) where
   sum-objects few f = same_sum f (objects (world m)) (map place_at (entries m.bodies)) (objects-differ (world m))
       (places-differ (entries m.bodies) (λ e h. ap is_some (there e h)) (entries_sorted m.bodies))
       (λ y h. named y h (not_root (world m) y h))
-      (λ y h. let found = of_map y (entries m.bodies) h in subst (λ x. IsIn x (objects (world m))) found.2 (among m kept few found.0.0 found.0.1 (there found.0 found.1)))
+      (λ y h. let found = of_map y (entries m.bodies) h in
+      subst (λ x. IsIn x (objects (world m))) found.2 (among m kept few found.0.0 found.0.1 (there found.0 found.1)))
     where
       named : (y : Path) → IsIn y (objects (world m)) → 0 < length y → IsIn y (map place_at (entries m.bodies))
       named [] h long = absurd (omega arith)
       named (k ∷ s) h long =
-          let some = of_objects (world m) (k ∷ s) h in
+          let some = objects-live (world m) (k ∷ s) h in
           let who = named-object m kept k s (kind_some m k s some) in
           found who.0 who.1 (get m.bodies who.0) refl some
         where
-          found : (who : Who) → place (path m) who ≡ k ∷ s → (o : Option bodies_of.Body) → get m.bodies who ≡ o → IsSome ((world m).body (k ∷ s)) → IsIn (k ∷ s) (map place_at (entries m.bodies))
+          found : (who : Who) → place (path m) who ≡ k ∷ s →
+              (o : Option bodies_of.Body) → get m.bodies who ≡ o → IsSome ((world m).body (k ∷ s)) → IsIn (k ∷ s) (map place_at (entries m.bodies))
           found who here None e some =
-              let empty : (world m).body (k ∷ s) ≡ None = subst (λ x. (world m).body x ≡ None) here (body-place m kept who ∙ ap (option_map (body_by (path m))) e) in
+              let empty : (world m).body
+              (k ∷ s) ≡ None = subst (λ x. (world m).body x ≡ None) here (body-place m kept who ∙ ap (option_map (body_by (path m))) e) in
               let none = ap is_some empty in
               absurd (cc)
           found who here (Some b) e some =
@@ -178,15 +187,18 @@ module _ (m : Contents) (kept : IsWellFormed m) where
               subst (λ y. IsIn y (map place_at (entries m.bodies))) (ap (place (path m)) (sym same) ∙ here) (in_map member.0 (entries m.bodies) member.1)
 
   -- those that lead to an object
-  pub sum-hits : m.next ≤ depth → (who : Who) → sum_by (λ (e : entry). body_hits who e.1) (entries m.bodies) ≡ sum_by (λ q. pointers_to (place (path m) who) ((world m).body q)) (objects (world m))
+  pub sum-hits : m.next ≤ depth → (who : Who) →
+      sum_by (λ (e : entry). body_hits who e.1) (entries m.bodies) ≡ sum_by (λ q. pointers_to (place (path m) who) ((world m).body q)) (objects (world m))
   sum-hits few who = hits (entries m.bodies) (λ e h. h) ∙ sym (sum-objects few (λ q. pointers_to (place (path m) who) ((world m).body q)))
     where
       one : (e : entry) → IsIn e (entries m.bodies) → body_hits who e.1 ≡ pointers_to (place (path m) who) ((world m).body (place_at e))
       one e h =
-          body_hits-by (path m) who e.1 (OnNamed-map (λ q. is_there m q ≡ true) (HasOwnPath (path m)) (λ q g. place-apart m kept q (kept.housed q g)) e.1 (kept.leads e.0 e.1 (there e h)))
+          body_hits-by (path m) who e.1 (OnNamed-map (λ q. is_there m q ≡ true)
+          (HasOwnPath (path m)) (λ q g. place-apart m kept q (kept.housed q g)) e.1 (kept.leads e.0 e.1 (there e h)))
           ∙ ap (pointers_to (place (path m) who)) (sym (body-place m kept e.0 ∙ ap (option_map (body_by (path m))) (there e h)))
 
-      hits : (es : List entry) → ((e : entry) → IsIn e es → IsIn e (entries m.bodies)) → sum_by (λ (e : entry). body_hits who e.1) es ≡ sum_by (λ q. pointers_to (place (path m) who) ((world m).body q)) (map place_at es)
+      hits : (es : List entry) → ((e : entry) → IsIn e es → IsIn e (entries m.bodies)) →
+          sum_by (λ (e : entry). body_hits who e.1) es ≡ sum_by (λ q. pointers_to (place (path m) who) ((world m).body q)) (map place_at es)
       hits [] all = refl
       hits (e ∷ es) all =
           sum_by-cons (λ (e : entry). body_hits who e.1) e es

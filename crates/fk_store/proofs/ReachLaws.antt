@@ -39,11 +39,13 @@ lowest-first {A = A} (suc n) i f o before here some low = elim (cases_lt i n) [
 
 module _ (w : World) (s : Path) (page i : ℕ) (low : i < 256) where
   -- the first slot that has one is the lowest
-  pub mapping-first : (o : Option objects.Window) → lowest i (covering_mapping w s page) ≡ None → o ≡ covering_mapping w s page i → IsSome o → o ≡ definition.mapping_at w s page
+  pub mapping-first : (o : Option objects.Window) →
+      lowest i (covering_mapping w s page) ≡ None → o ≡ covering_mapping w s page i → IsSome o → o ≡ definition.mapping_at w s page
   unfolding definition.mapping_at
   mapping-first o before here some = sym (lowest-first 256 i (covering_mapping w s page) o before (sym here) some low)
 
-  pub region-first : (o : Option objects.Extent) → lowest i (covering_region w s page) ≡ None → o ≡ covering_region w s page i → IsSome o → o ≡ definition.region_at w s page
+  pub region-first : (o : Option objects.Extent) →
+      lowest i (covering_region w s page) ≡ None → o ≡ covering_region w s page i → IsSome o → o ≡ definition.region_at w s page
   unfolding definition.region_at
   region-first o before here some = sym (lowest-first 256 i (covering_region w s page) o before (sym here) some low)
 
@@ -63,10 +65,13 @@ unfolding definition.reach
 reach-begin w s page write = refl
 
 -- a hop on is one mapping less to follow
-pub reach-on : (w : World) (s : Path) (page : ℕ) (write : Bool) (next : definition.Reach) (k : ℕ) → ((n : ℕ) → definition.reach_within (suc n) w s page write ≡ next) → k < 16 → definition.reach_within (16 - k) w s page write ≡ next
-reach-on w s page write next k more low = let left : 16 - k ≡ suc (16 - (k + 1)) = omega arith in ap (λ n. definition.reach_within n w s page write) left ∙ more (16 - (k + 1))
+pub reach-on : (w : World) (s : Path) (page : ℕ) (write : Bool) (next : definition.Reach) (k : ℕ) →
+    ((n : ℕ) → definition.reach_within (suc n) w s page write ≡ next) → k < 16 → definition.reach_within (16 - k) w s page write ≡ next
+reach-on w s page write next k more low = let left : 16 - k ≡ suc (16 - (k + 1)) = omega arith in
+    ap (λ n. definition.reach_within n w s page write) left ∙ more (16 - (k + 1))
 
-pub reach-end : (w : World) (s : Path) (page : ℕ) (write : Bool) (k : ℕ) → 16 ≤ k → definition.reach_within (16 - k) w s page write ≡ definition.reach_within zero w s page write
+pub reach-end : (w : World) (s : Path) (page : ℕ) (write : Bool) (k : ℕ) →
+    16 ≤ k → definition.reach_within (16 - k) w s page write ≡ definition.reach_within zero w s page write
 reach-end w s page write k past = let none : 16 - k ≡ 0 = omega arith in ap (λ n. definition.reach_within n w s page write) none
 
 pub ruleset hops = (reach-begin, reach-on, reach-end)

@@ -33,11 +33,13 @@ use Rattle.fk_store.proofs.Following.{body-following}
 pub bodies-renamed : (old swept new : FinMap who_cmp bodies_of.Body) (who : Who) (slot : ℕ) →
     ((q : Who) → get swept q ≡ option_map (body_after (record { from = who; to = Some (at who.space slot) }) q.space) (get old q)) →
     ((q : Who) → get new q ≡ cond (same_who q (at who.space slot)) (get swept who) (cond (same_who q who) None (get swept q))) →
-    (q : Who) → get new q ≡ cond (same_who q (at who.space slot)) (option_map (body_after (record { from = who; to = Some (at who.space slot) }) who.space) (get old who))
+    (q : Who) → get new
+    q ≡ cond (same_who q (at who.space slot)) (option_map (body_after (record { from = who; to = Some (at who.space slot) }) who.space) (get old who))
     (cond (same_who q who) None (option_map (body_after (record { from = who; to = Some (at who.space slot) }) q.space) (get old q)))
 bodies-renamed old swept new who slot sweeps renames q = rw (renames q, sweeps who, sweeps q) refl
 
-module _ (m : Contents) (kept : IsWellFormed m) (who : Who) (there : is_there m who ≡ true) (empty : (k : ℕ) → (world m).body (k ∷ place (path m) who) ≡ None) (slot : ℕ) (low : slot < 256) (free : get m.bodies (at who.space slot) ≡ None) where
+module _ (m : Contents) (kept : IsWellFormed m) (who : Who) (there : is_there m who ≡ true)
+    (empty : (k : ℕ) → (world m).body (k ∷ place (path m) who) ≡ None) (slot : ℕ) (low : slot < 256) (free : get m.bodies (at who.space slot) ≡ None) where
   abbrev target : Who
   target = at who.space slot
 
@@ -56,10 +58,12 @@ module _ (m : Contents) (kept : IsWellFormed m) (who : Who) (there : is_there m 
     where
       by : (t : Bool) → same_who target who ≡ t → t ≡ false
       by false e = refl
-      by true e = let same = same_who_eq target who e in let none : is_there m who ≡ false = subst (λ w. is_there m w ≡ false) same (ap is_some free) in absurd (cc)
+      by true e = let same = same_who_eq target who e in
+          let none : is_there m who ≡ false = subst (λ w. is_there m w ≡ false) same (ap is_some free) in absurd (cc)
 
   module _ (bodies2 : FinMap who_cmp bodies_of.Body)
-      (bodies : (q : Who) → get bodies2 q ≡ cond (same_who q target) (option_map (body_after moving who.space) (get m.bodies who)) (cond (same_who q who) None (option_map (body_after moving q.space) (get m.bodies q)))) where
+      (bodies : (q : Who) → get bodies2 q ≡ cond (same_who q target) (option_map (body_after moving who.space) (get m.bodies who))
+      (cond (same_who q who) None (option_map (body_after moving q.space) (get m.bodies q)))) where
     abbrev pub renamed : Contents
     renamed = record { bodies = bodies2; pages = m.pages; next = m.next }
 
@@ -70,7 +74,8 @@ module _ (m : Contents) (kept : IsWellFormed m) (who : Who) (there : is_there m 
     births : (q : Who) → birth_there renamed q ≡ cond (same_who q target) (birth_there m who) (cond (same_who q who) None (birth_there m q))
     births q = rw (bodies q) (by (same_who q target) (same_who q who))
       where
-        by : (t u : Bool) → and_then stored_birth (cond t (option_map (body_after moving who.space) (get m.bodies who)) (cond u None (option_map (body_after moving q.space) (get m.bodies q)))) ≡ cond t (birth_there m who) (cond u None (birth_there m q))
+        by : (t u : Bool) → and_then stored_birth (cond t (option_map (body_after moving who.space) (get m.bodies who))
+            (cond u None (option_map (body_after moving q.space) (get m.bodies q)))) ≡ cond t (birth_there m who) (cond u None (birth_there m q))
         by true u = birth_swept who.space (get m.bodies who)
         by false true = refl
         by false false = birth_swept q.space (get m.bodies q)
@@ -82,7 +87,8 @@ module _ (m : Contents) (kept : IsWellFormed m) (who : Who) (there : is_there m 
     theres : (q : Who) → is_there renamed q ≡ cond (same_who q target) (is_there m who) (cond (same_who q who) false (is_there m q))
     theres q = rw (bodies q) (by (same_who q target) (same_who q who))
       where
-        by : (t u : Bool) → is_some (cond t (option_map (body_after moving who.space) (get m.bodies who)) (cond u None (option_map (body_after moving q.space) (get m.bodies q)))) ≡ cond t (is_there m who) (cond u false (is_there m q))
+        by : (t u : Bool) → is_some (cond t (option_map (body_after moving who.space) (get m.bodies who))
+            (cond u None (option_map (body_after moving q.space) (get m.bodies q)))) ≡ cond t (is_there m who) (cond u false (is_there m q))
         by true u = some_swept who.space (get m.bodies who)
         by false true = refl
         by false false = some_swept q.space (get m.bodies q)
@@ -91,7 +97,8 @@ module _ (m : Contents) (kept : IsWellFormed m) (who : Who) (there : is_there m 
     there_from : (q : Who) → is_there renamed q ≡ true → (q ≡ target) ⊎ (is_there m q ≡ true)
     there_from q h = by (same_who q target) refl (same_who q who) (sym (theres q) ∙ h)
       where
-        by : (t : Bool) → same_who q target ≡ t → (u : Bool) → cond t (is_there m who) (cond u false (is_there m q)) ≡ true → (q ≡ target) ⊎ (is_there m q ≡ true)
+        by : (t : Bool) →
+            same_who q target ≡ t → (u : Bool) → cond t (is_there m who) (cond u false (is_there m q)) ≡ true → (q ≡ target) ⊎ (is_there m q ≡ true)
         by true e u is = inl (same_who_eq q target e)
         by false e true is = absurd (cc)
         by false e false is = inr is
@@ -107,10 +114,12 @@ module _ (m : Contents) (kept : IsWellFormed m) (who : Who) (there : is_there m 
         by false true e = absurd (cc)
         by false false e = h
 
-    births_from : (q : Who) (n : ℕ) → birth_there renamed q ≡ Some n → ((q ≡ target) × (birth_there m who ≡ Some n)) ⊎ ((birth_there m q ≡ Some n) × (same_who q who ≡ false))
+    births_from : (q : Who) (n : ℕ) →
+        birth_there renamed q ≡ Some n → ((q ≡ target) × (birth_there m who ≡ Some n)) ⊎ ((birth_there m q ≡ Some n) × (same_who q who ≡ false))
     births_from q n h = by (same_who q target) refl (same_who q who) refl (sym (births q) ∙ h)
       where
-        by : (t : Bool) → same_who q target ≡ t → (u : Bool) → same_who q who ≡ u → cond t (birth_there m who) (cond u None (birth_there m q)) ≡ Some n → ((q ≡ target) × (birth_there m who ≡ Some n)) ⊎ ((birth_there m q ≡ Some n) × (u ≡ false))
+        by : (t : Bool) → same_who q target ≡ t → (u : Bool) → same_who q who ≡ u → cond t (birth_there m who) (cond u None (birth_there m q)) ≡ Some n →
+            ((q ≡ target) × (birth_there m who ≡ Some n)) ⊎ ((birth_there m q ≡ Some n) × (u ≡ false))
         by true e u f is = inl (same_who_eq q target e, is)
         by false e true f is = absurd (cc)
         by false e false f is = inr (is, refl)
@@ -175,13 +184,16 @@ module _ (m : Contents) (kept : IsWellFormed m) (who : Who) (there : is_there m 
     leads_moved : (q : Who) (c : bodies_of.Body) → get bodies2 q ≡ Some c → OnNamed (λ other. is_there renamed other ≡ true) c
     leads_moved q c h = by (same_who q target) (same_who q who) (sym (bodies q) ∙ h)
       where
-        swept : (who : Who) (o : Option bodies_of.Body) → get m.bodies who ≡ o → option_map (body_after moving who.space) o ≡ Some c → OnNamed (λ other. is_there renamed other ≡ true) c
+        swept : (who : Who) (o : Option bodies_of.Body) →
+            get m.bodies who ≡ o → option_map (body_after moving who.space) o ≡ Some c → OnNamed (λ other. is_there renamed other ≡ true) c
         swept who None e is = absurd (cc)
         swept who (Some b) e is =
             let same : body_after moving who.space b ≡ c = cc in
-            subst (OnNamed (λ other. is_there renamed other ≡ true)) same (named-after moving (λ other. is_there m other ≡ true) (λ other. is_there renamed other ≡ true) there_stays there_target who.space b (kept.leads who b e))
+            subst (OnNamed (λ other. is_there renamed other ≡ true)) same (named-after moving
+            (λ other. is_there m other ≡ true) (λ other. is_there renamed other ≡ true) there_stays there_target who.space b (kept.leads who b e))
 
-        by : (t u : Bool) → cond t (option_map (body_after moving who.space) (get m.bodies who)) (cond u None (option_map (body_after moving q.space) (get m.bodies q))) ≡ Some c → OnNamed (λ other. is_there renamed other ≡ true) c
+        by : (t u : Bool) → cond t (option_map (body_after moving who.space) (get m.bodies who))
+            (cond u None (option_map (body_after moving q.space) (get m.bodies q))) ≡ Some c → OnNamed (λ other. is_there renamed other ≡ true) c
         by true u is = swept who (get m.bodies who) refl is
         by false true is = absurd (cc)
         by false false is = swept q (get m.bodies q) refl is
@@ -193,7 +205,8 @@ module _ (m : Contents) (kept : IsWellFormed m) (who : Who) (there : is_there m 
         swept who None e is = absurd (cc)
         swept who (Some b) e is = let same : body_after moving who.space b ≡ c = cc in subst IsSized same (sized-after moving who.space b (kept.sized who b e))
 
-        by : (t u : Bool) → cond t (option_map (body_after moving who.space) (get m.bodies who)) (cond u None (option_map (body_after moving q.space) (get m.bodies q))) ≡ Some c → IsSized c
+        by : (t u : Bool) → cond t (option_map (body_after moving who.space) (get m.bodies who))
+            (cond u None (option_map (body_after moving q.space) (get m.bodies q))) ≡ Some c → IsSized c
         by true u is = swept who (get m.bodies who) refl is
         by false true is = absurd (cc)
         by false false is = swept q (get m.bodies q) refl is
@@ -221,7 +234,8 @@ module _ (m : Contents) (kept : IsWellFormed m) (who : Who) (there : is_there m 
     place-stays q h = place_stays m kept who there empty renamed kept-renamed home_stays q h
 
     pub place-target : place (path renamed) target ≡ y
-    place-target = ap (λ s. slot ∷ s) (path_stays m kept who there empty renamed kept-renamed home_stays who.space (housed_off m kept who there empty who there))
+    place-target =
+        ap (λ s. slot ∷ s) (path_stays m kept who there empty renamed kept-renamed home_stays who.space (housed_off m kept who there empty who there))
 
     -- the path of a space that is moved
     pub path-follows : (n : ℕ) → path m n ≡ x → path renamed n ≡ y
@@ -242,7 +256,8 @@ module _ (m : Contents) (kept : IsWellFormed m) (who : Who) (there : is_there m 
           | inr before ↦ let none = ap is_some (none_in m kept who there empty n is k) in absurd (cc)
         ]
 
-    inside_none : {A : Type 0} (f : bodies_of.Body → Option A) (o : Option ℕ) → birth_there m who ≡ o → (k : ℕ) → and_then (λ n. and_then f (get bodies2 (at n k))) o ≡ None
+    inside_none : {A : Type 0} (f : bodies_of.Body → Option A) (o : Option ℕ) →
+        birth_there m who ≡ o → (k : ℕ) → and_then (λ n. and_then f (get bodies2 (at n k))) o ≡ None
     inside_none f None e k = refl
     inside_none f (Some n) e k = ap (and_then f) (none_inside n e k)
 
@@ -273,25 +288,31 @@ module _ (m : Contents) (kept : IsWellFormed m) (who : Who) (there : is_there m 
       where
         found : (o : Option ℕ) → space_at m s ≡ o → and_then (λ n. birth_there renamed (at n k)) o ≡ births_after k (same_path s (path m who.space)) o
         found None e = rw (lost_apart m kept who (kept.housed who there) s e, false_right (k == slot), false_right (k == who.slot)) refl
-        found (Some n) e = rw (births (at n k), same_space m kept s n who.space e, and_back (k == who.slot) (n == who.space), and_back (k == slot) (n == who.space)) refl
+        found (Some n) e =
+            rw (births (at n k), same_space m kept s n who.space e, and_back (k == who.slot) (n == who.space), and_back (k == slot) (n == who.space)) refl
 
-        by : (t : Bool) → same_path s y ≡ t → (u : Bool) → same_path s x ≡ u → and_then (λ n. birth_there renamed (at n k)) (cond t (birth_there m who) (cond u None (space_at m s))) ≡ births_after k (same_path s (path m who.space)) (space_at m s)
+        by : (t : Bool) → same_path s y ≡ t → (u : Bool) → same_path s x ≡ u → and_then (λ n. birth_there renamed (at n k))
+            (cond t (birth_there m who) (cond u None (space_at m s))) ≡ births_after k (same_path s (path m who.space)) (space_at m s)
         by true e u f =
             let none : space_at m s ≡ None = ap (space_at m) (same_path_true s y e) ∙ none_target in
             rw (inside_none stored_birth (birth_there m who) refl k, inside_apart slot s e, none, false_right (k == slot), false_right (k == who.slot)) refl
         by false e true f =
             let here : space_at m s ≡ birth_there m who = ap (space_at m) (same_path_true s x f) ∙ own m kept who there in
-            rw (inside_apart who.slot s f, here, inner m kept who there empty (birth_there m who) refl k, false_right (k == slot), false_right (k == who.slot)) refl
+            rw (inside_apart who.slot s f, here, inner m kept who there empty (birth_there m who) refl k, false_right (k == slot), false_right (k == who.slot))
+            refl
         by false e false f = found (space_at m s) refl
 
     -- a body by paths
-    body_moved : (n k : ℕ) (old : Who) (b : bodies_of.Body) → get m.bodies old ≡ Some b → body_by (path renamed) (body_after moving n b) ≡ through (following x y) (k ∷ path m n) (body_by (path m) b)
+    body_moved : (n k : ℕ) (old : Who) (b : bodies_of.Body) →
+        get m.bodies old ≡ Some b → body_by (path renamed) (body_after moving n b) ≡ through (following x y) (k ∷ path m n) (body_by (path m) b)
     body_moved n k old b e =
         body_by-named (path renamed) (path m) (body_after moving n b)
-        (named-after moving (λ q. is_there m q ≡ true) (λ q. place (path renamed) q ≡ place (path m) q) (λ q h other. place-stays q h) place-target n b (kept.leads old b e))
+        (named-after moving
+        (λ q. is_there m q ≡ true) (λ q. place (path renamed) q ≡ place (path m) q) (λ q h other. place-stays q h) place-target n b (kept.leads old b e))
         ∙ body-following (path m) who target (apart m kept who there) n k b
 
-    bodies_swept : (n k : ℕ) (old : Who) (o : Option bodies_of.Body) → get m.bodies old ≡ o → option_map (body_by (path renamed)) (option_map (body_after moving n) o) ≡ option_map (through (following x y) (k ∷ path m n)) (option_map (body_by (path m)) o)
+    bodies_swept : (n k : ℕ) (old : Who) (o : Option bodies_of.Body) → get m.bodies old ≡ o → option_map (body_by (path renamed))
+        (option_map (body_after moving n) o) ≡ option_map (through (following x y) (k ∷ path m n)) (option_map (body_by (path m)) o)
     bodies_swept n k old None e = refl
     bodies_swept n k old (Some b) e = ap Some (body_moved n k old b e)
 
@@ -299,28 +320,38 @@ module _ (m : Contents) (kept : IsWellFormed m) (who : Who) (there : is_there m 
     unfolding world
     body_there = body-place m kept who
 
-    bodies_at : (q : Path) → body_at renamed q ≡ cond (same_path q y) (option_map (through (following x y) y) (body_at m x)) (cond (same_path q x) None (option_map (through (following x y) q) (body_at m q)))
+    bodies_at : (q : Path) → body_at renamed q ≡ cond (same_path q y)
+        (option_map (through (following x y) y) (body_at m x)) (cond (same_path q x) None (option_map (through (following x y) q) (body_at m q)))
     unfolding same_path
     bodies_at [] = refl
     bodies_at (k ∷ s) = rw (walk s, body_there) (by (same_path s y) refl (same_path s x) refl)
       where
         left : (n : ℕ) → space_at m s ≡ Some n → (t u : Bool) →
-            option_map (body_by (path renamed)) (cond t (option_map (body_after moving who.space) (get m.bodies who)) (cond u None (option_map (body_after moving n) (get m.bodies (at n k)))))
+            option_map (body_by (path renamed))
+            (cond t (option_map (body_after moving who.space) (get m.bodies who)) (cond u None (option_map (body_after moving n) (get m.bodies (at n k)))))
             ≡ cond t moved_body (cond u None (option_map (through (following x y) (k ∷ s)) (option_map (body_by (path m)) (get m.bodies (at n k)))))
         left n is true u = bodies_swept who.space slot who (get m.bodies who) refl
         left n is false true = refl
-        left n is false false = bodies_swept n k (at n k) (get m.bodies (at n k)) refl ∙ ap (λ t. option_map (through (following x y) (k ∷ t)) (option_map (body_by (path m)) (get m.bodies (at n k)))) (path-space_at m kept s n is)
+        left n is false false = bodies_swept n k (at n k) (get m.bodies (at n k)) refl
+            ∙ ap (λ t. option_map (through (following x y) (k ∷ t)) (option_map (body_by (path m)) (get m.bodies (at n k)))) (path-space_at m kept s n is)
 
-        found : (o : Option ℕ) → space_at m s ≡ o → and_then (λ n. option_map (body_by (path renamed)) (get bodies2 (at n k))) o ≡ bodies_after k s (same_path s (path m who.space)) (and_then (λ n. option_map (body_by (path m)) (get m.bodies (at n k))) o)
+        found : (o : Option ℕ) → space_at m s ≡ o → and_then (λ n. option_map (body_by (path renamed)) (get bodies2 (at n k)))
+            o ≡ bodies_after k s (same_path s (path m who.space)) (and_then (λ n. option_map (body_by (path m)) (get m.bodies (at n k))) o)
         found None e = rw (lost_apart m kept who (kept.housed who there) s e, false_right (k == slot), false_right (k == who.slot)) refl
-        found (Some n) e = rw (bodies (at n k), same_space m kept s n who.space e, and_back (k == who.slot) (n == who.space), and_back (k == slot) (n == who.space)) (left n e (n == who.space && k == slot) (n == who.space && k == who.slot))
+        found (Some n) e = rw (
+          bodies (at n k),
+          same_space m kept s n who.space e,
+          and_back (k == who.slot) (n == who.space),
+          and_back (k == slot) (n == who.space),
+        ) (left n e (n == who.space && k == slot) (n == who.space && k == who.slot))
 
         inside : (o : Option ℕ) → birth_there m who ≡ o → and_then (λ n. option_map (body_by (path renamed)) (get bodies2 (at n k))) o ≡ None
         inside None e = refl
         inside (Some n) e = ap (option_map (body_by (path renamed))) (none_inside n e k)
 
         by : (t : Bool) → same_path s y ≡ t → (u : Bool) → same_path s x ≡ u →
-            and_then (λ n. option_map (body_by (path renamed)) (get bodies2 (at n k))) (cond t (birth_there m who) (cond u None (space_at m s))) ≡ bodies_after k s (same_path s (path m who.space)) (body_at m (k ∷ s))
+            and_then (λ n. option_map (body_by (path renamed)) (get bodies2 (at n k)))
+            (cond t (birth_there m who) (cond u None (space_at m s))) ≡ bodies_after k s (same_path s (path m who.space)) (body_at m (k ∷ s))
         by true e u f =
             let none : space_at m s ≡ None = ap (space_at m) (same_path_true s y e) ∙ none_target in
             rw (inside (birth_there m who) refl, inside_apart slot s e, none, false_right (k == slot), false_right (k == who.slot)) refl
@@ -330,7 +361,8 @@ module _ (m : Contents) (kept : IsWellFormed m) (who : Who) (there : is_there m 
     pages_at : (s : Path) (g : ℕ) → page_at renamed s g ≡ cond (same_path s y) (page_at m x g) (cond (same_path s x) None (page_at m s g))
     pages_at s g = rw (walk s, own m kept who there) (by (same_path s y) (same_path s x))
       where
-        by : (t u : Bool) → and_then (λ n. get m.pages (n, g)) (cond t (birth_there m who) (cond u None (space_at m s))) ≡ cond t (and_then (λ n. get m.pages (n, g)) (birth_there m who)) (cond u None (page_at m s g))
+        by : (t u : Bool) → and_then (λ n. get m.pages (n, g)) (cond t (birth_there m who) (cond u None (space_at m s))) ≡ cond
+            t (and_then (λ n. get m.pages (n, g)) (birth_there m who)) (cond u None (page_at m s g))
         by true u = refl
         by false true = refl
         by false false = refl

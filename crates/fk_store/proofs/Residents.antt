@@ -106,4 +106,5 @@ module _ (m : Contents) (kept : IsWellFormed m) (who : Who) where
   plain-empty o is none = sym (ap is_some (lowest-nothing SLOTS (λ k. (world m).body (k ∷ place (path m) who)) (λ k. rw (space_at-place, ← is, none) refl)))
 
   pub space-residents : (n : ℕ) → Some n ≡ birth_there m who → is_some (first_resident (world m) (path m n)) ≡ has_residents (world m) (place (path m) who)
-  space-residents n is = ap (λ s. is_some (first_resident (world m) s)) (path-home m kept n who (kept.alone who n (sym is))) ∙ some-resident (world m) (place (path m) who)
+  space-residents n is =
+      ap (λ s. is_some (first_resident (world m) s)) (path-home m kept n who (kept.alone who n (sym is))) ∙ some-resident (world m) (place (path m) who)

@@ -41,13 +41,17 @@ some_birth p (Reference to) h = absurd (cc)
 
 module _ (m : Contents) (kept : IsWellFormed m) (who : Who) where
   -- what has a kind is there
-  pub kind-there : (k : Kind) → kind_there (world m) (place (path m) who) ≡ Some k → (old : Body) × (get m.bodies who ≡ Some old) × (kind_of (body_by (path m) old) ≡ k)
+  pub kind-there : (k : Kind) →
+      kind_there (world m) (place (path m) who) ≡ Some k → (old : Body) × (get m.bodies who ≡ Some old) × (kind_of (body_by (path m) old) ≡ k)
   unfolding kind_there
   kind-there k h = by (get m.bodies who) refl
     where
       by : (o : Option Body) → get m.bodies who ≡ o → (old : Body) × (get m.bodies who ≡ Some old) × (kind_of (body_by (path m) old) ≡ k)
-      by None e = let found = body-place m kept who in let none : (world m).body (place (path m) who) ≡ None = found ∙ ap (option_map (body_by (path m))) e in absurd (cc)
-      by (Some old) e = let found = body-place m kept who in let some : (world m).body (place (path m) who) ≡ Some (body_by (path m) old) = found ∙ ap (option_map (body_by (path m))) e in (old, e, let kind : Some (kind_of (body_by (path m) old)) ≡ Some k = sym (ap (option_map kind_of) some) ∙ h in cc)
+      by None e = let found = body-place m kept who in
+          let none : (world m).body (place (path m) who) ≡ None = found ∙ ap (option_map (body_by (path m))) e in absurd (cc)
+      by (Some old) e = let found = body-place m kept who in
+          let some : (world m).body (place (path m) who) ≡ Some (body_by (path m) old) = found ∙ ap (option_map (body_by (path m))) e in
+          (old, e, let kind : Some (kind_of (body_by (path m) old)) ≡ Some k = sym (ap (option_map kind_of) some) ∙ h in cc)
 
   -- the space with a birth number stands under the name at its path
   pub at-home : (n q : ℕ) → birth_there m who ≡ Some q → path m n ≡ place (path m) who → n ≡ q
@@ -67,7 +71,8 @@ module _ (m : Contents) (kept : IsWellFormed m) (who : Who) where
           let low = kept.slots who (there-birth m kept who q there) in
           absurd (omega arith)
 
-  pub same-birth : (old b : Body) → get m.bodies who ≡ Some old → kind_of (body_by (path m) old) ≡ kind_of (body_by (path m) b) → IsAtHome (path m) who b → stored_birth b ≡ stored_birth old
+  pub same-birth : (old b : Body) →
+      get m.bodies who ≡ Some old → kind_of (body_by (path m) old) ≡ kind_of (body_by (path m) b) → IsAtHome (path m) who b → stored_birth b ≡ stored_birth old
   same-birth old (Mutex locked) there kind home = sym (no_birth (path m) old (λ e. absurd (cc)))
   same-birth old Cond there kind home = sym (no_birth (path m) old (λ e. absurd (cc)))
   same-birth old (Mapping first count offset write region) there kind home = sym (no_birth (path m) old (λ e. absurd (cc)))

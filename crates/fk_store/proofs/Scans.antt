@@ -15,7 +15,8 @@ use Rattle.fk_tables.proofs.NameLaws.{who_exact}
 
 module _ (P : Who → Type 0) (k : Option Who) (who : Who) (first : IsFirstAfter who_cmp P k (Some who)) where
   -- those that don't come after the next one are those that were passed, and the next one
-  pub passed-more : (Q : Who → Type 0) → ((other : Who) → P other → comes_after who_cmp k other ≡ false → Q other) → Q who → (other : Who) → P other → comes_after who_cmp (Some who) other ≡ false → Q other
+  pub passed-more : (Q : Who → Type 0) → ((other : Who) → P other → comes_after who_cmp k other ≡ false → Q other) →
+      Q who → (other : Who) → P other → comes_after who_cmp (Some who) other ≡ false → Q other
   passed-more Q before here other there past = by (comes_after who_cmp k other) refl
     where
       same : (o : Ordering) → who_cmp who other ≡ o → is_le o ≡ true → is_lt o ≡ false → who ≡ other

@@ -82,16 +82,21 @@ module _ (m : Contents) (kept : IsWellFormed m) (who : Who) (live : is_live m wh
           absurd (cc)
 
   -- what a walk down finds, once a body is put under the name
-  pub put_at : {A : Type 0} (b : bodies_of.Body) (f : bodies_of.Body → A) (j : ℕ) (s : Path) → and_then (λ n. option_map f (get (insert m.bodies who b) (at n j))) (space_at m s) ≡ cond (same_path (j ∷ s) (place (path m) who)) (Some (f b)) (and_then (λ n. option_map f (get m.bodies (at n j))) (space_at m s))
+  pub put_at : {A : Type 0} (b : bodies_of.Body) (f : bodies_of.Body → A) (j : ℕ) (s : Path) →
+      and_then (λ n. option_map f (get (insert m.bodies who b) (at n j)))
+      (space_at m s) ≡ cond (same_path (j ∷ s) (place (path m) who)) (Some (f b)) (and_then (λ n. option_map f (get m.bodies (at n j))) (space_at m s))
   unfolding same_path
   put_at {A = A} b f j s = by (space_at m s) refl
     where
-      by : (o : Option ℕ) → space_at m s ≡ o → and_then (λ n. option_map f (get (insert m.bodies who b) (at n j))) o ≡ cond (j == who.slot && same_path s (path m who.space)) (Some (f b)) (and_then (λ n. option_map f (get m.bodies (at n j))) o)
+      by : (o : Option ℕ) → space_at m s ≡ o → and_then (λ n. option_map f (get (insert m.bodies who b) (at n j)))
+          o ≡ cond (j == who.slot && same_path s (path m who.space)) (Some (f b)) (and_then (λ n. option_map f (get m.bodies (at n j))) o)
       by None none = rw (lost_apart s none, false_right (j == who.slot)) refl
-      by (Some n) here = rw (get-insert who_total m.bodies who b (at n j), tied n j who, same_space m kept s n who.space here) (chosen_mapped (j == who.slot && n == who.space) f b (get m.bodies (at n j)))
+      by (Some n) here = rw (get-insert who_total m.bodies who b (at n j), tied n j who, same_space m kept s n who.space here)
+          (chosen_mapped (j == who.slot && n == who.space) f b (get m.bodies (at n j)))
 
 -- an object is given another body of the same birth number, if any
-module _ (m : Contents) (kept : IsWellFormed m) (who : Who) (old b : bodies_of.Body) (there : get m.bodies who ≡ Some old) (same : stored_birth b ≡ stored_birth old) where
+module _ (m : Contents)
+    (kept : IsWellFormed m) (who : Who) (old b : bodies_of.Body) (there : get m.bodies who ≡ Some old) (same : stored_birth b ≡ stored_birth old) where
   put_births : (q : Who) → birth_there (with_body m who b) q ≡ birth_there m q
   put_births q = rw (get-insert who_total m.bodies who b q) (by (eq_by_cmp who_cmp q who) refl)
     where
@@ -115,14 +120,20 @@ module _ (m : Contents) (kept : IsWellFormed m) (who : Who) (old b : bodies_of.B
   -- the world has that body at the path
   pub world-set : world (with_body m who b) ≡ apply (Make (place (path m) who) (body_by (path m) b)) (world m)
   unfolding world apply same_path
-  world-set = λ i. record { body = λ q. bodies q i; page = λ s page. and_then (λ n. get m.pages (n, page)) (space_at-births m kept (with_body m who b) put_births s i); next = m.next }
+  world-set = λ i. record {
+    body = λ q. bodies q i;
+    page = λ s page. and_then (λ n. get m.pages (n, page)) (space_at-births m kept (with_body m who b) put_births s i);
+    next = m.next;
+  }
     where
       bodies : (q : Path) → body_at (with_body m who b) q ≡ cond (same_path q (place (path m) who)) (Some (body_by (path m) b)) (body_at m q)
       bodies [] = refl
       bodies (j ∷ s) = rw (path-set, space_at-births m kept (with_body m who b) put_births s) (put_at m kept who live_there b (body_by (path m)) j s)
 
-  kept_named : OnNamed (λ q. is_there m q ≡ true) b → (q : Who) (c : bodies_of.Body) → get (insert m.bodies who b) q ≡ Some c → OnNamed (λ q. is_there (with_body m who b) q ≡ true) c
-  kept_named named q c h = OnNamed-map (λ q. is_there m q ≡ true) (λ q. is_there (with_body m who b) q ≡ true) (λ q there. put_there q ∙ there) c (by (eq_by_cmp who_cmp q who) (sym (get-insert who_total m.bodies who b q) ∙ h))
+  kept_named : OnNamed (λ q. is_there m q ≡ true) b →
+      (q : Who) (c : bodies_of.Body) → get (insert m.bodies who b) q ≡ Some c → OnNamed (λ q. is_there (with_body m who b) q ≡ true) c
+  kept_named named q c h = OnNamed-map (λ q. is_there m q ≡ true) (λ q. is_there (with_body m who b) q ≡ true)
+      (λ q there. put_there q ∙ there) c (by (eq_by_cmp who_cmp q who) (sym (get-insert who_total m.bodies who b q) ∙ h))
     where
       by : (t : Bool) → cond t (Some b) (get m.bodies q) ≡ Some c → OnNamed (λ q. is_there m q ≡ true) c
       by true e = let same : b ≡ c = cc in subst (OnNamed (λ q. is_there m q ≡ true)) same named
@@ -149,7 +160,8 @@ module _ (m : Contents) (kept : IsWellFormed m) (who : Who) (old b : bodies_of.B
   }
 
 -- what a set of a body of the same kind leaves
-module _ (m : Contents) (kept : IsWellFormed m) (who : Who) (b : bodies_of.Body) (kind : kind_there (world m) (place (path m) who) ≡ Some (kind_of (body_by (path m) b))) (home : IsAtHome (path m) who b) where
+module _ (m : Contents) (kept : IsWellFormed m) (who : Who)
+    (b : bodies_of.Body) (kind : kind_there (world m) (place (path m) who) ≡ Some (kind_of (body_by (path m) b))) (home : IsAtHome (path m) who b) where
   pub set-there : is_there m who ≡ true
   set-there = ap is_some (kind-there m kept who _ kind).1
 
@@ -165,12 +177,14 @@ module _ (m : Contents) (kept : IsWellFormed m) (who : Who) (b : bodies_of.Body)
   keeps_birth = same-birth m kept who old_body b old_there (kind-there m kept who _ kind).2 home
 
   pub set-kept : OnNamed (IsLive m) b → IsSized b → IsWellFormed (with_body m who b)
-  set-kept named sized = kept-set m kept who old_body b old_there keeps_birth (OnNamed-map (IsLive m) (λ q. is_there m q ≡ true) (IsLive-there m kept) b named) sized
+  set-kept named sized =
+      kept-set m kept who old_body b old_there keeps_birth (OnNamed-map (IsLive m) (λ q. is_there m q ≡ true) (IsLive-there m kept) b named) sized
 
   pub set-world : world (with_body m who b) ≡ apply (Make (place (path m) who) (body_by (path m) b)) (world m)
   set-world = world-set m kept who old_body b old_there keeps_birth
 
-  pub set-edits : (e : Edit) → option_map (edited e) ((world m).body (place (path m) who)) ≡ Some (body_by (path m) b) → world (with_body m who b) ≡ apply (Alter (place (path m) who) e) (world m)
+  pub set-edits : (e : Edit) → option_map (edited e) ((world m).body (place (path m) who)) ≡ Some (body_by (path m) b) →
+      world (with_body m who b) ≡ apply (Alter (place (path m) who) e) (world m)
   set-edits e is = set-world ∙ make-alter (world m) (place (path m) who) (body_by (path m) b) e is
 
   pub set-kinds : kind_there (world (with_body m who b)) ≡ kind_there (world m)

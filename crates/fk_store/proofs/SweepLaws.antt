@@ -81,11 +81,13 @@ module _ (sweep : Sweep) (P Q : Who → Type 0) (others : (who : Who) → P who 
   peer-named peers.Parked h = tt
 
   -- what is so of each a in an option is so of what f makes of it
-  each-then : {A B : Type 0} (f : A → Option B) (S : A → Type 0) (T : B → Type 0) → ((a : A) → S a → Each T (f a)) → (o : Option A) → Each S o → Each T (and_then f o)
+  each-then : {A B : Type 0} (f : A → Option B) (S : A → Type 0) (T : B → Type 0) →
+      ((a : A) → S a → Each T (f a)) → (o : Option A) → Each S o → Each T (and_then f o)
   each-then f S T g None h = tt
   each-then f S T g (Some a) h = g a h
 
-  talk-parts : (talk : Talk) (port : Option Who) (peer : Option Peer) → Each Q port → Each (OnPeer Q) peer → Each (OnTalk Q) (and_then (λ port. option_map (λ peer. record talk { port = port; peer = peer }) peer) port)
+  talk-parts : (talk : Talk) (port : Option Who) (peer : Option Peer) →
+      Each Q port → Each (OnPeer Q) peer → Each (OnTalk Q) (and_then (λ port. option_map (λ peer. record talk { port = port; peer = peer }) peer) port)
   talk-parts talk None peer h k = tt
   talk-parts talk (Some port) None h k = tt
   talk-parts talk (Some port) (Some peer) h k = (h, k)
@@ -93,12 +95,14 @@ module _ (sweep : Sweep) (P Q : Who → Type 0) (others : (who : Who) → P who 
   talk-named : (talk : Talk) → OnTalk P talk → Each (OnTalk Q) (talk_after sweep talk)
   talk-named talk h = talk-parts talk (after sweep talk.port) (peer_after sweep talk.peer) (who-named talk.port h.0) (peer-named talk.peer h.1)
 
-  fault-parts : (fault : Fault) (port : Option Who) (taker : Option Peer) → Each Q port → Each (OnPeer Q) taker → Each (OnFault Q) (option_map (λ port. record fault { port = port; taker = taker }) port)
+  fault-parts : (fault : Fault) (port : Option Who) (taker : Option Peer) →
+      Each Q port → Each (OnPeer Q) taker → Each (OnFault Q) (option_map (λ port. record fault { port = port; taker = taker }) port)
   fault-parts fault None taker h k = tt
   fault-parts fault (Some port) taker h k = (h, k)
 
   fault-named : (fault : Fault) → OnFault P fault → Each (OnFault Q) (fault_after sweep fault)
-  fault-named fault h = fault-parts fault (after sweep fault.port) (and_then (peer_after sweep) fault.taker) (who-named fault.port h.0) (each-then (peer_after sweep) (OnPeer P) (OnPeer Q) peer-named fault.taker h.1)
+  fault-named fault h = fault-parts fault (after sweep fault.port)
+      (and_then (peer_after sweep) fault.taker) (who-named fault.port h.0) (each-then (peer_after sweep) (OnPeer P) (OnPeer Q) peer-named fault.taker h.1)
 
   pub named-after : (space : ℕ) (b : Body) → OnNamed P b → OnNamed Q (body_after sweep space b)
   named-after space (Mutex locked) h = tt
@@ -108,5 +112,8 @@ module _ (sweep : Sweep) (P Q : Who → Type 0) (others : (who : Who) → P who 
   named-after space (Port set served) h = tt
   named-after space Portset h = tt
   named-after space (Space birth holder) h = each-then (after sweep) P Q who-named holder h
-  named-after space (Thread thread) h = (each-then (talk_after sweep) (OnTalk P) (OnTalk Q) talk-named thread.talk h.0, each-then (fault_after sweep) (OnFault P) (OnFault Q) fault-named thread.fault h.1)
+  named-after space (Thread thread) h = (
+    each-then (talk_after sweep) (OnTalk P) (OnTalk Q) talk-named thread.talk h.0,
+    each-then (fault_after sweep) (OnFault P) (OnFault Q) fault-named thread.fault h.1,
+  )
   named-after space (Reference to) h = pointer-named to h

@@ -41,7 +41,8 @@ kind_thread w x t is = by (w.body x) is
     by (Some (Reference to)) is = absurd (cc)
 
 -- two edits that make the same of what is there
-pub alter-alike : (w : World) (x : Path) (e f : Edit) → option_map (edited e) (w.body x) ≡ option_map (edited f) (w.body x) → apply (Alter x e) w ≡ apply (Alter x f) w
+pub alter-alike : (w : World) (x : Path) (e f : Edit) →
+    option_map (edited e) (w.body x) ≡ option_map (edited f) (w.body x) → apply (Alter x e) w ≡ apply (Alter x f) w
 unfolding apply
 alter-alike w x e f alike = λ i. record { body = λ q. at q i; page = w.page; next = w.next }
   where
@@ -65,7 +66,8 @@ alter-same w x e same = λ i. record { body = λ q. at q i; page = w.page; next 
         by true there = subst (λ y. w.body y ≡ option_map (edited e) (w.body y)) (sym (same_path_true q x there)) (sym same)
 
 -- an edit of a thread where no thread is
-pub alter-nobody : (w : World) (x : Path) (e : Edit) (f : Thread → Thread) → ((b : Body) → edited e b ≡ on_thread f b) → thread_at w x ≡ None → w ≡ apply (Alter x e) w
+pub alter-nobody : (w : World) (x : Path) (e : Edit) (f : Thread → Thread) →
+    ((b : Body) → edited e b ≡ on_thread f b) → thread_at w x ≡ None → w ≡ apply (Alter x e) w
 alter-nobody w x e f edits none = alter-same w x e (by (w.body x) none)
   where
     by : (b : Option Body) → thread_at (record { body = λ q. b; page = w.page; next = w.next }) x ≡ None → option_map (edited e) b ≡ b
@@ -81,7 +83,8 @@ alter-nobody w x e f edits none = alter-same w x e (by (w.body x) none)
     by (Some (Reference to)) none = ap Some (edits (Reference to))
 
 -- the end of a call changes the first register alone
-pub words-status : (g : List ℕ) (status : ℕ) → length g ≡ 16 → let todo = unwrap_or (todo_of g) [] in slice_set (words todo (rest_of todo g)) 0 status ≡ slice_set g 0 status
+pub words-status : (g : List ℕ) (status : ℕ) →
+    length g ≡ 16 → let todo = unwrap_or (todo_of g) [] in slice_set (words todo (rest_of todo g)) 0 status ≡ slice_set g 0 status
 unfolding words rest_of code_of
 words-status g status long = by (todo_of g) refl
   where
@@ -95,15 +98,19 @@ words-status g status long = by (todo_of g) refl
 -- ---- the end of a call
 
 pub ended-calling : (p : ℕ → Path) (t : threads_of.Thread) (status : ℕ) → length t.regs ≡ 16 → t.mode ≡ modes.Calling →
-    edited (End status []) (Thread_of (thread_by p t)) ≡ Thread_of (thread_by p (record t { regs = slice_set t.regs 0 status; pc = (t.pc + 1) % 2 ^ 64; mode = modes.Running }))
+    edited (End status [])
+    (Thread_of (thread_by p t)) ≡ Thread_of (thread_by p (record t { regs = slice_set t.regs 0 status; pc = (t.pc + 1) % 2 ^ 64; mode = modes.Running }))
 unfolding edited
-ended-calling p t status long is = rw is (ap (λ g. Thread_of (record (thread_by p t) { mode = Running g; counter = (t.pc + 1) % 2 ^ 64 })) (words-status t.regs status long))
+ended-calling p t status long is =
+    rw is (ap (λ g. Thread_of (record (thread_by p t) { mode = Running g; counter = (t.pc + 1) % 2 ^ 64 })) (words-status t.regs status long))
 
-pub ended-other : (p : ℕ → Path) (t : threads_of.Thread) (status : ℕ) → (t.mode ≡ modes.Calling → ⊥) → edited (End status []) (Thread_of (thread_by p t)) ≡ Thread_of (thread_by p t)
+pub ended-other : (p : ℕ → Path) (t : threads_of.Thread) (status : ℕ) →
+    (t.mode ≡ modes.Calling → ⊥) → edited (End status []) (Thread_of (thread_by p t)) ≡ Thread_of (thread_by p t)
 unfolding edited
 ended-other p t status other = by t.mode refl
   where
-    by : (m : modes_of.Mode) → t.mode ≡ m → edited (End status []) (Thread_of (record (thread_by p t) { mode = mode_by m t.regs })) ≡ Thread_of (record (thread_by p t) { mode = mode_by m t.regs })
+    by : (m : modes_of.Mode) → t.mode ≡ m →
+        edited (End status []) (Thread_of (record (thread_by p t) { mode = mode_by m t.regs })) ≡ Thread_of (record (thread_by p t) { mode = mode_by m t.regs })
     by modes.Running is = refl
     by modes.Calling is = absurd (other is)
     by (modes.Halted code) is = refl

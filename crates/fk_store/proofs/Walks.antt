@@ -103,7 +103,8 @@ module _ (m : Contents) (kept : IsWellFormed m) where
   down zero (suc n) low live = absurd (omega arith)
   down (suc k) (suc n) low live = by (home m (suc n)) refl (rw (not_root (suc n) (omega arith)) at live) (down k)
     where
-      by : (o : Option Who) → home m (suc n) ≡ o → is_some (home m (suc n)) ≡ true → ((q : ℕ) → q ≤ k → is_live m q ≡ true → space_at m (path m q) ≡ Some q) → space_at m (path m (suc n)) ≡ Some (suc n)
+      by : (o : Option Who) → home m (suc n) ≡ o →
+          is_some (home m (suc n)) ≡ true → ((q : ℕ) → q ≤ k → is_live m q ≡ true → space_at m (path m q) ≡ Some q) → space_at m (path m (suc n)) ≡ Some (suc n)
       by None e is ih = absurd (cc)
       by (Some who) e is ih =
           let found = home-found m (suc n) who e in
@@ -120,7 +121,8 @@ module _ (m : Contents) (kept : IsWellFormed m) where
   path-space_at [] n h = let e : n ≡ 0 = cc in rw e (path-root m)
   path-space_at (k ∷ s) n h = by (space_at m s) refl h (path-space_at s)
     where
-      by : (o : Option ℕ) → space_at m s ≡ o → and_then (λ q. birth_there m (at q k)) o ≡ Some n → ((q : ℕ) → space_at m s ≡ Some q → path m q ≡ s) → path m n ≡ k ∷ s
+      by : (o : Option ℕ) →
+          space_at m s ≡ o → and_then (λ q. birth_there m (at q k)) o ≡ Some n → ((q : ℕ) → space_at m s ≡ Some q → path m q ≡ s) → path m n ≡ k ∷ s
       by None e is ih = absurd (cc)
       by (Some q) e is ih = path-home n (at q k) (kept.alone (at q k) n is) ∙ ap (λ t. k ∷ t) (ih q e)
 
@@ -178,8 +180,10 @@ same_path_back x y = by (same_path x y) refl (same_path y x) refl
     by : (b : Bool) → same_path x y ≡ b → (c : Bool) → same_path y x ≡ c → b ≡ c
     by true e true f = refl
     by false e false f = refl
-    by true e false f = let same = same_path_true x y e in let no : same_path y y ≡ false = subst (λ t. same_path y t ≡ false) same f in let yes = same_path_refl y in absurd (cc)
-    by false e true f = let same = same_path_true y x f in let no : same_path x x ≡ false = subst (λ t. same_path x t ≡ false) same e in let yes = same_path_refl x in absurd (cc)
+    by true e false f = let same = same_path_true x y e in
+        let no : same_path y y ≡ false = subst (λ t. same_path y t ≡ false) same f in let yes = same_path_refl y in absurd (cc)
+    by false e true f = let same = same_path_true y x f in
+        let no : same_path x x ≡ false = subst (λ t. same_path x t ≡ false) same e in let yes = same_path_refl x in absurd (cc)
 
 -- an object of a live space has a path of its own
 pub place-apart : (m : Contents) → IsWellFormed m → (who : Who) → is_live m who.space ≡ true → HasOwnPath (path m) who
@@ -187,7 +191,8 @@ unfolding same_path
 place-apart m kept who live other = (there, same_path_back (place (path m) who) (place (path m) other) ∙ there ∙ turned)
   where
     spaces : same_path (path m other.space) (path m who.space) ≡ (other.space == who.space)
-    spaces = same_path_back (path m other.space) (path m who.space) ∙ same_space m kept (path m who.space) who.space other.space (space_at-path m kept who.space live) ∙ eq_back who.space other.space
+    spaces = same_path_back (path m other.space) (path m who.space)
+        ∙ same_space m kept (path m who.space) who.space other.space (space_at-path m kept who.space live) ∙ eq_back who.space other.space
 
     there : same_path (place (path m) other) (place (path m) who) ≡ same_who other who
     there = rw spaces (and_back (other.slot == who.slot) (other.space == who.space))

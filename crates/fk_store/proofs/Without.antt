@@ -33,25 +33,32 @@ module _ (p : ℕ → Path) (from : Who) (apart : HasOwnPath p from) where
       by true = refl
       by false = refl
 
-  holder-without : (o : Option Who) → option_map (λ who. places.Ptr.At (place p who)) (and_then (after gone) o) ≡ and_then (death_sweep (place p from)).holder (option_map (λ who. places.Ptr.At (place p who)) o)
+  holder-without : (o : Option Who) → option_map (λ who. places.Ptr.At (place p who))
+      (and_then (after gone) o) ≡ and_then (death_sweep (place p from)).holder (option_map (λ who. places.Ptr.At (place p who)) o)
   holder-without None = refl
   holder-without (Some who) = rw ((apart who).0) (by (same_who who from))
     where
-      by : (t : Bool) → option_map (λ who. places.Ptr.At (place p who)) (if t then None else Some who) ≡ (if t then None else Some (places.Ptr.At (place p who)))
+      by : (t : Bool) →
+          option_map (λ who. places.Ptr.At (place p who)) (if t then None else Some who) ≡ (if t then None else Some (places.Ptr.At (place p who)))
       by true = refl
       by false = refl
 
   talk-without : (talk : Talk) → option_map (talk_by p) (talk_after gone talk) ≡ talk_without (place p from) (talk_by p talk)
   talk-without talk = rw ((apart talk.port).0) (by (same_who talk.port from) talk.peer)
     where
-      served : (who : Who) → option_map (talk_by p) (option_map (λ peer. record talk { peer = peer }) (peer_after gone (peers.Thread who))) ≡ (if serves (place p from) (peer_by p (peers.Thread who)) then None else Some (record (talk_by p talk) { peer = peer_by p (peers.Thread who) }))
+      served : (who : Who) → option_map (talk_by p) (option_map (λ peer. record talk { peer = peer }) (peer_after gone (peers.Thread who)))
+          ≡ (if serves (place p from) (peer_by p (peers.Thread who)) then None else Some (record (talk_by p talk) { peer = peer_by p (peers.Thread who) }))
       served who = rw ((apart who).0) (server (same_who who from))
         where
-          server : (t : Bool) → option_map (talk_by p) (option_map (λ peer. record talk { peer = peer }) (option_map peers.Thread (if t then None else Some who))) ≡ (if t then None else Some (record (talk_by p talk) { peer = peer_by p (peers.Thread who) }))
+          server : (t : Bool) →
+              option_map (talk_by p) (option_map (λ peer. record talk { peer = peer }) (option_map peers.Thread (if t then None else Some who)))
+              ≡ (if t then None else Some (record (talk_by p talk) { peer = peer_by p (peers.Thread who) }))
           server true = refl
           server false = refl
 
-      by : (t : Bool) (peer : Peer) → option_map (talk_by p) (and_then (λ port. option_map (λ peer. record talk { port = port; peer = peer }) (peer_after gone peer)) (if t then None else Some talk.port)) ≡ (if t || serves (place p from) (peer_by p peer) then None else Some (record (talk_by p talk) { peer = peer_by p peer }))
+      by : (t : Bool) (peer : Peer) → option_map (talk_by p)
+          (and_then (λ port. option_map (λ peer. record talk { port = port; peer = peer }) (peer_after gone peer)) (if t then None else Some talk.port))
+          ≡ (if t || serves (place p from) (peer_by p peer) then None else Some (record (talk_by p talk) { peer = peer_by p peer }))
       by true peer = refl
       by false (peers.Thread who) = served who
       by false peers.Service = refl
@@ -61,7 +68,8 @@ module _ (p : ℕ → Path) (from : Who) (apart : HasOwnPath p from) where
   taker-without None = refl
   taker-without (Some (peers.Thread who)) = rw ((apart who).0) (by (same_who who from))
     where
-      by : (t : Bool) → option_map (peer_by p) (option_map peers.Thread (if t then None else Some who)) ≡ (if t then None else Some (peer_by p (peers.Thread who)))
+      by : (t : Bool) →
+          option_map (peer_by p) (option_map peers.Thread (if t then None else Some who)) ≡ (if t then None else Some (peer_by p (peers.Thread who)))
       by true = refl
       by false = refl
   taker-without (Some peers.Service) = refl
@@ -70,7 +78,9 @@ module _ (p : ℕ → Path) (from : Who) (apart : HasOwnPath p from) where
   fault-without : (fault : Fault) → option_map (fault_by p) (fault_after gone fault) ≡ fault_without (place p from) (fault_by p fault)
   fault-without fault = rw ((apart fault.port).0) (by (same_who fault.port from))
     where
-      by : (t : Bool) → option_map (fault_by p) (option_map (λ port. record fault { port = port; taker = and_then (peer_after gone) fault.taker }) (if t then None else Some fault.port)) ≡ (if t then None else Some (record (fault_by p fault) { taker = and_then (taker_without (place p from)) (option_map (peer_by p) fault.taker) }))
+      by : (t : Bool) → option_map (fault_by p)
+          (option_map (λ port. record fault { port = port; taker = and_then (peer_after gone) fault.taker }) (if t then None else Some fault.port))
+          ≡ (if t then None else Some (record (fault_by p fault) { taker = and_then (taker_without (place p from)) (option_map (peer_by p) fault.taker) }))
       by true = refl
       by false = ap (λ taker. Some (record (fault_by p fault) { taker = taker })) (taker-without fault.taker)
 
@@ -82,15 +92,18 @@ module _ (p : ℕ → Path) (from : Who) (apart : HasOwnPath p from) where
       by true = refl
       by false = refl
 
-  and_then-mapped : {A B : Type 0} (f : A → B) (g : A → Option A) (h : B → Option B) → ((a : A) → option_map f (g a) ≡ h (f a)) → (o : Option A) → option_map f (and_then g o) ≡ and_then h (option_map f o)
+  and_then-mapped : {A B : Type 0} (f : A → B) (g : A → Option A) (h : B → Option B) →
+      ((a : A) → option_map f (g a) ≡ h (f a)) → (o : Option A) → option_map f (and_then g o) ≡ and_then h (option_map f o)
   and_then-mapped f g h same None = refl
   and_then-mapped f g h same (Some a) = same a
 
   pub body-without : (who : Who) (b : Body) → body_by p (body_after gone who.space b) ≡ through (death_sweep (place p from)) (place p who) (body_by p b)
   body-without who (Mutex locked) = refl
   body-without who Cond = refl
-  body-without who (Mapping first count offset write region) = ap (λ to. objects.Body.Mapping (record { first = first; count = count; offset = offset; write = write; region = to })) (pointer-without region)
-  body-without who (Region first count write keeper) = ap (λ to. objects.Body.Region (record { first = first; count = count; write = write; keeper = to })) (pointer-without keeper)
+  body-without who (Mapping first count offset write region) =
+      ap (λ to. objects.Body.Mapping (record { first = first; count = count; offset = offset; write = write; region = to })) (pointer-without region)
+  body-without who (Region first count write keeper) =
+      ap (λ to. objects.Body.Region (record { first = first; count = count; write = write; keeper = to })) (pointer-without keeper)
   body-without who (Port set served) = ap (λ set. objects.Body.Port set served) (set-without who.space who.slot set)
   body-without who Portset = refl
   body-without who (Space birth holder) = ap (objects.Body.Space birth) (holder-without holder)

@@ -48,7 +48,8 @@ home_or w s page away ends = by (w.page s page) refl
     by None e = ends
     by (Some words) e = ap is_some e
 
-mapped_or : (w : World) (go : Window → definition.Reach) (missing : definition.Reach) (o : Option Window) → ((m : Window) → Ends w (go m)) → Ends w missing → Ends w (mapped go missing o)
+mapped_or : (w : World) (go : Window → definition.Reach) (missing : definition.Reach) (o : Option Window) →
+    ((m : Window) → Ends w (go m)) → Ends w missing → Ends w (mapped go missing o)
 mapped_or w go missing None all ends = ends
 mapped_or w go missing (Some m) all ends = all m
 
@@ -60,7 +61,8 @@ followed_or w go (Some place) all = all place.0 place.1
 reach_by-ends : (n : ℕ) (w : World) (s : Path) (page : ℕ) (write : Bool) → Ends w (definition.reach_within n w s page write)
 unfolding definition.reach_within Ends
 reach_by-ends zero w s page write = home_or w s page _ (mapped_or w _ _ (mapping_at w s page) (λ m. tt) refl)
-reach_by-ends (suc n) w s page write = home_or w s page _ (mapped_or w _ _ (mapping_at w s page) (λ m. followed_or w _ (led_by w m page write m.region) (λ t other. reach_by-ends n w t other write)) refl)
+reach_by-ends (suc n) w s page write = home_or w
+    s page _ (mapped_or w _ _ (mapping_at w s page) (λ m. followed_or w _ (led_by w m page write m.region) (λ t other. reach_by-ends n w t other write)) refl)
 
 reach-ends : (w : World) (s : Path) (page : ℕ) (write : Bool) → Ends w (definition.reach w s page write)
 unfolding definition.reach
@@ -82,7 +84,8 @@ reach_there w s page write some = by (w.page s page) refl some
 
 module _ (m : Contents) (kept : IsWellFormed m) where
   -- a pointer of a region leads to what is there
-  region-live : (b : bodies_of.Body) → OnNamed (λ other. is_there m other ≡ true) b → (r : Extent) → region_of (body_by (path m) b) ≡ Some r → (x : Path) → live_keeper r.keeper ≡ Some (At x) → IsSome (kind_there (world m) x)
+  region-live : (b : bodies_of.Body) → OnNamed (λ other. is_there m other ≡ true) b →
+      (r : Extent) → region_of (body_by (path m) b) ≡ Some r → (x : Path) → live_keeper r.keeper ≡ Some (At x) → IsSome (kind_there (world m) x)
   region-live (bodies.Mutex locked) on r is x leads = absurd (cc)
   region-live bodies.Cond on r is x leads = absurd (cc)
   region-live (bodies.Mapping first count offset write region) on r is x leads = absurd (cc)
@@ -93,7 +96,8 @@ module _ (m : Contents) (kept : IsWellFormed m) where
   region-live (bodies.Reference to) on r is x leads = absurd (cc)
   region-live (bodies.Region first count write to) on r is x leads = by to on (subst (λ r. live_keeper r.keeper ≡ Some (At x)) (sym (same_Some _ _ is)) leads)
     where
-      by : (p : named.Ptr) → OnPointer (λ other. is_there m other ≡ true) p → live_keeper (pointer_by (path m) p) ≡ Some (At x) → IsSome (kind_there (world m) x)
+      by : (p : named.Ptr) →
+          OnPointer (λ other. is_there m other ≡ true) p → live_keeper (pointer_by (path m) p) ≡ Some (At x) → IsSome (kind_there (world m) x)
       by pointers.Null on leads = absurd (cc)
       by pointers.Dead on leads = absurd (cc)
       by (pointers.At who) on leads =
@@ -101,26 +105,32 @@ module _ (m : Contents) (kept : IsWellFormed m) where
           subst (λ x. IsSome (kind_there (world m) x)) same (there-IsLive m kept who on)
 
   -- a region that stands somewhere is kept under a name
-  at-live : (k : ℕ) (s : Path) (r : Extent) (x : Path) → and_then region_of ((world m).body (k ∷ s)) ≡ Some r → live_keeper r.keeper ≡ Some (At x) → IsSome (kind_there (world m) x)
+  at-live : (k : ℕ) (s : Path) (r : Extent) (x : Path) →
+      and_then region_of ((world m).body (k ∷ s)) ≡ Some r → live_keeper r.keeper ≡ Some (At x) → IsSome (kind_there (world m) x)
   unfolding world
   at-live k s r x is leads = by (space_at m s) is
     where
-      under : (who : Who) (o : Option bodies_of.Body) → get m.bodies who ≡ o → and_then region_of (option_map (body_by (path m)) o) ≡ Some r → IsSome (kind_there (world m) x)
+      under : (who : Who) (o : Option bodies_of.Body) →
+          get m.bodies who ≡ o → and_then region_of (option_map (body_by (path m)) o) ≡ Some r → IsSome (kind_there (world m) x)
       under who None e is = absurd (cc)
       under who (Some b) e is = region-live b (kept.leads who b e) r is x leads
 
-      by : (o : Option ℕ) → and_then region_of (and_then (λ n. option_map (body_by (path m)) (get m.bodies (at n k))) o) ≡ Some r → IsSome (kind_there (world m) x)
+      by : (o : Option ℕ) →
+          and_then region_of (and_then (λ n. option_map (body_by (path m)) (get m.bodies (at n k))) o) ≡ Some r → IsSome (kind_there (world m) x)
       by None is = absurd (cc)
       by (Some n) is = under (at n k) (get m.bodies (at n k)) refl is
 
-  covering-live : (s : Path) (page k : ℕ) (r : Extent) (x : Path) → covering_region (world m) s page k ≡ Some r → live_keeper r.keeper ≡ Some (At x) → IsSome (kind_there (world m) x)
+  covering-live : (s : Path) (page k : ℕ) (r : Extent) (x : Path) →
+      covering_region (world m) s page k ≡ Some r → live_keeper r.keeper ≡ Some (At x) → IsSome (kind_there (world m) x)
   covering-live s page k r x is leads = by (and_then region_of ((world m).body (k ∷ s))) refl is
     where
-      test : (old : Extent) (t : Bool) → cond t (Some old) None ≡ Some r → and_then region_of ((world m).body (k ∷ s)) ≡ Some old → IsSome (kind_there (world m) x)
+      test : (old : Extent) (t : Bool) →
+          cond t (Some old) None ≡ Some r → and_then region_of ((world m).body (k ∷ s)) ≡ Some old → IsSome (kind_there (world m) x)
       test old true is e = at-live k s r x (e ∙ is) leads
       test old false is e = absurd (cc)
 
-      by : (o : Option Extent) → and_then region_of ((world m).body (k ∷ s)) ≡ o → and_then (λ (r : Extent). if covers r.first r.count page then Some r else None) o ≡ Some r → IsSome (kind_there (world m) x)
+      by : (o : Option Extent) → and_then region_of ((world m).body (k ∷ s)) ≡ o →
+          and_then (λ (r : Extent). if covers r.first r.count page then Some r else None) o ≡ Some r → IsSome (kind_there (world m) x)
       by None e is = absurd (cc)
       by (Some old) e is = test old (covers old.first old.count page) is e
 
@@ -128,12 +138,14 @@ module _ (m : Contents) (kept : IsWellFormed m) where
   unfolding keeper region_at
   keeper-live s page x is = by (region_at (world m) s page) refl is
     where
-      by : (o : Option Extent) → region_at (world m) s page ≡ o → and_then (λ (r : Extent). live_keeper r.keeper) o ≡ Some (At x) → IsSome (kind_there (world m) x)
+      by : (o : Option Extent) →
+          region_at (world m) s page ≡ o → and_then (λ (r : Extent). live_keeper r.keeper) o ≡ Some (At x) → IsSome (kind_there (world m) x)
       by None e is = absurd (cc)
       by (Some r) e is = let found = lowest-found SLOTS _ r e in covering-live s page found.0 r x found.1 is
 
   -- ---- what a store's walk ends at
-  pub reached : (space page : ℕ) (write : Bool) (r : reaches_of.Reach) → reach_by (path m) r ≡ definition.reach (world m) (path m space) page write → IsReached m r
+  pub reached : (space page : ℕ) (write : Bool) (r : reaches_of.Reach) →
+      reach_by (path m) r ≡ definition.reach (world m) (path m space) page write → IsReached m r
   unfolding Ends
   reached space page write r is = by r (subst (Ends (world m)) (sym is) (reach-ends (world m) (path m space) page write))
     where
@@ -147,7 +159,8 @@ module _ (m : Contents) (kept : IsWellFormed m) where
       by reaches.Bad ends = tt
 
   -- a page that is looked up is there, with its space
-  pub page_found : (space page : ℕ) (found : Option (Bor (List ℕ))) → option_copied found ≡ get m.pages (space, page) → is_some found ≡ true → IsReached m (reaches.Home space page)
+  pub page_found : (space page : ℕ) (found : Option (Bor (List ℕ))) →
+      option_copied found ≡ get m.pages (space, page) → is_some found ≡ true → IsReached m (reaches.Home space page)
   page_found space page found is some = (live-IsSpace m kept space (kept.paged space page there), ap is_some (page-path m kept space page) ∙ there)
     where
       by : (o : Option (Bor (List ℕ))) → is_some o ≡ true → is_some (option_copied o) ≡ true
@@ -158,5 +171,6 @@ module _ (m : Contents) (kept : IsWellFormed m) where
       there = ap is_some (sym is) ∙ by found some
 
 -- a page that is there answers at each of its words
-pub reach_word_there : (w : World) (s : Path) (address : ℕ) (write : Bool) → address < SPACE_WORDS → is_some (w.page s (address / PAGE_WORDS)) ≡ true → Home s (address / PAGE_WORDS) ≡ definition.reach_word w s address write
+pub reach_word_there : (w : World) (s : Path) (address : ℕ) (write : Bool) →
+    address < SPACE_WORDS → is_some (w.page s (address / PAGE_WORDS)) ≡ true → Home s (address / PAGE_WORDS) ≡ definition.reach_word w s address write
 reach_word_there w s address write low some = rw (lt-ltb address SPACE_WORDS low, reach_there w s (address / PAGE_WORDS) write some) refl

@@ -48,12 +48,19 @@ abbrev pub fault_by : (ℕ → Path) → StoredFault → Fault
 fault_by path fault = record { page = fault.page; write = fault.write; port = At (place path fault.port); taker = option_map (peer_by path) fault.taker }
 
 abbrev pub thread_by : (ℕ → Path) → StoredThread → Thread
-thread_by path t = record { mode = mode_by t.mode t.regs; counter = t.pc; stops = t.stops; talk = option_map (talk_by path) t.talk; fault = option_map (fault_by path) t.fault }
+thread_by path t = record {
+  mode = mode_by t.mode t.regs;
+  counter = t.pc;
+  stops = t.stops;
+  talk = option_map (talk_by path) t.talk;
+  fault = option_map (fault_by path) t.fault;
+}
 
 abbrev pub body_by : (ℕ → Path) → StoredBody → Body
 body_by path (bodies.Mutex locked) = Mutex locked
 body_by path bodies.Cond = Cond
-body_by path (bodies.Mapping first count offset write region) = Mapping (record { first = first; count = count; offset = offset; write = write; region = pointer_by path region })
+body_by path (bodies.Mapping first count offset write region) =
+    Mapping (record { first = first; count = count; offset = offset; write = write; region = pointer_by path region })
 body_by path (bodies.Region first count write keeper) = Region (record { first = first; count = count; write = write; keeper = pointer_by path keeper })
 body_by path (bodies.Port set served) = Port set served
 body_by path bodies.Portset = Portset

@@ -17,7 +17,8 @@ pub record Contents : Type 0 where
   pub next : ℕ
 
 abbrev pub coded_contents : Coded Contents
-coded_contents = code_by (FinMap who_cmp Body × (FinMap page_cmp (List ℕ) × ℕ)) (coded× (code coded_who body.the_row.coded) (coded× (code (coded× coded_ℕ coded_ℕ) (coded_list coded_ℕ)) coded_ℕ))
+coded_contents = code_by (FinMap who_cmp Body × (FinMap page_cmp (List ℕ) × ℕ))
+    (coded× (code coded_who body.the_row.coded) (coded× (code (coded× coded_ℕ coded_ℕ) (coded_list coded_ℕ)) coded_ℕ))
     (λ m. (m.bodies, (m.pages, m.next))) (λ p. record { bodies = p.0; pages = p.1.0; next = p.1.1 }) (λ _. refl)
 
 -- the birth number of the space that stands there

@@ -17,8 +17,10 @@ use Rattle.fk_model.specs.Searches.{thread_at}
 abbrev pub played : (ℕ → Path) → Part → Option objects.Thread → Bool
 played p (Client server) t = holds (λ (talk : objects.Talk). serves (place p server) talk.peer) (and_then (λ (t : objects.Thread). t.talk) t)
 played p (Faulter taker) t = holds (λ (fault : objects.Fault). holds (serves (place p taker)) fault.taker) (and_then (λ (t : objects.Thread). t.fault) t)
-played p (Guest port) t = holds (λ (talk : objects.Talk). leads_to (place p port) talk.port && searches.is_service talk.peer) (and_then (λ (t : objects.Thread). t.talk) t)
-played p (Parked port) t = holds (λ (talk : objects.Talk). leads_to (place p port) talk.port && links.is_parked (Some talk.peer)) (and_then (λ (t : objects.Thread). t.talk) t)
+played p (Guest port) t =
+    holds (λ (talk : objects.Talk). leads_to (place p port) talk.port && searches.is_service talk.peer) (and_then (λ (t : objects.Thread). t.talk) t)
+played p (Parked port) t =
+    holds (λ (talk : objects.Talk). leads_to (place p port) talk.port && links.is_parked (Some talk.peer)) (and_then (λ (t : objects.Thread). t.talk) t)
 
 abbrev pub played_at : Contents → Part → Path → Bool
 played_at m part x = played (path m) part (thread_at (world m) x)

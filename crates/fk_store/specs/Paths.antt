@@ -45,4 +45,5 @@ IsAtHome path who (Reference to) = Unit {0}
 
 -- no other object has its path
 abbrev pub HasOwnPath : (ℕ → Path) → Who → Type 0
-HasOwnPath path who = (other : Who) → (same_path (place path other) (place path who) ≡ same_who other who) × (same_path (place path who) (place path other) ≡ same_who who other)
+HasOwnPath path who = (other : Who) →
+    (same_path (place path other) (place path who) ≡ same_who other who) × (same_path (place path who) (place path other) ≡ same_who who other)

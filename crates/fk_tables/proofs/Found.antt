@@ -66,7 +66,8 @@ module _ (bodies : FinMap who_cmp Body) (p : Body → Bool) where
   pub found-passes : (who : Who) → found_by ≡ Some who → (b : Body) × (get bodies who ≡ Some b) × (p b ≡ true)
   found-passes who h = by (find (λ e. p e.1) (entries bodies)) refl h
     where
-      by : (f : Option (Who × Body)) → find (λ e. p e.1) (entries bodies) ≡ f → option_map (λ e. e.0) f ≡ Some who → (b : Body) × (get bodies who ≡ Some b) × (p b ≡ true)
+      by : (f : Option (Who × Body)) →
+          find (λ e. p e.1) (entries bodies) ≡ f → option_map (λ e. e.0) f ≡ Some who → (b : Body) × (get bodies who ≡ Some b) × (p b ≡ true)
       by None found is = absurd (cc)
       by (Some e) found is =
           let there : get bodies e.0 ≡ Some e.1 = get-entries bodies e.0 ∙ chosen who_total (λ e. p e.1) (entries bodies) e (entries_sorted bodies) found in
@@ -103,7 +104,9 @@ module _ {K X : Type 0} {R : K → K → Ordering} (o : IsTotalOrder R) where
   found-member [] k v h = absurd (cc)
   found-member (d ∷ es) k v h = by (eq_by_cmp R k d.0) refl h (found-member es k v)
     where
-      by : (t : Bool) → eq_by_cmp R k d.0 ≡ t → cond t (Some d.1) (finmap.find R k es) ≡ Some v → (finmap.find R k es ≡ Some v → (e : K × X) × IsIn e es × (eq_by_cmp R k e.0 ≡ true) × (e.1 ≡ v)) → (e : K × X) × IsIn e (d ∷ es) × (eq_by_cmp R k e.0 ≡ true) × (e.1 ≡ v)
+      by : (t : Bool) → eq_by_cmp R k d.0 ≡ t →
+          cond t (Some d.1) (finmap.find R k es) ≡ Some v → (finmap.find R k es ≡ Some v → (e : K × X) × IsIn e es × (eq_by_cmp R k e.0 ≡ true) × (e.1 ≡ v)) →
+          (e : K × X) × IsIn e (d ∷ es) × (eq_by_cmp R k e.0 ≡ true) × (e.1 ≡ v)
       by true t is rest = (d, inl refl, t, cc)
       by false t is rest = let found = rest is in (found.0, inr found.1, found.2, found.3)
 

@@ -40,6 +40,8 @@ pub same_who_back : (a b : Who) → same_who a b ≡ same_who b a
 same_who_back a b = grind (arith, nat_tests)
 
 -- a map in which a key's value goes to another key
-pub get-renamed : {X : Type 0} (old left new : FinMap who_cmp X) (from to : Who) (x : X) → get old from ≡ Some x → left ≡ remove old from → new ≡ insert left to x →
+pub get-renamed : {X : Type 0} (old left new : FinMap who_cmp X) (from to : Who) (x : X) →
+    get old from ≡ Some x → left ≡ remove old from → new ≡ insert left to x →
     (q : Who) → get new q ≡ cond (same_who q to) (get old from) (cond (same_who q from) None (get old q))
-get-renamed old left new from to x there removed inserted q = rw (inserted, get-insert who_total left to x q, removed, get-remove who_total old from q, same_tied q to, same_tied q from, there) refl
+get-renamed old left new from to x there removed inserted q =
+    rw (inserted, get-insert who_total left to x q, removed, get-remove who_total old from q, same_tied q to, same_tied q from, there) refl

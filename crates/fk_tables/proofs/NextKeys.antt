@@ -27,10 +27,12 @@ module _ {K X : Type 0} {R : K → K → Ordering} (o : IsTotalOrder R) where
       in_range = omega (arith, a.in_range);
       up_to = λ j d l. elim (cases_order j i) [
         | inl same ↦ let tie = equal_back o (get_or es i d).0 k (a.same d) in rw (same, tie) refl
-        | inr (inl low) ↦ let less = less_of_equal o (get_or es j d).0 (get_or es i d).0 k (sorted_rises o es s j i d low a.in_range) (a.same d) in rw (less_back o (get_or es j d).0 k less) refl
+        | inr (inl low) ↦ let less = less_of_equal o (get_or es j d).0 (get_or es i d).0 k (sorted_rises o es s j i d low a.in_range) (a.same d) in
+            rw (less_back o (get_or es j d).0 k less) refl
         | inr (inr high) ↦ absurd (omega arith)
       ];
-      above = λ j d l m. let tie = equal_back o (get_or es i d).0 k (a.same d) in rw (o.congr k (get_or es i d).0 (get_or es j d).0 tie, sorted_rises o es s i j d (omega arith) m) refl;
+      above = λ j d l m. let tie = equal_back o (get_or es i d).0 k (a.same d) in
+          rw (o.congr k (get_or es i d).0 (get_or es j d).0 tie, sorted_rises o es s i j d (omega arith) m) refl;
     }
 
     pub after-gap : IsGap R es k i → IsAfter R es (Some k) i
@@ -45,16 +47,19 @@ module _ {K X : Type 0} {R : K → K → Ordering} (o : IsTotalOrder R) where
   key_place q [] v h = absurd (cc)
   key_place q (e ∷ es) v h = by (eq_by_cmp R q e.0) refl (key_place q es v)
     where
-      by : (t : Bool) → eq_by_cmp R q e.0 ≡ t → (finmap.find R q es ≡ Some v → (j : ℕ) × (j < length es) × ((d : K × X) → R q (get_or es j d).0 ≡ Equal)) → (j : ℕ) × (j < length (e ∷ es)) × ((d : K × X) → R q (get_or (e ∷ es) j d).0 ≡ Equal)
+      by : (t : Bool) → eq_by_cmp R q e.0 ≡ t → (finmap.find R q es ≡ Some v → (j : ℕ) × (j < length es) × ((d : K × X) → R q (get_or es j d).0 ≡ Equal)) →
+          (j : ℕ) × (j < length (e ∷ es)) × ((d : K × X) → R q (get_or (e ∷ es) j d).0 ≡ Equal)
       by true t ih = (0, omega arith, λ d. (Equal-is (R q e.0)).0 t)
       by false t ih = let there : finmap.find R q es ≡ Some v = cc in let found = ih there in (suc found.0, omega (arith, found.1), found.2)
 
   module _ (es : List (K × X)) (s : T (is_sorted R es)) (k : Option K) (i : ℕ) (a : IsAfter R es k i) where
     -- a key after k stands at i or further on
-    place_after : (q : K) → IsSome (get (map_of R es) q) → comes_after R k q ≡ true → (j : ℕ) × (i ≤ j) × (j < length es) × ((d : K × X) → R q (get_or es j d).0 ≡ Equal)
+    place_after : (q : K) →
+        IsSome (get (map_of R es) q) → comes_after R k q ≡ true → (j : ℕ) × (i ≤ j) × (j < length es) × ((d : K × X) → R q (get_or es j d).0 ≡ Equal)
     place_after q some later = by (finmap.find R q es) refl (ap is_some (sym (get-from_sorted R es q s)) ∙ some)
       where
-        by : (f : Option X) → finmap.find R q es ≡ f → is_some (finmap.find R q es) ≡ true → (j : ℕ) × (i ≤ j) × (j < length es) × ((d : K × X) → R q (get_or es j d).0 ≡ Equal)
+        by : (f : Option X) →
+            finmap.find R q es ≡ f → is_some (finmap.find R q es) ≡ true → (j : ℕ) × (i ≤ j) × (j < length es) × ((d : K × X) → R q (get_or es j d).0 ≡ Equal)
         by None e h = absurd (cc)
         by (Some v) e h =
             let found = key_place q es v e in

@@ -69,9 +69,14 @@ module _ {K X : Type 0} {R : K → K → Ordering} (o : IsTotalOrder R) where
   pub find_gap : (es : List (K × X)) (k : K) (i : ℕ) → IsGap R es k i → find R k es ≡ None
   find_gap [] k i g = refl
   find_gap (e ∷ es) k zero g =
-      rw (greater_back o _ _ (g.above 0 e (omega arith) (omega arith))) (find_gap es k zero (record { in_range = omega arith; below = λ j d l. absurd (omega arith); above = λ j d l m. g.above (suc j) d (omega arith) (omega arith) }))
+      rw (greater_back o _ _ (g.above 0 e (omega arith) (omega arith))) (find_gap es
+      k zero (record { in_range = omega arith; below = λ j d l. absurd (omega arith); above = λ j d l m. g.above (suc j) d (omega arith) (omega arith) }))
   find_gap (e ∷ es) k (suc i) g =
-      rw (less_back o _ _ (g.below 0 e (omega arith))) (find_gap es k i (record { in_range = omega (arith, g.in_range); below = λ j d l. g.below (suc j) d (omega arith); above = λ j d l m. g.above (suc j) d (omega arith) (omega arith) }))
+      rw (less_back o _ _ (g.below 0 e (omega arith))) (find_gap es k i (record {
+        in_range = omega (arith, g.in_range);
+        below = λ j d l. g.below (suc j) d (omega arith);
+        above = λ j d l m. g.above (suc j) d (omega arith) (omega arith);
+      }))
 
   -- an insertion there puts the entry in its place
   pub insert_gap : (es : List (K × X)) (k : K) (v : X) (i : ℕ) → IsGap R es k i → insert es i (k, v) ≡ put R k v es
@@ -80,7 +85,11 @@ module _ {K X : Type 0} {R : K → K → Ordering} (o : IsTotalOrder R) where
   insert_gap (e ∷ es) k v zero g = rw (greater_back o _ _ (g.above 0 e (omega arith) (omega arith))) refl
   insert_gap (e ∷ es) k v (suc i) g =
       rw (less_back o _ _ (g.below 0 e (omega arith)))
-      (ap (λ l. e ∷ l) (insert_gap es k v i (record { in_range = omega (arith, g.in_range); below = λ j d l. g.below (suc j) d (omega arith); above = λ j d l m. g.above (suc j) d (omega arith) (omega arith) })))
+      (ap (λ l. e ∷ l) (insert_gap es k v i (record {
+        in_range = omega (arith, g.in_range);
+        below = λ j d l. g.below (suc j) d (omega arith);
+        above = λ j d l m. g.above (suc j) d (omega arith) (omega arith);
+      })))
 
   tail_at : (e : K × X) (es : List (K × X)) (k : K) (i : ℕ) → IsAt R (e ∷ es) k (suc i) → IsAt R es k i
   tail_at e es k i a = record { in_range = omega (arith, a.in_range); same = a.same }
@@ -122,7 +131,8 @@ module _ {K X : Type 0} {R : K → K → Ordering} (o : IsTotalOrder R) where
   put_view es k v s = same_entries_map _ _
       (entries-from_sorted R _ (is_sorted-put R o k v es s) ∙ sym (entries-insert o _ k v ∙ ap (put R k v) (entries-from_sorted R es s)))
 
-  pub without_view : IsAntisymmetric R → (es : List (K × X)) (k : K) → T (is_sorted R es) → from_sorted {R = R} (without R k es) ≡ finmap.remove (from_sorted es) k
+  pub without_view : IsAntisymmetric R →
+      (es : List (K × X)) (k : K) → T (is_sorted R es) → from_sorted {R = R} (without R k es) ≡ finmap.remove (from_sorted es) k
   without_view same es k s = finmap.same_map o same _ _ (λ q.
       get-from_sorted R _ q (is_sorted-where_key R _ es s)
       ∙ find-where_key R (λ x. not (eq_by_cmp R k x)) q (λ x t. ap (λ r. not (is_eq r)) (sym (alike_right o q x k t))) es
@@ -139,8 +149,14 @@ module _ {K X : Type 0} {R : K → K → Ordering} (o : IsTotalOrder R) where
   -- a key that is not there
   pub without_gap : (es : List (K × X)) (k : K) (i : ℕ) → IsGap R es k i → without R k es ≡ es
   without_gap [] k i g = refl
-  without_gap (e ∷ es) k zero g = rw (greater_back o _ _ (g.above 0 e (omega arith) (omega arith))) (ap (λ l. e ∷ l) (without_gap es k zero (record { in_range = omega arith; below = λ j d l. absurd (omega arith); above = λ j d l m. g.above (suc j) d (omega arith) (omega arith) })))
-  without_gap (e ∷ es) k (suc i) g = rw (less_back o _ _ (g.below 0 e (omega arith))) (ap (λ l. e ∷ l) (without_gap es k i (record { in_range = omega (arith, g.in_range); below = λ j d l. g.below (suc j) d (omega arith); above = λ j d l m. g.above (suc j) d (omega arith) (omega arith) })))
+  without_gap (e ∷ es) k zero g = rw (greater_back o _ _ (g.above 0 e (omega arith) (omega arith))) (ap (λ l. e ∷ l) (without_gap es
+      k zero (record { in_range = omega arith; below = λ j d l. absurd (omega arith); above = λ j d l m. g.above (suc j) d (omega arith) (omega arith) })))
+  without_gap (e ∷ es) k (suc i) g = rw (less_back o _ _ (g.below 0 e (omega arith))) (ap (λ l. e ∷ l) (without_gap es k i (record {
+    in_range =
+        omega (arith, g.in_range);
+    below = λ j d l. g.below (suc j) d (omega arith);
+    above = λ j d l m. g.above (suc j) d (omega arith) (omega arith);
+  })))
 
 module _ {K X : Type 0} {R : K → K → Ordering} (o : IsTotalOrder R) (es : List (K × X)) (s : T (is_sorted R es)) (k : K) (i : ℕ) where
   -- what a place tells of the map, and an edit there
@@ -192,7 +208,8 @@ module _ {K X : Type 0} (R : K → K → Ordering) (f : K → X → X) where
     find_values q [] = refl
     find_values q (e ∷ es) = by (eq_by_cmp R q e.0) refl (find_values q es)
       where
-        by : (t : Bool) → eq_by_cmp R q e.0 ≡ t → find R q (map revalued es) ≡ option_map (f q) (find R q es) → cond t (Some (f e.0 e.1)) (find R q (map revalued es)) ≡ option_map (f q) (cond t (Some e.1) (find R q es))
+        by : (t : Bool) → eq_by_cmp R q e.0 ≡ t → find R q (map revalued es) ≡ option_map (f q) (find R q es) →
+            cond t (Some (f e.0 e.1)) (find R q (map revalued es)) ≡ option_map (f q) (cond t (Some e.1) (find R q es))
         by true h rest = ap (λ k. Some (f k e.1)) (sym (tied q e.0 h))
         by false h rest = rest
 
@@ -205,7 +222,8 @@ module _ {K X : Type 0} (R : K → K → Ordering) (test : K → Bool) (tied : (
   kept_sorted es s = is_sorted-where_key R test es s
 
   pub get_kept : (es : List (K × X)) (q : K) → T (is_sorted R es) → get (map_of R (where_key R test es)) q ≡ cond (test q) (get (map_of R es) q) None
-  get_kept es q s = get-from_sorted R _ q (kept_sorted es s) ∙ find-where_key R test q (λ x t. ap test (sym (tied q x (ap is_eq t)))) es ∙ ap (λ o. cond (test q) o None) (sym (get-from_sorted R es q s))
+  get_kept es q s = get-from_sorted R _ q (kept_sorted es s)
+      ∙ find-where_key R test q (λ x t. ap test (sym (tied q x (ap is_eq t)))) es ∙ ap (λ o. cond (test q) o None) (sym (get-from_sorted R es q s))
 
 -- the keys rise, so the comparisons with one key do
 module _ {K X : Type 0} {R : K → K → Ordering} (o : IsTotalOrder R) where
@@ -213,9 +231,17 @@ module _ {K X : Type 0} {R : K → K → Ordering} (o : IsTotalOrder R) where
   comparisons_rise es k s = searchable_from_sorted o (λ e. e.0) es k (λ i d low l. ap is_lt (less_back o _ _ (sorted_rises o es s i (i + 1) d (omega arith) l)))
 
   -- what a binary search by the keys answers
-  pub searched : (es : List (K × X)) (k : K) (r : Result ℕ ℕ) → T (is_sorted R es) → IsSearchInRange r (length es) → IsBinarySearchResult (λ e. R e.0 k) es r → IfOk r (IsAt R es k) × IfErr r (IsGap R es k)
+  pub searched : (es : List (K × X)) (k : K) (r : Result ℕ ℕ) →
+      T (is_sorted R es) → IsSearchInRange r (length es) → IsBinarySearchResult (λ e. R e.0 k) es r → IfOk r (IsAt R es k) × IfErr r (IsGap R es k)
   searched es k (Ok i) s within is = (record { in_range = within; same = is }, tt)
-  searched es k (Err i) s within is = (tt, record { in_range = within; below = λ j d l. (is (comparisons_rise es k s)).0 j d (omega arith) l; above = λ j d l m. (is (comparisons_rise es k s)).1 j d l m })
+  searched es k (Err i) s within is = (
+    tt,
+    record {
+      in_range = within;
+      below = λ j d l. (is (comparisons_rise es k s)).0 j d (omega arith) l;
+      above = λ j d l m. (is (comparisons_rise es k s)).1 j d l m;
+    },
+  )
 
 pub map_of-nil : {K X : Type 0} (R : K → K → Ordering) → map_of {X = X} R [] ≡ finmap.empty
 map_of-nil {X = X} R = finmap.empty_of_len (from_sorted {X = X} {R = R} []) (finmap.len-entries _ ∙ ap length (entries-from_sorted {X = X} R [] tt))

@@ -52,7 +52,8 @@ body_after sweep space (Region first count write keeper) = Region first count wr
 body_after sweep space (Port set served) = Port (and_then (set_after sweep space) set) served
 body_after sweep space Portset = Portset
 body_after sweep space (Space birth holder) = Space birth (and_then (after sweep) holder)
-body_after sweep space (Thread thread) = Thread (record thread { talk = and_then (talk_after sweep) thread.talk; fault = and_then (fault_after sweep) thread.fault })
+body_after sweep space (Thread thread) =
+    Thread (record thread { talk = and_then (talk_after sweep) thread.talk; fault = and_then (fault_after sweep) thread.fault })
 body_after sweep space (Reference to) = Reference (pointer_after sweep to)
 
 -- an object with its body

@@ -61,7 +61,8 @@ impl Store {
     #[tactic(auto, using(crate::proofs::EditLaws::alter_nothing))]
     pub fn set_holder(&mut self, space: Who, holder: Option<Who>)
         requires holder { Each (IsLive self.old) holder }
-        ensures world { world self.new ≡ apply (Alter (place (path self.old) space) (SetHolder (option_map (λ who. At (place (path self.old) who)) holder))) (world self.old) }
+        ensures world { world
+            self.new ≡ apply (Alter (place (path self.old) space) (SetHolder (option_map (λ who. At (place (path self.old) who)) holder))) (world self.old) }
         ensures kinds { kind_there (world self.new) ≡ kind_there (world self.old) }
         ensures paths { path self.new ≡ path self.old }
     {

@@ -38,7 +38,8 @@ impl Store {
         requires space { IsSpace self.old space }
         requires there { IsSome ((world self.old).page (path self.old space) page) }
         requires at { at < 64 }
-        ensures world { world self.new ≡ apply (PutPage (path self.old space) page (slice_set (definition.words_at (world self.old) (path self.old space) page) at word)) (world self.old) }
+        ensures world { world self.new ≡ apply
+            (PutPage (path self.old space) page (slice_set (definition.words_at (world self.old) (path self.old space) page) at word)) (world self.old) }
         ensures kinds { kind_there (world self.new) ≡ kind_there (world self.old) }
         ensures paths { path self.new ≡ path self.old }
     {

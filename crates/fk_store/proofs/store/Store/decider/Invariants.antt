@@ -11,6 +11,7 @@ use Rattle.fk_store.proofs.store.Store.decider.Given as goal
 abbrev pub invariant-loop-above : goal.invariant-loop-above
 invariant-loop-above l = record {
   steps : l.at + l._above ≤ l.fn.object.space;
-  decider : or_else (holds.decider (world l.self) (path l.self l.at)) (option_map (λ who. At (place (path l.self) who)) l.holder) ≡ holds.decider (world l.self) (place (path l.self) l.fn.object);
+  decider : or_else (holds.decider (world l.self) (path l.self l.at))
+      (option_map (λ who. At (place (path l.self) who)) l.holder) ≡ holds.decider (world l.self) (place (path l.self) l.fn.object);
   live : Each (IsLive l.self) l.holder;
 }

@@ -9,10 +9,12 @@ pub loop-slot-init : goal.loop-slot-init
 loop-slot-init c = lowest-zero _
 
 pub returns-then-is_some : goal.returns-then-is_some
-returns-then-is_some c = resident-found (world c.args.self.now) (path c.args.self.now c.args.space) c.loop-slot.slot (omega arith) c.loop-slot.invariant (sym (found-there _ _ _ c.at.ensures.body) ∙ sym c.is_some.ensures ∙ c.if-is_some.true)
+returns-then-is_some c = resident-found (world c.args.self.now) (path c.args.self.now c.args.space)
+    c.loop-slot.slot (omega arith) c.loop-slot.invariant (sym (found-there _ _ _ c.at.ensures.body) ∙ sym c.is_some.ensures ∙ c.if-is_some.true)
 
 pub loop-slot-preserved : goal.loop-slot-preserved
-loop-slot-preserved c = lowest-none c.loop-slot.slot (taken (world c.args.self.now) (path c.args.self.now c.args.space)) c.loop-slot.invariant (none_mapped (λ b. c.loop-slot.slot) _ (sym (found-there _ _ _ c.at.ensures.body) ∙ sym c.is_some.ensures ∙ c.if-is_some.false))
+loop-slot-preserved c = lowest-none c.loop-slot.slot (taken (world c.args.self.now) (path c.args.self.now c.args.space))
+    c.loop-slot.invariant (none_mapped (λ b. c.loop-slot.slot) _ (sym (found-there _ _ _ c.at.ensures.body) ∙ sym c.is_some.ensures ∙ c.if-is_some.false))
 
 pub returns : goal.returns
 returns c = resident-none (world c.args.self.now) (path c.args.self.now c.args.space) c.loop-slot.slot (omega arith) (omega arith) c.loop-slot.invariant

@@ -11,7 +11,8 @@ pub invariant_of-self-2 : goal.invariant_of-self-2
 invariant_of-self-2 c =
     let slot : c.args.who.slot < 256 = omega arith in
     rw (c.next_after-self-inside.ensures, c.in_ok-put.ensures.ok)
-    (make-kept _ c.self.invariant c.args.who slot (rw (← c.self.view_is) at c.requires.space) (rw (← c.self.view_is) at c.requires.empty) c.args.body (rw (← c.self.view_is) at c.requires.birth) (rw (← c.self.view_is) at c.requires.named) c.requires.sized)
+    (make-kept _ c.self.invariant c.args.who slot (rw (← c.self.view_is) at c.requires.space) (rw (← c.self.view_is) at c.requires.empty)
+    c.args.body (rw (← c.self.view_is) at c.requires.birth) (rw (← c.self.view_is) at c.requires.named) c.requires.sized)
 
 pub returns : goal.returns
 returns c =

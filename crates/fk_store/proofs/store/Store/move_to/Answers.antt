@@ -7,7 +7,8 @@ use Rattle.fk_store.proofs.store.Store.move_to.Goals as goal
 
 -- the object is there still
 pub rename-requires : goal.rename-requires
-rename-requires c = ap is_some (c.sweep.ensures c.args.from) ∙ some_mapped _ _ ∙ IsLive-there _ c.self.invariant c.args.from (rw (← c.self.view_is) at c.requires.there)
+rename-requires c =
+    ap is_some (c.sweep.ensures c.args.from) ∙ some_mapped _ _ ∙ IsLive-there _ c.self.invariant c.args.from (rw (← c.self.view_is) at c.requires.there)
 
 pub invariant_of-self : goal.invariant_of-self
 invariant_of-self c =

@@ -11,7 +11,8 @@ invariant_of-self c = rw c.put_word.ensures (put_page-kept _ c.self.invariant c.
 
 pub returns : goal.returns
 returns c = rw (← c.self.view_is) (record {
-  world = rw (c.put_word.ensures, page-path _ c.self.invariant c.args.space c.args.page) (put_page-world _ c.self.invariant c.args.space c.args.page _ (rw (← c.self.view_is) at c.requires.space));
+  world = rw (c.put_word.ensures, page-path _ c.self.invariant c.args.space c.args.page)
+      (put_page-world _ c.self.invariant c.args.space c.args.page _ (rw (← c.self.view_is) at c.requires.space));
   kinds = kinds-pages _ c.self.invariant c.put_word.new.self;
   paths = paths-pages _ c.self.invariant c.put_word.new.self;
 })

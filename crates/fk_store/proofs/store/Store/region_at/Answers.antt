@@ -6,10 +6,12 @@ pub loop-slot-init : goal.loop-slot-init
 loop-slot-init c = lowest-zero _
 
 pub returns-then-is_some : goal.returns-then-is_some
-returns-then-is_some c = region-first _ _ _ c.loop-slot.slot (omega arith) _ c.loop-slot.invariant c.region_in-found.ensures (some_mapped _ _ (sym c.is_some.ensures ∙ c.if-is_some.true))
+returns-then-is_some c = region-first _
+    _ _ c.loop-slot.slot (omega arith) _ c.loop-slot.invariant c.region_in-found.ensures (some_mapped _ _ (sym c.is_some.ensures ∙ c.if-is_some.true))
 
 pub loop-slot-preserved : goal.loop-slot-preserved
-loop-slot-preserved c = lowest-none c.loop-slot.slot _ c.loop-slot.invariant (sym c.region_in-found.ensures ∙ none_mapped _ _ (sym c.is_some.ensures ∙ c.if-is_some.false))
+loop-slot-preserved c =
+    lowest-none c.loop-slot.slot _ c.loop-slot.invariant (sym c.region_in-found.ensures ∙ none_mapped _ _ (sym c.is_some.ensures ∙ c.if-is_some.false))
 
 pub returns : goal.returns
 returns c = region-none _ _ _ c.loop-slot.slot (omega arith) (omega arith) c.loop-slot.invariant

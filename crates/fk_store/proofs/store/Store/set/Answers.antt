@@ -5,7 +5,8 @@ pub set-requires : goal.set-requires
 set-requires c = set-there _ c.self.invariant c.args.who c.args.body (rw (← c.self.view_is) at c.requires.kind) (rw (← c.self.view_is) at c.requires.home)
 
 pub invariant_of-self : goal.invariant_of-self
-invariant_of-self c = rw c.set.ensures (set-kept _ c.self.invariant c.args.who c.args.body (rw (← c.self.view_is) at c.requires.kind) (rw (← c.self.view_is) at c.requires.home) (rw (← c.self.view_is) at c.requires.named) c.requires.sized)
+invariant_of-self c = rw c.set.ensures (set-kept _ c.self.invariant c.args.who c.args.body
+    (rw (← c.self.view_is) at c.requires.kind) (rw (← c.self.view_is) at c.requires.home) (rw (← c.self.view_is) at c.requires.named) c.requires.sized)
 
 pub returns : goal.returns
 returns c =

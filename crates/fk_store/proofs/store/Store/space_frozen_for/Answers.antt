@@ -7,4 +7,7 @@ pub returns-in-None : goal.returns-in-None
 returns-in-None c = rw (← c.self.view_is, decider-none _ c.self.invariant c.args.space (sym c.home.ensures ∙ c.in-None.is)) refl
 
 pub returns-in-Some : goal.returns-in-Some
-returns-in-Some c = rw (← c.self.view_is, path-home _ c.self.invariant c.args.space c.in-Some.who (sym c.home.ensures ∙ c.in-Some.is)) (rw (← c.self.view_is) at c.frozen_for.ensures)
+returns-in-Some c = rw (
+  ← c.self.view_is,
+  path-home _ c.self.invariant c.args.space c.in-Some.who (sym c.home.ensures ∙ c.in-Some.is),
+) (rw (← c.self.view_is) at c.frozen_for.ensures)

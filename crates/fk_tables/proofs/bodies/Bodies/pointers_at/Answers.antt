@@ -7,5 +7,6 @@ use Rattle.fk_tables.proofs.bodies.Bodies.pointers_at.Goals as goal
 -- the entries of the map are those of the vector
 pub returns : goal.returns
 returns c =
-    let among : entries (map_of who_cmp c.self.inside.entries.items) ≡ c.self.inside.entries.items = entries-from_sorted who_cmp c.self.inside.entries.items c.self.invariant in
+    let among : entries
+    (map_of who_cmp c.self.inside.entries.items) ≡ c.self.inside.entries.items = entries-from_sorted who_cmp c.self.inside.entries.items c.self.invariant in
     rw (← c.self.view_is) (rw (c.deref.ensures.value, ← among) at c.count_hits.ensures)

@@ -6,7 +6,9 @@ use Rattle.fk_tables.proofs.TableLaws.{values_sorted, get_values}
 use Rattle.fk_tables.proofs.bodies.Bodies.sweep.Goals as goal
 
 pub invariant_of-self : goal.invariant_of-self
-invariant_of-self c = rw c.sweep_each.ensures (values_sorted who_cmp (λ (who : Who). body_after c.args.sweep who.space) c.self.inside.entries.items c.self.invariant)
+invariant_of-self c =
+    rw c.sweep_each.ensures (values_sorted who_cmp (λ (who : Who). body_after c.args.sweep who.space) c.self.inside.entries.items c.self.invariant)
 
 pub returns : goal.returns
-returns c q = rw (c.sweep_each.ensures, ← c.self.view_is) (get_values who_cmp (λ (who : Who). body_after c.args.sweep who.space) who_tied c.self.inside.entries.items q c.self.invariant)
+returns c q = rw (c.sweep_each.ensures, ← c.self.view_is)
+    (get_values who_cmp (λ (who : Who). body_after c.args.sweep who.space) who_tied c.self.inside.entries.items q c.self.invariant)

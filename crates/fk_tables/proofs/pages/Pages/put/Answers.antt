@@ -22,7 +22,8 @@ invariant_of-self-in-Err c =
 pub returns-in_ok-insert-in-Err-clause-ok : goal.returns-in_ok-insert-in-Err-clause-ok
 returns-in_ok-insert-in-Err-clause-ok c =
     let gap = rw c.deref.ensures.value at c.in-Err.ensures.gap in
-    rw (c.in_ok-insert-in-Err.ensures.items, ← c.self.view_is, ← c.in_ok-new-in-Err.ensures) (map_insert page_total _ c.self.invariant _ _ c.in_ok-new-in-Err.new gap)
+    rw (c.in_ok-insert-in-Err.ensures.items, ← c.self.view_is, ← c.in_ok-new-in-Err.ensures)
+    (map_insert page_total _ c.self.invariant _ _ c.in_ok-new-in-Err.new gap)
 
 -- no memory is wanted for a page that is there
 pub returns-in_err-new-in-Err-clause-there : goal.returns-in_err-new-in-Err-clause-there

@@ -20,4 +20,5 @@ invariant_of-self c =
 pub returns : goal.returns
 returns c n g =
     let left = filter_same _ (λ e. others c.args.space e.0) _ (λ x b g t. search rules) _ _ c.retain.ensures.filtered in
-    rw (left, ← c.self.view_is) (get_kept page_cmp (others c.args.space) page_tied c.self.inside.entries.items (n, g) c.self.invariant ∙ turned (n == c.args.space) _ _)
+    rw (left, ← c.self.view_is)
+    (get_kept page_cmp (others c.args.space) page_tied c.self.inside.entries.items (n, g) c.self.invariant ∙ turned (n == c.args.space) _ _)
