@@ -17,8 +17,6 @@ mod mem_sink;
 mod mem_source;
 mod shelf;
 mod streams;
-#[cfg(test)]
-mod tests;
 mod traits;
 mod whole;
 

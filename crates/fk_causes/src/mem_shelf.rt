@@ -54,6 +54,13 @@ impl MemShelf {
         }
     }
 
+    /// All its files.
+    pub fn files(&self) -> &BTreeMap<String, Vec<u8>>
+        ensures { files_of result.now.entries ≡ self.now.files }
+    {
+        &self.files
+    }
+
     /// Counts a call, and answers whether it is one of those that fail.
     fn is_failing(&mut self) -> bool
         ensures calls { self.new ≡ record self.old { calls = counted self.old.calls } }

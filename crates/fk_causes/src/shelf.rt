@@ -4,13 +4,10 @@ ghost use Rattle.std.specs.Option.{option_map};
 ghost use Rattle.fk_causes.specs.Shelf.{FileMap, HasAt, KeepsOthers, HasShelfCause};
 ghost use Rattle.fk_causes.specs.declared.shelf.ShelfFail.TheVariants as fails;
 
-#[cfg(test)]
-mod tests;
-
 use std::alloc::{AllocError, AllocFailed};
 
 /// Why a get or a put wasn't done.
-#[derive(Clone, Copy, Debug, PartialEq, Eq)]
+#[derive(Clone, Copy, Debug)]
 pub enum ShelfFail {
     /// The shelf failed. Its count of failed gets or of failed puts rose.
     Failed,

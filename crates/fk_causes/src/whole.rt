@@ -10,7 +10,7 @@ use std::alloc::Global;
 pub const LIMIT: usize = 1_048_576;
 
 /// Why a source wasn't read to its end.
-#[derive(Clone, Copy, Debug, PartialEq, Eq)]
+#[derive(Clone, Copy)]
 pub enum ReadError {
     /// It held more than `LIMIT` bytes.
     TooLong,

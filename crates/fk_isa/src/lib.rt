@@ -11,6 +11,3 @@ mod words;
 pub use acts::act_of;
 pub use fk_model::{Act, Instr, operation};
 pub use words::{decode, encode};
-
-#[cfg(test)]
-mod tests;

@@ -265,6 +265,3 @@ fn next_after(next: u32, body: &Body) -> u32
         _ => next,
     }
 }
-
-#[cfg(test)]
-mod tests;

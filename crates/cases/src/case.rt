@@ -1,0 +1,138 @@
+//! Cases, as sections spell them.
+use crate::ending::Ending;
+use crate::fails::Fails;
+use crate::section::Section;
+use anyhow::{Context, bail};
+use std::alloc::{AllocError, Global};
+use std::collections::BTreeMap;
+
+/// A command and what must come of it.
+#[derive(Drop)]
+pub struct Case {
+    pub name: String,
+    pub words: Vec<String>,
+    /// What the source holds.
+    pub source: Vec<u8>,
+    /// The files of the shelf.
+    pub files: BTreeMap<String, Vec<u8>>,
+    /// How many bytes the sink has room for.
+    pub room: u32,
+    pub fails: Fails,
+    pub wanted: Ending,
+}
+
+/// The room of a sink where a case says nothing of it.
+const ROOM: u32 = 1_048_576;
+
+/// No status, no fault, no output and these files.
+fn nothing_but(files: &BTreeMap<String, Vec<u8>>, alloc: Global) -> Result<Ending, AllocError> {
+    Ok(Ending {
+        status: 0,
+        error: String::new(alloc),
+        output: Vec::new(alloc),
+        files: files.clone()?,
+    })
+}
+
+/// A case of no words over nothing, of which nothing is wanted.
+fn new_case(alloc: Global, name: &str) -> Result<Case, AllocError> {
+    let files = BTreeMap::new(alloc);
+    Ok(Case {
+        name: String::from_str(alloc, name)?,
+        words: Vec::new(alloc),
+        source: Vec::new(alloc),
+        wanted: nothing_but(&files, alloc)?,
+        files,
+        room: ROOM,
+        fails: Fails::none(alloc),
+    })
+}
+
+/// The same words over the same source and shelf, of which nothing is wanted.
+fn once_more(alloc: Global, case: &Case, name: &str) -> Result<Case, AllocError> {
+    Ok(Case {
+        name: String::from_str(alloc, name)?,
+        words: case.words.clone()?,
+        source: case.source.clone()?,
+        files: case.files.clone()?,
+        room: ROOM,
+        fails: Fails::none(alloc),
+        wanted: nothing_but(&case.files, alloc)?,
+    })
+}
+
+/// The words between the spaces of a text.
+fn words_of(alloc: Global, text: &str) -> Result<Vec<String>, AllocError> {
+    let mut words = Vec::new(alloc);
+    for word in text.split(' ') {
+        words.push(String::from_str(alloc, word)?)?;
+    }
+    Ok(words)
+}
+
+/// Takes what a section says of a call.
+fn take_call(alloc: Global, case: &mut Case, section: &Section) -> anyhow::Result<()> {
+    match section.word {
+        "words" => case.words = words_of(alloc, section.rest)?,
+        "word" => case.words.push(String::from_str(alloc, section.rest)?)?,
+        "source" => case.source = section.content.clone()?,
+        "file" => {
+            let name = String::from_str(alloc, section.rest)?;
+            case.files.insert(name, section.content.clone()?)?;
+            case.wanted.files = case.files.clone()?;
+        }
+        "room" => case.room = section.rest.parse::<u32>()?,
+        "fails" => case.fails.take(section.rest)?,
+        _ => take_ending(alloc, &mut case.wanted, section)?,
+    }
+    Ok(())
+}
+
+/// Takes what a section says of the ending of a call.
+fn take_ending(alloc: Global, wanted: &mut Ending, section: &Section) -> anyhow::Result<()> {
+    match section.word {
+        "status" => wanted.status = section.rest.parse::<u8>()?,
+        "error" => wanted.error = String::from_str(alloc, section.rest)?,
+        "output" => wanted.output = section.content.clone()?,
+        "after" => {
+            let name = String::from_str(alloc, section.rest)?;
+            wanted.files.insert(name, section.content.clone()?)?;
+        }
+        _ => bail!("no section of a case is headed by this"),
+    }
+    Ok(())
+}
+
+/// Takes a section into the cases before it.
+fn take_section(alloc: Global, cases: &mut Vec<Case>, section: &Section) -> anyhow::Result<()> {
+    match section.word {
+        "case" => cases.push(new_case(alloc, section.rest)?)?,
+        "again" => {
+            let before = cases.last().context("no case is before")?;
+            let case = once_more(alloc, before, section.rest)?;
+            cases.push(case)?;
+        }
+        _ => take_call(
+            alloc,
+            cases.last_mut().context("no case is before")?,
+            section,
+        )?,
+    }
+    Ok(())
+}
+
+/// The cases that sections spell.
+///
+/// # Errors
+///
+/// Where a section isn't well formed, and for want of memory.
+pub fn cases_of(alloc: Global, sections: &[Section]) -> anyhow::Result<Vec<Case>> {
+    let mut cases = Vec::new(alloc);
+    for section in sections {
+        take_section(alloc, &mut cases, section).context(format_args!(
+            "at {} {}",
+            section.word, section.rest
+        ))?;
+    }
+    Ok(cases)
+}
