@@ -3,3 +3,4 @@ pub mod cut
 pub mod rebinding
 pub mod talks
 pub mod waits
+pub mod joined

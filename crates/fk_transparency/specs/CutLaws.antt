@@ -203,3 +203,9 @@ abbrev pub CallKeepsCut : (Stage → Type 0) → Type 0
 CallKeepsCut IsSuch =
     (w : World) (nester : Path) (slot : ℕ) (x : Path) (pick : Option Path) (stage : Stage) (words : List ℕ) →
     IsSuch stage → KeepsCut w nester slot (record { mover = x; pick = pick; ask = asks.Call stage words })
+
+-- ---- all of them
+
+-- the law for every move that is made inside, by whomever
+abbrev pub InsideKeepsCut : Type 0
+InsideKeepsCut = (w : World) (nester : Path) (slot : ℕ) (e : Event) → is_within (slot ∷ nester) e.mover ≡ true → KeepsCut w nester slot e

@@ -1,7 +1,7 @@
 //! The law of rebinding, each kind of move the contract of a function that does nothing: a subtree that is seen alone does,
 //! with other outward ports, what it did, also where two of them get one name.
 ghost use Rattle.fk_transparency.specs.CutLaws.{IsClientOver, IsClientSend, IsDestroy, IsDisconnect, IsFaultDone, IsForPorters, IsPageGive, IsPageTake, IsPlainStage, IsRename, IsServerEnd, IsServerOver, IsServerReceive, IsServerSend, IsSignal, IsWait};
-ghost use Rattle.fk_transparency.specs.RebindLaws.{InstructionRebinds, StageRebinds, TouchRebinds};
+ghost use Rattle.fk_transparency.specs.RebindLaws.{InstructionRebinds, MoveRebinds, RunRebinds, StageRebinds, TouchRebinds};
 
 /// A thread of the subtree that makes an instruction does so with other outward ports, and the outside hears of a fault at these.
 pub fn an_instruction_rebinds()
@@ -101,4 +101,16 @@ pub fn a_death_rebinds()
 /// ports, and the outside hears the same at these.
 pub fn a_wait_rebinds()
     ensures { StageRebinds IsWait }
+{}
+
+/// Every move that a subtree makes or that the outside does to it, in one law: with other outward ports it is ready exactly where it
+/// was, tells the same at these, and leaves the same.
+pub fn every_move_rebinds()
+    ensures { MoveRebinds }
+{}
+
+/// The further runs of a subtree that is seen alone are, with other outward ports, the same runs: each list of moves is one exactly
+/// where it was one, tells the same at these, and leaves the same.
+pub fn every_run_rebinds()
+    ensures { RunRebinds }
 {}

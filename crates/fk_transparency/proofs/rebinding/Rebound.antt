@@ -166,8 +166,8 @@ same_move w m (Refused status) told heard later after h g = absurd h
 pub rebinds_from : (bind : ℕ → ℕ) (c : World) (m : Onward) (near far : Outcome) → onward_row (rebound bind c) m ≡ near → onward_row c m ≡ far →
     ((told : List Told) (later : World) → OnwardTo c m far told later → OnwardTo (rebound bind c) m near (map (rebound_told bind) told) (rebound bind later)) →
     ((heard : List Told) (after : World) → OnwardTo (rebound bind c) m near heard after → (told : List Told) × (later : World) × OnwardTo c m far told later) →
-    RebindsTo bind c m
-rebinds_from bind c m near far near_is far_is forth back = record {
+    ((told : List Told) (later : World) → OnwardTo c m far told later → IsCutWorld later) → RebindsTo bind c m
+rebinds_from bind c m near far near_is far_is forth back stays = record {
   forth = λ told later onward. subst (λ (o : Outcome). OnwardTo (rebound bind c) m o (map (rebound_told bind) told) (rebound bind later))
       (sym near_is) (forth told later (subst (λ (o : Outcome). OnwardTo c m o told later) far_is onward));
   back = λ heard after onward.
@@ -176,7 +176,22 @@ rebinds_from bind c m near far near_is far_is forth back = record {
       let now = forth was.0 was.1 was.2 in
       let same = same_move (rebound bind c) m near (map (rebound_told bind) was.0) heard (rebound bind was.1) after now here in
       (was.0, was.1, subst (λ (o : Outcome). OnwardTo c m o was.0 was.1) (sym far_is) was.2, same.0, same.1);
+  stays = λ told later onward. stays told later (subst (λ (o : Outcome). OnwardTo c m o told later) far_is onward);
 }
+
+-- what a move leaves that acts alike in the world itself
+pub stays_alone : (c : World) → IsCutWorld c → (m : Onward) (far : Outcome) → IsLikeOutcome [] (λ p. p) c far far →
+    (told : List Told) (later : World) → OnwardTo c m far told later → IsCutWorld later
+stays_alone c world m (Goes ds said) again told later onward = rw (onward.2) (changes-like c c ds ds again world)
+stays_alone c world m Waits again told later onward = absurd onward
+stays_alone c world m (Refused status) again told later onward = absurd onward
+
+counted_again : (c : World) (n : ℕ) (far : Outcome) → IsLikeOutcome [] (λ p. p) c far far → IsLikeOutcome [] (λ p. p) c (counted n far) (counted n far)
+counted_again c n far again = by (eqb n 0 || goes_out far)
+  where
+    by : (b : Bool) → IsLikeOutcome [] (λ p. p) c (when b far) (when b far)
+    by true = again
+    by false = tt
 
 -- rows that tell nothing
 pub quiet_heard : (see : Ptr → Ptr) (near far : Outcome) → Quiet [] near → Quiet [] far → IsHeard see near far
@@ -286,6 +301,7 @@ module _ (bind : ℕ → ℕ) (c : World) (world : IsCutWorld c) (k : ℕ) (q : 
       onward_row (rebound bind c) (Own (k ∷ q) p n) ≡ counted n near → onward_row c (Own (k ∷ q) p n) ≡ counted n far → RebindsTo bind c (Own (k ∷ q) p n)
   rebinds_by p n near far h again hears near_is far_is = rebinds_from bind
       c (Own (k ∷ q) p n) (counted n near) (counted n far) near_is far_is (gone_anew p n near far h again hears) (gone_back p n near far h again hears)
+      (stays_alone c world (Own (k ∷ q) p n) (counted n far) (counted_again c n far again))
 
   stage_anew : (p : Option Path) (n : ℕ) (stage : Stage) → IsOwn stage → IsAtStage c (k ∷ q) stage → RebindsTo bind c (Own (k ∷ q) p n)
   stage_anew p n stage inner at =

@@ -38,7 +38,7 @@ use Rattle.fk_transparency.proofs.likeness.Waits.{connecting_to-like}
 use Rattle.fk_transparency.proofs.likeness.Outcomes.{their_page-like}
 use Rattle.fk_transparency.proofs.likeness.ChangeLists.{changes-like}
 use Rattle.fk_transparency.proofs.rebinding.Freedom.{out_kept, top_free}
-use Rattle.fk_transparency.proofs.rebinding.Rebound.{same_likeness, rebinds_from}
+use Rattle.fk_transparency.proofs.rebinding.Rebound.{stays_alone, same_likeness, rebinds_from}
 
 -- ---- who is outside, in a world that is all inside
 
@@ -288,3 +288,4 @@ touch_rebinds c touch bind world =
     rebinds_from bind c (ByOthers touch) (touch_row (rebound bind c) touch) (touch_row c touch) refl refl
     (touch_gone bind c world touch (touch_row (rebound bind c) touch) (touch_row c touch) alike (touch-like world (λ p. refl) world touch))
     (touch_back bind c world touch (touch_row (rebound bind c) touch) (touch_row c touch) alike)
+    (stays_alone c world (ByOthers touch) (touch_row c touch) (touch-like world (λ p. refl) world touch))

@@ -1,0 +1,2 @@
+pub mod Rebinding
+pub mod Inside
