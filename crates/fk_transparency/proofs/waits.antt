@@ -6,3 +6,4 @@ pub mod Outside
 pub mod Porters
 pub mod Signals
 pub mod FaultEnds
+pub mod FaultsDone

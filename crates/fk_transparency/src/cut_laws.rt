@@ -31,9 +31,16 @@ pub fn a_signal_keeps_the_cut()
     ensures { StageKeepsCut IsSignal }
 {}
 
-/// A thread inside that ends the fault that it has taken does so in the subtree by itself.
-pub fn an_end_of_a_fault_inside_keeps_the_cut()
-    ensures { StageInsideKeepsCut IsFaultDone }
+/// A thread that ends the fault that it has taken: inside, the subtree does so by itself; outside, the subtree sees that its fault is
+/// done, or sees nothing of it, or no law speaks of it.
+pub fn an_end_of_a_fault_keeps_the_cut()
+    ensures { StageKeepsCut IsFaultDone }
+{}
+
+/// A porter that ends the fault that it has taken: the subtree sees that its fault is done, or sees nothing of it, or no law speaks
+/// of it.
+pub fn an_end_of_a_fault_by_a_porter_keeps_the_cut()
+    ensures { CallKeepsCut IsFaultDone }
 {}
 
 /// A thread inside that gives an object another slot does so in the subtree by itself.

@@ -349,7 +349,7 @@ good_talk there at (Some (Thread_of t)) talk good is = let talks = (and_parts (a
 good_talk there at (Some b) talk good is = cc
 good_talk there at None talk good is = cc
 
-good_fault : (there : Path → Option Kind) (at : Path) (v : Option Body) (fault : Fault) →
+pub good_fault : (there : Path → Option Kind) (at : Path) (v : Option Body) (fault : Fault) →
     all_in (is_good there at) v ≡ true → and_then (λ (t : Thread). t.fault) (and_then thread_of v) ≡ Some fault → is_good_fault there fault ≡ true
 good_fault there at (Some (Thread_of t)) fault good is = let faults = (and_parts (all_in (is_good_talk there) t.talk) _ good).1 in rw is at faults
 good_fault there at (Some b) fault good is = cc

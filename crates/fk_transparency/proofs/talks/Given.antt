@@ -117,7 +117,7 @@ take_back m at page words inside long =
 -- ---- whom a server outside serves, it serves at a port outside
 
 module _ (w : World) (root : Path) (birth : ℕ) (holder : Option Ptr) (top : w.body root ≡ Some (Space birth holder)) where
-  port_out : (j : ℕ) (s : Path) → is_within root (j ∷ s) ≡ false →
+  pub port_out : (j : ℕ) (s : Path) → is_within root (j ∷ s) ≡ false →
       (p seen : Ptr) → PtrLikeness root w p seen → leads_there (kind_there w) (kinds.Port ∷ []) p ≡ true → lies_with p (At (j ∷ s)) → is_out seen ≡ true
   unfolding kind_there
   port_out j s out _ _ Nulls good near = cc

@@ -8,7 +8,7 @@ use Rattle.fk_model.specs.World.Change.{Alter}
 use Rattle.fk_model.specs.World.Edit.{SetFault}
 use Rattle.fk_model.specs.Searches.{faulter_of, objects}
 use Rattle.fk_model.specs.Holds.{is_frozen, is_unheld}
-use Rattle.fk_model.specs.Outcomes.{Outcome, ◌>>=◌, or_refuse, path_of}
+use Rattle.fk_model.specs.Outcomes.{Outcome, ◌>>=◌, or_refuse, Caller, path_of}
 use Rattle.fk_model.specs.FaultRows.{frees, fault_done}
 use Rattle.fk_model.specs.LinkRows.{user_at}
 use Rattle.fk_transparency.specs.CutLaws.{KeepsCut, IsAtStage, moves, StageInsideKeepsCut, IsFaultDone}
@@ -52,11 +52,11 @@ module _ {root : Path} {see : Ptr → Ptr} {small big : World} (like : IsLikenes
       by None (Some y) off h = absurd h
       by (Some z) None off h = absurd h
 
-quiet-fault_done : (root : Path) (w : World) (x : Path) → Quiet root (fault_done w (user_at x))
+pub quiet-fault_done : (root : Path) (w : World) (c : Caller) → Quiet root (fault_done w c)
 unfolding fault_done
-quiet-fault_done root w x =
-    quiet->>= root (or_refuse NOTLINKED (faulter_of w (path_of (user_at x)))) _ (λ y. quiet-when root (is_unheld w (parent y)) _
-    (quiet-done root (user_at x) (Alter y (SetFault None) ∷ []) [] ((λ out. refl), tt)))
+quiet-fault_done root w c =
+    quiet->>= root (or_refuse NOTLINKED (faulter_of w (path_of c))) _ (λ y. quiet-when root (is_unheld w (parent y)) _
+    (quiet-done root c (Alter y (SetFault None) ∷ []) [] ((λ out. refl), tt)))
 
 pub fault_done_keeps : StageInsideKeepsCut IsFaultDone
 fault_done_keeps w nester slot x pick stage such within at sound plain =
@@ -68,7 +68,7 @@ fault_done_keeps w nester slot x pick stage such within at sound plain =
         let like = cut-like w nester slot plain in
         stage_inside w nester slot plain k q pick FaultDone at (λ n c o. refl)
         (λ p e free. fault_done-like like free k q (faulter_of-like like (cut-served w nester slot sound.valid plain sound.few) (k ∷ q)))
-        (quiet-fault_done (slot ∷ nester) w (k ∷ (q ++ slot ∷ nester))) sound plain
+        (quiet-fault_done (slot ∷ nester) w (user_at (k ∷ (q ++ slot ∷ nester)))) sound plain
 
 pub fault_done_rebinds : StageRebinds IsFaultDone
 fault_done_rebinds = told_rebinds IsFaultDone (λ p n stage such. rw such (law p n))
@@ -78,5 +78,5 @@ fault_done_rebinds = told_rebinds IsFaultDone (λ p n stage such. rw such (law p
         rw (silent_row p n FaultDone small (k ∷ q) (λ n o. refl), silent_row p n FaultDone c (k ∷ (q ++ [])) (λ n o. refl))
         (same_call like k q p FaultDone refl refl (
           fault_done-like like (top_free c world) k q (faulter_same like (cut_world-apart c see outs world) (k ∷ q)),
-          quiet_heard see _ _ (quiet-fault_done [] small (k ∷ q)) (quiet-fault_done [] c (k ∷ (q ++ []))),
+          quiet_heard see _ _ (quiet-fault_done [] small (user_at (k ∷ q))) (quiet-fault_done [] c (user_at (k ∷ (q ++ [])))),
         ))

@@ -35,7 +35,7 @@ abbrev pub AreBeyond : Path → List Change → Type 0
 AreBeyond root [] = Unit {0}
 AreBeyond root (d ∷ ds) = IsOutside root d × AreBeyond root ds
 
-beyond : {root : Path} {see : Ptr → Ptr} (ds : List Change) (big : World) → AreBeyond root ds → LikeChanges root see big [] ds
+pub beyond : {root : Path} {see : Ptr → Ptr} (ds : List Change) (big : World) → AreBeyond root ds → LikeChanges root see big [] ds
 beyond [] big h = Empty
 beyond (d ∷ ds) big h = Beyond h.0 (beyond ds (apply d big) h.1)
 
