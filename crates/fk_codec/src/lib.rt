@@ -10,7 +10,6 @@
 mod fail;
 mod fields;
 mod objects;
-mod path;
 mod reading;
 mod threads;
 mod writing;

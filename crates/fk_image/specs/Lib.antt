@@ -5,3 +5,4 @@ pub mod Links
 pub mod Valid
 pub mod Outs
 pub mod Picture
+pub mod Paths

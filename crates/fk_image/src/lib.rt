@@ -13,6 +13,7 @@ mod links;
 mod objects;
 mod open;
 mod outs;
+mod path;
 mod ranges;
 
 pub use boxed::BoxedThread;
@@ -20,4 +21,5 @@ pub use image::{FaultRec, Image, Link, ObjectRec, PageRec, Rec, SpaceRec, TalkRe
 pub use links::{is_set_of, kind_at, leads_to_keeper, leads_to_port, leads_to_region, serves};
 pub use objects::{Objects, kind_of};
 pub use open::Open;
+pub use path::{Path, enter, room_under};
 pub use ranges::{is_code, is_extent, is_member, is_mode};

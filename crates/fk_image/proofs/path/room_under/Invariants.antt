@@ -1,6 +1,6 @@
 use Rattle.std.proofs.Common.{◌≡◌, length}
 use Rattle.fk_image.specs.Preorder.{from}
-use Rattle.fk_codec.proofs.path.room_under.Given as goal
+use Rattle.fk_image.proofs.path.room_under.Given as goal
 
 abbrev pub invariant-loop-one : goal.invariant-loop-one
 invariant-loop-one l = from l.space l.path ≡ from l.space l.fn.path

@@ -1,9 +1,9 @@
 //! The open path: where the next space may stand.
 ghost use Rattle.std.specs.Prelude.{◌≡◌, ◌∷◌, [], OnOk};
 ghost use Rattle.fk_image.specs.Preorder as preorder;
-ghost use Rattle.fk_codec.specs.Paths as paths;
+ghost use Rattle.fk_image.specs.Paths as paths;
 
-use fk_image::Open;
+use crate::open::Open;
 use fk_model::NoMemory;
 use std::alloc::Global;
 use std::marker::Model;
@@ -25,6 +25,7 @@ impl Model for Path {
 }
 
 impl Path {
+    /// No space.
     pub fn new(alloc: Global) -> Path
         ensures { result ≡ [] }
     {
@@ -33,6 +34,7 @@ impl Path {
         }
     }
 
+    /// Adds a space that lies in the last one.
     pub fn push(&mut self, one: Open) -> Result<(), NoMemory>
         ensures { OnOk result (self.new ≡ one ∷ self.old) }
     {
@@ -40,6 +42,7 @@ impl Path {
         Ok(())
     }
 
+    /// Takes the last space away.
     pub fn pop(&mut self) -> Option<Open>
         ensures { paths.Pops result self.old self.new }
     {
@@ -49,7 +52,7 @@ impl Path {
 
 /// The lowest slot of a space in which a space may follow. None where it isn't on the path. The path then
 /// begins at that space.
-#[tactic(auto, unfolding(fk_image::specs::Preorder::from))]
+#[tactic(auto, unfolding(crate::specs::Preorder::from))]
 pub fn room_under(path: &mut Path, space: u32) -> Result<Option<u16>, NoMemory>
     ensures { paths.Rooms result path.old path.new space }
 {
