@@ -17,6 +17,7 @@ use Rattle.fk_model.specs.World.{through, following, follow, follow_peer}
 use Rattle.fk_tables.specs.declared.sweeps.Sweep.{Sweep}
 use Rattle.fk_store.specs.Names.{at, same_who}
 use Rattle.fk_store.specs.Paths.{place, HasOwnPath}
+use Rattle.fk_store.proofs.SweepLaws.{and_then-mapped}
 use Rattle.fk_store.specs.Bodies.{pointer_by, peer_by, talk_by, fault_by, thread_by, body_by}
 use Rattle.fk_tables.specs.Sweeps.{after, or_dead, pointer_after, peer_after, talk_after, fault_after, set_after, body_after}
 
@@ -101,11 +102,6 @@ module _ (p : ℕ → Path) (from to : Who) (apart : HasOwnPath p from) where
       by : (t : Bool) → option_map (λ (who : Who). who.slot) (if t then Some to else Some (at space set)) ≡ Some (if t then to.slot else set)
       by true = refl
       by false = refl
-
-  and_then-mapped : {A B : Type 0} (f : A → B) (g : A → Option A) (h : B → Option B) →
-      ((a : A) → option_map f (g a) ≡ h (f a)) → (o : Option A) → option_map f (and_then g o) ≡ and_then h (option_map f o)
-  and_then-mapped f g h same None = refl
-  and_then-mapped f g h same (Some a) = same a
 
   -- it doesn't matter in which slot of its space the body is
   pub body-following : (space slot : ℕ) (b : Body) → body_by p (body_after moving space b) ≡ through (following x y) (slot ∷ p space) (body_by p b)

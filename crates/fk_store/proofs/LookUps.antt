@@ -16,7 +16,7 @@ use Rattle.fk_store.specs.World.{world, IsLive, IsSpace}
 use Rattle.fk_store.specs.WellFormed.{is_there, IsWellFormed}
 use Rattle.fk_store.proofs.Walks.{space_at-path, space_at-lost, live-space_at, path-home}
 
-some_mapped : {A B : Type 0} (f : A → B) (o : Option A) → is_some (option_map f o) ≡ is_some o
+pub some_mapped : {A B : Type 0} (f : A → B) (o : Option A) → is_some (option_map f o) ≡ is_some o
 some_mapped f None = refl
 some_mapped f (Some a) = refl
 

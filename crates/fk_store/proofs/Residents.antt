@@ -20,11 +20,7 @@ use Rattle.fk_store.specs.WellFormed.{IsWellFormed}
 use Rattle.fk_store.proofs.Walks.{space_at-path, space_at-lost, path-home}
 use Rattle.fk_store.proofs.ReachLaws.{lowest-first}
 use Rattle.fk_store.proofs.Born.{rooted}
-use Rattle.fk_store.proofs.LookUps.{body-place}
-
-pub some_mapped : {A B : Type 0} (f : A → B) (o : Option A) → is_some (option_map f o) ≡ is_some o
-some_mapped f None = refl
-some_mapped f (Some a) = refl
+use Rattle.fk_store.proofs.LookUps.{some_mapped, body-place}
 
 pub no_residents : (m : Contents) → IsWellFormed m → (x : Path) → has_residents (world m) x ≡ false → (k : ℕ) → (world m).body (k ∷ x) ≡ None
 no_residents m kept x none k = by ((world m).body (k ∷ x)) refl

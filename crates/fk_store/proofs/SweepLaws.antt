@@ -19,6 +19,11 @@ use Rattle.fk_store.specs.Named.{Each, OnPointer, OnPeer, OnTalk, OnFault, OnNam
 use Rattle.fk_store.specs.WellFormed.{IsSized}
 use Rattle.fk_tables.specs.Sweeps.{after, or_dead, pointer_after, peer_after, talk_after, fault_after, body_after}
 
+pub and_then-mapped : {A B : Type 0} (f : A → B) (g : A → Option A) (h : B → Option B) →
+    ((a : A) → option_map f (g a) ≡ h (f a)) → (o : Option A) → option_map f (and_then g o) ≡ and_then h (option_map f o)
+and_then-mapped f g h same None = refl
+and_then-mapped f g h same (Some a) = same a
+
 module _ (sweep : Sweep) (space : ℕ) where
   pub birth-after : (b : Body) → stored_birth (body_after sweep space b) ≡ stored_birth b
   birth-after (Mutex locked) = refl
@@ -30,17 +35,6 @@ module _ (sweep : Sweep) (space : ℕ) where
   birth-after (Space birth holder) = refl
   birth-after (Thread thread) = refl
   birth-after (Reference to) = refl
-
-  pub kind-after : (p q : ℕ → Path) (b : Body) → kind_of (body_by p (body_after sweep space b)) ≡ kind_of (body_by q b)
-  kind-after p q (Mutex locked) = refl
-  kind-after p q Cond = refl
-  kind-after p q (Mapping first count offset write region) = refl
-  kind-after p q (Region first count write keeper) = refl
-  kind-after p q (Port set served) = refl
-  kind-after p q Portset = refl
-  kind-after p q (Space birth holder) = refl
-  kind-after p q (Thread thread) = refl
-  kind-after p q (Reference to) = refl
 
   pub sized-after : (b : Body) → IsSized b → IsSized (body_after sweep space b)
   sized-after (Mutex locked) h = h

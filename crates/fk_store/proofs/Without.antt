@@ -17,6 +17,7 @@ use Rattle.fk_model.specs.World.{through, death_sweep, serves, talk_without, tak
 use Rattle.fk_tables.specs.declared.sweeps.Sweep.{Sweep}
 use Rattle.fk_store.specs.Names.{at, same_who}
 use Rattle.fk_store.specs.Paths.{place, HasOwnPath}
+use Rattle.fk_store.proofs.SweepLaws.{and_then-mapped}
 use Rattle.fk_store.specs.Bodies.{pointer_by, peer_by, talk_by, fault_by, thread_by, body_by}
 use Rattle.fk_tables.specs.Sweeps.{after, or_dead, pointer_after, peer_after, talk_after, fault_after, set_after, body_after}
 
@@ -91,11 +92,6 @@ module _ (p : ℕ → Path) (from : Who) (apart : HasOwnPath p from) where
       by : (t : Bool) → option_map (λ (who : Who). who.slot) (if t then None else Some (at space set)) ≡ (if t then None else Some set)
       by true = refl
       by false = refl
-
-  and_then-mapped : {A B : Type 0} (f : A → B) (g : A → Option A) (h : B → Option B) →
-      ((a : A) → option_map f (g a) ≡ h (f a)) → (o : Option A) → option_map f (and_then g o) ≡ and_then h (option_map f o)
-  and_then-mapped f g h same None = refl
-  and_then-mapped f g h same (Some a) = same a
 
   pub body-without : (who : Who) (b : Body) → body_by p (body_after gone who.space b) ≡ through (death_sweep (place p from)) (place p who) (body_by p b)
   body-without who (Mutex locked) = refl

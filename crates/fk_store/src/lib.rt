@@ -1,9 +1,10 @@
 //! The store: every object and every page, by the birth numbers of spaces.
 //!
-//! It stands on `fk_tables`, which keeps objects and pages by name. Contracts see a store by two words: `world`, the abstract machine's
-//! world that the store stands for, and `path`, the path of the space with a birth number. Each
-//! call that changes the store says by them which change of the abstract machine it makes, so
-//! nobody above translates between names and paths.
+//! It stands on `fk_tables`, which keeps objects and pages by name, and on `fk_model`. Contracts see
+//! a store by two words: `world`, the abstract machine's world that the store stands for, and
+//! `path`, the path of the space with a birth number. Each call that changes the store is one change
+//! of the abstract machine, says by these words which, and takes memory only where its result has
+//! NoMemory; so nobody above translates between names and paths.
 #![tactic(auto)]
 
 mod edits;

@@ -1,7 +1,7 @@
 use Rattle.std.proofs.Common.{◌<◌, arith, ap, is_some, ◌∙◌}
 use Rattle.fk_store.specs.Names.{at}
-use Rattle.fk_store.proofs.LookUps.{IsLive-there}
-use Rattle.fk_store.proofs.Residents.{no_residents, none_there, some_mapped}
+use Rattle.fk_store.proofs.LookUps.{some_mapped, IsLive-there}
+use Rattle.fk_store.proofs.Residents.{no_residents, none_there}
 use Rattle.fk_store.proofs.Renames.{bodies-renamed, kept-renamed, world-renamed, none-renamed, kind-renamed, place-target, path-follows, kinds-renamed, lives-renamed, places-renamed, path-stays}
 use Rattle.fk_store.proofs.store.Store.move_to.Goals as goal
 
