@@ -9,12 +9,10 @@ use Rattle.fk_model.specs.declared.thread.Talk.{Talk}
 use Rattle.fk_model.specs.declared.thread.Fault.{Fault}
 use Rattle.fk_model.specs.declared.body.Body.{Body}
 use Rattle.fk_model.specs.declared.body.Body.TheVariants.{Mutex, Cond, Mapping, Region, Port, Portset, Space, Thread, Reference}
-use Rattle.fk_model.specs.Places.{Path}
-use Rattle.fk_model.specs.Objects.{kind_of, and_then}
+use Rattle.fk_model.specs.Objects.{and_then}
 use Rattle.fk_tables.specs.declared.sweeps.Sweep.{Sweep}
 use Rattle.fk_store.specs.Names.{same_who}
 use Rattle.fk_store.specs.Contents.{stored_birth}
-use Rattle.fk_store.specs.Bodies.{body_by}
 use Rattle.fk_store.specs.Named.{Each, OnPointer, OnPeer, OnTalk, OnFault, OnNamed}
 use Rattle.fk_store.specs.WellFormed.{IsSized}
 use Rattle.fk_tables.specs.Sweeps.{after, or_dead, pointer_after, peer_after, talk_after, fault_after, body_after}
