@@ -1,21 +1,22 @@
 -- Residents: an object that has none has nothing in it.
-use Rattle.std.proofs.Common.{Bor, ◌≡◌, ℕ, zero, suc, ◌<◌, ◌≤◌, Bool, true, false, ◌∷◌, Option, Some, None, option_map, is_some, IsSome, refl, sym, ap, subst, ◌∙◌, arith}
+use Rattle.std.proofs.Common.{Bor, ◌≡◌, ℕ, zero, suc, ◌+◌, ◌-◌, ◌<◌, ◌≤◌, Bool, true, false, ◌∷◌, Option, Some, None, option_map, is_some, IsSome, refl, sym, ap, subst, ◌∙◌, arith}
 use Rattle.std.specs.FinMap.{get}
 use Rattle.std.specs.Option.{option_copied}
 use Rattle.fk_model.specs.declared.names.Who.{Who}
 use Rattle.fk_model.specs.declared.body.Body as bodies_of
 use Rattle.fk_model.specs.declared.limits.TheConstants.{SLOTS}
 use Rattle.fk_model.specs.Places.{Path}
-use Rattle.fk_model.specs.Objects.{Body, and_then, or_else}
-use Rattle.fk_model.specs.Searches.{lowest, first_resident, has_residents}
+use Rattle.fk_model.specs.Objects.{Body, kind_of, and_then, or_else}
+use Rattle.fk_model.specs.Searches.{lowest, first_resident, has_residents, depth, leaf_from, leaf_by, leaf}
+use Rattle.fk_model.specs.Valid.{kind_there}
 use Rattle.fk_model.specs.World.{World}
-use Rattle.fk_model.proofs.walks.Lowest.{lowest_none}
+use Rattle.fk_model.proofs.walks.Lowest.{lowest_none, lowest-found}
 use Rattle.fk_model.proofs.walks.WalkLaws.{none_from}
 use Rattle.fk_store.specs.Contents.{Contents, stored_birth, birth_there, is_live}
 use Rattle.fk_store.specs.Paths.{path, place, space_at}
 use Rattle.fk_store.specs.Names.{at}
 use Rattle.fk_store.specs.Bodies.{body_by}
-use Rattle.fk_store.specs.World.{world}
+use Rattle.fk_store.specs.World.{world, IsLive}
 use Rattle.fk_store.specs.WellFormed.{IsWellFormed}
 use Rattle.fk_store.proofs.Walks.{space_at-path, space_at-lost, path-home}
 use Rattle.fk_store.proofs.ReachLaws.{lowest-first}
@@ -104,3 +105,55 @@ module _ (m : Contents) (kept : IsWellFormed m) (who : Who) where
   pub space-residents : (n : ℕ) → Some n ≡ birth_there m who → is_some (first_resident (world m) (path m n)) ≡ has_residents (world m) (place (path m) who)
   space-residents n is =
       ap (λ s. is_some (first_resident (world m) s)) (path-home m kept n who (kept.alone who n (sym is))) ∙ some-resident (world m) (place (path m) who)
+
+-- ---- down to an object in which nothing stands
+
+pub leaf-begins : (w : World) (x : Path) → leaf_by (depth - 0) w x ≡ leaf w x
+unfolding leaf
+leaf-begins w x = let all : depth - 0 ≡ depth = omega arith in ap (λ n. leaf_by n w x) all
+
+pub leaf-goes_on : (w : World) (x : Path) (k step : ℕ) →
+    first_resident w x ≡ Some k → step < depth → leaf_by (depth - step) w x ≡ leaf_by (depth - (step + 1)) w (k ∷ x)
+unfolding leaf_by
+leaf-goes_on w x k step is low =
+    let more : depth - step ≡ suc (depth - (step + 1)) = omega arith in
+    ap (λ n. leaf_by n w x) more ∙ ap (leaf_from (λ j. leaf_by (depth - (step + 1)) w (j ∷ x)) x) is
+
+pub leaf-ends : (n : ℕ) (w : World) (x : Path) → first_resident w x ≡ None → leaf_by n w x ≡ x
+unfolding leaf_by
+leaf-ends zero w x none = refl
+leaf-ends (suc n) w x none = ap (leaf_from (λ j. leaf_by n w (j ∷ x)) x) none
+
+module _ (m : Contents) (kept : IsWellFormed m) (who : Who) where
+  -- what isn't a space has no residents
+  pub plain-none : (o : Option ℕ) → o ≡ birth_there m who → o ≡ None → None ≡ first_resident (world m) (place (path m) who)
+  plain-none o is none =
+      none_of (first_resident (world m) (place (path m) who)) (some-resident (world m) (place (path m) who) ∙ sym (plain-empty m kept who o is none))
+    where
+      none_of : (p : Option ℕ) → is_some p ≡ false → None ≡ p
+      none_of None h = refl
+      none_of (Some k) h = absurd (cc)
+
+  module _ (n : ℕ) (is : Some n ≡ birth_there m who) where
+    up : path m n ≡ place (path m) who
+    up = path-home m kept n who (kept.alone who n (sym is))
+
+    pub inner-slot : (o : Option ℕ) → o ≡ first_resident (world m) (path m n) → o ≡ first_resident (world m) (place (path m) who)
+    inner-slot o here = here ∙ ap (first_resident (world m)) up
+
+    pub inner-place : (k : ℕ) → place (path m) (at n k) ≡ k ∷ place (path m) who
+    inner-place k = ap (λ s. k ∷ s) up
+
+    pub inner-younger : (who.space < n) × (n < m.next)
+    inner-younger = (kept.younger who n (sym is), kept.born who n (sym is))
+
+    pub inner-live : (k : ℕ) → Some k ≡ first_resident (world m) (path m n) → IsLive m (at n k)
+    unfolding kind_there
+    inner-live k here =
+        let found = lowest-found SLOTS (λ j. option_map (λ b. j) ((world m).body (j ∷ path m n))) k (sym here) in
+        by found.0 ((world m).body (found.0 ∷ path m n)) refl found.1
+      where
+        by : (j : ℕ) (o : Option Body) →
+            (world m).body (j ∷ path m n) ≡ o → option_map (λ b. j) o ≡ Some k → is_some (option_map kind_of ((world m).body (k ∷ path m n))) ≡ true
+        by j None e h = absurd (cc)
+        by j (Some b) e h = let same : j ≡ k = cc in rw (← same, e) refl
