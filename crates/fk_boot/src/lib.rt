@@ -9,7 +9,5 @@
 mod entries;
 mod making;
 mod pages;
-#[cfg(test)]
-mod tests;
 
 pub use entries::boot;

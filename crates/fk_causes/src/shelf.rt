@@ -7,7 +7,7 @@ ghost use Rattle.fk_causes.specs.declared.shelf.ShelfFail.TheVariants as fails;
 use std::alloc::{AllocError, AllocFailed};
 
 /// Why a get or a put wasn't done.
-#[derive(Clone, Copy, Debug)]
+#[derive(Clone, Copy)]
 pub enum ShelfFail {
     /// The shelf failed. Its count of failed gets or of failed puts rose.
     Failed,

@@ -1,7 +1,7 @@
 //! How a run ends.
 
 /// How a run ends.
-#[derive(Clone, Copy, Debug, PartialEq, Eq)]
+#[derive(Clone, Copy)]
 pub enum End {
     /// No move is ready, and every user thread has halted.
     Halted,

@@ -2,9 +2,6 @@
 ghost use Rattle.std.specs.Prelude.{◌≡◌, IfOk, string_bytes};
 ghost use Rattle.fk_report.specs.Report as definitions;
 
-#[cfg(test)]
-mod tests;
-
 use crate::end::End;
 use crate::threads::ThreadState;
 use fk_model::Mode;

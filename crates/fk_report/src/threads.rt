@@ -8,9 +8,6 @@ ghost use Rattle.fk_model.specs.Places.{Path};
 ghost use Rattle.fk_model.specs.World.{World};
 ghost use Rattle.fk_report.specs.Threads.{state_at, AreThreads, AreKept, by_slots, is_halted, HaveHalted};
 
-#[cfg(test)]
-mod tests;
-
 use fk_model::{List, Mode, NoMemory, Who};
 use fk_store::Store;
 use std::alloc::Global;

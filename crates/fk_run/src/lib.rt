@@ -25,8 +25,6 @@ mod prepared;
 mod replay;
 mod source_text;
 mod status;
-#[cfg(test)]
-mod tests;
 mod top;
 
 pub use fk_report::End;

@@ -139,6 +139,3 @@ fn code_of(thread: &Thread) -> Option<u8>
         Mode::Running | Mode::Calling | Mode::Native => None,
     }
 }
-
-#[cfg(test)]
-mod tests;

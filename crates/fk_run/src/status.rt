@@ -7,7 +7,7 @@ use fk_model::{NoMemory, Text};
 use std::alloc::{AllocError, Global};
 
 /// How a call of the program ends.
-#[derive(Debug, Drop, PartialEq, Eq)]
+#[derive(Drop)]
 pub enum Status {
     /// All was done.
     Ok,
@@ -15,7 +15,7 @@ pub enum Status {
     Usage,
     /// The source held more than 1,048,576 bytes.
     TooLong,
-    /// The text isn't assembled. Today `line` is always 0 and `reason` is 7.
+    /// The text isn't assembled: the line of its first fault, and the reason.
     BadText { line: u32, reason: u8 },
     /// The scenario is refused by this rule, in this section, at the entry with this index.
     BadScenario { rule: u8, section: u8, index: u32 },
