@@ -19,7 +19,8 @@ second : (a b : Bool) → (a && b) ≡ true → b ≡ true
 second true b e = e
 second false b e = absurd cc
 
-each : (before : List SpaceRec × List Open) (spaces : List SpaceRec) → all_from after_space fits_space before spaces ≡ true → AllByRecursion (λ s. (length s.objects < 2 ^ 16) × (length s.pages < 2 ^ 16)) spaces
+each : (before : List SpaceRec × List Open) (spaces : List SpaceRec) →
+    all_from after_space fits_space before spaces ≡ true → AllByRecursion (λ s. (length s.objects < 2 ^ 16) × (length s.pages < 2 ^ 16)) spaces
 each before [] fits = tt
 each before (s ∷ ss) fits =
     let one = first (fits_space before s) (all_from after_space fits_space (after_space before s) ss) fits in
@@ -33,8 +34,10 @@ each before (s ∷ ss) fits =
 
 parts : (spaces : List SpaceRec) → fits_spaces spaces ≡ true → (length spaces < 2 ^ 32) × (all_from after_space fits_space ([], root_path) spaces ≡ true)
 parts spaces fits =
-    let some = first (ltb 0 (length spaces) && ltb (length spaces) (2 ^ 32)) (all_from after_space fits_space ([], root_path) spaces) fits in
-    (ltb-true _ _ (second (ltb 0 (length spaces)) (ltb (length spaces) (2 ^ 32)) some), second (ltb 0 (length spaces) && ltb (length spaces) (2 ^ 32)) (all_from after_space fits_space ([], root_path) spaces) fits)
+    let some = first (ltb 0 (length spaces) && ltb (length spaces) (2 ^ 32)) (all_from after_space fits_space ([], root_path) spaces) fits in (
+      ltb-true _ _ (second (ltb 0 (length spaces)) (ltb (length spaces) (2 ^ 32)) some),
+      second (ltb 0 (length spaces) && ltb (length spaces) (2 ^ 32)) (all_from after_space fits_space ([], root_path) spaces) fits,
+    )
 
 pub count_fits : (i : Image) → is_valid i ≡ true → length i.spaces < 2 ^ 32
 unfolding is_valid

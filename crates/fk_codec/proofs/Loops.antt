@@ -23,7 +23,8 @@ module _ {S X : Type 0} (item : S → List ℕ → Result (X × List ℕ) Stop) 
       let k : count - i ≡ suc (count - (i + 1)) = omega arith in
       rw (k, h) refl
 
-  pub fails_there : (e : Fail) (count i : ℕ) (s : S) (done : List X) (bytes : List ℕ) (total : Result (List X × List ℕ) Stop) → i < count → Fails e (item s bytes)
+  pub fails_there : (e : Fail) (count i : ℕ) (s : S) (done : List X) (bytes : List ℕ) (total : Result (List X × List ℕ) Stop) →
+      i < count → Fails e (item s bytes)
       → many item next (count - i) s done bytes ≡ total → Fails e total
   unfolding many
   fails_there fails.NoMemory count i s done bytes total lt h so_far = tt
@@ -38,15 +39,18 @@ module _ {S X : Type 0} (item : S → List ℕ → Result (X × List ℕ) Stop) 
       let k : count - i ≡ 0 = omega arith in
       rw k refl
 
-pub objects_go : (count i : ℕ) (floor : ℕ) (done : List ObjectRec) (bytes : List ℕ) (x : ObjectRec) (after : List ℕ) → i < count → object_at floor bytes ≡ Ok (x, after)
+pub objects_go : (count i : ℕ) (floor : ℕ) (done : List ObjectRec) (bytes : List ℕ) (x : ObjectRec) (after : List ℕ) →
+    i < count → object_at floor bytes ≡ Ok (x, after)
     → many object_at after_object (count - i) floor done bytes ≡ many object_at after_object (count - (i + 1)) (x.slot + 1) (done ++ x ∷ []) after
 objects_go = goes_on object_at after_object
 
-pub objects_fail : (e : Fail) (count i : ℕ) (floor : ℕ) (done : List ObjectRec) (bytes : List ℕ) (total : Result (List ObjectRec × List ℕ) Stop) → i < count → Fails e (object_at floor bytes)
+pub objects_fail : (e : Fail) (count i : ℕ) (floor : ℕ) (done : List ObjectRec) (bytes : List ℕ) (total : Result (List ObjectRec × List ℕ) Stop) →
+    i < count → Fails e (object_at floor bytes)
     → many object_at after_object (count - i) floor done bytes ≡ total → Fails e total
 objects_fail = fails_there object_at after_object
 
-pub objects_end : (count i : ℕ) (floor : ℕ) (done : List ObjectRec) (bytes : List ℕ) → count ≤ i → many object_at after_object (count - i) floor done bytes ≡ Ok (done, bytes)
+pub objects_end : (count i : ℕ) (floor : ℕ) (done : List ObjectRec) (bytes : List ℕ) →
+    count ≤ i → many object_at after_object (count - i) floor done bytes ≡ Ok (done, bytes)
 objects_end = is_done object_at after_object
 
 pub ruleset objects = (objects_go, objects_fail, objects_end)
@@ -55,24 +59,29 @@ pub pages_go : (count i : ℕ) (floor : ℕ) (done : List PageRec) (bytes : List
     → many page_at after_page (count - i) floor done bytes ≡ many page_at after_page (count - (i + 1)) (x.page + 1) (done ++ x ∷ []) after
 pages_go = goes_on page_at after_page
 
-pub pages_fail : (e : Fail) (count i : ℕ) (floor : ℕ) (done : List PageRec) (bytes : List ℕ) (total : Result (List PageRec × List ℕ) Stop) → i < count → Fails e (page_at floor bytes)
+pub pages_fail : (e : Fail) (count i : ℕ) (floor : ℕ) (done : List PageRec) (bytes : List ℕ) (total : Result (List PageRec × List ℕ) Stop) →
+    i < count → Fails e (page_at floor bytes)
     → many page_at after_page (count - i) floor done bytes ≡ total → Fails e total
 pages_fail = fails_there page_at after_page
 
-pub pages_end : (count i : ℕ) (floor : ℕ) (done : List PageRec) (bytes : List ℕ) → count ≤ i → many page_at after_page (count - i) floor done bytes ≡ Ok (done, bytes)
+pub pages_end : (count i : ℕ) (floor : ℕ) (done : List PageRec) (bytes : List ℕ) →
+    count ≤ i → many page_at after_page (count - i) floor done bytes ≡ Ok (done, bytes)
 pages_end = is_done page_at after_page
 
 pub ruleset pages = (pages_go, pages_fail, pages_end)
 
-pub spaces_go : (count i : ℕ) (before : List SpaceRec × List Open) (done : List SpaceRec) (bytes : List ℕ) (x : SpaceRec) (after : List ℕ) → i < count → space_at before bytes ≡ Ok (x, after)
+pub spaces_go : (count i : ℕ) (before : List SpaceRec × List Open) (done : List SpaceRec) (bytes : List ℕ) (x : SpaceRec) (after : List ℕ) →
+    i < count → space_at before bytes ≡ Ok (x, after)
     → many space_at after_space (count - i) before done bytes ≡ many space_at after_space (count - (i + 1)) (after_space before x) (done ++ x ∷ []) after
 spaces_go = goes_on space_at after_space
 
-pub spaces_fail : (e : Fail) (count i : ℕ) (before : List SpaceRec × List Open) (done : List SpaceRec) (bytes : List ℕ) (total : Result (List SpaceRec × List ℕ) Stop) → i < count → Fails e (space_at before bytes)
+pub spaces_fail : (e : Fail) (count i : ℕ) (before : List SpaceRec × List Open)
+    (done : List SpaceRec) (bytes : List ℕ) (total : Result (List SpaceRec × List ℕ) Stop) → i < count → Fails e (space_at before bytes)
     → many space_at after_space (count - i) before done bytes ≡ total → Fails e total
 spaces_fail = fails_there space_at after_space
 
-pub spaces_end : (count i : ℕ) (before : List SpaceRec × List Open) (done : List SpaceRec) (bytes : List ℕ) → count ≤ i → many space_at after_space (count - i) before done bytes ≡ Ok (done, bytes)
+pub spaces_end : (count i : ℕ) (before : List SpaceRec × List Open) (done : List SpaceRec) (bytes : List ℕ) →
+    count ≤ i → many space_at after_space (count - i) before done bytes ≡ Ok (done, bytes)
 spaces_end = is_done space_at after_space
 
 pub ruleset spaces = (spaces_go, spaces_fail, spaces_end)
@@ -86,7 +95,8 @@ pub words_fail : (e : Fail) (count i : ℕ) (done bytes : List ℕ) (total : Res
     → many word_at same_state (count - i) 0 done bytes ≡ total → Fails e total
 words_fail e count i done bytes total = fails_there word_at same_state e count i 0 done bytes total
 
-pub words_end : (count i : ℕ) (page bytes : List ℕ) → count ≤ i → length page ≡ count → many word_at same_state (count - i) 0 (take i page) bytes ≡ Ok (page, bytes)
+pub words_end : (count i : ℕ) (page bytes : List ℕ) →
+    count ≤ i → length page ≡ count → many word_at same_state (count - i) 0 (take i page) bytes ≡ Ok (page, bytes)
 words_end count i page bytes le len = rw (take_all i page (omega arith)) (is_done word_at same_state count i 0 page bytes le)
 
 pub ruleset words = (words_go, words_fail, words_end)

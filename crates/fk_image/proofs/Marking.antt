@@ -18,7 +18,8 @@ marks_then a b c xs ys p q = λ slot lt.
     ∙ or-assoc (get_or a slot false) (list_any (is_out slot) xs) (list_any (is_out slot) ys)
     ∙ ap (λ (u : Bool). get_or a slot false || u) (sym (list_any-append (is_out slot) xs ys))
 
-pub marks_more : {X : Type 0} (f : X → List Link) (xs : List X) (i : ℕ) (x : X) (a b c : List Bool) → i < length xs → x ≡ get_or xs i x → Marks a b (flat_map f (take i xs)) → Marks b c (f x)
+pub marks_more : {X : Type 0} (f : X → List Link) (xs : List X) (i : ℕ) (x : X) (a b c : List Bool) →
+    i < length xs → x ≡ get_or xs i x → Marks a b (flat_map f (take i xs)) → Marks b c (f x)
     → Marks a c (flat_map f (take (i + 1) xs))
 marks_more {X} f xs i x a b c lt is p q =
     let one : flat_map f (get_or xs i x ∷ []) ≡ f x = flat_map-cons f (get_or xs i x) [] ∙ append-nil (f (get_or xs i x)) ∙ ap f (sym is) in

@@ -18,7 +18,8 @@ up floor [] e = tt
 up floor (o ∷ os) e = let p = both _ _ e in (leb-true _ _ p.0, up (o.slot + 1) os p.1)
 
 -- one more at the end
-more_after : (floor : ℕ) (p : ObjectRec) (os : List ObjectRec) (o : ObjectRec) → rises floor (p ∷ os) ≡ true → next_slot (p ∷ os) ≤ o.slot → rises floor (p ∷ (os ++ o ∷ [])) ≡ true
+more_after : (floor : ℕ) (p : ObjectRec) (os : List ObjectRec) (o : ObjectRec) →
+    rises floor (p ∷ os) ≡ true → next_slot (p ∷ os) ≤ o.slot → rises floor (p ∷ (os ++ o ∷ [])) ≡ true
 more_after floor p [] o e last = let h = both (leb floor p.slot) true e in rw (h.0, le-leb (p.slot + 1) o.slot last) refl
 more_after floor p (q ∷ os) o e last = let h = both (leb floor p.slot) (rises (p.slot + 1) (q ∷ os)) e in rw h.0 (more_after (p.slot + 1) q os o h.1 last)
 
@@ -44,7 +45,8 @@ ordered floor (o ∷ os) zero (suc j) d rise le lt = let h = low (o.slot + 1) os
 ordered floor (o ∷ os) (suc i) zero d rise le lt = absurd (omega arith)
 ordered floor (o ∷ os) (suc i) (suc j) d rise le lt = ordered (o.slot + 1) os i j d rise.1 (omega arith) (omega arith)
 
-pub here : (floor : ℕ) (os : List ObjectRec) (i : ℕ) (d : ObjectRec) (slot : ℕ) → Up floor os → i < length os → (get_or os i d).slot ≡ slot → Some (kind_of (get_or os i d).body) ≡ kind_in os slot
+pub here : (floor : ℕ) (os : List ObjectRec) (i : ℕ) (d : ObjectRec) (slot : ℕ) →
+    Up floor os → i < length os → (get_or os i d).slot ≡ slot → Some (kind_of (get_or os i d).body) ≡ kind_in os slot
 unfolding kind_in
 here floor [] i d slot rise lt e = absurd (omega arith)
 here floor (o ∷ os) zero d slot rise lt e = rw (eq-eqb o.slot slot e) refl
@@ -62,20 +64,24 @@ pub record Narrowed (os : List ObjectRec) (slot low high : ℕ) : Type 0 where
 pub whole : (os : List ObjectRec) (slot : ℕ) → Narrowed os slot 0 (length os)
 whole os slot = record { order = omega arith; within = omega arith; below = λ d j lt. absurd (omega arith); above = λ d j le lt. absurd (omega arith) }
 
-pub upper : (os : List ObjectRec) (slot low high i : ℕ) (d : ObjectRec) → rises 0 os ≡ true → Narrowed os slot low high → i < high → (get_or os i d).slot < slot → Narrowed os slot (i + 1) high
+pub upper : (os : List ObjectRec) (slot low high i : ℕ) (d : ObjectRec) →
+    rises 0 os ≡ true → Narrowed os slot low high → i < high → (get_or os i d).slot < slot → Narrowed os slot (i + 1) high
 upper os slot low high i d rise n lt less = record {
   order = omega arith;
   within = n.within;
-  below = λ e j before. let w = n.within in let same : get_or os j e ≡ get_or os j d = get_or_default os j e d (omega arith) in let h = ordered 0 os j i d (up 0 os rise) (omega arith) (omega arith) in rw same (omega arith);
+  below = λ e j before. let w = n.within in let same : get_or os j e ≡ get_or os j d = get_or_default os j e d (omega arith) in
+      let h = ordered 0 os j i d (up 0 os rise) (omega arith) (omega arith) in rw same (omega arith);
   above = n.above;
 }
 
-pub lower : (os : List ObjectRec) (slot low high i : ℕ) (d : ObjectRec) → rises 0 os ≡ true → Narrowed os slot low high → low ≤ i → i < high → slot < (get_or os i d).slot → Narrowed os slot low i
+pub lower : (os : List ObjectRec) (slot low high i : ℕ) (d : ObjectRec) →
+    rises 0 os ≡ true → Narrowed os slot low high → low ≤ i → i < high → slot < (get_or os i d).slot → Narrowed os slot low i
 lower os slot low high i d rise n le lt more = record {
   order = le;
   within = let w = n.within in omega arith;
   below = n.below;
-  above = λ e j from inside. let same : get_or os j e ≡ get_or os j d = get_or_default os j e d inside in let h = ordered 0 os i j d (up 0 os rise) from inside in rw same (omega arith);
+  above = λ e j from inside. let same : get_or os j e ≡ get_or os j d = get_or_default os j e d inside in
+      let h = ordered 0 os i j d (up 0 os rise) from inside in rw same (omega arith);
 }
 
 nowhere : (os : List ObjectRec) (slot : ℕ) → ((d : ObjectRec) (j : ℕ) → j < length os → (get_or os j d).slot ≡ slot → ⊥) → kind_in os slot ≡ None

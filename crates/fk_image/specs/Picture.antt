@@ -94,7 +94,8 @@ abbrev pub body : List SpaceRec → Rec → Body
 body spaces (Mutex locked) = bodies.Mutex (locked == 1)
 body spaces Cond = bodies.Cond
 body spaces Portset = bodies.Portset
-body spaces (Mapping first count offset write region) = bodies.Mapping (record { first = first; count = count; offset = offset; write = write == 1; region = ptr spaces region })
+body spaces (Mapping first count offset write region) =
+    bodies.Mapping (record { first = first; count = count; offset = offset; write = write == 1; region = ptr spaces region })
 body spaces (Region first count write keeper) = bodies.Region (record { first = first; count = count; write = write == 1; keeper = ptr spaces keeper })
 body spaces (Port set) = bodies.Port (member_by set) false
 body spaces (Thread t) = bodies.Thread_of (thread spaces t)

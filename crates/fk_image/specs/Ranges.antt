@@ -74,13 +74,15 @@ fits_fault (Some fault) = is_byte fault.page && is_flag fault.write && fits_link
 
 abbrev pub fits_thread : ThreadRec → Bool
 fits_thread t =
-    are_words 16 t.regs && is_word t.pc && is_mode t.regs t.mode && is_byte t.code && is_code t.mode t.code && is_half t.stops && fits_talk t.talk && fits_fault t.fault
+    are_words 16 t.regs
+    && is_word t.pc && is_mode t.regs t.mode && is_byte t.code && is_code t.mode t.code && is_half t.stops && fits_talk t.talk && fits_fault t.fault
 
 abbrev pub fits_body : Rec → Bool
 fits_body (Mutex locked) = is_flag locked
 fits_body Cond = true
 fits_body Portset = true
-fits_body (Mapping first count offset write region) = is_byte first && is_half count && is_extent first count && is_byte offset && is_flag write && fits_link region
+fits_body (Mapping first count offset write region) =
+    is_byte first && is_half count && is_extent first count && is_byte offset && is_flag write && fits_link region
 fits_body (Region first count write keeper) = is_byte first && is_half count && is_extent first count && is_flag write && fits_link keeper
 fits_body (Port set) = is_member set
 fits_body (Thread t) = fits_thread t

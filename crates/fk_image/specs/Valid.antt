@@ -46,7 +46,8 @@ is_first s = s.parent == 4294967295 && s.slot == 0 && is_null s.holder
 -- behind the spaces `done` a space follows in preorder, in a slot that its parent gave to no object
 abbrev pub is_next : List SpaceRec → List Open → SpaceRec → Bool
 is_next done path s =
-    nat_lt s.parent (2 ^ 32) && is_slot s.slot && has_room (room_under path s.parent) s.slot && not (is_some (kind_at done s.parent s.slot)) && fits_link s.holder
+    nat_lt s.parent (2 ^ 32)
+    && is_slot s.slot && has_room (room_under path s.parent) s.slot && not (is_some (kind_at done s.parent s.slot)) && fits_link s.holder
 
 abbrev pub is_placed : List SpaceRec → List Open → SpaceRec → Bool
 is_placed [] path s = is_first s

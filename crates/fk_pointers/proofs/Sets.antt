@@ -47,7 +47,8 @@ cond-or false b = refl
 has_is : (places : Places) (space slot : ℕ) → contains cmp-value.it places.set (record { space = space; slot = slot }) ≡ has places space slot
 has_is places space slot = ap (λ (f : Place → Bool). list_any f places.set.keys) (λ i p. same_place (record { space = space; slot = slot }) p i)
 
-pub inserted : (old new : Places) (place : Place) → ((q : Place) → contains cmp-value.it new.set q ≡ cond (is_at (cmp-value.it place) q) true (contains cmp-value.it old.set q))
+pub inserted : (old new : Places) (place : Place) →
+    ((q : Place) → contains cmp-value.it new.set q ≡ cond (is_at (cmp-value.it place) q) true (contains cmp-value.it old.set q))
     → has new ≡ with_thread place.space place.slot (has old)
 inserted old new place updates = λ i space slot. by space slot i
   where
@@ -55,7 +56,8 @@ inserted old new place updates = λ i space slot. by space slot i
     by space slot =
         let q : Place = record { space = space; slot = slot } in
         sym (has_is new space slot) ∙ updates q ∙ cond-or (is_at (cmp-value.it place) q) (contains cmp-value.it old.set q)
-        ∙ ap (λ (b : Bool). b || contains cmp-value.it old.set q) (same_place place q) ∙ ap (λ (b : Bool). (place.space == space && place.slot == slot) || b) (has_is old space slot)
+        ∙ ap (λ (b : Bool). b || contains cmp-value.it old.set q) (same_place place q)
+        ∙ ap (λ (b : Bool). (place.space == space && place.slot == slot) || b) (has_is old space slot)
 
 -- ---- the places of spaces
 
@@ -75,6 +77,7 @@ one_more old new spaces i s space slot lt is more e =
     ap (λ (named : Named). named space slot || list_any (lies_in space slot) (drop (i + 1) spaces)) more
     ∙ turned (has old space slot) (lies_in space slot s) (list_any (lies_in space slot) (drop (i + 1) spaces)) (list_any (lies_in space slot) spaces) old_one
 
-pub all_places : (places : Places) (spaces others : List SpaceRec) → others ≡ drop 1 spaces → ((space slot : ℕ) → has places space slot ≡ list_any (lies_in space slot) others) → has places ≡ has_space spaces
+pub all_places : (places : Places) (spaces others : List SpaceRec) →
+    others ≡ drop 1 spaces → ((space slot : ℕ) → has places space slot ≡ list_any (lies_in space slot) others) → has places ≡ has_space spaces
 unfolding has_space
 all_places places spaces others is each = λ i space slot. (each space slot ∙ ap (λ (ss : List SpaceRec). list_any (lies_in space slot) ss) is) i

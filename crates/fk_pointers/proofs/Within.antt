@@ -71,7 +71,8 @@ goes spaces space at s e lt is le =
     (within, omega arith, record { behind = omega arith; within = within; end = omega (arith, one, two, four, end) })
 
 -- it ends before a space that lies elsewhere, and behind the last
-pub ends_before : (spaces : List SpaceRec) (space at : ℕ) (s : SpaceRec) → EndsFrom spaces space at → at < length spaces → s ≡ get_or spaces at s → s.parent < space → at ≡ end_of spaces space
+pub ends_before : (spaces : List SpaceRec) (space at : ℕ) (s : SpaceRec) →
+    EndsFrom spaces space at → at < length spaces → s ≡ get_or spaces at s → s.parent < space → at ≡ end_of spaces space
 ends_before spaces space at s e lt is less =
     let none : run space (drop at spaces) ≡ 0 = ap (run space) (from spaces at s lt is) ∙ run-none space s (drop (at + 1) spaces) less in
     let end = e.end in

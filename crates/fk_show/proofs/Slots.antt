@@ -9,7 +9,8 @@ same_slots f g (suc count) first same =
     ap (λ (b : Bool). slot_if b first ++ slots_from f count (first + 1)) (same first (omega arith))
     ∙ ap (λ (more : List ℕ). slot_if (g first) first ++ more) (same_slots f g count (first + 1) (λ k lt. same k (omega arith)))
 
-pub next_slot : (used : ℕ → Bool) (slot : ℕ) → slot < 240 → slots_from used (240 - slot) slot ≡ slot_if (used slot) slot ++ slots_from used (240 - (slot + 1)) (slot + 1)
+pub next_slot : (used : ℕ → Bool) (slot : ℕ) →
+    slot < 240 → slots_from used (240 - slot) slot ≡ slot_if (used slot) slot ++ slots_from used (240 - (slot + 1)) (slot + 1)
 unfolding slots_from
 next_slot used slot lt = let n : 240 - slot ≡ suc (240 - (slot + 1)) = omega arith in rw n refl
 

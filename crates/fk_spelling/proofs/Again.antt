@@ -42,13 +42,16 @@ link_again Outside rest fits = refl
 
 module _ {S X : Type 0} (item : S → List ℕ → Result (X × List ℕ) Stop) (next : S → X → S) (spell : X → List ℕ) (fits : S → X → Bool)
     (again : (s : S) (x : X) (rest : List ℕ) → fits s x ≡ true → item s (spell x ++ rest) ≡ Ok (x, rest)) where
-  many_again : (xs : List X) (s : S) (done : List X) (rest : List ℕ) → all_from next fits s xs ≡ true → many item next (length xs) s done (flat_map spell xs ++ rest) ≡ Ok (done ++ xs, rest)
+  many_again : (xs : List X) (s : S) (done : List X) (rest : List ℕ) →
+      all_from next fits s xs ≡ true → many item next (length xs) s done (flat_map spell xs ++ rest) ≡ Ok (done ++ xs, rest)
   unfolding many
   many_again [] s done rest fit = ap (λ (d : List X). Ok (d, rest)) (sym (append-nil done))
   many_again (x ∷ xs) s done rest fit =
       let f = and2 (fits s x) (all_from next fits (next s x) xs) fit in
-      let regrouped : flat_map spell (x ∷ xs) ++ rest ≡ spell x ++ (flat_map spell xs ++ rest) = ap (λ (f : List ℕ). f ++ rest) (flat_map-cons spell x xs) ∙ append_assoc (spell x) (flat_map spell xs) rest in
-      ap (many item next (suc (length xs)) s done) regrouped ∙ rw (again s x (flat_map spell xs ++ rest) f.0) (many_again xs (next s x) (done ++ x ∷ []) rest f.1 ∙ ap (λ (d : List X). Ok (d, rest)) (append_assoc done (x ∷ []) xs))
+      let regrouped : flat_map spell (x ∷ xs) ++ rest ≡ spell x
+      ++ (flat_map spell xs ++ rest) = ap (λ (f : List ℕ). f ++ rest) (flat_map-cons spell x xs) ∙ append_assoc (spell x) (flat_map spell xs) rest in
+      ap (many item next (suc (length xs)) s done) regrouped ∙ rw (again s x (flat_map spell xs ++ rest) f.0)
+      (many_again xs (next s x) (done ++ x ∷ []) rest f.1 ∙ ap (λ (d : List X). Ok (d, rest)) (append_assoc done (x ∷ []) xs))
 
 each_word : (ws : List ℕ) → list_all is_word ws ≡ true → all_from same_state (λ _ w. is_word w) 0 ws ≡ true
 each_word [] e = refl
@@ -74,7 +77,11 @@ open_talk_again : (t : TalkRec) (rest : List ℕ) → is_half t.moved ≡ true �
     → open_talk_at t.turn (to_le_bytes w16 t.moved ++ (link t.port ++ (link t.server ++ rest))) ≡ Ok (Some t, rest)
 unfolding open_talk_at
 open_talk_again t rest moved port server =
-    rw (number_again w16 (2 ^ 16) wide16 t.moved (link t.port ++ (link t.server ++ rest)) moved, link_again t.port (link t.server ++ rest) port, link_again t.server rest server) refl
+    rw (
+      number_again w16 (2 ^ 16) wide16 t.moved (link t.port ++ (link t.server ++ rest)) moved,
+      link_again t.port (link t.server ++ rest) port,
+      link_again t.server rest server,
+    ) refl
 
 talk_apart : (t : TalkRec) (rest : List ℕ) → talk (Some t) ++ rest ≡ t.turn ∷ (to_le_bytes w16 t.moved ++ (link t.port ++ (link t.server ++ rest)))
 talk_apart t rest = simp append_assoc
@@ -116,7 +123,8 @@ fault_again None rest fits = rw (below_again 3 0 rest refl) refl
 fault_again (Some f) rest fits =
     let g = and4 (is_byte f.page) (is_flag f.write) (fits_link f.port) (fits_taker f.taker) fits in
     let after = f.page ∷ f.write ∷ (link f.port ++ (taker f.taker ++ rest)) in
-    ap fault_at (fault_apart f rest) ∙ rw (below_again 3 (fault_state f.taker) after (state_small f.taker), state_some f.taker) (met_fault_again f rest g.1 g.2 g.3)
+    ap fault_at (fault_apart f rest)
+    ∙ rw (below_again 3 (fault_state f.taker) after (state_small f.taker), state_some f.taker) (met_fault_again f rest g.1 g.2 g.3)
 
 thread_apart : (t : ThreadRec) (rest : List ℕ) → thread t ++ rest
     ≡ words t.regs ++ (to_le_bytes w64 t.pc ++ (t.mode ∷ t.code ∷ (to_le_bytes w16 t.stops ++ (talk t.talk ++ (fault t.fault ++ rest)))))
@@ -125,7 +133,8 @@ thread_apart t rest = simp append_assoc
 thread_again : (t : ThreadRec) (rest : List ℕ) → fits_thread t ≡ true → thread_at (thread t ++ rest) ≡ Ok (Thread t, rest)
 unfolding thread_at
 thread_again t rest fits =
-    let e = and3 (are_words 16 t.regs && is_word t.pc && is_mode t.regs t.mode && is_byte t.code && is_code t.mode t.code && is_half t.stops) (fits_talk t.talk) (fits_fault t.fault) fits in
+    let e = and3 (are_words 16 t.regs && is_word t.pc && is_mode t.regs t.mode && is_byte t.code && is_code t.mode t.code && is_half t.stops)
+    (fits_talk t.talk) (fits_fault t.fault) fits in
     let f = and6 (are_words 16 t.regs) (is_word t.pc) (is_mode t.regs t.mode) (is_byte t.code) (is_code t.mode t.code) (is_half t.stops) e.0 in
     let behind_talk = fault t.fault ++ rest in
     let behind_stops = talk t.talk ++ behind_talk in
@@ -144,7 +153,8 @@ thread_again t rest fits =
 
 -- ---- objects and pages
 
-extent_again : (first count : ℕ) (rest : List ℕ) → is_half count ≡ true → is_extent first count ≡ true → extent_at (first ∷ (to_le_bytes w16 count ++ rest)) ≡ Ok ((first, count), rest)
+extent_again : (first count : ℕ) (rest : List ℕ) →
+    is_half count ≡ true → is_extent first count ≡ true → extent_at (first ∷ (to_le_bytes w16 count ++ rest)) ≡ Ok ((first, count), rest)
 unfolding extent_at
 extent_again first count rest half fits = rw (number_again w16 (2 ^ 16) wide16 count rest half, fits) refl
 
@@ -155,11 +165,13 @@ body_again Cond rest fits = refl
 body_again Portset rest fits = refl
 body_again (Mapping start count offset write region) rest fits =
     let f = and6 (is_byte start) (is_half count) (is_extent start count) (is_byte offset) (is_flag write) (fits_link region) fits in
-    rw (extent_again start count (offset ∷ write ∷ (link region ++ rest)) f.1 f.2, below_again 2 write (link region ++ rest) f.4, link_again region rest f.5) refl
+    rw (extent_again start count (offset ∷ write ∷ (link region ++ rest)) f.1 f.2, below_again 2 write (link region ++ rest) f.4, link_again region rest f.5)
+    refl
 body_again (Region start count write keeper) rest fits =
     let f = and5 (is_byte start) (is_half count) (is_extent start count) (is_flag write) (fits_link keeper) fits in
     rw (extent_again start count (write ∷ (link keeper ++ rest)) f.1 f.2, below_again 2 write (link keeper ++ rest) f.3, link_again keeper rest f.4) refl
-body_again (Port set) rest fits = let lt = ltb-true set 241 fits in rw (number_again w16 (2 ^ 16) wide16 set rest (lt-ltb set (2 ^ 16) (omega arith)), fits) refl
+body_again (Port set) rest fits = let lt = ltb-true set 241 fits in
+    rw (number_again w16 (2 ^ 16) wide16 set rest (lt-ltb set (2 ^ 16) (omega arith)), fits) refl
 body_again (Thread t) rest fits = thread_again t rest fits
 body_again (Reference to) rest fits = rw (link_again to rest fits) refl
 
@@ -175,11 +187,13 @@ page_again floor p rest fits =
     let f = and3 (is_byte p.page) (not (ltb p.page floor)) (are_words 64 p.words) fits in
     rw (f.1, words_again 64 p.words rest f.2) refl
 
-objects_again : (os : List ObjectRec) (rest : List ℕ) → fits_objects os ≡ true → objects_at (to_le_bytes w16 (length os) ++ (flat_map object os ++ rest)) ≡ Ok (os, rest)
+objects_again : (os : List ObjectRec) (rest : List ℕ) →
+    fits_objects os ≡ true → objects_at (to_le_bytes w16 (length os) ++ (flat_map object os ++ rest)) ≡ Ok (os, rest)
 unfolding objects_at
 objects_again os rest fits =
     let f = and2 (is_half (length os)) (all_from after_object fits_object 0 os) fits in
-    rw (number_again w16 (2 ^ 16) wide16 (length os) (flat_map object os ++ rest) f.0) (many_again object_at after_object object fits_object object_again os 0 [] rest f.1)
+    rw (number_again w16 (2 ^ 16) wide16 (length os) (flat_map object os ++ rest) f.0)
+    (many_again object_at after_object object fits_object object_again os 0 [] rest f.1)
 
 pages_again : (ps : List PageRec) (rest : List ℕ) → fits_pages ps ≡ true → pages_at (to_le_bytes w16 (length ps) ++ (flat_map page ps ++ rest)) ≡ Ok (ps, rest)
 unfolding pages_at
@@ -191,7 +205,8 @@ pages_again ps rest fits =
 
 -- a space and what follows, with the rest behind each of its fields
 after_slot : SpaceRec → List ℕ → List ℕ
-after_slot s rest = link s.holder ++ (to_le_bytes w16 (length s.objects) ++ (flat_map object s.objects ++ (to_le_bytes w16 (length s.pages) ++ (flat_map page s.pages ++ rest))))
+after_slot s rest = link s.holder
+    ++ (to_le_bytes w16 (length s.objects) ++ (flat_map object s.objects ++ (to_le_bytes w16 (length s.pages) ++ (flat_map page s.pages ++ rest))))
 
 space_apart : (s : SpaceRec) (rest : List ℕ) → space s ++ rest ≡ to_le_bytes w32 s.parent ++ (s.slot ∷ after_slot s rest)
 unfolding after_slot
@@ -205,7 +220,8 @@ null_is (Out slot) e = absurd cc
 null_is Root e = absurd cc
 null_is Outside e = absurd cc
 
-first_again : (s : SpaceRec) (rest : List ℕ) → is_first s ≡ true → fits_objects s.objects ≡ true → fits_pages s.pages ≡ true → first_at (space s ++ rest) ≡ Ok (s, rest)
+first_again : (s : SpaceRec) (rest : List ℕ) →
+    is_first s ≡ true → fits_objects s.objects ≡ true → fits_pages s.pages ≡ true → first_at (space s ++ rest) ≡ Ok (s, rest)
 unfolding first_at after_slot
 first_again s rest top objects pages =
     let f = and3 (eqb s.parent 4294967295) (eqb s.slot 0) (is_null s.holder) top in
@@ -227,11 +243,13 @@ room_is : (room : Option ℕ) (slot : ℕ) → has_room room slot ≡ true → (
 room_is None slot e = absurd cc
 room_is (Some floor) slot e = (floor, refl, e)
 
-next_again : (d : SpaceRec) (before : List SpaceRec) (path : List Open) (s : SpaceRec) (rest : List ℕ) → is_next (d ∷ before) path s ≡ true → fits_objects s.objects ≡ true → fits_pages s.pages ≡ true
+next_again : (d : SpaceRec) (before : List SpaceRec) (path : List Open) (s : SpaceRec) (rest : List ℕ) →
+    is_next (d ∷ before) path s ≡ true → fits_objects s.objects ≡ true → fits_pages s.pages ≡ true
     → next_at (d ∷ before) path (space s ++ rest) ≡ Ok (s, rest)
 unfolding next_at room_at after_slot
 next_again d before path s rest next objects pages =
-    let f = and5 (ltb s.parent (2 ^ 32)) (ltb s.slot 240) (has_room (room_under path s.parent) s.slot) (not (is_some (kind_at (d ∷ before) s.parent s.slot))) (fits_link s.holder) next in
+    let f = and5 (ltb s.parent (2 ^ 32))
+    (ltb s.slot 240) (has_room (room_under path s.parent) s.slot) (not (is_some (kind_at (d ∷ before) s.parent s.slot))) (fits_link s.holder) next in
     let r = room_is (room_under path s.parent) s.slot f.2 in
     let after_objects = to_le_bytes w16 (length s.pages) ++ (flat_map page s.pages ++ rest) in
     let after_holder = to_le_bytes w16 (length s.objects) ++ (flat_map object s.objects ++ after_objects) in
@@ -249,15 +267,19 @@ next_again d before path s rest next objects pages =
       pages_again s.pages rest pages,
     ) refl
 
-placed_again : (before : List SpaceRec) (path : List Open) (s : SpaceRec) (rest : List ℕ) → fits_space (before, path) s ≡ true → placed_at before path (space s ++ rest) ≡ Ok (s, rest)
+placed_again : (before : List SpaceRec) (path : List Open) (s : SpaceRec) (rest : List ℕ) →
+    fits_space (before, path) s ≡ true → placed_at before path (space s ++ rest) ≡ Ok (s, rest)
 placed_again [] path s rest fits = let f = and3 (is_first s) (fits_objects s.objects) (fits_pages s.pages) fits in first_again s rest f.0 f.1 f.2
-placed_again (d ∷ before) path s rest fits = let f = and3 (is_next (d ∷ before) path s) (fits_objects s.objects) (fits_pages s.pages) fits in next_again d before path s rest f.0 f.1 f.2
+placed_again (d ∷ before) path s rest fits = let f = and3 (is_next (d ∷ before) path s) (fits_objects s.objects) (fits_pages s.pages) fits in
+    next_again d before path s rest f.0 f.1 f.2
 
-space_again : (before : List SpaceRec × List Open) (s : SpaceRec) (rest : List ℕ) → fits_space before s ≡ true → space_at before (space s ++ rest) ≡ Ok (s, rest)
+space_again : (before : List SpaceRec × List Open) (s : SpaceRec) (rest : List ℕ) →
+    fits_space before s ≡ true → space_at before (space s ++ rest) ≡ Ok (s, rest)
 unfolding space_at
 space_again before s rest fits = placed_again before.0 before.1 s rest fits
 
-head_again : (n : ℕ) (rest : List ℕ) → ltb 0 n ≡ true → ltb n (2 ^ 32) ≡ true → head_at (magic ++ (to_le_bytes w16 1 ++ (to_le_bytes w32 n ++ rest))) ≡ Ok (n, rest)
+head_again : (n : ℕ) (rest : List ℕ) →
+    ltb 0 n ≡ true → ltb n (2 ^ 32) ≡ true → head_at (magic ++ (to_le_bytes w16 1 ++ (to_le_bytes w32 n ++ rest))) ≡ Ok (n, rest)
 unfolding head_at
 head_again n rest some lt =
     let one = ltb-true 0 n some in
@@ -270,5 +292,6 @@ unfolding image_at
 image_again i fits =
     let f = and3 (ltb 0 (length i.spaces)) (ltb (length i.spaces) (2 ^ 32)) (all_from after_space fits_space ([], root_path) i.spaces) fits in
     let spaces : many space_at after_space (length i.spaces) ([], root_path) [] (flat_map space i.spaces) ≡ Ok (i.spaces, []) =
-    ap (many space_at after_space (length i.spaces) ([], root_path) []) (sym (append-nil (flat_map space i.spaces))) ∙ many_again space_at after_space space fits_space space_again i.spaces ([], root_path) [] [] f.2 in
+    ap (many space_at after_space (length i.spaces) ([], root_path) []) (sym (append-nil (flat_map space i.spaces)))
+    ∙ many_again space_at after_space space fits_space space_again i.spaces ([], root_path) [] [] f.2 in
     rw (head_again (length i.spaces) (flat_map space i.spaces) f.0 f.1, spaces) refl

@@ -77,11 +77,13 @@ bind_ok (Ok x) f y e = (x, refl, e)
 bind_ok (Err d) f y e = absurd cc
 
 -- a test that did not fail
-pub expect_ok : {B : Type 0} (b : Bool) (bytes : List ℕ) (reason : ℕ) (f : Unit {0} → Result B Stop) (y : B) → (expect b bytes reason >>= f) ≡ Ok y → (b ≡ true) × (f tt ≡ Ok y)
+pub expect_ok : {B : Type 0} (b : Bool) (bytes : List ℕ) (reason : ℕ) (f : Unit {0} → Result B Stop) (y : B) →
+    (expect b bytes reason >>= f) ≡ Ok y → (b ≡ true) × (f tt ≡ Ok y)
 expect_ok true bytes reason f y e = (refl, e)
 expect_ok false bytes reason f y e = absurd cc
 
-pub chosen : {A : Type 0} (b : Bool) (x : A) (bytes : List ℕ) (reason : ℕ) (y : A) → cond {A = Result A Stop} b (Ok x) (refuse bytes reason) ≡ Ok y → (b ≡ true) × (x ≡ y)
+pub chosen : {A : Type 0} (b : Bool) (x : A) (bytes : List ℕ) (reason : ℕ) (y : A) →
+    cond {A = Result A Stop} b (Ok x) (refuse bytes reason) ≡ Ok y → (b ≡ true) × (x ≡ y)
 chosen true x bytes reason y e = (refl, cc)
 chosen false x bytes reason y e = absurd cc
 
@@ -108,7 +110,8 @@ Takes-then a x b y c p q = record { parts = p.parts ∙ ap (λ (t : List ℕ). x
 abbrev pub Took : {X : Type 0} → (X → List ℕ) → (X → Bool) → List ℕ → X × List ℕ → Type 0
 Took spell fits bytes x = Takes bytes (spell x.0) x.1 × (fits x.0 ≡ true)
 
-pub made : {X : Type 0} (spell : X → List ℕ) (fits : X → Bool) (bytes : List ℕ) (x y : X × List ℕ) → done x ≡ done y → Took spell fits bytes x → Took spell fits bytes y
+pub made : {X : Type 0} (spell : X → List ℕ) (fits : X → Bool) (bytes : List ℕ) (x y : X × List ℕ) →
+    done x ≡ done y → Took spell fits bytes x → Took spell fits bytes y
 made spell fits bytes x y e t = subst (λ z. Took spell fits bytes z) (ok_is x y e) t
 
 -- ---- bytes and numbers
@@ -118,7 +121,8 @@ one b = b ∷ []
 
 pub byte_takes : (bytes : List ℕ) (x : ℕ × List ℕ) → IsBytes bytes → byte_at bytes ≡ Ok x → Took one (λ b. ltb b 256) bytes x
 byte_takes [] x fits e = absurd cc
-byte_takes (b ∷ rest) x fits e = made one (λ b. ltb b 256) (b ∷ rest) (b, rest) x e (record { parts = refl; rest_fits = λ i. fits (suc i) }, lt-ltb b 256 (fits 0))
+byte_takes (b ∷ rest) x fits e =
+    made one (λ b. ltb b 256) (b ∷ rest) (b, rest) x e (record { parts = refl; rest_fits = λ i. fits (suc i) }, lt-ltb b 256 (fits 0))
 
 pub below_takes : (limit : ℕ) (bytes : List ℕ) (x : ℕ × List ℕ) → IsBytes bytes → below_at limit bytes ≡ Ok x → Took one (λ b. ltb b limit) bytes x
 unfolding below_at
@@ -166,16 +170,21 @@ short_not : {A : Type 0} (b : Bool) (bytes : List ℕ) (x y : A) → cond {A = R
 short_not true bytes x y e = absurd cc
 short_not false bytes x y e = (refl, cc)
 
-pub number_takes : (w : Width) (limit : ℕ) (wide : IsWide w limit) (bytes : List ℕ) (x : ℕ × List ℕ) → IsBytes bytes → number_at w bytes ≡ Ok x → Took (to_le_bytes w) (λ n. ltb n limit) bytes x
+pub number_takes : (w : Width) (limit : ℕ) (wide : IsWide w limit) (bytes : List ℕ) (x : ℕ × List ℕ) →
+    IsBytes bytes → number_at w bytes ≡ Ok x → Took (to_le_bytes w) (λ n. ltb n limit) bytes x
 number_takes w limit wide bytes x fits e =
     let front = take (byte_len w) bytes in
     let g = short_not (ltb (length bytes) (byte_len w)) bytes (from_le_bytes w front, drop (byte_len w) bytes) x e in
     let long : byte_len w ≤ length bytes = ltb-false _ _ g.0 in
-    let is_front : to_le_bytes w (from_le_bytes w front) ≡ front = wide.back front (omega (arith, length-take (byte_len w) bytes)) (IsBytes-take (byte_len w) bytes fits) in
-    made (to_le_bytes w) (λ n. ltb n limit) bytes (from_le_bytes w front, drop (byte_len w) bytes) x (ap Ok g.1)
-    (record { parts = rw is_front (sym (take-append-drop (byte_len w) bytes)); rest_fits = IsBytes-drop (byte_len w) bytes fits }, lt-ltb _ _ (wide.below front (IsBytes-take (byte_len w) bytes fits)))
+    let is_front : to_le_bytes
+    w (from_le_bytes w front) ≡ front = wide.back front (omega (arith, length-take (byte_len w) bytes)) (IsBytes-take (byte_len w) bytes fits) in
+    made (to_le_bytes w) (λ n. ltb n limit) bytes (from_le_bytes w front, drop (byte_len w) bytes) x (ap Ok g.1) (
+      record { parts = rw is_front (sym (take-append-drop (byte_len w) bytes)); rest_fits = IsBytes-drop (byte_len w) bytes fits },
+      lt-ltb _ _ (wide.below front (IsBytes-take (byte_len w) bytes fits)),
+    )
 
-pub number_again : (w : Width) (limit : ℕ) (wide : IsWide w limit) (n : ℕ) (rest : List ℕ) → ltb n limit ≡ true → number_at w (to_le_bytes w n ++ rest) ≡ Ok (n, rest)
+pub number_again : (w : Width) (limit : ℕ) (wide : IsWide w limit) (n : ℕ) (rest : List ℕ) →
+    ltb n limit ≡ true → number_at w (to_le_bytes w n ++ rest) ≡ Ok (n, rest)
 number_again w limit wide n rest lt =
     let len = wide.len n in
     let long : ltb (length (to_le_bytes w n ++ rest)) (byte_len w) ≡ false = le-ltb _ _ (omega (arith, length-append (to_le_bytes w n) rest)) in

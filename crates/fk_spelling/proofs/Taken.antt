@@ -48,7 +48,8 @@ link_takes bytes x fits e =
         let b = bind_ok (below_at 240 a.0.1) _ x a.2 in
         let t0 = number_takes w32 (2 ^ 32) wide32 rest a.0 t.rest_fits a.1 in
         let t1 = below_takes 240 a.0.1 b.0 t0.0.rest_fits b.1 in
-        let whole = Takes-then bytes (2 ∷ []) rest (to_le_bytes w32 a.0.0 ++ b.0.0 ∷ []) b.0.1 t (Takes-then rest (to_le_bytes w32 a.0.0) a.0.1 (b.0.0 ∷ []) b.0.1 t0.0 t1.0) in
+        let whole = Takes-then bytes
+        (2 ∷ []) rest (to_le_bytes w32 a.0.0 ++ b.0.0 ∷ []) b.0.1 t (Takes-then rest (to_le_bytes w32 a.0.0) a.0.1 (b.0.0 ∷ []) b.0.1 t0.0 t1.0) in
         made link fits_link bytes (In a.0.0 b.0.0, b.0.1) x b.2 (whole, both _ _ t0.1 t1.1)
     by (suc (suc (suc zero))) rest t e =
         let a = bind_ok (below_at 240 rest) _ x e in
@@ -58,7 +59,14 @@ link_takes bytes x fits e =
     by (suc (suc (suc (suc (suc zero))))) rest t e = made link fits_link bytes (Outside, rest) x e (t, refl)
     by (suc (suc (suc (suc (suc (suc k)))))) rest t e =
         let n = suc (suc (suc (suc (suc (suc k))))) in
-        absurd (never bytes 5 x (rw (ne_eqb n 0 (λ h. omega arith), ne_eqb n 1 (λ h. omega arith), ne_eqb n 2 (λ h. omega arith), ne_eqb n 3 (λ h. omega arith), ne_eqb n 4 (λ h. omega arith), ne_eqb n 5 (λ h. omega arith)) at e))
+        absurd (never bytes 5 x (rw (
+          ne_eqb n 0 (λ h. omega arith),
+          ne_eqb n 1 (λ h. omega arith),
+          ne_eqb n 2 (λ h. omega arith),
+          ne_eqb n 3 (λ h. omega arith),
+          ne_eqb n 4 (λ h. omega arith),
+          ne_eqb n 5 (λ h. omega arith),
+        ) at e))
 
 -- ---- items one after the other
 
@@ -68,8 +76,13 @@ module _ {S X : Type 0} (item : S → List ℕ → Result (X × List ℕ) Stop) 
       → (xs : List X) × (x.0 ≡ done ++ xs) × (length xs ≡ n) × Takes bytes (flat_map spell xs) x.1 × (all_from next fits s xs ≡ true)
   unfolding many
   many_takes zero s done bytes x fit e =
-      let same : (done, bytes) ≡ x = ok_is (done, bytes) x e in
-      ([], ap (λ (p : List X × List ℕ). p.0) (sym same) ∙ sym (append-nil done), refl, subst (λ (p : List X × List ℕ). Takes bytes [] p.1) same (record { parts = refl; rest_fits = fit }), refl)
+      let same : (done, bytes) ≡ x = ok_is (done, bytes) x e in (
+        [],
+        ap (λ (p : List X × List ℕ). p.0) (sym same) ∙ sym (append-nil done),
+        refl,
+        subst (λ (p : List X × List ℕ). Takes bytes [] p.1) same (record { parts = refl; rest_fits = fit }),
+        refl,
+      )
   many_takes (suc n) s done bytes x fit e =
       let a = bind_ok (item s bytes) _ x e in
       let head = takes s bytes a.0 fit a.1 in
@@ -133,7 +146,8 @@ talk_takes bytes x fits e =
     let t = below_takes 3 bytes a.0 fits a.1 in
     by (eqb a.0.0 0) refl a.0.1 t a.2
   where
-    by : (b : Bool) → {n : ℕ} → eqb n 0 ≡ b → (rest : List ℕ) → Takes bytes (n ∷ []) rest × (ltb n 3 ≡ true) → cond b (Ok (None, rest)) (open_talk_at n rest) ≡ Ok x → Took talk fits_talk bytes x
+    by : (b : Bool) → {n : ℕ} → eqb n 0 ≡ b →
+        (rest : List ℕ) → Takes bytes (n ∷ []) rest × (ltb n 3 ≡ true) → cond b (Ok (None, rest)) (open_talk_at n rest) ≡ Ok x → Took talk fits_talk bytes x
     by true {n} zero_is rest t e = made talk fits_talk bytes (None, rest) x e (subst (λ (k : ℕ). Takes bytes (k ∷ []) rest) (eqb-true n 0 zero_is) t.0, refl)
     by false {n} other rest t e = open_talk_takes n rest x t.0.rest_fits (both _ _ (not_false _ other) t.1) e bytes t.0
 
@@ -151,7 +165,8 @@ taker_takes (suc (suc zero)) bytes x fits other small e =
     subst (λ (y : Option Link × List ℕ). Took taker fits_taker bytes y × (2 ≡ fault_state y.0)) same ((t.0, t.1), refl)
 taker_takes (suc (suc (suc k))) bytes x fits other small e = let lt = ltb-true (suc (suc (suc k))) 3 small in absurd (omega arith)
 
-met_fault_takes : (state : ℕ) (bytes : List ℕ) (x : Option FaultRec × List ℕ) → IsBytes bytes → eqb state 0 ≡ false → ltb state 3 ≡ true → met_fault_at state bytes ≡ Ok x
+met_fault_takes : (state : ℕ) (bytes : List ℕ) (x : Option FaultRec × List ℕ) →
+    IsBytes bytes → eqb state 0 ≡ false → ltb state 3 ≡ true → met_fault_at state bytes ≡ Ok x
     → (before : List ℕ) → Takes before (state ∷ []) bytes → Took fault fits_fault before x
 unfolding met_fault_at
 met_fault_takes state bytes x fits other small e before t =
@@ -177,11 +192,13 @@ fault_takes bytes x fits e =
     let t = below_takes 3 bytes a.0 fits a.1 in
     by (eqb a.0.0 0) refl a.0.1 t a.2
   where
-    by : (b : Bool) → {n : ℕ} → eqb n 0 ≡ b → (rest : List ℕ) → Takes bytes (n ∷ []) rest × (ltb n 3 ≡ true) → cond b (Ok (None, rest)) (met_fault_at n rest) ≡ Ok x → Took fault fits_fault bytes x
+    by : (b : Bool) → {n : ℕ} → eqb n 0 ≡ b →
+        (rest : List ℕ) → Takes bytes (n ∷ []) rest × (ltb n 3 ≡ true) → cond b (Ok (None, rest)) (met_fault_at n rest) ≡ Ok x → Took fault fits_fault bytes x
     by true {n} zero_is rest t e = made fault fits_fault bytes (None, rest) x e (subst (λ (k : ℕ). Takes bytes (k ∷ []) rest) (eqb-true n 0 zero_is) t.0, refl)
     by false {n} other rest t e = met_fault_takes n rest x t.0.rest_fits other t.1 e bytes t.0
 
-thread_takes : (bytes : List ℕ) (x : Rec × List ℕ) → IsBytes bytes → thread_at bytes ≡ Ok x → (before : List ℕ) → Takes before (8 ∷ []) bytes → Took body fits_body before x
+thread_takes : (bytes : List ℕ) (x : Rec × List ℕ) →
+    IsBytes bytes → thread_at bytes ≡ Ok x → (before : List ℕ) → Takes before (8 ∷ []) bytes → Took body fits_body before x
 unfolding thread_at
 thread_takes bytes x fits e before t =
     let a = bind_ok (words_at 16 bytes) _ x e in
@@ -207,7 +224,8 @@ thread_takes bytes x fits e before t =
     let u1 = Takes-then a.0.1 (to_le_bytes w64 b.0.0) b.0.1 (c.0.0 ∷ d.0.0 ∷ r4) h.0.1 t1.0 u2 in
     let r1 = to_le_bytes w64 b.0.0 ++ (c.0.0 ∷ d.0.0 ∷ r4) in
     let u0 = Takes-then bytes (words a.0.0) a.0.1 r1 h.0.1 t0.0 u1 in
-    made body fits_body before (Thread (record { regs = a.0.0; pc = b.0.0; mode = c.0.0; code = d.0.0; stops = f.0.0; talk = g.0.0; fault = h.0.0 }), h.0.1) x h.2
+    made body
+    fits_body before (Thread (record { regs = a.0.0; pc = b.0.0; mode = c.0.0; code = d.0.0; stops = f.0.0; talk = g.0.0; fault = h.0.0 }), h.0.1) x h.2
     (Takes-then before (8 ∷ []) bytes (words a.0.0 ++ r1) h.0.1 t u0, both _ _ (both _ _ (all6 t0.1 t1.1 t2.1 code.0 code.1 t4.1) t5.1) t6.1)
 
 -- ---- objects and pages
@@ -215,7 +233,8 @@ thread_takes bytes x fits e before t =
 abbrev extent : ℕ × ℕ → List ℕ
 extent pages = pages.0 ∷ to_le_bytes w16 pages.1
 
-extent_takes : (bytes : List ℕ) (x : (ℕ × ℕ) × List ℕ) → IsBytes bytes → extent_at bytes ≡ Ok x → Took extent (λ p. is_byte p.0 && is_half p.1 && is_extent p.0 p.1) bytes x
+extent_takes : (bytes : List ℕ) (x : (ℕ × ℕ) × List ℕ) →
+    IsBytes bytes → extent_at bytes ≡ Ok x → Took extent (λ p. is_byte p.0 && is_half p.1 && is_extent p.0 p.1) bytes x
 unfolding extent_at
 extent_takes bytes x fits e =
     let a = bind_ok (byte_at bytes) _ x e in
@@ -226,7 +245,8 @@ extent_takes bytes x fits e =
     made extent (λ p. is_byte p.0 && is_half p.1 && is_extent p.0 p.1) bytes ((a.0.0, b.0.0), b.0.1) x (ap Ok g.1)
     (Takes-then bytes (a.0.0 ∷ []) a.0.1 (to_le_bytes w16 b.0.0) b.0.1 t0.0 t1.0, all3 t0.1 t1.1 g.0)
 
-mapping_takes : (bytes : List ℕ) (x : Rec × List ℕ) → IsBytes bytes → mapping_at bytes ≡ Ok x → (before : List ℕ) → Takes before (3 ∷ []) bytes → Took body fits_body before x
+mapping_takes : (bytes : List ℕ) (x : Rec × List ℕ) →
+    IsBytes bytes → mapping_at bytes ≡ Ok x → (before : List ℕ) → Takes before (3 ∷ []) bytes → Took body fits_body before x
 unfolding mapping_at
 mapping_takes bytes x fits e before t =
     let a = bind_ok (extent_at bytes) _ x e in
@@ -243,7 +263,8 @@ mapping_takes bytes x fits e before t =
     made body fits_body before (Mapping a.0.0.0 a.0.0.1 b.0.0 c.0.0 d.0.0, d.0.1) x d.2
     (Takes-then before (3 ∷ []) bytes (extent a.0.0 ++ (b.0.0 ∷ c.0.0 ∷ link d.0.0)) d.0.1 t u0, all4 t0.1 t1.1 t2.1 t3.1)
 
-region_takes : (bytes : List ℕ) (x : Rec × List ℕ) → IsBytes bytes → region_at bytes ≡ Ok x → (before : List ℕ) → Takes before (4 ∷ []) bytes → Took body fits_body before x
+region_takes : (bytes : List ℕ) (x : Rec × List ℕ) →
+    IsBytes bytes → region_at bytes ≡ Ok x → (before : List ℕ) → Takes before (4 ∷ []) bytes → Took body fits_body before x
 unfolding region_at
 region_takes bytes x fits e before t =
     let a = bind_ok (extent_at bytes) _ x e in
@@ -257,7 +278,8 @@ region_takes bytes x fits e before t =
     made body fits_body before (Region a.0.0.0 a.0.0.1 c.0.0 d.0.0, d.0.1) x d.2
     (Takes-then before (4 ∷ []) bytes (extent a.0.0 ++ (c.0.0 ∷ link d.0.0)) d.0.1 t u0, all3 t0.1 t2.1 t3.1)
 
-port_takes : (bytes : List ℕ) (x : Rec × List ℕ) → IsBytes bytes → port_at bytes ≡ Ok x → (before : List ℕ) → Takes before (5 ∷ []) bytes → Took body fits_body before x
+port_takes : (bytes : List ℕ) (x : Rec × List ℕ) →
+    IsBytes bytes → port_at bytes ≡ Ok x → (before : List ℕ) → Takes before (5 ∷ []) bytes → Took body fits_body before x
 unfolding port_at
 port_takes bytes x fits e before t =
     let a = bind_ok (number_at w16 bytes) _ x e in
@@ -265,14 +287,16 @@ port_takes bytes x fits e before t =
     let t0 = number_takes w16 (2 ^ 16) wide16 bytes a.0 fits a.1 in
     made body fits_body before (Port a.0.0, a.0.1) x (ap Ok g.1) (Takes-then before (5 ∷ []) bytes (to_le_bytes w16 a.0.0) a.0.1 t t0.0, g.0)
 
-mutex_takes : (bytes : List ℕ) (x : Rec × List ℕ) → IsBytes bytes → mutex_at bytes ≡ Ok x → (before : List ℕ) → Takes before (1 ∷ []) bytes → Took body fits_body before x
+mutex_takes : (bytes : List ℕ) (x : Rec × List ℕ) →
+    IsBytes bytes → mutex_at bytes ≡ Ok x → (before : List ℕ) → Takes before (1 ∷ []) bytes → Took body fits_body before x
 unfolding mutex_at
 mutex_takes bytes x fits e before t =
     let a = bind_ok (below_at 2 bytes) _ x e in
     let t0 = below_takes 2 bytes a.0 fits a.1 in
     made body fits_body before (Mutex a.0.0, a.0.1) x a.2 (Takes-then before (1 ∷ []) bytes (a.0.0 ∷ []) a.0.1 t t0.0, t0.1)
 
-reference_takes : (bytes : List ℕ) (x : Rec × List ℕ) → IsBytes bytes → reference_at bytes ≡ Ok x → (before : List ℕ) → Takes before (9 ∷ []) bytes → Took body fits_body before x
+reference_takes : (bytes : List ℕ) (x : Rec × List ℕ) →
+    IsBytes bytes → reference_at bytes ≡ Ok x → (before : List ℕ) → Takes before (9 ∷ []) bytes → Took body fits_body before x
 unfolding reference_at
 reference_takes bytes x fits e before t =
     let a = bind_ok (link_at bytes) _ x e in
@@ -288,7 +312,8 @@ body_takes bytes x fits e =
   where
     by : (kind : ℕ) (rest : List ℕ) → Takes bytes (kind ∷ []) rest
         → cond (eqb kind 1) (mutex_at rest) (cond (eqb kind 2) (Ok (Cond, rest)) (cond (eqb kind 3) (mapping_at rest) (cond (eqb kind 4) (region_at rest)
-        (cond (eqb kind 5) (port_at rest) (cond (eqb kind 6) (Ok (Portset, rest)) (cond (eqb kind 8) (thread_at rest) (cond (eqb kind 9) (reference_at rest) (refuse bytes 5)))))))) ≡ Ok x
+        (cond (eqb kind 5) (port_at rest)
+        (cond (eqb kind 6) (Ok (Portset, rest)) (cond (eqb kind 8) (thread_at rest) (cond (eqb kind 9) (reference_at rest) (refuse bytes 5)))))))) ≡ Ok x
         → Took body fits_body bytes x
     by zero rest t e = absurd (never bytes 5 x e)
     by (suc zero) rest t e = mutex_takes rest x t.rest_fits e bytes t
@@ -347,8 +372,10 @@ objects_take bytes x fits e =
     let a = bind_ok (number_at w16 bytes) _ x e in
     let t0 = number_takes w16 (2 ^ 16) wide16 bytes a.0 fits a.1 in
     let t1 = all_takes object_at after_object object fits_object object_takes a.0.0 0 a.0.1 x t0.0.rest_fits a.2 in
-    let whole = Takes-then bytes (to_le_bytes w16 a.0.0) a.0.1 (flat_map object x.0) x.1 t0.0 t1.1 in
-    (subst (λ (n : ℕ). Takes bytes (to_le_bytes w16 n ++ flat_map object x.0) x.1) (sym t1.0) whole, both _ _ (subst (λ (n : ℕ). is_half n ≡ true) (sym t1.0) t0.1) t1.2)
+    let whole = Takes-then bytes (to_le_bytes w16 a.0.0) a.0.1 (flat_map object x.0) x.1 t0.0 t1.1 in (
+      subst (λ (n : ℕ). Takes bytes (to_le_bytes w16 n ++ flat_map object x.0) x.1) (sym t1.0) whole,
+      both _ _ (subst (λ (n : ℕ). is_half n ≡ true) (sym t1.0) t0.1) t1.2,
+    )
 
 pages_take : (bytes : List ℕ) (x : List PageRec × List ℕ) → IsBytes bytes → pages_at bytes ≡ Ok x → Took pages_part fits_pages bytes x
 unfolding pages_at
@@ -356,8 +383,10 @@ pages_take bytes x fits e =
     let a = bind_ok (number_at w16 bytes) _ x e in
     let t0 = number_takes w16 (2 ^ 16) wide16 bytes a.0 fits a.1 in
     let t1 = all_takes page_at after_page page fits_page page_takes a.0.0 0 a.0.1 x t0.0.rest_fits a.2 in
-    let whole = Takes-then bytes (to_le_bytes w16 a.0.0) a.0.1 (flat_map page x.0) x.1 t0.0 t1.1 in
-    (subst (λ (n : ℕ). Takes bytes (to_le_bytes w16 n ++ flat_map page x.0) x.1) (sym t1.0) whole, both _ _ (subst (λ (n : ℕ). is_half n ≡ true) (sym t1.0) t0.1) t1.2)
+    let whole = Takes-then bytes (to_le_bytes w16 a.0.0) a.0.1 (flat_map page x.0) x.1 t0.0 t1.1 in (
+      subst (λ (n : ℕ). Takes bytes (to_le_bytes w16 n ++ flat_map page x.0) x.1) (sym t1.0) whole,
+      both _ _ (subst (λ (n : ℕ). is_half n ≡ true) (sym t1.0) t0.1) t1.2,
+    )
 
 -- ---- spaces
 
@@ -373,7 +402,8 @@ joined before path bytes r0 r1 r2 r3 s rest t0 t1 t2 t3 t4 placed =
     let e24 = Takes-then r1 (link s.holder) r2 (os ++ ps) rest t2 e34 in
     let e14 = Takes-then r0 (s.slot ∷ []) r1 (link s.holder ++ (os ++ ps)) rest t1 e24 in
     let e04 = Takes-then bytes (to_le_bytes w32 s.parent) r0 (s.slot ∷ (link s.holder ++ (os ++ ps))) rest t0 e14 in
-    let regroup : os ++ ps ≡ to_le_bytes w16 (length s.objects) ++ (flat_map object s.objects ++ ps) = append_assoc (to_le_bytes w16 (length s.objects)) (flat_map object s.objects) ps in
+    let regroup : os ++ ps ≡ to_le_bytes w16 (length s.objects)
+    ++ (flat_map object s.objects ++ ps) = append_assoc (to_le_bytes w16 (length s.objects)) (flat_map object s.objects) ps in
     (subst (λ (c : List ℕ). Takes bytes (to_le_bytes w32 s.parent ++ (s.slot ∷ (link s.holder ++ c))) rest) regroup e04, all3 placed t3.1 t4.1)
 
 first_takes : (path : List Open) (bytes : List ℕ) (x : SpaceRec × List ℕ) → IsBytes bytes → first_at bytes ≡ Ok x → Took space (fits_space ([], path)) bytes x
@@ -394,7 +424,8 @@ first_takes path bytes x fits e =
     let t4 = pages_take os.0.1 ps.0 t3.0.rest_fits ps.1 in
     let null : Takes b.0.1 (0 ∷ []) c.0.1 = subst (λ (n : ℕ). Takes b.0.1 (n ∷ []) c.0.1) (eqb-true _ _ g2.0) t2.0 in
     let s : SpaceRec = record { parent = a.0.0; slot = b.0.0; holder = Null; objects = os.0.0; pages = ps.0.0 } in
-    made space (fits_space ([], path)) bytes (s, ps.0.1) x ps.2 (joined [] path bytes a.0.1 b.0.1 c.0.1 os.0.1 s ps.0.1 t0.0 t1.0 null t3 t4 (all3 g0.0 g1.0 refl))
+    made space
+    (fits_space ([], path)) bytes (s, ps.0.1) x ps.2 (joined [] path bytes a.0.1 b.0.1 c.0.1 os.0.1 s ps.0.1 t0.0 t1.0 null t3 t4 (all3 g0.0 g1.0 refl))
 
 room_is : (room : Option ℕ) (bytes : List ℕ) (x : ℕ) → or_refuse room bytes 4 ≡ Ok x → room ≡ Some x
 room_is None bytes x e = absurd (never bytes 4 x e)
@@ -403,7 +434,8 @@ room_is (Some n) bytes x e = ap Some (ok_is n x e)
 has_it : (room : Option ℕ) (floor slot : ℕ) → room ≡ Some floor → not (ltb slot floor) ≡ true → has_room room slot ≡ true
 has_it room floor slot is e = rw is e
 
-next_takes : (d : SpaceRec) (before : List SpaceRec) (path : List Open) (bytes : List ℕ) (x : SpaceRec × List ℕ) → IsBytes bytes → next_at (d ∷ before) path bytes ≡ Ok x → Took space (fits_space (d ∷ before, path)) bytes x
+next_takes : (d : SpaceRec) (before : List SpaceRec) (path : List Open) (bytes : List ℕ) (x : SpaceRec × List ℕ) →
+    IsBytes bytes → next_at (d ∷ before) path bytes ≡ Ok x → Took space (fits_space (d ∷ before, path)) bytes x
 unfolding next_at room_at
 next_takes d before path bytes x fits e =
     let a = bind_ok (number_at w32 bytes) _ x e in
@@ -424,11 +456,13 @@ next_takes d before path bytes x fits e =
     (joined (d ∷ before) path bytes a.0.1 b.0.1 c.0.1 os.0.1 s ps.0.1 t0.0 t1.0 t2.0 t3 t4
     (all5 t0.1 t1.1 (has_it (room_under path a.0.0) f.0 b.0.0 (room_is _ bytes f.0 f.1) g0.0) g1.0 t2.1))
 
-placed_takes : (before : List SpaceRec) (path : List Open) (bytes : List ℕ) (x : SpaceRec × List ℕ) → IsBytes bytes → placed_at before path bytes ≡ Ok x → Took space (fits_space (before, path)) bytes x
+placed_takes : (before : List SpaceRec) (path : List Open) (bytes : List ℕ) (x : SpaceRec × List ℕ) →
+    IsBytes bytes → placed_at before path bytes ≡ Ok x → Took space (fits_space (before, path)) bytes x
 placed_takes [] path bytes x fits e = first_takes path bytes x fits e
 placed_takes (d ∷ before) path bytes x fits e = next_takes d before path bytes x fits e
 
-space_takes : (before : List SpaceRec × List Open) (bytes : List ℕ) (x : SpaceRec × List ℕ) → IsBytes bytes → space_at before bytes ≡ Ok x → Took space (fits_space before) bytes x
+space_takes : (before : List SpaceRec × List Open) (bytes : List ℕ) (x : SpaceRec × List ℕ) →
+    IsBytes bytes → space_at before bytes ≡ Ok x → Took space (fits_space before) bytes x
 unfolding space_at
 space_takes before bytes x fits e = placed_takes before.0 before.1 bytes x fits e
 
@@ -447,13 +481,15 @@ head_takes bytes x fits e =
     let b = bind_ok (number_at w32 a.0.1) _ x g2.1 in
     let g3 = expect_ok _ _ _ _ _ b.2 in
     let front : take 8 bytes ≡ magic = same_text (take 8 bytes) magic (sym g1.0) in
-    let t0 : Takes bytes magic (drop 8 bytes) = record { parts = sym (take-append-drop 8 bytes) ∙ ap (λ (f : List ℕ). f ++ drop 8 bytes) front; rest_fits = IsBytes-drop 8 bytes fits } in
+    let t0 : Takes bytes magic (drop 8 bytes) =
+    record { parts = sym (take-append-drop 8 bytes) ∙ ap (λ (f : List ℕ). f ++ drop 8 bytes) front; rest_fits = IsBytes-drop 8 bytes fits } in
     let t1 = number_takes w16 (2 ^ 16) wide16 (drop 8 bytes) a.0 t0.rest_fits a.1 in
     let version : a.0.0 ≡ 1 = eqb-true _ _ g2.0 in
     let t1one : Takes (drop 8 bytes) (to_le_bytes w16 1) a.0.1 = subst (λ (n : ℕ). Takes (drop 8 bytes) (to_le_bytes w16 n) a.0.1) version t1.0 in
     let t2 = number_takes w32 (2 ^ 32) wide32 a.0.1 b.0 t1.0.rest_fits b.1 in
     let some : b.0.0 ≡ 0 → ⊥ = eqb-false _ _ (not_true _ g3.0) in
-    let whole = Takes-then bytes magic (drop 8 bytes) (to_le_bytes w16 1 ++ to_le_bytes w32 b.0.0) b.0.1 t0 (Takes-then (drop 8 bytes) (to_le_bytes w16 1) a.0.1 (to_le_bytes w32 b.0.0) b.0.1 t1one t2.0) in
+    let whole = Takes-then bytes magic (drop 8 bytes)
+    (to_le_bytes w16 1 ++ to_le_bytes w32 b.0.0) b.0.1 t0 (Takes-then (drop 8 bytes) (to_le_bytes w16 1) a.0.1 (to_le_bytes w32 b.0.0) b.0.1 t1one t2.0) in
     made head (λ n. ltb 0 n && ltb n (2 ^ 32)) bytes b.0 x g3.1 (whole, both _ _ (lt-ltb 0 b.0.0 (omega arith)) t2.1)
 
 pub image_takes : (bytes : List ℕ) (i : Image) → IsBytes bytes → image_at bytes ≡ Ok i → (fits_spaces i.spaces ≡ true) × (bytes ≡ spelling i)
@@ -466,7 +502,8 @@ image_takes bytes i fits e =
     let t1 = all_takes space_at after_space space fits_space space_takes a.0.0 ([], root_path) a.0.1 b.0 t0.0.rest_fits b.1 in
     let nothing : b.0.1 ≡ [] = nil_from_length b.0.1 (eqb-true _ _ g.0) in
     let whole = (Takes-then bytes (head a.0.0) a.0.1 (flat_map space b.0.0) b.0.1 t0.0 t1.1).parts in
-    let spelled : bytes ≡ spelling (record { spaces = b.0.0 }) = whole ∙ ap (λ (r : List ℕ). (head a.0.0 ++ flat_map space b.0.0) ++ r) nothing ∙ append-nil _ ∙ ap (λ (k : ℕ). head k ++ flat_map space b.0.0) (sym t1.0) in
+    let spelled : bytes ≡ spelling (record { spaces = b.0.0 }) = whole ∙ ap (λ (r : List ℕ). (head a.0.0 ++ flat_map space b.0.0) ++ r) nothing
+    ∙ append-nil _ ∙ ap (λ (k : ℕ). head k ++ flat_map space b.0.0) (sym t1.0) in
     let counts = and2 (ltb 0 a.0.0) (ltb a.0.0 (2 ^ 32)) t0.1 in
     let some : ltb 0 (length b.0.0) ≡ true = subst (λ (n : ℕ). ltb 0 n ≡ true) (sym t1.0) counts.0 in
     let few : ltb (length b.0.0) (2 ^ 32) ≡ true = subst (λ (n : ℕ). ltb n (2 ^ 32) ≡ true) (sym t1.0) counts.1 in

@@ -6,4 +6,5 @@ use Rattle.fk_spelling.specs.Reading.{object_at}
 use Rattle.fk_codec.proofs.objects.objects_from.Given as goal
 
 abbrev pub invariant-loop : goal.invariant-loop
-invariant-loop l = (l.floor ≡ next_slot l.objects) × (many object_at after_object (l.count - l.counter) l.floor l.objects l.rest ≡ many object_at after_object l.count 0 [] l.bytes)
+invariant-loop l = (l.floor ≡ next_slot l.objects) ×
+    (many object_at after_object (l.count - l.counter) l.floor l.objects l.rest ≡ many object_at after_object l.count 0 [] l.bytes)

@@ -12,7 +12,8 @@ returns-then-there-slot c =
     let within = n.within in
     let o = c.index-items-middle.result in
     let is : o.slot ≡ (get_or c.args.items.now (low + (high - low) / 2) o).slot = ap (λ (p : ObjectRec). p.slot) c.index-items-middle.is in
-    let found = here 0 c.args.items.now (low + (high - low) / 2) o c.args.slot (up 0 c.args.items.now c.requires) (omega arith) (sym is ∙ sym c.from-there.ensures ∙ c.if-there-slot.true) in
+    let found = here 0 c.args.items.now
+    (low + (high - low) / 2) o c.args.slot (up 0 c.args.items.now c.requires) (omega arith) (sym is ∙ sym c.from-there.ensures ∙ c.if-there-slot.true) in
     rw c.kind_of.ensures (ap (λ (p : ObjectRec). Some (kind_of p.body)) c.index-items-middle.is ∙ found)
 
 pub loop-low-preserved-then-there-slot-2 : goal.loop-low-preserved-then-there-slot-2

@@ -9,6 +9,7 @@ pub returns-in-Thread : goal.returns-in-Thread
 returns-in-Thread c =
     let t = c.in-Thread.thread in
     let talk = subst (λ (r : ThreadRec). Marks c.args.used.now c.mark_talk.new.used (talk_links r.talk)) c.get.ensures c.mark_talk.ensures in
-    let fault = subst (λ (r : ThreadRec). Marks c.mark_talk.new.used c.mark_fault.new.used (fault_links r.fault)) c.get-in-Thread.ensures c.mark_fault.ensures in
+    let fault = subst (λ (r : ThreadRec). Marks c.mark_talk.new.used c.mark_fault.new.used (fault_links r.fault))
+    c.get-in-Thread.ensures c.mark_fault.ensures in
     let whole = marks_then c.args.used.now c.mark_talk.new.used c.mark_fault.new.used (talk_links t.talk) (fault_links t.fault) talk fault in
     subst (λ (b : Rec). Marks c.args.used.now c.mark_fault.new.used (body_links b)) (sym c.in-Thread.is) whole

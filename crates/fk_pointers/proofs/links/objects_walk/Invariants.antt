@@ -4,4 +4,5 @@ use Rattle.fk_pointers.specs.Walks.{standing}
 use Rattle.fk_pointers.proofs.links.objects_walk.Given as goal
 
 abbrev pub invariant-loop-object : goal.invariant-loop-object
-invariant-loop-object l = objects_walk l.spaces l.objects (drop l.object-index l.objects) (standing l.at l.named) ≡ objects_walk l.spaces l.objects l.objects (standing l.from l.fn.named)
+invariant-loop-object l = objects_walk l.spaces
+    l.objects (drop l.object-index l.objects) (standing l.at l.named) ≡ objects_walk l.spaces l.objects l.objects (standing l.from l.fn.named)

@@ -4,4 +4,5 @@ use Rattle.fk_pointers.specs.Walks.{standing}
 use Rattle.fk_pointers.proofs.links.spaces_walk.Given as goal
 
 abbrev pub invariant-loop-number : goal.invariant-loop-number
-invariant-loop-number l = spaces_walk l.spaces l.number (drop l.number l.spaces) (standing l.at l.named) ≡ spaces_walk l.spaces 0 l.spaces (standing 14 l.fn.named)
+invariant-loop-number l =
+    spaces_walk l.spaces l.number (drop l.number l.spaces) (standing l.at l.named) ≡ spaces_walk l.spaces 0 l.spaces (standing 14 l.fn.named)

@@ -10,4 +10,5 @@ loop-space-init c = λ space slot. ap (λ (named : Named). named space slot || l
 
 pub loop-space-preserved : goal.loop-space-preserved
 loop-space-preserved c =
-    λ space slot. one_more c.loop-space.places c.insert.new.self c.args.spaces.now c.loop-space.space-index c.space-item.result space slot c.loop-space-test.true c.space-item.is c.in_ok-insert.ensures (c.loop-space.invariant space slot)
+    λ space slot. one_more c.loop-space.places c.insert.new.self c.args.spaces.now c.loop-space.space-index
+    c.space-item.result space slot c.loop-space-test.true c.space-item.is c.in_ok-insert.ensures (c.loop-space.invariant space slot)

@@ -5,4 +5,5 @@ use Rattle.fk_pointers.specs.Places.{has}
 use Rattle.fk_pointers.proofs.places.places_of.Given as goal
 
 abbrev pub invariant-loop-space : goal.invariant-loop-space
-invariant-loop-space l = (space slot : ℕ) → (has l.places space slot || list_any (lies_in space slot) (drop l.space-index l.spaces)) ≡ list_any (lies_in space slot) l.spaces
+invariant-loop-space l = (space slot : ℕ) →
+    (has l.places space slot || list_any (lies_in space slot) (drop l.space-index l.spaces)) ≡ list_any (lies_in space slot) l.spaces

@@ -10,8 +10,10 @@ loop-slot-preserved c =
     let i = c.loop-slot.slot in
     let old = string_bytes c.loop-slot.text in
     let rest = slots_from used (240 - (i + 1)) (i + 1) in
-    let piece : string_bytes c.push_str.new.self ≡ old ++ slot_if (used i) i = c.in_ok-push_str.ensures.bytes ∙ ap (λ (t : List ℕ). old ++ t) (c.as_str.ensures.value ∙ c.in_ok-slot_if.ensures) in
-    ap (λ (t : List ℕ). t ++ rest) piece ∙ append_assoc old (slot_if (used i) i) rest ∙ ap (λ (t : List ℕ). old ++ t) (sym (next_slot used i c.loop-slot-test.true)) ∙ c.loop-slot.invariant
+    let piece : string_bytes c.push_str.new.self ≡ old
+    ++ slot_if (used i) i = c.in_ok-push_str.ensures.bytes ∙ ap (λ (t : List ℕ). old ++ t) (c.as_str.ensures.value ∙ c.in_ok-slot_if.ensures) in
+    ap (λ (t : List ℕ). t ++ rest) piece
+    ∙ append_assoc old (slot_if (used i) i) rest ∙ ap (λ (t : List ℕ). old ++ t) (sym (next_slot used i c.loop-slot-test.true)) ∙ c.loop-slot.invariant
 
 pub returns : goal.returns
 returns c =

@@ -3,4 +3,5 @@ use Rattle.fk_show.specs.Shown.{slots_from}
 use Rattle.fk_show.proofs.text.outs_line.Given as goal
 
 abbrev pub invariant-loop-slot : goal.invariant-loop-slot
-invariant-loop-slot l = string_bytes l.text ++ slots_from (λ slot. get_or l.used slot false) (240 - l.slot) l.slot ≡ codes "outs" ++ slots_from (λ slot. get_or l.used slot false) 240 0
+invariant-loop-slot l = string_bytes l.text
+    ++ slots_from (λ slot. get_or l.used slot false) (240 - l.slot) l.slot ≡ codes "outs" ++ slots_from (λ slot. get_or l.used slot false) 240 0
