@@ -10,3 +10,4 @@ pub mod Renames
 pub mod Deaths
 pub mod Calls
 pub mod Gifts
+pub mod GivenPages

@@ -20,9 +20,16 @@ pub fn a_taken_page_keeps_the_cut()
     ensures { StageKeepsCut IsPageTake }
 {}
 
-/// A thread inside that gives a space a page does so in the subtree by itself.
-pub fn a_given_page_inside_keeps_the_cut()
-    ensures { StageInsideKeepsCut IsPageGive }
+/// A thread that gives a space a page: inside, the subtree does so by itself; outside, the subtree sees that a space of it is given
+/// a page, or sees nothing of it, or no law speaks of it.
+pub fn a_given_page_keeps_the_cut()
+    ensures { StageKeepsCut IsPageGive }
+{}
+
+/// A porter that gives a space a page: the subtree sees that a space of it is given a page, or sees nothing of it, or no law speaks
+/// of it.
+pub fn a_page_given_by_a_porter_keeps_the_cut()
+    ensures { CallKeepsCut IsPageGive }
 {}
 
 /// A thread that signals a condition, whomever it wakes: inside, the subtree does so by itself; outside, it sees nothing of it, or

@@ -111,7 +111,7 @@ thread-body None t h = cc
 thread-body (Some b) t h = ap (λ b. Some b) (body-thread_of b t h)
 
 -- a thread lies in a space
-thread-caller : (w : World) → IsConsistent w → (c : Caller) (t : Thread) → and_then thread_of (w.body (path_of c)) ≡ Some t → IsCaller w c
+pub thread-caller : (w : World) → IsConsistent w → (c : Caller) (t : Thread) → and_then thread_of (w.body (path_of c)) ≡ Some t → IsCaller w c
 thread-caller w valid c t h =
     let there = thread-body _ t h in
     record { thread = kind-there w (path_of c) (Thread_of t) there; space = valid.parents c.slot c.space (rw there refl) }

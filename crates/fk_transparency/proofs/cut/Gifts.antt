@@ -10,7 +10,7 @@ use Rattle.fk_model.specs.World.{World}
 use Rattle.fk_model.specs.World.Change.{PutPage}
 use Rattle.fk_model.specs.Reach.{words_at}
 use Rattle.fk_model.specs.Holds.{is_frozen_for}
-use Rattle.fk_model.specs.Outcomes.{refuse, path_of}
+use Rattle.fk_model.specs.Outcomes.{refuse, Caller, path_of}
 use Rattle.fk_model.specs.Readers.{space_argument, own_page}
 use Rattle.fk_model.specs.LinkRows.{user_at}
 use Rattle.fk_model.specs.SpaceRows.{is_page, is_bad_source, gives_page, page_give}
@@ -23,21 +23,23 @@ use Rattle.fk_transparency.proofs.cut.Inside.{Quiet, quiet->>=, quiet-done, stag
 use Rattle.fk_transparency.proofs.cut.Rows.{quiet-own_page}
 use Rattle.fk_transparency.proofs.rebinding.Rebound.{own_rebinds}
 
-quiet-gives : (root : Path) (w : World) (x space : Path) (page : ℕ) (words : List ℕ) → Quiet root (gives_page w (user_at x) space page words)
-quiet-gives root w x space page words =
-    quiet->>= root (refuse status.OCCUPIED (is_some (w.page space page))) _ (λ empty. quiet-done root (user_at x) (PutPage space page words ∷ []) [] (tt, tt))
+quiet-gives : (root : Path) (w : World) (c : Caller) (space : Path) (page : ℕ) (words : List ℕ) → Quiet root (gives_page w c space page words)
+quiet-gives root w c space page words =
+    quiet->>= root (refuse status.OCCUPIED (is_some (w.page space page))) _ (λ empty. quiet-done root c (PutPage space page words ∷ []) [] (tt, tt))
 
-quiet-page_give : (root : Path) (w : World) (x : Path) (s page address : ℕ) → Quiet root (page_give w (user_at x) s page address)
+pub quiet-page_give : (root : Path) (w : World) (c : Caller) (s page address : ℕ) → Quiet root (page_give w c s page address)
 unfolding page_give
-quiet-page_give root w x s page address =
-    quiet->>= root (space_argument w (user_at x) s) _ (λ space. quiet->>= root (refuse status.HELD (is_frozen_for w (path_of (user_at x)) space))
-    _ (λ free. quiet->>= root (refuse status.BADADDRESS (not (is_page page) || is_bad_source (user_at x) address))
-    _ (λ good. by space (eqb address ZEROS))))
+quiet-page_give root w c s page address =
+    quiet->>= root (space_argument w c s) _ (λ space. quiet->>= root (refuse status.HELD (is_frozen_for w (path_of c) space))
+    _ (λ free. quiet->>= root (refuse status.BADADDRESS (not (is_page page) || is_bad_source c address))
+    _ (λ good. by space c.is_porter (eqb address ZEROS))))
   where
-    by : (space : Path) (b : Bool) → Quiet root (cond b (gives_page w (user_at x) space page (replicate PAGE_WORDS 0))
-        (own_page w (user_at x) address false (λ s own. gives_page w (user_at x) space page (words_at w s own))))
-    by space true = quiet-gives root w x space page (replicate PAGE_WORDS 0)
-    by space false = quiet-own_page root w (user_at x) address false _ (λ s own. quiet-gives root w x space page (words_at w s own))
+    by : (space : Path) (porter b : Bool) →
+        Quiet root (cond porter (gives_page w c space page c.words) (cond b (gives_page w c space page (replicate PAGE_WORDS 0))
+        (own_page w c address false (λ s own. gives_page w c space page (words_at w s own)))))
+    by space true b = quiet-gives root w c space page c.words
+    by space false true = quiet-gives root w c space page (replicate PAGE_WORDS 0)
+    by space false false = quiet-own_page root w c address false _ (λ s own. quiet-gives root w c space page (words_at w s own))
 
 pub page_give_keeps : StageInsideKeepsCut IsPageGive
 page_give_keeps = inside_stages IsPageGive law
@@ -47,11 +49,11 @@ page_give_keeps = inside_stages IsPageGive law
     law w nester slot plain k q pick stage such at =
         stage_inside w nester slot plain k q pick (PageGive such.0 such.1 such.2) (rw such.3 at at) (λ n c o. refl)
         (λ p e free. page_give-like (cut-like w nester slot plain) free k q such.0 such.1 such.2)
-        (quiet-page_give (slot ∷ nester) w (k ∷ (q ++ slot ∷ nester)) such.0 such.1 such.2)
+        (quiet-page_give (slot ∷ nester) w (user_at (k ∷ (q ++ slot ∷ nester))) such.0 such.1 such.2)
 
 pub page_give_rebinds : StageRebinds IsPageGive
 page_give_rebinds = own_rebinds IsPageGive (λ stage such. rw such.3 (record {
   silent = λ w n c o. refl;
-  quiet = λ w x pick. quiet-page_give [] w x such.0 such.1 such.2;
+  quiet = λ w x pick. quiet-page_give [] w (user_at x) such.0 such.1 such.2;
   alike = λ root see small big like free k q p pick. page_give-like like free k q such.0 such.1 such.2;
 }))

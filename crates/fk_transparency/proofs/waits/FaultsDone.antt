@@ -255,7 +255,7 @@ fault_done_call w nester slot x pick stage words such sound plain fit ready =
     let here : slot_of x ∷ parent x ≡ x = stands_in_slot w sound x is.0 is.1 in
     let law : KeepsCut w nester slot (record { mover = x; pick = pick; ask = asks.Call stages.FaultDone words }) =
     subst (λ (y : Path). is_within (slot ∷ nester) y ≡ false →
-        KeepsCut w nester slot (record { mover = y; pick = pick; ask = asks.Call stages.FaultDone words }))
+    KeepsCut w nester slot (record { mover = y; pick = pick; ask = asks.Call stages.FaultDone words }))
     here (λ off. porter_call w nester slot plain sound (slot_of x) (parent x) off pick words) (porter_outside w nester slot plain x is.0 is.1 is.2) in
     let same : KeepsCut w nester slot (record { mover = x; pick = pick; ask = asks.Call stage words }) = rw such law in
     same sound plain fit ready
