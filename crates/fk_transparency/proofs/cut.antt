@@ -11,3 +11,4 @@ pub mod Deaths
 pub mod Calls
 pub mod Gifts
 pub mod GivenPages
+pub mod PorterRows

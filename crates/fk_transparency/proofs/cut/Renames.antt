@@ -71,7 +71,7 @@ module _ (root : Path) (w : World) (a b : ℕ) where
   view-call x pick s = view-closed x _ (view-with_pick pick (rename w (user_at x) s a b) (view-rename x s))
 
 -- in a space, slots other than the root's lie inside together
-within_slot : (root space : Path) (j : ℕ) → same_path (j ∷ space) root ≡ false → is_within root (j ∷ space) ≡ is_within root space
+pub within_slot : (root space : Path) (j : ℕ) → same_path (j ∷ space) root ≡ false → is_within root (j ∷ space) ≡ is_within root space
 unfolding strip
 within_slot root space j e = rw e (by (strip root space))
   where
@@ -83,7 +83,7 @@ module _ (w : World) (nester : Path) (slot : ℕ) (plain : IsPlain w nester slot
   abbrev root : Path
   root = slot ∷ nester
 
-  full : (y : Path) → is_some (w.body y) ≡ false → same_path y root ≡ false
+  pub full : (y : Path) → is_some (w.body y) ≡ false → same_path y root ≡ false
   full y h = by (same_path y root) refl
     where
       by : (t : Bool) → same_path y root ≡ t → t ≡ false
@@ -91,7 +91,7 @@ module _ (w : World) (nester : Path) (slot : ℕ) (plain : IsPlain w nester slot
       by true e = let at = same_path_eq y root e in let here : is_some (w.body y) ≡ true = rw at (rw plain.root refl) in cc
 
   -- a world whose root is gone has another cut
-  gone : (v : World) → v.body root ≡ None → cut v nester slot ≡ cut w nester slot → ⊥
+  pub gone : (v : World) → v.body root ≡ None → cut v nester slot ≡ cut w nester slot → ⊥
   unfolding cut seen_by
   gone v none same =
       let was : is_some ((cut w nester slot).body []) ≡ true = rw plain.root refl in
