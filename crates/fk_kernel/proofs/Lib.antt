@@ -1,4 +1,1 @@
-pub mod BuiltCalls
-pub mod Doings
-pub mod Readiness
-pub mod Scans
+mod Scans

@@ -1,12 +1,16 @@
--- The calls that are built so far: the others are no calls yet, and answer BADCALL.
-use Rattle.std.specs.Prelude.{ℕ, Bool, ◌&&◌, nat_le, List, Option, None, if◌then◌else◌, slice_index}
-use Rattle.fk_model.specs.declared.stage.Stage.{Stage}
-use Rattle.fk_model.specs.Calls.{todo_of}
+-- The calls that are built. The others are no calls yet: the instruction `call` answers BADCALL for them.
+use Rattle.std.specs.Prelude.{ℕ, Bool, false, ◌==◌, List, [], ◌∷◌}
+use Rattle.std.specs.List.{list_any}
+use Rattle.fk_model.specs.Moves.{Known}
 
--- the mutex calls: lock, trylock and unlock
-abbrev pub is_built : ℕ → Bool
-is_built code = nat_le 21 code && nat_le code 23
+-- their codes
+abbrev pub built_codes : List ℕ
+built_codes =
+    21 ∷
+    22 ∷
+    23 ∷
+    []
 
--- the stages that the registers name, where their call is built
-abbrev pub built_todo : List ℕ → Option (List Stage)
-built_todo registers = if is_built (slice_index registers 0) then todo_of registers else None
+-- the moves that are built: those of users and porters that these calls make, and none of native servers
+abbrev pub built : Known
+built = record { calls = λ code. list_any (λ known. code == known) built_codes; servers = false }

@@ -6,7 +6,7 @@ use fk_model::{Stage, Todo};
 
 /// The code of a call of one stage.
 #[tactic(auto, unfolding(fk_model::specs::Calls::code_of))]
-fn code_of_stage(stage: &Stage) -> u64
+pub fn code_of_stage(stage: &Stage) -> u64
     ensures { result ≡ calls.code_of (stage.now ∷ []) }
 {
     match stage {

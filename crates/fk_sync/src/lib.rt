@@ -1,128 +1,63 @@
-//! Mutexes: the stages that lock, try to lock and unlock them.
+//! Mutexes and conditions: what their stages come to.
 //!
-//! It stands on `fk_store` and the definitions of `fk_model`. It promises that `ready` answers
-//! exactly whether the abstract machine is ready to make the stage of a calling thread, and that
-//! `take` makes of the store's world what the machine makes of it. None of it takes memory.
+//! It stands on `fk_plans`, and promises of each stage that its verdict stands for the outcome of
+//! the stage's row in the abstract machine, and can be carried out.
 #![tactic(auto)]
 
-ghost use Rattle.std.specs.Prelude.{◌≡◌, ◌≤◌, ◌↔◌, [], ◌∷◌, Some, None, Ok, OnOk, IsTrue};
-ghost use Rattle.fk_model.specs.declared.moves.Ask.TheVariants as asks;
-ghost use Rattle.fk_model.specs.declared.names.Kind.TheVariants as kinds;
-ghost use Rattle.fk_model.specs.Objects.{mutex_of};
-ghost use Rattle.fk_model.specs.LinkRows.{user_at};
-ghost use Rattle.fk_model.specs.Moves.{stage_row, IsReady, step};
-ghost use Rattle.fk_model.specs.Outcomes.Said.{Nothing};
-ghost use Rattle.fk_model.specs.Readers.{object_in};
-ghost use Rattle.fk_model.specs.Valid.{kind_there};
-ghost use Rattle.fk_store.specs.Moves.{picked_by};
-ghost use Rattle.fk_store.specs.Paths.{path, place};
-ghost use Rattle.fk_store.specs.Threads.{todo_at};
-ghost use Rattle.fk_store.specs.World.{world};
-ghost use Rattle.fk_sync.specs.Stages.{IsOfMutex};
-ghost use Rattle.fk_sync.specs.Verdicts.{outcome_by, SetsNear};
+ghost use Rattle.std.specs.Prelude.{◌≡◌, ◌≤◌, IfOk};
+ghost use Rattle.fk_model.specs.SyncRows as rows;
+ghost use Rattle.fk_plans.specs.Verdicts.{Judges, IsSureVerdict};
 
-use fk_model::limits::LAST_USER_SLOT;
-use fk_model::status::{BADHANDLE, NONE, NOTLOCKED, WRONGKIND};
-use fk_model::{Body, NoMemory, Said, Stage, Who};
+use fk_model::Who;
+use fk_model::status::{NONE, NOTLOCKED};
+use fk_plans::{Caller, Deed, Plan, Verdict, mutex_in};
 use fk_store::Store;
+use fk_threads::Answers;
 
-/// What a stage comes to.
-#[derive(Clone, Copy)]
-enum Verdict {
-    Refused(u8),
-    Waits,
-    Sets(Who, bool),
-}
-
-/// Whether the mutex in a slot of a user's own space is locked.
-#[tactic(auto, unfolding(fk_model::specs::Readers::object_in, fk_model::specs::Valid::kind_there))]
-fn is_locked(store: &Store, me: Who, m: u64) -> Result<bool, u8>
-    ensures locked { result ≡ object_in (world store.now) (user_at (place (path store.now) me)) mutex_of (path store.now me.space) m }
-    ensures slot { OnOk result (m ≤ LAST_USER_SLOT) }
-    ensures kind { OnOk result (kind_there (world store.now) (m ∷ path store.now me.space) ≡ Some kinds.Mutex) }
+/// The stage locks a mutex of the caller's space, or unlocks it, and is done.
+fn sets(caller: Caller, m: u64, locked: bool) -> Verdict
+    requires { m ≤ 255 }
+    ensures { result ≡ Verdict.Done (Plan.One (Deed.Locks (record { space = caller.who.space; slot = m }) locked)) Answers.Nothing }
 {
-    if m > LAST_USER_SLOT {
-        return Err(BADHANDLE);
-    }
     let mutex = Who {
-        space: me.space,
+        space: caller.who.space,
         slot: m as u8,
     };
-    match store.at(mutex) {
-        None => Err(BADHANDLE),
-        Some(Body::Mutex { locked }) => Ok(*locked),
-        Some(_) => Err(WRONGKIND),
-    }
+    Verdict::Done(Plan::One(Deed::Locks { mutex, locked }), Answers::Nothing)
 }
 
-/// What a stage of a free user comes to, where it picks nobody.
-#[tactic(auto, unfolding(fk_model::specs::SyncRows::mutex_lock, fk_model::specs::SyncRows::mutex_trylock, fk_model::specs::SyncRows::mutex_unlock))]
-fn judge(store: &Store, me: Who, stage: &Stage) -> Verdict
-    requires { IsOfMutex stage.now }
-    ensures row { outcome_by (path store.now) (place (path store.now) me) result ≡ stage_row (world store.now) (user_at (place (path store.now) me)) None stage.now }
-    ensures near { SetsNear (world store.now) (path store.now) me.space result }
+/// It waits while the mutex is locked.
+#[tactic(auto, unfolding(fk_model::specs::SyncRows::mutex_lock))]
+pub fn mutex_lock(store: &Store, caller: Caller, m: u64) -> Result<Verdict, u8>
+    ensures row { Judges store.now caller result (λ w c. rows.mutex_lock w c m) }
+    ensures sure { IfOk result IsSureVerdict }
 {
-    let m = match *stage {
-        Stage::MutexLock { m } | Stage::MutexTrylock { m } | Stage::MutexUnlock { m } => m,
-        _ => unreachable!(),
-    };
-    let locked = match is_locked(store, me, m) {
-        Ok(locked) => locked,
-        Err(status) => return Verdict::Refused(status),
-    };
-    let mutex = Who {
-        space: me.space,
-        slot: m as u8,
-    };
-    match *stage {
-        Stage::MutexLock { .. } if locked => Verdict::Waits,
-        Stage::MutexTrylock { .. } if locked => Verdict::Refused(NONE),
-        Stage::MutexUnlock { .. } if !locked => Verdict::Refused(NOTLOCKED),
-        _ => Verdict::Sets(mutex, !locked),
+    if mutex_in(store, caller, caller.who.space, m)? {
+        return Ok(Verdict::Waits);
     }
+    Ok(sets(caller, m, true))
 }
 
-/// Whether a thread that is in a call of this stage is ready to make it: it is free, picks nobody,
-/// and does not wait for a mutex.
-
-pub fn ready(store: &Store, me: Who, stage: &Stage, pick: Option<Who>) -> bool
-    requires stage { IsOfMutex stage.now }
-    requires calling { todo_at (world store.now) (place (path store.now) me) ≡ stage.now ∷ [] }
-    ensures { IsTrue result ↔ IsReady (world store.now) (place (path store.now) me) (picked_by (path store.now) pick) asks.Run }
+/// It is refused where the mutex is locked.
+#[tactic(auto, unfolding(fk_model::specs::SyncRows::mutex_trylock))]
+pub fn mutex_trylock(store: &Store, caller: Caller, m: u64) -> Result<Verdict, u8>
+    ensures row { Judges store.now caller result (λ w c. rows.mutex_trylock w c m) }
+    ensures sure { IfOk result IsSureVerdict }
 {
-    if !store.is_free(me) || pick.is_some() {
-        return false;
+    if mutex_in(store, caller, caller.who.space, m)? {
+        return Err(NONE);
     }
-    match judge(store, me, stage) {
-        Verdict::Waits => false,
-        _ => true,
-    }
+    Ok(sets(caller, m, true))
 }
 
-/// Makes the stage of a thread that is in a call of it, where it is ready. It tells nothing, and
-/// never lacks memory.
-pub fn take(
-    store: &mut Store,
-    me: Who,
-    stage: &Stage,
-    _words: &[u64; 64],
-    pick: Option<Who>,
-) -> Result<Said, NoMemory>
-    requires stage { IsOfMutex stage.now }
-    requires calling { todo_at (world store.old) (place (path store.old) me) ≡ stage.now ∷ [] }
-    requires ready { IsReady (world store.old) (place (path store.old) me) (picked_by (path store.old) pick) asks.Run }
-    ensures said { result ≡ Ok Said.Nothing }
-    ensures step { step (world store.old) (place (path store.old) me) (picked_by (path store.old) pick) asks.Run ≡ record { world = world store.new; said = Nothing } }
-    ensures kinds { kind_there (world store.new) ≡ kind_there (world store.old) }
-    ensures paths { path store.new ≡ path store.old }
+/// It is refused where the mutex isn't locked.
+#[tactic(auto, unfolding(fk_model::specs::SyncRows::mutex_unlock))]
+pub fn mutex_unlock(store: &Store, caller: Caller, m: u64) -> Result<Verdict, u8>
+    ensures row { Judges store.now caller result (λ w c. rows.mutex_unlock w c m) }
+    ensures sure { IfOk result IsSureVerdict }
 {
-    match judge(store, me, stage) {
-        Verdict::Refused(status) => store.end_call(me, status),
-        Verdict::Waits => {}
-        Verdict::Sets(mutex, locked) => {
-            store.set_locked(mutex, locked);
-            store.finish_call(me);
-        }
+    if !mutex_in(store, caller, caller.who.space, m)? {
+        return Err(NOTLOCKED);
     }
-    Ok(Said::Nothing)
+    Ok(sets(caller, m, false))
 }

@@ -1,125 +1,72 @@
-//! Instructions: one instruction of a running thread, over the pages of its space.
+//! Instructions: what one instruction of a running thread comes to, over the pages of its space.
 //!
-//! It stands on `fk_store`, `fk_isa` and `fk_stages`. It promises that `ready` answers exactly
-//! whether the abstract machine is ready to make the instruction, and that `take` makes of the
-//! store's world what the machine makes of it, while only the calls of `fk_stages` are built.
-//! `take_alone` does the same for a thread that has no kernel. None of it takes memory.
+//! It stands on `fk_plans`, `fk_isa` and `fk_stages`, and promises that its verdict stands for the
+//! outcome of the instruction in the abstract machine, where these calls are known, and can be
+//! carried out. `take_alone` makes the instruction of a thread that has no kernel.
 #![tactic(auto)]
 
-ghost use Rattle.std.specs.Prelude.{◌≡◌, ◌↔◌, true, None, IsTrue};
-ghost use Rattle.fk_model.specs.declared.moves.Ask.TheVariants as asks;
+ghost use Rattle.std.specs.Prelude.{◌≡◌, ℕ, List, true, false};
 ghost use Rattle.fk_model.specs.Moves.{stepped};
 ghost use Rattle.fk_model.specs.Outcomes.Said.{Nothing};
-ghost use Rattle.fk_model.specs.Valid.{kind_there};
 ghost use Rattle.fk_store.specs.Paths.{path, place};
+ghost use Rattle.fk_store.specs.Threads.{thread_at};
 ghost use Rattle.fk_store.specs.World.{world};
-ghost use Rattle.fk_user.specs.Built.{IsBuiltReady, built_step};
-ghost use Rattle.fk_user.specs.Effects.{outcome_by, IsEffect, is_allowed};
-ghost use Rattle.fk_user.specs.Known.{known_by, no_calls, is_running_at, run_at};
+ghost use Rattle.fk_plans.specs.Effects.{is_running};
+ghost use Rattle.fk_plans.specs.Plans.{caller_by};
+ghost use Rattle.fk_plans.specs.Verdicts.{outcome_by, IsVerdict, IsSureVerdict};
+ghost use Rattle.fk_user.specs.Effects.{outcome_at, IsInstruction};
+ghost use Rattle.fk_user.specs.Known.{known_by, no_calls, run_at};
 
 mod effect;
 
-use effect::{Effect, Known, effect_of};
-use fk_model::{Mode, Said, Thread, Who};
+pub use effect::Known;
+use effect::effect_of;
+use fk_model::{Mode, Thread, Who};
+use fk_plans::{Caller, Verdict, make_effect};
 use fk_store::Store;
 
-/// Whether nothing that an effect changes, or leads to, is frozen for a free thread.
-fn is_allowed(store: &Store, me: Who, effect: Effect) -> bool
-    ensures { result ≡ is_allowed store.now me effect }
-{
-    match effect {
-        Effect::Puts { .. } | Effect::Jumps { .. } | Effect::Halts { .. } | Effect::Enters => true,
-        Effect::Stores { space, .. } => !store.space_frozen_for(me, space),
-        Effect::Faults { port, .. } => !store.frozen_for(me, port),
-    }
-}
-
-/// Makes an effect of a thread.
-#[tactic(auto, unfolding(fk_model::specs::World::apply_all))]
-fn apply(store: &mut Store, me: Who, thread: &Thread, effect: Effect)
-    requires { IsEffect store.old effect }
-    ensures step { stepped (world store.old) (outcome_by store.old me thread.now effect) ≡ record { world = world store.new; said = Nothing } }
-    ensures kinds { kind_there (world store.new) ≡ kind_there (world store.old) }
-    ensures paths { path store.new ≡ path store.old }
-{
-    let next = thread.pc.wrapping_add(1);
-    match effect {
-        Effect::Puts { register, value } => {
-            let mut registers = thread.regs;
-            registers[register as usize] = value;
-            store.proceed(me, &registers, next, Mode::Running);
-        }
-        Effect::Jumps { counter } => store.proceed(me, &thread.regs, counter, Mode::Running),
-        Effect::Halts { code } => {
-            store.proceed(me, &thread.regs, thread.pc, Mode::Halted(code));
-        }
-        Effect::Enters => store.proceed(me, &thread.regs, thread.pc, Mode::Calling),
-        Effect::Stores {
-            space,
-            page,
-            at,
-            value,
-        } => {
-            store.put_word(space, page, at, value);
-            store.proceed(me, &thread.regs, next, Mode::Running);
-        }
-        Effect::Faults { page, write, port } => store.raise(me, page, write, port),
-    }
-}
-
-/// Makes the instruction of a running thread, where these calls are known. What is no running
-/// thread stays as it is.
+/// What the instruction of a running thread comes to, where these calls are known.
 #[tactic(auto, unfolding(crate::specs::Known::run_at))]
-fn run(store: &mut Store, me: Who, known: Known)
-    ensures step { stepped (world store.old) (run_at (known_by known) (world store.old) (place (path store.old) me)) ≡ record { world = world store.new; said = Nothing } }
-    ensures kinds { kind_there (world store.new) ≡ kind_there (world store.old) }
-    ensures paths { path store.new ≡ path store.old }
+pub fn judge(store: &Store, caller: Caller, known: Known) -> Verdict
+    requires user { caller.is_porter ≡ false }
+    requires running { is_running (thread_at (world store.now) (place (path store.now) caller.who)) ≡ true }
+    ensures row { (words : List ℕ) → outcome_by (world store.now) (path store.now) (caller_by (path store.now) caller words) result ≡ run_at (known_by known) (world store.now) (place (path store.now) caller.who) }
+    ensures fits { IsVerdict store.now caller result }
+    ensures instruction { IsInstruction store.now result }
+    ensures sure { IsSureVerdict result }
 {
-    match store.thread(me) {
-        Some(&thread) => {
-            if let Mode::Running = thread.mode {
-                let effect = effect_of(store, me, &thread, known);
-                apply(store, me, &thread, effect);
-            }
-        }
-        None => {}
+    match store.thread(caller.who) {
+        Some(thread) => match thread.mode {
+            Mode::Running => effect_of(store, caller.who, thread, known),
+            _ => unreachable!(),
+        },
+        None => unreachable!(),
     }
-}
-
-/// Whether a running thread is ready to make its instruction: it is free, and nothing that the
-/// instruction changes, or leads to, is frozen.
-pub fn ready(store: &Store, me: Who) -> bool
-    requires { is_running_at (world store.now) (place (path store.now) me) ≡ true }
-    ensures { IsTrue result ↔ IsBuiltReady (world store.now) (place (path store.now) me) None asks.Run }
-{
-    if !store.is_free(me) {
-        return false;
-    }
-    match store.thread(me) {
-        Some(thread) => is_allowed(store, me, effect_of(store, me, thread, Known::Built)),
-        None => false,
-    }
-}
-
-/// Makes the instruction of a running thread, which is ready. It tells nothing.
-pub fn take(store: &mut Store, me: Who) -> Said
-    requires running { is_running_at (world store.old) (place (path store.old) me) ≡ true }
-    requires ready { IsBuiltReady (world store.old) (place (path store.old) me) None asks.Run }
-    ensures said { result ≡ Said.Nothing }
-    ensures step { built_step (world store.old) (place (path store.old) me) None asks.Run ≡ record { world = world store.new; said = Nothing } }
-    ensures kinds { kind_there (world store.new) ≡ kind_there (world store.old) }
-    ensures paths { path store.new ≡ path store.old }
-{
-    run(store, me, Known::Built);
-    Said::Nothing
 }
 
 /// Makes the instruction of a running thread that has no kernel: `call` answers that there is no
 /// such call. What is no running thread stays as it is.
+#[tactic(auto, unfolding(crate::specs::Known::run_at))]
 pub fn take_alone(store: &mut Store, me: Who)
     ensures step { stepped (world store.old) (run_at no_calls (world store.old) (place (path store.old) me)) ≡ record { world = world store.new; said = Nothing } }
-    ensures kinds { kind_there (world store.new) ≡ kind_there (world store.old) }
-    ensures paths { path store.new ≡ path store.old }
 {
-    run(store, me, Known::Nothing);
+    if let Some(&thread) = store.thread(me) {
+        if let Mode::Running = thread.mode {
+            let verdict = effect_of(store, me, &thread, Known::Nothing);
+            make(store, me, &thread, &verdict);
+        }
+    }
+}
+
+/// Makes what an instruction of a thread comes to.
+#[tactic(auto, unfolding(fk_model::specs::World::apply_all))]
+fn make(store: &mut Store, me: Who, thread: &Thread, verdict: &Verdict)
+    requires { IsInstruction store.old verdict.now }
+    ensures step { stepped (world store.old) (outcome_at store.old me thread.now verdict.now) ≡ record { world = world store.new; said = Nothing } }
+{
+    match verdict {
+        Verdict::Runs(effect) => make_effect(store, me, thread, *effect),
+        Verdict::Faults { page, write, port } => store.raise(me, *page, *write, *port),
+        _ => unreachable!(),
+    }
 }

@@ -1,0 +1,54 @@
+-- Built calls: the first stage of each has a judge.
+use Rattle.std.proofs.Common.{◌≡◌, ℕ, Bool, true, false, cond, eqb, List, [], ◌∷◌, Option, Some, None, slice_index, refl, sym, ap, subst, ◌∙◌}
+use Rattle.std.proofs.lemmas.Bool.{eqb-true}
+use Rattle.std.proofs.lemmas.Option.{same_Some}
+use Rattle.fk_model.specs.declared.stage.Stage.{Stage}
+use Rattle.fk_model.specs.declared.stage.Stage.TheVariants.{MutexLock, MutexTrylock, MutexUnlock}
+use Rattle.fk_model.specs.Calls.{Call, calls, code_of, named_by, todo_of}
+use Rattle.fk_model.specs.Moves.{todo_known}
+use Rattle.fk_stages.specs.Built.{built}
+use Rattle.fk_calls.specs.Rows.{IsRow}
+
+abbrev IsFirstRow : List Stage → Type 0
+IsFirstRow [] = ⊥
+IsFirstRow (stage ∷ todo) = IsRow stage
+
+-- the first stage of a call that is built
+abbrev IsJudgedCall : Call → Type 0
+IsJudgedCall c = cond (built.calls c.code) ((g : List ℕ) → IsFirstRow (c.todo g)) (Unit {0})
+
+abbrev Each : (Call → Type 0) → List Call → Type 0
+Each P [] = Unit {0}
+Each P (c ∷ cs) = P c × Each P cs
+
+each_judged : Each IsJudgedCall calls
+each_judged = assumption
+
+found : (cs : List Call) (g : List ℕ) (todo : List Stage) → Each IsJudgedCall cs → built.calls (slice_index g 0) ≡ true → named_by cs (slice_index g 0) g ≡ Some todo → IsFirstRow todo
+found [] g todo each is named = absurd (cc)
+found (c ∷ cs) g todo each is named = by (eqb (slice_index g 0) c.code) refl (found cs g todo each.1 is) named
+  where
+    at : (b : Bool) → b ≡ true → cond b ((g : List ℕ) → IsFirstRow (c.todo g)) (Unit {0}) → IsFirstRow (c.todo g)
+    at true on h = h g
+    at false on h = absurd (cc)
+
+    by : (b : Bool) → eqb (slice_index g 0) c.code ≡ b → (named_by cs (slice_index g 0) g ≡ Some todo → IsFirstRow todo) → cond b (Some (c.todo g)) (named_by cs (slice_index g 0) g) ≡ Some todo → IsFirstRow todo
+    by true same later named = subst IsFirstRow (same_Some _ _ named) (at (built.calls c.code) (ap built.calls (sym (eqb-true _ _ same)) ∙ is) each.0)
+    by false same later named = later named
+
+-- a stage that registers name in a call that is built
+pub row_named : (g : List ℕ) (stage : Stage) (todo : List Stage) → todo_known built g ≡ Some (stage ∷ todo) → IsRow stage
+unfolding todo_of
+row_named g stage todo is = by (built.calls (slice_index g 0)) refl is
+  where
+    by : (b : Bool) → built.calls (slice_index g 0) ≡ b → cond b (todo_of g) None ≡ Some (stage ∷ todo) → IsRow stage
+    by true e is = found calls g (stage ∷ todo) each_judged e is
+    by false e is = absurd (cc)
+
+-- and one that a porter may ask for
+pub row_built : (stage : Stage) → built.calls (code_of (stage ∷ [])) ≡ true → IsRow stage
+unfolding code_of
+row_built (MutexLock m) is = tt
+row_built (MutexTrylock m) is = tt
+row_built (MutexUnlock m) is = tt
+row_built other is = absurd (cc)

@@ -1,0 +1,3 @@
+pub mod BuiltCalls
+pub mod Doings
+pub mod Judged

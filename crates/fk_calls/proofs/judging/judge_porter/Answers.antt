@@ -1,0 +1,21 @@
+use Rattle.std.proofs.Common.{◌≡◌, true, false, sym, subst, ◌∙◌}
+use Rattle.fk_model.specs.declared.moves.Ask.TheVariants as asks
+use Rattle.fk_calls.specs.declared.judging.Judgement.{Judgement}
+use Rattle.fk_calls.specs.Judgements.{IsJudged}
+use Rattle.fk_calls.proofs.BuiltCalls.{row_built}
+use Rattle.fk_calls.proofs.Judged.{porter, held_porter, unbuilt_porter, porter_judged}
+use Rattle.fk_calls.proofs.judging.judge_porter.Goals as goal
+
+pub returns-then-not-is_free_porter-clause-never : goal.returns-then-not-is_free_porter-clause-never
+returns-then-not-is_free_porter-clause-never c = held_porter _ _ _ _ _ _ (cc)
+
+pub returns-then-not-is_built-clause-never : goal.returns-then-not-is_built-clause-never
+returns-then-not-is_built-clause-never c = unbuilt_porter _ _ _ _ _ _ (cc) (cc)
+
+pub judge-requires : goal.judge-requires
+judge-requires c = row_built _ (cc)
+
+pub returns-clause-judged : goal.returns-clause-judged
+returns-clause-judged c =
+    subst (λ chosen. IsJudged c.args.store.now c.args.m.now (asks.Call c.args.stage.now c.args.words.now) (record { caller = porter c.args.m.now.who; chooses = chosen; verdict = c.judge.result })) (sym c.chooses.ensures)
+    (porter_judged c.args.store.now c.args.m.now c.args.stage.now c.args.words.now c.judge.result (cc) (cc) (c.judge.ensures.row c.args.words.now) c.judge.ensures.fits c.judge.ensures.sure)

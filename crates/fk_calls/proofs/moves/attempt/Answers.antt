@@ -1,0 +1,16 @@
+use Rattle.std.proofs.Common.{◌≡◌, refl, ◌∙◌}
+use Rattle.fk_calls.specs.Judgements.{words_of}
+use Rattle.fk_calls.proofs.Judged.{ready_judged, step_judged, never_ready, free_there}
+use Rattle.fk_calls.proofs.moves.attempt.Goals as goal
+
+pub is_ready-requires-clause-free : goal.is_ready-requires-clause-free
+is_ready-requires-clause-free c user = rw c.in-Some.ensures.judged.mover (c.in-Some.ensures.judged.free user)
+
+pub carry_out-requires-clause-live : goal.carry_out-requires-clause-live
+carry_out-requires-clause-live c user = rw c.in-Some.ensures.judged.mover (free_there _ _ (c.in-Some.ensures.judged.free user))
+
+pub returns-clause-made : goal.returns-clause-made
+returns-clause-made c =
+    let judged = c.in-Some.ensures.judged in
+    let ready = (ready_judged c.args.store.now c.args.m.now c.args.ask.now c.in-Some.j _ judged (c.is_ready.ensures (words_of c.args.ask.now))).0 (cc) in
+    (ready, step_judged c.args.store.now c.args.m.now c.args.ask.now c.in-Some.j judged ready ∙ c.in_ok-carry_out.ensures.step (words_of c.args.ask.now))

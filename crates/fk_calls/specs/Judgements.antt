@@ -1,0 +1,44 @@
+-- Judgements: the move that a judgement stands for.
+use Rattle.std.specs.Prelude.{◌≡◌, ℕ, Bool, true, false, List, [], Option, ⊤}
+use Rattle.fk_model.specs.declared.moves.Ask.{Ask}
+use Rattle.fk_model.specs.declared.moves.Ask.TheVariants as asks
+use Rattle.fk_model.specs.declared.moves.Move.{Move}
+use Rattle.fk_model.specs.declared.moves.Said.{Said}
+use Rattle.fk_model.specs.Moves.{known_outcome, known_step, IsKnownReady}
+use Rattle.fk_model.specs.Outcomes.{Outcome}
+use Rattle.fk_model.specs.Places.{Path}
+use Rattle.fk_stages.specs.Built.{built}
+use Rattle.fk_store.specs.Contents.{Contents}
+use Rattle.fk_store.specs.Moves.{picked_by, said_by}
+use Rattle.fk_store.specs.Paths.{path, place}
+use Rattle.fk_store.specs.Threads.{is_free_at}
+use Rattle.fk_store.specs.World.{world}
+use Rattle.fk_plans.specs.Verdicts.{IsVerdict, IsSureVerdict, move_by}
+use Rattle.fk_calls.specs.declared.judging.Judgement.{Judgement}
+
+-- the words that a porter gives; a user gives none
+abbrev pub words_of : Ask → List ℕ
+words_of (asks.Call stage words) = words
+words_of other = []
+
+-- what a move comes to in the machine of what is built
+abbrev pub outcome_of : Contents → Move → Ask → Outcome
+outcome_of m move ask = known_outcome built (world m) (place (path m) move.who) (picked_by (path m) move.pick) ask
+
+-- the move of a free user or porter comes to what this judgement says, which can be carried out and takes no memory
+pub record IsJudged (m : Contents) (move : Move) (ask : Ask) (j : Judgement) : Type 0 where
+  pub mover : j.caller.who ≡ move.who
+  pub free : j.caller.is_porter ≡ false → is_free_at (world m) (place (path m) move.who) ≡ true
+  pub outcome : outcome_of m move ask ≡ move_by m j.caller (words_of ask) j.chooses move.pick j.verdict
+  pub fits : IsVerdict m j.caller j.verdict
+  pub sure : IsSureVerdict j.verdict
+
+-- ---- what a caller reads
+
+-- a move is ready in the machine of what is built
+abbrev pub IsReadyMove : Contents → Move → Ask → Type 0
+IsReadyMove m move ask = IsKnownReady built (world m) (place (path m) move.who) (picked_by (path m) move.pick) ask
+
+-- the machine's step by a move leads to what a store holds, and tells this
+abbrev pub IsStepTo : Contents → Move → Ask → Contents → Said → Type 0
+IsStepTo m move ask n said = known_step built (world m) (place (path m) move.who) (picked_by (path m) move.pick) ask ≡ record { world = world n; said = said_by (path n) said }

@@ -1,0 +1,66 @@
+//! What a thread does next.
+ghost use Rattle.std.specs.Prelude.{◌≡◌};
+ghost use Rattle.fk_model.specs.Moves.{todo_known};
+ghost use Rattle.fk_stages.specs.Built.{built};
+ghost use Rattle.fk_store.specs.Paths.{path, place};
+ghost use Rattle.fk_store.specs.World.{world};
+ghost use Rattle.fk_calls.specs.Doings.{IsDoing, is_free_porter_at, first_of};
+
+use fk_model::{Mode, Stage, Todo, Who};
+use fk_stages::todo;
+use fk_store::Store;
+
+/// What a user thread does next.
+#[derive(Clone, Copy)]
+pub enum Doing {
+    /// One instruction.
+    Instruction,
+    /// This stage, the first of its call.
+    Stage(Stage),
+    /// It doesn't move: it is no user, or has halted, or is in a call that isn't built.
+    Nothing,
+}
+
+/// What the thread in a slot does next.
+pub fn doing_of(store: &Store, who: Who) -> Doing
+    ensures { IsDoing (world store.now) (place (path store.now) who) result }
+{
+    let thread = match store.thread(who) {
+        Some(thread) => thread,
+        None => return Doing::Nothing,
+    };
+    match thread.mode {
+        Mode::Running => Doing::Instruction,
+        Mode::Calling => match first_stage(&thread.regs) {
+            Some(stage) => Doing::Stage(stage),
+            None => Doing::Nothing,
+        },
+        Mode::Halted(_) | Mode::Native => Doing::Nothing,
+    }
+}
+
+/// The first stage of the call that the registers name, if it is built.
+fn first_stage(registers: &[u64; 16]) -> Option<Stage>
+    ensures { first_of (todo_known built registers.now) ≡ result }
+{
+    match todo(registers)? {
+        Todo::One(stage)
+        | Todo::Two(stage, _)
+        | Todo::Three(stage, _, _)
+        | Todo::Four(stage, _, _, _) => Some(stage),
+    }
+}
+
+/// A porter whose space isn't held is in the slot.
+#[tactic(auto, unfolding(crate::specs::Doings::is_free_porter_at))]
+pub fn is_free_porter(store: &Store, who: Who) -> bool
+    ensures { result ≡ is_free_porter_at (world store.now) (place (path store.now) who) }
+{
+    match store.thread(who) {
+        None => false,
+        Some(thread) => match thread.mode {
+            Mode::Native => !store.is_frozen(who.space),
+            Mode::Running | Mode::Calling | Mode::Halted(_) => false,
+        },
+    }
+}

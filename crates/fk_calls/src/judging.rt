@@ -1,0 +1,83 @@
+//! What a move comes to.
+ghost use Rattle.std.specs.Prelude.{◌≡◌, IfSome, IfNone};
+ghost use Rattle.fk_model.specs.declared.moves.Ask.TheVariants as asks;
+ghost use Rattle.fk_model.specs.Outcomes.Outcome.{Waits};
+ghost use Rattle.fk_calls.specs.Judgements.{IsJudged, outcome_of};
+
+use crate::doing::{Doing, doing_of, is_free_porter};
+use crate::rows;
+use fk_model::{Ask, Move, Stage};
+use fk_plans::{Caller, Verdict};
+use fk_stages::is_built;
+use fk_store::Store;
+use fk_user::Known;
+
+/// Who moves, whether its stage may pick, and what the move comes to.
+#[derive(Clone, Copy)]
+pub struct Judgement {
+    pub caller: Caller,
+    pub chooses: bool,
+    pub verdict: Verdict,
+}
+
+/// What a move comes to; none where it is never ready. Servers don't move as yet.
+#[tactic(auto, unfolding(fk_model::specs::Moves::known_outcome))]
+pub fn judge(store: &Store, m: &Move, ask: &Ask) -> Option<Judgement>
+    ensures judged { IfSome result (λ judgement. IsJudged store.now m.now ask.now judgement) }
+    ensures never { IfNone result (outcome_of store.now m.now ask.now ≡ Waits) }
+{
+    match ask {
+        Ask::Run => judge_user(store, m),
+        Ask::Call { stage, words } => judge_porter(store, m, stage, words),
+        Ask::Accept | Ask::Give { .. } | Ask::Over => None,
+    }
+}
+
+/// What the move of a user comes to.
+fn judge_user(store: &Store, m: &Move) -> Option<Judgement>
+    ensures judged { IfSome result (λ judgement. IsJudged store.now m.now asks.Run judgement) }
+    ensures never { IfNone result (outcome_of store.now m.now asks.Run ≡ Waits) }
+{
+    if !store.is_free(m.who) {
+        return None;
+    }
+    let caller = Caller {
+        who: m.who,
+        is_porter: false,
+    };
+    match doing_of(store, m.who) {
+        Doing::Instruction => Some(Judgement {
+            caller,
+            chooses: false,
+            verdict: fk_user::judge(store, caller, Known::Built),
+        }),
+        Doing::Stage(stage) => Some(Judgement {
+            caller,
+            chooses: rows::chooses(&stage),
+            verdict: rows::judge(store, caller, &stage, m.pick),
+        }),
+        Doing::Nothing => None,
+    }
+}
+
+/// What a stage that a porter asks for comes to.
+fn judge_porter(store: &Store, m: &Move, stage: &Stage, words: &[u64; 64]) -> Option<Judgement>
+    ensures judged { IfSome result (λ judgement. IsJudged store.now m.now (asks.Call stage.now words.now) judgement) }
+    ensures never { IfNone result (outcome_of store.now m.now (asks.Call stage.now words.now) ≡ Waits) }
+{
+    if !is_free_porter(store, m.who) {
+        return None;
+    }
+    if !is_built(stage) {
+        return None;
+    }
+    let caller = Caller {
+        who: m.who,
+        is_porter: true,
+    };
+    Some(Judgement {
+        caller,
+        chooses: rows::chooses(stage),
+        verdict: rows::judge(store, caller, stage, m.pick),
+    })
+}

@@ -1,0 +1,15 @@
+//! Calls: which move of a user or a porter is ready, and making it.
+//!
+//! It stands on the crates of rows, each of which judges stages, on `fk_user`, which judges
+//! instructions, and on `fk_plans`, which says when a verdict is ready and carries it out. Here is
+//! the one match from a stage to its judge. It promises that `ready` answers exactly whether the
+//! abstract machine of the calls that are built is ready to make a move, that `take` makes of the
+//! store's world what the machine makes of it, and that `attempt` does both, judging once.
+#![tactic(auto)]
+
+mod doing;
+mod judging;
+mod moves;
+mod rows;
+
+pub use moves::{attempt, ready, take};

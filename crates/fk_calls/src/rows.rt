@@ -1,0 +1,68 @@
+//! The match from a stage to its judge.
+ghost use Rattle.std.specs.Prelude.{◌≡◌, ℕ, List, IfOk};
+ghost use Rattle.fk_model.specs.Moves as machine;
+ghost use Rattle.fk_model.specs.Moves.{allowed_row, stage_row};
+ghost use Rattle.fk_model.specs.Places.{Path};
+ghost use Rattle.fk_store.specs.Moves.{picked_by};
+ghost use Rattle.fk_store.specs.Paths.{path};
+ghost use Rattle.fk_store.specs.World.{world};
+ghost use Rattle.fk_plans.specs.Plans.{caller_by};
+ghost use Rattle.fk_plans.specs.Verdicts.{Judges, IsVerdict, IsSureVerdict, outcome_by};
+ghost use Rattle.fk_calls.specs.Rows.{IsRow};
+
+use fk_model::status::DENIED;
+use fk_model::{Stage, Who};
+use fk_plans::{Caller, Verdict};
+use fk_store::Store;
+use fk_sync::{mutex_lock, mutex_trylock, mutex_unlock};
+
+/// A stage that may pick whom it acts on.
+pub fn chooses(stage: &Stage) -> bool
+    ensures { result ≡ machine.chooses stage.now }
+{
+    matches!(stage, Stage::Wait { .. } | Stage::CondSignal { .. })
+}
+
+/// What a stage comes to, by its row.
+fn row(store: &Store, caller: Caller, stage: &Stage, pick: Option<Who>) -> Result<Verdict, u8>
+    requires { IsRow stage.now }
+    ensures row { Judges store.now caller result (λ w c. stage_row w c (picked_by (path store.now) pick) stage.now) }
+    ensures sure { IfOk result IsSureVerdict }
+{
+    match *stage {
+        Stage::MutexLock { m } => mutex_lock(store, caller, m),
+        Stage::MutexTrylock { m } => mutex_trylock(store, caller, m),
+        Stage::MutexUnlock { m } => mutex_unlock(store, caller, m),
+        _ => unreachable!(),
+    }
+}
+
+/// A stage that is for the other kind of caller: mutexes are for users alone.
+fn is_denied(caller: Caller, stage: &Stage) -> bool
+    requires { IsRow stage.now }
+    ensures { (p : ℕ → Path) (words : List ℕ) → result ≡ machine.is_denied (caller_by p caller words) stage.now }
+{
+    match stage {
+        Stage::MutexLock { .. } | Stage::MutexTrylock { .. } | Stage::MutexUnlock { .. } => {
+            caller.is_porter
+        }
+        _ => unreachable!(),
+    }
+}
+
+/// What a stage comes to. One for the other kind of caller is denied.
+pub fn judge(store: &Store, caller: Caller, stage: &Stage, pick: Option<Who>) -> Verdict
+    requires { IsRow stage.now }
+    ensures row { (words : List ℕ) → outcome_by (world store.now) (path store.now) (caller_by (path store.now) caller words) result
+        ≡ allowed_row (world store.now) (caller_by (path store.now) caller words) (picked_by (path store.now) pick) stage.now }
+    ensures fits { IsVerdict store.now caller result }
+    ensures sure { IsSureVerdict result }
+{
+    if is_denied(caller, stage) {
+        return Verdict::Refused(DENIED);
+    }
+    match row(store, caller, stage, pick) {
+        Ok(verdict) => verdict,
+        Err(status) => Verdict::Refused(status),
+    }
+}

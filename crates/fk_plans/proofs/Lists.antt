@@ -1,0 +1,19 @@
+-- Kept: lists of changes.
+use Rattle.std.proofs.Common.{◌≡◌, ℕ, List, [], ◌∷◌, ◌++◌, length, take, zero, suc, refl, ap, arith}
+use Rattle.fk_model.specs.World.{World, Change, apply, apply_all}
+
+-- the caller's own part comes last
+pub own_last : (cs : List Change) (c : Change) (w : World) → apply_all (cs ++ c ∷ []) w ≡ apply c (apply_all cs w)
+unfolding apply_all
+own_last [] c w = refl
+own_last (d ∷ cs) c w = own_last cs c (apply d w)
+
+none_taken : (n : ℕ) → take {A = ℕ} n [] ≡ []
+none_taken zero = refl
+none_taken (suc n) = refl
+
+-- all of a list
+pub all_taken : (n : ℕ) (ws : List ℕ) → length ws ≡ n → take n ws ≡ ws
+all_taken n [] long = none_taken n
+all_taken zero (w ∷ ws) long = absurd (omega arith)
+all_taken (suc n) (w ∷ ws) long = ap (λ v. w ∷ v) (all_taken n ws (omega arith))

@@ -1,0 +1,277 @@
+-- Ready: when the freezing rule and the picks let a verdict be.
+use Rattle.std.proofs.Common.{◌≡◌, ℕ, Bool, true, false, not, ◌&&◌, ◌||◌, ◌==◌, ◌↔◌, IsTrue, is_none, List, [], ◌∷◌, ◌++◌, Option, Some, None, IsSome, cond, eqb, slice_set, refl, sym, ap, subst}
+use Rattle.std.specs.List.{list_any}
+use Rattle.fk_model.specs.declared.names.Who.{Who}
+use Rattle.fk_model.specs.Places.{Path, Ptr}
+use Rattle.fk_model.specs.Places.Ptr.{At}
+use Rattle.fk_model.specs.Objects.{Mode, Fault, Thread, Body, thread_of, and_then}
+use Rattle.fk_model.specs.Objects.Mode.{Running, Calling, Halted, Native}
+use Rattle.fk_model.specs.Objects.Body.{Mutex, Cond, Mapping, Region, Port, Portset, Space, Thread_of, Reference}
+use Rattle.fk_model.specs.World.{World, Change, Edit}
+use Rattle.fk_model.specs.World.Change.{Alter, Make, MakeSpace, PutPage}
+use Rattle.fk_model.specs.World.Edit.{SetFault, SetLocked, SetPointer, Proceed}
+use Rattle.fk_model.specs.Instructions.{next}
+use Rattle.fk_model.specs.Reach.{words_at}
+use Rattle.fk_model.specs.UserRows.{proceeds}
+use Rattle.fk_model.specs.ObjectRows.{new_object}
+use Rattle.fk_model.specs.Searches.{option_list, fault_pointers, pointers}
+use Rattle.fk_model.specs.Holds.{is_frozen, is_frozen_for, leads_to_frozen, is_free, is_user}
+use Rattle.fk_model.specs.Outcomes as outcomes
+use Rattle.fk_model.specs.Outcomes.{Outcome, when, done}
+use Rattle.fk_model.specs.Outcomes.Outcome.{Refused, Waits, Goes}
+use Rattle.fk_model.specs.Freezing.{changed_pointers, made_pointers, are_unfrozen, body_pointers, MayAlter, MayMake, IsAllowed, AreAllowed}
+use Rattle.fk_model.specs.Moves.{closed, with_pick, GoesAllowed}
+use Rattle.fk_store.specs.Contents.{Contents}
+use Rattle.fk_store.specs.Paths.{path, place}
+use Rattle.fk_store.specs.Bodies.{pointer_by}
+use Rattle.fk_threads.specs.Answers.{listed}
+use Rattle.fk_store.specs.Moves.{picked_by}
+use Rattle.fk_store.specs.Threads.{thread_at, is_free_at}
+use Rattle.fk_store.specs.World.{world}
+use Rattle.fk_store.proofs.Freedom.{free_thread, free_itself, may_alter, IsPlain}
+use Rattle.fk_plans.specs.declared.plan.Caller.{Caller}
+use Rattle.fk_plans.specs.declared.plan.Deed.{Deed}
+use Rattle.fk_plans.specs.declared.plan.Deed.TheVariants as deeds
+use Rattle.fk_plans.specs.declared.plan.Plan.{Plan}
+use Rattle.fk_plans.specs.declared.plan.Plan.TheVariants as plans
+use Rattle.fk_plans.specs.declared.plan.Verdict.{Verdict}
+use Rattle.fk_plans.specs.declared.plan.Verdict.TheVariants as verdicts
+use Rattle.fk_plans.specs.declared.plan.Effect.{Effect}
+use Rattle.fk_plans.specs.declared.plan.Effect.TheVariants as effects
+use Rattle.fk_plans.specs.Effects.{effect_by, in_running, of_running, is_running, is_running_mode}
+use Rattle.fk_plans.specs.Plans.{caller_by, change_by, changes_by, made, IsPlan}
+use Rattle.fk_plans.specs.Verdicts.{outcome_by, IsVerdict, move_by}
+use Rattle.fk_plans.specs.Allowed.{is_effect_allowed, is_deed_allowed, is_plan_allowed, is_verdict_allowed, may_pick}
+
+-- ---- tests and facts
+
+both_iff : {P Q : Type 0} (a b : Bool) → (IsTrue a ↔ P) → (IsTrue b ↔ Q) → IsTrue (a && b) ↔ (P × Q)
+both_iff true b p q = ((λ h. (p.0 refl, q.0 h)), (λ h. q.1 h.1))
+both_iff false b p q = ((λ h. absurd (cc)), (λ h. p.1 h.0))
+
+one_iff : {P : Type 0} (a : Bool) → (IsTrue a ↔ P) → IsTrue a ↔ (P × Unit {0})
+one_iff a p = ((λ h. (p.0 h, tt)), (λ h. p.1 h.0))
+
+not_iff : (b : Bool) → IsTrue (not b) ↔ (b ≡ false)
+not_iff true = ((λ h. absurd (cc)), (λ h. absurd (cc)))
+not_iff false = ((λ h. refl), (λ h. refl))
+
+-- ---- a deed
+
+plain_iff : (w : World) (me x : Path) (e : Edit) → IsPlain e → IsTrue (not (is_frozen_for w me x)) ↔ MayAlter w me x e
+plain_iff w me x e plain = let test = not_iff (is_frozen_for w me x) in ((λ h. may_alter w me x e plain (test.0 h)), (λ h. test.1 h.object))
+
+deed_iff : (w v : World) (me : Path) (p : ℕ → Path) (d : Deed) → IsTrue (is_deed_allowed w me p d) ↔ IsAllowed w me (change_by p d v)
+deed_iff w v me p (deeds.Locks mutex locked) = plain_iff w me (place p mutex) (SetLocked locked) (record { changed = λ b. refl; made = refl })
+deed_iff w v me p (deeds.Wakes thread mutex) = plain_iff w me (place p thread) _ (record { changed = λ b. refl; made = refl })
+
+on_if : (P : Option Change → Option Change → Type 0) (b : Bool) (t1 e1 t2 e2 : Option Change) → P t1 t2 → P e1 e2 → P (cond b t1 e1) (cond b t2 e2)
+on_if P true t1 e1 t2 e2 t e = t
+on_if P false t1 e1 t2 e2 t e = e
+
+Allows : World → Path → Path → Option Change → Option Change → Type 0
+Allows w me x o o2 = IsSome o → IsTrue (not (is_frozen_for w me x)) ↔ AreAllowed w me (made o2)
+
+-- of what leads nowhere that is frozen
+makes : (w : World) (me x : Path) (ps : List Ptr) → ((b : Bool) → MayMake w me x ps → is_frozen_for w me x ≡ false) → (is_frozen_for w me x ≡ false → MayMake w me x ps) → IsTrue (not (is_frozen_for w me x)) ↔ (MayMake w me x ps × Unit {0})
+makes w me x ps out into = by (is_frozen_for w me x) refl
+  where
+    by : (b : Bool) → is_frozen_for w me x ≡ b → IsTrue (not b) ↔ (MayMake w me x ps × Unit {0})
+    by true e = ((λ h. absurd (cc)), (λ h. let no = out true h.0 in absurd (cc)))
+    by false e = ((λ h. (into e, tt)), (λ h. refl))
+
+one : (w : World) (me x : Path) (body : Body) (o : Option Change) → (is_frozen_for w me x ≡ false → MayMake w me x (pointers body)) → Allows w me x o (Some (Make x body))
+unfolding Allows
+one w me x body o into some = makes w me x (pointers body) (λ b h. h.object) into
+
+space : (w : World) (me x : Path) (o : Option Change) → Allows w me x o (Some (MakeSpace x None))
+unfolding Allows
+space w me x o some = makes w me x [] (λ b h. h.object) (λ e. record { object = e; made = refl })
+
+none : (w : World) (me x : Path) → Allows w me x None None
+unfolding Allows
+none w me x some = absurd (cc)
+
+allows : (w : World) (me x y : Path) (kind : ℕ) → Allows w me x (new_object y kind) (new_object x kind)
+allows w me x y kind =
+    on_if (Allows w me x) (eqb kind 1) _ _ _ _ (one w me x _ _ (λ e. record { object = e; made = refl }))
+    (on_if (Allows w me x) (eqb kind 2) _ _ _ _ (one w me x _ _ (λ e. record { object = e; made = refl }))
+    (on_if (Allows w me x) (eqb kind 3) _ _ _ _ (one w me x _ _ (λ e. record { object = e; made = refl }))
+    (on_if (Allows w me x) (eqb kind 4) _ _ _ _ (one w me x _ _ (λ e. record { object = e; made = refl }))
+    (on_if (Allows w me x) (eqb kind 5) _ _ _ _ (one w me x _ _ (λ e. record { object = e; made = refl }))
+    (on_if (Allows w me x) (eqb kind 6) _ _ _ _ (one w me x _ _ (λ e. record { object = e; made = refl }))
+    (on_if (Allows w me x) (eqb kind 7) _ _ _ _ (space w me x _)
+    (on_if (Allows w me x) (eqb kind 8) _ _ _ _ (one w me x _ _ (λ e. record { object = e; made = refl }))
+    (on_if (Allows w me x) (eqb kind 9) _ _ _ _ (one w me x _ _ (λ e. record { object = e; made = refl }))
+    (none w me x)))))))))
+
+-- a new object leads nowhere
+making_iff : (w : World) (me x : Path) (kind : ℕ) → IsSome (new_object [] kind) → IsTrue (not (is_frozen_for w me x)) ↔ AreAllowed w me (made (new_object x kind))
+unfolding Allows
+making_iff w me x kind some = allows w me x [] kind some
+
+plan_iff : (w : World) (me : Path) (p : ℕ → Path) (plan : Plan) → IsPlan p w plan → IsTrue (is_plan_allowed w me p plan) ↔ AreAllowed w me (changes_by p plan w)
+plan_iff w me p plans.Nothing fits = ((λ h. tt), (λ h. refl))
+plan_iff w me p (plans.One a) fits = one_iff _ (deed_iff w _ me p a)
+plan_iff w me p (plans.Two a b) fits = both_iff _ _ (deed_iff w _ me p a) (one_iff _ (deed_iff w _ me p b))
+plan_iff w me p (plans.Three a b c) fits = both_iff _ _ (deed_iff w _ me p a) (both_iff _ _ (deed_iff w _ me p b) (one_iff _ (deed_iff w _ me p c)))
+plan_iff w me p (plans.Four a b c d) fits = both_iff _ _ (deed_iff w _ me p a) (both_iff _ _ (deed_iff w _ me p b) (both_iff _ _ (deed_iff w _ me p c) (one_iff _ (deed_iff w _ me p d))))
+plan_iff w me p (plans.Makes object kind) fits = making_iff w me (place p object) kind fits.2
+
+-- ---- the caller's own part
+
+with_own : (w : World) (me : Path) (c : Change) → IsAllowed w me c → (cs : List Change) → AreAllowed w me cs → AreAllowed w me (cs ++ c ∷ [])
+with_own w me c own [] h = (own, tt)
+with_own w me c own (d ∷ cs) h = (h.0, with_own w me c own cs h.1)
+
+without_own : (w : World) (me : Path) (c : Change) (cs : List Change) → AreAllowed w me (cs ++ c ∷ []) → AreAllowed w me cs
+without_own w me c [] h = tt
+without_own w me c (d ∷ cs) h = (h.0, without_own w me c cs h.1)
+
+own_iff : {P : Type 0} (w : World) (me : Path) (c : Change) (cs : List Change) → IsAllowed w me c → (P ↔ AreAllowed w me cs) → P ↔ AreAllowed w me (cs ++ c ∷ [])
+own_iff w me c cs own h = ((λ p. with_own w me c own cs (h.0 p)), (λ q. h.1 (without_own w me c cs q)))
+
+free-faultless : (w : World) (s : Path) (t : Thread) → is_free w s t ≡ true → t.fault ≡ None
+free-faultless w s t free = by (not (is_frozen w s) && t.stops == 0) t.fault (is_user t.mode) free
+  where
+    by : (a : Bool) (o : Option Fault) (c : Bool) → (a && is_none o && c) ≡ true → o ≡ None
+    by a None c free = refl
+    by true (Some f) c free = absurd (cc)
+    by false (Some f) c free = absurd (cc)
+
+fault_iff : (w : World) (k : ℕ) (s port : Path) (page : ℕ) (write : Bool) → is_free_at w (k ∷ s) ≡ true → IsTrue (not (is_frozen_for w (k ∷ s) port)) ↔ MayAlter w (k ∷ s) (k ∷ s) (SetFault (Some (record { page = page; write = write; port = At port; taker = None })))
+fault_iff w k s port page write free = by (is_frozen_for w (k ∷ s) port) refl
+  where
+    there : (o : Option Body) → and_then thread_of o ≡ Some (free_thread w k s free).0 → (f : Option Fault) → option_list (changed_pointers (SetFault f)) o ≡ []
+    there None is f = absurd (cc)
+    there (Some (Mutex locked)) is f = absurd (cc)
+    there (Some Cond) is f = absurd (cc)
+    there (Some (Mapping window)) is f = absurd (cc)
+    there (Some (Region extent)) is f = absurd (cc)
+    there (Some (Port set served)) is f = absurd (cc)
+    there (Some Portset) is f = absurd (cc)
+    there (Some (Space birth holder)) is f = absurd (cc)
+    there (Some (Thread_of t)) is f = let same : t ≡ (free_thread w k s free).0 = cc in rw (same, free-faultless w s _ (free_thread w k s free).2) refl
+    there (Some (Reference to)) is f = absurd (cc)
+
+    by : (b : Bool) → is_frozen_for w (k ∷ s) port ≡ b → IsTrue (not b) ↔ MayAlter w (k ∷ s) (k ∷ s) (SetFault (Some (record { page = page; write = write; port = At port; taker = None })))
+    by true e = ((λ h. absurd (cc)), (λ h. let no = rw e at h.made in absurd (cc)))
+    by false e = ((λ h. record { object = free_itself w k s free; changed = rw (there (w.body (k ∷ s)) (free_thread w k s free).1 _) refl; made = rw e refl }), (λ h. refl))
+
+-- ---- a verdict
+
+module _ (m : Contents) (c : Caller) (words : List ℕ) (free : c.is_porter ≡ false → is_free_at (world m) (place (path m) c.who) ≡ true) where
+  abbrev pub me : Path
+  me = place (path m) c.who
+
+  abbrev pub caller : outcomes.Caller
+  caller = caller_by (path m) c words
+
+  abbrev pub Goes_iff : Bool → Outcome → Type 0
+  Goes_iff b o = IsTrue b ↔ GoesAllowed (world m) me (closed caller o)
+
+  own : c.is_porter ≡ false → (e : Edit) → IsPlain e → MayAlter (world m) me me e
+  own user e plain = may_alter (world m) me me e plain (free_itself (world m) c.who.slot (path m c.who.space) (free user))
+
+  done_iff : (test : Bool) (cs : List Change) (answers : List ℕ) → (IsTrue test ↔ AreAllowed (world m) me cs) → Goes_iff test (done caller cs answers)
+  done_iff test cs answers h = by c.is_porter refl
+    where
+      by : (b : Bool) → c.is_porter ≡ b → Goes_iff test (done (record caller { is_porter = b }) cs answers)
+      by true e = h
+      by false e = own_iff (world m) me _ cs (own e _ (record { changed = λ b. refl; made = refl })) h
+
+  refused_iff : (status : ℕ) → Goes_iff true (Refused status)
+  refused_iff status = by c.is_porter refl
+    where
+      by : (b : Bool) → c.is_porter ≡ b → IsTrue true ↔ GoesAllowed (world m) me (closed (record caller { is_porter = b }) (Refused status))
+      by true e = ((λ h. tt), (λ h. refl))
+      by false e = ((λ h. (own e _ (record { changed = λ b. refl; made = refl }), tt)), (λ h. refl))
+
+  proceeds_iff : (user : c.is_porter ≡ false) (mode : Mode) (counter : ℕ) → Goes_iff true (proceeds me mode counter)
+  proceeds_iff user mode counter = ((λ h. (own user (Proceed mode counter) (record { changed = λ b. refl; made = refl }), tt)), (λ h. refl))
+
+  -- an instruction of a running thread
+  running_iff : (user : c.is_porter ≡ false) (e : Effect) (o : Option Thread) → is_running o ≡ true → Goes_iff (is_effect_allowed (world m) me (path m) e) (of_running (effect_by (world m) (path m) me e) o)
+  running_iff user e None running = absurd (cc)
+  running_iff user e (Some t) running = in_mode t.mode running
+    where
+      in_mode : (mode : Mode) → is_running_mode mode ≡ true → Goes_iff (is_effect_allowed (world m) me (path m) e) (in_running (effect_by (world m) (path m) me e) t.counter mode)
+      in_mode (Running g) running = by e
+        where
+          by : (e : Effect) → Goes_iff (is_effect_allowed (world m) me (path m) e) (effect_by (world m) (path m) me e g t.counter)
+          by (effects.Puts register value) = proceeds_iff user _ _
+          by (effects.Jumps to) = proceeds_iff user _ _
+          by (effects.Halts code) = proceeds_iff user _ _
+          by effects.Enters = proceeds_iff user _ _
+          by (effects.Stores space page at value) = own_iff (world m) me (Alter me (Proceed (Running g) (next t.counter))) (PutPage (path m space) page (slice_set (words_at (world m) (path m space) page) at value) ∷ []) (own user (Proceed (Running g) (next t.counter)) (record { changed = λ b. refl; made = refl })) (one_iff _ (not_iff (is_frozen_for (world m) me (path m space))))
+      in_mode (Calling todo rest) running = absurd (cc)
+      in_mode (Halted g code) running = absurd (cc)
+      in_mode (Native g) running = absurd (cc)
+
+  verdict_iff : (v : Verdict) → IsVerdict m c v → Goes_iff (is_verdict_allowed (world m) me (path m) v) (outcome_by (world m) (path m) caller v)
+  verdict_iff (verdicts.Runs e) fits = running_iff fits.0 e (thread_at (world m) me) fits.1
+  verdict_iff (verdicts.Refused status) fits = refused_iff status
+  verdict_iff verdicts.Waits fits = ((λ h. absurd (cc)), (λ h. absurd h))
+  verdict_iff (verdicts.Done plan answers) fits = done_iff _ _ _ (plan_iff (world m) me (path m) plan fits.0)
+  verdict_iff (verdicts.Shows plan space page) fits = done_iff _ _ _ (plan_iff (world m) me (path m) plan fits.2)
+  verdict_iff (verdicts.Goes plan) fits = plan_iff (world m) me (path m) plan fits
+  verdict_iff (verdicts.Faults page write port) fits = one_iff _ (fault_iff (world m) c.who.slot (path m c.who.space) (place (path m) port) page write (free fits.0))
+
+  -- ---- whom it picks
+
+  abbrev pub may_pick_so : Bool → Option Path → Outcome → Bool
+  may_pick_so chooses q (Refused status) = is_none q
+  may_pick_so chooses q Waits = true
+  may_pick_so chooses q (Goes changes said) = chooses || is_none q
+
+  guarded_iff : (may test : Bool) (o : Outcome) → Goes_iff test o → Goes_iff (may && test) (when may o)
+  guarded_iff true test o h = h
+  guarded_iff false test o h = ((λ h. absurd (cc)), (λ h. absurd h))
+
+  picked_iff : (chooses : Bool) (q : Option Path) (o : Outcome) (test : Bool) → Goes_iff test o → Goes_iff (may_pick_so chooses q o && test) (with_pick chooses q o)
+  picked_iff chooses q (Refused status) test h = guarded_iff (is_none q) test (Refused status) h
+  picked_iff chooses q Waits test h = h
+  picked_iff chooses q (Goes changes said) test h = guarded_iff (chooses || is_none q) test (Goes changes said) h
+
+  none_picked : (pick : Option Who) → is_none pick ≡ is_none (picked_by (path m) pick)
+  none_picked None = refl
+  none_picked (Some who) = refl
+
+  may_pick_done : (chooses : Bool) (pick : Option Who) (cs : List Change) (answers : List ℕ) → (chooses || is_none pick) ≡ may_pick_so chooses (picked_by (path m) pick) (done caller cs answers)
+  may_pick_done chooses pick cs answers = by c.is_porter
+    where
+      by : (b : Bool) → (chooses || is_none pick) ≡ may_pick_so chooses (picked_by (path m) pick) (done (record caller { is_porter = b }) cs answers)
+      by true = ap (λ b. chooses || b) (none_picked pick)
+      by false = ap (λ b. chooses || b) (none_picked pick)
+
+  running_pick : (chooses : Bool) (pick : Option Who) (e : Effect) (o : Option Thread) → is_running o ≡ true → (chooses || is_none pick) ≡ may_pick_so chooses (picked_by (path m) pick) (of_running (effect_by (world m) (path m) me e) o)
+  running_pick chooses pick e None running = absurd (cc)
+  running_pick chooses pick e (Some t) running = in_mode t.mode running
+    where
+      in_mode : (mode : Mode) → is_running_mode mode ≡ true → (chooses || is_none pick) ≡ may_pick_so chooses (picked_by (path m) pick) (in_running (effect_by (world m) (path m) me e) t.counter mode)
+      in_mode (Running g) running = by e
+        where
+          by : (e : Effect) → (chooses || is_none pick) ≡ may_pick_so chooses (picked_by (path m) pick) (effect_by (world m) (path m) me e g t.counter)
+          by (effects.Puts register value) = ap (λ b. chooses || b) (none_picked pick)
+          by (effects.Jumps to) = ap (λ b. chooses || b) (none_picked pick)
+          by (effects.Halts code) = ap (λ b. chooses || b) (none_picked pick)
+          by effects.Enters = ap (λ b. chooses || b) (none_picked pick)
+          by (effects.Stores space page at value) = ap (λ b. chooses || b) (none_picked pick)
+      in_mode (Calling todo rest) running = absurd (cc)
+      in_mode (Halted g code) running = absurd (cc)
+      in_mode (Native g) running = absurd (cc)
+
+  may_pick_is : (chooses : Bool) (pick : Option Who) (v : Verdict) → IsVerdict m c v → may_pick chooses pick v ≡ may_pick_so chooses (picked_by (path m) pick) (outcome_by (world m) (path m) caller v)
+  may_pick_is chooses pick (verdicts.Runs e) fits = running_pick chooses pick e (thread_at (world m) me) fits.1
+  may_pick_is chooses pick (verdicts.Refused status) fits = none_picked pick
+  may_pick_is chooses pick verdicts.Waits fits = refl
+  may_pick_is chooses pick (verdicts.Done plan answers) fits = may_pick_done chooses pick _ _
+  may_pick_is chooses pick (verdicts.Shows plan space page) fits = may_pick_done chooses pick _ _
+  may_pick_is chooses pick (verdicts.Goes plan) fits = ap (λ b. chooses || b) (none_picked pick)
+  may_pick_is chooses pick (verdicts.Faults page write port) fits = ap (λ b. chooses || b) (none_picked pick)
+
+  pub ready_iff : (chooses : Bool) (pick : Option Who) (v : Verdict) → IsVerdict m c v → IsTrue (may_pick chooses pick v && is_verdict_allowed (world m) me (path m) v) ↔ GoesAllowed (world m) me (move_by m c words chooses pick v)
+  ready_iff chooses pick v fits = rw (may_pick_is chooses pick v fits) (picked_iff chooses (picked_by (path m) pick) _ _ (verdict_iff v fits))
+
+  pub ready_allowed : (chooses : Bool) (pick : Option Who) (v : Verdict) → IsVerdict m c v → may_pick chooses pick v ≡ true → IsTrue (is_verdict_allowed (world m) me (path m) v) ↔ GoesAllowed (world m) me (move_by m c words chooses pick v)
+  ready_allowed chooses pick v fits may = subst (λ b. IsTrue (b && is_verdict_allowed (world m) me (path m) v) ↔ GoesAllowed (world m) me (move_by m c words chooses pick v)) may (ready_iff chooses pick v fits)

@@ -1,0 +1,50 @@
+-- Allowed: what the freezing rule and the picks say of a verdict, as tests.
+use Rattle.std.specs.Prelude.{ℕ, Bool, true, false, not, ◌&&◌, ◌||◌, is_none, Option}
+use Rattle.fk_model.specs.declared.names.Who.{Who}
+use Rattle.fk_model.specs.Holds.{is_frozen_for}
+use Rattle.fk_model.specs.Places.{Path}
+use Rattle.fk_model.specs.World.{World}
+use Rattle.fk_store.specs.Paths.{place}
+use Rattle.fk_plans.specs.declared.plan.Deed.{Deed}
+use Rattle.fk_plans.specs.declared.plan.Deed.TheVariants as deeds
+use Rattle.fk_plans.specs.declared.plan.Effect.{Effect}
+use Rattle.fk_plans.specs.declared.plan.Effect.TheVariants as effects
+use Rattle.fk_plans.specs.declared.plan.Plan.{Plan}
+use Rattle.fk_plans.specs.declared.plan.Plan.TheVariants as plans
+use Rattle.fk_plans.specs.declared.plan.Verdict.{Verdict}
+use Rattle.fk_plans.specs.declared.plan.Verdict.TheVariants as verdicts
+
+abbrev pub is_deed_allowed : World → Path → (ℕ → Path) → Deed → Bool
+is_deed_allowed w me p (deeds.Locks mutex locked) = not (is_frozen_for w me (place p mutex))
+is_deed_allowed w me p (deeds.Wakes thread mutex) = not (is_frozen_for w me (place p thread))
+
+abbrev pub is_plan_allowed : World → Path → (ℕ → Path) → Plan → Bool
+is_plan_allowed w me p plans.Nothing = true
+is_plan_allowed w me p (plans.One a) = is_deed_allowed w me p a
+is_plan_allowed w me p (plans.Two a b) = is_deed_allowed w me p a && is_deed_allowed w me p b
+is_plan_allowed w me p (plans.Three a b c) = is_deed_allowed w me p a && (is_deed_allowed w me p b && is_deed_allowed w me p c)
+is_plan_allowed w me p (plans.Four a b c d) = is_deed_allowed w me p a && (is_deed_allowed w me p b && (is_deed_allowed w me p c && is_deed_allowed w me p d))
+is_plan_allowed w me p (plans.Makes object kind) = not (is_frozen_for w me (place p object))
+
+abbrev pub is_effect_allowed : World → Path → (ℕ → Path) → Effect → Bool
+is_effect_allowed w me p (effects.Stores space page at value) = not (is_frozen_for w me (p space))
+is_effect_allowed w me p other = true
+
+abbrev pub is_verdict_allowed : World → Path → (ℕ → Path) → Verdict → Bool
+is_verdict_allowed w me p (verdicts.Runs e) = is_effect_allowed w me p e
+is_verdict_allowed w me p (verdicts.Refused status) = true
+is_verdict_allowed w me p verdicts.Waits = false
+is_verdict_allowed w me p (verdicts.Done plan answers) = is_plan_allowed w me p plan
+is_verdict_allowed w me p (verdicts.Shows plan space page) = is_plan_allowed w me p plan
+is_verdict_allowed w me p (verdicts.Goes plan) = is_plan_allowed w me p plan
+is_verdict_allowed w me p (verdicts.Faults page write port) = not (is_frozen_for w me (place p port))
+
+-- a stage that chooses may pick, where it isn't refused; every other picks nobody
+abbrev pub may_pick : Bool → Option Who → Verdict → Bool
+may_pick chooses pick (verdicts.Runs e) = chooses || is_none pick
+may_pick chooses pick (verdicts.Refused status) = is_none pick
+may_pick chooses pick verdicts.Waits = true
+may_pick chooses pick (verdicts.Done plan answers) = chooses || is_none pick
+may_pick chooses pick (verdicts.Shows plan space page) = chooses || is_none pick
+may_pick chooses pick (verdicts.Goes plan) = chooses || is_none pick
+may_pick chooses pick (verdicts.Faults page write port) = chooses || is_none pick

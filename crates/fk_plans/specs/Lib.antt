@@ -1,0 +1,5 @@
+pub mod Plans
+pub mod Effects
+pub mod Verdicts
+pub mod Allowed
+pub mod Readings

@@ -1,0 +1,73 @@
+-- Plans: the changes that a plan makes.
+use Rattle.std.specs.Prelude.{◌≡◌, ℕ, List, [], ◌∷◌, Option, Some, None, IsSome, ⊤}
+use Rattle.fk_model.specs.declared.names.Who.{Who}
+use Rattle.fk_model.specs.declared.stage.Stage.TheVariants.{MutexLock}
+use Rattle.fk_model.specs.ObjectRows.{new_object}
+use Rattle.fk_model.specs.Outcomes as outcomes
+use Rattle.fk_model.specs.Places.{Path}
+use Rattle.fk_model.specs.Valid.{birth_at}
+use Rattle.fk_model.specs.World.{World, Change, apply}
+use Rattle.fk_model.specs.World.Change.{Alter}
+use Rattle.fk_model.specs.World.Edit.{SetLocked, Replace}
+use Rattle.fk_store.specs.Paths.{place}
+use Rattle.fk_threads.specs.Sleepers.{IsAsleep}
+use Rattle.fk_plans.specs.declared.plan.Caller.{Caller}
+use Rattle.fk_plans.specs.declared.plan.Deed.{Deed}
+use Rattle.fk_plans.specs.declared.plan.Deed.TheVariants as deeds
+use Rattle.fk_plans.specs.declared.plan.Plan.{Plan}
+use Rattle.fk_plans.specs.declared.plan.Plan.TheVariants as plans
+
+-- the caller by paths, where those of spaces are these; a porter gives these words
+abbrev pub caller_by : (ℕ → Path) → Caller → List ℕ → outcomes.Caller
+caller_by p c words = record { space = p c.who.space; slot = c.who.slot; is_porter = c.is_porter; words = words }
+
+-- the change that a deed is, where the world is this
+abbrev pub change_by : (ℕ → Path) → Deed → World → Change
+change_by p (deeds.Locks mutex locked) w = Alter (place p mutex) (SetLocked locked)
+change_by p (deeds.Wakes thread mutex) w = Alter (place p thread) (Replace (MutexLock mutex))
+
+abbrev pub after : (ℕ → Path) → Deed → World → World
+after p d w = apply (change_by p d w) w
+
+-- a deed, and then what follows, in the world that it makes
+abbrev pub and_next : (ℕ → Path) → Deed → (World → List Change) → World → List Change
+and_next p d next w = change_by p d w ∷ next (after p d w)
+
+abbrev pub no_more : World → List Change
+no_more w = []
+
+abbrev pub made : Option Change → List Change
+made None = []
+made (Some change) = change ∷ []
+
+-- the changes of a plan
+abbrev pub changes_by : (ℕ → Path) → Plan → World → List Change
+changes_by p plans.Nothing w = []
+changes_by p (plans.One a) w = and_next p a no_more w
+changes_by p (plans.Two a b) w = and_next p a (and_next p b no_more) w
+changes_by p (plans.Three a b c) w = and_next p a (and_next p b (and_next p c no_more)) w
+changes_by p (plans.Four a b c d) w = and_next p a (and_next p b (and_next p c (and_next p d no_more))) w
+changes_by p (plans.Makes object kind) w = made (new_object (place p object) kind)
+
+-- ---- what is needed to do it
+
+abbrev pub IsDeed : (ℕ → Path) → World → Deed → Type 0
+IsDeed p w (deeds.Locks mutex locked) = ⊤
+IsDeed p w (deeds.Wakes thread mutex) = IsAsleep w (place p thread) mutex
+
+-- an empty slot of a space that is there, and a kind
+abbrev pub IsMaking : (ℕ → Path) → World → Who → ℕ → Type 0
+IsMaking p w object kind = (birth_at w (p object.space) ≡ Some object.space) × (w.body (place p object) ≡ None) × IsSome (new_object [] kind)
+
+abbrev pub IsPlan : (ℕ → Path) → World → Plan → Type 0
+IsPlan p w plans.Nothing = ⊤
+IsPlan p w (plans.One a) = IsDeed p w a
+IsPlan p w (plans.Two a b) = IsDeed p w a × IsDeed p (after p a w) b
+IsPlan p w (plans.Three a b c) = IsDeed p w a × IsDeed p (after p a w) b × IsDeed p (after p b (after p a w)) c
+IsPlan p w (plans.Four a b c d) = IsDeed p w a × IsDeed p (after p a w) b × IsDeed p (after p b (after p a w)) c × IsDeed p (after p c (after p b (after p a w))) d
+IsPlan p w (plans.Makes object kind) = IsMaking p w object kind
+
+-- it takes no memory
+abbrev pub IsSure : Plan → Type 0
+IsSure (plans.Makes object kind) = ⊥
+IsSure other = ⊤

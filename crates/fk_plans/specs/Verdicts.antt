@@ -1,0 +1,79 @@
+-- Verdicts: the outcome that a verdict stands for, and what a judge promises.
+use Rattle.std.specs.Prelude.{◌≡◌, ℕ, Bool, true, false, List, [], ◌∷◌, Option, Result, Ok, Err, IfOk, IsSome, ⊤}
+use Rattle.fk_model.specs.declared.names.Who.{Who}
+use Rattle.fk_model.specs.Moves.{closed, with_pick}
+use Rattle.fk_model.specs.Outcomes as outcomes
+use Rattle.fk_model.specs.Outcomes.{Outcome, done}
+use Rattle.fk_model.specs.Outcomes.Outcome.{Refused, Waits, Goes}
+use Rattle.fk_model.specs.Outcomes.Said.{Nothing}
+use Rattle.fk_model.specs.Places.{Path}
+use Rattle.fk_model.specs.Places.Ptr.{At}
+use Rattle.fk_model.specs.Reach.{words_at}
+use Rattle.fk_model.specs.Readers.{fault_on}
+use Rattle.fk_model.specs.World.{World, apply_all}
+use Rattle.fk_store.specs.Contents.{Contents}
+use Rattle.fk_store.specs.Moves.{picked_by}
+use Rattle.fk_store.specs.Paths.{path, place}
+use Rattle.fk_store.specs.Threads.{thread_at, todo_at}
+use Rattle.fk_store.specs.World.{world, IsLive}
+use Rattle.fk_threads.specs.Answers.{listed, LeaveArguments}
+use Rattle.fk_plans.specs.declared.plan.Caller.{Caller}
+use Rattle.fk_plans.specs.declared.plan.Verdict.{Verdict}
+use Rattle.fk_plans.specs.declared.plan.Verdict.TheVariants as verdicts
+use Rattle.fk_plans.specs.Effects.{effect_by, of_running, is_running, IsEffect}
+use Rattle.fk_plans.specs.Plans.{caller_by, changes_by, IsPlan, IsSure}
+
+-- the outcome that a verdict on a stage stands for
+abbrev pub outcome_by : World → (ℕ → Path) → outcomes.Caller → Verdict → Outcome
+outcome_by w p c (verdicts.Runs e) = of_running (effect_by w p (outcomes.path_of c) e) (thread_at w (outcomes.path_of c))
+outcome_by w p c (verdicts.Refused status) = Refused status
+outcome_by w p c verdicts.Waits = Waits
+outcome_by w p c (verdicts.Done plan answers) = done c (changes_by p plan w) (listed answers)
+outcome_by w p c (verdicts.Shows plan space page) = done c (changes_by p plan w) (words_at w (p space) page)
+outcome_by w p c (verdicts.Goes plan) = Goes (changes_by p plan w) Nothing
+outcome_by w p c (verdicts.Faults page write port) = Goes (fault_on (outcomes.path_of c) page write (At (place p port)) ∷ []) Nothing
+
+-- ---- what is needed to carry it out
+
+-- a user alone has instructions and faults, a porter alone gets a page
+abbrev pub IsVerdict : Contents → Caller → Verdict → Type 0
+IsVerdict m c (verdicts.Runs e) = (c.is_porter ≡ false) × (is_running (thread_at (world m) (place (path m) c.who)) ≡ true) × IsEffect (path m) (world m) e
+IsVerdict m c (verdicts.Refused status) = ⊤
+IsVerdict m c verdicts.Waits = ⊤
+IsVerdict m c (verdicts.Done plan answers) =
+    IsPlan (path m) (world m) plan × LeaveArguments answers (todo_at (apply_all (changes_by (path m) plan (world m)) (world m)) (place (path m) c.who))
+IsVerdict m c (verdicts.Shows plan space page) = (c.is_porter ≡ true) × IsSome ((world m).page (path m space) page) × IsPlan (path m) (world m) plan
+IsVerdict m c (verdicts.Goes plan) = IsPlan (path m) (world m) plan
+IsVerdict m c (verdicts.Faults page write port) = (c.is_porter ≡ false) × IsLive m port
+
+-- it takes no memory
+abbrev pub IsSureVerdict : Verdict → Type 0
+IsSureVerdict (verdicts.Done plan answers) = IsSure plan
+IsSureVerdict (verdicts.Shows plan space page) = IsSure plan
+IsSureVerdict (verdicts.Goes plan) = IsSure plan
+IsSureVerdict other = ⊤
+
+-- ---- judges
+
+-- what a reader finds, by paths
+abbrev pub mapped : {A B : Type 0} → (A → B) → Result A ℕ → Result B ℕ
+mapped f (Ok a) = Ok (f a)
+mapped f (Err status) = Err status
+
+-- what a judge answers: a status is a refusal
+abbrev pub outcome_of : World → (ℕ → Path) → outcomes.Caller → Result Verdict ℕ → Outcome
+outcome_of w p c (Ok v) = outcome_by w p c v
+outcome_of w p c (Err status) = Refused status
+
+-- the judgement of a stage stands for the outcome of its row, whatever a porter gives, and can be carried out
+pub record Judges (m : Contents) (c : Caller) (r : Result Verdict ℕ) (row : World → outcomes.Caller → Outcome) : Type 0 where
+  pub outcome : (words : List ℕ) → outcome_of (world m) (path m) (caller_by (path m) c words) r ≡ row (world m) (caller_by (path m) c words)
+  pub fits : IfOk r (IsVerdict m c)
+
+-- ---- the move of a caller who is judged so
+
+-- where its stage chooses whom it picks, or doesn't
+abbrev pub move_by : Contents → Caller → List ℕ → Bool → Option Who → Verdict → Outcome
+move_by m c words chooses pick v =
+    let caller = caller_by (path m) c words in
+    closed caller (with_pick chooses (picked_by (path m) pick) (outcome_by (world m) (path m) caller v))

@@ -1,0 +1,128 @@
+//! Carrying a verdict out.
+ghost use Rattle.std.specs.Prelude.{◌≡◌, ℕ, List, false, IfOk, IsOk, OnErr, OnOk};
+ghost use Rattle.fk_model.specs.Moves.{closed, stepped};
+ghost use Rattle.fk_model.specs.Outcomes.Outcome.{Refused};
+ghost use Rattle.fk_model.specs.World.{apply, apply_all};
+ghost use Rattle.fk_store.specs.Moves.{said_by};
+ghost use Rattle.fk_store.specs.Paths.{path, place};
+ghost use Rattle.fk_store.specs.World.{world, IsLive};
+ghost use Rattle.fk_plans.specs.Plans.{caller_by, change_by, changes_by, IsDeed, IsPlan, IsSure};
+ghost use Rattle.fk_plans.specs.Verdicts.{outcome_by, IsVerdict, IsSureVerdict};
+
+use crate::instructions::run;
+use crate::making::make;
+use crate::plan::{Caller, Deed, Plan, Verdict};
+use crate::telling::{told, told_page};
+use fk_model::status::OK;
+use fk_model::{NoMemory, Said, Who};
+use fk_store::Store;
+use fk_threads::{Answers, finish, wake};
+
+/// Does a deed.
+fn carry(store: &mut Store, deed: &Deed)
+    requires fits { IsDeed (path store.old) (world store.old) deed.now }
+    ensures world { world store.new ≡ apply (change_by (path store.old) deed.now (world store.old)) (world store.old) }
+    ensures paths { path store.new ≡ path store.old }
+{
+    match *deed {
+        Deed::Locks { mutex, locked } => store.set_locked(mutex, locked),
+        Deed::Wakes { thread, mutex } => wake(store, thread, mutex),
+    }
+}
+
+/// Does all of a plan. For want of memory all stays as it was.
+#[tactic(auto, unfolding(fk_model::specs::World::apply_all))]
+fn carry_all(store: &mut Store, plan: &Plan) -> Result<(), NoMemory>
+    requires fits { IsPlan (path store.old) (world store.old) plan.now }
+    ensures world { OnOk result (world store.new ≡ apply_all (changes_by (path store.old) plan.now (world store.old)) (world store.old)) }
+    ensures err { OnErr result (store.new ≡ store.old) }
+    ensures sure { IsSure plan.now → IsOk result }
+    ensures places { (other : Who) → IsLive store.old other → place (path store.new) other ≡ place (path store.old) other }
+{
+    match plan {
+        Plan::Nothing => {}
+        Plan::One(a) => carry(store, a),
+        Plan::Two(a, b) => {
+            carry(store, a);
+            carry(store, b);
+        }
+        Plan::Three(a, b, c) => {
+            carry(store, a);
+            carry(store, b);
+            carry(store, c);
+        }
+        Plan::Four(a, b, c, d) => {
+            carry(store, a);
+            carry(store, b);
+            carry(store, c);
+            carry(store, d);
+        }
+        Plan::Makes { object, kind } => return make(store, *object, *kind),
+    }
+    Ok(())
+}
+
+/// Does all of a plan, and then the caller's stage is done.
+fn finish_all(
+    store: &mut Store,
+    caller: Caller,
+    plan: &Plan,
+    answers: Answers,
+) -> Result<Said, NoMemory>
+    requires live { caller.is_porter ≡ false → IsLive store.old caller.who }
+    requires fits { IsVerdict store.old caller (Verdict.Done plan.now answers) }
+    ensures step { IfOk result (λ said. (words : List ℕ) → let c = caller_by (path store.old) caller words in
+        stepped (world store.old) (closed c (outcome_by (world store.old) (path store.old) c (Verdict.Done plan.now answers))) ≡ record { world = world store.new; said = said_by (path store.new) said }) }
+    ensures err { OnErr result (store.new ≡ store.old) }
+    ensures sure { IsSure plan.now → IsOk result }
+{
+    carry_all(store, plan)?;
+    if caller.is_porter {
+        return Ok(told(OK, answers));
+    }
+    finish(store, caller.who, answers);
+    Ok(Said::Nothing)
+}
+
+/// Carries out a verdict on the first stage of a call, and ends the caller's own part. For want of
+/// memory all stays as it was.
+pub fn carry_out(store: &mut Store, caller: Caller, verdict: &Verdict) -> Result<Said, NoMemory>
+    requires live { caller.is_porter ≡ false → IsLive store.old caller.who }
+    requires fits { IsVerdict store.old caller verdict.now }
+    ensures step { IfOk result (λ said. (words : List ℕ) → let c = caller_by (path store.old) caller words in
+        stepped (world store.old) (closed c (outcome_by (world store.old) (path store.old) c verdict.now)) ≡ record { world = world store.new; said = said_by (path store.new) said }) }
+    ensures err { OnErr result (store.new ≡ store.old) }
+    ensures sure { IsSureVerdict verdict.now → IsOk result }
+{
+    match verdict {
+        Verdict::Runs(effect) => run(store, caller.who, *effect),
+        Verdict::Refused(status) => return Ok(refuse(store, caller, *status)),
+        Verdict::Waits => {}
+        Verdict::Done(plan, answers) => {
+            return finish_all(store, caller, plan, *answers);
+        }
+        Verdict::Shows { plan, space, page } => {
+            let said = told_page(store, *space, *page);
+            carry_all(store, plan)?;
+            return Ok(said);
+        }
+        Verdict::Goes(plan) => carry_all(store, plan)?,
+        Verdict::Faults { page, write, port } => {
+            store.raise(caller.who, *page, *write, *port);
+        }
+    }
+    Ok(Said::Nothing)
+}
+
+/// The stage of a caller is refused: the call of a user ends with the status, a porter is told it.
+#[tactic(auto, unfolding(fk_model::specs::World::apply_all))]
+fn refuse(store: &mut Store, caller: Caller, status: u8) -> Said
+    ensures step { (words : List ℕ) → let c = caller_by (path store.old) caller words in
+        stepped (world store.old) (closed c (Refused status)) ≡ record { world = world store.new; said = said_by (path store.new) result } }
+{
+    if caller.is_porter {
+        return told(status, Answers::Nothing);
+    }
+    store.end_call(caller.who, status);
+    Said::Nothing
+}

@@ -1,0 +1,57 @@
+//! Making what an instruction comes to.
+ghost use Rattle.std.specs.Prelude.{◌≡◌};
+ghost use Rattle.fk_model.specs.Moves.{stepped};
+ghost use Rattle.fk_model.specs.Outcomes.Said.{Nothing};
+ghost use Rattle.fk_store.specs.Paths.{path, place};
+ghost use Rattle.fk_store.specs.Threads.{thread_at};
+ghost use Rattle.fk_store.specs.World.{world};
+ghost use Rattle.fk_plans.specs.Effects.{IsEffect, effect_by, of_running};
+
+use crate::plan::Effect;
+use fk_model::{Mode, Thread, Who};
+use fk_store::Store;
+
+/// Makes an effect of a running thread with this state.
+#[tactic(auto, unfolding(fk_model::specs::World::apply_all))]
+pub fn make_effect(store: &mut Store, me: Who, thread: &Thread, effect: Effect)
+    requires { IsEffect (path store.old) (world store.old) effect }
+    ensures step { stepped (world store.old) (effect_by (world store.old) (path store.old) (place (path store.old) me) effect thread.now.regs thread.now.pc) ≡ record { world = world store.new; said = Nothing } }
+{
+    let next = thread.pc.wrapping_add(1);
+    match effect {
+        Effect::Puts { register, value } => {
+            let mut registers = thread.regs;
+            registers[register as usize] = value;
+            store.proceed(me, &registers, next, Mode::Running);
+        }
+        Effect::Jumps { counter } => store.proceed(me, &thread.regs, counter, Mode::Running),
+        Effect::Halts { code } => {
+            store.proceed(me, &thread.regs, thread.pc, Mode::Halted(code));
+        }
+        Effect::Enters => store.proceed(me, &thread.regs, thread.pc, Mode::Calling),
+        Effect::Stores {
+            space,
+            page,
+            at,
+            value,
+        } => {
+            store.put_word(space, page, at, value);
+            store.proceed(me, &thread.regs, next, Mode::Running);
+        }
+    }
+}
+
+/// Makes an effect of a thread where it runs.
+pub fn run(store: &mut Store, me: Who, effect: Effect)
+    requires { IsEffect (path store.old) (world store.old) effect }
+    ensures step { stepped (world store.old) (of_running (effect_by (world store.old) (path store.old) (place (path store.old) me) effect) (thread_at (world store.old) (place (path store.old) me))) ≡ record { world = world store.new; said = Nothing } }
+{
+    match store.thread(me) {
+        Some(&thread) => {
+            if let Mode::Running = thread.mode {
+                make_effect(store, me, &thread, effect);
+            }
+        }
+        None => {}
+    }
+}

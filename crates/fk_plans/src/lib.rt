@@ -1,0 +1,21 @@
+//! Verdicts: what a stage of a call comes to, when that is ready, and making it.
+//!
+//! It stands on `fk_store` and `fk_threads`. A crate of rows judges a stage and nothing else: its
+//! verdict stands for the outcome of the stage's row. Here it is proved once for all rows when a
+//! verdict is ready, by the picks and the freezing rule, and that carrying it out makes of the
+//! store's world what the abstract machine makes of it, or leaves all as it was for want of memory.
+#![tactic(auto)]
+
+mod carrying;
+mod instructions;
+mod making;
+mod plan;
+mod readers;
+mod readiness;
+mod telling;
+
+pub use carrying::carry_out;
+pub use instructions::make_effect;
+pub use plan::{Caller, Deed, Effect, Plan, Verdict};
+pub use readers::{cond_in, mutex_in, place, slot_for};
+pub use readiness::is_ready;

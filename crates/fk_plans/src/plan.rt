@@ -1,0 +1,78 @@
+//! What a stage comes to.
+use fk_model::Who;
+use fk_threads::Answers;
+
+/// Who makes a stage: a user, or a porter.
+#[derive(Clone, Copy)]
+pub struct Caller {
+    pub who: Who,
+    pub is_porter: bool,
+}
+
+/// One change, which takes no memory.
+#[derive(Clone, Copy)]
+pub enum Deed {
+    /// A mutex is locked, or unlocked.
+    Locks { mutex: Who, locked: bool },
+    /// A thread that sleeps on a condition wakes up, and locks this mutex next.
+    Wakes { thread: Who, mutex: u64 },
+}
+
+/// What a stage does, its caller's own part left out: deeds in this order, or alone what wants
+/// memory, or is as many changes as the world asks for.
+#[derive(Clone, Copy)]
+pub enum Plan {
+    Nothing,
+    One(Deed),
+    Two(Deed, Deed),
+    Three(Deed, Deed, Deed),
+    Four(Deed, Deed, Deed, Deed),
+    /// A new object of the kind with this number.
+    Makes { object: Who, kind: u64 },
+}
+
+/// What an instruction of a running thread comes to.
+#[derive(Clone, Copy)]
+pub enum Effect {
+    /// A register gets a value, and the next instruction follows.
+    Puts {
+        register: u8,
+        value: u64,
+    },
+    /// The instruction at this counter follows.
+    Jumps {
+        counter: u64,
+    },
+    /// The thread halts where it stands.
+    Halts {
+        code: u8,
+    },
+    /// The thread enters the call that its registers name.
+    Enters,
+    /// A word of a page gets a value, and the next instruction follows.
+    Stores {
+        space: u32,
+        page: u8,
+        at: u8,
+        value: u64,
+    },
+}
+
+/// What a stage comes to.
+#[derive(Clone, Copy)]
+pub enum Verdict {
+    /// It is the instruction of a running thread.
+    Runs(Effect),
+    /// It is refused at once, with this status.
+    Refused(u8),
+    /// It isn't ready.
+    Waits,
+    /// It does this, and then the caller's stage is done, with these answers.
+    Done(Plan, Answers),
+    /// It does this, and then the stage of a porter is done, which gets the words of a page.
+    Shows { plan: Plan, space: u32, page: u8 },
+    /// It does this, and the caller stays at its stage.
+    Goes(Plan),
+    /// The caller's own access misses a page, and the port of its keeper is told.
+    Faults { page: u8, write: bool, port: Who },
+}

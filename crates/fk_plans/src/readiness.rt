@@ -1,0 +1,95 @@
+//! When a verdict is ready.
+ghost use Rattle.std.specs.Prelude.{◌≡◌, ◌↔◌, ℕ, List, true, false, IsTrue};
+ghost use Rattle.fk_model.specs.Moves.{GoesAllowed};
+ghost use Rattle.fk_store.specs.Paths.{path, place};
+ghost use Rattle.fk_store.specs.Threads.{is_free_at};
+ghost use Rattle.fk_store.specs.World.{world};
+ghost use Rattle.fk_plans.specs.Allowed.{is_deed_allowed, is_plan_allowed, is_verdict_allowed, may_pick};
+ghost use Rattle.fk_plans.specs.Verdicts.{IsVerdict, move_by};
+
+use crate::plan::{Caller, Deed, Effect, Plan, Verdict};
+use fk_model::Who;
+use fk_store::Store;
+
+/// The freezing rule allows a deed.
+fn is_deed_allowed(store: &Store, me: Who, deed: &Deed) -> bool
+    ensures { result ≡ is_deed_allowed (world store.now) (place (path store.now) me) (path store.now) deed.now }
+{
+    match *deed {
+        Deed::Locks { mutex, .. } => !store.frozen_for(me, mutex),
+        Deed::Wakes { thread, .. } => !store.frozen_for(me, thread),
+    }
+}
+
+/// The freezing rule allows all of a plan.
+fn is_plan_allowed(store: &Store, me: Who, plan: &Plan) -> bool
+    ensures { result ≡ is_plan_allowed (world store.now) (place (path store.now) me) (path store.now) plan.now }
+{
+    match plan {
+        Plan::Nothing => true,
+        Plan::One(a) => is_deed_allowed(store, me, a),
+        Plan::Two(a, b) => is_deed_allowed(store, me, a) && is_deed_allowed(store, me, b),
+        Plan::Three(a, b, c) => {
+            is_deed_allowed(store, me, a)
+                && is_deed_allowed(store, me, b)
+                && is_deed_allowed(store, me, c)
+        }
+        Plan::Four(a, b, c, d) => {
+            is_deed_allowed(store, me, a)
+                && is_deed_allowed(store, me, b)
+                && is_deed_allowed(store, me, c)
+                && is_deed_allowed(store, me, d)
+        }
+        Plan::Makes { object, .. } => !store.frozen_for(me, *object),
+    }
+}
+
+/// The freezing rule allows what a verdict does.
+fn is_verdict_allowed(store: &Store, me: Who, verdict: &Verdict) -> bool
+    ensures { result ≡ is_verdict_allowed (world store.now) (place (path store.now) me) (path store.now) verdict.now }
+{
+    match verdict {
+        Verdict::Runs(Effect::Stores { space, .. }) => !store.space_frozen_for(me, *space),
+        Verdict::Runs(
+            Effect::Puts { .. } | Effect::Jumps { .. } | Effect::Halts { .. } | Effect::Enters,
+        )
+        | Verdict::Refused(_) => true,
+        Verdict::Waits => false,
+        Verdict::Done(plan, _) | Verdict::Shows { plan, .. } | Verdict::Goes(plan) => {
+            is_plan_allowed(store, me, plan)
+        }
+        Verdict::Faults { port, .. } => !store.frozen_for(me, *port),
+    }
+}
+
+/// Whether a stage with this verdict may pick so.
+fn may_pick(chooses: bool, pick: Option<Who>, verdict: &Verdict) -> bool
+    ensures { result ≡ may_pick chooses pick verdict.now }
+{
+    match verdict {
+        Verdict::Refused(_) => pick.is_none(),
+        Verdict::Waits => true,
+        Verdict::Runs(_)
+        | Verdict::Done(..)
+        | Verdict::Shows { .. }
+        | Verdict::Goes(_)
+        | Verdict::Faults { .. } => chooses || pick.is_none(),
+    }
+}
+
+/// Whether a free user, or a porter, who is judged so is ready: it picks somebody only where its
+/// stage chooses and isn't refused, and the freezing rule allows all that it does.
+#[tactic(auto, using(crate::proofs::Ready::ready_iff))]
+pub fn is_ready(
+    store: &Store,
+    caller: Caller,
+    chooses: bool,
+    pick: Option<Who>,
+    verdict: &Verdict,
+) -> bool
+    requires free { caller.is_porter ≡ false → is_free_at (world store.now) (place (path store.now) caller.who) ≡ true }
+    requires fits { IsVerdict store.now caller verdict.now }
+    ensures { (words : List ℕ) → IsTrue result ↔ GoesAllowed (world store.now) (place (path store.now) caller.who) (move_by store.now caller words chooses pick verdict.now) }
+{
+    may_pick(chooses, pick, verdict) && is_verdict_allowed(store, caller.who, verdict)
+}

@@ -1,0 +1,63 @@
+//! What a porter is told.
+ghost use Rattle.std.specs.Prelude.{◌≡◌, ℕ, IsSome};
+ghost use Rattle.fk_model.specs.Outcomes.Said.{Answered};
+ghost use Rattle.fk_model.specs.Places.{Path};
+ghost use Rattle.fk_model.specs.Reach.{words_at};
+ghost use Rattle.fk_model.specs.declared.statuses.status.TheConstants.{OK as DONE};
+ghost use Rattle.fk_store.specs.Moves.{said_by};
+ghost use Rattle.fk_store.specs.Paths.{path};
+ghost use Rattle.fk_store.specs.World.{world};
+ghost use Rattle.fk_threads.specs.Answers.{listed};
+
+use fk_model::status::OK;
+use fk_model::{Answer, Said};
+use fk_store::Store;
+use fk_threads::Answers;
+
+/// A status and answers.
+pub fn told(status: u8, answers: Answers) -> Said
+    ensures { (p : ℕ → Path) → said_by p result ≡ Answered status (listed answers) }
+{
+    let mut words = [0; 64];
+    let len = match answers {
+        Answers::Nothing => 0,
+        Answers::One(a) => {
+            words[0] = a;
+            1
+        }
+        Answers::Two(a, b) => {
+            words[0] = a;
+            words[1] = b;
+            2
+        }
+        Answers::Three(a, b, c) => {
+            words[0] = a;
+            words[1] = b;
+            words[2] = c;
+            3
+        }
+    };
+    Said::Answer(Answer { status, words, len })
+}
+
+/// That it is done, and 64 words.
+fn told_all(words: [u64; 64]) -> Said
+    ensures { (p : ℕ → Path) → said_by p result ≡ Answered DONE words }
+{
+    Said::Answer(Answer {
+        status: OK,
+        words,
+        len: 64,
+    })
+}
+
+/// That it is done, and the words of a page.
+pub fn told_page(store: &Store, space: u32, page: u8) -> Said
+    requires { IsSome ((world store.now).page (path store.now space) page) }
+    ensures { (p : ℕ → Path) → said_by p result ≡ Answered DONE (words_at (world store.now) (path store.now space) page) }
+{
+    match store.page(space, page) {
+        Some(words) => told_all(*words),
+        None => unreachable!(),
+    }
+}

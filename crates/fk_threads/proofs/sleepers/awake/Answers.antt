@@ -1,0 +1,6 @@
+use Rattle.std.proofs.Common.{◌≡◌, length, arith}
+use Rattle.fk_threads.proofs.SleeperLaws.{wake_edit}
+use Rattle.fk_threads.proofs.sleepers.awake.Goals as goal
+
+pub returns-clause-edit : goal.returns-clause-edit
+returns-clause-edit c p cond at = let long : length c.args.thread.regs ≡ 16 = omega arith in wake_edit p c.args.thread cond c.args.mutex long at

@@ -1,0 +1,122 @@
+//! A stage that is done, with its answers.
+ghost use Rattle.std.specs.Prelude.{◌≡◌, ℕ, Some, slice_index};
+ghost use Rattle.fk_model.specs.Calls.{with_answers};
+ghost use Rattle.fk_model.specs.Objects.Body.{Thread_of};
+ghost use Rattle.fk_model.specs.Places.{Path};
+ghost use Rattle.fk_model.specs.Valid.{kind_there};
+ghost use Rattle.fk_model.specs.World.{apply, edited};
+ghost use Rattle.fk_model.specs.World.Change.{Alter};
+ghost use Rattle.fk_model.specs.World.Edit.{End, Finish};
+ghost use Rattle.fk_model.specs.declared.statuses.status.TheConstants.{OK};
+ghost use Rattle.fk_model.specs.declared.thread.Mode.TheVariants as modes;
+ghost use Rattle.fk_store.specs.Bodies.{mode_by, thread_by};
+ghost use Rattle.fk_store.specs.Paths.{path, place};
+ghost use Rattle.fk_store.specs.Threads.{todo_of_mode, todo_at};
+ghost use Rattle.fk_store.specs.World.{world};
+ghost use Rattle.fk_threads.specs.Answers.{listed, code_after, LeaveArguments};
+
+use fk_model::{Body, Mode, Thread, Who, status};
+use fk_store::Store;
+
+/// The answers of a stage.
+#[derive(Clone, Copy)]
+pub enum Answers {
+    Nothing,
+    One(u64),
+    Two(u64, u64),
+    Three(u64, u64, u64),
+}
+
+/// The code of a call without its first stage; none where that is its last.
+fn code_after(code: u64) -> Option<u64>
+    ensures { result ≡ code_after code }
+{
+    match code {
+        33 => Some(34),
+        34 => Some(35),
+        35 => Some(36),
+        49 => Some(50),
+        53 => Some(54),
+        54 => Some(50),
+        _ => None,
+    }
+}
+
+/// Registers with answers, from the second register on.
+fn answered(registers: [u64; 16], answers: Answers) -> [u64; 16]
+    ensures { result ≡ with_answers (listed answers) registers }
+{
+    let mut written = registers;
+    match answers {
+        Answers::Nothing => {}
+        Answers::One(a) => written[1] = a,
+        Answers::Two(a, b) => {
+            written[1] = a;
+            written[2] = b;
+        }
+        Answers::Three(a, b, c) => {
+            written[1] = a;
+            written[2] = b;
+            written[3] = c;
+        }
+    }
+    written
+}
+
+/// A calling thread that goes on at the stages with this code.
+fn at_next(mut thread: Thread, code: u64, answers: Answers) -> Thread
+    requires calling { thread.mode ≡ modes.Calling }
+    requires after { Some code ≡ code_after (slice_index thread.regs 0) }
+    requires apart { LeaveArguments answers (todo_of_mode (mode_by thread.mode thread.regs)) }
+    ensures edit { (p : ℕ → Path) → edited (Finish (listed answers)) (Thread_of (thread_by p thread)) ≡ Thread_of (thread_by p result) }
+    ensures talk { result.talk ≡ thread.talk }
+    ensures fault { result.fault ≡ thread.fault }
+{
+    thread.regs = answered(thread.regs, answers);
+    thread.regs[0] = code;
+    thread
+}
+
+/// A calling thread whose call has ended well.
+fn ended_well(mut thread: Thread, answers: Answers) -> Thread
+    requires calling { thread.mode ≡ modes.Calling }
+    ensures edit { (p : ℕ → Path) → edited (End OK (listed answers)) (Thread_of (thread_by p thread)) ≡ Thread_of (thread_by p result) }
+    ensures talk { result.talk ≡ thread.talk }
+    ensures fault { result.fault ≡ thread.fault }
+{
+    thread.regs[0] = u64::from(status::OK);
+    thread.regs = answered(thread.regs, answers);
+    thread.pc = thread.pc.wrapping_add(1);
+    thread.mode = Mode::Running;
+    thread
+}
+
+/// A thread whose stage is done.
+fn finished(thread: Thread, answers: Answers) -> Thread
+    requires { LeaveArguments answers (todo_of_mode (mode_by thread.mode thread.regs)) }
+    ensures edit { (p : ℕ → Path) → edited (Finish (listed answers)) (Thread_of (thread_by p thread)) ≡ Thread_of (thread_by p result) }
+    ensures talk { result.talk ≡ thread.talk }
+    ensures fault { result.fault ≡ thread.fault }
+{
+    if let Mode::Calling = thread.mode {
+        return match code_after(thread.regs[0]) {
+            Some(code) => at_next(thread, code, answers),
+            None => ended_well(thread, answers),
+        };
+    }
+    thread
+}
+
+/// The first stage of a thread's call is done, with answers that leave the arguments of its later
+/// stages. The call ends where it was the last. What is in no call stays as it is.
+#[tactic(auto, using(fk_store::proofs::ThreadLaws::kind_thread, crate::proofs::FinishLaws::finish_nobody))]
+pub fn finish(store: &mut Store, who: Who, answers: Answers)
+    requires apart { LeaveArguments answers (todo_at (world store.old) (place (path store.old) who)) }
+    ensures world { world store.new ≡ apply (Alter (place (path store.old) who) (Finish (listed answers))) (world store.old) }
+    ensures kinds { kind_there (world store.new) ≡ kind_there (world store.old) }
+    ensures paths { path store.new ≡ path store.old }
+{
+    if let Some(&thread) = store.thread(who) {
+        store.set(who, Body::Thread(finished(thread, answers)));
+    }
+}

@@ -1,0 +1,13 @@
+//! Threads in calls: what becomes of a thread whose stage is done, and of one that wakes up.
+//!
+//! It stands on `fk_store` and `fk_stages`. The registers of a calling thread stand for the stages
+//! that it has before it; here it is proved what a change of these stages makes of the registers.
+//! Each call promises that it makes of the store's world one change, that kinds and paths stay, and
+//! that it takes no memory.
+#![tactic(auto)]
+
+mod answers;
+mod sleepers;
+
+pub use answers::{Answers, finish};
+pub use sleepers::{asleep_on, wake};

@@ -1,0 +1,75 @@
+//! Threads that sleep on a condition.
+ghost use Rattle.std.specs.Prelude.{◌≡◌, ◌∷◌, [], ℕ};
+ghost use Rattle.fk_model.specs.Objects.{and_then};
+ghost use Rattle.fk_model.specs.Objects.Body.{Thread_of};
+ghost use Rattle.fk_model.specs.Places.{Path};
+ghost use Rattle.fk_model.specs.SyncRows as rows;
+ghost use Rattle.fk_model.specs.Talks.{first_stage};
+ghost use Rattle.fk_model.specs.Valid.{kind_there};
+ghost use Rattle.fk_model.specs.World.{apply, edited};
+ghost use Rattle.fk_model.specs.World.Change.{Alter};
+ghost use Rattle.fk_model.specs.World.Edit.{Replace};
+ghost use Rattle.fk_model.specs.declared.stage.Stage.TheVariants.{CondAsleep, MutexLock};
+ghost use Rattle.fk_store.specs.Bodies.{mode_by, thread_by};
+ghost use Rattle.fk_store.specs.Paths.{path, place};
+ghost use Rattle.fk_store.specs.Threads.{todo_of_mode};
+ghost use Rattle.fk_store.specs.World.{world};
+ghost use Rattle.fk_threads.specs.Sleepers.{asleep_in, IsAsleep};
+
+use fk_model::{Body, Mode, Thread, Who};
+use fk_store::Store;
+
+/// The mutex in the registers of a sleeper.
+fn asleep_in(registers: &[u64; 16], cond: u64) -> Option<u64>
+    ensures { result ≡ asleep_in cond registers.now }
+{
+    if registers[0] == 25 && registers[1] == cond {
+        return Some(registers[2]);
+    }
+    None
+}
+
+/// The mutex that a thread will lock which sleeps on a condition.
+fn asleep_of(thread: &Thread, cond: u64) -> Option<u64>
+    ensures { (p : ℕ → Path) → result ≡ and_then (rows.mutex_after cond) (first_stage (thread_by p thread.now).mode) }
+{
+    match thread.mode {
+        Mode::Calling => asleep_in(&thread.regs, cond),
+        Mode::Running | Mode::Halted(_) | Mode::Native => None,
+    }
+}
+
+/// The mutex that the thread in a slot will lock which sleeps on a condition; nothing where nobody
+/// sleeps on it there.
+pub fn asleep_on(store: &Store, who: Who, cond: u64) -> Option<u64>
+    ensures { result ≡ rows.asleep_on cond ((world store.now).body (place (path store.now) who)) }
+{
+    match store.thread(who) {
+        Some(thread) => asleep_of(thread, cond),
+        None => None,
+    }
+}
+
+/// A thread whose call locks a mutex.
+fn awake(mut thread: Thread, mutex: u64) -> Thread
+    ensures edit { (p : ℕ → Path) (c : ℕ) → todo_of_mode (mode_by thread.mode thread.regs) ≡ CondAsleep c mutex ∷ [] → edited (Replace (MutexLock mutex)) (Thread_of (thread_by p thread)) ≡ Thread_of (thread_by p result) }
+    ensures talk { result.talk ≡ thread.talk }
+    ensures fault { result.fault ≡ thread.fault }
+{
+    thread.regs[0] = 21;
+    thread.regs[1] = mutex;
+    thread
+}
+
+/// A thread that sleeps on a condition wakes up, and locks its mutex next.
+#[tactic(auto, using(fk_store::proofs::ThreadLaws::kind_thread, crate::proofs::SleeperLaws::wake_nobody))]
+pub fn wake(store: &mut Store, who: Who, mutex: u64)
+    requires sleeps { IsAsleep (world store.old) (place (path store.old) who) mutex }
+    ensures world { world store.new ≡ apply (Alter (place (path store.old) who) (Replace (MutexLock mutex))) (world store.old) }
+    ensures kinds { kind_there (world store.new) ≡ kind_there (world store.old) }
+    ensures paths { path store.new ≡ path store.old }
+{
+    if let Some(&thread) = store.thread(who) {
+        store.set(who, Body::Thread(awake(thread, mutex)));
+    }
+}
