@@ -1,12 +1,12 @@
 -- Doings: the move of a thread, by what it does next.
-use Rattle.std.proofs.Common.{◌≡◌, ℕ, Bool, true, false, ◌&&◌, List, [], ◌∷◌, Option, Some, None, unwrap_or, refl, sym, ap, ◌∙◌}
+use Rattle.std.proofs.Common.{◌≡◌, ℕ, Bool, true, false, List, [], ◌∷◌, Option, Some, None, unwrap_or, refl, sym, ap, ◌∙◌}
 use Rattle.fk_model.specs.declared.moves.Ask.TheVariants as asks
 use Rattle.fk_model.specs.declared.stage.Stage.{Stage}
 use Rattle.fk_model.specs.declared.thread.Thread as threads_of
 use Rattle.fk_model.specs.declared.thread.Mode.TheVariants as modes
-use Rattle.fk_model.specs.Calls.{todo_of, rest_of, code_of}
+use Rattle.fk_model.specs.Calls.{todo_of, rest_of}
 use Rattle.fk_model.specs.Places.{Path, parent}
-use Rattle.fk_model.specs.Objects.{Mode, Thread}
+use Rattle.fk_model.specs.Objects.{Thread}
 use Rattle.fk_model.specs.Objects.Mode.{Calling}
 use Rattle.fk_model.specs.World.{World}
 use Rattle.fk_model.specs.Holds.{is_free}
@@ -17,10 +17,10 @@ use Rattle.fk_model.proofs.calls.CodeLaws.{known_code, unknown_code}
 use Rattle.fk_plans.specs.Effects.{is_running}
 use Rattle.fk_stages.specs.Built.{built}
 use Rattle.fk_store.specs.Bodies.{thread_by}
-use Rattle.fk_store.specs.Threads.{thread_at, todo_at}
+use Rattle.fk_store.specs.Threads.{todo_at}
 use Rattle.fk_calls.specs.Doings.{first_of, IsAtStage}
-use Rattle.fk_calls.specs.Rows.{IsRow}
 use Rattle.fk_calls.proofs.BuiltCalls.{row_named}
+use Rattle.fk_model.specs.Searches.{thread_at}
 
 -- ---- who doesn't move
 

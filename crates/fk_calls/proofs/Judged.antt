@@ -1,9 +1,8 @@
 -- Judged: the move of a thread that is judged.
-use Rattle.std.proofs.Common.{◌≡◌, ℕ, Bool, true, false, cond, ◌↔◌, IsTrue, IfOk, Result, Ok, Err, is_some, ◌&&◌, ◌||◌, is_none, List, [], ◌∷◌, Option, Some, None, option_map, IsSome, refl, sym, ap, subst, ◌∙◌}
+use Rattle.std.proofs.Common.{◌≡◌, ℕ, Bool, true, false, ◌↔◌, IsTrue, IfOk, Result, Ok, Err, is_some, ◌&&◌, List, [], ◌∷◌, Option, Some, None, option_map, IsSome, refl, sym, ap, subst, ◌∙◌}
 use Rattle.fk_model.specs.declared.moves.Ask.{Ask}
 use Rattle.fk_model.specs.declared.moves.Ask.TheVariants as asks
 use Rattle.fk_model.specs.declared.moves.Move.{Move}
-use Rattle.fk_model.specs.declared.moves.Said as says_of
 use Rattle.fk_model.specs.declared.names.Who.{Who}
 use Rattle.fk_model.specs.declared.stage.Stage.{Stage}
 use Rattle.fk_model.specs.Calls.{code_of}
@@ -30,13 +29,14 @@ use Rattle.fk_stages.specs.Built.{built}
 use Rattle.fk_store.specs.Contents.{Contents}
 use Rattle.fk_store.specs.Moves.{picked_by}
 use Rattle.fk_store.specs.Paths.{path, place}
-use Rattle.fk_store.specs.Threads.{thread_at, todo_of_mode, todo_of_thread, todo_at, is_free_at}
-use Rattle.fk_store.specs.World.{world, IsLive}
+use Rattle.fk_store.specs.Threads.{todo_of_mode, todo_of_thread, todo_at, is_free_at}
+use Rattle.fk_store.specs.World.{world}
 use Rattle.fk_user.specs.Effects.{IsInstruction}
 use Rattle.fk_user.specs.Known.{run_at, run_of_thread, run_in_mode}
 use Rattle.fk_calls.specs.declared.judging.Judgement.{Judgement}
 use Rattle.fk_calls.specs.Doings.{IsAtStage, is_free_porter_at}
 use Rattle.fk_calls.specs.Judgements.{words_of, outcome_of, IsJudged, IsReadyMove}
+use Rattle.fk_model.specs.Searches.{thread_at}
 
 -- ---- the machine's move of a free user
 

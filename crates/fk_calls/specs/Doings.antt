@@ -11,10 +11,11 @@ use Rattle.fk_model.specs.Places.{Path, parent}
 use Rattle.fk_model.specs.World.{World}
 use Rattle.fk_plans.specs.Effects.{is_running}
 use Rattle.fk_stages.specs.Built.{built}
-use Rattle.fk_store.specs.Threads.{thread_at, todo_at}
+use Rattle.fk_store.specs.Threads.{todo_at}
 use Rattle.fk_calls.specs.declared.doing.Doing.{Doing}
 use Rattle.fk_calls.specs.declared.doing.Doing.TheVariants as doings
 use Rattle.fk_calls.specs.Rows.{IsRow}
+use Rattle.fk_model.specs.Searches.{thread_at}
 
 abbrev pub first_of : Option (List Stage) → Option Stage
 first_of None = None

@@ -1,12 +1,11 @@
 -- Judgements: the move that a judgement stands for.
-use Rattle.std.specs.Prelude.{◌≡◌, ℕ, Bool, true, false, List, [], Option, ⊤}
+use Rattle.std.specs.Prelude.{◌≡◌, ℕ, true, false, List, []}
 use Rattle.fk_model.specs.declared.moves.Ask.{Ask}
 use Rattle.fk_model.specs.declared.moves.Ask.TheVariants as asks
 use Rattle.fk_model.specs.declared.moves.Move.{Move}
 use Rattle.fk_model.specs.declared.moves.Said.{Said}
 use Rattle.fk_model.specs.Moves.{known_outcome, known_step, IsKnownReady}
 use Rattle.fk_model.specs.Outcomes.{Outcome}
-use Rattle.fk_model.specs.Places.{Path}
 use Rattle.fk_stages.specs.Built.{built}
 use Rattle.fk_store.specs.Contents.{Contents}
 use Rattle.fk_store.specs.Moves.{picked_by, said_by}

@@ -14,13 +14,13 @@ use Rattle.fk_model.specs.Holds.{is_free}
 use Rattle.fk_model.specs.LinkRows.{user_at}
 use Rattle.fk_model.specs.Outcomes.{Outcome, when}
 use Rattle.fk_model.specs.Outcomes.Outcome.{Refused, Waits, Goes}
-use Rattle.fk_model.specs.Moves.{allowed_row, call_row, chooses, with_pick, closed, goes_on_by, user_move_by, known_outcome, IsKnownReady}
+use Rattle.fk_model.specs.Moves.{allowed_row, call_row, chooses, with_pick, goes_on_by, user_move_by, known_outcome, IsKnownReady}
 use Rattle.fk_model.specs.Valid.{kind_there}
 use Rattle.fk_store.specs.Contents.{Contents}
 use Rattle.fk_store.specs.Names.{who_cmp, rank}
-use Rattle.fk_store.specs.Threads.{thread_at}
 use Rattle.fk_store.specs.World.{world, place_of, IsLive}
 use Rattle.fk_stages.specs.Built.{built}
+use Rattle.fk_model.specs.Searches.{thread_at}
 
 -- ---- who is yet to come
 

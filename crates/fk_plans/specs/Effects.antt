@@ -13,7 +13,7 @@ use Rattle.fk_model.specs.Valid.{birth_at}
 use Rattle.fk_model.specs.World.{World}
 use Rattle.fk_model.specs.World.Change.{Alter, PutPage}
 use Rattle.fk_model.specs.World.Edit.{Proceed}
-use Rattle.fk_store.specs.Bodies.{calling}
+use Rattle.fk_store.specs.Bodies.{calling_mode}
 use Rattle.fk_plans.specs.declared.plan.Effect.{Effect}
 use Rattle.fk_plans.specs.declared.plan.Effect.TheVariants as effects
 
@@ -22,7 +22,7 @@ abbrev pub effect_by : World → (ℕ → Path) → Path → Effect → List ℕ
 effect_by w p me (effects.Puts register value) g counter = proceeds me (Running (slice_set g register value)) (next counter)
 effect_by w p me (effects.Jumps to) g counter = proceeds me (Running g) to
 effect_by w p me (effects.Halts code) g counter = proceeds me (Halted g code) counter
-effect_by w p me effects.Enters g counter = proceeds me (calling g) counter
+effect_by w p me effects.Enters g counter = proceeds me (calling_mode g) counter
 effect_by w p me (effects.Stores space page at value) g counter =
     Goes (PutPage (p space) page (slice_set (words_at w (p space) page) at value) ∷ Alter me (Proceed (Running g) (next counter)) ∷ []) Nothing
 

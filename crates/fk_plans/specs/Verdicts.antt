@@ -14,7 +14,7 @@ use Rattle.fk_model.specs.World.{World, apply_all}
 use Rattle.fk_store.specs.Contents.{Contents}
 use Rattle.fk_store.specs.Moves.{picked_by}
 use Rattle.fk_store.specs.Paths.{path, place}
-use Rattle.fk_store.specs.Threads.{thread_at, todo_at}
+use Rattle.fk_store.specs.Threads.{todo_at}
 use Rattle.fk_store.specs.World.{world, IsLive}
 use Rattle.fk_threads.specs.Answers.{listed, LeaveArguments}
 use Rattle.fk_plans.specs.declared.plan.Caller.{Caller}
@@ -22,6 +22,7 @@ use Rattle.fk_plans.specs.declared.plan.Verdict.{Verdict}
 use Rattle.fk_plans.specs.declared.plan.Verdict.TheVariants as verdicts
 use Rattle.fk_plans.specs.Effects.{effect_by, of_running, is_running, IsEffect}
 use Rattle.fk_plans.specs.Plans.{caller_by, changes_by, IsPlan, IsSure}
+use Rattle.fk_model.specs.Searches.{thread_at}
 
 -- the outcome that a verdict on a stage stands for
 abbrev pub outcome_by : World → (ℕ → Path) → outcomes.Caller → Verdict → Outcome

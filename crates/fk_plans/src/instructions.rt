@@ -3,9 +3,9 @@ ghost use Rattle.std.specs.Prelude.{◌≡◌};
 ghost use Rattle.fk_model.specs.Moves.{stepped};
 ghost use Rattle.fk_model.specs.Outcomes.Said.{Nothing};
 ghost use Rattle.fk_store.specs.Paths.{path, place};
-ghost use Rattle.fk_store.specs.Threads.{thread_at};
 ghost use Rattle.fk_store.specs.World.{world};
 ghost use Rattle.fk_plans.specs.Effects.{IsEffect, effect_by, of_running};
+ghost use Rattle.fk_model.specs.Searches.{thread_at};
 
 use crate::plan::Effect;
 use fk_model::{Mode, Thread, Who};

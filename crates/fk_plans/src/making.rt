@@ -6,7 +6,7 @@ ghost use Rattle.fk_model.specs.World.{apply_all};
 ghost use Rattle.fk_model.specs.declared.thread.Mode.TheVariants as modes;
 ghost use Rattle.fk_store.specs.Bodies.{body_by};
 ghost use Rattle.fk_store.specs.Contents.{Contents};
-ghost use Rattle.fk_store.specs.Kept.{IsSized};
+ghost use Rattle.fk_store.specs.WellFormed.{IsSized};
 ghost use Rattle.fk_store.specs.Makes.{making, IsNext};
 ghost use Rattle.fk_store.specs.Named.{OnNamed};
 ghost use Rattle.fk_store.specs.Paths.{path, place};

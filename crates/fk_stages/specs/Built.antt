@@ -1,5 +1,5 @@
 -- The calls that are built. The others are no calls yet: the instruction `call` answers BADCALL for them.
-use Rattle.std.specs.Prelude.{ℕ, Bool, false, ◌==◌, List, [], ◌∷◌}
+use Rattle.std.specs.Prelude.{ℕ, false, ◌==◌, List, [], ◌∷◌}
 use Rattle.std.specs.List.{list_any}
 use Rattle.fk_model.specs.Moves.{Known}
 

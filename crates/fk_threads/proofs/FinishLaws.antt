@@ -15,14 +15,14 @@ use Rattle.fk_model.specs.World.{World, edited, at_mode, ended_in, finished_in, 
 use Rattle.fk_model.specs.World.Edit.{End, Finish}
 use Rattle.fk_model.specs.World.Change.{Alter}
 use Rattle.fk_model.proofs.calls.CallLaws.{registers}
-use Rattle.fk_store.specs.Bodies.{calling, mode_by, thread_by}
+use Rattle.fk_store.specs.Bodies.{calling_mode, mode_by, thread_by}
 use Rattle.fk_store.specs.Threads.{todo_of_mode, todo_at}
 use Rattle.fk_store.proofs.ThreadLaws.{alter-nobody, words-status}
 use Rattle.fk_stages.proofs.Codes.{is_among, OfEach, OfOthers, of_registers}
 use Rattle.fk_threads.specs.declared.answers.Answers.{Answers}
 use Rattle.fk_threads.specs.declared.answers.Answers.TheVariants.{Nothing, One, Two, Three}
 use Rattle.fk_threads.specs.Answers.{listed, code_after, LeaveArguments}
-use Rattle.fk_store.specs.Threads.{thread_at}
+use Rattle.fk_model.specs.Searches.{thread_at}
 
 -- ---- the calls of several stages
 
@@ -46,7 +46,7 @@ no_code_after n = by (eqb n 33) (eqb n 34) (eqb n 35) (eqb n 49) (eqb n 53) (eqb
 -- such a call goes on, at the stages of this code
 GoesOn : Answers → Thread → List ℕ → ℕ → Type 0
 GoesOn answers t g code = LeaveArguments answers (unwrap_or (todo_of g) []) →
-    finished_in (listed answers) t (calling g) ≡ at_mode t (calling (slice_set (with_answers (listed answers) g) 0 code)) t.counter
+    finished_in (listed answers) t (calling_mode g) ≡ at_mode t (calling_mode (slice_set (with_answers (listed answers) g) 0 code)) t.counter
 
 Goes : Answers → Thread → List ℕ → Type 0
 Goes answers t g = (code : ℕ) → code_after (slice_index g 0) ≡ Some code → GoesOn answers t g code
@@ -147,7 +147,7 @@ finish_ends p t answers b long is none end = by t.mode is end
   where
     by : (m : modes_of.Mode) → m ≡ modes.Calling → Thread_of (ended_in OK answers (record (thread_by p t) { mode = mode_by m t.regs }) (mode_by m t.regs)) ≡ b → Thread_of (finished_in answers (record (thread_by p t) { mode = mode_by m t.regs }) (mode_by m t.regs)) ≡ b
     by modes.Running is end = end
-    by modes.Calling is end = ap Thread_of (sym (ends_lone answers (record (thread_by p t) { mode = calling t.regs }) (unwrap_or (todo_of t.regs) []) (rest_of (unwrap_or (todo_of t.regs) []) t.regs) (ends t.regs long (sym none)))) ∙ end
+    by modes.Calling is end = ap Thread_of (sym (ends_lone answers (record (thread_by p t) { mode = calling_mode t.regs }) (unwrap_or (todo_of t.regs) []) (rest_of (unwrap_or (todo_of t.regs) []) t.regs) (ends t.regs long (sym none)))) ∙ end
     by (modes.Halted code) is end = end
     by modes.Native is end = end
 

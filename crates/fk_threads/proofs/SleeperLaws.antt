@@ -16,12 +16,12 @@ use Rattle.fk_model.specs.World.Change.{Alter}
 use Rattle.fk_model.specs.SyncRows.{mutex_after}
 use Rattle.fk_model.specs.Talks.{first_stage}
 use Rattle.fk_model.proofs.calls.CallLaws.{registers, sixteen, todo_writes_back_lem}
-use Rattle.fk_store.specs.Bodies.{calling, mode_by, thread_by}
+use Rattle.fk_store.specs.Bodies.{calling_mode, mode_by, thread_by}
 use Rattle.fk_store.specs.Threads.{todo_of_mode, todo_at}
 use Rattle.fk_store.proofs.ThreadLaws.{alter-nobody}
 use Rattle.fk_stages.proofs.Codes.{is_among, OfEach, OfOthers, of_registers}
 use Rattle.fk_threads.specs.Sleepers.{asleep_in}
-use Rattle.fk_store.specs.Threads.{thread_at}
+use Rattle.fk_model.specs.Searches.{thread_at}
 
 -- ---- who sleeps
 
@@ -71,7 +71,7 @@ awoken : ℕ → List ℕ → List ℕ
 awoken m g = slice_set (slice_set g 0 21) 1 m
 
 Wakes : ℕ → List ℕ → Type 0
-Wakes m g = replaced_in (MutexLock m) (calling g) ≡ calling (awoken m g)
+Wakes m g = replaced_in (MutexLock m) (calling_mode g) ≡ calling_mode (awoken m g)
 
 wakes_written : (c m : ℕ) (r : ℕ → ℕ) → Wakes m (words (CondAsleep c m ∷ []) (rest_of (CondAsleep c m ∷ []) (registers (r 0) r)))
 unfolding Wakes awoken words rest_of todo_of code_of

@@ -9,13 +9,13 @@ ghost use Rattle.std.specs.Prelude.{◌≡◌, ℕ, List, true, false};
 ghost use Rattle.fk_model.specs.Moves.{stepped};
 ghost use Rattle.fk_model.specs.Outcomes.Said.{Nothing};
 ghost use Rattle.fk_store.specs.Paths.{path, place};
-ghost use Rattle.fk_store.specs.Threads.{thread_at};
 ghost use Rattle.fk_store.specs.World.{world};
 ghost use Rattle.fk_plans.specs.Effects.{is_running};
 ghost use Rattle.fk_plans.specs.Plans.{caller_by};
 ghost use Rattle.fk_plans.specs.Verdicts.{outcome_by, IsVerdict, IsSureVerdict};
 ghost use Rattle.fk_user.specs.Effects.{outcome_at, IsInstruction};
 ghost use Rattle.fk_user.specs.Known.{known_by, no_calls, run_at};
+ghost use Rattle.fk_model.specs.Searches.{thread_at};
 
 mod effect;
 

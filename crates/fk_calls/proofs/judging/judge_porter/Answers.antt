@@ -1,6 +1,5 @@
-use Rattle.std.proofs.Common.{◌≡◌, true, false, sym, subst, ◌∙◌}
+use Rattle.std.proofs.Common.{sym, subst}
 use Rattle.fk_model.specs.declared.moves.Ask.TheVariants as asks
-use Rattle.fk_calls.specs.declared.judging.Judgement.{Judgement}
 use Rattle.fk_calls.specs.Judgements.{IsJudged}
 use Rattle.fk_calls.proofs.BuiltCalls.{row_built}
 use Rattle.fk_calls.proofs.Judged.{porter, held_porter, unbuilt_porter, porter_judged}

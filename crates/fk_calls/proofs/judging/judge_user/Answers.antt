@@ -1,8 +1,4 @@
-use Rattle.std.proofs.Common.{◌≡◌, true, false, [], sym, subst, ◌∙◌}
-use Rattle.fk_store.specs.Paths.{path, place}
-use Rattle.fk_store.specs.Threads.{is_free_at}
-use Rattle.fk_store.specs.World.{world}
-use Rattle.fk_calls.specs.declared.judging.Judgement.{Judgement}
+use Rattle.std.proofs.Common.{[], sym, subst}
 use Rattle.fk_calls.specs.Judgements.{IsJudged}
 use Rattle.fk_calls.proofs.Judged.{user, held_user, instruction_judged, stage_judged}
 use Rattle.fk_model.specs.declared.moves.Ask.TheVariants as asks

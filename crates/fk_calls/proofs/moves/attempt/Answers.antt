@@ -1,6 +1,6 @@
-use Rattle.std.proofs.Common.{◌≡◌, refl, ◌∙◌}
+use Rattle.std.proofs.Common.{◌∙◌}
 use Rattle.fk_calls.specs.Judgements.{words_of}
-use Rattle.fk_calls.proofs.Judged.{ready_judged, step_judged, never_ready, free_there}
+use Rattle.fk_calls.proofs.Judged.{ready_judged, step_judged, free_there}
 use Rattle.fk_calls.proofs.moves.attempt.Goals as goal
 
 pub is_ready-requires-clause-free : goal.is_ready-requires-clause-free

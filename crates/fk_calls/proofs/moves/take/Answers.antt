@@ -1,5 +1,5 @@
-use Rattle.std.proofs.Common.{◌≡◌, IfOk, ◌∙◌}
-use Rattle.fk_calls.specs.Judgements.{words_of, IsStepTo}
+use Rattle.std.proofs.Common.{◌∙◌}
+use Rattle.fk_calls.specs.Judgements.{words_of}
 use Rattle.fk_calls.proofs.Judged.{step_judged, never_ready, free_there, if_ok}
 use Rattle.fk_calls.proofs.moves.take.Goals as goal
 
