@@ -1,5 +1,6 @@
 -- Ready: when the freezing rule and the picks let a verdict be.
-use Rattle.std.proofs.Common.{◌≡◌, ℕ, Bool, true, false, not, ◌&&◌, ◌||◌, ◌==◌, ◌↔◌, IsTrue, is_none, List, [], ◌∷◌, ◌++◌, Option, Some, None, IsSome, cond, eqb, slice_set, refl, ap, subst}
+use Rattle.std.proofs.Common.{◌≡◌, ℕ, Bool, true, false, not, ◌&&◌, ◌||◌, ◌==◌, ◌↔◌, IsTrue, is_none, List, [], ◌∷◌, ◌++◌, Option, Some, None, IsSome, cond, eqb, slice_set, refl, sym, ap, subst}
+use Rattle.std.specs.List.{list_any}
 use Rattle.fk_model.specs.declared.names.Who.{Who}
 use Rattle.fk_model.specs.Places.{Path, Ptr}
 use Rattle.fk_model.specs.Places.Ptr.{At}
@@ -8,20 +9,22 @@ use Rattle.fk_model.specs.Objects.Mode.{Running, Calling, Halted, Native}
 use Rattle.fk_model.specs.Objects.Body.{Mutex, Cond, Mapping, Region, Port, Portset, Space, Thread_of, Reference}
 use Rattle.fk_model.specs.World.{World, Change, Edit}
 use Rattle.fk_model.specs.World.Change.{Alter, Make, MakeSpace, PutPage}
-use Rattle.fk_model.specs.World.Edit.{SetFault, SetLocked, Proceed}
+use Rattle.fk_model.specs.World.Edit.{SetFault, SetLocked, SetPointer, Proceed}
 use Rattle.fk_model.specs.Instructions.{next}
 use Rattle.fk_model.specs.Reach.{words_at}
 use Rattle.fk_model.specs.UserRows.{proceeds}
 use Rattle.fk_model.specs.ObjectRows.{new_object}
-use Rattle.fk_model.specs.Searches.{option_list, pointers, thread_at}
-use Rattle.fk_model.specs.Holds.{is_frozen, is_frozen_for, is_free, is_user}
+use Rattle.fk_model.specs.Searches.{option_list, fault_pointers, pointers, thread_at}
+use Rattle.fk_model.specs.Holds.{is_frozen, is_frozen_for, leads_to_frozen, is_free, is_user}
 use Rattle.fk_model.specs.Outcomes as outcomes
 use Rattle.fk_model.specs.Outcomes.{Outcome, when, done}
 use Rattle.fk_model.specs.Outcomes.Outcome.{Refused, Waits, Goes}
-use Rattle.fk_model.specs.Freezing.{changed_pointers, MayAlter, MayMake, IsAllowed, AreAllowed}
+use Rattle.fk_model.specs.Freezing.{changed_pointers, made_pointers, are_unfrozen, body_pointers, MayAlter, MayMake, IsAllowed, AreAllowed}
 use Rattle.fk_model.specs.Moves.{closed, with_pick, GoesAllowed}
 use Rattle.fk_store.specs.Contents.{Contents}
 use Rattle.fk_store.specs.Paths.{path, place}
+use Rattle.fk_store.specs.Bodies.{pointer_by}
+use Rattle.fk_threads.specs.Answers.{listed}
 use Rattle.fk_store.specs.Moves.{picked_by}
 use Rattle.fk_store.specs.Threads.{is_free_at}
 use Rattle.fk_store.specs.World.{world}
@@ -60,6 +63,10 @@ plain_iff w me x e plain = let test = not_iff (is_frozen_for w me x) in ((λ h. 
 
 deed_iff : (w v : World) (me : Path) (p : ℕ → Path) (d : Deed) → IsTrue (is_deed_allowed w me p d) ↔ IsAllowed w me (change_by p d v)
 deed_iff w v me p (deeds.Locks mutex locked) = plain_iff w me (place p mutex) (SetLocked locked) (record { changed = λ b. refl; made = refl })
+deed_iff w v me p (deeds.Sends block) = not_iff (is_frozen_for w me (p block.to.0))
+deed_iff w v me p (deeds.Counts client count) = plain_iff w me (place p client) _ (record { changed = λ b. refl; made = refl })
+deed_iff w v me p (deeds.Shifts thread count) = plain_iff w me (place p thread) _ (record { changed = λ b. refl; made = refl })
+deed_iff w v me p (deeds.Ends thread status) = plain_iff w me (place p thread) _ (record { changed = λ b. refl; made = refl })
 deed_iff w v me p (deeds.Wakes thread mutex) = plain_iff w me (place p thread) _ (record { changed = λ b. refl; made = refl })
 
 on_if : (P : Option Change → Option Change → Type 0) (b : Bool) (t1 e1 t2 e2 : Option Change) → P t1 t2 → P e1 e2 → P (cond b t1 e1) (cond b t2 e2)

@@ -17,6 +17,10 @@ use Rattle.fk_plans.specs.declared.plan.Verdict.TheVariants as verdicts
 abbrev pub is_deed_allowed : World → Path → (ℕ → Path) → Deed → Bool
 is_deed_allowed w me p (deeds.Locks mutex locked) = not (is_frozen_for w me (place p mutex))
 is_deed_allowed w me p (deeds.Wakes thread mutex) = not (is_frozen_for w me (place p thread))
+is_deed_allowed w me p (deeds.Sends block) = not (is_frozen_for w me (p block.to.0))
+is_deed_allowed w me p (deeds.Counts client count) = not (is_frozen_for w me (place p client))
+is_deed_allowed w me p (deeds.Shifts thread count) = not (is_frozen_for w me (place p thread))
+is_deed_allowed w me p (deeds.Ends thread status) = not (is_frozen_for w me (place p thread))
 
 abbrev pub is_plan_allowed : World → Path → (ℕ → Path) → Plan → Bool
 is_plan_allowed w me p plans.Nothing = true

@@ -3,3 +3,4 @@ pub mod Effects
 pub mod Verdicts
 pub mod Allowed
 pub mod Readings
+pub mod Blocks

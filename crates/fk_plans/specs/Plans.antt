@@ -7,10 +7,12 @@ use Rattle.fk_model.specs.Outcomes as outcomes
 use Rattle.fk_model.specs.Places.{Path}
 use Rattle.fk_model.specs.Valid.{birth_at}
 use Rattle.fk_model.specs.World.{World, Change, apply}
-use Rattle.fk_model.specs.World.Change.{Alter}
-use Rattle.fk_model.specs.World.Edit.{SetLocked, Replace}
+use Rattle.fk_model.specs.World.Change.{Alter, PutPage}
+use Rattle.fk_model.specs.World.Edit.{SetLocked, Replace, CountMoved, Shift, End}
 use Rattle.fk_store.specs.Paths.{place}
+use Rattle.fk_threads.specs.Shifted.{IsLow}
 use Rattle.fk_threads.specs.Sleepers.{IsAsleep}
+use Rattle.fk_plans.specs.Blocks.{block_page, IsBlock}
 use Rattle.fk_plans.specs.declared.plan.Caller.{Caller}
 use Rattle.fk_plans.specs.declared.plan.Deed.{Deed}
 use Rattle.fk_plans.specs.declared.plan.Deed.TheVariants as deeds
@@ -25,6 +27,10 @@ caller_by p c words = record { space = p c.who.space; slot = c.who.slot; is_port
 abbrev pub change_by : (ℕ → Path) → Deed → World → Change
 change_by p (deeds.Locks mutex locked) w = Alter (place p mutex) (SetLocked locked)
 change_by p (deeds.Wakes thread mutex) w = Alter (place p thread) (Replace (MutexLock mutex))
+change_by p (deeds.Sends block) w = PutPage (p block.to.0) block.to.1 (block_page p w block)
+change_by p (deeds.Counts client count) w = Alter (place p client) (CountMoved count)
+change_by p (deeds.Shifts thread count) w = Alter (place p thread) (Shift count)
+change_by p (deeds.Ends thread status) w = Alter (place p thread) (End status [])
 
 abbrev pub after : (ℕ → Path) → Deed → World → World
 after p d w = apply (change_by p d w) w
@@ -54,6 +60,10 @@ changes_by p (plans.Makes object kind) w = made (new_object (place p object) kin
 abbrev pub IsDeed : (ℕ → Path) → World → Deed → Type 0
 IsDeed p w (deeds.Locks mutex locked) = ⊤
 IsDeed p w (deeds.Wakes thread mutex) = IsAsleep w (place p thread) mutex
+IsDeed p w (deeds.Sends block) = IsBlock p w block
+IsDeed p w (deeds.Counts client count) = ⊤
+IsDeed p w (deeds.Shifts thread count) = IsLow w (place p thread) count
+IsDeed p w (deeds.Ends thread status) = ⊤
 
 -- an empty slot of a space that is there, and a kind
 abbrev pub IsMaking : (ℕ → Path) → World → Who → ℕ → Type 0

@@ -9,6 +9,7 @@ ghost use Rattle.fk_store.specs.World.{world, IsLive};
 ghost use Rattle.fk_plans.specs.Plans.{caller_by, change_by, changes_by, IsDeed, IsPlan, IsSure};
 ghost use Rattle.fk_plans.specs.Verdicts.{outcome_by, IsVerdict, IsSureVerdict};
 
+use crate::blocks::send_block;
 use crate::instructions::run;
 use crate::making::make;
 use crate::plan::{Caller, Deed, Plan, Verdict};
@@ -16,7 +17,7 @@ use crate::telling::{told, told_page};
 use fk_model::status::OK;
 use fk_model::{NoMemory, Said, Who};
 use fk_store::Store;
-use fk_threads::{Answers, finish, wake};
+use fk_threads::{Answers, advance, count_moved, finish, wake};
 
 /// Does a deed.
 fn carry(store: &mut Store, deed: &Deed)
@@ -27,6 +28,10 @@ fn carry(store: &mut Store, deed: &Deed)
     match *deed {
         Deed::Locks { mutex, locked } => store.set_locked(mutex, locked),
         Deed::Wakes { thread, mutex } => wake(store, thread, mutex),
+        Deed::Sends(block) => send_block(store, block),
+        Deed::Counts { client, count } => count_moved(store, client, count),
+        Deed::Shifts { thread, count } => advance(store, thread, u64::from(count)),
+        Deed::Ends { thread, status } => store.end_call(thread, status),
     }
 }
 

@@ -6,6 +6,7 @@
 //! store's world what the abstract machine makes of it, or leaves all as it was for want of memory.
 #![tactic(auto)]
 
+mod blocks;
 mod carrying;
 mod instructions;
 mod making;
@@ -14,6 +15,7 @@ mod readers;
 mod readiness;
 mod telling;
 
+pub use blocks::Block;
 pub use carrying::carry_out;
 pub use instructions::make_effect;
 pub use plan::{Caller, Deed, Effect, Plan, Verdict};

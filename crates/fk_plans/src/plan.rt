@@ -1,4 +1,5 @@
 //! What a stage comes to.
+use crate::blocks::Block;
 use fk_model::Who;
 use fk_threads::Answers;
 
@@ -16,6 +17,14 @@ pub enum Deed {
     Locks { mutex: Who, locked: bool },
     /// A thread that sleeps on a condition wakes up, and locks this mutex next.
     Wakes { thread: Who, mutex: u64 },
+    /// Words of a page go to a page that is there.
+    Sends(Block),
+    /// The talk of a client has moved so many words more.
+    Counts { client: Who, count: u8 },
+    /// The first stage of a thread's call has moved so many words.
+    Shifts { thread: Who, count: u8 },
+    /// The whole call of a thread ends with a status.
+    Ends { thread: Who, status: u8 },
 }
 
 /// What a stage does, its caller's own part left out: deeds in this order, or alone what wants

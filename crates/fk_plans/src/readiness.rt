@@ -18,6 +18,9 @@ fn is_deed_allowed(store: &Store, me: Who, deed: &Deed) -> bool
     match *deed {
         Deed::Locks { mutex, .. } => !store.frozen_for(me, mutex),
         Deed::Wakes { thread, .. } => !store.frozen_for(me, thread),
+        Deed::Sends(block) => !store.space_frozen_for(me, block.to.0),
+        Deed::Counts { client, .. } => !store.frozen_for(me, client),
+        Deed::Shifts { thread, .. } | Deed::Ends { thread, .. } => !store.frozen_for(me, thread),
     }
 }
 

@@ -1,63 +1,11 @@
 //! Mutexes and conditions: what their stages come to.
 //!
-//! It stands on `fk_plans`, and promises of each stage that its verdict stands for the outcome of
-//! the stage's row in the abstract machine, and can be carried out.
+//! It stands on `fk_plans` and `fk_threads`, and promises of each stage that its verdict stands for
+//! the outcome of the stage's row in the abstract machine, and can be carried out without memory.
 #![tactic(auto)]
 
-ghost use Rattle.std.specs.Prelude.{◌≡◌, ◌≤◌, IfOk};
-ghost use Rattle.fk_model.specs.SyncRows as rows;
-ghost use Rattle.fk_plans.specs.Verdicts.{Judges, IsSureVerdict};
+mod conditions;
+mod mutexes;
 
-use fk_model::Who;
-use fk_model::status::{NONE, NOTLOCKED};
-use fk_plans::{Caller, Deed, Plan, Verdict, mutex_in};
-use fk_store::Store;
-use fk_threads::Answers;
-
-/// The stage locks a mutex of the caller's space, or unlocks it, and is done.
-fn sets(caller: Caller, m: u64, locked: bool) -> Verdict
-    requires { m ≤ 255 }
-    ensures { result ≡ Verdict.Done (Plan.One (Deed.Locks (record { space = caller.who.space; slot = m }) locked)) Answers.Nothing }
-{
-    let mutex = Who {
-        space: caller.who.space,
-        slot: m as u8,
-    };
-    Verdict::Done(Plan::One(Deed::Locks { mutex, locked }), Answers::Nothing)
-}
-
-/// It waits while the mutex is locked.
-#[tactic(auto, unfolding(fk_model::specs::SyncRows::mutex_lock))]
-pub fn mutex_lock(store: &Store, caller: Caller, m: u64) -> Result<Verdict, u8>
-    ensures row { Judges store.now caller result (λ w c. rows.mutex_lock w c m) }
-    ensures sure { IfOk result IsSureVerdict }
-{
-    if mutex_in(store, caller, caller.who.space, m)? {
-        return Ok(Verdict::Waits);
-    }
-    Ok(sets(caller, m, true))
-}
-
-/// It is refused where the mutex is locked.
-#[tactic(auto, unfolding(fk_model::specs::SyncRows::mutex_trylock))]
-pub fn mutex_trylock(store: &Store, caller: Caller, m: u64) -> Result<Verdict, u8>
-    ensures row { Judges store.now caller result (λ w c. rows.mutex_trylock w c m) }
-    ensures sure { IfOk result IsSureVerdict }
-{
-    if mutex_in(store, caller, caller.who.space, m)? {
-        return Err(NONE);
-    }
-    Ok(sets(caller, m, true))
-}
-
-/// It is refused where the mutex isn't locked.
-#[tactic(auto, unfolding(fk_model::specs::SyncRows::mutex_unlock))]
-pub fn mutex_unlock(store: &Store, caller: Caller, m: u64) -> Result<Verdict, u8>
-    ensures row { Judges store.now caller result (λ w c. rows.mutex_unlock w c m) }
-    ensures sure { IfOk result IsSureVerdict }
-{
-    if !mutex_in(store, caller, caller.who.space, m)? {
-        return Err(NOTLOCKED);
-    }
-    Ok(sets(caller, m, false))
-}
+pub use conditions::cond_signal;
+pub use mutexes::{mutex_lock, mutex_trylock, mutex_unlock};

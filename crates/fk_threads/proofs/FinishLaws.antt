@@ -8,8 +8,8 @@ use Rattle.fk_model.specs.declared.thread.Mode.TheVariants as modes
 use Rattle.fk_model.specs.declared.thread.Thread as threads_of
 use Rattle.fk_model.specs.Places.{Path}
 use Rattle.fk_model.specs.Calls.{calls, with_answers, words, todo_of, rest_of, code_of}
-use Rattle.fk_model.specs.Objects.{Mode, Thread, Body}
-use Rattle.fk_model.specs.Objects.Mode.{Running, Calling, Halted, Native}
+use Rattle.fk_model.specs.Objects.{Thread, Body}
+use Rattle.fk_model.specs.Objects.Mode.{Running, Calling}
 use Rattle.fk_model.specs.Objects.Body.{Thread_of}
 use Rattle.fk_model.specs.World.{World, edited, at_mode, ended_in, finished_in, apply}
 use Rattle.fk_model.specs.World.Edit.{End, Finish}

@@ -1,2 +1,3 @@
 pub mod FinishLaws
 pub mod SleeperLaws
+pub mod ShiftLaws

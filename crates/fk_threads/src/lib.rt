@@ -1,4 +1,5 @@
-//! Threads in calls: what becomes of a thread whose stage is done, and of one that wakes up.
+//! Threads in calls: what becomes of a thread whose stage is done, that wakes up, or whose stage has
+//! moved words.
 //!
 //! It stands on `fk_store` and `fk_stages`. The registers of a calling thread stand for the stages
 //! that it has before it; here it is proved what a change of these stages makes of the registers.
@@ -7,7 +8,9 @@
 #![tactic(auto)]
 
 mod answers;
+mod shifts;
 mod sleepers;
 
 pub use answers::{Answers, finish};
-pub use sleepers::{asleep_on, wake};
+pub use shifts::{advance, count_moved, receive_of};
+pub use sleepers::{asleep_on, is_slept_on, wake};

@@ -1,5 +1,5 @@
 //! Threads that sleep on a condition.
-ghost use Rattle.std.specs.Prelude.{◌≡◌, ◌∷◌, [], ℕ};
+ghost use Rattle.std.specs.Prelude.{◌≡◌, ◌∷◌, [], ℕ, IfSome};
 ghost use Rattle.fk_model.specs.Objects.{and_then};
 ghost use Rattle.fk_model.specs.Objects.Body.{Thread_of};
 ghost use Rattle.fk_model.specs.Places.{Path};
@@ -14,7 +14,7 @@ ghost use Rattle.fk_store.specs.Bodies.{mode_by, thread_by};
 ghost use Rattle.fk_store.specs.Paths.{path, place};
 ghost use Rattle.fk_store.specs.Threads.{todo_of_mode};
 ghost use Rattle.fk_store.specs.World.{world};
-ghost use Rattle.fk_threads.specs.Sleepers.{asleep_in, IsAsleep};
+ghost use Rattle.fk_threads.specs.Sleepers.{asleep_in, is_changed, IsAsleep};
 
 use fk_model::{Body, Mode, Thread, Who};
 use fk_store::Store;
@@ -31,7 +31,8 @@ fn asleep_in(registers: &[u64; 16], cond: u64) -> Option<u64>
 
 /// The mutex that a thread will lock which sleeps on a condition.
 fn asleep_of(thread: &Thread, cond: u64) -> Option<u64>
-    ensures { (p : ℕ → Path) → result ≡ and_then (rows.mutex_after cond) (first_stage (thread_by p thread.now).mode) }
+    ensures mutex { (p : ℕ → Path) → result ≡ and_then (rows.mutex_after cond) (first_stage (thread_by p thread.now).mode) }
+    ensures alone { IfSome result (λ mutex. todo_of_mode (mode_by thread.now.mode thread.now.regs) ≡ CondAsleep cond mutex ∷ []) }
 {
     match thread.mode {
         Mode::Calling => asleep_in(&thread.regs, cond),
@@ -42,12 +43,29 @@ fn asleep_of(thread: &Thread, cond: u64) -> Option<u64>
 /// The mutex that the thread in a slot will lock which sleeps on a condition; nothing where nobody
 /// sleeps on it there.
 pub fn asleep_on(store: &Store, who: Who, cond: u64) -> Option<u64>
-    ensures { result ≡ rows.asleep_on cond ((world store.now).body (place (path store.now) who)) }
+    ensures mutex { result ≡ rows.asleep_on cond ((world store.now).body (place (path store.now) who)) }
+    ensures asleep { IfSome result (λ mutex. IsAsleep (world store.now) (place (path store.now) who) mutex) }
 {
     match store.thread(who) {
         Some(thread) => asleep_of(thread, cond),
         None => None,
     }
+}
+
+/// Whether somebody in a space sleeps on a condition.
+pub fn is_slept_on(store: &Store, space: u32, cond: u64) -> bool
+    ensures { result ≡ is_changed (rows.sleepers (world store.now) (path store.now space) cond) }
+{
+    for slot in 0..256u16 {
+        let who = Who {
+            space,
+            slot: slot as u8,
+        };
+        if asleep_on(store, who, cond).is_some() {
+            return true;
+        }
+    }
+    false
 }
 
 /// A thread whose call locks a mutex.

@@ -1,0 +1,55 @@
+//! Blocks of words that go from a page to a page.
+ghost use Rattle.std.specs.Prelude.{◌≡◌, ◌+◌, ◌≤◌, take, drop, IsSome};
+ghost use Rattle.fk_model.specs.Reach.{words_at};
+ghost use Rattle.fk_model.specs.TransferRows.{overwritten};
+ghost use Rattle.fk_model.specs.World.{apply};
+ghost use Rattle.fk_model.specs.World.Change.{PutPage};
+ghost use Rattle.fk_model.specs.Valid.{kind_there};
+ghost use Rattle.fk_store.specs.Paths.{path};
+ghost use Rattle.fk_store.specs.World.{world, IsSpace};
+ghost use Rattle.fk_plans.specs.Blocks.{block_page};
+
+use fk_store::Store;
+
+/// So many words of a page, from a place on, that go to a place of another page, or of the same.
+#[derive(Clone, Copy)]
+pub struct Block {
+    pub from: (u32, u8),
+    pub at: u8,
+    pub to: (u32, u8),
+    pub into: u8,
+    pub count: u8,
+}
+
+/// A page into which a block of another page is written.
+fn written(mut page: [u64; 64], from: &[u64; 64], at: u8, into: u8, count: u8) -> [u64; 64]
+    requires at { at + count ≤ 64 }
+    requires into { into + count ≤ 64 }
+    ensures { result ≡ overwritten page into (take count (drop at from.now)) }
+{
+    let at = at as usize;
+    let into = into as usize;
+    let count = count as usize;
+    page[into..into + count].copy_from_slice(&from[at..at + count]);
+    page
+}
+
+/// Words of a page go to a page that is there, which may be the same one.
+pub fn send_block(store: &mut Store, block: Block)
+    requires at { block.at + block.count ≤ 64 }
+    requires into { block.into + block.count ≤ 64 }
+    requires from { IsSome ((world store.old).page (path store.old block.from.0) block.from.1) }
+    requires space { IsSpace store.old block.to.0 }
+    requires to { IsSome ((world store.old).page (path store.old block.to.0) block.to.1) }
+    ensures world { world store.new ≡ apply (PutPage (path store.old block.to.0) block.to.1 (block_page (path store.old) (world store.old) block)) (world store.old) }
+    ensures kinds { kind_there (world store.new) ≡ kind_there (world store.old) }
+    ensures paths { path store.new ≡ path store.old }
+{
+    let Some(from) = store.page(block.from.0, block.from.1) else { unreachable!() };
+    let Some(to) = store.page(block.to.0, block.to.1) else { unreachable!() };
+    let words = written(*to, from, block.at, block.into, block.count);
+    match store.put_page(block.to.0, block.to.1, &words) {
+        Ok(()) => {}
+        Err(_) => unreachable!(),
+    }
+}

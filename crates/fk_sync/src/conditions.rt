@@ -1,0 +1,68 @@
+//! Stages of conditions.
+ghost use Rattle.std.specs.Prelude.{◌≡◌, ℕ, List, IfOk, IsSome, Some, None};
+ghost use Rattle.fk_model.specs.Places.{same_path};
+ghost use Rattle.fk_model.specs.SyncRows as rows;
+ghost use Rattle.fk_store.specs.Moves.{picked_by};
+ghost use Rattle.fk_store.specs.Paths.{path, place};
+ghost use Rattle.fk_store.specs.World.{world};
+ghost use Rattle.fk_plans.specs.Plans.{caller_by};
+ghost use Rattle.fk_plans.specs.Verdicts.{Judges, IsSureVerdict, IsVerdict, outcome_by};
+
+use fk_model::Who;
+use fk_plans::{Caller, Deed, Plan, Verdict, cond_in};
+use fk_store::Store;
+use fk_threads::{Answers, asleep_on, is_slept_on};
+
+/// Whether an object that is there is in a space.
+fn is_in(store: &Store, who: Who, space: u32) -> bool
+    ensures { IsSome ((world store.now).body (place (path store.now) who)) → result ≡ same_path (path store.now who.space) (path store.now space) }
+{
+    store.at(who).is_some() && who.space == space
+}
+
+/// The sleeper that is picked wakes up.
+fn signals(store: &Store, caller: Caller, who: Who, cond: u64) -> Verdict
+    ensures row { (words : List ℕ) → outcome_by (world store.now) (path store.now) (caller_by (path store.now) caller words) result
+        ≡ rows.picks_sleeper (world store.now) (caller_by (path store.now) caller words) cond (Some (place (path store.now) who)) }
+    ensures fits { IsVerdict store.now caller result }
+    ensures sure { IsSureVerdict result }
+{
+    match asleep_on(store, who, cond) {
+        Some(mutex) if is_in(store, who, caller.who.space) => {
+            let thread = who;
+            Verdict::Done(Plan::One(Deed::Wakes { thread, mutex }), Answers::Nothing)
+        }
+        Some(_) | None => Verdict::Waits,
+    }
+}
+
+/// Where nobody is picked, it is done if nobody sleeps.
+fn signals_nobody(store: &Store, caller: Caller, cond: u64) -> Verdict
+    ensures row { (words : List ℕ) → outcome_by (world store.now) (path store.now) (caller_by (path store.now) caller words) result
+        ≡ rows.picks_sleeper (world store.now) (caller_by (path store.now) caller words) cond None }
+    ensures fits { IsVerdict store.now caller result }
+    ensures sure { IsSureVerdict result }
+{
+    if is_slept_on(store, caller.who.space, cond) {
+        return Verdict::Waits;
+    }
+    Verdict::Done(Plan::Nothing, Answers::Nothing)
+}
+
+/// One sleeper that is picked wakes up; where nobody sleeps, nobody is picked.
+#[tactic(auto, unfolding(fk_model::specs::SyncRows::cond_signal))]
+pub fn cond_signal(
+    store: &Store,
+    caller: Caller,
+    cond: u64,
+    pick: Option<Who>,
+) -> Result<Verdict, u8>
+    ensures row { Judges store.now caller result (λ w c. rows.cond_signal w c (picked_by (path store.now) pick) cond) }
+    ensures sure { IfOk result IsSureVerdict }
+{
+    cond_in(store, caller, caller.who.space, cond)?;
+    Ok(match pick {
+        Some(who) => signals(store, caller, who, cond),
+        None => signals_nobody(store, caller, cond),
+    })
+}

@@ -1,0 +1,122 @@
+//! What a moved block makes of the threads at its ends.
+ghost use Rattle.fk_model.specs.declared.limits.TheConstants.{MOST_MOVED};
+ghost use Rattle.std.specs.Prelude.{min, ◌≡◌, ◌<◌, ◌+◌, ◌-◌, ◌^◌, ℕ, slice_index};
+ghost use Rattle.fk_model.specs.Objects.Body.{Thread_of};
+ghost use Rattle.fk_model.specs.Places.{Path};
+ghost use Rattle.fk_model.specs.Talks.{receiving};
+ghost use Rattle.fk_model.specs.World.{apply, edited};
+ghost use Rattle.fk_model.specs.World.Change.{Alter};
+ghost use Rattle.fk_model.specs.World.Edit.{Shift, CountMoved};
+ghost use Rattle.fk_model.specs.Valid.{kind_there};
+ghost use Rattle.fk_model.specs.declared.thread.Turn.TheVariants as turns;
+ghost use Rattle.fk_store.specs.Bodies.{mode_by, thread_by};
+ghost use Rattle.fk_store.specs.Paths.{path, place};
+ghost use Rattle.fk_store.specs.Threads.{todo_of_mode};
+ghost use Rattle.fk_store.specs.World.{world, IsLive};
+ghost use Rattle.fk_store.specs.Contents.{Contents};
+ghost use Rattle.fk_store.specs.Named.{OnNamed};
+ghost use Rattle.fk_model.specs.declared.body.Body.{Body as StoredBody};
+ghost use Rattle.fk_threads.specs.Shifted.{moving, address_in, address_of, shifted_registers, receive_in, IsLow};
+
+use fk_model::{Body, Mode, Talk, Thread, Who};
+use fk_store::Store;
+
+/// What is left, or nothing.
+fn less(a: u64, b: u64) -> u64
+    ensures { result ≡ a - b }
+{
+    if a < b { 0 } else { a - b }
+}
+
+/// Registers whose call has moved so many words in its first stage.
+fn shifted(registers: [u64; 16], count: u64) -> [u64; 16]
+    requires { address_in (moving (slice_index registers 0)) registers + count < 2 ^ 64 }
+    ensures { result ≡ shifted_registers count registers }
+{
+    let mut moved = registers;
+    match registers[0] {
+        34 | 37 | 51 | 53 => {
+            moved[2] = registers[2] + count;
+            moved[3] = less(registers[3], count);
+        }
+        36 | 50 => {
+            moved[4] = registers[4] + count;
+            moved[5] = less(registers[5], count);
+        }
+        _ => {}
+    }
+    moved
+}
+
+/// A thread whose first stage has moved so many words.
+#[tactic(auto, using(crate::proofs::ShiftLaws::shift_other))]
+fn advanced(mut thread: Thread, count: u64) -> Thread
+    requires { address_of (todo_of_mode (mode_by thread.mode thread.regs)) + count < 2 ^ 64 }
+    ensures edit { (p : ℕ → Path) → edited (Shift count) (Thread_of (thread_by p thread)) ≡ Thread_of (thread_by p result) }
+    ensures talk { result.talk ≡ thread.talk }
+    ensures fault { result.fault ≡ thread.fault }
+{
+    if let Mode::Calling = thread.mode {
+        thread.regs = shifted(thread.regs, count);
+    }
+    thread
+}
+
+/// The first stage of a thread's call has moved so many words. What is in no such stage stays as it
+/// is.
+#[tactic(auto, using(fk_store::proofs::ThreadLaws::kind_thread, crate::proofs::ShiftLaws::shift_nobody, crate::proofs::ShiftLaws::low_there))]
+pub fn advance(store: &mut Store, who: Who, count: u64)
+    requires low { IsLow (world store.old) (place (path store.old) who) count }
+    ensures world { world store.new ≡ apply (Alter (place (path store.old) who) (Shift count)) (world store.old) }
+    ensures kinds { kind_there (world store.new) ≡ kind_there (world store.old) }
+    ensures paths { path store.new ≡ path store.old }
+{
+    if let Some(&thread) = store.thread(who) {
+        store.set(who, Body::Thread(advanced(thread, count)));
+    }
+}
+
+/// So many words more, counted up to the most that are counted.
+fn more(moved: u16, count: u8) -> u16
+    ensures { result ≡ min MOST_MOVED (moved + count) }
+{
+    let sum = u32::from(moved) + u32::from(count);
+    if sum > 65535 { 65535 } else { sum as u16 }
+}
+
+/// A thread's talk has moved so many words more.
+fn counted(mut thread: Thread, count: u8) -> Thread
+    ensures edit { (p : ℕ → Path) → edited (CountMoved count) (Thread_of (thread_by p thread)) ≡ Thread_of (thread_by p result) }
+    ensures named { (m : Contents) → OnNamed (IsLive m) (StoredBody.Thread thread) → OnNamed (IsLive m) (StoredBody.Thread result) }
+{
+    if let Some(talk) = thread.talk {
+        let moved = more(talk.moved, count);
+        thread.talk = Some(Talk { moved, ..talk });
+    }
+    thread
+}
+
+/// The talk of a thread as a client has moved so many words more. What is in no talk stays as it
+/// is.
+#[tactic(auto, using(fk_store::proofs::ThreadLaws::kind_thread, crate::proofs::ShiftLaws::count_nobody))]
+pub fn count_moved(store: &mut Store, client: Who, count: u8)
+    ensures world { world store.new ≡ apply (Alter (place (path store.old) client) (CountMoved count)) (world store.old) }
+    ensures kinds { kind_there (world store.new) ≡ kind_there (world store.old) }
+    ensures paths { path store.new ≡ path store.old }
+{
+    if let Some(&thread) = store.thread(client) {
+        store.set(client, Body::Thread(counted(thread, count)));
+    }
+}
+
+/// The address and the room of the Receive at which a thread is, as a server.
+pub fn receive_of(thread: &Thread) -> Option<(u64, u64)>
+    ensures { (p : ℕ → Path) → result ≡ receiving turns.Server (thread_by p thread.now).mode }
+{
+    if let Mode::Calling = thread.mode {
+        if thread.regs[0] == 50 {
+            return Some((thread.regs[4], thread.regs[5]));
+        }
+    }
+    None
+}
