@@ -124,6 +124,7 @@ instruction_unrefused m w p c verdicts.Waits is = absurd is
 instruction_unrefused m w p c (verdicts.Done plan answers) is = absurd is
 instruction_unrefused m w p c (verdicts.Shows plan space page) is = absurd is
 instruction_unrefused m w p c (verdicts.Goes plan) is = absurd is
+instruction_unrefused m w p c (verdicts.Tells plan words last) is = absurd is
 
 picked_unrefused : (c : outcomes.Caller) (pick : Option Path) (o : Outcome) → closed c o ≡ o → closed c (with_pick false pick o) ≡ with_pick false pick o
 picked_unrefused c None (Refused status) same = same

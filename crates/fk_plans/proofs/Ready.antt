@@ -17,7 +17,7 @@ use Rattle.fk_model.specs.ObjectRows.{new_object}
 use Rattle.fk_model.specs.Searches.{option_list, fault_pointers, pointers, thread_at}
 use Rattle.fk_model.specs.Holds.{is_frozen, is_frozen_for, leads_to_frozen, is_free, is_user}
 use Rattle.fk_model.specs.Outcomes as outcomes
-use Rattle.fk_model.specs.Outcomes.{Outcome, when, done}
+use Rattle.fk_model.specs.Outcomes.{Outcome, when, done, telling}
 use Rattle.fk_model.specs.Outcomes.Outcome.{Refused, Waits, Goes}
 use Rattle.fk_model.specs.Freezing.{changed_pointers, made_pointers, are_unfrozen, body_pointers, MayAlter, MayMake, IsAllowed, AreAllowed}
 use Rattle.fk_model.specs.Moves.{closed, with_pick, GoesAllowed}
@@ -40,7 +40,7 @@ use Rattle.fk_plans.specs.declared.plan.Effect.{Effect}
 use Rattle.fk_plans.specs.declared.plan.Effect.TheVariants as effects
 use Rattle.fk_plans.specs.Effects.{effect_by, in_running, of_running, is_running, is_running_mode}
 use Rattle.fk_plans.specs.Plans.{caller_by, change_by, changes_by, made, IsPlan}
-use Rattle.fk_plans.specs.Verdicts.{outcome_by, IsVerdict, move_by}
+use Rattle.fk_plans.specs.Verdicts.{outcome_by, tells, IsVerdict, move_by}
 use Rattle.fk_plans.specs.Allowed.{is_effect_allowed, is_deed_allowed, is_plan_allowed, is_verdict_allowed, may_pick}
 
 -- ---- tests and facts
@@ -212,6 +212,15 @@ module _ (m : Contents) (c : Caller) (words : List ℕ) (free : c.is_porter ≡ 
       in_mode (Halted g code) running = absurd (cc)
       in_mode (Native g) running = absurd (cc)
 
+  -- a user's stage that tells of words, and may be done then
+  tells_iff : c.is_porter ≡ false → (test : Bool) (cs : List Change) (said : outcomes.Said) (last : Bool) → (IsTrue test ↔ AreAllowed (world m) me cs) → Goes_iff test (tells caller cs said last)
+  tells_iff user test cs said false h = h
+  tells_iff user test cs said true h = by c.is_porter user
+    where
+      by : (b : Bool) → b ≡ false → Goes_iff test (telling said (done (record caller { is_porter = b }) cs []))
+      by true e = absurd (cc)
+      by false e = own_iff (world m) me _ cs (own user _ (record { changed = λ b. refl; made = refl })) h
+
   verdict_iff : (v : Verdict) → IsVerdict m c v → Goes_iff (is_verdict_allowed (world m) me (path m) v) (outcome_by (world m) (path m) caller v)
   verdict_iff (verdicts.Runs e) fits = running_iff fits.0 e (thread_at (world m) me) fits.1
   verdict_iff (verdicts.Refused status) fits = refused_iff status
@@ -219,6 +228,7 @@ module _ (m : Contents) (c : Caller) (words : List ℕ) (free : c.is_porter ≡ 
   verdict_iff (verdicts.Done plan answers) fits = done_iff _ _ _ (plan_iff (world m) me (path m) plan fits.0)
   verdict_iff (verdicts.Shows plan space page) fits = done_iff _ _ _ (plan_iff (world m) me (path m) plan fits.2)
   verdict_iff (verdicts.Goes plan) fits = plan_iff (world m) me (path m) plan fits
+  verdict_iff (verdicts.Tells plan words last) fits = tells_iff fits.0 _ _ _ last (plan_iff (world m) me (path m) plan fits.3)
   verdict_iff (verdicts.Faults page write port) fits = one_iff _ (fault_iff (world m) c.who.slot (path m c.who.space) (place (path m) port) page write (free fits.0))
 
   -- ---- whom it picks
@@ -248,6 +258,14 @@ module _ (m : Contents) (c : Caller) (words : List ℕ) (free : c.is_porter ≡ 
       by true = ap (λ b. chooses || b) (none_picked pick)
       by false = ap (λ b. chooses || b) (none_picked pick)
 
+  may_pick_told : (chooses : Bool) (pick : Option Who) (cs : List Change) (said : outcomes.Said) (last : Bool) → (chooses || is_none pick) ≡ may_pick_so chooses (picked_by (path m) pick) (tells caller cs said last)
+  may_pick_told chooses pick cs said false = ap (λ b. chooses || b) (none_picked pick)
+  may_pick_told chooses pick cs said true = by c.is_porter
+    where
+      by : (b : Bool) → (chooses || is_none pick) ≡ may_pick_so chooses (picked_by (path m) pick) (telling said (done (record caller { is_porter = b }) cs []))
+      by true = ap (λ b. chooses || b) (none_picked pick)
+      by false = ap (λ b. chooses || b) (none_picked pick)
+
   running_pick : (chooses : Bool) (pick : Option Who) (e : Effect) (o : Option Thread) → is_running o ≡ true → (chooses || is_none pick) ≡ may_pick_so chooses (picked_by (path m) pick) (of_running (effect_by (world m) (path m) me e) o)
   running_pick chooses pick e None running = absurd (cc)
   running_pick chooses pick e (Some t) running = in_mode t.mode running
@@ -272,6 +290,7 @@ module _ (m : Contents) (c : Caller) (words : List ℕ) (free : c.is_porter ≡ 
   may_pick_is chooses pick (verdicts.Done plan answers) fits = may_pick_done chooses pick _ _
   may_pick_is chooses pick (verdicts.Shows plan space page) fits = may_pick_done chooses pick _ _
   may_pick_is chooses pick (verdicts.Goes plan) fits = ap (λ b. chooses || b) (none_picked pick)
+  may_pick_is chooses pick (verdicts.Tells plan words last) fits = may_pick_told chooses pick _ _ last
   may_pick_is chooses pick (verdicts.Faults page write port) fits = ap (λ b. chooses || b) (none_picked pick)
 
   pub ready_iff : (chooses : Bool) (pick : Option Who) (v : Verdict) → IsVerdict m c v → IsTrue (may_pick chooses pick v && is_verdict_allowed (world m) me (path m) v) ↔ GoesAllowed (world m) me (move_by m c words chooses pick v)

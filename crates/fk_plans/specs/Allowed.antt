@@ -41,6 +41,7 @@ is_verdict_allowed w me p verdicts.Waits = false
 is_verdict_allowed w me p (verdicts.Done plan answers) = is_plan_allowed w me p plan
 is_verdict_allowed w me p (verdicts.Shows plan space page) = is_plan_allowed w me p plan
 is_verdict_allowed w me p (verdicts.Goes plan) = is_plan_allowed w me p plan
+is_verdict_allowed w me p (verdicts.Tells plan words last) = is_plan_allowed w me p plan
 is_verdict_allowed w me p (verdicts.Faults page write port) = not (is_frozen_for w me (place p port))
 
 -- a stage that chooses may pick, where it isn't refused; every other picks nobody
@@ -51,4 +52,5 @@ may_pick chooses pick verdicts.Waits = true
 may_pick chooses pick (verdicts.Done plan answers) = chooses || is_none pick
 may_pick chooses pick (verdicts.Shows plan space page) = chooses || is_none pick
 may_pick chooses pick (verdicts.Goes plan) = chooses || is_none pick
+may_pick chooses pick (verdicts.Tells plan words last) = chooses || is_none pick
 may_pick chooses pick (verdicts.Faults page write port) = chooses || is_none pick

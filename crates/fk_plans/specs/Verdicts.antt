@@ -1,16 +1,16 @@
 -- Verdicts: the outcome that a verdict stands for, and what a judge promises.
-use Rattle.std.specs.Prelude.{◌≡◌, ℕ, Bool, true, false, List, [], ◌∷◌, Option, Result, Ok, Err, IfOk, IsSome, ⊤}
+use Rattle.std.specs.Prelude.{◌≡◌, ℕ, Bool, true, false, List, [], ◌∷◌, take, drop, ◌+◌, ◌≤◌, if◌then◌else◌, Option, Result, Ok, Err, IfOk, IsSome, ⊤}
 use Rattle.fk_model.specs.declared.names.Who.{Who}
 use Rattle.fk_model.specs.Moves.{closed, with_pick}
 use Rattle.fk_model.specs.Outcomes as outcomes
-use Rattle.fk_model.specs.Outcomes.{Outcome, done}
+use Rattle.fk_model.specs.Outcomes.{Outcome, Said, done, telling}
 use Rattle.fk_model.specs.Outcomes.Outcome.{Refused, Waits, Goes}
-use Rattle.fk_model.specs.Outcomes.Said.{Nothing}
+use Rattle.fk_model.specs.Outcomes.Said.{Nothing, Words as Told_words}
 use Rattle.fk_model.specs.Places.{Path}
 use Rattle.fk_model.specs.Places.Ptr.{At}
 use Rattle.fk_model.specs.Reach.{words_at}
 use Rattle.fk_model.specs.Readers.{fault_on}
-use Rattle.fk_model.specs.World.{World, apply_all}
+use Rattle.fk_model.specs.World.{World, Change, apply_all}
 use Rattle.fk_store.specs.Contents.{Contents}
 use Rattle.fk_store.specs.Moves.{picked_by}
 use Rattle.fk_store.specs.Paths.{path, place}
@@ -19,10 +19,19 @@ use Rattle.fk_store.specs.World.{world, IsLive}
 use Rattle.fk_threads.specs.Answers.{listed, LeaveArguments}
 use Rattle.fk_plans.specs.declared.plan.Caller.{Caller}
 use Rattle.fk_plans.specs.declared.plan.Verdict.{Verdict}
+use Rattle.fk_plans.specs.declared.plan.Words.{Words}
 use Rattle.fk_plans.specs.declared.plan.Verdict.TheVariants as verdicts
 use Rattle.fk_plans.specs.Effects.{effect_by, of_running, is_running, IsEffect}
 use Rattle.fk_plans.specs.Plans.{caller_by, changes_by, IsPlan, IsSure}
 use Rattle.fk_model.specs.Searches.{thread_at}
+
+-- what a native server is told of words of a page
+abbrev pub words_told : World → (ℕ → Path) → Words → Said
+words_told w p words = Told_words (At (place p words.port)) (take words.count (drop words.at (words_at w (p words.space) words.page)))
+
+-- and whether the stage is done then
+abbrev pub tells : outcomes.Caller → List Change → Said → Bool → Outcome
+tells c changes said last = if last then telling said (done c changes []) else Goes changes said
 
 -- the outcome that a verdict on a stage stands for
 abbrev pub outcome_by : World → (ℕ → Path) → outcomes.Caller → Verdict → Outcome
@@ -32,11 +41,16 @@ outcome_by w p c verdicts.Waits = Waits
 outcome_by w p c (verdicts.Done plan answers) = done c (changes_by p plan w) (listed answers)
 outcome_by w p c (verdicts.Shows plan space page) = done c (changes_by p plan w) (words_at w (p space) page)
 outcome_by w p c (verdicts.Goes plan) = Goes (changes_by p plan w) Nothing
+outcome_by w p c (verdicts.Tells plan words last) = tells c (changes_by p plan w) (words_told w p words) last
 outcome_by w p c (verdicts.Faults page write port) = Goes (fault_on (outcomes.path_of c) page write (At (place p port)) ∷ []) Nothing
 
 -- ---- what is needed to carry it out
 
--- a user alone has instructions and faults, a porter alone gets a page
+-- the words lie within a page that is there
+abbrev pub AreWords : (ℕ → Path) → World → Words → Type 0
+AreWords p w words = (words.at + words.count ≤ 64) × IsSome (w.page (p words.space) words.page)
+
+-- a user alone has instructions and faults, and tells of words,, a porter alone gets a page
 abbrev pub IsVerdict : Contents → Caller → Verdict → Type 0
 IsVerdict m c (verdicts.Runs e) = (c.is_porter ≡ false) × (is_running (thread_at (world m) (place (path m) c.who)) ≡ true) × IsEffect (path m) (world m) e
 IsVerdict m c (verdicts.Refused status) = ⊤
@@ -45,6 +59,7 @@ IsVerdict m c (verdicts.Done plan answers) =
     IsPlan (path m) (world m) plan × LeaveArguments answers (todo_at (apply_all (changes_by (path m) plan (world m)) (world m)) (place (path m) c.who))
 IsVerdict m c (verdicts.Shows plan space page) = (c.is_porter ≡ true) × IsSome ((world m).page (path m space) page) × IsPlan (path m) (world m) plan
 IsVerdict m c (verdicts.Goes plan) = IsPlan (path m) (world m) plan
+IsVerdict m c (verdicts.Tells plan words last) = (c.is_porter ≡ false) × AreWords (path m) (world m) words × IsLive m words.port × IsPlan (path m) (world m) plan
 IsVerdict m c (verdicts.Faults page write port) = (c.is_porter ≡ false) × IsLive m port
 
 -- it takes no memory
@@ -52,6 +67,7 @@ abbrev pub IsSureVerdict : Verdict → Type 0
 IsSureVerdict (verdicts.Done plan answers) = IsSure plan
 IsSureVerdict (verdicts.Shows plan space page) = IsSure plan
 IsSureVerdict (verdicts.Goes plan) = IsSure plan
+IsSureVerdict (verdicts.Tells plan words last) = IsSure plan
 IsSureVerdict other = ⊤
 
 -- ---- judges

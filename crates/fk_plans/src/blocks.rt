@@ -45,8 +45,12 @@ pub fn send_block(store: &mut Store, block: Block)
     ensures kinds { kind_there (world store.new) ≡ kind_there (world store.old) }
     ensures paths { path store.new ≡ path store.old }
 {
-    let Some(from) = store.page(block.from.0, block.from.1) else { unreachable!() };
-    let Some(to) = store.page(block.to.0, block.to.1) else { unreachable!() };
+    let Some(from) = store.page(block.from.0, block.from.1) else {
+        unreachable!()
+    };
+    let Some(to) = store.page(block.to.0, block.to.1) else {
+        unreachable!()
+    };
     let words = written(*to, from, block.at, block.into, block.count);
     match store.put_page(block.to.0, block.to.1, &words) {
         Ok(()) => {}

@@ -7,13 +7,13 @@ ghost use Rattle.fk_store.specs.Moves.{said_by};
 ghost use Rattle.fk_store.specs.Paths.{path, place};
 ghost use Rattle.fk_store.specs.World.{world, IsLive};
 ghost use Rattle.fk_plans.specs.Plans.{caller_by, change_by, changes_by, IsDeed, IsPlan, IsSure};
-ghost use Rattle.fk_plans.specs.Verdicts.{outcome_by, IsVerdict, IsSureVerdict};
+ghost use Rattle.fk_plans.specs.Verdicts.{outcome_by, tells, words_told, AreWords, IsVerdict, IsSureVerdict};
 
 use crate::blocks::send_block;
 use crate::instructions::run;
 use crate::making::make;
-use crate::plan::{Caller, Deed, Plan, Verdict};
-use crate::telling::{told, told_page};
+use crate::plan::{Caller, Deed, Plan, Verdict, Words};
+use crate::telling::{told, told_page, told_words};
 use fk_model::status::OK;
 use fk_model::{NoMemory, Said, Who};
 use fk_store::Store;
@@ -112,11 +112,39 @@ pub fn carry_out(store: &mut Store, caller: Caller, verdict: &Verdict) -> Result
             return Ok(said);
         }
         Verdict::Goes(plan) => carry_all(store, plan)?,
+        Verdict::Tells { plan, words, last } => {
+            return tell(store, caller.who, plan, words, *last);
+        }
         Verdict::Faults { page, write, port } => {
             store.raise(caller.who, *page, *write, *port);
         }
     }
     Ok(Said::Nothing)
+}
+
+/// Does all of a plan, tells a native server of words, and then a user's stage may be done.
+fn tell(
+    store: &mut Store,
+    me: Who,
+    plan: &Plan,
+    words: &Words,
+    last: bool,
+) -> Result<Said, NoMemory>
+    requires live { IsLive store.old me }
+    requires port { IsLive store.old words.now.port }
+    requires words { AreWords (path store.old) (world store.old) words.now }
+    requires fits { IsPlan (path store.old) (world store.old) plan.now }
+    ensures step { IfOk result (λ said. (given : List ℕ) → let c = caller_by (path store.old) (record { who = me; is_porter = false }) given in
+        stepped (world store.old) (tells c (changes_by (path store.old) plan.now (world store.old)) (words_told (world store.old) (path store.old) words.now) last) ≡ record { world = world store.new; said = said_by (path store.new) said }) }
+    ensures err { OnErr result (store.new ≡ store.old) }
+    ensures sure { IsSure plan.now → IsOk result }
+{
+    let said = told_words(store, words);
+    carry_all(store, plan)?;
+    if last {
+        finish(store, me, Answers::Nothing);
+    }
+    Ok(said)
 }
 
 /// The stage of a caller is refused: the call of a user ends with the status, a porter is told it.

@@ -18,6 +18,6 @@ mod telling;
 pub use blocks::Block;
 pub use carrying::carry_out;
 pub use instructions::make_effect;
-pub use plan::{Caller, Deed, Effect, Plan, Verdict};
+pub use plan::{Caller, Deed, Effect, Plan, Verdict, Words};
 pub use readers::{cond_in, mutex_in, place, slot_for};
 pub use readiness::is_ready;

@@ -40,6 +40,16 @@ pub enum Plan {
     Makes { object: Who, kind: u64 },
 }
 
+/// So many words of a page, from a place on, that come to a port.
+#[derive(Clone, Copy)]
+pub struct Words {
+    pub port: Who,
+    pub space: u32,
+    pub page: u8,
+    pub at: u8,
+    pub count: u8,
+}
+
 /// What an instruction of a running thread comes to.
 #[derive(Clone, Copy)]
 pub enum Effect {
@@ -79,9 +89,24 @@ pub enum Verdict {
     /// It does this, and then the caller's stage is done, with these answers.
     Done(Plan, Answers),
     /// It does this, and then the stage of a porter is done, which gets the words of a page.
-    Shows { plan: Plan, space: u32, page: u8 },
+    Shows {
+        plan: Plan,
+        space: u32,
+        page: u8,
+    },
     /// It does this, and the caller stays at its stage.
     Goes(Plan),
+    /// It does this, and the native server is told that words of a page come to its port. `last` says
+    /// that the stage of a user is done then.
+    Tells {
+        plan: Plan,
+        words: Words,
+        last: bool,
+    },
     /// The caller's own access misses a page, and the port of its keeper is told.
-    Faults { page: u8, write: bool, port: Who },
+    Faults {
+        page: u8,
+        write: bool,
+        port: Who,
+    },
 }

@@ -1,5 +1,5 @@
 //! What a stage reads, each with the status that says what was wrong.
-ghost use Rattle.std.specs.Prelude.{◌≡◌, ◌≤◌, ℕ, List, Ok, Err, OnOk, IfOk, if◌then◌else◌};
+ghost use Rattle.std.specs.Prelude.{◌≡◌, ◌≤◌, nat_le, ℕ, List, Ok, Err, OnOk, IfOk, if◌then◌else◌};
 ghost use Rattle.fk_model.specs.Objects.{mutex_of};
 ghost use Rattle.fk_model.specs.Readers as readers;
 ghost use Rattle.fk_model.specs.Places.{Path};
@@ -31,7 +31,7 @@ fn last_slot(caller: Caller) -> u64
 
 /// A slot that the caller can name.
 pub fn slot_for(caller: Caller, k: u64) -> Result<u8, u8>
-    ensures { (p : ℕ → Path) (words : List ℕ) → result ≡ readers.slot_for (caller_by p caller words) k }
+    ensures { result ≡ if nat_le k (if caller.is_porter then LAST_PORTER_SLOT else LAST_USER_SLOT) then Ok k else Err BADHANDLE }
 {
     if k > last_slot(caller) {
         return Err(BADHANDLE);

@@ -58,9 +58,10 @@ fn is_verdict_allowed(store: &Store, me: Who, verdict: &Verdict) -> bool
         )
         | Verdict::Refused(_) => true,
         Verdict::Waits => false,
-        Verdict::Done(plan, _) | Verdict::Shows { plan, .. } | Verdict::Goes(plan) => {
-            is_plan_allowed(store, me, plan)
-        }
+        Verdict::Done(plan, _)
+        | Verdict::Shows { plan, .. }
+        | Verdict::Goes(plan)
+        | Verdict::Tells { plan, .. } => is_plan_allowed(store, me, plan),
         Verdict::Faults { port, .. } => !store.frozen_for(me, *port),
     }
 }
@@ -76,6 +77,7 @@ fn may_pick(chooses: bool, pick: Option<Who>, verdict: &Verdict) -> bool
         | Verdict::Done(..)
         | Verdict::Shows { .. }
         | Verdict::Goes(_)
+        | Verdict::Tells { .. }
         | Verdict::Faults { .. } => chooses || pick.is_none(),
     }
 }

@@ -1,14 +1,17 @@
 //! What a porter is told.
-ghost use Rattle.std.specs.Prelude.{◌≡◌, ℕ, IsSome};
-ghost use Rattle.fk_model.specs.Outcomes.Said.{Answered};
+ghost use Rattle.std.specs.Prelude.{◌≡◌, ◌+◌, ◌≤◌, ℕ, take, drop, IsSome};
+ghost use Rattle.fk_model.specs.Outcomes.Said.{Answered, Words as Told};
+ghost use Rattle.fk_model.specs.Places.Ptr.{At};
 ghost use Rattle.fk_model.specs.Places.{Path};
 ghost use Rattle.fk_model.specs.Reach.{words_at};
 ghost use Rattle.fk_model.specs.declared.statuses.status.TheConstants.{OK as DONE};
 ghost use Rattle.fk_store.specs.Moves.{said_by};
-ghost use Rattle.fk_store.specs.Paths.{path};
+ghost use Rattle.fk_store.specs.Paths.{path, place};
 ghost use Rattle.fk_store.specs.World.{world};
 ghost use Rattle.fk_threads.specs.Answers.{listed};
+ghost use Rattle.fk_plans.specs.Verdicts.{AreWords};
 
+use crate::plan::Words;
 use fk_model::status::OK;
 use fk_model::{Answer, Said};
 use fk_store::Store;
@@ -49,6 +52,33 @@ fn told_all(words: [u64; 64]) -> Said
         words,
         len: 64,
     })
+}
+
+/// Words that come to a port, of a page.
+pub fn told_words(store: &Store, words: &Words) -> Said
+    requires { AreWords (path store.now) (world store.now) words.now }
+    ensures { (p : ℕ → Path) → said_by p result ≡ Told (At (place p words.now.port)) (take words.now.count (drop words.now.at (words_at (world store.now) (path store.now words.now.space) words.now.page))) }
+{
+    match store.page(words.space, words.page) {
+        Some(page) => from_page(*page, words),
+        None => unreachable!(),
+    }
+}
+
+/// The same, of the words of the page.
+fn from_page(page: [u64; 64], words: &Words) -> Said
+    requires { words.now.at + words.now.count ≤ 64 }
+    ensures { (p : ℕ → Path) → said_by p result ≡ Told (At (place p words.now.port)) (take words.now.count (drop words.now.at page)) }
+{
+    let at = words.at as usize;
+    let count = words.count as usize;
+    let mut told = [0; 64];
+    told[..count].copy_from_slice(&page[at..at + count]);
+    Said::Words {
+        port: words.port,
+        words: told,
+        len: words.count,
+    }
 }
 
 /// That it is done, and the words of a page.

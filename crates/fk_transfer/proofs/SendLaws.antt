@@ -129,5 +129,9 @@ both_low w me you s page words address count into room k sends receives room_low
     let counted = apply (Alter me (CountMoved k)) paged in
     let yours : todo_at counted you ≡ todo_at w you = todo_counted paged you me k ∙ todo_paged w you s page words in
     let mine : todo_at (apply (Alter you (Shift k)) counted) me ≡ todo_at w me =
-        todo_elsewhere counted me you (Shift k) (apart w me you address count into room sends receives) ∙ todo_counted paged me me k ∙ todo_paged w me s page words in
+    todo_elsewhere counted me you (Shift k) (apart w me you address count into room sends receives) ∙ todo_counted paged me me k ∙ todo_paged w me s page words in
     (rw yours (receiver_low w you into room k receives room_low), rw mine (sender_low w me address count k sends address_low))
+
+-- the sender alone is advanced where a native server is told
+pub own_low : (w : World) (me : Path) (address count k : ℕ) → IsSender w me address count → address + k < 2 ^ 64 → IsLow (apply (Alter me (CountMoved k)) w) me k
+own_low w me address count k sends low = rw (todo_counted w me me k) (sender_low w me address count k sends low)

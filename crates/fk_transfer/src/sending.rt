@@ -1,4 +1,4 @@
-//! Send, by a client to a user peer.
+//! Send, by a client.
 ghost use Rattle.std.specs.Prelude.{◌≡◌, ◌≤◌, ◌<◌, ◌+◌, ◌%◌, min, [], ◌∷◌, List, ℕ, Some, true, false, IsSome, IfSome, IfOk};
 ghost use Rattle.fk_model.specs.declared.stage.Stage.TheVariants.{ClientSend};
 ghost use Rattle.fk_model.specs.declared.thread.Turn.TheVariants as turns;
@@ -9,11 +9,11 @@ ghost use Rattle.fk_model.specs.Searches.{talk_at, is_service, thread_at};
 ghost use Rattle.fk_model.specs.Talks as talks;
 ghost use Rattle.fk_model.specs.Talks.{receiving};
 ghost use Rattle.fk_model.specs.TransferRows as rows;
-ghost use Rattle.fk_store.specs.Bodies.{talk_by};
+ghost use Rattle.fk_store.specs.Bodies.{peer_by};
 ghost use Rattle.fk_store.specs.Paths.{path, place};
 ghost use Rattle.fk_store.specs.Threads.{todo_at};
 ghost use Rattle.fk_store.specs.Reaches.{reach_by};
-ghost use Rattle.fk_store.specs.World.{world, IsSpace};
+ghost use Rattle.fk_store.specs.World.{world, IsLive, IsSpace};
 ghost use Rattle.fk_plans.specs.Plans.{caller_by};
 ghost use Rattle.fk_plans.specs.Verdicts.{Judges, outcome_by, mapped, IsVerdict};
 ghost use Rattle.fk_threads.specs.Shifted.{IsLow};
@@ -21,9 +21,9 @@ ghost use Rattle.fk_transfer.specs.Lines.{line_by, IsReceiver, IsSender};
 
 use fk_model::status::{BADADDRESS, FULL, NOTLINKED, WRONGTURN};
 use fk_model::{Peer, Talk, Turn, Who};
-use fk_threads::{Answers, receive_of};
-use fk_plans::{Block, Caller, Deed, Plan, Verdict};
+use fk_plans::{Block, Caller, Deed, Plan, Verdict, Words};
 use fk_store::{Reach, Store};
+use fk_threads::{Answers, receive_of};
 
 fn least(a: u64, b: u64) -> u64
     ensures { result ≡ min a b }
@@ -46,7 +46,7 @@ fn moved(address: u64, count: u64, into: u64, room: u64) -> u8
 #[tactic(auto, unfolding(fk_model::specs::Talks::line))]
 fn client_talk(store: &Store, caller: Caller) -> Result<Talk, u8>
     ensures line { mapped (line_by (path store.now) caller.who) result ≡ rows.in_turn (world store.now) (place (path store.now) caller.who) turns.Client turns.Client }
-    ensures talk { IfOk result (λ talk. talk_at (world store.now) (place (path store.now) caller.who) ≡ Some (talk_by (path store.now) talk)) }
+    ensures port { IfOk result (λ talk. IsLive store.now talk.port) }
 {
     let Some(thread) = store.thread(caller.who) else {
         return Err(NOTLINKED);
@@ -145,7 +145,17 @@ fn sends_into(
             }
             match store.reach_word(peer.space, into, true) {
                 Reach::Home { space, page } => {
-                    sent(store, caller, peer, address, count, own, into, room, (space, page))
+                    sent(
+                        store,
+                        caller,
+                        peer,
+                        address,
+                        count,
+                        own,
+                        into,
+                        room,
+                        (space, page),
+                    )
                 }
                 Reach::Missing { .. } | Reach::Bad => Verdict::Waits,
             }
@@ -179,12 +189,82 @@ fn sends_to_thread(
     sends_into(store, caller, peer, address, count, own, receive_of(thread))
 }
 
-/// A user's Send to a user peer.
+/// A native server that is free is told of up to 64 words at each move.
+fn sends_to_service(
+    store: &Store,
+    caller: Caller,
+    port: Who,
+    address: u64,
+    count: u64,
+    own: (u32, u8),
+) -> Verdict
+    requires user { caller.is_porter ≡ false }
+    requires calling { IsSender (world store.now) (place (path store.now) caller.who) address count }
+    requires address { address < 16384 }
+    requires own { IsSome ((world store.now).page (path store.now own.0) own.1) }
+    requires port { IsLive store.now port }
+    ensures outcome { (words : List ℕ) → outcome_by (world store.now) (path store.now) (caller_by (path store.now) caller words) result
+        ≡ rows.sends_to_service (caller_by (path store.now) caller words) (place (path store.now) caller.who) (At (place (path store.now) port)) address count (words_at (world store.now) (path store.now own.0) own.1) }
+    ensures fits { IsVerdict store.now caller result }
+{
+    let size = moved(address, count, 0, 64);
+    let client = caller.who;
+    let plan = Plan::Two(
+        Deed::Counts {
+            client,
+            count: size,
+        },
+        Deed::Shifts {
+            thread: client,
+            count: size,
+        },
+    );
+    let words = Words {
+        port,
+        space: own.0,
+        page: own.1,
+        at: (address % 64) as u8,
+        count: size,
+    };
+    let last = u64::from(size) == count;
+    Verdict::Tells { plan, words, last }
+}
+
+/// Sends words of a page to the other end of a talk.
+fn sends_to(
+    store: &Store,
+    caller: Caller,
+    talk: Talk,
+    address: u64,
+    count: u64,
+    own: (u32, u8),
+) -> Verdict
+    requires user { caller.is_porter ≡ false }
+    requires calling { IsSender (world store.now) (place (path store.now) caller.who) address count }
+    requires address { address < 16384 }
+    requires own { IsSome ((world store.now).page (path store.now own.0) own.1) }
+    requires port { IsLive store.now talk.port }
+    ensures outcome { (words : List ℕ) → outcome_by (world store.now) (path store.now) (caller_by (path store.now) caller words) result
+        ≡ rows.sends_to (world store.now) (caller_by (path store.now) caller words) turns.Client (line_by (path store.now) caller.who talk) address count (words_at (world store.now) (path store.now own.0) own.1) (peer_by (path store.now) talk.peer) }
+    ensures fits { IsVerdict store.now caller result }
+{
+    match talk.peer {
+        Peer::Thread(peer) => sends_to_thread(store, caller, peer, address, count, own),
+        Peer::Service => {
+            if store.is_frozen(talk.port.space) {
+                return Verdict::Waits;
+            }
+            sends_to_service(store, caller, talk.port, address, count, own)
+        }
+        Peer::Parked => Verdict::Waits,
+    }
+}
+
+/// A client sends words of its memory, up to a page's end at each move, at its own turn.
 #[tactic(auto, using(crate::proofs::SendLaws::home_low), unfolding(fk_model::specs::TransferRows::send))]
 pub fn send(store: &Store, caller: Caller, address: u64, count: u64) -> Result<Verdict, u8>
     requires user { caller.is_porter ≡ false }
     requires calling { IsSender (world store.now) (place (path store.now) caller.who) address count }
-    requires peer { (talk : ModelTalk) → talk_at (world store.now) (place (path store.now) caller.who) ≡ Some talk → is_service talk.peer ≡ false }
     ensures { Judges store.now caller result (λ w c. rows.send w c turns.Client address count) }
 {
     let talk = client_talk(store, caller)?;
@@ -192,11 +272,9 @@ pub fn send(store: &Store, caller: Caller, address: u64, count: u64) -> Result<V
         return Ok(Verdict::Done(Plan::Nothing, Answers::Nothing));
     }
     match store.reach_word(caller.who.space, address, false) {
-        Reach::Home { space, page } => match talk.peer {
-            Peer::Thread(peer) => Ok(sends_to_thread(store, caller, peer, address, count, (space, page))),
-            Peer::Parked => Ok(Verdict::Waits),
-            Peer::Service => unreachable!(),
-        },
+        Reach::Home { space, page } => {
+            Ok(sends_to(store, caller, talk, address, count, (space, page)))
+        }
         Reach::Missing {
             page,
             keeper: Some(port),
