@@ -24,7 +24,8 @@ Each P (c ∷ cs) = P c × Each P cs
 each_judged : Each IsJudgedCall calls
 each_judged = assumption
 
-found : (cs : List Call) (g : List ℕ) (todo : List Stage) → Each IsJudgedCall cs → built.calls (slice_index g 0) ≡ true → named_by cs (slice_index g 0) g ≡ Some todo → IsFirstRow todo
+found : (cs : List Call) (g : List ℕ) (todo : List Stage) →
+    Each IsJudgedCall cs → built.calls (slice_index g 0) ≡ true → named_by cs (slice_index g 0) g ≡ Some todo → IsFirstRow todo
 found [] g todo each is named = absurd (cc)
 found (c ∷ cs) g todo each is named = by (eqb (slice_index g 0) c.code) refl (found cs g todo each.1 is) named
   where
@@ -32,7 +33,8 @@ found (c ∷ cs) g todo each is named = by (eqb (slice_index g 0) c.code) refl (
     at true on h = h g
     at false on h = absurd (cc)
 
-    by : (b : Bool) → eqb (slice_index g 0) c.code ≡ b → (named_by cs (slice_index g 0) g ≡ Some todo → IsFirstRow todo) → cond b (Some (c.todo g)) (named_by cs (slice_index g 0) g) ≡ Some todo → IsFirstRow todo
+    by : (b : Bool) → eqb (slice_index g 0) c.code ≡ b → (named_by cs (slice_index g 0) g ≡ Some todo → IsFirstRow todo) →
+        cond b (Some (c.todo g)) (named_by cs (slice_index g 0) g) ≡ Some todo → IsFirstRow todo
     by true same later named = subst IsFirstRow (same_Some _ _ named) (at (built.calls c.code) (ap built.calls (sym (eqb-true _ _ same)) ∙ is) each.0)
     by false same later named = later named
 

@@ -32,18 +32,22 @@ pub idle_nobody : (w : World) (x : Path) (pick : Option Path) → thread_at w x 
 unfolding known_outcome
 idle_nobody w x pick none = ap (user_move_by built w x pick) none
 
-idle_thread : (w : World) (x : Path) (pick : Option Path) (t : Thread) → thread_at w x ≡ Some t → goes_on_by built w x pick t t.mode ≡ Waits → known_outcome built w x pick asks.Run ≡ Waits
+idle_thread : (w : World) (x : Path) (pick : Option Path) (t : Thread) →
+    thread_at w x ≡ Some t → goes_on_by built w x pick t t.mode ≡ Waits → known_outcome built w x pick asks.Run ≡ Waits
 unfolding known_outcome
 idle_thread w x pick t there idle = ap (user_move_by built w x pick) there ∙ never (is_free w (parent x) t) _ idle
 
-pub idle_halted : (w : World) (x : Path) (p : ℕ → Path) (pick : Option Path) (t : threads_of.Thread) (code : ℕ) → Some (thread_by p t) ≡ thread_at w x → t.mode ≡ modes.Halted code → known_outcome built w x pick asks.Run ≡ Waits
+pub idle_halted : (w : World) (x : Path) (p : ℕ → Path) (pick : Option Path) (t : threads_of.Thread) (code : ℕ) →
+    Some (thread_by p t) ≡ thread_at w x → t.mode ≡ modes.Halted code → known_outcome built w x pick asks.Run ≡ Waits
 idle_halted w x p pick t code there is = idle_thread w x pick (thread_by p t) (sym there) (rw is refl)
 
-pub idle_native : (w : World) (x : Path) (p : ℕ → Path) (pick : Option Path) (t : threads_of.Thread) → Some (thread_by p t) ≡ thread_at w x → t.mode ≡ modes.Native → known_outcome built w x pick asks.Run ≡ Waits
+pub idle_native : (w : World) (x : Path) (p : ℕ → Path) (pick : Option Path) (t : threads_of.Thread) →
+    Some (thread_by p t) ≡ thread_at w x → t.mode ≡ modes.Native → known_outcome built w x pick asks.Run ≡ Waits
 idle_native w x p pick t there is = idle_thread w x pick (thread_by p t) (sym there) (rw is refl)
 
 -- a call that isn't built
-unbuilt : (w : World) (x : Path) (pick : Option Path) (t : Thread) (g rest : List ℕ) → todo_known built g ≡ None → goes_on_by built w x pick t (Calling (unwrap_or (todo_of g) []) rest) ≡ Waits
+unbuilt : (w : World) (x : Path) (pick : Option Path) (t : Thread) (g rest : List ℕ) →
+    todo_known built g ≡ None → goes_on_by built w x pick t (Calling (unwrap_or (todo_of g) []) rest) ≡ Waits
 unbuilt w x pick t g rest none = by (todo_of g) refl
   where
     by : (o : Option (List Stage)) → todo_of g ≡ o → goes_on_by built w x pick t (Calling (unwrap_or o []) rest) ≡ Waits
@@ -57,7 +61,8 @@ none_first (Some []) is stage todo e = absurd (cc)
 none_first (Some (first ∷ later)) is stage todo e = absurd (cc)
 
 -- one that is built has a first stage
-idle_first : (w : World) (x : Path) (pick : Option Path) (t : Thread) (g rest : List ℕ) → first_of (todo_known built g) ≡ None → goes_on_by built w x pick t (Calling (unwrap_or (todo_of g) []) rest) ≡ Waits
+idle_first : (w : World) (x : Path) (pick : Option Path) (t : Thread) (g rest : List ℕ) →
+    first_of (todo_known built g) ≡ None → goes_on_by built w x pick t (Calling (unwrap_or (todo_of g) []) rest) ≡ Waits
 idle_first w x pick t g rest none = by (todo_known built g) refl
   where
     by : (o : Option (List Stage)) → todo_known built g ≡ o → goes_on_by built w x pick t (Calling (unwrap_or (todo_of g) []) rest) ≡ Waits
@@ -65,16 +70,19 @@ idle_first w x pick t g rest none = by (todo_known built g) refl
     by (Some []) e = let named = known_code built g [] e in rw named.0 refl
     by (Some (stage ∷ todo)) e = absurd (none_first _ none stage todo e)
 
-pub idle_unbuilt : (w : World) (x : Path) (p : ℕ → Path) (pick : Option Path) (t : threads_of.Thread) → Some (thread_by p t) ≡ thread_at w x → t.mode ≡ modes.Calling → first_of (todo_known built t.regs) ≡ None → known_outcome built w x pick asks.Run ≡ Waits
+pub idle_unbuilt : (w : World) (x : Path) (p : ℕ → Path) (pick : Option Path) (t : threads_of.Thread) →
+    Some (thread_by p t) ≡ thread_at w x → t.mode ≡ modes.Calling → first_of (todo_known built t.regs) ≡ None → known_outcome built w x pick asks.Run ≡ Waits
 idle_unbuilt w x p pick t there is none =
     idle_thread w x pick (thread_by p t) (sym there) (rw is (idle_first w x pick (thread_by p t) t.regs (rest_of (unwrap_or (todo_of t.regs) []) t.regs) none))
 
 -- ---- who does
 
-pub does_run : (w : World) (x : Path) (p : ℕ → Path) (t : threads_of.Thread) → Some (thread_by p t) ≡ thread_at w x → t.mode ≡ modes.Running → is_running (thread_at w x) ≡ true
+pub does_run : (w : World) (x : Path) (p : ℕ → Path) (t : threads_of.Thread) →
+    Some (thread_by p t) ≡ thread_at w x → t.mode ≡ modes.Running → is_running (thread_at w x) ≡ true
 does_run w x p t there is = rw (← there, is) refl
 
-pub does_call : (w : World) (x : Path) (p : ℕ → Path) (t : threads_of.Thread) (stage : Stage) → Some (thread_by p t) ≡ thread_at w x → t.mode ≡ modes.Calling → first_of (todo_known built t.regs) ≡ Some stage → IsAtStage w x stage
+pub does_call : (w : World) (x : Path) (p : ℕ → Path) (t : threads_of.Thread) (stage : Stage) →
+    Some (thread_by p t) ≡ thread_at w x → t.mode ≡ modes.Calling → first_of (todo_known built t.regs) ≡ Some stage → IsAtStage w x stage
 unfolding todo_at
 does_call w x p t stage there is first = by (todo_known built t.regs) refl first
   where

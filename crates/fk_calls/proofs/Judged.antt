@@ -50,22 +50,26 @@ held_user w k s pick held = by (thread_at w (k ∷ s)) held
     by (Some t) held = ap (λ b. when b (goes_on_by built w (k ∷ s) pick t t.mode)) held
 
 -- a running one makes its instruction
-running_user : (w : World) (k : ℕ) (s : Path) (pick : Option Path) → is_free_at w (k ∷ s) ≡ true → is_running (thread_at w (k ∷ s)) ≡ true → known_outcome built w (k ∷ s) pick asks.Run ≡ with_pick false pick (run_at (todo_known built) w (k ∷ s))
+running_user : (w : World) (k : ℕ) (s : Path) (pick : Option Path) → is_free_at w (k ∷ s) ≡ true →
+    is_running (thread_at w (k ∷ s)) ≡ true → known_outcome built w (k ∷ s) pick asks.Run ≡ with_pick false pick (run_at (todo_known built) w (k ∷ s))
 unfolding known_outcome is_free_at run_at
 running_user w k s pick free running = by (thread_at w (k ∷ s)) free running
   where
-    in_mode : (t : Thread) (m : Mode) → is_running_mode m ≡ true → goes_on_by built w (k ∷ s) pick t m ≡ with_pick false pick (run_in_mode (todo_known built) w (k ∷ s) t.counter m)
+    in_mode : (t : Thread) (m : Mode) →
+        is_running_mode m ≡ true → goes_on_by built w (k ∷ s) pick t m ≡ with_pick false pick (run_in_mode (todo_known built) w (k ∷ s) t.counter m)
     in_mode t (Running g) running = refl
     in_mode t (Calling todo rest) running = absurd (cc)
     in_mode t (Halted g code) running = absurd (cc)
     in_mode t (Native g) running = absurd (cc)
 
-    by : (o : Option Thread) → holds (is_free w s) o ≡ true → is_running o ≡ true → user_move_by built w (k ∷ s) pick o ≡ with_pick false pick (run_of_thread (todo_known built) w (k ∷ s) o)
+    by : (o : Option Thread) → holds (is_free w s) o ≡ true →
+        is_running o ≡ true → user_move_by built w (k ∷ s) pick o ≡ with_pick false pick (run_of_thread (todo_known built) w (k ∷ s) o)
     by None free running = absurd (cc)
     by (Some t) free running = ap (λ b. when b (goes_on_by built w (k ∷ s) pick t t.mode)) free ∙ in_mode t t.mode running
 
 -- one in a call that is built makes its first stage
-staged_user : (w : World) (k : ℕ) (s : Path) (pick : Option Path) (stage : Stage) → is_free_at w (k ∷ s) ≡ true → IsAtStage w (k ∷ s) stage → known_outcome built w (k ∷ s) pick asks.Run ≡ call_row w (user_at (k ∷ s)) pick stage
+staged_user : (w : World) (k : ℕ) (s : Path) (pick : Option Path) (stage : Stage) →
+    is_free_at w (k ∷ s) ≡ true → IsAtStage w (k ∷ s) stage → known_outcome built w (k ∷ s) pick asks.Run ≡ call_row w (user_at (k ∷ s)) pick stage
 unfolding known_outcome is_free_at todo_at
 staged_user w k s pick stage free at = by (thread_at w (k ∷ s)) free at.todo
   where
@@ -75,35 +79,42 @@ staged_user w k s pick stage free at = by (thread_at w (k ∷ s)) free at.todo
     in_mode t (Halted g code) is = absurd (cc)
     in_mode t (Native g) is = absurd (cc)
 
-    by : (o : Option Thread) → holds (is_free w s) o ≡ true → todo_of_thread o ≡ stage ∷ at.later → user_move_by built w (k ∷ s) pick o ≡ call_row w (user_at (k ∷ s)) pick stage
+    by : (o : Option Thread) →
+        holds (is_free w s) o ≡ true → todo_of_thread o ≡ stage ∷ at.later → user_move_by built w (k ∷ s) pick o ≡ call_row w (user_at (k ∷ s)) pick stage
     by None free is = absurd (cc)
     by (Some t) free is = ap (λ b. when b (goes_on_by built w (k ∷ s) pick t t.mode)) free ∙ in_mode t t.mode is
 
 -- ---- that of a porter
 
 porter_moves : (w : World) (k : ℕ) (s : Path) (pick : Option Path) (stage : Stage) (words : List ℕ) →
-    known_outcome built w (k ∷ s) pick (asks.Call stage words) ≡ when (is_free_porter_at w (k ∷ s)) (when (built.calls (code_of (stage ∷ []))) (call_row w (porter_at (k ∷ s) words) pick stage))
+    known_outcome built w (k ∷ s) pick (asks.Call stage words) ≡ when
+        (is_free_porter_at w (k ∷ s)) (when (built.calls (code_of (stage ∷ []))) (call_row w (porter_at (k ∷ s) words) pick stage))
 unfolding known_outcome is_free_porter_at
 porter_moves w k s pick stage words = by (thread_at w (k ∷ s))
   where
-    by : (o : Option Thread) → porter_move_by built w (k ∷ s) pick stage words o ≡ when (holds (λ (t : Thread). is_porter t.mode && is_unheld w s) o) (when (built.calls (code_of (stage ∷ []))) (call_row w (porter_at (k ∷ s) words) pick stage))
+    by : (o : Option Thread) → porter_move_by built w (k ∷ s) pick stage words o ≡ when (holds (λ (t : Thread). is_porter t.mode && is_unheld w s) o)
+        (when (built.calls (code_of (stage ∷ []))) (call_row w (porter_at (k ∷ s) words) pick stage))
     by None = refl
     by (Some t) = refl
 
-pub held_porter : (w : World) (k : ℕ) (s : Path) (pick : Option Path) (stage : Stage) (words : List ℕ) → is_free_porter_at w (k ∷ s) ≡ false → known_outcome built w (k ∷ s) pick (asks.Call stage words) ≡ Waits
+pub held_porter : (w : World) (k : ℕ) (s : Path) (pick : Option Path) (stage : Stage) (words : List ℕ) →
+    is_free_porter_at w (k ∷ s) ≡ false → known_outcome built w (k ∷ s) pick (asks.Call stage words) ≡ Waits
 held_porter w k s pick stage words held = rw (porter_moves w k s pick stage words, held) refl
 
-pub unbuilt_porter : (w : World) (k : ℕ) (s : Path) (pick : Option Path) (stage : Stage) (words : List ℕ) → is_free_porter_at w (k ∷ s) ≡ true → built.calls (code_of (stage ∷ [])) ≡ false → known_outcome built w (k ∷ s) pick (asks.Call stage words) ≡ Waits
+pub unbuilt_porter : (w : World) (k : ℕ) (s : Path) (pick : Option Path) (stage : Stage) (words : List ℕ) →
+    is_free_porter_at w (k ∷ s) ≡ true → built.calls (code_of (stage ∷ [])) ≡ false → known_outcome built w (k ∷ s) pick (asks.Call stage words) ≡ Waits
 unbuilt_porter w k s pick stage words free unbuilt = rw (porter_moves w k s pick stage words, free, unbuilt) refl
 
 -- ---- what is judged
 
 -- an instruction isn't refused
-unrefused : (w : World) (p : ℕ → Path) (c : outcomes.Caller) (e : Effect) (o : Option Thread) → closed c (of_running (effect_by w p (outcomes.path_of c) e) o) ≡ of_running (effect_by w p (outcomes.path_of c) e) o
+unrefused : (w : World) (p : ℕ → Path) (c : outcomes.Caller) (e : Effect) (o : Option Thread) →
+    closed c (of_running (effect_by w p (outcomes.path_of c) e) o) ≡ of_running (effect_by w p (outcomes.path_of c) e) o
 unrefused w p c e None = refl
 unrefused w p c e (Some t) = in_mode t.mode
   where
-    in_mode : (m : Mode) → closed c (in_running (effect_by w p (outcomes.path_of c) e) t.counter m) ≡ in_running (effect_by w p (outcomes.path_of c) e) t.counter m
+    in_mode : (m : Mode) →
+        closed c (in_running (effect_by w p (outcomes.path_of c) e) t.counter m) ≡ in_running (effect_by w p (outcomes.path_of c) e) t.counter m
     in_mode (Running g) = by e
       where
         by : (e : Effect) → closed c (effect_by w p (outcomes.path_of c) e g t.counter) ≡ effect_by w p (outcomes.path_of c) e g t.counter
@@ -116,7 +127,8 @@ unrefused w p c e (Some t) = in_mode t.mode
     in_mode (Halted g code) = refl
     in_mode (Native g) = refl
 
-instruction_unrefused : (m : Contents) (w : World) (p : ℕ → Path) (c : outcomes.Caller) (v : Verdict) → IsInstruction m v → closed c (outcome_by w p c v) ≡ outcome_by w p c v
+instruction_unrefused : (m : Contents) (w : World) (p : ℕ → Path) (c : outcomes.Caller) (v : Verdict) →
+    IsInstruction m v → closed c (outcome_by w p c v) ≡ outcome_by w p c v
 instruction_unrefused m w p c (verdicts.Runs e) is = unrefused w p c e (thread_at w (outcomes.path_of c))
 instruction_unrefused m w p c (verdicts.Faults page write port) is = refl
 instruction_unrefused m w p c (verdicts.Refused status) is = absurd is
@@ -139,38 +151,48 @@ user who = record { who = who; is_porter = false }
 abbrev pub porter : Who → Caller
 porter who = record { who = who; is_porter = true }
 
-pub instruction_judged : (m : Contents) (move : Move) (v : Verdict) → is_free_at (world m) (place (path m) move.who) ≡ true → is_running (thread_at (world m) (place (path m) move.who)) ≡ true →
-    outcome_by (world m) (path m) (caller_by (path m) (user move.who) []) v ≡ run_at (todo_known built) (world m) (place (path m) move.who) → IsVerdict m (user move.who) v → IsInstruction m v → IsSureVerdict v →
+pub instruction_judged : (m : Contents) (move : Move) (v : Verdict) →
+    is_free_at (world m) (place (path m) move.who) ≡ true → is_running (thread_at (world m) (place (path m) move.who)) ≡ true →
+    outcome_by (world m) (path m) (caller_by (path m) (user move.who) []) v ≡ run_at (todo_known built) (world m) (place (path m) move.who) →
+        IsVerdict m (user move.who) v → IsInstruction m v → IsSureVerdict v →
     IsJudged m move asks.Run (record { caller = user move.who; chooses = false; verdict = v })
 instruction_judged m move v free running row fits instruction sure =
     let w = world m in
     let c = caller_by (path m) (user move.who) [] in
     let pick = picked_by (path m) move.pick in
     let whole = picked_unrefused c pick _ (instruction_unrefused m w (path m) c v instruction) in
-    record { mover = refl; free = λ u. free; fits = fits; sure = sure; outcome = running_user w move.who.slot (path m move.who.space) pick free running ∙ ap (with_pick false pick) (sym row) ∙ sym whole }
+    record { mover = refl; free = λ u. free; fits = fits; sure = sure; outcome = running_user w move.who.slot (path m move.who.space) pick free running
+        ∙ ap (with_pick false pick) (sym row) ∙ sym whole }
 
-pub stage_judged : (m : Contents) (move : Move) (stage : Stage) (v : Verdict) → is_free_at (world m) (place (path m) move.who) ≡ true → IsAtStage (world m) (place (path m) move.who) stage →
-    outcome_by (world m) (path m) (caller_by (path m) (user move.who) []) v ≡ allowed_row (world m) (caller_by (path m) (user move.who) []) (picked_by (path m) move.pick) stage → IsVerdict m (user move.who) v → IsSureVerdict v →
+pub stage_judged : (m : Contents) (move : Move) (stage : Stage) (v : Verdict) →
+    is_free_at (world m) (place (path m) move.who) ≡ true → IsAtStage (world m) (place (path m) move.who) stage →
+    outcome_by (world m) (path m) (caller_by (path m) (user move.who) []) v ≡ allowed_row
+        (world m) (caller_by (path m) (user move.who) []) (picked_by (path m) move.pick) stage → IsVerdict m (user move.who) v → IsSureVerdict v →
     IsJudged m move asks.Run (record { caller = user move.who; chooses = chooses stage; verdict = v })
 unfolding call_row
 stage_judged m move stage v free at row fits sure =
     let c = caller_by (path m) (user move.who) [] in
     let pick = picked_by (path m) move.pick in
-    record { mover = refl; free = λ u. free; fits = fits; sure = sure; outcome = staged_user (world m) move.who.slot (path m move.who.space) pick stage free at ∙ ap (λ o. closed c (with_pick (chooses stage) pick o)) (sym row) }
+    record { mover = refl; free = λ u. free; fits = fits; sure = sure; outcome = staged_user (world m)
+        move.who.slot (path m move.who.space) pick stage free at ∙ ap (λ o. closed c (with_pick (chooses stage) pick o)) (sym row) }
 
-pub porter_judged : (m : Contents) (move : Move) (stage : Stage) (words : List ℕ) (v : Verdict) → is_free_porter_at (world m) (place (path m) move.who) ≡ true → built.calls (code_of (stage ∷ [])) ≡ true →
-    outcome_by (world m) (path m) (caller_by (path m) (porter move.who) words) v ≡ allowed_row (world m) (caller_by (path m) (porter move.who) words) (picked_by (path m) move.pick) stage → IsVerdict m (porter move.who) v → IsSureVerdict v →
+pub porter_judged : (m : Contents) (move : Move) (stage : Stage) (words : List ℕ) (v : Verdict) →
+    is_free_porter_at (world m) (place (path m) move.who) ≡ true → built.calls (code_of (stage ∷ [])) ≡ true →
+    outcome_by (world m) (path m) (caller_by (path m) (porter move.who) words) v ≡ allowed_row
+        (world m) (caller_by (path m) (porter move.who) words) (picked_by (path m) move.pick) stage → IsVerdict m (porter move.who) v → IsSureVerdict v →
     IsJudged m move (asks.Call stage words) (record { caller = porter move.who; chooses = chooses stage; verdict = v })
 unfolding call_row
 porter_judged m move stage words v free known row fits sure =
     let c = caller_by (path m) (porter move.who) words in
     let pick = picked_by (path m) move.pick in
-    record { mover = refl; free = λ u. absurd (cc); fits = fits; sure = sure; outcome = rw (porter_moves (world m) move.who.slot (path m move.who.space) pick stage words, free, known) (ap (λ o. closed c (with_pick (chooses stage) pick o)) (sym row)) }
+    record { mover = refl; free = λ u. absurd (cc); fits = fits; sure = sure; outcome = rw (porter_moves (world m)
+        move.who.slot (path m move.who.space) pick stage words, free, known) (ap (λ o. closed c (with_pick (chooses stage) pick o)) (sym row)) }
 
 -- ---- what follows from a judgement
 
 -- a move that is ready picks as it may
-picked : (c : outcomes.Caller) (chosen : Bool) (pick : Option Path) (o : Outcome) (w : World) (x : Path) → GoesAllowed w x (closed c (with_pick chosen pick o)) → closed c (with_pick chosen pick o) ≡ closed c o
+picked : (c : outcomes.Caller) (chosen : Bool) (pick : Option Path) (o : Outcome) (w : World) (x : Path) →
+    GoesAllowed w x (closed c (with_pick chosen pick o)) → closed c (with_pick chosen pick o) ≡ closed c o
 picked c chosen None (Refused status) w x ready = refl
 picked c chosen (Some q) (Refused status) w x ready = absurd ready
 picked c chosen pick Waits w x ready = refl
@@ -179,16 +201,21 @@ picked c false None (Goes changes said) w x ready = refl
 picked c false (Some q) (Goes changes said) w x ready = absurd ready
 
 pub step_judged : (m : Contents) (move : Move) (ask : Ask) (j : Judgement) → IsJudged m move ask j → IsReadyMove m move ask →
-    known_step built (world m) (place (path m) move.who) (picked_by (path m) move.pick) ask ≡ stepped (world m) (closed (caller_by (path m) j.caller (words_of ask)) (outcome_by (world m) (path m) (caller_by (path m) j.caller (words_of ask)) j.verdict))
+    known_step built (world m) (place (path m) move.who) (picked_by (path m) move.pick) ask ≡ stepped
+        (world m) (closed (caller_by (path m) j.caller (words_of ask)) (outcome_by (world m) (path m) (caller_by (path m) j.caller (words_of ask)) j.verdict))
 unfolding known_step
 step_judged m move ask j is ready =
     let w = world m in
     let c = caller_by (path m) j.caller (words_of ask) in
     let pick = picked_by (path m) move.pick in
-    ap (stepped w) (is.outcome ∙ picked c j.chooses pick (outcome_by w (path m) c j.verdict) w (place (path m) move.who) (subst (GoesAllowed w (place (path m) move.who)) is.outcome ready))
+    ap (stepped w) (is.outcome ∙ picked c
+        j.chooses pick (outcome_by w (path m) c j.verdict) w (place (path m) move.who) (subst (GoesAllowed w (place (path m) move.who)) is.outcome ready))
 
-pub ready_judged : (m : Contents) (move : Move) (ask : Ask) (j : Judgement) (b : Bool) → IsJudged m move ask j → (IsTrue b ↔ GoesAllowed (world m) (place (path m) j.caller.who) (move_by m j.caller (words_of ask) j.chooses move.pick j.verdict)) → IsTrue b ↔ IsReadyMove m move ask
-ready_judged m move ask j b is h = subst (λ o. IsTrue b ↔ GoesAllowed (world m) (place (path m) move.who) o) (sym is.outcome) (subst (λ who. IsTrue b ↔ GoesAllowed (world m) (place (path m) who) (move_by m j.caller (words_of ask) j.chooses move.pick j.verdict)) is.mover h)
+pub ready_judged : (m : Contents) (move : Move) (ask : Ask) (j : Judgement) (b : Bool) →
+    IsJudged m move ask j → (IsTrue b ↔ GoesAllowed (world m) (place (path m) j.caller.who) (move_by m j.caller (words_of ask) j.chooses move.pick j.verdict)) →
+    IsTrue b ↔ IsReadyMove m move ask
+ready_judged m move ask j b is h = subst (λ o. IsTrue b ↔ GoesAllowed (world m) (place (path m) move.who) o) (sym is.outcome)
+    (subst (λ who. IsTrue b ↔ GoesAllowed (world m) (place (path m) who) (move_by m j.caller (words_of ask) j.chooses move.pick j.verdict)) is.mover h)
 
 pub never_ready : (m : Contents) (move : Move) (ask : Ask) → outcome_of m move ask ≡ Waits → IsReadyMove m move ask → ⊥
 never_ready m move ask waits ready = rw waits at ready

@@ -40,4 +40,5 @@ IsReadyMove m move ask = IsKnownReady built (world m) (place (path m) move.who) 
 
 -- the machine's step by a move leads to what a store holds, and tells this
 abbrev pub IsStepTo : Contents → Move → Ask → Contents → Said → Type 0
-IsStepTo m move ask n said = known_step built (world m) (place (path m) move.who) (picked_by (path m) move.pick) ask ≡ record { world = world n; said = said_by (path n) said }
+IsStepTo m move ask n said =
+    known_step built (world m) (place (path m) move.who) (picked_by (path m) move.pick) ask ≡ record { world = world n; said = said_by (path n) said }

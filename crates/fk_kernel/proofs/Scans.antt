@@ -100,7 +100,8 @@ thread_there w x t is = by (w.body x) is
     by (Some b) is = refl
 
 -- what moves is an object with a name
-pub nobody_ready : (m : Contents) → ((k : ℕ) (s : Path) → IsSome (kind_there (world m) (k ∷ s)) → (other : Who) × (place_of m other ≡ k ∷ s)) → IsFrom m None → (x : Path) (pick : Option Path) → IsKnownReady built (world m) x pick asks.Run → ⊥
+pub nobody_ready : (m : Contents) → ((k : ℕ) (s : Path) → IsSome (kind_there (world m) (k ∷ s)) → (other : Who) × (place_of m other ≡ k ∷ s)) →
+    IsFrom m None → (x : Path) (pick : Option Path) → IsKnownReady built (world m) x pick asks.Run → ⊥
 nobody_ready m named none x (Some q) ready = rw (picking (world m) x q) at ready
 nobody_ready m named none [] None ready = rw (no_thread (world m) [] (rootless m)) at ready
 nobody_ready m named none (k ∷ s) None ready = by (thread_at (world m) (k ∷ s)) refl

@@ -77,14 +77,16 @@ Allows : World → Path → Path → Option Change → Option Change → Type 0
 Allows w me x o o2 = IsSome o → IsTrue (not (is_frozen_for w me x)) ↔ AreAllowed w me (made o2)
 
 -- of what leads nowhere that is frozen
-makes : (w : World) (me x : Path) (ps : List Ptr) → ((b : Bool) → MayMake w me x ps → is_frozen_for w me x ≡ false) → (is_frozen_for w me x ≡ false → MayMake w me x ps) → IsTrue (not (is_frozen_for w me x)) ↔ (MayMake w me x ps × Unit {0})
+makes : (w : World) (me x : Path) (ps : List Ptr) → ((b : Bool) → MayMake w me x ps → is_frozen_for w me x ≡ false) →
+    (is_frozen_for w me x ≡ false → MayMake w me x ps) → IsTrue (not (is_frozen_for w me x)) ↔ (MayMake w me x ps × Unit {0})
 makes w me x ps out into = by (is_frozen_for w me x) refl
   where
     by : (b : Bool) → is_frozen_for w me x ≡ b → IsTrue (not b) ↔ (MayMake w me x ps × Unit {0})
     by true e = ((λ h. absurd (cc)), (λ h. let no = out true h.0 in absurd (cc)))
     by false e = ((λ h. (into e, tt)), (λ h. refl))
 
-one : (w : World) (me x : Path) (body : Body) (o : Option Change) → (is_frozen_for w me x ≡ false → MayMake w me x (pointers body)) → Allows w me x o (Some (Make x body))
+one : (w : World) (me x : Path) (body : Body) (o : Option Change) →
+    (is_frozen_for w me x ≡ false → MayMake w me x (pointers body)) → Allows w me x o (Some (Make x body))
 unfolding Allows
 one w me x body o into some = makes w me x (pointers body) (λ b h. h.object) into
 
@@ -110,7 +112,8 @@ allows w me x y kind =
     (none w me x)))))))))
 
 -- a new object leads nowhere
-making_iff : (w : World) (me x : Path) (kind : ℕ) → IsSome (new_object [] kind) → IsTrue (not (is_frozen_for w me x)) ↔ AreAllowed w me (made (new_object x kind))
+making_iff : (w : World) (me x : Path) (kind : ℕ) →
+    IsSome (new_object [] kind) → IsTrue (not (is_frozen_for w me x)) ↔ AreAllowed w me (made (new_object x kind))
 unfolding Allows
 making_iff w me x kind some = allows w me x [] kind some
 
@@ -119,7 +122,8 @@ plan_iff w me p plans.Nothing fits = ((λ h. tt), (λ h. refl))
 plan_iff w me p (plans.One a) fits = one_iff _ (deed_iff w _ me p a)
 plan_iff w me p (plans.Two a b) fits = both_iff _ _ (deed_iff w _ me p a) (one_iff _ (deed_iff w _ me p b))
 plan_iff w me p (plans.Three a b c) fits = both_iff _ _ (deed_iff w _ me p a) (both_iff _ _ (deed_iff w _ me p b) (one_iff _ (deed_iff w _ me p c)))
-plan_iff w me p (plans.Four a b c d) fits = both_iff _ _ (deed_iff w _ me p a) (both_iff _ _ (deed_iff w _ me p b) (both_iff _ _ (deed_iff w _ me p c) (one_iff _ (deed_iff w _ me p d))))
+plan_iff w me p (plans.Four a b c d) fits =
+    both_iff _ _ (deed_iff w _ me p a) (both_iff _ _ (deed_iff w _ me p b) (both_iff _ _ (deed_iff w _ me p c) (one_iff _ (deed_iff w _ me p d))))
 plan_iff w me p (plans.Makes object kind) fits = making_iff w me (place p object) kind fits.2
 
 -- ---- the caller's own part
@@ -132,7 +136,8 @@ without_own : (w : World) (me : Path) (c : Change) (cs : List Change) → AreAll
 without_own w me c [] h = tt
 without_own w me c (d ∷ cs) h = (h.0, without_own w me c cs h.1)
 
-own_iff : {P : Type 0} (w : World) (me : Path) (c : Change) (cs : List Change) → IsAllowed w me c → (P ↔ AreAllowed w me cs) → P ↔ AreAllowed w me (cs ++ c ∷ [])
+own_iff : {P : Type 0} (w : World) (me : Path) (c : Change) (cs : List Change) →
+    IsAllowed w me c → (P ↔ AreAllowed w me cs) → P ↔ AreAllowed w me (cs ++ c ∷ [])
 own_iff w me c cs own h = ((λ p. with_own w me c own cs (h.0 p)), (λ q. h.1 (without_own w me c cs q)))
 
 free-faultless : (w : World) (s : Path) (t : Thread) → is_free w s t ≡ true → t.fault ≡ None
@@ -143,7 +148,8 @@ free-faultless w s t free = by (not (is_frozen w s) && t.stops == 0) t.fault (is
     by true (Some f) c free = absurd (cc)
     by false (Some f) c free = absurd (cc)
 
-fault_iff : (w : World) (k : ℕ) (s port : Path) (page : ℕ) (write : Bool) → is_free_at w (k ∷ s) ≡ true → IsTrue (not (is_frozen_for w (k ∷ s) port)) ↔ MayAlter w (k ∷ s) (k ∷ s) (SetFault (Some (record { page = page; write = write; port = At port; taker = None })))
+fault_iff : (w : World) (k : ℕ) (s port : Path) (page : ℕ) (write : Bool) → is_free_at w (k ∷ s) ≡ true → IsTrue (not (is_frozen_for w (k ∷ s) port))
+    ↔ MayAlter w (k ∷ s) (k ∷ s) (SetFault (Some (record { page = page; write = write; port = At port; taker = None })))
 fault_iff w k s port page write free = by (is_frozen_for w (k ∷ s) port) refl
   where
     there : (o : Option Body) → and_then thread_of o ≡ Some (free_thread w k s free).0 → (f : Option Fault) → option_list (changed_pointers (SetFault f)) o ≡ []
@@ -158,9 +164,13 @@ fault_iff w k s port page write free = by (is_frozen_for w (k ∷ s) port) refl
     there (Some (Thread_of t)) is f = let same : t ≡ (free_thread w k s free).0 = cc in rw (same, free-faultless w s _ (free_thread w k s free).2) refl
     there (Some (Reference to)) is f = absurd (cc)
 
-    by : (b : Bool) → is_frozen_for w (k ∷ s) port ≡ b → IsTrue (not b) ↔ MayAlter w (k ∷ s) (k ∷ s) (SetFault (Some (record { page = page; write = write; port = At port; taker = None })))
+    by : (b : Bool) → is_frozen_for w (k ∷ s) port ≡ b →
+        IsTrue (not b) ↔ MayAlter w (k ∷ s) (k ∷ s) (SetFault (Some (record { page = page; write = write; port = At port; taker = None })))
     by true e = ((λ h. absurd (cc)), (λ h. let no = rw e at h.made in absurd (cc)))
-    by false e = ((λ h. record { object = free_itself w k s free; changed = rw (there (w.body (k ∷ s)) (free_thread w k s free).1 _) refl; made = rw e refl }), (λ h. refl))
+    by false e = (
+      (λ h. record { object = free_itself w k s free; changed = rw (there (w.body (k ∷ s)) (free_thread w k s free).1 _) refl; made = rw e refl }),
+      (λ h. refl),
+    )
 
 -- ---- a verdict
 
@@ -195,11 +205,13 @@ module _ (m : Contents) (c : Caller) (words : List ℕ) (free : c.is_porter ≡ 
   proceeds_iff user mode counter = ((λ h. (own user (Proceed mode counter) (record { changed = λ b. refl; made = refl }), tt)), (λ h. refl))
 
   -- an instruction of a running thread
-  running_iff : (user : c.is_porter ≡ false) (e : Effect) (o : Option Thread) → is_running o ≡ true → Goes_iff (is_effect_allowed (world m) me (path m) e) (of_running (effect_by (world m) (path m) me e) o)
+  running_iff : (user : c.is_porter ≡ false) (e : Effect) (o : Option Thread) →
+      is_running o ≡ true → Goes_iff (is_effect_allowed (world m) me (path m) e) (of_running (effect_by (world m) (path m) me e) o)
   running_iff user e None running = absurd (cc)
   running_iff user e (Some t) running = in_mode t.mode running
     where
-      in_mode : (mode : Mode) → is_running_mode mode ≡ true → Goes_iff (is_effect_allowed (world m) me (path m) e) (in_running (effect_by (world m) (path m) me e) t.counter mode)
+      in_mode : (mode : Mode) →
+          is_running_mode mode ≡ true → Goes_iff (is_effect_allowed (world m) me (path m) e) (in_running (effect_by (world m) (path m) me e) t.counter mode)
       in_mode (Running g) running = by e
         where
           by : (e : Effect) → Goes_iff (is_effect_allowed (world m) me (path m) e) (effect_by (world m) (path m) me e g t.counter)
@@ -207,13 +219,16 @@ module _ (m : Contents) (c : Caller) (words : List ℕ) (free : c.is_porter ≡ 
           by (effects.Jumps to) = proceeds_iff user _ _
           by (effects.Halts code) = proceeds_iff user _ _
           by effects.Enters = proceeds_iff user _ _
-          by (effects.Stores space page at value) = own_iff (world m) me (Alter me (Proceed (Running g) (next t.counter))) (PutPage (path m space) page (slice_set (words_at (world m) (path m space) page) at value) ∷ []) (own user (Proceed (Running g) (next t.counter)) (record { changed = λ b. refl; made = refl })) (one_iff _ (not_iff (is_frozen_for (world m) me (path m space))))
+          by (effects.Stores space page at value) = own_iff (world m) me (Alter me (Proceed (Running g) (next t.counter)))
+              (PutPage (path m space) page (slice_set (words_at (world m) (path m space) page) at value) ∷ []) (own user (Proceed (Running g) (next t.counter))
+              (record { changed = λ b. refl; made = refl })) (one_iff _ (not_iff (is_frozen_for (world m) me (path m space))))
       in_mode (Calling todo rest) running = absurd (cc)
       in_mode (Halted g code) running = absurd (cc)
       in_mode (Native g) running = absurd (cc)
 
   -- a user's stage that tells of words, and may be done then
-  tells_iff : c.is_porter ≡ false → (test : Bool) (cs : List Change) (said : outcomes.Said) (last : Bool) → (IsTrue test ↔ AreAllowed (world m) me cs) → Goes_iff test (tells caller cs said last)
+  tells_iff : c.is_porter ≡ false → (test : Bool) (cs : List Change) (said : outcomes.Said) (last : Bool) →
+      (IsTrue test ↔ AreAllowed (world m) me cs) → Goes_iff test (tells caller cs said last)
   tells_iff user test cs said false h = h
   tells_iff user test cs said true h = by c.is_porter user
     where
@@ -229,7 +244,8 @@ module _ (m : Contents) (c : Caller) (words : List ℕ) (free : c.is_porter ≡ 
   verdict_iff (verdicts.Shows plan space page) fits = done_iff _ _ _ (plan_iff (world m) me (path m) plan fits.2)
   verdict_iff (verdicts.Goes plan) fits = plan_iff (world m) me (path m) plan fits
   verdict_iff (verdicts.Tells plan words last) fits = tells_iff fits.0 _ _ _ last (plan_iff (world m) me (path m) plan fits.3)
-  verdict_iff (verdicts.Faults page write port) fits = one_iff _ (fault_iff (world m) c.who.slot (path m c.who.space) (place (path m) port) page write (free fits.0))
+  verdict_iff (verdicts.Faults page write port) fits =
+      one_iff _ (fault_iff (world m) c.who.slot (path m c.who.space) (place (path m) port) page write (free fits.0))
 
   -- ---- whom it picks
 
@@ -242,7 +258,8 @@ module _ (m : Contents) (c : Caller) (words : List ℕ) (free : c.is_porter ≡ 
   guarded_iff true test o h = h
   guarded_iff false test o h = ((λ h. absurd (cc)), (λ h. absurd h))
 
-  picked_iff : (chooses : Bool) (q : Option Path) (o : Outcome) (test : Bool) → Goes_iff test o → Goes_iff (may_pick_so chooses q o && test) (with_pick chooses q o)
+  picked_iff : (chooses : Bool) (q : Option Path) (o : Outcome) (test : Bool) →
+      Goes_iff test o → Goes_iff (may_pick_so chooses q o && test) (with_pick chooses q o)
   picked_iff chooses q (Refused status) test h = guarded_iff (is_none q) test (Refused status) h
   picked_iff chooses q Waits test h = h
   picked_iff chooses q (Goes changes said) test h = guarded_iff (chooses || is_none q) test (Goes changes said) h
@@ -251,14 +268,16 @@ module _ (m : Contents) (c : Caller) (words : List ℕ) (free : c.is_porter ≡ 
   none_picked None = refl
   none_picked (Some who) = refl
 
-  may_pick_done : (chooses : Bool) (pick : Option Who) (cs : List Change) (answers : List ℕ) → (chooses || is_none pick) ≡ may_pick_so chooses (picked_by (path m) pick) (done caller cs answers)
+  may_pick_done : (chooses : Bool) (pick : Option Who) (cs : List Change) (answers : List ℕ) →
+      (chooses || is_none pick) ≡ may_pick_so chooses (picked_by (path m) pick) (done caller cs answers)
   may_pick_done chooses pick cs answers = by c.is_porter
     where
       by : (b : Bool) → (chooses || is_none pick) ≡ may_pick_so chooses (picked_by (path m) pick) (done (record caller { is_porter = b }) cs answers)
       by true = ap (λ b. chooses || b) (none_picked pick)
       by false = ap (λ b. chooses || b) (none_picked pick)
 
-  may_pick_told : (chooses : Bool) (pick : Option Who) (cs : List Change) (said : outcomes.Said) (last : Bool) → (chooses || is_none pick) ≡ may_pick_so chooses (picked_by (path m) pick) (tells caller cs said last)
+  may_pick_told : (chooses : Bool) (pick : Option Who) (cs : List Change) (said : outcomes.Said) (last : Bool) →
+      (chooses || is_none pick) ≡ may_pick_so chooses (picked_by (path m) pick) (tells caller cs said last)
   may_pick_told chooses pick cs said false = ap (λ b. chooses || b) (none_picked pick)
   may_pick_told chooses pick cs said true = by c.is_porter
     where
@@ -266,11 +285,13 @@ module _ (m : Contents) (c : Caller) (words : List ℕ) (free : c.is_porter ≡ 
       by true = ap (λ b. chooses || b) (none_picked pick)
       by false = ap (λ b. chooses || b) (none_picked pick)
 
-  running_pick : (chooses : Bool) (pick : Option Who) (e : Effect) (o : Option Thread) → is_running o ≡ true → (chooses || is_none pick) ≡ may_pick_so chooses (picked_by (path m) pick) (of_running (effect_by (world m) (path m) me e) o)
+  running_pick : (chooses : Bool) (pick : Option Who) (e : Effect) (o : Option Thread) →
+      is_running o ≡ true → (chooses || is_none pick) ≡ may_pick_so chooses (picked_by (path m) pick) (of_running (effect_by (world m) (path m) me e) o)
   running_pick chooses pick e None running = absurd (cc)
   running_pick chooses pick e (Some t) running = in_mode t.mode running
     where
-      in_mode : (mode : Mode) → is_running_mode mode ≡ true → (chooses || is_none pick) ≡ may_pick_so chooses (picked_by (path m) pick) (in_running (effect_by (world m) (path m) me e) t.counter mode)
+      in_mode : (mode : Mode) → is_running_mode mode ≡ true →
+          (chooses || is_none pick) ≡ may_pick_so chooses (picked_by (path m) pick) (in_running (effect_by (world m) (path m) me e) t.counter mode)
       in_mode (Running g) running = by e
         where
           by : (e : Effect) → (chooses || is_none pick) ≡ may_pick_so chooses (picked_by (path m) pick) (effect_by (world m) (path m) me e g t.counter)
@@ -283,7 +304,8 @@ module _ (m : Contents) (c : Caller) (words : List ℕ) (free : c.is_porter ≡ 
       in_mode (Halted g code) running = absurd (cc)
       in_mode (Native g) running = absurd (cc)
 
-  may_pick_is : (chooses : Bool) (pick : Option Who) (v : Verdict) → IsVerdict m c v → may_pick chooses pick v ≡ may_pick_so chooses (picked_by (path m) pick) (outcome_by (world m) (path m) caller v)
+  may_pick_is : (chooses : Bool) (pick : Option Who) (v : Verdict) →
+      IsVerdict m c v → may_pick chooses pick v ≡ may_pick_so chooses (picked_by (path m) pick) (outcome_by (world m) (path m) caller v)
   may_pick_is chooses pick (verdicts.Runs e) fits = running_pick chooses pick e (thread_at (world m) me) fits.1
   may_pick_is chooses pick (verdicts.Refused status) fits = none_picked pick
   may_pick_is chooses pick verdicts.Waits fits = refl
@@ -293,8 +315,12 @@ module _ (m : Contents) (c : Caller) (words : List ℕ) (free : c.is_porter ≡ 
   may_pick_is chooses pick (verdicts.Tells plan words last) fits = may_pick_told chooses pick _ _ last
   may_pick_is chooses pick (verdicts.Faults page write port) fits = ap (λ b. chooses || b) (none_picked pick)
 
-  pub ready_iff : (chooses : Bool) (pick : Option Who) (v : Verdict) → IsVerdict m c v → IsTrue (may_pick chooses pick v && is_verdict_allowed (world m) me (path m) v) ↔ GoesAllowed (world m) me (move_by m c words chooses pick v)
+  pub ready_iff : (chooses : Bool) (pick : Option Who) (v : Verdict) → IsVerdict m c v →
+      IsTrue (may_pick chooses pick v && is_verdict_allowed (world m) me (path m) v) ↔ GoesAllowed (world m) me (move_by m c words chooses pick v)
   ready_iff chooses pick v fits = rw (may_pick_is chooses pick v fits) (picked_iff chooses (picked_by (path m) pick) _ _ (verdict_iff v fits))
 
-  pub ready_allowed : (chooses : Bool) (pick : Option Who) (v : Verdict) → IsVerdict m c v → may_pick chooses pick v ≡ true → IsTrue (is_verdict_allowed (world m) me (path m) v) ↔ GoesAllowed (world m) me (move_by m c words chooses pick v)
-  ready_allowed chooses pick v fits may = subst (λ b. IsTrue (b && is_verdict_allowed (world m) me (path m) v) ↔ GoesAllowed (world m) me (move_by m c words chooses pick v)) may (ready_iff chooses pick v fits)
+  pub ready_allowed : (chooses : Bool) (pick : Option Who) (v : Verdict) → IsVerdict m c v →
+      may_pick chooses pick v ≡ true → IsTrue (is_verdict_allowed (world m) me (path m) v) ↔ GoesAllowed (world m) me (move_by m c words chooses pick v)
+  ready_allowed chooses pick v fits may =
+      subst (λ b. IsTrue (b && is_verdict_allowed (world m) me (path m) v) ↔ GoesAllowed (world m) me (move_by m c words chooses pick v))
+      may (ready_iff chooses pick v fits)

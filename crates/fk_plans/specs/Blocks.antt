@@ -12,4 +12,5 @@ block_page p w b = overwritten (words_at w (p b.to.0) b.to.1) b.into (take b.cou
 
 -- it lies within both pages, and they are there
 abbrev pub IsBlock : (ℕ → Path) → World → Block → Type 0
-IsBlock p w b = (b.at + b.count ≤ 64) × (b.into + b.count ≤ 64) × IsSome (w.page (p b.from.0) b.from.1) × (birth_at w (p b.to.0) ≡ Some b.to.0) × IsSome (w.page (p b.to.0) b.to.1)
+IsBlock p w b = (b.at + b.count ≤ 64) ×
+    (b.into + b.count ≤ 64) × IsSome (w.page (p b.from.0) b.from.1) × (birth_at w (p b.to.0) ≡ Some b.to.0) × IsSome (w.page (p b.to.0) b.to.1)

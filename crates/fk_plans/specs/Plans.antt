@@ -74,7 +74,8 @@ IsPlan p w plans.Nothing = ⊤
 IsPlan p w (plans.One a) = IsDeed p w a
 IsPlan p w (plans.Two a b) = IsDeed p w a × IsDeed p (after p a w) b
 IsPlan p w (plans.Three a b c) = IsDeed p w a × IsDeed p (after p a w) b × IsDeed p (after p b (after p a w)) c
-IsPlan p w (plans.Four a b c d) = IsDeed p w a × IsDeed p (after p a w) b × IsDeed p (after p b (after p a w)) c × IsDeed p (after p c (after p b (after p a w))) d
+IsPlan p w (plans.Four a b c d) =
+    IsDeed p w a × IsDeed p (after p a w) b × IsDeed p (after p b (after p a w)) c × IsDeed p (after p c (after p b (after p a w))) d
 IsPlan p w (plans.Makes object kind) = IsMaking p w object kind
 
 -- it takes no memory

@@ -59,7 +59,8 @@ IsVerdict m c (verdicts.Done plan answers) =
     IsPlan (path m) (world m) plan × LeaveArguments answers (todo_at (apply_all (changes_by (path m) plan (world m)) (world m)) (place (path m) c.who))
 IsVerdict m c (verdicts.Shows plan space page) = (c.is_porter ≡ true) × IsSome ((world m).page (path m space) page) × IsPlan (path m) (world m) plan
 IsVerdict m c (verdicts.Goes plan) = IsPlan (path m) (world m) plan
-IsVerdict m c (verdicts.Tells plan words last) = (c.is_porter ≡ false) × AreWords (path m) (world m) words × IsLive m words.port × IsPlan (path m) (world m) plan
+IsVerdict m c (verdicts.Tells plan words last) =
+    (c.is_porter ≡ false) × AreWords (path m) (world m) words × IsLive m words.port × IsPlan (path m) (world m) plan
 IsVerdict m c (verdicts.Faults page write port) = (c.is_porter ≡ false) × IsLive m port
 
 -- it takes no memory

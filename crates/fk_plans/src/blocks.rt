@@ -41,7 +41,8 @@ pub fn send_block(store: &mut Store, block: Block)
     requires from { IsSome ((world store.old).page (path store.old block.from.0) block.from.1) }
     requires space { IsSpace store.old block.to.0 }
     requires to { IsSome ((world store.old).page (path store.old block.to.0) block.to.1) }
-    ensures world { world store.new ≡ apply (PutPage (path store.old block.to.0) block.to.1 (block_page (path store.old) (world store.old) block)) (world store.old) }
+    ensures world { let words = block_page (path store.old) (world store.old) block in
+        world store.new ≡ apply (PutPage (path store.old block.to.0) block.to.1 words) (world store.old) }
     ensures kinds { kind_there (world store.new) ≡ kind_there (world store.old) }
     ensures paths { path store.new ≡ path store.old }
 {

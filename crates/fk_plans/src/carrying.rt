@@ -77,7 +77,8 @@ fn finish_all(
     requires live { caller.is_porter ≡ false → IsLive store.old caller.who }
     requires fits { IsVerdict store.old caller (Verdict.Done plan.now answers) }
     ensures step { IfOk result (λ said. (words : List ℕ) → let c = caller_by (path store.old) caller words in
-        stepped (world store.old) (closed c (outcome_by (world store.old) (path store.old) c (Verdict.Done plan.now answers))) ≡ record { world = world store.new; said = said_by (path store.new) said }) }
+        stepped (world store.old) (closed c (outcome_by (world store.old) (path store.old) c (Verdict.Done plan.now answers)))
+        ≡ record { world = world store.new; said = said_by (path store.new) said }) }
     ensures err { OnErr result (store.new ≡ store.old) }
     ensures sure { IsSure plan.now → IsOk result }
 {
@@ -95,7 +96,8 @@ pub fn carry_out(store: &mut Store, caller: Caller, verdict: &Verdict) -> Result
     requires live { caller.is_porter ≡ false → IsLive store.old caller.who }
     requires fits { IsVerdict store.old caller verdict.now }
     ensures step { IfOk result (λ said. (words : List ℕ) → let c = caller_by (path store.old) caller words in
-        stepped (world store.old) (closed c (outcome_by (world store.old) (path store.old) c verdict.now)) ≡ record { world = world store.new; said = said_by (path store.new) said }) }
+        stepped (world store.old) (closed c (outcome_by (world store.old) (path store.old) c verdict.now))
+        ≡ record { world = world store.new; said = said_by (path store.new) said }) }
     ensures err { OnErr result (store.new ≡ store.old) }
     ensures sure { IsSureVerdict verdict.now → IsOk result }
 {
@@ -135,7 +137,9 @@ fn tell(
     requires words { AreWords (path store.old) (world store.old) words.now }
     requires fits { IsPlan (path store.old) (world store.old) plan.now }
     ensures step { IfOk result (λ said. (given : List ℕ) → let c = caller_by (path store.old) (record { who = me; is_porter = false }) given in
-        stepped (world store.old) (tells c (changes_by (path store.old) plan.now (world store.old)) (words_told (world store.old) (path store.old) words.now) last) ≡ record { world = world store.new; said = said_by (path store.new) said }) }
+        stepped (world store.old) (tells c (changes_by (path store.old) plan.now (world store.old))
+        (words_told (world store.old) (path store.old) words.now) last)
+        ≡ record { world = world store.new; said = said_by (path store.new) said }) }
     ensures err { OnErr result (store.new ≡ store.old) }
     ensures sure { IsSure plan.now → IsOk result }
 {

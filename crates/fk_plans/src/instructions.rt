@@ -15,7 +15,8 @@ use fk_store::Store;
 #[tactic(auto, unfolding(fk_model::specs::World::apply_all))]
 pub fn make_effect(store: &mut Store, me: Who, thread: &Thread, effect: Effect)
     requires { IsEffect (path store.old) (world store.old) effect }
-    ensures step { stepped (world store.old) (effect_by (world store.old) (path store.old) (place (path store.old) me) effect thread.now.regs thread.now.pc) ≡ record { world = world store.new; said = Nothing } }
+    ensures step { stepped (world store.old) (effect_by (world store.old) (path store.old) (place (path store.old) me) effect thread.now.regs thread.now.pc)
+        ≡ record { world = world store.new; said = Nothing } }
 {
     let next = thread.pc.wrapping_add(1);
     match effect {
@@ -44,7 +45,8 @@ pub fn make_effect(store: &mut Store, me: Who, thread: &Thread, effect: Effect)
 /// Makes an effect of a thread where it runs.
 pub fn run(store: &mut Store, me: Who, effect: Effect)
     requires { IsEffect (path store.old) (world store.old) effect }
-    ensures step { stepped (world store.old) (of_running (effect_by (world store.old) (path store.old) (place (path store.old) me) effect) (thread_at (world store.old) (place (path store.old) me))) ≡ record { world = world store.new; said = Nothing } }
+    ensures step { stepped (world store.old) (of_running (effect_by (world store.old) (path store.old) (place (path store.old) me) effect)
+        (thread_at (world store.old) (place (path store.old) me))) ≡ record { world = world store.new; said = Nothing } }
 {
     match store.thread(me) {
         Some(&thread) => {

@@ -94,7 +94,8 @@ pub fn is_ready(
 ) -> bool
     requires free { caller.is_porter ≡ false → is_free_at (world store.now) (place (path store.now) caller.who) ≡ true }
     requires fits { IsVerdict store.now caller verdict.now }
-    ensures { (words : List ℕ) → IsTrue result ↔ GoesAllowed (world store.now) (place (path store.now) caller.who) (move_by store.now caller words chooses pick verdict.now) }
+    ensures { (words : List ℕ) →
+        IsTrue result ↔ GoesAllowed (world store.now) (place (path store.now) caller.who) (move_by store.now caller words chooses pick verdict.now) }
 {
     may_pick(chooses, pick, verdict) && is_verdict_allowed(store, caller.who, verdict)
 }

@@ -57,7 +57,8 @@ fn told_all(words: [u64; 64]) -> Said
 /// Words that come to a port, of a page.
 pub fn told_words(store: &Store, words: &Words) -> Said
     requires { AreWords (path store.now) (world store.now) words.now }
-    ensures { (p : ℕ → Path) → said_by p result ≡ Told (At (place p words.now.port)) (take words.now.count (drop words.now.at (words_at (world store.now) (path store.now words.now.space) words.now.page))) }
+    ensures { (p : ℕ → Path) → said_by p result ≡ Told
+        (At (place p words.now.port)) (take words.now.count (drop words.now.at (words_at (world store.now) (path store.now words.now.space) words.now.page))) }
 {
     match store.page(words.space, words.page) {
         Some(page) => from_page(*page, words),

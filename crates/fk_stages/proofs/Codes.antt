@@ -28,14 +28,16 @@ OfOthers few Q [] = Unit {0}
 OfOthers few Q (c ∷ cs) = cond (is_among few c.code) (Unit {0}) ((r : ℕ → ℕ) → Q (registers c.code r) (c.todo (registers c.code r))) × OfOthers few Q cs
 
 -- holds of the stages that other registers name, and of none
-others : (few : List ℕ) (Q : List ℕ → List Stage → Type 0) → ((g : List ℕ) → Q g []) → (cs : List Call) → OfOthers few Q cs → (n : ℕ) (r : ℕ → ℕ) → is_among few n ≡ false → Q (registers n r) (unwrap_or (named_by cs n (registers n r)) [])
+others : (few : List ℕ) (Q : List ℕ → List Stage → Type 0) → ((g : List ℕ) → Q g []) →
+    (cs : List Call) → OfOthers few Q cs → (n : ℕ) (r : ℕ → ℕ) → is_among few n ≡ false → Q (registers n r) (unwrap_or (named_by cs n (registers n r)) [])
 others few Q none [] each n r other = none _
 others few Q none (c ∷ cs) each n r other = by (eqb n c.code) refl (others few Q none cs each.1 n r other)
   where
     g : List ℕ
     g = registers n r
 
-    at : (b : Bool) → b ≡ false → cond b (Unit {0}) ((r : ℕ → ℕ) → Q (registers c.code r) (c.todo (registers c.code r))) → Q (registers c.code r) (c.todo (registers c.code r))
+    at : (b : Bool) → b ≡ false →
+        cond b (Unit {0}) ((r : ℕ → ℕ) → Q (registers c.code r) (c.todo (registers c.code r))) → Q (registers c.code r) (c.todo (registers c.code r))
     at true off h = absurd (cc)
     at false off h = h r
 

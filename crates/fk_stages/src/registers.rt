@@ -216,7 +216,7 @@ fn write_arguments(stage: &Stage, registers: &mut [u64; 16])
 }
 
 /// The registers that these stages, and the rest of the registers, are written into.
-#[tactic(auto, using(crate::proofs::Values::words_one, crate::proofs::Values::words_two, crate::proofs::Values::words_three, crate::proofs::Values::words_four))]
+#[tactic(auto, using(crate::proofs::Parts::words_one, crate::proofs::Parts::words_two, crate::proofs::Parts::words_three, crate::proofs::Parts::words_four))]
 pub fn words(todo: &Todo, rest: &[u64; 16]) -> [u64; 16]
     ensures { result ≡ calls.words (calls.stages_of todo.now) rest.now }
 {

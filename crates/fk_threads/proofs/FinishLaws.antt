@@ -112,7 +112,8 @@ Ends g = code_after (slice_index g 0) ≡ None → is_lone (unwrap_or (todo_of g
 
 each_ends : (r : ℕ → ℕ) → OfEach (λ n. Ends (registers n r)) several
 unfolding several Ends
-each_ends r = ((λ none. absurd (cc)), ((λ none. absurd (cc)), ((λ none. absurd (cc)), ((λ none. absurd (cc)), ((λ none. absurd (cc)), ((λ none. absurd (cc)), tt))))))
+each_ends r =
+    ((λ none. absurd (cc)), ((λ none. absurd (cc)), ((λ none. absurd (cc)), ((λ none. absurd (cc)), ((λ none. absurd (cc)), ((λ none. absurd (cc)), tt))))))
 
 each_lone : OfOthers several (λ g todo. is_lone todo ≡ true) calls
 unfolding several is_lone
@@ -122,7 +123,8 @@ ends : (g : List ℕ) → length g ≡ 16 → Ends g
 unfolding Ends is_lone
 ends = of_registers several Ends (λ g todo. is_lone todo ≡ true) each_ends each_lone (λ g. refl) (λ n r other lone none. lone)
 
-ends_lone : (answers : List ℕ) (t : Thread) (todo : List Stage) (rest : List ℕ) → is_lone todo ≡ true → ended_in OK answers t (Calling todo rest) ≡ finished_in answers t (Calling todo rest)
+ends_lone : (answers : List ℕ) (t : Thread) (todo : List Stage) (rest : List ℕ) →
+    is_lone todo ≡ true → ended_in OK answers t (Calling todo rest) ≡ finished_in answers t (Calling todo rest)
 unfolding is_lone
 ends_lone answers t [] rest lone = refl
 ends_lone answers t (stage ∷ []) rest lone = refl
@@ -130,32 +132,41 @@ ends_lone answers t (stage ∷ second ∷ todo) rest lone = absurd (cc)
 
 -- ---- of a thread
 
-pub finish_on : (p : ℕ → Path) (t : threads_of.Thread) (answers : Answers) (code : ℕ) → length t.regs ≡ 16 → t.mode ≡ modes.Calling → Some code ≡ code_after (slice_index t.regs 0) → LeaveArguments answers (todo_of_mode (mode_by t.mode t.regs)) →
-    edited (Finish (listed answers)) (Thread_of (thread_by p t)) ≡ Thread_of (thread_by p (record t { regs = slice_set (with_answers (listed answers) t.regs) 0 code }))
+pub finish_on : (p : ℕ → Path) (t : threads_of.Thread) (answers : Answers) (code : ℕ) → length t.regs ≡ 16 →
+    t.mode ≡ modes.Calling → Some code ≡ code_after (slice_index t.regs 0) → LeaveArguments answers (todo_of_mode (mode_by t.mode t.regs)) →
+    edited (Finish (listed answers))
+        (Thread_of (thread_by p t)) ≡ Thread_of (thread_by p (record t { regs = slice_set (with_answers (listed answers) t.regs) 0 code }))
 unfolding edited Goes GoesOn
 finish_on p t answers code long is after apart = rw is (ap Thread_of (goes_on answers (thread_by p t) t.regs long code (sym after) (rw is at apart)))
 
 pub end_well : (p : ℕ → Path) (t : threads_of.Thread) (answers : List ℕ) → length t.regs ≡ 16 → t.mode ≡ modes.Calling →
-    edited (End OK answers) (Thread_of (thread_by p t)) ≡ Thread_of (thread_by p (record t { regs = with_answers answers (slice_set t.regs 0 OK); pc = (t.pc + 1) % 2 ^ 64; mode = modes.Running }))
+    edited (End OK answers) (Thread_of (thread_by p t)) ≡ Thread_of
+        (thread_by p (record t { regs = with_answers answers (slice_set t.regs 0 OK); pc = (t.pc + 1) % 2 ^ 64; mode = modes.Running }))
 unfolding edited
-end_well p t answers long is = rw is (ap (λ g. Thread_of (record (thread_by p t) { mode = Running (with_answers answers g); counter = (t.pc + 1) % 2 ^ 64 })) (words-status t.regs OK long))
+end_well p t answers long is = rw is
+    (ap (λ g. Thread_of (record (thread_by p t) { mode = Running (with_answers answers g); counter = (t.pc + 1) % 2 ^ 64 })) (words-status t.regs OK long))
 
-pub finish_ends : (p : ℕ → Path) (t : threads_of.Thread) (answers : List ℕ) (b : Body) → length t.regs ≡ 16 → t.mode ≡ modes.Calling → None ≡ code_after (slice_index t.regs 0) → edited (End OK answers) (Thread_of (thread_by p t)) ≡ b →
+pub finish_ends : (p : ℕ → Path) (t : threads_of.Thread) (answers : List ℕ) (b : Body) →
+    length t.regs ≡ 16 → t.mode ≡ modes.Calling → None ≡ code_after (slice_index t.regs 0) → edited (End OK answers) (Thread_of (thread_by p t)) ≡ b →
     edited (Finish answers) (Thread_of (thread_by p t)) ≡ b
 unfolding edited Ends
 finish_ends p t answers b long is none end = by t.mode is end
   where
-    by : (m : modes_of.Mode) → m ≡ modes.Calling → Thread_of (ended_in OK answers (record (thread_by p t) { mode = mode_by m t.regs }) (mode_by m t.regs)) ≡ b → Thread_of (finished_in answers (record (thread_by p t) { mode = mode_by m t.regs }) (mode_by m t.regs)) ≡ b
+    by : (m : modes_of.Mode) → m ≡ modes.Calling → Thread_of (ended_in OK answers (record (thread_by p t) { mode = mode_by m t.regs }) (mode_by m t.regs)) ≡ b →
+        Thread_of (finished_in answers (record (thread_by p t) { mode = mode_by m t.regs }) (mode_by m t.regs)) ≡ b
     by modes.Running is end = end
-    by modes.Calling is end = ap Thread_of (sym (ends_lone answers (record (thread_by p t) { mode = calling_mode t.regs }) (unwrap_or (todo_of t.regs) []) (rest_of (unwrap_or (todo_of t.regs) []) t.regs) (ends t.regs long (sym none)))) ∙ end
+    by modes.Calling is end = ap Thread_of (sym (ends_lone answers (record (thread_by p t) { mode = calling_mode t.regs })
+        (unwrap_or (todo_of t.regs) []) (rest_of (unwrap_or (todo_of t.regs) []) t.regs) (ends t.regs long (sym none)))) ∙ end
     by (modes.Halted code) is end = end
     by modes.Native is end = end
 
-pub finish_not : (p : ℕ → Path) (t : threads_of.Thread) (answers : List ℕ) → (t.mode ≡ modes.Calling → ⊥) → edited (Finish answers) (Thread_of (thread_by p t)) ≡ Thread_of (thread_by p t)
+pub finish_not : (p : ℕ → Path) (t : threads_of.Thread) (answers : List ℕ) →
+    (t.mode ≡ modes.Calling → ⊥) → edited (Finish answers) (Thread_of (thread_by p t)) ≡ Thread_of (thread_by p t)
 unfolding edited
 finish_not p t answers other = by t.mode refl
   where
-    by : (m : modes_of.Mode) → t.mode ≡ m → edited (Finish answers) (Thread_of (record (thread_by p t) { mode = mode_by m t.regs })) ≡ Thread_of (record (thread_by p t) { mode = mode_by m t.regs })
+    by : (m : modes_of.Mode) → t.mode ≡ m → edited (Finish answers)
+        (Thread_of (record (thread_by p t) { mode = mode_by m t.regs })) ≡ Thread_of (record (thread_by p t) { mode = mode_by m t.regs })
     by modes.Running is = refl
     by modes.Calling is = absurd (other is)
     by (modes.Halted code) is = refl
@@ -165,6 +176,7 @@ pub finish_nobody : (w : World) (x : Path) (answers : List ℕ) → thread_at w 
 unfolding edited
 finish_nobody w x answers none = alter-nobody w x (Finish answers) _ (λ b. refl) none
 
-pub apart_there : (w : World) (x : Path) (p : ℕ → Path) (t : threads_of.Thread) (answers : Answers) → Some (thread_by p t) ≡ thread_at w x → LeaveArguments answers (todo_at w x) → LeaveArguments answers (todo_of_mode (mode_by t.mode t.regs))
+pub apart_there : (w : World) (x : Path) (p : ℕ → Path) (t : threads_of.Thread) (answers : Answers) →
+    Some (thread_by p t) ≡ thread_at w x → LeaveArguments answers (todo_at w x) → LeaveArguments answers (todo_of_mode (mode_by t.mode t.regs))
 unfolding todo_at
 apart_there w x p t answers there apart = rw (← there) at apart

@@ -34,7 +34,8 @@ not_moving : (n : ℕ) → is_among senders_and_receivers n ≡ false → moving
 unfolding senders_and_receivers
 not_moving n = by (eqb n 34) (eqb n 37) (eqb n 51) (eqb n 53) (eqb n 36) (eqb n 50)
   where
-    by : (a b c d e f : Bool) → (a || (b || (c || (d || (e || (f || false)))))) ≡ false → cond {A = Option ℕ} (((a || b) || c) || d) (Some 2) (cond (e || f) (Some 4) None) ≡ None
+    by : (a b c d e f : Bool) →
+        (a || (b || (c || (d || (e || (f || false)))))) ≡ false → cond {A = Option ℕ} (((a || b) || c) || d) (Some 2) (cond (e || f) (Some 4) None) ≡ None
     by false false false false false false other = refl
     by true b c d e f other = absurd (cc)
     by false true c d e f other = absurd (cc)
@@ -61,7 +62,8 @@ each_stays k = assumption
 
 shifts : (k : ℕ) (g : List ℕ) → length g ≡ 16 → shifted_in k (calling_mode g) ≡ calling_mode (shifted_registers k g)
 unfolding Shifts Stays
-shifts k = of_registers senders_and_receivers (Shifts k) (Stays k) (each_shifts k) (each_stays k) (λ g. refl) (λ n r other stays. subst (λ m. shifted_in k (calling_mode (registers n r)) ≡ calling_mode (advanced k m (registers n r))) (sym (not_moving n other)) stays)
+shifts k = of_registers senders_and_receivers (Shifts k) (Stays k) (each_shifts k) (each_stays k) (λ g. refl)
+    (λ n r other stays. subst (λ m. shifted_in k (calling_mode (registers n r)) ≡ calling_mode (advanced k m (registers n r))) (sym (not_moving n other)) stays)
 
 -- ---- the address
 
@@ -81,7 +83,8 @@ each_nowhere = assumption
 
 addressed : (g : List ℕ) → length g ≡ 16 → address_of (unwrap_or (todo_of g) []) ≡ address_in (moving (slice_index g 0)) g
 unfolding Addressed Nowhere
-addressed = of_registers senders_and_receivers Addressed Nowhere each_addressed each_nowhere (λ g. refl) (λ n r other nowhere. subst (λ m. address_of (unwrap_or (todo_of (registers n r)) []) ≡ address_in m (registers n r)) (sym (not_moving n other)) nowhere)
+addressed = of_registers senders_and_receivers Addressed Nowhere each_addressed each_nowhere (λ g. refl)
+    (λ n r other nowhere. subst (λ m. address_of (unwrap_or (todo_of (registers n r)) []) ≡ address_in m (registers n r)) (sym (not_moving n other)) nowhere)
 
 -- ---- the Receive of a server
 
@@ -106,7 +109,8 @@ receives : (g : List ℕ) → length g ≡ 16 → receiving turns.Server (callin
 unfolding receivers Receives NoReceive
 receives = of_registers receivers Receives NoReceive each_receives each_none (λ g. refl) other
   where
-    other : (n : ℕ) (r : ℕ → ℕ) → is_among receivers n ≡ false → receiving turns.Server (calling_mode (registers n r)) ≡ None → receiving turns.Server (calling_mode (registers n r)) ≡ receive_in (registers n r)
+    other : (n : ℕ) (r : ℕ → ℕ) → is_among receivers n ≡ false →
+        receiving turns.Server (calling_mode (registers n r)) ≡ None → receiving turns.Server (calling_mode (registers n r)) ≡ receive_in (registers n r)
     other n r none is = by (eqb n 50) none
       where
         by : (b : Bool) → (b || false) ≡ false → receiving turns.Server (calling_mode (registers n r)) ≡ cond {A = Option (ℕ × ℕ)} b (Some (r 4, r 5)) None
@@ -115,24 +119,29 @@ receives = of_registers receivers Receives NoReceive each_receives each_none (λ
 
 -- ---- of a thread
 
-pub shift_calling : (p : ℕ → Path) (t : threads_of.Thread) (k : ℕ) → length t.regs ≡ 16 → t.mode ≡ modes.Calling → edited (Shift k) (Thread_of (thread_by p t)) ≡ Thread_of (thread_by p (record t { regs = shifted_registers k t.regs }))
+pub shift_calling : (p : ℕ → Path) (t : threads_of.Thread) (k : ℕ) → length t.regs ≡ 16 →
+    t.mode ≡ modes.Calling → edited (Shift k) (Thread_of (thread_by p t)) ≡ Thread_of (thread_by p (record t { regs = shifted_registers k t.regs }))
 unfolding edited
 shift_calling p t k long is = rw is (ap (λ mode. Thread_of (record (thread_by p t) { mode = mode })) (shifts k t.regs long))
 
-pub shift_other : (p : ℕ → Path) (t : threads_of.Thread) (k : ℕ) → (t.mode ≡ modes.Calling → ⊥) → edited (Shift k) (Thread_of (thread_by p t)) ≡ Thread_of (thread_by p t)
+pub shift_other : (p : ℕ → Path) (t : threads_of.Thread) (k : ℕ) →
+    (t.mode ≡ modes.Calling → ⊥) → edited (Shift k) (Thread_of (thread_by p t)) ≡ Thread_of (thread_by p t)
 unfolding edited
 shift_other p t k other = by t.mode refl
   where
-    by : (m : modes_of.Mode) → t.mode ≡ m → edited (Shift k) (Thread_of (record (thread_by p t) { mode = mode_by m t.regs })) ≡ Thread_of (record (thread_by p t) { mode = mode_by m t.regs })
+    by : (m : modes_of.Mode) → t.mode ≡ m →
+        edited (Shift k) (Thread_of (record (thread_by p t) { mode = mode_by m t.regs })) ≡ Thread_of (record (thread_by p t) { mode = mode_by m t.regs })
     by modes.Running is = refl
     by modes.Calling is = absurd (other is)
     by (modes.Halted code) is = refl
     by modes.Native is = refl
 
-pub address_calling : (t : threads_of.Thread) → length t.regs ≡ 16 → t.mode ≡ modes.Calling → address_of (todo_of_mode (mode_by t.mode t.regs)) ≡ address_in (moving (slice_index t.regs 0)) t.regs
+pub address_calling : (t : threads_of.Thread) →
+    length t.regs ≡ 16 → t.mode ≡ modes.Calling → address_of (todo_of_mode (mode_by t.mode t.regs)) ≡ address_in (moving (slice_index t.regs 0)) t.regs
 address_calling t long is = rw is (addressed t.regs long)
 
-pub low_there : (w : World) (x : Path) (p : ℕ → Path) (t : threads_of.Thread) (k : ℕ) → Some (thread_by p t) ≡ thread_at w x → IsLow w x k → address_of (todo_of_mode (mode_by t.mode t.regs)) + k < 2 ^ 64
+pub low_there : (w : World) (x : Path) (p : ℕ → Path) (t : threads_of.Thread) (k : ℕ) →
+    Some (thread_by p t) ≡ thread_at w x → IsLow w x k → address_of (todo_of_mode (mode_by t.mode t.regs)) + k < 2 ^ 64
 unfolding todo_at
 low_there w x p t k there low = rw (← there) at low
 
@@ -144,7 +153,8 @@ pub count_nobody : (w : World) (x : Path) (k : ℕ) → thread_at w x ≡ None �
 unfolding edited
 count_nobody w x k none = alter-nobody w x (CountMoved k) _ (λ b. refl) none
 
-pub receives_thread : (p : ℕ → Path) (t : threads_of.Thread) → length t.regs ≡ 16 → t.mode ≡ modes.Calling → receiving turns.Server (thread_by p t).mode ≡ receive_in t.regs
+pub receives_thread : (p : ℕ → Path) (t : threads_of.Thread) →
+    length t.regs ≡ 16 → t.mode ≡ modes.Calling → receiving turns.Server (thread_by p t).mode ≡ receive_in t.regs
 receives_thread p t long is = rw is (receives t.regs long)
 
 pub receives_not : (p : ℕ → Path) (t : threads_of.Thread) → (t.mode ≡ modes.Calling → ⊥) → receiving turns.Server (thread_by p t).mode ≡ None
@@ -156,7 +166,8 @@ receives_not p t other = by t.mode refl
     by (modes.Halted code) is = refl
     by modes.Native is = refl
 
-pub receives_none : (p : ℕ → Path) (t : threads_of.Thread) → length t.regs ≡ 16 → t.mode ≡ modes.Calling → (slice_index t.regs 0 ≡ 50 → ⊥) → None ≡ receiving turns.Server (thread_by p t).mode
+pub receives_none : (p : ℕ → Path) (t : threads_of.Thread) →
+    length t.regs ≡ 16 → t.mode ≡ modes.Calling → (slice_index t.regs 0 ≡ 50 → ⊥) → None ≡ receiving turns.Server (thread_by p t).mode
 receives_none p t long is other = sym (receives_thread p t long is ∙ by (eqb (slice_index t.regs 0) 50) refl)
   where
     by : (b : Bool) → eqb (slice_index t.regs 0) 50 ≡ b → cond {A = Option (ℕ × ℕ)} b (Some (slice_index t.regs 4, slice_index t.regs 5)) None ≡ None
@@ -165,7 +176,8 @@ receives_none p t long is other = sym (receives_thread p t long is ∙ by (eqb (
 
 -- ---- the count of a talk
 
-pub count_some : (p : ℕ → Path) (t : threads_of.Thread) (talk : talks_of.Talk) (k : ℕ) → t.talk ≡ Some talk → edited (CountMoved k) (Thread_of (thread_by p t)) ≡ Thread_of (thread_by p (record t { talk = Some (record talk { moved = min MOST_MOVED (talk.moved + k) }) }))
+pub count_some : (p : ℕ → Path) (t : threads_of.Thread) (talk : talks_of.Talk) (k : ℕ) → t.talk ≡ Some talk → edited (CountMoved k)
+    (Thread_of (thread_by p t)) ≡ Thread_of (thread_by p (record t { talk = Some (record talk { moved = min MOST_MOVED (talk.moved + k) }) }))
 unfolding edited
 count_some p t talk k is = rw is refl
 

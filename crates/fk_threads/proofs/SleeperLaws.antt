@@ -55,10 +55,12 @@ asleep_named : (c : ℕ) (g : List ℕ) → length g ≡ 16 → Asleep c g
 unfolding sleepers Asleep Awake
 asleep_named c = of_registers sleepers (Asleep c) (Awake c) (each_asleep c) (each_awake c) (λ g. refl) other
   where
-    other : (n : ℕ) (r : ℕ → ℕ) → is_among sleepers n ≡ false → and_then (mutex_after c) (first_of (unwrap_or (todo_of (registers n r)) [])) ≡ None → and_then (mutex_after c) (first_of (unwrap_or (todo_of (registers n r)) [])) ≡ asleep_in c (registers n r)
+    other : (n : ℕ) (r : ℕ → ℕ) → is_among sleepers n ≡ false → and_then (mutex_after c) (first_of (unwrap_or (todo_of (registers n r)) [])) ≡ None →
+        and_then (mutex_after c) (first_of (unwrap_or (todo_of (registers n r)) [])) ≡ asleep_in c (registers n r)
     other n r none awake = by (eqb n 25) none awake
       where
-        by : (b : Bool) → (b || false) ≡ false → and_then (mutex_after c) (first_of (unwrap_or (todo_of (registers n r)) [])) ≡ None → and_then (mutex_after c) (first_of (unwrap_or (todo_of (registers n r)) [])) ≡ cond {A = Option ℕ} b (cond (eqb (r 1) c) (Some (r 2)) None) None
+        by : (b : Bool) → (b || false) ≡ false → and_then (mutex_after c) (first_of (unwrap_or (todo_of (registers n r)) [])) ≡ None →
+            and_then (mutex_after c) (first_of (unwrap_or (todo_of (registers n r)) [])) ≡ cond {A = Option ℕ} b (cond (eqb (r 1) c) (Some (r 2)) None) None
         by true none awake = absurd (cc)
         by false none awake = awake
 
@@ -66,7 +68,8 @@ first_is : (todo : List Stage) (rest : List ℕ) → first_stage (Calling todo r
 first_is [] rest = refl
 first_is (stage ∷ todo) rest = refl
 
-pub asleep_thread : (p : ℕ → Path) (t : threads_of.Thread) (c : ℕ) → length t.regs ≡ 16 → t.mode ≡ modes.Calling → and_then (mutex_after c) (first_stage (thread_by p t).mode) ≡ asleep_in c t.regs
+pub asleep_thread : (p : ℕ → Path) (t : threads_of.Thread) (c : ℕ) →
+    length t.regs ≡ 16 → t.mode ≡ modes.Calling → and_then (mutex_after c) (first_stage (thread_by p t).mode) ≡ asleep_in c t.regs
 unfolding Asleep
 asleep_thread p t c long is = rw is (ap (and_then (mutex_after c)) (first_is (unwrap_or (todo_of t.regs) []) _) ∙ asleep_named c t.regs long)
 
@@ -90,19 +93,22 @@ sleeps : (c : ℕ) (g : List ℕ) → length g ≡ 16 → Sleeps c g
 unfolding sleepers Sleeps
 sleeps c = of_registers sleepers (Sleeps c) (λ g todo. Unit {0}) (each_sleeps c) anything (λ g. tt) other
   where
-    other : (n : ℕ) (r : ℕ → ℕ) → is_among sleepers n ≡ false → Unit {0} → (m : ℕ) → asleep_in c (registers n r) ≡ Some m → unwrap_or (todo_of (registers n r)) [] ≡ CondAsleep c m ∷ []
+    other : (n : ℕ) (r : ℕ → ℕ) →
+        is_among sleepers n ≡ false → Unit {0} → (m : ℕ) → asleep_in c (registers n r) ≡ Some m → unwrap_or (todo_of (registers n r)) [] ≡ CondAsleep c m ∷ []
     other n r none nothing m is = absurd (by (eqb n 25) none is)
       where
         by : (b : Bool) → (b || false) ≡ false → cond {A = Option ℕ} b (cond (eqb (r 1) c) (Some (r 2)) None) None ≡ Some m → ⊥
         by true none is = absurd (cc)
         by false none is = absurd (cc)
 
-pub alone_if : (t : threads_of.Thread) (c : ℕ) (o : Option ℕ) → length t.regs ≡ 16 → t.mode ≡ modes.Calling → o ≡ asleep_in c t.regs → IfSome o (λ m. todo_of_mode (mode_by t.mode t.regs) ≡ CondAsleep c m ∷ [])
+pub alone_if : (t : threads_of.Thread) (c : ℕ) (o : Option ℕ) →
+    length t.regs ≡ 16 → t.mode ≡ modes.Calling → o ≡ asleep_in c t.regs → IfSome o (λ m. todo_of_mode (mode_by t.mode t.regs) ≡ CondAsleep c m ∷ [])
 unfolding Sleeps
 alone_if t c None long is at = tt
 alone_if t c (Some m) long is at = rw is (sleeps c t.regs long m (sym at))
 
-pub asleep_there : (w : World) (x : Path) (p : ℕ → Path) (t : threads_of.Thread) (c : ℕ) (o : Option ℕ) → Some (thread_by p t) ≡ thread_at w x → IfSome o (λ m. todo_of_mode (mode_by t.mode t.regs) ≡ CondAsleep c m ∷ []) → IfSome o (λ m. IsAsleep w x m)
+pub asleep_there : (w : World) (x : Path) (p : ℕ → Path) (t : threads_of.Thread) (c : ℕ) (o : Option ℕ) →
+    Some (thread_by p t) ≡ thread_at w x → IfSome o (λ m. todo_of_mode (mode_by t.mode t.regs) ≡ CondAsleep c m ∷ []) → IfSome o (λ m. IsAsleep w x m)
 unfolding todo_at
 asleep_there w x p t c None there alone = tt
 asleep_there w x p t c (Some m) there alone = (c, rw (← there) alone)
@@ -136,7 +142,8 @@ woken_some : (x : Path) (o : Option ℕ) → is_changed (woken x o) ≡ is_some 
 woken_some x None = refl
 woken_some x (Some m) = refl
 
-pub none_more : (w : World) (s : Path) (c n : ℕ) (o : Option ℕ) → is_changed (flat_map (wakes_at w s c) (slots n)) ≡ false → o ≡ rows.asleep_on c (w.body (n ∷ s)) → is_some o ≡ false → is_changed (flat_map (wakes_at w s c) (slots (n + 1))) ≡ false
+pub none_more : (w : World) (s : Path) (c n : ℕ) (o : Option ℕ) → is_changed (flat_map (wakes_at w s c) (slots n)) ≡ false →
+    o ≡ rows.asleep_on c (w.body (n ∷ s)) → is_some o ≡ false → is_changed (flat_map (wakes_at w s c) (slots (n + 1))) ≡ false
 none_more w s c n o none is off =
     let here : is_changed (wakes_at w s c n) ≡ false = woken_some (n ∷ s) _ ∙ ap is_some (sym is) ∙ off in
     rw (add-one n, last_slot w s c n) (unchanged _ _ none (rw (append-nil (wakes_at w s c n)) here))
@@ -145,18 +152,22 @@ some_up_to : (w : World) (s : Path) (c k n : ℕ) → is_changed (wakes_at w s c
 some_up_to w s c k zero some low = absurd (omega arith)
 some_up_to w s c k (suc n) some low = rw (last_slot w s c n) (by (eqb k n) refl (some_up_to w s c k n some))
   where
-    by : (b : Bool) → eqb k n ≡ b → (k < n → is_changed (flat_map (wakes_at w s c) (slots n)) ≡ true) → is_changed (flat_map (wakes_at w s c) (slots n) ++ (wakes_at w s c n ++ [])) ≡ true
-    by true same later = changed_append (flat_map (wakes_at w s c) (slots n)) _ (rw (append-nil (wakes_at w s c n)) (subst (λ j. is_changed (wakes_at w s c j) ≡ true) (eqb-true _ _ same) some))
+    by : (b : Bool) → eqb k n ≡ b →
+        (k < n → is_changed (flat_map (wakes_at w s c) (slots n)) ≡ true) → is_changed (flat_map (wakes_at w s c) (slots n) ++ (wakes_at w s c n ++ [])) ≡ true
+    by true same later = changed_append (flat_map (wakes_at w s c) (slots n))
+        _ (rw (append-nil (wakes_at w s c n)) (subst (λ j. is_changed (wakes_at w s c j) ≡ true) (eqb-true _ _ same) some))
     by false other later = changed_first _ _ (later (below (eqb-false k n other) low))
       where
         below : (k ≡ n → ⊥) → k < suc n → k < n
         below other low = grind arith
 
-pub slept_at : (w : World) (s : Path) (c k : ℕ) (o : Option ℕ) → o ≡ rows.asleep_on c (w.body (k ∷ s)) → is_some o ≡ true → k < 256 → true ≡ is_changed (rows.sleepers w s c)
+pub slept_at : (w : World) (s : Path) (c k : ℕ) (o : Option ℕ) →
+    o ≡ rows.asleep_on c (w.body (k ∷ s)) → is_some o ≡ true → k < 256 → true ≡ is_changed (rows.sleepers w s c)
 unfolding rows.sleepers
 slept_at w s c k o is some low = sym (some_up_to w s c k 256 (woken_some (k ∷ s) _ ∙ ap is_some (sym is) ∙ some) low)
 
-pub slept_nowhere : (w : World) (s : Path) (c n : ℕ) → is_changed (flat_map (wakes_at w s c) (slots n)) ≡ false → n ≡ 256 → false ≡ is_changed (rows.sleepers w s c)
+pub slept_nowhere : (w : World) (s : Path) (c n : ℕ) →
+    is_changed (flat_map (wakes_at w s c) (slots n)) ≡ false → n ≡ 256 → false ≡ is_changed (rows.sleepers w s c)
 unfolding rows.sleepers
 slept_nowhere w s c n none end = sym (subst (λ n. is_changed (flat_map (wakes_at w s c) (slots n)) ≡ false) end none)
 
@@ -184,13 +195,15 @@ wakes c m g long is = by (todo_of g) refl is
         (subst (λ v. Wakes m (words (CondAsleep c m ∷ []) (rest_of (CondAsleep c m ∷ []) v))) (sixteen g long) (wakes_written c m (λ i. get_or g i 0)))
 
 -- a thread at a stage is in a call
-in_call : (t : threads_of.Thread) (stage : Stage) (m : modes_of.Mode) → todo_of_mode (mode_by m t.regs) ≡ stage ∷ [] → (m ≡ modes.Calling) × (unwrap_or (todo_of t.regs) [] ≡ stage ∷ [])
+in_call : (t : threads_of.Thread) (stage : Stage) (m : modes_of.Mode) →
+    todo_of_mode (mode_by m t.regs) ≡ stage ∷ [] → (m ≡ modes.Calling) × (unwrap_or (todo_of t.regs) [] ≡ stage ∷ [])
 in_call t stage modes.Running h = absurd (cc)
 in_call t stage modes.Calling h = (refl, h)
 in_call t stage (modes.Halted code) h = absurd (cc)
 in_call t stage modes.Native h = absurd (cc)
 
-pub wake_edit : (p : ℕ → Path) (t : threads_of.Thread) (c m : ℕ) → length t.regs ≡ 16 → todo_of_mode (mode_by t.mode t.regs) ≡ CondAsleep c m ∷ [] → edited (Replace (MutexLock m)) (Thread_of (thread_by p t)) ≡ Thread_of (thread_by p (record t { regs = slice_set (slice_set t.regs 0 21) 1 m }))
+pub wake_edit : (p : ℕ → Path) (t : threads_of.Thread) (c m : ℕ) → length t.regs ≡ 16 → todo_of_mode (mode_by t.mode t.regs) ≡ CondAsleep c m ∷ [] →
+    edited (Replace (MutexLock m)) (Thread_of (thread_by p t)) ≡ Thread_of (thread_by p (record t { regs = slice_set (slice_set t.regs 0 21) 1 m }))
 unfolding edited Wakes awoken
 wake_edit p t c m long at =
     let is = in_call t (CondAsleep c m) t.mode at in
@@ -209,7 +222,8 @@ body_of (Some (Space birth holder)) t is = absurd (cc)
 body_of (Some (Reference to)) t is = absurd (cc)
 
 -- so it is at a path
-pub wake_there : (w : World) (x : Path) (p : ℕ → Path) (t : threads_of.Thread) (c m : ℕ) (b : Body) → Some (thread_by p t) ≡ thread_at w x → todo_at w x ≡ CondAsleep c m ∷ [] →
+pub wake_there : (w : World) (x : Path) (p : ℕ → Path) (t : threads_of.Thread) (c m : ℕ) (b : Body) →
+    Some (thread_by p t) ≡ thread_at w x → todo_at w x ≡ CondAsleep c m ∷ [] →
     (todo_of_mode (mode_by t.mode t.regs) ≡ CondAsleep c m ∷ [] → edited (Replace (MutexLock m)) (Thread_of (thread_by p t)) ≡ b) →
     option_map (edited (Replace (MutexLock m))) (w.body x) ≡ Some b
 unfolding todo_at

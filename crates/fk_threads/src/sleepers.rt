@@ -70,7 +70,8 @@ pub fn is_slept_on(store: &Store, space: u32, cond: u64) -> bool
 
 /// A thread whose call locks a mutex.
 fn awake(mut thread: Thread, mutex: u64) -> Thread
-    ensures edit { (p : ℕ → Path) (c : ℕ) → todo_of_mode (mode_by thread.mode thread.regs) ≡ CondAsleep c mutex ∷ [] → edited (Replace (MutexLock mutex)) (Thread_of (thread_by p thread)) ≡ Thread_of (thread_by p result) }
+    ensures edit { (p : ℕ → Path) (c : ℕ) → todo_of_mode (mode_by thread.mode thread.regs) ≡ CondAsleep c mutex ∷ [] →
+        edited (Replace (MutexLock mutex)) (Thread_of (thread_by p thread)) ≡ Thread_of (thread_by p result) }
     ensures talk { result.talk ≡ thread.talk }
     ensures fault { result.fault ≡ thread.fault }
 {

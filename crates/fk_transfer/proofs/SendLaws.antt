@@ -60,16 +60,19 @@ no_sender (Halted g code) a n i r later at is = absurd (cc)
 no_sender (Native g) a n i r later at is = absurd (cc)
 
 -- a thread that is there and receives
-pub receiver : (w : World) (x : Path) (t : Thread) (into room : ℕ) → Some t ≡ thread_at w x → Some (into, room) ≡ receiving turns.Server t.mode → IsReceiver w x into room
+pub receiver : (w : World) (x : Path) (t : Thread) (into room : ℕ) →
+    Some t ≡ thread_at w x → Some (into, room) ≡ receiving turns.Server t.mode → IsReceiver w x into room
 unfolding IsReceiver
 receiver w x t into room there is = (t, sym there, sym is)
 
-pub receiver_if : (w : World) (x : Path) (t : Thread) (receive : Option (ℕ × ℕ)) → Some t ≡ thread_at w x → receive ≡ receiving turns.Server t.mode → IfSome receive (λ r. IsReceiver w x r.0 r.1)
+pub receiver_if : (w : World) (x : Path) (t : Thread) (receive : Option (ℕ × ℕ)) →
+    Some t ≡ thread_at w x → receive ≡ receiving turns.Server t.mode → IfSome receive (λ r. IsReceiver w x r.0 r.1)
 receiver_if w x t None there is = tt
 receiver_if w x t (Some r) there is = receiver w x t r.0 r.1 there is
 
 -- it is free and at this, so the row goes on
-pub to_thread : (w : World) (c : Caller) (me you : Path) (address count : ℕ) (page : List ℕ) (t : Thread) (receive : Option (ℕ × ℕ)) (o : Outcome) → Some t ≡ thread_at w you → is_free_at w you ≡ true → receive ≡ receiving turns.Server t.mode → o ≡ sends_into w c me you address count page receive →
+pub to_thread : (w : World) (c : Caller) (me you : Path) (address count : ℕ) (page : List ℕ) (t : Thread) (receive : Option (ℕ × ℕ)) (o : Outcome) →
+    Some t ≡ thread_at w you → is_free_at w you ≡ true → receive ≡ receiving turns.Server t.mode → o ≡ sends_into w c me you address count page receive →
     o ≡ sends_to_thread w c turns.Client me address count page (talks.thread_led_to w (At you))
 unfolding is_free_at
 to_thread w c me you address count page t receive o there free is goes = let here = rw (← there) at free in rw (← there, here, ← is) goes
@@ -99,7 +102,8 @@ todo_counted : (w : World) (x y : Path) (k : ℕ) → todo_at (apply (Alter y (C
 unfolding todo_at apply edited
 todo_counted w x y k = by (same_path x y) (w.body x)
   where
-    by : (t : Bool) (b : Option Body) → todo_of_thread (and_then thread_of (cond t (option_map (edited (CountMoved k)) b) b)) ≡ todo_of_thread (and_then thread_of b)
+    by : (t : Bool) (b : Option Body) →
+        todo_of_thread (and_then thread_of (cond t (option_map (edited (CountMoved k)) b) b)) ≡ todo_of_thread (and_then thread_of b)
     by false b = refl
     by true None = refl
     by true (Some (Mutex old)) = refl
@@ -121,7 +125,8 @@ unfolding todo_at apply
 todo_elsewhere w x y e other = ap (λ b. todo_of_thread (and_then thread_of (cond b (option_map (edited e) (w.body x)) (w.body x)))) other
 
 -- so both can be advanced in the worlds that the earlier changes make
-pub both_low : (w : World) (me you s : Path) (page : ℕ) (words : List ℕ) (address count into room k : ℕ) → IsSender w me address count → IsReceiver w you into room → into + k < 2 ^ 64 → address + k < 2 ^ 64 →
+pub both_low : (w : World) (me you s : Path) (page : ℕ) (words : List ℕ) (address count into room k : ℕ) →
+    IsSender w me address count → IsReceiver w you into room → into + k < 2 ^ 64 → address + k < 2 ^ 64 →
     let counted = apply (Alter me (CountMoved k)) (apply (PutPage s page words) w) in
     IsLow counted you k × IsLow (apply (Alter you (Shift k)) counted) me k
 both_low w me you s page words address count into room k sends receives room_low address_low =
@@ -129,9 +134,11 @@ both_low w me you s page words address count into room k sends receives room_low
     let counted = apply (Alter me (CountMoved k)) paged in
     let yours : todo_at counted you ≡ todo_at w you = todo_counted paged you me k ∙ todo_paged w you s page words in
     let mine : todo_at (apply (Alter you (Shift k)) counted) me ≡ todo_at w me =
-    todo_elsewhere counted me you (Shift k) (apart w me you address count into room sends receives) ∙ todo_counted paged me me k ∙ todo_paged w me s page words in
+    todo_elsewhere counted me you (Shift k) (apart w me you address count into room sends receives)
+    ∙ todo_counted paged me me k ∙ todo_paged w me s page words in
     (rw yours (receiver_low w you into room k receives room_low), rw mine (sender_low w me address count k sends address_low))
 
 -- the sender alone is advanced where a native server is told
-pub own_low : (w : World) (me : Path) (address count k : ℕ) → IsSender w me address count → address + k < 2 ^ 64 → IsLow (apply (Alter me (CountMoved k)) w) me k
+pub own_low : (w : World) (me : Path) (address count k : ℕ) →
+    IsSender w me address count → address + k < 2 ^ 64 → IsLow (apply (Alter me (CountMoved k)) w) me k
 own_low w me address count k sends low = rw (todo_counted w me me k) (sender_low w me address count k sends low)

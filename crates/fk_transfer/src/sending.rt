@@ -45,7 +45,8 @@ fn moved(address: u64, count: u64, into: u64, room: u64) -> u8
 /// The talk in which a client acts at its own turn.
 #[tactic(auto, unfolding(fk_model::specs::Talks::line))]
 fn client_talk(store: &Store, caller: Caller) -> Result<Talk, u8>
-    ensures line { mapped (line_by (path store.now) caller.who) result ≡ rows.in_turn (world store.now) (place (path store.now) caller.who) turns.Client turns.Client }
+    ensures line { mapped (line_by (path store.now) caller.who) result
+        ≡ rows.in_turn (world store.now) (place (path store.now) caller.who) turns.Client turns.Client }
     ensures port { IfOk result (λ talk. IsLive store.now talk.port) }
 {
     let Some(thread) = store.thread(caller.who) else {
@@ -80,7 +81,9 @@ fn sent(
     requires space { IsSpace store.now to.0 }
     requires to { IsSome ((world store.now).page (path store.now to.0) to.1) }
     ensures outcome { (words : List ℕ) → outcome_by (world store.now) (path store.now) (caller_by (path store.now) caller words) result
-        ≡ rows.sends_words (caller_by (path store.now) caller words) (place (path store.now) caller.who) (place (path store.now) peer) (rows.moved_words address count into room) address count (words_at (world store.now) (path store.now own.0) own.1) into (path store.now to.0) to.1 (words_at (world store.now) (path store.now to.0) to.1) }
+        ≡ rows.sends_words (caller_by (path store.now) caller words) (place (path store.now) caller.who) (place (path store.now) peer)
+        (rows.moved_words address count into room) address count (words_at (world store.now) (path store.now own.0) own.1)
+        into (path store.now to.0) to.1 (words_at (world store.now) (path store.now to.0) to.1) }
     ensures fits { IsVerdict store.now caller result }
 {
     let size = moved(address, count, into, room);
@@ -131,7 +134,8 @@ fn sends_into(
     requires address { address < 16384 }
     requires own { IsSome ((world store.now).page (path store.now own.0) own.1) }
     ensures outcome { (words : List ℕ) → outcome_by (world store.now) (path store.now) (caller_by (path store.now) caller words) result
-        ≡ rows.sends_into (world store.now) (caller_by (path store.now) caller words) (place (path store.now) caller.who) (place (path store.now) peer) address count (words_at (world store.now) (path store.now own.0) own.1) receive }
+        ≡ rows.sends_into (world store.now) (caller_by (path store.now) caller words)
+        (place (path store.now) caller.who) (place (path store.now) peer) address count (words_at (world store.now) (path store.now own.0) own.1) receive }
     ensures fits { IsVerdict store.now caller result }
 {
     match receive {
@@ -177,7 +181,8 @@ fn sends_to_thread(
     requires address { address < 16384 }
     requires own { IsSome ((world store.now).page (path store.now own.0) own.1) }
     ensures outcome { (words : List ℕ) → outcome_by (world store.now) (path store.now) (caller_by (path store.now) caller words) result
-        ≡ rows.sends_to_thread (world store.now) (caller_by (path store.now) caller words) turns.Client (place (path store.now) caller.who) address count (words_at (world store.now) (path store.now own.0) own.1) (talks.thread_led_to (world store.now) (At (place (path store.now) peer))) }
+        ≡ rows.sends_to_thread (world store.now) (caller_by (path store.now) caller words) turns.Client (place (path store.now) caller.who) address count
+        (words_at (world store.now) (path store.now own.0) own.1) (talks.thread_led_to (world store.now) (At (place (path store.now) peer))) }
     ensures fits { IsVerdict store.now caller result }
 {
     let Some(thread) = store.thread(peer) else {
@@ -204,7 +209,8 @@ fn sends_to_service(
     requires own { IsSome ((world store.now).page (path store.now own.0) own.1) }
     requires port { IsLive store.now port }
     ensures outcome { (words : List ℕ) → outcome_by (world store.now) (path store.now) (caller_by (path store.now) caller words) result
-        ≡ rows.sends_to_service (caller_by (path store.now) caller words) (place (path store.now) caller.who) (At (place (path store.now) port)) address count (words_at (world store.now) (path store.now own.0) own.1) }
+        ≡ rows.sends_to_service (caller_by (path store.now) caller words) (place (path store.now) caller.who) (At (place (path store.now) port)) address count
+        (words_at (world store.now) (path store.now own.0) own.1) }
     ensures fits { IsVerdict store.now caller result }
 {
     let size = moved(address, count, 0, 64);
@@ -245,7 +251,8 @@ fn sends_to(
     requires own { IsSome ((world store.now).page (path store.now own.0) own.1) }
     requires port { IsLive store.now talk.port }
     ensures outcome { (words : List ℕ) → outcome_by (world store.now) (path store.now) (caller_by (path store.now) caller words) result
-        ≡ rows.sends_to (world store.now) (caller_by (path store.now) caller words) turns.Client (line_by (path store.now) caller.who talk) address count (words_at (world store.now) (path store.now own.0) own.1) (peer_by (path store.now) talk.peer) }
+        ≡ rows.sends_to (world store.now) (caller_by (path store.now) caller words) turns.Client (line_by (path store.now) caller.who talk) address count
+        (words_at (world store.now) (path store.now own.0) own.1) (peer_by (path store.now) talk.peer) }
     ensures fits { IsVerdict store.now caller result }
 {
     match talk.peer {

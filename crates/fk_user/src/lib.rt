@@ -30,7 +30,8 @@ use fk_store::Store;
 pub fn judge(store: &Store, caller: Caller, known: Known) -> Verdict
     requires user { caller.is_porter ≡ false }
     requires running { is_running (thread_at (world store.now) (place (path store.now) caller.who)) ≡ true }
-    ensures row { (words : List ℕ) → outcome_by (world store.now) (path store.now) (caller_by (path store.now) caller words) result ≡ run_at (known_by known) (world store.now) (place (path store.now) caller.who) }
+    ensures row { (words : List ℕ) → outcome_by (world store.now)
+        (path store.now) (caller_by (path store.now) caller words) result ≡ run_at (known_by known) (world store.now) (place (path store.now) caller.who) }
     ensures fits { IsVerdict store.now caller result }
     ensures instruction { IsInstruction store.now result }
     ensures sure { IsSureVerdict result }
@@ -48,7 +49,8 @@ pub fn judge(store: &Store, caller: Caller, known: Known) -> Verdict
 /// such call. What is no running thread stays as it is.
 #[tactic(auto, unfolding(crate::specs::Known::run_at))]
 pub fn take_alone(store: &mut Store, me: Who)
-    ensures step { stepped (world store.old) (run_at no_calls (world store.old) (place (path store.old) me)) ≡ record { world = world store.new; said = Nothing } }
+    ensures step
+        { stepped (world store.old) (run_at no_calls (world store.old) (place (path store.old) me)) ≡ record { world = world store.new; said = Nothing } }
 {
     if let Some(&thread) = store.thread(me) {
         if let Mode::Running = thread.mode {

@@ -15,4 +15,5 @@ returns-in-Faults-clause-step c words = rw (c.in-Faults.is, c.raise.ensures.worl
 pub returns-in-Tells-clause-step : goal.returns-in-Tells-clause-step
 returns-in-Tells-clause-step c =
     let fits = rw c.in-Tells.is at c.requires.fits in
-    if_ok c.tell.result (λ said step words. rw c.in-Tells.is (told_step (path c.args.store.now) c.args.caller.who c.args.caller.is_porter fits.0 words (world c.args.store.now) _ _ c.in-Tells.last _ (step words))) c.tell.ensures.step
+    if_ok c.tell.result (λ said step words. rw c.in-Tells.is (told_step (path c.args.store.now)
+    c.args.caller.who c.args.caller.is_porter fits.0 words (world c.args.store.now) _ _ c.in-Tells.last _ (step words))) c.tell.ensures.step

@@ -6,4 +6,10 @@ use Rattle.fk_plans.proofs.carrying.finish_all.Goals as goal
 pub returns-clause-step : goal.returns-clause-step
 unfolding apply apply_all
 returns-clause-step c words =
-    rw (c.if-caller.false, c.finish.ensures.world, c.in_ok-carry_all.ensures.world, c.in_ok-carry_all.ensures.places c.args.caller.who (c.requires.live c.if-caller.false), own_last) refl
+    rw (
+      c.if-caller.false,
+      c.finish.ensures.world,
+      c.in_ok-carry_all.ensures.world,
+      c.in_ok-carry_all.ensures.places c.args.caller.who (c.requires.live c.if-caller.false),
+      own_last,
+    ) refl

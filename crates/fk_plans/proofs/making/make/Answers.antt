@@ -11,4 +11,5 @@ make-requires-clause-named c = c.blank.ensures.named c.args.store.now
 pub returns-clause-world : goal.returns-clause-world
 unfolding apply_all
 returns-clause-world c =
-    subst (λ o. OnOk c.make.result (world c.make.new.self ≡ apply_all (made o) (world c.args.store.now))) (sym (c.blank.ensures.change (path c.args.store.now) (place (path c.args.store.now) c.args.object))) c.make.ensures.world
+    subst (λ o. OnOk c.make.result (world c.make.new.self ≡ apply_all (made o) (world c.args.store.now)))
+    (sym (c.blank.ensures.change (path c.args.store.now) (place (path c.args.store.now) c.args.object))) c.make.ensures.world

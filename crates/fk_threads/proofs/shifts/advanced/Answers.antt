@@ -8,4 +8,5 @@ pub shifted-thread-requires : goal.shifted-thread-requires
 shifted-thread-requires c = let long : length c.args.thread.regs ≡ 16 = omega arith in rw (← address_calling c.args.thread long c.in-Calling.is) c.requires
 
 pub returns-in-Calling-clause-edit : goal.returns-in-Calling-clause-edit
-returns-in-Calling-clause-edit c p = let long : length c.args.thread.regs ≡ 16 = omega arith in rw c.shifted-thread.ensures (shift_calling p c.args.thread c.args.count long c.in-Calling.is)
+returns-in-Calling-clause-edit c p = let long : length c.args.thread.regs ≡ 16 = omega arith in
+    rw c.shifted-thread.ensures (shift_calling p c.args.thread c.args.count long c.in-Calling.is)

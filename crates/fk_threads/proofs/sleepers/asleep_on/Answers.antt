@@ -7,4 +7,5 @@ pub returns-in-Some-clause-mutex : goal.returns-in-Some-clause-mutex
 returns-in-Some-clause-mutex c = rw (← c.in-Some.ensures.thread) (c.asleep_of.ensures.mutex (path c.args.store.now))
 
 pub returns-in-Some-clause-asleep : goal.returns-in-Some-clause-asleep
-returns-in-Some-clause-asleep c = asleep_there (world c.args.store.now) (place (path c.args.store.now) c.args.who) (path c.args.store.now) c.in-Some.thread.now c.args.cond _ c.in-Some.ensures.thread c.asleep_of.ensures.alone
+returns-in-Some-clause-asleep c = asleep_there (world c.args.store.now)
+    (place (path c.args.store.now) c.args.who) (path c.args.store.now) c.in-Some.thread.now c.args.cond _ c.in-Some.ensures.thread c.asleep_of.ensures.alone

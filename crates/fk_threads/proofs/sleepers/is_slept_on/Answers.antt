@@ -8,10 +8,12 @@ pub loop-slot-init : goal.loop-slot-init
 loop-slot-init c = no_slots (world c.args.store.now) (path c.args.store.now c.args.space) c.args.cond
 
 pub returns-then-is_some : goal.returns-then-is_some
-returns-then-is_some c = slept_at (world c.args.store.now) (path c.args.store.now c.args.space) c.args.cond c.loop-slot.slot _ c.asleep_on.ensures.mutex (sym c.is_some.ensures ∙ c.if-is_some.true) (omega arith)
+returns-then-is_some c = slept_at (world c.args.store.now)
+    (path c.args.store.now c.args.space) c.args.cond c.loop-slot.slot _ c.asleep_on.ensures.mutex (sym c.is_some.ensures ∙ c.if-is_some.true) (omega arith)
 
 pub loop-slot-preserved : goal.loop-slot-preserved
-loop-slot-preserved c = none_more (world c.args.store.now) (path c.args.store.now c.args.space) c.args.cond c.loop-slot.slot _ c.loop-slot.invariant c.asleep_on.ensures.mutex (sym c.is_some.ensures ∙ c.if-is_some.false)
+loop-slot-preserved c = none_more (world c.args.store.now) (path c.args.store.now c.args.space)
+    c.args.cond c.loop-slot.slot _ c.loop-slot.invariant c.asleep_on.ensures.mutex (sym c.is_some.ensures ∙ c.if-is_some.false)
 
 pub returns : goal.returns
 returns c = slept_nowhere (world c.args.store.now) (path c.args.store.now c.args.space) c.args.cond c.loop-slot.slot c.loop-slot.invariant (omega arith)

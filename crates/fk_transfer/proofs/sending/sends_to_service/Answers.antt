@@ -6,5 +6,13 @@ use Rattle.fk_transfer.proofs.sending.sends_to_service.Goals as goal
 
 pub returns-clause-fits : goal.returns-clause-fits
 returns-clause-fits c =
-    let left : c.args.address + c.moved-size.result < 18446744073709551616 = omega (arith, c.moved-size.ensures.at, c.requires.address) in
-    (c.requires.user, (c.moved-size.ensures.at, c.requires.own), c.requires.port, (tt, own_low (world c.args.store.now) (place (path c.args.store.now) c.args.caller.who) c.args.address c.args.count c.moved-size.result c.requires.calling left))
+    let left : c.args.address + c.moved-size.result < 18446744073709551616 = omega (arith, c.moved-size.ensures.at, c.requires.address) in (
+      c.requires.user,
+      (c.moved-size.ensures.at, c.requires.own),
+      c.requires.port,
+      (
+        tt,
+        own_low
+            (world c.args.store.now) (place (path c.args.store.now) c.args.caller.who) c.args.address c.args.count c.moved-size.result c.requires.calling left,
+      ),
+    )

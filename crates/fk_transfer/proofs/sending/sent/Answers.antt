@@ -10,7 +10,8 @@ returns-then-from-count-clause-fits c =
     let p = path c.args.store.now in
     let room : c.args.into + c.moved-size.result < 18446744073709551616 = omega (arith, c.moved-size.ensures.into, c.requires.into) in
     let left : c.args.address + c.moved-size.result < 18446744073709551616 = omega (arith, c.moved-size.ensures.at, c.requires.address) in
-    let low = both_low w (place p c.args.caller.who) (place p c.args.peer) (p c.args.to.0) c.args.to.1 _ c.args.address c.args.count c.args.into c.args.room c.moved-size.result c.requires.calling c.requires.receives room left in
+    let low = both_low w (place p c.args.caller.who) (place p c.args.peer) (p c.args.to.0)
+    c.args.to.1 _ c.args.address c.args.count c.args.into c.args.room c.moved-size.result c.requires.calling c.requires.receives room left in
     (((c.moved-size.ensures.at, c.moved-size.ensures.into, c.requires.own, c.requires.space, c.requires.to), tt, low.0, low.1), tt)
 
 pub returns-else-from-count-clause-fits : goal.returns-else-from-count-clause-fits
@@ -19,5 +20,6 @@ returns-else-from-count-clause-fits c =
     let p = path c.args.store.now in
     let room : c.args.into + c.moved-size.result < 18446744073709551616 = omega (arith, c.moved-size.ensures.into, c.requires.into) in
     let left : c.args.address + c.moved-size.result < 18446744073709551616 = omega (arith, c.moved-size.ensures.at, c.requires.address) in
-    let low = both_low w (place p c.args.caller.who) (place p c.args.peer) (p c.args.to.0) c.args.to.1 _ c.args.address c.args.count c.args.into c.args.room c.moved-size.result c.requires.calling c.requires.receives room left in
+    let low = both_low w (place p c.args.caller.who) (place p c.args.peer) (p c.args.to.0)
+    c.args.to.1 _ c.args.address c.args.count c.args.into c.args.room c.moved-size.result c.requires.calling c.requires.receives room left in
     ((c.moved-size.ensures.at, c.moved-size.ensures.into, c.requires.own, c.requires.space, c.requires.to), tt, low.0, low.1)
