@@ -16,16 +16,16 @@ use Rattle.fk_model.specs.Searches.{slots}
 use Rattle.fk_model.proofs.walks.PlaceLaws.{same_path_refl, same_path_eq, same_path_ne, same_path_sym}
 use Rattle.fk_store.proofs.Walks.{not_root}
 use Rattle.fk_store.specs.World.{first_world}
-use Rattle.fk_scenario.specs.declared.scenario.Program.{Program}
-use Rattle.fk_scenario.specs.declared.scenario.SpaceEntry.{SpaceEntry}
-use Rattle.fk_scenario.specs.declared.scenario.ObjectEntry.{ObjectEntry}
-use Rattle.fk_scenario.specs.declared.scenario.Spec.{Spec}
-use Rattle.fk_scenario.specs.declared.scenario.Spec.TheVariants as specs
-use Rattle.fk_scenario.specs.Kept.{EachAfter, KeepsSpace, KeepsObject, IsInRange}
-use Rattle.fk_scenario.specs.Paths.{parent}
+use Rattle.fk_entries.specs.declared.types.Program.{Program}
+use Rattle.fk_entries.specs.declared.types.SpaceEntry.{SpaceEntry}
+use Rattle.fk_entries.specs.declared.types.ObjectEntry.{ObjectEntry}
+use Rattle.fk_entries.specs.declared.types.Spec.{Spec}
+use Rattle.fk_entries.specs.declared.types.Spec.TheVariants as specs
+use Rattle.fk_scenario.specs.Kept.{EachAfter, KeepsSpace, KeepsObject}
+use Rattle.fk_fields.specs.Paths.{parent}
 use Rattle.fk_scenario.specs.Spaces.{has_space, is_there, may_stand, count_beneath}
-use Rattle.fk_scenario.specs.Taken.{has_object}
-use Rattle.fk_boot.specs.FirstWorld.{page_words, program_page, program_pages, zero_pages, space_itself, space_changes, words_of_program, first_body, make_at, object_changes}
+use Rattle.fk_scenario.specs.Objects.{has_object}
+use Rattle.fk_boot.specs.FirstWorld.{page_words, program_page, program_pages, zero_pages, space_itself, space_changes, words_of_program, first_body, object_changes}
 use Rattle.fk_boot.specs.MadeSoFar.{HasPlace, CanStand, HasSpaces, HasObjects}
 use Rattle.fk_boot.proofs.Changes.{apply_all-append}
 use Rattle.fk_boot.proofs.Walks.{last}
@@ -91,8 +91,8 @@ is_there-last done s q =
     rw (list_any-append (λ (t : SpaceEntry). bytes_eq t.path q) done (s ∷ [])) (or_none (length q == 0) (has_space done q) (bytes_eq s.path q))
 
 has_object-last : (done : List ObjectEntry) (o : ObjectEntry) (q : List ℕ) (a : Bool) →
-    (a || has_object (done ++ o ∷ []) q) ≡ ((a || has_object done q) || bytes_eq q o.path)
-has_object-last done o q a = rw (list_any-append (λ (t : ObjectEntry). bytes_eq q t.path) done (o ∷ [])) (or_none a (has_object done q) (bytes_eq q o.path))
+    (a || has_object (done ++ o ∷ []) q) ≡ ((a || has_object done q) || bytes_eq o.path q)
+has_object-last done o q a = rw (list_any-append (λ (t : ObjectEntry). bytes_eq t.path q) done (o ∷ [])) (or_none a (has_object done q) (bytes_eq o.path q))
 
 count-last : (done : List SpaceEntry) (s : SpaceEntry) → count_beneath (done ++ s ∷ []) ≡ count_beneath done + cond (not (length s.path == 0)) 1 0
 count-last done s = sum_by_push (λ (t : SpaceEntry). cond (not (length t.path == 0)) 1 0) done s
@@ -294,26 +294,26 @@ made-object w spaces done o b other keeps h = record {
     alone_by : (q : List ℕ) (t : Bool) →
         same_path (reverse q) (reverse o.path) ≡ t → is_some (cond t (Some b) (w.body (reverse q))) ≡ (is_there spaces q || has_object (done ++ o ∷ []) q)
     alone_by q true e =
-        let here : bytes_eq q o.path ≡ true = sym (reversed q o.path) ∙ e in
+        let here : bytes_eq o.path q ≡ true = sym (reversed o.path q) ∙ (same_path_sym (reverse o.path) (reverse q) ∙ e) in
         rw (has_object-last done o q (is_there spaces q), here) (or_true (is_there spaces q || has_object done q))
     alone_by q false e =
-        let there : bytes_eq q o.path ≡ false = sym (reversed q o.path) ∙ e in
+        let there : bytes_eq o.path q ≡ false = sym (reversed o.path q) ∙ (same_path_sym (reverse o.path) (reverse q) ∙ e) in
         rw (has_object-last done o q (is_there spaces q), there) (h.alone q ∙ or_false (is_there spaces q || has_object done q))
+
+no-birth : (spec : Spec) → valid.birth_of (first_body spec) ≡ None
+no-birth (specs.Thread entry regs stops) = refl
+no-birth (specs.Mutex locked) = refl
+no-birth specs.Cond = refl
+no-birth specs.Portset = refl
+no-birth (specs.Mapping region first count offset write) = refl
+no-birth (specs.Region first count write keeper) = refl
+no-birth (specs.Port set) = refl
+no-birth (specs.Reference to) = refl
 
 pub object-stands : (spaces : List SpaceEntry) (done : List ObjectEntry) (o : ObjectEntry) (w : World) →
     HasObjects w spaces done → KeepsObject spaces done o → HasObjects (apply_all (object_changes o) w) spaces (done ++ o ∷ [])
 unfolding apply_all
-object-stands spaces done o w h keeps = by o.spec keeps.in_range
-  where
-    by : (spec : Spec) → IsInRange spec → HasObjects (apply_all (make_at (reverse o.path) (first_body spec)) w) spaces (done ++ o ∷ [])
-    by (specs.Thread entry regs stops) in_range = made-object w spaces done o _ refl keeps h
-    by (specs.Mutex locked) in_range = made-object w spaces done o _ refl keeps h
-    by specs.Cond in_range = absurd in_range
-    by specs.Portset in_range = absurd in_range
-    by (specs.Mapping region first count offset write) in_range = absurd in_range
-    by (specs.Region first count write keeper) in_range = absurd in_range
-    by (specs.Port set) in_range = absurd in_range
-    by (specs.Reference to) in_range = absurd in_range
+object-stands spaces done o w h keeps = made-object w spaces done o (first_body o.spec) (no-birth o.spec) keeps h
 
 pub object-place : (spaces : List SpaceEntry) (done : List ObjectEntry) (o : ObjectEntry) (w : World) →
     HasObjects w spaces done → KeepsObject spaces done o → HasPlace w o.path

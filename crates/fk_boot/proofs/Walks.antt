@@ -10,11 +10,14 @@ use Rattle.fk_model.specs.World.{World, apply, apply_all}
 use Rattle.fk_model.specs.World.Change.{Make, MakeSpace}
 use Rattle.fk_model.proofs.walks.PlaceLaws.{same_path_refl}
 use Rattle.fk_store.specs.Contents.{Contents}
+use Rattle.fk_store.specs.Makes.{making}
+use Rattle.fk_entries.specs.declared.types.Spec.{Spec}
+use Rattle.fk_entries.specs.declared.types.Spec.TheVariants as specs
 use Rattle.fk_store.specs.Paths.{path, space_at}
 use Rattle.fk_store.specs.World.{world, IsSpace}
 use Rattle.fk_store.proofs.LookUps.{birth_at-space_at}
 use Rattle.fk_store.proofs.Walks.{path-root}
-use Rattle.fk_boot.specs.FirstWorld.{make_at, space_itself}
+use Rattle.fk_boot.specs.FirstWorld.{first_body, space_itself}
 use Rattle.fk_boot.specs.MadeSoFar.{HasPlace, CanStand, AreBorn}
 
 pub root-space : (m : Contents) → IsSpace m 0
@@ -71,10 +74,22 @@ made-space w x = rw (same_path_refl x) refl
 pub found : (m : Contents) (o : Option ℕ) (space : ℕ) (x : Path) → o ≡ Some space → IfSome o (λ birth. path m birth ≡ x) → path m space ≡ x
 found m o space x e h = rw e at h
 
--- a thread or a mutex is made
-pub makes : (x y : Path) (b : Body) (o : Option Body) (w v : World) → y ≡ x → Some b ≡ o → v ≡ apply (Make y b) w → v ≡ apply_all (make_at x o) w
+-- an object of a scenario is no space
+making-first : (x : Path) (spec : Spec) → making x (first_body spec) ≡ Make x (first_body spec)
+making-first x (specs.Thread entry regs stops) = refl
+making-first x (specs.Mutex locked) = refl
+making-first x specs.Cond = refl
+making-first x specs.Portset = refl
+making-first x (specs.Mapping region first count offset write) = refl
+making-first x (specs.Region first count write keeper) = refl
+making-first x (specs.Port set) = refl
+making-first x (specs.Reference to) = refl
+
+-- an object is made
+pub makes : (x y : Path) (b : Body) (spec : Spec) (w v : World) → y ≡ x → b ≡ first_body spec → v ≡ apply (making y b) w
+    → v ≡ apply_all (Make x (first_body spec) ∷ []) w
 unfolding apply_all
-makes x y b o w v e f h = rw (← f, ← e) h
+makes x y b spec w v e f h = h ∙ ap (λ c. apply c w) (ap (λ z. making z b) e ∙ (ap (making x) f ∙ making-first x spec))
 
 pub makes-space : (x y : Path) (w v : World) (k : ℕ) (s : Path) → y ≡ k ∷ s → y ≡ x → v ≡ apply (MakeSpace y None) w → v ≡ apply_all (space_itself x) w
 unfolding apply_all

@@ -1,21 +1,22 @@
 -- The first world of a scenario: what its entries make, in the order of the file.
-use Rattle.std.specs.Prelude.{ℕ, ◌*◌, ◌-◌, nat_lt, List, [], ◌∷◌, ◌++◌, map, length, take, drop, reverse, replicate, Option, Some, None, if◌then◌else◌}
-use Rattle.std.specs.List.{flat_map, slice_get}
+use Rattle.std.specs.Prelude.{ℕ, ◌*◌, ◌-◌, Bool, true, false, not, ◌&&◌, ◌==◌, nat_lt, List, [], ◌∷◌, ◌++◌, map, length, take, drop, reverse, replicate, Option, Some, None, is_some, if◌then◌else◌}
+use Rattle.std.specs.List.{flat_map, list_all, slice_get}
 use Rattle.fk_model.specs.declared.limits.TheConstants.{PAGES, PAGE_WORDS}
 use Rattle.fk_model.specs.Places.{Path}
+use Rattle.fk_model.specs.Places.Ptr.{Null}
 use Rattle.fk_model.specs.Objects.{Body, and_then}
 use Rattle.fk_model.specs.Objects.Mode.{Running}
-use Rattle.fk_model.specs.Objects.Body.{Mutex, Thread_of}
+use Rattle.fk_model.specs.Objects.Body.{Mutex, Cond, Mapping, Region, Port, Portset, Thread_of, Reference}
 use Rattle.fk_model.specs.World.{World, Change, apply_all}
 use Rattle.fk_model.specs.World.Change.{Make, MakeSpace, PutPage}
 use Rattle.fk_model.specs.Searches.{slots}
 use Rattle.fk_store.specs.World.{first_world}
-use Rattle.fk_scenario.specs.declared.scenario.Program.{Program}
-use Rattle.fk_scenario.specs.declared.scenario.SpaceEntry.{SpaceEntry}
-use Rattle.fk_scenario.specs.declared.scenario.ObjectEntry.{ObjectEntry}
+use Rattle.fk_entries.specs.declared.types.Program.{Program}
+use Rattle.fk_entries.specs.declared.types.SpaceEntry.{SpaceEntry}
+use Rattle.fk_entries.specs.declared.types.ObjectEntry.{ObjectEntry}
 use Rattle.fk_scenario.specs.declared.scenario.Scenario.{Scenario}
-use Rattle.fk_scenario.specs.declared.scenario.Spec.{Spec}
-use Rattle.fk_scenario.specs.declared.scenario.Spec.TheVariants as specs
+use Rattle.fk_entries.specs.declared.types.Spec.{Spec}
+use Rattle.fk_entries.specs.declared.types.Spec.TheVariants as specs
 
 -- ---- pages
 
@@ -59,31 +60,46 @@ space_changes programs s =
     let space = reverse s.path in
     space_itself space ++ (zero_pages space s.pages ++ program_pages space (words_of_program programs s.program))
 
--- a thread runs from its entry on, with zeros in the registers that aren't given
-abbrev pub first_body : Spec → Option Body
+-- what an object is at first. A thread runs from its entry on, with zeros in the registers that aren't given; nothing leads anywhere
+abbrev pub first_body : Spec → Body
 first_body (specs.Thread entry regs stops) =
-    Some (Thread_of (record { mode = Running (regs ++ replicate (16 - length regs) 0); counter = entry; stops = stops; talk = None; fault = None }))
-first_body (specs.Mutex locked) = Some (Mutex locked)
--- the reader gives none of these yet
-first_body specs.Cond = None
-first_body specs.Portset = None
-first_body (specs.Mapping region first count offset write) = None
-first_body (specs.Region first count write keeper) = None
-first_body (specs.Port set) = None
-first_body (specs.Reference to) = None
-
-abbrev pub make_at : Path → Option Body → List Change
-make_at x None = []
-make_at x (Some body) = Make x body ∷ []
+    Thread_of (record { mode = Running (regs ++ replicate (16 - length regs) 0); counter = entry; stops = stops; talk = None; fault = None })
+first_body (specs.Mutex locked) = Mutex locked
+first_body specs.Cond = Cond
+first_body specs.Portset = Portset
+first_body (specs.Mapping region first count offset write) =
+    Mapping (record { first = first; count = count; offset = offset; write = write; region = Null })
+first_body (specs.Region first count write keeper) = Region (record { first = first; count = count; write = write; keeper = Null })
+first_body (specs.Port set) = Port None false
+first_body (specs.Reference to) = Reference Null
 
 abbrev pub object_changes : ObjectEntry → List Change
-object_changes o = make_at (reverse o.path) (first_body o.spec)
+object_changes o = Make (reverse o.path) (first_body o.spec) ∷ []
 
 -- ---- the whole
 
 -- the spaces in the order of the file, so that their birth numbers count from 1, and then the objects
 abbrev pub boot_changes : Scenario → List Change
 boot_changes s = flat_map (space_changes s.programs) s.spaces ++ flat_map object_changes s.objects
+
+-- an object that leads nowhere
+abbrev pub leads_nowhere : Spec → Bool
+leads_nowhere (specs.Thread entry regs stops) = true
+leads_nowhere (specs.Mutex locked) = true
+leads_nowhere specs.Cond = true
+leads_nowhere specs.Portset = true
+leads_nowhere (specs.Mapping region first count offset write) = not (is_some region)
+leads_nowhere (specs.Region first count write keeper) = not (is_some keeper)
+leads_nowhere (specs.Port set) = not (is_some set)
+leads_nowhere (specs.Reference to) = not (is_some to)
+
+-- a space without a porter
+abbrev pub is_no_nester : SpaceEntry → Bool
+is_no_nester e = not e.nester
+
+-- what can begin today: a scenario whose objects lead nowhere, without nesters and without servers
+abbrev pub is_bootable : Scenario → Bool
+is_bootable s = list_all (λ o. leads_nowhere o.spec) s.objects && list_all is_no_nester s.spaces && length s.servers == 0
 
 -- the world with which a scenario begins
 unfoldable pub booted : Scenario → World

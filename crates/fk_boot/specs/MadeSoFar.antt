@@ -3,11 +3,11 @@ use Rattle.std.specs.Prelude.{◌≡◌, ℕ, ◌+◌, ◌<◌, ◌||◌, IsSome
 use Rattle.fk_model.specs.Places.{Path}
 use Rattle.fk_model.specs.Valid.{birth_at}
 use Rattle.fk_model.specs.World.{World}
-use Rattle.fk_scenario.specs.Paths.{parent}
+use Rattle.fk_fields.specs.Paths.{parent}
 use Rattle.fk_scenario.specs.Spaces.{is_there, count_beneath}
-use Rattle.fk_scenario.specs.Taken.{has_object}
-use Rattle.fk_scenario.specs.declared.scenario.SpaceEntry.{SpaceEntry}
-use Rattle.fk_scenario.specs.declared.scenario.ObjectEntry.{ObjectEntry}
+use Rattle.fk_scenario.specs.Objects.{has_object}
+use Rattle.fk_entries.specs.declared.types.SpaceEntry.{SpaceEntry}
+use Rattle.fk_entries.specs.declared.types.ObjectEntry.{ObjectEntry}
 
 -- ---- places, by their slots from the root down
 

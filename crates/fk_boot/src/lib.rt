@@ -4,10 +4,15 @@
 //! promises that `boot` gives a store of the world that `specs/FirstWorld.antt` has: what the entries
 //! of the scenario make of a world that has the root alone, in the order of the file. It is never
 //! refused but for want of memory, since a scenario that was read keeps what this rests on.
+//!
+//! Today objects that lead somewhere, nesters and servers can't be made: `is_bootable` tells of a
+//! scenario whether it has none.
 #![tactic(auto)]
 
+mod bootable;
 mod entries;
 mod making;
 mod pages;
 
+pub use bootable::is_bootable;
 pub use entries::boot;

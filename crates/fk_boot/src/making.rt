@@ -4,15 +4,19 @@ ghost use Rattle.fk_model.specs.Objects.Body.{Thread_of};
 ghost use Rattle.fk_model.specs.Places.{Path};
 ghost use Rattle.fk_model.specs.Valid.{birth_at};
 ghost use Rattle.fk_model.specs.World.{apply_all};
-ghost use Rattle.fk_scenario.specs.Kept.{IsInRange};
-ghost use Rattle.fk_scenario.specs.declared.scenario.Spec.TheVariants as specs;
-ghost use Rattle.fk_store.specs.Bodies.{thread_by};
+ghost use Rattle.fk_entries.specs.Kept.{IsInRange};
+ghost use Rattle.fk_entries.specs.declared.types.Spec.TheVariants as specs;
+ghost use Rattle.fk_store.specs.Contents.{Contents};
+ghost use Rattle.fk_store.specs.Bodies.{body_by, thread_by};
+ghost use Rattle.fk_store.specs.Makes.{IsNext};
+ghost use Rattle.fk_store.specs.Named.{OnNamed};
+ghost use Rattle.fk_store.specs.WellFormed.{IsSized};
 ghost use Rattle.fk_store.specs.Paths.{path};
-ghost use Rattle.fk_store.specs.World.{world, IsSpace};
+ghost use Rattle.fk_store.specs.World.{world, IsLive, IsSpace};
 ghost use Rattle.fk_boot.specs.FirstWorld as definitions;
 ghost use Rattle.fk_boot.specs.MadeSoFar.{HasPlace, CanStand, AreBorn};
 
-use fk_model::{Body, Mode, NoMemory, Thread, Who};
+use fk_model::{Body, Mode, NoMemory, Ptr, Thread, Who};
 use fk_scenario::{ObjectEntry, Spec};
 use fk_store::Store;
 
@@ -68,7 +72,7 @@ pub fn make_space(store: &mut Store, slots: &[u8]) -> Result<u32, NoMemory>
 /// others.
 fn first_thread(entry: u16, given: &[u64], stops: u16) -> Thread
     requires { length given.now ≤ 16 }
-    ensures body { (paths : ℕ → Path) → Some (Thread_of (thread_by paths result)) ≡ definitions.first_body (specs.Thread entry given.now stops) }
+    ensures body { (paths : ℕ → Path) → Thread_of (thread_by paths result) ≡ definitions.first_body (specs.Thread entry given.now stops) }
     ensures talk { result.talk ≡ None }
     ensures fault { result.fault ≡ None }
 {
@@ -84,6 +88,53 @@ fn first_thread(entry: u16, given: &[u64], stops: u16) -> Thread
     }
 }
 
+/// What an object is at first. Nothing leads anywhere.
+fn first_body(spec: &Spec) -> Body
+    requires { IsInRange spec.now }
+    ensures body { (paths : ℕ → Path) → body_by paths result ≡ definitions.first_body spec.now }
+    ensures birth { (next : ℕ) → IsNext next result }
+    ensures named { (m : Contents) → OnNamed (IsLive m) result }
+    ensures sized { IsSized result }
+{
+    match spec {
+        Spec::Thread { entry, regs, stops } => {
+            Body::Thread(first_thread(*entry, regs.as_slice(), *stops))
+        }
+        Spec::Mutex { locked } => Body::Mutex { locked: *locked },
+        Spec::Cond => Body::Cond,
+        Spec::Portset => Body::Portset,
+        Spec::Mapping {
+            first,
+            count,
+            offset,
+            write,
+            ..
+        } => Body::Mapping {
+            first: *first,
+            count: *count,
+            offset: *offset,
+            write: *write,
+            region: Ptr::Null,
+        },
+        Spec::Region {
+            first,
+            count,
+            write,
+            ..
+        } => Body::Region {
+            first: *first,
+            count: *count,
+            write: *write,
+            keeper: Ptr::Null,
+        },
+        Spec::Port { .. } => Body::Port {
+            set: None,
+            served: false,
+        },
+        Spec::Reference { .. } => Body::Reference { to: Ptr::Null },
+    }
+}
+
 /// Makes an object.
 pub fn make_object(store: &mut Store, object: &ObjectEntry) -> Result<(), NoMemory>
     requires place { HasPlace (world store.old) object.now.path }
@@ -95,18 +146,5 @@ pub fn make_object(store: &mut Store, object: &ObjectEntry) -> Result<(), NoMemo
     };
     let space = find_space(store, above).unwrap();
     let who = Who { space, slot: *slot };
-    match &object.spec {
-        Spec::Thread { entry, regs, stops } => {
-            let thread = first_thread(*entry, regs.as_slice(), *stops);
-            store.make(who, Body::Thread(thread))
-        }
-        Spec::Mutex { locked } => store.make(who, Body::Mutex { locked: *locked }),
-        // The reader gives none of these yet.
-        Spec::Cond
-        | Spec::Portset
-        | Spec::Mapping { .. }
-        | Spec::Region { .. }
-        | Spec::Port { .. }
-        | Spec::Reference { .. } => Ok(()),
-    }
+    store.make(who, first_body(&object.spec))
 }

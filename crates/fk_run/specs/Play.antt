@@ -1,11 +1,13 @@
 -- The command `play`: what a scenario and a trace come to.
-use Rattle.std.specs.Prelude.{◌≡◌, ◌<◌, ℕ, Bool, true, false, List, [], length, Option, Some, None, Result, Ok, Err}
+use Rattle.std.specs.Prelude.{◌≡◌, ◌<◌, ℕ, Bool, true, false, List, [], length, Option, Some, None, Result, Ok, Err, if◌then◌else◌}
 use Rattle.fk_causes.specs.Shelf.{FileMap, HasAt}
 use Rattle.fk_kernel.specs.Events.{IsAnyReady}
 use Rattle.fk_model.specs.declared.moves.Move.{Move}
 use Rattle.fk_model.specs.World.{World}
-use Rattle.fk_scenario.specs.declared.fail.ScenarioError.{ScenarioError}
+use Rattle.fk_fields.specs.declared.fail.ScenarioError.{ScenarioError}
 use Rattle.fk_scenario.specs.declared.scenario.Scenario.{Scenario}
+use Rattle.fk_scenario.specs.Reading.{reading}
+use Rattle.fk_scenario.specs.Rules.{server_rules}
 use Rattle.fk_report.specs.declared.end.End.{End}
 use Rattle.fk_report.specs.declared.end.End.TheVariants as ends
 use Rattle.fk_run.specs.declared.status.Status.{Status}
@@ -13,13 +15,24 @@ use Rattle.fk_run.specs.declared.status.Status.TheVariants.{Ok as Done, BadScena
 use Rattle.fk_report.specs.declared.threads.ThreadState.{ThreadState}
 use Rattle.fk_run.specs.declared.top.Outcome.{Outcome}
 use Rattle.fk_run.specs.declared.top.Report.{Report}
-use Rattle.fk_boot.specs.FirstWorld.{booted}
+use Rattle.fk_boot.specs.FirstWorld.{booted, is_bootable}
 use Rattle.fk_run.specs.Commands.{trace_name}
 use Rattle.fk_run.specs.Outcomes.{IsRefused}
 use Rattle.fk_run.specs.Replay.{MayPlay, played}
 use Rattle.fk_report.specs.Report.{report_text}
 use Rattle.fk_report.specs.Threads.{AreThreads, HaveHalted}
 use Rattle.fk_traces.specs.Trace.{Spells, IsFirstBad}
+
+-- ---- which scenarios are run
+
+-- nesters, servers and objects that lead somewhere can't be run yet: a scenario with one of these is refused by rule 11
+abbrev pub bootable : Result Scenario ScenarioError → Result Scenario ScenarioError
+bootable (Ok s) = if is_bootable s then Ok s else Err (record { rule = 11; section = 0; index = 0 })
+bootable (Err error) = Err error
+
+-- the scenario of a text that is to be run
+abbrev pub scenario_to_run : List ℕ → Result Scenario ScenarioError
+scenario_to_run text = bootable (reading server_rules text)
 
 -- ---- how a run ends
 

@@ -6,14 +6,13 @@ use Rattle.fk_asm.specs.Assembler.{assembled}
 use Rattle.fk_causes.specs.Causes.{MayHold, AppendsPrefix}
 use Rattle.fk_causes.specs.declared.whole.TheConstants.{LIMIT}
 use Rattle.fk_causes.specs.Shelf.{FileMap}
-use Rattle.fk_scenario.specs.Reading.{told}
 use Rattle.fk_run.specs.declared.status.Status.{Status}
 use Rattle.fk_run.specs.declared.status.Status.TheVariants.{Usage, TooLong}
 use Rattle.fk_run.specs.declared.top.Outcome.{Outcome}
 use Rattle.fk_run.specs.Commands.{Command, Exec, Play, reads_source}
 use Rattle.fk_run.specs.Exec.{IsExec}
 use Rattle.fk_run.specs.Outcomes.{IsRefused}
-use Rattle.fk_run.specs.Play.{IsPlay}
+use Rattle.fk_run.specs.Play.{IsPlay, scenario_to_run}
 use Rattle.fk_run.specs.Status.{progress_of, is_past_reading}
 
 -- a source that holds too many bytes is refused, and else they come to what they call for
@@ -24,7 +23,7 @@ IsUnlessTooLong bytes Is outcome text = MatchBool (nat_lt LIMIT (length bytes)) 
 abbrev pub IsCalledFor : Option Command → Option FileMap → List ℕ → Outcome → List ℕ → Type 0
 IsCalledFor None files bytes outcome text = IsRefused Usage outcome text
 IsCalledFor (Some Exec) files bytes outcome text = IsUnlessTooLong bytes (IsExec (assembled bytes)) outcome text
-IsCalledFor (Some (Play name)) files bytes outcome text = IsUnlessTooLong bytes (IsPlay name files (told bytes)) outcome text
+IsCalledFor (Some (Play name)) files bytes outcome text = IsUnlessTooLong bytes (IsPlay name files (scenario_to_run bytes)) outcome text
 
 -- the same over whatever the source holds: where it tells its bytes, these
 pub record IsDue (command : Option Command) (left : Option (List ℕ)) (files : Option FileMap) (outcome : Outcome) (text : List ℕ) : Type 0 where

@@ -3,10 +3,9 @@ ghost use Rattle.std.specs.Prelude.{◌≡◌, ◌≤◌, Ok, Some, IfOk, IfErr}
 ghost use Rattle.fk_causes.specs.Causes.{Rose};
 ghost use Rattle.fk_causes.specs.Shelf.{HasAt};
 ghost use Rattle.fk_scenario.specs.Kept.{Keeps};
-ghost use Rattle.fk_scenario.specs.Reading.{told};
 ghost use Rattle.fk_store.specs.World.{world};
 ghost use Rattle.fk_run.specs.Commands.{trace_name};
-ghost use Rattle.fk_run.specs.Play.{IsEnd, IsPlay, IsPlayed, status_of_end};
+ghost use Rattle.fk_run.specs.Play.{IsEnd, IsPlay, IsPlayed, scenario_to_run, status_of_end};
 ghost use Rattle.fk_run.specs.Prepared.{ComesTo, IsRefusal, IsScenarioFail, IsTraceFail, outcome_of};
 ghost use Rattle.fk_run.specs.Status.{progress_of, Finished};
 ghost use Rattle.fk_report.specs.Threads.{AreThreads};
@@ -15,22 +14,29 @@ use crate::prepared::Prepared;
 use crate::replay::{ReplayFail, replay};
 use crate::status::Status;
 use crate::top::Report;
-use fk_boot::boot;
+use fk_boot::{boot, is_bootable};
 use fk_causes::{Shelf, ShelfFail};
 use fk_kernel::Kernel;
 use fk_model::Text;
 use fk_report::{End, ThreadState, have_halted, report_text, threads_of};
-use fk_scenario::{Scenario, ScenarioFail, read_scenario};
+use fk_scenario::{Scenario, ScenarioFail, read_scenario, server_rules};
 use std::alloc::Global;
 
 /// The scenario that a text is.
 fn scenario_of(alloc: Global, text: &[u8]) -> Result<Scenario, Status>
-    ensures read { IfOk result (λ scenario. told text.now ≡ Ok scenario) }
+    ensures read { IfOk result (λ scenario. scenario_to_run text.now ≡ Ok scenario) }
     ensures keeps { IfOk result Keeps }
-    ensures fail { IfErr result (IsScenarioFail (told text.now)) }
+    ensures fail { IfErr result (IsScenarioFail (scenario_to_run text.now)) }
 {
-    match read_scenario(alloc, text, &[]) {
-        Ok(scenario) => Ok(scenario),
+    let rules = server_rules(alloc)?;
+    match read_scenario(alloc, text, &rules) {
+        Ok(scenario) if is_bootable(&scenario) => Ok(scenario),
+        // It has what can't be run yet.
+        Ok(_) => Err(Status::BadScenario {
+            rule: 11,
+            section: 0,
+            index: 0,
+        }),
         Err(ScenarioFail::Scenario(error)) => Err(Status::BadScenario {
             rule: error.rule,
             section: error.section,
@@ -127,7 +133,7 @@ pub fn play<H: Shelf>(
     text: &[u8],
     shelf: &mut H,
 ) -> Result<Prepared, Status>
-    ensures comes { ComesTo (IsPlay name.now (H.files shelf.old) (told text.now)) result }
+    ensures comes { ComesTo (IsPlay name.now (H.files shelf.old) (scenario_to_run text.now)) result }
     ensures refusal { IfErr result (IsRefusal ⊥ (Rose (H.failed_gets shelf.old) (H.failed_gets shelf.new))) }
     ensures same_files { H.files shelf.new ≡ H.files shelf.old }
     ensures same_puts { H.failed_puts shelf.new ≡ H.failed_puts shelf.old }

@@ -1,4 +1,2 @@
 pub mod Trees
-pub mod PathSets
-pub mod Steps
 pub mod Kept

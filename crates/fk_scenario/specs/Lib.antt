@@ -1,9 +1,9 @@
-pub mod Gives
-pub mod Fields
-pub mod Paths
 pub mod Programs
 pub mod Spaces
-pub mod Taken
 pub mod Objects
+pub mod Aims
+pub mod Servers
+pub mod Jobs
 pub mod Reading
 pub mod Kept
+pub mod Rules

@@ -1,14 +1,16 @@
 -- The spaces of a document.
-use Rattle.std.specs.Prelude.{ℕ, Bool, false, not, ◌&&◌, ◌||◌, ◌==◌, nat_lt, List, [], ◌∷◌, ◌++◌, length, count_by, Option, Some, None, Result, Ok, if◌then◌else◌, codes}
+use Rattle.std.specs.Prelude.{ℕ, ℤ, Bool, false, not, ◌&&◌, ◌||◌, ◌==◌, nat_lt, List, [], ◌∷◌, ◌++◌, length, count_by, Option, Some, None, option_map, unwrap_or, Result, Ok, if◌then◌else◌, codes}
 use Rattle.std.specs.List.{list_any}
 use Rattle.std.specs.Str.{bytes_eq}
 use Rattle.toml.specs.Data.{Data, Items, no_items, item, Members, as_table}
-use Rattle.fk_scenario.specs.declared.fail.ScenarioError.{ScenarioError}
-use Rattle.fk_scenario.specs.declared.scenario.Program.{Program}
-use Rattle.fk_scenario.specs.declared.scenario.SpaceEntry.{SpaceEntry}
-use Rattle.fk_scenario.specs.Gives.{◌>>=◌, or_rule, unless, placed}
-use Rattle.fk_scenario.specs.Fields.{known, text_in, needed_text, integers_in, bytes_from}
-use Rattle.fk_scenario.specs.Paths.{is_name, path_of, parent}
+use Rattle.fk_model.specs.Names.{is_name}
+use Rattle.fk_fields.specs.declared.fail.ScenarioError.{ScenarioError}
+use Rattle.fk_fields.specs.Gives.{◌>>=◌, or_rule, unless, placed}
+use Rattle.fk_fields.specs.Fields.{known, text_in, flag_in, needed_text, integers_in, bytes_from}
+use Rattle.fk_fields.specs.Paths.{path_of, parent}
+use Rattle.fk_entries.specs.declared.types.Program.{Program}
+use Rattle.fk_entries.specs.declared.types.SpaceEntry.{SpaceEntry}
+use Rattle.fk_scenario.specs.declared.spaces.Fields as code
 use Rattle.fk_scenario.specs.Programs.{index_of}
 
 -- a program is named by what is no name
@@ -36,20 +38,38 @@ count_beneath spaces = count_by (λ s. not (length s.path == 0)) spaces
 abbrev pub has_room : List SpaceEntry → List ℕ → Bool
 has_room done text = bytes_eq text (codes "/") || nat_lt (count_beneath done) 255
 
--- a space after those before it: its keys and types (2), ranges (3), forms (4), place (5) and program (8)
-unfoldable pub space_of : List Program → List SpaceEntry → Members → Result SpaceEntry ℕ
-space_of programs done ms = do
-  _ ← known (codes "path" ∷ codes "program" ∷ codes "pages" ∷ []) ms
-  text ← needed_text (codes "path") ms
+-- what a space's keys have, as it is written
+pub record Fields : Type 0 where
+  pub path : List ℕ
+  pub program : Option (List ℕ)
+  pub pages : List ℤ
+  pub nester : Bool
+
+-- the same as the code has it
+abbrev pub fields_view : code.Fields → Fields
+fields_view fields = record { path = fields.path.now; program = option_map (λ name. name.now) fields.program; pages = fields.pages; nester = fields.nester }
+
+-- its keys and their types (2)
+unfoldable pub fields_of : Members → Result Fields ℕ
+fields_of ms = do
+  _ ← known (codes "path" ∷ codes "program" ∷ codes "pages" ∷ codes "nester" ∷ []) ms
+  path ← needed_text (codes "path") ms
   program ← text_in (codes "program") ms
   pages ← integers_in (codes "pages") ms
-  pages ← bytes_from [] pages
-  _ ← unless 3 (has_room done text)
-  path ← path_of text
-  _ ← unless 4 (not (is_no_name program))
+  nester ← flag_in (codes "nester") ms
+  Ok (record { path = path; program = program; pages = pages; nester = unwrap_or nester false })
+
+-- a space after those before it: its keys and types (2), ranges and number (3), forms (4), place (5) and program (8)
+unfoldable pub space_of : List Program → List SpaceEntry → Members → Result SpaceEntry ℕ
+space_of programs done ms = do
+  fields ← fields_of ms
+  pages ← bytes_from [] fields.pages
+  _ ← unless 3 (has_room done fields.path)
+  path ← path_of fields.path
+  _ ← unless 4 (not (is_no_name fields.program))
   _ ← unless 5 (may_stand done path)
-  program ← index_of programs program
-  Ok (record { path = path; program = program; pages = pages; nester = false })
+  program ← index_of programs fields.program
+  Ok (record { path = path; program = program; pages = pages; nester = fields.nester })
 
 -- the space of an entry; one that is no table is rule 2
 unfoldable pub space_at : List Program → List SpaceEntry → Data → Result SpaceEntry ℕ

@@ -1,56 +1,26 @@
 //! The programs of a document.
 ghost use Rattle.std.specs.Prelude.{◌≡◌, [], option_map, unwrap_or};
 ghost use Rattle.toml.specs.Data.{no_members};
-ghost use Rattle.toml.specs.View.{view, table_view};
-ghost use Rattle.fk_scenario.specs.Gives.{Gives, Answers};
+ghost use Rattle.toml.specs.View.{table_view};
+ghost use Rattle.fk_fields.specs.Gives.{Gives, Answers};
 ghost use Rattle.fk_scenario.specs.Programs as definitions;
 
-use crate::fail::{Fail, ScenarioFail, index_at, rule};
-use crate::fields::unless;
-use crate::paths::is_name;
-use crate::scenario::Program;
-use fk_asm::{AsmFail, assemble};
-use fk_model::{List, Text};
+use fk_entries::{Program, program_of};
+use fk_fields::{Entries, Fail, ScenarioFail, index_at, rule};
 use std::alloc::Global;
-use toml::{Table, Value};
+use toml::Table;
 
 const SECTION: u8 = 2;
 
-fn words_of(alloc: Global, text: &str) -> Result<List<u64>, Fail>
-    ensures { Gives (λ x. x) result (definitions.words_of text.now) }
-{
-    match assemble(alloc, text.as_bytes()) {
-        Ok(words) => Ok(List::of(words)),
-        Err(AsmFail::Text(_)) => Err(Fail::Rule(rule::PROGRAMS)),
-        Err(AsmFail::NoMemory) => Err(Fail::NoMemory),
-    }
-}
-
-#[tactic(auto, unfolding(crate::specs::Programs::program_of))]
-fn program_of(alloc: Global, name: &str, value: &Value) -> Result<Program, Fail>
-    ensures { Gives (λ x. x) result (definitions.program_of name.now (view value.now)) }
-{
-    let text = match value.as_str() {
-        Some(text) => text,
-        None => return Err(Fail::Rule(rule::KEYS)),
-    };
-    unless(rule::FORMS, is_name(name))?;
-    let words = words_of(alloc, text)?;
-    Ok(Program {
-        name: Text::of(alloc, name)?,
-        words,
-    })
-}
-
 #[tactic(auto, unfolding(crate::specs::Programs::programs_from))]
-fn programs_of(alloc: Global, table: &Table) -> Result<List<Program>, ScenarioFail>
+fn programs_of(alloc: Global, table: &Table) -> Result<Entries<Program>, ScenarioFail>
     ensures { Answers result (definitions.programs_from [] (table_view table.now)) }
 {
-    let mut programs = List::new(alloc);
+    let mut programs = Entries::new(alloc);
     for (name, value) in table {
         let index = index_at(programs.len())?;
         match program_of(alloc, name.as_str(), value) {
-            Ok(program) => programs.push(program)?,
+            Ok(program) => programs = programs.with(alloc, program)?,
             Err(fail) => return Err(fail.at(SECTION, index)),
         }
     }
@@ -59,31 +29,23 @@ fn programs_of(alloc: Global, table: &Table) -> Result<List<Program>, ScenarioFa
 
 /// The programs of the section, by name, if it is there.
 #[tactic(auto, unfolding(crate::specs::Programs::programs_from))]
-pub fn programs_in(alloc: Global, table: Option<&Table>) -> Result<List<Program>, ScenarioFail>
+pub fn programs_in(alloc: Global, table: Option<&Table>) -> Result<Entries<Program>, ScenarioFail>
     ensures { Answers result (definitions.programs_from [] (unwrap_or (option_map (λ t. table_view t.now) table.entry) no_members)) }
 {
     match table {
         Some(table) => programs_of(alloc, table),
-        None => Ok(List::new(alloc)),
+        None => Ok(Entries::new(alloc)),
     }
-}
-
-fn position_of(programs: &[Program], name: &str) -> Option<usize>
-    ensures { result ≡ definitions.position_of programs.now name.now }
-{
-    programs
-        .iter()
-        .position(|program| program.name.as_str() == name)
 }
 
 /// The index of the program that a space names, if it names one.
 #[tactic(auto, unfolding(crate::specs::Programs::index_of))]
-pub fn index_of(programs: &[Program], name: Option<&str>) -> Result<Option<u32>, Fail>
+pub fn index_of(programs: &Entries<Program>, name: Option<&str>) -> Result<Option<u32>, Fail>
     ensures { Gives (λ x. x) result (definitions.index_of programs.now (option_map (λ s. s.now) name.entry)) }
 {
     match name {
         None => Ok(None),
-        Some(name) => match position_of(programs, name) {
+        Some(name) => match programs.position(name.as_bytes()) {
             Some(index) => Ok(Some(index_at(index)?)),
             None => Err(Fail::Rule(rule::PROGRAMS)),
         },

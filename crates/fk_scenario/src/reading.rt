@@ -1,23 +1,28 @@
 //! A whole document.
-ghost use Rattle.std.specs.Prelude.{◌≡◌, ◌≤◌, option_map, IfOk, IfErr};
+ghost use Rattle.std.specs.Prelude.{◌≡◌, ◌≤◌, option_map, is_some, codes, IfOk, IfErr};
+ghost use Rattle.toml.specs.Data.{get_member};
 ghost use Rattle.toml.specs.View.{table_view};
-ghost use Rattle.fk_scenario.specs.Gives.{Gives, Answers};
+ghost use Rattle.fk_fields.specs.Gives.{Gives, Answers};
+ghost use Rattle.fk_entries.specs.Servers.{rules_view};
 ghost use Rattle.fk_scenario.specs.Kept.{Keeps};
 ghost use Rattle.fk_scenario.specs.Reading as definitions;
 
-use crate::fail::{Fail, ScenarioError, ScenarioFail};
-use crate::fields::{array_in, integer_in, known, needed_integer, ranged, table_in};
+use crate::aims::check_aims;
+use crate::jobs::{entries_in, jobs_of};
 use crate::objects::objects_in;
 use crate::programs::programs_in;
 use crate::scenario::Scenario;
+use crate::servers::{check_servers, servers_in};
 use crate::spaces::spaces_in;
-use fk_model::Rule;
+use fk_entries::{JobEntry, ObjectEntry, Program, ServerEntry, SpaceEntry};
+use fk_fields::{
+    Entries, Fail, ScenarioError, ScenarioFail, array_in, has_key, integer_in, known,
+    needed_integer, ranged, table_in,
+};
+use fk_model::{List, Rule};
 use std::alloc::Global;
 use toml::Table;
 use toml::value::Array;
-
-#[cfg(test)]
-mod tests;
 
 /// The bytes are no TOML document.
 const NO_DOCUMENT: ScenarioFail = ScenarioFail::Scenario(ScenarioError {
@@ -26,16 +31,49 @@ const NO_DOCUMENT: ScenarioFail = ScenarioFail::Scenario(ScenarioError {
     index: 0,
 });
 
+/// There are jobs, which can't be run yet.
+const JOBS: ScenarioFail = ScenarioFail::Scenario(ScenarioError {
+    rule: 11,
+    section: 6,
+    index: 0,
+});
+
 const SECTION: u8 = 1;
 
-/// What the top keys have.
-#[derive(Drop)]
-struct Top<'a> {
-    budget: u64,
-    workers: u64,
+/// The sections as they stand in the document.
+#[derive(Clone, Copy)]
+struct Sections<'a> {
     programs: Option<&'a Table>,
     spaces: Option<&'a Array>,
     objects: Option<&'a Array>,
+    servers: Option<&'a Array>,
+    jobs: Option<&'a Array>,
+}
+
+#[tactic(auto, unfolding(crate::specs::Reading::sections_of))]
+fn sections_of<'a>(table: &'a Table) -> Result<Sections<'a>, Fail>
+    ensures { Gives definitions.sections_view result (definitions.sections_of (table_view table.now)) }
+{
+    let programs = table_in(table, "programs")?;
+    let spaces = array_in(table, "space")?;
+    let objects = array_in(table, "object")?;
+    let servers = array_in(table, "server")?;
+    let jobs = array_in(table, "job")?;
+    Ok(Sections {
+        programs,
+        spaces,
+        objects,
+        servers,
+        jobs,
+    })
+}
+
+/// What the top keys have.
+#[derive(Clone, Copy)]
+struct Top<'a> {
+    budget: u64,
+    workers: u64,
+    sections: Sections<'a>,
 }
 
 #[tactic(auto, unfolding(crate::specs::Reading::top_of))]
@@ -43,42 +81,99 @@ fn top_of<'a>(table: &'a Table) -> Result<Top<'a>, Fail>
     ensures top { Gives definitions.top_view result (definitions.top_of (table_view table.now)) }
     ensures workers { IfOk result (λ top. top.workers ≤ 8) }
 {
-    known(&["budget", "workers", "programs", "space", "object"], table)?;
+    known(
+        &[
+            "budget", "workers", "programs", "space", "object", "server", "job",
+        ],
+        table,
+    )?;
     let budget = needed_integer(table, "budget")?;
     let workers = integer_in(table, "workers")?;
-    let programs = table_in(table, "programs")?;
-    let spaces = array_in(table, "space")?;
-    let objects = array_in(table, "object")?;
+    let sections = sections_of(table)?;
     let budget = ranged(1, 1_000_000, budget)?;
     let workers = ranged(1, 8, workers.unwrap_or(1))?;
     Ok(Top {
         budget,
         workers,
+        sections,
+    })
+}
+
+/// The entries of all sections, each after those before it.
+#[derive(Drop)]
+struct Round {
+    programs: Entries<Program>,
+    spaces: Entries<SpaceEntry>,
+    objects: Entries<ObjectEntry>,
+    servers: List<ServerEntry>,
+    jobs: List<JobEntry>,
+}
+
+#[tactic(auto, unfolding(crate::specs::Reading::first_round))]
+fn first_round(
+    alloc: Global,
+    rules: &[(String, Rule)],
+    sections: Sections<'_>,
+) -> Result<Round, ScenarioFail>
+    ensures { Answers result (definitions.first_round (rules_view rules.now) (definitions.sections_view sections.entry)) }
+{
+    let programs = programs_in(alloc, sections.programs)?;
+    let spaces = spaces_in(alloc, &programs, sections.spaces)?;
+    let objects = objects_in(alloc, &spaces, sections.objects)?;
+    let servers = servers_in(alloc, rules, sections.servers)?;
+    let jobs = entries_in(alloc, sections.jobs)?;
+    Ok(Round {
         programs,
         spaces,
         objects,
+        servers,
+        jobs,
+    })
+}
+
+#[tactic(auto, unfolding(crate::specs::Reading::second_round))]
+fn second_round(
+    alloc: Global,
+    budget: u64,
+    workers: u32,
+    round: Round,
+) -> Result<Scenario, ScenarioFail>
+    ensures { Answers result (definitions.second_round budget workers round) }
+{
+    check_aims(alloc, &round.spaces, &round.objects)?;
+    check_servers(alloc, &round.objects, round.servers.as_slice())?;
+    let jobs = jobs_of(
+        alloc,
+        round.spaces.as_slice(),
+        round.servers.as_slice(),
+        round.jobs.as_slice(),
+    )?;
+    Ok(Scenario {
+        budget,
+        workers,
+        programs: round.programs.into_list(),
+        spaces: round.spaces.into_list(),
+        objects: round.objects.into_list(),
+        servers: round.servers,
+        jobs,
     })
 }
 
 /// The scenario of a document, or its first refusal.
 #[tactic(auto, unfolding(crate::specs::Reading::scenario_of))]
-fn scenario_of(alloc: Global, table: &Table) -> Result<Scenario, ScenarioFail>
-    ensures { Answers result (definitions.scenario_of (table_view table.now)) }
+fn scenario_of(
+    alloc: Global,
+    rules: &[(String, Rule)],
+    table: &Table,
+) -> Result<Scenario, ScenarioFail>
+    ensures { Answers result (definitions.scenario_of (rules_view rules.now) (table_view table.now)) }
 {
     let top = match top_of(table) {
         Ok(top) => top,
         Err(fail) => return Err(fail.at(SECTION, 0)),
     };
-    let programs = programs_in(alloc, top.programs)?;
-    let spaces = spaces_in(alloc, programs.as_slice(), top.spaces)?;
-    let objects = objects_in(alloc, spaces.as_slice(), top.objects)?;
-    Ok(Scenario {
-        budget: top.budget,
-        workers: top.workers as u32,
-        programs,
-        spaces,
-        objects,
-    })
+    let round = first_round(alloc, rules, top.sections)?;
+    second_round(alloc, top.budget, top.workers as u32, round)
 }
 
 /// The table of a document, where the bytes are one.
@@ -98,44 +193,31 @@ fn tree_of(alloc: Global, bytes: &[u8]) -> Result<Option<Table>, ScenarioFail>
     }
 }
 
-/// What is told of a refusal of a document today: that it is refused, and not where or why.
-fn without_place(fail: ScenarioFail) -> ScenarioFail
-    ensures { result ≡ definitions.fail_without_place fail }
-{
-    match fail {
-        ScenarioFail::Scenario(_) => ScenarioFail::Scenario(ScenarioError {
-            rule: 11,
-            section: 0,
-            index: 0,
-        }),
-        ScenarioFail::NoMemory => ScenarioFail::NoMemory,
-    }
-}
-
 /// Reads a scenario from the bytes of a TOML document.
 ///
-/// `rules` are the names of the rules that native servers may have. No scenario of today has a server,
-/// and they aren't looked at.
+/// `rules` are the rules that native servers may have, by name. Of equal names the first counts, and
+/// `console` is the console whatever stands here.
 ///
 /// # Errors
 ///
-/// `Scenario` exactly where the bytes are refused: by rule 1 where they are no TOML document, and by rule
-/// 11 where they are one and no scenario of today's form; its section and index are 0. `NoMemory` where
-/// there is no memory for the document or the scenario.
+/// `Scenario` exactly where the bytes are refused, with the first refusal: its rule, its section, and the
+/// index of the entry in its section. While jobs can't be run, a document with jobs that is right
+/// otherwise is refused by rule 11. `NoMemory` where there is no memory for the document or the scenario.
 #[tactic(auto, unfolding(crate::specs::Reading::reading))]
 pub fn read_scenario(
     alloc: Global,
     bytes: &[u8],
     rules: &[(String, Rule)],
 ) -> Result<Scenario, ScenarioFail>
-    ensures exact { Answers result (definitions.told bytes.now) }
+    ensures exact { Answers result (definitions.reading (rules_view rules.now) bytes.now) }
     ensures keeps { IfOk result Keeps }
 {
     let Some(table) = tree_of(alloc, bytes)? else {
         return Err(NO_DOCUMENT);
     };
-    match scenario_of(alloc, &table) {
-        Ok(scenario) => Ok(scenario),
-        Err(fail) => Err(without_place(fail)),
+    let scenario = scenario_of(alloc, rules, &table)?;
+    if has_key(&table, "job") {
+        return Err(JOBS);
     }
+    Ok(scenario)
 }

@@ -2,14 +2,15 @@
 ghost use Rattle.std.specs.Prelude.{◌≡◌, [], option_map, unwrap_or};
 ghost use Rattle.toml.specs.Data.{no_items};
 ghost use Rattle.toml.specs.View.{view, table_view, array_view};
-ghost use Rattle.fk_scenario.specs.Gives.{Gives, Answers};
+ghost use Rattle.fk_fields.specs.Gives.{Gives, Answers};
 ghost use Rattle.fk_scenario.specs.Spaces as definitions;
 
-use crate::fail::{Fail, ScenarioFail, index_at, rule};
-use crate::fields::{bytes_of, integers_in, known, needed_text, text_in, unless};
-use crate::paths::{is_name, parent, path_of};
 use crate::programs::index_of;
-use crate::scenario::{Program, SpaceEntry};
+use fk_entries::{Program, SpaceEntry};
+use fk_fields::{
+    Entries, Fail, ScenarioFail, bytes_of, flag_in, index_at, integers_in, is_name, known,
+    needed_text, parent, path_of, rule, text_in, unless,
+};
 use fk_model::List;
 use std::alloc::Global;
 use toml::value::Array;
@@ -27,24 +28,24 @@ fn is_no_name(name: Option<&str>) -> bool
 }
 
 /// Whether a space has this path.
-pub fn has_space(spaces: &[SpaceEntry], path: &[u8]) -> bool
+pub fn has_space(spaces: &Entries<SpaceEntry>, path: &[u8]) -> bool
     ensures { result ≡ definitions.has_space spaces.now path.now }
 {
-    spaces.iter().any(|space| space.path.as_slice() == path)
+    spaces.has(path)
 }
 
 /// Whether a path is the root's, or that of a space.
-pub fn is_there(spaces: &[SpaceEntry], path: &[u8]) -> bool
+pub fn is_there(spaces: &Entries<SpaceEntry>, path: &[u8]) -> bool
     ensures { result ≡ definitions.is_there spaces.now path.now }
 {
     path.is_empty() || has_space(spaces, path)
 }
 
-fn may_stand(done: &[SpaceEntry], path: &[u8]) -> bool
+fn may_stand(done: &Entries<SpaceEntry>, path: &[u8]) -> bool
     ensures { result ≡ definitions.may_stand done.now path.now }
 {
     if path.is_empty() {
-        done.is_empty()
+        done.len() == 0
     } else {
         is_there(done, parent(path)) && !has_space(done, path)
     }
@@ -56,44 +57,68 @@ fn count_beneath(done: &[SpaceEntry]) -> usize
     done.iter().filter(|space| space.path.len() > 0).count()
 }
 
-fn has_room(done: &[SpaceEntry], text: &str) -> bool
+/// Whether there is room for one more space, at most 256 with the root. There are never many to count.
+fn has_room(done: &Entries<SpaceEntry>, text: &str) -> bool
     ensures { result ≡ definitions.has_room done.now text.now }
 {
-    text == "/" || count_beneath(done) < 255
+    text == "/" || count_beneath(done.as_slice()) < 255
+}
+
+/// What a space's keys have, as it is written.
+#[derive(Drop)]
+struct Fields<'a> {
+    path: &'a str,
+    program: Option<&'a str>,
+    pages: List<i64>,
+    nester: bool,
+}
+
+#[tactic(auto, unfolding(crate::specs::Spaces::fields_of))]
+fn fields_of<'a>(alloc: Global, table: &'a Table) -> Result<Fields<'a>, Fail>
+    ensures { Gives definitions.fields_view result (definitions.fields_of (table_view table.now)) }
+{
+    known(&["path", "program", "pages", "nester"], table)?;
+    let path = needed_text(table, "path")?;
+    let program = text_in(table, "program")?;
+    let pages = integers_in(alloc, table, "pages")?;
+    let nester = flag_in(table, "nester")?;
+    Ok(Fields {
+        path,
+        program,
+        pages,
+        nester: nester.unwrap_or(false),
+    })
 }
 
 #[tactic(auto, unfolding(crate::specs::Spaces::space_of))]
 fn space_of(
     alloc: Global,
-    programs: &[Program],
-    done: &[SpaceEntry],
+    programs: &Entries<Program>,
+    done: &Entries<SpaceEntry>,
     table: &Table,
 ) -> Result<SpaceEntry, Fail>
     ensures { Gives (λ x. x) result (definitions.space_of programs.now done.now (table_view table.now)) }
 {
-    known(&["path", "program", "pages"], table)?;
-    let text = needed_text(table, "path")?;
-    let program = text_in(table, "program")?;
-    let pages = integers_in(alloc, table, "pages")?;
-    let pages = bytes_of(alloc, pages.as_slice())?;
-    unless(rule::RANGES, has_room(done, text))?;
-    let path = path_of(alloc, text)?;
-    unless(rule::FORMS, !is_no_name(program))?;
+    let fields = fields_of(alloc, table)?;
+    let pages = bytes_of(alloc, fields.pages.as_slice())?;
+    unless(rule::RANGES, has_room(done, fields.path))?;
+    let path = path_of(alloc, fields.path)?;
+    unless(rule::FORMS, !is_no_name(fields.program))?;
     unless(rule::PLACES, may_stand(done, path.as_slice()))?;
-    let program = index_of(programs, program)?;
+    let program = index_of(programs, fields.program)?;
     Ok(SpaceEntry {
         path,
         program,
         pages,
-        nester: false,
+        nester: fields.nester,
     })
 }
 
 #[tactic(auto, unfolding(crate::specs::Spaces::space_at))]
 fn space_at(
     alloc: Global,
-    programs: &[Program],
-    done: &[SpaceEntry],
+    programs: &Entries<Program>,
+    done: &Entries<SpaceEntry>,
     value: &Value,
 ) -> Result<SpaceEntry, Fail>
     ensures { Gives (λ x. x) result (definitions.space_at programs.now done.now (view value.now)) }
@@ -107,16 +132,16 @@ fn space_at(
 #[tactic(auto, unfolding(crate::specs::Spaces::spaces_from))]
 fn spaces_of(
     alloc: Global,
-    programs: &[Program],
+    programs: &Entries<Program>,
     array: &Array,
-) -> Result<List<SpaceEntry>, ScenarioFail>
+) -> Result<Entries<SpaceEntry>, ScenarioFail>
     ensures { Answers result (definitions.spaces_from programs.now [] (array_view array.now)) }
 {
-    let mut spaces = List::new(alloc);
+    let mut spaces = Entries::new(alloc);
     for value in array {
         let index = index_at(spaces.len())?;
-        match space_at(alloc, programs, spaces.as_slice(), value) {
-            Ok(space) => spaces.push(space)?,
+        match space_at(alloc, programs, &spaces, value) {
+            Ok(space) => spaces = spaces.with(alloc, space)?,
             Err(fail) => return Err(fail.at(SECTION, index)),
         }
     }
@@ -127,13 +152,13 @@ fn spaces_of(
 #[tactic(auto, unfolding(crate::specs::Spaces::spaces_from))]
 pub fn spaces_in(
     alloc: Global,
-    programs: &[Program],
+    programs: &Entries<Program>,
     array: Option<&Array>,
-) -> Result<List<SpaceEntry>, ScenarioFail>
+) -> Result<Entries<SpaceEntry>, ScenarioFail>
     ensures { Answers result (definitions.spaces_from programs.now [] (unwrap_or (option_map (λ a. array_view a.now) array.entry) no_items)) }
 {
     match array {
         Some(array) => spaces_of(alloc, programs, array),
-        None => Ok(List::new(alloc)),
+        None => Ok(Entries::new(alloc)),
     }
 }

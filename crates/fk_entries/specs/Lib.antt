@@ -1,0 +1,5 @@
+pub mod Programs
+pub mod Objects
+pub mod Servers
+pub mod Jobs
+pub mod Kept

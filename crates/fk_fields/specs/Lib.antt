@@ -1,0 +1,4 @@
+pub mod Gives
+pub mod Fields
+pub mod Paths
+pub mod Entries

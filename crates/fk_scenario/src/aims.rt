@@ -1,0 +1,175 @@
+//! What paths and sets of objects lead to.
+ghost use Rattle.std.specs.Prelude.{◌≡◌, ◌++◌, ◌∷◌, [], option_map, option_copied, IfOk};
+ghost use Rattle.fk_fields.specs.Gives.{Answers};
+ghost use Rattle.fk_scenario.specs.Aims as definitions;
+
+use crate::spaces::has_space;
+use fk_entries::{ObjectEntry, SpaceEntry, Spec};
+use fk_fields::{Entries, Fail, ScenarioFail, index_at, parent, rule};
+use fk_model::{List, NoMemory};
+use std::alloc::Global;
+
+const SECTION: u8 = 4;
+
+fn is_region(spec: &Spec) -> bool
+    ensures { result ≡ definitions.is_region spec.now }
+{
+    matches!(spec, Spec::Region { .. })
+}
+
+fn is_port(spec: &Spec) -> bool
+    ensures { result ≡ definitions.is_port spec.now }
+{
+    matches!(spec, Spec::Port { .. })
+}
+
+fn is_portset(spec: &Spec) -> bool
+    ensures { result ≡ definitions.is_portset spec.now }
+{
+    matches!(spec, Spec::Portset)
+}
+
+fn can_be_referred_to(spec: &Spec) -> bool
+    ensures { result ≡ definitions.can_be_referred_to spec.now }
+{
+    match spec {
+        Spec::Mapping { .. } | Spec::Region { .. } | Spec::Port { .. } | Spec::Thread { .. } =>
+            true,
+        Spec::Mutex { .. } | Spec::Cond | Spec::Portset | Spec::Reference { .. } => false,
+    }
+}
+
+fn has_region(objects: &Entries<ObjectEntry>, path: &[u8]) -> bool
+    ensures { result ≡ definitions.is_one definitions.is_region (definitions.object_with objects.now path.now) }
+{
+    match objects.find(path) {
+        Some(object) => is_region(&object.spec),
+        None => false,
+    }
+}
+
+fn has_port(objects: &Entries<ObjectEntry>, path: &[u8]) -> bool
+    ensures { result ≡ definitions.is_one definitions.is_port (definitions.object_with objects.now path.now) }
+{
+    match objects.find(path) {
+        Some(object) => is_port(&object.spec),
+        None => false,
+    }
+}
+
+fn has_portset(objects: &Entries<ObjectEntry>, path: &[u8]) -> bool
+    ensures { result ≡ definitions.is_one definitions.is_portset (definitions.object_with objects.now path.now) }
+{
+    match objects.find(path) {
+        Some(object) => is_portset(&object.spec),
+        None => false,
+    }
+}
+
+fn leads_to_region(objects: &Entries<ObjectEntry>, path: &Option<List<u8>>) -> bool
+    ensures { result ≡ definitions.leads objects.now definitions.is_region path.now }
+{
+    match path {
+        None => true,
+        Some(path) => has_region(objects, path.as_slice()),
+    }
+}
+
+fn leads_to_port(objects: &Entries<ObjectEntry>, path: &Option<List<u8>>) -> bool
+    ensures { result ≡ definitions.leads objects.now definitions.is_port path.now }
+{
+    match path {
+        None => true,
+        Some(path) => has_port(objects, path.as_slice()),
+    }
+}
+
+/// Whether an object is there to which a reference may lead.
+fn has_referent(objects: &Entries<ObjectEntry>, path: &[u8]) -> bool
+    ensures { result ≡ definitions.is_one definitions.can_be_referred_to (definitions.object_with objects.now path.now) }
+{
+    match objects.find(path) {
+        Some(object) => can_be_referred_to(&object.spec),
+        None => false,
+    }
+}
+
+fn refers(
+    spaces: &Entries<SpaceEntry>,
+    objects: &Entries<ObjectEntry>,
+    path: &Option<List<u8>>,
+) -> bool
+    ensures { result ≡ definitions.refers spaces.now objects.now path.now }
+{
+    match path {
+        None => true,
+        Some(path) => {
+            let path = path.as_slice();
+            !path.is_empty() && (has_space(spaces, path) || has_referent(objects, path))
+        }
+    }
+}
+
+/// The path of a slot of a space.
+fn path_in(alloc: Global, space: &[u8], slot: u8) -> Result<Vec<u8>, NoMemory>
+    ensures { IfOk result (λ path. path.items ≡ space.now ++ slot ∷ []) }
+{
+    let mut path = Vec::from_slice(alloc, space)?;
+    path.push(slot)?;
+    Ok(path)
+}
+
+fn has_set(
+    alloc: Global,
+    objects: &Entries<ObjectEntry>,
+    space: &[u8],
+    set: Option<u8>,
+) -> Result<bool, NoMemory>
+    ensures { IfOk result (λ has. has ≡ definitions.has_set objects.now space.now set) }
+{
+    let Some(slot) = set else {
+        return Ok(true);
+    };
+    let path = path_in(alloc, space, slot)?;
+    Ok(has_portset(objects, &path))
+}
+
+fn aims_well(
+    alloc: Global,
+    spaces: &Entries<SpaceEntry>,
+    objects: &Entries<ObjectEntry>,
+    object: &ObjectEntry,
+) -> Result<bool, NoMemory>
+    ensures { IfOk result (λ well. well ≡ definitions.aims_well spaces.now objects.now (definitions.home object.now) object.now.spec) }
+{
+    match &object.spec {
+        Spec::Mapping { region, .. } => Ok(leads_to_region(objects, region)),
+        Spec::Region { keeper, .. } => Ok(leads_to_port(objects, keeper)),
+        Spec::Port { set } => has_set(alloc, objects, parent(object.path.as_slice()), *set),
+        Spec::Reference { to } => Ok(refers(spaces, objects, to)),
+        Spec::Thread { .. } | Spec::Mutex { .. } | Spec::Cond | Spec::Portset => Ok(true),
+    }
+}
+
+/// Refuses the first object that aims badly.
+#[tactic(auto, unfolding(crate::specs::Aims::aims_from))]
+pub fn check_aims(
+    alloc: Global,
+    spaces: &Entries<SpaceEntry>,
+    objects: &Entries<ObjectEntry>,
+) -> Result<(), ScenarioFail>
+    ensures { Answers result (definitions.aims_from spaces.now objects.now 0 objects.now) }
+{
+    let mut place = 0usize;
+    for object in objects.as_slice() {
+        let index = index_at(place)?;
+        if !aims_well(alloc, spaces, objects, object)? {
+            return Err(Fail::Rule(rule::AIMS).at(SECTION, index));
+        }
+        place = match place.checked_add(1) {
+            Some(place) => place,
+            None => return Err(ScenarioFail::NoMemory),
+        };
+    }
+    Ok(())
+}
