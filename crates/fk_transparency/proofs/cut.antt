@@ -12,3 +12,4 @@ pub mod Calls
 pub mod Gifts
 pub mod GivenPages
 pub mod PorterRows
+pub mod PorterTakes

@@ -165,6 +165,11 @@ pub fn a_talk_made_by_a_porter_keeps_the_cut()
     ensures { CallKeepsCut IsServerNamed }
 {}
 
+/// A porter that takes a page: the subtree sees that a page of it is taken, or sees nothing of it, or no law speaks of it.
+pub fn a_page_taken_by_a_porter_keeps_the_cut()
+    ensures { CallKeepsCut IsPageTake }
+{}
+
 /// A porter that gives an object another slot: the subtree sees nothing of it and stays plain, or no law speaks of it.
 pub fn a_new_name_by_a_porter_keeps_the_cut()
     ensures { CallKeepsCut IsRename }
