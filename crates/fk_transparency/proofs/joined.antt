@@ -1,2 +1,3 @@
 pub mod Rebinding
 pub mod Inside
+pub mod Every

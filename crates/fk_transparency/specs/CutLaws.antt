@@ -209,3 +209,7 @@ CallKeepsCut IsSuch =
 -- the law for every move that is made inside, by whomever
 abbrev pub InsideKeepsCut : Type 0
 InsideKeepsCut = (w : World) (nester : Path) (slot : ℕ) (e : Event) → is_within (slot ∷ nester) e.mover ≡ true → KeepsCut w nester slot e
+
+-- the law for every move that the world makes
+abbrev pub EventKeepsCut : Type 0
+EventKeepsCut = (w : World) (nester : Path) (slot : ℕ) (e : Event) → KeepsCut w nester slot e

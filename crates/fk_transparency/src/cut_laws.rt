@@ -1,6 +1,6 @@
 //! The law of the cut, each kind of move the contract of a function that does nothing: what a move of the world does to a
 //! subtree is what the subtree, seen alone, does by the move as which it is seen.
-ghost use Rattle.fk_transparency.specs.CutLaws.{AcceptKeepsCut, CallKeepsCut, GiveKeepsCut, InsideKeepsCut, InstructionKeepsCut, IsClientOver, IsClientSend, IsDestroy, IsDisconnect, IsFaultDone, IsForPorters, IsForUsers, IsPageGive, IsPageTake, IsPlainStage, IsRename, IsServerEnd, IsServerNamed, IsServerOver, IsServerReceive, IsServerSend, IsServerless, IsSignal, IsWait, OverKeepsCut, StageInsideKeepsCut, StageKeepsCut, StageOutsideKeepsCut};
+ghost use Rattle.fk_transparency.specs.CutLaws.{AcceptKeepsCut, CallKeepsCut, EventKeepsCut, GiveKeepsCut, InsideKeepsCut, InstructionKeepsCut, IsClientOver, IsClientSend, IsDestroy, IsDisconnect, IsFaultDone, IsForPorters, IsForUsers, IsPageGive, IsPageTake, IsPlainStage, IsRename, IsServerEnd, IsServerNamed, IsServerOver, IsServerReceive, IsServerSend, IsServerless, IsSignal, IsWait, OverKeepsCut, StageInsideKeepsCut, StageKeepsCut, StageOutsideKeepsCut};
 
 /// A thread that makes an instruction, also one that stores through a mapping: inside, the subtree does so by itself;
 /// outside, it sees nothing of it, or no law speaks of it.
@@ -199,4 +199,10 @@ pub fn a_wait_of_a_porter_keeps_the_cut()
 /// Whatever is done by whoever stands inside, in one law: the subtree does it by itself, or no law speaks of it.
 pub fn what_is_done_inside_keeps_the_cut()
     ensures { InsideKeepsCut }
+{}
+
+/// Whatever move the world makes, in one law: unless no law speaks of it, the subtree stays plain, and its cut afterwards is what the
+/// further move gives as which it is seen, or the same.
+pub fn every_move_keeps_the_cut()
+    ensures { EventKeepsCut }
 {}

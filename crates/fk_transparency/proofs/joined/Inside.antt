@@ -30,6 +30,23 @@ use Rattle.fk_transparency.proofs.waits.Inside.{wait_inside_keeps}
 use Rattle.fk_transparency.proofs.waits.Signals.{signal_keeps}
 use Rattle.fk_transparency.proofs.waits.FaultEnds.{fault_done_keeps}
 
+module _ (w : World) (x : Path) (pick : Option Path) where
+  -- who has nothing to go on with makes no move
+  idle : (t : Thread) (mode : Mode) → goes_on w x pick t mode ≡ Waits → GoesAllowed w x (when (is_free w (parent x) t) (goes_on w x pick t mode)) → ⊥
+  idle t mode e = rw e (by (is_free w (parent x) t))
+    where
+      by : (b : Bool) → GoesAllowed w x (when b Waits) → ⊥
+      by true h = h
+      by false h = h
+
+  pub idle_thread : (t : Thread) → and_then thread_of (w.body x) ≡ Some t → goes_on w x pick t t.mode ≡ Waits → IsReady w x pick asks.Run → ⊥
+  unfolding outcome
+  idle_thread t is e = rw is (idle t t.mode e)
+
+  pub nobody : and_then thread_of (w.body x) ≡ None → IsReady w x pick asks.Run → ⊥
+  unfolding outcome
+  nobody is = rw is (λ h. h)
+
 module _ (w : World) (nester : Path) (slot : ℕ) (x : Path) (within : is_within (slot ∷ nester) x ≡ true) (pick : Option Path) where
   by_stage : (stage : Stage) → IsAtStage w x stage → KeepsCut w nester slot (moves x pick)
   by_stage (Create s y kind) at = plain_keeps w nester slot x pick (Create s y kind) refl at
@@ -77,34 +94,18 @@ module _ (w : World) (nester : Path) (slot : ℕ) (x : Path) (within : is_within
   by_stage (HoldSet s y thread) at = denied_stages_keep w nester slot x pick (HoldSet s y thread) refl at
   by_stage (SpaceMakeHeld y) at = denied_stages_keep w nester slot x pick (SpaceMakeHeld y) refl at
 
-  -- who has nothing to go on with makes no move
-  idle : (t : Thread) (mode : Mode) → goes_on w x pick t mode ≡ Waits → GoesAllowed w x (when (is_free w (parent x) t) (goes_on w x pick t mode)) → ⊥
-  idle t mode e = rw e (by (is_free w (parent x) t))
-    where
-      by : (b : Bool) → GoesAllowed w x (when b Waits) → ⊥
-      by true h = h
-      by false h = h
-
-  idle_thread : (t : Thread) → and_then thread_of (w.body x) ≡ Some t → goes_on w x pick t t.mode ≡ Waits → IsReady w x pick asks.Run → ⊥
-  unfolding outcome
-  idle_thread t is e = rw is (idle t t.mode e)
-
-  nobody : and_then thread_of (w.body x) ≡ None → IsReady w x pick asks.Run → ⊥
-  unfolding outcome
-  nobody is = rw is (λ h. h)
-
   runs : KeepsCut w nester slot (moves x pick)
   runs = by (and_then thread_of (w.body x)) refl
     where
       by_mode : (t : Thread) (mode : Mode) → and_then thread_of (w.body x) ≡ Some t → t.mode ≡ mode → KeepsCut w nester slot (moves x pick)
       by_mode t (Running g) is e = instruction_keeps w nester slot x pick (t, g, is, e)
       by_mode t (Calling (stage ∷ todo) rest) is e = by_stage stage (t, todo, rest, is, e)
-      by_mode t (Calling [] rest) is e = λ sound plain fit ready. absurd (idle_thread t is (rw e refl) ready)
-      by_mode t (Halted g code) is e = λ sound plain fit ready. absurd (idle_thread t is (rw e refl) ready)
-      by_mode t (Native g) is e = λ sound plain fit ready. absurd (idle_thread t is (rw e refl) ready)
+      by_mode t (Calling [] rest) is e = λ sound plain fit ready. absurd (idle_thread w x pick t is (rw e refl) ready)
+      by_mode t (Halted g code) is e = λ sound plain fit ready. absurd (idle_thread w x pick t is (rw e refl) ready)
+      by_mode t (Native g) is e = λ sound plain fit ready. absurd (idle_thread w x pick t is (rw e refl) ready)
 
       by : (o : Option Thread) → and_then thread_of (w.body x) ≡ o → KeepsCut w nester slot (moves x pick)
-      by None is = λ sound plain fit ready. absurd (nobody is ready)
+      by None is = λ sound plain fit ready. absurd (nobody w x pick is ready)
       by (Some t) is = by_mode t t.mode is refl
 
   -- there is no porter inside
