@@ -1,3 +1,4 @@
 pub mod Rebinding
 pub mod Inside
 pub mod Every
+pub mod Runs

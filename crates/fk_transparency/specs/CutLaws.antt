@@ -1,6 +1,6 @@
 -- The law of the cut: what a move of the world does to a plain subtree is what the subtree, seen alone, does by the move
 -- as which it is seen.
-use Rattle.std.specs.Prelude.{◌≡◌, ℕ, Bool, true, false, not, ◌&&◌, ◌||◌, ◌==◌, List, ◌∷◌, Option, Some}
+use Rattle.std.specs.Prelude.{◌≡◌, ℕ, Bool, true, false, not, ◌&&◌, ◌||◌, ◌==◌, List, [], ◌∷◌, Option, Some}
 use Rattle.fk_model.specs.declared.moves.Ask.TheVariants as asks
 use Rattle.fk_model.specs.declared.stage.Stage.{Stage}
 use Rattle.fk_model.specs.declared.stage.Stage.TheVariants.{Create, Destroy, Rename, Search, Point, Clear, Locate, CountIn, GetState, SetState, GetPtr, SetPtr, SpaceHold, SpaceRelease, ThreadStop, ThreadGo, PageGive, PageTake, PageRead, PageNext, MutexLock, MutexTrylock, MutexUnlock, CondWait, CondAsleep, CondSignal, CondBroadcast, Connect, ClientReceive, ClientSend, ClientOver, Disconnect, Wait, ServerReceive, ServerSend, ServerOver, ServerEnd, FaultDone, LinkSet, LinkPark, FaultSet, FaultPark, HoldSet, SpaceMakeHeld}
@@ -14,7 +14,7 @@ use Rattle.fk_model.specs.Valid.{is_fit}
 use Rattle.fk_model.specs.Whole.{IsWhole}
 use Rattle.fk_model.specs.Runs.{Event, after}
 use Rattle.fk_model.specs.Cut.{cut, IsPlain}
-use Rattle.fk_model.specs.Further.{Told, IsOnward}
+use Rattle.fk_model.specs.Further.{Onward, Told, IsOnward, IsFurther}
 use Rattle.fk_model.specs.Seen.{Seen, IsSeen}
 use Rattle.fk_model.specs.Seen.Seen.{Onwards, Unseen, Other}
 
@@ -213,3 +213,18 @@ InsideKeepsCut = (w : World) (nester : Path) (slot : ℕ) (e : Event) → is_wit
 -- the law for every move that the world makes
 abbrev pub EventKeepsCut : Type 0
 EventKeepsCut = (w : World) (nester : Path) (slot : ℕ) (e : Event) → KeepsCut w nester slot e
+
+-- ---- lists of moves
+
+-- moves of the world one after the other, each fit and ready in a whole world, and the moves as which a subtree sees them
+pub data IsWatched (nester : Path) (slot : ℕ) : World → List Onward → World → Type 0 where
+  Ends : (w : World) → IsWatched nester slot w [] w
+  Sees : (w later : World) (e : Event) (m : Onward) (ms : List Onward) → IsWhole w → is_fit w e.mover e.ask ≡ true → IsReady w e.mover e.pick e.ask →
+      IsSeen w nester slot e (Onwards m) → IsWatched nester slot (after w e) ms later → IsWatched nester slot w (m ∷ ms) later
+  Misses : (w later : World) (e : Event) (ms : List Onward) → IsWhole w → is_fit w e.mover e.ask ≡ true → IsReady w e.mover e.pick e.ask →
+      IsSeen w nester slot e Unseen → IsWatched nester slot (after w e) ms later → IsWatched nester slot w ms later
+
+-- whatever the world does, where no move is seen as other: the subtree, seen alone, does the moves as which these are seen
+abbrev pub RunKeepsCut : Type 0
+RunKeepsCut = (w later : World) (nester : Path) (slot : ℕ) (ms : List Onward) → IsWatched nester slot w ms later → IsPlain w nester slot →
+    IsPlain later nester slot × ((told : List Told) × IsFurther (cut w nester slot) ms told (cut later nester slot))

@@ -1,6 +1,6 @@
 //! The law of the cut, each kind of move the contract of a function that does nothing: what a move of the world does to a
 //! subtree is what the subtree, seen alone, does by the move as which it is seen.
-ghost use Rattle.fk_transparency.specs.CutLaws.{AcceptKeepsCut, CallKeepsCut, EventKeepsCut, GiveKeepsCut, InsideKeepsCut, InstructionKeepsCut, IsClientOver, IsClientSend, IsDestroy, IsDisconnect, IsFaultDone, IsForPorters, IsForUsers, IsPageGive, IsPageTake, IsPlainStage, IsRename, IsServerEnd, IsServerNamed, IsServerOver, IsServerReceive, IsServerSend, IsServerless, IsSignal, IsWait, OverKeepsCut, StageInsideKeepsCut, StageKeepsCut, StageOutsideKeepsCut};
+ghost use Rattle.fk_transparency.specs.CutLaws.{AcceptKeepsCut, CallKeepsCut, EventKeepsCut, GiveKeepsCut, InsideKeepsCut, InstructionKeepsCut, IsClientOver, IsClientSend, IsDestroy, IsDisconnect, IsFaultDone, IsForPorters, IsForUsers, IsPageGive, IsPageTake, IsPlainStage, IsRename, IsServerEnd, IsServerNamed, IsServerOver, IsServerReceive, IsServerSend, IsServerless, IsSignal, IsWait, OverKeepsCut, RunKeepsCut, StageInsideKeepsCut, StageKeepsCut, StageOutsideKeepsCut};
 
 /// A thread that makes an instruction, also one that stores through a mapping: inside, the subtree does so by itself;
 /// outside, it sees nothing of it, or no law speaks of it.
@@ -205,4 +205,10 @@ pub fn what_is_done_inside_keeps_the_cut()
 /// further move gives as which it is seen, or the same.
 pub fn every_move_keeps_the_cut()
     ensures { EventKeepsCut }
+{}
+
+/// Whatever the world does, move after move, where no move is seen as other: the subtree stays plain, and its cut does the moves as
+/// which these are seen, one after the other, and ends where the world's does.
+pub fn every_run_keeps_the_cut()
+    ensures { RunKeepsCut }
 {}
