@@ -12,6 +12,10 @@ mod causes;
 #[cfg(test)]
 mod isa;
 #[cfg(test)]
+mod report;
+#[cfg(test)]
 mod run;
 #[cfg(test)]
 mod store;
+#[cfg(test)]
+mod traces;
