@@ -1,8 +1,7 @@
 -- The address of a label, as a line is added, and how many words there are.
-use Rattle.std.proofs.Common.{◌≡◌, ℕ, ◌+◌, ◌≤◌, zero, Bool, true, false, cond, List, [], ◌∷◌, ◌++◌, length, filter, Option, Some, None, option_map, is_some, refl, sym, ap, ◌∙◌, arith}
+use Rattle.std.proofs.Common.{◌≡◌, ℕ, ◌+◌, Bool, true, false, cond, List, [], ◌∷◌, ◌++◌, length, filter, Option, Some, None, option_map, is_some, refl, sym, ap, ◌∙◌, arith}
 use Rattle.std.proofs.lemmas.Slice.Eq.{bytes_eq-Decides}
 use Rattle.std.specs.Str.{bytes_eq}
-use Rattle.fk_asm.specs.Operations.{Item}
 use Rattle.fk_asm.specs.Program.{Line, size, is_name_of, address_from, address_of}
 use Rattle.fk_asm.specs.Labels.{with_label, IsNew}
 
@@ -19,7 +18,8 @@ size-push (first ∷ lines) line = by (is_some first.item) (size-push lines line
 sizes : (first : Line) (lines : List Line) (before : ℕ) → before + size (first ∷ []) + size lines ≡ before + size (first ∷ lines)
 sizes first lines before = by (is_some first.item)
   where
-    by : (t : Bool) → before + length (cond {A = List Line} t (first ∷ []) []) + size lines ≡ before + length (cond t (first ∷ filter (λ l. is_some l.item) lines) (filter (λ l. is_some l.item) lines))
+    by : (t : Bool) → before + length (cond {A = List Line} t (first ∷ []) []) + size lines
+        ≡ before + length (cond t (first ∷ filter (λ l. is_some l.item) lines) (filter (λ l. is_some l.item) lines))
     by true = omega arith
     by false = omega arith
 
@@ -29,7 +29,8 @@ or_last (Some address) last = Some address
 or_last None last = last
 
 address_from-push : (before : ℕ) (lines : List Line) (line : Line) (name : List ℕ)
-    → address_from before (lines ++ line ∷ []) name ≡ or_last (address_from before lines name) (cond (is_name_of line.label name) (Some (before + size lines)) None)
+    → address_from before (lines ++ line ∷ []) name ≡ or_last (address_from before lines name) (cond (is_name_of line.label name) (Some (before +
+    size lines)) None)
 unfolding address_from
 address_from-push before [] line name =
     let same : before ≡ before + 0 = omega arith in
@@ -37,11 +38,14 @@ address_from-push before [] line name =
 address_from-push before (first ∷ lines) line name = by (is_name_of first.label name) (address_from-push (before + size (first ∷ [])) lines line name)
   where
     by : (t : Bool) → address_from (before + size (first ∷ [])) (lines ++ line ∷ []) name
-        ≡ or_last (address_from (before + size (first ∷ [])) lines name) (cond (is_name_of line.label name) (Some (before + size (first ∷ []) + size lines)) None)
+        ≡ or_last (address_from (before + size (first ∷ [])) lines name) (cond (is_name_of line.label name) (Some (before + size (first ∷ []) + size
+        lines)) None)
         → cond t (Some before) (address_from (before + size (first ∷ [])) (lines ++ line ∷ []) name)
-        ≡ or_last (cond t (Some before) (address_from (before + size (first ∷ [])) lines name)) (cond (is_name_of line.label name) (Some (before + size (first ∷ lines))) None)
+        ≡ or_last (cond t (Some before) (address_from (before + size (first ∷ [])) lines name)) (cond (is_name_of line.label name) (Some (before +
+        size (first ∷ lines))) None)
     by true more = refl
-    by false more = more ∙ ap (λ n. or_last (address_from (before + size (first ∷ [])) lines name) (cond (is_name_of line.label name) (Some n) None)) (sizes first lines before)
+    by false more = more ∙ ap (λ n. or_last (address_from (before + size (first ∷ [])) lines name) (cond (is_name_of line.label name) (Some n) None))
+        (sizes first lines before)
 
 or_last-None : (o : Option ℕ) → o ≡ or_last o None
 or_last-None None = refl
@@ -52,7 +56,8 @@ added : (label : Option (List ℕ)) (lines : List Line) (name : List ℕ) → Is
 added None lines name new = or_last-None (address_of lines name)
 added (Some label) lines name new = by (bytes_eq label name) refl
   where
-    by : (t : Bool) → bytes_eq label name ≡ t → cond t (Some (size lines)) (address_of lines name) ≡ or_last (address_of lines name) (cond t (Some (size lines)) None)
+    by : (t : Bool) → bytes_eq label name ≡ t → cond t (Some (size lines)) (address_of lines name)
+        ≡ or_last (address_of lines name) (cond t (Some (size lines)) None)
     by true e =
         let same : label ≡ name = (bytes_eq-Decides label name).0 e in
         let none : address_of lines name ≡ None = sym (ap (address_of lines) same) ∙ new in
@@ -64,7 +69,8 @@ pub with_label-added : (lines : List Line) (line : Line) (name : List ℕ) → I
     → with_label line.label (size lines) (address_of lines) name ≡ address_of (lines ++ line ∷ []) name
 with_label-added lines line name new =
     let zero_first : 0 + size lines ≡ size lines = omega arith in
-    added line.label lines name new ∙ sym (address_from-push 0 lines line name ∙ ap (λ n. or_last (address_of lines name) (cond (is_name_of line.label name) (Some n) None)) zero_first)
+    added line.label lines name new ∙ sym (address_from-push 0 lines line name
+    ∙ ap (λ n. or_last (address_of lines name) (cond (is_name_of line.label name) (Some n) None)) zero_first)
 
 -- how many words a line places
 pub size_one : (line : Line) → size (line ∷ []) ≡ cond (is_some line.item) 1 0

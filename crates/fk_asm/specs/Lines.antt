@@ -1,5 +1,5 @@
 -- The lines of a text, the tokens of a line, and the label that it defines.
-use Rattle.std.specs.Prelude.{ℕ, ◌-◌, Bool, not, ◌||◌, ◌&&◌, ◌==◌, List, [], ◌∷◌, filter, length, take, slice_index, Option, Some, None, is_some, if◌then◌else◌}
+use Rattle.std.specs.Prelude.{ℕ, ◌-◌, Bool, not, ◌||◌, ◌&&◌, ◌==◌, List, [], ◌∷◌, filter, length, take, slice_index, Option, Some, None, if◌then◌else◌}
 use Rattle.std.specs.List.{slice_split, before_first}
 
 -- the end of a line

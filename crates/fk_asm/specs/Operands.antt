@@ -1,5 +1,5 @@
 -- Operands: registers, numbers, and labels in a number's place.
-use Rattle.std.specs.Prelude.{ℕ, ◌-◌, ◌%◌, ◌^◌, Bool, false, ◌==◌, ◌&&◌, nat_le, List, [], ◌∷◌, drop, Option, Some, None, option_map, Result, Ok, Err, if◌then◌else◌}
+use Rattle.std.specs.Prelude.{ℕ, ◌-◌, ◌%◌, ◌^◌, Bool, false, ◌==◌, ◌&&◌, nat_le, List, [], ◌∷◌, drop, Option, option_map, Result, Ok, Err, if◌then◌else◌}
 use Rattle.std.specs.Str.Parse.{starts_with_minus}
 use Rattle.fk_model.specs.Names.{is_name}
 use Rattle.fk_model.specs.Numbers.{is_digit, number_up_to}

@@ -55,7 +55,8 @@ fn with_label<'a>(
     label: Option<&'a [u8]>,
     address: u32,
 ) -> Result<BTreeMap<&'a [u8], u32>, NoMemory>
-    ensures { IfOk result (λ more. (q : List ℕ) → address_in more q ≡ labels.with_label (option_map (λ name. name.now) label.entry) address (address_in addresses.entry) q) }
+    ensures { IfOk result (λ more. (q : List ℕ) → address_in more q
+        ≡ labels.with_label (option_map (λ name. name.now) label.entry) address (address_in addresses.entry) q) }
 {
     match label {
         Some(name) => with_name(addresses, name, address),
@@ -81,7 +82,8 @@ impl<'a> Model for Lines<'a> {
 
     ghost view = { λ s. map labels.line_view s.lines.items };
 
-    ghost invariant = { λ s. ((name : Items ℕ) → labels.address_in s.addresses name ≡ address_of (map labels.line_view s.lines.items) name) × (s.size ≡ size_of (map labels.line_view s.lines.items)) };
+    ghost invariant = { λ s. ((name : Items ℕ) → labels.address_in s.addresses name ≡ address_of (map labels.line_view s.lines.items) name)
+        × (s.size ≡ size_of (map labels.line_view s.lines.items)) };
 }
 
 impl<'a> Lines<'a> {

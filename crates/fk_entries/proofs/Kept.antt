@@ -1,8 +1,8 @@
 -- What is read keeps its ranges and forms.
-use Rattle.std.proofs.Common.{◌≡◌, ℕ, ℤ, pos, negsuc, ◌+◌, ◌<◌, ◌≤◌, Bool, true, false, not, ◌&&◌, ◌==◌, nat_le, nat_lt, cond, List, [], ◌∷◌, ◌++◌, length, Option, Some, None, Result, Ok, Err, IfSome, unwrap_or, refl, ap, subst, codes, arith}
+use Rattle.std.proofs.Common.{◌≡◌, ℕ, ℤ, pos, negsuc, ◌+◌, ◌≤◌, Bool, true, false, not, ◌&&◌, ◌==◌, nat_le, nat_lt, cond, List, [], ◌∷◌, ◌++◌, length, Option, Some, None, Result, Ok, Err, IfSome, unwrap_or, refl, ap, subst, codes, arith}
 use Rattle.std.proofs.lemmas.Bool.{leb-true, ltb-true}
 use Rattle.std.proofs.lemmas.List.Elements.{All-nil, All-push}
-use Rattle.std.specs.List.{All, list_all, slice_split}
+use Rattle.std.specs.List.{list_all, slice_split}
 use Rattle.std.specs.Result.{result_ok}
 use Rattle.std.specs.Str.{bytes_eq}
 use Rattle.toml.specs.Data.{Data, Members, as_str, as_table}
@@ -11,7 +11,7 @@ use Rattle.fk_model.specs.Numbers.{is_digit, value_of, number_up_to, has_leading
 use Rattle.fk_asm.specs.Assembler.{assembled}
 use Rattle.fk_asm.specs.declared.fail.AsmError.{AsmError}
 use Rattle.fk_asm.proofs.Few.{assembled-few}
-use Rattle.fk_fields.specs.Gives.{◌>>=◌, or_rule, unless}
+use Rattle.fk_fields.specs.Gives.{or_rule, unless}
 use Rattle.fk_fields.specs.Fields.{known, text_in, flag_in, integer_in, needed_text, integers_in, words_from, ranged, ranged_or}
 use Rattle.fk_fields.specs.Paths.{is_slash, slots_from, path_of, optional_path}
 use Rattle.fk_fields.proofs.Steps.{after, unless-Ok, or_rule-Ok}
@@ -190,7 +190,8 @@ spec_kept kind ms spec h =
     (bytes_eq kind (codes "region")) (bytes_eq kind (codes "port")) (bytes_eq kind (codes "portset")) (bytes_eq kind (codes "reference")) h
   where
     by : (a b c d e f g r : Bool) → cond a (thread_of ms) (cond b (mutex_of ms) (cond c (plain_of (Some Cond) ms) (cond d (mapping_of ms)
-        (cond e (region_of ms) (cond f (port_of ms) (cond g (plain_of (Some Portset) ms) (cond r (reference_of ms) (plain_of None ms)))))))) ≡ Ok spec → IsInRange spec
+        (cond e (region_of ms) (cond f (port_of ms) (cond g (plain_of (Some Portset) ms) (cond r (reference_of ms) (plain_of None ms))))))))
+            ≡ Ok spec → IsInRange spec
     by true b c d e f g r h = thread_kept ms spec h
     by false true c d e f g r h = mutex_kept ms spec h
     by false false true d e f g r h = plain_kept (Some Cond) ms spec tt h

@@ -1,5 +1,5 @@
 -- Jobs, each by itself.
-use Rattle.std.specs.Prelude.{ℕ, ℤ, Bool, not, ◌==◌, nat_lt, List, [], ◌∷◌, ◌++◌, map, Option, Some, None, Result, Ok, Err, if◌then◌else◌, codes}
+use Rattle.std.specs.Prelude.{ℕ, ℤ, Bool, not, ◌==◌, nat_lt, List, [], ◌∷◌, ◌++◌, Option, Some, None, Result, Ok, Err, if◌then◌else◌, codes}
 use Rattle.std.specs.List.{list_any}
 use Rattle.std.specs.Str.{bytes_eq}
 use Rattle.toml.specs.Data.{Data, Items, no_items, item, Members, as_array, as_table}
@@ -53,7 +53,8 @@ pub record Fields : Type 0 where
 
 -- the same as the code has it
 abbrev pub fields_view : code.Fields → Fields
-fields_view fields = record { kind = fields.kind.now; bind = fields.bind; moment = fields.moment; nester = fields.nester.now; slot = fields.slot; image = fields.image.now }
+fields_view fields = record { kind = fields.kind.now; bind = fields.bind; moment = fields.moment; nester = fields.nester.now; slot = fields.slot;
+    image = fields.image.now }
 
 -- its keys and their types (2)
 unfoldable pub fields_of : Members → Result Fields ℕ

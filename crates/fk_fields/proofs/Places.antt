@@ -23,14 +23,16 @@ or_last-None : (o : Option ℕ) → o ≡ or_last o None
 or_last-None None = refl
 or_last-None (Some place) = refl
 
-position_from-push : {X : Type 0} (p : X → Bool) (n : ℕ) (xs : List X) (x : X) → position_from p n (xs ++ x ∷ []) ≡ or_last (position_from p n xs) (cond (p x) (Some (n + length xs)) None)
+position_from-push : {X : Type 0} (p : X → Bool) (n : ℕ) (xs : List X) (x : X) → position_from p n (xs ++ x ∷ [])
+    ≡ or_last (position_from p n xs) (cond (p x) (Some (n + length xs)) None)
 position_from-push p n [] x =
     let same : n ≡ n + 0 = omega arith in
     ap (λ k. cond (p x) (Some k) None) same
 position_from-push p n (y ∷ ys) x = by (p y) (position_from-push p (n + 1) ys x)
   where
     by : (t : Bool) → position_from p (n + 1) (ys ++ x ∷ []) ≡ or_last (position_from p (n + 1) ys) (cond (p x) (Some (n + 1 + length ys)) None)
-        → cond t (Some n) (position_from p (n + 1) (ys ++ x ∷ [])) ≡ or_last (cond t (Some n) (position_from p (n + 1) ys)) (cond (p x) (Some (n + length (y ∷ ys))) None)
+        → cond t (Some n) (position_from p (n + 1) (ys ++ x ∷ []))
+            ≡ or_last (cond t (Some n) (position_from p (n + 1) ys)) (cond (p x) (Some (n + length (y ∷ ys))) None)
     by true more = refl
     by false more =
         let same : n + 1 + length ys ≡ n + length (y ∷ ys) = omega arith in
@@ -50,7 +52,8 @@ pub position_from-below : {X : Type 0} (p : X → Bool) (n : ℕ) (xs : List X) 
 position_from-below p n [] i h = absurd (cc)
 position_from-below p n (x ∷ xs) i h = by (p x) h (position_from-below p (n + 1) xs i)
   where
-    by : (t : Bool) → cond t (Some n) (position_from p (n + 1) xs) ≡ Some i → (position_from p (n + 1) xs ≡ Some i → i < n + 1 + length xs) → i < n + length (x ∷ xs)
+    by : (t : Bool) → cond t (Some n) (position_from p (n + 1) xs) ≡ Some i → (position_from p (n + 1) xs ≡ Some i → i < n + 1 + length xs)
+        → i < n + length (x ∷ xs)
     by true h more = let same : n ≡ i = cc in omega arith
     by false h more = omega (arith, more h)
 
@@ -66,7 +69,8 @@ found_from : {X : Type 0} (p : X → Bool) (n : ℕ) (xs : List X) (i : ℕ) →
 found_from p n [] i h = absurd (cc)
 found_from p n (x ∷ xs) i h = by (p x) h (found_from p (n + 1) xs i) (position_from-from p (n + 1) xs i)
   where
-    by : (t : Bool) → cond t (Some n) (position_from p (n + 1) xs) ≡ Some i → (position_from p (n + 1) xs ≡ Some i → find p xs ≡ slice_get xs (i - (n + 1))) → (position_from p (n + 1) xs ≡ Some i → n + 1 ≤ i)
+    by : (t : Bool) → cond t (Some n) (position_from p (n + 1) xs) ≡ Some i → (position_from p (n + 1) xs ≡ Some i → find p xs
+        ≡ slice_get xs (i - (n + 1))) → (position_from p (n + 1) xs ≡ Some i → n + 1 ≤ i)
         → cond t (Some x) (find p xs) ≡ slice_get (x ∷ xs) (i - n)
     by true h more from =
         let same : n ≡ i = cc in
@@ -87,12 +91,14 @@ pub not_found : {X : Type 0} (p : X → Bool) (n : ℕ) (xs : List X) → positi
 not_found p n [] h = refl
 not_found p n (x ∷ xs) h = by (p x) h (not_found p (n + 1) xs)
   where
-    by : (t : Bool) → cond t (Some n) (position_from p (n + 1) xs) ≡ None → (position_from p (n + 1) xs ≡ None → find p xs ≡ None) → cond t (Some x) (find p xs) ≡ None
+    by : (t : Bool) → cond t (Some n) (position_from p (n + 1) xs) ≡ None → (position_from p (n + 1) xs ≡ None → find p xs ≡ None)
+        → cond t (Some x) (find p xs) ≡ None
     by true h more = absurd (cc)
     by false h more = more h
 
 -- the places with that of an entry's key are those of the entries and this one
-pub with_place-added : {X : Type 0} (key : X → List ℕ) (xs : List X) (x : X) (old : List ℕ → Option ℕ) → ((q : List ℕ) → old q ≡ position_from (λ y. bytes_eq (key y) q) 0 xs)
+pub with_place-added : {X : Type 0} (key : X → List ℕ) (xs : List X) (x : X) (old : List ℕ → Option ℕ) → ((q : List ℕ) → old q
+    ≡ position_from (λ y. bytes_eq (key y) q) 0 xs)
     → (q : List ℕ) → with_place (key x) (length xs) old q ≡ position_from (λ y. bytes_eq (key y) q) 0 (xs ++ x ∷ [])
 with_place-added key xs x old h q =
     let pushed = position_from-push (λ y. bytes_eq (key y) q) 0 xs x in
@@ -109,7 +115,8 @@ with_place-added key xs x old h q =
     by None e false d = or_last-None (old q)
 
 -- a map after one more key
-pub place_in-inserted : (old new : BTreeMap (Vec ℕ Global) ℕ) (key : Vec ℕ Global) (place : ℕ) → Updates (λ x y. slice_cmp nat_cmp x.items y.items) old new key (Some place)
+pub place_in-inserted : (old new : BTreeMap (Vec ℕ Global) ℕ) (key : Vec ℕ Global) (place : ℕ)
+    → Updates (λ x y. slice_cmp nat_cmp x.items y.items) old new key (Some place)
     → (q : List ℕ) → place_in new q ≡ cond (bytes_eq key.items q) (Some place) (place_in old q)
 unfolding KeepsOthers
 place_in-inserted old new key place h q = by (bytes_eq key.items q) refl

@@ -1,5 +1,5 @@
 -- The places of keys, as a map has them.
-use Rattle.std.specs.Prelude.{ℕ, List, Vec, Option, Some, None, is_some, if◌then◌else◌, ◌||◌, not, ◌&&◌}
+use Rattle.std.specs.Prelude.{ℕ, List, Vec, Option, Some, is_some, if◌then◌else◌}
 use Rattle.std.specs.BTreeMap.{BTreeMap, get_by}
 use Rattle.std.specs.Cmp.Lexicographic.{slice_cmp}
 use Rattle.std.specs.Ordering.{nat_cmp}

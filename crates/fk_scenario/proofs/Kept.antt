@@ -1,14 +1,14 @@
 -- A scenario that is read keeps what a machine rests on.
-use Rattle.std.proofs.Common.{◌≡◌, ℕ, ℤ, pos, ◌+◌, ◌<◌, ◌≤◌, Bool, true, false, not, ◌&&◌, ◌||◌, ◌==◌, nat_lt, cond, List, [], ◌∷◌, ◌++◌, append_assoc, append-nil, length, Option, Some, None, Result, Ok, Err, IfSome, unwrap_or, refl, ap, subst, codes, arith}
+use Rattle.std.proofs.Common.{◌≡◌, ℕ, pos, ◌+◌, ◌<◌, ◌≤◌, Bool, true, false, not, ◌&&◌, ◌||◌, ◌==◌, nat_lt, cond, List, [], ◌∷◌, ◌++◌, append_assoc, append-nil, length, Option, Some, None, Ok, IfSome, unwrap_or, refl, ap, subst, codes, arith}
 use Rattle.std.proofs.lemmas.Bool.{ltb-true}
 use Rattle.std.proofs.lemmas.List.Elements.{All-nil, All-push}
 use Rattle.std.proofs.lemmas.List.Sums.{sum_by_push}
 use Rattle.std.proofs.lemmas.Slice.Eq.{bytes_eq-Decides}
 use Rattle.std.specs.List.{All}
 use Rattle.std.specs.Str.{bytes_eq}
-use Rattle.toml.specs.Data.{Data, Items, no_items, item, Members, no_members, member, as_table, get_member}
+use Rattle.toml.specs.Data.{Data, Items, no_items, item, Members, no_members, member, as_table}
 use Rattle.fk_model.specs.declared.moves.Rule.{Rule}
-use Rattle.fk_fields.specs.Gives.{◌>>=◌, or_rule, unless, placed}
+use Rattle.fk_fields.specs.Gives.{or_rule, unless, placed}
 use Rattle.fk_fields.specs.Fields.{known, integer_in, needed_integer, bytes_from, ranged}
 use Rattle.fk_fields.specs.Paths.{path_of, parent}
 use Rattle.fk_fields.proofs.Places.{position_from-below}
@@ -22,7 +22,7 @@ use Rattle.fk_entries.proofs.Kept.{in_range, path_kept, program_kept, entry_kept
 use Rattle.fk_scenario.specs.declared.reading.Round.{Round}
 use Rattle.fk_scenario.specs.declared.scenario.Scenario.{Scenario}
 use Rattle.fk_scenario.specs.Programs.{programs_from, position_of, index_of}
-use Rattle.fk_scenario.specs.Spaces.{Fields, fields_of, space_of, space_at, spaces_from, has_space, is_there, has_room, may_stand, count_beneath, is_no_name}
+use Rattle.fk_scenario.specs.Spaces.{fields_of, space_of, space_at, spaces_from, has_space, is_there, has_room, may_stand, count_beneath, is_no_name}
 use Rattle.fk_scenario.specs.Objects.{has_object, object_at, objects_from}
 use Rattle.fk_scenario.specs.Aims.{aims_from}
 use Rattle.fk_scenario.specs.Servers.{servers_from, serving_from}
@@ -36,7 +36,8 @@ neither false true h = absurd (cc)
 neither false false h = (refl, refl)
 
 -- one more element that keeps its rules after those before it
-EachAfter-last : {X : Type 0} (P : List X → X → Type 0) (before xs : List X) (x : X) → EachAfter P before xs → P (before ++ xs) x → EachAfter P before (xs ++ x ∷ [])
+EachAfter-last : {X : Type 0} (P : List X → X → Type 0) (before xs : List X) (x : X) → EachAfter P before xs → P (before ++ xs) x
+    → EachAfter P before (xs ++ x ∷ [])
 EachAfter-last P before [] x each here = (rw append-nil at here, tt)
 EachAfter-last P before (y ∷ ys) x each here = (each.0, EachAfter-last P (before ++ y ∷ []) ys x each.1 (rw append_assoc here))
 
@@ -80,10 +81,12 @@ root_path text path e h =
     let root : path_of (codes "/") ≡ Ok path = rw same at h in
     cc
 
-space_counted : (done : List SpaceEntry) (text : List ℕ) (s : SpaceEntry) → has_room done text ≡ true → path_of text ≡ Ok s.path → count_beneath done ≤ 255 → count_beneath (done ++ s ∷ []) ≤ 255
+space_counted : (done : List SpaceEntry) (text : List ℕ) (s : SpaceEntry) → has_room done text ≡ true → path_of text ≡ Ok s.path
+    → count_beneath done ≤ 255 → count_beneath (done ++ s ∷ []) ≤ 255
 space_counted done text s room is_path few = by (bytes_eq text (codes "/")) (nat_lt (count_beneath done) 255) (length s.path == 0) refl refl refl room
   where
-    by : (root lt none : Bool) → bytes_eq text (codes "/") ≡ root → nat_lt (count_beneath done) 255 ≡ lt → (length s.path == 0) ≡ none → (root || lt) ≡ true → count_beneath (done ++ s ∷ []) ≤ 255
+    by : (root lt none : Bool) → bytes_eq text (codes "/") ≡ root → nat_lt (count_beneath done) 255 ≡ lt → (length s.path == 0) ≡ none
+        → (root || lt) ≡ true → count_beneath (done ++ s ∷ []) ≤ 255
     by root lt true d e f h = omega (arith, count-last done s, ap added f)
     by root true false d e f h = omega (arith, count-last done s, ap added f, ltb-true (count_beneath done) 255 e)
     by true false false d e f h =
@@ -92,7 +95,8 @@ space_counted done text s room is_path few = by (bytes_eq text (codes "/")) (nat
         absurd (cc)
     by false false false d e f h = absurd (cc)
 
-space_kept : (programs : List Program) (done : List SpaceEntry) (ms : Members) (s : SpaceEntry) → space_of programs done ms ≡ Ok s → count_beneath done ≤ 255 → KeepsSpace programs done s × (count_beneath (done ++ s ∷ []) ≤ 255)
+space_kept : (programs : List Program) (done : List SpaceEntry) (ms : Members) (s : SpaceEntry) → space_of programs done ms ≡ Ok s
+    → count_beneath done ≤ 255 → KeepsSpace programs done s × (count_beneath (done ++ s ∷ []) ≤ 255)
 unfolding space_of
 space_kept programs done ms s h few =
     after (fields_of ms) _ s h (λ fields _ h.
@@ -105,16 +109,19 @@ space_kept programs done ms s h few =
     let same : record { path = path; program = index; pages = pages; nester = fields.nester } ≡ s = cc in
     let keeps : KeepsSpace programs done (record { path = path; program = index; pages = pages; nester = fields.nester }) =
     record { slots = path_kept fields.path path is_path; stands = unless-Ok 5 _ x stands; has_program = index_kept programs fields.program index is_index } in
-    let counted = space_counted done fields.path (record { path = path; program = index; pages = pages; nester = fields.nester }) (unless-Ok 3 _ w room) is_path few in
+    let counted = space_counted done fields.path (record { path = path; program = index; pages = pages;
+        nester = fields.nester }) (unless-Ok 3 _ w room) is_path few in
     subst (λ (s : SpaceEntry). KeepsSpace programs done s × (count_beneath (done ++ s ∷ []) ≤ 255)) same (keeps, counted))))))))
 
 -- a space that is read keeps its rules, and there is room for it
-space_read : (programs : List Program) (done : List SpaceEntry) (value : Data) (s : SpaceEntry) → space_at programs done value ≡ Ok s → count_beneath done ≤ 255 → KeepsSpace programs done s × (count_beneath (done ++ s ∷ []) ≤ 255)
+space_read : (programs : List Program) (done : List SpaceEntry) (value : Data) (s : SpaceEntry) → space_at programs done value ≡ Ok s
+    → count_beneath done ≤ 255 → KeepsSpace programs done s × (count_beneath (done ++ s ∷ []) ≤ 255)
 unfolding space_at
 space_read programs done value s h few =
     after (or_rule 2 (as_table value)) _ s h (λ ms _ h. space_kept programs done ms s h few)
 
-spaces_kept : (programs : List Program) (done : List SpaceEntry) (ds : Items) (all : List SpaceEntry) → spaces_from programs done ds ≡ Ok all → EachAfter (KeepsSpace programs) [] done → count_beneath done ≤ 255
+spaces_kept : (programs : List Program) (done : List SpaceEntry) (ds : Items) (all : List SpaceEntry) → spaces_from programs done ds ≡ Ok all
+    → EachAfter (KeepsSpace programs) [] done → count_beneath done ≤ 255
     → EachAfter (KeepsSpace programs) [] all × (count_beneath all ≤ 255)
 unfolding spaces_from
 spaces_kept programs done no_items all h each few =
@@ -127,7 +134,8 @@ spaces_kept programs done (item value rest) all h each few =
 
 -- objects
 
-object_read : (spaces : List SpaceEntry) (done : List ObjectEntry) (value : Data) (o : ObjectEntry) → object_at spaces done value ≡ Ok o → KeepsObject spaces done o
+object_read : (spaces : List SpaceEntry) (done : List ObjectEntry) (value : Data) (o : ObjectEntry) → object_at spaces done value ≡ Ok o
+    → KeepsObject spaces done o
 unfolding object_at
 object_read spaces done value o h =
     after (object_in value) _ o h (λ object is_object h.
@@ -145,19 +153,22 @@ object_read spaces done value o h =
       in_range = kept.in_range;
     }))))
 
-objects_kept : (spaces : List SpaceEntry) (done : List ObjectEntry) (ds : Items) (all : List ObjectEntry) → objects_from spaces done ds ≡ Ok all → EachAfter (KeepsObject spaces) [] done → EachAfter (KeepsObject spaces) [] all
+objects_kept : (spaces : List SpaceEntry) (done : List ObjectEntry) (ds : Items) (all : List ObjectEntry) → objects_from spaces done ds ≡ Ok all
+    → EachAfter (KeepsObject spaces) [] done → EachAfter (KeepsObject spaces) [] all
 unfolding objects_from
 objects_kept spaces done no_items all h each = let same : done ≡ all = cc in subst (EachAfter (KeepsObject spaces) []) same each
 objects_kept spaces done (item value rest) all h each =
     after (placed 4 (length done) (object_at spaces done value)) _ all h (λ o is_o h.
-    objects_kept spaces (done ++ o ∷ []) rest all h (EachAfter-last (KeepsObject spaces) [] done o each (object_read spaces done value o (placed-Ok 4 _ _ o is_o))))
+    objects_kept spaces (done ++ o ∷ []) rest all h (EachAfter-last (KeepsObject spaces) [] done o each (object_read spaces done value o (placed-Ok 4
+        _ _ o is_o))))
 
 -- a whole document
 
 top_kept : (ms : Members) (top : Top) → top_of ms ≡ Ok top → (1 ≤ top.budget) × (top.budget ≤ 1000000) × (1 ≤ top.workers) × (top.workers ≤ 8)
 unfolding top_of
 top_kept ms top h =
-    after (known (codes "budget" ∷ codes "workers" ∷ codes "programs" ∷ codes "space" ∷ codes "object" ∷ codes "server" ∷ codes "job" ∷ []) ms) _ top h (λ _ _ h.
+    after (known (codes "budget" ∷ codes "workers" ∷ codes "programs" ∷ codes "space" ∷ codes "object" ∷ codes "server" ∷ codes "job" ∷ []) ms) _ top
+        h (λ _ _ h.
     after (needed_integer (codes "budget") ms) _ top h (λ budget _ h.
     after (integer_in (codes "workers") ms) _ top h (λ workers _ h.
     after (sections_of ms) _ top h (λ sections _ h.
@@ -193,13 +204,15 @@ round_kept rules sections round h =
       objects = objects_kept spaces [] sections.objects objects are_objects tt;
     }))))))
 
-second_kept : (budget workers : ℕ) (round : Round) (s : Scenario) → second_round budget workers round ≡ Ok s → (1 ≤ budget) × (budget ≤ 1000000) × (1 ≤ workers) × (workers ≤ 8) → KeepsRound round → Keeps s
+second_kept : (budget workers : ℕ) (round : Round) (s : Scenario) → second_round budget workers round ≡ Ok s
+    → (1 ≤ budget) × (budget ≤ 1000000) × (1 ≤ workers) × (workers ≤ 8) → KeepsRound round → Keeps s
 unfolding second_round
 second_kept budget workers round s h (a, b, c, d) kept =
     after (aims_from round.spaces round.objects 0 round.objects) _ s h (λ _ aims h.
     after (serving_from round.objects [] [] round.servers) _ s h (λ _ serving h.
     after (jobs_from round.spaces round.servers [] round.jobs) _ s h (λ jobs _ h.
-    let same : record { budget = budget; workers = workers; programs = round.programs; spaces = round.spaces; objects = round.objects; servers = round.servers; jobs = jobs } ≡ s = cc in
+    let same : record { budget = budget; workers = workers; programs = round.programs; spaces = round.spaces; objects = round.objects;
+        servers = round.servers; jobs = jobs } ≡ s = cc in
     subst Keeps same (record {
       budget = (a, b);
       workers = (c, d);

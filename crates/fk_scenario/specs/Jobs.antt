@@ -57,7 +57,8 @@ subtree_of job = job.nester ++ job.slot ∷ []
 
 -- a checkpoint may be made of a subtree without nesters and servers, under a name that no job before it makes; a restore always
 abbrev pub may_be_done : List SpaceEntry → List ServerEntry → List JobSpec → JobEntry → JobKind → Bool
-may_be_done spaces servers done job kinds.Checkpoint = not (has_nester spaces (subtree_of job)) && not (has_server servers (subtree_of job)) && not (is_made done job.image)
+may_be_done spaces servers done job kinds.Checkpoint = not (has_nester spaces (subtree_of job)) && not (has_server servers (subtree_of job)) && not
+    (is_made done job.image)
 may_be_done spaces servers done job (kinds.Restore bind) = true
 
 -- what a job is, whose nester has this number

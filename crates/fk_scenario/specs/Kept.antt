@@ -1,5 +1,5 @@
 -- What every scenario that is read keeps, and a machine that begins with it rests on.
-use Rattle.std.specs.Prelude.{◌≡◌, ℕ, ◌<◌, ◌≤◌, true, false, List, [], ◌∷◌, ◌++◌, length, All, IfSome, Ok}
+use Rattle.std.specs.Prelude.{◌≡◌, ◌<◌, ◌≤◌, true, false, List, [], ◌∷◌, ◌++◌, length, All, IfSome, Ok}
 use Rattle.fk_fields.specs.Paths.{parent}
 use Rattle.fk_entries.specs.declared.types.Program.{Program}
 use Rattle.fk_entries.specs.declared.types.SpaceEntry.{SpaceEntry}

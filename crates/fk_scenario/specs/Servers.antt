@@ -1,5 +1,5 @@
 -- The servers of a document.
-use Rattle.std.specs.Prelude.{ℕ, Bool, true, false, not, ◌&&◌, List, [], ◌∷◌, ◌++◌, length, Option, Some, None, Result, Ok}
+use Rattle.std.specs.Prelude.{ℕ, Bool, true, false, not, ◌&&◌, List, [], ◌∷◌, ◌++◌, length, None, Result, Ok}
 use Rattle.std.specs.List.{list_any}
 use Rattle.std.specs.Str.{bytes_eq}
 use Rattle.toml.specs.Data.{Items, no_items, item}
@@ -41,10 +41,12 @@ has_new_alias aliases (Listed index rule config) = true
 
 -- a server's port is there, in no set, and served by no earlier server, and its alias is its own
 abbrev pub may_serve : List ObjectEntry → List (List ℕ) → List (List ℕ) → ServerEntry → Bool
-may_serve objects ports aliases server = is_one is_lone_port (object_with objects server.port) && not (has ports server.port) && has_new_alias aliases server.service
+may_serve objects ports aliases server = is_one is_lone_port (object_with objects server.port) && not (has ports server.port) && has_new_alias
+    aliases server.service
 
 -- servers after some whose ports and aliases these are; one that may not serve is rule 9
 unfoldable pub serving_from : List ObjectEntry → List (List ℕ) → List (List ℕ) → List ServerEntry → Result (Unit {0}) ScenarioError
 serving_from objects ports aliases [] = Ok tt
 serving_from objects ports aliases (s ∷ ss) =
-    placed 5 (length ports) (unless 9 (may_serve objects ports aliases s)) >>= λ _. serving_from objects (ports ++ s.port ∷ []) (aliases ++ alias_of s.service) ss
+    placed 5 (length ports) (unless 9 (may_serve objects ports aliases s)) >>= λ _. serving_from objects (ports ++ s.port ∷ []) (aliases ++ alias_of
+        s.service) ss

@@ -5,4 +5,5 @@ use Rattle.fk_asm.specs.Lines as definitions
 use Rattle.fk_asm.proofs.lines.lines_of.Goals as goal
 
 pub returns : goal.returns
-returns c = map_from_collect _ c.collect.ensures.ran (YieldsList-from_slice_split _ definitions.is_line_feed c.args.text.now c.split.ensures.rest c.split.ensures.done c.split.ensures.closure (λ x b q k. search rules))
+returns c = map_from_collect _ c.collect.ensures.ran (YieldsList-from_slice_split _ definitions.is_line_feed c.args.text.now c.split.ensures.rest
+    c.split.ensures.done c.split.ensures.closure (λ x b q k. search rules))

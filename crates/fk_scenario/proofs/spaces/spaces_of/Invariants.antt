@@ -4,4 +4,5 @@ use Rattle.fk_scenario.specs.Spaces as spec
 use Rattle.fk_scenario.proofs.spaces.spaces_of.Given as goal
 
 abbrev pub invariant-loop-value : goal.invariant-loop-value
-invariant-loop-value l = spec.spaces_from l.programs l.spaces (items_view (drop l.value-index l.value-items)) ≡ spec.spaces_from l.programs [] (items_view l.value-items)
+invariant-loop-value l = spec.spaces_from l.programs l.spaces (items_view (drop l.value-index l.value-items))
+    ≡ spec.spaces_from l.programs [] (items_view l.value-items)
