@@ -1,5 +1,5 @@
 -- A move of a free thread alone, where no call is known, is an instruction of the machine of `exec`.
-use Rattle.std.proofs.Common.{◌≡◌, ℕ, Bool, true, false, ◌&&◌, List, [], Option, Some, None, refl, sym, ap, subst, ◌∙◌}
+use Rattle.std.proofs.Common.{◌≡◌, Bool, true, false, [], Option, Some, None, refl, sym, subst, ◌∙◌}
 use Rattle.fk_model.specs.declared.moves.Ask.TheVariants as asks
 use Rattle.fk_model.specs.Holds.{is_free}
 use Rattle.fk_model.specs.Moves.{with_pick, goes_on_by, user_move_by, known_step, known_outcome, stepped}

@@ -1,8 +1,7 @@
 -- The command `play`: what a scenario and a trace come to.
-use Rattle.std.specs.Prelude.{◌≡◌, ◌<◌, ℕ, Bool, true, false, List, [], length, Option, Some, None, Result, Ok, Err, if◌then◌else◌}
+use Rattle.std.specs.Prelude.{◌≡◌, ◌<◌, ℕ, List, [], length, Option, Some, None, Result, Ok, Err, if◌then◌else◌}
 use Rattle.fk_causes.specs.Shelf.{FileMap, HasAt}
 use Rattle.fk_kernel.specs.Events.{IsAnyReady}
-use Rattle.fk_model.specs.declared.moves.Move.{Move}
 use Rattle.fk_model.specs.World.{World}
 use Rattle.fk_fields.specs.declared.fail.ScenarioError.{ScenarioError}
 use Rattle.fk_scenario.specs.declared.scenario.Scenario.{Scenario}

@@ -1,5 +1,5 @@
 -- What is prepared of a command before anything is written, and why nothing is.
-use Rattle.std.specs.Prelude.{◌≡◌, ◌<◌, ⊤, ℕ, List, [], Option, Some, None, Result, Ok, Err, length, string_bytes}
+use Rattle.std.specs.Prelude.{◌≡◌, ◌<◌, ⊤, ℕ, List, [], Option, None, Result, Ok, Err, length, string_bytes}
 use Rattle.std.specs.Bool.{OnFalse}
 use Rattle.fk_asm.specs.declared.fail.AsmError.{AsmError}
 use Rattle.fk_causes.specs.Causes.{Rose, MayHold}

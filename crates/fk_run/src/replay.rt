@@ -2,7 +2,7 @@
 ghost use Rattle.std.specs.Prelude.{◌≡◌, ◌<◌, ◌≤◌, List, length, IfOk, IfErr, IfSome, IfNone};
 ghost use Rattle.fk_model.specs.declared.moves.Move as moves_of;
 ghost use Rattle.fk_traces.specs.Trace.{BeginsWith, BeginsWithNone, Spells};
-ghost use Rattle.fk_run.specs.Replay.{IsReadyMove, MayPlay, played, IsCause, GivesMoves};
+ghost use Rattle.fk_run.specs.Replay.{IsReadyMove, MayPlay, after_move, played, IsCause, GivesMoves};
 ghost use Rattle.fk_run.specs.declared.replay.ReplayFail.TheVariants as fails;
 ghost use Rattle.fk_store.specs.World.{world};
 
@@ -28,27 +28,35 @@ impl From<NoMemory> for ReplayFail {
     }
 }
 
-/// The move whose line a text begins with, where it is ready and may be made after so many others,
-/// and what stands after that line.
-fn next_move<'a>(
-    kernel: &Kernel,
+/// Makes the move whose line a text begins with, where it is ready and may be made after so many
+/// others, and gives it with what stands after that line.
+///
+/// # Errors
+///
+/// The kernel has no memory for the move.
+fn make_next<'a>(
+    kernel: &mut Kernel,
     budget: u64,
     done: u64,
     text: &'a [u8],
-) -> Option<(Move, &'a [u8])>
-    ensures found { IfSome result (λ next. BeginsWith text.now next.0 next.1.now) }
-    ensures may { IfSome result (λ next. (done < budget) × IsReadyMove (world kernel.now) next.0) }
-    ensures none { IfNone result
-        (BeginsWithNone (λ move. (done < budget) × IsReadyMove (world kernel.now) move) text.now) }
+) -> Result<Option<(Move, &'a [u8])>, NoMemory>
+    ensures found { IfOk result (λ made. IfSome made (λ next. BeginsWith text.now next.0 next.1.now)) }
+    ensures may { IfOk result (λ made. IfSome made (λ next.
+        (done < budget) × IsReadyMove (world kernel.old) next.0)) }
+    ensures world { IfOk result (λ made. IfSome made (λ next.
+        world kernel.new ≡ after_move (world kernel.old) next.0)) }
+    ensures none { IfOk result (λ made. IfNone made
+        (BeginsWithNone (λ move. (done < budget) × IsReadyMove (world kernel.old) move) text.now)) }
 {
     if done >= budget {
-        return None;
+        return Ok(None);
     }
-    let (one, after) = first_move(text)?;
-    if kernel.ready(&one, &Ask::Run) {
-        Some((one, after))
-    } else {
-        None
+    let Some((one, after)) = first_move(text) else {
+        return Ok(None);
+    };
+    match kernel.attempt(&one, &Ask::Run)? {
+        Some(_) => Ok(Some((one, after))),
+        None => Ok(None),
     }
 }
 
@@ -79,11 +87,10 @@ pub fn replay(
     let mut moves = Items::new(alloc);
     while !rest.is_empty() {
         let index = moves.len() as u64;
-        let Some((one, after)) = next_move(kernel, budget, index, rest) else {
+        let Some((one, after)) = make_next(kernel, budget, index, rest)? else {
             return Err(ReplayFail::Trace { index });
         };
         moves.push(one)?;
-        kernel.step(&one, &Ask::Run)?;
         rest = after;
     }
     Ok(moves)

@@ -1,6 +1,5 @@
-use Rattle.std.proofs.Common.{◌≡◌, ℕ, List, Ok, Some, rules}
+use Rattle.std.proofs.Common.{◌≡◌, Ok, Some, rules}
 use Rattle.fk_causes.specs.Shelf.{HasAt}
-use Rattle.fk_run.specs.declared.top.Outcome.{Outcome}
 use Rattle.fk_run.specs.Commands.{trace_name}
 use Rattle.fk_run.specs.Play.{IsPlayed, IsPlay, scenario_to_run}
 use Rattle.fk_run.proofs.Due.{comes-also}
