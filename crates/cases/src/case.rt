@@ -1,4 +1,10 @@
 //! Cases, as sections spell them.
+//!
+//! `case NAME` begins one with nothing in it, `again NAME` one with the words, the source and the files
+//! of the one before. Then `words A B` and `word A` are the words of the command, `source` and
+//! `file NAME` have content, `room N` is what the sink takes, and `fails` is read by `Fails::take`.
+//! What must come of it: `status N`, `error TEXT` for the line of the fault, `output` with content, and
+//! `after NAME` with what a file of the shelf holds then. All other files are to be as they were.
 use crate::ending::Ending;
 use crate::fails::Fails;
 use crate::section::Section;

@@ -69,7 +69,13 @@ impl Fails {
         Ok(fails)
     }
 
-    /// Takes `OBJECT A..B`, calls that fail in turn, or `OBJECT A B C`, calls that all fail.
+    /// Takes `OBJECT A B C`, calls that all fail, or `OBJECT A..B`, for each of which the case is
+    /// called once, with that call failing. The object is `source`, `sink` or `shelf`, and its calls are
+    /// counted from 1.
+    ///
+    /// # Errors
+    ///
+    /// Where the text isn't of this form, and for want of memory.
     pub fn take(&mut self, text: &str) -> anyhow::Result<()> {
         let (word, calls) = text.split_once(' ').context("which calls fail")?;
         let object = object_of(word)?;
