@@ -1,6 +1,5 @@
 -- Ready: when the freezing rule and the picks let a verdict be.
-use Rattle.std.proofs.Common.{◌≡◌, ℕ, Bool, true, false, not, ◌&&◌, ◌||◌, ◌==◌, ◌↔◌, IsTrue, is_none, List, [], ◌∷◌, ◌++◌, Option, Some, None, IsSome, cond, eqb, slice_set, refl, sym, ap, subst}
-use Rattle.std.specs.List.{list_any}
+use Rattle.std.proofs.Common.{◌≡◌, ℕ, Bool, true, false, not, ◌&&◌, ◌||◌, ◌==◌, ◌↔◌, IsTrue, is_none, List, [], ◌∷◌, ◌++◌, Option, Some, None, IsSome, cond, eqb, slice_set, refl, ap, subst}
 use Rattle.fk_model.specs.declared.names.Who.{Who}
 use Rattle.fk_model.specs.Places.{Path, Ptr}
 use Rattle.fk_model.specs.Places.Ptr.{At}
@@ -9,22 +8,20 @@ use Rattle.fk_model.specs.Objects.Mode.{Running, Calling, Halted, Native}
 use Rattle.fk_model.specs.Objects.Body.{Mutex, Cond, Mapping, Region, Port, Portset, Space, Thread_of, Reference}
 use Rattle.fk_model.specs.World.{World, Change, Edit}
 use Rattle.fk_model.specs.World.Change.{Alter, Make, MakeSpace, PutPage}
-use Rattle.fk_model.specs.World.Edit.{SetFault, SetLocked, SetPointer, Proceed}
+use Rattle.fk_model.specs.World.Edit.{SetFault, SetLocked, Proceed}
 use Rattle.fk_model.specs.Instructions.{next}
 use Rattle.fk_model.specs.Reach.{words_at}
 use Rattle.fk_model.specs.UserRows.{proceeds}
 use Rattle.fk_model.specs.ObjectRows.{new_object}
-use Rattle.fk_model.specs.Searches.{option_list, fault_pointers, pointers, thread_at}
-use Rattle.fk_model.specs.Holds.{is_frozen, is_frozen_for, leads_to_frozen, is_free, is_user}
+use Rattle.fk_model.specs.Searches.{option_list, pointers, thread_at}
+use Rattle.fk_model.specs.Holds.{is_frozen, is_frozen_for, is_free, is_user}
 use Rattle.fk_model.specs.Outcomes as outcomes
 use Rattle.fk_model.specs.Outcomes.{Outcome, when, done, telling}
 use Rattle.fk_model.specs.Outcomes.Outcome.{Refused, Waits, Goes}
-use Rattle.fk_model.specs.Freezing.{changed_pointers, made_pointers, are_unfrozen, body_pointers, MayAlter, MayMake, IsAllowed, AreAllowed}
+use Rattle.fk_model.specs.Freezing.{changed_pointers, MayAlter, MayMake, IsAllowed, AreAllowed}
 use Rattle.fk_model.specs.Moves.{closed, with_pick, GoesAllowed}
 use Rattle.fk_store.specs.Contents.{Contents}
 use Rattle.fk_store.specs.Paths.{path, place}
-use Rattle.fk_store.specs.Bodies.{pointer_by}
-use Rattle.fk_threads.specs.Answers.{listed}
 use Rattle.fk_store.specs.Moves.{picked_by}
 use Rattle.fk_store.specs.Threads.{is_free_at}
 use Rattle.fk_store.specs.World.{world}

@@ -1,6 +1,5 @@
 -- Spaces: where an object is one.
-use Rattle.std.proofs.Common.{◌≡◌, ℕ, Option, Some, None, refl}
-use Rattle.fk_model.specs.Objects.{Body}
+use Rattle.std.proofs.Common.{◌≡◌, ℕ, Option, Some, refl}
 use Rattle.fk_model.specs.Objects.Body.{Space}
 use Rattle.fk_model.specs.Places.{Path, Ptr}
 use Rattle.fk_model.specs.Valid.{birth_at}

@@ -135,13 +135,13 @@ ends_lone answers t (stage ∷ second ∷ todo) rest lone = absurd (cc)
 pub finish_on : (p : ℕ → Path) (t : threads_of.Thread) (answers : Answers) (code : ℕ) → length t.regs ≡ 16 →
     t.mode ≡ modes.Calling → Some code ≡ code_after (slice_index t.regs 0) → LeaveArguments answers (todo_of_mode (mode_by t.mode t.regs)) →
     edited (Finish (listed answers))
-        (Thread_of (thread_by p t)) ≡ Thread_of (thread_by p (record t { regs = slice_set (with_answers (listed answers) t.regs) 0 code }))
+    (Thread_of (thread_by p t)) ≡ Thread_of (thread_by p (record t { regs = slice_set (with_answers (listed answers) t.regs) 0 code }))
 unfolding edited Goes GoesOn
 finish_on p t answers code long is after apart = rw is (ap Thread_of (goes_on answers (thread_by p t) t.regs long code (sym after) (rw is at apart)))
 
 pub end_well : (p : ℕ → Path) (t : threads_of.Thread) (answers : List ℕ) → length t.regs ≡ 16 → t.mode ≡ modes.Calling →
     edited (End OK answers) (Thread_of (thread_by p t)) ≡ Thread_of
-        (thread_by p (record t { regs = with_answers answers (slice_set t.regs 0 OK); pc = (t.pc + 1) % 2 ^ 64; mode = modes.Running }))
+    (thread_by p (record t { regs = with_answers answers (slice_set t.regs 0 OK); pc = (t.pc + 1) % 2 ^ 64; mode = modes.Running }))
 unfolding edited
 end_well p t answers long is = rw is
     (ap (λ g. Thread_of (record (thread_by p t) { mode = Running (with_answers answers g); counter = (t.pc + 1) % 2 ^ 64 })) (words-status t.regs OK long))

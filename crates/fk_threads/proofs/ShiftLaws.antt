@@ -1,5 +1,5 @@
 -- Shifts: a moved block in registers, and the Receive that they name.
-use Rattle.std.proofs.Common.{◌≡◌, ℕ, ◌+◌, ◌<◌, ◌^◌, min, Bool, true, false, cond, eqb, ◌||◌, List, [], ◌∷◌, length, get_or, Option, Some, None, is_some, unwrap_or, slice_index, refl, sym, ap, subst, ◌∙◌, arith}
+use Rattle.std.proofs.Common.{◌≡◌, ℕ, ◌+◌, ◌<◌, ◌^◌, min, Bool, true, false, cond, eqb, ◌||◌, List, [], ◌∷◌, length, Option, Some, None, unwrap_or, slice_index, refl, sym, ap, subst, ◌∙◌}
 use Rattle.std.proofs.lemmas.Bool.{eqb-true}
 use Rattle.fk_model.specs.declared.stage.Stage.{Stage}
 use Rattle.fk_model.specs.declared.thread.Mode as modes_of
@@ -9,11 +9,10 @@ use Rattle.fk_model.specs.declared.thread.Talk as talks_of
 use Rattle.fk_model.specs.declared.thread.Thread as threads_of
 use Rattle.fk_model.specs.declared.thread.Turn.TheVariants as turns
 use Rattle.fk_model.specs.Places.{Path}
-use Rattle.fk_model.specs.Calls.{Call, calls, code_of, named_by, todo_of, rest_of}
-use Rattle.fk_model.specs.Objects.{Thread, Body, and_then, thread_of}
+use Rattle.fk_model.specs.Calls.{calls, code_of, todo_of, rest_of}
 use Rattle.fk_model.specs.Objects.Body.{Thread_of}
-use Rattle.fk_model.specs.Objects.Mode.{Running, Calling, Halted, Native}
-use Rattle.fk_model.specs.Talks.{receiving, receive_on}
+use Rattle.fk_model.specs.Objects.Mode.{Calling}
+use Rattle.fk_model.specs.Talks.{receiving}
 use Rattle.fk_model.specs.World.{World, edited, apply, shifted_in}
 use Rattle.fk_model.specs.World.Change.{Alter}
 use Rattle.fk_model.specs.World.Edit.{Shift, CountMoved}

@@ -1,5 +1,5 @@
 -- Sends: who is where, so that both ends can be advanced.
-use Rattle.std.proofs.Common.{◌≡◌, ℕ, ◌+◌, ◌<◌, ◌^◌, ◌/◌, Bool, true, false, cond, List, [], ◌∷◌, ◌++◌, Option, Some, None, option_map, IfSome, nat_lt, refl, sym, ap, subst, ◌∙◌, arith}
+use Rattle.std.proofs.Common.{◌≡◌, ℕ, ◌+◌, ◌<◌, ◌^◌, ◌/◌, Bool, true, false, cond, List, [], ◌∷◌, Option, Some, None, option_map, IfSome, nat_lt, refl, sym, ap, subst, ◌∙◌, arith}
 use Rattle.std.proofs.lemmas.Bool.Decides.{nat_tests}
 use Rattle.fk_model.specs.declared.stage.Stage.{Stage}
 use Rattle.fk_model.specs.declared.stage.Stage.TheVariants.{ClientSend, ServerReceive}
@@ -10,8 +10,8 @@ use Rattle.fk_model.specs.Objects.Mode.{Running, Calling, Halted, Native}
 use Rattle.fk_model.specs.Outcomes.{Caller, Outcome, done, telling}
 use Rattle.fk_model.specs.Outcomes.Said.{Nothing}
 use Rattle.fk_model.specs.Places.{Path, same_path}
-use Rattle.fk_model.specs.Reach.{Reach, reach_word, reach}
-use Rattle.fk_model.specs.Reach.Reach.{Home, Missing, Bad}
+use Rattle.fk_model.specs.Reach.{reach_word, reach}
+use Rattle.fk_model.specs.Reach.Reach.{Home, Bad}
 use Rattle.fk_model.specs.Talks.{receiving}
 use Rattle.fk_model.specs.Talks as talks
 use Rattle.fk_model.specs.Places.Ptr.{At}

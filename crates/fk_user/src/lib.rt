@@ -49,8 +49,7 @@ pub fn judge(store: &Store, caller: Caller, known: Known) -> Verdict
 /// such call. What is no running thread stays as it is.
 #[tactic(auto, unfolding(crate::specs::Known::run_at))]
 pub fn take_alone(store: &mut Store, me: Who)
-    ensures step
-        { stepped (world store.old) (run_at no_calls (world store.old) (place (path store.old) me)) ≡ record { world = world store.new; said = Nothing } }
+    ensures step { stepped (world store.old) (run_at no_calls (world store.old) (place (path store.old) me)) ≡ record { world = world store.new; said = Nothing } }
 {
     if let Some(&thread) = store.thread(me) {
         if let Mode::Running = thread.mode {

@@ -1,6 +1,4 @@
-use Rattle.std.proofs.Common.{◌≡◌, length, arith, refl, sym, ap, ◌∙◌}
-use Rattle.fk_model.specs.Objects.Body.{Thread_of}
-use Rattle.fk_store.specs.Bodies.{thread_by}
+use Rattle.std.proofs.Common.{◌≡◌, length, arith}
 use Rattle.fk_threads.proofs.ShiftLaws.{shift_calling, address_calling}
 use Rattle.fk_threads.proofs.shifts.advanced.Goals as goal
 

@@ -1,4 +1,3 @@
-use Rattle.std.proofs.Common.{◌≡◌, refl}
 use Rattle.fk_threads.proofs.ShiftLaws.{count_some, count_none}
 use Rattle.fk_threads.proofs.shifts.counted.Goals as goal
 

@@ -1,4 +1,4 @@
-use Rattle.std.proofs.Common.{◌≡◌, ◌<◌, ◌+◌, arith}
+use Rattle.std.proofs.Common.{◌<◌, ◌+◌, arith}
 use Rattle.fk_store.specs.Paths.{path, place}
 use Rattle.fk_store.specs.World.{world}
 use Rattle.fk_transfer.proofs.SendLaws.{own_low}
