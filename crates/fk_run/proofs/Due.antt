@@ -8,11 +8,12 @@ use Rattle.fk_run.specs.declared.prepared.Prepared.{Prepared}
 use Rattle.fk_run.specs.declared.status.Status.{Status}
 use Rattle.fk_run.specs.declared.status.Status.TheVariants.{Usage}
 use Rattle.fk_run.specs.declared.top.Outcome.{Outcome}
-use Rattle.fk_run.specs.Commands.{Command}
+use Rattle.fk_run.specs.Commands.{Command, Show}
 use Rattle.fk_run.specs.Outcomes.{without_report}
 use Rattle.fk_run.specs.Prepared.{ComesTo}
 use Rattle.fk_run.specs.Status.{was_cut_short}
-use Rattle.fk_run.specs.Top.{IsDone}
+use Rattle.fk_run.specs.Show.{IsShow}
+use Rattle.fk_run.specs.Top.{IsDue, IsDone}
 
 -- one fact of an outcome and an output gives another
 pub comes-also : (P Q : Outcome → List ℕ → Type 0) →
@@ -41,3 +42,10 @@ no-command command none left files written = record {
   due = record { bytes = (held left).0; held = (held left).1; called_for = rw none (refl, refl) };
   written = appended-nothing written;
 }
+
+-- `show` looks at no source, which may hold anything
+pub show-due : (name : List ℕ) (left : Option (List ℕ)) (files : Option FileMap) (r : Result Prepared Status) →
+    ComesTo (IsShow name files) r → ComesTo (IsDue (Some (Show name)) left files) r
+show-due name left files r comes =
+    comes-also (IsShow name files)
+    (IsDue (Some (Show name)) left files) (λ outcome text shown. record { bytes = (held left).0; held = (held left).1; called_for = shown }) r comes

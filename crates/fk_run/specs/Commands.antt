@@ -10,20 +10,27 @@ pub data Command : Type 0 where
   Exec : Command
   -- the source's scenario is run by the moves of the trace with this name
   Play : (name : List ℕ) → Command
+  -- the counts of the image with this name are shown
+  Show : (name : List ℕ) → Command
 
 -- the same as the code has it
 abbrev pub seen : code.Command → Command
 seen variants.Exec = Exec
 seen (variants.Play name) = Play name.now
+seen (variants.Show name) = Show name.now
 
-abbrev pub play_of : List ℕ → Option Command
-play_of name = if is_name name then Some (Play name) else None
+-- a command with a name
+abbrev pub named : (List ℕ → Command) → List ℕ → Option Command
+named command name = if is_name name then Some (command name) else None
 
 -- the command that the words are; none where they are no command
 abbrev pub command_of : List (List ℕ) → Option Command
 command_of [] = None
 command_of (word ∷ []) = if pointwise nat_eq word (codes "exec") then Some Exec else None
-command_of (word ∷ name ∷ []) = if pointwise nat_eq word (codes "play") then play_of name else None
+command_of (word ∷ name ∷ []) =
+    if pointwise nat_eq word (codes "play") then named Play name
+    else if pointwise nat_eq word (codes "show") then named Show name
+    else None
 command_of (word ∷ name ∷ more ∷ words) = None
 
 -- ---- what a command looks at
@@ -32,12 +39,18 @@ abbrev pub reads_source : Option Command → Bool
 reads_source None = false
 reads_source (Some Exec) = true
 reads_source (Some (Play name)) = true
+reads_source (Some (Show name)) = false
 
 abbrev pub reads_shelf : Option Command → Bool
 reads_shelf None = false
 reads_shelf (Some Exec) = false
 reads_shelf (Some (Play name)) = true
+reads_shelf (Some (Show name)) = true
 
 -- the name under which a trace lies on the shelf
 abbrev pub trace_name : List ℕ → List ℕ
 trace_name name = name ++ codes ".trc"
+
+-- the name under which an image lies there
+abbrev pub image_name : List ℕ → List ℕ
+image_name name = name ++ codes ".img"

@@ -10,3 +10,4 @@ pub mod Replay
 pub mod Play
 pub mod Top
 pub mod Prepared
+pub mod Show

@@ -6,13 +6,13 @@ use Rattle.fk_causes.specs.Causes.{Rose, MayHold}
 use Rattle.fk_causes.specs.declared.whole.TheConstants.{LIMIT}
 use Rattle.fk_causes.specs.Shelf.{FileMap, HasAt}
 use Rattle.fk_fields.specs.declared.fail.ScenarioError.{ScenarioError}
+use Rattle.fk_image.specs.declared.image.Image.{Image}
 use Rattle.fk_scenario.specs.declared.scenario.Scenario.{Scenario}
 use Rattle.fk_run.specs.declared.prepared.Prepared.{Prepared}
 use Rattle.fk_run.specs.declared.status.Status.{Status}
-use Rattle.fk_run.specs.declared.status.Status.TheVariants.{Ok as Done, Usage, TooLong, BadText, BadScenario, Absent, BadTrace, Budget, ReadFault, WriteFault, ShelfFault, NoMemory}
+use Rattle.fk_run.specs.declared.status.Status.TheVariants.{Ok as Done, Usage, TooLong, BadText, BadScenario, Absent, BadImage, BadTrace, Budget, ReadFault, WriteFault, ShelfFault, NoMemory}
 use Rattle.fk_run.specs.declared.top.Outcome.{Outcome}
 use Rattle.fk_boot.specs.FirstWorld.{booted}
-use Rattle.fk_run.specs.Commands.{trace_name}
 use Rattle.fk_run.specs.Outcomes.{without_report}
 use Rattle.fk_run.specs.Replay.{MayPlay}
 use Rattle.fk_run.specs.Status.{was_cut_short, progress_of, Finished}
@@ -37,6 +37,7 @@ IsRefusal AtSource AtShelf TooLong = ⊤
 IsRefusal AtSource AtShelf (BadText line reason) = ⊤
 IsRefusal AtSource AtShelf (BadScenario rule section index) = ⊤
 IsRefusal AtSource AtShelf (Absent name) = ⊤
+IsRefusal AtSource AtShelf (BadImage name offset reason) = ⊤
 IsRefusal AtSource AtShelf (BadTrace index) = ⊤
 IsRefusal AtSource AtShelf (Budget budget) = ⊥
 IsRefusal AtSource AtShelf ReadFault = AtSource
@@ -65,12 +66,18 @@ IsScenarioFail reading (BadScenario rule section index) = reading ≡ Err (recor
 IsScenarioFail reading NoMemory = ⊤
 IsScenarioFail reading other = ⊥
 
--- a shelf without the trace
-abbrev pub IsTraceFail : List ℕ → Option FileMap → ℕ → ℕ → Status → Type 0
-IsTraceFail name files before now (Absent told_name) = (told_name ≡ name) × HasAt files (trace_name name) None
-IsTraceFail name files before now ShelfFault = Rose before now
-IsTraceFail name files before now NoMemory = ⊤
-IsTraceFail name files before now other = ⊥
+-- a shelf without the file of a name
+abbrev pub IsFileFail : List ℕ → List ℕ → Option FileMap → ℕ → ℕ → Status → Type 0
+IsFileFail file name files before now (Absent told_name) = (told_name ≡ name) × HasAt files file None
+IsFileFail file name files before now ShelfFault = Rose before now
+IsFileFail file name files before now NoMemory = ⊤
+IsFileFail file name files before now other = ⊥
+
+-- a file that is no image
+abbrev pub IsImageFail : List ℕ → Result Image (ℕ × ℕ) → Status → Type 0
+IsImageFail name reading (BadImage told_name offset reason) = (told_name ≡ name) × (reading ≡ Err (offset, reason))
+IsImageFail name reading NoMemory = ⊤
+IsImageFail name reading other = ⊥
 
 -- a trace that isn't played
 abbrev pub IsReplayFail : Scenario → List ℕ → Status → Type 0

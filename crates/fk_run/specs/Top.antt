@@ -9,10 +9,11 @@ use Rattle.fk_causes.specs.Shelf.{FileMap}
 use Rattle.fk_run.specs.declared.status.Status.{Status}
 use Rattle.fk_run.specs.declared.status.Status.TheVariants.{Usage, TooLong}
 use Rattle.fk_run.specs.declared.top.Outcome.{Outcome}
-use Rattle.fk_run.specs.Commands.{Command, Exec, Play, reads_source}
+use Rattle.fk_run.specs.Commands.{Command, Exec, Play, Show, reads_source}
 use Rattle.fk_run.specs.Exec.{IsExec}
 use Rattle.fk_run.specs.Outcomes.{IsRefused}
 use Rattle.fk_run.specs.Play.{IsPlay, scenario_to_run}
+use Rattle.fk_run.specs.Show.{IsShow}
 use Rattle.fk_run.specs.Status.{progress_of, is_past_reading}
 
 -- a source that holds too many bytes is refused, and else they come to what they call for
@@ -24,6 +25,7 @@ abbrev pub IsCalledFor : Option Command → Option FileMap → List ℕ → Outc
 IsCalledFor None files bytes outcome text = IsRefused Usage outcome text
 IsCalledFor (Some Exec) files bytes outcome text = IsUnlessTooLong bytes (IsExec (assembled bytes)) outcome text
 IsCalledFor (Some (Play name)) files bytes outcome text = IsUnlessTooLong bytes (IsPlay name files (scenario_to_run bytes)) outcome text
+IsCalledFor (Some (Show name)) files bytes outcome text = IsShow name files outcome text
 
 -- the same over whatever the source holds: where it tells its bytes, these
 pub record IsDue (command : Option Command) (left : Option (List ℕ)) (files : Option FileMap) (outcome : Outcome) (text : List ℕ) : Type 0 where

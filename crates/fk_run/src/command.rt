@@ -11,6 +11,8 @@ pub enum Command<'a> {
     Exec,
     /// Runs the source's scenario by the moves of the trace with this name.
     Play(&'a str),
+    /// Shows the counts of the image with this name.
+    Show(&'a str),
 }
 
 /// The command of these words, if they are one.
@@ -21,6 +23,9 @@ pub fn command_of(words: &[String]) -> Option<Command<'_>>
         [word] if word.as_str() == "exec" => Some(Command::Exec),
         [word, name] if word.as_str() == "play" && is_name(name.as_bytes()) => {
             Some(Command::Play(name.as_str()))
+        }
+        [word, name] if word.as_str() == "show" && is_name(name.as_bytes()) => {
+            Some(Command::Show(name.as_str()))
         }
         _ => None,
     }

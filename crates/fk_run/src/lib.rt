@@ -4,11 +4,11 @@
 //! A command prepares a run (`prepared`): its status, its report and what is to be written. `top` finds
 //! the command, prepares it, and alone writes and answers. `exec` assembles a text and lets `machine`
 //! run it. `play` makes the first world of a scenario, makes the moves of a trace (`replay`), and
-//! prepares the report.
+//! prepares the report. `show` prepares the counts of an image.
 //!
 //! It stands on `fk_asm` for programs, on `fk_scenario`, `fk_boot`, `fk_traces`, `fk_kernel` and
-//! `fk_report` for what is played, on `fk_store` and `fk_user` for the machine of `exec`, and on
-//! `fk_causes` for the source, the sink and the shelf.
+//! `fk_report` for what is played, on `fk_store` and `fk_user` for the machine of `exec`, on `fk_codec`
+//! and `fk_show` for images, and on `fk_causes` for the source, the sink and the shelf.
 //!
 //! It promises that `fluke_top` ends with the outcome, and writes the bytes, that the words call for
 //! (`specs/Top.antt`); that it answers a fault only where one happened in this call; and that
@@ -23,6 +23,8 @@ mod machine;
 mod play;
 mod prepared;
 mod replay;
+mod shelf_file;
+mod show;
 mod source_text;
 mod status;
 mod top;

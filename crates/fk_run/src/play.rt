@@ -6,18 +6,18 @@ ghost use Rattle.fk_scenario.specs.Kept.{Keeps};
 ghost use Rattle.fk_store.specs.World.{world};
 ghost use Rattle.fk_run.specs.Commands.{trace_name};
 ghost use Rattle.fk_run.specs.Play.{IsEnd, IsPlay, IsPlayed, scenario_to_run, status_of_end};
-ghost use Rattle.fk_run.specs.Prepared.{ComesTo, IsRefusal, IsScenarioFail, IsTraceFail, outcome_of};
+ghost use Rattle.fk_run.specs.Prepared.{ComesTo, IsRefusal, IsScenarioFail, IsFileFail, outcome_of};
 ghost use Rattle.fk_run.specs.Status.{progress_of, Finished};
 ghost use Rattle.fk_report.specs.Threads.{AreThreads};
 
 use crate::prepared::Prepared;
 use crate::replay::{ReplayFail, replay};
+use crate::shelf_file::file_of;
 use crate::status::Status;
 use crate::top::Report;
 use fk_boot::{boot, is_bootable};
-use fk_causes::{Shelf, ShelfFail};
+use fk_causes::Shelf;
 use fk_kernel::Kernel;
-use fk_model::Text;
 use fk_report::{End, ThreadState, have_halted, report_text, threads_of};
 use fk_scenario::{Scenario, ScenarioFail, read_scenario, server_rules};
 use std::alloc::Global;
@@ -49,19 +49,12 @@ fn scenario_of(alloc: Global, text: &[u8]) -> Result<Scenario, Status>
 /// The trace that the shelf has under a name.
 fn trace_of<H: Shelf>(alloc: Global, shelf: &mut H, name: &str) -> Result<Vec<u8>, Status>
     ensures found { IfOk result (λ trace. HasAt (H.files shelf.old) (trace_name name.now) (Some trace.items)) }
-    ensures fail { IfErr result (IsTraceFail name.now (H.files shelf.old) (H.failed_gets shelf.old) (H.failed_gets shelf.new)) }
+    ensures fail { IfErr result (IsFileFail (trace_name name.now) name.now (H.files shelf.old) (H.failed_gets shelf.old) (H.failed_gets shelf.new)) }
     ensures same_files { H.files shelf.new ≡ H.files shelf.old }
     ensures same_puts { H.failed_puts shelf.new ≡ H.failed_puts shelf.old }
 {
     let file = format!(in alloc; "{name}.trc")?;
-    match shelf.get(file.as_str()) {
-        Ok(Some(trace)) => Ok(trace),
-        Ok(None) => Err(Status::Absent {
-            name: Text::of(alloc, name)?,
-        }),
-        Err(ShelfFail::Failed) => Err(Status::ShelfFault),
-        Err(ShelfFail::NoMemory) => Err(Status::NoMemory),
-    }
+    file_of(alloc, shelf, file.as_str(), name)
 }
 
 /// How a run ends that made so many of the budget's moves and left the kernel with these threads.

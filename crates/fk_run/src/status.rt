@@ -21,6 +21,8 @@ pub enum Status {
     BadScenario { rule: u8, section: u8, index: u32 },
     /// The shelf has nothing of this name, which is needed.
     Absent { name: Text },
+    /// The shelf's image of this name has its first fault at this offset, by this reason, from 1 to 7.
+    BadImage { name: Text, offset: u64, reason: u8 },
     /// The line of the move with this index is the first of the trace that is misspelled, whose move
     /// isn't ready, or that stands at the budget.
     BadTrace { index: u64 },
@@ -48,6 +50,7 @@ impl Status {
             Status::BadText { .. } => 4,
             Status::BadScenario { .. } => 5,
             Status::Absent { .. } => 6,
+            Status::BadImage { .. } => 7,
             Status::BadTrace { .. } => 8,
             Status::Budget { .. } => 10,
             Status::ReadFault => 11,
@@ -97,6 +100,14 @@ pub fn fault_line(alloc: Global, status: &Status) -> Result<String, NoMemory>
         Status::Absent { name } => {
             let name = name.as_str();
             format!(in alloc; "fluke: absent {name}")?
+        }
+        Status::BadImage {
+            name,
+            offset,
+            reason,
+        } => {
+            let name = name.as_str();
+            format!(in alloc; "fluke: bad image {name} offset {offset} reason {reason}")?
         }
         Status::BadTrace { index } => format!(in alloc; "fluke: bad trace index {index}")?,
         Status::Budget { budget } => format!(in alloc; "fluke: budget {budget}")?,

@@ -12,6 +12,7 @@ use crate::command::{Command, command_of};
 use crate::exec::exec;
 use crate::play::play;
 use crate::prepared::Prepared;
+use crate::show::show;
 use crate::source_text::source_text;
 use crate::status::Status;
 use fk_causes::{Failed, Shelf, Sink, Source, write_all};
@@ -58,6 +59,7 @@ fn prepare<R: Source, H: Shelf>(
     match command {
         Command::Exec => exec(alloc, &source_text(alloc, source)?),
         Command::Play(name) => play(alloc, name, &source_text(alloc, source)?, shelf),
+        Command::Show(name) => show(alloc, name, shelf),
     }
 }
 
@@ -67,7 +69,8 @@ fn prepare<R: Source, H: Shelf>(
 /// `exec` assembles the source's text and runs it as one thread, with its words from address 0 on
 /// and zeros after them, for at most 100,000 instructions, and writes how that ended. `play NAME`
 /// reads the source's scenario, makes the moves of the trace that lies on the shelf as `NAME.trc`,
-/// and writes the report of that run; NAME is 1 to 32 characters of `a` to `z`, `0` to `9` and `_`.
+/// and writes the report of that run. `show NAME` reads no source, and writes the counts of the image
+/// that lies on the shelf as `NAME.img`. NAME is 1 to 32 characters of `a` to `z`, `0` to `9` and `_`.
 ///
 /// The status of the outcome says how the call ended. `Usage` comes exactly for words that are no
 /// command, and leaves the source, the sink and the shelf as they were. Unless a read, a write, a get
