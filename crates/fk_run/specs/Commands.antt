@@ -8,6 +8,8 @@ use Rattle.fk_run.specs.declared.command.Command.TheVariants as variants
 pub data Command : Type 0 where
   -- the source's text is assembled and run as one thread
   Exec : Command
+  -- the source's scenario is read, and its counts are told
+  Check : Command
   -- the source's scenario is run by the moves of the trace with this name
   Play : (name : List ℕ) → Command
   -- the counts of the image with this name are shown
@@ -16,6 +18,7 @@ pub data Command : Type 0 where
 -- the same as the code has it
 abbrev pub seen : code.Command → Command
 seen variants.Exec = Exec
+seen variants.Check = Check
 seen (variants.Play name) = Play name.now
 seen (variants.Show name) = Show name.now
 
@@ -26,7 +29,10 @@ named command name = if is_name name then Some (command name) else None
 -- the command that the words are; none where they are no command
 abbrev pub command_of : List (List ℕ) → Option Command
 command_of [] = None
-command_of (word ∷ []) = if pointwise nat_eq word (codes "exec") then Some Exec else None
+command_of (word ∷ []) =
+    if pointwise nat_eq word (codes "exec") then Some Exec
+    else if pointwise nat_eq word (codes "check") then Some Check
+    else None
 command_of (word ∷ name ∷ []) =
     if pointwise nat_eq word (codes "play") then named Play name
     else if pointwise nat_eq word (codes "show") then named Show name
@@ -38,12 +44,14 @@ command_of (word ∷ name ∷ more ∷ words) = None
 abbrev pub reads_source : Option Command → Bool
 reads_source None = false
 reads_source (Some Exec) = true
+reads_source (Some Check) = true
 reads_source (Some (Play name)) = true
 reads_source (Some (Show name)) = false
 
 abbrev pub reads_shelf : Option Command → Bool
 reads_shelf None = false
 reads_shelf (Some Exec) = false
+reads_shelf (Some Check) = false
 reads_shelf (Some (Play name)) = true
 reads_shelf (Some (Show name)) = true
 

@@ -11,3 +11,4 @@ pub mod Play
 pub mod Top
 pub mod Prepared
 pub mod Show
+pub mod Check

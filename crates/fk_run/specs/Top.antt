@@ -6,10 +6,13 @@ use Rattle.fk_asm.specs.Assembler.{assembled}
 use Rattle.fk_causes.specs.Causes.{MayHold, AppendsPrefix}
 use Rattle.fk_causes.specs.declared.whole.TheConstants.{LIMIT}
 use Rattle.fk_causes.specs.Shelf.{FileMap}
+use Rattle.fk_scenario.specs.Reading.{reading}
+use Rattle.fk_scenario.specs.Rules.{server_rules}
 use Rattle.fk_run.specs.declared.status.Status.{Status}
 use Rattle.fk_run.specs.declared.status.Status.TheVariants.{Usage, TooLong}
 use Rattle.fk_run.specs.declared.top.Outcome.{Outcome}
-use Rattle.fk_run.specs.Commands.{Command, Exec, Play, Show, reads_source}
+use Rattle.fk_run.specs.Check.{IsCheck}
+use Rattle.fk_run.specs.Commands.{Command, Exec, Check, Play, Show, reads_source}
 use Rattle.fk_run.specs.Exec.{IsExec}
 use Rattle.fk_run.specs.Outcomes.{IsRefused}
 use Rattle.fk_run.specs.Play.{IsPlay, scenario_to_run}
@@ -24,6 +27,7 @@ IsUnlessTooLong bytes Is outcome text = MatchBool (nat_lt LIMIT (length bytes)) 
 abbrev pub IsCalledFor : Option Command → Option FileMap → List ℕ → Outcome → List ℕ → Type 0
 IsCalledFor None files bytes outcome text = IsRefused Usage outcome text
 IsCalledFor (Some Exec) files bytes outcome text = IsUnlessTooLong bytes (IsExec (assembled bytes)) outcome text
+IsCalledFor (Some Check) files bytes outcome text = IsUnlessTooLong bytes (IsCheck (reading server_rules bytes)) outcome text
 IsCalledFor (Some (Play name)) files bytes outcome text = IsUnlessTooLong bytes (IsPlay name files (scenario_to_run bytes)) outcome text
 IsCalledFor (Some (Show name)) files bytes outcome text = IsShow name files outcome text
 

@@ -9,6 +9,8 @@ use fk_model::is_name;
 pub enum Command<'a> {
     /// Assembles the source's text and runs it as one thread.
     Exec,
+    /// Reads the source's scenario and tells its counts.
+    Check,
     /// Runs the source's scenario by the moves of the trace with this name.
     Play(&'a str),
     /// Shows the counts of the image with this name.
@@ -21,6 +23,7 @@ pub fn command_of(words: &[String]) -> Option<Command<'_>>
 {
     match words {
         [word] if word.as_str() == "exec" => Some(Command::Exec),
+        [word] if word.as_str() == "check" => Some(Command::Check),
         [word, name] if word.as_str() == "play" && is_name(name.as_bytes()) => {
             Some(Command::Play(name.as_str()))
         }

@@ -4,7 +4,7 @@
 //! A command prepares a run (`prepared`): its status, its report and what is to be written. `top` finds
 //! the command, prepares it, and alone writes and answers. `exec` assembles a text and lets `machine`
 //! run it. `play` makes the first world of a scenario, makes the moves of a trace (`replay`), and
-//! prepares the report. `show` prepares the counts of an image.
+//! prepares the report. `check` and `show` prepare the counts of a scenario and of an image.
 //!
 //! It stands on `fk_asm` for programs, on `fk_scenario`, `fk_boot`, `fk_traces`, `fk_kernel` and
 //! `fk_report` for what is played, on `fk_store` and `fk_user` for the machine of `exec`, on `fk_codec`
@@ -15,6 +15,7 @@
 //! `fault_line` says of a status what `specs/Status.antt` has. It always returns.
 #![tactic(auto)]
 
+mod check;
 mod command;
 mod exec;
 mod exec_text;

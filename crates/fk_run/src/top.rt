@@ -8,6 +8,7 @@ ghost use Rattle.fk_run.specs.Prepared.{ComesTo, IsRefusal};
 ghost use Rattle.fk_run.specs.Status.{was_cut_short, has_written_nothing};
 ghost use Rattle.fk_run.specs.Top.{IsDue, IsDone, IsCutOff, has_read_all};
 
+use crate::check::check;
 use crate::command::{Command, command_of};
 use crate::exec::exec;
 use crate::play::play;
@@ -58,6 +59,7 @@ fn prepare<R: Source, H: Shelf>(
 {
     match command {
         Command::Exec => exec(alloc, &source_text(alloc, source)?),
+        Command::Check => check(alloc, &source_text(alloc, source)?),
         Command::Play(name) => play(alloc, name, &source_text(alloc, source)?, shelf),
         Command::Show(name) => show(alloc, name, shelf),
     }
@@ -67,7 +69,8 @@ fn prepare<R: Source, H: Shelf>(
 /// writes to the sink.
 ///
 /// `exec` assembles the source's text and runs it as one thread, with its words from address 0 on
-/// and zeros after them, for at most 100,000 instructions, and writes how that ended. `play NAME`
+/// and zeros after them, for at most 100,000 instructions, and writes how that ended. `check` reads the source's scenario, and
+/// writes its counts. `play NAME`
 /// reads the source's scenario, makes the moves of the trace that lies on the shelf as `NAME.trc`,
 /// and writes the report of that run. `show NAME` reads no source, and writes the counts of the image
 /// that lies on the shelf as `NAME.img`. NAME is 1 to 32 characters of `a` to `z`, `0` to `9` and `_`.
