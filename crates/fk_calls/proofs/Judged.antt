@@ -88,7 +88,7 @@ staged_user w k s pick stage free at = by (thread_at w (k ∷ s)) free at.todo
 
 porter_moves : (w : World) (k : ℕ) (s : Path) (pick : Option Path) (stage : Stage) (words : List ℕ) →
     known_outcome built w (k ∷ s) pick (asks.Call stage words) ≡ when
-        (is_free_porter_at w (k ∷ s)) (when (built.calls (code_of (stage ∷ []))) (call_row w (porter_at (k ∷ s) words) pick stage))
+    (is_free_porter_at w (k ∷ s)) (when (built.calls (code_of (stage ∷ []))) (call_row w (porter_at (k ∷ s) words) pick stage))
 unfolding known_outcome is_free_porter_at
 porter_moves w k s pick stage words = by (thread_at w (k ∷ s))
   where
@@ -154,39 +154,61 @@ porter who = record { who = who; is_porter = true }
 pub instruction_judged : (m : Contents) (move : Move) (v : Verdict) →
     is_free_at (world m) (place (path m) move.who) ≡ true → is_running (thread_at (world m) (place (path m) move.who)) ≡ true →
     outcome_by (world m) (path m) (caller_by (path m) (user move.who) []) v ≡ run_at (todo_known built) (world m) (place (path m) move.who) →
-        IsVerdict m (user move.who) v → IsInstruction m v → IsSureVerdict v →
+    IsVerdict m (user move.who) v → IsInstruction m v → IsSureVerdict v →
     IsJudged m move asks.Run (record { caller = user move.who; chooses = false; verdict = v })
 instruction_judged m move v free running row fits instruction sure =
     let w = world m in
     let c = caller_by (path m) (user move.who) [] in
     let pick = picked_by (path m) move.pick in
     let whole = picked_unrefused c pick _ (instruction_unrefused m w (path m) c v instruction) in
-    record { mover = refl; free = λ u. free; fits = fits; sure = sure; outcome = running_user w move.who.slot (path m move.who.space) pick free running
-        ∙ ap (with_pick false pick) (sym row) ∙ sym whole }
+    record {
+      mover = refl;
+      free = λ u. free;
+      fits = fits;
+      sure = sure;
+      outcome = running_user w move.who.slot (path m move.who.space) pick free running
+          ∙ ap (with_pick false pick) (sym row) ∙ sym whole;
+    }
 
 pub stage_judged : (m : Contents) (move : Move) (stage : Stage) (v : Verdict) →
     is_free_at (world m) (place (path m) move.who) ≡ true → IsAtStage (world m) (place (path m) move.who) stage →
     outcome_by (world m) (path m) (caller_by (path m) (user move.who) []) v ≡ allowed_row
-        (world m) (caller_by (path m) (user move.who) []) (picked_by (path m) move.pick) stage → IsVerdict m (user move.who) v → IsSureVerdict v →
+    (world m) (caller_by (path m) (user move.who) []) (picked_by (path m) move.pick) stage → IsVerdict m (user move.who) v → IsSureVerdict v →
     IsJudged m move asks.Run (record { caller = user move.who; chooses = chooses stage; verdict = v })
 unfolding call_row
 stage_judged m move stage v free at row fits sure =
     let c = caller_by (path m) (user move.who) [] in
     let pick = picked_by (path m) move.pick in
-    record { mover = refl; free = λ u. free; fits = fits; sure = sure; outcome = staged_user (world m)
-        move.who.slot (path m move.who.space) pick stage free at ∙ ap (λ o. closed c (with_pick (chooses stage) pick o)) (sym row) }
+    record {
+      mover = refl;
+      free = λ u. free;
+      fits = fits;
+      sure = sure;
+      outcome = staged_user (world m)
+          move.who.slot (path m move.who.space) pick stage free at ∙ ap (λ o. closed c (with_pick (chooses stage) pick o)) (sym row);
+    }
 
 pub porter_judged : (m : Contents) (move : Move) (stage : Stage) (words : List ℕ) (v : Verdict) →
     is_free_porter_at (world m) (place (path m) move.who) ≡ true → built.calls (code_of (stage ∷ [])) ≡ true →
     outcome_by (world m) (path m) (caller_by (path m) (porter move.who) words) v ≡ allowed_row
-        (world m) (caller_by (path m) (porter move.who) words) (picked_by (path m) move.pick) stage → IsVerdict m (porter move.who) v → IsSureVerdict v →
+    (world m) (caller_by (path m) (porter move.who) words) (picked_by (path m) move.pick) stage → IsVerdict m (porter move.who) v → IsSureVerdict v →
     IsJudged m move (asks.Call stage words) (record { caller = porter move.who; chooses = chooses stage; verdict = v })
 unfolding call_row
 porter_judged m move stage words v free known row fits sure =
     let c = caller_by (path m) (porter move.who) words in
     let pick = picked_by (path m) move.pick in
-    record { mover = refl; free = λ u. absurd (cc); fits = fits; sure = sure; outcome = rw (porter_moves (world m)
-        move.who.slot (path m move.who.space) pick stage words, free, known) (ap (λ o. closed c (with_pick (chooses stage) pick o)) (sym row)) }
+    record {
+      mover = refl;
+      free = λ u. absurd (cc);
+      fits = fits;
+      sure = sure;
+      outcome = rw (
+        porter_moves (world m)
+            move.who.slot (path m move.who.space) pick stage words,
+        free,
+        known,
+      ) (ap (λ o. closed c (with_pick (chooses stage) pick o)) (sym row));
+    }
 
 -- ---- what follows from a judgement
 
@@ -202,14 +224,14 @@ picked c false (Some q) (Goes changes said) w x ready = absurd ready
 
 pub step_judged : (m : Contents) (move : Move) (ask : Ask) (j : Judgement) → IsJudged m move ask j → IsReadyMove m move ask →
     known_step built (world m) (place (path m) move.who) (picked_by (path m) move.pick) ask ≡ stepped
-        (world m) (closed (caller_by (path m) j.caller (words_of ask)) (outcome_by (world m) (path m) (caller_by (path m) j.caller (words_of ask)) j.verdict))
+    (world m) (closed (caller_by (path m) j.caller (words_of ask)) (outcome_by (world m) (path m) (caller_by (path m) j.caller (words_of ask)) j.verdict))
 unfolding known_step
 step_judged m move ask j is ready =
     let w = world m in
     let c = caller_by (path m) j.caller (words_of ask) in
     let pick = picked_by (path m) move.pick in
     ap (stepped w) (is.outcome ∙ picked c
-        j.chooses pick (outcome_by w (path m) c j.verdict) w (place (path m) move.who) (subst (GoesAllowed w (place (path m) move.who)) is.outcome ready))
+    j.chooses pick (outcome_by w (path m) c j.verdict) w (place (path m) move.who) (subst (GoesAllowed w (place (path m) move.who)) is.outcome ready))
 
 pub ready_judged : (m : Contents) (move : Move) (ask : Ask) (j : Judgement) (b : Bool) →
     IsJudged m move ask j → (IsTrue b ↔ GoesAllowed (world m) (place (path m) j.caller.who) (move_by m j.caller (words_of ask) j.chooses move.pick j.verdict)) →

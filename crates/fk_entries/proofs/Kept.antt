@@ -191,7 +191,7 @@ spec_kept kind ms spec h =
   where
     by : (a b c d e f g r : Bool) → cond a (thread_of ms) (cond b (mutex_of ms) (cond c (plain_of (Some Cond) ms) (cond d (mapping_of ms)
         (cond e (region_of ms) (cond f (port_of ms) (cond g (plain_of (Some Portset) ms) (cond r (reference_of ms) (plain_of None ms))))))))
-            ≡ Ok spec → IsInRange spec
+        ≡ Ok spec → IsInRange spec
     by true b c d e f g r h = thread_kept ms spec h
     by false true c d e f g r h = mutex_kept ms spec h
     by false false true d e f g r h = plain_kept (Some Cond) ms spec tt h

@@ -53,8 +53,14 @@ pub record Fields : Type 0 where
 
 -- the same as the code has it
 abbrev pub fields_view : code.Fields → Fields
-fields_view fields = record { kind = fields.kind.now; bind = fields.bind; moment = fields.moment; nester = fields.nester.now; slot = fields.slot;
-    image = fields.image.now }
+fields_view fields = record {
+  kind = fields.kind.now;
+  bind = fields.bind;
+  moment = fields.moment;
+  nester = fields.nester.now;
+  slot = fields.slot;
+  image = fields.image.now;
+}
 
 -- its keys and their types (2)
 unfoldable pub fields_of : Members → Result Fields ℕ

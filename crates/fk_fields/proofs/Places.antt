@@ -32,7 +32,7 @@ position_from-push p n (y ∷ ys) x = by (p y) (position_from-push p (n + 1) ys 
   where
     by : (t : Bool) → position_from p (n + 1) (ys ++ x ∷ []) ≡ or_last (position_from p (n + 1) ys) (cond (p x) (Some (n + 1 + length ys)) None)
         → cond t (Some n) (position_from p (n + 1) (ys ++ x ∷ []))
-            ≡ or_last (cond t (Some n) (position_from p (n + 1) ys)) (cond (p x) (Some (n + length (y ∷ ys))) None)
+        ≡ or_last (cond t (Some n) (position_from p (n + 1) ys)) (cond (p x) (Some (n + length (y ∷ ys))) None)
     by true more = refl
     by false more =
         let same : n + 1 + length ys ≡ n + length (y ∷ ys) = omega arith in

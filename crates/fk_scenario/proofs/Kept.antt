@@ -109,8 +109,12 @@ space_kept programs done ms s h few =
     let same : record { path = path; program = index; pages = pages; nester = fields.nester } ≡ s = cc in
     let keeps : KeepsSpace programs done (record { path = path; program = index; pages = pages; nester = fields.nester }) =
     record { slots = path_kept fields.path path is_path; stands = unless-Ok 5 _ x stands; has_program = index_kept programs fields.program index is_index } in
-    let counted = space_counted done fields.path (record { path = path; program = index; pages = pages;
-        nester = fields.nester }) (unless-Ok 3 _ w room) is_path few in
+    let counted = space_counted done fields.path (record {
+      path = path;
+      program = index;
+      pages = pages;
+      nester = fields.nester;
+    }) (unless-Ok 3 _ w room) is_path few in
     subst (λ (s : SpaceEntry). KeepsSpace programs done s × (count_beneath (done ++ s ∷ []) ≤ 255)) same (keeps, counted))))))))
 
 -- a space that is read keeps its rules, and there is room for it
@@ -160,7 +164,7 @@ objects_kept spaces done no_items all h each = let same : done ≡ all = cc in s
 objects_kept spaces done (item value rest) all h each =
     after (placed 4 (length done) (object_at spaces done value)) _ all h (λ o is_o h.
     objects_kept spaces (done ++ o ∷ []) rest all h (EachAfter-last (KeepsObject spaces) [] done o each (object_read spaces done value o (placed-Ok 4
-        _ _ o is_o))))
+    _ _ o is_o))))
 
 -- a whole document
 
@@ -168,7 +172,7 @@ top_kept : (ms : Members) (top : Top) → top_of ms ≡ Ok top → (1 ≤ top.bu
 unfolding top_of
 top_kept ms top h =
     after (known (codes "budget" ∷ codes "workers" ∷ codes "programs" ∷ codes "space" ∷ codes "object" ∷ codes "server" ∷ codes "job" ∷ []) ms) _ top
-        h (λ _ _ h.
+    h (λ _ _ h.
     after (needed_integer (codes "budget") ms) _ top h (λ budget _ h.
     after (integer_in (codes "workers") ms) _ top h (λ workers _ h.
     after (sections_of ms) _ top h (λ sections _ h.
@@ -211,8 +215,15 @@ second_kept budget workers round s h (a, b, c, d) kept =
     after (aims_from round.spaces round.objects 0 round.objects) _ s h (λ _ aims h.
     after (serving_from round.objects [] [] round.servers) _ s h (λ _ serving h.
     after (jobs_from round.spaces round.servers [] round.jobs) _ s h (λ jobs _ h.
-    let same : record { budget = budget; workers = workers; programs = round.programs; spaces = round.spaces; objects = round.objects;
-        servers = round.servers; jobs = jobs } ≡ s = cc in
+    let same : record {
+      budget = budget;
+      workers = workers;
+      programs = round.programs;
+      spaces = round.spaces;
+      objects = round.objects;
+      servers = round.servers;
+      jobs = jobs;
+    } ≡ s = cc in
     subst Keeps same (record {
       budget = (a, b);
       workers = (c, d);

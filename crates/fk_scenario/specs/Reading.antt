@@ -45,8 +45,13 @@ sections_of ms = do
   objects ← array_in (codes "object") ms
   servers ← array_in (codes "server") ms
   jobs ← array_in (codes "job") ms
-  Ok (record { programs = unwrap_or programs no_members; spaces = unwrap_or spaces no_items; objects = unwrap_or objects no_items;
-      servers = unwrap_or servers no_items; jobs = unwrap_or jobs no_items })
+  Ok (record {
+    programs = unwrap_or programs no_members;
+    spaces = unwrap_or spaces no_items;
+    objects = unwrap_or objects no_items;
+    servers = unwrap_or servers no_items;
+    jobs = unwrap_or jobs no_items;
+  })
 
 -- what the top keys have: two numbers and the sections
 pub record Top : Type 0 where
@@ -85,8 +90,15 @@ second_round budget workers round = do
   _ ← aims_from round.spaces round.objects 0 round.objects
   _ ← serving_from round.objects [] [] round.servers
   jobs ← jobs_from round.spaces round.servers [] round.jobs
-  Ok (record { budget = budget; workers = workers; programs = round.programs; spaces = round.spaces; objects = round.objects;
-      servers = round.servers; jobs = jobs })
+  Ok (record {
+    budget = budget;
+    workers = workers;
+    programs = round.programs;
+    spaces = round.spaces;
+    objects = round.objects;
+    servers = round.servers;
+    jobs = jobs;
+  })
 
 -- the scenario of a document
 unfoldable pub scenario_of : List (List ℕ × Rule) → Members → Result Scenario ScenarioError

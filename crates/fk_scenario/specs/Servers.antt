@@ -49,4 +49,4 @@ unfoldable pub serving_from : List ObjectEntry → List (List ℕ) → List (Lis
 serving_from objects ports aliases [] = Ok tt
 serving_from objects ports aliases (s ∷ ss) =
     placed 5 (length ports) (unless 9 (may_serve objects ports aliases s)) >>= λ _. serving_from objects (ports ++ s.port ∷ []) (aliases ++ alias_of
-        s.service) ss
+    s.service) ss

@@ -9,7 +9,7 @@ pub returns : goal.returns
 returns c =
     let slots = c.as_slice.result.now in
     let above = found c.args.store.now c.find_space.result c.unwrap-space.result (reverse (take (length slots - 1) slots)) c.unwrap-space.ensures
-        c.find_space.ensures.path in
+    c.find_space.ensures.path in
     let at = place-at c.args.store.now slots c.unwrap-space.result c.in-len1-up.len_at_least above in
     on_ok c.make.result _ _
     (makes (reverse c.args.object.now.path) _ _ c.args.object.now.spec (world c.args.store.now) (world c.make.new.self)

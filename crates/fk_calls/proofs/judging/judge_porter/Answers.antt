@@ -17,6 +17,6 @@ judge-requires c = row_built _ (cc)
 pub returns-clause-judged : goal.returns-clause-judged
 returns-clause-judged c =
     subst (λ chosen. IsJudged c.args.store.now c.args.m.now (asks.Call c.args.stage.now c.args.words.now)
-        (record { caller = porter c.args.m.now.who; chooses = chosen; verdict = c.judge.result })) (sym c.chooses.ensures)
+    (record { caller = porter c.args.m.now.who; chooses = chosen; verdict = c.judge.result })) (sym c.chooses.ensures)
     (porter_judged c.args.store.now c.args.m.now
-        c.args.stage.now c.args.words.now c.judge.result (cc) (cc) (c.judge.ensures.row c.args.words.now) c.judge.ensures.fits c.judge.ensures.sure)
+    c.args.stage.now c.args.words.now c.judge.result (cc) (cc) (c.judge.ensures.row c.args.words.now) c.judge.ensures.fits c.judge.ensures.sure)

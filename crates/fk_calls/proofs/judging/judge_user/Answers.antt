@@ -14,6 +14,6 @@ returns-in-Instruction-clause-judged c = instruction_judged c.args.store.now
 pub returns-in-Stage-clause-judged : goal.returns-in-Stage-clause-judged
 returns-in-Stage-clause-judged c =
     subst (λ chosen. IsJudged c.args.store.now
-        c.args.m.now asks.Run (record { caller = user c.args.m.now.who; chooses = chosen; verdict = c.judge-in-Stage.result })) (sym c.chooses.ensures)
+    c.args.m.now asks.Run (record { caller = user c.args.m.now.who; chooses = chosen; verdict = c.judge-in-Stage.result })) (sym c.chooses.ensures)
     (stage_judged c.args.store.now c.args.m.now c.in-Stage.stage
-        c.judge-in-Stage.result (cc) c.in-Stage.ensures (c.judge-in-Stage.ensures.row []) c.judge-in-Stage.ensures.fits c.judge-in-Stage.ensures.sure)
+    c.judge-in-Stage.result (cc) c.in-Stage.ensures (c.judge-in-Stage.ensures.row []) c.judge-in-Stage.ensures.fits c.judge-in-Stage.ensures.sure)
