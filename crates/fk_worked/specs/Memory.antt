@@ -113,7 +113,31 @@ missing regions address = world_of
     (regions ++ ((1 ∷ [], Space 1 None) ∷ (9 ∷ [], Port None false) ∷ (thread 0, running 0 (0 ∷ 0 ∷ address ∷ [])) ∷ []))
     (page_with (1 ∷ []) 0 loads_192 ∷ [])
 
+-- ---- two mappings or two regions in the slots 1 and 4 of /1: the higher is of page 5, the lower of this page; the thread
+-- loads from page 5
+
+-- a mapping of one page to the region in a slot of /2
+abbrev pub maps_to_slot : ℕ → ℕ → Body
+maps_to_slot first slot = Mapping (record { first = first; count = 1; offset = 0; write = false; region = At (slot ∷ 2 ∷ []) })
+
+-- slot 1 of /2 holds a region of page 20, slot 2 one of page 30; the mappings lead to these slots
+unfoldable pub two_mappings : ℕ → ℕ → ℕ → World
+two_mappings first low high = world_of
+    ((1 ∷ [], Space 1 None) ∷ (2 ∷ [], Space 2 None) ∷ (thread 0, running 0 (0 ∷ 0 ∷ 128 ∷ []))
+    ∷ (thread 4, maps_to_slot 5 high) ∷ (thread 1, maps_to_slot first low)
+    ∷ (1 ∷ 2 ∷ [], Region (record { first = 20; count = 1; write = false; keeper = Null }))
+    ∷ (2 ∷ 2 ∷ [], Region (record { first = 30; count = 1; write = false; keeper = Null })) ∷ [])
+    (page_with (1 ∷ []) 0 loads_192 ∷ numbered (2 ∷ []) 2000 20 ∷ numbered (2 ∷ []) 2000 30 ∷ [])
+
+-- the regions have these keepers, of the ports 9 and 10 of the root
+unfoldable pub two_regions : ℕ → Ptr → Ptr → World
+two_regions first low high = world_of
+    ((1 ∷ [], Space 1 None) ∷ (9 ∷ [], Port None false) ∷ (10 ∷ [], Port None false) ∷ (thread 0, running 0 (0 ∷ 0 ∷ 128 ∷ []))
+    ∷ (thread 4, Region (record { first = 5; count = 1; write = false; keeper = high }))
+    ∷ (thread 1, Region (record { first = first; count = 1; write = false; keeper = low })) ∷ [])
+    (page_with (1 ∷ []) 0 loads_192 ∷ [])
+
 -- ---- to compute in these worlds is to unfold these
 unfoldable pub memory_worlds : Unit {0}
-unfolding machine giving_and_taking given_and_taken two_pages chain_to loop window missing
+unfolding machine giving_and_taking given_and_taken two_pages chain_to loop window missing two_mappings two_regions
 memory_worlds = tt

@@ -109,3 +109,16 @@ pub fn stop_counts_have_two_ends()
     ensures let_go { (run (locks_and_sleepers (16 ∷ 11 ∷ [])) (goes thread_0 ∷ [])).body (sleeper 11) ≡
         Some (stopped 65534 (calling 40 (25 ∷ 7 ∷ 6 ∷ []))) }
 {}
+
+/// Waiting for a condition looks at the condition first: a bad one is told whatever the mutex, and
+/// then a bad mutex before one that isn't locked.
+pub fn a_bad_condition_is_told_before_a_bad_mutex()
+    ensures ready { IsReadyTo (locks_and_sleepers (24 ∷ 9 ∷ 7 ∷ [])) (goes thread_0) }
+    ensures empty_cond { calls_of (24 ∷ 9 ∷ 7 ∷ []) ≡ Some (running 1 (2 ∷ 9 ∷ 7 ∷ [])) }
+    ensures empty_cond_unlocked { calls_of (24 ∷ 9 ∷ 5 ∷ []) ≡ Some (running 1 (2 ∷ 9 ∷ 5 ∷ [])) }
+    ensures other_cond { calls_of (24 ∷ 6 ∷ 9 ∷ []) ≡ Some (running 1 (3 ∷ 6 ∷ 9 ∷ [])) }
+    ensures other_cond_unlocked { calls_of (24 ∷ 6 ∷ 5 ∷ []) ≡ Some (running 1 (3 ∷ 6 ∷ 5 ∷ [])) }
+    ensures empty_mutex { calls_of (24 ∷ 7 ∷ 9 ∷ []) ≡ Some (running 1 (2 ∷ 7 ∷ 9 ∷ [])) }
+    ensures other_mutex { calls_of (24 ∷ 7 ∷ 8 ∷ []) ≡ Some (running 1 (3 ∷ 7 ∷ 8 ∷ [])) }
+    ensures unlocked { calls_of (24 ∷ 7 ∷ 5 ∷ []) ≡ Some (running 1 (7 ∷ 7 ∷ 5 ∷ [])) }
+{}

@@ -5,7 +5,7 @@ ghost use Rattle.std.specs.Prelude.{◌≡◌, [], ◌∷◌, ◌++◌, Some, No
 ghost use Rattle.fk_model.specs.Places.Ptr.{At, Null, Dead};
 ghost use Rattle.fk_model.specs.Runs.{run, IsLegal};
 ghost use Rattle.fk_worked.specs.Worked.{becomes, IsReadyTo, goes, running, halted, with_talk, numbers_from};
-ghost use Rattle.fk_worked.specs.Memory.{thread, giving_and_taking, given_and_taken, two_pages, loader, sender, to_root, chain_to, loop, window, all_pages, thread_that_missed_5, missing};
+ghost use Rattle.fk_worked.specs.Memory.{thread, giving_and_taking, given_and_taken, two_pages, loader, sender, to_root, chain_to, loop, window, all_pages, thread_that_missed_5, missing, two_mappings, two_regions};
 
 /// A page of zeros is given once. It is taken once: its words go to the caller's page. There is no
 /// page 256 to give.
@@ -83,4 +83,24 @@ pub fn a_load_from_a_missing_page()
     ensures dead_keeper { becomes (missing (all_pages Dead) 128) (thread 0) ≡ Some (halted 0 (0 ∷ 0 ∷ 128 ∷ []) 4) }
     ensures past_the_end { becomes (missing (all_pages (At (9 ∷ []))) 16192) (thread 0) ≡
         Some (halted 0 (0 ∷ 0 ∷ 16192 ∷ []) 2) }
+{}
+
+/// Of two mappings that hold a missing page the one in the lowest slot is followed.
+pub fn the_mapping_in_the_lowest_slot_is_followed()
+    ensures ready { IsReadyTo (two_mappings 5 1 2) (goes (thread 0)) }
+    ensures first { becomes (two_mappings 5 1 2) (thread 0) ≡ Some (running 1 (0 ∷ 3280 ∷ 128 ∷ [])) }
+    ensures other_way { becomes (two_mappings 5 2 1) (thread 0) ≡ Some (running 1 (0 ∷ 3920 ∷ 128 ∷ [])) }
+    ensures of_another_page { becomes (two_mappings 6 1 2) (thread 0) ≡ Some (running 1 (0 ∷ 3920 ∷ 128 ∷ [])) }
+{}
+
+/// Of two regions that hold a missing page the one in the lowest slot gives the keeper, also where
+/// it has none.
+pub fn the_region_in_the_lowest_slot_gives_the_keeper()
+    ensures ready { IsReadyTo (two_regions 5 (At (9 ∷ [])) (At (10 ∷ []))) (goes (thread 0)) }
+    ensures first { becomes (two_regions 5 (At (9 ∷ [])) (At (10 ∷ []))) (thread 0) ≡ Some thread_that_missed_5 }
+    ensures other_none { becomes (two_regions 5 (At (9 ∷ [])) Null) (thread 0) ≡ Some thread_that_missed_5 }
+    ensures no_keeper { becomes (two_regions 5 Null (At (9 ∷ []))) (thread 0) ≡
+        Some (halted 0 (0 ∷ 0 ∷ 128 ∷ []) 4) }
+    ensures of_another_page { becomes (two_regions 6 (At (10 ∷ [])) (At (9 ∷ []))) (thread 0) ≡
+        Some thread_that_missed_5 }
 {}
