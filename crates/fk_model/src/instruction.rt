@@ -46,7 +46,7 @@ pub mod operation {
 }
 
 /// An instruction: an operation, three registers, and a number.
-#[derive(Clone, Copy, Debug, PartialEq, Eq)]
+#[derive(Clone, Copy, PartialEq, Eq)]
 pub struct Instr {
     /// One of the numbers of `operation`.
     pub op: u8,
@@ -58,7 +58,7 @@ pub struct Instr {
 }
 
 /// What an instruction asks for, once its registers are read. It knows nothing of memory.
-#[derive(Clone, Copy, Debug, PartialEq, Eq)]
+#[derive(Clone, Copy, PartialEq, Eq)]
 pub enum Act {
     /// A register gets a value, and the next instruction follows.
     Put { register: u8, value: u64 },

@@ -3,7 +3,7 @@ use crate::{Stage, Turn, Who};
 
 /// A move: the thread that moves, or the port of the native server that acts, and the thread that
 /// it picks where it has to choose one.
-#[derive(Clone, Copy, Debug, PartialEq, Eq)]
+#[derive(Clone, Copy, PartialEq, Eq)]
 pub struct Move {
     pub who: Who,
     pub pick: Option<Who>,

@@ -1,7 +1,7 @@
 //! Names of objects, and pointers to them.
 
 /// The object in a slot of the space with this birth number. Slots are 0 to 255.
-#[derive(Clone, Copy, Debug, PartialEq, Eq, PartialOrd, Ord)]
+#[derive(Clone, Copy, PartialEq, Eq, PartialOrd, Ord)]
 pub struct Who {
     pub space: u32,
     pub slot: u8,

@@ -2,7 +2,7 @@
 use crate::Who;
 
 /// What a thread is at.
-#[derive(Clone, Copy, Debug, PartialEq, Eq)]
+#[derive(Clone, Copy, PartialEq, Eq)]
 pub enum Mode {
     /// It executes the word at its counter.
     Running,
