@@ -8,13 +8,14 @@ use Rattle.fk_model.specs.Places.{Path}
 use Rattle.fk_model.specs.World.{apply}
 use Rattle.fk_model.specs.World.Change.{Make}
 use Rattle.fk_model.specs.Valid.{kind_there}
-use Rattle.fk_store.specs.Contents.{Contents, stored_birth, is_live}
+use Rattle.fk_store.specs.Contents.{Contents, stored_birth, home, is_live}
 use Rattle.fk_store.specs.Paths.{place, path, IsAtHome}
 use Rattle.fk_store.specs.Bodies.{body_by}
 use Rattle.fk_store.specs.Named.{OnNamed}
 use Rattle.fk_store.specs.World.{world, IsLive, IsSpace}
 use Rattle.fk_store.specs.WellFormed.{is_there, IsSized, IsWellFormed}
 use Rattle.fk_store.specs.Makes.{making, IsNext, next_by}
+use Rattle.fk_store.proofs.Homes.{home-found}
 use Rattle.fk_store.proofs.NamedLaws.{OnNamed-map}
 use Rattle.fk_store.proofs.LookUps.{body-place, IsLive-there, IsSpace-live}
 use Rattle.fk_store.proofs.Makes.{live-born, path-made, world-made, kept-made}
@@ -33,7 +34,7 @@ record IsMade (m : Contents) (who : Who) (b : Body) : Type 0 where
 
 module _ (m : Contents)
     (kept : IsWellFormed m) (who : Who) (slot : who.slot < 256) (space : IsSpace m who.space) (empty : (world m).body (place (path m) who) ≡ None) where
-  is_empty : get m.bodies who ≡ None
+  pub is_empty : get m.bodies who ≡ None
   is_empty = by (get m.bodies who) refl
     where
       by : (o : Option Body) → get m.bodies who ≡ o → get m.bodies who ≡ None
@@ -113,6 +114,26 @@ module _ (m : Contents)
     home = tt;
     paths = plain_paths (Reference to) named refl;
   }
+
+  -- no space has the birth number yet
+  pub is_fresh : (b : Body) → IsNext (world m).next b → (n : ℕ) → stored_birth b ≡ Some n → home m n ≡ None
+  unfolding world
+  is_fresh (Mutex locked) next n h = absurd (cc)
+  is_fresh Cond next n h = absurd (cc)
+  is_fresh (Mapping first count offset write region) next n h = absurd (cc)
+  is_fresh (Region first count write keeper) next n h = absurd (cc)
+  is_fresh (Port set served) next n h = absurd (cc)
+  is_fresh Portset next n h = absurd (cc)
+  is_fresh (Space birth holder) next n h = by (home m n) refl
+    where
+      by : (o : Option Who) → home m n ≡ o → o ≡ None
+      by None e = refl
+      by (Some other) e =
+          let low = kept.born other n (home-found m n other e) in
+          let same : birth ≡ n = cc in
+          absurd (omega (arith, next.0))
+  is_fresh (Thread thread) next n h = absurd (cc)
+  is_fresh (Reference to) next n h = absurd (cc)
 
   module _ (b : Body) (next : IsNext (world m).next b) (named : OnNamed (IsLive m) b) (sized : IsSized b) where
     pub make-kept : IsWellFormed (with_made m who b)

@@ -176,6 +176,10 @@ module _ (m : Contents) (kept : IsWellFormed m) (who : Who)
   unfolding old_body
   keeps_birth = same-birth m kept who old_body b old_there (kind-there m kept who _ kind).2 home
 
+  -- a space keeps its birth number
+  pub set-birth : birth_there m who ≡ stored_birth b
+  set-birth = ap (and_then stored_birth) old_there ∙ sym keeps_birth
+
   pub set-kept : OnNamed (IsLive m) b → IsSized b → IsWellFormed (with_body m who b)
   set-kept named sized =
       kept-set m kept who old_body b old_there keeps_birth (OnNamed-map (IsLive m) (λ q. is_there m q ≡ true) (IsLive-there m kept) b named) sized

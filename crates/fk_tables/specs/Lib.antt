@@ -2,6 +2,7 @@ pub mod Names
 pub mod Orders
 pub mod Sorted
 pub mod Births
+pub mod Homes
 pub mod Sweeps
 pub mod Parts
 pub mod Pointers

@@ -1,5 +1,5 @@
 //! The bodies of all objects, by their names.
-ghost use Rattle.std.specs.Prelude.{◌≡◌, OnOk, OnErr, IsSome, IfSome, Some, None, true, false, if◌then◌else◌, option_map, find, map as each};
+ghost use Rattle.std.specs.Prelude.{◌≡◌, ℕ, OnOk, OnErr, IsSome, IfSome, Some, None, true, false, if◌then◌else◌, option_map, find, map as each};
 ghost use Rattle.std.specs.Option.{option_copied};
 ghost use Rattle.std.specs.FinMap as map;
 ghost use Rattle.fk_model.specs.declared.names.Who.{Who};
@@ -12,9 +12,11 @@ ghost use Rattle.std.specs.FinMap.{entries};
 ghost use Rattle.std.specs.List.{sum_by};
 ghost use Rattle.fk_tables.specs.Sweeps.{body_after, swept};
 ghost use Rattle.fk_tables.specs.Orders.{IsFirstAfter};
-ghost use Rattle.fk_tables.specs.Births.{stored_birth, is_number, home_in};
+ghost use Rattle.fk_tables.specs.Births.{stored_birth, home_in};
+ghost use Rattle.fk_tables.specs.Homes.{birth_in};
 
 use crate::hits::hits;
+use crate::homes::{home_of, make_room, settle};
 use crate::parts::Part;
 use crate::sweeps::Sweep;
 use crate::tables::{next_key, put_value, set_value, take_away, value_of};
@@ -26,6 +28,8 @@ use std::marker::Model;
 #[derive(Drop)]
 pub struct Bodies {
     entries: Vec<(Who, Body)>,
+    /// Where the space with each birth number stands.
+    homes: Vec<Option<Who>>,
 }
 
 impl Model for Bodies {
@@ -43,7 +47,9 @@ impl Model for Bodies {
 
     ghost view = { λ s. map_of who_cmp s.entries.items };
 
-    ghost invariant = { λ s. T (is_sorted who_cmp s.entries.items) };
+    ghost use Rattle.fk_tables.specs.Homes.{IsHomed};
+
+    ghost invariant = { λ s. T (is_sorted who_cmp s.entries.items) × IsHomed (map_of who_cmp s.entries.items) s.homes.items };
 }
 
 impl Bodies {
@@ -53,6 +59,7 @@ impl Bodies {
     {
         Bodies {
             entries: Vec::new(alloc),
+            homes: Vec::new(alloc),
         }
     }
 
@@ -67,43 +74,52 @@ impl Bodies {
     pub fn birth(&self, who: Who) -> Option<u32>
         ensures { result ≡ and_then stored_birth (map.get self.now who) }
     {
-        match self.at(who)? {
-            Body::Space { birth, .. } => Some(*birth),
-            _ => None,
-        }
+        birth_of(self.at(who)?)
     }
 
-    /// Gives a live object another body.
+    /// Gives a live object another body. A space keeps its birth number.
     pub fn set(&mut self, who: Who, body: Body)
-        requires { IsSome (map.get self.old who) }
+        requires there { IsSome (map.get self.old who) }
+        requires birth { birth_in self.old who ≡ stored_birth body }
         ensures { self.new ≡ map.insert self.old who body }
     {
         set_value(&mut self.entries, who, body);
     }
 
-    /// Puts an object in a slot.
+    /// Puts an object in an empty slot. No other space has its birth number. For want of memory all
+    /// stays as it was.
     pub fn put(&mut self, who: Who, body: Body) -> Result<(), NoMemory>
+        requires empty { map.get self.old who ≡ None }
+        requires birth { (n : ℕ) → stored_birth body ≡ Some n → home_in self.old n ≡ None }
         ensures ok { OnOk result (self.new ≡ map.insert self.old who body) }
         ensures err { OnErr result (self.new ≡ self.old) }
     {
-        Ok(put_value(&mut self.entries, who, body)?)
+        let birth = birth_of(&body);
+        make_room(&mut self.homes, birth)?;
+        put_value(&mut self.entries, who, body)?;
+        settle(&mut self.homes, birth, Some(who));
+        Ok(())
     }
 
     /// Takes an object away.
     pub fn remove(&mut self, who: Who)
         ensures { self.new ≡ map.remove self.old who }
     {
+        let birth = self.birth(who);
         take_away(&mut self.entries, who);
+        settle(&mut self.homes, birth, None);
     }
 
-    /// Gives an object another name, under which it is alone.
+    /// Gives an object another name, which is free.
     pub fn rename(&mut self, from: Who, to: Who)
-        requires { IsSome (map.get self.old from) }
+        requires there { IsSome (map.get self.old from) }
+        requires free { map.get self.old to ≡ None }
         ensures { (q : Who) → map.get self.new q ≡ if same_who q to then map.get self.old from else (if same_who q from then None else map.get self.old q) }
     {
         if let Some(&body) = self.at(from) {
             take_away(&mut self.entries, from);
             put_value(&mut self.entries, to, body).unwrap();
+            settle(&mut self.homes, birth_of(&body), Some(to));
         }
     }
 
@@ -141,7 +157,7 @@ impl Bodies {
     pub fn home(&self, space: u32) -> Option<Who>
         ensures { result ≡ home_in self.now space }
     {
-        home_among(&self.entries, space)
+        home_of(&self.homes, space)
     }
 }
 
@@ -151,17 +167,6 @@ fn sweep_each(entries: &mut Vec<(Who, Body)>, sweep: Sweep)
     for entry in entries.iter_mut() {
         entry.1 = sweep.body(entry.0.space, entry.1);
     }
-}
-
-fn home_among(entries: &[(Who, Body)], space: u32) -> Option<Who>
-    ensures { result ≡ option_map (λ e. e.0) (find (λ e. is_number space (stored_birth e.1)) entries.now) }
-{
-    for entry in entries {
-        if is_born(&entry.1, space) {
-            return Some(entry.0);
-        }
-    }
-    None
 }
 
 fn count_hits(entries: &[(Who, Body)], who: Who) -> u64
@@ -185,12 +190,12 @@ fn first_among(entries: &[(Who, Body)], part: Part) -> Option<Who>
     None
 }
 
-/// It is the space with this birth number.
-fn is_born(body: &Body, space: u32) -> bool
-    ensures { result ≡ is_number space (stored_birth body.now) }
+/// The birth number of a space.
+fn birth_of(body: &Body) -> Option<u32>
+    ensures { result ≡ stored_birth body.now }
 {
     match body {
-        Body::Space { birth, .. } => *birth == space,
-        _ => false,
+        Body::Space { birth, .. } => Some(*birth),
+        _ => None,
     }
 }

@@ -8,6 +8,7 @@
 
 mod bodies;
 mod hits;
+mod homes;
 mod pages;
 mod parts;
 mod sweeps;

@@ -1,7 +1,18 @@
 use Rattle.std.proofs.Common.{◌<◌, arith}
 use Rattle.fk_store.specs.World.{world}
-use Rattle.fk_store.proofs.Making.{make-kept, make-world, make-home, make-paths, make-places, make-kinds}
+use Rattle.fk_store.proofs.Making.{is_empty, is_fresh, make-kept, make-world, make-home, make-paths, make-places, make-kinds}
 use Rattle.fk_store.proofs.store.Store.make.Goals as goal
+
+pub put-requires-clause-empty : goal.put-requires-clause-empty
+put-requires-clause-empty c =
+    let slot : c.args.who.slot < 256 = omega arith in
+    is_empty _ c.self.invariant c.args.who slot (rw (← c.self.view_is) at c.requires.space) (rw (← c.self.view_is) at c.requires.empty)
+
+pub put-requires-clause-birth : goal.put-requires-clause-birth
+put-requires-clause-birth c =
+    let slot : c.args.who.slot < 256 = omega arith in
+    is_fresh _ c.self.invariant c.args.who slot (rw (← c.self.view_is) at c.requires.space) (rw (← c.self.view_is) at c.requires.empty)
+    c.args.body (rw (← c.self.view_is) at c.requires.birth)
 
 pub next_after-self-inside-requires : goal.next_after-self-inside-requires
 unfolding world

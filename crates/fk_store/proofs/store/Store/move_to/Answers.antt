@@ -1,4 +1,4 @@
-use Rattle.std.proofs.Common.{◌<◌, arith, ap, is_some, ◌∙◌}
+use Rattle.std.proofs.Common.{◌<◌, arith, ap, is_some, option_map, ◌∙◌}
 use Rattle.fk_store.specs.Names.{at}
 use Rattle.fk_store.proofs.LookUps.{some_mapped, IsLive-there}
 use Rattle.fk_store.proofs.Residents.{no_residents, none_there}
@@ -6,9 +6,15 @@ use Rattle.fk_store.proofs.Renames.{bodies-renamed, kept-renamed, world-renamed,
 use Rattle.fk_store.proofs.store.Store.move_to.Goals as goal
 
 -- the object is there still
-pub rename-requires : goal.rename-requires
-rename-requires c =
+pub rename-requires-clause-there : goal.rename-requires-clause-there
+rename-requires-clause-there c =
     ap is_some (c.sweep.ensures c.args.from) ∙ some_mapped _ _ ∙ IsLive-there _ c.self.invariant c.args.from (rw (← c.self.view_is) at c.requires.there)
+
+-- and the new slot is free
+pub rename-requires-clause-free : goal.rename-requires-clause-free
+rename-requires-clause-free c =
+    let free = none_there _ c.self.invariant (at c.args.from.space c.args.to) (rw (← c.self.view_is) at c.requires.free) in
+    c.sweep.ensures (at c.args.from.space c.args.to) ∙ ap (option_map _) free
 
 pub invariant_of-self : goal.invariant_of-self
 invariant_of-self c =

@@ -1,8 +1,13 @@
-use Rattle.fk_store.proofs.Sets.{set-there, set-kept, set-world, set-edits, set-kinds, set-paths}
+use Rattle.fk_store.proofs.Sets.{set-there, set-birth, set-kept, set-world, set-edits, set-kinds, set-paths}
 use Rattle.fk_store.proofs.store.Store.set.Goals as goal
 
-pub set-requires : goal.set-requires
-set-requires c = set-there _ c.self.invariant c.args.who c.args.body (rw (← c.self.view_is) at c.requires.kind) (rw (← c.self.view_is) at c.requires.home)
+pub set-requires-clause-there : goal.set-requires-clause-there
+set-requires-clause-there c =
+    set-there _ c.self.invariant c.args.who c.args.body (rw (← c.self.view_is) at c.requires.kind) (rw (← c.self.view_is) at c.requires.home)
+
+pub set-requires-clause-birth : goal.set-requires-clause-birth
+set-requires-clause-birth c =
+    set-birth _ c.self.invariant c.args.who c.args.body (rw (← c.self.view_is) at c.requires.kind) (rw (← c.self.view_is) at c.requires.home)
 
 pub invariant_of-self : goal.invariant_of-self
 invariant_of-self c = rw c.set.ensures (set-kept _ c.self.invariant c.args.who c.args.body

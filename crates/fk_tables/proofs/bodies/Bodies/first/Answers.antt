@@ -10,7 +10,7 @@ use Rattle.fk_tables.proofs.bodies.Bodies.first.Goals as goal
 pub returns : goal.returns
 returns c =
     let among : entries
-    (map_of who_cmp c.self.inside.entries.items) ≡ c.self.inside.entries.items = entries-from_sorted who_cmp c.self.inside.entries.items c.self.invariant in
+    (map_of who_cmp c.self.inside.entries.items) ≡ c.self.inside.entries.items = entries-from_sorted who_cmp c.self.inside.entries.items c.self.invariant.0 in
     let found = rw (c.deref.ensures.value, ← among) at c.first_among.ensures in
     rw (← c.self.view_is) (record {
       some = each-passes _ (plays c.args.part) c.first_among.result found;

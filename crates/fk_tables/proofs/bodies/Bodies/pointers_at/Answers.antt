@@ -8,5 +8,5 @@ use Rattle.fk_tables.proofs.bodies.Bodies.pointers_at.Goals as goal
 pub returns : goal.returns
 returns c =
     let among : entries
-    (map_of who_cmp c.self.inside.entries.items) ≡ c.self.inside.entries.items = entries-from_sorted who_cmp c.self.inside.entries.items c.self.invariant in
+    (map_of who_cmp c.self.inside.entries.items) ≡ c.self.inside.entries.items = entries-from_sorted who_cmp c.self.inside.entries.items c.self.invariant.0 in
     rw (← c.self.view_is) (rw (c.deref.ensures.value, ← among) at c.count_hits.ensures)
