@@ -1,0 +1,6 @@
+pub mod Beneath
+pub mod Frozen
+pub mod FrozenCut
+pub mod FrozenLaws
+pub mod Users
+pub mod Holding

@@ -1,0 +1,3 @@
+pub mod Frozen
+pub mod Users
+pub mod Holding

@@ -1,0 +1,34 @@
+//! What stays of a subtree while another decides over it, each law the contract of a function that does nothing.
+//!
+//! It stands on `fk_model`, whose definitions the laws are about, and on `fk_laws`.
+#![tactic(auto)]
+
+ghost use Rattle.fk_frozen.specs.Frozen.{FrozenSubtreeStays, FrozenCutStays};
+ghost use Rattle.fk_frozen.specs.Users.{UsersNameLow};
+ghost use Rattle.fk_frozen.specs.Holding.{OthersKeepHold};
+
+/// A ready move of one who doesn't decide over a held subtree leaves its bodies, its pages, and the
+/// kinds of what its pointers lead to.
+#[tactic(auto, using(crate::proofs::FrozenLaws::frozen_subtree_stays))]
+pub fn a_frozen_subtree_stays()
+    ensures { FrozenSubtreeStays }
+{}
+
+/// It leaves the subtree's cut.
+#[tactic(auto, using(crate::proofs::FrozenLaws::frozen_cut_stays))]
+pub fn a_frozen_cut_stays()
+    ensures { FrozenCutStays }
+{}
+
+/// Users and native servers name no slot above 239, make no porter, and hold no space above one that
+/// a porter holds.
+#[tactic(auto, using(crate::proofs::Users::users_name_low))]
+pub fn users_name_low()
+    ensures { UsersNameLow }
+{}
+
+/// No move of a user or a native server changes what a porter at work stands on: its hold, its mode,
+/// its scratch, and that nobody decides above it.
+pub fn others_keep_a_porters_hold()
+    ensures { OthersKeepHold }
+{}
