@@ -1,4 +1,2 @@
 pub mod Tested
 pub mod Unheld
-pub mod FewSlots
-mod Listed

@@ -7,8 +7,5 @@ pub mod Objects
 pub mod Holds
 pub mod States
 pub mod Porters
-pub mod Cuts
 pub mod Instructions
-pub mod Further
 pub mod Calls
-pub mod Premises

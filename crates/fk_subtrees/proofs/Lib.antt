@@ -1,0 +1,2 @@
+pub mod FewSlots
+pub mod Listed

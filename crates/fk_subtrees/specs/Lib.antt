@@ -1,0 +1,5 @@
+pub mod Cuts
+pub mod Further
+pub mod Rebind
+pub mod Seen
+pub mod Premises
