@@ -1,5 +1,5 @@
 -- Judged: the move of a thread that is judged.
-use Rattle.std.proofs.Common.{◌≡◌, ℕ, Bool, true, false, ◌↔◌, IsTrue, IfOk, Result, Ok, Err, is_some, ◌&&◌, List, [], ◌∷◌, Option, Some, None, option_map, IsSome, refl, sym, ap, subst, ◌∙◌}
+use Rattle.std.proofs.Common.{◌≡◌, ℕ, Bool, true, false, ◌↔◌, IsTrue, IfOk, Result, Ok, Err, is_some, ◌&&◌, List, [], ◌∷◌, length, Option, Some, None, option_map, IsSome, refl, sym, ap, subst, ◌∙◌}
 use Rattle.fk_model.specs.declared.moves.Ask.{Ask}
 use Rattle.fk_model.specs.declared.moves.Ask.TheVariants as asks
 use Rattle.fk_model.specs.declared.moves.Move.{Move}
@@ -166,6 +166,7 @@ instruction_judged m move v free running row fits instruction sure =
       free = λ u. free;
       fits = fits;
       sure = sure;
+      given = λ porter. absurd (cc);
       outcome = running_user w move.who.slot (path m move.who.space) pick free running
           ∙ ap (with_pick false pick) (sym row) ∙ sym whole;
     }
@@ -184,17 +185,18 @@ stage_judged m move stage v free at row fits sure =
       free = λ u. free;
       fits = fits;
       sure = sure;
+      given = λ porter. absurd (cc);
       outcome = staged_user (world m)
           move.who.slot (path m move.who.space) pick stage free at ∙ ap (λ o. closed c (with_pick (chooses stage) pick o)) (sym row);
     }
 
 pub porter_judged : (m : Contents) (move : Move) (stage : Stage) (words : List ℕ) (v : Verdict) →
-    is_free_porter_at (world m) (place (path m) move.who) ≡ true → built.calls (code_of (stage ∷ [])) ≡ true →
+    is_free_porter_at (world m) (place (path m) move.who) ≡ true → built.calls (code_of (stage ∷ [])) ≡ true → length words ≡ 64 →
     outcome_by (world m) (path m) (caller_by (path m) (porter move.who) words) v ≡ allowed_row
     (world m) (caller_by (path m) (porter move.who) words) (picked_by (path m) move.pick) stage → IsVerdict m (porter move.who) v → IsSureVerdict v →
     IsJudged m move (asks.Call stage words) (record { caller = porter move.who; chooses = chooses stage; verdict = v })
 unfolding call_row
-porter_judged m move stage words v free known row fits sure =
+porter_judged m move stage words v free known long row fits sure =
     let c = caller_by (path m) (porter move.who) words in
     let pick = picked_by (path m) move.pick in
     record {
@@ -202,6 +204,7 @@ porter_judged m move stage words v free known row fits sure =
       free = λ u. absurd (cc);
       fits = fits;
       sure = sure;
+      given = λ porter. long;
       outcome = rw (
         porter_moves (world m)
             move.who.slot (path m move.who.space) pick stage words,

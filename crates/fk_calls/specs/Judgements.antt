@@ -1,5 +1,5 @@
 -- Judgements: the move that a judgement stands for.
-use Rattle.std.specs.Prelude.{◌≡◌, ℕ, true, false, List, []}
+use Rattle.std.specs.Prelude.{◌≡◌, ℕ, true, false, List, [], length}
 use Rattle.fk_model.specs.declared.moves.Ask.{Ask}
 use Rattle.fk_model.specs.declared.moves.Ask.TheVariants as asks
 use Rattle.fk_model.specs.declared.moves.Move.{Move}
@@ -24,13 +24,14 @@ words_of other = []
 abbrev pub outcome_of : Contents → Move → Ask → Outcome
 outcome_of m move ask = known_outcome built (world m) (place (path m) move.who) (picked_by (path m) move.pick) ask
 
--- the move of a free user or porter comes to what this judgement says, which can be carried out and takes no memory
+-- the move of a free user or porter comes to what this judgement says, which can be carried out and takes no memory. A porter gives 64 words
 pub record IsJudged (m : Contents) (move : Move) (ask : Ask) (j : Judgement) : Type 0 where
   pub mover : j.caller.who ≡ move.who
   pub free : j.caller.is_porter ≡ false → is_free_at (world m) (place (path m) move.who) ≡ true
   pub outcome : outcome_of m move ask ≡ move_by m j.caller (words_of ask) j.chooses move.pick j.verdict
   pub fits : IsVerdict m j.caller j.verdict
   pub sure : IsSureVerdict j.verdict
+  pub given : j.caller.is_porter ≡ true → length (words_of ask) ≡ 64
 
 -- ---- what a caller reads
 

@@ -2,7 +2,7 @@
 ghost use Rattle.std.specs.Prelude.{◌≡◌, IfSome, IfNone};
 ghost use Rattle.fk_model.specs.declared.moves.Ask.TheVariants as asks;
 ghost use Rattle.fk_model.specs.Outcomes.Outcome.{Waits};
-ghost use Rattle.fk_calls.specs.Judgements.{IsJudged, outcome_of};
+ghost use Rattle.fk_calls.specs.Judgements.{IsJudged, outcome_of, words_of};
 
 use crate::doing::{Doing, doing_of, is_free_porter};
 use crate::rows;
@@ -33,6 +33,16 @@ pub fn judge(store: &Store, m: &Move, ask: &Ask) -> Option<Judgement>
     }
 }
 
+/// The words that a porter gives; a user gives none.
+pub fn given(ask: &Ask) -> &[u64]
+    ensures { result.now ≡ words_of ask.now }
+{
+    match ask {
+        Ask::Call { words, .. } => words,
+        Ask::Run | Ask::Accept | Ask::Give { .. } | Ask::Over => &[],
+    }
+}
+
 /// What the move of a user comes to.
 fn judge_user(store: &Store, m: &Move) -> Option<Judgement>
     ensures judged { IfSome result (λ judgement. IsJudged store.now m.now asks.Run judgement) }
@@ -54,7 +64,7 @@ fn judge_user(store: &Store, m: &Move) -> Option<Judgement>
         Doing::Stage(stage) => Some(Judgement {
             caller,
             chooses: rows::chooses(&stage),
-            verdict: rows::judge(store, caller, &stage, m.pick),
+            verdict: rows::judge(store, caller, &[], &stage, m.pick),
         }),
         Doing::Nothing => None,
     }
@@ -78,6 +88,6 @@ fn judge_porter(store: &Store, m: &Move, stage: &Stage, words: &[u64; 64]) -> Op
     Some(Judgement {
         caller,
         chooses: rows::chooses(stage),
-        verdict: rows::judge(store, caller, stage, m.pick),
+        verdict: rows::judge(store, caller, words, stage, m.pick),
     })
 }

@@ -2,7 +2,7 @@
 ghost use Rattle.std.specs.Prelude.{◌≡◌, ◌↔◌, IsTrue, IsOk, IfOk, IfSome, IfNone, OnErr};
 ghost use Rattle.fk_calls.specs.Judgements.{IsReadyMove, IsStepTo};
 
-use crate::judging::judge;
+use crate::judging::{given, judge};
 use fk_model::{Ask, Move, NoMemory, Said};
 use fk_plans::{carry_out, is_ready};
 use fk_store::Store;
@@ -33,7 +33,7 @@ pub fn attempt(store: &mut Store, m: &Move, ask: &Ask) -> Result<Option<Said>, N
     if !is_ready(store, j.caller, j.chooses, m.pick, &j.verdict) {
         return Ok(None);
     }
-    Ok(Some(carry_out(store, j.caller, &j.verdict)?))
+    Ok(Some(carry_out(store, j.caller, given(ask), &j.verdict)?))
 }
 
 /// Makes a move, which is ready, and gives what it tells. For want of memory all stays as it was;
@@ -48,5 +48,5 @@ pub fn take(store: &mut Store, m: &Move, ask: &Ask) -> Result<Said, NoMemory>
         Some(j) => j,
         None => unreachable!(),
     };
-    carry_out(store, j.caller, &j.verdict)
+    carry_out(store, j.caller, given(ask), &j.verdict)
 }

@@ -7,7 +7,7 @@ ghost use Rattle.fk_store.specs.Moves.{picked_by};
 ghost use Rattle.fk_store.specs.Paths.{path};
 ghost use Rattle.fk_store.specs.World.{world};
 ghost use Rattle.fk_plans.specs.Plans.{caller_by};
-ghost use Rattle.fk_plans.specs.Verdicts.{Judges, IsVerdict, IsSureVerdict, outcome_by};
+ghost use Rattle.fk_plans.specs.Verdicts.{JudgesGiven, IsVerdict, IsSureVerdict, outcome_by};
 ghost use Rattle.fk_calls.specs.Rows.{IsRow};
 
 use fk_model::status::DENIED;
@@ -23,10 +23,16 @@ pub fn chooses(stage: &Stage) -> bool
     matches!(stage, Stage::Wait { .. } | Stage::CondSignal { .. })
 }
 
-/// What a stage comes to, by its row.
-fn row(store: &Store, caller: Caller, stage: &Stage, pick: Option<Who>) -> Result<Verdict, u8>
+/// What a stage comes to, by its row. A porter gives these words.
+fn row(
+    store: &Store,
+    caller: Caller,
+    given: &[u64],
+    stage: &Stage,
+    pick: Option<Who>,
+) -> Result<Verdict, u8>
     requires { IsRow stage.now }
-    ensures row { Judges store.now caller result (λ w c. stage_row w c (picked_by (path store.now) pick) stage.now) }
+    ensures row { JudgesGiven store.now caller given.now result (λ w c. stage_row w c (picked_by (path store.now) pick) stage.now) }
     ensures sure { IfOk result IsSureVerdict }
 {
     match *stage {
@@ -50,18 +56,25 @@ fn is_denied(caller: Caller, stage: &Stage) -> bool
     }
 }
 
-/// What a stage comes to. One for the other kind of caller is denied.
-pub fn judge(store: &Store, caller: Caller, stage: &Stage, pick: Option<Who>) -> Verdict
+/// What a stage comes to, where a porter gives these words. One for the other kind of caller is
+/// denied.
+pub fn judge(
+    store: &Store,
+    caller: Caller,
+    given: &[u64],
+    stage: &Stage,
+    pick: Option<Who>,
+) -> Verdict
     requires { IsRow stage.now }
-    ensures row { (words : List ℕ) → outcome_by (world store.now) (path store.now) (caller_by (path store.now) caller words) result
-        ≡ allowed_row (world store.now) (caller_by (path store.now) caller words) (picked_by (path store.now) pick) stage.now }
+    ensures row { let c = caller_by (path store.now) caller given.now in
+        outcome_by (world store.now) (path store.now) c result ≡ allowed_row (world store.now) c (picked_by (path store.now) pick) stage.now }
     ensures fits { IsVerdict store.now caller result }
     ensures sure { IsSureVerdict result }
 {
     if is_denied(caller, stage) {
         return Verdict::Refused(DENIED);
     }
-    match row(store, caller, stage, pick) {
+    match row(store, caller, given, stage, pick) {
         Ok(verdict) => verdict,
         Err(status) => Verdict::Refused(status),
     }

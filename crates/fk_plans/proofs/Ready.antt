@@ -114,14 +114,16 @@ making_iff : (w : World) (me x : Path) (kind : ℕ) →
 unfolding Allows
 making_iff w me x kind some = allows w me x [] kind some
 
-plan_iff : (w : World) (me : Path) (p : ℕ → Path) (plan : Plan) → IsPlan p w plan → IsTrue (is_plan_allowed w me p plan) ↔ AreAllowed w me (changes_by p plan w)
-plan_iff w me p plans.Nothing fits = ((λ h. tt), (λ h. refl))
-plan_iff w me p (plans.One a) fits = one_iff _ (deed_iff w _ me p a)
-plan_iff w me p (plans.Two a b) fits = both_iff _ _ (deed_iff w _ me p a) (one_iff _ (deed_iff w _ me p b))
-plan_iff w me p (plans.Three a b c) fits = both_iff _ _ (deed_iff w _ me p a) (both_iff _ _ (deed_iff w _ me p b) (one_iff _ (deed_iff w _ me p c)))
-plan_iff w me p (plans.Four a b c d) fits =
+plan_iff : (w : World) (me : Path) (p : ℕ → Path) (given : List ℕ) (plan : Plan) →
+    IsPlan p w plan → IsTrue (is_plan_allowed w me p plan) ↔ AreAllowed w me (changes_by p given plan w)
+plan_iff w me p given plans.Nothing fits = ((λ h. tt), (λ h. refl))
+plan_iff w me p given (plans.One a) fits = one_iff _ (deed_iff w _ me p a)
+plan_iff w me p given (plans.Two a b) fits = both_iff _ _ (deed_iff w _ me p a) (one_iff _ (deed_iff w _ me p b))
+plan_iff w me p given (plans.Three a b c) fits = both_iff _ _ (deed_iff w _ me p a) (both_iff _ _ (deed_iff w _ me p b) (one_iff _ (deed_iff w _ me p c)))
+plan_iff w me p given (plans.Four a b c d) fits =
     both_iff _ _ (deed_iff w _ me p a) (both_iff _ _ (deed_iff w _ me p b) (both_iff _ _ (deed_iff w _ me p c) (one_iff _ (deed_iff w _ me p d))))
-plan_iff w me p (plans.Makes object kind) fits = making_iff w me (place p object) kind fits.2
+plan_iff w me p given (plans.Makes object kind) fits = making_iff w me (place p object) kind fits.2
+plan_iff w me p given (plans.Gives space page source) fits = one_iff _ (not_iff (is_frozen_for w me (p space)))
 
 -- ---- the caller's own part
 
@@ -237,10 +239,10 @@ module _ (m : Contents) (c : Caller) (words : List ℕ) (free : c.is_porter ≡ 
   verdict_iff (verdicts.Runs e) fits = running_iff fits.0 e (thread_at (world m) me) fits.1
   verdict_iff (verdicts.Refused status) fits = refused_iff status
   verdict_iff verdicts.Waits fits = ((λ h. absurd (cc)), (λ h. absurd h))
-  verdict_iff (verdicts.Done plan answers) fits = done_iff _ _ _ (plan_iff (world m) me (path m) plan fits.0)
-  verdict_iff (verdicts.Shows plan space page) fits = done_iff _ _ _ (plan_iff (world m) me (path m) plan fits.2)
-  verdict_iff (verdicts.Goes plan) fits = plan_iff (world m) me (path m) plan fits
-  verdict_iff (verdicts.Tells plan words last) fits = tells_iff fits.0 _ _ _ last (plan_iff (world m) me (path m) plan fits.3)
+  verdict_iff (verdicts.Done plan answers) fits = done_iff _ _ _ (plan_iff (world m) me (path m) words plan fits.0.1)
+  verdict_iff (verdicts.Shows plan space page) fits = done_iff _ _ _ (plan_iff (world m) me (path m) words plan fits.2.1)
+  verdict_iff (verdicts.Goes plan) fits = plan_iff (world m) me (path m) words plan fits.1
+  verdict_iff (verdicts.Tells plan sent last) fits = tells_iff fits.0 _ _ _ last (plan_iff (world m) me (path m) words plan fits.3.1)
   verdict_iff (verdicts.Faults page write port) fits =
       one_iff _ (fault_iff (world m) c.who.slot (path m c.who.space) (place (path m) port) page write (free fits.0))
 

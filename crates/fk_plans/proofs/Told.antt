@@ -11,7 +11,7 @@ use Rattle.fk_plans.specs.Verdicts.{tells}
 -- it is no refusal
 pub told_step : (p : ℕ → Path) (who : Who) (is_porter : Bool) →
     is_porter ≡ false → (given : List ℕ) (w : World) (cs : List Change) (said : Said) (last : Bool) (s : Step) →
-    stepped w (tells (caller_by p (record { who = who; is_porter = false }) given) cs said last) ≡ s →
+    stepped w (tells (caller_by p (record { who = who; is_porter = is_porter }) given) cs said last) ≡ s →
     stepped w (closed (caller_by p (record { who = who; is_porter = is_porter }) given)
     (tells (caller_by p (record { who = who; is_porter = is_porter }) given) cs said last)) ≡ s
 told_step p who true user given w cs said last s made = absurd (cc)

@@ -29,6 +29,7 @@ is_plan_allowed w me p (plans.Two a b) = is_deed_allowed w me p a && is_deed_all
 is_plan_allowed w me p (plans.Three a b c) = is_deed_allowed w me p a && (is_deed_allowed w me p b && is_deed_allowed w me p c)
 is_plan_allowed w me p (plans.Four a b c d) = is_deed_allowed w me p a && (is_deed_allowed w me p b && (is_deed_allowed w me p c && is_deed_allowed w me p d))
 is_plan_allowed w me p (plans.Makes object kind) = not (is_frozen_for w me (place p object))
+is_plan_allowed w me p (plans.Gives space page source) = not (is_frozen_for w me (p space))
 
 abbrev pub is_effect_allowed : World → Path → (ℕ → Path) → Effect → Bool
 is_effect_allowed w me p (effects.Stores space page at value) = not (is_frozen_for w me (p space))

@@ -4,3 +4,4 @@ pub mod Verdicts
 pub mod Allowed
 pub mod Readings
 pub mod Blocks
+pub mod Sources

@@ -1,5 +1,5 @@
 -- Plans: the changes that a plan makes.
-use Rattle.std.specs.Prelude.{◌≡◌, ℕ, List, [], ◌∷◌, Option, Some, None, IsSome, ⊤}
+use Rattle.std.specs.Prelude.{◌≡◌, ℕ, true, List, [], ◌∷◌, Option, Some, None, IsSome, ⊤}
 use Rattle.fk_model.specs.declared.names.Who.{Who}
 use Rattle.fk_model.specs.declared.stage.Stage.TheVariants.{MutexLock}
 use Rattle.fk_model.specs.ObjectRows.{new_object}
@@ -13,11 +13,13 @@ use Rattle.fk_store.specs.Paths.{place}
 use Rattle.fk_threads.specs.Shifted.{IsLow}
 use Rattle.fk_threads.specs.Sleepers.{IsAsleep}
 use Rattle.fk_plans.specs.Blocks.{block_page, IsBlock}
+use Rattle.fk_plans.specs.Sources.{source_words, IsSource}
 use Rattle.fk_plans.specs.declared.plan.Caller.{Caller}
 use Rattle.fk_plans.specs.declared.plan.Deed.{Deed}
 use Rattle.fk_plans.specs.declared.plan.Deed.TheVariants as deeds
 use Rattle.fk_plans.specs.declared.plan.Plan.{Plan}
 use Rattle.fk_plans.specs.declared.plan.Plan.TheVariants as plans
+use Rattle.fk_plans.specs.declared.sources.Source.TheVariants as sources
 
 -- the caller by paths, where those of spaces are these; a porter gives these words
 abbrev pub caller_by : (ℕ → Path) → Caller → List ℕ → outcomes.Caller
@@ -46,14 +48,15 @@ abbrev pub made : Option Change → List Change
 made None = []
 made (Some change) = change ∷ []
 
--- the changes of a plan
-abbrev pub changes_by : (ℕ → Path) → Plan → World → List Change
-changes_by p plans.Nothing w = []
-changes_by p (plans.One a) w = and_next p a no_more w
-changes_by p (plans.Two a b) w = and_next p a (and_next p b no_more) w
-changes_by p (plans.Three a b c) w = and_next p a (and_next p b (and_next p c no_more)) w
-changes_by p (plans.Four a b c d) w = and_next p a (and_next p b (and_next p c (and_next p d no_more))) w
-changes_by p (plans.Makes object kind) w = made (new_object (place p object) kind)
+-- the changes of a plan, where a porter gives these words
+abbrev pub changes_by : (ℕ → Path) → List ℕ → Plan → World → List Change
+changes_by p given plans.Nothing w = []
+changes_by p given (plans.One a) w = and_next p a no_more w
+changes_by p given (plans.Two a b) w = and_next p a (and_next p b no_more) w
+changes_by p given (plans.Three a b c) w = and_next p a (and_next p b (and_next p c no_more)) w
+changes_by p given (plans.Four a b c d) w = and_next p a (and_next p b (and_next p c (and_next p d no_more))) w
+changes_by p given (plans.Makes object kind) w = made (new_object (place p object) kind)
+changes_by p given (plans.Gives space page source) w = PutPage (p space) page (source_words p given source w) ∷ []
 
 -- ---- what is needed to do it
 
@@ -77,8 +80,15 @@ IsPlan p w (plans.Three a b c) = IsDeed p w a × IsDeed p (after p a w) b × IsD
 IsPlan p w (plans.Four a b c d) =
     IsDeed p w a × IsDeed p (after p a w) b × IsDeed p (after p b (after p a w)) c × IsDeed p (after p c (after p b (after p a w))) d
 IsPlan p w (plans.Makes object kind) = IsMaking p w object kind
+IsPlan p w (plans.Gives space page source) = (birth_at w (p space) ≡ Some space) × IsSource p w source
+
+-- who does it gives the words that it takes: a porter alone gives words
+abbrev pub IsGiver : Caller → Plan → Type 0
+IsGiver c (plans.Gives space page sources.Given) = c.is_porter ≡ true
+IsGiver c other = ⊤
 
 -- it takes no memory
 abbrev pub IsSure : Plan → Type 0
 IsSure (plans.Makes object kind) = ⊥
+IsSure (plans.Gives space page source) = ⊥
 IsSure other = ⊤

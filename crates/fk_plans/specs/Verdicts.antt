@@ -16,13 +16,15 @@ use Rattle.fk_store.specs.Moves.{picked_by}
 use Rattle.fk_store.specs.Paths.{path, place}
 use Rattle.fk_store.specs.Threads.{todo_at}
 use Rattle.fk_store.specs.World.{world, IsLive}
+use Rattle.fk_threads.specs.declared.answers.Answers.{Answers}
 use Rattle.fk_threads.specs.Answers.{listed, LeaveArguments}
 use Rattle.fk_plans.specs.declared.plan.Caller.{Caller}
+use Rattle.fk_plans.specs.declared.plan.Plan.{Plan}
 use Rattle.fk_plans.specs.declared.plan.Verdict.{Verdict}
 use Rattle.fk_plans.specs.declared.plan.Words.{Words}
 use Rattle.fk_plans.specs.declared.plan.Verdict.TheVariants as verdicts
 use Rattle.fk_plans.specs.Effects.{effect_by, of_running, is_running, IsEffect}
-use Rattle.fk_plans.specs.Plans.{caller_by, changes_by, IsPlan, IsSure}
+use Rattle.fk_plans.specs.Plans.{caller_by, changes_by, IsGiver, IsPlan, IsSure}
 use Rattle.fk_model.specs.Searches.{thread_at}
 
 -- what a native server is told of words of a page
@@ -38,10 +40,10 @@ abbrev pub outcome_by : World → (ℕ → Path) → outcomes.Caller → Verdict
 outcome_by w p c (verdicts.Runs e) = of_running (effect_by w p (outcomes.path_of c) e) (thread_at w (outcomes.path_of c))
 outcome_by w p c (verdicts.Refused status) = Refused status
 outcome_by w p c verdicts.Waits = Waits
-outcome_by w p c (verdicts.Done plan answers) = done c (changes_by p plan w) (listed answers)
-outcome_by w p c (verdicts.Shows plan space page) = done c (changes_by p plan w) (words_at w (p space) page)
-outcome_by w p c (verdicts.Goes plan) = Goes (changes_by p plan w) Nothing
-outcome_by w p c (verdicts.Tells plan words last) = tells c (changes_by p plan w) (words_told w p words) last
+outcome_by w p c (verdicts.Done plan answers) = done c (changes_by p c.words plan w) (listed answers)
+outcome_by w p c (verdicts.Shows plan space page) = done c (changes_by p c.words plan w) (words_at w (p space) page)
+outcome_by w p c (verdicts.Goes plan) = Goes (changes_by p c.words plan w) Nothing
+outcome_by w p c (verdicts.Tells plan words last) = tells c (changes_by p c.words plan w) (words_told w p words) last
 outcome_by w p c (verdicts.Faults page write port) = Goes (fault_on (outcomes.path_of c) page write (At (place p port)) ∷ []) Nothing
 
 -- ---- what is needed to carry it out
@@ -50,17 +52,24 @@ outcome_by w p c (verdicts.Faults page write port) = Goes (fault_on (outcomes.pa
 abbrev pub AreWords : (ℕ → Path) → World → Words → Type 0
 AreWords p w words = (words.at + words.count ≤ 64) × IsSome (w.page (p words.space) words.page)
 
--- a user alone has instructions and faults, and tells of words,, a porter alone gets a page
+-- a plan that a caller can do
+abbrev pub IsPlanOf : Contents → Caller → Plan → Type 0
+IsPlanOf m c plan = IsGiver c plan × IsPlan (path m) (world m) plan
+
+-- the answers leave the arguments of the caller's later stages, whatever words are given
+abbrev pub AreAnswers : Contents → Caller → Plan → Answers → Type 0
+AreAnswers m c plan answers = (given : List ℕ) →
+    LeaveArguments answers (todo_at (apply_all (changes_by (path m) given plan (world m)) (world m)) (place (path m) c.who))
+
+-- a user alone has instructions and faults, and tells of words, a porter alone gets a page
 abbrev pub IsVerdict : Contents → Caller → Verdict → Type 0
 IsVerdict m c (verdicts.Runs e) = (c.is_porter ≡ false) × (is_running (thread_at (world m) (place (path m) c.who)) ≡ true) × IsEffect (path m) (world m) e
 IsVerdict m c (verdicts.Refused status) = ⊤
 IsVerdict m c verdicts.Waits = ⊤
-IsVerdict m c (verdicts.Done plan answers) =
-    IsPlan (path m) (world m) plan × LeaveArguments answers (todo_at (apply_all (changes_by (path m) plan (world m)) (world m)) (place (path m) c.who))
-IsVerdict m c (verdicts.Shows plan space page) = (c.is_porter ≡ true) × IsSome ((world m).page (path m space) page) × IsPlan (path m) (world m) plan
-IsVerdict m c (verdicts.Goes plan) = IsPlan (path m) (world m) plan
-IsVerdict m c (verdicts.Tells plan words last) =
-    (c.is_porter ≡ false) × AreWords (path m) (world m) words × IsLive m words.port × IsPlan (path m) (world m) plan
+IsVerdict m c (verdicts.Done plan answers) = IsPlanOf m c plan × AreAnswers m c plan answers
+IsVerdict m c (verdicts.Shows plan space page) = (c.is_porter ≡ true) × IsSome ((world m).page (path m space) page) × IsPlanOf m c plan
+IsVerdict m c (verdicts.Goes plan) = IsPlanOf m c plan
+IsVerdict m c (verdicts.Tells plan words last) = (c.is_porter ≡ false) × AreWords (path m) (world m) words × IsLive m words.port × IsPlanOf m c plan
 IsVerdict m c (verdicts.Faults page write port) = (c.is_porter ≡ false) × IsLive m port
 
 -- it takes no memory
@@ -86,6 +95,11 @@ outcome_of w p c (Err status) = Refused status
 -- the judgement of a stage stands for the outcome of its row, whatever a porter gives, and can be carried out
 pub record Judges (m : Contents) (c : Caller) (r : Result Verdict ℕ) (row : World → outcomes.Caller → Outcome) : Type 0 where
   pub outcome : (words : List ℕ) → outcome_of (world m) (path m) (caller_by (path m) c words) r ≡ row (world m) (caller_by (path m) c words)
+  pub fits : IfOk r (IsVerdict m c)
+
+-- the same where the judge reads what a porter gives
+pub record JudgesGiven (m : Contents) (c : Caller) (given : List ℕ) (r : Result Verdict ℕ) (row : World → outcomes.Caller → Outcome) : Type 0 where
+  pub outcome : outcome_of (world m) (path m) (caller_by (path m) c given) r ≡ row (world m) (caller_by (path m) c given)
   pub fits : IfOk r (IsVerdict m c)
 
 -- ---- the move of a caller who is judged so

@@ -1,18 +1,19 @@
 //! Carrying a verdict out.
-ghost use Rattle.std.specs.Prelude.{◌≡◌, ℕ, List, false, IfOk, IsOk, OnErr, OnOk};
+ghost use Rattle.std.specs.Prelude.{◌≡◌, ℕ, List, false, true, IfOk, IsOk, OnErr, OnOk, length};
 ghost use Rattle.fk_model.specs.Moves.{closed, stepped};
 ghost use Rattle.fk_model.specs.Outcomes.Outcome.{Refused};
 ghost use Rattle.fk_model.specs.World.{apply, apply_all};
 ghost use Rattle.fk_store.specs.Moves.{said_by};
 ghost use Rattle.fk_store.specs.Paths.{path, place};
 ghost use Rattle.fk_store.specs.World.{world, IsLive};
-ghost use Rattle.fk_plans.specs.Plans.{caller_by, change_by, changes_by, IsDeed, IsPlan, IsSure};
-ghost use Rattle.fk_plans.specs.Verdicts.{outcome_by, tells, words_told, AreWords, IsVerdict, IsSureVerdict};
+ghost use Rattle.fk_plans.specs.Plans.{caller_by, change_by, changes_by, IsDeed, IsSure};
+ghost use Rattle.fk_plans.specs.Verdicts.{outcome_by, tells, words_told, AreWords, IsPlanOf, IsVerdict, IsSureVerdict};
 
 use crate::blocks::send_block;
 use crate::instructions::run;
 use crate::making::make;
 use crate::plan::{Caller, Deed, Plan, Verdict, Words};
+use crate::sources::give;
 use crate::telling::{told, told_page, told_words};
 use fk_model::status::OK;
 use fk_model::{NoMemory, Said, Who};
@@ -37,9 +38,10 @@ fn carry(store: &mut Store, deed: &Deed)
 
 /// Does all of a plan. For want of memory all stays as it was.
 #[tactic(auto, unfolding(fk_model::specs::World::apply_all))]
-fn carry_all(store: &mut Store, plan: &Plan) -> Result<(), NoMemory>
-    requires fits { IsPlan (path store.old) (world store.old) plan.now }
-    ensures world { OnOk result (world store.new ≡ apply_all (changes_by (path store.old) plan.now (world store.old)) (world store.old)) }
+fn carry_all(store: &mut Store, caller: Caller, given: &[u64], plan: &Plan) -> Result<(), NoMemory>
+    requires fits { IsPlanOf store.old caller plan.now }
+    requires given { caller.is_porter ≡ true → length given.now ≡ 64 }
+    ensures world { OnOk result (world store.new ≡ apply_all (changes_by (path store.old) given.now plan.now (world store.old)) (world store.old)) }
     ensures err { OnErr result (store.new ≡ store.old) }
     ensures sure { IsSure plan.now → IsOk result }
     ensures places { (other : Who) → IsLive store.old other → place (path store.new) other ≡ place (path store.old) other }
@@ -63,6 +65,11 @@ fn carry_all(store: &mut Store, plan: &Plan) -> Result<(), NoMemory>
             carry(store, d);
         }
         Plan::Makes { object, kind } => return make(store, *object, *kind),
+        Plan::Gives {
+            space,
+            page,
+            source,
+        } => return give(store, given, *space, *page, *source),
     }
     Ok(())
 }
@@ -71,18 +78,20 @@ fn carry_all(store: &mut Store, plan: &Plan) -> Result<(), NoMemory>
 fn finish_all(
     store: &mut Store,
     caller: Caller,
+    given: &[u64],
     plan: &Plan,
     answers: Answers,
 ) -> Result<Said, NoMemory>
     requires live { caller.is_porter ≡ false → IsLive store.old caller.who }
     requires fits { IsVerdict store.old caller (Verdict.Done plan.now answers) }
-    ensures step { IfOk result (λ said. (words : List ℕ) → let c = caller_by (path store.old) caller words in
+    requires given { caller.is_porter ≡ true → length given.now ≡ 64 }
+    ensures step { IfOk result (λ said. let c = caller_by (path store.old) caller given.now in
         stepped (world store.old) (closed c (outcome_by (world store.old) (path store.old) c (Verdict.Done plan.now answers)))
         ≡ record { world = world store.new; said = said_by (path store.new) said }) }
     ensures err { OnErr result (store.new ≡ store.old) }
     ensures sure { IsSure plan.now → IsOk result }
 {
-    carry_all(store, plan)?;
+    carry_all(store, caller, given, plan)?;
     if caller.is_porter {
         return Ok(told(OK, answers));
     }
@@ -90,12 +99,18 @@ fn finish_all(
     Ok(Said::Nothing)
 }
 
-/// Carries out a verdict on the first stage of a call, and ends the caller's own part. For want of
-/// memory all stays as it was.
-pub fn carry_out(store: &mut Store, caller: Caller, verdict: &Verdict) -> Result<Said, NoMemory>
+/// Carries out a verdict on the first stage of a call, and ends the caller's own part. A porter gives
+/// 64 words, a user any. For want of memory all stays as it was.
+pub fn carry_out(
+    store: &mut Store,
+    caller: Caller,
+    given: &[u64],
+    verdict: &Verdict,
+) -> Result<Said, NoMemory>
     requires live { caller.is_porter ≡ false → IsLive store.old caller.who }
     requires fits { IsVerdict store.old caller verdict.now }
-    ensures step { IfOk result (λ said. (words : List ℕ) → let c = caller_by (path store.old) caller words in
+    requires given { caller.is_porter ≡ true → length given.now ≡ 64 }
+    ensures step { IfOk result (λ said. let c = caller_by (path store.old) caller given.now in
         stepped (world store.old) (closed c (outcome_by (world store.old) (path store.old) c verdict.now))
         ≡ record { world = world store.new; said = said_by (path store.new) said }) }
     ensures err { OnErr result (store.new ≡ store.old) }
@@ -106,16 +121,16 @@ pub fn carry_out(store: &mut Store, caller: Caller, verdict: &Verdict) -> Result
         Verdict::Refused(status) => return Ok(refuse(store, caller, *status)),
         Verdict::Waits => {}
         Verdict::Done(plan, answers) => {
-            return finish_all(store, caller, plan, *answers);
+            return finish_all(store, caller, given, plan, *answers);
         }
         Verdict::Shows { plan, space, page } => {
             let said = told_page(store, *space, *page);
-            carry_all(store, plan)?;
+            carry_all(store, caller, given, plan)?;
             return Ok(said);
         }
-        Verdict::Goes(plan) => carry_all(store, plan)?,
+        Verdict::Goes(plan) => carry_all(store, caller, given, plan)?,
         Verdict::Tells { plan, words, last } => {
-            return tell(store, caller.who, plan, words, *last);
+            return tell(store, caller, given, plan, words, *last);
         }
         Verdict::Faults { page, write, port } => {
             store.raise(caller.who, *page, *write, *port);
@@ -127,26 +142,28 @@ pub fn carry_out(store: &mut Store, caller: Caller, verdict: &Verdict) -> Result
 /// Does all of a plan, tells a native server of words, and then a user's stage may be done.
 fn tell(
     store: &mut Store,
-    me: Who,
+    caller: Caller,
+    given: &[u64],
     plan: &Plan,
     words: &Words,
     last: bool,
 ) -> Result<Said, NoMemory>
-    requires live { IsLive store.old me }
+    requires user { caller.is_porter ≡ false }
+    requires live { IsLive store.old caller.who }
     requires port { IsLive store.old words.now.port }
     requires words { AreWords (path store.old) (world store.old) words.now }
-    requires fits { IsPlan (path store.old) (world store.old) plan.now }
-    ensures step { IfOk result (λ said. (given : List ℕ) → let c = caller_by (path store.old) (record { who = me; is_porter = false }) given in
-        stepped (world store.old) (tells c (changes_by (path store.old) plan.now (world store.old))
+    requires fits { IsPlanOf store.old caller plan.now }
+    ensures step { IfOk result (λ said. let c = caller_by (path store.old) caller given.now in
+        stepped (world store.old) (tells c (changes_by (path store.old) given.now plan.now (world store.old))
         (words_told (world store.old) (path store.old) words.now) last)
         ≡ record { world = world store.new; said = said_by (path store.new) said }) }
     ensures err { OnErr result (store.new ≡ store.old) }
     ensures sure { IsSure plan.now → IsOk result }
 {
     let said = told_words(store, words);
-    carry_all(store, plan)?;
+    carry_all(store, caller, given, plan)?;
     if last {
-        finish(store, me, Answers::Nothing);
+        finish(store, caller.who, Answers::Nothing);
     }
     Ok(said)
 }

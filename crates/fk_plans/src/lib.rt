@@ -13,6 +13,7 @@ mod making;
 mod plan;
 mod readers;
 mod readiness;
+mod sources;
 mod telling;
 
 pub use blocks::Block;
@@ -21,3 +22,4 @@ pub use instructions::make_effect;
 pub use plan::{Caller, Deed, Effect, Plan, Verdict, Words};
 pub use readers::{cond_in, mutex_in, place, slot_for};
 pub use readiness::is_ready;
+pub use sources::Source;

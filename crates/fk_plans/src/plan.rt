@@ -1,5 +1,6 @@
 //! What a stage comes to.
 use crate::blocks::Block;
+use crate::sources::Source;
 use fk_model::Who;
 use fk_threads::Answers;
 
@@ -37,7 +38,16 @@ pub enum Plan {
     Three(Deed, Deed, Deed),
     Four(Deed, Deed, Deed, Deed),
     /// A new object of the kind with this number.
-    Makes { object: Who, kind: u64 },
+    Makes {
+        object: Who,
+        kind: u64,
+    },
+    /// A page with these words, where there is none.
+    Gives {
+        space: u32,
+        page: u8,
+        source: Source,
+    },
 }
 
 /// So many words of a page, from a place on, that come to a port.

@@ -44,6 +44,7 @@ fn is_plan_allowed(store: &Store, me: Who, plan: &Plan) -> bool
                 && is_deed_allowed(store, me, d)
         }
         Plan::Makes { object, .. } => !store.frozen_for(me, *object),
+        Plan::Gives { space, .. } => !store.space_frozen_for(me, *space),
     }
 }
 

@@ -1,4 +1,4 @@
-use Rattle.std.proofs.Common.{sym, subst}
+use Rattle.std.proofs.Common.{sym, subst, arith}
 use Rattle.fk_model.specs.declared.moves.Ask.TheVariants as asks
 use Rattle.fk_calls.specs.Judgements.{IsJudged}
 use Rattle.fk_calls.proofs.BuiltCalls.{row_built}
@@ -19,4 +19,4 @@ returns-clause-judged c =
     subst (λ chosen. IsJudged c.args.store.now c.args.m.now (asks.Call c.args.stage.now c.args.words.now)
     (record { caller = porter c.args.m.now.who; chooses = chosen; verdict = c.judge.result })) (sym c.chooses.ensures)
     (porter_judged c.args.store.now c.args.m.now
-    c.args.stage.now c.args.words.now c.judge.result (cc) (cc) (c.judge.ensures.row c.args.words.now) c.judge.ensures.fits c.judge.ensures.sure)
+    c.args.stage.now c.args.words.now c.judge.result (cc) (cc) (omega arith) c.judge.ensures.row c.judge.ensures.fits c.judge.ensures.sure)

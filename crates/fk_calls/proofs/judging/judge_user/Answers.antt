@@ -16,4 +16,4 @@ returns-in-Stage-clause-judged c =
     subst (λ chosen. IsJudged c.args.store.now
     c.args.m.now asks.Run (record { caller = user c.args.m.now.who; chooses = chosen; verdict = c.judge-in-Stage.result })) (sym c.chooses.ensures)
     (stage_judged c.args.store.now c.args.m.now c.in-Stage.stage
-    c.judge-in-Stage.result (cc) c.in-Stage.ensures (c.judge-in-Stage.ensures.row []) c.judge-in-Stage.ensures.fits c.judge-in-Stage.ensures.sure)
+    c.judge-in-Stage.result (cc) c.in-Stage.ensures c.judge-in-Stage.ensures.row c.judge-in-Stage.ensures.fits c.judge-in-Stage.ensures.sure)

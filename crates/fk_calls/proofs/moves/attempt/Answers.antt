@@ -13,4 +13,5 @@ pub returns-clause-made : goal.returns-clause-made
 returns-clause-made c =
     let judged = c.in-Some.ensures.judged in
     let ready = (ready_judged c.args.store.now c.args.m.now c.args.ask.now c.in-Some.j _ judged (c.is_ready.ensures (words_of c.args.ask.now))).0 (cc) in
-    (ready, step_judged c.args.store.now c.args.m.now c.args.ask.now c.in-Some.j judged ready ∙ c.in_ok-carry_out.ensures.step (words_of c.args.ask.now))
+    let step = rw c.given.ensures at c.in_ok-carry_out.ensures.step in
+    (ready, step_judged c.args.store.now c.args.m.now c.args.ask.now c.in-Some.j judged ready ∙ step)

@@ -1,5 +1,4 @@
 use Rattle.std.proofs.Common.{◌∙◌}
-use Rattle.fk_calls.specs.Judgements.{words_of}
 use Rattle.fk_calls.proofs.Judged.{step_judged, never_ready, free_there, if_ok}
 use Rattle.fk_calls.proofs.moves.take.Goals as goal
 
@@ -9,7 +8,7 @@ carry_out-requires-clause-live c user = rw c.in-Some.ensures.judged.mover (free_
 pub returns-clause-step : goal.returns-clause-step
 returns-clause-step c =
     if_ok c.carry_out.result (λ said step. step_judged c.args.store.now c.args.m.now c.args.ask.now c.in-Some.j c.in-Some.ensures.judged c.requires.ready
-    ∙ step (words_of c.args.ask.now)) c.carry_out.ensures.step
+    ∙ rw c.given.ensures at step) c.carry_out.ensures.step
 
 pub unreachable-requires : goal.unreachable-requires
 unreachable-requires c = absurd (never_ready _ _ _ c.in-None.ensures.never c.requires.ready)

@@ -5,19 +5,19 @@ use Rattle.fk_store.specs.Paths.{path}
 use Rattle.fk_calls.proofs.rows.judge.Goals as goal
 
 pub returns-then-is_denied-clause-row : goal.returns-then-is_denied-clause-row
-returns-then-is_denied-clause-row c words =
-    let denied : is_denied (caller_by (path c.args.store.now) c.args.caller words)
-    c.args.stage.now ≡ true = sym (c.is_denied.ensures (path c.args.store.now) words) ∙ c.if-is_denied.true in
+returns-then-is_denied-clause-row c =
+    let denied : is_denied (caller_by (path c.args.store.now) c.args.caller c.args.given.now)
+    c.args.stage.now ≡ true = sym (c.is_denied.ensures (path c.args.store.now) c.args.given.now) ∙ c.if-is_denied.true in
     rw denied refl
 
 pub returns-in-Ok-clause-row : goal.returns-in-Ok-clause-row
-returns-in-Ok-clause-row c words =
-    let allowed : is_denied (caller_by (path c.args.store.now) c.args.caller words)
-    c.args.stage.now ≡ false = sym (c.is_denied.ensures (path c.args.store.now) words) ∙ c.if-is_denied.false in
-    rw allowed (c.in-Ok.ensures.row.outcome words)
+returns-in-Ok-clause-row c =
+    let allowed : is_denied (caller_by (path c.args.store.now) c.args.caller c.args.given.now)
+    c.args.stage.now ≡ false = sym (c.is_denied.ensures (path c.args.store.now) c.args.given.now) ∙ c.if-is_denied.false in
+    rw allowed c.in-Ok.ensures.row.outcome
 
 pub returns-in-Err-clause-row : goal.returns-in-Err-clause-row
-returns-in-Err-clause-row c words =
-    let allowed : is_denied (caller_by (path c.args.store.now) c.args.caller words)
-    c.args.stage.now ≡ false = sym (c.is_denied.ensures (path c.args.store.now) words) ∙ c.if-is_denied.false in
-    rw allowed (c.in-Err.ensures.row.outcome words)
+returns-in-Err-clause-row c =
+    let allowed : is_denied (caller_by (path c.args.store.now) c.args.caller c.args.given.now)
+    c.args.stage.now ≡ false = sym (c.is_denied.ensures (path c.args.store.now) c.args.given.now) ∙ c.if-is_denied.false in
+    rw allowed c.in-Err.ensures.row.outcome

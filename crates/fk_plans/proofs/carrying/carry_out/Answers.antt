@@ -6,14 +6,14 @@ use Rattle.fk_plans.proofs.Told.{told_step, if_ok}
 use Rattle.fk_plans.proofs.carrying.carry_out.Goals as goal
 
 pub returns-in-Refused-clause-step : goal.returns-in-Refused-clause-step
-returns-in-Refused-clause-step c words = rw c.in-Refused.is (c.refuse.ensures.step words)
+returns-in-Refused-clause-step c = rw c.in-Refused.is (c.refuse.ensures.step c.args.given.now)
 
 pub returns-in-Faults-clause-step : goal.returns-in-Faults-clause-step
 unfolding apply apply_all
-returns-in-Faults-clause-step c words = rw (c.in-Faults.is, c.raise.ensures.world) refl
+returns-in-Faults-clause-step c = rw (c.in-Faults.is, c.raise.ensures.world) refl
 
 pub returns-in-Tells-clause-step : goal.returns-in-Tells-clause-step
 returns-in-Tells-clause-step c =
     let fits = rw c.in-Tells.is at c.requires.fits in
-    if_ok c.tell.result (λ said step words. rw c.in-Tells.is (told_step (path c.args.store.now)
-    c.args.caller.who c.args.caller.is_porter fits.0 words (world c.args.store.now) _ _ c.in-Tells.last _ (step words))) c.tell.ensures.step
+    if_ok c.tell.result (λ said step. rw c.in-Tells.is (told_step (path c.args.store.now)
+    c.args.caller.who c.args.caller.is_porter fits.0 c.args.given.now (world c.args.store.now) _ _ c.in-Tells.last _ step)) c.tell.ensures.step

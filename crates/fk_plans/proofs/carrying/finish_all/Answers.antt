@@ -5,7 +5,7 @@ use Rattle.fk_plans.proofs.carrying.finish_all.Goals as goal
 
 pub returns-clause-step : goal.returns-clause-step
 unfolding apply apply_all
-returns-clause-step c words =
+returns-clause-step c =
     rw (
       c.if-caller.false,
       c.finish.ensures.world,

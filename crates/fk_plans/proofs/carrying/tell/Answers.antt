@@ -6,14 +6,14 @@ use Rattle.fk_plans.proofs.carrying.tell.Goals as goal
 
 pub returns-then-last-clause-step : goal.returns-then-last-clause-step
 unfolding apply apply_all
-returns-then-last-clause-step c given =
+returns-then-last-clause-step c =
     rw (
       c.if-last.true,
+      c.requires.user,
       c.told_words-said.ensures (path c.finish.new.store),
       c.finish.ensures.paths,
       c.finish.ensures.world,
-      c.in_ok-carry_all.ensures.places
-          c.args.me c.requires.live,
+      c.in_ok-carry_all.ensures.places c.args.caller.who c.requires.live,
       c.in_ok-carry_all.ensures.places c.args.words.now.port c.requires.port,
       c.in_ok-carry_all.ensures.world,
       own_last,

@@ -12,7 +12,10 @@ returns-clause-fits c =
       c.requires.port,
       (
         tt,
-        own_low
-            (world c.args.store.now) (place (path c.args.store.now) c.args.caller.who) c.args.address c.args.count c.moved-size.result c.requires.calling left,
+        (
+          tt,
+          own_low (world c.args.store.now)
+              (place (path c.args.store.now) c.args.caller.who) c.args.address c.args.count c.moved-size.result c.requires.calling left,
+        ),
       ),
     )

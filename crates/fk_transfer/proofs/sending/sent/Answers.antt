@@ -12,7 +12,7 @@ returns-then-from-count-clause-fits c =
     let left : c.args.address + c.moved-size.result < 18446744073709551616 = omega (arith, c.moved-size.ensures.at, c.requires.address) in
     let low = both_low w (place p c.args.caller.who) (place p c.args.peer) (p c.args.to.0)
     c.args.to.1 _ c.args.address c.args.count c.args.into c.args.room c.moved-size.result c.requires.calling c.requires.receives room left in
-    (((c.moved-size.ensures.at, c.moved-size.ensures.into, c.requires.own, c.requires.space, c.requires.to), tt, low.0, low.1), tt)
+    ((tt, ((c.moved-size.ensures.at, c.moved-size.ensures.into, c.requires.own, c.requires.space, c.requires.to), tt, low.0, low.1)), λ given. tt)
 
 pub returns-else-from-count-clause-fits : goal.returns-else-from-count-clause-fits
 returns-else-from-count-clause-fits c =
@@ -22,4 +22,4 @@ returns-else-from-count-clause-fits c =
     let left : c.args.address + c.moved-size.result < 18446744073709551616 = omega (arith, c.moved-size.ensures.at, c.requires.address) in
     let low = both_low w (place p c.args.caller.who) (place p c.args.peer) (p c.args.to.0)
     c.args.to.1 _ c.args.address c.args.count c.args.into c.args.room c.moved-size.result c.requires.calling c.requires.receives room left in
-    ((c.moved-size.ensures.at, c.moved-size.ensures.into, c.requires.own, c.requires.space, c.requires.to), tt, low.0, low.1)
+    (tt, ((c.moved-size.ensures.at, c.moved-size.ensures.into, c.requires.own, c.requires.space, c.requires.to), tt, low.0, low.1))
