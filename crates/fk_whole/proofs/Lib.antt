@@ -1,0 +1,8 @@
+pub mod Lengths
+pub mod Outcomes
+pub mod Memory
+pub mod Rows
+pub mod Objects
+pub mod Moves
+pub mod Kept
+pub mod Laws

@@ -1,0 +1,48 @@
+-- What a world keeps while a machine runs: it is whole, and each thread has its registers. A run supplies this at each of
+-- its moves, from its beginning alone.
+use Rattle.std.specs.Prelude.{◌≡◌, ◌+◌, ◌≤◌, Bool, true, ◌==◌, List, [], ◌∷◌, length, Some}
+use Rattle.fk_model.specs.declared.limits.TheConstants.{PAGE_WORDS}
+use Rattle.fk_model.specs.declared.moves.Ask.{Ask}
+use Rattle.fk_model.specs.declared.moves.Ask.TheVariants as asks
+use Rattle.fk_model.specs.Places.{Path}
+use Rattle.fk_model.specs.Objects.{Thread, registers_of, thread_of, and_then}
+use Rattle.fk_model.specs.World.{World}
+use Rattle.fk_model.specs.Searches.{depth}
+use Rattle.fk_model.specs.Runs.{Event, after, run}
+use Rattle.fk_model.specs.Valid.{is_fit}
+use Rattle.fk_model.specs.Whole.{IsWhole}
+
+-- every thread has 16 registers
+abbrev pub HasRegisters : World → Type 0
+HasRegisters w = (x : Path) (t : Thread) → and_then thread_of (w.body x) ≡ Some t → length (registers_of t.mode) ≡ 16
+
+pub record IsRunnable (w : World) : Type 0 where
+  pub whole : IsWhole w
+  pub registers : HasRegisters w
+
+-- a porter gives 64 words
+abbrev pub has_all_words : Ask → Bool
+has_all_words (asks.Call stage words) = length words == PAGE_WORDS
+has_all_words other = true
+
+-- a move that a machine may make: it is fit, and a porter gives 64 words
+pub record IsDue (w : World) (e : Event) : Type 0 where
+  pub fit : is_fit w e.mover e.ask ≡ true
+  pub words : has_all_words e.ask ≡ true
+
+-- it gives out one birth number at most
+abbrev pub DueMoveGivesOneNumber : Type 0
+DueMoveGivesOneNumber = (w : World) (e : Event) → IsRunnable w → IsDue w e → (after w e).next ≤ w.next + 1
+
+-- and keeps a world runnable, where a birth number is left
+abbrev pub DueMoveKeepsRunnable : Type 0
+DueMoveKeepsRunnable = (w : World) (e : Event) → IsRunnable w → IsDue w e → w.next + 1 ≤ depth → IsRunnable (after w e)
+
+-- each move is due at its place
+abbrev pub AreDue : World → List Event → Type 0
+AreDue w [] = Unit {0}
+AreDue w (e ∷ es) = IsDue w e × AreDue (after w e) es
+
+-- a run ends in a runnable world where it begins in one, with a birth number left for each of its moves
+abbrev pub RunKeepsRunnable : Type 0
+RunKeepsRunnable = (w : World) (es : List Event) → IsRunnable w → w.next + length es ≤ depth → AreDue w es → IsRunnable (run w es)
