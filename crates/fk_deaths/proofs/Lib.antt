@@ -1,0 +1,6 @@
+pub mod Talking
+pub mod Endings
+pub mod Scans
+pub mod Clients
+pub mod Sweeps
+pub mod Allowed
