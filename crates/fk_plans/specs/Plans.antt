@@ -5,9 +5,10 @@ use Rattle.fk_model.specs.declared.stage.Stage.TheVariants.{MutexLock}
 use Rattle.fk_model.specs.ObjectRows.{new_object}
 use Rattle.fk_model.specs.Outcomes as outcomes
 use Rattle.fk_model.specs.Places.{Path}
+use Rattle.fk_model.specs.Reach.{words_at}
 use Rattle.fk_model.specs.Valid.{birth_at}
 use Rattle.fk_model.specs.World.{World, Change, apply}
-use Rattle.fk_model.specs.World.Change.{Alter, PutPage}
+use Rattle.fk_model.specs.World.Change.{Alter, PutPage, DropPage}
 use Rattle.fk_model.specs.World.Edit.{SetLocked, Replace, CountMoved, Shift, End}
 use Rattle.fk_store.specs.Paths.{place}
 use Rattle.fk_threads.specs.Shifted.{IsLow}
@@ -33,6 +34,8 @@ change_by p (deeds.Sends block) w = PutPage (p block.to.0) block.to.1 (block_pag
 change_by p (deeds.Counts client count) w = Alter (place p client) (CountMoved count)
 change_by p (deeds.Shifts thread count) w = Alter (place p thread) (Shift count)
 change_by p (deeds.Ends thread status) w = Alter (place p thread) (End status [])
+change_by p (deeds.Copies from to) w = PutPage (p to.0) to.1 (words_at w (p from.0) from.1)
+change_by p (deeds.Drops space page) w = DropPage (p space) page
 
 abbrev pub after : (ℕ → Path) → Deed → World → World
 after p d w = apply (change_by p d w) w
@@ -67,6 +70,8 @@ IsDeed p w (deeds.Sends block) = IsBlock p w block
 IsDeed p w (deeds.Counts client count) = ⊤
 IsDeed p w (deeds.Shifts thread count) = IsLow w (place p thread) count
 IsDeed p w (deeds.Ends thread status) = ⊤
+IsDeed p w (deeds.Copies from to) = IsSome (w.page (p from.0) from.1) × (birth_at w (p to.0) ≡ Some to.0) × IsSome (w.page (p to.0) to.1)
+IsDeed p w (deeds.Drops space page) = ⊤
 
 -- an empty slot of a space that is there, and a kind
 abbrev pub IsMaking : (ℕ → Path) → World → Who → ℕ → Type 0

@@ -1,4 +1,4 @@
-//! Blocks of words that go from a page to a page.
+//! Words that go from a page to a page: a block of them, or all.
 ghost use Rattle.std.specs.Prelude.{◌≡◌, ◌+◌, ◌≤◌, take, drop, IsSome};
 ghost use Rattle.fk_model.specs.Reach.{words_at};
 ghost use Rattle.fk_model.specs.TransferRows.{overwritten};
@@ -54,6 +54,25 @@ pub fn send_block(store: &mut Store, block: Block)
     };
     let words = written(*to, from, block.at, block.into, block.count);
     match store.put_page(block.to.0, block.to.1, &words) {
+        Ok(()) => {}
+        Err(_) => unreachable!(),
+    }
+}
+
+/// The words of a page become those of another that is there.
+pub fn copy_page(store: &mut Store, from: (u32, u8), to: (u32, u8))
+    requires from { IsSome ((world store.old).page (path store.old from.0) from.1) }
+    requires space { IsSpace store.old to.0 }
+    requires to { IsSome ((world store.old).page (path store.old to.0) to.1) }
+    ensures world { let words = words_at (world store.old) (path store.old from.0) from.1 in
+        world store.new ≡ apply (PutPage (path store.old to.0) to.1 words) (world store.old) }
+    ensures kinds { kind_there (world store.new) ≡ kind_there (world store.old) }
+    ensures paths { path store.new ≡ path store.old }
+{
+    let Some(&words) = store.page(from.0, from.1) else {
+        unreachable!()
+    };
+    match store.put_page(to.0, to.1, &words) {
         Ok(()) => {}
         Err(_) => unreachable!(),
     }

@@ -9,7 +9,7 @@ ghost use Rattle.fk_store.specs.World.{world, IsLive};
 ghost use Rattle.fk_plans.specs.Plans.{caller_by, change_by, changes_by, IsDeed, IsSure};
 ghost use Rattle.fk_plans.specs.Verdicts.{outcome_by, tells, words_told, AreWords, IsPlanOf, IsVerdict, IsSureVerdict};
 
-use crate::blocks::send_block;
+use crate::blocks::{copy_page, send_block};
 use crate::instructions::run;
 use crate::making::make;
 use crate::plan::{Caller, Deed, Plan, Verdict, Words};
@@ -33,6 +33,8 @@ fn carry(store: &mut Store, deed: &Deed)
         Deed::Counts { client, count } => count_moved(store, client, count),
         Deed::Shifts { thread, count } => advance(store, thread, u64::from(count)),
         Deed::Ends { thread, status } => store.end_call(thread, status),
+        Deed::Copies { from, to } => copy_page(store, from, to),
+        Deed::Drops { space, page } => store.drop_page(space, page),
     }
 }
 

@@ -26,6 +26,10 @@ pub enum Deed {
     Shifts { thread: Who, count: u8 },
     /// The whole call of a thread ends with a status.
     Ends { thread: Who, status: u8 },
+    /// The words of a page become those of another that is there, or of the same.
+    Copies { from: (u32, u8), to: (u32, u8) },
+    /// A space loses a page.
+    Drops { space: u32, page: u8 },
 }
 
 /// What a stage does, its caller's own part left out: deeds in this order, or alone what wants
