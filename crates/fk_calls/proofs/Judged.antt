@@ -35,6 +35,7 @@ use Rattle.fk_user.specs.Effects.{IsInstruction}
 use Rattle.fk_user.specs.Known.{run_at, run_of_thread, run_in_mode}
 use Rattle.fk_calls.specs.declared.judging.Judgement.{Judgement}
 use Rattle.fk_calls.specs.Doings.{IsAtStage, is_free_porter_at}
+use Rattle.fk_calls.specs.Rows.{takes_memory, first_takes_memory}
 use Rattle.fk_calls.specs.Judgements.{words_of, outcome_of, IsJudged, IsReadyMove}
 use Rattle.fk_model.specs.Searches.{thread_at}
 
@@ -165,7 +166,7 @@ instruction_judged m move v free running row fits instruction sure =
       mover = refl;
       free = λ u. free;
       fits = fits;
-      sure = sure;
+      sure = λ none. sure;
       given = λ porter. absurd (cc);
       outcome = running_user w move.who.slot (path m move.who.space) pick free running
           ∙ ap (with_pick false pick) (sym row) ∙ sym whole;
@@ -174,7 +175,7 @@ instruction_judged m move v free running row fits instruction sure =
 pub stage_judged : (m : Contents) (move : Move) (stage : Stage) (v : Verdict) →
     is_free_at (world m) (place (path m) move.who) ≡ true → IsAtStage (world m) (place (path m) move.who) stage →
     outcome_by (world m) (path m) (caller_by (path m) (user move.who) []) v ≡ allowed_row
-    (world m) (caller_by (path m) (user move.who) []) (picked_by (path m) move.pick) stage → IsVerdict m (user move.who) v → IsSureVerdict v →
+    (world m) (caller_by (path m) (user move.who) []) (picked_by (path m) move.pick) stage → IsVerdict m (user move.who) v → (takes_memory stage ≡ false → IsSureVerdict v) →
     IsJudged m move asks.Run (record { caller = user move.who; chooses = chooses stage; verdict = v })
 unfolding call_row
 stage_judged m move stage v free at row fits sure =
@@ -184,7 +185,7 @@ stage_judged m move stage v free at row fits sure =
       mover = refl;
       free = λ u. free;
       fits = fits;
-      sure = sure;
+      sure = λ none. sure (sym (ap first_takes_memory at.todo) ∙ none);
       given = λ porter. absurd (cc);
       outcome = staged_user (world m)
           move.who.slot (path m move.who.space) pick stage free at ∙ ap (λ o. closed c (with_pick (chooses stage) pick o)) (sym row);
@@ -193,7 +194,7 @@ stage_judged m move stage v free at row fits sure =
 pub porter_judged : (m : Contents) (move : Move) (stage : Stage) (words : List ℕ) (v : Verdict) →
     is_free_porter_at (world m) (place (path m) move.who) ≡ true → built.calls (code_of (stage ∷ [])) ≡ true → length words ≡ 64 →
     outcome_by (world m) (path m) (caller_by (path m) (porter move.who) words) v ≡ allowed_row
-    (world m) (caller_by (path m) (porter move.who) words) (picked_by (path m) move.pick) stage → IsVerdict m (porter move.who) v → IsSureVerdict v →
+    (world m) (caller_by (path m) (porter move.who) words) (picked_by (path m) move.pick) stage → IsVerdict m (porter move.who) v → (takes_memory stage ≡ false → IsSureVerdict v) →
     IsJudged m move (asks.Call stage words) (record { caller = porter move.who; chooses = chooses stage; verdict = v })
 unfolding call_row
 porter_judged m move stage words v free known long row fits sure =

@@ -1,5 +1,5 @@
 -- Judgements: the move that a judgement stands for.
-use Rattle.std.specs.Prelude.{◌≡◌, ℕ, true, false, List, [], length}
+use Rattle.std.specs.Prelude.{◌≡◌, ℕ, Bool, true, false, List, [], length}
 use Rattle.fk_model.specs.declared.moves.Ask.{Ask}
 use Rattle.fk_model.specs.declared.moves.Ask.TheVariants as asks
 use Rattle.fk_model.specs.declared.moves.Move.{Move}
@@ -14,6 +14,7 @@ use Rattle.fk_store.specs.Threads.{is_free_at}
 use Rattle.fk_store.specs.World.{world}
 use Rattle.fk_plans.specs.Verdicts.{IsVerdict, IsSureVerdict, move_by}
 use Rattle.fk_calls.specs.declared.judging.Judgement.{Judgement}
+use Rattle.fk_calls.specs.Rows.{may_want_memory}
 
 -- the words that a porter gives; a user gives none
 abbrev pub words_of : Ask → List ℕ
@@ -24,13 +25,14 @@ words_of other = []
 abbrev pub outcome_of : Contents → Move → Ask → Outcome
 outcome_of m move ask = known_outcome built (world m) (place (path m) move.who) (picked_by (path m) move.pick) ask
 
--- the move of a free user or porter comes to what this judgement says, which can be carried out and takes no memory. A porter gives 64 words
+-- the move of a free user or porter comes to what this judgement says, which can be carried out, and takes memory only
+-- where the move may want it. A porter gives 64 words
 pub record IsJudged (m : Contents) (move : Move) (ask : Ask) (j : Judgement) : Type 0 where
   pub mover : j.caller.who ≡ move.who
   pub free : j.caller.is_porter ≡ false → is_free_at (world m) (place (path m) move.who) ≡ true
   pub outcome : outcome_of m move ask ≡ move_by m j.caller (words_of ask) j.chooses move.pick j.verdict
   pub fits : IsVerdict m j.caller j.verdict
-  pub sure : IsSureVerdict j.verdict
+  pub sure : may_want_memory (world m) (place (path m) move.who) ask ≡ false → IsSureVerdict j.verdict
   pub given : j.caller.is_porter ≡ true → length (words_of ask) ≡ 64
 
 -- ---- what a caller reads
@@ -43,3 +45,7 @@ IsReadyMove m move ask = IsKnownReady built (world m) (place (path m) move.who) 
 abbrev pub IsStepTo : Contents → Move → Ask → Contents → Said → Type 0
 IsStepTo m move ask n said =
     known_step built (world m) (place (path m) move.who) (picked_by (path m) move.pick) ask ≡ record { world = world n; said = said_by (path n) said }
+
+-- a move may want memory, for an object or a page
+abbrev pub may_lack : Contents → Move → Ask → Bool
+may_lack m move ask = may_want_memory (world m) (place (path m) move.who) ask

@@ -1,11 +1,34 @@
 -- Rows: the stages of the calls that are built.
-use Rattle.std.specs.Prelude.{⊤}
+use Rattle.std.specs.Prelude.{Bool, true, false, List, [], ◌∷◌, ⊤}
+use Rattle.fk_model.specs.declared.moves.Ask.{Ask}
+use Rattle.fk_model.specs.declared.moves.Ask.TheVariants as asks
 use Rattle.fk_model.specs.declared.stage.Stage.{Stage}
-use Rattle.fk_model.specs.declared.stage.Stage.TheVariants.{MutexLock, MutexTrylock, MutexUnlock}
+use Rattle.fk_model.specs.declared.stage.Stage.TheVariants.{Create, PageGive, SpaceMakeHeld, MutexLock, MutexTrylock, MutexUnlock}
+use Rattle.fk_model.specs.Places.{Path}
+use Rattle.fk_model.specs.World.{World}
+use Rattle.fk_store.specs.Threads.{todo_at}
 
 -- there is a judge of it
 abbrev pub IsRow : Stage → Type 0
+IsRow (Create s x kind) = ⊤
 IsRow (MutexLock m) = ⊤
 IsRow (MutexTrylock m) = ⊤
 IsRow (MutexUnlock m) = ⊤
 IsRow other = ⊥
+
+-- it makes an object or a page, which takes memory
+abbrev pub takes_memory : Stage → Bool
+takes_memory (Create s x kind) = true
+takes_memory (PageGive s page address) = true
+takes_memory (SpaceMakeHeld x) = true
+takes_memory other = false
+
+abbrev pub first_takes_memory : List Stage → Bool
+first_takes_memory [] = false
+first_takes_memory (stage ∷ later) = takes_memory stage
+
+-- a move of the thread at a path may want memory
+abbrev pub may_want_memory : World → Path → Ask → Bool
+may_want_memory w x asks.Run = first_takes_memory (todo_at w x)
+may_want_memory w x (asks.Call stage words) = takes_memory stage
+may_want_memory w x other = false

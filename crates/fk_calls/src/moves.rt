@@ -1,6 +1,6 @@
 //! Which moves are ready, and making them.
-ghost use Rattle.std.specs.Prelude.{◌≡◌, ◌↔◌, IsTrue, IsOk, IfOk, IfSome, IfNone, OnErr};
-ghost use Rattle.fk_calls.specs.Judgements.{IsReadyMove, IsStepTo};
+ghost use Rattle.std.specs.Prelude.{◌≡◌, ◌↔◌, false, IsTrue, IsOk, IfOk, IfSome, IfNone, OnErr};
+ghost use Rattle.fk_calls.specs.Judgements.{IsReadyMove, IsStepTo, may_lack};
 
 use crate::judging::{given, judge};
 use fk_model::{Ask, Move, NoMemory, Said};
@@ -18,13 +18,13 @@ pub fn ready(store: &Store, m: &Move, ask: &Ask) -> bool
 }
 
 /// Makes a move where it is ready, and gives what it tells; none where it isn't, and then all stays
-/// as it is. It is judged once. For want of memory all stays as it was; what
-/// is built wants none as yet.
+/// as it is. It is judged once. For want of memory all stays as it was; a stage that makes an object
+/// or a page may want it.
 pub fn attempt(store: &mut Store, m: &Move, ask: &Ask) -> Result<Option<Said>, NoMemory>
     ensures made { IfOk result (λ tried. IfSome tried (λ said. IsReadyMove store.old m.now ask.now × IsStepTo store.old m.now ask.now store.new said)) }
     ensures unready { IfOk result (λ tried. IfNone tried ((IsReadyMove store.old m.now ask.now → ⊥) × (store.new ≡ store.old))) }
     ensures lacking { OnErr result (IsReadyMove store.old m.now ask.now × (store.new ≡ store.old)) }
-    ensures sure { IsOk result }
+    ensures sure { may_lack store.old m.now ask.now ≡ false → IsOk result }
 {
     let j = match judge(store, m, ask) {
         Some(j) => j,
@@ -37,12 +37,12 @@ pub fn attempt(store: &mut Store, m: &Move, ask: &Ask) -> Result<Option<Said>, N
 }
 
 /// Makes a move, which is ready, and gives what it tells. For want of memory all stays as it was;
-/// what is built wants none as yet.
+/// a stage that makes an object or a page may want it.
 pub fn take(store: &mut Store, m: &Move, ask: &Ask) -> Result<Said, NoMemory>
     requires ready { IsReadyMove store.old m.now ask.now }
     ensures step { IfOk result (λ said. IsStepTo store.old m.now ask.now store.new said) }
     ensures lacking { OnErr result (store.new ≡ store.old) }
-    ensures sure { IsOk result }
+    ensures sure { may_lack store.old m.now ask.now ≡ false → IsOk result }
 {
     let j = match judge(store, m, ask) {
         Some(j) => j,

@@ -1,18 +1,20 @@
 //! The match from a stage to its judge.
-ghost use Rattle.std.specs.Prelude.{◌≡◌, ℕ, List, IfOk};
+ghost use Rattle.std.specs.Prelude.{◌≡◌, ℕ, List, false, IfOk};
 ghost use Rattle.fk_model.specs.Moves as machine;
 ghost use Rattle.fk_model.specs.Moves.{allowed_row, stage_row};
 ghost use Rattle.fk_model.specs.Places.{Path};
 ghost use Rattle.fk_store.specs.Moves.{picked_by};
 ghost use Rattle.fk_store.specs.Paths.{path};
-ghost use Rattle.fk_store.specs.World.{world};
+ghost use Rattle.fk_store.specs.World.{world, IsSpace};
 ghost use Rattle.fk_plans.specs.Plans.{caller_by};
 ghost use Rattle.fk_plans.specs.Verdicts.{JudgesGiven, IsVerdict, IsSureVerdict, outcome_by};
-ghost use Rattle.fk_calls.specs.Rows.{IsRow};
+ghost use Rattle.fk_calls.specs.Rows.{IsRow, takes_memory};
 
 use fk_model::status::DENIED;
 use fk_model::{Stage, Who};
+use fk_objects::create;
 use fk_plans::{Caller, Verdict};
+use fk_stages::code_of_stage;
 use fk_store::Store;
 use fk_sync::{mutex_lock, mutex_trylock, mutex_unlock};
 
@@ -31,11 +33,13 @@ fn row(
     stage: &Stage,
     pick: Option<Who>,
 ) -> Result<Verdict, u8>
-    requires { IsRow stage.now }
+    requires built { IsRow stage.now }
+    requires space { IsSpace store.now caller.who.space }
     ensures row { JudgesGiven store.now caller given.now result (λ w c. stage_row w c (picked_by (path store.now) pick) stage.now) }
-    ensures sure { IfOk result IsSureVerdict }
+    ensures sure { takes_memory stage.now ≡ false → IfOk result IsSureVerdict }
 {
     match *stage {
+        Stage::Create { s, x, kind } => create(store, caller, s, x, kind),
         Stage::MutexLock { m } => mutex_lock(store, caller, m),
         Stage::MutexTrylock { m } => mutex_trylock(store, caller, m),
         Stage::MutexUnlock { m } => mutex_unlock(store, caller, m),
@@ -43,16 +47,16 @@ fn row(
     }
 }
 
-/// A stage that is for the other kind of caller: mutexes are for users alone.
+/// A stage that is for the other kind of caller. Mutexes, conditions and talks are for users alone,
+/// but for waiting and the end of a fault.
 fn is_denied(caller: Caller, stage: &Stage) -> bool
-    requires { IsRow stage.now }
     ensures { (p : ℕ → Path) (words : List ℕ) → result ≡ machine.is_denied (caller_by p caller words) stage.now }
 {
-    match stage {
-        Stage::MutexLock { .. } | Stage::MutexTrylock { .. } | Stage::MutexUnlock { .. } => {
-            caller.is_porter
-        }
-        _ => unreachable!(),
+    let code = code_of_stage(stage);
+    if caller.is_porter {
+        21 <= code && code <= 58 && !(code == 48 || code == 56)
+    } else {
+        code == 8 || 60 <= code
     }
 }
 
@@ -65,11 +69,12 @@ pub fn judge(
     stage: &Stage,
     pick: Option<Who>,
 ) -> Verdict
-    requires { IsRow stage.now }
+    requires built { IsRow stage.now }
+    requires space { IsSpace store.now caller.who.space }
     ensures row { let c = caller_by (path store.now) caller given.now in
         outcome_by (world store.now) (path store.now) c result ≡ allowed_row (world store.now) c (picked_by (path store.now) pick) stage.now }
     ensures fits { IsVerdict store.now caller result }
-    ensures sure { IsSureVerdict result }
+    ensures sure { takes_memory stage.now ≡ false → IsSureVerdict result }
 {
     if is_denied(caller, stage) {
         return Verdict::Refused(DENIED);

@@ -1,11 +1,12 @@
 -- Events: what is ready, and what it does, in the machine of the calls that are built.
-use Rattle.std.specs.Prelude.{Option}
+use Rattle.std.specs.Prelude.{Bool, Option}
 use Rattle.fk_model.specs.declared.moves.Ask.TheVariants as asks
 use Rattle.fk_model.specs.Moves.{Step, IsKnownReady, known_step}
 use Rattle.fk_model.specs.Places.{Path}
 use Rattle.fk_model.specs.Runs.{Event}
 use Rattle.fk_model.specs.World.{World}
 use Rattle.fk_stages.specs.Built.{built}
+use Rattle.fk_calls.specs.Rows.{may_want_memory}
 
 -- an event is ready
 abbrev pub IsReadyEvent : World → Event → Type 0
@@ -18,3 +19,7 @@ step_of w e = known_step built w e.mover e.pick e.ask
 -- some user's move is ready
 abbrev pub IsAnyReady : World → Type 0
 IsAnyReady w = (x : Path) × (pick : Option Path) × IsKnownReady built w x pick asks.Run
+
+-- an event may want memory, for an object or a page
+abbrev pub may_lack : World → Event → Bool
+may_lack w e = may_want_memory w e.mover e.ask

@@ -1,12 +1,12 @@
 //! The kernel.
-ghost use Rattle.std.specs.Prelude.{◌≡◌, ◌↔◌, IsTrue, IsOk, IfOk, IfSome, IfNone, OnErr};
+ghost use Rattle.std.specs.Prelude.{◌≡◌, ◌↔◌, false, IsTrue, IsOk, IfOk, IfSome, IfNone, OnErr};
 ghost use Rattle.fk_model.specs.declared.moves.Ask.TheVariants as asks;
 ghost use Rattle.fk_model.specs.Who.{event_of};
 ghost use Rattle.fk_store.specs.Moves.{said_by};
 ghost use Rattle.fk_store.specs.Paths.{path};
 ghost use Rattle.fk_store.specs.World.{world};
 ghost use Rattle.fk_calls.specs.Judgements.{IsReadyMove};
-ghost use Rattle.fk_kernel.specs.Events.{IsReadyEvent, IsAnyReady, step_of};
+ghost use Rattle.fk_kernel.specs.Events.{IsReadyEvent, IsAnyReady, may_lack, step_of};
 
 use fk_model::{Ask, Move, NoMemory, Said};
 use fk_store::Store;
@@ -52,20 +52,22 @@ impl Kernel {
         fk_calls::ready(&self.store, m, ask)
     }
 
-    /// Makes a move, which is ready, and gives what the move tells. It never lacks memory as yet.
+    /// Makes a move, which is ready, and gives what the move tells. Only a stage that makes an object
+    /// or a page may lack memory, and then all stays as it is.
     pub fn step(&mut self, m: &Move, ask: &Ask) -> Result<Said, NoMemory>
         requires ready { IsReadyEvent (world self.old) (event_of (world self.old) ask.now m.now) }
         ensures step { IfOk result (λ said. step_of (world self.old) (event_of (world self.old) ask.now m.now)
             ≡ record { world = world self.new; said = said_by (path self.new) said }) }
         ensures lacking { OnErr result (self.new ≡ self.old) }
-        ensures done { IsOk result }
+        ensures done { may_lack (world self.old) (event_of (world self.old) ask.now m.now) ≡ false → IsOk result }
     {
         self.store.names();
         fk_calls::take(&mut self.store, m, ask)
     }
 
     /// Makes a move where it is ready, and gives what the move tells; none where it isn't, and then
-    /// all stays as it is. It never lacks memory as yet.
+    /// all stays as it is. Only a stage that makes an object or a page may lack memory, and then too
+    /// all stays as it is.
     pub fn attempt(&mut self, m: &Move, ask: &Ask) -> Result<Option<Said>, NoMemory>
         ensures made { IfOk result (λ tried. IfSome tried (λ said.
             IsReadyEvent (world self.old) (event_of (world self.old) ask.now m.now)
@@ -75,7 +77,7 @@ impl Kernel {
             (IsReadyEvent (world self.old) (event_of (world self.old) ask.now m.now) → ⊥)
             × (self.new ≡ self.old))) }
         ensures lacking { OnErr result (self.new ≡ self.old) }
-        ensures done { IsOk result }
+        ensures done { may_lack (world self.old) (event_of (world self.old) ask.now m.now) ≡ false → IsOk result }
     {
         self.store.names();
         fk_calls::attempt(&mut self.store, m, ask)

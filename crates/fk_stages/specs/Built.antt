@@ -6,6 +6,7 @@ use Rattle.fk_model.specs.Moves.{Known}
 -- their codes
 abbrev pub built_codes : List ℕ
 built_codes =
+    1 ∷
     21 ∷
     22 ∷
     23 ∷

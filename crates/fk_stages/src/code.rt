@@ -1,5 +1,5 @@
 //! The codes of calls.
-ghost use Rattle.std.specs.Prelude.{◌≡◌, ◌≤◌, ◌∷◌, []};
+ghost use Rattle.std.specs.Prelude.{◌≡◌, ◌≤◌};
 ghost use Rattle.fk_model.specs.Calls as calls;
 
 use fk_model::{Stage, Todo};
@@ -41,8 +41,8 @@ fn code_of_talks_stage(stage: &Stage) -> u64
     }
 }
 
-/// The code of a call of one stage.
-fn code_of_stage(stage: &Stage) -> u64
+/// The code of a call of one stage: 1 to 27, 32, 36 to 39, 48, 50 to 52, 55, 56, 60 to 65.
+pub fn code_of_stage(stage: &Stage) -> u64
     ensures { result ≡ calls.code_of_stage stage.now }
 {
     match stage {
@@ -75,14 +75,6 @@ fn code_of_stage(stage: &Stage) -> u64
         Stage::CondBroadcast { .. } => 27,
         other => code_of_talks_stage(other),
     }
-}
-
-/// The code of the call of one stage.
-#[tactic(auto, unfolding(fk_model::specs::Calls::code_of))]
-pub fn code_of_one(stage: &Stage) -> u64
-    ensures { result ≡ calls.code_of (stage.now ∷ []) }
-{
-    code_of_stage(stage)
 }
 
 /// The code of a list of stages; 0 where no call has them.

@@ -15,7 +15,7 @@ mod code;
 mod naming;
 mod registers;
 
-use code::code_of_one;
+pub use code::code_of_stage;
 use fk_model::{Stage, Todo};
 use naming::named;
 pub use registers::words;
@@ -24,7 +24,7 @@ pub use registers::words;
 fn is_built_code(code: u64) -> bool
     ensures { result ≡ built.calls code }
 {
-    matches!(code, 21 | 22 | 23)
+    matches!(code, 1 | 21 | 22 | 23)
 }
 
 /// The stages that the registers name. None exactly where the first register holds the code of no
@@ -39,8 +39,9 @@ pub fn todo(registers: &[u64; 16]) -> Option<Todo>
 }
 
 /// Whether the call that is this one stage is built.
+#[tactic(auto, unfolding(fk_model::specs::Calls::code_of))]
 pub fn is_built(stage: &Stage) -> bool
     ensures { result ≡ built.calls (code_of (stage.now ∷ [])) }
 {
-    is_built_code(code_of_one(stage))
+    is_built_code(code_of_stage(stage))
 }

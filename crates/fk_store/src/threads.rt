@@ -1,5 +1,5 @@
 //! What moves do to threads.
-ghost use Rattle.std.specs.Prelude.{◌≡◌, ◌≤◌, ℕ, List, [], length, option_map, IfSome};
+ghost use Rattle.std.specs.Prelude.{◌≡◌, ◌≤◌, ℕ, List, [], length, option_map, true, IfSome, IsSome};
 ghost use Rattle.std.specs.Option.{option_copied};
 ghost use Rattle.fk_model.specs.Holds as holds;
 ghost use Rattle.fk_model.specs.Objects.Body.{Thread_of};
@@ -12,7 +12,7 @@ ghost use Rattle.fk_store.specs.Paths.{path, place};
 ghost use Rattle.fk_store.specs.Bodies.{mode_by, thread_by};
 ghost use Rattle.fk_store.specs.Named.{OnNamed};
 ghost use Rattle.fk_store.specs.Threads.{todo_at, is_free_at};
-ghost use Rattle.fk_store.specs.World.{world, IsLive};
+ghost use Rattle.fk_store.specs.World.{world, IsLive, IsSpace};
 ghost use Rattle.fk_model.specs.Searches.{thread_at};
 
 use crate::store::Store;
@@ -24,6 +24,7 @@ impl Store {
     pub fn thread(&self, who: Who) -> Option<&Thread>
         ensures thread { option_map (thread_by (path self.now)) (option_copied result) ≡ thread_at (world self.now) (place (path self.now) who) }
         ensures named { IfSome result (λ thread. OnNamed (IsLive self.now) (Body.Thread thread.now)) }
+        ensures space { IsSome result → IsSpace self.now who.space }
     {
         match self.at(who) {
             Some(Body::Thread(thread)) => Some(thread),
@@ -45,7 +46,8 @@ impl Store {
     /// calls. False where no thread is there.
     #[tactic(auto, unfolding(crate::specs::Threads::is_free_at))]
     pub fn is_free(&self, who: Who) -> bool
-        ensures { result ≡ is_free_at (world self.now) (place (path self.now) who) }
+        ensures free { result ≡ is_free_at (world self.now) (place (path self.now) who) }
+        ensures space { result ≡ true → IsSpace self.now who.space }
     {
         match self.thread(who) {
             None => false,

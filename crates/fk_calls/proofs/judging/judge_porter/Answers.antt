@@ -11,8 +11,8 @@ returns-then-not-is_free_porter-clause-never c = held_porter _ _ _ _ _ _ (cc)
 pub returns-then-not-is_built-clause-never : goal.returns-then-not-is_built-clause-never
 returns-then-not-is_built-clause-never c = unbuilt_porter _ _ _ _ _ _ (cc) (cc)
 
-pub judge-requires : goal.judge-requires
-judge-requires c = row_built _ (cc)
+pub judge-requires-clause-built : goal.judge-requires-clause-built
+judge-requires-clause-built c = row_built _ (cc)
 
 pub returns-clause-judged : goal.returns-clause-judged
 returns-clause-judged c =
