@@ -61,6 +61,7 @@ plain_iff w me x e plain = let test = not_iff (is_frozen_for w me x) in ((λ h. 
 deed_iff : (w v : World) (me : Path) (p : ℕ → Path) (d : Deed) → IsTrue (is_deed_allowed w me p d) ↔ IsAllowed w me (change_by p d v)
 deed_iff w v me p (deeds.Locks mutex locked) = plain_iff w me (place p mutex) (SetLocked locked) (record { changed = λ b. refl; made = refl })
 deed_iff w v me p (deeds.Sends block) = not_iff (is_frozen_for w me (p block.to.0))
+deed_iff w v me p (deeds.Stops thread stops) = plain_iff w me (place p thread) _ (record { changed = λ b. refl; made = refl })
 deed_iff w v me p (deeds.Copies from to) = not_iff (is_frozen_for w me (p to.0))
 deed_iff w v me p (deeds.Drops space page) = not_iff (is_frozen_for w me (p space))
 deed_iff w v me p (deeds.Counts client count) = plain_iff w me (place p client) _ (record { changed = λ b. refl; made = refl })

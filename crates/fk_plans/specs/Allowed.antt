@@ -21,6 +21,7 @@ is_deed_allowed w me p (deeds.Sends block) = not (is_frozen_for w me (p block.to
 is_deed_allowed w me p (deeds.Counts client count) = not (is_frozen_for w me (place p client))
 is_deed_allowed w me p (deeds.Shifts thread count) = not (is_frozen_for w me (place p thread))
 is_deed_allowed w me p (deeds.Ends thread status) = not (is_frozen_for w me (place p thread))
+is_deed_allowed w me p (deeds.Stops thread stops) = not (is_frozen_for w me (place p thread))
 is_deed_allowed w me p (deeds.Copies from to) = not (is_frozen_for w me (p to.0))
 is_deed_allowed w me p (deeds.Drops space page) = not (is_frozen_for w me (p space))
 

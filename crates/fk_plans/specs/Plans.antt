@@ -9,7 +9,7 @@ use Rattle.fk_model.specs.Reach.{words_at}
 use Rattle.fk_model.specs.Valid.{birth_at}
 use Rattle.fk_model.specs.World.{World, Change, apply}
 use Rattle.fk_model.specs.World.Change.{Alter, PutPage, DropPage}
-use Rattle.fk_model.specs.World.Edit.{SetLocked, Replace, CountMoved, Shift, End}
+use Rattle.fk_model.specs.World.Edit.{SetLocked, SetStops, Replace, CountMoved, Shift, End}
 use Rattle.fk_store.specs.Paths.{place}
 use Rattle.fk_threads.specs.Shifted.{IsLow}
 use Rattle.fk_threads.specs.Sleepers.{IsAsleep}
@@ -34,6 +34,7 @@ change_by p (deeds.Sends block) w = PutPage (p block.to.0) block.to.1 (block_pag
 change_by p (deeds.Counts client count) w = Alter (place p client) (CountMoved count)
 change_by p (deeds.Shifts thread count) w = Alter (place p thread) (Shift count)
 change_by p (deeds.Ends thread status) w = Alter (place p thread) (End status [])
+change_by p (deeds.Stops thread stops) w = Alter (place p thread) (SetStops stops)
 change_by p (deeds.Copies from to) w = PutPage (p to.0) to.1 (words_at w (p from.0) from.1)
 change_by p (deeds.Drops space page) w = DropPage (p space) page
 
@@ -70,6 +71,7 @@ IsDeed p w (deeds.Sends block) = IsBlock p w block
 IsDeed p w (deeds.Counts client count) = ⊤
 IsDeed p w (deeds.Shifts thread count) = IsLow w (place p thread) count
 IsDeed p w (deeds.Ends thread status) = ⊤
+IsDeed p w (deeds.Stops thread stops) = ⊤
 IsDeed p w (deeds.Copies from to) = IsSome (w.page (p from.0) from.1) × (birth_at w (p to.0) ≡ Some to.0) × IsSome (w.page (p to.0) to.1)
 IsDeed p w (deeds.Drops space page) = ⊤
 

@@ -8,6 +8,7 @@
 
 mod blocks;
 mod carrying;
+mod handles;
 mod instructions;
 mod making;
 mod plan;
@@ -18,6 +19,7 @@ mod telling;
 
 pub use blocks::Block;
 pub use carrying::carry_out;
+pub use handles::{handle, led_to, referred, thread_by_handle};
 pub use instructions::make_effect;
 pub use plan::{Caller, Deed, Effect, Plan, Verdict, Words};
 pub use readers::{cond_in, mutex_in, place, slot_for};

@@ -20,7 +20,9 @@ fn is_deed_allowed(store: &Store, me: Who, deed: &Deed) -> bool
         Deed::Wakes { thread, .. } => !store.frozen_for(me, thread),
         Deed::Sends(block) => !store.space_frozen_for(me, block.to.0),
         Deed::Counts { client, .. } => !store.frozen_for(me, client),
-        Deed::Shifts { thread, .. } | Deed::Ends { thread, .. } => !store.frozen_for(me, thread),
+        Deed::Shifts { thread, .. } | Deed::Ends { thread, .. } | Deed::Stops { thread, .. } => {
+            !store.frozen_for(me, thread)
+        }
         Deed::Copies { to, .. } => !store.space_frozen_for(me, to.0),
         Deed::Drops { space, .. } => !store.space_frozen_for(me, space),
     }
