@@ -1,0 +1,29 @@
+//! What joins the laws of subtrees: over runs, from closed to plain, and what the outside is told. Each law is the contract
+//! of a function that does nothing.
+//!
+//! It stands on `fk_transparency` and `fk_whole`, and on what these stand on.
+#![tactic(auto)]
+
+ghost use Rattle.fk_further.specs.ClosedLaws.{ClosedIsPlain};
+ghost use Rattle.fk_further.specs.Runs.{DueRunKeepsCut, CutIsCutWorld, FurtherStaysCutWorld};
+
+/// Whatever a machine does, where it begins in a runnable world and no move is seen as other: the
+/// subtree stays plain, and its cut does the moves as which these are seen, and ends where they end.
+pub fn a_run_from_its_start_keeps_the_cut()
+    ensures { DueRunKeepsCut }
+{}
+
+/// The cut of a plain subtree is a world that shows nothing but what lies in it.
+pub fn a_cut_shows_itself()
+    ensures { CutIsCutWorld }
+{}
+
+/// And so is what each further run of it ends in.
+pub fn further_runs_show_themselves()
+    ensures { FurtherStaysCutWorld }
+{}
+
+/// A closed subtree is plain, where it has no porter and no served port.
+pub fn a_closed_subtree_is_plain()
+    ensures { ClosedIsPlain }
+{}
