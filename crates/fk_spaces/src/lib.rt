@@ -6,6 +6,8 @@
 
 mod finding;
 mod pages;
+mod stops;
 
 pub use finding::page_next;
 pub use pages::{page_give, page_read, page_take};
+pub use stops::{thread_go, thread_stop};
