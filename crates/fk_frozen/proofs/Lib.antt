@@ -4,3 +4,4 @@ pub mod FrozenCut
 pub mod FrozenLaws
 pub mod Users
 pub mod Holding
+pub mod once

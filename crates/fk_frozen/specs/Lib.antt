@@ -1,3 +1,4 @@
 pub mod Frozen
 pub mod Users
 pub mod Holding
+pub mod Once

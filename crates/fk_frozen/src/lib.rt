@@ -1,4 +1,5 @@
-//! What stays of a subtree while another decides over it, each law the contract of a function that does nothing.
+//! What stays of a subtree while another decides over it, and what users can touch at all. Each law is the contract of a
+//! function that does nothing.
 //!
 //! It stands on `fk_model`, whose definitions the laws are about, and on `fk_laws`.
 #![tactic(auto)]
@@ -6,6 +7,7 @@
 ghost use Rattle.fk_frozen.specs.Frozen.{FrozenSubtreeStays, FrozenCutStays};
 ghost use Rattle.fk_frozen.specs.Users.{UsersNameLow};
 ghost use Rattle.fk_frozen.specs.Holding.{OthersKeepHold};
+ghost use Rattle.fk_frozen.specs.Once.{UsersTouchOnce};
 
 /// A ready move of one who doesn't decide over a held subtree leaves its bodies, its pages, and the
 /// kinds of what its pointers lead to.
@@ -31,4 +33,10 @@ pub fn users_name_low()
 /// its scratch, and that nobody decides above it.
 pub fn others_keep_a_porters_hold()
     ensures { OthersKeepHold }
+{}
+
+/// Of the changes of a move of a user or a native server at most one makes, destroys or renames an
+/// object, or sets a pointer. What it makes is new.
+pub fn users_touch_pointers_once()
+    ensures { UsersTouchOnce }
 {}

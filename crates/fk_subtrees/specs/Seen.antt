@@ -110,7 +110,7 @@ abbrev pub inner_server : Path
 inner_server = in_subtree 6
 
 unfoldable pub talking_inside : World
-talking_inside = facing_beside inner_server (server_receives 9) (running 0 [])
+talking_inside = facing_beside inner_server (calling 30 (50 ∷ 0 ∷ 0 ∷ 0 ∷ 192 ∷ 9 ∷ [])) (running 0 [])
     (with_talk (record { port = At (in_subtree 5); peer = Server (At inner_server); turn = turns.Client; moved = 0 }) (sends_words 5))
 
 unfoldable pub sleeping_inside : World
