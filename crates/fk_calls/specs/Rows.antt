@@ -3,7 +3,7 @@ use Rattle.std.specs.Prelude.{Bool, true, false, List, [], ◌∷◌, ⊤}
 use Rattle.fk_model.specs.declared.moves.Ask.{Ask}
 use Rattle.fk_model.specs.declared.moves.Ask.TheVariants as asks
 use Rattle.fk_model.specs.declared.stage.Stage.{Stage}
-use Rattle.fk_model.specs.declared.stage.Stage.TheVariants.{Create, PageGive, SpaceMakeHeld, MutexLock, MutexTrylock, MutexUnlock}
+use Rattle.fk_model.specs.declared.stage.Stage.TheVariants.{Create, ThreadStop, ThreadGo, PageGive, PageTake, PageRead, PageNext, SpaceMakeHeld, MutexLock, MutexTrylock, MutexUnlock}
 use Rattle.fk_model.specs.Places.{Path}
 use Rattle.fk_model.specs.World.{World}
 use Rattle.fk_store.specs.Threads.{todo_at}
@@ -11,6 +11,12 @@ use Rattle.fk_store.specs.Threads.{todo_at}
 -- there is a judge of it
 abbrev pub IsRow : Stage → Type 0
 IsRow (Create s x kind) = ⊤
+IsRow (ThreadStop h) = ⊤
+IsRow (ThreadGo h) = ⊤
+IsRow (PageGive s page address) = ⊤
+IsRow (PageTake s page address) = ⊤
+IsRow (PageRead s page address) = ⊤
+IsRow (PageNext s from) = ⊤
 IsRow (MutexLock m) = ⊤
 IsRow (MutexTrylock m) = ⊤
 IsRow (MutexUnlock m) = ⊤

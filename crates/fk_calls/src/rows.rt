@@ -14,6 +14,7 @@ use fk_model::status::DENIED;
 use fk_model::{Stage, Who};
 use fk_objects::create;
 use fk_plans::{Caller, Verdict};
+use fk_spaces::{page_give, page_next, page_read, page_take, thread_go, thread_stop};
 use fk_stages::code_of_stage;
 use fk_store::Store;
 use fk_sync::{mutex_lock, mutex_trylock, mutex_unlock};
@@ -40,6 +41,12 @@ fn row(
 {
     match *stage {
         Stage::Create { s, x, kind } => create(store, caller, s, x, kind),
+        Stage::ThreadStop { h } => thread_stop(store, caller, h),
+        Stage::ThreadGo { h } => thread_go(store, caller, h),
+        Stage::PageGive { s, page, addr } => page_give(store, caller, s, page, addr),
+        Stage::PageTake { s, page, addr } => page_take(store, caller, s, page, addr),
+        Stage::PageRead { s, page, addr } => page_read(store, caller, s, page, addr),
+        Stage::PageNext { s, from } => page_next(store, caller, s, from),
         Stage::MutexLock { m } => mutex_lock(store, caller, m),
         Stage::MutexTrylock { m } => mutex_trylock(store, caller, m),
         Stage::MutexUnlock { m } => mutex_unlock(store, caller, m),

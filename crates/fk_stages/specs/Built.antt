@@ -7,6 +7,12 @@ use Rattle.fk_model.specs.Moves.{Known}
 abbrev pub built_codes : List ℕ
 built_codes =
     1 ∷
+    15 ∷
+    16 ∷
+    17 ∷
+    18 ∷
+    19 ∷
+    20 ∷
     21 ∷
     22 ∷
     23 ∷
