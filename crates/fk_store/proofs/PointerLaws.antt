@@ -5,7 +5,7 @@ use Rattle.std.proofs.lemmas.List.Sums.{sum_by-cons, sum_by-append}
 use Rattle.std.specs.declared.cmp.Ordering.{Ordering}
 use Rattle.std.specs.declared.cmp.Ordering.TheVariants.{Less, Equal, Greater}
 use Rattle.std.proofs.lemmas.Cmp.{tied_itself}
-use Rattle.fk_tables.proofs.TableLaws.{second}
+use Rattle.fk_tables.proofs.Found.{second}
 use Rattle.std.specs.FinMap.Entries.{below_all}
 use Rattle.std.specs.FinMap.{get, entries, entries_sorted, get-entries, is_sorted}
 use Rattle.fk_model.specs.declared.names.Who.{Who}

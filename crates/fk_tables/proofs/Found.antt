@@ -1,8 +1,8 @@
 -- Found: what a search among the entries of a map tells.
-use Rattle.std.proofs.Common.{cond, inl, inr, ◌≡◌, Bool, true, false, List, [], ◌∷◌, Option, Some, None, option_map, find, IfSome, refl, sym, ap, subst, ◌∙◌, T}
+use Rattle.std.proofs.Common.{cond, inl, inr, ◌≡◌, Bool, true, false, ◌&&◌, List, [], ◌∷◌, Option, Some, None, option_map, find, IfSome, refl, sym, ap, subst, ◌∙◌, T}
 use Rattle.std.specs.declared.cmp.Ordering.{Ordering}
 use Rattle.std.specs.declared.cmp.Ordering.TheVariants.{Less, Equal, Greater}
-use Rattle.std.specs.Ordering.{is_lt, eq_by_cmp}
+use Rattle.std.specs.Ordering.{is_lt, eq_by_cmp, ordering_reverse}
 use Rattle.std.specs.Cmp.{IsTotalOrder}
 use Rattle.std.proofs.lemmas.Cmp.{tied_itself}
 use Rattle.std.specs.FinMap as finmap
@@ -11,9 +11,24 @@ use Rattle.std.specs.FinMap.Entries.{below_all, find_tied}
 use Rattle.fk_model.specs.declared.names.Who.{Who}
 use Rattle.fk_model.specs.declared.body.Body.{Body}
 use Rattle.fk_tables.specs.Names.{who_cmp}
-use Rattle.fk_tables.proofs.TableLaws.{first, second, less, less_back}
 use Rattle.fk_model.proofs.walks.Members.{IsIn}
 use Rattle.fk_tables.proofs.NameLaws.{who_total}
+
+first : (a b : Bool) → T (a && b) → T a
+first true b p = tt
+first false b p = p
+
+pub second : (a b : Bool) → T (a && b) → T b
+second true b p = p
+second false b p = absurd p
+
+less : (o : Ordering) → T (is_lt o) → o ≡ Less
+less Less p = refl
+less Equal p = absurd p
+less Greater p = absurd p
+
+less_back : {K : Type 0} {R : K → K → Ordering} (o : IsTotalOrder R) (x y : K) → R x y ≡ Less → R y x ≡ Greater
+less_back o x y e = o.antisymm y x ∙ ap ordering_reverse e
 
 module _ {K X : Type 0} {R : K → K → Ordering} (o : IsTotalOrder R) where
   -- a key below all others isn't among them

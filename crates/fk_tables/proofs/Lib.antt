@@ -1,6 +1,5 @@
 pub mod NameLaws
-pub mod TableLaws
-pub mod NextKeys
+pub mod ScanLaws
 pub mod Found
 pub mod HomeLaws
 pub mod Results

@@ -7,7 +7,8 @@ use Rattle.std.specs.FinMap.{FinMap, get, insert, remove, get-insert, get-remove
 use Rattle.std.proofs.lemmas.Cmp.{on_total, then_total}
 use Rattle.std.proofs.lemmas.Map.Lookups.{exact_pairs, exact_unsigned}
 use Rattle.fk_model.specs.declared.names.Who.{Who}
-use Rattle.fk_tables.specs.Names.{at, same_who, who_cmp, page_cmp}
+use Rattle.fk_slots.specs.Tabled.{IsNaming}
+use Rattle.fk_tables.specs.Names.{at, page_at, same_who, who_cmp, page_cmp}
 
 pub who_total : IsTotalOrder who_cmp
 who_total = then_total (on_total (λ (w : Who). w.space) nat_cmp_total) (on_total (λ (w : Who). w.slot) nat_cmp_total)
@@ -45,3 +46,29 @@ pub get-renamed : {X : Type 0} (old left new : FinMap who_cmp X) (from to : Who)
     (q : Who) → get new q ≡ cond (same_who q to) (get old from) (cond (same_who q from) None (get old q))
 get-renamed old left new from to x there removed inserted q =
     rw (inserted, get-insert who_total left to x q, removed, get-remove who_total old from q, same_tied q to, same_tied q from, there) refl
+
+-- ---- the names of slots and pages
+
+pub who_naming : IsNaming who_cmp at
+who_naming = record {
+  total = who_total;
+  exact = who_exact;
+  spaces = λ s j t k low. grind (arith, nat_tests);
+  slots = λ s j k low. grind (arith, nat_tests);
+  tied = λ s j t k. grind (arith, nat_tests);
+  space = λ q. q.space;
+  slot = λ q. q.slot;
+  named = λ q. refl;
+}
+
+pub page_naming : IsNaming page_cmp page_at
+page_naming = record {
+  total = page_total;
+  exact = page_exact;
+  spaces = λ s j t k low. grind (arith, nat_tests);
+  slots = λ s j k low. grind (arith, nat_tests);
+  tied = λ s j t k. grind (arith, nat_tests);
+  space = λ q. q.0;
+  slot = λ q. q.1;
+  named = λ q. refl;
+}

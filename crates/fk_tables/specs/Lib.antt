@@ -1,6 +1,5 @@
 pub mod Names
 pub mod Orders
-pub mod Sorted
 pub mod Births
 pub mod Homes
 pub mod Sweeps

@@ -20,5 +20,9 @@ who_cmp a b = ordering_then (nat_cmp a.space b.space) (nat_cmp a.slot b.slot)
 abbrev pub page_cmp : ℕ × ℕ → ℕ × ℕ → Ordering
 page_cmp a b = ordering_then (nat_cmp a.0 b.0) (nat_cmp a.1 b.1)
 
+-- a page of a space
+abbrev pub page_at : ℕ → ℕ → ℕ × ℕ
+page_at space page = (space, page)
+
 abbrev pub coded_who : Coded Who
 coded_who = code_by (ℕ × ℕ) (coded× coded_ℕ coded_ℕ) (λ w. (w.space, w.slot)) (λ p. at p.0 p.1) (λ _. refl)

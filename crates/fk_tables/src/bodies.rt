@@ -1,55 +1,57 @@
 //! The bodies of all objects, by their names.
-ghost use Rattle.std.specs.Prelude.{◌≡◌, ℕ, OnOk, OnErr, IsSome, IfSome, Some, None, true, false, if◌then◌else◌, option_map, find, map as each};
+ghost use Rattle.std.specs.Prelude.{◌≡◌, ℕ, OnOk, OnErr, IsSome, IfSome, Some, None, true, false, if◌then◌else◌, option_map};
 ghost use Rattle.std.specs.Option.{option_copied};
 ghost use Rattle.std.specs.FinMap as map;
+ghost use Rattle.std.specs.FinMap.{entries};
+ghost use Rattle.std.specs.List.{sum_by};
 ghost use Rattle.fk_model.specs.declared.names.Who.{Who};
 ghost use Rattle.fk_model.specs.declared.body.Body.{Body};
 ghost use Rattle.fk_model.specs.Objects.{and_then};
-ghost use Rattle.fk_tables.specs.Names.{who_cmp, same_who};
-ghost use Rattle.fk_tables.specs.Parts.{plays};
-ghost use Rattle.fk_tables.specs.Pointers.{body_hits};
-ghost use Rattle.std.specs.FinMap.{entries};
-ghost use Rattle.std.specs.List.{sum_by};
-ghost use Rattle.fk_tables.specs.Sweeps.{body_after, swept};
-ghost use Rattle.fk_tables.specs.Orders.{IsFirstAfter};
+ghost use Rattle.fk_slots.specs.Cells.{is_from};
 ghost use Rattle.fk_tables.specs.Births.{stored_birth, home_in};
 ghost use Rattle.fk_tables.specs.Homes.{birth_in};
+ghost use Rattle.fk_tables.specs.Names.{at, who_cmp, same_who};
+ghost use Rattle.fk_tables.specs.Orders.{comes_after, IsFirstAfter};
+ghost use Rattle.fk_tables.specs.Parts.{plays};
+ghost use Rattle.fk_tables.specs.Pointers.{body_hits};
+ghost use Rattle.fk_tables.specs.Sweeps.{body_after};
 
-use crate::hits::hits;
 use crate::homes::{home_of, make_room, settle};
 use crate::parts::Part;
+use crate::scans::{count_hits, first_among, sweep_each};
+use crate::stored::Stored;
 use crate::sweeps::Sweep;
-use crate::tables::{next_key, put_value, set_value, take_away, value_of};
 use fk_model::{Body, NoMemory, Who};
+use fk_slots::{Row, lay_value, next_taken, put_value, take_value, value_at};
 use std::alloc::Global;
 use std::marker::Model;
 
 /// The bodies of all objects.
 #[derive(Drop)]
 pub struct Bodies {
-    entries: Vec<(Who, Body)>,
+    /// For each birth number the objects in that space, by slot.
+    rows: Vec<Row<Stored>>,
     /// Where the space with each birth number stands.
     homes: Vec<Option<Who>>,
 }
 
 impl Model for Bodies {
-    ghost use Rattle.std.specs.Prelude.{T};
-    ghost use Rattle.std.specs.FinMap.{FinMap, is_sorted};
+    ghost use Rattle.std.specs.Prelude.{◌≤◌, length};
+    ghost use Rattle.std.specs.FinMap.{FinMap};
     ghost use Rattle.std.specs.FinMap as finmap;
     ghost use Rattle.fk_model.specs.declared.body.Body.{Body};
     ghost use Rattle.fk_model.specs.contracts.body.Body as body;
-    ghost use Rattle.fk_tables.specs.Names.{who_cmp, coded_who};
-    ghost use Rattle.fk_tables.specs.Sorted.{map_of};
+    ghost use Rattle.fk_slots.specs.Tabled.{map_of_rows};
+    ghost use Rattle.fk_tables.specs.Homes.{IsHomed};
+    ghost use Rattle.fk_tables.specs.Names.{at, who_cmp, coded_who};
 
     ghost Value = { FinMap who_cmp Body };
 
     ghost coded = { finmap.code coded_who body.the_row.coded };
 
-    ghost view = { λ s. map_of who_cmp s.entries.items };
+    ghost view = { λ s. map_of_rows who_cmp at s.rows.items };
 
-    ghost use Rattle.fk_tables.specs.Homes.{IsHomed};
-
-    ghost invariant = { λ s. T (is_sorted who_cmp s.entries.items) × IsHomed (map_of who_cmp s.entries.items) s.homes.items };
+    ghost invariant = { λ s. (length s.rows.items ≤ 4294967296) × IsHomed (map_of_rows who_cmp at s.rows.items) s.homes.items };
 }
 
 impl Bodies {
@@ -58,7 +60,7 @@ impl Bodies {
         ensures { result ≡ map.empty }
     {
         Bodies {
-            entries: Vec::new(alloc),
+            rows: Vec::new(alloc),
             homes: Vec::new(alloc),
         }
     }
@@ -67,7 +69,10 @@ impl Bodies {
     pub fn at(&self, who: Who) -> Option<&Body>
         ensures { option_copied result ≡ map.get self.now who }
     {
-        value_of(&self.entries, who)
+        match value_at(&self.rows, who.space, who.slot) {
+            None => None,
+            Some(stored) => Some(stored.body()),
+        }
     }
 
     /// The birth number of an object, if it is a space.
@@ -83,7 +88,10 @@ impl Bodies {
         requires birth { birth_in self.old who ≡ stored_birth body }
         ensures { self.new ≡ map.insert self.old who body }
     {
-        set_value(&mut self.entries, who, body);
+        if let Some(mut stored) = take_value(&mut self.rows, who.space, who.slot) {
+            stored.put(body);
+            lay_value(&mut self.rows, who.space, who.slot, stored);
+        }
     }
 
     /// Puts an object in an empty slot. No other space has its birth number. For want of memory all
@@ -96,7 +104,8 @@ impl Bodies {
     {
         let birth = birth_of(&body);
         make_room(&mut self.homes, birth)?;
-        put_value(&mut self.entries, who, body)?;
+        let stored = Stored::of(*self.rows.allocator(), body)?;
+        put_value(&mut self.rows, who.space, who.slot, stored)?;
         settle(&mut self.homes, birth, Some(who));
         Ok(())
     }
@@ -106,20 +115,21 @@ impl Bodies {
         ensures { self.new ≡ map.remove self.old who }
     {
         let birth = self.birth(who);
-        take_away(&mut self.entries, who);
+        let _gone = take_value(&mut self.rows, who.space, who.slot);
         settle(&mut self.homes, birth, None);
     }
 
-    /// Gives an object another name, which is free.
+    /// Gives an object another slot of its space, which is free.
     pub fn rename(&mut self, from: Who, to: Who)
         requires there { IsSome (map.get self.old from) }
         requires free { map.get self.old to ≡ None }
+        requires space { to.space ≡ from.space }
         ensures { (q : Who) → map.get self.new q ≡ if same_who q to then map.get self.old from else (if same_who q from then None else map.get self.old q) }
     {
-        if let Some(&body) = self.at(from) {
-            take_away(&mut self.entries, from);
-            put_value(&mut self.entries, to, body).unwrap();
-            settle(&mut self.homes, birth_of(&body), Some(to));
+        if let Some(stored) = take_value(&mut self.rows, from.space, from.slot) {
+            let birth = birth_of(stored.body());
+            lay_value(&mut self.rows, to.space, to.slot, stored);
+            settle(&mut self.homes, birth, Some(to));
         }
     }
 
@@ -128,21 +138,21 @@ impl Bodies {
         ensures some { IfSome result (λ who. (b : Body) × (map.get self.now who ≡ Some b) × (plays part b ≡ true)) }
         ensures none { result ≡ None → (who : Who) (b : Body) → map.get self.now who ≡ Some b → plays part b ≡ false }
     {
-        first_among(&self.entries, part)
+        first_among(&self.rows, part)
     }
 
     /// How many pointers of all bodies lead to an object.
     pub fn pointers_at(&self, who: Who) -> u64
         ensures { result ≡ sum_by (λ e. body_hits who e.1) (entries self.now) }
     {
-        count_hits(&self.entries, who)
+        count_hits(&self.rows, who)
     }
 
     /// Sweeps all bodies.
     pub fn sweep(&mut self, sweep: Sweep)
         ensures { (q : Who) → map.get self.new q ≡ option_map (body_after sweep q.space) (map.get self.old q) }
     {
-        sweep_each(&mut self.entries, sweep);
+        sweep_each(&mut self.rows, sweep);
     }
 
     /// The first object after this one, by space and then by slot; the first of all where there is
@@ -150,7 +160,11 @@ impl Bodies {
     pub fn after(&self, who: Option<Who>) -> Option<Who>
         ensures { IsFirstAfter who_cmp (λ k. IsSome (map.get self.now k)) who result }
     {
-        next_key(&self.entries, who)
+        let (space, slot) = start_after(who);
+        match next_taken(&self.rows, space, slot) {
+            None => None,
+            Some((space, slot)) => Some(Who { space, slot }),
+        }
     }
 
     /// The place of the space with this birth number.
@@ -161,35 +175,6 @@ impl Bodies {
     }
 }
 
-fn sweep_each(entries: &mut Vec<(Who, Body)>, sweep: Sweep)
-    ensures { entries.new.items ≡ each (swept sweep) entries.old.items }
-{
-    for entry in entries.iter_mut() {
-        entry.1 = sweep.body(entry.0.space, entry.1);
-    }
-}
-
-fn count_hits(entries: &[(Who, Body)], who: Who) -> u64
-    ensures { result ≡ sum_by (λ e. body_hits who e.1) entries.now }
-{
-    let mut count = 0;
-    for entry in entries {
-        count += hits(who, &entry.1);
-    }
-    count
-}
-
-fn first_among(entries: &[(Who, Body)], part: Part) -> Option<Who>
-    ensures { result ≡ option_map (λ e. e.0) (find (λ e. plays part e.1) entries.now) }
-{
-    for entry in entries {
-        if part.is_played_by(&entry.1) {
-            return Some(entry.0);
-        }
-    }
-    None
-}
-
 /// The birth number of a space.
 fn birth_of(body: &Body) -> Option<u32>
     ensures { result ≡ stored_birth body.now }
@@ -197,5 +182,16 @@ fn birth_of(body: &Body) -> Option<u32>
     match body {
         Body::Space { birth, .. } => Some(*birth),
         _ => None,
+    }
+}
+
+/// The space and the slot from which on all come after an object; the first of all where there is
+/// none.
+fn start_after(who: Option<Who>) -> (u32, u16)
+    ensures { (s k : ℕ) → is_from result.0 result.1 s k ≡ comes_after who_cmp who (at s k) }
+{
+    match who {
+        None => (0, 0),
+        Some(who) => (who.space, u16::from(who.slot) + 1),
     }
 }

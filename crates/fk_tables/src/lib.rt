@@ -1,9 +1,9 @@
 //! The objects and the pages of a store, by name.
 //!
-//! It stands on `fk_model` alone. `Bodies` and `Pages` are finite maps to a caller, kept as vectors
-//! in the order of their keys. A name is the birth number of a space and a slot or a page there;
-//! where a space is, and whether it is live, is nothing to this crate. It promises what each change
-//! makes of the map, and that only a new key takes memory.
+//! It stands on `fk_model` and on `fk_slots`, which keeps values by birth number and slot, each one
+//! step away. `Bodies` and `Pages` are finite maps to a caller. A name is the birth number of a
+//! space and a slot or a page there; whether the space is live is nothing to this crate. It promises
+//! what each change makes of the map, and that only what is new takes memory.
 #![tactic(auto)]
 
 mod bodies;
@@ -11,8 +11,9 @@ mod hits;
 mod homes;
 mod pages;
 mod parts;
+mod scans;
+mod stored;
 mod sweeps;
-mod tables;
 
 pub use bodies::Bodies;
 pub use pages::Pages;

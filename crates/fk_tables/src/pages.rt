@@ -1,14 +1,11 @@
 //! The pages of all spaces.
-ghost use Rattle.std.specs.Prelude.{◌≡◌, ℕ, ◌<◌, ◌==◌, if◌then◌else◌, None, [], T, unwrap_or, slice_set, OnOk, OnErr, IsSome, IsOk, IfOk, IfErr};
+ghost use Rattle.std.specs.Prelude.{◌≡◌, ℕ, ◌<◌, ◌==◌, if◌then◌else◌, None, [], unwrap_or, slice_set, OnOk, OnErr, IsSome, IsOk, IfOk};
 ghost use Rattle.std.specs.Option.{option_copied};
 ghost use Rattle.std.specs.FinMap as map;
-ghost use Rattle.std.specs.FinMap.{is_sorted};
 ghost use Rattle.fk_tables.specs.Births.{is_number};
-ghost use Rattle.fk_tables.specs.Names.{page_cmp};
-ghost use Rattle.fk_tables.specs.Sorted.{IsAt, IsGap, map_of};
 
-use crate::tables::{place_of, take_away};
 use fk_model::NoMemory;
+use fk_slots::{Row, clear_row, lay_value, put_value, take_value, value_at};
 use std::alloc::{AllocError, Global};
 use std::marker::Model;
 
@@ -61,24 +58,22 @@ impl Page {
 /// The pages of all spaces, by the birth number of the space and the number of the page.
 #[derive(Drop)]
 pub struct Pages {
-    entries: Vec<((u32, u8), Page)>,
+    rows: Vec<Row<Page>>,
 }
 
 impl Model for Pages {
-    ghost use Rattle.std.specs.Prelude.{T, List, ℕ};
+    ghost use Rattle.std.specs.Prelude.{List, ℕ};
     ghost use Rattle.std.specs.Coded.{coded×, coded_list, coded_ℕ};
-    ghost use Rattle.std.specs.FinMap.{FinMap, is_sorted};
+    ghost use Rattle.std.specs.FinMap.{FinMap};
     ghost use Rattle.std.specs.FinMap as finmap;
-    ghost use Rattle.fk_tables.specs.Names.{page_cmp};
-    ghost use Rattle.fk_tables.specs.Sorted.{map_of};
+    ghost use Rattle.fk_slots.specs.Tabled.{map_of_rows};
+    ghost use Rattle.fk_tables.specs.Names.{page_cmp, page_at};
 
     ghost Value = { FinMap page_cmp (List ℕ) };
 
     ghost coded = { finmap.code (coded× coded_ℕ coded_ℕ) (coded_list coded_ℕ) };
 
-    ghost view = { λ s. map_of page_cmp s.entries.items };
-
-    ghost invariant = { λ s. T (is_sorted page_cmp s.entries.items) };
+    ghost view = { λ s. map_of_rows page_cmp page_at s.rows.items };
 }
 
 impl Pages {
@@ -87,7 +82,7 @@ impl Pages {
         ensures { result ≡ map.empty }
     {
         Pages {
-            entries: Vec::new(alloc),
+            rows: Vec::new(alloc),
         }
     }
 
@@ -95,7 +90,7 @@ impl Pages {
     pub fn at(&self, space: u32, page: u8) -> Option<&[u64; 64]>
         ensures { option_copied result ≡ map.get self.now (space, page) }
     {
-        match page_of(&self.entries, space, page) {
+        match value_at(&self.rows, space, page) {
             Some(page) => Some(page.words()),
             None => None,
         }
@@ -107,15 +102,15 @@ impl Pages {
         ensures err { OnErr result (self.new ≡ self.old) }
         ensures there { IsSome (map.get self.old (space, page)) → IsOk result }
     {
-        match place_of_page(&self.entries, space, page) {
-            Ok(at) => {
-                let there = &mut self.entries[at].1;
+        match take_value(&mut self.rows, space, page) {
+            Some(mut there) => {
                 there.write(words);
+                lay_value(&mut self.rows, space, page, there);
                 Ok(())
             }
-            Err(at) => {
-                let new = Page::of(*self.entries.allocator(), words)?;
-                Ok(self.entries.insert(at, ((space, page), new))?)
+            None => {
+                let new = Page::of(*self.rows.allocator(), words)?;
+                Ok(put_value(&mut self.rows, space, page, new)?)
             }
         }
     }
@@ -126,12 +121,9 @@ impl Pages {
         requires at { at < 64 }
         ensures { self.new ≡ map.insert self.old (space, page) (slice_set (unwrap_or (map.get self.old (space, page)) []) at word) }
     {
-        match place_of_page(&self.entries, space, page) {
-            Ok(i) => {
-                let there = &mut self.entries[i].1;
-                there.put(at, word);
-            }
-            Err(_) => unreachable!(),
+        if let Some(mut there) = take_value(&mut self.rows, space, page) {
+            there.put(at, word);
+            lay_value(&mut self.rows, space, page, there);
         }
     }
 
@@ -139,7 +131,7 @@ impl Pages {
     pub fn remove(&mut self, space: u32, page: u8)
         ensures { self.new ≡ map.remove self.old (space, page) }
     {
-        take_away(&mut self.entries, (space, page));
+        let _gone = take_value(&mut self.rows, space, page);
     }
 
     /// Takes all pages of a space away, if there is one.
@@ -147,40 +139,7 @@ impl Pages {
         ensures { (n g : ℕ) → map.get self.new (n, g) ≡ if is_number n space then None else map.get self.old (n, g) }
     {
         if let Some(space) = space {
-            self.remove_each(space);
+            clear_row(&mut self.rows, space);
         }
     }
-
-    fn remove_each(&mut self, space: u32)
-        ensures { (n g : ℕ) → map.get self.new (n, g) ≡ if n == space then None else map.get self.old (n, g) }
-    {
-        self.entries.retain(|entry| entry.0.0 != space);
-    }
-}
-
-/// A page.
-#[inline]
-fn page_of(entries: &[((u32, u8), Page)], space: u32, page: u8) -> Option<&Page>
-    requires { T (is_sorted page_cmp entries.now) }
-    ensures { option_copied result ≡ map.get (map_of page_cmp entries.now) (space, page) }
-{
-    match place_of_page(entries, space, page) {
-        Ok(at) => Some(&entries[at].1),
-        Err(_) => None,
-    }
-}
-
-/// Where a page stands, or where it would go. In the first space, where that has all pages, it is
-/// found at its number.
-#[inline]
-fn place_of_page(entries: &[((u32, u8), Page)], space: u32, page: u8) -> Result<usize, usize>
-    requires { T (is_sorted page_cmp entries.now) }
-    ensures found { IfOk result (IsAt page_cmp entries.now (space, page)) }
-    ensures gap { IfErr result (IsGap page_cmp entries.now (space, page)) }
-{
-    let at = usize::from(page);
-    if at < entries.len() && entries[at].0 == (space, page) {
-        return Ok(at);
-    }
-    place_of(entries, (space, page))
 }

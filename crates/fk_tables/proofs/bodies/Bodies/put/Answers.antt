@@ -1,12 +1,31 @@
+use Rattle.fk_slots.proofs.TabledLaws.{insert_rows, same_rows}
 use Rattle.fk_tables.proofs.HomeLaws.{homed-put, homed-told}
+use Rattle.fk_tables.proofs.NameLaws.{who_naming}
+use Rattle.fk_tables.proofs.Results.{any_err}
 use Rattle.fk_tables.proofs.bodies.Bodies.put.Goals as goal
+
+pub invariant_of-self-in_err-put_value : goal.invariant_of-self-in_err-put_value
+invariant_of-self-in_err-put_value c = (
+  c.put_value.ensures.few c.self.invariant.0,
+  rw (same_rows who_naming _ _ c.in_err-put_value.ensures.err) (homed-told _ _ _ c.self.invariant.1 c.make_room.ensures.same),
+)
+
+pub returns-in_err-put_value-clause-err : goal.returns-in_err-put_value-clause-err
+returns-in_err-put_value-clause-err c =
+    any_err c.from_residual-in_err-put_value.result _ (rw (← c.self.view_is) (same_rows who_naming _ _ c.in_err-put_value.ensures.err))
 
 pub invariant_of-self-2 : goal.invariant_of-self-2
 invariant_of-self-2 c =
     let roomy = homed-told _ _ c.make_room.new.homes.items c.self.invariant.1 c.make_room.ensures.same in
     let empty = rw (← c.self.view_is) at c.requires.empty in
     let fresh = rw (← c.self.view_is) at c.requires.birth in
-    let settled = rw c.birth_of-birth.ensures at c.settle.ensures in (
-      c.put_value.ensures.sorted,
-      rw (c.in_ok-put_value.ensures.ok) (homed-put _ _ _ roomy c.args.who c.args.body empty fresh settled),
+    let settled = rw c.birth_of-birth.ensures at c.settle.ensures in
+    let put = rw c.in_ok-stored.ensures at c.in_ok-put_value.ensures.ok in (
+      c.put_value.ensures.few c.self.invariant.0,
+      rw (insert_rows who_naming _ _ c.args.who.space c.args.who.slot c.args.body put) (homed-put _ _ _ roomy c.args.who c.args.body empty fresh settled),
     )
+
+pub returns-clause-ok : goal.returns-clause-ok
+returns-clause-ok c =
+    let put = rw c.in_ok-stored.ensures at c.in_ok-put_value.ensures.ok in
+    rw (← c.self.view_is) (insert_rows who_naming _ _ c.args.who.space c.args.who.slot c.args.body put)

@@ -1,5 +1,7 @@
-use Rattle.std.proofs.Common.{◌∙◌, sym}
+use Rattle.std.proofs.Common.{◌∙◌, sym, arith}
+use Rattle.fk_slots.proofs.TabledLaws.{remove_rows}
 use Rattle.fk_tables.proofs.HomeLaws.{homed-remove, born-low}
+use Rattle.fk_tables.proofs.NameLaws.{who_naming}
 use Rattle.fk_tables.proofs.bodies.Bodies.remove.Goals as goal
 
 pub settle-requires : goal.settle-requires
@@ -10,5 +12,11 @@ settle-requires c n is =
 pub invariant_of-self : goal.invariant_of-self
 invariant_of-self c =
     let birth = rw (← c.self.view_is) at c.birth-birth.ensures in
-    let settled = rw birth at c.settle.ensures in
-    (c.take_away.ensures.sorted, rw c.take_away.ensures.gone (homed-remove _ _ _ c.self.invariant.1 c.args.who settled))
+    let settled = rw birth at c.settle.ensures in (
+      omega (arith, c.self.invariant.0, c.take_value-gone.ensures.long),
+      rw (remove_rows who_naming _ _ c.args.who.space c.args.who.slot c.take_value-gone.ensures.left)
+          (homed-remove _ _ _ c.self.invariant.1 c.args.who settled),
+    )
+
+pub returns : goal.returns
+returns c = rw (← c.self.view_is) (remove_rows who_naming _ _ c.args.who.space c.args.who.slot c.take_value-gone.ensures.left)

@@ -1,31 +1,34 @@
-use Rattle.std.proofs.Common.{◌∙◌, sym, ap}
+use Rattle.std.proofs.Common.{refl, sym, ap, ◌∙◌, arith}
 use Rattle.fk_model.specs.Objects.{and_then}
 use Rattle.fk_tables.specs.Births.{stored_birth}
 use Rattle.fk_tables.proofs.HomeLaws.{homed-rename, born-low}
-use Rattle.fk_tables.proofs.Results.{of_ok}
-use Rattle.fk_tables.proofs.NameLaws.{get-renamed}
+use Rattle.fk_tables.proofs.ScanLaws.{get-who, get-moved, not_gone}
 use Rattle.fk_tables.proofs.bodies.Bodies.rename.Goals as goal
 
-pub unwrap-requires : goal.unwrap-requires
-unwrap-requires c = c.put_value.ensures.room (c.take_away.ensures.room (rw (← c.self.view_is) at c.requires.there))
+pub lay_value-requires : goal.lay_value-requires
+lay_value-requires c = rw c.requires.space (c.in-Some.ensures.room refl)
 
 pub settle-requires : goal.settle-requires
 settle-requires c n is =
-    let there = rw (← c.self.view_is) at c.in-Some.ensures in
-    born-low _ _ c.self.invariant.1 c.args.from n (ap (and_then stored_birth) (sym there) ∙ sym c.birth_of.ensures ∙ is)
+    let there = get-who _ c.args.from ∙ sym c.in-Some.ensures.taken in
+    born-low _ _ c.self.invariant.1 c.args.from n (ap (and_then stored_birth) there ∙ ap stored_birth (sym c.body.ensures) ∙ sym c.birth_of-birth.ensures ∙ is)
 
 pub invariant_of-self : goal.invariant_of-self
 invariant_of-self c =
-    let fits = c.put_value.ensures.room (c.take_away.ensures.room (rw (← c.self.view_is) at c.requires.there)) in
-    let there = rw (← c.self.view_is) at c.in-Some.ensures in
-    let birth = c.birth_of.ensures ∙ ap (and_then stored_birth) there in
-    let renamed = get-renamed _ _ _ c.args.from c.args.to c.in-Some.field-0.now (sym there) c.take_away.ensures.gone
-    (of_ok c.put_value.result _ fits c.put_value.ensures.ok) in
-    let settled = rw birth at c.settle.ensures in
-    (c.put_value.ensures.sorted, homed-rename _ _ _ _ c.self.invariant.1 c.args.from c.args.to (rw (← c.self.view_is) at c.requires.free) renamed settled)
+    let there = get-who _ c.args.from ∙ sym c.in-Some.ensures.taken in
+    let birth = c.birth_of-birth.ensures ∙ ap stored_birth c.body.ensures ∙ sym (ap (and_then stored_birth) there) in
+    let renamed = get-moved _ _ _ c.args.from c.args.to c.in-Some.stored (sym c.in-Some.ensures.taken) c.take_value.ensures.left c.lay_value.ensures.laid in
+    let settled = rw birth at c.settle.ensures in (
+      omega (arith, c.self.invariant.0, c.take_value.ensures.long, c.lay_value.ensures.long),
+      homed-rename _ _ _ _ c.self.invariant.1 c.args.from c.args.to (rw (← c.self.view_is) at c.requires.free) renamed settled,
+    )
+
+pub invariant_of-self-in_default : goal.invariant_of-self-in_default
+invariant_of-self-in_default c = absurd (not_gone _ c.args.from c.in_default.ensures.taken (rw (← c.self.view_is) at c.requires.there))
 
 pub returns-in-Some : goal.returns-in-Some
-returns-in-Some c =
-    let fits = c.put_value.ensures.room (c.take_away.ensures.room (rw (← c.self.view_is) at c.requires.there)) in
-    rw (← c.self.view_is) (get-renamed _ _ _ c.args.from c.args.to c.in-Some.field-0.now
-    (sym (rw (← c.self.view_is) at c.in-Some.ensures)) c.take_away.ensures.gone (of_ok c.put_value.result _ fits c.put_value.ensures.ok))
+returns-in-Some c = rw (← c.self.view_is)
+    (get-moved _ _ _ c.args.from c.args.to c.in-Some.stored (sym c.in-Some.ensures.taken) c.take_value.ensures.left c.lay_value.ensures.laid)
+
+pub returns-in_default : goal.returns-in_default
+returns-in_default c = absurd (not_gone _ c.args.from c.in_default.ensures.taken (rw (← c.self.view_is) at c.requires.there))

@@ -1,8 +1,25 @@
+use Rattle.std.proofs.Common.{arith}
+use Rattle.fk_slots.proofs.TabledLaws.{relaid_rows}
 use Rattle.fk_tables.proofs.HomeLaws.{homed-set}
+use Rattle.fk_tables.proofs.NameLaws.{who_naming}
+use Rattle.fk_tables.proofs.ScanLaws.{not_gone}
 use Rattle.fk_tables.proofs.bodies.Bodies.set.Goals as goal
 
 pub invariant_of-self : goal.invariant_of-self
-invariant_of-self c = (
-  c.set_value.ensures.sorted,
-  rw c.set_value.ensures.set (homed-set _ _ c.args.who c.args.body c.self.invariant.1 (rw (← c.self.view_is) at c.requires.birth)),
-)
+invariant_of-self c =
+    let laid = rw c.put.ensures at c.lay_value.ensures.laid in
+    let now = relaid_rows who_naming _ _ _ c.args.who.space c.args.who.slot c.args.body c.take_value.ensures.left laid in (
+      omega (arith, c.self.invariant.0, c.take_value.ensures.long, c.lay_value.ensures.long),
+      rw now (homed-set _ _ c.args.who c.args.body c.self.invariant.1 (rw (← c.self.view_is) at c.requires.birth)),
+    )
+
+pub invariant_of-self-in_default : goal.invariant_of-self-in_default
+invariant_of-self-in_default c = absurd (not_gone _ c.args.who c.in_default.ensures.taken (rw (← c.self.view_is) at c.requires.there))
+
+pub returns-in-Some : goal.returns-in-Some
+returns-in-Some c =
+    let laid = rw c.put.ensures at c.lay_value.ensures.laid in
+    rw (← c.self.view_is) (relaid_rows who_naming _ _ _ c.args.who.space c.args.who.slot c.args.body c.take_value.ensures.left laid)
+
+pub returns-in_default : goal.returns-in_default
+returns-in_default c = absurd (not_gone _ c.args.who c.in_default.ensures.taken (rw (← c.self.view_is) at c.requires.there))

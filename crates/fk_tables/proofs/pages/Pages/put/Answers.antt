@@ -1,39 +1,35 @@
-use Rattle.fk_tables.proofs.NameLaws.{page_total}
-use Rattle.fk_tables.proofs.TableLaws.{set_sorted, map_set, insert_sorted, map_insert, get_gap}
+use Rattle.std.proofs.Common.{sym, ◌∙◌}
+use Rattle.fk_slots.proofs.TabledLaws.{relaid_rows, same_rows, untaken}
+use Rattle.fk_tables.proofs.NameLaws.{page_naming}
+use Rattle.fk_tables.proofs.Results.{any_err}
+use Rattle.fk_tables.proofs.ScanLaws.{page_not_gone}
 use Rattle.fk_tables.proofs.pages.Pages.put.Goals as goal
 
 -- the page is there, and is written over
-pub invariant_of-self : goal.invariant_of-self
-invariant_of-self c =
-    let found = rw c.deref.ensures.value at c.in-Ok.ensures.found in
-    rw c.index_mut.ensures.value (set_sorted page_total _ c.self.invariant _ _ c.write.new.self _ found)
-
-pub returns-in-Ok-clause-ok : goal.returns-in-Ok-clause-ok
-returns-in-Ok-clause-ok c =
-    let found = rw c.deref.ensures.value at c.in-Ok.ensures.found in
-    rw (c.index_mut.ensures.value, ← c.self.view_is, ← c.write.ensures) (map_set page_total _ c.self.invariant _ _ c.write.new.self _ found)
+pub returns-in-Some-clause-ok : goal.returns-in-Some-clause-ok
+returns-in-Some-clause-ok c =
+    let laid = rw c.write.ensures at c.lay_value.ensures.laid in
+    rw (← c.self.view_is) (relaid_rows page_naming _ _ _ c.args.space c.args.page c.args.words.now c.take_value.ensures.left laid)
 
 -- the page is new
-pub invariant_of-self-in-Err : goal.invariant_of-self-in-Err
-invariant_of-self-in-Err c =
-    let gap = rw c.deref.ensures.value at c.in-Err.ensures.gap in
-    rw c.in_ok-insert-in-Err.ensures.items (insert_sorted page_total _ c.self.invariant _ _ c.in_ok-new-in-Err.new gap)
+pub returns-in_ok-put_value-in-None-clause-ok : goal.returns-in_ok-put_value-in-None-clause-ok
+returns-in_ok-put_value-in-None-clause-ok c =
+    let put = rw c.in_ok-new-in-None.ensures at c.in_ok-put_value-in-None.ensures.ok in
+    rw (← c.self.view_is) (relaid_rows page_naming _ _ _ c.args.space c.args.page c.args.words.now c.take_value.ensures.left put)
 
-pub returns-in_ok-insert-in-Err-clause-ok : goal.returns-in_ok-insert-in-Err-clause-ok
-returns-in_ok-insert-in-Err-clause-ok c =
-    let gap = rw c.deref.ensures.value at c.in-Err.ensures.gap in
-    rw (c.in_ok-insert-in-Err.ensures.items, ← c.self.view_is, ← c.in_ok-new-in-Err.ensures)
-    (map_insert page_total _ c.self.invariant _ _ c.in_ok-new-in-Err.new gap)
+pub returns-in_err-new-in-None-clause-err : goal.returns-in_err-new-in-None-clause-err
+returns-in_err-new-in-None-clause-err c = any_err c.from_residual.result _ (rw (← c.self.view_is) (same_rows page_naming _ _
+    (untaken page_naming _ _ c.args.space c.args.page (sym c.in-None.ensures.taken) c.take_value.ensures.left)))
 
--- no memory is wanted for a page that is there
-pub returns-in_err-new-in-Err-clause-there : goal.returns-in_err-new-in-Err-clause-there
-returns-in_err-new-in-Err-clause-there c there =
-    let none = get_gap page_total _ c.self.invariant _ _ (rw c.deref.ensures.value at c.in-Err.ensures.gap) in
-    let no = rw (← c.self.view_is, none) at there in
-    absurd (cc)
+pub returns-in_err-new-in-None-clause-there : goal.returns-in_err-new-in-None-clause-there
+returns-in_err-new-in-None-clause-there c there =
+    absurd (page_not_gone _ c.args.space c.args.page c.in-None.ensures.taken (rw (← c.self.view_is) at there))
 
-pub returns-in_err-insert-in-Err-clause-there : goal.returns-in_err-insert-in-Err-clause-there
-returns-in_err-insert-in-Err-clause-there c there =
-    let none = get_gap page_total _ c.self.invariant _ _ (rw c.deref.ensures.value at c.in-Err.ensures.gap) in
-    let no = rw (← c.self.view_is, none) at there in
-    absurd (cc)
+pub returns-in_err-put_value-in-None-clause-err : goal.returns-in_err-put_value-in-None-clause-err
+returns-in_err-put_value-in-None-clause-err c = any_err c.from_residual-in_err-put_value-in-None.result _ (rw (← c.self.view_is) (same_rows page_naming _ _
+    (λ s k. c.in_err-put_value-in-None.ensures.err s k
+    ∙ untaken page_naming _ _ c.args.space c.args.page (sym c.in-None.ensures.taken) c.take_value.ensures.left s k)))
+
+pub returns-in_err-put_value-in-None-clause-there : goal.returns-in_err-put_value-in-None-clause-there
+returns-in_err-put_value-in-None-clause-there c there =
+    absurd (page_not_gone _ c.args.space c.args.page c.in-None.ensures.taken (rw (← c.self.view_is) at there))

@@ -1,23 +1,14 @@
-use Rattle.fk_tables.proofs.NameLaws.{page_total}
-use Rattle.fk_tables.proofs.TableLaws.{set_sorted, map_set, get_at, get_gap}
+use Rattle.std.proofs.Common.{sym, ◌∙◌}
+use Rattle.fk_slots.proofs.TabledLaws.{get-rows, relaid_rows}
+use Rattle.fk_tables.proofs.NameLaws.{page_naming}
+use Rattle.fk_tables.proofs.ScanLaws.{page_not_gone}
 use Rattle.fk_tables.proofs.pages.Pages.put_word.Goals as goal
 
-pub invariant_of-self : goal.invariant_of-self
-invariant_of-self c =
-    let found = rw c.deref.ensures.value at c.in-Ok.ensures.found in
-    rw c.index_mut.ensures.value (set_sorted page_total _ c.self.invariant _ _ c.put.new.self _ found)
+pub returns-in-Some : goal.returns-in-Some
+returns-in-Some c =
+    let there = get-rows page_naming _ c.args.space c.args.page ∙ sym c.in-Some.ensures.taken in
+    let laid = rw c.put.ensures at c.lay_value.ensures.laid in
+    rw (← c.self.view_is, there) (relaid_rows page_naming _ _ _ c.args.space c.args.page _ c.take_value.ensures.left laid)
 
--- the page is there
-pub unreachable-requires : goal.unreachable-requires
-unreachable-requires c =
-    let none = get_gap page_total _ c.self.invariant _ _ (rw c.deref.ensures.value at c.in-Err.ensures.gap) in
-    let no = rw (← c.self.view_is, none) at c.requires.there in
-    absurd (cc)
-
--- with one word of it changed
-pub returns : goal.returns
-returns c =
-    let found = rw c.deref.ensures.value at c.in-Ok.ensures.found in
-    let there = get_at page_total _ c.self.invariant _ _ c.index_mut.result.now found in
-    let words = rw c.index_mut.ensures.value at c.put.ensures in
-    rw (c.index_mut.ensures.value, ← c.self.view_is, there) (rw (← words) (map_set page_total _ c.self.invariant _ _ c.put.new.self _ found))
+pub returns-in_default : goal.returns-in_default
+returns-in_default c = absurd (page_not_gone _ c.args.space c.args.page c.in_default.ensures.taken (rw (← c.self.view_is) at c.requires.there))

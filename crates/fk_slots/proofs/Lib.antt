@@ -1,0 +1,4 @@
+pub mod CellLaws
+pub mod TabledLaws
+pub mod ScanLaws
+pub mod Results
