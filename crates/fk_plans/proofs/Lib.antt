@@ -1,3 +1,4 @@
+pub mod Beneath
 pub mod Lists
 pub mod Ready
 pub mod Spaces

@@ -16,6 +16,7 @@ mod readers;
 mod readiness;
 mod sources;
 mod telling;
+mod within;
 
 pub use blocks::Block;
 pub use carrying::carry_out;
@@ -25,3 +26,4 @@ pub use plan::{Caller, Deed, Effect, Plan, Verdict, Words};
 pub use readers::{cond_in, mutex_in, place, slot_for};
 pub use readiness::is_ready;
 pub use sources::Source;
+pub use within::{above, is_beneath};
