@@ -6,6 +6,7 @@ ghost use Rattle.fk_store.specs.Paths.{path, place};
 ghost use Rattle.fk_store.specs.World.{world};
 ghost use Rattle.fk_plans.specs.Effects.{IsEffect, effect_by, of_running};
 ghost use Rattle.fk_model.specs.Searches.{thread_at};
+ghost use Rattle.fk_model.specs.Valid.{kind_there};
 
 use crate::plan::Effect;
 use fk_model::{Mode, Thread, Who};
@@ -17,6 +18,8 @@ pub fn make_effect(store: &mut Store, me: Who, thread: &Thread, effect: Effect)
     requires { IsEffect (path store.old) (world store.old) effect }
     ensures step { stepped (world store.old) (effect_by (world store.old) (path store.old) (place (path store.old) me) effect thread.now.regs thread.now.pc)
         ≡ record { world = world store.new; said = Nothing } }
+    ensures kinds { kind_there (world store.new) ≡ kind_there (world store.old) }
+    ensures paths { path store.new ≡ path store.old }
 {
     let next = thread.pc.wrapping_add(1);
     match effect {

@@ -16,6 +16,7 @@ ghost use Rattle.fk_plans.specs.Verdicts.{outcome_by, IsVerdict, IsSureVerdict};
 ghost use Rattle.fk_user.specs.Effects.{outcome_at, IsInstruction};
 ghost use Rattle.fk_user.specs.Known.{known_by, no_calls, run_at};
 ghost use Rattle.fk_model.specs.Searches.{thread_at};
+ghost use Rattle.fk_model.specs.Valid.{kind_there};
 
 mod effect;
 
@@ -49,7 +50,10 @@ pub fn judge(store: &Store, caller: Caller, known: Known) -> Verdict
 /// such call. What is no running thread stays as it is.
 #[tactic(auto, unfolding(crate::specs::Known::run_at))]
 pub fn take_alone(store: &mut Store, me: Who)
-    ensures step { stepped (world store.old) (run_at no_calls (world store.old) (place (path store.old) me)) ≡ record { world = world store.new; said = Nothing } }
+    ensures step { stepped (world store.old) (run_at no_calls (world store.old) (place (path store.old) me))
+        ≡ record { world = world store.new; said = Nothing } }
+    ensures kinds { kind_there (world store.new) ≡ kind_there (world store.old) }
+    ensures paths { path store.new ≡ path store.old }
 {
     if let Some(&thread) = store.thread(me) {
         if let Mode::Running = thread.mode {
@@ -64,6 +68,8 @@ pub fn take_alone(store: &mut Store, me: Who)
 fn make(store: &mut Store, me: Who, thread: &Thread, verdict: &Verdict)
     requires { IsInstruction store.old verdict.now }
     ensures step { stepped (world store.old) (outcome_at store.old me thread.now verdict.now) ≡ record { world = world store.new; said = Nothing } }
+    ensures kinds { kind_there (world store.new) ≡ kind_there (world store.old) }
+    ensures paths { path store.new ≡ path store.old }
 {
     match verdict {
         Verdict::Runs(effect) => make_effect(store, me, thread, *effect),
