@@ -184,3 +184,28 @@ module _ (m : Contents) (outer : ℕ) (object at : Who) (on : IsOnWay m outer ob
           let under = (of_beneath w s (place (path m) object) (met_any s (place (path m) object) (beneath w s) e)).0 in
           let yes = under_within s object.slot (path m object.space) under in
           absurd (cc)
+
+-- ---- of spaces
+
+pub rootless : {P : Type 0} → P → (n : ℕ) → ((0 < n) × P → false ≡ true) → n ≡ 0
+rootless p zero none = refl
+rootless p (suc n) none = let no = none (omega arith, p) in absurd (cc)
+
+pub itself : (m : Contents) (inner outer : ℕ) → inner ≡ outer → true ≡ is_within (path m outer) (path m inner)
+itself m inner outer same = sym (ap (λ n. is_within (path m outer) (path m n)) same ∙ within_itself (path m outer))
+
+pub at_root : (m : Contents) (inner outer : ℕ) → inner ≡ 0 →
+    IsSpace m inner → IsSpace m outer → eqb inner outer ≡ false → false ≡ is_within (path m outer) (path m inner)
+at_root m inner outer top here there other =
+    let root : path m inner ≡ [] = ap (path m) top ∙ path-root m in
+    let off : same_path [] (path m outer) ≡ false = subst (λ x. same_path x (path m outer) ≡ false) root (spaces_apart m inner outer here there other) in
+    sym (ap (is_within (path m outer)) root ∙ within_root (path m outer) off)
+
+module _ (m : Contents) (inner outer : ℕ) (who : Who) (here : IsSpace m inner) (home : path m inner ≡ place (path m) who) where
+  pub home_lives : IsLive m who
+  home_lives = subst (λ x. IsSome (kind_there (world m) x)) home (space_lives (world m) (path m inner) inner here)
+
+  pub at_home : IsSpace m outer → eqb inner outer ≡ false → is_within (path m outer) (path m who.space) ≡ is_within (path m outer) (path m inner)
+  at_home there other =
+      let apart : same_path (place (path m) who) (path m outer) ≡ false = rw home at (spaces_apart m inner outer here there other) in
+      sym (ap (is_within (path m outer)) home ∙ within_above (path m outer) who.slot (path m who.space) apart)

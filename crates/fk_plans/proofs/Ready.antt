@@ -117,6 +117,17 @@ making_iff : (w : World) (me x : Path) (kind : ℕ) →
 unfolding Allows
 making_iff w me x kind some = allows w me x [] kind some
 
+-- a new space that is held leads to its holder
+held_space_iff : (w : World) (me x holder : Path) → IsTrue (not (is_frozen_for w me x) && not (is_frozen_for w me holder))
+    ↔ AreAllowed w me (MakeSpace x (Some (At holder)) ∷ [])
+held_space_iff w me x holder = by (is_frozen_for w me x) refl (is_frozen_for w me holder) refl
+  where
+    by : (a : Bool) → is_frozen_for w me x ≡ a → (b : Bool) → is_frozen_for w me holder ≡ b →
+        IsTrue (not a && not b) ↔ AreAllowed w me (MakeSpace x (Some (At holder)) ∷ [])
+    by true ea b eb = ((λ h. absurd (cc)), (λ h. let no = h.0.object in absurd (cc)))
+    by false ea true eb = ((λ h. absurd (cc)), (λ h. let no = rw eb at h.0.made in absurd (cc)))
+    by false ea false eb = ((λ h. (record { object = ea; made = rw eb refl }, tt)), (λ h. refl))
+
 plan_iff : (w : World) (me : Path) (p : ℕ → Path) (given : List ℕ) (plan : Plan) →
     IsPlan p w plan → IsTrue (is_plan_allowed w me p plan) ↔ AreAllowed w me (changes_by p given plan w)
 plan_iff w me p given plans.Nothing fits = ((λ h. tt), (λ h. refl))
@@ -126,6 +137,7 @@ plan_iff w me p given (plans.Three a b c) fits = both_iff _ _ (deed_iff w _ me p
 plan_iff w me p given (plans.Four a b c d) fits =
     both_iff _ _ (deed_iff w _ me p a) (both_iff _ _ (deed_iff w _ me p b) (both_iff _ _ (deed_iff w _ me p c) (one_iff _ (deed_iff w _ me p d))))
 plan_iff w me p given (plans.Makes object kind) fits = making_iff w me (place p object) kind fits.2
+plan_iff w me p given (plans.MakesHeld object holder) fits = held_space_iff w me (place p object) (place p holder)
 plan_iff w me p given (plans.Gives space page source) fits = one_iff _ (not_iff (is_frozen_for w me (p space)))
 
 -- ---- the caller's own part

@@ -5,10 +5,11 @@ use Rattle.fk_model.specs.declared.stage.Stage.TheVariants.{MutexLock}
 use Rattle.fk_model.specs.ObjectRows.{new_object}
 use Rattle.fk_model.specs.Outcomes as outcomes
 use Rattle.fk_model.specs.Places.{Path}
+use Rattle.fk_model.specs.Places.Ptr.{At}
 use Rattle.fk_model.specs.Reach.{words_at}
-use Rattle.fk_model.specs.Valid.{birth_at}
+use Rattle.fk_model.specs.Valid.{birth_at, kind_there}
 use Rattle.fk_model.specs.World.{World, Change, apply}
-use Rattle.fk_model.specs.World.Change.{Alter, PutPage, DropPage}
+use Rattle.fk_model.specs.World.Change.{Alter, MakeSpace, PutPage, DropPage}
 use Rattle.fk_model.specs.World.Edit.{SetLocked, SetStops, Replace, CountMoved, Shift, End}
 use Rattle.fk_store.specs.Paths.{place}
 use Rattle.fk_threads.specs.Shifted.{IsLow}
@@ -60,6 +61,7 @@ changes_by p given (plans.Two a b) w = and_next p a (and_next p b no_more) w
 changes_by p given (plans.Three a b c) w = and_next p a (and_next p b (and_next p c no_more)) w
 changes_by p given (plans.Four a b c d) w = and_next p a (and_next p b (and_next p c (and_next p d no_more))) w
 changes_by p given (plans.Makes object kind) w = made (new_object (place p object) kind)
+changes_by p given (plans.MakesHeld object holder) w = MakeSpace (place p object) (Some (At (place p holder))) ∷ []
 changes_by p given (plans.Gives space page source) w = PutPage (p space) page (source_words p given source w) ∷ []
 
 -- ---- what is needed to do it
@@ -79,6 +81,11 @@ IsDeed p w (deeds.Drops space page) = ⊤
 abbrev pub IsMaking : (ℕ → Path) → World → Who → ℕ → Type 0
 IsMaking p w object kind = (birth_at w (p object.space) ≡ Some object.space) × (w.body (place p object) ≡ None) × IsSome (new_object [] kind)
 
+-- an empty slot of a space that is there, and a holder
+abbrev pub IsMakingHeld : (ℕ → Path) → World → Who → Who → Type 0
+IsMakingHeld p w object holder =
+    (birth_at w (p object.space) ≡ Some object.space) × (w.body (place p object) ≡ None) × IsSome (kind_there w (place p holder))
+
 abbrev pub IsPlan : (ℕ → Path) → World → Plan → Type 0
 IsPlan p w plans.Nothing = ⊤
 IsPlan p w (plans.One a) = IsDeed p w a
@@ -87,6 +94,7 @@ IsPlan p w (plans.Three a b c) = IsDeed p w a × IsDeed p (after p a w) b × IsD
 IsPlan p w (plans.Four a b c d) =
     IsDeed p w a × IsDeed p (after p a w) b × IsDeed p (after p b (after p a w)) c × IsDeed p (after p c (after p b (after p a w))) d
 IsPlan p w (plans.Makes object kind) = IsMaking p w object kind
+IsPlan p w (plans.MakesHeld object holder) = IsMakingHeld p w object holder
 IsPlan p w (plans.Gives space page source) = (birth_at w (p space) ≡ Some space) × IsSource p w source
 
 -- who does it gives the words that it takes: a porter alone gives words
@@ -97,5 +105,6 @@ IsGiver c other = ⊤
 -- it takes no memory
 abbrev pub IsSure : Plan → Type 0
 IsSure (plans.Makes object kind) = ⊥
+IsSure (plans.MakesHeld object holder) = ⊥
 IsSure (plans.Gives space page source) = ⊥
 IsSure other = ⊤

@@ -11,7 +11,7 @@ ghost use Rattle.fk_plans.specs.Verdicts.{outcome_by, tells, words_told, AreWord
 
 use crate::blocks::{copy_page, send_block};
 use crate::instructions::run;
-use crate::making::make;
+use crate::making::{make, make_held};
 use crate::plan::{Caller, Deed, Plan, Verdict, Words};
 use crate::sources::give;
 use crate::telling::{told, told_page, told_words};
@@ -68,6 +68,7 @@ fn carry_all(store: &mut Store, caller: Caller, given: &[u64], plan: &Plan) -> R
             carry(store, d);
         }
         Plan::Makes { object, kind } => return make(store, *object, *kind),
+        Plan::MakesHeld { object, holder } => return make_held(store, *object, *holder),
         Plan::Gives {
             space,
             page,

@@ -26,4 +26,4 @@ pub use plan::{Caller, Deed, Effect, Plan, Verdict, Words};
 pub use readers::{cond_in, mutex_in, place, slot_for};
 pub use readiness::is_ready;
 pub use sources::Source;
-pub use within::{above, is_beneath};
+pub use within::{above, is_beneath, is_within};

@@ -2,7 +2,9 @@
 ghost use Rattle.std.specs.Prelude.{◌≡◌, ◌<◌, ◌-◌, ◌^◌, ℕ, [], Some, None, IsSome, OnOk, OnErr, replicate};
 ghost use Rattle.fk_model.specs.ObjectRows.{new_object};
 ghost use Rattle.fk_model.specs.Places.{Path};
-ghost use Rattle.fk_model.specs.World.{apply_all};
+ghost use Rattle.fk_model.specs.Places.Ptr.{At};
+ghost use Rattle.fk_model.specs.World.{apply, apply_all};
+ghost use Rattle.fk_model.specs.World.Change.{MakeSpace};
 ghost use Rattle.fk_model.specs.declared.thread.Mode.TheVariants as modes;
 ghost use Rattle.fk_store.specs.Bodies.{body_by};
 ghost use Rattle.fk_store.specs.Contents.{Contents};
@@ -11,7 +13,7 @@ ghost use Rattle.fk_store.specs.Makes.{making, IsNext};
 ghost use Rattle.fk_store.specs.Named.{OnNamed};
 ghost use Rattle.fk_store.specs.Paths.{path, place};
 ghost use Rattle.fk_store.specs.World.{world, IsLive};
-ghost use Rattle.fk_plans.specs.Plans.{IsMaking, made};
+ghost use Rattle.fk_plans.specs.Plans.{IsMaking, IsMakingHeld, made};
 
 use fk_model::{Body, Mode, NoMemory, Ptr, Thread, Who};
 use fk_store::Store;
@@ -81,4 +83,21 @@ pub fn make(store: &mut Store, object: Who, kind: u64) -> Result<(), NoMemory>
         return Err(NoMemory);
     }
     store.make(object, blank(kind, birth))
+}
+
+/// Makes a new space that a thread holds. For want of memory, or of a birth number, all stays as it
+/// was.
+pub fn make_held(store: &mut Store, object: Who, holder: Who) -> Result<(), NoMemory>
+    requires fits { IsMakingHeld (path store.old) (world store.old) object holder }
+    ensures world { let change = MakeSpace (place (path store.old) object) (Some (At (place (path store.old) holder))) in
+        OnOk result (world store.new ≡ apply change (world store.old)) }
+    ensures err { OnErr result (store.new ≡ store.old) }
+    ensures places { (other : Who) → IsLive store.old other → place (path store.new) other ≡ place (path store.old) other }
+{
+    let birth = store.next_birth();
+    if birth == u32::MAX {
+        return Err(NoMemory);
+    }
+    let holder = Some(holder);
+    store.make(object, Body::Space { birth, holder })
 }

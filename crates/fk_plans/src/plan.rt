@@ -48,6 +48,11 @@ pub enum Plan {
         object: Who,
         kind: u64,
     },
+    /// A new space that a thread holds.
+    MakesHeld {
+        object: Who,
+        holder: Who,
+    },
     /// A page with these words, where there is none.
     Gives {
         space: u32,

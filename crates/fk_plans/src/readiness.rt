@@ -48,6 +48,9 @@ fn is_plan_allowed(store: &Store, me: Who, plan: &Plan) -> bool
                 && is_deed_allowed(store, me, d)
         }
         Plan::Makes { object, .. } => !store.frozen_for(me, *object),
+        Plan::MakesHeld { object, holder } => {
+            !store.frozen_for(me, *object) && !store.frozen_for(me, *holder)
+        }
         Plan::Gives { space, .. } => !store.space_frozen_for(me, *space),
     }
 }

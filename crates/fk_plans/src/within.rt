@@ -38,3 +38,18 @@ pub fn is_beneath(store: &Store, object: Who, outer: u32) -> bool
     let _below_256 = at.slot;
     true
 }
+
+/// A space is another one, or lies beneath it.
+pub fn is_within(store: &Store, inner: u32, outer: u32) -> bool
+    requires inner { IsSpace store.now inner }
+    requires outer { IsSpace store.now outer }
+    ensures { result ≡ is_within (path store.now outer) (path store.now inner) }
+{
+    if inner == outer {
+        return true;
+    }
+    match store.home(inner) {
+        None => false,
+        Some(who) => is_beneath(store, who, outer),
+    }
+}
