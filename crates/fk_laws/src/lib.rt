@@ -5,7 +5,7 @@
 #![tactic(auto)]
 
 ghost use Rattle.fk_laws.specs.Frame.{MoveKeepsBodies, MoveKeepsPages};
-ghost use Rattle.fk_laws.specs.Laws.{WordsReadBack, TodoWritesBack, WordsKeepLength, RecordIsFull, RecordIsTaken, RecordSetsNothing, RecordChangesNothing, StepKeepsValid};
+ghost use Rattle.fk_laws.specs.Laws.{WordsReadBack, TodoWritesBack, WordsKeepLength, RecordIsFull, RecordIsTaken, RecordSetsNothing, RecordChangesNothing, StepKeepsValid, KnownStepKeepsValid};
 
 /// The registers of a calling thread show the stages that were written into them, and the rest.
 pub fn words_read_back()
@@ -54,7 +54,8 @@ pub fn a_move_changes_only_what_it_lists()
     ensures pages { MoveKeepsPages }
 {}
 
-/// A fit move keeps a world valid.
+/// A fit move keeps a world valid, whether the machine knows all calls or some.
 pub fn a_fit_move_keeps_a_valid_world()
-    ensures { StepKeepsValid }
+    ensures every { StepKeepsValid }
+    ensures known { KnownStepKeepsValid }
 {}
