@@ -5,6 +5,7 @@
 #![tactic(auto)]
 
 ghost use Rattle.fk_further.specs.ClosedLaws.{ClosedIsPlain};
+ghost use Rattle.fk_further.specs.Told.{EndsAreTold, FaultsAreTold, RenamesTellNoEnds, WordsAreTold, OversAreTold, TouchesTellNothing};
 ghost use Rattle.fk_further.specs.Runs.{DueRunKeepsCut, CutIsCutWorld, FurtherStaysCutWorld};
 
 /// Whatever a machine does, where it begins in a runnable world and no move is seen as other: the
@@ -26,4 +27,31 @@ pub fn further_runs_show_themselves()
 /// A closed subtree is plain, where it has no porter and no served port.
 pub fn a_closed_subtree_is_plain()
     ensures { ClosedIsPlain }
+{}
+
+/// The outside is told of an end exactly for each talk at a port there that was and is no more, also
+/// where its thread died.
+pub fn ends_are_told()
+    ensures { EndsAreTold }
+{}
+
+/// It is told of a fault exactly where a thread that had none has raised one there.
+pub fn faults_are_told()
+    ensures { FaultsAreTold }
+{}
+
+/// Where an object gets another slot no end and no fault is told.
+pub fn a_rename_tells_no_end()
+    ensures { RenamesTellNoEnds }
+{}
+
+/// It is told of words and of an Over exactly as the move says them.
+pub fn words_and_overs_are_told()
+    ensures words { WordsAreTold }
+    ensures overs { OversAreTold }
+{}
+
+/// Of what it does itself it is told nothing.
+pub fn touches_tell_nothing()
+    ensures { TouchesTellNothing }
 {}

@@ -121,7 +121,7 @@ goes_on-once w k s pick t (Calling (stage ∷ todo) rest) clean = call_row-once 
 goes_on-once w k s pick t mode clean = waits
 
 -- the root is no thread
-rootless : (w : World) (t : Thread) → and_then thread_of (w.body []) ≡ Some t → kind_there w [] ≡ Some kinds.Space → ⊥
+pub rootless : (w : World) (t : Thread) → and_then thread_of (w.body []) ≡ Some t → kind_there w [] ≡ Some kinds.Space → ⊥
 unfolding kind_there
 rootless w t there root = by (w.body []) there root
   where

@@ -1,0 +1,4 @@
+pub mod Faces
+pub mod Own
+pub mod Exact
+pub mod Laws
