@@ -81,7 +81,7 @@ fn is_member(port: Who, set: Option<u8>, gone: Who) -> bool
 }
 
 /// An object has a pointer to one that goes, or is a port in a set that goes.
-fn is_swept(gone: Who, who: Who, body: &Body) -> bool
+pub fn is_swept(gone: Who, who: Who, body: &Body) -> bool
     ensures { (p : ℕ → Path) → HasOwnPath p gone → result ≡ freezing.is_swept (place p gone) (place p who) (Some (body_by p body.now)) }
 {
     match body {

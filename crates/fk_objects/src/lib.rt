@@ -5,5 +5,11 @@
 #![tactic(auto)]
 
 mod creating;
+mod pointing;
+mod renaming;
+mod searching;
 
 pub use creating::create;
+pub use pointing::{clear, point};
+pub use renaming::rename;
+pub use searching::search;

@@ -1,5 +1,8 @@
 pub mod Beneath
 pub mod Lists
+pub mod Pointers
 pub mod Ready
+pub mod Renamed
 pub mod Spaces
+pub mod Following
 pub mod Told

@@ -1,5 +1,5 @@
 -- Ready: when the freezing rule and the picks let a verdict be.
-use Rattle.std.proofs.Common.{◌≡◌, ℕ, Bool, true, false, not, ◌&&◌, ◌||◌, ◌==◌, ◌↔◌, IsTrue, is_none, List, [], ◌∷◌, ◌++◌, Option, Some, None, IsSome, cond, eqb, slice_set, refl, ap, subst}
+use Rattle.std.proofs.Common.{◌≡◌, ℕ, Bool, true, false, not, ◌&&◌, ◌||◌, ◌==◌, ◌↔◌, IsTrue, is_none, List, [], ◌∷◌, ◌++◌, Option, Some, None, IsSome, cond, eqb, slice_set, refl, ap}
 use Rattle.fk_model.specs.declared.names.Who.{Who}
 use Rattle.fk_model.specs.Places.{Path, Ptr}
 use Rattle.fk_model.specs.Places.Ptr.{At}
@@ -21,11 +21,14 @@ use Rattle.fk_model.specs.Outcomes.Outcome.{Refused, Waits, Goes}
 use Rattle.fk_model.specs.Freezing.{changed_pointers, MayAlter, MayMake, IsAllowed, AreAllowed}
 use Rattle.fk_model.specs.Moves.{closed, with_pick, GoesAllowed}
 use Rattle.fk_store.specs.Contents.{Contents}
+use Rattle.fk_store.specs.Bodies.{pointer_by}
 use Rattle.fk_store.specs.Paths.{path, place}
 use Rattle.fk_store.specs.Moves.{picked_by}
 use Rattle.fk_store.specs.Threads.{is_free_at}
 use Rattle.fk_store.specs.World.{world}
 use Rattle.fk_store.proofs.Freedom.{free_thread, free_itself, may_alter, IsPlain}
+use Rattle.fk_plans.proofs.Pointers.{pointed_iff}
+use Rattle.fk_plans.proofs.Renamed.{renames_iff}
 use Rattle.fk_plans.specs.declared.plan.Caller.{Caller}
 use Rattle.fk_plans.specs.declared.plan.Deed.{Deed}
 use Rattle.fk_plans.specs.declared.plan.Deed.TheVariants as deeds
@@ -37,8 +40,9 @@ use Rattle.fk_plans.specs.declared.plan.Effect.{Effect}
 use Rattle.fk_plans.specs.declared.plan.Effect.TheVariants as effects
 use Rattle.fk_plans.specs.Effects.{effect_by, in_running, of_running, is_running, is_running_mode}
 use Rattle.fk_plans.specs.Plans.{caller_by, change_by, changes_by, made, IsPlan}
+use Rattle.fk_plans.specs.Renames.{renames}
 use Rattle.fk_plans.specs.Verdicts.{outcome_by, tells, IsVerdict, move_by}
-use Rattle.fk_plans.specs.Allowed.{is_effect_allowed, is_deed_allowed, is_plan_allowed, is_verdict_allowed, may_pick}
+use Rattle.fk_plans.specs.Allowed.{is_effect_allowed, is_deed_allowed, is_plan_allowed, IsVerdictAllowed, may_pick}
 
 -- ---- tests and facts
 
@@ -60,6 +64,7 @@ plain_iff w me x e plain = let test = not_iff (is_frozen_for w me x) in ((λ h. 
 
 deed_iff : (w v : World) (me : Path) (p : ℕ → Path) (d : Deed) → IsTrue (is_deed_allowed w me p d) ↔ IsAllowed w me (change_by p d v)
 deed_iff w v me p (deeds.Locks mutex locked) = plain_iff w me (place p mutex) (SetLocked locked) (record { changed = λ b. refl; made = refl })
+deed_iff w v me p (deeds.Points object to) = pointed_iff w me (place p object) (pointer_by p to)
 deed_iff w v me p (deeds.Sends block) = not_iff (is_frozen_for w me (p block.to.0))
 deed_iff w v me p (deeds.Stops thread stops) = plain_iff w me (place p thread) _ (record { changed = λ b. refl; made = refl })
 deed_iff w v me p (deeds.Copies from to) = not_iff (is_frozen_for w me (p to.0))
@@ -195,8 +200,12 @@ module _ (m : Contents) (c : Caller) (words : List ℕ) (free : c.is_porter ≡ 
   abbrev pub caller : outcomes.Caller
   caller = caller_by (path m) c words
 
+  -- what says when an outcome is allowed
+  abbrev pub Allows_iff : Type 0 → Outcome → Type 0
+  Allows_iff P o = P ↔ GoesAllowed (world m) me (closed caller o)
+
   abbrev pub Goes_iff : Bool → Outcome → Type 0
-  Goes_iff b o = IsTrue b ↔ GoesAllowed (world m) me (closed caller o)
+  Goes_iff b o = Allows_iff (IsTrue b) o
 
   own : c.is_porter ≡ false → (e : Edit) → IsPlain e → MayAlter (world m) me me e
   own user e plain = may_alter (world m) me me e plain (free_itself (world m) c.who.slot (path m c.who.space) (free user))
@@ -250,12 +259,13 @@ module _ (m : Contents) (c : Caller) (words : List ℕ) (free : c.is_porter ≡ 
       by true e = absurd (cc)
       by false e = own_iff (world m) me _ cs (own user _ (record { changed = λ b. refl; made = refl })) h
 
-  verdict_iff : (v : Verdict) → IsVerdict m c v → Goes_iff (is_verdict_allowed (world m) me (path m) v) (outcome_by (world m) (path m) caller v)
+  verdict_iff : (v : Verdict) → IsVerdict m c v → Allows_iff (IsVerdictAllowed (world m) me (path m) v) (outcome_by (world m) (path m) caller v)
   verdict_iff (verdicts.Runs e) fits = running_iff fits.0 e (thread_at (world m) me) fits.1
   verdict_iff (verdicts.Refused status) fits = refused_iff status
   verdict_iff verdicts.Waits fits = ((λ h. absurd (cc)), (λ h. absurd h))
   verdict_iff (verdicts.Done plan answers) fits = done_iff _ _ _ (plan_iff (world m) me (path m) words plan fits.0.1)
   verdict_iff (verdicts.Shows plan space page) fits = done_iff _ _ _ (plan_iff (world m) me (path m) words plan fits.2.1)
+  verdict_iff (verdicts.Renames object slot) fits = renames_iff m c words free object slot fits
   verdict_iff (verdicts.Goes plan) fits = plan_iff (world m) me (path m) words plan fits.1
   verdict_iff (verdicts.Tells plan sent last) fits = tells_iff fits.0 _ _ _ last (plan_iff (world m) me (path m) words plan fits.3.1)
   verdict_iff (verdicts.Faults page write port) fits =
@@ -268,15 +278,15 @@ module _ (m : Contents) (c : Caller) (words : List ℕ) (free : c.is_porter ≡ 
   may_pick_so chooses q Waits = true
   may_pick_so chooses q (Goes changes said) = chooses || is_none q
 
-  guarded_iff : (may test : Bool) (o : Outcome) → Goes_iff test o → Goes_iff (may && test) (when may o)
-  guarded_iff true test o h = h
-  guarded_iff false test o h = ((λ h. absurd (cc)), (λ h. absurd h))
+  guarded_iff : {P : Type 0} (may : Bool) (o : Outcome) → Allows_iff P o → Allows_iff (IsTrue may × P) (when may o)
+  guarded_iff true o h = ((λ g. h.0 g.1), (λ g. (refl, h.1 g)))
+  guarded_iff false o h = ((λ g. let no = g.0 in absurd (cc)), (λ g. absurd g))
 
-  picked_iff : (chooses : Bool) (q : Option Path) (o : Outcome) (test : Bool) →
-      Goes_iff test o → Goes_iff (may_pick_so chooses q o && test) (with_pick chooses q o)
-  picked_iff chooses q (Refused status) test h = guarded_iff (is_none q) test (Refused status) h
-  picked_iff chooses q Waits test h = h
-  picked_iff chooses q (Goes changes said) test h = guarded_iff (chooses || is_none q) test (Goes changes said) h
+  picked_iff : {P : Type 0} (chooses : Bool) (q : Option Path) (o : Outcome) →
+      Allows_iff P o → Allows_iff (IsTrue (may_pick_so chooses q o) × P) (with_pick chooses q o)
+  picked_iff chooses q (Refused status) h = guarded_iff (is_none q) (Refused status) h
+  picked_iff chooses q Waits h = ((λ g. h.0 g.1), (λ g. absurd g))
+  picked_iff chooses q (Goes changes said) h = guarded_iff (chooses || is_none q) (Goes changes said) h
 
   none_picked : (pick : Option Who) → is_none pick ≡ is_none (picked_by (path m) pick)
   none_picked None = refl
@@ -287,6 +297,14 @@ module _ (m : Contents) (c : Caller) (words : List ℕ) (free : c.is_porter ≡ 
   may_pick_done chooses pick cs answers = by c.is_porter
     where
       by : (b : Bool) → (chooses || is_none pick) ≡ may_pick_so chooses (picked_by (path m) pick) (done (record caller { is_porter = b }) cs answers)
+      by true = ap (λ b. chooses || b) (none_picked pick)
+      by false = ap (λ b. chooses || b) (none_picked pick)
+
+  may_pick_renamed : (chooses : Bool) (pick : Option Who) (x : Path) (slot : ℕ) →
+      (chooses || is_none pick) ≡ may_pick_so chooses (picked_by (path m) pick) (renames caller x slot)
+  may_pick_renamed chooses pick x slot = by c.is_porter
+    where
+      by : (b : Bool) → (chooses || is_none pick) ≡ may_pick_so chooses (picked_by (path m) pick) (renames (record caller { is_porter = b }) x slot)
       by true = ap (λ b. chooses || b) (none_picked pick)
       by false = ap (λ b. chooses || b) (none_picked pick)
 
@@ -325,16 +343,20 @@ module _ (m : Contents) (c : Caller) (words : List ℕ) (free : c.is_porter ≡ 
   may_pick_is chooses pick verdicts.Waits fits = refl
   may_pick_is chooses pick (verdicts.Done plan answers) fits = may_pick_done chooses pick _ _
   may_pick_is chooses pick (verdicts.Shows plan space page) fits = may_pick_done chooses pick _ _
+  may_pick_is chooses pick (verdicts.Renames object slot) fits = may_pick_renamed chooses pick (place (path m) object) slot
   may_pick_is chooses pick (verdicts.Goes plan) fits = ap (λ b. chooses || b) (none_picked pick)
   may_pick_is chooses pick (verdicts.Tells plan words last) fits = may_pick_told chooses pick _ _ last
   may_pick_is chooses pick (verdicts.Faults page write port) fits = ap (λ b. chooses || b) (none_picked pick)
 
   pub ready_iff : (chooses : Bool) (pick : Option Who) (v : Verdict) → IsVerdict m c v →
-      IsTrue (may_pick chooses pick v && is_verdict_allowed (world m) me (path m) v) ↔ GoesAllowed (world m) me (move_by m c words chooses pick v)
-  ready_iff chooses pick v fits = rw (may_pick_is chooses pick v fits) (picked_iff chooses (picked_by (path m) pick) _ _ (verdict_iff v fits))
+      (IsTrue (may_pick chooses pick v) × IsVerdictAllowed (world m) me (path m) v) ↔ GoesAllowed (world m) me (move_by m c words chooses pick v)
+  ready_iff chooses pick v fits = rw (may_pick_is chooses pick v fits) (picked_iff chooses (picked_by (path m) pick) _ (verdict_iff v fits))
 
-  pub ready_allowed : (chooses : Bool) (pick : Option Who) (v : Verdict) → IsVerdict m c v →
-      may_pick chooses pick v ≡ true → IsTrue (is_verdict_allowed (world m) me (path m) v) ↔ GoesAllowed (world m) me (move_by m c words chooses pick v)
-  ready_allowed chooses pick v fits may =
-      subst (λ b. IsTrue (b && is_verdict_allowed (world m) me (path m) v) ↔ GoesAllowed (world m) me (move_by m c words chooses pick v))
-      may (ready_iff chooses pick v fits)
+  pub ready_allowed : (test chooses : Bool) (pick : Option Who) (v : Verdict) → IsVerdict m c v → may_pick chooses pick v ≡ true →
+      (IsTrue test ↔ IsVerdictAllowed (world m) me (path m) v) → IsTrue test ↔ GoesAllowed (world m) me (move_by m c words chooses pick v)
+  ready_allowed test chooses pick v fits may allowed =
+      let h = ready_iff chooses pick v fits in ((λ t. h.0 (may, allowed.0 t)), (λ g. allowed.1 (h.1 g).1))
+
+  pub never_picks : (chooses : Bool) (pick : Option Who) (v : Verdict) →
+      IsVerdict m c v → may_pick chooses pick v ≡ false → IsTrue false ↔ GoesAllowed (world m) me (move_by m c words chooses pick v)
+  never_picks chooses pick v fits may = let h = ready_iff chooses pick v fits in ((λ t. absurd (cc)), (λ g. let yes = (h.1 g).0 in absurd (cc)))

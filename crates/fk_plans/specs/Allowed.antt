@@ -1,9 +1,11 @@
 -- Allowed: what the freezing rule and the picks say of a verdict, as tests.
-use Rattle.std.specs.Prelude.{ℕ, Bool, true, false, not, ◌&&◌, ◌||◌, is_none, Option}
+use Rattle.std.specs.Prelude.{ℕ, Bool, true, false, not, ◌&&◌, ◌||◌, is_none, IsTrue, Option}
 use Rattle.fk_model.specs.declared.names.Who.{Who}
-use Rattle.fk_model.specs.Holds.{is_frozen_for}
+use Rattle.fk_model.specs.Freezing.{are_unfrozen, body_pointers, MayMove}
+use Rattle.fk_model.specs.Holds.{is_frozen_for, leads_to_frozen}
 use Rattle.fk_model.specs.Places.{Path}
 use Rattle.fk_model.specs.World.{World}
+use Rattle.fk_store.specs.Bodies.{pointer_by}
 use Rattle.fk_store.specs.Paths.{place}
 use Rattle.fk_plans.specs.declared.plan.Deed.{Deed}
 use Rattle.fk_plans.specs.declared.plan.Deed.TheVariants as deeds
@@ -16,6 +18,8 @@ use Rattle.fk_plans.specs.declared.plan.Verdict.TheVariants as verdicts
 
 abbrev pub is_deed_allowed : World → Path → (ℕ → Path) → Deed → Bool
 is_deed_allowed w me p (deeds.Locks mutex locked) = not (is_frozen_for w me (place p mutex))
+is_deed_allowed w me p (deeds.Points object to) =
+    not (is_frozen_for w me (place p object)) && are_unfrozen w me (body_pointers (w.body (place p object))) && not (leads_to_frozen w me (pointer_by p to))
 is_deed_allowed w me p (deeds.Wakes thread mutex) = not (is_frozen_for w me (place p thread))
 is_deed_allowed w me p (deeds.Sends block) = not (is_frozen_for w me (p block.to.0))
 is_deed_allowed w me p (deeds.Counts client count) = not (is_frozen_for w me (place p client))
@@ -39,15 +43,16 @@ abbrev pub is_effect_allowed : World → Path → (ℕ → Path) → Effect → 
 is_effect_allowed w me p (effects.Stores space page at value) = not (is_frozen_for w me (p space))
 is_effect_allowed w me p other = true
 
-abbrev pub is_verdict_allowed : World → Path → (ℕ → Path) → Verdict → Bool
-is_verdict_allowed w me p (verdicts.Runs e) = is_effect_allowed w me p e
-is_verdict_allowed w me p (verdicts.Refused status) = true
-is_verdict_allowed w me p verdicts.Waits = false
-is_verdict_allowed w me p (verdicts.Done plan answers) = is_plan_allowed w me p plan
-is_verdict_allowed w me p (verdicts.Shows plan space page) = is_plan_allowed w me p plan
-is_verdict_allowed w me p (verdicts.Goes plan) = is_plan_allowed w me p plan
-is_verdict_allowed w me p (verdicts.Tells plan words last) = is_plan_allowed w me p plan
-is_verdict_allowed w me p (verdicts.Faults page write port) = not (is_frozen_for w me (place p port))
+abbrev pub IsVerdictAllowed : World → Path → (ℕ → Path) → Verdict → Type 0
+IsVerdictAllowed w me p (verdicts.Runs e) = IsTrue (is_effect_allowed w me p e)
+IsVerdictAllowed w me p (verdicts.Refused status) = IsTrue true
+IsVerdictAllowed w me p verdicts.Waits = IsTrue false
+IsVerdictAllowed w me p (verdicts.Done plan answers) = IsTrue (is_plan_allowed w me p plan)
+IsVerdictAllowed w me p (verdicts.Shows plan space page) = IsTrue (is_plan_allowed w me p plan)
+IsVerdictAllowed w me p (verdicts.Renames object slot) = MayMove w me (place p object)
+IsVerdictAllowed w me p (verdicts.Goes plan) = IsTrue (is_plan_allowed w me p plan)
+IsVerdictAllowed w me p (verdicts.Tells plan words last) = IsTrue (is_plan_allowed w me p plan)
+IsVerdictAllowed w me p (verdicts.Faults page write port) = IsTrue (not (is_frozen_for w me (place p port)))
 
 -- a stage that chooses may pick, where it isn't refused; every other picks nobody
 abbrev pub may_pick : Bool → Option Who → Verdict → Bool
@@ -56,6 +61,7 @@ may_pick chooses pick (verdicts.Refused status) = is_none pick
 may_pick chooses pick verdicts.Waits = true
 may_pick chooses pick (verdicts.Done plan answers) = chooses || is_none pick
 may_pick chooses pick (verdicts.Shows plan space page) = chooses || is_none pick
+may_pick chooses pick (verdicts.Renames object slot) = chooses || is_none pick
 may_pick chooses pick (verdicts.Goes plan) = chooses || is_none pick
 may_pick chooses pick (verdicts.Tells plan words last) = chooses || is_none pick
 may_pick chooses pick (verdicts.Faults page write port) = chooses || is_none pick

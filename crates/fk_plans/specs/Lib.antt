@@ -1,4 +1,5 @@
 pub mod Plans
+pub mod Renames
 pub mod Effects
 pub mod Verdicts
 pub mod Allowed

@@ -10,7 +10,9 @@ use Rattle.fk_model.specs.Reach.{words_at}
 use Rattle.fk_model.specs.Valid.{birth_at, kind_there}
 use Rattle.fk_model.specs.World.{World, Change, apply}
 use Rattle.fk_model.specs.World.Change.{Alter, MakeSpace, PutPage, DropPage}
-use Rattle.fk_model.specs.World.Edit.{SetLocked, SetStops, Replace, CountMoved, Shift, End}
+use Rattle.fk_model.specs.World.Edit.{SetLocked, SetPointer, SetStops, Replace, CountMoved, Shift, End}
+use Rattle.fk_store.specs.Bodies.{pointer_by}
+use Rattle.fk_store.specs.Named.{OnPointer}
 use Rattle.fk_store.specs.Paths.{place}
 use Rattle.fk_threads.specs.Shifted.{IsLow}
 use Rattle.fk_threads.specs.Sleepers.{IsAsleep}
@@ -30,6 +32,7 @@ caller_by p c words = record { space = p c.who.space; slot = c.who.slot; is_port
 -- the change that a deed is, where the world is this
 abbrev pub change_by : (ℕ → Path) → Deed → World → Change
 change_by p (deeds.Locks mutex locked) w = Alter (place p mutex) (SetLocked locked)
+change_by p (deeds.Points object to) w = Alter (place p object) (SetPointer (pointer_by p to))
 change_by p (deeds.Wakes thread mutex) w = Alter (place p thread) (Replace (MutexLock mutex))
 change_by p (deeds.Sends block) w = PutPage (p block.to.0) block.to.1 (block_page p w block)
 change_by p (deeds.Counts client count) w = Alter (place p client) (CountMoved count)
@@ -68,6 +71,7 @@ changes_by p given (plans.Gives space page source) w = PutPage (p space) page (s
 
 abbrev pub IsDeed : (ℕ → Path) → World → Deed → Type 0
 IsDeed p w (deeds.Locks mutex locked) = ⊤
+IsDeed p w (deeds.Points object to) = OnPointer (λ other. IsSome (kind_there w (place p other))) to
 IsDeed p w (deeds.Wakes thread mutex) = IsAsleep w (place p thread) mutex
 IsDeed p w (deeds.Sends block) = IsBlock p w block
 IsDeed p w (deeds.Counts client count) = ⊤

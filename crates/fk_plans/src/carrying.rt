@@ -13,6 +13,7 @@ use crate::blocks::{copy_page, send_block};
 use crate::instructions::run;
 use crate::making::{make, make_held};
 use crate::plan::{Caller, Deed, Plan, Verdict, Words};
+use crate::renaming::rename;
 use crate::sources::give;
 use crate::telling::{told, told_page, told_words};
 use fk_model::status::OK;
@@ -28,6 +29,7 @@ fn carry(store: &mut Store, deed: &Deed)
 {
     match *deed {
         Deed::Locks { mutex, locked } => store.set_locked(mutex, locked),
+        Deed::Points { object, to } => store.point(object, to),
         Deed::Wakes { thread, mutex } => wake(store, thread, mutex),
         Deed::Sends(block) => send_block(store, block),
         Deed::Counts { client, count } => count_moved(store, client, count),
@@ -132,6 +134,7 @@ pub fn carry_out(
             carry_all(store, caller, given, plan)?;
             return Ok(said);
         }
+        Verdict::Renames { object, slot } => return Ok(rename(store, caller, *object, *slot)),
         Verdict::Goes(plan) => carry_all(store, caller, given, plan)?,
         Verdict::Tells { plan, words, last } => {
             return tell(store, caller, given, plan, words, *last);

@@ -1,7 +1,7 @@
 //! What a stage comes to.
 use crate::blocks::Block;
 use crate::sources::Source;
-use fk_model::Who;
+use fk_model::{Ptr, Who};
 use fk_threads::Answers;
 
 /// Who makes a stage: a user, or a porter.
@@ -16,6 +16,8 @@ pub struct Caller {
 pub enum Deed {
     /// A mutex is locked, or unlocked.
     Locks { mutex: Who, locked: bool },
+    /// The pointer of a mapping, a region or a reference leads elsewhere.
+    Points { object: Who, to: Ptr },
     /// A thread that sleeps on a condition wakes up, and locks this mutex next.
     Wakes { thread: Who, mutex: u64 },
     /// Words of a page go to a page that is there.
@@ -114,6 +116,12 @@ pub enum Verdict {
         plan: Plan,
         space: u32,
         page: u8,
+    },
+    /// An object gets another slot, and then the caller's stage is done; that of a thread that renames
+    /// itself in its new slot.
+    Renames {
+        object: Who,
+        slot: u8,
     },
     /// It does this, and the caller stays at its stage.
     Goes(Plan),

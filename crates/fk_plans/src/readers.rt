@@ -18,7 +18,7 @@ use fk_model::{Body, Ptr, Who};
 use fk_store::Store;
 
 /// The last slot that the caller can name.
-fn last_slot(caller: Caller) -> u64
+pub fn last_slot(caller: Caller) -> u64
     ensures last { result ≡ if caller.is_porter then LAST_PORTER_SLOT else LAST_USER_SLOT }
     ensures low { result ≤ 255 }
 {

@@ -1,15 +1,28 @@
 //! When a verdict is ready.
 ghost use Rattle.std.specs.Prelude.{◌≡◌, ◌↔◌, ℕ, List, true, false, IsTrue};
+ghost use Rattle.fk_model.specs.Freezing.{are_unfrozen, body_pointers};
 ghost use Rattle.fk_model.specs.Moves.{GoesAllowed};
 ghost use Rattle.fk_store.specs.Paths.{path, place};
 ghost use Rattle.fk_store.specs.Threads.{is_free_at};
 ghost use Rattle.fk_store.specs.World.{world};
-ghost use Rattle.fk_plans.specs.Allowed.{is_deed_allowed, is_plan_allowed, is_verdict_allowed, may_pick};
+ghost use Rattle.fk_plans.specs.Allowed.{is_deed_allowed, is_plan_allowed, IsVerdictAllowed, may_pick};
 ghost use Rattle.fk_plans.specs.Verdicts.{IsVerdict, move_by};
 
 use crate::plan::{Caller, Deed, Effect, Plan, Verdict};
+use crate::renaming::may_move;
+use fk_deaths::leads_to_frozen;
 use fk_model::Who;
 use fk_store::Store;
+
+/// Nothing is frozen to which an object leads.
+fn is_object_unfrozen(store: &Store, me: Who, object: Who) -> bool
+    ensures { result ≡ are_unfrozen (world store.now) (place (path store.now) me) (body_pointers ((world store.now).body (place (path store.now) object))) }
+{
+    match store.at(object) {
+        Some(body) => !leads_to_frozen(store, me, body),
+        None => true,
+    }
+}
 
 /// The freezing rule allows a deed.
 fn is_deed_allowed(store: &Store, me: Who, deed: &Deed) -> bool
@@ -17,6 +30,11 @@ fn is_deed_allowed(store: &Store, me: Who, deed: &Deed) -> bool
 {
     match *deed {
         Deed::Locks { mutex, .. } => !store.frozen_for(me, mutex),
+        Deed::Points { object, to } => {
+            !store.frozen_for(me, object)
+                && is_object_unfrozen(store, me, object)
+                && !store.leads_to_frozen(me, to)
+        }
         Deed::Wakes { thread, .. } => !store.frozen_for(me, thread),
         Deed::Sends(block) => !store.space_frozen_for(me, block.to.0),
         Deed::Counts { client, .. } => !store.frozen_for(me, client),
@@ -56,11 +74,12 @@ fn is_plan_allowed(store: &Store, me: Who, plan: &Plan) -> bool
 }
 
 /// The freezing rule allows what a verdict does.
-fn is_verdict_allowed(store: &Store, me: Who, verdict: &Verdict) -> bool
-    ensures { result ≡ is_verdict_allowed (world store.now) (place (path store.now) me) (path store.now) verdict.now }
+fn is_verdict_allowed(store: &Store, caller: Caller, verdict: &Verdict) -> bool
+    requires fits { IsVerdict store.now caller verdict.now }
+    ensures { IsTrue result ↔ IsVerdictAllowed (world store.now) (place (path store.now) caller.who) (path store.now) verdict.now }
 {
     match verdict {
-        Verdict::Runs(Effect::Stores { space, .. }) => !store.space_frozen_for(me, *space),
+        Verdict::Runs(Effect::Stores { space, .. }) => !store.space_frozen_for(caller.who, *space),
         Verdict::Runs(
             Effect::Puts { .. } | Effect::Jumps { .. } | Effect::Halts { .. } | Effect::Enters,
         )
@@ -69,8 +88,9 @@ fn is_verdict_allowed(store: &Store, me: Who, verdict: &Verdict) -> bool
         Verdict::Done(plan, _)
         | Verdict::Shows { plan, .. }
         | Verdict::Goes(plan)
-        | Verdict::Tells { plan, .. } => is_plan_allowed(store, me, plan),
-        Verdict::Faults { port, .. } => !store.frozen_for(me, *port),
+        | Verdict::Tells { plan, .. } => is_plan_allowed(store, caller.who, plan),
+        Verdict::Renames { object, .. } => may_move(store, caller.who, *object),
+        Verdict::Faults { port, .. } => !store.frozen_for(caller.who, *port),
     }
 }
 
@@ -84,6 +104,7 @@ fn may_pick(chooses: bool, pick: Option<Who>, verdict: &Verdict) -> bool
         Verdict::Runs(_)
         | Verdict::Done(..)
         | Verdict::Shows { .. }
+        | Verdict::Renames { .. }
         | Verdict::Goes(_)
         | Verdict::Tells { .. }
         | Verdict::Faults { .. } => chooses || pick.is_none(),
@@ -92,7 +113,7 @@ fn may_pick(chooses: bool, pick: Option<Who>, verdict: &Verdict) -> bool
 
 /// Whether a free user, or a porter, who is judged so is ready: it picks somebody only where its
 /// stage chooses and isn't refused, and the freezing rule allows all that it does.
-#[tactic(auto, using(crate::proofs::Ready::ready_iff))]
+#[tactic(auto, using(crate::proofs::Ready::never_picks))]
 pub fn is_ready(
     store: &Store,
     caller: Caller,
@@ -105,5 +126,5 @@ pub fn is_ready(
     ensures { (words : List ℕ) →
         IsTrue result ↔ GoesAllowed (world store.now) (place (path store.now) caller.who) (move_by store.now caller words chooses pick verdict.now) }
 {
-    may_pick(chooses, pick, verdict) && is_verdict_allowed(store, caller.who, verdict)
+    may_pick(chooses, pick, verdict) && is_verdict_allowed(store, caller, verdict)
 }

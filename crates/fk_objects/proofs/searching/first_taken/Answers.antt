@@ -1,0 +1,18 @@
+use Rattle.std.proofs.Common.{arith, sym, ◌∙◌}
+use Rattle.fk_store.proofs.ReachLaws.{lowest-zero, lowest-none}
+use Rattle.fk_objects.proofs.Slots.{none_there, first_there, none_first}
+use Rattle.fk_objects.proofs.searching.first_taken.Goals as goal
+
+pub loop-slot-init : goal.loop-slot-init
+loop-slot-init c = lowest-zero _
+
+pub returns-then-is_some : goal.returns-then-is_some
+returns-then-is_some c =
+    first_there _ c.loop-slot.slot c.loop-slot.invariant _ c.taken_from-found.ensures (sym c.is_some.ensures ∙ c.if-is_some.true) (omega arith)
+
+pub loop-slot-preserved : goal.loop-slot-preserved
+loop-slot-preserved c =
+    lowest-none c.loop-slot.slot _ c.loop-slot.invariant (sym c.taken_from-found.ensures ∙ none_there _ (sym c.is_some.ensures ∙ c.if-is_some.false))
+
+pub returns : goal.returns
+returns c = none_first _ c.loop-slot.slot c.loop-slot.invariant (omega arith) (omega arith)

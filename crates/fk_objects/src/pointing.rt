@@ -1,0 +1,55 @@
+//! The stages that set the pointer of a reference.
+ghost use Rattle.std.specs.Prelude.{IfOk};
+ghost use Rattle.fk_model.specs.ObjectRows as rows;
+ghost use Rattle.fk_store.specs.World.{IsSpace};
+ghost use Rattle.fk_plans.specs.Verdicts.{Judges, IsSureVerdict};
+
+use fk_model::status::HELD;
+use fk_model::{Ptr, Who};
+use fk_plans::{Caller, Deed, Plan, Verdict, place, pointer_in, reference_in};
+use fk_store::Store;
+use fk_threads::Answers;
+
+/// A reference leads to the object in another slot, or where the reference there leads.
+#[tactic(auto, unfolding(fk_model::specs::ObjectRows::point))]
+pub fn point(
+    store: &Store,
+    caller: Caller,
+    s: u64,
+    x: u64,
+    other_place: u64,
+    other: u64,
+) -> Result<Verdict, u8>
+    requires space { IsSpace store.now caller.who.space }
+    ensures row { Judges store.now caller result (λ w c. rows.point w c s x other_place other) }
+    ensures sure { IfOk result IsSureVerdict }
+{
+    let space = place(store, caller, s)?;
+    reference_in(store, caller, space, x)?;
+    let other_space = place(store, caller, other_place)?;
+    let to = pointer_in(store, caller, other_space, other)?;
+    let slot = x as u8;
+    let object = Who { space, slot };
+    if store.frozen_for(caller.who, object) {
+        return Err(HELD);
+    }
+    Ok(Verdict::Done(Plan::One(Deed::Points { object, to }), Answers::Nothing))
+}
+
+/// A reference leads nowhere.
+#[tactic(auto, unfolding(fk_model::specs::ObjectRows::clear))]
+pub fn clear(store: &Store, caller: Caller, s: u64, x: u64) -> Result<Verdict, u8>
+    requires space { IsSpace store.now caller.who.space }
+    ensures row { Judges store.now caller result (λ w c. rows.clear w c s x) }
+    ensures sure { IfOk result IsSureVerdict }
+{
+    let space = place(store, caller, s)?;
+    reference_in(store, caller, space, x)?;
+    let slot = x as u8;
+    let object = Who { space, slot };
+    if store.frozen_for(caller.who, object) {
+        return Err(HELD);
+    }
+    let to = Ptr::Null;
+    Ok(Verdict::Done(Plan::One(Deed::Points { object, to }), Answers::Nothing))
+}

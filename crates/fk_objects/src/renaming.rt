@@ -1,0 +1,55 @@
+//! The stage that gives an object another slot.
+ghost use Rattle.std.specs.Prelude.{◌≡◌, ℕ, IfOk};
+ghost use Rattle.fk_model.specs.Objects as objects;
+ghost use Rattle.fk_model.specs.ObjectRows as rows;
+ghost use Rattle.fk_model.specs.Places.{Path};
+ghost use Rattle.fk_store.specs.Bodies.{body_by};
+ghost use Rattle.fk_store.specs.World.{IsSpace};
+ghost use Rattle.fk_plans.specs.Verdicts.{Judges, IsSureVerdict};
+
+use fk_model::limits::LAST_USER_SLOT;
+use fk_model::status::{BADHANDLE, DENIED, HELD, NOTEMPTY, OCCUPIED};
+use fk_model::{Body, Who};
+use fk_plans::{Caller, Verdict, object_in, place};
+use fk_store::Store;
+
+/// A port with a native server.
+fn is_served(body: &Body) -> bool
+    ensures { (p : ℕ → Path) → result ≡ objects.is_served (body_by p body.now) }
+{
+    match body {
+        Body::Port { served, .. } => *served,
+        _ => false,
+    }
+}
+
+/// An object gets another slot of its space, which is empty. Nothing may stand in it, and no native
+/// server serve it. A slot above 239 is none.
+#[tactic(auto, unfolding(fk_model::specs::ObjectRows::rename))]
+pub fn rename(store: &Store, caller: Caller, s: u64, x: u64, y: u64) -> Result<Verdict, u8>
+    requires space { IsSpace store.now caller.who.space }
+    ensures row { Judges store.now caller result (λ w c. rows.rename w c s x y) }
+    ensures sure { IfOk result IsSureVerdict }
+{
+    let space = place(store, caller, s)?;
+    let body = object_in(store, caller, space, x)?;
+    let slot = x as u8;
+    let object = Who { space, slot };
+    if store.frozen_for(caller.who, object) {
+        return Err(HELD);
+    }
+    if y > LAST_USER_SLOT {
+        return Err(BADHANDLE);
+    }
+    if is_served(body) {
+        return Err(DENIED);
+    }
+    let slot = y as u8;
+    if store.at(Who { space, slot }).is_some() {
+        return Err(OCCUPIED);
+    }
+    if store.has_residents(object) {
+        return Err(NOTEMPTY);
+    }
+    Ok(Verdict::Renames { object, slot })
+}

@@ -1,0 +1,34 @@
+-- Following: whether a rename may change all others, by those that have names.
+use Rattle.std.proofs.Common.{◌≡◌, ℕ, true, [], ◌∷◌, Option, Some, None, IsSome, refl, sym, subst}
+use Rattle.fk_model.specs.declared.names.Who.{Who}
+use Rattle.fk_model.specs.Freezing.{may_follow}
+use Rattle.fk_model.specs.Objects.{Body}
+use Rattle.fk_model.specs.Places.{Path}
+use Rattle.fk_model.specs.Valid.{kind_there}
+use Rattle.fk_store.specs.Contents.{Contents}
+use Rattle.fk_store.specs.Paths.{path, place}
+use Rattle.fk_store.specs.World.{world, IsLive}
+use Rattle.fk_deaths.proofs.Scans.{ArePassed, passed_all}
+
+-- an object may follow
+abbrev pub IsFollower : Contents → Path → Path → Who → Type 0
+IsFollower m me renamed other = may_follow (world m) me renamed (place (path m) other) ≡ true
+
+root_follows : (m : Contents) (me renamed : Path) → may_follow (world m) me renamed [] ≡ true
+unfolding world
+root_follows m me renamed = refl
+
+pub all_follow : (m : Contents) (me renamed : Path) →
+    ((k : ℕ) (s : Path) → IsSome (kind_there (world m) (k ∷ s)) → (other : Who) × (place (path m) other ≡ k ∷ s)) →
+    ArePassed (IsLive m) (IsFollower m me renamed) None → (q : Path) → may_follow (world m) me renamed q ≡ true
+unfolding kind_there
+all_follow m me renamed named all [] = root_follows m me renamed
+all_follow m me renamed named all (k ∷ s) = by ((world m).body (k ∷ s)) refl
+  where
+    by : (b : Option Body) → (world m).body (k ∷ s) ≡ b → may_follow (world m) me renamed (k ∷ s) ≡ true
+    by None e = rw e refl
+    by (Some b) e =
+        let live : IsSome (kind_there (world m) (k ∷ s)) = rw e refl in
+        let other = named k s live in
+        subst (λ x. may_follow (world m) me renamed x ≡ true) other.1
+        (passed_all (IsLive m) (IsFollower m me renamed) all other.0 (subst (λ x. IsSome (kind_there (world m) x)) (sym other.1) live))

@@ -1,0 +1,19 @@
+-- Pointers: when the freezing rule lets them be.
+use Rattle.std.proofs.Common.{◌≡◌, Bool, true, false, not, ◌&&◌, ◌↔◌, IsTrue, refl}
+use Rattle.fk_model.specs.Places.{Path, Ptr}
+use Rattle.fk_model.specs.World.{World}
+use Rattle.fk_model.specs.World.Edit.{SetPointer}
+use Rattle.fk_model.specs.Freezing.{are_unfrozen, body_pointers, MayAlter}
+use Rattle.fk_model.specs.Holds.{is_frozen_for, leads_to_frozen}
+
+-- a pointer that is set elsewhere
+pub pointed_iff : (w : World) (me x : Path) (to : Ptr) →
+    IsTrue (not (is_frozen_for w me x) && are_unfrozen w me (body_pointers (w.body x)) && not (leads_to_frozen w me to)) ↔ MayAlter w me x (SetPointer to)
+pointed_iff w me x to = by (is_frozen_for w me x) refl (are_unfrozen w me (body_pointers (w.body x))) refl (leads_to_frozen w me to) refl
+  where
+    by : (a : Bool) → is_frozen_for w me x ≡ a → (b : Bool) → are_unfrozen w me (body_pointers (w.body x)) ≡ b →
+        (c : Bool) → leads_to_frozen w me to ≡ c → IsTrue (not a && b && not c) ↔ MayAlter w me x (SetPointer to)
+    by true ea b eb c ec = ((λ h. absurd (cc)), (λ h. let no = h.object in absurd (cc)))
+    by false ea false eb c ec = ((λ h. absurd (cc)), (λ h. let no = h.changed in absurd (cc)))
+    by false ea true eb true ec = ((λ h. absurd (cc)), (λ h. let no = rw ec at h.made in absurd (cc)))
+    by false ea true eb false ec = ((λ h. record { object = ea; changed = eb; made = rw ec refl }), (λ h. refl))

@@ -1,0 +1,89 @@
+//! Giving an object another slot: when the freezing rule allows it, and doing it.
+ghost use Rattle.std.specs.Prelude.{◌≡◌, ◌↔◌, ℕ, List, false, true, IsTrue};
+ghost use Rattle.fk_model.specs.Freezing as freezing;
+ghost use Rattle.fk_model.specs.Freezing.{MayMove};
+ghost use Rattle.fk_model.specs.Moves.{closed, stepped};
+ghost use Rattle.fk_model.specs.Places.{Path, same_path};
+ghost use Rattle.fk_store.specs.Moves.{said_by};
+ghost use Rattle.fk_store.specs.Paths.{path, place, HasOwnPath};
+ghost use Rattle.fk_store.specs.World.{world, IsLive};
+ghost use Rattle.fk_plans.specs.Plans.{caller_by};
+ghost use Rattle.fk_plans.specs.Renames.{renames, IsMoving};
+
+use crate::plan::Caller;
+use crate::telling::told;
+use fk_deaths::is_swept;
+use fk_model::status::OK;
+use fk_model::{Said, Who};
+use fk_store::Store;
+use fk_threads::{Answers, finish};
+
+/// The freezing rule lets the object at a name follow another that is renamed.
+fn may_follow(store: &Store, me: Who, renamed: Who, other: Who) -> bool
+    requires apart { HasOwnPath (path store.now) renamed }
+    ensures { result ≡ freezing.may_follow (world store.now) (place (path store.now) me) (place (path store.now) renamed) (place (path store.now) other) }
+{
+    match store.at(other) {
+        Some(body) => !is_swept(renamed, other, body) || !store.frozen_for(me, other),
+        None => true,
+    }
+}
+
+/// It lets all that follow.
+fn may_all_follow(store: &Store, me: Who, renamed: Who) -> bool
+    requires apart { HasOwnPath (path store.now) renamed }
+    ensures { IsTrue result
+        ↔ ((q : Path) → freezing.may_follow (world store.now) (place (path store.now) me) (place (path store.now) renamed) q ≡ true) }
+{
+    let mut at = store.after(None);
+    while let Some(other) = at {
+        if !may_follow(store, me, renamed, other) {
+            return false;
+        }
+        at = store.after(Some(other));
+    }
+    true
+}
+
+/// It lets an object be renamed.
+pub fn may_move(store: &Store, me: Who, renamed: Who) -> bool
+    requires live { IsLive store.now renamed }
+    ensures { IsTrue result ↔ MayMove (world store.now) (place (path store.now) me) (place (path store.now) renamed) }
+{
+    if store.at(renamed).is_none() {
+        unreachable!();
+    }
+    !store.frozen_for(me, renamed) && may_all_follow(store, me, renamed)
+}
+
+/// Whether a name is that of an object that is there.
+fn is_named(store: &Store, who: Who, object: Who) -> bool
+    requires live { IsLive store.now object }
+    ensures { result ≡ same_path (place (path store.now) who) (place (path store.now) object) }
+{
+    store.at(object).is_some() && who == object
+}
+
+/// Gives an object another slot, and the caller's stage is done. A thread that renames itself is done
+/// in its new slot.
+pub fn rename(store: &mut Store, caller: Caller, object: Who, slot: u8) -> Said
+    requires live { caller.is_porter ≡ false → IsLive store.old caller.who }
+    requires fits { IsMoving store.old object slot }
+    ensures step { (words : List ℕ) → let c = caller_by (path store.old) caller words in
+        stepped (world store.old) (closed c (renames c (place (path store.old) object) slot))
+        ≡ record { world = world store.new; said = said_by (path store.new) result } }
+{
+    let is_itself = is_named(store, caller.who, object);
+    store.move_to(object, slot);
+    if caller.is_porter {
+        return told(OK, Answers::Nothing);
+    }
+    let space = object.space;
+    let me = if is_itself {
+        Who { space, slot }
+    } else {
+        caller.who
+    };
+    finish(store, me, Answers::Nothing);
+    Said::Nothing
+}
