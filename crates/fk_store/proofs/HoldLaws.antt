@@ -4,13 +4,15 @@ use Rattle.std.specs.Option.{option_or}
 use Rattle.std.specs.FinMap.{get}
 use Rattle.fk_model.specs.declared.names.Who.{Who}
 use Rattle.fk_model.specs.declared.body.Body as bodies_of
-use Rattle.fk_model.specs.Places.{Ptr}
+use Rattle.fk_model.specs.declared.body.Body.TheVariants as bodies
+use Rattle.fk_model.specs.Places.{Path, Ptr}
 use Rattle.fk_model.specs.Places.Ptr.{At}
-use Rattle.fk_model.specs.Objects.{or_else}
+use Rattle.fk_model.specs.Objects.{and_then, or_else}
 use Rattle.fk_model.specs.Holds.{holder_of, decider, is_frozen}
+use Rattle.fk_tables.specs.Held.{is_held}
 use Rattle.fk_store.specs.Names.{at}
 use Rattle.fk_store.specs.Contents.{Contents, home, is_live}
-use Rattle.fk_store.specs.Paths.{place, path, HasOwnPath}
+use Rattle.fk_store.specs.Paths.{place, path, space_at, HasOwnPath}
 use Rattle.fk_store.specs.Bodies.{body_by}
 use Rattle.fk_store.specs.Named.{Each}
 use Rattle.fk_store.specs.World.{world, IsLive}
@@ -108,3 +110,37 @@ is_frozen-some m kept n who found up is = rw (path-home m kept n who up, ← is)
     by : (o : Option Who) → is_some o ≡ is_some (option_map (λ q. At (place (path m) q)) o)
     by None = refl
     by (Some q) = refl
+
+-- ---- where nothing is held
+
+holder_by : (p : ℕ → Path) (b : bodies_of.Body) → is_held b ≡ false → holder_of (Some (body_by p b)) ≡ None
+holder_by p (bodies.Mutex locked) h = refl
+holder_by p bodies.Cond h = refl
+holder_by p (bodies.Mapping first count offset write region) h = refl
+holder_by p (bodies.Region first count write keeper) h = refl
+holder_by p (bodies.Port set served) h = refl
+holder_by p bodies.Portset h = refl
+holder_by p (bodies.Space birth None) h = refl
+holder_by p (bodies.Space birth (Some who)) h = absurd (cc)
+holder_by p (bodies.Thread thread) h = refl
+holder_by p (bodies.Reference to) h = refl
+
+module _ (m : Contents) (free : (who : Who) (b : bodies_of.Body) → get m.bodies who ≡ Some b → is_held b ≡ false) where
+  holder-free : (x : Path) → holder_of ((world m).body x) ≡ None
+  unfolding world
+  holder-free [] = refl
+  holder-free (k ∷ s) = by (space_at m s)
+    where
+      here : (n : ℕ) (o : Option bodies_of.Body) → get m.bodies (at n k) ≡ o → holder_of (option_map (body_by (path m)) o) ≡ None
+      here n None e = refl
+      here n (Some b) e = holder_by (path m) b (free (at n k) b e)
+
+      by : (o : Option ℕ) → holder_of (and_then (λ n. option_map (body_by (path m)) (get m.bodies (at n k))) o) ≡ None
+      by None = refl
+      by (Some n) = here n (get m.bodies (at n k)) refl
+
+  -- nobody decides
+  pub decider-free : (x : Path) → decider (world m) x ≡ None
+  unfolding decider
+  decider-free [] = holder-free []
+  decider-free (k ∷ x) = rw (decider-free x, holder-free (k ∷ x)) refl

@@ -1,5 +1,5 @@
 -- Changes of the thread at a path.
-use Rattle.std.proofs.Common.{◌≡◌, ℕ, ◌+◌, ◌%◌, ◌^◌, ◌≤◌, Bool, true, false, cond, List, [], ◌∷◌, length, Option, Some, None, option_map, unwrap_or, slice_set, refl, sym, ap, subst, ◌∙◌, arith}
+use Rattle.std.proofs.Common.{◌≡◌, ℕ, ◌+◌, ◌%◌, ◌^◌, Bool, true, false, cond, List, [], length, Option, Some, None, option_map, unwrap_or, slice_set, refl, sym, ap, subst, ◌∙◌}
 use Rattle.std.proofs.lemmas.List.{set-set}
 use Rattle.fk_model.specs.declared.names.Kind.TheVariants as kinds
 use Rattle.fk_model.specs.declared.stage.Stage.{Stage}
@@ -8,18 +8,16 @@ use Rattle.fk_model.specs.declared.thread.Mode.TheVariants as modes
 use Rattle.fk_model.specs.declared.thread.Thread as threads_of
 use Rattle.fk_model.specs.Places.{Path, same_path, Ptr}
 use Rattle.fk_model.specs.Calls.{words, todo_of, rest_of, code_of}
-use Rattle.fk_model.specs.Objects.{Mode, Thread, Body, kind_of, thread_of, and_then}
-use Rattle.fk_model.specs.Objects.Mode.{Running, Calling, Halted, Native}
+use Rattle.fk_model.specs.Objects.{Mode, Thread, Body, kind_of}
+use Rattle.fk_model.specs.Objects.Mode.{Running}
 use Rattle.fk_model.specs.Objects.Body.{Mutex, Cond, Mapping, Region, Port, Portset, Space, Thread_of, Reference}
-use Rattle.fk_model.specs.World.{World, Edit, edited, on_thread, ended_in, finished_in, apply}
-use Rattle.fk_model.specs.World.Edit.{End, Finish, Proceed}
+use Rattle.fk_model.specs.World.{World, Edit, edited, on_thread, apply}
+use Rattle.fk_model.specs.World.Edit.{End, Proceed}
 use Rattle.fk_model.specs.World.Change.{Alter}
 use Rattle.fk_model.specs.Readers.{fault_on}
-use Rattle.fk_model.specs.declared.statuses.status.TheConstants.{OK}
 use Rattle.fk_model.specs.Valid.{kind_there}
 use Rattle.fk_model.proofs.calls.CallLaws.{todo_writes_back_lem}
 use Rattle.fk_store.specs.Bodies.{mode_by, thread_by}
-use Rattle.fk_store.specs.Threads.{todo_of_mode, todo_of_thread, todo_at}
 use Rattle.fk_store.proofs.Walks.{same_path_true}
 use Rattle.fk_model.specs.Searches.{thread_at}
 
@@ -39,19 +37,6 @@ kind_thread w x t is = by (w.body x) is
     by (Some (Space birth holder)) is = absurd (cc)
     by (Some (Thread_of thread)) is = refl
     by (Some (Reference to)) is = absurd (cc)
-
--- two edits that make the same of what is there
-pub alter-alike : (w : World) (x : Path) (e f : Edit) →
-    option_map (edited e) (w.body x) ≡ option_map (edited f) (w.body x) → apply (Alter x e) w ≡ apply (Alter x f) w
-unfolding apply
-alter-alike w x e f alike = λ i. record { body = λ q. at q i; page = w.page; next = w.next }
-  where
-    at : (q : Path) → cond (same_path q x) (option_map (edited e) (w.body q)) (w.body q) ≡ cond (same_path q x) (option_map (edited f) (w.body q)) (w.body q)
-    at q = by (same_path q x) refl
-      where
-        by : (t : Bool) → same_path q x ≡ t → cond t (option_map (edited e) (w.body q)) (w.body q) ≡ cond t (option_map (edited f) (w.body q)) (w.body q)
-        by false there = refl
-        by true there = subst (λ y. option_map (edited e) (w.body y) ≡ option_map (edited f) (w.body y)) (sym (same_path_true q x there)) alike
 
 -- an edit that leaves what is there as it is
 pub alter-same : (w : World) (x : Path) (e : Edit) → option_map (edited e) (w.body x) ≡ w.body x → w ≡ apply (Alter x e) w
@@ -119,32 +104,6 @@ ended-other p t status other = by t.mode refl
 pub end_nobody : (w : World) (x : Path) (status : ℕ) → thread_at w x ≡ None → w ≡ apply (Alter x (End status [])) w
 unfolding edited
 end_nobody w x status none = alter-nobody w x (End status []) _ (λ b. refl) none
-
--- ---- the last stage of a call
-
-pub finish_last : (w : World) (x : Path) → length (todo_at w x) ≤ 1 → apply (Alter x (End OK [])) w ≡ apply (Alter x (Finish [])) w
-unfolding edited todo_at
-finish_last w x last = alter-alike w x (End OK []) (Finish []) (by (w.body x) last)
-  where
-    in_mode : (t : Thread) (m : Mode) → length (todo_of_mode m) ≤ 1 → ended_in OK [] t m ≡ finished_in [] t m
-    in_mode t (Running g) last = refl
-    in_mode t (Calling [] rest) last = refl
-    in_mode t (Calling (stage ∷ []) rest) last = refl
-    in_mode t (Calling (stage ∷ second ∷ todo) rest) last = absurd (omega arith)
-    in_mode t (Halted g code) last = refl
-    in_mode t (Native g) last = refl
-
-    by : (b : Option Body) → length (todo_of_thread (and_then thread_of b)) ≤ 1 → option_map (edited (End OK [])) b ≡ option_map (edited (Finish [])) b
-    by None last = refl
-    by (Some (Mutex locked)) last = refl
-    by (Some Cond) last = refl
-    by (Some (Mapping window)) last = refl
-    by (Some (Region extent)) last = refl
-    by (Some (Port set served)) last = refl
-    by (Some Portset) last = refl
-    by (Some (Space birth holder)) last = refl
-    by (Some (Thread_of thread)) last = ap (λ t. Some (Thread_of t)) (in_mode thread thread.mode last)
-    by (Some (Reference to)) last = refl
 
 -- ---- what else becomes of a thread
 

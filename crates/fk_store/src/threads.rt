@@ -6,17 +6,16 @@ ghost use Rattle.fk_model.specs.Objects.Body.{Thread_of};
 ghost use Rattle.fk_model.specs.Places.{Path};
 ghost use Rattle.fk_model.specs.World.{apply, edited};
 ghost use Rattle.fk_model.specs.World.Change.{Alter};
-ghost use Rattle.fk_model.specs.World.Edit.{End, Finish, Proceed, SetStops};
+ghost use Rattle.fk_model.specs.World.Edit.{End, Proceed, SetStops};
 ghost use Rattle.fk_model.specs.Valid.{kind_there};
 ghost use Rattle.fk_store.specs.Paths.{path, place};
 ghost use Rattle.fk_store.specs.Bodies.{mode_by, thread_by};
 ghost use Rattle.fk_store.specs.Named.{OnNamed};
-ghost use Rattle.fk_store.specs.Threads.{todo_at, is_free_at};
+ghost use Rattle.fk_store.specs.Threads.{is_free_at};
 ghost use Rattle.fk_store.specs.World.{world, IsLive, IsSpace};
 ghost use Rattle.fk_model.specs.Searches.{thread_at};
 
 use crate::store::Store;
-use fk_model::status::OK;
 use fk_model::{Body, Mode, Thread, Who};
 
 impl Store {
@@ -70,18 +69,6 @@ impl Store {
         if let Some(&thread) = self.thread(me) {
             self.set(me, Body::Thread(ended(thread, status)));
         }
-    }
-
-    /// Ends the last stage of a thread's call, and the call with it. What is in no call stays as it
-    /// is.
-    #[tactic(auto, using(crate::proofs::ThreadLaws::finish_last))]
-    pub fn finish_call(&mut self, me: Who)
-        requires last { length (todo_at (world self.old) (place (path self.old) me)) ≤ 1 }
-        ensures world { world self.new ≡ apply (Alter (place (path self.old) me) (Finish [])) (world self.old) }
-        ensures kinds { kind_there (world self.new) ≡ kind_there (world self.old) }
-        ensures paths { path self.new ≡ path self.old }
-    {
-        self.end_call(me, OK);
     }
 
     /// A thread goes on with these registers, at this counter and in this mode. What is no thread

@@ -14,7 +14,7 @@ use Rattle.fk_tables.specs.Names.{who_cmp}
 use Rattle.fk_model.proofs.walks.Members.{IsIn}
 use Rattle.fk_tables.proofs.NameLaws.{who_total}
 
-first : (a b : Bool) → T (a && b) → T a
+pub first : (a b : Bool) → T (a && b) → T a
 first true b p = tt
 first false b p = p
 
@@ -22,7 +22,7 @@ pub second : (a b : Bool) → T (a && b) → T b
 second true b p = p
 second false b p = absurd p
 
-less : (o : Ordering) → T (is_lt o) → o ≡ Less
+pub less : (o : Ordering) → T (is_lt o) → o ≡ Less
 less Less p = refl
 less Equal p = absurd p
 less Greater p = absurd p

@@ -2,4 +2,5 @@ pub mod NameLaws
 pub mod ScanLaws
 pub mod Found
 pub mod HomeLaws
+pub mod HeldLaws
 pub mod Results

@@ -1,14 +1,16 @@
 -- Scans of all cells, and what they tell of the map.
-use Rattle.std.proofs.Common.{◌≡◌, ℕ, ◌+◌, ◌<◌, ◌≤◌, Bool, true, false, cond, ◌==◌, ◌&&◌, ltb, List, length, get_or, set, Option, Some, None, IsSome, IfSome, option_map, refl, sym, ap, subst, ◌∙◌, arith}
+use Rattle.std.proofs.Common.{◌≡◌, ℕ, ◌+◌, ◌<◌, ◌≤◌, Bool, true, false, cond, ◌==◌, ◌&&◌, ltb, List, [], length, get_or, set, Option, Some, None, IsSome, IfSome, option_map, refl, sym, ap, subst, ◌∙◌, arith}
 use Rattle.std.proofs.lemmas.Bool.Decides.{nat_tests}
 use Rattle.std.specs.Ordering.{is_lt, is_le}
+use Rattle.std.specs.List.{sum_by}
 use Rattle.std.specs.FinMap.{get}
 use Rattle.fk_model.specs.declared.names.Who.{Who}
 use Rattle.fk_model.specs.declared.body.Body.{Body}
 use Rattle.fk_slots.specs.Cells.{cell_in, cell, is_from}
-use Rattle.fk_slots.specs.Tabled.{map_of_rows}
+use Rattle.fk_slots.specs.Tabled.{map_of_rows, of_cell}
 use Rattle.fk_slots.proofs.CellLaws.{cell_found, cell_past, cells_set}
-use Rattle.fk_slots.proofs.TabledLaws.{get-rows}
+use Rattle.fk_slots.proofs.TabledLaws.{get-rows, sum-entries}
+use Rattle.fk_tables.specs.Held.{is_held, one_if, held_in}
 use Rattle.fk_tables.specs.Names.{at, page_at, page_cmp, same_who, who_cmp}
 use Rattle.fk_tables.specs.Orders.{comes_after, IsFirstAfter}
 use Rattle.fk_tables.specs.Sweeps.{body_after}
@@ -18,6 +20,15 @@ use Rattle.fk_tables.proofs.NameLaws.{who_naming, page_naming}
 -- what the map has under a name
 pub get-who : (rows : List (List (Option Body))) (q : Who) → get (map_of_rows who_cmp at rows) q ≡ cell rows q.space q.slot
 get-who rows q = get-rows who_naming rows q.space q.slot
+
+-- a number of all is that of all cells
+pub held-rows : (rows : List (List (Option Body))) →
+    held_in (map_of_rows who_cmp at rows) ≡ sum_by (λ row. sum_by (of_cell (λ b. one_if (is_held b))) row) rows
+unfolding held_in
+held-rows rows = sum-entries who_naming (λ b. one_if (is_held b)) rows
+
+pub none-empty : held_in (map_of_rows who_cmp at []) ≡ 0
+none-empty = held-rows []
 
 -- ---- the next object
 

@@ -9,6 +9,7 @@ ghost use Rattle.fk_model.specs.declared.body.Body.{Body};
 ghost use Rattle.fk_model.specs.Objects.{and_then};
 ghost use Rattle.fk_slots.specs.Cells.{is_from};
 ghost use Rattle.fk_tables.specs.Births.{stored_birth, home_in};
+ghost use Rattle.fk_tables.specs.Held as held;
 ghost use Rattle.fk_tables.specs.Homes.{birth_in};
 ghost use Rattle.fk_tables.specs.Names.{at, who_cmp, same_who};
 ghost use Rattle.fk_tables.specs.Orders.{comes_after, IsFirstAfter};
@@ -16,6 +17,7 @@ ghost use Rattle.fk_tables.specs.Parts.{plays};
 ghost use Rattle.fk_tables.specs.Pointers.{body_hits};
 ghost use Rattle.fk_tables.specs.Sweeps.{body_after};
 
+use crate::held::{count_held, counted, is_held, was_held};
 use crate::homes::{home_of, make_room, settle};
 use crate::parts::Part;
 use crate::scans::{count_hits, first_among, sweep_each};
@@ -33,6 +35,8 @@ pub struct Bodies {
     rows: Vec<Row<Stored>>,
     /// Where the space with each birth number stands.
     homes: Vec<Option<Who>>,
+    /// How many spaces are held.
+    held: u64,
 }
 
 impl Model for Bodies {
@@ -42,6 +46,7 @@ impl Model for Bodies {
     ghost use Rattle.fk_model.specs.declared.body.Body.{Body};
     ghost use Rattle.fk_model.specs.contracts.body.Body as body;
     ghost use Rattle.fk_slots.specs.Tabled.{map_of_rows};
+    ghost use Rattle.fk_tables.specs.Held.{held_in, IsEnough};
     ghost use Rattle.fk_tables.specs.Homes.{IsHomed};
     ghost use Rattle.fk_tables.specs.Names.{at, who_cmp, coded_who};
 
@@ -51,7 +56,8 @@ impl Model for Bodies {
 
     ghost view = { λ s. map_of_rows who_cmp at s.rows.items };
 
-    ghost invariant = { λ s. (length s.rows.items ≤ 4294967296) × IsHomed (map_of_rows who_cmp at s.rows.items) s.homes.items };
+    ghost invariant = { λ s. (length s.rows.items ≤ 4294967296)
+        × IsHomed (map_of_rows who_cmp at s.rows.items) s.homes.items × IsEnough (held_in (map_of_rows who_cmp at s.rows.items)) s.held };
 }
 
 impl Bodies {
@@ -62,6 +68,7 @@ impl Bodies {
         Bodies {
             rows: Vec::new(alloc),
             homes: Vec::new(alloc),
+            held: 0,
         }
     }
 
@@ -89,6 +96,7 @@ impl Bodies {
         ensures { self.new ≡ map.insert self.old who body }
     {
         if let Some(mut stored) = take_value(&mut self.rows, who.space, who.slot) {
+            self.held = counted(self.held, is_held(stored.body()), is_held(&body));
             stored.put(body);
             lay_value(&mut self.rows, who.space, who.slot, stored);
         }
@@ -107,6 +115,7 @@ impl Bodies {
         let stored = Stored::of(*self.rows.allocator(), body)?;
         put_value(&mut self.rows, who.space, who.slot, stored)?;
         settle(&mut self.homes, birth, Some(who));
+        self.held = counted(self.held, false, is_held(&body));
         Ok(())
     }
 
@@ -115,7 +124,8 @@ impl Bodies {
         ensures { self.new ≡ map.remove self.old who }
     {
         let birth = self.birth(who);
-        let _gone = take_value(&mut self.rows, who.space, who.slot);
+        let gone = take_value(&mut self.rows, who.space, who.slot);
+        self.held = counted(self.held, was_held(&gone), false);
         settle(&mut self.homes, birth, None);
     }
 
@@ -153,6 +163,15 @@ impl Bodies {
         ensures { (q : Who) → map.get self.new q ≡ option_map (body_after sweep q.space) (map.get self.old q) }
     {
         sweep_each(&mut self.rows, sweep);
+        self.held = count_held(&self.rows);
+    }
+
+    /// Some space may be held.
+    #[inline]
+    pub fn is_any_held(&self) -> bool
+        ensures { result ≡ false → (who : Who) (b : Body) → map.get self.now who ≡ Some b → held.is_held b ≡ false }
+    {
+        self.held > 0
     }
 
     /// The first object after this one, by space and then by slot; the first of all where there is

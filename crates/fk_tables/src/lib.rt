@@ -7,6 +7,7 @@
 #![tactic(auto)]
 
 mod bodies;
+mod held;
 mod hits;
 mod homes;
 mod pages;

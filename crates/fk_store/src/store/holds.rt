@@ -23,6 +23,20 @@ impl Store {
         ensures live { Each (IsLive self.now) result }
         ensures apart { Each (HasOwnPath (path self.now)) result }
     {
+        if self.bodies.is_any_held() {
+            self.decider_above(object)
+        } else {
+            None
+        }
+    }
+
+    /// The same, by a walk up to the root.
+    fn decider_above(&self, object: Who) -> Option<Who>
+        ensures decider { option_map (λ who. At (place_of self.now who)) result
+            ≡ holds.decider (world self.now) (place_of self.now object) }
+        ensures live { Each (IsLive self.now) result }
+        ensures apart { Each (HasOwnPath (path self.now)) result }
+    {
         let mut holder = self.holder(object);
         let mut at = object.space;
         for _above in 0..object.space {

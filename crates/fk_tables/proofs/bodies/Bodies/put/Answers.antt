@@ -1,4 +1,5 @@
 use Rattle.fk_slots.proofs.TabledLaws.{insert_rows, same_rows}
+use Rattle.fk_tables.proofs.HeldLaws.{enough-put}
 use Rattle.fk_tables.proofs.HomeLaws.{homed-put, homed-told}
 use Rattle.fk_tables.proofs.NameLaws.{who_naming}
 use Rattle.fk_tables.proofs.Results.{any_err}
@@ -8,6 +9,7 @@ pub invariant_of-self-in_err-put_value : goal.invariant_of-self-in_err-put_value
 invariant_of-self-in_err-put_value c = (
   c.put_value.ensures.few c.self.invariant.0,
   rw (same_rows who_naming _ _ c.in_err-put_value.ensures.err) (homed-told _ _ _ c.self.invariant.1 c.make_room.ensures.same),
+  rw (same_rows who_naming _ _ c.in_err-put_value.ensures.err) c.self.invariant.2,
 )
 
 pub returns-in_err-put_value-clause-err : goal.returns-in_err-put_value-clause-err
@@ -23,6 +25,8 @@ invariant_of-self-2 c =
     let put = rw c.in_ok-stored.ensures at c.in_ok-put_value.ensures.ok in (
       c.put_value.ensures.few c.self.invariant.0,
       rw (insert_rows who_naming _ _ c.args.who.space c.args.who.slot c.args.body put) (homed-put _ _ _ roomy c.args.who c.args.body empty fresh settled),
+      rw (insert_rows who_naming _ _ c.args.who.space c.args.who.slot c.args.body put)
+          (enough-put _ c.args.who _ _ c.self.invariant.2 c.args.body _ empty c.is_held.ensures c.counted-self-inside.ensures),
     )
 
 pub returns-clause-ok : goal.returns-clause-ok

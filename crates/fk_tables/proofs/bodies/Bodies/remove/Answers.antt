@@ -1,5 +1,8 @@
-use Rattle.std.proofs.Common.{◌∙◌, sym, arith}
+use Rattle.std.proofs.Common.{◌∙◌, sym, ap, arith}
 use Rattle.fk_slots.proofs.TabledLaws.{remove_rows}
+use Rattle.fk_slots.specs.Tabled.{of_cell}
+use Rattle.fk_tables.proofs.HeldLaws.{enough-remove}
+use Rattle.fk_tables.proofs.ScanLaws.{get-who}
 use Rattle.fk_tables.proofs.HomeLaws.{homed-remove, born-low}
 use Rattle.fk_tables.proofs.NameLaws.{who_naming}
 use Rattle.fk_tables.proofs.bodies.Bodies.remove.Goals as goal
@@ -16,6 +19,9 @@ invariant_of-self c =
       omega (arith, c.self.invariant.0, c.take_value-gone.ensures.long),
       rw (remove_rows who_naming _ _ c.args.who.space c.args.who.slot c.take_value-gone.ensures.left)
           (homed-remove _ _ _ c.self.invariant.1 c.args.who settled),
+      rw (remove_rows who_naming _ _ c.args.who.space c.args.who.slot c.take_value-gone.ensures.left)
+          (enough-remove _ c.args.who _ _ c.self.invariant.2 _ (c.was_held.ensures ∙ ap (of_cell _) (c.take_value-gone.ensures.taken ∙ sym (get-who _ c.args.who)))
+          c.counted-self-inside.ensures),
     )
 
 pub returns : goal.returns

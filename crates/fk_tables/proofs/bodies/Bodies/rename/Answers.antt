@@ -1,6 +1,7 @@
 use Rattle.std.proofs.Common.{refl, sym, ap, ◌∙◌, arith}
 use Rattle.fk_model.specs.Objects.{and_then}
 use Rattle.fk_tables.specs.Births.{stored_birth}
+use Rattle.fk_tables.proofs.HeldLaws.{enough-rename}
 use Rattle.fk_tables.proofs.HomeLaws.{homed-rename, born-low}
 use Rattle.fk_tables.proofs.ScanLaws.{get-who, get-moved, not_gone}
 use Rattle.fk_tables.proofs.bodies.Bodies.rename.Goals as goal
@@ -21,6 +22,7 @@ invariant_of-self c =
     let settled = rw birth at c.settle.ensures in (
       omega (arith, c.self.invariant.0, c.take_value.ensures.long, c.lay_value.ensures.long),
       homed-rename _ _ _ _ c.self.invariant.1 c.args.from c.args.to (rw (← c.self.view_is) at c.requires.free) renamed settled,
+      enough-rename _ _ c.args.from c.args.to c.in-Some.stored _ there (rw (← c.self.view_is) at c.requires.free) renamed c.self.invariant.2,
     )
 
 pub invariant_of-self-in_default : goal.invariant_of-self-in_default

@@ -1,8 +1,10 @@
-use Rattle.std.proofs.Common.{arith}
+use Rattle.std.proofs.Common.{sym, ap, ◌∙◌, arith}
 use Rattle.fk_slots.proofs.TabledLaws.{relaid_rows}
+use Rattle.fk_tables.specs.Held.{is_held}
+use Rattle.fk_tables.proofs.HeldLaws.{enough-set}
 use Rattle.fk_tables.proofs.HomeLaws.{homed-set}
 use Rattle.fk_tables.proofs.NameLaws.{who_naming}
-use Rattle.fk_tables.proofs.ScanLaws.{not_gone}
+use Rattle.fk_tables.proofs.ScanLaws.{get-who, not_gone}
 use Rattle.fk_tables.proofs.bodies.Bodies.set.Goals as goal
 
 pub invariant_of-self : goal.invariant_of-self
@@ -11,6 +13,8 @@ invariant_of-self c =
     let now = relaid_rows who_naming _ _ _ c.args.who.space c.args.who.slot c.args.body c.take_value.ensures.left laid in (
       omega (arith, c.self.invariant.0, c.take_value.ensures.long, c.lay_value.ensures.long),
       rw now (homed-set _ _ c.args.who c.args.body c.self.invariant.1 (rw (← c.self.view_is) at c.requires.birth)),
+      rw now (enough-set _ c.args.who _ _ c.self.invariant.2 c.in-Some.stored c.args.body _ _ (get-who _ c.args.who ∙ sym c.in-Some.ensures.taken)
+          (c.is_held.ensures ∙ ap is_held c.body.ensures) c.is_held-in-Some.ensures c.counted-self-inside.ensures),
     )
 
 pub invariant_of-self-in_default : goal.invariant_of-self-in_default

@@ -5,7 +5,7 @@ use Rattle.fk_model.specs.Holds as holds
 use Rattle.fk_store.specs.Paths.{path, place}
 use Rattle.fk_store.specs.Named.{Each}
 use Rattle.fk_store.specs.World.{world, IsLive}
-use Rattle.fk_store.proofs.store.Store.decider.Given as goal
+use Rattle.fk_store.proofs.store.Store.decider_above.Given as goal
 
 -- what decides above, or else what was found so far
 abbrev pub invariant-loop-above : goal.invariant-loop-above
