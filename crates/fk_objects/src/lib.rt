@@ -1,15 +1,17 @@
-//! Objects: what the stages come to that make and destroy them.
+//! Objects: what the stages come to that make, rename and find them, and that set references.
 //!
 //! It stands on `fk_plans`, and promises of each stage that its verdict stands for the outcome of
 //! the stage's row in the abstract machine, and can be carried out. `create` alone wants memory.
 #![tactic(auto)]
 
 mod creating;
+mod locating;
 mod pointing;
 mod renaming;
 mod searching;
 
 pub use creating::create;
+pub use locating::locate;
 pub use pointing::{clear, point};
 pub use renaming::rename;
 pub use searching::search;
