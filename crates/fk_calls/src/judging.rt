@@ -2,6 +2,8 @@
 ghost use Rattle.std.specs.Prelude.{◌≡◌, IfSome, IfNone};
 ghost use Rattle.fk_model.specs.declared.moves.Ask.TheVariants as asks;
 ghost use Rattle.fk_model.specs.Outcomes.Outcome.{Waits};
+ghost use Rattle.fk_model.specs.Valid.{IsValid};
+ghost use Rattle.fk_store.specs.World.{world};
 ghost use Rattle.fk_calls.specs.Judgements.{IsJudged, outcome_of, words_of};
 
 use crate::doing::{Doing, doing_of, is_free_porter};
@@ -23,6 +25,7 @@ pub struct Judgement {
 /// What a move comes to; none where it is never ready. Servers don't move as yet.
 #[tactic(auto, unfolding(fk_model::specs::Moves::known_outcome))]
 pub fn judge(store: &Store, m: &Move, ask: &Ask) -> Option<Judgement>
+    requires valid { IsValid (world store.now) }
     ensures judged { IfSome result (λ judgement. IsJudged store.now m.now ask.now judgement) }
     ensures never { IfNone result (outcome_of store.now m.now ask.now ≡ Waits) }
 {
@@ -45,6 +48,7 @@ pub fn given(ask: &Ask) -> &[u64]
 
 /// What the move of a user comes to.
 fn judge_user(store: &Store, m: &Move) -> Option<Judgement>
+    requires valid { IsValid (world store.now) }
     ensures judged { IfSome result (λ judgement. IsJudged store.now m.now asks.Run judgement) }
     ensures never { IfNone result (outcome_of store.now m.now asks.Run ≡ Waits) }
 {
@@ -72,6 +76,7 @@ fn judge_user(store: &Store, m: &Move) -> Option<Judgement>
 
 /// What a stage that a porter asks for comes to.
 fn judge_porter(store: &Store, m: &Move, stage: &Stage, words: &[u64; 64]) -> Option<Judgement>
+    requires valid { IsValid (world store.now) }
     ensures judged { IfSome result (λ judgement. IsJudged store.now m.now (asks.Call stage.now words.now) judgement) }
     ensures never { IfNone result (outcome_of store.now m.now (asks.Call stage.now words.now) ≡ Waits) }
 {

@@ -3,6 +3,7 @@ ghost use Rattle.std.specs.Prelude.{◌≡◌, ℕ, List, false, IfOk};
 ghost use Rattle.fk_model.specs.Moves as machine;
 ghost use Rattle.fk_model.specs.Moves.{allowed_row, stage_row};
 ghost use Rattle.fk_model.specs.Places.{Path};
+ghost use Rattle.fk_model.specs.Valid.{IsValid};
 ghost use Rattle.fk_store.specs.Moves.{picked_by};
 ghost use Rattle.fk_store.specs.Paths.{path};
 ghost use Rattle.fk_store.specs.World.{world, IsSpace};
@@ -36,6 +37,7 @@ fn row(
 ) -> Result<Verdict, u8>
     requires built { IsRow stage.now }
     requires space { IsSpace store.now caller.who.space }
+    requires valid { IsValid (world store.now) }
     ensures row { JudgesGiven store.now caller given.now result (λ w c. stage_row w c (picked_by (path store.now) pick) stage.now) }
     ensures sure { takes_memory stage.now ≡ false → IfOk result IsSureVerdict }
 {
@@ -78,6 +80,7 @@ pub fn judge(
 ) -> Verdict
     requires built { IsRow stage.now }
     requires space { IsSpace store.now caller.who.space }
+    requires valid { IsValid (world store.now) }
     ensures row { let c = caller_by (path store.now) caller given.now in
         outcome_by (world store.now) (path store.now) c result ≡ allowed_row (world store.now) c (picked_by (path store.now) pick) stage.now }
     ensures fits { IsVerdict store.now caller result }

@@ -1,6 +1,7 @@
 //! The kernel.
 ghost use Rattle.std.specs.Prelude.{◌≡◌, ◌↔◌, false, IsTrue, IsOk, IfOk, IfSome, IfNone, OnErr};
 ghost use Rattle.fk_model.specs.declared.moves.Ask.TheVariants as asks;
+ghost use Rattle.fk_model.specs.Valid.{IsValid};
 ghost use Rattle.fk_model.specs.Who.{event_of};
 ghost use Rattle.fk_store.specs.Moves.{said_by};
 ghost use Rattle.fk_store.specs.Paths.{path};
@@ -12,25 +13,30 @@ use fk_model::{Ask, Move, NoMemory, Said};
 use fk_store::Store;
 use std::marker::Model;
 
-/// A store whose threads move.
+/// A store whose threads move. Its world is valid.
 #[derive(Drop)]
 pub struct Kernel {
     store: Store,
 }
 
 impl Model for Kernel {
+    ghost use Rattle.fk_model.specs.Valid.{IsValid};
     ghost use Rattle.fk_store.specs.Contents.{Contents, coded_contents};
+    ghost use Rattle.fk_store.specs.World.{world};
 
     ghost Value = { Contents };
 
     ghost coded = { coded_contents };
 
     ghost view = { λ kernel. kernel.store };
+
+    ghost invariant = { λ kernel. IsValid (world kernel.store) };
 }
 
 impl Kernel {
-    /// The kernel of a store. An error says that memory is lacking.
+    /// The kernel of a store whose world is valid. An error says that memory is lacking.
     pub fn of(store: Store) -> Result<Kernel, NoMemory>
+        requires valid { IsValid (world store) }
         ensures { IfOk result (λ kernel. kernel ≡ store) }
     {
         Ok(Kernel { store })

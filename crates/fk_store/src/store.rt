@@ -5,7 +5,7 @@ ghost use Rattle.fk_model.specs.Objects.{kind_of};
 ghost use Rattle.fk_model.specs.World.{Edit, edited, apply};
 ghost use Rattle.fk_model.specs.World.Change.{Alter, Make, Kill, Move, PutPage, DropPage};
 ghost use Rattle.fk_model.specs.Valid.{kind_there};
-ghost use Rattle.fk_model.specs.Searches.{has_residents};
+ghost use Rattle.fk_model.specs.Searches.{depth, has_residents};
 ghost use Rattle.fk_model.specs.Places.{Path, same_path};
 ghost use Rattle.fk_model.specs.Who.{space_born};
 ghost use Rattle.fk_model.specs.declared.names.Who.{Who};
@@ -68,9 +68,11 @@ impl Store {
         self.next
     }
 
-    /// The path of a space is the one that the world finds by its birth number.
+    /// The path of a space is the one that the world finds by its birth number, and these numbers are
+    /// below 2^32.
     pub fn names(&self)
-        ensures { path self.now ≡ space_born (world self.now) }
+        ensures born { path self.now ≡ space_born (world self.now) }
+        ensures few { (world self.now).next ≤ depth }
     {
         let _below_2_32 = self.next;
     }
