@@ -27,7 +27,7 @@ use Rattle.fk_store.specs.Moves.{picked_by}
 use Rattle.fk_store.specs.Threads.{is_free_at}
 use Rattle.fk_store.specs.World.{world}
 use Rattle.fk_store.proofs.Freedom.{free_thread, free_itself, may_alter, IsPlain}
-use Rattle.fk_plans.proofs.Pointers.{pointed_iff}
+use Rattle.fk_plans.proofs.Pointers.{held_iff, pointed_iff}
 use Rattle.fk_plans.proofs.Renamed.{renames_iff}
 use Rattle.fk_plans.specs.declared.plan.Caller.{Caller}
 use Rattle.fk_plans.specs.declared.plan.Deed.{Deed}
@@ -39,7 +39,7 @@ use Rattle.fk_plans.specs.declared.plan.Verdict.TheVariants as verdicts
 use Rattle.fk_plans.specs.declared.plan.Effect.{Effect}
 use Rattle.fk_plans.specs.declared.plan.Effect.TheVariants as effects
 use Rattle.fk_plans.specs.Effects.{effect_by, in_running, of_running, is_running, is_running_mode}
-use Rattle.fk_plans.specs.Plans.{caller_by, change_by, changes_by, made, IsPlan}
+use Rattle.fk_plans.specs.Plans.{caller_by, change_by, holder_by, changes_by, made, IsPlan}
 use Rattle.fk_plans.specs.Renames.{renames}
 use Rattle.fk_plans.specs.Verdicts.{outcome_by, tells, IsVerdict, move_by}
 use Rattle.fk_plans.specs.Allowed.{is_effect_allowed, is_deed_allowed, is_plan_allowed, IsVerdictAllowed, may_pick}
@@ -66,6 +66,7 @@ deed_iff : (w v : World) (me : Path) (p : ℕ → Path) (d : Deed) → IsTrue (i
 deed_iff w v me p (deeds.Locks mutex locked) = plain_iff w me (place p mutex) (SetLocked locked) (record { changed = λ b. refl; made = refl })
 deed_iff w v me p (deeds.Points object to) = pointed_iff w me (place p object) (pointer_by p to)
 deed_iff w v me p (deeds.Sends block) = not_iff (is_frozen_for w me (p block.to.0))
+deed_iff w v me p (deeds.Holds space holder) = held_iff w me (place p space) (holder_by p holder)
 deed_iff w v me p (deeds.Stops thread stops) = plain_iff w me (place p thread) _ (record { changed = λ b. refl; made = refl })
 deed_iff w v me p (deeds.Copies from to) = not_iff (is_frozen_for w me (p to.0))
 deed_iff w v me p (deeds.Drops space page) = not_iff (is_frozen_for w me (p space))

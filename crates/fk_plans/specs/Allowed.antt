@@ -1,12 +1,14 @@
 -- Allowed: what the freezing rule and the picks say of a verdict, as tests.
-use Rattle.std.specs.Prelude.{ℕ, Bool, true, false, not, ◌&&◌, ◌||◌, is_none, IsTrue, Option}
+use Rattle.std.specs.Prelude.{ℕ, Bool, true, false, not, ◌&&◌, ◌||◌, is_none, IsTrue, [], ◌∷◌, Option}
 use Rattle.fk_model.specs.declared.names.Who.{Who}
 use Rattle.fk_model.specs.Freezing.{are_unfrozen, body_pointers, MayMove}
 use Rattle.fk_model.specs.Holds.{is_frozen_for, leads_to_frozen}
 use Rattle.fk_model.specs.Places.{Path}
+use Rattle.fk_model.specs.Searches.{option_list}
 use Rattle.fk_model.specs.World.{World}
 use Rattle.fk_store.specs.Bodies.{pointer_by}
 use Rattle.fk_store.specs.Paths.{place}
+use Rattle.fk_plans.specs.Plans.{holder_by}
 use Rattle.fk_plans.specs.declared.plan.Deed.{Deed}
 use Rattle.fk_plans.specs.declared.plan.Deed.TheVariants as deeds
 use Rattle.fk_plans.specs.declared.plan.Effect.{Effect}
@@ -25,6 +27,8 @@ is_deed_allowed w me p (deeds.Sends block) = not (is_frozen_for w me (p block.to
 is_deed_allowed w me p (deeds.Counts client count) = not (is_frozen_for w me (place p client))
 is_deed_allowed w me p (deeds.Shifts thread count) = not (is_frozen_for w me (place p thread))
 is_deed_allowed w me p (deeds.Ends thread status) = not (is_frozen_for w me (place p thread))
+is_deed_allowed w me p (deeds.Holds space holder) = not (is_frozen_for w me (place p space))
+    && are_unfrozen w me (body_pointers (w.body (place p space))) && are_unfrozen w me (option_list (λ to. to ∷ []) (holder_by p holder))
 is_deed_allowed w me p (deeds.Stops thread stops) = not (is_frozen_for w me (place p thread))
 is_deed_allowed w me p (deeds.Copies from to) = not (is_frozen_for w me (p to.0))
 is_deed_allowed w me p (deeds.Drops space page) = not (is_frozen_for w me (p space))

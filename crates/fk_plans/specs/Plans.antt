@@ -1,18 +1,18 @@
 -- Plans: the changes that a plan makes.
-use Rattle.std.specs.Prelude.{◌≡◌, ℕ, true, List, [], ◌∷◌, Option, Some, None, IsSome, ⊤}
+use Rattle.std.specs.Prelude.{◌≡◌, ℕ, true, List, [], ◌∷◌, Option, Some, None, option_map, IsSome, ⊤}
 use Rattle.fk_model.specs.declared.names.Who.{Who}
 use Rattle.fk_model.specs.declared.stage.Stage.TheVariants.{MutexLock}
 use Rattle.fk_model.specs.ObjectRows.{new_object}
 use Rattle.fk_model.specs.Outcomes as outcomes
-use Rattle.fk_model.specs.Places.{Path}
+use Rattle.fk_model.specs.Places.{Path, Ptr}
 use Rattle.fk_model.specs.Places.Ptr.{At}
 use Rattle.fk_model.specs.Reach.{words_at}
 use Rattle.fk_model.specs.Valid.{birth_at, kind_there}
 use Rattle.fk_model.specs.World.{World, Change, apply}
 use Rattle.fk_model.specs.World.Change.{Alter, MakeSpace, PutPage, DropPage}
-use Rattle.fk_model.specs.World.Edit.{SetLocked, SetPointer, SetStops, Replace, CountMoved, Shift, End}
+use Rattle.fk_model.specs.World.Edit.{SetLocked, SetPointer, SetHolder, SetStops, Replace, CountMoved, Shift, End}
 use Rattle.fk_store.specs.Bodies.{pointer_by}
-use Rattle.fk_store.specs.Named.{OnPointer}
+use Rattle.fk_store.specs.Named.{Each, OnPointer}
 use Rattle.fk_store.specs.Paths.{place}
 use Rattle.fk_threads.specs.Shifted.{IsLow}
 use Rattle.fk_threads.specs.Sleepers.{IsAsleep}
@@ -29,6 +29,10 @@ use Rattle.fk_plans.specs.declared.sources.Source.TheVariants as sources
 abbrev pub caller_by : (ℕ → Path) → Caller → List ℕ → outcomes.Caller
 caller_by p c words = record { space = p c.who.space; slot = c.who.slot; is_porter = c.is_porter; words = words }
 
+-- the holder of a space
+abbrev pub holder_by : (ℕ → Path) → Option Who → Option Ptr
+holder_by p holder = option_map (λ who. At (place p who)) holder
+
 -- the change that a deed is, where the world is this
 abbrev pub change_by : (ℕ → Path) → Deed → World → Change
 change_by p (deeds.Locks mutex locked) w = Alter (place p mutex) (SetLocked locked)
@@ -38,6 +42,7 @@ change_by p (deeds.Sends block) w = PutPage (p block.to.0) block.to.1 (block_pag
 change_by p (deeds.Counts client count) w = Alter (place p client) (CountMoved count)
 change_by p (deeds.Shifts thread count) w = Alter (place p thread) (Shift count)
 change_by p (deeds.Ends thread status) w = Alter (place p thread) (End status [])
+change_by p (deeds.Holds space holder) w = Alter (place p space) (SetHolder (holder_by p holder))
 change_by p (deeds.Stops thread stops) w = Alter (place p thread) (SetStops stops)
 change_by p (deeds.Copies from to) w = PutPage (p to.0) to.1 (words_at w (p from.0) from.1)
 change_by p (deeds.Drops space page) w = DropPage (p space) page
@@ -77,6 +82,7 @@ IsDeed p w (deeds.Sends block) = IsBlock p w block
 IsDeed p w (deeds.Counts client count) = ⊤
 IsDeed p w (deeds.Shifts thread count) = IsLow w (place p thread) count
 IsDeed p w (deeds.Ends thread status) = ⊤
+IsDeed p w (deeds.Holds space holder) = Each (λ other. IsSome (kind_there w (place p other))) holder
 IsDeed p w (deeds.Stops thread stops) = ⊤
 IsDeed p w (deeds.Copies from to) = IsSome (w.page (p from.0) from.1) × (birth_at w (p to.0) ≡ Some to.0) × IsSome (w.page (p to.0) to.1)
 IsDeed p w (deeds.Drops space page) = ⊤

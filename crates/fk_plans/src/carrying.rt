@@ -35,6 +35,7 @@ fn carry(store: &mut Store, deed: &Deed)
         Deed::Counts { client, count } => count_moved(store, client, count),
         Deed::Shifts { thread, count } => advance(store, thread, u64::from(count)),
         Deed::Ends { thread, status } => store.end_call(thread, status),
+        Deed::Holds { space, holder } => store.set_holder(space, holder),
         Deed::Stops { thread, stops } => store.set_stops(thread, stops),
         Deed::Copies { from, to } => copy_page(store, from, to),
         Deed::Drops { space, page } => store.drop_page(space, page),

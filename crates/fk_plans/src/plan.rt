@@ -28,6 +28,8 @@ pub enum Deed {
     Shifts { thread: Who, count: u8 },
     /// The whole call of a thread ends with a status.
     Ends { thread: Who, status: u8 },
+    /// A space is held by a thread, or by nobody.
+    Holds { space: Who, holder: Option<Who> },
     /// A thread is stopped so many times.
     Stops { thread: Who, stops: u16 },
     /// The words of a page become those of another that is there, or of the same.

@@ -1,11 +1,13 @@
 //! When a verdict is ready.
-ghost use Rattle.std.specs.Prelude.{◌≡◌, ◌↔◌, ℕ, List, true, false, IsTrue};
+ghost use Rattle.std.specs.Prelude.{◌≡◌, ◌↔◌, ℕ, List, [], ◌∷◌, true, false, IsTrue};
 ghost use Rattle.fk_model.specs.Freezing.{are_unfrozen, body_pointers};
 ghost use Rattle.fk_model.specs.Moves.{GoesAllowed};
+ghost use Rattle.fk_model.specs.Searches.{option_list};
 ghost use Rattle.fk_store.specs.Paths.{path, place};
 ghost use Rattle.fk_store.specs.Threads.{is_free_at};
 ghost use Rattle.fk_store.specs.World.{world};
 ghost use Rattle.fk_plans.specs.Allowed.{is_deed_allowed, is_plan_allowed, IsVerdictAllowed, may_pick};
+ghost use Rattle.fk_plans.specs.Plans.{holder_by};
 ghost use Rattle.fk_plans.specs.Verdicts.{IsVerdict, move_by};
 
 use crate::plan::{Caller, Deed, Effect, Plan, Verdict};
@@ -20,6 +22,16 @@ fn is_object_unfrozen(store: &Store, me: Who, object: Who) -> bool
 {
     match store.at(object) {
         Some(body) => !leads_to_frozen(store, me, body),
+        None => true,
+    }
+}
+
+/// A holder isn't frozen.
+fn is_holder_unfrozen(store: &Store, me: Who, holder: Option<Who>) -> bool
+    ensures { result ≡ are_unfrozen (world store.now) (place (path store.now) me) (option_list (λ to. to ∷ []) (holder_by (path store.now) holder)) }
+{
+    match holder {
+        Some(who) => !store.frozen_for(me, who),
         None => true,
     }
 }
@@ -40,6 +52,11 @@ fn is_deed_allowed(store: &Store, me: Who, deed: &Deed) -> bool
         Deed::Counts { client, .. } => !store.frozen_for(me, client),
         Deed::Shifts { thread, .. } | Deed::Ends { thread, .. } | Deed::Stops { thread, .. } => {
             !store.frozen_for(me, thread)
+        }
+        Deed::Holds { space, holder } => {
+            !store.frozen_for(me, space)
+                && is_object_unfrozen(store, me, space)
+                && is_holder_unfrozen(store, me, holder)
         }
         Deed::Copies { to, .. } => !store.space_frozen_for(me, to.0),
         Deed::Drops { space, .. } => !store.space_frozen_for(me, space),
