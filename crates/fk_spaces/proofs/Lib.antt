@@ -1,1 +1,2 @@
 pub mod NextPages
+pub mod PorterScans

@@ -1,0 +1,66 @@
+//! Spaces beneath others that porters hold.
+ghost use Rattle.std.specs.Prelude.{◌≡◌, IsTrue};
+ghost use Rattle.std.specs.List.{list_any};
+ghost use Rattle.fk_model.specs.Holds.{is_porter};
+ghost use Rattle.fk_model.specs.Objects.{Thread, holds};
+ghost use Rattle.fk_model.specs.Places.{Path};
+ghost use Rattle.fk_model.specs.Places.Ptr.{At};
+ghost use Rattle.fk_model.specs.Searches.{beneath};
+ghost use Rattle.fk_model.specs.SpaceRows as rows;
+ghost use Rattle.fk_model.specs.Talks.{thread_led_to};
+ghost use Rattle.fk_store.specs.Paths.{path, place};
+ghost use Rattle.fk_store.specs.World.{world, IsLive, IsSpace};
+ghost use Rattle.fk_spaces.specs.Sought.{is_sought};
+
+use fk_model::{Body, Mode, Who};
+use fk_plans::is_beneath;
+use fk_store::Store;
+
+/// A thread that is there is a porter.
+fn is_porter(store: &Store, who: Who) -> bool
+    ensures { result ≡ holds (λ (e : Path × Thread). is_porter e.1.mode) (thread_led_to (world store.now) (At (place (path store.now) who))) }
+{
+    match store.thread(who) {
+        Some(thread) => matches!(thread.mode, Mode::Native),
+        None => false,
+    }
+}
+
+/// An object is a space that a porter holds.
+fn has_porter(store: &Store, who: Who) -> bool
+    ensures porter { result ≡ rows.has_porter (world store.now) (place (path store.now) who) }
+    ensures live { IsTrue result → IsLive store.now who }
+{
+    match store.at(who) {
+        Some(
+            Body::Space {
+                holder: Some(holder),
+                ..
+            },
+        ) => is_porter(store, *holder),
+        _ => false,
+    }
+}
+
+/// An object is a space beneath another one that a porter holds.
+fn is_held_beneath(store: &Store, who: Who, outer: u32) -> bool
+    requires space { IsSpace store.now outer }
+    ensures { result ≡ is_sought store.now (path store.now outer) who }
+{
+    has_porter(store, who) && is_beneath(store, who, outer)
+}
+
+/// A porter holds a space beneath another one.
+pub fn has_porter_beneath(store: &Store, outer: u32) -> bool
+    requires space { IsSpace store.now outer }
+    ensures { result ≡ list_any (rows.has_porter (world store.now)) (beneath (world store.now) (path store.now outer)) }
+{
+    let mut at = store.after(None);
+    while let Some(who) = at {
+        if is_held_beneath(store, who, outer) {
+            return true;
+        }
+        at = store.after(Some(who));
+    }
+    false
+}
