@@ -1,5 +1,5 @@
 -- A scenario that is read keeps what a machine rests on.
-use Rattle.std.proofs.Common.{◌≡◌, ℕ, pos, ◌+◌, ◌<◌, ◌≤◌, Bool, true, false, not, ◌&&◌, ◌||◌, ◌==◌, nat_lt, cond, List, [], ◌∷◌, ◌++◌, append_assoc, append-nil, length, Option, Some, None, Ok, IfSome, unwrap_or, refl, ap, subst, codes, arith}
+use Rattle.std.proofs.Common.{◌≡◌, ℕ, ℤ, pos, ◌+◌, ◌<◌, ◌≤◌, Bool, true, false, not, ◌&&◌, ◌||◌, ◌==◌, nat_lt, cond, List, [], ◌∷◌, ◌++◌, append_assoc, append-nil, length, Option, Some, None, Ok, IfSome, unwrap_or, refl, ap, subst, codes, arith}
 use Rattle.std.proofs.lemmas.Bool.{ltb-true}
 use Rattle.std.proofs.lemmas.List.Elements.{All-nil, All-push}
 use Rattle.std.proofs.lemmas.List.Sums.{sum_by_push}
@@ -64,6 +64,14 @@ index_kept programs (Some name) index h =
     let below : i < 0 + length programs = position_from-below (λ (p : Program). bytes_eq p.name name) 0 programs i (or_rule-Ok 8 _ i is_i) in
     subst (λ (o : Option ℕ). IfSome o (λ i. i < length programs)) same (omega (arith, below)))
 
+bytes_kept : (done : List ℕ) (zs : List ℤ) (bytes : List ℕ) → bytes_from done zs ≡ Ok bytes
+    → All (λ b. b ≤ 255) done → All (λ b. b ≤ 255) bytes
+unfolding bytes_from
+bytes_kept done [] bytes h kept = let same : done ≡ bytes = cc in subst (All (λ b. b ≤ 255)) same kept
+bytes_kept done (z ∷ zs) bytes h kept =
+    after (ranged 0 255 z) _ bytes h (λ n is_n h.
+    bytes_kept (done ++ n ∷ []) zs bytes h (All-push (λ b. b ≤ 255) done n kept (in_range 0 255 z n is_n).1))
+
 -- at most 255 spaces besides the root
 
 -- the root's entry adds none
@@ -100,7 +108,7 @@ space_kept : (programs : List Program) (done : List SpaceEntry) (ms : Members) (
 unfolding space_of
 space_kept programs done ms s h few =
     after (fields_of ms) _ s h (λ fields _ h.
-    after (bytes_from [] fields.pages) _ s h (λ pages _ h.
+    after (bytes_from [] fields.pages) _ s h (λ pages is_pages h.
     after (unless 3 (has_room done fields.path)) _ s h (λ w room h.
     after (path_of fields.path) _ s h (λ path is_path h.
     after (unless 4 (not (is_no_name fields.program))) _ s h (λ _ _ h.
@@ -108,7 +116,12 @@ space_kept programs done ms s h few =
     after (index_of programs fields.program) _ s h (λ index is_index h.
     let same : record { path = path; program = index; pages = pages; nester = fields.nester } ≡ s = cc in
     let keeps : KeepsSpace programs done (record { path = path; program = index; pages = pages; nester = fields.nester }) =
-    record { slots = path_kept fields.path path is_path; stands = unless-Ok 5 _ x stands; has_program = index_kept programs fields.program index is_index } in
+    record {
+      slots = path_kept fields.path path is_path;
+      stands = unless-Ok 5 _ x stands;
+      has_program = index_kept programs fields.program index is_index;
+      pages = bytes_kept [] fields.pages pages is_pages (All-nil (λ b. b ≤ 255));
+    } in
     let counted = space_counted done fields.path (record {
       path = path;
       program = index;

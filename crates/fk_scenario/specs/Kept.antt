@@ -16,11 +16,13 @@ abbrev pub EachAfter : {X : Type 0} → (List X → X → Type 0) → List X →
 EachAfter P before [] = Unit {0}
 EachAfter P before (x ∷ xs) = P before x × EachAfter P (before ++ x ∷ []) xs
 
--- a space after those before it: its parent is there, its place is free, and the program that it names is there
+-- a space after those before it: its parent is there, its place is free, the program that it names is there, and its pages are ones that
+-- a space has
 pub record KeepsSpace (programs : List Program) (before : List SpaceEntry) (s : SpaceEntry) : Type 0 where
   pub slots : AreSlots s.path
   pub stands : may_stand before s.path ≡ true
   pub has_program : IfSome s.program (λ index. index < length programs)
+  pub pages : All (λ page. page ≤ 255) s.pages
 
 -- an object after those before it: its space is there, and its slot is free
 pub record KeepsObject (spaces : List SpaceEntry) (before : List ObjectEntry) (o : ObjectEntry) : Type 0 where
