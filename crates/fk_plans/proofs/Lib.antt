@@ -1,6 +1,7 @@
 pub mod Beneath
 pub mod Lists
 pub mod Pointers
+pub mod Destroyed
 pub mod Ready
 pub mod Renamed
 pub mod Spaces

@@ -1,5 +1,7 @@
 -- Kept: lists of changes.
-use Rattle.std.proofs.Common.{◌≡◌, ℕ, List, [], ◌∷◌, ◌++◌, length, take, zero, suc, refl, ap, arith}
+use Rattle.std.proofs.Common.{◌≡◌, ◌↔◌, ℕ, List, [], ◌∷◌, ◌++◌, length, take, zero, suc, refl, ap, arith}
+use Rattle.fk_model.specs.Freezing.{AreAllowed, IsAllowed}
+use Rattle.fk_model.specs.Places.{Path}
 use Rattle.fk_model.specs.World.{World, Change, apply, apply_all}
 
 -- the caller's own part comes last
@@ -17,3 +19,17 @@ pub all_taken : (n : ℕ) (ws : List ℕ) → length ws ≡ n → take n ws ≡ 
 all_taken n [] long = none_taken n
 all_taken zero (w ∷ ws) long = absurd (omega arith)
 all_taken (suc n) (w ∷ ws) long = ap (λ v. w ∷ v) (all_taken n ws (omega arith))
+
+-- ---- the caller's own part is allowed besides
+
+with_own : (w : World) (me : Path) (c : Change) → IsAllowed w me c → (cs : List Change) → AreAllowed w me cs → AreAllowed w me (cs ++ c ∷ [])
+with_own w me c own [] h = (own, tt)
+with_own w me c own (d ∷ cs) h = (h.0, with_own w me c own cs h.1)
+
+without_own : (w : World) (me : Path) (c : Change) (cs : List Change) → AreAllowed w me (cs ++ c ∷ []) → AreAllowed w me cs
+without_own w me c [] h = tt
+without_own w me c (d ∷ cs) h = (h.0, without_own w me c cs h.1)
+
+pub own_iff : {P : Type 0} (w : World) (me : Path) (c : Change) (cs : List Change) →
+    IsAllowed w me c → (P ↔ AreAllowed w me cs) → P ↔ AreAllowed w me (cs ++ c ∷ [])
+own_iff w me c cs own h = ((λ p. with_own w me c own cs (h.0 p)), (λ q. h.1 (without_own w me c cs q)))

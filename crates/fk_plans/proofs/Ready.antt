@@ -29,6 +29,8 @@ use Rattle.fk_store.specs.World.{world}
 use Rattle.fk_store.proofs.Freedom.{free_thread, free_itself, may_alter, IsPlain}
 use Rattle.fk_plans.proofs.Pointers.{held_iff, pointed_iff}
 use Rattle.fk_plans.proofs.Renamed.{renames_iff}
+use Rattle.fk_plans.proofs.Destroyed.{destroys_iff}
+use Rattle.fk_plans.proofs.Lists.{own_iff}
 use Rattle.fk_plans.specs.declared.plan.Caller.{Caller}
 use Rattle.fk_plans.specs.declared.plan.Deed.{Deed}
 use Rattle.fk_plans.specs.declared.plan.Deed.TheVariants as deeds
@@ -41,6 +43,7 @@ use Rattle.fk_plans.specs.declared.plan.Effect.TheVariants as effects
 use Rattle.fk_plans.specs.Effects.{effect_by, in_running, of_running, is_running, is_running_mode}
 use Rattle.fk_plans.specs.Plans.{caller_by, change_by, holder_by, changes_by, made, IsPlan}
 use Rattle.fk_plans.specs.Renames.{renames}
+use Rattle.fk_plans.specs.Destroys.{destroyed}
 use Rattle.fk_plans.specs.Verdicts.{outcome_by, tells, IsVerdict, move_by}
 use Rattle.fk_plans.specs.Allowed.{is_effect_allowed, is_deed_allowed, is_plan_allowed, IsVerdictAllowed, may_pick}
 
@@ -147,18 +150,6 @@ plan_iff w me p given (plans.MakesHeld object holder) fits = held_space_iff w me
 plan_iff w me p given (plans.Gives space page source) fits = one_iff _ (not_iff (is_frozen_for w me (p space)))
 
 -- ---- the caller's own part
-
-with_own : (w : World) (me : Path) (c : Change) → IsAllowed w me c → (cs : List Change) → AreAllowed w me cs → AreAllowed w me (cs ++ c ∷ [])
-with_own w me c own [] h = (own, tt)
-with_own w me c own (d ∷ cs) h = (h.0, with_own w me c own cs h.1)
-
-without_own : (w : World) (me : Path) (c : Change) (cs : List Change) → AreAllowed w me (cs ++ c ∷ []) → AreAllowed w me cs
-without_own w me c [] h = tt
-without_own w me c (d ∷ cs) h = (h.0, without_own w me c cs h.1)
-
-own_iff : {P : Type 0} (w : World) (me : Path) (c : Change) (cs : List Change) →
-    IsAllowed w me c → (P ↔ AreAllowed w me cs) → P ↔ AreAllowed w me (cs ++ c ∷ [])
-own_iff w me c cs own h = ((λ p. with_own w me c own cs (h.0 p)), (λ q. h.1 (without_own w me c cs q)))
 
 free-faultless : (w : World) (s : Path) (t : Thread) → is_free w s t ≡ true → t.fault ≡ None
 free-faultless w s t free = by (not (is_frozen w s) && t.stops == 0) t.fault (is_user t.mode) free
@@ -267,6 +258,7 @@ module _ (m : Contents) (c : Caller) (words : List ℕ) (free : c.is_porter ≡ 
   verdict_iff (verdicts.Done plan answers) fits = done_iff _ _ _ (plan_iff (world m) me (path m) words plan fits.0.1)
   verdict_iff (verdicts.Shows plan space page) fits = done_iff _ _ _ (plan_iff (world m) me (path m) words plan fits.2.1)
   verdict_iff (verdicts.Renames object slot) fits = renames_iff m c words free object slot fits
+  verdict_iff (verdicts.Destroys object last) fits = destroys_iff m c words free object last
   verdict_iff (verdicts.Goes plan) fits = plan_iff (world m) me (path m) words plan fits.1
   verdict_iff (verdicts.Tells plan sent last) fits = tells_iff fits.0 _ _ _ last (plan_iff (world m) me (path m) words plan fits.3.1)
   verdict_iff (verdicts.Faults page write port) fits =
@@ -309,6 +301,16 @@ module _ (m : Contents) (c : Caller) (words : List ℕ) (free : c.is_porter ≡ 
       by true = ap (λ b. chooses || b) (none_picked pick)
       by false = ap (λ b. chooses || b) (none_picked pick)
 
+  may_pick_destroyed : (chooses : Bool) (pick : Option Who) (x : Path) (last : Bool) →
+      (chooses || is_none pick) ≡ may_pick_so chooses (picked_by (path m) pick) (destroyed (world m) caller x last)
+  may_pick_destroyed chooses pick x last = by c.is_porter last
+    where
+      by : (b last : Bool) → (chooses || is_none pick) ≡ may_pick_so chooses (picked_by (path m) pick) (destroyed (world m) (record caller { is_porter = b }) x last)
+      by true true = ap (λ b. chooses || b) (none_picked pick)
+      by true false = ap (λ b. chooses || b) (none_picked pick)
+      by false true = ap (λ b. chooses || b) (none_picked pick)
+      by false false = ap (λ b. chooses || b) (none_picked pick)
+
   may_pick_told : (chooses : Bool) (pick : Option Who) (cs : List Change) (said : outcomes.Said) (last : Bool) →
       (chooses || is_none pick) ≡ may_pick_so chooses (picked_by (path m) pick) (tells caller cs said last)
   may_pick_told chooses pick cs said false = ap (λ b. chooses || b) (none_picked pick)
@@ -345,6 +347,7 @@ module _ (m : Contents) (c : Caller) (words : List ℕ) (free : c.is_porter ≡ 
   may_pick_is chooses pick (verdicts.Done plan answers) fits = may_pick_done chooses pick _ _
   may_pick_is chooses pick (verdicts.Shows plan space page) fits = may_pick_done chooses pick _ _
   may_pick_is chooses pick (verdicts.Renames object slot) fits = may_pick_renamed chooses pick (place (path m) object) slot
+  may_pick_is chooses pick (verdicts.Destroys object last) fits = may_pick_destroyed chooses pick (place (path m) object) last
   may_pick_is chooses pick (verdicts.Goes plan) fits = ap (λ b. chooses || b) (none_picked pick)
   may_pick_is chooses pick (verdicts.Tells plan words last) fits = may_pick_told chooses pick _ _ last
   may_pick_is chooses pick (verdicts.Faults page write port) fits = ap (λ b. chooses || b) (none_picked pick)

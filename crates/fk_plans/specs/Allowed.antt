@@ -1,7 +1,7 @@
 -- Allowed: what the freezing rule and the picks say of a verdict, as tests.
 use Rattle.std.specs.Prelude.{ℕ, Bool, true, false, not, ◌&&◌, ◌||◌, is_none, IsTrue, [], ◌∷◌, Option}
 use Rattle.fk_model.specs.declared.names.Who.{Who}
-use Rattle.fk_model.specs.Freezing.{are_unfrozen, body_pointers, MayMove}
+use Rattle.fk_model.specs.Freezing.{are_unfrozen, body_pointers, MayKill, MayMove}
 use Rattle.fk_model.specs.Holds.{is_frozen_for, leads_to_frozen}
 use Rattle.fk_model.specs.Places.{Path}
 use Rattle.fk_model.specs.Searches.{option_list}
@@ -47,6 +47,7 @@ abbrev pub is_effect_allowed : World → Path → (ℕ → Path) → Effect → 
 is_effect_allowed w me p (effects.Stores space page at value) = not (is_frozen_for w me (p space))
 is_effect_allowed w me p other = true
 
+-- the freezing rule allows what a verdict does
 abbrev pub IsVerdictAllowed : World → Path → (ℕ → Path) → Verdict → Type 0
 IsVerdictAllowed w me p (verdicts.Runs e) = IsTrue (is_effect_allowed w me p e)
 IsVerdictAllowed w me p (verdicts.Refused status) = IsTrue true
@@ -54,6 +55,7 @@ IsVerdictAllowed w me p verdicts.Waits = IsTrue false
 IsVerdictAllowed w me p (verdicts.Done plan answers) = IsTrue (is_plan_allowed w me p plan)
 IsVerdictAllowed w me p (verdicts.Shows plan space page) = IsTrue (is_plan_allowed w me p plan)
 IsVerdictAllowed w me p (verdicts.Renames object slot) = MayMove w me (place p object)
+IsVerdictAllowed w me p (verdicts.Destroys object last) = MayKill w me (place p object)
 IsVerdictAllowed w me p (verdicts.Goes plan) = IsTrue (is_plan_allowed w me p plan)
 IsVerdictAllowed w me p (verdicts.Tells plan words last) = IsTrue (is_plan_allowed w me p plan)
 IsVerdictAllowed w me p (verdicts.Faults page write port) = IsTrue (not (is_frozen_for w me (place p port)))
@@ -66,6 +68,7 @@ may_pick chooses pick verdicts.Waits = true
 may_pick chooses pick (verdicts.Done plan answers) = chooses || is_none pick
 may_pick chooses pick (verdicts.Shows plan space page) = chooses || is_none pick
 may_pick chooses pick (verdicts.Renames object slot) = chooses || is_none pick
+may_pick chooses pick (verdicts.Destroys object last) = chooses || is_none pick
 may_pick chooses pick (verdicts.Goes plan) = chooses || is_none pick
 may_pick chooses pick (verdicts.Tells plan words last) = chooses || is_none pick
 may_pick chooses pick (verdicts.Faults page write port) = chooses || is_none pick

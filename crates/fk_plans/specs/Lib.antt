@@ -1,5 +1,6 @@
 pub mod Plans
 pub mod Renames
+pub mod Destroys
 pub mod Effects
 pub mod Verdicts
 pub mod Allowed

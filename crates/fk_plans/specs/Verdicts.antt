@@ -24,6 +24,7 @@ use Rattle.fk_plans.specs.declared.plan.Verdict.{Verdict}
 use Rattle.fk_plans.specs.declared.plan.Words.{Words}
 use Rattle.fk_plans.specs.declared.plan.Verdict.TheVariants as verdicts
 use Rattle.fk_plans.specs.Effects.{effect_by, of_running, is_running, IsEffect}
+use Rattle.fk_plans.specs.Destroys.{destroyed, IsDying}
 use Rattle.fk_plans.specs.Plans.{caller_by, changes_by, IsGiver, IsPlan, IsSure}
 use Rattle.fk_plans.specs.Renames.{renames, IsMoving}
 use Rattle.fk_model.specs.Searches.{thread_at}
@@ -44,6 +45,7 @@ outcome_by w p c verdicts.Waits = Waits
 outcome_by w p c (verdicts.Done plan answers) = done c (changes_by p c.words plan w) (listed answers)
 outcome_by w p c (verdicts.Shows plan space page) = done c (changes_by p c.words plan w) (words_at w (p space) page)
 outcome_by w p c (verdicts.Renames object slot) = renames c (place p object) slot
+outcome_by w p c (verdicts.Destroys object last) = destroyed w c (place p object) last
 outcome_by w p c (verdicts.Goes plan) = Goes (changes_by p c.words plan w) Nothing
 outcome_by w p c (verdicts.Tells plan words last) = tells c (changes_by p c.words plan w) (words_told w p words) last
 outcome_by w p c (verdicts.Faults page write port) = Goes (fault_on (outcomes.path_of c) page write (At (place p port)) ∷ []) Nothing
@@ -71,6 +73,7 @@ IsVerdict m c verdicts.Waits = ⊤
 IsVerdict m c (verdicts.Done plan answers) = IsPlanOf m c plan × AreAnswers m c plan answers
 IsVerdict m c (verdicts.Shows plan space page) = (c.is_porter ≡ true) × IsSome ((world m).page (path m space) page) × IsPlanOf m c plan
 IsVerdict m c (verdicts.Renames object slot) = IsMoving m object slot
+IsVerdict m c (verdicts.Destroys object last) = IsDying m object
 IsVerdict m c (verdicts.Goes plan) = IsPlanOf m c plan
 IsVerdict m c (verdicts.Tells plan words last) = (c.is_porter ≡ false) × AreWords (path m) (world m) words × IsLive m words.port × IsPlanOf m c plan
 IsVerdict m c (verdicts.Faults page write port) = (c.is_porter ≡ false) × IsLive m port

@@ -10,6 +10,7 @@ ghost use Rattle.fk_plans.specs.Plans.{caller_by, change_by, changes_by, IsDeed,
 ghost use Rattle.fk_plans.specs.Verdicts.{outcome_by, tells, words_told, AreWords, IsPlanOf, IsVerdict, IsSureVerdict};
 
 use crate::blocks::{copy_page, send_block};
+use crate::destroying::destroy;
 use crate::instructions::run;
 use crate::making::{make, make_held};
 use crate::plan::{Caller, Deed, Plan, Verdict, Words};
@@ -136,6 +137,7 @@ pub fn carry_out(
             return Ok(said);
         }
         Verdict::Renames { object, slot } => return Ok(rename(store, caller, *object, *slot)),
+        Verdict::Destroys { object, last } => return Ok(destroy(store, caller, *object, *last)),
         Verdict::Goes(plan) => carry_all(store, caller, given, plan)?,
         Verdict::Tells { plan, words, last } => {
             return tell(store, caller, given, plan, words, *last);

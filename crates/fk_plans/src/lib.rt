@@ -8,6 +8,7 @@
 
 mod blocks;
 mod carrying;
+mod destroying;
 mod handles;
 mod instructions;
 mod making;

@@ -125,6 +125,12 @@ pub enum Verdict {
         object: Who,
         slot: u8,
     },
+    /// An object in which nothing stands is destroyed, with all that ends with it, and a native server
+    /// that loses its client or its port is told. `last` says that the caller's stage is done then.
+    Destroys {
+        object: Who,
+        last: bool,
+    },
     /// It does this, and the caller stays at its stage.
     Goes(Plan),
     /// It does this, and the native server is told that words of a page come to its port. `last` says

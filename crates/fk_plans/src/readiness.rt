@@ -12,7 +12,7 @@ ghost use Rattle.fk_plans.specs.Verdicts.{IsVerdict, move_by};
 
 use crate::plan::{Caller, Deed, Effect, Plan, Verdict};
 use crate::renaming::may_move;
-use fk_deaths::leads_to_frozen;
+use fk_deaths::{leads_to_frozen, may_destroy};
 use fk_model::Who;
 use fk_store::Store;
 
@@ -107,6 +107,7 @@ fn is_verdict_allowed(store: &Store, caller: Caller, verdict: &Verdict) -> bool
         | Verdict::Goes(plan)
         | Verdict::Tells { plan, .. } => is_plan_allowed(store, caller.who, plan),
         Verdict::Renames { object, .. } => may_move(store, caller.who, *object),
+        Verdict::Destroys { object, .. } => may_destroy(store, caller.who, *object),
         Verdict::Faults { port, .. } => !store.frozen_for(caller.who, *port),
     }
 }
@@ -122,6 +123,7 @@ fn may_pick(chooses: bool, pick: Option<Who>, verdict: &Verdict) -> bool
         | Verdict::Done(..)
         | Verdict::Shows { .. }
         | Verdict::Renames { .. }
+        | Verdict::Destroys { .. }
         | Verdict::Goes(_)
         | Verdict::Tells { .. }
         | Verdict::Faults { .. } => chooses || pick.is_none(),
