@@ -137,6 +137,7 @@ instruction_unrefused m w p c verdicts.Waits is = absurd is
 instruction_unrefused m w p c (verdicts.Done plan answers) is = absurd is
 instruction_unrefused m w p c (verdicts.Shows plan space page) is = absurd is
 instruction_unrefused m w p c (verdicts.Renames object slot) is = absurd is
+instruction_unrefused m w p c (verdicts.Destroys object last) is = absurd is
 instruction_unrefused m w p c (verdicts.Goes plan) is = absurd is
 instruction_unrefused m w p c (verdicts.Tells plan words last) is = absurd is
 
