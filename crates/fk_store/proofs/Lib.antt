@@ -34,3 +34,4 @@ pub mod Players
 pub mod Lists
 pub mod Listed
 pub mod PointerLaws
+pub mod Proceeding

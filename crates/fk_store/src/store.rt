@@ -19,6 +19,7 @@ ghost use Rattle.fk_store.specs.World.{world, first_world, place_of, body_of, Is
 
 mod counts;
 mod holds;
+mod proceeding;
 mod residents;
 mod served;
 mod words;
@@ -78,6 +79,7 @@ impl Store {
     }
 
     /// The body of an object. The root has no name, and so no body here.
+    #[inline]
     pub fn at(&self, who: Who) -> Option<&Body>
         ensures body { (world self.now).body (place_of self.now who)
             ≡ option_map (body_of self.now) (option_copied result) }
@@ -227,6 +229,7 @@ impl Store {
     }
 
     /// The words of a page of a space.
+    #[inline]
     pub fn page(&self, space: u32, page: u8) -> Option<&[u64; 64]>
         ensures { option_copied result ≡ (world self.now).page (path self.now space) page }
     {

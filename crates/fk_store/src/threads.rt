@@ -6,7 +6,7 @@ ghost use Rattle.fk_model.specs.Objects.Body.{Thread_of};
 ghost use Rattle.fk_model.specs.Places.{Path};
 ghost use Rattle.fk_model.specs.World.{apply, edited};
 ghost use Rattle.fk_model.specs.World.Change.{Alter};
-ghost use Rattle.fk_model.specs.World.Edit.{End, Proceed, SetStops};
+ghost use Rattle.fk_model.specs.World.Edit.{End, SetStops};
 ghost use Rattle.fk_model.specs.Valid.{kind_there};
 ghost use Rattle.fk_store.specs.Paths.{path, place};
 ghost use Rattle.fk_store.specs.Bodies.{mode_by, thread_by};
@@ -68,25 +68,6 @@ impl Store {
     {
         if let Some(&thread) = self.thread(me) {
             self.set(me, Body::Thread(ended(thread, status)));
-        }
-    }
-
-    /// A thread goes on with these registers, at this counter and in this mode. What is no thread
-    /// stays as it is.
-    #[tactic(auto, using(crate::proofs::ThreadLaws::kind_thread, crate::proofs::ThreadLaws::proceed_nobody), unfolding(fk_model::specs::World::edited))]
-    pub fn proceed(&mut self, me: Who, registers: &[u64; 16], counter: u64, mode: Mode)
-        ensures world { world self.new ≡ apply (Alter (place (path self.old) me) (Proceed (mode_by mode registers.now) counter)) (world self.old) }
-        ensures kinds { kind_there (world self.new) ≡ kind_there (world self.old) }
-        ensures paths { path self.new ≡ path self.old }
-    {
-        if let Some(&thread) = self.thread(me) {
-            let goes_on = Thread {
-                regs: *registers,
-                pc: counter,
-                mode,
-                ..thread
-            };
-            self.set(me, Body::Thread(goes_on));
         }
     }
 

@@ -138,3 +138,12 @@ enough-rename bodies other from to b count there free renamed enough few =
 
 pub none-counted : (bodies : FinMap who_cmp Body) (count : ℕ) → IsEnough (held_in bodies) count → count ≡ 0 → held_in bodies ≡ 0
 none-counted bodies count enough is = let low = enough (omega (arith, is)) in omega (arith, low, is)
+
+-- a body that is held, or isn't, as the one before
+pub enough-same : (bodies : FinMap who_cmp Body) (who : Who) (old b : Body) (count : ℕ) → get bodies who ≡ Some old → is_held b ≡ is_held old →
+    IsEnough (held_in bodies) count → IsEnough (held_in (finmap.insert bodies who b)) count
+enough-same bodies who old b count there same enough few =
+    let more = held-insert-at bodies who b (Some old) there in
+    let ones = ap one_if same in
+    let low = enough few in
+    omega (arith, more, ones, low)

@@ -1,5 +1,6 @@
 pub mod NameLaws
 pub mod ScanLaws
+pub mod ProceedLaws
 pub mod Found
 pub mod HomeLaws
 pub mod HeldLaws

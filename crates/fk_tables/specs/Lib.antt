@@ -4,5 +4,6 @@ pub mod Births
 pub mod Homes
 pub mod Held
 pub mod Sweeps
+pub mod Threads
 pub mod Parts
 pub mod Pointers

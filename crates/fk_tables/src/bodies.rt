@@ -16,6 +16,7 @@ ghost use Rattle.fk_tables.specs.Orders.{comes_after, IsFirstAfter};
 ghost use Rattle.fk_tables.specs.Parts.{plays};
 ghost use Rattle.fk_tables.specs.Pointers.{body_hits};
 ghost use Rattle.fk_tables.specs.Sweeps.{body_after};
+ghost use Rattle.fk_tables.specs.Threads.{proceeded};
 
 use crate::held::{count_held, counted, is_held, was_held};
 use crate::homes::{home_of, make_room, settle};
@@ -23,7 +24,7 @@ use crate::parts::Part;
 use crate::scans::{count_hits, first_among, sweep_each};
 use crate::stored::Stored;
 use crate::sweeps::Sweep;
-use fk_model::{Body, NoMemory, Who};
+use fk_model::{Body, Mode, NoMemory, Who};
 use fk_slots::{Row, lay_value, next_taken, put_value, take_value, value_at};
 use std::alloc::Global;
 use std::marker::Model;
@@ -73,6 +74,7 @@ impl Bodies {
     }
 
     /// The body of an object.
+    #[inline]
     pub fn at(&self, who: Who) -> Option<&Body>
         ensures { option_copied result ≡ map.get self.now who }
     {
@@ -98,6 +100,18 @@ impl Bodies {
         if let Some(mut stored) = take_value(&mut self.rows, who.space, who.slot) {
             self.held = counted(self.held, is_held(stored.body()), is_held(&body));
             stored.put(body);
+            lay_value(&mut self.rows, who.space, who.slot, stored);
+        }
+    }
+
+    /// A thread goes on with these registers, at this counter and in this mode. What is no thread
+    /// stays as it is.
+    pub fn proceed(&mut self, who: Who, registers: &[u64; 16], counter: u64, mode: Mode)
+        ensures there { (b : Body) → map.get self.old who ≡ Some b → self.new ≡ map.insert self.old who (proceeded registers.now counter mode b) }
+        ensures none { map.get self.old who ≡ None → self.new ≡ self.old }
+    {
+        if let Some(mut stored) = take_value(&mut self.rows, who.space, who.slot) {
+            stored.proceed(registers, counter, mode);
             lay_value(&mut self.rows, who.space, who.slot, stored);
         }
     }

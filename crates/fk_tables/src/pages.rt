@@ -33,6 +33,7 @@ impl Page {
     }
 
     /// Its words.
+    #[inline]
     pub fn words(&self) -> &[u64; 64]
         ensures { result.now ≡ self.now }
     {
@@ -87,6 +88,7 @@ impl Pages {
     }
 
     /// The words of a page.
+    #[inline]
     pub fn at(&self, space: u32, page: u8) -> Option<&[u64; 64]>
         ensures { option_copied result ≡ map.get self.now (space, page) }
     {

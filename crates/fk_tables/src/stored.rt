@@ -1,7 +1,8 @@
 //! The body of an object, where it stands.
 ghost use Rattle.std.specs.Prelude.{◌≡◌, IfOk};
+ghost use Rattle.fk_tables.specs.Threads.{proceeded};
 
-use fk_model::Body;
+use fk_model::{Body, Mode};
 use std::alloc::{AllocError, Global};
 use std::marker::Model;
 
@@ -41,5 +42,23 @@ impl Stored {
         ensures { self.new ≡ body }
     {
         *self.body = body;
+    }
+
+    /// A thread goes on with these registers, at this counter and in this mode. What is no thread
+    /// stays as it is.
+    pub fn proceed(&mut self, registers: &[u64; 16], counter: u64, mode: Mode)
+        ensures { self.new ≡ proceeded registers.now counter mode self.old }
+    {
+        proceed(&mut self.body, registers, counter, mode);
+    }
+}
+
+fn proceed(body: &mut Body, registers: &[u64; 16], counter: u64, mode: Mode)
+    ensures { body.new ≡ proceeded registers.now counter mode body.old }
+{
+    if let Body::Thread(thread) = body {
+        thread.regs = *registers;
+        thread.pc = counter;
+        thread.mode = mode;
     }
 }

@@ -1,0 +1,24 @@
+//! A thread goes on where it stands.
+ghost use Rattle.std.specs.Prelude.{◌≡◌};
+ghost use Rattle.fk_model.specs.World.{apply};
+ghost use Rattle.fk_model.specs.World.Change.{Alter};
+ghost use Rattle.fk_model.specs.World.Edit.{Proceed};
+ghost use Rattle.fk_model.specs.Valid.{kind_there};
+ghost use Rattle.fk_store.specs.Paths.{path, place};
+ghost use Rattle.fk_store.specs.Bodies.{mode_by};
+ghost use Rattle.fk_store.specs.World.{world};
+
+use crate::Store;
+use fk_model::{Mode, Who};
+
+impl Store {
+    /// A thread goes on with these registers, at this counter and in this mode. What is no thread
+    /// stays as it is.
+    pub fn proceed(&mut self, me: Who, registers: &[u64; 16], counter: u64, mode: Mode)
+        ensures world { world self.new ≡ apply (Alter (place (path self.old) me) (Proceed (mode_by mode registers.now) counter)) (world self.old) }
+        ensures kinds { kind_there (world self.new) ≡ kind_there (world self.old) }
+        ensures paths { path self.new ≡ path self.old }
+    {
+        self.bodies.proceed(me, registers, counter, mode);
+    }
+}
