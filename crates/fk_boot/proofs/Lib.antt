@@ -1,3 +1,4 @@
 pub mod Changes
 pub mod Walks
 pub mod MadeSoFar
+pub mod Aiming

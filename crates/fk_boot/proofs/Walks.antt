@@ -1,5 +1,5 @@
 -- Walks down to a space, and what is made there.
-use Rattle.std.proofs.Common.{◌≡◌, ◌≢◌, ℕ, suc, ◌-◌, ◌<◌, ◌≤◌, List, [], ◌∷◌, ◌++◌, append_assoc, length, get_or, take, drop, reverse, Option, Some, None, IfSome, refl, sym, ap, ◌∙◌, arith}
+use Rattle.std.proofs.Common.{◌≡◌, ◌≢◌, ◌==◌, true, ℕ, suc, ◌-◌, ◌<◌, ◌≤◌, List, [], ◌∷◌, ◌++◌, append_assoc, length, get_or, take, drop, reverse, Some, None, refl, sym, ap, ◌∙◌, arith}
 use Rattle.std.proofs.Math.Seq.{drop-cons, take-suc}
 use Rattle.std.proofs.lemmas.Grind.{reverse_onto}
 use Rattle.std.proofs.lemmas.List.{reverse-append, take_all}
@@ -16,9 +16,9 @@ use Rattle.fk_entries.specs.declared.types.Spec.TheVariants as specs
 use Rattle.fk_store.specs.Paths.{path, space_at}
 use Rattle.fk_store.specs.World.{world, IsSpace}
 use Rattle.fk_store.proofs.LookUps.{birth_at-space_at}
-use Rattle.fk_store.proofs.Walks.{path-root}
+use Rattle.fk_store.proofs.Walks.{path-root, not_root}
 use Rattle.fk_boot.specs.FirstWorld.{first_body, space_itself}
-use Rattle.fk_boot.specs.MadeSoFar.{HasPlace, CanStand, AreBorn}
+use Rattle.fk_boot.specs.MadeSoFar.{AreBorn}
 
 pub root-space : (m : Contents) → IsSpace m 0
 unfolding space_at
@@ -45,9 +45,9 @@ lost m slots i space h left none =
 
 -- ---- the last slot
 
-pub no-slots : (slots : List ℕ) → length slots < 1 → slots ≡ []
+pub no-slots : (slots : List ℕ) → (length slots == 0) ≡ true → slots ≡ []
 no-slots [] h = refl
-no-slots (k ∷ slots) h = absurd (omega arith)
+no-slots (k ∷ slots) h = let some = not_root (length (k ∷ slots)) (omega arith) in absurd (cc)
 
 pub last : (slots : List ℕ) → 1 ≤ length slots → reverse slots ≡ get_or slots (length slots - 1) 0 ∷ reverse (take (length slots - 1) slots)
 last slots h =
@@ -56,23 +56,9 @@ last slots h =
     let parts : slots ≡ take n slots ++ get_or slots n 0 ∷ [] = sym all ∙ take-suc slots n 0 (omega arith) in
     ap reverse parts ∙ reverse-append (take n slots) (get_or slots n 0 ∷ [])
 
--- the path of an object by its space and its last slot
-pub place-at : (m : Contents) (slots : List ℕ) (space : ℕ) →
-    1 ≤ length slots → path m space ≡ reverse (take (length slots - 1) slots) → get_or slots (length slots - 1) 0 ∷ path m space ≡ reverse slots
-place-at m slots space h e = rw e (sym (last slots h))
-
--- a space that can stand and isn't the root has a place
-pub has-place : (w : World) (slots : List ℕ) → CanStand w slots → 1 ≤ length slots → HasPlace w slots
-has-place w [] can h = absurd (omega arith)
-has-place w (k ∷ slots) can h = can
-
 pub made-space : (w : World) (x : Path) → birth_at (apply (MakeSpace x None) w) x ≡ Some w.next
 unfolding apply
 made-space w x = rw (same_path_refl x) refl
-
--- where a space was found, its path is known
-pub found : (m : Contents) (o : Option ℕ) (space : ℕ) (x : Path) → o ≡ Some space → IfSome o (λ birth. path m birth ≡ x) → path m space ≡ x
-found m o space x e h = rw e at h
 
 -- an object of a scenario is no space
 making-first : (x : Path) (spec : Spec) → making x (first_body spec) ≡ Make x (first_body spec)

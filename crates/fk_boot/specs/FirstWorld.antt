@@ -1,14 +1,15 @@
 -- The first world of a scenario: what its entries make, in the order of the file.
-use Rattle.std.specs.Prelude.{ℕ, ◌*◌, ◌-◌, Bool, true, false, not, ◌&&◌, ◌==◌, nat_lt, List, [], ◌∷◌, ◌++◌, map, length, take, drop, reverse, replicate, Option, Some, None, is_some, if◌then◌else◌}
+use Rattle.std.specs.Prelude.{ℕ, ◌*◌, ◌-◌, Bool, false, not, ◌&&◌, ◌==◌, nat_lt, List, [], ◌∷◌, ◌++◌, map, length, take, drop, reverse, replicate, Option, Some, None, if◌then◌else◌}
 use Rattle.std.specs.List.{flat_map, list_all, slice_get}
 use Rattle.fk_model.specs.declared.limits.TheConstants.{PAGES, PAGE_WORDS}
 use Rattle.fk_model.specs.Places.{Path}
-use Rattle.fk_model.specs.Places.Ptr.{Null}
+use Rattle.fk_model.specs.Places.Ptr.{Null, At}
 use Rattle.fk_model.specs.Objects.{Body, and_then}
 use Rattle.fk_model.specs.Objects.Mode.{Running}
 use Rattle.fk_model.specs.Objects.Body.{Mutex, Cond, Mapping, Region, Port, Portset, Thread_of, Reference}
-use Rattle.fk_model.specs.World.{World, Change, apply_all}
-use Rattle.fk_model.specs.World.Change.{Make, MakeSpace, PutPage}
+use Rattle.fk_model.specs.World.{World, Change, Edit, apply_all}
+use Rattle.fk_model.specs.World.Change.{Alter, Make, MakeSpace, PutPage}
+use Rattle.fk_model.specs.World.Edit.{SetPointer, SetMember}
 use Rattle.fk_model.specs.Searches.{slots}
 use Rattle.fk_store.specs.World.{first_world}
 use Rattle.fk_entries.specs.declared.types.Program.{Program}
@@ -60,7 +61,8 @@ space_changes programs s =
     let space = reverse s.path in
     space_itself space ++ (zero_pages space s.pages ++ program_pages space (words_of_program programs s.program))
 
--- what an object is at first. A thread runs from its entry on, with zeros in the registers that aren't given; nothing leads anywhere
+-- what an object is at first. A thread runs from its entry on, with zeros in the registers that aren't given; nothing leads anywhere,
+-- and no port is in a set
 abbrev pub first_body : Spec → Body
 first_body (specs.Thread entry regs stops) =
     Thread_of (record { mode = Running (regs ++ replicate (16 - length regs) 0); counter = entry; stops = stops; talk = None; fault = None })
@@ -76,31 +78,49 @@ first_body (specs.Reference to) = Reference Null
 abbrev pub object_changes : ObjectEntry → List Change
 object_changes o = Make (reverse o.path) (first_body o.spec) ∷ []
 
+-- ---- where objects lead
+
+-- the pointer leads to what stands at a path; it stays Null where none is given
+abbrev pub points_to : Option (List ℕ) → List Edit
+points_to None = []
+points_to (Some path) = SetPointer (At (reverse path)) ∷ []
+
+-- the port is in the port set in a slot of its space; it stays in none where none is given
+abbrev pub belongs_to : Option ℕ → List Edit
+belongs_to None = []
+belongs_to (Some slot) = SetMember (Some slot) ∷ []
+
+-- a mapping leads to its region, a region to its keeper, a reference to what it names, and a port is in its set
+abbrev pub aims : Spec → List Edit
+aims (specs.Mapping region first count offset write) = points_to region
+aims (specs.Region first count write keeper) = points_to keeper
+aims (specs.Reference to) = points_to to
+aims (specs.Port set) = belongs_to set
+aims (specs.Thread entry regs stops) = []
+aims (specs.Mutex locked) = []
+aims specs.Cond = []
+aims specs.Portset = []
+
+abbrev pub aim_changes : ObjectEntry → List Change
+aim_changes o = map (Alter (reverse o.path)) (aims o.spec)
+
 -- ---- the whole
 
--- the spaces in the order of the file, so that their birth numbers count from 1, and then the objects
+-- the spaces in the order of the file, so that their birth numbers count from 1; then the objects, each leading nowhere; and when all
+-- are there, where they lead
 abbrev pub boot_changes : Scenario → List Change
-boot_changes s = flat_map (space_changes s.programs) s.spaces ++ flat_map object_changes s.objects
+boot_changes s = flat_map (space_changes s.programs) s.spaces ++ (flat_map object_changes s.objects ++ flat_map aim_changes s.objects)
 
--- an object that leads nowhere
-abbrev pub leads_nowhere : Spec → Bool
-leads_nowhere (specs.Thread entry regs stops) = true
-leads_nowhere (specs.Mutex locked) = true
-leads_nowhere specs.Cond = true
-leads_nowhere specs.Portset = true
-leads_nowhere (specs.Mapping region first count offset write) = not (is_some region)
-leads_nowhere (specs.Region first count write keeper) = not (is_some keeper)
-leads_nowhere (specs.Port set) = not (is_some set)
-leads_nowhere (specs.Reference to) = not (is_some to)
+-- the world with which a scenario begins
+unfoldable pub booted : Scenario → World
+booted s = apply_all (boot_changes s) first_world
+
+-- ---- what can begin today
 
 -- a space without a porter
 abbrev pub is_no_nester : SpaceEntry → Bool
 is_no_nester e = not e.nester
 
--- what can begin today: a scenario whose objects lead nowhere, without nesters and without servers
+-- a scenario without nesters and without servers
 abbrev pub is_bootable : Scenario → Bool
-is_bootable s = list_all (λ o. leads_nowhere o.spec) s.objects && list_all is_no_nester s.spaces && length s.servers == 0
-
--- the world with which a scenario begins
-unfoldable pub booted : Scenario → World
-booted s = apply_all (boot_changes s) first_world
+is_bootable s = list_all is_no_nester s.spaces && length s.servers == 0

@@ -1,13 +1,15 @@
 -- What stands in a world while a scenario's entries are made.
-use Rattle.std.specs.Prelude.{◌≡◌, ℕ, ◌+◌, ◌<◌, ◌||◌, IsSome, is_some, List, [], ◌∷◌, None, Some, reverse}
+use Rattle.std.specs.Prelude.{◌≡◌, ℕ, ◌+◌, ◌<◌, ◌||◌, IsSome, is_some, IfSome, List, [], ◌∷◌, length, None, Some, reverse}
 use Rattle.fk_model.specs.Places.{Path}
-use Rattle.fk_model.specs.Valid.{birth_at}
+use Rattle.fk_model.specs.Valid.{birth_at, kind_there}
 use Rattle.fk_model.specs.World.{World}
 use Rattle.fk_fields.specs.Paths.{parent}
 use Rattle.fk_scenario.specs.Spaces.{is_there, count_beneath}
 use Rattle.fk_scenario.specs.Objects.{has_object}
 use Rattle.fk_entries.specs.declared.types.SpaceEntry.{SpaceEntry}
 use Rattle.fk_entries.specs.declared.types.ObjectEntry.{ObjectEntry}
+use Rattle.fk_entries.specs.declared.types.Spec.{Spec}
+use Rattle.fk_entries.specs.declared.types.Spec.TheVariants.{Thread, Mutex, Cond, Portset, Mapping, Region, Port, Reference}
 
 -- ---- places, by their slots from the root down
 
@@ -24,6 +26,27 @@ CanStand w (k ∷ slots) = HasPlace w (k ∷ slots)
 -- the birth numbers of spaces are below the next one
 abbrev pub AreBorn : World → Type 0
 AreBorn w = (x : Path) (birth : ℕ) → birth_at w x ≡ Some birth → birth < w.next
+
+-- an object, or a space beneath the root, is there
+pub record StandsAt (w : World) (slots : List ℕ) : Type 0 where
+  pub beneath : 0 < length slots
+  pub there : IsSome (kind_there w (reverse slots))
+
+-- what an object leads to is there
+abbrev pub AimStands : World → Spec → Type 0
+AimStands w (Mapping region first count offset write) = IfSome region (StandsAt w)
+AimStands w (Region first count write keeper) = IfSome keeper (StandsAt w)
+AimStands w (Reference to) = IfSome to (StandsAt w)
+AimStands w (Port set) = Unit {0}
+AimStands w (Thread entry regs stops) = Unit {0}
+AimStands w (Mutex locked) = Unit {0}
+AimStands w Cond = Unit {0}
+AimStands w Portset = Unit {0}
+
+-- an object may lead where its entry says: it is there, and what it leads to
+pub record CanAim (w : World) (o : ObjectEntry) : Type 0 where
+  pub itself : StandsAt w o.path
+  pub aim : AimStands w o.spec
 
 -- ---- what stands
 

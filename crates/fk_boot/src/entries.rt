@@ -1,13 +1,14 @@
 //! The store with which a scenario begins.
-ghost use Rattle.std.specs.Prelude.{◌≡◌, ◌≤◌, [], OnOk, IfOk};
+ghost use Rattle.std.specs.Prelude.{◌≡◌, ◌≤◌, [], All, OnOk, IfOk};
 ghost use Rattle.std.specs.List.{flat_map};
 ghost use Rattle.fk_model.specs.World.{apply_all};
 ghost use Rattle.fk_scenario.specs.Kept.{EachAfter, KeepsSpace, KeepsObject, Keeps};
 ghost use Rattle.fk_scenario.specs.Spaces.{count_beneath};
 ghost use Rattle.fk_store.specs.World.{world, first_world};
-ghost use Rattle.fk_boot.specs.FirstWorld.{booted, space_changes, object_changes};
-ghost use Rattle.fk_boot.specs.MadeSoFar.{CanStand, AreBorn, HasSpaces};
+ghost use Rattle.fk_boot.specs.FirstWorld.{booted, space_changes, object_changes, aim_changes};
+ghost use Rattle.fk_boot.specs.MadeSoFar.{CanStand, CanAim, AreBorn, HasSpaces, HasObjects};
 
+use crate::aims::aim_object;
 use crate::making::{make_object, make_space};
 use crate::pages::{put_program, put_zeros, words_of_program};
 use fk_model::NoMemory;
@@ -53,7 +54,8 @@ fn make_objects(
 ) -> Result<(), NoMemory>
     requires spaces { HasSpaces (world store.old) spaces.now }
     requires keeps { EachAfter (KeepsObject spaces.now) [] entries.now }
-    ensures { OnOk result (world store.new ≡ apply_all (flat_map object_changes entries.now) (world store.old)) }
+    ensures world { OnOk result (world store.new ≡ apply_all (flat_map object_changes entries.now) (world store.old)) }
+    ensures stands { OnOk result (HasObjects (world store.new) spaces.now entries.now) }
 {
     for entry in entries {
         make_object(store, entry)?;
@@ -61,9 +63,19 @@ fn make_objects(
     Ok(())
 }
 
+/// Lets the objects of a scenario lead where they are to, in the order of its file.
+fn aim_objects(store: &mut Store, entries: &[ObjectEntry])
+    requires { All (CanAim (world store.old)) entries.now }
+    ensures { world store.new ≡ apply_all (flat_map aim_changes entries.now) (world store.old) }
+{
+    for entry in entries {
+        aim_object(store, entry);
+    }
+}
+
 /// The store with which a scenario begins: its spaces with their pages of zeros and their programs,
-/// and then its objects, each made in the order of the file. Spaces have birth numbers from 1 on,
-/// and the root 0. For want of memory there is none.
+/// then its objects, and then where these lead, each in the order of the file. Spaces have birth
+/// numbers from 1 on, and the root 0. For want of memory there is none.
 pub fn boot(alloc: Global, scenario: &Scenario) -> Result<Store, NoMemory>
     requires { Keeps scenario.now }
     ensures { IfOk result (λ store. world store ≡ booted scenario.now) }
@@ -71,6 +83,8 @@ pub fn boot(alloc: Global, scenario: &Scenario) -> Result<Store, NoMemory>
     let mut store = Store::new(alloc)?;
     let spaces = scenario.spaces.as_slice();
     make_spaces(&mut store, scenario.programs.as_slice(), spaces)?;
-    make_objects(&mut store, spaces, scenario.objects.as_slice())?;
+    let objects = scenario.objects.as_slice();
+    make_objects(&mut store, spaces, objects)?;
+    aim_objects(&mut store, objects);
     Ok(store)
 }

@@ -2,16 +2,18 @@
 //!
 //! It stands on `fk_scenario` for scenarios and on `fk_store` for the world that a store is. It
 //! promises that `boot` gives a store of the world that `specs/FirstWorld.antt` has: what the entries
-//! of the scenario make of a world that has the root alone, in the order of the file. It is never
-//! refused but for want of memory, since a scenario that was read keeps what this rests on.
+//! of the scenario make of a world that has the root alone, in the order of the file: the spaces with
+//! their pages, then the objects, and then where these lead. It is never refused but for want of
+//! memory, since a scenario that was read keeps what this rests on.
 //!
-//! Today objects that lead somewhere, nesters and servers can't be made: `is_bootable` tells of a
-//! scenario whether it has none.
+//! Today nesters and servers can't be made: `is_bootable` tells of a scenario whether it has none.
 #![tactic(auto)]
 
+mod aims;
 mod bootable;
 mod entries;
 mod making;
+mod names;
 mod pages;
 
 pub use bootable::is_bootable;

@@ -1,8 +1,7 @@
 //! The spaces and the objects with which a scenario begins.
-ghost use Rattle.std.specs.Prelude.{◌≡◌, ℕ, ◌≤◌, ◌∷◌, length, reverse, Some, None, OnOk, IfOk, IfSome};
+ghost use Rattle.std.specs.Prelude.{◌≡◌, ℕ, ◌<◌, ◌≤◌, length, reverse, None, OnOk, IfOk};
 ghost use Rattle.fk_model.specs.Objects.Body.{Thread_of};
 ghost use Rattle.fk_model.specs.Places.{Path};
-ghost use Rattle.fk_model.specs.Valid.{birth_at};
 ghost use Rattle.fk_model.specs.World.{apply_all};
 ghost use Rattle.fk_entries.specs.Kept.{IsInRange};
 ghost use Rattle.fk_entries.specs.declared.types.Spec.TheVariants as specs;
@@ -16,32 +15,10 @@ ghost use Rattle.fk_store.specs.World.{world, IsLive, IsSpace};
 ghost use Rattle.fk_boot.specs.FirstWorld as definitions;
 ghost use Rattle.fk_boot.specs.MadeSoFar.{HasPlace, CanStand, AreBorn};
 
-use fk_model::{Body, Mode, NoMemory, Ptr, Thread, Who};
+use crate::names::name_of;
+use fk_model::{Body, Mode, NoMemory, Ptr, Thread};
 use fk_scenario::{ObjectEntry, Spec};
 use fk_store::Store;
-
-/// The birth number of the space in a slot of a space.
-fn space_in(store: &Store, space: u32, slot: u8) -> Option<u32>
-    ensures birth { result ≡ birth_at (world store.now) (slot ∷ path store.now space) }
-    ensures path { IfSome result (λ birth. path store.now birth ≡ slot ∷ path store.now space) }
-{
-    match store.at(Who { space, slot }) {
-        Some(Body::Space { birth, .. }) => Some(*birth),
-        _ => None,
-    }
-}
-
-/// The birth number of the space with these slots from the root down.
-fn find_space(store: &Store, slots: &[u8]) -> Option<u32>
-    ensures birth { result ≡ birth_at (world store.now) (reverse slots.now) }
-    ensures path { IfSome result (λ birth. path store.now birth ≡ reverse slots.now) }
-{
-    let mut space = 0;
-    for slot in slots {
-        space = space_in(store, space, *slot)?;
-    }
-    Some(space)
-}
 
 /// Makes a space, unless it is the root, and gives its birth number.
 pub fn make_space(store: &mut Store, slots: &[u8]) -> Result<u32, NoMemory>
@@ -52,12 +29,11 @@ pub fn make_space(store: &mut Store, slots: &[u8]) -> Result<u32, NoMemory>
     ensures path { IfOk result (λ space. path store.new space ≡ reverse slots.now) }
     ensures space { IfOk result (λ space. IsSpace store.new space) }
 {
-    let [above @ .., slot] = slots else {
+    if slots.is_empty() {
         return Ok(0);
-    };
-    let space = find_space(store, above).unwrap();
+    }
+    let who = name_of(store, slots);
     let birth = store.next_birth();
-    let who = Who { space, slot: *slot };
     store.make(
         who,
         Body::Space {
@@ -88,7 +64,7 @@ fn first_thread(entry: u16, given: &[u64], stops: u16) -> Thread
     }
 }
 
-/// What an object is at first. Nothing leads anywhere.
+/// What an object is at first. Nothing leads anywhere, and no port is in a set.
 fn first_body(spec: &Spec) -> Body
     requires { IsInRange spec.now }
     ensures body { (paths : ℕ → Path) → body_by paths result ≡ definitions.first_body spec.now }
@@ -137,14 +113,11 @@ fn first_body(spec: &Spec) -> Body
 
 /// Makes an object.
 pub fn make_object(store: &mut Store, object: &ObjectEntry) -> Result<(), NoMemory>
+    requires beneath { 0 < length object.now.path }
     requires place { HasPlace (world store.old) object.now.path }
     requires range { IsInRange object.now.spec }
     ensures { OnOk result (world store.new ≡ apply_all (definitions.object_changes object.now) (world store.old)) }
 {
-    let [above @ .., slot] = object.path.as_slice() else {
-        return Ok(());
-    };
-    let space = find_space(store, above).unwrap();
-    let who = Who { space, slot: *slot };
+    let who = name_of(store, object.path.as_slice());
     store.make(who, first_body(&object.spec))
 }

@@ -24,7 +24,7 @@ use Rattle.fk_traces.specs.Trace.{Spells, IsFirstBad}
 
 -- ---- which scenarios are run
 
--- nesters, servers and objects that lead somewhere can't be run yet: a scenario with one of these is refused by rule 11
+-- nesters and servers can't be run yet: a scenario with one of these is refused by rule 11
 abbrev pub bootable : Result Scenario ScenarioError → Result Scenario ScenarioError
 bootable (Ok s) = if is_bootable s then Ok s else Err (record { rule = 11; section = 0; index = 0 })
 bootable (Err error) = Err error

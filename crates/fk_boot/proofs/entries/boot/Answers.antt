@@ -1,13 +1,25 @@
+use Rattle.std.proofs.Common.{◌++◌}
 use Rattle.std.specs.List.{flat_map}
-use Rattle.fk_store.specs.World.{first_world}
-use Rattle.fk_boot.specs.FirstWorld.{booted, space_changes, object_changes}
+use Rattle.fk_store.specs.World.{world, first_world}
+use Rattle.fk_boot.specs.FirstWorld.{booted, space_changes, object_changes, aim_changes}
+use Rattle.fk_boot.proofs.Aiming.{all-can}
 use Rattle.fk_boot.proofs.Changes.{then-all}
 use Rattle.fk_boot.proofs.entries.boot.Goals as goal
+
+pub aim_objects-requires : goal.aim_objects-requires
+aim_objects-requires c =
+    let s = c.args.scenario.now in
+    let stands = rw (c.as_slice-spaces.ensures, c.as_slice-objects.ensures) at c.in_ok-make_objects.ensures.stands in
+    rw c.as_slice-objects.ensures (all-can (world c.make_objects.new.store) s.spaces s.objects stands c.requires.objects c.requires.aims)
 
 pub returns : goal.returns
 unfolding booted
 returns c =
     let s = c.args.scenario.now in
     let spaces = rw (c.as_slice.ensures, c.as_slice-spaces.ensures, c.in_ok-store.ensures) at c.in_ok-make_spaces.ensures.world in
-    let objects = rw c.as_slice-2.ensures at c.in_ok-make_objects.ensures in
-    then-all (flat_map (space_changes s.programs) s.spaces) (flat_map object_changes s.objects) _ first_world _ spaces objects
+    let objects = rw c.as_slice-objects.ensures at c.in_ok-make_objects.ensures.world in
+    let aims = rw c.as_slice-objects.ensures at c.aim_objects.ensures in
+    let made = flat_map (space_changes s.programs) s.spaces in
+    let put = flat_map object_changes s.objects in
+    let aimed = flat_map aim_changes s.objects in
+    then-all made (put ++ aimed) _ first_world _ spaces (then-all put aimed _ _ _ objects aims)

@@ -28,9 +28,10 @@ make_object-requires c =
     let keeps = each-first (KeepsObject c.args.spaces.now)
     c.args.entries.now c.loop-entry.entry-index c.entry-item.result c.loop-entry-test.true c.entry-item.is kept.keeps in
     record {
+      beneath = keeps.inside;
       place = object-place c.args.spaces.now (take c.loop-entry.entry-index c.args.entries.now) c.entry-item.result _ kept.stands keeps;
       range = keeps.in_range;
     }
 
-pub returns : goal.returns
-returns c = no-entries object_changes c.args.entries.now c.loop-entry.entry-index _ _ c.loop-entry-test.false c.loop-entry.invariant.left
+pub returns-clause-world : goal.returns-clause-world
+returns-clause-world c = no-entries object_changes c.args.entries.now c.loop-entry.entry-index _ _ c.loop-entry-test.false c.loop-entry.invariant.left

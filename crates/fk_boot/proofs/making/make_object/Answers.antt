@@ -1,19 +1,15 @@
-use Rattle.std.proofs.Common.{◌∙◌, ◌-◌, ap, length, take, reverse}
+use Rattle.std.proofs.Common.{◌∙◌, ap, reverse}
 use Rattle.fk_store.specs.World.{world}
 use Rattle.fk_store.specs.Paths.{path}
 use Rattle.fk_store.proofs.Results.{on_ok}
-use Rattle.fk_boot.proofs.Walks.{place-at, found, makes}
+use Rattle.fk_boot.proofs.Walks.{makes}
 use Rattle.fk_boot.proofs.making.make_object.Goals as goal
 
 pub returns : goal.returns
 returns c =
-    let slots = c.as_slice.result.now in
-    let above = found c.args.store.now c.find_space.result c.unwrap-space.result (reverse (take (length slots - 1) slots)) c.unwrap-space.ensures
-    c.find_space.ensures.path in
-    let at = place-at c.args.store.now slots c.unwrap-space.result c.in-len1-up.len_at_least above in
     on_ok c.make.result _ _
     (makes (reverse c.args.object.now.path) _ _ c.args.object.now.spec (world c.args.store.now) (world c.make.new.self)
-    (at ∙ ap reverse c.as_slice.ensures) (c.first_body.ensures.body (path c.args.store.now)))
+    (c.name_of-who.ensures.place ∙ ap reverse c.as_slice.ensures) (c.first_body.ensures.body (path c.args.store.now)))
     c.make.ensures.world
 
 pub make-requires-clause-birth : goal.make-requires-clause-birth

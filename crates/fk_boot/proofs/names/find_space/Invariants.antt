@@ -1,7 +1,7 @@
 use Rattle.std.proofs.Common.{◌≡◌, ◌++◌, drop, reverse}
 use Rattle.fk_store.specs.Paths.{path}
 use Rattle.fk_store.specs.World.{IsSpace}
-use Rattle.fk_boot.proofs.making.find_space.Given as goal
+use Rattle.fk_boot.proofs.names.find_space.Given as goal
 
 -- the slots that are left lead from the space to the one that is looked for
 abbrev pub invariant-loop-slot : goal.invariant-loop-slot

@@ -4,7 +4,7 @@ use Rattle.fk_store.specs.Paths.{path}
 use Rattle.fk_store.specs.World.{world}
 use Rattle.fk_model.specs.Valid.{birth_at}
 use Rattle.fk_boot.proofs.Walks.{root-space, lost}
-use Rattle.fk_boot.proofs.making.find_space.Goals as goal
+use Rattle.fk_boot.proofs.names.find_space.Goals as goal
 
 pub loop-slot-init : goal.loop-slot-init
 loop-slot-init c = record { left = rw (path-root, append-nil); space = root-space c.args.store.now }
