@@ -70,7 +70,7 @@ pub fn kind_number(body: &Body) -> u64
 }
 
 /// The kinds of objects to which references lead.
-fn is_referable(body: &Body) -> bool
+pub fn is_referable(body: &Body) -> bool
     ensures { (p : ℕ → Path) → result ≡ list_any (same_kind (kind_of (body_by p body.now))) referable }
 {
     match body {
