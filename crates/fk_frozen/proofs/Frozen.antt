@@ -111,7 +111,7 @@ module _ (there : Path → Option Kind) (x : Path) where
   body_live at (Port set served) good h = cc
   body_live at Portset good h = cc
 
-  there_live : (at : Path) (o : Option Body) → all_in (is_good there at) o ≡ true → list_any (leads_to x) (body_pointers o) ≡ true → IsSome (there x)
+  pub there_live : (at : Path) (o : Option Body) → all_in (is_good there at) o ≡ true → list_any (leads_to x) (body_pointers o) ≡ true → IsSome (there x)
   there_live at None good h = cc
   there_live at (Some b) good h = body_live at b good h
 

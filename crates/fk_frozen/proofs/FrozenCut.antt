@@ -26,10 +26,10 @@ port_by_kind None = refl
 -- ---- a body is seen alike where each of its pointers is
 
 module _ (nester : Path) (slot : ℕ) (old new : ℕ → Bool) where
-  abbrev Alike : Ptr → Type 0
+  abbrev pub Alike : Ptr → Type 0
   Alike p = cut_ptr new nester slot p ≡ cut_ptr old nester slot p
 
-  abbrev AllAlike : List Ptr → Type 0
+  abbrev pub AllAlike : List Ptr → Type 0
   AllAlike ps = (p : Ptr) → IsIn p ps → Alike p
 
   peer_alike : (out : Bool) (peer : Peer) → AllAlike (peer_pointer peer) → cut_peer new nester slot out peer ≡ cut_peer old nester slot out peer
@@ -64,7 +64,7 @@ module _ (nester : Path) (slot : ℕ) (old new : ℕ → Bool) where
   its_holder_alike None h = refl
   its_holder_alike (Some p) h = ap Some (h p (inl refl))
 
-  body_alike : (b : Body) → AllAlike (pointers b) → seen_by (cutting new nester slot) b ≡ seen_by (cutting old nester slot) b
+  pub body_alike : (b : Body) → AllAlike (pointers b) → seen_by (cutting new nester slot) b ≡ seen_by (cutting old nester slot) b
   unfolding seen_by
   body_alike (Mapping m) h = ap (λ (p : Ptr). Mapping (record m { region = p })) (h m.region (inl refl))
   body_alike (Region r) h = ap (λ (p : Ptr). Region (record r { keeper = p })) (h r.keeper (inl refl))

@@ -1,3 +1,4 @@
 pub mod Runs
 pub mod ClosedLaws
 pub mod told
+pub mod strangers

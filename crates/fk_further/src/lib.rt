@@ -5,6 +5,7 @@
 #![tactic(auto)]
 
 ghost use Rattle.fk_further.specs.ClosedLaws.{ClosedIsPlain};
+ghost use Rattle.fk_further.specs.Strangers.{StrangersMoveUnseen};
 ghost use Rattle.fk_further.specs.Told.{EndsAreTold, FaultsAreTold, RenamesTellNoEnds, WordsAreTold, OversAreTold, TouchesTellNothing};
 ghost use Rattle.fk_further.specs.Runs.{DueRunKeepsCut, CutIsCutWorld, FurtherStaysCutWorld};
 
@@ -54,4 +55,9 @@ pub fn words_and_overs_are_told()
 /// Of what it does itself it is told nothing.
 pub fn touches_tell_nothing()
     ensures { TouchesTellNothing }
+{}
+
+/// A move of a stranger isn't seen, where no mapping outside leads to a region inside.
+pub fn a_strangers_move_is_unseen()
+    ensures { StrangersMoveUnseen }
 {}
