@@ -1,2 +1,3 @@
+pub mod Above
 pub mod Slots
 pub mod Ways

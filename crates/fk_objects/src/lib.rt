@@ -5,12 +5,14 @@
 #![tactic(auto)]
 
 mod creating;
+mod destroying;
 mod locating;
 mod pointing;
 mod renaming;
 mod searching;
 
 pub use creating::create;
+pub use destroying::destroy;
 pub use locating::locate;
 pub use pointing::{clear, point};
 pub use renaming::rename;
