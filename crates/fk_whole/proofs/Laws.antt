@@ -1,10 +1,14 @@
 -- A due move keeps a world runnable, and so does a run of them.
-use Rattle.std.proofs.Common.{[], ◌∷◌, arith}
+use Rattle.std.proofs.Common.{◌≡◌, [], ◌∷◌, length, ◌∙◌, arith}
 use Rattle.fk_model.specs.World.{World}
 use Rattle.fk_model.specs.Moves.{outcome, step}
 use Rattle.fk_model.specs.Runs.{Event, after, run}
 use Rattle.fk_laws.proofs.validity.Steps.{step_keeps_valid_lem}
-use Rattle.fk_whole.specs.Runnable.{IsRunnable, IsDue, DueMoveGivesOneNumber, DueMoveKeepsRunnable, RunKeepsRunnable}
+use Rattle.fk_whole.specs.Runnable.{IsRunnable, IsDue, DueMoveGivesOneNumber, DueMoveKeepsRunnable, RunKeepsRunnable, SavableIsRunnable}
+use Rattle.fk_model.specs.Objects.{Mode, registers_of}
+use Rattle.fk_model.specs.Objects.Mode.{Running, Calling, Halted, Native}
+use Rattle.fk_model.specs.Shapes.{IsShapedMode}
+use Rattle.fk_whole.proofs.Lengths.{length-calling}
 use Rattle.fk_whole.proofs.Outcomes.{FullOutcome}
 use Rattle.fk_whole.proofs.Moves.{outcome-full}
 use Rattle.fk_whole.proofs.Kept.{all-have, registers-of, IsFilled, filled-stepped, next-stepped}
@@ -40,3 +44,13 @@ run_keeps_runnable w [] runs left due = runs
 run_keeps_runnable w (e ∷ es) runs left due =
     let one = gives_one_number w e runs due.0 in
     run_keeps_runnable (after w e) es (keeps_runnable w e runs due.0 (omega (arith, left))) (omega (arith, one, left)) due.1
+
+-- a mode that is well shaped has 16 registers
+shaped_registers : (mode : Mode) → IsShapedMode mode → length (registers_of mode) ≡ 16
+shaped_registers (Running g) shaped = shaped
+shaped_registers (Calling todo rest) shaped = length-calling todo rest ∙ shaped.1.sixteen
+shaped_registers (Halted g code) shaped = shaped
+shaped_registers (Native g) shaped = shaped
+
+pub savable_runnable : SavableIsRunnable
+savable_runnable w whole savable = record { whole = whole; registers = λ x t there. shaped_registers t.mode (savable.shaped x t there) }

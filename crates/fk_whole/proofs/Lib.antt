@@ -6,3 +6,4 @@ pub mod Objects
 pub mod Moves
 pub mod Kept
 pub mod Laws
+pub mod Younger

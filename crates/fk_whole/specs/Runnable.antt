@@ -1,16 +1,19 @@
 -- What a world keeps while a machine runs: it is whole, and each thread has its registers. A run supplies this at each of
 -- its moves, from its beginning alone.
-use Rattle.std.specs.Prelude.{◌≡◌, ◌+◌, ◌≤◌, Bool, true, ◌==◌, List, [], ◌∷◌, length, Some}
+use Rattle.std.specs.Prelude.{◌≡◌, ℕ, ◌+◌, ◌<◌, ◌≤◌, Bool, true, false, ◌==◌, List, [], ◌∷◌, length, Some}
 use Rattle.fk_model.specs.declared.limits.TheConstants.{PAGE_WORDS}
 use Rattle.fk_model.specs.declared.moves.Ask.{Ask}
 use Rattle.fk_model.specs.declared.moves.Ask.TheVariants as asks
 use Rattle.fk_model.specs.Places.{Path}
 use Rattle.fk_model.specs.Objects.{Thread, registers_of, thread_of, and_then}
-use Rattle.fk_model.specs.World.{World}
+use Rattle.fk_model.specs.World.{World, Change}
+use Rattle.fk_model.specs.World.Change.{MakeSpace}
 use Rattle.fk_model.specs.Searches.{depth}
+use Rattle.fk_model.specs.Outcomes.{listed}
+use Rattle.fk_model.specs.Moves.{outcome}
 use Rattle.fk_model.specs.Runs.{Event, after, run}
-use Rattle.fk_model.specs.Valid.{is_fit}
-use Rattle.fk_model.specs.Whole.{IsWhole}
+use Rattle.fk_model.specs.Valid.{IsValid, birth_at, is_fit}
+use Rattle.fk_model.specs.Whole.{IsWhole, IsSavable}
 
 -- every thread has 16 registers
 abbrev pub HasRegisters : World → Type 0
@@ -46,3 +49,26 @@ AreDue w (e ∷ es) = IsDue w e × AreDue (after w e) es
 -- a run ends in a runnable world where it begins in one, with a birth number left for each of its moves
 abbrev pub RunKeepsRunnable : Type 0
 RunKeepsRunnable = (w : World) (es : List Event) → IsRunnable w → w.next + length es ≤ depth → AreDue w es → IsRunnable (run w es)
+
+-- a world that is whole and can be saved is runnable
+abbrev pub SavableIsRunnable : Type 0
+SavableIsRunnable = (w : World) → IsWhole w → IsSavable w → IsRunnable w
+
+-- ---- birth numbers
+
+abbrev pub makes_space : List Change → Bool
+makes_space [] = false
+makes_space (MakeSpace x holder ∷ cs) = true
+makes_space (c ∷ cs) = makes_space cs
+
+-- a move that makes no space gives out no birth number
+abbrev pub OnlySpacesAreNumbered : Type 0
+OnlySpacesAreNumbered = (w : World) (e : Event) → makes_space (listed (outcome w e.mover e.pick e.ask)) ≡ false → (after w e).next ≡ w.next
+
+-- a space is younger than the one in which it lies
+abbrev pub IsYounger : World → Type 0
+IsYounger w = (k : ℕ) (x : Path) (birth above : ℕ) → birth_at w (k ∷ x) ≡ Some birth → birth_at w x ≡ Some above → above < birth
+
+-- so it stays with every fit move
+abbrev pub FitMoveKeepsYounger : Type 0
+FitMoveKeepsYounger = (w : World) (e : Event) → IsValid w → w.next ≤ depth → is_fit w e.mover e.ask ≡ true → IsYounger w → IsYounger (after w e)
