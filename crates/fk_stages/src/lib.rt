@@ -17,7 +17,7 @@ mod registers;
 
 pub use code::code_of_stage;
 use fk_model::{Stage, Todo};
-use naming::named;
+pub use naming::named;
 pub use registers::words;
 
 /// The call with this code is built.

@@ -1,0 +1,12 @@
+//! State records: the 32 words that say all of an object but its pointers.
+//!
+//! It stands on `fk_store` and `fk_stages`. It promises that the words are those of the abstract
+//! machine's record, and that setting one makes of the store's world what the machine makes of it.
+#![tactic(auto)]
+
+mod records;
+mod setting;
+mod words;
+
+pub use records::{kind_number, record_of};
+pub use setting::{set_state, takes_state};
