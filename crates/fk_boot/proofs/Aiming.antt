@@ -61,7 +61,7 @@ next-aim w v xs i x h is e all =
 -- ---- what a scenario's objects aim at is there
 
 -- what is found passes, and is one of the list
-find-passes : {X : Type 0} (P : X → Type 0) (test : X → Bool) (xs : List X) (x : X) → find test xs ≡ Some x → All P xs → (test x ≡ true) × P x
+pub find-passes : {X : Type 0} (P : X → Type 0) (test : X → Bool) (xs : List X) (x : X) → find test xs ≡ Some x → All P xs → (test x ≡ true) × P x
 find-passes P test [] x e all = absurd (cc)
 find-passes P test (y ∷ ys) x e all = by (test y) refl (λ rest. find-passes P test ys x rest (All-tail P y ys all))
   where
@@ -77,7 +77,7 @@ any-found test (y ∷ ys) x e = by (test y) refl (λ rest. any-found test ys x r
     by true t later = rw t refl
     by false t later = rw t (later (rw t at e))
 
-all-inside : (spaces : List SpaceEntry) (done os : List ObjectEntry) → EachAfter (KeepsObject spaces) done os → All (λ (o : ObjectEntry). 0 < length o.path) os
+pub all-inside : (spaces : List SpaceEntry) (done os : List ObjectEntry) → EachAfter (KeepsObject spaces) done os → All (λ (o : ObjectEntry). 0 < length o.path) os
 all-inside spaces done [] each = All-nil (λ (o : ObjectEntry). 0 < length o.path)
 all-inside spaces done (o ∷ os) each = All-cons (λ (o : ObjectEntry). 0 < length o.path) o os each.0.inside (all-inside spaces (done ++ o ∷ []) os each.1)
 
@@ -89,7 +89,7 @@ some-kind w x h = by (w.body x) h
     by None h = absurd (cc)
     by (Some b) h = refl
 
-or_right : (a b : Bool) → b ≡ true → (a || b) ≡ true
+pub or_right : (a b : Bool) → b ≡ true → (a || b) ≡ true
 or_right true b h = refl
 or_right false b h = h
 
@@ -124,7 +124,7 @@ one-stands w spaces objects test path h inside one = by (object_with objects pat
         let same : o.path ≡ path = (bytes_eq-Decides o.path path).0 is.0 in
         object-stands-at w spaces objects path h (rw (← same) is.1) (any-found (λ (o : ObjectEntry). bytes_eq o.path path) objects o e)
 
-both-hold : (a b : Bool) → (a && b) ≡ true → (a ≡ true) × (b ≡ true)
+pub both-hold : (a b : Bool) → (a && b) ≡ true → (a ≡ true) × (b ≡ true)
 both-hold true b h = (refl, h)
 both-hold false b h = absurd (cc)
 
@@ -155,7 +155,7 @@ aims-stand w spaces objects space Cond h inside well = tt
 aims-stand w spaces objects space Portset h inside well = tt
 
 -- each of a scenario's objects aims well
-each-aims : (spaces : List SpaceEntry) (objects : List ObjectEntry) (index : ℕ) (os : List ObjectEntry) →
+pub each-aims : (spaces : List SpaceEntry) (objects : List ObjectEntry) (index : ℕ) (os : List ObjectEntry) →
     aims_from spaces objects index os ≡ Ok tt → All (λ (o : ObjectEntry). aims_well spaces objects (home o) o.spec ≡ true) os
 unfolding aims_from
 each-aims spaces objects index [] e = All-nil (λ (o : ObjectEntry). aims_well spaces objects (home o) o.spec ≡ true)

@@ -2,3 +2,4 @@ pub mod Changes
 pub mod Walks
 pub mod MadeSoFar
 pub mod Aiming
+pub mod validity

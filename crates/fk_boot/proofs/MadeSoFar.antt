@@ -57,7 +57,7 @@ both true true h = absurd (cc)
 both true false h = (refl, refl)
 both false b h = absurd (cc)
 
-some : {A : Type 0} (o : Option A) → is_some o ≡ true → IsSome o
+pub some : {A : Type 0} (o : Option A) → is_some o ≡ true → IsSome o
 some None h = absurd (cc)
 some (Some a) h = refl
 

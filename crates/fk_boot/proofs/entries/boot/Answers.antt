@@ -4,6 +4,7 @@ use Rattle.fk_store.specs.World.{world, first_world}
 use Rattle.fk_boot.specs.FirstWorld.{booted, space_changes, object_changes, aim_changes}
 use Rattle.fk_boot.proofs.Aiming.{all-can}
 use Rattle.fk_boot.proofs.Changes.{then-all}
+use Rattle.fk_boot.proofs.validity.Whole.{booted-valid}
 use Rattle.fk_boot.proofs.entries.boot.Goals as goal
 
 pub aim_objects-requires : goal.aim_objects-requires
@@ -12,9 +13,9 @@ aim_objects-requires c =
     let stands = rw (c.as_slice-spaces.ensures, c.as_slice-objects.ensures) at c.in_ok-make_objects.ensures.stands in
     rw c.as_slice-objects.ensures (all-can (world c.make_objects.new.store) s.spaces s.objects stands c.requires.objects c.requires.aims)
 
-pub returns : goal.returns
+pub returns-clause-world : goal.returns-clause-world
 unfolding booted
-returns c =
+returns-clause-world c =
     let s = c.args.scenario.now in
     let spaces = rw (c.as_slice.ensures, c.as_slice-spaces.ensures, c.in_ok-store.ensures) at c.in_ok-make_spaces.ensures.world in
     let objects = rw c.as_slice-objects.ensures at c.in_ok-make_objects.ensures.world in
@@ -23,3 +24,6 @@ returns c =
     let put = flat_map object_changes s.objects in
     let aimed = flat_map aim_changes s.objects in
     then-all made (put ++ aimed) _ first_world _ spaces (then-all put aimed _ _ _ objects aims)
+
+pub returns-clause-valid : goal.returns-clause-valid
+returns-clause-valid c = rw (returns-clause-world c) (booted-valid c.args.scenario.now c.requires)

@@ -1,0 +1,4 @@
+pub mod Pages
+pub mod Objects
+pub mod Aims
+pub mod Whole
