@@ -162,7 +162,7 @@ finished-porter answers t m h g = g
 porter-kept : (w : World) (x : Path) (edit : Edit) (o : Option Body) → IsUsersEdit w x edit → holds is_native (w.body x) ≡ true → holds is_native o ≡ true →
     holds is_native (option_map (edited edit) o) ≡ true
 unfolding edited
-porter-kept w x (Proceed mode counter) (Some (Thread_of t)) users was h = let both = sym was ∙ users in cc
+porter-kept w x (Proceed mode counter) (Some (Thread_of t)) users was h = let both = sym was ∙ users.0 in cc
 porter-kept w x (Shift count) (Some (Thread_of t)) users was h = shifted-porter count t.mode h
 porter-kept w x (Finish answers) (Some (Thread_of t)) users was h = finished-porter answers t t.mode h h
 porter-kept w x (End status answers) (Some (Thread_of t)) users was h = ended-porter status answers t t.mode h h
@@ -426,9 +426,9 @@ module _ (nester : Path) (slot : ℕ) (w : World) (x : Path) (holding : IsHoldin
     change-going (Make (j ∷ s) body) may safe users = record {
       sound = valid-apply (Make (j ∷ s) body) v going.sound safe;
       same = change-same w root x valid frozen v going.same (Make (j ∷ s) body) may safe;
-      scratch = λ k is. scratch_by (Make (j ∷ s) body) k is (not_low k nester (j ∷ s) (high k is) users);
+      scratch = λ k is. scratch_by (Make (j ∷ s) body) k is (not_low k nester (j ∷ s) (high k is) users.0);
       above = λ p a e. if_none (same_path a (j ∷ s)) (Some body) (v.body a) (λ h. plain_holder body safe.plain) (going.above p a e);
-      porter = porter_by (Make (j ∷ s) body) (not_low LAST_PORTER_SLOT nester (j ∷ s) far_porter users);
+      porter = porter_by (Make (j ∷ s) body) (not_low LAST_PORTER_SLOT nester (j ∷ s) far_porter users.0);
     }
     change-going (MakeSpace [] holder) may safe users = absurd safe
     change-going (MakeSpace (j ∷ s) holder) may safe users = record {

@@ -4,4 +4,5 @@ pub mod FrozenCut
 pub mod FrozenLaws
 pub mod Users
 pub mod Holding
+pub mod Slots
 pub mod once

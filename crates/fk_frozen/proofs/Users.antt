@@ -17,7 +17,7 @@ use Rattle.fk_model.specs.declared.thread.Turn.TheVariants as turns
 use Rattle.fk_model.specs.Places.{Path, same_path, parent, Ptr}
 use Rattle.fk_model.specs.Places.Ptr.{At}
 use Rattle.fk_model.specs.Objects.{Mode, Peer, kind_of, Talk, Thread, Body, thread_of, reference_of, and_then, holds}
-use Rattle.fk_model.specs.Objects.Mode.{Running, Calling}
+use Rattle.fk_model.specs.Objects.Mode.{Running, Calling, Halted}
 use Rattle.fk_model.specs.Objects.Peer.{Server, Service, Parked}
 use Rattle.fk_model.specs.Objects.Body.{Mutex, Cond, Mapping, Region, Port, Portset, Space, Thread_of, Reference}
 use Rattle.fk_model.specs.Calls.{todo_of}
@@ -28,7 +28,7 @@ use Rattle.fk_model.specs.World.Edit.{SetPointer, SetHolder, SetTalk, Shift}
 use Rattle.fk_model.specs.Searches.{slots, leaf, beneath, client_at}
 use Rattle.fk_model.specs.Reach.{Reach, reach_word, words_at}
 use Rattle.fk_model.specs.Reach.Reach.{Home, Missing, Bad}
-use Rattle.fk_model.specs.Holds.{is_free}
+use Rattle.fk_model.specs.Holds.{is_free, is_porter}
 use Rattle.fk_model.specs.Outcomes.{Said, Outcome, ◌>>=◌, refuse, or_refuse, when, Caller, path_of, last_slot, done_at, done, ended, stays, telling, listed}
 use Rattle.fk_model.specs.Outcomes.Said.{Nothing}
 use Rattle.fk_model.specs.Outcomes.Outcome.{Refused, Waits, Goes}
@@ -41,7 +41,7 @@ use Rattle.fk_model.specs.LinkRows.{user_at, Candidate, candidate, takes_candida
 use Rattle.fk_model.specs.LinkRows.Candidate.{Faulting, Connecting, Resuming}
 use Rattle.fk_model.specs.FaultRows.{frees, fault_done}
 use Rattle.fk_model.specs.SpaceRows.{has_porter, is_held_by_other, space_hold, space_release, thread_stop, thread_go, gives_page, gives_from, page_give, copies, copies_home, answers_home, copies_to, page_take, page_read, page_next}
-use Rattle.fk_model.specs.Records.{set_edits}
+use Rattle.fk_model.specs.Records.{set_edits, calling_by, mode_of_record, record_registers, word}
 use Rattle.fk_model.specs.StateRows.{is_native, shows, shows_to, get_state, sets_record, record_at, sets_from, set_state, get_ptr, set_ptr}
 use Rattle.fk_model.specs.ObjectRows.{new_object, create, kills, destroys, destroy, rename, search as search_row, point, clear, locate}
 use Rattle.fk_model.specs.NativeRows.{takes_up, parked_here, connects_here, accepts_thread, accepts_found, takes_client, accept_row, is_serving_port, if_receiving, gives_words, gives_to, give_row, over_row, with_client, passes_client}
@@ -165,26 +165,27 @@ if-users w false a b first second = second
 
 enters-users : (w : World) (me : Path) (g : List ℕ) (counter : ℕ) (todo : Option (List Stage)) → holds is_native (w.body me) ≡ false →
     UsersOutcome w (enters me g counter todo)
-enters-users w me g counter (Some todo) mine = goes (mine, tt)
-enters-users w me g counter None mine = goes (mine, tt)
+enters-users w me g counter (Some todo) mine = goes ((mine, refl), tt)
+enters-users w me g counter None mine = goes ((mine, refl), tt)
 
 performs-users : (known : List ℕ → Option (List Stage)) (w : World) (space me : Path) (g : List ℕ) (counter : ℕ) (act : Act) →
     holds is_native (w.body me) ≡ false → UsersOutcome w (performs known w space me g counter act)
 performs-users known w space me g counter (Load register address) mine =
-    accessed-users w me false (halts_with me g counter) (loads w me g counter register address) (reach_word w space address false) (λ code. goes (mine, tt))
-    (λ s page. goes (mine, tt))
+    accessed-users w me false (halts_with me g counter) (loads w me g counter register address) (reach_word w space address false)
+    (λ code. goes ((mine, refl), tt))
+    (λ s page. goes ((mine, refl), tt))
 performs-users known w space me g counter (Store address value) mine =
-    accessed-users w me true (halts_with me g counter) (stores w me g counter address value) (reach_word w space address true) (λ code. goes (mine, tt))
-    (λ s page. goes (tt, (mine, tt)))
+    accessed-users w me true (halts_with me g counter) (stores w me g counter address value) (reach_word w space address true) (λ code. goes ((mine, refl), tt))
+    (λ s page. goes (tt, ((mine, refl), tt)))
 performs-users known w space me g counter Call mine = enters-users w me g counter (known g) mine
-performs-users known w space me g counter act mine = goes (mine, tt)
+performs-users known w space me g counter act mine = goes ((mine, refl), tt)
 
 run_row-users : (w : World) (space : Path) (slot : ℕ) (g : List ℕ) (counter : ℕ) → holds is_native (w.body (slot ∷ space)) ≡ false →
     UsersOutcome w (run_row w space slot g counter)
 unfolding run_row_by
 run_row-users w space slot g counter mine =
     accessed-users w (slot ∷ space) false (halts_with (slot ∷ space) g counter) (executes todo_of w space (slot ∷ space) g counter)
-    (reach_word w space counter false) (λ code. goes (mine, tt))
+    (reach_word w space counter false) (λ code. goes ((mine, refl), tt))
     (λ s page. performs-users todo_of w space (slot ∷ space) g counter (act (word_at w s page counter) g counter) mine)
 
 -- ---- mutexes and conditions
@@ -388,10 +389,10 @@ module _ (c : Caller) (user : c.is_porter ≡ false) where
 
   new_object-users : (w : World) (x : Path) (kind : ℕ) → is_low x ≡ true → IfUsers w (new_object x kind)
   new_object-users w x kind low =
-      pick-users w (kind == 1) _ _ low (pick-users w (kind == 2) _ _ low
-      (pick-users w (kind == 3) _ _ low (pick-users w (kind == 4) _ _ low (pick-users w (kind == 5) _ _ low
-      (pick-users w (kind == 6) _ _ low (pick-users w (kind == 7) _ _ (low, refl)
-      (pick-users w (kind == 8) _ _ low (pick-users w (kind == 9) _ None low tt))))))))
+      pick-users w (kind == 1) _ _ (low, refl) (pick-users w (kind == 2) _ _ (low, refl)
+      (pick-users w (kind == 3) _ _ (low, refl) (pick-users w (kind == 4) _ _ (low, refl) (pick-users w (kind == 5) _ _ (low, refl)
+      (pick-users w (kind == 6) _ _ (low, refl) (pick-users w (kind == 7) _ _ (low, refl)
+      (pick-users w (kind == 8) _ _ (low, refl) (pick-users w (kind == 9) _ None (low, refl) tt))))))))
 
   create-goes : (w : World) (x j kind : ℕ) (space : Path) (made : Change) → slot_for c x ≡ Ok j → new_object (x ∷ space) kind ≡ Some made →
       UsersOutcome w (done c (made ∷ []) [])
@@ -478,12 +479,22 @@ module _ (c : Caller) (user : c.is_porter ≡ false) where
   unfolding get_state
   get_state-users w s x address = search (users_row, shows_to-users)
 
+  record_mode : (n : ℕ) (g : List ℕ) (code : ℕ) → is_porter (mode_of_record n g code) ≡ false
+  record_mode n g code = by (n == 0) (n == 1) (todo_of g)
+    where
+      by : (zero one : Bool) (o : Option (List Stage)) → is_porter (if zero then Running g else (if one then calling_by g o else Halted g code)) ≡ false
+      by true one o = refl
+      by false true (Some todo) = refl
+      by false true None = refl
+      by false false o = refl
+
   edits-users : (w : World) (x : Path) (b : Body) (words : List ℕ) → w.body x ≡ Some b → is_native b ≡ false → AreUsers w (map (Alter x) (set_edits b words))
   edits-users w x (Mutex locked) words there off = (tt, tt)
   edits-users w x (Mapping m) words there off = (tt, tt)
   edits-users w x (Region r) words there off = (tt, tt)
   edits-users w x (Port set served) words there off = (tt, tt)
-  edits-users w x (Thread_of t) words there off = (rw there off, (tt, tt))
+  edits-users w x (Thread_of t) words there off =
+      ((rw there off, record_mode (word words 18) (record_registers words) (word words 19)), (tt, tt))
   edits-users w x b words there off = tt
 
   sets-users : (w : World) (space x : Path) (b : Body) (words : List ℕ) → w.body x ≡ Some b → is_native b ≡ false →

@@ -10,6 +10,7 @@ use Rattle.fk_model.specs.World.{World, Change, Edit}
 use Rattle.fk_model.specs.World.Change.{Alter, Make, MakeSpace, Kill, Move, PutPage, DropPage}
 use Rattle.fk_model.specs.World.Edit.{SetPointer, SetHolder, Proceed}
 use Rattle.fk_model.specs.Searches.{beneath, leaf}
+use Rattle.fk_model.specs.Holds.{is_porter}
 use Rattle.fk_model.specs.StateRows.{is_native}
 use Rattle.fk_model.specs.SpaceRows.{has_porter}
 use Rattle.fk_model.specs.Moves.{outcome}
@@ -22,7 +23,7 @@ is_low x = nat_le (slot_of x) LAST_USER_SLOT
 abbrev pub IsUsersEdit : World → Path → Edit → Type 0
 IsUsersEdit w x (SetPointer to) = is_low x ≡ true
 IsUsersEdit w x (SetHolder (Some holder)) = list_any (has_porter w) (beneath w x) ≡ false
-IsUsersEdit w x (Proceed mode counter) = holds is_native (w.body x) ≡ false
+IsUsersEdit w x (Proceed mode counter) = (holds is_native (w.body x) ≡ false) × (is_porter mode ≡ false)
 IsUsersEdit w x other = Unit {0}
 
 -- what a user destroys is the first leaf of what it names
@@ -33,7 +34,7 @@ pub record IsLeafOf (w : World) (x : Path) : Type 0 where
 
 abbrev pub IsUsers : World → Change → Type 0
 IsUsers w (Alter x edit) = IsUsersEdit w x edit
-IsUsers w (Make x body) = is_low x ≡ true
+IsUsers w (Make x body) = (is_low x ≡ true) × (is_native body ≡ false)
 IsUsers w (MakeSpace x holder) = (is_low x ≡ true) × (holder ≡ None)
 IsUsers w (Kill x) = IsLeafOf w x
 IsUsers w (Move x slot) = (is_low x ≡ true) × (nat_le slot LAST_USER_SLOT ≡ true)

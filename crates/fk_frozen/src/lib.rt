@@ -8,6 +8,7 @@ ghost use Rattle.fk_frozen.specs.Frozen.{FrozenSubtreeStays, FrozenCutStays};
 ghost use Rattle.fk_frozen.specs.Users.{UsersNameLow};
 ghost use Rattle.fk_frozen.specs.Holding.{OthersKeepHold};
 ghost use Rattle.fk_frozen.specs.Once.{UsersTouchOnce};
+ghost use Rattle.fk_frozen.specs.Slots.{UsersKeepSlots};
 
 /// A ready move of one who doesn't decide over a held subtree leaves its bodies, its pages, and the
 /// kinds of what its pointers lead to.
@@ -39,4 +40,10 @@ pub fn others_keep_a_porters_hold()
 /// object, or sets a pointer. What it makes is new.
 pub fn users_touch_pointers_once()
     ensures { UsersTouchOnce }
+{}
+
+/// After a move of a user or a native server porters stand in last slots alone, references alone in
+/// those of scratch, and no porter elsewhere, if it was so before.
+pub fn users_keep_slots()
+    ensures { UsersKeepSlots }
 {}
