@@ -1,25 +1,27 @@
 -- The address of a label, as a line is added, and how many words there are.
-use Rattle.std.proofs.Common.{◌≡◌, ℕ, ◌+◌, Bool, true, false, cond, List, [], ◌∷◌, ◌++◌, length, filter, Option, Some, None, option_map, is_some, refl, sym, ap, ◌∙◌, arith}
+use Rattle.std.proofs.Common.{◌≡◌, ℕ, ◌+◌, Bool, true, false, cond, List, [], ◌∷◌, ◌++◌, length, filter, Option, Some, None, option_map, is_some, Result, Ok, refl, sym, ap, ◌∙◌, arith}
 use Rattle.std.proofs.lemmas.Slice.Eq.{bytes_eq-Decides}
 use Rattle.std.specs.Str.{bytes_eq}
-use Rattle.fk_asm.specs.Program.{Line, size, is_name_of, address_from, address_of}
+use Rattle.fk_asm.specs.Program.{TextLine, places_word, size, is_name_of, label_address_from, label_address}
+use Rattle.fk_asm.specs.declared.operations.Item as code
+use Rattle.fk_asm.specs.Operations.{Item, item_view}
 use Rattle.fk_asm.specs.Labels.{with_label, IsNew}
 
-pub size-push : (lines : List Line) (line : Line) → size (lines ++ line ∷ []) ≡ size lines + size (line ∷ [])
+pub size-push : (lines : List TextLine) (line : TextLine) → size (lines ++ line ∷ []) ≡ size lines + size (line ∷ [])
 size-push [] line = omega arith
-size-push (first ∷ lines) line = by (is_some first.item) (size-push lines line)
+size-push (first ∷ lines) line = by (places_word first.item) (size-push lines line)
   where
     by : (t : Bool) → size (lines ++ line ∷ []) ≡ size lines + size (line ∷ [])
-        → length (cond t (first ∷ filter (λ l. is_some l.item) (lines ++ line ∷ [])) (filter (λ l. is_some l.item) (lines ++ line ∷ [])))
-        ≡ length (cond t (first ∷ filter (λ l. is_some l.item) lines) (filter (λ l. is_some l.item) lines)) + size (line ∷ [])
+        → length (cond t (first ∷ filter (λ l. places_word l.item) (lines ++ line ∷ [])) (filter (λ l. places_word l.item) (lines ++ line ∷ [])))
+        ≡ length (cond t (first ∷ filter (λ l. places_word l.item) lines) (filter (λ l. places_word l.item) lines)) + size (line ∷ [])
     by true more = omega (arith, more)
     by false more = more
 
-sizes : (first : Line) (lines : List Line) (before : ℕ) → before + size (first ∷ []) + size lines ≡ before + size (first ∷ lines)
-sizes first lines before = by (is_some first.item)
+sizes : (first : TextLine) (lines : List TextLine) (before : ℕ) → before + size (first ∷ []) + size lines ≡ before + size (first ∷ lines)
+sizes first lines before = by (places_word first.item)
   where
-    by : (t : Bool) → before + length (cond {A = List Line} t (first ∷ []) []) + size lines
-        ≡ before + length (cond t (first ∷ filter (λ l. is_some l.item) lines) (filter (λ l. is_some l.item) lines))
+    by : (t : Bool) → before + length (cond {A = List TextLine} t (first ∷ []) []) + size lines
+        ≡ before + length (cond t (first ∷ filter (λ l. places_word l.item) lines) (filter (λ l. places_word l.item) lines))
     by true = omega arith
     by false = omega arith
 
@@ -28,58 +30,63 @@ abbrev or_last : Option ℕ → Option ℕ → Option ℕ
 or_last (Some address) last = Some address
 or_last None last = last
 
-address_from-push : (before : ℕ) (lines : List Line) (line : Line) (name : List ℕ)
-    → address_from before (lines ++ line ∷ []) name ≡ or_last (address_from before lines name) (cond (is_name_of line.label name) (Some (before +
+address_from-push : (before : ℕ) (lines : List TextLine) (line : TextLine) (name : List ℕ)
+    → label_address_from before (lines ++ line ∷ []) name ≡ or_last (label_address_from before lines name) (cond (is_name_of line.label name) (Some (before +
     size lines)) None)
-unfolding address_from
+unfolding label_address_from
 address_from-push before [] line name =
     let same : before ≡ before + 0 = omega arith in
     ap (λ n. cond (is_name_of line.label name) (Some n) None) same
 address_from-push before (first ∷ lines) line name = by (is_name_of first.label name) (address_from-push (before + size (first ∷ [])) lines line name)
   where
-    by : (t : Bool) → address_from (before + size (first ∷ [])) (lines ++ line ∷ []) name
-        ≡ or_last (address_from (before + size (first ∷ [])) lines name) (cond (is_name_of line.label name) (Some (before + size (first ∷ []) + size
+    by : (t : Bool) → label_address_from (before + size (first ∷ [])) (lines ++ line ∷ []) name
+        ≡ or_last (label_address_from (before + size (first ∷ [])) lines name) (cond (is_name_of line.label name) (Some (before + size (first ∷ []) + size
         lines)) None)
-        → cond t (Some before) (address_from (before + size (first ∷ [])) (lines ++ line ∷ []) name)
-        ≡ or_last (cond t (Some before) (address_from (before + size (first ∷ [])) lines name)) (cond (is_name_of line.label name) (Some (before +
+        → cond t (Some before) (label_address_from (before + size (first ∷ [])) (lines ++ line ∷ []) name)
+        ≡ or_last (cond t (Some before) (label_address_from (before + size (first ∷ [])) lines name)) (cond (is_name_of line.label name) (Some (before +
         size (first ∷ lines))) None)
     by true more = refl
-    by false more = more ∙ ap (λ n. or_last (address_from (before + size (first ∷ [])) lines name) (cond (is_name_of line.label name) (Some n) None))
+    by false more = more ∙ ap (λ n. or_last (label_address_from (before + size (first ∷ [])) lines name) (cond (is_name_of line.label name) (Some n) None))
         (sizes first lines before)
 
 or_last-None : (o : Option ℕ) → o ≡ or_last o None
 or_last-None None = refl
 or_last-None (Some address) = refl
 
-added : (label : Option (List ℕ)) (lines : List Line) (name : List ℕ) → IsNew lines label
-    → with_label label (size lines) (address_of lines) name ≡ or_last (address_of lines name) (cond (is_name_of label name) (Some (size lines)) None)
-added None lines name new = or_last-None (address_of lines name)
+added : (label : Option (List ℕ)) (lines : List TextLine) (name : List ℕ) → IsNew lines label
+    → with_label label (size lines) (label_address lines) name ≡ or_last (label_address lines name) (cond (is_name_of label name) (Some (size lines)) None)
+added None lines name new = or_last-None (label_address lines name)
 added (Some label) lines name new = by (bytes_eq label name) refl
   where
-    by : (t : Bool) → bytes_eq label name ≡ t → cond t (Some (size lines)) (address_of lines name)
-        ≡ or_last (address_of lines name) (cond t (Some (size lines)) None)
+    by : (t : Bool) → bytes_eq label name ≡ t → cond t (Some (size lines)) (label_address lines name)
+        ≡ or_last (label_address lines name) (cond t (Some (size lines)) None)
     by true e =
         let same : label ≡ name = (bytes_eq-Decides label name).0 e in
-        let none : address_of lines name ≡ None = sym (ap (address_of lines) same) ∙ new in
+        let none : label_address lines name ≡ None = sym (ap (label_address lines) same) ∙ new in
         rw none refl
-    by false e = or_last-None (address_of lines name)
+    by false e = or_last-None (label_address lines name)
 
 -- the addresses with that of a new label are those of the lines and one more
-pub with_label-added : (lines : List Line) (line : Line) (name : List ℕ) → IsNew lines line.label
-    → with_label line.label (size lines) (address_of lines) name ≡ address_of (lines ++ line ∷ []) name
+pub with_label-added : (lines : List TextLine) (line : TextLine) (name : List ℕ) → IsNew lines line.label
+    → with_label line.label (size lines) (label_address lines) name ≡ label_address (lines ++ line ∷ []) name
 with_label-added lines line name new =
     let zero_first : 0 + size lines ≡ size lines = omega arith in
     added line.label lines name new ∙ sym (address_from-push 0 lines line name
-    ∙ ap (λ n. or_last (address_of lines name) (cond (is_name_of line.label name) (Some n) None)) zero_first)
+    ∙ ap (λ n. or_last (label_address lines name) (cond (is_name_of line.label name) (Some n) None)) zero_first)
 
 -- how many words a line places
-pub size_one : (line : Line) → size (line ∷ []) ≡ cond (is_some line.item) 1 0
-size_one line = by (is_some line.item)
+pub size_one : (line : TextLine) → size (line ∷ []) ≡ cond (places_word line.item) 1 0
+size_one line = by (places_word line.item)
   where
-    by : (t : Bool) → length (cond {A = List Line} t (line ∷ []) []) ≡ cond t 1 0
+    by : (t : Bool) → length (cond {A = List TextLine} t (line ∷ []) []) ≡ cond t 1 0
     by true = refl
     by false = refl
 
-pub is_some-option_map : {X Y : Type 0} (f : X → Y) (o : Option X) → is_some (option_map f o) ≡ is_some o
-is_some-option_map f None = refl
-is_some-option_map f (Some x) = refl
+-- whether a line places a word
+pub places-map : (o : Option code.Item) → places_word (Ok (option_map item_view o)) ≡ is_some o
+places-map None = refl
+places-map (Some x) = refl
+
+pub places-Ok : (o : Option Item) → places_word (Ok o) ≡ is_some o
+places-Ok None = refl
+places-Ok (Some x) = refl

@@ -1,16 +1,18 @@
 -- A text has at most 16384 words.
-use Rattle.std.proofs.Common.{◌≡◌, ℕ, ◌+◌, ◌≤◌, Bool, true, false, not, ◌||◌, nat_lt, cond, List, [], ◌∷◌, ◌++◌, filter, length, length-append, Option, Some, None, is_some, Result, Ok, Err, IfOk, Vec, vec_len, refl, ap, arith}
+use Rattle.std.proofs.Common.{◌≡◌, ℕ, ◌+◌, ◌≤◌, Bool, true, false, not, ◌||◌, nat_lt, cond, List, [], ◌∷◌, ◌++◌, filter, length, length-append, append_assoc, Option, Some, None, is_some, Result, Ok, Err, IfOk, Vec, vec_len, refl, ap, ◌∙◌, arith}
 use Rattle.std.proofs.lemmas.Bool.{ltb-true}
+use Rattle.std.proofs.lemmas.List.{append-nil}
 use Rattle.std.specs.declared.alloc.Global.{Global}
 use Rattle.fk_asm.specs.declared.fail.AsmFail.{AsmFail}
+use Rattle.fk_asm.specs.declared.fail.AsmError.{AsmError}
 use Rattle.fk_asm.specs.declared.reason.Reason.{Reason}
 use Rattle.fk_asm.specs.declared.reason.Reason.TheVariants.{Length}
-use Rattle.fk_asm.specs.Reasons.{◌>>=◌, unless, in_line}
-use Rattle.fk_asm.specs.Lines.{lines_of, label_of, unlabelled, tokens_of}
-use Rattle.fk_asm.specs.Operations.{Item, item_of}
-use Rattle.fk_asm.specs.Program.{Line, size, label_after, line_after}
-use Rattle.fk_asm.specs.Assembler.{with_tokens, with_tokens_in, lines_from, addressed, with_item, words_from, assembled, Answers}
-use Rattle.fk_asm.proofs.Addresses.{size-push, size_one}
+use Rattle.fk_asm.specs.Reasons.{◌>>=◌, needs, in_line}
+use Rattle.fk_asm.specs.Lines.{lines_of}
+use Rattle.fk_asm.specs.Operations.{Item}
+use Rattle.fk_asm.specs.Program.{TextLine, places_word, size, numbered_lines, check_label, check_line}
+use Rattle.fk_asm.specs.Assembler.{check_lines, traverse, addressed, placed_words, line_words, all_words, words_of_lines, assembled, AnswersText}
+use Rattle.fk_asm.proofs.Addresses.{size-push, size_one, places-Ok}
 
 -- what a step gave, where what comes after it was reached
 after : {A B E C : Type 0} (r : Result A E) (rest : A → Result B E) (y : B) → (r >>= rest) ≡ Ok y → ((x : A) → r ≡ Ok x → rest x ≡ Ok y → C) → C
@@ -24,7 +26,7 @@ in_line-Ok line (Err reason) x h = absurd (cc)
 abbrev words : Option Item → ℕ
 words item = cond (is_some item) 1 0
 
-has_room : (lines : List Line) (item : Option Item) (u : Unit {0}) → unless Length (not (is_some item) || nat_lt (size lines) 16384) ≡ Ok u
+has_room : (lines : List TextLine) (item : Option Item) (u : Unit {0}) → needs Length (not (is_some item) || nat_lt (size lines) 16384) ≡ Ok u
     → size lines ≤ 16384 → size lines + words item ≤ 16384
 has_room lines None u h few = omega (arith, few)
 has_room lines (Some item) u h few = by (nat_lt (size lines) 16384) refl h
@@ -33,68 +35,82 @@ has_room lines (Some item) u h few = by (nat_lt (size lines) 16384) refl h
     by true e h = omega (arith, ltb-true (size lines) 16384 e)
     by false e h = absurd (cc)
 
-line_after-few : (lines : List Line) (number : ℕ) (tokens : List (List ℕ)) (line : Line) → line_after lines number tokens ≡ Ok line
-    → size lines ≤ 16384 → size (lines ++ line ∷ []) ≤ 16384
-unfolding line_after
-line_after-few lines number tokens line h few =
-    after (label_after lines (label_of tokens)) _ line h (λ _ _ h.
-    after (item_of (unlabelled tokens)) _ line h (λ item _ h.
-    after (unless Length (not (is_some item) || nat_lt (size lines) 16384)) _ line h (λ u room h.
-    let same : item ≡ line.item = cc in
-    omega (arith, size-push lines line, size_one line, ap words same, has_room lines item u room few))))
+-- a line whose item is read places as many words as that
+placed_one : (line : TextLine) (item : Option Item) → line.item ≡ Ok item → size (line ∷ []) ≡ words item
+placed_one line item h = size_one line ∙ ap (λ (r : Result (Option Item) Reason). cond {A = ℕ} (places_word r) 1 0) h
+    ∙ ap (λ (t : Bool). cond {A = ℕ} t 1 0) (places-Ok item)
 
-with_tokens-few : (lines : List Line) (number : ℕ) (tokens : List (List ℕ)) (all : List Line) → with_tokens lines number tokens ≡ Ok all
-    → size lines ≤ 16384 → size all ≤ 16384
-with_tokens-few lines number [] all h few = let same : lines ≡ all = cc in omega (arith, ap size same, few)
-with_tokens-few lines number (token ∷ tokens) all h few =
-    after (line_after lines number (token ∷ tokens)) _ all h (λ line is_line h.
-    let same : lines ++ line ∷ [] ≡ all = cc in
-    omega (arith, ap size same, line_after-few lines number (token ∷ tokens) line is_line few))
+check_line-few : (before : List TextLine) (line : TextLine) (u : Unit {0}) → check_line before line ≡ Ok u
+    → size before ≤ 16384 → size (before ++ line ∷ []) ≤ 16384
+unfolding check_line
+check_line-few before line u h few =
+    after (check_label before line.label) _ u h (λ _ _ h.
+    after line.item _ u h (λ item is_item h.
+    omega (arith, size-push before line, placed_one line item is_item, has_room before item u h few)))
 
-lines_from-few : (lines : List Line) (number : ℕ) (texts : List (List ℕ)) (all : List Line) → lines_from lines number texts ≡ Ok all
-    → size lines ≤ 16384 → size all ≤ 16384
-unfolding lines_from
-lines_from-few lines number [] all h few = let same : lines ≡ all = cc in omega (arith, ap size same, few)
-lines_from-few lines number (text ∷ texts) all h few =
-    after (with_tokens_in lines number (tokens_of text)) _ all h (λ more is_more h.
-    lines_from-few more (number + 1) texts all h (with_tokens-few lines number (tokens_of text) more (in_line-Ok number _ more is_more) few))
-
-with_item-length : (all : List Line) (done : List ℕ) (item : Option Item) (more : List ℕ) → with_item all done item ≡ Ok more → length more
-    ≡ length done + words item
-with_item-length all done None more h = let same : done ≡ more = cc in omega (arith, ap length same)
-with_item-length all done (Some item) more h =
-    after (addressed all item.word item.label) _ more h (λ word _ h.
-    let same : done ++ word ∷ [] ≡ more = cc in
-    omega (arith, ap length same, length-append done (word ∷ [])))
-
-size-cons : (line : Line) (lines : List Line) → size (line ∷ lines) ≡ words line.item + size lines
-size-cons line lines = by (is_some line.item)
-  where
-    by : (t : Bool) → length (cond t (line ∷ filter (λ l. is_some l.item) lines) (filter (λ l. is_some l.item) lines)) ≡ cond t 1 0 + size lines
-    by true = omega arith
-    by false = omega arith
-
-words_from-length : (all : List Line) (done : List ℕ) (lines : List Line) (words : List ℕ) → words_from all done lines ≡ Ok words → length words
-    ≡ length done + size lines
-unfolding words_from
-words_from-length all done [] words h = let same : done ≡ words = cc in omega (arith, ap length same)
-words_from-length all done (line ∷ lines) words h =
-    after (in_line line.number (with_item all done line.item)) _ words h (λ more is_more h.
+check_lines-few : (before lines : List TextLine) (u : Unit {0}) → check_lines before lines ≡ Ok u
+    → size before ≤ 16384 → size (before ++ lines) ≤ 16384
+unfolding check_lines
+check_lines-few before [] u h few = omega (arith, ap size (append-nil before), few)
+check_lines-few before (line ∷ lines) u h few =
+    after (in_line line.number (check_line before line)) _ u h (λ v right h.
     omega (
       arith,
-      size-cons line lines,
-      words_from-length all more lines words h,
-      with_item-length all done line.item more (in_line-Ok line.number _ more is_more),
+      ap size (append_assoc before (line ∷ []) lines),
+      check_lines-few (before ++ line ∷ []) lines u h (check_line-few before line v (in_line-Ok line.number _ v right) few),
     ))
 
+placed_words-length : (all : List TextLine) (item : Option Item) (ws : List ℕ) → placed_words all item ≡ Ok ws → length ws ≡ words item
+placed_words-length all None ws h = let same : [] ≡ ws = cc in omega (arith, ap length same)
+placed_words-length all (Some item) ws h =
+    after (addressed all item.word item.label) _ ws h (λ word _ h.
+    let same : word ∷ [] ≡ ws = cc in
+    omega (arith, ap length same))
+
+line_words-length : (all : List TextLine) (line : TextLine) (ws : List ℕ) → line_words all line ≡ Ok ws → length ws ≡ size (line ∷ [])
+line_words-length all line ws h =
+    after line.item _ ws (in_line-Ok line.number _ ws h) (λ item is_item h.
+    omega (arith, placed_words-length all item ws h, placed_one line item is_item))
+
+traverse-length : (all lines : List TextLine) (words : List (List ℕ)) → traverse (line_words all) lines ≡ Ok words → length (all_words words) ≡ size lines
+unfolding traverse
+traverse-length all [] words h = let same : [] ≡ words = cc in omega (arith, ap (λ ws. length (all_words ws)) same)
+traverse-length all (line ∷ lines) words h =
+    after (line_words all line) _ words h (λ ws are_ws h.
+    after (traverse (line_words all) lines) _ words h (λ more are_more h.
+    let same : ws ∷ more ≡ words = cc in
+    omega (
+      arith,
+      ap (λ ws. length (all_words ws)) same,
+      length-append ws (all_words more),
+      line_words-length all line ws are_ws,
+      traverse-length all lines more are_more,
+      size-cons line lines,
+    )))
+  where
+    size-cons : (line : TextLine) (lines : List TextLine) → size (line ∷ lines) ≡ size (line ∷ []) + size lines
+    size-cons line lines = by (places_word line.item)
+      where
+        by : (t : Bool) → length (cond t (line ∷ filter (λ l. places_word l.item) lines) (filter (λ l. places_word l.item) lines))
+            ≡ length (cond {A = List TextLine} t (line ∷ []) []) + size lines
+        by true = omega arith
+        by false = omega arith
+
 pub assembled-few : (text words : List ℕ) → assembled text ≡ Ok words → length words ≤ 16384
-unfolding assembled
+unfolding assembled words_of_lines
 assembled-few text words h =
-    after (lines_from [] 1 (lines_of text)) _ words h (λ lines are_lines h.
-    omega (arith, words_from-length lines [] lines words h, lines_from-few [] 1 (lines_of text) lines are_lines (omega arith)))
+    after (check_lines [] (numbered_lines 1 (lines_of text))) _ words h (λ u right h.
+    after (traverse (line_words (numbered_lines 1 (lines_of text))) (numbered_lines 1 (lines_of text))) _ words h (λ ws are_ws h.
+    let same : all_words ws ≡ words = cc in
+    omega (
+      arith,
+      ap length same,
+      traverse-length (numbered_lines 1 (lines_of text)) (numbered_lines 1 (lines_of text)) ws are_ws,
+      check_lines-few [] (numbered_lines 1 (lines_of text)) u right (omega arith),
+    )))
 
 -- what the assembler gives has at most 16384 words
-pub answer-few : (result : Result (Vec ℕ Global) AsmFail) (text : List ℕ) → Answers (λ words. words.items) result (assembled text)
+pub answer-few : (result : Result (Vec ℕ Global) AsmFail) (text : List ℕ) → AnswersText (λ words. words.items) result (assembled text)
     → IfOk result (λ words. vec_len words ≤ 16384)
 answer-few (Ok words) text h = omega (arith, assembled-few text words.items h, words.ok)
 answer-few (Err fail) text h = tt

@@ -1,2 +1,3 @@
 pub mod Addresses
 pub mod Few
+pub mod Passes

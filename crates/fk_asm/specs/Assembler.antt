@@ -1,60 +1,77 @@
 -- The words of a text, or the line that is refused first and why.
-use Rattle.std.specs.Prelude.{◌≡◌, ℕ, ◌+◌, List, [], ◌∷◌, ◌++◌, bit_or, Option, Some, None, Result, Ok, Err}
+use Rattle.std.specs.Prelude.{◌≡◌, ℕ, List, [], ◌∷◌, ◌++◌, bit_or, Option, Some, None, Result, Ok, Err}
 use Rattle.fk_asm.specs.declared.fail.AsmError.{AsmError}
 use Rattle.fk_asm.specs.declared.fail.AsmFail.{AsmFail}
 use Rattle.fk_asm.specs.declared.fail.AsmFail.TheVariants.{Text, NoMemory}
 use Rattle.fk_asm.specs.declared.reason.Reason.{Reason}
 use Rattle.fk_asm.specs.declared.reason.Reason.TheVariants.{Undefined}
-use Rattle.fk_asm.specs.Reasons.{◌>>=◌, or_reason, number, in_line}
-use Rattle.fk_asm.specs.Lines.{lines_of, tokens_of}
+use Rattle.fk_asm.specs.Reasons.{◌>>=◌, or_reason, reason_number, in_line}
+use Rattle.fk_asm.specs.Lines.{lines_of}
 use Rattle.fk_asm.specs.Operations.{Item}
-use Rattle.fk_asm.specs.Program.{Line, address_of, line_after}
+use Rattle.fk_asm.specs.Program.{TextLine, label_address, numbered_lines, check_line}
 
--- a line after those before it; one without tokens is none
-abbrev pub with_tokens : List Line → ℕ → List (List ℕ) → Result (List Line) Reason
-with_tokens lines number [] = Ok lines
-with_tokens lines number (token ∷ tokens) = do
-  line ← line_after lines number (token ∷ tokens)
-  Ok (lines ++ line ∷ [])
+-- ---- first pass
 
--- the same, with the number of the line that is refused
-abbrev pub with_tokens_in : List Line → ℕ → List (List ℕ) → Result (List Line) AsmError
-with_tokens_in lines number tokens = in_line number (with_tokens lines number tokens)
+-- these lines are right, each after those before it; else the first that isn't
+unfoldable pub check_lines : List TextLine → List TextLine → Result (Unit {0}) AsmError
+check_lines before [] = Ok tt
+check_lines before (line ∷ lines) = do
+  _ ← in_line line.number (check_line before line)
+  check_lines (before ++ line ∷ []) lines
 
--- first pass: texts of lines, from this number on, are read in order
-unfoldable pub lines_from : List Line → ℕ → List (List ℕ) → Result (List Line) AsmError
-lines_from lines number [] = Ok lines
-lines_from lines number (text ∷ texts) = with_tokens_in lines number (tokens_of text) >>= λ lines. lines_from lines (number + 1) texts
+-- ---- second pass
+
+-- what a step makes of each element, or its first refusal
+unfoldable pub traverse : {A B E : Type 0} → (A → Result B E) → List A → Result (List B) E
+traverse step [] = Ok []
+traverse step (x ∷ xs) = do
+  y ← step x
+  ys ← traverse step xs
+  Ok (y ∷ ys)
 
 -- a word, with the address of its label in it; a label that no line defines is refused
-abbrev pub addressed : List Line → ℕ → Option (List ℕ) → Result ℕ Reason
+abbrev pub addressed : List TextLine → ℕ → Option (List ℕ) → Result ℕ Reason
 addressed lines word None = Ok word
-addressed lines word (Some name) = or_reason Undefined (address_of lines name) >>= λ address. Ok (bit_or word address)
+addressed lines word (Some name) = or_reason Undefined (label_address lines name) >>= λ address. Ok (bit_or word address)
 
--- the words so far and that of a line, if it has one
-abbrev pub with_item : List Line → List ℕ → Option Item → Result (List ℕ) Reason
-with_item all words None = Ok words
-with_item all words (Some item) = addressed all item.word item.label >>= λ word. Ok (words ++ word ∷ [])
+-- the word of an item, or none
+abbrev pub placed_words : List TextLine → Option Item → Result (List ℕ) Reason
+placed_words lines None = Ok []
+placed_words lines (Some item) = addressed lines item.word item.label >>= λ word. Ok (word ∷ [])
 
--- second pass: the words of lines in order, where `all` are the lines of the text
-unfoldable pub words_from : List Line → List ℕ → List Line → Result (List ℕ) AsmError
-words_from all words [] = Ok words
-words_from all words (line ∷ lines) = in_line line.number (with_item all words line.item) >>= λ words. words_from all words lines
+-- the word that a line of these lines places, or none
+abbrev pub line_words : List TextLine → TextLine → Result (List ℕ) AsmError
+line_words lines line = in_line line.number (line.item >>= placed_words lines)
+
+abbrev pub all_words : List (List ℕ) → List ℕ
+all_words [] = []
+all_words (words ∷ more) = words ++ all_words more
+
+-- ---- a text
+
+-- the words of lines
+unfoldable pub words_of_lines : List TextLine → Result (List ℕ) AsmError
+words_of_lines lines = do
+  _ ← check_lines [] lines
+  words ← traverse (line_words lines) lines
+  Ok (all_words words)
 
 -- the words of a text, or its first refusal
 unfoldable pub assembled : List ℕ → Result (List ℕ) AsmError
-assembled text = lines_from [] 1 (lines_of text) >>= λ lines. words_from lines [] lines
+assembled text = words_of_lines (numbered_lines 1 (lines_of text))
+
+-- ---- what code gives
 
 -- the refusal of a line
 abbrev pub refusal : ℕ → Reason → AsmFail
-refusal line reason = Text (record { line = line; reason = number reason })
+refusal line reason = Text (record { line = line; reason = reason_number reason })
 
 -- what is told of a fault is the fault that there is, unless there was no memory
-abbrev pub IsFail : {A : Type 0} → AsmFail → Result A AsmError → Type 0
-IsFail NoMemory wanted = Unit {0}
-IsFail (Text error) wanted = wanted ≡ Err error
+abbrev pub IsAsmFail : {A : Type 0} → AsmFail → Result A AsmError → Type 0
+IsAsmFail NoMemory wanted = Unit {0}
+IsAsmFail (Text error) wanted = wanted ≡ Err error
 
 -- what a function gives is what is read, unless there was no memory
-abbrev pub Answers : {X Y : Type 0} → (X → Y) → Result X AsmFail → Result Y AsmError → Type 0
-Answers view (Ok x) wanted = wanted ≡ Ok (view x)
-Answers view (Err fail) wanted = IsFail fail wanted
+abbrev pub AnswersText : {X Y : Type 0} → (X → Y) → Result X AsmFail → Result Y AsmError → Type 0
+AnswersText view (Ok x) wanted = wanted ≡ Ok (view x)
+AnswersText view (Err fail) wanted = IsAsmFail fail wanted

@@ -5,3 +5,4 @@ pub mod Operations
 pub mod Program
 pub mod Labels
 pub mod Assembler
+pub mod Passes

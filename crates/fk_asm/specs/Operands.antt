@@ -39,8 +39,8 @@ pub data Value : Type 0 where
   Number : ℕ → Value
   Label : List ℕ → Value
 
-abbrev pub value_of : List ℕ → Result Value Reason
-value_of token = if is_label token then Ok (Label token) else (or_reason reasons.Number (number_of token) >>= λ n. Ok (Number n))
+abbrev pub operand_of : List ℕ → Result Value Reason
+operand_of token = if is_label token then Ok (Label token) else (or_reason reasons.Number (number_of token) >>= λ n. Ok (Number n))
 
 -- what the code's value is
 abbrev pub value_view : code.Value → Value

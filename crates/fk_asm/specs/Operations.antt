@@ -12,12 +12,12 @@ use Rattle.fk_asm.specs.declared.operations.Item as code
 use Rattle.fk_asm.specs.declared.reason.Reason.{Reason}
 use Rattle.fk_asm.specs.declared.reason.Reason.TheVariants as reasons
 use Rattle.fk_asm.specs.Operands as operands
-use Rattle.fk_asm.specs.Operands.{Value, register_of, value_of, is_label}
+use Rattle.fk_asm.specs.Operands.{Value, register_of, operand_of, is_label}
 use Rattle.fk_asm.specs.Reasons.{◌>>=◌, or_reason}
 
 -- whether a token is this name
-abbrev pub same : List ℕ → List ℕ → Bool
-same token name = pointwise nat_eq token name
+abbrev pub token_is : List ℕ → List ℕ → Bool
+token_is token name = pointwise nat_eq token name
 
 -- a row of the table
 abbrev pub with_shape : ℕ → Shape → Option Operation
@@ -26,27 +26,27 @@ with_shape number shape = Some (record { number = number; shape = shape })
 -- an operation's number and its operands, by its name
 unfoldable pub operation_of : List ℕ → Option Operation
 operation_of name =
-    if same name (codes "halt") then with_shape HALT Bare
-    else if same name (codes "set") then with_shape SET RegisterNumber
-    else if same name (codes "mov") then with_shape MOV TwoRegisters
-    else if same name (codes "add") then with_shape ADD ThreeRegisters
-    else if same name (codes "sub") then with_shape SUB ThreeRegisters
-    else if same name (codes "mul") then with_shape MUL ThreeRegisters
-    else if same name (codes "and") then with_shape AND ThreeRegisters
-    else if same name (codes "or") then with_shape OR ThreeRegisters
-    else if same name (codes "xor") then with_shape XOR ThreeRegisters
-    else if same name (codes "shl") then with_shape SHL ThreeRegisters
-    else if same name (codes "shr") then with_shape SHR ThreeRegisters
-    else if same name (codes "div") then with_shape DIV ThreeRegisters
-    else if same name (codes "rem") then with_shape REM ThreeRegisters
-    else if same name (codes "load") then with_shape LOAD TwoRegistersNumber
-    else if same name (codes "store") then with_shape STORE TwoRegistersNumber
-    else if same name (codes "jmp") then with_shape JMP Number
-    else if same name (codes "jz") then with_shape JZ RegisterNumber
-    else if same name (codes "jnz") then with_shape JNZ RegisterNumber
-    else if same name (codes "jlt") then with_shape JLT TwoRegistersNumber
-    else if same name (codes "addi") then with_shape ADDI TwoRegistersNumber
-    else if same name (codes "call") then with_shape CALL Bare
+    if token_is name (codes "halt") then with_shape HALT Bare
+    else if token_is name (codes "set") then with_shape SET RegisterNumber
+    else if token_is name (codes "mov") then with_shape MOV TwoRegisters
+    else if token_is name (codes "add") then with_shape ADD ThreeRegisters
+    else if token_is name (codes "sub") then with_shape SUB ThreeRegisters
+    else if token_is name (codes "mul") then with_shape MUL ThreeRegisters
+    else if token_is name (codes "and") then with_shape AND ThreeRegisters
+    else if token_is name (codes "or") then with_shape OR ThreeRegisters
+    else if token_is name (codes "xor") then with_shape XOR ThreeRegisters
+    else if token_is name (codes "shl") then with_shape SHL ThreeRegisters
+    else if token_is name (codes "shr") then with_shape SHR ThreeRegisters
+    else if token_is name (codes "div") then with_shape DIV ThreeRegisters
+    else if token_is name (codes "rem") then with_shape REM ThreeRegisters
+    else if token_is name (codes "load") then with_shape LOAD TwoRegistersNumber
+    else if token_is name (codes "store") then with_shape STORE TwoRegistersNumber
+    else if token_is name (codes "jmp") then with_shape JMP Number
+    else if token_is name (codes "jz") then with_shape JZ RegisterNumber
+    else if token_is name (codes "jnz") then with_shape JNZ RegisterNumber
+    else if token_is name (codes "jlt") then with_shape JLT TwoRegistersNumber
+    else if token_is name (codes "addi") then with_shape ADDI TwoRegistersNumber
+    else if token_is name (codes "call") then with_shape CALL Bare
     else None
 
 -- a word; where a label is named, its address is still to be put in
@@ -78,18 +78,18 @@ three_registers op a b c = do
 abbrev pub two_registers_number : ℕ → List ℕ → List ℕ → List ℕ → Result Item Reason
 two_registers_number op a b n = do
   i ← two_registers op a b
-  n ← value_of n
+  n ← operand_of n
   Ok (with_value i n)
 
 -- the word of an operation with exactly its operands, which are read from the left
 unfoldable pub instruction : ℕ → Shape → List (List ℕ) → Result Item Reason
 instruction op Bare [] = Ok (with_value (instr op 0 0 0) (operands.Number 0))
 instruction op Number (n ∷ []) = do
-  n ← value_of n
+  n ← operand_of n
   Ok (with_value (instr op 0 0 0) n)
 instruction op RegisterNumber (a ∷ n ∷ []) = do
   a ← register_of a
-  n ← value_of n
+  n ← operand_of n
   Ok (with_value (instr op a 0 0) n)
 instruction op TwoRegisters (a ∷ b ∷ []) = do
   i ← two_registers op a b
@@ -106,18 +106,18 @@ whole_word token =
     if is_label token then Ok (record { word = 0; label = Some token })
     else (or_reason reasons.Number (number_up_to 18446744073709551615 token) >>= λ n. Ok (record { word = n; label = None }))
 
-abbrev pub placed : List ℕ → List (List ℕ) → Result Item Reason
-placed name tokens = do
+abbrev pub operation_item : List ℕ → List (List ℕ) → Result Item Reason
+operation_item name tokens = do
   operation ← or_reason reasons.Form (operation_of name)
   instruction operation.number operation.shape tokens
 
-abbrev pub is_word : List ℕ → Bool
-is_word name = same name (codes "word")
+abbrev pub is_word_directive : List ℕ → Bool
+is_word_directive name = token_is name (codes "word")
 
 -- what a statement places: `word` and its operand, or an operation and its operands
 abbrev pub statement : List ℕ → List (List ℕ) → Result Item Reason
-statement name (n ∷ []) = if is_word name then whole_word n else placed name (n ∷ [])
-statement name tokens = placed name tokens
+statement name (n ∷ []) = if is_word_directive name then whole_word n else operation_item name (n ∷ [])
+statement name tokens = operation_item name tokens
 
 -- no tokens place nothing
 unfoldable pub item_of : List (List ℕ) → Result (Option Item) Reason

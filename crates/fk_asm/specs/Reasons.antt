@@ -16,24 +16,24 @@ or_reason reason None = Err reason
 or_reason reason (Some x) = Ok x
 
 -- the reason unless a test holds
-abbrev pub unless : Reason → Bool → Result (Unit {0}) Reason
-unless reason holds = if holds then Ok tt else Err reason
+abbrev pub needs : Reason → Bool → Result (Unit {0}) Reason
+needs reason holds = if holds then Ok tt else Err reason
 
 -- a reason's number
-abbrev pub number : Reason → ℕ
-number Form = 1
-number Number = 2
-number Register = 3
-number Defined = 4
-number Undefined = 5
-number Length = 6
+abbrev pub reason_number : Reason → ℕ
+reason_number Form = 1
+reason_number Number = 2
+reason_number Register = 3
+reason_number Defined = 4
+reason_number Undefined = 5
+reason_number Length = 6
 
 -- a refusal, with the number of its line
 abbrev pub in_line : {A : Type 0} → ℕ → Result A Reason → Result A AsmError
 in_line line (Ok x) = Ok x
-in_line line (Err reason) = Err (record { line = line; reason = number reason })
+in_line line (Err reason) = Err (record { line = line; reason = reason_number reason })
 
 -- what a function gives is what is read, seen by `view`
-abbrev pub Gives : {X Y : Type 0} → (X → Y) → Result X Reason → Result Y Reason → Type 0
-Gives view (Ok x) read = read ≡ Ok (view x)
-Gives view (Err reason) read = read ≡ Err reason
+abbrev pub GivesOrReason : {X Y : Type 0} → (X → Y) → Result X Reason → Result Y Reason → Type 0
+GivesOrReason view (Ok x) read = read ≡ Ok (view x)
+GivesOrReason view (Err reason) read = read ≡ Err reason

@@ -1,14 +1,16 @@
 //! The two passes over a text.
 ghost use Rattle.std.specs.Prelude.{◌≡◌, ◌≤◌, [], map, option_map, vec_len, IfOk, IfErr};
-ghost use Rattle.fk_asm.specs.Reasons.{Gives};
+ghost use Rattle.fk_asm.specs.Reasons.{GivesOrReason};
 ghost use Rattle.fk_asm.specs.Labels.{line_view};
+ghost use Rattle.fk_asm.specs.Program.{line_if};
+ghost use Rattle.fk_asm.specs.Passes as passes;
 ghost use Rattle.fk_asm.specs.Assembler as definitions;
-ghost use Rattle.fk_asm.specs.Assembler.{Answers, IsFail};
+ghost use Rattle.fk_asm.specs.Assembler.{AnswersText, IsAsmFail};
 
 use crate::fail::{AsmError, AsmFail};
 use crate::lines::{lines_of, tokens_of};
 use crate::operations::Item;
-use crate::program::{Lines, line_after};
+use crate::program::{Lines, right_line};
 use crate::reason::Reason;
 use std::alloc::Global;
 
@@ -21,23 +23,24 @@ fn refusal(line: u32, reason: Reason) -> AsmFail
     })
 }
 
-/// The lines and one more with these tokens; without tokens it is left out.
+/// The lines and one more with these tokens, if it is right; without tokens it is left out.
+#[tactic(auto, unfolding(crate::specs::Assembler::check_lines, crate::specs::Passes::reached))]
 fn with_tokens<'a>(lines: Lines<'a>, number: u32, tokens: &[&'a [u8]]) -> Result<Lines<'a>, AsmFail>
-    ensures { Answers (λ x. x) result (definitions.with_tokens_in lines.entry number (map (λ token. token.now) tokens.now)) }
+    ensures { AnswersText (λ x. x) result (passes.reached lines.entry (line_if number (map (λ token. token.now) tokens.now))) }
 {
-    if tokens.is_empty() {
-        return Ok(lines);
-    }
-    match line_after(&lines, number, tokens) {
-        Ok(line) => Ok(lines.with(line)?),
-        Err(reason) => Err(refusal(number, reason)),
+    match tokens {
+        [] => Ok(lines),
+        [_, ..] => match right_line(&lines, number, tokens) {
+            Ok(line) => Ok(lines.with(line)?),
+            Err(reason) => Err(refusal(number, reason)),
+        },
     }
 }
 
-/// First pass: the lines of a text.
-#[tactic(auto, unfolding(crate::specs::Assembler::lines_from))]
+/// First pass: the lines of a text, each right after those before it.
+#[tactic(auto, unfolding(crate::specs::Passes::lines_from))]
 fn read_lines<'a>(alloc: Global, texts: &[&'a [u8]]) -> Result<Lines<'a>, AsmFail>
-    ensures { Answers (λ x. x) result (definitions.lines_from [] 1 (map (λ text. text.now) texts.now)) }
+    ensures { AnswersText (λ x. x) result (passes.lines_from [] 1 (map (λ text. text.now) texts.now)) }
 {
     let mut lines = Lines::new(alloc);
     let mut number = 1u32;
@@ -54,11 +57,11 @@ fn read_lines<'a>(alloc: Global, texts: &[&'a [u8]]) -> Result<Lines<'a>, AsmFai
 
 /// A word, with the address of its label in it.
 fn addressed(lines: &Lines<'_>, item: Item<'_>) -> Result<u64, Reason>
-    ensures { Gives (λ x. x) result (definitions.addressed lines.now item.entry.word (option_map (λ name. name.now) item.entry.label)) }
+    ensures { GivesOrReason (λ x. x) result (definitions.addressed lines.now item.entry.word (option_map (λ name. name.now) item.entry.label)) }
 {
     match item.label {
         None => Ok(item.word),
-        Some(name) => match lines.address_of(name) {
+        Some(name) => match lines.label_address(name) {
             Some(address) => Ok(item.word | u64::from(address)),
             None => Err(Reason::Undefined),
         },
@@ -66,9 +69,9 @@ fn addressed(lines: &Lines<'_>, item: Item<'_>) -> Result<u64, Reason>
 }
 
 /// Second pass: the words of the lines.
-#[tactic(auto, unfolding(crate::specs::Assembler::words_from))]
+#[tactic(auto, unfolding(crate::specs::Passes::line_words_from))]
 fn words_of(alloc: Global, lines: &Lines<'_>) -> Result<Vec<u64>, AsmFail>
-    ensures { Answers (λ words. words.items) result (definitions.words_from lines.now [] lines.now) }
+    ensures { AnswersText (λ words. words.items) result (passes.line_words_from lines.now [] lines.now) }
 {
     let mut words = Vec::new(alloc);
     for line in lines.as_slice() {
@@ -89,10 +92,10 @@ fn words_of(alloc: Global, lines: &Lines<'_>) -> Result<Vec<u64>, AsmFail>
 /// `Text` exactly where a line is refused: the first that is, in the order in which
 /// `specs/Assembler.antt` checks them. `NoMemory` where there is no memory for the lines, their tokens
 /// and labels, or the words.
-#[tactic(auto, unfolding(crate::specs::Assembler::assembled))]
+#[tactic(auto, using(crate::proofs::Passes::text))]
 pub fn assemble(alloc: Global, text: &[u8]) -> Result<Vec<u64>, AsmFail>
     ensures ok { IfOk result (λ words. definitions.assembled text.now ≡ Ok words.items) }
-    ensures text { IfErr result (λ fail. IsFail fail (definitions.assembled text.now)) }
+    ensures text { IfErr result (λ fail. IsAsmFail fail (definitions.assembled text.now)) }
     ensures few { IfOk result (λ words. vec_len words ≤ 16384) }
 {
     let texts = lines_of(alloc, text)?;

@@ -1,6 +1,6 @@
 //! Operands: registers, numbers, and labels in a number's place.
 ghost use Rattle.std.specs.Prelude.{◌≡◌, ◌<◌, IfOk};
-ghost use Rattle.fk_asm.specs.Reasons.{Gives};
+ghost use Rattle.fk_asm.specs.Reasons.{GivesOrReason};
 ghost use Rattle.fk_asm.specs.Operands as definitions;
 
 use crate::reason::Reason;
@@ -15,7 +15,7 @@ pub enum Value<'a> {
 
 /// A register, `r0` to `r15`.
 pub fn register_of(token: &[u8]) -> Result<u8, Reason>
-    ensures value { Gives (λ x. x) result (definitions.register_of token.now) }
+    ensures value { GivesOrReason (λ x. x) result (definitions.register_of token.now) }
     ensures known { IfOk result (λ register. register < 16) }
 {
     match token {
@@ -55,8 +55,8 @@ pub fn is_label(token: &[u8]) -> bool
 }
 
 /// A number from -2147483648 to 4294967295, taken modulo 2^32, or a label.
-pub fn value_of(token: &[u8]) -> Result<Value<'_>, Reason>
-    ensures { Gives definitions.value_view result (definitions.value_of token.now) }
+pub fn operand_of(token: &[u8]) -> Result<Value<'_>, Reason>
+    ensures { GivesOrReason definitions.value_view result (definitions.operand_of token.now) }
 {
     if is_label(token) {
         return Ok(Value::Label(token));

@@ -2,11 +2,11 @@
 ghost use Rattle.std.specs.Prelude.{◌≡◌, ◌<◌, ◌≤◌, map, IfSome, IfOk, option_map};
 ghost use Rattle.fk_model.specs.Instructions.{IsInstr};
 ghost use Rattle.fk_model.specs.declared.instruction.operation.TheConstants.{CALL};
-ghost use Rattle.fk_asm.specs.Reasons.{Gives};
+ghost use Rattle.fk_asm.specs.Reasons.{GivesOrReason};
 ghost use Rattle.fk_asm.specs.Operands as operands;
 ghost use Rattle.fk_asm.specs.Operations as definitions;
 
-use crate::operands::{Value, is_label, register_of, value_of};
+use crate::operands::{Value, is_label, operand_of, register_of};
 use crate::reason::Reason;
 use fk_isa::encode;
 use fk_model::{Instr, number_up_to, operation};
@@ -106,7 +106,7 @@ fn bare(op: u8) -> Instr
 
 fn two_registers(op: u8, a: &[u8], b: &[u8]) -> Result<Instr, Reason>
     requires { op ≤ CALL }
-    ensures value { Gives (λ x. x) result (definitions.two_registers op a.now b.now) }
+    ensures value { GivesOrReason (λ x. x) result (definitions.two_registers op a.now b.now) }
     ensures known { IfOk result IsInstr }
 {
     let a = register_of(a)?;
@@ -116,7 +116,7 @@ fn two_registers(op: u8, a: &[u8], b: &[u8]) -> Result<Instr, Reason>
 
 fn three_registers(op: u8, a: &[u8], b: &[u8], c: &[u8]) -> Result<Instr, Reason>
     requires { op ≤ CALL }
-    ensures value { Gives (λ x. x) result (definitions.three_registers op a.now b.now c.now) }
+    ensures value { GivesOrReason (λ x. x) result (definitions.three_registers op a.now b.now c.now) }
     ensures known { IfOk result IsInstr }
 {
     let instr = two_registers(op, a, b)?;
@@ -126,10 +126,10 @@ fn three_registers(op: u8, a: &[u8], b: &[u8], c: &[u8]) -> Result<Instr, Reason
 
 fn two_registers_number<'a>(op: u8, a: &[u8], b: &[u8], n: &'a [u8]) -> Result<Item<'a>, Reason>
     requires { op ≤ CALL }
-    ensures { Gives definitions.item_view result (definitions.two_registers_number op a.now b.now n.now) }
+    ensures { GivesOrReason definitions.item_view result (definitions.two_registers_number op a.now b.now n.now) }
 {
     let instr = two_registers(op, a, b)?;
-    let n = value_of(n)?;
+    let n = operand_of(n)?;
     Ok(with_value(instr, n))
 }
 
@@ -137,14 +137,14 @@ fn two_registers_number<'a>(op: u8, a: &[u8], b: &[u8], n: &'a [u8]) -> Result<I
 #[tactic(auto, unfolding(crate::specs::Operations::instruction))]
 fn instruction<'a>(op: u8, shape: Shape, operands: &[&'a [u8]]) -> Result<Item<'a>, Reason>
     requires { op ≤ CALL }
-    ensures { Gives definitions.item_view result (definitions.instruction op shape (map (λ operand. operand.now) operands.now)) }
+    ensures { GivesOrReason definitions.item_view result (definitions.instruction op shape (map (λ operand. operand.now) operands.now)) }
 {
     match (shape, operands) {
         (Shape::Bare, []) => Ok(with_value(bare(op), Value::Number(0))),
-        (Shape::Number, [n]) => Ok(with_value(bare(op), value_of(n)?)),
+        (Shape::Number, [n]) => Ok(with_value(bare(op), operand_of(n)?)),
         (Shape::RegisterNumber, [a, n]) => {
             let a = register_of(a)?;
-            let n = value_of(n)?;
+            let n = operand_of(n)?;
             Ok(with_value(Instr { a, ..bare(op) }, n))
         }
         (Shape::TwoRegisters, [a, b]) => Ok(with_value(two_registers(op, a, b)?, Value::Number(0))),
@@ -158,7 +158,7 @@ fn instruction<'a>(op: u8, shape: Shape, operands: &[&'a [u8]]) -> Result<Item<'
 
 /// A whole word: a number of 64 bits without sign, or the address of a label.
 fn whole_word(token: &[u8]) -> Result<Item<'_>, Reason>
-    ensures { Gives definitions.item_view result (definitions.whole_word token.now) }
+    ensures { GivesOrReason definitions.item_view result (definitions.whole_word token.now) }
 {
     if is_label(token) {
         return Ok(Item {
@@ -173,8 +173,8 @@ fn whole_word(token: &[u8]) -> Result<Item<'_>, Reason>
 }
 
 /// The word of an operation by its name.
-fn placed<'a>(name: &[u8], operands: &[&'a [u8]]) -> Result<Item<'a>, Reason>
-    ensures { Gives definitions.item_view result (definitions.placed name.now (map (λ operand. operand.now) operands.now)) }
+fn operation_item<'a>(name: &[u8], operands: &[&'a [u8]]) -> Result<Item<'a>, Reason>
+    ensures { GivesOrReason definitions.item_view result (definitions.operation_item name.now (map (λ operand. operand.now) operands.now)) }
 {
     match operation_of(name) {
         Some(operation) => instruction(operation.number, operation.shape, operands),
@@ -182,28 +182,28 @@ fn placed<'a>(name: &[u8], operands: &[&'a [u8]]) -> Result<Item<'a>, Reason>
     }
 }
 
-fn is_word(name: &[u8]) -> bool
-    ensures { result ≡ definitions.is_word name.now }
+fn is_word_directive(name: &[u8]) -> bool
+    ensures { result ≡ definitions.is_word_directive name.now }
 {
     matches!(name, b"word")
 }
 
 /// The word of a statement by its name: `word` or an operation.
 fn statement<'a>(name: &[u8], operands: &[&'a [u8]]) -> Result<Item<'a>, Reason>
-    ensures { Gives definitions.item_view result (definitions.statement name.now (map (λ operand. operand.now) operands.now)) }
+    ensures { GivesOrReason definitions.item_view result (definitions.statement name.now (map (λ operand. operand.now) operands.now)) }
 {
     if let [n] = operands {
-        if is_word(name) {
+        if is_word_directive(name) {
             return whole_word(n);
         }
     }
-    placed(name, operands)
+    operation_item(name, operands)
 }
 
 /// What a statement places: an operation with its operands, or `word` with its one. No tokens place nothing.
 #[tactic(auto, unfolding(crate::specs::Operations::item_of))]
 pub fn item_of<'a>(tokens: &[&'a [u8]]) -> Result<Option<Item<'a>>, Reason>
-    ensures { Gives (option_map definitions.item_view) result (definitions.item_of (map (λ token. token.now) tokens.now)) }
+    ensures { GivesOrReason (option_map definitions.item_view) result (definitions.item_of (map (λ token. token.now) tokens.now)) }
 {
     match tokens {
         [] => Ok(None),

@@ -1,9 +1,9 @@
 //! The lines that are read of a text, and the addresses of their labels.
 ghost use Rattle.std.specs.Prelude.{◌≡◌, ℕ, ◌≤◌, ◌++◌, ◌∷◌, List, [], IfOk, option_map, map};
-ghost use Rattle.fk_asm.specs.Reasons.{Gives};
+ghost use Rattle.fk_asm.specs.Reasons.{GivesOrReason};
 ghost use Rattle.fk_asm.specs.Program as definitions;
 ghost use Rattle.fk_asm.specs.Labels as labels;
-ghost use Rattle.fk_asm.specs.Labels.{line_view, address_in, IsNew};
+ghost use Rattle.fk_asm.specs.Labels.{line_view, label_address_in, IsNew};
 
 use crate::lines::{label_of, unlabelled};
 use crate::operands::is_label;
@@ -27,7 +27,7 @@ pub struct Line<'a> {
 
 /// The address of a name.
 fn address_at(addresses: &BTreeMap<&[u8], u32>, name: &[u8]) -> Option<u32>
-    ensures { result ≡ address_in addresses.now name.now }
+    ensures { result ≡ label_address_in addresses.now name.now }
 {
     match addresses.get(name) {
         Some(address) => Some(*address),
@@ -41,7 +41,7 @@ fn with_name<'a>(
     name: &'a [u8],
     address: u32,
 ) -> Result<BTreeMap<&'a [u8], u32>, NoMemory>
-    ensures { IfOk result (λ more. (q : List ℕ) → address_in more q ≡ labels.with_name name.now address (address_in addresses.entry) q) }
+    ensures { IfOk result (λ more. (q : List ℕ) → label_address_in more q ≡ labels.with_name name.now address (label_address_in addresses.entry) q) }
 {
     match addresses.insert(name, address) {
         Ok(_) => Ok(addresses),
@@ -55,8 +55,8 @@ fn with_label<'a>(
     label: Option<&'a [u8]>,
     address: u32,
 ) -> Result<BTreeMap<&'a [u8], u32>, NoMemory>
-    ensures { IfOk result (λ more. (q : List ℕ) → address_in more q
-        ≡ labels.with_label (option_map (λ name. name.now) label.entry) address (address_in addresses.entry) q) }
+    ensures { IfOk result (λ more. (q : List ℕ) → label_address_in more q
+        ≡ labels.with_label (option_map (λ name. name.now) label.entry) address (label_address_in addresses.entry) q) }
 {
     match label {
         Some(name) => with_name(addresses, name, address),
@@ -75,14 +75,14 @@ pub struct Lines<'a> {
 
 impl<'a> Model for Lines<'a> {
     ghost use Rattle.std.specs.Prelude.{◌≡◌, ℕ, List as Items, map};
-    ghost use Rattle.fk_asm.specs.Program.{Line, address_of, size as size_of};
+    ghost use Rattle.fk_asm.specs.Program.{TextLine, label_address, size as size_of};
     ghost use Rattle.fk_asm.specs.Labels as labels;
 
-    ghost Value = { Items Line };
+    ghost Value = { Items TextLine };
 
     ghost view = { λ s. map labels.line_view s.lines.items };
 
-    ghost invariant = { λ s. ((name : Items ℕ) → labels.address_in s.addresses name ≡ address_of (map labels.line_view s.lines.items) name)
+    ghost invariant = { λ s. ((name : Items ℕ) → labels.label_address_in s.addresses name ≡ label_address (map labels.line_view s.lines.items) name)
         × (s.size ≡ size_of (map labels.line_view s.lines.items)) };
 }
 
@@ -106,8 +106,8 @@ impl<'a> Lines<'a> {
     }
 
     /// The address of the label with this name.
-    pub fn address_of(&self, name: &[u8]) -> Option<u32>
-        ensures { result ≡ definitions.address_of self.now name.now }
+    pub fn label_address(&self, name: &[u8]) -> Option<u32>
+        ensures { result ≡ definitions.label_address self.now name.now }
     {
         address_at(&self.addresses, name)
     }
@@ -145,7 +145,7 @@ impl<'a> Lines<'a> {
 
 /// Refuses an ill-formed label, and one that is defined already.
 fn check_label(lines: &Lines<'_>, label: Option<&[u8]>) -> Result<(), Reason>
-    ensures label { Gives (λ x. x) result (definitions.label_after lines.now (option_map (λ name. name.now) label.entry)) }
+    ensures label { GivesOrReason (λ x. x) result (definitions.check_label lines.now (option_map (λ name. name.now) label.entry)) }
     ensures new { IfOk result (λ _. IsNew lines.now (option_map (λ name. name.now) label.entry)) }
 {
     let Some(name) = label else {
@@ -154,20 +154,21 @@ fn check_label(lines: &Lines<'_>, label: Option<&[u8]>) -> Result<(), Reason>
     if !is_label(name) {
         return Err(Reason::Form);
     }
-    if lines.address_of(name).is_some() {
+    if lines.label_address(name).is_some() {
         return Err(Reason::Defined);
     }
     Ok(())
 }
 
-/// The line with these tokens, after those before it.
-#[tactic(auto, unfolding(crate::specs::Program::line_after))]
-pub fn line_after<'a>(
+/// The line with these tokens, if it is right after those before it.
+#[tactic(auto, unfolding(crate::specs::Program::check_line))]
+pub fn right_line<'a>(
     lines: &Lines<'a>,
     number: u32,
     tokens: &[&'a [u8]],
 ) -> Result<Line<'a>, Reason>
-    ensures line { Gives line_view result (definitions.line_after lines.now number (map (λ token. token.now) tokens.now)) }
+    ensures line { IfOk result (λ line. line_view line ≡ definitions.line_of number (map (λ token. token.now) tokens.now)) }
+    ensures right { GivesOrReason (λ _. tt) result (definitions.check_line lines.now (definitions.line_of number (map (λ token. token.now) tokens.now))) }
     ensures new { IfOk result (λ line. IsNew lines.now (option_map (λ name. name.now) line.label)) }
 {
     let label = label_of(tokens);

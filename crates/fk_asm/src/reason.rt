@@ -22,7 +22,7 @@ pub enum Reason {
 impl Reason {
     /// The number by which a reason is told, 1 to 6.
     pub fn number(self) -> u8
-        ensures { result ≡ definitions.number self }
+        ensures { result ≡ definitions.reason_number self }
     {
         match self {
             Reason::Form => 1,
