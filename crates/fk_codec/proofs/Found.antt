@@ -2,13 +2,13 @@
 use Rattle.std.proofs.Common.{◌≡◌, List, ℕ, Result, Ok, Err}
 use Rattle.std.specs.Prelude.{IfOk}
 use Rattle.fk_image.specs.declared.image.Image.{Image}
-use Rattle.fk_spelling.specs.Reading.{reading}
-use Rattle.fk_spelling.specs.Spells.{Spells}
+use Rattle.fk_spelling.specs.Reading.{image_reading}
+use Rattle.fk_spelling.specs.Spells.{SpellsImage}
 use Rattle.fk_spelling.proofs.Basics.{IsBytes}
 use Rattle.fk_spelling.proofs.RoundTrip.{reading_takes}
 use Rattle.fk_codec.specs.declared.fail.ReadFail.{ReadFail}
 use Rattle.fk_codec.specs.Given.{Reads}
 
-pub is_found : (bytes : List ℕ) (r : Result Image ReadFail) → IsBytes bytes → Reads r (reading bytes) → IfOk r (λ i. Spells bytes i)
+pub is_found : (bytes : List ℕ) (r : Result Image ReadFail) → IsBytes bytes → Reads r (image_reading bytes) → IfOk r (λ i. SpellsImage bytes i)
 is_found bytes (Ok i) fits given = reading_takes bytes i fits given
 is_found bytes (Err e) fits given = tt

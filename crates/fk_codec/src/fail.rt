@@ -1,9 +1,5 @@
 //! Why bytes are no image.
-ghost use Rattle.std.specs.Prelude.{◌≡◌};
-ghost use Rattle.fk_codec.specs.declared.fail.Fail.TheVariants as fails;
 
-use fk_model::NoMemory;
-use fk_spelling::Stop;
 use thiserror::Error;
 
 /// The first fault of bytes that are no image: the offset of the field and the reason, from 1 to 7.
@@ -23,19 +19,4 @@ pub enum ReadFail {
     /// There is no memory for the image.
     #[error("no memory")]
     NoMemory,
-}
-
-/// Why a part isn't read.
-#[derive(Clone, Copy)]
-pub enum Fail {
-    NoMemory,
-    At(Stop),
-}
-
-impl From<NoMemory> for Fail {
-    ghost from_gives = { λ _ fail. fail ≡ fails.NoMemory };
-
-    fn from(_: NoMemory) -> Fail {
-        Fail::NoMemory
-    }
 }

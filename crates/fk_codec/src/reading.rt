@@ -3,39 +3,41 @@ ghost use Rattle.std.specs.Prelude.{◌≡◌, [], length, IfOk, Ok};
 ghost use Rattle.fk_image.specs.declared.image.Image.{Image};
 ghost use Rattle.fk_image.specs.Preorder as preorder;
 ghost use Rattle.fk_image.specs.Preorder.{after_space, root_path};
-ghost use Rattle.fk_spelling.specs.Fields.{many};
+ghost use Rattle.fk_spelling.specs.Fields.{read_many};
 ghost use Rattle.fk_spelling.specs.Offsets.{wrong_link};
 ghost use Rattle.fk_spelling.specs.Reading as words;
-ghost use Rattle.fk_spelling.specs.Spells.{Spells};
-ghost use Rattle.fk_codec.specs.Given.{Gives, Reads};
+ghost use Rattle.fk_spelling.specs.Spells.{SpellsImage};
+ghost use Rattle.fk_reading.specs.Given.{Decodes};
+ghost use Rattle.fk_codec.specs.Given.{Reads};
 
-use crate::fail::{Fail, ImageError, ReadFail};
-use crate::fields::{below_at, byte_at, link_at, refused, u16_at, u32_at};
-use crate::objects::{objects_at, pages_at};
-use fk_image::{Image, Link, Open, Path, SpaceRec, enter, kind_at, room_under};
+use crate::fail::{ImageError, ReadFail};
+use fk_image::{Image, Link, Open, Path, SpaceRec, enter, kind_in_space, room_under};
 use fk_model::List;
 use fk_pointers::{PointerFail, check_links};
+use fk_reading::{
+    Fail, read_below, read_byte, read_link, read_objects, read_pages, read_u16, read_u32, refused,
+};
 use std::alloc::Global;
 
 /// The first space, which is the subtree's root.
-#[tactic(auto, unfolding(fk_spelling::specs::Reading::first_at))]
-fn first_at(alloc: Global, bytes: &[u8]) -> Result<(SpaceRec, &[u8]), Fail>
-    ensures { Gives (λ x. (x.0, x.1.now)) result (words.first_at bytes.now) }
+#[tactic(auto, unfolding(fk_spelling::specs::Reading::read_first))]
+fn read_first(alloc: Global, bytes: &[u8]) -> Result<(SpaceRec, &[u8]), Fail>
+    ensures { Decodes (λ x. (x.0, x.1.now)) result (words.read_first bytes.now) }
 {
-    let (parent, behind_parent) = u32_at(bytes)?;
+    let (parent, behind_parent) = read_u32(bytes)?;
     if parent != u32::MAX {
         return Err(refused(bytes, 5));
     }
-    let (slot, behind_slot) = byte_at(behind_parent)?;
+    let (slot, behind_slot) = read_byte(behind_parent)?;
     if slot != 0 {
         return Err(refused(behind_parent, 5));
     }
-    let (tag, rest) = byte_at(behind_slot)?;
+    let (tag, rest) = read_byte(behind_slot)?;
     if tag != 0 {
         return Err(refused(behind_slot, 5));
     }
-    let (objects, rest) = objects_at(alloc, rest)?;
-    let (pages, rest) = pages_at(alloc, rest)?;
+    let (objects, rest) = read_objects(alloc, rest)?;
+    let (pages, rest) = read_pages(alloc, rest)?;
     let space = SpaceRec {
         parent,
         slot,
@@ -47,9 +49,9 @@ fn first_at(alloc: Global, bytes: &[u8]) -> Result<(SpaceRec, &[u8]), Fail>
 }
 
 /// The lowest slot under a parent in which a space may follow.
-#[tactic(auto, unfolding(fk_spelling::specs::Reading::room_at))]
-fn room_at(path: &mut Path, parent: u32, bytes: &[u8]) -> Result<u16, Fail>
-    ensures room { Gives (λ x. x) result (words.room_at path.old parent bytes.now) }
+#[tactic(auto, unfolding(fk_spelling::specs::Reading::read_room))]
+fn read_room(path: &mut Path, parent: u32, bytes: &[u8]) -> Result<u16, Fail>
+    ensures room { Decodes (λ x. x) result (words.read_room path.old parent bytes.now) }
     ensures path { IfOk result (λ _. path.new ≡ preorder.from parent path.old) }
 {
     match room_under(path, parent)? {
@@ -59,28 +61,28 @@ fn room_at(path: &mut Path, parent: u32, bytes: &[u8]) -> Result<u16, Fail>
 }
 
 /// A space behind others.
-#[tactic(auto, unfolding(fk_spelling::specs::Reading::next_at))]
-fn next_at<'a>(
+#[tactic(auto, unfolding(fk_spelling::specs::Reading::read_next))]
+fn read_next<'a>(
     alloc: Global,
     done: &[SpaceRec],
     path: &mut Path,
     bytes: &'a [u8],
 ) -> Result<(SpaceRec, &'a [u8]), Fail>
-    ensures read { Gives (λ x. (x.0, x.1.now)) result (words.next_at done.now path.old bytes.now) }
+    ensures read { Decodes (λ x. (x.0, x.1.now)) result (words.read_next done.now path.old bytes.now) }
     ensures path { IfOk result (λ x. path.new ≡ preorder.from x.0.parent path.old) }
 {
-    let (parent, rest) = u32_at(bytes)?;
-    let floor = room_at(path, parent, bytes)?;
-    let (slot, rest) = below_at(240, rest)?;
+    let (parent, rest) = read_u32(bytes)?;
+    let floor = read_room(path, parent, bytes)?;
+    let (slot, rest) = read_below(240, rest)?;
     if u16::from(slot) < floor {
         return Err(refused(bytes, 4));
     }
-    if kind_at(done, parent, slot).is_some() {
+    if kind_in_space(done, parent, slot).is_some() {
         return Err(refused(bytes, 4));
     }
-    let (holder, rest) = link_at(rest)?;
-    let (objects, rest) = objects_at(alloc, rest)?;
-    let (pages, rest) = pages_at(alloc, rest)?;
+    let (holder, rest) = read_link(rest)?;
+    let (objects, rest) = read_objects(alloc, rest)?;
+    let (pages, rest) = read_pages(alloc, rest)?;
     let space = SpaceRec {
         parent,
         slot,
@@ -91,8 +93,8 @@ fn next_at<'a>(
     Ok((space, rest))
 }
 
-#[tactic(auto, unfolding(fk_spelling::specs::Reading::space_at))]
-fn space_at<'a>(
+#[tactic(auto, unfolding(fk_spelling::specs::Reading::read_space))]
+fn read_space<'a>(
     alloc: Global,
     done: &[SpaceRec],
     number: u32,
@@ -100,13 +102,13 @@ fn space_at<'a>(
     bytes: &'a [u8],
 ) -> Result<(SpaceRec, &'a [u8]), Fail>
     requires { number ≡ length done.now }
-    ensures read { Gives (λ x. (x.0, x.1.now)) result (words.space_at (done.now, path.old) bytes.now) }
+    ensures read { Decodes (λ x. (x.0, x.1.now)) result (words.read_space (done.now, path.old) bytes.now) }
     ensures path { IfOk result (λ x. path.new ≡ preorder.path_after done.now x.0 path.old) }
 {
     match done {
-        [] => first_at(alloc, bytes),
+        [] => read_first(alloc, bytes),
         [_, ..] => {
-            let (space, rest) = next_at(alloc, done, path, bytes)?;
+            let (space, rest) = read_next(alloc, done, path, bytes)?;
             enter(path, number, space.slot)?;
             Ok((space, rest))
         }
@@ -114,15 +116,15 @@ fn space_at<'a>(
 }
 
 #[tactic(auto, using(crate::proofs::Loops::spaces))]
-fn spaces_at(alloc: Global, count: u32, bytes: &[u8]) -> Result<(List<SpaceRec>, &[u8]), Fail>
-    ensures { Gives (λ x. (x.0, x.1.now)) result (many words.space_at after_space count ([], root_path) [] bytes.now) }
+fn read_spaces(alloc: Global, count: u32, bytes: &[u8]) -> Result<(List<SpaceRec>, &[u8]), Fail>
+    ensures { Decodes (λ x. (x.0, x.1.now)) result (read_many words.read_space after_space count ([], root_path) [] bytes.now) }
 {
     let mut spaces = List::new(alloc);
     let mut path = Path::new(alloc);
     path.push(Open { space: 0, floor: 0 })?;
     let mut rest = bytes;
     for number in 0..count {
-        let (space, after) = space_at(alloc, spaces.as_slice(), number, &mut path, rest)?;
+        let (space, after) = read_space(alloc, spaces.as_slice(), number, &mut path, rest)?;
         spaces.push(space)?;
         rest = after;
     }
@@ -130,9 +132,9 @@ fn spaces_at(alloc: Global, count: u32, bytes: &[u8]) -> Result<(List<SpaceRec>,
 }
 
 /// The magic, the version and the number of spaces.
-#[tactic(auto, unfolding(fk_spelling::specs::Reading::head_at))]
-fn head_at(bytes: &[u8]) -> Result<(u32, &[u8]), Fail>
-    ensures { Gives (λ x. (x.0, x.1.now)) result (words.head_at bytes.now) }
+#[tactic(auto, unfolding(fk_spelling::specs::Reading::read_head))]
+fn read_head(bytes: &[u8]) -> Result<(u32, &[u8]), Fail>
+    ensures { Decodes (λ x. (x.0, x.1.now)) result (words.read_head bytes.now) }
 {
     if bytes.len() < 8 {
         return Err(refused(bytes, 3));
@@ -141,23 +143,23 @@ fn head_at(bytes: &[u8]) -> Result<(u32, &[u8]), Fail>
     if front != b"FLUKEIMG".as_slice() {
         return Err(refused(bytes, 1));
     }
-    let (version, behind_version) = u16_at(behind_magic)?;
+    let (version, behind_version) = read_u16(behind_magic)?;
     if version != 1 {
         return Err(refused(behind_magic, 2));
     }
-    let (count, rest) = u32_at(behind_version)?;
+    let (count, rest) = read_u32(behind_version)?;
     if count == 0 {
         return Err(refused(behind_version, 5));
     }
     Ok((count, rest))
 }
 
-#[tactic(auto, unfolding(fk_spelling::specs::Reading::image_at))]
-fn image_at(alloc: Global, bytes: &[u8]) -> Result<Image, Fail>
-    ensures { Gives (λ x. x) result (words.image_at bytes.now) }
+#[tactic(auto, unfolding(fk_spelling::specs::Reading::read_image))]
+fn read_image(alloc: Global, bytes: &[u8]) -> Result<Image, Fail>
+    ensures { Decodes (λ x. x) result (words.read_image bytes.now) }
 {
-    let (count, rest) = head_at(bytes)?;
-    let (spaces, rest) = spaces_at(alloc, count, rest)?;
+    let (count, rest) = read_head(bytes)?;
+    let (spaces, rest) = read_spaces(alloc, count, rest)?;
     if !rest.is_empty() {
         return Err(refused(rest, 7));
     }
@@ -175,11 +177,11 @@ fn led(alloc: Global, image: Image) -> Result<Image, ReadFail>
     }
 }
 
-#[tactic(auto, unfolding(fk_spelling::specs::Reading::reading))]
+#[tactic(auto, unfolding(fk_spelling::specs::Reading::image_reading))]
 fn checked_image(alloc: Global, bytes: &[u8]) -> Result<Image, ReadFail>
-    ensures { Reads result (words.reading bytes.now) }
+    ensures { Reads result (words.image_reading bytes.now) }
 {
-    match image_at(alloc, bytes) {
+    match read_image(alloc, bytes) {
         Err(Fail::NoMemory) => Err(ReadFail::NoMemory),
         Err(Fail::At(stop)) => Err(ReadFail::Image(ImageError {
             offset: bytes.len().saturating_sub(stop.left) as u64,
@@ -193,11 +195,11 @@ fn checked_image(alloc: Global, bytes: &[u8]) -> Result<Image, ReadFail>
 /// the offset of the first fault and its reason, where they spell no image.
 pub fn read(alloc: Global, bytes: &[u8]) -> Result<Image, ReadFail>
     // What is read is spelled so, and valid.
-    ensures found { IfOk result (λ i. Spells bytes.now i) }
+    ensures found { IfOk result (λ i. SpellsImage bytes.now i) }
     // The image that they spell is read, unless memory runs out.
-    ensures only { (i : Image) → Spells bytes.now i → Reads result (Ok i) }
+    ensures only { (i : Image) → SpellsImage bytes.now i → Reads result (Ok i) }
     // Else it is the first fault.
-    ensures exact { Reads result (words.reading bytes.now) }
+    ensures exact { Reads result (words.image_reading bytes.now) }
 {
     checked_image(alloc, bytes)
 }

@@ -5,7 +5,7 @@ use Rattle.std.proofs.lemmas.List.{take_more, append-nil}
 use Rattle.std.proofs.lemmas.List.Folds.{list_any-append}
 use Rattle.std.proofs.lemmas.List.Concat.{flat_map-append, flat_map-cons}
 use Rattle.fk_image.specs.declared.image.Link.{Link}
-use Rattle.fk_image.specs.Outs.{Marks, is_out}
+use Rattle.fk_image.specs.Outs.{Marks, leads_out_at}
 
 or-assoc : (a b c : Bool) → ((a || b) || c) ≡ (a || (b || c))
 or-assoc true b c = refl
@@ -14,9 +14,9 @@ or-assoc false b c = refl
 pub marks_then : (a b c : List Bool) (xs ys : List Link) → Marks a b xs → Marks b c ys → Marks a c (xs ++ ys)
 marks_then a b c xs ys p q = λ slot lt.
     q slot lt
-    ∙ ap (λ (u : Bool). u || list_any (is_out slot) ys) (p slot lt)
-    ∙ or-assoc (get_or a slot false) (list_any (is_out slot) xs) (list_any (is_out slot) ys)
-    ∙ ap (λ (u : Bool). get_or a slot false || u) (sym (list_any-append (is_out slot) xs ys))
+    ∙ ap (λ (u : Bool). u || list_any (leads_out_at slot) ys) (p slot lt)
+    ∙ or-assoc (get_or a slot false) (list_any (leads_out_at slot) xs) (list_any (leads_out_at slot) ys)
+    ∙ ap (λ (u : Bool). get_or a slot false || u) (sym (list_any-append (leads_out_at slot) xs ys))
 
 pub marks_more : {X : Type 0} (f : X → List Link) (xs : List X) (i : ℕ) (x : X) (a b c : List Bool) →
     i < length xs → x ≡ get_or xs i x → Marks a b (flat_map f (take i xs)) → Marks b c (f x)

@@ -3,7 +3,7 @@ use Rattle.std.proofs.Common.{◌≡◌, ℕ, zero, suc, ◌+◌, ◌<◌, ◌�
 use Rattle.std.proofs.lemmas.Bool.{ne_eqb, eq-eqb, leb-true, le-leb, cases_lt}
 use Rattle.std.proofs.lemmas.List.{get_or_default}
 use Rattle.fk_image.specs.declared.image.ObjectRec.{ObjectRec}
-use Rattle.fk_image.specs.Objects.{rises, next_slot, kind_of, kind_in}
+use Rattle.fk_image.specs.Objects.{rises, next_slot, kind_of_rec, kind_in}
 
 abbrev pub Up : ℕ → List ObjectRec → Type 0
 Up floor [] = Unit {0}
@@ -46,7 +46,7 @@ ordered floor (o ∷ os) (suc i) zero d rise le lt = absurd (omega arith)
 ordered floor (o ∷ os) (suc i) (suc j) d rise le lt = ordered (o.slot + 1) os i j d rise.1 (omega arith) (omega arith)
 
 pub here : (floor : ℕ) (os : List ObjectRec) (i : ℕ) (d : ObjectRec) (slot : ℕ) →
-    Up floor os → i < length os → (get_or os i d).slot ≡ slot → Some (kind_of (get_or os i d).body) ≡ kind_in os slot
+    Up floor os → i < length os → (get_or os i d).slot ≡ slot → Some (kind_of_rec (get_or os i d).body) ≡ kind_in os slot
 unfolding kind_in
 here floor [] i d slot rise lt e = absurd (omega arith)
 here floor (o ∷ os) zero d slot rise lt e = rw (eq-eqb o.slot slot e) refl

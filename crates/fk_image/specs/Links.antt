@@ -12,13 +12,13 @@ use Rattle.fk_image.specs.declared.image.Rec.TheVariants.{Mutex, Cond, Portset, 
 use Rattle.fk_image.specs.declared.image.ObjectRec.{ObjectRec}
 use Rattle.fk_image.specs.declared.image.SpaceRec.{SpaceRec}
 use Rattle.fk_image.specs.Objects.{kind_in}
-use Rattle.fk_image.specs.Preorder.{run}
+use Rattle.fk_image.specs.Preorder.{run_beneath}
 
 -- ---- what lies where
 
 -- the kind of the object in a slot of the space with a number
-abbrev pub kind_at : List SpaceRec → ℕ → ℕ → Option Kind
-kind_at spaces space slot = elim (slice_get spaces space) [
+abbrev pub kind_in_space : List SpaceRec → ℕ → ℕ → Option Kind
+kind_in_space spaces space slot = elim (slice_get spaces space) [
   | None ↦ None
   | Some s ↦ kind_in s.objects slot
 ]
@@ -27,34 +27,34 @@ kind_at spaces space slot = elim (slice_get spaces space) [
 abbrev pub lies_in : ℕ → ℕ → SpaceRec → Bool
 lies_in space slot s = s.parent == space && s.slot == slot
 
-unfoldable pub has_space : List SpaceRec → ℕ → ℕ → Bool
-has_space spaces space slot = list_any (lies_in space slot) (drop 1 spaces)
+unfoldable pub has_space_at : List SpaceRec → ℕ → ℕ → Bool
+has_space_at spaces space slot = list_any (lies_in space slot) (drop 1 spaces)
 
 -- the number behind those of a space and of all beneath it
 unfoldable pub end_of : List SpaceRec → ℕ → ℕ
-end_of spaces space = space + 1 + run space (drop (space + 1) spaces)
+end_of spaces space = space + 1 + run_beneath space (drop (space + 1) spaces)
 
 -- the second space is the first or lies beneath it
-abbrev pub is_within : List SpaceRec → ℕ → ℕ → Bool
-is_within spaces space other = nat_le space other && nat_lt other (end_of spaces space)
+abbrev pub is_space_within : List SpaceRec → ℕ → ℕ → Bool
+is_space_within spaces space other = nat_le space other && nat_lt other (end_of spaces space)
 
 -- ---- kinds
 
-abbrev pub is_thread : Option Kind → Bool
-is_thread (Some kinds.Thread) = true
-is_thread other = false
+abbrev pub is_thread_kind : Option Kind → Bool
+is_thread_kind (Some kinds.Thread) = true
+is_thread_kind other = false
 
-abbrev pub is_portset : Option Kind → Bool
-is_portset (Some kinds.Portset) = true
-is_portset other = false
+abbrev pub is_portset_kind : Option Kind → Bool
+is_portset_kind (Some kinds.Portset) = true
+is_portset_kind other = false
 
-abbrev pub is_region : Option Kind → Bool
-is_region (Some kinds.Region) = true
-is_region other = false
+abbrev pub is_region_kind : Option Kind → Bool
+is_region_kind (Some kinds.Region) = true
+is_region_kind other = false
 
-abbrev pub is_port : Option Kind → Bool
-is_port (Some kinds.Port) = true
-is_port other = false
+abbrev pub is_port_kind : Option Kind → Bool
+is_port_kind (Some kinds.Port) = true
+is_port_kind other = false
 
 -- what a reference may lead to, besides spaces
 abbrev pub is_referable : Option Kind → Bool
@@ -67,63 +67,63 @@ is_referable other = false
 -- ---- what each field may hold
 
 -- a space's holder isn't in or beneath it
-abbrev pub holds : List SpaceRec → ℕ → Link → Bool
-holds spaces space Null = true
-holds spaces space (In other slot) = is_thread (kind_at spaces other slot) && not (is_within spaces space other)
-holds spaces space other = false
+abbrev pub may_hold : List SpaceRec → ℕ → Link → Bool
+may_hold spaces space Null = true
+may_hold spaces space (In other slot) = is_thread_kind (kind_in_space spaces other slot) && not (is_space_within spaces space other)
+may_hold spaces space other = false
 
 abbrev pub leads_to_region : List SpaceRec → Link → Bool
 leads_to_region spaces Null = true
 leads_to_region spaces Dead = true
-leads_to_region spaces (In space slot) = is_region (kind_at spaces space slot)
+leads_to_region spaces (In space slot) = is_region_kind (kind_in_space spaces space slot)
 leads_to_region spaces other = false
 
 abbrev pub leads_to_keeper : List SpaceRec → Link → Bool
 leads_to_keeper spaces Null = true
 leads_to_keeper spaces Dead = true
 leads_to_keeper spaces (Out slot) = true
-leads_to_keeper spaces (In space slot) = is_port (kind_at spaces space slot)
+leads_to_keeper spaces (In space slot) = is_port_kind (kind_in_space spaces space slot)
 leads_to_keeper spaces other = false
 
-abbrev pub refers : List SpaceRec → Link → Bool
-refers spaces (In space slot) = is_referable (kind_at spaces space slot) || has_space spaces space slot
-refers spaces Outside = false
-refers spaces other = true
+abbrev pub may_refer : List SpaceRec → Link → Bool
+may_refer spaces (In space slot) = is_referable (kind_in_space spaces space slot) || has_space_at spaces space slot
+may_refer spaces Outside = false
+may_refer spaces other = true
 
 -- the port of a talk or a fault
 abbrev pub leads_to_port : List SpaceRec → Link → Bool
 leads_to_port spaces (Out slot) = true
-leads_to_port spaces (In space slot) = is_port (kind_at spaces space slot)
+leads_to_port spaces (In space slot) = is_port_kind (kind_in_space spaces space slot)
 leads_to_port spaces other = false
 
-abbrev pub is_outside : Link → Bool
-is_outside Outside = true
-is_outside other = false
+abbrev pub is_outside_link : Link → Bool
+is_outside_link Outside = true
+is_outside_link other = false
 
 -- a thread of that space
 abbrev pub is_thread_in : List SpaceRec → ℕ → Link → Bool
-is_thread_in spaces space (In other slot) = other == space && is_thread (kind_at spaces other slot)
+is_thread_in spaces space (In other slot) = other == space && is_thread_kind (kind_in_space spaces other slot)
 is_thread_in spaces space other = false
 
 -- who serves a talk, or took a fault, at a port: a thread of the port's space, or a peer outside where the port is
-abbrev pub serves : List SpaceRec → Link → Link → Bool
-serves spaces (Out slot) peer = is_outside peer
-serves spaces (In space slot) peer = is_thread_in spaces space peer
-serves spaces other peer = false
+abbrev pub serves_port : List SpaceRec → Link → Link → Bool
+serves_port spaces (Out slot) peer = is_outside_link peer
+serves_port spaces (In space slot) peer = is_thread_in spaces space peer
+serves_port spaces other peer = false
 
 -- a port's set is a port set of its space
 abbrev pub is_set_of : List ObjectRec → ℕ → Bool
-is_set_of objects set = set == 0 || is_portset (kind_in objects (set - 1))
+is_set_of objects set = set == 0 || is_portset_kind (kind_in objects (set - 1))
 
 -- ---- objects and spaces
 
 abbrev pub talk_leads : List SpaceRec → Option TalkRec → Bool
 talk_leads spaces None = true
-talk_leads spaces (Some talk) = leads_to_port spaces talk.port && serves spaces talk.port talk.server
+talk_leads spaces (Some talk) = leads_to_port spaces talk.port && serves_port spaces talk.port talk.server
 
 abbrev pub taker_leads : List SpaceRec → Link → Option Link → Bool
 taker_leads spaces port None = true
-taker_leads spaces port (Some taker) = serves spaces port taker
+taker_leads spaces port (Some taker) = serves_port spaces port taker
 
 abbrev pub fault_leads : List SpaceRec → Option FaultRec → Bool
 fault_leads spaces None = true
@@ -134,13 +134,13 @@ body_leads spaces objects (Mapping first count offset write region) = leads_to_r
 body_leads spaces objects (Region first count write keeper) = leads_to_keeper spaces keeper
 body_leads spaces objects (Port set) = is_set_of objects set
 body_leads spaces objects (Thread t) = talk_leads spaces t.talk && fault_leads spaces t.fault
-body_leads spaces objects (Reference to) = refers spaces to
+body_leads spaces objects (Reference to) = may_refer spaces to
 body_leads spaces objects (Mutex locked) = true
 body_leads spaces objects Cond = true
 body_leads spaces objects Portset = true
 
 abbrev pub space_leads : List SpaceRec → ℕ → SpaceRec → Bool
-space_leads spaces number s = holds spaces number s.holder && list_all (λ (o : ObjectRec). body_leads spaces s.objects o.body) s.objects
+space_leads spaces number s = may_hold spaces number s.holder && list_all (λ (o : ObjectRec). body_leads spaces s.objects o.body) s.objects
 
 -- the same for each space from a number on
 abbrev pub spaces_lead : List SpaceRec → ℕ → List SpaceRec → Bool
@@ -175,13 +175,13 @@ object_peers o = body_peers o.body
 abbrev pub space_peers : SpaceRec → List (ℕ × ℕ)
 space_peers s = flat_map object_peers s.objects
 
-abbrev pub is_place : ℕ × ℕ → ℕ × ℕ → Bool
-is_place a b = b.0 == a.0 && b.1 == a.1
+abbrev pub is_same_place : ℕ × ℕ → ℕ × ℕ → Bool
+is_same_place a b = b.0 == a.0 && b.1 == a.1
 
 -- none is among those seen before it
 abbrev pub are_fresh : List (ℕ × ℕ) → List (ℕ × ℕ) → Bool
 are_fresh seen [] = true
-are_fresh seen (p ∷ ps) = not (list_any (is_place p) seen) && are_fresh (p ∷ seen) ps
+are_fresh seen (p ∷ ps) = not (list_any (is_same_place p) seen) && are_fresh (p ∷ seen) ps
 
 -- Each pointer leads to what its field may hold, and no thread serves or took twice.
 abbrev pub all_lead : List SpaceRec → Bool

@@ -17,17 +17,17 @@ next_slot [] = 0
 next_slot (o ∷ []) = o.slot + 1
 next_slot (o ∷ p ∷ os) = next_slot (p ∷ os)
 
-abbrev pub kind_of : Rec → Kind
-kind_of (Mutex locked) = kinds.Mutex
-kind_of Cond = kinds.Cond
-kind_of Portset = kinds.Portset
-kind_of (Mapping first count offset write region) = kinds.Mapping
-kind_of (Region first count write keeper) = kinds.Region
-kind_of (Port set) = kinds.Port
-kind_of (Thread t) = kinds.Thread
-kind_of (Reference to) = kinds.Reference
+abbrev pub kind_of_rec : Rec → Kind
+kind_of_rec (Mutex locked) = kinds.Mutex
+kind_of_rec Cond = kinds.Cond
+kind_of_rec Portset = kinds.Portset
+kind_of_rec (Mapping first count offset write region) = kinds.Mapping
+kind_of_rec (Region first count write keeper) = kinds.Region
+kind_of_rec (Port set) = kinds.Port
+kind_of_rec (Thread t) = kinds.Thread
+kind_of_rec (Reference to) = kinds.Reference
 
 -- the kind of the object in a slot
 unfoldable pub kind_in : List ObjectRec → ℕ → Option Kind
 kind_in [] slot = None
-kind_in (o ∷ os) slot = if o.slot == slot then Some (kind_of o.body) else kind_in os slot
+kind_in (o ∷ os) slot = if o.slot == slot then Some (kind_of_rec o.body) else kind_in os slot

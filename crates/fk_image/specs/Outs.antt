@@ -43,10 +43,10 @@ links i = flat_map space_links i.spaces
 
 -- ---- where they lead
 
-abbrev pub is_out : ℕ → Link → Bool
-is_out slot (Out other) = other == slot
-is_out slot to = false
+abbrev pub leads_out_at : ℕ → Link → Bool
+leads_out_at slot (Out other) = other == slot
+leads_out_at slot to = false
 
 -- what is marked of the 240 slots once these pointers are looked at
 abbrev pub Marks : List Bool → List Bool → List Link → Type 0
-Marks old new to = (slot : ℕ) → slot < 240 → get_or new slot false ≡ (get_or old slot false || list_any (is_out slot) to)
+Marks old new to = (slot : ℕ) → slot < 240 → get_or new slot false ≡ (get_or old slot false || list_any (leads_out_at slot) to)

@@ -32,9 +32,9 @@ abbrev pub child : List SpaceRec → ℕ → ℕ → Option ℕ
 child spaces space slot = child_from 1 (drop 1 spaces) space slot
 
 -- the number of the space at a path
-unfoldable pub number_at : List SpaceRec → Path → Option ℕ
-number_at spaces [] = Some 0
-number_at spaces (slot ∷ x) = and_then (λ space. child spaces space slot) (number_at spaces x)
+unfoldable pub space_number : List SpaceRec → Path → Option ℕ
+space_number spaces [] = Some 0
+space_number spaces (slot ∷ x) = and_then (λ space. child spaces space slot) (space_number spaces x)
 
 -- the path of the space with a number, at most so many spaces deep
 unfoldable pub path_within : ℕ → List SpaceRec → ℕ → Path
@@ -45,85 +45,85 @@ path_within (suc depth) spaces number = if number == 0 then [] else elim (slice_
 ]
 
 -- a space's number is above its parent's, so it is no deeper than its number
-abbrev pub path_of : List SpaceRec → ℕ → Path
-path_of spaces number = path_within number spaces number
+abbrev pub space_path : List SpaceRec → ℕ → Path
+space_path spaces number = path_within number spaces number
 
 -- ---- pointers and objects
 
 abbrev pub ptr : List SpaceRec → Link → Ptr
 ptr spaces Null = ptrs.Null
 ptr spaces Dead = ptrs.Dead
-ptr spaces (In space slot) = ptrs.At (slot ∷ path_of spaces space)
+ptr spaces (In space slot) = ptrs.At (slot ∷ space_path spaces space)
 ptr spaces (Out slot) = ptrs.Out slot
 ptr spaces Root = ptrs.At []
 ptr spaces Outside = ptrs.Outside
 
-abbrev pub holder : List SpaceRec → Link → Option Ptr
-holder spaces Null = None
-holder spaces to = Some (ptr spaces to)
+abbrev pub pictured_holder : List SpaceRec → Link → Option Ptr
+pictured_holder spaces Null = None
+pictured_holder spaces to = Some (ptr spaces to)
 
-abbrev pub calling : List ℕ → Option (List Stage) → Mode
-calling regs None = modes.Running regs
-calling regs (Some todo) = modes.Calling todo (rest_of todo regs)
+abbrev pub mode_while_calling : List ℕ → Option (List Stage) → Mode
+mode_while_calling regs None = modes.Running regs
+mode_while_calling regs (Some todo) = modes.Calling todo (rest_of todo regs)
 
 -- 0 running, 1 calling, 2 halted
 abbrev pub mode : List ℕ → ℕ → ℕ → Mode
-mode regs number code = if number == 0 then modes.Running regs else if number == 1 then calling regs (todo_of regs) else modes.Halted regs code
+mode regs number code = if number == 0 then modes.Running regs else if number == 1 then mode_while_calling regs (todo_of regs) else modes.Halted regs code
 
-abbrev pub talk : List SpaceRec → TalkRec → Talk
-talk spaces t = record {
+abbrev pub pictured_talk : List SpaceRec → TalkRec → Talk
+pictured_talk spaces t = record {
   port = ptr spaces t.port;
   peer = peers.Server (ptr spaces t.server);
   turn = if t.turn == 1 then turns.Client else turns.Server;
   moved = t.moved;
 }
 
-abbrev pub fault : List SpaceRec → FaultRec → Fault
-fault spaces f = record { page = f.page; write = f.write == 1; port = ptr spaces f.port; taker = option_map (λ to. peers.Server (ptr spaces to)) f.taker }
+abbrev pub pictured_fault : List SpaceRec → FaultRec → Fault
+pictured_fault spaces f = record { page = f.page; write = f.write == 1; port = ptr spaces f.port; taker = option_map (λ to. peers.Server (ptr spaces to)) f.taker }
 
-abbrev pub thread : List SpaceRec → ThreadRec → ThreadState
-thread spaces t = record {
+abbrev pub pictured_thread : List SpaceRec → ThreadRec → ThreadState
+pictured_thread spaces t = record {
   mode = mode t.regs t.mode t.code;
   counter = t.pc;
   stops = t.stops;
-  talk = option_map (talk spaces) t.talk;
-  fault = option_map (fault spaces) t.fault;
+  talk = option_map (pictured_talk spaces) t.talk;
+  fault = option_map (pictured_fault spaces) t.fault;
 }
 
-abbrev pub body : List SpaceRec → Rec → Body
-body spaces (Mutex locked) = bodies.Mutex (locked == 1)
-body spaces Cond = bodies.Cond
-body spaces Portset = bodies.Portset
-body spaces (Mapping first count offset write region) =
+abbrev pub pictured_body : List SpaceRec → Rec → Body
+pictured_body spaces (Mutex locked) = bodies.Mutex (locked == 1)
+pictured_body spaces Cond = bodies.Cond
+pictured_body spaces Portset = bodies.Portset
+pictured_body spaces (Mapping first count offset write region) =
     bodies.Mapping (record { first = first; count = count; offset = offset; write = write == 1; region = ptr spaces region })
-body spaces (Region first count write keeper) = bodies.Region (record { first = first; count = count; write = write == 1; keeper = ptr spaces keeper })
-body spaces (Port set) = bodies.Port (member_by set) false
-body spaces (Thread t) = bodies.Thread_of (thread spaces t)
-body spaces (Reference to) = bodies.Reference (ptr spaces to)
+pictured_body spaces (Region first count write keeper) = bodies.Region (record { first = first; count = count; write = write == 1; keeper = ptr spaces keeper })
+pictured_body spaces (Port set) = bodies.Port (member_by set) false
+pictured_body spaces (Thread t) = bodies.Thread_of (pictured_thread spaces t)
+pictured_body spaces (Reference to) = bodies.Reference (ptr spaces to)
 
 -- ---- what lies where
 
-unfoldable pub object_in : List ObjectRec → ℕ → Option Rec
-object_in [] slot = None
-object_in (o ∷ os) slot = if o.slot == slot then Some o.body else object_in os slot
+unfoldable pub rec_in : List ObjectRec → ℕ → Option Rec
+rec_in [] slot = None
+rec_in (o ∷ os) slot = if o.slot == slot then Some o.body else rec_in os slot
 
 unfoldable pub page_in : List PageRec → ℕ → Option (List ℕ)
 page_in [] page = None
 page_in (p ∷ ps) page = if p.page == page then Some p.words else page_in ps page
 
 -- an object in a slot of the space with a number, or a space there
-abbrev pub body_in : List SpaceRec → ℕ → ℕ → Option Body
-body_in spaces space slot =
-    or_else (and_then (λ (s : SpaceRec). option_map (body spaces) (object_in s.objects slot)) (slice_get spaces space))
-    (and_then (λ number. option_map (λ (s : SpaceRec). bodies.Space 0 (holder spaces s.holder)) (slice_get spaces number)) (child spaces space slot))
+abbrev pub pictured_body_in : List SpaceRec → ℕ → ℕ → Option Body
+pictured_body_in spaces space slot =
+    or_else (and_then (λ (s : SpaceRec). option_map (pictured_body spaces) (rec_in s.objects slot)) (slice_get spaces space))
+    (and_then (λ number. option_map (λ (s : SpaceRec). bodies.Space 0 (pictured_holder spaces s.holder)) (slice_get spaces number)) (child spaces space slot))
 
-abbrev pub body_at : List SpaceRec → Path → Option Body
-body_at spaces [] = Some (bodies.Space 0 None)
-body_at spaces (slot ∷ x) = and_then (λ space. body_in spaces space slot) (number_at spaces x)
+abbrev pub pictured_body_at : List SpaceRec → Path → Option Body
+pictured_body_at spaces [] = Some (bodies.Space 0 None)
+pictured_body_at spaces (slot ∷ x) = and_then (λ space. pictured_body_in spaces space slot) (space_number spaces x)
 
-abbrev pub page_at : List SpaceRec → Path → ℕ → Option (List ℕ)
-page_at spaces x page = and_then (λ space. and_then (λ (s : SpaceRec). page_in s.pages page) (slice_get spaces space)) (number_at spaces x)
+abbrev pub pictured_page_at : List SpaceRec → Path → ℕ → Option (List ℕ)
+pictured_page_at spaces x page = and_then (λ space. and_then (λ (s : SpaceRec). page_in s.pages page) (slice_get spaces space)) (space_number spaces x)
 
 -- the world of the subtree alone
 unfoldable pub picture : Image → World
-picture i = record { body = body_at i.spaces; page = page_at i.spaces; next = 0 }
+picture i = record { body = pictured_body_at i.spaces; page = pictured_page_at i.spaces; next = 0 }

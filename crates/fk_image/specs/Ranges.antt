@@ -13,8 +13,8 @@ use Rattle.fk_image.specs.declared.image.Rec.TheVariants.{Mutex, Cond, Portset, 
 abbrev pub is_slot : ℕ → Bool
 is_slot n = nat_lt n 240
 
-abbrev pub is_flag : ℕ → Bool
-is_flag n = nat_lt n 2
+abbrev pub is_bit : ℕ → Bool
+is_bit n = nat_lt n 2
 
 abbrev pub is_byte : ℕ → Bool
 is_byte n = nat_lt n 256
@@ -34,8 +34,8 @@ fits_link Root = true
 fits_link Outside = true
 
 -- 0, or 1 and a slot
-abbrev pub is_member : ℕ → Bool
-is_member set = nat_lt set 241
+abbrev pub is_set_word : ℕ → Bool
+is_set_word set = nat_lt set 241
 
 -- so many pages from a first one on, which a space can have
 abbrev pub is_extent : ℕ → ℕ → Bool
@@ -46,8 +46,8 @@ abbrev pub is_call_code : ℕ → Bool
 is_call_code n = nat_le 1 n && nat_le n 27 || nat_le 32 n && nat_le n 39 || nat_le 48 n && nat_le n 56 || nat_le 60 n && nat_le n 65
 
 -- running, calling or halted; a calling thread's first register has the code of a call
-abbrev pub is_mode : List ℕ → ℕ → Bool
-is_mode regs mode = mode == 0 || mode == 2 || mode == 1 && is_call_code (slice_index regs 0)
+abbrev pub is_mode_byte : List ℕ → ℕ → Bool
+is_mode_byte regs mode = mode == 0 || mode == 2 || mode == 1 && is_call_code (slice_index regs 0)
 
 -- a thread that hasn't halted has no halt code
 abbrev pub is_code : ℕ → ℕ → Bool
@@ -70,20 +70,20 @@ fits_taker (Some taker) = fits_link taker
 
 abbrev pub fits_fault : Option FaultRec → Bool
 fits_fault None = true
-fits_fault (Some fault) = is_byte fault.page && is_flag fault.write && fits_link fault.port && fits_taker fault.taker
+fits_fault (Some fault) = is_byte fault.page && is_bit fault.write && fits_link fault.port && fits_taker fault.taker
 
 abbrev pub fits_thread : ThreadRec → Bool
 fits_thread t =
     are_words 16 t.regs
-    && is_word t.pc && is_mode t.regs t.mode && is_byte t.code && is_code t.mode t.code && is_half t.stops && fits_talk t.talk && fits_fault t.fault
+    && is_word t.pc && is_mode_byte t.regs t.mode && is_byte t.code && is_code t.mode t.code && is_half t.stops && fits_talk t.talk && fits_fault t.fault
 
 abbrev pub fits_body : Rec → Bool
-fits_body (Mutex locked) = is_flag locked
+fits_body (Mutex locked) = is_bit locked
 fits_body Cond = true
 fits_body Portset = true
 fits_body (Mapping first count offset write region) =
-    is_byte first && is_half count && is_extent first count && is_byte offset && is_flag write && fits_link region
-fits_body (Region first count write keeper) = is_byte first && is_half count && is_extent first count && is_flag write && fits_link keeper
-fits_body (Port set) = is_member set
+    is_byte first && is_half count && is_extent first count && is_byte offset && is_bit write && fits_link region
+fits_body (Region first count write keeper) = is_byte first && is_half count && is_extent first count && is_bit write && fits_link keeper
+fits_body (Port set) = is_set_word set
 fits_body (Thread t) = fits_thread t
 fits_body (Reference to) = fits_link to

@@ -9,7 +9,7 @@ use Rattle.fk_image.specs.declared.image.Image.{Image}
 use Rattle.fk_image.specs.declared.open.Open.{Open}
 use Rattle.fk_image.specs.Ranges.{is_slot, is_byte, is_half, are_words, fits_link, fits_body}
 use Rattle.fk_image.specs.Preorder.{has_room, room_under, root_path, after_space}
-use Rattle.fk_image.specs.Links.{kind_at, all_lead}
+use Rattle.fk_image.specs.Links.{kind_in_space, all_lead}
 
 -- each item fits what the items before it left
 abbrev pub all_from : {S X : Type 0} → (S → X → S) → (S → X → Bool) → S → List X → Bool
@@ -47,14 +47,14 @@ is_first s = s.parent == 4294967295 && s.slot == 0 && is_null s.holder
 abbrev pub is_next : List SpaceRec → List Open → SpaceRec → Bool
 is_next done path s =
     nat_lt s.parent (2 ^ 32)
-    && is_slot s.slot && has_room (room_under path s.parent) s.slot && not (is_some (kind_at done s.parent s.slot)) && fits_link s.holder
+    && is_slot s.slot && has_room (room_under path s.parent) s.slot && not (is_some (kind_in_space done s.parent s.slot)) && fits_link s.holder
 
-abbrev pub is_placed : List SpaceRec → List Open → SpaceRec → Bool
-is_placed [] path s = is_first s
-is_placed (d ∷ done) path s = is_next (d ∷ done) path s
+abbrev pub stands_in_order : List SpaceRec → List Open → SpaceRec → Bool
+stands_in_order [] path s = is_first s
+stands_in_order (d ∷ done) path s = is_next (d ∷ done) path s
 
 abbrev pub fits_space : List SpaceRec × List Open → SpaceRec → Bool
-fits_space before s = is_placed before.0 before.1 s && fits_objects s.objects && fits_pages s.pages
+fits_space before s = stands_in_order before.0 before.1 s && fits_objects s.objects && fits_pages s.pages
 
 abbrev pub fits_spaces : List SpaceRec → Bool
 fits_spaces spaces = nat_lt 0 (length spaces) && nat_lt (length spaces) (2 ^ 32) && all_from after_space fits_space ([], root_path) spaces

@@ -18,8 +18,10 @@ mod ranges;
 
 pub use boxed::BoxedThread;
 pub use image::{FaultRec, Image, Link, ObjectRec, PageRec, Rec, SpaceRec, TalkRec, ThreadRec};
-pub use links::{is_set_of, kind_at, leads_to_keeper, leads_to_port, leads_to_region, serves};
-pub use objects::{Objects, kind_of};
+pub use links::{
+    is_set_of, kind_in_space, leads_to_keeper, leads_to_port, leads_to_region, serves_port,
+};
+pub use objects::{Objects, kind_of_rec};
 pub use open::Open;
 pub use path::{Path, enter, room_under};
-pub use ranges::{is_code, is_extent, is_member, is_mode};
+pub use ranges::{is_code, is_extent, is_set_word, is_mode_byte};

@@ -7,8 +7,8 @@ use crate::objects::Objects;
 use fk_model::Kind;
 
 /// The kind of the object in a slot of the space with a number.
-pub fn kind_at(spaces: &[SpaceRec], space: u32, slot: u8) -> Option<Kind>
-    ensures { result ≡ words.kind_at spaces.now space slot }
+pub fn kind_in_space(spaces: &[SpaceRec], space: u32, slot: u8) -> Option<Kind>
+    ensures { result ≡ words.kind_in_space spaces.now space slot }
 {
     match spaces.get(space as usize) {
         None => None,
@@ -22,7 +22,10 @@ pub fn leads_to_region(spaces: &[SpaceRec], to: Link) -> bool
 {
     match to {
         Link::Null | Link::Dead => true,
-        Link::In { space, slot } => matches!(kind_at(spaces, space, slot), Some(Kind::Region)),
+        Link::In { space, slot } => matches!(
+            kind_in_space(spaces, space, slot),
+            Some(Kind::Region)
+        ),
         Link::Out(_) | Link::Root | Link::Outside => false,
     }
 }
@@ -33,7 +36,7 @@ pub fn leads_to_keeper(spaces: &[SpaceRec], to: Link) -> bool
 {
     match to {
         Link::Null | Link::Dead | Link::Out(_) => true,
-        Link::In { space, slot } => matches!(kind_at(spaces, space, slot), Some(Kind::Port)),
+        Link::In { space, slot } => matches!(kind_in_space(spaces, space, slot), Some(Kind::Port)),
         Link::Root | Link::Outside => false,
     }
 }
@@ -44,7 +47,7 @@ pub fn leads_to_port(spaces: &[SpaceRec], to: Link) -> bool
 {
     match to {
         Link::Out(_) => true,
-        Link::In { space, slot } => matches!(kind_at(spaces, space, slot), Some(Kind::Port)),
+        Link::In { space, slot } => matches!(kind_in_space(spaces, space, slot), Some(Kind::Port)),
         Link::Null | Link::Dead | Link::Root | Link::Outside => false,
     }
 }
@@ -54,7 +57,7 @@ fn is_thread_in(spaces: &[SpaceRec], space: u32, to: Link) -> bool
 {
     match to {
         Link::In { space: other, slot } => {
-            other == space && matches!(kind_at(spaces, other, slot), Some(Kind::Thread))
+            other == space && matches!(kind_in_space(spaces, other, slot), Some(Kind::Thread))
         }
         _ => false,
     }
@@ -62,8 +65,8 @@ fn is_thread_in(spaces: &[SpaceRec], space: u32, to: Link) -> bool
 
 /// Whether a peer may serve a talk, or have taken a fault, at a port: it is a thread of the port's space,
 /// or outside where the port is.
-pub fn serves(spaces: &[SpaceRec], port: Link, peer: Link) -> bool
-    ensures { result ≡ words.serves spaces.now port peer }
+pub fn serves_port(spaces: &[SpaceRec], port: Link, peer: Link) -> bool
+    ensures { result ≡ words.serves_port spaces.now port peer }
 {
     match port {
         Link::Out(_) => matches!(peer, Link::Outside),

@@ -78,8 +78,8 @@ impl Objects {
 }
 
 /// The kind of an object.
-pub fn kind_of(body: &Rec) -> Kind
-    ensures { result ≡ words.kind_of body.now }
+pub fn kind_of_rec(body: &Rec) -> Kind
+    ensures { result ≡ words.kind_of_rec body.now }
 {
     match body {
         Rec::Mutex { .. } => Kind::Mutex,
@@ -104,7 +104,7 @@ fn found(items: &[ObjectRec], slot: u16) -> Option<Kind>
         let object = &items[middle];
         let there = u16::from(object.slot);
         if there == slot {
-            return Some(kind_of(&object.body));
+            return Some(kind_of_rec(&object.body));
         }
         if there < slot {
             low = middle + 1;

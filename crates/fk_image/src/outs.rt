@@ -1,7 +1,7 @@
 //! The slots of the nester that an image's pointers lead to.
 ghost use Rattle.std.specs.Prelude.{◌≡◌, ◌<◌, ℕ, ◌∷◌, [], ◌++◌, false, get_or};
 ghost use Rattle.std.specs.List.{list_any, flat_map};
-ghost use Rattle.fk_image.specs.Outs.{Marks, is_out, links};
+ghost use Rattle.fk_image.specs.Outs.{Marks, leads_out_at, links};
 ghost use Rattle.fk_image.specs.Outs as words;
 
 use crate::image::{FaultRec, Image, Link, ObjectRec, Rec, SpaceRec, TalkRec};
@@ -70,7 +70,7 @@ fn mark_spaces(used: &mut [bool; 240], spaces: &[SpaceRec])
 impl Image {
     /// Which slots of the nester its pointers lead to, slot by slot.
     pub fn outs(&self) -> [bool; 240]
-        ensures { (slot : ℕ) → slot < 240 → get_or result slot false ≡ list_any (is_out slot) (links self.now) }
+        ensures { (slot : ℕ) → slot < 240 → get_or result slot false ≡ list_any (leads_out_at slot) (links self.now) }
     {
         let mut used = [false; 240];
         mark_spaces(&mut used, self.spaces.as_slice());

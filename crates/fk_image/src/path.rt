@@ -67,7 +67,7 @@ pub fn room_under(path: &mut Path, space: u32) -> Result<Option<u16>, NoMemory>
 
 /// Enters a space with this number in a slot of the path's last space.
 pub fn enter(path: &mut Path, number: u32, slot: u8) -> Result<(), NoMemory>
-    ensures { OnOk result (path.new ≡ preorder.entered number slot path.old) }
+    ensures { OnOk result (path.new ≡ preorder.after_entering number slot path.old) }
 {
     if let Some(one) = path.pop() {
         path.push(Open {

@@ -3,8 +3,8 @@ ghost use Rattle.std.specs.Prelude.{◌≡◌, get_or};
 ghost use Rattle.fk_image.specs.Ranges as words;
 
 /// Whether a number is 0, or 1 and a slot.
-pub fn is_member(set: u16) -> bool
-    ensures { result ≡ words.is_member set }
+pub fn is_set_word(set: u16) -> bool
+    ensures { result ≡ words.is_set_word set }
 {
     set < 241
 }
@@ -23,8 +23,8 @@ fn is_call_code(code: u64) -> bool
 }
 
 /// Whether a number is a mode that a thread with these registers can have.
-pub fn is_mode(regs: &[u64; 16], mode: u8) -> bool
-    ensures { result ≡ words.is_mode regs.now mode }
+pub fn is_mode_byte(regs: &[u64; 16], mode: u8) -> bool
+    ensures { result ≡ words.is_mode_byte regs.now mode }
 {
     match mode {
         0 | 2 => true,

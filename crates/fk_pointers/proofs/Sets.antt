@@ -8,12 +8,12 @@ use Rattle.std.specs.List.{list_any}
 use Rattle.std.specs.BTreeSet.{contains}
 use Rattle.std.specs.BTreeMap.{is_at}
 use Rattle.fk_image.specs.declared.image.SpaceRec.{SpaceRec}
-use Rattle.fk_image.specs.Links.{lies_in, has_space}
+use Rattle.fk_image.specs.Links.{lies_in, has_space_at}
 use Rattle.fk_spelling.specs.Offsets.{Named, with_thread}
 use Rattle.fk_pointers.specs.declared.places.Place.{Place}
 use Rattle.fk_pointers.specs.declared.places.Places.{Places}
 use Rattle.fk_pointers.specs.contracts.places.PlaceOrd.TheImpl.{cmp-value}
-use Rattle.fk_pointers.specs.Places.{is_place, has}
+use Rattle.fk_pointers.specs.Places.{is_place, has_place}
 use Rattle.fk_pointers.proofs.Within.{from}
 
 -- the first of two comparisons, and the second where it finds them equal
@@ -44,15 +44,15 @@ cond-or false b = refl
 
 -- ---- one more place
 
-has_is : (places : Places) (space slot : ℕ) → contains cmp-value.it places.set (record { space = space; slot = slot }) ≡ has places space slot
+has_is : (places : Places) (space slot : ℕ) → contains cmp-value.it places.set (record { space = space; slot = slot }) ≡ has_place places space slot
 has_is places space slot = ap (λ (f : Place → Bool). list_any f places.set.keys) (λ i p. same_place (record { space = space; slot = slot }) p i)
 
 pub inserted : (old new : Places) (place : Place) →
     ((q : Place) → contains cmp-value.it new.set q ≡ cond (is_at (cmp-value.it place) q) true (contains cmp-value.it old.set q))
-    → has new ≡ with_thread place.space place.slot (has old)
+    → has_place new ≡ with_thread place.space place.slot (has_place old)
 inserted old new place updates = λ i space slot. by space slot i
   where
-    by : (space slot : ℕ) → has new space slot ≡ with_thread place.space place.slot (has old) space slot
+    by : (space slot : ℕ) → has_place new space slot ≡ with_thread place.space place.slot (has_place old) space slot
     by space slot =
         let q : Place = record { space = space; slot = slot } in
         sym (has_is new space slot) ∙ updates q ∙ cond-or (is_at (cmp-value.it place) q) (contains cmp-value.it old.set q)
@@ -68,16 +68,16 @@ turned false true c total e = e
 turned false false c total e = e
 
 pub one_more : (old new : Places) (spaces : List SpaceRec) (i : ℕ) (s : SpaceRec) (space slot : ℕ) → i < length spaces → s ≡ get_or spaces i s
-    → has new ≡ with_thread s.parent s.slot (has old)
-    → (has old space slot || list_any (lies_in space slot) (drop i spaces)) ≡ list_any (lies_in space slot) spaces
-    → (has new space slot || list_any (lies_in space slot) (drop (i + 1) spaces)) ≡ list_any (lies_in space slot) spaces
+    → has_place new ≡ with_thread s.parent s.slot (has_place old)
+    → (has_place old space slot || list_any (lies_in space slot) (drop i spaces)) ≡ list_any (lies_in space slot) spaces
+    → (has_place new space slot || list_any (lies_in space slot) (drop (i + 1) spaces)) ≡ list_any (lies_in space slot) spaces
 one_more old new spaces i s space slot lt is more e =
-    let old_one : (has old space slot || (lies_in space slot s || list_any (lies_in space slot) (drop (i + 1) spaces))) ≡ list_any (lies_in space slot) spaces =
-    sym (ap (λ (ss : List SpaceRec). has old space slot || list_any (lies_in space slot) ss) (from spaces i s lt is)) ∙ e in
+    let old_one : (has_place old space slot || (lies_in space slot s || list_any (lies_in space slot) (drop (i + 1) spaces))) ≡ list_any (lies_in space slot) spaces =
+    sym (ap (λ (ss : List SpaceRec). has_place old space slot || list_any (lies_in space slot) ss) (from spaces i s lt is)) ∙ e in
     ap (λ (named : Named). named space slot || list_any (lies_in space slot) (drop (i + 1) spaces)) more
-    ∙ turned (has old space slot) (lies_in space slot s) (list_any (lies_in space slot) (drop (i + 1) spaces)) (list_any (lies_in space slot) spaces) old_one
+    ∙ turned (has_place old space slot) (lies_in space slot s) (list_any (lies_in space slot) (drop (i + 1) spaces)) (list_any (lies_in space slot) spaces) old_one
 
 pub all_places : (places : Places) (spaces others : List SpaceRec) →
-    others ≡ drop 1 spaces → ((space slot : ℕ) → has places space slot ≡ list_any (lies_in space slot) others) → has places ≡ has_space spaces
-unfolding has_space
+    others ≡ drop 1 spaces → ((space slot : ℕ) → has_place places space slot ≡ list_any (lies_in space slot) others) → has_place places ≡ has_space_at spaces
+unfolding has_space_at
 all_places places spaces others is each = λ i space slot. (each space slot ∙ ap (λ (ss : List SpaceRec). list_any (lies_in space slot) ss) is) i

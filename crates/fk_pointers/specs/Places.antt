@@ -2,7 +2,7 @@
 use Rattle.std.specs.Prelude.{◌≡◌, ◌≤◌, ◌<◌, ℕ, Bool, ◌&&◌, ◌==◌, List, length, get_or}
 use Rattle.std.specs.List.{list_any}
 use Rattle.fk_image.specs.declared.image.SpaceRec.{SpaceRec}
-use Rattle.fk_image.specs.Links.{has_space, end_of}
+use Rattle.fk_image.specs.Links.{has_space_at, end_of}
 use Rattle.fk_spelling.specs.Offsets.{Named, nobody}
 use Rattle.fk_pointers.specs.declared.places.Place.{Place}
 use Rattle.fk_pointers.specs.declared.places.Places.{Places}
@@ -12,11 +12,11 @@ abbrev pub is_place : ℕ → ℕ → Place → Bool
 is_place space slot p = space == p.space && slot == p.slot
 
 -- whether a place is in a set
-abbrev pub has : Places → Named
-has places = λ space slot. list_any (is_place space slot) places.set.keys
+abbrev pub has_place : Places → Named
+has_place places = λ space slot. list_any (is_place space slot) places.set.keys
 
 abbrev pub IsEmptySet : Places → Type 0
-IsEmptySet places = has places ≡ nobody
+IsEmptySet places = has_place places ≡ nobody
 
 -- the ends of the spaces with numbers from one on
 pub record KnowsFrom (number : ℕ) (spaces : List SpaceRec) (ends : List ℕ) : Type 0 where
@@ -24,5 +24,5 @@ pub record KnowsFrom (number : ℕ) (spaces : List SpaceRec) (ends : List ℕ) :
   pub each : (n : ℕ) → number ≤ n → n < length spaces → get_or ends n 0 ≡ end_of spaces n
 
 pub record IsIndex (spaces : List SpaceRec) (index : Index) : Type 0 where
-  pub places : has index.places ≡ has_space spaces
+  pub places : has_place index.places ≡ has_space_at spaces
   pub ends : KnowsFrom 0 spaces index.ends.items

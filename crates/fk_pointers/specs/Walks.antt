@@ -4,10 +4,10 @@ use Rattle.fk_spelling.specs.Offsets.{Named, Walk}
 use Rattle.fk_pointers.specs.declared.fail.PointerFail.{PointerFail}
 use Rattle.fk_pointers.specs.declared.fail.PointerFail.TheVariants as fails
 use Rattle.fk_pointers.specs.declared.places.Places.{Places}
-use Rattle.fk_pointers.specs.Places.{has}
+use Rattle.fk_pointers.specs.Places.{has_place}
 
 abbrev pub standing : ℕ → Places → Walk
-standing at named = record { at = at; named = has named }
+standing at named = record { at = at; named = has_place named }
 
 abbrev pub Sums : Result ℕ PointerFail → ℕ → Type 0
 Sums (Ok sum) n = sum ≡ n
@@ -31,7 +31,7 @@ Ends (Ok at) named walk = walk ≡ Ok (record { at = at; named = named })
 Ends (Err e) named walk = Misleads e walk
 
 abbrev pub Walks : Result ℕ PointerFail → Places → Result Walk ℕ → Type 0
-Walks result named walk = Ends result (has named) walk
+Walks result named walk = Ends result (has_place named) walk
 
 abbrev pub Breaks : PointerFail → Option ℕ → Type 0
 Breaks fails.NoMemory wrong = Unit {0}

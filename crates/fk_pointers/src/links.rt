@@ -3,42 +3,43 @@ ghost use Rattle.std.specs.Prelude.{◌≡◌, ◌≤◌, ◌<◌, ◌+◌, ◌*
 ghost use Rattle.fk_image.specs.Links as leads;
 ghost use Rattle.fk_spelling.specs.Spelling as spells;
 ghost use Rattle.fk_spelling.specs.Offsets as words;
-ghost use Rattle.fk_pointers.specs.Places.{IsIndex, has};
+ghost use Rattle.fk_pointers.specs.Places.{IsIndex, has_place};
 ghost use Rattle.fk_pointers.specs.Walks.{Sums, Expects, Names, Ends, Walks, Checks, standing};
 
 use crate::fail::PointerFail;
 use crate::places::{Index, Place, Places};
 use fk_image::{
-    FaultRec, Link, ObjectRec, Objects, Rec, SpaceRec, TalkRec, ThreadRec, is_set_of, kind_at,
-    leads_to_keeper, leads_to_port, leads_to_region, serves,
+    FaultRec, Link, ObjectRec, Objects, Rec, SpaceRec, TalkRec, ThreadRec, is_set_of,
+    kind_in_space, leads_to_keeper, leads_to_port, leads_to_region, serves_port,
 };
 use fk_model::Kind;
 use std::alloc::Global;
 
 /// Whether a space's holder is a thread that isn't in or beneath it, or there is none.
-fn holds(spaces: &[SpaceRec], index: &Index, space: usize, holder: Link) -> bool
+fn may_hold(spaces: &[SpaceRec], index: &Index, space: usize, holder: Link) -> bool
     requires index { IsIndex spaces.now index.now }
     requires space { space < length spaces.now }
-    ensures { result ≡ leads.holds spaces.now space holder }
+    ensures { result ≡ leads.may_hold spaces.now space holder }
 {
     match holder {
         Link::Null => true,
         Link::In { space: other, slot } => {
-            matches!(kind_at(spaces, other, slot), Some(Kind::Thread))
-                && !index.is_within(spaces, space, other)
+            matches!(kind_in_space(spaces, other, slot), Some(Kind::Thread))
+                && !index.is_space_within(spaces, space, other)
         }
         _ => false,
     }
 }
 
 /// Whether a reference leads to what it may lead to.
-fn refers(spaces: &[SpaceRec], index: &Index, to: Link) -> bool
+fn may_refer(spaces: &[SpaceRec], index: &Index, to: Link) -> bool
     requires { IsIndex spaces.now index.now }
-    ensures { result ≡ leads.refers spaces.now to }
+    ensures { result ≡ leads.may_refer spaces.now to }
 {
     match to {
         Link::In { space, slot } => {
-            is_referable(kind_at(spaces, space, slot)) || index.has_space(spaces, space, slot)
+            is_referable(kind_in_space(spaces, space, slot))
+                || index.has_space_at(spaces, space, slot)
         }
         Link::Outside => false,
         _ => true,
@@ -56,7 +57,7 @@ fn is_referable(kind: Option<Kind>) -> bool
 
 /// How many bytes a pointer has.
 fn link_size(to: Link) -> u64
-    ensures size { result ≡ length (spells.link to) }
+    ensures size { result ≡ length (spells.link_bytes to) }
     ensures small { result ≤ 6 }
 {
     match to {
@@ -99,7 +100,7 @@ fn expect(right: bool, at: u64) -> Result<(), PointerFail>
 
 /// Whether a thread was named before.
 fn is_named(named: &Places, peer: Link) -> bool
-    ensures { result ≡ words.is_named (has named.now) peer }
+    ensures { result ≡ words.is_named (has_place named.now) peer }
 {
     match peer {
         Link::In { space, slot } => named.contains(Place { space, slot }),
@@ -108,7 +109,7 @@ fn is_named(named: &Places, peer: Link) -> bool
 }
 
 fn name(named: &mut Places, peer: Link) -> Result<(), PointerFail>
-    ensures { Names result (has named.new) (words.with_peer peer (has named.old)) }
+    ensures { Names result (has_place named.new) (words.with_peer peer (has_place named.old)) }
 {
     if let Link::In { space, slot } = peer {
         named.insert(Place { space, slot })?;
@@ -127,7 +128,10 @@ fn peer_walk(
 ) -> Result<u64, PointerFail>
     ensures { Walks result named.new (words.peer_walk spaces.now port peer (standing at named.old)) }
 {
-    expect(serves(spaces, port, peer) && !is_named(named, peer), at)?;
+    expect(
+        serves_port(spaces, port, peer) && !is_named(named, peer),
+        at,
+    )?;
     name(named, peer)?;
     plus(at, link_size(peer))
 }
@@ -230,7 +234,7 @@ fn body_walk(
         Rec::Region { keeper, .. } => link_end(leads_to_keeper(spaces, *keeper), 6, *keeper, at),
         Rec::Port { set } => set_end(is_set_of(objects, *set), at),
         Rec::Thread(thread) => thread_walk(spaces, thread.get(), at, named),
-        Rec::Reference { to } => link_end(refers(spaces, index, *to), 2, *to, at),
+        Rec::Reference { to } => link_end(may_refer(spaces, index, *to), 2, *to, at),
     }
 }
 
@@ -266,7 +270,7 @@ fn space_walk(
     requires number { number < length spaces.now }
     ensures { Walks result named.new (words.space_walk spaces.now number space.now (standing at named.old)) }
 {
-    let right = holds(spaces, index, number, space.holder);
+    let right = may_hold(spaces, index, number, space.holder);
     let held = link_end(right, 5, space.holder, at)?;
     let end = objects_walk(spaces, index, &space.objects, plus(held, 2)?, named)?;
     plus(plus(end, 2)?, pages_size(space.pages.len())?)

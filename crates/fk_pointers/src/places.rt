@@ -1,7 +1,7 @@
 //! Sets of places, and what an image's spaces are asked for while its pointers are followed.
 ghost use Rattle.std.specs.Prelude.{◌≡◌, ◌<◌, ◌+◌, ℕ, length, drop, OnOk, IfOk};
 ghost use Rattle.std.specs.List.{list_any};
-ghost use Rattle.fk_image.specs.Links.{lies_in, has_space, end_of, is_within};
+ghost use Rattle.fk_image.specs.Links.{lies_in, has_space_at, end_of, is_space_within};
 ghost use Rattle.fk_spelling.specs.Offsets.{with_thread};
 ghost use Rattle.fk_pointers.specs.Places as words;
 
@@ -33,13 +33,13 @@ impl Places {
     }
 
     pub fn contains(&self, place: Place) -> bool
-        ensures { result ≡ words.has self.now place.space place.slot }
+        ensures { result ≡ words.has_place self.now place.space place.slot }
     {
         self.set.contains(&place)
     }
 
     pub fn insert(&mut self, place: Place) -> Result<(), NoMemory>
-        ensures { OnOk result (words.has self.new ≡ with_thread place.space place.slot (words.has self.old)) }
+        ensures { OnOk result (words.has_place self.new ≡ with_thread place.space place.slot (words.has_place self.old)) }
     {
         self.set.insert(place)?;
         Ok(())
@@ -55,7 +55,7 @@ pub struct Index {
 }
 
 fn places_of(alloc: Global, spaces: &[SpaceRec]) -> Result<Places, NoMemory>
-    ensures { IfOk result (λ places. (space slot : ℕ) → words.has places space slot ≡ list_any (lies_in space slot) spaces.now) }
+    ensures { IfOk result (λ places. (space slot : ℕ) → words.has_place places space slot ≡ list_any (lies_in space slot) spaces.now) }
 {
     let mut places = Places::new(alloc);
     for space in spaces {
@@ -113,18 +113,18 @@ impl Index {
     }
 
     /// Whether a space lies in a slot of a space.
-    pub fn has_space(&self, spaces: &[SpaceRec], space: u32, slot: u8) -> bool
+    pub fn has_space_at(&self, spaces: &[SpaceRec], space: u32, slot: u8) -> bool
         requires { words.IsIndex spaces.now self.now }
-        ensures { result ≡ has_space spaces.now space slot }
+        ensures { result ≡ has_space_at spaces.now space slot }
     {
         self.places.contains(Place { space, slot })
     }
 
     /// Whether a space is another one or lies beneath it.
-    pub fn is_within(&self, spaces: &[SpaceRec], space: usize, other: u32) -> bool
+    pub fn is_space_within(&self, spaces: &[SpaceRec], space: usize, other: u32) -> bool
         requires index { words.IsIndex spaces.now self.now }
         requires space { space < length spaces.now }
-        ensures { result ≡ is_within spaces.now space other }
+        ensures { result ≡ is_space_within spaces.now space other }
     {
         space <= other as usize && (other as usize) < self.ends[space]
     }

@@ -65,8 +65,13 @@ fn outs_text(alloc: Global, image: &Image) -> Result<String, AllocError>
     outs_line(alloc, &image.outs())
 }
 
-fn counts(alloc: Global, spaces: usize, objects: usize, pages: usize) -> Result<String, AllocError>
-    ensures { IfOk result (λ text. string_bytes text ≡ words.counts spaces objects pages) }
+fn count_lines(
+    alloc: Global,
+    spaces: usize,
+    objects: usize,
+    pages: usize,
+) -> Result<String, AllocError>
+    ensures { IfOk result (λ text. string_bytes text ≡ words.count_lines spaces objects pages) }
 {
     format!(in alloc; "version 1\nspaces {spaces}\nobjects {objects}\npages {pages}\n")
 }
@@ -79,7 +84,7 @@ pub fn show_text(alloc: Global, image: &Image) -> Result<String, NoMemory>
     let spaces = image.spaces.as_slice();
     let objects = object_count(spaces)?;
     let pages = page_count(spaces)?;
-    let mut text = counts(alloc, spaces.len(), objects, pages)?;
+    let mut text = count_lines(alloc, spaces.len(), objects, pages)?;
     text.push_str(outs_text(alloc, image)?.as_str())?;
     Ok(text)
 }

@@ -5,7 +5,7 @@ use Rattle.std.proofs.lemmas.Bool.{cases_lt, ltb-false, ltb-true, lt-ltb, le-ltb
 use Rattle.std.proofs.lemmas.List.{take_at, drop_at, take-append-drop, length-append, length-take, get_or-drop, get_or-take, get_or_past}
 use Rattle.std.proofs.lemmas.Nat.{le_bytes_2, le_bytes_4, le_bytes_8, from_le_bytes-to_le_bytes_2, from_le_bytes-to_le_bytes_4, from_le_bytes-to_le_bytes_8}
 use Rattle.fk_spelling.specs.declared.stop.Stop.{Stop}
-use Rattle.fk_spelling.specs.Fields.{◌>>=◌, refuse, expect, byte_at, number_at, below_at}
+use Rattle.fk_spelling.specs.Fields.{◌>>=◌, refuse_field, expect, read_byte, read_number, read_below}
 
 -- ---- tests
 
@@ -83,11 +83,11 @@ expect_ok true bytes reason f y e = (refl, e)
 expect_ok false bytes reason f y e = absurd cc
 
 pub chosen : {A : Type 0} (b : Bool) (x : A) (bytes : List ℕ) (reason : ℕ) (y : A) →
-    cond {A = Result A Stop} b (Ok x) (refuse bytes reason) ≡ Ok y → (b ≡ true) × (x ≡ y)
+    cond {A = Result A Stop} b (Ok x) (refuse_field bytes reason) ≡ Ok y → (b ≡ true) × (x ≡ y)
 chosen true x bytes reason y e = (refl, cc)
 chosen false x bytes reason y e = absurd cc
 
-pub never : {A : Type 0} (bytes : List ℕ) (reason : ℕ) (y : A) → refuse {A = A} bytes reason ≡ Ok y → ⊥
+pub never : {A : Type 0} (bytes : List ℕ) (reason : ℕ) (y : A) → refuse_field {A = A} bytes reason ≡ Ok y → ⊥
 never bytes reason y e = cc
 
 abbrev done : {A : Type 0} → A → Result A Stop
@@ -119,21 +119,21 @@ made spell fits bytes x y e t = subst (λ z. Took spell fits bytes z) (ok_is x y
 abbrev pub one : ℕ → List ℕ
 one b = b ∷ []
 
-pub byte_takes : (bytes : List ℕ) (x : ℕ × List ℕ) → IsBytes bytes → byte_at bytes ≡ Ok x → Took one (λ b. ltb b 256) bytes x
+pub byte_takes : (bytes : List ℕ) (x : ℕ × List ℕ) → IsBytes bytes → read_byte bytes ≡ Ok x → Took one (λ b. ltb b 256) bytes x
 byte_takes [] x fits e = absurd cc
 byte_takes (b ∷ rest) x fits e =
     made one (λ b. ltb b 256) (b ∷ rest) (b, rest) x e (record { parts = refl; rest_fits = λ i. fits (suc i) }, lt-ltb b 256 (fits 0))
 
-pub below_takes : (limit : ℕ) (bytes : List ℕ) (x : ℕ × List ℕ) → IsBytes bytes → below_at limit bytes ≡ Ok x → Took one (λ b. ltb b limit) bytes x
-unfolding below_at
+pub below_takes : (limit : ℕ) (bytes : List ℕ) (x : ℕ × List ℕ) → IsBytes bytes → read_below limit bytes ≡ Ok x → Took one (λ b. ltb b limit) bytes x
+unfolding read_below
 below_takes limit bytes x fits e =
-    let a = bind_ok (byte_at bytes) _ x e in
+    let a = bind_ok (read_byte bytes) _ x e in
     let g = chosen _ _ _ _ _ a.2 in
     let t = byte_takes bytes a.0 fits a.1 in
     made one (λ b. ltb b limit) bytes a.0 x (ap Ok g.1) (t.0, g.0)
 
-pub below_again : (limit b : ℕ) (rest : List ℕ) → ltb b limit ≡ true → below_at limit (b ∷ rest) ≡ Ok (b, rest)
-unfolding below_at
+pub below_again : (limit b : ℕ) (rest : List ℕ) → ltb b limit ≡ true → read_below limit (b ∷ rest) ≡ Ok (b, rest)
+unfolding read_below
 below_again limit b rest lt = rw lt refl
 
 pub record IsWide (w : Width) (limit : ℕ) : Type 0 where
@@ -166,12 +166,12 @@ wide64 = record {
   below = λ bytes fits. omega (arith, fits 0, fits 1, fits 2, fits 3, fits 4, fits 5, fits 6, fits 7);
 }
 
-short_not : {A : Type 0} (b : Bool) (bytes : List ℕ) (x y : A) → cond {A = Result A Stop} b (refuse bytes 3) (Ok x) ≡ Ok y → (b ≡ false) × (x ≡ y)
+short_not : {A : Type 0} (b : Bool) (bytes : List ℕ) (x y : A) → cond {A = Result A Stop} b (refuse_field bytes 3) (Ok x) ≡ Ok y → (b ≡ false) × (x ≡ y)
 short_not true bytes x y e = absurd cc
 short_not false bytes x y e = (refl, cc)
 
 pub number_takes : (w : Width) (limit : ℕ) (wide : IsWide w limit) (bytes : List ℕ) (x : ℕ × List ℕ) →
-    IsBytes bytes → number_at w bytes ≡ Ok x → Took (to_le_bytes w) (λ n. ltb n limit) bytes x
+    IsBytes bytes → read_number w bytes ≡ Ok x → Took (to_le_bytes w) (λ n. ltb n limit) bytes x
 number_takes w limit wide bytes x fits e =
     let front = take (byte_len w) bytes in
     let g = short_not (ltb (length bytes) (byte_len w)) bytes (from_le_bytes w front, drop (byte_len w) bytes) x e in
@@ -184,7 +184,7 @@ number_takes w limit wide bytes x fits e =
     )
 
 pub number_again : (w : Width) (limit : ℕ) (wide : IsWide w limit) (n : ℕ) (rest : List ℕ) →
-    ltb n limit ≡ true → number_at w (to_le_bytes w n ++ rest) ≡ Ok (n, rest)
+    ltb n limit ≡ true → read_number w (to_le_bytes w n ++ rest) ≡ Ok (n, rest)
 number_again w limit wide n rest lt =
     let len = wide.len n in
     let long : ltb (length (to_le_bytes w n ++ rest)) (byte_len w) ≡ false = le-ltb _ _ (omega (arith, length-append (to_le_bytes w n) rest)) in

@@ -11,9 +11,9 @@ use Rattle.fk_image.specs.declared.image.Rec.{Rec}
 use Rattle.fk_image.specs.declared.image.Rec.TheVariants.{Mutex, Cond, Portset, Mapping, Region, Port, Thread, Reference}
 use Rattle.fk_image.specs.declared.image.ObjectRec.{ObjectRec}
 use Rattle.fk_image.specs.declared.image.SpaceRec.{SpaceRec}
-use Rattle.fk_image.specs.Links.{holds, leads_to_port, serves, talk_leads, taker_leads, fault_leads, body_leads, space_leads, spaces_lead, peer, talk_peers, taker_peers, fault_peers, body_peers, object_peers, space_peers, is_place, are_fresh, all_lead}
+use Rattle.fk_image.specs.Links.{may_hold, leads_to_port, serves_port, talk_leads, taker_leads, fault_leads, body_leads, space_leads, spaces_lead, peer, talk_peers, taker_peers, fault_peers, body_peers, object_peers, space_peers, is_same_place, are_fresh, all_lead}
 use Rattle.fk_spelling.specs.Fields.{◌>>=◌}
-use Rattle.fk_spelling.specs.Spelling.{link}
+use Rattle.fk_spelling.specs.Spelling.{link_bytes as link}
 use Rattle.fk_spelling.specs.Offsets.{Named, nobody, Walk, expect_at, peer_walk, port_walk, talk_walk, taker_walk, fault_walk, past, link_walk, thread_walk, set_walk, body_walk, objects_walk, space_walk, spaces_walk, offset_of, wrong_in}
 
 -- ---- who is named behind threads that were seen
@@ -23,7 +23,7 @@ after [] seen = seen
 after (p ∷ ps) seen = after ps (p ∷ seen)
 
 abbrev named_by : List (ℕ × ℕ) → Named
-named_by seen = λ space slot. list_any (is_place (space, slot)) seen
+named_by seen = λ space slot. list_any (is_same_place (space, slot)) seen
 
 after-append : (ps qs seen : List (ℕ × ℕ)) → after (ps ++ qs) seen ≡ after qs (after ps seen)
 after-append [] qs seen = refl
@@ -36,8 +36,8 @@ and-assoc false b c = refl
 fresh-append : (ps qs seen : List (ℕ × ℕ)) → are_fresh seen (ps ++ qs) ≡ (are_fresh seen ps && are_fresh (after ps seen) qs)
 fresh-append [] qs seen = refl
 fresh-append (p ∷ ps) qs seen =
-    ap (λ (b : Bool). not (list_any (is_place p) seen) && b) (fresh-append ps qs (p ∷ seen))
-    ∙ and-assoc (not (list_any (is_place p) seen)) (are_fresh (p ∷ seen) ps) (are_fresh (after ps (p ∷ seen)) qs)
+    ap (λ (b : Bool). not (list_any (is_same_place p) seen) && b) (fresh-append ps qs (p ∷ seen))
+    ∙ and-assoc (not (list_any (is_same_place p) seen)) (are_fresh (p ∷ seen) ps) (are_fresh (after ps (p ∷ seen)) qs)
 
 -- ---- walks
 
@@ -102,14 +102,14 @@ nobody_new true at end seen = refl
 nobody_new false at end seen = refl
 
 peer_fares : (spaces : List SpaceRec) (port to : Link) (at : ℕ) (seen : List (ℕ × ℕ)) →
-    Fares (serves spaces port to) (peer to) seen (peer_walk spaces port to (record { at = at; named = named_by seen }))
+    Fares (serves_port spaces port to) (peer to) seen (peer_walk spaces port to (record { at = at; named = named_by seen }))
 unfolding peer_walk
-peer_fares spaces port Null at seen = nobody_new (serves spaces port Null) at (at + 1) seen
-peer_fares spaces port Dead at seen = nobody_new (serves spaces port Dead) at (at + 1) seen
-peer_fares spaces port (Out slot) at seen = nobody_new (serves spaces port (Out slot)) at (at + 2) seen
-peer_fares spaces port Root at seen = nobody_new (serves spaces port Root) at (at + 1) seen
-peer_fares spaces port Outside at seen = nobody_new (serves spaces port Outside) at (at + 1) seen
-peer_fares spaces port (In n slot) at seen = by (serves spaces port (In n slot)) (list_any (is_place (n, slot)) seen)
+peer_fares spaces port Null at seen = nobody_new (serves_port spaces port Null) at (at + 1) seen
+peer_fares spaces port Dead at seen = nobody_new (serves_port spaces port Dead) at (at + 1) seen
+peer_fares spaces port (Out slot) at seen = nobody_new (serves_port spaces port (Out slot)) at (at + 2) seen
+peer_fares spaces port Root at seen = nobody_new (serves_port spaces port Root) at (at + 1) seen
+peer_fares spaces port Outside at seen = nobody_new (serves_port spaces port Outside) at (at + 1) seen
+peer_fares spaces port (In n slot) at seen = by (serves_port spaces port (In n slot)) (list_any (is_same_place (n, slot)) seen)
   where
     by : (right old : Bool) → named_of (expect_at (right && not old) at >>= λ _. Ok (record { at = at + 6; named = named_by ((n, slot) ∷ seen) })) ≡ pick
         (right && (not old && true)) (named_by ((n, slot) ∷ seen))
@@ -121,7 +121,7 @@ talk_fares : (spaces : List SpaceRec) (talk : Option TalkRec) (at : ℕ) (seen :
     Fares (talk_leads spaces talk) (talk_peers talk) seen (talk_walk spaces talk (record { at = at; named = named_by seen }))
 talk_fares spaces None at seen = refl
 talk_fares spaces (Some talk) at seen =
-    then_fares (leads_to_port spaces talk.port) (serves spaces talk.port talk.server)
+    then_fares (leads_to_port spaces talk.port) (serves_port spaces talk.port talk.server)
     [] (peer talk.server) seen (port_walk spaces talk.port (record { at = at; named = named_by seen })) (peer_walk spaces talk.port talk.server)
     (port_fares spaces talk.port at seen) (λ end. peer_fares spaces talk.port talk.server end seen)
 
@@ -181,10 +181,10 @@ space_fares : (spaces : List SpaceRec) (n : ℕ) (s : SpaceRec) (at : ℕ) (seen
 unfolding space_walk
 space_fares spaces n s at seen =
     let right = list_all (λ (o : ObjectRec). body_leads spaces s.objects o.body) s.objects in
-    then_fares (holds spaces n s.holder)
-    right [] (space_peers s) seen (link_walk (holds spaces n s.holder) 5 s.holder (record { at = at; named = named_by seen }))
+    then_fares (may_hold spaces n s.holder)
+    right [] (space_peers s) seen (link_walk (may_hold spaces n s.holder) 5 s.holder (record { at = at; named = named_by seen }))
     (λ held. objects_walk spaces s.objects s.objects (past 2 held) >>= λ w. Ok (past (2 + 513 * length s.pages) w))
-    (link_fares (holds spaces n s.holder) 5 s.holder at seen)
+    (link_fares (may_hold spaces n s.holder) 5 s.holder at seen)
     (λ end. past_same (2 + 513 * length s.pages) (objects_walk spaces s.objects s.objects (record { at = end + 2; named = named_by seen }))
     ∙ objects_fare spaces s.objects s.objects (end + 2) seen)
 

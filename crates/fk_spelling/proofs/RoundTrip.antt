@@ -5,8 +5,8 @@ use Rattle.fk_image.specs.Links.{all_lead}
 use Rattle.fk_image.specs.Valid.{fits_spaces, is_valid}
 use Rattle.fk_spelling.specs.declared.stop.Stop.{Stop}
 use Rattle.fk_spelling.specs.Offsets.{wrong_in, wrong_link}
-use Rattle.fk_spelling.specs.Reading.{image_at, linked, finished, reading}
-use Rattle.fk_spelling.specs.Spells.{Spells}
+use Rattle.fk_spelling.specs.Reading.{read_image, linked, finished, image_reading}
+use Rattle.fk_spelling.specs.Spells.{SpellsImage}
 use Rattle.fk_spelling.proofs.Basics.{both, and2, IsBytes}
 use Rattle.fk_spelling.proofs.Taken.{image_takes}
 use Rattle.fk_spelling.proofs.Again.{image_again}
@@ -23,19 +23,19 @@ finished_ok bytes (Ok j) i e = by (wrong_link j) refl e
     by None none e = let same : j ≡ i = cc in (ap Ok same, rw (← same) none)
     by (Some at) some e = absurd cc
 
-pub reading_takes : (bytes : List ℕ) (i : Image) → IsBytes bytes → reading bytes ≡ Ok i → Spells bytes i
-unfolding reading is_valid
+pub reading_takes : (bytes : List ℕ) (i : Image) → IsBytes bytes → image_reading bytes ≡ Ok i → SpellsImage bytes i
+unfolding image_reading is_valid
 reading_takes bytes i fits e =
-    let f = finished_ok bytes (image_at bytes) i e in
+    let f = finished_ok bytes (read_image bytes) i e in
     let t = image_takes bytes i fits f.0 in
     record { valid = both (fits_spaces i.spaces) (all_lead i.spaces) t.0 (none_wrong i.spaces f.1); spelled = t.1 }
 
-pub reading_again : (bytes : List ℕ) (i : Image) → Spells bytes i → reading bytes ≡ Ok i
-unfolding reading is_valid
+pub reading_again : (bytes : List ℕ) (i : Image) → SpellsImage bytes i → image_reading bytes ≡ Ok i
+unfolding image_reading is_valid
 reading_again bytes i s =
     let f = and2 (fits_spaces i.spaces) (all_lead i.spaces) s.valid in
-    let so : image_at bytes ≡ Ok i = ap image_at s.spelled ∙ image_again i f.0 in
+    let so : read_image bytes ≡ Ok i = ap read_image s.spelled ∙ image_again i f.0 in
     ap (finished bytes) so ∙ ap (linked i) (leads_right i.spaces f.1)
 
-pub one_image : (bytes : List ℕ) (i j : Image) → Spells bytes i → Spells bytes j → i ≡ j
+pub one_image : (bytes : List ℕ) (i j : Image) → SpellsImage bytes i → SpellsImage bytes j → i ≡ j
 one_image bytes i j a b = let p = reading_again bytes i a in let q = reading_again bytes j b in cc

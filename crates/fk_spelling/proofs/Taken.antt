@@ -18,41 +18,41 @@ use Rattle.fk_image.specs.declared.image.PageRec.{PageRec}
 use Rattle.fk_image.specs.declared.image.SpaceRec.{SpaceRec}
 use Rattle.fk_image.specs.declared.image.Image.{Image}
 use Rattle.fk_image.specs.declared.open.Open.{Open}
-use Rattle.fk_image.specs.Ranges.{is_slot, is_flag, is_byte, is_half, is_word, fits_link, is_member, is_extent, is_mode, is_code, are_words, is_turn, fits_talk, fits_taker, fits_fault, fits_thread, fits_body}
+use Rattle.fk_image.specs.Ranges.{is_slot, is_bit, is_byte, is_half, is_word, fits_link, is_set_word, is_extent, is_mode_byte, is_code, are_words, is_turn, fits_talk, fits_taker, fits_fault, fits_thread, fits_body}
 use Rattle.fk_image.specs.Preorder.{room_under, has_room, root_path, after_space}
-use Rattle.fk_image.specs.Links.{kind_at}
-use Rattle.fk_image.specs.Valid.{all_from, fits_object, fits_page, fits_objects, fits_pages, is_first, is_next, is_placed, fits_space, fits_spaces, after_object, after_page}
+use Rattle.fk_image.specs.Links.{kind_in_space}
+use Rattle.fk_image.specs.Valid.{all_from, fits_object, fits_page, fits_objects, fits_pages, is_first, is_next, stands_in_order, fits_space, fits_spaces, after_object, after_page}
 use Rattle.fk_spelling.specs.declared.stop.Stop.{Stop}
-use Rattle.fk_spelling.specs.Spelling.{link, words, talk, taker, fault, fault_state, thread, body, object, page, space, magic, spelling}
-use Rattle.fk_spelling.specs.Fields.{◌>>=◌, refuse, byte_at, number_at, below_at, many}
-use Rattle.fk_spelling.specs.Reading.{link_at, word_at, same_state, words_at, mode_at, code_at, open_talk_at, talk_at, taker_at, met_fault_at, fault_at, thread_at, extent_at, mapping_at, region_at, port_at, mutex_at, reference_at, body_at, object_at, page_at, objects_at, pages_at, first_at, or_refuse, room_at, next_at, placed_at, space_at, head_at, image_at}
+use Rattle.fk_spelling.specs.Spelling.{link_bytes as link, words_bytes as words, talk_bytes as talk, taker_bytes as taker, fault_bytes as fault, fault_state, thread_bytes as thread, body_bytes as body, object_bytes as object, page_bytes as page, space_bytes as space, magic, spelling}
+use Rattle.fk_spelling.specs.Fields.{◌>>=◌, refuse_field, read_byte, read_number, read_below, read_many}
+use Rattle.fk_spelling.specs.Reading.{read_link, read_word, same_state, read_words, read_mode, read_code, read_open_talk, read_talk, read_taker, read_met_fault, read_fault, read_thread, read_extent, read_mapping, read_region, read_port, read_mutex, read_reference, read_body, read_object, read_page, read_objects, read_pages, read_first, or_refuse_field, read_room, read_next, read_placed, read_space, read_head, read_image}
 use Rattle.fk_spelling.proofs.Basics.{both, and2, all3, all4, all5, all6, not_true, not_false, IsBytes, IsBytes-drop, bind_ok, expect_ok, chosen, never, ok_is, Takes, Takes-then, Took, made, one, byte_takes, below_takes, wide16, wide32, wide64, number_takes}
 
-link_takes : (bytes : List ℕ) (x : Link × List ℕ) → IsBytes bytes → link_at bytes ≡ Ok x → Took link fits_link bytes x
-unfolding link_at
+link_takes : (bytes : List ℕ) (x : Link × List ℕ) → IsBytes bytes → read_link bytes ≡ Ok x → Took link fits_link bytes x
+unfolding read_link
 link_takes bytes x fits e =
-    let a = bind_ok (byte_at bytes) _ x e in
+    let a = bind_ok (read_byte bytes) _ x e in
     let t = byte_takes bytes a.0 fits a.1 in
     by a.0.0 a.0.1 t.0 a.2
   where
     by : (tag : ℕ) (rest : List ℕ) → Takes bytes (tag ∷ []) rest
         → cond (eqb tag 0) (Ok (Null, rest)) (cond (eqb tag 1) (Ok (Dead, rest))
-        (cond (eqb tag 2) (number_at w32 rest >>= λ n. below_at 240 n.1 >>= λ slot. Ok (In n.0 slot.0, slot.1))
-        (cond (eqb tag 3) (below_at 240 rest >>= λ slot. Ok (Out slot.0, slot.1))
-        (cond (eqb tag 4) (Ok (Root, rest)) (cond (eqb tag 5) (Ok (Outside, rest)) (refuse bytes 5)))))) ≡ Ok x
+        (cond (eqb tag 2) (read_number w32 rest >>= λ n. read_below 240 n.1 >>= λ slot. Ok (In n.0 slot.0, slot.1))
+        (cond (eqb tag 3) (read_below 240 rest >>= λ slot. Ok (Out slot.0, slot.1))
+        (cond (eqb tag 4) (Ok (Root, rest)) (cond (eqb tag 5) (Ok (Outside, rest)) (refuse_field bytes 5)))))) ≡ Ok x
         → Took link fits_link bytes x
     by zero rest t e = made link fits_link bytes (Null, rest) x e (t, refl)
     by (suc zero) rest t e = made link fits_link bytes (Dead, rest) x e (t, refl)
     by (suc (suc zero)) rest t e =
-        let a = bind_ok (number_at w32 rest) _ x e in
-        let b = bind_ok (below_at 240 a.0.1) _ x a.2 in
+        let a = bind_ok (read_number w32 rest) _ x e in
+        let b = bind_ok (read_below 240 a.0.1) _ x a.2 in
         let t0 = number_takes w32 (2 ^ 32) wide32 rest a.0 t.rest_fits a.1 in
         let t1 = below_takes 240 a.0.1 b.0 t0.0.rest_fits b.1 in
         let whole = Takes-then bytes
         (2 ∷ []) rest (to_le_bytes w32 a.0.0 ++ b.0.0 ∷ []) b.0.1 t (Takes-then rest (to_le_bytes w32 a.0.0) a.0.1 (b.0.0 ∷ []) b.0.1 t0.0 t1.0) in
         made link fits_link bytes (In a.0.0 b.0.0, b.0.1) x b.2 (whole, both _ _ t0.1 t1.1)
     by (suc (suc (suc zero))) rest t e =
-        let a = bind_ok (below_at 240 rest) _ x e in
+        let a = bind_ok (read_below 240 rest) _ x e in
         let t0 = below_takes 240 rest a.0 t.rest_fits a.1 in
         made link fits_link bytes (Out a.0.0, a.0.1) x a.2 (Takes-then bytes (3 ∷ []) rest (a.0.0 ∷ []) a.0.1 t t0.0, t0.1)
     by (suc (suc (suc (suc zero)))) rest t e = made link fits_link bytes (Root, rest) x e (t, refl)
@@ -72,9 +72,9 @@ link_takes bytes x fits e =
 
 module _ {S X : Type 0} (item : S → List ℕ → Result (X × List ℕ) Stop) (next : S → X → S) (spell : X → List ℕ) (fits : S → X → Bool)
     (takes : (s : S) (bytes : List ℕ) (x : X × List ℕ) → IsBytes bytes → item s bytes ≡ Ok x → Took spell (fits s) bytes x) where
-  many_takes : (n : ℕ) (s : S) (done : List X) (bytes : List ℕ) (x : List X × List ℕ) → IsBytes bytes → many item next n s done bytes ≡ Ok x
+  many_takes : (n : ℕ) (s : S) (done : List X) (bytes : List ℕ) (x : List X × List ℕ) → IsBytes bytes → read_many item next n s done bytes ≡ Ok x
       → (xs : List X) × (x.0 ≡ done ++ xs) × (length xs ≡ n) × Takes bytes (flat_map spell xs) x.1 × (all_from next fits s xs ≡ true)
-  unfolding many
+  unfolding read_many
   many_takes zero s done bytes x fit e =
       let same : (done, bytes) ≡ x = ok_is (done, bytes) x e in (
         [],
@@ -91,7 +91,7 @@ module _ {S X : Type 0} (item : S → List ℕ → Result (X × List ℕ) Stop) 
       (a.0.0 ∷ b.0, b.1 ∙ append_assoc done (a.0.0 ∷ []) b.0, ap suc b.2, rw flat_map-cons whole, both _ _ head.1 b.4)
 
   -- all of them
-  all_takes : (n : ℕ) (s : S) (bytes : List ℕ) (x : List X × List ℕ) → IsBytes bytes → many item next n s [] bytes ≡ Ok x
+  all_takes : (n : ℕ) (s : S) (bytes : List ℕ) (x : List X × List ℕ) → IsBytes bytes → read_many item next n s [] bytes ≡ Ok x
       → (length x.0 ≡ n) × Takes bytes (flat_map spell x.0) x.1 × (all_from next fits s x.0 ≡ true)
   all_takes n s bytes x fit e =
       let m = many_takes n s [] bytes x fit e in
@@ -101,36 +101,36 @@ all_words : (ws : List ℕ) → all_from same_state (λ _ w. is_word w) 0 ws ≡
 all_words [] e = refl
 all_words (w ∷ ws) e = let f = and2 (is_word w) (all_from same_state (λ _ w. is_word w) 0 ws) e in both _ _ f.0 (all_words ws f.1)
 
-words_take : (count : ℕ) (bytes : List ℕ) (x : List ℕ × List ℕ) → IsBytes bytes → words_at count bytes ≡ Ok x → Took words (are_words count) bytes x
+words_take : (count : ℕ) (bytes : List ℕ) (x : List ℕ × List ℕ) → IsBytes bytes → read_words count bytes ≡ Ok x → Took words (are_words count) bytes x
 words_take count bytes x fits e =
-    let t = all_takes word_at same_state (to_le_bytes w64) (λ _ w. is_word w) (λ s. number_takes w64 (2 ^ 64) wide64) count 0 bytes x fits e in
+    let t = all_takes read_word same_state (to_le_bytes w64) (λ _ w. is_word w) (λ s. number_takes w64 (2 ^ 64) wide64) count 0 bytes x fits e in
     (t.1, both _ _ (eq-eqb (length x.0) count t.0) (all_words x.0 t.2))
 
 -- ---- threads
 
-mode_takes : (regs bytes : List ℕ) (x : ℕ × List ℕ) → IsBytes bytes → mode_at regs bytes ≡ Ok x → Took one (is_mode regs) bytes x
-unfolding mode_at
+mode_takes : (regs bytes : List ℕ) (x : ℕ × List ℕ) → IsBytes bytes → read_mode regs bytes ≡ Ok x → Took one (is_mode_byte regs) bytes x
+unfolding read_mode
 mode_takes regs bytes x fits e =
-    let a = bind_ok (byte_at bytes) _ x e in
+    let a = bind_ok (read_byte bytes) _ x e in
     let g = chosen _ _ _ _ _ a.2 in
     let t = byte_takes bytes a.0 fits a.1 in
-    made one (is_mode regs) bytes a.0 x (ap Ok g.1) (t.0, g.0)
+    made one (is_mode_byte regs) bytes a.0 x (ap Ok g.1) (t.0, g.0)
 
-code_takes : (mode : ℕ) (bytes : List ℕ) (x : ℕ × List ℕ) → IsBytes bytes → code_at mode bytes ≡ Ok x → Took one (λ n. is_byte n && is_code mode n) bytes x
-unfolding code_at
+code_takes : (mode : ℕ) (bytes : List ℕ) (x : ℕ × List ℕ) → IsBytes bytes → read_code mode bytes ≡ Ok x → Took one (λ n. is_byte n && is_code mode n) bytes x
+unfolding read_code
 code_takes mode bytes x fits e =
-    let a = bind_ok (byte_at bytes) _ x e in
+    let a = bind_ok (read_byte bytes) _ x e in
     let g = chosen _ _ _ _ _ a.2 in
     let t = byte_takes bytes a.0 fits a.1 in
     made one (λ n. is_byte n && is_code mode n) bytes a.0 x (ap Ok g.1) (t.0, both _ _ t.1 g.0)
 
-open_talk_takes : (turn : ℕ) (bytes : List ℕ) (x : Option TalkRec × List ℕ) → IsBytes bytes → is_turn turn ≡ true → open_talk_at turn bytes ≡ Ok x
+open_talk_takes : (turn : ℕ) (bytes : List ℕ) (x : Option TalkRec × List ℕ) → IsBytes bytes → is_turn turn ≡ true → read_open_talk turn bytes ≡ Ok x
     → (before : List ℕ) → Takes before (turn ∷ []) bytes → Took talk fits_talk before x
-unfolding open_talk_at
+unfolding read_open_talk
 open_talk_takes turn bytes x fits good e before t =
-    let a = bind_ok (number_at w16 bytes) _ x e in
-    let b = bind_ok (link_at a.0.1) _ x a.2 in
-    let c = bind_ok (link_at b.0.1) _ x b.2 in
+    let a = bind_ok (read_number w16 bytes) _ x e in
+    let b = bind_ok (read_link a.0.1) _ x a.2 in
+    let c = bind_ok (read_link b.0.1) _ x b.2 in
     let t0 = number_takes w16 (2 ^ 16) wide16 bytes a.0 fits a.1 in
     let t1 = link_takes a.0.1 b.0 t0.0.rest_fits b.1 in
     let t2 = link_takes b.0.1 c.0 t1.0.rest_fits c.1 in
@@ -139,41 +139,41 @@ open_talk_takes turn bytes x fits good e before t =
     made talk fits_talk before (Some (record { turn = turn; moved = a.0.0; port = b.0.0; server = c.0.0 }), c.0.1) x c.2
     (Takes-then before (turn ∷ []) bytes (to_le_bytes w16 a.0.0 ++ (link b.0.0 ++ link c.0.0)) c.0.1 t all, all4 good t0.1 t1.1 t2.1)
 
-talk_takes : (bytes : List ℕ) (x : Option TalkRec × List ℕ) → IsBytes bytes → talk_at bytes ≡ Ok x → Took talk fits_talk bytes x
-unfolding talk_at
+talk_takes : (bytes : List ℕ) (x : Option TalkRec × List ℕ) → IsBytes bytes → read_talk bytes ≡ Ok x → Took talk fits_talk bytes x
+unfolding read_talk
 talk_takes bytes x fits e =
-    let a = bind_ok (below_at 3 bytes) _ x e in
+    let a = bind_ok (read_below 3 bytes) _ x e in
     let t = below_takes 3 bytes a.0 fits a.1 in
     by (eqb a.0.0 0) refl a.0.1 t a.2
   where
     by : (b : Bool) → {n : ℕ} → eqb n 0 ≡ b →
-        (rest : List ℕ) → Takes bytes (n ∷ []) rest × (ltb n 3 ≡ true) → cond b (Ok (None, rest)) (open_talk_at n rest) ≡ Ok x → Took talk fits_talk bytes x
+        (rest : List ℕ) → Takes bytes (n ∷ []) rest × (ltb n 3 ≡ true) → cond b (Ok (None, rest)) (read_open_talk n rest) ≡ Ok x → Took talk fits_talk bytes x
     by true {n} zero_is rest t e = made talk fits_talk bytes (None, rest) x e (subst (λ (k : ℕ). Takes bytes (k ∷ []) rest) (eqb-true n 0 zero_is) t.0, refl)
     by false {n} other rest t e = open_talk_takes n rest x t.0.rest_fits (both _ _ (not_false _ other) t.1) e bytes t.0
 
-taker_takes : (state : ℕ) (bytes : List ℕ) (x : Option Link × List ℕ) → IsBytes bytes → eqb state 0 ≡ false → ltb state 3 ≡ true → taker_at state bytes ≡ Ok x
+taker_takes : (state : ℕ) (bytes : List ℕ) (x : Option Link × List ℕ) → IsBytes bytes → eqb state 0 ≡ false → ltb state 3 ≡ true → read_taker state bytes ≡ Ok x
     → Took taker fits_taker bytes x × (state ≡ fault_state x.0)
-unfolding taker_at
+unfolding read_taker
 taker_takes zero bytes x fits other small e = absurd cc
 taker_takes (suc zero) bytes x fits other small e =
     let same : (None, bytes) ≡ x = ok_is (None, bytes) x e in
     subst (λ (y : Option Link × List ℕ). Took taker fits_taker bytes y × (1 ≡ fault_state y.0)) same ((record { parts = refl; rest_fits = fits }, refl), refl)
 taker_takes (suc (suc zero)) bytes x fits other small e =
-    let a = bind_ok (link_at bytes) _ x e in
+    let a = bind_ok (read_link bytes) _ x e in
     let t = link_takes bytes a.0 fits a.1 in
     let same : (Some a.0.0, a.0.1) ≡ x = ok_is (Some a.0.0, a.0.1) x a.2 in
     subst (λ (y : Option Link × List ℕ). Took taker fits_taker bytes y × (2 ≡ fault_state y.0)) same ((t.0, t.1), refl)
 taker_takes (suc (suc (suc k))) bytes x fits other small e = let lt = ltb-true (suc (suc (suc k))) 3 small in absurd (omega arith)
 
 met_fault_takes : (state : ℕ) (bytes : List ℕ) (x : Option FaultRec × List ℕ) →
-    IsBytes bytes → eqb state 0 ≡ false → ltb state 3 ≡ true → met_fault_at state bytes ≡ Ok x
+    IsBytes bytes → eqb state 0 ≡ false → ltb state 3 ≡ true → read_met_fault state bytes ≡ Ok x
     → (before : List ℕ) → Takes before (state ∷ []) bytes → Took fault fits_fault before x
-unfolding met_fault_at
+unfolding read_met_fault
 met_fault_takes state bytes x fits other small e before t =
-    let a = bind_ok (byte_at bytes) _ x e in
-    let b = bind_ok (below_at 2 a.0.1) _ x a.2 in
-    let c = bind_ok (link_at b.0.1) _ x b.2 in
-    let d = bind_ok (taker_at state c.0.1) _ x c.2 in
+    let a = bind_ok (read_byte bytes) _ x e in
+    let b = bind_ok (read_below 2 a.0.1) _ x a.2 in
+    let c = bind_ok (read_link b.0.1) _ x b.2 in
+    let d = bind_ok (read_taker state c.0.1) _ x c.2 in
     let t0 = byte_takes bytes a.0 fits a.1 in
     let t1 = below_takes 2 a.0.1 b.0 t0.0.rest_fits b.1 in
     let t2 = link_takes b.0.1 c.0 t1.0.rest_fits c.1 in
@@ -185,29 +185,29 @@ met_fault_takes state bytes x fits other small e before t =
     made fault fits_fault before (Some (record { page = a.0.0; write = b.0.0; port = c.0.0; taker = d.0.0 }), d.0.1) x d.2
     (subst (λ (k : ℕ). Takes before (k ∷ a.0.0 ∷ b.0.0 ∷ (link c.0.0 ++ taker d.0.0)) d.0.1) t3.1 whole, all4 t0.1 t1.1 t2.1 t3.0.1)
 
-fault_takes : (bytes : List ℕ) (x : Option FaultRec × List ℕ) → IsBytes bytes → fault_at bytes ≡ Ok x → Took fault fits_fault bytes x
-unfolding fault_at
+fault_takes : (bytes : List ℕ) (x : Option FaultRec × List ℕ) → IsBytes bytes → read_fault bytes ≡ Ok x → Took fault fits_fault bytes x
+unfolding read_fault
 fault_takes bytes x fits e =
-    let a = bind_ok (below_at 3 bytes) _ x e in
+    let a = bind_ok (read_below 3 bytes) _ x e in
     let t = below_takes 3 bytes a.0 fits a.1 in
     by (eqb a.0.0 0) refl a.0.1 t a.2
   where
     by : (b : Bool) → {n : ℕ} → eqb n 0 ≡ b →
-        (rest : List ℕ) → Takes bytes (n ∷ []) rest × (ltb n 3 ≡ true) → cond b (Ok (None, rest)) (met_fault_at n rest) ≡ Ok x → Took fault fits_fault bytes x
+        (rest : List ℕ) → Takes bytes (n ∷ []) rest × (ltb n 3 ≡ true) → cond b (Ok (None, rest)) (read_met_fault n rest) ≡ Ok x → Took fault fits_fault bytes x
     by true {n} zero_is rest t e = made fault fits_fault bytes (None, rest) x e (subst (λ (k : ℕ). Takes bytes (k ∷ []) rest) (eqb-true n 0 zero_is) t.0, refl)
     by false {n} other rest t e = met_fault_takes n rest x t.0.rest_fits other t.1 e bytes t.0
 
 thread_takes : (bytes : List ℕ) (x : Rec × List ℕ) →
-    IsBytes bytes → thread_at bytes ≡ Ok x → (before : List ℕ) → Takes before (8 ∷ []) bytes → Took body fits_body before x
-unfolding thread_at
+    IsBytes bytes → read_thread bytes ≡ Ok x → (before : List ℕ) → Takes before (8 ∷ []) bytes → Took body fits_body before x
+unfolding read_thread
 thread_takes bytes x fits e before t =
-    let a = bind_ok (words_at 16 bytes) _ x e in
-    let b = bind_ok (number_at w64 a.0.1) _ x a.2 in
-    let c = bind_ok (mode_at a.0.0 b.0.1) _ x b.2 in
-    let d = bind_ok (code_at c.0.0 c.0.1) _ x c.2 in
-    let f = bind_ok (number_at w16 d.0.1) _ x d.2 in
-    let g = bind_ok (talk_at f.0.1) _ x f.2 in
-    let h = bind_ok (fault_at g.0.1) _ x g.2 in
+    let a = bind_ok (read_words 16 bytes) _ x e in
+    let b = bind_ok (read_number w64 a.0.1) _ x a.2 in
+    let c = bind_ok (read_mode a.0.0 b.0.1) _ x b.2 in
+    let d = bind_ok (read_code c.0.0 c.0.1) _ x c.2 in
+    let f = bind_ok (read_number w16 d.0.1) _ x d.2 in
+    let g = bind_ok (read_talk f.0.1) _ x f.2 in
+    let h = bind_ok (read_fault g.0.1) _ x g.2 in
     let t0 = words_take 16 bytes a.0 fits a.1 in
     let t1 = number_takes w64 (2 ^ 64) wide64 a.0.1 b.0 t0.0.rest_fits b.1 in
     let t2 = mode_takes a.0.0 b.0.1 c.0 t1.0.rest_fits c.1 in
@@ -234,11 +234,11 @@ abbrev extent : ℕ × ℕ → List ℕ
 extent pages = pages.0 ∷ to_le_bytes w16 pages.1
 
 extent_takes : (bytes : List ℕ) (x : (ℕ × ℕ) × List ℕ) →
-    IsBytes bytes → extent_at bytes ≡ Ok x → Took extent (λ p. is_byte p.0 && is_half p.1 && is_extent p.0 p.1) bytes x
-unfolding extent_at
+    IsBytes bytes → read_extent bytes ≡ Ok x → Took extent (λ p. is_byte p.0 && is_half p.1 && is_extent p.0 p.1) bytes x
+unfolding read_extent
 extent_takes bytes x fits e =
-    let a = bind_ok (byte_at bytes) _ x e in
-    let b = bind_ok (number_at w16 a.0.1) _ x a.2 in
+    let a = bind_ok (read_byte bytes) _ x e in
+    let b = bind_ok (read_number w16 a.0.1) _ x a.2 in
     let g = chosen _ _ _ _ _ b.2 in
     let t0 = byte_takes bytes a.0 fits a.1 in
     let t1 = number_takes w16 (2 ^ 16) wide16 a.0.1 b.0 t0.0.rest_fits b.1 in
@@ -246,13 +246,13 @@ extent_takes bytes x fits e =
     (Takes-then bytes (a.0.0 ∷ []) a.0.1 (to_le_bytes w16 b.0.0) b.0.1 t0.0 t1.0, all3 t0.1 t1.1 g.0)
 
 mapping_takes : (bytes : List ℕ) (x : Rec × List ℕ) →
-    IsBytes bytes → mapping_at bytes ≡ Ok x → (before : List ℕ) → Takes before (3 ∷ []) bytes → Took body fits_body before x
-unfolding mapping_at
+    IsBytes bytes → read_mapping bytes ≡ Ok x → (before : List ℕ) → Takes before (3 ∷ []) bytes → Took body fits_body before x
+unfolding read_mapping
 mapping_takes bytes x fits e before t =
-    let a = bind_ok (extent_at bytes) _ x e in
-    let b = bind_ok (byte_at a.0.1) _ x a.2 in
-    let c = bind_ok (below_at 2 b.0.1) _ x b.2 in
-    let d = bind_ok (link_at c.0.1) _ x c.2 in
+    let a = bind_ok (read_extent bytes) _ x e in
+    let b = bind_ok (read_byte a.0.1) _ x a.2 in
+    let c = bind_ok (read_below 2 b.0.1) _ x b.2 in
+    let d = bind_ok (read_link c.0.1) _ x c.2 in
     let t0 = extent_takes bytes a.0 fits a.1 in
     let t1 = byte_takes a.0.1 b.0 t0.0.rest_fits b.1 in
     let t2 = below_takes 2 b.0.1 c.0 t1.0.rest_fits c.1 in
@@ -264,12 +264,12 @@ mapping_takes bytes x fits e before t =
     (Takes-then before (3 ∷ []) bytes (extent a.0.0 ++ (b.0.0 ∷ c.0.0 ∷ link d.0.0)) d.0.1 t u0, all4 t0.1 t1.1 t2.1 t3.1)
 
 region_takes : (bytes : List ℕ) (x : Rec × List ℕ) →
-    IsBytes bytes → region_at bytes ≡ Ok x → (before : List ℕ) → Takes before (4 ∷ []) bytes → Took body fits_body before x
-unfolding region_at
+    IsBytes bytes → read_region bytes ≡ Ok x → (before : List ℕ) → Takes before (4 ∷ []) bytes → Took body fits_body before x
+unfolding read_region
 region_takes bytes x fits e before t =
-    let a = bind_ok (extent_at bytes) _ x e in
-    let c = bind_ok (below_at 2 a.0.1) _ x a.2 in
-    let d = bind_ok (link_at c.0.1) _ x c.2 in
+    let a = bind_ok (read_extent bytes) _ x e in
+    let c = bind_ok (read_below 2 a.0.1) _ x a.2 in
+    let d = bind_ok (read_link c.0.1) _ x c.2 in
     let t0 = extent_takes bytes a.0 fits a.1 in
     let t2 = below_takes 2 a.0.1 c.0 t0.0.rest_fits c.1 in
     let t3 = link_takes c.0.1 d.0 t2.0.rest_fits d.1 in
@@ -279,41 +279,41 @@ region_takes bytes x fits e before t =
     (Takes-then before (4 ∷ []) bytes (extent a.0.0 ++ (c.0.0 ∷ link d.0.0)) d.0.1 t u0, all3 t0.1 t2.1 t3.1)
 
 port_takes : (bytes : List ℕ) (x : Rec × List ℕ) →
-    IsBytes bytes → port_at bytes ≡ Ok x → (before : List ℕ) → Takes before (5 ∷ []) bytes → Took body fits_body before x
-unfolding port_at
+    IsBytes bytes → read_port bytes ≡ Ok x → (before : List ℕ) → Takes before (5 ∷ []) bytes → Took body fits_body before x
+unfolding read_port
 port_takes bytes x fits e before t =
-    let a = bind_ok (number_at w16 bytes) _ x e in
-    let g = chosen (is_member a.0.0) (Port a.0.0, a.0.1) bytes 5 x a.2 in
+    let a = bind_ok (read_number w16 bytes) _ x e in
+    let g = chosen (is_set_word a.0.0) (Port a.0.0, a.0.1) bytes 5 x a.2 in
     let t0 = number_takes w16 (2 ^ 16) wide16 bytes a.0 fits a.1 in
     made body fits_body before (Port a.0.0, a.0.1) x (ap Ok g.1) (Takes-then before (5 ∷ []) bytes (to_le_bytes w16 a.0.0) a.0.1 t t0.0, g.0)
 
 mutex_takes : (bytes : List ℕ) (x : Rec × List ℕ) →
-    IsBytes bytes → mutex_at bytes ≡ Ok x → (before : List ℕ) → Takes before (1 ∷ []) bytes → Took body fits_body before x
-unfolding mutex_at
+    IsBytes bytes → read_mutex bytes ≡ Ok x → (before : List ℕ) → Takes before (1 ∷ []) bytes → Took body fits_body before x
+unfolding read_mutex
 mutex_takes bytes x fits e before t =
-    let a = bind_ok (below_at 2 bytes) _ x e in
+    let a = bind_ok (read_below 2 bytes) _ x e in
     let t0 = below_takes 2 bytes a.0 fits a.1 in
     made body fits_body before (Mutex a.0.0, a.0.1) x a.2 (Takes-then before (1 ∷ []) bytes (a.0.0 ∷ []) a.0.1 t t0.0, t0.1)
 
 reference_takes : (bytes : List ℕ) (x : Rec × List ℕ) →
-    IsBytes bytes → reference_at bytes ≡ Ok x → (before : List ℕ) → Takes before (9 ∷ []) bytes → Took body fits_body before x
-unfolding reference_at
+    IsBytes bytes → read_reference bytes ≡ Ok x → (before : List ℕ) → Takes before (9 ∷ []) bytes → Took body fits_body before x
+unfolding read_reference
 reference_takes bytes x fits e before t =
-    let a = bind_ok (link_at bytes) _ x e in
+    let a = bind_ok (read_link bytes) _ x e in
     let t0 = link_takes bytes a.0 fits a.1 in
     made body fits_body before (Reference a.0.0, a.0.1) x a.2 (Takes-then before (9 ∷ []) bytes (link a.0.0) a.0.1 t t0.0, t0.1)
 
-body_takes : (bytes : List ℕ) (x : Rec × List ℕ) → IsBytes bytes → body_at bytes ≡ Ok x → Took body fits_body bytes x
-unfolding body_at
+body_takes : (bytes : List ℕ) (x : Rec × List ℕ) → IsBytes bytes → read_body bytes ≡ Ok x → Took body fits_body bytes x
+unfolding read_body
 body_takes bytes x fits e =
-    let a = bind_ok (byte_at bytes) _ x e in
+    let a = bind_ok (read_byte bytes) _ x e in
     let t = byte_takes bytes a.0 fits a.1 in
     by a.0.0 a.0.1 t.0 a.2
   where
     by : (kind : ℕ) (rest : List ℕ) → Takes bytes (kind ∷ []) rest
-        → cond (eqb kind 1) (mutex_at rest) (cond (eqb kind 2) (Ok (Cond, rest)) (cond (eqb kind 3) (mapping_at rest) (cond (eqb kind 4) (region_at rest)
-        (cond (eqb kind 5) (port_at rest)
-        (cond (eqb kind 6) (Ok (Portset, rest)) (cond (eqb kind 8) (thread_at rest) (cond (eqb kind 9) (reference_at rest) (refuse bytes 5)))))))) ≡ Ok x
+        → cond (eqb kind 1) (read_mutex rest) (cond (eqb kind 2) (Ok (Cond, rest)) (cond (eqb kind 3) (read_mapping rest) (cond (eqb kind 4) (read_region rest)
+        (cond (eqb kind 5) (read_port rest)
+        (cond (eqb kind 6) (Ok (Portset, rest)) (cond (eqb kind 8) (read_thread rest) (cond (eqb kind 9) (read_reference rest) (refuse_field bytes 5)))))))) ≡ Ok x
         → Took body fits_body bytes x
     by zero rest t e = absurd (never bytes 5 x e)
     by (suc zero) rest t e = mutex_takes rest x t.rest_fits e bytes t
@@ -338,23 +338,23 @@ body_takes bytes x fits e =
           ne_eqb n 9 (λ h. omega arith),
         ) at e))
 
-object_takes : (floor : ℕ) (bytes : List ℕ) (x : ObjectRec × List ℕ) → IsBytes bytes → object_at floor bytes ≡ Ok x → Took object (fits_object floor) bytes x
-unfolding object_at
+object_takes : (floor : ℕ) (bytes : List ℕ) (x : ObjectRec × List ℕ) → IsBytes bytes → read_object floor bytes ≡ Ok x → Took object (fits_object floor) bytes x
+unfolding read_object
 object_takes floor bytes x fits e =
-    let a = bind_ok (below_at 240 bytes) _ x e in
+    let a = bind_ok (read_below 240 bytes) _ x e in
     let g = expect_ok _ _ _ _ _ a.2 in
-    let b = bind_ok (body_at a.0.1) _ x g.1 in
+    let b = bind_ok (read_body a.0.1) _ x g.1 in
     let t0 = below_takes 240 bytes a.0 fits a.1 in
     let t1 = body_takes a.0.1 b.0 t0.0.rest_fits b.1 in
     made object (fits_object floor) bytes (record { slot = a.0.0; body = b.0.0 }, b.0.1) x b.2
     (Takes-then bytes (a.0.0 ∷ []) a.0.1 (body b.0.0) b.0.1 t0.0 t1.0, all3 t0.1 g.0 t1.1)
 
-page_takes : (floor : ℕ) (bytes : List ℕ) (x : PageRec × List ℕ) → IsBytes bytes → page_at floor bytes ≡ Ok x → Took page (fits_page floor) bytes x
-unfolding page_at
+page_takes : (floor : ℕ) (bytes : List ℕ) (x : PageRec × List ℕ) → IsBytes bytes → read_page floor bytes ≡ Ok x → Took page (fits_page floor) bytes x
+unfolding read_page
 page_takes floor bytes x fits e =
-    let a = bind_ok (byte_at bytes) _ x e in
+    let a = bind_ok (read_byte bytes) _ x e in
     let g = expect_ok _ _ _ _ _ a.2 in
-    let b = bind_ok (words_at 64 a.0.1) _ x g.1 in
+    let b = bind_ok (read_words 64 a.0.1) _ x g.1 in
     let t0 = byte_takes bytes a.0 fits a.1 in
     let t1 = words_take 64 a.0.1 b.0 t0.0.rest_fits b.1 in
     made page (fits_page floor) bytes (record { page = a.0.0; words = b.0.0 }, b.0.1) x b.2
@@ -366,23 +366,23 @@ objects_part os = to_le_bytes w16 (length os) ++ flat_map object os
 abbrev pages_part : List PageRec → List ℕ
 pages_part ps = to_le_bytes w16 (length ps) ++ flat_map page ps
 
-objects_take : (bytes : List ℕ) (x : List ObjectRec × List ℕ) → IsBytes bytes → objects_at bytes ≡ Ok x → Took objects_part fits_objects bytes x
-unfolding objects_at
+objects_take : (bytes : List ℕ) (x : List ObjectRec × List ℕ) → IsBytes bytes → read_objects bytes ≡ Ok x → Took objects_part fits_objects bytes x
+unfolding read_objects
 objects_take bytes x fits e =
-    let a = bind_ok (number_at w16 bytes) _ x e in
+    let a = bind_ok (read_number w16 bytes) _ x e in
     let t0 = number_takes w16 (2 ^ 16) wide16 bytes a.0 fits a.1 in
-    let t1 = all_takes object_at after_object object fits_object object_takes a.0.0 0 a.0.1 x t0.0.rest_fits a.2 in
+    let t1 = all_takes read_object after_object object fits_object object_takes a.0.0 0 a.0.1 x t0.0.rest_fits a.2 in
     let whole = Takes-then bytes (to_le_bytes w16 a.0.0) a.0.1 (flat_map object x.0) x.1 t0.0 t1.1 in (
       subst (λ (n : ℕ). Takes bytes (to_le_bytes w16 n ++ flat_map object x.0) x.1) (sym t1.0) whole,
       both _ _ (subst (λ (n : ℕ). is_half n ≡ true) (sym t1.0) t0.1) t1.2,
     )
 
-pages_take : (bytes : List ℕ) (x : List PageRec × List ℕ) → IsBytes bytes → pages_at bytes ≡ Ok x → Took pages_part fits_pages bytes x
-unfolding pages_at
+pages_take : (bytes : List ℕ) (x : List PageRec × List ℕ) → IsBytes bytes → read_pages bytes ≡ Ok x → Took pages_part fits_pages bytes x
+unfolding read_pages
 pages_take bytes x fits e =
-    let a = bind_ok (number_at w16 bytes) _ x e in
+    let a = bind_ok (read_number w16 bytes) _ x e in
     let t0 = number_takes w16 (2 ^ 16) wide16 bytes a.0 fits a.1 in
-    let t1 = all_takes page_at after_page page fits_page page_takes a.0.0 0 a.0.1 x t0.0.rest_fits a.2 in
+    let t1 = all_takes read_page after_page page fits_page page_takes a.0.0 0 a.0.1 x t0.0.rest_fits a.2 in
     let whole = Takes-then bytes (to_le_bytes w16 a.0.0) a.0.1 (flat_map page x.0) x.1 t0.0 t1.1 in (
       subst (λ (n : ℕ). Takes bytes (to_le_bytes w16 n ++ flat_map page x.0) x.1) (sym t1.0) whole,
       both _ _ (subst (λ (n : ℕ). is_half n ≡ true) (sym t1.0) t0.1) t1.2,
@@ -394,7 +394,7 @@ pages_take bytes x fits e =
 joined : (before : List SpaceRec) (path : List Open) (bytes r0 r1 r2 r3 : List ℕ) (s : SpaceRec) (rest : List ℕ)
     → Takes bytes (to_le_bytes w32 s.parent) r0 → Takes r0 (s.slot ∷ []) r1 → Takes r1 (link s.holder) r2
     → Took objects_part fits_objects r2 (s.objects, r3) → Took pages_part fits_pages r3 (s.pages, rest)
-    → is_placed before path s ≡ true → Took space (fits_space (before, path)) bytes (s, rest)
+    → stands_in_order before path s ≡ true → Took space (fits_space (before, path)) bytes (s, rest)
 joined before path bytes r0 r1 r2 r3 s rest t0 t1 t2 t3 t4 placed =
     let os = objects_part s.objects in
     let ps = pages_part s.pages in
@@ -406,17 +406,17 @@ joined before path bytes r0 r1 r2 r3 s rest t0 t1 t2 t3 t4 placed =
     ++ (flat_map object s.objects ++ ps) = append_assoc (to_le_bytes w16 (length s.objects)) (flat_map object s.objects) ps in
     (subst (λ (c : List ℕ). Takes bytes (to_le_bytes w32 s.parent ++ (s.slot ∷ (link s.holder ++ c))) rest) regroup e04, all3 placed t3.1 t4.1)
 
-first_takes : (path : List Open) (bytes : List ℕ) (x : SpaceRec × List ℕ) → IsBytes bytes → first_at bytes ≡ Ok x → Took space (fits_space ([], path)) bytes x
-unfolding first_at
+first_takes : (path : List Open) (bytes : List ℕ) (x : SpaceRec × List ℕ) → IsBytes bytes → read_first bytes ≡ Ok x → Took space (fits_space ([], path)) bytes x
+unfolding read_first
 first_takes path bytes x fits e =
-    let a = bind_ok (number_at w32 bytes) _ x e in
+    let a = bind_ok (read_number w32 bytes) _ x e in
     let g0 = expect_ok (eqb a.0.0 4294967295) bytes 5 _ x a.2 in
-    let b = bind_ok (byte_at a.0.1) _ x g0.1 in
+    let b = bind_ok (read_byte a.0.1) _ x g0.1 in
     let g1 = expect_ok (eqb b.0.0 0) a.0.1 5 _ x b.2 in
-    let c = bind_ok (byte_at b.0.1) _ x g1.1 in
+    let c = bind_ok (read_byte b.0.1) _ x g1.1 in
     let g2 = expect_ok (eqb c.0.0 0) b.0.1 5 _ x c.2 in
-    let os = bind_ok (objects_at c.0.1) _ x g2.1 in
-    let ps = bind_ok (pages_at os.0.1) _ x os.2 in
+    let os = bind_ok (read_objects c.0.1) _ x g2.1 in
+    let ps = bind_ok (read_pages os.0.1) _ x os.2 in
     let t0 = number_takes w32 (2 ^ 32) wide32 bytes a.0 fits a.1 in
     let t1 = byte_takes a.0.1 b.0 t0.0.rest_fits b.1 in
     let t2 = byte_takes b.0.1 c.0 t1.0.rest_fits c.1 in
@@ -427,7 +427,7 @@ first_takes path bytes x fits e =
     made space
     (fits_space ([], path)) bytes (s, ps.0.1) x ps.2 (joined [] path bytes a.0.1 b.0.1 c.0.1 os.0.1 s ps.0.1 t0.0 t1.0 null t3 t4 (all3 g0.0 g1.0 refl))
 
-room_is : (room : Option ℕ) (bytes : List ℕ) (x : ℕ) → or_refuse room bytes 4 ≡ Ok x → room ≡ Some x
+room_is : (room : Option ℕ) (bytes : List ℕ) (x : ℕ) → or_refuse_field room bytes 4 ≡ Ok x → room ≡ Some x
 room_is None bytes x e = absurd (never bytes 4 x e)
 room_is (Some n) bytes x e = ap Some (ok_is n x e)
 
@@ -435,17 +435,17 @@ has_it : (room : Option ℕ) (floor slot : ℕ) → room ≡ Some floor → not 
 has_it room floor slot is e = rw is e
 
 next_takes : (d : SpaceRec) (before : List SpaceRec) (path : List Open) (bytes : List ℕ) (x : SpaceRec × List ℕ) →
-    IsBytes bytes → next_at (d ∷ before) path bytes ≡ Ok x → Took space (fits_space (d ∷ before, path)) bytes x
-unfolding next_at room_at
+    IsBytes bytes → read_next (d ∷ before) path bytes ≡ Ok x → Took space (fits_space (d ∷ before, path)) bytes x
+unfolding read_next read_room
 next_takes d before path bytes x fits e =
-    let a = bind_ok (number_at w32 bytes) _ x e in
-    let f = bind_ok (room_at path a.0.0 bytes) _ x a.2 in
-    let b = bind_ok (below_at 240 a.0.1) _ x f.2 in
+    let a = bind_ok (read_number w32 bytes) _ x e in
+    let f = bind_ok (read_room path a.0.0 bytes) _ x a.2 in
+    let b = bind_ok (read_below 240 a.0.1) _ x f.2 in
     let g0 = expect_ok _ _ _ _ _ b.2 in
     let g1 = expect_ok _ _ _ _ _ g0.1 in
-    let c = bind_ok (link_at b.0.1) _ x g1.1 in
-    let os = bind_ok (objects_at c.0.1) _ x c.2 in
-    let ps = bind_ok (pages_at os.0.1) _ x os.2 in
+    let c = bind_ok (read_link b.0.1) _ x g1.1 in
+    let os = bind_ok (read_objects c.0.1) _ x c.2 in
+    let ps = bind_ok (read_pages os.0.1) _ x os.2 in
     let t0 = number_takes w32 (2 ^ 32) wide32 bytes a.0 fits a.1 in
     let t1 = below_takes 240 a.0.1 b.0 t0.0.rest_fits b.1 in
     let t2 = link_takes b.0.1 c.0 t1.0.rest_fits c.1 in
@@ -457,13 +457,13 @@ next_takes d before path bytes x fits e =
     (all5 t0.1 t1.1 (has_it (room_under path a.0.0) f.0 b.0.0 (room_is _ bytes f.0 f.1) g0.0) g1.0 t2.1))
 
 placed_takes : (before : List SpaceRec) (path : List Open) (bytes : List ℕ) (x : SpaceRec × List ℕ) →
-    IsBytes bytes → placed_at before path bytes ≡ Ok x → Took space (fits_space (before, path)) bytes x
+    IsBytes bytes → read_placed before path bytes ≡ Ok x → Took space (fits_space (before, path)) bytes x
 placed_takes [] path bytes x fits e = first_takes path bytes x fits e
 placed_takes (d ∷ before) path bytes x fits e = next_takes d before path bytes x fits e
 
 space_takes : (before : List SpaceRec × List Open) (bytes : List ℕ) (x : SpaceRec × List ℕ) →
-    IsBytes bytes → space_at before bytes ≡ Ok x → Took space (fits_space before) bytes x
-unfolding space_at
+    IsBytes bytes → read_space before bytes ≡ Ok x → Took space (fits_space before) bytes x
+unfolding read_space
 space_takes before bytes x fits e = placed_takes before.0 before.1 bytes x fits e
 
 -- ---- images
@@ -471,14 +471,14 @@ space_takes before bytes x fits e = placed_takes before.0 before.1 bytes x fits 
 abbrev head : ℕ → List ℕ
 head n = magic ++ (to_le_bytes w16 1 ++ to_le_bytes w32 n)
 
-head_takes : (bytes : List ℕ) (x : ℕ × List ℕ) → IsBytes bytes → head_at bytes ≡ Ok x → Took head (λ n. ltb 0 n && ltb n (2 ^ 32)) bytes x
-unfolding head_at
+head_takes : (bytes : List ℕ) (x : ℕ × List ℕ) → IsBytes bytes → read_head bytes ≡ Ok x → Took head (λ n. ltb 0 n && ltb n (2 ^ 32)) bytes x
+unfolding read_head
 head_takes bytes x fits e =
     let g0 = expect_ok (not (ltb (length bytes) 8)) bytes 3 _ x e in
     let g1 = expect_ok _ _ _ _ _ g0.1 in
-    let a = bind_ok (number_at w16 (drop 8 bytes)) _ x g1.1 in
+    let a = bind_ok (read_number w16 (drop 8 bytes)) _ x g1.1 in
     let g2 = expect_ok _ _ _ _ _ a.2 in
-    let b = bind_ok (number_at w32 a.0.1) _ x g2.1 in
+    let b = bind_ok (read_number w32 a.0.1) _ x g2.1 in
     let g3 = expect_ok _ _ _ _ _ b.2 in
     let front : take 8 bytes ≡ magic = same_text (take 8 bytes) magic (sym g1.0) in
     let t0 : Takes bytes magic (drop 8 bytes) =
@@ -492,14 +492,14 @@ head_takes bytes x fits e =
     (to_le_bytes w16 1 ++ to_le_bytes w32 b.0.0) b.0.1 t0 (Takes-then (drop 8 bytes) (to_le_bytes w16 1) a.0.1 (to_le_bytes w32 b.0.0) b.0.1 t1one t2.0) in
     made head (λ n. ltb 0 n && ltb n (2 ^ 32)) bytes b.0 x g3.1 (whole, both _ _ (lt-ltb 0 b.0.0 (omega arith)) t2.1)
 
-pub image_takes : (bytes : List ℕ) (i : Image) → IsBytes bytes → image_at bytes ≡ Ok i → (fits_spaces i.spaces ≡ true) × (bytes ≡ spelling i)
-unfolding image_at
+pub image_takes : (bytes : List ℕ) (i : Image) → IsBytes bytes → read_image bytes ≡ Ok i → (fits_spaces i.spaces ≡ true) × (bytes ≡ spelling i)
+unfolding read_image
 image_takes bytes i fits e =
-    let a = bind_ok (head_at bytes) _ i e in
-    let b = bind_ok (many space_at after_space a.0.0 ([], root_path) [] a.0.1) _ i a.2 in
+    let a = bind_ok (read_head bytes) _ i e in
+    let b = bind_ok (read_many read_space after_space a.0.0 ([], root_path) [] a.0.1) _ i a.2 in
     let g = expect_ok _ _ _ _ _ b.2 in
     let t0 = head_takes bytes a.0 fits a.1 in
-    let t1 = all_takes space_at after_space space fits_space space_takes a.0.0 ([], root_path) a.0.1 b.0 t0.0.rest_fits b.1 in
+    let t1 = all_takes read_space after_space space fits_space space_takes a.0.0 ([], root_path) a.0.1 b.0 t0.0.rest_fits b.1 in
     let nothing : b.0.1 ≡ [] = nil_from_length b.0.1 (eqb-true _ _ g.0) in
     let whole = (Takes-then bytes (head a.0.0) a.0.1 (flat_map space b.0.0) b.0.1 t0.0 t1.1).parts in
     let spelled : bytes ≡ spelling (record { spaces = b.0.0 }) = whole ∙ ap (λ (r : List ℕ). (head a.0.0 ++ flat_map space b.0.0) ++ r) nothing

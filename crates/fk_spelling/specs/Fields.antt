@@ -9,26 +9,26 @@ abbrev pub ◌>>=◌ : {A B E : Type 0} → Result A E → (A → Result B E) �
 (Err e) >>= f = Err e
 
 -- the fault of the field at the front of these bytes
-abbrev pub refuse : {A : Type 0} → List ℕ → ℕ → Result A Stop
-refuse bytes reason = Err (record { left = length bytes; reason = reason })
+abbrev pub refuse_field : {A : Type 0} → List ℕ → ℕ → Result A Stop
+refuse_field bytes reason = Err (record { left = length bytes; reason = reason })
 
 abbrev pub expect : Bool → List ℕ → ℕ → Result (Unit {0}) Stop
-expect good bytes reason = if good then Ok tt else refuse bytes reason
+expect good bytes reason = if good then Ok tt else refuse_field bytes reason
 
-abbrev pub byte_at : List ℕ → Result (ℕ × List ℕ) Stop
-byte_at [] = refuse [] 3
-byte_at (b ∷ rest) = Ok (b, rest)
+abbrev pub read_byte : List ℕ → Result (ℕ × List ℕ) Stop
+read_byte [] = refuse_field [] 3
+read_byte (b ∷ rest) = Ok (b, rest)
 
-abbrev pub number_at : Width → List ℕ → Result (ℕ × List ℕ) Stop
-number_at w bytes = if nat_lt (length bytes) (byte_len w) then refuse bytes 3 else Ok (from_le_bytes w (take (byte_len w) bytes), drop (byte_len w) bytes)
+abbrev pub read_number : Width → List ℕ → Result (ℕ × List ℕ) Stop
+read_number w bytes = if nat_lt (length bytes) (byte_len w) then refuse_field bytes 3 else Ok (from_le_bytes w (take (byte_len w) bytes), drop (byte_len w) bytes)
 
 -- a byte below a limit
-unfoldable pub below_at : ℕ → List ℕ → Result (ℕ × List ℕ) Stop
-below_at limit bytes = do
-  b ← byte_at bytes
-  if nat_lt b.0 limit then Ok b else refuse bytes 5
+unfoldable pub read_below : ℕ → List ℕ → Result (ℕ × List ℕ) Stop
+read_below limit bytes = do
+  b ← read_byte bytes
+  if nat_lt b.0 limit then Ok b else refuse_field bytes 5
 
 -- n items, each read in the light of what those before it left
-unfoldable pub many : {S X : Type 0} → (S → List ℕ → Result (X × List ℕ) Stop) → (S → X → S) → ℕ → S → List X → List ℕ → Result (List X × List ℕ) Stop
-many item next zero s done bytes = Ok (done, bytes)
-many item next (suc n) s done bytes = item s bytes >>= λ x. many item next n (next s x.0) (done ++ x.0 ∷ []) x.1
+unfoldable pub read_many : {S X : Type 0} → (S → List ℕ → Result (X × List ℕ) Stop) → (S → X → S) → ℕ → S → List X → List ℕ → Result (List X × List ℕ) Stop
+read_many item next zero s done bytes = Ok (done, bytes)
+read_many item next (suc n) s done bytes = item s bytes >>= λ x. read_many item next n (next s x.0) (done ++ x.0 ∷ []) x.1

@@ -13,9 +13,9 @@ use Rattle.fk_image.specs.declared.image.Rec.TheVariants.{Mutex, Cond, Portset, 
 use Rattle.fk_image.specs.declared.image.ObjectRec.{ObjectRec}
 use Rattle.fk_image.specs.declared.image.SpaceRec.{SpaceRec}
 use Rattle.fk_image.specs.declared.image.Image.{Image}
-use Rattle.fk_image.specs.Links.{holds, leads_to_region, leads_to_keeper, leads_to_port, is_set_of, refers, serves}
+use Rattle.fk_image.specs.Links.{may_hold, leads_to_region, leads_to_keeper, leads_to_port, is_set_of, may_refer, serves_port}
 use Rattle.fk_spelling.specs.Fields.{◌>>=◌}
-use Rattle.fk_spelling.specs.Spelling.{link, taker}
+use Rattle.fk_spelling.specs.Spelling.{link_bytes}
 
 -- the threads that were named, by the numbers of their spaces and their slots
 abbrev pub Named : Type 0
@@ -46,14 +46,14 @@ expect_at good at = if good then Ok tt else Err at
 -- a peer of a port, whose tag has an offset
 unfoldable pub peer_walk : List SpaceRec → Link → Link → Walk → Result Walk ℕ
 peer_walk spaces port peer w = do
-  _ ← expect_at (serves spaces port peer && not (is_named w.named peer)) w.at
-  Ok (record { at = w.at + length (link peer); named = with_peer peer w.named })
+  _ ← expect_at (serves_port spaces port peer && not (is_named w.named peer)) w.at
+  Ok (record { at = w.at + length (link_bytes peer); named = with_peer peer w.named })
 
 -- a port is behind a turn and a count, or behind a state, a page and a flag
 unfoldable pub port_walk : List SpaceRec → Link → Walk → Result Walk ℕ
 port_walk spaces port w = do
   _ ← expect_at (leads_to_port spaces port) (w.at + 3)
-  Ok (record { at = w.at + 3 + length (link port); named = w.named })
+  Ok (record { at = w.at + 3 + length (link_bytes port); named = w.named })
 
 abbrev pub talk_walk : List SpaceRec → Option TalkRec → Walk → Result Walk ℕ
 talk_walk spaces None w = Ok (record { at = w.at + 1; named = w.named })
@@ -74,7 +74,7 @@ past size w = record { at = w.at + size; named = w.named }
 unfoldable pub link_walk : Bool → ℕ → Link → Walk → Result Walk ℕ
 link_walk right before to w = do
   _ ← expect_at right (w.at + before)
-  Ok (past (before + length (link to)) w)
+  Ok (past (before + length (link_bytes to)) w)
 
 -- in front of a thread's talk are its slot and kind, 16 registers and the counter, the mode, the halt code and the stop count
 unfoldable pub thread_walk : List SpaceRec → ThreadRec → Walk → Result Walk ℕ
@@ -94,7 +94,7 @@ body_walk spaces objects (Mapping first count offset write region) w = link_walk
 body_walk spaces objects (Region first count write keeper) w = link_walk (leads_to_keeper spaces keeper) 6 keeper w
 body_walk spaces objects (Port set) w = set_walk (is_set_of objects set) w
 body_walk spaces objects (Thread t) w = thread_walk spaces t w
-body_walk spaces objects (Reference to) w = link_walk (refers spaces to) 2 to w
+body_walk spaces objects (Reference to) w = link_walk (may_refer spaces to) 2 to w
 
 unfoldable pub objects_walk : List SpaceRec → List ObjectRec → List ObjectRec → Walk → Result Walk ℕ
 objects_walk spaces all [] w = Ok w
@@ -103,7 +103,7 @@ objects_walk spaces all (o ∷ os) w = body_walk spaces all o.body w >>= objects
 -- A holder is behind a parent and a slot, the first object behind a count, and the pages, of 513 bytes each, behind a count.
 unfoldable pub space_walk : List SpaceRec → ℕ → SpaceRec → Walk → Result Walk ℕ
 space_walk spaces number s w = do
-  held ← link_walk (holds spaces number s.holder) 5 s.holder w
+  held ← link_walk (may_hold spaces number s.holder) 5 s.holder w
   objects ← objects_walk spaces s.objects s.objects (past 2 held)
   Ok (past (2 + 513 * length s.pages) objects)
 

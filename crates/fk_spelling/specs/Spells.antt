@@ -5,6 +5,6 @@ use Rattle.fk_image.specs.Valid.{is_valid}
 use Rattle.fk_spelling.specs.Spelling.{spelling}
 
 -- The bytes are the spelling of a valid image.
-pub record Spells (bytes : List ℕ) (i : Image) : Type 0 where
+pub record SpellsImage (bytes : List ℕ) (i : Image) : Type 0 where
   pub valid : is_valid i ≡ true
   pub spelled : bytes ≡ spelling i

@@ -6,8 +6,8 @@ ghost use Rattle.fk_image.specs.Ranges as ranges;
 ghost use Rattle.fk_image.specs.Valid as words;
 
 use fk_image::{
-    FaultRec, Link, ObjectRec, PageRec, Rec, TalkRec, ThreadRec, is_code, is_extent, is_member,
-    is_mode,
+    FaultRec, Link, ObjectRec, PageRec, Rec, TalkRec, ThreadRec, is_code, is_extent,
+    is_set_word, is_mode_byte,
 };
 
 /// Whether the slots of a pointer are slots of objects.
@@ -57,11 +57,11 @@ fn words_fit(words: &[u64])
 
 /// The numbers of a thread fit but for its talk and its fault. Its counter and its stop count always do.
 fn fits_state(regs: &[u64; 16], _pc: u64, mode: u8, code: u8, _stops: u16) -> bool
-    ensures { result ≡ (ranges.are_words 16 regs.now && ranges.is_word _pc && ranges.is_mode regs.now mode
+    ensures { result ≡ (ranges.are_words 16 regs.now && ranges.is_word _pc && ranges.is_mode_byte regs.now mode
         && ranges.is_byte code && ranges.is_code mode code && ranges.is_half _stops) }
 {
     words_fit(regs);
-    is_mode(regs, mode) && is_code(mode, code)
+    is_mode_byte(regs, mode) && is_code(mode, code)
 }
 
 fn fits_thread(thread: &ThreadRec) -> bool
@@ -103,7 +103,7 @@ fn fits_body(body: &Rec) -> bool
             write,
             keeper,
         } => is_extent(*first, *count) && *write < 2 && fits_link(*keeper),
-        Rec::Port { set } => is_member(*set),
+        Rec::Port { set } => is_set_word(*set),
         Rec::Thread(thread) => fits_thread(thread.get()),
         Rec::Reference { to } => fits_link(*to),
     }

@@ -7,7 +7,7 @@ ghost use Rattle.fk_image.specs.Preorder as preorder;
 ghost use Rattle.fk_image.specs.Valid as words;
 
 use crate::objects::{fits_link, fits_objects, fits_pages};
-use fk_image::{Image, Link, Open, Path, SpaceRec, enter, kind_at, room_under};
+use fk_image::{Image, Link, Open, Path, SpaceRec, enter, kind_in_space, room_under};
 use fk_model::NoMemory;
 use fk_pointers::{PointerFail, check_links};
 use std::alloc::Global;
@@ -30,20 +30,20 @@ fn is_next(done: &[SpaceRec], path: &mut Path, space: &SpaceRec) -> Result<bool,
     Ok(
         space.slot < 240
             && room
-            && kind_at(done, space.parent, space.slot).is_none()
+            && kind_in_space(done, space.parent, space.slot).is_none()
             && fits_link(space.holder),
     )
 }
 
 /// Whether a space stands where it may, behind as many others as its number says.
-fn is_placed(
+fn stands_in_order(
     done: &[SpaceRec],
     number: u32,
     path: &mut Path,
     space: &SpaceRec,
 ) -> Result<bool, NoMemory>
     requires { number ≡ length done.now }
-    ensures placed { IfOk result (λ placed. placed ≡ words.is_placed done.now path.old space.now) }
+    ensures placed { IfOk result (λ placed. placed ≡ words.stands_in_order done.now path.old space.now) }
     ensures path { IfOk result (λ placed. path.new ≡ path_after done.now space.now path.old) }
 {
     match done {
@@ -66,7 +66,7 @@ fn fits_space(
     ensures fits { IfOk result (λ fits. fits ≡ words.fits_space (done.now, path.old) space.now) }
     ensures path { IfOk result (λ fits. path.new ≡ path_after done.now space.now path.old) }
 {
-    let placed = is_placed(done, number, path, space)?;
+    let placed = stands_in_order(done, number, path, space)?;
     Ok(placed && fits_objects(space.objects.as_slice()) && fits_pages(space.pages.as_slice()))
 }
 

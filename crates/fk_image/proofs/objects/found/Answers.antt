@@ -1,6 +1,6 @@
 use Rattle.std.proofs.Common.{◌≡◌, ◌+◌, ◌-◌, ◌/◌, get_or, Some, ap, sym, ◌∙◌, arith}
 use Rattle.fk_image.specs.declared.image.ObjectRec.{ObjectRec}
-use Rattle.fk_image.specs.Objects.{kind_of}
+use Rattle.fk_image.specs.Objects.{kind_of_rec}
 use Rattle.fk_image.proofs.Rising.{up, here, upper, lower, none}
 use Rattle.fk_image.proofs.objects.found.Goals as goal
 
@@ -14,7 +14,7 @@ returns-then-there-slot c =
     let is : o.slot ≡ (get_or c.args.items.now (low + (high - low) / 2) o).slot = ap (λ (p : ObjectRec). p.slot) c.index-items-middle.is in
     let found = here 0 c.args.items.now
     (low + (high - low) / 2) o c.args.slot (up 0 c.args.items.now c.requires) (omega arith) (sym is ∙ sym c.from-there.ensures ∙ c.if-there-slot.true) in
-    rw c.kind_of.ensures (ap (λ (p : ObjectRec). Some (kind_of p.body)) c.index-items-middle.is ∙ found)
+    rw c.kind_of_rec.ensures (ap (λ (p : ObjectRec). Some (kind_of_rec p.body)) c.index-items-middle.is ∙ found)
 
 pub loop-low-preserved-then-there-slot-2 : goal.loop-low-preserved-then-there-slot-2
 loop-low-preserved-then-there-slot-2 c =
