@@ -14,27 +14,27 @@ use Rattle.fk_store.proofs.LookUps.{birth_at-space_at}
 use Rattle.fk_store.specs.Contents.{Contents}
 use Rattle.fk_store.specs.Paths.{space_at}
 use Rattle.fk_store.specs.World.{world}
-use Rattle.fk_fields.specs.Paths.{parent}
+use Rattle.fk_fields.specs.Paths.{enclosing}
 use Rattle.fk_entries.specs.declared.types.SpaceEntry.{SpaceEntry}
 use Rattle.fk_entries.specs.declared.types.ObjectEntry.{ObjectEntry}
 use Rattle.fk_entries.specs.declared.types.Spec.{Spec}
 use Rattle.fk_entries.specs.declared.types.Spec.TheVariants.{Thread, Mutex, Cond, Portset, Mapping, Region, Port, Reference}
-use Rattle.fk_scenario.specs.Aims.{object_with, is_region, is_port, can_be_referred_to, is_one, home, aims_well, aims_from}
-use Rattle.fk_scenario.specs.Kept.{EachAfter, KeepsObject}
-use Rattle.fk_scenario.specs.Objects.{has_object}
-use Rattle.fk_scenario.specs.Spaces.{has_space, is_there}
+use Rattle.fk_scenario.specs.Aims.{object_with, is_region_spec, is_port_spec, can_be_referred_to, is_one, entry_space, aims_well, aims_from}
+use Rattle.fk_sections.specs.Kept.{EachAfter, KeepsObject}
+use Rattle.fk_sections.specs.Objects.{has_object}
+use Rattle.fk_sections.specs.Spaces.{has_space, has_space_or_root}
 use Rattle.fk_boot.specs.MadeSoFar.{StandsAt, AimStands, CanAim, HasObjects}
 use Rattle.fk_boot.proofs.Walks.{last}
 
 -- ---- where something stands its space is
 
-pub above_there : (m : Contents) (slots : List ℕ) → StandsAt (world m) slots → IsSome (birth_at (world m) (reverse (parent slots)))
+pub above_there : (m : Contents) (slots : List ℕ) → StandsAt (world m) slots → IsSome (birth_at (world m) (reverse (enclosing slots)))
 unfolding world kind_there
-above_there m slots h = by (space_at m (reverse (parent slots))) refl
+above_there m slots h = by (space_at m (reverse (enclosing slots))) refl
   where
-    by : (o : Option ℕ) → space_at m (reverse (parent slots)) ≡ o → IsSome (birth_at (world m) (reverse (parent slots)))
+    by : (o : Option ℕ) → space_at m (reverse (enclosing slots)) ≡ o → IsSome (birth_at (world m) (reverse (enclosing slots)))
     by None e = absurd (let there = rw (last slots h.beneath, e) at h.there in cc)
-    by (Some n) e = rw (birth_at-space_at m (reverse (parent slots)), e) refl
+    by (Some n) e = rw (birth_at-space_at m (reverse (enclosing slots)), e) refl
 
 -- ---- a change that leaves kinds leaves what may be aimed at
 
@@ -101,14 +101,14 @@ space-stands-at : (w : World) (spaces : List SpaceEntry) (objects : List ObjectE
     HasObjects w spaces objects → 0 < length slots → has_space spaces slots ≡ true → StandsAt w slots
 space-stands-at w spaces objects slots h beneath has = record {
   beneath = beneath;
-  there = some-kind w (reverse slots) (h.alone slots ∙ or_left (is_there spaces slots) (has_object objects slots) (or_right (length slots == 0) (has_space spaces slots) has));
+  there = some-kind w (reverse slots) (h.alone slots ∙ or_left (has_space_or_root spaces slots) (has_object objects slots) (or_right (length slots == 0) (has_space spaces slots) has));
 }
 
 object-stands-at : (w : World) (spaces : List SpaceEntry) (objects : List ObjectEntry) (slots : List ℕ) →
     HasObjects w spaces objects → 0 < length slots → has_object objects slots ≡ true → StandsAt w slots
 object-stands-at w spaces objects slots h beneath has = record {
   beneath = beneath;
-  there = some-kind w (reverse slots) (h.alone slots ∙ or_right (is_there spaces slots) (has_object objects slots) has);
+  there = some-kind w (reverse slots) (h.alone slots ∙ or_right (has_space_or_root spaces slots) (has_object objects slots) has);
 }
 
 -- an object that is found at a path stands there
@@ -136,9 +136,9 @@ longer-than (k ∷ slots) h = omega arith
 aims-stand : (w : World) (spaces : List SpaceEntry) (objects : List ObjectEntry) (space : List ℕ) (spec : Spec) →
     HasObjects w spaces objects → All (λ (o : ObjectEntry). 0 < length o.path) objects
     → aims_well spaces objects space spec ≡ true → AimStands w spec
-aims-stand w spaces objects space (Mapping (Some region) first count offset write) h inside well = one-stands w spaces objects is_region region h inside well
+aims-stand w spaces objects space (Mapping (Some region) first count offset write) h inside well = one-stands w spaces objects is_region_spec region h inside well
 aims-stand w spaces objects space (Mapping None first count offset write) h inside well = tt
-aims-stand w spaces objects space (Region first count write (Some keeper)) h inside well = one-stands w spaces objects is_port keeper h inside well
+aims-stand w spaces objects space (Region first count write (Some keeper)) h inside well = one-stands w spaces objects is_port_spec keeper h inside well
 aims-stand w spaces objects space (Region first count write None) h inside well = tt
 aims-stand w spaces objects space (Reference None) h inside well = tt
 aims-stand w spaces objects space (Reference (Some to)) h inside well =
@@ -156,29 +156,29 @@ aims-stand w spaces objects space Portset h inside well = tt
 
 -- each of a scenario's objects aims well
 pub each-aims : (spaces : List SpaceEntry) (objects : List ObjectEntry) (index : ℕ) (os : List ObjectEntry) →
-    aims_from spaces objects index os ≡ Ok tt → All (λ (o : ObjectEntry). aims_well spaces objects (home o) o.spec ≡ true) os
+    aims_from spaces objects index os ≡ Ok tt → All (λ (o : ObjectEntry). aims_well spaces objects (entry_space o) o.spec ≡ true) os
 unfolding aims_from
-each-aims spaces objects index [] e = All-nil (λ (o : ObjectEntry). aims_well spaces objects (home o) o.spec ≡ true)
-each-aims spaces objects index (o ∷ os) e = by (aims_well spaces objects (home o) o.spec) refl (λ rest. each-aims spaces objects (index + 1) os rest)
+each-aims spaces objects index [] e = All-nil (λ (o : ObjectEntry). aims_well spaces objects (entry_space o) o.spec ≡ true)
+each-aims spaces objects index (o ∷ os) e = by (aims_well spaces objects (entry_space o) o.spec) refl (λ rest. each-aims spaces objects (index + 1) os rest)
   where
-    by : (b : Bool) → aims_well spaces objects (home o) o.spec ≡ b
-        → (aims_from spaces objects (index + 1) os ≡ Ok tt → All (λ (o : ObjectEntry). aims_well spaces objects (home o) o.spec ≡ true) os)
-        → All (λ (o : ObjectEntry). aims_well spaces objects (home o) o.spec ≡ true) (o ∷ os)
-    by true t later = All-cons (λ (o : ObjectEntry). aims_well spaces objects (home o) o.spec ≡ true) o os t (later (rw t at e))
+    by : (b : Bool) → aims_well spaces objects (entry_space o) o.spec ≡ b
+        → (aims_from spaces objects (index + 1) os ≡ Ok tt → All (λ (o : ObjectEntry). aims_well spaces objects (entry_space o) o.spec ≡ true) os)
+        → All (λ (o : ObjectEntry). aims_well spaces objects (entry_space o) o.spec ≡ true) (o ∷ os)
+    by true t later = All-cons (λ (o : ObjectEntry). aims_well spaces objects (entry_space o) o.spec ≡ true) o os t (later (rw t at e))
     by false t later = absurd (let refused = rw t at e in cc)
 
 -- one of a scenario's objects may aim where its entry says
 one-can : (w : World) (spaces : List SpaceEntry) (objects : List ObjectEntry) (i : ℕ) (d : ObjectEntry) → HasObjects w spaces objects
     → All (λ (o : ObjectEntry). 0 < length o.path) objects
-    → All (λ (o : ObjectEntry). aims_well spaces objects (home o) o.spec ≡ true) objects → i < length objects → CanAim w (get_or objects i d)
+    → All (λ (o : ObjectEntry). aims_well spaces objects (entry_space o) o.spec ≡ true) objects → i < length objects → CanAim w (get_or objects i d)
 one-can w spaces objects i d h inside well k =
     let o = get_or objects i d in
     let here : bytes_eq o.path o.path ≡ true = (bytes_eq-Decides o.path o.path).1 refl in
     let has : has_object objects o.path ≡ true = list_any_at (λ (t : ObjectEntry). bytes_eq t.path o.path) objects i d k here in
     record {
       itself = object-stands-at w spaces objects o.path h (All-get_or (λ (o : ObjectEntry). 0 < length o.path) objects i d k inside) has;
-      aim = aims-stand w spaces objects (home o) o.spec h inside
-          (All-get_or (λ (o : ObjectEntry). aims_well spaces objects (home o) o.spec ≡ true) objects i d k well);
+      aim = aims-stand w spaces objects (entry_space o) o.spec h inside
+          (All-get_or (λ (o : ObjectEntry). aims_well spaces objects (entry_space o) o.spec ≡ true) objects i d k well);
     }
 
 -- all of them may

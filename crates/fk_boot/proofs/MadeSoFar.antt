@@ -21,10 +21,10 @@ use Rattle.fk_entries.specs.declared.types.SpaceEntry.{SpaceEntry}
 use Rattle.fk_entries.specs.declared.types.ObjectEntry.{ObjectEntry}
 use Rattle.fk_entries.specs.declared.types.Spec.{Spec}
 use Rattle.fk_entries.specs.declared.types.Spec.TheVariants as specs
-use Rattle.fk_scenario.specs.Kept.{EachAfter, KeepsSpace, KeepsObject}
-use Rattle.fk_fields.specs.Paths.{parent}
-use Rattle.fk_scenario.specs.Spaces.{has_space, is_there, may_stand, count_beneath}
-use Rattle.fk_scenario.specs.Objects.{has_object}
+use Rattle.fk_sections.specs.Kept.{EachAfter, KeepsSpace, KeepsObject}
+use Rattle.fk_fields.specs.Paths.{enclosing}
+use Rattle.fk_sections.specs.Spaces.{has_space, has_space_or_root, may_stand, count_beneath}
+use Rattle.fk_sections.specs.Objects.{has_object}
 use Rattle.fk_boot.specs.FirstWorld.{page_words, program_page, program_pages, zero_pages, space_itself, space_changes, words_of_program, first_body, object_changes}
 use Rattle.fk_boot.specs.MadeSoFar.{HasPlace, CanStand, HasSpaces, HasObjects}
 use Rattle.fk_boot.proofs.Changes.{apply_all-append}
@@ -86,8 +86,8 @@ empty_path (k ∷ q) = sym (longer k q)
 
 -- ---- one more entry
 
-is_there-last : (done : List SpaceEntry) (s : SpaceEntry) (q : List ℕ) → is_there (done ++ s ∷ []) q ≡ (is_there done q || bytes_eq s.path q)
-is_there-last done s q =
+has_space_or_root-last : (done : List SpaceEntry) (s : SpaceEntry) (q : List ℕ) → has_space_or_root (done ++ s ∷ []) q ≡ (has_space_or_root done q || bytes_eq s.path q)
+has_space_or_root-last done s q =
     rw (list_any-append (λ (t : SpaceEntry). bytes_eq t.path q) done (s ∷ [])) (or_none (length q == 0) (has_space done q) (bytes_eq s.path q))
 
 has_object-last : (done : List ObjectEntry) (o : ObjectEntry) (q : List ℕ) (a : Bool) →
@@ -117,8 +117,8 @@ made-birth x q w = by (same_path q x)
 
 -- a test of a place, and of one more
 one-more : (done : List SpaceEntry) (s : SpaceEntry) (q : List ℕ) (b : Bool) →
-    b ≡ is_there done q → (b || same_path (reverse q) (reverse s.path)) ≡ is_there (done ++ s ∷ []) q
-one-more done s q b h = rw (h, same_path_sym (reverse q) (reverse s.path), reversed s.path q) (sym (is_there-last done s q))
+    b ≡ has_space_or_root done q → (b || same_path (reverse q) (reverse s.path)) ≡ has_space_or_root (done ++ s ∷ []) q
+one-more done s q b h = rw (h, same_path_sym (reverse q) (reverse s.path), reversed s.path q) (sym (has_space_or_root-last done s q))
 
 -- the next birth number is never 0
 next-made : (n k : ℕ) → n ≡ 1 + k → birth_after n ≡ n + 1
@@ -167,8 +167,8 @@ root-stands w done s empty h = record {
       omega (arith, h.next, count-last done s, none);
 }
   where
-    same : (q : List ℕ) → is_there done q ≡ is_there (done ++ s ∷ []) q
-    same q = rw (is_there-last done s q, empty, empty_path q) (or_again (length q == 0) (has_space done q))
+    same : (q : List ℕ) → has_space_or_root done q ≡ has_space_or_root (done ++ s ∷ []) q
+    same q = rw (has_space_or_root-last done s q, empty, empty_path q) (or_again (length q == 0) (has_space done q))
 
 -- pages change nothing of this
 abbrev IsAlike : World → World → Type 0
@@ -245,11 +245,11 @@ can-stand programs done s w h keeps = by s.path keeps.stands
     by : (p : List ℕ) → may_stand done p ≡ true → CanStand w p
     by [] may = h.root
     by (k ∷ p) may =
-        let parts : (is_there done (parent (k ∷ p)) && not (has_space done (k ∷ p))) ≡ true = rw (longer k p) at may in
-        let tests = both (is_there done (parent (k ∷ p))) (has_space done (k ∷ p)) parts in
-        let new : is_there done (k ∷ p) ≡ false = rw (longer k p) tests.1 in
+        let parts : (has_space_or_root done (enclosing (k ∷ p)) && not (has_space done (k ∷ p))) ≡ true = rw (longer k p) at may in
+        let tests = both (has_space_or_root done (enclosing (k ∷ p))) (has_space done (k ∷ p)) parts in
+        let new : has_space_or_root done (k ∷ p) ≡ false = rw (longer k p) tests.1 in
         record {
-          space = some (valid.birth_at w (reverse (parent (k ∷ p)))) (h.births (parent (k ∷ p)) ∙ tests.0);
+          space = some (valid.birth_at w (reverse (enclosing (k ∷ p)))) (h.births (enclosing (k ∷ p)) ∙ tests.0);
           empty = none (w.body (reverse (k ∷ p))) (h.alone (k ∷ p) ∙ new);
         }
 
@@ -257,11 +257,11 @@ can-stand programs done s w h keeps = by s.path keeps.stands
 pub first-stands : HasSpaces first_world []
 first-stands = record { root = refl; births = births; alone = alone; born = born; next = refl }
   where
-    births : (q : List ℕ) → is_some (valid.birth_at first_world (reverse q)) ≡ is_there [] q
+    births : (q : List ℕ) → is_some (valid.birth_at first_world (reverse q)) ≡ has_space_or_root [] q
     births [] = refl
     births (k ∷ q) = rw (last (k ∷ q) (omega arith), longer k q) refl
 
-    alone : (q : List ℕ) → is_some (first_world.body (reverse q)) ≡ is_there [] q
+    alone : (q : List ℕ) → is_some (first_world.body (reverse q)) ≡ has_space_or_root [] q
     alone [] = refl
     alone (k ∷ q) = rw (last (k ∷ q) (omega arith), longer k q) refl
 
@@ -281,24 +281,24 @@ made-object w spaces done o b other keeps h = record {
   alone = λ q. alone_by q (same_path (reverse q) (reverse o.path)) refl;
 }
   where
-    lone : is_there spaces o.path ≡ false
+    lone : has_space_or_root spaces o.path ≡ false
     lone = rw (not_root (length o.path) keeps.inside) keeps.no_space
 
     births_by : (q : List ℕ) (t : Bool) →
-        same_path (reverse q) (reverse o.path) ≡ t → is_some (and_then valid.birth_of (cond t (Some b) (w.body (reverse q)))) ≡ is_there spaces q
+        same_path (reverse q) (reverse o.path) ≡ t → is_some (and_then valid.birth_of (cond t (Some b) (w.body (reverse q)))) ≡ has_space_or_root spaces q
     births_by q true e =
         let same : q ≡ o.path = (bytes_eq-Decides q o.path).0 (sym (reversed q o.path) ∙ e) in
         rw (other, same) (sym lone)
     births_by q false e = h.births q
 
     alone_by : (q : List ℕ) (t : Bool) →
-        same_path (reverse q) (reverse o.path) ≡ t → is_some (cond t (Some b) (w.body (reverse q))) ≡ (is_there spaces q || has_object (done ++ o ∷ []) q)
+        same_path (reverse q) (reverse o.path) ≡ t → is_some (cond t (Some b) (w.body (reverse q))) ≡ (has_space_or_root spaces q || has_object (done ++ o ∷ []) q)
     alone_by q true e =
         let here : bytes_eq o.path q ≡ true = sym (reversed o.path q) ∙ (same_path_sym (reverse o.path) (reverse q) ∙ e) in
-        rw (has_object-last done o q (is_there spaces q), here) (or_true (is_there spaces q || has_object done q))
+        rw (has_object-last done o q (has_space_or_root spaces q), here) (or_true (has_space_or_root spaces q || has_object done q))
     alone_by q false e =
         let there : bytes_eq o.path q ≡ false = sym (reversed o.path q) ∙ (same_path_sym (reverse o.path) (reverse q) ∙ e) in
-        rw (has_object-last done o q (is_there spaces q), there) (h.alone q ∙ or_false (is_there spaces q || has_object done q))
+        rw (has_object-last done o q (has_space_or_root spaces q), there) (h.alone q ∙ or_false (has_space_or_root spaces q || has_object done q))
 
 no-birth : (spec : Spec) → valid.birth_of (first_body spec) ≡ None
 no-birth (specs.Thread entry regs stops) = refl
@@ -318,16 +318,16 @@ object-stands spaces done o w h keeps = made-object w spaces done o (first_body 
 pub object-place : (spaces : List SpaceEntry) (done : List ObjectEntry) (o : ObjectEntry) (w : World) →
     HasObjects w spaces done → KeepsObject spaces done o → HasPlace w o.path
 object-place spaces done o w h keeps =
-    let lone : is_there spaces o.path ≡ false = rw (not_root (length o.path) keeps.inside) keeps.no_space in
-    let free : (is_there spaces o.path || has_object done o.path) ≡ false = rw lone keeps.no_object in
+    let lone : has_space_or_root spaces o.path ≡ false = rw (not_root (length o.path) keeps.inside) keeps.no_space in
+    let free : (has_space_or_root spaces o.path || has_object done o.path) ≡ false = rw lone keeps.no_object in
     record {
-      space = some (valid.birth_at w (reverse (parent o.path))) (h.births (parent o.path) ∙ keeps.in_space);
+      space = some (valid.birth_at w (reverse (enclosing o.path))) (h.births (enclosing o.path) ∙ keeps.in_space);
       empty = none (w.body (reverse o.path)) (h.alone o.path ∙ free);
     }
 
 -- no object stands before the first
 pub spaces-stand : (w : World) (spaces : List SpaceEntry) → HasSpaces w spaces → HasObjects w spaces []
-spaces-stand w spaces h = record { births = h.births; alone = λ q. h.alone q ∙ or_false (is_there spaces q) }
+spaces-stand w spaces h = record { births = h.births; alone = λ q. h.alone q ∙ or_false (has_space_or_root spaces q) }
 
 -- ---- entry after entry
 

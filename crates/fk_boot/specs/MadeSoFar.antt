@@ -3,9 +3,9 @@ use Rattle.std.specs.Prelude.{◌≡◌, ℕ, ◌+◌, ◌<◌, ◌||◌, IsSome
 use Rattle.fk_model.specs.Places.{Path}
 use Rattle.fk_model.specs.Valid.{birth_at, kind_there}
 use Rattle.fk_model.specs.World.{World}
-use Rattle.fk_fields.specs.Paths.{parent}
-use Rattle.fk_scenario.specs.Spaces.{is_there, count_beneath}
-use Rattle.fk_scenario.specs.Objects.{has_object}
+use Rattle.fk_fields.specs.Paths.{enclosing}
+use Rattle.fk_sections.specs.Spaces.{has_space_or_root, count_beneath}
+use Rattle.fk_sections.specs.Objects.{has_object}
 use Rattle.fk_entries.specs.declared.types.SpaceEntry.{SpaceEntry}
 use Rattle.fk_entries.specs.declared.types.ObjectEntry.{ObjectEntry}
 use Rattle.fk_entries.specs.declared.types.Spec.{Spec}
@@ -15,7 +15,7 @@ use Rattle.fk_entries.specs.declared.types.Spec.TheVariants.{Thread, Mutex, Cond
 
 -- an object may be made there: its space is there, and nothing stands in its slot
 pub record HasPlace (w : World) (slots : List ℕ) : Type 0 where
-  pub space : IsSome (birth_at w (reverse (parent slots)))
+  pub space : IsSome (birth_at w (reverse (enclosing slots)))
   pub empty : w.body (reverse slots) ≡ None
 
 -- a space may be made there; the root is there already
@@ -53,13 +53,13 @@ pub record CanAim (w : World) (o : ObjectEntry) : Type 0 where
 -- the spaces of some entries stand, and the root
 pub record HasSpaces (w : World) (entries : List SpaceEntry) : Type 0 where
   pub root : birth_at w [] ≡ Some 0
-  pub births : (slots : List ℕ) → is_some (birth_at w (reverse slots)) ≡ is_there entries slots
+  pub births : (slots : List ℕ) → is_some (birth_at w (reverse slots)) ≡ has_space_or_root entries slots
   -- and nothing else
-  pub alone : (slots : List ℕ) → is_some (w.body (reverse slots)) ≡ is_there entries slots
+  pub alone : (slots : List ℕ) → is_some (w.body (reverse slots)) ≡ has_space_or_root entries slots
   pub born : AreBorn w
   pub next : w.next ≡ 1 + count_beneath entries
 
 -- the spaces of some entries stand, and the root, the objects of others, and nothing else
 pub record HasObjects (w : World) (spaces : List SpaceEntry) (objects : List ObjectEntry) : Type 0 where
-  pub births : (slots : List ℕ) → is_some (birth_at w (reverse slots)) ≡ is_there spaces slots
-  pub alone : (slots : List ℕ) → is_some (w.body (reverse slots)) ≡ (is_there spaces slots || has_object objects slots)
+  pub births : (slots : List ℕ) → is_some (birth_at w (reverse slots)) ≡ has_space_or_root spaces slots
+  pub alone : (slots : List ℕ) → is_some (w.body (reverse slots)) ≡ (has_space_or_root spaces slots || has_object objects slots)

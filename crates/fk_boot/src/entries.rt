@@ -3,8 +3,9 @@ ghost use Rattle.std.specs.Prelude.{◌≡◌, ◌≤◌, [], All, OnOk, IfOk};
 ghost use Rattle.std.specs.List.{flat_map};
 ghost use Rattle.fk_model.specs.Valid.{IsValid};
 ghost use Rattle.fk_model.specs.World.{apply_all};
-ghost use Rattle.fk_scenario.specs.Kept.{EachAfter, KeepsSpace, KeepsObject, Keeps};
-ghost use Rattle.fk_scenario.specs.Spaces.{count_beneath};
+ghost use Rattle.fk_sections.specs.Kept.{EachAfter, KeepsSpace, KeepsObject};
+ghost use Rattle.fk_scenario.specs.Kept.{KeepsScenario};
+ghost use Rattle.fk_sections.specs.Spaces.{count_beneath};
 ghost use Rattle.fk_store.specs.World.{world, first_world};
 ghost use Rattle.fk_boot.specs.FirstWorld.{booted, space_changes, object_changes, aim_changes};
 ghost use Rattle.fk_boot.specs.MadeSoFar.{CanStand, CanAim, AreBorn, HasSpaces, HasObjects};
@@ -78,7 +79,7 @@ fn aim_objects(store: &mut Store, entries: &[ObjectEntry])
 /// then its objects, and then where these lead, each in the order of the file. Spaces have birth
 /// numbers from 1 on, and the root 0. Its world is valid. For want of memory there is none.
 pub fn boot(alloc: Global, scenario: &Scenario) -> Result<Store, NoMemory>
-    requires { Keeps scenario.now }
+    requires { KeepsScenario scenario.now }
     ensures world { IfOk result (λ store. world store ≡ booted scenario.now) }
     ensures valid { IfOk result (λ store. IsValid (world store)) }
 {

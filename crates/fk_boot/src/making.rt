@@ -3,7 +3,7 @@ ghost use Rattle.std.specs.Prelude.{◌≡◌, ℕ, ◌<◌, ◌≤◌, length, 
 ghost use Rattle.fk_model.specs.Objects.Body.{Thread_of};
 ghost use Rattle.fk_model.specs.Places.{Path};
 ghost use Rattle.fk_model.specs.World.{apply_all};
-ghost use Rattle.fk_entries.specs.Kept.{IsInRange};
+ghost use Rattle.fk_entries.specs.Kept.{IsSpecInRange};
 ghost use Rattle.fk_entries.specs.declared.types.Spec.TheVariants as specs;
 ghost use Rattle.fk_store.specs.Contents.{Contents};
 ghost use Rattle.fk_store.specs.Bodies.{body_by, thread_by};
@@ -66,7 +66,7 @@ fn first_thread(entry: u16, given: &[u64], stops: u16) -> Thread
 
 /// What an object is at first. Nothing leads anywhere, and no port is in a set.
 fn first_body(spec: &Spec) -> Body
-    requires { IsInRange spec.now }
+    requires { IsSpecInRange spec.now }
     ensures body { (paths : ℕ → Path) → body_by paths result ≡ definitions.first_body spec.now }
     ensures birth { (next : ℕ) → IsNext next result }
     ensures named { (m : Contents) → OnNamed (IsLive m) result }
@@ -115,7 +115,7 @@ fn first_body(spec: &Spec) -> Body
 pub fn make_object(store: &mut Store, object: &ObjectEntry) -> Result<(), NoMemory>
     requires beneath { 0 < length object.now.path }
     requires place { HasPlace (world store.old) object.now.path }
-    requires range { IsInRange object.now.spec }
+    requires range { IsSpecInRange object.now.spec }
     ensures { OnOk result (world store.new ≡ apply_all (definitions.object_changes object.now) (world store.old)) }
 {
     let who = name_of(store, object.path.as_slice());

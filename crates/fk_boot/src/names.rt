@@ -1,6 +1,6 @@
 //! Names of places, by the slots on the way down to them.
 ghost use Rattle.std.specs.Prelude.{◌≡◌, ◌<◌, ◌∷◌, IsSome, IfSome, length, reverse};
-ghost use Rattle.fk_fields.specs.Paths.{parent};
+ghost use Rattle.fk_fields.specs.Paths.{enclosing};
 ghost use Rattle.fk_model.specs.Valid.{birth_at};
 ghost use Rattle.fk_store.specs.Paths.{path};
 ghost use Rattle.fk_store.specs.World.{world, place_of, IsSpace};
@@ -34,7 +34,7 @@ fn find_space(store: &Store, slots: &[u8]) -> Option<u32>
 /// The name of a place beneath the root, whose space is there.
 pub fn name_of(store: &Store, slots: &[u8]) -> Who
     requires beneath { 0 < length slots.now }
-    requires space { IsSome (birth_at (world store.now) (reverse (parent slots.now))) }
+    requires space { IsSome (birth_at (world store.now) (reverse (enclosing slots.now))) }
     ensures place { place_of store.now result ≡ reverse slots.now }
     ensures space { IsSpace store.now result.space }
 {

@@ -13,15 +13,15 @@ use Rattle.fk_asm.specs.declared.fail.AsmError.{AsmError}
 use Rattle.fk_asm.proofs.Few.{assembled-few}
 use Rattle.fk_fields.specs.Gives.{or_rule, unless}
 use Rattle.fk_fields.specs.Fields.{known, text_in, flag_in, integer_in, needed_text, integers_in, words_from, ranged, ranged_or}
-use Rattle.fk_fields.specs.Paths.{is_slash, slots_from, path_of, optional_path}
+use Rattle.fk_fields.specs.Paths.{is_slash, slots_from, parse_path, optional_path}
 use Rattle.fk_fields.proofs.Steps.{after, unless-Ok, or_rule-Ok}
 use Rattle.fk_entries.specs.declared.types.Program.{Program}
 use Rattle.fk_entries.specs.declared.types.ObjectEntry.{ObjectEntry}
 use Rattle.fk_entries.specs.declared.types.Spec.{Spec}
 use Rattle.fk_entries.specs.declared.types.Spec.TheVariants.{Thread, Mutex, Cond, Portset, Mapping, Region, Port, Reference}
-use Rattle.fk_entries.specs.Programs.{words_of, program_of}
-use Rattle.fk_entries.specs.Objects.{thread_of, mutex_of, extent_in, window_of, mapping_keys, mapping_of, region_of, set_of, port_of, reference_of, plain_of, spec_of, object_of, object_in}
-use Rattle.fk_entries.specs.Kept.{AreSlots, IsInRange, KeepsEntry}
+use Rattle.fk_entries.specs.Programs.{program_words, program_of}
+use Rattle.fk_entries.specs.Objects.{thread_spec, mutex_spec, extent_in, window_of, mapping_keys, mapping_spec, region_spec, set_of, port_spec, reference_spec, plain_spec, spec_of, object_of, object_entry}
+use Rattle.fk_entries.specs.Kept.{AreSlots, IsSpecInRange, KeepsEntry}
 
 -- numbers
 
@@ -60,8 +60,8 @@ slots_kept done (piece ∷ pieces) path h kept =
 no_slots : AreSlots []
 no_slots = All-nil (λ k. k ≤ 239)
 
-pub path_kept : (text path : List ℕ) → path_of text ≡ Ok path → AreSlots path
-unfolding path_of
+pub path_kept : (text path : List ℕ) → parse_path text ≡ Ok path → AreSlots path
+unfolding parse_path
 path_kept [] path h = absurd (cc)
 path_kept (byte ∷ []) path h = by (is_slash byte) h
   where
@@ -76,7 +76,7 @@ path_kept (byte ∷ more ∷ text) path h = by (is_slash byte) h
 
 -- programs
 
-words_few : (text words : List ℕ) → words_of text ≡ Ok words → length words ≤ 16384
+words_few : (text words : List ℕ) → program_words text ≡ Ok words → length words ≤ 16384
 words_few text words h = by (assembled text) refl h
   where
     by : (r : Result (List ℕ) AsmError) → assembled text ≡ r → or_rule 8 (result_ok r) ≡ Ok words → length words ≤ 16384
@@ -88,13 +88,13 @@ unfolding program_of
 program_kept name value p h =
     after (or_rule 2 (as_str value)) _ p h (λ text _ h.
     after (unless 4 (is_name name)) _ p h (λ _ _ h.
-    after (words_of text) _ p h (λ words are_words h.
+    after (program_words text) _ p h (λ words are_words h.
     let same : words ≡ p.words = cc in omega (arith, ap length same, words_few text words are_words))))
 
 -- objects
 
-thread_kept : (ms : Members) (spec : Spec) → thread_of ms ≡ Ok spec → IsInRange spec
-unfolding thread_of
+thread_kept : (ms : Members) (spec : Spec) → thread_spec ms ≡ Ok spec → IsSpecInRange spec
+unfolding thread_spec
 thread_kept ms spec h =
     after (known (codes "at" ∷ codes "kind" ∷ codes "entry" ∷ codes "regs" ∷ codes "stops" ∷ []) ms) _ spec h (λ _ _ h.
     after (integer_in (codes "entry") ms) _ spec h (λ entry _ h.
@@ -107,15 +107,15 @@ thread_kept ms spec h =
     let same : Thread from words count ≡ spec = cc in
     let from_in = in_range_or 0 0 16383 entry from (omega arith) (omega arith) is_from in
     let count_in = in_range_or 0 0 65535 stops count (omega arith) (omega arith) is_count in
-    subst IsInRange same (from_in.1, leb-true (length words) 16 (unless-Ok 3 _ x few), count_in.1)))))))))
+    subst IsSpecInRange same (from_in.1, leb-true (length words) 16 (unless-Ok 3 _ x few), count_in.1)))))))))
 
-mutex_kept : (ms : Members) (spec : Spec) → mutex_of ms ≡ Ok spec → IsInRange spec
-unfolding mutex_of
+mutex_kept : (ms : Members) (spec : Spec) → mutex_spec ms ≡ Ok spec → IsSpecInRange spec
+unfolding mutex_spec
 mutex_kept ms spec h =
     after (known (codes "at" ∷ codes "kind" ∷ codes "locked" ∷ []) ms) _ spec h (λ _ _ h.
     after (flag_in (codes "locked") ms) _ spec h (λ locked _ h.
     let same : Mutex (unwrap_or locked false) ≡ spec = cc in
-    subst IsInRange same tt))
+    subst IsSpecInRange same tt))
 
 window_kept : (extent : Option ℤ × Option ℤ) (window : ℕ × ℕ) → window_of extent ≡ Ok window → (1 ≤ window.1) × (window.0 + window.1 ≤ 256)
 unfolding window_of
@@ -127,8 +127,8 @@ window_kept extent window h =
     let count_in = in_range_or 1 1 256 extent.1 count (omega arith) (omega arith) is_count in
     subst (λ (w : ℕ × ℕ). (1 ≤ w.1) × (w.0 + w.1 ≤ 256)) same (count_in.0, leb-true (first + count) 256 (unless-Ok 3 _ x fits)))))
 
-mapping_kept : (ms : Members) (spec : Spec) → mapping_of ms ≡ Ok spec → IsInRange spec
-unfolding mapping_of
+mapping_kept : (ms : Members) (spec : Spec) → mapping_spec ms ≡ Ok spec → IsSpecInRange spec
+unfolding mapping_spec
 mapping_kept ms spec h =
     after (mapping_keys ms) _ spec h (λ keys _ h.
     after (window_of keys.extent) _ spec h (λ window is_window h.
@@ -137,10 +137,10 @@ mapping_kept ms spec h =
     let same : Mapping path window.0 window.1 offset keys.write ≡ spec = cc in
     let (some, fits) = window_kept keys.extent window is_window in
     let offset_in = in_range_or 0 0 255 keys.offset offset (omega arith) (omega arith) is_offset in
-    subst IsInRange same (some, fits, offset_in.1)))))
+    subst IsSpecInRange same (some, fits, offset_in.1)))))
 
-region_kept : (ms : Members) (spec : Spec) → region_of ms ≡ Ok spec → IsInRange spec
-unfolding region_of
+region_kept : (ms : Members) (spec : Spec) → region_spec ms ≡ Ok spec → IsSpecInRange spec
+unfolding region_spec
 region_kept ms spec h =
     after (known (codes "at" ∷ codes "kind" ∷ codes "first" ∷ codes "count" ∷ codes "write" ∷ codes "keeper" ∷ []) ms) _ spec h (λ _ _ h.
     after (extent_in ms) _ spec h (λ extent _ h.
@@ -149,7 +149,7 @@ region_kept ms spec h =
     after (window_of extent) _ spec h (λ window is_window h.
     after (optional_path keeper) _ spec h (λ path _ h.
     let same : Region window.0 window.1 (unwrap_or write false) path ≡ spec = cc in
-    subst IsInRange same (window_kept extent window is_window)))))))
+    subst IsSpecInRange same (window_kept extent window is_window)))))))
 
 set_kept : (z : Option ℤ) (set : Option ℕ) → set_of z ≡ Ok set → IfSome set (λ slot. slot ≤ 239)
 set_kept None set h = let same : None ≡ set = cc in subst (λ (s : Option ℕ). IfSome s (λ slot. slot ≤ 239)) same tt
@@ -159,39 +159,39 @@ set_kept (Some z) set h =
     let slot_in = in_range 0 239 z slot is_slot in
     subst (λ (s : Option ℕ). IfSome s (λ slot. slot ≤ 239)) same slot_in.1)
 
-port_kept : (ms : Members) (spec : Spec) → port_of ms ≡ Ok spec → IsInRange spec
-unfolding port_of
+port_kept : (ms : Members) (spec : Spec) → port_spec ms ≡ Ok spec → IsSpecInRange spec
+unfolding port_spec
 port_kept ms spec h =
     after (known (codes "at" ∷ codes "kind" ∷ codes "set" ∷ []) ms) _ spec h (λ _ _ h.
     after (integer_in (codes "set") ms) _ spec h (λ z _ h.
     after (set_of z) _ spec h (λ set is_set h.
     let same : Port set ≡ spec = cc in
-    subst IsInRange same (set_kept z set is_set))))
+    subst IsSpecInRange same (set_kept z set is_set))))
 
-reference_kept : (ms : Members) (spec : Spec) → reference_of ms ≡ Ok spec → IsInRange spec
-unfolding reference_of
+reference_kept : (ms : Members) (spec : Spec) → reference_spec ms ≡ Ok spec → IsSpecInRange spec
+unfolding reference_spec
 reference_kept ms spec h =
     after (known (codes "at" ∷ codes "kind" ∷ codes "to" ∷ []) ms) _ spec h (λ _ _ h.
     after (text_in (codes "to") ms) _ spec h (λ text _ h.
     after (optional_path text) _ spec h (λ to _ h.
     let same : Reference to ≡ spec = cc in
-    subst IsInRange same tt)))
+    subst IsSpecInRange same tt)))
 
-plain_kept : (plain : Option Spec) (ms : Members) (spec : Spec) → IfSome plain IsInRange → plain_of plain ms ≡ Ok spec → IsInRange spec
-unfolding plain_of
+plain_kept : (plain : Option Spec) (ms : Members) (spec : Spec) → IfSome plain IsSpecInRange → plain_spec plain ms ≡ Ok spec → IsSpecInRange spec
+unfolding plain_spec
 plain_kept plain ms spec kept h =
     after (known (codes "at" ∷ codes "kind" ∷ []) ms) _ spec h (λ _ _ h.
-    subst (λ (o : Option Spec). IfSome o IsInRange) (or_rule-Ok 4 plain spec h) kept)
+    subst (λ (o : Option Spec). IfSome o IsSpecInRange) (or_rule-Ok 4 plain spec h) kept)
 
-spec_kept : (kind : List ℕ) (ms : Members) (spec : Spec) → spec_of kind ms ≡ Ok spec → IsInRange spec
+spec_kept : (kind : List ℕ) (ms : Members) (spec : Spec) → spec_of kind ms ≡ Ok spec → IsSpecInRange spec
 unfolding spec_of
 spec_kept kind ms spec h =
     by (bytes_eq kind (codes "thread")) (bytes_eq kind (codes "mutex")) (bytes_eq kind (codes "cond")) (bytes_eq kind (codes "mapping"))
     (bytes_eq kind (codes "region")) (bytes_eq kind (codes "port")) (bytes_eq kind (codes "portset")) (bytes_eq kind (codes "reference")) h
   where
-    by : (a b c d e f g r : Bool) → cond a (thread_of ms) (cond b (mutex_of ms) (cond c (plain_of (Some Cond) ms) (cond d (mapping_of ms)
-        (cond e (region_of ms) (cond f (port_of ms) (cond g (plain_of (Some Portset) ms) (cond r (reference_of ms) (plain_of None ms))))))))
-        ≡ Ok spec → IsInRange spec
+    by : (a b c d e f g r : Bool) → cond a (thread_spec ms) (cond b (mutex_spec ms) (cond c (plain_spec (Some Cond) ms) (cond d (mapping_spec ms)
+        (cond e (region_spec ms) (cond f (port_spec ms) (cond g (plain_spec (Some Portset) ms) (cond r (reference_spec ms) (plain_spec None ms))))))))
+        ≡ Ok spec → IsSpecInRange spec
     by true b c d e f g r h = thread_kept ms spec h
     by false true c d e f g r h = mutex_kept ms spec h
     by false false true d e f g r h = plain_kept (Some Cond) ms spec tt h
@@ -208,7 +208,7 @@ object_kept ms o h =
     after (needed_text (codes "at") ms) _ o h (λ text _ h.
     after (needed_text (codes "kind") ms) _ o h (λ kind _ h.
     after (spec_of kind ms) _ o h (λ spec is_spec h.
-    after (path_of text) _ o h (λ path is_path h.
+    after (parse_path text) _ o h (λ path is_path h.
     after (unless 4 (nat_lt 0 (length path))) _ o h (λ x inside h.
     let same : record { path = path; spec = spec } ≡ o = cc in
     subst KeepsEntry same (record {
@@ -217,6 +217,6 @@ object_kept ms o h =
       in_range = spec_kept kind ms spec is_spec;
     }))))))
 
-pub entry_kept : (value : Data) (o : ObjectEntry) → object_in value ≡ Ok o → KeepsEntry o
-unfolding object_in
+pub entry_kept : (value : Data) (o : ObjectEntry) → object_entry value ≡ Ok o → KeepsEntry o
+unfolding object_entry
 entry_kept value o h = after (or_rule 2 (as_table value)) _ o h (λ ms _ h. object_kept ms o h)

@@ -6,11 +6,11 @@ use Rattle.toml.specs.Data.{Data, Items, no_items, item, Members, as_array, as_t
 use Rattle.fk_model.specs.Names.{is_name}
 use Rattle.fk_fields.specs.Gives.{◌>>=◌, or_rule, unless}
 use Rattle.fk_fields.specs.Fields.{known, array_in, integer_in, needed_text, needed_integer, integers_from, ranged, ranged_or}
-use Rattle.fk_fields.specs.Paths.{path_of}
+use Rattle.fk_fields.specs.Paths.{parse_path}
 use Rattle.fk_entries.specs.declared.jobs.JobEntry.{JobEntry}
 use Rattle.fk_entries.specs.declared.jobs.JobKind.{JobKind}
 use Rattle.fk_entries.specs.declared.jobs.JobKind.TheVariants.{Checkpoint, Restore}
-use Rattle.fk_entries.specs.declared.jobs.Fields as code
+use Rattle.fk_entries.specs.declared.jobs.JobFields as code
 
 -- an array of integers; else rule 2
 abbrev pub list_of : Data → Result (List ℤ) ℕ
@@ -43,7 +43,7 @@ bind_in kind ms =
     else (known (codes "kind" ∷ codes "at" ∷ codes "nester" ∷ codes "slot" ∷ codes "image" ∷ []) ms >>= λ _. Ok [])
 
 -- what a job's keys have, as it is written
-pub record Fields : Type 0 where
+pub record JobFields : Type 0 where
   pub kind : List ℕ
   pub bind : List (List ℤ)
   pub moment : Option ℤ
@@ -52,8 +52,8 @@ pub record Fields : Type 0 where
   pub image : List ℕ
 
 -- the same as the code has it
-abbrev pub fields_view : code.Fields → Fields
-fields_view fields = record {
+abbrev pub job_fields_view : code.JobFields → JobFields
+job_fields_view fields = record {
   kind = fields.kind.now;
   bind = fields.bind;
   moment = fields.moment;
@@ -63,8 +63,8 @@ fields_view fields = record {
 }
 
 -- its keys and their types (2)
-unfoldable pub fields_of : Members → Result Fields ℕ
-fields_of ms = do
+unfoldable pub job_fields : Members → Result JobFields ℕ
+job_fields ms = do
   kind ← needed_text (codes "kind") ms
   bind ← bind_in kind ms
   moment ← integer_in (codes "at") ms
@@ -96,7 +96,7 @@ distinct_from done [] = Ok done
 distinct_from done (p ∷ ps) = unless 6 (not (is_bound done p.0)) >>= λ _. distinct_from (done ++ p ∷ []) ps
 
 -- the event and the slot in their ranges, and the pairs of slots; at most 16 jobs (3)
-unfoldable pub numbers_of : ℕ → Fields → Result (ℕ × ℕ × List (ℕ × ℕ)) ℕ
+unfoldable pub numbers_of : ℕ → JobFields → Result (ℕ × ℕ × List (ℕ × ℕ)) ℕ
 numbers_of before fields = do
   moment ← ranged_or 0 0 1000000 fields.moment
   slot ← ranged 0 239 fields.slot
@@ -105,8 +105,8 @@ numbers_of before fields = do
   Ok (moment, slot, pairs)
 
 -- what is done by a job of a kind; an unknown kind is rule 4, a slot that is bound twice rule 6
-unfoldable pub kind_of : List ℕ → List (ℕ × ℕ) → Result JobKind ℕ
-kind_of kind pairs =
+unfoldable pub job_kind : List ℕ → List (ℕ × ℕ) → Result JobKind ℕ
+job_kind kind pairs =
     if is_restore kind then (distinct_from [] pairs >>= λ bind. Ok (Restore bind))
     else if bytes_eq kind (codes "checkpoint") then Ok Checkpoint
     else Err 4
@@ -114,11 +114,11 @@ kind_of kind pairs =
 -- a job after some others: its keys and types (2), ranges (3), forms (4), and bound slots (6)
 unfoldable pub job_of : ℕ → Members → Result JobEntry ℕ
 job_of before ms = do
-  fields ← fields_of ms
+  fields ← job_fields ms
   numbers ← numbers_of before fields
-  nester ← path_of fields.nester
+  nester ← parse_path fields.nester
   _ ← unless 4 (is_name fields.image)
-  kind ← kind_of fields.kind numbers.2
+  kind ← job_kind fields.kind numbers.2
   Ok (record { moment = numbers.0; nester = nester; slot = numbers.1; image = fields.image; kind = kind })
 
 -- the job of an entry; one that is no table is rule 2

@@ -4,15 +4,15 @@ use Rattle.std.specs.Str.{bytes_eq}
 use Rattle.toml.specs.Data.{Data, Members, as_table}
 use Rattle.fk_fields.specs.Gives.{◌>>=◌, or_rule, unless}
 use Rattle.fk_fields.specs.Fields.{known, text_in, flag_in, integer_in, needed_text, integers_in, ranged, ranged_or, words_from}
-use Rattle.fk_fields.specs.Paths.{path_of, optional_path}
+use Rattle.fk_fields.specs.Paths.{parse_path, optional_path}
 use Rattle.fk_entries.specs.declared.objects.MappingKeys as code
 use Rattle.fk_entries.specs.declared.types.ObjectEntry.{ObjectEntry}
 use Rattle.fk_entries.specs.declared.types.Spec.{Spec}
 use Rattle.fk_entries.specs.declared.types.Spec.TheVariants.{Thread, Mutex, Cond, Portset, Mapping, Region, Port, Reference}
 
 -- a thread: all that isn't written is 0
-unfoldable pub thread_of : Members → Result Spec ℕ
-thread_of ms = do
+unfoldable pub thread_spec : Members → Result Spec ℕ
+thread_spec ms = do
   _ ← known (codes "at" ∷ codes "kind" ∷ codes "entry" ∷ codes "regs" ∷ codes "stops" ∷ []) ms
   entry ← integer_in (codes "entry") ms
   regs ← integers_in (codes "regs") ms
@@ -24,8 +24,8 @@ thread_of ms = do
   Ok (Thread entry regs stops)
 
 -- a mutex, which is free where nothing is written
-unfoldable pub mutex_of : Members → Result Spec ℕ
-mutex_of ms = do
+unfoldable pub mutex_spec : Members → Result Spec ℕ
+mutex_spec ms = do
   _ ← known (codes "at" ∷ codes "kind" ∷ codes "locked" ∷ []) ms
   locked ← flag_in (codes "locked") ms
   Ok (Mutex (unwrap_or locked false))
@@ -67,8 +67,8 @@ mapping_keys ms = do
   Ok (record { region = region; extent = extent; offset = offset; write = unwrap_or write false })
 
 -- a mapping: of no region and without the right to write, where nothing is written
-unfoldable pub mapping_of : Members → Result Spec ℕ
-mapping_of ms = do
+unfoldable pub mapping_spec : Members → Result Spec ℕ
+mapping_spec ms = do
   keys ← mapping_keys ms
   window ← window_of keys.extent
   offset ← ranged_or 0 0 255 keys.offset
@@ -76,8 +76,8 @@ mapping_of ms = do
   Ok (Mapping region window.0 window.1 offset keys.write)
 
 -- a region: without the right to write and without a keeper, where nothing is written
-unfoldable pub region_of : Members → Result Spec ℕ
-region_of ms = do
+unfoldable pub region_spec : Members → Result Spec ℕ
+region_spec ms = do
   _ ← known (codes "at" ∷ codes "kind" ∷ codes "first" ∷ codes "count" ∷ codes "write" ∷ codes "keeper" ∷ []) ms
   extent ← extent_in ms
   write ← flag_in (codes "write") ms
@@ -92,39 +92,39 @@ set_of None = Ok None
 set_of (Some z) = ranged 0 239 z >>= λ slot. Ok (Some slot)
 
 -- a port
-unfoldable pub port_of : Members → Result Spec ℕ
-port_of ms = do
+unfoldable pub port_spec : Members → Result Spec ℕ
+port_spec ms = do
   _ ← known (codes "at" ∷ codes "kind" ∷ codes "set" ∷ []) ms
   slot ← integer_in (codes "set") ms
   slot ← set_of slot
   Ok (Port slot)
 
 -- a reference
-unfoldable pub reference_of : Members → Result Spec ℕ
-reference_of ms = do
+unfoldable pub reference_spec : Members → Result Spec ℕ
+reference_spec ms = do
   _ ← known (codes "at" ∷ codes "kind" ∷ codes "to" ∷ []) ms
   to ← text_in (codes "to") ms
   to ← optional_path to
   Ok (Reference to)
 
 -- a kind with no keys of its own; an unknown kind has none either, and is rule 4
-unfoldable pub plain_of : Option Spec → Members → Result Spec ℕ
-plain_of spec ms = do
+unfoldable pub plain_spec : Option Spec → Members → Result Spec ℕ
+plain_spec spec ms = do
   _ ← known (codes "at" ∷ codes "kind" ∷ []) ms
   or_rule 4 spec
 
 -- what an object of a kind is
 unfoldable pub spec_of : List ℕ → Members → Result Spec ℕ
 spec_of kind ms =
-    if bytes_eq kind (codes "thread") then thread_of ms
-    else if bytes_eq kind (codes "mutex") then mutex_of ms
-    else if bytes_eq kind (codes "cond") then plain_of (Some Cond) ms
-    else if bytes_eq kind (codes "mapping") then mapping_of ms
-    else if bytes_eq kind (codes "region") then region_of ms
-    else if bytes_eq kind (codes "port") then port_of ms
-    else if bytes_eq kind (codes "portset") then plain_of (Some Portset) ms
-    else if bytes_eq kind (codes "reference") then reference_of ms
-    else plain_of None ms
+    if bytes_eq kind (codes "thread") then thread_spec ms
+    else if bytes_eq kind (codes "mutex") then mutex_spec ms
+    else if bytes_eq kind (codes "cond") then plain_spec (Some Cond) ms
+    else if bytes_eq kind (codes "mapping") then mapping_spec ms
+    else if bytes_eq kind (codes "region") then region_spec ms
+    else if bytes_eq kind (codes "port") then port_spec ms
+    else if bytes_eq kind (codes "portset") then plain_spec (Some Portset) ms
+    else if bytes_eq kind (codes "reference") then reference_spec ms
+    else plain_spec None ms
 
 -- an object and its path, which isn't the root's
 unfoldable pub object_of : Members → Result ObjectEntry ℕ
@@ -132,10 +132,10 @@ object_of ms = do
   text ← needed_text (codes "at") ms
   kind ← needed_text (codes "kind") ms
   spec ← spec_of kind ms
-  path ← path_of text
+  path ← parse_path text
   _ ← unless 4 (nat_lt 0 (length path))
   Ok (record { path = path; spec = spec })
 
 -- the object of an entry; one that is no table is rule 2
-unfoldable pub object_in : Data → Result ObjectEntry ℕ
-object_in value = or_rule 2 (as_table value) >>= object_of
+unfoldable pub object_entry : Data → Result ObjectEntry ℕ
+object_entry value = or_rule 2 (as_table value) >>= object_of

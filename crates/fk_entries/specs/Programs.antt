@@ -8,13 +8,13 @@ use Rattle.fk_fields.specs.Gives.{◌>>=◌, or_rule, unless}
 use Rattle.fk_entries.specs.declared.types.Program.{Program}
 
 -- the words of a text; one that isn't assembled is rule 8
-abbrev pub words_of : List ℕ → Result (List ℕ) ℕ
-words_of text = or_rule 8 (result_ok (assembled text))
+abbrev pub program_words : List ℕ → Result (List ℕ) ℕ
+program_words text = or_rule 8 (result_ok (assembled text))
 
 -- the program at a name
 unfoldable pub program_of : List ℕ → Data → Result Program ℕ
 program_of name value = do
   text ← or_rule 2 (as_str value)
   _ ← unless 4 (is_name name)
-  words ← words_of text
+  words ← program_words text
   Ok (record { name = name; words = words })

@@ -7,7 +7,7 @@ use Rattle.fk_model.specs.Names.{is_name}
 use Rattle.fk_model.specs.declared.moves.Rule.{Rule}
 use Rattle.fk_fields.specs.Gives.{◌>>=◌, or_rule, unless}
 use Rattle.fk_fields.specs.Fields.{known, needed_text, integers_in, words_from}
-use Rattle.fk_fields.specs.Paths.{path_of}
+use Rattle.fk_fields.specs.Paths.{parse_path}
 use Rattle.fk_entries.specs.declared.types.ServerEntry.{ServerEntry}
 use Rattle.fk_entries.specs.declared.types.ServiceSpec.{ServiceSpec}
 use Rattle.fk_entries.specs.declared.types.ServiceSpec.TheVariants.{Console, Listed}
@@ -48,7 +48,7 @@ server_of rules ms = do
   port ← needed_text (codes "port") ms
   rule ← needed_text (codes "rule") ms
   service ← service_of rules rule ms
-  port ← path_of port
+  port ← parse_path port
   Ok (record { port = port; service = service })
 
 -- the server of an entry; one that is no table is rule 2

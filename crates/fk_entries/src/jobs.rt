@@ -5,8 +5,8 @@ ghost use Rattle.fk_fields.specs.Gives.{Gives};
 ghost use Rattle.fk_entries.specs.Jobs as definitions;
 
 use fk_fields::{
-    Fail, array_in, integer_in, integers_of, is_name, known, needed_integer, needed_text, path_of,
-    ranged, ranged_or, rule, unless,
+    Fail, array_in, integer_in, integers_of, is_name, known, needed_integer, needed_text,
+    parse_path, ranged, ranged_or, rule, unless,
 };
 use fk_model::{List, Text};
 use std::alloc::Global;
@@ -38,7 +38,7 @@ pub struct JobEntry {
 
 /// What a job's keys have, as it is written.
 #[derive(Drop)]
-struct Fields<'a> {
+struct JobFields<'a> {
     kind: &'a str,
     bind: List<List<i64>>,
     moment: Option<i64>,
@@ -98,9 +98,9 @@ fn bind_in(alloc: Global, kind: &str, table: &Table) -> Result<List<List<i64>>, 
     Ok(List::new(alloc))
 }
 
-#[tactic(auto, unfolding(crate::specs::Jobs::fields_of))]
-fn fields_of<'a>(alloc: Global, table: &'a Table) -> Result<Fields<'a>, Fail>
-    ensures { Gives definitions.fields_view result (definitions.fields_of (table_view table.now)) }
+#[tactic(auto, unfolding(crate::specs::Jobs::job_fields))]
+fn job_fields<'a>(alloc: Global, table: &'a Table) -> Result<JobFields<'a>, Fail>
+    ensures { Gives definitions.job_fields_view result (definitions.job_fields (table_view table.now)) }
 {
     let kind = needed_text(table, "kind")?;
     let bind = bind_in(alloc, kind, table)?;
@@ -108,7 +108,7 @@ fn fields_of<'a>(alloc: Global, table: &'a Table) -> Result<Fields<'a>, Fail>
     let nester = needed_text(table, "nester")?;
     let slot = needed_integer(table, "slot")?;
     let image = needed_text(table, "image")?;
-    Ok(Fields {
+    Ok(JobFields {
         kind,
         bind,
         moment,
@@ -165,8 +165,8 @@ fn distinct(alloc: Global, pairs: &[(u8, u8)]) -> Result<List<(u8, u8)>, Fail>
 type Numbers = (u64, u8, List<(u8, u8)>);
 
 #[tactic(auto, unfolding(crate::specs::Jobs::numbers_of))]
-fn numbers_of(alloc: Global, before: usize, fields: &Fields<'_>) -> Result<Numbers, Fail>
-    ensures { Gives (λ x. x) result (definitions.numbers_of before (definitions.fields_view fields.now)) }
+fn numbers_of(alloc: Global, before: usize, fields: &JobFields<'_>) -> Result<Numbers, Fail>
+    ensures { Gives (λ x. x) result (definitions.numbers_of before (definitions.job_fields_view fields.now)) }
 {
     let moment = ranged_or(0, 0, 1_000_000, fields.moment)?;
     let slot = ranged(0, 239, fields.slot)?;
@@ -175,9 +175,9 @@ fn numbers_of(alloc: Global, before: usize, fields: &Fields<'_>) -> Result<Numbe
     Ok((moment, slot as u8, pairs))
 }
 
-#[tactic(auto, unfolding(crate::specs::Jobs::kind_of))]
-fn kind_of(alloc: Global, kind: &str, pairs: &[(u8, u8)]) -> Result<JobKind, Fail>
-    ensures { Gives (λ x. x) result (definitions.kind_of kind.now pairs.now) }
+#[tactic(auto, unfolding(crate::specs::Jobs::job_kind))]
+fn job_kind(alloc: Global, kind: &str, pairs: &[(u8, u8)]) -> Result<JobKind, Fail>
+    ensures { Gives (λ x. x) result (definitions.job_kind kind.now pairs.now) }
 {
     if is_restore(kind) {
         let bind = distinct(alloc, pairs)?;
@@ -193,11 +193,11 @@ fn kind_of(alloc: Global, kind: &str, pairs: &[(u8, u8)]) -> Result<JobKind, Fai
 fn job_of(alloc: Global, before: usize, table: &Table) -> Result<JobEntry, Fail>
     ensures { Gives (λ x. x) result (definitions.job_of before (table_view table.now)) }
 {
-    let fields = fields_of(alloc, table)?;
+    let fields = job_fields(alloc, table)?;
     let (moment, slot, pairs) = numbers_of(alloc, before, &fields)?;
-    let nester = path_of(alloc, fields.nester)?;
+    let nester = parse_path(alloc, fields.nester)?;
     unless(rule::FORMS, is_name(fields.image))?;
-    let kind = kind_of(alloc, fields.kind, pairs.as_slice())?;
+    let kind = job_kind(alloc, fields.kind, pairs.as_slice())?;
     Ok(JobEntry {
         moment,
         nester,

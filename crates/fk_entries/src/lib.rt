@@ -12,7 +12,7 @@ mod servers;
 mod types;
 
 pub use jobs::{JobEntry, JobKind, job_in};
-pub use objects::object_in;
+pub use objects::object_entry;
 pub use programs::program_of;
 pub use servers::server_in;
 pub use types::{ObjectEntry, Program, ServerEntry, ServiceSpec, SpaceEntry, Spec};

@@ -6,15 +6,15 @@ ghost use Rattle.fk_entries.specs.Objects as definitions;
 
 use crate::types::{ObjectEntry, Spec};
 use fk_fields::{
-    Fail, flag_in, integer_in, integers_in, known, needed_text, optional_path, path_of, ranged,
+    Fail, flag_in, integer_in, integers_in, known, needed_text, optional_path, parse_path, ranged,
     ranged_or, rule, text_in, unless, words_of,
 };
 use std::alloc::Global;
 use toml::{Table, Value};
 
-#[tactic(auto, unfolding(crate::specs::Objects::thread_of))]
-fn thread_of(alloc: Global, table: &Table) -> Result<Spec, Fail>
-    ensures { Gives (λ x. x) result (definitions.thread_of (table_view table.now)) }
+#[tactic(auto, unfolding(crate::specs::Objects::thread_spec))]
+fn thread_spec(alloc: Global, table: &Table) -> Result<Spec, Fail>
+    ensures { Gives (λ x. x) result (definitions.thread_spec (table_view table.now)) }
 {
     known(&["at", "kind", "entry", "regs", "stops"], table)?;
     let entry = integer_in(table, "entry")?;
@@ -31,9 +31,9 @@ fn thread_of(alloc: Global, table: &Table) -> Result<Spec, Fail>
     })
 }
 
-#[tactic(auto, unfolding(crate::specs::Objects::mutex_of))]
-fn mutex_of(table: &Table) -> Result<Spec, Fail>
-    ensures { Gives (λ x. x) result (definitions.mutex_of (table_view table.now)) }
+#[tactic(auto, unfolding(crate::specs::Objects::mutex_spec))]
+fn mutex_spec(table: &Table) -> Result<Spec, Fail>
+    ensures { Gives (λ x. x) result (definitions.mutex_spec (table_view table.now)) }
 {
     known(&["at", "kind", "locked"], table)?;
     let locked = flag_in(table, "locked")?;
@@ -92,9 +92,9 @@ fn mapping_keys<'a>(table: &'a Table) -> Result<MappingKeys<'a>, Fail>
     })
 }
 
-#[tactic(auto, unfolding(crate::specs::Objects::mapping_of))]
-fn mapping_of(alloc: Global, table: &Table) -> Result<Spec, Fail>
-    ensures { Gives (λ x. x) result (definitions.mapping_of (table_view table.now)) }
+#[tactic(auto, unfolding(crate::specs::Objects::mapping_spec))]
+fn mapping_spec(alloc: Global, table: &Table) -> Result<Spec, Fail>
+    ensures { Gives (λ x. x) result (definitions.mapping_spec (table_view table.now)) }
 {
     let keys = mapping_keys(table)?;
     let (first, count) = window_of(keys.extent)?;
@@ -109,9 +109,9 @@ fn mapping_of(alloc: Global, table: &Table) -> Result<Spec, Fail>
     })
 }
 
-#[tactic(auto, unfolding(crate::specs::Objects::region_of))]
-fn region_of(alloc: Global, table: &Table) -> Result<Spec, Fail>
-    ensures { Gives (λ x. x) result (definitions.region_of (table_view table.now)) }
+#[tactic(auto, unfolding(crate::specs::Objects::region_spec))]
+fn region_spec(alloc: Global, table: &Table) -> Result<Spec, Fail>
+    ensures { Gives (λ x. x) result (definitions.region_spec (table_view table.now)) }
 {
     known(&["at", "kind", "first", "count", "write", "keeper"], table)?;
     let extent = extent_in(table)?;
@@ -136,9 +136,9 @@ fn set_of(number: Option<i64>) -> Result<Option<u8>, Fail>
     }
 }
 
-#[tactic(auto, unfolding(crate::specs::Objects::port_of))]
-fn port_of(table: &Table) -> Result<Spec, Fail>
-    ensures { Gives (λ x. x) result (definitions.port_of (table_view table.now)) }
+#[tactic(auto, unfolding(crate::specs::Objects::port_spec))]
+fn port_spec(table: &Table) -> Result<Spec, Fail>
+    ensures { Gives (λ x. x) result (definitions.port_spec (table_view table.now)) }
 {
     known(&["at", "kind", "set"], table)?;
     let set = integer_in(table, "set")?;
@@ -146,9 +146,9 @@ fn port_of(table: &Table) -> Result<Spec, Fail>
     Ok(Spec::Port { set })
 }
 
-#[tactic(auto, unfolding(crate::specs::Objects::reference_of))]
-fn reference_of(alloc: Global, table: &Table) -> Result<Spec, Fail>
-    ensures { Gives (λ x. x) result (definitions.reference_of (table_view table.now)) }
+#[tactic(auto, unfolding(crate::specs::Objects::reference_spec))]
+fn reference_spec(alloc: Global, table: &Table) -> Result<Spec, Fail>
+    ensures { Gives (λ x. x) result (definitions.reference_spec (table_view table.now)) }
 {
     known(&["at", "kind", "to"], table)?;
     let to = text_in(table, "to")?;
@@ -157,9 +157,9 @@ fn reference_of(alloc: Global, table: &Table) -> Result<Spec, Fail>
 }
 
 /// A kind with no keys of its own, or an unknown kind.
-#[tactic(auto, unfolding(crate::specs::Objects::plain_of))]
-fn plain_of(spec: Option<Spec>, table: &Table) -> Result<Spec, Fail>
-    ensures { Gives (λ x. x) result (definitions.plain_of spec (table_view table.now)) }
+#[tactic(auto, unfolding(crate::specs::Objects::plain_spec))]
+fn plain_spec(spec: Option<Spec>, table: &Table) -> Result<Spec, Fail>
+    ensures { Gives (λ x. x) result (definitions.plain_spec spec (table_view table.now)) }
 {
     known(&["at", "kind"], table)?;
     match spec {
@@ -173,15 +173,15 @@ fn spec_of(alloc: Global, kind: &str, table: &Table) -> Result<Spec, Fail>
     ensures { Gives (λ x. x) result (definitions.spec_of kind.now (table_view table.now)) }
 {
     match kind {
-        "thread" => thread_of(alloc, table),
-        "mutex" => mutex_of(table),
-        "cond" => plain_of(Some(Spec::Cond), table),
-        "mapping" => mapping_of(alloc, table),
-        "region" => region_of(alloc, table),
-        "port" => port_of(table),
-        "portset" => plain_of(Some(Spec::Portset), table),
-        "reference" => reference_of(alloc, table),
-        _ => plain_of(None, table),
+        "thread" => thread_spec(alloc, table),
+        "mutex" => mutex_spec(table),
+        "cond" => plain_spec(Some(Spec::Cond), table),
+        "mapping" => mapping_spec(alloc, table),
+        "region" => region_spec(alloc, table),
+        "port" => port_spec(table),
+        "portset" => plain_spec(Some(Spec::Portset), table),
+        "reference" => reference_spec(alloc, table),
+        _ => plain_spec(None, table),
     }
 }
 
@@ -192,15 +192,15 @@ fn object_of(alloc: Global, table: &Table) -> Result<ObjectEntry, Fail>
     let text = needed_text(table, "at")?;
     let kind = needed_text(table, "kind")?;
     let spec = spec_of(alloc, kind, table)?;
-    let path = path_of(alloc, text)?;
+    let path = parse_path(alloc, text)?;
     unless(rule::FORMS, path.len() > 0)?;
     Ok(ObjectEntry { path, spec })
 }
 
 /// The object of an entry.
-#[tactic(auto, unfolding(crate::specs::Objects::object_in))]
-pub fn object_in(alloc: Global, value: &Value) -> Result<ObjectEntry, Fail>
-    ensures { Gives (λ x. x) result (definitions.object_in (view value.now)) }
+#[tactic(auto, unfolding(crate::specs::Objects::object_entry))]
+pub fn object_entry(alloc: Global, value: &Value) -> Result<ObjectEntry, Fail>
+    ensures { Gives (λ x. x) result (definitions.object_entry (view value.now)) }
 {
     match value.as_table() {
         Some(table) => object_of(alloc, table),

@@ -11,8 +11,8 @@ use fk_model::{List, Text};
 use std::alloc::Global;
 use toml::Value;
 
-fn words_of(alloc: Global, text: &str) -> Result<List<u64>, Fail>
-    ensures { Gives (λ x. x) result (definitions.words_of text.now) }
+fn program_words(alloc: Global, text: &str) -> Result<List<u64>, Fail>
+    ensures { Gives (λ x. x) result (definitions.program_words text.now) }
 {
     match assemble(alloc, text.as_bytes()) {
         Ok(words) => Ok(List::of(words)),
@@ -31,7 +31,7 @@ pub fn program_of(alloc: Global, name: &str, value: &Value) -> Result<Program, F
         None => return Err(Fail::Rule(rule::KEYS)),
     };
     unless(rule::FORMS, is_name(name))?;
-    let words = words_of(alloc, text)?;
+    let words = program_words(alloc, text)?;
     Ok(Program {
         name: Text::of(alloc, name)?,
         words,

@@ -5,7 +5,9 @@ ghost use Rattle.fk_fields.specs.Gives.{Gives};
 ghost use Rattle.fk_entries.specs.Servers as definitions;
 
 use crate::types::{ServerEntry, ServiceSpec};
-use fk_fields::{Fail, integers_in, is_name, known, needed_text, path_of, rule, unless, words_of};
+use fk_fields::{
+    Fail, integers_in, is_name, known, needed_text, parse_path, rule, unless, words_of,
+};
 use fk_model::{NoMemory, Rule, Text};
 use std::alloc::Global;
 use toml::{Table, Value};
@@ -83,7 +85,7 @@ fn server_of(alloc: Global, rules: &[(String, Rule)], table: &Table) -> Result<S
     let port = needed_text(table, "port")?;
     let rule = needed_text(table, "rule")?;
     let service = service_of(alloc, rules, rule, table)?;
-    let port = path_of(alloc, port)?;
+    let port = parse_path(alloc, port)?;
     Ok(ServerEntry { port, service })
 }
 

@@ -37,14 +37,14 @@ Gives view (Ok x) read = read ≡ Ok (view x)
 Gives view (Err fail) read = IsFail fail read
 
 -- the first refusal, unless there was no memory
-abbrev pub IsRefusal : {Y : Type 0} → ScenarioFail → Result Y ScenarioError → Type 0
-IsRefusal ends.NoMemory read = Unit {0}
-IsRefusal (ends.Scenario error) read = read ≡ Err error
+abbrev pub IsFirstRefusal : {Y : Type 0} → ScenarioFail → Result Y ScenarioError → Type 0
+IsFirstRefusal ends.NoMemory read = Unit {0}
+IsFirstRefusal (ends.Scenario error) read = read ≡ Err error
 
 -- a function for a section or a whole document gives what is read of it, unless there was no memory
 abbrev pub Answers : {X : Type 0} → Result X ScenarioFail → Result X ScenarioError → Type 0
 Answers (Ok x) read = read ≡ Ok x
-Answers (Err fail) read = IsRefusal fail read
+Answers (Err fail) read = IsFirstRefusal fail read
 
 -- an entry's refusal at a section and an index
 abbrev pub fail_at : ℕ → ℕ → Fail → ScenarioFail

@@ -14,16 +14,16 @@ abbrev pub is_slash : ℕ → Bool
 is_slash byte = byte == 47
 
 -- a path's text is a slash, or a slash and a slot, repeated; else rule 4
-unfoldable pub path_of : List ℕ → Result (List ℕ) ℕ
-path_of [] = Err 4
-path_of (byte ∷ []) = if is_slash byte then Ok [] else Err 4
-path_of (byte ∷ more ∷ text) = if is_slash byte then slots_from [] (slice_split is_slash (more ∷ text)) else Err 4
+unfoldable pub parse_path : List ℕ → Result (List ℕ) ℕ
+parse_path [] = Err 4
+parse_path (byte ∷ []) = if is_slash byte then Ok [] else Err 4
+parse_path (byte ∷ more ∷ text) = if is_slash byte then slots_from [] (slice_split is_slash (more ∷ text)) else Err 4
 
 -- the same where a text is written
 abbrev pub optional_path : Option (List ℕ) → Result (Option (List ℕ)) ℕ
 optional_path None = Ok None
-optional_path (Some text) = path_of text >>= λ path. Ok (Some path)
+optional_path (Some text) = parse_path text >>= λ path. Ok (Some path)
 
 -- the path of the space in which a path's object lies: all but the last slot
-abbrev pub parent : List ℕ → List ℕ
-parent path = take (length path - 1) path
+abbrev pub enclosing : List ℕ → List ℕ
+enclosing path = take (length path - 1) path

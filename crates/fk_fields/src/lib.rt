@@ -17,4 +17,4 @@ pub use fields::{
     array_in, bytes_of, flag_in, has_key, integer_in, integers_in, integers_of, known,
     needed_integer, needed_text, ranged, ranged_or, table_in, text_in, unless, words_of,
 };
-pub use paths::{Path, is_name, optional_path, parent, path_of};
+pub use paths::{Path, enclosing, is_name, optional_path, parse_path};

@@ -40,9 +40,9 @@ fn slots_of(alloc: Global, pieces: &[&[u8]]) -> Result<List<u8>, Fail>
 }
 
 /// The path that a text is: a slash, or a slash and a slot, repeated.
-#[tactic(auto, unfolding(crate::specs::Paths::path_of))]
-pub fn path_of(alloc: Global, text: &str) -> Result<List<u8>, Fail>
-    ensures { Gives (λ x. x) result (paths.path_of text.now) }
+#[tactic(auto, unfolding(crate::specs::Paths::parse_path))]
+pub fn parse_path(alloc: Global, text: &str) -> Result<List<u8>, Fail>
+    ensures { Gives (λ x. x) result (paths.parse_path text.now) }
 {
     match text.as_bytes() {
         [b'/'] => Ok(List::new(alloc)),
@@ -60,13 +60,13 @@ pub fn optional_path(alloc: Global, text: Option<&str>) -> Result<Option<List<u8
 {
     match text {
         None => Ok(None),
-        Some(text) => Ok(Some(path_of(alloc, text)?)),
+        Some(text) => Ok(Some(parse_path(alloc, text)?)),
     }
 }
 
 /// The path of the space in which an object of this path lies.
-pub fn parent(path: &[u8]) -> &[u8]
-    ensures { result.now ≡ paths.parent path.now }
+pub fn enclosing(path: &[u8]) -> &[u8]
+    ensures { result.now ≡ paths.enclosing path.now }
 {
     &path[..path.len().saturating_sub(1)]
 }

@@ -24,4 +24,4 @@ pub use links::{
 pub use objects::{Objects, kind_of_rec};
 pub use open::Open;
 pub use path::{Path, enter, room_under};
-pub use ranges::{is_code, is_extent, is_set_word, is_mode_byte};
+pub use ranges::{is_code, is_extent, is_mode_byte, is_set_word};

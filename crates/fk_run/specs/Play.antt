@@ -5,7 +5,7 @@ use Rattle.fk_kernel.specs.Events.{IsAnyReady}
 use Rattle.fk_model.specs.World.{World}
 use Rattle.fk_fields.specs.declared.fail.ScenarioError.{ScenarioError}
 use Rattle.fk_scenario.specs.declared.scenario.Scenario.{Scenario}
-use Rattle.fk_scenario.specs.Reading.{reading}
+use Rattle.fk_scenario.specs.Reading.{scenario_reading}
 use Rattle.fk_scenario.specs.Rules.{server_rules}
 use Rattle.fk_report.specs.declared.end.End.{End}
 use Rattle.fk_report.specs.declared.end.End.TheVariants as ends
@@ -31,7 +31,7 @@ bootable (Err error) = Err error
 
 -- the scenario of a text that is to be run
 abbrev pub scenario_to_run : List ℕ → Result Scenario ScenarioError
-scenario_to_run text = bootable (reading server_rules text)
+scenario_to_run text = bootable (scenario_reading server_rules text)
 
 -- ---- how a run ends
 

@@ -3,7 +3,7 @@ use Rattle.std.specs.Prelude.{◌≡◌, ℕ, List, Option, Some, None, Result, 
 use Rattle.fk_causes.specs.Shelf.{FileMap, HasAt}
 use Rattle.fk_image.specs.declared.image.Image.{Image}
 use Rattle.fk_show.specs.Shown.{shown}
-use Rattle.fk_spelling.specs.Reading.{reading}
+use Rattle.fk_spelling.specs.Reading.{image_reading}
 use Rattle.fk_run.specs.declared.status.Status.{Status}
 use Rattle.fk_run.specs.declared.status.Status.TheVariants.{Ok as Done, Absent, BadImage}
 use Rattle.fk_run.specs.declared.top.Outcome.{Outcome}
@@ -18,7 +18,7 @@ IsShown name (Ok i) outcome text = (outcome ≡ without_report Done) × (text �
 -- the same of a file that may not be there
 abbrev pub IsFileShown : List ℕ → Option (List ℕ) → Outcome → List ℕ → Type 0
 IsFileShown name None outcome text = IsRefused (Absent name) outcome text
-IsFileShown name (Some bytes) outcome text = IsShown name (reading bytes) outcome text
+IsFileShown name (Some bytes) outcome text = IsShown name (image_reading bytes) outcome text
 
 -- what the files of the shelf come to
 abbrev pub IsShow : List ℕ → Option FileMap → Outcome → List ℕ → Type 0

@@ -6,7 +6,7 @@ use Rattle.fk_asm.specs.Assembler.{assembled}
 use Rattle.fk_causes.specs.Causes.{MayHold, AppendsPrefix}
 use Rattle.fk_causes.specs.declared.whole.TheConstants.{LIMIT}
 use Rattle.fk_causes.specs.Shelf.{FileMap}
-use Rattle.fk_scenario.specs.Reading.{reading}
+use Rattle.fk_scenario.specs.Reading.{scenario_reading}
 use Rattle.fk_scenario.specs.Rules.{server_rules}
 use Rattle.fk_run.specs.declared.status.Status.{Status}
 use Rattle.fk_run.specs.declared.status.Status.TheVariants.{Usage, TooLong}
@@ -27,7 +27,7 @@ IsUnlessTooLong bytes Is outcome text = MatchBool (nat_lt LIMIT (length bytes)) 
 abbrev pub IsCalledFor : Option Command → Option FileMap → List ℕ → Outcome → List ℕ → Type 0
 IsCalledFor None files bytes outcome text = IsRefused Usage outcome text
 IsCalledFor (Some Exec) files bytes outcome text = IsUnlessTooLong bytes (IsExec (assembled bytes)) outcome text
-IsCalledFor (Some Check) files bytes outcome text = IsUnlessTooLong bytes (IsCheck (reading server_rules bytes)) outcome text
+IsCalledFor (Some Check) files bytes outcome text = IsUnlessTooLong bytes (IsCheck (scenario_reading server_rules bytes)) outcome text
 IsCalledFor (Some (Play name)) files bytes outcome text = IsUnlessTooLong bytes (IsPlay name files (scenario_to_run bytes)) outcome text
 IsCalledFor (Some (Show name)) files bytes outcome text = IsShow name files outcome text
 

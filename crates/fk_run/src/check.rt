@@ -1,6 +1,6 @@
 //! The command `check`: the counts of a scenario are told.
 ghost use Rattle.std.specs.Prelude.{◌≡◌, ◌+◌, Ok, IfOk, IfErr, string_bytes};
-ghost use Rattle.fk_scenario.specs.Reading.{reading};
+ghost use Rattle.fk_scenario.specs.Reading.{scenario_reading};
 ghost use Rattle.fk_scenario.specs.Rules as rules_here;
 ghost use Rattle.fk_run.specs.Check as words;
 ghost use Rattle.fk_run.specs.Check.{IsCheck};
@@ -13,8 +13,8 @@ use fk_scenario::{Scenario, ScenarioFail, SpaceEntry, read_scenario, server_rule
 use std::alloc::{AllocError, Global};
 
 fn scenario_in(alloc: Global, text: &[u8]) -> Result<Scenario, Status>
-    ensures read { IfOk result (λ scenario. reading rules_here.server_rules text.now ≡ Ok scenario) }
-    ensures fail { IfErr result (IsScenarioFail (reading rules_here.server_rules text.now)) }
+    ensures read { IfOk result (λ scenario. scenario_reading rules_here.server_rules text.now ≡ Ok scenario) }
+    ensures fail { IfErr result (IsScenarioFail (scenario_reading rules_here.server_rules text.now)) }
 {
     let rules = server_rules(alloc)?;
     match read_scenario(alloc, text, &rules) {
@@ -75,7 +75,7 @@ fn counts_text(
 ///
 /// `BadScenario` for a text that is no scenario. `NoMemory` where there is no memory for it.
 pub fn check(alloc: Global, text: &[u8]) -> Result<Prepared, Status>
-    ensures comes { ComesTo (IsCheck (reading rules_here.server_rules text.now)) result }
+    ensures comes { ComesTo (IsCheck (scenario_reading rules_here.server_rules text.now)) result }
     ensures refusal { IfErr result (IsRefusal ⊥ ⊥) }
 {
     let scenario = scenario_in(alloc, text)?;

@@ -2,7 +2,7 @@
 ghost use Rattle.std.specs.Prelude.{◌≡◌, ◌≤◌, Ok, Some, IfOk, IfErr};
 ghost use Rattle.fk_causes.specs.Causes.{Rose};
 ghost use Rattle.fk_causes.specs.Shelf.{HasAt};
-ghost use Rattle.fk_scenario.specs.Kept.{Keeps};
+ghost use Rattle.fk_scenario.specs.Kept.{KeepsScenario};
 ghost use Rattle.fk_store.specs.World.{world};
 ghost use Rattle.fk_run.specs.Commands.{trace_name};
 ghost use Rattle.fk_run.specs.Play.{IsEnd, IsPlay, IsPlayed, scenario_to_run, status_of_end};
@@ -25,7 +25,7 @@ use std::alloc::Global;
 /// The scenario that a text is.
 fn scenario_of(alloc: Global, text: &[u8]) -> Result<Scenario, Status>
     ensures read { IfOk result (λ scenario. scenario_to_run text.now ≡ Ok scenario) }
-    ensures keeps { IfOk result Keeps }
+    ensures keeps { IfOk result KeepsScenario }
     ensures fail { IfErr result (IsScenarioFail (scenario_to_run text.now)) }
 {
     let rules = server_rules(alloc)?;
@@ -90,7 +90,7 @@ fn status_of(end: End, budget: u64) -> Status
 
 /// Plays a trace from the first world of a scenario.
 fn play_scenario(alloc: Global, scenario: &Scenario, trace: &[u8]) -> Result<Prepared, Status>
-    requires { Keeps scenario.now }
+    requires { KeepsScenario scenario.now }
     ensures comes { ComesTo (λ outcome. IsPlayed scenario.now trace.now outcome.status outcome.report) result }
     ensures refusal { IfErr result (IsRefusal ⊥ ⊥) }
 {

@@ -1,7 +1,7 @@
 //! The command `show`: the counts of an image are shown.
 ghost use Rattle.std.specs.Prelude.{◌≡◌, Ok, IfOk, IfErr};
 ghost use Rattle.fk_causes.specs.Causes.{Rose};
-ghost use Rattle.fk_spelling.specs.Reading.{reading};
+ghost use Rattle.fk_spelling.specs.Reading.{image_reading};
 ghost use Rattle.fk_run.specs.Show.{IsShow, IsShown};
 ghost use Rattle.fk_run.specs.Prepared.{ComesTo, IsRefusal, IsImageFail};
 
@@ -17,8 +17,8 @@ use std::alloc::Global;
 
 /// The image that the bytes of the file of a name spell.
 fn image_of(alloc: Global, name: &str, bytes: &[u8]) -> Result<Image, Status>
-    ensures read { IfOk result (λ image. reading bytes.now ≡ Ok image) }
-    ensures fail { IfErr result (IsImageFail name.now (reading bytes.now)) }
+    ensures read { IfOk result (λ image. image_reading bytes.now ≡ Ok image) }
+    ensures fail { IfErr result (IsImageFail name.now (image_reading bytes.now)) }
 {
     match read(alloc, bytes) {
         Ok(image) => Ok(image),
@@ -32,7 +32,7 @@ fn image_of(alloc: Global, name: &str, bytes: &[u8]) -> Result<Image, Status>
 }
 
 fn show_image(alloc: Global, name: &str, bytes: &[u8]) -> Result<Prepared, Status>
-    ensures comes { ComesTo (IsShown name.now (reading bytes.now)) result }
+    ensures comes { ComesTo (IsShown name.now (image_reading bytes.now)) result }
     ensures refusal { IfErr result (IsRefusal ⊥ ⊥) }
 {
     let image = image_of(alloc, name, bytes)?;

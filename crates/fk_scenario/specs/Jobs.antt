@@ -1,24 +1,17 @@
--- The jobs of a document.
+-- The jobs of a document, among its spaces and servers.
 use Rattle.std.specs.Prelude.{ℕ, ◌+◌, Bool, true, false, not, ◌&&◌, ◌==◌, nat_eq, List, [], ◌∷◌, ◌++◌, length, Option, Some, None, Result, Ok, if◌then◌else◌}
 use Rattle.std.specs.List.{list_any, starts_with}
 use Rattle.std.specs.Str.{bytes_eq}
-use Rattle.toml.specs.Data.{Items, no_items, item}
 use Rattle.fk_model.specs.declared.job.JobSpec.{JobSpec}
 use Rattle.fk_model.specs.declared.job.JobSpec.TheVariants.{Checkpoint, Restore}
 use Rattle.fk_fields.specs.declared.fail.ScenarioError.{ScenarioError}
 use Rattle.fk_fields.specs.Gives.{◌>>=◌, or_rule, unless, placed}
-use Rattle.fk_fields.specs.Paths.{parent}
+use Rattle.fk_fields.specs.Paths.{enclosing}
 use Rattle.fk_entries.specs.declared.types.SpaceEntry.{SpaceEntry}
 use Rattle.fk_entries.specs.declared.types.ServerEntry.{ServerEntry}
 use Rattle.fk_entries.specs.declared.jobs.JobEntry.{JobEntry}
 use Rattle.fk_entries.specs.declared.jobs.JobKind.{JobKind}
 use Rattle.fk_entries.specs.declared.jobs.JobKind.TheVariants as kinds
-use Rattle.fk_entries.specs.Jobs.{job_in}
-
--- the jobs after those so far, each by itself
-unfoldable pub entries_from : List JobEntry → Items → Result (List JobEntry) ScenarioError
-entries_from done no_items = Ok done
-entries_from done (item value rest) = placed 6 (length done) (job_in (length done) value) >>= λ job. entries_from (done ++ job ∷ []) rest
 
 -- spaces are numbered in the order of the file, the root as 0, and the first besides it as 1
 abbrev pub first_number : List SpaceEntry → ℕ
@@ -31,25 +24,25 @@ nester_from n [] path = None
 nester_from n (s ∷ ss) path = if bytes_eq s.path path && s.nester then Some n else nester_from (n + 1) ss path
 
 -- a path is that of a space or lies beneath it
-abbrev pub is_within : List ℕ → List ℕ → Bool
-is_within space path = starts_with nat_eq path space
+abbrev pub is_beneath : List ℕ → List ℕ → Bool
+is_beneath space path = starts_with nat_eq path space
 
 -- a nester lies in a subtree
 abbrev pub has_nester : List SpaceEntry → List ℕ → Bool
-has_nester spaces subtree = list_any (λ s. s.nester && is_within subtree s.path) spaces
+has_nester spaces subtree = list_any (λ s. s.nester && is_beneath subtree s.path) spaces
 
 -- the port of a server does
 abbrev pub has_server : List ServerEntry → List ℕ → Bool
-has_server servers subtree = list_any (λ s. is_within subtree (parent s.port)) servers
+has_server servers subtree = list_any (λ s. is_beneath subtree (enclosing s.port)) servers
 
 -- a job makes this image
-abbrev pub makes : List ℕ → JobSpec → Bool
-makes image (Checkpoint moment nester path slot made) = bytes_eq made image
-makes image (Restore moment nester slot used bind) = false
+abbrev pub makes_image : List ℕ → JobSpec → Bool
+makes_image image (Checkpoint moment nester path slot made) = bytes_eq made image
+makes_image image (Restore moment nester slot used bind) = false
 
 -- one of the jobs so far makes it
 abbrev pub is_made : List JobSpec → List ℕ → Bool
-is_made done image = list_any (makes image) done
+is_made done image = list_any (makes_image image) done
 
 -- the subtree of a job
 abbrev pub subtree_of : JobEntry → List ℕ
@@ -62,16 +55,16 @@ may_be_done spaces servers done job kinds.Checkpoint = not (has_nester spaces (s
 may_be_done spaces servers done job (kinds.Restore bind) = true
 
 -- what a job is, whose nester has this number
-abbrev pub spec_of : ℕ → JobEntry → JobKind → JobSpec
-spec_of birth job kinds.Checkpoint = Checkpoint job.moment birth job.nester job.slot job.image
-spec_of birth job (kinds.Restore bind) = Restore job.moment birth job.slot job.image bind
+abbrev pub job_spec : ℕ → JobEntry → JobKind → JobSpec
+job_spec birth job kinds.Checkpoint = Checkpoint job.moment birth job.nester job.slot job.image
+job_spec birth job (kinds.Restore bind) = Restore job.moment birth job.slot job.image bind
 
 -- a job after those before it: its nester is there, and it may be done, else rule 10
 unfoldable pub job_after : List SpaceEntry → List ServerEntry → List JobSpec → JobEntry → Result JobSpec ℕ
 job_after spaces servers done job = do
   birth ← or_rule 10 (nester_from (first_number spaces) spaces job.nester)
   _ ← unless 10 (may_be_done spaces servers done job job.kind)
-  Ok (spec_of birth job job.kind)
+  Ok (job_spec birth job job.kind)
 
 -- the jobs after those so far
 unfoldable pub jobs_from : List SpaceEntry → List ServerEntry → List JobSpec → List JobEntry → Result (List JobSpec) ScenarioError

@@ -1,6 +1,3 @@
-pub mod Programs
-pub mod Spaces
-pub mod Objects
 pub mod Aims
 pub mod Servers
 pub mod Jobs

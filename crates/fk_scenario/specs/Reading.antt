@@ -12,11 +12,13 @@ use Rattle.fk_scenario.specs.declared.reading.Top as code_top
 use Rattle.fk_scenario.specs.declared.reading.Sections as code
 use Rattle.fk_scenario.specs.declared.reading.Round.{Round}
 use Rattle.fk_scenario.specs.declared.scenario.Scenario.{Scenario}
-use Rattle.fk_scenario.specs.Programs.{programs_from}
-use Rattle.fk_scenario.specs.Spaces.{spaces_from}
-use Rattle.fk_scenario.specs.Objects.{objects_from}
-use Rattle.fk_scenario.specs.Servers.{servers_from, serving_from}
-use Rattle.fk_scenario.specs.Jobs.{entries_from, jobs_from}
+use Rattle.fk_sections.specs.Programs.{programs_from}
+use Rattle.fk_sections.specs.Spaces.{spaces_from}
+use Rattle.fk_sections.specs.Objects.{objects_from}
+use Rattle.fk_sections.specs.Servers.{servers_from}
+use Rattle.fk_sections.specs.Jobs.{entries_from}
+use Rattle.fk_scenario.specs.Servers.{serving_from}
+use Rattle.fk_scenario.specs.Jobs.{jobs_from}
 use Rattle.fk_scenario.specs.Aims.{aims_from}
 
 -- the sections as they stand in the document; one that isn't there is empty
@@ -121,5 +123,5 @@ scenario_in rules None = Err (record { rule = 1; section = 0; index = 0 })
 scenario_in rules (Some ms) = scenario_of rules ms >>= without_jobs ms
 
 -- the scenario that bytes are, with the rules that servers may have, or the first refusal
-unfoldable pub reading : List (List ℕ × Rule) → List ℕ → Result Scenario ScenarioError
-reading rules bytes = scenario_in rules (tree_of bytes)
+unfoldable pub scenario_reading : List (List ℕ × Rule) → List ℕ → Result Scenario ScenarioError
+scenario_reading rules bytes = scenario_in rules (tree_of bytes)

@@ -1,9 +1,7 @@
--- The servers of a document.
+-- Whether servers may serve.
 use Rattle.std.specs.Prelude.{ℕ, Bool, true, false, not, ◌&&◌, List, [], ◌∷◌, ◌++◌, length, None, Result, Ok}
 use Rattle.std.specs.List.{list_any}
 use Rattle.std.specs.Str.{bytes_eq}
-use Rattle.toml.specs.Data.{Items, no_items, item}
-use Rattle.fk_model.specs.declared.moves.Rule.{Rule}
 use Rattle.fk_fields.specs.declared.fail.ScenarioError.{ScenarioError}
 use Rattle.fk_fields.specs.Gives.{◌>>=◌, unless, placed}
 use Rattle.fk_entries.specs.declared.types.ObjectEntry.{ObjectEntry}
@@ -12,13 +10,7 @@ use Rattle.fk_entries.specs.declared.types.ServiceSpec.{ServiceSpec}
 use Rattle.fk_entries.specs.declared.types.ServiceSpec.TheVariants.{Console, Listed}
 use Rattle.fk_entries.specs.declared.types.Spec.{Spec}
 use Rattle.fk_entries.specs.declared.types.Spec.TheVariants.{Port}
-use Rattle.fk_entries.specs.Servers.{server_in}
 use Rattle.fk_scenario.specs.Aims.{object_with, is_one}
-
--- the servers after those so far, each by itself
-unfoldable pub servers_from : List (List ℕ × Rule) → List ServerEntry → Items → Result (List ServerEntry) ScenarioError
-servers_from rules done no_items = Ok done
-servers_from rules done (item value rest) = placed 5 (length done) (server_in rules value) >>= λ server. servers_from rules (done ++ server ∷ []) rest
 
 -- a port in no set
 abbrev pub is_lone_port : Spec → Bool
@@ -26,8 +18,8 @@ is_lone_port (Port None) = true
 is_lone_port _ = false
 
 -- a text or a path is among some
-abbrev pub has : List (List ℕ) → List ℕ → Bool
-has keys key = list_any (λ k. bytes_eq k key) keys
+abbrev pub has_key : List (List ℕ) → List ℕ → Bool
+has_key keys key = list_any (λ k. bytes_eq k key) keys
 
 -- the alias of a console, if it is one
 abbrev pub alias_of : ServiceSpec → List (List ℕ)
@@ -36,12 +28,12 @@ alias_of (Listed index rule config) = []
 
 -- a server's alias, if it has one, is not among those of earlier servers
 abbrev pub has_new_alias : List (List ℕ) → ServiceSpec → Bool
-has_new_alias aliases (Console alias) = not (has aliases alias)
+has_new_alias aliases (Console alias) = not (has_key aliases alias)
 has_new_alias aliases (Listed index rule config) = true
 
 -- a server's port is there, in no set, and served by no earlier server, and its alias is its own
 abbrev pub may_serve : List ObjectEntry → List (List ℕ) → List (List ℕ) → ServerEntry → Bool
-may_serve objects ports aliases server = is_one is_lone_port (object_with objects server.port) && not (has ports server.port) && has_new_alias
+may_serve objects ports aliases server = is_one is_lone_port (object_with objects server.port) && not (has_key ports server.port) && has_new_alias
     aliases server.service
 
 -- servers after some whose ports and aliases these are; one that may not serve is rule 9

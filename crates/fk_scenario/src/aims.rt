@@ -3,28 +3,28 @@ ghost use Rattle.std.specs.Prelude.{◌≡◌, ◌++◌, ◌∷◌, [], option_m
 ghost use Rattle.fk_fields.specs.Gives.{Answers};
 ghost use Rattle.fk_scenario.specs.Aims as definitions;
 
-use crate::spaces::has_space;
 use fk_entries::{ObjectEntry, SpaceEntry, Spec};
-use fk_fields::{Entries, Fail, ScenarioFail, index_at, parent, rule};
+use fk_fields::{Entries, Fail, ScenarioFail, enclosing, index_at, rule};
 use fk_model::{List, NoMemory};
+use fk_sections::has_space;
 use std::alloc::Global;
 
 const SECTION: u8 = 4;
 
-fn is_region(spec: &Spec) -> bool
-    ensures { result ≡ definitions.is_region spec.now }
+fn is_region_spec(spec: &Spec) -> bool
+    ensures { result ≡ definitions.is_region_spec spec.now }
 {
     matches!(spec, Spec::Region { .. })
 }
 
-fn is_port(spec: &Spec) -> bool
-    ensures { result ≡ definitions.is_port spec.now }
+fn is_port_spec(spec: &Spec) -> bool
+    ensures { result ≡ definitions.is_port_spec spec.now }
 {
     matches!(spec, Spec::Port { .. })
 }
 
-fn is_portset(spec: &Spec) -> bool
-    ensures { result ≡ definitions.is_portset spec.now }
+fn is_portset_spec(spec: &Spec) -> bool
+    ensures { result ≡ definitions.is_portset_spec spec.now }
 {
     matches!(spec, Spec::Portset)
 }
@@ -40,34 +40,34 @@ fn can_be_referred_to(spec: &Spec) -> bool
 }
 
 fn has_region(objects: &Entries<ObjectEntry>, path: &[u8]) -> bool
-    ensures { result ≡ definitions.is_one definitions.is_region (definitions.object_with objects.now path.now) }
+    ensures { result ≡ definitions.is_one definitions.is_region_spec (definitions.object_with objects.now path.now) }
 {
     match objects.find(path) {
-        Some(object) => is_region(&object.spec),
+        Some(object) => is_region_spec(&object.spec),
         None => false,
     }
 }
 
 fn has_port(objects: &Entries<ObjectEntry>, path: &[u8]) -> bool
-    ensures { result ≡ definitions.is_one definitions.is_port (definitions.object_with objects.now path.now) }
+    ensures { result ≡ definitions.is_one definitions.is_port_spec (definitions.object_with objects.now path.now) }
 {
     match objects.find(path) {
-        Some(object) => is_port(&object.spec),
+        Some(object) => is_port_spec(&object.spec),
         None => false,
     }
 }
 
 fn has_portset(objects: &Entries<ObjectEntry>, path: &[u8]) -> bool
-    ensures { result ≡ definitions.is_one definitions.is_portset (definitions.object_with objects.now path.now) }
+    ensures { result ≡ definitions.is_one definitions.is_portset_spec (definitions.object_with objects.now path.now) }
 {
     match objects.find(path) {
-        Some(object) => is_portset(&object.spec),
+        Some(object) => is_portset_spec(&object.spec),
         None => false,
     }
 }
 
 fn leads_to_region(objects: &Entries<ObjectEntry>, path: &Option<List<u8>>) -> bool
-    ensures { result ≡ definitions.leads objects.now definitions.is_region path.now }
+    ensures { result ≡ definitions.aims_at objects.now definitions.is_region_spec path.now }
 {
     match path {
         None => true,
@@ -76,7 +76,7 @@ fn leads_to_region(objects: &Entries<ObjectEntry>, path: &Option<List<u8>>) -> b
 }
 
 fn leads_to_port(objects: &Entries<ObjectEntry>, path: &Option<List<u8>>) -> bool
-    ensures { result ≡ definitions.leads objects.now definitions.is_port path.now }
+    ensures { result ≡ definitions.aims_at objects.now definitions.is_port_spec path.now }
 {
     match path {
         None => true,
@@ -94,12 +94,12 @@ fn has_referent(objects: &Entries<ObjectEntry>, path: &[u8]) -> bool
     }
 }
 
-fn refers(
+fn refers_to(
     spaces: &Entries<SpaceEntry>,
     objects: &Entries<ObjectEntry>,
     path: &Option<List<u8>>,
 ) -> bool
-    ensures { result ≡ definitions.refers spaces.now objects.now path.now }
+    ensures { result ≡ definitions.refers_to spaces.now objects.now path.now }
 {
     match path {
         None => true,
@@ -140,13 +140,13 @@ fn aims_well(
     objects: &Entries<ObjectEntry>,
     object: &ObjectEntry,
 ) -> Result<bool, NoMemory>
-    ensures { IfOk result (λ well. well ≡ definitions.aims_well spaces.now objects.now (definitions.home object.now) object.now.spec) }
+    ensures { IfOk result (λ well. well ≡ definitions.aims_well spaces.now objects.now (definitions.entry_space object.now) object.now.spec) }
 {
     match &object.spec {
         Spec::Mapping { region, .. } => Ok(leads_to_region(objects, region)),
         Spec::Region { keeper, .. } => Ok(leads_to_port(objects, keeper)),
-        Spec::Port { set } => has_set(alloc, objects, parent(object.path.as_slice()), *set),
-        Spec::Reference { to } => Ok(refers(spaces, objects, to)),
+        Spec::Port { set } => has_set(alloc, objects, enclosing(object.path.as_slice()), *set),
+        Spec::Reference { to } => Ok(refers_to(spaces, objects, to)),
         Spec::Thread { .. } | Spec::Mutex { .. } | Spec::Cond | Spec::Portset => Ok(true),
     }
 }

@@ -1,43 +1,14 @@
-//! The jobs of a document.
-ghost use Rattle.std.specs.Prelude.{◌≡◌, ◌++◌, ◌∷◌, [], option_map, unwrap_or, IfOk, length, ◌<◌};
-ghost use Rattle.toml.specs.Data.{no_items};
-ghost use Rattle.toml.specs.View.{array_view};
+//! The jobs of a document, among its spaces and servers.
+ghost use Rattle.std.specs.Prelude.{◌≡◌, ◌++◌, ◌∷◌, [], IfOk};
 ghost use Rattle.fk_fields.specs.Gives.{Gives, Answers};
 ghost use Rattle.fk_scenario.specs.Jobs as definitions;
 
-use fk_entries::{JobEntry, JobKind, ServerEntry, SpaceEntry, job_in};
-use fk_fields::{Fail, ScenarioFail, index_at, parent, rule, unless};
+use fk_entries::{JobEntry, JobKind, ServerEntry, SpaceEntry};
+use fk_fields::{Fail, ScenarioFail, enclosing, index_at, rule, unless};
 use fk_model::{JobSpec, List, NoMemory};
 use std::alloc::Global;
-use toml::value::Array;
 
 const SECTION: u8 = 6;
-
-#[tactic(auto, unfolding(crate::specs::Jobs::entries_from))]
-fn entries_of(alloc: Global, array: &Array) -> Result<List<JobEntry>, ScenarioFail>
-    ensures { Answers result (definitions.entries_from [] (array_view array.now)) }
-{
-    let mut jobs = List::new(alloc);
-    for value in array {
-        let index = index_at(jobs.len())?;
-        match job_in(alloc, jobs.len(), value) {
-            Ok(job) => jobs.push(job)?,
-            Err(fail) => return Err(fail.at(SECTION, index)),
-        }
-    }
-    Ok(jobs)
-}
-
-/// The jobs of the section, if it is there, each by itself.
-#[tactic(auto, unfolding(crate::specs::Jobs::entries_from))]
-pub fn entries_in(alloc: Global, array: Option<&Array>) -> Result<List<JobEntry>, ScenarioFail>
-    ensures { Answers result (definitions.entries_from [] (unwrap_or (option_map (λ a. array_view a.now) array.entry) no_items)) }
-{
-    match array {
-        Some(array) => entries_of(alloc, array),
-        None => Ok(List::new(alloc)),
-    }
-}
 
 /// The number of the first space: the root is 0, and the first besides it 1.
 fn first_number(spaces: &[SpaceEntry]) -> u32
@@ -67,8 +38,8 @@ fn nester_at(spaces: &[SpaceEntry], path: &[u8]) -> Result<Option<u32>, NoMemory
     Ok(None)
 }
 
-fn is_within(space: &[u8], path: &[u8]) -> bool
-    ensures { result ≡ definitions.is_within space.now path.now }
+fn is_beneath(space: &[u8], path: &[u8]) -> bool
+    ensures { result ≡ definitions.is_beneath space.now path.now }
 {
     path.starts_with(space)
 }
@@ -76,17 +47,17 @@ fn is_within(space: &[u8], path: &[u8]) -> bool
 fn has_nester(spaces: &[SpaceEntry], subtree: &[u8]) -> bool
     ensures { result ≡ definitions.has_nester spaces.now subtree.now }
 {
-    spaces.iter().any(|space| space.nester && is_within(subtree, space.path.as_slice()))
+    spaces.iter().any(|space| space.nester && is_beneath(subtree, space.path.as_slice()))
 }
 
 fn has_server(servers: &[ServerEntry], subtree: &[u8]) -> bool
     ensures { result ≡ definitions.has_server servers.now subtree.now }
 {
-    servers.iter().any(|server| is_within(subtree, parent(server.port.as_slice())))
+    servers.iter().any(|server| is_beneath(subtree, enclosing(server.port.as_slice())))
 }
 
-fn makes(image: &str, job: &JobSpec) -> bool
-    ensures { result ≡ definitions.makes image.now job.now }
+fn makes_image(image: &str, job: &JobSpec) -> bool
+    ensures { result ≡ definitions.makes_image image.now job.now }
 {
     match job {
         JobSpec::Checkpoint { image: made, .. } => made.as_str() == image,
@@ -97,7 +68,7 @@ fn makes(image: &str, job: &JobSpec) -> bool
 fn is_made(done: &[JobSpec], image: &str) -> bool
     ensures { result ≡ definitions.is_made done.now image.now }
 {
-    done.iter().any(|job| makes(image, job))
+    done.iter().any(|job| makes_image(image, job))
 }
 
 /// The path of a job's subtree.
@@ -132,8 +103,8 @@ fn may_be_done(
 }
 
 /// What a job is, whose nester has this number.
-fn spec_of(birth: u32, job: &JobEntry) -> Result<JobSpec, NoMemory>
-    ensures { IfOk result (λ spec. spec ≡ definitions.spec_of birth job.now job.now.kind) }
+fn job_spec(birth: u32, job: &JobEntry) -> Result<JobSpec, NoMemory>
+    ensures { IfOk result (λ spec. spec ≡ definitions.job_spec birth job.now job.now.kind) }
 {
     let image = job.image.copy()?;
     match &job.kind {
@@ -169,7 +140,7 @@ fn job_after(
     };
     let may = may_be_done(alloc, spaces, servers, done, job)?;
     unless(rule::JOBS, may)?;
-    Ok(spec_of(birth, job)?)
+    Ok(job_spec(birth, job)?)
 }
 
 /// The jobs, each after those before it.

@@ -1,7 +1,7 @@
 //! The reader of scenarios: from the bytes of a TOML document to what a machine begins with.
 //!
-//! It stands on `fk_entries`, which reads each entry by itself. Here each entry meets the others: those
-//! before it in a first round, section by section, and all others in a second. `specs/Reading.antt` has
+//! It stands on `fk_sections` for a first round, section by section, in which each entry meets those before
+//! it. Here each meets all others in a second round. `specs/Reading.antt` has
 //! what a document says: a scenario, or the first refusal by rule, section and index. `read_scenario` gives
 //! exactly that, and every scenario that it gives keeps what a machine rests on that begins with it
 //! (`specs/Kept.antt`). Its time is linear in the bytes but for sorts and look-ups in ordered maps.
@@ -9,13 +9,10 @@
 
 mod aims;
 mod jobs;
-mod objects;
-mod programs;
 mod reading;
 mod rules;
 mod scenario;
 mod servers;
-mod spaces;
 
 pub use fk_entries::{ObjectEntry, Program, ServerEntry, ServiceSpec, SpaceEntry, Spec};
 pub use fk_fields::{ScenarioError, ScenarioFail};

@@ -4,22 +4,20 @@ ghost use Rattle.toml.specs.Data.{get_member};
 ghost use Rattle.toml.specs.View.{table_view};
 ghost use Rattle.fk_fields.specs.Gives.{Gives, Answers};
 ghost use Rattle.fk_entries.specs.Servers.{rules_view};
-ghost use Rattle.fk_scenario.specs.Kept.{Keeps};
+ghost use Rattle.fk_scenario.specs.Kept.{KeepsScenario};
 ghost use Rattle.fk_scenario.specs.Reading as definitions;
 
 use crate::aims::check_aims;
-use crate::jobs::{entries_in, jobs_of};
-use crate::objects::objects_in;
-use crate::programs::programs_in;
+use crate::jobs::jobs_of;
 use crate::scenario::Scenario;
-use crate::servers::{check_servers, servers_in};
-use crate::spaces::spaces_in;
+use crate::servers::check_servers;
 use fk_entries::{JobEntry, ObjectEntry, Program, ServerEntry, SpaceEntry};
 use fk_fields::{
     Entries, Fail, ScenarioError, ScenarioFail, array_in, has_key, integer_in, known,
     needed_integer, ranged, table_in,
 };
 use fk_model::{List, Rule};
+use fk_sections::{entries_in, objects_in, programs_in, servers_in, spaces_in};
 use std::alloc::Global;
 use toml::Table;
 use toml::value::Array;
@@ -203,14 +201,14 @@ fn tree_of(alloc: Global, bytes: &[u8]) -> Result<Option<Table>, ScenarioFail>
 /// `Scenario` exactly where the bytes are refused, with the first refusal: its rule, its section, and the
 /// index of the entry in its section. While jobs can't be run, a document with jobs that is right
 /// otherwise is refused by rule 11. `NoMemory` where there is no memory for the document or the scenario.
-#[tactic(auto, unfolding(crate::specs::Reading::reading))]
+#[tactic(auto, unfolding(crate::specs::Reading::scenario_reading))]
 pub fn read_scenario(
     alloc: Global,
     bytes: &[u8],
     rules: &[(String, Rule)],
 ) -> Result<Scenario, ScenarioFail>
-    ensures exact { Answers result (definitions.reading (rules_view rules.now) bytes.now) }
-    ensures keeps { IfOk result Keeps }
+    ensures exact { Answers result (definitions.scenario_reading (rules_view rules.now) bytes.now) }
+    ensures keeps { IfOk result KeepsScenario }
 {
     let Some(table) = tree_of(alloc, bytes)? else {
         return Err(NO_DOCUMENT);

@@ -1,53 +1,15 @@
-//! The servers of a document.
-ghost use Rattle.std.specs.Prelude.{◌≡◌, ◌++◌, ◌∷◌, [], option_map, unwrap_or, IfOk};
-ghost use Rattle.toml.specs.Data.{no_items};
-ghost use Rattle.toml.specs.View.{array_view};
+//! Whether servers may serve.
+ghost use Rattle.std.specs.Prelude.{◌≡◌, ◌++◌, ◌∷◌, [], IfOk};
 ghost use Rattle.fk_fields.specs.Gives.{Answers};
-ghost use Rattle.fk_entries.specs.Servers.{rules_view};
 ghost use Rattle.fk_scenario.specs.Aims.{object_with, is_one};
 ghost use Rattle.fk_scenario.specs.Servers as definitions;
 
-use fk_entries::{ObjectEntry, ServerEntry, ServiceSpec, Spec, server_in};
+use fk_entries::{ObjectEntry, ServerEntry, ServiceSpec, Spec};
 use fk_fields::{Entries, Fail, Path, ScenarioFail, index_at, rule};
-use fk_model::{List, NoMemory, Rule, Text};
+use fk_model::{NoMemory, Text};
 use std::alloc::Global;
-use toml::value::Array;
 
 const SECTION: u8 = 5;
-
-#[tactic(auto, unfolding(crate::specs::Servers::servers_from))]
-fn servers_of(
-    alloc: Global,
-    rules: &[(String, Rule)],
-    array: &Array,
-) -> Result<List<ServerEntry>, ScenarioFail>
-    ensures { Answers result (definitions.servers_from (rules_view rules.now) [] (array_view array.now)) }
-{
-    let mut servers = List::new(alloc);
-    for value in array {
-        let index = index_at(servers.len())?;
-        match server_in(alloc, rules, value) {
-            Ok(server) => servers.push(server)?,
-            Err(fail) => return Err(fail.at(SECTION, index)),
-        }
-    }
-    Ok(servers)
-}
-
-/// The servers of the section, if it is there, each by itself.
-#[tactic(auto, unfolding(crate::specs::Servers::servers_from))]
-pub fn servers_in(
-    alloc: Global,
-    rules: &[(String, Rule)],
-    array: Option<&Array>,
-) -> Result<List<ServerEntry>, ScenarioFail>
-    ensures { Answers result (definitions.servers_from (rules_view rules.now) [] (unwrap_or (option_map (λ a. array_view a.now) array.entry) no_items)) }
-{
-    match array {
-        Some(array) => servers_of(alloc, rules, array),
-        None => Ok(List::new(alloc)),
-    }
-}
 
 fn is_lone_port(spec: &Spec) -> bool
     ensures { result ≡ definitions.is_lone_port spec.now }

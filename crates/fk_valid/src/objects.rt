@@ -6,8 +6,8 @@ ghost use Rattle.fk_image.specs.Ranges as ranges;
 ghost use Rattle.fk_image.specs.Valid as words;
 
 use fk_image::{
-    FaultRec, Link, ObjectRec, PageRec, Rec, TalkRec, ThreadRec, is_code, is_extent,
-    is_set_word, is_mode_byte,
+    FaultRec, Link, ObjectRec, PageRec, Rec, TalkRec, ThreadRec, is_code, is_extent, is_mode_byte,
+    is_set_word,
 };
 
 /// Whether the slots of a pointer are slots of objects.

@@ -22,9 +22,9 @@ use Rattle.fk_entries.specs.declared.types.SpaceEntry.{SpaceEntry}
 use Rattle.fk_entries.specs.declared.types.ObjectEntry.{ObjectEntry}
 use Rattle.fk_entries.specs.declared.types.Spec.{Spec}
 use Rattle.fk_entries.specs.declared.types.Spec.TheVariants as specs
-use Rattle.fk_fields.specs.Paths.{parent}
-use Rattle.fk_scenario.specs.Aims.{object_with, is_region, is_port, is_portset, can_be_referred_to, is_one, home, aims_well}
-use Rattle.fk_scenario.specs.Spaces.{has_space}
+use Rattle.fk_fields.specs.Paths.{enclosing}
+use Rattle.fk_scenario.specs.Aims.{object_with, is_region_spec, is_port_spec, is_portset_spec, can_be_referred_to, is_one, entry_space, aims_well}
+use Rattle.fk_sections.specs.Spaces.{has_space}
 use Rattle.fk_boot.specs.FirstWorld.{first_body, aim_changes, aims}
 use Rattle.fk_boot.proofs.Aiming.{find-passes, both-hold}
 use Rattle.fk_boot.proofs.Walks.{last}
@@ -68,15 +68,15 @@ kind-at w x = outline-kind (w.body x)
 abbrev Fits : List Kind → (Spec → Bool) → Type 0
 Fits wanted test = (spec : Spec) → test spec ≡ true → list_any (same_kind (kind_of (first_body spec))) wanted ≡ true
 
-region-fits : Fits (kinds.Region ∷ []) is_region
+region-fits : Fits (kinds.Region ∷ []) is_region_spec
 region-fits (specs.Region first count write keeper) h = refl
 region-fits spec h = absurd (cc)
 
-port-fits : Fits (kinds.Port ∷ []) is_port
+port-fits : Fits (kinds.Port ∷ []) is_port_spec
 port-fits (specs.Port set) h = refl
 port-fits spec h = absurd (cc)
 
-portset-fits : Fits (kinds.Portset ∷ []) is_portset
+portset-fits : Fits (kinds.Portset ∷ []) is_portset_spec
 portset-fits specs.Portset h = refl
 portset-fits spec h = absurd (cc)
 
@@ -140,8 +140,8 @@ kind-made : (w : World) (x : Path) (f : Outline) → outline_at w x ≡ Some f �
 kind-made w x f is = outline-kind (w.body x) ∙ ap (option_map (λ (f : Outline). f.kind)) is
 
 -- the slot of a set is one of the port's space
-set-place : (path : List ℕ) (slot : ℕ) → 1 ≤ length path → set_at (reverse path) slot ≡ reverse (parent path ++ slot ∷ [])
-set-place path slot inside = rw (last path inside) (sym (reverse-append (parent path) (slot ∷ [])))
+set-place : (path : List ℕ) (slot : ℕ) → 1 ≤ length path → set_at (reverse path) slot ≡ reverse (enclosing path ++ slot ∷ [])
+set-place path slot inside = rw (last path inside) (sym (reverse-append (enclosing path) (slot ∷ [])))
 
 refers-safe : (w : World) (spaces : List SpaceEntry) (objects : List ObjectEntry) (to : List ℕ) → AllThere (outline_at w) spaces objects
     → (has_space spaces to || is_one can_be_referred_to (object_with objects to)) ≡ true → is_one_of referable (kind_there w (reverse to)) ≡ true
@@ -153,14 +153,14 @@ refers-safe w spaces objects to all h = by (has_space spaces to) refl h
     by false e h = one-fits w objects referable can_be_referred_to to referable-fits all.made h
 
 aims-safe : (w : World) (spaces : List SpaceEntry) (objects : List ObjectEntry) (path : List ℕ) (spec : Spec) → AllThere (outline_at w) spaces objects
-    → 1 ≤ length path → outline_at w (reverse path) ≡ Some (outline_of (first_body spec)) → aims_well spaces objects (parent path) spec ≡ true
+    → 1 ≤ length path → outline_at w (reverse path) ≡ Some (outline_of (first_body spec)) → aims_well spaces objects (enclosing path) spec ≡ true
     → AreSafe w (map (Alter (reverse path)) (aims spec))
 aims-safe w spaces objects path (specs.Mapping (Some region) first count offset write) all inside is well =
-    let fits = one-fits w objects (kinds.Region ∷ []) is_region region region-fits all.made well in
+    let fits = one-fits w objects (kinds.Region ∷ []) is_region_spec region region-fits all.made well in
     (mapping-takes w (At (reverse region)) (w.body (reverse path)) (kind-made w (reverse path) _ is) fits, tt)
 aims-safe w spaces objects path (specs.Mapping None first count offset write) all inside is well = tt
 aims-safe w spaces objects path (specs.Region first count write (Some keeper)) all inside is well =
-    let fits = one-fits w objects (kinds.Port ∷ []) is_port keeper port-fits all.made well in
+    let fits = one-fits w objects (kinds.Port ∷ []) is_port_spec keeper port-fits all.made well in
     (region-takes w (At (reverse keeper)) (w.body (reverse path)) (kind-made w (reverse path) _ is) fits, tt)
 aims-safe w spaces objects path (specs.Region first count write None) all inside is well = tt
 aims-safe w spaces objects path (specs.Reference (Some to)) all inside is well =
@@ -169,7 +169,7 @@ aims-safe w spaces objects path (specs.Reference (Some to)) all inside is well =
     (reference-takes w (At (reverse to)) (w.body (reverse path)) (kind-made w (reverse path) _ is) fits, tt)
 aims-safe w spaces objects path (specs.Reference None) all inside is well = tt
 aims-safe w spaces objects path (specs.Port (Some slot)) all inside is well =
-    let fits = one-fits w objects (kinds.Portset ∷ []) is_portset (parent path ++ slot ∷ []) portset-fits all.made well in
+    let fits = one-fits w objects (kinds.Portset ∷ []) is_portset_spec (enclosing path ++ slot ∷ []) portset-fits all.made well in
     (port-takes w (reverse path) slot (w.body (reverse path)) is (rw (set-place path slot inside) fits), tt)
 aims-safe w spaces objects path (specs.Port None) all inside is well = tt
 aims-safe w spaces objects path (specs.Thread entry regs stops) all inside is well = tt
@@ -181,16 +181,16 @@ aims-safe w spaces objects path specs.Portset all inside is well = tt
 
 pub all-safe : (w : World) (spaces : List SpaceEntry) (objects os : List ObjectEntry) → AllThere (outline_at w) spaces objects
     → All (IsAsMade (outline_at w)) os → All (λ (o : ObjectEntry). 0 < length o.path) os
-    → All (λ (o : ObjectEntry). aims_well spaces objects (home o) o.spec ≡ true) os → AreSafe w (flat_map aim_changes os)
+    → All (λ (o : ObjectEntry). aims_well spaces objects (entry_space o) o.spec ≡ true) os → AreSafe w (flat_map aim_changes os)
 all-safe w spaces objects [] all made inside well = tt
 all-safe w spaces objects (o ∷ os) all made inside well =
     let v = apply_all (aim_changes o) w in
     let same : outline_at v ≡ outline_at w = same-all w (reverse o.path) (aims o.spec) in
     let here = aims-safe w spaces objects o.path o.spec all (All-head (λ (o : ObjectEntry). 0 < length o.path) o os inside)
     (All-head (IsAsMade (outline_at w)) o os made)
-    (All-head (λ (o : ObjectEntry). aims_well spaces objects (home o) o.spec ≡ true) o os well) in
+    (All-head (λ (o : ObjectEntry). aims_well spaces objects (entry_space o) o.spec ≡ true) o os well) in
     let rest = all-safe v spaces objects os (subst (λ (there : Path → Option Outline). AllThere there spaces objects) (sym same) all)
     (subst (λ (there : Path → Option Outline). All (IsAsMade there) os) (sym same) (All-tail (IsAsMade (outline_at w)) o os made))
     (All-tail (λ (o : ObjectEntry). 0 < length o.path) o os inside)
-    (All-tail (λ (o : ObjectEntry). aims_well spaces objects (home o) o.spec ≡ true) o os well) in
+    (All-tail (λ (o : ObjectEntry). aims_well spaces objects (entry_space o) o.spec ≡ true) o os well) in
     safe-append (aim_changes o) (flat_map aim_changes os) w here rest

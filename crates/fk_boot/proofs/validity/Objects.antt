@@ -16,9 +16,9 @@ use Rattle.fk_entries.specs.declared.types.SpaceEntry.{SpaceEntry}
 use Rattle.fk_entries.specs.declared.types.ObjectEntry.{ObjectEntry}
 use Rattle.fk_entries.specs.declared.types.Spec.{Spec}
 use Rattle.fk_entries.specs.declared.types.Spec.TheVariants as specs
-use Rattle.fk_entries.specs.Kept.{IsInRange}
-use Rattle.fk_fields.specs.Paths.{parent}
-use Rattle.fk_scenario.specs.Kept.{EachAfter, KeepsObject}
+use Rattle.fk_entries.specs.Kept.{IsSpecInRange}
+use Rattle.fk_fields.specs.Paths.{enclosing}
+use Rattle.fk_sections.specs.Kept.{EachAfter, KeepsObject}
 use Rattle.fk_boot.specs.FirstWorld.{first_body, object_changes}
 use Rattle.fk_boot.specs.MadeSoFar.{HasObjects}
 use Rattle.fk_boot.proofs.MadeSoFar.{object-stands, object-place}
@@ -41,7 +41,7 @@ window-sized : (first count : ℕ) → 1 ≤ count → first + count ≤ 256 →
 window-sized first count some most =
     rw (le-leb 1 count some, le-leb count 256 (omega (arith, most)), le-leb (first + count) 256 most) refl
 
-good-first : (w : World) (x : Path) (spec : Spec) → IsInRange spec → is_good (kind_there w) x (first_body spec) ≡ true
+good-first : (w : World) (x : Path) (spec : Spec) → IsSpecInRange spec → is_good (kind_there w) x (first_body spec) ≡ true
 good-first w x (specs.Thread entry regs stops) range = refl
 good-first w x (specs.Mutex locked) range = refl
 good-first w x specs.Cond range = refl
@@ -61,7 +61,7 @@ object-safe spaces done o w h keeps =
       record {
         place = place-vacant w o.path keeps.inside keeps.slots (object-place spaces done o w h keeps);
         plain = plain-first o.spec;
-        good = good-first w (get_or o.path (length o.path - 1) 0 ∷ reverse (parent o.path)) o.spec keeps.in_range;
+        good = good-first w (get_or o.path (length o.path - 1) 0 ∷ reverse (enclosing o.path)) o.spec keeps.in_range;
       },
       tt,
     )

@@ -14,8 +14,8 @@ use Rattle.fk_laws.proofs.safety.Safe.{IsVacant, AreSafe}
 use Rattle.fk_entries.specs.declared.types.Program.{Program}
 use Rattle.fk_entries.specs.declared.types.SpaceEntry.{SpaceEntry}
 use Rattle.fk_entries.specs.Kept.{AreSlots}
-use Rattle.fk_fields.specs.Paths.{parent}
-use Rattle.fk_scenario.specs.Kept.{KeepsSpace}
+use Rattle.fk_fields.specs.Paths.{enclosing}
+use Rattle.fk_sections.specs.Kept.{KeepsSpace}
 use Rattle.fk_boot.specs.FirstWorld.{page_words, zero_pages, program_page, program_pages, words_of_program, space_itself, space_changes}
 use Rattle.fk_boot.specs.MadeSoFar.{HasPlace, CanStand, HasSpaces}
 use Rattle.fk_boot.proofs.Walks.{last, made-space}
@@ -78,12 +78,12 @@ first_slots (suc n) most h = All-push (λ k. k < most) (slots n) n (first_slots 
 
 -- an entry's place is an empty slot of a space
 pub place-vacant : (w : World) (path : List ℕ) → 1 ≤ length path → AreSlots path → HasPlace w path
-    → IsVacant w (get_or path (length path - 1) 0) (reverse (parent path))
+    → IsVacant w (get_or path (length path - 1) 0) (reverse (enclosing path))
 place-vacant w path inside slots place =
     let low = All-get_or (λ slot. slot ≤ 239) path (length path - 1) 0 (omega (arith, inside)) slots in
     record {
       slot = omega (arith, low);
-      space = birth-space w (reverse (parent path)) place.space;
+      space = birth-space w (reverse (enclosing path)) place.space;
       empty = rw (last path inside) at place.empty;
     }
 

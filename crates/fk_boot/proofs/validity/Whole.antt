@@ -14,8 +14,9 @@ use Rattle.fk_entries.specs.declared.types.Program.{Program}
 use Rattle.fk_entries.specs.declared.types.SpaceEntry.{SpaceEntry}
 use Rattle.fk_entries.specs.declared.types.ObjectEntry.{ObjectEntry}
 use Rattle.fk_scenario.specs.declared.scenario.Scenario.{Scenario}
-use Rattle.fk_scenario.specs.Kept.{EachAfter, KeepsSpace, Keeps}
-use Rattle.fk_scenario.specs.Spaces.{has_space}
+use Rattle.fk_sections.specs.Kept.{EachAfter, KeepsSpace}
+use Rattle.fk_scenario.specs.Kept.{KeepsScenario}
+use Rattle.fk_sections.specs.Spaces.{has_space}
 use Rattle.fk_boot.specs.FirstWorld.{space_changes, object_changes, aim_changes, boot_changes, booted}
 use Rattle.fk_boot.specs.MadeSoFar.{HasSpaces}
 use Rattle.fk_boot.proofs.Aiming.{or_right, all-inside, each-aims}
@@ -103,7 +104,7 @@ all-there w spaces objects made = record {
   made = made.as_made;
 }
 
-boot-safe : (s : Scenario) → Keeps s → AreSafe first_world (boot_changes s)
+boot-safe : (s : Scenario) → KeepsScenario s → AreSafe first_world (boot_changes s)
 boot-safe s keeps =
     let spaces = spaces-safe s.programs [] s.spaces first_world first-stands keeps.spaces in
     let w = apply_all (flat_map (space_changes s.programs) s.spaces) first_world in
@@ -116,7 +117,7 @@ boot-safe s keeps =
     safe-append (flat_map (space_changes s.programs) s.spaces) (flat_map object_changes s.objects ++ flat_map aim_changes s.objects) first_world spaces.0
     (safe-append (flat_map object_changes s.objects) (flat_map aim_changes s.objects) w objects.0 aims)
 
-pub booted-valid : (s : Scenario) → Keeps s → IsValid (booted s)
+pub booted-valid : (s : Scenario) → KeepsScenario s → IsValid (booted s)
 unfolding booted
 booted-valid s keeps =
     let safe = boot-safe s keeps in

@@ -3,13 +3,13 @@ ghost use Rattle.std.specs.Prelude.{◌≡◌, [], option_map, unwrap_or};
 ghost use Rattle.toml.specs.Data.{no_items};
 ghost use Rattle.toml.specs.View.{view, table_view, array_view};
 ghost use Rattle.fk_fields.specs.Gives.{Gives, Answers};
-ghost use Rattle.fk_scenario.specs.Spaces as definitions;
+ghost use Rattle.fk_sections.specs.Spaces as definitions;
 
 use crate::programs::index_of;
 use fk_entries::{Program, SpaceEntry};
 use fk_fields::{
-    Entries, Fail, ScenarioFail, bytes_of, flag_in, index_at, integers_in, is_name, known,
-    needed_text, parent, path_of, rule, text_in, unless,
+    Entries, Fail, ScenarioFail, bytes_of, enclosing, flag_in, index_at, integers_in, is_name,
+    known, needed_text, parse_path, rule, text_in, unless,
 };
 use fk_model::List;
 use std::alloc::Global;
@@ -35,8 +35,8 @@ pub fn has_space(spaces: &Entries<SpaceEntry>, path: &[u8]) -> bool
 }
 
 /// Whether a path is the root's, or that of a space.
-pub fn is_there(spaces: &Entries<SpaceEntry>, path: &[u8]) -> bool
-    ensures { result ≡ definitions.is_there spaces.now path.now }
+pub fn has_space_or_root(spaces: &Entries<SpaceEntry>, path: &[u8]) -> bool
+    ensures { result ≡ definitions.has_space_or_root spaces.now path.now }
 {
     path.is_empty() || has_space(spaces, path)
 }
@@ -47,7 +47,7 @@ fn may_stand(done: &Entries<SpaceEntry>, path: &[u8]) -> bool
     if path.is_empty() {
         done.len() == 0
     } else {
-        is_there(done, parent(path)) && !has_space(done, path)
+        has_space_or_root(done, enclosing(path)) && !has_space(done, path)
     }
 }
 
@@ -58,31 +58,31 @@ fn count_beneath(done: &[SpaceEntry]) -> usize
 }
 
 /// Whether there is room for one more space, at most 256 with the root. There are never many to count.
-fn has_room(done: &Entries<SpaceEntry>, text: &str) -> bool
-    ensures { result ≡ definitions.has_room done.now text.now }
+fn has_room_for_space(done: &Entries<SpaceEntry>, text: &str) -> bool
+    ensures { result ≡ definitions.has_room_for_space done.now text.now }
 {
     text == "/" || count_beneath(done.as_slice()) < 255
 }
 
 /// What a space's keys have, as it is written.
 #[derive(Drop)]
-struct Fields<'a> {
+struct SpaceFields<'a> {
     path: &'a str,
     program: Option<&'a str>,
     pages: List<i64>,
     nester: bool,
 }
 
-#[tactic(auto, unfolding(crate::specs::Spaces::fields_of))]
-fn fields_of<'a>(alloc: Global, table: &'a Table) -> Result<Fields<'a>, Fail>
-    ensures { Gives definitions.fields_view result (definitions.fields_of (table_view table.now)) }
+#[tactic(auto, unfolding(crate::specs::Spaces::space_fields))]
+fn space_fields<'a>(alloc: Global, table: &'a Table) -> Result<SpaceFields<'a>, Fail>
+    ensures { Gives definitions.space_fields_view result (definitions.space_fields (table_view table.now)) }
 {
     known(&["path", "program", "pages", "nester"], table)?;
     let path = needed_text(table, "path")?;
     let program = text_in(table, "program")?;
     let pages = integers_in(alloc, table, "pages")?;
     let nester = flag_in(table, "nester")?;
-    Ok(Fields {
+    Ok(SpaceFields {
         path,
         program,
         pages,
@@ -90,19 +90,19 @@ fn fields_of<'a>(alloc: Global, table: &'a Table) -> Result<Fields<'a>, Fail>
     })
 }
 
-#[tactic(auto, unfolding(crate::specs::Spaces::space_of))]
-fn space_of(
+#[tactic(auto, unfolding(crate::specs::Spaces::space_after))]
+fn space_after(
     alloc: Global,
     programs: &Entries<Program>,
     done: &Entries<SpaceEntry>,
     table: &Table,
 ) -> Result<SpaceEntry, Fail>
-    ensures { Gives (λ x. x) result (definitions.space_of programs.now done.now (table_view table.now)) }
+    ensures { Gives (λ x. x) result (definitions.space_after programs.now done.now (table_view table.now)) }
 {
-    let fields = fields_of(alloc, table)?;
+    let fields = space_fields(alloc, table)?;
     let pages = bytes_of(alloc, fields.pages.as_slice())?;
-    unless(rule::RANGES, has_room(done, fields.path))?;
-    let path = path_of(alloc, fields.path)?;
+    unless(rule::RANGES, has_room_for_space(done, fields.path))?;
+    let path = parse_path(alloc, fields.path)?;
     unless(rule::FORMS, !is_no_name(fields.program))?;
     unless(rule::PLACES, may_stand(done, path.as_slice()))?;
     let program = index_of(programs, fields.program)?;
@@ -114,17 +114,17 @@ fn space_of(
     })
 }
 
-#[tactic(auto, unfolding(crate::specs::Spaces::space_at))]
-fn space_at(
+#[tactic(auto, unfolding(crate::specs::Spaces::space_in))]
+fn space_in(
     alloc: Global,
     programs: &Entries<Program>,
     done: &Entries<SpaceEntry>,
     value: &Value,
 ) -> Result<SpaceEntry, Fail>
-    ensures { Gives (λ x. x) result (definitions.space_at programs.now done.now (view value.now)) }
+    ensures { Gives (λ x. x) result (definitions.space_in programs.now done.now (view value.now)) }
 {
     match value.as_table() {
-        Some(table) => space_of(alloc, programs, done, table),
+        Some(table) => space_after(alloc, programs, done, table),
         None => Err(Fail::Rule(rule::KEYS)),
     }
 }
@@ -140,7 +140,7 @@ fn spaces_of(
     let mut spaces = Entries::new(alloc);
     for value in array {
         let index = index_at(spaces.len())?;
-        match space_at(alloc, programs, &spaces, value) {
+        match space_in(alloc, programs, &spaces, value) {
             Ok(space) => spaces = spaces.with(alloc, space)?,
             Err(fail) => return Err(fail.at(SECTION, index)),
         }

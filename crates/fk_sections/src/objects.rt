@@ -3,11 +3,11 @@ ghost use Rattle.std.specs.Prelude.{◌≡◌, [], option_map, unwrap_or};
 ghost use Rattle.toml.specs.Data.{no_items};
 ghost use Rattle.toml.specs.View.{view, array_view};
 ghost use Rattle.fk_fields.specs.Gives.{Gives, Answers};
-ghost use Rattle.fk_scenario.specs.Objects as definitions;
+ghost use Rattle.fk_sections.specs.Objects as definitions;
 
-use crate::spaces::{has_space, is_there};
-use fk_entries::{ObjectEntry, SpaceEntry, object_in};
-use fk_fields::{Entries, Fail, ScenarioFail, index_at, parent, rule, unless};
+use crate::spaces::{has_space, has_space_or_root};
+use fk_entries::{ObjectEntry, SpaceEntry, object_entry};
+use fk_fields::{Entries, Fail, ScenarioFail, enclosing, index_at, rule, unless};
 use std::alloc::Global;
 use toml::Value;
 use toml::value::Array;
@@ -20,18 +20,18 @@ fn has_object(objects: &Entries<ObjectEntry>, path: &[u8]) -> bool
     objects.has(path)
 }
 
-#[tactic(auto, unfolding(crate::specs::Objects::object_at))]
-fn object_at(
+#[tactic(auto, unfolding(crate::specs::Objects::object_after))]
+fn object_after(
     alloc: Global,
     spaces: &Entries<SpaceEntry>,
     done: &Entries<ObjectEntry>,
     value: &Value,
 ) -> Result<ObjectEntry, Fail>
-    ensures { Gives (λ x. x) result (definitions.object_at spaces.now done.now (view value.now)) }
+    ensures { Gives (λ x. x) result (definitions.object_after spaces.now done.now (view value.now)) }
 {
-    let object = object_in(alloc, value)?;
+    let object = object_entry(alloc, value)?;
     let path = object.path.as_slice();
-    unless(rule::PLACES, is_there(spaces, parent(path)))?;
+    unless(rule::PLACES, has_space_or_root(spaces, enclosing(path)))?;
     unless(
         rule::SLOTS,
         !has_space(spaces, path) && !has_object(done, path),
@@ -50,7 +50,7 @@ fn objects_of(
     let mut objects = Entries::new(alloc);
     for value in array {
         let index = index_at(objects.len())?;
-        match object_at(alloc, spaces, &objects, value) {
+        match object_after(alloc, spaces, &objects, value) {
             Ok(object) => objects = objects.with(alloc, object)?,
             Err(fail) => return Err(fail.at(SECTION, index)),
         }

@@ -1,7 +1,7 @@
 use Rattle.std.proofs.Common.{◌≡◌, [], drop}
 use Rattle.toml.specs.View.{items_view}
-use Rattle.fk_scenario.specs.Objects as spec
-use Rattle.fk_scenario.proofs.objects.objects_of.Given as goal
+use Rattle.fk_sections.specs.Objects as spec
+use Rattle.fk_sections.proofs.objects.objects_of.Given as goal
 
 abbrev pub invariant-loop-value : goal.invariant-loop-value
 invariant-loop-value l = spec.objects_from l.spaces l.objects (items_view (drop l.value-index l.value-items))

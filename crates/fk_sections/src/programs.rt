@@ -3,7 +3,7 @@ ghost use Rattle.std.specs.Prelude.{◌≡◌, [], option_map, unwrap_or};
 ghost use Rattle.toml.specs.Data.{no_members};
 ghost use Rattle.toml.specs.View.{table_view};
 ghost use Rattle.fk_fields.specs.Gives.{Gives, Answers};
-ghost use Rattle.fk_scenario.specs.Programs as definitions;
+ghost use Rattle.fk_sections.specs.Programs as definitions;
 
 use fk_entries::{Program, program_of};
 use fk_fields::{Entries, Fail, ScenarioFail, index_at, rule};
