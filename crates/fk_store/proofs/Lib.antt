@@ -20,6 +20,7 @@ pub mod Making
 pub mod HoldLaws
 pub mod Enumerated
 pub mod ReachLaws
+pub mod Bare
 pub mod Scans
 pub mod Born
 pub mod SweepLaws

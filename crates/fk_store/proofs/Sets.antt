@@ -21,6 +21,9 @@ use Rattle.fk_tables.proofs.NameLaws.{who_total, who_tied}
 use Rattle.fk_store.proofs.NamedLaws.{OnNamed-map}
 use Rattle.fk_store.proofs.Changes.{make-alter, kinds-make}
 use Rattle.fk_store.proofs.LookUps.{IsLive-there}
+use Rattle.fk_tables.specs.Marks.{is_of_pages}
+use Rattle.fk_tables.proofs.ProceedLaws.{some-alike}
+use Rattle.fk_store.proofs.Bare.{pages-alike}
 use Rattle.fk_store.proofs.SameKinds.{kind-there, same-birth}
 use Rattle.fk_store.proofs.Homes.{home-found, home-none}
 use Rattle.fk_store.proofs.Walks.{same_path_true, space_at-path, same_space}
@@ -179,6 +182,13 @@ module _ (m : Contents) (kept : IsWellFormed m) (who : Who)
   -- a space keeps its birth number
   pub set-birth : birth_there m who ≡ stored_birth b
   set-birth = ap (and_then stored_birth) old_there ∙ sym keeps_birth
+
+  -- a mapping or a region was one
+  pub set-pages : (a : bodies_of.Body) → get m.bodies who ≡ Some a → is_of_pages b ≡ true → is_of_pages a ≡ true
+  unfolding old_body
+  set-pages a there so =
+      let same : old_body ≡ a = some-alike _ _ _ old_there there in
+      ap is_of_pages (sym same) ∙ pages-alike (path m) old_body b (kind-there m kept who _ kind).2 ∙ so
 
   pub set-kept : OnNamed (IsLive m) b → IsSized b → IsWellFormed (with_body m who b)
   set-kept named sized =

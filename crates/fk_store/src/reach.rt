@@ -187,10 +187,16 @@ impl Store {
         ensures { option_map (window_by (path self.now)) result
             ≡ definition.mapping_at (world self.now) (path self.now space) page }
     {
-        for slot in 0..256u16 {
-            let found = self.mapping_in(space, slot as u8, page);
-            if found.is_some() {
-                return found;
+        let mut slot = 0u16;
+        while slot < 256 {
+            if self.is_bare(space, slot) {
+                slot += 16;
+            } else {
+                let found = self.mapping_in(space, slot as u8, page);
+                if found.is_some() {
+                    return found;
+                }
+                slot += 1;
             }
         }
         None
@@ -214,10 +220,16 @@ impl Store {
         ensures { option_map (extent_by (path self.now)) result
             ≡ definition.region_at (world self.now) (path self.now space) page }
     {
-        for slot in 0..256u16 {
-            let found = self.region_in(space, slot as u8, page);
-            if found.is_some() {
-                return found;
+        let mut slot = 0u16;
+        while slot < 256 {
+            if self.is_bare(space, slot) {
+                slot += 16;
+            } else {
+                let found = self.region_in(space, slot as u8, page);
+                if found.is_some() {
+                    return found;
+                }
+                slot += 1;
             }
         }
         None

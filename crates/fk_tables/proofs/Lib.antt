@@ -4,4 +4,5 @@ pub mod ProceedLaws
 pub mod Found
 pub mod HomeLaws
 pub mod HeldLaws
+pub mod MarkLaws
 pub mod Results

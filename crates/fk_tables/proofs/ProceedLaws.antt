@@ -5,6 +5,7 @@ use Rattle.fk_model.specs.declared.body.Body.TheVariants.{Mutex, Cond, Mapping, 
 use Rattle.fk_model.specs.declared.thread.Mode.{Mode}
 use Rattle.fk_tables.specs.Births.{stored_birth}
 use Rattle.fk_tables.specs.Held.{is_held}
+use Rattle.fk_tables.specs.Marks.{is_of_pages}
 use Rattle.fk_tables.specs.Threads.{proceeded}
 
 module _ (registers : List ℕ) (counter : ℕ) (mode : Mode) where
@@ -29,6 +30,17 @@ module _ (registers : List ℕ) (counter : ℕ) (mode : Mode) where
   proceeded-held (Space birth holder) = refl
   proceeded-held (Thread thread) = refl
   proceeded-held (Reference to) = refl
+
+  pub proceeded-pages : (b : Body) → is_of_pages (proceeded registers counter mode b) ≡ is_of_pages b
+  proceeded-pages (Mutex locked) = refl
+  proceeded-pages Cond = refl
+  proceeded-pages (Mapping first count offset write region) = refl
+  proceeded-pages (Region first count write keeper) = refl
+  proceeded-pages (Port set served) = refl
+  proceeded-pages Portset = refl
+  proceeded-pages (Space birth holder) = refl
+  proceeded-pages (Thread thread) = refl
+  proceeded-pages (Reference to) = refl
 
 -- what is there is one thing
 pub some-alike : {A : Type 0} (o : Option A) (a b : A) → o ≡ Some a → o ≡ Some b → a ≡ b

@@ -2,6 +2,7 @@ pub mod Names
 pub mod Orders
 pub mod Births
 pub mod Homes
+pub mod Marks
 pub mod Held
 pub mod Sweeps
 pub mod Threads

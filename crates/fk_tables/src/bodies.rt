@@ -1,5 +1,5 @@
 //! The bodies of all objects, by their names.
-ghost use Rattle.std.specs.Prelude.{◌≡◌, ℕ, OnOk, OnErr, IsSome, IfSome, Some, None, true, false, if◌then◌else◌, option_map};
+ghost use Rattle.std.specs.Prelude.{◌≡◌, ◌<◌, ◌/◌, ℕ, OnOk, OnErr, IsSome, IfSome, Some, None, true, false, if◌then◌else◌, option_map};
 ghost use Rattle.std.specs.Option.{option_copied};
 ghost use Rattle.std.specs.FinMap as map;
 ghost use Rattle.std.specs.FinMap.{entries};
@@ -11,6 +11,7 @@ ghost use Rattle.fk_slots.specs.Cells.{is_from};
 ghost use Rattle.fk_tables.specs.Births.{stored_birth, home_in};
 ghost use Rattle.fk_tables.specs.Held as held;
 ghost use Rattle.fk_tables.specs.Homes.{birth_in};
+ghost use Rattle.fk_tables.specs.Marks as marks_of;
 ghost use Rattle.fk_tables.specs.Names.{at, who_cmp, same_who};
 ghost use Rattle.fk_tables.specs.Orders.{comes_after, IsFirstAfter};
 ghost use Rattle.fk_tables.specs.Parts.{plays};
@@ -20,6 +21,7 @@ ghost use Rattle.fk_tables.specs.Threads.{proceeded};
 
 use crate::held::{count_held, counted, is_held, was_held};
 use crate::homes::{home_of, make_room, settle};
+use crate::marks::{is_marked, is_of_pages, mark, room_for_marks};
 use crate::parts::Part;
 use crate::scans::{count_hits, first_among, sweep_each};
 use crate::stored::Stored;
@@ -38,6 +40,8 @@ pub struct Bodies {
     homes: Vec<Option<Who>>,
     /// How many spaces are held.
     held: u64,
+    /// For each birth number the groups of slots that may hold mappings and regions.
+    marks: Vec<[bool; 16]>,
 }
 
 impl Model for Bodies {
@@ -49,6 +53,7 @@ impl Model for Bodies {
     ghost use Rattle.fk_slots.specs.Tabled.{map_of_rows};
     ghost use Rattle.fk_tables.specs.Held.{held_in, IsEnough};
     ghost use Rattle.fk_tables.specs.Homes.{IsHomed};
+    ghost use Rattle.fk_tables.specs.Marks.{AreMarked};
     ghost use Rattle.fk_tables.specs.Names.{at, who_cmp, coded_who};
 
     ghost Value = { FinMap who_cmp Body };
@@ -58,7 +63,8 @@ impl Model for Bodies {
     ghost view = { λ s. map_of_rows who_cmp at s.rows.items };
 
     ghost invariant = { λ s. (length s.rows.items ≤ 4294967296)
-        × IsHomed (map_of_rows who_cmp at s.rows.items) s.homes.items × IsEnough (held_in (map_of_rows who_cmp at s.rows.items)) s.held };
+        × IsHomed (map_of_rows who_cmp at s.rows.items) s.homes.items × IsEnough (held_in (map_of_rows who_cmp at s.rows.items)) s.held
+        × AreMarked (map_of_rows who_cmp at s.rows.items) s.marks.items };
 }
 
 impl Bodies {
@@ -70,6 +76,7 @@ impl Bodies {
             rows: Vec::new(alloc),
             homes: Vec::new(alloc),
             held: 0,
+            marks: Vec::new(alloc),
         }
     }
 
@@ -91,10 +98,12 @@ impl Bodies {
         birth_of(self.at(who)?)
     }
 
-    /// Gives a live object another body. A space keeps its birth number.
+    /// Gives a live object another body. A space keeps its birth number, and no mapping or region
+    /// comes where none was.
     pub fn set(&mut self, who: Who, body: Body)
         requires there { IsSome (map.get self.old who) }
         requires birth { birth_in self.old who ≡ stored_birth body }
+        requires pages { (b : Body) → map.get self.old who ≡ Some b → marks_of.is_of_pages body ≡ true → marks_of.is_of_pages b ≡ true }
         ensures { self.new ≡ map.insert self.old who body }
     {
         if let Some(mut stored) = take_value(&mut self.rows, who.space, who.slot) {
@@ -126,10 +135,12 @@ impl Bodies {
     {
         let birth = birth_of(&body);
         make_room(&mut self.homes, birth)?;
+        room_for_marks(&mut self.marks, who.space)?;
         let stored = Stored::of(*self.rows.allocator(), body)?;
         put_value(&mut self.rows, who.space, who.slot, stored)?;
         settle(&mut self.homes, birth, Some(who));
         self.held = counted(self.held, false, is_held(&body));
+        mark(&mut self.marks, who, is_of_pages(&body));
         Ok(())
     }
 
@@ -152,6 +163,7 @@ impl Bodies {
     {
         if let Some(stored) = take_value(&mut self.rows, from.space, from.slot) {
             let birth = birth_of(stored.body());
+            mark(&mut self.marks, to, is_of_pages(stored.body()));
             lay_value(&mut self.rows, to.space, to.slot, stored);
             settle(&mut self.homes, birth, Some(to));
         }
@@ -178,6 +190,15 @@ impl Bodies {
     {
         sweep_each(&mut self.rows, sweep);
         self.held = count_held(&self.rows);
+    }
+
+    /// A mapping or a region may be in this group of 16 slots of a space.
+    #[inline]
+    pub fn may_hold_pages(&self, space: u32, group: u8) -> bool
+        requires { group < 16 }
+        ensures { result ≡ false → (k : ℕ) (b : Body) → k / 16 ≡ group → map.get self.now (at space k) ≡ Some b → marks_of.is_of_pages b ≡ false }
+    {
+        is_marked(&self.marks, space, group)
     }
 
     /// Some space may be held.

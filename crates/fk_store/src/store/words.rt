@@ -1,12 +1,12 @@
 //! Where the words of a space are.
-ghost use Rattle.std.specs.Prelude.{◌≡◌, ◌<◌, IsSome, slice_set};
+ghost use Rattle.std.specs.Prelude.{◌≡◌, ◌<◌, ◌≤◌, ◌+◌, ℕ, None, true, IsSome, slice_set};
 ghost use Rattle.fk_model.specs.Reach as definition;
 ghost use Rattle.fk_model.specs.Holds as holds;
 ghost use Rattle.fk_model.specs.World.{apply};
 ghost use Rattle.fk_model.specs.World.Change.{PutPage};
 ghost use Rattle.fk_model.specs.Valid.{kind_there};
 ghost use Rattle.fk_store.specs.Paths.{path, place};
-ghost use Rattle.fk_store.specs.Reaches.{reach_by};
+ghost use Rattle.fk_store.specs.Reaches.{reach_by, covering_mapping, covering_region};
 ghost use Rattle.fk_store.specs.Words.{IsReached};
 ghost use Rattle.fk_store.specs.World.{world, IsSpace};
 
@@ -31,6 +31,21 @@ impl Store {
             return Reach::Home { space, page };
         }
         self.reach(space, page, write)
+    }
+
+    /// No mapping and no region is in the 16 slots of a space from this one on.
+    pub fn is_bare(&self, space: u32, slot: u16) -> bool
+        requires { slot < 256 }
+        ensures bare { result ≡ true → (page k : ℕ) → slot ≤ k → k < slot + 16
+            → (covering_mapping (world self.now) (path self.now space) page k ≡ None)
+            × (covering_region (world self.now) (path self.now space) page k ≡ None) }
+        ensures within { result ≡ true → slot + 16 ≤ 256 }
+    {
+        if slot % 16 == 0 {
+            !self.bodies.may_hold_pages(space, (slot / 16) as u8)
+        } else {
+            false
+        }
     }
 
     /// Writes a word of a page that is there.

@@ -1,4 +1,4 @@
-use Rattle.fk_store.proofs.Sets.{set-there, set-birth, set-kept, set-world, set-edits, set-kinds, set-paths}
+use Rattle.fk_store.proofs.Sets.{set-there, set-birth, set-pages, set-kept, set-world, set-edits, set-kinds, set-paths}
 use Rattle.fk_store.proofs.store.Store.set.Goals as goal
 
 pub set-requires-clause-there : goal.set-requires-clause-there
@@ -8,6 +8,10 @@ set-requires-clause-there c =
 pub set-requires-clause-birth : goal.set-requires-clause-birth
 set-requires-clause-birth c =
     set-birth _ c.self.invariant c.args.who c.args.body (rw (← c.self.view_is) at c.requires.kind) (rw (← c.self.view_is) at c.requires.home)
+
+pub set-requires-clause-pages : goal.set-requires-clause-pages
+set-requires-clause-pages c =
+    set-pages _ c.self.invariant c.args.who c.args.body (rw (← c.self.view_is) at c.requires.kind) (rw (← c.self.view_is) at c.requires.home)
 
 pub invariant_of-self : goal.invariant_of-self
 invariant_of-self c = rw c.set.ensures (set-kept _ c.self.invariant c.args.who c.args.body

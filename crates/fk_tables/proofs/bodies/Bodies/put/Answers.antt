@@ -1,5 +1,6 @@
 use Rattle.fk_slots.proofs.TabledLaws.{insert_rows, same_rows}
 use Rattle.fk_tables.proofs.HeldLaws.{enough-put}
+use Rattle.fk_tables.proofs.MarkLaws.{marked-put, marked-told}
 use Rattle.fk_tables.proofs.HomeLaws.{homed-put, homed-told}
 use Rattle.fk_tables.proofs.NameLaws.{who_naming}
 use Rattle.fk_tables.proofs.Results.{any_err}
@@ -10,6 +11,7 @@ invariant_of-self-in_err-put_value c = (
   c.put_value.ensures.few c.self.invariant.0,
   rw (same_rows who_naming _ _ c.in_err-put_value.ensures.err) (homed-told _ _ _ c.self.invariant.1 c.make_room.ensures.same),
   rw (same_rows who_naming _ _ c.in_err-put_value.ensures.err) c.self.invariant.2,
+  rw (same_rows who_naming _ _ c.in_err-put_value.ensures.err) (marked-told _ _ _ c.self.invariant.3 c.room_for_marks.ensures.same),
 )
 
 pub returns-in_err-put_value-clause-err : goal.returns-in_err-put_value-clause-err
@@ -27,6 +29,9 @@ invariant_of-self-2 c =
       rw (insert_rows who_naming _ _ c.args.who.space c.args.who.slot c.args.body put) (homed-put _ _ _ roomy c.args.who c.args.body empty fresh settled),
       rw (insert_rows who_naming _ _ c.args.who.space c.args.who.slot c.args.body put)
           (enough-put _ c.args.who _ _ c.self.invariant.2 c.args.body _ empty c.is_held.ensures c.counted-self-inside.ensures),
+      rw (insert_rows who_naming _ _ c.args.who.space c.args.who.slot c.args.body put)
+          (marked-put _ _ _ c.args.who c.args.body (marked-told _ _ c.room_for_marks.new.marks.items c.self.invariant.3 c.room_for_marks.ensures.same)
+          (rw c.is_of_pages.ensures at c.mark.ensures)),
     )
 
 pub returns-clause-ok : goal.returns-clause-ok

@@ -1,13 +1,21 @@
 use Rattle.std.proofs.Common.{refl, sym, ap, ◌∙◌, arith}
 use Rattle.fk_model.specs.Objects.{and_then}
 use Rattle.fk_tables.specs.Births.{stored_birth}
+use Rattle.fk_tables.specs.Marks.{is_of_pages}
 use Rattle.fk_tables.proofs.HeldLaws.{enough-rename}
+use Rattle.fk_tables.proofs.MarkLaws.{marked-rename, mark_low}
 use Rattle.fk_tables.proofs.HomeLaws.{homed-rename, born-low}
 use Rattle.fk_tables.proofs.ScanLaws.{get-who, get-moved, not_gone}
 use Rattle.fk_tables.proofs.bodies.Bodies.rename.Goals as goal
 
 pub lay_value-requires : goal.lay_value-requires
 lay_value-requires c = rw c.requires.space (c.in-Some.ensures.room refl)
+
+pub mark-requires : goal.mark-requires
+mark-requires c so =
+    let there = get-who _ c.args.from ∙ sym c.in-Some.ensures.taken in
+    let pages = ap is_of_pages (sym c.body-in-Some.ensures) ∙ sym c.is_of_pages.ensures ∙ so in
+    rw c.requires.space (mark_low _ c.args.from.space _ (c.self.invariant.3 c.args.from c.in-Some.stored there pages))
 
 pub settle-requires : goal.settle-requires
 settle-requires c n is =
@@ -23,6 +31,8 @@ invariant_of-self c =
       omega (arith, c.self.invariant.0, c.take_value.ensures.long, c.lay_value.ensures.long),
       homed-rename _ _ _ _ c.self.invariant.1 c.args.from c.args.to (rw (← c.self.view_is) at c.requires.free) renamed settled,
       enough-rename _ _ c.args.from c.args.to c.in-Some.stored _ there (rw (← c.self.view_is) at c.requires.free) renamed c.self.invariant.2,
+      marked-rename _ _ _ _ c.args.from c.args.to c.in-Some.stored there renamed
+          (rw (c.is_of_pages.ensures, c.body-in-Some.ensures) at c.mark.ensures) c.self.invariant.3,
     )
 
 pub invariant_of-self-in_default : goal.invariant_of-self-in_default

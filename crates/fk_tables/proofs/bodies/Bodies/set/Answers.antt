@@ -2,6 +2,7 @@ use Rattle.std.proofs.Common.{sym, ap, ◌∙◌, arith}
 use Rattle.fk_slots.proofs.TabledLaws.{relaid_rows}
 use Rattle.fk_tables.specs.Held.{is_held}
 use Rattle.fk_tables.proofs.HeldLaws.{enough-set}
+use Rattle.fk_tables.proofs.MarkLaws.{marked-set}
 use Rattle.fk_tables.proofs.HomeLaws.{homed-set}
 use Rattle.fk_tables.proofs.NameLaws.{who_naming}
 use Rattle.fk_tables.proofs.ScanLaws.{get-who, not_gone}
@@ -15,6 +16,8 @@ invariant_of-self c =
       rw now (homed-set _ _ c.args.who c.args.body c.self.invariant.1 (rw (← c.self.view_is) at c.requires.birth)),
       rw now (enough-set _ c.args.who _ _ c.self.invariant.2 c.in-Some.stored c.args.body _ _ (get-who _ c.args.who ∙ sym c.in-Some.ensures.taken)
           (c.is_held.ensures ∙ ap is_held c.body.ensures) c.is_held-in-Some.ensures c.counted-self-inside.ensures),
+      rw now (marked-set _ _ c.args.who c.in-Some.stored c.args.body (get-who _ c.args.who ∙ sym c.in-Some.ensures.taken)
+          (rw (← c.self.view_is) at c.requires.pages c.in-Some.stored (get-who _ c.args.who ∙ sym c.in-Some.ensures.taken)) c.self.invariant.3),
     )
 
 pub invariant_of-self-in_default : goal.invariant_of-self-in_default
