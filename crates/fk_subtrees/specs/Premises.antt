@@ -61,6 +61,10 @@ served_within = with_talk (record { port = At (within 4); peer = Server (At (wit
 abbrev pub fault_within : Body
 fault_within = with_fault (record { page = 9; write = true; port = At (within 4); taker = Some (Server (At (within 5))) }) (running 0 [])
 
+-- a mapping of the nester's onto the region within
+abbrev pub nesters_window : Body
+nesters_window = Mapping (record { first = 8; count = 1; offset = 0; write = true; region = At (within 7) })
+
 unfoldable pub premises : Unit {0}
 unfolding machine seen_by cut open_place full_of_all with_object with_one_page
 premises = tt

@@ -3,15 +3,17 @@
 #![tactic(auto, unfolding(crate::specs::Premises::premises))]
 
 ghost use Rattle.std.specs.Prelude.{Some, None, [], ◌∷◌, true, replicate};
-ghost use Rattle.fk_model.specs.Places.Ptr.{At};
+ghost use Rattle.fk_model.specs.Places.Ptr.{At, Out, Far};
 ghost use Rattle.fk_model.specs.Objects.Mode.{Native};
 ghost use Rattle.fk_model.specs.Objects.Body.{Port, Reference};
 ghost use Rattle.fk_model.specs.Valid.{IsPaged};
 ghost use Rattle.fk_model.specs.Whole.{IsWhole, IsSavable};
 ghost use Rattle.fk_model.specs.Cut.{IsPlain};
 ghost use Rattle.fk_model.specs.Closed.{IsClosed};
+ghost use Rattle.fk_further.specs.ClosedLaws.{IsUncut, IsUsersAlone};
+ghost use Rattle.fk_further.specs.Strangers.{HasNoWindow};
 ghost use Rattle.fk_worked.specs.Worked.{thread_in_mode};
-ghost use Rattle.fk_subtrees.specs.Premises.{nesters_porter, within, full_of_all, with_object, with_one_page, served_within, fault_within};
+ghost use Rattle.fk_subtrees.specs.Premises.{nesters_porter, within, full_of_all, with_object, with_one_page, served_within, fault_within, nesters_window};
 
 /// It is valid, has few birth numbers and full pages.
 pub fn a_whole_world()
@@ -52,4 +54,17 @@ pub fn what_isnt_plain()
     ensures fault { IsPlain (with_object (0 ∷ []) fault_within) [] 1 → ⊥ }
     ensures no_space { IsPlain (full_of_all None) [] 9 → ⊥ }
     ensures nothing { IsPlain (full_of_all None) [] 2 → ⊥ }
+{}
+
+/// It is nobody's cut, the subtree has users alone, and nothing outside maps a region within; but not
+/// with a pointer of a cut in it, nor with a window of the nester's.
+pub fn a_world_that_stands_alone()
+    ensures uncut { IsUncut (full_of_all None) }
+    ensures uncut_held { IsUncut (full_of_all (Some (At nesters_porter))) }
+    ensures users { IsUsersAlone (full_of_all None) [] 1 }
+    ensures no_window { HasNoWindow (full_of_all None) [] 1 }
+    ensures no_window_held { HasNoWindow (full_of_all (Some (At nesters_porter))) [] 1 }
+    ensures far { IsUncut (with_object (within 13) (Reference Far)) → ⊥ }
+    ensures out { IsUncut (with_object (within 13) (Reference (Out 9))) → ⊥ }
+    ensures window { HasNoWindow (with_object (0 ∷ []) nesters_window) [] 1 → ⊥ }
 {}
