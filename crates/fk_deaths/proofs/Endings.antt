@@ -153,7 +153,7 @@ all_killed w v x is = ap (apply (Kill x)) is ∙ killed_ended x _ w ∙ sym (end
 
 -- ---- a thread whose call may have ended before
 
-talking_list : (w : World) (side : Turn) (y : Path) → talking_end w side (At y) ≡ cond (talking side (w.body y)) (y ∷ []) []
+pub talking_list : (w : World) (side : Turn) (y : Path) → talking_end w side (At y) ≡ cond (talking side (w.body y)) (y ∷ []) []
 talking_list w side y = by (and_then thread_of (w.body y))
   where
     by : (o : Option Thread) → if_talking side (and_then (λ (t : Thread). Some (y, t)) o) ≡ cond (holds (λ (t : Thread). is_talking side t.mode) o) (y ∷ []) []

@@ -1,9 +1,9 @@
 -- Pointers: when the freezing rule lets them be.
 use Rattle.std.proofs.Common.{◌≡◌, Bool, true, false, not, ◌&&◌, ◌↔◌, IsTrue, [], ◌∷◌, Option, refl}
 use Rattle.fk_model.specs.Places.{Path, Ptr}
-use Rattle.fk_model.specs.World.{World}
+use Rattle.fk_model.specs.World.{World, Edit}
 use Rattle.fk_model.specs.World.Edit.{SetPointer, SetHolder}
-use Rattle.fk_model.specs.Freezing.{are_unfrozen, body_pointers, MayAlter}
+use Rattle.fk_model.specs.Freezing.{are_unfrozen, body_pointers, changed_pointers, made_pointers, MayAlter}
 use Rattle.fk_model.specs.Holds.{is_frozen_for, leads_to_frozen}
 use Rattle.fk_model.specs.Searches.{option_list}
 
@@ -31,3 +31,14 @@ held_iff w me x holder =
     by false ea false eb c ec = ((λ h. absurd (cc)), (λ h. let no = h.changed in absurd (cc)))
     by false ea true eb false ec = ((λ h. absurd (cc)), (λ h. let no = h.made in absurd (cc)))
     by false ea true eb true ec = ((λ h. record { object = ea; changed = eb; made = ec }), (λ h. refl))
+
+-- pointers that are removed
+pub removed_iff : (w : World) (me x : Path) (e : Edit) → made_pointers e ≡ [] →
+    IsTrue (not (is_frozen_for w me x) && are_unfrozen w me (option_list (changed_pointers e) (w.body x))) ↔ MayAlter w me x e
+removed_iff w me x e none = by (is_frozen_for w me x) refl (are_unfrozen w me (option_list (changed_pointers e) (w.body x))) refl
+  where
+    by : (a : Bool) → is_frozen_for w me x ≡ a → (b : Bool) → are_unfrozen w me (option_list (changed_pointers e) (w.body x)) ≡ b →
+        IsTrue (not a && b) ↔ MayAlter w me x e
+    by true ea b eb = ((λ h. absurd (cc)), (λ h. let no = h.object in absurd (cc)))
+    by false ea false eb = ((λ h. absurd (cc)), (λ h. let no = h.changed in absurd (cc)))
+    by false ea true eb = ((λ h. record { object = ea; changed = eb; made = rw none refl }), (λ h. refl))

@@ -8,7 +8,7 @@ use Rattle.fk_model.specs.Objects.Mode.{Running, Calling, Halted, Native}
 use Rattle.fk_model.specs.Objects.Body.{Mutex, Cond, Mapping, Region, Port, Portset, Space, Thread_of, Reference}
 use Rattle.fk_model.specs.World.{World, Change, Edit}
 use Rattle.fk_model.specs.World.Change.{Alter, Make, MakeSpace, PutPage}
-use Rattle.fk_model.specs.World.Edit.{SetFault, SetLocked, Proceed}
+use Rattle.fk_model.specs.World.Edit.{SetFault, SetLocked, Proceed, Finish, PassTurn, SetTalk}
 use Rattle.fk_model.specs.Instructions.{next}
 use Rattle.fk_model.specs.Reach.{words_at}
 use Rattle.fk_model.specs.UserRows.{proceeds}
@@ -27,7 +27,7 @@ use Rattle.fk_store.specs.Moves.{picked_by}
 use Rattle.fk_store.specs.Threads.{is_free_at}
 use Rattle.fk_store.specs.World.{world}
 use Rattle.fk_store.proofs.Freedom.{free_thread, free_itself, may_alter, IsPlain}
-use Rattle.fk_plans.proofs.Pointers.{held_iff, pointed_iff}
+use Rattle.fk_plans.proofs.Pointers.{held_iff, pointed_iff, removed_iff}
 use Rattle.fk_plans.proofs.Renamed.{renames_iff}
 use Rattle.fk_plans.proofs.Destroyed.{destroys_iff}
 use Rattle.fk_plans.proofs.Lists.{own_iff}
@@ -69,6 +69,10 @@ deed_iff : (w v : World) (me : Path) (p : ℕ → Path) (d : Deed) → IsTrue (i
 deed_iff w v me p (deeds.Locks mutex locked) = plain_iff w me (place p mutex) (SetLocked locked) (record { changed = λ b. refl; made = refl })
 deed_iff w v me p (deeds.Points object to) = pointed_iff w me (place p object) (pointer_by p to)
 deed_iff w v me p (deeds.Sends block) = not_iff (is_frozen_for w me (p block.to.0))
+deed_iff w v me p (deeds.Finishes thread) = plain_iff w me (place p thread) (Finish []) (record { changed = λ b. refl; made = refl })
+deed_iff w v me p (deeds.Passes client turn) = plain_iff w me (place p client) (PassTurn turn) (record { changed = λ b. refl; made = refl })
+deed_iff w v me p (deeds.Unlinks client) = removed_iff w me (place p client) (SetTalk None) refl
+deed_iff w v me p (deeds.Frees thread) = removed_iff w me (place p thread) (SetFault None) refl
 deed_iff w v me p (deeds.Holds space holder) = held_iff w me (place p space) (holder_by p holder)
 deed_iff w v me p (deeds.Stops thread stops) = plain_iff w me (place p thread) _ (record { changed = λ b. refl; made = refl })
 deed_iff w v me p (deeds.Copies from to) = not_iff (is_frozen_for w me (p to.0))
@@ -260,7 +264,7 @@ module _ (m : Contents) (c : Caller) (words : List ℕ) (free : c.is_porter ≡ 
   verdict_iff (verdicts.Renames object slot) fits = renames_iff m c words free object slot fits
   verdict_iff (verdicts.Destroys object last) fits = destroys_iff m c words free object last
   verdict_iff (verdicts.Goes plan) fits = plan_iff (world m) me (path m) words plan fits.1
-  verdict_iff (verdicts.Tells plan sent last) fits = tells_iff fits.0 _ _ _ last (plan_iff (world m) me (path m) words plan fits.3.1)
+  verdict_iff (verdicts.Tells plan sent last) fits = tells_iff fits.0 _ _ _ last (plan_iff (world m) me (path m) words plan fits.2.1)
   verdict_iff (verdicts.Faults page write port) fits =
       one_iff _ (fault_iff (world m) c.who.slot (path m c.who.space) (place (path m) port) page write (free fits.0))
 

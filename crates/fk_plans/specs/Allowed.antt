@@ -1,10 +1,10 @@
 -- Allowed: what the freezing rule and the picks say of a verdict, as tests.
 use Rattle.std.specs.Prelude.{ℕ, Bool, true, false, not, ◌&&◌, ◌||◌, is_none, IsTrue, [], ◌∷◌, Option}
 use Rattle.fk_model.specs.declared.names.Who.{Who}
-use Rattle.fk_model.specs.Freezing.{are_unfrozen, body_pointers, MayKill, MayMove}
+use Rattle.fk_model.specs.Freezing.{are_unfrozen, body_pointers, of_fault, of_talk, MayKill, MayMove}
 use Rattle.fk_model.specs.Holds.{is_frozen_for, leads_to_frozen}
 use Rattle.fk_model.specs.Places.{Path}
-use Rattle.fk_model.specs.Searches.{option_list}
+use Rattle.fk_model.specs.Searches.{fault_pointers, option_list, talk_pointers}
 use Rattle.fk_model.specs.World.{World}
 use Rattle.fk_store.specs.Bodies.{pointer_by}
 use Rattle.fk_store.specs.Paths.{place}
@@ -27,6 +27,12 @@ is_deed_allowed w me p (deeds.Sends block) = not (is_frozen_for w me (p block.to
 is_deed_allowed w me p (deeds.Counts client count) = not (is_frozen_for w me (place p client))
 is_deed_allowed w me p (deeds.Shifts thread count) = not (is_frozen_for w me (place p thread))
 is_deed_allowed w me p (deeds.Ends thread status) = not (is_frozen_for w me (place p thread))
+is_deed_allowed w me p (deeds.Finishes thread) = not (is_frozen_for w me (place p thread))
+is_deed_allowed w me p (deeds.Passes client turn) = not (is_frozen_for w me (place p client))
+is_deed_allowed w me p (deeds.Unlinks client) =
+    not (is_frozen_for w me (place p client)) && are_unfrozen w me (option_list (of_talk talk_pointers) (w.body (place p client)))
+is_deed_allowed w me p (deeds.Frees thread) =
+    not (is_frozen_for w me (place p thread)) && are_unfrozen w me (option_list (of_fault fault_pointers) (w.body (place p thread)))
 is_deed_allowed w me p (deeds.Holds space holder) = not (is_frozen_for w me (place p space))
     && are_unfrozen w me (body_pointers (w.body (place p space))) && are_unfrozen w me (option_list (λ to. to ∷ []) (holder_by p holder))
 is_deed_allowed w me p (deeds.Stops thread stops) = not (is_frozen_for w me (place p thread))
@@ -57,7 +63,7 @@ IsVerdictAllowed w me p (verdicts.Shows plan space page) = IsTrue (is_plan_allow
 IsVerdictAllowed w me p (verdicts.Renames object slot) = MayMove w me (place p object)
 IsVerdictAllowed w me p (verdicts.Destroys object last) = MayKill w me (place p object)
 IsVerdictAllowed w me p (verdicts.Goes plan) = IsTrue (is_plan_allowed w me p plan)
-IsVerdictAllowed w me p (verdicts.Tells plan words last) = IsTrue (is_plan_allowed w me p plan)
+IsVerdictAllowed w me p (verdicts.Tells plan news last) = IsTrue (is_plan_allowed w me p plan)
 IsVerdictAllowed w me p (verdicts.Faults page write port) = IsTrue (not (is_frozen_for w me (place p port)))
 
 -- a stage that chooses may pick, where it isn't refused; every other picks nobody
@@ -70,5 +76,5 @@ may_pick chooses pick (verdicts.Shows plan space page) = chooses || is_none pick
 may_pick chooses pick (verdicts.Renames object slot) = chooses || is_none pick
 may_pick chooses pick (verdicts.Destroys object last) = chooses || is_none pick
 may_pick chooses pick (verdicts.Goes plan) = chooses || is_none pick
-may_pick chooses pick (verdicts.Tells plan words last) = chooses || is_none pick
+may_pick chooses pick (verdicts.Tells plan news last) = chooses || is_none pick
 may_pick chooses pick (verdicts.Faults page write port) = chooses || is_none pick

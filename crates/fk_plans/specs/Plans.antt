@@ -10,7 +10,7 @@ use Rattle.fk_model.specs.Reach.{words_at}
 use Rattle.fk_model.specs.Valid.{birth_at, kind_there}
 use Rattle.fk_model.specs.World.{World, Change, apply}
 use Rattle.fk_model.specs.World.Change.{Alter, MakeSpace, PutPage, DropPage}
-use Rattle.fk_model.specs.World.Edit.{SetLocked, SetPointer, SetHolder, SetStops, Replace, CountMoved, Shift, End}
+use Rattle.fk_model.specs.World.Edit.{SetLocked, SetPointer, SetHolder, SetStops, Replace, CountMoved, Shift, End, Finish, PassTurn, SetTalk, SetFault}
 use Rattle.fk_store.specs.Bodies.{pointer_by}
 use Rattle.fk_store.specs.Named.{Each, OnPointer}
 use Rattle.fk_store.specs.Paths.{place}
@@ -42,6 +42,10 @@ change_by p (deeds.Sends block) w = PutPage (p block.to.0) block.to.1 (block_pag
 change_by p (deeds.Counts client count) w = Alter (place p client) (CountMoved count)
 change_by p (deeds.Shifts thread count) w = Alter (place p thread) (Shift count)
 change_by p (deeds.Ends thread status) w = Alter (place p thread) (End status [])
+change_by p (deeds.Finishes thread) w = Alter (place p thread) (Finish [])
+change_by p (deeds.Passes client turn) w = Alter (place p client) (PassTurn turn)
+change_by p (deeds.Unlinks client) w = Alter (place p client) (SetTalk None)
+change_by p (deeds.Frees thread) w = Alter (place p thread) (SetFault None)
 change_by p (deeds.Holds space holder) w = Alter (place p space) (SetHolder (holder_by p holder))
 change_by p (deeds.Stops thread stops) w = Alter (place p thread) (SetStops stops)
 change_by p (deeds.Copies from to) w = PutPage (p to.0) to.1 (words_at w (p from.0) from.1)
@@ -82,6 +86,10 @@ IsDeed p w (deeds.Sends block) = IsBlock p w block
 IsDeed p w (deeds.Counts client count) = ⊤
 IsDeed p w (deeds.Shifts thread count) = IsLow w (place p thread) count
 IsDeed p w (deeds.Ends thread status) = ⊤
+IsDeed p w (deeds.Finishes thread) = ⊤
+IsDeed p w (deeds.Passes client turn) = ⊤
+IsDeed p w (deeds.Unlinks client) = ⊤
+IsDeed p w (deeds.Frees thread) = ⊤
 IsDeed p w (deeds.Holds space holder) = Each (λ other. IsSome (kind_there w (place p other))) holder
 IsDeed p w (deeds.Stops thread stops) = ⊤
 IsDeed p w (deeds.Copies from to) = IsSome (w.page (p from.0) from.1) × (birth_at w (p to.0) ≡ Some to.0) × IsSome (w.page (p to.0) to.1)

@@ -5,7 +5,7 @@ use Rattle.fk_model.specs.Moves.{closed, with_pick}
 use Rattle.fk_model.specs.Outcomes as outcomes
 use Rattle.fk_model.specs.Outcomes.{Outcome, Said, done, telling}
 use Rattle.fk_model.specs.Outcomes.Outcome.{Refused, Waits, Goes}
-use Rattle.fk_model.specs.Outcomes.Said.{Nothing, Words as Told_words}
+use Rattle.fk_model.specs.Outcomes.Said.{Nothing, Passed, Ended, Words as Told_words}
 use Rattle.fk_model.specs.Places.{Path}
 use Rattle.fk_model.specs.Places.Ptr.{At}
 use Rattle.fk_model.specs.Reach.{words_at}
@@ -21,6 +21,8 @@ use Rattle.fk_threads.specs.Answers.{listed, LeaveArguments}
 use Rattle.fk_plans.specs.declared.plan.Caller.{Caller}
 use Rattle.fk_plans.specs.declared.plan.Plan.{Plan}
 use Rattle.fk_plans.specs.declared.plan.Verdict.{Verdict}
+use Rattle.fk_plans.specs.declared.plan.News.{News}
+use Rattle.fk_plans.specs.declared.plan.News.TheVariants as news
 use Rattle.fk_plans.specs.declared.plan.Words.{Words}
 use Rattle.fk_plans.specs.declared.plan.Verdict.TheVariants as verdicts
 use Rattle.fk_plans.specs.Effects.{effect_by, of_running, is_running, IsEffect}
@@ -32,6 +34,18 @@ use Rattle.fk_model.specs.Searches.{thread_at}
 -- what a native server is told of words of a page
 abbrev pub words_told : World → (ℕ → Path) → Words → Said
 words_told w p words = Told_words (At (place p words.port)) (take words.count (drop words.at (words_at w (p words.space) words.page)))
+
+-- what a native server is told
+abbrev pub news_by : World → (ℕ → Path) → News → Said
+news_by w p (news.Words words) = words_told w p words
+news_by w p (news.Passed port) = Passed (At (place p port))
+news_by w p (news.Ended port) = Ended (At (place p port))
+
+-- at which port
+abbrev pub port_of : News → Who
+port_of (news.Words words) = words.port
+port_of (news.Passed port) = port
+port_of (news.Ended port) = port
 
 -- and whether the stage is done then
 abbrev pub tells : outcomes.Caller → List Change → Said → Bool → Outcome
@@ -47,7 +61,7 @@ outcome_by w p c (verdicts.Shows plan space page) = done c (changes_by p c.words
 outcome_by w p c (verdicts.Renames object slot) = renames c (place p object) slot
 outcome_by w p c (verdicts.Destroys object last) = destroyed w c (place p object) last
 outcome_by w p c (verdicts.Goes plan) = Goes (changes_by p c.words plan w) Nothing
-outcome_by w p c (verdicts.Tells plan words last) = tells c (changes_by p c.words plan w) (words_told w p words) last
+outcome_by w p c (verdicts.Tells plan news last) = tells c (changes_by p c.words plan w) (news_by w p news) last
 outcome_by w p c (verdicts.Faults page write port) = Goes (fault_on (outcomes.path_of c) page write (At (place p port)) ∷ []) Nothing
 
 -- ---- what is needed to carry it out
@@ -55,6 +69,14 @@ outcome_by w p c (verdicts.Faults page write port) = Goes (fault_on (outcomes.pa
 -- the words lie within a page that is there
 abbrev pub AreWords : (ℕ → Path) → World → Words → Type 0
 AreWords p w words = (words.at + words.count ≤ 64) × IsSome (w.page (p words.space) words.page)
+
+-- the words that are told are there, and the port is
+abbrev pub HasWords : (ℕ → Path) → World → News → Type 0
+HasWords p w (news.Words words) = AreWords p w words
+HasWords p w other = ⊤
+
+abbrev pub IsNews : Contents → News → Type 0
+IsNews m n = IsLive m (port_of n) × HasWords (path m) (world m) n
 
 -- a plan that a caller can do
 abbrev pub IsPlanOf : Contents → Caller → Plan → Type 0
@@ -75,7 +97,7 @@ IsVerdict m c (verdicts.Shows plan space page) = (c.is_porter ≡ true) × IsSom
 IsVerdict m c (verdicts.Renames object slot) = IsMoving m object slot
 IsVerdict m c (verdicts.Destroys object last) = IsDying m object
 IsVerdict m c (verdicts.Goes plan) = IsPlanOf m c plan
-IsVerdict m c (verdicts.Tells plan words last) = (c.is_porter ≡ false) × AreWords (path m) (world m) words × IsLive m words.port × IsPlanOf m c plan
+IsVerdict m c (verdicts.Tells plan news last) = (c.is_porter ≡ false) × IsNews m news × IsPlanOf m c plan
 IsVerdict m c (verdicts.Faults page write port) = (c.is_porter ≡ false) × IsLive m port
 
 -- it takes no memory
@@ -83,7 +105,7 @@ abbrev pub IsSureVerdict : Verdict → Type 0
 IsSureVerdict (verdicts.Done plan answers) = IsSure plan
 IsSureVerdict (verdicts.Shows plan space page) = IsSure plan
 IsSureVerdict (verdicts.Goes plan) = IsSure plan
-IsSureVerdict (verdicts.Tells plan words last) = IsSure plan
+IsSureVerdict (verdicts.Tells plan news last) = IsSure plan
 IsSureVerdict other = ⊤
 
 -- ---- judges

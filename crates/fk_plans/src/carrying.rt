@@ -7,16 +7,16 @@ ghost use Rattle.fk_store.specs.Moves.{said_by};
 ghost use Rattle.fk_store.specs.Paths.{path, place};
 ghost use Rattle.fk_store.specs.World.{world, IsLive};
 ghost use Rattle.fk_plans.specs.Plans.{caller_by, change_by, changes_by, IsDeed, IsSure};
-ghost use Rattle.fk_plans.specs.Verdicts.{outcome_by, tells, words_told, AreWords, IsPlanOf, IsVerdict, IsSureVerdict};
+ghost use Rattle.fk_plans.specs.Verdicts.{outcome_by, news_by, tells, IsNews, IsPlanOf, IsVerdict, IsSureVerdict};
 
 use crate::blocks::{copy_page, send_block};
 use crate::destroying::destroy;
 use crate::instructions::run;
 use crate::making::{make, make_held};
-use crate::plan::{Caller, Deed, Plan, Verdict, Words};
+use crate::plan::{Caller, Deed, News, Plan, Verdict};
 use crate::renaming::rename;
 use crate::sources::give;
-use crate::telling::{told, told_page, told_words};
+use crate::telling::{said_of, told, told_page};
 use fk_model::status::OK;
 use fk_model::{NoMemory, Said, Who};
 use fk_store::Store;
@@ -36,6 +36,10 @@ fn carry(store: &mut Store, deed: &Deed)
         Deed::Counts { client, count } => count_moved(store, client, count),
         Deed::Shifts { thread, count } => advance(store, thread, u64::from(count)),
         Deed::Ends { thread, status } => store.end_call(thread, status),
+        Deed::Finishes { thread } => finish(store, thread, Answers::Nothing),
+        Deed::Passes { client, turn } => store.pass_turn(client, turn),
+        Deed::Unlinks { client } => store.set_talk(client, None),
+        Deed::Frees { thread } => store.set_fault(thread, None),
         Deed::Holds { space, holder } => store.set_holder(space, holder),
         Deed::Stops { thread, stops } => store.set_stops(thread, stops),
         Deed::Copies { from, to } => copy_page(store, from, to),
@@ -139,8 +143,8 @@ pub fn carry_out(
         Verdict::Renames { object, slot } => return Ok(rename(store, caller, *object, *slot)),
         Verdict::Destroys { object, last } => return Ok(destroy(store, caller, *object, *last)),
         Verdict::Goes(plan) => carry_all(store, caller, given, plan)?,
-        Verdict::Tells { plan, words, last } => {
-            return tell(store, caller, given, plan, words, *last);
+        Verdict::Tells { plan, news, last } => {
+            return tell(store, caller, given, plan, news, *last);
         }
         Verdict::Faults { page, write, port } => {
             store.raise(caller.who, *page, *write, *port);
@@ -149,28 +153,27 @@ pub fn carry_out(
     Ok(Said::Nothing)
 }
 
-/// Does all of a plan, tells a native server of words, and then a user's stage may be done.
+/// Does all of a plan, tells a native server, and then a user's stage may be done.
 fn tell(
     store: &mut Store,
     caller: Caller,
     given: &[u64],
     plan: &Plan,
-    words: &Words,
+    news: &News,
     last: bool,
 ) -> Result<Said, NoMemory>
     requires user { caller.is_porter ≡ false }
     requires live { IsLive store.old caller.who }
-    requires port { IsLive store.old words.now.port }
-    requires words { AreWords (path store.old) (world store.old) words.now }
+    requires news { IsNews store.old news.now }
     requires fits { IsPlanOf store.old caller plan.now }
     ensures step { IfOk result (λ said. let c = caller_by (path store.old) caller given.now in
         stepped (world store.old) (tells c (changes_by (path store.old) given.now plan.now (world store.old))
-        (words_told (world store.old) (path store.old) words.now) last)
+        (news_by (world store.old) (path store.old) news.now) last)
         ≡ record { world = world store.new; said = said_by (path store.new) said }) }
     ensures err { OnErr result (store.new ≡ store.old) }
     ensures sure { IsSure plan.now → IsOk result }
 {
-    let said = told_words(store, words);
+    let said = said_of(store, news);
     carry_all(store, caller, given, plan)?;
     if last {
         finish(store, caller.who, Answers::Nothing);

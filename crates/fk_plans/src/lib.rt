@@ -19,6 +19,7 @@ mod readiness;
 mod renaming;
 mod sources;
 mod telling;
+mod ties;
 mod within;
 
 pub use blocks::Block;
@@ -26,7 +27,7 @@ pub use carrying::carry_out;
 pub use handles::{handle, led_to, referred, thread_by_handle};
 pub use instructions::make_effect;
 pub use objects::{is_referable, kind_number, object_in, pointer_in, reference_in};
-pub use plan::{Caller, Deed, Effect, Plan, Verdict, Words};
+pub use plan::{Caller, Deed, Effect, News, Plan, Verdict, Words};
 pub use readers::{cond_in, last_slot, mutex_in, place, slot_for};
 pub use readiness::is_ready;
 pub use sources::Source;

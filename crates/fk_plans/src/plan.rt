@@ -1,7 +1,7 @@
 //! What a stage comes to.
 use crate::blocks::Block;
 use crate::sources::Source;
-use fk_model::{Ptr, Who};
+use fk_model::{Ptr, Turn, Who};
 use fk_threads::Answers;
 
 /// Who makes a stage: a user, or a porter.
@@ -28,6 +28,14 @@ pub enum Deed {
     Shifts { thread: Who, count: u8 },
     /// The whole call of a thread ends with a status.
     Ends { thread: Who, status: u8 },
+    /// The first stage of a thread's call is done.
+    Finishes { thread: Who },
+    /// It is the turn of a side of a client's talk.
+    Passes { client: Who, turn: Turn },
+    /// A client's talk ends.
+    Unlinks { client: Who },
+    /// The fault of a thread ends.
+    Frees { thread: Who },
     /// A space is held by a thread, or by nobody.
     Holds { space: Who, holder: Option<Who> },
     /// A thread is stopped so many times.
@@ -75,6 +83,17 @@ pub struct Words {
     pub count: u8,
 }
 
+/// What a native server is told.
+#[derive(Clone, Copy)]
+pub enum News {
+    /// Words come to its port.
+    Words(Words),
+    /// The turn of the talk at its port is passed to it.
+    Passed { port: Who },
+    /// The talk at its port has ended.
+    Ended { port: Who },
+}
+
 /// What an instruction of a running thread comes to.
 #[derive(Clone, Copy)]
 pub enum Effect {
@@ -114,36 +133,18 @@ pub enum Verdict {
     /// It does this, and then the caller's stage is done, with these answers.
     Done(Plan, Answers),
     /// It does this, and then the stage of a porter is done, which gets the words of a page.
-    Shows {
-        plan: Plan,
-        space: u32,
-        page: u8,
-    },
+    Shows { plan: Plan, space: u32, page: u8 },
     /// An object gets another slot, and then the caller's stage is done; that of a thread that renames
     /// itself in its new slot.
-    Renames {
-        object: Who,
-        slot: u8,
-    },
+    Renames { object: Who, slot: u8 },
     /// An object in which nothing stands is destroyed, with all that ends with it, and a native server
     /// that loses its client or its port is told. `last` says that the caller's stage is done then.
-    Destroys {
-        object: Who,
-        last: bool,
-    },
+    Destroys { object: Who, last: bool },
     /// It does this, and the caller stays at its stage.
     Goes(Plan),
-    /// It does this, and the native server is told that words of a page come to its port. `last` says
-    /// that the stage of a user is done then.
-    Tells {
-        plan: Plan,
-        words: Words,
-        last: bool,
-    },
+    /// It does this, and a native server is told something. `last` says that the stage of a user is
+    /// done then.
+    Tells { plan: Plan, news: News, last: bool },
     /// The caller's own access misses a page, and the port of its keeper is told.
-    Faults {
-        page: u8,
-        write: bool,
-        port: Who,
-    },
+    Faults { page: u8, write: bool, port: Who },
 }

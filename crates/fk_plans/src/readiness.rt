@@ -12,6 +12,7 @@ ghost use Rattle.fk_plans.specs.Verdicts.{IsVerdict, move_by};
 
 use crate::plan::{Caller, Deed, Effect, Plan, Verdict};
 use crate::renaming::may_move;
+use crate::ties::{is_fault_unfrozen, is_talk_unfrozen};
 use fk_deaths::{leads_to_frozen, may_destroy};
 use fk_model::Who;
 use fk_store::Store;
@@ -52,6 +53,14 @@ fn is_deed_allowed(store: &Store, me: Who, deed: &Deed) -> bool
         Deed::Counts { client, .. } => !store.frozen_for(me, client),
         Deed::Shifts { thread, .. } | Deed::Ends { thread, .. } | Deed::Stops { thread, .. } => {
             !store.frozen_for(me, thread)
+        }
+        Deed::Finishes { thread } => !store.frozen_for(me, thread),
+        Deed::Passes { client, .. } => !store.frozen_for(me, client),
+        Deed::Unlinks { client } => {
+            !store.frozen_for(me, client) && is_talk_unfrozen(store, me, client)
+        }
+        Deed::Frees { thread } => {
+            !store.frozen_for(me, thread) && is_fault_unfrozen(store, me, thread)
         }
         Deed::Holds { space, holder } => {
             !store.frozen_for(me, space)

@@ -9,9 +9,9 @@ ghost use Rattle.fk_store.specs.Moves.{said_by};
 ghost use Rattle.fk_store.specs.Paths.{path, place};
 ghost use Rattle.fk_store.specs.World.{world};
 ghost use Rattle.fk_threads.specs.Answers.{listed};
-ghost use Rattle.fk_plans.specs.Verdicts.{AreWords};
+ghost use Rattle.fk_plans.specs.Verdicts.{news_by, port_of, AreWords, IsNews};
 
-use crate::plan::Words;
+use crate::plan::{News, Words};
 use fk_model::status::OK;
 use fk_model::{Answer, Said};
 use fk_store::Store;
@@ -55,7 +55,7 @@ fn told_all(words: [u64; 64]) -> Said
 }
 
 /// Words that come to a port, of a page.
-pub fn told_words(store: &Store, words: &Words) -> Said
+fn told_words(store: &Store, words: &Words) -> Said
     requires { AreWords (path store.now) (world store.now) words.now }
     ensures { (p : ℕ → Path) → said_by p result ≡ Told
         (At (place p words.now.port)) (take words.now.count (drop words.now.at (words_at (world store.now) (path store.now words.now.space) words.now.page))) }
@@ -63,6 +63,19 @@ pub fn told_words(store: &Store, words: &Words) -> Said
     match store.page(words.space, words.page) {
         Some(page) => from_page(*page, words),
         None => unreachable!(),
+    }
+}
+
+/// What is told to a native server.
+pub fn said_of(store: &Store, news: &News) -> Said
+    requires { IsNews store.now news.now }
+    ensures { (p : ℕ → Path) → place p (port_of news.now) ≡ place (path store.now) (port_of news.now)
+        → said_by p result ≡ news_by (world store.now) (path store.now) news.now }
+{
+    match news {
+        News::Words(words) => told_words(store, words),
+        News::Passed { port } => Said::Over { port: *port },
+        News::Ended { port } => Said::Ended { port: *port },
     }
 }
 

@@ -21,7 +21,7 @@ ghost use Rattle.fk_transfer.specs.Lines.{line_by, IsReceiver, IsSender};
 
 use fk_model::status::{BADADDRESS, FULL, NOTLINKED, WRONGTURN};
 use fk_model::{Peer, Talk, Turn, Who};
-use fk_plans::{Block, Caller, Deed, Plan, Verdict, Words};
+use fk_plans::{Block, Caller, Deed, News, Plan, Verdict, Words};
 use fk_store::{Reach, Store};
 use fk_threads::{Answers, receive_of};
 
@@ -233,7 +233,8 @@ fn sends_to_service(
         count: size,
     };
     let last = u64::from(size) == count;
-    Verdict::Tells { plan, words, last }
+    let news = News::Words(words);
+    Verdict::Tells { plan, news, last }
 }
 
 /// Sends words of a page to the other end of a talk.

@@ -8,8 +8,7 @@ pub returns-clause-fits : goal.returns-clause-fits
 returns-clause-fits c =
     let left : c.args.address + c.moved-size.result < 18446744073709551616 = omega (arith, c.moved-size.ensures.at, c.requires.address) in (
       c.requires.user,
-      (c.moved-size.ensures.at, c.requires.own),
-      c.requires.port,
+      (c.requires.port, (c.moved-size.ensures.at, c.requires.own)),
       (
         tt,
         (

@@ -1,0 +1,52 @@
+//! Talks and faults that lead to what is frozen.
+ghost use Rattle.std.specs.Prelude.{◌≡◌};
+ghost use Rattle.fk_model.specs.Freezing.{are_unfrozen, of_fault, of_talk};
+ghost use Rattle.fk_model.specs.Searches.{fault_pointers, option_list, talk_pointers};
+ghost use Rattle.fk_store.specs.Paths.{path, place};
+ghost use Rattle.fk_store.specs.World.{world};
+
+use fk_deaths::{fault_leads_to_frozen, talk_leads_to_frozen};
+use fk_model::{Body, Who};
+use fk_store::Store;
+
+/// Nothing is frozen to which the talk of a thread as a client leads.
+pub fn is_talk_unfrozen(store: &Store, me: Who, client: Who) -> bool
+    ensures { result ≡ are_unfrozen (world store.now) (place (path store.now) me)
+        (option_list (of_talk talk_pointers) ((world store.now).body (place (path store.now) client))) }
+{
+    match store.at(client) {
+        Some(Body::Thread(thread)) => !talk_leads_to_frozen(store, me, thread.talk),
+        Some(
+            Body::Mutex { .. }
+            | Body::Cond
+            | Body::Mapping { .. }
+            | Body::Region { .. }
+            | Body::Port { .. }
+            | Body::Portset
+            | Body::Space { .. }
+            | Body::Reference { .. },
+        )
+        | None => true,
+    }
+}
+
+/// Nothing is frozen to which the fault of a thread leads.
+pub fn is_fault_unfrozen(store: &Store, me: Who, thread: Who) -> bool
+    ensures { result ≡ are_unfrozen (world store.now) (place (path store.now) me)
+        (option_list (of_fault fault_pointers) ((world store.now).body (place (path store.now) thread))) }
+{
+    match store.at(thread) {
+        Some(Body::Thread(thread)) => !fault_leads_to_frozen(store, me, thread.fault),
+        Some(
+            Body::Mutex { .. }
+            | Body::Cond
+            | Body::Mapping { .. }
+            | Body::Region { .. }
+            | Body::Port { .. }
+            | Body::Portset
+            | Body::Space { .. }
+            | Body::Reference { .. },
+        )
+        | None => true,
+    }
+}
