@@ -4,6 +4,8 @@
 //! the outcome of the stage's row in the abstract machine, and can be carried out without memory.
 #![tactic(auto)]
 
+mod passing;
 mod sending;
 
+pub use passing::over;
 pub use sending::send;

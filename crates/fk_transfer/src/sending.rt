@@ -44,7 +44,7 @@ fn moved(address: u64, count: u64, into: u64, room: u64) -> u8
 
 /// The talk in which a client acts at its own turn.
 #[tactic(auto, unfolding(fk_model::specs::Talks::line))]
-fn client_talk(store: &Store, caller: Caller) -> Result<Talk, u8>
+pub fn client_talk(store: &Store, caller: Caller) -> Result<Talk, u8>
     ensures line { mapped (line_by (path store.now) caller.who) result
         ≡ rows.in_turn (world store.now) (place (path store.now) caller.who) turns.Client turns.Client }
     ensures port { IfOk result (λ talk. IsLive store.now talk.port) }

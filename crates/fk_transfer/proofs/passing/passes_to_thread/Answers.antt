@@ -1,0 +1,21 @@
+use Rattle.std.proofs.Common.{◌≡◌, true, false, is_some, sym, ap, ◌∙◌}
+use Rattle.fk_store.specs.Paths.{path, place}
+use Rattle.fk_store.specs.Threads.{is_free_at}
+use Rattle.fk_store.specs.World.{world}
+use Rattle.fk_plans.specs.Plans.{caller_by}
+use Rattle.fk_transfer.proofs.Passed.{passed_free}
+use Rattle.fk_transfer.proofs.passing.passes_to_thread.Goals as goal
+
+pub returns-in-Some-receive_of-clause-outcome : goal.returns-in-Some-receive_of-clause-outcome
+returns-in-Some-receive_of-clause-outcome c words =
+    let p = path c.args.store.now in
+    let free : is_free_at (world c.args.store.now) (place p c.args.peer) ≡ true = cc in
+    passed_free (world c.args.store.now) (caller_by p c.args.caller words) (place p c.args.caller.who) (place p c.args.peer) _ true
+    c.in-Some.ensures.thread free (ap is_some (sym (c.receive_of.ensures p) ∙ c.in-Some-receive_of.is))
+
+pub returns-in-None-clause-outcome : goal.returns-in-None-clause-outcome
+returns-in-None-clause-outcome c words =
+    let p = path c.args.store.now in
+    let free : is_free_at (world c.args.store.now) (place p c.args.peer) ≡ true = cc in
+    passed_free (world c.args.store.now) (caller_by p c.args.caller words) (place p c.args.caller.who) (place p c.args.peer) _ false
+    c.in-Some.ensures.thread free (ap is_some (sym (c.receive_of.ensures p) ∙ c.in-None.is))
