@@ -14,5 +14,7 @@ mod swept;
 
 pub use deaths::{destroy, told_port};
 pub use ends::is_at_talk;
-pub use frozen::{fault_leads_to_frozen, leads_to_frozen, peer_leads_to_frozen, talk_leads_to_frozen};
+pub use frozen::{
+    fault_leads_to_frozen, leads_to_frozen, peer_leads_to_frozen, talk_leads_to_frozen,
+};
 pub use swept::{is_swept, may_destroy};
