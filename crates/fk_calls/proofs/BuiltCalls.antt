@@ -3,7 +3,7 @@ use Rattle.std.proofs.Common.{◌≡◌, ℕ, Bool, true, false, cond, eqb, List
 use Rattle.std.proofs.lemmas.Bool.{eqb-true}
 use Rattle.std.proofs.lemmas.Option.{same_Some}
 use Rattle.fk_model.specs.declared.stage.Stage.{Stage}
-use Rattle.fk_model.specs.declared.stage.Stage.TheVariants.{Create, ThreadStop, ThreadGo, PageGive, PageTake, PageRead, PageNext, MutexLock, MutexTrylock, MutexUnlock}
+use Rattle.fk_model.specs.declared.stage.Stage.TheVariants.{Create, Rename, Search, Point, Clear, Locate, ThreadStop, ThreadGo, PageGive, PageTake, PageRead, PageNext, MutexLock, MutexTrylock, MutexUnlock}
 use Rattle.fk_model.specs.Calls.{Call, calls, code_of, named_by, todo_of}
 use Rattle.fk_model.specs.Moves.{todo_known}
 use Rattle.fk_stages.specs.Built.{built}
@@ -51,6 +51,11 @@ row_named g stage todo is = by (built.calls (slice_index g 0)) refl is
 pub row_built : (stage : Stage) → built.calls (code_of (stage ∷ [])) ≡ true → IsRow stage
 unfolding code_of
 row_built (Create s x kind) is = tt
+row_built (Rename s x y) is = tt
+row_built (Search s from) is = tt
+row_built (Point s x s2 x2) is = tt
+row_built (Clear s x) is = tt
+row_built (Locate reference s) is = tt
 row_built (ThreadStop h) is = tt
 row_built (ThreadGo h) is = tt
 row_built (PageGive s page address) is = tt

@@ -1,3 +1,4 @@
 pub mod BuiltCalls
 pub mod Doings
 pub mod Judged
+pub mod Firsts

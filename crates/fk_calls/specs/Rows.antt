@@ -1,9 +1,9 @@
 -- Rows: the stages of the calls that are built.
-use Rattle.std.specs.Prelude.{Bool, true, false, List, [], ◌∷◌, ⊤}
+use Rattle.std.specs.Prelude.{◌≡◌, Bool, true, false, List, [], ◌∷◌, ⊤}
 use Rattle.fk_model.specs.declared.moves.Ask.{Ask}
 use Rattle.fk_model.specs.declared.moves.Ask.TheVariants as asks
 use Rattle.fk_model.specs.declared.stage.Stage.{Stage}
-use Rattle.fk_model.specs.declared.stage.Stage.TheVariants.{Create, ThreadStop, ThreadGo, PageGive, PageTake, PageRead, PageNext, SpaceMakeHeld, MutexLock, MutexTrylock, MutexUnlock}
+use Rattle.fk_model.specs.declared.stage.Stage.TheVariants.{Create, Rename, Search, Point, Clear, Locate, ThreadStop, ThreadGo, PageGive, PageTake, PageRead, PageNext, SpaceMakeHeld, MutexLock, MutexTrylock, MutexUnlock}
 use Rattle.fk_model.specs.Places.{Path}
 use Rattle.fk_model.specs.World.{World}
 use Rattle.fk_store.specs.Threads.{todo_at}
@@ -11,6 +11,11 @@ use Rattle.fk_store.specs.Threads.{todo_at}
 -- there is a judge of it
 abbrev pub IsRow : Stage → Type 0
 IsRow (Create s x kind) = ⊤
+IsRow (Rename s x y) = ⊤
+IsRow (Search s from) = ⊤
+IsRow (Point s x s2 x2) = ⊤
+IsRow (Clear s x) = ⊤
+IsRow (Locate reference s) = ⊤
 IsRow (ThreadStop h) = ⊤
 IsRow (ThreadGo h) = ⊤
 IsRow (PageGive s page address) = ⊤
@@ -21,6 +26,11 @@ IsRow (MutexLock m) = ⊤
 IsRow (MutexTrylock m) = ⊤
 IsRow (MutexUnlock m) = ⊤
 IsRow other = ⊥
+
+-- it is the first of the caller's call, who else is in no call
+abbrev pub IsFirst : Stage → List Stage → Type 0
+IsFirst stage [] = ⊤
+IsFirst stage (first ∷ later) = first ≡ stage
 
 -- it makes an object or a page, which takes memory
 abbrev pub takes_memory : Stage → Bool

@@ -1,8 +1,9 @@
 //! What a thread does next.
-ghost use Rattle.std.specs.Prelude.{◌≡◌, true};
+ghost use Rattle.std.specs.Prelude.{◌≡◌, [], true};
 ghost use Rattle.fk_model.specs.Moves.{todo_known};
 ghost use Rattle.fk_stages.specs.Built.{built};
 ghost use Rattle.fk_store.specs.Paths.{path, place};
+ghost use Rattle.fk_store.specs.Threads.{todo_at};
 ghost use Rattle.fk_store.specs.World.{world, IsSpace};
 ghost use Rattle.fk_calls.specs.Doings.{IsDoing, is_free_porter_at, first_of};
 
@@ -52,10 +53,11 @@ fn first_stage(registers: &[u64; 16]) -> Option<Stage>
 }
 
 /// A porter whose space isn't held is in the slot.
-#[tactic(auto, unfolding(crate::specs::Doings::is_free_porter_at))]
+#[tactic(auto, unfolding(crate::specs::Doings::is_free_porter_at, fk_store::specs::Threads::todo_at))]
 pub fn is_free_porter(store: &Store, who: Who) -> bool
     ensures free { result ≡ is_free_porter_at (world store.now) (place (path store.now) who) }
     ensures space { result ≡ true → IsSpace store.now who.space }
+    ensures idle { result ≡ true → todo_at (world store.now) (place (path store.now) who) ≡ [] }
 {
     match store.thread(who) {
         None => false,

@@ -5,15 +5,16 @@ ghost use Rattle.fk_model.specs.Moves.{allowed_row, stage_row};
 ghost use Rattle.fk_model.specs.Places.{Path};
 ghost use Rattle.fk_model.specs.Valid.{IsValid};
 ghost use Rattle.fk_store.specs.Moves.{picked_by};
-ghost use Rattle.fk_store.specs.Paths.{path};
+ghost use Rattle.fk_store.specs.Paths.{path, place};
+ghost use Rattle.fk_store.specs.Threads.{todo_at};
 ghost use Rattle.fk_store.specs.World.{world, IsSpace};
 ghost use Rattle.fk_plans.specs.Plans.{caller_by};
 ghost use Rattle.fk_plans.specs.Verdicts.{JudgesGiven, IsVerdict, IsSureVerdict, outcome_by};
-ghost use Rattle.fk_calls.specs.Rows.{IsRow, takes_memory};
+ghost use Rattle.fk_calls.specs.Rows.{IsFirst, IsRow, takes_memory};
 
 use fk_model::status::DENIED;
 use fk_model::{Stage, Who};
-use fk_objects::create;
+use fk_objects::{clear, create, locate, point, rename, search};
 use fk_plans::{Caller, Verdict};
 use fk_spaces::{page_give, page_next, page_read, page_take, thread_go, thread_stop};
 use fk_stages::code_of_stage;
@@ -38,11 +39,17 @@ fn row(
     requires built { IsRow stage.now }
     requires space { IsSpace store.now caller.who.space }
     requires valid { IsValid (world store.now) }
+    requires first { IsFirst stage.now (todo_at (world store.now) (place (path store.now) caller.who)) }
     ensures row { JudgesGiven store.now caller given.now result (λ w c. stage_row w c (picked_by (path store.now) pick) stage.now) }
     ensures sure { takes_memory stage.now ≡ false → IfOk result IsSureVerdict }
 {
     match *stage {
         Stage::Create { s, x, kind } => create(store, caller, s, x, kind),
+        Stage::Rename { s, x, y } => rename(store, caller, s, x, y),
+        Stage::Search { s, from } => search(store, caller, s, from),
+        Stage::Point { s, x, s2, x2 } => point(store, caller, s, x, s2, x2),
+        Stage::Clear { s, x } => clear(store, caller, s, x),
+        Stage::Locate { reference, s } => locate(store, caller, reference, s),
         Stage::ThreadStop { h } => thread_stop(store, caller, h),
         Stage::ThreadGo { h } => thread_go(store, caller, h),
         Stage::PageGive { s, page, addr } => page_give(store, caller, s, page, addr),
@@ -81,6 +88,7 @@ pub fn judge(
     requires built { IsRow stage.now }
     requires space { IsSpace store.now caller.who.space }
     requires valid { IsValid (world store.now) }
+    requires first { IsFirst stage.now (todo_at (world store.now) (place (path store.now) caller.who)) }
     ensures row { let c = caller_by (path store.now) caller given.now in
         outcome_by (world store.now) (path store.now) c result ≡ allowed_row (world store.now) c (picked_by (path store.now) pick) stage.now }
     ensures fits { IsVerdict store.now caller result }

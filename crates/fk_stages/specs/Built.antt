@@ -7,6 +7,11 @@ use Rattle.fk_model.specs.Moves.{Known}
 abbrev pub built_codes : List ℕ
 built_codes =
     1 ∷
+    3 ∷
+    4 ∷
+    5 ∷
+    6 ∷
+    7 ∷
     15 ∷
     16 ∷
     17 ∷
