@@ -3,7 +3,7 @@ use Rattle.std.proofs.Common.{◌≡◌, ℕ, Bool, true, false, cond, eqb, List
 use Rattle.std.proofs.lemmas.Bool.{eqb-true}
 use Rattle.std.proofs.lemmas.Option.{same_Some}
 use Rattle.fk_model.specs.declared.stage.Stage.{Stage}
-use Rattle.fk_model.specs.declared.stage.Stage.TheVariants.{Create, Rename, Search, Point, Clear, Locate, ThreadStop, ThreadGo, PageGive, PageTake, PageRead, PageNext, MutexLock, MutexTrylock, MutexUnlock}
+use Rattle.fk_model.specs.declared.stage.Stage.TheVariants.{Create, Destroy, GetPtr, SetPtr, SpaceHold, SpaceRelease, HoldSet, SpaceMakeHeld, Rename, Search, Point, Clear, Locate, ThreadStop, ThreadGo, PageGive, PageTake, PageRead, PageNext, MutexLock, MutexTrylock, MutexUnlock}
 use Rattle.fk_model.specs.Calls.{Call, calls, code_of, named_by, todo_of}
 use Rattle.fk_model.specs.Moves.{todo_known}
 use Rattle.fk_stages.specs.Built.{built}
@@ -51,6 +51,13 @@ row_named g stage todo is = by (built.calls (slice_index g 0)) refl is
 pub row_built : (stage : Stage) → built.calls (code_of (stage ∷ [])) ≡ true → IsRow stage
 unfolding code_of
 row_built (Create s x kind) is = tt
+row_built (Destroy s x) is = tt
+row_built (GetPtr s x field reference) is = tt
+row_built (SetPtr s x field reference) is = tt
+row_built (SpaceHold s x) is = tt
+row_built (SpaceRelease s x) is = tt
+row_built (HoldSet s x thread) is = tt
+row_built (SpaceMakeHeld x) is = tt
 row_built (Rename s x y) is = tt
 row_built (Search s from) is = tt
 row_built (Point s x s2 x2) is = tt

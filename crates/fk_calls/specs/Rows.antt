@@ -3,7 +3,7 @@ use Rattle.std.specs.Prelude.{◌≡◌, Bool, true, false, List, [], ◌∷◌,
 use Rattle.fk_model.specs.declared.moves.Ask.{Ask}
 use Rattle.fk_model.specs.declared.moves.Ask.TheVariants as asks
 use Rattle.fk_model.specs.declared.stage.Stage.{Stage}
-use Rattle.fk_model.specs.declared.stage.Stage.TheVariants.{Create, Rename, Search, Point, Clear, Locate, ThreadStop, ThreadGo, PageGive, PageTake, PageRead, PageNext, SpaceMakeHeld, MutexLock, MutexTrylock, MutexUnlock}
+use Rattle.fk_model.specs.declared.stage.Stage.TheVariants.{Create, Destroy, GetPtr, SetPtr, SpaceHold, SpaceRelease, HoldSet, Rename, Search, Point, Clear, Locate, ThreadStop, ThreadGo, PageGive, PageTake, PageRead, PageNext, SpaceMakeHeld, MutexLock, MutexTrylock, MutexUnlock}
 use Rattle.fk_model.specs.Places.{Path}
 use Rattle.fk_model.specs.World.{World}
 use Rattle.fk_store.specs.Threads.{todo_at}
@@ -11,6 +11,13 @@ use Rattle.fk_store.specs.Threads.{todo_at}
 -- there is a judge of it
 abbrev pub IsRow : Stage → Type 0
 IsRow (Create s x kind) = ⊤
+IsRow (Destroy s x) = ⊤
+IsRow (GetPtr s x field reference) = ⊤
+IsRow (SetPtr s x field reference) = ⊤
+IsRow (SpaceHold s x) = ⊤
+IsRow (SpaceRelease s x) = ⊤
+IsRow (HoldSet s x thread) = ⊤
+IsRow (SpaceMakeHeld x) = ⊤
 IsRow (Rename s x y) = ⊤
 IsRow (Search s from) = ⊤
 IsRow (Point s x s2 x2) = ⊤

@@ -7,17 +7,21 @@ ghost use Rattle.fk_model.specs.Valid.{IsValid};
 ghost use Rattle.fk_store.specs.Moves.{picked_by};
 ghost use Rattle.fk_store.specs.Paths.{path, place};
 ghost use Rattle.fk_store.specs.Threads.{todo_at};
-ghost use Rattle.fk_store.specs.World.{world, IsSpace};
+ghost use Rattle.fk_store.specs.World.{world, IsLive, IsSpace};
 ghost use Rattle.fk_plans.specs.Plans.{caller_by};
 ghost use Rattle.fk_plans.specs.Verdicts.{JudgesGiven, IsVerdict, IsSureVerdict, outcome_by};
 ghost use Rattle.fk_calls.specs.Rows.{IsFirst, IsRow, takes_memory};
 
 use fk_model::status::DENIED;
 use fk_model::{Stage, Who};
-use fk_objects::{clear, create, locate, point, rename, search};
+use fk_objects::{clear, create, destroy, locate, point, rename, search};
 use fk_plans::{Caller, Verdict};
-use fk_spaces::{page_give, page_next, page_read, page_take, thread_go, thread_stop};
+use fk_spaces::{
+    hold_set, page_give, page_next, page_read, page_take, space_hold, space_make_held,
+    space_release, thread_go, thread_stop,
+};
 use fk_stages::code_of_stage;
+use fk_state::{get_ptr, set_ptr};
 use fk_store::Store;
 use fk_sync::{mutex_lock, mutex_trylock, mutex_unlock};
 
@@ -38,6 +42,7 @@ fn row(
 ) -> Result<Verdict, u8>
     requires built { IsRow stage.now }
     requires space { IsSpace store.now caller.who.space }
+    requires live { IsLive store.now caller.who }
     requires valid { IsValid (world store.now) }
     requires first { IsFirst stage.now (todo_at (world store.now) (place (path store.now) caller.who)) }
     ensures row { JudgesGiven store.now caller given.now result (λ w c. stage_row w c (picked_by (path store.now) pick) stage.now) }
@@ -45,11 +50,26 @@ fn row(
 {
     match *stage {
         Stage::Create { s, x, kind } => create(store, caller, s, x, kind),
+        Stage::Destroy { s, x } => destroy(store, caller, s, x),
         Stage::Rename { s, x, y } => rename(store, caller, s, x, y),
         Stage::Search { s, from } => search(store, caller, s, from),
         Stage::Point { s, x, s2, x2 } => point(store, caller, s, x, s2, x2),
         Stage::Clear { s, x } => clear(store, caller, s, x),
         Stage::Locate { reference, s } => locate(store, caller, reference, s),
+        Stage::GetPtr {
+            s,
+            x,
+            field: n,
+            reference: r,
+        } => get_ptr(store, caller, s, x, n, r),
+        Stage::SetPtr {
+            s,
+            x,
+            field: n,
+            reference: r,
+        } => set_ptr(store, caller, s, x, n, r),
+        Stage::SpaceHold { s, x } => space_hold(store, caller, s, x),
+        Stage::SpaceRelease { s, x } => space_release(store, caller, s, x),
         Stage::ThreadStop { h } => thread_stop(store, caller, h),
         Stage::ThreadGo { h } => thread_go(store, caller, h),
         Stage::PageGive { s, page, addr } => page_give(store, caller, s, page, addr),
@@ -59,6 +79,8 @@ fn row(
         Stage::MutexLock { m } => mutex_lock(store, caller, m),
         Stage::MutexTrylock { m } => mutex_trylock(store, caller, m),
         Stage::MutexUnlock { m } => mutex_unlock(store, caller, m),
+        Stage::HoldSet { s, x, thread } => hold_set(store, caller, s, x, thread),
+        Stage::SpaceMakeHeld { x } => space_make_held(store, caller, x),
         _ => unreachable!(),
     }
 }
@@ -87,6 +109,7 @@ pub fn judge(
 ) -> Verdict
     requires built { IsRow stage.now }
     requires space { IsSpace store.now caller.who.space }
+    requires live { IsLive store.now caller.who }
     requires valid { IsValid (world store.now) }
     requires first { IsFirst stage.now (todo_at (world store.now) (place (path store.now) caller.who)) }
     ensures row { let c = caller_by (path store.now) caller given.now in

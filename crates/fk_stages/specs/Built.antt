@@ -7,11 +7,16 @@ use Rattle.fk_model.specs.Moves.{Known}
 abbrev pub built_codes : List ℕ
 built_codes =
     1 ∷
+    2 ∷
     3 ∷
     4 ∷
     5 ∷
     6 ∷
     7 ∷
+    11 ∷
+    12 ∷
+    13 ∷
+    14 ∷
     15 ∷
     16 ∷
     17 ∷
@@ -21,6 +26,8 @@ built_codes =
     21 ∷
     22 ∷
     23 ∷
+    64 ∷
+    65 ∷
     []
 
 -- the moves that are built: those of users and porters that these calls make, and none of native servers

@@ -24,7 +24,30 @@ pub use registers::words;
 fn is_built_code(code: u64) -> bool
     ensures { result ≡ built.calls code }
 {
-    matches!(code, 1 | 3 | 4 | 5 | 6 | 7 | 15 | 16 | 17 | 18 | 19 | 20 | 21 | 22 | 23)
+    matches!(
+        code,
+        1 | 2
+            | 3
+            | 4
+            | 5
+            | 6
+            | 7
+            | 11
+            | 12
+            | 13
+            | 14
+            | 15
+            | 16
+            | 17
+            | 18
+            | 19
+            | 20
+            | 21
+            | 22
+            | 23
+            | 64
+            | 65
+    )
 }
 
 /// The stages that the registers name. None exactly where the first register holds the code of no
