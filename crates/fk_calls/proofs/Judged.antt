@@ -260,6 +260,16 @@ free_there w x free = by (w.body x) free
     by None free = absurd (cc)
     by (Some b) free = refl
 
+-- and so is a free porter
+pub porter_there : (w : World) (x : Path) → is_free_porter_at w x ≡ true → IsSome (kind_there w x)
+unfolding is_free_porter_at kind_there
+porter_there w x free = by (w.body x) free
+  where
+    by : (b : Option Body) →
+        holds (λ (t : Thread). is_porter t.mode && is_unheld w (parent x)) (and_then thread_of b) ≡ true → is_some (option_map kind_of b) ≡ true
+    by None free = absurd (cc)
+    by (Some b) free = refl
+
 pub if_ok : {A B : Type 0} {P Q : A → Type 0} → (r : Result A B) → ((a : A) → P a → Q a) → IfOk r P → IfOk r Q
 if_ok (Ok a) f h = f a h
 if_ok (Err e) f h = tt

@@ -4,7 +4,7 @@ ghost use Rattle.fk_model.specs.Moves.{todo_known};
 ghost use Rattle.fk_stages.specs.Built.{built};
 ghost use Rattle.fk_store.specs.Paths.{path, place};
 ghost use Rattle.fk_store.specs.Threads.{todo_at};
-ghost use Rattle.fk_store.specs.World.{world, IsLive, IsSpace};
+ghost use Rattle.fk_store.specs.World.{world, IsSpace};
 ghost use Rattle.fk_calls.specs.Doings.{IsDoing, is_free_porter_at, first_of};
 
 use fk_model::{Mode, Stage, Todo, Who};
@@ -57,7 +57,6 @@ fn first_stage(registers: &[u64; 16]) -> Option<Stage>
 pub fn is_free_porter(store: &Store, who: Who) -> bool
     ensures free { result ≡ is_free_porter_at (world store.now) (place (path store.now) who) }
     ensures space { result ≡ true → IsSpace store.now who.space }
-    ensures live { result ≡ true → IsLive store.now who }
     ensures idle { result ≡ true → todo_at (world store.now) (place (path store.now) who) ≡ [] }
 {
     match store.thread(who) {

@@ -1,8 +1,10 @@
 use Rattle.std.proofs.Common.{sym, subst, arith}
 use Rattle.fk_model.specs.declared.moves.Ask.TheVariants as asks
+use Rattle.fk_store.specs.Paths.{path, place}
+use Rattle.fk_store.specs.World.{world}
 use Rattle.fk_calls.specs.Judgements.{IsJudged}
 use Rattle.fk_calls.proofs.BuiltCalls.{row_built}
-use Rattle.fk_calls.proofs.Judged.{porter, held_porter, unbuilt_porter, porter_judged}
+use Rattle.fk_calls.proofs.Judged.{porter, held_porter, unbuilt_porter, porter_judged, porter_there}
 use Rattle.fk_calls.proofs.judging.judge_porter.Goals as goal
 
 pub returns-then-not-is_free_porter-clause-never : goal.returns-then-not-is_free_porter-clause-never
@@ -13,6 +15,9 @@ returns-then-not-is_built-clause-never c = unbuilt_porter _ _ _ _ _ _ (cc) (cc)
 
 pub judge-requires-clause-built : goal.judge-requires-clause-built
 judge-requires-clause-built c = row_built _ (cc)
+
+pub judge-requires-clause-live : goal.judge-requires-clause-live
+judge-requires-clause-live c = porter_there (world c.args.store.now) (place (path c.args.store.now) c.args.m.now.who) (cc)
 
 pub returns-clause-judged : goal.returns-clause-judged
 returns-clause-judged c =

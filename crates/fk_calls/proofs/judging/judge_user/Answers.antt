@@ -1,6 +1,8 @@
 use Rattle.std.proofs.Common.{[], sym, subst}
+use Rattle.fk_store.specs.Paths.{path, place}
+use Rattle.fk_store.specs.World.{world}
 use Rattle.fk_calls.specs.Judgements.{IsJudged}
-use Rattle.fk_calls.proofs.Judged.{user, held_user, instruction_judged, stage_judged}
+use Rattle.fk_calls.proofs.Judged.{user, held_user, instruction_judged, stage_judged, free_there}
 use Rattle.fk_model.specs.declared.moves.Ask.TheVariants as asks
 use Rattle.fk_calls.proofs.judging.judge_user.Goals as goal
 
@@ -17,3 +19,6 @@ returns-in-Stage-clause-judged c =
     c.args.m.now asks.Run (record { caller = user c.args.m.now.who; chooses = chosen; verdict = c.judge-in-Stage.result })) (sym c.chooses.ensures)
     (stage_judged c.args.store.now c.args.m.now c.in-Stage.stage
     c.judge-in-Stage.result (cc) c.in-Stage.ensures c.judge-in-Stage.ensures.row c.judge-in-Stage.ensures.fits c.judge-in-Stage.ensures.sure)
+
+pub judge-requires-in-Stage-clause-live : goal.judge-requires-in-Stage-clause-live
+judge-requires-in-Stage-clause-live c = free_there (world c.args.store.now) (place (path c.args.store.now) c.args.m.now.who) (cc)
