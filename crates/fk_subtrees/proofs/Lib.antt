@@ -1,3 +1,4 @@
 pub mod Apart
 pub mod FewSlots
+pub mod HeldBy
 pub mod Listed

@@ -47,6 +47,10 @@ pages_of = numbered (1 ∷ []) 1000 2 ∷ numbered (1 ∷ []) 1000 255 ∷ numbe
 unfoldable pub full_of_all : Option Ptr → World
 full_of_all holder = world_of (objects_of holder) pages_of
 
+-- held by the porter, which has this in its scratch
+unfoldable pub held_with : Body → World
+held_with b = world_of ((240 ∷ [], b) ∷ objects_of (Some (At nesters_porter))) pages_of
+
 -- with one object more, and with one page more
 unfoldable pub with_object : Path → Body → World
 with_object x b = world_of ((x, b) ∷ objects_of None) pages_of
@@ -66,5 +70,5 @@ abbrev pub nesters_window : Body
 nesters_window = Mapping (record { first = 8; count = 1; offset = 0; write = true; region = At (within 7) })
 
 unfoldable pub premises : Unit {0}
-unfolding machine seen_by cut open_place full_of_all with_object with_one_page
+unfolding machine seen_by cut open_place full_of_all held_with with_object with_one_page
 premises = tt

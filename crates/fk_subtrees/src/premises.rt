@@ -2,18 +2,19 @@
 //! and pages, while a porter holds it and while nobody does.
 #![tactic(auto, unfolding(crate::specs::Premises::premises))]
 
-ghost use Rattle.std.specs.Prelude.{Some, None, [], ◌∷◌, true, replicate};
+ghost use Rattle.std.specs.Prelude.{Some, None, [], ◌∷◌, true, false, replicate};
 ghost use Rattle.fk_model.specs.Places.Ptr.{At, Out, Far};
 ghost use Rattle.fk_model.specs.Objects.Mode.{Native};
-ghost use Rattle.fk_model.specs.Objects.Body.{Port, Reference};
+ghost use Rattle.fk_model.specs.Objects.Body.{Port, Reference, Mutex};
 ghost use Rattle.fk_model.specs.Valid.{IsPaged};
 ghost use Rattle.fk_model.specs.Whole.{IsWhole, IsSavable};
 ghost use Rattle.fk_model.specs.Cut.{IsPlain};
 ghost use Rattle.fk_model.specs.Closed.{IsClosed};
+ghost use Rattle.fk_frozen.specs.Holding.{IsHolding};
 ghost use Rattle.fk_further.specs.ClosedLaws.{IsUncut, IsUsersAlone};
 ghost use Rattle.fk_further.specs.Strangers.{HasNoWindow};
 ghost use Rattle.fk_worked.specs.Worked.{thread_in_mode};
-ghost use Rattle.fk_subtrees.specs.Premises.{nesters_porter, within, full_of_all, with_object, with_one_page, served_within, fault_within, nesters_window};
+ghost use Rattle.fk_subtrees.specs.Premises.{nesters_porter, within, full_of_all, held_with, with_object, with_one_page, served_within, fault_within, nesters_window};
 
 /// It is valid, has few birth numbers and full pages.
 pub fn a_whole_world()
@@ -67,4 +68,16 @@ pub fn a_world_that_stands_alone()
     ensures far { IsUncut (with_object (within 13) (Reference Far)) → ⊥ }
     ensures out { IsUncut (with_object (within 13) (Reference (Out 9))) → ⊥ }
     ensures window { HasNoWindow (with_object (0 ∷ []) nesters_window) [] 1 → ⊥ }
+{}
+
+/// A porter holds the subtree with a reference into it in its scratch, or one to what the subtree leads to;
+/// not with another object there, nor where another or nobody holds it, nor beneath another's hold.
+pub fn a_porter_that_holds()
+    ensures inside { IsHolding [] 1 (held_with (Reference (At (within 5)))) }
+    ensures led_to { IsHolding [] 1 (held_with (Reference (At (9 ∷ [])))) }
+    ensures none { IsHolding [] 1 (full_of_all (Some (At nesters_porter))) }
+    ensures mutex { IsHolding [] 1 (held_with (Mutex false)) → ⊥ }
+    ensures nobody { IsHolding [] 1 (full_of_all None) → ⊥ }
+    ensures another { IsHolding [] 1 (full_of_all (Some (At (0 ∷ [])))) → ⊥ }
+    ensures deeper { IsHolding (1 ∷ []) 6 (held_with (Reference (At (within 5)))) → ⊥ }
 {}
