@@ -3,6 +3,7 @@ pub mod Lists
 pub mod Pointers
 pub mod Destroyed
 pub mod Ready
+pub mod Recorded
 pub mod Renamed
 pub mod Spaces
 pub mod Following

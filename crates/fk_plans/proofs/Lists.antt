@@ -33,3 +33,10 @@ without_own w me c (d ∷ cs) h = (h.0, without_own w me c cs h.1)
 pub own_iff : {P : Type 0} (w : World) (me : Path) (c : Change) (cs : List Change) →
     IsAllowed w me c → (P ↔ AreAllowed w me cs) → P ↔ AreAllowed w me (cs ++ c ∷ [])
 own_iff w me c cs own h = ((λ p. with_own w me c own cs (h.0 p)), (λ q. h.1 (without_own w me c cs q)))
+
+-- the first of two lists
+pub first_taken : (n : ℕ) (xs ys : List ℕ) → length xs ≡ n → take n (xs ++ ys) ≡ xs
+first_taken zero [] ys long = refl
+first_taken (suc n) [] ys long = absurd (omega arith)
+first_taken zero (x ∷ xs) ys long = absurd (omega arith)
+first_taken (suc n) (x ∷ xs) ys long = ap (λ v. x ∷ v) (first_taken n xs ys (omega arith))

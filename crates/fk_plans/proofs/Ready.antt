@@ -28,6 +28,7 @@ use Rattle.fk_store.specs.Threads.{is_free_at}
 use Rattle.fk_store.specs.World.{world}
 use Rattle.fk_store.proofs.Freedom.{free_thread, free_itself, may_alter, IsPlain}
 use Rattle.fk_plans.proofs.Pointers.{held_iff, pointed_iff, removed_iff}
+use Rattle.fk_plans.proofs.Recorded.{sets_iff}
 use Rattle.fk_plans.proofs.Renamed.{renames_iff}
 use Rattle.fk_plans.proofs.Destroyed.{destroys_iff}
 use Rattle.fk_plans.proofs.Lists.{own_iff}
@@ -68,6 +69,7 @@ plain_iff w me x e plain = let test = not_iff (is_frozen_for w me x) in ((λ h. 
 deed_iff : (w v : World) (me : Path) (p : ℕ → Path) (d : Deed) → IsTrue (is_deed_allowed w me p d) ↔ IsAllowed w me (change_by p d v)
 deed_iff w v me p (deeds.Locks mutex locked) = plain_iff w me (place p mutex) (SetLocked locked) (record { changed = λ b. refl; made = refl })
 deed_iff w v me p (deeds.Points object to) = pointed_iff w me (place p object) (pointer_by p to)
+deed_iff w v me p (deeds.Records object to at) = not_iff (is_frozen_for w me (p to.0))
 deed_iff w v me p (deeds.Sends block) = not_iff (is_frozen_for w me (p block.to.0))
 deed_iff w v me p (deeds.Finishes thread) = plain_iff w me (place p thread) (Finish []) (record { changed = λ b. refl; made = refl })
 deed_iff w v me p (deeds.Passes client turn) = plain_iff w me (place p client) (PassTurn turn) (record { changed = λ b. refl; made = refl })
@@ -261,6 +263,8 @@ module _ (m : Contents) (c : Caller) (words : List ℕ) (free : c.is_porter ≡ 
   verdict_iff verdicts.Waits fits = ((λ h. absurd (cc)), (λ h. absurd h))
   verdict_iff (verdicts.Done plan answers) fits = done_iff _ _ _ (plan_iff (world m) me (path m) words plan fits.0.1)
   verdict_iff (verdicts.Shows plan space page) fits = done_iff _ _ _ (plan_iff (world m) me (path m) words plan fits.2.1)
+  verdict_iff (verdicts.ShowsRecord object) fits = done_iff true [] _ ((λ h. tt), (λ h. refl))
+  verdict_iff (verdicts.Sets object from) fits = done_iff true _ [] (sets_iff (world m) me _ (place (path m) object) _ fits.0 ((world m).body (place (path m) object)))
   verdict_iff (verdicts.Renames object slot) fits = renames_iff m c words free object slot fits
   verdict_iff (verdicts.Destroys object last) fits = destroys_iff m c words free object last
   verdict_iff (verdicts.Goes plan) fits = plan_iff (world m) me (path m) words plan fits.1
@@ -350,6 +354,8 @@ module _ (m : Contents) (c : Caller) (words : List ℕ) (free : c.is_porter ≡ 
   may_pick_is chooses pick verdicts.Waits fits = refl
   may_pick_is chooses pick (verdicts.Done plan answers) fits = may_pick_done chooses pick _ _
   may_pick_is chooses pick (verdicts.Shows plan space page) fits = may_pick_done chooses pick _ _
+  may_pick_is chooses pick (verdicts.ShowsRecord object) fits = may_pick_done chooses pick _ _
+  may_pick_is chooses pick (verdicts.Sets object from) fits = may_pick_done chooses pick _ _
   may_pick_is chooses pick (verdicts.Renames object slot) fits = may_pick_renamed chooses pick (place (path m) object) slot
   may_pick_is chooses pick (verdicts.Destroys object last) fits = may_pick_destroyed chooses pick (place (path m) object) last
   may_pick_is chooses pick (verdicts.Goes plan) fits = ap (λ b. chooses || b) (none_picked pick)

@@ -1,3 +1,4 @@
+pub mod Recordings
 pub mod Plans
 pub mod Renames
 pub mod Destroys

@@ -1,5 +1,5 @@
 -- Plans: the changes that a plan makes.
-use Rattle.std.specs.Prelude.{◌≡◌, ℕ, true, List, [], ◌∷◌, Option, Some, None, option_map, IsSome, ⊤}
+use Rattle.std.specs.Prelude.{◌≤◌, ◌+◌, ◌≡◌, ℕ, true, List, [], ◌∷◌, Option, Some, None, option_map, IsSome, ⊤}
 use Rattle.fk_model.specs.declared.names.Who.{Who}
 use Rattle.fk_model.specs.declared.stage.Stage.TheVariants.{MutexLock}
 use Rattle.fk_model.specs.ObjectRows.{new_object}
@@ -7,12 +7,14 @@ use Rattle.fk_model.specs.Outcomes as outcomes
 use Rattle.fk_model.specs.Places.{Path, Ptr}
 use Rattle.fk_model.specs.Places.Ptr.{At}
 use Rattle.fk_model.specs.Reach.{words_at}
+use Rattle.fk_model.specs.TransferRows.{overwritten}
 use Rattle.fk_model.specs.Valid.{birth_at, kind_there}
 use Rattle.fk_model.specs.World.{World, Change, apply}
 use Rattle.fk_model.specs.World.Change.{Alter, MakeSpace, PutPage, DropPage}
 use Rattle.fk_model.specs.World.Edit.{SetLocked, SetPointer, SetHolder, SetStops, Replace, CountMoved, Shift, End, Finish, PassTurn, SetTalk, SetFault}
 use Rattle.fk_store.specs.Bodies.{pointer_by}
 use Rattle.fk_store.specs.Named.{Each, OnPointer}
+use Rattle.fk_records.specs.Settings.{record_there}
 use Rattle.fk_store.specs.Paths.{place}
 use Rattle.fk_threads.specs.Shifted.{IsLow}
 use Rattle.fk_threads.specs.Sleepers.{IsAsleep}
@@ -38,6 +40,8 @@ abbrev pub change_by : (ℕ → Path) → Deed → World → Change
 change_by p (deeds.Locks mutex locked) w = Alter (place p mutex) (SetLocked locked)
 change_by p (deeds.Points object to) w = Alter (place p object) (SetPointer (pointer_by p to))
 change_by p (deeds.Wakes thread mutex) w = Alter (place p thread) (Replace (MutexLock mutex))
+change_by p (deeds.Records object to at) w =
+    PutPage (p to.0) to.1 (overwritten (words_at w (p to.0) to.1) at (record_there (w.body (place p object))))
 change_by p (deeds.Sends block) w = PutPage (p block.to.0) block.to.1 (block_page p w block)
 change_by p (deeds.Counts client count) w = Alter (place p client) (CountMoved count)
 change_by p (deeds.Shifts thread count) w = Alter (place p thread) (Shift count)
@@ -82,6 +86,7 @@ abbrev pub IsDeed : (ℕ → Path) → World → Deed → Type 0
 IsDeed p w (deeds.Locks mutex locked) = ⊤
 IsDeed p w (deeds.Points object to) = OnPointer (λ other. IsSome (kind_there w (place p other))) to
 IsDeed p w (deeds.Wakes thread mutex) = IsAsleep w (place p thread) mutex
+IsDeed p w (deeds.Records object to at) = (at + 32 ≤ 64) × (birth_at w (p to.0) ≡ Some to.0) × IsSome (w.page (p to.0) to.1)
 IsDeed p w (deeds.Sends block) = IsBlock p w block
 IsDeed p w (deeds.Counts client count) = ⊤
 IsDeed p w (deeds.Shifts thread count) = IsLow w (place p thread) count

@@ -1,6 +1,7 @@
 -- Verdicts: the outcome that a verdict stands for, and what a judge promises.
 use Rattle.std.specs.Prelude.{◌≡◌, ℕ, Bool, true, false, List, [], ◌∷◌, take, drop, ◌+◌, ◌≤◌, if◌then◌else◌, Option, Result, Ok, Err, IfOk, IsSome, ⊤}
 use Rattle.fk_model.specs.declared.names.Who.{Who}
+use Rattle.fk_model.specs.Holds.{is_frozen_for}
 use Rattle.fk_model.specs.Moves.{closed, with_pick}
 use Rattle.fk_model.specs.Outcomes as outcomes
 use Rattle.fk_model.specs.Outcomes.{Outcome, Said, done, telling}
@@ -28,7 +29,11 @@ use Rattle.fk_plans.specs.declared.plan.Verdict.TheVariants as verdicts
 use Rattle.fk_plans.specs.Effects.{effect_by, of_running, is_running, IsEffect}
 use Rattle.fk_plans.specs.Destroys.{destroyed, IsDying}
 use Rattle.fk_plans.specs.Plans.{caller_by, changes_by, IsGiver, IsPlan, IsSure}
+use Rattle.fk_plans.specs.Recordings.{record_words, IsRecord}
 use Rattle.fk_plans.specs.Renames.{renames, IsMoving}
+use Rattle.fk_plans.specs.declared.recording.Record.{Record}
+use Rattle.fk_plans.specs.declared.recording.Record.TheVariants as records
+use Rattle.fk_records.specs.Settings.{record_there, sets_at}
 use Rattle.fk_model.specs.Searches.{thread_at}
 
 -- what a native server is told of words of a page
@@ -58,6 +63,8 @@ outcome_by w p c (verdicts.Refused status) = Refused status
 outcome_by w p c verdicts.Waits = Waits
 outcome_by w p c (verdicts.Done plan answers) = done c (changes_by p c.words plan w) (listed answers)
 outcome_by w p c (verdicts.Shows plan space page) = done c (changes_by p c.words plan w) (words_at w (p space) page)
+outcome_by w p c (verdicts.ShowsRecord object) = done c [] (record_there (w.body (place p object)))
+outcome_by w p c (verdicts.Sets object from) = done c (sets_at w (p object.space) (place p object) (record_words p c.words from w)) []
 outcome_by w p c (verdicts.Renames object slot) = renames c (place p object) slot
 outcome_by w p c (verdicts.Destroys object last) = destroyed w c (place p object) last
 outcome_by w p c (verdicts.Goes plan) = Goes (changes_by p c.words plan w) Nothing
@@ -87,6 +94,10 @@ abbrev pub AreAnswers : Contents → Caller → Plan → Answers → Type 0
 AreAnswers m c plan answers = (given : List ℕ) →
     LeaveArguments answers (todo_at (apply_all (changes_by (path m) given plan (world m)) (world m)) (place (path m) c.who))
 
+-- its words are there, and a porter alone gives words
+abbrev pub IsRecordOf : Contents → Caller → Record → Type 0
+IsRecordOf m c from = IsRecord (path m) (world m) from × (from ≡ records.Given → c.is_porter ≡ true)
+
 -- a user alone has instructions and faults, and tells of words, a porter alone gets a page
 abbrev pub IsVerdict : Contents → Caller → Verdict → Type 0
 IsVerdict m c (verdicts.Runs e) = (c.is_porter ≡ false) × (is_running (thread_at (world m) (place (path m) c.who)) ≡ true) × IsEffect (path m) (world m) e
@@ -94,6 +105,9 @@ IsVerdict m c (verdicts.Refused status) = ⊤
 IsVerdict m c verdicts.Waits = ⊤
 IsVerdict m c (verdicts.Done plan answers) = IsPlanOf m c plan × AreAnswers m c plan answers
 IsVerdict m c (verdicts.Shows plan space page) = (c.is_porter ≡ true) × IsSome ((world m).page (path m space) page) × IsPlanOf m c plan
+IsVerdict m c (verdicts.ShowsRecord object) = c.is_porter ≡ true
+IsVerdict m c (verdicts.Sets object from) =
+    (is_frozen_for (world m) (place (path m) c.who) (place (path m) object) ≡ false) × IsRecordOf m c from
 IsVerdict m c (verdicts.Renames object slot) = IsMoving m object slot
 IsVerdict m c (verdicts.Destroys object last) = IsDying m object
 IsVerdict m c (verdicts.Goes plan) = IsPlanOf m c plan

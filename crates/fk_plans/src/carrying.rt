@@ -7,13 +7,14 @@ ghost use Rattle.fk_store.specs.Moves.{said_by};
 ghost use Rattle.fk_store.specs.Paths.{path, place};
 ghost use Rattle.fk_store.specs.World.{world, IsLive};
 ghost use Rattle.fk_plans.specs.Plans.{caller_by, change_by, changes_by, IsDeed, IsSure};
-ghost use Rattle.fk_plans.specs.Verdicts.{outcome_by, news_by, tells, IsNews, IsPlanOf, IsVerdict, IsSureVerdict};
+ghost use Rattle.fk_plans.specs.Verdicts.{outcome_by, news_by, tells, IsNews, IsPlanOf, IsRecordOf, IsVerdict, IsSureVerdict};
 
 use crate::blocks::{copy_page, send_block};
 use crate::destroying::destroy;
 use crate::instructions::run;
 use crate::making::{make, make_held};
 use crate::plan::{Caller, Deed, News, Plan, Verdict};
+use crate::recording::{Record, set_record, told_record, write_record};
 use crate::renaming::rename;
 use crate::sources::give;
 use crate::telling::{said_of, told, told_page};
@@ -32,6 +33,7 @@ fn carry(store: &mut Store, deed: &Deed)
         Deed::Locks { mutex, locked } => store.set_locked(mutex, locked),
         Deed::Points { object, to } => store.point(object, to),
         Deed::Wakes { thread, mutex } => wake(store, thread, mutex),
+        Deed::Records { object, to, at } => write_record(store, object, to, at),
         Deed::Sends(block) => send_block(store, block),
         Deed::Counts { client, count } => count_moved(store, client, count),
         Deed::Shifts { thread, count } => advance(store, thread, u64::from(count)),
@@ -140,6 +142,10 @@ pub fn carry_out(
             carry_all(store, caller, given, plan)?;
             return Ok(said);
         }
+        Verdict::ShowsRecord { object } => return Ok(told_record(store, *object)),
+        Verdict::Sets { object, from } => {
+            return Ok(finish_set(store, caller, given, *object, *from));
+        }
         Verdict::Renames { object, slot } => return Ok(rename(store, caller, *object, *slot)),
         Verdict::Destroys { object, last } => return Ok(destroy(store, caller, *object, *last)),
         Verdict::Goes(plan) => carry_all(store, caller, given, plan)?,
@@ -151,6 +157,22 @@ pub fn carry_out(
         }
     }
     Ok(Said::Nothing)
+}
+
+/// Makes of an object what a record says, and then the caller's stage is done.
+fn finish_set(store: &mut Store, caller: Caller, given: &[u64], object: Who, from: Record) -> Said
+    requires fits { IsRecordOf store.old caller from }
+    requires given { caller.is_porter ≡ true → length given.now ≡ 64 }
+    ensures step { let c = caller_by (path store.old) caller given.now in
+        stepped (world store.old) (closed c (outcome_by (world store.old) (path store.old) c (Verdict.Sets object from)))
+        ≡ record { world = world store.new; said = said_by (path store.new) result } }
+{
+    set_record(store, given, object, from);
+    if caller.is_porter {
+        return told(OK, Answers::Nothing);
+    }
+    finish(store, caller.who, Answers::Nothing);
+    Said::Nothing
 }
 
 /// Does all of a plan, tells a native server, and then a user's stage may be done.

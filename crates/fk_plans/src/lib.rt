@@ -16,6 +16,7 @@ mod objects;
 mod plan;
 mod readers;
 mod readiness;
+mod recording;
 mod renaming;
 mod sources;
 mod telling;
@@ -30,5 +31,6 @@ pub use objects::{is_referable, kind_number, object_in, pointer_in, reference_in
 pub use plan::{Caller, Deed, Effect, News, Plan, Verdict, Words};
 pub use readers::{cond_in, last_slot, mutex_in, place, slot_for};
 pub use readiness::is_ready;
+pub use recording::Record;
 pub use sources::Source;
 pub use within::{above, is_beneath, is_within};

@@ -1,5 +1,5 @@
 //! What a stage reads of objects of any kind, and of references.
-ghost use Rattle.std.specs.Prelude.{◌≡◌, ◌≤◌, ℕ, List, OnOk, IfOk};
+ghost use Rattle.std.specs.Prelude.{◌≡◌, ◌≤◌, ℕ, List, Some, OnOk, IfOk};
 ghost use Rattle.std.specs.List.{list_any};
 ghost use Rattle.fk_model.specs.ObjectRows as rows;
 ghost use Rattle.fk_model.specs.Objects.{kind_of, number_of_kind, same_kind, reference_of};
@@ -9,7 +9,7 @@ ghost use Rattle.fk_model.specs.Readers.{anything};
 ghost use Rattle.fk_model.specs.StateRows.{referable};
 ghost use Rattle.fk_store.specs.Bodies.{body_by, pointer_by};
 ghost use Rattle.fk_store.specs.Named.{OnNamed, OnPointer};
-ghost use Rattle.fk_store.specs.Paths.{path};
+ghost use Rattle.fk_store.specs.Paths.{path, place};
 ghost use Rattle.fk_store.specs.World.{world, IsLive};
 ghost use Rattle.fk_plans.specs.Plans.{caller_by};
 ghost use Rattle.fk_plans.specs.Verdicts.{mapped};
@@ -25,6 +25,8 @@ use fk_store::Store;
 pub fn object_in(store: &Store, caller: Caller, space: u32, k: u64) -> Result<&Body, u8>
     ensures body { (words : List ℕ) → mapped (λ b. body_by (path store.now) b.now) result
         ≡ readers.object_in (world store.now) (caller_by (path store.now) caller words) anything (path store.now space) k }
+    ensures there { IfOk result (λ b. (world store.now).body (place (path store.now) (record { space = space; slot = k }))
+        ≡ Some (body_by (path store.now) b.now)) }
     ensures slot { OnOk result (k ≤ 255) }
     ensures live { OnOk result (IsLive store.now (record { space = space; slot = k })) }
     ensures named { IfOk result (λ b. OnNamed (IsLive store.now) b.now) }

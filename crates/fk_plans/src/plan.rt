@@ -1,5 +1,6 @@
 //! What a stage comes to.
 use crate::blocks::Block;
+use crate::recording::Record;
 use crate::sources::Source;
 use fk_model::{Ptr, Turn, Who};
 use fk_threads::Answers;
@@ -22,6 +23,8 @@ pub enum Deed {
     Wakes { thread: Who, mutex: u64 },
     /// Words of a page go to a page that is there.
     Sends(Block),
+    /// The record of an object goes to a page that is there, from a word on.
+    Records { object: Who, to: (u32, u8), at: u8 },
     /// The talk of a client has moved so many words more.
     Counts { client: Who, count: u8 },
     /// The first stage of a thread's call has moved so many words.
@@ -134,6 +137,11 @@ pub enum Verdict {
     Done(Plan, Answers),
     /// It does this, and then the stage of a porter is done, which gets the words of a page.
     Shows { plan: Plan, space: u32, page: u8 },
+    /// The stage of a porter is done, which gets the record of an object.
+    ShowsRecord { object: Who },
+    /// An object that isn't frozen for the caller becomes what a record says, if it takes the record,
+    /// and then the caller's stage is done.
+    Sets { object: Who, from: Record },
     /// An object gets another slot, and then the caller's stage is done; that of a thread that renames
     /// itself in its new slot.
     Renames { object: Who, slot: u8 },

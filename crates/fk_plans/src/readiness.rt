@@ -49,6 +49,7 @@ fn is_deed_allowed(store: &Store, me: Who, deed: &Deed) -> bool
                 && !store.leads_to_frozen(me, to)
         }
         Deed::Wakes { thread, .. } => !store.frozen_for(me, thread),
+        Deed::Records { to, .. } => !store.space_frozen_for(me, to.0),
         Deed::Sends(block) => !store.space_frozen_for(me, block.to.0),
         Deed::Counts { client, .. } => !store.frozen_for(me, client),
         Deed::Shifts { thread, .. } | Deed::Ends { thread, .. } | Deed::Stops { thread, .. } => {
@@ -109,7 +110,9 @@ fn is_verdict_allowed(store: &Store, caller: Caller, verdict: &Verdict) -> bool
         Verdict::Runs(
             Effect::Puts { .. } | Effect::Jumps { .. } | Effect::Halts { .. } | Effect::Enters,
         )
-        | Verdict::Refused(_) => true,
+        | Verdict::Refused(_)
+        | Verdict::ShowsRecord { .. }
+        | Verdict::Sets { .. } => true,
         Verdict::Waits => false,
         Verdict::Done(plan, _)
         | Verdict::Shows { plan, .. }
@@ -131,6 +134,8 @@ fn may_pick(chooses: bool, pick: Option<Who>, verdict: &Verdict) -> bool
         Verdict::Runs(_)
         | Verdict::Done(..)
         | Verdict::Shows { .. }
+        | Verdict::ShowsRecord { .. }
+        | Verdict::Sets { .. }
         | Verdict::Renames { .. }
         | Verdict::Destroys { .. }
         | Verdict::Goes(_)

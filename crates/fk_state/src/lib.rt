@@ -6,5 +6,7 @@
 
 mod fields;
 mod pointers;
+mod state;
 
 pub use pointers::{get_ptr, set_ptr};
+pub use state::{get_state, set_state};

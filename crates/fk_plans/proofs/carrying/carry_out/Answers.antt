@@ -17,3 +17,9 @@ returns-in-Tells-clause-step c =
     let fits = rw c.in-Tells.is at c.requires.fits in
     if_ok c.tell.result (λ said step. rw c.in-Tells.is (told_step (path c.args.store.now)
     c.args.caller.who c.args.caller.is_porter fits.0 c.args.given.now (world c.args.store.now) _ _ c.in-Tells.last _ step)) c.tell.ensures.step
+
+pub returns-in-ShowsRecord-clause-step : goal.returns-in-ShowsRecord-clause-step
+unfolding apply_all
+returns-in-ShowsRecord-clause-step c =
+    let porter = rw c.in-ShowsRecord.is at c.requires.fits in
+    rw (c.in-ShowsRecord.is, porter, c.told_record.ensures (path c.args.store.now)) refl
