@@ -32,7 +32,10 @@ fn shows(caller: Caller, object: Who, space: u32, page: u8, at: u8) -> Verdict
     ensures { result ≡ Verdict.Done (Plan.One (Deed.Records object (space, page) at)) Answers.Nothing }
 {
     let to = (space, page);
-    Verdict::Done(Plan::One(Deed::Records { object, to, at }), Answers::Nothing)
+    Verdict::Done(
+        Plan::One(Deed::Records { object, to, at }),
+        Answers::Nothing,
+    )
 }
 
 /// The record of an object goes to the caller: for a user to its memory, for a porter as its answer.
@@ -66,13 +69,7 @@ fn shows_to(store: &Store, caller: Caller, object: Who, address: u64) -> Result<
 /// The record of an object, as it is before, goes to the caller: for a user to an address of its
 /// memory that is a multiple of 32, for a porter as its answer. Anybody may read.
 #[tactic(auto, unfolding(fk_model::specs::StateRows::get_state))]
-pub fn get_state(
-    store: &Store,
-    caller: Caller,
-    s: u64,
-    x: u64,
-    address: u64,
-) -> Result<Verdict, u8>
+pub fn get_state(store: &Store, caller: Caller, s: u64, x: u64, address: u64) -> Result<Verdict, u8>
     requires space { IsSpace store.now caller.who.space }
     ensures row { Judges store.now caller result (λ w c. rows.get_state w c s x address) }
     ensures sure { IfOk result IsSureVerdict }
@@ -170,7 +167,14 @@ fn sets_from(
             };
             let first = at as usize;
             let from = Record::Page { space, page, at };
-            sets_record(store, caller, given, object, from, &words[first..first + 32])
+            sets_record(
+                store,
+                caller,
+                given,
+                object,
+                from,
+                &words[first..first + 32],
+            )
         }
         Reach::Missing {
             page,
