@@ -3,7 +3,7 @@ use Rattle.std.proofs.Common.{◌≡◌, ℕ, Bool, true, false, cond, eqb, List
 use Rattle.std.proofs.lemmas.Bool.{eqb-true}
 use Rattle.std.proofs.lemmas.Option.{same_Some}
 use Rattle.fk_model.specs.declared.stage.Stage.{Stage}
-use Rattle.fk_model.specs.declared.stage.Stage.TheVariants.{Create, Destroy, GetPtr, SetPtr, SpaceHold, SpaceRelease, HoldSet, SpaceMakeHeld, Rename, Search, Point, Clear, Locate, ThreadStop, ThreadGo, PageGive, PageTake, PageRead, PageNext, MutexLock, MutexTrylock, MutexUnlock}
+use Rattle.fk_model.specs.declared.stage.Stage.TheVariants.{Create, Destroy, GetState, SetState, GetPtr, SetPtr, SpaceHold, SpaceRelease, HoldSet, SpaceMakeHeld, Rename, Search, Point, Clear, Locate, ThreadStop, ThreadGo, PageGive, PageTake, PageRead, PageNext, MutexLock, MutexTrylock, MutexUnlock}
 use Rattle.fk_model.specs.Calls.{Call, calls, code_of, named_by, todo_of}
 use Rattle.fk_model.specs.Moves.{todo_known}
 use Rattle.fk_stages.specs.Built.{built}
@@ -52,6 +52,8 @@ pub row_built : (stage : Stage) → built.calls (code_of (stage ∷ [])) ≡ tru
 unfolding code_of
 row_built (Create s x kind) is = tt
 row_built (Destroy s x) is = tt
+row_built (GetState s x address) is = tt
+row_built (SetState s x address) is = tt
 row_built (GetPtr s x field reference) is = tt
 row_built (SetPtr s x field reference) is = tt
 row_built (SpaceHold s x) is = tt

@@ -3,7 +3,7 @@ use Rattle.std.specs.Prelude.{◌≡◌, Bool, true, false, List, [], ◌∷◌,
 use Rattle.fk_model.specs.declared.moves.Ask.{Ask}
 use Rattle.fk_model.specs.declared.moves.Ask.TheVariants as asks
 use Rattle.fk_model.specs.declared.stage.Stage.{Stage}
-use Rattle.fk_model.specs.declared.stage.Stage.TheVariants.{Create, Destroy, GetPtr, SetPtr, SpaceHold, SpaceRelease, HoldSet, Rename, Search, Point, Clear, Locate, ThreadStop, ThreadGo, PageGive, PageTake, PageRead, PageNext, SpaceMakeHeld, MutexLock, MutexTrylock, MutexUnlock}
+use Rattle.fk_model.specs.declared.stage.Stage.TheVariants.{Create, Destroy, GetState, SetState, GetPtr, SetPtr, SpaceHold, SpaceRelease, HoldSet, Rename, Search, Point, Clear, Locate, ThreadStop, ThreadGo, PageGive, PageTake, PageRead, PageNext, SpaceMakeHeld, MutexLock, MutexTrylock, MutexUnlock}
 use Rattle.fk_model.specs.Places.{Path}
 use Rattle.fk_model.specs.World.{World}
 use Rattle.fk_store.specs.Threads.{todo_at}
@@ -12,6 +12,8 @@ use Rattle.fk_store.specs.Threads.{todo_at}
 abbrev pub IsRow : Stage → Type 0
 IsRow (Create s x kind) = ⊤
 IsRow (Destroy s x) = ⊤
+IsRow (GetState s x address) = ⊤
+IsRow (SetState s x address) = ⊤
 IsRow (GetPtr s x field reference) = ⊤
 IsRow (SetPtr s x field reference) = ⊤
 IsRow (SpaceHold s x) = ⊤

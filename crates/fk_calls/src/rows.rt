@@ -1,5 +1,5 @@
 //! The match from a stage to its judge.
-ghost use Rattle.std.specs.Prelude.{◌≡◌, ℕ, List, false, IfOk};
+ghost use Rattle.std.specs.Prelude.{◌≡◌, ℕ, List, true, false, IfOk, length};
 ghost use Rattle.fk_model.specs.Moves as machine;
 ghost use Rattle.fk_model.specs.Moves.{allowed_row, stage_row};
 ghost use Rattle.fk_model.specs.Places.{Path};
@@ -21,7 +21,7 @@ use fk_spaces::{
     space_release, thread_go, thread_stop,
 };
 use fk_stages::code_of_stage;
-use fk_state::{get_ptr, set_ptr};
+use fk_state::{get_ptr, get_state, set_ptr, set_state};
 use fk_store::Store;
 use fk_sync::{mutex_lock, mutex_trylock, mutex_unlock};
 
@@ -45,6 +45,7 @@ fn row(
     requires live { IsLive store.now caller.who }
     requires valid { IsValid (world store.now) }
     requires first { IsFirst stage.now (todo_at (world store.now) (place (path store.now) caller.who)) }
+    requires given { caller.is_porter ≡ true → length given.now ≡ 64 }
     ensures row { JudgesGiven store.now caller given.now result (λ w c. stage_row w c (picked_by (path store.now) pick) stage.now) }
     ensures sure { takes_memory stage.now ≡ false → IfOk result IsSureVerdict }
 {
@@ -56,6 +57,8 @@ fn row(
         Stage::Point { s, x, s2, x2 } => point(store, caller, s, x, s2, x2),
         Stage::Clear { s, x } => clear(store, caller, s, x),
         Stage::Locate { reference, s } => locate(store, caller, reference, s),
+        Stage::GetState { s, x, addr } => get_state(store, caller, s, x, addr),
+        Stage::SetState { s, x, addr } => set_state(store, caller, given, s, x, addr),
         Stage::GetPtr {
             s,
             x,
@@ -112,6 +115,7 @@ pub fn judge(
     requires live { IsLive store.now caller.who }
     requires valid { IsValid (world store.now) }
     requires first { IsFirst stage.now (todo_at (world store.now) (place (path store.now) caller.who)) }
+    requires given { caller.is_porter ≡ true → length given.now ≡ 64 }
     ensures row { let c = caller_by (path store.now) caller given.now in
         outcome_by (world store.now) (path store.now) c result ≡ allowed_row (world store.now) c (picked_by (path store.now) pick) stage.now }
     ensures fits { IsVerdict store.now caller result }

@@ -32,6 +32,8 @@ fn is_built_code(code: u64) -> bool
             | 5
             | 6
             | 7
+            | 9
+            | 10
             | 11
             | 12
             | 13

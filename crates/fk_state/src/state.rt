@@ -1,6 +1,6 @@
 //! The stages that read and set the records of objects.
-ghost use Rattle.std.specs.Prelude.{◌≡◌, ◌%◌, ◌≤◌, ℕ, List, true, false, Some, IsSome, IfOk, length};
-ghost use Rattle.fk_model.specs.Holds.{is_frozen_for};
+ghost use Rattle.std.specs.Prelude.{◌≡◌, ◌==◌, ◌%◌, ◌≤◌, ℕ, List, true, false, Some, IsSome, IfOk, length};
+ghost use Rattle.fk_model.specs.Holds.{is_decided_by, is_frozen_for};
 ghost use Rattle.fk_model.specs.Objects as objects;
 ghost use Rattle.fk_model.specs.Places.{Path};
 ghost use Rattle.fk_model.specs.Reach.{words_at};
@@ -20,11 +20,19 @@ use fk_records::takes_state;
 use fk_store::{Reach, Store};
 use fk_threads::Answers;
 
-/// An address at which no record of a user's can stand.
-fn is_bad_record_address(caller: Caller, address: u64) -> bool
-    ensures { (p : ℕ → Path) (words : List ℕ) → result ≡ rows.is_bad_record_address (caller_by p caller words) address }
+/// A record of a user's can stand at an address.
+fn is_record_address(address: u64) -> bool
+    ensures exact { result ≡ (address % 32 == 0) }
+    ensures multiple { result ≡ true → address % 32 ≡ 0 }
 {
-    !caller.is_porter && address % RECORD_WORDS != 0
+    address % RECORD_WORDS == 0
+}
+
+/// Where a word stands in its page.
+fn word_of(address: u64) -> u8
+    ensures { result ≡ address % 64 }
+{
+    (address % PAGE_WORDS) as u8
 }
 
 /// The record of an object goes to a page of the caller.
@@ -50,7 +58,7 @@ fn shows_to(store: &Store, caller: Caller, object: Who, address: u64) -> Result<
     if caller.is_porter {
         return Ok(Verdict::ShowsRecord { object });
     }
-    let at = (address % PAGE_WORDS) as u8;
+    let at = word_of(address);
     match store.reach_word(caller.who.space, address, true) {
         Reach::Home { space, page } => Ok(shows(caller, object, space, page, at)),
         Reach::Missing {
@@ -76,7 +84,8 @@ pub fn get_state(store: &Store, caller: Caller, s: u64, x: u64, address: u64) ->
 {
     let space = place(store, caller, s)?;
     object_in(store, caller, space, x)?;
-    if is_bad_record_address(caller, address) {
+    let is_bad_address = !caller.is_porter && !is_record_address(address);
+    if is_bad_address {
         return Err(BADADDRESS);
     }
     let slot = x as u8;
@@ -93,13 +102,23 @@ fn is_native(body: &Body) -> bool
     }
 }
 
+/// The caller decides over an object that is frozen.
+fn decides(store: &Store, caller: Caller, object: Who) -> bool
+    ensures { result ≡ is_decided_by (world store.now) (place (path store.now) caller.who) (place (path store.now) object) }
+{
+    match store.decider(object) {
+        None => false,
+        Some(holder) => holder == caller.who,
+    }
+}
+
 /// A thread is stopped, or frozen by the caller; any other object is still.
 fn is_still(store: &Store, caller: Caller, object: Who, body: &Body) -> bool
     ensures { (words : List ℕ) → result ≡ rows.is_still (world store.now) (caller_by (path store.now) caller words)
         (place (path store.now) object) (body_by (path store.now) body.now) }
 {
     match body {
-        Body::Thread(thread) => thread.stops != 0 || store.decider(object) == Some(caller.who),
+        Body::Thread(thread) => thread.stops != 0 || decides(store, caller, object),
         _ => true,
     }
 }
@@ -121,7 +140,8 @@ fn sets_record(
     ensures outcome { (b : objects.Body) → (world store.now).body (place (path store.now) object) ≡ Some b →
         let c = caller_by (path store.now) caller given.now in
         outcome_of (world store.now) (path store.now) c result
-        ≡ rows.sets_record (world store.now) c (path store.now object.space) (place (path store.now) object) b words.now }
+        ≡ rows.sets_record (world store.now) c (path store.now object.space) (place (path store.now) object) b
+        (record_words (path store.now) given.now from (world store.now)) }
     ensures fits { IfOk result (IsVerdict store.now caller) }
     ensures sure { IfOk result IsSureVerdict }
 {
@@ -136,6 +156,43 @@ fn sets_record(
         return Err(BADSTATE);
     }
     Ok(Verdict::Sets { object, from })
+}
+
+/// The record stands at an address of the caller's memory, in a page that is there.
+fn sets_from_page(
+    store: &Store,
+    caller: Caller,
+    given: &[u64],
+    object: Who,
+    home: (u32, u8),
+    address: u64,
+) -> Result<Verdict, u8>
+    requires page { IsSome ((world store.now).page (path store.now home.0) home.1) }
+    requires address { address % 32 ≡ 0 }
+    requires unfrozen { is_frozen_for (world store.now) (place (path store.now) caller.who) (place (path store.now) object) ≡ false }
+    ensures outcome { (b : objects.Body) → (world store.now).body (place (path store.now) object) ≡ Some b →
+        let c = caller_by (path store.now) caller given.now in
+        outcome_of (world store.now) (path store.now) c result
+        ≡ rows.sets_record (world store.now) c (path store.now object.space) (place (path store.now) object) b
+        (rows.record_at (words_at (world store.now) (path store.now home.0) home.1) address) }
+    ensures fits { IfOk result (IsVerdict store.now caller) }
+    ensures sure { IfOk result IsSureVerdict }
+{
+    let (space, page) = home;
+    let at = word_of(address);
+    let Some(words) = store.page(space, page) else {
+        unreachable!()
+    };
+    let first = at as usize;
+    let from = Record::Page { space, page, at };
+    sets_record(
+        store,
+        caller,
+        given,
+        object,
+        from,
+        &words[first..first + 32],
+    )
 }
 
 /// The record stands in the caller's memory, or is what a porter gives.
@@ -161,20 +218,7 @@ fn sets_from(
     }
     match store.reach_word(caller.who.space, address, false) {
         Reach::Home { space, page } => {
-            let at = (address % PAGE_WORDS) as u8;
-            let Some(words) = store.page(space, page) else {
-                unreachable!()
-            };
-            let first = at as usize;
-            let from = Record::Page { space, page, at };
-            sets_record(
-                store,
-                caller,
-                given,
-                object,
-                from,
-                &words[first..first + 32],
-            )
+            sets_from_page(store, caller, given, object, (space, page), address)
         }
         Reach::Missing {
             page,
@@ -216,7 +260,8 @@ pub fn set_state(
     if is_native(body) {
         return Err(DENIED);
     }
-    if is_bad_record_address(caller, address) {
+    let is_bad_address = !caller.is_porter && !is_record_address(address);
+    if is_bad_address {
         return Err(BADADDRESS);
     }
     sets_from(store, caller, given, object, address)
