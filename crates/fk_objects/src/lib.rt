@@ -1,4 +1,4 @@
-//! Objects: what the stages come to that make, rename and find them, and that set references.
+//! Objects: what the stages come to that make, destroy, rename and find them, and set references.
 //!
 //! It stands on `fk_plans`, and promises of each stage that its verdict stands for the outcome of
 //! the stage's row in the abstract machine, and can be carried out. `create` alone wants memory.
