@@ -1,0 +1,9 @@
+pub mod Movers
+pub mod Statuses
+pub mod Pages
+pub mod Correct
+pub mod Setting
+pub mod Prompt
+pub mod Holding
+pub mod Destroying
+pub mod brief

@@ -1,0 +1,4 @@
+pub mod Outcomes
+pub mod Rows
+pub mod Objects
+pub mod Moves

@@ -1,0 +1,78 @@
+-- Correctness: the state that a thread gets of an object is the object's record, and to set that record again changes
+-- nothing.
+use Rattle.std.specs.Prelude.{◌≡◌, ℕ, Bool, true, false, List, [], ◌∷◌, Ok}
+use Rattle.fk_model.specs.declared.stage.Stage.TheVariants.{GetState, SetState}
+use Rattle.fk_model.specs.declared.statuses.status.TheConstants.{OK}
+use Rattle.fk_model.specs.Places.{Path}
+use Rattle.fk_model.specs.Objects.{Body}
+use Rattle.fk_model.specs.World.{World, apply}
+use Rattle.fk_model.specs.World.Change.{Alter}
+use Rattle.fk_model.specs.World.Edit.{Finish}
+use Rattle.fk_model.specs.Reach.{reach_word, words_at}
+use Rattle.fk_model.specs.Reach.Reach.{Home}
+use Rattle.fk_model.specs.Outcomes.{Caller}
+use Rattle.fk_model.specs.Outcomes.Said.{Answered}
+use Rattle.fk_model.specs.Readers.{object_in, anything, space_argument}
+use Rattle.fk_model.specs.LinkRows.{user_at}
+use Rattle.fk_model.specs.Records.{record_of}
+use Rattle.fk_model.specs.StateRows.{record_at}
+use Rattle.fk_model.specs.Shapes.{IsShaped}
+use Rattle.fk_model.specs.Moves.{Known, porter_at}
+use Rattle.fk_whole.specs.Runnable.{HasRegisters, IsRunnable}
+use Rattle.fk_prompt.specs.Callers.{IsUserAt, IsPorterFor, users_step, porters_step, is_done}
+
+-- a caller names this object, by a slot of a place
+pub record IsNamed (w : World) (c : Caller) (s x : ℕ) (b : Body) : Type 0 where
+  pub space : Path
+  pub place : space_argument w c s ≡ Ok space
+  pub object : object_in w c anything space x ≡ Ok b
+
+-- the words at an address of a caller, which its space reaches in a world, are a record of this object in another one
+pub record HoldsRecord (reaching w : World) (space : Path) (address : ℕ) (write : Bool) (b : Body) : Type 0 where
+  pub in_space : Path
+  pub page : ℕ
+  pub reached : reach_word reaching space address write ≡ Home in_space page
+  pub words : record_at (words_at w in_space page) address ≡ record_of b
+
+-- ---- get_state
+
+-- what a caller gets is the record of the object that it names, as it was before
+pub record ShowsRecord (w v : World) (c : Caller) (s x address : ℕ) : Type 0 where
+  pub body : Body
+  pub named : IsNamed w c s x body
+  pub shown : HoldsRecord w v c.space address true body
+
+-- a get_state that is done leaves the record in the caller's page
+abbrev pub GetStateShows : Type 0
+GetStateShows = (known : Known) (w : World) (space : Path) (slot s x address : ℕ) → IsRunnable w → IsUserAt known w space slot (GetState s x address) →
+    is_done (users_step known w space slot).world (slot ∷ space) ≡ true →
+    ShowsRecord w (users_step known w space slot).world (user_at (slot ∷ space)) s x address
+
+-- a porter is answered the record of the object that it names
+pub record AnswersRecord (w : World) (c : Caller) (s x : ℕ) (answer : List ℕ) : Type 0 where
+  pub body : Body
+  pub named : IsNamed w c s x body
+  pub answered : answer ≡ record_of body
+
+abbrev pub GetStateAnswers : Type 0
+GetStateAnswers = (known : Known) (w : World) (space : Path) (slot s x address : ℕ) (words answer : List ℕ) →
+    IsPorterFor known w space slot (GetState s x address) →
+    (porters_step known w space slot (GetState s x address) words).said ≡ Answered OK answer →
+    AnswersRecord w (porter_at (slot ∷ space) words) s x answer
+
+-- ---- set_state
+
+-- a caller names an object, and at its address stands the record that the object shows. The object is well shaped, as
+-- each is that a machine makes
+pub record MeetsItself (w : World) (c : Caller) (s x address : ℕ) : Type 0 where
+  pub body : Body
+  pub named : IsNamed w c s x body
+  pub shaped : IsShaped body
+  pub held : HoldsRecord w w c.space address false body
+
+-- a set_state that is done, of the record that the object shows, changes nothing but the end of its caller's call
+abbrev pub SetStateOfItself : Type 0
+SetStateOfItself = (known : Known) (w : World) (space : Path) (slot s x address : ℕ) → HasRegisters w →
+    IsUserAt known w space slot (SetState s x address) → MeetsItself w (user_at (slot ∷ space)) s x address →
+    is_done (users_step known w space slot).world (slot ∷ space) ≡ true →
+    (users_step known w space slot).world ≡ apply (Alter (slot ∷ space) (Finish [])) w

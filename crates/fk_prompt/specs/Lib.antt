@@ -1,0 +1,4 @@
+pub mod Callers
+pub mod Correct
+pub mod Prompt
+pub mod Brief
