@@ -42,3 +42,16 @@ removed_iff w me x e none = by (is_frozen_for w me x) refl (are_unfrozen w me (o
     by true ea b eb = ((λ h. absurd (cc)), (λ h. let no = h.object in absurd (cc)))
     by false ea false eb = ((λ h. absurd (cc)), (λ h. let no = h.changed in absurd (cc)))
     by false ea true eb = ((λ h. record { object = ea; changed = eb; made = rw none refl }), (λ h. refl))
+
+-- pointers that others take the place of
+pub changed_iff : (w : World) (me x : Path) (e : Edit) → IsTrue (not (is_frozen_for w me x)
+    && are_unfrozen w me (option_list (changed_pointers e) (w.body x)) && are_unfrozen w me (made_pointers e)) ↔ MayAlter w me x e
+changed_iff w me x e =
+    by (is_frozen_for w me x) refl (are_unfrozen w me (option_list (changed_pointers e) (w.body x))) refl (are_unfrozen w me (made_pointers e)) refl
+  where
+    by : (a : Bool) → is_frozen_for w me x ≡ a → (b : Bool) → are_unfrozen w me (option_list (changed_pointers e) (w.body x)) ≡ b →
+        (c : Bool) → are_unfrozen w me (made_pointers e) ≡ c → IsTrue (not a && b && c) ↔ MayAlter w me x e
+    by true ea b eb c ec = ((λ h. absurd (cc)), (λ h. let no = h.object in absurd (cc)))
+    by false ea false eb c ec = ((λ h. absurd (cc)), (λ h. let no = h.changed in absurd (cc)))
+    by false ea true eb false ec = ((λ h. absurd (cc)), (λ h. let no = h.made in absurd (cc)))
+    by false ea true eb true ec = ((λ h. record { object = ea; changed = eb; made = ec }), (λ h. refl))

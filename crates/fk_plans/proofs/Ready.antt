@@ -21,13 +21,13 @@ use Rattle.fk_model.specs.Outcomes.Outcome.{Refused, Waits, Goes}
 use Rattle.fk_model.specs.Freezing.{changed_pointers, MayAlter, MayMake, IsAllowed, AreAllowed}
 use Rattle.fk_model.specs.Moves.{closed, with_pick, GoesAllowed}
 use Rattle.fk_store.specs.Contents.{Contents}
-use Rattle.fk_store.specs.Bodies.{pointer_by}
+use Rattle.fk_store.specs.Bodies.{fault_by, pointer_by}
 use Rattle.fk_store.specs.Paths.{path, place}
 use Rattle.fk_store.specs.Moves.{picked_by}
 use Rattle.fk_store.specs.Threads.{is_free_at}
 use Rattle.fk_store.specs.World.{world}
 use Rattle.fk_store.proofs.Freedom.{free_thread, free_itself, may_alter, IsPlain}
-use Rattle.fk_plans.proofs.Pointers.{held_iff, pointed_iff, removed_iff}
+use Rattle.fk_plans.proofs.Pointers.{changed_iff, held_iff, pointed_iff, removed_iff}
 use Rattle.fk_plans.proofs.Recorded.{sets_iff}
 use Rattle.fk_plans.proofs.Renamed.{renames_iff}
 use Rattle.fk_plans.proofs.Destroyed.{destroys_iff}
@@ -75,6 +75,7 @@ deed_iff w v me p (deeds.Finishes thread) = plain_iff w me (place p thread) (Fin
 deed_iff w v me p (deeds.Passes client turn) = plain_iff w me (place p client) (PassTurn turn) (record { changed = λ b. refl; made = refl })
 deed_iff w v me p (deeds.Unlinks client) = removed_iff w me (place p client) (SetTalk None) refl
 deed_iff w v me p (deeds.Frees thread) = removed_iff w me (place p thread) (SetFault None) refl
+deed_iff w v me p (deeds.Raises thread fault) = changed_iff w me (place p thread) (SetFault (Some (fault_by p fault)))
 deed_iff w v me p (deeds.Holds space holder) = held_iff w me (place p space) (holder_by p holder)
 deed_iff w v me p (deeds.Stops thread stops) = plain_iff w me (place p thread) _ (record { changed = λ b. refl; made = refl })
 deed_iff w v me p (deeds.Copies from to) = not_iff (is_frozen_for w me (p to.0))

@@ -6,7 +6,7 @@ use Rattle.fk_model.specs.Holds.{is_frozen_for, leads_to_frozen}
 use Rattle.fk_model.specs.Places.{Path}
 use Rattle.fk_model.specs.Searches.{fault_pointers, option_list, talk_pointers}
 use Rattle.fk_model.specs.World.{World}
-use Rattle.fk_store.specs.Bodies.{pointer_by}
+use Rattle.fk_store.specs.Bodies.{fault_by, pointer_by}
 use Rattle.fk_store.specs.Paths.{place}
 use Rattle.fk_plans.specs.Plans.{holder_by}
 use Rattle.fk_plans.specs.declared.plan.Deed.{Deed}
@@ -34,6 +34,8 @@ is_deed_allowed w me p (deeds.Unlinks client) =
     not (is_frozen_for w me (place p client)) && are_unfrozen w me (option_list (of_talk talk_pointers) (w.body (place p client)))
 is_deed_allowed w me p (deeds.Frees thread) =
     not (is_frozen_for w me (place p thread)) && are_unfrozen w me (option_list (of_fault fault_pointers) (w.body (place p thread)))
+is_deed_allowed w me p (deeds.Raises thread fault) = not (is_frozen_for w me (place p thread))
+    && are_unfrozen w me (option_list (of_fault fault_pointers) (w.body (place p thread))) && are_unfrozen w me (fault_pointers (fault_by p fault))
 is_deed_allowed w me p (deeds.Holds space holder) = not (is_frozen_for w me (place p space))
     && are_unfrozen w me (body_pointers (w.body (place p space))) && are_unfrozen w me (option_list (λ to. to ∷ []) (holder_by p holder))
 is_deed_allowed w me p (deeds.Stops thread stops) = not (is_frozen_for w me (place p thread))

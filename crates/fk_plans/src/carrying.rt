@@ -42,6 +42,7 @@ fn carry(store: &mut Store, deed: &Deed)
         Deed::Passes { client, turn } => store.pass_turn(client, turn),
         Deed::Unlinks { client } => store.set_talk(client, None),
         Deed::Frees { thread } => store.set_fault(thread, None),
+        Deed::Raises { thread, fault } => store.set_fault(thread, Some(fault)),
         Deed::Holds { space, holder } => store.set_holder(space, holder),
         Deed::Stops { thread, stops } => store.set_stops(thread, stops),
         Deed::Copies { from, to } => copy_page(store, from, to),

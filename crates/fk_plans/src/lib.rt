@@ -9,6 +9,7 @@
 mod blocks;
 mod carrying;
 mod destroying;
+mod ends;
 mod handles;
 mod instructions;
 mod making;
@@ -25,6 +26,7 @@ mod within;
 
 pub use blocks::Block;
 pub use carrying::carry_out;
+pub use ends::{port_in, thread_in};
 pub use handles::{handle, led_to, referred, thread_by_handle};
 pub use instructions::make_effect;
 pub use objects::{is_referable, kind_number, object_in, pointer_in, reference_in};

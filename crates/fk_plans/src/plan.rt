@@ -2,7 +2,7 @@
 use crate::blocks::Block;
 use crate::recording::Record;
 use crate::sources::Source;
-use fk_model::{Ptr, Turn, Who};
+use fk_model::{Fault, Ptr, Turn, Who};
 use fk_threads::Answers;
 
 /// Who makes a stage: a user, or a porter.
@@ -39,6 +39,8 @@ pub enum Deed {
     Unlinks { client: Who },
     /// The fault of a thread ends.
     Frees { thread: Who },
+    /// A thread has this fault.
+    Raises { thread: Who, fault: Fault },
     /// A space is held by a thread, or by nobody.
     Holds { space: Who, holder: Option<Who> },
     /// A thread is stopped so many times.

@@ -13,7 +13,7 @@ ghost use Rattle.fk_plans.specs.Verdicts.{IsVerdict, move_by};
 use crate::plan::{Caller, Deed, Effect, Plan, Verdict};
 use crate::renaming::may_move;
 use crate::ties::{is_fault_unfrozen, is_talk_unfrozen};
-use fk_deaths::{leads_to_frozen, may_destroy};
+use fk_deaths::{fault_leads_to_frozen, leads_to_frozen, may_destroy};
 use fk_model::Who;
 use fk_store::Store;
 
@@ -62,6 +62,11 @@ fn is_deed_allowed(store: &Store, me: Who, deed: &Deed) -> bool
         }
         Deed::Frees { thread } => {
             !store.frozen_for(me, thread) && is_fault_unfrozen(store, me, thread)
+        }
+        Deed::Raises { thread, fault } => {
+            !store.frozen_for(me, thread)
+                && is_fault_unfrozen(store, me, thread)
+                && !fault_leads_to_frozen(store, me, Some(fault))
         }
         Deed::Holds { space, holder } => {
             !store.frozen_for(me, space)

@@ -36,3 +36,6 @@ pub mod Lists
 pub mod Listed
 pub mod PointerLaws
 pub mod Proceeding
+pub mod Counting
+pub mod Within
+pub mod Outside

@@ -100,7 +100,7 @@ module _ (p : ℕ → Path) (who : Who) where
   holder_hits-by None h = refl
   holder_hits-by (Some holder) h = hit-by holder h ∙ alone (At (place p holder))
 
-  body_hits-by : (b : bodies_of.Body) → OnNamed (HasOwnPath p) b → body_hits who b ≡ pointers_to (place p who) (Some (body_by p b))
+  pub body_hits-by : (b : bodies_of.Body) → OnNamed (HasOwnPath p) b → body_hits who b ≡ pointers_to (place p who) (Some (body_by p b))
   body_hits-by (bodies.Mutex locked) h = refl
   body_hits-by bodies.Cond h = refl
   body_hits-by (bodies.Mapping first count offset write region) h = pointer_hits-by region h
@@ -121,27 +121,27 @@ unfolding kind_there
 kind_some m k s some = some_kind ((world m).body (k ∷ s)) some
 
 module _ (m : Contents) (kept : IsWellFormed m) where
-  abbrev entry : Type 0
+  abbrev pub entry : Type 0
   entry = Who × bodies_of.Body
 
-  abbrev place_at : entry → Path
+  abbrev pub place_at : entry → Path
   place_at e = place (path m) e.0
 
-  there : (e : entry) → IsIn e (entries m.bodies) → get m.bodies e.0 ≡ Some e.1
+  pub there : (e : entry) → IsIn e (entries m.bodies) → get m.bodies e.0 ≡ Some e.1
   there e h = get-entries m.bodies e.0 ∙ member-found who_total (entries m.bodies) e (entries_sorted m.bodies) h
 
-  in_map : (e : entry) (es : List entry) → IsIn e es → IsIn (place_at e) (map place_at es)
+  pub in_map : (e : entry) (es : List entry) → IsIn e es → IsIn (place_at e) (map place_at es)
   in_map e [] h = absurd h
   in_map e (d ∷ es) (inl same) = inl (ap place_at same)
   in_map e (d ∷ es) (inr h) = inr (in_map e es h)
 
-  of_map : (y : Path) (es : List entry) → IsIn y (map place_at es) → (e : entry) × IsIn e es × (place_at e ≡ y)
+  pub of_map : (y : Path) (es : List entry) → IsIn y (map place_at es) → (e : entry) × IsIn e es × (place_at e ≡ y)
   of_map y [] h = absurd h
   of_map y (d ∷ es) (inl same) = (d, inl refl, same)
   of_map y (d ∷ es) (inr h) = let found = of_map y es h in (found.0, inr found.1, found.2)
 
   -- no two entries have one path
-  places-differ : (es : List entry) → ((e : entry) → IsIn e es → is_there m e.0 ≡ true) → T (is_sorted who_cmp es) → Differ (map place_at es)
+  pub places-differ : (es : List entry) → ((e : entry) → IsIn e es → is_there m e.0 ≡ true) → T (is_sorted who_cmp es) → Differ (map place_at es)
   places-differ [] lives s = tt
   places-differ (d ∷ es) lives s = (λ h. again (of_map (place_at d) es h), places-differ es (λ e h. lives e (inr h)) (rest s))
     where

@@ -32,7 +32,7 @@ same_path_true (k ∷ x) (j ∷ y) h = by (k == j) refl h (same_path_true x y)
 pub not_root : (n : ℕ) → 0 < n → (n == 0) ≡ false
 not_root n h = grind (arith, nat_tests)
 
-eq_back : (a b : ℕ) → (a == b) ≡ (b == a)
+pub eq_back : (a b : ℕ) → (a == b) ≡ (b == a)
 eq_back a b = grind (arith, nat_tests)
 
 pub and_back : (a b : Bool) → (a && b) ≡ (b && a)

@@ -17,6 +17,7 @@ ghost use Rattle.fk_store.specs.Named.{OnNamed};
 ghost use Rattle.fk_store.specs.WellFormed.{IsSized};
 ghost use Rattle.fk_store.specs.World.{world, first_world, place_of, body_of, IsLive, IsSpace};
 
+mod counting;
 mod counts;
 mod holds;
 mod proceeding;

@@ -10,6 +10,7 @@ mod bodies;
 mod held;
 mod hits;
 mod homes;
+mod led;
 mod marks;
 mod pages;
 mod parts;
