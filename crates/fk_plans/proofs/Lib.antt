@@ -8,3 +8,4 @@ pub mod Renamed
 pub mod Spaces
 pub mod Following
 pub mod Told
+pub mod Low

@@ -7,6 +7,7 @@ use Rattle.fk_model.specs.declared.thread.Mode.TheVariants as modes
 use Rattle.fk_model.specs.declared.limits.TheConstants.{MOST_MOVED}
 use Rattle.fk_model.specs.declared.thread.Talk as talks_of
 use Rattle.fk_model.specs.declared.thread.Thread as threads_of
+use Rattle.fk_model.specs.declared.thread.Turn.{Turn}
 use Rattle.fk_model.specs.declared.thread.Turn.TheVariants as turns
 use Rattle.fk_model.specs.Places.{Path}
 use Rattle.fk_model.specs.Calls.{calls, code_of, todo_of, rest_of}
@@ -20,7 +21,7 @@ use Rattle.fk_model.proofs.calls.CallLaws.{registers}
 use Rattle.fk_stages.proofs.Codes.{is_among, OfEach, OfOthers, of_registers}
 use Rattle.fk_store.specs.Bodies.{calling_mode, mode_by, thread_by}
 use Rattle.fk_store.specs.Threads.{todo_of_mode, todo_at}
-use Rattle.fk_threads.specs.Shifted.{moving, advanced, shifted_registers, receive_in, address_of, address_in, IsLow}
+use Rattle.fk_threads.specs.Shifted.{moving, advanced, shifted_registers, receive_code, receive_in, address_of, address_in, IsLow}
 use Rattle.fk_store.proofs.ThreadLaws.{alter-nobody}
 use Rattle.fk_model.specs.Searches.{thread_at}
 
@@ -85,34 +86,36 @@ unfolding Addressed Nowhere
 addressed = of_registers senders_and_receivers Addressed Nowhere each_addressed each_nowhere (λ g. refl)
     (λ n r other nowhere. subst (λ m. address_of (unwrap_or (todo_of (registers n r)) []) ≡ address_in m (registers n r)) (sym (not_moving n other)) nowhere)
 
--- ---- the Receive of a server
+-- ---- the Receive on a side
 
-receivers : List ℕ
-receivers = 50 ∷ []
+receivers : Turn → List ℕ
+receivers side = receive_code side ∷ []
 
-Receives : List ℕ → Type 0
-Receives g = receiving turns.Server (calling_mode g) ≡ receive_in g
+Receives : Turn → List ℕ → Type 0
+Receives side g = receiving side (calling_mode g) ≡ receive_in side g
 
-NoReceive : List ℕ → List Stage → Type 0
-NoReceive g todo = receiving turns.Server (Calling todo (rest_of todo g)) ≡ None
+NoReceive : Turn → List ℕ → List Stage → Type 0
+NoReceive side g todo = receiving side (Calling todo (rest_of todo g)) ≡ None
 
-each_receives : (r : ℕ → ℕ) → OfEach (λ n. Receives (registers n r)) receivers
+each_receives : (side : Turn) (r : ℕ → ℕ) → OfEach (λ n. Receives side (registers n r)) (receivers side)
 unfolding receivers Receives todo_of
-each_receives r = (refl, tt)
+each_receives turns.Client r = (refl, tt)
+each_receives turns.Server r = (refl, tt)
 
-each_none : OfOthers receivers NoReceive calls
+each_none : (side : Turn) → OfOthers (receivers side) (NoReceive side) calls
 unfolding receivers NoReceive
-each_none = assumption
+each_none turns.Client = assumption
+each_none turns.Server = assumption
 
-receives : (g : List ℕ) → length g ≡ 16 → receiving turns.Server (calling_mode g) ≡ receive_in g
+receives : (side : Turn) (g : List ℕ) → length g ≡ 16 → receiving side (calling_mode g) ≡ receive_in side g
 unfolding receivers Receives NoReceive
-receives = of_registers receivers Receives NoReceive each_receives each_none (λ g. refl) other
+receives side = of_registers (receivers side) (Receives side) (NoReceive side) (each_receives side) (each_none side) (λ g. refl) other
   where
-    other : (n : ℕ) (r : ℕ → ℕ) → is_among receivers n ≡ false →
-        receiving turns.Server (calling_mode (registers n r)) ≡ None → receiving turns.Server (calling_mode (registers n r)) ≡ receive_in (registers n r)
-    other n r none is = by (eqb n 50) none
+    other : (n : ℕ) (r : ℕ → ℕ) → is_among (receivers side) n ≡ false →
+        receiving side (calling_mode (registers n r)) ≡ None → receiving side (calling_mode (registers n r)) ≡ receive_in side (registers n r)
+    other n r none is = by (eqb n (receive_code side)) none
       where
-        by : (b : Bool) → (b || false) ≡ false → receiving turns.Server (calling_mode (registers n r)) ≡ cond {A = Option (ℕ × ℕ)} b (Some (r 4, r 5)) None
+        by : (b : Bool) → (b || false) ≡ false → receiving side (calling_mode (registers n r)) ≡ cond {A = Option (ℕ × ℕ)} b (Some (r 4, r 5)) None
         by true none = absurd (cc)
         by false none = is
 
@@ -152,24 +155,23 @@ pub count_nobody : (w : World) (x : Path) (k : ℕ) → thread_at w x ≡ None �
 unfolding edited
 count_nobody w x k none = alter-nobody w x (CountMoved k) _ (λ b. refl) none
 
-pub receives_thread : (p : ℕ → Path) (t : threads_of.Thread) →
-    length t.regs ≡ 16 → t.mode ≡ modes.Calling → receiving turns.Server (thread_by p t).mode ≡ receive_in t.regs
-receives_thread p t long is = rw is (receives t.regs long)
+pub receives_thread : (side : Turn) (p : ℕ → Path) (t : threads_of.Thread) →
+    length t.regs ≡ 16 → t.mode ≡ modes.Calling → receiving side (thread_by p t).mode ≡ receive_in side t.regs
+receives_thread side p t long is = rw is (receives side t.regs long)
 
-pub receives_not : (p : ℕ → Path) (t : threads_of.Thread) → (t.mode ≡ modes.Calling → ⊥) → receiving turns.Server (thread_by p t).mode ≡ None
-receives_not p t other = by t.mode refl
+pub receives_some : (side : Turn) (p : ℕ → Path) (t : threads_of.Thread) → length t.regs ≡ 16 → t.mode ≡ modes.Calling →
+    slice_index t.regs 0 ≡ receive_code side → Some (slice_index t.regs 4, slice_index t.regs 5) ≡ receiving side (thread_by p t).mode
+receives_some side p t long is at = sym (receives_thread side p t long is ∙ by side at)
   where
-    by : (m : modes_of.Mode) → t.mode ≡ m → receiving turns.Server (mode_by m t.regs) ≡ None
-    by modes.Running is = refl
-    by modes.Calling is = absurd (other is)
-    by (modes.Halted code) is = refl
-    by modes.Native is = refl
+    by : (side : Turn) → slice_index t.regs 0 ≡ receive_code side → receive_in side t.regs ≡ Some (slice_index t.regs 4, slice_index t.regs 5)
+    by turns.Client at = rw at refl
+    by turns.Server at = rw at refl
 
-pub receives_none : (p : ℕ → Path) (t : threads_of.Thread) →
-    length t.regs ≡ 16 → t.mode ≡ modes.Calling → (slice_index t.regs 0 ≡ 50 → ⊥) → None ≡ receiving turns.Server (thread_by p t).mode
-receives_none p t long is other = sym (receives_thread p t long is ∙ by (eqb (slice_index t.regs 0) 50) refl)
+pub receives_none : (side : Turn) (p : ℕ → Path) (t : threads_of.Thread) →
+    length t.regs ≡ 16 → t.mode ≡ modes.Calling → (slice_index t.regs 0 ≡ receive_code side → ⊥) → None ≡ receiving side (thread_by p t).mode
+receives_none side p t long is other = sym (receives_thread side p t long is ∙ by (eqb (slice_index t.regs 0) (receive_code side)) refl)
   where
-    by : (b : Bool) → eqb (slice_index t.regs 0) 50 ≡ b → cond {A = Option (ℕ × ℕ)} b (Some (slice_index t.regs 4, slice_index t.regs 5)) None ≡ None
+    by : (b : Bool) → eqb (slice_index t.regs 0) (receive_code side) ≡ b → cond {A = Option (ℕ × ℕ)} b (Some (slice_index t.regs 4, slice_index t.regs 5)) None ≡ None
     by true e = absurd (other (eqb-true _ _ e))
     by false e = refl
 

@@ -8,7 +8,6 @@ ghost use Rattle.fk_model.specs.World.{apply, edited};
 ghost use Rattle.fk_model.specs.World.Change.{Alter};
 ghost use Rattle.fk_model.specs.World.Edit.{Shift, CountMoved};
 ghost use Rattle.fk_model.specs.Valid.{kind_there};
-ghost use Rattle.fk_model.specs.declared.thread.Turn.TheVariants as turns;
 ghost use Rattle.fk_store.specs.Bodies.{mode_by, thread_by};
 ghost use Rattle.fk_store.specs.Paths.{path, place};
 ghost use Rattle.fk_store.specs.Threads.{todo_of_mode};
@@ -16,9 +15,9 @@ ghost use Rattle.fk_store.specs.World.{world, IsLive};
 ghost use Rattle.fk_store.specs.Contents.{Contents};
 ghost use Rattle.fk_store.specs.Named.{OnNamed};
 ghost use Rattle.fk_model.specs.declared.body.Body.{Body as StoredBody};
-ghost use Rattle.fk_threads.specs.Shifted.{moving, address_in, address_of, shifted_registers, receive_in, IsLow};
+ghost use Rattle.fk_threads.specs.Shifted.{moving, address_in, address_of, shifted_registers, receive_code, IsLow};
 
-use fk_model::{Body, Mode, Talk, Thread, Who};
+use fk_model::{Body, Mode, Talk, Thread, Turn, Who};
 use fk_store::Store;
 
 /// What is left, or nothing.
@@ -109,12 +108,22 @@ pub fn count_moved(store: &mut Store, client: Who, count: u8)
     }
 }
 
-/// The address and the room of the Receive at which a thread is, as a server.
-pub fn receive_of(thread: &Thread) -> Option<(u64, u64)>
-    ensures { (p : ℕ → Path) → result ≡ receiving turns.Server (thread_by p thread.now).mode }
+/// The code of the call that is a Receive alone, on this side of a talk.
+fn receive_code(side: Turn) -> u64
+    ensures { result ≡ receive_code side }
+{
+    match side {
+        Turn::Client => 36,
+        Turn::Server => 50,
+    }
+}
+
+/// The address and the room of the Receive at which a thread is, on this side of a talk.
+pub fn receive_of(thread: &Thread, side: Turn) -> Option<(u64, u64)>
+    ensures { (p : ℕ → Path) → result ≡ receiving side (thread_by p thread.now).mode }
 {
     if let Mode::Calling = thread.mode {
-        if thread.regs[0] == 50 {
+        if thread.regs[0] == receive_code(side) {
             return Some((thread.regs[4], thread.regs[5]));
         }
     }

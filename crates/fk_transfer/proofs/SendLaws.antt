@@ -1,100 +1,95 @@
 -- Sends: who is where, so that both ends can be advanced.
-use Rattle.std.proofs.Common.{◌≡◌, ℕ, ◌+◌, ◌<◌, ◌^◌, ◌/◌, Bool, true, false, cond, List, [], ◌∷◌, Option, Some, None, option_map, IfSome, nat_lt, refl, sym, ap, subst, ◌∙◌, arith}
-use Rattle.std.proofs.lemmas.Bool.Decides.{nat_tests}
+use Rattle.std.proofs.Common.{◌≡◌, ℕ, ◌+◌, ◌<◌, ◌≤◌, ◌^◌, Bool, true, false, cond, List, [], ◌∷◌, Option, Some, None, option_map, IfSome, refl, sym, ap, subst, ◌∙◌, arith}
 use Rattle.fk_model.specs.declared.stage.Stage.{Stage}
-use Rattle.fk_model.specs.declared.stage.Stage.TheVariants.{ClientSend, ServerReceive}
+use Rattle.fk_model.specs.declared.stage.Stage.TheVariants.{ClientReceive, ServerReceive}
+use Rattle.fk_model.specs.declared.thread.Turn.{Turn}
 use Rattle.fk_model.specs.declared.thread.Turn.TheVariants as turns
 use Rattle.fk_model.specs.Objects.{Mode, Thread, Body, thread_of, and_then}
 use Rattle.fk_model.specs.Objects.Body.{Mutex, Cond, Mapping, Region, Port, Portset, Space, Thread_of, Reference}
 use Rattle.fk_model.specs.Objects.Mode.{Running, Calling, Halted, Native}
-use Rattle.fk_model.specs.Outcomes.{Caller, Outcome, done, telling}
-use Rattle.fk_model.specs.Outcomes.Said.{Nothing}
+use Rattle.fk_model.specs.Outcomes.{Caller, Outcome}
 use Rattle.fk_model.specs.Places.{Path, same_path}
-use Rattle.fk_model.specs.Reach.{reach_word, reach}
-use Rattle.fk_model.specs.Reach.Reach.{Home, Bad}
-use Rattle.fk_model.specs.Talks.{receiving}
-use Rattle.fk_model.specs.Talks as talks
 use Rattle.fk_model.specs.Places.Ptr.{At}
+use Rattle.fk_model.specs.Searches.{thread_at}
+use Rattle.fk_model.specs.Talks as talks
+use Rattle.fk_model.specs.Talks.{other_side, receive_on, receiving}
 use Rattle.fk_model.specs.TransferRows.{sends_into, sends_to_thread}
-use Rattle.fk_model.specs.World.{World, Change, Edit, apply, edited}
+use Rattle.fk_model.specs.World.{World, Edit, apply, edited}
 use Rattle.fk_model.specs.World.Change.{Alter, PutPage}
 use Rattle.fk_model.specs.World.Edit.{CountMoved, Shift}
 use Rattle.fk_store.specs.Threads.{todo_of_mode, todo_of_thread, todo_at, is_free_at}
 use Rattle.fk_store.proofs.Walks.{same_path_true}
 use Rattle.fk_threads.specs.Shifted.{address_of, IsLow}
-use Rattle.fk_transfer.specs.Lines.{IsReceiver, IsSender}
-use Rattle.fk_model.specs.Searches.{thread_at}
+use Rattle.fk_transfer.specs.Lines.{sending, AreEnds, IsFirst, IsSender}
 
--- what is done says nothing to a native server
-pub telling_nothing : (c : Caller) (cs : List Change) (answers : List ℕ) → telling Nothing (done c cs answers) ≡ done c cs answers
-telling_nothing c cs answers = by c.is_porter
-  where
-    by : (b : Bool) → telling Nothing (done (record c { is_porter = b }) cs answers) ≡ done (record c { is_porter = b }) cs answers
-    by true = refl
-    by false = refl
+-- ---- who is at a Send or a Receive has no higher address
 
--- an address with a page is within its space
-pub home_low : (w : World) (s t : Path) (address page : ℕ) (write : Bool) → Home t page ≡ reach_word w s address write → address < 16384
-home_low w s t address page write is = by (nat_lt address 16384) refl is
+pub sends_low : (side : Turn) (address count : ℕ) (todo : List Stage) → IsFirst (sending side address count) todo → address_of todo ≤ address
+sends_low side address count [] first = omega arith
+sends_low side address count (stage ∷ later) first = by side first
   where
-    by : (b : Bool) → nat_lt address 16384 ≡ b → Home t page ≡ cond b (reach w s (address / 64) write) Bad → address < 16384
-    by true low is = grind (arith, nat_tests)
-    by false low is = absurd (cc)
+    by : (side : Turn) → stage ≡ sending side address count → address_of (stage ∷ later) ≤ address
+    by turns.Client is = rw is (omega arith)
+    by turns.Server is = rw is (omega arith)
 
 abbrev first_or : Option (ℕ × ℕ) → ℕ
 first_or None = 0
 first_or (Some p) = p.0
 
-address_received : (m : Mode) (into room : ℕ) → receiving turns.Server m ≡ Some (into, room) → address_of (todo_of_mode m) ≡ into
-address_received (Running g) into room is = absurd (cc)
-address_received (Calling [] rest) into room is = absurd (cc)
-address_received (Calling (ServerReceive i r ∷ todo) rest) into room is = ap first_or is
-address_received (Calling (stage ∷ todo) rest) into room is = absurd (cc)
-address_received (Halted g code) into room is = absurd (cc)
-address_received (Native g) into room is = absurd (cc)
+receives_low : (side : Turn) (m : Mode) (into room : ℕ) → Some (into, room) ≡ receiving side m → address_of (todo_of_mode m) ≤ into
+receives_low side (Running g) into room is = absurd (cc)
+receives_low side (Calling [] rest) into room is = absurd (cc)
+receives_low turns.Client (Calling (ClientReceive i r ∷ todo) rest) into room is = let same : into ≡ i = ap first_or is in omega arith
+receives_low turns.Server (Calling (ServerReceive i r ∷ todo) rest) into room is = let same : into ≡ i = ap first_or is in omega arith
+receives_low side (Calling (stage ∷ todo) rest) into room is = absurd (cc)
+receives_low side (Halted g code) into room is = absurd (cc)
+receives_low side (Native g) into room is = absurd (cc)
 
-no_sender : (m : Mode) (a n i r : ℕ) (later : List Stage) → todo_of_mode m ≡ ClientSend a n ∷ later → receiving turns.Server m ≡ Some (i, r) → ⊥
-no_sender (Running g) a n i r later at is = absurd (cc)
-no_sender (Calling todo rest) a n i r later at is = let bad = subst (λ l. receiving turns.Server (Calling l rest) ≡ Some (i, r)) at is in absurd (cc)
-no_sender (Halted g code) a n i r later at is = absurd (cc)
-no_sender (Native g) a n i r later at is = absurd (cc)
-
--- a thread that is there and receives
-pub receiver : (w : World) (x : Path) (t : Thread) (into room : ℕ) →
-    Some t ≡ thread_at w x → Some (into, room) ≡ receiving turns.Server t.mode → IsReceiver w x into room
-unfolding IsReceiver
-receiver w x t into room there is = (t, sym there, sym is)
-
-pub receiver_if : (w : World) (x : Path) (t : Thread) (receive : Option (ℕ × ℕ)) →
-    Some t ≡ thread_at w x → receive ≡ receiving turns.Server t.mode → IfSome receive (λ r. IsReceiver w x r.0 r.1)
-receiver_if w x t None there is = tt
-receiver_if w x t (Some r) there is = receiver w x t r.0 r.1 there is
-
--- it is free and at this, so the row goes on
-pub to_thread : (w : World) (c : Caller) (me you : Path) (address count : ℕ) (page : List ℕ) (t : Thread) (receive : Option (ℕ × ℕ)) (o : Outcome) →
-    Some t ≡ thread_at w you → is_free_at w you ≡ true → receive ≡ receiving turns.Server t.mode → o ≡ sends_into w c me you address count page receive →
-    o ≡ sends_to_thread w c turns.Client me address count page (talks.thread_led_to w (At you))
-unfolding is_free_at
-to_thread w c me you address count page t receive o there free is goes = let here = rw (← there) at free in rw (← there, here, ← is) goes
-
--- both ends can be advanced
-receiver_low : (w : World) (x : Path) (into room k : ℕ) → IsReceiver w x into room → into + k < 2 ^ 64 → IsLow w x k
-unfolding IsReceiver todo_at
-receiver_low w x into room k r low = rw (r.1, address_received r.0.mode into room r.2) low
-
-sender_low : (w : World) (x : Path) (address count k : ℕ) → IsSender w x address count → address + k < 2 ^ 64 → IsLow w x k
-sender_low w x address count k at low = rw at.1 low
-
--- and they are two
-apart : (w : World) (x y : Path) (address count into room : ℕ) → IsSender w x address count → IsReceiver w y into room → same_path x y ≡ false
-unfolding IsReceiver todo_at
-apart w x y address count into room at r = by (same_path x y) refl
+-- nobody does both
+no_sender : (side : Turn) (m : Mode) (address count into room : ℕ) →
+    IsFirst (sending side address count) (todo_of_mode m) → Some (into, room) ≡ receiving (other_side side) m → ⊥
+no_sender side (Running g) address count into room first is = absurd (cc)
+no_sender side (Calling [] rest) address count into room first is = absurd (cc)
+no_sender side (Calling (stage ∷ later) rest) address count into room first is = by side first is
   where
-    by : (b : Bool) → same_path x y ≡ b → b ≡ false
+    by : (side : Turn) → stage ≡ sending side address count → Some (into, room) ≡ receive_on (other_side side) stage → ⊥
+    by turns.Client first is = let bad = subst (λ s. Some (into, room) ≡ receive_on turns.Server s) first is in absurd (cc)
+    by turns.Server first is = let bad = subst (λ s. Some (into, room) ≡ receive_on turns.Client s) first is in absurd (cc)
+no_sender side (Halted g code) address count into room first is = absurd (cc)
+no_sender side (Native g) address count into room first is = absurd (cc)
+
+apart : (w : World) (me you : Path) (side : Turn) (address count into room : ℕ) (t : Thread) → IsSender w me side address count →
+    Some t ≡ thread_at w you → Some (into, room) ≡ receiving (other_side side) t.mode → same_path me you ≡ false
+unfolding todo_at
+apart w me you side address count into room t sends there is = by (same_path me you) refl
+  where
+    by : (b : Bool) → same_path me you ≡ b → b ≡ false
     by false e = refl
     by true e =
-        let there = subst (λ z. todo_of_thread (thread_at w z) ≡ ClientSend address count ∷ at.0) (same_path_true x y e) at.1 in
-        absurd (no_sender r.0.mode address count into room at.0 (ap todo_of_thread (sym r.1) ∙ there) r.2)
+        let here = subst (λ x. IsFirst (sending side address count) (todo_of_thread (thread_at w x))) (same_path_true me you e) sends in
+        let at = subst (λ o. IsFirst (sending side address count) (todo_of_thread o)) (sym there) here in
+        absurd (no_sender side t.mode address count into room at is)
+
+ends : (w : World) (me you : Path) (side : Turn) (address count into room : ℕ) (t : Thread) → IsSender w me side address count →
+    Some t ≡ thread_at w you → Some (into, room) ≡ receiving (other_side side) t.mode → AreEnds w me you address into
+unfolding todo_at
+ends w me you side address count into room t sends there is = record {
+  apart = apart w me you side address count into room t sends there is;
+  sends = sends_low side address count (todo_at w me) sends;
+  receives = subst (λ o. address_of (todo_of_thread o) ≤ into) there (receives_low (other_side side) t.mode into room is);
+}
+
+pub ends_if : (w : World) (me you : Path) (side : Turn) (address count : ℕ) (t : Thread) (receive : Option (ℕ × ℕ)) → IsSender w me side address count →
+    Some t ≡ thread_at w you → receive ≡ receiving (other_side side) t.mode → IfSome receive (λ r. AreEnds w me you address r.0)
+ends_if w me you side address count t None sends there is = tt
+ends_if w me you side address count t (Some r) sends there is = ends w me you side address count r.0 r.1 t sends there is
+
+-- it is free and at this, so the row goes on
+pub to_thread : (w : World) (c : Caller) (side : Turn) (client you : Path) (address count : ℕ) (page : List ℕ) (t : Thread) (receive : Option (ℕ × ℕ)) (o : Outcome) →
+    Some t ≡ thread_at w you → is_free_at w you ≡ true → receive ≡ receiving (other_side side) t.mode →
+    o ≡ sends_into w c client you address count page receive → o ≡ sends_to_thread w c side client address count page (talks.thread_led_to w (At you))
+unfolding is_free_at
+to_thread w c side client you address count page t receive o there free is goes = let here = rw (← there) at free in rw (← there, here, ← is) goes
 
 -- ---- what is left as it is before each is advanced
 
@@ -125,20 +120,23 @@ unfolding todo_at apply
 todo_elsewhere w x y e other = ap (λ b. todo_of_thread (and_then thread_of (cond b (option_map (edited e) (w.body x)) (w.body x)))) other
 
 -- so both can be advanced in the worlds that the earlier changes make
-pub both_low : (w : World) (me you s : Path) (page : ℕ) (words : List ℕ) (address count into room k : ℕ) →
-    IsSender w me address count → IsReceiver w you into room → into + k < 2 ^ 64 → address + k < 2 ^ 64 →
-    let counted = apply (Alter me (CountMoved k)) (apply (PutPage s page words) w) in
+pub both_low : (w : World) (me you client s : Path) (page : ℕ) (words : List ℕ) (address into k : ℕ) →
+    AreEnds w me you address into → into + k < 2 ^ 64 → address + k < 2 ^ 64 →
+    let counted = apply (Alter client (CountMoved k)) (apply (PutPage s page words) w) in
     IsLow counted you k × IsLow (apply (Alter you (Shift k)) counted) me k
-both_low w me you s page words address count into room k sends receives room_low address_low =
+both_low w me you client s page words address into k ends into_low address_low =
     let paged = apply (PutPage s page words) w in
-    let counted = apply (Alter me (CountMoved k)) paged in
-    let yours : todo_at counted you ≡ todo_at w you = todo_counted paged you me k ∙ todo_paged w you s page words in
+    let counted = apply (Alter client (CountMoved k)) paged in
+    let yours : todo_at counted you ≡ todo_at w you = todo_counted paged you client k ∙ todo_paged w you s page words in
     let mine : todo_at (apply (Alter you (Shift k)) counted) me ≡ todo_at w me =
-    todo_elsewhere counted me you (Shift k) (apart w me you address count into room sends receives)
-    ∙ todo_counted paged me me k ∙ todo_paged w me s page words in
-    (rw yours (receiver_low w you into room k receives room_low), rw mine (sender_low w me address count k sends address_low))
+    todo_elsewhere counted me you (Shift k) ends.apart ∙ todo_counted paged me client k ∙ todo_paged w me s page words in
+    let receives = ends.receives in
+    let sends = ends.sends in
+    (rw yours (omega arith), rw mine (omega arith))
 
 -- the sender alone is advanced where a native server is told
-pub own_low : (w : World) (me : Path) (address count k : ℕ) →
-    IsSender w me address count → address + k < 2 ^ 64 → IsLow (apply (Alter me (CountMoved k)) w) me k
-own_low w me address count k sends low = rw (todo_counted w me me k) (sender_low w me address count k sends low)
+pub own_low : (w : World) (me client : Path) (side : Turn) (address count k : ℕ) →
+    IsSender w me side address count → address + k < 2 ^ 64 → IsLow (apply (Alter client (CountMoved k)) w) me k
+own_low w me client side address count k sends low =
+    let least : address_of (todo_at w me) ≤ address = sends_low side address count (todo_at w me) sends in
+    rw (todo_counted w me client k) (omega arith)

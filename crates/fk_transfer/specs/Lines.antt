@@ -1,27 +1,37 @@
--- Lines: a talk by paths.
-use Rattle.std.specs.Prelude.{◌≡◌, ℕ, List, ◌∷◌, Some}
-use Rattle.fk_model.specs.declared.names.Who.{Who}
+-- Lines: a talk by paths, and who is at which end of it.
+use Rattle.std.specs.Prelude.{◌≡◌, ◌≤◌, ℕ, false, List, [], ◌∷◌, ⊤}
 use Rattle.fk_model.specs.declared.stage.Stage.{Stage}
-use Rattle.fk_model.specs.declared.stage.Stage.TheVariants.{ClientSend}
-use Rattle.fk_model.specs.declared.thread.Talk.{Talk}
+use Rattle.fk_model.specs.declared.stage.Stage.TheVariants.{ClientSend, ServerSend}
+use Rattle.fk_model.specs.declared.thread.Turn.{Turn}
 use Rattle.fk_model.specs.declared.thread.Turn.TheVariants as turns
-use Rattle.fk_model.specs.Objects as objects
-use Rattle.fk_model.specs.Places.{Path}
-use Rattle.fk_model.specs.Talks.{Line, receiving}
+use Rattle.fk_model.specs.Places.{Path, same_path}
+use Rattle.fk_model.specs.Talks as talks
 use Rattle.fk_model.specs.World.{World}
 use Rattle.fk_store.specs.Bodies.{talk_by, peer_by}
 use Rattle.fk_store.specs.Paths.{place}
-use Rattle.fk_model.specs.Searches.{thread_at}
 use Rattle.fk_store.specs.Threads.{todo_at}
+use Rattle.fk_threads.specs.Shifted.{address_of}
+use Rattle.fk_transfer.specs.declared.lines.Line.{Line}
 
--- the line of a client
-abbrev pub line_by : (ℕ → Path) → Who → Talk → Line
-line_by p client talk = record { client = place p client; talk = talk_by p talk; other = peer_by p talk.peer }
+abbrev pub line_by : (ℕ → Path) → Line → talks.Line
+line_by p line = record { client = place p line.client; talk = talk_by p line.talk; other = peer_by p line.other }
 
--- a thread is at its Send as a client
-abbrev pub IsSender : World → Path → ℕ → ℕ → Type 0
-IsSender w x address count = (later : List Stage) × (todo_at w x ≡ ClientSend address count ∷ later)
+-- the Send of a side
+abbrev pub sending : Turn → ℕ → ℕ → Stage
+sending turns.Client address count = ClientSend address count
+sending turns.Server address count = ServerSend address count
 
--- a thread is at its Receive as a server
-unfoldable pub IsReceiver : World → Path → ℕ → ℕ → Type 0
-IsReceiver w x into room = (t : objects.Thread) × (thread_at w x ≡ Some t) × (receiving turns.Server t.mode ≡ Some (into, room))
+-- a stage is the first of these, if there are any
+abbrev pub IsFirst : Stage → List Stage → Type 0
+IsFirst stage [] = ⊤
+IsFirst stage (first ∷ later) = first ≡ stage
+
+-- a thread is in no call, or at its Send on this side
+abbrev pub IsSender : World → Path → Turn → ℕ → ℕ → Type 0
+IsSender w x side address count = IsFirst (sending side address count) (todo_at w x)
+
+-- a thread that sends and one that receives are two, and have no higher addresses in their stages
+pub record AreEnds (w : World) (sender receiver : Path) (address into : ℕ) : Type 0 where
+  pub apart : same_path sender receiver ≡ false
+  pub sends : address_of (todo_at w sender) ≤ address
+  pub receives : address_of (todo_at w receiver) ≤ into

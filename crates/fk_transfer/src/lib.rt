@@ -1,11 +1,15 @@
-//! Messages: what the stages of a talk come to that move words.
+//! Messages: what the stages of a talk come to that move words or hand over the turn.
 //!
-//! It stands on `fk_plans` and `fk_threads`, and promises of each stage that its verdict stands for
-//! the outcome of the stage's row in the abstract machine, and can be carried out without memory.
+//! It stands on `fk_plans` and `fk_threads`, and promises of each stage, on either side of a talk,
+//! that its verdict stands for the outcome of the stage's row in the abstract machine, and can be
+//! carried out without memory.
 #![tactic(auto)]
 
+mod lines;
 mod passing;
+mod receiving;
 mod sending;
 
 pub use passing::over;
+pub use receiving::receive;
 pub use sending::send;

@@ -1,29 +1,40 @@
-//! Send, by a client.
-ghost use Rattle.std.specs.Prelude.{◌≡◌, ◌≤◌, ◌<◌, ◌+◌, ◌%◌, min, [], ◌∷◌, List, ℕ, Some, true, false, IsSome, IfSome, IfOk};
-ghost use Rattle.fk_model.specs.declared.stage.Stage.TheVariants.{ClientSend};
-ghost use Rattle.fk_model.specs.declared.thread.Turn.TheVariants as turns;
-ghost use Rattle.fk_model.specs.Objects.{Talk as ModelTalk};
+//! Send, on either side of a talk.
+ghost use Rattle.std.specs.Prelude.{◌≡◌, ◌≤◌, ◌<◌, ◌+◌, ◌%◌, min, List, ℕ, false, IfSome, IfOk};
 ghost use Rattle.fk_model.specs.Places.Ptr.{At};
-ghost use Rattle.fk_model.specs.Reach.{words_at, reach_word};
-ghost use Rattle.fk_model.specs.Searches.{talk_at, is_service, thread_at};
+ghost use Rattle.fk_model.specs.Reach.{words_at};
 ghost use Rattle.fk_model.specs.Talks as talks;
-ghost use Rattle.fk_model.specs.Talks.{receiving};
 ghost use Rattle.fk_model.specs.TransferRows as rows;
+ghost use Rattle.fk_model.specs.Valid.{IsValid};
 ghost use Rattle.fk_store.specs.Bodies.{peer_by};
 ghost use Rattle.fk_store.specs.Paths.{path, place};
-ghost use Rattle.fk_store.specs.Threads.{todo_at};
-ghost use Rattle.fk_store.specs.Reaches.{reach_by};
-ghost use Rattle.fk_store.specs.World.{world, IsLive, IsSpace};
+ghost use Rattle.fk_store.specs.World.{world, IsLive};
+ghost use Rattle.fk_plans.specs.Own.{IsPage};
 ghost use Rattle.fk_plans.specs.Plans.{caller_by};
-ghost use Rattle.fk_plans.specs.Verdicts.{Judges, outcome_by, mapped, IsVerdict};
-ghost use Rattle.fk_threads.specs.Shifted.{IsLow};
-ghost use Rattle.fk_transfer.specs.Lines.{line_by, IsReceiver, IsSender};
+ghost use Rattle.fk_plans.specs.Verdicts.{outcome_by, IsSureVerdict, IsVerdict, Judges};
+ghost use Rattle.fk_transfer.specs.Lines.{line_by, AreEnds, IsSender};
 
-use fk_model::status::{BADADDRESS, FULL, NOTLINKED, WRONGTURN};
-use fk_model::{Peer, Talk, Turn, Who};
-use fk_plans::{Block, Caller, Deed, News, Plan, Verdict, Words};
+use crate::lines::{Line, in_turn, other_side};
+use fk_model::status::FULL;
+use fk_model::{Peer, Turn, Who};
+use fk_plans::{Block, Caller, Deed, News, Plan, Verdict, Words, own_page};
 use fk_store::{Reach, Store};
 use fk_threads::{Answers, receive_of};
+
+/// Words that are sent: so many from an address on, in a page of the sender's memory.
+#[derive(Clone, Copy)]
+pub struct Message {
+    pub address: u64,
+    pub count: u64,
+    pub page: (u32, u8),
+}
+
+/// Where words go: the thread that receives them, and the address and the room of its Receive.
+#[derive(Clone, Copy)]
+pub struct Receiver {
+    pub thread: Who,
+    pub into: u64,
+    pub room: u64,
+}
 
 fn least(a: u64, b: u64) -> u64
     ensures { result ≡ min a b }
@@ -42,124 +53,87 @@ fn moved(address: u64, count: u64, into: u64, room: u64) -> u8
     least(64, least(count, least(here, least(room, there)))) as u8
 }
 
-/// The talk in which a client acts at its own turn.
-#[tactic(auto, unfolding(fk_model::specs::Talks::line))]
-pub fn client_talk(store: &Store, caller: Caller) -> Result<Talk, u8>
-    ensures line { mapped (line_by (path store.now) caller.who) result
-        ≡ rows.in_turn (world store.now) (place (path store.now) caller.who) turns.Client turns.Client }
-    ensures port { IfOk result (λ talk. IsLive store.now talk.port) }
-{
-    let Some(thread) = store.thread(caller.who) else {
-        return Err(NOTLINKED);
-    };
-    match thread.talk {
-        None => Err(NOTLINKED),
-        Some(talk) => match talk.turn {
-            Turn::Client => Ok(talk),
-            Turn::Server => Err(WRONGTURN),
-        },
-    }
-}
-
-/// Words go from the sender's page to the page of the peer that receives.
+/// Words go from the sender's page to a page of the receiver.
 fn sent(
     store: &Store,
     caller: Caller,
-    peer: Who,
-    address: u64,
-    count: u64,
-    own: (u32, u8),
-    into: u64,
-    room: u64,
+    client: Who,
+    message: Message,
+    receiver: Receiver,
     to: (u32, u8),
 ) -> Verdict
-    requires calling { IsSender (world store.now) (place (path store.now) caller.who) address count }
-    requires receives { IsReceiver (world store.now) (place (path store.now) peer) into room }
-    requires address { address < 16384 }
-    requires into { into < 16384 }
-    requires own { IsSome ((world store.now).page (path store.now own.0) own.1) }
-    requires space { IsSpace store.now to.0 }
-    requires to { IsSome ((world store.now).page (path store.now to.0) to.1) }
+    requires ends { AreEnds (world store.now) (place (path store.now) caller.who) (place (path store.now) receiver.thread) message.address receiver.into }
+    requires address { message.address < 16384 }
+    requires into { receiver.into < 16384 }
+    requires from { IsPage store.now message.page }
+    requires to { IsPage store.now to }
     ensures outcome { (words : List ℕ) → outcome_by (world store.now) (path store.now) (caller_by (path store.now) caller words) result
-        ≡ rows.sends_words (caller_by (path store.now) caller words) (place (path store.now) caller.who) (place (path store.now) peer)
-        (rows.moved_words address count into room) address count (words_at (world store.now) (path store.now own.0) own.1)
-        into (path store.now to.0) to.1 (words_at (world store.now) (path store.now to.0) to.1) }
+        ≡ rows.sends_words (caller_by (path store.now) caller words) (place (path store.now) client) (place (path store.now) receiver.thread)
+        (rows.moved_words message.address message.count receiver.into receiver.room) message.address message.count
+        (words_at (world store.now) (path store.now message.page.0) message.page.1)
+        receiver.into (path store.now to.0) to.1 (words_at (world store.now) (path store.now to.0) to.1) }
     ensures fits { IsVerdict store.now caller result }
+    ensures sure { IsSureVerdict result }
 {
-    let size = moved(address, count, into, room);
+    let count = moved(message.address, message.count, receiver.into, receiver.room);
     let block = Block {
-        from: own,
-        at: (address % 64) as u8,
+        from: message.page,
+        at: (message.address % 64) as u8,
         to,
-        into: (into % 64) as u8,
-        count: size,
+        into: (receiver.into % 64) as u8,
+        count,
     };
-    let client = caller.who;
+    let thread = receiver.thread;
     let plan = Plan::Four(
         Deed::Sends(block),
-        Deed::Counts {
-            client,
-            count: size,
-        },
+        Deed::Counts { client, count },
+        Deed::Shifts { thread, count },
         Deed::Shifts {
-            thread: peer,
-            count: size,
-        },
-        Deed::Shifts {
-            thread: client,
-            count: size,
+            thread: caller.who,
+            count,
         },
     );
-    if u64::from(size) == count {
+    if u64::from(count) == message.count {
         Verdict::Done(plan, Answers::Nothing)
     } else {
         Verdict::Goes(plan)
     }
 }
 
-/// It waits until the peer receives, and until the peer's page is there. A peer without room ends
-/// its call.
-#[tactic(auto, using(crate::proofs::SendLaws::home_low))]
+/// It waits until the other end receives, and until that end's page is there. One that has no room
+/// has its call ended.
+#[tactic(auto, using(fk_plans::proofs::Low::home_low))]
 fn sends_into(
     store: &Store,
     caller: Caller,
+    client: Who,
+    message: Message,
     peer: Who,
-    address: u64,
-    count: u64,
-    own: (u32, u8),
     receive: Option<(u64, u64)>,
 ) -> Verdict
-    requires calling { IsSender (world store.now) (place (path store.now) caller.who) address count }
-    requires receives { IfSome receive (λ r. IsReceiver (world store.now) (place (path store.now) peer) r.0 r.1) }
-    requires address { address < 16384 }
-    requires own { IsSome ((world store.now).page (path store.now own.0) own.1) }
+    requires ends { IfSome receive (λ r. AreEnds (world store.now) (place (path store.now) caller.who) (place (path store.now) peer) message.address r.0) }
+    requires address { message.address < 16384 }
+    requires from { IsPage store.now message.page }
     ensures outcome { (words : List ℕ) → outcome_by (world store.now) (path store.now) (caller_by (path store.now) caller words) result
-        ≡ rows.sends_into (world store.now) (caller_by (path store.now) caller words)
-        (place (path store.now) caller.who) (place (path store.now) peer) address count (words_at (world store.now) (path store.now own.0) own.1) receive }
+        ≡ rows.sends_into (world store.now) (caller_by (path store.now) caller words) (place (path store.now) client) (place (path store.now) peer)
+        message.address message.count (words_at (world store.now) (path store.now message.page.0) message.page.1) receive }
     ensures fits { IsVerdict store.now caller result }
+    ensures sure { IsSureVerdict result }
 {
     match receive {
         None => Verdict::Waits,
         Some((into, room)) => {
+            let thread = peer;
             if room == 0 {
                 return Verdict::Goes(Plan::One(Deed::Ends {
-                    thread: peer,
+                    thread,
                     status: FULL,
                 }));
             }
             match store.reach_word(peer.space, into, true) {
                 Reach::Home { space, page } => {
-                    sent(
-                        store,
-                        caller,
-                        peer,
-                        address,
-                        count,
-                        own,
-                        into,
-                        room,
-                        (space, page),
-                    )
+                    let receiver = Receiver { thread, into, room };
+                    sent(store, caller, client, message, receiver, (space, page))
                 }
                 Reach::Missing { .. } | Reach::Bad => Verdict::Waits,
             }
@@ -167,23 +141,25 @@ fn sends_into(
     }
 }
 
-/// It waits until the peer is free.
+/// It waits until the other end is free.
 #[tactic(auto, unfolding(fk_store::specs::Threads::is_free_at))]
 fn sends_to_thread(
     store: &Store,
     caller: Caller,
+    side: Turn,
+    client: Who,
+    message: Message,
     peer: Who,
-    address: u64,
-    count: u64,
-    own: (u32, u8),
 ) -> Verdict
-    requires calling { IsSender (world store.now) (place (path store.now) caller.who) address count }
-    requires address { address < 16384 }
-    requires own { IsSome ((world store.now).page (path store.now own.0) own.1) }
+    requires calling { IsSender (world store.now) (place (path store.now) caller.who) side message.address message.count }
+    requires address { message.address < 16384 }
+    requires from { IsPage store.now message.page }
     ensures outcome { (words : List ℕ) → outcome_by (world store.now) (path store.now) (caller_by (path store.now) caller words) result
-        ≡ rows.sends_to_thread (world store.now) (caller_by (path store.now) caller words) turns.Client (place (path store.now) caller.who) address count
-        (words_at (world store.now) (path store.now own.0) own.1) (talks.thread_led_to (world store.now) (At (place (path store.now) peer))) }
+        ≡ rows.sends_to_thread (world store.now) (caller_by (path store.now) caller words) side (place (path store.now) client)
+        message.address message.count (words_at (world store.now) (path store.now message.page.0) message.page.1)
+        (talks.thread_led_to (world store.now) (At (place (path store.now) peer))) }
     ensures fits { IsVerdict store.now caller result }
+    ensures sure { IsSureVerdict result }
 {
     let Some(thread) = store.thread(peer) else {
         return Verdict::Waits;
@@ -191,107 +167,110 @@ fn sends_to_thread(
     if !store.is_free(peer) {
         return Verdict::Waits;
     }
-    sends_into(store, caller, peer, address, count, own, receive_of(thread))
+    let receive = receive_of(thread, other_side(side));
+    sends_into(store, caller, client, message, peer, receive)
 }
 
 /// A native server that is free is told of up to 64 words at each move.
 fn sends_to_service(
     store: &Store,
     caller: Caller,
+    side: Turn,
+    client: Who,
+    message: Message,
     port: Who,
-    address: u64,
-    count: u64,
-    own: (u32, u8),
 ) -> Verdict
     requires user { caller.is_porter ≡ false }
-    requires calling { IsSender (world store.now) (place (path store.now) caller.who) address count }
-    requires address { address < 16384 }
-    requires own { IsSome ((world store.now).page (path store.now own.0) own.1) }
+    requires calling { IsSender (world store.now) (place (path store.now) caller.who) side message.address message.count }
+    requires address { message.address < 16384 }
+    requires from { IsPage store.now message.page }
     requires port { IsLive store.now port }
     ensures outcome { (words : List ℕ) → outcome_by (world store.now) (path store.now) (caller_by (path store.now) caller words) result
-        ≡ rows.sends_to_service (caller_by (path store.now) caller words) (place (path store.now) caller.who) (At (place (path store.now) port)) address count
-        (words_at (world store.now) (path store.now own.0) own.1) }
+        ≡ rows.sends_to_service (caller_by (path store.now) caller words) (place (path store.now) client) (At (place (path store.now) port))
+        message.address message.count (words_at (world store.now) (path store.now message.page.0) message.page.1) }
     ensures fits { IsVerdict store.now caller result }
+    ensures sure { IsSureVerdict result }
 {
-    let size = moved(address, count, 0, 64);
-    let client = caller.who;
+    let count = moved(message.address, message.count, 0, 64);
     let plan = Plan::Two(
-        Deed::Counts {
-            client,
-            count: size,
-        },
+        Deed::Counts { client, count },
         Deed::Shifts {
-            thread: client,
-            count: size,
+            thread: caller.who,
+            count,
         },
     );
+    let (space, page) = message.page;
     let words = Words {
         port,
-        space: own.0,
-        page: own.1,
-        at: (address % 64) as u8,
-        count: size,
+        space,
+        page,
+        at: (message.address % 64) as u8,
+        count,
     };
-    let last = u64::from(size) == count;
+    let last = u64::from(count) == message.count;
     let news = News::Words(words);
     Verdict::Tells { plan, news, last }
 }
 
-/// Sends words of a page to the other end of a talk.
-fn sends_to(
-    store: &Store,
-    caller: Caller,
-    talk: Talk,
-    address: u64,
-    count: u64,
-    own: (u32, u8),
-) -> Verdict
+/// Sends words to the other end of a talk.
+fn sends_to(store: &Store, caller: Caller, side: Turn, line: Line, message: Message) -> Verdict
     requires user { caller.is_porter ≡ false }
-    requires calling { IsSender (world store.now) (place (path store.now) caller.who) address count }
-    requires address { address < 16384 }
-    requires own { IsSome ((world store.now).page (path store.now own.0) own.1) }
-    requires port { IsLive store.now talk.port }
+    requires calling { IsSender (world store.now) (place (path store.now) caller.who) side message.address message.count }
+    requires address { message.address < 16384 }
+    requires from { IsPage store.now message.page }
+    requires port { IsLive store.now line.talk.port }
     ensures outcome { (words : List ℕ) → outcome_by (world store.now) (path store.now) (caller_by (path store.now) caller words) result
-        ≡ rows.sends_to (world store.now) (caller_by (path store.now) caller words) turns.Client (line_by (path store.now) caller.who talk) address count
-        (words_at (world store.now) (path store.now own.0) own.1) (peer_by (path store.now) talk.peer) }
+        ≡ rows.sends_to (world store.now) (caller_by (path store.now) caller words) side (line_by (path store.now) line) message.address message.count
+        (words_at (world store.now) (path store.now message.page.0) message.page.1) (peer_by (path store.now) line.other) }
     ensures fits { IsVerdict store.now caller result }
+    ensures sure { IsSureVerdict result }
 {
-    match talk.peer {
-        Peer::Thread(peer) => sends_to_thread(store, caller, peer, address, count, own),
+    let client = line.client;
+    let port = line.talk.port;
+    match line.other {
+        Peer::Thread(peer) => sends_to_thread(store, caller, side, client, message, peer),
         Peer::Service => {
-            if store.is_frozen(talk.port.space) {
+            if store.is_frozen(port.space) {
                 return Verdict::Waits;
             }
-            sends_to_service(store, caller, talk.port, address, count, own)
+            sends_to_service(store, caller, side, client, message, port)
         }
         Peer::Parked => Verdict::Waits,
     }
 }
 
-/// A client sends words of its memory, up to a page's end at each move, at its own turn.
-#[tactic(auto, using(crate::proofs::SendLaws::home_low), unfolding(fk_model::specs::TransferRows::send))]
-pub fn send(store: &Store, caller: Caller, address: u64, count: u64) -> Result<Verdict, u8>
+/// Sends words of the caller's memory at this side's turn, at each move up to 64 of them and no
+/// further than to a page's end on either side; with nothing to send it is done at once. It is
+/// refused NOTLINKED, WRONGTURN, and with words BADADDRESS; or its page is missing, of which the
+/// keeper is told. It waits for the other end's Receive, and ends that one's call FULL where it has no
+/// room.
+#[tactic(auto, unfolding(fk_model::specs::TransferRows::send))]
+pub fn send(
+    store: &Store,
+    caller: Caller,
+    side: Turn,
+    address: u64,
+    count: u64,
+) -> Result<Verdict, u8>
     requires user { caller.is_porter ≡ false }
-    requires calling { IsSender (world store.now) (place (path store.now) caller.who) address count }
-    ensures { Judges store.now caller result (λ w c. rows.send w c turns.Client address count) }
+    requires valid { IsValid (world store.now) }
+    requires calling { IsSender (world store.now) (place (path store.now) caller.who) side address count }
+    ensures row { Judges store.now caller result (λ w c. rows.send w c side address count) }
+    ensures sure { IfOk result IsSureVerdict }
 {
-    let talk = client_talk(store, caller)?;
+    let line = in_turn(store, caller.who, side, side)?;
     if count == 0 {
         return Ok(Verdict::Done(Plan::Nothing, Answers::Nothing));
     }
-    match store.reach_word(caller.who.space, address, false) {
-        Reach::Home { space, page } => {
-            Ok(sends_to(store, caller, talk, address, count, (space, page)))
+    match own_page(store, caller, address, false) {
+        Ok(page) => {
+            let message = Message {
+                address,
+                count,
+                page,
+            };
+            Ok(sends_to(store, caller, side, line, message))
         }
-        Reach::Missing {
-            page,
-            keeper: Some(port),
-            ..
-        } => Ok(Verdict::Faults {
-            page,
-            write: false,
-            port,
-        }),
-        Reach::Missing { keeper: None, .. } | Reach::Bad => Err(BADADDRESS),
+        Err(verdict) => Ok(verdict),
     }
 }

@@ -6,15 +6,8 @@ use Rattle.fk_transfer.proofs.sending.sends_to_service.Goals as goal
 
 pub returns-clause-fits : goal.returns-clause-fits
 returns-clause-fits c =
-    let left : c.args.address + c.moved-size.result < 18446744073709551616 = omega (arith, c.moved-size.ensures.at, c.requires.address) in (
-      c.requires.user,
-      (c.requires.port, (c.moved-size.ensures.at, c.requires.own)),
-      (
-        tt,
-        (
-          tt,
-          own_low (world c.args.store.now)
-              (place (path c.args.store.now) c.args.caller.who) c.args.address c.args.count c.moved-size.result c.requires.calling left,
-        ),
-      ),
-    )
+    let left : c.args.message.address + c.moved-count.result < 18446744073709551616 = omega (arith, c.moved-count.ensures.at, c.requires.address) in
+    let p = path c.args.store.now in
+    let low = own_low (world c.args.store.now) (place p c.args.caller.who) (place p c.args.client)
+    c.args.side c.args.message.address c.args.message.count c.moved-count.result c.requires.calling left in
+    (c.requires.user, (c.requires.port, (c.moved-count.ensures.at, c.requires.from.1)), (tt, (tt, low)))

@@ -1,0 +1,36 @@
+//! Receive, on either side of a talk.
+ghost use Rattle.std.specs.Prelude.{◌≡◌, false, IfOk};
+ghost use Rattle.fk_model.specs.TransferRows as rows;
+ghost use Rattle.fk_model.specs.Valid.{IsValid};
+ghost use Rattle.fk_store.specs.World.{world};
+ghost use Rattle.fk_plans.specs.Verdicts.{IsSureVerdict, Judges};
+
+use crate::lines::{in_turn, other_side};
+use fk_model::Turn;
+use fk_plans::{Caller, Verdict, own_page};
+use fk_store::Store;
+
+/// It waits for the other side's Send and Over, at that side's turn. By itself it is only refused:
+/// NOTLINKED, WRONGTURN, and with room BADADDRESS; or its page is missing, of which the keeper is told.
+#[tactic(auto, unfolding(fk_model::specs::TransferRows::receive))]
+pub fn receive(
+    store: &Store,
+    caller: Caller,
+    side: Turn,
+    into: u64,
+    room: u64,
+) -> Result<Verdict, u8>
+    requires user { caller.is_porter ≡ false }
+    requires valid { IsValid (world store.now) }
+    ensures row { Judges store.now caller result (λ w c. rows.receive w c side into room) }
+    ensures sure { IfOk result IsSureVerdict }
+{
+    in_turn(store, caller.who, side, other_side(side))?;
+    if room == 0 {
+        return Ok(Verdict::Waits);
+    }
+    match own_page(store, caller, into, true) {
+        Ok(_) => Ok(Verdict::Waits),
+        Err(verdict) => Ok(verdict),
+    }
+}
