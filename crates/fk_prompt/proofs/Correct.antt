@@ -27,10 +27,11 @@ use Rattle.fk_model.proofs.walks.PlaceLaws.{same_path_refl}
 use Rattle.fk_laws.proofs.safety.Reads.{object_in-found}
 use Rattle.fk_whole.specs.Runnable.{HasRegisters, IsRunnable}
 use Rattle.fk_prompt.specs.Callers.{IsUserAt, is_done}
-use Rattle.fk_prompt.specs.Correct.{ShowsRecord, GetStateShows, AnswersRecord, GetStateAnswers}
+use Rattle.fk_prompt.specs.Correct.{words_found, record_found, ShowsRecord, GetStateShows, AnswersRecord, GetStateAnswers}
 use Rattle.fk_prompt.proofs.Movers.{users-step, porters-step, unpicked}
 use Rattle.fk_prompt.proofs.Statuses.{told-object_in, told-space_argument, IsTold}
-use Rattle.fk_prompt.proofs.Pages.{reached-full, record_place, record-read}
+use Rattle.fk_prompt.proofs.Pages.{reached-there, reached-full, record_place, record-read}
+use Rattle.fk_prompt.proofs.Reading.{reads-where-writes, reach_word-same}
 
 -- ---- a record is full
 
@@ -124,21 +125,26 @@ module _ (known : Known) (w : World) (runs : IsRunnable w) (space : Path) (slot 
   shown-refuse status true go told going = shown-refused status told
   shown-refuse status false go told going = going refl
 
+  -- what is found there afterwards is what was put there
+  found-after : (put : List ℕ) (t : Path) (page : ℕ) → reach_word w space address true ≡ Home t page →
+      record_found (apply_all (PutPage t page put ∷ Alter (slot ∷ space) (Finish []) ∷ []) w) space address
+      ≡ Some (record_at (words_at (apply_all (PutPage t page put ∷ Alter (slot ∷ space) (Finish []) ∷ []) w) t page) address)
+  found-after put t page e =
+      ap (words_found (apply_all (PutPage t page put ∷ Alter (slot ∷ space) (Finish []) ∷ []) w) address)
+      (reach_word-same w t page put (slot ∷ space) at.thread at.there (reached-there w space address true t page e) space address false
+      ∙ reads-where-writes w space address t page e)
+
   shown-page : (there : Path) (b : Body) → space_argument w (user_at (slot ∷ space)) s ≡ Ok there →
       object_in w (user_at (slot ∷ space)) anything there x ≡ Ok b → is_bad_record_address (user_at (slot ∷ space)) address ≡ false →
       (r : Reach) → reach_word w space address true ≡ r → Shown (own_page_at (slot ∷ space) true (shows w (user_at (slot ∷ space)) b address) r)
   shown-page there b place object good (Home t page) e done = record {
     body = b;
     named = record { space = there; place = place; object = object };
-    shown = record {
-      in_space = t;
-      page = page;
-      reached = e;
-      words = ap (λ words. record_at words address) (put-read w t page _ (slot ∷ space) (Finish []))
-          ∙ record-read (words_at w t page) (record_of b) address (reached-full w runs.whole.full space address true t page e)
-          (length-record b (has-all w runs.registers (x ∷ there) b (object-there w (user_at (slot ∷ space)) x there b object)))
-          (record_place address (not-false _ good));
-    };
+    shown = found-after _ t page e ∙ ap Some (
+        ap (λ words. record_at words address) (put-read w t page _ (slot ∷ space) (Finish []))
+        ∙ record-read (words_at w t page) (record_of b) address (reached-full w runs.whole.full space address true t page e)
+        (length-record b (has-all w runs.registers (x ∷ there) b (object-there w (user_at (slot ∷ space)) x there b object)))
+        (record_place address (not-false _ good)));
   }
   shown-page there b place object good (Missing t page (Some keeper)) e done =
       absurd (faulted-undone known w runs.registers space slot (GetState s x address) at page true keeper done)

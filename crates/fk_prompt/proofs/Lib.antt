@@ -1,6 +1,7 @@
 pub mod Movers
 pub mod Statuses
 pub mod Pages
+pub mod Reading
 pub mod Correct
 pub mod Setting
 pub mod Prompt

@@ -49,10 +49,15 @@ word-there w s address write = by (nat_lt address SPACE_WORDS)
     by true = within-there MAPPINGS w s (address / PAGE_WORDS) write
     by false = tt
 
--- the page that an address reaches has 64 words
+-- the page that an address reaches is there
+pub reached-there : (w : World) (s : Path) (address : ℕ) (write : Bool) (t : Path) (page : ℕ) →
+    reach_word w s address write ≡ Home t page → IsSome (w.page t page)
+reached-there w s address write t page h = let there = word-there w s address write in rw h at there
+
+-- and has 64 words
 pub reached-full : (w : World) → HasFullPages w → (s : Path) (address : ℕ) (write : Bool) (t : Path) (page : ℕ) →
     reach_word w s address write ≡ Home t page → length (words_at w t page) ≡ PAGE_WORDS
-reached-full w pages s address write t page h = words-full w pages t page (let there = word-there w s address write in rw h at there)
+reached-full w pages s address write t page h = words-full w pages t page (reached-there w s address write t page h)
 
 -- ---- records in a page
 

@@ -6,7 +6,8 @@ use Rattle.fk_model.specs.Places.{Path}
 use Rattle.fk_model.specs.World.{World, Change, apply, apply_all}
 use Rattle.fk_model.specs.World.Change.{Alter}
 use Rattle.fk_model.specs.World.Edit.{Finish}
-use Rattle.fk_model.specs.Reach.{reach_word, words_at}
+use Rattle.fk_model.specs.Reach.{Reach, reach_word, words_at}
+use Rattle.fk_model.specs.Reach.Reach.{Home, Missing, Bad}
 use Rattle.fk_model.specs.Outcomes.{Outcome, ◌>>=◌, refuse}
 use Rattle.fk_model.specs.Outcomes.Outcome.{Refused}
 use Rattle.fk_model.specs.Holds.{is_frozen_for}
@@ -18,7 +19,7 @@ use Rattle.fk_model.specs.Moves.{Known, Step, call_row, closed, stepped}
 use Rattle.fk_laws.proofs.Records.{record_changes_nothing_lem}
 use Rattle.fk_whole.specs.Runnable.{HasRegisters}
 use Rattle.fk_prompt.specs.Callers.{IsUserAt, is_done}
-use Rattle.fk_prompt.specs.Correct.{MeetsItself, SetStateOfItself}
+use Rattle.fk_prompt.specs.Correct.{words_found, MeetsItself, SetStateOfItself}
 use Rattle.fk_prompt.proofs.Movers.{users-step, unpicked}
 use Rattle.fk_prompt.proofs.Correct.{refused-undone, object-there}
 
@@ -65,11 +66,14 @@ module _ (known : Known) (w : World) (registers : HasRegisters w) (space : Path)
     abbrev sets : Path → ℕ → Outcome
     sets t page = sets_record w (user_at (slot ∷ space)) meets.named.space (x ∷ meets.named.space) meets.body (record_at (words_at w t page) address)
 
-    kept-page : is_native meets.body ≡ false → Kept (own_page_at (slot ∷ space) false sets (reach_word w space address false))
-    kept-page off =
-        subst (λ r. Kept (own_page_at (slot ∷ space) false sets r)) (sym meets.held.reached)
-        (subst (λ words. Kept (sets_record w (user_at (slot ∷ space)) meets.named.space (x ∷ meets.named.space) meets.body words))
-        (sym meets.held.words) (kept-record off))
+    kept-page : is_native meets.body ≡ false → (r : Reach) → words_found w address r ≡ Some (record_of meets.body) →
+        Kept (own_page_at (slot ∷ space) false sets r)
+    kept-page off (Home t page) found =
+        let same : record_at (words_at w t page) address ≡ record_of meets.body = cc in
+        subst (λ words. Kept (sets_record w (user_at (slot ∷ space)) meets.named.space (x ∷ meets.named.space) meets.body words))
+        (sym same) (kept-record off)
+    kept-page off (Missing t page keeper) found = cc
+    kept-page off Bad found = cc
 
     row-kept : Kept (set_state w (user_at (slot ∷ space)) s x address)
     unfolding set_state
@@ -78,7 +82,8 @@ module _ (known : Known) (w : World) (registers : HasRegisters w) (space : Path)
         (kept-read (object_in w (user_at (slot ∷ space)) anything meets.named.space x) meets.body _ meets.named.object
         (kept-refuse HELD (is_frozen_for w (slot ∷ space) (x ∷ meets.named.space)) _ refl (λ free.
         kept-refuse DENIED (is_native meets.body) _ refl (λ off.
-        kept-refuse BADADDRESS (is_bad_record_address (user_at (slot ∷ space)) address) _ refl (λ good. kept-page off)))))
+        kept-refuse BADADDRESS (is_bad_record_address (user_at (slot ∷ space)) address) _ refl (λ good.
+        kept-page off (reach_word w space address false) meets.held)))))
 
 pub set_state_of_itself : SetStateOfItself
 unfolding call_row

@@ -1,6 +1,6 @@
 -- Correctness: the state that a thread gets of an object is the object's record, and to set that record again changes
 -- nothing.
-use Rattle.std.specs.Prelude.{◌≡◌, ℕ, Bool, true, false, List, [], ◌∷◌, Ok}
+use Rattle.std.specs.Prelude.{◌≡◌, ℕ, true, false, List, [], ◌∷◌, Option, Some, None, Ok}
 use Rattle.fk_model.specs.declared.stage.Stage.TheVariants.{GetState, SetState}
 use Rattle.fk_model.specs.declared.statuses.status.TheConstants.{OK}
 use Rattle.fk_model.specs.Places.{Path}
@@ -8,8 +8,8 @@ use Rattle.fk_model.specs.Objects.{Body}
 use Rattle.fk_model.specs.World.{World, apply}
 use Rattle.fk_model.specs.World.Change.{Alter}
 use Rattle.fk_model.specs.World.Edit.{Finish}
-use Rattle.fk_model.specs.Reach.{reach_word, words_at}
-use Rattle.fk_model.specs.Reach.Reach.{Home}
+use Rattle.fk_model.specs.Reach.{Reach, reach_word, words_at}
+use Rattle.fk_model.specs.Reach.Reach.{Home, Missing, Bad}
 use Rattle.fk_model.specs.Outcomes.{Caller}
 use Rattle.fk_model.specs.Outcomes.Said.{Answered}
 use Rattle.fk_model.specs.Readers.{object_in, anything, space_argument}
@@ -27,22 +27,24 @@ pub record IsNamed (w : World) (c : Caller) (s x : ℕ) (b : Body) : Type 0 wher
   pub place : space_argument w c s ≡ Ok space
   pub object : object_in w c anything space x ≡ Ok b
 
--- the words at an address of a caller, which its space reaches in a world, are a record of this object in another one
-pub record HoldsRecord (reaching w : World) (space : Path) (address : ℕ) (write : Bool) (b : Body) : Type 0 where
-  pub in_space : Path
-  pub page : ℕ
-  pub reached : reach_word reaching space address write ≡ Home in_space page
-  pub words : record_at (words_at w in_space page) address ≡ record_of b
+-- the words of a record that a thread of a space finds at an address, where it may read there
+abbrev pub words_found : World → ℕ → Reach → Option (List ℕ)
+words_found w address (Home space page) = Some (record_at (words_at w space page) address)
+words_found w address (Missing space page keeper) = None
+words_found w address Bad = None
+
+abbrev pub record_found : World → Path → ℕ → Option (List ℕ)
+record_found w space address = words_found w address (reach_word w space address false)
 
 -- ---- get_state
 
--- what a caller gets is the record of the object that it names, as it was before
+-- what a caller finds at its address afterwards is the record of the object that it names, as it was before
 pub record ShowsRecord (w v : World) (c : Caller) (s x address : ℕ) : Type 0 where
   pub body : Body
   pub named : IsNamed w c s x body
-  pub shown : HoldsRecord w v c.space address true body
+  pub shown : record_found v c.space address ≡ Some (record_of body)
 
--- a get_state that is done leaves the record in the caller's page
+-- a get_state that is done leaves the record in the caller's memory
 abbrev pub GetStateShows : Type 0
 GetStateShows = (known : Known) (w : World) (space : Path) (slot s x address : ℕ) → IsRunnable w → IsUserAt known w space slot (GetState s x address) →
     is_done (users_step known w space slot).world (slot ∷ space) ≡ true →
@@ -68,7 +70,7 @@ pub record MeetsItself (w : World) (c : Caller) (s x address : ℕ) : Type 0 whe
   pub body : Body
   pub named : IsNamed w c s x body
   pub shaped : IsShaped body
-  pub held : HoldsRecord w w c.space address false body
+  pub held : record_found w c.space address ≡ Some (record_of body)
 
 -- a set_state that is done, of the record that the object shows, changes nothing but the end of its caller's call
 abbrev pub SetStateOfItself : Type 0
