@@ -1,6 +1,7 @@
 -- Correctness: the state that a thread gets of an object is the object's record, and to set that record again changes
 -- nothing.
-use Rattle.std.specs.Prelude.{◌≡◌, ℕ, true, false, List, [], ◌∷◌, Option, Some, None, Ok}
+use Rattle.std.specs.Prelude.{◌≡◌, ℕ, true, false, List, [], ◌∷◌, take, Option, Some, None, Ok}
+use Rattle.fk_model.specs.declared.limits.TheConstants.{RECORD_WORDS}
 use Rattle.fk_model.specs.declared.stage.Stage.TheVariants.{GetState, SetState}
 use Rattle.fk_model.specs.declared.statuses.status.TheConstants.{OK}
 use Rattle.fk_model.specs.Places.{Path}
@@ -78,3 +79,17 @@ SetStateOfItself = (known : Known) (w : World) (space : Path) (slot s x address 
     IsUserAt known w space slot (SetState s x address) → MeetsItself w (user_at (slot ∷ space)) s x address →
     is_done (users_step known w space slot).world (slot ∷ space) ≡ true →
     (users_step known w space slot).world ≡ apply (Alter (slot ∷ space) (Finish [])) w
+
+-- a porter gives the record that the object shows
+pub record GivesItself (w : World) (c : Caller) (s x : ℕ) : Type 0 where
+  pub body : Body
+  pub named : IsNamed w c s x body
+  pub shaped : IsShaped body
+  pub given : take RECORD_WORDS c.words ≡ record_of body
+
+-- and where it is answered OK nothing is changed
+abbrev pub PortersSetStateOfItself : Type 0
+PortersSetStateOfItself = (known : Known) (w : World) (space : Path) (slot s x address : ℕ) (words : List ℕ) →
+    IsPorterFor known w space slot (SetState s x address) → GivesItself w (porter_at (slot ∷ space) words) s x →
+    (porters_step known w space slot (SetState s x address) words).said ≡ Answered OK [] →
+    (porters_step known w space slot (SetState s x address) words).world ≡ w

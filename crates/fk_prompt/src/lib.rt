@@ -6,7 +6,7 @@
 #![tactic(auto)]
 
 ghost use Rattle.fk_prompt.specs.Brief.{MovesAreBrief, UsersDestroyOne, PortersDestroyOne};
-ghost use Rattle.fk_prompt.specs.Correct.{GetStateShows, GetStateAnswers, SetStateOfItself};
+ghost use Rattle.fk_prompt.specs.Correct.{GetStateShows, GetStateAnswers, SetStateOfItself, PortersSetStateOfItself};
 ghost use Rattle.fk_prompt.specs.Prompt.{GetStateIsPrompt, PortersGetStateIsPrompt, GetStateFaults, SpaceHoldIsPrompt, PortersSpaceHoldIsPrompt};
 
 /// A `get_state` that is done leaves the object's record in its caller's page.
@@ -20,9 +20,10 @@ pub fn a_porter_is_answered_the_record()
 {}
 
 /// A `set_state` of the record that the object shows changes nothing but the end of its caller's
-/// call.
+/// call; a porter's changes nothing at all.
 pub fn a_record_that_is_set_again_changes_nothing()
-    ensures { SetStateOfItself }
+    ensures user { SetStateOfItself }
+    ensures porter { PortersSetStateOfItself }
 {}
 
 /// A free caller gets an object's state whatever the object does, and whoever holds it: only the
