@@ -17,7 +17,7 @@ use Rattle.fk_model.specs.Outcomes.Outcome.{Refused, Waits, Goes}
 use Rattle.fk_model.specs.Places.{Path, parent}
 use Rattle.fk_model.specs.Valid.{kind_there}
 use Rattle.fk_model.specs.World.{World}
-use Rattle.fk_plans.specs.declared.plan.Caller.{Caller}
+use Rattle.fk_readers.specs.declared.caller.Caller.{Caller}
 use Rattle.fk_plans.specs.declared.plan.Effect.{Effect}
 use Rattle.fk_plans.specs.declared.plan.Effect.TheVariants as effects
 use Rattle.fk_plans.specs.declared.plan.Verdict.{Verdict}

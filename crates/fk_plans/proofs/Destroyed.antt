@@ -1,5 +1,5 @@
 -- Destroyed: when the freezing rule lets an object be destroyed, and what the machine makes of it then.
-use Rattle.std.proofs.Common.{◌≡◌, ◌↔◌, ℕ, Bool, true, false, List, [], ◌∷◌, Option, Some, None, option_map, refl, ap}
+use Rattle.std.proofs.Common.{◌≡◌, ◌↔◌, ℕ, Bool, true, false, List, [], Option, Some, None, option_map, refl, ap}
 use Rattle.fk_model.specs.declared.names.Who.{Who}
 use Rattle.fk_model.specs.declared.statuses.status.TheConstants.{OK}
 use Rattle.fk_model.specs.Freezing.{MayKill}
@@ -19,7 +19,7 @@ use Rattle.fk_store.specs.Paths.{path, place}
 use Rattle.fk_store.specs.Threads.{is_free_at}
 use Rattle.fk_store.specs.World.{world, IsLive}
 use Rattle.fk_store.proofs.Freedom.{free_itself, may_alter}
-use Rattle.fk_plans.specs.declared.plan.Caller.{Caller}
+use Rattle.fk_readers.specs.declared.caller.Caller.{Caller}
 use Rattle.fk_plans.specs.Destroys.{destroyed}
 use Rattle.fk_plans.specs.Plans.{caller_by}
 use Rattle.fk_plans.proofs.Lists.{own_iff, own_last}

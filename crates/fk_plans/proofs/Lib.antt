@@ -1,11 +1,9 @@
-pub mod Beneath
 pub mod Lists
 pub mod Pointers
 pub mod Destroyed
 pub mod Ready
 pub mod Recorded
 pub mod Renamed
-pub mod Spaces
 pub mod Following
 pub mod Told
 pub mod Low

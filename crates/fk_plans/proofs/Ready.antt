@@ -1,5 +1,5 @@
 -- Ready: when the freezing rule and the picks let a verdict be.
-use Rattle.std.proofs.Common.{◌≡◌, ℕ, Bool, true, false, not, ◌&&◌, ◌||◌, ◌==◌, ◌↔◌, IsTrue, is_none, List, [], ◌∷◌, ◌++◌, Option, Some, None, IsSome, cond, eqb, slice_set, refl, ap}
+use Rattle.std.proofs.Common.{◌≡◌, ℕ, Bool, true, false, not, ◌&&◌, ◌||◌, ◌==◌, ◌↔◌, IsTrue, is_none, List, [], ◌∷◌, Option, Some, None, IsSome, cond, eqb, slice_set, refl, ap}
 use Rattle.fk_model.specs.declared.names.Who.{Who}
 use Rattle.fk_model.specs.Places.{Path, Ptr}
 use Rattle.fk_model.specs.Places.Ptr.{At}
@@ -32,7 +32,7 @@ use Rattle.fk_plans.proofs.Recorded.{sets_iff}
 use Rattle.fk_plans.proofs.Renamed.{renames_iff}
 use Rattle.fk_plans.proofs.Destroyed.{destroys_iff}
 use Rattle.fk_plans.proofs.Lists.{own_iff}
-use Rattle.fk_plans.specs.declared.plan.Caller.{Caller}
+use Rattle.fk_readers.specs.declared.caller.Caller.{Caller}
 use Rattle.fk_plans.specs.declared.plan.Deed.{Deed}
 use Rattle.fk_plans.specs.declared.plan.Deed.TheVariants as deeds
 use Rattle.fk_plans.specs.declared.plan.Plan.{Plan}

@@ -5,7 +5,6 @@ pub mod Destroys
 pub mod Effects
 pub mod Verdicts
 pub mod Allowed
-pub mod Readings
 pub mod Blocks
 pub mod Sources
 pub mod Own

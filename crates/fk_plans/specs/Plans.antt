@@ -3,7 +3,6 @@ use Rattle.std.specs.Prelude.{◌≤◌, ◌+◌, ◌≡◌, ℕ, true, List, []
 use Rattle.fk_model.specs.declared.names.Who.{Who}
 use Rattle.fk_model.specs.declared.stage.Stage.TheVariants.{MutexLock}
 use Rattle.fk_model.specs.ObjectRows.{new_object}
-use Rattle.fk_model.specs.Outcomes as outcomes
 use Rattle.fk_model.specs.Places.{Path, Ptr}
 use Rattle.fk_model.specs.Places.Ptr.{At}
 use Rattle.fk_model.specs.Reach.{words_at}
@@ -18,18 +17,15 @@ use Rattle.fk_records.specs.Settings.{record_there}
 use Rattle.fk_store.specs.Paths.{place}
 use Rattle.fk_threads.specs.Shifted.{IsLow}
 use Rattle.fk_threads.specs.Sleepers.{IsAsleep}
+pub use Rattle.fk_readers.specs.Callers.{caller_by}
 use Rattle.fk_plans.specs.Blocks.{block_page, IsBlock}
 use Rattle.fk_plans.specs.Sources.{source_words, IsSource}
-use Rattle.fk_plans.specs.declared.plan.Caller.{Caller}
+use Rattle.fk_readers.specs.declared.caller.Caller.{Caller}
 use Rattle.fk_plans.specs.declared.plan.Deed.{Deed}
 use Rattle.fk_plans.specs.declared.plan.Deed.TheVariants as deeds
 use Rattle.fk_plans.specs.declared.plan.Plan.{Plan}
 use Rattle.fk_plans.specs.declared.plan.Plan.TheVariants as plans
 use Rattle.fk_plans.specs.declared.sources.Source.TheVariants as sources
-
--- the caller by paths, where those of spaces are these; a porter gives these words
-abbrev pub caller_by : (ℕ → Path) → Caller → List ℕ → outcomes.Caller
-caller_by p c words = record { space = p c.who.space; slot = c.who.slot; is_porter = c.is_porter; words = words }
 
 -- the holder of a space
 abbrev pub holder_by : (ℕ → Path) → Option Who → Option Ptr

@@ -19,7 +19,8 @@ use Rattle.fk_store.specs.Threads.{todo_at}
 use Rattle.fk_store.specs.World.{world, IsLive}
 use Rattle.fk_threads.specs.declared.answers.Answers.{Answers}
 use Rattle.fk_threads.specs.Answers.{listed, LeaveArguments}
-use Rattle.fk_plans.specs.declared.plan.Caller.{Caller}
+pub use Rattle.fk_readers.specs.Callers.{mapped}
+use Rattle.fk_readers.specs.declared.caller.Caller.{Caller}
 use Rattle.fk_plans.specs.declared.plan.Plan.{Plan}
 use Rattle.fk_plans.specs.declared.plan.Verdict.{Verdict}
 use Rattle.fk_plans.specs.declared.plan.News.{News}
@@ -123,11 +124,6 @@ IsSureVerdict (verdicts.Tells plan news last) = IsSure plan
 IsSureVerdict other = ⊤
 
 -- ---- judges
-
--- what a reader finds, by paths
-abbrev pub mapped : {A B : Type 0} → (A → B) → Result A ℕ → Result B ℕ
-mapped f (Ok a) = Ok (f a)
-mapped f (Err status) = Err status
 
 -- what a judge answers: a status is a refusal
 abbrev pub outcome_of : World → (ℕ → Path) → outcomes.Caller → Result Verdict ℕ → Outcome

@@ -13,13 +13,14 @@ use crate::blocks::{copy_page, send_block};
 use crate::destroying::destroy;
 use crate::instructions::run;
 use crate::making::{make, make_held};
-use crate::plan::{Caller, Deed, News, Plan, Verdict};
+use crate::plan::{Deed, News, Plan, Verdict};
 use crate::recording::{Record, set_record, told_record, write_record};
 use crate::renaming::rename;
 use crate::sources::give;
 use crate::telling::{said_of, told, told_page};
 use fk_model::status::OK;
 use fk_model::{NoMemory, Said, Who};
+use fk_readers::Caller;
 use fk_store::Store;
 use fk_threads::{Answers, advance, count_moved, finish, wake};
 

@@ -9,11 +9,11 @@ ghost use Rattle.fk_store.specs.World.{world, IsLive};
 ghost use Rattle.fk_plans.specs.Destroys.{destroyed, IsDying};
 ghost use Rattle.fk_plans.specs.Plans.{caller_by};
 
-use crate::plan::Caller;
 use crate::telling::told;
 use fk_deaths::told_port;
 use fk_model::status::OK;
 use fk_model::{Said, Who};
+use fk_readers::Caller;
 use fk_store::Store;
 use fk_threads::{Answers, finish};
 

@@ -11,8 +11,9 @@ ghost use Rattle.fk_plans.specs.Own.{IsPage};
 ghost use Rattle.fk_plans.specs.Plans.{caller_by};
 ghost use Rattle.fk_plans.specs.Verdicts.{outcome_by, IsSureVerdict, IsVerdict};
 
-use crate::plan::{Caller, Verdict};
+use crate::plan::Verdict;
 use fk_model::status::BADADDRESS;
+use fk_readers::Caller;
 use fk_store::{Reach, Store};
 
 /// The page in which an address of a user's memory is read or written. Where none is there, what the

@@ -5,13 +5,6 @@ use crate::sources::Source;
 use fk_model::{Fault, Ptr, Turn, Who};
 use fk_threads::Answers;
 
-/// Who makes a stage: a user, or a porter.
-#[derive(Clone, Copy)]
-pub struct Caller {
-    pub who: Who,
-    pub is_porter: bool,
-}
-
 /// One change, which takes no memory.
 #[derive(Clone, Copy)]
 pub enum Deed {

@@ -10,11 +10,12 @@ ghost use Rattle.fk_plans.specs.Allowed.{is_deed_allowed, is_plan_allowed, IsVer
 ghost use Rattle.fk_plans.specs.Plans.{holder_by};
 ghost use Rattle.fk_plans.specs.Verdicts.{IsVerdict, move_by};
 
-use crate::plan::{Caller, Deed, Effect, Plan, Verdict};
+use crate::plan::{Deed, Effect, Plan, Verdict};
 use crate::renaming::may_move;
 use crate::ties::{is_fault_unfrozen, is_talk_unfrozen};
 use fk_deaths::{fault_leads_to_frozen, leads_to_frozen, may_destroy};
 use fk_model::Who;
+use fk_readers::Caller;
 use fk_store::Store;
 
 /// Nothing is frozen to which an object leads.

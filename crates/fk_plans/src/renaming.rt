@@ -10,11 +10,11 @@ ghost use Rattle.fk_store.specs.World.{world, IsLive};
 ghost use Rattle.fk_plans.specs.Plans.{caller_by};
 ghost use Rattle.fk_plans.specs.Renames.{renames, IsMoving};
 
-use crate::plan::Caller;
 use crate::telling::told;
 use fk_deaths::is_swept;
 use fk_model::status::OK;
 use fk_model::{Said, Who};
+use fk_readers::Caller;
 use fk_store::Store;
 use fk_threads::{Answers, finish};
 

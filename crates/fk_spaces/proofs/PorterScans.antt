@@ -14,7 +14,7 @@ use Rattle.fk_model.proofs.walks.WalkLaws.{live-kind}
 use Rattle.fk_store.specs.Contents.{Contents}
 use Rattle.fk_store.specs.Names.{who_cmp, rank}
 use Rattle.fk_store.specs.World.{world, place_of, IsLive}
-use Rattle.fk_plans.proofs.Beneath.{of_beneath, met_any}
+use Rattle.fk_readers.proofs.Beneath.{of_beneath, met_any}
 use Rattle.fk_spaces.specs.Sought.{is_sought}
 
 -- each space that is sought comes at this one or after it

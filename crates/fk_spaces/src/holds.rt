@@ -34,7 +34,7 @@ struct Inner {
 }
 
 /// The space in a slot of another one.
-#[tactic(auto, using(fk_plans::proofs::Spaces::space_there), unfolding(fk_model::specs::Readers::object_in))]
+#[tactic(auto, using(fk_readers::proofs::Spaces::space_there), unfolding(fk_model::specs::Readers::object_in))]
 fn space_in(store: &Store, caller: Caller, space: u32, k: u64) -> Result<Inner, u8>
     ensures holder { (words : List ℕ) → mapped (λ inner. holder_by (path store.now) inner.holder) result
         ≡ readers.object_in (world store.now) (caller_by (path store.now) caller words) space_of (path store.now space) k }

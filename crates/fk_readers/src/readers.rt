@@ -7,11 +7,10 @@ ghost use Rattle.fk_model.specs.Readers.{object_in};
 ghost use Rattle.fk_model.specs.SyncRows.{cond_of};
 ghost use Rattle.fk_store.specs.Paths.{path};
 ghost use Rattle.fk_store.specs.World.{world, IsSpace};
-ghost use Rattle.fk_plans.specs.Plans.{caller_by};
-ghost use Rattle.fk_plans.specs.Readings.{found};
-ghost use Rattle.fk_plans.specs.Verdicts.{mapped};
+ghost use Rattle.fk_readers.specs.Callers.{caller_by, mapped};
+ghost use Rattle.fk_readers.specs.Readings.{found};
 
-use crate::plan::Caller;
+use crate::caller::Caller;
 use fk_model::limits::{LAST_PORTER_SLOT, LAST_USER_SLOT, OWN_SPACE};
 use fk_model::status::{BADHANDLE, DEAD, NULLREF, WRONGKIND};
 use fk_model::{Body, Ptr, Who};

@@ -1,6 +1,6 @@
 use Rattle.std.proofs.Common.{ne_eqb, arith}
-use Rattle.fk_plans.proofs.Beneath.{goes_up, arrives, leaves}
-use Rattle.fk_plans.proofs.within.is_beneath.Goals as goal
+use Rattle.fk_readers.proofs.Beneath.{goes_up, arrives, leaves}
+use Rattle.fk_readers.proofs.within.is_beneath.Goals as goal
 
 pub returns-in-None-clause-within : goal.returns-in-None-clause-within
 returns-in-None-clause-within c =

@@ -11,10 +11,9 @@ ghost use Rattle.fk_store.specs.Bodies.{body_by, pointer_by};
 ghost use Rattle.fk_store.specs.Named.{OnNamed, OnPointer};
 ghost use Rattle.fk_store.specs.Paths.{path, place};
 ghost use Rattle.fk_store.specs.World.{world, IsLive};
-ghost use Rattle.fk_plans.specs.Plans.{caller_by};
-ghost use Rattle.fk_plans.specs.Verdicts.{mapped};
+ghost use Rattle.fk_readers.specs.Callers.{caller_by, mapped};
 
-use crate::plan::Caller;
+use crate::caller::Caller;
 use crate::readers::slot_for;
 use fk_model::status::{BADHANDLE, WRONGKIND};
 use fk_model::{Body, Ptr, Who};

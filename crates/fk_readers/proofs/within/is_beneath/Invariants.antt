@@ -1,5 +1,5 @@
-use Rattle.fk_plans.proofs.Beneath.{IsOnWay}
-use Rattle.fk_plans.proofs.within.is_beneath.Given as goal
+use Rattle.fk_readers.proofs.Beneath.{IsOnWay}
+use Rattle.fk_readers.proofs.within.is_beneath.Given as goal
 
 abbrev pub invariant-loop-at : goal.invariant-loop-at
 invariant-loop-at l = IsOnWay l.store l.outer l.fn.object l.at

@@ -11,10 +11,10 @@ ghost use Rattle.fk_store.specs.Bodies.{body_by, pointer_by, thread_by};
 ghost use Rattle.fk_store.specs.Named.{OnPointer};
 ghost use Rattle.fk_store.specs.Paths.{path, place};
 ghost use Rattle.fk_store.specs.World.{world, IsLive};
-ghost use Rattle.fk_plans.specs.Plans.{caller_by};
-ghost use Rattle.fk_plans.specs.Verdicts.{mapped};
+ghost use Rattle.fk_readers.specs.Callers.{caller_by, mapped};
 
-use crate::plan::Caller;
+use crate::caller::Caller;
+use crate::objects::kind_number;
 use crate::readers::slot_for;
 use fk_model::status::{BADHANDLE, DEAD, NULLREF, WRONGKIND};
 use fk_model::{Body, Kind, Ptr, Thread, Who};
@@ -37,28 +37,11 @@ fn number(kind: Kind) -> u64
     }
 }
 
-/// The kind of an object.
-fn kind_of(body: &Body) -> Kind
-    ensures { (p : ℕ → Path) → result ≡ objects.kind_of (body_by p body.now) }
-{
-    match body {
-        Body::Mutex { .. } => Kind::Mutex,
-        Body::Cond => Kind::Cond,
-        Body::Mapping { .. } => Kind::Mapping,
-        Body::Region { .. } => Kind::Region,
-        Body::Port { .. } => Kind::Port,
-        Body::Portset => Kind::Portset,
-        Body::Space { .. } => Kind::Space,
-        Body::Thread(_) => Kind::Thread,
-        Body::Reference { .. } => Kind::Reference,
-    }
-}
-
 /// An object is of a kind.
 fn is_kind(body: &Body, wanted: Kind) -> bool
     ensures { (p : ℕ → Path) → result ≡ same_kind wanted (objects.kind_of (body_by p body.now)) }
 {
-    number(wanted) == number(kind_of(body))
+    number(wanted) == kind_number(body)
 }
 
 /// The object of a kind to which a pointer leads.

@@ -1,6 +1,6 @@
 use Rattle.std.proofs.Common.{ne_eqb}
-use Rattle.fk_plans.proofs.Beneath.{itself, rootless, at_root, home_lives, at_home}
-use Rattle.fk_plans.proofs.within.is_within.Goals as goal
+use Rattle.fk_readers.proofs.Beneath.{itself, rootless, at_root, home_lives, at_home}
+use Rattle.fk_readers.proofs.within.is_within.Goals as goal
 
 pub returns-then-inner-outer : goal.returns-then-inner-outer
 returns-then-inner-outer c = itself c.args.store.now c.args.inner c.args.outer c.if-inner-outer.true

@@ -5,10 +5,9 @@ ghost use Rattle.fk_model.specs.Readers as readers;
 ghost use Rattle.fk_store.specs.Bodies.{thread_by};
 ghost use Rattle.fk_store.specs.Paths.{path};
 ghost use Rattle.fk_store.specs.World.{world, IsLive};
-ghost use Rattle.fk_plans.specs.Plans.{caller_by};
-ghost use Rattle.fk_plans.specs.Verdicts.{mapped};
+ghost use Rattle.fk_readers.specs.Callers.{caller_by, mapped};
 
-use crate::plan::Caller;
+use crate::caller::Caller;
 use crate::readers::slot_for;
 use fk_model::status::{BADHANDLE, WRONGKIND};
 use fk_model::{Body, Thread, Who};
