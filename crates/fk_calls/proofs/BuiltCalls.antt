@@ -3,7 +3,10 @@ use Rattle.std.proofs.Common.{◌≡◌, ℕ, Bool, true, false, cond, eqb, List
 use Rattle.std.proofs.lemmas.Bool.{eqb-true}
 use Rattle.std.proofs.lemmas.Option.{same_Some}
 use Rattle.fk_model.specs.declared.stage.Stage.{Stage}
-use Rattle.fk_model.specs.declared.stage.Stage.TheVariants.{Create, Destroy, GetState, SetState, GetPtr, SetPtr, SpaceHold, SpaceRelease, HoldSet, SpaceMakeHeld, Rename, Search, Point, Clear, Locate, ThreadStop, ThreadGo, PageGive, PageTake, PageRead, PageNext, MutexLock, MutexTrylock, MutexUnlock}
+use Rattle.fk_model.specs.declared.stage.Stage.TheVariants.{Create, Destroy, Rename, Search, Point, Clear, Locate}
+use Rattle.fk_model.specs.declared.stage.Stage.TheVariants.{GetState, SetState, GetPtr, SetPtr}
+use Rattle.fk_model.specs.declared.stage.Stage.TheVariants.{SpaceHold, SpaceRelease, HoldSet, SpaceMakeHeld, ThreadStop, ThreadGo, PageGive, PageTake, PageRead, PageNext}
+use Rattle.fk_model.specs.declared.stage.Stage.TheVariants.{MutexLock, MutexTrylock, MutexUnlock}
 use Rattle.fk_model.specs.Calls.{Call, calls, code_of, named_by, todo_of}
 use Rattle.fk_model.specs.Moves.{todo_known}
 use Rattle.fk_stages.specs.Built.{built}

@@ -3,7 +3,10 @@ use Rattle.std.specs.Prelude.{◌≡◌, Bool, true, false, List, [], ◌∷◌,
 use Rattle.fk_model.specs.declared.moves.Ask.{Ask}
 use Rattle.fk_model.specs.declared.moves.Ask.TheVariants as asks
 use Rattle.fk_model.specs.declared.stage.Stage.{Stage}
-use Rattle.fk_model.specs.declared.stage.Stage.TheVariants.{Create, Destroy, GetState, SetState, GetPtr, SetPtr, SpaceHold, SpaceRelease, HoldSet, Rename, Search, Point, Clear, Locate, ThreadStop, ThreadGo, PageGive, PageTake, PageRead, PageNext, SpaceMakeHeld, MutexLock, MutexTrylock, MutexUnlock}
+use Rattle.fk_model.specs.declared.stage.Stage.TheVariants.{Create, Destroy, Rename, Search, Point, Clear, Locate}
+use Rattle.fk_model.specs.declared.stage.Stage.TheVariants.{GetState, SetState, GetPtr, SetPtr}
+use Rattle.fk_model.specs.declared.stage.Stage.TheVariants.{SpaceHold, SpaceRelease, HoldSet, SpaceMakeHeld, ThreadStop, ThreadGo, PageGive, PageTake, PageRead, PageNext}
+use Rattle.fk_model.specs.declared.stage.Stage.TheVariants.{MutexLock, MutexTrylock, MutexUnlock}
 use Rattle.fk_model.specs.Places.{Path}
 use Rattle.fk_model.specs.World.{World}
 use Rattle.fk_store.specs.Threads.{todo_at}
@@ -41,19 +44,19 @@ abbrev pub IsFirst : Stage → List Stage → Type 0
 IsFirst stage [] = ⊤
 IsFirst stage (first ∷ later) = first ≡ stage
 
--- it makes an object or a page, which takes memory
-abbrev pub takes_memory : Stage → Bool
-takes_memory (Create s x kind) = true
-takes_memory (PageGive s page address) = true
-takes_memory (SpaceMakeHeld x) = true
-takes_memory other = false
+-- it makes an object or a page, which takes memory. Porters alone make spaces that are held
+abbrev pub takes_memory : (is_porter : Bool) → Stage → Bool
+takes_memory is_porter (Create s x kind) = true
+takes_memory is_porter (PageGive s page address) = true
+takes_memory is_porter (SpaceMakeHeld x) = is_porter
+takes_memory is_porter other = false
 
 abbrev pub first_takes_memory : List Stage → Bool
 first_takes_memory [] = false
-first_takes_memory (stage ∷ later) = takes_memory stage
+first_takes_memory (stage ∷ later) = takes_memory false stage
 
 -- a move of the thread at a path may want memory
 abbrev pub may_want_memory : World → Path → Ask → Bool
 may_want_memory w x asks.Run = first_takes_memory (todo_at w x)
-may_want_memory w x (asks.Call stage words) = takes_memory stage
+may_want_memory w x (asks.Call stage words) = takes_memory true stage
 may_want_memory w x other = false

@@ -47,7 +47,7 @@ fn row(
     requires first { IsFirst stage.now (todo_at (world store.now) (place (path store.now) caller.who)) }
     requires given { caller.is_porter ≡ true → length given.now ≡ 64 }
     ensures row { JudgesGiven store.now caller given.now result (λ w c. stage_row w c (picked_by (path store.now) pick) stage.now) }
-    ensures sure { takes_memory stage.now ≡ false → IfOk result IsSureVerdict }
+    ensures sure { takes_memory true stage.now ≡ false → IfOk result IsSureVerdict }
 {
     match *stage {
         Stage::Create { s, x, kind } => create(store, caller, s, x, kind),
@@ -119,7 +119,7 @@ pub fn judge(
     ensures row { let c = caller_by (path store.now) caller given.now in
         outcome_by (world store.now) (path store.now) c result ≡ allowed_row (world store.now) c (picked_by (path store.now) pick) stage.now }
     ensures fits { IsVerdict store.now caller result }
-    ensures sure { takes_memory stage.now ≡ false → IsSureVerdict result }
+    ensures sure { takes_memory caller.is_porter stage.now ≡ false → IsSureVerdict result }
 {
     if is_denied(caller, stage) {
         return Verdict::Refused(DENIED);

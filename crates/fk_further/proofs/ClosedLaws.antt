@@ -78,37 +78,15 @@ next_off : (a b : Bool) → (a || b) ≡ false → b ≡ false
 next_off false b h = h
 next_off true b h = cc
 
-port_there : (w : World) (x : Path) → is_one_of (kinds.Port ∷ []) (kind_there w x) ≡ true → kind_there w x ≡ Some kinds.Port
-unfolding kind_there
-port_there w x h = by (w.body x) h
-  where
-    by : (o : Option Body) → is_one_of (kinds.Port ∷ []) (option_map kind_of o) ≡ true → option_map kind_of o ≡ Some kinds.Port
-    by (Some (Mutex locked)) h = cc
-    by (Some Cond) h = cc
-    by (Some (Mapping m)) h = cc
-    by (Some (Region r)) h = cc
-    by (Some (Port set served)) h = refl
-    by (Some Portset) h = cc
-    by (Some (Space birth holder)) h = cc
-    by (Some (Thread_of t)) h = cc
-    by (Some (Reference to)) h = cc
-    by None h = cc
+is_port : (o : Option Kind) → is_one_of (kinds.Port ∷ []) o ≡ true → o ≡ Some kinds.Port
+is_port (Some kinds.Port) h = refl
+is_port (Some other) h = cc
+is_port None h = cc
 
-thread_there : (w : World) (x : Path) → is_one_of (kinds.Thread ∷ []) (kind_there w x) ≡ true → kind_there w x ≡ Some kinds.Thread
-unfolding kind_there
-thread_there w x h = by (w.body x) h
-  where
-    by : (o : Option Body) → is_one_of (kinds.Thread ∷ []) (option_map kind_of o) ≡ true → option_map kind_of o ≡ Some kinds.Thread
-    by (Some (Mutex locked)) h = cc
-    by (Some Cond) h = cc
-    by (Some (Mapping m)) h = cc
-    by (Some (Region r)) h = cc
-    by (Some (Port set served)) h = cc
-    by (Some Portset) h = cc
-    by (Some (Space birth holder)) h = cc
-    by (Some (Thread_of t)) h = refl
-    by (Some (Reference to)) h = cc
-    by None h = cc
+is_thread : (o : Option Kind) → is_one_of (kinds.Thread ∷ []) o ≡ true → o ≡ Some kinds.Thread
+is_thread (Some kinds.Thread) h = refl
+is_thread (Some other) h = cc
+is_thread None h = cc
 
 module _ (w : World) (nester : Path) (slot : ℕ) (valid : IsConsistent w) (rooted : IsRooted w) (few : w.next ≤ depth) (uncut : IsUncut w)
     (space : kind_there w (slot ∷ nester) ≡ Some kinds.Space) where
@@ -168,7 +146,7 @@ module _ (w : World) (nester : Path) (slot : ℕ) (valid : IsConsistent w) (root
           lies_with (At (q ++ root)) server →
           list_any is_far (peer_pointer (cut_peer (ports_of w nester slot) nester slot (is_out (see (At (q ++ root)))) (Server server))) ≡ false
       by (At y) good real lies =
-          let inside = inside_with q y (port_there w (q ++ root) at) (thread_there w y good) lies in
+          let inside = inside_with q y (is_port (kind_there w (q ++ root)) at) (is_thread (kind_there w y) good) lies in
           rw (strip-append root q, inside.1, strip-append root inside.0) refl
       by Null good real lies = cc
       by Dead good real lies = cc

@@ -1,6 +1,6 @@
 //! State records: the 32 words that say all of an object but its pointers.
 //!
-//! It stands on `fk_store` and `fk_stages`. It promises that the words are those of the abstract
+//! It stands on `fk_store`, `fk_stages` and `fk_readers`. It promises that the words are those of the abstract
 //! machine's record, and that setting one makes of the store's world what the machine makes of it.
 #![tactic(auto)]
 
@@ -8,5 +8,5 @@ mod records;
 mod setting;
 mod words;
 
-pub use records::{kind_number, record_of};
+pub use records::record_of;
 pub use setting::{set_state, takes_state};

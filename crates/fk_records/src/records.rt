@@ -1,6 +1,6 @@
 //! The record of an object.
 ghost use Rattle.std.specs.Prelude.{◌≡◌, ℕ, [], ◌∷◌};
-ghost use Rattle.fk_model.specs.Objects.{kind_of, number_of_kind, registers_of};
+ghost use Rattle.fk_model.specs.Objects.{registers_of};
 ghost use Rattle.fk_model.specs.Objects.Body.{Thread_of};
 ghost use Rattle.fk_model.specs.Places.{Path};
 ghost use Rattle.fk_model.specs.Records as definition;
@@ -9,23 +9,6 @@ ghost use Rattle.fk_store.specs.Bodies.{body_by, mode_by, thread_by};
 use crate::words::{fault_words, flag, halt_code, mode_number, talk_words};
 use fk_model::{Body, Mode, Thread};
 use fk_stages::named;
-
-/// The number of an object's kind.
-pub fn kind_number(body: &Body) -> u64
-    ensures { (p : ℕ → Path) → result ≡ number_of_kind (kind_of (body_by p body.now)) }
-{
-    match body {
-        Body::Mutex { .. } => 1,
-        Body::Cond => 2,
-        Body::Mapping { .. } => 3,
-        Body::Region { .. } => 4,
-        Body::Port { .. } => 5,
-        Body::Portset => 6,
-        Body::Space { .. } => 7,
-        Body::Thread(_) => 8,
-        Body::Reference { .. } => 9,
-    }
-}
 
 /// The registers of a thread. Those of one in a call whose code is none begin with 0.
 fn registers_of(thread: &Thread) -> [u64; 16]

@@ -12,9 +12,9 @@ ghost use Rattle.fk_store.specs.Paths.{path, place};
 ghost use Rattle.fk_store.specs.World.{world};
 ghost use Rattle.fk_records.specs.Settings.{edits_of, sets_at, IsSetting};
 
-use crate::records::kind_number;
 use fk_model::limits::{MOST_STOPS, PAGES, SLOTS};
 use fk_model::{Body, Mode, Who};
+use fk_readers::kind_number;
 use fk_stages::named;
 use fk_store::Store;
 

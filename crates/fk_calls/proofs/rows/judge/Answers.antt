@@ -2,6 +2,7 @@ use Rattle.std.proofs.Common.{◌≡◌, true, false, refl, sym, ◌∙◌}
 use Rattle.fk_model.specs.Moves.{is_denied}
 use Rattle.fk_plans.specs.Plans.{caller_by}
 use Rattle.fk_store.specs.Paths.{path}
+use Rattle.fk_calls.proofs.Firsts.{takes_none}
 use Rattle.fk_calls.proofs.rows.judge.Goals as goal
 
 pub returns-then-is_denied-clause-row : goal.returns-then-is_denied-clause-row
@@ -21,3 +22,9 @@ returns-in-Err-clause-row c =
     let allowed : is_denied (caller_by (path c.args.store.now) c.args.caller c.args.given.now)
     c.args.stage.now ≡ false = sym (c.is_denied.ensures (path c.args.store.now) c.args.given.now) ∙ c.if-is_denied.false in
     rw allowed c.in-Err.ensures.row.outcome
+
+pub returns-in-Ok-clause-sure : goal.returns-in-Ok-clause-sure
+returns-in-Ok-clause-sure c =
+    let allowed : is_denied (caller_by (path c.args.store.now) c.args.caller c.args.given.now)
+    c.args.stage.now ≡ false = sym (c.is_denied.ensures (path c.args.store.now) c.args.given.now) ∙ c.if-is_denied.false in
+    λ none. c.in-Ok.ensures.sure (takes_none c.args.caller (path c.args.store.now) c.args.given.now c.args.stage.now allowed none)
