@@ -7,4 +7,5 @@ pub mod Setting
 pub mod Prompt
 pub mod Holding
 pub mod Destroying
+pub mod Events
 pub mod brief

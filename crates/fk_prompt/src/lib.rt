@@ -7,6 +7,7 @@
 
 ghost use Rattle.fk_prompt.specs.Brief.{MovesAreBrief, UsersDestroyOne, PortersDestroyOne};
 ghost use Rattle.fk_prompt.specs.Correct.{GetStateShows, GetStateAnswers, SetStateOfItself, PortersSetStateOfItself};
+ghost use Rattle.fk_prompt.specs.Events.{PromptIsReady, StepsAreCorrect};
 ghost use Rattle.fk_prompt.specs.Prompt.{GetStateIsPrompt, PortersGetStateIsPrompt, GetStateFaults, SpaceHoldIsPrompt, PortersSpaceHoldIsPrompt};
 
 /// A `get_state` that is done leaves the object's record in its caller's page.
@@ -55,4 +56,14 @@ pub fn a_move_does_little()
 pub fn a_stage_of_destroy_removes_one_object()
     ensures user { UsersDestroyOne }
     ensures porter { PortersDestroyOne }
+{}
+
+/// A move of a free caller that gets a state or holds a space, which no hold bars, is ready.
+pub fn a_prompt_move_is_ready()
+    ensures { PromptIsReady }
+{}
+
+/// Every step is correct and brief: it does what the laws of states, records and destruction say.
+pub fn a_step_is_correct()
+    ensures { StepsAreCorrect }
 {}

@@ -1,0 +1,26 @@
+-- The laws for one event.
+use Rattle.fk_prompt.specs.Events.{PromptIsReady, StepsAreCorrect}
+use Rattle.fk_prompt.specs.Events.IsPrompt.{Gets, PorterGets, Holds, PorterHolds}
+use Rattle.fk_prompt.proofs.Correct.{get_state_shows, get_state_answers}
+use Rattle.fk_prompt.proofs.Setting.{set_state_of_itself, porters_set_state_of_itself}
+use Rattle.fk_prompt.proofs.Prompt.{get_state_is_prompt, porters_get_state_is_prompt}
+use Rattle.fk_prompt.proofs.Holding.{space_hold_is_prompt, porters_space_hold_is_prompt}
+use Rattle.fk_prompt.proofs.Destroying.{users_destroy_one, porters_destroy_one}
+use Rattle.fk_prompt.proofs.brief.Moves.{moves_are_brief}
+
+pub prompt_is_ready : PromptIsReady
+prompt_is_ready known w _ (Gets space slot s x address at unbarred) = get_state_is_prompt known w space slot s x address at unbarred
+prompt_is_ready known w _ (PorterGets space slot s x address words at) = porters_get_state_is_prompt known w space slot s x address words at
+prompt_is_ready known w _ (Holds space slot s x at may) = space_hold_is_prompt known w space slot s x at may
+prompt_is_ready known w _ (PorterHolds space slot s x words at may) = porters_space_hold_is_prompt known w space slot s x words at may
+
+pub steps_are_correct : StepsAreCorrect
+steps_are_correct known w e = record {
+  got = λ space slot s x address is runs at. rw is (get_state_shows known w space slot s x address runs at);
+  answered = λ space slot s x address words answer is at. rw is (get_state_answers known w space slot s x address words answer at);
+  set = λ space slot s x address is runs at meets. rw is (set_state_of_itself known w space slot s x address runs.registers at meets);
+  given = λ space slot s x address words is at gives. rw is (porters_set_state_of_itself known w space slot s x address words at gives);
+  destroyed = λ space slot s x is at. rw is (users_destroy_one known w space slot s x at);
+  removed = λ space slot s x words is at. rw is (porters_destroy_one known w space slot s x words at);
+  brief = moves_are_brief known w e.mover e.pick e.ask;
+}
