@@ -5,4 +5,5 @@ pub mod Away
 pub mod Same
 pub mod Talks
 pub mod Rows
+pub mod Natives
 pub mod Laws

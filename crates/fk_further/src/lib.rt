@@ -5,7 +5,7 @@
 #![tactic(auto)]
 
 ghost use Rattle.fk_further.specs.ClosedLaws.{ClosedIsPlain};
-ghost use Rattle.fk_further.specs.Strangers.{StrangersMoveUnseen};
+ghost use Rattle.fk_further.specs.Strangers.{StrangersMoveUnseen, StrangersActUnseen};
 ghost use Rattle.fk_further.specs.Told.{EndsAreTold, FaultsAreTold, RenamesTellNoEnds, WordsAreTold, OversAreTold, TouchesTellNothing};
 ghost use Rattle.fk_further.specs.Runs.{DueRunKeepsCut, CutIsCutWorld, FurtherStaysCutWorld};
 
@@ -60,4 +60,9 @@ pub fn touches_tell_nothing()
 /// A move of a stranger isn't seen, where no mapping outside leads to a region inside.
 pub fn a_strangers_move_is_unseen()
     ensures { StrangersMoveUnseen }
+{}
+
+/// Nor is an act of a native server whose port is a stranger's.
+pub fn a_strangers_act_is_unseen()
+    ensures { StrangersActUnseen }
 {}

@@ -1,5 +1,6 @@
 -- A world that meets every premise of the laws: a nester with a subtree in slot 1, in which there is something of all.
 use Rattle.std.specs.Prelude.{ℕ, true, false, List, [], ◌∷◌, replicate, Option, None, Some}
+use Rattle.fk_model.specs.declared.stage.Stage.TheVariants.{GetState, LinkPark, FaultPark}
 use Rattle.fk_model.specs.declared.thread.Turn.TheVariants as turns
 use Rattle.fk_model.specs.Places.{Path, Ptr}
 use Rattle.fk_model.specs.Places.Ptr.{At}
@@ -8,9 +9,11 @@ use Rattle.fk_model.specs.Objects.Mode.{Native}
 use Rattle.fk_model.specs.Objects.Peer.{Server, Service, Parked}
 use Rattle.fk_model.specs.Objects.Body.{Mutex, Mapping, Region, Port, Portset, Space, Reference}
 use Rattle.fk_model.specs.World.{World}
+use Rattle.fk_model.specs.Runs.{Event}
+use Rattle.fk_model.specs.Valid.{is_fit}
 use Rattle.fk_model.specs.Cut.{seen_by, cut}
 use Rattle.fk_model.specs.Closed.{open_place}
-use Rattle.fk_worked.specs.Worked.{Page, machine, world_of, numbered, running, calling, thread_in_mode, with_talk, with_fault}
+use Rattle.fk_worked.specs.Worked.{Page, machine, world_of, numbered, running, calling, thread_in_mode, with_talk, with_fault, goes, makes}
 
 abbrev pub nesters_porter : Path
 nesters_porter = 255 ∷ []
@@ -69,6 +72,33 @@ fault_within = with_fault (record { page = 9; write = true; port = At (within 4)
 abbrev pub nesters_window : Body
 nesters_window = Mapping (record { first = 8; count = 1; offset = 0; write = true; region = At (within 7) })
 
+-- a user of the nester's beside the subtree that its porter holds, with a reference into it in its scratch
+unfoldable pub with_user : World
+with_user = world_of ((0 ∷ [], running 0 []) ∷ (240 ∷ [], Reference (At (within 5))) ∷ objects_of (Some (At nesters_porter))) pages_of
+
+abbrev pub users_goes : Event
+users_goes = goes (0 ∷ [])
+
+-- the porter makes a call, and gives so many zeros, or two numbers and then zeros
+abbrev pub asks_with : ℕ → Event
+asks_with count = makes nesters_porter (GetState 1 5 0) (replicate count 0)
+
+abbrev pub parks_talk : ℕ → ℕ → Event
+parks_talk turn moved = makes nesters_porter (LinkPark 1 0 8) (turn ∷ moved ∷ replicate 62 0)
+
+abbrev pub parks_fault : ℕ → Event
+parks_fault taken = makes nesters_porter (FaultPark 1 2 8 taken) (9 ∷ 1 ∷ replicate 62 0)
+
+-- a native server in another space, and a thread there that connects to it
+abbrev pub strangers_port : Path
+strangers_port = 9 ∷ 2 ∷ []
+
+abbrev pub strangers_client : Path
+strangers_client = 0 ∷ 2 ∷ []
+
+unfoldable pub with_stranger : World
+with_stranger = world_of ((2 ∷ [], Space 3 None) ∷ (strangers_port, Port None true) ∷ (strangers_client, calling 0 (32 ∷ 9 ∷ [])) ∷ objects_of None) pages_of
+
 unfoldable pub premises : Unit {0}
-unfolding machine seen_by cut open_place full_of_all held_with with_object with_one_page
+unfolding machine is_fit seen_by cut open_place full_of_all held_with with_object with_one_page with_user with_stranger
 premises = tt

@@ -10,11 +10,12 @@ ghost use Rattle.fk_model.specs.Valid.{IsPaged};
 ghost use Rattle.fk_model.specs.Whole.{IsWhole, IsSavable};
 ghost use Rattle.fk_model.specs.Cut.{IsPlain};
 ghost use Rattle.fk_model.specs.Closed.{IsClosed};
-ghost use Rattle.fk_frozen.specs.Holding.{IsHolding};
+ghost use Rattle.fk_frozen.specs.Holding.{IsHolding, IsUsersMove};
 ghost use Rattle.fk_further.specs.ClosedLaws.{IsUncut, IsUsersAlone};
-ghost use Rattle.fk_further.specs.Strangers.{HasNoWindow};
-ghost use Rattle.fk_worked.specs.Worked.{thread_in_mode};
-ghost use Rattle.fk_subtrees.specs.Premises.{nesters_porter, within, full_of_all, held_with, with_object, with_one_page, served_within, fault_within, nesters_window};
+ghost use Rattle.fk_further.specs.Strangers.{HasNoWindow, IsStrangersPort};
+ghost use Rattle.fk_whole.specs.Runnable.{IsDue};
+ghost use Rattle.fk_worked.specs.Worked.{IsReadyTo, accepts, goes, thread_in_mode};
+ghost use Rattle.fk_subtrees.specs.Premises.{nesters_porter, within, full_of_all, held_with, with_object, with_one_page, served_within, fault_within, nesters_window, with_user, users_goes, asks_with, parks_talk, parks_fault, with_stranger, strangers_port, strangers_client};
 
 /// It is valid, has few birth numbers and full pages.
 pub fn a_whole_world()
@@ -80,4 +81,41 @@ pub fn a_porter_that_holds()
     ensures nobody { IsHolding [] 1 (full_of_all None) → ⊥ }
     ensures another { IsHolding [] 1 (full_of_all (Some (At (0 ∷ [])))) → ⊥ }
     ensures deeper { IsHolding (1 ∷ []) 6 (held_with (Reference (At (within 5)))) → ⊥ }
+{}
+
+/// A user's move is due, and so are an act of a native server and a call for which a porter gives 64
+/// words, in their ranges; not one with fewer or more words, nor with a turn, a count of words or a
+/// taker that there isn't.
+pub fn a_move_that_is_due()
+    ensures user { IsDue with_user users_goes }
+    ensures server { IsDue with_user (accepts (9 ∷ []) (within 0)) }
+    ensures porter { IsDue with_user (asks_with 64) }
+    ensures parks { IsDue with_user (parks_talk 2 65535) }
+    ensures parks_fault { IsDue with_user (parks_fault 1) }
+    ensures few { IsDue with_user (asks_with 63) → ⊥ }
+    ensures many { IsDue with_user (asks_with 65) → ⊥ }
+    ensures no_turn { IsDue with_user (parks_talk 3 0) → ⊥ }
+    ensures long { IsDue with_user (parks_talk 1 65536) → ⊥ }
+    ensures no_taker { IsDue with_user (parks_fault 2) → ⊥ }
+{}
+
+/// A user moves beside a subtree that a porter holds; that is no move of the porter, nor of a thread
+/// that is held, nor of nobody.
+pub fn a_users_move_beside_a_hold()
+    ensures holding { IsHolding [] 1 with_user }
+    ensures user { IsUsersMove [] with_user users_goes }
+    ensures porter { IsUsersMove [] with_user (asks_with 64) → ⊥ }
+    ensures held { IsUsersMove [] with_user (goes (within 5)) → ⊥ }
+    ensures nobody { IsUsersMove [] with_user (goes (3 ∷ [])) → ⊥ }
+{}
+
+/// A native server elsewhere accepts a client; its port is a stranger's, unlike the nester's ports and
+/// those within.
+pub fn a_strangers_port()
+    ensures ready { IsReadyTo with_stranger (accepts strangers_port strangers_client) }
+    ensures stranger { IsStrangersPort with_stranger [] 1 strangers_port }
+    ensures nesters { IsStrangersPort with_stranger [] 1 (9 ∷ []) → ⊥ }
+    ensures inner { IsStrangersPort with_stranger [] 1 (within 4) → ⊥ }
+    ensures plain { IsPlain with_stranger [] 1 }
+    ensures no_window { HasNoWindow with_stranger [] 1 }
 {}

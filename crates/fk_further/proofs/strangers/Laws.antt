@@ -8,30 +8,32 @@ use Rattle.fk_model.specs.declared.stage.Stage.TheVariants.{Search, Wait, Server
 use Rattle.fk_model.specs.declared.stage.Stage.TheVariants as stages
 use Rattle.fk_model.specs.Places.{Path, strip, is_within}
 use Rattle.fk_model.specs.Objects.{kind_of, and_then}
+use Rattle.fk_model.specs.NativeRows.{accept_row}
 use Rattle.fk_model.specs.World.{World, Change, apply_all}
-use Rattle.fk_model.specs.Searches.{client_of, faulter_of}
+use Rattle.fk_model.specs.Searches.{client_of, faulter_of, client_at}
 use Rattle.fk_model.specs.Outcomes.{Outcome, Caller, path_of, listed}
 use Rattle.fk_model.specs.Outcomes.Outcome.{Refused, Waits, Goes}
 use Rattle.fk_model.specs.Readers.{space_argument}
 use Rattle.fk_model.specs.LinkRows.{Candidate, candidate, user_at}
-use Rattle.fk_model.specs.Moves.{porter_at, outcome, step, stepped}
-use Rattle.fk_model.specs.Valid.{IsConsistent, kind_there}
+use Rattle.fk_model.specs.Moves.{GoesAllowed, IsReady, porter_at, outcome, step, stepped}
+use Rattle.fk_model.specs.Valid.{IsConsistent, is_fit, kind_there}
 use Rattle.fk_model.specs.Cut.{cut, IsPlain}
 use Rattle.fk_model.specs.Further.{Touch}
 use Rattle.fk_model.specs.Further.Touch.{Handed, Left, FaultDone, PageTaken}
 use Rattle.fk_model.specs.Further.Onward.{ByOthers}
-use Rattle.fk_model.specs.Seen.{page_put, drops_page, passes_turn, ends_talk, serves_outside, given_of, on_inner, taken_as, page_given, on_place, stage_touch, caller_stage, outer_touch, IsSeen, IsStranger}
+use Rattle.fk_model.specs.Seen.{accepted, outcome_said, page_put, drops_page, passes_turn, ends_talk, serves_outside, given_of, on_inner, taken_as, page_given, on_place, stage_touch, caller_stage, outer_touch, IsSeen, IsStranger}
 use Rattle.fk_model.specs.Seen.Seen.{Unseen}
 use Rattle.fk_laws.proofs.safety.Outcomes.{SafeOutcome}
 use Rattle.fk_laws.proofs.safety.Moves.{outcome-safe}
 use Rattle.fk_laws.proofs.validity.Steps.{facts_of}
-use Rattle.fk_further.specs.Strangers.{HasNoWindow, is_of_thread, StrangersMoveUnseen}
-use Rattle.fk_further.proofs.strangers.Places.{away_object, outside_up, within-append}
+use Rattle.fk_further.specs.Strangers.{HasNoWindow, is_of_thread, StrangersMoveUnseen, IsStrangersPort, is_of_server, StrangersActUnseen}
+use Rattle.fk_further.proofs.strangers.Places.{IsAwayObject, away_object, outside_up, within-append}
 use Rattle.fk_further.proofs.strangers.Reads.{IsApart, place-away}
 use Rattle.fk_further.proofs.strangers.Away.{away-serves, changes-below}
 use Rattle.fk_further.proofs.strangers.Same.{same-below-cut}
 use Rattle.fk_further.proofs.strangers.Talks.{client-out, faulter-out, candidate-out}
 use Rattle.fk_further.proofs.strangers.Rows.{AwayOutcome, outcome-away}
+use Rattle.fk_further.proofs.strangers.Natives.{IfGoes, act-away, guest-out, picked-out}
 
 none_of : {A : Type 0} (o : Option A) → is_some o ≡ false → o ≡ None
 none_of None h = refl
@@ -148,5 +150,63 @@ strangers_move_unseen w nester slot e whole plain windows stranger is fit = by e
           (
             stepped-cut w nester slot whole.valid.consistent plain (outcome w (k ∷ s) e.pick e.ask) space windows safe away,
             listed-serves w nester slot whole.valid.consistent plain (outcome w (k ∷ s) e.pick e.ask) windows away,
+          ),
+        )
+
+-- ---- native servers
+
+module _ (w : World) (nester : Path) (slot : ℕ) (valid : IsConsistent w) (plain : IsPlain w nester slot) (port : Path)
+    (away : IsAwayObject nester slot port) where
+  -- who is accepted is nobody inside
+  accept-none : (o : Outcome) (x : Path) → IfGoes (is_within (slot ∷ nester) x ≡ false) o → GoesAllowed w port o →
+      on_inner (slot ∷ nester) (accepted (outcome_said o)) (Some x) ≡ None
+  accept-none (Goes cs said) x out ready = rw (none_of (strip (slot ∷ nester) x) out) refl
+  accept-none (Refused status) x out ready = absurd ready
+  accept-none Waits x out ready = absurd ready
+
+  act-none : (pick : Option Path) (ask : Ask) → is_of_server ask ≡ true → IsReady w port pick ask →
+      outer_touch w (slot ∷ nester) port pick ask (outcome w port pick ask) ≡ None
+  unfolding outcome
+  act-none (Some x) asks.Accept is ready = accept-none (accept_row w port (Some x)) x (picked-out w nester slot valid plain port away x) ready
+  act-none None asks.Accept is ready = refl
+  act-none pick (asks.Give words len) is ready =
+      untouched w nester slot valid plain _ (client_at w port) (λ x found. guest-out w nester slot valid plain port away x found)
+  act-none pick asks.Over is ready =
+      untouched w nester slot valid plain _ (client_at w port) (λ x found. guest-out w nester slot valid plain port away x found)
+  act-none pick asks.Run is ready = cc
+  act-none pick (asks.Call stage words) is ready = cc
+
+-- such an act is fit always
+fit_act : (w : World) (x : Path) (ask : Ask) → is_of_server ask ≡ true → is_fit w x ask ≡ true
+unfolding is_fit
+fit_act w x asks.Accept is = refl
+fit_act w x (asks.Give words len) is = refl
+fit_act w x asks.Over is = refl
+fit_act w x asks.Run is = refl
+fit_act w x (asks.Call stage words) is = cc
+
+pub strangers_act_unseen : StrangersActUnseen
+unfolding step kind_there
+strangers_act_unseen w nester slot e whole plain windows stranger is ready = by e.mover stranger ready
+    (outcome-safe w e.mover e.pick e.ask (facts_of w whole.valid whole.few) (fit_act w e.mover e.ask is))
+  where
+    space : option_map kind_of (w.body (slot ∷ nester)) ≡ Some kinds.Space
+    space = rw (plain.root) refl
+
+    by : (x : Path) → IsStrangersPort w nester slot x → IsReady w x e.pick e.ask → SafeOutcome w (outcome w x e.pick e.ask) →
+        IsSeen w nester slot (record e { mover = x }) Unseen
+    by [] stranger ready safe =
+        let top : is_within [] (slot ∷ nester) ≡ true = rw (append-nil (slot ∷ nester)) at (within-append [] (slot ∷ nester)) in
+        let off = stranger.aside in
+        cc
+    by (k ∷ s) stranger ready safe =
+        let away = away_object nester slot k s (record { below = stranger.aside; outside = outside_up nester slot k s stranger.outside }) in
+        let its = act-away w nester slot whole.valid.consistent plain windows (k ∷ s) away e.pick e.ask is in
+        let row : option_map ByOthers (outer_touch w (slot ∷ nester) (k ∷ s) e.pick e.ask (outcome w (k ∷ s) e.pick e.ask)) ≡ None =
+        rw (act-none w nester slot whole.valid.consistent plain (k ∷ s) away e.pick e.ask is ready) refl in (
+          inr (rw (none_of (strip (slot ∷ nester) (k ∷ s)) stranger.outside) row),
+          (
+            stepped-cut w nester slot whole.valid.consistent plain (outcome w (k ∷ s) e.pick e.ask) space windows safe its,
+            listed-serves w nester slot whole.valid.consistent plain (outcome w (k ∷ s) e.pick e.ask) windows its,
           ),
         )

@@ -76,10 +76,10 @@ module _ (w : World) (nester : Path) (slot : ℕ) (valid : IsConsistent w) (plai
   refused : {status : ℕ} → AwayOutcome (Refused status)
   refused = record { aways = tt }
 
-  waits : AwayOutcome Waits
+  pub waits : AwayOutcome Waits
   waits = record { aways = tt }
 
-  goes : {cs : List Change} {said : Said} → Aways cs → AwayOutcome (Goes cs said)
+  pub goes : {cs : List Change} {said : Said} → Aways cs → AwayOutcome (Goes cs said)
   goes aways = record { aways = aways }
 
   -- ---- lists and checks
@@ -105,11 +105,11 @@ module _ (w : World) (nester : Path) (slot : ℕ) (valid : IsConsistent w) (plai
   away-or_refuse status (Some a) go aways = aways a refl
   away-or_refuse status None go aways = refused
 
-  away-when : (test : Bool) (o : Outcome) → (test ≡ true → AwayOutcome o) → AwayOutcome (when test o)
+  pub away-when : (test : Bool) (o : Outcome) → (test ≡ true → AwayOutcome o) → AwayOutcome (when test o)
   away-when true o aways = aways refl
   away-when false o aways = waits
 
-  away-if : (t : Bool) (a b : Outcome) → AwayOutcome a → AwayOutcome b → AwayOutcome (if t then a else b)
+  pub away-if : (t : Bool) (a b : Outcome) → AwayOutcome a → AwayOutcome b → AwayOutcome (if t then a else b)
   away-if true a b first second = first
   away-if false a b first second = second
 
@@ -118,7 +118,7 @@ module _ (w : World) (nester : Path) (slot : ℕ) (valid : IsConsistent w) (plai
   away-telling said o aways = aways
 
   -- the space of whoever is outside is outside
-  parent_out : (x : Path) → IsOut x → IsOut (parent x)
+  pub parent_out : (x : Path) → IsOut x → IsOut (parent x)
   parent_out [] out = out
   parent_out (k ∷ s) out = outside_up nester slot k s out
 
@@ -128,7 +128,7 @@ module _ (w : World) (nester : Path) (slot : ℕ) (valid : IsConsistent w) (plai
   their_page_at-away go (Missing s page keeper) out going = waits
   their_page_at-away go Bad out going = waits
 
-  their_page-away : (space : Path) (address : ℕ) (go : Path → ℕ → Outcome) → IsOut space →
+  pub their_page-away : (space : Path) (address : ℕ) (go : Path → ℕ → Outcome) → IsOut space →
       ((s : Path) (page : ℕ) → IsOut s → AwayOutcome (go s page)) → AwayOutcome (their_page w space address go)
   their_page-away space address go out going =
       their_page_at-away go (reach_word w space address true) (word-out w nester slot windows (plain.birth, plain.holder, plain.root) space address true out)

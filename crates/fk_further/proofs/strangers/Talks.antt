@@ -1,6 +1,7 @@
 -- Whom a stranger meets in talks and faults: everybody is outside.
 use Rattle.std.proofs.Common.{◌≡◌, ◌⊎◌, inl, inr, ℕ, Bool, true, false, if◌then◌else◌, ◌&&◌, ◌||◌, is_some, List, [], ◌∷◌, ◌++◌, Option, Some, None, option_map, Result, Ok, Err, refl, ap, ◌∙◌, append-nil}
 use Rattle.std.specs.List.{list_any, flat_map}
+use Rattle.std.proofs.lemmas.Bool.{and_parts}
 use Rattle.std.proofs.lemmas.List.Folds.{list_any-append}
 use Rattle.fk_model.specs.declared.names.Kind.{Kind}
 use Rattle.fk_model.specs.declared.names.Kind.TheVariants as kinds
@@ -15,18 +16,19 @@ use Rattle.fk_model.specs.Objects.{Peer, Talk, Fault, Thread, Body, same_kind, t
 use Rattle.fk_model.specs.Objects.Peer.{Server, Service, Parked}
 use Rattle.fk_model.specs.Objects.Body.{Mutex, Cond, Mapping, Region, Port, Portset, Space, Thread_of, Reference}
 use Rattle.fk_model.specs.World.{World, serves}
-use Rattle.fk_model.specs.Searches.{objects, thread_at, talk_at, client_of, faulter_of, clients_at, pointers, option_list, talk_pointers, fault_pointers, peer_pointer}
+use Rattle.fk_model.specs.Searches.{objects, thread_at, talk_at, client_of, faulter_of, clients_at, client_at, is_service, pointers, option_list, talk_pointers, fault_pointers, peer_pointer}
 use Rattle.fk_model.specs.Talks.{Line, line, line_from, thread_led_to, talking_end, served_end, ends_beyond, if_talking, is_talking, first_stage}
 use Rattle.fk_model.specs.ObjectRows.{ends_in, ends_on, ends_of_client, ends_with}
 use Rattle.fk_model.specs.LinkRows.{Candidate, user_at, if_read, port_named, connecting_to, slot_in_set, is_member, is_open, is_parked, faulting, connecting, resuming, candidate_by, candidate}
 use Rattle.fk_model.specs.LinkRows.Candidate.{Faulting, Connecting, Resuming}
+use Rattle.fk_model.specs.NativeRows.{connects_here, parked_here}
 use Rattle.fk_model.specs.Holds.{is_free, is_unheld}
 use Rattle.fk_model.specs.Readers.{and_read, slot_for, kind_at, is_kind, led_to, handled, handle}
 use Rattle.fk_model.specs.Freezing.{body_pointers}
 use Rattle.fk_model.specs.Valid.{IsConsistent}
 use Rattle.fk_model.specs.Cut.{is_inner_peer, is_served_by, IsPlain}
 use Rattle.fk_model.proofs.walks.Members.{find_some, of_filter, IsIn}
-use Rattle.fk_model.proofs.walks.PlaceLaws.{same_path_eq, same_path_refl}
+use Rattle.fk_model.proofs.walks.PlaceLaws.{same_path_eq, same_path_refl, leads_to_at}
 use Rattle.fk_further.proofs.strangers.Places.{off_from, of_within, IsAway, IsAwayObject, away_object, object_out, within-append}
 use Rattle.fk_further.proofs.strangers.Leads.{inside_unled}
 
@@ -341,6 +343,43 @@ module _ (w : World) (nester : Path) (slot : ℕ) (valid : IsConsistent w) (plai
       by true o h = cc
       by false (Some stage) h = named-out k q stage y away h
       by false None h = cc
+
+  -- ---- whom a native server whose port is away meets
+
+  pub guest_of-out : (y z : Path) → IsAwayObject nester slot y → client_at w y ≡ Some z → is_within root z ≡ false
+  unfolding client_at
+  guest_of-out y z away found =
+      let at = at_talk z (thread_at w z) refl (λ (talk : Talk). leads_to y talk.port && is_service talk.peer) (find_some _ z (objects w) found).1 in
+      leads_out z y at.0 at.2 away (talk_part y at.0 at.1 at.3 (on_first _ _ (and_parts (leads_to y at.1.port) (is_service at.1.peer) at.4).0))
+
+  -- who is at its Connect there
+  pub joiner-out : (x : Path) (t : Thread) (y : Path) → IsAwayObject nester slot y → thread_at w x ≡ Some t → connects_here w y x t ≡ true →
+      is_within root x ≡ false
+  joiner-out x t y away there h = off_from _ (λ inside. let q = of_within root x inside in by q.0 (rw q.1 at there) (rw q.1 at h))
+    where
+      at : (k : ℕ) (q : Path) (o : Option Ptr) → connecting_to w (k ∷ (q ++ root)) t ≡ o → holds (leads_to y) o ≡ true → ⊥
+      at k q (Some p) e h = connecting-out k q t y away (e ∙ ap Some (leads_to_at y p h))
+      at k q None e h = cc
+
+      by : (q : Path) → thread_at w (q ++ root) ≡ Some t → connects_here w y (q ++ root) t ≡ true → ⊥
+      by [] there h = root_none t there
+      by (k ∷ q) there h = at k q (connecting_to w (k ∷ (q ++ root)) t) refl h
+
+  -- and who has a talk there that waits
+  pub waiter-out : (x : Path) (t : Thread) (y : Path) (talk : Talk) → IsAwayObject nester slot y → thread_at w x ≡ Some t → parked_here y t ≡ Some talk →
+      is_within root x ≡ false
+  waiter-out x t y talk away there h = by t.talk refl h
+    where
+      test : (found : Talk) → t.talk ≡ Some found → (b : Bool) → (leads_to y found.port && is_parked (Some found.peer)) ≡ b →
+          (if b then Some found else None) ≡ Some talk → is_within root x ≡ false
+      test found e true is h = leads_out x y t there away
+          (talk_part y t found e (on_first _ _ (and_parts (leads_to y found.port) (is_parked (Some found.peer)) is).0))
+      test found e false is h = cc
+
+      by : (o : Option Talk) → t.talk ≡ o →
+          and_then (λ (talk : Talk). if leads_to y talk.port && is_parked (Some talk.peer) then Some talk else None) o ≡ Some talk → is_within root x ≡ false
+      by (Some found) e h = test found e (leads_to y found.port && is_parked (Some found.peer)) refl h
+      by None e h = cc
 
   -- who is a candidate for a wait in a space that is away is outside
   module _ (s : Path) (set : ℕ) (away : IsAway nester slot s) where
