@@ -135,6 +135,7 @@ instruction_unrefused m w p c (verdicts.Faults page write port) is = refl
 instruction_unrefused m w p c (verdicts.Refused status) is = absurd is
 instruction_unrefused m w p c verdicts.Waits is = absurd is
 instruction_unrefused m w p c (verdicts.Done plan answers) is = absurd is
+instruction_unrefused m w p c (verdicts.Ends plan answers) is = absurd is
 instruction_unrefused m w p c (verdicts.Shows plan space page) is = absurd is
 instruction_unrefused m w p c (verdicts.ShowsRecord object) is = absurd is
 instruction_unrefused m w p c (verdicts.Sets object from) is = absurd is

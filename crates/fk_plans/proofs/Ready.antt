@@ -8,7 +8,7 @@ use Rattle.fk_model.specs.Objects.Mode.{Running, Calling, Halted, Native}
 use Rattle.fk_model.specs.Objects.Body.{Mutex, Cond, Mapping, Region, Port, Portset, Space, Thread_of, Reference}
 use Rattle.fk_model.specs.World.{World, Change, Edit}
 use Rattle.fk_model.specs.World.Change.{Alter, Make, MakeSpace, PutPage}
-use Rattle.fk_model.specs.World.Edit.{SetFault, SetLocked, Proceed, Finish, PassTurn, SetTalk}
+use Rattle.fk_model.specs.World.Edit.{SetFault, SetLocked, SetPeer, SetTaker, Proceed, Finish, PassTurn, SetTalk}
 use Rattle.fk_model.specs.Instructions.{next}
 use Rattle.fk_model.specs.Reach.{words_at}
 use Rattle.fk_model.specs.UserRows.{proceeds}
@@ -16,12 +16,12 @@ use Rattle.fk_model.specs.ObjectRows.{new_object}
 use Rattle.fk_model.specs.Searches.{option_list, pointers, thread_at}
 use Rattle.fk_model.specs.Holds.{is_frozen, is_frozen_for, is_free, is_user}
 use Rattle.fk_model.specs.Outcomes as outcomes
-use Rattle.fk_model.specs.Outcomes.{Outcome, when, done, telling}
+use Rattle.fk_model.specs.Outcomes.{Outcome, when, done, ended, telling}
 use Rattle.fk_model.specs.Outcomes.Outcome.{Refused, Waits, Goes}
 use Rattle.fk_model.specs.Freezing.{changed_pointers, MayAlter, MayMake, IsAllowed, AreAllowed}
 use Rattle.fk_model.specs.Moves.{closed, with_pick, GoesAllowed}
 use Rattle.fk_store.specs.Contents.{Contents}
-use Rattle.fk_store.specs.Bodies.{fault_by, pointer_by}
+use Rattle.fk_store.specs.Bodies.{fault_by, peer_by, pointer_by, talk_by}
 use Rattle.fk_store.specs.Paths.{path, place}
 use Rattle.fk_store.specs.Moves.{picked_by}
 use Rattle.fk_store.specs.Threads.{is_free_at}
@@ -76,6 +76,9 @@ deed_iff w v me p (deeds.Passes client turn) = plain_iff w me (place p client) (
 deed_iff w v me p (deeds.Unlinks client) = removed_iff w me (place p client) (SetTalk None) refl
 deed_iff w v me p (deeds.Frees thread) = removed_iff w me (place p thread) (SetFault None) refl
 deed_iff w v me p (deeds.Raises thread fault) = changed_iff w me (place p thread) (SetFault (Some (fault_by p fault)))
+deed_iff w v me p (deeds.Links client talk) = changed_iff w me (place p client) (SetTalk (Some (talk_by p talk)))
+deed_iff w v me p (deeds.Serves client peer) = changed_iff w me (place p client) (SetPeer (peer_by p peer))
+deed_iff w v me p (deeds.Takes thread taker) = changed_iff w me (place p thread) (SetTaker (Some (peer_by p taker)))
 deed_iff w v me p (deeds.Holds space holder) = held_iff w me (place p space) (holder_by p holder)
 deed_iff w v me p (deeds.Stops thread stops) = plain_iff w me (place p thread) _ (record { changed = λ b. refl; made = refl })
 deed_iff w v me p (deeds.Copies from to) = not_iff (is_frozen_for w me (p to.0))
@@ -216,6 +219,13 @@ module _ (m : Contents) (c : Caller) (words : List ℕ) (free : c.is_porter ≡ 
       by true e = h
       by false e = own_iff (world m) me _ cs (own e _ (record { changed = λ b. refl; made = refl })) h
 
+  ended_iff : (test : Bool) (cs : List Change) (answers : List ℕ) → (IsTrue test ↔ AreAllowed (world m) me cs) → Goes_iff test (ended caller cs answers)
+  ended_iff test cs answers h = by c.is_porter refl
+    where
+      by : (b : Bool) → c.is_porter ≡ b → Goes_iff test (ended (record caller { is_porter = b }) cs answers)
+      by true e = h
+      by false e = own_iff (world m) me _ cs (own e _ (record { changed = λ b. refl; made = refl })) h
+
   refused_iff : (status : ℕ) → Goes_iff true (Refused status)
   refused_iff status = by c.is_porter refl
     where
@@ -263,6 +273,7 @@ module _ (m : Contents) (c : Caller) (words : List ℕ) (free : c.is_porter ≡ 
   verdict_iff (verdicts.Refused status) fits = refused_iff status
   verdict_iff verdicts.Waits fits = ((λ h. absurd (cc)), (λ h. absurd h))
   verdict_iff (verdicts.Done plan answers) fits = done_iff _ _ _ (plan_iff (world m) me (path m) words plan fits.0.1)
+  verdict_iff (verdicts.Ends plan answers) fits = ended_iff _ _ _ (plan_iff (world m) me (path m) words plan fits.1)
   verdict_iff (verdicts.Shows plan space page) fits = done_iff _ _ _ (plan_iff (world m) me (path m) words plan fits.2.1)
   verdict_iff (verdicts.ShowsRecord object) fits = done_iff true [] _ ((λ h. tt), (λ h. refl))
   verdict_iff (verdicts.Sets object from) fits = done_iff true _ [] (sets_iff (world m) me _ (place (path m) object) _ fits.0 ((world m).body (place (path m) object)))
@@ -299,6 +310,14 @@ module _ (m : Contents) (c : Caller) (words : List ℕ) (free : c.is_porter ≡ 
   may_pick_done chooses pick cs answers = by c.is_porter
     where
       by : (b : Bool) → (chooses || is_none pick) ≡ may_pick_so chooses (picked_by (path m) pick) (done (record caller { is_porter = b }) cs answers)
+      by true = ap (λ b. chooses || b) (none_picked pick)
+      by false = ap (λ b. chooses || b) (none_picked pick)
+
+  may_pick_ended : (chooses : Bool) (pick : Option Who) (cs : List Change) (answers : List ℕ) →
+      (chooses || is_none pick) ≡ may_pick_so chooses (picked_by (path m) pick) (ended caller cs answers)
+  may_pick_ended chooses pick cs answers = by c.is_porter
+    where
+      by : (b : Bool) → (chooses || is_none pick) ≡ may_pick_so chooses (picked_by (path m) pick) (ended (record caller { is_porter = b }) cs answers)
       by true = ap (λ b. chooses || b) (none_picked pick)
       by false = ap (λ b. chooses || b) (none_picked pick)
 
@@ -354,6 +373,7 @@ module _ (m : Contents) (c : Caller) (words : List ℕ) (free : c.is_porter ≡ 
   may_pick_is chooses pick (verdicts.Refused status) fits = none_picked pick
   may_pick_is chooses pick verdicts.Waits fits = refl
   may_pick_is chooses pick (verdicts.Done plan answers) fits = may_pick_done chooses pick _ _
+  may_pick_is chooses pick (verdicts.Ends plan answers) fits = may_pick_ended chooses pick _ _
   may_pick_is chooses pick (verdicts.Shows plan space page) fits = may_pick_done chooses pick _ _
   may_pick_is chooses pick (verdicts.ShowsRecord object) fits = may_pick_done chooses pick _ _
   may_pick_is chooses pick (verdicts.Sets object from) fits = may_pick_done chooses pick _ _

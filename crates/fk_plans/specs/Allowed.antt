@@ -3,10 +3,11 @@ use Rattle.std.specs.Prelude.{ℕ, Bool, true, false, not, ◌&&◌, ◌||◌, i
 use Rattle.fk_model.specs.declared.names.Who.{Who}
 use Rattle.fk_model.specs.Freezing.{are_unfrozen, body_pointers, of_fault, of_talk, MayKill, MayMove}
 use Rattle.fk_model.specs.Holds.{is_frozen_for, leads_to_frozen}
+use Rattle.fk_model.specs.Objects.{Fault, Talk}
 use Rattle.fk_model.specs.Places.{Path}
-use Rattle.fk_model.specs.Searches.{fault_pointers, option_list, talk_pointers}
+use Rattle.fk_model.specs.Searches.{fault_pointers, option_list, peer_pointer, talk_pointers}
 use Rattle.fk_model.specs.World.{World}
-use Rattle.fk_store.specs.Bodies.{fault_by, pointer_by}
+use Rattle.fk_store.specs.Bodies.{fault_by, peer_by, pointer_by, talk_by}
 use Rattle.fk_store.specs.Paths.{place}
 use Rattle.fk_plans.specs.Plans.{holder_by}
 use Rattle.fk_plans.specs.declared.plan.Deed.{Deed}
@@ -32,10 +33,17 @@ is_deed_allowed w me p (deeds.Finishes thread) = not (is_frozen_for w me (place 
 is_deed_allowed w me p (deeds.Passes client turn) = not (is_frozen_for w me (place p client))
 is_deed_allowed w me p (deeds.Unlinks client) =
     not (is_frozen_for w me (place p client)) && are_unfrozen w me (option_list (of_talk talk_pointers) (w.body (place p client)))
+is_deed_allowed w me p (deeds.Links client talk) = not (is_frozen_for w me (place p client))
+    && are_unfrozen w me (option_list (of_talk talk_pointers) (w.body (place p client))) && are_unfrozen w me (talk_pointers (talk_by p talk))
+is_deed_allowed w me p (deeds.Serves client peer) = not (is_frozen_for w me (place p client))
+    && are_unfrozen w me (option_list (of_talk (λ (talk : Talk). peer_pointer talk.peer)) (w.body (place p client))) && are_unfrozen w me (peer_pointer (peer_by p peer))
 is_deed_allowed w me p (deeds.Frees thread) =
     not (is_frozen_for w me (place p thread)) && are_unfrozen w me (option_list (of_fault fault_pointers) (w.body (place p thread)))
 is_deed_allowed w me p (deeds.Raises thread fault) = not (is_frozen_for w me (place p thread))
     && are_unfrozen w me (option_list (of_fault fault_pointers) (w.body (place p thread))) && are_unfrozen w me (fault_pointers (fault_by p fault))
+is_deed_allowed w me p (deeds.Takes thread taker) = not (is_frozen_for w me (place p thread))
+    && are_unfrozen w me (option_list (of_fault (λ (fault : Fault). option_list peer_pointer fault.taker)) (w.body (place p thread)))
+    && are_unfrozen w me (peer_pointer (peer_by p taker))
 is_deed_allowed w me p (deeds.Holds space holder) = not (is_frozen_for w me (place p space))
     && are_unfrozen w me (body_pointers (w.body (place p space))) && are_unfrozen w me (option_list (λ to. to ∷ []) (holder_by p holder))
 is_deed_allowed w me p (deeds.Stops thread stops) = not (is_frozen_for w me (place p thread))
@@ -62,6 +70,7 @@ IsVerdictAllowed w me p (verdicts.Runs e) = IsTrue (is_effect_allowed w me p e)
 IsVerdictAllowed w me p (verdicts.Refused status) = IsTrue true
 IsVerdictAllowed w me p verdicts.Waits = IsTrue false
 IsVerdictAllowed w me p (verdicts.Done plan answers) = IsTrue (is_plan_allowed w me p plan)
+IsVerdictAllowed w me p (verdicts.Ends plan answers) = IsTrue (is_plan_allowed w me p plan)
 IsVerdictAllowed w me p (verdicts.Shows plan space page) = IsTrue (is_plan_allowed w me p plan)
 IsVerdictAllowed w me p (verdicts.ShowsRecord object) = IsTrue true
 IsVerdictAllowed w me p (verdicts.Sets object from) = IsTrue true
@@ -77,6 +86,7 @@ may_pick chooses pick (verdicts.Runs e) = chooses || is_none pick
 may_pick chooses pick (verdicts.Refused status) = is_none pick
 may_pick chooses pick verdicts.Waits = true
 may_pick chooses pick (verdicts.Done plan answers) = chooses || is_none pick
+may_pick chooses pick (verdicts.Ends plan answers) = chooses || is_none pick
 may_pick chooses pick (verdicts.Shows plan space page) = chooses || is_none pick
 may_pick chooses pick (verdicts.ShowsRecord object) = chooses || is_none pick
 may_pick chooses pick (verdicts.Sets object from) = chooses || is_none pick

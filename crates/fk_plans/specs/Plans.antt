@@ -10,9 +10,9 @@ use Rattle.fk_model.specs.TransferRows.{overwritten}
 use Rattle.fk_model.specs.Valid.{birth_at, kind_there}
 use Rattle.fk_model.specs.World.{World, Change, apply}
 use Rattle.fk_model.specs.World.Change.{Alter, MakeSpace, PutPage, DropPage}
-use Rattle.fk_model.specs.World.Edit.{SetLocked, SetPointer, SetHolder, SetStops, Replace, CountMoved, Shift, End, Finish, PassTurn, SetTalk, SetFault}
-use Rattle.fk_store.specs.Bodies.{fault_by, pointer_by}
-use Rattle.fk_store.specs.Named.{Each, OnFault, OnPointer}
+use Rattle.fk_model.specs.World.Edit.{SetLocked, SetPointer, SetHolder, SetStops, Replace, CountMoved, Shift, End, Finish, PassTurn, SetTalk, SetPeer, SetFault, SetTaker}
+use Rattle.fk_store.specs.Bodies.{fault_by, peer_by, pointer_by, talk_by}
+use Rattle.fk_store.specs.Named.{Each, OnFault, OnPeer, OnPointer, OnTalk}
 use Rattle.fk_records.specs.Settings.{record_there}
 use Rattle.fk_store.specs.Paths.{place}
 use Rattle.fk_threads.specs.Shifted.{IsLow}
@@ -45,8 +45,11 @@ change_by p (deeds.Ends thread status) w = Alter (place p thread) (End status []
 change_by p (deeds.Finishes thread) w = Alter (place p thread) (Finish [])
 change_by p (deeds.Passes client turn) w = Alter (place p client) (PassTurn turn)
 change_by p (deeds.Unlinks client) w = Alter (place p client) (SetTalk None)
+change_by p (deeds.Links client talk) w = Alter (place p client) (SetTalk (Some (talk_by p talk)))
+change_by p (deeds.Serves client peer) w = Alter (place p client) (SetPeer (peer_by p peer))
 change_by p (deeds.Frees thread) w = Alter (place p thread) (SetFault None)
 change_by p (deeds.Raises thread fault) w = Alter (place p thread) (SetFault (Some (fault_by p fault)))
+change_by p (deeds.Takes thread taker) w = Alter (place p thread) (SetTaker (Some (peer_by p taker)))
 change_by p (deeds.Holds space holder) w = Alter (place p space) (SetHolder (holder_by p holder))
 change_by p (deeds.Stops thread stops) w = Alter (place p thread) (SetStops stops)
 change_by p (deeds.Copies from to) w = PutPage (p to.0) to.1 (words_at w (p from.0) from.1)
@@ -91,8 +94,11 @@ IsDeed p w (deeds.Ends thread status) = ⊤
 IsDeed p w (deeds.Finishes thread) = ⊤
 IsDeed p w (deeds.Passes client turn) = ⊤
 IsDeed p w (deeds.Unlinks client) = ⊤
+IsDeed p w (deeds.Links client talk) = OnTalk (λ other. IsSome (kind_there w (place p other))) talk
+IsDeed p w (deeds.Serves client peer) = OnPeer (λ other. IsSome (kind_there w (place p other))) peer
 IsDeed p w (deeds.Frees thread) = ⊤
 IsDeed p w (deeds.Raises thread fault) = OnFault (λ other. IsSome (kind_there w (place p other))) fault
+IsDeed p w (deeds.Takes thread taker) = OnPeer (λ other. IsSome (kind_there w (place p other))) taker
 IsDeed p w (deeds.Holds space holder) = Each (λ other. IsSome (kind_there w (place p other))) holder
 IsDeed p w (deeds.Stops thread stops) = ⊤
 IsDeed p w (deeds.Copies from to) = IsSome (w.page (p from.0) from.1) × (birth_at w (p to.0) ≡ Some to.0) × IsSome (w.page (p to.0) to.1)

@@ -4,7 +4,7 @@ use Rattle.fk_model.specs.declared.names.Who.{Who}
 use Rattle.fk_model.specs.Holds.{is_frozen_for}
 use Rattle.fk_model.specs.Moves.{closed, with_pick}
 use Rattle.fk_model.specs.Outcomes as outcomes
-use Rattle.fk_model.specs.Outcomes.{Outcome, Said, done, telling}
+use Rattle.fk_model.specs.Outcomes.{Outcome, Said, done, ended, telling}
 use Rattle.fk_model.specs.Outcomes.Outcome.{Refused, Waits, Goes}
 use Rattle.fk_model.specs.Outcomes.Said.{Nothing, Passed, Ended, Words as Told_words}
 use Rattle.fk_model.specs.Places.{Path}
@@ -18,7 +18,7 @@ use Rattle.fk_store.specs.Paths.{path, place}
 use Rattle.fk_store.specs.Threads.{todo_at}
 use Rattle.fk_store.specs.World.{world, IsLive}
 use Rattle.fk_threads.specs.declared.answers.Answers.{Answers}
-use Rattle.fk_threads.specs.Answers.{listed, LeaveArguments}
+use Rattle.fk_threads.specs.Answers.{all_four, listed, LeaveArguments}
 pub use Rattle.fk_readers.specs.Callers.{mapped}
 use Rattle.fk_readers.specs.declared.caller.Caller.{Caller}
 use Rattle.fk_plans.specs.declared.plan.Plan.{Plan}
@@ -63,6 +63,7 @@ outcome_by w p c (verdicts.Runs e) = of_running (effect_by w p (outcomes.path_of
 outcome_by w p c (verdicts.Refused status) = Refused status
 outcome_by w p c verdicts.Waits = Waits
 outcome_by w p c (verdicts.Done plan answers) = done c (changes_by p c.words plan w) (listed answers)
+outcome_by w p c (verdicts.Ends plan answers) = ended c (changes_by p c.words plan w) (all_four answers)
 outcome_by w p c (verdicts.Shows plan space page) = done c (changes_by p c.words plan w) (words_at w (p space) page)
 outcome_by w p c (verdicts.ShowsRecord object) = done c [] (record_there (w.body (place p object)))
 outcome_by w p c (verdicts.Sets object from) = done c (sets_at w (p object.space) (place p object) (record_words p c.words from w)) []
@@ -105,6 +106,7 @@ IsVerdict m c (verdicts.Runs e) = (c.is_porter ≡ false) × (is_running (thread
 IsVerdict m c (verdicts.Refused status) = ⊤
 IsVerdict m c verdicts.Waits = ⊤
 IsVerdict m c (verdicts.Done plan answers) = IsPlanOf m c plan × AreAnswers m c plan answers
+IsVerdict m c (verdicts.Ends plan answers) = IsPlanOf m c plan
 IsVerdict m c (verdicts.Shows plan space page) = (c.is_porter ≡ true) × IsSome ((world m).page (path m space) page) × IsPlanOf m c plan
 IsVerdict m c (verdicts.ShowsRecord object) = c.is_porter ≡ true
 IsVerdict m c (verdicts.Sets object from) =
@@ -118,6 +120,7 @@ IsVerdict m c (verdicts.Faults page write port) = (c.is_porter ≡ false) × IsL
 -- it takes no memory
 abbrev pub IsSureVerdict : Verdict → Type 0
 IsSureVerdict (verdicts.Done plan answers) = IsSure plan
+IsSureVerdict (verdicts.Ends plan answers) = IsSure plan
 IsSureVerdict (verdicts.Shows plan space page) = IsSure plan
 IsSureVerdict (verdicts.Goes plan) = IsSure plan
 IsSureVerdict (verdicts.Tells plan news last) = IsSure plan

@@ -17,12 +17,12 @@ use crate::plan::{Deed, News, Plan, Verdict};
 use crate::recording::{Record, set_record, told_record, write_record};
 use crate::renaming::rename;
 use crate::sources::give;
-use crate::telling::{said_of, told, told_page};
+use crate::telling::{said_of, told, told_four, told_page};
 use fk_model::status::OK;
 use fk_model::{NoMemory, Said, Who};
 use fk_readers::Caller;
 use fk_store::Store;
-use fk_threads::{Answers, advance, count_moved, finish, wake};
+use fk_threads::{Answers, Four, advance, count_moved, end_well, finish, wake};
 
 /// Does a deed.
 fn carry(store: &mut Store, deed: &Deed)
@@ -42,8 +42,11 @@ fn carry(store: &mut Store, deed: &Deed)
         Deed::Finishes { thread } => finish(store, thread, Answers::Nothing),
         Deed::Passes { client, turn } => store.pass_turn(client, turn),
         Deed::Unlinks { client } => store.set_talk(client, None),
+        Deed::Links { client, talk } => store.set_talk(client, Some(talk)),
+        Deed::Serves { client, peer } => store.set_peer(client, peer),
         Deed::Frees { thread } => store.set_fault(thread, None),
         Deed::Raises { thread, fault } => store.set_fault(thread, Some(fault)),
+        Deed::Takes { thread, taker } => store.set_taker(thread, Some(taker)),
         Deed::Holds { space, holder } => store.set_holder(space, holder),
         Deed::Stops { thread, stops } => store.set_stops(thread, stops),
         Deed::Copies { from, to } => copy_page(store, from, to),
@@ -115,6 +118,31 @@ fn finish_all(
     Ok(Said::Nothing)
 }
 
+/// Does all of a plan, and then the caller's whole call ends well.
+fn end_all(
+    store: &mut Store,
+    caller: Caller,
+    given: &[u64],
+    plan: &Plan,
+    answers: Four,
+) -> Result<Said, NoMemory>
+    requires live { caller.is_porter ≡ false → IsLive store.old caller.who }
+    requires fits { IsPlanOf store.old caller plan.now }
+    requires given { caller.is_porter ≡ true → length given.now ≡ 64 }
+    ensures step { IfOk result (λ said. let c = caller_by (path store.old) caller given.now in
+        stepped (world store.old) (closed c (outcome_by (world store.old) (path store.old) c (Verdict.Ends plan.now answers)))
+        ≡ record { world = world store.new; said = said_by (path store.new) said }) }
+    ensures err { OnErr result (store.new ≡ store.old) }
+    ensures sure { IsSure plan.now → IsOk result }
+{
+    carry_all(store, caller, given, plan)?;
+    if caller.is_porter {
+        return Ok(told_four(answers));
+    }
+    end_well(store, caller.who, answers);
+    Ok(Said::Nothing)
+}
+
 /// Carries out a verdict on the first stage of a call, and ends the caller's own part. A porter gives
 /// 64 words, a user any. For want of memory all stays as it was.
 pub fn carry_out(
@@ -138,6 +166,9 @@ pub fn carry_out(
         Verdict::Waits => {}
         Verdict::Done(plan, answers) => {
             return finish_all(store, caller, given, plan, *answers);
+        }
+        Verdict::Ends(plan, answers) => {
+            return end_all(store, caller, given, plan, *answers);
         }
         Verdict::Shows { plan, space, page } => {
             let said = told_page(store, *space, *page);

@@ -23,9 +23,9 @@ mod ties;
 pub use blocks::Block;
 pub use carrying::carry_out;
 pub use fk_readers::{
-    Caller, above, cond_in, handle, is_beneath, is_referable, is_within, kind_number, last_slot,
-    led_to, mutex_in, object_in, place, pointer_in, port_in, reference_in, referred, slot_for,
-    thread_by_handle, thread_in,
+    Caller, above, cond_in, handle, is_beneath, is_in, is_referable, is_within, kind_number,
+    last_slot, led_to, mutex_in, object_in, place, pointer_in, port_in, reference_in, referred,
+    slot_for, thread_by_handle, thread_in,
 };
 pub use instructions::make_effect;
 pub use own::own_page;

@@ -2,8 +2,8 @@
 use crate::blocks::Block;
 use crate::recording::Record;
 use crate::sources::Source;
-use fk_model::{Fault, Ptr, Turn, Who};
-use fk_threads::Answers;
+use fk_model::{Fault, Peer, Ptr, Talk, Turn, Who};
+use fk_threads::{Answers, Four};
 
 /// One change, which takes no memory.
 #[derive(Clone, Copy)]
@@ -30,10 +30,16 @@ pub enum Deed {
     Passes { client: Who, turn: Turn },
     /// A client's talk ends.
     Unlinks { client: Who },
+    /// A thread is the client of a new talk.
+    Links { client: Who, talk: Talk },
+    /// A client's talk has this peer.
+    Serves { client: Who, peer: Peer },
     /// The fault of a thread ends.
     Frees { thread: Who },
     /// A thread has this fault.
     Raises { thread: Who, fault: Fault },
+    /// The fault of a thread has this taker.
+    Takes { thread: Who, taker: Peer },
     /// A space is held by a thread, or by nobody.
     Holds { space: Who, holder: Option<Who> },
     /// A thread is stopped so many times.
@@ -130,6 +136,8 @@ pub enum Verdict {
     Waits,
     /// It does this, and then the caller's stage is done, with these answers.
     Done(Plan, Answers),
+    /// It does this, and then the caller's whole call ends well, with these answers.
+    Ends(Plan, Four),
     /// It does this, and then the stage of a porter is done, which gets the words of a page.
     Shows { plan: Plan, space: u32, page: u8 },
     /// The stage of a porter is done, which gets the record of an object.

@@ -12,8 +12,10 @@ ghost use Rattle.fk_plans.specs.Verdicts.{IsVerdict, move_by};
 
 use crate::plan::{Deed, Effect, Plan, Verdict};
 use crate::renaming::may_move;
-use crate::ties::{is_fault_unfrozen, is_talk_unfrozen};
-use fk_deaths::{fault_leads_to_frozen, leads_to_frozen, may_destroy};
+use crate::ties::{is_fault_unfrozen, is_peer_unfrozen, is_taker_unfrozen, is_talk_unfrozen};
+use fk_deaths::{
+    fault_leads_to_frozen, leads_to_frozen, may_destroy, peer_leads_to_frozen, talk_leads_to_frozen,
+};
 use fk_model::Who;
 use fk_readers::Caller;
 use fk_store::Store;
@@ -61,6 +63,16 @@ fn is_deed_allowed(store: &Store, me: Who, deed: &Deed) -> bool
         Deed::Unlinks { client } => {
             !store.frozen_for(me, client) && is_talk_unfrozen(store, me, client)
         }
+        Deed::Links { client, talk } => {
+            !store.frozen_for(me, client)
+                && is_talk_unfrozen(store, me, client)
+                && !talk_leads_to_frozen(store, me, Some(talk))
+        }
+        Deed::Serves { client, peer } => {
+            !store.frozen_for(me, client)
+                && is_peer_unfrozen(store, me, client)
+                && !peer_leads_to_frozen(store, me, Some(peer))
+        }
         Deed::Frees { thread } => {
             !store.frozen_for(me, thread) && is_fault_unfrozen(store, me, thread)
         }
@@ -68,6 +80,11 @@ fn is_deed_allowed(store: &Store, me: Who, deed: &Deed) -> bool
             !store.frozen_for(me, thread)
                 && is_fault_unfrozen(store, me, thread)
                 && !fault_leads_to_frozen(store, me, Some(fault))
+        }
+        Deed::Takes { thread, taker } => {
+            !store.frozen_for(me, thread)
+                && is_taker_unfrozen(store, me, thread)
+                && !peer_leads_to_frozen(store, me, Some(taker))
         }
         Deed::Holds { space, holder } => {
             !store.frozen_for(me, space)
@@ -121,6 +138,7 @@ fn is_verdict_allowed(store: &Store, caller: Caller, verdict: &Verdict) -> bool
         | Verdict::Sets { .. } => true,
         Verdict::Waits => false,
         Verdict::Done(plan, _)
+        | Verdict::Ends(plan, _)
         | Verdict::Shows { plan, .. }
         | Verdict::Goes(plan)
         | Verdict::Tells { plan, .. } => is_plan_allowed(store, caller.who, plan),
@@ -139,6 +157,7 @@ fn may_pick(chooses: bool, pick: Option<Who>, verdict: &Verdict) -> bool
         Verdict::Waits => true,
         Verdict::Runs(_)
         | Verdict::Done(..)
+        | Verdict::Ends(..)
         | Verdict::Shows { .. }
         | Verdict::ShowsRecord { .. }
         | Verdict::Sets { .. }

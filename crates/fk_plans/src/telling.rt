@@ -8,14 +8,14 @@ ghost use Rattle.fk_model.specs.declared.statuses.status.TheConstants.{OK as DON
 ghost use Rattle.fk_store.specs.Moves.{said_by};
 ghost use Rattle.fk_store.specs.Paths.{path, place};
 ghost use Rattle.fk_store.specs.World.{world};
-ghost use Rattle.fk_threads.specs.Answers.{listed};
+ghost use Rattle.fk_threads.specs.Answers.{all_four, listed};
 ghost use Rattle.fk_plans.specs.Verdicts.{news_by, port_of, AreWords, IsNews};
 
 use crate::plan::{News, Words};
 use fk_model::status::OK;
 use fk_model::{Answer, Said};
 use fk_store::Store;
-use fk_threads::Answers;
+use fk_threads::{Answers, Four};
 
 /// A status and answers.
 pub fn told(status: u8, answers: Answers) -> Said
@@ -41,6 +41,22 @@ pub fn told(status: u8, answers: Answers) -> Said
         }
     };
     Said::Answer(Answer { status, words, len })
+}
+
+/// That it is done, and four answers.
+pub fn told_four(answers: Four) -> Said
+    ensures { (p : ℕ → Path) → said_by p result ≡ Answered DONE (all_four answers) }
+{
+    let mut words = [0; 64];
+    words[0] = answers.first;
+    words[1] = answers.second;
+    words[2] = answers.third;
+    words[3] = answers.fourth;
+    Said::Answer(Answer {
+        status: OK,
+        words,
+        len: 4,
+    })
 }
 
 /// That it is done, and 64 words.

@@ -16,4 +16,4 @@ pub use ends::{port_in, thread_in};
 pub use handles::{handle, led_to, referred, thread_by_handle};
 pub use objects::{is_referable, kind_number, object_in, pointer_in, reference_in};
 pub use readers::{cond_in, last_slot, mutex_in, place, slot_for};
-pub use within::{above, is_beneath, is_within};
+pub use within::{above, is_beneath, is_in, is_within};

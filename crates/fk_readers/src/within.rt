@@ -1,5 +1,5 @@
 //! What lies in a space and beneath it.
-ghost use Rattle.std.specs.Prelude.{◌≡◌, ◌<◌, IfSome, IfNone};
+ghost use Rattle.std.specs.Prelude.{◌≡◌, ◌<◌, true, IfSome, IfNone, IsSome};
 ghost use Rattle.std.specs.List.{list_any};
 ghost use Rattle.fk_model.specs.Places.{same_path, is_within};
 ghost use Rattle.fk_model.specs.Searches.{beneath};
@@ -52,4 +52,12 @@ pub fn is_within(store: &Store, inner: u32, outer: u32) -> bool
         None => false,
         Some(who) => is_beneath(store, who, outer),
     }
+}
+
+/// An object, which is there, stands in a space.
+pub fn is_in(store: &Store, who: Who, space: u32) -> bool
+    ensures same { IsSome ((world store.now).body (place (path store.now) who)) → result ≡ same_path (path store.now who.space) (path store.now space) }
+    ensures live { result ≡ true → IsLive store.now (record { space = space; slot = who.slot }) }
+{
+    store.at(who).is_some() && who.space == space
 }

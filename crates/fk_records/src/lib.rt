@@ -10,3 +10,4 @@ mod words;
 
 pub use records::record_of;
 pub use setting::{set_state, takes_state};
+pub use words::{flag, turn_number};

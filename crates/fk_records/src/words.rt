@@ -38,7 +38,7 @@ pub fn halt_code(mode: Mode) -> u64
 }
 
 /// The number of a side.
-fn turn_number(turn: Turn) -> u64
+pub fn turn_number(turn: Turn) -> u64
     ensures { result ≡ links.turn_number turn }
 {
     match turn {

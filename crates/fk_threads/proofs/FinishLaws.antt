@@ -172,6 +172,22 @@ finish_not p t answers other = by t.mode refl
     by (modes.Halted code) is = refl
     by modes.Native is = refl
 
+pub end_not : (p : ℕ → Path) (t : threads_of.Thread) (answers : List ℕ) →
+    (t.mode ≡ modes.Calling → ⊥) → edited (End OK answers) (Thread_of (thread_by p t)) ≡ Thread_of (thread_by p t)
+unfolding edited
+end_not p t answers other = by t.mode refl
+  where
+    by : (m : modes_of.Mode) → t.mode ≡ m → edited (End OK answers)
+        (Thread_of (record (thread_by p t) { mode = mode_by m t.regs })) ≡ Thread_of (record (thread_by p t) { mode = mode_by m t.regs })
+    by modes.Running is = refl
+    by modes.Calling is = absurd (other is)
+    by (modes.Halted code) is = refl
+    by modes.Native is = refl
+
+pub well_nobody : (w : World) (x : Path) (answers : List ℕ) → thread_at w x ≡ None → w ≡ apply (Alter x (End OK answers)) w
+unfolding edited
+well_nobody w x answers none = alter-nobody w x (End OK answers) _ (λ b. refl) none
+
 pub finish_nobody : (w : World) (x : Path) (answers : List ℕ) → thread_at w x ≡ None → w ≡ apply (Alter x (Finish answers)) w
 unfolding edited
 finish_nobody w x answers none = alter-nobody w x (Finish answers) _ (λ b. refl) none

@@ -3,6 +3,7 @@ use Rattle.std.specs.Prelude.{ℕ, ◌==◌, List, [], ◌∷◌, Option, Some, 
 use Rattle.fk_model.specs.declared.stage.Stage.{Stage}
 use Rattle.fk_model.specs.declared.stage.Stage.TheVariants.{Connect}
 use Rattle.fk_threads.specs.declared.answers.Answers.{Answers}
+use Rattle.fk_threads.specs.declared.answers.Four.{Four}
 use Rattle.fk_threads.specs.declared.answers.Answers.TheVariants.{Nothing, One, Two, Three}
 
 abbrev pub listed : Answers → List ℕ
@@ -10,6 +11,9 @@ listed Nothing = []
 listed (One a) = a ∷ []
 listed (Two a b) = a ∷ b ∷ []
 listed (Three a b c) = a ∷ b ∷ c ∷ []
+
+abbrev pub all_four : Four → List ℕ
+all_four answers = answers.first ∷ answers.second ∷ answers.third ∷ answers.fourth ∷ []
 
 -- the code of a call without its first stage; none where that is its last
 abbrev pub code_after : ℕ → Option ℕ

@@ -13,7 +13,7 @@ ghost use Rattle.fk_store.specs.Bodies.{mode_by, thread_by};
 ghost use Rattle.fk_store.specs.Paths.{path, place};
 ghost use Rattle.fk_store.specs.Threads.{todo_of_mode, todo_at};
 ghost use Rattle.fk_store.specs.World.{world};
-ghost use Rattle.fk_threads.specs.Answers.{listed, code_after, LeaveArguments};
+ghost use Rattle.fk_threads.specs.Answers.{all_four, listed, code_after, LeaveArguments};
 
 use fk_model::{Body, Mode, Thread, Who, status};
 use fk_store::Store;
@@ -118,5 +118,64 @@ pub fn finish(store: &mut Store, who: Who, answers: Answers)
 {
     if let Some(&thread) = store.thread(who) {
         store.set(who, Body::Thread(finished(thread, answers)));
+    }
+}
+
+/// Four answers, with which a whole call ends.
+#[derive(Clone, Copy)]
+pub struct Four {
+    pub first: u64,
+    pub second: u64,
+    pub third: u64,
+    pub fourth: u64,
+}
+
+/// Registers with four answers, from the second register on.
+fn answered_four(registers: [u64; 16], answers: Four) -> [u64; 16]
+    ensures { result ≡ with_answers (all_four answers) registers }
+{
+    let mut written = registers;
+    written[1] = answers.first;
+    written[2] = answers.second;
+    written[3] = answers.third;
+    written[4] = answers.fourth;
+    written
+}
+
+/// A calling thread whose call has ended well, with four answers.
+fn ended_with(mut thread: Thread, answers: Four) -> Thread
+    requires calling { thread.mode ≡ modes.Calling }
+    ensures edit { (p : ℕ → Path) → edited (End OK (all_four answers)) (Thread_of (thread_by p thread)) ≡ Thread_of (thread_by p result) }
+    ensures talk { result.talk ≡ thread.talk }
+    ensures fault { result.fault ≡ thread.fault }
+{
+    thread.regs[0] = u64::from(status::OK);
+    thread.regs = answered_four(thread.regs, answers);
+    thread.pc = thread.pc.wrapping_add(1);
+    thread.mode = Mode::Running;
+    thread
+}
+
+/// A thread whose call, if it is in one, has ended well.
+fn well_ended(thread: Thread, answers: Four) -> Thread
+    ensures edit { (p : ℕ → Path) → edited (End OK (all_four answers)) (Thread_of (thread_by p thread)) ≡ Thread_of (thread_by p result) }
+    ensures talk { result.talk ≡ thread.talk }
+    ensures fault { result.fault ≡ thread.fault }
+{
+    if let Mode::Calling = thread.mode {
+        return ended_with(thread, answers);
+    }
+    thread
+}
+
+/// The whole call of a thread ends well, with these answers. What is in no call stays as it is.
+#[tactic(auto, using(fk_store::proofs::ThreadLaws::kind_thread, crate::proofs::FinishLaws::well_nobody))]
+pub fn end_well(store: &mut Store, who: Who, answers: Four)
+    ensures world { world store.new ≡ apply (Alter (place (path store.old) who) (End OK (all_four answers))) (world store.old) }
+    ensures kinds { kind_there (world store.new) ≡ kind_there (world store.old) }
+    ensures paths { path store.new ≡ path store.old }
+{
+    if let Some(&thread) = store.thread(who) {
+        store.set(who, Body::Thread(well_ended(thread, answers)));
     }
 }

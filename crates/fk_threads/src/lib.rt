@@ -11,6 +11,6 @@ mod answers;
 mod shifts;
 mod sleepers;
 
-pub use answers::{Answers, finish};
+pub use answers::{Answers, Four, end_well, finish};
 pub use shifts::{advance, count_moved, receive_of};
 pub use sleepers::{asleep_on, is_slept_on, wake};
