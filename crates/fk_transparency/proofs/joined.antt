@@ -1,4 +1,5 @@
 pub mod Rebinding
+pub mod Stages
 pub mod Inside
 pub mod Every
 pub mod Runs
