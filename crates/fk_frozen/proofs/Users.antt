@@ -47,6 +47,7 @@ use Rattle.fk_model.specs.ObjectRows.{new_object, create, kills, destroys, destr
 use Rattle.fk_model.specs.NativeRows.{takes_up, parked_here, connects_here, accepts_thread, accepts_found, takes_client, accept_row, is_serving_port, if_receiving, gives_words, gives_to, give_row, over_row, with_client, passes_client}
 use Rattle.fk_model.specs.Moves.{stage_row, is_for_users, is_for_porters, allowed_row, chooses, with_pick, closed, call_row, goes_on, user_move, outcome}
 use Rattle.fk_laws.proofs.safety.Reads.{object_in-found}
+use Rattle.fk_frozen.proofs.once.Moves.{rootless}
 use Rattle.fk_frozen.specs.Users.{is_low, IsUsers, AreUsers, is_users, UsersNameLow}
 
 abbrev pub UsersIn : World → Outcome → Type 0
@@ -664,20 +665,7 @@ goes_on-users w k s pick t mode there is = waits
 
 goes_on_root-users : (w : World) (pick : Option Path) (t : Thread) (mode : Mode) → t.mode ≡ mode → and_then thread_of (w.body []) ≡ Some t →
     kind_there w [] ≡ Some kinds.Space → UsersOutcome w (goes_on w [] pick t mode)
-unfolding kind_there
-goes_on_root-users w pick t mode is there root = absurd (by (w.body []) there root)
-  where
-    by : (o : Option Body) → and_then thread_of o ≡ Some t → option_map kind_of o ≡ Some kinds.Space → ⊥
-    by (Some (Thread_of u)) h g = cc
-    by (Some (Mutex locked)) h g = cc
-    by (Some Cond) h g = cc
-    by (Some (Mapping m)) h g = cc
-    by (Some (Region r)) h g = cc
-    by (Some (Port set served)) h g = cc
-    by (Some Portset) h g = cc
-    by (Some (Space birth holder)) h g = cc
-    by (Some (Reference to)) h g = cc
-    by None h g = cc
+goes_on_root-users w pick t mode is there root = absurd (rootless w t there root)
 
 user_move-users : (w : World) (x : Path) (pick : Option Path) (o : Option Thread) → kind_there w [] ≡ Some kinds.Space → and_then thread_of (w.body x) ≡ o →
     UsersOutcome w (user_move w x pick o)
