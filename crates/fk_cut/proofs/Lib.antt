@@ -2,3 +2,5 @@ pub mod Ways
 pub mod Walked
 pub mod Leads
 pub mod Openings
+pub mod Shows
+pub mod Pages

@@ -27,7 +27,7 @@ fn is_port(store: &Store, who: Who) -> bool
 }
 
 /// An object is a port in a slot of a subtree's nester.
-fn is_nesters_port(store: &Store, root: Who, who: Who) -> bool
+pub fn is_nesters_port(store: &Store, root: Who, who: Who) -> bool
     requires { IsLive store.now who }
     ensures { result
         ≡ is_out (cut_out (ports_of (world store.now) (path store.now root.space) root.slot) (path store.now root.space) (place_of store.now who)) }

@@ -6,10 +6,14 @@
 
 mod above;
 mod closing;
+mod cutting;
 mod far;
 mod led;
 mod points;
+mod shown;
 mod stack;
 mod walk;
 
 pub use closing::{Place, closed};
+pub use cutting::{CutObject, CutPage, CutWorld, cut};
+pub use shown::CutPtr;

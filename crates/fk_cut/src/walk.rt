@@ -41,7 +41,7 @@ fn await_residents(store: &Store, space: u32, stack: &mut Stack) -> Result<(), N
 }
 
 /// The birth number of an object that is a space.
-fn birth_of(body: &Body) -> Option<u32>
+pub fn birth_of(body: &Body) -> Option<u32>
     ensures some { IfSome result (λ birth. (holder : Option Who) × (body.now ≡ bodies.Space birth holder)) }
     ensures none { (p : ℕ → Path) → result ≡ None → kind_of (body_by p body.now) ≡ kinds.Space → ⊥ }
 {
