@@ -3,7 +3,7 @@ use Rattle.std.proofs.Common.{◌≡◌, ℕ, Bool, true, false, cond, eqb, List
 use Rattle.std.proofs.lemmas.Bool.{eqb-true}
 use Rattle.std.proofs.lemmas.Option.{same_Some}
 use Rattle.fk_model.specs.declared.stage.Stage.{Stage}
-use Rattle.fk_model.specs.declared.stage.Stage.TheVariants.{Create, Destroy, Rename, Search, Point, Clear, Locate}
+use Rattle.fk_model.specs.declared.stage.Stage.TheVariants.{Create, Destroy, Rename, Search, Point, Clear, Locate, CountIn}
 use Rattle.fk_model.specs.declared.stage.Stage.TheVariants.{GetState, SetState, GetPtr, SetPtr}
 use Rattle.fk_model.specs.declared.stage.Stage.TheVariants.{SpaceHold, SpaceRelease, HoldSet, SpaceMakeHeld, ThreadStop, ThreadGo, PageGive, PageTake, PageRead, PageNext}
 use Rattle.fk_model.specs.declared.stage.Stage.TheVariants.{MutexLock, MutexTrylock, MutexUnlock}
@@ -68,6 +68,7 @@ row_built (Search s from) is = tt
 row_built (Point s x s2 x2) is = tt
 row_built (Clear s x) is = tt
 row_built (Locate reference s) is = tt
+row_built (CountIn base s x) is = tt
 row_built (ThreadStop h) is = tt
 row_built (ThreadGo h) is = tt
 row_built (PageGive s page address) is = tt

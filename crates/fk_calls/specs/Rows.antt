@@ -3,7 +3,7 @@ use Rattle.std.specs.Prelude.{◌≡◌, Bool, true, false, List, [], ◌∷◌,
 use Rattle.fk_model.specs.declared.moves.Ask.{Ask}
 use Rattle.fk_model.specs.declared.moves.Ask.TheVariants as asks
 use Rattle.fk_model.specs.declared.stage.Stage.{Stage}
-use Rattle.fk_model.specs.declared.stage.Stage.TheVariants.{Create, Destroy, Rename, Search, Point, Clear, Locate}
+use Rattle.fk_model.specs.declared.stage.Stage.TheVariants.{Create, Destroy, Rename, Search, Point, Clear, Locate, CountIn}
 use Rattle.fk_model.specs.declared.stage.Stage.TheVariants.{GetState, SetState, GetPtr, SetPtr}
 use Rattle.fk_model.specs.declared.stage.Stage.TheVariants.{SpaceHold, SpaceRelease, HoldSet, SpaceMakeHeld, ThreadStop, ThreadGo, PageGive, PageTake, PageRead, PageNext}
 use Rattle.fk_model.specs.declared.stage.Stage.TheVariants.{MutexLock, MutexTrylock, MutexUnlock}
@@ -28,6 +28,7 @@ IsRow (Search s from) = ⊤
 IsRow (Point s x s2 x2) = ⊤
 IsRow (Clear s x) = ⊤
 IsRow (Locate reference s) = ⊤
+IsRow (CountIn base s x) = ⊤
 IsRow (ThreadStop h) = ⊤
 IsRow (ThreadGo h) = ⊤
 IsRow (PageGive s page address) = ⊤

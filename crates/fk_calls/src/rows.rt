@@ -14,7 +14,7 @@ ghost use Rattle.fk_calls.specs.Rows.{IsFirst, IsRow, takes_memory};
 
 use fk_model::status::DENIED;
 use fk_model::{Stage, Who};
-use fk_objects::{clear, create, destroy, locate, point, rename, search};
+use fk_objects::{clear, count_in, create, destroy, locate, point, rename, search};
 use fk_plans::{Caller, Verdict};
 use fk_spaces::{
     hold_set, page_give, page_next, page_read, page_take, space_hold, space_make_held,
@@ -57,6 +57,7 @@ fn row(
         Stage::Point { s, x, s2, x2 } => point(store, caller, s, x, s2, x2),
         Stage::Clear { s, x } => clear(store, caller, s, x),
         Stage::Locate { reference, s } => locate(store, caller, reference, s),
+        Stage::CountIn { base, s, x } => count_in(store, caller, base, s, x),
         Stage::GetState { s, x, addr } => get_state(store, caller, s, x, addr),
         Stage::SetState { s, x, addr } => set_state(store, caller, given, s, x, addr),
         Stage::GetPtr {

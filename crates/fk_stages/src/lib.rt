@@ -32,6 +32,7 @@ fn is_built_code(code: u64) -> bool
             | 5
             | 6
             | 7
+            | 8
             | 9
             | 10
             | 11
