@@ -4,3 +4,4 @@ pub mod Scans
 pub mod Clients
 pub mod Sweeps
 pub mod Allowed
+pub mod Unheld

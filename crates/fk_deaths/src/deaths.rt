@@ -93,6 +93,9 @@ fn end_with_port(store: &mut Store, port: Who)
     ensures kinds { kind_there (world store.new) ≡ kind_there (world store.old) }
     ensures paths { path store.new ≡ path store.old }
 {
+    if !store.is_led_to(port) {
+        return;
+    }
     let _below_2_32 = store.next_birth();
     let mut at = store.after(None);
     while let Some(who) = at {

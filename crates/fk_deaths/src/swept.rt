@@ -161,6 +161,9 @@ fn may_all_be_swept(store: &Store, me: Who, gone: Who) -> bool
     ensures { IsTrue result ↔ ((q : Path) →
         freezing.may_be_swept (world store.now) (place (path store.now) me) (place (path store.now) gone) q ≡ true) }
 {
+    if !store.is_any_held() {
+        return true;
+    }
     let mut at = store.after(None);
     while let Some(who) = at {
         if !may_be_swept(store, me, gone, who) {

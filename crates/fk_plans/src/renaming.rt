@@ -35,6 +35,9 @@ fn may_all_follow(store: &Store, me: Who, renamed: Who) -> bool
     ensures { IsTrue result
         ↔ ((q : Path) → freezing.may_follow (world store.now) (place (path store.now) me) (place (path store.now) renamed) q ≡ true) }
 {
+    if !store.is_any_held() {
+        return true;
+    }
     let mut at = store.after(None);
     while let Some(other) = at {
         if !may_follow(store, me, renamed, other) {

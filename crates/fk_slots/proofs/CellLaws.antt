@@ -100,3 +100,7 @@ module _ {V : Type 0} (rows : List (List (Option V))) where
   pub room_set : (space : ℕ) (row : List (Option V)) → space < length rows → length row ≡ 256 → HasRoom (set rows space row) space
   unfolding HasRoom
   room_set space row low long = ap length (get_or-set_same rows space row [] low) ∙ long
+
+  pub room_found : (space : ℕ) (row : List (Option V)) → space < length rows → row ≡ get_or rows space row → length row ≡ 256 → HasRoom rows space
+  unfolding HasRoom
+  room_found space row low is long = ap length (get_or_default rows space [] row low ∙ sym is) ∙ long

@@ -10,4 +10,4 @@ mod row;
 mod rows;
 
 pub use row::Row;
-pub use rows::{clear_row, lay_value, next_taken, put_value, take_value, value_at};
+pub use rows::{clear_row, has_room, lay_value, next_taken, put_value, take_value, value_at};

@@ -19,6 +19,19 @@ pub fn value_at<V>(rows: &Vec<Row<V>>, space: u32, slot: u8) -> Option<&V>
     }
 }
 
+/// The space has room for all of its slots; false where it has none yet.
+#[inline]
+pub fn has_room<V>(rows: &Vec<Row<V>>, space: u32) -> bool
+    ensures { result ≡ true → HasRoom rows.now.items space }
+{
+    let at = space as usize;
+    if at < rows.len() {
+        rows[at].room() == 256
+    } else {
+        false
+    }
+}
+
 /// The first taken slot from a slot of a space on, in the order of spaces and slots.
 pub fn next_taken<V>(rows: &Vec<Row<V>>, space: u32, slot: u16) -> Option<(u32, u8)>
     requires few { length rows.now.items ≤ 4294967296 }

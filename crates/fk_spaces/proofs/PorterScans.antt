@@ -1,5 +1,5 @@
 -- PorterScans: which objects are yet to come in a search for a space that a porter holds.
-use Rattle.std.proofs.Common.{◌≡◌, ℕ, ◌+◌, ◌-◌, ◌*◌, Bool, true, false, IsTrue, IsSome, ◌∷◌, ◌++◌, Option, Some, None, refl, sym, subst, ◌∙◌}
+use Rattle.std.proofs.Common.{◌≡◌, ℕ, ◌+◌, ◌-◌, ◌*◌, Bool, true, false, IsTrue, IsSome, List, [], ◌∷◌, ◌++◌, Option, Some, None, refl, sym, ap, subst, ◌∙◌}
 use Rattle.std.specs.List.{list_any}
 use Rattle.std.proofs.lemmas.Bool.{and_parts}
 use Rattle.std.specs.Ordering.{is_le}
@@ -7,7 +7,10 @@ use Rattle.fk_model.specs.declared.names.Who.{Who}
 use Rattle.fk_model.specs.Places.{Path, same_path}
 use Rattle.fk_model.specs.Searches.{beneath}
 use Rattle.fk_model.specs.SpaceRows.{has_porter}
+use Rattle.fk_model.specs.Holds.{holder_of, decider}
+use Rattle.fk_model.specs.Objects.{or_else}
 use Rattle.fk_model.specs.Valid.{kind_there}
+use Rattle.fk_model.specs.World.{World}
 use Rattle.fk_model.proofs.walks.Members.{any_in, of_any}
 use Rattle.fk_model.proofs.walks.PlaceLaws.{same_path_refl}
 use Rattle.fk_model.proofs.walks.WalkLaws.{live-kind}
@@ -53,3 +56,19 @@ is_nowhere m s named none = by (list_any (has_porter (world m)) (beneath (world 
         let porter = subst (λ y. has_porter (world m) y ≡ true) same found.2 in
         let listed = subst (λ y. list_any (same_path y) (beneath (world m) s) ≡ true) same met in
         absurd (none other.0 (subst (λ y. IsSome (kind_there (world m) y)) (sym other.1) live) (rw (porter, listed) refl))
+
+-- ---- where nothing is held
+
+list_none : {A : Type 0} (p : A → Bool) → ((a : A) → p a ≡ false) → (xs : List A) → list_any p xs ≡ false
+list_none p none [] = refl
+list_none p none (x ∷ xs) = rw (none x) (list_none p none xs)
+
+module _ (w : World) (none : (x : Path) → decider w x ≡ None) where
+  holder_none : (x : Path) → holder_of (w.body x) ≡ None
+  unfolding decider
+  holder_none [] = none []
+  holder_none (k ∷ x) = sym (ap (λ o. or_else o (holder_of (w.body (k ∷ x)))) (none x)) ∙ none (k ∷ x)
+
+  -- no porter holds a space
+  pub unheld-porters : (s : Path) → false ≡ list_any (has_porter w) (beneath w s)
+  unheld-porters s = sym (list_none (has_porter w) (λ x. rw (holder_none x) refl) (beneath w s))

@@ -55,6 +55,9 @@ pub fn has_porter_beneath(store: &Store, outer: u32) -> bool
     requires space { IsSpace store.now outer }
     ensures { result ≡ list_any (rows.has_porter (world store.now)) (beneath (world store.now) (path store.now outer)) }
 {
+    if !store.is_any_held() {
+        return false;
+    }
     let mut at = store.after(None);
     while let Some(who) = at {
         if is_held_beneath(store, who, outer) {

@@ -12,7 +12,7 @@ use Rattle.std.specs.FinMap.Entries.{below_all}
 use Rattle.fk_model.specs.declared.names.Who.{Who}
 use Rattle.fk_model.specs.declared.body.Body.{Body}
 use Rattle.fk_slots.specs.Tabled.{of_cell}
-use Rattle.fk_tables.specs.Held.{is_held, one_if, held_in, IsEnough}
+use Rattle.fk_tables.specs.Held.{is_held, one_if, held_in, IsCount}
 use Rattle.fk_tables.specs.Names.{who_cmp, same_who}
 use Rattle.fk_tables.proofs.Found.{first, second, less}
 use Rattle.fk_tables.proofs.NameLaws.{who_total, who_exact, same_tied, same_who_eq, same_who_refl}
@@ -99,27 +99,27 @@ none-held bodies none who b there = by (is_held b) refl
 -- ---- the count
 
 abbrev Counts : ℕ → ℕ → Bool → Bool → Type 0
-Counts count result before now = (n m : ℕ) → IsEnough n count → m + one_if before ≡ n + one_if now → IsEnough m result
+Counts count result before now = (n m : ℕ) → IsCount n count → m + one_if before ≡ n + one_if now → IsCount m result
 
-module _ (bodies : FinMap who_cmp Body) (who : Who) (count result : ℕ) (enough : IsEnough (held_in bodies) count) where
-  pub enough-put : (b : Body) (now : Bool) → get bodies who ≡ None → now ≡ is_held b → Counts count result false now → IsEnough (held_in (finmap.insert bodies who b)) result
+module _ (bodies : FinMap who_cmp Body) (who : Who) (count result : ℕ) (enough : IsCount (held_in bodies) count) where
+  pub enough-put : (b : Body) (now : Bool) → get bodies who ≡ None → now ≡ is_held b → Counts count result false now → IsCount (held_in (finmap.insert bodies who b)) result
   enough-put b now empty is counts = counts (held_in bodies) (held_in (finmap.insert bodies who b)) enough
       (subst (λ t. held_in (finmap.insert bodies who b) + 0 ≡ held_in bodies + one_if t) (sym is) (held-insert-at bodies who b None empty))
 
   pub enough-set : (old b : Body) (before now : Bool) → get bodies who ≡ Some old → before ≡ is_held old → now ≡ is_held b → Counts count result before now →
-      IsEnough (held_in (finmap.insert bodies who b)) result
+      IsCount (held_in (finmap.insert bodies who b)) result
   enough-set old b before now there was is counts = counts (held_in bodies) (held_in (finmap.insert bodies who b)) enough
       (subst (λ t. held_in (finmap.insert bodies who b) + one_if before ≡ held_in bodies + one_if t) (sym is)
       (subst (λ t. held_in (finmap.insert bodies who b) + one_if t ≡ held_in bodies + holds_one b) (sym was) (held-insert-at bodies who b (Some old) there)))
 
-  pub enough-remove : (before : Bool) → one_if before ≡ of_cell holds_one (get bodies who) → Counts count result before false → IsEnough (held_in (finmap.remove bodies who)) result
+  pub enough-remove : (before : Bool) → one_if before ≡ of_cell holds_one (get bodies who) → Counts count result before false → IsCount (held_in (finmap.remove bodies who)) result
   enough-remove before was counts = counts (held_in bodies) (held_in (finmap.remove bodies who)) enough
       (let left = held-remove bodies who in omega (arith, was, left))
 
 -- another name for one object changes nothing
 pub enough-rename : (bodies other : FinMap who_cmp Body) (from to : Who) (b : Body) (count : ℕ) → get bodies from ≡ Some b → get bodies to ≡ None →
     ((q : Who) → get other q ≡ cond (same_who q to) (get bodies from) (cond (same_who q from) None (get bodies q))) →
-    IsEnough (held_in bodies) count → IsEnough (held_in other) count
+    IsCount (held_in bodies) count → IsCount (held_in other) count
 enough-rename bodies other from to b count there free renamed enough few =
     let same : other ≡ finmap.insert (finmap.remove bodies from) to b = same_map who_total who_exact _ _ (λ q. renamed q ∙ sym (get-insert who_total (finmap.remove bodies from) to b q
     ∙ rw (get-remove who_total bodies from q, same_tied q to, same_tied q from, there) refl)) in
@@ -136,12 +136,12 @@ enough-rename bodies other from to b count there free renamed enough few =
         by true = refl
         by false = free
 
-pub none-counted : (bodies : FinMap who_cmp Body) (count : ℕ) → IsEnough (held_in bodies) count → count ≡ 0 → held_in bodies ≡ 0
+pub none-counted : (bodies : FinMap who_cmp Body) (count : ℕ) → IsCount (held_in bodies) count → count ≡ 0 → held_in bodies ≡ 0
 none-counted bodies count enough is = let low = enough (omega (arith, is)) in omega (arith, low, is)
 
 -- a body that is held, or isn't, as the one before
 pub enough-same : (bodies : FinMap who_cmp Body) (who : Who) (old b : Body) (count : ℕ) → get bodies who ≡ Some old → is_held b ≡ is_held old →
-    IsEnough (held_in bodies) count → IsEnough (held_in (finmap.insert bodies who b)) count
+    IsCount (held_in bodies) count → IsCount (held_in (finmap.insert bodies who b)) count
 enough-same bodies who old b count there same enough few =
     let more = held-insert-at bodies who b (Some old) there in
     let ones = ap one_if same in

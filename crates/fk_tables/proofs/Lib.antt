@@ -6,3 +6,5 @@ pub mod HomeLaws
 pub mod HeldLaws
 pub mod MarkLaws
 pub mod Results
+pub mod HintLaws
+pub mod ToldLaws

@@ -1,5 +1,5 @@
 -- Held: how many spaces are held.
-use Rattle.std.specs.Prelude.{ℕ, ◌<◌, ◌≤◌, Bool, false, is_some, if◌then◌else◌}
+use Rattle.std.specs.Prelude.{◌≡◌, ℕ, ◌<◌, Bool, false, is_some, if◌then◌else◌}
 use Rattle.std.specs.List.{sum_by}
 use Rattle.std.specs.FinMap.{FinMap, entries}
 use Rattle.fk_model.specs.declared.body.Body.{Body}
@@ -24,6 +24,6 @@ one_if b = if b then 1 else 0
 unfoldable pub held_in : FinMap who_cmp Body → ℕ
 held_in bodies = sum_by (λ e. one_if (is_held e.1)) (entries bodies)
 
--- a count that isn't below a number, or has come to its end
-abbrev pub IsEnough : ℕ → ℕ → Type 0
-IsEnough n count = count < 18446744073709551615 → n ≤ count
+-- the count of a number, unless it has come to its end
+abbrev pub IsCount : ℕ → ℕ → Type 0
+IsCount n count = count < 18446744073709551615 → n ≡ count

@@ -8,3 +8,4 @@ pub mod Sweeps
 pub mod Threads
 pub mod Parts
 pub mod Pointers
+pub mod Hinted

@@ -12,6 +12,8 @@ use Rattle.fk_model.specs.Objects.{holds}
 use Rattle.fk_tables.specs.declared.parts.Part.{Part}
 use Rattle.fk_tables.specs.declared.parts.Part.TheVariants.{Client, Faulter, Guest, Parked}
 use Rattle.fk_tables.specs.Names.{same_who}
+use Rattle.fk_hints.specs.declared.lead.Sort.{Sort}
+use Rattle.fk_hints.specs.declared.lead.Sort.TheVariants.{Pointer, Served, Taken}
 
 abbrev pub is_thread : Who → Peer → Bool
 is_thread who (peers.Thread other) = same_who other who
@@ -45,3 +47,16 @@ plays part Portset = false
 plays part (Space birth holder) = false
 plays part (Thread thread) = thread_plays part thread
 plays part (Reference to) = false
+
+-- for whom or where a part is played, and as what those who play it lead there
+abbrev pub whose : Part → Who
+whose (Client server) = server
+whose (Faulter taker) = taker
+whose (Guest port) = port
+whose (Parked port) = port
+
+abbrev pub sort_of : Part → Sort
+sort_of (Client server) = Served
+sort_of (Faulter taker) = Taken
+sort_of (Guest port) = Served
+sort_of (Parked port) = Pointer

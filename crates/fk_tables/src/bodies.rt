@@ -19,13 +19,15 @@ ghost use Rattle.fk_tables.specs.Pointers.{body_hits};
 ghost use Rattle.fk_tables.specs.Sweeps.{body_after};
 ghost use Rattle.fk_tables.specs.Threads.{proceeded};
 
-use crate::held::{count_held, counted, is_held, was_held};
+use crate::held::{count_left, counted, is_held, was_held};
 use crate::homes::{home_of, make_room, settle};
 use crate::marks::{is_marked, is_of_pages, mark, room_for_marks};
 use crate::parts::Part;
-use crate::scans::{count_hits, first_among, sweep_each};
+use crate::scans::{count_told, first_told, sweep_told};
 use crate::stored::Stored;
 use crate::sweeps::Sweep;
+use crate::telling::tell;
+use fk_hints::{Hints, Sort, Told};
 use fk_model::{Body, Mode, NoMemory, Who};
 use fk_slots::{Row, lay_value, next_taken, put_value, take_value, value_at};
 use std::alloc::Global;
@@ -42,6 +44,8 @@ pub struct Bodies {
     held: u64,
     /// For each birth number the groups of slots that may hold mappings and regions.
     marks: Vec<[bool; 16]>,
+    /// Who may lead to each object.
+    hints: Hints,
 }
 
 impl Model for Bodies {
@@ -51,7 +55,8 @@ impl Model for Bodies {
     ghost use Rattle.fk_model.specs.declared.body.Body.{Body};
     ghost use Rattle.fk_model.specs.contracts.body.Body as body;
     ghost use Rattle.fk_slots.specs.Tabled.{map_of_rows};
-    ghost use Rattle.fk_tables.specs.Held.{held_in, IsEnough};
+    ghost use Rattle.fk_tables.specs.Held.{held_in, IsCount};
+    ghost use Rattle.fk_tables.specs.Hinted.{AreTold};
     ghost use Rattle.fk_tables.specs.Homes.{IsHomed};
     ghost use Rattle.fk_tables.specs.Marks.{AreMarked};
     ghost use Rattle.fk_tables.specs.Names.{at, who_cmp, coded_who};
@@ -63,8 +68,8 @@ impl Model for Bodies {
     ghost view = { λ s. map_of_rows who_cmp at s.rows.items };
 
     ghost invariant = { λ s. (length s.rows.items ≤ 4294967296)
-        × IsHomed (map_of_rows who_cmp at s.rows.items) s.homes.items × IsEnough (held_in (map_of_rows who_cmp at s.rows.items)) s.held
-        × AreMarked (map_of_rows who_cmp at s.rows.items) s.marks.items };
+        × IsHomed (map_of_rows who_cmp at s.rows.items) s.homes.items × IsCount (held_in (map_of_rows who_cmp at s.rows.items)) s.held
+        × AreMarked (map_of_rows who_cmp at s.rows.items) s.marks.items × AreTold (map_of_rows who_cmp at s.rows.items) s.hints };
 }
 
 impl Bodies {
@@ -77,6 +82,7 @@ impl Bodies {
             homes: Vec::new(alloc),
             held: 0,
             marks: Vec::new(alloc),
+            hints: Hints::new(alloc),
         }
     }
 
@@ -110,6 +116,7 @@ impl Bodies {
             self.held = counted(self.held, is_held(stored.body()), is_held(&body));
             stored.put(body);
             lay_value(&mut self.rows, who.space, who.slot, stored);
+            tell(&mut self.hints, &self.rows, who, &body);
         }
     }
 
@@ -136,11 +143,13 @@ impl Bodies {
         let birth = birth_of(&body);
         make_room(&mut self.homes, birth)?;
         room_for_marks(&mut self.marks, who.space)?;
+        self.hints.room(who)?;
         let stored = Stored::of(*self.rows.allocator(), body)?;
         put_value(&mut self.rows, who.space, who.slot, stored)?;
         settle(&mut self.homes, birth, Some(who));
         self.held = counted(self.held, false, is_held(&body));
         mark(&mut self.marks, who, is_of_pages(&body));
+        tell(&mut self.hints, &self.rows, who, &body);
         Ok(())
     }
 
@@ -162,10 +171,12 @@ impl Bodies {
         ensures { (q : Who) → map.get self.new q ≡ if same_who q to then map.get self.old from else (if same_who q from then None else map.get self.old q) }
     {
         if let Some(stored) = take_value(&mut self.rows, from.space, from.slot) {
-            let birth = birth_of(stored.body());
-            mark(&mut self.marks, to, is_of_pages(stored.body()));
+            let body = *stored.body();
+            let birth = birth_of(&body);
+            mark(&mut self.marks, to, is_of_pages(&body));
             lay_value(&mut self.rows, to.space, to.slot, stored);
             settle(&mut self.homes, birth, Some(to));
+            tell(&mut self.hints, &self.rows, to, &body);
         }
     }
 
@@ -174,22 +185,37 @@ impl Bodies {
         ensures some { IfSome result (λ who. (b : Body) × (map.get self.now who ≡ Some b) × (plays part b ≡ true)) }
         ensures none { result ≡ None → (who : Who) (b : Body) → map.get self.now who ≡ Some b → plays part b ≡ false }
     {
-        first_among(&self.rows, part)
+        let told = self.hints.at(part.whose(), part.sort());
+        first_told(&self.rows, part, told)
     }
 
     /// How many pointers of all bodies lead to an object.
     pub fn pointers_at(&self, who: Who) -> u64
         ensures { result ≡ sum_by (λ e. body_hits who e.1) (entries self.now) }
     {
-        count_hits(&self.rows, who)
+        let told = self.hints.at(who, Sort::Pointer);
+        count_told(&self.rows, who, told)
+    }
+
+    /// Some pointer may lead to an object.
+    #[inline]
+    pub fn is_led_to(&self, who: Who) -> bool
+        ensures { result ≡ false → (q : Who) (b : Body) → map.get self.now q ≡ Some b → body_hits who b ≡ 0 }
+    {
+        match self.hints.at(who, Sort::Pointer) {
+            Told::Nobody => false,
+            Told::One(_) | Told::Many => true,
+        }
     }
 
     /// Sweeps all bodies.
     pub fn sweep(&mut self, sweep: Sweep)
         ensures { (q : Who) → map.get self.new q ≡ option_map (body_after sweep q.space) (map.get self.old q) }
     {
-        sweep_each(&mut self.rows, sweep);
-        self.held = count_held(&self.rows);
+        let told = self.hints.at(sweep.from, Sort::Pointer);
+        sweep_told(&mut self.rows, sweep, told);
+        self.hints.pass_on(sweep.from, sweep.to);
+        self.held = count_left(&self.rows, self.held);
     }
 
     /// A mapping or a region may be in this group of 16 slots of a space.

@@ -4,7 +4,7 @@ ghost use Rattle.std.specs.List.{sum_by};
 ghost use Rattle.fk_slots.specs.Cells.{cell_in};
 ghost use Rattle.fk_slots.specs.Tabled.{of_cell};
 ghost use Rattle.fk_tables.specs.Held as held;
-ghost use Rattle.fk_tables.specs.Held.{one_if, IsEnough};
+ghost use Rattle.fk_tables.specs.Held.{one_if, IsCount};
 
 use crate::stored::Stored;
 use fk_model::Body;
@@ -33,7 +33,7 @@ pub fn was_held(gone: &Option<Stored>) -> bool
 /// The count once an object that was held, or wasn't, is held, or isn't. A count that has come to
 /// its end stays there.
 pub fn counted(count: u64, before: bool, now: bool) -> u64
-    ensures { (n m : ℕ) → IsEnough n count → m + one_if before ≡ n + one_if now → IsEnough m result }
+    ensures { (n m : ℕ) → IsCount n count → m + one_if before ≡ n + one_if now → IsCount m result }
 {
     if before == now || count == u64::MAX {
         count
@@ -44,8 +44,17 @@ pub fn counted(count: u64, before: bool, now: bool) -> u64
     }
 }
 
+/// How many spaces are held, where none more is than before.
+pub fn count_left(rows: &Vec<Row<Stored>>, before: u64) -> u64
+    requires few { length rows.now.items ≤ 4294967296 }
+    requires less { before ≡ 0 → sum_by (λ row. sum_by (of_cell (λ b. one_if (held.is_held b))) row) rows.now.items ≡ 0 }
+    ensures { result ≡ sum_by (λ row. sum_by (of_cell (λ b. one_if (held.is_held b))) row) rows.now.items }
+{
+    if before == 0 { 0 } else { count_held(rows) }
+}
+
 /// How many spaces are held.
-pub fn count_held(rows: &Vec<Row<Stored>>) -> u64
+fn count_held(rows: &Vec<Row<Stored>>) -> u64
     requires { length rows.now.items ≤ 4294967296 }
     ensures { result ≡ sum_by (λ row. sum_by (of_cell (λ b. one_if (held.is_held b))) row) rows.now.items }
 {

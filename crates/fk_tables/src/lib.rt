@@ -17,6 +17,7 @@ mod parts;
 mod scans;
 mod stored;
 mod sweeps;
+mod telling;
 
 pub use bodies::Bodies;
 pub use pages::Pages;

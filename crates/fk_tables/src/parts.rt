@@ -3,6 +3,7 @@ ghost use Rattle.std.specs.Prelude.{◌≡◌};
 ghost use Rattle.fk_model.specs.Objects.{holds};
 ghost use Rattle.fk_tables.specs.Parts as parts;
 
+use fk_hints::Sort;
 use fk_model::{Body, Peer, Thread, Who};
 
 /// A part that a thread plays for another thread, or at a port.
@@ -19,6 +20,26 @@ pub enum Part {
 }
 
 impl Part {
+    /// For whom or where it is played.
+    pub fn whose(self) -> Who
+        ensures { result ≡ parts.whose self }
+    {
+        match self {
+            Part::Client(who) | Part::Faulter(who) | Part::Guest(who) | Part::Parked(who) => who,
+        }
+    }
+
+    /// As what those who play it lead there.
+    pub fn sort(self) -> Sort
+        ensures { result ≡ parts.sort_of self }
+    {
+        match self {
+            Part::Client(_) | Part::Guest(_) => Sort::Served,
+            Part::Faulter(_) => Sort::Taken,
+            Part::Parked(_) => Sort::Pointer,
+        }
+    }
+
     /// This object plays the part.
     pub fn is_played_by(self, body: &Body) -> bool
         ensures { result ≡ parts.plays self body.now }

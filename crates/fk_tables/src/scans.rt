@@ -1,10 +1,14 @@
 //! What is asked of all objects, or happens to all.
-ghost use Rattle.std.specs.Prelude.{◌≡◌, ◌≤◌, ◌==◌, ℕ, IfSome, Some, None, true, false, length, option_map, if◌then◌else◌};
+ghost use Rattle.std.specs.Prelude.{◌≡◌, ◌≢◌, ◌≤◌, ◌==◌, ◌&&◌, ℕ, IfSome, Some, None, true, false, length, option_map, if◌then◌else◌};
 ghost use Rattle.std.specs.List.{sum_by};
+ghost use Rattle.fk_model.specs.declared.names.Who.{Who};
 ghost use Rattle.fk_model.specs.declared.body.Body.{Body};
 ghost use Rattle.fk_model.specs.Objects.{holds};
 ghost use Rattle.fk_slots.specs.Cells.{cell, cell_in};
 ghost use Rattle.fk_slots.specs.Tabled.{of_cell};
+ghost use Rattle.fk_hints.specs.Leads.{led, lead_by};
+ghost use Rattle.fk_hints.specs.Told.{Tells};
+ghost use Rattle.fk_hints.specs.declared.lead.Sort.TheVariants.{Pointer};
 ghost use Rattle.fk_tables.specs.Parts.{plays};
 ghost use Rattle.fk_tables.specs.Pointers.{body_hits};
 ghost use Rattle.fk_tables.specs.Sweeps.{body_after};
@@ -13,11 +17,38 @@ use crate::hits::hits;
 use crate::parts::Part;
 use crate::stored::Stored;
 use crate::sweeps::Sweep;
+use fk_hints::Told;
 use fk_model::Who;
-use fk_slots::Row;
+use fk_slots::{Row, value_at};
+
+/// An object that plays this part, where those who may are told; nothing where none does.
+pub fn first_told(rows: &Vec<Row<Stored>>, part: Part, told: Told) -> Option<Who>
+    requires few { length rows.now.items ≤ 4294967296 }
+    requires told { (who : Who) (b : Body) → cell rows.now.items who.space who.slot ≡ Some b → plays part b ≡ true → Tells told who }
+    ensures some { IfSome result (λ who. (b : Body) × (cell rows.now.items who.space who.slot ≡ Some b) × (plays part b ≡ true)) }
+    ensures none { result ≡ None → (who : Who) (b : Body) → cell rows.now.items who.space who.slot ≡ Some b → plays part b ≡ false }
+{
+    match told {
+        Told::Nobody => None,
+        Told::One(who) => only_among(rows, part, who),
+        Told::Many => first_among(rows, part),
+    }
+}
+
+/// The one that may play this part, if it does.
+fn only_among(rows: &Vec<Row<Stored>>, part: Part, who: Who) -> Option<Who>
+    requires told { (q : Who) (b : Body) → cell rows.now.items q.space q.slot ≡ Some b → plays part b ≡ true → who ≡ q }
+    ensures some { IfSome result (λ who. (b : Body) × (cell rows.now.items who.space who.slot ≡ Some b) × (plays part b ≡ true)) }
+    ensures none { result ≡ None → (who : Who) (b : Body) → cell rows.now.items who.space who.slot ≡ Some b → plays part b ≡ false }
+{
+    match value_at(rows, who.space, who.slot) {
+        Some(stored) if part.is_played_by(stored.body()) => Some(who),
+        _ => None,
+    }
+}
 
 /// An object that plays this part; nothing where none does.
-pub fn first_among(rows: &Vec<Row<Stored>>, part: Part) -> Option<Who>
+fn first_among(rows: &Vec<Row<Stored>>, part: Part) -> Option<Who>
     requires { length rows.now.items ≤ 4294967296 }
     ensures some { IfSome result (λ who. (b : Body) × (cell rows.now.items who.space who.slot ≡ Some b) × (plays part b ≡ true)) }
     ensures none { result ≡ None → (s k : ℕ) (b : Body) → cell rows.now.items s k ≡ Some b → plays part b ≡ false }
@@ -53,8 +84,20 @@ fn is_played(row: &Row<Stored>, slot: u8, part: Part) -> bool
     }
 }
 
+/// How many pointers of all bodies lead to an object, where those that may are told.
+pub fn count_told(rows: &Vec<Row<Stored>>, who: Who, told: Told) -> u64
+    requires few { length rows.now.items ≤ 4294967296 }
+    requires told { (q : Who) (b : Body) → cell rows.now.items q.space q.slot ≡ Some b → body_hits who b ≢ 0 → Tells told q }
+    ensures { result ≡ sum_by (λ row. sum_by (of_cell (body_hits who)) row) rows.now.items }
+{
+    match told {
+        Told::Nobody => 0,
+        Told::One(_) | Told::Many => count_hits(rows, who),
+    }
+}
+
 /// How many pointers of all bodies lead to an object.
-pub fn count_hits(rows: &Vec<Row<Stored>>, who: Who) -> u64
+fn count_hits(rows: &Vec<Row<Stored>>, who: Who) -> u64
     requires { length rows.now.items ≤ 4294967296 }
     ensures { result ≡ sum_by (λ row. sum_by (of_cell (body_hits who)) row) rows.now.items }
 {
@@ -86,8 +129,63 @@ fn cell_hits(row: &Row<Stored>, slot: u8, who: Who) -> u64
     }
 }
 
+/// Sweeps all bodies, where those that may lead there are told.
+pub fn sweep_told(rows: &mut Vec<Row<Stored>>, sweep: Sweep, told: Told)
+    requires few { length rows.old.items ≤ 4294967296 }
+    requires told { (q : Who) (b : Body) (i : ℕ) → cell rows.old.items q.space q.slot ≡ Some b → led b i ≡ Some (lead_by Pointer sweep.from) → Tells told q }
+    ensures swept { (s k : ℕ) → cell rows.new.items s k ≡ option_map (body_after sweep s) (cell rows.old.items s k) }
+    ensures long { length rows.new.items ≡ length rows.old.items }
+{
+    match told {
+        Told::Nobody => sweep_home(rows, sweep),
+        Told::One(who) => sweep_only(rows, sweep, who),
+        Told::Many => sweep_each(rows, sweep),
+    }
+}
+
+/// Sweeps the one body that leads there, and the object's own space, which may have ports in it.
+fn sweep_only(rows: &mut Vec<Row<Stored>>, sweep: Sweep, who: Who)
+    requires few { length rows.old.items ≤ 4294967296 }
+    requires told { (q : Who) (b : Body) (i : ℕ) → cell rows.old.items q.space q.slot ≡ Some b → led b i ≡ Some (lead_by Pointer sweep.from) → who ≡ q }
+    ensures swept { (s k : ℕ) → cell rows.new.items s k ≡ option_map (body_after sweep s) (cell rows.old.items s k) }
+    ensures long { length rows.new.items ≡ length rows.old.items }
+{
+    if who.space == sweep.from.space {
+        sweep_home(rows, sweep);
+    } else {
+        sweep_at(rows, sweep, who);
+        sweep_home(rows, sweep);
+    }
+}
+
+/// Sweeps one body.
+fn sweep_at(rows: &mut Vec<Row<Stored>>, sweep: Sweep, who: Who)
+    ensures swept { (s k : ℕ) → cell rows.new.items s k
+        ≡ (if s == who.space && k == who.slot then option_map (body_after sweep s) (cell rows.old.items s k) else cell rows.old.items s k) }
+    ensures long { length rows.new.items ≡ length rows.old.items }
+{
+    let at = who.space as usize;
+    if at < rows.len() {
+        let row = &mut rows[at];
+        sweep_cell(row, who.slot, who.space, sweep);
+    }
+}
+
+/// Sweeps the space in which the object is.
+fn sweep_home(rows: &mut Vec<Row<Stored>>, sweep: Sweep)
+    ensures swept { (s k : ℕ) → cell rows.new.items s k
+        ≡ (if s == sweep.from.space then option_map (body_after sweep s) (cell rows.old.items s k) else cell rows.old.items s k) }
+    ensures long { length rows.new.items ≡ length rows.old.items }
+{
+    let at = sweep.from.space as usize;
+    if at < rows.len() {
+        let row = &mut rows[at];
+        sweep_row(row, sweep.from.space, sweep);
+    }
+}
+
 /// Sweeps all bodies.
-pub fn sweep_each(rows: &mut Vec<Row<Stored>>, sweep: Sweep)
+fn sweep_each(rows: &mut Vec<Row<Stored>>, sweep: Sweep)
     requires { length rows.old.items ≤ 4294967296 }
     ensures swept { (s k : ℕ) → cell rows.new.items s k ≡ option_map (body_after sweep s) (cell rows.old.items s k) }
     ensures long { length rows.new.items ≡ length rows.old.items }
@@ -110,9 +208,21 @@ fn sweep_cell(row: &mut Row<Stored>, slot: u8, space: u32, sweep: Sweep)
     ensures swept { (k : ℕ) → cell_in row.new k ≡ (if k == slot then option_map (body_after sweep space) (cell_in row.old k) else cell_in row.old k) }
     ensures long { length row.new ≡ length row.old }
 {
-    if let Some(mut stored) = row.take(slot) {
-        let body = *stored.body();
-        stored.put(sweep.body(space, body));
-        row.lay(slot, stored);
+    if is_touched(row, slot, space, sweep) {
+        if let Some(mut stored) = row.take(slot) {
+            let body = *stored.body();
+            stored.put(sweep.body(space, body));
+            row.lay(slot, stored);
+        }
+    }
+}
+
+/// A sweep changes what is in a slot; false only if it doesn't.
+fn is_touched(row: &Row<Stored>, slot: u8, space: u32, sweep: Sweep) -> bool
+    ensures { result ≡ false → option_map (body_after sweep space) (cell_in row.now slot) ≡ cell_in row.now slot }
+{
+    match row.at(slot) {
+        None => false,
+        Some(stored) => sweep.touches(space, stored.body()),
     }
 }

@@ -1,5 +1,5 @@
 //! What becomes of all bodies where an object is destroyed or gets another name.
-ghost use Rattle.std.specs.Prelude.{◌≡◌};
+ghost use Rattle.std.specs.Prelude.{◌≡◌, false, Some};
 ghost use Rattle.fk_model.specs.Objects.{and_then};
 ghost use Rattle.fk_tables.specs.Sweeps as sweeps;
 
@@ -100,6 +100,84 @@ impl Sweep {
         ensures { result ≡ and_then (sweeps.after self) holder }
     {
         self.after(holder?)
+    }
+
+    /// A body in this space changes; false only if it doesn't.
+    pub fn touches(self, space: u32, body: &Body) -> bool
+        ensures { result ≡ false → sweeps.body_after self space body.now ≡ body.now }
+    {
+        match body {
+            Body::Mutex { .. } | Body::Cond | Body::Portset => false,
+            Body::Mapping { region, .. } => self.is_at(*region),
+            Body::Region { keeper, .. } => self.is_at(*keeper),
+            Body::Port { set, .. } => self.is_set(space, *set),
+            Body::Space { holder, .. } => self.is_holder(*holder),
+            Body::Thread(thread) => self.is_talk(thread.talk) || self.is_fault(thread.fault),
+            Body::Reference { to } => self.is_at(*to),
+        }
+    }
+
+    fn is_at(self, pointer: Ptr) -> bool
+        ensures { result ≡ false → sweeps.pointer_after self pointer ≡ pointer }
+    {
+        match pointer {
+            Ptr::Null | Ptr::Dead => false,
+            Ptr::At(who) => who == self.from,
+        }
+    }
+
+    fn is_holder(self, holder: Option<Who>) -> bool
+        ensures { result ≡ false → and_then (sweeps.after self) holder ≡ holder }
+    {
+        match holder {
+            None => false,
+            Some(who) => who == self.from,
+        }
+    }
+
+    fn is_set(self, space: u32, set: Option<u8>) -> bool
+        ensures { result ≡ false → and_then (sweeps.set_after self space) set ≡ set }
+    {
+        match set {
+            None => false,
+            Some(slot) => Who { space, slot } == self.from,
+        }
+    }
+
+    fn is_peer(self, peer: Peer) -> bool
+        ensures { result ≡ false → sweeps.peer_after self peer ≡ Some peer }
+    {
+        match peer {
+            Peer::Service | Peer::Parked => false,
+            Peer::Thread(who) => who == self.from,
+        }
+    }
+
+    fn is_talk(self, talk: Option<Talk>) -> bool
+        ensures { result ≡ false → and_then (sweeps.talk_after self) talk ≡ talk }
+    {
+        match talk {
+            None => false,
+            Some(talk) => talk.port == self.from || self.is_peer(talk.peer),
+        }
+    }
+
+    fn is_taker(self, taker: Option<Peer>) -> bool
+        ensures { result ≡ false → and_then (sweeps.peer_after self) taker ≡ taker }
+    {
+        match taker {
+            None => false,
+            Some(peer) => self.is_peer(peer),
+        }
+    }
+
+    fn is_fault(self, fault: Option<Fault>) -> bool
+        ensures { result ≡ false → and_then (sweeps.fault_after self) fault ≡ fault }
+    {
+        match fault {
+            None => false,
+            Some(fault) => fault.port == self.from || self.is_taker(fault.taker),
+        }
     }
 
     /// A body in this space.

@@ -1,5 +1,6 @@
 //! How many pointers lead to an object.
-ghost use Rattle.std.specs.Prelude.{◌≡◌};
+ghost use Rattle.std.specs.Prelude.{◌≡◌, false};
+ghost use Rattle.fk_model.specs.Places.{Path};
 ghost use Rattle.std.specs.List.{sum_by};
 ghost use Rattle.fk_model.specs.Searches.{objects, pointers_to};
 ghost use Rattle.fk_store.specs.World.{world, place_of};
@@ -8,6 +9,13 @@ use crate::Store;
 use fk_model::Who;
 
 impl Store {
+    /// Some pointer may lead to an object.
+    pub fn is_led_to(&self, who: Who) -> bool
+        ensures { result ≡ false → (x : Path) → pointers_to (place_of self.now who) ((world self.now).body x) ≡ 0 }
+    {
+        self.bodies.is_led_to(who)
+    }
+
     /// How many pointers of all objects lead to an object.
     pub fn pointers_at(&self, who: Who) -> u64
         ensures { result ≡ sum_by (λ x. pointers_to (place_of self.now who) ((world self.now).body x)) (objects (world self.now)) }

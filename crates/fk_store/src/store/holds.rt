@@ -1,5 +1,6 @@
 //! Who holds a space, and who decides over what is held.
-ghost use Rattle.std.specs.Prelude.{◌≡◌, Some, IfSome, option_map, nat_eq, ◌&&◌};
+ghost use Rattle.std.specs.Prelude.{◌≡◌, Some, IfSome, false, option_map, nat_eq, ◌&&◌};
+ghost use Rattle.fk_model.specs.Places.{Path};
 ghost use Rattle.fk_model.specs.Places.Ptr.{At};
 ghost use Rattle.fk_model.specs.Holds as holds;
 ghost use Rattle.fk_model.specs.World.{apply};
@@ -49,6 +50,13 @@ impl Store {
             }
         }
         holder
+    }
+
+    /// Some space may be held; nothing is frozen where none is.
+    pub fn is_any_held(&self) -> bool
+        ensures { result ≡ false → (x : Path) → holds.decider (world self.now) x ≡ None }
+    {
+        self.bodies.is_any_held()
     }
 
     /// A space is held, or one above it.

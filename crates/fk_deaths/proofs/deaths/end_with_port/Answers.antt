@@ -3,7 +3,13 @@ use Rattle.fk_model.specs.Searches.{depth}
 use Rattle.fk_store.specs.Paths.{path, place}
 use Rattle.fk_store.specs.World.{world, IsLive}
 use Rattle.fk_deaths.proofs.Clients.{AreEnding, ending_first, ending_more, ending_all, first_same}
+use Rattle.fk_deaths.proofs.Unheld.{no-clients}
 use Rattle.fk_deaths.proofs.deaths.end_with_port.Goals as goal
+
+pub returns-then-not-is_led_to-clause-ends : goal.returns-then-not-is_led_to-clause-ends
+returns-then-not-is_led_to-clause-ends c =
+    let m = c.args.store.now in
+    rw (no-clients (world m) (place (path m) c.args.port) (c.is_led_to.ensures c.if-not-is_led_to.true)) refl
 
 pub loop-at-init : goal.loop-at-init
 loop-at-init c =

@@ -6,6 +6,7 @@ use Rattle.fk_tables.proofs.ScanLaws.{get-who}
 use Rattle.fk_tables.proofs.MarkLaws.{marked-remove}
 use Rattle.fk_tables.proofs.HomeLaws.{homed-remove, born-low}
 use Rattle.fk_tables.proofs.NameLaws.{who_naming}
+use Rattle.fk_tables.proofs.ToldLaws.{told-taken}
 use Rattle.fk_tables.proofs.bodies.Bodies.remove.Goals as goal
 
 pub settle-requires : goal.settle-requires
@@ -24,6 +25,7 @@ invariant_of-self c =
           (enough-remove _ c.args.who _ _ c.self.invariant.2 _ (c.was_held.ensures ∙ ap (of_cell _) (c.take_value-gone.ensures.taken ∙ sym (get-who _ c.args.who)))
           c.counted-self-inside.ensures),
       rw (remove_rows who_naming _ _ c.args.who.space c.args.who.slot c.take_value-gone.ensures.left) (marked-remove _ _ c.args.who c.self.invariant.3),
+      told-taken _ _ c.self.invariant.4 _ c.args.who c.take_value-gone.ensures.left,
     )
 
 pub returns : goal.returns

@@ -1,10 +1,11 @@
-use Rattle.std.proofs.Common.{refl, sym, ap, ◌∙◌, arith}
+use Rattle.std.proofs.Common.{Some, refl, sym, ap, ◌∙◌, arith}
 use Rattle.fk_model.specs.Objects.{and_then}
 use Rattle.fk_tables.specs.Births.{stored_birth}
 use Rattle.fk_tables.specs.Marks.{is_of_pages}
 use Rattle.fk_tables.proofs.HeldLaws.{enough-rename}
 use Rattle.fk_tables.proofs.MarkLaws.{marked-rename, mark_low}
 use Rattle.fk_tables.proofs.HomeLaws.{homed-rename, born-low}
+use Rattle.fk_tables.proofs.ToldLaws.{this-cell, others-laid, told-rows}
 use Rattle.fk_tables.proofs.ScanLaws.{get-who, get-moved, not_gone}
 use Rattle.fk_tables.proofs.bodies.Bodies.rename.Goals as goal
 
@@ -14,8 +15,14 @@ lay_value-requires c = rw c.requires.space (c.in-Some.ensures.room refl)
 pub mark-requires : goal.mark-requires
 mark-requires c so =
     let there = get-who _ c.args.from ∙ sym c.in-Some.ensures.taken in
-    let pages = ap is_of_pages (sym c.body-in-Some.ensures) ∙ sym c.is_of_pages.ensures ∙ so in
+    let pages = ap is_of_pages (sym c.body.ensures) ∙ sym c.is_of_pages.ensures ∙ so in
     rw c.requires.space (mark_low _ c.args.from.space _ (c.self.invariant.3 c.args.from c.in-Some.stored there pages))
+
+pub tell-requires-clause-there : goal.tell-requires-clause-there
+tell-requires-clause-there c = this-cell _ _ c.args.to c.in-Some.stored c.lay_value.ensures.laid ∙ ap Some (sym c.body.ensures)
+
+pub tell-requires-clause-others : goal.tell-requires-clause-others
+tell-requires-clause-others c = others-laid _ _ c.self.invariant.4 _ _ c.args.from c.args.to _ c.take_value.ensures.left c.lay_value.ensures.laid
 
 pub settle-requires : goal.settle-requires
 settle-requires c n is =
@@ -32,7 +39,8 @@ invariant_of-self c =
       homed-rename _ _ _ _ c.self.invariant.1 c.args.from c.args.to (rw (← c.self.view_is) at c.requires.free) renamed settled,
       enough-rename _ _ c.args.from c.args.to c.in-Some.stored _ there (rw (← c.self.view_is) at c.requires.free) renamed c.self.invariant.2,
       marked-rename _ _ _ _ c.args.from c.args.to c.in-Some.stored there renamed
-          (rw (c.is_of_pages.ensures, c.body-in-Some.ensures) at c.mark.ensures) c.self.invariant.3,
+          (rw (c.is_of_pages.ensures, c.body.ensures) at c.mark.ensures) c.self.invariant.3,
+      told-rows _ _ c.tell.ensures,
     )
 
 pub invariant_of-self-in_default : goal.invariant_of-self-in_default

@@ -5,8 +5,15 @@ use Rattle.fk_tables.proofs.HeldLaws.{enough-set}
 use Rattle.fk_tables.proofs.MarkLaws.{marked-set}
 use Rattle.fk_tables.proofs.HomeLaws.{homed-set}
 use Rattle.fk_tables.proofs.NameLaws.{who_naming}
+use Rattle.fk_tables.proofs.ToldLaws.{this-cell, others-laid, told-rows}
 use Rattle.fk_tables.proofs.ScanLaws.{get-who, not_gone}
 use Rattle.fk_tables.proofs.bodies.Bodies.set.Goals as goal
+
+pub tell-requires-clause-there : goal.tell-requires-clause-there
+tell-requires-clause-there c = this-cell _ _ c.args.who c.args.body (rw c.put.ensures at c.lay_value.ensures.laid)
+
+pub tell-requires-clause-others : goal.tell-requires-clause-others
+tell-requires-clause-others c = others-laid _ _ c.self.invariant.4 _ _ c.args.who c.args.who _ c.take_value.ensures.left c.lay_value.ensures.laid
 
 pub invariant_of-self : goal.invariant_of-self
 invariant_of-self c =
@@ -18,6 +25,7 @@ invariant_of-self c =
           (c.is_held.ensures ∙ ap is_held c.body.ensures) c.is_held-in-Some.ensures c.counted-self-inside.ensures),
       rw now (marked-set _ _ c.args.who c.in-Some.stored c.args.body (get-who _ c.args.who ∙ sym c.in-Some.ensures.taken)
           (rw (← c.self.view_is) at c.requires.pages c.in-Some.stored (get-who _ c.args.who ∙ sym c.in-Some.ensures.taken)) c.self.invariant.3),
+      told-rows _ _ c.tell.ensures,
     )
 
 pub invariant_of-self-in_default : goal.invariant_of-self-in_default
