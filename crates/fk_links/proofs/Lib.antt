@@ -1,1 +1,5 @@
 pub mod Served
+pub mod Handles
+pub mod Members
+pub mod Taken
+pub mod Faulted

@@ -1,16 +1,16 @@
 -- Served: the talk that a thread serves, as its server sees it.
-use Rattle.std.proofs.Common.{◌≡◌, Bool, true, false, List, [], ◌∷◌, ◌++◌, Option, Some, None, refl, sym}
+use Rattle.std.proofs.Common.{◌≡◌, Bool, true, false, [], ◌∷◌, ◌++◌, Option, Some, None, refl, sym}
 use Rattle.fk_model.specs.declared.statuses.status.TheConstants.{NOTLINKED}
 use Rattle.fk_model.specs.declared.thread.Turn.TheVariants as turns
 use Rattle.fk_model.specs.LinkRows.{disconnect, end_all, removes}
-use Rattle.fk_model.specs.Objects.{Talk, and_then, holds}
+use Rattle.fk_model.specs.Objects.{Talk, holds}
 use Rattle.fk_model.specs.Objects.Peer.{Server}
-use Rattle.fk_model.specs.Outcomes.{Caller, Outcome, ◌>>=◌, done, or_refuse, path_of}
+use Rattle.fk_model.specs.Outcomes.{Caller, ◌>>=◌, done, or_refuse, path_of}
 use Rattle.fk_model.specs.Outcomes.Outcome.{Refused}
 use Rattle.fk_model.specs.Places.{Path}
 use Rattle.fk_model.specs.Places.Ptr.{At}
 use Rattle.fk_model.specs.Searches.{client_of, objects, talk_at}
-use Rattle.fk_model.specs.Talks.{Line, line, line_from, talking_end}
+use Rattle.fk_model.specs.Talks.{line, line_from, talking_end}
 use Rattle.fk_model.specs.World.{World, serves}
 use Rattle.fk_model.specs.World.Change.{Alter}
 use Rattle.fk_model.specs.World.Edit.{SetTalk}

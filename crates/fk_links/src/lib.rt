@@ -1,12 +1,16 @@
-//! Talks begin and end: what the stages come to that connect to a port and leave a talk.
+//! Talks begin and end: what the stages come to that connect to a port, wait for clients and faults,
+//! and leave a talk.
 //!
 //! It stands on `fk_plans`, and on `fk_deaths` for the calls that end with a talk, and promises of
 //! each stage that its verdict stands for the outcome of the stage's row in the abstract machine, and
-//! can be carried out.
+//! can be carried out. A wait looks at the thread that is picked alone.
 #![tactic(auto)]
 
+mod candidates;
 mod connecting;
 mod leaving;
+mod waiting;
 
 pub use connecting::connect;
 pub use leaving::disconnect;
+pub use waiting::wait;

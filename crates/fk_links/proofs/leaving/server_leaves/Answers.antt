@@ -1,4 +1,3 @@
-use Rattle.std.proofs.Common.{None, Some, option_map, sym, ap, ◌∙◌}
 use Rattle.fk_store.specs.Paths.{path, place}
 use Rattle.fk_store.specs.World.{world}
 use Rattle.fk_plans.specs.Plans.{caller_by}
