@@ -141,6 +141,7 @@ instruction_unrefused m w p c (verdicts.ShowsRecord object) is = absurd is
 instruction_unrefused m w p c (verdicts.Sets object from) is = absurd is
 instruction_unrefused m w p c (verdicts.Renames object slot) is = absurd is
 instruction_unrefused m w p c (verdicts.Destroys object last) is = absurd is
+instruction_unrefused m w p c (verdicts.WakesAll cond) is = absurd is
 instruction_unrefused m w p c (verdicts.Goes plan) is = absurd is
 instruction_unrefused m w p c (verdicts.Tells plan words last) is = absurd is
 

@@ -7,3 +7,4 @@ pub mod Renamed
 pub mod Following
 pub mod Told
 pub mod Low
+pub mod Woken

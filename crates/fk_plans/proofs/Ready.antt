@@ -30,6 +30,7 @@ use Rattle.fk_store.proofs.Freedom.{free_thread, free_itself, may_alter, IsPlain
 use Rattle.fk_plans.proofs.Pointers.{changed_iff, held_iff, pointed_iff, removed_iff}
 use Rattle.fk_plans.proofs.Recorded.{sets_iff}
 use Rattle.fk_plans.proofs.Renamed.{renames_iff}
+use Rattle.fk_plans.proofs.Woken.{sleepers_allowed}
 use Rattle.fk_plans.proofs.Destroyed.{destroys_iff}
 use Rattle.fk_plans.proofs.Lists.{own_iff}
 use Rattle.fk_readers.specs.declared.caller.Caller.{Caller}
@@ -87,6 +88,7 @@ deed_iff w v me p (deeds.Counts client count) = plain_iff w me (place p client) 
 deed_iff w v me p (deeds.Shifts thread count) = plain_iff w me (place p thread) _ (record { changed = λ b. refl; made = refl })
 deed_iff w v me p (deeds.Ends thread status) = plain_iff w me (place p thread) _ (record { changed = λ b. refl; made = refl })
 deed_iff w v me p (deeds.Wakes thread mutex) = plain_iff w me (place p thread) _ (record { changed = λ b. refl; made = refl })
+deed_iff w v me p (deeds.Sleeps thread cond mutex) = plain_iff w me (place p thread) _ (record { changed = λ b. refl; made = refl })
 
 on_if : (P : Option Change → Option Change → Type 0) (b : Bool) (t1 e1 t2 e2 : Option Change) → P t1 t2 → P e1 e2 → P (cond b t1 e1) (cond b t2 e2)
 on_if P true t1 e1 t2 e2 t e = t
@@ -279,6 +281,8 @@ module _ (m : Contents) (c : Caller) (words : List ℕ) (free : c.is_porter ≡ 
   verdict_iff (verdicts.Sets object from) fits = done_iff true _ [] (sets_iff (world m) me _ (place (path m) object) _ fits.0 ((world m).body (place (path m) object)))
   verdict_iff (verdicts.Renames object slot) fits = renames_iff m c words free object slot fits
   verdict_iff (verdicts.Destroys object last) fits = destroys_iff m c words free object last
+  verdict_iff (verdicts.WakesAll cond) fits =
+      done_iff true _ [] ((λ h. sleepers_allowed (world m) c.who.slot (path m c.who.space) cond (free fits)), (λ h. refl))
   verdict_iff (verdicts.Goes plan) fits = plan_iff (world m) me (path m) words plan fits.1
   verdict_iff (verdicts.Tells plan sent last) fits = tells_iff fits.0 _ _ _ last (plan_iff (world m) me (path m) words plan fits.2.1)
   verdict_iff (verdicts.Faults page write port) fits =
@@ -379,6 +383,7 @@ module _ (m : Contents) (c : Caller) (words : List ℕ) (free : c.is_porter ≡ 
   may_pick_is chooses pick (verdicts.Sets object from) fits = may_pick_done chooses pick _ _
   may_pick_is chooses pick (verdicts.Renames object slot) fits = may_pick_renamed chooses pick (place (path m) object) slot
   may_pick_is chooses pick (verdicts.Destroys object last) fits = may_pick_destroyed chooses pick (place (path m) object) last
+  may_pick_is chooses pick (verdicts.WakesAll cond) fits = may_pick_done chooses pick _ _
   may_pick_is chooses pick (verdicts.Goes plan) fits = ap (λ b. chooses || b) (none_picked pick)
   may_pick_is chooses pick (verdicts.Tells plan words last) fits = may_pick_told chooses pick _ _ last
   may_pick_is chooses pick (verdicts.Faults page write port) fits = ap (λ b. chooses || b) (none_picked pick)

@@ -1,7 +1,7 @@
 -- Plans: the changes that a plan makes.
 use Rattle.std.specs.Prelude.{◌≤◌, ◌+◌, ◌≡◌, ℕ, true, List, [], ◌∷◌, Option, Some, None, option_map, IsSome, ⊤}
 use Rattle.fk_model.specs.declared.names.Who.{Who}
-use Rattle.fk_model.specs.declared.stage.Stage.TheVariants.{MutexLock}
+use Rattle.fk_model.specs.declared.stage.Stage.TheVariants.{CondAsleep, CondWait, MutexLock}
 use Rattle.fk_model.specs.ObjectRows.{new_object}
 use Rattle.fk_model.specs.Places.{Path, Ptr}
 use Rattle.fk_model.specs.Places.Ptr.{At}
@@ -15,6 +15,8 @@ use Rattle.fk_store.specs.Bodies.{fault_by, peer_by, pointer_by, talk_by}
 use Rattle.fk_store.specs.Named.{Each, OnFault, OnPeer, OnPointer, OnTalk}
 use Rattle.fk_records.specs.Settings.{record_there}
 use Rattle.fk_store.specs.Paths.{place}
+use Rattle.fk_store.specs.Threads.{todo_at}
+use Rattle.fk_threads.specs.Firsts.{IsFirst}
 use Rattle.fk_threads.specs.Shifted.{IsLow}
 use Rattle.fk_threads.specs.Sleepers.{IsAsleep}
 pub use Rattle.fk_readers.specs.Callers.{caller_by}
@@ -36,6 +38,7 @@ abbrev pub change_by : (ℕ → Path) → Deed → World → Change
 change_by p (deeds.Locks mutex locked) w = Alter (place p mutex) (SetLocked locked)
 change_by p (deeds.Points object to) w = Alter (place p object) (SetPointer (pointer_by p to))
 change_by p (deeds.Wakes thread mutex) w = Alter (place p thread) (Replace (MutexLock mutex))
+change_by p (deeds.Sleeps thread cond mutex) w = Alter (place p thread) (Replace (CondAsleep cond mutex))
 change_by p (deeds.Records object to at) w =
     PutPage (p to.0) to.1 (overwritten (words_at w (p to.0) to.1) at (record_there (w.body (place p object))))
 change_by p (deeds.Sends block) w = PutPage (p block.to.0) block.to.1 (block_page p w block)
@@ -86,6 +89,7 @@ abbrev pub IsDeed : (ℕ → Path) → World → Deed → Type 0
 IsDeed p w (deeds.Locks mutex locked) = ⊤
 IsDeed p w (deeds.Points object to) = OnPointer (λ other. IsSome (kind_there w (place p other))) to
 IsDeed p w (deeds.Wakes thread mutex) = IsAsleep w (place p thread) mutex
+IsDeed p w (deeds.Sleeps thread cond mutex) = IsFirst (CondWait cond mutex) (todo_at w (place p thread))
 IsDeed p w (deeds.Records object to at) = (at + 32 ≤ 64) × (birth_at w (p to.0) ≡ Some to.0) × IsSome (w.page (p to.0) to.1)
 IsDeed p w (deeds.Sends block) = IsBlock p w block
 IsDeed p w (deeds.Counts client count) = ⊤

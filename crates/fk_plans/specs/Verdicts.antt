@@ -11,6 +11,7 @@ use Rattle.fk_model.specs.Places.{Path}
 use Rattle.fk_model.specs.Places.Ptr.{At}
 use Rattle.fk_model.specs.Reach.{words_at}
 use Rattle.fk_model.specs.Readers.{fault_on}
+use Rattle.fk_model.specs.SyncRows.{sleepers}
 use Rattle.fk_model.specs.World.{World, Change, apply_all}
 use Rattle.fk_store.specs.Contents.{Contents}
 use Rattle.fk_store.specs.Moves.{picked_by}
@@ -69,6 +70,7 @@ outcome_by w p c (verdicts.ShowsRecord object) = done c [] (record_there (w.body
 outcome_by w p c (verdicts.Sets object from) = done c (sets_at w (p object.space) (place p object) (record_words p c.words from w)) []
 outcome_by w p c (verdicts.Renames object slot) = renames c (place p object) slot
 outcome_by w p c (verdicts.Destroys object last) = destroyed w c (place p object) last
+outcome_by w p c (verdicts.WakesAll cond) = done c (sleepers w c.space cond) []
 outcome_by w p c (verdicts.Goes plan) = Goes (changes_by p c.words plan w) Nothing
 outcome_by w p c (verdicts.Tells plan news last) = tells c (changes_by p c.words plan w) (news_by w p news) last
 outcome_by w p c (verdicts.Faults page write port) = Goes (fault_on (outcomes.path_of c) page write (At (place p port)) ∷ []) Nothing
@@ -100,7 +102,7 @@ AreAnswers m c plan answers = (given : List ℕ) →
 abbrev pub IsRecordOf : Contents → Caller → Record → Type 0
 IsRecordOf m c from = IsRecord (path m) (world m) from × (from ≡ records.Given → c.is_porter ≡ true)
 
--- a user alone has instructions and faults, and tells of words, a porter alone gets a page
+-- a user alone has instructions and faults, wakes sleepers, and tells of words, a porter alone gets a page
 abbrev pub IsVerdict : Contents → Caller → Verdict → Type 0
 IsVerdict m c (verdicts.Runs e) = (c.is_porter ≡ false) × (is_running (thread_at (world m) (place (path m) c.who)) ≡ true) × IsEffect (path m) (world m) e
 IsVerdict m c (verdicts.Refused status) = ⊤
@@ -113,6 +115,7 @@ IsVerdict m c (verdicts.Sets object from) =
     (is_frozen_for (world m) (place (path m) c.who) (place (path m) object) ≡ false) × IsRecordOf m c from
 IsVerdict m c (verdicts.Renames object slot) = IsMoving m object slot
 IsVerdict m c (verdicts.Destroys object last) = IsDying m object
+IsVerdict m c (verdicts.WakesAll cond) = c.is_porter ≡ false
 IsVerdict m c (verdicts.Goes plan) = IsPlanOf m c plan
 IsVerdict m c (verdicts.Tells plan news last) = (c.is_porter ≡ false) × IsNews m news × IsPlanOf m c plan
 IsVerdict m c (verdicts.Faults page write port) = (c.is_porter ≡ false) × IsLive m port

@@ -18,11 +18,12 @@ use crate::recording::{Record, set_record, told_record, write_record};
 use crate::renaming::rename;
 use crate::sources::give;
 use crate::telling::{said_of, told, told_four, told_page};
+use crate::waking::wake_sleepers;
 use fk_model::status::OK;
 use fk_model::{NoMemory, Said, Who};
 use fk_readers::Caller;
 use fk_store::Store;
-use fk_threads::{Answers, Four, advance, count_moved, end_well, finish, wake};
+use fk_threads::{Answers, Four, advance, count_moved, end_well, fall_asleep, finish, wake};
 
 /// Does a deed.
 fn carry(store: &mut Store, deed: &Deed)
@@ -34,6 +35,11 @@ fn carry(store: &mut Store, deed: &Deed)
         Deed::Locks { mutex, locked } => store.set_locked(mutex, locked),
         Deed::Points { object, to } => store.point(object, to),
         Deed::Wakes { thread, mutex } => wake(store, thread, mutex),
+        Deed::Sleeps {
+            thread,
+            cond,
+            mutex,
+        } => fall_asleep(store, thread, cond, mutex),
         Deed::Records { object, to, at } => write_record(store, object, to, at),
         Deed::Sends(block) => send_block(store, block),
         Deed::Counts { client, count } => count_moved(store, client, count),
@@ -181,6 +187,7 @@ pub fn carry_out(
         }
         Verdict::Renames { object, slot } => return Ok(rename(store, caller, *object, *slot)),
         Verdict::Destroys { object, last } => return Ok(destroy(store, caller, *object, *last)),
+        Verdict::WakesAll { cond } => wake_sleepers(store, caller, *cond),
         Verdict::Goes(plan) => carry_all(store, caller, given, plan)?,
         Verdict::Tells { plan, news, last } => {
             return tell(store, caller, given, plan, news, *last);

@@ -19,6 +19,7 @@ mod renaming;
 mod sources;
 mod telling;
 mod ties;
+mod waking;
 
 pub use blocks::Block;
 pub use carrying::carry_out;
@@ -33,3 +34,4 @@ pub use plan::{Deed, Effect, News, Plan, Verdict, Words};
 pub use readiness::is_ready;
 pub use recording::Record;
 pub use sources::Source;
+pub use waking::sleeps;

@@ -14,6 +14,8 @@ pub enum Deed {
     Points { object: Who, to: Ptr },
     /// A thread that sleeps on a condition wakes up, and locks this mutex next.
     Wakes { thread: Who, mutex: u64 },
+    /// A thread that is about to wait on a condition falls asleep; a signal makes it lock the mutex.
+    Sleeps { thread: Who, cond: u64, mutex: u64 },
     /// Words of a page go to a page that is there.
     Sends(Block),
     /// The record of an object goes to a page that is there, from a word on.
@@ -151,6 +153,9 @@ pub enum Verdict {
     /// An object in which nothing stands is destroyed, with all that ends with it, and a native server
     /// that loses its client or its port is told. `last` says that the caller's stage is done then.
     Destroys { object: Who, last: bool },
+    /// Each thread of a user's space that sleeps on a condition wakes up, and then the user's stage is
+    /// done.
+    WakesAll { cond: u64 },
     /// It does this, and the caller stays at its stage.
     Goes(Plan),
     /// It does this, and a native server is told something. `last` says that the stage of a user is

@@ -52,6 +52,7 @@ fn is_deed_allowed(store: &Store, me: Who, deed: &Deed) -> bool
                 && !store.leads_to_frozen(me, to)
         }
         Deed::Wakes { thread, .. } => !store.frozen_for(me, thread),
+        Deed::Sleeps { thread, .. } => !store.frozen_for(me, thread),
         Deed::Records { to, .. } => !store.space_frozen_for(me, to.0),
         Deed::Sends(block) => !store.space_frozen_for(me, block.to.0),
         Deed::Counts { client, .. } => !store.frozen_for(me, client),
@@ -135,7 +136,8 @@ fn is_verdict_allowed(store: &Store, caller: Caller, verdict: &Verdict) -> bool
         )
         | Verdict::Refused(_)
         | Verdict::ShowsRecord { .. }
-        | Verdict::Sets { .. } => true,
+        | Verdict::Sets { .. }
+        | Verdict::WakesAll { .. } => true,
         Verdict::Waits => false,
         Verdict::Done(plan, _)
         | Verdict::Ends(plan, _)
@@ -163,6 +165,7 @@ fn may_pick(chooses: bool, pick: Option<Who>, verdict: &Verdict) -> bool
         | Verdict::Sets { .. }
         | Verdict::Renames { .. }
         | Verdict::Destroys { .. }
+        | Verdict::WakesAll { .. }
         | Verdict::Goes(_)
         | Verdict::Tells { .. }
         | Verdict::Faults { .. } => chooses || pick.is_none(),

@@ -1,23 +1,44 @@
 //! Stages of conditions.
-ghost use Rattle.std.specs.Prelude.{◌≡◌, ℕ, List, IfOk, IsSome, Some, None};
-ghost use Rattle.fk_model.specs.Places.{same_path};
+ghost use Rattle.std.specs.Prelude.{◌≡◌, ℕ, List, false, IfOk, Some, None};
+ghost use Rattle.fk_model.specs.declared.stage.Stage.TheVariants.{CondWait};
 ghost use Rattle.fk_model.specs.SyncRows as rows;
 ghost use Rattle.fk_store.specs.Moves.{picked_by};
 ghost use Rattle.fk_store.specs.Paths.{path, place};
+ghost use Rattle.fk_store.specs.Threads.{todo_at};
 ghost use Rattle.fk_store.specs.World.{world};
+ghost use Rattle.fk_threads.specs.Firsts.{IsFirst};
 ghost use Rattle.fk_plans.specs.Plans.{caller_by};
 ghost use Rattle.fk_plans.specs.Verdicts.{Judges, IsSureVerdict, IsVerdict, outcome_by};
 
 use fk_model::Who;
-use fk_plans::{Caller, Deed, Plan, Verdict, cond_in};
+use fk_model::status::NOTLOCKED;
+use fk_plans::{Caller, Deed, Plan, Verdict, cond_in, is_in, mutex_in, sleeps};
 use fk_store::Store;
 use fk_threads::{Answers, asleep_on, is_slept_on};
 
-/// Whether an object that is there is in a space.
-fn is_in(store: &Store, who: Who, space: u32) -> bool
-    ensures { IsSome ((world store.now).body (place (path store.now) who)) → result ≡ same_path (path store.now who.space) (path store.now space) }
+/// It unlocks the mutex, and the caller goes on asleep.
+#[tactic(auto, unfolding(fk_model::specs::SyncRows::cond_wait))]
+pub fn cond_wait(store: &Store, caller: Caller, cond: u64, m: u64) -> Result<Verdict, u8>
+    requires first { IsFirst (CondWait cond m) (todo_at (world store.now) (place (path store.now) caller.who)) }
+    ensures row { Judges store.now caller result (λ w c. rows.cond_wait w c cond m) }
+    ensures sure { IfOk result IsSureVerdict }
 {
-    store.at(who).is_some() && who.space == space
+    cond_in(store, caller, caller.who.space, cond)?;
+    if !mutex_in(store, caller, caller.who.space, m)? {
+        return Err(NOTLOCKED);
+    }
+    Ok(sleeps(store, caller, cond, m))
+}
+
+/// A sleeper is ready only to be refused; a signal ends its sleep.
+#[tactic(auto, unfolding(fk_model::specs::SyncRows::cond_asleep))]
+pub fn cond_asleep(store: &Store, caller: Caller, cond: u64, m: u64) -> Result<Verdict, u8>
+    ensures row { Judges store.now caller result (λ w c. rows.cond_asleep w c cond m) }
+    ensures sure { IfOk result IsSureVerdict }
+{
+    cond_in(store, caller, caller.who.space, cond)?;
+    mutex_in(store, caller, caller.who.space, m)?;
+    Ok(Verdict::Waits)
 }
 
 /// The sleeper that is picked wakes up.
@@ -65,4 +86,15 @@ pub fn cond_signal(
         Some(who) => signals(store, caller, who, cond),
         None => signals_nobody(store, caller, cond),
     })
+}
+
+/// All who sleep on it wake up.
+#[tactic(auto, unfolding(fk_model::specs::SyncRows::cond_broadcast))]
+pub fn cond_broadcast(store: &Store, caller: Caller, cond: u64) -> Result<Verdict, u8>
+    requires user { caller.is_porter ≡ false }
+    ensures row { Judges store.now caller result (λ w c. rows.cond_broadcast w c cond) }
+    ensures sure { IfOk result IsSureVerdict }
+{
+    cond_in(store, caller, caller.who.space, cond)?;
+    Ok(Verdict::WakesAll { cond })
 }

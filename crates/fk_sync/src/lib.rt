@@ -7,5 +7,5 @@
 mod conditions;
 mod mutexes;
 
-pub use conditions::cond_signal;
+pub use conditions::{cond_asleep, cond_broadcast, cond_signal, cond_wait};
 pub use mutexes::{mutex_lock, mutex_trylock, mutex_unlock};

@@ -1,3 +1,5 @@
 pub mod FinishLaws
 pub mod SleeperLaws
 pub mod ShiftLaws
+pub mod Falling
+pub mod Broadcasts

@@ -130,7 +130,7 @@ unchanged : (xs ys : List Change) → is_changed xs ≡ false → is_changed ys 
 unchanged [] ys none more = more
 unchanged (x ∷ xs) ys none more = absurd (cc)
 
-last_slot : (w : World) (s : Path) (c n : ℕ) → flat_map (wakes_at w s c) (slots (suc n)) ≡ flat_map (wakes_at w s c) (slots n) ++ (wakes_at w s c n ++ [])
+pub last_slot : (w : World) (s : Path) (c n : ℕ) → flat_map (wakes_at w s c) (slots (suc n)) ≡ flat_map (wakes_at w s c) (slots n) ++ (wakes_at w s c n ++ [])
 unfolding slots
 last_slot w s c n = flat_map-append (wakes_at w s c) (slots n) (n ∷ [])
 
@@ -209,7 +209,7 @@ wake_edit p t c m long at =
     let is = in_call t (CondAsleep c m) t.mode at in
     rw is.0 (ap (λ mode. Thread_of (record (thread_by p t) { mode = mode })) (wakes c m t.regs long is.1))
 
-body_of : (b : Option Body) (t : Thread) → Some t ≡ and_then thread_of b → b ≡ Some (Thread_of t)
+pub body_of : (b : Option Body) (t : Thread) → Some t ≡ and_then thread_of b → b ≡ Some (Thread_of t)
 body_of None t is = absurd (cc)
 body_of (Some (Thread_of thread)) t is = cc
 body_of (Some (Mutex locked)) t is = absurd (cc)

@@ -1,5 +1,5 @@
 -- Sleepers: threads that sleep on a condition, and the mutex that each will lock.
-use Rattle.std.specs.Prelude.{◌≡◌, ℕ, Bool, true, false, ◌==◌, List, [], ◌∷◌, Option, Some, None, if◌then◌else◌, slice_index}
+use Rattle.std.specs.Prelude.{◌≡◌, ℕ, Bool, true, false, ◌==◌, List, [], ◌∷◌, Option, Some, None, if◌then◌else◌, slice_index, slice_set}
 use Rattle.fk_model.specs.declared.stage.Stage.TheVariants.{CondAsleep}
 use Rattle.fk_model.specs.Places.{Path}
 use Rattle.fk_model.specs.World.{World, Change}
@@ -16,3 +16,7 @@ IsAsleep w x mutex = (cond : ℕ) × (todo_at w x ≡ CondAsleep cond mutex ∷ 
 abbrev pub is_changed : List Change → Bool
 is_changed [] = false
 is_changed (change ∷ changes) = true
+
+-- the registers of a thread that waits on a condition, once it sleeps
+abbrev pub fallen : List ℕ → List ℕ
+fallen g = if slice_index g 0 == 24 then slice_set g 0 25 else g

@@ -1,5 +1,5 @@
-//! Threads in calls: what becomes of a thread whose stage is done, that wakes up, or whose stage has
-//! moved words.
+//! Threads in calls: what becomes of a thread whose stage is done, that falls asleep or wakes up, or
+//! whose stage has moved words.
 //!
 //! It stands on `fk_store` and `fk_stages`. The registers of a calling thread stand for the stages
 //! that it has before it; here it is proved what a change of these stages makes of the registers.
@@ -13,4 +13,4 @@ mod sleepers;
 
 pub use answers::{Answers, Four, end_well, finish};
 pub use shifts::{advance, count_moved, receive_of};
-pub use sleepers::{asleep_on, is_slept_on, wake};
+pub use sleepers::{asleep_on, fall_asleep, is_slept_on, wake, wake_all};

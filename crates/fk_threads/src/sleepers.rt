@@ -6,15 +6,16 @@ ghost use Rattle.fk_model.specs.Places.{Path};
 ghost use Rattle.fk_model.specs.SyncRows as rows;
 ghost use Rattle.fk_model.specs.Talks.{first_stage};
 ghost use Rattle.fk_model.specs.Valid.{kind_there};
-ghost use Rattle.fk_model.specs.World.{apply, edited};
+ghost use Rattle.fk_model.specs.World.{apply, apply_all, edited};
 ghost use Rattle.fk_model.specs.World.Change.{Alter};
 ghost use Rattle.fk_model.specs.World.Edit.{Replace};
-ghost use Rattle.fk_model.specs.declared.stage.Stage.TheVariants.{CondAsleep, MutexLock};
+ghost use Rattle.fk_model.specs.declared.stage.Stage.TheVariants.{CondAsleep, CondWait, MutexLock};
 ghost use Rattle.fk_store.specs.Bodies.{mode_by, thread_by};
 ghost use Rattle.fk_store.specs.Paths.{path, place};
-ghost use Rattle.fk_store.specs.Threads.{todo_of_mode};
+ghost use Rattle.fk_store.specs.Threads.{todo_at, todo_of_mode};
 ghost use Rattle.fk_store.specs.World.{world};
-ghost use Rattle.fk_threads.specs.Sleepers.{asleep_in, is_changed, IsAsleep};
+ghost use Rattle.fk_threads.specs.Firsts.{IsFirst};
+ghost use Rattle.fk_threads.specs.Sleepers.{asleep_in, fallen, is_changed, IsAsleep};
 
 use fk_model::{Body, Mode, Thread, Who};
 use fk_store::Store;
@@ -90,5 +91,71 @@ pub fn wake(store: &mut Store, who: Who, mutex: u64)
 {
     if let Some(&thread) = store.thread(who) {
         store.set(who, Body::Thread(awake(thread, mutex)));
+    }
+}
+
+/// The thread in a slot wakes up, if it sleeps on a condition.
+#[tactic(auto, unfolding(fk_model::specs::World::apply_all))]
+fn wake_from(store: &mut Store, who: Who, cond: u64)
+    ensures world { let x = place (path store.old) who in
+        world store.new ≡ apply_all (rows.woken x (rows.asleep_on cond ((world store.old).body x))) (world store.old) }
+    ensures kinds { kind_there (world store.new) ≡ kind_there (world store.old) }
+    ensures paths { path store.new ≡ path store.old }
+{
+    if let Some(mutex) = asleep_on(store, who, cond) {
+        wake(store, who, mutex);
+    }
+}
+
+/// Each thread of a space that sleeps on a condition wakes up, and locks its mutex next.
+pub fn wake_all(store: &mut Store, space: u32, cond: u64)
+    ensures world { world store.new ≡ apply_all (rows.sleepers (world store.old) (path store.old space) cond) (world store.old) }
+    ensures kinds { kind_there (world store.new) ≡ kind_there (world store.old) }
+    ensures paths { path store.new ≡ path store.old }
+{
+    for slot in 0..256u16 {
+        let who = Who {
+            space,
+            slot: slot as u8,
+        };
+        wake_from(store, who, cond);
+    }
+}
+
+/// The registers of a thread that waits on a condition, once it sleeps.
+fn fallen(registers: [u64; 16]) -> [u64; 16]
+    ensures { result ≡ fallen registers }
+{
+    let mut written = registers;
+    if registers[0] == 24 {
+        written[0] = 25;
+    }
+    written
+}
+
+/// A thread that falls asleep where it is about to wait on a condition.
+#[tactic(auto, using(crate::proofs::Falling::fall_other))]
+fn asleep(mut thread: Thread) -> Thread
+    ensures edit { (p : ℕ → Path) (c m : ℕ) → IsFirst (CondWait c m) (todo_of_mode (mode_by thread.mode thread.regs)) →
+        edited (Replace (CondAsleep c m)) (Thread_of (thread_by p thread)) ≡ Thread_of (thread_by p result) }
+    ensures talk { result.talk ≡ thread.talk }
+    ensures fault { result.fault ≡ thread.fault }
+{
+    if let Mode::Calling = thread.mode {
+        thread.regs = fallen(thread.regs);
+    }
+    thread
+}
+
+/// A thread that is about to wait on a condition falls asleep, if it is in a call.
+#[tactic(auto, using(fk_store::proofs::ThreadLaws::kind_thread, crate::proofs::Falling::fall_nobody))]
+pub fn fall_asleep(store: &mut Store, who: Who, cond: u64, mutex: u64)
+    requires waits { IsFirst (CondWait cond mutex) (todo_at (world store.old) (place (path store.old) who)) }
+    ensures world { world store.new ≡ apply (Alter (place (path store.old) who) (Replace (CondAsleep cond mutex))) (world store.old) }
+    ensures kinds { kind_there (world store.new) ≡ kind_there (world store.old) }
+    ensures paths { path store.new ≡ path store.old }
+{
+    if let Some(&thread) = store.thread(who) {
+        store.set(who, Body::Thread(asleep(thread)));
     }
 }
