@@ -1,2 +1,3 @@
 mod Scans
 mod Kept
+pub mod Promises

@@ -7,6 +7,8 @@ ghost use Rattle.fk_store.specs.Moves.{said_by};
 ghost use Rattle.fk_store.specs.Paths.{path};
 ghost use Rattle.fk_store.specs.World.{world};
 ghost use Rattle.fk_calls.specs.Judgements.{IsReadyMove};
+ghost use Rattle.fk_prompt.specs.Events.{IsPrompt, IsCorrect};
+ghost use Rattle.fk_stages.specs.Built.{built};
 ghost use Rattle.fk_kernel.specs.Events.{IsReadyEvent, IsAnyReady, may_lack, step_of};
 
 use fk_model::{Ask, Move, NoMemory, Said};
@@ -52,7 +54,8 @@ impl Kernel {
     /// Whether a move is ready. A move may name what isn't there, which is never ready. Servers don't
     /// move as yet.
     pub fn ready(&self, m: &Move, ask: &Ask) -> bool
-        ensures { IsTrue result ↔ IsReadyEvent (world self.now) (event_of (world self.now) ask.now m.now) }
+        ensures ready { IsTrue result ↔ IsReadyEvent (world self.now) (event_of (world self.now) ask.now m.now) }
+        ensures prompt { IsPrompt built (world self.now) (event_of (world self.now) ask.now m.now) → IsTrue result }
     {
         self.store.names();
         fk_calls::ready(&self.store, m, ask)
@@ -64,6 +67,8 @@ impl Kernel {
         requires ready { IsReadyEvent (world self.old) (event_of (world self.old) ask.now m.now) }
         ensures step { IfOk result (λ said. step_of (world self.old) (event_of (world self.old) ask.now m.now)
             ≡ record { world = world self.new; said = said_by (path self.new) said }) }
+        ensures correct { IfOk result (λ said. IsCorrect built (world self.old) (event_of (world self.old) ask.now m.now)
+            (world self.new) (said_by (path self.new) said)) }
         ensures lacking { OnErr result (self.new ≡ self.old) }
         ensures done { may_lack (world self.old) (event_of (world self.old) ask.now m.now) ≡ false → IsOk result }
     {

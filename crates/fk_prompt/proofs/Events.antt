@@ -1,5 +1,11 @@
 -- The laws for one event.
-use Rattle.fk_prompt.specs.Events.{PromptIsReady, StepsAreCorrect}
+use Rattle.std.proofs.Common.{◌≡◌, subst}
+use Rattle.fk_model.specs.World.{World}
+use Rattle.fk_model.specs.Outcomes.{Said}
+use Rattle.fk_model.specs.Moves.{Known, Step, known_step}
+use Rattle.fk_model.specs.Runs.{Event}
+use Rattle.fk_whole.proofs.Laws.{known_keeps_runnable}
+use Rattle.fk_prompt.specs.Events.{PromptIsReady, IsCorrect, StepsAreCorrect}
 use Rattle.fk_prompt.specs.Events.IsPrompt.{Gets, PorterGets, Holds, PorterHolds}
 use Rattle.fk_prompt.proofs.Correct.{get_state_shows, get_state_answers}
 use Rattle.fk_prompt.proofs.Setting.{set_state_of_itself, porters_set_state_of_itself}
@@ -23,4 +29,10 @@ steps_are_correct known w e = record {
   destroyed = λ space slot s x is at. rw is (users_destroy_one known w space slot s x at);
   removed = λ space slot s x words is at. rw is (porters_destroy_one known w space slot s x words at);
   brief = moves_are_brief known w e.mover e.pick e.ask;
+  runs = known_keeps_runnable known w e;
 }
+
+-- for a step that is known by what it leads to and tells
+pub correct_step : (known : Known) (w : World) (e : Event) (v : World) (said : Said) →
+    known_step known w e.mover e.pick e.ask ≡ record { world = v; said = said } → IsCorrect known w e v said
+correct_step known w e v said is = subst (λ (step : Step). IsCorrect known w e step.world step.said) is (steps_are_correct known w e)

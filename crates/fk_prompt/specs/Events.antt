@@ -1,5 +1,5 @@
 -- Events: what the laws of state and holds come to for one move of a machine, as an event.
-use Rattle.std.specs.Prelude.{◌≡◌, ℕ, true, List, [], ◌∷◌, None}
+use Rattle.std.specs.Prelude.{◌≡◌, ℕ, ◌+◌, ◌≤◌, true, List, [], ◌∷◌, None}
 use Rattle.fk_model.specs.declared.moves.Ask.TheVariants as asks
 use Rattle.fk_model.specs.declared.stage.Stage.{Stage}
 use Rattle.fk_model.specs.declared.statuses.status.TheConstants.{OK}
@@ -8,6 +8,7 @@ use Rattle.fk_model.specs.Places.{Path}
 use Rattle.fk_model.specs.World.{World, apply}
 use Rattle.fk_model.specs.World.Change.{Alter}
 use Rattle.fk_model.specs.World.Edit.{Finish}
+use Rattle.fk_model.specs.Searches.{depth}
 use Rattle.fk_model.specs.Reach.{reach_word}
 use Rattle.fk_model.specs.Outcomes.{Said, listed}
 use Rattle.fk_model.specs.Outcomes.Said.{Answered}
@@ -15,7 +16,7 @@ use Rattle.fk_model.specs.Readers.{space_argument}
 use Rattle.fk_model.specs.LinkRows.{user_at}
 use Rattle.fk_model.specs.Moves.{Known, IsKnownReady, known_outcome, known_step, porter_at}
 use Rattle.fk_model.specs.Runs.{Event}
-use Rattle.fk_whole.specs.Runnable.{IsRunnable}
+use Rattle.fk_whole.specs.Runnable.{IsRunnable, IsDue}
 use Rattle.fk_prompt.specs.Callers.{IsUserAt, IsPorterFor, is_done}
 use Rattle.fk_prompt.specs.Correct.{ShowsRecord, AnswersRecord, MeetsItself, GivesItself}
 use Rattle.fk_prompt.specs.Prompt.{is_open, may_hold}
@@ -49,7 +50,7 @@ PromptIsReady = (known : Known) (w : World) (e : Event) → IsPrompt known w e �
 -- ---- correctness and brevity
 
 -- an event leads from one world to another, and tells this: what is got is the record, what is set again changes nothing, a
--- stage of destroy takes one object, and all that is done is brief. Pages have all their words, and threads their registers
+-- stage of destroy takes one object, all that is done is brief, and pages keep all their words and threads their registers
 pub record IsCorrect (known : Known) (w : World) (e : Event) (v : World) (said : Said) : Type 0 where
   pub got : (space : Path) (slot s x address : ℕ) → e ≡ users_event space slot → IsRunnable w → IsUserAt known w space slot (GetState s x address) →
       is_done v (slot ∷ space) ≡ true → ShowsRecord w v (user_at (slot ∷ space)) s x address
@@ -63,6 +64,7 @@ pub record IsCorrect (known : Known) (w : World) (e : Event) (v : World) (said :
   pub removed : (space : Path) (slot s x : ℕ) (words : List ℕ) → e ≡ porters_event space slot (Destroy s x) words →
       IsPorterFor known w space slot (Destroy s x) → LosesOne w v
   pub brief : AreBrief (listed (known_outcome known w e.mover e.pick e.ask))
+  pub runs : IsRunnable w → IsDue w e → w.next + 1 ≤ depth → IsRunnable v
 
 -- so it is with every step
 abbrev pub StepsAreCorrect : Type 0

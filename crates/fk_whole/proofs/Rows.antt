@@ -52,12 +52,12 @@ performs-full known w pages space me g counter (Store address value) sixteen =
 performs-full known w pages space me g counter (Halt code) sixteen = goes (sixteen, tt)
 performs-full known w pages space me g counter Call sixteen = enters-full me g counter (known g) sixteen
 
-pub run_row-full : (w : World) → HasFullPages w → (space : Path) (slot : ℕ) (g : List ℕ) (counter : ℕ) → length g ≡ 16 →
-    FullOutcome (run_row w space slot g counter)
+pub run_row-full : (known : List ℕ → Option (List Stage)) (w : World) → HasFullPages w → (space : Path) (slot : ℕ) (g : List ℕ) (counter : ℕ) →
+    length g ≡ 16 → FullOutcome (run_row_by known w space slot g counter)
 unfolding run_row_by
-run_row-full w pages space slot g counter sixteen =
-    accessed-full w pages space (slot ∷ space) counter false (halts_with (slot ∷ space) g counter) (executes todo_of w space (slot ∷ space) g counter)
-    (λ code. goes (sixteen, tt)) (λ s page words. performs-full todo_of w pages space (slot ∷ space) g counter (act (word_at w s page counter) g counter)
+run_row-full known w pages space slot g counter sixteen =
+    accessed-full w pages space (slot ∷ space) counter false (halts_with (slot ∷ space) g counter) (executes known w space (slot ∷ space) g counter)
+    (λ code. goes (sixteen, tt)) (λ s page words. performs-full known w pages space (slot ∷ space) g counter (act (word_at w s page counter) g counter)
     sixteen)
 
 -- ---- mutexes and conditions

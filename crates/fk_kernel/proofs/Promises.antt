@@ -1,0 +1,30 @@
+-- Promises: what the laws of state and holds say of a kernel's steps.
+use Rattle.std.proofs.Common.{◌≡◌, ℕ, ◌↔◌, Result, Ok, Err, IsTrue, IfOk}
+use Rattle.fk_model.specs.declared.moves.Ask.{Ask}
+use Rattle.fk_model.specs.declared.moves.Move.{Move}
+use Rattle.fk_model.specs.declared.moves.Said.{Said}
+use Rattle.fk_model.specs.Who.{space_born, event_of}
+use Rattle.fk_stages.specs.Built.{built}
+use Rattle.fk_store.specs.Contents.{Contents}
+use Rattle.fk_store.specs.Moves.{said_by}
+use Rattle.fk_store.specs.Paths.{path}
+use Rattle.fk_store.specs.World.{world}
+use Rattle.fk_calls.specs.Judgements.{IsReadyMove, IsStepTo}
+use Rattle.fk_prompt.specs.Events.{IsPrompt, IsCorrect}
+use Rattle.fk_prompt.proofs.Events.{prompt_is_ready, correct_step}
+
+module _ (m : Contents) (move : Move) (ask : Ask) (born : path m ≡ space_born (world m)) where
+  -- a prompt move is ready
+  pub prompt-ready : IsPrompt built (world m) (event_of (world m) ask move) → IsReadyMove m move ask
+  prompt-ready prompt = rw born (prompt_is_ready built (world m) (event_of (world m) ask move) prompt)
+
+  -- a step is correct
+  pub correct-made : (n : Contents) (said : Said) → IsStepTo m move ask n said →
+      IsCorrect built (world m) (event_of (world m) ask move) (world n) (said_by (path n) said)
+  correct-made n said is =
+      correct_step built (world m) (event_of (world m) ask move) (world n) (said_by (path n) said) (rw born at is)
+
+  pub correct-step : {E : Type 0} (n : Contents) (r : Result Said E) → IfOk r (λ said. IsStepTo m move ask n said) →
+      IfOk r (λ said. IsCorrect built (world m) (event_of (world m) ask move) (world n) (said_by (path n) said))
+  correct-step n (Ok said) is = correct-made n said is
+  correct-step n (Err e) is = is
