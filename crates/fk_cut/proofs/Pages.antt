@@ -22,7 +22,7 @@ use Rattle.fk_cut.specs.declared.cutting.CutObject.{CutObject}
 use Rattle.fk_cut.specs.declared.cutting.CutPage.{CutPage}
 use Rattle.fk_cut.specs.declared.cutting.CutWorld.{CutWorld}
 use Rattle.fk_cut.specs.Shown.{IsShown, below, object_there, page_shown, pages_there}
-use Rattle.fk_cut.specs.Walks.{IsPart, AreObjects}
+use Rattle.fk_closed.specs.Walks.{IsPart, AreObjects}
 use Rattle.fk_cut.proofs.Shows.{part_below, belows}
 
 flat_map_append : {A B : Type 0} (f : A → List B) (xs ys : List A) → flat_map f (xs ++ ys) ≡ flat_map f xs ++ flat_map f ys

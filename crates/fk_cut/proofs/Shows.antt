@@ -24,8 +24,8 @@ use Rattle.fk_store.specs.World.{world, place_of}
 use Rattle.fk_cut.specs.declared.shown.CutPtr.{CutPtr}
 use Rattle.fk_cut.specs.declared.shown.CutPtr.TheVariants as shows
 use Rattle.fk_cut.specs.Shown.{shown, shown_each, shown_peers, alone, fields_there, each_seen, server_of, taker_of, thread_fields, record_there, object_there, below}
-use Rattle.fk_cut.specs.Walks.{IsPart, seen, held_by, seen_body}
-use Rattle.fk_cut.proofs.Leads.{has_pointers, plain_kind}
+use Rattle.fk_closed.specs.Walks.{IsPart, seen, held_by, seen_body}
+use Rattle.fk_closed.proofs.Leads.{has_pointers, plain_kind}
 
 pub shown_inside : (ports : ℕ → Bool) (nester : Path) (slot : ℕ) (x here : Path) → ((q : Path) → x ≡ q ++ slot ∷ nester → here ≡ q) →
     true ≡ is_some (strip (slot ∷ nester) x) → shows.At here ≡ shown (cut_to ports nester x (strip (slot ∷ nester) x))

@@ -1,3 +1,1 @@
-pub mod Walks
-pub mod Places
 pub mod Shown

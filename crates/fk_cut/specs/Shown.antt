@@ -26,7 +26,7 @@ use Rattle.fk_cut.specs.declared.cutting.CutPage.{CutPage}
 use Rattle.fk_cut.specs.declared.cutting.CutWorld.{CutWorld}
 use Rattle.fk_cut.specs.declared.shown.CutPtr.{CutPtr}
 use Rattle.fk_cut.specs.declared.shown.CutPtr.TheVariants as shows
-use Rattle.fk_cut.specs.Walks.{seen}
+use Rattle.fk_closed.specs.Walks.{seen}
 
 -- ---- pointers
 

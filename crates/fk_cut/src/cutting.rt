@@ -7,12 +7,11 @@ ghost use Rattle.fk_model.specs.declared.names.Kind.TheVariants as kinds;
 ghost use Rattle.fk_model.specs.declared.names.Who.{Who};
 ghost use Rattle.fk_store.specs.Paths.{path, HasOwnPath};
 ghost use Rattle.fk_store.specs.World.{world, place_of};
-ghost use Rattle.fk_cut.specs.Walks.{IsPart};
+ghost use Rattle.fk_closed.specs.Walks.{IsPart};
 ghost use Rattle.fk_cut.specs.Shown.{IsShown, below, object_there, page_shown, pages_there};
 
-use crate::above::{has_own_path, path_below};
 use crate::shown::{CutPtr, fields_of};
-use crate::walk::{birth_of, objects_of};
+use fk_closed::{birth_of, has_own_path, objects_of, path_below};
 use fk_model::{List, NoMemory, Who};
 use fk_records::record_of;
 use fk_store::Store;

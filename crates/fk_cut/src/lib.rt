@@ -1,19 +1,12 @@
-//! A subtree of a store seen alone: whether it is closed, and the first place where it isn't.
+//! A subtree of a store seen alone: its cut, and whether it is closed.
 //!
-//! It stands on `fk_store`, and on `fk_model`, whose definitions of a subtree seen alone its contracts cite. It walks a
-//! subtree in preorder without recursion, and changes nothing.
+//! It stands on `fk_closed`, which walks a subtree and says whether it is closed, on `fk_records` for state records, and on
+//! `fk_store` and `fk_model`. It promises the objects and pages of the subtree, exactly as the abstract machine cuts it.
 #![tactic(auto)]
 
-mod above;
-mod closing;
 mod cutting;
-mod far;
-mod led;
-mod points;
 mod shown;
-mod stack;
-mod walk;
 
-pub use closing::{Place, closed};
 pub use cutting::{CutObject, CutPage, CutWorld, cut};
+pub use fk_closed::{Place, closed};
 pub use shown::CutPtr;

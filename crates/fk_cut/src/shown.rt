@@ -9,11 +9,10 @@ ghost use Rattle.fk_store.specs.Bodies.{peer_by, pointer_by};
 ghost use Rattle.fk_store.specs.Named.{Each, OnFault, OnNamed, OnPeer, OnPointer, OnTalk};
 ghost use Rattle.fk_store.specs.Paths.{path, HasOwnPath};
 ghost use Rattle.fk_store.specs.World.{world, place_of, IsLive};
-ghost use Rattle.fk_cut.specs.Walks.{seen, seen_body, held_by};
+ghost use Rattle.fk_closed.specs.Walks.{seen, seen_body, held_by};
 ghost use Rattle.fk_cut.specs.Shown as definition;
 
-use crate::above::{is_inside, path_below};
-use crate::far::is_nesters_port;
+use fk_closed::{is_inside, is_nesters_port, path_below};
 use fk_model::{Body, Fault, List, NoMemory, Peer, Ptr, Talk, Thread, Who};
 use fk_store::Store;
 use std::alloc::Global;

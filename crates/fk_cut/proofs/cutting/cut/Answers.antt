@@ -1,8 +1,8 @@
 use Rattle.std.proofs.Common.{subst, sym}
 use Rattle.std.specs.List.{AllByRecursion}
 use Rattle.fk_store.specs.Names.{at}
-use Rattle.fk_cut.specs.Walks.{IsPart}
-use Rattle.fk_cut.proofs.Walked.{are_parts}
+use Rattle.fk_closed.specs.Walks.{IsPart}
+use Rattle.fk_closed.proofs.Walked.{are_parts}
 use Rattle.fk_cut.proofs.Pages.{whole_cut}
 use Rattle.fk_cut.proofs.cutting.cut.Goals as goal
 

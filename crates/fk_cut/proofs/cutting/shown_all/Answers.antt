@@ -1,7 +1,7 @@
 use Rattle.std.proofs.Common.{sym}
 use Rattle.fk_store.specs.Names.{at}
 use Rattle.fk_store.specs.Paths.{path}
-use Rattle.fk_cut.proofs.Openings.{parts_past}
+use Rattle.fk_closed.proofs.Openings.{parts_past}
 use Rattle.fk_cut.proofs.Pages.{one_object, more_pages}
 use Rattle.fk_cut.proofs.cutting.shown_all.Goals as goal
 

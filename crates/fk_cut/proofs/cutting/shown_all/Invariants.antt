@@ -1,6 +1,6 @@
 use Rattle.std.proofs.Common.{◌≡◌, drop, take, map}
 use Rattle.std.specs.List.{AllByRecursion, flat_map}
-use Rattle.fk_cut.specs.Walks.{IsPart}
+use Rattle.fk_closed.specs.Walks.{IsPart}
 use Rattle.fk_cut.proofs.Pages.{object_here, pages_here}
 use Rattle.fk_cut.proofs.cutting.shown_all.Given as goal
 

@@ -1,5 +1,5 @@
 use Rattle.std.proofs.Common.{◌∙◌}
-use Rattle.fk_cut.proofs.Leads.{plain_kind}
+use Rattle.fk_closed.proofs.Leads.{plain_kind}
 use Rattle.fk_cut.proofs.Shows.{shown_as, shows_mapping, shows_region, shows_reference, shows_space, thread_ok, shows_nothing}
 use Rattle.fk_cut.proofs.shown.fields_of.Goals as goal
 

@@ -1,0 +1,4 @@
+pub mod Ways
+pub mod Walked
+pub mod Leads
+pub mod Openings
