@@ -190,6 +190,20 @@ module _ (m : Contents) (root y : Path) (named : (k : ℕ) (s : Path) → IsSome
           let none = harmless found.0 in
           absurd (cc)
 
+-- where nothing leads to an object, nothing outside does
+pub led_by_nothing : (w : World) (root y : Path) → ((x : Path) → pointers_to y (w.body x) ≡ 0) → false ≡ is_led_to w root y
+led_by_nothing w root y none = by (is_led_to w root y) refl
+  where
+    off : (x : Path) → leads_in_from w root y x ≡ false
+    off x = rw (none x) (and_none (not (is_within root x) && not (is_holders_scratch w root x)))
+
+    by : (b : Bool) → is_led_to w root y ≡ b → false ≡ b
+    by false e = refl
+    by true e =
+        let found = of_any (leads_in_from w root y) ([] ∷ objects w) e in
+        let none = off found.0 in
+        absurd (cc)
+
 -- ---- pointers seen from a subtree
 
 far_or_out : (ports : ℕ → Bool) (nester x : Path) → is_far (cut_out ports nester x) ≡ not (is_out (cut_out ports nester x))

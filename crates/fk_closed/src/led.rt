@@ -56,6 +56,9 @@ pub fn is_led_to(store: &Store, root: Who, target: Who) -> bool
     requires target { HasOwnPath (path store.now) target }
     ensures { result ≡ definition.is_led_to (world store.now) (place_of store.now root) (place_of store.now target) }
 {
+    if !store.is_led_to(target) {
+        return false;
+    }
     let mut at = store.after(None);
     while let Some(from) = at {
         if leads_in_from(store, root, target, from) {

@@ -1,7 +1,7 @@
-use Rattle.std.proofs.Common.{◌≡◌, Some, IfSome, sym, subst, ◌∙◌}
+use Rattle.std.proofs.Common.{◌≡◌, Some, IfSome, refl, sym, subst, ◌∙◌}
 use Rattle.fk_store.specs.World.{world, place_of, IsLive}
 use Rattle.fk_deaths.proofs.Scans.{ArePassed, passed_first, passed_more}
-use Rattle.fk_closed.proofs.Leads.{IsHarmless, first_live, led_from, led_by_none}
+use Rattle.fk_closed.proofs.Leads.{IsHarmless, first_live, led_from, led_by_none, led_by_nothing}
 use Rattle.fk_closed.proofs.led.is_led_to.Goals as goal
 
 pub returns-then-leads_in_from : goal.returns-then-leads_in_from
@@ -27,3 +27,8 @@ returns c =
     let m = c.args.store.now in
     led_by_none m (place_of m c.args.root) (place_of m c.args.target) c.after-at.ensures.named
     (subst (ArePassed (IsLive m) (IsHarmless m (place_of m c.args.root) (place_of m c.args.target))) c.in_default.is c.loop-at.invariant.passed)
+
+pub returns-then-not-is_led_to : goal.returns-then-not-is_led_to
+returns-then-not-is_led_to c =
+    let m = c.args.store.now in
+    led_by_nothing (world m) (place_of m c.args.root) (place_of m c.args.target) (c.if-not-is_led_to.ensures refl)
