@@ -38,11 +38,13 @@ module _ (rows : List (List (Option Tellers))) (stray : Bool) where
   unfolding told_at
   many-told h who sort = rw h (many-of sort)
 
-  pub nobody-told : (who : Who) (t : Tellers) → stray ≡ false → None ≡ cell rows who.space who.slot → t ≡ nobody → (sort : Sort) → told_of sort t ≡ told_at (rows, stray) who sort
+  pub nobody-told : (who : Who) (t : Tellers) → stray ≡ false → None ≡ cell rows who.space who.slot → t ≡ nobody → (sort : Sort) → told_of sort t ≡ told_at
+      (rows, stray) who sort
   unfolding told_at
   nobody-told who t h none is sort = rw (h, ← none, is) (nobody-of sort)
 
-  pub some-told : (who : Who) (t : Tellers) → stray ≡ false → Some t ≡ cell rows who.space who.slot → (sort : Sort) → told_of sort t ≡ told_at (rows, stray) who sort
+  pub some-told : (who : Who) (t : Tellers) → stray ≡ false → Some t ≡ cell rows who.space who.slot → (sort : Sort) → told_of sort t ≡ told_at
+      (rows, stray) who sort
   unfolding told_at
   some-told who t h some sort = rw (h, ← some) refl
 
@@ -54,7 +56,8 @@ module _ (rows : List (List (Option Tellers))) (stray : Bool) where
         Tells (told_at (laid, stray) other sort) q
     unfolding told_at
     told-laid other sort q h =
-        subst (λ o. Tells (told_in stray sort o) q) (sym (lays other.space other.slot ∙ ap (cond (same_who other who) (Some tellers)) (left other.space other.slot)))
+        subst (λ o. Tells (told_in stray sort o) q) (sym (lays other.space other.slot ∙ ap (cond (same_who other who) (Some tellers))
+        (left other.space other.slot)))
         (go stray (same_who other who) h)
       where
         go : (t b : Bool) → Tells (cond b (told_of sort tellers) (told_in t sort (cell rows other.space other.slot))) q →
@@ -64,7 +67,8 @@ module _ (rows : List (List (Option Tellers))) (stray : Bool) where
         go false false h = h
 
   -- room changes nothing that is told
-  pub told-room : {T E : Type 0} (r : Result T E) (new : List (List (Option Tellers))) (who : Who) (t : Tellers) → None ≡ cell rows who.space who.slot → t ≡ nobody →
+  pub told-room : {T E : Type 0} (r : Result T E) (new : List (List (Option Tellers))) (who : Who) (t : Tellers) → None ≡ cell rows who.space who.slot → t
+      ≡ nobody →
       OnOk r ((s k : ℕ) → cell new s k ≡ cond (s == who.space && k == who.slot) (Some t) (cell rows s k)) →
       OnErr r ((s k : ℕ) → cell new s k ≡ cell rows s k) →
       (other : Who) (sort : Sort) → told_at (new, stray) other sort ≡ told_at (rows, stray) other sort
@@ -75,7 +79,8 @@ module _ (rows : List (List (Option Tellers))) (stray : Bool) where
       there : same_who other who ≡ true → None ≡ cell rows other.space other.slot
       there e = none ∙ ap (λ (w : Who). cell rows w.space w.slot) (sym (same_who_eq other who e))
 
-      go : (a b : Bool) → same_who other who ≡ b → told_in a sort (cond b (Some t) (cell rows other.space other.slot)) ≡ told_in a sort (cell rows other.space other.slot)
+      go : (a b : Bool) → same_who other who ≡ b → told_in a sort (cond b (Some t) (cell rows other.space other.slot)) ≡ told_in a sort
+          (cell rows other.space other.slot)
       go true b e = refl
       go false false e = refl
       go false true e = ap (told_of sort) is ∙ nobody-of sort ∙ ap (told_in false sort) (there e)
@@ -91,8 +96,10 @@ Hinted = List (List (Option Tellers)) × Bool
 pub kept-passed : (old mid new : Hinted) (from to : Who) (mine both : Tellers) →
     ((sort : Sort) → told_of sort mine ≡ told_at old to sort) →
     ((sort : Sort) (q : Who) → Tells (told_of sort mine) q → Tells (told_of sort both) q) →
-    ((other : Who) (sort : Sort) (q : Who) → Tells (cond (same_who other from) (told_of sort nobody) (told_at old other sort)) q → Tells (told_at mid other sort) q) →
-    ((other : Who) (sort : Sort) (q : Who) → Tells (cond (same_who other to) (told_of sort both) (told_at mid other sort)) q → Tells (told_at new other sort) q) →
+    ((other : Who) (sort : Sort) (q : Who) → Tells (cond (same_who other from) (told_of sort nobody) (told_at old other sort)) q → Tells
+    (told_at mid other sort) q) →
+    ((other : Who) (sort : Sort) (q : Who) → Tells (cond (same_who other to) (told_of sort both) (told_at mid other sort)) q → Tells
+    (told_at new other sort) q) →
     (other : Who) (sort : Sort) (q : Who) → same_who other from ≡ false → Tells (told_at old other sort) q → Tells (told_at new other sort) q
 kept-passed old mid new from to mine both is own one two other sort q off h = two other sort q (go (same_who other to) refl)
   where

@@ -1,1 +1,2 @@
 pub mod HintLaws
+pub mod FieldLaws

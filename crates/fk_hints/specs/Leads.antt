@@ -55,12 +55,16 @@ server port peers.Parked = None
 -- a talk's port, its peer, and its server
 unfoldable pub of_talk : ℕ → Talk → Option Lead
 of_talk field talk =
-    if field == 0 then Some (lead_by Pointer talk.port) else if field == 1 then peer Pointer talk.peer else if field == 2 then server talk.port talk.peer else None
+    if field == 0 then Some (lead_by Pointer talk.port)
+    else if field == 1 then peer Pointer talk.peer
+    else if field == 2 then server talk.port talk.peer else None
 
 -- a fault's port, and its taker as a pointer and as such
 unfoldable pub of_fault : ℕ → Fault → Option Lead
 of_fault field fault =
-    if field == 3 then Some (lead_by Pointer fault.port) else if field == 4 then and_then (peer Pointer) fault.taker else if field == 5 then and_then (peer Taken) fault.taker else None
+    if field == 3 then Some (lead_by Pointer fault.port)
+    else if field == 4 then and_then (peer Pointer) fault.taker
+    else if field == 5 then and_then (peer Taken) fault.taker else None
 
 unfoldable pub of_thread : Option Talk → Option Fault → ℕ → Option Lead
 of_thread talk fault field = if nat_lt field 3 then and_then (of_talk field) talk else and_then (of_fault field) fault

@@ -79,7 +79,8 @@ impl Hints {
     /// From now on these may lead to an object as this, and those that might to all else.
     pub fn put(&mut self, who: Who, sort: Sort, told: Told)
         ensures { (other : Who) (as_this : Sort) (by : Who)
-            → Tells (if same_who other who then (if same_sort as_this sort then told else told_at self.old other as_this) else told_at self.old other as_this) by
+            → Tells (if same_who other who then (if same_sort as_this sort then told else told_at self.old other as_this)
+            else told_at self.old other as_this) by
             → Tells (told_at self.new other as_this) by }
     {
         let tellers = self.of(who).with(sort, told);

@@ -1,5 +1,5 @@
 //! Where the fields of a body lead.
-ghost use Rattle.std.specs.Prelude.{◌≡◌, option_map};
+ghost use Rattle.std.specs.Prelude.{◌≡◌, ◌≤◌, ℕ, None, true, option_map};
 ghost use Rattle.fk_model.specs.Objects.{and_then};
 ghost use Rattle.fk_hints.specs.Leads as leads;
 ghost use Rattle.fk_hints.specs.declared.lead.Sort.TheVariants.{Pointer};
@@ -36,6 +36,41 @@ pub fn led(body: &Body, field: u8) -> Option<Lead>
         Body::Space { holder, .. } => first(field, holding(*holder)),
         Body::Thread(thread) => of_thread(thread, field),
         Body::Mutex { .. } | Body::Cond | Body::Port { .. } | Body::Portset => None,
+    }
+}
+
+/// How many fields of a body there are to look at; none past them leads anywhere.
+#[tactic(auto, using(crate::proofs::FieldLaws::led_past))]
+pub fn fields(body: &Body) -> u8
+    ensures past { (i : ℕ) → result ≤ i → leads.led body.now i ≡ None }
+    ensures few { result ≤ 6 }
+{
+    if is_idle(body) { 0 } else { 6 }
+}
+
+/// No field leads anywhere; true only if so.
+#[tactic(auto, unfolding(crate::specs::Leads::led))]
+fn is_idle(body: &Body) -> bool
+    ensures { result ≡ true → (i : ℕ) → leads.led body.now i ≡ None }
+{
+    match body {
+        Body::Thread(thread) => is_alone(thread),
+        Body::Mutex { .. } | Body::Cond | Body::Port { .. } | Body::Portset => true,
+        Body::Mapping { .. } | Body::Region { .. } | Body::Space { .. } | Body::Reference { .. } =>
+            { false }
+    }
+}
+
+/// A thread is in no talk and has no fault.
+fn is_alone(thread: &Thread) -> bool
+    ensures { result ≡ true → (i : ℕ) → leads.of_thread thread.now.talk thread.now.fault i ≡ None }
+{
+    if thread.talk.is_some() {
+        return false;
+    }
+    match thread.fault {
+        None => true,
+        Some(_) => false,
     }
 }
 

@@ -11,5 +11,5 @@ mod lead;
 mod told;
 
 pub use hints::Hints;
-pub use lead::{Lead, Sort, led};
+pub use lead::{Lead, Sort, fields, led};
 pub use told::{Tellers, Told};

@@ -39,7 +39,11 @@ module _ (sweep : Sweep) (l : Lead) where
       follows None e f h = absurd (cc)
       follows (Some t) e f h =
           let same : lead_by s t ≡ l = cc in
-          inr (f ∙ ap (λ (m : Lead). Some m.to) same, ap (λ (w : Who). Some (lead_by s w)) (same_who_eq who sweep.from e) ∙ ap (λ (m : Lead). Some (lead_by m.sort sweep.from)) same)
+          inr (
+            f ∙ ap (λ (m : Lead). Some m.to) same,
+            ap (λ (w : Who). Some (lead_by s w)) (same_who_eq who sweep.from e) ∙ ap
+                (λ (m : Lead). Some (lead_by m.sort sweep.from)) same,
+          )
 
       go : (t : Bool) → same_who who sweep.from ≡ t → option_map (lead_by s) (cond t sweep.to (Some who)) ≡ Some l → Came sweep (Some (lead_by s who)) l
       go false e h = let same : lead_by s who ≡ l = cc in inl (ap Some same, subst (λ (m : Lead). same_who m.to sweep.from ≡ false) same e)
@@ -71,10 +75,12 @@ module _ (sweep : Sweep) (l : Lead) where
   taker-came s None h = absurd (cc)
   taker-came s (Some p) h = peer-came s p h
 
-  server-came : (port : Who) (p : Peer) (port2 : Who) (p2 : Peer) → after sweep port ≡ Some port2 → peer_after sweep p ≡ Some p2 → server port2 p2 ≡ Some l → Came sweep (server port p) l
+  server-came : (port : Who) (p : Peer) (port2 : Who) (p2 : Peer) → after sweep port ≡ Some port2 → peer_after sweep p ≡ Some p2 → server port2 p2 ≡ Some l →
+      Came sweep (server port p) l
   server-came port (peers.Thread who) port2 p2 e f h = who-came Served who (go (after sweep who) refl p2 f h)
     where
-      go : (o : Option Who) → after sweep who ≡ o → (p2 : Peer) → option_map peers.Thread o ≡ Some p2 → server port2 p2 ≡ Some l → option_map (lead_by Served) o ≡ Some l
+      go : (o : Option Who) → after sweep who ≡ o → (p2 : Peer) → option_map peers.Thread o ≡ Some p2 → server port2 p2 ≡ Some l → option_map
+          (lead_by Served) o ≡ Some l
       go None e p2 f h = absurd (cc)
       go (Some w) e p2 f h = let same : peers.Thread w ≡ p2 = cc in ap (server port2) same ∙ h
   server-came port peers.Service port2 p2 e f h =
@@ -113,8 +119,10 @@ module _ (sweep : Sweep) (l : Lead) where
     where
       fields : (port2 : Who) → after sweep fault.port ≡ Some port2 → (a b c : Bool) →
           cond a (Some (lead_by Pointer port2))
-          (cond b (and_then (peer Pointer) (and_then (peer_after sweep) fault.taker)) (cond c (and_then (peer Taken) (and_then (peer_after sweep) fault.taker)) None)) ≡ Some l →
-          Came sweep (cond a (Some (lead_by Pointer fault.port)) (cond b (and_then (peer Pointer) fault.taker) (cond c (and_then (peer Taken) fault.taker) None))) l
+          (cond b (and_then (peer Pointer) (and_then (peer_after sweep) fault.taker))
+          (cond c (and_then (peer Taken) (and_then (peer_after sweep) fault.taker)) None)) ≡ Some l →
+          Came sweep (cond a (Some (lead_by Pointer fault.port))
+          (cond b (and_then (peer Pointer) fault.taker) (cond c (and_then (peer Taken) fault.taker) None))) l
       fields port2 e true b c h = who-came Pointer fault.port (ap (option_map (lead_by Pointer)) e ∙ h)
       fields port2 e false true c h = taker-came Pointer fault.taker h
       fields port2 e false false true h = taker-came Taken fault.taker h
@@ -159,7 +167,8 @@ module _ (sweep : Sweep) (l : Lead) where
   led-came space (Region page count write keeper) i h = first-came i (pointer keeper) (pointer (pointer_after sweep keeper)) (pointer-came keeper) h
   led-came space (Port set served) i h = absurd (cc)
   led-came space Portset i h = absurd (cc)
-  led-came space (Space birth holder) i h = first-came i (option_map (lead_by Pointer) holder) (option_map (lead_by Pointer) (and_then (after sweep) holder)) (holder-came holder) h
+  led-came space (Space birth holder) i h = first-came i (option_map (lead_by Pointer) holder) (option_map (lead_by Pointer) (and_then (after sweep) holder))
+      (holder-came holder) h
   led-came space (Thread thread) i h = thread-came thread.talk thread.fault i h
   led-came space (Reference to) i h = first-came i (pointer to) (pointer (pointer_after sweep to)) (pointer-came to) h
 
@@ -198,7 +207,8 @@ module _ (sweep : Sweep) where
       let server = peer-off talk.peer (off 1 (omega arith)) in
       rw (port, server) refl
 
-  fault-off : (o : Option Fault) → ((i : ℕ) → ltb i 3 ≡ false → and_then (of_fault i) o ≢ Some (lead_by Pointer sweep.from)) → and_then (fault_after sweep) o ≡ o
+  fault-off : (o : Option Fault) → ((i : ℕ) → ltb i 3 ≡ false → and_then (of_fault i) o ≢ Some (lead_by Pointer sweep.from)) → and_then (fault_after sweep) o
+      ≡ o
   unfolding of_fault
   fault-off None off = refl
   fault-off (Some fault) off =
@@ -210,7 +220,8 @@ module _ (sweep : Sweep) where
   set-off space None off = refl
   set-off space (Some set) off = rw off refl
 
-  pub body-off : (space : ℕ) (b : Body) → (space == sweep.from.space) ≡ false → ((i : ℕ) → led b i ≢ Some (lead_by Pointer sweep.from)) → body_after sweep space b ≡ b
+  pub body-off : (space : ℕ) (b : Body) → (space == sweep.from.space) ≡ false → ((i : ℕ) → led b i ≢ Some (lead_by Pointer sweep.from)) →
+      body_after sweep space b ≡ b
   unfolding led of_thread
   body-off space (Mutex locked) home off = refl
   body-off space Cond home off = refl

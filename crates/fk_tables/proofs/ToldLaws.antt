@@ -28,6 +28,7 @@ use Rattle.fk_hints.specs.declared.told.Told.TheVariants.{Nobody}
 use Rattle.fk_hints.specs.declared.told.Tellers.{Tellers}
 use Rattle.fk_hints.specs.Leads.{lead_by, pointer, peer, server, of_talk, of_fault, of_thread, led}
 use Rattle.fk_hints.specs.Told.{Tells, told_at}
+use Rattle.fk_hints.proofs.FieldLaws.{led_past}
 use Rattle.fk_tables.specs.Held.{is_held, one_if, held_in, IsCount}
 use Rattle.fk_tables.specs.Hinted.{AreTold}
 use Rattle.fk_tables.specs.Names.{at, same_who, who_cmp}
@@ -90,14 +91,16 @@ module _ (rows : List (List (Option Body))) (hints : Hinted) (told : AreTold (ma
   -- an object comes
   pub others-put : (now : List (List (Option Body))) (who : Who) (o : Option Body) →
       ((s k : ℕ) → cell now s k ≡ cond (s == who.space && k == who.slot) o (cell rows s k)) →
-      (q : Who) (b : Body) (i : ℕ) (l : Lead) → same_who q who ≡ false → cell now q.space q.slot ≡ Some b → led b i ≡ Some l → Tells (told_at hints l.to l.sort) q
+      (q : Who) (b : Body) (i : ℕ) (l : Lead) → same_who q who ≡ false → cell now q.space q.slot ≡ Some b → led b i ≡ Some l → Tells
+      (told_at hints l.to l.sort) q
   others-put now who o changes q b i l off there leads = rows-told rows hints told q b i l (sym (other-cell rows now who o changes q off) ∙ there) leads
 
   -- an object is taken, and laid again
   pub others-laid : (taken laid : List (List (Option Body))) (from to : Who) (o : Option Body) →
       ((s k : ℕ) → cell taken s k ≡ cond (s == from.space && k == from.slot) None (cell rows s k)) →
       ((s k : ℕ) → cell laid s k ≡ cond (s == to.space && k == to.slot) o (cell taken s k)) →
-      (q : Who) (b : Body) (i : ℕ) (l : Lead) → same_who q to ≡ false → cell laid q.space q.slot ≡ Some b → led b i ≡ Some l → Tells (told_at hints l.to l.sort) q
+      (q : Who) (b : Body) (i : ℕ) (l : Lead) → same_who q to ≡ false → cell laid q.space q.slot ≡ Some b → led b i ≡ Some l → Tells
+      (told_at hints l.to l.sort) q
   others-laid taken laid from to o left lays q b i l off there leads =
       rows-told rows hints told q b i l (left-cell rows taken from left q b (sym (other-cell taken laid to o lays q off) ∙ there)) leads
 
@@ -108,12 +111,15 @@ module _ (rows : List (List (Option Body))) (hints : Hinted) (told : AreTold (ma
   -- all are swept
   pub told-swept : (new : List (List (Option Body))) (now : Hinted) (sweep : Sweep) →
       ((s k : ℕ) → cell new s k ≡ option_map (body_after sweep s) (cell rows s k)) →
-      ((other : Who) (sort : Sort) (who : Who) → same_who other sweep.from ≡ false → Tells (told_at hints other sort) who → Tells (told_at now other sort) who) →
+      ((other : Who) (sort : Sort) (who : Who) → same_who other sweep.from ≡ false → Tells (told_at hints other sort) who → Tells
+      (told_at now other sort) who) →
       ((other : Who) (sort : Sort) (who : Who) → sweep.to ≡ Some other → Tells (told_at hints sweep.from sort) who → Tells (told_at now other sort) who) →
       AreTold (map_of_rows who_cmp at new) now
-  told-swept new now sweep swept kept passed = told-rows new now (λ q b i l there leads. go q b i l (cell rows q.space q.slot) refl (sym (swept q.space q.slot) ∙ there) leads)
+  told-swept new now sweep swept kept passed = told-rows new now
+      (λ q b i l there leads. go q b i l (cell rows q.space q.slot) refl (sym (swept q.space q.slot) ∙ there) leads)
     where
-      go : (q : Who) (b : Body) (i : ℕ) (l : Lead) (o : Option Body) → cell rows q.space q.slot ≡ o → option_map (body_after sweep q.space) o ≡ Some b → led b i ≡ Some l →
+      go : (q : Who) (b : Body) (i : ℕ) (l : Lead) (o : Option Body) → cell rows q.space q.slot ≡ o → option_map (body_after sweep q.space) o ≡ Some b →
+          led b i ≡ Some l →
           Tells (told_at now l.to l.sort) q
       go q b i l None e h leads = absurd (cc)
       go q b i l (Some a) e h leads =
@@ -124,7 +130,8 @@ module _ (rows : List (List (Option Body))) (hints : Hinted) (told : AreTold (ma
           ]
 
 -- a thread goes on
-pub told-proceeded : (bodies : FinMap who_cmp Body) (hints : Hinted) → AreTold bodies hints → (registers : List ℕ) (counter : ℕ) (mode : Mode) (who : Who) (old : Body) →
+pub told-proceeded : (bodies : FinMap who_cmp Body) (hints : Hinted) → AreTold bodies hints → (registers : List ℕ) (counter : ℕ) (mode : Mode) (who : Who)
+    (old : Body) →
     get bodies who ≡ Some old → AreTold (finmap.insert bodies who (proceeded registers counter mode old)) hints
 told-proceeded bodies hints told registers counter mode who old here q b i l there leads =
     go (same_who q who) refl (sym (get-insert who_total bodies who (proceeded registers counter mode old) q ∙ rw (same_tied q who) refl) ∙ there)
@@ -162,7 +169,8 @@ plays-led (Client who) (Thread thread) h = (2, go thread.talk h)
     peers_of port peers.Service h = absurd (cc)
     peers_of port peers.Parked h = absurd (cc)
 
-    go : (o : Option talks_of.Talk) → holds (λ (talk : talks_of.Talk). is_thread who talk.peer) o ≡ true → and_then (λ (talk : talks_of.Talk). server talk.port talk.peer) o ≡ Some (lead_by Served who)
+    go : (o : Option talks_of.Talk) → holds (λ (talk : talks_of.Talk). is_thread who talk.peer) o ≡ true → and_then
+        (λ (talk : talks_of.Talk). server talk.port talk.peer) o ≡ Some (lead_by Served who)
     go None h = absurd (cc)
     go (Some talk) h = peers_of talk.port talk.peer h
 plays-led (Faulter who) (Thread thread) h = (5, go thread.fault h)
@@ -230,7 +238,8 @@ one_of : (a b : ℕ) → a + b ≢ 0 → (a ≢ 0) ⊎ (b ≢ 0)
 one_of zero b h = inr (λ e. h (omega (arith, e)))
 one_of (suc a) b h = inl (λ e. absurd (omega (arith, e)))
 
-talk-hit : (who : Who) (o : Option talks_of.Talk) → hits_in (talk_hits who) o ≢ 0 → (fault : Option faults_of.Fault) → (i : ℕ) × (of_thread o fault i ≡ Some (lead_by Pointer who))
+talk-hit : (who : Who) (o : Option talks_of.Talk) → hits_in (talk_hits who) o ≢ 0 → (fault : Option faults_of.Fault) → (i : ℕ) ×
+    (of_thread o fault i ≡ Some (lead_by Pointer who))
 unfolding of_thread of_talk
 talk-hit who None h fault = absurd (h refl)
 talk-hit who (Some talk) h fault = elim (one_of (hit who talk.port) (peer_hits who talk.peer) h) [
@@ -238,7 +247,8 @@ talk-hit who (Some talk) h fault = elim (one_of (hit who talk.port) (peer_hits w
   | inr server ↦ (1, peer-hit who talk.peer server)
 ]
 
-fault-hit : (who : Who) (o : Option faults_of.Fault) → hits_in (fault_hits who) o ≢ 0 → (talk : Option talks_of.Talk) → (i : ℕ) × (of_thread talk o i ≡ Some (lead_by Pointer who))
+fault-hit : (who : Who) (o : Option faults_of.Fault) → hits_in (fault_hits who) o ≢ 0 → (talk : Option talks_of.Talk) → (i : ℕ) ×
+    (of_thread talk o i ≡ Some (lead_by Pointer who))
 unfolding of_thread of_fault
 fault-hit who None h talk = absurd (h refl)
 fault-hit who (Some fault) h talk = elim (one_of (hit who fault.port) (hits_in (peer_hits who) fault.taker) h) [
@@ -282,34 +292,6 @@ not_nonzero (suc n) h = absurd (h (λ e. absurd (omega (arith, e))))
 
 -- ---- no field past the last
 
-led_past : (b : Body) (i : ℕ) → 6 ≤ i → led b i ≡ None
-unfolding led of_thread of_talk of_fault
-led_past (Mutex locked) i high = refl
-led_past Cond i high = refl
-led_past (Mapping first count offset write region) i high = let off : (i == 0) ≡ false = grind (arith, nat_tests) in rw off refl
-led_past (Region first count write keeper) i high = let off : (i == 0) ≡ false = grind (arith, nat_tests) in rw off refl
-led_past (Port set served) i high = refl
-led_past Portset i high = refl
-led_past (Space birth holder) i high = let off : (i == 0) ≡ false = grind (arith, nat_tests) in rw off refl
-led_past (Thread thread) i high = rw below (faults thread.fault)
-  where
-    below : ltb i 3 ≡ false
-    below = grind (arith, nat_tests)
-
-    three : (i == 3) ≡ false
-    three = grind (arith, nat_tests)
-
-    four : (i == 4) ≡ false
-    four = grind (arith, nat_tests)
-
-    five : (i == 5) ≡ false
-    five = grind (arith, nat_tests)
-
-    faults : (o : Option faults_of.Fault) → and_then (of_fault i) o ≡ None
-    faults None = refl
-    faults (Some fault) = rw (three, four, five) refl
-led_past (Reference to) i high = let off : (i == 0) ≡ false = grind (arith, nat_tests) in rw off refl
-
 pub leads-none : (b : Body) (l : Lead) (n : ℕ) → 6 ≤ n → ((i : ℕ) → i < n → led b i ≢ Some l) → (i : ℕ) → led b i ≢ Some l
 leads-none b l n high none i leads = go (ltb i n) refl
   where
@@ -318,14 +300,21 @@ leads-none b l n high none i leads = go (ltb i n) refl
     go false e = let past = led_past b i (grind (arith, nat_tests)) in absurd (cc)
 
 -- all fields of an object are told, and all others are
-pub told-all : (rows : List (List (Option Body))) (hints : Hinted) (who : Who) (n : ℕ) → 6 ≤ n →
-    ((q : Who) (b : Body) (i : ℕ) (l : Lead) → (same_who q who ≡ false) ⊎ (i < n) → cell rows q.space q.slot ≡ Some b → led b i ≡ Some l → Tells (told_at hints l.to l.sort) q) →
+pub told-all : (rows : List (List (Option Body))) (hints : Hinted) (who : Who) (body : Body) (n : ℕ) → cell rows who.space who.slot ≡ Some body →
+    ((i : ℕ) → n ≤ i → led body i ≡ None) →
+    ((q : Who) (b : Body) (i : ℕ) (l : Lead) → (same_who q who ≡ false) ⊎ (i < n) →
+    cell rows q.space q.slot ≡ Some b → led b i ≡ Some l → Tells (told_at hints l.to l.sort) q) →
     (q : Who) (b : Body) (i : ℕ) (l : Lead) → cell rows q.space q.slot ≡ Some b → led b i ≡ Some l → Tells (told_at hints l.to l.sort) q
-told-all rows hints who n high told q b i l there leads = go (ltb i n) refl
+told-all rows hints who body n here past told q b i l there leads = go (same_who q who) refl (ltb i n) refl
   where
-    go : (t : Bool) → ltb i n ≡ t → Tells (told_at hints l.to l.sort) q
-    go true e = told q b i l (inr (grind (arith, nat_tests))) there leads
-    go false e = let past = led_past b i (grind (arith, nat_tests)) in absurd (cc)
+    go : (s : Bool) → same_who q who ≡ s → (t : Bool) → ltb i n ≡ t → Tells (told_at hints l.to l.sort) q
+    go false e t f = told q b i l (inl e) there leads
+    go true e true f = told q b i l (inr (grind (arith, nat_tests))) there leads
+    go true e false f =
+        let same : Some b ≡ Some body = sym there ∙ ap (λ (w : Who). cell rows w.space w.slot) (same_who_eq q who e) ∙ here in
+        let none = past i (grind (arith, nat_tests)) in
+        let one : b ≡ body = cc in
+        let led_none : led b i ≡ None = ap (λ c. led c i) one ∙ none in absurd (cc)
 
 -- ---- some cells are swept
 
@@ -390,7 +379,8 @@ module _ (rows : List (List (Option Body))) (sweep : Sweep) where
 
   -- nobody leads there but from the object's own space
   pub swept-home : (new : List (List (Option Body))) → ((s k : ℕ) → cell new s k ≡ cond (s == sweep.from.space) (swept_cell s k) (cell rows s k)) →
-      ((q : Who) (b : Body) (i : ℕ) → (q.space == sweep.from.space) ≡ false → cell rows q.space q.slot ≡ Some b → led b i ≡ Some (lead_by Pointer sweep.from) → ⊥) →
+      ((q : Who) (b : Body) (i : ℕ) → (q.space == sweep.from.space) ≡ false → cell rows q.space q.slot ≡ Some b → led b i ≡ Some (lead_by Pointer sweep.from) →
+      ⊥) →
       (s k : ℕ) → cell new s k ≡ swept_cell s k
   swept-home new home off s k = home s k ∙ go (s == sweep.from.space) refl
     where
@@ -443,7 +433,8 @@ held_after sweep space (Reference to) h = refl
 pub none-left : (rows new : List (List (Option Body))) (sweep : Sweep) (count : ℕ) → IsCount (held_in (map_of_rows who_cmp at rows)) count →
     ((s k : ℕ) → cell new s k ≡ option_map (body_after sweep s) (cell rows s k)) → count ≡ 0 →
     sum_by (λ row. sum_by (of_cell (λ b. one_if (is_held b))) row) new ≡ 0
-none-left rows new sweep count enough swept none = sum-none new (λ b. one_if (is_held b)) (λ q b there. go q b (cell rows q.space q.slot) refl (sym (swept q.space q.slot) ∙ there))
+none-left rows new sweep count enough swept none = sum-none new (λ b. one_if (is_held b))
+    (λ q b there. go q b (cell rows q.space q.slot) refl (sym (swept q.space q.slot) ∙ there))
   where
     go : (q : Who) (b : Body) (o : Option Body) → cell rows q.space q.slot ≡ o → option_map (body_after sweep q.space) o ≡ Some b → one_if (is_held b) ≡ 0
     go q b None e h = absurd (cc)

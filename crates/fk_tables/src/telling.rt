@@ -9,7 +9,7 @@ ghost use Rattle.fk_hints.specs.Told.{Tells, told_at};
 ghost use Rattle.fk_tables.specs.Names.{same_who};
 
 use crate::stored::Stored;
-use fk_hints::{Hints, Lead, Told, led};
+use fk_hints::{Hints, Lead, Told, fields, led};
 use fk_model::{Body, Who};
 use fk_slots::{Row, value_at};
 
@@ -21,7 +21,7 @@ pub fn tell(hints: &mut Hints, rows: &Vec<Row<Stored>>, who: Who, body: &Body)
     ensures { (q : Who) (b : Body) (i : ℕ) (l : Lead) → cell rows.now.items q.space q.slot ≡ Some b
         → leads_of.led b i ≡ Some l → Tells (told_at hints.new l.to l.sort) q }
 {
-    for field in 0..6u8 {
+    for field in 0..fields(body) {
         if let Some(lead) = led(body, field) {
             note(hints, rows, who, lead);
         }

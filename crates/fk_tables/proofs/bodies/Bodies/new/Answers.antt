@@ -8,7 +8,14 @@ use Rattle.fk_slots.proofs.TabledLaws.{rows_nil}
 use Rattle.fk_tables.proofs.bodies.Bodies.new.Goals as goal
 
 pub invariant_of-result : goal.invariant_of-result
-invariant_of-result c = rw (c.new.ensures.items, c.new-2.ensures.items) (omega arith, rw (rows_nil who_naming) homed-empty, λ few. rw none-empty (omega arith), rw (rows_nil who_naming, c.new-3.ensures.items) marked-empty, rw (rows_nil who_naming) (told-empty _))
+invariant_of-result c = rw (c.new.ensures.items, c.new-2.ensures.items) (
+  omega arith,
+  rw (rows_nil who_naming) homed-empty,
+  λ few. rw none-empty (omega arith),
+  rw (rows_nil who_naming, c.new-3.ensures.items) marked-empty,
+  rw
+      (rows_nil who_naming) (told-empty _),
+)
 
 pub returns : goal.returns
 returns c = rw c.new.ensures.items (rows_nil who_naming)
