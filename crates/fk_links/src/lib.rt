@@ -1,5 +1,5 @@
 //! Talks begin and end: what the stages come to that connect to a port, wait for clients and faults,
-//! and leave a talk.
+//! and leave a talk, and by which a porter makes a talk again.
 //!
 //! It stands on `fk_plans`, and on `fk_deaths` for the calls that end with a talk, and promises of
 //! each stage that its verdict stands for the outcome of the stage's row in the abstract machine, and
@@ -9,8 +9,10 @@
 mod candidates;
 mod connecting;
 mod leaving;
+mod restoring;
 mod waiting;
 
 pub use connecting::connect;
 pub use leaving::disconnect;
+pub use restoring::{link_park, link_set};
 pub use waiting::wait;
