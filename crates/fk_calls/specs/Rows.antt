@@ -7,6 +7,7 @@ use Rattle.fk_model.specs.declared.stage.Stage.TheVariants.{Create, Destroy, Ren
 use Rattle.fk_model.specs.declared.stage.Stage.TheVariants.{GetState, SetState, GetPtr, SetPtr}
 use Rattle.fk_model.specs.declared.stage.Stage.TheVariants.{SpaceHold, SpaceRelease, HoldSet, SpaceMakeHeld, ThreadStop, ThreadGo, PageGive, PageTake, PageRead, PageNext}
 use Rattle.fk_model.specs.declared.stage.Stage.TheVariants.{MutexLock, MutexTrylock, MutexUnlock}
+use Rattle.fk_model.specs.declared.stage.Stage.TheVariants.{ClientReceive, ClientSend, ClientOver, ServerReceive, ServerSend, ServerOver}
 use Rattle.fk_model.specs.Places.{Path}
 use Rattle.fk_model.specs.World.{World}
 use Rattle.fk_store.specs.Threads.{todo_at}
@@ -38,6 +39,12 @@ IsRow (PageNext s from) = ⊤
 IsRow (MutexLock m) = ⊤
 IsRow (MutexTrylock m) = ⊤
 IsRow (MutexUnlock m) = ⊤
+IsRow (ClientReceive into room) = ⊤
+IsRow (ClientSend address count) = ⊤
+IsRow ClientOver = ⊤
+IsRow (ServerReceive into room) = ⊤
+IsRow (ServerSend address count) = ⊤
+IsRow ServerOver = ⊤
 IsRow other = ⊥
 
 -- it is the first of the caller's call, who else is in no call

@@ -13,7 +13,7 @@ ghost use Rattle.fk_plans.specs.Verdicts.{JudgesGiven, IsVerdict, IsSureVerdict,
 ghost use Rattle.fk_calls.specs.Rows.{IsFirst, IsRow, takes_memory};
 
 use fk_model::status::DENIED;
-use fk_model::{Stage, Who};
+use fk_model::{Stage, Turn, Who};
 use fk_objects::{clear, count_in, create, destroy, locate, point, rename, search};
 use fk_plans::{Caller, Verdict};
 use fk_spaces::{
@@ -24,6 +24,7 @@ use fk_stages::code_of_stage;
 use fk_state::{get_ptr, get_state, set_ptr, set_state};
 use fk_store::Store;
 use fk_sync::{mutex_lock, mutex_trylock, mutex_unlock};
+use fk_transfer::{over, receive, send};
 
 /// A stage that may pick whom it acts on.
 pub fn chooses(stage: &Stage) -> bool
@@ -45,6 +46,7 @@ fn row(
     requires live { IsLive store.now caller.who }
     requires valid { IsValid (world store.now) }
     requires first { IsFirst stage.now (todo_at (world store.now) (place (path store.now) caller.who)) }
+    requires allowed { machine.is_denied (caller_by (path store.now) caller given.now) stage.now ≡ false }
     requires given { caller.is_porter ≡ true → length given.now ≡ 64 }
     ensures row { JudgesGiven store.now caller given.now result (λ w c. stage_row w c (picked_by (path store.now) pick) stage.now) }
     ensures sure { takes_memory true stage.now ≡ false → IfOk result IsSureVerdict }
@@ -83,6 +85,12 @@ fn row(
         Stage::MutexLock { m } => mutex_lock(store, caller, m),
         Stage::MutexTrylock { m } => mutex_trylock(store, caller, m),
         Stage::MutexUnlock { m } => mutex_unlock(store, caller, m),
+        Stage::ClientReceive { addr, room } => receive(store, caller, Turn::Client, addr, room),
+        Stage::ClientSend { addr, count } => send(store, caller, Turn::Client, addr, count),
+        Stage::ClientOver => over(store, caller, Turn::Client),
+        Stage::ServerReceive { addr, room } => receive(store, caller, Turn::Server, addr, room),
+        Stage::ServerSend { addr, count } => send(store, caller, Turn::Server, addr, count),
+        Stage::ServerOver => over(store, caller, Turn::Server),
         Stage::HoldSet { s, x, thread } => hold_set(store, caller, s, x, thread),
         Stage::SpaceMakeHeld { x } => space_make_held(store, caller, x),
         _ => unreachable!(),

@@ -171,7 +171,8 @@ pub receives_none : (side : Turn) (p : ℕ → Path) (t : threads_of.Thread) →
     length t.regs ≡ 16 → t.mode ≡ modes.Calling → (slice_index t.regs 0 ≡ receive_code side → ⊥) → None ≡ receiving side (thread_by p t).mode
 receives_none side p t long is other = sym (receives_thread side p t long is ∙ by (eqb (slice_index t.regs 0) (receive_code side)) refl)
   where
-    by : (b : Bool) → eqb (slice_index t.regs 0) (receive_code side) ≡ b → cond {A = Option (ℕ × ℕ)} b (Some (slice_index t.regs 4, slice_index t.regs 5)) None ≡ None
+    by : (b : Bool) → eqb (slice_index t.regs 0) (receive_code side) ≡ b →
+        cond {A = Option (ℕ × ℕ)} b (Some (slice_index t.regs 4, slice_index t.regs 5)) None ≡ None
     by true e = absurd (other (eqb-true _ _ e))
     by false e = refl
 

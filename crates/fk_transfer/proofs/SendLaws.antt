@@ -85,7 +85,8 @@ ends_if w me you side address count t None sends there is = tt
 ends_if w me you side address count t (Some r) sends there is = ends w me you side address count r.0 r.1 t sends there is
 
 -- it is free and at this, so the row goes on
-pub to_thread : (w : World) (c : Caller) (side : Turn) (client you : Path) (address count : ℕ) (page : List ℕ) (t : Thread) (receive : Option (ℕ × ℕ)) (o : Outcome) →
+pub to_thread : (w : World) (c : Caller) (side : Turn) (client you : Path)
+    (address count : ℕ) (page : List ℕ) (t : Thread) (receive : Option (ℕ × ℕ)) (o : Outcome) →
     Some t ≡ thread_at w you → is_free_at w you ≡ true → receive ≡ receiving (other_side side) t.mode →
     o ≡ sends_into w c client you address count page receive → o ≡ sends_to_thread w c side client address count page (talks.thread_led_to w (At you))
 unfolding is_free_at

@@ -66,7 +66,8 @@ fn client_line(store: &Store, client: Who) -> Option<Line>
 /// The same talk as its server sees it.
 fn at_client(store: &Store, client: Who) -> Option<Line>
     ensures line { option_map (line_by (path store.now)) result
-        ≡ talks.line_from (place (path store.now) client) (λ talk. Server (At (place (path store.now) client))) (talk_at (world store.now) (place (path store.now) client)) }
+        ≡ talks.line_from (place (path store.now) client) (λ talk. Server (At (place (path store.now) client)))
+        (talk_at (world store.now) (place (path store.now) client)) }
     ensures port { IfSome result (λ line. IsLive store.now line.talk.port) }
 {
     let Some(thread) = store.thread(client) else {

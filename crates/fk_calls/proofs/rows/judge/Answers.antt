@@ -23,6 +23,9 @@ returns-in-Err-clause-row c =
     c.args.stage.now ≡ false = sym (c.is_denied.ensures (path c.args.store.now) c.args.given.now) ∙ c.if-is_denied.false in
     rw allowed c.in-Err.ensures.row.outcome
 
+pub row-requires-clause-allowed : goal.row-requires-clause-allowed
+row-requires-clause-allowed c = sym (c.is_denied.ensures (path c.args.store.now) c.args.given.now) ∙ c.if-is_denied.false
+
 pub returns-in-Ok-clause-sure : goal.returns-in-Ok-clause-sure
 returns-in-Ok-clause-sure c =
     let allowed : is_denied (caller_by (path c.args.store.now) c.args.caller c.args.given.now)
