@@ -6,7 +6,7 @@ use Rattle.fk_model.specs.declared.stage.Stage.{Stage}
 use Rattle.fk_model.specs.declared.stage.Stage.TheVariants.{Create, Destroy, Rename, Search, Point, Clear, Locate, CountIn}
 use Rattle.fk_model.specs.declared.stage.Stage.TheVariants.{GetState, SetState, GetPtr, SetPtr}
 use Rattle.fk_model.specs.declared.stage.Stage.TheVariants.{SpaceHold, SpaceRelease, HoldSet, SpaceMakeHeld, ThreadStop, ThreadGo, PageGive, PageTake, PageRead, PageNext}
-use Rattle.fk_model.specs.declared.stage.Stage.TheVariants.{MutexLock, MutexTrylock, MutexUnlock}
+use Rattle.fk_model.specs.declared.stage.Stage.TheVariants.{MutexLock, MutexTrylock, MutexUnlock, CondWait, CondAsleep, CondSignal, CondBroadcast}
 use Rattle.fk_model.specs.declared.stage.Stage.TheVariants.{ClientReceive, ClientSend, ClientOver, ServerReceive, ServerSend, ServerOver}
 use Rattle.fk_model.specs.Calls.{Call, calls, code_of, named_by, todo_of}
 use Rattle.fk_model.specs.Moves.{todo_known}
@@ -79,6 +79,10 @@ row_built (PageNext s from) is = tt
 row_built (MutexLock m) is = tt
 row_built (MutexTrylock m) is = tt
 row_built (MutexUnlock m) is = tt
+row_built (CondWait c m) is = tt
+row_built (CondAsleep c m) is = tt
+row_built (CondSignal c) is = tt
+row_built (CondBroadcast c) is = tt
 row_built (ClientReceive into room) is = tt
 row_built (ClientSend address count) is = tt
 row_built ClientOver is = tt

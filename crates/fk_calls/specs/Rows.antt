@@ -6,11 +6,13 @@ use Rattle.fk_model.specs.declared.stage.Stage.{Stage}
 use Rattle.fk_model.specs.declared.stage.Stage.TheVariants.{Create, Destroy, Rename, Search, Point, Clear, Locate, CountIn}
 use Rattle.fk_model.specs.declared.stage.Stage.TheVariants.{GetState, SetState, GetPtr, SetPtr}
 use Rattle.fk_model.specs.declared.stage.Stage.TheVariants.{SpaceHold, SpaceRelease, HoldSet, SpaceMakeHeld, ThreadStop, ThreadGo, PageGive, PageTake, PageRead, PageNext}
-use Rattle.fk_model.specs.declared.stage.Stage.TheVariants.{MutexLock, MutexTrylock, MutexUnlock}
+use Rattle.fk_model.specs.declared.stage.Stage.TheVariants.{MutexLock, MutexTrylock, MutexUnlock, CondWait, CondAsleep, CondSignal, CondBroadcast}
 use Rattle.fk_model.specs.declared.stage.Stage.TheVariants.{ClientReceive, ClientSend, ClientOver, ServerReceive, ServerSend, ServerOver}
 use Rattle.fk_model.specs.Places.{Path}
 use Rattle.fk_model.specs.World.{World}
 use Rattle.fk_store.specs.Threads.{todo_at}
+-- it is the first of the caller's call, who else is in no call
+pub use Rattle.fk_threads.specs.Firsts.{IsFirst}
 
 -- there is a judge of it
 abbrev pub IsRow : Stage → Type 0
@@ -39,6 +41,10 @@ IsRow (PageNext s from) = ⊤
 IsRow (MutexLock m) = ⊤
 IsRow (MutexTrylock m) = ⊤
 IsRow (MutexUnlock m) = ⊤
+IsRow (CondWait c m) = ⊤
+IsRow (CondAsleep c m) = ⊤
+IsRow (CondSignal c) = ⊤
+IsRow (CondBroadcast c) = ⊤
 IsRow (ClientReceive into room) = ⊤
 IsRow (ClientSend address count) = ⊤
 IsRow ClientOver = ⊤
@@ -46,11 +52,6 @@ IsRow (ServerReceive into room) = ⊤
 IsRow (ServerSend address count) = ⊤
 IsRow ServerOver = ⊤
 IsRow other = ⊥
-
--- it is the first of the caller's call, who else is in no call
-abbrev pub IsFirst : Stage → List Stage → Type 0
-IsFirst stage [] = ⊤
-IsFirst stage (first ∷ later) = first ≡ stage
 
 -- it makes an object or a page, which takes memory. Porters alone make spaces that are held
 abbrev pub takes_memory : (is_porter : Bool) → Stage → Bool

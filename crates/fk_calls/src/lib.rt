@@ -4,12 +4,15 @@
 //! instructions, and on `fk_plans`, which says when a verdict is ready and carries it out. Here is
 //! the one match from a stage to its judge. It promises that `ready` answers exactly whether the
 //! abstract machine of the calls that are built is ready to make a move, that `take` makes of the
-//! store's world what the machine makes of it, and that `attempt` does both, judging once.
+//! store's world what the machine makes of it, that `attempt` does both, judging once, and that
+//! `may_pick` tells which users may pick somebody.
 #![tactic(auto)]
 
 mod doing;
 mod judging;
 mod moves;
+mod picking;
 mod rows;
 
 pub use moves::{attempt, ready, take};
+pub use picking::may_pick;

@@ -23,7 +23,9 @@ use fk_spaces::{
 use fk_stages::code_of_stage;
 use fk_state::{get_ptr, get_state, set_ptr, set_state};
 use fk_store::Store;
-use fk_sync::{mutex_lock, mutex_trylock, mutex_unlock};
+use fk_sync::{
+    cond_asleep, cond_broadcast, cond_signal, cond_wait, mutex_lock, mutex_trylock, mutex_unlock,
+};
 use fk_transfer::{over, receive, send};
 
 /// A stage that may pick whom it acts on.
@@ -48,6 +50,7 @@ fn row(
     requires first { IsFirst stage.now (todo_at (world store.now) (place (path store.now) caller.who)) }
     requires allowed { machine.is_denied (caller_by (path store.now) caller given.now) stage.now ≡ false }
     requires given { caller.is_porter ≡ true → length given.now ≡ 64 }
+    requires user { machine.is_for_users stage.now ≡ true → caller.is_porter ≡ false }
     ensures row { JudgesGiven store.now caller given.now result (λ w c. stage_row w c (picked_by (path store.now) pick) stage.now) }
     ensures sure { takes_memory true stage.now ≡ false → IfOk result IsSureVerdict }
 {
@@ -85,6 +88,10 @@ fn row(
         Stage::MutexLock { m } => mutex_lock(store, caller, m),
         Stage::MutexTrylock { m } => mutex_trylock(store, caller, m),
         Stage::MutexUnlock { m } => mutex_unlock(store, caller, m),
+        Stage::CondWait { c, m } => cond_wait(store, caller, c, m),
+        Stage::CondAsleep { c, m } => cond_asleep(store, caller, c, m),
+        Stage::CondSignal { c } => cond_signal(store, caller, c, pick),
+        Stage::CondBroadcast { c } => cond_broadcast(store, caller, c),
         Stage::ClientReceive { addr, room } => receive(store, caller, Turn::Client, addr, room),
         Stage::ClientSend { addr, count } => send(store, caller, Turn::Client, addr, count),
         Stage::ClientOver => over(store, caller, Turn::Client),

@@ -1,5 +1,5 @@
 -- Events: what is ready, and what it does, in the machine of the calls that are built.
-use Rattle.std.specs.Prelude.{Bool, Option}
+use Rattle.std.specs.Prelude.{Bool, Option, Some}
 use Rattle.fk_model.specs.declared.moves.Ask.TheVariants as asks
 use Rattle.fk_model.specs.Moves.{Step, IsKnownReady, known_step}
 use Rattle.fk_model.specs.Places.{Path}
@@ -16,9 +16,16 @@ IsReadyEvent w e = IsKnownReady built w e.mover e.pick e.ask
 abbrev pub step_of : World → Event → Step
 step_of w e = known_step built w e.mover e.pick e.ask
 
+-- a move of the user at a path is ready that picks somebody, or one that picks whomever or nobody
+abbrev pub IsPickReady : World → Path → Type 0
+IsPickReady w x = (pick : Path) × IsKnownReady built w x (Some pick) asks.Run
+
+abbrev pub IsMoveReady : World → Path → Type 0
+IsMoveReady w x = (pick : Option Path) × IsKnownReady built w x pick asks.Run
+
 -- some user's move is ready
 abbrev pub IsAnyReady : World → Type 0
-IsAnyReady w = (x : Path) × (pick : Option Path) × IsKnownReady built w x pick asks.Run
+IsAnyReady w = (x : Path) × IsMoveReady w x
 
 -- an event may want memory, for an object or a page
 abbrev pub may_lack : World → Event → Bool

@@ -4,14 +4,14 @@ ghost use Rattle.fk_model.specs.declared.moves.Ask.TheVariants as asks;
 ghost use Rattle.fk_model.specs.Valid.{IsValid};
 ghost use Rattle.fk_model.specs.Who.{event_of};
 ghost use Rattle.fk_store.specs.Moves.{said_by};
-ghost use Rattle.fk_store.specs.Paths.{path};
+ghost use Rattle.fk_store.specs.Paths.{path, place};
 ghost use Rattle.fk_store.specs.World.{world};
 ghost use Rattle.fk_calls.specs.Judgements.{IsReadyMove};
 ghost use Rattle.fk_prompt.specs.Events.{IsPrompt, IsCorrect};
 ghost use Rattle.fk_stages.specs.Built.{built};
-ghost use Rattle.fk_kernel.specs.Events.{IsReadyEvent, IsAnyReady, may_lack, step_of};
+ghost use Rattle.fk_kernel.specs.Events.{IsReadyEvent, IsAnyReady, IsMoveReady, IsPickReady, may_lack, step_of};
 
-use fk_model::{Ask, Move, NoMemory, Said};
+use fk_model::{Ask, Move, NoMemory, Said, Who};
 use fk_store::Store;
 use std::marker::Model;
 
@@ -111,11 +111,45 @@ impl Kernel {
     {
         let mut at = self.store.after(None);
         while let Some(who) = at {
-            let m = Move { who, pick: None };
-            if fk_calls::ready(&self.store, &m, &Ask::Run) {
+            if let Some(m) = self.ready_move(who) {
                 return Some(m);
             }
             at = self.store.after(Some(who));
+        }
+        None
+    }
+
+    /// A move of the user in a slot that is ready. It picks somebody where its stage asks for that.
+    fn ready_move(&self, who: Who) -> Option<Move>
+        ensures ready { IfSome result (λ m. IsReadyMove self.now m asks.Run) }
+        ensures none { IfNone result (IsMoveReady (world self.now) (place (path self.now) who) → ⊥) }
+    {
+        let m = Move { who, pick: None };
+        if fk_calls::ready(&self.store, &m, &Ask::Run) {
+            return Some(m);
+        }
+        if fk_calls::may_pick(&self.store, who) {
+            return self.ready_pick(who);
+        }
+        None
+    }
+
+    /// A move of the user in a slot that is ready and picks somebody, the first in the order of spaces
+    /// and slots.
+    fn ready_pick(&self, who: Who) -> Option<Move>
+        ensures ready { IfSome result (λ m. IsReadyMove self.now m asks.Run) }
+        ensures none { IfNone result (IsPickReady (world self.now) (place (path self.now) who) → ⊥) }
+    {
+        let mut at = self.store.after(None);
+        while let Some(other) = at {
+            let m = Move {
+                who,
+                pick: Some(other),
+            };
+            if fk_calls::ready(&self.store, &m, &Ask::Run) {
+                return Some(m);
+            }
+            at = self.store.after(Some(other));
         }
         None
     }
