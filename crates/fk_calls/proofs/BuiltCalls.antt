@@ -8,6 +8,7 @@ use Rattle.fk_model.specs.declared.stage.Stage.TheVariants.{GetState, SetState, 
 use Rattle.fk_model.specs.declared.stage.Stage.TheVariants.{SpaceHold, SpaceRelease, HoldSet, SpaceMakeHeld, ThreadStop, ThreadGo, PageGive, PageTake, PageRead, PageNext}
 use Rattle.fk_model.specs.declared.stage.Stage.TheVariants.{MutexLock, MutexTrylock, MutexUnlock, CondWait, CondAsleep, CondSignal, CondBroadcast}
 use Rattle.fk_model.specs.declared.stage.Stage.TheVariants.{ClientReceive, ClientSend, ClientOver, ServerReceive, ServerSend, ServerOver}
+use Rattle.fk_model.specs.declared.stage.Stage.TheVariants.{Connect, Disconnect, Wait, ServerEnd, FaultDone}
 use Rattle.fk_model.specs.Calls.{Call, calls, code_of, named_by, todo_of}
 use Rattle.fk_model.specs.Moves.{todo_known}
 use Rattle.fk_stages.specs.Built.{built}
@@ -89,4 +90,9 @@ row_built ClientOver is = tt
 row_built (ServerReceive into room) is = tt
 row_built (ServerSend address count) is = tt
 row_built ServerOver is = tt
+row_built (Connect h) is = tt
+row_built Disconnect is = tt
+row_built (Wait set) is = tt
+row_built ServerEnd is = tt
+row_built FaultDone is = tt
 row_built other is = absurd (cc)

@@ -8,6 +8,7 @@ use Rattle.fk_model.specs.declared.stage.Stage.TheVariants.{GetState, SetState, 
 use Rattle.fk_model.specs.declared.stage.Stage.TheVariants.{SpaceHold, SpaceRelease, HoldSet, SpaceMakeHeld, ThreadStop, ThreadGo, PageGive, PageTake, PageRead, PageNext}
 use Rattle.fk_model.specs.declared.stage.Stage.TheVariants.{MutexLock, MutexTrylock, MutexUnlock, CondWait, CondAsleep, CondSignal, CondBroadcast}
 use Rattle.fk_model.specs.declared.stage.Stage.TheVariants.{ClientReceive, ClientSend, ClientOver, ServerReceive, ServerSend, ServerOver}
+use Rattle.fk_model.specs.declared.stage.Stage.TheVariants.{Connect, Disconnect, Wait, ServerEnd, FaultDone}
 use Rattle.fk_model.specs.Places.{Path}
 use Rattle.fk_model.specs.World.{World}
 use Rattle.fk_store.specs.Threads.{todo_at}
@@ -51,6 +52,11 @@ IsRow ClientOver = ⊤
 IsRow (ServerReceive into room) = ⊤
 IsRow (ServerSend address count) = ⊤
 IsRow ServerOver = ⊤
+IsRow (Connect h) = ⊤
+IsRow Disconnect = ⊤
+IsRow (Wait set) = ⊤
+IsRow ServerEnd = ⊤
+IsRow FaultDone = ⊤
 IsRow other = ⊥
 
 -- it makes an object or a page, which takes memory. Porters alone make spaces that are held

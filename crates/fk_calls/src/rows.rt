@@ -12,6 +12,8 @@ ghost use Rattle.fk_plans.specs.Plans.{caller_by};
 ghost use Rattle.fk_plans.specs.Verdicts.{JudgesGiven, IsVerdict, IsSureVerdict, outcome_by};
 ghost use Rattle.fk_calls.specs.Rows.{IsFirst, IsRow, takes_memory};
 
+use fk_faults::fault_done;
+use fk_links::{connect, disconnect, wait};
 use fk_model::status::DENIED;
 use fk_model::{Stage, Turn, Who};
 use fk_objects::{clear, count_in, create, destroy, locate, point, rename, search};
@@ -98,6 +100,11 @@ fn row(
         Stage::ServerReceive { addr, room } => receive(store, caller, Turn::Server, addr, room),
         Stage::ServerSend { addr, count } => send(store, caller, Turn::Server, addr, count),
         Stage::ServerOver => over(store, caller, Turn::Server),
+        Stage::Connect { h } => connect(store, caller, h),
+        Stage::Disconnect => disconnect(store, caller, Turn::Client),
+        Stage::Wait { set } => wait(store, caller, set, pick),
+        Stage::ServerEnd => disconnect(store, caller, Turn::Server),
+        Stage::FaultDone => fault_done(store, caller),
         Stage::HoldSet { s, x, thread } => hold_set(store, caller, s, x, thread),
         Stage::SpaceMakeHeld { x } => space_make_held(store, caller, x),
         _ => unreachable!(),

@@ -11,6 +11,7 @@ ghost use Rattle.fk_store.specs.Moves.{picked_by};
 ghost use Rattle.fk_store.specs.Paths.{path, place};
 ghost use Rattle.fk_store.specs.Threads.{todo_at};
 ghost use Rattle.fk_store.specs.World.{world, IsLive};
+ghost use Rattle.fk_threads.specs.Firsts.{IsFirst};
 ghost use Rattle.fk_plans.specs.Plans.{caller_by};
 ghost use Rattle.fk_plans.specs.Verdicts.{mapped, outcome_by, IsSureVerdict, IsVerdict, Judges};
 ghost use Rattle.fk_links.specs.Candidates.{portset, IsCandidate};
@@ -18,7 +19,7 @@ ghost use Rattle.fk_links.specs.Connects.{is_connecting};
 
 use crate::candidates::{Candidate, candidate_of};
 use fk_model::status::{BADHANDLE, LINKED, WRONGKIND};
-use fk_model::{Body, Fault, Peer, Talk, Turn, Who};
+use fk_model::{Body, Fault, Peer, Stage, Talk, Turn, Who};
 use fk_plans::{Caller, Deed, Plan, Verdict, slot_for};
 use fk_records::{flag, turn_number};
 use fk_store::Store;
@@ -124,12 +125,12 @@ fn takes_picked(store: &Store, caller: Caller, set: u64, who: Who) -> Verdict
 }
 
 /// Takes the thread that is picked, at a port of a set of the caller's space: its fault, its connect,
-/// or its parked talk. It waits where nobody is picked, or no candidate. The caller, who is at no
-/// connect, may serve no talk and have no fault taken yet.
-#[tactic(auto, unfolding(fk_model::specs::LinkRows::wait))]
+/// or its parked talk. It waits where nobody is picked, or no candidate. The caller, who is at this
+/// wait or in no call, may serve no talk and have no fault taken yet.
+#[tactic(auto, using(crate::proofs::Taken::first_apart), unfolding(fk_model::specs::LinkRows::wait))]
 pub fn wait(store: &Store, caller: Caller, set: u64, pick: Option<Who>) -> Result<Verdict, u8>
     requires live { IsLive store.now caller.who }
-    requires apart { is_connecting (todo_at (world store.now) (place (path store.now) caller.who)) ≡ false }
+    requires first { IsFirst (Stage.Wait set) (todo_at (world store.now) (place (path store.now) caller.who)) }
     ensures row { Judges store.now caller result (λ w c. rows.wait w c (picked_by (path store.now) pick) set) }
     ensures sure { IfOk result IsSureVerdict }
 {
