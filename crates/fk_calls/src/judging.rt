@@ -12,7 +12,6 @@ use fk_model::{Ask, Move, Stage};
 use fk_plans::{Caller, Verdict};
 use fk_stages::is_built;
 use fk_store::Store;
-use fk_user::Known;
 
 /// Who moves, whether its stage may pick, and what the move comes to.
 #[derive(Clone, Copy)]
@@ -63,7 +62,7 @@ fn judge_user(store: &Store, m: &Move) -> Option<Judgement>
         Doing::Instruction => Some(Judgement {
             caller,
             chooses: false,
-            verdict: fk_user::judge(store, caller, Known::Built),
+            verdict: fk_user::judge(store, caller),
         }),
         Doing::Stage(stage) => Some(Judgement {
             caller,

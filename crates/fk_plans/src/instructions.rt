@@ -9,30 +9,27 @@ ghost use Rattle.fk_model.specs.Searches.{thread_at};
 ghost use Rattle.fk_model.specs.Valid.{kind_there};
 
 use crate::plan::Effect;
-use fk_model::{Mode, Thread, Who};
+use fk_model::{Mode, Who};
 use fk_store::Store;
 
-/// Makes an effect of a running thread with this state.
+/// Makes an effect of a running thread with these registers at this counter.
 #[tactic(auto, unfolding(fk_model::specs::World::apply_all))]
-pub fn make_effect(store: &mut Store, me: Who, thread: &Thread, effect: Effect)
+fn make_effect(store: &mut Store, me: Who, mut registers: [u64; 16], counter: u64, effect: Effect)
     requires { IsEffect (path store.old) (world store.old) effect }
-    ensures step { stepped (world store.old) (effect_by (world store.old) (path store.old) (place (path store.old) me) effect thread.now.regs thread.now.pc)
+    ensures step { stepped (world store.old) (effect_by (world store.old) (path store.old) (place (path store.old) me) effect registers counter)
         ≡ record { world = world store.new; said = Nothing } }
     ensures kinds { kind_there (world store.new) ≡ kind_there (world store.old) }
     ensures paths { path store.new ≡ path store.old }
 {
-    let next = thread.pc.wrapping_add(1);
+    let next = counter.wrapping_add(1);
     match effect {
         Effect::Puts { register, value } => {
-            let mut registers = thread.regs;
             registers[register as usize] = value;
             store.proceed(me, &registers, next, Mode::Running);
         }
-        Effect::Jumps { counter } => store.proceed(me, &thread.regs, counter, Mode::Running),
-        Effect::Halts { code } => {
-            store.proceed(me, &thread.regs, thread.pc, Mode::Halted(code));
-        }
-        Effect::Enters => store.proceed(me, &thread.regs, thread.pc, Mode::Calling),
+        Effect::Jumps { counter } => store.proceed(me, &registers, counter, Mode::Running),
+        Effect::Halts { code } => store.proceed(me, &registers, counter, Mode::Halted(code)),
+        Effect::Enters => store.proceed(me, &registers, counter, Mode::Calling),
         Effect::Stores {
             space,
             page,
@@ -40,7 +37,7 @@ pub fn make_effect(store: &mut Store, me: Who, thread: &Thread, effect: Effect)
             value,
         } => {
             store.put_word(space, page, at, value);
-            store.proceed(me, &thread.regs, next, Mode::Running);
+            store.proceed(me, &registers, next, Mode::Running);
         }
     }
 }
@@ -52,9 +49,11 @@ pub fn run(store: &mut Store, me: Who, effect: Effect)
         (thread_at (world store.old) (place (path store.old) me))) ≡ record { world = world store.new; said = Nothing } }
 {
     match store.thread(me) {
-        Some(&thread) => {
+        Some(thread) => {
             if let Mode::Running = thread.mode {
-                make_effect(store, me, &thread, effect);
+                let registers = thread.regs;
+                let counter = thread.pc;
+                make_effect(store, me, registers, counter, effect);
             }
         }
         None => {}

@@ -28,7 +28,6 @@ pub use fk_readers::{
     last_slot, led_to, mutex_in, object_in, place, pointer_in, port_in, reference_in, referred,
     slot_for, thread_by_handle, thread_in,
 };
-pub use instructions::make_effect;
 pub use own::own_page;
 pub use plan::{Deed, Effect, News, Plan, Verdict, Words};
 pub use readiness::is_ready;

@@ -5,7 +5,7 @@ use Rattle.fk_run.specs.declared.status.Status.{Status}
 use Rattle.fk_run.specs.declared.status.Status.TheVariants as ends
 use Rattle.fk_run.specs.declared.top.Outcome.{Outcome}
 use Rattle.fk_run.specs.ExecText.{exec_text}
-use Rattle.fk_run.specs.Machine.{State, start, run, events}
+use Rattle.fk_lone.specs.Machine.{State, start, run, events}
 use Rattle.fk_run.specs.Outcomes.{without_report, IsRefused}
 
 -- the thread of a program after its run, which makes at most 100000 instructions

@@ -1,6 +1,4 @@
-pub mod Machine
-pub mod LoneThread
-pub mod LoneLaws
+pub use Rattle.fk_lone.specs.Machine
 pub mod ExecText
 pub mod Status
 pub mod Outcomes

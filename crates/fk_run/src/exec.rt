@@ -5,10 +5,10 @@ ghost use Rattle.fk_run.specs.Exec.{IsExec};
 ghost use Rattle.fk_run.specs.Prepared.{ComesTo, IsRefusal, IsTextFail};
 
 use crate::exec_text::exec_text;
-use crate::machine::{Machine, WORDS};
 use crate::prepared::Prepared;
 use crate::status::Status;
 use fk_asm::{AsmFail, assemble};
+use fk_lone::{Machine, WORDS};
 use std::alloc::Global;
 
 /// How many instructions a program may make.

@@ -1,0 +1,4 @@
+pub mod Machine
+pub mod LoneThread
+pub mod Lones
+pub mod LoneLaws

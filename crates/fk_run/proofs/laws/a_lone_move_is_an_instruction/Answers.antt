@@ -1,8 +1,0 @@
-use Rattle.fk_run.proofs.LoneMoves.{lone_move_stays_alone, lone_move_is_instruction}
-use Rattle.fk_run.proofs.laws.a_lone_move_is_an_instruction.Goals as goal
-
-pub returns-clause-alone : goal.returns-clause-alone
-returns-clause-alone c = lone_move_stays_alone
-
-pub returns-clause-instruction : goal.returns-clause-instruction
-returns-clause-instruction c = lone_move_is_instruction
