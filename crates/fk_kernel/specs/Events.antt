@@ -25,7 +25,7 @@ IsMoveReady w x = (pick : Option Path) × IsKnownReady built w x pick asks.Run
 
 -- some user's move is ready
 abbrev pub IsAnyReady : World → Type 0
-IsAnyReady w = (x : Path) × IsMoveReady w x
+IsAnyReady w = (x : Path) × (pick : Option Path) × IsKnownReady built w x pick asks.Run
 
 -- an event may want memory, for an object or a page
 abbrev pub may_lack : World → Event → Bool
