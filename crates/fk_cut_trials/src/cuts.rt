@@ -126,7 +126,8 @@ fn a_cut_shows_what_is_inside(rt: HostRuntime) -> Result<(), Fail> {
     assert!(rt; objects[2].path.as_slice() == [7, 2].as_slice());
     assert!(rt; objects[0].words[0] == 7);
     assert!(rt; objects[2].words[0] == 9);
-    assert!(rt; matches!(objects[2].ptrs[0], CutPtr::Out(9)));
+    let pointers = &objects[2].ptrs[..];
+    assert!(rt; matches!(&pointers[0], CutPtr::Out(9)));
     assert!(rt; world.pages.len() == 0);
     Ok(())
 }
