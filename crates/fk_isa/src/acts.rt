@@ -11,7 +11,7 @@ use fk_model::{Act, Instr};
 
 /// What an instruction asks for with these registers and at this counter. The operation is known
 /// and its registers are among the 16, and so is the register that the answer names.
-#[inline]
+#[inline(always)]
 pub fn act_of(instr: Instr, registers: &[u64; 16], counter: u64) -> Act
     requires { IsInstr instr }
     ensures act { result ≡ instructions.act_of instr registers.now counter }
