@@ -39,7 +39,7 @@ within-there (suc n) w s page write =
     at_home-there w s page _ (mapped-there w _ _ (mapping_at w s page) tt
     (λ m. followed-there w _ (led_by w m page write m.region) (λ t other. within-there n w t other write)))
 
-word-there : (w : World) (s : Path) (address : ℕ) (write : Bool) → IsThere w (reach_word w s address write)
+pub word-there : (w : World) (s : Path) (address : ℕ) (write : Bool) → IsThere w (reach_word w s address write)
 unfolding reach
 word-there w s address write = by (nat_lt address SPACE_WORDS)
   where

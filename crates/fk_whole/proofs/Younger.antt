@@ -141,7 +141,7 @@ module _ (v : World) (valid : IsConsistent v) (young : IsYounger v) where
   younger-apply (PutPage space page words) safe = young
   younger-apply (DropPage space page) safe = young
 
-younger-all : (cs : List Change) (v : World) → IsConsistent v → IsYounger v → AreSafe v cs → IsYounger (apply_all cs v)
+pub younger-all : (cs : List Change) (v : World) → IsConsistent v → IsYounger v → AreSafe v cs → IsYounger (apply_all cs v)
 unfolding apply_all
 younger-all [] v valid young safe = young
 younger-all (c ∷ cs) v valid young safe = younger-all cs (apply c v) (valid-apply c v valid safe.0) (younger-apply v valid young c safe.0) safe.1

@@ -1,0 +1,13 @@
+pub mod Kept
+pub mod Todos
+pub mod Persisting
+pub mod Standing
+pub mod Sorts
+pub mod Rows
+pub mod Objects
+pub mod Links
+pub mod Moves
+pub mod Bodies
+pub mod Holders
+pub mod Placed
+pub mod Laws
