@@ -1,4 +1,0 @@
-pub mod Apart
-pub mod FewSlots
-pub mod HeldBy
-pub mod Listed

@@ -2,4 +2,3 @@ pub mod Cuts
 pub mod Further
 pub mod Rebind
 pub mod Seen
-pub mod Premises

@@ -1,13 +1,11 @@
 //! Worked examples of subtrees that are seen alone: small worlds, what is seen of them, and how they go on.
 //!
-//! It stands on `fk_worked`, whose worlds and moves it is about, on `fk_further` and `fk_frozen`, whose premises its worlds
-//! meet, and on `fk_model`; nothing stands on it.
+//! It stands on `fk_worked`, whose worlds and moves it is about, and on `fk_model`; nothing stands on it.
 //! Each example is a function that does nothing and ensures what is so. The values are reckoned by
 //! hand from the rules; the prover computes the moves and compares.
 #![tactic(auto)]
 
 pub mod cuts;
 pub mod further;
-pub mod premises;
 pub mod rebind;
 pub mod seen;

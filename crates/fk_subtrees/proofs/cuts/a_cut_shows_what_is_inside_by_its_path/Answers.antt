@@ -1,7 +1,7 @@
 -- Few slots are taken, and the walks look at these.
 use Rattle.std.proofs.Common.{ℕ, List, [], ◌∷◌, refl}
 use Rattle.fk_subtrees.specs.Cuts.{cut_worlds, all_inside}
-use Rattle.fk_subtrees.proofs.FewSlots.{HasFew, open_among, walk, open-few, world-few}
+use Rattle.fk_worked.proofs.FewSlots.{HasFew, open_among, walk, open-few, world-few}
 use Rattle.fk_subtrees.proofs.cuts.a_cut_shows_what_is_inside_by_its_path.Goals as goal
 
 abbrev few : List ℕ

@@ -3,7 +3,7 @@ use Rattle.std.proofs.Common.{ℕ, List, [], ◌∷◌, refl}
 use Rattle.fk_model.specs.Places.{Ptr}
 use Rattle.fk_model.specs.Places.Ptr.{Null, Dead, At}
 use Rattle.fk_subtrees.specs.Cuts.{cut_worlds, in_subtree, beside, memory_of}
-use Rattle.fk_subtrees.proofs.FewSlots.{HasFew, open_among, walk, open-few, world-few}
+use Rattle.fk_worked.proofs.FewSlots.{HasFew, open_among, walk, open-few, world-few}
 use Rattle.fk_subtrees.proofs.cuts.a_mapping_leads_inside_and_a_keeper_may_be_the_nesters.Goals as goal
 use Rattle.fk_worked.specs.Worked.{root_port}
 

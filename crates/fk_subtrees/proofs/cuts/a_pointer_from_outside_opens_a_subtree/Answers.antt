@@ -4,7 +4,7 @@ use Rattle.fk_model.specs.Places.Ptr.{At}
 use Rattle.fk_model.specs.Objects.{Peer}
 use Rattle.fk_model.specs.Objects.Peer.{Server, Parked}
 use Rattle.fk_subtrees.specs.Cuts.{cut_worlds, in_subtree, led_into, talked_into}
-use Rattle.fk_subtrees.proofs.FewSlots.{HasFew, open_among, walk, open-few, world-few}
+use Rattle.fk_worked.proofs.FewSlots.{HasFew, open_among, walk, open-few, world-few}
 use Rattle.fk_subtrees.proofs.cuts.a_pointer_from_outside_opens_a_subtree.Goals as goal
 
 abbrev few : List ℕ

@@ -3,7 +3,7 @@ use Rattle.std.proofs.Common.{ℕ, List, [], ◌∷◌, refl}
 use Rattle.fk_model.specs.Places.{Ptr}
 use Rattle.fk_model.specs.Places.Ptr.{Dead, At}
 use Rattle.fk_subtrees.specs.Cuts.{cut_worlds, subtree, in_subtree, led_from_1_2}
-use Rattle.fk_subtrees.proofs.FewSlots.{HasFew, open_among, walk, open-few, world-few}
+use Rattle.fk_worked.proofs.FewSlots.{HasFew, open_among, walk, open-few, world-few}
 use Rattle.fk_subtrees.proofs.cuts.a_reference_leads_inside_or_to_the_nesters_ports.Goals as goal
 use Rattle.fk_worked.specs.Worked.{root_port}
 

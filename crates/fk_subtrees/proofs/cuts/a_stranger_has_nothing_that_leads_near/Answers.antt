@@ -13,7 +13,7 @@ use Rattle.fk_model.specs.Runs.{run}
 use Rattle.fk_model.specs.Seen.{leads_near, is_led_near}
 use Rattle.fk_worked.specs.Worked.{goes}
 use Rattle.fk_subtrees.specs.Cuts.{cut_worlds, beside, clearer, led_into}
-use Rattle.fk_subtrees.proofs.FewSlots.{HasFew, is_among, world-few}
+use Rattle.fk_worked.proofs.FewSlots.{HasFew, is_among, world-few}
 use Rattle.fk_worked.proofs.Tested.{and_left, and_right}
 use Rattle.fk_subtrees.proofs.cuts.a_stranger_has_nothing_that_leads_near.Goals as goal
 

@@ -3,7 +3,7 @@ use Rattle.std.proofs.Common.{ℕ, List, [], ◌∷◌, refl}
 use Rattle.fk_model.specs.Places.{Ptr}
 use Rattle.fk_model.specs.Places.Ptr.{Null, At}
 use Rattle.fk_subtrees.specs.Cuts.{cut_worlds, subtree, in_subtree, beside, many}
-use Rattle.fk_subtrees.proofs.FewSlots.{HasFew, open_among, walk, open-few, world-few}
+use Rattle.fk_worked.proofs.FewSlots.{HasFew, open_among, walk, open-few, world-few}
 use Rattle.fk_subtrees.proofs.cuts.the_first_place_counts.Goals as goal
 use Rattle.fk_worked.specs.Worked.{root_port}
 

@@ -3,7 +3,7 @@ use Rattle.std.proofs.Common.{ℕ, List, [], ◌∷◌, Option, None, Some, refl
 use Rattle.fk_model.specs.Places.{Ptr}
 use Rattle.fk_model.specs.Places.Ptr.{At}
 use Rattle.fk_subtrees.specs.Cuts.{cut_worlds, in_subtree, held_twice}
-use Rattle.fk_subtrees.proofs.FewSlots.{HasFew, open_among, walk, open-few, world-few}
+use Rattle.fk_worked.proofs.FewSlots.{HasFew, open_among, walk, open-few, world-few}
 use Rattle.fk_subtrees.proofs.cuts.the_holder_of_the_root_is_left_out.Goals as goal
 use Rattle.fk_worked.specs.Worked.{root_port}
 

@@ -3,7 +3,7 @@ use Rattle.std.proofs.Common.{◌≡◌, ℕ, true, List, [], ◌∷◌, Option,
 use Rattle.fk_model.specs.Places.{Path, Ptr}
 use Rattle.fk_model.specs.Places.Ptr.{At}
 use Rattle.fk_subtrees.specs.Cuts.{cut_worlds, beside, with_scratch}
-use Rattle.fk_subtrees.proofs.FewSlots.{HasFew, is_at_few, open_among, walk, open-few, world-few}
+use Rattle.fk_worked.proofs.FewSlots.{HasFew, is_at_few, open_among, walk, open-few, world-few}
 use Rattle.fk_subtrees.proofs.cuts.the_holders_scratch_may_lead_into_what_is_held.Goals as goal
 
 abbrev few : List ℕ

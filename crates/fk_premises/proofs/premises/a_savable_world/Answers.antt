@@ -3,9 +3,9 @@ use Rattle.fk_model.specs.declared.limits.TheConstants.{MOST_STOPS}
 use Rattle.fk_model.specs.Places.{Ptr}
 use Rattle.fk_model.specs.Places.Ptr.{At}
 use Rattle.fk_model.specs.Objects.Body.{Space}
-use Rattle.fk_subtrees.specs.Premises.{premises, nesters_porter, objects_of, full_of_all}
-use Rattle.fk_subtrees.proofs.Listed.{All, IsShapedAt, savable}
-use Rattle.fk_subtrees.proofs.premises.a_savable_world.Goals as goal
+use Rattle.fk_premises.specs.Premises.{premises, nesters_porter, objects_of, full_of_all}
+use Rattle.fk_premises.proofs.Listed.{All, IsShapedAt, savable}
+use Rattle.fk_premises.proofs.premises.a_savable_world.Goals as goal
 
 shapes : (holder : Option Ptr) → All IsShapedAt (([], Space 0 None) ∷ objects_of holder)
 unfolding premises

@@ -1,10 +1,10 @@
 use Rattle.std.proofs.Common.{[], ◌∷◌, Some, None, refl}
 use Rattle.fk_model.specs.Places.Ptr.{At}
 use Rattle.fk_model.specs.Objects.Body.{Space}
-use Rattle.fk_subtrees.specs.Premises.{premises, nesters_porter, objects_of, full_of_all}
-use Rattle.fk_subtrees.proofs.Apart.{uncut, no_window, users_alone}
-use Rattle.fk_subtrees.proofs.Listed.{plain}
-use Rattle.fk_subtrees.proofs.premises.a_world_that_stands_alone.Goals as goal
+use Rattle.fk_premises.specs.Premises.{premises, nesters_porter, objects_of, full_of_all}
+use Rattle.fk_premises.proofs.Apart.{uncut, no_window, users_alone}
+use Rattle.fk_premises.proofs.Listed.{plain}
+use Rattle.fk_premises.proofs.premises.a_world_that_stands_alone.Goals as goal
 
 pub returns-clause-uncut : goal.returns-clause-uncut
 unfolding premises

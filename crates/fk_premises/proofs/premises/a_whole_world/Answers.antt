@@ -3,9 +3,9 @@ use Rattle.fk_model.specs.Places.{Path, same_path}
 use Rattle.fk_model.specs.Places.Ptr.{At}
 use Rattle.fk_model.specs.Valid.{kind_there}
 use Rattle.fk_model.specs.Objects.Body.{Space}
-use Rattle.fk_subtrees.specs.Premises.{premises, nesters_porter, within, objects_of, pages_of, full_of_all}
-use Rattle.fk_subtrees.proofs.Listed.{whole}
-use Rattle.fk_subtrees.proofs.premises.a_whole_world.Goals as goal
+use Rattle.fk_premises.specs.Premises.{premises, nesters_porter, within, objects_of, pages_of, full_of_all}
+use Rattle.fk_premises.proofs.Listed.{whole}
+use Rattle.fk_premises.proofs.premises.a_whole_world.Goals as goal
 
 home : ℕ → Path
 unfolding same_path

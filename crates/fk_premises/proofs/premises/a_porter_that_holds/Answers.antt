@@ -4,9 +4,9 @@ use Rattle.fk_model.specs.Places.Ptr.{At}
 use Rattle.fk_model.specs.Objects.{Body}
 use Rattle.fk_model.specs.Objects.Body.{Space, Reference}
 use Rattle.fk_model.specs.Holds.{decider}
-use Rattle.fk_subtrees.specs.Premises.{premises, nesters_porter, within, objects_of, full_of_all, held_with}
-use Rattle.fk_subtrees.proofs.HeldBy.{holding}
-use Rattle.fk_subtrees.proofs.premises.a_porter_that_holds.Goals as goal
+use Rattle.fk_premises.specs.Premises.{premises, nesters_porter, within, objects_of, full_of_all, held_with}
+use Rattle.fk_premises.proofs.HeldBy.{holding}
+use Rattle.fk_premises.proofs.premises.a_porter_that_holds.Goals as goal
 
 abbrev listed_with : Body → List (Path × Body)
 listed_with b = ([], Space 0 None) ∷ (240 ∷ [], b) ∷ objects_of (Some (At nesters_porter))

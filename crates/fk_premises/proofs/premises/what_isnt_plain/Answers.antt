@@ -1,6 +1,6 @@
 use Rattle.std.proofs.Common.{[], ◌∷◌, refl}
-use Rattle.fk_subtrees.specs.Premises.{premises}
-use Rattle.fk_subtrees.proofs.premises.what_isnt_plain.Goals as goal
+use Rattle.fk_premises.specs.Premises.{premises}
+use Rattle.fk_premises.proofs.premises.what_isnt_plain.Goals as goal
 
 pub returns-clause-far : goal.returns-clause-far
 unfolding premises

@@ -15,7 +15,7 @@ ghost use Rattle.fk_further.specs.ClosedLaws.{IsUncut, IsUsersAlone};
 ghost use Rattle.fk_further.specs.Strangers.{HasNoWindow, IsStrangersPort};
 ghost use Rattle.fk_whole.specs.Runnable.{IsDue};
 ghost use Rattle.fk_worked.specs.Worked.{IsReadyTo, accepts, goes, thread_in_mode};
-ghost use Rattle.fk_subtrees.specs.Premises.{nesters_porter, within, full_of_all, held_with, with_object, with_one_page, served_within, fault_within, nesters_window, with_user, users_goes, asks_with, parks_talk, parks_fault, with_stranger, strangers_port, strangers_client};
+ghost use Rattle.fk_premises.specs.Premises.{nesters_porter, within, full_of_all, held_with, with_object, with_one_page, served_within, fault_within, nesters_window, with_user, users_goes, asks_with, parks_talk, parks_fault, with_stranger, strangers_port, strangers_client};
 
 /// It is valid, has few birth numbers and full pages.
 pub fn a_whole_world()

@@ -4,10 +4,10 @@ use Rattle.fk_model.specs.Objects.{Body}
 use Rattle.fk_model.specs.Objects.Body.{Port, Space}
 use Rattle.fk_worked.specs.Worked.{accepts, calling}
 use Rattle.fk_worked.proofs.Tested.{legal-tested}
-use Rattle.fk_subtrees.specs.Premises.{premises, objects_of, with_stranger, strangers_port, strangers_client}
-use Rattle.fk_subtrees.proofs.Apart.{no_window}
-use Rattle.fk_subtrees.proofs.Listed.{plain}
-use Rattle.fk_subtrees.proofs.premises.a_strangers_port.Goals as goal
+use Rattle.fk_premises.specs.Premises.{premises, objects_of, with_stranger, strangers_port, strangers_client}
+use Rattle.fk_premises.proofs.Apart.{no_window}
+use Rattle.fk_premises.proofs.Listed.{plain}
+use Rattle.fk_premises.proofs.premises.a_strangers_port.Goals as goal
 
 abbrev listed : List (Path × Body)
 listed =

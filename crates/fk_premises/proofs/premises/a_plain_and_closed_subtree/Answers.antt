@@ -3,10 +3,10 @@ use Rattle.std.proofs.Common.{ℕ, List, [], ◌∷◌, Option, Some, None, refl
 use Rattle.fk_model.specs.Places.{Ptr}
 use Rattle.fk_model.specs.Places.Ptr.{At}
 use Rattle.fk_model.specs.Objects.Body.{Space}
-use Rattle.fk_subtrees.specs.Premises.{premises, nesters_porter, objects_of, full_of_all}
-use Rattle.fk_subtrees.proofs.FewSlots.{HasFew, open_among, walk, open-few, world-few}
-use Rattle.fk_subtrees.proofs.Listed.{plain}
-use Rattle.fk_subtrees.proofs.premises.a_plain_and_closed_subtree.Goals as goal
+use Rattle.fk_premises.specs.Premises.{premises, nesters_porter, objects_of, full_of_all}
+use Rattle.fk_worked.proofs.FewSlots.{HasFew, open_among, walk, open-few, world-few}
+use Rattle.fk_premises.proofs.Listed.{plain}
+use Rattle.fk_premises.proofs.premises.a_plain_and_closed_subtree.Goals as goal
 
 abbrev few : List ℕ
 few = 0 ∷ 1 ∷ 2 ∷ 3 ∷ 4 ∷ 5 ∷ 6 ∷ 7 ∷ 8 ∷ 9 ∷ 10 ∷ 11 ∷ 12 ∷ 255 ∷ []

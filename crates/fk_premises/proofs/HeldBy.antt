@@ -14,7 +14,7 @@ use Rattle.fk_model.specs.ObjectRows.{is_scratch}
 use Rattle.fk_model.proofs.walks.PlaceLaws.{same_path_eq, strip_some}
 use Rattle.fk_frozen.specs.Holding.{IsNear, IsHolding, is_reference, only_reference}
 use Rattle.fk_worked.specs.Worked.{body_in}
-use Rattle.fk_subtrees.proofs.Listed.{found}
+use Rattle.fk_premises.proofs.Listed.{found}
 
 -- it leads into the subtree, or where the object at q inside leads
 abbrev leads_near : World → Path → Path → Ptr → Bool

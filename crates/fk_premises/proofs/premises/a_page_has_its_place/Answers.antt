@@ -1,9 +1,9 @@
 use Rattle.std.proofs.Common.{[], ◌∷◌, refl, arith}
 use Rattle.fk_model.specs.Valid.{kind_there}
 use Rattle.fk_worked.specs.Worked.{numbered}
-use Rattle.fk_subtrees.specs.Premises.{premises, within, pages_of, with_one_page}
-use Rattle.fk_subtrees.proofs.Listed.{paged_list}
-use Rattle.fk_subtrees.proofs.premises.a_page_has_its_place.Goals as goal
+use Rattle.fk_premises.specs.Premises.{premises, within, pages_of, with_one_page}
+use Rattle.fk_premises.proofs.Listed.{paged_list}
+use Rattle.fk_premises.proofs.premises.a_page_has_its_place.Goals as goal
 
 pub returns-clause-last : goal.returns-clause-last
 unfolding premises kind_there

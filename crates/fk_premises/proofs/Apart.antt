@@ -10,7 +10,7 @@ use Rattle.fk_model.specs.Cut.{IsPlain}
 use Rattle.fk_further.specs.ClosedLaws.{is_cut_pointer, IsUncut, IsUsersAlone}
 use Rattle.fk_further.specs.Strangers.{HasNoWindow}
 use Rattle.fk_worked.specs.Worked.{body_in}
-use Rattle.fk_subtrees.proofs.Listed.{found}
+use Rattle.fk_premises.proofs.Listed.{found}
 
 is_not : (b : Bool) → not b ≡ true → b ≡ false
 is_not true h = cc

@@ -1,6 +1,6 @@
 use Rattle.std.proofs.Common.{refl}
-use Rattle.fk_subtrees.specs.Premises.{premises}
-use Rattle.fk_subtrees.proofs.premises.a_move_that_is_due.Goals as goal
+use Rattle.fk_premises.specs.Premises.{premises}
+use Rattle.fk_premises.proofs.premises.a_move_that_is_due.Goals as goal
 
 pub returns-clause-user : goal.returns-clause-user
 unfolding premises

@@ -8,10 +8,10 @@ use Rattle.fk_model.specs.Valid.{kind_there}
 use Rattle.fk_model.specs.Whole.{IsWhole}
 use Rattle.fk_worked.specs.Worked.{running}
 use Rattle.fk_worked.proofs.Tested.{legal-tested}
-use Rattle.fk_subtrees.specs.Premises.{premises, nesters_porter, within, objects_of, pages_of, with_user, users_goes}
-use Rattle.fk_subtrees.proofs.HeldBy.{holding}
-use Rattle.fk_subtrees.proofs.Listed.{whole}
-use Rattle.fk_subtrees.proofs.premises.a_users_move_beside_a_hold.Goals as goal
+use Rattle.fk_premises.specs.Premises.{premises, nesters_porter, within, objects_of, pages_of, with_user, users_goes}
+use Rattle.fk_premises.proofs.HeldBy.{holding}
+use Rattle.fk_premises.proofs.Listed.{whole}
+use Rattle.fk_premises.proofs.premises.a_users_move_beside_a_hold.Goals as goal
 
 abbrev listed : List (Path × Body)
 listed = ([], Space 0 None) ∷ (0 ∷ [], running 0 []) ∷ (240 ∷ [], Reference (At (within 5))) ∷ objects_of (Some (At nesters_porter))
