@@ -2,6 +2,8 @@
 ghost use Rattle.std.specs.Prelude.{◌≡◌, ◌≤◌, [], All, OnOk, IfOk};
 ghost use Rattle.std.specs.List.{flat_map};
 ghost use Rattle.fk_model.specs.Valid.{IsValid};
+ghost use Rattle.fk_model.specs.Whole.{IsSavable};
+ghost use Rattle.fk_whole.specs.Runnable.{IsRunnable};
 ghost use Rattle.fk_model.specs.World.{apply_all};
 ghost use Rattle.fk_sections.specs.Kept.{EachAfter, KeepsSpace, KeepsObject};
 ghost use Rattle.fk_scenario.specs.Kept.{KeepsScenario};
@@ -77,11 +79,14 @@ fn aim_objects(store: &mut Store, entries: &[ObjectEntry])
 
 /// The store with which a scenario begins: its spaces with their pages of zeros and their programs,
 /// then its objects, and then where these lead, each in the order of the file. Spaces have birth
-/// numbers from 1 on, and the root 0. Its world is valid. For want of memory there is none.
+/// numbers from 1 on, and the root 0. Its world is valid, a run may begin in it, and it can be saved.
+/// For want of memory there is none.
 pub fn boot(alloc: Global, scenario: &Scenario) -> Result<Store, NoMemory>
     requires { KeepsScenario scenario.now }
     ensures world { IfOk result (λ store. world store ≡ booted scenario.now) }
     ensures valid { IfOk result (λ store. IsValid (world store)) }
+    ensures runnable { IfOk result (λ store. IsRunnable (world store)) }
+    ensures savable { IfOk result (λ store. IsSavable (world store)) }
 {
     let mut store = Store::new(alloc)?;
     let spaces = scenario.spaces.as_slice();

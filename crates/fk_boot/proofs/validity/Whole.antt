@@ -28,7 +28,7 @@ use Rattle.fk_boot.proofs.validity.Aims.{AllThere, kind-at, all-safe}
 
 -- ---- the root alone
 
-first-consistent : IsConsistent first_world
+pub first-consistent : IsConsistent first_world
 unfolding kind_there
 first-consistent = record {
   parents = λ k x h. absurd (cc);
@@ -81,7 +81,7 @@ first-paged s page h = absurd (cc)
 
 -- ---- the spaces
 
-spaces-safe : (programs : List Program) (done ss : List SpaceEntry) (w : World) → HasSpaces w done → EachAfter (KeepsSpace programs) done ss
+pub spaces-safe : (programs : List Program) (done ss : List SpaceEntry) (w : World) → HasSpaces w done → EachAfter (KeepsSpace programs) done ss
     → AreSafe w (flat_map (space_changes programs) ss) × HasSpaces (apply_all (flat_map (space_changes programs) ss) w) (done ++ ss)
 unfolding apply_all
 spaces-safe programs done [] w stands each = (tt, rw append-nil stands)
@@ -104,7 +104,7 @@ all-there w spaces objects made = record {
   made = made.as_made;
 }
 
-boot-safe : (s : Scenario) → KeepsScenario s → AreSafe first_world (boot_changes s)
+pub boot-safe : (s : Scenario) → KeepsScenario s → AreSafe first_world (boot_changes s)
 boot-safe s keeps =
     let spaces = spaces-safe s.programs [] s.spaces first_world first-stands keeps.spaces in
     let w = apply_all (flat_map (space_changes s.programs) s.spaces) first_world in

@@ -5,6 +5,7 @@ use Rattle.fk_boot.specs.FirstWorld.{booted, space_changes, object_changes, aim_
 use Rattle.fk_boot.proofs.Aiming.{all-can}
 use Rattle.fk_boot.proofs.Changes.{then-all}
 use Rattle.fk_boot.proofs.validity.Whole.{booted-valid}
+use Rattle.fk_boot.proofs.validity.Savable.{booted-runnable, booted-savable}
 use Rattle.fk_boot.proofs.entries.boot.Goals as goal
 
 pub aim_objects-requires : goal.aim_objects-requires
@@ -27,3 +28,9 @@ returns-clause-world c =
 
 pub returns-clause-valid : goal.returns-clause-valid
 returns-clause-valid c = rw (returns-clause-world c) (booted-valid c.args.scenario.now c.requires)
+
+pub returns-clause-runnable : goal.returns-clause-runnable
+returns-clause-runnable c = rw (returns-clause-world c) (booted-runnable c.args.scenario.now c.requires)
+
+pub returns-clause-savable : goal.returns-clause-savable
+returns-clause-savable c = rw (returns-clause-world c) (booted-savable c.args.scenario.now c.requires)
