@@ -10,8 +10,8 @@ ghost use Rattle.fk_plans.specs.Verdicts.{Judges, IsVerdict, IsSureVerdict, outc
 
 use fk_model::limits::{PAGE_WORDS, PAGES, ZEROS};
 use fk_model::status::{BADADDRESS, HELD, NONE, OCCUPIED};
-use fk_plans::{Caller, Deed, Plan, Source, Verdict, place};
-use fk_store::{Reach, Store};
+use fk_plans::{Caller, Deed, Plan, Source, Verdict, own_page, place};
+use fk_store::Store;
 use fk_threads::Answers;
 
 /// An address is the first of a page.
@@ -67,21 +67,9 @@ fn gives_from(
     if address == ZEROS {
         return gives_page(store, caller, space, page, Source::Zeros);
     }
-    match store.reach_word(caller.who.space, address, false) {
-        Reach::Home {
-            space: from,
-            page: number,
-        } => gives_page(store, caller, space, page, Source::Page(from, number)),
-        Reach::Missing {
-            page,
-            keeper: Some(port),
-            ..
-        } => Ok(Verdict::Faults {
-            page,
-            write: false,
-            port,
-        }),
-        Reach::Missing { keeper: None, .. } | Reach::Bad => Err(BADADDRESS),
+    match own_page(store, caller, address, false) {
+        Ok((from, number)) => gives_page(store, caller, space, page, Source::Page(from, number)),
+        Err(verdict) => Ok(verdict),
     }
 }
 
@@ -185,21 +173,9 @@ fn copies_to(
     if caller.is_porter {
         return answers_home(store, caller, space, page, drops);
     }
-    match store.reach_word(caller.who.space, address, true) {
-        Reach::Home {
-            space: own,
-            page: number,
-        } => copies_home(store, caller, space, page, drops, (own, number)),
-        Reach::Missing {
-            page,
-            keeper: Some(port),
-            ..
-        } => Ok(Verdict::Faults {
-            page,
-            write: true,
-            port,
-        }),
-        Reach::Missing { keeper: None, .. } | Reach::Bad => Err(BADADDRESS),
+    match own_page(store, caller, address, true) {
+        Ok(own) => copies_home(store, caller, space, page, drops, own),
+        Err(verdict) => Ok(verdict),
     }
 }
 

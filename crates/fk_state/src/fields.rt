@@ -58,7 +58,8 @@ fn peer_field(peer: Option<Peer>) -> Field
 
 /// The port of a talk, if there is one.
 fn talk_field(talk: Option<Talk>) -> Field
-    ensures field { (p : ℕ → Path) → field_by p result ≡ rows.or_null (and_then (λ (t : model.Talk). Some (rows.Field.Pointer t.port)) (option_map (talk_by p) talk)) }
+    ensures field { (p : ℕ → Path) → field_by p result
+        ≡ rows.or_null (and_then (λ (t : model.Talk). Some (rows.Field.Pointer t.port)) (option_map (talk_by p) talk)) }
     ensures named { (m : Contents) → Each (OnTalk (IsLive m)) talk → OnField (IsLive m) result }
 {
     match talk {
@@ -69,7 +70,8 @@ fn talk_field(talk: Option<Talk>) -> Field
 
 /// The peer of a talk.
 fn talk_peer(talk: Option<Talk>) -> Field
-    ensures field { (p : ℕ → Path) → field_by p result ≡ rows.or_null (and_then (λ (t : model.Talk). Some (rows.peer_field t.peer)) (option_map (talk_by p) talk)) }
+    ensures field { (p : ℕ → Path) → field_by p result
+        ≡ rows.or_null (and_then (λ (t : model.Talk). Some (rows.peer_field t.peer)) (option_map (talk_by p) talk)) }
     ensures named { (m : Contents) → Each (OnTalk (IsLive m)) talk → OnField (IsLive m) result }
 {
     match talk {
@@ -80,7 +82,8 @@ fn talk_peer(talk: Option<Talk>) -> Field
 
 /// The port of a fault, if there is one.
 fn fault_field(fault: Option<Fault>) -> Field
-    ensures field { (p : ℕ → Path) → field_by p result ≡ rows.or_null (and_then (λ (f : model.Fault). Some (rows.Field.Pointer f.port)) (option_map (fault_by p) fault)) }
+    ensures field { (p : ℕ → Path) → field_by p result
+        ≡ rows.or_null (and_then (λ (f : model.Fault). Some (rows.Field.Pointer f.port)) (option_map (fault_by p) fault)) }
     ensures named { (m : Contents) → Each (OnFault (IsLive m)) fault → OnField (IsLive m) result }
 {
     match fault {

@@ -15,9 +15,9 @@ ghost use Rattle.fk_plans.specs.Verdicts.{Judges, JudgesGiven, IsVerdict, IsSure
 use fk_model::limits::{PAGE_WORDS, RECORD_WORDS};
 use fk_model::status::{BADADDRESS, BADSTATE, DENIED, HELD, NOTSTOPPED};
 use fk_model::{Body, Mode, Who};
-use fk_plans::{Caller, Deed, Plan, Record, Verdict, object_in, place};
+use fk_plans::{Caller, Deed, Plan, Record, Verdict, object_in, own_page, place};
 use fk_records::takes_state;
-use fk_store::{Reach, Store};
+use fk_store::Store;
 use fk_threads::Answers;
 
 /// A record of a user's can stand at an address.
@@ -59,18 +59,9 @@ fn shows_to(store: &Store, caller: Caller, object: Who, address: u64) -> Result<
         return Ok(Verdict::ShowsRecord { object });
     }
     let at = word_of(address);
-    match store.reach_word(caller.who.space, address, true) {
-        Reach::Home { space, page } => Ok(shows(caller, object, space, page, at)),
-        Reach::Missing {
-            page,
-            keeper: Some(port),
-            ..
-        } => Ok(Verdict::Faults {
-            page,
-            write: true,
-            port,
-        }),
-        Reach::Missing { keeper: None, .. } | Reach::Bad => Err(BADADDRESS),
+    match own_page(store, caller, address, true) {
+        Ok((space, page)) => Ok(shows(caller, object, space, page, at)),
+        Err(verdict) => Ok(verdict),
     }
 }
 
@@ -216,20 +207,9 @@ fn sets_from(
     if caller.is_porter {
         return sets_record(store, caller, given, object, Record::Given, given);
     }
-    match store.reach_word(caller.who.space, address, false) {
-        Reach::Home { space, page } => {
-            sets_from_page(store, caller, given, object, (space, page), address)
-        }
-        Reach::Missing {
-            page,
-            keeper: Some(port),
-            ..
-        } => Ok(Verdict::Faults {
-            page,
-            write: false,
-            port,
-        }),
-        Reach::Missing { keeper: None, .. } | Reach::Bad => Err(BADADDRESS),
+    match own_page(store, caller, address, false) {
+        Ok(home) => sets_from_page(store, caller, given, object, home, address),
+        Err(verdict) => Ok(verdict),
     }
 }
 

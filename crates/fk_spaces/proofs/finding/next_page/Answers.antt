@@ -7,10 +7,12 @@ pub loop-page-init : goal.loop-page-init
 loop-page-init c = lowest-zero _
 
 pub returns-then-is_some : goal.returns-then-is_some
-returns-then-is_some c = next-first _ _ _ c.loop-page.page c.loop-page.invariant _ c.page_from-found.ensures (sym c.is_some.ensures ∙ c.if-is_some.true) (omega arith)
+returns-then-is_some c =
+    next-first _ _ _ c.loop-page.page c.loop-page.invariant _ c.page_from-found.ensures (sym c.is_some.ensures ∙ c.if-is_some.true) (omega arith)
 
 pub loop-page-preserved : goal.loop-page-preserved
-loop-page-preserved c = lowest-none c.loop-page.page _ c.loop-page.invariant (sym c.page_from-found.ensures ∙ none_there _ (sym c.is_some.ensures ∙ c.if-is_some.false))
+loop-page-preserved c =
+    lowest-none c.loop-page.page _ c.loop-page.invariant (sym c.page_from-found.ensures ∙ none_there _ (sym c.is_some.ensures ∙ c.if-is_some.false))
 
 pub returns : goal.returns
 returns c = next-none _ _ _ c.loop-page.page c.loop-page.invariant (omega arith) (omega arith)
