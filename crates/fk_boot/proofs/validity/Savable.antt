@@ -171,7 +171,10 @@ objects-first : (spaces : List SpaceEntry) (before os : List ObjectEntry) → Ea
 objects-first spaces before [] each = tt
 objects-first spaces before (o ∷ os) each =
     let keeps = each.0 in (
-      (low-stands (slot_of (reverse o.path)) (first_body o.spec) (low-slot o.path keeps.inside keeps.slots) (first-native o.spec), first-tidy o.spec keeps.in_range),
+      (
+        low-stands (slot_of (reverse o.path)) (first_body o.spec) (low-slot o.path keeps.inside keeps.slots) (first-native o.spec),
+        first-tidy o.spec keeps.in_range,
+      ),
       objects-first spaces (before ++ o ∷ []) os each.1,
     )
 

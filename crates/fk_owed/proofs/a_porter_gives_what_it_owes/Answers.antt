@@ -1,0 +1,42 @@
+use Rattle.std.proofs.Common.{◌≡◌, [], ◌∷◌, refl}
+use Rattle.fk_premises.specs.Premises.{premises}
+use Rattle.fk_owed.proofs.Worlds.{whole-outside, savable-outside}
+use Rattle.fk_owed.proofs.a_porter_gives_what_it_owes.Goals as goal
+
+pub returns-clause-whole : goal.returns-clause-whole
+returns-clause-whole c = whole-outside
+
+pub returns-clause-savable : goal.returns-clause-savable
+returns-clause-savable c = savable-outside
+
+pub returns-clause-due : goal.returns-clause-due
+unfolding premises
+returns-clause-due c = record { fit = refl; words = refl }
+
+pub returns-clause-hold : goal.returns-clause-hold
+unfolding premises
+returns-clause-hold c = λ space y place named. let own : [] ≡ space = cc in let porter : 255 ∷ [] ≡ y = cc in rw (← own, ← porter) refl
+
+pub returns-clause-mutex : goal.returns-clause-mutex
+unfolding premises
+returns-clause-mutex c = refl
+
+pub returns-clause-reference : goal.returns-clause-reference
+unfolding premises
+returns-clause-reference c = refl
+
+pub returns-clause-space : goal.returns-clause-space
+unfolding premises
+returns-clause-space c = refl
+
+pub returns-clause-clears : goal.returns-clause-clears
+unfolding premises
+returns-clause-clears c = refl
+
+pub returns-clause-destroys : goal.returns-clause-destroys
+unfolding premises
+returns-clause-destroys c = refl
+
+pub returns-clause-renames : goal.returns-clause-renames
+unfolding premises
+returns-clause-renames c = refl
