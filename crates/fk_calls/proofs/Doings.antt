@@ -19,7 +19,6 @@ use Rattle.fk_stages.specs.Built.{built}
 use Rattle.fk_store.specs.Bodies.{thread_by}
 use Rattle.fk_store.specs.Threads.{todo_at}
 use Rattle.fk_calls.specs.Doings.{first_of, IsAtStage}
-use Rattle.fk_calls.proofs.BuiltCalls.{row_named}
 use Rattle.fk_model.specs.Searches.{thread_at}
 
 -- ---- who doesn't move
@@ -92,4 +91,4 @@ does_call w x p t stage there is first = by (todo_known built t.regs) refl first
     by (Some (other ∷ later)) e first =
         let same : other ≡ stage = cc in
         let named = known_code built t.regs (other ∷ later) e in
-        record { later = later; todo = rw (← there, is, named.0, ← same) refl; known = rw (← same) named.1; row = rw (← same) (row_named t.regs other later e) }
+        record { later = later; todo = rw (← there, is, named.0, ← same) refl; known = rw (← same) named.1 }

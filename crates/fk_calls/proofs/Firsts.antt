@@ -1,5 +1,5 @@
--- Firsts: a stage is the first of its caller's call, or the caller is in none; who may make it, and whether it takes memory.
-use Rattle.std.proofs.Common.{◌≡◌, ℕ, Bool, true, false, cond, List, [], ◌∷◌, refl}
+-- Firsts: a stage is the first of its caller's call, or the caller is in none; whether it takes memory.
+use Rattle.std.proofs.Common.{◌≡◌, ℕ, Bool, true, false, List, [], ◌∷◌, refl}
 use Rattle.fk_model.specs.declared.stage.Stage.{Stage}
 use Rattle.fk_model.specs.declared.stage.Stage.TheVariants.{SpaceMakeHeld}
 use Rattle.fk_model.specs.Moves.{is_denied}
@@ -23,8 +23,3 @@ takes_none c p words (SpaceMakeHeld x) allowed none = by c.is_porter allowed non
     by true allowed none = absurd (cc)
     by false allowed none = absurd (cc)
 takes_none c p words other allowed none = none
-
--- a stage for users is made by one, where it isn't denied
-pub user_allowed : (is_porter for_users for_porters : Bool) → cond is_porter for_users for_porters ≡ false → for_users ≡ true → is_porter ≡ false
-user_allowed true for_users for_porters allowed users = absurd (cc)
-user_allowed false for_users for_porters allowed users = refl

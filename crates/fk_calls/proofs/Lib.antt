@@ -1,5 +1,6 @@
-pub mod BuiltCalls
 pub mod Doings
 pub mod Judged
 pub mod Firsts
 pub mod Picks
+pub mod Given
+pub mod Restored

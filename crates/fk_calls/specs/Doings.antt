@@ -14,7 +14,6 @@ use Rattle.fk_stages.specs.Built.{built}
 use Rattle.fk_store.specs.Threads.{todo_at}
 use Rattle.fk_calls.specs.declared.doing.Doing.{Doing}
 use Rattle.fk_calls.specs.declared.doing.Doing.TheVariants as doings
-use Rattle.fk_calls.specs.Rows.{IsRow}
 use Rattle.fk_model.specs.Searches.{thread_at}
 
 abbrev pub first_of : Option (List Stage) → Option Stage
@@ -27,7 +26,6 @@ pub record IsAtStage (w : World) (x : Path) (stage : Stage) : Type 0 where
   pub later : List Stage
   pub todo : todo_at w x ≡ stage ∷ later
   pub known : built.calls (code_of (stage ∷ later)) ≡ true
-  pub row : IsRow stage
 
 -- the thread runs, or is at a stage of a call that is built; else no move of it is ready
 abbrev pub IsDoing : World → Path → Doing → Type 0

@@ -6,6 +6,7 @@ use Rattle.fk_model.specs.declared.moves.Move.{Move}
 use Rattle.fk_model.specs.declared.moves.Said.{Said}
 use Rattle.fk_model.specs.Moves.{known_outcome, known_step, IsKnownReady}
 use Rattle.fk_model.specs.Outcomes.{Outcome}
+use Rattle.fk_model.specs.Valid.{is_fit}
 use Rattle.fk_stages.specs.Built.{built}
 use Rattle.fk_store.specs.Contents.{Contents}
 use Rattle.fk_store.specs.Moves.{picked_by, said_by}
@@ -40,6 +41,10 @@ pub record IsJudged (m : Contents) (move : Move) (ask : Ask) (j : Judgement) : T
 -- a move is ready in the machine of what is built
 abbrev pub IsReadyMove : Contents → Move → Ask → Type 0
 IsReadyMove m move ask = IsKnownReady built (world m) (place (path m) move.who) (picked_by (path m) move.pick) ask
+
+-- a move is fit
+abbrev pub is_fit_move : Contents → Move → Ask → Bool
+is_fit_move m move ask = is_fit (world m) (place (path m) move.who) ask
 
 -- the machine's step by a move leads to what a store holds, and tells this
 abbrev pub IsStepTo : Contents → Move → Ask → Contents → Said → Type 0

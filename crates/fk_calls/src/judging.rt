@@ -1,10 +1,11 @@
 //! What a move comes to.
-ghost use Rattle.std.specs.Prelude.{◌≡◌, IfSome, IfNone};
+ghost use Rattle.std.specs.Prelude.{◌≡◌, true, IfSome, IfNone};
 ghost use Rattle.fk_model.specs.declared.moves.Ask.TheVariants as asks;
 ghost use Rattle.fk_model.specs.Outcomes.Outcome.{Waits};
 ghost use Rattle.fk_model.specs.Valid.{IsValid};
 ghost use Rattle.fk_store.specs.World.{world};
 ghost use Rattle.fk_calls.specs.Judgements.{IsJudged, outcome_of, words_of};
+ghost use Rattle.fk_calls.specs.Rows.{are_given, are_given_for};
 
 use crate::doing::{Doing, doing_of, is_free_porter};
 use crate::rows;
@@ -25,6 +26,7 @@ pub struct Judgement {
 #[tactic(auto, unfolding(fk_model::specs::Moves::known_outcome))]
 pub fn judge(store: &Store, m: &Move, ask: &Ask) -> Option<Judgement>
     requires valid { IsValid (world store.now) }
+    requires words { are_given_for ask.now ≡ true }
     ensures judged { IfSome result (λ judgement. IsJudged store.now m.now ask.now judgement) }
     ensures never { IfNone result (outcome_of store.now m.now ask.now ≡ Waits) }
 {
@@ -76,6 +78,7 @@ fn judge_user(store: &Store, m: &Move) -> Option<Judgement>
 /// What a stage that a porter asks for comes to.
 fn judge_porter(store: &Store, m: &Move, stage: &Stage, words: &[u64; 64]) -> Option<Judgement>
     requires valid { IsValid (world store.now) }
+    requires words { are_given stage.now words.now ≡ true }
     ensures judged { IfSome result (λ judgement. IsJudged store.now m.now (asks.Call stage.now words.now) judgement) }
     ensures never { IfNone result (outcome_of store.now m.now (asks.Call stage.now words.now) ≡ Waits) }
 {

@@ -9,10 +9,12 @@
 #![tactic(auto)]
 
 mod doing;
+mod fitting;
 mod judging;
 mod moves;
 mod picking;
 mod rows;
 
+pub use fitting::is_fit;
 pub use moves::{attempt, ready, take};
 pub use picking::may_pick;

@@ -1,17 +1,52 @@
 //! Which moves are ready, and making them.
-ghost use Rattle.std.specs.Prelude.{◌≡◌, ◌↔◌, false, IsTrue, IsOk, IfOk, IfSome, IfNone, OnErr};
+ghost use Rattle.std.specs.Prelude.{◌≡◌, ◌↔◌, ℕ, List, true, false, IsTrue, IsOk, IfOk, IfSome, IfNone, OnErr};
+ghost use Rattle.fk_model.specs.declared.moves.Ask.TheVariants as asks;
 ghost use Rattle.fk_model.specs.Valid.{IsValid};
 ghost use Rattle.fk_store.specs.World.{world};
-ghost use Rattle.fk_calls.specs.Judgements.{IsReadyMove, IsStepTo, may_lack};
+ghost use Rattle.fk_calls.specs.Judgements.{is_fit_move, IsReadyMove, IsStepTo, may_lack};
+ghost use Rattle.fk_calls.specs.Rows as stages;
+ghost use Rattle.fk_calls.specs.Rows.{are_given_for};
 
 use crate::judging::{given, judge};
-use fk_model::{Ask, Move, NoMemory, Said};
+use crate::rows::restores;
+use fk_model::{Ask, Move, NoMemory, Said, Stage};
 use fk_plans::{carry_out, is_ready};
 use fk_store::Store;
 
-/// Whether a move is ready. It may name what isn't there, which is never ready.
+/// Whether a move is ready. It may name what isn't there, which is never ready. It needn't be fit.
 pub fn ready(store: &Store, m: &Move, ask: &Ask) -> bool
     requires valid { IsValid (world store.now) }
+    ensures { IsTrue result ↔ IsReadyMove store.now m.now ask.now }
+{
+    match ask {
+        Ask::Call { stage, .. } => {
+            if restores(stage) {
+                return may_restore(store, m, stage);
+            }
+            ready_given(store, m, ask)
+        }
+        Ask::Run | Ask::Accept | Ask::Give { .. } | Ask::Over => ready_given(store, m, ask),
+    }
+}
+
+/// Whether a porter's move that makes a talk or a fault again is ready. It is so whatever words the
+/// porter gives, and is judged by some that are in range.
+fn may_restore(store: &Store, m: &Move, stage: &Stage) -> bool
+    requires valid { IsValid (world store.now) }
+    requires restores { stages.restores stage.now ≡ true }
+    ensures { (words : List ℕ) → IsTrue result ↔ IsReadyMove store.now m.now (asks.Call stage.now words) }
+{
+    let ask = Ask::Call {
+        stage: *stage,
+        words: [1; 64],
+    };
+    ready_given(store, m, &ask)
+}
+
+/// Whether a move is ready for which a porter's words are in range.
+fn ready_given(store: &Store, m: &Move, ask: &Ask) -> bool
+    requires valid { IsValid (world store.now) }
+    requires words { are_given_for ask.now ≡ true }
     ensures { IsTrue result ↔ IsReadyMove store.now m.now ask.now }
 {
     match judge(store, m, ask) {
@@ -21,10 +56,11 @@ pub fn ready(store: &Store, m: &Move, ask: &Ask) -> bool
 }
 
 /// Makes a move where it is ready, and gives what it tells; none where it isn't, and then all stays
-/// as it is. It is judged once. For want of memory all stays as it was; a stage that makes an object
+/// as it is. It is fit, and judged once. For want of memory all stays as it was; a stage that makes an object
 /// or a page may want it.
 pub fn attempt(store: &mut Store, m: &Move, ask: &Ask) -> Result<Option<Said>, NoMemory>
     requires valid { IsValid (world store.old) }
+    requires fit { is_fit_move store.old m.now ask.now ≡ true }
     ensures made { IfOk result (λ tried. IfSome tried (λ said. IsReadyMove store.old m.now ask.now × IsStepTo store.old m.now ask.now store.new said)) }
     ensures unready { IfOk result (λ tried. IfNone tried ((IsReadyMove store.old m.now ask.now → ⊥) × (store.new ≡ store.old))) }
     ensures lacking { OnErr result (IsReadyMove store.old m.now ask.now × (store.new ≡ store.old)) }
@@ -40,11 +76,12 @@ pub fn attempt(store: &mut Store, m: &Move, ask: &Ask) -> Result<Option<Said>, N
     Ok(Some(carry_out(store, j.caller, given(ask), &j.verdict)?))
 }
 
-/// Makes a move, which is ready, and gives what it tells. For want of memory all stays as it was;
+/// Makes a move, which is ready and fit, and gives what it tells. For want of memory all stays as it was;
 /// a stage that makes an object or a page may want it.
 pub fn take(store: &mut Store, m: &Move, ask: &Ask) -> Result<Said, NoMemory>
     requires valid { IsValid (world store.old) }
     requires ready { IsReadyMove store.old m.now ask.now }
+    requires fit { is_fit_move store.old m.now ask.now ≡ true }
     ensures step { IfOk result (λ said. IsStepTo store.old m.now ask.now store.new said) }
     ensures lacking { OnErr result (store.new ≡ store.old) }
     ensures sure { may_lack store.old m.now ask.now ≡ false → IsOk result }

@@ -10,10 +10,11 @@ ghost use Rattle.fk_store.specs.Threads.{todo_at};
 ghost use Rattle.fk_store.specs.World.{world, IsLive, IsSpace};
 ghost use Rattle.fk_plans.specs.Plans.{caller_by};
 ghost use Rattle.fk_plans.specs.Verdicts.{JudgesGiven, IsVerdict, IsSureVerdict, outcome_by};
-ghost use Rattle.fk_calls.specs.Rows.{IsFirst, IsRow, takes_memory};
+ghost use Rattle.fk_calls.specs.Rows as stages;
+ghost use Rattle.fk_calls.specs.Rows.{are_given, takes_memory, IsFirst};
 
-use fk_faults::fault_done;
-use fk_links::{connect, disconnect, wait};
+use fk_faults::{fault_done, fault_park, fault_set};
+use fk_links::{connect, disconnect, link_park, link_set, wait};
 use fk_model::status::DENIED;
 use fk_model::{Stage, Turn, Who};
 use fk_objects::{clear, count_in, create, destroy, locate, point, rename, search};
@@ -37,6 +38,19 @@ pub fn chooses(stage: &Stage) -> bool
     matches!(stage, Stage::Wait { .. } | Stage::CondSignal { .. })
 }
 
+/// A stage by which a porter makes a talk or a fault again.
+pub fn restores(stage: &Stage) -> bool
+    ensures { result ≡ stages.restores stage.now }
+{
+    matches!(
+        stage,
+        Stage::LinkSet { .. }
+            | Stage::LinkPark { .. }
+            | Stage::FaultSet { .. }
+            | Stage::FaultPark { .. }
+    )
+}
+
 /// What a stage comes to, by its row. A porter gives these words.
 fn row(
     store: &Store,
@@ -45,14 +59,13 @@ fn row(
     stage: &Stage,
     pick: Option<Who>,
 ) -> Result<Verdict, u8>
-    requires built { IsRow stage.now }
     requires space { IsSpace store.now caller.who.space }
     requires live { IsLive store.now caller.who }
     requires valid { IsValid (world store.now) }
     requires first { IsFirst stage.now (todo_at (world store.now) (place (path store.now) caller.who)) }
     requires allowed { machine.is_denied (caller_by (path store.now) caller given.now) stage.now ≡ false }
     requires given { caller.is_porter ≡ true → length given.now ≡ 64 }
-    requires user { machine.is_for_users stage.now ≡ true → caller.is_porter ≡ false }
+    requires words { are_given stage.now given.now ≡ true }
     ensures row { JudgesGiven store.now caller given.now result (λ w c. stage_row w c (picked_by (path store.now) pick) stage.now) }
     ensures sure { takes_memory true stage.now ≡ false → IfOk result IsSureVerdict }
 {
@@ -105,9 +118,16 @@ fn row(
         Stage::Wait { set } => wait(store, caller, set, pick),
         Stage::ServerEnd => disconnect(store, caller, Turn::Server),
         Stage::FaultDone => fault_done(store, caller),
+        Stage::LinkSet { s, x, port, server } => {
+            link_set(store, caller, given, s, x, port, server)
+        }
+        Stage::LinkPark { s, x, port } => link_park(store, caller, given, s, x, port),
+        Stage::FaultSet { s, x, port, taker } => fault_set(store, caller, given, s, x, port, taker),
+        Stage::FaultPark { s, x, port, taken } => {
+            fault_park(store, caller, given, s, x, port, taken)
+        }
         Stage::HoldSet { s, x, thread } => hold_set(store, caller, s, x, thread),
         Stage::SpaceMakeHeld { x } => space_make_held(store, caller, x),
-        _ => unreachable!(),
     }
 }
 
@@ -133,12 +153,12 @@ pub fn judge(
     stage: &Stage,
     pick: Option<Who>,
 ) -> Verdict
-    requires built { IsRow stage.now }
     requires space { IsSpace store.now caller.who.space }
     requires live { IsLive store.now caller.who }
     requires valid { IsValid (world store.now) }
     requires first { IsFirst stage.now (todo_at (world store.now) (place (path store.now) caller.who)) }
     requires given { caller.is_porter ≡ true → length given.now ≡ 64 }
+    requires words { caller.is_porter ≡ true → are_given stage.now given.now ≡ true }
     ensures row { let c = caller_by (path store.now) caller given.now in
         outcome_by (world store.now) (path store.now) c result ≡ allowed_row (world store.now) c (picked_by (path store.now) pick) stage.now }
     ensures fits { IsVerdict store.now caller result }

@@ -1,5 +1,5 @@
 -- Promises: what the laws of state and holds say of a kernel's steps.
-use Rattle.std.proofs.Common.{◌≡◌, ℕ, ◌↔◌, Result, Ok, Err, IsTrue, IfOk}
+use Rattle.std.proofs.Common.{◌≡◌, ℕ, true, ◌↔◌, Option, Some, None, Result, Ok, Err, IsTrue, IsSome, IfOk, IfSome, IfNone, refl}
 use Rattle.fk_model.specs.declared.moves.Ask.{Ask}
 use Rattle.fk_model.specs.declared.moves.Move.{Move}
 use Rattle.fk_model.specs.declared.moves.Said.{Said}
@@ -9,11 +9,16 @@ use Rattle.fk_store.specs.Contents.{Contents}
 use Rattle.fk_store.specs.Moves.{said_by}
 use Rattle.fk_store.specs.Paths.{path}
 use Rattle.fk_store.specs.World.{world}
-use Rattle.fk_calls.specs.Judgements.{IsReadyMove, IsStepTo}
+use Rattle.fk_calls.specs.Judgements.{is_fit_move, IsReadyMove, IsStepTo}
 use Rattle.fk_prompt.specs.Events.{IsPrompt, IsCorrect}
 use Rattle.fk_prompt.proofs.Events.{prompt_is_ready, correct_step}
+use Rattle.fk_kernel.specs.Events.{is_fit_event}
 
 module _ (m : Contents) (move : Move) (ask : Ask) (born : path m ≡ space_born (world m)) where
+  -- a fit event is a fit move
+  pub fit-move : is_fit_event (world m) (event_of (world m) ask move) ≡ true → is_fit_move m move ask ≡ true
+  fit-move fit = rw born fit
+
   -- a prompt move is ready
   pub prompt-ready : IsPrompt built (world m) (event_of (world m) ask move) → IsReadyMove m move ask
   prompt-ready prompt = rw born (prompt_is_ready built (world m) (event_of (world m) ask move) prompt)
@@ -23,6 +28,21 @@ module _ (m : Contents) (move : Move) (ask : Ask) (born : path m ≡ space_born 
       IsCorrect built (world m) (event_of (world m) ask move) (world n) (said_by (path n) said)
   correct-made n said is =
       correct_step built (world m) (event_of (world m) ask move) (world n) (said_by (path n) said) (rw born at is)
+
+  pub correct-tried : {E : Type 0} (n : Contents) (R : Type 0) (r : Result (Option Said) E) →
+      IfOk r (λ tried. IfSome tried (λ said. R × IsStepTo m move ask n said)) →
+      IfOk r (λ tried. IfSome tried (λ said. IsCorrect built (world m) (event_of (world m) ask move) (world n) (said_by (path n) said)))
+  correct-tried n R (Ok (Some said)) made = correct-made n said made.1
+  correct-tried n R (Ok None) made = made
+  correct-tried n R (Err e) made = made
+
+  -- a prompt move that is tried is made
+  pub prompt-tried : {E : Type 0} (N : Type 0) (r : Result (Option Said) E) →
+      IfOk r (λ tried. IfNone tried ((IsReadyMove m move ask → ⊥) × N)) →
+      IsPrompt built (world m) (event_of (world m) ask move) → IfOk r IsSome
+  prompt-tried N (Ok (Some said)) unready prompt = refl
+  prompt-tried N (Ok None) unready prompt = absurd (unready.0 (prompt-ready prompt))
+  prompt-tried N (Err e) unready prompt = unready
 
   pub correct-step : {E : Type 0} (n : Contents) (r : Result Said E) → IfOk r (λ said. IsStepTo m move ask n said) →
       IfOk r (λ said. IsCorrect built (world m) (event_of (world m) ask move) (world n) (said_by (path n) said))

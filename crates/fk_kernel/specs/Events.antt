@@ -4,6 +4,7 @@ use Rattle.fk_model.specs.declared.moves.Ask.TheVariants as asks
 use Rattle.fk_model.specs.Moves.{Step, IsKnownReady, known_step}
 use Rattle.fk_model.specs.Places.{Path}
 use Rattle.fk_model.specs.Runs.{Event}
+use Rattle.fk_model.specs.Valid.{is_fit}
 use Rattle.fk_model.specs.World.{World}
 use Rattle.fk_stages.specs.Built.{built}
 use Rattle.fk_calls.specs.Rows.{may_want_memory}
@@ -11,6 +12,10 @@ use Rattle.fk_calls.specs.Rows.{may_want_memory}
 -- an event is ready
 abbrev pub IsReadyEvent : World → Event → Type 0
 IsReadyEvent w e = IsKnownReady built w e.mover e.pick e.ask
+
+-- it is fit: a porter that makes a talk or a fault again gives words in range, and names a server that may serve
+abbrev pub is_fit_event : World → Event → Bool
+is_fit_event w e = is_fit w e.mover e.ask
 
 -- the world after an event, and what it tells
 abbrev pub step_of : World → Event → Step

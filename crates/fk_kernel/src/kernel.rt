@@ -1,5 +1,5 @@
 //! The kernel.
-ghost use Rattle.std.specs.Prelude.{◌≡◌, ◌↔◌, false, IsTrue, IsOk, IfOk, IfSome, IfNone, OnErr};
+ghost use Rattle.std.specs.Prelude.{◌≡◌, ◌↔◌, true, false, IsTrue, IsOk, IfOk, IfSome, IfNone, IsSome, OnErr};
 ghost use Rattle.fk_model.specs.declared.moves.Ask.TheVariants as asks;
 ghost use Rattle.fk_model.specs.Valid.{IsValid};
 ghost use Rattle.fk_model.specs.Who.{event_of};
@@ -9,7 +9,7 @@ ghost use Rattle.fk_store.specs.World.{world};
 ghost use Rattle.fk_calls.specs.Judgements.{IsReadyMove};
 ghost use Rattle.fk_prompt.specs.Events.{IsPrompt, IsCorrect};
 ghost use Rattle.fk_stages.specs.Built.{built};
-ghost use Rattle.fk_kernel.specs.Events.{IsReadyEvent, IsAnyReady, IsMoveReady, IsPickReady, may_lack, step_of};
+ghost use Rattle.fk_kernel.specs.Events.{is_fit_event, IsReadyEvent, IsAnyReady, IsMoveReady, IsPickReady, may_lack, step_of};
 
 use fk_model::{Ask, Move, NoMemory, Said, Who};
 use fk_store::Store;
@@ -51,8 +51,8 @@ impl Kernel {
         &self.store
     }
 
-    /// Whether a move is ready. A move may name what isn't there, which is never ready. Servers don't
-    /// move as yet.
+    /// Whether a move is ready. A move may name what isn't there, which is never ready, and needn't be
+    /// fit. Servers don't move as yet.
     pub fn ready(&self, m: &Move, ask: &Ask) -> bool
         ensures ready { IsTrue result ↔ IsReadyEvent (world self.now) (event_of (world self.now) ask.now m.now) }
         ensures prompt { IsPrompt built (world self.now) (event_of (world self.now) ask.now m.now) → IsTrue result }
@@ -61,10 +61,20 @@ impl Kernel {
         fk_calls::ready(&self.store, m, ask)
     }
 
-    /// Makes a move, which is ready, and gives what the move tells. Only a stage that makes an object
-    /// or a page may lack memory, and then all stays as it is.
+    /// Whether a move is fit. All are but those of porters that make a talk or a fault again with words
+    /// out of range, or with a server that serves already or doesn't live in the port's space.
+    pub fn is_fit(&self, m: &Move, ask: &Ask) -> bool
+        ensures { result ≡ is_fit_event (world self.now) (event_of (world self.now) ask.now m.now) }
+    {
+        self.store.names();
+        fk_calls::is_fit(&self.store, m, ask)
+    }
+
+    /// Makes a move, which is ready and fit, and gives what the move tells. Only a stage that makes an
+    /// object or a page may lack memory, and then all stays as it is.
     pub fn step(&mut self, m: &Move, ask: &Ask) -> Result<Said, NoMemory>
         requires ready { IsReadyEvent (world self.old) (event_of (world self.old) ask.now m.now) }
+        requires fit { is_fit_event (world self.old) (event_of (world self.old) ask.now m.now) ≡ true }
         ensures step { IfOk result (λ said. step_of (world self.old) (event_of (world self.old) ask.now m.now)
             ≡ record { world = world self.new; said = said_by (path self.new) said }) }
         ensures correct { IfOk result (λ said. IsCorrect built (world self.old) (event_of (world self.old) ask.now m.now)
@@ -77,9 +87,10 @@ impl Kernel {
     }
 
     /// Makes a move where it is ready, and gives what the move tells; none where it isn't, and then
-    /// all stays as it is. Only a stage that makes an object or a page may lack memory, and then too
-    /// all stays as it is.
+    /// all stays as it is. The move is fit. Only a stage that makes an object or a page may lack memory, and then too all stays as
+    /// it is.
     pub fn attempt(&mut self, m: &Move, ask: &Ask) -> Result<Option<Said>, NoMemory>
+        requires fit { is_fit_event (world self.old) (event_of (world self.old) ask.now m.now) ≡ true }
         ensures made { IfOk result (λ tried. IfSome tried (λ said.
             IsReadyEvent (world self.old) (event_of (world self.old) ask.now m.now)
             × (step_of (world self.old) (event_of (world self.old) ask.now m.now)
@@ -87,6 +98,10 @@ impl Kernel {
         ensures unready { IfOk result (λ tried. IfNone tried (
             (IsReadyEvent (world self.old) (event_of (world self.old) ask.now m.now) → ⊥)
             × (self.new ≡ self.old))) }
+        ensures prompt { IsPrompt built (world self.old) (event_of (world self.old) ask.now m.now) → IfOk result IsSome }
+        ensures correct { IfOk result (λ tried. IfSome tried (λ said.
+            IsCorrect built (world self.old) (event_of (world self.old) ask.now m.now)
+            (world self.new) (said_by (path self.new) said))) }
         ensures lacking { OnErr result (self.new ≡ self.old) }
         ensures done { may_lack (world self.old) (event_of (world self.old) ask.now m.now) ≡ false → IsOk result }
     {

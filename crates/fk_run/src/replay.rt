@@ -34,6 +34,7 @@ impl From<NoMemory> for ReplayFail {
 /// # Errors
 ///
 /// The kernel has no memory for the move.
+#[tactic(auto, unfolding(fk_model::specs::Valid::is_fit))]
 fn make_next<'a>(
     kernel: &mut Kernel,
     budget: u64,

@@ -3,7 +3,6 @@ use Rattle.fk_model.specs.declared.moves.Ask.TheVariants as asks
 use Rattle.fk_store.specs.Paths.{path, place}
 use Rattle.fk_store.specs.World.{world}
 use Rattle.fk_calls.specs.Judgements.{IsJudged}
-use Rattle.fk_calls.proofs.BuiltCalls.{row_built}
 use Rattle.fk_calls.proofs.Judged.{porter, held_porter, unbuilt_porter, porter_judged, porter_there}
 use Rattle.fk_calls.proofs.judging.judge_porter.Goals as goal
 
@@ -12,9 +11,6 @@ returns-then-not-is_free_porter-clause-never c = held_porter _ _ _ _ _ _ (cc)
 
 pub returns-then-not-is_built-clause-never : goal.returns-then-not-is_built-clause-never
 returns-then-not-is_built-clause-never c = unbuilt_porter _ _ _ _ _ _ (cc) (cc)
-
-pub judge-requires-clause-built : goal.judge-requires-clause-built
-judge-requires-clause-built c = row_built _ (cc)
 
 pub judge-requires-clause-live : goal.judge-requires-clause-live
 judge-requires-clause-live c = porter_there (world c.args.store.now) (place (path c.args.store.now) c.args.m.now.who) (cc)

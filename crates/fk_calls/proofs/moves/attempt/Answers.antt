@@ -1,7 +1,11 @@
 use Rattle.std.proofs.Common.{◌∙◌}
 use Rattle.fk_calls.specs.Judgements.{words_of}
+use Rattle.fk_calls.proofs.Given.{fit_given}
 use Rattle.fk_calls.proofs.Judged.{ready_judged, step_judged, free_there}
 use Rattle.fk_calls.proofs.moves.attempt.Goals as goal
+
+pub judge-requires-clause-words : goal.judge-requires-clause-words
+judge-requires-clause-words c = fit_given _ _ _ c.requires.fit
 
 pub is_ready-requires-clause-free : goal.is_ready-requires-clause-free
 is_ready-requires-clause-free c user = rw c.in-Some.ensures.judged.mover (c.in-Some.ensures.judged.free user)

@@ -1,6 +1,10 @@
 use Rattle.std.proofs.Common.{◌∙◌}
+use Rattle.fk_calls.proofs.Given.{fit_given}
 use Rattle.fk_calls.proofs.Judged.{step_judged, never_ready, free_there, if_ok}
 use Rattle.fk_calls.proofs.moves.take.Goals as goal
+
+pub judge-requires-clause-words : goal.judge-requires-clause-words
+judge-requires-clause-words c = fit_given _ _ _ c.requires.fit
 
 pub carry_out-requires-clause-live : goal.carry_out-requires-clause-live
 carry_out-requires-clause-live c user = rw c.in-Some.ensures.judged.mover (free_there _ _ (c.in-Some.ensures.judged.free user))

@@ -1,14 +1,14 @@
 use Rattle.std.proofs.Common.{◌≡◌, true, false, refl, sym, ◌∙◌}
-use Rattle.fk_model.specs.Moves.{is_denied, is_for_porters, is_for_users}
+use Rattle.fk_model.specs.Moves.{is_denied}
 use Rattle.fk_plans.specs.Plans.{caller_by}
 use Rattle.fk_store.specs.Paths.{path}
-use Rattle.fk_calls.proofs.Firsts.{takes_none, user_allowed}
+use Rattle.fk_calls.proofs.Firsts.{takes_none}
+use Rattle.fk_calls.proofs.Given.{allowed_given}
 use Rattle.fk_calls.proofs.rows.judge.Goals as goal
 
-pub row-requires-clause-user : goal.row-requires-clause-user
-row-requires-clause-user c users =
-    user_allowed c.args.caller.is_porter (is_for_users c.args.stage.now) (is_for_porters c.args.stage.now)
-    (sym (c.is_denied.ensures (path c.args.store.now) c.args.given.now) ∙ c.if-is_denied.false) users
+pub row-requires-clause-words : goal.row-requires-clause-words
+row-requires-clause-words c = allowed_given c.args.caller (path c.args.store.now) c.args.given.now c.args.stage.now
+    (sym (c.is_denied.ensures (path c.args.store.now) c.args.given.now) ∙ c.if-is_denied.false) c.requires.words
 
 pub returns-then-is_denied-clause-row : goal.returns-then-is_denied-clause-row
 returns-then-is_denied-clause-row c =
