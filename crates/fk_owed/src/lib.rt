@@ -5,11 +5,13 @@
 ghost use Rattle.fk_model.specs.Runs.{after};
 ghost use Rattle.fk_model.specs.Whole.{IsWhole, IsSavable};
 ghost use Rattle.fk_whole.specs.Runnable.{IsDue};
+ghost use Rattle.fk_worked.specs.Worked.{IsReadyTo};
 ghost use Rattle.fk_savable.specs.Savable.{Owes};
 ghost use Rattle.fk_owed.specs.Owed.{leads_within, leads_outside, gives_hold, makes_in, makes_held_in, destroys_in, renames_from};
 
 /// A whole and savable world in which a porter makes calls that are due, and gives what they owe: it
 /// holds by itself, makes references in its scratch and users' objects elsewhere, and destroys these.
+/// It is ready to set the hold, and the world can be saved afterwards.
 pub fn a_porter_gives_what_it_owes()
     ensures whole { IsWhole leads_outside }
     ensures savable { IsSavable leads_outside }
@@ -21,6 +23,8 @@ pub fn a_porter_gives_what_it_owes()
     ensures clears { Owes leads_outside (destroys_in 240) }
     ensures destroys { Owes leads_outside (destroys_in 1) }
     ensures renames { Owes leads_outside (renames_from 8) }
+    ensures ready { IsReadyTo leads_outside gives_hold }
+    ensures after { IsSavable (after leads_outside gives_hold) }
 {}
 
 /// A holder that lives within isn't owed, and with it the world can't be saved, though it could before.

@@ -1,5 +1,8 @@
 use Rattle.std.proofs.Common.{◌≡◌, [], ◌∷◌, refl}
+use Rattle.fk_worked.proofs.Tested.{legal-tested}
+use Rattle.fk_savable.proofs.Laws.{keeps_savable}
 use Rattle.fk_premises.specs.Premises.{premises}
+use Rattle.fk_owed.specs.Owed.{leads_outside, gives_hold}
 use Rattle.fk_owed.proofs.Worlds.{whole-outside, savable-outside}
 use Rattle.fk_owed.proofs.a_porter_gives_what_it_owes.Goals as goal
 
@@ -40,3 +43,10 @@ returns-clause-destroys c = refl
 pub returns-clause-renames : goal.returns-clause-renames
 unfolding premises
 returns-clause-renames c = refl
+
+pub returns-clause-ready : goal.returns-clause-ready
+unfolding premises
+returns-clause-ready c = (legal-tested leads_outside (gives_hold ∷ []) refl).0
+
+pub returns-clause-after : goal.returns-clause-after
+returns-clause-after c = keeps_savable leads_outside gives_hold whole-outside savable-outside (returns-clause-due c) (returns-clause-hold c)
