@@ -29,7 +29,7 @@ module _ {K X : Type 0} {R : K → K → Ordering} (o : IsTotalOrder R) (f : X �
   cons_total : (e : K × X) (es : List (K × X)) → total (e ∷ es) ≡ f e.1 + total es
   cons_total e es = sum_by-cons (λ (e : K × X). f e.1) e es
 
-  total_put : (k : K) (v : X) (es : List (K × X)) → T (is_sorted R es) → total (put R k v es) + of_cell f (finmap.find R k es) ≡ total es + f v
+  pub total_put : (k : K) (v : X) (es : List (K × X)) → T (is_sorted R es) → total (put R k v es) + of_cell f (finmap.find R k es) ≡ total es + f v
   total_put k v [] s = by
     where
       by : total ((k, v) ∷ []) + 0 ≡ total [] + f v

@@ -8,3 +8,5 @@ pub mod MarkLaws
 pub mod Results
 pub mod HintLaws
 pub mod ToldLaws
+pub mod RingedLaws
+pub mod RingSweeps

@@ -9,3 +9,4 @@ pub mod Threads
 pub mod Parts
 pub mod Pointers
 pub mod Hinted
+pub mod Ringed

@@ -23,12 +23,14 @@ use crate::held::{count_left, counted, is_held, was_held};
 use crate::homes::{home_of, make_room, settle};
 use crate::marks::{is_marked, is_of_pages, mark, room_for_marks};
 use crate::parts::Part;
-use crate::scans::{count_told, first_told, sweep_told};
+use crate::ringing::{ring, sweep_ringed};
+use crate::scans::{count_told, first_told};
 use crate::stored::Stored;
 use crate::sweeps::Sweep;
 use crate::telling::tell;
 use fk_hints::{Hints, Sort, Told};
 use fk_model::{Body, Mode, NoMemory, Who};
+use fk_rings::Rings;
 use fk_slots::{Row, lay_value, next_taken, put_value, take_value, value_at};
 use std::alloc::Global;
 use std::marker::Model;
@@ -46,6 +48,8 @@ pub struct Bodies {
     marks: Vec<[bool; 16]>,
     /// Who may lead to each object.
     hints: Hints,
+    /// Whose pointers lead to each object.
+    rings: Rings,
 }
 
 impl Model for Bodies {
@@ -60,6 +64,7 @@ impl Model for Bodies {
     ghost use Rattle.fk_tables.specs.Homes.{IsHomed};
     ghost use Rattle.fk_tables.specs.Marks.{AreMarked};
     ghost use Rattle.fk_tables.specs.Names.{at, who_cmp, coded_who};
+    ghost use Rattle.fk_tables.specs.Ringed.{AreRinged};
 
     ghost Value = { FinMap who_cmp Body };
 
@@ -69,7 +74,8 @@ impl Model for Bodies {
 
     ghost invariant = { λ s. (length s.rows.items ≤ 4294967296)
         × IsHomed (map_of_rows who_cmp at s.rows.items) s.homes.items × IsCount (held_in (map_of_rows who_cmp at s.rows.items)) s.held
-        × AreMarked (map_of_rows who_cmp at s.rows.items) s.marks.items × AreTold (map_of_rows who_cmp at s.rows.items) s.hints };
+        × AreMarked (map_of_rows who_cmp at s.rows.items) s.marks.items × AreTold (map_of_rows who_cmp at s.rows.items) s.hints
+        × AreRinged s.rows.items s.rings };
 }
 
 impl Bodies {
@@ -83,6 +89,7 @@ impl Bodies {
             held: 0,
             marks: Vec::new(alloc),
             hints: Hints::new(alloc),
+            rings: Rings::new(alloc),
         }
     }
 
@@ -117,6 +124,7 @@ impl Bodies {
             stored.put(body);
             lay_value(&mut self.rows, who.space, who.slot, stored);
             tell(&mut self.hints, &self.rows, who, &body);
+            ring(&mut self.rings, who, &body);
         }
     }
 
@@ -144,12 +152,14 @@ impl Bodies {
         make_room(&mut self.homes, birth)?;
         room_for_marks(&mut self.marks, who.space)?;
         self.hints.room(who)?;
+        self.rings.room(who.space)?;
         let stored = Stored::of(*self.rows.allocator(), body)?;
         put_value(&mut self.rows, who.space, who.slot, stored)?;
         settle(&mut self.homes, birth, Some(who));
         self.held = counted(self.held, false, is_held(&body));
         mark(&mut self.marks, who, is_of_pages(&body));
         tell(&mut self.hints, &self.rows, who, &body);
+        ring(&mut self.rings, who, &body);
         Ok(())
     }
 
@@ -161,6 +171,7 @@ impl Bodies {
         let gone = take_value(&mut self.rows, who.space, who.slot);
         self.held = counted(self.held, was_held(&gone), false);
         settle(&mut self.homes, birth, None);
+        ring(&mut self.rings, who, &Body::Cond);
     }
 
     /// Gives an object another slot of its space, which is free.
@@ -177,6 +188,8 @@ impl Bodies {
             lay_value(&mut self.rows, to.space, to.slot, stored);
             settle(&mut self.homes, birth, Some(to));
             tell(&mut self.hints, &self.rows, to, &body);
+            ring(&mut self.rings, from, &Body::Cond);
+            ring(&mut self.rings, to, &body);
         }
     }
 
@@ -212,8 +225,7 @@ impl Bodies {
     pub fn sweep(&mut self, sweep: Sweep)
         ensures { (q : Who) → map.get self.new q ≡ option_map (body_after sweep q.space) (map.get self.old q) }
     {
-        let told = self.hints.at(sweep.from, Sort::Pointer);
-        sweep_told(&mut self.rows, sweep, told);
+        sweep_ringed(&mut self.rows, &mut self.rings, sweep);
         self.hints.pass_on(sweep.from, sweep.to);
         self.held = count_left(&self.rows, self.held);
     }

@@ -14,6 +14,7 @@ mod led;
 mod marks;
 mod pages;
 mod parts;
+mod ringing;
 mod scans;
 mod stored;
 mod sweeps;

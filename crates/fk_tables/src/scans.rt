@@ -129,37 +129,8 @@ fn cell_hits(row: &Row<Stored>, slot: u8, who: Who) -> u64
     }
 }
 
-/// Sweeps all bodies, where those that may lead there are told.
-pub fn sweep_told(rows: &mut Vec<Row<Stored>>, sweep: Sweep, told: Told)
-    requires few { length rows.old.items ≤ 4294967296 }
-    requires told { (q : Who) (b : Body) (i : ℕ) → cell rows.old.items q.space q.slot ≡ Some b → led b i ≡ Some (lead_by Pointer sweep.from) → Tells told q }
-    ensures swept { (s k : ℕ) → cell rows.new.items s k ≡ option_map (body_after sweep s) (cell rows.old.items s k) }
-    ensures long { length rows.new.items ≡ length rows.old.items }
-{
-    match told {
-        Told::Nobody => sweep_home(rows, sweep),
-        Told::One(who) => sweep_only(rows, sweep, who),
-        Told::Many => sweep_each(rows, sweep),
-    }
-}
-
-/// Sweeps the one body that leads there, and the object's own space, which may have ports in it.
-fn sweep_only(rows: &mut Vec<Row<Stored>>, sweep: Sweep, who: Who)
-    requires few { length rows.old.items ≤ 4294967296 }
-    requires told { (q : Who) (b : Body) (i : ℕ) → cell rows.old.items q.space q.slot ≡ Some b → led b i ≡ Some (lead_by Pointer sweep.from) → who ≡ q }
-    ensures swept { (s k : ℕ) → cell rows.new.items s k ≡ option_map (body_after sweep s) (cell rows.old.items s k) }
-    ensures long { length rows.new.items ≡ length rows.old.items }
-{
-    if who.space == sweep.from.space {
-        sweep_home(rows, sweep);
-    } else {
-        sweep_at(rows, sweep, who);
-        sweep_home(rows, sweep);
-    }
-}
-
 /// Sweeps one body.
-fn sweep_at(rows: &mut Vec<Row<Stored>>, sweep: Sweep, who: Who)
+pub fn sweep_at(rows: &mut Vec<Row<Stored>>, sweep: Sweep, who: Who)
     ensures swept { (s k : ℕ) → cell rows.new.items s k
         ≡ (if s == who.space && k == who.slot then option_map (body_after sweep s) (cell rows.old.items s k) else cell rows.old.items s k) }
     ensures long { length rows.new.items ≡ length rows.old.items }
@@ -172,7 +143,7 @@ fn sweep_at(rows: &mut Vec<Row<Stored>>, sweep: Sweep, who: Who)
 }
 
 /// Sweeps the space in which the object is.
-fn sweep_home(rows: &mut Vec<Row<Stored>>, sweep: Sweep)
+pub fn sweep_home(rows: &mut Vec<Row<Stored>>, sweep: Sweep)
     ensures swept { (s k : ℕ) → cell rows.new.items s k
         ≡ (if s == sweep.from.space then option_map (body_after sweep s) (cell rows.old.items s k) else cell rows.old.items s k) }
     ensures long { length rows.new.items ≡ length rows.old.items }
@@ -185,7 +156,7 @@ fn sweep_home(rows: &mut Vec<Row<Stored>>, sweep: Sweep)
 }
 
 /// Sweeps all bodies.
-fn sweep_each(rows: &mut Vec<Row<Stored>>, sweep: Sweep)
+pub fn sweep_each(rows: &mut Vec<Row<Stored>>, sweep: Sweep)
     requires { length rows.old.items ≤ 4294967296 }
     ensures swept { (s k : ℕ) → cell rows.new.items s k ≡ option_map (body_after sweep s) (cell rows.old.items s k) }
     ensures long { length rows.new.items ≡ length rows.old.items }

@@ -1,5 +1,5 @@
 //! What becomes of all bodies where an object is destroyed or gets another name.
-ghost use Rattle.std.specs.Prelude.{◌≡◌, false, Some};
+ghost use Rattle.std.specs.Prelude.{◌≡◌, ◌≢◌, false, Some};
 ghost use Rattle.fk_model.specs.Objects.{and_then};
 ghost use Rattle.fk_tables.specs.Sweeps as sweeps;
 
@@ -14,6 +14,16 @@ pub struct Sweep {
 }
 
 impl Sweep {
+    /// The object stays where it is.
+    pub fn stays(self) -> bool
+        ensures { result ≡ false → self.to ≢ Some self.from }
+    {
+        match self.to {
+            None => false,
+            Some(to) => to == self.from,
+        }
+    }
+
     /// Where an object is afterwards, if it is still there.
     fn after(self, who: Who) -> Option<Who>
         ensures { result ≡ sweeps.after self who }

@@ -1,6 +1,7 @@
 use Rattle.std.proofs.Common.{arith}
 use Rattle.fk_tables.proofs.ScanLaws.{none-empty}
 use Rattle.fk_tables.proofs.MarkLaws.{marked-empty}
+use Rattle.fk_tables.proofs.RingedLaws.{ringed-empty}
 use Rattle.fk_tables.proofs.ToldLaws.{told-empty}
 use Rattle.fk_tables.proofs.HomeLaws.{homed-empty}
 use Rattle.fk_tables.proofs.NameLaws.{who_naming}
@@ -13,8 +14,8 @@ invariant_of-result c = rw (c.new.ensures.items, c.new-2.ensures.items) (
   rw (rows_nil who_naming) homed-empty,
   λ few. rw none-empty (omega arith),
   rw (rows_nil who_naming, c.new-3.ensures.items) marked-empty,
-  rw
-      (rows_nil who_naming) (told-empty _),
+  rw (rows_nil who_naming) (told-empty _),
+  ringed-empty _ c.new-5.ensures,
 )
 
 pub returns : goal.returns

@@ -6,6 +6,7 @@ use Rattle.fk_tables.proofs.HeldLaws.{enough-same}
 use Rattle.fk_tables.proofs.MarkLaws.{marked-set}
 use Rattle.fk_tables.proofs.HomeLaws.{homed-set}
 use Rattle.fk_tables.proofs.NameLaws.{who_naming}
+use Rattle.fk_tables.proofs.RingedLaws.{ringed-proceeded, ringed-same, relaid}
 use Rattle.fk_tables.proofs.ToldLaws.{told-proceeded}
 use Rattle.fk_tables.proofs.ProceedLaws.{proceeded-birth, proceeded-held, proceeded-pages, some-alike, none-alike}
 use Rattle.fk_tables.proofs.ScanLaws.{get-who}
@@ -21,12 +22,16 @@ invariant_of-self c =
       rw now (enough-same _ c.args.who c.in-Some.stored _ _ there (proceeded-held _ _ _ c.in-Some.stored) c.self.invariant.2),
       rw now (marked-set _ _ c.args.who c.in-Some.stored _ there (λ so. sym (proceeded-pages _ _ _ c.in-Some.stored) ∙ so) c.self.invariant.3),
       rw now (told-proceeded _ _ c.self.invariant.4 _ _ _ c.args.who c.in-Some.stored there),
+      ringed-proceeded _ _ _ _ _ _ c.args.who c.in-Some.stored c.self.invariant.5 (sym c.in-Some.ensures.taken)
+          (relaid _ _ _ c.args.who _ c.take_value.ensures.left laid),
     )
 
 pub invariant_of-self-in_default : goal.invariant_of-self-in_default
 invariant_of-self-in_default c =
     let same = same_rows who_naming _ _ (untaken who_naming _ _ c.args.who.space c.args.who.slot (sym c.in_default.ensures.taken) c.take_value.ensures.left) in
-    (omega (arith, c.self.invariant.0, c.take_value.ensures.long), rw same c.self.invariant.1, rw same c.self.invariant.2, rw same c.self.invariant.3, rw same c.self.invariant.4)
+    (omega (arith, c.self.invariant.0, c.take_value.ensures.long), rw same c.self.invariant.1, rw same c.self.invariant.2, rw same c.self.invariant.3, rw same c.self.invariant.4,
+      ringed-same _ _ _ _ c.self.invariant.5
+          (untaken who_naming _ _ c.args.who.space c.args.who.slot (sym c.in_default.ensures.taken) c.take_value.ensures.left) (λ others are. are))
 
 pub returns-in-Some-clause-there : goal.returns-in-Some-clause-there
 returns-in-Some-clause-there c b is =

@@ -1,8 +1,10 @@
+use Rattle.std.proofs.Common.{refl}
 use Rattle.fk_slots.proofs.TabledLaws.{insert_rows, same_rows}
 use Rattle.fk_tables.proofs.HeldLaws.{enough-put}
 use Rattle.fk_tables.proofs.MarkLaws.{marked-put, marked-told}
 use Rattle.fk_tables.proofs.HomeLaws.{homed-put, homed-told}
 use Rattle.fk_tables.proofs.NameLaws.{who_naming}
+use Rattle.fk_tables.proofs.RingedLaws.{ringed-same, ringed-changed}
 use Rattle.fk_tables.proofs.ToldLaws.{this-cell, others-put, told-rows, told-same}
 use Rattle.fk_tables.proofs.Results.{any_err}
 use Rattle.fk_tables.proofs.bodies.Bodies.put.Goals as goal
@@ -14,6 +16,7 @@ invariant_of-self-in_err-put_value c = (
   rw (same_rows who_naming _ _ c.in_err-put_value.ensures.err) c.self.invariant.2,
   rw (same_rows who_naming _ _ c.in_err-put_value.ensures.err) (marked-told _ _ _ c.self.invariant.3 c.room_for_marks.ensures.same),
   rw (same_rows who_naming _ _ c.in_err-put_value.ensures.err) (told-same _ _ _ c.self.invariant.4 c.room.ensures),
+  ringed-same _ _ _ _ c.self.invariant.5 c.in_err-put_value.ensures.err (c.room-2.ensures),
 )
 
 pub returns-in_err-put_value-clause-err : goal.returns-in_err-put_value-clause-err
@@ -41,6 +44,7 @@ invariant_of-self-2 c =
           (marked-put _ _ _ c.args.who c.args.body (marked-told _ _ c.room_for_marks.new.marks.items c.self.invariant.3 c.room_for_marks.ensures.same)
           (rw c.is_of_pages.ensures at c.mark.ensures)),
       told-rows _ _ c.tell.ensures,
+      ringed-changed _ _ _ _ c.args.who _ c.ring.ensures.short (ringed-same _ _ _ _ c.self.invariant.5 (λ s k. refl) c.room-2.ensures) put (c.ring.ensures.rings _),
     )
 
 pub returns-clause-ok : goal.returns-clause-ok

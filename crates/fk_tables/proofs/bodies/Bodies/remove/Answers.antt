@@ -6,6 +6,7 @@ use Rattle.fk_tables.proofs.ScanLaws.{get-who}
 use Rattle.fk_tables.proofs.MarkLaws.{marked-remove}
 use Rattle.fk_tables.proofs.HomeLaws.{homed-remove, born-low}
 use Rattle.fk_tables.proofs.NameLaws.{who_naming}
+use Rattle.fk_tables.proofs.RingedLaws.{unled-with, ringed-changed}
 use Rattle.fk_tables.proofs.ToldLaws.{told-taken}
 use Rattle.fk_tables.proofs.bodies.Bodies.remove.Goals as goal
 
@@ -26,6 +27,8 @@ invariant_of-self c =
           c.counted-self-inside.ensures),
       rw (remove_rows who_naming _ _ c.args.who.space c.args.who.slot c.take_value-gone.ensures.left) (marked-remove _ _ c.args.who c.self.invariant.3),
       told-taken _ _ c.self.invariant.4 _ c.args.who c.take_value-gone.ensures.left,
+      ringed-changed _ _ _ _ c.args.who _ c.ring.ensures.short c.self.invariant.5 c.take_value-gone.ensures.left
+          (λ are. unled-with _ _ c.args.who (c.ring.ensures.rings _ are)),
     )
 
 pub returns : goal.returns

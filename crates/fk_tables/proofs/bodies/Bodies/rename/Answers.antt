@@ -5,6 +5,7 @@ use Rattle.fk_tables.specs.Marks.{is_of_pages}
 use Rattle.fk_tables.proofs.HeldLaws.{enough-rename}
 use Rattle.fk_tables.proofs.MarkLaws.{marked-rename, mark_low}
 use Rattle.fk_tables.proofs.HomeLaws.{homed-rename, born-low}
+use Rattle.fk_tables.proofs.RingedLaws.{unled-with, ringed-changed}
 use Rattle.fk_tables.proofs.ToldLaws.{this-cell, others-laid, told-rows}
 use Rattle.fk_tables.proofs.ScanLaws.{get-who, get-moved, not_gone}
 use Rattle.fk_tables.proofs.bodies.Bodies.rename.Goals as goal
@@ -41,6 +42,10 @@ invariant_of-self c =
       marked-rename _ _ _ _ c.args.from c.args.to c.in-Some.stored there renamed
           (rw (c.is_of_pages.ensures, c.body.ensures) at c.mark.ensures) c.self.invariant.3,
       told-rows _ _ c.tell.ensures,
+      ringed-changed _ _ _ _ c.args.to _ c.ring-in-Some.ensures.short
+          (ringed-changed _ _ _ _ c.args.from _ c.ring.ensures.short c.self.invariant.5 c.take_value.ensures.left
+          (λ are. unled-with _ _ c.args.from (c.ring.ensures.rings _ are)))
+          c.lay_value.ensures.laid (λ are. rw c.body.ensures at c.ring-in-Some.ensures.rings _ are),
     )
 
 pub invariant_of-self-in_default : goal.invariant_of-self-in_default

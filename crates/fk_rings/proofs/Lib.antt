@@ -1,0 +1,3 @@
+mod LinkLaws
+pub mod NodeLaws
+mod RingLaws

@@ -1,0 +1,3 @@
+pub mod Nodes
+pub mod Rings
+pub mod Links

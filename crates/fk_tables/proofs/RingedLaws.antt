@@ -1,0 +1,197 @@
+-- The pointers of all objects stand in their rings, as objects come, go and change.
+use Rattle.std.proofs.Common.{◌≡◌, ◌≢◌, ℕ, zero, suc, ◌+◌, ◌*◌, ◌/◌, ◌%◌, ◌<◌, ◌≤◌, ltb, Bool, true, false, cond, ◌==◌, ◌&&◌, List, [], Option, Some, None, option_map, inl, inr, refl, sym, ap, subst, ◌∙◌, arith}
+use Rattle.std.proofs.lemmas.Bool.Decides.{nat_tests}
+use Rattle.fk_model.specs.declared.names.Who.{Who}
+use Rattle.fk_model.specs.declared.thread.Mode.{Mode}
+use Rattle.fk_model.specs.declared.thread.Talk.{Talk}
+use Rattle.fk_model.specs.declared.thread.Fault.{Fault}
+use Rattle.fk_model.specs.declared.body.Body.{Body}
+use Rattle.fk_model.specs.declared.body.Body.TheVariants.{Mutex, Cond, Mapping, Region, Port, Portset, Space, Thread, Reference}
+use Rattle.fk_model.specs.Objects.{and_then}
+use Rattle.fk_slots.specs.Cells.{cell}
+use Rattle.fk_hints.specs.declared.lead.Sort.{Sort}
+use Rattle.fk_hints.specs.declared.lead.Sort.TheVariants.{Pointer, Served, Taken}
+use Rattle.fk_hints.specs.declared.lead.Lead.{Lead}
+use Rattle.fk_hints.specs.Leads.{lead_by, led}
+use Rattle.fk_rings.specs.declared.row.Link.{Link}
+use Rattle.fk_rings.specs.Links.{AreRings}
+use Rattle.fk_rings.specs.Nodes.{space_of, slot_of, field_of, is_of, is_head, node_of, who_of}
+use Rattle.fk_rings.specs.Rings.{put_at}
+use Rattle.fk_rings.proofs.NodeLaws.{AreRings-along}
+use Rattle.fk_tables.specs.Names.{at, same_who}
+use Rattle.fk_tables.specs.Ringed.{pointed, pointed_by, target, owner, owner_with, AreRinged}
+use Rattle.fk_tables.specs.Threads.{proceeded}
+use Rattle.fk_tables.proofs.HintLaws.{led-proceeded}
+use Rattle.fk_tables.proofs.NameLaws.{same_who_eq}
+
+abbrev pub Cells : Type 0
+Cells = List (List (Option Body))
+
+abbrev pub Rows : Type 0
+Rows = List (List Link) × Bool
+
+-- ---- the pointers of one object, field by field
+
+module _ (others : ℕ → Option Who) (who : Who) (b : Body) where
+  -- the fields so far
+  abbrev pub so_far : ℕ → ℕ → Option Who
+  so_far f n = cond (is_of who n && ltb (n % 5) f) (target (n % 5) b) (others n)
+
+  low_none : (n : ℕ) → ltb n 0 ≡ false
+  low_none n = grind (arith, nat_tests)
+
+  pub none_yet : (r : Rows) → AreRings r others → AreRings r (so_far 0)
+  none_yet r = AreRings-along r others (so_far 0) (λ n field. rw (low_none (n % 5)) (by n (is_of who n)))
+    where
+      by : (n : ℕ) (a : Bool) → cond (a && false) (target (n % 5) b) (others n) ≡ others n
+      by n true = refl
+      by n false = refl
+
+  module _ (f : ℕ) (few : f < 5) (short : who.slot < 256) where
+    -- a node is that of this field
+    here_is : (n : ℕ) → n ≡ node_of who f → (is_of who n ≡ true) × (n % 5 ≡ f)
+    here_is n is =
+        let space : n / 1280 ≡ who.space = omega (arith, is, few, short) in
+        let slot : n / 5 % 256 ≡ who.slot = omega (arith, is, few, short) in
+        let rest : n % 5 ≡ f = omega (arith, is, few) in
+        (grind (arith, nat_tests), rest)
+
+    is_here : (n : ℕ) → is_of who n ≡ true → n % 5 ≡ f → n ≡ node_of who f
+    is_here n is rest =
+        let space : n / 1280 ≡ who.space = grind (arith, nat_tests) in
+        let slot : n / 5 % 256 ≡ who.slot = grind (arith, nat_tests) in
+        omega (arith, space, slot, rest)
+
+    more-at : (n : ℕ) → so_far (f + 1) n ≡ put_at (so_far f) (node_of who f) (target f b) n
+    more-at n = go (is_of who n) refl (n == node_of who f) refl (ltb (n % 5) (f + 1)) refl (ltb (n % 5) f) refl
+      where
+        go : (a : Bool) → is_of who n ≡ a → (c : Bool) → (n == node_of who f) ≡ c → (p : Bool) → ltb (n % 5) (f + 1) ≡ p → (q : Bool) → ltb (n % 5) f ≡ q →
+            cond (a && p) (target (n % 5) b) (others n) ≡ cond c (target f b) (cond (a && q) (target (n % 5) b) (others n))
+        go false e true g p h q k = let same : n ≡ node_of who f = grind (arith, nat_tests) in let here = here_is n same in absurd (cc)
+        go false e false g p h q k = refl
+        go true e true g true h q k = let same : n ≡ node_of who f = grind (arith, nat_tests) in let here = here_is n same in ap (λ i. target i b) here.1
+        go true e true g false h q k =
+            let same : n ≡ node_of who f = grind (arith, nat_tests) in
+            let here = (here_is n same).1 in
+            absurd (grind (arith, nat_tests))
+        go true e false g true h true k = refl
+        go true e false g true h false k =
+            let rest : n % 5 ≡ f = grind (arith, nat_tests) in
+            let same = is_here n e rest in
+            absurd (grind (arith, nat_tests))
+        go true e false g false h true k = absurd (grind (arith, nat_tests))
+        go true e false g false h false k = refl
+
+    pub one_more : (r : Rows) → AreRings r (put_at (so_far f) (node_of who f) (target f b)) → AreRings r (so_far (f + 1))
+    one_more r = AreRings-along r _ (so_far (f + 1)) (λ n field. more-at n)
+
+  pub all_fields : (r : Rows) (f : ℕ) → 5 ≤ f → AreRings r (so_far f) → AreRings r (owner_with others who (Some b))
+  unfolding owner_with
+  all_fields r f all = AreRings-along r (so_far f) (owner_with others who (Some b)) (λ n field. sym (rw (low n) (by n (is_of who n))))
+    where
+      low : (n : ℕ) → ltb (n % 5) f ≡ true
+      low n = let few : n % 5 < 5 = omega arith in grind (arith, nat_tests)
+
+      by : (n : ℕ) (a : Bool) → cond (a && true) (target (n % 5) b) (others n) ≡ cond a (target (n % 5) b) (others n)
+      by n true = refl
+      by n false = refl
+
+-- a head is no pointer
+pub head_put : (r : Rows) (others : ℕ → Option Who) (who : Who) (f : ℕ) (o : Option Who) → f ≡ 2 → AreRings r others → AreRings r (put_at others (node_of who f) o)
+head_put r others who f o two = AreRings-along r others (put_at others (node_of who f) o) (λ n field. by n field (n == node_of who f) refl)
+  where
+    by : (n : ℕ) → is_head n ≡ false → (c : Bool) → (n == node_of who f) ≡ c → cond c o (others n) ≡ others n
+    by n field false e = refl
+    by n field true e =
+        let is : n ≡ node_of who f = grind (arith, nat_tests) in
+        let rest : n % 5 ≡ 2 = omega (arith, is, two) in absurd (grind (arith, nat_tests))
+
+-- all fields but one tell it, and that one isn't the first
+pub either_way : {P : Type 0} (f : ℕ) → (0 < f → P) → (f ≢ 2 → P) → P
+either_way zero a b = b (λ e. absurd (omega (arith, e)))
+either_way (suc f) a b = a (omega arith)
+
+-- ---- objects come and go
+
+-- who leads nowhere is as one that isn't there
+pub unled-with : (r : Rows) (others : ℕ → Option Who) (who : Who) → AreRings r (owner_with others who (Some Cond)) → AreRings r (owner_with others who None)
+unfolding owner_with target led
+unled-with r others who = AreRings-along r _ _ (λ n field. refl)
+
+changed-owner : (rows now : Cells) (who : Who) (o : Option Body) → ((s k : ℕ) → cell now s k ≡ cond (s == who.space && k == who.slot) o (cell rows s k)) →
+    (n : ℕ) → owner now n ≡ owner_with (owner rows) who o n
+unfolding owner owner_with
+changed-owner rows now who o changes n = ap (and_then (target (n % 5))) (changes (n / 1280) (n / 5 % 256)) ∙ by (is_of who n)
+  where
+    by : (t : Bool) → and_then (target (n % 5)) (cond t o (cell rows (n / 1280) (n / 5 % 256))) ≡
+        cond t (and_then (target (n % 5)) o) (and_then (target (n % 5)) (cell rows (n / 1280) (n / 5 % 256)))
+    by true = refl
+    by false = refl
+
+changed-short : (rows now : Cells) (who : Who) (o : Option Body) → who.slot < 256 →
+    ((s k : ℕ) → cell now s k ≡ cond (s == who.space && k == who.slot) o (cell rows s k)) →
+    ((s k : ℕ) (b : Body) → cell rows s k ≡ Some b → k < 256) → (s k : ℕ) (b : Body) → cell now s k ≡ Some b → k < 256
+changed-short rows now who o low changes short s k b there = go (s == who.space) refl (k == who.slot) refl (sym (changes s k) ∙ there)
+  where
+    go : (p : Bool) → (s == who.space) ≡ p → (q : Bool) → (k == who.slot) ≡ q → cond (p && q) o (cell rows s k) ≡ Some b → k < 256
+    go true e true f h = let same : k ≡ who.slot = grind (arith, nat_tests) in omega (arith, same, low)
+    go true e false f h = short s k b h
+    go false e q f h = short s k b h
+
+-- there is another body, or none, at one object
+pub ringed-changed : (rows now : Cells) (r r2 : Rows) (who : Who) (o : Option Body) → who.slot < 256 → AreRinged rows r →
+    ((s k : ℕ) → cell now s k ≡ cond (s == who.space && k == who.slot) o (cell rows s k)) →
+    (AreRings r (owner rows) → AreRings r2 (owner_with (owner rows) who o)) → AreRinged now r2
+ringed-changed rows now r r2 who o low are changes ring = record {
+  rings = AreRings-along r2 _ (owner now) (λ n field. changed-owner rows now who o changes n) (ring are.rings);
+  short = changed-short rows now who o low changes are.short;
+}
+
+-- the same cells
+pub ringed-same : (rows now : Cells) (r r2 : Rows) → AreRinged rows r → ((s k : ℕ) → cell now s k ≡ cell rows s k) →
+    ((others : ℕ → Option Who) → AreRings r others → AreRings r2 others) → AreRinged now r2
+unfolding owner
+ringed-same rows now r r2 are same ring = record {
+  rings = AreRings-along r2 _ (owner now) (λ n field. ap (and_then (target (n % 5))) (same (n / 1280) (n / 5 % 256))) (ring (owner rows) are.rings);
+  short = λ s k b there. are.short s k b (sym (same s k) ∙ there);
+}
+
+pub ringed-empty : (r : Rows) → AreRings r (λ n. None) → AreRinged [] r
+unfolding owner cell
+ringed-empty r are = record {
+  rings = AreRings-along r (λ n. None) (owner []) (λ n field. refl) are;
+  short = λ s k b there. absurd (cc);
+}
+
+-- it is taken, and laid again
+pub relaid : (rows taken laid : Cells) (who : Who) (b : Body) →
+    ((s k : ℕ) → cell taken s k ≡ cond (s == who.space && k == who.slot) None (cell rows s k)) →
+    ((s k : ℕ) → cell laid s k ≡ cond (s == who.space && k == who.slot) (Some b) (cell taken s k)) →
+    (s k : ℕ) → cell laid s k ≡ cond (s == who.space && k == who.slot) (Some b) (cell rows s k)
+relaid rows taken laid who b left lays s k = lays s k ∙ ap (cond (s == who.space && k == who.slot) (Some b)) (left s k) ∙ by (s == who.space && k == who.slot)
+  where
+    by : (t : Bool) → cond t (Some b) (cond t None (cell rows s k)) ≡ cond t (Some b) (cell rows s k)
+    by true = refl
+    by false = refl
+
+-- a thread goes on
+pub ringed-proceeded : (rows now : Cells) (r : Rows) (registers : List ℕ) (counter : ℕ) (mode : Mode) (who : Who) (old : Body) → AreRinged rows r →
+    cell rows who.space who.slot ≡ Some old →
+    ((s k : ℕ) → cell now s k ≡ cond (s == who.space && k == who.slot) (Some (proceeded registers counter mode old)) (cell rows s k)) → AreRinged now r
+unfolding owner_with owner target
+ringed-proceeded rows now r registers counter mode who old are there changes =
+    ringed-changed rows now r r who (Some (proceeded registers counter mode old)) (are.short who.space who.slot old there) are changes
+    (AreRings-along r (owner rows) (owner_with (owner rows) who (Some (proceeded registers counter mode old))) same)
+  where
+    same : (n : ℕ) → is_head n ≡ false → owner_with (owner rows) who (Some (proceeded registers counter mode old)) n ≡ owner rows n
+    same n field = by (n / 1280 == who.space) refl (n / 5 % 256 == who.slot) refl
+      where
+        by : (p : Bool) → (n / 1280 == who.space) ≡ p → (q : Bool) → (n / 5 % 256 == who.slot) ≡ q →
+            cond (p && q) (and_then pointed (led (proceeded registers counter mode old) (n % 5))) (owner rows n) ≡ owner rows n
+        by false e q f = refl
+        by true e false f = refl
+        by true e true f =
+            let space : n / 1280 ≡ who.space = grind (arith, nat_tests) in
+            let slot : n / 5 % 256 ≡ who.slot = grind (arith, nat_tests) in
+            let here : cell rows (n / 1280) (n / 5 % 256) ≡ Some old = (λ i. cell rows (space i) (slot i)) ∙ there in
+            ap (and_then pointed) (led-proceeded registers counter mode old (n % 5)) ∙ sym (ap (and_then (target (n % 5))) here)

@@ -1,0 +1,100 @@
+//! The pointers of all objects stand in the rings of what they lead to.
+ghost use Rattle.std.specs.Prelude.{◌≡◌, ◌≢◌, ◌<◌, ◌≤◌, ℕ, Option, Some, option_map, length, false};
+ghost use Rattle.fk_model.specs.declared.names.Who.{Who};
+ghost use Rattle.fk_model.specs.declared.body.Body.{Body};
+ghost use Rattle.fk_slots.specs.Cells.{cell};
+ghost use Rattle.fk_rings.specs.Links.{AreRings};
+ghost use Rattle.fk_rings.specs.Nodes.{node_of};
+ghost use Rattle.fk_rings.specs.Rings.{put_at};
+ghost use Rattle.fk_tables.specs.Ringed as ringed;
+ghost use Rattle.fk_tables.specs.Ringed.{owner_with, AreRinged};
+ghost use Rattle.fk_tables.specs.Sweeps.{body_after};
+
+use crate::scans::{sweep_at, sweep_each, sweep_home};
+use crate::stored::Stored;
+use crate::sweeps::Sweep;
+use fk_hints::{Sort, led};
+use fk_model::{Body, Who};
+use fk_rings::Rings;
+use fk_slots::{Row, value_at};
+
+/// Where a field of a body leads as a pointer.
+#[tactic(auto, unfolding(crate::specs::Ringed::target))]
+fn target(body: &Body, field: u8) -> Option<Who>
+    ensures { result ≡ ringed.target field body.now }
+{
+    let lead = led(body, field)?;
+    match lead.sort {
+        Sort::Pointer => Some(lead.to),
+        Sort::Served | Sort::Taken => None,
+    }
+}
+
+/// The pointers of an object lead where its body says.
+pub fn ring(rings: &mut Rings, who: Who, body: &Body)
+    ensures rings { (others : ℕ → Option Who) → AreRings rings.old others → AreRings rings.new (owner_with others who (Some body.now)) }
+    ensures short { who.slot < 256 }
+{
+    for field in 0..5u8 {
+        ring_field(rings, who, field, body);
+    }
+}
+
+/// One pointer of an object leads where its body says. The field at 2 is none.
+fn ring_field(rings: &mut Rings, who: Who, field: u8, body: &Body)
+    requires { field < 5 }
+    ensures rings { (others : ℕ → Option Who) → AreRings rings.old others
+        → AreRings rings.new (put_at others (node_of who field) (ringed.target field body.now)) }
+    ensures short { field ≢ 2 → who.slot < 256 }
+{
+    if field != 2 {
+        rings.point(who, field, target(body, field));
+    }
+}
+
+/// The pointers of an object lead where it says, and nowhere if it isn't there.
+fn ring_at(rings: &mut Rings, rows: &Vec<Row<Stored>>, who: Who)
+    ensures { (others : ℕ → Option Who) → AreRings rings.old others
+        → AreRings rings.new (owner_with others who (cell rows.now.items who.space who.slot)) }
+{
+    match value_at(rows, who.space, who.slot) {
+        None => ring(rings, who, &Body::Cond),
+        Some(stored) => ring(rings, who, stored.body()),
+    }
+}
+
+/// Sweeps all bodies. Those that lead there are found by their ring, and the ports by their space.
+pub fn sweep_ringed(rows: &mut Vec<Row<Stored>>, rings: &mut Rings, sweep: Sweep)
+    requires few { length rows.old.items ≤ 4294967296 }
+    requires ringed { AreRinged rows.old.items rings.old }
+    ensures swept { (s k : ℕ) → cell rows.new.items s k ≡ option_map (body_after sweep s) (cell rows.old.items s k) }
+    ensures long { length rows.new.items ≡ length rows.old.items }
+    ensures ringed { AreRinged rows.new.items rings.new }
+{
+    if sweep.stays() {
+        rings.give_up();
+        sweep_each(rows, sweep);
+    } else {
+        sweep_others(rows, rings, sweep);
+    }
+}
+
+/// Sweeps all bodies, where the object doesn't stay what it is.
+fn sweep_others(rows: &mut Vec<Row<Stored>>, rings: &mut Rings, sweep: Sweep)
+    requires few { length rows.old.items ≤ 4294967296 }
+    requires ringed { AreRinged rows.old.items rings.old }
+    requires other { sweep.to ≢ Some sweep.from }
+    ensures swept { (s k : ℕ) → cell rows.new.items s k ≡ option_map (body_after sweep s) (cell rows.old.items s k) }
+    ensures long { length rows.new.items ≡ length rows.old.items }
+    ensures ringed { AreRinged rows.new.items rings.new }
+{
+    while let Some(who) = rings.one_to(sweep.from) {
+        sweep_at(rows, sweep, who);
+        ring_at(rings, rows, who);
+    }
+    if rings.are_lost() {
+        sweep_each(rows, sweep);
+    } else {
+        sweep_home(rows, sweep);
+    }
+}
