@@ -1,11 +1,11 @@
 -- NodeLaws: nodes by number, and rings by owners.
-use Rattle.std.proofs.Common.{◌≡◌, ◌≢◌, ℕ, ◌+◌, ◌*◌, ◌/◌, ◌%◌, ◌<◌, ◌≤◌, Bool, true, false, cond, ◌==◌, List, [], Option, Some, None, IfSome, refl, sym, ap, subst, ◌∙◌, arith}
+use Rattle.std.proofs.Common.{◌≡◌, ◌≢◌, ℕ, ◌/◌, ◌%◌, ◌<◌, Bool, true, false, cond, ◌==◌, List, [], Option, Some, None, IfSome, refl, sym, ap, subst, ◌∙◌, arith}
 use Rattle.std.proofs.lemmas.Bool.Decides.{nat_tests}
 use Rattle.fk_model.specs.declared.names.Who.{Who}
 use Rattle.fk_rings.specs.declared.row.Link.{Link}
-use Rattle.fk_rings.specs.Links.{next_at, prev_at, IsRinged, AreRings}
+use Rattle.fk_rings.specs.Links.{next_at, prev_at, AreRings}
 use Rattle.fk_rings.specs.Nodes.{is_head, node_of, who_of, headed}
-use Rattle.fk_rings.specs.Rings.{put_at, IsRings}
+use Rattle.fk_rings.specs.Rings.{put_at}
 use Rattle.fk_rings.proofs.RingLaws.{IsRings-along, is_alone, unlinked, relinked, unled, behind}
 
 pub head_is : (w : Who) → is_head (node_of w 2) ≡ true

@@ -1,5 +1,5 @@
 -- RingLaws: a pointer leaves its ring, or joins one.
-use Rattle.std.proofs.Common.{◌≡◌, cond, ◌==◌, ap, ℕ, zero, suc, ◌+◌, ◌<◌, ◌≤◌, Bool, true, false, Option, Some, None, refl, sym, subst, ◌∙◌, arith}
+use Rattle.std.proofs.Common.{◌≡◌, ap, ℕ, zero, suc, ◌+◌, ◌<◌, ◌≤◌, Bool, true, false, Option, Some, None, refl, sym, subst, ◌∙◌, arith}
 use Rattle.std.proofs.lemmas.Bool.Decides.{nat_tests}
 use Rattle.fk_rings.specs.Rings.{put_at, IsRings}
 

@@ -1,5 +1,5 @@
 -- All bodies are swept, where those that lead there are found by their ring.
-use Rattle.std.proofs.Common.{◌≡◌, ◌≢◌, ◌⊎◌, inl, inr, ℕ, suc, ◌+◌, ◌*◌, ◌/◌, ◌%◌, ◌<◌, ltb, Bool, true, false, cond, ◌==◌, ◌&&◌, List, Option, Some, None, option_map, refl, sym, ap, subst, ◌∙◌, arith}
+use Rattle.std.proofs.Common.{◌≡◌, ◌≢◌, inl, inr, ℕ, suc, ◌+◌, ◌/◌, ◌%◌, ◌<◌, ltb, Bool, true, false, cond, ◌==◌, ◌&&◌, Option, Some, None, option_map, refl, sym, ap, subst, ◌∙◌, arith}
 use Rattle.std.proofs.lemmas.Bool.Decides.{nat_tests}
 use Rattle.std.specs.List.{sum_by}
 use Rattle.std.specs.FinMap as finmap
@@ -19,21 +19,20 @@ use Rattle.fk_hints.specs.declared.lead.Sort.{Sort}
 use Rattle.fk_hints.specs.declared.lead.Sort.TheVariants.{Pointer, Served, Taken}
 use Rattle.fk_hints.specs.declared.lead.Lead.{Lead}
 use Rattle.fk_hints.specs.Leads.{lead_by, first, peer, server, of_talk, of_fault, of_thread, led}
-use Rattle.fk_rings.specs.declared.row.Link.{Link}
 use Rattle.fk_rings.specs.Links.{AreRings}
 use Rattle.fk_rings.specs.Nodes.{is_head, node_of, who_of}
-use Rattle.fk_rings.proofs.NodeLaws.{AreRings-along, rings_lost}
+use Rattle.fk_rings.proofs.NodeLaws.{AreRings-along}
 use Rattle.fk_tables.specs.Names.{at, same_who, who_cmp}
-use Rattle.fk_tables.specs.Pointers.{hit, hits_in}
+use Rattle.fk_tables.specs.Pointers.{hit, hits_in, body_hits}
 use Rattle.fk_tables.specs.Ringed.{pointed, pointed_by, target, owner, owner_with, AreRinged}
-use Rattle.fk_tables.specs.Sweeps.{after, set_after, body_after}
+use Rattle.fk_tables.specs.Sweeps.{set_after, body_after}
 use Rattle.fk_tables.specs.declared.sweeps.Sweep.{Sweep}
 use Rattle.fk_tables.proofs.HeldLaws.{total_put}
 use Rattle.fk_tables.proofs.HintLaws.{led-came, body-off}
 use Rattle.fk_tables.proofs.NameLaws.{who_total, who_naming, same_who_eq, same_who_refl}
 use Rattle.fk_tables.proofs.RingedLaws.{Cells, Rows, ringed-changed}
 use Rattle.fk_tables.proofs.ScanLaws.{get-who}
-use Rattle.fk_tables.proofs.ToldLaws.{swept-home}
+use Rattle.fk_tables.proofs.ToldLaws.{hits-led, not_nonzero, swept-home}
 
 -- ---- pointers by field
 
@@ -124,6 +123,28 @@ target-led b i w h = go (led b i) h
     go : (o : Option Lead) → and_then pointed o ≡ Some w → o ≡ Some (lead_by Pointer w)
     go None h = absurd (cc)
     go (Some l) h = by l l.sort refl h
+
+-- ---- no pointer leads there
+
+nobody : (rows : Cells) (r : Rows) → AreRinged rows r → (who : Who) → ((n : ℕ) → is_head n ≡ false → owner rows n ≢ Some who) →
+    (q : Who) (b : Body) (i : ℕ) → cell rows q.space q.slot ≡ Some b → led b i ≢ Some (lead_by Pointer who)
+unfolding owner
+nobody rows r ringed who none q b i there leads =
+    let low : q.slot < 256 = ringed.short q.space q.slot b there in
+    let field = pointer_field b i who leads in
+    let few = field.0 in
+    let apart = field.1 in
+    let space : node_of q i / 1280 ≡ q.space = omega (arith, low, few) in
+    let slot : node_of q i / 5 % 256 ≡ q.slot = omega (arith, low, few) in
+    let rest : node_of q i % 5 ≡ i = omega (arith, few) in
+    none (node_of q i) (grind (arith, nat_tests))
+    ((λ j. and_then (target (rest j)) (cell rows (space j) (slot j))) ∙ ap (and_then (target i)) there ∙ led-target b i who leads)
+
+pub nobody-hits : (rows : Cells) (r : Rows) → AreRinged rows r → (who : Who) → ((n : ℕ) → is_head n ≡ false → owner rows n ≢ Some who) →
+    (q : Who) (b : Body) → get (map_of_rows who_cmp at rows) q ≡ Some b → body_hits who b ≡ 0
+nobody-hits rows r ringed who none q b there = not_nonzero (body_hits who b) (λ hits.
+    let leads = hits-led who b hits in
+    nobody rows r ringed who none q b leads.0 (sym (get-who rows q) ∙ there) leads.1)
 
 -- ---- how many pointers lead there
 
@@ -317,22 +338,9 @@ module _ (sweep : Sweep) where
   -- no pointer leads there any more
   module _ (rows : Cells) (r : Rows) (ringed : AreRinged rows r)
       (none : (n : ℕ) → is_head n ≡ false → owner rows n ≢ Some sweep.from) where
-    nobody : (q : Who) (b : Body) (i : ℕ) → cell rows q.space q.slot ≡ Some b → led b i ≢ Some (lead_by Pointer sweep.from)
-    unfolding owner
-    nobody q b i there leads =
-        let low : q.slot < 256 = ringed.short q.space q.slot b there in
-        let field = pointer_field b i sweep.from leads in
-        let few = field.0 in
-        let apart = field.1 in
-        let space : node_of q i / 1280 ≡ q.space = omega (arith, low, few) in
-        let slot : node_of q i / 5 % 256 ≡ q.slot = omega (arith, low, few) in
-        let rest : node_of q i % 5 ≡ i = omega (arith, few) in
-        none (node_of q i) (grind (arith, nat_tests))
-        ((λ j. and_then (target (rest j)) (cell rows (space j) (slot j))) ∙ ap (and_then (target i)) there ∙ led-target b i sweep.from leads)
-
     pub left-swept : (new : Cells) → ((s k : ℕ) → cell new s k ≡ cond (s == sweep.from.space) (option_map (body_after sweep s) (cell rows s k)) (cell rows s k)) →
         (s k : ℕ) → cell new s k ≡ option_map (body_after sweep s) (cell rows s k)
-    left-swept new home = swept-home rows sweep new home (λ q b i off there leads. nobody q b i there leads)
+    left-swept new home = swept-home rows sweep new home (λ q b i off there leads. nobody rows r ringed sweep.from none q b i there leads)
 
     pub left-ringed : (new : Cells) → ((s k : ℕ) → cell new s k ≡ option_map (body_after sweep s) (cell rows s k)) → AreRinged new r
     unfolding owner target
@@ -347,4 +355,4 @@ module _ (sweep : Sweep) where
             go : (o : Option Body) → cell rows (n / 1280) (n / 5 % 256) ≡ o →
                 and_then (target (n % 5)) (option_map (body_after sweep (n / 1280)) o) ≡ and_then (target (n % 5)) o
             go None e = refl
-            go (Some b) e = ap (and_then pointed) (led-kept (n / 1280) b (λ i. nobody (at (n / 1280) (n / 5 % 256)) b i e) (n % 5))
+            go (Some b) e = ap (and_then pointed) (led-kept (n / 1280) b (λ i. nobody rows r ringed sweep.from none (at (n / 1280) (n / 5 % 256)) b i e) (n % 5))

@@ -1,28 +1,21 @@
 -- The pointers of all objects stand in their rings, as objects come, go and change.
-use Rattle.std.proofs.Common.{◌≡◌, ◌≢◌, ℕ, zero, suc, ◌+◌, ◌*◌, ◌/◌, ◌%◌, ◌<◌, ◌≤◌, ltb, Bool, true, false, cond, ◌==◌, ◌&&◌, List, [], Option, Some, None, option_map, inl, inr, refl, sym, ap, subst, ◌∙◌, arith}
+use Rattle.std.proofs.Common.{◌≡◌, ◌≢◌, ℕ, zero, suc, ◌+◌, ◌/◌, ◌%◌, ◌<◌, ◌≤◌, ltb, Bool, true, false, cond, ◌==◌, ◌&&◌, List, [], Option, Some, None, refl, sym, ap, ◌∙◌, arith}
 use Rattle.std.proofs.lemmas.Bool.Decides.{nat_tests}
 use Rattle.fk_model.specs.declared.names.Who.{Who}
 use Rattle.fk_model.specs.declared.thread.Mode.{Mode}
-use Rattle.fk_model.specs.declared.thread.Talk.{Talk}
-use Rattle.fk_model.specs.declared.thread.Fault.{Fault}
 use Rattle.fk_model.specs.declared.body.Body.{Body}
-use Rattle.fk_model.specs.declared.body.Body.TheVariants.{Mutex, Cond, Mapping, Region, Port, Portset, Space, Thread, Reference}
+use Rattle.fk_model.specs.declared.body.Body.TheVariants.{Cond}
 use Rattle.fk_model.specs.Objects.{and_then}
 use Rattle.fk_slots.specs.Cells.{cell}
-use Rattle.fk_hints.specs.declared.lead.Sort.{Sort}
-use Rattle.fk_hints.specs.declared.lead.Sort.TheVariants.{Pointer, Served, Taken}
-use Rattle.fk_hints.specs.declared.lead.Lead.{Lead}
-use Rattle.fk_hints.specs.Leads.{lead_by, led}
+use Rattle.fk_hints.specs.Leads.{led}
 use Rattle.fk_rings.specs.declared.row.Link.{Link}
 use Rattle.fk_rings.specs.Links.{AreRings}
-use Rattle.fk_rings.specs.Nodes.{space_of, slot_of, field_of, is_of, is_head, node_of, who_of}
+use Rattle.fk_rings.specs.Nodes.{is_of, is_head, node_of}
 use Rattle.fk_rings.specs.Rings.{put_at}
 use Rattle.fk_rings.proofs.NodeLaws.{AreRings-along}
-use Rattle.fk_tables.specs.Names.{at, same_who}
-use Rattle.fk_tables.specs.Ringed.{pointed, pointed_by, target, owner, owner_with, AreRinged}
+use Rattle.fk_tables.specs.Ringed.{pointed, target, owner, owner_with, AreRinged}
 use Rattle.fk_tables.specs.Threads.{proceeded}
 use Rattle.fk_tables.proofs.HintLaws.{led-proceeded}
-use Rattle.fk_tables.proofs.NameLaws.{same_who_eq}
 
 abbrev pub Cells : Type 0
 Cells = List (List (Option Body))

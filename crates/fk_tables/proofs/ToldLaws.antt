@@ -24,7 +24,6 @@ use Rattle.fk_slots.proofs.TabledLaws.{sum-entries}
 use Rattle.fk_hints.specs.declared.lead.Sort.{Sort}
 use Rattle.fk_hints.specs.declared.lead.Sort.TheVariants.{Pointer, Served, Taken}
 use Rattle.fk_hints.specs.declared.lead.Lead.{Lead}
-use Rattle.fk_hints.specs.declared.told.Told.TheVariants.{Nobody}
 use Rattle.fk_hints.specs.declared.told.Tellers.{Tellers}
 use Rattle.fk_hints.specs.Leads.{lead_by, pointer, peer, server, of_talk, of_fault, of_thread, led}
 use Rattle.fk_hints.specs.Told.{Tells, told_at}
@@ -388,34 +387,6 @@ module _ (rows : List (List (Option Body))) (sweep : Sweep) where
       go true e = refl
       go false e = untouched s k e (λ b i leads. off (at s k) b i e leads.0 leads.1)
 
-  -- one leads there from another space
-  pub swept-one : (mid new : List (List (Option Body))) (who : Who) → (who.space == sweep.from.space) ≡ false →
-      ((s k : ℕ) → cell mid s k ≡ cond (s == who.space && k == who.slot) (swept_cell s k) (cell rows s k)) →
-      ((s k : ℕ) → cell new s k ≡ cond (s == sweep.from.space) (option_map (body_after sweep s) (cell mid s k)) (cell mid s k)) →
-      ((q : Who) (b : Body) (i : ℕ) → cell rows q.space q.slot ≡ Some b → led b i ≡ Some (lead_by Pointer sweep.from) → who ≡ q) →
-      (s k : ℕ) → cell new s k ≡ swept_cell s k
-  swept-one mid new who apart here home told s k = home s k ∙ go (s == sweep.from.space) refl (s == who.space && k == who.slot) refl
-    where
-      go : (a : Bool) → (s == sweep.from.space) ≡ a → (c : Bool) → (s == who.space && k == who.slot) ≡ c →
-          cond a (option_map (body_after sweep s) (cell mid s k)) (cell mid s k) ≡ swept_cell s k
-      go true e true f = absurd (grind (arith, nat_tests))
-      go true e false f = ap (option_map (body_after sweep s)) (here s k ∙ ap (λ t. cond t (swept_cell s k) (cell rows s k)) f)
-      go false e true f = here s k ∙ ap (λ t. cond t (swept_cell s k) (cell rows s k)) f
-      go false e false f =
-          here s k ∙ ap (λ t. cond t (swept_cell s k) (cell rows s k)) f
-          ∙ untouched s k e (λ b i leads. let same = told (at s k) b i leads.0 leads.1 in apart_from same f)
-        where
-          apart_from : who ≡ at s k → (s == who.space && k == who.slot) ≡ false → ⊥
-          apart_from same f = let yes = ap (λ w. same_who (at s k) w) same ∙ same_who_refl (at s k) in absurd (cc)
-
-pub same_space : (who q from : Who) → who.space ≡ from.space → (q.space == from.space) ≡ false → who ≡ q → ⊥
-same_space who q from here off same =
-    let there : q.space ≡ from.space = sym (ap (λ (w : Who). w.space) same) ∙ here in
-    absurd (grind (arith, nat_tests))
-
-pub apart_spaces : (a b : ℕ) → a ≢ b → (a == b) ≡ false
-apart_spaces a b h = grind (arith, nat_tests)
-
 -- ---- none is held after a sweep where none was before
 
 held_after : (sweep : Sweep) (space : ℕ) (b : Body) → is_held b ≡ false → is_held (body_after sweep space b) ≡ false
@@ -442,10 +413,3 @@ none-left rows new sweep count enough swept none = sum-none new (λ b. one_if (i
         let same : body_after sweep q.space a ≡ b = cc in
         let off = none-held (map_of_rows who_cmp at rows) (none-counted (map_of_rows who_cmp at rows) count enough none) q a (get-who rows q ∙ e) in
         ap one_if (ap is_held (sym same) ∙ held_after sweep q.space a off)
-
--- nobody is told of, so no pointer leads there
-pub none-hits : (bodies : FinMap who_cmp Body) (hints : Hinted) → AreTold bodies hints → (who : Who) → told_at hints who Pointer ≡ Nobody →
-    (q : Who) (b : Body) → get bodies q ≡ Some b → body_hits who b ≡ 0
-none-hits bodies hints told who none q b there = not_nonzero (body_hits who b) (λ hits.
-    let leads = hits-led who b hits in
-    subst (λ t. Tells t q) none (told q b leads.0 (lead_by Pointer who) there leads.1))

@@ -28,7 +28,7 @@ use crate::scans::{count_told, first_told};
 use crate::stored::Stored;
 use crate::sweeps::Sweep;
 use crate::telling::tell;
-use fk_hints::{Hints, Sort, Told};
+use fk_hints::{Hints, Sort};
 use fk_model::{Body, Mode, NoMemory, Who};
 use fk_rings::Rings;
 use fk_slots::{Row, lay_value, next_taken, put_value, take_value, value_at};
@@ -215,9 +215,9 @@ impl Bodies {
     pub fn is_led_to(&self, who: Who) -> bool
         ensures { result ≡ false → (q : Who) (b : Body) → map.get self.now q ≡ Some b → body_hits who b ≡ 0 }
     {
-        match self.hints.at(who, Sort::Pointer) {
-            Told::Nobody => false,
-            Told::One(_) | Told::Many => true,
+        match self.rings.one_to(who) {
+            None => self.rings.are_lost(),
+            Some(_) => true,
         }
     }
 

@@ -1,4 +1,4 @@
-use Rattle.std.proofs.Common.{refl, ap, ◌∙◌, arith}
+use Rattle.std.proofs.Common.{refl}
 use Rattle.fk_rings.proofs.NodeLaws.{rings_lost, rings_led}
 use Rattle.fk_rings.proofs.rings.Rings.point_at.Goals as goal
 

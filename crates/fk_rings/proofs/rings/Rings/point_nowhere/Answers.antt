@@ -1,4 +1,4 @@
-use Rattle.std.proofs.Common.{refl, ap, ◌∙◌, arith}
+use Rattle.std.proofs.Common.{refl, ap, ◌∙◌}
 use Rattle.fk_rings.specs.Links.{next_at}
 use Rattle.fk_rings.proofs.NodeLaws.{rings_lost, rings_idle, rings_left}
 use Rattle.fk_rings.proofs.rings.Rings.point_nowhere.Goals as goal
