@@ -188,3 +188,22 @@ ringed-proceeded rows now r registers counter mode who old are there changes =
             let slot : n / 5 % 256 ≡ who.slot = grind (arith, nat_tests) in
             let here : cell rows (n / 1280) (n / 5 % 256) ≡ Some old = (λ i. cell rows (space i) (slot i)) ∙ there in
             ap (and_then pointed) (led-proceeded registers counter mode old (n % 5)) ∙ sym (ap (and_then (target (n % 5))) here)
+
+-- who led nowhere leads nowhere still
+pub still_unled : (r : Rows) (others : ℕ → Option Who) (who : Who) (b : Body) → ((i : ℕ) → led b i ≡ None) → ((n : ℕ) → is_of who n ≡ true → others n ≡ None) →
+    AreRings r others → AreRings r (owner_with others who (Some b))
+unfolding owner_with target
+still_unled r others who b none was = AreRings-along r others _ (λ n field. by n (is_of who n) refl)
+  where
+    by : (n : ℕ) (t : Bool) → is_of who n ≡ t → cond t (and_then pointed (led b (n % 5))) (others n) ≡ others n
+    by n false e = refl
+    by n true e = ap (and_then pointed) (none (n % 5)) ∙ sym (was n e)
+
+-- what leads nowhere has no pointers
+pub unled_nodes : (rows : Cells) (who : Who) (b : Body) → cell rows who.space who.slot ≡ Some b → ((i : ℕ) → led b i ≡ None) →
+    (n : ℕ) → is_of who n ≡ true → owner rows n ≡ None
+unfolding owner target
+unled_nodes rows who b there none n is =
+    let space : n / 1280 ≡ who.space = grind (arith, nat_tests) in
+    let slot : n / 5 % 256 ≡ who.slot = grind (arith, nat_tests) in
+    (λ j. and_then (target (n % 5)) (cell rows (space j) (slot j))) ∙ ap (and_then (target (n % 5))) there ∙ ap (and_then pointed) (none (n % 5))

@@ -1,7 +1,8 @@
 //! The objects and the pages of a store, by name.
 //!
-//! It stands on `fk_model` and on `fk_slots`, which keeps values by birth number and slot, each one
-//! step away. `Bodies` and `Pages` are finite maps to a caller. A name is the birth number of a
+//! It stands on `fk_model`, on `fk_slots`, which keeps values by birth number and slot, each one step
+//! away, on `fk_rings`, by which what leads to an object is found where the object is destroyed or
+//! renamed, and on `fk_hints`, which tells who may serve whom. `Bodies` and `Pages` are finite maps to a caller. A name is the birth number of a
 //! space and a slot or a page there; whether the space is live is nothing to this crate. It promises
 //! what each change makes of the map, and that only what is new takes memory.
 #![tactic(auto)]

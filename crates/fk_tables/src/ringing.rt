@@ -1,10 +1,11 @@
 //! The pointers of all objects stand in the rings of what they lead to.
-ghost use Rattle.std.specs.Prelude.{◌≡◌, ◌≢◌, ◌<◌, ◌≤◌, ℕ, Option, Some, option_map, length, false};
+ghost use Rattle.std.specs.Prelude.{◌≡◌, ◌≢◌, ◌<◌, ◌≤◌, ℕ, Option, Some, None, option_map, length, true, false};
 ghost use Rattle.fk_model.specs.declared.names.Who.{Who};
 ghost use Rattle.fk_model.specs.declared.body.Body.{Body};
 ghost use Rattle.fk_slots.specs.Cells.{cell};
 ghost use Rattle.fk_rings.specs.Links.{AreRings};
-ghost use Rattle.fk_rings.specs.Nodes.{node_of};
+ghost use Rattle.fk_hints.specs.Leads.{led as led_by};
+ghost use Rattle.fk_rings.specs.Nodes.{node_of, is_of};
 ghost use Rattle.fk_rings.specs.Rings.{put_at};
 ghost use Rattle.fk_tables.specs.Ringed as ringed;
 ghost use Rattle.fk_tables.specs.Ringed.{owner_with, AreRinged};
@@ -13,7 +14,7 @@ ghost use Rattle.fk_tables.specs.Sweeps.{body_after};
 use crate::scans::{sweep_at, sweep_each, sweep_home};
 use crate::stored::Stored;
 use crate::sweeps::Sweep;
-use fk_hints::{Sort, led};
+use fk_hints::{Sort, fields, led};
 use fk_model::{Body, Who};
 use fk_rings::Rings;
 use fk_slots::{Row, value_at};
@@ -37,6 +38,24 @@ pub fn ring(rings: &mut Rings, who: Who, body: &Body)
 {
     for field in 0..5u8 {
         ring_field(rings, who, field, body);
+    }
+}
+
+/// A body may lead somewhere.
+#[inline]
+pub fn may_lead(body: &Body) -> bool
+    ensures { result ≡ false → (i : ℕ) → led_by body.now i ≡ None }
+{
+    fields(body) > 0
+}
+
+/// The pointers of an object lead where its body says from now on. It may have led somewhere before.
+pub fn ring_anew(rings: &mut Rings, who: Who, led: bool, body: &Body)
+    ensures { (others : ℕ → Option Who) → (led ≡ false → (n : ℕ) → is_of who n ≡ true → others n ≡ None)
+        → AreRings rings.old others → AreRings rings.new (owner_with others who (Some body.now)) }
+{
+    if led || may_lead(body) {
+        ring(rings, who, body);
     }
 }
 
