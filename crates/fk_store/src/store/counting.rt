@@ -20,6 +20,9 @@ impl Store {
         ensures { result ≡ rows.pointer_count (world self.now) (path self.now base) (path self.now nester) (place_of self.now who) }
     {
         let _below_2_32 = self.next;
+        if !self.is_led_to(who) {
+            return 0;
+        }
         let mut count = 0;
         let mut at = self.after(None);
         while let Some(from) = at {

@@ -9,7 +9,7 @@ use crate::Store;
 use fk_model::Who;
 
 impl Store {
-    /// Some pointer may lead to an object.
+    /// Some pointer may lead to an object. It takes one step.
     pub fn is_led_to(&self, who: Who) -> bool
         ensures { result ≡ false → (x : Path) → pointers_to (place_of self.now who) ((world self.now).body x) ≡ 0 }
     {
