@@ -75,6 +75,21 @@ module _ (others : ℕ → Option Who) (who : Who) (b : Body) where
         go true e false g false h true k = absurd (grind (arith, nat_tests))
         go true e false g false h false k = refl
 
+    -- a field that is yet to come leads where it led
+    pub not_yet : so_far f (node_of who f) ≡ others (node_of who f)
+    not_yet = ap (λ t. cond (is_of who (node_of who f) && t) (target (node_of who f % 5) b) (others (node_of who f))) low ∙ by (is_of who (node_of who f))
+      where
+        low : ltb (node_of who f % 5) f ≡ false
+        low = let rest = (here_is (node_of who f) refl).1 in grind (arith, nat_tests)
+
+        by : (t : Bool) → cond (t && false) (target (node_of who f % 5) b) (others (node_of who f)) ≡ others (node_of who f)
+        by true = refl
+        by false = refl
+
+    -- where this is the object's own field
+    pub own_field : (old : Body) → ((n : ℕ) → is_of who n ≡ true → others n ≡ target (n % 5) old) → so_far f (node_of who f) ≡ target f old
+    own_field old was = let here = here_is (node_of who f) refl in not_yet ∙ was (node_of who f) here.0 ∙ ap (λ i. target i old) here.1
+
     pub one_more : (r : Rows) → AreRings r (put_at (so_far f) (node_of who f) (target f b)) → AreRings r (so_far (f + 1))
     one_more r = AreRings-along r _ (so_far (f + 1)) (λ n field. more-at n)
 
@@ -98,6 +113,22 @@ head_put r others who f o two = AreRings-along r others (put_at others (node_of 
     by n field true e =
         let is : n ≡ node_of who f = grind (arith, nat_tests) in
         let rest : n % 5 ≡ 2 = omega (arith, is, two) in absurd (grind (arith, nat_tests))
+
+-- a pointer that leads where it led
+pub kept_put : (r : Rows) (others : ℕ → Option Who) (who : Who) (f : ℕ) (o : Option Who) → (f ≢ 2 → others (node_of who f) ≡ o) →
+    AreRings r others → AreRings r (put_at others (node_of who f) o)
+kept_put r others who f o was are = go (f == 2) refl
+  where
+    go : (t : Bool) → (f == 2) ≡ t → AreRings r (put_at others (node_of who f) o)
+    go true e = head_put r others who f o (grind (arith, nat_tests)) are
+    go false e = AreRings-along r others (put_at others (node_of who f) o) (λ n field. by n (n == node_of who f) refl) are
+      where
+        by : (n : ℕ) (c : Bool) → (n == node_of who f) ≡ c → cond c o (others n) ≡ others n
+        by n false g = refl
+        by n true g =
+            let is : n ≡ node_of who f = grind (arith, nat_tests) in
+            let apart : f ≢ 2 = λ two. absurd (grind (arith, nat_tests)) in
+            sym (ap others is ∙ was apart)
 
 -- all fields but one tell it, and that one isn't the first
 pub either_way : {P : Type 0} (f : ℕ) → (0 < f → P) → (f ≢ 2 → P) → P
@@ -190,20 +221,20 @@ ringed-proceeded rows now r registers counter mode who old are there changes =
             ap (and_then pointed) (led-proceeded registers counter mode old (n % 5)) ∙ sym (ap (and_then (target (n % 5))) here)
 
 -- who led nowhere leads nowhere still
-pub still_unled : (r : Rows) (others : ℕ → Option Who) (who : Who) (b : Body) → ((i : ℕ) → led b i ≡ None) → ((n : ℕ) → is_of who n ≡ true → others n ≡ None) →
-    AreRings r others → AreRings r (owner_with others who (Some b))
+pub still_unled : (r : Rows) (others : ℕ → Option Who) (who : Who) (old b : Body) → ((i : ℕ) → led old i ≡ None) → ((i : ℕ) → led b i ≡ None) →
+    ((n : ℕ) → is_of who n ≡ true → others n ≡ target (n % 5) old) → AreRings r others → AreRings r (owner_with others who (Some b))
 unfolding owner_with target
-still_unled r others who b none was = AreRings-along r others _ (λ n field. by n (is_of who n) refl)
+still_unled r others who old b before none was = AreRings-along r others _ (λ n field. by n (is_of who n) refl)
   where
     by : (n : ℕ) (t : Bool) → is_of who n ≡ t → cond t (and_then pointed (led b (n % 5))) (others n) ≡ others n
     by n false e = refl
-    by n true e = ap (and_then pointed) (none (n % 5)) ∙ sym (was n e)
+    by n true e = ap (and_then pointed) (none (n % 5)) ∙ sym (was n e ∙ ap (and_then pointed) (before (n % 5)))
 
--- what leads nowhere has no pointers
-pub unled_nodes : (rows : Cells) (who : Who) (b : Body) → cell rows who.space who.slot ≡ Some b → ((i : ℕ) → led b i ≡ None) →
-    (n : ℕ) → is_of who n ≡ true → owner rows n ≡ None
-unfolding owner target
-unled_nodes rows who b there none n is =
+-- the nodes of an object lead where its body says
+pub own_nodes : (rows : Cells) (who : Who) (b : Body) → cell rows who.space who.slot ≡ Some b →
+    (n : ℕ) → is_of who n ≡ true → owner rows n ≡ target (n % 5) b
+unfolding owner
+own_nodes rows who b there n is =
     let space : n / 1280 ≡ who.space = grind (arith, nat_tests) in
     let slot : n / 5 % 256 ≡ who.slot = grind (arith, nat_tests) in
-    (λ j. and_then (target (n % 5)) (cell rows (space j) (slot j))) ∙ ap (and_then (target (n % 5))) there ∙ ap (and_then pointed) (none (n % 5))
+    (λ j. and_then (target (n % 5)) (cell rows (space j) (slot j))) ∙ ap (and_then (target (n % 5))) there

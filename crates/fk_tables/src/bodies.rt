@@ -23,7 +23,7 @@ use crate::held::{count_left, counted, is_held, was_held};
 use crate::homes::{home_of, make_room, settle};
 use crate::marks::{is_marked, is_of_pages, mark, room_for_marks};
 use crate::parts::Part;
-use crate::ringing::{may_lead, ring, ring_anew, sweep_ringed};
+use crate::ringing::{ring, ring_anew, sweep_ringed};
 use crate::scans::{count_told, first_told};
 use crate::stored::Stored;
 use crate::sweeps::Sweep;
@@ -121,11 +121,10 @@ impl Bodies {
     {
         if let Some(mut stored) = take_value(&mut self.rows, who.space, who.slot) {
             self.held = counted(self.held, is_held(stored.body()), is_held(&body));
-            let led = may_lead(stored.body());
+            ring_anew(&mut self.rings, who, stored.body(), &body);
             stored.put(body);
             lay_value(&mut self.rows, who.space, who.slot, stored);
             tell(&mut self.hints, &self.rows, who, &body);
-            ring_anew(&mut self.rings, who, led, &body);
         }
     }
 

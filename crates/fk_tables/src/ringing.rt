@@ -5,7 +5,7 @@ ghost use Rattle.fk_model.specs.declared.body.Body.{Body};
 ghost use Rattle.fk_slots.specs.Cells.{cell};
 ghost use Rattle.fk_rings.specs.Links.{AreRings};
 ghost use Rattle.fk_hints.specs.Leads.{led as led_by};
-ghost use Rattle.fk_rings.specs.Nodes.{node_of, is_of};
+ghost use Rattle.fk_rings.specs.Nodes.{node_of, is_of, field_of};
 ghost use Rattle.fk_rings.specs.Rings.{put_at};
 ghost use Rattle.fk_tables.specs.Ringed as ringed;
 ghost use Rattle.fk_tables.specs.Ringed.{owner_with, AreRinged};
@@ -49,13 +49,55 @@ pub fn may_lead(body: &Body) -> bool
     fields(body) > 0
 }
 
-/// The pointers of an object lead where its body says from now on. It may have led somewhere before.
-pub fn ring_anew(rings: &mut Rings, who: Who, led: bool, body: &Body)
-    ensures { (others : ℕ → Option Who) → (led ≡ false → (n : ℕ) → is_of who n ≡ true → others n ≡ None)
+/// The pointers of an object lead where its new body says. Those that lead where they led stay in
+/// their rings.
+pub fn ring_anew(rings: &mut Rings, who: Who, old: &Body, body: &Body)
+    ensures { (others : ℕ → Option Who) → who.slot < 256
+        → ((n : ℕ) → is_of who n ≡ true → others n ≡ ringed.target (field_of n) old.now)
         → AreRings rings.old others → AreRings rings.new (owner_with others who (Some body.now)) }
 {
-    if led || may_lead(body) {
-        ring(rings, who, body);
+    if may_lead(old) || may_lead(body) {
+        ring_changed(rings, who, old, body);
+    }
+}
+
+fn ring_changed(rings: &mut Rings, who: Who, old: &Body, body: &Body)
+    ensures { (others : ℕ → Option Who) → who.slot < 256
+        → ((n : ℕ) → is_of who n ≡ true → others n ≡ ringed.target (field_of n) old.now)
+        → AreRings rings.old others → AreRings rings.new (owner_with others who (Some body.now)) }
+{
+    for field in 0..5u8 {
+        ring_moved(rings, who, field, old, body);
+    }
+}
+
+/// One pointer of an object leads where its new body says.
+fn ring_moved(rings: &mut Rings, who: Who, field: u8, old: &Body, body: &Body)
+    requires { field < 5 }
+    ensures { (others : ℕ → Option Who) → (field ≢ 2 → others (node_of who field) ≡ ringed.target field old.now)
+        → AreRings rings.old others → AreRings rings.new (put_at others (node_of who field) (ringed.target field body.now)) }
+{
+    if !is_kept(old, body, field) {
+        ring_field(rings, who, field, body);
+    }
+}
+
+/// A field leads where it led, or is no pointer.
+fn is_kept(old: &Body, body: &Body, field: u8) -> bool
+    ensures { result ≡ true → field ≢ 2 → ringed.target field old.now ≡ ringed.target field body.now }
+{
+    field == 2 || is_same(target(old, field), target(body, field))
+}
+
+fn is_same(one: Option<Who>, other: Option<Who>) -> bool
+    ensures { result ≡ true → one ≡ other }
+{
+    match one {
+        None => other.is_none(),
+        Some(one) => match other {
+            None => false,
+            Some(other) => one == other,
+        },
     }
 }
 

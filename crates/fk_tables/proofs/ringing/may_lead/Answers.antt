@@ -1,4 +1,4 @@
-use Rattle.std.proofs.Common.{ltb, false, ◌≡◌, arith}
+use Rattle.std.proofs.Common.{arith}
 use Rattle.std.proofs.lemmas.Bool.Decides.{nat_tests}
 use Rattle.fk_tables.proofs.ringing.may_lead.Goals as goal
 

@@ -5,7 +5,7 @@ use Rattle.fk_tables.proofs.HeldLaws.{enough-set}
 use Rattle.fk_tables.proofs.MarkLaws.{marked-set}
 use Rattle.fk_tables.proofs.HomeLaws.{homed-set}
 use Rattle.fk_tables.proofs.NameLaws.{who_naming}
-use Rattle.fk_tables.proofs.RingedLaws.{ringed-changed, relaid, unled_nodes}
+use Rattle.fk_tables.proofs.RingedLaws.{ringed-changed, relaid, own_nodes}
 use Rattle.fk_tables.proofs.ToldLaws.{this-cell, others-laid, told-rows}
 use Rattle.fk_tables.proofs.ScanLaws.{get-who, not_gone}
 use Rattle.fk_tables.proofs.bodies.Bodies.set.Goals as goal
@@ -27,10 +27,9 @@ invariant_of-self c =
       rw now (marked-set _ _ c.args.who c.in-Some.stored c.args.body (get-who _ c.args.who ∙ sym c.in-Some.ensures.taken)
           (rw (← c.self.view_is) at c.requires.pages c.in-Some.stored (get-who _ c.args.who ∙ sym c.in-Some.ensures.taken)) c.self.invariant.3),
       told-rows _ _ c.tell.ensures,
-      ringed-changed _ _ _ _ c.args.who _ (c.self.invariant.5.short c.args.who.space c.args.who.slot c.in-Some.stored (sym c.in-Some.ensures.taken))
-          c.self.invariant.5 (relaid _ _ _ c.args.who c.args.body c.take_value.ensures.left laid)
-          (c.ring_anew.ensures _ (λ none. unled_nodes _ c.args.who c.in-Some.stored (sym c.in-Some.ensures.taken)
-          (rw c.body-in-Some.ensures at c.may_lead-led.ensures none))),
+      (let short = c.self.invariant.5.short c.args.who.space c.args.who.slot c.in-Some.stored (sym c.in-Some.ensures.taken) in
+          ringed-changed _ _ _ _ c.args.who _ short c.self.invariant.5 (relaid _ _ _ c.args.who c.args.body c.take_value.ensures.left laid)
+          (c.ring_anew.ensures _ short (rw c.body-in-Some.ensures (own_nodes _ c.args.who c.in-Some.stored (sym c.in-Some.ensures.taken))))),
     )
 
 pub invariant_of-self-in_default : goal.invariant_of-self-in_default
