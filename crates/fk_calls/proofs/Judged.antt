@@ -1,14 +1,14 @@
 -- Judged: the move of a thread that is judged.
-use Rattle.std.proofs.Common.{◌≡◌, ℕ, Bool, true, false, ◌↔◌, IsTrue, IfOk, Result, Ok, Err, is_some, ◌&&◌, List, [], ◌∷◌, length, Option, Some, None, option_map, IsSome, refl, sym, ap, subst, ◌∙◌}
+use Rattle.std.proofs.Common.{◌≡◌, ℕ, Bool, true, false, cond, ◌↔◌, IsTrue, IfOk, Result, Ok, Err, is_some, ◌&&◌, List, [], ◌∷◌, length, Option, Some, None, option_map, IsSome, refl, sym, ap, subst, ◌∙◌}
 use Rattle.fk_model.specs.declared.moves.Ask.{Ask}
 use Rattle.fk_model.specs.declared.moves.Ask.TheVariants as asks
 use Rattle.fk_model.specs.declared.moves.Move.{Move}
 use Rattle.fk_model.specs.declared.names.Who.{Who}
 use Rattle.fk_model.specs.declared.stage.Stage.{Stage}
-use Rattle.fk_model.specs.Calls.{code_of}
+use Rattle.fk_model.specs.Calls.{todo_of}
 use Rattle.fk_model.specs.Holds.{is_free, is_porter, is_unheld}
 use Rattle.fk_model.specs.LinkRows.{user_at}
-use Rattle.fk_model.specs.Moves.{todo_known, allowed_row, call_row, chooses, closed, with_pick, goes_on_by, user_move_by, porter_at, porter_move_by, known_outcome, known_step, GoesAllowed, stepped}
+use Rattle.fk_model.specs.Moves.{allowed_row, call_row, chooses, closed, with_pick, goes_on, user_move, porter_at, porter_move, outcome, step, GoesAllowed, stepped}
 use Rattle.fk_model.specs.Objects.{Mode, Thread, Body, kind_of, thread_of, and_then, holds}
 use Rattle.fk_model.specs.Objects.Mode.{Running, Calling, Halted, Native}
 use Rattle.fk_model.specs.Outcomes as outcomes
@@ -25,14 +25,13 @@ use Rattle.fk_plans.specs.declared.plan.Verdict.TheVariants as verdicts
 use Rattle.fk_plans.specs.Effects.{effect_by, in_running, of_running, is_running, is_running_mode}
 use Rattle.fk_plans.specs.Plans.{caller_by}
 use Rattle.fk_plans.specs.Verdicts.{outcome_by, IsVerdict, IsSureVerdict, move_by}
-use Rattle.fk_stages.specs.Built.{built}
 use Rattle.fk_store.specs.Contents.{Contents}
 use Rattle.fk_store.specs.Moves.{picked_by}
 use Rattle.fk_store.specs.Paths.{path, place}
 use Rattle.fk_store.specs.Threads.{todo_of_mode, todo_of_thread, todo_at, is_free_at}
 use Rattle.fk_store.specs.World.{world}
 use Rattle.fk_user.specs.Effects.{IsInstruction}
-use Rattle.fk_user.specs.Known.{run_at, run_of_thread, run_in_mode}
+use Rattle.fk_user.specs.Running.{run_at, run_of_thread, run_in_mode}
 use Rattle.fk_calls.specs.declared.judging.Judgement.{Judgement}
 use Rattle.fk_calls.specs.Doings.{IsAtStage, is_free_porter_at}
 use Rattle.fk_calls.specs.Rows.{takes_memory, first_takes_memory}
@@ -42,69 +41,64 @@ use Rattle.fk_model.specs.Searches.{thread_at}
 -- ---- the machine's move of a free user
 
 -- one that isn't free doesn't move
-pub held_user : (w : World) (k : ℕ) (s : Path) (pick : Option Path) → is_free_at w (k ∷ s) ≡ false → known_outcome built w (k ∷ s) pick asks.Run ≡ Waits
-unfolding known_outcome is_free_at
+pub held_user : (w : World) (k : ℕ) (s : Path) (pick : Option Path) → is_free_at w (k ∷ s) ≡ false → outcome w (k ∷ s) pick asks.Run ≡ Waits
+unfolding outcome is_free_at
 held_user w k s pick held = by (thread_at w (k ∷ s)) held
   where
-    by : (o : Option Thread) → holds (is_free w s) o ≡ false → user_move_by built w (k ∷ s) pick o ≡ Waits
+    by : (o : Option Thread) → holds (is_free w s) o ≡ false → user_move w (k ∷ s) pick o ≡ Waits
     by None held = refl
-    by (Some t) held = ap (λ b. when b (goes_on_by built w (k ∷ s) pick t t.mode)) held
+    by (Some t) held = ap (λ b. when b (goes_on w (k ∷ s) pick t t.mode)) held
 
 -- a running one makes its instruction
 running_user : (w : World) (k : ℕ) (s : Path) (pick : Option Path) → is_free_at w (k ∷ s) ≡ true →
-    is_running (thread_at w (k ∷ s)) ≡ true → known_outcome built w (k ∷ s) pick asks.Run ≡ with_pick false pick (run_at (todo_known built) w (k ∷ s))
-unfolding known_outcome is_free_at run_at
+    is_running (thread_at w (k ∷ s)) ≡ true → outcome w (k ∷ s) pick asks.Run ≡ with_pick false pick (run_at todo_of w (k ∷ s))
+unfolding outcome is_free_at run_at
 running_user w k s pick free running = by (thread_at w (k ∷ s)) free running
   where
     in_mode : (t : Thread) (m : Mode) →
-        is_running_mode m ≡ true → goes_on_by built w (k ∷ s) pick t m ≡ with_pick false pick (run_in_mode (todo_known built) w (k ∷ s) t.counter m)
+        is_running_mode m ≡ true → goes_on w (k ∷ s) pick t m ≡ with_pick false pick (run_in_mode todo_of w (k ∷ s) t.counter m)
     in_mode t (Running g) running = refl
     in_mode t (Calling todo rest) running = absurd (cc)
     in_mode t (Halted g code) running = absurd (cc)
     in_mode t (Native g) running = absurd (cc)
 
     by : (o : Option Thread) → holds (is_free w s) o ≡ true →
-        is_running o ≡ true → user_move_by built w (k ∷ s) pick o ≡ with_pick false pick (run_of_thread (todo_known built) w (k ∷ s) o)
+        is_running o ≡ true → user_move w (k ∷ s) pick o ≡ with_pick false pick (run_of_thread todo_of w (k ∷ s) o)
     by None free running = absurd (cc)
-    by (Some t) free running = ap (λ b. when b (goes_on_by built w (k ∷ s) pick t t.mode)) free ∙ in_mode t t.mode running
+    by (Some t) free running = ap (λ b. when b (goes_on w (k ∷ s) pick t t.mode)) free ∙ in_mode t t.mode running
 
--- one in a call that is built makes its first stage
+-- one in a call makes its first stage
 staged_user : (w : World) (k : ℕ) (s : Path) (pick : Option Path) (stage : Stage) →
-    is_free_at w (k ∷ s) ≡ true → IsAtStage w (k ∷ s) stage → known_outcome built w (k ∷ s) pick asks.Run ≡ call_row w (user_at (k ∷ s)) pick stage
-unfolding known_outcome is_free_at todo_at
+    is_free_at w (k ∷ s) ≡ true → IsAtStage w (k ∷ s) stage → outcome w (k ∷ s) pick asks.Run ≡ call_row w (user_at (k ∷ s)) pick stage
+unfolding outcome is_free_at todo_at
 staged_user w k s pick stage free at = by (thread_at w (k ∷ s)) free at.todo
   where
-    in_mode : (t : Thread) (m : Mode) → todo_of_mode m ≡ stage ∷ at.later → goes_on_by built w (k ∷ s) pick t m ≡ call_row w (user_at (k ∷ s)) pick stage
+    in_mode : (t : Thread) (m : Mode) → todo_of_mode m ≡ stage ∷ at.later → goes_on w (k ∷ s) pick t m ≡ call_row w (user_at (k ∷ s)) pick stage
     in_mode t (Running g) is = absurd (cc)
-    in_mode t (Calling todo rest) is = rw (is, at.known) refl
+    in_mode t (Calling todo rest) is = rw is refl
     in_mode t (Halted g code) is = absurd (cc)
     in_mode t (Native g) is = absurd (cc)
 
     by : (o : Option Thread) →
-        holds (is_free w s) o ≡ true → todo_of_thread o ≡ stage ∷ at.later → user_move_by built w (k ∷ s) pick o ≡ call_row w (user_at (k ∷ s)) pick stage
+        holds (is_free w s) o ≡ true → todo_of_thread o ≡ stage ∷ at.later → user_move w (k ∷ s) pick o ≡ call_row w (user_at (k ∷ s)) pick stage
     by None free is = absurd (cc)
-    by (Some t) free is = ap (λ b. when b (goes_on_by built w (k ∷ s) pick t t.mode)) free ∙ in_mode t t.mode is
+    by (Some t) free is = ap (λ b. when b (goes_on w (k ∷ s) pick t t.mode)) free ∙ in_mode t t.mode is
 
 -- ---- that of a porter
 
 porter_moves : (w : World) (k : ℕ) (s : Path) (pick : Option Path) (stage : Stage) (words : List ℕ) →
-    known_outcome built w (k ∷ s) pick (asks.Call stage words) ≡ when
-    (is_free_porter_at w (k ∷ s)) (when (built.calls (code_of (stage ∷ []))) (call_row w (porter_at (k ∷ s) words) pick stage))
-unfolding known_outcome is_free_porter_at
+    outcome w (k ∷ s) pick (asks.Call stage words) ≡ when (is_free_porter_at w (k ∷ s)) (call_row w (porter_at (k ∷ s) words) pick stage)
+unfolding outcome is_free_porter_at
 porter_moves w k s pick stage words = by (thread_at w (k ∷ s))
   where
-    by : (o : Option Thread) → porter_move_by built w (k ∷ s) pick stage words o ≡ when (holds (λ (t : Thread). is_porter t.mode && is_unheld w s) o)
-        (when (built.calls (code_of (stage ∷ []))) (call_row w (porter_at (k ∷ s) words) pick stage))
+    by : (o : Option Thread) → porter_move w (k ∷ s) pick stage words o ≡ when (holds (λ (t : Thread). is_porter t.mode && is_unheld w s) o)
+        (call_row w (porter_at (k ∷ s) words) pick stage)
     by None = refl
     by (Some t) = refl
 
 pub held_porter : (w : World) (k : ℕ) (s : Path) (pick : Option Path) (stage : Stage) (words : List ℕ) →
-    is_free_porter_at w (k ∷ s) ≡ false → known_outcome built w (k ∷ s) pick (asks.Call stage words) ≡ Waits
+    is_free_porter_at w (k ∷ s) ≡ false → outcome w (k ∷ s) pick (asks.Call stage words) ≡ Waits
 held_porter w k s pick stage words held = rw (porter_moves w k s pick stage words, held) refl
-
-pub unbuilt_porter : (w : World) (k : ℕ) (s : Path) (pick : Option Path) (stage : Stage) (words : List ℕ) →
-    is_free_porter_at w (k ∷ s) ≡ true → built.calls (code_of (stage ∷ [])) ≡ false → known_outcome built w (k ∷ s) pick (asks.Call stage words) ≡ Waits
-unbuilt_porter w k s pick stage words free unbuilt = rw (porter_moves w k s pick stage words, free, unbuilt) refl
 
 -- ---- what is judged
 
@@ -160,7 +154,7 @@ porter who = record { who = who; is_porter = true }
 
 pub instruction_judged : (m : Contents) (move : Move) (v : Verdict) →
     is_free_at (world m) (place (path m) move.who) ≡ true → is_running (thread_at (world m) (place (path m) move.who)) ≡ true →
-    outcome_by (world m) (path m) (caller_by (path m) (user move.who) []) v ≡ run_at (todo_known built) (world m) (place (path m) move.who) →
+    outcome_by (world m) (path m) (caller_by (path m) (user move.who) []) v ≡ run_at todo_of (world m) (place (path m) move.who) →
     IsVerdict m (user move.who) v → IsInstruction m v → IsSureVerdict v →
     IsJudged m move asks.Run (record { caller = user move.who; chooses = false; verdict = v })
 instruction_judged m move v free running row fits instruction sure =
@@ -169,6 +163,7 @@ instruction_judged m move v free running row fits instruction sure =
     let pick = picked_by (path m) move.pick in
     let whole = picked_unrefused c pick _ (instruction_unrefused m w (path m) c v instruction) in
     record {
+      act = refl;
       mover = refl;
       free = λ u. free;
       fits = fits;
@@ -188,6 +183,7 @@ stage_judged m move stage v free at row fits sure =
     let c = caller_by (path m) (user move.who) [] in
     let pick = picked_by (path m) move.pick in
     record {
+      act = refl;
       mover = refl;
       free = λ u. free;
       fits = fits;
@@ -198,15 +194,16 @@ stage_judged m move stage v free at row fits sure =
     }
 
 pub porter_judged : (m : Contents) (move : Move) (stage : Stage) (words : List ℕ) (v : Verdict) →
-    is_free_porter_at (world m) (place (path m) move.who) ≡ true → built.calls (code_of (stage ∷ [])) ≡ true → length words ≡ 64 →
+    is_free_porter_at (world m) (place (path m) move.who) ≡ true → length words ≡ 64 →
     outcome_by (world m) (path m) (caller_by (path m) (porter move.who) words) v ≡ allowed_row
     (world m) (caller_by (path m) (porter move.who) words) (picked_by (path m) move.pick) stage → IsVerdict m (porter move.who) v → (takes_memory true stage ≡ false → IsSureVerdict v) →
     IsJudged m move (asks.Call stage words) (record { caller = porter move.who; chooses = chooses stage; verdict = v })
 unfolding call_row
-porter_judged m move stage words v free known long row fits sure =
+porter_judged m move stage words v free long row fits sure =
     let c = caller_by (path m) (porter move.who) words in
     let pick = picked_by (path m) move.pick in
     record {
+      act = refl;
       mover = refl;
       free = λ u. absurd (cc);
       fits = fits;
@@ -216,7 +213,6 @@ porter_judged m move stage words v free known long row fits sure =
         porter_moves (world m)
             move.who.slot (path m move.who.space) pick stage words,
         free,
-        known,
       ) (ap (λ o. closed c (with_pick (chooses stage) pick o)) (sym row));
     }
 
@@ -233,27 +229,35 @@ picked c false None (Goes changes said) w x ready = refl
 picked c false (Some q) (Goes changes said) w x ready = absurd ready
 
 pub step_judged : (m : Contents) (move : Move) (ask : Ask) (j : Judgement) → IsJudged m move ask j → IsReadyMove m move ask →
-    known_step built (world m) (place (path m) move.who) (picked_by (path m) move.pick) ask ≡ stepped
+    step (world m) (place (path m) move.who) (picked_by (path m) move.pick) ask ≡ stepped
     (world m) (closed (caller_by (path m) j.caller (words_of ask)) (outcome_by (world m) (path m) (caller_by (path m) j.caller (words_of ask)) j.verdict))
-unfolding known_step
+unfolding step
 step_judged m move ask j is ready =
     let w = world m in
+    let x = place (path m) move.who in
     let c = caller_by (path m) j.caller (words_of ask) in
     let pick = picked_by (path m) move.pick in
-    ap (stepped w) (is.outcome ∙ picked c
-    j.chooses pick (outcome_by w (path m) c j.verdict) w (place (path m) move.who) (subst (GoesAllowed w (place (path m) move.who)) is.outcome ready))
+    let goes : GoesAllowed w x (outcome_of m move ask) = subst (λ native. cond native ⊥ (GoesAllowed w x (outcome_of m move ask))) is.act ready in
+    ap (stepped w) (is.outcome ∙ picked c j.chooses pick (outcome_by w (path m) c j.verdict) w x (subst (GoesAllowed w x) is.outcome goes))
 
 pub ready_judged : (m : Contents) (move : Move) (ask : Ask) (j : Judgement) (b : Bool) →
     IsJudged m move ask j → (IsTrue b ↔ GoesAllowed (world m) (place (path m) j.caller.who) (move_by m j.caller (words_of ask) j.chooses move.pick j.verdict)) →
     IsTrue b ↔ IsReadyMove m move ask
-ready_judged m move ask j b is h = subst (λ o. IsTrue b ↔ GoesAllowed (world m) (place (path m) move.who) o) (sym is.outcome)
-    (subst (λ who. IsTrue b ↔ GoesAllowed (world m) (place (path m) who) (move_by m j.caller (words_of ask) j.chooses move.pick j.verdict)) is.mover h)
+ready_judged m move ask j b is h =
+    subst (λ native. IsTrue b ↔ cond native ⊥ (GoesAllowed (world m) (place (path m) move.who) (outcome_of m move ask))) (sym is.act)
+    (subst (λ o. IsTrue b ↔ GoesAllowed (world m) (place (path m) move.who) o) (sym is.outcome)
+    (subst (λ who. IsTrue b ↔ GoesAllowed (world m) (place (path m) who) (move_by m j.caller (words_of ask) j.chooses move.pick j.verdict)) is.mover h))
 
+-- a move that comes to nothing is never ready
 pub never_ready : (m : Contents) (move : Move) (ask : Ask) → outcome_of m move ask ≡ Waits → IsReadyMove m move ask → ⊥
-never_ready m move ask waits ready = rw waits at ready
+never_ready m move asks.Run waits ready = rw waits at ready
+never_ready m move (asks.Call stage words) waits ready = rw waits at ready
+never_ready m move asks.Accept waits ready = ready
+never_ready m move (asks.Give words len) waits ready = ready
+never_ready m move asks.Over waits ready = ready
 
-pub iff_never : (m : Contents) (move : Move) (ask : Ask) → outcome_of m move ask ≡ Waits → IsTrue false ↔ IsReadyMove m move ask
-iff_never m move ask waits = ((λ h. absurd (cc)), (λ ready. absurd (never_ready m move ask waits ready)))
+pub iff_never : (m : Contents) (move : Move) (ask : Ask) → (IsReadyMove m move ask → ⊥) → IsTrue false ↔ IsReadyMove m move ask
+iff_never m move ask never = ((λ h. absurd (cc)), (λ ready. absurd (never ready)))
 
 -- a free user is there
 pub free_there : (w : World) (x : Path) → is_free_at w x ≡ true → IsSome (kind_there w x)

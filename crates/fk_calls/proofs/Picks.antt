@@ -1,25 +1,22 @@
 -- Picks: which moves that pick somebody are never ready.
-use Rattle.std.proofs.Common.{◌≡◌, ℕ, Bool, true, false, cond, List, [], ◌∷◌, Option, Some, None, Result, Ok, Err, refl, sym, ap, ◌∙◌}
+use Rattle.std.proofs.Common.{◌≡◌, ℕ, Bool, true, false, cond, List, [], ◌∷◌, Option, Some, None, Result, Ok, Err, refl, ap}
 use Rattle.fk_model.specs.declared.moves.Ask.TheVariants as asks
 use Rattle.fk_model.specs.declared.stage.Stage.{Stage}
 use Rattle.fk_model.specs.declared.stage.Stage.TheVariants.{CondSignal, Wait}
 use Rattle.fk_model.specs.declared.statuses.status.TheConstants.{LINKED}
-use Rattle.fk_model.specs.Calls.{code_of}
 use Rattle.fk_model.specs.Holds.{is_free, is_unheld}
-use Rattle.fk_model.specs.LinkRows.{candidate, candidate_by, portset_of, takes_candidate, takes_picked, user_at, wait}
-use Rattle.fk_model.specs.Moves.{allowed_row, call_row, chooses, closed, with_pick, goes_on_by, user_move_by, known_outcome}
-use Rattle.fk_model.specs.Objects.{Mode, Thread, Body, thread_of, and_then}
+use Rattle.fk_model.specs.LinkRows.{candidate, candidate_by, portset_of, takes_picked, user_at, wait}
+use Rattle.fk_model.specs.Moves.{allowed_row, call_row, chooses, closed, with_pick, goes_on, user_move, outcome}
+use Rattle.fk_model.specs.Objects.{Mode, Thread, and_then}
 use Rattle.fk_model.specs.Objects.Mode.{Running, Calling, Halted, Native}
 use Rattle.fk_model.specs.Outcomes.{Outcome, Caller, ◌>>=◌, refuse, when}
 use Rattle.fk_model.specs.Outcomes.Outcome.{Refused, Waits, Goes}
 use Rattle.fk_model.specs.Places.{Path, parent, same_path}
 use Rattle.fk_model.specs.Readers.{object_in}
 use Rattle.fk_model.specs.Searches.{is_serving, thread_at}
-use Rattle.fk_model.specs.SyncRows.{asleep_on, cond_of, cond_signal, mutex_after, picks_sleeper, signals, woken}
-use Rattle.fk_model.specs.Talks.{first_stage}
+use Rattle.fk_model.specs.SyncRows.{cond_of, cond_signal, picks_sleeper}
 use Rattle.fk_model.specs.World.{World}
 use Rattle.fk_plans.specs.Effects.{is_running, is_running_mode}
-use Rattle.fk_stages.specs.Built.{built}
 use Rattle.fk_store.specs.Threads.{todo_of_mode, todo_of_thread, todo_at}
 
 alone : (q : Path) (o : Outcome) → with_pick false (Some q) o ≡ Waits
@@ -38,32 +35,32 @@ unfolding call_row
 unchosen w x q stage is = rw (is, alone q (allowed_row w (user_at x) (Some q) stage)) refl
 
 pub picked_alone : (w : World) (x q : Path) (stage : Stage) (later : List Stage) →
-    todo_at w x ≡ stage ∷ later → chooses stage ≡ false → known_outcome built w x (Some q) asks.Run ≡ Waits
-unfolding known_outcome todo_at
+    todo_at w x ≡ stage ∷ later → chooses stage ≡ false → outcome w x (Some q) asks.Run ≡ Waits
+unfolding outcome todo_at
 picked_alone w x q stage later at is = by (thread_at w x) at
   where
-    on : (t : Thread) (m : Mode) → todo_of_mode m ≡ stage ∷ later → goes_on_by built w x (Some q) t m ≡ Waits
+    on : (t : Thread) (m : Mode) → todo_of_mode m ≡ stage ∷ later → goes_on w x (Some q) t m ≡ Waits
     on t (Running g) at = alone q _
     on t (Calling [] rest) at = refl
-    on t (Calling (first ∷ todo) rest) at = let same : first ≡ stage = cc in never (built.calls (code_of (first ∷ todo))) _ (unchosen w x q first (rw same is))
+    on t (Calling (first ∷ todo) rest) at = let same : first ≡ stage = cc in unchosen w x q first (rw same is)
     on t (Halted g code) at = refl
     on t (Native g) at = refl
 
-    by : (o : Option Thread) → todo_of_thread o ≡ stage ∷ later → user_move_by built w x (Some q) o ≡ Waits
+    by : (o : Option Thread) → todo_of_thread o ≡ stage ∷ later → user_move w x (Some q) o ≡ Waits
     by None at = refl
     by (Some t) at = never (is_free w (parent x) t) _ (on t t.mode at)
 
-pub picked_running : (w : World) (x q : Path) → is_running (thread_at w x) ≡ true → known_outcome built w x (Some q) asks.Run ≡ Waits
-unfolding known_outcome
+pub picked_running : (w : World) (x q : Path) → is_running (thread_at w x) ≡ true → outcome w x (Some q) asks.Run ≡ Waits
+unfolding outcome
 picked_running w x q running = by (thread_at w x) running
   where
-    on : (t : Thread) (m : Mode) → is_running_mode m ≡ true → goes_on_by built w x (Some q) t m ≡ Waits
+    on : (t : Thread) (m : Mode) → is_running_mode m ≡ true → goes_on w x (Some q) t m ≡ Waits
     on t (Running g) running = alone q _
     on t (Calling todo rest) running = absurd (cc)
     on t (Halted g code) running = refl
     on t (Native g) running = refl
 
-    by : (o : Option Thread) → is_running o ≡ true → user_move_by built w x (Some q) o ≡ Waits
+    by : (o : Option Thread) → is_running o ≡ true → user_move w x (Some q) o ≡ Waits
     by None running = refl
     by (Some t) running = never (is_free w (parent x) t) _ (on t t.mode running)
 
@@ -111,17 +108,17 @@ module _ (w : World) (q : Path) (nobody : thread_at w q ≡ None) where
   row_idle x (CondSignal cond) = ap (closed (user_at x)) (signal_idle (user_at x) cond)
   row_idle x other = ap (closed (user_at x)) (alone q (allowed_row w (user_at x) (Some q) other))
 
-  pub nobody_picked : (x : Path) → known_outcome built w x (Some q) asks.Run ≡ Waits
-  unfolding known_outcome
+  pub nobody_picked : (x : Path) → outcome w x (Some q) asks.Run ≡ Waits
+  unfolding outcome
   nobody_picked x = by (thread_at w x)
     where
-      on : (t : Thread) (m : Mode) → goes_on_by built w x (Some q) t m ≡ Waits
+      on : (t : Thread) (m : Mode) → goes_on w x (Some q) t m ≡ Waits
       on t (Running g) = alone q _
       on t (Calling [] rest) = refl
-      on t (Calling (stage ∷ todo) rest) = never (built.calls (code_of (stage ∷ todo))) _ (row_idle x stage)
+      on t (Calling (stage ∷ todo) rest) = row_idle x stage
       on t (Halted g code) = refl
       on t (Native g) = refl
 
-      by : (o : Option Thread) → user_move_by built w x (Some q) o ≡ Waits
+      by : (o : Option Thread) → user_move w x (Some q) o ≡ Waits
       by None = refl
       by (Some t) = never (is_free w (parent x) t) _ (on t t.mode)

@@ -5,14 +5,13 @@ use Rattle.fk_model.specs.declared.names.Kind.TheVariants as kinds
 use Rattle.fk_model.specs.declared.stage.Stage.{Stage}
 use Rattle.fk_model.specs.declared.stage.Stage.TheVariants.{LinkSet, LinkPark, FaultSet, FaultPark}
 use Rattle.fk_model.specs.declared.statuses.status.TheConstants.{HELD}
-use Rattle.fk_model.specs.Calls.{code_of}
 use Rattle.fk_model.specs.FaultRows.{given_fault, named_taker, fault_set, fault_park}
 use Rattle.fk_model.specs.Holds.{is_frozen_for, is_porter, is_unheld}
 use Rattle.fk_model.specs.LinkRows.{given_talk, link_set, link_park}
-use Rattle.fk_model.specs.Moves.{call_row, closed, with_pick, porter_at, porter_move_by, known_outcome, GoesAllowed, IsKnownReady}
+use Rattle.fk_model.specs.Moves.{call_row, closed, with_pick, porter_at, porter_move, outcome, GoesAllowed, IsReady}
 use Rattle.fk_model.specs.Objects.{Peer, Thread, port_of, thread_of}
 use Rattle.fk_model.specs.Objects.Peer.{Server, Parked}
-use Rattle.fk_model.specs.Outcomes.{Caller, Outcome, ◌>>=◌, done, path_of, refuse, when}
+use Rattle.fk_model.specs.Outcomes.{Outcome, ◌>>=◌, done, path_of, refuse, when}
 use Rattle.fk_model.specs.Outcomes.Outcome.{Refused}
 use Rattle.fk_model.specs.Places.{Path, Ptr, parent}
 use Rattle.fk_model.specs.Places.Ptr.{At}
@@ -21,7 +20,6 @@ use Rattle.fk_model.specs.Searches.{thread_at}
 use Rattle.fk_model.specs.World.{World}
 use Rattle.fk_model.specs.World.Change.{Alter}
 use Rattle.fk_model.specs.World.Edit.{SetFault, SetTalk}
-use Rattle.fk_stages.specs.Built.{built}
 use Rattle.fk_calls.specs.Rows.{restores}
 
 -- what the porter at a path comes to with some words is ready where what it comes to with others is
@@ -116,12 +114,11 @@ both_when w x true o p same = same
 both_when w x false o p same = ((λ h. h), (λ h. h))
 
 pub ready_again : (w : World) (x : Path) (pick : Option Path) (stage : Stage) (a b : List ℕ) → restores stage ≡ true →
-    IsKnownReady built w x pick (asks.Call stage a) ↔ IsKnownReady built w x pick (asks.Call stage b)
-unfolding known_outcome
+    IsReady w x pick (asks.Call stage a) ↔ IsReady w x pick (asks.Call stage b)
+unfolding outcome
 ready_again w x pick stage a b is = by (thread_at w x)
   where
-    by : (o : Option Thread) → GoesAllowed w x (porter_move_by built w x pick stage a o) ↔ GoesAllowed w x (porter_move_by built w x pick stage b o)
+    by : (o : Option Thread) → GoesAllowed w x (porter_move w x pick stage a o) ↔ GoesAllowed w x (porter_move w x pick stage b o)
     by None = ((λ h. h), (λ h. h))
     by (Some t) =
-        both_when w x (is_porter t.mode && is_unheld w (parent x)) _ _
-        (both_when w x (built.calls (code_of (stage ∷ []))) _ _ (calls w x a b pick stage is))
+        both_when w x (is_porter t.mode && is_unheld w (parent x)) _ _ (calls w x a b pick stage is)

@@ -2,15 +2,13 @@
 use Rattle.std.specs.Prelude.{◌≡◌, Bool, true, ◌&&◌, List, [], ◌∷◌, Option, Some, None}
 use Rattle.fk_model.specs.declared.moves.Ask.TheVariants as asks
 use Rattle.fk_model.specs.declared.stage.Stage.{Stage}
-use Rattle.fk_model.specs.Calls.{code_of}
 use Rattle.fk_model.specs.Holds.{is_porter, is_unheld}
-use Rattle.fk_model.specs.Moves.{known_outcome}
+use Rattle.fk_model.specs.Moves.{outcome}
 use Rattle.fk_model.specs.Objects.{Thread, holds}
 use Rattle.fk_model.specs.Outcomes.Outcome.{Waits}
 use Rattle.fk_model.specs.Places.{Path, parent}
 use Rattle.fk_model.specs.World.{World}
 use Rattle.fk_plans.specs.Effects.{is_running}
-use Rattle.fk_stages.specs.Built.{built}
 use Rattle.fk_store.specs.Threads.{todo_at}
 use Rattle.fk_calls.specs.declared.doing.Doing.{Doing}
 use Rattle.fk_calls.specs.declared.doing.Doing.TheVariants as doings
@@ -21,17 +19,16 @@ first_of None = None
 first_of (Some []) = None
 first_of (Some (stage ∷ todo)) = Some stage
 
--- the thread at a path has this stage before it, and then others, in a call that is built
+-- the thread at a path has this stage before it, and then others
 pub record IsAtStage (w : World) (x : Path) (stage : Stage) : Type 0 where
   pub later : List Stage
   pub todo : todo_at w x ≡ stage ∷ later
-  pub known : built.calls (code_of (stage ∷ later)) ≡ true
 
--- the thread runs, or is at a stage of a call that is built; else no move of it is ready
+-- the thread runs, or is at a stage of a call; else no move of it is ready
 abbrev pub IsDoing : World → Path → Doing → Type 0
 IsDoing w x doings.Instruction = is_running (thread_at w x) ≡ true
 IsDoing w x (doings.Stage stage) = IsAtStage w x stage
-IsDoing w x doings.Nothing = (pick : Option Path) → known_outcome built w x pick asks.Run ≡ Waits
+IsDoing w x doings.Nothing = (pick : Option Path) → outcome w x pick asks.Run ≡ Waits
 
 -- a porter in a space that isn't held is at the path
 unfoldable pub is_free_porter_at : World → Path → Bool

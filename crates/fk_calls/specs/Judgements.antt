@@ -4,10 +4,9 @@ use Rattle.fk_model.specs.declared.moves.Ask.{Ask}
 use Rattle.fk_model.specs.declared.moves.Ask.TheVariants as asks
 use Rattle.fk_model.specs.declared.moves.Move.{Move}
 use Rattle.fk_model.specs.declared.moves.Said.{Said}
-use Rattle.fk_model.specs.Moves.{known_outcome, known_step, IsKnownReady}
+use Rattle.fk_model.specs.Moves.{outcome, step}
 use Rattle.fk_model.specs.Outcomes.{Outcome}
 use Rattle.fk_model.specs.Valid.{is_fit}
-use Rattle.fk_stages.specs.Built.{built}
 use Rattle.fk_store.specs.Contents.{Contents}
 use Rattle.fk_store.specs.Moves.{picked_by, said_by}
 use Rattle.fk_store.specs.Paths.{path, place}
@@ -15,6 +14,7 @@ use Rattle.fk_store.specs.Threads.{is_free_at}
 use Rattle.fk_store.specs.World.{world}
 use Rattle.fk_plans.specs.Verdicts.{IsVerdict, IsSureVerdict, move_by}
 use Rattle.fk_calls.specs.declared.judging.Judgement.{Judgement}
+use Rattle.fk_calls.specs.Acts.{is_native_act, IsReadyFor}
 use Rattle.fk_calls.specs.Rows.{may_want_memory}
 
 -- the words that a porter gives; a user gives none
@@ -22,13 +22,14 @@ abbrev pub words_of : Ask → List ℕ
 words_of (asks.Call stage words) = words
 words_of other = []
 
--- what a move comes to in the machine of what is built
+-- what a move comes to
 abbrev pub outcome_of : Contents → Move → Ask → Outcome
-outcome_of m move ask = known_outcome built (world m) (place (path m) move.who) (picked_by (path m) move.pick) ask
+outcome_of m move ask = outcome (world m) (place (path m) move.who) (picked_by (path m) move.pick) ask
 
 -- the move of a free user or porter comes to what this judgement says, which can be carried out, and takes memory only
 -- where the move may want it. A porter gives 64 words
 pub record IsJudged (m : Contents) (move : Move) (ask : Ask) (j : Judgement) : Type 0 where
+  pub act : is_native_act ask ≡ false
   pub mover : j.caller.who ≡ move.who
   pub free : j.caller.is_porter ≡ false → is_free_at (world m) (place (path m) move.who) ≡ true
   pub outcome : outcome_of m move ask ≡ move_by m j.caller (words_of ask) j.chooses move.pick j.verdict
@@ -38,9 +39,9 @@ pub record IsJudged (m : Contents) (move : Move) (ask : Ask) (j : Judgement) : T
 
 -- ---- what a caller reads
 
--- a move is ready in the machine of what is built
+-- a move is ready
 abbrev pub IsReadyMove : Contents → Move → Ask → Type 0
-IsReadyMove m move ask = IsKnownReady built (world m) (place (path m) move.who) (picked_by (path m) move.pick) ask
+IsReadyMove m move ask = IsReadyFor (world m) (place (path m) move.who) (picked_by (path m) move.pick) ask
 
 -- a move is fit
 abbrev pub is_fit_move : Contents → Move → Ask → Bool
@@ -49,7 +50,7 @@ is_fit_move m move ask = is_fit (world m) (place (path m) move.who) ask
 -- the machine's step by a move leads to what a store holds, and tells this
 abbrev pub IsStepTo : Contents → Move → Ask → Contents → Said → Type 0
 IsStepTo m move ask n said =
-    known_step built (world m) (place (path m) move.who) (picked_by (path m) move.pick) ask ≡ record { world = world n; said = said_by (path n) said }
+    step (world m) (place (path m) move.who) (picked_by (path m) move.pick) ask ≡ record { world = world n; said = said_by (path n) said }
 
 -- a move may want memory, for an object or a page
 abbrev pub may_lack : Contents → Move → Ask → Bool

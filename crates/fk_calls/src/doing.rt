@@ -1,7 +1,6 @@
 //! What a thread does next.
 ghost use Rattle.std.specs.Prelude.{◌≡◌, [], true};
-ghost use Rattle.fk_model.specs.Moves.{todo_known};
-ghost use Rattle.fk_stages.specs.Built.{built};
+ghost use Rattle.fk_model.specs.Calls.{todo_of};
 ghost use Rattle.fk_store.specs.Paths.{path, place};
 ghost use Rattle.fk_store.specs.Threads.{todo_at};
 ghost use Rattle.fk_store.specs.World.{world, IsSpace};
@@ -18,7 +17,7 @@ pub enum Doing {
     Instruction,
     /// This stage, the first of its call.
     Stage(Stage),
-    /// It doesn't move: it is no user, or has halted, or is in a call that isn't built.
+    /// It doesn't move: it is no user, or has halted, or its registers name no call.
     Nothing,
 }
 
@@ -40,9 +39,9 @@ pub fn doing_of(store: &Store, who: Who) -> Doing
     }
 }
 
-/// The first stage of the call that the registers name, if it is built.
+/// The first stage of the call that the registers name, if they name one.
 fn first_stage(registers: &[u64; 16]) -> Option<Stage>
-    ensures { first_of (todo_known built registers.now) ≡ result }
+    ensures { first_of (todo_of registers.now) ≡ result }
 {
     match todo(registers)? {
         Todo::One(stage)

@@ -4,14 +4,13 @@ ghost use Rattle.fk_model.specs.declared.moves.Ask.TheVariants as asks;
 ghost use Rattle.fk_model.specs.Outcomes.Outcome.{Waits};
 ghost use Rattle.fk_model.specs.Valid.{IsValid};
 ghost use Rattle.fk_store.specs.World.{world};
-ghost use Rattle.fk_calls.specs.Judgements.{IsJudged, outcome_of, words_of};
+ghost use Rattle.fk_calls.specs.Judgements.{IsJudged, IsReadyMove, outcome_of, words_of};
 ghost use Rattle.fk_calls.specs.Rows.{are_given, are_given_for};
 
 use crate::doing::{Doing, doing_of, is_free_porter};
 use crate::rows;
 use fk_model::{Ask, Move, Stage};
 use fk_plans::{Caller, Verdict};
-use fk_stages::is_built;
 use fk_store::Store;
 
 /// Who moves, whether its stage may pick, and what the move comes to.
@@ -23,12 +22,11 @@ pub struct Judgement {
 }
 
 /// What a move comes to; none where it is never ready. Servers don't move as yet.
-#[tactic(auto, unfolding(fk_model::specs::Moves::known_outcome))]
 pub fn judge(store: &Store, m: &Move, ask: &Ask) -> Option<Judgement>
     requires valid { IsValid (world store.now) }
     requires words { are_given_for ask.now ≡ true }
     ensures judged { IfSome result (λ judgement. IsJudged store.now m.now ask.now judgement) }
-    ensures never { IfNone result (outcome_of store.now m.now ask.now ≡ Waits) }
+    ensures never { IfNone result (IsReadyMove store.now m.now ask.now → ⊥) }
 {
     match ask {
         Ask::Run => judge_user(store, m),
@@ -83,9 +81,6 @@ fn judge_porter(store: &Store, m: &Move, stage: &Stage, words: &[u64; 64]) -> Op
     ensures never { IfNone result (outcome_of store.now m.now (asks.Call stage.now words.now) ≡ Waits) }
 {
     if !is_free_porter(store, m.who) {
-        return None;
-    }
-    if !is_built(stage) {
         return None;
     }
     let caller = Caller {

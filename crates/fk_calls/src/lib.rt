@@ -3,9 +3,9 @@
 //! It stands on the crates of rows, each of which judges stages, on `fk_user`, which judges
 //! instructions, and on `fk_plans`, which says when a verdict is ready and carries it out. Here is
 //! the one match from a stage to its judge. It promises that `ready` answers exactly whether the
-//! abstract machine of the calls that are built is ready to make a move, that `take` makes of the
-//! store's world what the machine makes of it, that `attempt` does both, judging once, and that
-//! `may_pick` tells which users may pick somebody.
+//! abstract machine is ready to make a move, that `take` makes of the store's world what the machine
+//! makes of it, that `attempt` does both, judging once, and that `may_pick` tells which users may
+//! pick somebody. Servers don't move as yet: no act of a native server is ready.
 #![tactic(auto)]
 
 mod doing;

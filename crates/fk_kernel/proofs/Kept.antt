@@ -1,4 +1,4 @@
--- Kept: a fit step of the machine of the calls that are built keeps a world valid.
+-- Kept: a fit step keeps a world valid.
 use Rattle.std.proofs.Common.{◌≡◌, ◌≤◌, true, Option, Some, None, Result, Ok, Err, IfOk, IfSome, IfNone, OnErr, ap, subst}
 use Rattle.fk_model.specs.declared.moves.Ask.{Ask}
 use Rattle.fk_model.specs.declared.moves.Move.{Move}
@@ -6,8 +6,7 @@ use Rattle.fk_model.specs.declared.moves.Said.{Said}
 use Rattle.fk_model.specs.Moves.{Step}
 use Rattle.fk_model.specs.Searches.{depth}
 use Rattle.fk_model.specs.Valid.{IsValid}
-use Rattle.fk_laws.proofs.validity.Steps.{known_step_keeps_valid_lem}
-use Rattle.fk_stages.specs.Built.{built}
+use Rattle.fk_laws.proofs.validity.Steps.{step_keeps_valid_lem}
 use Rattle.fk_store.specs.Contents.{Contents}
 use Rattle.fk_store.specs.Moves.{picked_by}
 use Rattle.fk_store.specs.Paths.{path, place}
@@ -17,7 +16,7 @@ use Rattle.fk_calls.specs.Judgements.{is_fit_move, IsStepTo}
 module _ (m n : Contents) (move : Move) (ask : Ask) (valid : IsValid (world m)) (few : (world m).next ≤ depth) (fit : is_fit_move m move ask ≡ true) where
   kept-made : (said : Said) → IsStepTo m move ask n said → IsValid (world n)
   kept-made said is = subst IsValid (ap (λ (s : Step). s.world) is)
-      (known_step_keeps_valid_lem built (world m) (place (path m) move.who) (picked_by (path m) move.pick) ask valid few fit)
+      (step_keeps_valid_lem (world m) (place (path m) move.who) (picked_by (path m) move.pick) ask valid few fit)
 
   kept-same : n ≡ m → IsValid (world n)
   kept-same same = rw same valid

@@ -1,18 +1,29 @@
 -- Promises: what the laws of state and holds say of a kernel's steps.
-use Rattle.std.proofs.Common.{◌≡◌, ℕ, true, ◌↔◌, Option, Some, None, Result, Ok, Err, IsTrue, IsSome, IfOk, IfSome, IfNone, refl}
+use Rattle.std.proofs.Common.{◌≡◌, true, false, cond, Option, Some, None, Result, Ok, Err, IsSome, IfOk, IfSome, IfNone, refl, sym, subst}
 use Rattle.fk_model.specs.declared.moves.Ask.{Ask}
 use Rattle.fk_model.specs.declared.moves.Move.{Move}
 use Rattle.fk_model.specs.declared.moves.Said.{Said}
+use Rattle.fk_model.specs.Moves.{IsReady}
+use Rattle.fk_model.specs.Runs.{Event}
 use Rattle.fk_model.specs.Who.{space_born, event_of}
-use Rattle.fk_stages.specs.Built.{built}
+use Rattle.fk_model.specs.World.{World}
 use Rattle.fk_store.specs.Contents.{Contents}
-use Rattle.fk_store.specs.Moves.{said_by}
-use Rattle.fk_store.specs.Paths.{path}
+use Rattle.fk_store.specs.Moves.{picked_by, said_by}
+use Rattle.fk_store.specs.Paths.{path, place}
 use Rattle.fk_store.specs.World.{world}
+use Rattle.fk_calls.specs.Acts.{is_native_act}
 use Rattle.fk_calls.specs.Judgements.{is_fit_move, IsReadyMove, IsStepTo}
 use Rattle.fk_prompt.specs.Events.{IsPrompt, IsCorrect}
+use Rattle.fk_prompt.specs.Events.IsPrompt.{Gets, PorterGets, Holds, PorterHolds}
 use Rattle.fk_prompt.proofs.Events.{prompt_is_ready, correct_step}
 use Rattle.fk_kernel.specs.Events.{is_fit_event}
+
+-- a prompt move is no act of a native server
+no_native_act : (w : World) (e : Event) → IsPrompt w e → is_native_act e.ask ≡ false
+no_native_act w _ (Gets space slot s x address at unbarred) = refl
+no_native_act w _ (PorterGets space slot s x address words at) = refl
+no_native_act w _ (Holds space slot s x at may) = refl
+no_native_act w _ (PorterHolds space slot s x words at may) = refl
 
 module _ (m : Contents) (move : Move) (ask : Ask) (born : path m ≡ space_born (world m)) where
   -- a fit event is a fit move
@@ -20,18 +31,19 @@ module _ (m : Contents) (move : Move) (ask : Ask) (born : path m ≡ space_born 
   fit-move fit = rw born fit
 
   -- a prompt move is ready
-  pub prompt-ready : IsPrompt built (world m) (event_of (world m) ask move) → IsReadyMove m move ask
-  prompt-ready prompt = rw born (prompt_is_ready built (world m) (event_of (world m) ask move) prompt)
+  pub prompt-ready : IsPrompt (world m) (event_of (world m) ask move) → IsReadyMove m move ask
+  prompt-ready prompt = subst (λ native. cond native ⊥ (IsReady (world m) (place (path m) move.who) (picked_by (path m) move.pick) ask))
+      (sym (no_native_act (world m) (event_of (world m) ask move) prompt)) (rw born (prompt_is_ready (world m) (event_of (world m) ask move) prompt))
 
   -- a step is correct
   pub correct-made : (n : Contents) (said : Said) → IsStepTo m move ask n said →
-      IsCorrect built (world m) (event_of (world m) ask move) (world n) (said_by (path n) said)
+      IsCorrect (world m) (event_of (world m) ask move) (world n) (said_by (path n) said)
   correct-made n said is =
-      correct_step built (world m) (event_of (world m) ask move) (world n) (said_by (path n) said) (rw born at is)
+      correct_step (world m) (event_of (world m) ask move) (world n) (said_by (path n) said) (rw born at is)
 
   pub correct-tried : {E : Type 0} (n : Contents) (R : Type 0) (r : Result (Option Said) E) →
       IfOk r (λ tried. IfSome tried (λ said. R × IsStepTo m move ask n said)) →
-      IfOk r (λ tried. IfSome tried (λ said. IsCorrect built (world m) (event_of (world m) ask move) (world n) (said_by (path n) said)))
+      IfOk r (λ tried. IfSome tried (λ said. IsCorrect (world m) (event_of (world m) ask move) (world n) (said_by (path n) said)))
   correct-tried n R (Ok (Some said)) made = correct-made n said made.1
   correct-tried n R (Ok None) made = made
   correct-tried n R (Err e) made = made
@@ -39,12 +51,12 @@ module _ (m : Contents) (move : Move) (ask : Ask) (born : path m ≡ space_born 
   -- a prompt move that is tried is made
   pub prompt-tried : {E : Type 0} (N : Type 0) (r : Result (Option Said) E) →
       IfOk r (λ tried. IfNone tried ((IsReadyMove m move ask → ⊥) × N)) →
-      IsPrompt built (world m) (event_of (world m) ask move) → IfOk r IsSome
+      IsPrompt (world m) (event_of (world m) ask move) → IfOk r IsSome
   prompt-tried N (Ok (Some said)) unready prompt = refl
   prompt-tried N (Ok None) unready prompt = absurd (unready.0 (prompt-ready prompt))
   prompt-tried N (Err e) unready prompt = unready
 
   pub correct-step : {E : Type 0} (n : Contents) (r : Result Said E) → IfOk r (λ said. IsStepTo m move ask n said) →
-      IfOk r (λ said. IsCorrect built (world m) (event_of (world m) ask move) (world n) (said_by (path n) said))
+      IfOk r (λ said. IsCorrect (world m) (event_of (world m) ask move) (world n) (said_by (path n) said))
   correct-step n (Ok said) is = correct-made n said is
   correct-step n (Err e) is = is

@@ -10,14 +10,13 @@ use Rattle.fk_model.specs.Places.{Path}
 use Rattle.fk_model.specs.Objects.{Thread, Body, kind_of, thread_of, and_then}
 use Rattle.fk_model.specs.World.{World}
 use Rattle.fk_model.specs.Outcomes.Outcome.{Waits}
-use Rattle.fk_model.specs.Moves.{user_move_by, known_outcome, IsKnownReady}
+use Rattle.fk_model.specs.Moves.{user_move, outcome, IsReady}
 use Rattle.fk_model.specs.Searches.{thread_at}
 use Rattle.fk_model.specs.Valid.{kind_there}
 use Rattle.fk_store.specs.Contents.{Contents}
 use Rattle.fk_store.specs.Names.{who_cmp, rank}
 use Rattle.fk_store.specs.Orders.{IsFirstAfter}
 use Rattle.fk_store.specs.World.{world, place_of, IsLive}
-use Rattle.fk_stages.specs.Built.{built}
 use Rattle.fk_calls.proofs.Picks.{nobody_picked}
 use Rattle.fk_kernel.specs.Events.{IsMoveReady, IsPickReady}
 
@@ -34,7 +33,7 @@ IsUp m other = IsMoveReady (world m) (place_of m other)
 
 -- a user may pick this object
 abbrev pub IsPick : Contents → Who → Who → Type 0
-IsPick m me other = IsKnownReady built (world m) (place_of m me) (Some (place_of m other)) asks.Run
+IsPick m me other = IsReady (world m) (place_of m me) (Some (place_of m other)) asks.Run
 
 who_same : (a b : Who) → who_cmp a b ≡ Equal → a ≡ b
 who_same a b = by (nat_cmp a.space b.space) refl
@@ -76,9 +75,9 @@ left_from m (Some who) = 1 + ((world m).next * 256 - rank (Some who))
 
 -- ---- nobody is ready where no object is
 
-no_thread : (w : World) (x : Path) (pick : Option Path) → thread_at w x ≡ None → known_outcome built w x pick asks.Run ≡ Waits
-unfolding known_outcome
-no_thread w x pick none = ap (user_move_by built w x pick) none
+no_thread : (w : World) (x : Path) (pick : Option Path) → thread_at w x ≡ None → outcome w x pick asks.Run ≡ Waits
+unfolding outcome
+no_thread w x pick none = ap (user_move w x pick) none
 
 rootless : (m : Contents) → thread_at (world m) [] ≡ None
 unfolding world
@@ -94,7 +93,7 @@ thread_there w x t is = by (w.body x) is
 
 -- what moves is an object with a name
 pub nobody_ready : (m : Contents) → ((k : ℕ) (s : Path) → IsSome (kind_there (world m) (k ∷ s)) → (other : Who) × (place_of m other ≡ k ∷ s)) →
-    IsAhead m (IsUp m) None → (x : Path) (pick : Option Path) → IsKnownReady built (world m) x pick asks.Run → ⊥
+    IsAhead m (IsUp m) None → (x : Path) (pick : Option Path) → IsReady (world m) x pick asks.Run → ⊥
 nobody_ready m named none [] pick ready = rw (no_thread (world m) [] pick (rootless m)) at ready
 nobody_ready m named none (k ∷ s) pick ready = by (thread_at (world m) (k ∷ s)) refl
   where
@@ -110,7 +109,7 @@ pub nobody_to_pick : (m : Contents) (me : Who) → ((k : ℕ) (s : Path) → IsS
     IsAhead m (IsPick m me) None → IsPickReady (world m) (place_of m me) → ⊥
 nobody_to_pick m me named none ready = at ready.0 ready.1
   where
-    at : (q : Path) → IsKnownReady built (world m) (place_of m me) (Some q) asks.Run → ⊥
+    at : (q : Path) → IsReady (world m) (place_of m me) (Some q) asks.Run → ⊥
     at [] ready = rw (nobody_picked (world m) [] (rootless m) (place_of m me)) at ready
     at (k ∷ s) ready = by (thread_at (world m) (k ∷ s)) refl
       where

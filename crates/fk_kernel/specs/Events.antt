@@ -1,17 +1,17 @@
--- Events: what is ready, and what it does, in the machine of the calls that are built.
+-- Events: what is ready, and what it does.
 use Rattle.std.specs.Prelude.{Bool, Option, Some}
 use Rattle.fk_model.specs.declared.moves.Ask.TheVariants as asks
-use Rattle.fk_model.specs.Moves.{Step, IsKnownReady, known_step}
+use Rattle.fk_model.specs.Moves.{Step, IsReady, step}
 use Rattle.fk_model.specs.Places.{Path}
 use Rattle.fk_model.specs.Runs.{Event}
 use Rattle.fk_model.specs.Valid.{is_fit}
 use Rattle.fk_model.specs.World.{World}
-use Rattle.fk_stages.specs.Built.{built}
+use Rattle.fk_calls.specs.Acts.{IsReadyFor}
 use Rattle.fk_calls.specs.Rows.{may_want_memory}
 
--- an event is ready
+-- an event is ready in the machine, and is no act of a native server
 abbrev pub IsReadyEvent : World → Event → Type 0
-IsReadyEvent w e = IsKnownReady built w e.mover e.pick e.ask
+IsReadyEvent w e = IsReadyFor w e.mover e.pick e.ask
 
 -- it is fit: a porter that makes a talk or a fault again gives words in range, and names a server that may serve
 abbrev pub is_fit_event : World → Event → Bool
@@ -19,18 +19,18 @@ is_fit_event w e = is_fit w e.mover e.ask
 
 -- the world after an event, and what it tells
 abbrev pub step_of : World → Event → Step
-step_of w e = known_step built w e.mover e.pick e.ask
+step_of w e = step w e.mover e.pick e.ask
 
 -- a move of the user at a path is ready that picks somebody, or one that picks whomever or nobody
 abbrev pub IsPickReady : World → Path → Type 0
-IsPickReady w x = (pick : Path) × IsKnownReady built w x (Some pick) asks.Run
+IsPickReady w x = (pick : Path) × IsReady w x (Some pick) asks.Run
 
 abbrev pub IsMoveReady : World → Path → Type 0
-IsMoveReady w x = (pick : Option Path) × IsKnownReady built w x pick asks.Run
+IsMoveReady w x = (pick : Option Path) × IsReady w x pick asks.Run
 
 -- some user's move is ready
 abbrev pub IsAnyReady : World → Type 0
-IsAnyReady w = (x : Path) × (pick : Option Path) × IsKnownReady built w x pick asks.Run
+IsAnyReady w = (x : Path) × (pick : Option Path) × IsReady w x pick asks.Run
 
 -- an event may want memory, for an object or a page
 abbrev pub may_lack : World → Event → Bool

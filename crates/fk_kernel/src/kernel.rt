@@ -8,7 +8,6 @@ ghost use Rattle.fk_store.specs.Paths.{path, place};
 ghost use Rattle.fk_store.specs.World.{world};
 ghost use Rattle.fk_calls.specs.Judgements.{IsReadyMove};
 ghost use Rattle.fk_prompt.specs.Events.{IsPrompt, IsCorrect};
-ghost use Rattle.fk_stages.specs.Built.{built};
 ghost use Rattle.fk_kernel.specs.Events.{is_fit_event, IsReadyEvent, IsAnyReady, IsMoveReady, IsPickReady, may_lack, step_of};
 
 use fk_model::{Ask, Move, NoMemory, Said, Who};
@@ -55,7 +54,7 @@ impl Kernel {
     /// fit. Servers don't move as yet.
     pub fn ready(&self, m: &Move, ask: &Ask) -> bool
         ensures ready { IsTrue result ↔ IsReadyEvent (world self.now) (event_of (world self.now) ask.now m.now) }
-        ensures prompt { IsPrompt built (world self.now) (event_of (world self.now) ask.now m.now) → IsTrue result }
+        ensures prompt { IsPrompt (world self.now) (event_of (world self.now) ask.now m.now) → IsTrue result }
     {
         self.store.names();
         fk_calls::ready(&self.store, m, ask)
@@ -77,7 +76,7 @@ impl Kernel {
         requires fit { is_fit_event (world self.old) (event_of (world self.old) ask.now m.now) ≡ true }
         ensures step { IfOk result (λ said. step_of (world self.old) (event_of (world self.old) ask.now m.now)
             ≡ record { world = world self.new; said = said_by (path self.new) said }) }
-        ensures correct { IfOk result (λ said. IsCorrect built (world self.old) (event_of (world self.old) ask.now m.now)
+        ensures correct { IfOk result (λ said. IsCorrect (world self.old) (event_of (world self.old) ask.now m.now)
             (world self.new) (said_by (path self.new) said)) }
         ensures lacking { OnErr result (self.new ≡ self.old) }
         ensures done { may_lack (world self.old) (event_of (world self.old) ask.now m.now) ≡ false → IsOk result }
@@ -98,9 +97,9 @@ impl Kernel {
         ensures unready { IfOk result (λ tried. IfNone tried (
             (IsReadyEvent (world self.old) (event_of (world self.old) ask.now m.now) → ⊥)
             × (self.new ≡ self.old))) }
-        ensures prompt { IsPrompt built (world self.old) (event_of (world self.old) ask.now m.now) → IfOk result IsSome }
+        ensures prompt { IsPrompt (world self.old) (event_of (world self.old) ask.now m.now) → IfOk result IsSome }
         ensures correct { IfOk result (λ tried. IfSome tried (λ said.
-            IsCorrect built (world self.old) (event_of (world self.old) ask.now m.now)
+            IsCorrect (world self.old) (event_of (world self.old) ask.now m.now)
             (world self.new) (said_by (path self.new) said))) }
         ensures lacking { OnErr result (self.new ≡ self.old) }
         ensures done { may_lack (world self.old) (event_of (world self.old) ask.now m.now) ≡ false → IsOk result }

@@ -4,11 +4,10 @@
 //! that stays valid. Its contracts see a kernel by the world of its store alone: a move names threads
 //! by birth numbers and slots, and `event_of` finds their paths in that world.
 //!
-//! It promises that `ready` answers exactly whether the abstract machine of the calls that are built
-//! is ready to make a move, that `step` makes of the world what the machine makes of it and tells
-//! what the machine tells, that `attempt` does both at once, and that `next` finds a move of a user
-//! that is ready wherever there is one. `fk_stages` says which calls are built; servers don't move
-//! as yet.
+//! It promises that `ready` answers exactly whether the abstract machine is ready to make a move,
+//! that `step` makes of the world what the machine makes of it and tells what the machine tells,
+//! that `attempt` does both at once, and that `next` finds a move of a user that is ready wherever
+//! there is one. Servers don't move as yet: no act of a native server is ready.
 #![tactic(auto)]
 
 mod kernel;

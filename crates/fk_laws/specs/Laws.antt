@@ -12,7 +12,7 @@ use Rattle.fk_model.specs.Records.{record_of, set_edits, set, takes_state}
 use Rattle.fk_model.specs.StateRows.{is_native}
 use Rattle.fk_model.specs.Searches.{depth}
 use Rattle.fk_model.specs.Shapes.{IsShaped, IsInRange}
-use Rattle.fk_model.specs.Moves.{Known, step, known_step}
+use Rattle.fk_model.specs.Moves.{step}
 use Rattle.fk_model.specs.Valid.{IsValid, is_fit}
 
 -- ---- the registers of a calling thread
@@ -57,8 +57,3 @@ RecordChangesNothing = (w : World) (x : Path) (b : Body) →
 abbrev pub StepKeepsValid : Type 0
 StepKeepsValid = (w : World) (x : Path) (pick : Option Path) (ask : Ask) → IsValid w → w.next ≤ depth → is_fit w x ask ≡ true →
     IsValid (step w x pick ask).world
-
--- and so does one of a machine that knows some of the calls
-abbrev pub KnownStepKeepsValid : Type 0
-KnownStepKeepsValid = (known : Known) (w : World) (x : Path) (pick : Option Path) (ask : Ask) → IsValid w → w.next ≤ depth → is_fit w x ask ≡ true →
-    IsValid (known_step known w x pick ask).world

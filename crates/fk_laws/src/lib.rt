@@ -5,7 +5,7 @@
 #![tactic(auto)]
 
 ghost use Rattle.fk_laws.specs.Frame.{MoveKeepsBodies, MoveKeepsPages};
-ghost use Rattle.fk_laws.specs.Laws.{WordsReadBack, TodoWritesBack, WordsKeepLength, RecordIsFull, RecordIsTaken, RecordSetsNothing, RecordChangesNothing, StepKeepsValid, KnownStepKeepsValid};
+ghost use Rattle.fk_laws.specs.Laws.{WordsReadBack, TodoWritesBack, WordsKeepLength, RecordIsFull, RecordIsTaken, RecordSetsNothing, RecordChangesNothing, StepKeepsValid};
 
 /// The registers of a calling thread show the stages that were written into them, and the rest.
 pub fn words_read_back()
@@ -54,8 +54,7 @@ pub fn a_move_changes_only_what_it_lists()
     ensures pages { MoveKeepsPages }
 {}
 
-/// A fit move keeps a world valid, whether the machine knows all calls or some.
+/// A fit move keeps a world valid.
 pub fn a_fit_move_keeps_a_valid_world()
-    ensures every { StepKeepsValid }
-    ensures known { KnownStepKeepsValid }
+    ensures { StepKeepsValid }
 {}

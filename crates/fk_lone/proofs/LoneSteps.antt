@@ -27,7 +27,8 @@ use Rattle.fk_store.specs.Paths.{path, place}
 use Rattle.fk_store.specs.World.{world}
 use Rattle.fk_store.proofs.Walks.{path-root}
 use Rattle.fk_store.proofs.WordLaws.{reach_word_there}
-use Rattle.fk_user.specs.Known.{no_calls, run_in_mode, run_of_thread, run_at}
+use Rattle.fk_user.specs.Running.{run_in_mode, run_of_thread, run_at}
+use Rattle.fk_lone.specs.LoneLaws.{no_call}
 use Rattle.fk_lone.specs.LoneThread.{alone, is_in_no_call, IsAlone, registers_of, code_of, joined, memory_of, state_by, state_of}
 use Rattle.fk_lone.specs.Machine as machines
 use Rattle.fk_lone.specs.Machine.{State}
@@ -120,7 +121,7 @@ module _ (w : World) (t : Thread) (stands : thread_at w alone ≡ Some t) (pages
       memory = joined-same 256 (words_at after []) _ (λ other less. at other) ∙ sym (word_set (words_at w []) pages address low value)
 
   -- what an act does
-  acted : (g : List ℕ) (counter : ℕ) (a : Act) → IsMachine (stepped w (performs no_calls w [] alone g counter a)).world
+  acted : (g : List ℕ) (counter : ℕ) (a : Act) → IsMachine (stepped w (performs no_call w [] alone g counter a)).world
       (machines.apply (record { registers = g; counter = counter; halted = None; memory = memory_of w }) a)
   acted g counter (Put register value) = goes_on (Running (slice_set g register value)) (next counter) refl
   acted g counter (Jump to) = goes_on (Running g) to refl
@@ -154,7 +155,7 @@ module _ (w : World) (t : Thread) (stands : thread_at w alone ≡ Some t) (pages
       by true low = rw (reached w address true pages (ltb-true address 16384 low)) (stored g counter address value (ltb-true address 16384 low))
 
   -- what an instruction does
-  instructed : (g : List ℕ) (counter : ℕ) → IsMachine (stepped w (run_row_by no_calls w [] 0 g counter)).world
+  instructed : (g : List ℕ) (counter : ℕ) → IsMachine (stepped w (run_row_by no_call w [] 0 g counter)).world
       (machines.instructed (record { registers = g; counter = counter; halted = None; memory = memory_of w }))
   unfolding run_row_by
   instructed g counter = by (nat_lt counter 16384) refl
@@ -163,7 +164,7 @@ module _ (w : World) (t : Thread) (stands : thread_at w alone ≡ Some t) (pages
       s = record { registers = g; counter = counter; halted = None; memory = memory_of w }
 
       outcome : Reach → Outcome
-      outcome r = accessed alone false (halts_with alone g counter) (executes no_calls w [] alone g counter) r
+      outcome r = accessed alone false (halts_with alone g counter) (executes no_call w [] alone g counter) r
 
       by : (low : Bool) → nat_lt counter 16384 ≡ low → IsMachine (stepped w (outcome (reach_word w [] counter false))).world
           (cond low (machines.apply s (act (slice_index s.memory counter) g counter)) (machines.halt s 2))
@@ -173,12 +174,12 @@ module _ (w : World) (t : Thread) (stands : thread_at w alone ≡ Some t) (pages
           (acted g counter (act (word_at w [] (counter / 64) counter) g counter))
 
 -- an instruction of the thread is one of the machine
-pub run_at-machine : (w : World) → IsAlone w → IsMachine (stepped w (run_at no_calls w alone)).world (machines.step (state_of w))
+pub run_at-machine : (w : World) → IsAlone w → IsMachine (stepped w (run_at no_call w alone)).world (machines.step (state_of w))
 unfolding run_at state_of
 run_at-machine w is = by (thread_at w alone) refl is.thread
   where
     in_mode : (t : Thread) (m : Mode) → thread_at w alone ≡ Some t → t.mode ≡ m → is_in_no_call m ≡ true →
-        IsMachine (stepped w (run_in_mode no_calls w alone t.counter m)).world
+        IsMachine (stepped w (run_in_mode no_call w alone t.counter m)).world
         (machines.step (record { registers = registers_of m; counter = t.counter; halted = code_of m; memory = memory_of w }))
     in_mode t (Running g) stands mode idle = instructed w t stands is.pages g t.counter
     in_mode t (Calling todo rest) stands mode idle = absurd (cc)
@@ -190,7 +191,7 @@ run_at-machine w is = by (thread_at w alone) refl is.thread
     in_mode t (Native g) stands mode idle = absurd (cc)
 
     by : (o : Option Thread) → thread_at w alone ≡ o → holds (λ (t : Thread). is_in_no_call t.mode) o ≡ true →
-        IsMachine (stepped w (run_of_thread no_calls w alone o)).world (machines.step (state_by (memory_of w) o))
+        IsMachine (stepped w (run_of_thread no_call w alone o)).world (machines.step (state_by (memory_of w) o))
     by None stands idle = absurd (cc)
     by (Some t) stands idle = in_mode t t.mode stands refl idle
 

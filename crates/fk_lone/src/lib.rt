@@ -5,8 +5,7 @@
 //! looked up but pages, and it is put back at the end.
 //!
 //! It promises that `Machine` makes exactly the instructions that `specs/Machine.antt` defines, and
-//! that these are the moves of a free thread that stands alone in the abstract machine, where no call
-//! is known.
+//! that these are the abstract machine's, where no registers name a call.
 #![tactic(auto)]
 
 mod laws;

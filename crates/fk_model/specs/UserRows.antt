@@ -42,24 +42,24 @@ abbrev pub enters : Path → List ℕ → ℕ → Option (List Stage) → Outcom
 enters me g counter (Some todo) = proceeds me (Calling todo (rest_of todo g)) counter
 enters me g counter None = proceeds me (Running (slice_set g 0 BADCALL)) (next counter)
 
--- `known` says which calls the registers may name: every call for a thread of the kernel, and none for a thread alone
+-- `calls` says which calls the registers may name: every call for a thread of the kernel, and none for a thread alone
 abbrev pub performs : (List ℕ → Option (List Stage)) → World → Path → Path → List ℕ → ℕ → Act → Outcome
-performs known w space me g counter (Put register value) = proceeds me (Running (slice_set g register value)) (next counter)
-performs known w space me g counter (Jump to) = proceeds me (Running g) to
-performs known w space me g counter (Load register address) =
+performs calls w space me g counter (Put register value) = proceeds me (Running (slice_set g register value)) (next counter)
+performs calls w space me g counter (Jump to) = proceeds me (Running g) to
+performs calls w space me g counter (Load register address) =
     accessed me false (halts_with me g counter) (loads w me g counter register address) (reach_word w space address false)
-performs known w space me g counter (Store address value) =
+performs calls w space me g counter (Store address value) =
     accessed me true (halts_with me g counter) (stores w me g counter address value) (reach_word w space address true)
-performs known w space me g counter (Halt code) = halts_with me g counter code
-performs known w space me g counter Call = enters me g counter (known g)
+performs calls w space me g counter (Halt code) = halts_with me g counter code
+performs calls w space me g counter Call = enters me g counter (calls g)
 
 abbrev pub executes : (List ℕ → Option (List Stage)) → World → Path → Path → List ℕ → ℕ → Path → ℕ → Outcome
-executes known w space me g counter s page = performs known w space me g counter (act (word_at w s page counter) g counter)
+executes calls w space me g counter s page = performs calls w space me g counter (act (word_at w s page counter) g counter)
 
 -- the instruction of the thread in a slot of a space, with these registers and this counter
 unfoldable pub run_row_by : (List ℕ → Option (List Stage)) → World → Path → ℕ → List ℕ → ℕ → Outcome
-run_row_by known w space slot g counter =
-    accessed (slot ∷ space) false (halts_with (slot ∷ space) g counter) (executes known w space (slot ∷ space) g counter) (reach_word w space counter false)
+run_row_by calls w space slot g counter =
+    accessed (slot ∷ space) false (halts_with (slot ∷ space) g counter) (executes calls w space (slot ∷ space) g counter) (reach_word w space counter false)
 
 abbrev pub run_row : World → Path → ℕ → List ℕ → ℕ → Outcome
 run_row w space slot g counter = run_row_by todo_of w space slot g counter

@@ -22,7 +22,7 @@ use Rattle.fk_model.specs.Readers.{object_in, anything, space_argument, own_page
 use Rattle.fk_model.specs.LinkRows.{user_at}
 use Rattle.fk_model.specs.Records.{record_of, state_words, talk_words, fault_words}
 use Rattle.fk_model.specs.StateRows.{is_bad_record_address, shows, get_state, record_at}
-use Rattle.fk_model.specs.Moves.{Known, Step, call_row, closed, stepped, porter_at}
+use Rattle.fk_model.specs.Moves.{Step, call_row, closed, stepped, porter_at}
 use Rattle.fk_model.proofs.walks.PlaceLaws.{same_path_refl}
 use Rattle.fk_laws.proofs.safety.Reads.{object_in-found}
 use Rattle.fk_whole.specs.Runnable.{HasRegisters, IsRunnable}
@@ -80,7 +80,7 @@ after-edit : (w : World) (x : Path) (edit : Edit) (b : Body) → w.body x ≡ So
 unfolding apply apply_all
 after-edit w x edit b there = rw (same_path_refl x, there) refl
 
-module _ (known : Known) (w : World) (registers : HasRegisters w) (space : Path) (slot : ℕ) (stage : Stage) (at : IsUserAt known w space slot stage) where
+module _ (w : World) (registers : HasRegisters w) (space : Path) (slot : ℕ) (stage : Stage) (at : IsUserAt w space slot stage) where
   own-registers : length (words (stage ∷ []) at.rest) ≡ 16
   own-registers = ap (λ mode. length (registers_of mode)) (sym at.mode) ∙ registers (slot ∷ space) at.thread (rw at.there refl)
 
@@ -107,14 +107,14 @@ put-read : (w : World) (t : Path) (page : ℕ) (put : List ℕ) (x : Path) (edit
 unfolding apply apply_all
 put-read w t page put x edit = rw (same_path_refl t, eq-eqb page page refl) refl
 
-module _ (known : Known) (w : World) (runs : IsRunnable w) (space : Path) (slot s x address : ℕ)
-    (at : IsUserAt known w space slot (GetState s x address)) where
+module _ (w : World) (runs : IsRunnable w) (space : Path) (slot s x address : ℕ)
+    (at : IsUserAt w space slot (GetState s x address)) where
   abbrev Shown : Outcome → Type 0
   Shown o = is_done (stepped w (closed (user_at (slot ∷ space)) o)).world (slot ∷ space) ≡ true →
       ShowsRecord w (stepped w (closed (user_at (slot ∷ space)) o)).world (user_at (slot ∷ space)) s x address
 
   shown-refused : (status : ℕ) → (status == OK) ≡ false → Shown (Refused status)
-  shown-refused status told done = absurd (refused-undone known w runs.registers space slot (GetState s x address) at status told done)
+  shown-refused status told done = absurd (refused-undone w runs.registers space slot (GetState s x address) at status told done)
 
   shown-read : {A : Type 0} (r : Result A ℕ) (go : A → Outcome) → IsTold r → ((a : A) → r ≡ Ok a → Shown (go a)) → Shown (r >>= go)
   shown-read (Ok a) go told going = going a refl
@@ -147,7 +147,7 @@ module _ (known : Known) (w : World) (runs : IsRunnable w) (space : Path) (slot 
         (record_place address (not-false _ good)));
   }
   shown-page there b place object good (Missing t page (Some keeper)) e done =
-      absurd (faulted-undone known w runs.registers space slot (GetState s x address) at page true keeper done)
+      absurd (faulted-undone w runs.registers space slot (GetState s x address) at page true keeper done)
   shown-page there b place object good (Missing t page None) e done = shown-refused BADADDRESS refl done
   shown-page there b place object good Bad e done = shown-refused BADADDRESS refl done
 
@@ -161,11 +161,11 @@ module _ (known : Known) (w : World) (runs : IsRunnable w) (space : Path) (slot 
 
 pub get_state_shows : GetStateShows
 unfolding call_row
-get_state_shows known w space slot s x address runs at =
+get_state_shows w space slot s x address runs at =
     subst (λ (step : Step). is_done step.world (slot ∷ space) ≡ true → ShowsRecord w step.world (user_at (slot ∷ space)) s x address)
-    (sym (users-step known w space slot (GetState s x address) at
+    (sym (users-step w space slot (GetState s x address) at
     ∙ ap (λ o. stepped w (closed (user_at (slot ∷ space)) o)) (unpicked (get_state w (user_at (slot ∷ space)) s x address))))
-    (row-shown known w runs space slot s x address at)
+    (row-shown w runs space slot s x address at)
 
 -- ---- a porter's answer
 
@@ -192,8 +192,8 @@ module _ (w : World) (space : Path) (slot s x address : ℕ) (given : List ℕ) 
 
 pub get_state_answers : GetStateAnswers
 unfolding call_row
-get_state_answers known w space slot s x address given answer at =
+get_state_answers w space slot s x address given answer at =
     subst (λ (step : Step). step.said ≡ Answered OK answer → AnswersRecord w (porter_at (slot ∷ space) given) s x answer)
-    (sym (porters-step known w space slot (GetState s x address) given at
+    (sym (porters-step w space slot (GetState s x address) given at
     ∙ ap (λ o. stepped w (closed (porter_at (slot ∷ space) given) o)) (unpicked (get_state w (porter_at (slot ∷ space) given) s x address))))
     (row-answers w space slot s x address given answer)

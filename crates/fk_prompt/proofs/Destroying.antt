@@ -115,16 +115,16 @@ module _ (w : World) (c : Caller) where
 
 pub users_destroy_one : UsersDestroyOne
 unfolding call_row
-users_destroy_one known w space slot s x at =
+users_destroy_one w space slot s x at =
     subst (λ (step : Step). LosesOne w step.world)
-    (sym (users-step known w space slot (Destroy s x) at
+    (sym (users-step w space slot (Destroy s x) at
     ∙ ap (λ o. stepped w (closed (user_at (slot ∷ space)) o)) (unpicked (destroy w (user_at (slot ∷ space)) s x))))
     (row-lost w (user_at (slot ∷ space)) s x)
 
 pub porters_destroy_one : PortersDestroyOne
 unfolding call_row
-porters_destroy_one known w space slot s x given at =
+porters_destroy_one w space slot s x given at =
     subst (λ (step : Step). LosesOne w step.world)
-    (sym (porters-step known w space slot (Destroy s x) given at
+    (sym (porters-step w space slot (Destroy s x) given at
     ∙ ap (λ o. stepped w (closed (porter_at (slot ∷ space) given) o)) (unpicked (destroy w (porter_at (slot ∷ space) given) s x))))
     (row-lost w (porter_at (slot ∷ space) given) s x)

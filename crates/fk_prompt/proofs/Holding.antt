@@ -136,16 +136,16 @@ module _ (w : World) (space : Path) (slot : ℕ) (own : IsOwn w space slot) wher
 
 pub space_hold_is_prompt : SpaceHoldIsPrompt
 unfolding call_row
-space_hold_is_prompt known w space slot s x at may =
+space_hold_is_prompt w space slot s x at may =
     subst (GoesAllowed w (slot ∷ space))
-    (sym (users-outcome known w space slot (SpaceHold s x) at
+    (sym (users-outcome w space slot (SpaceHold s x) at
     ∙ ap (closed (user_at (slot ∷ space))) (unpicked (space_hold w (user_at (slot ∷ space)) s x))))
-    (row-ready w space slot (users-own known w space slot (SpaceHold s x) at) s x may)
+    (row-ready w space slot (users-own w space slot (SpaceHold s x) at) s x may)
 
 pub porters_space_hold_is_prompt : PortersSpaceHoldIsPrompt
 unfolding call_row
-porters_space_hold_is_prompt known w space slot s x given at may =
+porters_space_hold_is_prompt w space slot s x given at may =
     subst (GoesAllowed w (slot ∷ space))
-    (sym (porters-outcome known w space slot (SpaceHold s x) given at
+    (sym (porters-outcome w space slot (SpaceHold s x) given at
     ∙ ap (closed (porter_at (slot ∷ space) given)) (unpicked (space_hold w (porter_at (slot ∷ space) given) s x))))
-    (porter-ready w space slot (porters-own known w space slot (SpaceHold s x) at) s x given may)
+    (porter-ready w space slot (porters-own w space slot (SpaceHold s x) at) s x given may)

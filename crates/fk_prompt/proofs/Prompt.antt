@@ -19,7 +19,7 @@ use Rattle.fk_model.specs.Freezing.{MayAlter, changed_pointers, made_pointers}
 use Rattle.fk_model.specs.Readers.{object_in, anything, space_argument, own_page_at, fault_on}
 use Rattle.fk_model.specs.LinkRows.{user_at}
 use Rattle.fk_model.specs.StateRows.{is_bad_record_address, shows, get_state}
-use Rattle.fk_model.specs.Moves.{Known, Step, call_row, closed, stepped, porter_at, GoesAllowed}
+use Rattle.fk_model.specs.Moves.{Step, call_row, closed, stepped, porter_at, GoesAllowed}
 use Rattle.fk_prompt.specs.Callers.{IsUserAt, IsPorterFor}
 use Rattle.fk_prompt.specs.Correct.{IsNamed}
 use Rattle.fk_prompt.specs.Prompt.{is_open, GetStateIsPrompt, PortersGetStateIsPrompt, GetStateFaults}
@@ -41,12 +41,12 @@ own-may w space slot own edit changed made = record {
   made = rw made refl;
 }
 
-pub users-own : (known : Known) (w : World) (space : Path) (slot : ℕ) (stage : Stage) → IsUserAt known w space slot stage → IsOwn w space slot
-users-own known w space slot stage at =
-    record { thread = at.thread; there = at.there; none = unheld-none w space (users-unheld known w space slot stage at) }
+pub users-own : (w : World) (space : Path) (slot : ℕ) (stage : Stage) → IsUserAt w space slot stage → IsOwn w space slot
+users-own w space slot stage at =
+    record { thread = at.thread; there = at.there; none = unheld-none w space (users-unheld w space slot stage at) }
 
-pub porters-own : (known : Known) (w : World) (space : Path) (slot : ℕ) (stage : Stage) → IsPorterFor known w space slot stage → IsOwn w space slot
-porters-own known w space slot stage at = record { thread = at.thread; there = at.there; none = unheld-none w space at.free }
+pub porters-own : (w : World) (space : Path) (slot : ℕ) (stage : Stage) → IsPorterFor w space slot stage → IsOwn w space slot
+porters-own w space slot stage at = record { thread = at.thread; there = at.there; none = unheld-none w space at.free }
 
 -- ---- a user
 
@@ -94,12 +94,12 @@ module _ (w : World) (space : Path) (slot s x address : ℕ) (own : IsOwn w spac
 
 pub get_state_is_prompt : GetStateIsPrompt
 unfolding call_row users-own
-get_state_is_prompt known w space slot s x address at unbarred =
+get_state_is_prompt w space slot s x address at unbarred =
     subst (GoesAllowed w (slot ∷ space))
-    (sym (users-outcome known w space slot (GetState s x address) at
+    (sym (users-outcome w space slot (GetState s x address) at
     ∙ ap (closed (user_at (slot ∷ space))) (unpicked (get_state w (user_at (slot ∷ space)) s x address))))
-    (row-ready w space slot s x address (users-own known w space slot (GetState s x address) at)
-    (users-faultless known w space slot (GetState s x address) at) unbarred)
+    (row-ready w space slot s x address (users-own w space slot (GetState s x address) at)
+    (users-faultless w space slot (GetState s x address) at) unbarred)
 
 -- ---- a porter, which nothing bars
 
@@ -119,9 +119,9 @@ module _ (w : World) (space : Path) (slot s x address : ℕ) (given : List ℕ) 
 
 pub porters_get_state_is_prompt : PortersGetStateIsPrompt
 unfolding call_row
-porters_get_state_is_prompt known w space slot s x address given at =
+porters_get_state_is_prompt w space slot s x address given at =
     subst (GoesAllowed w (slot ∷ space))
-    (sym (porters-outcome known w space slot (GetState s x address) given at
+    (sym (porters-outcome w space slot (GetState s x address) given at
     ∙ ap (closed (porter_at (slot ∷ space) given)) (unpicked (get_state w (porter_at (slot ∷ space) given) s x address))))
     (porter-ready w space slot s x address given)
 
@@ -136,7 +136,7 @@ missing-row w space slot s x address b at page keeper named good missing = rw (n
 
 pub get_state_faults : GetStateFaults
 unfolding call_row apply_all
-get_state_faults known w space slot s x address b away page keeper at named good missing =
-    ap (λ (step : Step). step.world) (users-step known w space slot (GetState s x address) at
+get_state_faults w space slot s x address b away page keeper at named good missing =
+    ap (λ (step : Step). step.world) (users-step w space slot (GetState s x address) at
     ∙ ap (λ o. stepped w (closed (user_at (slot ∷ space)) o)) (unpicked (get_state w (user_at (slot ∷ space)) s x address)
     ∙ missing-row w space slot s x address b away page keeper named good missing))

@@ -20,7 +20,7 @@ use Rattle.fk_model.specs.Readers.{object_in, anything, space_argument, own_page
 use Rattle.fk_model.specs.LinkRows.{user_at}
 use Rattle.fk_model.specs.Records.{record_of, record_registers, set_edits, takes_state}
 use Rattle.fk_model.specs.StateRows.{is_bad_record_address, is_native, is_still, sets_record, record_at, set_state}
-use Rattle.fk_model.specs.Moves.{Known, Step, call_row, closed, stepped, porter_at}
+use Rattle.fk_model.specs.Moves.{Step, call_row, closed, stepped, porter_at}
 use Rattle.fk_laws.proofs.Records.{record_changes_nothing_lem}
 use Rattle.fk_whole.specs.Runnable.{HasRegisters}
 use Rattle.fk_prompt.specs.Callers.{IsUserAt, is_done}
@@ -33,14 +33,14 @@ unfolding apply_all
 apply_all-append [] ds w = refl
 apply_all-append (c ∷ cs) ds w = apply_all-append cs ds (apply c w)
 
-module _ (known : Known) (w : World) (registers : HasRegisters w) (space : Path) (slot s x address : ℕ)
-    (at : IsUserAt known w space slot (SetState s x address)) where
+module _ (w : World) (registers : HasRegisters w) (space : Path) (slot s x address : ℕ)
+    (at : IsUserAt w space slot (SetState s x address)) where
   abbrev Kept : Outcome → Type 0
   Kept o = is_done (stepped w (closed (user_at (slot ∷ space)) o)).world (slot ∷ space) ≡ true →
       (stepped w (closed (user_at (slot ∷ space)) o)).world ≡ apply (Alter (slot ∷ space) (Finish [])) w
 
   kept-refused : (status : ℕ) → (status == OK) ≡ false → Kept (Refused status)
-  kept-refused status told done = absurd (refused-undone known w registers space slot (SetState s x address) at status told done)
+  kept-refused status told done = absurd (refused-undone w registers space slot (SetState s x address) at status told done)
 
   kept-read : {A : Type 0} (r : Result A ℕ) (a : A) (go : A → Outcome) → r ≡ Ok a → Kept (go a) → Kept (r >>= go)
   kept-read r a go e kept = rw e kept
@@ -92,11 +92,11 @@ module _ (known : Known) (w : World) (registers : HasRegisters w) (space : Path)
 
 pub set_state_of_itself : SetStateOfItself
 unfolding call_row
-set_state_of_itself known w space slot s x address registers at meets =
+set_state_of_itself w space slot s x address registers at meets =
     subst (λ (step : Step). is_done step.world (slot ∷ space) ≡ true → step.world ≡ apply (Alter (slot ∷ space) (Finish [])) w)
-    (sym (users-step known w space slot (SetState s x address) at
+    (sym (users-step w space slot (SetState s x address) at
     ∙ ap (λ o. stepped w (closed (user_at (slot ∷ space)) o)) (unpicked (set_state w (user_at (slot ∷ space)) s x address))))
-    (row-kept known w registers space slot s x address at meets)
+    (row-kept w registers space slot s x address at meets)
 
 -- ---- a porter, whose words may be more than a record has
 
@@ -173,8 +173,8 @@ module _ (w : World) (space : Path) (slot s x address : ℕ) (given : List ℕ) 
 
 pub porters_set_state_of_itself : PortersSetStateOfItself
 unfolding call_row
-porters_set_state_of_itself known w space slot s x address given at gives =
+porters_set_state_of_itself w space slot s x address given at gives =
     subst (λ (step : Step). step.said ≡ Answered OK [] → step.world ≡ w)
-    (sym (porters-step known w space slot (SetState s x address) given at
+    (sym (porters-step w space slot (SetState s x address) given at
     ∙ ap (λ o. stepped w (closed (porter_at (slot ∷ space) given) o)) (unpicked (set_state w (porter_at (slot ∷ space) given) s x address))))
     (row-porter w space slot s x address given gives)

@@ -9,7 +9,7 @@ use Rattle.fk_model.specs.World.{World, Change, Edit}
 use Rattle.fk_model.specs.World.Change.{Alter, DropPage}
 use Rattle.fk_model.specs.World.Edit.{CountMoved, Shift}
 use Rattle.fk_model.specs.Outcomes.{listed}
-use Rattle.fk_model.specs.Moves.{Known, known_outcome}
+use Rattle.fk_model.specs.Moves.{outcome}
 use Rattle.fk_prompt.specs.Callers.{IsUserAt, IsPorterFor, users_step, porters_step}
 
 -- it counts no more words than a block has
@@ -36,7 +36,7 @@ AreBrief (c ∷ cs) = AreSmall cs
 
 -- so it is with every move: of users, porters and native servers, whatever they pick
 abbrev pub MovesAreBrief : Type 0
-MovesAreBrief = (known : Known) (w : World) (x : Path) (pick : Option Path) (ask : Ask) → AreBrief (listed (known_outcome known w x pick ask))
+MovesAreBrief = (w : World) (x : Path) (pick : Option Path) (ask : Ask) → AreBrief (listed (outcome w x pick ask))
 
 -- ---- destroy
 
@@ -46,9 +46,9 @@ pub data LosesOne (w v : World) : Type 0 where
   Loses : (gone : Path) → ((q : Path) → is_some (v.body q) ≡ (is_some (w.body q) && not (same_path q gone))) → LosesOne w v
 
 abbrev pub UsersDestroyOne : Type 0
-UsersDestroyOne = (known : Known) (w : World) (space : Path) (slot s x : ℕ) → IsUserAt known w space slot (Destroy s x) →
-    LosesOne w (users_step known w space slot).world
+UsersDestroyOne = (w : World) (space : Path) (slot s x : ℕ) → IsUserAt w space slot (Destroy s x) →
+    LosesOne w (users_step w space slot).world
 
 abbrev pub PortersDestroyOne : Type 0
-PortersDestroyOne = (known : Known) (w : World) (space : Path) (slot s x : ℕ) (words : List ℕ) → IsPorterFor known w space slot (Destroy s x) →
-    LosesOne w (porters_step known w space slot (Destroy s x) words).world
+PortersDestroyOne = (w : World) (space : Path) (slot s x : ℕ) (words : List ℕ) → IsPorterFor w space slot (Destroy s x) →
+    LosesOne w (porters_step w space slot (Destroy s x) words).world

@@ -10,32 +10,29 @@ use Rattle.fk_model.specs.Objects.Body.{Thread_of}
 use Rattle.fk_model.specs.World.{World}
 use Rattle.fk_model.specs.Searches.{thread_at}
 use Rattle.fk_model.specs.Holds.{is_free, is_unheld, is_porter}
-use Rattle.fk_model.specs.Calls.{code_of}
-use Rattle.fk_model.specs.Moves.{Known, Step, known_step}
+use Rattle.fk_model.specs.Moves.{Step, step}
 
--- a free user thread stands in a slot of a space, in the call that has this stage alone, which the machine knows
-pub record IsUserAt (known : Known) (w : World) (space : Path) (slot : ℕ) (stage : Stage) : Type 0 where
+-- a free user thread stands in a slot of a space, in the call that has this stage alone
+pub record IsUserAt (w : World) (space : Path) (slot : ℕ) (stage : Stage) : Type 0 where
   pub thread : Thread
   pub rest : List ℕ
   pub there : w.body (slot ∷ space) ≡ Some (Thread_of thread)
   pub free : is_free w space thread ≡ true
   pub mode : thread.mode ≡ Calling (stage ∷ []) rest
-  pub call : known.calls (code_of (stage ∷ [])) ≡ true
 
--- a free porter stands there, and the machine knows the call that has this stage alone
-pub record IsPorterFor (known : Known) (w : World) (space : Path) (slot : ℕ) (stage : Stage) : Type 0 where
+-- a free porter stands there
+pub record IsPorterFor (w : World) (space : Path) (slot : ℕ) (stage : Stage) : Type 0 where
   pub thread : Thread
   pub there : w.body (slot ∷ space) ≡ Some (Thread_of thread)
   pub porter : is_porter thread.mode ≡ true
   pub free : is_unheld w space ≡ true
-  pub call : known.calls (code_of (stage ∷ [])) ≡ true
 
 -- the step of a user, and of a porter that asks for a stage and gives these words. Neither picks
-abbrev pub users_step : Known → World → Path → ℕ → Step
-users_step known w space slot = known_step known w (slot ∷ space) None asks.Run
+abbrev pub users_step : World → Path → ℕ → Step
+users_step w space slot = step w (slot ∷ space) None asks.Run
 
-abbrev pub porters_step : Known → World → Path → ℕ → Stage → List ℕ → Step
-porters_step known w space slot stage words = known_step known w (slot ∷ space) None (asks.Call stage words)
+abbrev pub porters_step : World → Path → ℕ → Stage → List ℕ → Step
+porters_step w space slot stage words = step w (slot ∷ space) None (asks.Call stage words)
 
 -- a call has ended OK: its thread runs, with that status in its first register
 abbrev pub has_ended : Mode → Bool

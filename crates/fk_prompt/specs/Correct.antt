@@ -18,7 +18,7 @@ use Rattle.fk_model.specs.LinkRows.{user_at}
 use Rattle.fk_model.specs.Records.{record_of}
 use Rattle.fk_model.specs.StateRows.{record_at}
 use Rattle.fk_model.specs.Shapes.{IsShaped}
-use Rattle.fk_model.specs.Moves.{Known, porter_at}
+use Rattle.fk_model.specs.Moves.{porter_at}
 use Rattle.fk_whole.specs.Runnable.{HasRegisters, IsRunnable}
 use Rattle.fk_prompt.specs.Callers.{IsUserAt, IsPorterFor, users_step, porters_step, is_done}
 
@@ -47,9 +47,9 @@ pub record ShowsRecord (w v : World) (c : Caller) (s x address : ℕ) : Type 0 w
 
 -- a get_state that is done leaves the record in the caller's memory
 abbrev pub GetStateShows : Type 0
-GetStateShows = (known : Known) (w : World) (space : Path) (slot s x address : ℕ) → IsRunnable w → IsUserAt known w space slot (GetState s x address) →
-    is_done (users_step known w space slot).world (slot ∷ space) ≡ true →
-    ShowsRecord w (users_step known w space slot).world (user_at (slot ∷ space)) s x address
+GetStateShows = (w : World) (space : Path) (slot s x address : ℕ) → IsRunnable w → IsUserAt w space slot (GetState s x address) →
+    is_done (users_step w space slot).world (slot ∷ space) ≡ true →
+    ShowsRecord w (users_step w space slot).world (user_at (slot ∷ space)) s x address
 
 -- a porter is answered the record of the object that it names
 pub record AnswersRecord (w : World) (c : Caller) (s x : ℕ) (answer : List ℕ) : Type 0 where
@@ -58,9 +58,9 @@ pub record AnswersRecord (w : World) (c : Caller) (s x : ℕ) (answer : List ℕ
   pub answered : answer ≡ record_of body
 
 abbrev pub GetStateAnswers : Type 0
-GetStateAnswers = (known : Known) (w : World) (space : Path) (slot s x address : ℕ) (words answer : List ℕ) →
-    IsPorterFor known w space slot (GetState s x address) →
-    (porters_step known w space slot (GetState s x address) words).said ≡ Answered OK answer →
+GetStateAnswers = (w : World) (space : Path) (slot s x address : ℕ) (words answer : List ℕ) →
+    IsPorterFor w space slot (GetState s x address) →
+    (porters_step w space slot (GetState s x address) words).said ≡ Answered OK answer →
     AnswersRecord w (porter_at (slot ∷ space) words) s x answer
 
 -- ---- set_state
@@ -75,10 +75,10 @@ pub record MeetsItself (w : World) (c : Caller) (s x address : ℕ) : Type 0 whe
 
 -- a set_state that is done, of the record that the object shows, changes nothing but the end of its caller's call
 abbrev pub SetStateOfItself : Type 0
-SetStateOfItself = (known : Known) (w : World) (space : Path) (slot s x address : ℕ) → HasRegisters w →
-    IsUserAt known w space slot (SetState s x address) → MeetsItself w (user_at (slot ∷ space)) s x address →
-    is_done (users_step known w space slot).world (slot ∷ space) ≡ true →
-    (users_step known w space slot).world ≡ apply (Alter (slot ∷ space) (Finish [])) w
+SetStateOfItself = (w : World) (space : Path) (slot s x address : ℕ) → HasRegisters w →
+    IsUserAt w space slot (SetState s x address) → MeetsItself w (user_at (slot ∷ space)) s x address →
+    is_done (users_step w space slot).world (slot ∷ space) ≡ true →
+    (users_step w space slot).world ≡ apply (Alter (slot ∷ space) (Finish [])) w
 
 -- a porter gives the record that the object shows
 pub record GivesItself (w : World) (c : Caller) (s x : ℕ) : Type 0 where
@@ -89,7 +89,7 @@ pub record GivesItself (w : World) (c : Caller) (s x : ℕ) : Type 0 where
 
 -- and where it is answered OK nothing is changed
 abbrev pub PortersSetStateOfItself : Type 0
-PortersSetStateOfItself = (known : Known) (w : World) (space : Path) (slot s x address : ℕ) (words : List ℕ) →
-    IsPorterFor known w space slot (SetState s x address) → GivesItself w (porter_at (slot ∷ space) words) s x →
-    (porters_step known w space slot (SetState s x address) words).said ≡ Answered OK [] →
-    (porters_step known w space slot (SetState s x address) words).world ≡ w
+PortersSetStateOfItself = (w : World) (space : Path) (slot s x address : ℕ) (words : List ℕ) →
+    IsPorterFor w space slot (SetState s x address) → GivesItself w (porter_at (slot ∷ space) words) s x →
+    (porters_step w space slot (SetState s x address) words).said ≡ Answered OK [] →
+    (porters_step w space slot (SetState s x address) words).world ≡ w

@@ -14,7 +14,7 @@ use Rattle.fk_model.specs.Outcomes.{Said, listed}
 use Rattle.fk_model.specs.Outcomes.Said.{Answered}
 use Rattle.fk_model.specs.Readers.{space_argument}
 use Rattle.fk_model.specs.LinkRows.{user_at}
-use Rattle.fk_model.specs.Moves.{Known, IsKnownReady, known_outcome, known_step, porter_at}
+use Rattle.fk_model.specs.Moves.{IsReady, outcome, step, porter_at}
 use Rattle.fk_model.specs.Runs.{Event}
 use Rattle.fk_whole.specs.Runnable.{IsRunnable, IsDue}
 use Rattle.fk_prompt.specs.Callers.{IsUserAt, IsPorterFor, is_done}
@@ -32,41 +32,41 @@ porters_event space slot stage words = record { mover = slot ∷ space; pick = N
 -- ---- promptness
 
 -- a free caller gets a state, at an address that no hold of another bars, or holds a space that no hold bars
-pub data IsPrompt (known : Known) (w : World) : Event → Type 0 where
-  Gets : (space : Path) (slot s x address : ℕ) → IsUserAt known w space slot (GetState s x address) →
-      is_open w (slot ∷ space) (reach_word w space address true) ≡ true → IsPrompt known w (users_event space slot)
-  PorterGets : (space : Path) (slot s x address : ℕ) (words : List ℕ) → IsPorterFor known w space slot (GetState s x address) →
-      IsPrompt known w (porters_event space slot (GetState s x address) words)
-  Holds : (space : Path) (slot s x : ℕ) → IsUserAt known w space slot (SpaceHold s x) →
-      may_hold w (user_at (slot ∷ space)) x (space_argument w (user_at (slot ∷ space)) s) ≡ true → IsPrompt known w (users_event space slot)
-  PorterHolds : (space : Path) (slot s x : ℕ) (words : List ℕ) → IsPorterFor known w space slot (SpaceHold s x) →
+pub data IsPrompt (w : World) : Event → Type 0 where
+  Gets : (space : Path) (slot s x address : ℕ) → IsUserAt w space slot (GetState s x address) →
+      is_open w (slot ∷ space) (reach_word w space address true) ≡ true → IsPrompt w (users_event space slot)
+  PorterGets : (space : Path) (slot s x address : ℕ) (words : List ℕ) → IsPorterFor w space slot (GetState s x address) →
+      IsPrompt w (porters_event space slot (GetState s x address) words)
+  Holds : (space : Path) (slot s x : ℕ) → IsUserAt w space slot (SpaceHold s x) →
+      may_hold w (user_at (slot ∷ space)) x (space_argument w (user_at (slot ∷ space)) s) ≡ true → IsPrompt w (users_event space slot)
+  PorterHolds : (space : Path) (slot s x : ℕ) (words : List ℕ) → IsPorterFor w space slot (SpaceHold s x) →
       may_hold w (porter_at (slot ∷ space) words) x (space_argument w (porter_at (slot ∷ space) words) s) ≡ true →
-      IsPrompt known w (porters_event space slot (SpaceHold s x) words)
+      IsPrompt w (porters_event space slot (SpaceHold s x) words)
 
 -- such a move is ready
 abbrev pub PromptIsReady : Type 0
-PromptIsReady = (known : Known) (w : World) (e : Event) → IsPrompt known w e → IsKnownReady known w e.mover e.pick e.ask
+PromptIsReady = (w : World) (e : Event) → IsPrompt w e → IsReady w e.mover e.pick e.ask
 
 -- ---- correctness and brevity
 
 -- an event leads from one world to another, and tells this: what is got is the record, what is set again changes nothing, a
 -- stage of destroy takes one object, all that is done is brief, and pages keep all their words and threads their registers
-pub record IsCorrect (known : Known) (w : World) (e : Event) (v : World) (said : Said) : Type 0 where
-  pub got : (space : Path) (slot s x address : ℕ) → e ≡ users_event space slot → IsRunnable w → IsUserAt known w space slot (GetState s x address) →
+pub record IsCorrect (w : World) (e : Event) (v : World) (said : Said) : Type 0 where
+  pub got : (space : Path) (slot s x address : ℕ) → e ≡ users_event space slot → IsRunnable w → IsUserAt w space slot (GetState s x address) →
       is_done v (slot ∷ space) ≡ true → ShowsRecord w v (user_at (slot ∷ space)) s x address
   pub answered : (space : Path) (slot s x address : ℕ) (words answer : List ℕ) → e ≡ porters_event space slot (GetState s x address) words →
-      IsPorterFor known w space slot (GetState s x address) → said ≡ Answered OK answer → AnswersRecord w (porter_at (slot ∷ space) words) s x answer
-  pub set : (space : Path) (slot s x address : ℕ) → e ≡ users_event space slot → IsRunnable w → IsUserAt known w space slot (SetState s x address) →
+      IsPorterFor w space slot (GetState s x address) → said ≡ Answered OK answer → AnswersRecord w (porter_at (slot ∷ space) words) s x answer
+  pub set : (space : Path) (slot s x address : ℕ) → e ≡ users_event space slot → IsRunnable w → IsUserAt w space slot (SetState s x address) →
       MeetsItself w (user_at (slot ∷ space)) s x address → is_done v (slot ∷ space) ≡ true → v ≡ apply (Alter (slot ∷ space) (Finish [])) w
   pub given : (space : Path) (slot s x address : ℕ) (words : List ℕ) → e ≡ porters_event space slot (SetState s x address) words →
-      IsPorterFor known w space slot (SetState s x address) → GivesItself w (porter_at (slot ∷ space) words) s x → said ≡ Answered OK [] → v ≡ w
-  pub destroyed : (space : Path) (slot s x : ℕ) → e ≡ users_event space slot → IsUserAt known w space slot (Destroy s x) → LosesOne w v
+      IsPorterFor w space slot (SetState s x address) → GivesItself w (porter_at (slot ∷ space) words) s x → said ≡ Answered OK [] → v ≡ w
+  pub destroyed : (space : Path) (slot s x : ℕ) → e ≡ users_event space slot → IsUserAt w space slot (Destroy s x) → LosesOne w v
   pub removed : (space : Path) (slot s x : ℕ) (words : List ℕ) → e ≡ porters_event space slot (Destroy s x) words →
-      IsPorterFor known w space slot (Destroy s x) → LosesOne w v
-  pub brief : AreBrief (listed (known_outcome known w e.mover e.pick e.ask))
+      IsPorterFor w space slot (Destroy s x) → LosesOne w v
+  pub brief : AreBrief (listed (outcome w e.mover e.pick e.ask))
   pub runs : IsRunnable w → IsDue w e → w.next + 1 ≤ depth → IsRunnable v
 
 -- so it is with every step
 abbrev pub StepsAreCorrect : Type 0
-StepsAreCorrect = (known : Known) (w : World) (e : Event) →
-    IsCorrect known w e (known_step known w e.mover e.pick e.ask).world (known_step known w e.mover e.pick e.ask).said
+StepsAreCorrect = (w : World) (e : Event) →
+    IsCorrect w e (step w e.mover e.pick e.ask).world (step w e.mover e.pick e.ask).said

@@ -15,7 +15,7 @@ use Rattle.fk_model.specs.Readers.{space_argument, fault_on}
 use Rattle.fk_model.specs.LinkRows.{user_at}
 use Rattle.fk_model.specs.SpaceRows.{has_porter, is_held_by_other}
 use Rattle.fk_model.specs.StateRows.{is_bad_record_address}
-use Rattle.fk_model.specs.Moves.{Known, IsKnownReady, porter_at}
+use Rattle.fk_model.specs.Moves.{IsReady, porter_at}
 use Rattle.fk_prompt.specs.Callers.{IsUserAt, IsPorterFor, users_step}
 use Rattle.fk_prompt.specs.Correct.{IsNamed}
 use Rattle.fk_model.specs.Objects.{Body}
@@ -31,20 +31,20 @@ is_open w me Bad = true
 
 -- whatever the object does that it names, a free user's get_state is ready, if its own address is open
 abbrev pub GetStateIsPrompt : Type 0
-GetStateIsPrompt = (known : Known) (w : World) (space : Path) (slot s x address : ℕ) → IsUserAt known w space slot (GetState s x address) →
-    is_open w (slot ∷ space) (reach_word w space address true) ≡ true → IsKnownReady known w (slot ∷ space) None asks.Run
+GetStateIsPrompt = (w : World) (space : Path) (slot s x address : ℕ) → IsUserAt w space slot (GetState s x address) →
+    is_open w (slot ∷ space) (reach_word w space address true) ≡ true → IsReady w (slot ∷ space) None asks.Run
 
 -- and a free porter's is always ready
 abbrev pub PortersGetStateIsPrompt : Type 0
-PortersGetStateIsPrompt = (known : Known) (w : World) (space : Path) (slot s x address : ℕ) (words : List ℕ) →
-    IsPorterFor known w space slot (GetState s x address) → IsKnownReady known w (slot ∷ space) None (asks.Call (GetState s x address) words)
+PortersGetStateIsPrompt = (w : World) (space : Path) (slot s x address : ℕ) (words : List ℕ) →
+    IsPorterFor w space slot (GetState s x address) → IsReady w (slot ∷ space) None (asks.Call (GetState s x address) words)
 
 -- where the page of its address is missing, and somebody keeps it, the caller's own fault is the move
 abbrev pub GetStateFaults : Type 0
-GetStateFaults = (known : Known) (w : World) (space : Path) (slot s x address : ℕ) (b : Body) (at : Path) (page : ℕ) (keeper : Ptr) →
-    IsUserAt known w space slot (GetState s x address) → IsNamed w (user_at (slot ∷ space)) s x b →
+GetStateFaults = (w : World) (space : Path) (slot s x address : ℕ) (b : Body) (at : Path) (page : ℕ) (keeper : Ptr) →
+    IsUserAt w space slot (GetState s x address) → IsNamed w (user_at (slot ∷ space)) s x b →
     is_bad_record_address (user_at (slot ∷ space)) address ≡ false → reach_word w space address true ≡ Missing at page (Some keeper) →
-    (users_step known w space slot).world ≡ apply (fault_on (slot ∷ space) page true keeper) w
+    (users_step w space slot).world ≡ apply (fault_on (slot ∷ space) page true keeper) w
 
 -- ---- space_hold
 
@@ -59,11 +59,11 @@ may_hold w c x (Err status) = true
 
 -- whatever the threads beneath it do, a space that no hold bars is held at once
 abbrev pub SpaceHoldIsPrompt : Type 0
-SpaceHoldIsPrompt = (known : Known) (w : World) (space : Path) (slot s x : ℕ) → IsUserAt known w space slot (SpaceHold s x) →
-    may_hold w (user_at (slot ∷ space)) x (space_argument w (user_at (slot ∷ space)) s) ≡ true → IsKnownReady known w (slot ∷ space) None asks.Run
+SpaceHoldIsPrompt = (w : World) (space : Path) (slot s x : ℕ) → IsUserAt w space slot (SpaceHold s x) →
+    may_hold w (user_at (slot ∷ space)) x (space_argument w (user_at (slot ∷ space)) s) ≡ true → IsReady w (slot ∷ space) None asks.Run
 
 abbrev pub PortersSpaceHoldIsPrompt : Type 0
-PortersSpaceHoldIsPrompt = (known : Known) (w : World) (space : Path) (slot s x : ℕ) (words : List ℕ) →
-    IsPorterFor known w space slot (SpaceHold s x) →
+PortersSpaceHoldIsPrompt = (w : World) (space : Path) (slot s x : ℕ) (words : List ℕ) →
+    IsPorterFor w space slot (SpaceHold s x) →
     may_hold w (porter_at (slot ∷ space) words) x (space_argument w (porter_at (slot ∷ space) words) s) ≡ true →
-    IsKnownReady known w (slot ∷ space) None (asks.Call (SpaceHold s x) words)
+    IsReady w (slot ∷ space) None (asks.Call (SpaceHold s x) words)

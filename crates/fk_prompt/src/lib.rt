@@ -1,8 +1,7 @@
 //! Laws of state and holds, each the contract of a function that does nothing: what a thread is shown of an object is the
 //! object's record, whatever the object does; a space is held whatever is done beneath it; and every move does little.
 //!
-//! It stands on `fk_model`, whose definitions the laws are about, on `fk_laws` and on `fk_whole`. The laws speak of a
-//! machine that knows all calls or some; the kernel's is one of them.
+//! It stands on `fk_model`, whose definitions the laws are about, on `fk_laws` and on `fk_whole`.
 #![tactic(auto)]
 
 ghost use Rattle.fk_prompt.specs.Brief.{MovesAreBrief, UsersDestroyOne, PortersDestroyOne};

@@ -8,7 +8,7 @@ ghost use Rattle.fk_store.specs.Bodies.{body_by, mode_by, thread_by};
 
 use crate::words::{fault_words, flag, halt_code, mode_number, talk_words};
 use fk_model::{Body, Mode, Thread};
-use fk_stages::named;
+use fk_stages::todo;
 
 /// The registers of a thread. Those of one in a call whose code is none begin with 0.
 fn registers_of(thread: &Thread) -> [u64; 16]
@@ -16,7 +16,7 @@ fn registers_of(thread: &Thread) -> [u64; 16]
 {
     let mut registers = thread.regs;
     if let Mode::Calling = thread.mode {
-        match named(&registers) {
+        match todo(&registers) {
             Some(_) => {}
             None => registers[0] = 0,
         }

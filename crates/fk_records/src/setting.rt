@@ -15,7 +15,7 @@ ghost use Rattle.fk_records.specs.Settings.{edits_of, sets_at, IsSetting};
 use fk_model::limits::{MOST_STOPS, PAGES, SLOTS};
 use fk_model::{Body, Mode, Who};
 use fk_readers::kind_number;
-use fk_stages::named;
+use fk_stages::todo;
 use fk_store::Store;
 
 /// What a record sets.
@@ -127,7 +127,7 @@ fn mode_of(registers: &[u64; 16], n: u64, code: u64) -> Option<Mode>
     }
     match n {
         0 => Some(Mode::Running),
-        1 if named(registers).is_some() => Some(Mode::Calling),
+        1 if todo(registers).is_some() => Some(Mode::Calling),
         _ => None,
     }
 }

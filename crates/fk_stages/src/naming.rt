@@ -166,20 +166,20 @@ fn named_porter_call(registers: &[u64; 16]) -> Option<Todo>
 
 /// The stages that the registers name. None exactly where the first register holds no call's code.
 #[tactic(auto, unfolding(fk_model::specs::Calls::todo_of))]
-pub fn named(registers: &[u64; 16]) -> Option<Todo>
+pub fn todo(registers: &[u64; 16]) -> Option<Todo>
     ensures { option_map stages_of result ≡ todo_of registers.now }
 {
-    if let Some(todo) = named_object_call(registers) {
-        return Some(todo);
+    if let Some(call) = named_object_call(registers) {
+        return Some(call);
     }
-    if let Some(todo) = named_thread_call(registers) {
-        return Some(todo);
+    if let Some(call) = named_thread_call(registers) {
+        return Some(call);
     }
-    if let Some(todo) = named_client_call(registers) {
-        return Some(todo);
+    if let Some(call) = named_client_call(registers) {
+        return Some(call);
     }
-    if let Some(todo) = named_server_call(registers) {
-        return Some(todo);
+    if let Some(call) = named_server_call(registers) {
+        return Some(call);
     }
     named_porter_call(registers)
 }

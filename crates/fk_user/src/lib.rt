@@ -1,20 +1,19 @@
 //! Instructions: what one instruction of a running thread comes to, over the pages of its space.
 //!
 //! It stands on `fk_plans`, `fk_isa` and `fk_stages`, and promises that its verdict stands for the
-//! outcome of the instruction in the abstract machine, where the calls that are built are known, and
-//! can be carried out. `asked` is what a word asks for, also of a thread that has no kernel.
+//! outcome of the instruction in the abstract machine, and can be carried out. `asked` is what a word
+//! asks for, also of a thread that has no kernel.
 #![tactic(auto)]
 
 ghost use Rattle.std.specs.Prelude.{◌≡◌, ℕ, List, true, false};
-ghost use Rattle.fk_model.specs.Moves.{todo_known};
+ghost use Rattle.fk_model.specs.Calls.{todo_of};
 ghost use Rattle.fk_store.specs.Paths.{path, place};
 ghost use Rattle.fk_store.specs.World.{world};
 ghost use Rattle.fk_plans.specs.Effects.{is_running};
 ghost use Rattle.fk_plans.specs.Plans.{caller_by};
 ghost use Rattle.fk_plans.specs.Verdicts.{outcome_by, IsVerdict, IsSureVerdict};
-ghost use Rattle.fk_stages.specs.Built.{built};
 ghost use Rattle.fk_user.specs.Effects.{IsInstruction};
-ghost use Rattle.fk_user.specs.Known.{run_at};
+ghost use Rattle.fk_user.specs.Running.{run_at};
 ghost use Rattle.fk_model.specs.Searches.{thread_at};
 
 mod effect;
@@ -25,13 +24,13 @@ use fk_model::Mode;
 use fk_plans::{Caller, Verdict};
 use fk_store::Store;
 
-/// What the instruction of a running thread comes to, where the calls that are built are known.
-#[tactic(auto, unfolding(crate::specs::Known::run_at))]
+/// What the instruction of a running thread comes to.
+#[tactic(auto, unfolding(crate::specs::Running::run_at))]
 pub fn judge(store: &Store, caller: Caller) -> Verdict
     requires user { caller.is_porter ≡ false }
     requires running { is_running (thread_at (world store.now) (place (path store.now) caller.who)) ≡ true }
     ensures row { (words : List ℕ) → outcome_by (world store.now)
-        (path store.now) (caller_by (path store.now) caller words) result ≡ run_at (todo_known built) (world store.now) (place (path store.now) caller.who) }
+        (path store.now) (caller_by (path store.now) caller words) result ≡ run_at todo_of (world store.now) (place (path store.now) caller.who) }
     ensures fits { IsVerdict store.now caller result }
     ensures instruction { IsInstruction store.now result }
     ensures sure { IsSureVerdict result }

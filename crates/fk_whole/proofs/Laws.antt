@@ -1,16 +1,16 @@
 -- A due move keeps a world runnable, and so does a run of them.
 use Rattle.std.proofs.Common.{◌≡◌, [], ◌∷◌, length, ◌∙◌, arith}
 use Rattle.fk_model.specs.World.{World}
-use Rattle.fk_model.specs.Moves.{known_outcome, known_step, outcome, step, stepped}
+use Rattle.fk_model.specs.Moves.{outcome, step}
 use Rattle.fk_model.specs.Runs.{Event, after, run}
-use Rattle.fk_laws.proofs.validity.Steps.{step_keeps_valid_lem, known_step_keeps_valid_lem}
-use Rattle.fk_whole.specs.Runnable.{IsRunnable, IsDue, DueMoveGivesOneNumber, DueMoveKeepsRunnable, KnownDueMoveKeepsRunnable, RunKeepsRunnable, SavableIsRunnable}
+use Rattle.fk_laws.proofs.validity.Steps.{step_keeps_valid_lem}
+use Rattle.fk_whole.specs.Runnable.{IsRunnable, IsDue, DueMoveGivesOneNumber, DueMoveKeepsRunnable, RunKeepsRunnable, SavableIsRunnable}
 use Rattle.fk_model.specs.Objects.{Mode, registers_of}
 use Rattle.fk_model.specs.Objects.Mode.{Running, Calling, Halted, Native}
 use Rattle.fk_model.specs.Shapes.{IsShapedMode}
 use Rattle.fk_whole.proofs.Lengths.{length-calling}
 use Rattle.fk_whole.proofs.Outcomes.{FullOutcome}
-use Rattle.fk_whole.proofs.Moves.{known_outcome-full, outcome-full}
+use Rattle.fk_whole.proofs.Moves.{outcome-full}
 use Rattle.fk_whole.proofs.Kept.{all-have, registers-of, IsFilled, filled-stepped, next-stepped}
 
 event-full : (w : World) (e : Event) → IsRunnable w → IsDue w e → FullOutcome (outcome w e.mover e.pick e.ask)
@@ -24,23 +24,6 @@ filled_after : (w : World) (e : Event) → IsRunnable w → IsDue w e → IsFill
 unfolding step
 filled_after w e runs due =
     filled-stepped w (outcome w e.mover e.pick e.ask) (record { pages = runs.whole.full; all = all-have w runs.registers }) (event-full w e runs due)
-
--- and so does a step of a machine that knows some of the calls
-pub known_keeps_runnable : KnownDueMoveKeepsRunnable
-unfolding known_step
-known_keeps_runnable known w e runs due left =
-    let o = known_outcome known w e.mover e.pick e.ask in
-    let full = known_outcome-full known w e.mover e.pick e.ask runs.whole.full runs.registers due.words in
-    let filled = filled-stepped w o (record { pages = runs.whole.full; all = all-have w runs.registers }) full in
-    let one = next-stepped w o full in
-    record {
-      whole = record {
-        valid = known_step_keeps_valid_lem known w e.mover e.pick e.ask runs.whole.valid runs.whole.few due.fit;
-        few = omega (arith, one, left);
-        full = filled.pages;
-      };
-      registers = registers-of (stepped w o).world filled.all;
-    }
 
 pub keeps_runnable : DueMoveKeepsRunnable
 keeps_runnable w e runs due left =

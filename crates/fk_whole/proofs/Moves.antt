@@ -1,5 +1,5 @@
 -- What a due move comes to leaves pages and registers full.
-use Rattle.std.proofs.Common.{◌≡◌, ℕ, Bool, true, false, if◌then◌else◌, ◌&&◌, length, List, [], ◌∷◌, take, Option, Some, None, refl}
+use Rattle.std.proofs.Common.{◌≡◌, ℕ, Bool, true, false, if◌then◌else◌, ◌&&◌, length, List, ◌∷◌, take, Option, Some, None, refl}
 use Rattle.std.proofs.lemmas.Bool.{eqb-true}
 use Rattle.fk_model.specs.declared.limits.TheConstants.{PAGE_WORDS}
 use Rattle.fk_model.specs.declared.moves.Ask.{Ask}
@@ -12,12 +12,11 @@ use Rattle.fk_model.specs.Places.{Path, parent, slot_of}
 use Rattle.fk_model.specs.Objects.{Mode, Thread, registers_of, thread_of, and_then}
 use Rattle.fk_model.specs.Objects.Mode.{Running, Calling}
 use Rattle.fk_model.specs.World.{World}
-use Rattle.fk_model.specs.Outcomes.{Outcome, Caller, when}
+use Rattle.fk_model.specs.Outcomes.{Outcome, Caller}
 use Rattle.fk_model.specs.Outcomes.Outcome.{Refused, Waits, Goes}
 use Rattle.fk_model.specs.LinkRows.{user_at}
 use Rattle.fk_model.specs.Holds.{is_free, is_unheld, is_porter}
-use Rattle.fk_model.specs.Calls.{code_of}
-use Rattle.fk_model.specs.Moves.{Known, every, stage_row, is_denied, allowed_row, chooses, with_pick, closed, call_row, todo_known, goes_on_by, user_move_by, porter_at, porter_move_by, outcome_by, known_outcome, outcome}
+use Rattle.fk_model.specs.Moves.{stage_row, is_denied, allowed_row, chooses, with_pick, closed, call_row, goes_on, user_move, porter_at, porter_move, outcome}
 use Rattle.fk_model.specs.Whole.{HasFullPages}
 use Rattle.fk_whole.specs.Runnable.{HasRegisters, has_all_words}
 use Rattle.fk_whole.proofs.Outcomes.{FullOutcome, refused, waits, goes, full-when}
@@ -109,49 +108,36 @@ users-give x h = cc
 porter-gives : (x : Path) (words : List ℕ) → length words ≡ PAGE_WORDS → GivesAll (porter_at x words)
 porter-gives x words all h = all
 
-module _ (known : Known) where
-  goes_on-full : (w : World) (x : Path) (pick : Option Path) (t : Thread) (mode : Mode) → HasFullPages w → HasRegisters w →
-      length (registers_of mode) ≡ 16 → FullOutcome (goes_on_by known w x pick t mode)
-  goes_on-full w x pick t (Running g) pages registers sixteen =
-      with_pick-full false pick _ (run_row-full (todo_known known) w pages (parent x) (slot_of x) g t.counter sixteen)
-  goes_on-full w x pick t (Calling (stage ∷ todo) rest) pages registers sixteen =
-      full-when (known.calls (code_of (stage ∷ todo))) (call_row w (user_at x) pick stage)
-      (λ is. call_row-full w (user_at x) pick stage pages registers (users-give x))
-  goes_on-full w x pick t mode pages registers sixteen = waits
+goes_on-full : (w : World) (x : Path) (pick : Option Path) (t : Thread) (mode : Mode) → HasFullPages w → HasRegisters w →
+    length (registers_of mode) ≡ 16 → FullOutcome (goes_on w x pick t mode)
+goes_on-full w x pick t (Running g) pages registers sixteen =
+    with_pick-full false pick _ (run_row-full w pages (parent x) (slot_of x) g t.counter sixteen)
+goes_on-full w x pick t (Calling (stage ∷ todo) rest) pages registers sixteen =
+    call_row-full w (user_at x) pick stage pages registers (users-give x)
+goes_on-full w x pick t mode pages registers sixteen = waits
 
-  user_move-full : (w : World) (x : Path) (pick : Option Path) (o : Option Thread) → HasFullPages w → HasRegisters w →
-      and_then thread_of (w.body x) ≡ o → FullOutcome (user_move_by known w x pick o)
-  user_move-full w x pick None pages registers there = waits
-  user_move-full w x pick (Some t) pages registers there =
-      full-when (is_free w (parent x) t) (goes_on_by known w x pick t t.mode)
-      (λ free. goes_on-full w x pick t t.mode pages registers (registers x t there))
+user_move-full : (w : World) (x : Path) (pick : Option Path) (o : Option Thread) → HasFullPages w → HasRegisters w →
+    and_then thread_of (w.body x) ≡ o → FullOutcome (user_move w x pick o)
+user_move-full w x pick None pages registers there = waits
+user_move-full w x pick (Some t) pages registers there =
+    full-when (is_free w (parent x) t) (goes_on w x pick t t.mode)
+    (λ free. goes_on-full w x pick t t.mode pages registers (registers x t there))
 
-  porter_move-full : (w : World) (x : Path) (pick : Option Path) (stage : Stage) (words : List ℕ) (o : Option Thread) → HasFullPages w → HasRegisters w →
-      length words ≡ PAGE_WORDS → FullOutcome (porter_move_by known w x pick stage words o)
-  porter_move-full w x pick stage words None pages registers all = waits
-  porter_move-full w x pick stage words (Some t) pages registers all =
-      full-when (is_porter t.mode && is_unheld w (parent x)) (when (known.calls (code_of (stage ∷ []))) (call_row w (porter_at x words) pick stage))
-      (λ free. full-when (known.calls (code_of (stage ∷ []))) (call_row w (porter_at x words) pick stage)
-      (λ is. call_row-full w (porter_at x words) pick stage pages registers (porter-gives x words all)))
+porter_move-full : (w : World) (x : Path) (pick : Option Path) (stage : Stage) (words : List ℕ) (o : Option Thread) → HasFullPages w → HasRegisters w →
+    length words ≡ PAGE_WORDS → FullOutcome (porter_move w x pick stage words o)
+porter_move-full w x pick stage words None pages registers all = waits
+porter_move-full w x pick stage words (Some t) pages registers all =
+    full-when (is_porter t.mode && is_unheld w (parent x)) (call_row w (porter_at x words) pick stage)
+    (λ free. call_row-full w (porter_at x words) pick stage pages registers (porter-gives x words all))
 
-  -- ---- a move
-
-  outcome_by-full : (w : World) (x : Path) (pick : Option Path) (ask : Ask) → HasFullPages w → HasRegisters w → has_all_words ask ≡ true →
-      FullOutcome (outcome_by known w x pick ask)
-  outcome_by-full w x pick asks.Run pages registers all = user_move-full w x pick _ pages registers refl
-  outcome_by-full w x pick (asks.Call stage words) pages registers all =
-      porter_move-full w x pick stage words _ pages registers (eqb-true (length words) PAGE_WORDS all)
-  outcome_by-full w x pick asks.Accept pages registers all = full-when known.servers _ (λ is. accept_row-full w x pick)
-  outcome_by-full w x pick (asks.Give words len) pages registers all =
-      full-when known.servers _ (λ is. with_pick-full false pick _ (give_row-full w pages x (take len words)))
-  outcome_by-full w x pick asks.Over pages registers all = full-when known.servers _ (λ is. with_pick-full false pick _ (over_row-full w x))
-
-  pub known_outcome-full : (w : World) (x : Path) (pick : Option Path) (ask : Ask) → HasFullPages w → HasRegisters w → has_all_words ask ≡ true →
-      FullOutcome (known_outcome known w x pick ask)
-  unfolding known_outcome
-  known_outcome-full = outcome_by-full
+-- ---- a move
 
 pub outcome-full : (w : World) (x : Path) (pick : Option Path) (ask : Ask) → HasFullPages w → HasRegisters w → has_all_words ask ≡ true →
     FullOutcome (outcome w x pick ask)
 unfolding outcome
-outcome-full = outcome_by-full every
+outcome-full w x pick asks.Run pages registers all = user_move-full w x pick _ pages registers refl
+outcome-full w x pick (asks.Call stage words) pages registers all =
+    porter_move-full w x pick stage words _ pages registers (eqb-true (length words) PAGE_WORDS all)
+outcome-full w x pick asks.Accept pages registers all = accept_row-full w x pick
+outcome-full w x pick (asks.Give words len) pages registers all = with_pick-full false pick _ (give_row-full w pages x (take len words))
+outcome-full w x pick asks.Over pages registers all = with_pick-full false pick _ (over_row-full w x)

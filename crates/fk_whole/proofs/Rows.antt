@@ -39,25 +39,25 @@ enters-full : (me : Path) (g : List ℕ) (counter : ℕ) (todo : Option (List St
 enters-full me g counter (Some todo) sixteen = goes (length-entered todo g ∙ sixteen, tt)
 enters-full me g counter None sixteen = goes (length-set g 0 BADCALL ∙ sixteen, tt)
 
-performs-full : (known : List ℕ → Option (List Stage)) (w : World) → HasFullPages w →
-    (space me : Path) (g : List ℕ) (counter : ℕ) (act : Act) → length g ≡ 16 → FullOutcome (performs known w space me g counter act)
-performs-full known w pages space me g counter (Put register value) sixteen = goes (length-set g register value ∙ sixteen, tt)
-performs-full known w pages space me g counter (Jump to) sixteen = goes (sixteen, tt)
-performs-full known w pages space me g counter (Load register address) sixteen =
+performs-full : (w : World) → HasFullPages w →
+    (space me : Path) (g : List ℕ) (counter : ℕ) (act : Act) → length g ≡ 16 → FullOutcome (performs todo_of w space me g counter act)
+performs-full w pages space me g counter (Put register value) sixteen = goes (length-set g register value ∙ sixteen, tt)
+performs-full w pages space me g counter (Jump to) sixteen = goes (sixteen, tt)
+performs-full w pages space me g counter (Load register address) sixteen =
     accessed-full w pages space me address false (halts_with me g counter) (loads w me g counter register address)
     (λ code. goes (sixteen, tt)) (λ s page words. goes (length-set g register _ ∙ sixteen, tt))
-performs-full known w pages space me g counter (Store address value) sixteen =
+performs-full w pages space me g counter (Store address value) sixteen =
     accessed-full w pages space me address true (halts_with me g counter) (stores w me g counter address value)
     (λ code. goes (sixteen, tt)) (λ s page words. goes (length-set (words_at w s page) _ value ∙ words, (sixteen, tt)))
-performs-full known w pages space me g counter (Halt code) sixteen = goes (sixteen, tt)
-performs-full known w pages space me g counter Call sixteen = enters-full me g counter (known g) sixteen
+performs-full w pages space me g counter (Halt code) sixteen = goes (sixteen, tt)
+performs-full w pages space me g counter Call sixteen = enters-full me g counter (todo_of g) sixteen
 
-pub run_row-full : (known : List ℕ → Option (List Stage)) (w : World) → HasFullPages w → (space : Path) (slot : ℕ) (g : List ℕ) (counter : ℕ) →
-    length g ≡ 16 → FullOutcome (run_row_by known w space slot g counter)
+pub run_row-full : (w : World) → HasFullPages w → (space : Path) (slot : ℕ) (g : List ℕ) (counter : ℕ) →
+    length g ≡ 16 → FullOutcome (run_row w space slot g counter)
 unfolding run_row_by
-run_row-full known w pages space slot g counter sixteen =
-    accessed-full w pages space (slot ∷ space) counter false (halts_with (slot ∷ space) g counter) (executes known w space (slot ∷ space) g counter)
-    (λ code. goes (sixteen, tt)) (λ s page words. performs-full known w pages space (slot ∷ space) g counter (act (word_at w s page counter) g counter)
+run_row-full w pages space slot g counter sixteen =
+    accessed-full w pages space (slot ∷ space) counter false (halts_with (slot ∷ space) g counter) (executes todo_of w space (slot ∷ space) g counter)
+    (λ code. goes (sixteen, tt)) (λ s page words. performs-full w pages space (slot ∷ space) g counter (act (word_at w s page counter) g counter)
     sixteen)
 
 -- ---- mutexes and conditions

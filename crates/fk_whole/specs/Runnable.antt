@@ -10,7 +10,7 @@ use Rattle.fk_model.specs.World.{World, Change}
 use Rattle.fk_model.specs.World.Change.{MakeSpace}
 use Rattle.fk_model.specs.Searches.{depth}
 use Rattle.fk_model.specs.Outcomes.{listed}
-use Rattle.fk_model.specs.Moves.{Known, outcome, known_step}
+use Rattle.fk_model.specs.Moves.{outcome}
 use Rattle.fk_model.specs.Runs.{Event, after, run}
 use Rattle.fk_model.specs.Valid.{IsValid, birth_at, is_fit}
 use Rattle.fk_model.specs.Whole.{IsWhole, IsSavable}
@@ -40,11 +40,6 @@ DueMoveGivesOneNumber = (w : World) (e : Event) → IsRunnable w → IsDue w e �
 -- and keeps a world runnable, where a birth number is left
 abbrev pub DueMoveKeepsRunnable : Type 0
 DueMoveKeepsRunnable = (w : World) (e : Event) → IsRunnable w → IsDue w e → w.next + 1 ≤ depth → IsRunnable (after w e)
-
--- also where it knows only some of the calls
-abbrev pub KnownDueMoveKeepsRunnable : Type 0
-KnownDueMoveKeepsRunnable = (known : Known) (w : World) (e : Event) → IsRunnable w → IsDue w e → w.next + 1 ≤ depth →
-    IsRunnable (known_step known w e.mover e.pick e.ask).world
 
 -- each move is due at its place
 abbrev pub AreDue : World → List Event → Type 0

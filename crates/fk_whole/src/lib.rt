@@ -4,7 +4,7 @@
 //! is kept by each move that a machine may make, so that a run supplies it from its first world alone.
 #![tactic(auto)]
 
-ghost use Rattle.fk_whole.specs.Runnable.{DueMoveGivesOneNumber, DueMoveKeepsRunnable, KnownDueMoveKeepsRunnable, RunKeepsRunnable, SavableIsRunnable, OnlySpacesAreNumbered, FitMoveKeepsYounger};
+ghost use Rattle.fk_whole.specs.Runnable.{DueMoveGivesOneNumber, DueMoveKeepsRunnable, RunKeepsRunnable, SavableIsRunnable, OnlySpacesAreNumbered, FitMoveKeepsYounger};
 
 /// A move that is due gives out one birth number at most.
 pub fn a_due_move_gives_one_number()
@@ -12,10 +12,9 @@ pub fn a_due_move_gives_one_number()
 {}
 
 /// A move that is due keeps a world valid, its pages full and each thread's registers 16, where a
-/// birth number is left, whether the machine knows all calls or some.
+/// birth number is left.
 pub fn a_due_move_keeps_a_runnable_world()
-    ensures every { DueMoveKeepsRunnable }
-    ensures known { KnownDueMoveKeepsRunnable }
+    ensures { DueMoveKeepsRunnable }
 {}
 
 /// A run of such moves does, where it begins so, with a birth number left for each of its moves.

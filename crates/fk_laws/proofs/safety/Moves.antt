@@ -11,13 +11,11 @@ use Rattle.fk_model.specs.Objects.{Mode, Thread, Body, thread_of, and_then}
 use Rattle.fk_model.specs.Objects.Mode.{Running, Calling}
 use Rattle.fk_model.specs.Objects.Body.{Thread_of}
 use Rattle.fk_model.specs.World.{World}
-use Rattle.fk_model.specs.Outcomes.{Outcome, Caller, path_of, when}
+use Rattle.fk_model.specs.Outcomes.{Outcome, Caller, path_of}
 use Rattle.fk_model.specs.Outcomes.Outcome.{Refused, Waits, Goes}
 use Rattle.fk_model.specs.LinkRows.{user_at}
 use Rattle.fk_model.specs.Holds.{is_free, is_unheld, is_porter}
-use Rattle.fk_model.specs.Moves.{stage_row, is_for_porters, is_denied, allowed_row, chooses, with_pick, closed, call_row, Known, every, todo_known, goes_on_by, user_move_by, porter_at, porter_move_by, outcome_by, outcome, known_outcome}
-use Rattle.fk_model.specs.Calls.{code_of}
-use Rattle.fk_model.specs.NativeRows.{accept_row, give_row, over_row}
+use Rattle.fk_model.specs.Moves.{stage_row, is_for_porters, is_denied, allowed_row, chooses, with_pick, closed, call_row, goes_on, user_move, porter_at, porter_move, outcome}
 use Rattle.fk_model.specs.Valid.{IsConsistent, is_fit_stage, is_fit, IsRooted}
 use Rattle.fk_laws.proofs.safety.Outcomes.{SafeOutcome, refused, waits, goes, safe-when}
 use Rattle.fk_laws.proofs.safety.Reads.{Facts, IsCaller, kind-there, body-thread_of}
@@ -130,53 +128,37 @@ user-fit w c (FaultSet s x port taker) user = cc
 user-fit w c (FaultPark s x port taken) user = cc
 user-fit w c stage user = refl
 
-module _ (known : Known) where
-  goes_on-safe : (w : World) (k : ℕ) (s : Path) (pick : Option Path) (t : Thread) (mode : Mode) →
-      Facts w → IsCaller w (user_at (k ∷ s)) → SafeOutcome w (goes_on_by known w (k ∷ s) pick t mode)
-  goes_on-safe w k s pick t (Running g) facts caller = with_pick-safe w false pick _ (run_row-safe (todo_known known) w facts s k g t.counter)
-  goes_on-safe w k s pick t (Calling (stage ∷ todo) rest) facts caller =
-      safe-when w (known.calls (code_of (stage ∷ todo)))
-      (call_row w (user_at (k ∷ s)) pick stage) (λ is. call_row-safe w (user_at (k ∷ s)) pick stage
-      (λ user. stage_row-safe w (user_at (k ∷ s)) pick stage facts caller (user-fit w (user_at (k ∷ s)) stage user)))
-  goes_on-safe w k s pick t mode facts caller = waits
+goes_on-safe : (w : World) (k : ℕ) (s : Path) (pick : Option Path) (t : Thread) (mode : Mode) →
+    Facts w → IsCaller w (user_at (k ∷ s)) → SafeOutcome w (goes_on w (k ∷ s) pick t mode)
+goes_on-safe w k s pick t (Running g) facts caller = with_pick-safe w false pick _ (run_row-safe w facts s k g t.counter)
+goes_on-safe w k s pick t (Calling (stage ∷ todo) rest) facts caller = call_row-safe w (user_at (k ∷ s)) pick stage
+    (λ user. stage_row-safe w (user_at (k ∷ s)) pick stage facts caller (user-fit w (user_at (k ∷ s)) stage user))
+goes_on-safe w k s pick t mode facts caller = waits
 
-  user_move-safe : (w : World) (x : Path) (pick : Option Path) (o : Option Thread) →
-      Facts w → and_then thread_of (w.body x) ≡ o → SafeOutcome w (user_move_by known w x pick o)
-  user_move-safe w x pick None facts there = waits
-  user_move-safe w [] pick (Some t) facts there = absurd (rootless w facts.rooted t there)
-  user_move-safe w (k ∷ s) pick (Some t) facts there =
-      safe-when w (is_free w s t) (goes_on_by known w (k ∷ s) pick t t.mode)
-      (λ free. goes_on-safe w k s pick t t.mode facts (thread-caller w facts.valid (user_at (k ∷ s)) t there))
+user_move-safe : (w : World) (x : Path) (pick : Option Path) (o : Option Thread) →
+    Facts w → and_then thread_of (w.body x) ≡ o → SafeOutcome w (user_move w x pick o)
+user_move-safe w x pick None facts there = waits
+user_move-safe w [] pick (Some t) facts there = absurd (rootless w facts.rooted t there)
+user_move-safe w (k ∷ s) pick (Some t) facts there =
+    safe-when w (is_free w s t) (goes_on w (k ∷ s) pick t t.mode)
+    (λ free. goes_on-safe w k s pick t t.mode facts (thread-caller w facts.valid (user_at (k ∷ s)) t there))
 
-  porter_move-safe : (w : World) (x : Path) (pick : Option Path) (stage : Stage) (words : List ℕ) (o : Option Thread) →
-      Facts w → is_fit_stage w (porter_at x words) stage ≡ true →
-      and_then thread_of (w.body x) ≡ o → SafeOutcome w (porter_move_by known w x pick stage words o)
-  porter_move-safe w x pick stage words None facts fit there = waits
-  porter_move-safe w [] pick stage words (Some t) facts fit there = absurd (rootless w facts.rooted t there)
-  porter_move-safe w (k ∷ s) pick stage words (Some t) facts fit there =
-      safe-when w (is_porter t.mode && is_unheld w s) (when (known.calls (code_of (stage ∷ []))) (call_row w (porter_at (k ∷ s) words) pick stage))
-      (λ free. safe-when w (known.calls (code_of (stage ∷ []))) (call_row w (porter_at (k ∷ s) words) pick stage)
-      (λ is. call_row-safe w (porter_at (k ∷ s) words) pick stage
-      (λ porter. stage_row-safe w (porter_at (k ∷ s) words) pick stage facts (thread-caller w facts.valid (porter_at (k ∷ s) words) t there) fit)))
+porter_move-safe : (w : World) (x : Path) (pick : Option Path) (stage : Stage) (words : List ℕ) (o : Option Thread) →
+    Facts w → is_fit_stage w (porter_at x words) stage ≡ true →
+    and_then thread_of (w.body x) ≡ o → SafeOutcome w (porter_move w x pick stage words o)
+porter_move-safe w x pick stage words None facts fit there = waits
+porter_move-safe w [] pick stage words (Some t) facts fit there = absurd (rootless w facts.rooted t there)
+porter_move-safe w (k ∷ s) pick stage words (Some t) facts fit there =
+    safe-when w (is_porter t.mode && is_unheld w s) (call_row w (porter_at (k ∷ s) words) pick stage)
+    (λ free. call_row-safe w (porter_at (k ∷ s) words) pick stage
+    (λ porter. stage_row-safe w (porter_at (k ∷ s) words) pick stage facts (thread-caller w facts.valid (porter_at (k ∷ s) words) t there) fit))
 
-  -- ---- a move
-
-  outcome_by-safe : (w : World) (x : Path) (pick : Option Path) (ask : Ask) → Facts w → is_fit w x ask ≡ true → SafeOutcome w (outcome_by known w x pick ask)
-  unfolding is_fit
-  outcome_by-safe w x pick asks.Run facts fit = user_move-safe w x pick _ facts refl
-  outcome_by-safe w x pick (asks.Call stage words) facts fit = porter_move-safe w x pick stage words _ facts fit refl
-  outcome_by-safe w x pick asks.Accept facts fit = safe-when w known.servers (accept_row w x pick) (λ is. accept_row-safe w x pick facts)
-  outcome_by-safe w x pick (asks.Give words len) facts fit =
-      safe-when w known.servers (with_pick false pick (give_row w x (take len words)))
-      (λ is. with_pick-safe w false pick _ (give_row-safe w facts x (take len words)))
-  outcome_by-safe w x pick asks.Over facts fit =
-      safe-when w known.servers (with_pick false pick (over_row w x)) (λ is. with_pick-safe w false pick _ (over_row-safe w x))
-
-  pub known_outcome-safe : (w : World) (x : Path) (pick : Option Path) (ask : Ask) →
-      Facts w → is_fit w x ask ≡ true → SafeOutcome w (known_outcome known w x pick ask)
-  unfolding known_outcome
-  known_outcome-safe = outcome_by-safe
+-- ---- a move
 
 pub outcome-safe : (w : World) (x : Path) (pick : Option Path) (ask : Ask) → Facts w → is_fit w x ask ≡ true → SafeOutcome w (outcome w x pick ask)
-unfolding outcome
-outcome-safe = outcome_by-safe every
+unfolding outcome is_fit
+outcome-safe w x pick asks.Run facts fit = user_move-safe w x pick _ facts refl
+outcome-safe w x pick (asks.Call stage words) facts fit = porter_move-safe w x pick stage words _ facts fit refl
+outcome-safe w x pick asks.Accept facts fit = accept_row-safe w x pick facts
+outcome-safe w x pick (asks.Give words len) facts fit = with_pick-safe w false pick _ (give_row-safe w facts x (take len words))
+outcome-safe w x pick asks.Over facts fit = with_pick-safe w false pick _ (over_row-safe w x)

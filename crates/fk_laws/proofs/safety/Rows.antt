@@ -11,6 +11,7 @@ use Rattle.fk_model.specs.declared.statuses.status.TheConstants.{FULL, HELD, OCC
 use Rattle.fk_model.specs.Places.{Path, parent}
 use Rattle.fk_model.specs.Objects.{Peer, Thread}
 use Rattle.fk_model.specs.Objects.Peer.{Server, Service, Parked}
+use Rattle.fk_model.specs.Calls.{todo_of}
 use Rattle.fk_model.specs.Instructions.{act}
 use Rattle.fk_model.specs.World.{World, Change}
 use Rattle.fk_model.specs.World.Change.{Alter, PutPage, DropPage}
@@ -23,7 +24,7 @@ use Rattle.fk_model.specs.Outcomes.Outcome.{Waits, Goes}
 use Rattle.fk_model.specs.Holds.{is_frozen_for}
 use Rattle.fk_model.specs.Readers.{space_argument, own_page, their_page}
 use Rattle.fk_model.specs.Talks.{Line, thread_led_to}
-use Rattle.fk_model.specs.UserRows.{word_at, halts_with, loads, stores, enters, performs, executes, run_row_by}
+use Rattle.fk_model.specs.UserRows.{word_at, halts_with, loads, stores, enters, performs, executes, run_row, run_row_by}
 use Rattle.fk_model.specs.SyncRows.{mutex_lock, mutex_trylock, mutex_unlock, cond_wait, cond_asleep, woken, asleep_on, sleepers, signals, unless_slept_on, picks_sleeper, cond_signal, cond_broadcast}
 use Rattle.fk_model.specs.TransferRows.{moved_words, has_sent, sends_words, sends_into, sends_to_thread, sends_to, sends, send, awaits, receive, passes_to_thread, passes_to, over, overwritten, block}
 use Rattle.fk_model.specs.SpaceRows.{thread_stop, thread_go, gives_page, gives_from, page_give, copies, copies_home, answers_home, copies_to, page_take, page_read, page_next, is_page, is_bad_source}
@@ -39,24 +40,23 @@ enters-safe : (w : World) (me : Path) (g : List ℕ) (counter : ℕ) (todo : Opt
 enters-safe w me g counter (Some todo) = goes (tt, tt)
 enters-safe w me g counter None = goes (tt, tt)
 
-performs-safe : (known : List ℕ → Option (List Stage)) (w : World) →
-    Facts w → (space me : Path) (g : List ℕ) (counter : ℕ) (act : Act) → SafeOutcome w (performs known w space me g counter act)
-performs-safe known w facts space me g counter (Load register address) =
+performs-safe : (w : World) →
+    Facts w → (space me : Path) (g : List ℕ) (counter : ℕ) (act : Act) → SafeOutcome w (performs todo_of w space me g counter act)
+performs-safe w facts space me g counter (Load register address) =
     accessed-safe w me false (halts_with me g counter) (loads w me g counter register address)
     (reach_word w space address false) (reach_word-good w facts space address false) (λ code. goes (tt, tt)) (λ s page home. goes (tt, tt))
-performs-safe known w facts space me g counter (Store address value) =
+performs-safe w facts space me g counter (Store address value) =
     accessed-safe w me true (halts_with me g counter) (stores w me g counter address value)
     (reach_word w space address true) (reach_word-good w facts space address true) (λ code. goes (tt, tt)) (λ s page home. goes (home, (tt, tt)))
-performs-safe known w facts space me g counter Call = enters-safe w me g counter (known g)
-performs-safe known w facts space me g counter act = goes (tt, tt)
+performs-safe w facts space me g counter Call = enters-safe w me g counter (todo_of g)
+performs-safe w facts space me g counter act = goes (tt, tt)
 
-pub run_row-safe : (known : List ℕ → Option (List Stage)) (w : World) →
-    Facts w → (space : Path) (slot : ℕ) (g : List ℕ) (counter : ℕ) → SafeOutcome w (run_row_by known w space slot g counter)
+pub run_row-safe : (w : World) → Facts w → (space : Path) (slot : ℕ) (g : List ℕ) (counter : ℕ) → SafeOutcome w (run_row w space slot g counter)
 unfolding run_row_by
-run_row-safe known w facts space slot g counter =
+run_row-safe w facts space slot g counter =
     accessed-safe w (slot ∷ space) false (halts_with (slot ∷ space) g counter)
-    (executes known w space (slot ∷ space) g counter) (reach_word w space counter false) (reach_word-good w facts space counter false)
-    (λ code. goes (tt, tt)) (λ s page home. performs-safe known w facts space (slot ∷ space) g counter (act (word_at w s page counter) g counter))
+    (executes todo_of w space (slot ∷ space) g counter) (reach_word w space counter false) (reach_word-good w facts space counter false)
+    (λ code. goes (tt, tt)) (λ s page home. performs-safe w facts space (slot ∷ space) g counter (act (word_at w s page counter) g counter))
 
 -- ---- mutexes and conditions
 

@@ -4,13 +4,13 @@ use Rattle.fk_model.specs.World.{World}
 use Rattle.fk_model.specs.Searches.{depth}
 use Rattle.fk_model.specs.Outcomes.{Outcome}
 use Rattle.fk_model.specs.Outcomes.Outcome.{Goes}
-use Rattle.fk_model.specs.Moves.{outcome, step, known_outcome, known_step, stepped}
+use Rattle.fk_model.specs.Moves.{outcome, step, stepped}
 use Rattle.fk_model.specs.Valid.{IsConsistent, IsRooted, IsValid}
 use Rattle.fk_model.proofs.walks.WalkLaws.{idle, no_service}
-use Rattle.fk_laws.specs.Laws.{StepKeepsValid, KnownStepKeepsValid}
+use Rattle.fk_laws.specs.Laws.{StepKeepsValid}
 use Rattle.fk_laws.proofs.safety.Outcomes.{SafeOutcome}
 use Rattle.fk_laws.proofs.safety.Reads.{WalkFacts, Facts}
-use Rattle.fk_laws.proofs.safety.Moves.{outcome-safe, known_outcome-safe}
+use Rattle.fk_laws.proofs.safety.Moves.{outcome-safe}
 use Rattle.fk_laws.proofs.validity.Changes.{valid-apply_all, rooted-apply_all, paged-apply_all}
 use Rattle.fk_laws.proofs.validity.Alone.{alone, leaf-alone}
 
@@ -32,8 +32,3 @@ facts_of w valid born = record { valid = valid.consistent; rooted = valid.rooted
 pub step_keeps_valid_lem : StepKeepsValid
 unfolding step
 step_keeps_valid_lem w x pick ask valid born fit = stepped-valid w (outcome w x pick ask) valid (outcome-safe w x pick ask (facts_of w valid born) fit)
-
-pub known_step_keeps_valid_lem : KnownStepKeepsValid
-unfolding known_step
-known_step_keeps_valid_lem known w x pick ask valid born fit =
-    stepped-valid w (known_outcome known w x pick ask) valid (known_outcome-safe known w x pick ask (facts_of w valid born) fit)

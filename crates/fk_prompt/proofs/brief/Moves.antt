@@ -1,5 +1,5 @@
 -- Every move is brief.
-use Rattle.std.proofs.Common.{ℕ, Bool, true, false, if◌then◌else◌, ◌&&◌, List, [], ◌∷◌, take, Option, Some, None}
+use Rattle.std.proofs.Common.{ℕ, Bool, true, false, if◌then◌else◌, ◌&&◌, List, ◌∷◌, take, Option, Some, None}
 use Rattle.fk_model.specs.declared.moves.Ask.{Ask}
 use Rattle.fk_model.specs.declared.moves.Ask.TheVariants as asks
 use Rattle.fk_model.specs.declared.stage.Stage.{Stage}
@@ -7,15 +7,14 @@ use Rattle.fk_model.specs.declared.stage.Stage.TheVariants.{Create, Destroy, Ren
 use Rattle.fk_model.specs.declared.statuses.status.TheConstants.{DENIED}
 use Rattle.fk_model.specs.declared.thread.Turn.TheVariants as turns
 use Rattle.fk_model.specs.Places.{Path, parent, slot_of}
-use Rattle.fk_model.specs.Calls.{code_of}
 use Rattle.fk_model.specs.Objects.{Mode, Thread}
 use Rattle.fk_model.specs.Objects.Mode.{Running, Calling}
 use Rattle.fk_model.specs.World.{World}
-use Rattle.fk_model.specs.Outcomes.{Outcome, Caller, when}
+use Rattle.fk_model.specs.Outcomes.{Outcome, Caller}
 use Rattle.fk_model.specs.Outcomes.Outcome.{Refused, Waits, Goes}
 use Rattle.fk_model.specs.LinkRows.{user_at}
 use Rattle.fk_model.specs.Holds.{is_free, is_unheld, is_porter}
-use Rattle.fk_model.specs.Moves.{Known, stage_row, is_denied, allowed_row, chooses, with_pick, closed, call_row, todo_known, goes_on_by, user_move_by, porter_at, porter_move_by, outcome_by, known_outcome}
+use Rattle.fk_model.specs.Moves.{stage_row, is_denied, allowed_row, chooses, with_pick, closed, call_row, goes_on, user_move, porter_at, porter_move, outcome}
 use Rattle.fk_prompt.specs.Brief.{MovesAreBrief}
 use Rattle.fk_prompt.proofs.brief.Outcomes.{BriefOutcome, refused, waits, goes, brief-when}
 use Rattle.fk_prompt.proofs.brief.Rows.{run_row-brief, mutex_lock-brief, mutex_trylock-brief, mutex_unlock-brief, cond_wait-brief, cond_asleep-brief, cond_signal-brief, cond_broadcast-brief, send-brief, receive-brief, over-brief, thread_stop-brief, thread_go-brief, page_give-brief, page_take-brief, page_read-brief, page_next-brief}
@@ -99,36 +98,31 @@ call_row-brief w c pick stage =
 
 -- ---- who moves
 
-module _ (known : Known) where
-  goes_on-brief : (w : World) (x : Path) (pick : Option Path) (t : Thread) (mode : Mode) → BriefOutcome (goes_on_by known w x pick t mode)
-  goes_on-brief w x pick t (Running g) = with_pick-brief false pick _ (run_row-brief (todo_known known) w (parent x) (slot_of x) g t.counter)
-  goes_on-brief w x pick t (Calling (stage ∷ todo) rest) =
-      brief-when (known.calls (code_of (stage ∷ todo))) (call_row w (user_at x) pick stage) (λ is. call_row-brief w (user_at x) pick stage)
-  goes_on-brief w x pick t mode = waits
+goes_on-brief : (w : World) (x : Path) (pick : Option Path) (t : Thread) (mode : Mode) → BriefOutcome (goes_on w x pick t mode)
+goes_on-brief w x pick t (Running g) = with_pick-brief false pick _ (run_row-brief w (parent x) (slot_of x) g t.counter)
+goes_on-brief w x pick t (Calling (stage ∷ todo) rest) = call_row-brief w (user_at x) pick stage
+goes_on-brief w x pick t mode = waits
 
-  user_move-brief : (w : World) (x : Path) (pick : Option Path) (o : Option Thread) → BriefOutcome (user_move_by known w x pick o)
-  user_move-brief w x pick None = waits
-  user_move-brief w x pick (Some t) =
-      brief-when (is_free w (parent x) t) (goes_on_by known w x pick t t.mode) (λ free. goes_on-brief w x pick t t.mode)
+user_move-brief : (w : World) (x : Path) (pick : Option Path) (o : Option Thread) → BriefOutcome (user_move w x pick o)
+user_move-brief w x pick None = waits
+user_move-brief w x pick (Some t) = brief-when (is_free w (parent x) t) (goes_on w x pick t t.mode) (λ free. goes_on-brief w x pick t t.mode)
 
-  porter_move-brief : (w : World) (x : Path) (pick : Option Path) (stage : Stage) (words : List ℕ) (o : Option Thread) →
-      BriefOutcome (porter_move_by known w x pick stage words o)
-  porter_move-brief w x pick stage words None = waits
-  porter_move-brief w x pick stage words (Some t) =
-      brief-when (is_porter t.mode && is_unheld w (parent x)) (when (known.calls (code_of (stage ∷ []))) (call_row w (porter_at x words) pick stage))
-      (λ free. brief-when (known.calls (code_of (stage ∷ []))) (call_row w (porter_at x words) pick stage)
-      (λ is. call_row-brief w (porter_at x words) pick stage))
+porter_move-brief : (w : World) (x : Path) (pick : Option Path) (stage : Stage) (words : List ℕ) (o : Option Thread) →
+    BriefOutcome (porter_move w x pick stage words o)
+porter_move-brief w x pick stage words None = waits
+porter_move-brief w x pick stage words (Some t) =
+    brief-when (is_porter t.mode && is_unheld w (parent x)) (call_row w (porter_at x words) pick stage)
+    (λ free. call_row-brief w (porter_at x words) pick stage)
 
-  -- ---- a move
+-- ---- a move
 
-  outcome_by-brief : (w : World) (x : Path) (pick : Option Path) (ask : Ask) → BriefOutcome (outcome_by known w x pick ask)
-  outcome_by-brief w x pick asks.Run = user_move-brief w x pick _
-  outcome_by-brief w x pick (asks.Call stage words) = porter_move-brief w x pick stage words _
-  outcome_by-brief w x pick asks.Accept = brief-when known.servers _ (λ is. accept_row-brief w x pick)
-  outcome_by-brief w x pick (asks.Give words len) =
-      brief-when known.servers _ (λ is. with_pick-brief false pick _ (give_row-brief w x (take len words)))
-  outcome_by-brief w x pick asks.Over = brief-when known.servers _ (λ is. with_pick-brief false pick _ (over_row-brief w x))
+outcome-brief : (w : World) (x : Path) (pick : Option Path) (ask : Ask) → BriefOutcome (outcome w x pick ask)
+unfolding outcome
+outcome-brief w x pick asks.Run = user_move-brief w x pick _
+outcome-brief w x pick (asks.Call stage words) = porter_move-brief w x pick stage words _
+outcome-brief w x pick asks.Accept = accept_row-brief w x pick
+outcome-brief w x pick (asks.Give words len) = with_pick-brief false pick _ (give_row-brief w x (take len words))
+outcome-brief w x pick asks.Over = with_pick-brief false pick _ (over_row-brief w x)
 
 pub moves_are_brief : MovesAreBrief
-unfolding known_outcome
-moves_are_brief known w x pick ask = (outcome_by-brief known w x pick ask).brief
+moves_are_brief w x pick ask = (outcome-brief w x pick ask).brief

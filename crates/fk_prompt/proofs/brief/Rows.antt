@@ -10,6 +10,7 @@ use Rattle.fk_model.specs.declared.thread.Turn.{Turn}
 use Rattle.fk_model.specs.Places.{Path, parent}
 use Rattle.fk_model.specs.Objects.{Peer, Thread}
 use Rattle.fk_model.specs.Objects.Peer.{Server, Service, Parked}
+use Rattle.fk_model.specs.Calls.{todo_of}
 use Rattle.fk_model.specs.Instructions.{act}
 use Rattle.fk_model.specs.World.{World, Change}
 use Rattle.fk_model.specs.World.Change.{Alter, PutPage, DropPage}
@@ -20,7 +21,7 @@ use Rattle.fk_model.specs.Outcomes.{Said, Outcome, Caller, path_of}
 use Rattle.fk_model.specs.Outcomes.Said.{Nothing, Words}
 use Rattle.fk_model.specs.Outcomes.Outcome.{Waits}
 use Rattle.fk_model.specs.Talks.{Line, thread_led_to}
-use Rattle.fk_model.specs.UserRows.{word_at, halts_with, loads, stores, enters, performs, executes, run_row_by}
+use Rattle.fk_model.specs.UserRows.{word_at, halts_with, loads, stores, enters, performs, executes, run_row, run_row_by}
 use Rattle.fk_model.specs.SyncRows.{mutex_lock, mutex_trylock, mutex_unlock, cond_wait, cond_asleep, woken, asleep_on, sleepers, signals, unless_slept_on, picks_sleeper, cond_signal, cond_broadcast}
 use Rattle.fk_model.specs.TransferRows.{overwritten, block, to_page_end, moved_words, has_sent, sends_words, sends_into, sends_to_thread, sends_to, sends, send, awaits, receive, passes_to_thread, passes_to, over}
 use Rattle.fk_model.specs.SpaceRows.{thread_stop, thread_go, gives_page, gives_from, page_give, copies, copies_home, answers_home, copies_to, page_take, page_read, page_next}
@@ -33,24 +34,24 @@ enters-brief : (me : Path) (g : List ℕ) (counter : ℕ) (todo : Option (List S
 enters-brief me g counter (Some todo) = goes (tt, tt)
 enters-brief me g counter None = goes (tt, tt)
 
-performs-brief : (known : List ℕ → Option (List Stage)) (w : World) (space me : Path) (g : List ℕ) (counter : ℕ) (act : Act) →
-    BriefOutcome (performs known w space me g counter act)
-performs-brief known w space me g counter (Load register address) =
+performs-brief : (w : World) (space me : Path) (g : List ℕ) (counter : ℕ) (act : Act) →
+    BriefOutcome (performs todo_of w space me g counter act)
+performs-brief w space me g counter (Load register address) =
     accessed-brief me false (halts_with me g counter) (loads w me g counter register address) (reach_word w space address false)
     (λ code. goes (tt, tt)) (λ s page. goes (tt, tt))
-performs-brief known w space me g counter (Store address value) =
+performs-brief w space me g counter (Store address value) =
     accessed-brief me true (halts_with me g counter) (stores w me g counter address value) (reach_word w space address true)
     (λ code. goes (tt, tt)) (λ s page. goes (tt, tt))
-performs-brief known w space me g counter Call = enters-brief me g counter (known g)
-performs-brief known w space me g counter act = goes (tt, tt)
+performs-brief w space me g counter Call = enters-brief me g counter (todo_of g)
+performs-brief w space me g counter act = goes (tt, tt)
 
-pub run_row-brief : (known : List ℕ → Option (List Stage)) (w : World) (space : Path) (slot : ℕ) (g : List ℕ) (counter : ℕ) →
-    BriefOutcome (run_row_by known w space slot g counter)
+pub run_row-brief : (w : World) (space : Path) (slot : ℕ) (g : List ℕ) (counter : ℕ) →
+    BriefOutcome (run_row w space slot g counter)
 unfolding run_row_by
-run_row-brief known w space slot g counter =
-    accessed-brief (slot ∷ space) false (halts_with (slot ∷ space) g counter) (executes known w space (slot ∷ space) g counter)
+run_row-brief w space slot g counter =
+    accessed-brief (slot ∷ space) false (halts_with (slot ∷ space) g counter) (executes todo_of w space (slot ∷ space) g counter)
     (reach_word w space counter false)
-    (λ code. goes (tt, tt)) (λ s page. performs-brief known w space (slot ∷ space) g counter (act (word_at w s page counter) g counter))
+    (λ code. goes (tt, tt)) (λ s page. performs-brief w space (slot ∷ space) g counter (act (word_at w s page counter) g counter))
 
 -- ---- mutexes and conditions
 

@@ -1,5 +1,5 @@
 use Rattle.std.proofs.Common.{sym, inl, inr}
-use Rattle.fk_calls.proofs.Doings.{idle_nobody, idle_halted, idle_native, idle_unbuilt, does_call}
+use Rattle.fk_calls.proofs.Doings.{idle_nobody, idle_halted, idle_native, idle_unnamed, does_call}
 use Rattle.fk_calls.proofs.doing.doing_of.Goals as goal
 
 pub returns-in-None : goal.returns-in-None
@@ -9,7 +9,7 @@ pub returns-in-Some-first_stage : goal.returns-in-Some-first_stage
 returns-in-Some-first_stage c = does_call _ _ _ _ _ c.in-Some.ensures.thread c.in-Calling.is c.in-Some-first_stage.ensures
 
 pub returns-in-None-first_stage : goal.returns-in-None-first_stage
-returns-in-None-first_stage c pick = idle_unbuilt _ _ _ pick _ c.in-Some.ensures.thread c.in-Calling.is c.in-None-first_stage.ensures
+returns-in-None-first_stage c pick = idle_unnamed _ _ _ pick _ c.in-Some.ensures.thread c.in-Calling.is c.in-None-first_stage.ensures
 
 pub returns-in-Halted : goal.returns-in-Halted
 returns-in-Halted c pick = elim c.in-Halted.is [

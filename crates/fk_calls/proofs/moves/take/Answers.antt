@@ -1,6 +1,6 @@
 use Rattle.std.proofs.Common.{◌∙◌}
 use Rattle.fk_calls.proofs.Given.{fit_given}
-use Rattle.fk_calls.proofs.Judged.{step_judged, never_ready, free_there, if_ok}
+use Rattle.fk_calls.proofs.Judged.{step_judged, free_there, if_ok}
 use Rattle.fk_calls.proofs.moves.take.Goals as goal
 
 pub judge-requires-clause-words : goal.judge-requires-clause-words
@@ -15,4 +15,4 @@ returns-clause-step c =
     ∙ rw c.given.ensures at step) c.carry_out.ensures.step
 
 pub unreachable-requires : goal.unreachable-requires
-unreachable-requires c = absurd (never_ready _ _ _ c.in-None.ensures.never c.requires.ready)
+unreachable-requires c = absurd (c.in-None.ensures.never c.requires.ready)
