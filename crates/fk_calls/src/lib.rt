@@ -4,8 +4,9 @@
 //! instructions, and on `fk_plans`, which says when a verdict is ready and carries it out. Here is
 //! the one match from a stage to its judge. It promises that `ready` answers exactly whether the
 //! abstract machine is ready to make a move, that `take` makes of the store's world what the machine
-//! makes of it, that `attempt` does both, judging once, and that `may_pick` tells which users may
-//! pick somebody. Servers don't move as yet: no act of a native server is ready.
+//! makes of it, that `attempt` does both, judging once, that `is_fit` tells which moves may be made
+//! at all, and that `may_pick` tells which users may pick somebody. Servers don't move as yet: no
+//! act of a native server is ready.
 #![tactic(auto)]
 
 mod doing;

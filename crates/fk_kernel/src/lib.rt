@@ -6,8 +6,9 @@
 //!
 //! It promises that `ready` answers exactly whether the abstract machine is ready to make a move,
 //! that `step` makes of the world what the machine makes of it and tells what the machine tells,
-//! that `attempt` does both at once, and that `next` finds a move of a user that is ready wherever
-//! there is one. Servers don't move as yet: no act of a native server is ready.
+//! that `attempt` does both at once, that `is_fit` tells which moves may be made at all, and that
+//! `next` finds a move of a user that is ready wherever there is one. Servers don't move as yet: no
+//! act of a native server is ready.
 #![tactic(auto)]
 
 mod kernel;
