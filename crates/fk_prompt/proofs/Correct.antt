@@ -1,73 +1,35 @@
 -- What a thread gets of an object's state is its record.
-use Rattle.std.proofs.Common.{◌≡◌, ℕ, ◌-◌, ◌<◌, ◌==◌, Bool, true, false, List, [], ◌∷◌, length, replicate, slice_index, slice_set, Option, Some, None, Result, Ok, Err, refl, ap, sym, ◌∙◌, subst, arith}
+use Rattle.std.proofs.Common.{◌≡◌, ℕ, ◌==◌, Bool, true, false, List, [], ◌∷◌, length, slice_index, slice_set, Option, Some, None, Result, Ok, Err, refl, ap, sym, ◌∙◌, subst}
 use Rattle.std.proofs.lemmas.Bool.{eq-eqb, not-false}
-use Rattle.std.proofs.lemmas.List.{length-append, length-replicate}
-use Rattle.fk_model.specs.declared.limits.TheConstants.{RECORD_WORDS}
 use Rattle.fk_model.specs.declared.stage.Stage.{Stage}
 use Rattle.fk_model.specs.declared.stage.Stage.TheVariants.{GetState}
 use Rattle.fk_model.specs.declared.statuses.status.TheConstants.{OK, BADADDRESS}
 use Rattle.fk_model.specs.Places.{Path, Ptr}
 use Rattle.fk_model.specs.Calls.{words}
-use Rattle.fk_model.specs.Objects.{Talk, Fault, Body, registers_of, number_of_kind, kind_of}
-use Rattle.fk_model.specs.Objects.Body.{Mutex, Thread_of}
+use Rattle.fk_model.specs.Objects.{Fault, Body, registers_of}
+use Rattle.fk_model.specs.Objects.Body.{Thread_of}
 use Rattle.fk_model.specs.World.{World, Edit, apply, apply_all, edited}
 use Rattle.fk_model.specs.World.Change.{Alter, PutPage}
 use Rattle.fk_model.specs.World.Edit.{End, Finish, SetFault}
 use Rattle.fk_model.specs.Reach.{Reach, reach_word, words_at}
 use Rattle.fk_model.specs.Reach.Reach.{Home, Missing, Bad}
-use Rattle.fk_model.specs.Outcomes.{Outcome, ◌>>=◌, refuse, Caller, done}
+use Rattle.fk_model.specs.Outcomes.{Outcome, ◌>>=◌, refuse, done}
 use Rattle.fk_model.specs.Outcomes.Said.{Answered}
 use Rattle.fk_model.specs.Outcomes.Outcome.{Refused}
 use Rattle.fk_model.specs.Readers.{object_in, anything, space_argument, own_page_at, fault_on}
 use Rattle.fk_model.specs.LinkRows.{user_at}
-use Rattle.fk_model.specs.Records.{record_of, state_words, talk_words, fault_words}
+use Rattle.fk_model.specs.Records.{record_of}
 use Rattle.fk_model.specs.StateRows.{is_bad_record_address, shows, get_state, record_at}
 use Rattle.fk_model.specs.Moves.{Step, call_row, closed, stepped, porter_at}
 use Rattle.fk_model.proofs.walks.PlaceLaws.{same_path_refl}
-use Rattle.fk_laws.proofs.safety.Reads.{object_in-found}
 use Rattle.fk_whole.specs.Runnable.{HasRegisters, IsRunnable}
+use Rattle.fk_whole.proofs.Objects.{has-all, length-record, object-there, record_place}
 use Rattle.fk_prompt.specs.Callers.{IsUserAt, is_done}
 use Rattle.fk_prompt.specs.Correct.{words_found, record_found, ShowsRecord, GetStateShows, AnswersRecord, GetStateAnswers}
 use Rattle.fk_prompt.proofs.Movers.{users-step, porters-step, unpicked}
 use Rattle.fk_prompt.proofs.Statuses.{told-object_in, told-space_argument, IsTold}
-use Rattle.fk_prompt.proofs.Pages.{reached-there, reached-full, record_place, record-read}
+use Rattle.fk_prompt.proofs.Pages.{reached-there, reached-full, record-read}
 use Rattle.fk_prompt.proofs.Reading.{reads-where-writes, reach_word-same}
-
--- ---- a record is full
-
-length-talk_words : (talk : Option Talk) → length (talk_words talk) ≡ 2
-length-talk_words None = refl
-length-talk_words (Some talk) = refl
-
-length-fault_words : (fault : Option Fault) → length (fault_words fault) ≡ 3
-length-fault_words None = refl
-length-fault_words (Some fault) = refl
-
-abbrev HasAll : Body → Type 0
-HasAll (Thread_of t) = length (registers_of t.mode) ≡ 16
-HasAll other = Unit {0}
-
-state_words-fit : (b : Body) → HasAll b → length (state_words b) < RECORD_WORDS
-state_words-fit (Thread_of t) has = simp length-append (omega (arith, has, length-talk_words t.talk, length-fault_words t.fault))
-state_words-fit (Mutex locked) has = omega arith
-state_words-fit b has = omega arith
-
-length-record : (b : Body) → HasAll b → length (record_of b) ≡ RECORD_WORDS
-unfolding record_of
-length-record b has =
-    let fits = state_words-fit b has in
-    let words = number_of_kind (kind_of b) ∷ state_words b in
-    omega (arith, fits, length-append words (replicate (RECORD_WORDS - length words) 0), length-replicate {A = ℕ} (RECORD_WORDS - length words) 0)
-
-has-all : (w : World) → HasRegisters w → (x : Path) (b : Body) → w.body x ≡ Some b → HasAll b
-has-all w registers x (Thread_of t) there = registers x t (rw there refl)
-has-all w registers x (Mutex locked) there = tt
-has-all w registers x b there = tt
-
-pub object-there : (w : World) (c : Caller) (k : ℕ) (s : Path) (b : Body) → object_in w c anything s k ≡ Ok b → w.body (k ∷ s) ≡ Some b
-object-there w c k s b read =
-    let found = object_in-found w c anything s k b read in
-    let same : found.body ≡ b = (let e : Some found.body ≡ Some b = found.seen in cc) in rw same at found.there
 
 -- ---- a refused call isn't done, nor one whose thread has a fault
 

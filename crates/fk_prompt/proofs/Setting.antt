@@ -23,10 +23,11 @@ use Rattle.fk_model.specs.StateRows.{is_bad_record_address, is_native, is_still,
 use Rattle.fk_model.specs.Moves.{Step, call_row, closed, stepped, porter_at}
 use Rattle.fk_laws.proofs.Records.{record_changes_nothing_lem}
 use Rattle.fk_whole.specs.Runnable.{HasRegisters}
+use Rattle.fk_whole.proofs.Objects.{object-there}
 use Rattle.fk_prompt.specs.Callers.{IsUserAt, is_done}
 use Rattle.fk_prompt.specs.Correct.{words_found, MeetsItself, SetStateOfItself, GivesItself, PortersSetStateOfItself}
 use Rattle.fk_prompt.proofs.Movers.{users-step, porters-step, unpicked}
-use Rattle.fk_prompt.proofs.Correct.{refused-undone, object-there}
+use Rattle.fk_prompt.proofs.Correct.{refused-undone}
 
 apply_all-append : (cs ds : List Change) (w : World) → apply_all (cs ++ ds) w ≡ apply_all ds (apply_all cs w)
 unfolding apply_all

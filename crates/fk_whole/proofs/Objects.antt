@@ -118,7 +118,7 @@ space_make_held-full w c x = search (full_row, full-makes) depth 9
 -- ---- state
 
 -- a record lies within its page
-record_place : (address : ℕ) → (address % RECORD_WORDS == 0) ≡ true → address % PAGE_WORDS + RECORD_WORDS ≤ PAGE_WORDS
+pub record_place : (address : ℕ) → (address % RECORD_WORDS == 0) ≡ true → address % PAGE_WORDS + RECORD_WORDS ≤ PAGE_WORDS
 record_place address h = let e = eqb-true (address % RECORD_WORDS) 0 h in omega (arith, e)
 
 length-talk_words : (talk : Option Talk) → length (talk_words talk) ≡ 2
@@ -134,19 +134,19 @@ state_words-fit (Thread_of t) has = simp length-append (omega (arith, has, lengt
 state_words-fit (Mutex locked) has = omega arith
 state_words-fit b has = omega arith
 
-length-record : (b : Body) → HasAll b → length (record_of b) ≡ RECORD_WORDS
+pub length-record : (b : Body) → HasAll b → length (record_of b) ≡ RECORD_WORDS
 unfolding record_of
 length-record b has =
     let fits = state_words-fit b has in
     let words = number_of_kind (kind_of b) ∷ state_words b in
     omega (arith, fits, length-append words (replicate (RECORD_WORDS - length words) 0), length-replicate {A = ℕ} (RECORD_WORDS - length words) 0)
 
-has-all : (w : World) → HasRegisters w → (x : Path) (b : Body) → w.body x ≡ Some b → HasAll b
+pub has-all : (w : World) → HasRegisters w → (x : Path) (b : Body) → w.body x ≡ Some b → HasAll b
 has-all w registers x (Thread_of t) there = registers x t (rw there refl)
 has-all w registers x (Mutex locked) there = tt
 has-all w registers x b there = tt
 
-object-there : (w : World) (c : Caller) (k : ℕ) (s : Path) (b : Body) → object_in w c anything s k ≡ Ok b → w.body (k ∷ s) ≡ Some b
+pub object-there : (w : World) (c : Caller) (k : ℕ) (s : Path) (b : Body) → object_in w c anything s k ≡ Ok b → w.body (k ∷ s) ≡ Some b
 object-there w c k s b read =
     let found = object_in-found w c anything s k b read in
     let same : found.body ≡ b = (let e : Some found.body ≡ Some b = found.seen in cc) in rw same at found.there
