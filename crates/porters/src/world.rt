@@ -1,0 +1,220 @@
+//! A kernel with a porter, and the steps that are made in it.
+//!
+//! `asks CALL giving WORDS picking SPACE SLOT = STATUS LENGTH WORDS`: the porter asks for the stage of a
+//! call, by the registers, and gives words, zeros after them; the status, how many words it is answered,
+//! and the first of them. `bars` with the same before `=`: that move isn't ready. `unfit CALL giving
+//! WORDS`: that one isn't fit. `goes SLOT picking SPACE SLOT = REGISTERS`: a thread of the root makes a move; its first registers then. `waits SLOT
+//! picking SPACE SLOT`: it isn't ready to. `runs SLOT COUNT`: it makes so many moves. `shows SLOT =
+//! REGISTERS`: its first registers. `keeps SLOT = WORDS`: its state record from word 21 on, which is its
+//! talk's turn, the words moved, its fault, the page, and 1 for a write.
+use crate::line::Line;
+use crate::porter::put_porter;
+use anyhow::{Context, bail};
+use fk_boot::boot;
+use fk_kernel::Kernel;
+use fk_model::{Answer, Ask, Body, Move, Said, Todo, Who};
+use fk_scenario::{read_scenario, server_rules};
+use fk_stages::todo;
+use std::alloc::Global;
+
+/// A kernel, and the name of its porter.
+#[derive(Drop)]
+pub struct World {
+    kernel: Kernel,
+    porter: Who,
+}
+
+/// The kernel of a scenario, with a porter in a slot.
+fn kernel_of(alloc: Global, text: &[u8], porter: Who) -> anyhow::Result<Kernel> {
+    let Ok(rules) = server_rules(alloc) else {
+        bail!("no memory");
+    };
+    let Ok(scenario) = read_scenario(alloc, text, &rules) else {
+        bail!("no scenario");
+    };
+    let Ok(mut store) = boot(alloc, &scenario) else {
+        bail!("no memory");
+    };
+    let Ok(()) = put_porter(&mut store, porter) else {
+        bail!("no memory");
+    };
+    let Ok(kernel) = Kernel::of(store) else {
+        bail!("no memory");
+    };
+    Ok(kernel)
+}
+
+/// The name that a space and a slot make; none where there is no number.
+fn name_of(numbers: &[u64]) -> Option<Who> {
+    match numbers {
+        [space, slot] => Some(Who {
+            space: u32::try_from(*space).ok()?,
+            slot: u8::try_from(*slot).ok()?,
+        }),
+        _ => None,
+    }
+}
+
+/// The thread in a slot of the root.
+fn in_root(numbers: &[u64]) -> Option<Who> {
+    match numbers.first() {
+        Some(slot) => Some(Who {
+            space: 0,
+            slot: u8::try_from(*slot).ok()?,
+        }),
+        None => None,
+    }
+}
+
+/// The first of these words are the wanted ones.
+fn begins(words: &[u64], wanted: &[u64]) -> bool {
+    let n = wanted.len();
+    if n > words.len() {
+        return false;
+    }
+    &words[..n] == wanted
+}
+
+/// These numbers, and zeros after them.
+fn filled(numbers: &[u64]) -> [u64; 64] {
+    let mut words = [0; 64];
+    let n = numbers.len().min(64);
+    words[..n].copy_from_slice(&numbers[..n]);
+    words
+}
+
+/// An answer is what was wanted: a status, a length and the first words.
+fn is_answer(answer: &Answer, wanted: &[u64]) -> bool {
+    match wanted {
+        [status, len, words @ ..] => {
+            u64::from(answer.status) == *status
+                && u64::from(answer.len) == *len
+                && begins(&answer.words, words)
+        }
+        _ => false,
+    }
+}
+
+/// What a porter asks for: the stage of a call, by the registers, and the words that it gives.
+fn ask_of(call: &[u64], given: &[u64]) -> anyhow::Result<Ask> {
+    let mut registers = [0; 16];
+    let n = call.len().min(16);
+    registers[..n].copy_from_slice(&call[..n]);
+    let Some(Todo::One(stage)) = todo(&registers) else {
+        bail!("no call of one stage");
+    };
+    let words = filled(given);
+    Ok(Ask::Call { stage, words })
+}
+
+impl World {
+    /// The world of a scenario, with a porter in a slot of a space.
+    ///
+    /// # Errors
+    ///
+    /// Where the text is no scenario, the numbers name nothing, and for want of memory.
+    pub fn new(alloc: Global, text: &[u8], porter: &[u64]) -> anyhow::Result<World> {
+        let porter = name_of(porter).context("no name")?;
+        let kernel = kernel_of(alloc, text, porter)?;
+        Ok(World { kernel, porter })
+    }
+
+    /// What the porter is answered; nothing where its move isn't ready.
+    fn answer(
+        &mut self,
+        call: &[u64],
+        given: &[u64],
+        pick: Option<Who>,
+    ) -> anyhow::Result<Option<Answer>> {
+        let ask = ask_of(call, given)?;
+        let who = self.porter;
+        let m = Move { who, pick };
+        if !self.kernel.is_fit(&m, &ask) {
+            bail!("not fit");
+        }
+        match self.kernel.attempt(&m, &ask).ok().context("no memory")? {
+            Some(Said::Answer(answer)) => Ok(Some(answer)),
+            _ => Ok(None),
+        }
+    }
+
+    /// What the porter asks for is fit.
+    fn is_fit(&self, call: &[u64], given: &[u64]) -> anyhow::Result<bool> {
+        let ask = ask_of(call, given)?;
+        let who = self.porter;
+        let pick = None;
+        Ok(self.kernel.is_fit(&Move { who, pick }, &ask))
+    }
+
+    /// A thread moves; false where it isn't ready.
+    #[tactic(auto, unfolding(fk_model::specs::Valid::is_fit))]
+    fn moves(&mut self, who: Who, pick: Option<Who>) -> anyhow::Result<bool> {
+        let said = self.kernel.attempt(&Move { who, pick }, &Ask::Run);
+        Ok(said.ok().context("no memory")?.is_some())
+    }
+
+    /// A thread makes so many moves.
+    fn runs(&mut self, who: Who, count: u64) -> anyhow::Result<bool> {
+        for _ in 0..count {
+            if !self.moves(who, None)? {
+                return Ok(false);
+            }
+        }
+        Ok(true)
+    }
+
+    /// The first registers of a thread are these.
+    fn shows(&self, who: Who, registers: &[u64]) -> bool {
+        match self.kernel.store().at(who) {
+            Some(Body::Thread(thread)) => begins(&thread.regs, registers),
+            _ => false,
+        }
+    }
+
+    /// The record of a thread, as the porter reads it, has these words from word 21 on.
+    fn keeps(&mut self, who: Who, words: &[u64]) -> anyhow::Result<bool> {
+        let call = [9, 256, u64::from(who.slot)];
+        Ok(match self.answer(&call, &[], None)? {
+            Some(record) => begins(&record.words[21..], words),
+            None => false,
+        })
+    }
+
+    /// What the porter asks for is answered as a line wants it, or isn't ready.
+    fn asks(&mut self, line: &Line) -> anyhow::Result<bool> {
+        let pick = name_of(line.picked.as_slice());
+        let answer = self.answer(line.subject.as_slice(), line.given.as_slice(), pick)?;
+        Ok(match answer {
+            Some(answer) => is_answer(&answer, line.wanted.as_slice()),
+            None => line.verb == "bars",
+        })
+    }
+
+    /// A thread of the root makes a step, which is as a line says.
+    fn thread_steps(&mut self, line: &Line) -> anyhow::Result<bool> {
+        let who = in_root(line.subject.as_slice()).context("no thread")?;
+        let pick = name_of(line.picked.as_slice());
+        let wanted = line.wanted.as_slice();
+        Ok(match line.verb {
+            "goes" => self.moves(who, pick)? && self.shows(who, wanted),
+            "waits" => !self.moves(who, pick)?,
+            "runs" => self.runs(who, *line.subject.last().context("how often")?)?,
+            "shows" => self.shows(who, wanted),
+            "keeps" => self.keeps(who, wanted)?,
+            _ => bail!("no step"),
+        })
+    }
+
+    /// A step is made, and is as its line says.
+    ///
+    /// # Errors
+    ///
+    /// Where a line says no step, and for want of memory.
+    pub fn steps(&mut self, line: &Line) -> anyhow::Result<bool> {
+        match line.verb {
+            "asks" | "bars" => self.asks(line),
+            "unfit" => Ok(!self.is_fit(line.subject.as_slice(), line.given.as_slice())?),
+            _ => self.thread_steps(line),
+        }
+    }
+}
