@@ -1,5 +1,6 @@
 pub mod Ranges
 pub mod Objects
+pub mod Kinds
 pub mod Preorder
 pub mod Links
 pub mod Valid

@@ -9,6 +9,7 @@
 mod boxed;
 mod copy;
 mod image;
+mod kinds;
 mod links;
 mod objects;
 mod open;

@@ -1,29 +1,35 @@
 //! The objects of a space by rising slot.
-ghost use Rattle.std.specs.Prelude.{◌≡◌, ◌≤◌, ◌++◌, ◌∷◌, [], length, IsTrue, IfOk, OnOk, OnErr};
+ghost use Rattle.std.specs.Prelude.{◌≡◌, ◌≤◌, ◌++◌, ◌∷◌, [], length, IfOk, OnOk, OnErr};
 ghost use Rattle.fk_image.specs.Objects as words;
 
 use crate::copy::copy_items;
 use crate::image::{ObjectRec, Rec};
+use crate::kinds::{kind_at, make_room, number_of_rec};
 use fk_model::{Kind, NoMemory};
 use std::alloc::Global;
 use std::marker::Model;
 
-/// The objects of a space, by rising slot. Contracts see them as a list.
+/// The objects of a space, by rising slot. Contracts see them as a list. Their kinds stand in a table
+/// besides, up to the last slot that is taken: to where pointers lead is asked more often than all else.
 #[derive(Drop)]
 pub struct Objects {
     items: Vec<ObjectRec>,
+    kinds: Vec<u8>,
 }
 
 impl Model for Objects {
     ghost use Rattle.std.specs.Prelude as std_words;
+    ghost use Rattle.std.specs.Prelude.{◌≡◌, ℕ};
     ghost use Rattle.fk_image.specs.declared.image.ObjectRec as records;
-    ghost use Rattle.fk_image.specs.Objects.{rises};
+    ghost use Rattle.fk_image.specs.Objects.{rises, kind_in};
+    ghost use Rattle.fk_image.specs.Kinds.{kind_at};
 
     ghost Value = { std_words.List records.ObjectRec };
 
     ghost view = { λ s. s.items.items };
 
-    ghost invariant = { λ s. std_words.IsTrue (rises 0 s.items.items) };
+    ghost invariant = { λ s. std_words.IsTrue (rises 0 s.items.items)
+        × ((slot : ℕ) → kind_in s.items.items slot ≡ kind_at s.kinds.items slot) };
 }
 
 impl Objects {
@@ -33,6 +39,7 @@ impl Objects {
     {
         Objects {
             items: Vec::new(alloc),
+            kinds: Vec::new(alloc),
         }
     }
 
@@ -51,12 +58,17 @@ impl Objects {
     }
 
     /// Adds an object in a slot above the others. For want of memory they stay as they were.
+    #[inline(always)]
     pub fn push(&mut self, item: ObjectRec) -> Result<(), NoMemory>
         requires { words.next_slot self.old ≤ item.slot }
         ensures ok { OnOk result (self.new ≡ self.old ++ item ∷ []) }
         ensures err { OnErr result (self.new ≡ self.old) }
     {
+        make_room(&mut self.kinds, item.slot)?;
+        let slot = item.slot;
+        let number = number_of_rec(&item.body);
         self.items.push(item)?;
+        self.kinds[slot as usize] = number;
         Ok(())
     }
 
@@ -66,6 +78,7 @@ impl Objects {
     {
         Ok(Objects {
             items: copy_items(alloc, self.items.as_slice())?,
+            kinds: Vec::from_slice(alloc, self.kinds.as_slice())?,
         })
     }
 
@@ -73,7 +86,7 @@ impl Objects {
     pub fn kind_in(&self, slot: u16) -> Option<Kind>
         ensures { result ≡ words.kind_in self.now slot }
     {
-        found(self.items.as_slice(), slot)
+        kind_at(&self.kinds, slot)
     }
 }
 
@@ -91,26 +104,4 @@ pub fn kind_of_rec(body: &Rec) -> Kind
         Rec::Thread(_) => Kind::Thread,
         Rec::Reference { .. } => Kind::Reference,
     }
-}
-
-fn found(items: &[ObjectRec], slot: u16) -> Option<Kind>
-    requires { IsTrue (words.rises 0 items.now) }
-    ensures { result ≡ words.kind_in items.now slot }
-{
-    let mut low = 0;
-    let mut high = items.len();
-    while low < high {
-        let middle = low + (high - low) / 2;
-        let object = &items[middle];
-        let there = u16::from(object.slot);
-        if there == slot {
-            return Some(kind_of_rec(&object.body));
-        }
-        if there < slot {
-            low = middle + 1;
-        } else {
-            high = middle;
-        }
-    }
-    None
 }

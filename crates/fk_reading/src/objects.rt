@@ -91,7 +91,7 @@ fn read_reference(bytes: &[u8]) -> Result<(Rec, &[u8]), Fail>
 }
 
 /// Adds an object in a slot above the others: what was read of it is its body.
-#[inline]
+#[inline(always)]
 #[tactic(auto, using(crate::proofs::Loops::last_slot))]
 fn add<'a>(objects: &mut Objects, slot: u8, read: (Rec, &'a [u8])) -> Result<&'a [u8], NoMemory>
     requires { next_slot objects.old ≤ slot }

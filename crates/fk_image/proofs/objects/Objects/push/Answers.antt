@@ -1,5 +1,18 @@
+use Rattle.std.proofs.Common.{◌≤◌, sym, ◌∙◌}
+use Rattle.fk_image.specs.Objects.{next_slot}
 use Rattle.fk_image.proofs.Rising.{rises_more}
+use Rattle.fk_image.proofs.KindLaws.{kinds_more}
 use Rattle.fk_image.proofs.objects.Objects.push.Goals as goal
 
 pub invariant_of-self-2 : goal.invariant_of-self-2
-invariant_of-self-2 c = rw c.in_ok-push.ensures.items (rises_more c.self.inside.items.items c.args.item c.self.invariant (rw c.self.view_is c.requires))
+invariant_of-self-2 c =
+    let os = c.self.inside.items.items in
+    let o = c.args.item in
+    let rise = c.self.invariant.0 in
+    let last : next_slot os ≤ o.slot = rw c.self.view_is c.requires in
+    let same = c.in_ok-make_room.ensures.same in
+    rw c.in_ok-push.ensures.items (
+      rises_more os o rise last,
+      kinds_more os o c.make_room.new.numbers.items c.number_of_rec-number.result rise last (λ n. c.self.invariant.1 n ∙ sym (same n)) c.in_ok-make_room.ensures.long
+          c.number_of_rec-number.ensures,
+    )
