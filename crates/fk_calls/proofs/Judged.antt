@@ -35,7 +35,7 @@ use Rattle.fk_user.specs.Running.{run_at, run_of_thread, run_in_mode}
 use Rattle.fk_calls.specs.declared.judging.Judgement.{Judgement}
 use Rattle.fk_calls.specs.Doings.{IsAtStage, is_free_porter_at}
 use Rattle.fk_calls.specs.Rows.{takes_memory, first_takes_memory}
-use Rattle.fk_calls.specs.Judgements.{words_of, outcome_of, IsJudged, IsReadyMove}
+use Rattle.fk_calls.specs.Judgements.{words_of, outcome_of, IsJudged, IsReadyMove, IsRun}
 use Rattle.fk_model.specs.Searches.{thread_at}
 
 -- ---- the machine's move of a free user
@@ -239,6 +239,16 @@ step_judged m move ask j is ready =
     let pick = picked_by (path m) move.pick in
     let goes : GoesAllowed w x (outcome_of m move ask) = subst (λ native. cond native ⊥ (GoesAllowed w x (outcome_of m move ask))) is.act ready in
     ap (stepped w) (is.outcome ∙ picked c j.chooses pick (outcome_by w (path m) c j.verdict) w x (subst (GoesAllowed w x) is.outcome goes))
+
+-- an instruction with this effect makes it
+pub run_judged : (m : Contents) (move : Move) (ask : Ask) (e : Effect) → IsRun m move ask e → IsReadyMove m move ask →
+    step (world m) (place (path m) move.who) (picked_by (path m) move.pick) ask ≡ stepped
+    (world m) (of_running (effect_by (world m) (path m) (place (path m) move.who) e) (thread_at (world m) (place (path m) move.who)))
+run_judged m move ask e is ready =
+    let w = world m in
+    let x = place (path m) move.who in
+    step_judged m move ask (record { caller = user move.who; chooses = false; verdict = verdicts.Runs e }) is ready
+    ∙ ap (stepped w) (unrefused w (path m) (caller_by (path m) (user move.who) (words_of ask)) e (thread_at w x))
 
 pub ready_judged : (m : Contents) (move : Move) (ask : Ask) (j : Judgement) (b : Bool) →
     IsJudged m move ask j → (IsTrue b ↔ GoesAllowed (world m) (place (path m) j.caller.who) (move_by m j.caller (words_of ask) j.chooses move.pick j.verdict)) →

@@ -12,6 +12,8 @@ use Rattle.fk_store.specs.Moves.{picked_by, said_by}
 use Rattle.fk_store.specs.Paths.{path, place}
 use Rattle.fk_store.specs.Threads.{is_free_at}
 use Rattle.fk_store.specs.World.{world}
+use Rattle.fk_plans.specs.declared.plan.Effect.{Effect}
+use Rattle.fk_plans.specs.declared.plan.Verdict.TheVariants as verdicts
 use Rattle.fk_plans.specs.Verdicts.{IsVerdict, IsSureVerdict, move_by}
 use Rattle.fk_calls.specs.declared.judging.Judgement.{Judgement}
 use Rattle.fk_calls.specs.Acts.{is_native_act, IsReadyFor}
@@ -36,6 +38,10 @@ pub record IsJudged (m : Contents) (move : Move) (ask : Ask) (j : Judgement) : T
   pub fits : IsVerdict m j.caller j.verdict
   pub sure : may_want_memory (world m) (place (path m) move.who) ask ≡ false → IsSureVerdict j.verdict
   pub given : j.caller.is_porter ≡ true → length (words_of ask) ≡ 64
+
+-- the same of the instruction of a free user that has this effect
+abbrev pub IsRun : Contents → Move → Ask → Effect → Type 0
+IsRun m move ask e = IsJudged m move ask (record { caller = record { who = move.who; is_porter = false }; chooses = false; verdict = verdicts.Runs e })
 
 -- ---- what a caller reads
 

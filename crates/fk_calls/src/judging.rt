@@ -1,15 +1,19 @@
 //! What a move comes to.
-ghost use Rattle.std.specs.Prelude.{◌≡◌, true, IfSome, IfNone};
+ghost use Rattle.std.specs.Prelude.{◌≡◌, true, false, IfSome, IfNone};
 ghost use Rattle.fk_model.specs.declared.moves.Ask.TheVariants as asks;
 ghost use Rattle.fk_model.specs.Outcomes.Outcome.{Waits};
 ghost use Rattle.fk_model.specs.Valid.{IsValid};
+ghost use Rattle.fk_model.specs.Searches.{thread_at};
+ghost use Rattle.fk_plans.specs.Effects.{is_running};
+ghost use Rattle.fk_store.specs.Paths.{path, place};
+ghost use Rattle.fk_store.specs.Threads.{is_free_at};
 ghost use Rattle.fk_store.specs.World.{world};
 ghost use Rattle.fk_calls.specs.Judgements.{IsJudged, IsReadyMove, outcome_of, words_of};
 ghost use Rattle.fk_calls.specs.Rows.{are_given, are_given_for};
 
 use crate::doing::{Doing, doing_of, is_free_porter};
 use crate::rows;
-use fk_model::{Ask, Move, Stage};
+use fk_model::{Ask, Mode, Move, Stage, Who};
 use fk_plans::{Caller, Verdict};
 use fk_store::Store;
 
@@ -42,6 +46,30 @@ pub fn given(ask: &Ask) -> &[u64]
     match ask {
         Ask::Call { words, .. } => words,
         Ask::Run | Ask::Accept | Ask::Give { .. } | Ask::Over => &[],
+    }
+}
+
+/// A move is the instruction of a free user that runs.
+#[inline(always)]
+pub fn runs(store: &Store, who: Who, ask: &Ask) -> bool
+    ensures run { result ≡ true → ask.now ≡ asks.Run }
+    ensures free { result ≡ true → is_free_at (world store.now) (place (path store.now) who) ≡ true }
+    ensures running { result ≡ true → is_running (thread_at (world store.now) (place (path store.now) who)) ≡ true }
+{
+    match ask {
+        Ask::Run => store.is_free(who) && is_running(store, who),
+        Ask::Call { .. } | Ask::Accept | Ask::Give { .. } | Ask::Over => false,
+    }
+}
+
+/// A thread that runs is in a slot.
+#[inline(always)]
+fn is_running(store: &Store, who: Who) -> bool
+    ensures { result ≡ is_running (thread_at (world store.now) (place (path store.now) who)) }
+{
+    match store.thread(who) {
+        Some(thread) => matches!(thread.mode, Mode::Running),
+        None => false,
     }
 }
 

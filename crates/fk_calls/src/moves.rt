@@ -3,15 +3,16 @@ ghost use Rattle.std.specs.Prelude.{◌≡◌, ◌↔◌, ℕ, List, true, false
 ghost use Rattle.fk_model.specs.declared.moves.Ask.TheVariants as asks;
 ghost use Rattle.fk_model.specs.Valid.{IsValid};
 ghost use Rattle.fk_store.specs.World.{world};
-ghost use Rattle.fk_calls.specs.Judgements.{is_fit_move, IsReadyMove, IsStepTo, may_lack};
+ghost use Rattle.fk_calls.specs.Judgements.{is_fit_move, IsReadyMove, IsRun, IsStepTo, may_lack};
 ghost use Rattle.fk_calls.specs.Rows as stages;
 ghost use Rattle.fk_calls.specs.Rows.{are_given_for};
 
-use crate::judging::{given, judge};
+use crate::judging::{given, judge, runs};
 use crate::rows::restores;
 use fk_model::{Ask, Move, NoMemory, Said, Stage};
-use fk_plans::{carry_out, is_ready};
+use fk_plans::{Caller, Effect, carry_out, is_effect_ready, is_ready, run};
 use fk_store::Store;
+use fk_user::Instruction;
 
 /// Whether a move is ready. It may name what isn't there, which is never ready. It needn't be fit.
 pub fn ready(store: &Store, m: &Move, ask: &Ask) -> bool
@@ -56,9 +57,49 @@ fn ready_given(store: &Store, m: &Move, ask: &Ask) -> bool
 }
 
 /// Makes a move where it is ready, and gives what it tells; none where it isn't, and then all stays
-/// as it is. It is fit, and judged once. For want of memory all stays as it was; a stage that makes an object
-/// or a page may want it.
+/// as it is. It is fit. For want of memory all stays as it was; a stage that makes an object or a page
+/// may want it.
 pub fn attempt(store: &mut Store, m: &Move, ask: &Ask) -> Result<Option<Said>, NoMemory>
+    requires valid { IsValid (world store.old) }
+    requires fit { is_fit_move store.old m.now ask.now ≡ true }
+    ensures made { IfOk result (λ tried. IfSome tried (λ said. IsReadyMove store.old m.now ask.now × IsStepTo store.old m.now ask.now store.new said)) }
+    ensures unready { IfOk result (λ tried. IfNone tried ((IsReadyMove store.old m.now ask.now → ⊥) × (store.new ≡ store.old))) }
+    ensures lacking { OnErr result (IsReadyMove store.old m.now ask.now × (store.new ≡ store.old)) }
+    ensures sure { may_lack store.old m.now ask.now ≡ false → IsOk result }
+{
+    // Most moves are instructions. They need no judgement, which is large.
+    if runs(store, m.who, ask) {
+        let caller = Caller {
+            who: m.who,
+            is_porter: false,
+        };
+        if let Instruction::Runs(effect) = fk_user::instruction(store, caller) {
+            return Ok(attempt_effect(store, m, ask, effect));
+        }
+    }
+    attempt_judged(store, m, ask)
+}
+
+/// The same, of an instruction with this effect.
+#[inline(always)]
+fn attempt_effect(store: &mut Store, m: &Move, ask: &Ask, effect: Effect) -> Option<Said>
+    requires judged { IsRun store.old m.now ask.now effect }
+    ensures made { IfSome result (λ said. IsReadyMove store.old m.now ask.now × IsStepTo store.old m.now ask.now store.new said) }
+    ensures unready { IfNone result ((IsReadyMove store.old m.now ask.now → ⊥) × (store.new ≡ store.old)) }
+{
+    let caller = Caller {
+        who: m.who,
+        is_porter: false,
+    };
+    if !is_effect_ready(store, caller, m.pick, &effect) {
+        return None;
+    }
+    run(store, m.who, effect);
+    Some(Said::Nothing)
+}
+
+/// The same, of any move. It is judged once.
+fn attempt_judged(store: &mut Store, m: &Move, ask: &Ask) -> Result<Option<Said>, NoMemory>
     requires valid { IsValid (world store.old) }
     requires fit { is_fit_move store.old m.now ask.now ≡ true }
     ensures made { IfOk result (λ tried. IfSome tried (λ said. IsReadyMove store.old m.now ask.now × IsStepTo store.old m.now ask.now store.new said)) }

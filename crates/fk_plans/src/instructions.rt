@@ -14,6 +14,7 @@ use fk_store::Store;
 
 /// Makes an effect of a running thread with these registers at this counter.
 #[tactic(auto, unfolding(fk_model::specs::World::apply_all))]
+#[inline(always)]
 fn make_effect(store: &mut Store, me: Who, mut registers: [u64; 16], counter: u64, effect: Effect)
     requires { IsEffect (path store.old) (world store.old) effect }
     ensures step { stepped (world store.old) (effect_by (world store.old) (path store.old) (place (path store.old) me) effect registers counter)
@@ -43,6 +44,7 @@ fn make_effect(store: &mut Store, me: Who, mut registers: [u64; 16], counter: u6
 }
 
 /// Makes an effect of a thread where it runs.
+#[inline(always)]
 pub fn run(store: &mut Store, me: Who, effect: Effect)
     requires { IsEffect (path store.old) (world store.old) effect }
     ensures step { stepped (world store.old) (of_running (effect_by (world store.old) (path store.old) (place (path store.old) me) effect)

@@ -28,9 +28,10 @@ pub use fk_readers::{
     last_slot, led_to, mutex_in, object_in, place, pointer_in, port_in, reference_in, referred,
     slot_for, thread_by_handle, thread_in,
 };
+pub use instructions::run;
 pub use own::own_page;
 pub use plan::{Deed, Effect, News, Plan, Verdict, Words};
-pub use readiness::is_ready;
+pub use readiness::{is_effect_ready, is_ready};
 pub use recording::Record;
 pub use sources::Source;
 pub use waking::sleeps;

@@ -6,7 +6,7 @@ ghost use Rattle.fk_model.specs.Searches.{option_list};
 ghost use Rattle.fk_store.specs.Paths.{path, place};
 ghost use Rattle.fk_store.specs.Threads.{is_free_at};
 ghost use Rattle.fk_store.specs.World.{world};
-ghost use Rattle.fk_plans.specs.Allowed.{is_deed_allowed, is_plan_allowed, IsVerdictAllowed, may_pick};
+ghost use Rattle.fk_plans.specs.Allowed.{is_deed_allowed, is_effect_allowed, is_plan_allowed, IsVerdictAllowed, may_pick};
 ghost use Rattle.fk_plans.specs.Plans.{holder_by};
 ghost use Rattle.fk_plans.specs.Verdicts.{IsVerdict, move_by};
 
@@ -124,17 +124,25 @@ fn is_plan_allowed(store: &Store, me: Who, plan: &Plan) -> bool
     }
 }
 
+/// The freezing rule allows an effect.
+#[inline(always)]
+fn is_effect_allowed(store: &Store, me: Who, effect: &Effect) -> bool
+    ensures { result ≡ is_effect_allowed (world store.now) (place (path store.now) me) (path store.now) effect.now }
+{
+    match effect {
+        Effect::Stores { space, .. } => !store.space_frozen_for(me, *space),
+        Effect::Puts { .. } | Effect::Jumps { .. } | Effect::Halts { .. } | Effect::Enters => true,
+    }
+}
+
 /// The freezing rule allows what a verdict does.
 fn is_verdict_allowed(store: &Store, caller: Caller, verdict: &Verdict) -> bool
     requires fits { IsVerdict store.now caller verdict.now }
     ensures { IsTrue result ↔ IsVerdictAllowed (world store.now) (place (path store.now) caller.who) (path store.now) verdict.now }
 {
     match verdict {
-        Verdict::Runs(Effect::Stores { space, .. }) => !store.space_frozen_for(caller.who, *space),
-        Verdict::Runs(
-            Effect::Puts { .. } | Effect::Jumps { .. } | Effect::Halts { .. } | Effect::Enters,
-        )
-        | Verdict::Refused(_)
+        Verdict::Runs(effect) => is_effect_allowed(store, caller.who, effect),
+        Verdict::Refused(_)
         | Verdict::ShowsRecord { .. }
         | Verdict::Sets { .. }
         | Verdict::WakesAll { .. } => true,
@@ -188,4 +196,19 @@ pub fn is_ready(
         IsTrue result ↔ GoesAllowed (world store.now) (place (path store.now) caller.who) (move_by store.now caller words chooses pick verdict.now) }
 {
     may_pick(chooses, pick, verdict) && is_verdict_allowed(store, caller, verdict)
+}
+
+/// The same of an instruction with this effect: it picks nobody, and the freezing rule allows it.
+#[tactic(auto, using(crate::proofs::Ready::never_picks))]
+#[inline(always)]
+pub fn is_effect_ready(store: &Store, caller: Caller, pick: Option<Who>, effect: &Effect) -> bool
+    requires free { caller.is_porter ≡ false → is_free_at (world store.now) (place (path store.now) caller.who) ≡ true }
+    requires fits { IsVerdict store.now caller (Verdict.Runs effect.now) }
+    ensures { (words : List ℕ) → IsTrue result
+        ↔ GoesAllowed (world store.now) (place (path store.now) caller.who) (move_by store.now caller words false pick (Verdict.Runs effect.now)) }
+{
+    match pick {
+        None => is_effect_allowed(store, caller.who, effect),
+        Some(_) => false,
+    }
 }

@@ -13,6 +13,13 @@ use Rattle.fk_store.specs.World.{world, IsLive}
 use Rattle.fk_plans.specs.declared.plan.Verdict.{Verdict}
 use Rattle.fk_plans.specs.declared.plan.Verdict.TheVariants as verdicts
 use Rattle.fk_plans.specs.Effects.{effect_by, IsEffect}
+use Rattle.fk_user.specs.declared.effect.Instruction.{Instruction}
+use Rattle.fk_user.specs.declared.effect.Instruction.TheVariants as instructions
+
+-- what an instruction comes to, as a verdict on the thread's stage
+abbrev pub verdict_of : Instruction → Verdict
+verdict_of (instructions.Runs e) = verdicts.Runs e
+verdict_of (instructions.Faults page write port) = verdicts.Faults page write port
 
 abbrev pub outcome_at : Contents → Who → Thread → Verdict → Outcome
 outcome_at m me t (verdicts.Runs e) = effect_by (world m) (path m) (place (path m) me) e t.regs t.pc

@@ -12,20 +12,40 @@ ghost use Rattle.fk_store.specs.World.{world};
 ghost use Rattle.fk_plans.specs.Effects.{is_running};
 ghost use Rattle.fk_plans.specs.Plans.{caller_by};
 ghost use Rattle.fk_plans.specs.Verdicts.{outcome_by, IsVerdict, IsSureVerdict};
-ghost use Rattle.fk_user.specs.Effects.{IsInstruction};
+ghost use Rattle.fk_user.specs.Effects.{IsInstruction, verdict_of};
 ghost use Rattle.fk_user.specs.Running.{run_at};
 ghost use Rattle.fk_model.specs.Searches.{thread_at};
 
 mod effect;
 
-pub use effect::asked;
 use effect::effect_of;
+pub use effect::{Instruction, asked};
 use fk_model::Mode;
 use fk_plans::{Caller, Verdict};
 use fk_store::Store;
 
 /// What the instruction of a running thread comes to.
 #[tactic(auto, unfolding(crate::specs::Running::run_at))]
+#[inline(always)]
+pub fn instruction(store: &Store, caller: Caller) -> Instruction
+    requires user { caller.is_porter ≡ false }
+    requires running { is_running (thread_at (world store.now) (place (path store.now) caller.who)) ≡ true }
+    ensures row { (words : List ℕ) → outcome_by (world store.now)
+        (path store.now) (caller_by (path store.now) caller words) (verdict_of result) ≡ run_at todo_of (world store.now) (place (path store.now) caller.who) }
+    ensures fits { IsVerdict store.now caller (verdict_of result) }
+    ensures instruction { IsInstruction store.now (verdict_of result) }
+    ensures sure { IsSureVerdict (verdict_of result) }
+{
+    match store.thread(caller.who) {
+        Some(thread) => match thread.mode {
+            Mode::Running => effect_of(store, caller.who, thread),
+            _ => unreachable!(),
+        },
+        None => unreachable!(),
+    }
+}
+
+/// The same as a verdict on the thread's stage.
 pub fn judge(store: &Store, caller: Caller) -> Verdict
     requires user { caller.is_porter ≡ false }
     requires running { is_running (thread_at (world store.now) (place (path store.now) caller.who)) ≡ true }
@@ -35,11 +55,5 @@ pub fn judge(store: &Store, caller: Caller) -> Verdict
     ensures instruction { IsInstruction store.now result }
     ensures sure { IsSureVerdict result }
 {
-    match store.thread(caller.who) {
-        Some(thread) => match thread.mode {
-            Mode::Running => effect_of(store, caller.who, thread),
-            _ => unreachable!(),
-        },
-        None => unreachable!(),
-    }
+    instruction(store, caller).verdict()
 }

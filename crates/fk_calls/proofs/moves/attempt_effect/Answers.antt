@@ -1,0 +1,23 @@
+use Rattle.std.proofs.Common.{false, refl, ◌∙◌}
+use Rattle.fk_plans.specs.declared.plan.Verdict.TheVariants as verdicts
+use Rattle.fk_calls.specs.declared.judging.Judgement.{Judgement}
+use Rattle.fk_calls.specs.Judgements.{words_of}
+use Rattle.fk_calls.proofs.Judged.{user, ready_judged, run_judged}
+use Rattle.fk_calls.proofs.moves.attempt_effect.Goals as goal
+
+pub is_effect_ready-requires-clause-free : goal.is_effect_ready-requires-clause-free
+is_effect_ready-requires-clause-free c = c.requires.judged.free
+
+pub returns-clause-made : goal.returns-clause-made
+returns-clause-made c =
+    let judged = c.requires.judged in
+    let j : Judgement = record { caller = user c.args.m.now.who; chooses = false; verdict = verdicts.Runs c.args.effect } in
+    let ready = (ready_judged c.args.store.now c.args.m.now c.args.ask.now j _ judged (c.is_effect_ready.ensures (words_of c.args.ask.now))).0 (cc) in
+    (ready, run_judged c.args.store.now c.args.m.now c.args.ask.now c.args.effect judged ready ∙ c.run.ensures.step)
+
+pub returns-then-not-is_effect_ready-clause-unready : goal.returns-then-not-is_effect_ready-clause-unready
+returns-then-not-is_effect_ready-clause-unready c =
+    let judged = c.requires.judged in
+    let j : Judgement = record { caller = user c.args.m.now.who; chooses = false; verdict = verdicts.Runs c.args.effect } in
+    let ready = (ready_judged c.args.store.now c.args.m.now c.args.ask.now j _ judged (c.is_effect_ready.ensures (words_of c.args.ask.now))).1 in
+    ((λ r. let yes = ready r in absurd (cc)), refl)
