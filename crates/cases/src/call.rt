@@ -1,7 +1,5 @@
 //! A case, called.
-use crate::case::Case;
-use crate::ending::Ending;
-use crate::fails::Fails;
+use fk_cases::{Case, Ending, Fails};
 use fk_causes::{MemShelf, MemSink, MemSource, NoMemory, Shelf};
 use fk_run::{fault_line, fluke_top};
 use std::alloc::Global;

@@ -1,26 +1,19 @@
 //! Cases: whole commands and what must come of them, from the files of `data/`.
 //!
-//! Each file `NAME.cases` of the current folder is a list of sections (`section`), and those make
-//! cases (`case`): the words of a command, what its source and its shelf hold, which of their calls
-//! fail, and then the status, the line of its fault, the output and the files that it leaves.
-//! `fluke_top` of `fk_run` is called with each, over the source, the sink and the shelf that
-//! `fk_causes` has in memory. A new case is a new file, or some more lines of one.
+//! Each file `NAME.cases` of the current folder is read by `fk_cases` as a list of cases: the words of
+//! a command, what its source and its shelf hold, which of their calls fail, and then the status, the
+//! line of its fault, the output and the files that it leaves. `fluke_top` of `fk_run` is called with
+//! each, over the source, the sink and the shelf that `fk_causes` has in memory (`call`). A new case is
+//! a new file, or some more lines of one.
 //!
 //! The program says of each case what differs, and ends with a line of counts; it fails where a case
 //! differs. It promises no more than that it always ends.
 #![tactic(auto)]
 
 mod call;
-mod case;
-mod content;
-mod ending;
-mod fails;
-mod section;
 
-use crate::case::{Case, cases_of};
-use crate::fails::Fails;
-use crate::section::sections_of;
 use anyhow::{Context, ensure};
+use fk_cases::{Case, Fails, cases_of, sections_of};
 use std::fs;
 use std::rt::Files;
 
