@@ -1,29 +1,18 @@
 -- What is due, from what the parts of a call come to.
-use Rattle.std.proofs.Common.{◌≡◌, ℕ, Bool, true, false, List, [], Option, Some, None, Result, Ok, Err, refl, sym, append-nil}
-use Rattle.std.specs.Bool.{OnFalse}
+use Rattle.std.proofs.Common.{◌≡◌, ℕ, List, [], Option, Some, None, Result, refl, sym, append-nil}
 use Rattle.std.specs.Io.KnownBytes.{Appends}
 use Rattle.fk_causes.specs.Causes.{MayHold}
 use Rattle.fk_causes.specs.Shelf.{FileMap}
-use Rattle.fk_run.specs.declared.prepared.Prepared.{Prepared}
-use Rattle.fk_run.specs.declared.status.Status.{Status}
-use Rattle.fk_run.specs.declared.status.Status.TheVariants.{Usage}
-use Rattle.fk_run.specs.declared.top.Outcome.{Outcome}
+use Rattle.fk_commands.specs.declared.prepared.Prepared.{Prepared}
+use Rattle.fk_commands.specs.declared.status.Status.{Status}
+use Rattle.fk_commands.specs.declared.status.Status.TheVariants.{Usage}
+use Rattle.fk_commands.specs.declared.outcome.Outcome.{Outcome}
 use Rattle.fk_run.specs.Commands.{Command, Show}
-use Rattle.fk_run.specs.Outcomes.{without_report}
-use Rattle.fk_run.specs.Prepared.{ComesTo}
-use Rattle.fk_run.specs.Status.{was_cut_short}
-use Rattle.fk_run.specs.Show.{IsShow}
+use Rattle.fk_commands.specs.Outcomes.{without_report}
+use Rattle.fk_commands.specs.Prepared.{ComesTo}
+use Rattle.fk_commands.proofs.Comes.{comes-also}
+use Rattle.fk_commands.specs.Show.{IsShow}
 use Rattle.fk_run.specs.Top.{IsDue, IsDone}
-
--- one fact of an outcome and an output gives another
-pub comes-also : (P Q : Outcome → List ℕ → Type 0) →
-    ((outcome : Outcome) (text : List ℕ) → P outcome text → Q outcome text) → (r : Result Prepared Status) → ComesTo P r → ComesTo Q r
-comes-also P Q f (Ok run) comes = (f _ _ comes.0, comes.1)
-comes-also P Q f (Err status) comes = by (was_cut_short status) comes
-  where
-    by : (b : Bool) → OnFalse b (P (without_report status) []) → OnFalse b (Q (without_report status) [])
-    by true h = tt
-    by false h = f _ _ h
 
 -- what a source may hold: what it tells, or else anything
 held : (left : Option (List ℕ)) → (bytes : List ℕ) × MayHold left bytes

@@ -1,5 +1,5 @@
 -- Commands: what the words of the command line ask for.
-use Rattle.std.specs.Prelude.{ℕ, Bool, true, false, List, [], ◌∷◌, ◌++◌, Option, Some, None, nat_eq, if◌then◌else◌, codes}
+use Rattle.std.specs.Prelude.{ℕ, Bool, true, false, List, [], ◌∷◌, Option, Some, None, nat_eq, if◌then◌else◌, codes}
 use Rattle.std.specs.Cmp.Lexicographic.{pointwise}
 use Rattle.fk_model.specs.Names.{is_name}
 use Rattle.fk_run.specs.declared.command.Command as code
@@ -54,11 +54,3 @@ reads_shelf (Some Exec) = false
 reads_shelf (Some Check) = false
 reads_shelf (Some (Play name)) = true
 reads_shelf (Some (Show name)) = true
-
--- the name under which a trace lies on the shelf
-abbrev pub trace_name : List ℕ → List ℕ
-trace_name name = name ++ codes ".trc"
-
--- the name under which an image lies there
-abbrev pub image_name : List ℕ → List ℕ
-image_name name = name ++ codes ".img"

@@ -8,16 +8,16 @@ use Rattle.fk_causes.specs.declared.whole.TheConstants.{LIMIT}
 use Rattle.fk_causes.specs.Shelf.{FileMap}
 use Rattle.fk_scenario.specs.Reading.{scenario_reading}
 use Rattle.fk_scenario.specs.Rules.{server_rules}
-use Rattle.fk_run.specs.declared.status.Status.{Status}
-use Rattle.fk_run.specs.declared.status.Status.TheVariants.{Usage, TooLong}
-use Rattle.fk_run.specs.declared.top.Outcome.{Outcome}
-use Rattle.fk_run.specs.Check.{IsCheck}
+use Rattle.fk_commands.specs.declared.status.Status.{Status}
+use Rattle.fk_commands.specs.declared.status.Status.TheVariants.{Usage, TooLong}
+use Rattle.fk_commands.specs.declared.outcome.Outcome.{Outcome}
+use Rattle.fk_commands.specs.Check.{IsCheck}
 use Rattle.fk_run.specs.Commands.{Command, Exec, Check, Play, Show, reads_source}
-use Rattle.fk_run.specs.Exec.{IsExec}
-use Rattle.fk_run.specs.Outcomes.{IsRefused}
-use Rattle.fk_run.specs.Play.{IsPlay, scenario_to_run}
-use Rattle.fk_run.specs.Show.{IsShow}
-use Rattle.fk_run.specs.Status.{progress_of, is_past_reading}
+use Rattle.fk_commands.specs.Exec.{IsExec}
+use Rattle.fk_commands.specs.Outcomes.{IsRefused}
+use Rattle.fk_plays.specs.Play.{IsPlay, scenario_to_run}
+use Rattle.fk_commands.specs.Show.{IsShow}
+use Rattle.fk_commands.specs.Status.{progress_of, is_past_reading}
 
 -- a source that holds too many bytes is refused, and else they come to what they call for
 abbrev pub IsUnlessTooLong : List ℕ → (Outcome → List ℕ → Type 0) → Outcome → List ℕ → Type 0

@@ -2,10 +2,10 @@
 ghost use Rattle.std.specs.Prelude.{◌≤◌, IfOk, IfErr, OnOk, vec_len};
 ghost use Rattle.std.specs.Io.KnownBytes.{IsAtEnd};
 ghost use Rattle.fk_causes.specs.Causes.{MayHold};
-ghost use Rattle.fk_run.specs.Prepared.{IsReadFail};
+ghost use Rattle.fk_commands.specs.Prepared.{IsReadFail};
 
-use crate::status::Status;
 use fk_causes::{LIMIT, ReadError, Source, read_all};
+use fk_commands::Status;
 use std::alloc::Global;
 
 /// Reads a source to its end.

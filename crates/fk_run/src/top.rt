@@ -4,37 +4,19 @@ ghost use Rattle.std.specs.Bool.{OnTrue, OnFalse};
 ghost use Rattle.std.specs.Io.KnownBytes.{IsAtEnd, Keeps};
 ghost use Rattle.fk_causes.specs.Causes.{Rose};
 ghost use Rattle.fk_run.specs.Commands.{command_of, reads_source, reads_shelf, seen};
-ghost use Rattle.fk_run.specs.Prepared.{ComesTo, IsRefusal};
-ghost use Rattle.fk_run.specs.Status.{was_cut_short, has_written_nothing};
+ghost use Rattle.fk_commands.specs.Prepared.{ComesTo, IsRefusal};
+ghost use Rattle.fk_commands.specs.Status.{was_cut_short, has_written_nothing};
 ghost use Rattle.fk_run.specs.Top.{IsDue, IsDone, IsCutOff, has_read_all};
 
-use crate::check::check;
 use crate::command::{Command, command_of};
-use crate::exec::exec;
-use crate::play::play;
-use crate::prepared::Prepared;
-use crate::show::show;
 use crate::source_text::source_text;
-use crate::status::Status;
 use fk_causes::{Failed, Shelf, Sink, Source, write_all};
-use fk_model::{List as Items, Move};
-use fk_report::End;
+use fk_commands::check::check;
+use fk_commands::exec::exec;
+use fk_commands::show::show;
+use fk_commands::{Outcome, Prepared, Status};
+use fk_plays::play::play;
 use std::alloc::Global;
-
-/// The run of a scenario: its moves in their order, and how it ended.
-#[derive(Drop)]
-pub struct Report {
-    pub history: Items<Move>,
-    pub end: End,
-}
-
-/// What a call comes to.
-#[derive(Drop)]
-pub struct Outcome {
-    pub status: Status,
-    /// The run, where one was made: with the statuses `Ok`, `Budget` and `WriteFault` of `play`.
-    pub report: Option<Report>,
-}
 
 /// Does all of a command but the writing.
 ///

@@ -1,0 +1,9 @@
+pub use Rattle.fk_lone.specs.Machine
+pub mod Status
+pub mod Outcomes
+pub mod Files
+pub mod ExecText
+pub mod Exec
+pub mod Check
+pub mod Show
+pub mod Prepared

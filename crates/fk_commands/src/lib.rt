@@ -1,0 +1,28 @@
+//! The commands: what each comes to before anything of it is written.
+//!
+//! A command prepares a run (`prepared`): the status and the report of its outcome, and what is to be
+//! written; or it answers the status of a refusal. `exec` assembles a text and lets `fk_lone` run it;
+//! `check` and `show` prepare the counts of a scenario and of an image. `play` stands in `fk_plays`.
+//!
+//! It stands on `fk_asm` for programs, on `fk_lone` for the machine of `exec`, on `fk_scenario`, on
+//! `fk_codec` and `fk_show` for images, on `fk_report` for how a run ends, and on `fk_causes` for the
+//! shelf.
+//!
+//! It promises of each command the outcome and the output that its definition calls for (`specs/Exec.antt`,
+//! `Check.antt`, `Show.antt`), unless a get or the memory failed; that it answers a fault only where one
+//! happened in this call; and that `fault_line` says of a status what `specs/Status.antt` has.
+#![tactic(auto)]
+
+pub mod check;
+pub mod exec;
+mod exec_text;
+mod outcome;
+mod prepared;
+mod shelf_file;
+pub mod show;
+mod status;
+
+pub use outcome::{Outcome, Report};
+pub use prepared::Prepared;
+pub use shelf_file::file_of;
+pub use status::{Status, fault_line};

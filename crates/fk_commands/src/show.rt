@@ -1,0 +1,63 @@
+//! The command `show`: the counts of an image are shown.
+ghost use Rattle.std.specs.Prelude.{◌≡◌, Ok, IfOk, IfErr};
+ghost use Rattle.fk_causes.specs.Causes.{Rose};
+ghost use Rattle.fk_spelling.specs.Reading.{image_reading};
+ghost use Rattle.fk_commands.specs.Show.{IsShow, IsShown};
+ghost use Rattle.fk_commands.specs.Prepared.{ComesTo, IsRefusal, IsImageFail};
+
+use crate::prepared::Prepared;
+use crate::shelf_file::file_of;
+use crate::status::Status;
+use fk_causes::Shelf;
+use fk_codec::{ReadFail, read};
+use fk_image::Image;
+use fk_model::Text;
+use fk_show::show_text;
+use std::alloc::Global;
+
+/// The image that the bytes of the file of a name spell.
+fn image_of(alloc: Global, name: &str, bytes: &[u8]) -> Result<Image, Status>
+    ensures read { IfOk result (λ image. image_reading bytes.now ≡ Ok image) }
+    ensures fail { IfErr result (IsImageFail name.now (image_reading bytes.now)) }
+{
+    match read(alloc, bytes) {
+        Ok(image) => Ok(image),
+        Err(ReadFail::Image(error)) => Err(Status::BadImage {
+            name: Text::of(alloc, name)?,
+            offset: error.offset,
+            reason: error.reason,
+        }),
+        Err(ReadFail::NoMemory) => Err(Status::NoMemory),
+    }
+}
+
+fn show_image(alloc: Global, name: &str, bytes: &[u8]) -> Result<Prepared, Status>
+    ensures comes { ComesTo (IsShown name.now (image_reading bytes.now)) result }
+    ensures refusal { IfErr result (IsRefusal ⊥ ⊥) }
+{
+    let image = image_of(alloc, name, bytes)?;
+    let output = show_text(alloc, &image)?;
+    Ok(Prepared {
+        status: Status::Ok,
+        report: None,
+        output,
+    })
+}
+
+/// Shows the counts of the image with this name, which the shelf has as `NAME.img`.
+///
+/// # Errors
+///
+/// `Absent` where the shelf has no such image, and `ShelfFault` where the get of it failed. `BadImage`
+/// where its bytes spell no image, with the offset and the reason of their first fault. `NoMemory` where
+/// there is no memory for any of it.
+pub fn show<H: Shelf>(alloc: Global, name: &str, shelf: &mut H) -> Result<Prepared, Status>
+    ensures comes { ComesTo (IsShow name.now (H.files shelf.old)) result }
+    ensures refusal { IfErr result (IsRefusal ⊥ (Rose (H.failed_gets shelf.old) (H.failed_gets shelf.new))) }
+    ensures same_files { H.files shelf.new ≡ H.files shelf.old }
+    ensures same_puts { H.failed_puts shelf.new ≡ H.failed_puts shelf.old }
+{
+    let file = format!(in alloc; "{name}.img")?;
+    let bytes = file_of(alloc, shelf, file.as_str(), name)?;
+    show_image(alloc, name, &bytes)
+}
