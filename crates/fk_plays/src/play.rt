@@ -4,6 +4,7 @@ ghost use Rattle.fk_causes.specs.Causes.{Rose};
 ghost use Rattle.fk_causes.specs.Shelf.{HasAt};
 ghost use Rattle.fk_scenario.specs.Kept.{KeepsScenario};
 ghost use Rattle.fk_store.specs.World.{world};
+ghost use Rattle.fk_boot.specs.FirstWorld.{booted};
 ghost use Rattle.fk_commands.specs.Files.{trace_name};
 ghost use Rattle.fk_plays.specs.Play.{IsEnd, IsPlay, IsPlayed, scenario_to_run, status_of_end};
 ghost use Rattle.fk_commands.specs.Prepared.{ComesTo, IsRefusal, IsScenarioFail, IsFileFail, outcome_of};
@@ -15,6 +16,7 @@ use fk_boot::{boot, is_bootable};
 use fk_causes::Shelf;
 use fk_commands::{Prepared, Report, Status, file_of};
 use fk_kernel::Kernel;
+use fk_model::NoMemory;
 use fk_report::{End, ThreadState, have_halted, report_text, threads_of};
 use fk_scenario::{Scenario, ScenarioFail, read_scenario, server_rules};
 use std::alloc::Global;
@@ -85,6 +87,15 @@ fn status_of(end: End, budget: u64) -> Status
     }
 }
 
+/// The kernel with which a scenario begins.
+fn first_kernel(alloc: Global, scenario: &Scenario) -> Result<Kernel, NoMemory>
+    requires { KeepsScenario scenario.now }
+    ensures { IfOk result (λ kernel. world kernel ≡ booted scenario.now) }
+{
+    let kernel = Kernel::of(boot(alloc, scenario)?)?;
+    Ok(kernel)
+}
+
 /// Plays a trace from the first world of a scenario.
 fn play_scenario(alloc: Global, scenario: &Scenario, trace: &[u8]) -> Result<Prepared, Status>
     requires { KeepsScenario scenario.now }
@@ -92,7 +103,7 @@ fn play_scenario(alloc: Global, scenario: &Scenario, trace: &[u8]) -> Result<Pre
     ensures refusal { IfErr result (IsRefusal ⊥ ⊥) }
 {
     let budget = scenario.budget;
-    let mut kernel = Kernel::of(boot(alloc, scenario)?)?;
+    let mut kernel = first_kernel(alloc, scenario)?;
     let history = match replay(alloc, &mut kernel, budget, trace) {
         Ok(history) => history,
         Err(ReplayFail::Trace { index }) => return Err(Status::BadTrace { index }),

@@ -6,7 +6,7 @@ use Rattle.fk_plays.proofs.play.play_scenario.Goals as goal
 
 pub returns-clause-comes : goal.returns-clause-comes
 returns-clause-comes c =
-    let first : world c.in_ok-kernel.kernel ≡ booted c.args.scenario.now = ap world c.in_ok-kernel.ensures ∙ c.in_ok-boot.ensures.world in
+    let first : world c.in_ok-kernel.kernel ≡ booted c.args.scenario.now = c.in_ok-kernel.ensures in
     let last = c.in-Ok.ensures.world ∙ ap (λ w. played w c.in-Ok.history) first in (
       (
         record {
