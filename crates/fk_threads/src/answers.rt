@@ -15,7 +15,8 @@ ghost use Rattle.fk_store.specs.Threads.{todo_of_mode, todo_at};
 ghost use Rattle.fk_store.specs.World.{world};
 ghost use Rattle.fk_threads.specs.Answers.{all_four, listed, code_after, LeaveArguments};
 
-use fk_model::{Body, Mode, Thread, Who, status};
+use crate::going::go_on;
+use fk_model::{Mode, Thread, Who, status};
 use fk_store::Store;
 
 /// The answers of a stage.
@@ -71,6 +72,7 @@ fn at_next(mut thread: Thread, code: u64, answers: Answers) -> Thread
     ensures edit { (p : ℕ → Path) → edited (Finish (listed answers)) (Thread_of (thread_by p thread)) ≡ Thread_of (thread_by p result) }
     ensures talk { result.talk ≡ thread.talk }
     ensures fault { result.fault ≡ thread.fault }
+    ensures stops { result.stops ≡ thread.stops }
 {
     thread.regs = answered(thread.regs, answers);
     thread.regs[0] = code;
@@ -83,6 +85,7 @@ fn ended_well(mut thread: Thread, answers: Answers) -> Thread
     ensures edit { (p : ℕ → Path) → edited (End OK (listed answers)) (Thread_of (thread_by p thread)) ≡ Thread_of (thread_by p result) }
     ensures talk { result.talk ≡ thread.talk }
     ensures fault { result.fault ≡ thread.fault }
+    ensures stops { result.stops ≡ thread.stops }
 {
     thread.regs[0] = u64::from(status::OK);
     thread.regs = answered(thread.regs, answers);
@@ -97,6 +100,7 @@ fn finished(thread: Thread, answers: Answers) -> Thread
     ensures edit { (p : ℕ → Path) → edited (Finish (listed answers)) (Thread_of (thread_by p thread)) ≡ Thread_of (thread_by p result) }
     ensures talk { result.talk ≡ thread.talk }
     ensures fault { result.fault ≡ thread.fault }
+    ensures stops { result.stops ≡ thread.stops }
 {
     if let Mode::Calling = thread.mode {
         return match code_after(thread.regs[0]) {
@@ -117,7 +121,7 @@ pub fn finish(store: &mut Store, who: Who, answers: Answers)
     ensures paths { path store.new ≡ path store.old }
 {
     if let Some(&thread) = store.thread(who) {
-        store.set(who, Body::Thread(finished(thread, answers)));
+        go_on(store, who, thread, finished(thread, answers));
     }
 }
 
@@ -148,6 +152,7 @@ fn ended_with(mut thread: Thread, answers: Four) -> Thread
     ensures edit { (p : ℕ → Path) → edited (End OK (all_four answers)) (Thread_of (thread_by p thread)) ≡ Thread_of (thread_by p result) }
     ensures talk { result.talk ≡ thread.talk }
     ensures fault { result.fault ≡ thread.fault }
+    ensures stops { result.stops ≡ thread.stops }
 {
     thread.regs[0] = u64::from(status::OK);
     thread.regs = answered_four(thread.regs, answers);
@@ -161,6 +166,7 @@ fn well_ended(thread: Thread, answers: Four) -> Thread
     ensures edit { (p : ℕ → Path) → edited (End OK (all_four answers)) (Thread_of (thread_by p thread)) ≡ Thread_of (thread_by p result) }
     ensures talk { result.talk ≡ thread.talk }
     ensures fault { result.fault ≡ thread.fault }
+    ensures stops { result.stops ≡ thread.stops }
 {
     if let Mode::Calling = thread.mode {
         return ended_with(thread, answers);
@@ -176,6 +182,6 @@ pub fn end_well(store: &mut Store, who: Who, answers: Four)
     ensures paths { path store.new ≡ path store.old }
 {
     if let Some(&thread) = store.thread(who) {
-        store.set(who, Body::Thread(well_ended(thread, answers)));
+        go_on(store, who, thread, well_ended(thread, answers));
     }
 }

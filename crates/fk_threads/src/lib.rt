@@ -8,6 +8,7 @@
 #![tactic(auto)]
 
 mod answers;
+mod going;
 mod shifts;
 mod sleepers;
 

@@ -17,6 +17,7 @@ ghost use Rattle.fk_store.specs.Named.{OnNamed};
 ghost use Rattle.fk_model.specs.declared.body.Body.{Body as StoredBody};
 ghost use Rattle.fk_threads.specs.Shifted.{moving, address_in, address_of, shifted_registers, receive_code, IsLow};
 
+use crate::going::go_on;
 use fk_model::{Body, Mode, Talk, Thread, Turn, Who};
 use fk_store::Store;
 
@@ -54,6 +55,7 @@ fn advanced(mut thread: Thread, count: u64) -> Thread
     ensures edit { (p : ℕ → Path) → edited (Shift count) (Thread_of (thread_by p thread)) ≡ Thread_of (thread_by p result) }
     ensures talk { result.talk ≡ thread.talk }
     ensures fault { result.fault ≡ thread.fault }
+    ensures stops { result.stops ≡ thread.stops }
 {
     if let Mode::Calling = thread.mode {
         thread.regs = shifted(thread.regs, count);
@@ -71,7 +73,7 @@ pub fn advance(store: &mut Store, who: Who, count: u64)
     ensures paths { path store.new ≡ path store.old }
 {
     if let Some(&thread) = store.thread(who) {
-        store.set(who, Body::Thread(advanced(thread, count)));
+        go_on(store, who, thread, advanced(thread, count));
     }
 }
 
