@@ -4,5 +4,6 @@ pub mod FrozenCut
 pub mod FrozenLaws
 pub mod Users
 pub mod Holding
+pub mod Edited
 pub mod Slots
 pub mod once

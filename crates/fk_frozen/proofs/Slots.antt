@@ -1,15 +1,12 @@
 -- What stands in which slots stays with the moves of users and of native servers.
 use Rattle.std.proofs.Common.{◌≡◌, ℕ, Bool, true, false, if◌then◌else◌, not, ◌&&◌, ◌==◌, nat_le, IsSome, is_some, List, [], ◌∷◌, Option, Some, None, option_map, refl, sym, ap, ◌∙◌}
 use Rattle.fk_model.specs.declared.limits.TheConstants.{LAST_USER_SLOT, LAST_SCRATCH_SLOT, LAST_PORTER_SLOT}
-use Rattle.fk_model.specs.declared.names.Kind.TheVariants as kinds
-use Rattle.fk_model.specs.declared.stage.Stage.{Stage}
 use Rattle.fk_model.specs.Places.{Path, same_path}
-use Rattle.fk_model.specs.Objects.{Mode, Thread, Body, kind_of, reference_of, holds}
-use Rattle.fk_model.specs.Objects.Mode.{Calling}
-use Rattle.fk_model.specs.Objects.Body.{Mutex, Cond, Mapping, Region, Port, Portset, Space, Thread_of, Reference}
-use Rattle.fk_model.specs.World.{World, Change, Edit, Sweep, edited, through, death_sweep, following, apply, apply_all, shifted_in, ended_in, finished_in, replaced_in}
+use Rattle.fk_model.specs.Objects.{Mode, Thread, Body, reference_of, holds}
+use Rattle.fk_model.specs.Objects.Body.{Mutex, Space, Thread_of, Reference}
+use Rattle.fk_model.specs.World.{World, Change, Edit, Sweep, edited, through, death_sweep, following, apply, apply_all}
 use Rattle.fk_model.specs.World.Change.{Alter, Make, MakeSpace, Kill, Move, PutPage, DropPage}
-use Rattle.fk_model.specs.World.Edit.{SetLocked, Proceed, Shift, Finish, End, Replace}
+use Rattle.fk_model.specs.World.Edit.{Proceed}
 use Rattle.fk_model.specs.Holds.{is_porter}
 use Rattle.fk_model.specs.StateRows.{is_native}
 use Rattle.fk_model.specs.Outcomes.{Outcome, listed}
@@ -17,14 +14,13 @@ use Rattle.fk_model.specs.Outcomes.Outcome.{Refused, Waits, Goes}
 use Rattle.fk_model.specs.Moves.{outcome, step, stepped}
 use Rattle.fk_model.specs.Whole.{stands_in}
 use Rattle.fk_model.proofs.walks.PlaceLaws.{same_path_eq}
-use Rattle.fk_laws.proofs.validity.Outlines.{Outline}
-use Rattle.fk_laws.proofs.validity.Edits.{outline-edited}
 use Rattle.fk_laws.proofs.safety.Safe.{IsSafe, AreSafe}
 use Rattle.fk_laws.proofs.safety.Outcomes.{SafeOutcome}
 use Rattle.fk_laws.proofs.safety.Moves.{outcome-safe}
 use Rattle.fk_laws.proofs.validity.Steps.{facts_of}
 use Rattle.fk_frozen.specs.Users.{is_low, IsUsers, AreUsers}
 use Rattle.fk_frozen.specs.Slots.{KeepsSlots, UsersKeepSlots}
+use Rattle.fk_frozen.proofs.Edited.{is_proceed, same-native, same-reference}
 use Rattle.fk_frozen.proofs.Users.{users_name_low}
 
 -- ---- which slots a body may stand in is told by whether it is a porter and whether it is a reference
@@ -45,90 +41,7 @@ high-native k (Thread_of t) high h native = refl
 high-native k (Mutex locked) high h native = cc
 high-native k b high h native = cc
 
--- ---- edits
-
-same_kind : (edit : Edit) (b : Body) → kind_of (edited edit b) ≡ kind_of b
-same_kind edit b = ap (λ (o : Outline). o.kind) (outline-edited edit b)
-
--- what is no thread is no porter, and whether it is a reference is told by its kind
-other-native : (b : Body) → (kind_of b ≡ kinds.Thread → ⊥) → is_native b ≡ false
-other-native (Thread_of t) other = absurd (other refl)
-other-native (Mutex locked) other = refl
-other-native b other = refl
-
-reference-kind : (a b : Body) → kind_of a ≡ kind_of b → is_some (reference_of b) ≡ true → is_some (reference_of a) ≡ true
-reference-kind (Reference to) b same h = refl
-reference-kind (Mutex locked) (Reference to) same h = cc
-reference-kind Cond (Reference to) same h = cc
-reference-kind (Mapping m) (Reference to) same h = cc
-reference-kind (Region r) (Reference to) same h = cc
-reference-kind (Port set served) (Reference to) same h = cc
-reference-kind Portset (Reference to) same h = cc
-reference-kind (Space birth holder) (Reference to) same h = cc
-reference-kind (Thread_of t) (Reference to) same h = cc
-reference-kind a (Mutex locked) same h = cc
-reference-kind a Cond same h = cc
-reference-kind a (Mapping m) same h = cc
-reference-kind a (Region r) same h = cc
-reference-kind a (Port set served) same h = cc
-reference-kind a Portset same h = cc
-reference-kind a (Space birth holder) same h = cc
-reference-kind a (Thread_of t) same h = cc
-
-both_or : (a b : Bool) → (a ≡ true → b ≡ true) → (b ≡ true → a ≡ true) → a ≡ b
-both_or true true f g = refl
-both_or false false f g = refl
-both_or true false f g = let h = f refl in cc
-both_or false true f g = let h = g refl in cc
-
-same-reference : (edit : Edit) (b : Body) → is_some (reference_of (edited edit b)) ≡ is_some (reference_of b)
-same-reference edit b = both_or _ _ (reference-kind b (edited edit b) (sym (same_kind edit b))) (reference-kind (edited edit b) b (same_kind edit b))
-
-shifted-same : (count : ℕ) (m : Mode) → is_porter (shifted_in count m) ≡ is_porter m
-shifted-same count (Calling (stage ∷ todo) rest) = refl
-shifted-same count (Calling [] rest) = refl
-shifted-same count m = refl
-
-replaced-same : (stage : Stage) (m : Mode) → is_porter (replaced_in stage m) ≡ is_porter m
-replaced-same stage (Calling (old ∷ todo) rest) = refl
-replaced-same stage (Calling [] rest) = refl
-replaced-same stage m = refl
-
-ended-same : (status : ℕ) (answers : List ℕ) (t : Thread) (m : Mode) → is_porter m ≡ is_porter t.mode →
-    is_porter (ended_in status answers t m).mode ≡ is_porter t.mode
-ended-same status answers t (Calling todo rest) same = same
-ended-same status answers t m same = refl
-
-finished-same : (answers : List ℕ) (t : Thread) (m : Mode) → is_porter m ≡ is_porter t.mode → is_porter (finished_in answers t m).mode ≡ is_porter t.mode
-finished-same answers t (Calling (stage ∷ next_stage ∷ todo) rest) same = same
-finished-same answers t (Calling (stage ∷ []) rest) same = same
-finished-same answers t (Calling [] rest) same = same
-finished-same answers t m same = refl
-
-abbrev is_proceed : Edit → Bool
-is_proceed (Proceed mode counter) = true
-is_proceed other = false
-
-thread-native : (edit : Edit) (t : Thread) → is_proceed edit ≡ false → is_native (edited edit (Thread_of t)) ≡ is_porter t.mode
-unfolding edited
-thread-native (Proceed mode counter) t other = cc
-thread-native (Shift count) t other = shifted-same count t.mode
-thread-native (Finish answers) t other = finished-same answers t t.mode refl
-thread-native (End status answers) t other = ended-same status answers t t.mode refl
-thread-native (Replace stage) t other = replaced-same stage t.mode
-thread-native (SetLocked locked) t other = refl
-thread-native edit t other = refl
-
-same-native : (edit : Edit) (b : Body) → is_proceed edit ≡ false → is_native (edited edit b) ≡ is_native b
-same-native edit (Thread_of t) other = thread-native edit t other
-same-native edit (Mutex locked) other = other-native _ (λ e. let k = same_kind edit (Mutex locked) in cc)
-same-native edit Cond other = other-native _ (λ e. let k = same_kind edit Cond in cc)
-same-native edit (Mapping m) other = other-native _ (λ e. let k = same_kind edit (Mapping m) in cc)
-same-native edit (Region r) other = other-native _ (λ e. let k = same_kind edit (Region r) in cc)
-same-native edit (Port set served) other = other-native _ (λ e. let k = same_kind edit (Port set served) in cc)
-same-native edit Portset other = other-native _ (λ e. let k = same_kind edit Portset in cc)
-same-native edit (Space birth holder) other = other-native _ (λ e. let k = same_kind edit (Space birth holder) in cc)
-same-native edit (Reference to) other = other-native _ (λ e. let k = same_kind edit (Reference to) in cc)
+-- ---- sweeps
 
 pub swept-sort : (f : Sweep) (q : Path) (b : Body) → sort (through f q b) ≡ sort b
 swept-sort f q (Thread_of t) = refl

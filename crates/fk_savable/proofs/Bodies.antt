@@ -1,5 +1,5 @@
 -- Kept changes leave each thread tidy: its call is one that there is, and its numbers are in range.
-use Rattle.std.proofs.Common.{◌≡◌, ℕ, ◌≤◌, Bool, true, false, if◌then◌else◌, length, nat_le, List, [], ◌∷◌, Option, Some, None, option_map, refl, ap, ◌∙◌}
+use Rattle.std.proofs.Common.{◌≡◌, ℕ, ◌≤◌, Bool, true, false, if◌then◌else◌, length, nat_le, List, [], ◌∷◌, Option, Some, None, option_map, refl, ◌∙◌}
 use Rattle.std.proofs.lemmas.Bool.{and_parts, leb-true}
 use Rattle.std.proofs.lemmas.List.{length-set}
 use Rattle.fk_model.specs.declared.limits.TheConstants.{MOST_STOPS}
@@ -17,8 +17,7 @@ use Rattle.fk_model.specs.World.Edit.{SetLocked, Proceed, Shift, Finish, End, Re
 use Rattle.fk_model.specs.Shapes.{IsShapedMode, IsCodeInRange}
 use Rattle.fk_model.proofs.calls.CallLaws.{words_keep_length_lem}
 use Rattle.fk_model.proofs.walks.PlaceLaws.{same_path_eq}
-use Rattle.fk_laws.proofs.validity.Outlines.{Outline}
-use Rattle.fk_laws.proofs.validity.Edits.{outline-edited}
+use Rattle.fk_frozen.proofs.Edited.{same_kind}
 use Rattle.fk_whole.proofs.Lengths.{length-with_answers}
 use Rattle.fk_savable.proofs.Kept.{IsTidyThread, IsTidy, AreTidy, is_single, is_last_receive, leaves_room, FitsAnswers, IsKeptEdit, IsKept}
 use Rattle.fk_savable.proofs.Todos.{has_rest, rest-left, rest-shifted, rest-answered}
@@ -137,9 +136,6 @@ no_thread : (b : Body) → (kind_of b ≡ kinds.Thread → ⊥) → IsTidy b
 no_thread (Thread_of t) other = absurd (other refl)
 no_thread (Mutex locked) other = tt
 no_thread b other = tt
-
-same_kind : (edit : Edit) (b : Body) → kind_of (edited edit b) ≡ kind_of b
-same_kind edit b = ap (λ (o : Outline). o.kind) (outline-edited edit b)
 
 edited-tidy : (v : World) (x : Path) (edit : Edit) (b : Body) → v.body x ≡ Some b → IsKeptEdit v x edit → IsTidy b → IsTidy (edited edit b)
 edited-tidy v x edit (Thread_of t) there kept tidy = thread-tidy edit t (kept-here v x edit t (rw there refl) kept) tidy

@@ -12,9 +12,8 @@ use Rattle.fk_model.specs.Holds.{holder_of}
 use Rattle.fk_model.specs.Valid.{IsConsistent, kind_there, leads_there}
 use Rattle.fk_model.proofs.walks.PlaceLaws.{same_path_eq, strip_some, strip-append}
 use Rattle.fk_model.proofs.walks.WalkLaws.{live_above}
-use Rattle.fk_laws.proofs.validity.Outlines.{Outline}
-use Rattle.fk_laws.proofs.validity.Edits.{outline-edited}
 use Rattle.fk_laws.proofs.safety.Safe.{is_plain, IsSafe}
+use Rattle.fk_frozen.proofs.Edited.{same_kind}
 use Rattle.fk_savable.proofs.Kept.{IsOutside, IsKept}
 
 -- nobody holds the space in or beneath which it lives
@@ -37,9 +36,6 @@ no_space : (b : Body) → (kind_of b ≡ kinds.Space → ⊥) → holder_of (Som
 no_space (Space birth holder) other = absurd (other refl)
 no_space (Mutex locked) other = refl
 no_space b other = refl
-
-same_kind : (edit : Edit) (b : Body) → kind_of (edited edit b) ≡ kind_of b
-same_kind edit b = ap (λ (o : Outline). o.kind) (outline-edited edit b)
 
 -- an edit that sets no holder leaves it
 same-holder : (edit : Edit) (b : Body) → is_holding edit ≡ false → holder_of (Some (edited edit b)) ≡ holder_of (Some b)

@@ -22,7 +22,8 @@ use Rattle.fk_laws.proofs.validity.Outlines.{Outline}
 use Rattle.fk_laws.proofs.validity.Edits.{outline-edited}
 use Rattle.fk_laws.proofs.safety.Safe.{is_plain, IsSafe}
 use Rattle.fk_laws.proofs.safety.Reads.{body-thread_of}
-use Rattle.fk_savable.proofs.Sorts.{same_kind, native-edited, native-through}
+use Rattle.fk_frozen.proofs.Edited.{same_kind}
+use Rattle.fk_savable.proofs.Sorts.{native-edited, native-through}
 use Rattle.fk_savable.proofs.Kept.{is_port, IsLastKill, IsKeptEdit, IsKept}
 
 abbrev pub TalksPlaced : World → Type 0

@@ -1,92 +1,37 @@
 -- Kept changes leave what stands in which slots: a porter stays one, and nobody becomes one.
-use Rattle.std.proofs.Common.{◌≡◌, ℕ, Bool, true, false, if◌then◌else◌, ◌==◌, nat_le, is_some, List, [], ◌∷◌, Option, Some, None, option_map, refl, sym, ap, ◌∙◌}
+use Rattle.std.proofs.Common.{◌≡◌, ℕ, Bool, true, false, if◌then◌else◌, nat_le, is_some, [], ◌∷◌, Option, Some, None, option_map, refl, sym, ◌∙◌}
 use Rattle.fk_model.specs.declared.limits.TheConstants.{LAST_USER_SLOT, LAST_PORTER_SLOT}
-use Rattle.fk_model.specs.declared.names.Kind.TheVariants as kinds
-use Rattle.fk_model.specs.declared.stage.Stage.{Stage}
 use Rattle.fk_model.specs.Places.{Path, same_path}
-use Rattle.fk_model.specs.Objects.{Mode, Thread, Body, kind_of, number_of_kind, reference_of, holds}
-use Rattle.fk_model.specs.Objects.Mode.{Calling}
-use Rattle.fk_model.specs.Objects.Body.{Mutex, Cond, Mapping, Region, Port, Portset, Space, Thread_of, Reference}
-use Rattle.fk_model.specs.World.{World, Change, Edit, Sweep, edited, through, death_sweep, following, apply, shifted_in, ended_in, finished_in, replaced_in}
+use Rattle.fk_model.specs.Objects.{Mode, Thread, Body, reference_of, holds}
+use Rattle.fk_model.specs.Objects.Body.{Mutex, Space, Thread_of, Reference}
+use Rattle.fk_model.specs.World.{World, Change, Edit, Sweep, edited, through, death_sweep, following, apply}
 use Rattle.fk_model.specs.World.Change.{Alter, Make, MakeSpace, Kill, Move, PutPage, DropPage}
-use Rattle.fk_model.specs.World.Edit.{SetLocked, Proceed, Shift, Finish, End, Replace}
+use Rattle.fk_model.specs.World.Edit.{Proceed}
 use Rattle.fk_model.specs.Holds.{is_porter}
 use Rattle.fk_model.specs.StateRows.{is_native}
 use Rattle.fk_model.specs.Whole.{stands_in}
 use Rattle.fk_model.proofs.walks.PlaceLaws.{same_path_eq}
-use Rattle.fk_laws.proofs.validity.Outlines.{Outline}
-use Rattle.fk_laws.proofs.validity.Edits.{outline-edited}
 use Rattle.fk_laws.proofs.safety.Safe.{IsSafe}
+use Rattle.fk_frozen.proofs.Edited.{same-native, same-reference}
 use Rattle.fk_savable.proofs.Kept.{IsKeptEdit, IsKept}
 use Rattle.fk_savable.proofs.Standing.{AllStand, low-stands, same-stands, stands-native}
 
 -- ---- edits
 
-pub same_kind : (edit : Edit) (b : Body) → kind_of (edited edit b) ≡ kind_of b
-same_kind edit b = ap (λ (o : Outline). o.kind) (outline-edited edit b)
-
--- whether it is a reference is told by its kind
-reference-kind : (b : Body) → is_some (reference_of b) ≡ (number_of_kind (kind_of b) == 9)
-reference-kind (Reference to) = refl
-reference-kind (Mutex locked) = refl
-reference-kind b = refl
-
-same-reference : (edit : Edit) (b : Body) → is_some (reference_of (edited edit b)) ≡ is_some (reference_of b)
-same-reference edit b = reference-kind (edited edit b) ∙ ap (λ k. number_of_kind k == 9) (same_kind edit b) ∙ sym (reference-kind b)
-
--- what is no thread is no porter
-other-native : (b : Body) → (kind_of b ≡ kinds.Thread → ⊥) → is_native b ≡ false
-other-native (Thread_of t) other = absurd (other refl)
-other-native (Mutex locked) other = refl
-other-native b other = refl
-
-shifted-same : (count : ℕ) (m : Mode) → is_porter (shifted_in count m) ≡ is_porter m
-shifted-same count (Calling (stage ∷ todo) rest) = refl
-shifted-same count (Calling [] rest) = refl
-shifted-same count m = refl
-
-replaced-same : (stage : Stage) (m : Mode) → is_porter (replaced_in stage m) ≡ is_porter m
-replaced-same stage (Calling (old ∷ todo) rest) = refl
-replaced-same stage (Calling [] rest) = refl
-replaced-same stage m = refl
-
-ended-same : (status : ℕ) (answers : List ℕ) (t : Thread) (m : Mode) → is_porter m ≡ is_porter t.mode →
-    is_porter (ended_in status answers t m).mode ≡ is_porter t.mode
-ended-same status answers t (Calling todo rest) same = same
-ended-same status answers t m same = refl
-
-finished-same : (answers : List ℕ) (t : Thread) (m : Mode) → is_porter m ≡ is_porter t.mode → is_porter (finished_in answers t m).mode ≡ is_porter t.mode
-finished-same answers t (Calling (stage ∷ next_stage ∷ todo) rest) same = same
-finished-same answers t (Calling (stage ∷ []) rest) same = same
-finished-same answers t (Calling [] rest) same = same
-finished-same answers t m same = refl
-
 user-before : (o : Option Body) (t : Thread) → o ≡ Some (Thread_of t) → holds is_native o ≡ false → is_porter t.mode ≡ false
 user-before o t there before = rw there at before
 
-thread-native : (v : World) (x : Path) (edit : Edit) (t : Thread) → v.body x ≡ Some (Thread_of t) → IsKeptEdit v x edit →
-    is_native (edited edit (Thread_of t)) ≡ is_porter t.mode
+proceed-native : (v : World) (x : Path) (mode : Mode) (counter : ℕ) (b : Body) → v.body x ≡ Some b → IsKeptEdit v x (Proceed mode counter) →
+    is_native (edited (Proceed mode counter) b) ≡ is_native b
 unfolding edited
-thread-native v x (Proceed mode counter) t there kept = kept.user ∙ sym (user-before (v.body x) t there kept.before)
-thread-native v x (Shift count) t there kept = shifted-same count t.mode
-thread-native v x (Finish answers) t there kept = finished-same answers t t.mode refl
-thread-native v x (End status answers) t there kept = ended-same status answers t t.mode refl
-thread-native v x (Replace stage) t there kept = replaced-same stage t.mode
-thread-native v x (SetLocked locked) t there kept = refl
-thread-native v x edit t there kept = refl
+proceed-native v x mode counter (Thread_of t) there kept = kept.user ∙ sym (user-before (v.body x) t there kept.before)
+proceed-native v x mode counter (Mutex locked) there kept = refl
+proceed-native v x mode counter b there kept = refl
 
 -- a porter stays a porter
 pub native-edited : (v : World) (x : Path) (edit : Edit) (b : Body) → v.body x ≡ Some b → IsKeptEdit v x edit → is_native (edited edit b) ≡ is_native b
-native-edited v x edit (Thread_of t) there kept = thread-native v x edit t there kept
-native-edited v x edit (Mutex locked) there kept = other-native (edited edit (Mutex locked)) (λ e. let k = same_kind edit (Mutex locked) in cc)
-native-edited v x edit Cond there kept = other-native (edited edit Cond) (λ e. let k = same_kind edit Cond in cc)
-native-edited v x edit (Mapping m) there kept = other-native (edited edit (Mapping m)) (λ e. let k = same_kind edit (Mapping m) in cc)
-native-edited v x edit (Region r) there kept = other-native (edited edit (Region r)) (λ e. let k = same_kind edit (Region r) in cc)
-native-edited v x edit (Port set served) there kept = other-native (edited edit (Port set served)) (λ e. let k = same_kind edit (Port set served) in cc)
-native-edited v x edit Portset there kept = other-native (edited edit Portset) (λ e. let k = same_kind edit Portset in cc)
-native-edited v x edit (Space birth holder) there kept =
-    other-native (edited edit (Space birth holder)) (λ e. let k = same_kind edit (Space birth holder) in cc)
-native-edited v x edit (Reference to) there kept = other-native (edited edit (Reference to)) (λ e. let k = same_kind edit (Reference to) in cc)
+native-edited v x (Proceed mode counter) b there kept = proceed-native v x mode counter b there kept
+native-edited v x edit b there kept = same-native edit b refl
 
 pub native-through : (f : Sweep) (q : Path) (b : Body) → is_native (through f q b) ≡ is_native b
 native-through f q (Thread_of t) = refl

@@ -10,8 +10,7 @@ use Rattle.fk_model.specs.World.{World, Change, Edit, edited, apply, apply_all, 
 use Rattle.fk_model.specs.World.Change.{Alter, Make, MakeSpace, Kill, Move, PutPage, DropPage}
 use Rattle.fk_model.specs.World.Edit.{SetPointer, SetHolder, SetTalk, CountMoved, PassTurn, SetPeer, SetFault, SetTaker, Finish, End}
 use Rattle.fk_model.specs.Searches.{talk_at, fault_at}
-use Rattle.fk_laws.proofs.validity.Outlines.{Outline}
-use Rattle.fk_laws.proofs.validity.Edits.{outline-edited}
+use Rattle.fk_frozen.proofs.Edited.{same_kind}
 use Rattle.fk_frozen.specs.Once.{is_mild_edit, is_mild, AreMild}
 
 abbrev pub tie : Talk → Ptr × Peer
@@ -39,9 +38,6 @@ blank-of : (b : Body) → (kind_of b ≡ kinds.Thread → ⊥) → face (Some b)
 blank-of (Thread_of t) other = absurd (other refl)
 blank-of (Mutex locked) other = refl
 blank-of b other = refl
-
-same_kind : (edit : Edit) (b : Body) → kind_of (edited edit b) ≡ kind_of b
-same_kind edit b = ap (λ (o : Outline). o.kind) (outline-edited edit b)
 
 -- ---- edits of threads
 
