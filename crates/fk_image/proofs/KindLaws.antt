@@ -1,9 +1,8 @@
 -- The table of kinds, as objects come.
-use Rattle.std.proofs.Common.{◌≡◌, ◌≢◌, ℕ, ◌+◌, ◌<◌, ◌≤◌, Bool, true, false, cond, ◌==◌, ltb, List, [], ◌∷◌, ◌++◌, length, get_or, set, Option, Some, None, refl, sym, ap, ◌∙◌, arith, length-append}
-use Rattle.std.proofs.lemmas.Bool.{ne_eqb}
+use Rattle.std.proofs.Common.{◌≡◌, ◌≢◌, ℕ, ◌+◌, ◌-◌, ◌<◌, ◌≤◌, Bool, true, false, cond, ◌==◌, List, [], ◌∷◌, ◌++◌, length, get_or, take, replicate, set, inl, inr, Option, Some, None, refl, sym, ap, ◌∙◌, arith}
+use Rattle.std.proofs.lemmas.Bool.{ne_eqb, cases_lt}
 use Rattle.std.proofs.lemmas.Bool.Decides.{nat_tests}
-use Rattle.std.proofs.lemmas.List.{get_or_past, get_or_default, get_or_append_left, get_or-set_same, get_or-set_other}
-use Rattle.std.proofs.Math.Seq.{get_or-append_seam}
+use Rattle.std.proofs.lemmas.List.{take_all, get_or_past, get_or_default, get_or_append_left, get_or-append_right, get_or-replicate, length-replicate, get_or-set_same, get_or-set_other}
 use Rattle.fk_model.specs.declared.names.Kind.{Kind}
 use Rattle.fk_image.specs.declared.image.ObjectRec.{ObjectRec}
 use Rattle.fk_image.specs.Objects.{rises, next_slot, kind_of_rec, kind_in}
@@ -18,18 +17,24 @@ pub kind_read : (numbers : List ℕ) (n d : ℕ) → n < length numbers → d �
 unfolding kind_at
 kind_read numbers n d low e = ap numbered (e ∙ get_or_default numbers n d 0 low)
 
-pub kind_more : (numbers : List ℕ) (n : ℕ) → kind_at (numbers ++ 0 ∷ []) n ≡ kind_at numbers n
+fill : {X : Type 0} → (x : X) (k n : ℕ) → get_or (replicate k x) n x ≡ x
+fill x k n = elim (cases_lt n k) [
+  | inl lt ↦ get_or-replicate k n x x lt
+  | inr ge ↦ get_or_past (replicate k x) n x (rw (length-replicate k x) ge)
+]
+
+filled : (numbers : List ℕ) (k n : ℕ) → get_or (numbers ++ replicate k 0) n 0 ≡ get_or numbers n 0
+filled numbers k n = elim (cases_lt n (length numbers)) [
+  | inl low ↦ get_or_append_left numbers (replicate k 0) 0 n low
+  | inr past ↦ get_or-append_right numbers (replicate k 0) (length numbers) n 0 refl past ∙ fill 0 k (n - length numbers) ∙ sym (get_or_past numbers n 0 past)
+]
+
+-- zeros at the end tell nothing
+pub kind_more : (more : Bool) (old new : List ℕ) (size k n : ℕ) → length old ≤ size →
+    new ≡ cond more (take size old ++ replicate k 0) old → kind_at new n ≡ kind_at old n
 unfolding kind_at
-kind_more numbers n = ap numbered (by (ltb n (length numbers)) refl (n == length numbers) refl)
-  where
-    by : (b : Bool) → ltb n (length numbers) ≡ b → (c : Bool) → (n == length numbers) ≡ c → get_or (numbers ++ 0 ∷ []) n 0 ≡ get_or numbers n 0
-    by true e c f = let low : n < length numbers = grind (arith, nat_tests) in get_or_append_left numbers (0 ∷ []) 0 n low
-    by false e true f = let same : n ≡ length numbers = grind (arith, nat_tests) in
-        rw (same, get_or-append_seam numbers 0 [] 0, get_or_past numbers (length numbers) 0 (omega arith)) refl
-    by false e false f =
-        let low : length numbers ≤ n = grind (arith, nat_tests) in
-        let past : length (numbers ++ 0 ∷ []) ≤ n = simp length-append (grind (arith, nat_tests)) in
-        rw (get_or_past (numbers ++ 0 ∷ []) n 0 past, get_or_past numbers n 0 low) refl
+kind_more true old new size k n short e = rw (e, take_all size old short) (ap numbered (filled old k n))
+kind_more false old new size k n short e = rw e refl
 
 put : (numbers : List ℕ) (k number : ℕ) (n : ℕ) →
     k < length numbers → kind_at (set numbers k number) n ≡ cond (k == n) (numbered number) (kind_at numbers n)

@@ -1,4 +1,4 @@
--- Kinds by slot: a table of numbers, one for each slot up to the last that is taken.
+-- Kinds by slot: a table of numbers, one for each slot; behind its end there is none.
 use Rattle.std.specs.Prelude.{ℕ, ◌==◌, if◌then◌else◌, List, Option, Some, None, slice_index_or}
 use Rattle.fk_model.specs.declared.names.Kind.{Kind}
 use Rattle.fk_model.specs.declared.names.Kind.TheVariants as kinds

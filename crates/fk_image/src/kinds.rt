@@ -56,16 +56,14 @@ pub fn kind_at(numbers: &Vec<u8>, slot: u16) -> Option<Kind>
     numbered(number_at(numbers, slot))
 }
 
-/// Makes a table longer than a slot, and some more for those that follow.
+/// Makes a table as long as a space has slots. Most have objects in many, so it grows once.
 #[inline(never)]
-fn lengthen(numbers: &mut Vec<u8>, slot: usize) -> Result<(), NoMemory>
-    requires { slot < 256 }
+fn lengthen(numbers: &mut Vec<u8>) -> Result<(), NoMemory>
+    requires { length numbers.old.items < 256 }
     ensures same { (n : ℕ) → words.kind_at numbers.new.items n ≡ words.kind_at numbers.old.items n }
-    ensures long { OnOk result (slot < length numbers.new.items) }
+    ensures long { OnOk result (length numbers.new.items ≡ 256) }
 {
-    while numbers.len() <= slot + 31 {
-        numbers.push(0)?;
-    }
+    numbers.resize(256, 0)?;
     Ok(())
 }
 
@@ -78,6 +76,6 @@ pub fn make_room(numbers: &mut Vec<u8>, slot: u8) -> Result<(), NoMemory>
     if (slot as usize) < numbers.len() {
         Ok(())
     } else {
-        lengthen(numbers, slot as usize)
+        lengthen(numbers)
     }
 }

@@ -9,8 +9,8 @@ use fk_model::{Kind, NoMemory};
 use std::alloc::Global;
 use std::marker::Model;
 
-/// The objects of a space, by rising slot. Contracts see them as a list. Their kinds stand in a table
-/// besides, up to the last slot that is taken: to where pointers lead is asked more often than all else.
+/// The objects of a space, by rising slot. Contracts see them as a list. Their kinds stand in a table by
+/// slot besides: to where pointers lead is asked more often than all else.
 #[derive(Drop)]
 pub struct Objects {
     items: Vec<ObjectRec>,
@@ -43,6 +43,16 @@ impl Objects {
         }
     }
 
+    /// No objects, with memory for the records of so many.
+    pub fn with_room(alloc: Global, room: usize) -> Result<Objects, NoMemory>
+        ensures { IfOk result (λ objects. objects ≡ []) }
+    {
+        Ok(Objects {
+            items: Vec::with_capacity(alloc, room)?,
+            kinds: Vec::new(alloc),
+        })
+    }
+
     /// How many there are.
     pub fn len(&self) -> usize
         ensures { result ≡ length self.now }
@@ -65,10 +75,9 @@ impl Objects {
         ensures err { OnErr result (self.new ≡ self.old) }
     {
         make_room(&mut self.kinds, item.slot)?;
-        let slot = item.slot;
-        let number = number_of_rec(&item.body);
-        self.items.push(item)?;
-        self.kinds[slot as usize] = number;
+        self.items.reserve(1)?;
+        self.kinds[item.slot as usize] = number_of_rec(&item.body);
+        self.items.push_reserved(item);
         Ok(())
     }
 

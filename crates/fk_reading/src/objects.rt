@@ -154,7 +154,9 @@ fn add_object<'a>(
 fn objects_from(alloc: Global, count: u16, bytes: &[u8]) -> Result<(Objects, &[u8]), Fail>
     ensures { Decodes (λ x. (x.0, x.1.now)) result (read_many words.read_object after_object count 0 [] bytes.now) }
 {
-    let mut objects = Objects::new(alloc);
+    // An object has two bytes at least, whatever the count promises.
+    let room = (count as usize).min(240).min(bytes.len() / 2);
+    let mut objects = Objects::with_room(alloc, room)?;
     let mut rest = bytes;
     let mut floor = 0u16;
     for _ in 0..count {

@@ -1,6 +1,6 @@
-use Rattle.std.proofs.Common.{◌∙◌}
+use Rattle.std.proofs.Common.{arith}
 use Rattle.fk_image.proofs.KindLaws.{kind_more}
 use Rattle.fk_image.proofs.kinds.lengthen.Goals as goal
 
-pub loop-numbers-preserved : goal.loop-numbers-preserved
-loop-numbers-preserved c = rw c.in_ok-push.ensures.items (λ n. kind_more _ n ∙ c.loop-numbers.invariant n)
+pub returns-clause-same : goal.returns-clause-same
+returns-clause-same c = λ n. kind_more _ _ _ 256 _ n (let short = c.requires in omega arith) c.resize.ensures.items

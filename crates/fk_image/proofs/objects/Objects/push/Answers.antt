@@ -11,8 +11,8 @@ invariant_of-self-2 c =
     let rise = c.self.invariant.0 in
     let last : next_slot os ≤ o.slot = rw c.self.view_is c.requires in
     let same = c.in_ok-make_room.ensures.same in
-    rw c.in_ok-push.ensures.items (
+    rw (c.push_reserved.ensures.items, c.in_ok-reserve.ensures.items) (
       rises_more os o rise last,
-      kinds_more os o c.make_room.new.numbers.items c.number_of_rec-number.result rise last (λ n. c.self.invariant.1 n ∙ sym (same n)) c.in_ok-make_room.ensures.long
-          c.number_of_rec-number.ensures,
+      kinds_more os o c.make_room.new.numbers.items c.number_of_rec.result rise last (λ n. c.self.invariant.1 n ∙ sym (same n)) c.in_ok-make_room.ensures.long
+          c.number_of_rec.ensures,
     )
