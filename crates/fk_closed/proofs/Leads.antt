@@ -1,5 +1,5 @@
 -- Leads: where pointers lead, seen from a subtree, and what leads into it.
-use Rattle.std.proofs.Common.{◌≡◌, ◌⊎◌, ℕ, zero, suc, ◌+◌, ◌<◌, ◌≤◌, Bool, true, false, cond, not, ◌&&◌, ◌||◌, ◌==◌, nat_lt, nat_le, eq-eqb, eqb-true, if◌then◌else◌, List, [], ◌∷◌, ◌++◌, length, count_by, find, filter, flat_map, Option, Some, None, option_map, unwrap_or, is_some, IsSome, IfSome, refl, sym, ap, subst, ◌∙◌, inl, inr, arith}
+use Rattle.std.proofs.Common.{◌≡◌, ◌≢◌, ◌⊎◌, ℕ, zero, suc, ◌+◌, ◌<◌, Bool, true, false, cond, not, ◌&&◌, ◌||◌, ◌==◌, nat_lt, nat_le, eq-eqb, eqb-true, if◌then◌else◌, List, [], ◌∷◌, ◌++◌, length, count_by, find, Option, Some, None, option_map, unwrap_or, is_some, IsSome, IfSome, refl, sym, ap, subst, ◌∙◌, inl, inr, arith}
 use Rattle.std.specs.List.{list_any}
 use Rattle.std.proofs.lemmas.Bool.{cases_lt}
 use Rattle.std.proofs.lemmas.Bool.Decides.{nat_tests}
@@ -10,14 +10,13 @@ use Rattle.fk_model.specs.declared.body.Body as bodies_of
 use Rattle.fk_model.specs.declared.body.Body.TheVariants as bodies
 use Rattle.fk_model.specs.declared.names.Ptr as stored_ptr
 use Rattle.fk_model.specs.declared.thread.Fault.{Fault as StoredFault}
-use Rattle.fk_model.specs.declared.thread.Mode as stored_mode
 use Rattle.fk_model.specs.declared.thread.Talk.{Talk as StoredTalk}
 use Rattle.fk_model.specs.declared.thread.Thread.{Thread as StoredThread}
 use Rattle.fk_model.specs.Closed.{far_field, when_bad, is_holders_scratch, leads_in_from, is_led_to}
 use Rattle.fk_model.specs.Cut.{cut_out, cut_to, is_far, is_out, is_port, ports_of, seen_by}
-use Rattle.fk_model.specs.Objects.{Body, kind_of, and_then, or_else, holds}
+use Rattle.fk_model.specs.Objects.{Body, kind_of, or_else, holds}
 use Rattle.fk_model.specs.Objects.Body.{Space}
-use Rattle.fk_model.specs.Places.{Path, Ptr, same_path, strip, is_within, leads_to}
+use Rattle.fk_model.specs.Places.{Path, Ptr, same_path, is_within, leads_to}
 use Rattle.fk_model.specs.Places.Ptr.{At, Out, Far}
 use Rattle.fk_model.specs.Searches.{slots, residents, depth, beneath_by, beneath, objects, pointers, pointers_to}
 use Rattle.fk_model.specs.Valid.{birth_at, kind_there}
@@ -29,8 +28,8 @@ use Rattle.fk_store.specs.Bodies.{body_by, pointer_by}
 use Rattle.fk_store.specs.Contents.{Contents}
 use Rattle.fk_store.specs.Names.{at, same_who, who_cmp}
 use Rattle.fk_store.specs.Orders.{IsFirstAfter}
-use Rattle.fk_store.specs.Paths.{path, place, HasOwnPath}
-use Rattle.fk_store.specs.World.{world, place_of, IsLive, IsSpace}
+use Rattle.fk_store.specs.Paths.{path, HasOwnPath}
+use Rattle.fk_store.specs.World.{world, place_of, IsLive}
 use Rattle.fk_deaths.proofs.Scans.{ArePassed, passed_all}
 use Rattle.fk_closed.specs.Walks.{seen, held_by, seen_body}
 
@@ -190,19 +189,49 @@ module _ (m : Contents) (root y : Path) (named : (k : ℕ) (s : Path) → IsSome
           let none = harmless found.0 in
           absurd (cc)
 
--- where nothing leads to an object, nothing outside does
-pub led_by_nothing : (w : World) (root y : Path) → ((x : Path) → pointers_to y (w.body x) ≡ 0) → false ≡ is_led_to w root y
-led_by_nothing w root y none = by (is_led_to w root y) refl
-  where
-    off : (x : Path) → leads_in_from w root y x ≡ false
-    off x = rw (none x) (and_none (not (is_within root x) && not (is_holders_scratch w root x)))
+-- whoever leads in is among these
+abbrev pub AreLeft : Contents → Path → Path → List Who → Type 0
+AreLeft m root y whos = (x : Path) → leads_in_from (world m) root y x ≡ true → (from : Who) × (place_of m from ≡ x) × IsIn from whos
 
-    by : (b : Bool) → is_led_to w root y ≡ b → false ≡ b
+pub leads_pointed : (w : World) (root y x : Path) → leads_in_from w root y x ≡ true → pointers_to y (w.body x) ≢ 0
+leads_pointed w root y x leads none =
+    let off : leads_in_from w root y x ≡ false = rw none (and_none (not (is_within root x) && not (is_holders_scratch w root x))) in
+    absurd (cc)
+
+-- who leads in is there
+pub leads_live : (m : Contents) (root y : Path) (from : Who) → leads_in_from (world m) root y (place_of m from) ≡ true → IsLive m from
+unfolding kind_there
+leads_live m root y from leads = by ((world m).body (place_of m from)) refl
+  where
+    by : (o : Option Body) → (world m).body (place_of m from) ≡ o → IsSome (option_map kind_of o)
+    by None e = let off = leads_nowhere root (place_of m from) y (world m) e in absurd (cc)
+    by (Some b) e = refl
+
+-- one of them from which nothing leads in is passed
+pub left_more : (m : Contents) (root y : Path) (from : Who) (whos more : List Who) → whos ≡ from ∷ more →
+    leads_in_from (world m) root y (place_of m from) ≡ false → AreLeft m root y whos → AreLeft m root y more
+left_more m root y from whos more is off left x leads =
+    let found = left x leads in by found.0 found.1 (subst (IsIn found.0) is found.2)
+  where
+    by : (q : Who) → place_of m q ≡ x → (from ≡ q) ⊎ IsIn q more → (q : Who) × (place_of m q ≡ x) × IsIn q more
+    by q here (inl same) =
+        let there : place_of m from ≡ x = ap (place_of m) same ∙ here in
+        let none = sym (ap (leads_in_from (world m) root y) there) ∙ off in absurd (cc)
+    by q here (inr comes) = (q, here, comes)
+
+pub fewer_left : (from : Who) (whos more : List Who) → whos ≡ from ∷ more → length more < length whos
+fewer_left from whos more is = let long : length whos ≡ length (from ∷ more) = ap length is in omega (arith, long)
+
+-- where none is left, nothing outside leads to an object
+pub led_by_left : (m : Contents) (root y : Path) (whos : List Who) → whos ≡ [] → AreLeft m root y whos → false ≡ is_led_to (world m) root y
+led_by_left m root y whos none left = by (is_led_to (world m) root y) refl
+  where
+    by : (b : Bool) → is_led_to (world m) root y ≡ b → false ≡ b
     by false e = refl
     by true e =
-        let found = of_any (leads_in_from w root y) ([] ∷ objects w) e in
-        let none = off found.0 in
-        absurd (cc)
+        let found = of_any (leads_in_from (world m) root y) ([] ∷ objects (world m)) e in
+        let comes = left found.0 found.2 in
+        absurd (subst (IsIn comes.0) none comes.2)
 
 -- ---- pointers seen from a subtree
 

@@ -2,7 +2,7 @@
 use Rattle.std.proofs.Common.{◌≡◌, ℕ, zero, suc, ◌+◌, ◌-◌, ◌^◌, ◌<◌, ◌≤◌, ◌==◌, Bool, true, false, if◌then◌else◌, List, [], ◌∷◌, ◌++◌, length, map, filter, flat_map, Option, Some, None, Result, Ok, Err, OnOk, option_map, is_some, IsSome, refl, sym, ap, subst, ◌∙◌, inl, inr, arith}
 use Rattle.std.specs.FinMap.{get}
 use Rattle.std.specs.List.{AllByRecursion}
-use Rattle.std.proofs.lemmas.List.{append-nil, append_assoc, map-append, length-append}
+use Rattle.std.proofs.lemmas.List.{append-nil, append_assoc, map-append}
 use Rattle.fk_model.specs.declared.limits.TheConstants.{SLOTS}
 use Rattle.fk_model.specs.declared.names.Who.{Who}
 use Rattle.fk_model.specs.declared.names.Kind.{Kind}
@@ -20,7 +20,7 @@ use Rattle.fk_store.specs.Bodies.{body_by}
 use Rattle.fk_store.specs.Contents.{Contents, stored_birth, birth_there, home}
 use Rattle.fk_store.specs.Names.{at}
 use Rattle.fk_store.specs.Paths.{path, path_by, from_home, space_at, IsAtHome}
-use Rattle.fk_store.specs.World.{world, place_of, body_at, IsLive}
+use Rattle.fk_store.specs.World.{world, place_of}
 use Rattle.fk_store.proofs.Listed.{objects-live}
 use Rattle.fk_closed.specs.Walks.{AreObjects, IsPart}
 use Rattle.fk_closed.proofs.Ways.{within_below}

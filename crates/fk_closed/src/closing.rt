@@ -108,7 +108,7 @@ fn first_open(
 /// The first place where the subtree in a slot of the space with a birth number isn't closed, object by object in
 /// preorder, in each by field number; nothing where it is closed. The slot holds a space.
 ///
-/// It looks at each object of the subtree once, and at all objects of the store for each to which something leads.
+/// It looks at each object of the subtree once, and at each pointer that leads to one of them.
 ///
 /// # Errors
 ///

@@ -50,15 +50,29 @@ fn leads_in_from(store: &Store, root: Who, target: Who, from: Who) -> bool
     }
 }
 
-/// An object outside a subtree, no scratch of the root's holder, has a pointer to a target.
+/// An object outside a subtree, no scratch of the root's holder, has a pointer to a target. It looks
+/// at those alone of which a pointer leads there.
 pub fn is_led_to(store: &Store, root: Who, target: Who) -> bool
     requires root { HasOwnPath (path store.now) root }
     requires target { HasOwnPath (path store.now) target }
     ensures { result ≡ definition.is_led_to (world store.now) (place_of store.now root) (place_of store.now target) }
 {
-    if !store.is_led_to(target) {
-        return false;
+    let mut leaders = store.leaders(target);
+    while let Some(from) = leaders.next() {
+        if leads_in_from(store, root, target, from) {
+            is_met(store, from);
+            return true;
+        }
     }
+    !leaders.are_all() && is_led_to_by_any(store, root, target)
+}
+
+/// The same, of all objects: where it isn't known who leads there.
+fn is_led_to_by_any(store: &Store, root: Who, target: Who) -> bool
+    requires root { HasOwnPath (path store.now) root }
+    requires target { HasOwnPath (path store.now) target }
+    ensures { result ≡ definition.is_led_to (world store.now) (place_of store.now root) (place_of store.now target) }
+{
     let mut at = store.after(None);
     while let Some(from) = at {
         if leads_in_from(store, root, target, from) {

@@ -1,3 +1,4 @@
 mod LinkLaws
 pub mod NodeLaws
 mod RingLaws
+mod WalkLaws

@@ -1,3 +1,4 @@
 pub mod Nodes
 pub mod Rings
 pub mod Links
+pub mod Walks

@@ -8,9 +8,11 @@
 //! node; what the owners are is the caller's.
 #![tactic(auto)]
 
+mod leaders;
 mod links;
 mod nodes;
 mod rings;
 mod row;
 
+pub use leaders::Leaders;
 pub use rings::Rings;

@@ -31,6 +31,7 @@ pub fn head_of(who: Who) -> u64
 /// The object whose node this is; none where no space has such a node.
 pub fn who_of(node: u64) -> Option<Who>
     ensures some { IfSome result (λ who. nodes.who_of node ≡ who) }
+    ensures low { IfSome result (λ who. nodes.space_of node < 4294967296) }
     ensures none { result ≡ None → 4294967296 ≤ nodes.space_of node }
 {
     let space = node / NODES;

@@ -1,11 +1,13 @@
 //! All rings.
 ghost use Rattle.std.specs.Prelude.{◌≡◌, ◌≢◌, ◌<◌, ℕ, true, false, IfSome, Some, None, Option};
 ghost use Rattle.fk_model.specs.declared.names.Who.{Who};
+ghost use Rattle.fk_model.proofs.walks.Members.{IsIn};
 ghost use Rattle.fk_rings.specs.Nodes as nodes;
 ghost use Rattle.fk_rings.specs.Nodes.{is_head, who_of, field_of};
 ghost use Rattle.fk_rings.specs.Rings.{put_at};
 ghost use Rattle.fk_rings.specs.Links.{AreRings};
 
+use crate::leaders::Leaders;
 use crate::links::{enlink, link_of, room, unlink};
 use crate::nodes::{head_of, node_of, who_of};
 use crate::row::Row;
@@ -124,5 +126,12 @@ impl Rings {
             return None;
         }
         who_of(node)
+    }
+    /// The objects whose pointers lead there, one for each pointer.
+    pub fn leaders(&self, who: Who) -> Leaders<'_>
+        ensures { result.1 ≡ true → (owner : ℕ → Option Who) → AreRings self.now owner
+            → (n : ℕ) → is_head n ≡ false → owner n ≡ Some who → IsIn (who_of n) result.0 }
+    {
+        Leaders::new(&self.rows, self.lost, who)
     }
 }

@@ -19,7 +19,7 @@ use Rattle.fk_store.specs.Names.{who_cmp, rank}
 use Rattle.fk_store.specs.Orders.{IsFirstAfter}
 use Rattle.fk_store.specs.Paths.{path, place}
 use Rattle.fk_store.specs.World.{world, IsLive}
-use Rattle.fk_store.specs.WellFormed.{is_there, IsWellFormed}
+use Rattle.fk_store.specs.WellFormed.{IsWellFormed}
 use Rattle.fk_store.proofs.LookUps.{there-IsLive, IsLive-there}
 use Rattle.fk_store.proofs.Lists.{Differ}
 use Rattle.fk_store.proofs.PointerLaws.{in_map, places-differ, sum-objects, there}

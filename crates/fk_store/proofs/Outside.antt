@@ -1,5 +1,5 @@
 -- Outside: the pointers of objects that lie outside a space.
-use Rattle.std.proofs.Common.{◌≡◌, ℕ, ◌+◌, ◌≤◌, Bool, true, false, cond, List, [], ◌∷◌, ◌++◌, filter, Option, Some, None, option_map, refl, sym, ap, ◌∙◌, arith}
+use Rattle.std.proofs.Common.{◌≡◌, ◌≢◌, ℕ, ◌+◌, Bool, true, false, cond, List, [], ◌∷◌, ◌++◌, filter, Option, Some, None, IsSome, option_map, refl, sym, ap, ◌∙◌, arith}
 use Rattle.std.specs.List.{sum_by}
 use Rattle.std.proofs.lemmas.List.Sums.{sum_by-cons, sum_by-append}
 use Rattle.std.specs.FinMap.{get}
@@ -12,11 +12,12 @@ use Rattle.fk_model.specs.declared.thread.Fault as faults_of
 use Rattle.fk_model.specs.declared.body.Body as bodies_of
 use Rattle.fk_model.specs.declared.body.Body.TheVariants as bodies
 use Rattle.fk_model.specs.ObjectRows.{counts_from, pointer_count}
-use Rattle.fk_model.specs.Objects.{and_then}
+use Rattle.fk_model.specs.Objects.{Body, and_then}
 use Rattle.fk_model.specs.Places.{Path, Ptr, leads_to, same_path}
 use Rattle.fk_model.specs.Places.Ptr.{At}
 use Rattle.fk_model.specs.Searches.{objects, pointers_to, option_list, peer_pointer, talk_pointers, fault_pointers}
 use Rattle.fk_model.specs.World.{World}
+use Rattle.fk_model.proofs.walks.Members.{IsIn}
 use Rattle.fk_tables.specs.Pointers.{body_hits, hits_in}
 use Rattle.fk_store.specs.Bodies.{peer_by, talk_by, fault_by, body_by}
 use Rattle.fk_store.specs.Contents.{Contents, home}
@@ -27,7 +28,8 @@ use Rattle.fk_store.specs.WellFormed.{is_there, IsWellFormed}
 use Rattle.fk_store.proofs.Counting.{sum_filtered, sum_none}
 use Rattle.fk_store.proofs.LookUps.{body-place}
 use Rattle.fk_store.proofs.NamedLaws.{OnNamed-map}
-use Rattle.fk_store.proofs.PointerLaws.{body_hits-by}
+use Rattle.fk_store.proofs.Enumerated.{named-object}
+use Rattle.fk_store.proofs.PointerLaws.{body_hits-by, kind_some}
 use Rattle.fk_store.proofs.Walks.{path-home, place-apart}
 use Rattle.fk_store.proofs.Within.{root_path}
 
@@ -41,6 +43,32 @@ hits-there m kept to from = by (get m.bodies from) refl ∙ ap (pointers_to (pla
     by None e = refl
     by (Some b) e = body_hits-by (path m) to b (OnNamed-map (λ q. is_there m q ≡ true)
         (HasOwnPath (path m)) (λ q g. place-apart m kept q (kept.housed q g)) b (kept.leads from b e))
+
+-- whoever leads there is among those whose bodies have a pointer to it
+pub leaders-there : (m : Contents) → IsWellFormed m → (who : Who) (whos : List Who) →
+    ((q : Who) (b : bodies_of.Body) → get m.bodies q ≡ Some b → body_hits who b ≢ 0 → IsIn q whos) →
+    (x : Path) → pointers_to (place (path m) who) ((world m).body x) ≢ 0 → (from : Who) × (place (path m) from ≡ x) × IsIn from whos
+unfolding world
+leaders-there m kept who whos all x leads = by x refl leads
+  where
+    here : (q : Who) (o : Option bodies_of.Body) → get m.bodies q ≡ o → hits_in (body_hits who) o ≢ 0 → IsIn q whos
+    here q None e hits = absurd (hits refl)
+    here q (Some b) e hits = all q b e hits
+
+    live : (k : ℕ) (s : Path) (o : Option Body) → (world m).body (k ∷ s) ≡ o → pointers_to (place (path m) who) o ≢ 0 → IsSome o
+    live k s None e leads = absurd (leads refl)
+    live k s (Some b) e leads = refl
+
+    by : (y : Path) → y ≡ x → pointers_to (place (path m) who) ((world m).body y) ≢ 0 → (from : Who) × (place (path m) from ≡ x) × IsIn from whos
+    by [] is leads = absurd (leads refl)
+    by (k ∷ s) is leads =
+        let some = kind_some m k s (live k s ((world m).body (k ∷ s)) refl leads) in
+        let found = named-object m kept k s some in
+        let q = found.0 in
+        let same = hits-there m kept who q in
+        let at_place : pointers_to (place (path m) who) ((world m).body (k ∷ s)) ≡ pointers_to (place (path m) who) ((world m).body (place (path m) q)) =
+        ap (λ y. pointers_to (place (path m) who) ((world m).body y)) (sym found.1) in
+        (q, found.1 ∙ is, here q (get m.bodies q) refl (λ none. leads (at_place ∙ sym same ∙ none)))
 
 -- ---- of all
 

@@ -117,7 +117,7 @@ module _ (p : ℕ → Path) (who : Who) where
 
 -- ---- all bodies
 
-kind_some : (m : Contents) (k : ℕ) (s : Path) → IsSome ((world m).body (k ∷ s)) → IsSome (kind_there (world m) (k ∷ s))
+pub kind_some : (m : Contents) (k : ℕ) (s : Path) → IsSome ((world m).body (k ∷ s)) → IsSome (kind_there (world m) (k ∷ s))
 unfolding kind_there
 kind_some m k s some = some_kind ((world m).body (k ∷ s)) some
 

@@ -1,5 +1,5 @@
 -- Within: a walk up from a space to one above it.
-use Rattle.std.proofs.Common.{◌≡◌, ℕ, Bool, true, false, ◌||◌, ◌==◌, eqb-true, [], ◌∷◌, Option, Some, None, option_map, is_some, cond, refl, sym, ap, subst, ◌∙◌}
+use Rattle.std.proofs.Common.{◌≡◌, ℕ, Bool, true, false, ◌||◌, ◌==◌, eqb-true, [], ◌∷◌, Option, Some, None, option_map, is_some, cond, refl, sym, ap, ◌∙◌}
 use Rattle.fk_model.specs.declared.names.Who.{Who}
 use Rattle.fk_model.specs.Places.{Path, same_path, strip, is_within}
 use Rattle.fk_model.proofs.walks.PlaceLaws.{strip-append}

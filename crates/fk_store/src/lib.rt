@@ -18,5 +18,6 @@ mod store;
 mod talks;
 mod threads;
 
+pub use fk_tables::Leaders;
 pub use reach::Reach;
 pub use store::Store;

@@ -1,5 +1,5 @@
 -- All bodies are swept, where those that lead there are found by their ring.
-use Rattle.std.proofs.Common.{◌≡◌, ◌≢◌, inl, inr, ℕ, suc, ◌+◌, ◌/◌, ◌%◌, ◌<◌, ltb, Bool, true, false, cond, ◌==◌, ◌&&◌, Option, Some, None, option_map, refl, sym, ap, subst, ◌∙◌, arith}
+use Rattle.std.proofs.Common.{◌≡◌, ◌≢◌, inl, inr, ℕ, suc, ◌+◌, ◌/◌, ◌%◌, ◌<◌, ltb, Bool, true, false, cond, ◌==◌, ◌&&◌, List, Option, Some, None, option_map, refl, sym, ap, subst, ◌∙◌, arith}
 use Rattle.std.proofs.lemmas.Bool.Decides.{nat_tests}
 use Rattle.std.specs.List.{sum_by}
 use Rattle.std.specs.FinMap as finmap
@@ -12,6 +12,7 @@ use Rattle.fk_model.specs.declared.thread.Fault.{Fault}
 use Rattle.fk_model.specs.declared.body.Body.{Body}
 use Rattle.fk_model.specs.declared.body.Body.TheVariants.{Mutex, Cond, Mapping, Region, Port, Portset, Space, Thread, Reference}
 use Rattle.fk_model.specs.Objects.{and_then}
+use Rattle.fk_model.proofs.walks.Members.{IsIn}
 use Rattle.fk_slots.specs.Cells.{cell}
 use Rattle.fk_slots.specs.Tabled.{map_of_rows, of_cell}
 use Rattle.fk_slots.proofs.TabledLaws.{insert_rows}
@@ -145,6 +146,35 @@ pub nobody-hits : (rows : Cells) (r : Rows) → AreRinged rows r → (who : Who)
 nobody-hits rows r ringed who none q b there = not_nonzero (body_hits who b) (λ hits.
     let leads = hits-led who b hits in
     nobody rows r ringed who none q b leads.0 (sym (get-who rows q) ∙ there) leads.1)
+
+-- a pointer that leads there is a node
+pub leading_node : (rows : Cells) (r : Rows) → AreRinged rows r → (who q : Who) (b : Body) → get (map_of_rows who_cmp at rows) q ≡ Some b →
+    body_hits who b ≢ 0 → (n : ℕ) × (is_head n ≡ false) × (owner rows n ≡ Some who) × (who_of n ≡ q)
+unfolding owner
+leading_node rows r ringed who q b there hits =
+    let here : cell rows q.space q.slot ≡ Some b = sym (get-who rows q) ∙ there in
+    let low : q.slot < 256 = ringed.short q.space q.slot b here in
+    let leads = hits-led who b hits in
+    let i = leads.0 in
+    let field = pointer_field b i who leads.1 in
+    let few = field.0 in
+    let apart = field.1 in
+    let space : node_of q i / 1280 ≡ q.space = omega (arith, low, few) in
+    let slot : node_of q i / 5 % 256 ≡ q.slot = omega (arith, low, few) in
+    let rest : node_of q i % 5 ≡ i = omega (arith, few) in (
+      node_of q i,
+      grind (arith, nat_tests),
+      (λ j. and_then (target (rest j)) (cell rows (space j) (slot j))) ∙ ap (and_then (target i)) here ∙ led-target b i who leads.1,
+      λ j. record { space = space j; slot = slot j },
+    )
+
+-- so a walk that comes to all nodes that lead there comes to the object
+pub leading_comes : (rows : Cells) (r : Rows) → AreRinged rows r → (who : Who) (whos : List Who) →
+    ((n : ℕ) → is_head n ≡ false → owner rows n ≡ Some who → IsIn (who_of n) whos) →
+    (q : Who) (b : Body) → get (map_of_rows who_cmp at rows) q ≡ Some b → body_hits who b ≢ 0 → IsIn q whos
+leading_comes rows r ringed who whos comes q b there hits =
+    let found = leading_node rows r ringed who q b there hits in
+    subst (λ x. IsIn x whos) found.3 (comes found.0 found.1 found.2)
 
 -- ---- how many pointers lead there
 

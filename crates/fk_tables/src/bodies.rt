@@ -1,5 +1,5 @@
 //! The bodies of all objects, by their names.
-ghost use Rattle.std.specs.Prelude.{◌≡◌, ◌<◌, ◌/◌, ℕ, OnOk, OnErr, IsSome, IfSome, Some, None, true, false, if◌then◌else◌, option_map};
+ghost use Rattle.std.specs.Prelude.{◌≡◌, ◌≢◌, ◌<◌, ◌/◌, ℕ, OnOk, OnErr, IsSome, IfSome, Some, None, true, false, if◌then◌else◌, option_map};
 ghost use Rattle.std.specs.Option.{option_copied};
 ghost use Rattle.std.specs.FinMap as map;
 ghost use Rattle.std.specs.FinMap.{entries};
@@ -7,6 +7,7 @@ ghost use Rattle.std.specs.List.{sum_by};
 ghost use Rattle.fk_model.specs.declared.names.Who.{Who};
 ghost use Rattle.fk_model.specs.declared.body.Body.{Body};
 ghost use Rattle.fk_model.specs.Objects.{and_then};
+ghost use Rattle.fk_model.proofs.walks.Members.{IsIn};
 ghost use Rattle.fk_slots.specs.Cells.{is_from};
 ghost use Rattle.fk_tables.specs.Births.{stored_birth, home_in};
 ghost use Rattle.fk_tables.specs.Held as held;
@@ -30,7 +31,7 @@ use crate::sweeps::Sweep;
 use crate::telling::tell;
 use fk_hints::{Hints, Sort};
 use fk_model::{Body, Mode, NoMemory, Who};
-use fk_rings::Rings;
+use fk_rings::{Leaders, Rings};
 use fk_slots::{Row, lay_value, next_taken, put_value, take_value, value_at};
 use std::alloc::Global;
 use std::marker::Model;
@@ -219,6 +220,13 @@ impl Bodies {
             None => self.rings.are_lost(),
             Some(_) => true,
         }
+    }
+
+    /// The objects whose pointers lead to an object, one for each pointer.
+    pub fn leaders(&self, who: Who) -> Leaders<'_>
+        ensures { result.1 ≡ true → (q : Who) (b : Body) → map.get self.now q ≡ Some b → body_hits who b ≢ 0 → IsIn q result.0 }
+    {
+        self.rings.leaders(who)
     }
 
     /// Sweeps all bodies.

@@ -22,6 +22,7 @@ mod sweeps;
 mod telling;
 
 pub use bodies::Bodies;
+pub use fk_rings::Leaders;
 pub use pages::Pages;
 pub use parts::Part;
 pub use sweeps::Sweep;

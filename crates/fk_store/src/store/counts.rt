@@ -1,11 +1,13 @@
 //! How many pointers lead to an object.
-ghost use Rattle.std.specs.Prelude.{◌≡◌, false};
+ghost use Rattle.std.specs.Prelude.{◌≡◌, ◌≢◌, true, false};
+ghost use Rattle.fk_model.specs.declared.names.Who.{Who};
 ghost use Rattle.fk_model.specs.Places.{Path};
 ghost use Rattle.std.specs.List.{sum_by};
 ghost use Rattle.fk_model.specs.Searches.{objects, pointers_to};
+ghost use Rattle.fk_model.proofs.walks.Members.{IsIn};
 ghost use Rattle.fk_store.specs.World.{world, place_of};
 
-use crate::Store;
+use crate::{Leaders, Store};
 use fk_model::Who;
 
 impl Store {
@@ -14,6 +16,15 @@ impl Store {
         ensures { result ≡ false → (x : Path) → pointers_to (place_of self.now who) ((world self.now).body x) ≡ 0 }
     {
         self.bodies.is_led_to(who)
+    }
+
+    /// The objects whose pointers lead to an object, one for each pointer. They are all that do, if
+    /// it says so at its end.
+    pub fn leaders(&self, who: Who) -> Leaders<'_>
+        ensures { result.1 ≡ true → (x : Path) → pointers_to (place_of self.now who) ((world self.now).body x) ≢ 0
+            → (from : Who) × (place_of self.now from ≡ x) × IsIn from result.0 }
+    {
+        self.bodies.leaders(who)
     }
 
     /// How many pointers of all objects lead to an object.

@@ -1,5 +1,5 @@
 use Rattle.fk_closed.proofs.Ways.{never_out, steps_up, gone_on, on_root, whole_path}
-use Rattle.std.proofs.Common.{◌≡◌, ◌++◌, ap, sym, ◌∙◌}
+use Rattle.std.proofs.Common.{◌++◌, ap, sym, ◌∙◌}
 use Rattle.fk_store.specs.Paths.{path}
 use Rattle.fk_store.specs.World.{place_of}
 use Rattle.fk_closed.proofs.above.path_below.Goals as goal

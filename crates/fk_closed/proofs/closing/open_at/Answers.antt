@@ -1,4 +1,3 @@
-use Rattle.std.proofs.Common.{refl}
 use Rattle.fk_store.specs.Paths.{path}
 use Rattle.fk_store.specs.World.{world, place_of}
 use Rattle.fk_closed.proofs.Openings.{part_path, no_place, a_place}

@@ -1,4 +1,3 @@
-use Rattle.std.proofs.Common.{◌∙◌}
 use Rattle.fk_model.specs.Places.Ptr.{At}
 use Rattle.fk_store.specs.World.{place_of}
 use Rattle.fk_closed.specs.Walks.{seen}

@@ -1,8 +1,17 @@
-use Rattle.std.proofs.Common.{◌≡◌, Some, IfSome, refl, sym, subst, ◌∙◌}
-use Rattle.fk_store.specs.World.{world, place_of, IsLive}
-use Rattle.fk_deaths.proofs.Scans.{ArePassed, passed_first, passed_more}
-use Rattle.fk_closed.proofs.Leads.{IsHarmless, first_live, led_from, led_by_none, led_by_nothing}
+use Rattle.std.proofs.Common.{refl, sym, ◌∙◌}
+use Rattle.fk_store.specs.World.{world, place_of}
+use Rattle.fk_closed.proofs.Leads.{led_from, leads_pointed, leads_live, left_more, fewer_left, led_by_left}
 use Rattle.fk_closed.proofs.led.is_led_to.Goals as goal
+
+pub loop-from-init : goal.loop-from-init
+loop-from-init c =
+    let m = c.args.store.now in
+    record { left = λ all x leads. c.leaders-leaders.ensures all x (leads_pointed (world m) (place_of m c.args.root) (place_of m c.args.target) x leads) }
+
+pub is_met-requires : goal.is_met-requires
+is_met-requires c =
+    let m = c.args.store.now in
+    leads_live m (place_of m c.args.root) (place_of m c.args.target) c.in-Some.from (sym c.leads_in_from.ensures ∙ c.if-leads_in_from.true)
 
 pub returns-then-leads_in_from : goal.returns-then-leads_in_from
 returns-then-leads_in_from c =
@@ -10,25 +19,25 @@ returns-then-leads_in_from c =
     led_from m (place_of m c.args.root) (place_of m c.args.target) c.in-Some.from c.is_met.ensures
     (sym c.leads_in_from.ensures ∙ c.if-leads_in_from.true)
 
-pub loop-at-preserved : goal.loop-at-preserved
-loop-at-preserved c =
+pub loop-from-preserved : goal.loop-from-preserved
+loop-from-preserved c =
     let m = c.args.store.now in
-    let Fact = IsHarmless m (place_of m c.args.root) (place_of m c.args.target) in
-    let next = c.after-at-in-Some in
     record {
-      live = first_live (IsLive m) (Some c.in-Some.from) next.result next.ensures.first;
-      passed = passed_more (IsLive m) (IsLive m) Fact Fact c.in-Some.from next.result
-          (subst (ArePassed (IsLive m) Fact) c.in-Some.is c.loop-at.invariant.passed) (λ other live. live) (λ other fact. fact)
-          (sym c.leads_in_from.ensures ∙ c.if-leads_in_from.false) next.ensures.first;
+      left = λ all. left_more m (place_of m c.args.root) (place_of m c.args.target) c.in-Some.from _ _ c.in-Some.ensures.some
+          (sym c.leads_in_from.ensures ∙ c.if-leads_in_from.false) (c.loop-from.invariant.left (sym c.next.ensures.all ∙ all));
     }
 
-pub returns : goal.returns
-returns c =
-    let m = c.args.store.now in
-    led_by_none m (place_of m c.args.root) (place_of m c.args.target) c.after-at.ensures.named
-    (subst (ArePassed (IsLive m) (IsHarmless m (place_of m c.args.root) (place_of m c.args.target))) c.in_default.is c.loop-at.invariant.passed)
+pub loop-from-smaller : goal.loop-from-smaller
+loop-from-smaller c = fewer_left c.in-Some.from _ _ c.in-Some.ensures.some
 
-pub returns-then-not-is_led_to : goal.returns-then-not-is_led_to
-returns-then-not-is_led_to c =
+pub are_all-requires : goal.are_all-requires
+are_all-requires c = (c.in_default.ensures.none refl).1
+
+pub returns-then-not-are_all : goal.returns-then-not-are_all
+returns-then-not-are_all c = c.is_led_to_by_any.ensures
+
+pub returns-else-not-are_all : goal.returns-else-not-are_all
+returns-else-not-are_all c =
     let m = c.args.store.now in
-    led_by_nothing (world m) (place_of m c.args.root) (place_of m c.args.target) (c.if-not-is_led_to.ensures refl)
+    rw c.if-not-are_all.false (led_by_left m (place_of m c.args.root) (place_of m c.args.target) _ (c.in_default.ensures.none refl).0
+    (c.loop-from.invariant.left (sym c.next.ensures.all ∙ sym c.are_all.ensures ∙ c.if-not-are_all.false)))

@@ -1,15 +1,13 @@
-use Rattle.std.proofs.Common.{IfSome}
-use Rattle.fk_store.specs.World.{place_of, IsLive}
-use Rattle.fk_deaths.proofs.Scans.{ArePassed, left_from}
-use Rattle.fk_closed.proofs.Leads.{IsHarmless}
+use Rattle.std.proofs.Common.{◌≡◌, true, length}
+use Rattle.fk_store.specs.World.{place_of}
+use Rattle.fk_closed.proofs.Leads.{AreLeft}
 use Rattle.fk_closed.proofs.led.is_led_to.Given as goal
 
--- nothing leads in from those that were passed
-abbrev pub invariant-loop-at : goal.invariant-loop-at
-invariant-loop-at l = record {
-  live : IfSome l.at (IsLive l.store);
-  passed : ArePassed (IsLive l.store) (IsHarmless l.store (place_of l.store l.root) (place_of l.store l.target)) l.at;
+-- whoever leads in is yet to come
+abbrev pub invariant-loop-from : goal.invariant-loop-from
+invariant-loop-from l = record {
+  left : l.leaders.1 ≡ true → AreLeft l.store (place_of l.store l.root) (place_of l.store l.target) l.leaders.0;
 }
 
-abbrev pub decreases-loop-at : goal.decreases-loop-at
-decreases-loop-at l = left_from l.at
+abbrev pub decreases-loop-from : goal.decreases-loop-from
+decreases-loop-from l = length l.leaders.0

@@ -1,4 +1,3 @@
-use Rattle.std.proofs.Common.{◌∙◌}
 use Rattle.fk_closed.proofs.Leads.{scratch_at}
 use Rattle.fk_closed.proofs.led.is_scratch.Goals as goal
 

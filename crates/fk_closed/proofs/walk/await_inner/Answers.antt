@@ -1,4 +1,4 @@
-use Rattle.std.proofs.Common.{◌≡◌, refl, sym, ◌∙◌}
+use Rattle.std.proofs.Common.{refl, sym, ◌∙◌}
 use Rattle.std.proofs.lemmas.Option.{same_Some}
 use Rattle.fk_store.specs.Paths.{path}
 use Rattle.fk_closed.proofs.Walked.{home_at, inner_ok, inner_none, no_kind}
