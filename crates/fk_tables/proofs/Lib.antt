@@ -10,3 +10,4 @@ pub mod HintLaws
 pub mod ToldLaws
 pub mod RingedLaws
 pub mod RingSweeps
+mod LeadingLaws

@@ -148,15 +148,12 @@ nobody-hits rows r ringed who none q b there = not_nonzero (body_hits who b) (λ
     nobody rows r ringed who none q b leads.0 (sym (get-who rows q) ∙ there) leads.1)
 
 -- a pointer that leads there is a node
-pub leading_node : (rows : Cells) (r : Rows) → AreRinged rows r → (who q : Who) (b : Body) → get (map_of_rows who_cmp at rows) q ≡ Some b →
-    body_hits who b ≢ 0 → (n : ℕ) × (is_head n ≡ false) × (owner rows n ≡ Some who) × (who_of n ≡ q)
+leading_node : (rows : Cells) (r : Rows) → AreRinged rows r → (who q : Who) (b : Body) → cell rows q.space q.slot ≡ Some b →
+    (i : ℕ) → led b i ≡ Some (lead_by Pointer who) → (n : ℕ) × (is_head n ≡ false) × (owner rows n ≡ Some who) × (who_of n ≡ q)
 unfolding owner
-leading_node rows r ringed who q b there hits =
-    let here : cell rows q.space q.slot ≡ Some b = sym (get-who rows q) ∙ there in
+leading_node rows r ringed who q b here i leads =
     let low : q.slot < 256 = ringed.short q.space q.slot b here in
-    let leads = hits-led who b hits in
-    let i = leads.0 in
-    let field = pointer_field b i who leads.1 in
+    let field = pointer_field b i who leads in
     let few = field.0 in
     let apart = field.1 in
     let space : node_of q i / 1280 ≡ q.space = omega (arith, low, few) in
@@ -164,17 +161,20 @@ leading_node rows r ringed who q b there hits =
     let rest : node_of q i % 5 ≡ i = omega (arith, few) in (
       node_of q i,
       grind (arith, nat_tests),
-      (λ j. and_then (target (rest j)) (cell rows (space j) (slot j))) ∙ ap (and_then (target i)) here ∙ led-target b i who leads.1,
+      (λ j. and_then (target (rest j)) (cell rows (space j) (slot j))) ∙ ap (and_then (target i)) here ∙ led-target b i who leads,
       λ j. record { space = space j; slot = slot j },
     )
 
 -- so a walk that comes to all nodes that lead there comes to the object
-pub leading_comes : (rows : Cells) (r : Rows) → AreRinged rows r → (who : Who) (whos : List Who) →
-    ((n : ℕ) → is_head n ≡ false → owner rows n ≡ Some who → IsIn (who_of n) whos) →
-    (q : Who) (b : Body) → get (map_of_rows who_cmp at rows) q ≡ Some b → body_hits who b ≢ 0 → IsIn q whos
-leading_comes rows r ringed who whos comes q b there hits =
-    let found = leading_node rows r ringed who q b there hits in
-    subst (λ x. IsIn x whos) found.3 (comes found.0 found.1 found.2)
+module _ (rows : Cells) (r : Rows) (ringed : AreRinged rows r) (who : Who) (whos : List Who)
+    (comes : (n : ℕ) → is_head n ≡ false → owner rows n ≡ Some who → IsIn (who_of n) whos) (q : Who) (b : Body) where
+  pub led_comes : cell rows q.space q.slot ≡ Some b → (i : ℕ) → led b i ≡ Some (lead_by Pointer who) → IsIn q whos
+  led_comes here i leads =
+      let found = leading_node rows r ringed who q b here i leads in
+      subst (λ x. IsIn x whos) found.3 (comes found.0 found.1 found.2)
+
+  pub leading_comes : get (map_of_rows who_cmp at rows) q ≡ Some b → body_hits who b ≢ 0 → IsIn q whos
+  leading_comes there hits = let leads = hits-led who b hits in led_comes (sym (get-who rows q) ∙ there) leads.0 leads.1
 
 -- ---- how many pointers lead there
 

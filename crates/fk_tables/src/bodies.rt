@@ -25,7 +25,7 @@ use crate::homes::{home_of, make_room, settle};
 use crate::marks::{is_marked, is_of_pages, mark, room_for_marks};
 use crate::parts::Part;
 use crate::ringing::{ring, ring_anew, sweep_ringed};
-use crate::scans::{count_told, first_told};
+use crate::scans::{count_told, first_leading, first_told};
 use crate::stored::Stored;
 use crate::sweeps::Sweep;
 use crate::telling::tell;
@@ -199,8 +199,13 @@ impl Bodies {
         ensures some { IfSome result (λ who. (b : Body) × (map.get self.now who ≡ Some b) × (plays part b ≡ true)) }
         ensures none { result ≡ None → (who : Who) (b : Body) → map.get self.now who ≡ Some b → plays part b ≡ false }
     {
-        let told = self.hints.at(part.whose(), part.sort());
-        first_told(&self.rows, part, told)
+        match part {
+            Part::Parked(port) => first_leading(&self.rows, part, self.rings.leaders(port)),
+            Part::Client(_) | Part::Faulter(_) | Part::Guest(_) => {
+                let told = self.hints.at(part.whose(), part.sort());
+                first_told(&self.rows, part, told)
+            }
+        }
     }
 
     /// How many pointers of all bodies lead to an object.

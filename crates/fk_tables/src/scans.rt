@@ -4,6 +4,7 @@ ghost use Rattle.std.specs.List.{sum_by};
 ghost use Rattle.fk_model.specs.declared.names.Who.{Who};
 ghost use Rattle.fk_model.specs.declared.body.Body.{Body};
 ghost use Rattle.fk_model.specs.Objects.{holds};
+ghost use Rattle.fk_model.proofs.walks.Members.{IsIn};
 ghost use Rattle.fk_slots.specs.Cells.{cell, cell_in};
 ghost use Rattle.fk_slots.specs.Tabled.{of_cell};
 ghost use Rattle.fk_hints.specs.Leads.{led, lead_by};
@@ -19,6 +20,7 @@ use crate::stored::Stored;
 use crate::sweeps::Sweep;
 use fk_hints::Told;
 use fk_model::Who;
+use fk_rings::Leaders;
 use fk_slots::{Row, value_at};
 
 /// An object that plays this part, where those who may are told; nothing where none does.
@@ -32,6 +34,36 @@ pub fn first_told(rows: &Vec<Row<Stored>>, part: Part, told: Told) -> Option<Who
         Told::Nobody => None,
         Told::One(who) => only_among(rows, part, who),
         Told::Many => first_among(rows, part),
+    }
+}
+
+/// One of those whose pointers lead to an object that plays this part; nothing where none does. Only
+/// they play it. Where they aren't all known, it is asked of all objects.
+pub fn first_leading(rows: &Vec<Row<Stored>>, part: Part, mut leaders: Leaders<'_>) -> Option<Who>
+    requires few { length rows.now.items ≤ 4294967296 }
+    requires led { leaders.1 ≡ true → (q : Who) (b : Body) → cell rows.now.items q.space q.slot ≡ Some b → plays part b ≡ true → IsIn q leaders.0 }
+    ensures some { IfSome result (λ who. (b : Body) × (cell rows.now.items who.space who.slot ≡ Some b) × (plays part b ≡ true)) }
+    ensures none { result ≡ None → (who : Who) (b : Body) → cell rows.now.items who.space who.slot ≡ Some b → plays part b ≡ false }
+{
+    while let Some(who) = leaders.next() {
+        if plays_at(rows, part, who) {
+            return Some(who);
+        }
+    }
+    if leaders.are_all() {
+        None
+    } else {
+        first_among(rows, part)
+    }
+}
+
+/// The object that is there plays this part.
+fn plays_at(rows: &Vec<Row<Stored>>, part: Part, who: Who) -> bool
+    ensures { result ≡ holds (plays part) (cell rows.now.items who.space who.slot) }
+{
+    match value_at(rows, who.space, who.slot) {
+        Some(stored) => part.is_played_by(stored.body()),
+        None => false,
     }
 }
 
