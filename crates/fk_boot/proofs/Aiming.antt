@@ -77,7 +77,8 @@ any-found test (y ∷ ys) x e = by (test y) refl (λ rest. any-found test ys x r
     by true t later = rw t refl
     by false t later = rw t (later (rw t at e))
 
-pub all-inside : (spaces : List SpaceEntry) (done os : List ObjectEntry) → EachAfter (KeepsObject spaces) done os → All (λ (o : ObjectEntry). 0 < length o.path) os
+pub all-inside : (spaces : List SpaceEntry) (done os : List ObjectEntry) → EachAfter (KeepsObject spaces) done os →
+    All (λ (o : ObjectEntry). 0 < length o.path) os
 all-inside spaces done [] each = All-nil (λ (o : ObjectEntry). 0 < length o.path)
 all-inside spaces done (o ∷ os) each = All-cons (λ (o : ObjectEntry). 0 < length o.path) o os each.0.inside (all-inside spaces (done ++ o ∷ []) os each.1)
 
@@ -101,7 +102,8 @@ space-stands-at : (w : World) (spaces : List SpaceEntry) (objects : List ObjectE
     HasObjects w spaces objects → 0 < length slots → has_space spaces slots ≡ true → StandsAt w slots
 space-stands-at w spaces objects slots h beneath has = record {
   beneath = beneath;
-  there = some-kind w (reverse slots) (h.alone slots ∙ or_left (has_space_or_root spaces slots) (has_object objects slots) (or_right (length slots == 0) (has_space spaces slots) has));
+  there = some-kind w (reverse slots) (h.alone slots ∙ or_left (has_space_or_root spaces slots) (has_object objects slots)
+      (or_right (length slots == 0) (has_space spaces slots) has));
 }
 
 object-stands-at : (w : World) (spaces : List SpaceEntry) (objects : List ObjectEntry) (slots : List ℕ) →
@@ -136,7 +138,8 @@ longer-than (k ∷ slots) h = omega arith
 aims-stand : (w : World) (spaces : List SpaceEntry) (objects : List ObjectEntry) (space : List ℕ) (spec : Spec) →
     HasObjects w spaces objects → All (λ (o : ObjectEntry). 0 < length o.path) objects
     → aims_well spaces objects space spec ≡ true → AimStands w spec
-aims-stand w spaces objects space (Mapping (Some region) first count offset write) h inside well = one-stands w spaces objects is_region_spec region h inside well
+aims-stand w spaces objects space (Mapping (Some region) first count offset write) h inside well =
+    one-stands w spaces objects is_region_spec region h inside well
 aims-stand w spaces objects space (Mapping None first count offset write) h inside well = tt
 aims-stand w spaces objects space (Region first count write (Some keeper)) h inside well = one-stands w spaces objects is_port_spec keeper h inside well
 aims-stand w spaces objects space (Region first count write None) h inside well = tt
@@ -187,4 +190,5 @@ pub all-can : (w : World) (spaces : List SpaceEntry) (objects : List ObjectEntry
 all-can w spaces [] h keeps aims = All-nil (CanAim w)
 all-can w spaces (o ∷ os) h keeps aims =
     let objects = o ∷ os in
-    All-from_get_or (CanAim w) objects o (λ i k. one-can w spaces objects i o h (all-inside spaces [] objects keeps) (each-aims spaces objects 0 objects aims) k)
+    All-from_get_or (CanAim w) objects o (λ i k. one-can w spaces objects i o h
+    (all-inside spaces [] objects keeps) (each-aims spaces objects 0 objects aims) k)

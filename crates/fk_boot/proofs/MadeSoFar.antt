@@ -86,7 +86,8 @@ empty_path (k ∷ q) = sym (longer k q)
 
 -- ---- one more entry
 
-has_space_or_root-last : (done : List SpaceEntry) (s : SpaceEntry) (q : List ℕ) → has_space_or_root (done ++ s ∷ []) q ≡ (has_space_or_root done q || bytes_eq s.path q)
+has_space_or_root-last : (done : List SpaceEntry) (s : SpaceEntry) (q : List ℕ) →
+    has_space_or_root (done ++ s ∷ []) q ≡ (has_space_or_root done q || bytes_eq s.path q)
 has_space_or_root-last done s q =
     rw (list_any-append (λ (t : SpaceEntry). bytes_eq t.path q) done (s ∷ [])) (or_none (length q == 0) (has_space done q) (bytes_eq s.path q))
 
@@ -292,7 +293,8 @@ made-object w spaces done o b other keeps h = record {
     births_by q false e = h.births q
 
     alone_by : (q : List ℕ) (t : Bool) →
-        same_path (reverse q) (reverse o.path) ≡ t → is_some (cond t (Some b) (w.body (reverse q))) ≡ (has_space_or_root spaces q || has_object (done ++ o ∷ []) q)
+        same_path (reverse q) (reverse o.path) ≡ t →
+        is_some (cond t (Some b) (w.body (reverse q))) ≡ (has_space_or_root spaces q || has_object (done ++ o ∷ []) q)
     alone_by q true e =
         let here : bytes_eq o.path q ≡ true = sym (reversed o.path q) ∙ (same_path_sym (reverse o.path) (reverse q) ∙ e) in
         rw (has_object-last done o q (has_space_or_root spaces q), here) (or_true (has_space_or_root spaces q || has_object done q))

@@ -176,7 +176,8 @@ instruction_judged m move v free running row fits instruction sure =
 pub stage_judged : (m : Contents) (move : Move) (stage : Stage) (v : Verdict) →
     is_free_at (world m) (place (path m) move.who) ≡ true → IsAtStage (world m) (place (path m) move.who) stage →
     outcome_by (world m) (path m) (caller_by (path m) (user move.who) []) v ≡ allowed_row
-    (world m) (caller_by (path m) (user move.who) []) (picked_by (path m) move.pick) stage → IsVerdict m (user move.who) v → (takes_memory false stage ≡ false → IsSureVerdict v) →
+    (world m) (caller_by (path m) (user move.who) []) (picked_by (path m) move.pick) stage → IsVerdict m (user move.who) v →
+    (takes_memory false stage ≡ false → IsSureVerdict v) →
     IsJudged m move asks.Run (record { caller = user move.who; chooses = chooses stage; verdict = v })
 unfolding call_row
 stage_judged m move stage v free at row fits sure =
@@ -196,7 +197,8 @@ stage_judged m move stage v free at row fits sure =
 pub porter_judged : (m : Contents) (move : Move) (stage : Stage) (words : List ℕ) (v : Verdict) →
     is_free_porter_at (world m) (place (path m) move.who) ≡ true → length words ≡ 64 →
     outcome_by (world m) (path m) (caller_by (path m) (porter move.who) words) v ≡ allowed_row
-    (world m) (caller_by (path m) (porter move.who) words) (picked_by (path m) move.pick) stage → IsVerdict m (porter move.who) v → (takes_memory true stage ≡ false → IsSureVerdict v) →
+    (world m) (caller_by (path m) (porter move.who) words) (picked_by (path m) move.pick) stage → IsVerdict m (porter move.who) v →
+    (takes_memory true stage ≡ false → IsSureVerdict v) →
     IsJudged m move (asks.Call stage words) (record { caller = porter move.who; chooses = chooses stage; verdict = v })
 unfolding call_row
 porter_judged m move stage words v free long row fits sure =

@@ -89,7 +89,8 @@ module _ (w : World) (q : Path) (nobody : thread_at w q ≡ None) where
   wait_idle : (c : Caller) (set : ℕ) → Idle (wait w c (Some q) set)
   unfolding wait
   wait_idle c set =
-      idle_after (object_in w c portset_of c.space set) _ (λ there. idle_after (refuse LINKED (is_serving w (c.slot ∷ c.space))) _ (λ apart. takes_nobody c set))
+      idle_after (object_in w c portset_of c.space set) _ (λ there.
+      idle_after (refuse LINKED (is_serving w (c.slot ∷ c.space))) _ (λ apart. takes_nobody c set))
 
   wakes_nobody : (c : Caller) (cond : ℕ) → Idle (picks_sleeper w c cond (Some q))
   wakes_nobody c cond = rw nobody (by (same_path (parent q) c.space))

@@ -109,7 +109,8 @@ module _ (w : World) (x : Path) (a b : List ℕ) where
 
 -- ---- the move
 
-both_when : (w : World) (x : Path) (test : Bool) (o p : Outcome) → (GoesAllowed w x o ↔ GoesAllowed w x p) → GoesAllowed w x (when test o) ↔ GoesAllowed w x (when test p)
+both_when : (w : World) (x : Path) (test : Bool) (o p : Outcome) → (GoesAllowed w x o ↔ GoesAllowed w x p) →
+    GoesAllowed w x (when test o) ↔ GoesAllowed w x (when test p)
 both_when w x true o p same = same
 both_when w x false o p same = ((λ h. h), (λ h. h))
 

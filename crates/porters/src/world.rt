@@ -3,10 +3,11 @@
 //! `asks CALL giving WORDS picking SPACE SLOT = STATUS LENGTH WORDS`: the porter asks for the stage of a
 //! call, by the registers, and gives words, zeros after them; the status, how many words it is answered,
 //! and the first of them. `bars` with the same before `=`: that move isn't ready. `unfit CALL giving
-//! WORDS`: that one isn't fit. `goes SLOT picking SPACE SLOT = REGISTERS`: a thread of the root makes a move; its first registers then. `waits SLOT
-//! picking SPACE SLOT`: it isn't ready to. `runs SLOT COUNT`: it makes so many moves. `shows SLOT =
-//! REGISTERS`: its first registers. `keeps SLOT = WORDS`: its state record from word 21 on, which is its
-//! talk's turn, the words moved, its fault, the page, and 1 for a write.
+//! WORDS`: that one isn't fit. `goes SLOT picking SPACE SLOT = REGISTERS`: a thread of the root makes a
+//! move; its first registers then. `waits SLOT picking SPACE SLOT`: it isn't ready to. `runs SLOT
+//! COUNT`: it makes so many moves. `shows SLOT = REGISTERS`: its first registers. `keeps SLOT = WORDS`:
+//! its state record from word 21 on, which is its talk's turn, the words moved, its fault, the page, and
+//! 1 for a write.
 use crate::line::Line;
 use crate::porter::put_porter;
 use anyhow::{Context, bail};

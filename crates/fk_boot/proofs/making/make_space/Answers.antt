@@ -24,4 +24,5 @@ pub returns-clause-space : goal.returns-clause-space
 returns-clause-space c =
     let home = rw c.next_birth-birth.ensures at c.in_ok-make.ensures.home in
     rw c.next_birth-birth.ensures (new-space c.args.store.now c.make.new.self
-    c.name_of-who.result.space c.name_of-who.result.slot c.requires.births c.name_of-who.ensures.space c.in_ok-make.ensures.world home c.in_ok-make.ensures.paths)
+    c.name_of-who.result.space c.name_of-who.result.slot c.requires.births c.name_of-who.ensures.space
+    c.in_ok-make.ensures.world home c.in_ok-make.ensures.paths)
