@@ -1,5 +1,5 @@
 -- Sets of places, and what is known of an image's spaces.
-use Rattle.std.specs.Prelude.{◌≡◌, ◌≤◌, ◌<◌, ℕ, Bool, ◌&&◌, ◌==◌, List, length, get_or}
+use Rattle.std.specs.Prelude.{◌≡◌, ◌≤◌, ◌<◌, ℕ, Bool, ◌&&◌, ◌==◌, List, length, get_or, IfSome}
 use Rattle.std.specs.List.{list_any}
 use Rattle.fk_image.specs.declared.image.SpaceRec.{SpaceRec}
 use Rattle.fk_image.specs.Links.{has_space_at, end_of}
@@ -24,5 +24,5 @@ pub record KnowsFrom (number : ℕ) (spaces : List SpaceRec) (ends : List ℕ) :
   pub each : (n : ℕ) → number ≤ n → n < length spaces → get_or ends n 0 ≡ end_of spaces n
 
 pub record IsIndex (spaces : List SpaceRec) (index : Index) : Type 0 where
-  pub places : has_place index.places ≡ has_space_at spaces
+  pub places : IfSome index.places (λ places. has_place places ≡ has_space_at spaces)
   pub ends : KnowsFrom 0 spaces index.ends.items

@@ -1,5 +1,5 @@
 //! Whether the pointers of an image lead to what their fields may hold.
-ghost use Rattle.std.specs.Prelude.{◌≡◌, ◌≤◌, ◌<◌, ◌+◌, ◌*◌, length};
+ghost use Rattle.std.specs.Prelude.{◌≡◌, ◌≤◌, ◌<◌, ◌+◌, ◌*◌, length, IfOk};
 ghost use Rattle.fk_image.specs.Links as leads;
 ghost use Rattle.fk_spelling.specs.Spelling as spells;
 ghost use Rattle.fk_spelling.specs.Offsets as words;
@@ -12,7 +12,7 @@ use fk_image::{
     FaultRec, Link, ObjectRec, Objects, Rec, SpaceRec, TalkRec, ThreadRec, is_set_of,
     kind_in_space, leads_to_keeper, leads_to_port, leads_to_region, serves_port,
 };
-use fk_model::Kind;
+use fk_model::{Kind, NoMemory};
 use std::alloc::Global;
 
 /// Whether a space's holder is a thread that isn't in or beneath it, or there is none.
@@ -32,17 +32,21 @@ fn may_hold(spaces: &[SpaceRec], index: &Index, space: usize, holder: Link) -> b
 }
 
 /// Whether a reference leads to what it may lead to.
-fn may_refer(spaces: &[SpaceRec], index: &Index, to: Link) -> bool
-    requires { IsIndex spaces.now index.now }
-    ensures { result ≡ leads.may_refer spaces.now to }
+fn may_refer(spaces: &[SpaceRec], index: &mut Index, to: Link) -> Result<bool, NoMemory>
+    requires { IsIndex spaces.now index.old }
+    ensures refer { IfOk result (λ may. may ≡ leads.may_refer spaces.now to) }
+    ensures index { IsIndex spaces.now index.new }
 {
     match to {
         Link::In { space, slot } => {
-            is_referable(kind_in_space(spaces, space, slot))
-                || index.has_space_at(spaces, space, slot)
+            if is_referable(kind_in_space(spaces, space, slot)) {
+                Ok(true)
+            } else {
+                index.has_space_at(spaces, space, slot)
+            }
         }
-        Link::Outside => false,
-        _ => true,
+        Link::Outside => Ok(false),
+        _ => Ok(true),
     }
 }
 
@@ -218,14 +222,15 @@ fn set_end(right: bool, at: u64) -> Result<u64, PointerFail>
 /// The offset behind an object, which begins at `at`.
 fn body_walk(
     spaces: &[SpaceRec],
-    index: &Index,
+    index: &mut Index,
     objects: &Objects,
     body: &Rec,
     at: u64,
     named: &mut Places,
 ) -> Result<u64, PointerFail>
-    requires { IsIndex spaces.now index.now }
-    ensures { Walks result named.new (words.body_walk spaces.now objects.now body.now (standing at named.old)) }
+    requires { IsIndex spaces.now index.old }
+    ensures walk { Walks result named.new (words.body_walk spaces.now objects.now body.now (standing at named.old)) }
+    ensures index { IsIndex spaces.now index.new }
 {
     match body {
         Rec::Mutex { .. } => plus(at, 3),
@@ -234,20 +239,21 @@ fn body_walk(
         Rec::Region { keeper, .. } => link_end(leads_to_keeper(spaces, *keeper), 6, *keeper, at),
         Rec::Port { set } => set_end(is_set_of(objects, *set), at),
         Rec::Thread(thread) => thread_walk(spaces, thread.get(), at, named),
-        Rec::Reference { to } => link_end(may_refer(spaces, index, *to), 2, *to, at),
+        Rec::Reference { to } => link_end(may_refer(spaces, index, *to)?, 2, *to, at),
     }
 }
 
 #[tactic(auto, unfolding(fk_spelling::specs::Offsets::objects_walk))]
 fn objects_walk(
     spaces: &[SpaceRec],
-    index: &Index,
+    index: &mut Index,
     objects: &Objects,
     from: u64,
     named: &mut Places,
 ) -> Result<u64, PointerFail>
-    requires { IsIndex spaces.now index.now }
-    ensures { Walks result named.new (words.objects_walk spaces.now objects.now objects.now (standing from named.old)) }
+    requires { IsIndex spaces.now index.old }
+    ensures walk { Walks result named.new (words.objects_walk spaces.now objects.now objects.now (standing from named.old)) }
+    ensures index { IsIndex spaces.now index.new }
 {
     let mut at = from;
     for object in objects.as_slice() {
@@ -260,15 +266,16 @@ fn objects_walk(
 #[tactic(auto, unfolding(fk_spelling::specs::Offsets::space_walk))]
 fn space_walk(
     spaces: &[SpaceRec],
-    index: &Index,
+    index: &mut Index,
     number: usize,
     space: &SpaceRec,
     at: u64,
     named: &mut Places,
 ) -> Result<u64, PointerFail>
-    requires index { IsIndex spaces.now index.now }
+    requires index { IsIndex spaces.now index.old }
     requires number { number < length spaces.now }
-    ensures { Walks result named.new (words.space_walk spaces.now number space.now (standing at named.old)) }
+    ensures walk { Walks result named.new (words.space_walk spaces.now number space.now (standing at named.old)) }
+    ensures index { IsIndex spaces.now index.new }
 {
     let right = may_hold(spaces, index, number, space.holder);
     let held = link_end(right, 5, space.holder, at)?;
@@ -277,9 +284,14 @@ fn space_walk(
 }
 
 #[tactic(auto, unfolding(fk_spelling::specs::Offsets::spaces_walk))]
-fn spaces_walk(spaces: &[SpaceRec], index: &Index, named: &mut Places) -> Result<u64, PointerFail>
-    requires { IsIndex spaces.now index.now }
-    ensures { Walks result named.new (words.spaces_walk spaces.now 0 spaces.now (standing 14 named.old)) }
+fn spaces_walk(
+    spaces: &[SpaceRec],
+    index: &mut Index,
+    named: &mut Places,
+) -> Result<u64, PointerFail>
+    requires { IsIndex spaces.now index.old }
+    ensures walk { Walks result named.new (words.spaces_walk spaces.now 0 spaces.now (standing 14 named.old)) }
+    ensures index { IsIndex spaces.now index.new }
 {
     let mut at = 14;
     for number in 0..spaces.len() {
@@ -293,8 +305,8 @@ fn spaces_walk(spaces: &[SpaceRec], index: &Index, named: &mut Places) -> Result
 pub fn check_links(alloc: Global, spaces: &[SpaceRec]) -> Result<(), PointerFail>
     ensures { Checks result (words.wrong_in spaces.now) }
 {
-    let index = Index::of(alloc, spaces)?;
+    let mut index = Index::of(alloc, spaces)?;
     let mut named = Places::new(alloc);
-    let _end = spaces_walk(spaces, &index, &mut named)?;
+    let _end = spaces_walk(spaces, &mut index, &mut named)?;
     Ok(())
 }

@@ -46,11 +46,11 @@ impl Places {
     }
 }
 
-/// What is known of an image's spaces: the places in which spaces lie, and for each space the number
-/// behind those of all spaces beneath it.
+/// What is known of an image's spaces: for each the number behind those of all spaces beneath it, and
+/// once it was asked for, the places in which spaces lie.
 #[derive(Drop)]
 pub struct Index {
-    places: Places,
+    places: Option<Places>,
     ends: Vec<usize>,
 }
 
@@ -107,17 +107,31 @@ impl Index {
         ensures { IfOk result (λ index. words.IsIndex spaces.now index) }
     {
         Ok(Index {
-            places: places_of(alloc, behind_first(spaces))?,
+            places: None,
             ends: ends_of(alloc, spaces)?,
         })
     }
 
-    /// Whether a space lies in a slot of a space.
-    pub fn has_space_at(&self, spaces: &[SpaceRec], space: u32, slot: u8) -> bool
-        requires { words.IsIndex spaces.now self.now }
-        ensures { result ≡ has_space_at spaces.now space slot }
+    /// Whether a space lies in a slot of a space. Few images ask; the first question takes a step for each
+    /// space.
+    pub fn has_space_at(
+        &mut self,
+        spaces: &[SpaceRec],
+        space: u32,
+        slot: u8,
+    ) -> Result<bool, NoMemory>
+        requires { words.IsIndex spaces.now self.old }
+        ensures lies { IfOk result (λ lies. lies ≡ has_space_at spaces.now space slot) }
+        ensures index { words.IsIndex spaces.now self.new }
     {
-        self.places.contains(Place { space, slot })
+        let place = Place { space, slot };
+        if let Some(places) = &self.places {
+            return Ok(places.contains(place));
+        }
+        let places = places_of(*self.ends.allocator(), behind_first(spaces))?;
+        let lies = places.contains(place);
+        self.places = Some(places);
+        Ok(lies)
     }
 
     /// Whether a space is another one or lies beneath it.

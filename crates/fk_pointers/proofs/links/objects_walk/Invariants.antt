@@ -1,8 +1,9 @@
 use Rattle.std.proofs.Common.{◌≡◌, drop}
 use Rattle.fk_spelling.specs.Offsets.{objects_walk}
+use Rattle.fk_pointers.specs.Places.{IsIndex}
 use Rattle.fk_pointers.specs.Walks.{standing}
 use Rattle.fk_pointers.proofs.links.objects_walk.Given as goal
 
 abbrev pub invariant-loop-object : goal.invariant-loop-object
-invariant-loop-object l = objects_walk l.spaces
-    l.objects (drop l.object-index l.objects) (standing l.at l.named) ≡ objects_walk l.spaces l.objects l.objects (standing l.from l.fn.named)
+invariant-loop-object l = IsIndex l.spaces l.index ×
+    (objects_walk l.spaces l.objects (drop l.object-index l.objects) (standing l.at l.named) ≡ objects_walk l.spaces l.objects l.objects (standing l.from l.fn.named))
