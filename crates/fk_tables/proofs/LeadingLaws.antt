@@ -1,13 +1,18 @@
 -- LeadingLaws: a walk through those whose pointers lead to an object.
-use Rattle.std.proofs.Common.{◌≡◌, ◌<◌, ◌⊎◌, inl, inr, Bool, true, false, List, [], ◌∷◌, length, Option, Some, None, refl, sym, ap, subst, ◌∙◌, arith}
+use Rattle.std.proofs.Common.{◌≡◌, ◌≢◌, ◌<◌, ◌⊎◌, inl, inr, Bool, true, false, not, List, [], ◌∷◌, length, Option, Some, None, refl, sym, ap, subst, ◌∙◌, arith}
 use Rattle.fk_model.specs.declared.names.Who.{Who}
 use Rattle.fk_model.specs.declared.body.Body.{Body}
 use Rattle.fk_model.specs.Objects.{holds}
 use Rattle.fk_model.proofs.walks.Members.{IsIn}
+use Rattle.std.specs.FinMap.{FinMap, get}
 use Rattle.fk_slots.specs.Cells.{cell}
+use Rattle.fk_tables.specs.Held.{is_held}
+use Rattle.fk_tables.specs.Names.{who_cmp}
 use Rattle.fk_tables.specs.Parts.{plays}
+use Rattle.fk_tables.specs.Pointers.{body_hits}
 use Rattle.fk_tables.specs.declared.parts.Part.{Part}
 use Rattle.fk_tables.proofs.RingedLaws.{Cells}
+use Rattle.fk_tables.proofs.ToldLaws.{not_nonzero}
 
 module _ (rows : Cells) (part : Part) where
   -- whoever plays the part is among these
@@ -43,3 +48,26 @@ module _ (rows : Cells) (part : Part) where
 
 pub fewer_left : (who : Who) (whos more : List Who) → whos ≡ who ∷ more → length more < length whos
 fewer_left who whos more is = let long : length whos ≡ length (who ∷ more) = ap length is in omega (arith, long)
+
+-- ---- those that hold a space
+
+module _ (m : FinMap who_cmp Body) (who : Who) where
+  -- whoever is held, and by this pointer, is among these
+  abbrev pub AreHeldLeft : List Who → Type 0
+  AreHeldLeft whos = (q : Who) (b : Body) → get m q ≡ Some b → is_held b ≡ true → body_hits who b ≢ 0 → IsIn q whos
+
+  pub held_more : (from : Who) (whos more : List Who) → whos ≡ from ∷ more → holds is_held (get m from) ≡ false → AreHeldLeft whos → AreHeldLeft more
+  held_more from whos more is off left q b there held hits = by (subst (IsIn q) is (left q b there held hits))
+    where
+      by : (from ≡ q) ⊎ IsIn q more → IsIn q more
+      by (inl same) =
+          let none : is_held b ≡ false = sym (ap (holds is_held) (ap (get m) same ∙ there)) ∙ off in
+          absurd (cc)
+      by (inr comes) = comes
+
+  pub none_held_left : (whos : List Who) → whos ≡ [] → AreHeldLeft whos → (q : Who) (b : Body) → get m q ≡ Some b → is_held b ≡ true → body_hits who b ≡ 0
+  none_held_left whos none left q b there held = not_nonzero (body_hits who b) (λ hits. subst (IsIn q) none (left q b there held hits))
+
+pub not_false : (b : Bool) → not b ≡ false → b ≡ true
+not_false true h = refl
+not_false false h = absurd (cc)

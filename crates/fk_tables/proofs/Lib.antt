@@ -11,3 +11,4 @@ pub mod ToldLaws
 pub mod RingedLaws
 pub mod RingSweeps
 mod LeadingLaws
+mod FreeLaws

@@ -28,7 +28,7 @@ use Rattle.fk_hints.specs.declared.told.Tellers.{Tellers}
 use Rattle.fk_hints.specs.Leads.{lead_by, pointer, peer, server, of_talk, of_fault, of_thread, led}
 use Rattle.fk_hints.specs.Told.{Tells, told_at}
 use Rattle.fk_hints.proofs.FieldLaws.{led_past}
-use Rattle.fk_tables.specs.Held.{is_held, one_if, held_in, IsCount}
+use Rattle.fk_tables.specs.Held.{is_held}
 use Rattle.fk_tables.specs.Hinted.{AreTold}
 use Rattle.fk_tables.specs.Names.{at, same_who, who_cmp}
 use Rattle.fk_tables.specs.Parts.{plays, is_thread, is_service, is_parked, whose, sort_of}
@@ -39,7 +39,6 @@ use Rattle.fk_tables.specs.declared.parts.Part.{Part}
 use Rattle.fk_tables.specs.declared.parts.Part.TheVariants.{Client, Faulter, Guest, Parked}
 use Rattle.fk_tables.specs.declared.sweeps.Sweep.{Sweep}
 use Rattle.fk_tables.proofs.Found.{member-found}
-use Rattle.fk_tables.proofs.HeldLaws.{none-held, none-counted}
 use Rattle.fk_tables.proofs.HintLaws.{led-came, body-off, led-proceeded}
 use Rattle.fk_tables.proofs.NameLaws.{who_total, who_naming, same_tied, same_who_eq, same_who_refl}
 use Rattle.fk_tables.proofs.ScanLaws.{get-who}
@@ -387,9 +386,9 @@ module _ (rows : List (List (Option Body))) (sweep : Sweep) where
       go true e = refl
       go false e = untouched s k e (λ b i leads. off (at s k) b i e leads.0 leads.1)
 
--- ---- none is held after a sweep where none was before
+-- ---- what isn't held isn't held after a sweep
 
-held_after : (sweep : Sweep) (space : ℕ) (b : Body) → is_held b ≡ false → is_held (body_after sweep space b) ≡ false
+pub held_after : (sweep : Sweep) (space : ℕ) (b : Body) → is_held b ≡ false → is_held (body_after sweep space b) ≡ false
 held_after sweep space (Mutex locked) h = refl
 held_after sweep space Cond h = refl
 held_after sweep space (Mapping first count offset write region) h = refl
@@ -400,16 +399,3 @@ held_after sweep space (Space birth None) h = refl
 held_after sweep space (Space birth (Some who)) h = absurd (cc)
 held_after sweep space (Thread thread) h = refl
 held_after sweep space (Reference to) h = refl
-
-pub none-left : (rows new : List (List (Option Body))) (sweep : Sweep) (count : ℕ) → IsCount (held_in (map_of_rows who_cmp at rows)) count →
-    ((s k : ℕ) → cell new s k ≡ option_map (body_after sweep s) (cell rows s k)) → count ≡ 0 →
-    sum_by (λ row. sum_by (of_cell (λ b. one_if (is_held b))) row) new ≡ 0
-none-left rows new sweep count enough swept none = sum-none new (λ b. one_if (is_held b))
-    (λ q b there. go q b (cell rows q.space q.slot) refl (sym (swept q.space q.slot) ∙ there))
-  where
-    go : (q : Who) (b : Body) (o : Option Body) → cell rows q.space q.slot ≡ o → option_map (body_after sweep q.space) o ≡ Some b → one_if (is_held b) ≡ 0
-    go q b None e h = absurd (cc)
-    go q b (Some a) e h =
-        let same : body_after sweep q.space a ≡ b = cc in
-        let off = none-held (map_of_rows who_cmp at rows) (none-counted (map_of_rows who_cmp at rows) count enough none) q a (get-who rows q ∙ e) in
-        ap one_if (ap is_held (sym same) ∙ held_after sweep q.space a off)

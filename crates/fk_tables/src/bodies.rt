@@ -20,7 +20,7 @@ ghost use Rattle.fk_tables.specs.Pointers.{body_hits};
 ghost use Rattle.fk_tables.specs.Sweeps.{body_after};
 ghost use Rattle.fk_tables.specs.Threads.{proceeded};
 
-use crate::held::{count_left, counted, is_held, was_held};
+use crate::held::{count_held, counted, is_held, was_held};
 use crate::homes::{home_of, make_room, settle};
 use crate::marks::{is_marked, is_of_pages, mark, room_for_marks};
 use crate::parts::Part;
@@ -238,9 +238,12 @@ impl Bodies {
     pub fn sweep(&mut self, sweep: Sweep)
         ensures { (q : Who) → map.get self.new q ≡ option_map (body_after sweep q.space) (map.get self.old q) }
     {
+        let frees = self.may_free(sweep);
         sweep_ringed(&mut self.rows, &mut self.rings, sweep);
         self.hints.pass_on(sweep.from, sweep.to);
-        self.held = count_left(&self.rows, self.held);
+        if frees {
+            self.held = count_held(&self.rows);
+        }
     }
 
     /// A mapping or a region may be in this group of 16 slots of a space.

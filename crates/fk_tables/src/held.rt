@@ -44,17 +44,8 @@ pub fn counted(count: u64, before: bool, now: bool) -> u64
     }
 }
 
-/// How many spaces are held, where none more is than before.
-pub fn count_left(rows: &Vec<Row<Stored>>, before: u64) -> u64
-    requires few { length rows.now.items ≤ 4294967296 }
-    requires less { before ≡ 0 → sum_by (λ row. sum_by (of_cell (λ b. one_if (held.is_held b))) row) rows.now.items ≡ 0 }
-    ensures { result ≡ sum_by (λ row. sum_by (of_cell (λ b. one_if (held.is_held b))) row) rows.now.items }
-{
-    if before == 0 { 0 } else { count_held(rows) }
-}
-
 /// How many spaces are held.
-fn count_held(rows: &Vec<Row<Stored>>) -> u64
+pub fn count_held(rows: &Vec<Row<Stored>>) -> u64
     requires { length rows.now.items ≤ 4294967296 }
     ensures { result ≡ sum_by (λ row. sum_by (of_cell (λ b. one_if (held.is_held b))) row) rows.now.items }
 {

@@ -10,6 +10,7 @@
 mod bodies;
 mod held;
 mod hits;
+mod holders;
 mod homes;
 mod led;
 mod marks;
