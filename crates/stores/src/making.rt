@@ -1,0 +1,127 @@
+//! Objects and pages that are made, at the second try where memory is refused at the first.
+ghost use Rattle.std.specs.Prelude.{IfSome};
+ghost use Rattle.fk_store.specs.Makes.{IsNext};
+ghost use Rattle.fk_store.specs.Named.{OnNamed};
+ghost use Rattle.fk_store.specs.WellFormed.{IsSized};
+ghost use Rattle.fk_store.specs.World.{world, IsLive};
+
+use crate::numbers::name_of;
+use crate::showing;
+use anyhow::Context;
+use fk_model::{Body, Mode, NoMemory, Ptr, Thread, Who};
+use fk_store::Store;
+use std::alloc::Global;
+
+/// What can be made.
+#[derive(Clone, Copy)]
+pub enum Thing {
+    Space,
+    Cond,
+    Port,
+    Reference(Who),
+    Thread(Mode),
+}
+
+/// What a line makes; nothing where it makes nothing.
+pub fn thing_of(verb: &str, numbers: &[u64; 4]) -> Option<Thing> {
+    Some(match verb {
+        "space" => Thing::Space,
+        "cond" => Thing::Cond,
+        "port" => Thing::Port,
+        "reference" => Thing::Reference(name_of(numbers[2], numbers[3]).ok()?),
+        "native" => Thing::Thread(Mode::Native),
+        "calling" => Thing::Thread(Mode::Calling),
+        "halted" => Thing::Thread(Mode::Halted(u8::try_from(numbers[2]).ok()?)),
+        _ => return None,
+    })
+}
+
+/// The body of a thing; none where there is no such number or target.
+fn body_of(store: &Store, thing: &Thing) -> Option<Body>
+    ensures birth { IfSome result (IsNext (world store.now).next) }
+    ensures named { IfSome result (OnNamed (IsLive store.now)) }
+    ensures sized { IfSome result IsSized }
+{
+    match *thing {
+        Thing::Space => {
+            let birth = store.next_birth();
+            if birth == u32::MAX {
+                return None;
+            }
+            Some(Body::Space {
+                birth,
+                holder: None,
+            })
+        }
+        Thing::Cond => Some(Body::Cond),
+        Thing::Port => Some(Body::Port {
+            set: None,
+            served: false,
+        }),
+        Thing::Reference(to) => {
+            store.at(to)?;
+            Some(Body::Reference { to: Ptr::At(to) })
+        }
+        Thing::Thread(mode) => Some(Body::Thread(Thread {
+            regs: [0; 16],
+            pc: 0,
+            mode,
+            stops: 0,
+            talk: None,
+            fault: None,
+        })),
+    }
+}
+
+/// Makes a thing in an empty slot of a live space.
+fn make(store: &mut Store, who: Who, thing: &Thing) -> Result<(), NoMemory> {
+    if store.is_live(who.space)
+        && store.at(who).is_none()
+        && let Some(body) = body_of(store, thing)
+    {
+        store.make(who, body)?;
+    }
+    Ok(())
+}
+
+/// Makes a thing in an empty slot of a live space, and shows the store then.
+pub fn make_at_last(
+    alloc: Global,
+    store: &mut Store,
+    who: Who,
+    thing: &Thing,
+) -> anyhow::Result<String> {
+    let before = showing::all(alloc, store)?;
+    if make(store, who, thing).is_err() {
+        if showing::all(alloc, store)? != before {
+            return Ok(String::from_str(alloc, "not as before")?);
+        }
+        make(store, who, thing).ok().context("no memory")?;
+    }
+    showing::all(alloc, store)
+}
+
+/// Gives a live space a page filled with a word.
+fn put_page(store: &mut Store, who: Who, word: u64) -> Result<(), NoMemory> {
+    if store.is_live(who.space) {
+        store.put_page(who.space, who.slot, &[word; 64])?;
+    }
+    Ok(())
+}
+
+/// Gives a live space a page filled with a word, and shows the store then.
+pub fn put_page_at_last(
+    alloc: Global,
+    store: &mut Store,
+    who: Who,
+    word: u64,
+) -> anyhow::Result<String> {
+    let before = showing::all(alloc, store)?;
+    if put_page(store, who, word).is_err() {
+        if showing::all(alloc, store)? != before {
+            return Ok(String::from_str(alloc, "not as before")?);
+        }
+        put_page(store, who, word).ok().context("no memory")?;
+    }
+    showing::all(alloc, store)
+}
