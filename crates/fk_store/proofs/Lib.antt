@@ -35,7 +35,9 @@ pub mod Players
 pub mod Lists
 pub mod Listed
 pub mod PointerLaws
+pub mod InPlace
 pub mod Proceeding
+pub mod Nudging
 pub mod Counting
 pub mod Within
 pub mod Outside

@@ -1,6 +1,7 @@
 pub mod Words
 pub mod Moves
 pub mod Threads
+pub mod Nudges
 pub mod Names
 pub mod Orders
 pub mod Contents

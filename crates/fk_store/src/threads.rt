@@ -17,6 +17,7 @@ ghost use Rattle.fk_model.specs.Searches.{thread_at};
 
 use crate::store::Store;
 use fk_model::{Body, Mode, Thread, Who};
+use fk_tables::Nudge;
 
 impl Store {
     /// The thread in a slot, if one is there.
@@ -72,15 +73,12 @@ impl Store {
     }
 
     /// A thread is stopped so many times. What is no thread stays as it is.
-    #[tactic(auto, using(crate::proofs::ThreadLaws::kind_thread, crate::proofs::EditLaws::stops_nobody), unfolding(fk_model::specs::World::edited))]
     pub fn set_stops(&mut self, who: Who, stops: u16)
         ensures world { world self.new ≡ apply (Alter (place (path self.old) who) (SetStops stops)) (world self.old) }
         ensures kinds { kind_there (world self.new) ≡ kind_there (world self.old) }
         ensures paths { path self.new ≡ path self.old }
     {
-        if let Some(&thread) = self.thread(who) {
-            self.set(who, Body::Thread(Thread { stops, ..thread }));
-        }
+        self.nudge(who, Nudge::Stops(stops));
     }
 }
 

@@ -8,6 +8,7 @@ use Rattle.fk_model.specs.declared.thread.Mode.{Mode}
 use Rattle.fk_model.specs.declared.thread.Peer.{Peer}
 use Rattle.fk_model.specs.declared.thread.Peer.TheVariants as peers
 use Rattle.fk_model.specs.declared.thread.Talk.{Talk}
+use Rattle.fk_model.specs.declared.thread.Thread.{Thread as State}
 use Rattle.fk_model.specs.declared.thread.Fault.{Fault}
 use Rattle.fk_model.specs.declared.body.Body.{Body}
 use Rattle.fk_model.specs.declared.body.Body.TheVariants.{Mutex, Cond, Mapping, Region, Port, Portset, Space, Thread, Reference}
@@ -18,7 +19,10 @@ use Rattle.fk_hints.specs.declared.lead.Lead.{Lead}
 use Rattle.fk_hints.specs.Leads.{lead_by, first, pointer, peer, server, of_talk, of_fault, of_thread, led}
 use Rattle.fk_tables.specs.Names.{same_who}
 use Rattle.fk_tables.specs.Sweeps.{after, or_dead, pointer_after, peer_after, talk_after, fault_after, set_after, body_after}
+use Rattle.fk_tables.specs.Nudges.{counted, passed, nudged, nudged_thread}
 use Rattle.fk_tables.specs.Threads.{proceeded}
+use Rattle.fk_tables.specs.declared.nudges.Nudge.{Nudge}
+use Rattle.fk_tables.specs.declared.nudges.Nudge.TheVariants.{Counts, Passes, Stops}
 use Rattle.fk_tables.specs.declared.sweeps.Sweep.{Sweep}
 use Rattle.fk_tables.proofs.NameLaws.{same_who_eq}
 
@@ -251,3 +255,27 @@ led-proceeded registers counter mode Portset i = refl
 led-proceeded registers counter mode (Space birth holder) i = refl
 led-proceeded registers counter mode (Thread thread) i = refl
 led-proceeded registers counter mode (Reference to) i = refl
+
+-- ---- a thread that changes a little
+talk-still : (i : ℕ) (f : Talk → Talk) → ((talk : Talk) → of_talk i (f talk) ≡ of_talk i talk) → (o : Option Talk) →
+    and_then (of_talk i) (option_map f o) ≡ and_then (of_talk i) o
+talk-still i f same None = refl
+talk-still i f same (Some talk) = same talk
+
+thread-still : (change : Nudge) (t : State) (i : ℕ) → of_thread (nudged_thread change t).talk (nudged_thread change t).fault i ≡ of_thread t.talk t.fault i
+unfolding of_thread of_talk
+thread-still (Counts count) t i = rw (talk-still i (counted count) (λ talk. refl) t.talk) refl
+thread-still (Passes turn) t i = rw (talk-still i (passed turn) (λ talk. refl) t.talk) refl
+thread-still (Stops stops) t i = refl
+
+pub led-nudged : (change : Nudge) (b : Body) (i : ℕ) → led (nudged change b) i ≡ led b i
+unfolding led
+led-nudged change (Mutex locked) i = refl
+led-nudged change Cond i = refl
+led-nudged change (Mapping page count offset write region) i = refl
+led-nudged change (Region page count write keeper) i = refl
+led-nudged change (Port set served) i = refl
+led-nudged change Portset i = refl
+led-nudged change (Space birth holder) i = refl
+led-nudged change (Thread thread) i = thread-still change thread i
+led-nudged change (Reference to) i = refl

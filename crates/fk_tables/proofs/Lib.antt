@@ -1,6 +1,7 @@
 pub mod NameLaws
 pub mod ScanLaws
 pub mod ProceedLaws
+pub mod NudgeLaws
 pub mod Found
 pub mod HomeLaws
 pub mod HeldLaws

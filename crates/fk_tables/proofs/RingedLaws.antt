@@ -2,7 +2,6 @@
 use Rattle.std.proofs.Common.{◌≡◌, ◌≢◌, ℕ, zero, suc, ◌+◌, ◌/◌, ◌%◌, ◌<◌, ◌≤◌, ltb, Bool, true, false, cond, ◌==◌, ◌&&◌, List, [], Option, Some, None, refl, sym, ap, ◌∙◌, arith}
 use Rattle.std.proofs.lemmas.Bool.Decides.{nat_tests}
 use Rattle.fk_model.specs.declared.names.Who.{Who}
-use Rattle.fk_model.specs.declared.thread.Mode.{Mode}
 use Rattle.fk_model.specs.declared.body.Body.{Body}
 use Rattle.fk_model.specs.declared.body.Body.TheVariants.{Cond}
 use Rattle.fk_model.specs.Objects.{and_then}
@@ -14,8 +13,6 @@ use Rattle.fk_rings.specs.Nodes.{is_of, is_head, node_of}
 use Rattle.fk_rings.specs.Rings.{put_at}
 use Rattle.fk_rings.proofs.NodeLaws.{AreRings-along}
 use Rattle.fk_tables.specs.Ringed.{pointed, target, owner, owner_with, AreRinged}
-use Rattle.fk_tables.specs.Threads.{proceeded}
-use Rattle.fk_tables.proofs.HintLaws.{led-proceeded}
 
 abbrev pub Cells : Type 0
 Cells = List (List (Option Body))
@@ -198,27 +195,27 @@ relaid rows taken laid who b left lays s k = lays s k ∙ ap (cond (s == who.spa
     by true = refl
     by false = refl
 
--- a thread goes on
-pub ringed-proceeded : (rows now : Cells) (r : Rows) (registers : List ℕ) (counter : ℕ) (mode : Mode) (who : Who) (old : Body) → AreRinged rows r →
-    cell rows who.space who.slot ≡ Some old →
-    ((s k : ℕ) → cell now s k ≡ cond (s == who.space && k == who.slot) (Some (proceeded registers counter mode old)) (cell rows s k)) → AreRinged now r
+-- what changes leads where it led
+pub ringed-still : (rows now : Cells) (r : Rows) (who : Who) (old b : Body) → AreRinged rows r → cell rows who.space who.slot ≡ Some old →
+    ((i : ℕ) → led b i ≡ led old i) →
+    ((s k : ℕ) → cell now s k ≡ cond (s == who.space && k == who.slot) (Some b) (cell rows s k)) → AreRinged now r
 unfolding owner_with owner target
-ringed-proceeded rows now r registers counter mode who old are there changes =
-    ringed-changed rows now r r who (Some (proceeded registers counter mode old)) (are.short who.space who.slot old there) are changes
-    (AreRings-along r (owner rows) (owner_with (owner rows) who (Some (proceeded registers counter mode old))) same)
+ringed-still rows now r who old b are there still changes =
+    ringed-changed rows now r r who (Some b) (are.short who.space who.slot old there) are changes
+    (AreRings-along r (owner rows) (owner_with (owner rows) who (Some b)) same)
   where
-    same : (n : ℕ) → is_head n ≡ false → owner_with (owner rows) who (Some (proceeded registers counter mode old)) n ≡ owner rows n
+    same : (n : ℕ) → is_head n ≡ false → owner_with (owner rows) who (Some b) n ≡ owner rows n
     same n field = by (n / 1280 == who.space) refl (n / 5 % 256 == who.slot) refl
       where
         by : (p : Bool) → (n / 1280 == who.space) ≡ p → (q : Bool) → (n / 5 % 256 == who.slot) ≡ q →
-            cond (p && q) (and_then pointed (led (proceeded registers counter mode old) (n % 5))) (owner rows n) ≡ owner rows n
+            cond (p && q) (and_then pointed (led b (n % 5))) (owner rows n) ≡ owner rows n
         by false e q f = refl
         by true e false f = refl
         by true e true f =
             let space : n / 1280 ≡ who.space = grind (arith, nat_tests) in
             let slot : n / 5 % 256 ≡ who.slot = grind (arith, nat_tests) in
             let here : cell rows (n / 1280) (n / 5 % 256) ≡ Some old = (λ i. cell rows (space i) (slot i)) ∙ there in
-            ap (and_then pointed) (led-proceeded registers counter mode old (n % 5)) ∙ sym (ap (and_then (target (n % 5))) here)
+            ap (and_then pointed) (still (n % 5)) ∙ sym (ap (and_then (target (n % 5))) here)
 
 -- who led nowhere leads nowhere still
 pub still_unled : (r : Rows) (others : ℕ → Option Who) (who : Who) (old b : Body) → ((i : ℕ) → led old i ≡ None) → ((i : ℕ) → led b i ≡ None) →

@@ -9,7 +9,6 @@ use Rattle.fk_model.proofs.walks.Members.{IsIn}
 use Rattle.fk_model.specs.declared.names.Who.{Who}
 use Rattle.fk_model.specs.declared.names.Ptr.{Ptr}
 use Rattle.fk_model.specs.declared.names.Ptr.TheVariants.{Null, Dead, At}
-use Rattle.fk_model.specs.declared.thread.Mode.{Mode}
 use Rattle.fk_model.specs.declared.thread.Peer.{Peer}
 use Rattle.fk_model.specs.declared.thread.Peer.TheVariants as peers
 use Rattle.fk_model.specs.declared.thread.Talk as talks_of
@@ -34,12 +33,11 @@ use Rattle.fk_tables.specs.Names.{at, same_who, who_cmp}
 use Rattle.fk_tables.specs.Parts.{plays, is_thread, is_service, is_parked, whose, sort_of}
 use Rattle.fk_tables.specs.Pointers.{hit, hits_in, pointer_hits, peer_hits, talk_hits, fault_hits, body_hits}
 use Rattle.fk_tables.specs.Sweeps.{body_after}
-use Rattle.fk_tables.specs.Threads.{proceeded}
 use Rattle.fk_tables.specs.declared.parts.Part.{Part}
 use Rattle.fk_tables.specs.declared.parts.Part.TheVariants.{Client, Faulter, Guest, Parked}
 use Rattle.fk_tables.specs.declared.sweeps.Sweep.{Sweep}
 use Rattle.fk_tables.proofs.Found.{member-found}
-use Rattle.fk_tables.proofs.HintLaws.{led-came, body-off, led-proceeded}
+use Rattle.fk_tables.proofs.HintLaws.{led-came, body-off}
 use Rattle.fk_tables.proofs.NameLaws.{who_total, who_naming, same_tied, same_who_eq, same_who_refl}
 use Rattle.fk_tables.proofs.ScanLaws.{get-who}
 
@@ -127,18 +125,17 @@ module _ (rows : List (List (Option Body))) (hints : Hinted) (told : AreTold (ma
             | inr follows ↦ passed l.to l.sort q follows.0 (rows-told rows hints told q a i (lead_by l.sort sweep.from) e follows.1)
           ]
 
--- a thread goes on
-pub told-proceeded : (bodies : FinMap who_cmp Body) (hints : Hinted) → AreTold bodies hints → (registers : List ℕ) (counter : ℕ) (mode : Mode) (who : Who)
-    (old : Body) →
-    get bodies who ≡ Some old → AreTold (finmap.insert bodies who (proceeded registers counter mode old)) hints
-told-proceeded bodies hints told registers counter mode who old here q b i l there leads =
-    go (same_who q who) refl (sym (get-insert who_total bodies who (proceeded registers counter mode old) q ∙ rw (same_tied q who) refl) ∙ there)
+-- what changes leads where it led
+pub told-still : (bodies : FinMap who_cmp Body) (hints : Hinted) → AreTold bodies hints → (who : Who) (old b : Body) →
+    get bodies who ≡ Some old → ((i : ℕ) → led b i ≡ led old i) → AreTold (finmap.insert bodies who b) hints
+told-still bodies hints told who old new here still q b i l there leads =
+    go (same_who q who) refl (sym (get-insert who_total bodies who new q ∙ rw (same_tied q who) refl) ∙ there)
   where
-    go : (t : Bool) → same_who q who ≡ t → cond t (Some (proceeded registers counter mode old)) (get bodies q) ≡ Some b → Tells (told_at hints l.to l.sort) q
+    go : (t : Bool) → same_who q who ≡ t → cond t (Some new) (get bodies q) ≡ Some b → Tells (told_at hints l.to l.sort) q
     go false e h = told q b i l h leads
     go true e h =
-        let same : proceeded registers counter mode old ≡ b = cc in
-        told q old i l (ap (get bodies) (same_who_eq q who e) ∙ here) (sym (led-proceeded registers counter mode old i) ∙ ap (λ c. led c i) same ∙ leads)
+        let same : new ≡ b = cc in
+        told q old i l (ap (get bodies) (same_who_eq q who e) ∙ here) (sym (still i) ∙ ap (λ c. led c i) same ∙ leads)
 
 -- ---- those that play a part
 

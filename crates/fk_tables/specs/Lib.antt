@@ -6,6 +6,7 @@ pub mod Marks
 pub mod Held
 pub mod Sweeps
 pub mod Threads
+pub mod Nudges
 pub mod Parts
 pub mod Pointers
 pub mod Hinted

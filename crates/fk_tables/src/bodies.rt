@@ -14,6 +14,7 @@ ghost use Rattle.fk_tables.specs.Held as held;
 ghost use Rattle.fk_tables.specs.Homes.{birth_in};
 ghost use Rattle.fk_tables.specs.Marks as marks_of;
 ghost use Rattle.fk_tables.specs.Names.{at, who_cmp, same_who};
+ghost use Rattle.fk_tables.specs.Nudges.{nudged};
 ghost use Rattle.fk_tables.specs.Orders.{comes_after, IsFirstAfter};
 ghost use Rattle.fk_tables.specs.Parts.{plays};
 ghost use Rattle.fk_tables.specs.Pointers.{body_hits};
@@ -23,6 +24,7 @@ ghost use Rattle.fk_tables.specs.Threads.{proceeded};
 use crate::held::{count_held, counted, is_held, was_held};
 use crate::homes::{home_of, make_room, settle};
 use crate::marks::{is_marked, is_of_pages, mark, room_for_marks};
+use crate::nudges::Nudge;
 use crate::parts::Part;
 use crate::ringing::{ring, ring_anew, sweep_ringed};
 use crate::scans::{count_told, first_leading, first_told};
@@ -137,6 +139,17 @@ impl Bodies {
     {
         if let Some(mut stored) = take_value(&mut self.rows, who.space, who.slot) {
             stored.proceed(registers, counter, mode);
+            lay_value(&mut self.rows, who.space, who.slot, stored);
+        }
+    }
+
+    /// A thread changes a little. What is no thread stays as it is.
+    pub fn nudge(&mut self, who: Who, change: Nudge)
+        ensures there { (b : Body) → map.get self.old who ≡ Some b → self.new ≡ map.insert self.old who (nudged change b) }
+        ensures none { map.get self.old who ≡ None → self.new ≡ self.old }
+    {
+        if let Some(mut stored) = take_value(&mut self.rows, who.space, who.slot) {
+            stored.nudge(change);
             lay_value(&mut self.rows, who.space, who.slot, stored);
         }
     }

@@ -14,6 +14,7 @@ mod holders;
 mod homes;
 mod led;
 mod marks;
+mod nudges;
 mod pages;
 mod parts;
 mod ringing;
@@ -24,6 +25,7 @@ mod telling;
 
 pub use bodies::Bodies;
 pub use fk_rings::Leaders;
+pub use nudges::Nudge;
 pub use pages::Pages;
 pub use parts::Part;
 pub use sweeps::Sweep;

@@ -1,7 +1,9 @@
 //! The body of an object, where it stands.
 ghost use Rattle.std.specs.Prelude.{◌≡◌, IfOk};
+ghost use Rattle.fk_tables.specs.Nudges.{nudged};
 ghost use Rattle.fk_tables.specs.Threads.{proceeded};
 
+use crate::nudges::{Nudge, make_nudge};
 use fk_model::{Body, Mode};
 use std::alloc::{AllocError, Global};
 use std::marker::Model;
@@ -50,6 +52,13 @@ impl Stored {
         ensures { self.new ≡ proceeded registers.now counter mode self.old }
     {
         proceed(&mut self.body, registers, counter, mode);
+    }
+
+    /// A thread changes a little. What is no thread stays as it is.
+    pub fn nudge(&mut self, change: Nudge)
+        ensures { self.new ≡ nudged change self.old }
+    {
+        make_nudge(&mut self.body, change);
     }
 }
 

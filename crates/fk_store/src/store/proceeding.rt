@@ -6,10 +6,12 @@ ghost use Rattle.fk_model.specs.World.Edit.{Proceed};
 ghost use Rattle.fk_model.specs.Valid.{kind_there};
 ghost use Rattle.fk_store.specs.Paths.{path, place};
 ghost use Rattle.fk_store.specs.Bodies.{mode_by};
+ghost use Rattle.fk_store.specs.Nudges.{edit_of};
 ghost use Rattle.fk_store.specs.World.{world};
 
 use crate::Store;
 use fk_model::{Mode, Who};
+use fk_tables::Nudge;
 
 impl Store {
     /// A thread goes on with these registers, at this counter and in this mode. What is no thread
@@ -20,5 +22,14 @@ impl Store {
         ensures paths { path self.new ≡ path self.old }
     {
         self.bodies.proceed(me, registers, counter, mode);
+    }
+
+    /// A thread changes a little. What is no thread stays as it is.
+    pub fn nudge(&mut self, who: Who, change: Nudge)
+        ensures world { world self.new ≡ apply (Alter (place (path self.old) who) (edit_of change)) (world self.old) }
+        ensures kinds { kind_there (world self.new) ≡ kind_there (world self.old) }
+        ensures paths { path self.new ≡ path self.old }
+    {
+        self.bodies.nudge(who, change);
     }
 }

@@ -4,10 +4,11 @@ use Rattle.fk_slots.proofs.TabledLaws.{relaid_rows, same_rows, untaken}
 use Rattle.fk_tables.specs.Births.{stored_birth}
 use Rattle.fk_tables.proofs.HeldLaws.{enough-same}
 use Rattle.fk_tables.proofs.MarkLaws.{marked-set}
+use Rattle.fk_tables.proofs.HintLaws.{led-proceeded}
 use Rattle.fk_tables.proofs.HomeLaws.{homed-set}
 use Rattle.fk_tables.proofs.NameLaws.{who_naming}
-use Rattle.fk_tables.proofs.RingedLaws.{ringed-proceeded, ringed-same, relaid}
-use Rattle.fk_tables.proofs.ToldLaws.{told-proceeded}
+use Rattle.fk_tables.proofs.RingedLaws.{ringed-still, ringed-same, relaid}
+use Rattle.fk_tables.proofs.ToldLaws.{told-still}
 use Rattle.fk_tables.proofs.ProceedLaws.{proceeded-birth, proceeded-held, proceeded-pages, some-alike, none-alike}
 use Rattle.fk_tables.proofs.ScanLaws.{get-who}
 use Rattle.fk_tables.proofs.bodies.Bodies.proceed.Goals as goal
@@ -21,8 +22,8 @@ invariant_of-self c =
       rw now (homed-set _ _ c.args.who _ c.self.invariant.1 (ap (and_then stored_birth) there ∙ sym (proceeded-birth _ _ _ c.in-Some.stored))),
       rw now (enough-same _ c.args.who c.in-Some.stored _ _ there (proceeded-held _ _ _ c.in-Some.stored) c.self.invariant.2),
       rw now (marked-set _ _ c.args.who c.in-Some.stored _ there (λ so. sym (proceeded-pages _ _ _ c.in-Some.stored) ∙ so) c.self.invariant.3),
-      rw now (told-proceeded _ _ c.self.invariant.4 _ _ _ c.args.who c.in-Some.stored there),
-      ringed-proceeded _ _ _ _ _ _ c.args.who c.in-Some.stored c.self.invariant.5 (sym c.in-Some.ensures.taken)
+      rw now (told-still _ _ c.self.invariant.4 c.args.who c.in-Some.stored _ there (led-proceeded _ _ _ c.in-Some.stored)),
+      ringed-still _ _ _ c.args.who c.in-Some.stored _ c.self.invariant.5 (sym c.in-Some.ensures.taken) (led-proceeded _ _ _ c.in-Some.stored)
           (relaid _ _ _ c.args.who _ c.take_value.ensures.left laid),
     )
 
