@@ -189,9 +189,9 @@ module _ (m : Contents) (root y : Path) (named : (k : ℕ) (s : Path) → IsSome
           let none = harmless found.0 in
           absurd (cc)
 
--- whoever leads in is among these
-abbrev pub AreLeft : Contents → Path → Path → List Who → Type 0
-AreLeft m root y whos = (x : Path) → leads_in_from (world m) root y x ≡ true → (from : Who) × (place_of m from ≡ x) × IsIn from whos
+-- what leads in, at a path
+abbrev pub LeadsIn : Contents → Path → Path → Path → Type 0
+LeadsIn m root y x = leads_in_from (world m) root y x ≡ true
 
 pub leads_pointed : (w : World) (root y x : Path) → leads_in_from w root y x ≡ true → pointers_to y (w.body x) ≢ 0
 leads_pointed w root y x leads none =
@@ -207,31 +207,16 @@ leads_live m root y from leads = by ((world m).body (place_of m from)) refl
     by None e = let off = leads_nowhere root (place_of m from) y (world m) e in absurd (cc)
     by (Some b) e = refl
 
--- one of them from which nothing leads in is passed
-pub left_more : (m : Contents) (root y : Path) (from : Who) (whos more : List Who) → whos ≡ from ∷ more →
-    leads_in_from (world m) root y (place_of m from) ≡ false → AreLeft m root y whos → AreLeft m root y more
-left_more m root y from whos more is off left x leads =
-    let found = left x leads in by found.0 found.1 (subst (IsIn found.0) is found.2)
-  where
-    by : (q : Who) → place_of m q ≡ x → (from ≡ q) ⊎ IsIn q more → (q : Who) × (place_of m q ≡ x) × IsIn q more
-    by q here (inl same) =
-        let there : place_of m from ≡ x = ap (place_of m) same ∙ here in
-        let none = sym (ap (leads_in_from (world m) root y) there) ∙ off in absurd (cc)
-    by q here (inr comes) = (q, here, comes)
+pub not_both : (b : Bool) → b ≡ false → b ≡ true → ⊥
+not_both b off on = absurd (cc)
 
-pub fewer_left : (from : Who) (whos more : List Who) → whos ≡ from ∷ more → length more < length whos
-fewer_left from whos more is = let long : length whos ≡ length (from ∷ more) = ap length is in omega (arith, long)
-
--- where none is left, nothing outside leads to an object
-pub led_by_left : (m : Contents) (root y : Path) (whos : List Who) → whos ≡ [] → AreLeft m root y whos → false ≡ is_led_to (world m) root y
-led_by_left m root y whos none left = by (is_led_to (world m) root y) refl
+-- where nothing leads in, nothing outside leads to an object
+pub led_by_nothing : (w : World) (root y : Path) → ((x : Path) → leads_in_from w root y x ≡ true → ⊥) → false ≡ is_led_to w root y
+led_by_nothing w root y none = by (is_led_to w root y) refl
   where
-    by : (b : Bool) → is_led_to (world m) root y ≡ b → false ≡ b
+    by : (b : Bool) → is_led_to w root y ≡ b → false ≡ b
     by false e = refl
-    by true e =
-        let found = of_any (leads_in_from (world m) root y) ([] ∷ objects (world m)) e in
-        let comes = left found.0 found.2 in
-        absurd (subst (IsIn comes.0) none comes.2)
+    by true e = let found = of_any (leads_in_from w root y) ([] ∷ objects w) e in absurd (none found.0 found.2)
 
 -- ---- pointers seen from a subtree
 

@@ -41,7 +41,7 @@ unfrozen_in w me e ps h i = by (is_frozen_for w me e) refl
 -- ---- who is at the end of a talk
 
 -- a thread whose call ends is the one that the pointer leads to
-ended_led : (w : World) (side : Turn) (p : Ptr) (e : Path) → IsIn e (talking_end w side p) → p ≡ At e
+pub ended_led : (w : World) (side : Turn) (p : Ptr) (e : Path) → IsIn e (talking_end w side p) → p ≡ At e
 ended_led w side (At y) e h = by (and_then thread_of (w.body y)) h
   where
     here : (b : Bool) → IsIn e (cond b (y ∷ []) []) → At y ≡ At e
@@ -64,7 +64,7 @@ ended_server w Service e h = absurd h
 ended_server w Parked e h = absurd h
 
 -- by the client's side, it serves the talk
-by_client : (w : World) (c e : Path) → IsIn e (ends_on w c turns.Client) → (talk : Talk) × (talk_at w c ≡ Some talk) × (talk.peer ≡ Server (At e))
+pub by_client : (w : World) (c e : Path) → IsIn e (ends_on w c turns.Client) → (talk : Talk) × (talk_at w c ≡ Some talk) × (talk.peer ≡ Server (At e))
 unfolding line
 by_client w c e h = by (talk_at w c) refl h
   where

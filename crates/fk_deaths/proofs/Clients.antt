@@ -25,7 +25,7 @@ use Rattle.fk_store.specs.World.{world, IsLive}
 use Rattle.fk_store.specs.Names.{who_cmp}
 use Rattle.fk_store.specs.Orders.{IsFirstAfter}
 use Rattle.fk_store.proofs.Enumerated.{first_after-map}
-use Rattle.fk_deaths.specs.Ends.{ended_where, ends_at, ends_led, is_in_list}
+use Rattle.fk_deaths.specs.Ends.{ended_where, ends_at, ends_led, is_in_list, HaveEnded}
 use Rattle.fk_deaths.proofs.Endings.{ended, ended_alike, ends_both, ends_nobody, thread_with}
 use Rattle.fk_deaths.proofs.Scans.{ArePassed, passed_first, passed_more, passed_all}
 
@@ -97,7 +97,7 @@ talk_ended (Some (Reference to)) = refl
 
 -- where the calls of some threads have ended before, and then those of the ends of the talk of a client at a port
 module _ (w v : World) (test : Path → Bool) (is : v ≡ ended_where test w) (port x : Path) where
-  talk_same : talk_at v x ≡ talk_at w x
+  pub talk_same : talk_at v x ≡ talk_at w x
   talk_same = rw is (by (test x))
     where
       by : (b : Bool) → talk_in (cond b (ended (w.body x)) (w.body x)) ≡ talk_in (w.body x)
@@ -165,50 +165,54 @@ some_body w c h = by (w.body c) h
     by None h = h
     by (Some b) h = refl
 
+-- ---- the calls that have ended so far
+
+pub none_ended : (w : World) (port : Path) → HaveEnded w w port
+none_ended w port = record { test = λ q. false; made = refl; within = λ q h. absurd (cc) }
+
+pub more_ended : (w v u : World) (port c : Path) → HaveEnded w v port →
+    ((test : Path → Bool) (w : World) → v ≡ ended_where test w → u ≡ ended_where (λ q. test q || is_in_list q (ends_at w port c)) w) → HaveEnded w u port
+more_ended w v u port c so_far ends = record {
+  test = λ q. so_far.test q || is_in_list q (ends_at w port c);
+  made = ends so_far.test w so_far.made;
+  within = λ q h. by q (so_far.test q) refl h;
+}
+  where
+    by : (q : Path) (b : Bool) → so_far.test q ≡ b → (b || is_in_list q (ends_at w port c)) ≡ true → (c : Path) × (is_in_list q (ends_at w port c) ≡ true)
+    by q true e h = so_far.within q e
+    by q false e h = (c, h)
+
 -- ---- the clients that are passed
 
 -- the calls that have ended so far are those of all clients that are passed, and of no others than clients
 pub record AreEnding (w v : World) (port : Path) (Lives : Who → Type 0) (p : ℕ → Path) (at : Option Who) : Type 0 where
-  pub test : Path → Bool
-  pub made : v ≡ ended_where test w
-  pub within : (q : Path) → test q ≡ true → (c : Path) × (is_in_list q (ends_at w port c) ≡ true)
-  pub passed : ArePassed Lives (λ other. (q : Path) → is_in_list q (ends_at w port (place p other)) ≡ true → test q ≡ true) at
+  pub ended : HaveEnded w v port
+  pub passed : ArePassed Lives (λ other. (q : Path) → is_in_list q (ends_at w port (place p other)) ≡ true → ended.test q ≡ true) at
 
-pub ending_first : (w : World) (port : Path) (Lives : Who → Type 0) (p : ℕ → Path) (at : Option Who) →
-    IsFirstAfter who_cmp Lives None at → AreEnding w w port Lives p at
-ending_first w port Lives p at first = record {
-  test = λ q. false;
-  made = refl;
-  within = λ q h. absurd (cc);
-  passed = passed_first Lives _ at first;
-}
+pub ending_first : (w v : World) (port : Path) (Lives : Who → Type 0) (p : ℕ → Path) (at : Option Who) → HaveEnded w v port →
+    IsFirstAfter who_cmp Lives None at → AreEnding w v port Lives p at
+ending_first w v port Lives p at ended first = record { ended = ended; passed = passed_first Lives _ at first }
 
 module _ (w v u : World) (port : Path) (Lives Still : Who → Type 0) (p : ℕ → Path) (who : Who) (next : Option Who) where
   pub ending_more : AreEnding w v port Lives p (Some who) → ((other : Who) → Still other → Lives other) →
       ((test : Path → Bool) (w : World) → v ≡ ended_where test w → u ≡ ended_where (λ q. test q || is_in_list q (ends_at w port (place p who))) w) →
       IsFirstAfter who_cmp Still (Some who) next → AreEnding w u port Still p next
+  unfolding more_ended
   ending_more so_far lives ends first = record {
-    test = test;
-    made = ends so_far.test w so_far.made;
-    within = λ q h. by q (so_far.test q) refl h;
-    passed = passed_more Lives Still (λ other. (q : Path) → is_in_list q (ends_at w port (place p other)) ≡ true → so_far.test q ≡ true)
+    ended = more_ended w v u port (place p who) so_far.ended ends;
+    passed = passed_more Lives Still (λ other. (q : Path) → is_in_list q (ends_at w port (place p other)) ≡ true → so_far.ended.test q ≡ true)
         (λ other. (q : Path) → is_in_list q (ends_at w port (place p other)) ≡ true → test q ≡ true) who next so_far.passed lives
-        (λ other fact q h. rw (fact q h) refl) (λ q h. here q (so_far.test q) h) first;
+        (λ other fact q h. rw (fact q h) refl) (λ q h. here q (so_far.ended.test q) h) first;
   }
     where
       test : Path → Bool
-      test q = so_far.test q || is_in_list q (ends_at w port (place p who))
+      test q = so_far.ended.test q || is_in_list q (ends_at w port (place p who))
 
       here : (q : Path) (b : Bool) → is_in_list q (ends_at w port (place p who)) ≡ true → (b || is_in_list q (ends_at w port (place p who))) ≡ true
       here q true h = refl
       here q false h = h
 
-      by : (q : Path) (b : Bool) → so_far.test q ≡ b →
-          (b || is_in_list q (ends_at w port (place p who))) ≡ true → (c : Path) × (is_in_list q (ends_at w port c) ≡ true)
-      by q true e h = so_far.within q e
-      by q false e h = (place p who, h)
-
-at_port : (w : World) (port c : Path) (b : Bool) → has_talk_at w port c ≡ b → (q : Path) →
+pub at_port : (w : World) (port c : Path) (b : Bool) → has_talk_at w port c ≡ b → (q : Path) →
     is_in_list q (cond b (ends_of_client w c) []) ≡ true → (has_talk_at w port c ≡ true) × (is_in_list q (ends_of_client w c) ≡ true)
 at_port w port c true e q h = (e, h)
 at_port w port c false e q h = absurd (cc)
@@ -223,39 +227,53 @@ pub first_same : (m n : Contents) → kind_there (world n) ≡ kind_there (world
 first_same m n kinds paths k next first =
     first_after-map who_cmp (IsLive n) (IsLive m) (live_same m n kinds paths) (live_same n m (sym kinds) (sym paths)) k next first
 
+-- where all that end with the port have ended
+pub ended_whole : (w v : World) (port : Path) → IsValid w → w.next ≤ depth → (done : HaveEnded w v port) →
+    ((c q : Path) → is_in_list q (ends_at w port c) ≡ true → done.test q ≡ true) →
+    v ≡ ended_where (λ q. is_in_list q (flat_map (ends_of_client w) (clients_at w port))) w
+unfolding clients_at
+ended_whole w v port valid few done all = done.made ∙ ended_alike done.test _ w (λ q. both_true _ _ (into q) (out q))
+  where
+    found : (c : Path) → has_talk_at w port c ≡ true → IsIn c (objects w)
+    found [] h = absurd (no_root w port valid.rooted.root h)
+    found (k ∷ s) h = in_objects w valid.consistent valid.rooted few k s (some_body w (k ∷ s) (talker_live w port (k ∷ s) h))
+
+    into : (q : Path) → done.test q ≡ true → is_in_list q (flat_map (ends_of_client w) (clients_at w port)) ≡ true
+    into q h =
+        let client = done.within q h in
+        let c = client.0 in
+        let ends = at_port w port c _ refl q client.1 in
+        in_listed q _ (in_flat_map (ends_of_client w) c q (clients_at w port) (in_filter (has_talk_at w port) c (objects w) (found c ends.0) ends.0)
+        (listed_in q _ ends.1))
+
+    there : (c q : Path) → has_talk_at w port c ≡ true → is_in_list q (ends_of_client w c) ≡ true → is_in_list q (ends_at w port c) ≡ true
+    there c q on h = rw on h
+
+    out : (q : Path) → is_in_list q (flat_map (ends_of_client w) (clients_at w port)) ≡ true → done.test q ≡ true
+    out q h =
+        let found = of_flat_map (ends_of_client w) q (clients_at w port) (listed_in q _ h) in
+        let client = of_filter (has_talk_at w port) found.0 (objects w) found.1 in
+        all found.0 q (there found.0 q client.1 (in_listed q _ found.2))
+
 -- at the end they are those of all clients
 pub ending_all : (m : Contents) (v : World) (port : Path) → IsValid (world m) → (world m).next ≤ depth →
     ((k : ℕ) (s : Path) → IsSome (kind_there (world m) (k ∷ s)) → (other : Who) × (place (path m) other ≡ k ∷ s)) →
     AreEnding (world m) v port (IsLive m) (path m) None →
     v ≡ ended_where (λ q. is_in_list q (flat_map (ends_of_client (world m)) (clients_at (world m) port))) (world m)
-unfolding clients_at
-ending_all m v port valid few named all = all.made ∙ ended_alike all.test _ (world m) (λ q. both_true _ _ (into q) (out q))
+ending_all m v port valid few named all = ended_whole (world m) v port valid few all.ended passed
   where
-    found : (c : Path) → has_talk_at (world m) port c ≡ true → IsIn c (objects (world m))
-    found [] h = absurd (no_root (world m) port valid.rooted.root h)
-    found (k ∷ s) h = in_objects (world m) valid.consistent valid.rooted few k s (some_body (world m) (k ∷ s) (talker_live (world m) port (k ∷ s) h))
-
-    into : (q : Path) → all.test q ≡ true → is_in_list q (flat_map (ends_of_client (world m)) (clients_at (world m) port)) ≡ true
-    into q h =
-        let client = all.within q h in
-        let c = client.0 in
-        let ends = at_port (world m) port c _ refl q client.1 in
-        in_listed q _ (in_flat_map (ends_of_client (world m)) c q (clients_at (world m) port) (in_filter (has_talk_at (world m) port) c (objects (world m)) (found c ends.0) ends.0)
-        (listed_in q _ ends.1))
-
-    there : (c q : Path) → has_talk_at (world m) port c ≡ true → is_in_list q (ends_of_client (world m) c) ≡ true → is_in_list q (ends_at (world m) port c) ≡ true
-    there c q on h = rw on h
-
-    passed : (c q : Path) → has_talk_at (world m) port c ≡ true → is_in_list q (ends_of_client (world m) c) ≡ true → all.test q ≡ true
-    passed [] q on h = absurd (no_root (world m) port valid.rooted.root on)
-    passed (k ∷ s) q on h =
-        let live = talker_live (world m) port (k ∷ s) on in
+    passed : (c q : Path) → is_in_list q (ends_at (world m) port c) ≡ true → all.ended.test q ≡ true
+    passed [] q h = absurd (no_root (world m) port valid.rooted.root (at_port (world m) port [] _ refl q h).0)
+    passed (k ∷ s) q h =
+        let live = talker_live (world m) port (k ∷ s) (at_port (world m) port (k ∷ s) _ refl q h).0 in
         let other = named k s live in
         passed_all (IsLive m) _ all.passed other.0 (subst (λ x. IsSome (kind_there (world m) x)) (sym other.1) live) q
-        (subst (λ x. is_in_list q (ends_at (world m) port x) ≡ true) (sym other.1) (there (k ∷ s) q on h))
+        (subst (λ x. is_in_list q (ends_at (world m) port x) ≡ true) (sym other.1) h)
 
-    out : (q : Path) → is_in_list q (flat_map (ends_of_client (world m)) (clients_at (world m) port)) ≡ true → all.test q ≡ true
-    out q h =
-        let found = of_flat_map (ends_of_client (world m)) q (clients_at (world m) port) (listed_in q _ h) in
-        let client = of_filter (has_talk_at (world m) port) found.0 (objects (world m)) found.1 in
-        passed found.0 q client.1 (in_listed q _ found.2)
+-- every object but the root has a name still
+pub named_same : (m n : Contents) → kind_there (world n) ≡ kind_there (world m) → path n ≡ path m →
+    ((k : ℕ) (s : Path) → IsSome (kind_there (world n) (k ∷ s)) → (other : Who) × (place (path n) other ≡ k ∷ s)) →
+    (k : ℕ) (s : Path) → IsSome (kind_there (world m) (k ∷ s)) → (other : Who) × (place (path m) other ≡ k ∷ s)
+named_same m n kinds paths named k s live =
+    let found = named k s (subst (λ (kind : Path → Option Kind). IsSome (kind (k ∷ s))) (sym kinds) live) in
+    (found.0, subst (λ p. place p found.0 ≡ k ∷ s) paths found.1)

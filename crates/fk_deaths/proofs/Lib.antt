@@ -5,3 +5,4 @@ pub mod Clients
 pub mod Sweeps
 pub mod Allowed
 pub mod Unheld
+pub mod Lefts

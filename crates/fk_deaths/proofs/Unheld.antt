@@ -1,5 +1,5 @@
 -- Unheld: where nothing is held, the freezing rule lets everything be swept and follow; where no pointer leads to a port, it has no clients.
-use Rattle.std.proofs.Common.{◌≡◌, ℕ, ◌+◌, Bool, true, false, cond, not, ◌||◌, List, [], ◌∷◌, ◌++◌, Option, Some, None, filter, refl, sym, ap, subst, ◌∙◌, arith}
+use Rattle.std.proofs.Common.{◌≡◌, ℕ, ◌+◌, Bool, true, false, cond, not, ◌||◌, List, [], ◌∷◌, ◌++◌, Option, Some, None, refl, sym, ap, ◌∙◌, arith}
 use Rattle.std.proofs.lemmas.List.Sums.{sum_by-cons}
 use Rattle.std.specs.List.{list_any, sum_by}
 use Rattle.fk_model.specs.Freezing.{is_swept, lost_with, may_be_swept, may_follow}
@@ -8,7 +8,7 @@ use Rattle.fk_model.specs.Objects.{Talk, Thread, Body, thread_of, and_then, or_e
 use Rattle.fk_model.specs.Objects.Body.{Mutex, Cond, Mapping, Region, Port, Portset, Space, Thread_of, Reference}
 use Rattle.fk_model.specs.Places.{Path, Ptr, leads_to}
 use Rattle.fk_model.specs.Places.Ptr.{Null, Dead, At, Out, Outside, Far}
-use Rattle.fk_model.specs.Searches.{talk_at, clients_at, objects, pointers_to, peer_pointer, talk_pointers, fault_pointers, option_list}
+use Rattle.fk_model.specs.Searches.{pointers_to, peer_pointer, talk_pointers, fault_pointers, option_list}
 use Rattle.fk_model.specs.World.{World}
 
 pub list_none : {A : Type 0} (p : A → Bool) → ((a : A) → p a ≡ false) → (xs : List A) → list_any p xs ≡ false
@@ -43,16 +43,12 @@ module _ (w : World) (none : (x : Path) → decider w x ≡ None) where
   pub unheld-follows : (me renamed q : Path) → may_follow w me renamed q ≡ true
   unheld-follows me renamed q = rw (frozen-none me q) (either (not (is_swept renamed q (w.body q))))
 
--- ---- no clients
-
-filter_none : {A : Type 0} (p : A → Bool) → ((a : A) → p a ≡ false) → (xs : List A) → filter p xs ≡ []
-filter_none p none [] = refl
-filter_none p none (x ∷ xs) = rw (none x) (filter_none p none xs)
+-- ---- no client
 
 abbrev has_talk : Path → Option Body → Bool
 has_talk x b = holds (λ (talk : Talk). leads_to x talk.port) (and_then (λ (t : Thread). t.talk) (and_then thread_of b))
 
-no_talk : (x : Path) (b : Option Body) → pointers_to x b ≡ 0 → has_talk x b ≡ false
+pub no_talk : (x : Path) (b : Option Body) → pointers_to x b ≡ 0 → has_talk x b ≡ false
 no_talk x None h = refl
 no_talk x (Some (Mutex locked)) h = refl
 no_talk x (Some Cond) h = refl
@@ -73,7 +69,3 @@ no_talk x (Some (Thread_of t)) h = go t.talk h
     go None e = refl
     go (Some talk) e = none_here _ (leads_to x talk.port)
         (sym (sum_by-cons (λ p. cond {A = ℕ} (leads_to x p) 1 0) talk.port (peer_pointer talk.peer ++ option_list fault_pointers t.fault)) ∙ e)
-
-pub no-clients : (w : World) (x : Path) → ((q : Path) → pointers_to x (w.body q) ≡ 0) → clients_at w x ≡ []
-unfolding clients_at
-no-clients w x none = filter_none (λ c. has_talk x (w.body c)) (λ c. no_talk x (w.body c) (none c)) (objects w)

@@ -1,5 +1,5 @@
 -- Ends: whose calls end with a talk.
-use Rattle.std.specs.Prelude.{ℕ, Bool, ◌||◌, ◌==◌, List, [], Option, Some, None, option_map, if◌then◌else◌}
+use Rattle.std.specs.Prelude.{◌≡◌, ℕ, Bool, true, ◌||◌, ◌==◌, List, [], Option, Some, None, option_map, if◌then◌else◌}
 use Rattle.std.specs.List.{list_any}
 use Rattle.fk_model.specs.declared.statuses.status.TheConstants.{ENDED}
 use Rattle.fk_model.specs.declared.thread.Turn.{Turn}
@@ -37,3 +37,9 @@ ends_led w side (Some x) = talking_end w side (At x)
 -- whose calls end with a port, of those at the ends of the talk of one client
 abbrev pub ends_at : World → Path → Path → List Path
 ends_at w port x = if holds (λ (talk : Talk). leads_to port talk.port) (talk_at w x) then ends_of_client w x else []
+
+-- the calls that have ended so far end with a port
+pub record HaveEnded (w v : World) (port : Path) : Type 0 where
+  pub test : Path → Bool
+  pub made : v ≡ ended_where test w
+  pub within : (q : Path) → test q ≡ true → (c : Path) × (is_in_list q (ends_at w port c) ≡ true)

@@ -18,11 +18,12 @@ ghost use Rattle.fk_deaths.specs.Ends.{ended_where, is_in_list, ends_led, ends_a
 ghost use Rattle.fk_deaths.specs.Told.{told_at};
 
 use crate::ends::end_each;
+use crate::rounds::end_found;
 use fk_model::{Body, Peer, Talk, Thread, Turn, Who};
 use fk_store::Store;
 
 /// The server of a talk, if it is a thread.
-fn server_of(talk: &Talk) -> Option<Who>
+pub fn server_of(talk: &Talk) -> Option<Who>
     ensures { (p : ℕ → Path) (w : World) → ends_led w turns.Server (option_map (place p) result) ≡ served_end w (talk_by p talk.now).peer }
 {
     match talk.peer {
@@ -32,7 +33,7 @@ fn server_of(talk: &Talk) -> Option<Who>
 }
 
 /// The talk of a thread as a client.
-fn talk_of(store: &Store, who: Who) -> Option<Talk>
+pub fn talk_of(store: &Store, who: Who) -> Option<Talk>
     ensures talk { option_map (talk_by (path store.now)) result ≡ talk_at (world store.now) (place (path store.now) who) }
     ensures named { Each (OnTalk (IsLive store.now)) result }
 {
@@ -68,7 +69,7 @@ fn end_with_thread(store: &mut Store, who: Who)
 }
 
 /// Ends the calls of both ends of the talk of a thread, if it is a client at a port.
-fn end_client(store: &mut Store, who: Who, port: Who)
+pub fn end_client(store: &mut Store, who: Who, port: Who)
     requires apart { HasOwnPath (path store.old) port }
     ensures ends { (test : Path → Bool) (w : World) → world store.old ≡ ended_where test w → world store.new
         ≡ ended_where (λ q. test q || is_in_list q (ends_at w (place (path store.old) port) (place (path store.old) who))) w }
@@ -84,7 +85,8 @@ fn end_client(store: &mut Store, who: Who, port: Who)
     }
 }
 
-/// Ends the calls that end with a port: those of both ends of each talk at it.
+/// Ends the calls that end with a port: those of both ends of each talk at it. It looks at those of
+/// which a pointer leads there, and at all objects where very many calls end.
 fn end_with_port(store: &mut Store, port: Who)
     requires apart { HasOwnPath (path store.old) port }
     requires valid { IsValid (world store.old) }
@@ -93,10 +95,10 @@ fn end_with_port(store: &mut Store, port: Who)
     ensures kinds { kind_there (world store.new) ≡ kind_there (world store.old) }
     ensures paths { path store.new ≡ path store.old }
 {
-    if !store.is_led_to(port) {
+    let _below_2_32 = store.next_birth();
+    if end_found(store, port) {
         return;
     }
-    let _below_2_32 = store.next_birth();
     let mut at = store.after(None);
     while let Some(who) = at {
         end_client(store, who, port);

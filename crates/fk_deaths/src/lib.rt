@@ -10,6 +10,7 @@
 mod deaths;
 mod ends;
 mod frozen;
+mod rounds;
 mod swept;
 
 pub use deaths::{destroy, told_port};

@@ -1,6 +1,8 @@
 use Rattle.std.proofs.Common.{refl, sym, ◌∙◌}
+use Rattle.fk_store.specs.Paths.{path}
 use Rattle.fk_store.specs.World.{world, place_of}
-use Rattle.fk_closed.proofs.Leads.{led_from, leads_pointed, leads_live, left_more, fewer_left, led_by_left}
+use Rattle.fk_deaths.proofs.Lefts.{left_more, nobody_left, fewer_left}
+use Rattle.fk_closed.proofs.Leads.{LeadsIn, led_from, leads_pointed, leads_live, led_by_nothing, not_both}
 use Rattle.fk_closed.proofs.led.is_led_to.Goals as goal
 
 pub loop-from-init : goal.loop-from-init
@@ -23,8 +25,8 @@ pub loop-from-preserved : goal.loop-from-preserved
 loop-from-preserved c =
     let m = c.args.store.now in
     record {
-      left = λ all. left_more m (place_of m c.args.root) (place_of m c.args.target) c.in-Some.from _ _ c.in-Some.ensures.some
-          (sym c.leads_in_from.ensures ∙ c.if-leads_in_from.false) (c.loop-from.invariant.left (sym c.next.ensures.all ∙ all));
+      left = λ all. left_more (path m) (LeadsIn m (place_of m c.args.root) (place_of m c.args.target)) c.in-Some.from _ _ c.in-Some.ensures.some
+          (not_both _ (sym c.leads_in_from.ensures ∙ c.if-leads_in_from.false)) (c.loop-from.invariant.left (sym c.next.ensures.all ∙ all));
     }
 
 pub loop-from-smaller : goal.loop-from-smaller
@@ -39,5 +41,6 @@ returns-then-not-are_all c = c.is_led_to_by_any.ensures
 pub returns-else-not-are_all : goal.returns-else-not-are_all
 returns-else-not-are_all c =
     let m = c.args.store.now in
-    rw c.if-not-are_all.false (led_by_left m (place_of m c.args.root) (place_of m c.args.target) _ (c.in_default.ensures.none refl).0
-    (c.loop-from.invariant.left (sym c.next.ensures.all ∙ sym c.are_all.ensures ∙ c.if-not-are_all.false)))
+    rw c.if-not-are_all.false (led_by_nothing (world m) (place_of m c.args.root) (place_of m c.args.target)
+    (nobody_left (path m) (LeadsIn m (place_of m c.args.root) (place_of m c.args.target)) _ (c.in_default.ensures.none refl).0
+    (c.loop-from.invariant.left (sym c.next.ensures.all ∙ sym c.are_all.ensures ∙ c.if-not-are_all.false))))

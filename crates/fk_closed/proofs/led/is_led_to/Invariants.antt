@@ -1,12 +1,14 @@
 use Rattle.std.proofs.Common.{◌≡◌, true, length}
+use Rattle.fk_store.specs.Paths.{path}
 use Rattle.fk_store.specs.World.{place_of}
-use Rattle.fk_closed.proofs.Leads.{AreLeft}
+use Rattle.fk_deaths.proofs.Lefts.{AreLeft}
+use Rattle.fk_closed.proofs.Leads.{LeadsIn}
 use Rattle.fk_closed.proofs.led.is_led_to.Given as goal
 
 -- whoever leads in is yet to come
 abbrev pub invariant-loop-from : goal.invariant-loop-from
 invariant-loop-from l = record {
-  left : l.leaders.1 ≡ true → AreLeft l.store (place_of l.store l.root) (place_of l.store l.target) l.leaders.0;
+  left : l.leaders.1 ≡ true → AreLeft (path l.store) (LeadsIn l.store (place_of l.store l.root) (place_of l.store l.target)) l.leaders.0;
 }
 
 abbrev pub decreases-loop-from : goal.decreases-loop-from

@@ -1,23 +1,22 @@
-use Rattle.std.proofs.Common.{◌≤◌, Some, refl, subst, ◌∙◌, arith}
+use Rattle.std.proofs.Common.{◌≤◌, None, Some, subst, ◌∙◌, arith}
 use Rattle.fk_model.specs.Searches.{depth}
 use Rattle.fk_store.specs.Paths.{path, place}
 use Rattle.fk_store.specs.World.{world, IsLive}
-use Rattle.fk_deaths.proofs.Clients.{AreEnding, ending_first, ending_more, ending_all, first_same}
-use Rattle.fk_deaths.proofs.Unheld.{no-clients}
+use Rattle.fk_deaths.proofs.Clients.{AreEnding, ending_first, ending_more, ending_all, first_same, named_same}
 use Rattle.fk_deaths.proofs.deaths.end_with_port.Goals as goal
 
-pub returns-then-not-is_led_to-clause-ends : goal.returns-then-not-is_led_to-clause-ends
-returns-then-not-is_led_to-clause-ends c =
-    let m = c.args.store.now in
-    rw (no-clients (world m) (place (path m) c.args.port) (c.is_led_to.ensures c.if-not-is_led_to.true)) refl
+pub returns-then-end_found-clause-ends : goal.returns-then-end_found-clause-ends
+returns-then-end_found-clause-ends c = c.end_found.ensures.all c.if-end_found.true
 
 pub loop-at-init : goal.loop-at-init
 loop-at-init c =
     let m = c.args.store.now in
+    let found = c.end_found.ensures in
     record {
-      ending = ending_first (world m) (place (path m) c.args.port) (IsLive m) (path m) c.after-at.result c.after-at.ensures.first;
-      kinds = refl;
-      paths = refl;
+      ending = ending_first (world m) (world c.end_found.new.store) (place (path m) c.args.port) (IsLive m) (path m) c.after-at.result found.ended
+          (first_same m c.end_found.new.store found.kinds found.paths None c.after-at.result c.after-at.ensures.first);
+      kinds = found.kinds;
+      paths = found.paths;
     }
 
 pub loop-at-preserved : goal.loop-at-preserved
@@ -39,5 +38,6 @@ pub returns-clause-ends : goal.returns-clause-ends
 returns-clause-ends c =
     let m = c.args.store.now in
     let few : (world m).next ≤ depth = omega (arith, c.next_birth-below_2_32.ensures) in
-    ending_all m (world c.loop-at.store) (place (path m) c.args.port) c.requires.valid few c.after-at.ensures.named
+    ending_all m (world c.loop-at.store) (place (path m) c.args.port) c.requires.valid few
+    (named_same m c.end_found.new.store c.end_found.ensures.kinds c.end_found.ensures.paths c.after-at.ensures.named)
     (subst (AreEnding (world m) (world c.loop-at.store) (place (path m) c.args.port) (IsLive m) (path m)) c.in_default.is c.loop-at.invariant.ending)
