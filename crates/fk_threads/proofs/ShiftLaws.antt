@@ -151,10 +151,6 @@ pub shift_nobody : (w : World) (x : Path) (k : ℕ) → thread_at w x ≡ None �
 unfolding edited
 shift_nobody w x k none = alter-nobody w x (Shift k) _ (λ b. refl) none
 
-pub count_nobody : (w : World) (x : Path) (k : ℕ) → thread_at w x ≡ None → w ≡ apply (Alter x (CountMoved k)) w
-unfolding edited
-count_nobody w x k none = alter-nobody w x (CountMoved k) _ (λ b. refl) none
-
 pub receives_thread : (side : Turn) (p : ℕ → Path) (t : threads_of.Thread) →
     length t.regs ≡ 16 → t.mode ≡ modes.Calling → receiving side (thread_by p t).mode ≡ receive_in side t.regs
 receives_thread side p t long is = rw is (receives side t.regs long)
@@ -175,14 +171,3 @@ receives_none side p t long is other = sym (receives_thread side p t long is ∙
         cond {A = Option (ℕ × ℕ)} b (Some (slice_index t.regs 4, slice_index t.regs 5)) None ≡ None
     by true e = absurd (other (eqb-true _ _ e))
     by false e = refl
-
--- ---- the count of a talk
-
-pub count_some : (p : ℕ → Path) (t : threads_of.Thread) (talk : talks_of.Talk) (k : ℕ) → t.talk ≡ Some talk → edited (CountMoved k)
-    (Thread_of (thread_by p t)) ≡ Thread_of (thread_by p (record t { talk = Some (record talk { moved = min MOST_MOVED (talk.moved + k) }) }))
-unfolding edited
-count_some p t talk k is = rw is refl
-
-pub count_none : (p : ℕ → Path) (t : threads_of.Thread) (k : ℕ) → t.talk ≡ None → edited (CountMoved k) (Thread_of (thread_by p t)) ≡ Thread_of (thread_by p t)
-unfolding edited
-count_none p t k is = rw is refl

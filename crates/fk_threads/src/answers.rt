@@ -43,25 +43,24 @@ fn code_after(code: u64) -> Option<u64>
     }
 }
 
-/// Registers with answers, from the second register on.
-fn answered(registers: [u64; 16], answers: Answers) -> [u64; 16]
-    ensures { result ≡ with_answers (listed answers) registers }
+/// Answers come into registers, from the second one on.
+#[inline(always)]
+fn answer(registers: &mut [u64; 16], answers: Answers)
+    ensures { registers.new ≡ with_answers (listed answers) registers.old }
 {
-    let mut written = registers;
     match answers {
         Answers::Nothing => {}
-        Answers::One(a) => written[1] = a,
+        Answers::One(a) => registers[1] = a,
         Answers::Two(a, b) => {
-            written[1] = a;
-            written[2] = b;
+            registers[1] = a;
+            registers[2] = b;
         }
         Answers::Three(a, b, c) => {
-            written[1] = a;
-            written[2] = b;
-            written[3] = c;
+            registers[1] = a;
+            registers[2] = b;
+            registers[3] = c;
         }
     }
-    written
 }
 
 /// A calling thread that goes on at the stages with this code.
@@ -74,7 +73,7 @@ fn at_next(mut thread: Thread, code: u64, answers: Answers) -> Thread
     ensures fault { result.fault ≡ thread.fault }
     ensures stops { result.stops ≡ thread.stops }
 {
-    thread.regs = answered(thread.regs, answers);
+    answer(&mut thread.regs, answers);
     thread.regs[0] = code;
     thread
 }
@@ -88,7 +87,7 @@ fn ended_well(mut thread: Thread, answers: Answers) -> Thread
     ensures stops { result.stops ≡ thread.stops }
 {
     thread.regs[0] = u64::from(status::OK);
-    thread.regs = answered(thread.regs, answers);
+    answer(&mut thread.regs, answers);
     thread.pc = thread.pc.wrapping_add(1);
     thread.mode = Mode::Running;
     thread

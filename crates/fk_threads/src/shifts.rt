@@ -1,6 +1,5 @@
 //! What a moved block makes of the threads at its ends.
-ghost use Rattle.fk_model.specs.declared.limits.TheConstants.{MOST_MOVED};
-ghost use Rattle.std.specs.Prelude.{min, ◌≡◌, ◌<◌, ◌+◌, ◌-◌, ◌^◌, ℕ, slice_index};
+ghost use Rattle.std.specs.Prelude.{◌≡◌, ◌<◌, ◌+◌, ◌-◌, ◌^◌, ℕ, slice_index};
 ghost use Rattle.fk_model.specs.Objects.Body.{Thread_of};
 ghost use Rattle.fk_model.specs.Places.{Path};
 ghost use Rattle.fk_model.specs.Talks.{receiving};
@@ -11,14 +10,11 @@ ghost use Rattle.fk_model.specs.Valid.{kind_there};
 ghost use Rattle.fk_store.specs.Bodies.{mode_by, thread_by};
 ghost use Rattle.fk_store.specs.Paths.{path, place};
 ghost use Rattle.fk_store.specs.Threads.{todo_of_mode};
-ghost use Rattle.fk_store.specs.World.{world, IsLive};
-ghost use Rattle.fk_store.specs.Contents.{Contents};
-ghost use Rattle.fk_store.specs.Named.{OnNamed};
-ghost use Rattle.fk_model.specs.declared.body.Body.{Body as StoredBody};
+ghost use Rattle.fk_store.specs.World.{world};
 ghost use Rattle.fk_threads.specs.Shifted.{moving, address_in, address_of, shifted_registers, receive_code, IsLow};
 
 use crate::going::go_on;
-use fk_model::{Body, Mode, Talk, Thread, Turn, Who};
+use fk_model::{Mode, Thread, Turn, Who};
 use fk_store::Store;
 
 /// What is left, or nothing.
@@ -28,24 +24,23 @@ fn less(a: u64, b: u64) -> u64
     if a < b { 0 } else { a - b }
 }
 
-/// Registers whose call has moved so many words in its first stage.
-fn shifted(registers: [u64; 16], count: u64) -> [u64; 16]
-    requires { address_in (moving (slice_index registers 0)) registers + count < 2 ^ 64 }
-    ensures { result ≡ shifted_registers count registers }
+/// The first stage of the call in registers has moved so many words.
+#[inline(always)]
+fn shift(registers: &mut [u64; 16], count: u64)
+    requires { address_in (moving (slice_index registers.old 0)) registers.old + count < 2 ^ 64 }
+    ensures { registers.new ≡ shifted_registers count registers.old }
 {
-    let mut moved = registers;
     match registers[0] {
         34 | 37 | 51 | 53 => {
-            moved[2] = registers[2] + count;
-            moved[3] = less(registers[3], count);
+            registers[2] = registers[2] + count;
+            registers[3] = less(registers[3], count);
         }
         36 | 50 => {
-            moved[4] = registers[4] + count;
-            moved[5] = less(registers[5], count);
+            registers[4] = registers[4] + count;
+            registers[5] = less(registers[5], count);
         }
         _ => {}
     }
-    moved
 }
 
 /// A thread whose first stage has moved so many words.
@@ -58,7 +53,7 @@ fn advanced(mut thread: Thread, count: u64) -> Thread
     ensures stops { result.stops ≡ thread.stops }
 {
     if let Mode::Calling = thread.mode {
-        thread.regs = shifted(thread.regs, count);
+        shift(&mut thread.regs, count);
     }
     thread
 }
@@ -77,37 +72,14 @@ pub fn advance(store: &mut Store, who: Who, count: u64)
     }
 }
 
-/// So many words more, counted up to the most that are counted.
-fn more(moved: u16, count: u8) -> u16
-    ensures { result ≡ min MOST_MOVED (moved + count) }
-{
-    let sum = u32::from(moved) + u32::from(count);
-    if sum > 65535 { 65535 } else { sum as u16 }
-}
-
-/// A thread's talk has moved so many words more.
-fn counted(mut thread: Thread, count: u8) -> Thread
-    ensures edit { (p : ℕ → Path) → edited (CountMoved count) (Thread_of (thread_by p thread)) ≡ Thread_of (thread_by p result) }
-    ensures named { (m : Contents) → OnNamed (IsLive m) (StoredBody.Thread thread) → OnNamed (IsLive m) (StoredBody.Thread result) }
-{
-    if let Some(talk) = thread.talk {
-        let moved = more(talk.moved, count);
-        thread.talk = Some(Talk { moved, ..talk });
-    }
-    thread
-}
-
 /// The talk of a thread as a client has moved so many words more. What is in no talk stays as it
 /// is.
-#[tactic(auto, using(fk_store::proofs::ThreadLaws::kind_thread, crate::proofs::ShiftLaws::count_nobody))]
 pub fn count_moved(store: &mut Store, client: Who, count: u8)
     ensures world { world store.new ≡ apply (Alter (place (path store.old) client) (CountMoved count)) (world store.old) }
     ensures kinds { kind_there (world store.new) ≡ kind_there (world store.old) }
     ensures paths { path store.new ≡ path store.old }
 {
-    if let Some(&thread) = store.thread(client) {
-        store.set(client, Body::Thread(counted(thread, count)));
-    }
+    store.count_moved(client, count);
 }
 
 /// The code of the call that is a Receive alone, on this side of a talk.
