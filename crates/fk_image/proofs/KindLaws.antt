@@ -1,12 +1,13 @@
 -- The table of kinds, as objects come.
-use Rattle.std.proofs.Common.{◌≡◌, ◌≢◌, ℕ, ◌+◌, ◌-◌, ◌<◌, ◌≤◌, Bool, true, false, cond, ◌==◌, List, [], ◌∷◌, ◌++◌, length, get_or, take, replicate, set, inl, inr, Option, Some, None, refl, sym, ap, ◌∙◌, arith}
+use Rattle.std.proofs.Common.{◌≡◌, ◌≢◌, ℕ, suc, ◌+◌, ◌<◌, ◌≤◌, ◌⊎◌, Bool, true, false, cond, ◌==◌, List, [], ◌∷◌, ◌++◌, length, get_or, drop, take, replicate, set, inl, inr, Option, Some, None, refl, sym, ap, ◌∙◌, arith, drop-cons}
 use Rattle.std.proofs.lemmas.Bool.{ne_eqb, cases_lt}
 use Rattle.std.proofs.lemmas.Bool.Decides.{nat_tests}
-use Rattle.std.proofs.lemmas.List.{take_all, get_or_past, get_or_default, get_or_append_left, get_or-append_right, get_or-replicate, length-replicate, get_or-set_same, get_or-set_other}
+use Rattle.std.proofs.lemmas.List.{take_all, length-set, get_or_past, get_or_default, get_or-replicate, length-replicate, get_or-set_same, get_or-set_other}
+use Rattle.std.proofs.Math.Seq.{drop-length}
 use Rattle.fk_model.specs.declared.names.Kind.{Kind}
 use Rattle.fk_image.specs.declared.image.ObjectRec.{ObjectRec}
 use Rattle.fk_image.specs.Objects.{rises, next_slot, kind_of_rec, kind_in}
-use Rattle.fk_image.specs.Kinds.{numbered, kind_at}
+use Rattle.fk_image.specs.Kinds.{numbered, kind_at, Tells}
 use Rattle.fk_image.proofs.Rising.{Up, up}
 
 pub kind_past : (numbers : List ℕ) (n : ℕ) → length numbers ≤ n → kind_at numbers n ≡ None
@@ -23,18 +24,18 @@ fill x k n = elim (cases_lt n k) [
   | inr ge ↦ get_or_past (replicate k x) n x (rw (length-replicate k x) ge)
 ]
 
-filled : (numbers : List ℕ) (k n : ℕ) → get_or (numbers ++ replicate k 0) n 0 ≡ get_or numbers n 0
-filled numbers k n = elim (cases_lt n (length numbers)) [
-  | inl low ↦ get_or_append_left numbers (replicate k 0) 0 n low
-  | inr past ↦ get_or-append_right numbers (replicate k 0) (length numbers) n 0 refl past ∙ fill 0 k (n - length numbers) ∙ sym (get_or_past numbers n 0 past)
-]
+all_zeros : (empty numbers : List ℕ) (k : ℕ) → empty ≡ [] → numbers ≡ take 256 empty ++ replicate k 0 → numbers ≡ replicate k 0
+all_zeros empty numbers k e is =
+    let none : length empty ≤ 256 = rw e (omega arith) in
+    is ∙ rw (take_all 256 empty none, e) refl
 
--- zeros at the end tell nothing
-pub kind_more : (more : Bool) (old new : List ℕ) (size k n : ℕ) → length old ≤ size →
-    new ≡ cond more (take size old ++ replicate k 0) old → kind_at new n ≡ kind_at old n
+-- zeros tell of no object
+pub zeros : (empty numbers : List ℕ) (k n : ℕ) → empty ≡ [] → numbers ≡ take 256 empty ++ replicate k 0 → kind_at numbers n ≡ None
 unfolding kind_at
-kind_more true old new size k n short e = rw (e, take_all size old short) (ap numbered (filled old k n))
-kind_more false old new size k n short e = rw e refl
+zeros empty numbers k n e is = rw (all_zeros empty numbers k e is) (ap numbered (fill 0 k n))
+
+pub zeros_long : (empty numbers : List ℕ) (k : ℕ) → empty ≡ [] → numbers ≡ take 256 empty ++ replicate k 0 → length numbers ≡ k
+zeros_long empty numbers k e is = rw (all_zeros empty numbers k e is) (length-replicate k 0)
 
 put : (numbers : List ℕ) (k number : ℕ) (n : ℕ) →
     k < length numbers → kind_at (set numbers k number) n ≡ cond (k == n) (numbered number) (kind_at numbers n)
@@ -76,10 +77,38 @@ joined (p ∷ os) o n none = by (λ e. joined os o n e) (p.slot == o.slot) refl 
     by rest false d false e c f h = rest h ∙ rw f refl
 
 pub kinds_more : (os : List ObjectRec) (o : ObjectRec) (numbers : List ℕ) (number : ℕ) → rises 0 os ≡ true → next_slot os ≤ o.slot →
-    ((n : ℕ) → kind_in os n ≡ kind_at numbers n) → o.slot < length numbers → numbered number ≡ Some (kind_of_rec o.body) →
-    (n : ℕ) → kind_in (os ++ o ∷ []) n ≡ kind_at (set numbers o.slot number) n
-kinds_more os o numbers number rise last same low is n =
-    joined os o n (absent 0 os o.slot (up 0 os rise) last)
-    ∙ ap (λ (kind : Option Kind). cond (o.slot == n) kind (kind_in os n)) (sym is)
-    ∙ ap (cond (o.slot == n) (numbered number)) (same n)
-    ∙ sym (put numbers o.slot number n low)
+    Tells numbers os → (length numbers ≡ 0) ⊎ (o.slot < length numbers) → numbered number ≡ Some (kind_of_rec o.body) →
+    Tells (set numbers o.slot number) (os ++ o ∷ [])
+kinds_more os o numbers number rise last told ready is some n = by ready
+  where
+    len : length (set numbers o.slot number) ≡ length numbers
+    len = length-set numbers o.slot number
+
+    by : (length numbers ≡ 0) ⊎ (o.slot < length numbers) → kind_in (os ++ o ∷ []) n ≡ kind_at (set numbers o.slot number) n
+    by (inl none) = absurd (omega (arith, len, none, some))
+    by (inr low) = let first : 0 < length numbers = omega (arith, low) in
+        joined os o n (absent 0 os o.slot (up 0 os rise) last)
+        ∙ ap (λ (kind : Option Kind). cond (o.slot == n) kind (kind_in os n)) (sym is)
+        ∙ ap (cond (o.slot == n) (numbered number)) (told first n)
+        ∙ sym (put numbers o.slot number n low)
+
+-- the table made from the last object on
+pub kinds_last : (os : List ObjectRec) (n : ℕ) → kind_in (drop (length os) os) n ≡ None
+unfolding kind_in
+kinds_last os n = ap (λ (xs : List ObjectRec). kind_in xs n) (drop-length os)
+
+pub kinds_before : (os : List ObjectRec) (at before : ℕ) (o : ObjectRec) (numbers : List ℕ) (number : ℕ) → at ≡ before + 1 → before < length os → o ≡ get_or os before o →
+    ((n : ℕ) → kind_at numbers n ≡ kind_in (drop at os) n) → o.slot < length numbers → numbered number ≡ Some (kind_of_rec o.body) →
+    (n : ℕ) → kind_at (set numbers o.slot number) n ≡ kind_in (drop before os) n
+unfolding kind_in
+kinds_before os at before o numbers number next lt is told low same n =
+    put numbers o.slot number n low
+    ∙ ap (λ (kind : Option Kind). cond (o.slot == n) kind (kind_at numbers n)) same
+    ∙ ap (cond (o.slot == n) (Some (kind_of_rec o.body))) (told n)
+    ∙ sym (ap (λ (xs : List ObjectRec). kind_in xs n) front)
+  where
+    one : suc before ≡ at
+    one = omega (arith, next)
+
+    front : drop before os ≡ o ∷ drop at os
+    front = drop-cons os before o lt ∙ ap (λ (x : ObjectRec). x ∷ drop (suc before) os) (sym is) ∙ ap (λ (k : ℕ). o ∷ drop k os) one

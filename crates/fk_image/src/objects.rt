@@ -4,13 +4,13 @@ ghost use Rattle.fk_image.specs.Objects as words;
 
 use crate::copy::copy_items;
 use crate::image::{ObjectRec, Rec};
-use crate::kinds::{kind_at, make_room, number_of_rec};
+use crate::kinds::{kind_among, kind_at, make_room, number_of_rec, put};
 use fk_model::{Kind, NoMemory};
 use std::alloc::Global;
 use std::marker::Model;
 
-/// The objects of a space, by rising slot. Contracts see them as a list. Their kinds stand in a table by
-/// slot besides: to where pointers lead is asked more often than all else.
+/// The objects of a space, by rising slot. Contracts see them as a list. Where they aren't few their kinds
+/// stand in a table by slot besides: to where pointers lead is asked more often than all else.
 #[derive(Drop)]
 pub struct Objects {
     items: Vec<ObjectRec>,
@@ -19,17 +19,15 @@ pub struct Objects {
 
 impl Model for Objects {
     ghost use Rattle.std.specs.Prelude as std_words;
-    ghost use Rattle.std.specs.Prelude.{◌≡◌, ℕ};
     ghost use Rattle.fk_image.specs.declared.image.ObjectRec as records;
-    ghost use Rattle.fk_image.specs.Objects.{rises, kind_in};
-    ghost use Rattle.fk_image.specs.Kinds.{kind_at};
+    ghost use Rattle.fk_image.specs.Objects.{rises};
+    ghost use Rattle.fk_image.specs.Kinds.{Tells};
 
     ghost Value = { std_words.List records.ObjectRec };
 
     ghost view = { λ s. s.items.items };
 
-    ghost invariant = { λ s. std_words.IsTrue (rises 0 s.items.items)
-        × ((slot : ℕ) → kind_in s.items.items slot ≡ kind_at s.kinds.items slot) };
+    ghost invariant = { λ s. std_words.IsTrue (rises 0 s.items.items) × Tells s.kinds.items s.items.items };
 }
 
 impl Objects {
@@ -74,9 +72,9 @@ impl Objects {
         ensures ok { OnOk result (self.new ≡ self.old ++ item ∷ []) }
         ensures err { OnErr result (self.new ≡ self.old) }
     {
-        make_room(&mut self.kinds, item.slot)?;
         self.items.reserve(1)?;
-        self.kinds[item.slot as usize] = number_of_rec(&item.body);
+        make_room(&mut self.kinds, self.items.as_slice(), item.slot)?;
+        put(&mut self.kinds, item.slot, number_of_rec(&item.body));
         self.items.push_reserved(item);
         Ok(())
     }
@@ -95,7 +93,11 @@ impl Objects {
     pub fn kind_in(&self, slot: u16) -> Option<Kind>
         ensures { result ≡ words.kind_in self.now slot }
     {
-        kind_at(&self.kinds, slot)
+        if self.kinds.is_empty() {
+            kind_among(self.items.as_slice(), slot)
+        } else {
+            kind_at(&self.kinds, slot)
+        }
     }
 }
 

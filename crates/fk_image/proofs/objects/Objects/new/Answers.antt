@@ -1,8 +1,5 @@
-use Rattle.std.proofs.Common.{refl}
-use Rattle.fk_image.specs.Objects.{kind_in}
-use Rattle.fk_image.specs.Kinds.{kind_at}
+use Rattle.std.proofs.Common.{refl, arith}
 use Rattle.fk_image.proofs.objects.Objects.new.Goals as goal
 
 pub invariant_of-result : goal.invariant_of-result
-unfolding kind_in kind_at
-invariant_of-result c = rw (c.new.ensures.items, c.new-2.ensures.items) (refl, λ slot. refl)
+invariant_of-result c = rw (c.new.ensures.items, c.new-2.ensures.items) (refl, λ some. absurd (omega (arith, some)))

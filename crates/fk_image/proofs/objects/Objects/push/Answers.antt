@@ -1,4 +1,4 @@
-use Rattle.std.proofs.Common.{◌≤◌, sym, ◌∙◌}
+use Rattle.std.proofs.Common.{◌≤◌}
 use Rattle.fk_image.specs.Objects.{next_slot}
 use Rattle.fk_image.proofs.Rising.{rises_more}
 use Rattle.fk_image.proofs.KindLaws.{kinds_more}
@@ -10,9 +10,8 @@ invariant_of-self-2 c =
     let o = c.args.item in
     let rise = c.self.invariant.0 in
     let last : next_slot os ≤ o.slot = rw c.self.view_is c.requires in
-    let same = c.in_ok-make_room.ensures.same in
-    rw (c.push_reserved.ensures.items, c.in_ok-reserve.ensures.items) (
+    let told = rw (c.as_slice.ensures.value, c.in_ok-reserve.ensures.items) at c.in_ok-make_room.ensures.tells in
+    rw (c.push_reserved.ensures.items, c.in_ok-reserve.ensures.items, c.put.ensures) (
       rises_more os o rise last,
-      kinds_more os o c.make_room.new.numbers.items c.number_of_rec.result rise last (λ n. c.self.invariant.1 n ∙ sym (same n)) c.in_ok-make_room.ensures.long
-          c.number_of_rec.ensures,
+      kinds_more os o c.make_room.new.numbers.items c.number_of_rec.result rise last told c.in_ok-make_room.ensures.ready c.number_of_rec.ensures,
     )
