@@ -21,7 +21,6 @@ use Rattle.fk_store.proofs.ThreadLaws.{alter-nobody}
 use Rattle.fk_stages.proofs.Codes.{is_among, OfEach, OfOthers, of_registers}
 use Rattle.fk_threads.specs.Firsts.{IsFirst}
 use Rattle.fk_threads.specs.Sleepers.{fallen}
-use Rattle.fk_threads.proofs.SleeperLaws.{body_of}
 
 waiters : List ℕ
 waiters = 24 ∷ []
@@ -84,9 +83,9 @@ fall_other p t c m other = by t.mode refl
 pub fall_there : (w : World) (x : Path) (p : ℕ → Path) (t : threads_of.Thread) (c m : ℕ) (b : Body) →
     Some (thread_by p t) ≡ thread_at w x → IsFirst (CondWait c m) (todo_at w x) →
     (IsFirst (CondWait c m) (todo_of_mode (mode_by t.mode t.regs)) → edited (Replace (CondAsleep c m)) (Thread_of (thread_by p t)) ≡ b) →
-    option_map (edited (Replace (CondAsleep c m))) (w.body x) ≡ Some b
+    edited (Replace (CondAsleep c m)) (Thread_of (thread_by p t)) ≡ b
 unfolding todo_at
-fall_there w x p t c m b there first edit = rw (body_of (w.body x) (thread_by p t) there) (ap Some (edit (rw (← there) at first)))
+fall_there w x p t c m b there first edit = edit (rw (← there) at first)
 
 pub fall_nobody : (w : World) (x : Path) (c m : ℕ) → thread_at w x ≡ None → w ≡ apply (Alter x (Replace (CondAsleep c m))) w
 unfolding edited

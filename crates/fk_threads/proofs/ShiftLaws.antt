@@ -1,11 +1,9 @@
 -- Shifts: a moved block in registers, and the Receive that they name.
-use Rattle.std.proofs.Common.{◌≡◌, ℕ, ◌+◌, ◌<◌, ◌^◌, min, Bool, true, false, cond, eqb, ◌||◌, List, [], ◌∷◌, length, Option, Some, None, unwrap_or, slice_index, refl, sym, ap, subst, ◌∙◌}
+use Rattle.std.proofs.Common.{◌≡◌, ℕ, ◌+◌, ◌<◌, ◌^◌, Bool, true, false, cond, eqb, ◌||◌, List, [], ◌∷◌, length, Option, Some, None, unwrap_or, slice_index, refl, sym, ap, subst, ◌∙◌}
 use Rattle.std.proofs.lemmas.Bool.{eqb-true}
 use Rattle.fk_model.specs.declared.stage.Stage.{Stage}
 use Rattle.fk_model.specs.declared.thread.Mode as modes_of
 use Rattle.fk_model.specs.declared.thread.Mode.TheVariants as modes
-use Rattle.fk_model.specs.declared.limits.TheConstants.{MOST_MOVED}
-use Rattle.fk_model.specs.declared.thread.Talk as talks_of
 use Rattle.fk_model.specs.declared.thread.Thread as threads_of
 use Rattle.fk_model.specs.declared.thread.Turn.{Turn}
 use Rattle.fk_model.specs.declared.thread.Turn.TheVariants as turns
@@ -16,7 +14,7 @@ use Rattle.fk_model.specs.Objects.Mode.{Calling}
 use Rattle.fk_model.specs.Talks.{receiving}
 use Rattle.fk_model.specs.World.{World, edited, apply, shifted_in}
 use Rattle.fk_model.specs.World.Change.{Alter}
-use Rattle.fk_model.specs.World.Edit.{Shift, CountMoved}
+use Rattle.fk_model.specs.World.Edit.{Shift}
 use Rattle.fk_model.proofs.calls.CallLaws.{registers}
 use Rattle.fk_stages.proofs.Codes.{is_among, OfEach, OfOthers, of_registers}
 use Rattle.fk_store.specs.Bodies.{calling_mode, mode_by, thread_by}

@@ -1,5 +1,5 @@
 -- Sleepers: what their registers say, and what waking them makes of these.
-use Rattle.std.proofs.Common.{◌≡◌, ℕ, ◌+◌, ◌<◌, zero, suc, is_some, ◌++◌, append-nil, add-one, arith, Bool, true, false, cond, eqb, ◌||◌, List, [], ◌∷◌, length, get_or, Option, Some, None, option_map, unwrap_or, slice_set, IfSome, refl, sym, ap, subst, ◌∙◌}
+use Rattle.std.proofs.Common.{◌≡◌, ℕ, ◌+◌, ◌<◌, zero, suc, is_some, ◌++◌, append-nil, add-one, arith, Bool, true, false, cond, eqb, ◌||◌, List, [], ◌∷◌, length, get_or, Option, Some, None, unwrap_or, slice_set, IfSome, refl, sym, ap, subst, ◌∙◌}
 use Rattle.fk_model.specs.declared.stage.Stage.{Stage}
 use Rattle.fk_model.specs.declared.stage.Stage.TheVariants.{CondAsleep, MutexLock}
 use Rattle.fk_model.specs.declared.thread.Mode as modes_of
@@ -7,9 +7,9 @@ use Rattle.fk_model.specs.declared.thread.Mode.TheVariants as modes
 use Rattle.fk_model.specs.declared.thread.Thread as threads_of
 use Rattle.fk_model.specs.Places.{Path}
 use Rattle.fk_model.specs.Calls.{calls, words, todo_of, rest_of, code_of}
-use Rattle.fk_model.specs.Objects.{Thread, Body, thread_of, and_then}
+use Rattle.fk_model.specs.Objects.{Body, and_then}
 use Rattle.fk_model.specs.Objects.Mode.{Calling}
-use Rattle.fk_model.specs.Objects.Body.{Mutex, Cond, Mapping, Region, Port, Portset, Space, Thread_of, Reference}
+use Rattle.fk_model.specs.Objects.Body.{Thread_of}
 use Rattle.fk_model.specs.World.{World, Change, edited, replaced_in, apply}
 use Rattle.fk_model.specs.World.Edit.{Replace}
 use Rattle.fk_model.specs.World.Change.{Alter}
@@ -209,25 +209,13 @@ wake_edit p t c m long at =
     let is = in_call t (CondAsleep c m) t.mode at in
     rw is.0 (ap (λ mode. Thread_of (record (thread_by p t) { mode = mode })) (wakes c m t.regs long is.1))
 
-pub body_of : (b : Option Body) (t : Thread) → Some t ≡ and_then thread_of b → b ≡ Some (Thread_of t)
-body_of None t is = absurd (cc)
-body_of (Some (Thread_of thread)) t is = cc
-body_of (Some (Mutex locked)) t is = absurd (cc)
-body_of (Some Cond) t is = absurd (cc)
-body_of (Some (Mapping window)) t is = absurd (cc)
-body_of (Some (Region extent)) t is = absurd (cc)
-body_of (Some (Port set served)) t is = absurd (cc)
-body_of (Some Portset) t is = absurd (cc)
-body_of (Some (Space birth holder)) t is = absurd (cc)
-body_of (Some (Reference to)) t is = absurd (cc)
-
 -- so it is at a path
 pub wake_there : (w : World) (x : Path) (p : ℕ → Path) (t : threads_of.Thread) (c m : ℕ) (b : Body) →
     Some (thread_by p t) ≡ thread_at w x → todo_at w x ≡ CondAsleep c m ∷ [] →
     (todo_of_mode (mode_by t.mode t.regs) ≡ CondAsleep c m ∷ [] → edited (Replace (MutexLock m)) (Thread_of (thread_by p t)) ≡ b) →
-    option_map (edited (Replace (MutexLock m))) (w.body x) ≡ Some b
+    edited (Replace (MutexLock m)) (Thread_of (thread_by p t)) ≡ b
 unfolding todo_at
-wake_there w x p t c m b there at edit = rw (body_of (w.body x) (thread_by p t) there) (ap Some (edit (rw (← there) at at)))
+wake_there w x p t c m b there at edit = edit (rw (← there) at at)
 
 pub wake_nobody : (w : World) (x : Path) (m : ℕ) → thread_at w x ≡ None → w ≡ apply (Alter x (Replace (MutexLock m))) w
 unfolding edited

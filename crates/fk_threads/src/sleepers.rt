@@ -17,7 +17,8 @@ ghost use Rattle.fk_store.specs.World.{world};
 ghost use Rattle.fk_threads.specs.Firsts.{IsFirst};
 ghost use Rattle.fk_threads.specs.Sleepers.{asleep_in, fallen, is_changed, IsAsleep};
 
-use fk_model::{Body, Mode, Thread, Who};
+use crate::going::go_on;
+use fk_model::{Mode, Thread, Who};
 use fk_store::Store;
 
 /// The mutex in the registers of a sleeper.
@@ -75,6 +76,7 @@ fn awake(mut thread: Thread, mutex: u64) -> Thread
         edited (Replace (MutexLock mutex)) (Thread_of (thread_by p thread)) ≡ Thread_of (thread_by p result) }
     ensures talk { result.talk ≡ thread.talk }
     ensures fault { result.fault ≡ thread.fault }
+    ensures stops { result.stops ≡ thread.stops }
 {
     thread.regs[0] = 21;
     thread.regs[1] = mutex;
@@ -90,7 +92,7 @@ pub fn wake(store: &mut Store, who: Who, mutex: u64)
     ensures paths { path store.new ≡ path store.old }
 {
     if let Some(&thread) = store.thread(who) {
-        store.set(who, Body::Thread(awake(thread, mutex)));
+        go_on(store, who, thread, awake(thread, mutex));
     }
 }
 
@@ -140,6 +142,7 @@ fn asleep(mut thread: Thread) -> Thread
         edited (Replace (CondAsleep c m)) (Thread_of (thread_by p thread)) ≡ Thread_of (thread_by p result) }
     ensures talk { result.talk ≡ thread.talk }
     ensures fault { result.fault ≡ thread.fault }
+    ensures stops { result.stops ≡ thread.stops }
 {
     if let Mode::Calling = thread.mode {
         thread.regs = fallen(thread.regs);
@@ -156,6 +159,6 @@ pub fn fall_asleep(store: &mut Store, who: Who, cond: u64, mutex: u64)
     ensures paths { path store.new ≡ path store.old }
 {
     if let Some(&thread) = store.thread(who) {
-        store.set(who, Body::Thread(asleep(thread)));
+        go_on(store, who, thread, asleep(thread));
     }
 }

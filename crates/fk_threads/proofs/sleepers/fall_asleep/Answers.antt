@@ -7,6 +7,6 @@ use Rattle.fk_threads.proofs.sleepers.fall_asleep.Goals as goal
 
 pub returns-in-Some-clause-world : goal.returns-in-Some-clause-world
 returns-in-Some-clause-world c =
-    c.set.ensures.edits (Replace (CondAsleep c.args.cond c.args.mutex))
+    c.go_on.ensures.edits (Replace (CondAsleep c.args.cond c.args.mutex))
     (fall_there (world c.args.store.now) (place (path c.args.store.now) c.args.who) (path c.args.store.now) c.in-Some.field-0.now
     c.args.cond c.args.mutex _ c.in-Some.ensures.thread c.requires.waits (c.asleep.ensures.edit (path c.args.store.now) c.args.cond c.args.mutex))
