@@ -5,7 +5,7 @@ use Rattle.fk_model.specs.declared.names.Who.{Who}
 use Rattle.fk_slots.specs.Cells.{cell}
 use Rattle.fk_hints.specs.declared.lead.Sort.{Sort}
 use Rattle.fk_hints.specs.declared.lead.Sort.TheVariants.{Pointer, Served, Taken}
-use Rattle.fk_hints.specs.declared.told.Told.TheVariants.{Nobody, Many}
+use Rattle.fk_hints.specs.declared.told.Told.TheVariants.{Many}
 use Rattle.fk_hints.specs.declared.told.Tellers.{Tellers}
 use Rattle.fk_hints.specs.Leads.{same_who}
 use Rattle.fk_hints.specs.Told.{Tells, nobody, told_of, told_in, told_at}
@@ -16,20 +16,15 @@ same_who_eq a b h =
     let k : a.slot ≡ b.slot = grind (arith, nat_tests) in
     λ i. record { space = s i; slot = k i }
 
-nobody-of : (sort : Sort) → told_of sort nobody ≡ Nobody
-nobody-of Pointer = refl
-nobody-of Served = refl
-nobody-of Taken = refl
-
 abbrev pub many : Tellers
-many = record { pointer = Many; served = Many; taken = Many }
+many = record { served = Many; taken = Many }
 
 many-of : (sort : Sort) → told_of sort many ≡ Many
 many-of Pointer = refl
 many-of Served = refl
 many-of Taken = refl
 
-pub told-none : (who : Who) (sort : Sort) → told_at ([], false) who sort ≡ Nobody
+pub told-none : (who : Who) (sort : Sort) → told_at ([], false) who sort ≡ told_of sort nobody
 unfolding told_at cell
 told-none who sort = refl
 
@@ -41,7 +36,7 @@ module _ (rows : List (List (Option Tellers))) (stray : Bool) where
   pub nobody-told : (who : Who) (t : Tellers) → stray ≡ false → None ≡ cell rows who.space who.slot → t ≡ nobody → (sort : Sort) → told_of sort t ≡ told_at
       (rows, stray) who sort
   unfolding told_at
-  nobody-told who t h none is sort = rw (h, ← none, is) (nobody-of sort)
+  nobody-told who t h none is sort = rw (h, ← none, is) refl
 
   pub some-told : (who : Who) (t : Tellers) → stray ≡ false → Some t ≡ cell rows who.space who.slot → (sort : Sort) → told_of sort t ≡ told_at
       (rows, stray) who sort
@@ -83,7 +78,17 @@ module _ (rows : List (List (Option Tellers))) (stray : Bool) where
           (cell rows other.space other.slot)
       go true b e = refl
       go false false e = refl
-      go false true e = ap (told_of sort) is ∙ nobody-of sort ∙ ap (told_in false sort) (there e)
+      go false true e = ap (told_of sort) is ∙ ap (told_in false sort) (there e)
+
+-- whose pointers lead there isn't told
+pub told-pointer : (hints : List (List (Option Tellers)) × Bool) (who : Who) → Many ≡ told_at hints who Pointer
+unfolding told_at
+told-pointer hints who = by hints.1 (cell hints.0 who.space who.slot)
+  where
+    by : (b : Bool) (o : Option Tellers) → Many ≡ told_in b Pointer o
+    by true o = refl
+    by false None = refl
+    by false (Some t) = refl
 
 pub told-stray : (rows : List (List (Option Tellers))) (who : Who) (sort : Sort) (q : Who) → Tells (told_at (rows, true) who sort) q
 unfolding told_at

@@ -15,22 +15,23 @@ Tells (One other) who = other ≡ who
 Tells Many who = ⊤
 
 abbrev pub nobody : Tellers
-nobody = record { pointer = Nobody; served = Nobody; taken = Nobody }
+nobody = record { served = Nobody; taken = Nobody }
 
+-- whose pointers lead there isn't told
 abbrev pub told_of : Sort → Tellers → Told
-told_of Pointer tellers = tellers.pointer
+told_of Pointer tellers = Many
 told_of Served tellers = tellers.served
 told_of Taken tellers = tellers.taken
 
 abbrev pub told_with : Sort → Told → Tellers → Tellers
-told_with Pointer told tellers = record tellers { pointer = told }
+told_with Pointer told tellers = tellers
 told_with Served told tellers = record tellers { served = told }
 told_with Taken told tellers = record tellers { taken = told }
 
 -- what is told of an object: that many may lead there where something is stray, and nobody where nothing is told
 abbrev pub told_in : Bool → Sort → Option Tellers → Told
 told_in true sort tellers = Many
-told_in false sort None = Nobody
+told_in false sort None = told_of sort nobody
 told_in false sort (Some tellers) = told_of sort tellers
 
 unfoldable pub told_at : List (List (Option Tellers)) × Bool → Who → Sort → Told

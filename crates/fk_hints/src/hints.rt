@@ -2,9 +2,8 @@
 ghost use Rattle.std.specs.Prelude.{◌≡◌, false, Some, if◌then◌else◌};
 ghost use Rattle.fk_model.specs.declared.names.Who.{Who};
 ghost use Rattle.fk_hints.specs.declared.lead.Sort.{Sort};
-ghost use Rattle.fk_hints.specs.declared.told.Told.TheVariants.{Nobody};
 ghost use Rattle.fk_hints.specs.Leads.{same_who, same_sort};
-ghost use Rattle.fk_hints.specs.Told.{Tells, told_of, told_at};
+ghost use Rattle.fk_hints.specs.Told.{Tells, nobody, told_of, told_at};
 
 use crate::lead::Sort;
 use crate::told::{Tellers, Told};
@@ -31,9 +30,9 @@ impl Model for Hints {
 }
 
 impl Hints {
-    /// Nobody leads anywhere.
+    /// Nobody leads anywhere but by pointers.
     pub fn new(alloc: Global) -> Hints
-        ensures { (who : Who) (sort : Sort) → told_at result who sort ≡ Nobody }
+        ensures { (who : Who) (sort : Sort) → told_at result who sort ≡ told_of sort nobody }
     {
         Hints {
             rows: Vec::new(alloc),
@@ -46,7 +45,10 @@ impl Hints {
     pub fn at(&self, who: Who, sort: Sort) -> Told
         ensures { result ≡ told_at self.now who sort }
     {
-        self.of(who).of(sort)
+        match sort {
+            Sort::Pointer => Told::Many,
+            Sort::Served | Sort::Taken => self.of(who).of(sort),
+        }
     }
 
     /// Who may lead to an object.
@@ -55,7 +57,6 @@ impl Hints {
     {
         if self.stray {
             return Tellers {
-                pointer: Told::Many,
                 served: Told::Many,
                 taken: Told::Many,
             };

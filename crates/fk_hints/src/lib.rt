@@ -1,8 +1,8 @@
 //! Who may lead to an object: a hint for each object, so that nobody looks through all objects for it.
 //!
 //! It stands on `fk_model` and on `fk_slots`. `led` tells where the fields of a body lead. `Hints` keep
-//! for each object, as pointers, as talks and as faults, that nobody leads there, that at most one
-//! object does, or that many may. A hint may be old, and say of an object that it leads there still;
+//! for each object, as talks and as faults, that nobody leads there, that at most one object does, or
+//! that many may; of pointers, that many may. A hint may be old, and say of an object that it leads there still;
 //! it never leaves one out.
 #![tactic(auto)]
 

@@ -17,21 +17,20 @@ pub enum Told {
     Many,
 }
 
-/// Who may lead to an object, as each sort of lead.
+/// Who may lead to an object, as each sort of lead. Whose pointers lead there isn't told: anybody's
+/// may.
 #[derive(Clone, Copy)]
 pub struct Tellers {
-    pub pointer: Told,
     pub served: Told,
     pub taken: Told,
 }
 
 impl Tellers {
-    /// Nobody leads there.
+    /// Nobody is served there, and nobody's fault taken.
     pub fn nobody() -> Tellers
         ensures { result ≡ nobody }
     {
         Tellers {
-            pointer: Told::Nobody,
             served: Told::Nobody,
             taken: Told::Nobody,
         }
@@ -42,7 +41,7 @@ impl Tellers {
         ensures { result ≡ told_of sort self }
     {
         match sort {
-            Sort::Pointer => self.pointer,
+            Sort::Pointer => Told::Many,
             Sort::Served => self.served,
             Sort::Taken => self.taken,
         }
@@ -53,10 +52,7 @@ impl Tellers {
         ensures { result ≡ told_with sort told self }
     {
         match sort {
-            Sort::Pointer => Tellers {
-                pointer: told,
-                ..self
-            },
+            Sort::Pointer => self,
             Sort::Served => Tellers {
                 served: told,
                 ..self
@@ -74,7 +70,6 @@ impl Tellers {
         ensures other { (sort : Sort) (who : Who) → Tells (told_of sort other) who → Tells (told_of sort result) who }
     {
         Tellers {
-            pointer: either(self.pointer, other.pointer),
             served: either(self.served, other.served),
             taken: either(self.taken, other.taken),
         }

@@ -18,8 +18,7 @@ use Rattle.fk_model.specs.declared.body.Body.TheVariants.{Mutex, Cond, Mapping, 
 use Rattle.fk_model.specs.Objects.{and_then, holds}
 use Rattle.fk_slots.specs.Cells.{cell_in, cell}
 use Rattle.fk_slots.proofs.CellLaws.{cells_set, cell_found, cell_past}
-use Rattle.fk_slots.specs.Tabled.{map_of_rows, of_cell}
-use Rattle.fk_slots.proofs.TabledLaws.{sum-entries}
+use Rattle.fk_slots.specs.Tabled.{map_of_rows}
 use Rattle.fk_hints.specs.declared.lead.Sort.{Sort}
 use Rattle.fk_hints.specs.declared.lead.Sort.TheVariants.{Pointer, Served, Taken}
 use Rattle.fk_hints.specs.declared.lead.Lead.{Lead}
@@ -38,7 +37,7 @@ use Rattle.fk_tables.specs.declared.parts.Part.TheVariants.{Client, Faulter, Gue
 use Rattle.fk_tables.specs.declared.sweeps.Sweep.{Sweep}
 use Rattle.fk_tables.proofs.Found.{member-found}
 use Rattle.fk_tables.proofs.HintLaws.{led-came, body-off}
-use Rattle.fk_tables.proofs.NameLaws.{who_total, who_naming, same_tied, same_who_eq, same_who_refl}
+use Rattle.fk_tables.proofs.NameLaws.{who_total, same_tied, same_who_eq, same_who_refl}
 use Rattle.fk_tables.proofs.ScanLaws.{get-who}
 
 abbrev pub Hinted : Type 0
@@ -273,13 +272,10 @@ sum_none f [] none = refl
 sum_none f (e ∷ es) none = sum_by-cons (λ (e : Who × Body). f e.1) e es
     ∙ (let here = none e (inl refl) in let rest = sum_none f es (λ d within. none d (inr within)) in omega (arith, here, rest))
 
-pub sum-none : (rows : List (List (Option Body))) (f : Body → ℕ) → ((q : Who) (b : Body) → cell rows q.space q.slot ≡ Some b → f b ≡ 0) →
-    sum_by (λ row. sum_by (of_cell f) row) rows ≡ 0
-sum-none rows f none = sym (sum-entries who_naming f rows) ∙ sum_none f (entries (map_of_rows who_cmp at rows)) each
-  where
-    each : (e : Who × Body) → IsIn e (entries (map_of_rows who_cmp at rows)) → f e.1 ≡ 0
-    each e within = none e.0 e.1 (sym (get-who rows e.0) ∙ get-entries (map_of_rows who_cmp at rows) e.0
-        ∙ member-found who_total (entries (map_of_rows who_cmp at rows)) e (entries_sorted (map_of_rows who_cmp at rows)) within)
+pub none-weighs : (bodies : FinMap who_cmp Body) (f : Body → ℕ) → ((q : Who) (b : Body) → get bodies q ≡ Some b → f b ≡ 0) →
+    sum_by (λ e. f e.1) (entries bodies) ≡ 0
+none-weighs bodies f none = sum_none f (entries bodies)
+    (λ e within. none e.0 e.1 (get-entries bodies e.0 ∙ member-found who_total (entries bodies) e (entries_sorted bodies) within))
 
 pub not_nonzero : (n : ℕ) → (n ≢ 0 → ⊥) → n ≡ 0
 not_nonzero zero h = refl

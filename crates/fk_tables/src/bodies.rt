@@ -27,11 +27,11 @@ use crate::marks::{is_marked, is_of_pages, mark, room_for_marks};
 use crate::nudges::Nudge;
 use crate::parts::Part;
 use crate::ringing::{ring, ring_anew, sweep_ringed};
-use crate::scans::{count_told, first_leading, first_told};
+use crate::scans::{count_hits, first_leading, first_told};
 use crate::stored::Stored;
 use crate::sweeps::Sweep;
 use crate::telling::tell;
-use fk_hints::{Hints, Sort};
+use fk_hints::Hints;
 use fk_model::{Body, Mode, NoMemory, Who};
 use fk_rings::{Leaders, Rings};
 use fk_slots::{Row, lay_value, next_taken, put_value, take_value, value_at};
@@ -49,7 +49,7 @@ pub struct Bodies {
     held: u64,
     /// For each birth number the groups of slots that may hold mappings and regions.
     marks: Vec<[bool; 16]>,
-    /// Who may lead to each object.
+    /// Who may be served by each object, and whose fault it may have taken.
     hints: Hints,
     /// Whose pointers lead to each object.
     rings: Rings,
@@ -225,8 +225,10 @@ impl Bodies {
     pub fn pointers_at(&self, who: Who) -> u64
         ensures { result ≡ sum_by (λ e. body_hits who e.1) (entries self.now) }
     {
-        let told = self.hints.at(who, Sort::Pointer);
-        count_told(&self.rows, who, told)
+        if !self.is_led_to(who) {
+            return 0;
+        }
+        count_hits(&self.rows, who)
     }
 
     /// Some pointer may lead to an object.

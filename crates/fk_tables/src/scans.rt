@@ -9,7 +9,6 @@ ghost use Rattle.fk_slots.specs.Cells.{cell, cell_in};
 ghost use Rattle.fk_slots.specs.Tabled.{of_cell};
 ghost use Rattle.fk_hints.specs.Leads.{led, lead_by};
 ghost use Rattle.fk_hints.specs.Told.{Tells};
-ghost use Rattle.fk_hints.specs.declared.lead.Sort.TheVariants.{Pointer};
 ghost use Rattle.fk_tables.specs.Parts.{plays};
 ghost use Rattle.fk_tables.specs.Pointers.{body_hits};
 ghost use Rattle.fk_tables.specs.Sweeps.{body_after};
@@ -116,20 +115,8 @@ fn is_played(row: &Row<Stored>, slot: u8, part: Part) -> bool
     }
 }
 
-/// How many pointers of all bodies lead to an object, where those that may are told.
-pub fn count_told(rows: &Vec<Row<Stored>>, who: Who, told: Told) -> u64
-    requires few { length rows.now.items ≤ 4294967296 }
-    requires told { (q : Who) (b : Body) → cell rows.now.items q.space q.slot ≡ Some b → body_hits who b ≢ 0 → Tells told q }
-    ensures { result ≡ sum_by (λ row. sum_by (of_cell (body_hits who)) row) rows.now.items }
-{
-    match told {
-        Told::Nobody => 0,
-        Told::One(_) | Told::Many => count_hits(rows, who),
-    }
-}
-
 /// How many pointers of all bodies lead to an object.
-fn count_hits(rows: &Vec<Row<Stored>>, who: Who) -> u64
+pub fn count_hits(rows: &Vec<Row<Stored>>, who: Who) -> u64
     requires { length rows.now.items ≤ 4294967296 }
     ensures { result ≡ sum_by (λ row. sum_by (of_cell (body_hits who)) row) rows.now.items }
 {
