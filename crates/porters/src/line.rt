@@ -1,16 +1,7 @@
 //! Lines of steps: a word, and numbers.
 use anyhow::Context;
 use fk_model::status;
-use std::alloc::{AllocError, Global};
-
-/// Which part of a line a number belongs to.
-#[derive(Clone, Copy)]
-enum Part {
-    Subject,
-    Given,
-    Picked,
-    Wanted,
-}
+use std::alloc::Global;
 
 /// A line: what is done, and the numbers behind it, those behind `giving`, `picking` and `=`.
 #[derive(Drop)]
@@ -20,16 +11,6 @@ pub struct Line<'a> {
     pub given: Vec<u64>,
     pub picked: Vec<u64>,
     pub wanted: Vec<u64>,
-}
-
-/// The part that a word begins.
-fn part_of(word: &str) -> Option<Part> {
-    match word {
-        "giving" => Some(Part::Given),
-        "picking" => Some(Part::Picked),
-        "=" => Some(Part::Wanted),
-        _ => None,
-    }
 }
 
 /// The status of a name.
@@ -64,45 +45,31 @@ fn number_of(word: &str) -> Option<u64> {
     }
 }
 
-impl<'a> Line<'a> {
-    /// A line of no numbers.
-    fn new(alloc: Global, verb: &'a str) -> Line<'a> {
-        Line {
-            verb,
-            subject: Vec::new(alloc),
-            given: Vec::new(alloc),
-            picked: Vec::new(alloc),
-            wanted: Vec::new(alloc),
-        }
+/// The numbers between the blanks of a text.
+fn numbers_of(alloc: Global, text: &str) -> anyhow::Result<Vec<u64>> {
+    let mut numbers = Vec::new(alloc);
+    for word in text.split_whitespace() {
+        numbers.push(number_of(word).context("no number")?)?;
     }
-
-    /// Takes one more number of a part.
-    fn push(&mut self, part: Part, number: u64) -> Result<(), AllocError> {
-        match part {
-            Part::Subject => self.subject.push(number)?,
-            Part::Given => self.given.push(number)?,
-            Part::Picked => self.picked.push(number)?,
-            Part::Wanted => self.wanted.push(number)?,
-        }
-        Ok(())
-    }
+    Ok(numbers)
 }
 
 /// The line of a text.
 ///
 /// # Errors
 ///
-/// Where what is behind the first word is neither a number, a status nor the begin of a part, and for
-/// want of memory.
+/// Where what is behind the first word is neither a number, a status nor the begin of a part in its place,
+/// and for want of memory.
 pub fn line_of<'a>(alloc: Global, text: &'a str) -> anyhow::Result<Line<'a>> {
-    let (verb, rest) = text.split_once(' ').unwrap_or((text, ""));
-    let mut line = Line::new(alloc, verb);
-    let mut part = Part::Subject;
-    for word in rest.split(' ') {
-        match part_of(word) {
-            Some(next) => part = next,
-            None => line.push(part, number_of(word).context("no number")?)?,
-        }
-    }
-    Ok(line)
+    let (text, wanted) = text.split_once(" = ").unwrap_or((text, ""));
+    let (text, picked) = text.split_once(" picking ").unwrap_or((text, ""));
+    let (text, given) = text.split_once(" giving ").unwrap_or((text, ""));
+    let (verb, subject) = text.split_once(' ').unwrap_or((text, ""));
+    Ok(Line {
+        verb,
+        subject: numbers_of(alloc, subject)?,
+        given: numbers_of(alloc, given)?,
+        picked: numbers_of(alloc, picked)?,
+        wanted: numbers_of(alloc, wanted)?,
+    })
 }

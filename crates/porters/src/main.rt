@@ -1,9 +1,9 @@
 //! Porters: the calls that porters make, which no scenario of today does, and what must come of them.
 //!
-//! Each file `NAME.steps` of the current folder begins worlds, each by `world SCENARIO SPACE SLOT`: a file
-//! of the folder, and where a porter is put. The lines behind it are steps that are made there one after
-//! another (`world`); one that is empty or begins with `#` says nothing. Expected answers are worked by
-//! hand from the rules of the calls.
+//! Standard input names files of the current folder, each on a line. Each begins worlds by `world SCENARIO
+//! SPACE SLOT`: the file of a scenario, and where a porter is put. The lines behind it are steps that are
+//! made there one after another (`world`); one that is empty or begins with `#` says nothing. Expected
+//! answers are worked by hand from the rules of the calls.
 //!
 //! The program says which steps differ, and ends with a line of counts; it fails where one differs. It
 //! promises of the world to which it gives a porter that this stays valid, and nothing else.
@@ -86,26 +86,13 @@ fn try_file<R: Files + Print + AllocGlobal>(
     Ok(())
 }
 
-/// The files of steps in the folder, in the order of their names.
-fn files_of_steps<R: Files + AllocGlobal + Clone + Drop>(rt: &R) -> anyhow::Result<Vec<String>> {
-    let mut names = Vec::new(rt.alloc());
-    for entry in fs::read_dir(rt, ".")? {
-        let entry = entry?;
-        let name = entry.file_name();
-        if name.ends_with(".steps") {
-            names.push(String::from_str(rt.alloc(), name)?)?;
-        }
-    }
-    names.sort()?;
-    Ok(names)
-}
-
 fn main(rt: HostRuntime) -> anyhow::Result<()> {
     let mut tally = Tally {
         steps: 0,
         differ: 0,
     };
-    for path in &files_of_steps(&rt)? {
+    for path in rt.lines(rt.alloc()) {
+        let path = path?;
         try_file(&rt, &mut tally, path.as_str()).context(format_args!("{path}"))?;
     }
     let Tally { steps, differ } = tally;

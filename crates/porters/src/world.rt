@@ -46,25 +46,24 @@ fn kernel_of(alloc: Global, text: &[u8], porter: Who) -> anyhow::Result<Kernel> 
 }
 
 /// The name that a space and a slot make; none where there is no number.
-fn name_of(numbers: &[u64]) -> Option<Who> {
+fn name_of(space: u64, slot: u64) -> Option<Who> {
+    Some(Who {
+        space: u32::try_from(space).ok()?,
+        slot: u8::try_from(slot).ok()?,
+    })
+}
+
+/// The name that two numbers make.
+fn named(numbers: &[u64]) -> Option<Who> {
     match numbers {
-        [space, slot] => Some(Who {
-            space: u32::try_from(*space).ok()?,
-            slot: u8::try_from(*slot).ok()?,
-        }),
+        [space, slot] => name_of(*space, *slot),
         _ => None,
     }
 }
 
 /// The thread in a slot of the root.
 fn in_root(numbers: &[u64]) -> Option<Who> {
-    match numbers.first() {
-        Some(slot) => Some(Who {
-            space: 0,
-            slot: u8::try_from(*slot).ok()?,
-        }),
-        None => None,
-    }
+    name_of(0, *numbers.first()?)
 }
 
 /// The first of these words are the wanted ones.
@@ -115,7 +114,7 @@ impl World {
     ///
     /// Where the text is no scenario, the numbers name nothing, and for want of memory.
     pub fn new(alloc: Global, text: &[u8], porter: &[u64]) -> anyhow::Result<World> {
-        let porter = name_of(porter).context("no name")?;
+        let porter = named(porter).context("no name")?;
         let kernel = kernel_of(alloc, text, porter)?;
         Ok(World { kernel, porter })
     }
@@ -183,7 +182,7 @@ impl World {
 
     /// What the porter asks for is answered as a line wants it, or isn't ready.
     fn asks(&mut self, line: &Line) -> anyhow::Result<bool> {
-        let pick = name_of(line.picked.as_slice());
+        let pick = named(line.picked.as_slice());
         let answer = self.answer(line.subject.as_slice(), line.given.as_slice(), pick)?;
         Ok(match answer {
             Some(answer) => is_answer(&answer, line.wanted.as_slice()),
@@ -194,7 +193,7 @@ impl World {
     /// A thread of the root makes a step, which is as a line says.
     fn thread_steps(&mut self, line: &Line) -> anyhow::Result<bool> {
         let who = in_root(line.subject.as_slice()).context("no thread")?;
-        let pick = name_of(line.picked.as_slice());
+        let pick = named(line.picked.as_slice());
         let wanted = line.wanted.as_slice();
         Ok(match line.verb {
             "goes" => self.moves(who, pick)? && self.shows(who, wanted),
