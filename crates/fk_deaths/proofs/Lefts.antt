@@ -1,6 +1,5 @@
 -- Lefts: where no call ends with a port any more, all that end with it have ended.
-use Rattle.std.proofs.Common.{◌≡◌, ◌≢◌, ◌<◌, ◌⊎◌, inl, inr, ℕ, Bool, true, false, cond, List, [], ◌∷◌, ◌++◌, length, Option, Some, None, refl, sym, ap, subst, ◌∙◌, arith}
-use Rattle.fk_model.specs.declared.names.Who.{Who}
+use Rattle.std.proofs.Common.{◌≡◌, ◌≢◌, ◌⊎◌, inl, inr, Bool, true, false, cond, List, [], ◌∷◌, ◌++◌, Option, Some, None, refl, sym, ap, subst, ◌∙◌}
 use Rattle.fk_model.specs.declared.thread.Turn.{Turn}
 use Rattle.fk_model.specs.declared.thread.Turn.TheVariants as turns
 use Rattle.fk_model.specs.ObjectRows.{ends_of_client, ends_on}
@@ -11,7 +10,6 @@ use Rattle.fk_model.specs.Searches.{pointers_to, talk_at}
 use Rattle.fk_model.specs.Talks.{if_talking, is_talking, served_end, talking_end}
 use Rattle.fk_model.specs.World.{World}
 use Rattle.fk_model.proofs.walks.Members.{IsIn, in_left, in_right, in_either}
-use Rattle.fk_store.specs.Paths.{place}
 use Rattle.fk_deaths.specs.Ends.{ended_where, ends_at, is_in_list, talking}
 use Rattle.fk_deaths.proofs.Allowed.{by_client, ended_led}
 use Rattle.fk_deaths.proofs.Clients.{at_port, ends_client_some, has_talk_at, listed_in, talk_same}
@@ -50,26 +48,7 @@ both_quiet w port x talk is client server = by (has_talk_at w port x)
     by true = none
     by false = refl
 
--- ---- who may be left
-
--- each path of which this holds is that of one of these
-abbrev pub AreLeft : (ℕ → Path) → (Path → Type 0) → List Who → Type 0
-AreLeft p Holds whos = (x : Path) → Holds x → (from : Who) × (place p from ≡ x) × IsIn from whos
-
-module _ (p : ℕ → Path) (Holds : Path → Type 0) where
-  pub left_more : (from : Who) (whos more : List Who) → whos ≡ from ∷ more → (Holds (place p from) → ⊥) → AreLeft p Holds whos → AreLeft p Holds more
-  left_more from whos more is off left x there =
-      let found = left x there in by found.0 found.1 (subst (IsIn found.0) is found.2)
-    where
-      by : (q : Who) → place p q ≡ x → (from ≡ q) ⊎ IsIn q more → (q : Who) × (place p q ≡ x) × IsIn q more
-      by q here (inl same) = absurd (off (subst Holds (sym (ap (place p) same ∙ here)) there))
-      by q here (inr comes) = (q, here, comes)
-
-  pub nobody_left : (whos : List Who) → whos ≡ [] → AreLeft p Holds whos → (x : Path) → Holds x → ⊥
-  nobody_left whos none left x there = let found = left x there in subst (IsIn found.0) none found.2
-
-pub fewer_left : (from : Who) (whos more : List Who) → whos ≡ from ∷ more → length more < length whos
-fewer_left from whos more is = let long : length whos ≡ length (from ∷ more) = ap length is in omega (arith, long)
+-- ---- nobody is left
 
 pub is_empty : {A : Type 0} (xs : List A) → (xs ≢ [] → ⊥) → xs ≡ []
 is_empty [] h = refl
@@ -78,8 +57,6 @@ is_empty (x ∷ xs) h = absurd (h (λ e. absurd (cc)))
 -- whoever has a call that ends leads to the port
 pub ending_points : (w : World) (port x : Path) → ends_at w port x ≢ [] → pointers_to port (w.body x) ≢ 0
 ending_points w port x some none = some (off_port w port x (no_talk port (w.body x) none))
-
--- ---- nobody is left
 
 module _ (w v : World) (test : Path → Bool) (is : v ≡ ended_where test w) (port c q : Path) where
   -- whose call hasn't ended is as before

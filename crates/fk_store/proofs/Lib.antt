@@ -41,3 +41,4 @@ pub mod Nudging
 pub mod Counting
 pub mod Within
 pub mod Outside
+pub mod Lefts

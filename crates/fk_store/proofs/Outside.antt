@@ -1,5 +1,5 @@
 -- Outside: the pointers of objects that lie outside a space.
-use Rattle.std.proofs.Common.{◌≡◌, ◌≢◌, ℕ, ◌+◌, Bool, true, false, cond, List, [], ◌∷◌, ◌++◌, filter, Option, Some, None, IsSome, option_map, refl, sym, ap, ◌∙◌, arith}
+use Rattle.std.proofs.Common.{◌≡◌, ◌≢◌, ℕ, zero, suc, ◌+◌, Bool, true, false, cond, not, List, [], ◌∷◌, ◌++◌, filter, Option, Some, None, IsSome, option_map, refl, sym, ap, ◌∙◌, arith}
 use Rattle.std.specs.List.{sum_by}
 use Rattle.std.proofs.lemmas.List.Sums.{sum_by-cons, sum_by-append}
 use Rattle.std.specs.FinMap.{get}
@@ -76,6 +76,14 @@ leaders-there m kept who whos all x leads = by x refl leads
 abbrev pub weight : World → Path → Path → Path → Path → ℕ
 weight w base nester x q = cond (counts_from base nester q) (pointers_to x (w.body q)) 0
 
+pub no_weight : (b : Bool) → cond {A = ℕ} b 0 0 ≡ 0
+no_weight true = refl
+no_weight false = refl
+
+-- what counts leads there
+pub weight-some : (w : World) (base nester x q : Path) → weight w base nester x q ≢ 0 → pointers_to x (w.body q) ≢ 0
+weight-some w base nester x q some none = some (rw none (no_weight (counts_from base nester q)))
+
 -- the root has no pointer
 pub count-is : (m : Contents) (base nester x : Path) →
     pointer_count (world m) base nester x ≡ sum_by (weight (world m) base nester x) (objects (world m))
@@ -83,12 +91,21 @@ unfolding world
 count-is m base nester x =
     let all = sum_filtered (λ q. pointers_to x ((world m).body q)) (counts_from base nester) ([] ∷ objects (world m)) in
     let first = sum_by-cons (weight (world m) base nester x) [] (objects (world m)) in
-    let none = by (counts_from base nester []) in
+    let none = no_weight (counts_from base nester []) in
     omega (arith, all, first, none)
-  where
-    by : (b : Bool) → cond {A = ℕ} b 0 0 ≡ 0
-    by true = refl
-    by false = refl
+
+pub not_false : (b : Bool) → not b ≡ false → b ≡ true
+not_false true h = refl
+not_false false h = absurd (cc)
+
+zero_if : (n : ℕ) → (n ≢ 0 → ⊥) → n ≡ 0
+zero_if zero h = refl
+zero_if (suc n) h = absurd (h (λ e. absurd (omega (arith, e))))
+
+-- where none counts
+pub none-count : (m : Contents) (base nester x : Path) → ((q : Path) → weight (world m) base nester x q ≢ 0 → ⊥) → 0 ≡ pointer_count (world m) base nester x
+none-count m base nester x none =
+    sym (count-is m base nester x ∙ sum_none (weight (world m) base nester x) (objects (world m)) (λ q. zero_if (weight (world m) base nester x q) (none q)))
 
 -- ---- nothing leads to the root
 

@@ -19,7 +19,7 @@ use Rattle.fk_model.specs.declared.body.Body as bodies_of
 use Rattle.fk_model.specs.declared.body.Body.TheVariants as bodies
 use Rattle.fk_model.specs.Places.{Path, Ptr, leads_to, same_path}
 use Rattle.fk_model.specs.Places.Ptr.{At}
-use Rattle.fk_model.specs.Objects.{Body, kind_of, and_then}
+use Rattle.fk_model.specs.Objects.{Body, kind_of}
 use Rattle.fk_model.specs.Searches.{depth, objects, pointers_to, option_list, peer_pointer, talk_pointers, fault_pointers}
 use Rattle.fk_model.specs.Valid.{kind_there}
 use Rattle.fk_model.proofs.walks.Members.{IsIn}
@@ -28,8 +28,7 @@ use Rattle.fk_tables.specs.Pointers.{hit, hits_in, pointer_hits, peer_hits, talk
 use Rattle.fk_tables.proofs.NameLaws.{who_total, who_tied, same_who_eq}
 use Rattle.fk_tables.proofs.Found.{member-found, found-member, first_apart}
 use Rattle.fk_store.specs.Contents.{Contents}
-use Rattle.fk_store.specs.Names.{at}
-use Rattle.fk_store.specs.Paths.{path, place, space_at, HasOwnPath}
+use Rattle.fk_store.specs.Paths.{path, place, HasOwnPath}
 use Rattle.fk_store.specs.Bodies.{pointer_by, peer_by, talk_by, fault_by, body_by}
 use Rattle.fk_store.specs.Named.{Each, OnPointer, OnPeer, OnTalk, OnFault, OnNamed}
 use Rattle.fk_store.specs.World.{world}
@@ -205,21 +204,3 @@ module _ (m : Contents) (kept : IsWellFormed m) where
           sum_by-cons (λ (e : entry). body_hits who e.1) e es
           ∙ (λ i. one e (all e (inl refl)) i + hits es (λ d h. all d (inr h)) i)
           ∙ sym (sum_by-cons (λ q. pointers_to (place (path m) who) ((world m).body q)) (place_at e) (map place_at es))
-
-  -- none leads to an object
-  pub none-leads : (who : Who) → ((q : Who) (b : bodies_of.Body) → get m.bodies q ≡ Some b → body_hits who b ≡ 0) →
-      (x : Path) → pointers_to (place (path m) who) ((world m).body x) ≡ 0
-  unfolding world
-  none-leads who none [] = refl
-  none-leads who none (k ∷ s) = spaces (space_at m s)
-    where
-      here : (n : ℕ) (o : Option bodies_of.Body) → get m.bodies (at n k) ≡ o → pointers_to (place (path m) who) (option_map (body_by (path m)) o) ≡ 0
-      here n None e = refl
-      here n (Some b) e =
-          sym (body_hits-by (path m) who b (OnNamed-map (λ q. is_there m q ≡ true)
-          (HasOwnPath (path m)) (λ q g. place-apart m kept q (kept.housed q g)) b (kept.leads (at n k) b e)))
-          ∙ none (at n k) b e
-
-      spaces : (o : Option ℕ) → pointers_to (place (path m) who) (and_then (λ n. option_map (body_by (path m)) (get m.bodies (at n k))) o) ≡ 0
-      spaces None = refl
-      spaces (Some n) = here n (get m.bodies (at n k)) refl

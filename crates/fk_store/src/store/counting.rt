@@ -1,5 +1,5 @@
 //! How many pointers lead to an object from outside a space.
-ghost use Rattle.std.specs.Prelude.{◌≡◌, ◌≤◌, if◌then◌else◌};
+ghost use Rattle.std.specs.Prelude.{◌≡◌, ◌≤◌, false, if◌then◌else◌};
 ghost use Rattle.fk_model.specs.ObjectRows as rows;
 ghost use Rattle.fk_model.specs.Places as places;
 ghost use Rattle.fk_model.specs.Places.{same_path};
@@ -20,7 +20,7 @@ impl Store {
         ensures { result ≡ rows.pointer_count (world self.now) (path self.now base) (path self.now nester) (place_of self.now who) }
     {
         let _below_2_32 = self.next;
-        if !self.is_led_to(who) {
+        if !self.may_count(base, nester, who) {
             return 0;
         }
         let mut count = 0;
@@ -42,6 +42,35 @@ impl Store {
         match self.bodies.home(space) {
             None => 0,
             Some(who) => self.pointers_outside(base, nester, who),
+        }
+    }
+
+    /// Some pointer that leads to an object may be one of those that count. It looks at those alone
+    /// of which a pointer leads there.
+    fn may_count(&self, base: u32, nester: u32, who: Who) -> bool
+        requires base { IsSpace self.now base }
+        requires nester { IsSpace self.now nester }
+        ensures { result ≡ false → 0 ≡ rows.pointer_count (world self.now) (path self.now base) (path self.now nester) (place_of self.now who) }
+    {
+        let mut leaders = self.leaders(who);
+        while let Some(from) = leaders.next() {
+            if self.counts(base, nester, from, who) {
+                return true;
+            }
+        }
+        !leaders.are_all()
+    }
+
+    /// Pointers of an object lead to another, and it is one of those that count.
+    fn counts(&self, base: u32, nester: u32, from: Who, to: Who) -> bool
+        requires base { IsSpace self.now base }
+        requires nester { IsSpace self.now nester }
+        ensures { result ≡ false → (if rows.counts_from (path self.now base) (path self.now nester) (place_of self.now from)
+            then pointers_to (place_of self.now to) ((world self.now).body (place_of self.now from)) else 0) ≡ 0 }
+    {
+        match self.at(from) {
+            Some(_) => self.counted(base, nester, from, to) > 0,
+            None => false,
         }
     }
 

@@ -1,5 +1,5 @@
 //! How many pointers lead to an object.
-ghost use Rattle.std.specs.Prelude.{◌≡◌, ◌≢◌, true, false};
+ghost use Rattle.std.specs.Prelude.{◌≡◌, ◌≢◌, true};
 ghost use Rattle.fk_model.specs.declared.names.Who.{Who};
 ghost use Rattle.fk_model.specs.Places.{Path};
 ghost use Rattle.std.specs.List.{sum_by};
@@ -11,13 +11,6 @@ use crate::{Leaders, Store};
 use fk_model::Who;
 
 impl Store {
-    /// Some pointer may lead to an object. It takes one step.
-    pub fn is_led_to(&self, who: Who) -> bool
-        ensures { result ≡ false → (x : Path) → pointers_to (place_of self.now who) ((world self.now).body x) ≡ 0 }
-    {
-        self.bodies.is_led_to(who)
-    }
-
     /// The objects whose pointers lead to an object, one for each pointer. They are all that do, if
     /// it says so at its end.
     pub fn leaders(&self, who: Who) -> Leaders<'_>

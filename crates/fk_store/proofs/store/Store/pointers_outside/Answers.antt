@@ -1,9 +1,9 @@
-use Rattle.std.proofs.Common.{◌≡◌, ◌≤◌, [], ◌∷◌, filter, sym, subst, ◌∙◌, arith}
-use Rattle.fk_model.specs.ObjectRows.{counts_from, pointer_count}
-use Rattle.fk_model.specs.Searches.{depth, objects, pointers_to}
+use Rattle.std.proofs.Common.{◌≡◌, ◌≤◌, sym, subst, ◌∙◌, arith}
+use Rattle.fk_model.specs.ObjectRows.{pointer_count}
+use Rattle.fk_model.specs.Searches.{depth}
 use Rattle.fk_store.specs.Paths.{path, place}
 use Rattle.fk_store.specs.World.{world}
-use Rattle.fk_store.proofs.Counting.{sum_none, begins, counts, ends}
+use Rattle.fk_store.proofs.Counting.{begins, counts, ends}
 use Rattle.fk_store.proofs.Outside.{count-is}
 use Rattle.fk_store.proofs.store.Store.pointers_outside.Goals as goal
 
@@ -25,7 +25,5 @@ returns c =
     subst (λ n. c.loop-at.count ≡ pointer_count (world n) (path n c.args.base) (path n c.args.nester) (place (path n) c.args.who)) c.self.view_is
     (ends _ c.self.invariant _ c.loop-at.count (rw (← c.self.view_is, c.in_default.is) at c.loop-at.invariant) ∙ sym (count-is _ _ _ _))
 
-pub returns-then-not-is_led_to : goal.returns-then-not-is_led_to
-returns-then-not-is_led_to c =
-    sym (sum_none (λ q. pointers_to (place (path c.args.self.now) c.args.who) ((world c.args.self.now).body q))
-    (filter (counts_from (path c.args.self.now c.args.base) (path c.args.self.now c.args.nester)) ([] ∷ objects (world c.args.self.now))) (c.is_led_to.ensures c.if-not-is_led_to.true))
+pub returns-then-not-may_count : goal.returns-then-not-may_count
+returns-then-not-may_count c = c.may_count.ensures c.if-not-may_count.true
