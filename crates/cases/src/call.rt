@@ -1,7 +1,8 @@
 //! A case, called.
 use fk_cases::{Case, Ending, Fails};
 use fk_causes::{MemShelf, MemSink, MemSource, NoMemory, Shelf};
-use fk_run::{fault_line, fluke_top};
+use fk_run::{End, Report, fault_line, fluke_top};
+use fk_traces::trace_text;
 use std::alloc::Global;
 
 /// A shelf with these files on it. What fails is counted from the next call on.
@@ -20,16 +21,33 @@ fn shelf_of(alloc: Global, case: &Case, fails: &[u64]) -> Result<MemShelf, NoMem
     Ok(shelf)
 }
 
+/// The moves of a report as a trace, and how they ended.
+fn report_of(alloc: Global, report: &Report) -> Result<Vec<u8>, NoMemory> {
+    let mut text = trace_text(alloc, report.history.as_slice())?;
+    text.push_str(match report.end {
+        End::Halted => "end halted\n",
+        End::Quiet => "end quiet\n",
+        End::Budget => "end budget\n",
+        End::Listed => "end listed\n",
+    })?;
+    Ok(text.into_bytes())
+}
+
 /// What comes of the call of a case in which these calls of its source, its sink and its shelf fail.
 pub fn call(alloc: Global, case: &Case, fails: &Fails) -> Result<Ending, NoMemory> {
     let mut source = MemSource::new(case.source.clone()?, fails.source.clone()?);
     let mut sink = MemSink::new(alloc, case.room, fails.sink.clone()?)?;
     let mut shelf = shelf_of(alloc, case, &fails.shelf)?;
     let outcome = fluke_top(alloc, &case.words, &mut source, &mut sink, &mut shelf);
+    let report = match &outcome.report {
+        Some(report) => Some(report_of(alloc, report)?),
+        None => None,
+    };
     Ok(Ending {
         status: outcome.status.number(),
         error: fault_line(alloc, &outcome.status)?,
         output: sink.bytes().to_vec(alloc)?,
         files: shelf.files().clone()?,
+        report,
     })
 }

@@ -3,8 +3,9 @@
 //! `case NAME` begins one with nothing in it, `again NAME` one with the words, the source and the files
 //! of the one before. Then `words A B` and `word A` are the words of the command, `source` and
 //! `file NAME` have content, `room N` is what the sink takes, and `fails` is read by `Fails::take`.
-//! What must come of it: `status N`, `error TEXT` for the line of the fault, `output` with content, and
-//! `after NAME` with what a file of the shelf holds then. All other files are to be as they were.
+//! What must come of it: `status N`, `error TEXT` for the line of the fault, `output` with content,
+//! `after NAME` with what a file of the shelf holds then, and `report` with the moves of the report as a
+//! trace, and how they ended. All other files are to be as they were.
 use crate::ending::Ending;
 use crate::fails::Fails;
 use crate::section::Section;
@@ -37,6 +38,7 @@ fn nothing_but(files: &BTreeMap<String, Vec<u8>>, alloc: Global) -> Result<Endin
         error: String::new(alloc),
         output: Vec::new(alloc),
         files: files.clone()?,
+        report: None,
     })
 }
 
@@ -100,6 +102,7 @@ fn take_ending(alloc: Global, wanted: &mut Ending, section: &Section) -> anyhow:
         "status" => wanted.status = section.rest.parse::<u8>()?,
         "error" => wanted.error = String::from_str(alloc, section.rest)?,
         "output" => wanted.output = section.content.clone()?,
+        "report" => wanted.report = Some(section.content.clone()?),
         "after" => {
             let name = String::from_str(alloc, section.rest)?;
             wanted.files.insert(name, section.content.clone()?)?;

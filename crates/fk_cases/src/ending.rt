@@ -2,22 +2,25 @@
 use std::collections::BTreeMap;
 use std::fmt;
 
-/// How a call ends: its status, the line of its fault, what it wrote, and the files of the shelf.
+/// How a call ends: its status, the line of its fault, what it wrote, the files of the shelf, and its
+/// report, where a case speaks of that.
 #[derive(Drop)]
 pub struct Ending {
     pub status: u8,
     pub error: String,
     pub output: Vec<u8>,
     pub files: BTreeMap<String, Vec<u8>>,
+    pub report: Option<Vec<u8>>,
 }
 
 impl Ending {
-    /// Whether anything isn't as in another.
-    pub fn differs(&self, other: &Ending) -> bool {
-        self.status != other.status
-            || self.error != other.error
-            || self.output != other.output
-            || self.files != other.files
+    /// Whether anything isn't as a case wants it.
+    pub fn differs(&self, wanted: &Ending) -> bool {
+        self.status != wanted.status
+            || self.error != wanted.error
+            || self.output != wanted.output
+            || self.files != wanted.files
+            || (wanted.report.is_some() && self.report != wanted.report)
     }
 }
 
@@ -37,6 +40,10 @@ impl fmt::Display for Ending {
         for (name, bytes) in &self.files {
             write!(f, " file {name} ")?;
             write_bytes(f, bytes)?;
+        }
+        if let Some(report) = &self.report {
+            write!(f, " report ")?;
+            write_bytes(f, report)?;
         }
         Ok(())
     }

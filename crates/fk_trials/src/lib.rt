@@ -1,21 +1,8 @@
-//! Trials: single calls and values that were worked apart from them.
+//! Tests of what no program can be made to show: the status for want of memory.
 //!
-//! A module for each crate that it tries. Each trial shows what no clause says: that a definition is
-//! meant, by values from outside; that a call succeeds where there is memory; and that what stands
-//! over the system works. Whole commands are tried by the program `cases`. It promises nothing.
+//! It stands on `fk_commands`; nothing stands on it. Single calls are tried by the programs `trials` and
+//! `stores`, calls of porters by `porters`, whole commands by `cases`. It promises nothing.
 #![tactic(auto)]
 
 #[cfg(test)]
-mod asm;
-#[cfg(test)]
-mod causes;
-#[cfg(test)]
-mod isa;
-#[cfg(test)]
-mod report;
-#[cfg(test)]
-mod run;
-#[cfg(test)]
-mod store;
-#[cfg(test)]
-mod traces;
+mod statuses;
