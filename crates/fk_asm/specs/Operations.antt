@@ -23,31 +23,46 @@ token_is token name = pointwise nat_eq token name
 abbrev pub with_shape : ℕ → Shape → Option Operation
 with_shape number shape = Some (record { number = number; shape = shape })
 
--- an operation's number and its operands, by its name
-unfoldable pub operation_of : List ℕ → Option Operation
-operation_of name =
+-- what leads elsewhere: jumps, the call, the end
+unfoldable pub jump_of : List ℕ → Option Operation
+jump_of name =
     if token_is name (codes "halt") then with_shape HALT Bare
-    else if token_is name (codes "set") then with_shape SET RegisterNumber
-    else if token_is name (codes "mov") then with_shape MOV TwoRegisters
-    else if token_is name (codes "add") then with_shape ADD ThreeRegisters
-    else if token_is name (codes "sub") then with_shape SUB ThreeRegisters
-    else if token_is name (codes "mul") then with_shape MUL ThreeRegisters
-    else if token_is name (codes "and") then with_shape AND ThreeRegisters
-    else if token_is name (codes "or") then with_shape OR ThreeRegisters
-    else if token_is name (codes "xor") then with_shape XOR ThreeRegisters
-    else if token_is name (codes "shl") then with_shape SHL ThreeRegisters
-    else if token_is name (codes "shr") then with_shape SHR ThreeRegisters
-    else if token_is name (codes "div") then with_shape DIV ThreeRegisters
-    else if token_is name (codes "rem") then with_shape REM ThreeRegisters
-    else if token_is name (codes "load") then with_shape LOAD TwoRegistersNumber
-    else if token_is name (codes "store") then with_shape STORE TwoRegistersNumber
     else if token_is name (codes "jmp") then with_shape JMP Number
     else if token_is name (codes "jz") then with_shape JZ RegisterNumber
     else if token_is name (codes "jnz") then with_shape JNZ RegisterNumber
     else if token_is name (codes "jlt") then with_shape JLT TwoRegistersNumber
-    else if token_is name (codes "addi") then with_shape ADDI TwoRegistersNumber
     else if token_is name (codes "call") then with_shape CALL Bare
     else None
+
+-- bits of two registers
+unfoldable pub bits_of : List ℕ → Option Operation
+bits_of name =
+    if token_is name (codes "and") then with_shape AND ThreeRegisters
+    else if token_is name (codes "or") then with_shape OR ThreeRegisters
+    else if token_is name (codes "xor") then with_shape XOR ThreeRegisters
+    else if token_is name (codes "shl") then with_shape SHL ThreeRegisters
+    else if token_is name (codes "shr") then with_shape SHR ThreeRegisters
+    else jump_of name
+
+-- sums, products and quotients of two registers
+unfoldable pub arithmetic_of : List ℕ → Option Operation
+arithmetic_of name =
+    if token_is name (codes "add") then with_shape ADD ThreeRegisters
+    else if token_is name (codes "sub") then with_shape SUB ThreeRegisters
+    else if token_is name (codes "mul") then with_shape MUL ThreeRegisters
+    else if token_is name (codes "div") then with_shape DIV ThreeRegisters
+    else if token_is name (codes "rem") then with_shape REM ThreeRegisters
+    else bits_of name
+
+-- an operation's number and its operands, by its name
+unfoldable pub operation_of : List ℕ → Option Operation
+operation_of name =
+    if token_is name (codes "set") then with_shape SET RegisterNumber
+    else if token_is name (codes "mov") then with_shape MOV TwoRegisters
+    else if token_is name (codes "addi") then with_shape ADDI TwoRegistersNumber
+    else if token_is name (codes "load") then with_shape LOAD TwoRegistersNumber
+    else if token_is name (codes "store") then with_shape STORE TwoRegistersNumber
+    else arithmetic_of name
 
 -- a word; where a label is named, its address is still to be put in
 pub record Item : Type 0 where

@@ -1,8 +1,9 @@
 //! The operations by their names, and the words of lines.
-ghost use Rattle.std.specs.Prelude.{◌≡◌, ◌<◌, ◌≤◌, map, IfSome, IfOk, option_map};
+ghost use Rattle.std.specs.Prelude.{◌≡◌, ◌<◌, ◌≤◌, [], ◌∷◌, map, IfSome, IfOk, option_map};
 ghost use Rattle.fk_model.specs.Instructions.{IsInstr};
 ghost use Rattle.fk_model.specs.declared.instruction.operation.TheConstants.{CALL};
 ghost use Rattle.fk_asm.specs.Reasons.{GivesOrReason};
+ghost use Rattle.fk_asm.specs.declared.operations.Shape.TheVariants.{Number, RegisterNumber};
 ghost use Rattle.fk_asm.specs.Operands as operands;
 ghost use Rattle.fk_asm.specs.Operations as definitions;
 
@@ -42,6 +43,55 @@ fn with_shape(number: u8, shape: Shape) -> Option<Operation>
     Some(Operation { number, shape })
 }
 
+/// What leads elsewhere: jumps, the call, the end.
+#[tactic(auto, unfolding(crate::specs::Operations::jump_of))]
+fn jump_of(name: &[u8]) -> Option<Operation>
+    ensures value { result ≡ definitions.jump_of name.now }
+    ensures known { IfSome result (λ operation. operation.number ≤ CALL) }
+{
+    match name {
+        b"halt" => with_shape(operation::HALT, Shape::Bare),
+        b"jmp" => with_shape(operation::JMP, Shape::Number),
+        b"jz" => with_shape(operation::JZ, Shape::RegisterNumber),
+        b"jnz" => with_shape(operation::JNZ, Shape::RegisterNumber),
+        b"jlt" => with_shape(operation::JLT, Shape::TwoRegistersNumber),
+        b"call" => with_shape(operation::CALL, Shape::Bare),
+        _ => None,
+    }
+}
+
+/// Bits of two registers.
+#[tactic(auto, unfolding(crate::specs::Operations::bits_of))]
+fn bits_of(name: &[u8]) -> Option<Operation>
+    ensures value { result ≡ definitions.bits_of name.now }
+    ensures known { IfSome result (λ operation. operation.number ≤ CALL) }
+{
+    match name {
+        b"and" => with_shape(operation::AND, Shape::ThreeRegisters),
+        b"or" => with_shape(operation::OR, Shape::ThreeRegisters),
+        b"xor" => with_shape(operation::XOR, Shape::ThreeRegisters),
+        b"shl" => with_shape(operation::SHL, Shape::ThreeRegisters),
+        b"shr" => with_shape(operation::SHR, Shape::ThreeRegisters),
+        _ => jump_of(name),
+    }
+}
+
+/// Sums, products and quotients of two registers.
+#[tactic(auto, unfolding(crate::specs::Operations::arithmetic_of))]
+fn arithmetic_of(name: &[u8]) -> Option<Operation>
+    ensures value { result ≡ definitions.arithmetic_of name.now }
+    ensures known { IfSome result (λ operation. operation.number ≤ CALL) }
+{
+    match name {
+        b"add" => with_shape(operation::ADD, Shape::ThreeRegisters),
+        b"sub" => with_shape(operation::SUB, Shape::ThreeRegisters),
+        b"mul" => with_shape(operation::MUL, Shape::ThreeRegisters),
+        b"div" => with_shape(operation::DIV, Shape::ThreeRegisters),
+        b"rem" => with_shape(operation::REM, Shape::ThreeRegisters),
+        _ => bits_of(name),
+    }
+}
+
 /// The operation of a name.
 #[tactic(auto, unfolding(crate::specs::Operations::operation_of))]
 fn operation_of(name: &[u8]) -> Option<Operation>
@@ -49,28 +99,12 @@ fn operation_of(name: &[u8]) -> Option<Operation>
     ensures known { IfSome result (λ operation. operation.number ≤ CALL) }
 {
     match name {
-        b"halt" => with_shape(operation::HALT, Shape::Bare),
         b"set" => with_shape(operation::SET, Shape::RegisterNumber),
         b"mov" => with_shape(operation::MOV, Shape::TwoRegisters),
-        b"add" => with_shape(operation::ADD, Shape::ThreeRegisters),
-        b"sub" => with_shape(operation::SUB, Shape::ThreeRegisters),
-        b"mul" => with_shape(operation::MUL, Shape::ThreeRegisters),
-        b"and" => with_shape(operation::AND, Shape::ThreeRegisters),
-        b"or" => with_shape(operation::OR, Shape::ThreeRegisters),
-        b"xor" => with_shape(operation::XOR, Shape::ThreeRegisters),
-        b"shl" => with_shape(operation::SHL, Shape::ThreeRegisters),
-        b"shr" => with_shape(operation::SHR, Shape::ThreeRegisters),
-        b"div" => with_shape(operation::DIV, Shape::ThreeRegisters),
-        b"rem" => with_shape(operation::REM, Shape::ThreeRegisters),
+        b"addi" => with_shape(operation::ADDI, Shape::TwoRegistersNumber),
         b"load" => with_shape(operation::LOAD, Shape::TwoRegistersNumber),
         b"store" => with_shape(operation::STORE, Shape::TwoRegistersNumber),
-        b"jmp" => with_shape(operation::JMP, Shape::Number),
-        b"jz" => with_shape(operation::JZ, Shape::RegisterNumber),
-        b"jnz" => with_shape(operation::JNZ, Shape::RegisterNumber),
-        b"jlt" => with_shape(operation::JLT, Shape::TwoRegistersNumber),
-        b"addi" => with_shape(operation::ADDI, Shape::TwoRegistersNumber),
-        b"call" => with_shape(operation::CALL, Shape::Bare),
-        _ => None,
+        _ => arithmetic_of(name),
     }
 }
 
@@ -133,6 +167,27 @@ fn two_registers_number<'a>(op: u8, a: &[u8], b: &[u8], n: &'a [u8]) -> Result<I
     Ok(with_value(instr, n))
 }
 
+/// A word of an operation and a number.
+#[tactic(auto, unfolding(crate::specs::Operations::instruction))]
+fn with_number<'a>(op: u8, n: &'a [u8]) -> Result<Item<'a>, Reason>
+    requires { op ≤ CALL }
+    ensures { GivesOrReason definitions.item_view result (definitions.instruction op Number (n.now ∷ [])) }
+{
+    let n = operand_of(n)?;
+    Ok(with_value(bare(op), n))
+}
+
+/// A word of an operation, a register and a number.
+#[tactic(auto, unfolding(crate::specs::Operations::instruction))]
+fn register_number<'a>(op: u8, a: &[u8], n: &'a [u8]) -> Result<Item<'a>, Reason>
+    requires { op ≤ CALL }
+    ensures { GivesOrReason definitions.item_view result (definitions.instruction op RegisterNumber (a.now ∷ n.now ∷ [])) }
+{
+    let a = register_of(a)?;
+    let n = operand_of(n)?;
+    Ok(with_value(Instr { a, ..bare(op) }, n))
+}
+
 /// The word of an operation with exactly its operands.
 #[tactic(auto, unfolding(crate::specs::Operations::instruction))]
 fn instruction<'a>(op: u8, shape: Shape, operands: &[&'a [u8]]) -> Result<Item<'a>, Reason>
@@ -141,12 +196,8 @@ fn instruction<'a>(op: u8, shape: Shape, operands: &[&'a [u8]]) -> Result<Item<'
 {
     match (shape, operands) {
         (Shape::Bare, []) => Ok(with_value(bare(op), Value::Number(0))),
-        (Shape::Number, [n]) => Ok(with_value(bare(op), operand_of(n)?)),
-        (Shape::RegisterNumber, [a, n]) => {
-            let a = register_of(a)?;
-            let n = operand_of(n)?;
-            Ok(with_value(Instr { a, ..bare(op) }, n))
-        }
+        (Shape::Number, [n]) => with_number(op, n),
+        (Shape::RegisterNumber, [a, n]) => register_number(op, a, n),
         (Shape::TwoRegisters, [a, b]) => Ok(with_value(two_registers(op, a, b)?, Value::Number(0))),
         (Shape::ThreeRegisters, [a, b, c]) => {
             Ok(with_value(three_registers(op, a, b, c)?, Value::Number(0)))

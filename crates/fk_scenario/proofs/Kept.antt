@@ -15,12 +15,13 @@ use Rattle.fk_sections.specs.Servers.{servers_from}
 use Rattle.fk_sections.specs.Jobs.{entries_from}
 use Rattle.fk_sections.specs.Kept.{EachAfter, KeepsSpace, KeepsObject}
 use Rattle.fk_sections.proofs.Kept.{IsSmall, programs_kept, spaces_kept, objects_kept}
+use Rattle.fk_scenario.specs.declared.reading.Places.{Places}
 use Rattle.fk_scenario.specs.declared.reading.Round.{Round}
 use Rattle.fk_scenario.specs.declared.scenario.Scenario.{Scenario}
 use Rattle.fk_scenario.specs.Aims.{aims_from}
 use Rattle.fk_scenario.specs.Servers.{serving_from}
 use Rattle.fk_scenario.specs.Jobs.{jobs_from}
-use Rattle.fk_scenario.specs.Reading.{Sections, sections_of, Top, top_of, first_round, second_round, scenario_of}
+use Rattle.fk_scenario.specs.Reading.{Sections, sections_of, Top, top_of, places_of, first_round, second_round, scenario_of}
 use Rattle.fk_scenario.specs.Kept.{KeepsScenario}
 
 -- a whole document
@@ -41,32 +42,49 @@ top_kept ms top h =
     let (b1, b2) = in_range 1 8 (unwrap_or workers (pos 1)) count is_count in
     (omega arith, omega arith, omega arith, omega arith)))))))
 
--- what the first round keeps
-record KeepsRound (round : Round) : Type 0 where
-  programs : All IsSmall round.programs
-  spaces : EachAfter (KeepsSpace round.programs) [] round.spaces
-  few_spaces : count_beneath round.spaces ≤ 255
-  objects : EachAfter (KeepsObject round.spaces) [] round.objects
+-- what is there keeps
+record KeepsPlaces (places : Places) : Type 0 where
+  programs : All IsSmall places.programs
+  spaces : EachAfter (KeepsSpace places.programs) [] places.spaces
+  few_spaces : count_beneath places.spaces ≤ 255
+  objects : EachAfter (KeepsObject places.spaces) [] places.objects
 
-round_kept : (rules : List (List ℕ × Rule)) (sections : Sections) (round : Round) → first_round rules sections ≡ Ok round → KeepsRound round
-unfolding first_round
-round_kept rules sections round h =
-    after (programs_from [] sections.programs) _ round h (λ programs are_programs h.
-    after (spaces_from programs [] sections.spaces) _ round h (λ spaces are_spaces h.
-    after (objects_from spaces [] sections.objects) _ round h (λ objects are_objects h.
-    after (servers_from rules [] sections.servers) _ round h (λ servers _ h.
-    after (entries_from [] sections.jobs) _ round h (λ jobs _ h.
-    let same : record { programs = programs; spaces = spaces; objects = objects; servers = servers; jobs = jobs } ≡ round = cc in
+places_kept : (sections : Sections) (places : Places) → places_of sections ≡ Ok places → KeepsPlaces places
+unfolding places_of
+places_kept sections places h =
+    after (programs_from [] sections.programs) _ places h (λ programs are_programs h.
+    after (spaces_from programs [] sections.spaces) _ places h (λ spaces are_spaces h.
+    after (objects_from spaces [] sections.objects) _ places h (λ objects are_objects h.
+    let same : record { programs = programs; spaces = spaces; objects = objects } ≡ places = cc in
     let (each, few) = spaces_kept programs [] sections.spaces spaces are_spaces tt (omega arith) in
-    subst KeepsRound same (record {
+    subst KeepsPlaces same (record {
       programs = programs_kept [] sections.programs programs are_programs (All-nil IsSmall);
       spaces = each;
       few_spaces = few;
       objects = objects_kept spaces [] sections.objects objects are_objects tt;
-    }))))))
+    }))))
+
+-- and the first round with them
+round_kept : (rules : List (List ℕ × Rule)) (sections : Sections) (round : Round) → first_round rules sections ≡ Ok round →
+    KeepsPlaces (record { programs = round.programs; spaces = round.spaces; objects = round.objects })
+unfolding first_round
+round_kept rules sections round h =
+    after (places_of sections) _ round h (λ places are_places h.
+    after (servers_from rules [] sections.servers) _ round h (λ servers _ h.
+    after (entries_from [] sections.jobs) _ round h (λ jobs _ h.
+    let same : record {
+      programs = places.programs;
+      spaces = places.spaces;
+      objects = places.objects;
+      servers = servers;
+      jobs = jobs;
+    } ≡ round = cc in
+    subst (λ (r : Round). KeepsPlaces (record { programs = r.programs; spaces = r.spaces; objects = r.objects })) same
+    (places_kept sections places are_places))))
 
 second_kept : (budget workers : ℕ) (round : Round) (s : Scenario) → second_round budget workers round ≡ Ok s
-    → (1 ≤ budget) × (budget ≤ 1000000) × (1 ≤ workers) × (workers ≤ 8) → KeepsRound round → KeepsScenario s
+    → (1 ≤ budget) × (budget ≤ 1000000) × (1 ≤ workers) × (workers ≤ 8)
+    → KeepsPlaces (record { programs = round.programs; spaces = round.spaces; objects = round.objects }) → KeepsScenario s
 unfolding second_round
 second_kept budget workers round s h (a, b, c, d) kept =
     after (aims_from round.spaces round.objects 0 round.objects) _ s h (λ _ aims h.

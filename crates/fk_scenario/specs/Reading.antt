@@ -10,6 +10,7 @@ use Rattle.fk_fields.specs.Gives.{◌>>=◌, placed}
 use Rattle.fk_fields.specs.Fields.{known, integer_in, array_in, table_in, needed_integer, ranged}
 use Rattle.fk_scenario.specs.declared.reading.Top as code_top
 use Rattle.fk_scenario.specs.declared.reading.Sections as code
+use Rattle.fk_scenario.specs.declared.reading.Places.{Places}
 use Rattle.fk_scenario.specs.declared.reading.Round.{Round}
 use Rattle.fk_scenario.specs.declared.scenario.Scenario.{Scenario}
 use Rattle.fk_sections.specs.Programs.{programs_from}
@@ -76,15 +77,21 @@ top_of ms = do
   workers ← ranged 1 8 (unwrap_or workers (pos 1))
   Ok (record { budget = budget; workers = workers; sections = sections })
 
--- first round: the sections in their order, each entry by its rules but for those of the second
-unfoldable pub first_round : List (List ℕ × Rule) → Sections → Result Round ScenarioError
-first_round rules sections = do
+-- what is there: programs, spaces and objects, each after those before it
+unfoldable pub places_of : Sections → Result Places ScenarioError
+places_of sections = do
   programs ← programs_from [] sections.programs
   spaces ← spaces_from programs [] sections.spaces
   objects ← objects_from spaces [] sections.objects
+  Ok (record { programs = programs; spaces = spaces; objects = objects })
+
+-- first round: the sections in their order, each entry by its rules but for those of the second
+unfoldable pub first_round : List (List ℕ × Rule) → Sections → Result Round ScenarioError
+first_round rules sections = do
+  places ← places_of sections
   servers ← servers_from rules [] sections.servers
   jobs ← entries_from [] sections.jobs
-  Ok (record { programs = programs; spaces = spaces; objects = objects; servers = servers; jobs = jobs })
+  Ok (record { programs = places.programs; spaces = places.spaces; objects = places.objects; servers = servers; jobs = jobs })
 
 -- second round: what objects lead to (7), what servers serve (9), and whose jobs they are (10)
 unfoldable pub second_round : ℕ → ℕ → Round → Result Scenario ScenarioError

@@ -36,9 +36,12 @@ abbrev pub may_serve : List ObjectEntry → List (List ℕ) → List (List ℕ) 
 may_serve objects ports aliases server = is_one is_lone_port (object_with objects server.port) && not (has_key ports server.port) && has_new_alias
     aliases server.service
 
--- servers after some whose ports and aliases these are; one that may not serve is rule 9
+-- a server after some whose ports and aliases these are; one that may not serve is rule 9
+abbrev pub serving_one : List ObjectEntry → List (List ℕ) → List (List ℕ) → ServerEntry → Result (Unit {0}) ScenarioError
+serving_one objects ports aliases server = placed 5 (length ports) (unless 9 (may_serve objects ports aliases server))
+
+-- servers after such
 unfoldable pub serving_from : List ObjectEntry → List (List ℕ) → List (List ℕ) → List ServerEntry → Result (Unit {0}) ScenarioError
 serving_from objects ports aliases [] = Ok tt
 serving_from objects ports aliases (s ∷ ss) =
-    placed 5 (length ports) (unless 9 (may_serve objects ports aliases s)) >>= λ _. serving_from objects (ports ++ s.port ∷ []) (aliases ++ alias_of
-    s.service) ss
+    serving_one objects ports aliases s >>= λ _. serving_from objects (ports ++ s.port ∷ []) (aliases ++ alias_of s.service) ss

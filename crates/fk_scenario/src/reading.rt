@@ -97,6 +97,29 @@ fn top_of<'a>(table: &'a Table) -> Result<Top<'a>, Fail>
     })
 }
 
+/// What is there: programs, spaces and objects.
+#[derive(Drop)]
+struct Places {
+    programs: Entries<Program>,
+    spaces: Entries<SpaceEntry>,
+    objects: Entries<ObjectEntry>,
+}
+
+/// The programs, spaces and objects, each after those before it.
+#[tactic(auto, unfolding(crate::specs::Reading::places_of))]
+fn places_of(alloc: Global, sections: Sections<'_>) -> Result<Places, ScenarioFail>
+    ensures { Answers result (definitions.places_of (definitions.sections_view sections.entry)) }
+{
+    let programs = programs_in(alloc, sections.programs)?;
+    let spaces = spaces_in(alloc, &programs, sections.spaces)?;
+    let objects = objects_in(alloc, &spaces, sections.objects)?;
+    Ok(Places {
+        programs,
+        spaces,
+        objects,
+    })
+}
+
 /// The entries of all sections, each after those before it.
 #[derive(Drop)]
 struct Round {
@@ -115,15 +138,13 @@ fn first_round(
 ) -> Result<Round, ScenarioFail>
     ensures { Answers result (definitions.first_round (rules_view rules.now) (definitions.sections_view sections.entry)) }
 {
-    let programs = programs_in(alloc, sections.programs)?;
-    let spaces = spaces_in(alloc, &programs, sections.spaces)?;
-    let objects = objects_in(alloc, &spaces, sections.objects)?;
+    let places = places_of(alloc, sections)?;
     let servers = servers_in(alloc, rules, sections.servers)?;
     let jobs = entries_in(alloc, sections.jobs)?;
     Ok(Round {
-        programs,
-        spaces,
-        objects,
+        programs: places.programs,
+        spaces: places.spaces,
+        objects: places.objects,
         servers,
         jobs,
     })

@@ -61,6 +61,23 @@ fn with_alias(
     }
 }
 
+/// Refuses a server that may not serve, after those whose ports and aliases these are.
+fn check_server(
+    objects: &Entries<ObjectEntry>,
+    ports: &Entries<Path>,
+    aliases: &Entries<Text>,
+    server: &ServerEntry,
+) -> Result<(), ScenarioFail>
+    ensures { Answers result (definitions.serving_one objects.now ports.now aliases.now server.now) }
+{
+    let index = index_at(ports.len())?;
+    if may_serve(objects, ports, aliases, server) {
+        Ok(())
+    } else {
+        Err(Fail::Rule(rule::SERVERS).at(SECTION, index))
+    }
+}
+
 /// Refuses the first server that may not serve.
 #[tactic(auto, unfolding(crate::specs::Servers::serving_from))]
 pub fn check_servers(
@@ -73,10 +90,7 @@ pub fn check_servers(
     let mut ports = Entries::new(alloc);
     let mut aliases = Entries::new(alloc);
     for server in servers {
-        let index = index_at(ports.len())?;
-        if !may_serve(objects, &ports, &aliases, server) {
-            return Err(Fail::Rule(rule::SERVERS).at(SECTION, index));
-        }
+        check_server(objects, &ports, &aliases, server)?;
         ports = ports.with(alloc, server.port.copy()?)?;
         aliases = with_alias(alloc, aliases, &server.service)?;
     }
