@@ -1,5 +1,5 @@
 //! A stage that is done, with its answers.
-ghost use Rattle.std.specs.Prelude.{◌≡◌, ℕ, Some, slice_index};
+ghost use Rattle.std.specs.Prelude.{◌≡◌, ◌+◌, ◌%◌, ◌^◌, ℕ, Some, None, slice_index};
 ghost use Rattle.fk_model.specs.Calls.{with_answers};
 ghost use Rattle.fk_model.specs.Objects.Body.{Thread_of};
 ghost use Rattle.fk_model.specs.Places.{Path};
@@ -63,51 +63,33 @@ fn answer(registers: &mut [u64; 16], answers: Answers)
     }
 }
 
-/// A calling thread that goes on at the stages with this code.
-fn at_next(mut thread: Thread, code: u64, answers: Answers) -> Thread
-    requires calling { thread.mode ≡ modes.Calling }
-    requires after { Some code ≡ code_after (slice_index thread.regs 0) }
-    requires apart { LeaveArguments answers (todo_of_mode (mode_by thread.mode thread.regs)) }
-    ensures edit { (p : ℕ → Path) → edited (Finish (listed answers)) (Thread_of (thread_by p thread)) ≡ Thread_of (thread_by p result) }
-    ensures talk { result.talk ≡ thread.talk }
-    ensures fault { result.fault ≡ thread.fault }
-    ensures stops { result.stops ≡ thread.stops }
+/// The registers of a calling thread that goes on at the stages with this code.
+#[inline(always)]
+fn at_next(thread: &Thread, code: u64, answers: Answers) -> [u64; 16]
+    requires calling { thread.now.mode ≡ modes.Calling }
+    requires after { Some code ≡ code_after (slice_index thread.now.regs 0) }
+    requires apart { LeaveArguments answers (todo_of_mode (mode_by thread.now.mode thread.now.regs)) }
+    ensures { (p : ℕ → Path) → edited (Finish (listed answers)) (Thread_of (thread_by p thread.now))
+        ≡ Thread_of (thread_by p (record thread.now { regs = result; mode = modes.Calling })) }
 {
-    answer(&mut thread.regs, answers);
-    thread.regs[0] = code;
-    thread
+    let mut registers = thread.regs;
+    answer(&mut registers, answers);
+    registers[0] = code;
+    registers
 }
 
-/// A calling thread whose call has ended well.
-fn ended_well(mut thread: Thread, answers: Answers) -> Thread
-    requires calling { thread.mode ≡ modes.Calling }
-    ensures edit { (p : ℕ → Path) → edited (End OK (listed answers)) (Thread_of (thread_by p thread)) ≡ Thread_of (thread_by p result) }
-    ensures talk { result.talk ≡ thread.talk }
-    ensures fault { result.fault ≡ thread.fault }
-    ensures stops { result.stops ≡ thread.stops }
+/// The registers of a calling thread whose last stage is done.
+#[inline(always)]
+fn ended_well(thread: &Thread, answers: Answers) -> [u64; 16]
+    requires calling { thread.now.mode ≡ modes.Calling }
+    requires last { None ≡ code_after (slice_index thread.now.regs 0) }
+    ensures { (p : ℕ → Path) → edited (Finish (listed answers)) (Thread_of (thread_by p thread.now))
+        ≡ Thread_of (thread_by p (record thread.now { regs = result; pc = (thread.now.pc + 1) % 2 ^ 64; mode = modes.Running })) }
 {
-    thread.regs[0] = u64::from(status::OK);
-    answer(&mut thread.regs, answers);
-    thread.pc = thread.pc.wrapping_add(1);
-    thread.mode = Mode::Running;
-    thread
-}
-
-/// A thread whose stage is done.
-fn finished(thread: Thread, answers: Answers) -> Thread
-    requires { LeaveArguments answers (todo_of_mode (mode_by thread.mode thread.regs)) }
-    ensures edit { (p : ℕ → Path) → edited (Finish (listed answers)) (Thread_of (thread_by p thread)) ≡ Thread_of (thread_by p result) }
-    ensures talk { result.talk ≡ thread.talk }
-    ensures fault { result.fault ≡ thread.fault }
-    ensures stops { result.stops ≡ thread.stops }
-{
-    if let Mode::Calling = thread.mode {
-        return match code_after(thread.regs[0]) {
-            Some(code) => at_next(thread, code, answers),
-            None => ended_well(thread, answers),
-        };
-    }
-    thread
+    let mut registers = thread.regs;
+    registers[0] = u64::from(status::OK);
+    answer(&mut registers, answers);
+    registers
 }
 
 /// The first stage of a thread's call is done, with answers that leave the arguments of its later
@@ -119,8 +101,20 @@ pub fn finish(store: &mut Store, who: Who, answers: Answers)
     ensures kinds { kind_there (world store.new) ≡ kind_there (world store.old) }
     ensures paths { path store.new ≡ path store.old }
 {
-    if let Some(&thread) = store.thread(who) {
-        go_on(store, who, thread, finished(thread, answers));
+    if let Some(thread) = store.thread(who) {
+        if let Mode::Calling = thread.mode {
+            let counter = thread.pc;
+            match code_after(thread.regs[0]) {
+                Some(code) => {
+                    let registers = at_next(thread, code, answers);
+                    store.proceed(who, &registers, counter, Mode::Calling);
+                }
+                None => {
+                    let registers = ended_well(thread, answers);
+                    store.proceed(who, &registers, counter.wrapping_add(1), Mode::Running);
+                }
+            }
+        }
     }
 }
 

@@ -7,13 +7,13 @@ ghost use Rattle.fk_model.specs.World.{apply, edited};
 ghost use Rattle.fk_model.specs.World.Change.{Alter};
 ghost use Rattle.fk_model.specs.World.Edit.{Shift, CountMoved};
 ghost use Rattle.fk_model.specs.Valid.{kind_there};
+ghost use Rattle.fk_model.specs.declared.thread.Mode.TheVariants as modes;
 ghost use Rattle.fk_store.specs.Bodies.{mode_by, thread_by};
 ghost use Rattle.fk_store.specs.Paths.{path, place};
 ghost use Rattle.fk_store.specs.Threads.{todo_of_mode};
 ghost use Rattle.fk_store.specs.World.{world};
 ghost use Rattle.fk_threads.specs.Shifted.{moving, address_in, address_of, shifted_registers, receive_code, IsLow};
 
-use crate::going::go_on;
 use fk_model::{Mode, Thread, Turn, Who};
 use fk_store::Store;
 
@@ -43,19 +43,17 @@ fn shift(registers: &mut [u64; 16], count: u64)
     }
 }
 
-/// A thread whose first stage has moved so many words.
-#[tactic(auto, using(crate::proofs::ShiftLaws::shift_other))]
-fn advanced(mut thread: Thread, count: u64) -> Thread
-    requires { address_of (todo_of_mode (mode_by thread.mode thread.regs)) + count < 2 ^ 64 }
-    ensures edit { (p : ℕ → Path) → edited (Shift count) (Thread_of (thread_by p thread)) ≡ Thread_of (thread_by p result) }
-    ensures talk { result.talk ≡ thread.talk }
-    ensures fault { result.fault ≡ thread.fault }
-    ensures stops { result.stops ≡ thread.stops }
+/// The registers of a calling thread whose first stage has moved so many words.
+#[inline(always)]
+fn shifted(thread: &Thread, count: u64) -> [u64; 16]
+    requires calling { thread.now.mode ≡ modes.Calling }
+    requires low { address_of (todo_of_mode (mode_by thread.now.mode thread.now.regs)) + count < 2 ^ 64 }
+    ensures { (p : ℕ → Path) → edited (Shift count) (Thread_of (thread_by p thread.now))
+        ≡ Thread_of (thread_by p (record thread.now { regs = result; mode = modes.Calling })) }
 {
-    if let Mode::Calling = thread.mode {
-        shift(&mut thread.regs, count);
-    }
-    thread
+    let mut registers = thread.regs;
+    shift(&mut registers, count);
+    registers
 }
 
 /// The first stage of a thread's call has moved so many words. What is in no such stage stays as it
@@ -67,8 +65,12 @@ pub fn advance(store: &mut Store, who: Who, count: u64)
     ensures kinds { kind_there (world store.new) ≡ kind_there (world store.old) }
     ensures paths { path store.new ≡ path store.old }
 {
-    if let Some(&thread) = store.thread(who) {
-        go_on(store, who, thread, advanced(thread, count));
+    if let Some(thread) = store.thread(who) {
+        if let Mode::Calling = thread.mode {
+            let counter = thread.pc;
+            let registers = shifted(thread, count);
+            store.proceed(who, &registers, counter, Mode::Calling);
+        }
     }
 }
 

@@ -1,8 +1,14 @@
-use Rattle.std.proofs.Common.{◌≡◌, length, arith}
+use Rattle.std.proofs.Common.{◌≡◌, length, slice_set, ap, ◌∙◌, arith}
+use Rattle.fk_model.specs.Calls.{with_answers}
+use Rattle.fk_model.specs.Objects.Body.{Thread_of}
+use Rattle.fk_store.specs.Bodies.{thread_by}
+use Rattle.fk_threads.specs.Answers.{listed}
 use Rattle.fk_threads.proofs.FinishLaws.{finish_on}
 use Rattle.fk_threads.proofs.answers.at_next.Goals as goal
 
-pub returns-clause-edit : goal.returns-clause-edit
-returns-clause-edit c p =
-    let long : length c.args.thread.regs ≡ 16 = omega arith in
-    rw c.answer.ensures (finish_on p c.args.thread c.args.answers c.args.code long c.requires.calling c.requires.after c.requires.apart)
+pub returns : goal.returns
+returns c p =
+    let t = c.args.thread.now in
+    let long : length t.regs ≡ 16 = omega arith in
+    rw c.answer.ensures (finish_on p t c.args.answers c.args.code long c.requires.calling c.requires.after c.requires.apart
+    ∙ ap (λ m. Thread_of (thread_by p (record t { regs = slice_set (with_answers (listed c.args.answers) t.regs) 0 c.args.code; mode = m }))) c.requires.calling)

@@ -1,8 +1,11 @@
 use Rattle.std.proofs.Common.{◌≡◌, length, arith}
-use Rattle.fk_threads.proofs.FinishLaws.{end_well}
+use Rattle.fk_threads.specs.Answers.{listed}
+use Rattle.fk_threads.proofs.FinishLaws.{end_well, finish_ends}
 use Rattle.fk_threads.proofs.answers.ended_well.Goals as goal
 
-pub returns-clause-edit : goal.returns-clause-edit
-returns-clause-edit c p =
-    let long : length c.args.thread.regs ≡ 16 = omega arith in
-    rw (c.answer.ensures, c.from.ensures) (end_well p c.args.thread _ long c.requires.calling)
+pub returns : goal.returns
+returns c p =
+    let t = c.args.thread.now in
+    let long : length t.regs ≡ 16 = omega arith in
+    rw (c.answer.ensures, c.from.ensures) (finish_ends p t (listed c.args.answers) _ long c.requires.calling c.requires.last
+    (end_well p t (listed c.args.answers) long c.requires.calling))
