@@ -69,31 +69,31 @@ is_referable other = false
 -- a space's holder isn't in or beneath it
 abbrev pub may_hold : List SpaceRec → ℕ → Link → Bool
 may_hold spaces space Null = true
-may_hold spaces space (In other slot) = is_thread_kind (kind_in_space spaces other slot) && not (is_space_within spaces space other)
+may_hold spaces space (In slot other) = is_thread_kind (kind_in_space spaces other slot) && not (is_space_within spaces space other)
 may_hold spaces space other = false
 
 abbrev pub leads_to_region : List SpaceRec → Link → Bool
 leads_to_region spaces Null = true
 leads_to_region spaces Dead = true
-leads_to_region spaces (In space slot) = is_region_kind (kind_in_space spaces space slot)
+leads_to_region spaces (In slot space) = is_region_kind (kind_in_space spaces space slot)
 leads_to_region spaces other = false
 
 abbrev pub leads_to_keeper : List SpaceRec → Link → Bool
 leads_to_keeper spaces Null = true
 leads_to_keeper spaces Dead = true
 leads_to_keeper spaces (Out slot) = true
-leads_to_keeper spaces (In space slot) = is_port_kind (kind_in_space spaces space slot)
+leads_to_keeper spaces (In slot space) = is_port_kind (kind_in_space spaces space slot)
 leads_to_keeper spaces other = false
 
 abbrev pub may_refer : List SpaceRec → Link → Bool
-may_refer spaces (In space slot) = is_referable (kind_in_space spaces space slot) || has_space_at spaces space slot
+may_refer spaces (In slot space) = is_referable (kind_in_space spaces space slot) || has_space_at spaces space slot
 may_refer spaces Outside = false
 may_refer spaces other = true
 
 -- the port of a talk or a fault
 abbrev pub leads_to_port : List SpaceRec → Link → Bool
 leads_to_port spaces (Out slot) = true
-leads_to_port spaces (In space slot) = is_port_kind (kind_in_space spaces space slot)
+leads_to_port spaces (In slot space) = is_port_kind (kind_in_space spaces space slot)
 leads_to_port spaces other = false
 
 abbrev pub is_outside_link : Link → Bool
@@ -102,13 +102,13 @@ is_outside_link other = false
 
 -- a thread of that space
 abbrev pub is_thread_in : List SpaceRec → ℕ → Link → Bool
-is_thread_in spaces space (In other slot) = other == space && is_thread_kind (kind_in_space spaces other slot)
+is_thread_in spaces space (In slot other) = other == space && is_thread_kind (kind_in_space spaces other slot)
 is_thread_in spaces space other = false
 
 -- who serves a talk, or took a fault, at a port: a thread of the port's space, or a peer outside where the port is
 abbrev pub serves_port : List SpaceRec → Link → Link → Bool
 serves_port spaces (Out slot) peer = is_outside_link peer
-serves_port spaces (In space slot) peer = is_thread_in spaces space peer
+serves_port spaces (In slot space) peer = is_thread_in spaces space peer
 serves_port spaces other peer = false
 
 -- a port's set is a port set of its space
@@ -150,7 +150,7 @@ spaces_lead spaces number (s ∷ ss) = space_leads spaces number s && spaces_lea
 -- ---- the threads that serve talks or took faults
 
 abbrev pub peer : Link → List (ℕ × ℕ)
-peer (In space slot) = (space, slot) ∷ []
+peer (In slot space) = (space, slot) ∷ []
 peer other = []
 
 abbrev pub talk_peers : Option TalkRec → List (ℕ × ℕ)

@@ -53,7 +53,7 @@ space_path spaces number = path_within number spaces number
 abbrev pub ptr : List SpaceRec → Link → Ptr
 ptr spaces Null = ptrs.Null
 ptr spaces Dead = ptrs.Dead
-ptr spaces (In space slot) = ptrs.At (slot ∷ space_path spaces space)
+ptr spaces (In slot space) = ptrs.At (slot ∷ space_path spaces space)
 ptr spaces (Out slot) = ptrs.Out slot
 ptr spaces Root = ptrs.At []
 ptr spaces Outside = ptrs.Outside

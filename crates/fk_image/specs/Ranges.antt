@@ -26,7 +26,7 @@ abbrev pub is_word : ℕ → Bool
 is_word n = nat_lt n (2 ^ 64)
 
 abbrev pub fits_link : Link → Bool
-fits_link (In space slot) = nat_lt space (2 ^ 32) && is_slot slot
+fits_link (In slot space) = nat_lt space (2 ^ 32) && is_slot slot
 fits_link (Out slot) = is_slot slot
 fits_link Null = true
 fits_link Dead = true

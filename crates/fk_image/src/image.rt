@@ -11,7 +11,7 @@ pub enum Link {
     /// What it led to was destroyed.
     Dead,
     /// What lies in a slot, 0 to 239, of a space of the image, by the space's number.
-    In { space: u32, slot: u8 },
+    In { slot: u8, space: u32 },
     /// The port in this slot, 0 to 239, of the nester.
     Out(u8),
     /// The subtree's root.

@@ -31,7 +31,7 @@ link_again : (l : Link) (rest : List ℕ) → fits_link l ≡ true → read_link
 unfolding read_link
 link_again Null rest fits = refl
 link_again Dead rest fits = refl
-link_again (In n slot) rest fits =
+link_again (In slot n) rest fits =
     let f = and2 (ltb n (2 ^ 32)) (ltb slot 240) fits in
     rw (number_again w32 (2 ^ 32) wide32 n (slot ∷ rest) f.0, below_again 240 slot rest f.1) refl
 link_again (Out slot) rest fits = rw (below_again 240 slot rest fits) refl
@@ -215,7 +215,7 @@ space_apart s rest = simp append_assoc
 null_is : (l : Link) → is_null l ≡ true → l ≡ Null
 null_is Null e = refl
 null_is Dead e = absurd cc
-null_is (In n slot) e = absurd cc
+null_is (In slot n) e = absurd cc
 null_is (Out slot) e = absurd cc
 null_is Root e = absurd cc
 null_is Outside e = absurd cc

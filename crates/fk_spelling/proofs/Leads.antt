@@ -109,7 +109,7 @@ peer_fares spaces port Dead at seen = nobody_new (serves_port spaces port Dead) 
 peer_fares spaces port (Out slot) at seen = nobody_new (serves_port spaces port (Out slot)) at (at + 2) seen
 peer_fares spaces port Root at seen = nobody_new (serves_port spaces port Root) at (at + 1) seen
 peer_fares spaces port Outside at seen = nobody_new (serves_port spaces port Outside) at (at + 1) seen
-peer_fares spaces port (In n slot) at seen = by (serves_port spaces port (In n slot)) (list_any (is_same_place (n, slot)) seen)
+peer_fares spaces port (In slot n) at seen = by (serves_port spaces port (In slot n)) (list_any (is_same_place (n, slot)) seen)
   where
     by : (right old : Bool) → named_of (expect_at (right && not old) at >>= λ _. Ok (record { at = at + 6; named = named_by ((n, slot) ∷ seen) })) ≡ pick
         (right && (not old && true)) (named_by ((n, slot) ∷ seen))

@@ -37,7 +37,7 @@ link_takes bytes x fits e =
   where
     by : (tag : ℕ) (rest : List ℕ) → Takes bytes (tag ∷ []) rest
         → cond (eqb tag 0) (Ok (Null, rest)) (cond (eqb tag 1) (Ok (Dead, rest))
-        (cond (eqb tag 2) (read_number w32 rest >>= λ n. read_below 240 n.1 >>= λ slot. Ok (In n.0 slot.0, slot.1))
+        (cond (eqb tag 2) (read_number w32 rest >>= λ n. read_below 240 n.1 >>= λ slot. Ok (In slot.0 n.0, slot.1))
         (cond (eqb tag 3) (read_below 240 rest >>= λ slot. Ok (Out slot.0, slot.1))
         (cond (eqb tag 4) (Ok (Root, rest)) (cond (eqb tag 5) (Ok (Outside, rest)) (refuse_field bytes 5)))))) ≡ Ok x
         → Took link fits_link bytes x
@@ -50,7 +50,7 @@ link_takes bytes x fits e =
         let t1 = below_takes 240 a.0.1 b.0 t0.0.rest_fits b.1 in
         let whole = Takes-then bytes
         (2 ∷ []) rest (to_le_bytes w32 a.0.0 ++ b.0.0 ∷ []) b.0.1 t (Takes-then rest (to_le_bytes w32 a.0.0) a.0.1 (b.0.0 ∷ []) b.0.1 t0.0 t1.0) in
-        made link fits_link bytes (In a.0.0 b.0.0, b.0.1) x b.2 (whole, both _ _ t0.1 t1.1)
+        made link fits_link bytes (In b.0.0 a.0.0, b.0.1) x b.2 (whole, both _ _ t0.1 t1.1)
     by (suc (suc (suc zero))) rest t e =
         let a = bind_ok (read_below 240 rest) _ x e in
         let t0 = below_takes 240 rest a.0 t.rest_fits a.1 in

@@ -28,11 +28,11 @@ abbrev pub with_thread : ℕ → ℕ → Named → Named
 with_thread space slot named = λ other k. (space == other && slot == k) || named other k
 
 abbrev pub with_peer : Link → Named → Named
-with_peer (In space slot) named = with_thread space slot named
+with_peer (In slot space) named = with_thread space slot named
 with_peer other named = named
 
 abbrev pub is_named : Named → Link → Bool
-is_named named (In space slot) = named space slot
+is_named named (In slot space) = named space slot
 is_named named other = false
 
 -- the offset that comes next, and who was named

@@ -31,7 +31,7 @@ read_link bytes = do
       else if tag.0 == 2 then (do
         space ← read_number w32 tag.1
         slot ← read_below 240 space.1
-        Ok (In space.0 slot.0, slot.1))
+        Ok (In slot.0 space.0, slot.1))
       else if tag.0 == 3 then (do
         slot ← read_below 240 tag.1
         Ok (Out slot.0, slot.1))

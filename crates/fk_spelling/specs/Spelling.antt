@@ -18,7 +18,7 @@ use Rattle.fk_image.specs.declared.image.Image.{Image}
 abbrev pub link_bytes : Link → List ℕ
 link_bytes Null = 0 ∷ []
 link_bytes Dead = 1 ∷ []
-link_bytes (In space slot) = 2 ∷ (to_le_bytes w32 space ++ slot ∷ [])
+link_bytes (In slot space) = 2 ∷ (to_le_bytes w32 space ++ slot ∷ [])
 link_bytes (Out slot) = 3 ∷ slot ∷ []
 link_bytes Root = 4 ∷ []
 link_bytes Outside = 5 ∷ []
