@@ -154,9 +154,9 @@ plan_iff : (w : World) (me : Path) (p : ℕ → Path) (given : List ℕ) (plan :
 plan_iff w me p given plans.Nothing fits = ((λ h. tt), (λ h. refl))
 plan_iff w me p given (plans.One a) fits = one_iff _ (deed_iff w _ me p a)
 plan_iff w me p given (plans.Two a b) fits = both_iff _ _ (deed_iff w _ me p a) (one_iff _ (deed_iff w _ me p b))
-plan_iff w me p given (plans.Three a b c) fits = both_iff _ _ (deed_iff w _ me p a) (both_iff _ _ (deed_iff w _ me p b) (one_iff _ (deed_iff w _ me p c)))
-plan_iff w me p given (plans.Four a b c d) fits =
-    both_iff _ _ (deed_iff w _ me p a) (both_iff _ _ (deed_iff w _ me p b) (both_iff _ _ (deed_iff w _ me p c) (one_iff _ (deed_iff w _ me p d))))
+plan_iff w me p given (plans.Moves block client receiver sender) fits =
+    both_iff _ _ (deed_iff w w me p (deeds.Sends block)) (both_iff _ _ (deed_iff w w me p (deeds.Counts client block.count))
+    (both_iff _ _ (deed_iff w w me p (deeds.Shifts receiver block.count)) (one_iff _ (deed_iff w w me p (deeds.Shifts sender block.count)))))
 plan_iff w me p given (plans.Makes object kind) fits = making_iff w me (place p object) kind fits.2
 plan_iff w me p given (plans.MakesHeld object holder) fits = held_space_iff w me (place p object) (place p holder)
 plan_iff w me p given (plans.Gives space page source) fits = one_iff _ (not_iff (is_frozen_for w me (p space)))

@@ -55,8 +55,8 @@ abbrev pub is_plan_allowed : World → Path → (ℕ → Path) → Plan → Bool
 is_plan_allowed w me p plans.Nothing = true
 is_plan_allowed w me p (plans.One a) = is_deed_allowed w me p a
 is_plan_allowed w me p (plans.Two a b) = is_deed_allowed w me p a && is_deed_allowed w me p b
-is_plan_allowed w me p (plans.Three a b c) = is_deed_allowed w me p a && (is_deed_allowed w me p b && is_deed_allowed w me p c)
-is_plan_allowed w me p (plans.Four a b c d) = is_deed_allowed w me p a && (is_deed_allowed w me p b && (is_deed_allowed w me p c && is_deed_allowed w me p d))
+is_plan_allowed w me p (plans.Moves block client receiver sender) = not (is_frozen_for w me (p block.to.0))
+    && (not (is_frozen_for w me (place p client)) && (not (is_frozen_for w me (place p receiver)) && not (is_frozen_for w me (place p sender))))
 is_plan_allowed w me p (plans.Makes object kind) = not (is_frozen_for w me (place p object))
 is_plan_allowed w me p (plans.MakesHeld object holder) = not (is_frozen_for w me (place p object)) && not (is_frozen_for w me (place p holder))
 is_plan_allowed w me p (plans.Gives space page source) = not (is_frozen_for w me (p space))

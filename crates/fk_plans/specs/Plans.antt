@@ -77,8 +77,8 @@ abbrev pub changes_by : (ℕ → Path) → List ℕ → Plan → World → List 
 changes_by p given plans.Nothing w = []
 changes_by p given (plans.One a) w = and_next p a no_more w
 changes_by p given (plans.Two a b) w = and_next p a (and_next p b no_more) w
-changes_by p given (plans.Three a b c) w = and_next p a (and_next p b (and_next p c no_more)) w
-changes_by p given (plans.Four a b c d) w = and_next p a (and_next p b (and_next p c (and_next p d no_more))) w
+changes_by p given (plans.Moves block client receiver sender) w = and_next p (deeds.Sends block) (and_next p (deeds.Counts client block.count)
+    (and_next p (deeds.Shifts receiver block.count) (and_next p (deeds.Shifts sender block.count) no_more))) w
 changes_by p given (plans.Makes object kind) w = made (new_object (place p object) kind)
 changes_by p given (plans.MakesHeld object holder) w = MakeSpace (place p object) (Some (At (place p holder))) ∷ []
 changes_by p given (plans.Gives space page source) w = PutPage (p space) page (source_words p given source w) ∷ []
@@ -121,9 +121,10 @@ abbrev pub IsPlan : (ℕ → Path) → World → Plan → Type 0
 IsPlan p w plans.Nothing = ⊤
 IsPlan p w (plans.One a) = IsDeed p w a
 IsPlan p w (plans.Two a b) = IsDeed p w a × IsDeed p (after p a w) b
-IsPlan p w (plans.Three a b c) = IsDeed p w a × IsDeed p (after p a w) b × IsDeed p (after p b (after p a w)) c
-IsPlan p w (plans.Four a b c d) =
-    IsDeed p w a × IsDeed p (after p a w) b × IsDeed p (after p b (after p a w)) c × IsDeed p (after p c (after p b (after p a w))) d
+IsPlan p w (plans.Moves block client receiver sender) =
+    let counted = after p (deeds.Counts client block.count) (after p (deeds.Sends block) w) in
+    IsBlock p w block × IsLow counted (place p receiver) block.count
+    × IsLow (after p (deeds.Shifts receiver block.count) counted) (place p sender) block.count
 IsPlan p w (plans.Makes object kind) = IsMaking p w object kind
 IsPlan p w (plans.MakesHeld object holder) = IsMakingHeld p w object holder
 IsPlan p w (plans.Gives space page source) = (birth_at w (p space) ≡ Some space) × IsSource p w source

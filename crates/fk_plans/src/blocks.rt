@@ -21,17 +21,16 @@ pub struct Block {
     pub count: u8,
 }
 
-/// A page into which a block of another page is written.
-fn written(mut page: [u64; 64], from: &[u64; 64], at: u8, into: u8, count: u8) -> [u64; 64]
+/// A block of another page is written into a page.
+fn write(page: &mut [u64; 64], from: &[u64; 64], at: u8, into: u8, count: u8)
     requires at { at + count ≤ 64 }
     requires into { into + count ≤ 64 }
-    ensures { result ≡ overwritten page into (take count (drop at from.now)) }
+    ensures { page.new ≡ overwritten page.old into (take count (drop at from.now)) }
 {
     let at = at as usize;
     let into = into as usize;
     let count = count as usize;
     page[into..into + count].copy_from_slice(&from[at..at + count]);
-    page
 }
 
 /// Words of a page go to a page that is there, which may be the same one.
@@ -52,7 +51,8 @@ pub fn send_block(store: &mut Store, block: Block)
     let Some(to) = store.page(block.to.0, block.to.1) else {
         unreachable!()
     };
-    let words = written(*to, from, block.at, block.into, block.count);
+    let mut words = *to;
+    write(&mut words, from, block.at, block.into, block.count);
     match store.put_page(block.to.0, block.to.1, &words) {
         Ok(()) => {}
         Err(_) => unreachable!(),

@@ -6,10 +6,10 @@ ghost use Rattle.fk_model.specs.World.{apply, apply_all};
 ghost use Rattle.fk_store.specs.Moves.{said_by};
 ghost use Rattle.fk_store.specs.Paths.{path, place};
 ghost use Rattle.fk_store.specs.World.{world, IsLive};
-ghost use Rattle.fk_plans.specs.Plans.{caller_by, change_by, changes_by, IsDeed, IsSure};
+ghost use Rattle.fk_plans.specs.Plans.{caller_by, change_by, changes_by, IsDeed, IsPlan, IsSure};
 ghost use Rattle.fk_plans.specs.Verdicts.{outcome_by, news_by, tells, IsNews, IsPlanOf, IsRecordOf, IsVerdict, IsSureVerdict};
 
-use crate::blocks::{copy_page, send_block};
+use crate::blocks::{Block, copy_page, send_block};
 use crate::destroying::destroy;
 use crate::instructions::run;
 use crate::making::{make, make_held};
@@ -60,6 +60,21 @@ fn carry(store: &mut Store, deed: &Deed)
     }
 }
 
+/// Words of a page go to a page of a receiver, and its talk and both ends have moved so many more.
+#[tactic(auto, unfolding(fk_model::specs::World::apply_all))]
+fn send_words(store: &mut Store, block: Block, client: Who, receiver: Who, sender: Who)
+    requires fits { IsPlan (path store.old) (world store.old) (Plan.Moves block client receiver sender) }
+    ensures world { (given : List ℕ) → world store.new
+        ≡ apply_all (changes_by (path store.old) given (Plan.Moves block client receiver sender) (world store.old)) (world store.old) }
+    ensures paths { path store.new ≡ path store.old }
+{
+    let count = u64::from(block.count);
+    send_block(store, block);
+    count_moved(store, client, block.count);
+    advance(store, receiver, count);
+    advance(store, sender, count);
+}
+
 /// Does all of a plan. For want of memory all stays as it was.
 #[tactic(auto, unfolding(fk_model::specs::World::apply_all))]
 fn carry_all(store: &mut Store, caller: Caller, given: &[u64], plan: &Plan) -> Result<(), NoMemory>
@@ -77,17 +92,12 @@ fn carry_all(store: &mut Store, caller: Caller, given: &[u64], plan: &Plan) -> R
             carry(store, a);
             carry(store, b);
         }
-        Plan::Three(a, b, c) => {
-            carry(store, a);
-            carry(store, b);
-            carry(store, c);
-        }
-        Plan::Four(a, b, c, d) => {
-            carry(store, a);
-            carry(store, b);
-            carry(store, c);
-            carry(store, d);
-        }
+        Plan::Moves {
+            block,
+            client,
+            receiver,
+            sender,
+        } => send_words(store, *block, *client, *receiver, *sender),
         Plan::Makes { object, kind } => return make(store, *object, *kind),
         Plan::MakesHeld { object, holder } => return make_held(store, *object, *holder),
         Plan::Gives {

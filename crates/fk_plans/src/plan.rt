@@ -59,8 +59,14 @@ pub enum Plan {
     Nothing,
     One(Deed),
     Two(Deed, Deed),
-    Three(Deed, Deed, Deed),
-    Four(Deed, Deed, Deed, Deed),
+    /// Words of a page go to a page of a thread that receives them: the talk of a client has moved so
+    /// many words more, and so have the first stages of the receiver and of the sender.
+    Moves {
+        block: Block,
+        client: Who,
+        receiver: Who,
+        sender: Who,
+    },
     /// A new object of the kind with this number.
     Makes {
         object: Who,

@@ -105,16 +105,16 @@ fn is_plan_allowed(store: &Store, me: Who, plan: &Plan) -> bool
         Plan::Nothing => true,
         Plan::One(a) => is_deed_allowed(store, me, a),
         Plan::Two(a, b) => is_deed_allowed(store, me, a) && is_deed_allowed(store, me, b),
-        Plan::Three(a, b, c) => {
-            is_deed_allowed(store, me, a)
-                && is_deed_allowed(store, me, b)
-                && is_deed_allowed(store, me, c)
-        }
-        Plan::Four(a, b, c, d) => {
-            is_deed_allowed(store, me, a)
-                && is_deed_allowed(store, me, b)
-                && is_deed_allowed(store, me, c)
-                && is_deed_allowed(store, me, d)
+        Plan::Moves {
+            block,
+            client,
+            receiver,
+            sender,
+        } => {
+            !store.space_frozen_for(me, block.to.0)
+                && !store.frozen_for(me, *client)
+                && !store.frozen_for(me, *receiver)
+                && !store.frozen_for(me, *sender)
         }
         Plan::Makes { object, .. } => !store.frozen_for(me, *object),
         Plan::MakesHeld { object, holder } => {

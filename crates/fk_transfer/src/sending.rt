@@ -83,16 +83,12 @@ fn sent(
         into: (receiver.into % 64) as u8,
         count,
     };
-    let thread = receiver.thread;
-    let plan = Plan::Four(
-        Deed::Sends(block),
-        Deed::Counts { client, count },
-        Deed::Shifts { thread, count },
-        Deed::Shifts {
-            thread: caller.who,
-            count,
-        },
-    );
+    let plan = Plan::Moves {
+        block,
+        client,
+        receiver: receiver.thread,
+        sender: caller.who,
+    };
     if u64::from(count) == message.count {
         Verdict::Done(plan, Answers::Nothing)
     } else {
