@@ -8,6 +8,11 @@ abbrev pub Fails : {Y : Type 0} → Fail → Result Y Stop → Type 0
 Fails fails.NoMemory read = Unit {0}
 Fails (fails.At stop) read = read ≡ Err stop
 
+-- a fault of the bytes, and no want of memory
+abbrev pub IsFault : Fail → Type 0
+IsFault fails.NoMemory = ⊥
+IsFault (fails.At stop) = Unit {0}
+
 -- what a part gives, seen by view, is what reading it gives
 abbrev pub Decodes : {X Y : Type 0} → (X → Y) → Result X Fail → Result Y Stop → Type 0
 Decodes view (Ok x) read = read ≡ Ok (view x)

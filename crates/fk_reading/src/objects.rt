@@ -1,10 +1,10 @@
 //! Bytes to objects and pages.
-ghost use Rattle.std.specs.Prelude.{◌≡◌, ◌≤◌, ◌+◌, ◌++◌, ◌∷◌, [], IfOk, OnOk};
+ghost use Rattle.std.specs.Prelude.{◌≡◌, ◌≤◌, ◌+◌, ◌++◌, ◌∷◌, [], IfErr, IfOk, OnOk};
 ghost use Rattle.fk_image.specs.Objects.{next_slot};
 ghost use Rattle.fk_image.specs.Valid.{after_object, after_page};
 ghost use Rattle.fk_spelling.specs.Fields.{read_many};
 ghost use Rattle.fk_spelling.specs.Reading as words;
-ghost use Rattle.fk_reading.specs.Given.{Decodes};
+ghost use Rattle.fk_reading.specs.Given.{Decodes, IsFault};
 ghost use Rattle.fk_reading.specs.Adding.{with_body, with_object};
 
 use crate::fail::Fail;
@@ -17,7 +17,8 @@ use std::alloc::Global;
 /// A first page and a count.
 #[tactic(auto, unfolding(fk_spelling::specs::Reading::read_extent))]
 fn read_extent(bytes: &[u8]) -> Result<((u8, u16), &[u8]), Fail>
-    ensures { Decodes (λ x. (x.0, x.1.now)) result (words.read_extent bytes.now) }
+    ensures read { Decodes (λ x. (x.0, x.1.now)) result (words.read_extent bytes.now) }
+    ensures fault { IfErr result (λ fail. IsFault fail) }
 {
     let (first, behind_first) = read_byte(bytes)?;
     let (count, rest) = read_u16(behind_first)?;
@@ -30,7 +31,8 @@ fn read_extent(bytes: &[u8]) -> Result<((u8, u16), &[u8]), Fail>
 
 #[tactic(auto, unfolding(fk_spelling::specs::Reading::read_mapping))]
 fn read_mapping(bytes: &[u8]) -> Result<(Rec, &[u8]), Fail>
-    ensures { Decodes (λ x. (x.0, x.1.now)) result (words.read_mapping bytes.now) }
+    ensures read { Decodes (λ x. (x.0, x.1.now)) result (words.read_mapping bytes.now) }
+    ensures fault { IfErr result (λ fail. IsFault fail) }
 {
     let ((first, count), rest) = read_extent(bytes)?;
     let (offset, rest) = read_byte(rest)?;
@@ -48,7 +50,8 @@ fn read_mapping(bytes: &[u8]) -> Result<(Rec, &[u8]), Fail>
 
 #[tactic(auto, unfolding(fk_spelling::specs::Reading::read_region))]
 fn read_region(bytes: &[u8]) -> Result<(Rec, &[u8]), Fail>
-    ensures { Decodes (λ x. (x.0, x.1.now)) result (words.read_region bytes.now) }
+    ensures read { Decodes (λ x. (x.0, x.1.now)) result (words.read_region bytes.now) }
+    ensures fault { IfErr result (λ fail. IsFault fail) }
 {
     let ((first, count), rest) = read_extent(bytes)?;
     let (write, rest) = read_below(2, rest)?;
@@ -64,7 +67,8 @@ fn read_region(bytes: &[u8]) -> Result<(Rec, &[u8]), Fail>
 
 #[tactic(auto, unfolding(fk_spelling::specs::Reading::read_port))]
 fn read_port(bytes: &[u8]) -> Result<(Rec, &[u8]), Fail>
-    ensures { Decodes (λ x. (x.0, x.1.now)) result (words.read_port bytes.now) }
+    ensures read { Decodes (λ x. (x.0, x.1.now)) result (words.read_port bytes.now) }
+    ensures fault { IfErr result (λ fail. IsFault fail) }
 {
     let (set, rest) = read_u16(bytes)?;
     if is_set_word(set) {
@@ -76,7 +80,8 @@ fn read_port(bytes: &[u8]) -> Result<(Rec, &[u8]), Fail>
 
 #[tactic(auto, unfolding(fk_spelling::specs::Reading::read_mutex))]
 fn read_mutex(bytes: &[u8]) -> Result<(Rec, &[u8]), Fail>
-    ensures { Decodes (λ x. (x.0, x.1.now)) result (words.read_mutex bytes.now) }
+    ensures read { Decodes (λ x. (x.0, x.1.now)) result (words.read_mutex bytes.now) }
+    ensures fault { IfErr result (λ fail. IsFault fail) }
 {
     let (locked, rest) = read_below(2, bytes)?;
     Ok((Rec::Mutex { locked }, rest))
@@ -84,7 +89,8 @@ fn read_mutex(bytes: &[u8]) -> Result<(Rec, &[u8]), Fail>
 
 #[tactic(auto, unfolding(fk_spelling::specs::Reading::read_reference))]
 fn read_reference(bytes: &[u8]) -> Result<(Rec, &[u8]), Fail>
-    ensures { Decodes (λ x. (x.0, x.1.now)) result (words.read_reference bytes.now) }
+    ensures read { Decodes (λ x. (x.0, x.1.now)) result (words.read_reference bytes.now) }
+    ensures fault { IfErr result (λ fail. IsFault fail) }
 {
     let (to, rest) = read_link(bytes)?;
     Ok((Rec::Reference { to }, rest))
@@ -179,7 +185,8 @@ pub fn read_objects(alloc: Global, bytes: &[u8]) -> Result<(Objects, &[u8]), Fai
 /// A page with a number from `floor` on.
 #[tactic(auto, unfolding(fk_spelling::specs::Reading::read_page))]
 fn read_page(floor: u16, bytes: &[u8]) -> Result<(PageRec, &[u8]), Fail>
-    ensures { Decodes (λ x. (x.0, x.1.now)) result (words.read_page floor bytes.now) }
+    ensures read { Decodes (λ x. (x.0, x.1.now)) result (words.read_page floor bytes.now) }
+    ensures fault { IfErr result (λ fail. IsFault fail) }
 {
     let (page, rest) = read_byte(bytes)?;
     if u16::from(page) < floor {

@@ -1,6 +1,7 @@
 //! Bytes to threads.
+ghost use Rattle.std.specs.Prelude.{IfErr};
 ghost use Rattle.fk_spelling.specs.Reading as words;
-ghost use Rattle.fk_reading.specs.Given.{Decodes};
+ghost use Rattle.fk_reading.specs.Given.{Decodes, IsFault};
 
 use crate::fail::Fail;
 use crate::fields::{read_below, read_byte, read_link, read_u16, read_u64, read_words, refused};
@@ -10,7 +11,8 @@ use std::alloc::Global;
 /// A mode, behind the registers.
 #[tactic(auto, unfolding(fk_spelling::specs::Reading::read_mode))]
 fn read_mode<'a>(regs: &[u64; 16], bytes: &'a [u8]) -> Result<(u8, &'a [u8]), Fail>
-    ensures { Decodes (λ x. (x.0, x.1.now)) result (words.read_mode regs.now bytes.now) }
+    ensures read { Decodes (λ x. (x.0, x.1.now)) result (words.read_mode regs.now bytes.now) }
+    ensures fault { IfErr result (λ fail. IsFault fail) }
 {
     let (mode, rest) = read_byte(bytes)?;
     if is_mode_byte(regs, mode) {
@@ -23,7 +25,8 @@ fn read_mode<'a>(regs: &[u64; 16], bytes: &'a [u8]) -> Result<(u8, &'a [u8]), Fa
 /// A halt code, behind the mode.
 #[tactic(auto, unfolding(fk_spelling::specs::Reading::read_code))]
 fn read_code(mode: u8, bytes: &[u8]) -> Result<(u8, &[u8]), Fail>
-    ensures { Decodes (λ x. (x.0, x.1.now)) result (words.read_code mode bytes.now) }
+    ensures read { Decodes (λ x. (x.0, x.1.now)) result (words.read_code mode bytes.now) }
+    ensures fault { IfErr result (λ fail. IsFault fail) }
 {
     let (code, rest) = read_byte(bytes)?;
     if is_code(mode, code) {
@@ -35,7 +38,8 @@ fn read_code(mode: u8, bytes: &[u8]) -> Result<(u8, &[u8]), Fail>
 
 #[tactic(auto, unfolding(fk_spelling::specs::Reading::read_open_talk))]
 fn read_open_talk(turn: u8, bytes: &[u8]) -> Result<(Option<TalkRec>, &[u8]), Fail>
-    ensures { Decodes (λ x. (x.0, x.1.now)) result (words.read_open_talk turn bytes.now) }
+    ensures read { Decodes (λ x. (x.0, x.1.now)) result (words.read_open_talk turn bytes.now) }
+    ensures fault { IfErr result (λ fail. IsFault fail) }
 {
     let (moved, rest) = read_u16(bytes)?;
     let (port, rest) = read_link(rest)?;
@@ -51,7 +55,8 @@ fn read_open_talk(turn: u8, bytes: &[u8]) -> Result<(Option<TalkRec>, &[u8]), Fa
 
 #[tactic(auto, unfolding(fk_spelling::specs::Reading::read_talk))]
 fn read_talk(bytes: &[u8]) -> Result<(Option<TalkRec>, &[u8]), Fail>
-    ensures { Decodes (λ x. (x.0, x.1.now)) result (words.read_talk bytes.now) }
+    ensures read { Decodes (λ x. (x.0, x.1.now)) result (words.read_talk bytes.now) }
+    ensures fault { IfErr result (λ fail. IsFault fail) }
 {
     let (turn, rest) = read_below(3, bytes)?;
     if turn == 0 {
@@ -64,7 +69,8 @@ fn read_talk(bytes: &[u8]) -> Result<(Option<TalkRec>, &[u8]), Fail>
 /// The taker of a fault, where it is taken.
 #[tactic(auto, unfolding(fk_spelling::specs::Reading::read_taker))]
 fn read_taker(state: u8, bytes: &[u8]) -> Result<(Option<Link>, &[u8]), Fail>
-    ensures { Decodes (λ x. (x.0, x.1.now)) result (words.read_taker state bytes.now) }
+    ensures read { Decodes (λ x. (x.0, x.1.now)) result (words.read_taker state bytes.now) }
+    ensures fault { IfErr result (λ fail. IsFault fail) }
 {
     if state == 1 {
         Ok((None, bytes))
@@ -76,7 +82,8 @@ fn read_taker(state: u8, bytes: &[u8]) -> Result<(Option<Link>, &[u8]), Fail>
 
 #[tactic(auto, unfolding(fk_spelling::specs::Reading::read_met_fault))]
 fn read_met_fault(state: u8, bytes: &[u8]) -> Result<(Option<FaultRec>, &[u8]), Fail>
-    ensures { Decodes (λ x. (x.0, x.1.now)) result (words.read_met_fault state bytes.now) }
+    ensures read { Decodes (λ x. (x.0, x.1.now)) result (words.read_met_fault state bytes.now) }
+    ensures fault { IfErr result (λ fail. IsFault fail) }
 {
     let (page, rest) = read_byte(bytes)?;
     let (write, rest) = read_below(2, rest)?;
@@ -93,7 +100,8 @@ fn read_met_fault(state: u8, bytes: &[u8]) -> Result<(Option<FaultRec>, &[u8]), 
 
 #[tactic(auto, unfolding(fk_spelling::specs::Reading::read_fault))]
 fn read_fault(bytes: &[u8]) -> Result<(Option<FaultRec>, &[u8]), Fail>
-    ensures { Decodes (λ x. (x.0, x.1.now)) result (words.read_fault bytes.now) }
+    ensures read { Decodes (λ x. (x.0, x.1.now)) result (words.read_fault bytes.now) }
+    ensures fault { IfErr result (λ fail. IsFault fail) }
 {
     let (state, rest) = read_below(3, bytes)?;
     if state == 0 {
