@@ -1,5 +1,5 @@
 //! Whether the freezing rule allows a death: what the sweep over all pointers changes.
-ghost use Rattle.std.specs.Prelude.{◌≡◌, ◌↔◌, ◌||◌, ℕ, IsTrue, true, Some, option_map};
+ghost use Rattle.std.specs.Prelude.{◌≡◌, ◌<◌, ◌↔◌, ◌||◌, ◌∷◌, ℕ, IsTrue, true, false, Some, option_map};
 ghost use Rattle.std.specs.List.{list_any};
 ghost use Rattle.fk_model.specs.Freezing as freezing;
 ghost use Rattle.fk_model.specs.Freezing.{MayKill, fault_lost, lost_with, talk_lost};
@@ -155,7 +155,26 @@ fn may_be_swept(store: &Store, me: Who, gone: Who, who: Who) -> bool
     }
 }
 
-/// It allows all that the death of an object changes in others.
+/// It allows what the death of an object changes in what stands in its space.
+fn may_space_be_swept(store: &Store, me: Who, gone: Who) -> bool
+    requires apart { HasOwnPath (path store.now) gone }
+    ensures allows { result ≡ true → (k : ℕ) → k < 256 →
+        freezing.may_be_swept (world store.now) (place (path store.now) me) (place (path store.now) gone) (k ∷ path store.now gone.space) ≡ true }
+    ensures forbids { result ≡ false → (q : Path)
+        × (freezing.may_be_swept (world store.now) (place (path store.now) me) (place (path store.now) gone) q ≡ false) }
+{
+    let space = gone.space;
+    for slot in 0..256u16 {
+        let slot = slot as u8;
+        if !may_be_swept(store, me, gone, Who { space, slot }) {
+            return false;
+        }
+    }
+    true
+}
+
+/// It allows all that the death of an object changes in others. It looks at what stands in the
+/// object's space, and at those of which a pointer leads there.
 fn may_all_be_swept(store: &Store, me: Who, gone: Who) -> bool
     requires apart { HasOwnPath (path store.now) gone }
     ensures { IsTrue result ↔ ((q : Path) →
@@ -164,6 +183,25 @@ fn may_all_be_swept(store: &Store, me: Who, gone: Who) -> bool
     if !store.is_any_held() {
         return true;
     }
+    store.slots();
+    if !may_space_be_swept(store, me, gone) {
+        return false;
+    }
+    let mut leaders = store.leaders(gone);
+    while let Some(who) = leaders.next() {
+        if !may_be_swept(store, me, gone, who) {
+            return false;
+        }
+    }
+    leaders.are_all() || may_each_be_swept(store, me, gone)
+}
+
+/// The same, of all objects: where it isn't known who leads there.
+fn may_each_be_swept(store: &Store, me: Who, gone: Who) -> bool
+    requires apart { HasOwnPath (path store.now) gone }
+    ensures { IsTrue result ↔ ((q : Path) →
+        freezing.may_be_swept (world store.now) (place (path store.now) me) (place (path store.now) gone) q ≡ true) }
+{
     let mut at = store.after(None);
     while let Some(who) = at {
         if !may_be_swept(store, me, gone, who) {

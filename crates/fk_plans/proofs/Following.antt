@@ -1,10 +1,11 @@
 -- Following: whether a rename may change all others, by those that have names.
-use Rattle.std.proofs.Common.{◌≡◌, ℕ, true, [], ◌∷◌, Option, Some, None, IsSome, refl, sym, subst}
+use Rattle.std.proofs.Common.{◌≡◌, ℕ, Bool, true, false, not, ◌||◌, [], ◌∷◌, Option, Some, None, IsSome, refl, sym, subst}
 use Rattle.fk_model.specs.declared.names.Who.{Who}
-use Rattle.fk_model.specs.Freezing.{may_follow}
+use Rattle.fk_model.specs.Freezing.{is_swept, may_follow}
 use Rattle.fk_model.specs.Objects.{Body}
 use Rattle.fk_model.specs.Places.{Path}
 use Rattle.fk_model.specs.Valid.{kind_there}
+use Rattle.fk_model.specs.World.{World}
 use Rattle.fk_store.specs.Contents.{Contents}
 use Rattle.fk_store.specs.Paths.{path, place}
 use Rattle.fk_store.specs.World.{world, IsLive}
@@ -32,3 +33,11 @@ all_follow m me renamed named all (k ∷ s) = by ((world m).body (k ∷ s)) refl
         let other = named k s live in
         subst (λ x. may_follow (world m) me renamed x ≡ true) other.1
         (passed_all (IsLive m) (IsFollower m me renamed) all other.0 (subst (λ x. IsSome (kind_there (world m) x)) (sym other.1) live))
+
+-- only what would follow may be barred from it
+pub barred_follows : (w : World) (me renamed q : Path) → may_follow w me renamed q ≡ false → is_swept renamed q (w.body q) ≡ true
+barred_follows w me renamed q off = by (is_swept renamed q (w.body q)) _ off
+  where
+    by : (a b : Bool) → (not a || b) ≡ false → a ≡ true
+    by true b off = refl
+    by false b off = absurd (cc)

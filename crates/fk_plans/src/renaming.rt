@@ -1,5 +1,5 @@
 //! Giving an object another slot: when the freezing rule allows it, and doing it.
-ghost use Rattle.std.specs.Prelude.{◌≡◌, ◌↔◌, ℕ, List, false, true, IsTrue};
+ghost use Rattle.std.specs.Prelude.{◌≡◌, ◌<◌, ◌↔◌, ◌∷◌, ℕ, List, false, true, IsTrue};
 ghost use Rattle.fk_model.specs.Freezing as freezing;
 ghost use Rattle.fk_model.specs.Freezing.{MayMove};
 ghost use Rattle.fk_model.specs.Moves.{closed, stepped};
@@ -29,7 +29,26 @@ fn may_follow(store: &Store, me: Who, renamed: Who, other: Who) -> bool
     }
 }
 
-/// It lets all that follow.
+/// It lets what stands in the object's space follow.
+fn may_space_follow(store: &Store, me: Who, renamed: Who) -> bool
+    requires apart { HasOwnPath (path store.now) renamed }
+    ensures allows { result ≡ true → (k : ℕ) → k < 256 →
+        freezing.may_follow (world store.now) (place (path store.now) me) (place (path store.now) renamed) (k ∷ path store.now renamed.space) ≡ true }
+    ensures forbids { result ≡ false → (q : Path)
+        × (freezing.may_follow (world store.now) (place (path store.now) me) (place (path store.now) renamed) q ≡ false) }
+{
+    let space = renamed.space;
+    for slot in 0..256u16 {
+        let slot = slot as u8;
+        if !may_follow(store, me, renamed, Who { space, slot }) {
+            return false;
+        }
+    }
+    true
+}
+
+/// It lets all follow that do. It looks at what stands in the object's space, and at those of which
+/// a pointer leads there.
 fn may_all_follow(store: &Store, me: Who, renamed: Who) -> bool
     requires apart { HasOwnPath (path store.now) renamed }
     ensures { IsTrue result
@@ -38,6 +57,25 @@ fn may_all_follow(store: &Store, me: Who, renamed: Who) -> bool
     if !store.is_any_held() {
         return true;
     }
+    store.slots();
+    if !may_space_follow(store, me, renamed) {
+        return false;
+    }
+    let mut leaders = store.leaders(renamed);
+    while let Some(other) = leaders.next() {
+        if !may_follow(store, me, renamed, other) {
+            return false;
+        }
+    }
+    leaders.are_all() || may_each_follow(store, me, renamed)
+}
+
+/// The same, of all objects: where it isn't known who leads there.
+fn may_each_follow(store: &Store, me: Who, renamed: Who) -> bool
+    requires apart { HasOwnPath (path store.now) renamed }
+    ensures { IsTrue result
+        ↔ ((q : Path) → freezing.may_follow (world store.now) (place (path store.now) me) (place (path store.now) renamed) q ≡ true) }
+{
     let mut at = store.after(None);
     while let Some(other) = at {
         if !may_follow(store, me, renamed, other) {

@@ -1,5 +1,5 @@
 -- Outside: the pointers of objects that lie outside a space.
-use Rattle.std.proofs.Common.{◌≡◌, ◌≢◌, ℕ, zero, suc, ◌+◌, Bool, true, false, cond, not, List, [], ◌∷◌, ◌++◌, filter, Option, Some, None, IsSome, option_map, refl, sym, ap, ◌∙◌, arith}
+use Rattle.std.proofs.Common.{◌≡◌, ◌≢◌, ℕ, zero, suc, ◌+◌, ◌<◌, Bool, true, false, cond, not, List, [], ◌∷◌, ◌++◌, filter, Option, Some, None, IsSome, option_map, refl, sym, ap, subst, ◌∙◌, arith}
 use Rattle.std.specs.List.{sum_by}
 use Rattle.std.proofs.lemmas.List.Sums.{sum_by-cons, sum_by-append}
 use Rattle.std.specs.FinMap.{get}
@@ -12,8 +12,9 @@ use Rattle.fk_model.specs.declared.thread.Fault as faults_of
 use Rattle.fk_model.specs.declared.body.Body as bodies_of
 use Rattle.fk_model.specs.declared.body.Body.TheVariants as bodies
 use Rattle.fk_model.specs.ObjectRows.{counts_from, pointer_count}
-use Rattle.fk_model.specs.Objects.{Body, and_then}
-use Rattle.fk_model.specs.Places.{Path, Ptr, leads_to, same_path}
+use Rattle.fk_model.specs.Objects.{Body, kind_of, and_then}
+use Rattle.fk_model.specs.Valid.{kind_there}
+use Rattle.fk_model.specs.Places.{Path, Ptr, leads_to, same_path, slot_of}
 use Rattle.fk_model.specs.Places.Ptr.{At}
 use Rattle.fk_model.specs.Searches.{objects, pointers_to, option_list, peer_pointer, talk_pointers, fault_pointers}
 use Rattle.fk_model.specs.World.{World}
@@ -69,6 +70,25 @@ leaders-there m kept who whos all x leads = by x refl leads
         let at_place : pointers_to (place (path m) who) ((world m).body (k ∷ s)) ≡ pointers_to (place (path m) who) ((world m).body (place (path m) q)) =
         ap (λ y. pointers_to (place (path m) who) ((world m).body y)) (sym found.1) in
         (q, found.1 ∙ is, here q (get m.bodies q) refl (λ none. leads (at_place ∙ sym same ∙ none)))
+
+-- what is there is in one of 256 slots
+pub slots-live : (m : Contents) → IsWellFormed m → ((q : Who) (b : bodies_of.Body) → get m.bodies q ≡ Some b → q.slot < 256) →
+    (k : ℕ) (s : Path) → IsSome (kind_there (world m) (k ∷ s)) → k < 256
+unfolding kind_there
+slots-live m kept low k s live = by (get m.bodies who) refl (subst (λ b. IsSome (option_map kind_of b)) (body-place m kept who) there)
+  where
+    found : (who : Who) × (place (path m) who ≡ k ∷ s)
+    found = named-object m kept k s live
+
+    who : Who
+    who = found.0
+
+    there : IsSome (option_map kind_of ((world m).body (place (path m) who)))
+    there = subst (λ x. IsSome (option_map kind_of ((world m).body x))) (sym found.1) live
+
+    by : (o : Option bodies_of.Body) → get m.bodies who ≡ o → IsSome (option_map kind_of (option_map (body_by (path m)) (get m.bodies who))) → k < 256
+    by None e live = let none : IsSome (option_map kind_of (option_map (body_by (path m)) None)) = rw e at live in absurd (cc)
+    by (Some b) e live = subst (λ n. n < 256) (ap slot_of found.1) (low who b e)
 
 -- ---- of all
 

@@ -70,6 +70,13 @@ impl Store {
         self.next
     }
 
+    /// A space has no more than 256 slots.
+    pub fn slots(&self)
+        ensures { (k : ℕ) (s : Path) → IsSome (kind_there (world self.now) (k ∷ s)) → k < 256 }
+    {
+        self.bodies.slots();
+    }
+
     /// The path of a space is the one that the world finds by its birth number, and these numbers are
     /// below 2^32.
     pub fn names(&self)

@@ -290,6 +290,13 @@ impl Bodies {
         }
     }
 
+    /// A space has no more than 256 slots.
+    pub fn slots(&self)
+        ensures { (q : Who) (b : Body) → map.get self.now q ≡ Some b → q.slot < 256 }
+    {
+        let _rows = &self.rows;
+    }
+
     /// The place of the space with this birth number.
     pub fn home(&self, space: u32) -> Option<Who>
         ensures { result ≡ home_in self.now space }

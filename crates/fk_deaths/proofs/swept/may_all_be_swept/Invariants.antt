@@ -1,12 +1,17 @@
+use Rattle.std.proofs.Common.{◌≡◌, true, length}
+use Rattle.fk_model.specs.Freezing.{may_be_swept}
 use Rattle.fk_store.specs.Paths.{path, place}
-use Rattle.fk_store.specs.World.{IsLive}
-use Rattle.fk_deaths.proofs.Scans.{ArePassed, left_from}
-use Rattle.fk_deaths.proofs.Sweeps.{IsSweepable}
+use Rattle.fk_store.specs.World.{world}
+use Rattle.fk_store.proofs.Lefts.{AreLeft}
+use Rattle.fk_deaths.proofs.Sweeps.{IsBarred}
 use Rattle.fk_deaths.proofs.swept.may_all_be_swept.Given as goal
 
--- each may be swept, or is yet to come
-abbrev pub invariant-loop-at : goal.invariant-loop-at
-invariant-loop-at l = ArePassed (IsLive l.store) (IsSweepable l.store (place (path l.store) l.me) (place (path l.store) l.gone)) l.at
+-- whoever leads there and may not be swept is yet to come
+abbrev pub invariant-loop-who : goal.invariant-loop-who
+invariant-loop-who l = record {
+  left : l.leaders.1 ≡ true → AreLeft (path l.store)
+      (IsBarred l.store (place (path l.store) l.gone) (may_be_swept (world l.store) (place (path l.store) l.me) (place (path l.store) l.gone))) l.leaders.0;
+}
 
-abbrev pub decreases-loop-at : goal.decreases-loop-at
-decreases-loop-at l = left_from l.at
+abbrev pub decreases-loop-who : goal.decreases-loop-who
+decreases-loop-who l = length l.leaders.0

@@ -1,9 +1,11 @@
-use Rattle.std.proofs.Common.{refl, subst}
+use Rattle.std.proofs.Common.{refl, sym, ◌∙◌}
+use Rattle.fk_model.specs.Freezing.{may_follow}
 use Rattle.fk_store.specs.Paths.{path, place}
-use Rattle.fk_store.specs.World.{world, IsLive}
-use Rattle.fk_deaths.proofs.Scans.{ArePassed}
-use Rattle.fk_plans.proofs.Following.{IsFollower, all_follow}
+use Rattle.fk_store.specs.World.{world}
+use Rattle.fk_store.proofs.Lefts.{left_more, nobody_left, fewer_left}
+use Rattle.fk_deaths.proofs.Sweeps.{IsBarred, none_barred, not_all, not_barred}
 use Rattle.fk_deaths.proofs.Unheld.{unheld-follows}
+use Rattle.fk_plans.proofs.Following.{barred_follows}
 use Rattle.fk_plans.proofs.renaming.may_all_follow.Goals as goal
 
 pub returns-then-not-is_any_held : goal.returns-then-not-is_any_held
@@ -12,9 +14,44 @@ returns-then-not-is_any_held c =
     let renamed = place (path c.args.store.now) c.args.renamed in
     ((λ yes. unheld-follows (world c.args.store.now) (c.is_any_held.ensures c.if-not-is_any_held.true) me renamed), (λ h. refl))
 
-pub returns : goal.returns
-returns c =
-    let me = place (path c.args.store.now) c.args.me in
-    let renamed = place (path c.args.store.now) c.args.renamed in
-    let all = subst (ArePassed (IsLive c.args.store.now) (IsFollower c.args.store.now me renamed)) c.in_default.is c.loop-at.invariant in
-    ((λ yes. all_follow c.args.store.now me renamed c.after-at.ensures.named all), (λ h. refl))
+pub returns-then-not-may_space_follow : goal.returns-then-not-may_space_follow
+returns-then-not-may_space_follow c =
+    let m = c.args.store.now in
+    let found = c.may_space_follow.ensures.forbids c.if-not-may_space_follow.true in
+    not_all (may_follow (world m) (place (path m) c.args.me) (place (path m) c.args.renamed)) found.0 found.1
+
+pub loop-other-init : goal.loop-other-init
+loop-other-init c = record { left = λ all x barred. c.leaders-leaders.ensures all x barred.0 }
+
+pub loop-other-preserved : goal.loop-other-preserved
+loop-other-preserved c =
+    let m = c.args.store.now in
+    let renamed = place (path m) c.args.renamed in
+    let may = may_follow (world m) (place (path m) c.args.me) renamed in
+    record {
+      left = λ all. left_more (path m) (IsBarred m renamed may) c.in-Some.other _ _ c.in-Some.ensures.some
+          (not_barred m renamed may (place (path m) c.in-Some.other) (sym c.may_follow.ensures ∙ c.if-not-may_follow.false))
+          (c.loop-other.invariant.left (sym c.next.ensures.all ∙ all));
+    }
+
+pub loop-other-smaller : goal.loop-other-smaller
+loop-other-smaller c = fewer_left c.in-Some.other _ _ c.in-Some.ensures.some
+
+pub are_all-requires : goal.are_all-requires
+are_all-requires c = (c.in_default.ensures.none refl).1
+
+pub returns-then-are_all : goal.returns-then-are_all
+returns-then-are_all c =
+    let m = c.args.store.now in
+    let me = place (path m) c.args.me in
+    let renamed = place (path m) c.args.renamed in
+    let may = may_follow (world m) me renamed in (
+      (λ yes. none_barred m c.args.renamed may (barred_follows (world m) me renamed) c.slots.ensures
+          (c.may_space_follow.ensures.allows c.if-not-may_space_follow.false)
+          (nobody_left (path m) (IsBarred m renamed may) _ (c.in_default.ensures.none refl).0
+          (c.loop-other.invariant.left (sym c.next.ensures.all ∙ sym c.are_all.ensures ∙ c.if-are_all.true)))),
+      (λ h. c.if-are_all.true),
+    )
+
+pub returns-else-are_all : goal.returns-else-are_all
+returns-else-are_all c = c.may_each_follow.ensures

@@ -1,12 +1,17 @@
+use Rattle.std.proofs.Common.{◌≡◌, true, length}
+use Rattle.fk_model.specs.Freezing.{may_follow}
 use Rattle.fk_store.specs.Paths.{path, place}
-use Rattle.fk_store.specs.World.{IsLive}
-use Rattle.fk_deaths.proofs.Scans.{ArePassed, left_from}
-use Rattle.fk_plans.proofs.Following.{IsFollower}
+use Rattle.fk_store.specs.World.{world}
+use Rattle.fk_store.proofs.Lefts.{AreLeft}
+use Rattle.fk_deaths.proofs.Sweeps.{IsBarred}
 use Rattle.fk_plans.proofs.renaming.may_all_follow.Given as goal
 
--- each may follow, or is yet to come
-abbrev pub invariant-loop-at : goal.invariant-loop-at
-invariant-loop-at l = ArePassed (IsLive l.store) (IsFollower l.store (place (path l.store) l.me) (place (path l.store) l.renamed)) l.at
+-- whoever leads there and may not follow is yet to come
+abbrev pub invariant-loop-other : goal.invariant-loop-other
+invariant-loop-other l = record {
+  left : l.leaders.1 ≡ true → AreLeft (path l.store)
+      (IsBarred l.store (place (path l.store) l.renamed) (may_follow (world l.store) (place (path l.store) l.me) (place (path l.store) l.renamed))) l.leaders.0;
+}
 
-abbrev pub decreases-loop-at : goal.decreases-loop-at
-decreases-loop-at l = left_from l.at
+abbrev pub decreases-loop-other : goal.decreases-loop-other
+decreases-loop-other l = length l.leaders.0
