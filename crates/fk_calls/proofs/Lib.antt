@@ -1,6 +1,6 @@
 pub mod Doings
 pub mod Judged
 pub mod Firsts
-pub mod Picks
+pub mod Choices
 pub mod Given
 pub mod Restored

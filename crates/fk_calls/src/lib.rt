@@ -5,7 +5,7 @@
 //! the one match from a stage to its judge. It promises that `ready` answers exactly whether the
 //! abstract machine is ready to make a move, that `take` makes of the store's world what the machine
 //! makes of it, that `attempt` does both, judging once, that `is_fit` tells which moves may be made
-//! at all, and that `may_pick` tells which users may pick somebody. Servers don't move as yet: no
+//! at all, and that `may_pick` tells whom a user may pick. Servers don't move as yet: no
 //! act of a native server is ready.
 #![tactic(auto)]
 
@@ -18,4 +18,4 @@ mod rows;
 
 pub use fitting::is_fit;
 pub use moves::{attempt, ready, take};
-pub use picking::may_pick;
+pub use picking::{Picks, may_pick};

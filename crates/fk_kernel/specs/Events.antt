@@ -1,5 +1,5 @@
 -- Events: what is ready, and what it does.
-use Rattle.std.specs.Prelude.{Bool, Option, Some}
+use Rattle.std.specs.Prelude.{Bool, Option}
 use Rattle.fk_model.specs.declared.moves.Ask.TheVariants as asks
 use Rattle.fk_model.specs.Moves.{Step, IsReady, step}
 use Rattle.fk_model.specs.Places.{Path}
@@ -21,10 +21,7 @@ is_fit_event w e = is_fit w e.mover e.ask
 abbrev pub step_of : World → Event → Step
 step_of w e = step w e.mover e.pick e.ask
 
--- a move of the user at a path is ready that picks somebody, or one that picks whomever or nobody
-abbrev pub IsPickReady : World → Path → Type 0
-IsPickReady w x = (pick : Path) × IsReady w x (Some pick) asks.Run
-
+-- a move of the user at a path is ready, whomever it picks
 abbrev pub IsMoveReady : World → Path → Type 0
 IsMoveReady w x = (pick : Option Path) × IsReady w x pick asks.Run
 

@@ -8,7 +8,7 @@ ghost use Rattle.fk_store.specs.Paths.{path, place};
 ghost use Rattle.fk_store.specs.World.{world};
 ghost use Rattle.fk_calls.specs.Judgements.{IsReadyMove};
 ghost use Rattle.fk_prompt.specs.Events.{IsPrompt, IsCorrect};
-ghost use Rattle.fk_kernel.specs.Events.{is_fit_event, IsReadyEvent, IsAnyReady, IsMoveReady, IsPickReady, may_lack, step_of};
+ghost use Rattle.fk_kernel.specs.Events.{is_fit_event, IsReadyEvent, IsAnyReady, IsMoveReady, may_lack, step_of};
 
 use fk_model::{Ask, Move, NoMemory, Said, Who};
 use fk_store::Store;
@@ -142,29 +142,6 @@ impl Kernel {
         if fk_calls::ready(&self.store, &m, &Ask::Run) {
             return Some(m);
         }
-        if fk_calls::may_pick(&self.store, who) {
-            return self.ready_pick(who);
-        }
-        None
-    }
-
-    /// A move of the user in a slot that is ready and picks somebody, the first in the order of spaces
-    /// and slots.
-    fn ready_pick(&self, who: Who) -> Option<Move>
-        ensures ready { IfSome result (λ m. IsReadyMove self.now m asks.Run) }
-        ensures none { IfNone result (IsPickReady (world self.now) (place (path self.now) who) → ⊥) }
-    {
-        let mut at = self.store.after(None);
-        while let Some(other) = at {
-            let m = Move {
-                who,
-                pick: Some(other),
-            };
-            if fk_calls::ready(&self.store, &m, &Ask::Run) {
-                return Some(m);
-            }
-            at = self.store.after(Some(other));
-        }
-        None
+        fk_picks::ready_pick(&self.store, who)
     }
 }

@@ -6,7 +6,7 @@ ghost use Rattle.fk_model.specs.Places.Ptr.{At};
 ghost use Rattle.fk_model.specs.Searches.{thread_at};
 ghost use Rattle.fk_store.specs.Bodies.{mode_by, peer_by, thread_by};
 ghost use Rattle.fk_store.specs.Paths.{path, place};
-ghost use Rattle.fk_store.specs.Threads.{todo_of_mode};
+ghost use Rattle.fk_store.specs.Threads.{todo_at, todo_of_mode};
 ghost use Rattle.fk_store.specs.World.{world, IsLive};
 ghost use Rattle.fk_links.specs.Candidates.{candidate_by, IsCandidate};
 ghost use Rattle.fk_links.specs.Connects.{connect_first, is_connecting};
@@ -26,8 +26,8 @@ pub enum Candidate {
     Resuming { slot: u8, talk: Talk },
 }
 
-/// A port is in a set.
-fn is_member(store: &Store, set: u64, port: Who) -> bool
+/// A port is in the set in a slot of its space.
+pub fn is_member(store: &Store, set: u64, port: Who) -> bool
     ensures member { result ≡ rows.is_member set ((world store.now).body (place (path store.now) port)) }
     ensures there { result ≡ true → IsSome ((world store.now).body (place (path store.now) port)) }
 {
@@ -111,6 +111,15 @@ fn connect_of(thread: &Thread) -> Option<u64>
         }
     }
     None
+}
+
+/// The handle of the port to which the thread in a slot connects; none where no thread there is at
+/// its connect.
+#[tactic(auto, unfolding(fk_store::specs::Threads::todo_at))]
+pub fn connects_by(store: &Store, who: Who) -> Option<u64>
+    ensures { result ≡ connect_first (todo_at (world store.now) (place (path store.now) who)) }
+{
+    connect_of(store.thread(who)?)
 }
 
 /// The port to which a thread is at its connect, where that isn't refused.

@@ -3,7 +3,8 @@
 //!
 //! It stands on `fk_plans`, and on `fk_deaths` for the calls that end with a talk, and promises of
 //! each stage that its verdict stands for the outcome of the stage's row in the abstract machine, and
-//! can be carried out. A wait looks at the thread that is picked alone.
+//! can be carried out. A wait looks at the thread that is picked alone. `connects_by` and `is_member`
+//! tell where such threads are to be found.
 #![tactic(auto)]
 
 mod candidates;
@@ -12,6 +13,7 @@ mod leaving;
 mod restoring;
 mod waiting;
 
+pub use candidates::{connects_by, is_member};
 pub use connecting::connect;
 pub use leaving::disconnect;
 pub use restoring::{link_park, link_set};

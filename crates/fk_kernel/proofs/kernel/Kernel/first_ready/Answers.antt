@@ -1,4 +1,5 @@
-use Rattle.fk_kernel.proofs.Scans.{IsAhead, IsUp, ahead_next, nobody_ready}
+use Rattle.fk_picks.proofs.Scans.{IsAhead, ahead_next}
+use Rattle.fk_kernel.proofs.Scans.{IsUp, nobody_ready}
 use Rattle.fk_kernel.proofs.kernel.Kernel.first_ready.Goals as goal
 
 pub loop-at-preserved : goal.loop-at-preserved

@@ -1,4 +1,5 @@
-use Rattle.fk_kernel.proofs.Scans.{IsAhead, IsUp, left_from}
+use Rattle.fk_picks.proofs.Scans.{IsAhead, left_from}
+use Rattle.fk_kernel.proofs.Scans.{IsUp}
 use Rattle.fk_kernel.proofs.kernel.Kernel.first_ready.Given as goal
 
 -- each user that is ready is yet to come

@@ -1,0 +1,4 @@
+pub mod Scans
+mod Slots
+mod Stands
+pub mod Leading

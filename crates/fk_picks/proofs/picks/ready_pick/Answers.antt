@@ -1,0 +1,14 @@
+use Rattle.fk_store.specs.Paths.{path}
+use Rattle.fk_store.specs.World.{world}
+use Rattle.fk_picks.proofs.Leading.{if_none}
+use Rattle.fk_picks.proofs.Stands.{candidate_stands}
+use Rattle.fk_picks.proofs.picks.ready_pick.Goals as goal
+
+pub returns-in-Candidates-clause-none : goal.returns-in-Candidates-clause-none
+returns-in-Candidates-clause-none c =
+    let w = world c.args.store.now in
+    let s = path c.args.store.now c.args.who.space in
+    let set = c.in-Candidates.set in
+    let root = c.requires.valid.rooted.root in
+    if_none c.takes_one.result
+    (λ none q picked. none q (candidate_stands w s set q root (rw c.in-Candidates.is at c.may_pick.ensures q picked)) picked) c.takes_one.ensures.none
