@@ -68,7 +68,8 @@ impl Store {
         ensures paths { path self.new ≡ path self.old }
     {
         if let Some(&thread) = self.thread(me) {
-            self.set(me, Body::Thread(ended(thread, status)));
+            let after = ended(thread, status);
+            self.proceed(me, &after.regs, after.pc, after.mode);
         }
     }
 
@@ -97,6 +98,7 @@ fn ended(mut thread: Thread, status: u8) -> Thread
     ensures edit { (p : ℕ → Path) → edited (End status []) (Thread_of (thread_by p thread)) ≡ Thread_of (thread_by p result) }
     ensures talk { result.talk ≡ thread.talk }
     ensures fault { result.fault ≡ thread.fault }
+    ensures stops { result.stops ≡ thread.stops }
 {
     if let Mode::Calling = thread.mode {
         thread.regs[0] = u64::from(status);

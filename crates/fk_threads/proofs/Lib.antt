@@ -3,4 +3,3 @@ pub mod SleeperLaws
 pub mod ShiftLaws
 pub mod Falling
 pub mod Broadcasts
-pub mod GoneOn
