@@ -35,11 +35,10 @@ fn try_call<R: Print + AllocGlobal>(
         .ok()
         .context("no memory")?;
     tally.calls = tally.calls.saturating_add(1);
-    if found.differs(&case.wanted) {
+    if let Some(difference) = found.difference(rt.alloc(), &case.wanted)? {
         tally.differ = tally.differ.saturating_add(1);
         let name = case.name.as_str();
-        let wanted = &case.wanted;
-        println!(rt; "case {name}\nwanted {wanted}\nfound {found}")?;
+        println!(rt; "case {name}\n{difference}")?;
     }
     Ok(())
 }

@@ -1,4 +1,5 @@
 //! How a call ends, as far as one can see from outside.
+use std::alloc::{AllocError, Global};
 use std::collections::BTreeMap;
 use std::fmt;
 
@@ -15,12 +16,26 @@ pub struct Ending {
 
 impl Ending {
     /// Whether anything isn't as a case wants it.
-    pub fn differs(&self, wanted: &Ending) -> bool {
+    fn differs(&self, wanted: &Ending) -> bool {
         self.status != wanted.status
             || self.error != wanted.error
             || self.output != wanted.output
             || self.files != wanted.files
             || (wanted.report.is_some() && self.report != wanted.report)
+    }
+
+    /// What a case wants and what was found, where these differ.
+    ///
+    /// # Errors
+    ///
+    /// For want of memory.
+    pub fn difference(&self, alloc: Global, wanted: &Ending) -> Result<Option<String>, AllocError> {
+        if !self.differs(wanted) {
+            return Ok(None);
+        }
+        let mut text = format!(in alloc; "wanted {wanted}\n")?;
+        text.push_str(format!(in alloc; "found {self}")?.as_str())?;
+        Ok(Some(text))
     }
 }
 
