@@ -1,5 +1,6 @@
 //! The command `check`: the counts of a scenario are told.
 ghost use Rattle.std.specs.Prelude.{◌≡◌, ◌+◌, Ok, IfOk, IfErr, string_bytes};
+ghost use Rattle.fk_scenario.specs.Kept.{KeepsScenario};
 ghost use Rattle.fk_scenario.specs.Reading.{scenario_reading};
 ghost use Rattle.fk_scenario.specs.Rules as rules_here;
 ghost use Rattle.fk_commands.specs.Check as words;
@@ -12,8 +13,14 @@ use fk_model::NoMemory;
 use fk_scenario::{Scenario, ScenarioFail, SpaceEntry, read_scenario, server_rules};
 use std::alloc::{AllocError, Global};
 
-fn scenario_in(alloc: Global, text: &[u8]) -> Result<Scenario, Status>
+/// The scenario that a text is, by the rules that native servers have here.
+///
+/// # Errors
+///
+/// `BadScenario` for a text that is no scenario. `NoMemory` where there is no memory for it.
+pub fn scenario_in(alloc: Global, text: &[u8]) -> Result<Scenario, Status>
     ensures read { IfOk result (λ scenario. scenario_reading rules_here.server_rules text.now ≡ Ok scenario) }
+    ensures keeps { IfOk result KeepsScenario }
     ensures fail { IfErr result (IsScenarioFail (scenario_reading rules_here.server_rules text.now)) }
 {
     let rules = server_rules(alloc)?;

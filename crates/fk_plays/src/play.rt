@@ -14,35 +14,31 @@ ghost use Rattle.fk_report.specs.Threads.{AreThreads};
 use crate::replay::{ReplayFail, replay};
 use fk_boot::{boot, is_bootable};
 use fk_causes::Shelf;
+use fk_commands::check::scenario_in;
 use fk_commands::{Prepared, Report, Status, file_of};
 use fk_kernel::Kernel;
 use fk_model::NoMemory;
 use fk_report::{End, ThreadState, have_halted, report_text, threads_of};
-use fk_scenario::{Scenario, ScenarioFail, read_scenario, server_rules};
+use fk_scenario::Scenario;
 use std::alloc::Global;
 
-/// The scenario that a text is.
+/// The scenario that a text is, where that can be run.
+#[tactic(auto, using(crate::proofs::Plays::not_run))]
 fn scenario_of(alloc: Global, text: &[u8]) -> Result<Scenario, Status>
     ensures read { IfOk result (λ scenario. scenario_to_run text.now ≡ Ok scenario) }
     ensures keeps { IfOk result KeepsScenario }
     ensures fail { IfErr result (IsScenarioFail (scenario_to_run text.now)) }
 {
-    let rules = server_rules(alloc)?;
-    match read_scenario(alloc, text, &rules) {
-        Ok(scenario) if is_bootable(&scenario) => Ok(scenario),
-        // It has what can't be run yet.
-        Ok(_) => Err(Status::BadScenario {
-            rule: 11,
-            section: 0,
-            index: 0,
-        }),
-        Err(ScenarioFail::Scenario(error)) => Err(Status::BadScenario {
-            rule: error.rule,
-            section: error.section,
-            index: error.index,
-        }),
-        Err(ScenarioFail::NoMemory) => Err(Status::NoMemory),
+    let scenario = scenario_in(alloc, text)?;
+    if is_bootable(&scenario) {
+        return Ok(scenario);
     }
+    // It has what can't be run yet.
+    Err(Status::BadScenario {
+        rule: 11,
+        section: 0,
+        index: 0,
+    })
 }
 
 /// The trace that the shelf has under a name.

@@ -1,5 +1,6 @@
 //! Playing a trace: each move is made as its line is read.
 ghost use Rattle.std.specs.Prelude.{◌≡◌, ◌<◌, ◌≤◌, List, length, IfOk, IfErr, IfSome, IfNone};
+ghost use Rattle.std.specs.Bool.{OnTrue, OnFalse};
 ghost use Rattle.fk_model.specs.declared.moves.Move as moves_of;
 ghost use Rattle.fk_traces.specs.Trace.{BeginsWith, BeginsWithNone, Spells};
 ghost use Rattle.fk_plays.specs.Replay.{IsReadyMove, MayPlay, after_move, played, IsCause, GivesMoves};
@@ -28,13 +29,29 @@ impl From<NoMemory> for ReplayFail {
     }
 }
 
+/// Makes a user's move where it is ready, and tells whether it was.
+///
+/// # Errors
+///
+/// The kernel has no memory for the move.
+#[tactic(auto, unfolding(fk_model::specs::Valid::is_fit))]
+fn make(kernel: &mut Kernel, one: &Move) -> Result<bool, NoMemory>
+    ensures ready { IfOk result (λ made. OnTrue made (IsReadyMove (world kernel.old) one.now)) }
+    ensures world { IfOk result (λ made. OnTrue made (world kernel.new ≡ after_move (world kernel.old) one.now)) }
+    ensures unready { IfOk result (λ made. OnFalse made (IsReadyMove (world kernel.old) one.now → ⊥)) }
+{
+    match kernel.attempt(one, &Ask::Run)? {
+        Some(_) => Ok(true),
+        None => Ok(false),
+    }
+}
+
 /// Makes the move whose line a text begins with, where it is ready and may be made after so many
 /// others, and gives it with what stands after that line.
 ///
 /// # Errors
 ///
 /// The kernel has no memory for the move.
-#[tactic(auto, unfolding(fk_model::specs::Valid::is_fit))]
 fn make_next<'a>(
     kernel: &mut Kernel,
     budget: u64,
@@ -55,9 +72,10 @@ fn make_next<'a>(
     let Some((one, after)) = first_move(text) else {
         return Ok(None);
     };
-    match kernel.attempt(&one, &Ask::Run)? {
-        Some(_) => Ok(Some((one, after))),
-        None => Ok(None),
+    if make(kernel, &one)? {
+        Ok(Some((one, after)))
+    } else {
+        Ok(None)
     }
 }
 
