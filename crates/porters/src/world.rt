@@ -13,7 +13,7 @@ use crate::porter::put_porter;
 use anyhow::{Context, bail};
 use fk_boot::boot;
 use fk_kernel::Kernel;
-use fk_model::{Answer, Ask, Body, Move, Said, Todo, Who};
+use fk_model::{Answer, Ask, Body, Move, NoMemory, Said, Todo, Who};
 use fk_scenario::{read_scenario, server_rules};
 use fk_stages::todo;
 use std::alloc::Global;
@@ -107,6 +107,20 @@ fn ask_of(call: &[u64], given: &[u64]) -> anyhow::Result<Ask> {
     Ok(Ask::Call { stage, words })
 }
 
+/// The answer of a move, where it was ready and a porter's.
+fn answer_in(said: &Option<Said>) -> Option<&Answer> {
+    match said {
+        Some(Said::Answer(answer)) => Some(answer),
+        _ => None,
+    }
+}
+
+/// Makes a user's move where it is ready, and tells whether it was.
+#[tactic(auto, unfolding(fk_model::specs::Valid::is_fit))]
+fn make(kernel: &mut Kernel, m: &Move) -> Result<bool, NoMemory> {
+    Ok(kernel.attempt(m, &Ask::Run)?.is_some())
+}
+
 impl World {
     /// The world of a scenario, with a porter in a slot of a space.
     ///
@@ -119,23 +133,23 @@ impl World {
         Ok(World { kernel, porter })
     }
 
-    /// What the porter is answered; nothing where its move isn't ready.
-    fn answer(
+    /// What the porter's move tells; nothing where it isn't ready.
+    fn tells(
         &mut self,
         call: &[u64],
         given: &[u64],
         pick: Option<Who>,
-    ) -> anyhow::Result<Option<Answer>> {
+    ) -> anyhow::Result<Option<Said>> {
         let ask = ask_of(call, given)?;
         let who = self.porter;
         let m = Move { who, pick };
         if !self.kernel.is_fit(&m, &ask) {
             bail!("not fit");
         }
-        match self.kernel.attempt(&m, &ask).ok().context("no memory")? {
-            Some(Said::Answer(answer)) => Ok(Some(answer)),
-            _ => Ok(None),
-        }
+        let Ok(said) = self.kernel.attempt(&m, &ask) else {
+            bail!("no memory");
+        };
+        Ok(said)
     }
 
     /// What the porter asks for is fit.
@@ -147,10 +161,11 @@ impl World {
     }
 
     /// A thread moves; false where it isn't ready.
-    #[tactic(auto, unfolding(fk_model::specs::Valid::is_fit))]
     fn moves(&mut self, who: Who, pick: Option<Who>) -> anyhow::Result<bool> {
-        let said = self.kernel.attempt(&Move { who, pick }, &Ask::Run);
-        Ok(said.ok().context("no memory")?.is_some())
+        let Ok(made) = make(&mut self.kernel, &Move { who, pick }) else {
+            bail!("no memory");
+        };
+        Ok(made)
     }
 
     /// A thread makes so many moves.
@@ -174,7 +189,8 @@ impl World {
     /// The record of a thread, as the porter reads it, has these words from word 21 on.
     fn keeps(&mut self, who: Who, words: &[u64]) -> anyhow::Result<bool> {
         let call = [9, 256, u64::from(who.slot)];
-        Ok(match self.answer(&call, &[], None)? {
+        let said = self.tells(&call, &[], None)?;
+        Ok(match answer_in(&said) {
             Some(record) => begins(&record.words[21..], words),
             None => false,
         })
@@ -183,9 +199,9 @@ impl World {
     /// What the porter asks for is answered as a line wants it, or isn't ready.
     fn asks(&mut self, line: &Line) -> anyhow::Result<bool> {
         let pick = named(line.picked.as_slice());
-        let answer = self.answer(line.subject.as_slice(), line.given.as_slice(), pick)?;
-        Ok(match answer {
-            Some(answer) => is_answer(&answer, line.wanted.as_slice()),
+        let said = self.tells(line.subject.as_slice(), line.given.as_slice(), pick)?;
+        Ok(match answer_in(&said) {
+            Some(answer) => is_answer(answer, line.wanted.as_slice()),
             None => line.verb == "bars",
         })
     }
