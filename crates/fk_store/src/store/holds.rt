@@ -18,6 +18,7 @@ use fk_model::{Body, Who};
 impl Store {
     /// The thread that decides over an object: the holder of the outermost hold on it or on a space
     /// above it.
+    #[inline(always)]
     pub fn decider(&self, object: Who) -> Option<Who>
         ensures decider { option_map (λ who. At (place_of self.now who)) result
             ≡ holds.decider (world self.now) (place_of self.now object) }
@@ -32,6 +33,7 @@ impl Store {
     }
 
     /// The same, by a walk up to the root.
+    #[inline(never)]
     fn decider_above(&self, object: Who) -> Option<Who>
         ensures decider { option_map (λ who. At (place_of self.now who)) result
             ≡ holds.decider (world self.now) (place_of self.now object) }
