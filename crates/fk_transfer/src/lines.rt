@@ -97,6 +97,7 @@ fn server_line(store: &Store, server: Who) -> Option<Line>
 }
 
 /// The talk in which a thread acts on a side.
+#[inline(always)]
 fn line_of(store: &Store, who: Who, side: Turn) -> Option<Line>
     requires valid { IsValid (world store.now) }
     ensures line { option_map (line_by (path store.now)) result ≡ talks.line (world store.now) (place (path store.now) who) side }
@@ -110,6 +111,7 @@ fn line_of(store: &Store, who: Who, side: Turn) -> Option<Line>
 
 /// The talk in which a thread acts on a side, where it is the turn of this side or of the other.
 /// Without a talk it is refused NOTLINKED, at the other turn WRONGTURN.
+#[inline(always)]
 pub fn in_turn(store: &Store, who: Who, side: Turn, turn: Turn) -> Result<Line, u8>
     requires valid { IsValid (world store.now) }
     ensures line { mapped (line_by (path store.now)) result ≡ rows.in_turn (world store.now) (place (path store.now) who) side turn }
