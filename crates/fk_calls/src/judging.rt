@@ -102,6 +102,7 @@ fn judge_user(store: &Store, m: &Move) -> Option<Judgement>
 }
 
 /// What a stage that a porter asks for comes to.
+#[inline(never)]
 fn judge_porter(store: &Store, m: &Move, stage: &Stage, words: &[u64; 64]) -> Option<Judgement>
     requires valid { IsValid (world store.now) }
     requires words { are_given stage.now words.now ≡ true }

@@ -52,6 +52,7 @@ pub fn restores(stage: &Stage) -> bool
 }
 
 /// What a stage comes to, by its row. A porter gives these words.
+#[inline(always)]
 fn row(
     store: &Store,
     caller: Caller,
