@@ -37,7 +37,8 @@ first_pass before number (text ∷ texts) =
     ∙ sym (one_more before number (tokens_of text) (numbered_lines (number + 1) texts))
   where
     by : ((more : List TextLine) → lines_from more (number + 1) texts ≡ reached more (numbered_lines (number + 1) texts)) →
-        (r : Result (List TextLine) AsmError) → (r >>= λ more. lines_from more (number + 1) texts) ≡ (r >>= λ more. reached more (numbered_lines (number + 1) texts))
+        (r : Result (List TextLine) AsmError) →
+        (r >>= λ more. lines_from more (number + 1) texts) ≡ (r >>= λ more. reached more (numbered_lines (number + 1) texts))
     by go (Ok more) = go more
     by go (Err e) = refl
 

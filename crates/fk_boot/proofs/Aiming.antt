@@ -10,7 +10,7 @@ use Rattle.fk_model.specs.Places.{Path}
 use Rattle.fk_model.specs.Objects.{Body, kind_of}
 use Rattle.fk_model.specs.Valid.{kind_there, birth_at}
 use Rattle.fk_model.specs.World.{World}
-use Rattle.fk_store.proofs.LookUps.{birth_at-space_at}
+use Rattle.fk_store.proofs.finding.LookUps.{birth_at-space_at}
 use Rattle.fk_store.specs.Contents.{Contents}
 use Rattle.fk_store.specs.Paths.{space_at}
 use Rattle.fk_store.specs.World.{world}

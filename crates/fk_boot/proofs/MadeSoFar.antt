@@ -14,7 +14,7 @@ use Rattle.fk_model.specs.World.{World, apply, apply_all, birth_after}
 use Rattle.fk_model.specs.World.Change.{Make, MakeSpace, PutPage}
 use Rattle.fk_model.specs.Searches.{slots}
 use Rattle.fk_model.proofs.walks.PlaceLaws.{same_path_refl, same_path_eq, same_path_ne, same_path_sym}
-use Rattle.fk_store.proofs.Walks.{not_root}
+use Rattle.fk_store.proofs.finding.Walks.{not_root}
 use Rattle.fk_store.specs.World.{first_world}
 use Rattle.fk_entries.specs.declared.types.Program.{Program}
 use Rattle.fk_entries.specs.declared.types.SpaceEntry.{SpaceEntry}

@@ -15,8 +15,8 @@ use Rattle.fk_entries.specs.declared.types.Spec.{Spec}
 use Rattle.fk_entries.specs.declared.types.Spec.TheVariants as specs
 use Rattle.fk_store.specs.Paths.{path, space_at}
 use Rattle.fk_store.specs.World.{world, IsSpace}
-use Rattle.fk_store.proofs.LookUps.{birth_at-space_at}
-use Rattle.fk_store.proofs.Walks.{path-root, not_root}
+use Rattle.fk_store.proofs.finding.LookUps.{birth_at-space_at}
+use Rattle.fk_store.proofs.finding.Walks.{path-root, not_root}
 use Rattle.fk_boot.specs.FirstWorld.{first_body, space_itself}
 use Rattle.fk_boot.specs.MadeSoFar.{AreBorn}
 

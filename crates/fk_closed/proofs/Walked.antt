@@ -21,7 +21,7 @@ use Rattle.fk_store.specs.Contents.{Contents, stored_birth, birth_there, home}
 use Rattle.fk_store.specs.Names.{at}
 use Rattle.fk_store.specs.Paths.{path, path_by, from_home, space_at, IsAtHome}
 use Rattle.fk_store.specs.World.{world, place_of}
-use Rattle.fk_store.proofs.Listed.{objects-live}
+use Rattle.fk_store.proofs.finding.Listed.{objects-live}
 use Rattle.fk_closed.specs.Walks.{AreObjects, IsPart}
 use Rattle.fk_closed.proofs.Ways.{within_below}
 

@@ -12,7 +12,8 @@ use Rattle.fk_reading.proofs.Loops.{goes_on, fails_there, is_done}
 
 pub spaces_go : (count i : ℕ) (before : List SpaceRec × List Open) (done : List SpaceRec) (bytes : List ℕ) (x : SpaceRec) (after : List ℕ) →
     i < count → read_space before bytes ≡ Ok (x, after)
-    → read_many read_space after_space (count - i) before done bytes ≡ read_many read_space after_space (count - (i + 1)) (after_space before x) (done ++ x ∷ []) after
+    → read_many read_space after_space (count - i) before done bytes
+    ≡ read_many read_space after_space (count - (i + 1)) (after_space before x) (done ++ x ∷ []) after
 spaces_go = goes_on read_space after_space
 
 pub spaces_fail : (e : Fail) (count i : ℕ) (before : List SpaceRec × List Open)

@@ -19,13 +19,14 @@ use Rattle.fk_model.specs.Talks.{if_talking, is_talking, line, line_from, served
 use Rattle.fk_model.specs.World.{World, serves}
 use Rattle.fk_model.specs.World.Edit.{End}
 use Rattle.fk_model.proofs.walks.Members.{IsIn, any_in, find_some, in_either, of_filter, of_flat_map}
-use Rattle.fk_store.proofs.Freedom.{may_alter}
+use Rattle.fk_store.proofs.finding.Freedom.{may_alter}
 use Rattle.fk_deaths.proofs.Clients.{has_talk_at}
 
 -- ---- pointers that aren't frozen
 
 unfrozen_left : (w : World) (me : Path) (ps qs : List Ptr) → are_unfrozen w me (ps ++ qs) ≡ true → are_unfrozen w me ps ≡ true
-unfrozen_left w me ps qs h = by (list_any (leads_to_frozen w me) ps) (list_any (leads_to_frozen w me) qs) (rw (list_any-append (leads_to_frozen w me) ps qs) at h)
+unfrozen_left w me ps qs h = by (list_any (leads_to_frozen w me) ps) (list_any (leads_to_frozen w me) qs)
+    (rw (list_any-append (leads_to_frozen w me) ps qs) at h)
   where
     by : (a b : Bool) → not (a || b) ≡ true → not a ≡ true
     by true b h = h

@@ -24,7 +24,7 @@ use Rattle.fk_store.specs.Paths.{path, place}
 use Rattle.fk_store.specs.World.{world, IsLive}
 use Rattle.fk_store.specs.Names.{who_cmp}
 use Rattle.fk_store.specs.Orders.{IsFirstAfter}
-use Rattle.fk_store.proofs.Enumerated.{first_after-map}
+use Rattle.fk_store.proofs.finding.Enumerated.{first_after-map}
 use Rattle.fk_deaths.specs.Ends.{ended_where, ends_at, ends_led, is_in_list, HaveEnded}
 use Rattle.fk_deaths.proofs.Endings.{ended, ended_alike, ends_both, ends_nobody, thread_with}
 use Rattle.fk_deaths.proofs.Scans.{ArePassed, passed_first, passed_more, passed_all}

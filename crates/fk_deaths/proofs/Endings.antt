@@ -82,7 +82,8 @@ swept_ended x q (Some Portset) = refl
 swept_ended x q (Some (Space birth holder)) = refl
 swept_ended x q (Some (Thread_of t)) = by t.mode
   where
-    by : (mode : Mode) → option_map (through (death_sweep x) q) (ended (thread_with mode t)) ≡ ended (option_map (through (death_sweep x) q) (thread_with mode t))
+    by : (mode : Mode) → option_map (through (death_sweep x) q) (ended (thread_with mode t))
+        ≡ ended (option_map (through (death_sweep x) q) (thread_with mode t))
     by (Running g) = refl
     by (Calling todo rest) = refl
     by (Halted g code) = refl

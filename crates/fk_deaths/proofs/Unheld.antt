@@ -38,7 +38,8 @@ module _ (w : World) (none : (x : Path) → decider w x ≡ None) where
   either false = refl
 
   pub unheld-swept : (me gone q : Path) → may_be_swept w me gone q ≡ true
-  unheld-swept me gone q = rw (frozen-none me q, list_none (leads_to_frozen w me) (led-none me) (lost_with gone (w.body q))) (either (not (is_swept gone q (w.body q))))
+  unheld-swept me gone q = rw (frozen-none me q, list_none (leads_to_frozen w me) (led-none me) (lost_with gone (w.body q)))
+      (either (not (is_swept gone q (w.body q))))
 
   pub unheld-follows : (me renamed q : Path) → may_follow w me renamed q ≡ true
   unheld-follows me renamed q = rw (frozen-none me q) (either (not (is_swept renamed q (w.body q))))

@@ -97,7 +97,8 @@ pub kinds_last : (os : List ObjectRec) (n : ℕ) → kind_in (drop (length os) o
 unfolding kind_in
 kinds_last os n = ap (λ (xs : List ObjectRec). kind_in xs n) (drop-length os)
 
-pub kinds_before : (os : List ObjectRec) (at before : ℕ) (o : ObjectRec) (numbers : List ℕ) (number : ℕ) → at ≡ before + 1 → before < length os → o ≡ get_or os before o →
+pub kinds_before : (os : List ObjectRec) (at before : ℕ) (o : ObjectRec) (numbers : List ℕ) (number : ℕ) →
+    at ≡ before + 1 → before < length os → o ≡ get_or os before o →
     ((n : ℕ) → kind_at numbers n ≡ kind_in (drop at os) n) → o.slot < length numbers → numbered number ≡ Some (kind_of_rec o.body) →
     (n : ℕ) → kind_at (set numbers o.slot number) n ≡ kind_in (drop before os) n
 unfolding kind_in

@@ -79,7 +79,12 @@ pictured_talk spaces t = record {
 }
 
 abbrev pub pictured_fault : List SpaceRec → FaultRec → Fault
-pictured_fault spaces f = record { page = f.page; write = f.write == 1; port = ptr spaces f.port; taker = option_map (λ to. peers.Server (ptr spaces to)) f.taker }
+pictured_fault spaces f = record {
+  page = f.page;
+  write = f.write == 1;
+  port = ptr spaces f.port;
+  taker = option_map (λ to. peers.Server (ptr spaces to)) f.taker;
+}
 
 abbrev pub pictured_thread : List SpaceRec → ThreadRec → ThreadState
 pictured_thread spaces t = record {

@@ -60,15 +60,18 @@ connects = of_registers connectors Connects NoConnect each_connects each_none (�
 
 -- one in a call with such a code
 connects_at : (t : threads_of.Thread) → length t.regs ≡ 16 → t.mode ≡ modes.Calling →
-    connect_first (todo_of_mode (mode_by t.mode t.regs)) ≡ cond {A = Option ℕ} (eqb (slice_index t.regs 0) 32 || eqb (slice_index t.regs 0) 33) (Some (slice_index t.regs 1)) None
+    connect_first (todo_of_mode (mode_by t.mode t.regs))
+    ≡ cond {A = Option ℕ} (eqb (slice_index t.regs 0) 32 || eqb (slice_index t.regs 0) 33) (Some (slice_index t.regs 1)) None
 unfolding connect_in
 connects_at t long is = rw is (connects t.regs long)
 
-pub connects_some : (t : threads_of.Thread) → length t.regs ≡ 16 → t.mode ≡ modes.Calling → (eqb (slice_index t.regs 0) 32 || eqb (slice_index t.regs 0) 33) ≡ true →
+pub connects_some : (t : threads_of.Thread) → length t.regs ≡ 16 → t.mode ≡ modes.Calling →
+    (eqb (slice_index t.regs 0) 32 || eqb (slice_index t.regs 0) 33) ≡ true →
     Some (slice_index t.regs 1) ≡ connect_first (todo_of_mode (mode_by t.mode t.regs))
 connects_some t long is named = sym (connects_at t long is ∙ ap (λ b. cond {A = Option ℕ} b (Some (slice_index t.regs 1)) None) named)
 
-pub connects_none : (t : threads_of.Thread) → length t.regs ≡ 16 → t.mode ≡ modes.Calling → (eqb (slice_index t.regs 0) 32 || eqb (slice_index t.regs 0) 33) ≡ false →
+pub connects_none : (t : threads_of.Thread) → length t.regs ≡ 16 → t.mode ≡ modes.Calling →
+    (eqb (slice_index t.regs 0) 32 || eqb (slice_index t.regs 0) 33) ≡ false →
     None ≡ connect_first (todo_of_mode (mode_by t.mode t.regs))
 connects_none t long is other = sym (connects_at t long is ∙ ap (λ b. cond {A = Option ℕ} b (Some (slice_index t.regs 1)) None) other)
 

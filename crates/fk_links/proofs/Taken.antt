@@ -8,7 +8,7 @@ use Rattle.fk_model.specs.World.{World, Edit, apply, edited}
 use Rattle.fk_model.specs.World.Change.{Alter}
 use Rattle.fk_model.specs.World.Edit.{Finish, SetTalk}
 use Rattle.fk_store.specs.Threads.{todo_at, todo_of_thread}
-use Rattle.fk_store.proofs.Walks.{same_path_true}
+use Rattle.fk_store.proofs.finding.Walks.{same_path_true}
 use Rattle.fk_threads.specs.declared.answers.Answers.TheVariants.{Two}
 use Rattle.fk_threads.specs.Answers.{LeaveArguments}
 use Rattle.fk_threads.specs.Firsts.{IsFirst}

@@ -12,7 +12,7 @@ use Rattle.fk_tables.specs.Names.{at}
 use Rattle.fk_store.specs.Bodies.{mode_by, thread_by}
 use Rattle.fk_store.specs.Paths.{path, place}
 use Rattle.fk_store.specs.World.{world, first_world, IsSpace}
-use Rattle.fk_store.proofs.Walks.{path-root}
+use Rattle.fk_store.proofs.finding.Walks.{path-root}
 use Rattle.fk_lone.specs.LoneThread.{is_in_no_call, IsAlone, joined, state_by, state_of, filled, page_of}
 use Rattle.fk_lone.proofs.Joined.{joined-same, joined-all, page_of-length}
 

@@ -1,7 +1,7 @@
 -- Slots: the first that answers.
 use Rattle.std.proofs.Common.{◌≡◌, ℕ, ◌<◌, ◌≤◌, false, Option, Some, None, is_some, IsSome, refl, sym, subst, arith}
 use Rattle.fk_model.specs.Searches.{lowest}
-use Rattle.fk_store.proofs.ReachLaws.{lowest-first}
+use Rattle.fk_store.proofs.finding.ReachLaws.{lowest-first}
 
 pub none_there : {A : Type 0} (o : Option A) → is_some o ≡ false → o ≡ None
 none_there None h = refl

@@ -13,7 +13,7 @@ use Rattle.fk_model.specs.World.{World}
 use Rattle.fk_store.specs.Contents.{Contents}
 use Rattle.fk_store.specs.Paths.{path, place}
 use Rattle.fk_store.specs.World.{world, IsLive, IsSpace}
-use Rattle.fk_store.proofs.Walks.{same_path_refl, same_path_true, path-root}
+use Rattle.fk_store.proofs.finding.Walks.{same_path_refl, same_path_true, path-root}
 
 -- ---- spaces by birth numbers and by paths
 

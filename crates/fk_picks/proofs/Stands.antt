@@ -19,7 +19,7 @@ use Rattle.fk_model.specs.Talks.{first_stage}
 use Rattle.fk_model.specs.Valid.{kind_there}
 use Rattle.fk_model.specs.World.{World}
 use Rattle.fk_store.specs.Threads.{todo_at, todo_of_mode}
-use Rattle.fk_store.proofs.Walks.{same_path_true}
+use Rattle.fk_store.proofs.finding.Walks.{same_path_true}
 use Rattle.fk_links.specs.Connects.{connect_first}
 use Rattle.fk_picks.specs.Stands.{IsHandle, StandsAt, StandsIn}
 use Rattle.fk_picks.specs.Stands.StandsAt.{Leads, Connects}

@@ -18,7 +18,7 @@ use Rattle.fk_store.specs.Named.{Each}
 use Rattle.fk_store.specs.Paths.{path, place}
 use Rattle.fk_store.specs.Threads.{is_free_at}
 use Rattle.fk_store.specs.World.{world, IsLive}
-use Rattle.fk_store.proofs.Freedom.{free_itself, may_alter}
+use Rattle.fk_store.proofs.finding.Freedom.{free_itself, may_alter}
 use Rattle.fk_readers.specs.declared.caller.Caller.{Caller}
 use Rattle.fk_plans.specs.Destroys.{destroyed}
 use Rattle.fk_plans.specs.Plans.{caller_by}
@@ -72,6 +72,7 @@ module _ (w : World) (p : ℕ → Path) (who : Who) (words : List ℕ) (x : Path
 
 -- who is told has its name still
 pub told_still : (m : Contents) (p : ℕ → Path) (o : Option Who) →
-    Each (IsLive m) o → ((other : Who) → IsLive m other → place p other ≡ place (path m) other) → told_at (option_map (place p) o) ≡ told_at (option_map (place (path m)) o)
+    Each (IsLive m) o → ((other : Who) → IsLive m other → place p other ≡ place (path m) other) →
+    told_at (option_map (place p) o) ≡ told_at (option_map (place (path m)) o)
 told_still m p None live places = refl
 told_still m p (Some who) live places = ap (λ x. told_at (Some x)) (places who live)

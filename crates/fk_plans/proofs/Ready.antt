@@ -26,7 +26,7 @@ use Rattle.fk_store.specs.Paths.{path, place}
 use Rattle.fk_store.specs.Moves.{picked_by}
 use Rattle.fk_store.specs.Threads.{is_free_at}
 use Rattle.fk_store.specs.World.{world}
-use Rattle.fk_store.proofs.Freedom.{free_thread, free_itself, may_alter, IsPlain}
+use Rattle.fk_store.proofs.finding.Freedom.{free_thread, free_itself, may_alter, IsPlain}
 use Rattle.fk_plans.proofs.Pointers.{changed_iff, held_iff, pointed_iff, removed_iff}
 use Rattle.fk_plans.proofs.Recorded.{sets_iff}
 use Rattle.fk_plans.proofs.Renamed.{renames_iff}
@@ -278,7 +278,8 @@ module _ (m : Contents) (c : Caller) (words : List ℕ) (free : c.is_porter ≡ 
   verdict_iff (verdicts.Ends plan answers) fits = ended_iff _ _ _ (plan_iff (world m) me (path m) words plan fits.1)
   verdict_iff (verdicts.Shows plan space page) fits = done_iff _ _ _ (plan_iff (world m) me (path m) words plan fits.2.1)
   verdict_iff (verdicts.ShowsRecord object) fits = done_iff true [] _ ((λ h. tt), (λ h. refl))
-  verdict_iff (verdicts.Sets object from) fits = done_iff true _ [] (sets_iff (world m) me _ (place (path m) object) _ fits.0 ((world m).body (place (path m) object)))
+  verdict_iff (verdicts.Sets object from) fits =
+      done_iff true _ [] (sets_iff (world m) me _ (place (path m) object) _ fits.0 ((world m).body (place (path m) object)))
   verdict_iff (verdicts.Renames object slot) fits = renames_iff m c words free object slot fits
   verdict_iff (verdicts.Destroys object last) fits = destroys_iff m c words free object last
   verdict_iff (verdicts.WakesAll cond) fits =
@@ -337,7 +338,8 @@ module _ (m : Contents) (c : Caller) (words : List ℕ) (free : c.is_porter ≡ 
       (chooses || is_none pick) ≡ may_pick_so chooses (picked_by (path m) pick) (destroyed (world m) caller x last)
   may_pick_destroyed chooses pick x last = by c.is_porter last
     where
-      by : (b last : Bool) → (chooses || is_none pick) ≡ may_pick_so chooses (picked_by (path m) pick) (destroyed (world m) (record caller { is_porter = b }) x last)
+      by : (b last : Bool) → (chooses || is_none pick)
+          ≡ may_pick_so chooses (picked_by (path m) pick) (destroyed (world m) (record caller { is_porter = b }) x last)
       by true true = ap (λ b. chooses || b) (none_picked pick)
       by true false = ap (λ b. chooses || b) (none_picked pick)
       by false true = ap (λ b. chooses || b) (none_picked pick)

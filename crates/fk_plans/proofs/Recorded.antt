@@ -9,7 +9,7 @@ use Rattle.fk_model.specs.Records.{set_edits, takes_state}
 use Rattle.fk_model.specs.World.{World, Edit}
 use Rattle.fk_model.specs.World.Change.{Alter}
 use Rattle.fk_records.specs.Settings.{sets_of}
-use Rattle.fk_store.proofs.Freedom.{may_alter, IsPlain}
+use Rattle.fk_store.proofs.finding.Freedom.{may_alter, IsPlain}
 
 ArePlain : List Edit → Type 0
 ArePlain [] = Unit {0}

@@ -12,8 +12,8 @@ use Rattle.fk_store.specs.Contents.{Contents}
 use Rattle.fk_store.specs.Paths.{path, place}
 use Rattle.fk_store.specs.Threads.{is_free_at}
 use Rattle.fk_store.specs.World.{world}
-use Rattle.fk_store.proofs.Freedom.{free_itself, free_space, unfrozen_object, may_alter, IsPlain}
-use Rattle.fk_store.proofs.Walks.{same_path_true}
+use Rattle.fk_store.proofs.finding.Freedom.{free_itself, free_space, unfrozen_object, may_alter, IsPlain}
+use Rattle.fk_store.proofs.finding.Walks.{same_path_true}
 use Rattle.fk_readers.specs.declared.caller.Caller.{Caller}
 use Rattle.fk_plans.specs.Plans.{caller_by}
 use Rattle.fk_plans.specs.Renames.{renames, IsMoving}

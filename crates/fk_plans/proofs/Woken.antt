@@ -14,7 +14,7 @@ use Rattle.fk_model.specs.Talks.{first_stage}
 use Rattle.fk_model.specs.World.{World, Change}
 use Rattle.fk_model.specs.World.Edit.{Replace}
 use Rattle.fk_store.specs.Threads.{is_free_at}
-use Rattle.fk_store.proofs.Freedom.{free_space, may_alter, unfrozen_object, IsPlain}
+use Rattle.fk_store.proofs.finding.Freedom.{free_space, may_alter, unfrozen_object, IsPlain}
 
 both_allowed : (w : World) (me : Path) (cs ds : List Change) → AreAllowed w me cs → AreAllowed w me ds → AreAllowed w me (cs ++ ds)
 both_allowed w me [] ds first later = later

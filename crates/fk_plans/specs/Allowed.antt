@@ -37,7 +37,8 @@ is_deed_allowed w me p (deeds.Unlinks client) =
 is_deed_allowed w me p (deeds.Links client talk) = not (is_frozen_for w me (place p client))
     && are_unfrozen w me (option_list (of_talk talk_pointers) (w.body (place p client))) && are_unfrozen w me (talk_pointers (talk_by p talk))
 is_deed_allowed w me p (deeds.Serves client peer) = not (is_frozen_for w me (place p client))
-    && are_unfrozen w me (option_list (of_talk (λ (talk : Talk). peer_pointer talk.peer)) (w.body (place p client))) && are_unfrozen w me (peer_pointer (peer_by p peer))
+    && are_unfrozen w me (option_list (of_talk (λ (talk : Talk). peer_pointer talk.peer)) (w.body (place p client)))
+    && are_unfrozen w me (peer_pointer (peer_by p peer))
 is_deed_allowed w me p (deeds.Frees thread) =
     not (is_frozen_for w me (place p thread)) && are_unfrozen w me (option_list (of_fault fault_pointers) (w.body (place p thread)))
 is_deed_allowed w me p (deeds.Raises thread fault) = not (is_frozen_for w me (place p thread))

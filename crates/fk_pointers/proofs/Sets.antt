@@ -72,10 +72,12 @@ pub one_more : (old new : Places) (spaces : List SpaceRec) (i : ℕ) (s : SpaceR
     → (has_place old space slot || list_any (lies_in space slot) (drop i spaces)) ≡ list_any (lies_in space slot) spaces
     → (has_place new space slot || list_any (lies_in space slot) (drop (i + 1) spaces)) ≡ list_any (lies_in space slot) spaces
 one_more old new spaces i s space slot lt is more e =
-    let old_one : (has_place old space slot || (lies_in space slot s || list_any (lies_in space slot) (drop (i + 1) spaces))) ≡ list_any (lies_in space slot) spaces =
+    let old_one : (has_place old space slot || (lies_in space slot s || list_any (lies_in space slot) (drop (i + 1) spaces)))
+    ≡ list_any (lies_in space slot) spaces =
     sym (ap (λ (ss : List SpaceRec). has_place old space slot || list_any (lies_in space slot) ss) (from spaces i s lt is)) ∙ e in
     ap (λ (named : Named). named space slot || list_any (lies_in space slot) (drop (i + 1) spaces)) more
-    ∙ turned (has_place old space slot) (lies_in space slot s) (list_any (lies_in space slot) (drop (i + 1) spaces)) (list_any (lies_in space slot) spaces) old_one
+    ∙ turned (has_place old space slot) (lies_in space slot s) (list_any (lies_in space slot) (drop (i + 1) spaces))
+    (list_any (lies_in space slot) spaces) old_one
 
 pub all_places : (places : Places) (spaces others : List SpaceRec) →
     others ≡ drop 1 spaces → ((space slot : ℕ) → has_place places space slot ≡ list_any (lies_in space slot) others) → has_place places ≡ has_space_at spaces

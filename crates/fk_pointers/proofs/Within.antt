@@ -17,7 +17,8 @@ run-short space (s ∷ ss) = by (ltb s.parent space) (run-short space ss)
     by false h = omega arith
 
 -- what lies beneath a later space lies beneath an earlier one too
-run-run : (space other : ℕ) (ss : List SpaceRec) → space ≤ other → run_beneath space ss ≡ run_beneath other ss + run_beneath space (drop (run_beneath other ss) ss)
+run-run : (space other : ℕ) (ss : List SpaceRec) → space ≤ other →
+    run_beneath space ss ≡ run_beneath other ss + run_beneath space (drop (run_beneath other ss) ss)
 unfolding run_beneath
 run-run space other [] le = refl
 run-run space other (s ∷ ss) le = elim (cases_lt s.parent other) [
@@ -65,7 +66,8 @@ goes spaces space at s e lt is le =
     let one : run_beneath space (drop at spaces) ≡ suc (run_beneath space rest) = ap (run_beneath space) (from spaces at s lt is) ∙ run-more space s rest le in
     let two : run_beneath space rest ≡ run_beneath at rest + run_beneath space (drop (run_beneath at rest) rest) = run-run space at rest (omega arith) in
     let three : drop (run_beneath at rest) rest ≡ drop (at + 1 + run_beneath at rest) spaces = drop-drop (run_beneath at rest) (at + 1) spaces in
-    let four : run_beneath space (drop (run_beneath at rest) rest) ≡ run_beneath space (drop (at + 1 + run_beneath at rest) spaces) = ap (run_beneath space) three in
+    let four : run_beneath space (drop (run_beneath at rest) rest) ≡ run_beneath space (drop (at + 1 + run_beneath at rest) spaces) =
+    ap (run_beneath space) three in
     let end = e.end in
     let within : at + 1 + run_beneath at rest ≤ length spaces = omega (arith, short, len) in
     (within, omega arith, record { behind = omega arith; within = within; end = omega (arith, one, two, four, end) })

@@ -17,7 +17,7 @@ use Rattle.fk_model.proofs.walks.WalkLaws.{live-kind}
 use Rattle.fk_store.specs.Contents.{Contents}
 use Rattle.fk_store.specs.Paths.{path, place}
 use Rattle.fk_store.specs.World.{world, IsLive, IsSpace}
-use Rattle.fk_store.proofs.Walks.{path-root}
+use Rattle.fk_store.proofs.finding.Walks.{path-root}
 
 -- ---- the walk down comes to an object where the walk up from it comes to the space
 
@@ -161,7 +161,8 @@ module _ (m : Contents) (outer : ℕ) (object at : Who) (on : IsOnWay m outer ob
     older = omega (arith, on.older, older);
   }
 
-  pub arrives : at.space ≡ outer → object.space < 2 ^ 32 → (true ≡ is_within s (path m object.space)) × (true ≡ list_any (same_path (place (path m) object)) (beneath w s))
+  pub arrives : at.space ≡ outer → object.space < 2 ^ 32 →
+      (true ≡ is_within s (path m object.space)) × (true ≡ list_any (same_path (place (path m) object)) (beneath w s))
   unfolding beneath
   arrives here few =
       let all : IsIn (place (path m) object) (beneath_by depth w s) = met_deeper (suc on.steps) depth w s (place (path m) object)

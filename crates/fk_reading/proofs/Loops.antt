@@ -73,7 +73,8 @@ objects_end = is_done read_object after_object
 
 pub ruleset objects = (objects_go, objects_fail, objects_end)
 
-pub pages_go : (count i : ℕ) (floor : ℕ) (done : List PageRec) (bytes : List ℕ) (x : PageRec) (after : List ℕ) → i < count → read_page floor bytes ≡ Ok (x, after)
+pub pages_go : (count i : ℕ) (floor : ℕ) (done : List PageRec) (bytes : List ℕ) (x : PageRec) (after : List ℕ) →
+    i < count → read_page floor bytes ≡ Ok (x, after)
     → read_many read_page after_page (count - i) floor done bytes ≡ read_many read_page after_page (count - (i + 1)) (x.page + 1) (done ++ x ∷ []) after
 pages_go = goes_on read_page after_page
 

@@ -58,7 +58,8 @@ module _ (owner : ℕ → Option Who) where
       by true e leads = let same : m ≡ n = grind (arith, nat_tests) in subst (λ x. x / 1280 < 4294967296) (sym same) low
 
 -- rings of owners that agree
-pub AreRings-along : (r : List (List Link) × Bool) (owner now : ℕ → Option Who) → ((n : ℕ) → is_head n ≡ false → now n ≡ owner n) → AreRings r owner → AreRings r now
+pub AreRings-along : (r : List (List Link) × Bool) (owner now : ℕ → Option Who) →
+    ((n : ℕ) → is_head n ≡ false → now n ≡ owner n) → AreRings r owner → AreRings r now
 unfolding AreRings
 AreRings-along r owner now same are kept = record {
   rings = IsRings-along is_head _ _ _ _ (headed owner) (headed now) (λ m. refl) (λ m. refl) (λ m. by m (is_head m) refl) (are kept).rings;
@@ -99,7 +100,8 @@ rings_same rows now lost nexts prevs owner are kept = record {
   small = (are kept).small;
 }
 
-module _ (rows : List (List Link)) (lost : Bool) (who : Who) (field : ℕ) (few : field < 5) (apart : field ≢ 2) (low : who.space < 4294967296) (short : who.slot < 256) where
+module _ (rows : List (List Link)) (lost : Bool) (who : Who) (field : ℕ) (few : field < 5)
+    (apart : field ≢ 2) (low : who.space < 4294967296) (short : who.slot < 256) where
   abbrev node : ℕ
   node = node_of who field
 
@@ -159,14 +161,16 @@ module _ (rows : List (List Link)) (lost : Bool) (who : Who) (short : who.slot <
   -- its head is alone
   pub nobody_there : n ≡ node_of who 2 → AreRings (rows, lost) owner → (m : ℕ) → is_head m ≡ false → owner m ≢ Some who
   unfolding AreRings
-  nobody_there here are m field leads = unled is_head _ _ (headed owner) (are kept).rings (node_of who 2) who (one_head owner who) (sym is ∙ here) (head_is who) m field
+  nobody_there here are m field leads =
+      unled is_head _ _ (headed owner) (are kept).rings (node_of who 2) who (one_head owner who) (sym is ∙ here) (head_is who) m field
       (headed_field owner m field ∙ leads)
 
   -- there is a node behind it
   pub somebody_there : n ≢ node_of who 2 → AreRings (rows, lost) owner → (is_head n ≡ false) × (owner n ≡ Some who) × (n / 1280 < 4294967296)
   unfolding AreRings
   somebody_there off are =
-      let found = behind is_head _ _ (headed owner) (are kept).rings (node_of who 2) who (one_head owner who) (λ h. off (is ∙ h)) (headed_head owner who short) in
+      let found = behind is_head _ _ (headed owner) (are kept).rings (node_of who 2) who (one_head owner who)
+      (λ h. off (is ∙ h)) (headed_head owner who short) in
       let field : is_head n ≡ false = ap is_head is ∙ found.0 in
       let leads : owner n ≡ Some who = sym (headed_field owner n field) ∙ ap (headed owner) is ∙ found.1 in
       (field, leads, (are kept).small n who field leads)

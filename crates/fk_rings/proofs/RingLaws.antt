@@ -81,7 +81,8 @@ module _ {K : Type 0} (is_head : ℕ → Bool) (next prev : ℕ → ℕ) (owner 
     up_to apart (suc k) n low field leads head = by (is_head (next n)) refl (up_to apart k (next n))
       where
         by : (b : Bool) → is_head (next n) ≡ b → (rings.rank (next n) ≤ k → is_head (next n) ≡ false → owner (next n) ≡ Some w → is_head h ≡ true → ⊥) → ⊥
-        by true is ih = let last = one (next n) is (rings.same n ∙ leads) in let a = rings.back n in let b = rings.back h in let same : n ≡ h = cc in absurd (cc)
+        by true is ih = let last = one (next n) is (rings.same n ∙ leads) in let a = rings.back n in
+            let b = rings.back h in let same : n ≡ h = cc in absurd (cc)
         by false is ih = let a = rings.falls n w leads field in ih (omega arith) is (rings.same n ∙ leads) head
 
     pub unled : next h ≡ h → is_head h ≡ true → (n : ℕ) → is_head n ≡ false → owner n ≡ Some w → ⊥

@@ -73,4 +73,5 @@ aims_well spaces objects space Portset = true
 -- the objects from an index on; one that aims badly is rule 7
 unfoldable pub aims_from : List SpaceEntry → List ObjectEntry → ℕ → List ObjectEntry → Result (Unit {0}) ScenarioError
 aims_from spaces objects index [] = Ok tt
-aims_from spaces objects index (o ∷ os) = placed 4 index (unless 7 (aims_well spaces objects (entry_space o) o.spec)) >>= λ _. aims_from spaces objects (index + 1) os
+aims_from spaces objects index (o ∷ os) =
+    placed 4 index (unless 7 (aims_well spaces objects (entry_space o) o.spec)) >>= λ _. aims_from spaces objects (index + 1) os

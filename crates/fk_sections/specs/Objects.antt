@@ -26,4 +26,5 @@ object_after spaces done value = do
 -- the objects after those so far
 unfoldable pub objects_from : List SpaceEntry → List ObjectEntry → Items → Result (List ObjectEntry) ScenarioError
 objects_from spaces done no_items = Ok done
-objects_from spaces done (item value rest) = placed 4 (length done) (object_after spaces done value) >>= λ object. objects_from spaces (done ++ object ∷ []) rest
+objects_from spaces done (item value rest) =
+    placed 4 (length done) (object_after spaces done value) >>= λ object. objects_from spaces (done ++ object ∷ []) rest

@@ -47,7 +47,12 @@ pub record SpaceFields : Type 0 where
 
 -- the same as the code has it
 abbrev pub space_fields_view : code.SpaceFields → SpaceFields
-space_fields_view fields = record { path = fields.path.now; program = option_map (λ name. name.now) fields.program; pages = fields.pages; nester = fields.nester }
+space_fields_view fields = record {
+  path = fields.path.now;
+  program = option_map (λ name. name.now) fields.program;
+  pages = fields.pages;
+  nester = fields.nester;
+}
 
 -- its keys and their types (2)
 unfoldable pub space_fields : Members → Result SpaceFields ℕ

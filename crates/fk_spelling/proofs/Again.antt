@@ -195,11 +195,13 @@ objects_again os rest fits =
     rw (number_again w16 (2 ^ 16) wide16 (length os) (flat_map object os ++ rest) f.0)
     (many_again read_object after_object object fits_object object_again os 0 [] rest f.1)
 
-pages_again : (ps : List PageRec) (rest : List ℕ) → fits_pages ps ≡ true → read_pages (to_le_bytes w16 (length ps) ++ (flat_map page ps ++ rest)) ≡ Ok (ps, rest)
+pages_again : (ps : List PageRec) (rest : List ℕ) → fits_pages ps ≡ true →
+    read_pages (to_le_bytes w16 (length ps) ++ (flat_map page ps ++ rest)) ≡ Ok (ps, rest)
 unfolding read_pages
 pages_again ps rest fits =
     let f = and2 (is_half (length ps)) (all_from after_page fits_page 0 ps) fits in
-    rw (number_again w16 (2 ^ 16) wide16 (length ps) (flat_map page ps ++ rest) f.0) (many_again read_page after_page page fits_page page_again ps 0 [] rest f.1)
+    rw (number_again w16 (2 ^ 16) wide16 (length ps) (flat_map page ps ++ rest) f.0)
+    (many_again read_page after_page page fits_page page_again ps 0 [] rest f.1)
 
 -- ---- spaces
 

@@ -313,7 +313,8 @@ body_takes bytes x fits e =
     by : (kind : ℕ) (rest : List ℕ) → Takes bytes (kind ∷ []) rest
         → cond (eqb kind 1) (read_mutex rest) (cond (eqb kind 2) (Ok (Cond, rest)) (cond (eqb kind 3) (read_mapping rest) (cond (eqb kind 4) (read_region rest)
         (cond (eqb kind 5) (read_port rest)
-        (cond (eqb kind 6) (Ok (Portset, rest)) (cond (eqb kind 8) (read_thread rest) (cond (eqb kind 9) (read_reference rest) (refuse_field bytes 5)))))))) ≡ Ok x
+        (cond (eqb kind 6) (Ok (Portset, rest))
+        (cond (eqb kind 8) (read_thread rest) (cond (eqb kind 9) (read_reference rest) (refuse_field bytes 5)))))))) ≡ Ok x
         → Took body fits_body bytes x
     by zero rest t e = absurd (never bytes 5 x e)
     by (suc zero) rest t e = mutex_takes rest x t.rest_fits e bytes t

@@ -20,7 +20,8 @@ read_byte [] = refuse_field [] 3
 read_byte (b ∷ rest) = Ok (b, rest)
 
 abbrev pub read_number : Width → List ℕ → Result (ℕ × List ℕ) Stop
-read_number w bytes = if nat_lt (length bytes) (byte_len w) then refuse_field bytes 3 else Ok (from_le_bytes w (take (byte_len w) bytes), drop (byte_len w) bytes)
+read_number w bytes = if nat_lt (length bytes) (byte_len w) then refuse_field bytes 3 else Ok
+    (from_le_bytes w (take (byte_len w) bytes), drop (byte_len w) bytes)
 
 -- a byte below a limit
 unfoldable pub read_below : ℕ → List ℕ → Result (ℕ × List ℕ) Stop

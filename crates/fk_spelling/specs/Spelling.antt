@@ -65,7 +65,8 @@ abbrev pub page_bytes : PageRec → List ℕ
 page_bytes p = p.page ∷ words_bytes p.words
 
 abbrev pub contents_bytes : List ObjectRec → List PageRec → List ℕ
-contents_bytes objects pages = to_le_bytes w16 (length objects) ++ (flat_map object_bytes objects ++ (to_le_bytes w16 (length pages) ++ flat_map page_bytes pages))
+contents_bytes objects pages =
+    to_le_bytes w16 (length objects) ++ (flat_map object_bytes objects ++ (to_le_bytes w16 (length pages) ++ flat_map page_bytes pages))
 
 abbrev pub space_bytes : SpaceRec → List ℕ
 space_bytes s = to_le_bytes w32 s.parent ++ (s.slot ∷ (link_bytes s.holder ++ contents_bytes s.objects s.pages))

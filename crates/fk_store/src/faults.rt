@@ -17,7 +17,7 @@ use fk_model::{Body, Fault, Peer, Thread, Who};
 impl Store {
     /// A thread has a fault on a page that is missing, which the port's server may take. What is no
     /// thread stays as it is.
-    #[tactic(auto, using(crate::proofs::ThreadLaws::kind_thread, crate::proofs::ThreadLaws::raise_nobody), unfolding(fk_model::specs::World::edited))]
+    #[tactic(auto, using(crate::proofs::changing::ThreadLaws::kind_thread, crate::proofs::changing::ThreadLaws::raise_nobody), unfolding(fk_model::specs::World::edited))]
     pub fn raise(&mut self, me: Who, page: u8, write: bool, port: Who)
         requires port { IsLive self.old port }
         ensures world { world self.new ≡ apply (fault_on (place (path self.old) me) page write (At (place (path self.old) port))) (world self.old) }
@@ -40,7 +40,7 @@ impl Store {
     }
 
     /// The fault of a thread begins or ends. What is no thread stays as it is.
-    #[tactic(auto, using(crate::proofs::ThreadLaws::kind_thread, crate::proofs::EditLaws::fault_nobody), unfolding(fk_model::specs::World::edited))]
+    #[tactic(auto, using(crate::proofs::changing::ThreadLaws::kind_thread, crate::proofs::changing::EditLaws::fault_nobody), unfolding(fk_model::specs::World::edited))]
     pub fn set_fault(&mut self, who: Who, fault: Option<Fault>)
         requires fault { Each (OnFault (IsLive self.old)) fault }
         ensures world { world self.new ≡ apply (Alter (place (path self.old) who) (SetFault (option_map (fault_by (path self.old)) fault))) (world self.old) }
@@ -53,7 +53,7 @@ impl Store {
     }
 
     /// The fault of a thread has this taker, or is raised again. What has no fault stays as it is.
-    #[tactic(auto, using(crate::proofs::ThreadLaws::kind_thread, crate::proofs::EditLaws::taker_nobody), unfolding(fk_model::specs::World::edited))]
+    #[tactic(auto, using(crate::proofs::changing::ThreadLaws::kind_thread, crate::proofs::changing::EditLaws::taker_nobody), unfolding(fk_model::specs::World::edited))]
     pub fn set_taker(&mut self, who: Who, taker: Option<Peer>)
         requires taker { Each (OnPeer (IsLive self.old)) taker }
         ensures world { world self.new ≡ apply (Alter (place (path self.old) who) (SetTaker (option_map (peer_by (path self.old)) taker))) (world self.old) }

@@ -15,7 +15,7 @@ use fk_model::Who;
 impl Store {
     /// A mapping is of `count` pages of its space, from 1 to 256, from `first` on. They lead to the
     /// pages of its region from `offset` on. What is no mapping stays as it is.
-    #[tactic(auto, using(crate::proofs::EditLaws::alter_nothing))]
+    #[tactic(auto, using(crate::proofs::changing::EditLaws::alter_nothing))]
     pub fn set_window(&mut self, mapping: Who, first: u8, count: u16, offset: u8, write: bool)
         requires sized { is_page_range first count ≡ true }
         ensures world { world self.new ≡ apply (Alter (place (path self.old) mapping) (SetWindow first count offset write)) (world self.old) }
@@ -29,7 +29,7 @@ impl Store {
 
     /// A region is of `count` pages of its space, from 1 to 256, from `first` on. What is no region
     /// stays as it is.
-    #[tactic(auto, using(crate::proofs::EditLaws::alter_nothing))]
+    #[tactic(auto, using(crate::proofs::changing::EditLaws::alter_nothing))]
     pub fn set_extent(&mut self, region: Who, first: u8, count: u16, write: bool)
         requires sized { is_page_range first count ≡ true }
         ensures world { world self.new ≡ apply (Alter (place (path self.old) region) (SetExtent first count write)) (world self.old) }

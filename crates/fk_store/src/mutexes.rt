@@ -33,7 +33,7 @@ impl Store {
     }
 
     /// Locks a mutex, or unlocks it. What is no mutex stays as it is.
-    #[tactic(auto, using(crate::proofs::MutexLaws::kind_mutex, crate::proofs::MutexLaws::locked_mutex, crate::proofs::MutexLaws::locked_nothing))]
+    #[tactic(auto, using(crate::proofs::changing::MutexLaws::kind_mutex, crate::proofs::changing::MutexLaws::locked_mutex, crate::proofs::changing::MutexLaws::locked_nothing))]
     pub fn set_locked(&mut self, who: Who, locked: bool)
         ensures world { world self.new ≡ apply (Alter (place (path self.old) who) (SetLocked locked)) (world self.old) }
         ensures kinds { kind_there (world self.new) ≡ kind_there (world self.old) }

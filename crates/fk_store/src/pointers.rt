@@ -17,7 +17,7 @@ use fk_model::{Ptr, Who};
 impl Store {
     /// The pointer of a mapping, a region or a reference leads elsewhere. What is none of them stays
     /// as it is.
-    #[tactic(auto, using(crate::proofs::EditLaws::alter_nothing))]
+    #[tactic(auto, using(crate::proofs::changing::EditLaws::alter_nothing))]
     pub fn point(&mut self, who: Who, to: Ptr)
         requires to { OnPointer (IsLive self.old) to }
         ensures world { world self.new ≡ apply (Alter (place (path self.old) who) (SetPointer (pointer_by (path self.old) to))) (world self.old) }

@@ -14,7 +14,7 @@ use fk_model::Who;
 impl Store {
     /// A port is in the port set in this slot of its space, or in none. What is no port stays as it
     /// is.
-    #[tactic(auto, using(crate::proofs::EditLaws::alter_nothing))]
+    #[tactic(auto, using(crate::proofs::changing::EditLaws::alter_nothing))]
     pub fn set_member(&mut self, port: Who, set: Option<u8>)
         ensures world { world self.new ≡ apply (Alter (place (path self.old) port) (SetMember set)) (world self.old) }
         ensures kinds { kind_there (world self.new) ≡ kind_there (world self.old) }

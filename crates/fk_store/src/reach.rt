@@ -113,7 +113,7 @@ impl Store {
     /// mapping in the lowest slot that covers the page leads on, by at most 16 mappings; where
     /// nothing leads on the page is missing, and the region in the lowest slot that covers it names
     /// the keeper.
-    #[tactic(auto, using(crate::proofs::ReachLaws::hops))]
+    #[tactic(auto, using(crate::proofs::finding::ReachLaws::hops))]
     pub fn reach(&self, space: u32, page: u8, write: bool) -> Reach
         ensures { reach_by (path self.now) result
             ≡ definition.reach (world self.now) (path self.now space) page write }

@@ -15,7 +15,7 @@ use fk_tables::Nudge;
 
 impl Store {
     /// The talk of a client begins or ends. What is no thread stays as it is.
-    #[tactic(auto, using(crate::proofs::ThreadLaws::kind_thread, crate::proofs::EditLaws::talk_nobody), unfolding(fk_model::specs::World::edited))]
+    #[tactic(auto, using(crate::proofs::changing::ThreadLaws::kind_thread, crate::proofs::changing::EditLaws::talk_nobody), unfolding(fk_model::specs::World::edited))]
     pub fn set_talk(&mut self, client: Who, talk: Option<Talk>)
         requires talk { Each (OnTalk (IsLive self.old)) talk }
         ensures world { world self.new ≡ apply (Alter (place (path self.old) client) (SetTalk (option_map (talk_by (path self.old)) talk))) (world self.old) }
@@ -48,7 +48,7 @@ impl Store {
     }
 
     /// A client's talk has this peer. What is in no talk as a client stays as it is.
-    #[tactic(auto, using(crate::proofs::ThreadLaws::kind_thread, crate::proofs::EditLaws::peer_nobody), unfolding(fk_model::specs::World::edited))]
+    #[tactic(auto, using(crate::proofs::changing::ThreadLaws::kind_thread, crate::proofs::changing::EditLaws::peer_nobody), unfolding(fk_model::specs::World::edited))]
     pub fn set_peer(&mut self, client: Who, peer: Peer)
         requires peer { OnPeer (IsLive self.old) peer }
         ensures world { world self.new ≡ apply (Alter (place (path self.old) client) (SetPeer (peer_by (path self.old) peer))) (world self.old) }

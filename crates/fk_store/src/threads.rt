@@ -61,7 +61,7 @@ impl Store {
     }
 
     /// Ends the call of a thread with a status. What is in no call stays as it is.
-    #[tactic(auto, using(crate::proofs::ThreadLaws::kind_thread, crate::proofs::ThreadLaws::end_nobody))]
+    #[tactic(auto, using(crate::proofs::changing::ThreadLaws::kind_thread, crate::proofs::changing::ThreadLaws::end_nobody))]
     pub fn end_call(&mut self, me: Who, status: u8)
         ensures world { world self.new ≡ apply (Alter (place (path self.old) me) (End status [])) (world self.old) }
         ensures kinds { kind_there (world self.new) ≡ kind_there (world self.old) }

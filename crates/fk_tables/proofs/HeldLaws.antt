@@ -67,7 +67,8 @@ module _ (bodies : FinMap who_cmp Body) (who : Who) where
 
       by : (o : Option Body) → get bodies who ≡ o → held_in (finmap.remove bodies who) + of_cell holds_one o ≡ held_in bodies
       by None e =
-          let same : finmap.remove bodies who ≡ bodies = same_map who_total who_exact _ _ (λ q. get-remove who_total bodies who q ∙ rw (same_tied q who) (kept q (same_who q who) refl)) in
+          let same : finmap.remove bodies who ≡ bodies =
+          same_map who_total who_exact _ _ (λ q. get-remove who_total bodies who q ∙ rw (same_tied q who) (kept q (same_who q who) refl)) in
           let count = ap held_in same in omega (arith, count)
         where
           kept : (q : Who) (t : Bool) → same_who q who ≡ t → cond t None (get bodies q) ≡ get bodies q
@@ -102,7 +103,8 @@ abbrev Counts : ℕ → ℕ → Bool → Bool → Type 0
 Counts count result before now = (n m : ℕ) → IsCount n count → m + one_if before ≡ n + one_if now → IsCount m result
 
 module _ (bodies : FinMap who_cmp Body) (who : Who) (count result : ℕ) (enough : IsCount (held_in bodies) count) where
-  pub enough-put : (b : Body) (now : Bool) → get bodies who ≡ None → now ≡ is_held b → Counts count result false now → IsCount (held_in (finmap.insert bodies who b)) result
+  pub enough-put : (b : Body) (now : Bool) → get bodies who ≡ None → now ≡ is_held b →
+      Counts count result false now → IsCount (held_in (finmap.insert bodies who b)) result
   enough-put b now empty is counts = counts (held_in bodies) (held_in (finmap.insert bodies who b)) enough
       (subst (λ t. held_in (finmap.insert bodies who b) + 0 ≡ held_in bodies + one_if t) (sym is) (held-insert-at bodies who b None empty))
 
@@ -112,7 +114,8 @@ module _ (bodies : FinMap who_cmp Body) (who : Who) (count result : ℕ) (enough
       (subst (λ t. held_in (finmap.insert bodies who b) + one_if before ≡ held_in bodies + one_if t) (sym is)
       (subst (λ t. held_in (finmap.insert bodies who b) + one_if t ≡ held_in bodies + holds_one b) (sym was) (held-insert-at bodies who b (Some old) there)))
 
-  pub enough-remove : (before : Bool) → one_if before ≡ of_cell holds_one (get bodies who) → Counts count result before false → IsCount (held_in (finmap.remove bodies who)) result
+  pub enough-remove : (before : Bool) → one_if before ≡ of_cell holds_one (get bodies who) →
+      Counts count result before false → IsCount (held_in (finmap.remove bodies who)) result
   enough-remove before was counts = counts (held_in bodies) (held_in (finmap.remove bodies who)) enough
       (let left = held-remove bodies who in omega (arith, was, left))
 
@@ -121,7 +124,8 @@ pub enough-rename : (bodies other : FinMap who_cmp Body) (from to : Who) (b : Bo
     ((q : Who) → get other q ≡ cond (same_who q to) (get bodies from) (cond (same_who q from) None (get bodies q))) →
     IsCount (held_in bodies) count → IsCount (held_in other) count
 enough-rename bodies other from to b count there free renamed enough few =
-    let same : other ≡ finmap.insert (finmap.remove bodies from) to b = same_map who_total who_exact _ _ (λ q. renamed q ∙ sym (get-insert who_total (finmap.remove bodies from) to b q
+    let same : other ≡ finmap.insert (finmap.remove bodies from) to b =
+    same_map who_total who_exact _ _ (λ q. renamed q ∙ sym (get-insert who_total (finmap.remove bodies from) to b q
     ∙ rw (get-remove who_total bodies from q, same_tied q to, same_tied q from, there) refl)) in
     let more = held-insert-at (finmap.remove bodies from) to b None none in
     let left = subst (λ o. held_in (finmap.remove bodies from) + of_cell holds_one o ≡ held_in bodies) there (held-remove bodies from) in

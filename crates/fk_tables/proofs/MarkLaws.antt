@@ -150,7 +150,8 @@ marked-rename bodies other marks told from to body here renamed tells marked q b
   where
     same : get (finmap.insert (finmap.remove bodies from) to body) q ≡ get other q
     same = get-insert who_total (finmap.remove bodies from) to body q
-        ∙ rw (get-remove who_total bodies from q, same_tied q to, same_tied q from) (ap (λ o. cond (same_who q to) o (cond (same_who q from) None (get bodies q))) (sym here))
+        ∙ rw (get-remove who_total bodies from q, same_tied q to, same_tied q from)
+        (ap (λ o. cond (same_who q to) o (cond (same_who q from) None (get bodies q))) (sym here))
         ∙ sym (renamed q)
 
 -- what isn't marked holds none

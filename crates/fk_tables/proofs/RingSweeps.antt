@@ -97,7 +97,8 @@ pointer_field (Thread thread) i w h = go (ltb i 3) h
     faults (Some t) h = by (i == 3) refl (i == 4) refl (i == 5) h
       where
         by : (p : Bool) → (i == 3) ≡ p → (q : Bool) → (i == 4) ≡ q → (r : Bool) →
-            cond p (Some (lead_by Pointer t.port)) (cond q (and_then (peer Pointer) t.taker) (cond r (and_then (peer Taken) t.taker) None)) ≡ Some (lead_by Pointer w) →
+            cond p (Some (lead_by Pointer t.port)) (cond q (and_then (peer Pointer) t.taker) (cond r (and_then (peer Taken) t.taker) None))
+            ≡ Some (lead_by Pointer w) →
             IsPointer i
         by true e q f r h = at_pointer i 3 e (omega arith) (λ two. absurd (omega (arith, two)))
         by false e true f r h = at_pointer i 4 f (omega arith) (λ two. absurd (omega (arith, two)))
@@ -227,7 +228,8 @@ less-at who rows mid q b b2 there changes less =
     let m : FinMap who_cmp Body = map_of_rows who_cmp at rows in
     let is : map_of_rows who_cmp at mid ≡ finmap.insert m q b2 = insert_rows who_naming rows mid q.space q.slot b2 changes in
     let sums = total_put who_total (leading who) q b2 (entries m) (entries_sorted m) in
-    let found : of_cell (leading who) (finmap.find who_cmp q (entries m)) ≡ leading who b = ap (of_cell (leading who)) (sym (get-entries m q) ∙ get-who rows q ∙ there) in
+    let found : of_cell (leading who) (finmap.find who_cmp q (entries m)) ≡ leading who b =
+    ap (of_cell (leading who)) (sym (get-entries m q) ∙ get-who rows q ∙ there) in
     let now : sum_by (λ e. leading who e.1) (entries (map_of_rows who_cmp at mid)) ≡ sum_by (λ e. leading who e.1) (finmap.put who_cmp q b2 (entries m)) =
     ap (λ es. sum_by (λ (e : Who × Body). leading who e.1) es) (ap entries is ∙ entries-insert who_total m q b2) in
     omega (arith, sums, found, now, less)
@@ -245,7 +247,8 @@ module _ (sweep : Sweep) where
   led-kept space Cond off i = refl
   led-kept space (Mapping page count offset write region) off i =
       ap (λ b. led b i) (body-off sweep (suc sweep.from.space) (Mapping page count offset write region) elsewhere off)
-  led-kept space (Region page count write keeper) off i = ap (λ b. led b i) (body-off sweep (suc sweep.from.space) (Region page count write keeper) elsewhere off)
+  led-kept space (Region page count write keeper) off i =
+      ap (λ b. led b i) (body-off sweep (suc sweep.from.space) (Region page count write keeper) elsewhere off)
   led-kept space (Port set served) off i = refl
   led-kept space Portset off i = refl
   led-kept space (Space birth holder) off i = ap (λ b. led b i) (body-off sweep (suc sweep.from.space) (Space birth holder) elsewhere off)
@@ -266,7 +269,8 @@ module _ (sweep : Sweep) where
         slot_of : Option Who → Option ℕ
         slot_of = option_map (λ (who : Who). who.slot)
 
-        twice : (t : Who) (a : Bool) → sweep.to ≡ Some t → same_who (at space t.slot) sweep.from ≡ a → slot_of (cond a sweep.to (Some (at space t.slot))) ≡ Some t.slot
+        twice : (t : Who) (a : Bool) → sweep.to ≡ Some t → same_who (at space t.slot) sweep.from ≡ a →
+            slot_of (cond a sweep.to (Some (at space t.slot))) ≡ Some t.slot
         twice t true to e = ap slot_of to
         twice t false to e = refl
 
@@ -294,7 +298,8 @@ module _ (sweep : Sweep) where
     again space (Thread thread) = body-off sweep (suc sweep.from.space) (body_after sweep space (Thread thread)) elsewhere (gone space (Thread thread))
     again space (Reference to) = body-off sweep (suc sweep.from.space) (body_after sweep space (Reference to)) elsewhere (gone space (Reference to))
 
-    again_in : (space : ℕ) (o : Option Body) → option_map (body_after sweep space) (option_map (body_after sweep space) o) ≡ option_map (body_after sweep space) o
+    again_in : (space : ℕ) (o : Option Body) →
+        option_map (body_after sweep space) (option_map (body_after sweep space) o) ≡ option_map (body_after sweep space) o
     again_in space None = refl
     again_in space (Some b) = ap Some (again space b)
 
@@ -368,7 +373,8 @@ module _ (sweep : Sweep) where
   -- no pointer leads there any more
   module _ (rows : Cells) (r : Rows) (ringed : AreRinged rows r)
       (none : (n : ℕ) → is_head n ≡ false → owner rows n ≢ Some sweep.from) where
-    pub left-swept : (new : Cells) → ((s k : ℕ) → cell new s k ≡ cond (s == sweep.from.space) (option_map (body_after sweep s) (cell rows s k)) (cell rows s k)) →
+    pub left-swept : (new : Cells) →
+        ((s k : ℕ) → cell new s k ≡ cond (s == sweep.from.space) (option_map (body_after sweep s) (cell rows s k)) (cell rows s k)) →
         (s k : ℕ) → cell new s k ≡ option_map (body_after sweep s) (cell rows s k)
     left-swept new home = swept-home rows sweep new home (λ q b i off there leads. nobody rows r ringed sweep.from none q b i there leads)
 
@@ -385,4 +391,5 @@ module _ (sweep : Sweep) where
             go : (o : Option Body) → cell rows (n / 1280) (n / 5 % 256) ≡ o →
                 and_then (target (n % 5)) (option_map (body_after sweep (n / 1280)) o) ≡ and_then (target (n % 5)) o
             go None e = refl
-            go (Some b) e = ap (and_then pointed) (led-kept (n / 1280) b (λ i. nobody rows r ringed sweep.from none (at (n / 1280) (n / 5 % 256)) b i e) (n % 5))
+            go (Some b) e = ap (and_then pointed)
+                (led-kept (n / 1280) b (λ i. nobody rows r ringed sweep.from none (at (n / 1280) (n / 5 % 256)) b i e) (n % 5))

@@ -102,7 +102,8 @@ module _ (others : ℕ → Option Who) (who : Who) (b : Body) where
       by n false = refl
 
 -- a head is no pointer
-pub head_put : (r : Rows) (others : ℕ → Option Who) (who : Who) (f : ℕ) (o : Option Who) → f ≡ 2 → AreRings r others → AreRings r (put_at others (node_of who f) o)
+pub head_put : (r : Rows) (others : ℕ → Option Who) (who : Who) (f : ℕ) (o : Option Who) → f ≡ 2 →
+    AreRings r others → AreRings r (put_at others (node_of who f) o)
 head_put r others who f o two = AreRings-along r others (put_at others (node_of who f) o) (λ n field. by n field (n == node_of who f) refl)
   where
     by : (n : ℕ) → is_head n ≡ false → (c : Bool) → (n == node_of who f) ≡ c → cond c o (others n) ≡ others n

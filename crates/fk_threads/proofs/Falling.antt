@@ -17,7 +17,7 @@ use Rattle.fk_model.specs.World.Change.{Alter}
 use Rattle.fk_model.proofs.calls.CallLaws.{registers}
 use Rattle.fk_store.specs.Bodies.{calling_mode, mode_by, thread_by}
 use Rattle.fk_store.specs.Threads.{todo_of_mode, todo_at}
-use Rattle.fk_store.proofs.ThreadLaws.{alter-nobody}
+use Rattle.fk_store.proofs.changing.ThreadLaws.{alter-nobody}
 use Rattle.fk_stages.proofs.Codes.{is_among, OfEach, OfOthers, of_registers}
 use Rattle.fk_threads.specs.Firsts.{IsFirst}
 use Rattle.fk_threads.specs.Sleepers.{fallen}
@@ -47,7 +47,8 @@ each_other = assumption
 stays : (c m : ℕ) (todo : List Stage) (rest : List ℕ) →
     waits_in todo ≡ false → IsFirst (CondWait c m) todo → replaced_in (CondAsleep c m) (Calling todo rest) ≡ Calling todo rest
 stays c m [] rest other is = refl
-stays c m (first ∷ todo) rest other is = let no : waits_in (CondWait c m ∷ todo) ≡ false = subst (λ stage. waits_in (stage ∷ todo) ≡ false) is other in absurd (cc)
+stays c m (first ∷ todo) rest other is = let no : waits_in (CondWait c m ∷ todo) ≡ false = subst (λ stage. waits_in (stage ∷ todo) ≡ false) is other in
+    absurd (cc)
 
 falls : (g : List ℕ) → length g ≡ 16 → Falls g
 unfolding waiters Falls
@@ -62,7 +63,8 @@ falls = of_registers waiters Falls (λ g todo. waits_in todo ≡ false) each_fal
         by false none same = same
 
 pub fall_edit : (p : ℕ → Path) (t : threads_of.Thread) (c m : ℕ) → length t.regs ≡ 16 → t.mode ≡ modes.Calling → IsFirst (CondWait c m)
-    (todo_of_mode (mode_by t.mode t.regs)) → edited (Replace (CondAsleep c m)) (Thread_of (thread_by p t)) ≡ Thread_of (thread_by p (record t { regs = fallen t.regs }))
+    (todo_of_mode (mode_by t.mode t.regs)) →
+    edited (Replace (CondAsleep c m)) (Thread_of (thread_by p t)) ≡ Thread_of (thread_by p (record t { regs = fallen t.regs }))
 unfolding edited Falls
 fall_edit p t c m long is first = rw is (ap (λ mode. Thread_of (record (thread_by p t) { mode = mode })) (falls t.regs long c m (rw is at first)))
 
@@ -93,7 +95,8 @@ fall_nobody w x c m none = alter-nobody w x (Replace (CondAsleep c m)) _ (λ b. 
 
 -- ---- a mutex that is unlocked leaves each thread at its stage
 
-pub first_unlocked : (w : World) (x y : Path) (locked : Bool) (stage : Stage) → IsFirst stage (todo_at w y) → IsFirst stage (todo_at (apply (Alter x (SetLocked locked)) w) y)
+pub first_unlocked : (w : World) (x y : Path) (locked : Bool) (stage : Stage) → IsFirst stage (todo_at w y) →
+    IsFirst stage (todo_at (apply (Alter x (SetLocked locked)) w) y)
 unfolding todo_at apply edited
 first_unlocked w x y locked stage first = rw (by (same_path y x) (w.body y)) first
   where

@@ -17,7 +17,7 @@ use Rattle.fk_model.specs.World.Change.{Alter}
 use Rattle.fk_model.proofs.calls.CallLaws.{registers}
 use Rattle.fk_store.specs.Bodies.{calling_mode, mode_by, thread_by}
 use Rattle.fk_store.specs.Threads.{todo_of_mode, todo_at}
-use Rattle.fk_store.proofs.ThreadLaws.{alter-nobody, words-status}
+use Rattle.fk_store.proofs.changing.ThreadLaws.{alter-nobody, words-status}
 use Rattle.fk_stages.proofs.Codes.{is_among, OfEach, OfOthers, of_registers}
 use Rattle.fk_threads.specs.declared.answers.Answers.{Answers}
 use Rattle.fk_threads.specs.declared.answers.Answers.TheVariants.{Nothing, One, Two, Three}

@@ -20,7 +20,7 @@ use Rattle.fk_stages.proofs.Codes.{is_among, OfEach, OfOthers, of_registers}
 use Rattle.fk_store.specs.Bodies.{calling_mode, mode_by, thread_by}
 use Rattle.fk_store.specs.Threads.{todo_of_mode, todo_at}
 use Rattle.fk_threads.specs.Shifted.{moving, advanced, shifted_registers, receive_code, receive_in, address_of, address_in, IsLow}
-use Rattle.fk_store.proofs.ThreadLaws.{alter-nobody}
+use Rattle.fk_store.proofs.changing.ThreadLaws.{alter-nobody}
 use Rattle.fk_model.specs.Searches.{thread_at}
 
 -- ---- the calls whose first stage moves words

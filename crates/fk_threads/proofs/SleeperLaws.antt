@@ -24,7 +24,7 @@ use Rattle.fk_model.specs.Talks.{first_stage}
 use Rattle.fk_model.proofs.calls.CallLaws.{registers, sixteen, todo_writes_back_lem}
 use Rattle.fk_store.specs.Bodies.{calling_mode, mode_by, thread_by}
 use Rattle.fk_store.specs.Threads.{todo_of_mode, todo_at}
-use Rattle.fk_store.proofs.ThreadLaws.{alter-nobody}
+use Rattle.fk_store.proofs.changing.ThreadLaws.{alter-nobody}
 use Rattle.fk_stages.proofs.Codes.{is_among, OfEach, OfOthers, of_registers}
 use Rattle.fk_threads.specs.Sleepers.{asleep_in, is_changed, IsAsleep}
 

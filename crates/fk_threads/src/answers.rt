@@ -94,7 +94,7 @@ fn ended_well(thread: &Thread, answers: Answers) -> [u64; 16]
 
 /// The first stage of a thread's call is done, with answers that leave the arguments of its later
 /// stages. The call ends where it was the last. What is in no call stays as it is.
-#[tactic(auto, using(fk_store::proofs::ThreadLaws::kind_thread, crate::proofs::FinishLaws::finish_nobody))]
+#[tactic(auto, using(fk_store::proofs::changing::ThreadLaws::kind_thread, crate::proofs::FinishLaws::finish_nobody))]
 pub fn finish(store: &mut Store, who: Who, answers: Answers)
     requires apart { LeaveArguments answers (todo_at (world store.old) (place (path store.old) who)) }
     ensures world { world store.new ≡ apply (Alter (place (path store.old) who) (Finish (listed answers))) (world store.old) }
@@ -168,7 +168,7 @@ fn well_ended(thread: Thread, answers: Four) -> Thread
 }
 
 /// The whole call of a thread ends well, with these answers. What is in no call stays as it is.
-#[tactic(auto, using(fk_store::proofs::ThreadLaws::kind_thread, crate::proofs::FinishLaws::well_nobody))]
+#[tactic(auto, using(fk_store::proofs::changing::ThreadLaws::kind_thread, crate::proofs::FinishLaws::well_nobody))]
 pub fn end_well(store: &mut Store, who: Who, answers: Four)
     ensures world { world store.new ≡ apply (Alter (place (path store.old) who) (End OK (all_four answers))) (world store.old) }
     ensures kinds { kind_there (world store.new) ≡ kind_there (world store.old) }

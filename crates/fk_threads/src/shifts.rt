@@ -58,7 +58,7 @@ fn shifted(thread: &Thread, count: u64) -> [u64; 16]
 
 /// The first stage of a thread's call has moved so many words. What is in no such stage stays as it
 /// is.
-#[tactic(auto, using(fk_store::proofs::ThreadLaws::kind_thread, crate::proofs::ShiftLaws::shift_nobody, crate::proofs::ShiftLaws::low_there))]
+#[tactic(auto, using(fk_store::proofs::changing::ThreadLaws::kind_thread, crate::proofs::ShiftLaws::shift_nobody, crate::proofs::ShiftLaws::low_there))]
 pub fn advance(store: &mut Store, who: Who, count: u64)
     requires low { IsLow (world store.old) (place (path store.old) who) count }
     ensures world { world store.new ≡ apply (Alter (place (path store.old) who) (Shift count)) (world store.old) }

@@ -84,7 +84,7 @@ fn awake(mut thread: Thread, mutex: u64) -> Thread
 }
 
 /// A thread that sleeps on a condition wakes up, and locks its mutex next.
-#[tactic(auto, using(fk_store::proofs::ThreadLaws::kind_thread, crate::proofs::SleeperLaws::wake_nobody))]
+#[tactic(auto, using(fk_store::proofs::changing::ThreadLaws::kind_thread, crate::proofs::SleeperLaws::wake_nobody))]
 pub fn wake(store: &mut Store, who: Who, mutex: u64)
     requires sleeps { IsAsleep (world store.old) (place (path store.old) who) mutex }
     ensures world { world store.new ≡ apply (Alter (place (path store.old) who) (Replace (MutexLock mutex))) (world store.old) }
@@ -151,7 +151,7 @@ fn asleep(mut thread: Thread) -> Thread
 }
 
 /// A thread that is about to wait on a condition falls asleep, if it is in a call.
-#[tactic(auto, using(fk_store::proofs::ThreadLaws::kind_thread, crate::proofs::Falling::fall_nobody))]
+#[tactic(auto, using(fk_store::proofs::changing::ThreadLaws::kind_thread, crate::proofs::Falling::fall_nobody))]
 pub fn fall_asleep(store: &mut Store, who: Who, cond: u64, mutex: u64)
     requires waits { IsFirst (CondWait cond mutex) (todo_at (world store.old) (place (path store.old) who)) }
     ensures world { world store.new ≡ apply (Alter (place (path store.old) who) (Replace (CondAsleep cond mutex))) (world store.old) }

@@ -18,7 +18,7 @@ use Rattle.fk_model.specs.World.{World, Edit, apply, edited}
 use Rattle.fk_model.specs.World.Change.{Alter, PutPage}
 use Rattle.fk_model.specs.World.Edit.{CountMoved, Shift}
 use Rattle.fk_store.specs.Threads.{todo_of_mode, todo_of_thread, todo_at, is_free_at}
-use Rattle.fk_store.proofs.Walks.{same_path_true}
+use Rattle.fk_store.proofs.finding.Walks.{same_path_true}
 use Rattle.fk_threads.specs.Shifted.{address_of, IsLow}
 use Rattle.fk_transfer.specs.Lines.{sending, AreEnds, IsFirst, IsSender}
 

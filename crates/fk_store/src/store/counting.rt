@@ -117,7 +117,7 @@ impl Store {
     }
 
     /// An object is a space, or lies beneath it.
-    #[tactic(auto, using(crate::proofs::Within::within_above))]
+    #[tactic(auto, using(crate::proofs::finding::Within::within_above))]
     fn lies_in(&self, base: u32, who: Who) -> bool
         requires live { IsLive self.now who }
         requires base { IsSpace self.now base }

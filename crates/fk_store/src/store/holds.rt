@@ -82,7 +82,7 @@ impl Store {
     }
 
     /// A space is held by a thread, or by nobody. What is no space stays as it is.
-    #[tactic(auto, using(crate::proofs::EditLaws::alter_nothing))]
+    #[tactic(auto, using(crate::proofs::changing::EditLaws::alter_nothing))]
     pub fn set_holder(&mut self, space: Who, holder: Option<Who>)
         requires holder { Each (IsLive self.old) holder }
         ensures world { world

@@ -1,5 +1,5 @@
 use Rattle.std.proofs.Common.{◌≡◌, ◌∙◌, ◌++◌, ap, reverse}
-use Rattle.fk_store.proofs.Results.{on_ok}
+use Rattle.fk_store.proofs.finding.Results.{on_ok}
 use Rattle.fk_store.specs.Paths.{path}
 use Rattle.fk_store.specs.World.{world}
 use Rattle.fk_boot.specs.FirstWorld.{space_itself, zero_pages, program_pages, words_of_program}

@@ -1,7 +1,7 @@
 use Rattle.std.proofs.Common.{◌∙◌, ap, reverse}
 use Rattle.fk_store.specs.World.{world}
 use Rattle.fk_store.specs.Paths.{path}
-use Rattle.fk_store.proofs.Results.{on_ok}
+use Rattle.fk_store.proofs.finding.Results.{on_ok}
 use Rattle.fk_boot.proofs.Walks.{makes}
 use Rattle.fk_boot.proofs.making.make_object.Goals as goal
 

@@ -1,5 +1,5 @@
 use Rattle.std.proofs.Common.{◌≡◌, ◌∙◌, ◌∷◌, sym, None, append-nil, get_or}
-use Rattle.fk_store.proofs.Walks.{path-root}
+use Rattle.fk_store.proofs.finding.Walks.{path-root}
 use Rattle.fk_store.specs.Paths.{path}
 use Rattle.fk_store.specs.World.{world}
 use Rattle.fk_model.specs.Valid.{birth_at}

@@ -1,7 +1,7 @@
 use Rattle.std.proofs.Common.{refl, sym, ◌∙◌}
 use Rattle.fk_store.specs.Paths.{path}
 use Rattle.fk_store.specs.World.{world, place_of}
-use Rattle.fk_store.proofs.Lefts.{left_more, nobody_left, fewer_left}
+use Rattle.fk_store.proofs.finding.Lefts.{left_more, nobody_left, fewer_left}
 use Rattle.fk_closed.proofs.Leads.{LeadsIn, led_from, leads_pointed, leads_live, led_by_nothing, not_both}
 use Rattle.fk_closed.proofs.led.is_led_to.Goals as goal
 

@@ -1,7 +1,7 @@
 use Rattle.std.proofs.Common.{◌≡◌, true, length}
 use Rattle.fk_store.specs.Paths.{path}
 use Rattle.fk_store.specs.World.{place_of}
-use Rattle.fk_store.proofs.Lefts.{AreLeft}
+use Rattle.fk_store.proofs.finding.Lefts.{AreLeft}
 use Rattle.fk_closed.proofs.Leads.{LeadsIn}
 use Rattle.fk_closed.proofs.led.is_led_to.Given as goal
 

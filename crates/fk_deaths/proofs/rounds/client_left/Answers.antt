@@ -2,7 +2,7 @@ use Rattle.std.proofs.Common.{◌≢◌, [], refl, sym, ◌∙◌}
 use Rattle.fk_store.specs.Paths.{path, place}
 use Rattle.fk_store.specs.World.{world}
 use Rattle.fk_deaths.specs.Ends.{ends_at}
-use Rattle.fk_store.proofs.Lefts.{left_more, nobody_left, fewer_left}
+use Rattle.fk_store.proofs.finding.Lefts.{left_more, nobody_left, fewer_left}
 use Rattle.fk_deaths.proofs.Lefts.{is_empty, ending_points}
 use Rattle.fk_deaths.proofs.rounds.client_left.Goals as goal
 

@@ -2,7 +2,7 @@ use Rattle.std.proofs.Common.{◌≡◌, ◌≢◌, true, [], length}
 use Rattle.fk_store.specs.Paths.{path, place}
 use Rattle.fk_store.specs.World.{world}
 use Rattle.fk_deaths.specs.Ends.{ends_at}
-use Rattle.fk_store.proofs.Lefts.{AreLeft}
+use Rattle.fk_store.proofs.finding.Lefts.{AreLeft}
 use Rattle.fk_deaths.proofs.rounds.client_left.Given as goal
 
 -- whoever has a call that ends is yet to come

@@ -22,7 +22,8 @@ loop-at-preserved c =
     let o = c.index-items-at.result in (
       omega (arith, behind),
       length-set c.loop-at.numbers.items o.slot c.number_of_rec.result ∙ long,
-      kinds_before c.args.items.now at (at - 1) o c.loop-at.numbers.items c.number_of_rec.result (omega (arith, some)) (omega (arith, some, behind)) c.index-items-at.is
+      kinds_before c.args.items.now at (at - 1) o c.loop-at.numbers.items c.number_of_rec.result
+          (omega (arith, some)) (omega (arith, some, behind)) c.index-items-at.is
           so_far.2 (omega (arith, long)) c.number_of_rec.ensures,
     )
 

@@ -13,4 +13,5 @@ pub returns-clause-candidate : goal.returns-clause-candidate
 returns-clause-candidate c =
     let p = path c.args.store.now in
     let test = c.is_open.ensures p in
-    faulting_open p (world c.args.store.now) (p c.args.space) c.args.set c.in_ok-slot.slot c.args.thread.now c.in_ok-fault.fault (cc) (cc) c.in_ok-slot.ensures.slot
+    faulting_open p (world c.args.store.now) (p c.args.space) c.args.set c.in_ok-slot.slot
+    c.args.thread.now c.in_ok-fault.fault (cc) (cc) c.in_ok-slot.ensures.slot

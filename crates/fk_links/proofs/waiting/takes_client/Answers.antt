@@ -6,5 +6,7 @@ use Rattle.fk_links.proofs.waiting.takes_client.Goals as goal
 
 pub returns-clause-fits : goal.returns-clause-fits
 unfolding apply_all
-returns-clause-fits c m live mine theirs =
-    ((tt, ((theirs.1, live), tt)), (λ given. client_apart (world m) (place (path m) c.args.caller.who) (place (path m) c.args.client) _ c.from.result 0 mine theirs.0))
+returns-clause-fits c m live mine theirs = (
+  (tt, ((theirs.1, live), tt)),
+  (λ given. client_apart (world m) (place (path m) c.args.caller.who) (place (path m) c.args.client) _ c.from.result 0 mine theirs.0),
+)

@@ -1,12 +1,13 @@
 use Rattle.std.proofs.Common.{◌≡◌, sym, ap, ◌∙◌, arith}
 use Rattle.fk_store.specs.Paths.{path, place}
-use Rattle.fk_store.proofs.Walks.{path-root}
+use Rattle.fk_store.proofs.finding.Walks.{path-root}
 use Rattle.fk_objects.proofs.Above.{above_none, above_some, above_on}
 use Rattle.fk_objects.proofs.destroying.is_above.Goals as goal
 
 pub returns-in-None : goal.returns-in-None
 returns-in-None c =
-    above_none c.args.object.slot (path c.args.store.now c.args.object.space) _ (path c.args.store.now c.args.space) c.in-None.ensures.none c.loop-step.invariant.same
+    above_none c.args.object.slot (path c.args.store.now c.args.object.space) _ (path c.args.store.now c.args.space)
+    c.in-None.ensures.none c.loop-step.invariant.same
 
 pub returns-then-eq : goal.returns-then-eq
 returns-then-eq c =

@@ -1,5 +1,5 @@
 use Rattle.std.proofs.Common.{arith, sym, ◌∙◌}
-use Rattle.fk_store.proofs.ReachLaws.{lowest-zero, lowest-none}
+use Rattle.fk_store.proofs.finding.ReachLaws.{lowest-zero, lowest-none}
 use Rattle.fk_objects.proofs.Slots.{none_there, first_there, none_first}
 use Rattle.fk_objects.proofs.searching.first_taken.Goals as goal
 

@@ -2,7 +2,7 @@ use Rattle.std.proofs.Common.{arith, IsSome}
 use Rattle.fk_model.specs.SyncRows.{asleep_on}
 use Rattle.fk_store.specs.Paths.{path}
 use Rattle.fk_store.specs.World.{world}
-use Rattle.fk_store.proofs.Walks.{same_path_true}
+use Rattle.fk_store.proofs.finding.Walks.{same_path_true}
 use Rattle.fk_picks.specs.Stands.{IsPicked}
 use Rattle.fk_picks.proofs.Slots.{asleep_slot, each_slot}
 use Rattle.fk_picks.proofs.sleepers.wakes_one.Goals as goal

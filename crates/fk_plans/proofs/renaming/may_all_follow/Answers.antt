@@ -2,7 +2,7 @@ use Rattle.std.proofs.Common.{refl, sym, ◌∙◌}
 use Rattle.fk_model.specs.Freezing.{may_follow}
 use Rattle.fk_store.specs.Paths.{path, place}
 use Rattle.fk_store.specs.World.{world}
-use Rattle.fk_store.proofs.Lefts.{left_more, nobody_left, fewer_left}
+use Rattle.fk_store.proofs.finding.Lefts.{left_more, nobody_left, fewer_left}
 use Rattle.fk_deaths.proofs.Sweeps.{IsBarred, none_barred, not_all, not_barred}
 use Rattle.fk_deaths.proofs.Unheld.{unheld-follows}
 use Rattle.fk_plans.proofs.Following.{barred_follows}

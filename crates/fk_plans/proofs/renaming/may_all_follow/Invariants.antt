@@ -2,7 +2,7 @@ use Rattle.std.proofs.Common.{◌≡◌, true, length}
 use Rattle.fk_model.specs.Freezing.{may_follow}
 use Rattle.fk_store.specs.Paths.{path, place}
 use Rattle.fk_store.specs.World.{world}
-use Rattle.fk_store.proofs.Lefts.{AreLeft}
+use Rattle.fk_store.proofs.finding.Lefts.{AreLeft}
 use Rattle.fk_deaths.proofs.Sweeps.{IsBarred}
 use Rattle.fk_plans.proofs.renaming.may_all_follow.Given as goal
 

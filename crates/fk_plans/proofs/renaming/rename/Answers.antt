@@ -13,7 +13,15 @@ unfolding apply_all
 returns c = record {
   step = λ words. elim c.if-is_itself.branch [
     | then-is_itself w ↦
-        rw (c.if-caller.false, ← c.is_named-is_itself.ensures, w.if-is_itself.true, c.finish.ensures.world, w.me-is, c.move_to.ensures.target, c.move_to.ensures.world)
+        rw (
+          c.if-caller.false,
+          ← c.is_named-is_itself.ensures,
+          w.if-is_itself.true,
+          c.finish.ensures.world,
+          w.me-is,
+          c.move_to.ensures.target,
+          c.move_to.ensures.world,
+        )
         refl
     | else-is_itself w ↦
         rw (

@@ -6,4 +6,5 @@ use Rattle.fk_pointers.proofs.links.objects_walk.Given as goal
 
 abbrev pub invariant-loop-object : goal.invariant-loop-object
 invariant-loop-object l = IsIndex l.spaces l.index ×
-    (objects_walk l.spaces l.objects (drop l.object-index l.objects) (standing l.at l.named) ≡ objects_walk l.spaces l.objects l.objects (standing l.from l.fn.named))
+    (objects_walk l.spaces l.objects (drop l.object-index l.objects) (standing l.at l.named)
+    ≡ objects_walk l.spaces l.objects l.objects (standing l.from l.fn.named))

@@ -1,5 +1,5 @@
 use Rattle.std.proofs.Common.{arith, sym, ◌∙◌}
-use Rattle.fk_store.proofs.ReachLaws.{lowest-zero, lowest-none}
+use Rattle.fk_store.proofs.finding.ReachLaws.{lowest-zero, lowest-none}
 use Rattle.fk_spaces.proofs.NextPages.{none_there, next-first, next-none}
 use Rattle.fk_spaces.proofs.finding.next_page.Goals as goal
 

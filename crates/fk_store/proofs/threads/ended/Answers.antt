@@ -1,5 +1,5 @@
 use Rattle.std.proofs.Common.{◌≡◌, length, arith}
-use Rattle.fk_store.proofs.ThreadLaws.{ended-calling, ended-other}
+use Rattle.fk_store.proofs.changing.ThreadLaws.{ended-calling, ended-other}
 use Rattle.fk_store.proofs.threads.ended.Goals as goal
 
 pub returns-in-Calling-clause-edit : goal.returns-in-Calling-clause-edit

@@ -15,7 +15,8 @@ loop-who-preserved c =
     let ringed = c.loop-who.invariant.ringed in
     let found = c.in-Some.ensures.some _ ringed.rings in
     record {
-      swept = λ s k. step-swept c.args.sweep c.requires.other _ _ _ c.loop-who.rings c.in-Some.who ringed found c.sweep_at.ensures.swept s k ∙ c.loop-who.invariant.swept s k;
+      swept = λ s k. step-swept c.args.sweep c.requires.other _ _ _ c.loop-who.rings c.in-Some.who ringed found c.sweep_at.ensures.swept s k
+          ∙ c.loop-who.invariant.swept s k;
       long = c.sweep_at.ensures.long ∙ c.loop-who.invariant.long;
       ringed = step-ringed c.args.sweep c.requires.other _ _ _ _ c.in-Some.who ringed found c.sweep_at.ensures.swept c.ring_at.ensures;
     }
@@ -38,5 +39,6 @@ returns-else-are_lost-clause-swept c = λ s k.
 pub returns-else-are_lost-clause-ringed : goal.returns-else-are_lost-clause-ringed
 returns-else-are_lost-clause-ringed c =
     let ringed = c.loop-who.invariant.ringed in
-    let none : (n : ℕ) → is_head n ≡ false → owner c.loop-who.rows.items n ≢ Some c.args.sweep.from = λ n field. c.in_default.ensures.none refl (sym c.are_lost.ensures ∙ c.if-are_lost.false) (owner c.loop-who.rows.items) ringed.rings n field in
+    let none : (n : ℕ) → is_head n ≡ false → owner c.loop-who.rows.items n ≢ Some c.args.sweep.from =
+    λ n field. c.in_default.ensures.none refl (sym c.are_lost.ensures ∙ c.if-are_lost.false) (owner c.loop-who.rows.items) ringed.rings n field in
     left-ringed c.args.sweep _ c.loop-who.rings ringed none _ (left-swept c.args.sweep _ c.loop-who.rings ringed none _ c.sweep_home.ensures.swept)

@@ -11,4 +11,5 @@ returns c p =
     let t = c.args.thread.now in
     let long : length t.regs ≡ 16 = omega arith in
     rw c.answer.ensures (finish_on p t c.args.answers c.args.code long c.requires.calling c.requires.after c.requires.apart
-    ∙ ap (λ m. Thread_of (thread_by p (record t { regs = slice_set (with_answers (listed c.args.answers) t.regs) 0 c.args.code; mode = m }))) c.requires.calling)
+    ∙ ap (λ m. Thread_of (thread_by p (record t { regs = slice_set (with_answers (listed c.args.answers) t.regs) 0 c.args.code; mode = m })))
+    c.requires.calling)

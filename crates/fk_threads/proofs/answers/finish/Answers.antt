@@ -4,7 +4,7 @@ use Rattle.fk_store.specs.Paths.{path, place}
 use Rattle.fk_store.specs.World.{world}
 use Rattle.fk_threads.specs.Answers.{listed}
 use Rattle.fk_threads.proofs.FinishLaws.{apart_there, finish_not}
-use Rattle.fk_store.proofs.GoneOn.{went_on, stayed}
+use Rattle.fk_store.proofs.changing.GoneOn.{went_on, stayed}
 use Rattle.fk_threads.proofs.answers.finish.Goals as goal
 
 pub returns-in_default-mode-clause-world : goal.returns-in_default-mode-clause-world

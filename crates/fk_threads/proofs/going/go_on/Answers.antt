@@ -1,6 +1,6 @@
 use Rattle.fk_store.specs.Paths.{path, place}
 use Rattle.fk_store.specs.World.{world}
-use Rattle.fk_store.proofs.GoneOn.{gone_on}
+use Rattle.fk_store.proofs.changing.GoneOn.{gone_on}
 use Rattle.fk_threads.proofs.going.go_on.Goals as goal
 
 pub returns-clause-edits : goal.returns-clause-edits

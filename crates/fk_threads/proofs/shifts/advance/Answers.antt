@@ -2,7 +2,7 @@ use Rattle.fk_model.specs.World.Edit.{Shift}
 use Rattle.fk_model.specs.declared.thread.Mode.TheVariants as modes
 use Rattle.fk_store.specs.Paths.{path, place}
 use Rattle.fk_store.specs.World.{world}
-use Rattle.fk_store.proofs.GoneOn.{went_on, stayed}
+use Rattle.fk_store.proofs.changing.GoneOn.{went_on, stayed}
 use Rattle.fk_threads.proofs.ShiftLaws.{low_there, shift_other}
 use Rattle.fk_threads.proofs.shifts.advance.Goals as goal
 

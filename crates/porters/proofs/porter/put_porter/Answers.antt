@@ -2,7 +2,7 @@ use Rattle.std.proofs.Common.{rules, OnOk, ◌≡◌, ℕ, ◌<◌, None, refl}
 use Rattle.fk_model.specs.Valid.{IsValid}
 use Rattle.fk_store.specs.Paths.{path}
 use Rattle.fk_store.specs.World.{world, place_of, IsSpace}
-use Rattle.fk_store.proofs.Results.{on_ok}
+use Rattle.fk_store.proofs.finding.Results.{on_ok}
 use Rattle.porters.proofs.Made.{valid-made}
 use Rattle.porters.proofs.porter.put_porter.Goals as goal
 

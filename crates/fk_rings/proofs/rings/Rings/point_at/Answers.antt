@@ -12,7 +12,8 @@ pub returns-else-not-enlink-clause-rings : goal.returns-else-not-enlink-clause-r
 returns-else-not-enlink-clause-rings c = λ owner are.
     rings_led _ _ c.args.who c.args.field c.requires.few c.requires.pointer c.node_of-node.ensures.low c.node_of-node.ensures.short _ _ c.args.to
     c.head_of-head.ensures.short
-    (rw c.node_of-node.ensures.node at c.unlink.ensures.next c.if-not-unlink.false) (rw c.node_of-node.ensures.node at c.unlink.ensures.prev c.if-not-unlink.false)
+    (rw c.node_of-node.ensures.node at c.unlink.ensures.next c.if-not-unlink.false)
+    (rw c.node_of-node.ensures.node at c.unlink.ensures.prev c.if-not-unlink.false)
     (rw (c.node_of-node.ensures.node, c.head_of-head.ensures.head) at c.enlink.ensures.next c.if-not-enlink.false)
     (rw (c.node_of-node.ensures.node, c.head_of-head.ensures.head) at c.enlink.ensures.prev c.if-not-enlink.false)
     owner (rw (← c.self.view_is) at are)

@@ -16,5 +16,6 @@ returns-then-not-unlink-clause-rings c = λ owner are. rings_lost _ _ _ refl
 pub returns-else-not-unlink-clause-rings : goal.returns-else-not-unlink-clause-rings
 returns-else-not-unlink-clause-rings c = λ owner are.
     rings_left _ _ c.args.who c.args.field c.requires.few c.requires.pointer c.node_of-node.ensures.low c.node_of-node.ensures.short _
-    (rw c.node_of-node.ensures.node at c.unlink.ensures.next c.if-not-unlink.false) (rw c.node_of-node.ensures.node at c.unlink.ensures.prev c.if-not-unlink.false)
+    (rw c.node_of-node.ensures.node at c.unlink.ensures.next c.if-not-unlink.false)
+    (rw c.node_of-node.ensures.node at c.unlink.ensures.prev c.if-not-unlink.false)
     owner (rw (← c.self.view_is) at are)

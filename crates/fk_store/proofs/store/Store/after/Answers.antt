@@ -1,7 +1,7 @@
 use Rattle.fk_store.specs.Names.{who_cmp}
-use Rattle.fk_store.proofs.LookUps.{there-IsLive, IsLive-there}
-use Rattle.fk_store.proofs.Enumerated.{first_after-map, named-object}
-use Rattle.fk_store.proofs.Scans.{rank-rises, rank-ends}
+use Rattle.fk_store.proofs.finding.LookUps.{there-IsLive, IsLive-there}
+use Rattle.fk_store.proofs.finding.Enumerated.{first_after-map, named-object}
+use Rattle.fk_store.proofs.finding.Scans.{rank-rises, rank-ends}
 use Rattle.fk_store.proofs.store.Store.after.Goals as goal
 
 pub returns : goal.returns

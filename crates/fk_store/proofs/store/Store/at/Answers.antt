@@ -1,4 +1,4 @@
-use Rattle.fk_store.proofs.Founded.{found-body, found-kind, found-space, found-home, found-named, found-apart, found-sized}
+use Rattle.fk_store.proofs.finding.Founded.{found-body, found-kind, found-space, found-home, found-named, found-apart, found-sized}
 use Rattle.fk_store.proofs.store.Store.at.Goals as goal
 
 pub returns : goal.returns

@@ -1,5 +1,5 @@
 use Rattle.fk_model.specs.Searches.{client_at}
-use Rattle.fk_store.proofs.Players.{one_guest}
+use Rattle.fk_store.proofs.finding.Players.{one_guest}
 use Rattle.fk_store.proofs.store.Store.client_at.Goals as goal
 
 pub returns : goal.returns

@@ -1,5 +1,5 @@
 use Rattle.fk_model.specs.Searches.{client_of}
-use Rattle.fk_store.proofs.Players.{one_client}
+use Rattle.fk_store.proofs.finding.Players.{one_client}
 use Rattle.fk_store.proofs.store.Store.client_of.Goals as goal
 
 pub returns : goal.returns

@@ -3,7 +3,7 @@ use Rattle.std.proofs.lemmas.Bool.Decides.{nat_tests}
 use Rattle.fk_model.specs.ObjectRows.{counts_from}
 use Rattle.fk_store.specs.Paths.{path}
 use Rattle.fk_store.specs.World.{place_of}
-use Rattle.fk_store.proofs.Outside.{no_weight}
+use Rattle.fk_store.proofs.finding.Outside.{no_weight}
 use Rattle.fk_store.proofs.store.Store.counts.Goals as goal
 
 pub returns-in-Some : goal.returns-in-Some

@@ -1,5 +1,5 @@
 use Rattle.std.proofs.Common.{sym}
-use Rattle.fk_store.proofs.HoldLaws.{decider-free}
+use Rattle.fk_store.proofs.finding.HoldLaws.{decider-free}
 use Rattle.fk_store.proofs.store.Store.decider.Goals as goal
 
 -- nothing is held

@@ -1,8 +1,8 @@
 use Rattle.std.proofs.Common.{◌≡◌, sym, ap, ◌∙◌, arith}
 use Rattle.fk_model.specs.Objects.{or_else}
 use Rattle.fk_store.specs.World.{IsLive}
-use Rattle.fk_store.proofs.Walks.{younger}
-use Rattle.fk_store.proofs.HoldLaws.{home-root, decider-object, each-or, decided, decided-above, live-apart}
+use Rattle.fk_store.proofs.finding.Walks.{younger}
+use Rattle.fk_store.proofs.finding.HoldLaws.{home-root, decider-object, each-or, decided, decided-above, live-apart}
 use Rattle.fk_store.proofs.store.Store.decider_above.Goals as goal
 
 pub loop-above-init : goal.loop-above-init

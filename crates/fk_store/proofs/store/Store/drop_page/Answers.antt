@@ -1,4 +1,4 @@
-use Rattle.fk_store.proofs.PageLaws.{drop_page-kept, drop_page-world, kinds-pages, paths-pages}
+use Rattle.fk_store.proofs.changing.PageLaws.{drop_page-kept, drop_page-world, kinds-pages, paths-pages}
 use Rattle.fk_store.proofs.store.Store.drop_page.Goals as goal
 
 pub invariant_of-self : goal.invariant_of-self

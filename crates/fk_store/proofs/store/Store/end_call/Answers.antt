@@ -2,7 +2,7 @@ use Rattle.std.proofs.Common.{[]}
 use Rattle.fk_model.specs.World.Edit.{End}
 use Rattle.fk_store.specs.Paths.{path, place}
 use Rattle.fk_store.specs.World.{world}
-use Rattle.fk_store.proofs.GoneOn.{gone_on}
+use Rattle.fk_store.proofs.changing.GoneOn.{gone_on}
 use Rattle.fk_store.proofs.store.Store.end_call.Goals as goal
 
 pub returns-in-Some-clause-world : goal.returns-in-Some-clause-world

@@ -1,5 +1,5 @@
 use Rattle.fk_model.specs.Searches.{faulter_of}
-use Rattle.fk_store.proofs.Players.{one_faulter}
+use Rattle.fk_store.proofs.finding.Players.{one_faulter}
 use Rattle.fk_store.proofs.store.Store.faulter_of.Goals as goal
 
 pub returns : goal.returns

@@ -1,6 +1,6 @@
 use Rattle.std.proofs.Common.{◌≤◌, arith}
 use Rattle.fk_model.specs.Searches.{depth}
-use Rattle.fk_store.proofs.Players.{found-same, found-some, found-plays, found-lives, nobody-plays}
+use Rattle.fk_store.proofs.finding.Players.{found-same, found-some, found-plays, found-lives, nobody-plays}
 use Rattle.fk_store.proofs.store.Store.first.Goals as goal
 
 pub returns : goal.returns

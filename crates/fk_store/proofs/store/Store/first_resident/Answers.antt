@@ -1,8 +1,8 @@
 use Rattle.std.proofs.Common.{arith, sym, ◌∙◌}
 use Rattle.fk_store.specs.Paths.{path}
 use Rattle.fk_store.specs.World.{world}
-use Rattle.fk_store.proofs.ReachLaws.{lowest-zero, lowest-none, none_mapped}
-use Rattle.fk_store.proofs.Residents.{taken, found-there, resident-found, resident-none}
+use Rattle.fk_store.proofs.finding.ReachLaws.{lowest-zero, lowest-none, none_mapped}
+use Rattle.fk_store.proofs.changing.Residents.{taken, found-there, resident-found, resident-none}
 use Rattle.fk_store.proofs.store.Store.first_resident.Goals as goal
 
 pub loop-slot-init : goal.loop-slot-init

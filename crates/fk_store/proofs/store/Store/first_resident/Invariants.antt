@@ -2,7 +2,7 @@ use Rattle.std.proofs.Common.{◌≡◌, None}
 use Rattle.fk_model.specs.Searches.{lowest}
 use Rattle.fk_store.specs.Paths.{path}
 use Rattle.fk_store.specs.World.{world}
-use Rattle.fk_store.proofs.Residents.{taken}
+use Rattle.fk_store.proofs.changing.Residents.{taken}
 use Rattle.fk_store.proofs.store.Store.first_resident.Given as goal
 
 -- none so far

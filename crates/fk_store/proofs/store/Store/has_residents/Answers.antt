@@ -1,5 +1,5 @@
 use Rattle.std.proofs.Common.{sym, ap, is_some, ◌∙◌}
-use Rattle.fk_store.proofs.Residents.{plain-empty, space-residents}
+use Rattle.fk_store.proofs.changing.Residents.{plain-empty, space-residents}
 use Rattle.fk_store.proofs.store.Store.has_residents.Goals as goal
 
 pub returns-in-None : goal.returns-in-None

@@ -1,5 +1,5 @@
 use Rattle.std.proofs.Common.{◌∙◌}
-use Rattle.fk_store.proofs.Outside.{hits-there}
+use Rattle.fk_store.proofs.finding.Outside.{hits-there}
 use Rattle.fk_store.proofs.store.Store.hits.Goals as goal
 
 pub returns-clause-hits : goal.returns-clause-hits

@@ -1,4 +1,4 @@
-use Rattle.fk_store.proofs.Enumerated.{home-some, home-place, home-older}
+use Rattle.fk_store.proofs.finding.Enumerated.{home-some, home-place, home-older}
 use Rattle.fk_store.proofs.store.Store.home.Goals as goal
 
 pub returns : goal.returns

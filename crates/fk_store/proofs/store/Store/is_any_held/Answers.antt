@@ -1,4 +1,4 @@
-use Rattle.fk_store.proofs.HoldLaws.{decider-free}
+use Rattle.fk_store.proofs.finding.HoldLaws.{decider-free}
 use Rattle.fk_store.proofs.store.Store.is_any_held.Goals as goal
 
 pub returns : goal.returns

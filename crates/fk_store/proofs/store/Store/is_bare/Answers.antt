@@ -1,5 +1,5 @@
 use Rattle.std.proofs.Common.{◌≡◌, ◌/◌, arith}
-use Rattle.fk_store.proofs.Bare.{bare-slot, not_so}
+use Rattle.fk_store.proofs.changing.Bare.{bare-slot, not_so}
 use Rattle.fk_store.proofs.store.Store.is_bare.Goals as goal
 
 pub returns-then-slot-eq0-clause-bare : goal.returns-then-slot-eq0-clause-bare

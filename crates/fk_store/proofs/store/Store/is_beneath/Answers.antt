@@ -1,6 +1,6 @@
 use Rattle.std.proofs.Common.{ne_eqb, sym, ◌∙◌, arith}
-use Rattle.fk_store.proofs.Within.{begins, goes_up, leaves, arrives}
-use Rattle.fk_store.proofs.Walks.{younger}
+use Rattle.fk_store.proofs.finding.Within.{begins, goes_up, leaves, arrives}
+use Rattle.fk_store.proofs.finding.Walks.{younger}
 use Rattle.fk_store.proofs.store.Store.is_beneath.Goals as goal
 
 pub loop-at-init : goal.loop-at-init

@@ -1,4 +1,4 @@
-use Rattle.fk_store.proofs.Within.{IsUp}
+use Rattle.fk_store.proofs.finding.Within.{IsUp}
 use Rattle.fk_store.proofs.store.Store.is_beneath.Given as goal
 
 abbrev pub invariant-loop-at : goal.invariant-loop-at

@@ -1,5 +1,5 @@
 use Rattle.std.proofs.Common.{sym, ◌∙◌}
-use Rattle.fk_store.proofs.HoldLaws.{is_frozen-none, is_frozen-some}
+use Rattle.fk_store.proofs.finding.HoldLaws.{is_frozen-none, is_frozen-some}
 use Rattle.fk_store.proofs.store.Store.is_frozen.Goals as goal
 
 pub returns-in-None : goal.returns-in-None

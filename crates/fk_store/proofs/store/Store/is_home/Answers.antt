@@ -1,5 +1,5 @@
 use Rattle.std.proofs.Common.{sym, ◌∙◌}
-use Rattle.fk_store.proofs.Within.{home_none, home_some}
+use Rattle.fk_store.proofs.finding.Within.{home_none, home_some}
 use Rattle.fk_store.proofs.store.Store.is_home.Goals as goal
 
 pub returns-in-None : goal.returns-in-None

@@ -1,4 +1,4 @@
-use Rattle.fk_store.proofs.Enumerated.{tells-root, tells-other}
+use Rattle.fk_store.proofs.finding.Enumerated.{tells-root, tells-other}
 use Rattle.fk_store.proofs.store.Store.is_live.Goals as goal
 
 pub returns-then-space-eq0 : goal.returns-then-space-eq0

@@ -1,5 +1,5 @@
 use Rattle.std.proofs.Common.{sym}
-use Rattle.fk_store.proofs.Within.{same_spaces}
+use Rattle.fk_store.proofs.finding.Within.{same_spaces}
 use Rattle.fk_store.proofs.store.Store.is_same.Goals as goal
 
 pub returns : goal.returns

@@ -1,6 +1,6 @@
-use Rattle.fk_store.proofs.LookUps.{IsLive-there}
-use Rattle.fk_store.proofs.Residents.{no_residents}
-use Rattle.fk_store.proofs.Kills.{bodies-taken, pages-taken, kept-killed, world-killed, none-killed, kinds-killed, lives-killed, places-killed, path-killed}
+use Rattle.fk_store.proofs.finding.LookUps.{IsLive-there}
+use Rattle.fk_store.proofs.changing.Residents.{no_residents}
+use Rattle.fk_store.proofs.changing.Kills.{bodies-taken, pages-taken, kept-killed, world-killed, none-killed, kinds-killed, lives-killed, places-killed, path-killed}
 use Rattle.fk_store.proofs.store.Store.kill.Goals as goal
 
 pub invariant_of-self : goal.invariant_of-self

@@ -1,4 +1,4 @@
-use Rattle.fk_store.proofs.Outside.{leaders-there}
+use Rattle.fk_store.proofs.finding.Outside.{leaders-there}
 use Rattle.fk_store.proofs.store.Store.leaders.Goals as goal
 
 pub returns : goal.returns

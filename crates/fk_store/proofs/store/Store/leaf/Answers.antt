@@ -3,7 +3,7 @@ use Rattle.fk_model.specs.declared.names.Who.{Who}
 use Rattle.fk_model.specs.Searches.{depth, first_resident, leaf_by}
 use Rattle.fk_store.specs.Contents.{Contents}
 use Rattle.fk_store.specs.World.{world, place_of}
-use Rattle.fk_store.proofs.Residents.{leaf-begins, leaf-goes_on, leaf-ends, some-resident}
+use Rattle.fk_store.proofs.changing.Residents.{leaf-begins, leaf-goes_on, leaf-ends, some-resident}
 use Rattle.fk_store.proofs.store.Store.leaf.Goals as goal
 
 next_is : (m n : Contents) → m ≡ n → (world n).next ≡ m.next

@@ -1,4 +1,4 @@
-use Rattle.fk_store.proofs.Within.{space_of}
+use Rattle.fk_store.proofs.finding.Within.{space_of}
 use Rattle.fk_store.proofs.store.Store.lies_in.Goals as goal
 
 pub is_beneath-requires-clause-space : goal.is_beneath-requires-clause-space

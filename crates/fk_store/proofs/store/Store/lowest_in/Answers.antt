@@ -1,6 +1,6 @@
 use Rattle.std.proofs.Common.{sym, ◌∙◌, Some, None}
 use Rattle.fk_store.specs.World.{world}
-use Rattle.fk_store.proofs.Residents.{plain-none, inner-slot, inner-place, inner-younger, inner-live}
+use Rattle.fk_store.proofs.changing.Residents.{plain-none, inner-slot, inner-place, inner-younger, inner-live}
 use Rattle.fk_store.proofs.store.Store.lowest_in.Goals as goal
 
 pub returns-in-None-clause-slot : goal.returns-in-None-clause-slot

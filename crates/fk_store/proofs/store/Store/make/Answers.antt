@@ -1,6 +1,6 @@
 use Rattle.std.proofs.Common.{◌<◌, arith}
 use Rattle.fk_store.specs.World.{world}
-use Rattle.fk_store.proofs.Making.{is_empty, is_fresh, make-kept, make-world, make-home, make-paths, make-places, make-kinds}
+use Rattle.fk_store.proofs.changing.Making.{is_empty, is_fresh, make-kept, make-world, make-home, make-paths, make-places, make-kinds}
 use Rattle.fk_store.proofs.store.Store.make.Goals as goal
 
 pub put-requires-clause-empty : goal.put-requires-clause-empty

@@ -1,8 +1,8 @@
 use Rattle.std.proofs.Common.{◌≢◌, refl, sym, ◌∙◌}
 use Rattle.fk_store.specs.Paths.{path, place}
 use Rattle.fk_store.specs.World.{world}
-use Rattle.fk_store.proofs.Lefts.{left_more, nobody_left, fewer_left}
-use Rattle.fk_store.proofs.Outside.{weight, weight-some, none-count, not_false}
+use Rattle.fk_store.proofs.finding.Lefts.{left_more, nobody_left, fewer_left}
+use Rattle.fk_store.proofs.finding.Outside.{weight, weight-some, none-count, not_false}
 use Rattle.fk_store.proofs.store.Store.may_count.Goals as goal
 
 pub loop-from-init : goal.loop-from-init

@@ -1,8 +1,8 @@
 use Rattle.std.proofs.Common.{◌≡◌, ◌≢◌, true, length}
 use Rattle.fk_store.specs.Paths.{path, place}
 use Rattle.fk_store.specs.World.{world}
-use Rattle.fk_store.proofs.Lefts.{AreLeft}
-use Rattle.fk_store.proofs.Outside.{weight}
+use Rattle.fk_store.proofs.finding.Lefts.{AreLeft}
+use Rattle.fk_store.proofs.finding.Outside.{weight}
 use Rattle.fk_store.proofs.store.Store.may_count.Given as goal
 
 -- whoever counts is yet to come

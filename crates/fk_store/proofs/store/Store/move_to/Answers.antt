@@ -1,8 +1,8 @@
 use Rattle.std.proofs.Common.{◌<◌, arith, ap, is_some, option_map, ◌∙◌}
 use Rattle.fk_store.specs.Names.{at}
-use Rattle.fk_store.proofs.LookUps.{some_mapped, IsLive-there}
-use Rattle.fk_store.proofs.Residents.{no_residents, none_there}
-use Rattle.fk_store.proofs.Renames.{bodies-renamed, kept-renamed, world-renamed, none-renamed, kind-renamed, place-target, path-follows, kinds-renamed, lives-renamed, places-renamed, path-stays}
+use Rattle.fk_store.proofs.finding.LookUps.{some_mapped, IsLive-there}
+use Rattle.fk_store.proofs.changing.Residents.{no_residents, none_there}
+use Rattle.fk_store.proofs.changing.Renames.{bodies-renamed, kept-renamed, world-renamed, none-renamed, kind-renamed, place-target, path-follows, kinds-renamed, lives-renamed, places-renamed, path-stays}
 use Rattle.fk_store.proofs.store.Store.move_to.Goals as goal
 
 -- the object is there still

@@ -1,6 +1,6 @@
 use Rattle.std.proofs.Common.{arith}
 use Rattle.fk_store.specs.World.{world}
-use Rattle.fk_store.proofs.Born.{paths-born}
+use Rattle.fk_store.proofs.changing.Born.{paths-born}
 use Rattle.fk_store.proofs.store.Store.names.Goals as goal
 
 pub returns-clause-born : goal.returns-clause-born

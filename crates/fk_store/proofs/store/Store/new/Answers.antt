@@ -1,4 +1,4 @@
-use Rattle.fk_store.proofs.Firsts.{kept-first, world-first}
+use Rattle.fk_store.proofs.finding.Firsts.{kept-first, world-first}
 use Rattle.fk_store.proofs.store.Store.new.Goals as goal
 
 pub invariant_of-result : goal.invariant_of-result

@@ -1,4 +1,4 @@
-use Rattle.fk_store.proofs.Nudging.{small_change}
+use Rattle.fk_store.proofs.changing.Nudging.{small_change}
 use Rattle.fk_store.proofs.store.Store.nudge.Goals as goal
 
 pub invariant_of-self : goal.invariant_of-self

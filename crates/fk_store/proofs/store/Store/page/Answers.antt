@@ -1,5 +1,5 @@
 use Rattle.std.proofs.Common.{sym, ◌∙◌}
-use Rattle.fk_store.proofs.LookUps.{page-path}
+use Rattle.fk_store.proofs.finding.LookUps.{page-path}
 use Rattle.fk_store.proofs.store.Store.page.Goals as goal
 
 pub returns : goal.returns

@@ -1,6 +1,6 @@
 use Rattle.std.proofs.Common.{◌≤◌, arith, ◌∙◌}
 use Rattle.fk_model.specs.Searches.{depth}
-use Rattle.fk_store.proofs.PointerLaws.{sum-hits}
+use Rattle.fk_store.proofs.finding.PointerLaws.{sum-hits}
 use Rattle.fk_store.proofs.store.Store.pointers_at.Goals as goal
 
 pub returns : goal.returns

@@ -3,8 +3,8 @@ use Rattle.fk_model.specs.ObjectRows.{pointer_count}
 use Rattle.fk_model.specs.Searches.{depth}
 use Rattle.fk_store.specs.Paths.{path, place}
 use Rattle.fk_store.specs.World.{world}
-use Rattle.fk_store.proofs.Counting.{begins, counts, ends}
-use Rattle.fk_store.proofs.Outside.{count-is}
+use Rattle.fk_store.proofs.finding.Counting.{begins, counts, ends}
+use Rattle.fk_store.proofs.finding.Outside.{count-is}
 use Rattle.fk_store.proofs.store.Store.pointers_outside.Goals as goal
 
 pub loop-at-init : goal.loop-at-init

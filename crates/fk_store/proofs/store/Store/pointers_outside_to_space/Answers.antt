@@ -2,7 +2,7 @@ use Rattle.std.proofs.Common.{◌≡◌, sym, subst, ◌∙◌}
 use Rattle.fk_model.specs.ObjectRows.{pointer_count}
 use Rattle.fk_store.specs.Paths.{path, place}
 use Rattle.fk_store.specs.World.{world}
-use Rattle.fk_store.proofs.Outside.{count-to_root, count-to_space}
+use Rattle.fk_store.proofs.finding.Outside.{count-to_root, count-to_space}
 use Rattle.fk_store.proofs.store.Store.pointers_outside_to_space.Goals as goal
 
 pub returns-in-None : goal.returns-in-None

@@ -1,8 +1,9 @@
-use Rattle.fk_store.proofs.Proceeding.{goes_on}
+use Rattle.fk_store.proofs.changing.Proceeding.{goes_on}
 use Rattle.fk_store.proofs.store.Store.proceed.Goals as goal
 
 pub invariant_of-self : goal.invariant_of-self
-invariant_of-self c = (goes_on c.args.registers.now c.args.counter c.args.mode _ c.self.invariant c.args.me _ c.proceed.ensures.there c.proceed.ensures.none).kept
+invariant_of-self c = (goes_on c.args.registers.now c.args.counter c.args.mode _ c.self.invariant
+    c.args.me _ c.proceed.ensures.there c.proceed.ensures.none).kept
 
 pub returns : goal.returns
 returns c =

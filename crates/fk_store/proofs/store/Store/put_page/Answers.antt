@@ -1,7 +1,7 @@
 use Rattle.std.proofs.Common.{refl, sym, ◌∙◌, is_some, ap}
-use Rattle.fk_store.proofs.Results.{on_ok, on_err, on_both}
-use Rattle.fk_store.proofs.LookUps.{page-path}
-use Rattle.fk_store.proofs.PageLaws.{put_page-kept, put_page-world, kinds-pages, paths-pages}
+use Rattle.fk_store.proofs.finding.Results.{on_ok, on_err, on_both}
+use Rattle.fk_store.proofs.finding.LookUps.{page-path}
+use Rattle.fk_store.proofs.changing.PageLaws.{put_page-kept, put_page-world, kinds-pages, paths-pages}
 use Rattle.fk_store.proofs.store.Store.put_page.Goals as goal
 
 pub invariant_of-self : goal.invariant_of-self

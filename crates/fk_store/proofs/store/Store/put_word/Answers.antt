@@ -1,6 +1,6 @@
 use Rattle.std.proofs.Common.{sym, ap, ◌∙◌, is_some}
-use Rattle.fk_store.proofs.LookUps.{page-path}
-use Rattle.fk_store.proofs.PageLaws.{put_page-kept, put_page-world, kinds-pages, paths-pages}
+use Rattle.fk_store.proofs.finding.LookUps.{page-path}
+use Rattle.fk_store.proofs.changing.PageLaws.{put_page-kept, put_page-world, kinds-pages, paths-pages}
 use Rattle.fk_store.proofs.store.Store.put_word.Goals as goal
 
 pub put_word-requires-clause-there : goal.put_word-requires-clause-there

@@ -1,5 +1,5 @@
 use Rattle.std.proofs.Common.{sym, ◌∙◌, arith}
-use Rattle.fk_store.proofs.ReachLaws.{reach-on}
+use Rattle.fk_store.proofs.finding.ReachLaws.{reach-on}
 use Rattle.fk_store.proofs.store.Store.reach.Goals as goal
 
 pub returns-in-Home : goal.returns-in-Home

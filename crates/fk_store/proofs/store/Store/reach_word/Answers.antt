@@ -1,5 +1,5 @@
 use Rattle.std.proofs.Common.{arith}
-use Rattle.fk_store.proofs.WordLaws.{reached, page_found, reach_word_there}
+use Rattle.fk_store.proofs.changing.WordLaws.{reached, page_found, reach_word_there}
 use Rattle.fk_store.proofs.store.Store.reach_word.Goals as goal
 
 pub returns-then-is_some-clause-reach : goal.returns-then-is_some-clause-reach

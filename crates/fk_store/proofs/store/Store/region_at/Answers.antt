@@ -1,6 +1,6 @@
 use Rattle.std.proofs.Common.{arith, sym, ◌∙◌}
-use Rattle.fk_store.proofs.Bare.{lowest-many}
-use Rattle.fk_store.proofs.ReachLaws.{lowest-zero, lowest-none, region-first, region-none, some_mapped, none_mapped}
+use Rattle.fk_store.proofs.changing.Bare.{lowest-many}
+use Rattle.fk_store.proofs.finding.ReachLaws.{lowest-zero, lowest-none, region-first, region-none, some_mapped, none_mapped}
 use Rattle.fk_store.proofs.store.Store.region_at.Goals as goal
 
 pub loop-slot-init : goal.loop-slot-init

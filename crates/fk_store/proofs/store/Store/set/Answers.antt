@@ -1,4 +1,4 @@
-use Rattle.fk_store.proofs.Sets.{set-there, set-birth, set-pages, set-kept, set-world, set-edits, set-kinds, set-paths}
+use Rattle.fk_store.proofs.changing.Sets.{set-there, set-birth, set-pages, set-kept, set-world, set-edits, set-kinds, set-paths}
 use Rattle.fk_store.proofs.store.Store.set.Goals as goal
 
 pub set-requires-clause-there : goal.set-requires-clause-there

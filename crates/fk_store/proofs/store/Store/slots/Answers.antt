@@ -1,4 +1,4 @@
-use Rattle.fk_store.proofs.Outside.{slots-live}
+use Rattle.fk_store.proofs.finding.Outside.{slots-live}
 use Rattle.fk_store.proofs.store.Store.slots.Goals as goal
 
 pub returns : goal.returns

@@ -1,6 +1,6 @@
 use Rattle.std.proofs.Common.{refl, sym, ◌∙◌}
-use Rattle.fk_store.proofs.HoldLaws.{decider-none}
-use Rattle.fk_store.proofs.Walks.{path-home}
+use Rattle.fk_store.proofs.finding.HoldLaws.{decider-none}
+use Rattle.fk_store.proofs.finding.Walks.{path-home}
 use Rattle.fk_store.proofs.store.Store.space_frozen_for.Goals as goal
 
 pub returns-in-None : goal.returns-in-None

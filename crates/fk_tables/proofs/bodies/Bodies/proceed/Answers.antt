@@ -29,7 +29,8 @@ invariant_of-self c =
 
 pub invariant_of-self-in_default : goal.invariant_of-self-in_default
 invariant_of-self-in_default c =
-    let same = same_rows who_naming _ _ (untaken who_naming _ _ c.args.who.space c.args.who.slot (sym c.in_default.ensures.taken) c.take_value.ensures.left) in (
+    let same = same_rows who_naming _ _
+    (untaken who_naming _ _ c.args.who.space c.args.who.slot (sym c.in_default.ensures.taken) c.take_value.ensures.left) in (
       omega (arith, c.self.invariant.0, c.take_value.ensures.long),
       rw same c.self.invariant.1,
       rw same c.self.invariant.2,

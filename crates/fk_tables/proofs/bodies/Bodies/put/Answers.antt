@@ -44,7 +44,8 @@ invariant_of-self-2 c =
           (marked-put _ _ _ c.args.who c.args.body (marked-told _ _ c.room_for_marks.new.marks.items c.self.invariant.3 c.room_for_marks.ensures.same)
           (rw c.is_of_pages.ensures at c.mark.ensures)),
       told-rows _ _ c.tell.ensures,
-      ringed-changed _ _ _ _ c.args.who _ c.ring.ensures.short (ringed-same _ _ _ _ c.self.invariant.5 (λ s k. refl) c.room-2.ensures) put (c.ring.ensures.rings _),
+      ringed-changed _ _ _ _ c.args.who _ c.ring.ensures.short (ringed-same _ _ _ _ c.self.invariant.5 (λ s k. refl) c.room-2.ensures)
+          put (c.ring.ensures.rings _),
     )
 
 pub returns-clause-ok : goal.returns-clause-ok

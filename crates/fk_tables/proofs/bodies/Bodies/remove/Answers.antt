@@ -23,7 +23,8 @@ invariant_of-self c =
       rw (remove_rows who_naming _ _ c.args.who.space c.args.who.slot c.take_value-gone.ensures.left)
           (homed-remove _ _ _ c.self.invariant.1 c.args.who settled),
       rw (remove_rows who_naming _ _ c.args.who.space c.args.who.slot c.take_value-gone.ensures.left)
-          (enough-remove _ c.args.who _ _ c.self.invariant.2 _ (c.was_held.ensures ∙ ap (of_cell _) (c.take_value-gone.ensures.taken ∙ sym (get-who _ c.args.who)))
+          (enough-remove _ c.args.who _ _ c.self.invariant.2 _
+          (c.was_held.ensures ∙ ap (of_cell _) (c.take_value-gone.ensures.taken ∙ sym (get-who _ c.args.who)))
           c.counted-self-inside.ensures),
       rw (remove_rows who_naming _ _ c.args.who.space c.args.who.slot c.take_value-gone.ensures.left) (marked-remove _ _ c.args.who c.self.invariant.3),
       told-taken _ _ c.self.invariant.4 _ c.args.who c.take_value-gone.ensures.left,
