@@ -1,10 +1,10 @@
 //! Cases: whole commands and what must come of them, from the files of `data/`.
 //!
-//! Standard input names files of the current folder, each on a line. `fk_cases` reads each as a list of
-//! cases: the words of a command, what its source and its shelf hold, which of their calls fail, and then
-//! the status, the line of its fault, the output, the files that it leaves and its report. `fluke_top` of
-//! `fk_run` is called with each, over the source, the sink and the shelf that `fk_causes` has in memory
-//! (`call`). A new case is some more lines of a file, or a new file that `stdin` names.
+//! Each file `NAME.cases` of the current folder is read by `fk_cases` as a list of cases: the words of
+//! a command, what its source and its shelf hold, which of their calls fail, and then the status, the
+//! line of its fault, the output, the files that it leaves and its report. `fluke_top` of `fk_run` is
+//! called with each, over the source, the sink and the shelf that `fk_causes` has in memory (`call`). A
+//! new case is a new file, or some more lines of one.
 //!
 //! The program says of each case what differs, and ends with a line of counts; it fails where a case
 //! differs. It promises no more than that it always ends.
@@ -70,13 +70,26 @@ fn try_file<R: Files + Print + AllocGlobal>(
     Ok(())
 }
 
+/// The files of cases in the folder, in the order of their names.
+fn files_of_cases<R: Files + AllocGlobal + Clone + Drop>(rt: &R) -> anyhow::Result<Vec<String>> {
+    let mut names = Vec::new(rt.alloc());
+    for entry in fs::read_dir(rt, ".")? {
+        let entry = entry?;
+        let name = entry.file_name();
+        if name.ends_with(".cases") {
+            names.push(String::from_str(rt.alloc(), name)?)?;
+        }
+    }
+    names.sort()?;
+    Ok(names)
+}
+
 fn main(rt: HostRuntime) -> anyhow::Result<()> {
     let mut tally = Tally {
         calls: 0,
         differ: 0,
     };
-    for path in rt.lines(rt.alloc()) {
-        let path = path?;
+    for path in &files_of_cases(&rt)? {
         try_file(&rt, &mut tally, path.as_str()).context(format_args!("{path}"))?;
     }
     let Tally { calls, differ } = tally;
