@@ -1,4 +1,5 @@
 mod LinkLaws
+pub mod Lists
 pub mod NodeLaws
 mod RingLaws
 mod WalkLaws

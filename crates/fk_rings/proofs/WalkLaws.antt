@@ -1,5 +1,5 @@
 -- WalkLaws: a walk along a ring that changes nothing comes to each pointer that leads to the object.
-use Rattle.std.proofs.Common.{◌≡◌, ◌≢◌, ◌-◌, ap, ◌⊎◌, inl, inr, ℕ, zero, suc, ◌<◌, ◌≤◌, Bool, true, false, cond, not, ◌==◌, ◌&&◌, ◌||◌, nat_le, eq-eqb, List, [], ◌∷◌, Option, Some, refl, sym, subst, ◌∙◌, arith}
+use Rattle.std.proofs.Common.{◌≡◌, ◌≢◌, ◌-◌, ap, ◌⊎◌, inl, inr, ℕ, zero, suc, ◌<◌, ◌≤◌, Bool, true, false, cond, not, ◌==◌, ◌&&◌, ◌||◌, nat_le, eq-eqb, List, [], ◌∷◌, map, length, Option, Some, refl, sym, subst, ◌∙◌, arith}
 use Rattle.std.proofs.lemmas.Bool.Decides.{nat_tests}
 use Rattle.fk_model.specs.declared.names.Who.{Who}
 use Rattle.fk_model.proofs.walks.Members.{IsIn}
@@ -7,8 +7,10 @@ use Rattle.fk_rings.specs.declared.row.Link.{Link}
 use Rattle.fk_rings.specs.Links.{next_at, prev_at, AreRings}
 use Rattle.fk_rings.specs.Nodes.{is_head, node_of, who_of, headed, space_of}
 use Rattle.fk_rings.specs.Rings.{put_at, IsRings}
-use Rattle.fk_rings.specs.Walks.{stops, to_come, comes_to}
-use Rattle.fk_rings.proofs.NodeLaws.{head_is, one_head, headed_field}
+use Rattle.fk_rings.specs.Walks.{stops, to_come, walked, comes_to, AreLeaders}
+use Rattle.fk_rings.specs.Lists.{Differ}
+use Rattle.fk_rings.proofs.Lists.{in_mapped}
+use Rattle.fk_rings.proofs.NodeLaws.{head_is, one_head, headed_head, headed_field}
 
 module _ {K : Type 0} (is_head : ℕ → Bool) (next prev : ℕ → ℕ) (owner : ℕ → Option K) (rings : IsRings is_head next prev owner) (h : ℕ) (w : K)
     (one : (m : ℕ) → is_head m ≡ true → owner m ≡ Some w → m ≡ h) where
@@ -76,56 +78,133 @@ module _ {K : Type 0} (is_head : ℕ → Bool) (next prev : ℕ → ℕ) (owner 
 
   -- a pointer that leads to the object was passed, or is yet to come
   pub all_come : (left : ℕ) (here : ℕ) (seen : ℕ → Bool) → IsWalk seen here → comes_to left next h here ≡ true →
-      (n : ℕ) → is_head n ≡ false → owner n ≡ Some w → (seen n ≡ true) ⊎ IsIn (who_of n) (to_come left next h here)
-  unfolding comes_to to_come
+      (n : ℕ) → is_head n ≡ false → owner n ≡ Some w → (seen n ≡ true) ⊎ IsIn n (walked left next h here)
+  unfolding comes_to walked
   all_come zero here seen walk ends n field leads =
       let same : here ≡ h = grind (arith, nat_tests) in
       inl (walk_ends seen (subst (IsWalk seen) same walk) (rings.rank n) n (omega arith) field leads)
   all_come (suc left) here seen walk ends n field leads =
       by (stops h here) refl ends (all_come left (next here) (put_at seen here true) (walk_goes_on seen here walk))
     where
-      goes : (b : Bool) → (n == here) ≡ b → (cond b true (seen n) ≡ true) ⊎ IsIn (who_of n) (to_come left next h (next here)) →
-          (seen n ≡ true) ⊎ IsIn (who_of n) (who_of here ∷ to_come left next h (next here))
-      goes true e found = let same : n ≡ here = grind (arith, nat_tests) in inr (inl (ap who_of (sym same)))
+      goes : (b : Bool) → (n == here) ≡ b → (cond b true (seen n) ≡ true) ⊎ IsIn n (walked left next h (next here)) →
+          (seen n ≡ true) ⊎ IsIn n (here ∷ walked left next h (next here))
+      goes true e found = let same : n ≡ here = grind (arith, nat_tests) in inr (inl (sym same))
       goes false e (inl passed) = inl passed
       goes false e (inr comes) = inr (inr comes)
 
       by : (b : Bool) → stops h here ≡ b → cond b (here == h) (comes_to left next h (next here)) ≡ true →
           (comes_to left next h (next here) ≡ true → (n : ℕ) → is_head n ≡ false → owner n ≡ Some w →
-          (put_at seen here true n ≡ true) ⊎ IsIn (who_of n) (to_come left next h (next here))) →
-          (seen n ≡ true) ⊎ IsIn (who_of n) (cond b [] (who_of here ∷ to_come left next h (next here)))
+          (put_at seen here true n ≡ true) ⊎ IsIn n (walked left next h (next here))) →
+          (seen n ≡ true) ⊎ IsIn n (cond b [] (here ∷ walked left next h (next here)))
       by true e ends ih =
           let same : here ≡ h = grind (arith, nat_tests) in
           inl (walk_ends seen (subst (IsWalk seen) same walk) (rings.rank n) n (omega arith) field leads)
       by false e ends ih = goes (n == here) refl (ih ends n field leads)
 
+  -- a node at which it doesn't stop is a pointer
+  is_pointer : (here : ℕ) → owner here ≡ Some w → stops h here ≡ false → is_head here ≡ false
+  is_pointer here leads goes = by (is_head here) refl
+    where
+      by : (b : Bool) → is_head here ≡ b → b ≡ false
+      by false e = refl
+      by true e = let is : here ≡ h = one here e leads in let stop : (here == h) ≡ true = grind (arith, nat_tests) in absurd (cc)
+
+  -- what it comes to leads to the object, and nearer to its head at each step
+  walked_lead : (left here : ℕ) → owner here ≡ Some w → (m : ℕ) → IsIn m (walked left next h here) →
+      (rings.rank m ≤ rings.rank here) × (is_head m ≡ false) × (owner m ≡ Some w)
+  unfolding walked
+  walked_lead zero here leads m is = absurd is
+  walked_lead (suc left) here leads m is = by (stops h here) refl (walked_lead left (next here) (rings.same here ∙ leads) m) is
+    where
+      by : (b : Bool) → stops h here ≡ b →
+          (IsIn m (walked left next h (next here)) → (rings.rank m ≤ rings.rank (next here)) × (is_head m ≡ false) × (owner m ≡ Some w)) →
+          IsIn m (cond b [] (here ∷ walked left next h (next here))) → (rings.rank m ≤ rings.rank here) × (is_head m ≡ false) × (owner m ≡ Some w)
+      by true e ih is = absurd is
+      by false e ih (inl same) = subst (λ x. (rings.rank x ≤ rings.rank here) × (is_head x ≡ false) × (owner x ≡ Some w)) same
+          (omega arith, is_pointer here leads e, leads)
+      by false e ih (inr is) =
+          let found = ih is in
+          let low = found.0 in
+          let falls = rings.falls here w leads (is_pointer here leads e) in
+          (omega (arith, low, falls), found.1, found.2)
+
+  -- so it comes to no node twice
+  walked_differ : (left here : ℕ) → owner here ≡ Some w → Differ (walked left next h here)
+  unfolding walked
+  walked_differ zero here leads = tt
+  walked_differ (suc left) here leads = by (stops h here) refl (walked_differ left (next here) (rings.same here ∙ leads))
+    where
+      by : (b : Bool) → stops h here ≡ b → Differ (walked left next h (next here)) → Differ (cond b [] (here ∷ walked left next h (next here)))
+      by true e rest = tt
+      by false e rest = (
+        λ is.
+            let low = (walked_lead left (next here) (rings.same here ∙ leads) here is).0 in
+            let falls = rings.falls here w leads (is_pointer here leads e) in
+            absurd (omega (arith, low, falls)),
+        rest,
+      )
+
 -- ---- of an object
 
--- a walk that begins behind its head comes to all that leads to it
-pub leaders_come : (rows : List (List Link)) (lost : Bool) (who : Who) (left : ℕ) (head here : ℕ) → head ≡ node_of who 2 → here ≡ next_at rows head →
-    (not lost && comes_to left (next_at rows) head here) ≡ true → (owner : ℕ → Option Who) → AreRings (rows, lost) owner →
-    (n : ℕ) → is_head n ≡ false → owner n ≡ Some who → IsIn (who_of n) (to_come left (next_at rows) head here)
-unfolding AreRings
-leaders_come rows lost who left head here head_at starts ends owner are n field leads = by lost refl ends
+come_walked : (next : ℕ → ℕ) (head left here : ℕ) → to_come left next head here ≡ map who_of (walked left next head here)
+unfolding to_come walked
+come_walked next head zero here = refl
+come_walked next head (suc left) here = by (stops head here) (come_walked next head left (next here))
   where
-    none : (false ≡ true) ⊎ IsIn (who_of n) (to_come left (next_at rows) head here) → IsIn (who_of n) (to_come left (next_at rows) head here)
-    none (inl h) = absurd (cc)
-    none (inr h) = h
+    by : (b : Bool) → to_come left next head (next here) ≡ map who_of (walked left next head (next here)) →
+        cond b [] (who_of here ∷ to_come left next head (next here)) ≡ map who_of (cond b [] (here ∷ walked left next head (next here)))
+    by true rest = refl
+    by false rest = ap (λ whos. who_of here ∷ whos) rest
 
-    by : (l : Bool) → lost ≡ l → (not l && comes_to left (next_at rows) head here) ≡ true → IsIn (who_of n) (to_come left (next_at rows) head here)
+-- a walk that begins behind its head comes to all that lead to it
+pub leaders_come : (rows : List (List Link)) (lost : Bool) (who : Who) (left : ℕ) (head here : ℕ) → who.slot < 256 → head ≡ node_of who 2 →
+    here ≡ next_at rows head → (not lost && comes_to left (next_at rows) head here) ≡ true → (owner : ℕ → Option Who) → AreRings (rows, lost) owner →
+    AreLeaders owner who (to_come left (next_at rows) head here)
+unfolding AreRings
+leaders_come rows lost who left head here short head_at starts ends owner are = by lost refl ends
+  where
+    none : (n : ℕ) → (false ≡ true) ⊎ IsIn n (walked left (next_at rows) head here) → IsIn n (walked left (next_at rows) head here)
+    none n (inl h) = absurd (cc)
+    none n (inr h) = h
+
+    by : (l : Bool) → lost ≡ l → (not l && comes_to left (next_at rows) head here) ≡ true → AreLeaders owner who (to_come left (next_at rows) head here)
     by true e ends = absurd (cc)
     by false e ends =
         let rings = (are e).rings in
         let heads : is_head head ≡ true = ap is_head head_at ∙ head_is who in
         let one : (m : ℕ) → is_head m ≡ true → headed owner m ≡ Some who → m ≡ head = λ m h is. one_head owner who m h is ∙ sym head_at in
-        none (all_come is_head (next_at rows) (prev_at rows) (headed owner) rings head who one left here (λ m. false)
-        (subst (IsWalk is_head (next_at rows) (prev_at rows) (headed owner) rings head who one (λ m. false)) (sym starts)
-        (walk_begins is_head (next_at rows) (prev_at rows) (headed owner) rings head who one heads))
-        ends n field (headed_field owner n field ∙ leads))
+        let leads : headed owner here ≡ Some who = ap (headed owner) starts ∙ rings.same head ∙ ap (headed owner) head_at ∙ headed_head owner who short in
+        record {
+          nodes = walked left (next_at rows) head here;
+          named = come_walked (next_at rows) head left here;
+          differ = walked_differ is_head (next_at rows) (prev_at rows) (headed owner) rings head who one left here leads;
+          lead = λ n is.
+              let found = walked_lead is_head (next_at rows) (prev_at rows) (headed owner) rings head who one left here leads n is in
+              (found.1, sym (headed_field owner n found.1) ∙ found.2);
+          all = λ n field to. none n (all_come is_head (next_at rows) (prev_at rows) (headed owner) rings head who one left here (λ m. false)
+              (subst (IsWalk is_head (next_at rows) (prev_at rows) (headed owner) rings head who one (λ m. false)) (sym starts)
+              (walk_begins is_head (next_at rows) (prev_at rows) (headed owner) rings head who one heads))
+              ends n field (headed_field owner n field ∙ to));
+        }
+
+-- and so to their objects
+pub leaders_named : (owner : ℕ → Option Who) (who : Who) (whos : List Who) → AreLeaders owner who whos →
+    (n : ℕ) → is_head n ≡ false → owner n ≡ Some who → IsIn (who_of n) whos
+leaders_named owner who whos are n field leads = subst (IsIn (who_of n)) (sym are.named) (in_mapped who_of n are.nodes (are.all n field leads))
 
 -- ---- step by step
 
 module _ (next : ℕ → ℕ) (head : ℕ) where
+  pub few_come : (left here : ℕ) → length (to_come left next head here) ≤ left
+  unfolding to_come
+  few_come zero here = omega arith
+  few_come (suc left) here = by (stops head here) (few_come left (next here))
+    where
+      by : (b : Bool) → length (to_come left next head (next here)) ≤ left →
+          length (cond b [] (who_of here ∷ to_come left next head (next here))) ≤ suc left
+      by true few = omega arith
+      by false few = omega (arith, few)
+
   pub none_comes : (left here : ℕ) → left ≡ 0 → to_come left next head here ≡ []
   unfolding to_come
   none_comes zero here none = refl

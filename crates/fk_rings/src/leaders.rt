@@ -1,9 +1,10 @@
 //! A walk along the ring of an object.
-ghost use Rattle.std.specs.Prelude.{◌≡◌, [], ◌∷◌, ℕ, true, false, IfSome, None, Some, Option};
+ghost use Rattle.std.specs.Prelude.{◌≡◌, ◌≤◌, [], ◌∷◌, length, ℕ, true, false, IfSome, None, Some, Option};
 ghost use Rattle.fk_model.specs.declared.names.Who.{Who};
 ghost use Rattle.fk_model.proofs.walks.Members.{IsIn};
 ghost use Rattle.fk_rings.specs.Links.{AreRings};
 ghost use Rattle.fk_rings.specs.Nodes.{is_head, who_of as object_of};
+ghost use Rattle.fk_rings.specs.Walks.{AreLeaders};
 
 use crate::links::link_of;
 use crate::nodes::{NODES, head_of, who_of};
@@ -42,8 +43,10 @@ impl<'a> Model for Leaders<'a> {
 impl<'a> Leaders<'a> {
     /// Those that lead to an object by these rings, which may be lost.
     pub(crate) fn new(rows: &'a Vec<Row>, lost: bool, who: Who) -> Leaders<'a>
-        ensures { result.1 ≡ true → (owner : ℕ → Option Who) → AreRings (rows.now.items, lost) owner
+        ensures all { result.1 ≡ true → (owner : ℕ → Option Who) → AreRings (rows.now.items, lost) owner
             → (n : ℕ) → is_head n ≡ false → owner n ≡ Some who → IsIn (object_of n) result.0 }
+        ensures exact { result.1 ≡ true → (owner : ℕ → Option Who) → AreRings (rows.now.items, lost) owner → AreLeaders owner who result.0 }
+        ensures few { length result.0 ≤ 5497558138880 }
     {
         let head = head_of(who);
         Leaders {

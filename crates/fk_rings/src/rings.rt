@@ -1,11 +1,12 @@
 //! All rings.
-ghost use Rattle.std.specs.Prelude.{◌≡◌, ◌≢◌, ◌<◌, ℕ, true, false, IfSome, Some, None, Option};
+ghost use Rattle.std.specs.Prelude.{◌≡◌, ◌≢◌, ◌<◌, ◌≤◌, ℕ, true, false, length, IfSome, Some, None, Option};
 ghost use Rattle.fk_model.specs.declared.names.Who.{Who};
 ghost use Rattle.fk_model.proofs.walks.Members.{IsIn};
 ghost use Rattle.fk_rings.specs.Nodes as nodes;
 ghost use Rattle.fk_rings.specs.Nodes.{is_head, who_of, field_of};
 ghost use Rattle.fk_rings.specs.Rings.{put_at};
 ghost use Rattle.fk_rings.specs.Links.{AreRings};
+ghost use Rattle.fk_rings.specs.Walks.{AreLeaders};
 
 use crate::leaders::Leaders;
 use crate::links::{enlink, link_of, room, unlink};
@@ -127,10 +128,13 @@ impl Rings {
         }
         who_of(node)
     }
+
     /// The objects whose pointers lead there, one for each pointer.
     pub fn leaders(&self, who: Who) -> Leaders<'_>
-        ensures { result.1 ≡ true → (owner : ℕ → Option Who) → AreRings self.now owner
+        ensures all { result.1 ≡ true → (owner : ℕ → Option Who) → AreRings self.now owner
             → (n : ℕ) → is_head n ≡ false → owner n ≡ Some who → IsIn (who_of n) result.0 }
+        ensures exact { result.1 ≡ true → (owner : ℕ → Option Who) → AreRings self.now owner → AreLeaders owner who result.0 }
+        ensures few { length result.0 ≤ 5497558138880 }
     {
         Leaders::new(&self.rows, self.lost, who)
     }

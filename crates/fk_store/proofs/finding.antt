@@ -12,7 +12,6 @@ pub mod ReachLaws
 pub mod Scans
 pub mod Alone
 pub mod Players
-pub mod Lists
 pub mod Listed
 pub mod PointerLaws
 pub mod Counting

@@ -13,3 +13,5 @@ pub mod RingedLaws
 pub mod RingSweeps
 mod LeadingLaws
 mod FreeLaws
+pub mod Lists
+mod LeaderSums

@@ -33,7 +33,7 @@ use Rattle.fk_tables.proofs.HintLaws.{led-came, body-off}
 use Rattle.fk_tables.proofs.NameLaws.{who_total, who_naming, same_who_eq, same_who_refl}
 use Rattle.fk_tables.proofs.RingedLaws.{Cells, Rows, ringed-changed}
 use Rattle.fk_tables.proofs.ScanLaws.{get-who}
-use Rattle.fk_tables.proofs.ToldLaws.{hits-led, not_nonzero, swept-home}
+use Rattle.fk_tables.proofs.ToldLaws.{hits-led, swept-home}
 
 -- ---- pointers by field
 
@@ -141,12 +141,6 @@ nobody rows r ringed who none q b i there leads =
     let rest : node_of q i % 5 ≡ i = omega (arith, few) in
     none (node_of q i) (grind (arith, nat_tests))
     ((λ j. and_then (target (rest j)) (cell rows (space j) (slot j))) ∙ ap (and_then (target i)) there ∙ led-target b i who leads)
-
-pub nobody-hits : (rows : Cells) (r : Rows) → AreRinged rows r → (who : Who) → ((n : ℕ) → is_head n ≡ false → owner rows n ≢ Some who) →
-    (q : Who) (b : Body) → get (map_of_rows who_cmp at rows) q ≡ Some b → body_hits who b ≡ 0
-nobody-hits rows r ringed who none q b there = not_nonzero (body_hits who b) (λ hits.
-    let leads = hits-led who b hits in
-    nobody rows r ringed who none q b leads.0 (sym (get-who rows q) ∙ there) leads.1)
 
 -- a pointer that leads there is a node
 leading_node : (rows : Cells) (r : Rows) → AreRinged rows r → (who q : Who) (b : Body) → cell rows q.space q.slot ≡ Some b →

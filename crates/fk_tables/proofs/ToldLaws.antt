@@ -1,11 +1,8 @@
 -- Whoever leads anywhere is told of there, as objects come, go and change.
-use Rattle.std.proofs.Common.{◌≡◌, ◌≢◌, ◌⊎◌, inl, inr, ℕ, zero, suc, ◌+◌, ◌<◌, ◌≤◌, ltb, length, get_or, set, Bool, true, false, cond, ◌==◌, ◌&&◌, List, [], ◌∷◌, Option, Some, None, option_map, refl, sym, ap, subst, ◌∙◌, arith}
+use Rattle.std.proofs.Common.{◌≡◌, ◌≢◌, ◌⊎◌, inl, inr, ℕ, zero, suc, ◌+◌, ◌<◌, ◌≤◌, ltb, length, get_or, set, Bool, true, false, cond, ◌==◌, ◌&&◌, List, Option, Some, None, option_map, refl, sym, ap, subst, ◌∙◌, arith}
 use Rattle.std.proofs.lemmas.Bool.Decides.{nat_tests}
-use Rattle.std.proofs.lemmas.List.Sums.{sum_by-cons}
-use Rattle.std.specs.List.{sum_by}
 use Rattle.std.specs.FinMap as finmap
-use Rattle.std.specs.FinMap.{FinMap, get, entries, entries_sorted, get-entries, get-insert, get-empty}
-use Rattle.fk_model.proofs.walks.Members.{IsIn}
+use Rattle.std.specs.FinMap.{FinMap, get, get-insert, get-empty}
 use Rattle.fk_model.specs.declared.names.Who.{Who}
 use Rattle.fk_model.specs.declared.names.Ptr.{Ptr}
 use Rattle.fk_model.specs.declared.names.Ptr.TheVariants.{Null, Dead, At}
@@ -35,7 +32,6 @@ use Rattle.fk_tables.specs.Sweeps.{body_after}
 use Rattle.fk_tables.specs.declared.parts.Part.{Part}
 use Rattle.fk_tables.specs.declared.parts.Part.TheVariants.{Client, Faulter, Guest, Parked}
 use Rattle.fk_tables.specs.declared.sweeps.Sweep.{Sweep}
-use Rattle.fk_tables.proofs.Found.{member-found}
 use Rattle.fk_tables.proofs.HintLaws.{led-came, body-off}
 use Rattle.fk_tables.proofs.NameLaws.{who_total, same_tied, same_who_eq, same_who_refl}
 use Rattle.fk_tables.proofs.ScanLaws.{get-who}
@@ -264,18 +260,6 @@ hits-led who (Thread thread) h = elim (one_of (hits_in (talk_hits who) thread.ta
   | inr fault ↦ fault-hit who thread.fault fault thread.talk
 ]
 hits-led who (Reference to) h = (0, pointer-hit who to h)
-
--- ---- a sum of what is nowhere
-
-sum_none : (f : Body → ℕ) (es : List (Who × Body)) → ((e : Who × Body) → IsIn e es → f e.1 ≡ 0) → sum_by (λ e. f e.1) es ≡ 0
-sum_none f [] none = refl
-sum_none f (e ∷ es) none = sum_by-cons (λ (e : Who × Body). f e.1) e es
-    ∙ (let here = none e (inl refl) in let rest = sum_none f es (λ d within. none d (inr within)) in omega (arith, here, rest))
-
-pub none-weighs : (bodies : FinMap who_cmp Body) (f : Body → ℕ) → ((q : Who) (b : Body) → get bodies q ≡ Some b → f b ≡ 0) →
-    sum_by (λ e. f e.1) (entries bodies) ≡ 0
-none-weighs bodies f none = sum_none f (entries bodies)
-    (λ e within. none e.0 e.1 (get-entries bodies e.0 ∙ member-found who_total (entries bodies) e (entries_sorted bodies) within))
 
 pub not_nonzero : (n : ℕ) → (n ≢ 0 → ⊥) → n ≡ 0
 not_nonzero zero h = refl

@@ -1,5 +1,5 @@
 //! The bodies of all objects, by their names.
-ghost use Rattle.std.specs.Prelude.{◌≡◌, ◌≢◌, ◌<◌, ◌/◌, ℕ, OnOk, OnErr, IsSome, IfSome, Some, None, true, false, if◌then◌else◌, option_map};
+ghost use Rattle.std.specs.Prelude.{◌≡◌, ◌≢◌, ◌<◌, ◌≤◌, ◌/◌, ℕ, Bool, OnOk, OnErr, IsSome, IfSome, Some, None, true, false, length, if◌then◌else◌, option_map};
 ghost use Rattle.std.specs.Option.{option_copied};
 ghost use Rattle.std.specs.FinMap as map;
 ghost use Rattle.std.specs.FinMap.{entries};
@@ -11,6 +11,7 @@ ghost use Rattle.fk_model.proofs.walks.Members.{IsIn};
 ghost use Rattle.fk_slots.specs.Cells.{is_from};
 ghost use Rattle.fk_tables.specs.Births.{stored_birth, home_in};
 ghost use Rattle.fk_tables.specs.Held as held;
+ghost use Rattle.fk_tables.specs.Held.{one_if};
 ghost use Rattle.fk_tables.specs.Homes.{birth_in};
 ghost use Rattle.fk_tables.specs.Marks as marks_of;
 ghost use Rattle.fk_tables.specs.Names.{at, who_cmp, same_who};
@@ -225,26 +226,18 @@ impl Bodies {
     pub fn pointers_at(&self, who: Who) -> u64
         ensures { result ≡ sum_by (λ e. body_hits who e.1) (entries self.now) }
     {
-        if !self.is_led_to(who) {
-            return 0;
-        }
-        count_hits(&self.rows, who)
-    }
-
-    /// Some pointer may lead to an object.
-    #[inline]
-    pub fn is_led_to(&self, who: Who) -> bool
-        ensures { result ≡ false → (q : Who) (b : Body) → map.get self.now q ≡ Some b → body_hits who b ≡ 0 }
-    {
-        match self.rings.one_to(who) {
-            None => self.rings.are_lost(),
-            Some(_) => true,
+        match self.count_leaders(who) {
+            Some(count) => count,
+            None => count_hits(&self.rows, who),
         }
     }
 
     /// The objects whose pointers lead to an object, one for each pointer.
     pub fn leaders(&self, who: Who) -> Leaders<'_>
-        ensures { result.1 ≡ true → (q : Who) (b : Body) → map.get self.now q ≡ Some b → body_hits who b ≢ 0 → IsIn q result.0 }
+        ensures all { result.1 ≡ true → (q : Who) (b : Body) → map.get self.now q ≡ Some b → body_hits who b ≢ 0 → IsIn q result.0 }
+        ensures sums { result.1 ≡ true → (test : Who → Bool) → sum_by (λ q. one_if (test q)) result.0
+            ≡ sum_by (λ e. if test e.0 then body_hits who e.1 else 0) (entries self.now) }
+        ensures few { length result.0 ≤ 5497558138880 }
     {
         self.rings.leaders(who)
     }

@@ -8,6 +8,7 @@
 #![tactic(auto)]
 
 mod bodies;
+mod counts;
 mod held;
 mod hits;
 mod holders;

@@ -1,7 +1,6 @@
 -- Counting: a sum over all objects, taken from each to the next.
-use Rattle.std.proofs.Common.{◌≡◌, ℕ, ◌+◌, ◌-◌, ◌*◌, ◌≤◌, ◌<◌, inl, inr, Bool, true, false, cond, List, [], ◌∷◌, map, filter, Option, Some, None, IfSome, is_some, refl, sym, ap, subst, ◌∙◌, arith}
+use Rattle.std.proofs.Common.{◌≡◌, ℕ, ◌+◌, ◌-◌, ◌*◌, ◌≤◌, ◌<◌, Bool, true, false, cond, List, [], ◌∷◌, map, Option, Some, None, IfSome, is_some, refl, sym, ap, subst, ◌∙◌, arith}
 use Rattle.std.specs.List.{sum_by}
-use Rattle.std.proofs.lemmas.List.Sums.{sum_by-cons}
 use Rattle.std.specs.declared.cmp.Ordering.{Ordering}
 use Rattle.std.specs.declared.cmp.Ordering.TheVariants.{Less, Equal, Greater}
 use Rattle.std.specs.Ordering.{is_lt, is_le, ordering_reverse}
@@ -21,70 +20,8 @@ use Rattle.fk_store.specs.Paths.{path, place}
 use Rattle.fk_store.specs.World.{world, IsLive}
 use Rattle.fk_store.specs.WellFormed.{IsWellFormed}
 use Rattle.fk_store.proofs.finding.LookUps.{there-IsLive, IsLive-there}
-use Rattle.fk_store.proofs.finding.Lists.{Differ}
+use Rattle.fk_tables.proofs.Lists.{Differ, sum_same, sum_none, sum_without, in_mapped, of_mapped, sum_mapped}
 use Rattle.fk_store.proofs.finding.PointerLaws.{in_map, places-differ, sum-objects, there}
-
--- ---- sums
-
-module _ {A : Type 0} where
-  pub sum_same : (f h : A → ℕ) (xs : List A) → ((x : A) → IsIn x xs → f x ≡ h x) → sum_by f xs ≡ sum_by h xs
-  sum_same f h [] same = refl
-  sum_same f h (x ∷ xs) same =
-      sum_by-cons f x xs ∙ (λ i. same x (inl refl) i + sum_same f h xs (λ y g. same y (inr g)) i) ∙ sym (sum_by-cons h x xs)
-
-  pub sum_none : (f : A → ℕ) (xs : List A) → ((x : A) → f x ≡ 0) → sum_by f xs ≡ 0
-  sum_none f [] none = refl
-  sum_none f (x ∷ xs) none = sum_by-cons f x xs ∙ (λ i. none x i + sum_none f xs none i)
-
-  -- one element is taken out of the sum
-  pub sum_without : (f h : A → ℕ) (x : A) (xs : List A) → Differ xs → IsIn x xs →
-      h x ≡ 0 → ((y : A) → IsIn y xs → (x ≡ y → ⊥) → f y ≡ h y) → sum_by f xs ≡ f x + sum_by h xs
-  sum_without f h x [] d is none same = absurd is
-  sum_without f h x (y ∷ ys) d (inl e) none same =
-      let rest = sum_same f h ys (λ z g. same z (inr g) (λ q. d.0 (subst (λ t. IsIn t ys) (sym q ∙ sym e) g))) in
-      let one = sum_by-cons f y ys in
-      let two = sum_by-cons h y ys in
-      let gone : h y ≡ 0 = ap h e ∙ none in
-      let here : f y ≡ f x = ap f e in
-      omega (arith, one, two, rest, gone, here)
-  sum_without f h x (y ∷ ys) d (inr is) none same =
-      let here = same y (inl refl) (λ q. d.0 (subst (λ t. IsIn t ys) q is)) in
-      let rest = sum_without f h x ys d.1 is none (λ z g. same z (inr g)) in
-      let one = sum_by-cons f y ys in
-      let two = sum_by-cons h y ys in
-      omega (arith, one, two, here, rest)
-
-  -- a sum over those that pass a test
-  pub sum_filtered : (f : A → ℕ) (test : A → Bool) (xs : List A) → sum_by f (filter test xs) ≡ sum_by (λ x. cond (test x) (f x) 0) xs
-  sum_filtered f test [] = refl
-  sum_filtered f test (x ∷ xs) = by (test x) refl (sum_filtered f test xs)
-    where
-      by : (b : Bool) → test x ≡ b → sum_by f (filter test xs) ≡ sum_by (λ x. cond (test x) (f x) 0) xs →
-          sum_by f (cond b (x ∷ filter test xs) (filter test xs)) ≡ sum_by (λ x. cond (test x) (f x) 0) (x ∷ xs)
-      by true e rest =
-          let one = sum_by-cons f x (filter test xs) in
-          let two = sum_by-cons (λ x. cond (test x) (f x) 0) x xs in
-          let here : cond (test x) (f x) 0 ≡ f x = rw e refl in
-          omega (arith, one, two, here, rest)
-      by false e rest =
-          let two = sum_by-cons (λ x. cond (test x) (f x) 0) x xs in
-          let here : cond (test x) (f x) 0 ≡ 0 = rw e refl in
-          omega (arith, two, here, rest)
-
-module _ {A B : Type 0} (f : A → B) where
-  in_mapped : (a : A) (xs : List A) → IsIn a xs → IsIn (f a) (map f xs)
-  in_mapped a [] h = absurd h
-  in_mapped a (x ∷ xs) (inl e) = inl (ap f e)
-  in_mapped a (x ∷ xs) (inr h) = inr (in_mapped a xs h)
-
-  of_mapped : (b : B) (xs : List A) → IsIn b (map f xs) → (a : A) × IsIn a xs × (f a ≡ b)
-  of_mapped b [] h = absurd h
-  of_mapped b (x ∷ xs) (inl e) = (x, inl refl, e)
-  of_mapped b (x ∷ xs) (inr h) = let found = of_mapped b xs h in (found.0, inr found.1, found.2)
-
-  sum_mapped : (g : B → ℕ) (xs : List A) → sum_by g (map f xs) ≡ sum_by (λ a. g (f a)) xs
-  sum_mapped g [] = refl
-  sum_mapped g (x ∷ xs) = sum_by-cons g (f x) (map f xs) ∙ (λ i. g (f x) + sum_mapped g xs i) ∙ sym (sum_by-cons (λ a. g (f a)) x xs)
 
 -- ---- names, and those that are yet to come
 

@@ -1,8 +1,8 @@
 -- Outside: the pointers of objects that lie outside a space.
-use Rattle.std.proofs.Common.{◌≡◌, ◌≢◌, ℕ, zero, suc, ◌+◌, ◌<◌, Bool, true, false, cond, not, List, [], ◌∷◌, ◌++◌, filter, Option, Some, None, IsSome, option_map, refl, sym, ap, subst, ◌∙◌, arith}
+use Rattle.std.proofs.Common.{◌≡◌, ◌≢◌, ℕ, ◌+◌, ◌<◌, ◌≤◌, Bool, true, false, cond, ◌&&◌, List, [], ◌∷◌, ◌++◌, length, filter, Option, Some, None, is_some, IsSome, option_map, refl, sym, ap, subst, ◌∙◌, arith}
 use Rattle.std.specs.List.{sum_by}
 use Rattle.std.proofs.lemmas.List.Sums.{sum_by-cons, sum_by-append}
-use Rattle.std.specs.FinMap.{get}
+use Rattle.std.specs.FinMap.{get, entries}
 use Rattle.fk_model.specs.declared.names.Who.{Who}
 use Rattle.fk_model.specs.declared.names.Ptr.TheVariants as stored
 use Rattle.fk_model.specs.declared.thread.Peer as peers_of
@@ -16,9 +16,10 @@ use Rattle.fk_model.specs.Objects.{Body, kind_of, and_then}
 use Rattle.fk_model.specs.Valid.{kind_there}
 use Rattle.fk_model.specs.Places.{Path, Ptr, leads_to, same_path, slot_of}
 use Rattle.fk_model.specs.Places.Ptr.{At}
-use Rattle.fk_model.specs.Searches.{objects, pointers_to, option_list, peer_pointer, talk_pointers, fault_pointers}
+use Rattle.fk_model.specs.Searches.{depth, objects, pointers_to, option_list, peer_pointer, talk_pointers, fault_pointers}
 use Rattle.fk_model.specs.World.{World}
 use Rattle.fk_model.proofs.walks.Members.{IsIn}
+use Rattle.fk_tables.specs.Held.{one_if}
 use Rattle.fk_tables.specs.Pointers.{body_hits, hits_in}
 use Rattle.fk_store.specs.Bodies.{peer_by, talk_by, fault_by, body_by}
 use Rattle.fk_store.specs.Contents.{Contents, home}
@@ -26,11 +27,11 @@ use Rattle.fk_store.specs.Names.{at}
 use Rattle.fk_store.specs.Paths.{path, place, space_at, HasOwnPath}
 use Rattle.fk_store.specs.World.{world, IsSpace}
 use Rattle.fk_store.specs.WellFormed.{is_there, IsWellFormed}
-use Rattle.fk_store.proofs.finding.Counting.{sum_filtered, sum_none}
+use Rattle.fk_tables.proofs.Lists.{sum_same, sum_none, sum_filtered, sum_mapped}
 use Rattle.fk_store.proofs.finding.LookUps.{body-place}
 use Rattle.fk_store.proofs.finding.NamedLaws.{OnNamed-map}
 use Rattle.fk_store.proofs.finding.Enumerated.{named-object}
-use Rattle.fk_store.proofs.finding.PointerLaws.{body_hits-by, kind_some}
+use Rattle.fk_store.proofs.finding.PointerLaws.{body_hits-by, kind_some, place_at, there, sum-objects}
 use Rattle.fk_store.proofs.finding.Walks.{path-home, place-apart}
 use Rattle.fk_store.proofs.finding.Within.{root_path}
 
@@ -100,10 +101,6 @@ pub no_weight : (b : Bool) → cond {A = ℕ} b 0 0 ≡ 0
 no_weight true = refl
 no_weight false = refl
 
--- what counts leads there
-pub weight-some : (w : World) (base nester x q : Path) → weight w base nester x q ≢ 0 → pointers_to x (w.body q) ≢ 0
-weight-some w base nester x q some none = some (rw none (no_weight (counts_from base nester q)))
-
 -- the root has no pointer
 pub count-is : (m : Contents) (base nester x : Path) →
     pointer_count (world m) base nester x ≡ sum_by (weight (world m) base nester x) (objects (world m))
@@ -114,18 +111,50 @@ count-is m base nester x =
     let none = no_weight (counts_from base nester []) in
     omega (arith, all, first, none)
 
-pub not_false : (b : Bool) → not b ≡ false → b ≡ true
-not_false true h = refl
-not_false false h = absurd (cc)
+-- ---- counted along the ring
 
-zero_if : (n : ℕ) → (n ≢ 0 → ⊥) → n ≡ 0
-zero_if zero h = refl
-zero_if (suc n) h = absurd (h (λ e. absurd (omega (arith, e))))
+-- 1 for an object that is there, and is one of those that count
+abbrev pub counts_there : Contents → Path → Path → Who → Bool
+counts_there m base nester q = is_some ((world m).body (place (path m) q)) && counts_from base nester (place (path m) q)
 
--- where none counts
-pub none-count : (m : Contents) (base nester x : Path) → ((q : Path) → weight (world m) base nester x q ≢ 0 → ⊥) → 0 ≡ pointer_count (world m) base nester x
-none-count m base nester x none =
-    sym (count-is m base nester x ∙ sum_none (weight (world m) base nester x) (objects (world m)) (λ q. zero_if (weight (world m) base nester x q) (none q)))
+abbrev pub one_there : Contents → Path → Path → Who → ℕ
+one_there m base nester q = one_if (counts_there m base nester q)
+
+pub weights-begin : (m : Contents) (kept : IsWellFormed m) → m.next ≤ depth → (base nester : Path) (who : Who) (whos : List Who) →
+    ((test : Who → Bool) → sum_by (λ q. one_if (test q)) whos ≡ sum_by (λ e. cond (test e.0) (body_hits who e.1) 0) (entries m.bodies)) →
+    0 + sum_by (one_there m base nester) whos ≡ pointer_count (world m) base nester (place (path m) who)
+weights-begin m kept few base nester who whos sums =
+    let heavy : Path → ℕ = weight (world m) base nester (place (path m) who) in
+    let all = sums (counts_there m base nester)
+    ∙ sum_same (λ (e : Who × bodies_of.Body). cond (counts_there m base nester e.0) (body_hits who e.1) 0)
+    (λ e. heavy (place (path m) e.0)) (entries m.bodies) same
+    ∙ sym (sum_mapped (place_at m kept) heavy (entries m.bodies))
+    ∙ sym (sum-objects m kept few heavy)
+    ∙ sym (count-is m base nester (place (path m) who)) in
+    omega (arith, all)
+  where
+    same : (e : Who × bodies_of.Body) → IsIn e (entries m.bodies) →
+        cond (counts_there m base nester e.0) (body_hits who e.1) 0 ≡ weight (world m) base nester (place (path m) who) (place (path m) e.0)
+    same e h =
+        let here = there m kept e h in
+        let hits = ap (hits_in (body_hits who)) (sym here) ∙ hits-there m kept who e.0 in
+        let live : is_some ((world m).body (place (path m) e.0)) ≡ true = ap is_some (body-place m kept e.0 ∙ ap (option_map (body_by (path m))) here) in
+        λ i. cond (live i && counts_from base nester (place (path m) e.0)) (hits i) 0
+
+pub weights-go : (f : Who → ℕ) (from : Who) (whos more : List Who) (count one all : ℕ) → whos ≡ from ∷ more → one ≡ f from →
+    count + sum_by f whos ≡ all → (count + one) + sum_by f more ≡ all
+weights-go f from whos more count one all is here so_far =
+    let sums : sum_by f whos ≡ f from + sum_by f more = ap (sum_by f) is ∙ sum_by-cons f from more in
+    omega (arith, sums, here, so_far)
+
+pub weights-room : (from : Who) (whos more : List Who) (count one most : ℕ) → whos ≡ from ∷ more → one ≤ 1 →
+    count + length whos ≤ most → (count + one) + length more ≤ most
+weights-room from whos more count one most is few room =
+    let long : length whos ≡ length (from ∷ more) = ap length is in omega (arith, long, few, room)
+
+pub weights-end : (f : Who → ℕ) (whos : List Who) (count all : ℕ) → whos ≡ [] → count + sum_by f whos ≡ all → count ≡ all
+weights-end f whos count all none so_far =
+    let gone : sum_by f whos ≡ 0 = ap (sum_by f) none in omega (arith, gone, so_far)
 
 -- ---- nothing leads to the root
 

@@ -1,9 +1,10 @@
 //! How many pointers lead to an object from outside a space.
-ghost use Rattle.std.specs.Prelude.{◌≡◌, ◌≤◌, false, if◌then◌else◌};
+ghost use Rattle.std.specs.Prelude.{◌≡◌, ◌≤◌, ◌&&◌, IfSome, is_some, if◌then◌else◌};
 ghost use Rattle.fk_model.specs.ObjectRows as rows;
 ghost use Rattle.fk_model.specs.Places as places;
 ghost use Rattle.fk_model.specs.Places.{same_path};
 ghost use Rattle.fk_model.specs.Searches.{pointers_to};
+ghost use Rattle.fk_tables.specs.Held.{one_if};
 ghost use Rattle.fk_store.specs.Paths.{path};
 ghost use Rattle.fk_store.specs.World.{world, place_of, IsLive, IsSpace};
 
@@ -19,17 +20,10 @@ impl Store {
         requires nester { IsSpace self.now nester }
         ensures { result ≡ rows.pointer_count (world self.now) (path self.now base) (path self.now nester) (place_of self.now who) }
     {
-        let _below_2_32 = self.next;
-        if !self.may_count(base, nester, who) {
-            return 0;
+        match self.count_leaders(base, nester, who) {
+            Some(count) => count,
+            None => self.count_all(base, nester, who),
         }
-        let mut count = 0;
-        let mut at = self.after(None);
-        while let Some(from) = at {
-            count += self.counted(base, nester, from, who);
-            at = self.after(Some(from));
-        }
-        count
     }
 
     /// The same of a space. Nothing leads to the root.
@@ -45,33 +39,59 @@ impl Store {
         }
     }
 
-    /// Some pointer that leads to an object may be one of those that count. It looks at those alone
-    /// of which a pointer leads there.
-    fn may_count(&self, base: u32, nester: u32, who: Who) -> bool
+    /// The same, where those whose pointers lead there are all known: it looks at them alone.
+    fn count_leaders(&self, base: u32, nester: u32, who: Who) -> Option<u64>
         requires base { IsSpace self.now base }
         requires nester { IsSpace self.now nester }
-        ensures { result ≡ false → 0 ≡ rows.pointer_count (world self.now) (path self.now base) (path self.now nester) (place_of self.now who) }
+        ensures { IfSome result (λ n. n ≡ rows.pointer_count (world self.now) (path self.now base) (path self.now nester) (place_of self.now who)) }
     {
-        let mut leaders = self.leaders(who);
+        let _below_2_32 = self.next;
+        let mut leaders = self.bodies.leaders(who);
+        let mut count = 0;
         while let Some(from) = leaders.next() {
-            if self.counts(base, nester, from, who) {
-                return true;
-            }
+            count += self.weight(base, nester, from);
         }
-        !leaders.are_all()
+        if leaders.are_all() { Some(count) } else { None }
     }
 
-    /// Pointers of an object lead to another, and it is one of those that count.
-    fn counts(&self, base: u32, nester: u32, from: Who, to: Who) -> bool
+    /// The same by a look at all objects.
+    fn count_all(&self, base: u32, nester: u32, who: Who) -> u64
         requires base { IsSpace self.now base }
         requires nester { IsSpace self.now nester }
-        ensures { result ≡ false → (if rows.counts_from (path self.now base) (path self.now nester) (place_of self.now from)
-            then pointers_to (place_of self.now to) ((world self.now).body (place_of self.now from)) else 0) ≡ 0 }
+        ensures { result ≡ rows.pointer_count (world self.now) (path self.now base) (path self.now nester) (place_of self.now who) }
+    {
+        let _below_2_32 = self.next;
+        let mut count = 0;
+        let mut at = self.after(None);
+        while let Some(from) = at {
+            count += self.counted(base, nester, from, who);
+            at = self.after(Some(from));
+        }
+        count
+    }
+
+    /// What a pointer of an object counts: 1 if the object is there, and one of those that count.
+    fn weight(&self, base: u32, nester: u32, from: Who) -> u64
+        requires base { IsSpace self.now base }
+        requires nester { IsSpace self.now nester }
+        ensures one { result ≡ one_if (is_some ((world self.now).body (place_of self.now from))
+            && rows.counts_from (path self.now base) (path self.now nester) (place_of self.now from)) }
+        ensures few { result ≤ 1 }
     {
         match self.at(from) {
-            Some(_) => self.counted(base, nester, from, to) > 0,
-            None => false,
+            Some(_) => one(self.counts(base, nester, from)),
+            None => 0,
         }
+    }
+
+    /// An object is one of those that count.
+    fn counts(&self, base: u32, nester: u32, from: Who) -> bool
+        requires live { IsLive self.now from }
+        requires base { IsSpace self.now base }
+        requires nester { IsSpace self.now nester }
+        ensures { result ≡ rows.counts_from (path self.now base) (path self.now nester) (place_of self.now from) }
+    {
+        !(self.lies_in(base, from) || self.is_scratch(nester, from))
     }
 
     /// How many pointers of an object lead to another, if it is one of those that count.
@@ -83,10 +103,11 @@ impl Store {
             then pointers_to (place_of self.now to) ((world self.now).body (place_of self.now from)) else 0 }
         ensures few { result ≤ 4 }
     {
-        if self.lies_in(base, from) || self.is_scratch(nester, from) {
-            return 0;
+        if self.counts(base, nester, from) {
+            self.hits(from, to)
+        } else {
+            0
         }
-        self.hits(from, to)
     }
 
     /// How many pointers of an object lead to another.
@@ -154,4 +175,12 @@ impl Store {
         }
         true
     }
+}
+
+/// 1 if it is so.
+fn one(is: bool) -> u64
+    ensures one { result ≡ one_if is }
+    ensures few { result ≤ 1 }
+{
+    if is { 1 } else { 0 }
 }

@@ -12,7 +12,7 @@ pub first_leading-requires-clause-led : goal.first_leading-requires-clause-led
 first_leading-requires-clause-led c = λ all q b there part.
     let led = plays-led (Parked c.in-Parked.port) b part in
     led_comes c.self.inside.rows.items _ c.self.invariant.5 c.in-Parked.port c.leaders.result.0
-    (λ n field leads. c.leaders.ensures all (owner c.self.inside.rows.items) c.self.invariant.5.rings n field leads) q b there led.0 led.1
+    (λ n field leads. c.leaders.ensures.all all (owner c.self.inside.rows.items) c.self.invariant.5.rings n field leads) q b there led.0 led.1
 
 pub first_told-requires-clause-told : goal.first_told-requires-clause-told
 first_told-requires-clause-told c = rw (c.at-told.ensures, c.whose.ensures, c.sort.ensures) (λ who b there part. let led = plays-led c.args.part b part in

@@ -3,7 +3,7 @@ use Rattle.fk_tables.proofs.LeadingLaws.{held_more, none_held_left, fewer_left, 
 use Rattle.fk_tables.proofs.bodies.Bodies.may_hold.Goals as goal
 
 pub loop-from-init : goal.loop-from-init
-loop-from-init c = record { left = λ all q b there held hits. c.leaders-leaders.ensures all q b there hits }
+loop-from-init c = record { left = λ all q b there held hits. c.leaders-leaders.ensures.all all q b there hits }
 
 pub loop-from-preserved : goal.loop-from-preserved
 loop-from-preserved c = record {

@@ -5,7 +5,7 @@ use Rattle.fk_store.specs.Paths.{path, place}
 use Rattle.fk_store.specs.World.{world}
 use Rattle.fk_store.proofs.finding.Counting.{begins, counts, ends}
 use Rattle.fk_store.proofs.finding.Outside.{count-is}
-use Rattle.fk_store.proofs.store.Store.pointers_outside.Goals as goal
+use Rattle.fk_store.proofs.store.Store.count_all.Goals as goal
 
 pub loop-at-init : goal.loop-at-init
 loop-at-init c =
@@ -24,6 +24,3 @@ pub returns : goal.returns
 returns c =
     subst (λ n. c.loop-at.count ≡ pointer_count (world n) (path n c.args.base) (path n c.args.nester) (place (path n) c.args.who)) c.self.view_is
     (ends _ c.self.invariant _ c.loop-at.count (rw (← c.self.view_is, c.in_default.is) at c.loop-at.invariant) ∙ sym (count-is _ _ _ _))
-
-pub returns-then-not-may_count : goal.returns-then-not-may_count
-returns-then-not-may_count c = c.may_count.ensures c.if-not-may_count.true

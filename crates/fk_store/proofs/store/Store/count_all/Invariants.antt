@@ -2,7 +2,7 @@ use Rattle.fk_store.specs.Paths.{path, place}
 use Rattle.fk_store.specs.World.{world}
 use Rattle.fk_store.proofs.finding.Counting.{IsCounted, left_from}
 use Rattle.fk_store.proofs.finding.Outside.{weight}
-use Rattle.fk_store.proofs.store.Store.pointers_outside.Given as goal
+use Rattle.fk_store.proofs.store.Store.count_all.Given as goal
 
 -- what was counted, and what is yet to come
 abbrev pub invariant-loop-at : goal.invariant-loop-at
