@@ -1,5 +1,5 @@
 -- Judged: the move of a thread that is judged.
-use Rattle.std.proofs.Common.{◌≡◌, ℕ, Bool, true, false, cond, ◌↔◌, IsTrue, IfOk, Result, Ok, Err, is_some, ◌&&◌, List, [], ◌∷◌, length, Option, Some, None, option_map, IsSome, refl, sym, ap, subst, ◌∙◌}
+use Rattle.std.proofs.Common.{◌≡◌, ℕ, Bool, true, false, cond, ◌↔◌, IsTrue, IfOk, Result, Ok, Err, is_some, ◌&&◌, List, [], ◌∷◌, length, Option, Some, None, option_map, IsSome, IfSome, refl, sym, ap, subst, ◌∙◌}
 use Rattle.fk_model.specs.declared.moves.Ask.{Ask}
 use Rattle.fk_model.specs.declared.moves.Ask.TheVariants as asks
 use Rattle.fk_model.specs.declared.moves.Move.{Move}
@@ -22,6 +22,9 @@ use Rattle.fk_plans.specs.declared.plan.Effect.{Effect}
 use Rattle.fk_plans.specs.declared.plan.Effect.TheVariants as effects
 use Rattle.fk_plans.specs.declared.plan.Verdict.{Verdict}
 use Rattle.fk_plans.specs.declared.plan.Verdict.TheVariants as verdicts
+use Rattle.fk_plans.specs.declared.plan.Moving.{Moving}
+use Rattle.fk_plans.specs.Movings.{verdict_of}
+use Rattle.fk_plans.proofs.Moved.{sure_moving}
 use Rattle.fk_plans.specs.Effects.{effect_by, in_running, of_running, is_running, is_running_mode}
 use Rattle.fk_plans.specs.Plans.{caller_by}
 use Rattle.fk_plans.specs.Verdicts.{outcome_by, IsVerdict, IsSureVerdict, move_by}
@@ -35,7 +38,7 @@ use Rattle.fk_user.specs.Running.{run_at, run_of_thread, run_in_mode}
 use Rattle.fk_calls.specs.declared.judging.Judgement.{Judgement}
 use Rattle.fk_calls.specs.Doings.{IsAtStage, is_free_porter_at}
 use Rattle.fk_calls.specs.Rows.{takes_memory, first_takes_memory}
-use Rattle.fk_calls.specs.Judgements.{words_of, outcome_of, IsJudged, IsReadyMove, IsRun}
+use Rattle.fk_calls.specs.Judgements.{words_of, outcome_of, IsJudged, IsMoving, IsReadyMove, IsRun}
 use Rattle.fk_model.specs.Searches.{thread_at}
 
 -- ---- the machine's move of a free user
@@ -193,6 +196,16 @@ stage_judged m move stage v free at row fits sure =
       outcome = staged_user (world m)
           move.who.slot (path m move.who.space) pick stage free at ∙ ap (λ o. closed c (with_pick (chooses stage) pick o)) (sym row);
     }
+
+pub moving_judged : (m : Contents) (move : Move) (stage : Stage) (o : Option Moving) →
+    is_free_at (world m) (place (path m) move.who) ≡ true → IsAtStage (world m) (place (path m) move.who) stage → chooses stage ≡ false →
+    IfSome o (λ words. outcome_by (world m) (path m) (caller_by (path m) (user move.who) []) (verdict_of words)
+    ≡ allowed_row (world m) (caller_by (path m) (user move.who) []) (picked_by (path m) move.pick) stage) →
+    IfSome o (λ words. IsVerdict m (user move.who) (verdict_of words)) → IfSome o (IsMoving m move asks.Run)
+moving_judged m move stage None free at never row fits = tt
+moving_judged m move stage (Some words) free at never row fits =
+    subst (λ chosen. IsJudged m move asks.Run (record { caller = user move.who; chooses = chosen; verdict = verdict_of words })) never
+    (stage_judged m move stage (verdict_of words) free at row fits (λ none. sure_moving words))
 
 pub porter_judged : (m : Contents) (move : Move) (stage : Stage) (words : List ℕ) (v : Verdict) →
     is_free_porter_at (world m) (place (path m) move.who) ≡ true → length words ≡ 64 →

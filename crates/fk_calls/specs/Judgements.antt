@@ -13,7 +13,9 @@ use Rattle.fk_store.specs.Paths.{path, place}
 use Rattle.fk_store.specs.Threads.{is_free_at}
 use Rattle.fk_store.specs.World.{world}
 use Rattle.fk_plans.specs.declared.plan.Effect.{Effect}
+use Rattle.fk_plans.specs.declared.plan.Moving.{Moving}
 use Rattle.fk_plans.specs.declared.plan.Verdict.TheVariants as verdicts
+use Rattle.fk_plans.specs.Movings.{verdict_of}
 use Rattle.fk_plans.specs.Verdicts.{IsVerdict, IsSureVerdict, move_by}
 use Rattle.fk_calls.specs.declared.judging.Judgement.{Judgement}
 use Rattle.fk_calls.specs.Acts.{is_native_act, IsReadyFor}
@@ -42,6 +44,11 @@ pub record IsJudged (m : Contents) (move : Move) (ask : Ask) (j : Judgement) : T
 -- the same of the instruction of a free user that has this effect
 abbrev pub IsRun : Contents → Move → Ask → Effect → Type 0
 IsRun m move ask e = IsJudged m move ask (record { caller = record { who = move.who; is_porter = false }; chooses = false; verdict = verdicts.Runs e })
+
+-- the same of a stage of a free user that moves these words
+abbrev pub IsMoving : Contents → Move → Ask → Moving → Type 0
+IsMoving m move ask words =
+    IsJudged m move ask (record { caller = record { who = move.who; is_porter = false }; chooses = false; verdict = verdict_of words })
 
 -- ---- what a caller reads
 

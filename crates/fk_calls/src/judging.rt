@@ -8,14 +8,16 @@ ghost use Rattle.fk_plans.specs.Effects.{is_running};
 ghost use Rattle.fk_store.specs.Paths.{path, place};
 ghost use Rattle.fk_store.specs.Threads.{is_free_at};
 ghost use Rattle.fk_store.specs.World.{world};
-ghost use Rattle.fk_calls.specs.Judgements.{IsJudged, IsReadyMove, outcome_of, words_of};
+ghost use Rattle.fk_calls.specs.Doings.{IsAtStage};
+ghost use Rattle.fk_calls.specs.Judgements.{IsJudged, IsMoving, IsReadyMove, outcome_of, words_of};
 ghost use Rattle.fk_calls.specs.Rows.{are_given, are_given_for};
 
 use crate::doing::{Doing, doing_of, is_free_porter};
 use crate::rows;
-use fk_model::{Ask, Mode, Move, Stage, Who};
-use fk_plans::{Caller, Verdict};
+use fk_model::{Ask, Mode, Move, Stage, Turn, Who};
+use fk_plans::{Caller, Moving, Verdict};
 use fk_store::Store;
+use fk_transfer::moving;
 
 /// Who moves, whether its stage may pick, and what the move comes to.
 #[derive(Clone, Copy)]
@@ -70,6 +72,53 @@ fn is_running(store: &Store, who: Who) -> bool
     match store.thread(who) {
         Some(thread) => matches!(thread.mode, Mode::Running),
         None => false,
+    }
+}
+
+/// The words that a move of a free user sends to a thread that receives them; none where it isn't so.
+pub fn moving_of(store: &Store, m: &Move, ask: &Ask) -> Option<Moving>
+    requires valid { IsValid (world store.now) }
+    ensures { IfSome result (λ moving. IsMoving store.now m.now ask.now moving) }
+{
+    match ask {
+        Ask::Run => user_moving(store, m),
+        Ask::Call { .. } | Ask::Accept | Ask::Give { .. } | Ask::Over => None,
+    }
+}
+
+/// The same of a user.
+fn user_moving(store: &Store, m: &Move) -> Option<Moving>
+    requires valid { IsValid (world store.now) }
+    ensures { IfSome result (λ moving. IsMoving store.now m.now asks.Run moving) }
+{
+    // These calls alone begin with a Send. Others needn't be looked at.
+    if !matches!(store.thread(m.who)?.regs[0], 34 | 37 | 51 | 53) {
+        return None;
+    }
+    if !store.is_free(m.who) {
+        return None;
+    }
+    match doing_of(store, m.who) {
+        Doing::Stage(stage) => stage_moving(store, m, &stage),
+        Doing::Instruction | Doing::Nothing => None,
+    }
+}
+
+/// The same of this stage, the first of its call.
+fn stage_moving(store: &Store, m: &Move, stage: &Stage) -> Option<Moving>
+    requires valid { IsValid (world store.now) }
+    requires free { is_free_at (world store.now) (place (path store.now) m.now.who) ≡ true }
+    requires at { IsAtStage (world store.now) (place (path store.now) m.now.who) stage.now }
+    ensures { IfSome result (λ moving. IsMoving store.now m.now asks.Run moving) }
+{
+    let caller = Caller {
+        who: m.who,
+        is_porter: false,
+    };
+    match *stage {
+        Stage::ClientSend { addr, count } => moving(store, caller, Turn::Client, addr, count),
+        Stage::ServerSend { addr, count } => moving(store, caller, Turn::Server, addr, count),
+        _ => None,
     }
 }
 

@@ -3,14 +3,16 @@ ghost use Rattle.std.specs.Prelude.{◌≡◌, ◌↔◌, ℕ, List, true, false
 ghost use Rattle.fk_model.specs.declared.moves.Ask.TheVariants as asks;
 ghost use Rattle.fk_model.specs.Valid.{IsValid};
 ghost use Rattle.fk_store.specs.World.{world};
-ghost use Rattle.fk_calls.specs.Judgements.{is_fit_move, IsReadyMove, IsRun, IsStepTo, may_lack};
+ghost use Rattle.fk_calls.specs.Judgements.{is_fit_move, IsMoving, IsReadyMove, IsRun, IsStepTo, may_lack};
 ghost use Rattle.fk_calls.specs.Rows as stages;
 ghost use Rattle.fk_calls.specs.Rows.{are_given_for};
 
-use crate::judging::{given, judge, runs};
+use crate::judging::{given, judge, moving_of, runs};
 use crate::rows::restores;
 use fk_model::{Ask, Move, NoMemory, Said, Stage};
-use fk_plans::{Caller, Effect, carry_out, is_effect_ready, is_ready, run};
+use fk_plans::{
+    Caller, Effect, Moving, carry_out, is_effect_ready, is_moving_ready, is_ready, move_words, run,
+};
 use fk_store::Store;
 use fk_user::Instruction;
 
@@ -77,6 +79,10 @@ pub fn attempt(store: &mut Store, m: &Move, ask: &Ask) -> Result<Option<Said>, N
             return Ok(attempt_effect(store, m, ask, effect));
         }
     }
+    // Words that go to a receiver need none either.
+    if let Some(moving) = moving_of(store, m, ask) {
+        return Ok(attempt_moving(store, m, ask, &moving));
+    }
     attempt_judged(store, m, ask)
 }
 
@@ -95,6 +101,23 @@ fn attempt_effect(store: &mut Store, m: &Move, ask: &Ask, effect: Effect) -> Opt
         return None;
     }
     run(store, m.who, effect);
+    Some(Said::Nothing)
+}
+
+/// The same, of words that go to a thread that receives them.
+fn attempt_moving(store: &mut Store, m: &Move, ask: &Ask, moving: &Moving) -> Option<Said>
+    requires judged { IsMoving store.old m.now ask.now moving.now }
+    ensures made { IfSome result (λ said. IsReadyMove store.old m.now ask.now × IsStepTo store.old m.now ask.now store.new said) }
+    ensures unready { IfNone result ((IsReadyMove store.old m.now ask.now → ⊥) × (store.new ≡ store.old)) }
+{
+    let caller = Caller {
+        who: m.who,
+        is_porter: false,
+    };
+    if !is_moving_ready(store, caller, m.pick, moving) {
+        return None;
+    }
+    move_words(store, caller, moving);
     Some(Said::Nothing)
 }
 

@@ -8,3 +8,4 @@ pub mod Following
 pub mod Told
 pub mod Low
 pub mod Woken
+pub mod Moved

@@ -8,3 +8,4 @@ pub mod Allowed
 pub mod Blocks
 pub mod Sources
 pub mod Own
+pub mod Movings

@@ -9,10 +9,11 @@ ghost use Rattle.fk_store.specs.World.{world, IsLive};
 ghost use Rattle.fk_plans.specs.Plans.{caller_by, change_by, changes_by, IsDeed, IsPlan, IsSure};
 ghost use Rattle.fk_plans.specs.Verdicts.{outcome_by, news_by, tells, IsNews, IsPlanOf, IsRecordOf, IsVerdict, IsSureVerdict};
 
-use crate::blocks::{Block, copy_page, send_block};
+use crate::blocks::{copy_page, send_block};
 use crate::destroying::destroy;
 use crate::instructions::run;
 use crate::making::{make, make_held};
+use crate::moving::send_words;
 use crate::plan::{Deed, News, Plan, Verdict};
 use crate::recording::{Record, set_record, told_record, write_record};
 use crate::renaming::rename;
@@ -58,21 +59,6 @@ fn carry(store: &mut Store, deed: &Deed)
         Deed::Copies { from, to } => copy_page(store, from, to),
         Deed::Drops { space, page } => store.drop_page(space, page),
     }
-}
-
-/// Words of a page go to a page of a receiver, and its talk and both ends have moved so many more.
-#[tactic(auto, unfolding(fk_model::specs::World::apply_all))]
-fn send_words(store: &mut Store, block: Block, client: Who, receiver: Who, sender: Who)
-    requires fits { IsPlan (path store.old) (world store.old) (Plan.Moves block client receiver sender) }
-    ensures world { (given : List ℕ) → world store.new
-        ≡ apply_all (changes_by (path store.old) given (Plan.Moves block client receiver sender) (world store.old)) (world store.old) }
-    ensures paths { path store.new ≡ path store.old }
-{
-    let count = u64::from(block.count);
-    send_block(store, block);
-    count_moved(store, client, block.count);
-    advance(store, receiver, count);
-    advance(store, sender, count);
 }
 
 /// Does all of a plan. For want of memory all stays as it was.

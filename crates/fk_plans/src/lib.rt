@@ -11,6 +11,7 @@ mod carrying;
 mod destroying;
 mod instructions;
 mod making;
+mod moving;
 mod own;
 mod plan;
 mod readiness;
@@ -29,9 +30,10 @@ pub use fk_readers::{
     slot_for, thread_by_handle, thread_in,
 };
 pub use instructions::run;
+pub use moving::move_words;
 pub use own::own_page;
-pub use plan::{Deed, Effect, News, Plan, Verdict, Words};
-pub use readiness::{is_effect_ready, is_ready};
+pub use plan::{Deed, Effect, Moving, News, Plan, Verdict, Words};
+pub use readiness::{is_effect_ready, is_moving_ready, is_ready};
 pub use recording::Record;
 pub use sources::Source;
 pub use waking::sleeps;

@@ -1,4 +1,7 @@
 //! What a stage comes to.
+ghost use Rattle.std.specs.Prelude.{◌≡◌};
+ghost use Rattle.fk_plans.specs.Movings.{verdict_of};
+
 use crate::blocks::Block;
 use crate::recording::Record;
 use crate::sources::Source;
@@ -83,6 +86,37 @@ pub enum Plan {
         page: u8,
         source: Source,
     },
+}
+
+/// Words of one page that go to a page of a thread that receives them, on the first stage of the
+/// sender's call.
+#[derive(Clone, Copy)]
+pub struct Moving {
+    pub block: Block,
+    pub client: Who,
+    pub receiver: Who,
+    pub sender: Who,
+    /// They are the last, so the stage is done then.
+    pub last: bool,
+}
+
+impl Moving {
+    /// As a verdict on the sender's stage.
+    pub fn verdict(self) -> Verdict
+        ensures { result ≡ verdict_of self }
+    {
+        let plan = Plan::Moves {
+            block: self.block,
+            client: self.client,
+            receiver: self.receiver,
+            sender: self.sender,
+        };
+        if self.last {
+            Verdict::Done(plan, Answers::Nothing)
+        } else {
+            Verdict::Goes(plan)
+        }
+    }
 }
 
 /// So many words of a page, from a place on, that come to a port.

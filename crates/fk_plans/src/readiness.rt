@@ -7,10 +7,11 @@ ghost use Rattle.fk_store.specs.Paths.{path, place};
 ghost use Rattle.fk_store.specs.Threads.{is_free_at};
 ghost use Rattle.fk_store.specs.World.{world};
 ghost use Rattle.fk_plans.specs.Allowed.{is_deed_allowed, is_effect_allowed, is_plan_allowed, IsVerdictAllowed, may_pick};
+ghost use Rattle.fk_plans.specs.Movings.{plan_of, verdict_of};
 ghost use Rattle.fk_plans.specs.Plans.{holder_by};
 ghost use Rattle.fk_plans.specs.Verdicts.{IsVerdict, move_by};
 
-use crate::plan::{Deed, Effect, Plan, Verdict};
+use crate::plan::{Deed, Effect, Moving, Plan, Verdict};
 use crate::renaming::may_move;
 use crate::ties::{is_fault_unfrozen, is_peer_unfrozen, is_taker_unfrozen, is_talk_unfrozen};
 use fk_deaths::{
@@ -124,6 +125,17 @@ fn is_plan_allowed(store: &Store, me: Who, plan: &Plan) -> bool
     }
 }
 
+/// The freezing rule allows that words move.
+#[inline(always)]
+fn is_moving_allowed(store: &Store, me: Who, moving: &Moving) -> bool
+    ensures { result ≡ is_plan_allowed (world store.now) (place (path store.now) me) (path store.now) (plan_of moving.now) }
+{
+    !store.space_frozen_for(me, moving.block.to.0)
+        && !store.frozen_for(me, moving.client)
+        && !store.frozen_for(me, moving.receiver)
+        && !store.frozen_for(me, moving.sender)
+}
+
 /// The freezing rule allows an effect.
 #[inline(always)]
 fn is_effect_allowed(store: &Store, me: Who, effect: &Effect) -> bool
@@ -209,6 +221,20 @@ pub fn is_effect_ready(store: &Store, caller: Caller, pick: Option<Who>, effect:
 {
     match pick {
         None => is_effect_allowed(store, caller.who, effect),
+        Some(_) => false,
+    }
+}
+
+/// The same of words that move: their sender picks nobody, and the freezing rule allows it.
+#[tactic(auto, using(crate::proofs::Ready::never_picks))]
+pub fn is_moving_ready(store: &Store, caller: Caller, pick: Option<Who>, moving: &Moving) -> bool
+    requires free { caller.is_porter ≡ false → is_free_at (world store.now) (place (path store.now) caller.who) ≡ true }
+    requires fits { IsVerdict store.now caller (verdict_of moving.now) }
+    ensures { (words : List ℕ) → IsTrue result
+        ↔ GoesAllowed (world store.now) (place (path store.now) caller.who) (move_by store.now caller words false pick (verdict_of moving.now)) }
+{
+    match pick {
+        None => is_moving_allowed(store, caller.who, moving),
         Some(_) => false,
     }
 }

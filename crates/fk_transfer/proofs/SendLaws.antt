@@ -1,5 +1,6 @@
 -- Sends: who is where, so that both ends can be advanced.
-use Rattle.std.proofs.Common.{◌≡◌, ℕ, ◌+◌, ◌<◌, ◌≤◌, ◌^◌, Bool, true, false, cond, List, [], ◌∷◌, Option, Some, None, option_map, IfSome, refl, sym, ap, subst, ◌∙◌, arith}
+use Rattle.std.proofs.Common.{◌≡◌, ℕ, ◌+◌, ◌<◌, ◌≤◌, ◌^◌, Bool, true, false, cond, List, [], ◌∷◌, Option, Some, None, option_map, IfSome, Ok, ◌==◌, refl, sym, ap, subst, ◌∙◌, arith}
+use Rattle.std.proofs.lemmas.Bool.Decides.{nat_tests}
 use Rattle.fk_model.specs.declared.stage.Stage.{Stage}
 use Rattle.fk_model.specs.declared.stage.Stage.TheVariants.{ClientReceive, ServerReceive}
 use Rattle.fk_model.specs.declared.thread.Turn.{Turn}
@@ -7,18 +8,22 @@ use Rattle.fk_model.specs.declared.thread.Turn.TheVariants as turns
 use Rattle.fk_model.specs.Objects.{Mode, Thread, Body, thread_of, and_then}
 use Rattle.fk_model.specs.Objects.Body.{Mutex, Cond, Mapping, Region, Port, Portset, Space, Thread_of, Reference}
 use Rattle.fk_model.specs.Objects.Mode.{Running, Calling, Halted, Native}
-use Rattle.fk_model.specs.Outcomes.{Caller, Outcome}
+use Rattle.fk_model.specs.Objects.Peer.{Server}
+use Rattle.fk_model.specs.Outcomes.{Caller, Outcome, path_of}
 use Rattle.fk_model.specs.Places.{Path, same_path}
 use Rattle.fk_model.specs.Places.Ptr.{At}
+use Rattle.fk_model.specs.Reach.{reach_word, words_at}
+use Rattle.fk_model.specs.Reach.Reach.{Home}
 use Rattle.fk_model.specs.Searches.{thread_at}
 use Rattle.fk_model.specs.Talks as talks
 use Rattle.fk_model.specs.Talks.{other_side, receive_on, receiving}
-use Rattle.fk_model.specs.TransferRows.{sends_into, sends_to_thread}
+use Rattle.fk_model.specs.TransferRows.{in_turn, send, sends_into, sends_to_thread}
 use Rattle.fk_model.specs.World.{World, Edit, apply, edited}
 use Rattle.fk_model.specs.World.Change.{Alter, PutPage}
 use Rattle.fk_model.specs.World.Edit.{CountMoved, Shift}
 use Rattle.fk_store.specs.Threads.{todo_of_mode, todo_of_thread, todo_at, is_free_at}
 use Rattle.fk_store.proofs.finding.Walks.{same_path_true}
+use Rattle.fk_plans.specs.declared.plan.Moving.{Moving}
 use Rattle.fk_threads.specs.Shifted.{address_of, IsLow}
 use Rattle.fk_transfer.specs.Lines.{sending, AreEnds, IsFirst, IsSender}
 
@@ -91,6 +96,20 @@ pub to_thread : (w : World) (c : Caller) (side : Turn) (client you : Path)
     o ≡ sends_into w c client you address count page receive → o ≡ sends_to_thread w c side client address count page (talks.thread_led_to w (At you))
 unfolding is_free_at
 to_thread w c side client you address count page t receive o there free is goes = let here = rw (← there) at free in rw (← there, here, ← is) goes
+
+-- the row of a Send where the sender's page is there and a thread is at the other end
+pub send_goes : (w : World) (c : Caller) (side : Turn) (address count page : ℕ) (l : talks.Line) (you s : Path) →
+    Ok l ≡ in_turn w (path_of c) side side → l.other ≡ Server (At you) → (count == 0) ≡ false → Home s page ≡ reach_word w c.space address false →
+    sends_to_thread w c side l.client address count (words_at w s page) (talks.thread_led_to w (At you)) ≡ send w c side address count
+unfolding send
+send_goes w c side address count page l you s line other some home = rw (← line, some, ← home, other) refl
+
+pub some_words : (count : ℕ) → (count ≡ 0 → ⊥) → (count == 0) ≡ false
+some_words count some = grind (arith, nat_tests, some)
+
+pub if_moving : {P Q : Moving → Type 0} → (o : Option Moving) → ((m : Moving) → P m → Q m) → IfSome o P → IfSome o Q
+if_moving None f h = tt
+if_moving (Some m) f h = f m h
 
 -- ---- what is left as it is before each is advanced
 

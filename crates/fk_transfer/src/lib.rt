@@ -12,4 +12,4 @@ mod sending;
 
 pub use passing::over;
 pub use receiving::receive;
-pub use sending::send;
+pub use sending::{moving, send};

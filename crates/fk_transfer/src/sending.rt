@@ -8,6 +8,7 @@ ghost use Rattle.fk_model.specs.Valid.{IsValid};
 ghost use Rattle.fk_store.specs.Bodies.{peer_by};
 ghost use Rattle.fk_store.specs.Paths.{path, place};
 ghost use Rattle.fk_store.specs.World.{world, IsLive};
+ghost use Rattle.fk_plans.specs.Movings.{verdict_of};
 ghost use Rattle.fk_plans.specs.Own.{IsPage};
 ghost use Rattle.fk_plans.specs.Plans.{caller_by};
 ghost use Rattle.fk_plans.specs.Verdicts.{outcome_by, IsSureVerdict, IsVerdict, Judges};
@@ -16,7 +17,7 @@ ghost use Rattle.fk_transfer.specs.Lines.{line_by, AreEnds, IsSender};
 use crate::lines::{Line, in_turn, other_side};
 use fk_model::status::FULL;
 use fk_model::{Peer, Turn, Who};
-use fk_plans::{Block, Caller, Deed, News, Plan, Verdict, Words, own_page};
+use fk_plans::{Block, Caller, Deed, Moving, News, Plan, Verdict, Words, own_page};
 use fk_store::{Reach, Store};
 use fk_threads::{Answers, receive_of};
 
@@ -61,19 +62,19 @@ fn sent(
     message: Message,
     receiver: Receiver,
     to: (u32, u8),
-) -> Verdict
+) -> Moving
     requires ends { AreEnds (world store.now) (place (path store.now) caller.who) (place (path store.now) receiver.thread) message.address receiver.into }
     requires address { message.address < 16384 }
     requires into { receiver.into < 16384 }
     requires from { IsPage store.now message.page }
     requires to { IsPage store.now to }
-    ensures outcome { (words : List ℕ) → outcome_by (world store.now) (path store.now) (caller_by (path store.now) caller words) result
+    ensures outcome { (words : List ℕ) → outcome_by (world store.now) (path store.now) (caller_by (path store.now) caller words) (verdict_of result)
         ≡ rows.sends_words (caller_by (path store.now) caller words) (place (path store.now) client) (place (path store.now) receiver.thread)
         (rows.moved_words message.address message.count receiver.into receiver.room) message.address message.count
         (words_at (world store.now) (path store.now message.page.0) message.page.1)
         receiver.into (path store.now to.0) to.1 (words_at (world store.now) (path store.now to.0) to.1) }
-    ensures fits { IsVerdict store.now caller result }
-    ensures sure { IsSureVerdict result }
+    ensures fits { IsVerdict store.now caller (verdict_of result) }
+    ensures sure { IsSureVerdict (verdict_of result) }
 {
     let count = moved(message.address, message.count, receiver.into, receiver.room);
     let block = Block {
@@ -83,16 +84,20 @@ fn sent(
         into: (receiver.into % 64) as u8,
         count,
     };
-    let plan = Plan::Moves {
+    let moving = Moving {
         block,
         client,
         receiver: receiver.thread,
         sender: caller.who,
+        last: false,
     };
     if u64::from(count) == message.count {
-        Verdict::Done(plan, Answers::Nothing)
+        Moving {
+            last: true,
+            ..moving
+        }
     } else {
-        Verdict::Goes(plan)
+        moving
     }
 }
 
@@ -129,7 +134,7 @@ fn sends_into(
             match store.reach_word(peer.space, into, true) {
                 Reach::Home { space, page } => {
                     let receiver = Receiver { thread, into, room };
-                    sent(store, caller, client, message, receiver, (space, page))
+                    sent(store, caller, client, message, receiver, (space, page)).verdict()
                 }
                 Reach::Missing { .. } | Reach::Bad => Verdict::Waits,
             }
@@ -268,5 +273,106 @@ pub fn send(
             Ok(sends_to(store, caller, side, line, message))
         }
         Err(verdict) => Ok(verdict),
+    }
+}
+
+/// The words that move where the other end receives on a page that is there, and has room.
+#[tactic(auto, using(fk_plans::proofs::Low::home_low))]
+fn moves_into(
+    store: &Store,
+    caller: Caller,
+    client: Who,
+    message: Message,
+    peer: Who,
+    receive: Option<(u64, u64)>,
+) -> Option<Moving>
+    requires ends { IfSome receive (λ r. AreEnds (world store.now) (place (path store.now) caller.who) (place (path store.now) peer) message.address r.0) }
+    requires address { message.address < 16384 }
+    requires from { IsPage store.now message.page }
+    ensures outcome { (words : List ℕ) → IfSome result (λ m. outcome_by (world store.now) (path store.now) (caller_by (path store.now) caller words) (verdict_of m)
+        ≡ rows.sends_into (world store.now) (caller_by (path store.now) caller words) (place (path store.now) client) (place (path store.now) peer)
+        message.address message.count (words_at (world store.now) (path store.now message.page.0) message.page.1) receive) }
+    ensures fits { IfSome result (λ m. IsVerdict store.now caller (verdict_of m)) }
+{
+    match receive {
+        None => None,
+        Some((into, room)) => {
+            if room == 0 {
+                return None;
+            }
+            match store.reach_word(peer.space, into, true) {
+                Reach::Home { space, page } => {
+                    let receiver = Receiver {
+                        thread: peer,
+                        into,
+                        room,
+                    };
+                    Some(sent(store, caller, client, message, receiver, (space, page)))
+                }
+                Reach::Missing { .. } | Reach::Bad => None,
+            }
+        }
+    }
+}
+
+/// The same where the other end is free.
+#[tactic(auto, unfolding(fk_store::specs::Threads::is_free_at))]
+fn moves_to_thread(
+    store: &Store,
+    caller: Caller,
+    side: Turn,
+    client: Who,
+    message: Message,
+    peer: Who,
+) -> Option<Moving>
+    requires calling { IsSender (world store.now) (place (path store.now) caller.who) side message.address message.count }
+    requires address { message.address < 16384 }
+    requires from { IsPage store.now message.page }
+    ensures outcome { (words : List ℕ) → IfSome result (λ m. outcome_by (world store.now) (path store.now) (caller_by (path store.now) caller words) (verdict_of m)
+        ≡ rows.sends_to_thread (world store.now) (caller_by (path store.now) caller words) side (place (path store.now) client)
+        message.address message.count (words_at (world store.now) (path store.now message.page.0) message.page.1)
+        (talks.thread_led_to (world store.now) (At (place (path store.now) peer)))) }
+    ensures fits { IfSome result (λ m. IsVerdict store.now caller (verdict_of m)) }
+{
+    let Some(thread) = store.thread(peer) else {
+        return None;
+    };
+    if !store.is_free(peer) {
+        return None;
+    }
+    let receive = receive_of(thread, other_side(side));
+    moves_into(store, caller, client, message, peer, receive)
+}
+
+/// What a Send comes to where its words go to a thread that receives them. It is most Sends, and needs
+/// no verdict, which is large.
+#[tactic(auto, using(fk_plans::proofs::Low::home_low))]
+pub fn moving(store: &Store, caller: Caller, side: Turn, address: u64, count: u64) -> Option<Moving>
+    requires user { caller.is_porter ≡ false }
+    requires valid { IsValid (world store.now) }
+    requires calling { IsSender (world store.now) (place (path store.now) caller.who) side address count }
+    ensures outcome { (words : List ℕ) → IfSome result (λ m. outcome_by (world store.now) (path store.now) (caller_by (path store.now) caller words) (verdict_of m)
+        ≡ rows.send (world store.now) (caller_by (path store.now) caller words) side address count) }
+    ensures fits { IfSome result (λ m. IsVerdict store.now caller (verdict_of m)) }
+{
+    if count == 0 {
+        return None;
+    }
+    let Ok(line) = in_turn(store, caller.who, side, side) else {
+        return None;
+    };
+    let Peer::Thread(peer) = line.other else {
+        return None;
+    };
+    match store.reach_word(caller.who.space, address, false) {
+        Reach::Home { space, page } => {
+            let message = Message {
+                address,
+                count,
+                page: (space, page),
+            };
+            moves_to_thread(store, caller, side, line.client, message, peer)
+        }
+        Reach::Missing { .. } | Reach::Bad => None,
     }
 }

@@ -1,0 +1,31 @@
+use Rattle.std.proofs.Common.{false, refl, ◌∙◌}
+use Rattle.fk_plans.proofs.Moved.{fits_plan}
+use Rattle.fk_plans.specs.Movings.{plan_of, verdict_of}
+use Rattle.fk_calls.specs.declared.judging.Judgement.{Judgement}
+use Rattle.fk_calls.specs.Judgements.{words_of}
+use Rattle.fk_calls.proofs.Judged.{user, free_there, ready_judged, step_judged}
+use Rattle.fk_calls.proofs.moves.attempt_moving.Goals as goal
+
+pub is_moving_ready-requires-clause-free : goal.is_moving_ready-requires-clause-free
+is_moving_ready-requires-clause-free c = c.requires.judged.free
+
+pub move_words-requires-clause-live : goal.move_words-requires-clause-live
+move_words-requires-clause-live c = free_there _ _ (c.requires.judged.free refl)
+
+pub move_words-requires-clause-fits : goal.move_words-requires-clause-fits
+move_words-requires-clause-fits c =
+    fits_plan c.args.store.now (user c.args.m.now.who) c.args.moving.now.last (plan_of c.args.moving.now) c.requires.judged.fits
+
+pub returns-clause-made : goal.returns-clause-made
+returns-clause-made c =
+    let judged = c.requires.judged in
+    let j : Judgement = record { caller = user c.args.m.now.who; chooses = false; verdict = verdict_of c.args.moving.now } in
+    let ready = (ready_judged c.args.store.now c.args.m.now c.args.ask.now j _ judged (c.is_moving_ready.ensures (words_of c.args.ask.now))).0 (cc) in
+    (ready, step_judged c.args.store.now c.args.m.now c.args.ask.now j judged ready ∙ c.move_words.ensures.step (words_of c.args.ask.now))
+
+pub returns-then-not-is_moving_ready-clause-unready : goal.returns-then-not-is_moving_ready-clause-unready
+returns-then-not-is_moving_ready-clause-unready c =
+    let judged = c.requires.judged in
+    let j : Judgement = record { caller = user c.args.m.now.who; chooses = false; verdict = verdict_of c.args.moving.now } in
+    let ready = (ready_judged c.args.store.now c.args.m.now c.args.ask.now j _ judged (c.is_moving_ready.ensures (words_of c.args.ask.now))).1 in
+    ((λ r. let yes = ready r in absurd (cc)), refl)

@@ -1,0 +1,15 @@
+use Rattle.std.proofs.Common.{ap, ◌∙◌}
+use Rattle.fk_store.specs.Bodies.{peer_by}
+use Rattle.fk_store.specs.Paths.{path, place}
+use Rattle.fk_store.specs.World.{world}
+use Rattle.fk_plans.specs.Plans.{caller_by}
+use Rattle.fk_transfer.specs.Lines.{line_by}
+use Rattle.fk_transfer.proofs.SendLaws.{if_moving, send_goes, some_words}
+use Rattle.fk_transfer.proofs.sending.moving.Goals as goal
+
+pub returns-in-Home-clause-outcome : goal.returns-in-Home-clause-outcome
+returns-in-Home-clause-outcome c words =
+    let p = path c.args.store.now in
+    if_moving c.moves_to_thread.result (λ m goes. goes ∙ send_goes (world c.args.store.now) (caller_by p c.args.caller words) c.args.side c.args.address
+    c.args.count c.in-Home.page (line_by p c.in-Ok.line) (place p c.in-Thread.peer) (p c.in-Home.space) c.in-Ok.ensures.line
+    (ap (peer_by p) c.in-Thread.is) (some_words c.args.count c.if-count-eq0.false) c.in-Home.ensures.reach) (c.moves_to_thread.ensures.outcome words)
