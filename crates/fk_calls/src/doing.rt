@@ -1,12 +1,16 @@
 //! What a thread does next.
-ghost use Rattle.std.specs.Prelude.{◌≡◌, [], true};
+ghost use Rattle.std.specs.Prelude.{◌≡◌, ℕ, [], Some, true};
 ghost use Rattle.fk_model.specs.Calls.{todo_of};
+ghost use Rattle.fk_model.specs.Places.{Path};
+ghost use Rattle.fk_model.specs.Searches.{thread_at};
+ghost use Rattle.fk_model.specs.World.{World};
+ghost use Rattle.fk_store.specs.Bodies.{thread_by};
 ghost use Rattle.fk_store.specs.Paths.{path, place};
 ghost use Rattle.fk_store.specs.Threads.{todo_at};
 ghost use Rattle.fk_store.specs.World.{world, IsSpace};
 ghost use Rattle.fk_calls.specs.Doings.{IsDoing, is_free_porter_at, first_of};
 
-use fk_model::{Mode, Stage, Todo, Who};
+use fk_model::{Mode, Stage, Thread, Todo, Who};
 use fk_stages::todo;
 use fk_store::Store;
 
@@ -25,10 +29,16 @@ pub enum Doing {
 pub fn doing_of(store: &Store, who: Who) -> Doing
     ensures { IsDoing (world store.now) (place (path store.now) who) result }
 {
-    let thread = match store.thread(who) {
-        Some(thread) => thread,
-        None => return Doing::Nothing,
-    };
+    match store.thread(who) {
+        Some(thread) => next_of(thread),
+        None => Doing::Nothing,
+    }
+}
+
+/// What a thread does next.
+pub fn next_of(thread: &Thread) -> Doing
+    ensures { (w : World) (x : Path) (p : ℕ → Path) → Some (thread_by p thread.now) ≡ thread_at w x → IsDoing w x result }
+{
     match thread.mode {
         Mode::Running => Doing::Instruction,
         Mode::Calling => match first_stage(&thread.regs) {

@@ -1,20 +1,22 @@
 //! What a move comes to.
-ghost use Rattle.std.specs.Prelude.{◌≡◌, true, false, IfSome, IfNone};
+ghost use Rattle.std.specs.Prelude.{◌≡◌, ℕ, List, true, false, Some, IsSome, IfSome, IfNone};
 ghost use Rattle.fk_model.specs.declared.moves.Ask.TheVariants as asks;
+ghost use Rattle.fk_model.specs.Holds as holds;
 ghost use Rattle.fk_model.specs.Outcomes.Outcome.{Waits};
 ghost use Rattle.fk_model.specs.Valid.{IsValid};
 ghost use Rattle.fk_model.specs.Searches.{thread_at};
 ghost use Rattle.fk_plans.specs.Effects.{is_running};
+ghost use Rattle.fk_store.specs.Bodies.{mode_by, thread_by};
 ghost use Rattle.fk_store.specs.Paths.{path, place};
 ghost use Rattle.fk_store.specs.Threads.{is_free_at};
-ghost use Rattle.fk_store.specs.World.{world};
+ghost use Rattle.fk_store.specs.World.{world, IsSpace};
 ghost use Rattle.fk_calls.specs.Doings.{IsAtStage};
 ghost use Rattle.fk_calls.specs.Judgements.{IsJudged, IsMoving, IsReadyMove, outcome_of, words_of};
 ghost use Rattle.fk_calls.specs.Rows.{are_given, are_given_for};
 
-use crate::doing::{Doing, doing_of, is_free_porter};
+use crate::doing::{Doing, doing_of, is_free_porter, next_of};
 use crate::rows;
-use fk_model::{Ask, Mode, Move, Stage, Turn, Who};
+use fk_model::{Ask, Mode, Move, Stage, Thread, Turn, Who};
 use fk_plans::{Caller, Moving, Verdict};
 use fk_store::Store;
 use fk_transfer::moving;
@@ -51,27 +53,79 @@ pub fn given(ask: &Ask) -> &[u64]
     }
 }
 
-/// A move is the instruction of a free user that runs.
+/// The free user that runs whose instruction a move is.
 #[inline(always)]
-pub fn runs(store: &Store, who: Who, ask: &Ask) -> bool
-    ensures run { result ≡ true → ask.now ≡ asks.Run }
-    ensures free { result ≡ true → is_free_at (world store.now) (place (path store.now) who) ≡ true }
-    ensures running { result ≡ true → is_running (thread_at (world store.now) (place (path store.now) who)) ≡ true }
+pub fn running<'a>(store: &'a Store, who: Who, ask: &Ask) -> Option<&'a Thread>
+    ensures run { IsSome result → ask.now ≡ asks.Run }
+    ensures free { IsSome result → is_free_at (world store.now) (place (path store.now) who) ≡ true }
+    ensures running { IsSome result → is_running (thread_at (world store.now) (place (path store.now) who)) ≡ true }
+    ensures there { IfSome result (λ thread. Some (thread_by (path store.now) thread.now) ≡ thread_at (world store.now) (place (path store.now) who)) }
 {
     match ask {
-        Ask::Run => store.is_free(who) && is_running(store, who),
-        Ask::Call { .. } | Ask::Accept | Ask::Give { .. } | Ask::Over => false,
+        Ask::Run => match free_user(store, who) {
+            Some(thread) => match thread.mode {
+                Mode::Running => Some(thread),
+                Mode::Calling | Mode::Halted(_) | Mode::Native => None,
+            },
+            None => None,
+        },
+        Ask::Call { .. } | Ask::Accept | Ask::Give { .. } | Ask::Over => None,
     }
 }
 
-/// A thread that runs is in a slot.
+/// The free user in a slot.
+#[tactic(auto, unfolding(fk_store::specs::Threads::is_free_at))]
 #[inline(always)]
-fn is_running(store: &Store, who: Who) -> bool
-    ensures { result ≡ is_running (thread_at (world store.now) (place (path store.now) who)) }
+fn free_user<'a>(store: &'a Store, who: Who) -> Option<&'a Thread>
+    ensures free { IsSome result → is_free_at (world store.now) (place (path store.now) who) ≡ true }
+    ensures held { IfNone result (is_free_at (world store.now) (place (path store.now) who) ≡ false) }
+    ensures space { IsSome result → IsSpace store.now who.space }
+    ensures there { IfSome result (λ thread. Some (thread_by (path store.now) thread.now) ≡ thread_at (world store.now) (place (path store.now) who)) }
 {
     match store.thread(who) {
-        Some(thread) => matches!(thread.mode, Mode::Running),
-        None => false,
+        Some(thread) => {
+            if is_free(store, who, thread) {
+                Some(thread)
+            } else {
+                None
+            }
+        }
+        None => None,
+    }
+}
+
+/// The thread in a slot is a free user.
+#[tactic(auto, unfolding(fk_store::specs::Threads::is_free_at))]
+#[inline(always)]
+fn is_free(store: &Store, who: Who, thread: &Thread) -> bool
+    requires there { Some (thread_by (path store.now) thread.now) ≡ thread_at (world store.now) (place (path store.now) who) }
+    ensures { result ≡ is_free_at (world store.now) (place (path store.now) who) }
+{
+    !is_held(store, who.space)
+        && thread.stops == 0
+        && thread.fault.is_none()
+        && is_user(thread.mode)
+}
+
+/// A space is held, or one above it. Mostly nothing is held at all.
+#[inline(always)]
+fn is_held(store: &Store, space: u32) -> bool
+    ensures { result ≡ holds.is_frozen (world store.now) (path store.now space) }
+{
+    if !store.is_any_held() {
+        return false;
+    }
+    store.is_frozen(space)
+}
+
+/// It runs or calls.
+#[inline(always)]
+fn is_user(mode: Mode) -> bool
+    ensures { (registers : List ℕ) → result ≡ holds.is_user (mode_by mode registers) }
+{
+    match mode {
+        Mode::Running | Mode::Calling => true,
+        Mode::Halted(_) | Mode::Native => false,
     }
 }
 
@@ -128,18 +182,19 @@ fn judge_user(store: &Store, m: &Move) -> Option<Judgement>
     ensures judged { IfSome result (λ judgement. IsJudged store.now m.now asks.Run judgement) }
     ensures never { IfNone result (outcome_of store.now m.now asks.Run ≡ Waits) }
 {
-    if !store.is_free(m.who) {
-        return None;
-    }
+    let thread = match free_user(store, m.who) {
+        Some(thread) => thread,
+        None => return None,
+    };
     let caller = Caller {
         who: m.who,
         is_porter: false,
     };
-    match doing_of(store, m.who) {
+    match next_of(thread) {
         Doing::Instruction => Some(Judgement {
             caller,
             chooses: false,
-            verdict: fk_user::judge(store, caller),
+            verdict: fk_user::judge(store, caller, thread),
         }),
         Doing::Stage(stage) => Some(Judgement {
             caller,

@@ -7,7 +7,7 @@ ghost use Rattle.fk_calls.specs.Judgements.{is_fit_move, IsMoving, IsReadyMove, 
 ghost use Rattle.fk_calls.specs.Rows as stages;
 ghost use Rattle.fk_calls.specs.Rows.{are_given_for};
 
-use crate::judging::{given, judge, moving_of, runs};
+use crate::judging::{given, judge, moving_of, running};
 use crate::rows::restores;
 use fk_model::{Ask, Move, NoMemory, Said, Stage};
 use fk_plans::{
@@ -70,12 +70,12 @@ pub fn attempt(store: &mut Store, m: &Move, ask: &Ask) -> Result<Option<Said>, N
     ensures sure { may_lack store.old m.now ask.now ≡ false → IsOk result }
 {
     // Most moves are instructions. They need no judgement, which is large.
-    if runs(store, m.who, ask) {
+    if let Some(thread) = running(store, m.who, ask) {
         let caller = Caller {
             who: m.who,
             is_porter: false,
         };
-        if let Instruction::Runs(effect) = fk_user::instruction(store, caller) {
+        if let Instruction::Runs(effect) = fk_user::instruction(store, caller, thread) {
             return Ok(attempt_effect(store, m, ask, effect));
         }
     }

@@ -5,8 +5,9 @@
 //! asks for, also of a thread that has no kernel.
 #![tactic(auto)]
 
-ghost use Rattle.std.specs.Prelude.{◌≡◌, ℕ, List, true, false};
+ghost use Rattle.std.specs.Prelude.{◌≡◌, ℕ, List, Some, true, false};
 ghost use Rattle.fk_model.specs.Calls.{todo_of};
+ghost use Rattle.fk_store.specs.Bodies.{thread_by};
 ghost use Rattle.fk_store.specs.Paths.{path, place};
 ghost use Rattle.fk_store.specs.World.{world};
 ghost use Rattle.fk_plans.specs.Effects.{is_running};
@@ -20,15 +21,16 @@ mod effect;
 
 use effect::effect_of;
 pub use effect::{Instruction, asked};
-use fk_model::Mode;
+use fk_model::{Mode, Thread};
 use fk_plans::{Caller, Verdict};
 use fk_store::Store;
 
-/// What the instruction of a running thread comes to.
+/// What the instruction of a running thread comes to. It is the thread of the caller's name.
 #[tactic(auto, unfolding(crate::specs::Running::run_at))]
 #[inline(always)]
-pub fn instruction(store: &Store, caller: Caller) -> Instruction
+pub fn instruction(store: &Store, caller: Caller, thread: &Thread) -> Instruction
     requires user { caller.is_porter ≡ false }
+    requires there { Some (thread_by (path store.now) thread.now) ≡ thread_at (world store.now) (place (path store.now) caller.who) }
     requires running { is_running (thread_at (world store.now) (place (path store.now) caller.who)) ≡ true }
     ensures row { (words : List ℕ) → outcome_by (world store.now)
         (path store.now) (caller_by (path store.now) caller words) (verdict_of result) ≡ run_at todo_of (world store.now) (place (path store.now) caller.who) }
@@ -36,18 +38,16 @@ pub fn instruction(store: &Store, caller: Caller) -> Instruction
     ensures instruction { IsInstruction store.now (verdict_of result) }
     ensures sure { IsSureVerdict (verdict_of result) }
 {
-    match store.thread(caller.who) {
-        Some(thread) => match thread.mode {
-            Mode::Running => effect_of(store, caller.who, thread),
-            _ => unreachable!(),
-        },
-        None => unreachable!(),
+    match thread.mode {
+        Mode::Running => effect_of(store, caller.who, thread),
+        _ => unreachable!(),
     }
 }
 
 /// The same as a verdict on the thread's stage.
-pub fn judge(store: &Store, caller: Caller) -> Verdict
+pub fn judge(store: &Store, caller: Caller, thread: &Thread) -> Verdict
     requires user { caller.is_porter ≡ false }
+    requires there { Some (thread_by (path store.now) thread.now) ≡ thread_at (world store.now) (place (path store.now) caller.who) }
     requires running { is_running (thread_at (world store.now) (place (path store.now) caller.who)) ≡ true }
     ensures row { (words : List ℕ) → outcome_by (world store.now)
         (path store.now) (caller_by (path store.now) caller words) result ≡ run_at todo_of (world store.now) (place (path store.now) caller.who) }
@@ -55,5 +55,5 @@ pub fn judge(store: &Store, caller: Caller) -> Verdict
     ensures instruction { IsInstruction store.now result }
     ensures sure { IsSureVerdict result }
 {
-    instruction(store, caller).verdict()
+    instruction(store, caller, thread).verdict()
 }
