@@ -1,61 +1,61 @@
 -- PorterScans: which objects are yet to come in a search for a space that a porter holds.
-use Rattle.std.proofs.Common.{◌≡◌, ℕ, ◌+◌, ◌-◌, ◌*◌, Bool, true, false, IsTrue, IsSome, List, [], ◌∷◌, ◌++◌, Option, Some, None, refl, sym, ap, subst, ◌∙◌}
+use Rattle.std.proofs.Common.{◌≡◌, ℕ, ◌+◌, ◌<◌, ◌==◌, arith, Bool, true, false, IsSome, List, [], ◌∷◌, Option, Some, None, refl, sym, ap, subst, ◌∙◌}
 use Rattle.std.specs.List.{list_any}
 use Rattle.std.proofs.lemmas.Bool.{and_parts}
-use Rattle.std.specs.Ordering.{is_le}
+use Rattle.std.proofs.lemmas.Bool.Decides.{nat_tests}
 use Rattle.fk_model.specs.declared.names.Who.{Who}
 use Rattle.fk_model.specs.Places.{Path, same_path}
 use Rattle.fk_model.specs.Searches.{beneath}
 use Rattle.fk_model.specs.SpaceRows.{has_porter}
 use Rattle.fk_model.specs.Holds.{holder_of, decider}
-use Rattle.fk_model.specs.Objects.{or_else}
-use Rattle.fk_model.specs.Valid.{kind_there}
+use Rattle.fk_model.specs.Objects.{holds, or_else}
 use Rattle.fk_model.specs.World.{World}
 use Rattle.fk_model.proofs.walks.Members.{any_in, of_any}
 use Rattle.fk_model.proofs.walks.PlaceLaws.{same_path_refl}
-use Rattle.fk_model.proofs.walks.WalkLaws.{live-kind}
 use Rattle.fk_store.specs.Contents.{Contents}
-use Rattle.fk_store.specs.Names.{who_cmp, rank}
-use Rattle.fk_store.specs.World.{world, place_of, IsLive}
-use Rattle.fk_readers.proofs.Beneath.{of_beneath, met_any}
-use Rattle.fk_spaces.specs.Sought.{is_sought}
-
--- each space that is sought comes at this one or after it
-abbrev pub IsFrom : Contents → Path → Option Who → Type 0
-IsFrom m s None = (other : Who) → IsLive m other → is_sought m s other ≡ true → ⊥
-IsFrom m s (Some who) = (other : Who) → IsLive m other → is_sought m s other ≡ true → IsTrue (is_le (who_cmp who other))
-
--- how many names are left to look at
-abbrev pub left_from : Contents → Option Who → ℕ
-left_from m None = 0
-left_from m (Some who) = 1 + ((world m).next * 256 - rank (Some who))
+use Rattle.fk_store.specs.Paths.{path}
+use Rattle.fk_store.specs.World.{world, place_of, IsSpace}
+use Rattle.fk_readers.proofs.Beneath.{met_any}
+use Rattle.fk_spaces.specs.Sought.{is_sought, is_sought_at}
 
 pub is_there : (m : Contents) (s : Path) (who : Who) → is_sought m s who ≡ true → true ≡ list_any (has_porter (world m)) (beneath (world m) s)
 is_there m s who sought =
     let both = and_parts (has_porter (world m) (place_of m who)) (list_any (same_path (place_of m who)) (beneath (world m) s)) sought in
     sym (any_in (has_porter (world m)) (place_of m who) (beneath (world m) s) (met_any s (place_of m who) (beneath (world m) s) both.1) both.0)
 
--- what is met is an object with a name
+-- no space with a lower birth number is sought
+abbrev pub NoneBelow : Contents → Path → ℕ → Type 0
+NoneBelow m s most = (n : ℕ) → n < most → 0 < n → IsSpace m n → is_sought_at m s (path m n) ≡ false
+
+pub none_so_far : (m : Contents) (s : Path) (at : ℕ) → NoneBelow m s at →
+    (0 < at → IsSpace m at → is_sought_at m s (path m at) ≡ false) → NoneBelow m s (at + 1)
+none_so_far m s at so_far here n low = by (n == at) refl
+  where
+    by : (b : Bool) → (n == at) ≡ b → 0 < n → IsSpace m n → is_sought_at m s (path m n) ≡ false
+    by true e pos live =
+        let same : n ≡ at = grind (arith, nat_tests) in
+        subst (λ k. is_sought_at m s (path m k) ≡ false) (sym same) (here (subst (λ k. 0 < k) same pos) (subst (IsSpace m) same live))
+    by false e pos live = so_far n (grind (arith, nat_tests)) pos live
+
+holds_some : {A : Type 0} (p : A → Bool) (o : Option A) → holds p o ≡ true → IsSome o
+holds_some p None h = absurd (cc)
+holds_some p (Some a) h = refl
+
+-- one that is sought has a birth number
 pub is_nowhere : (m : Contents) (s : Path) →
-    ((k : ℕ) (x : Path) → IsSome (kind_there (world m) (k ∷ x)) → (other : Who) × (place_of m other ≡ k ∷ x)) →
-    IsFrom m s None → false ≡ list_any (has_porter (world m)) (beneath (world m) s)
-is_nowhere m s named none = by (list_any (has_porter (world m)) (beneath (world m) s)) refl
+    ((x : Path) → IsSome (holder_of ((world m).body x)) → (n : ℕ) × (n < (world m).next) × (0 < n) × IsSpace m n × (path m n ≡ x)) →
+    NoneBelow m s (world m).next → false ≡ list_any (has_porter (world m)) (beneath (world m) s)
+is_nowhere m s born none = by (list_any (has_porter (world m)) (beneath (world m) s)) refl
   where
     by : (b : Bool) → list_any (has_porter (world m)) (beneath (world m) s) ≡ b → false ≡ b
     by false e = refl
     by true e =
         let found = of_any (has_porter (world m)) (beneath (world m) s) e in
-        let under = of_beneath (world m) s found.0 found.1 in
-        let k = under.0.0 in
-        let x = under.0.1 ++ s in
-        let here : found.0 ≡ k ∷ x = under.0.2 in
-        let live : IsSome (kind_there (world m) (k ∷ x)) = live-kind (world m) (k ∷ x) ∙ subst (λ y. IsSome ((world m).body y)) here under.1 in
-        let other = named k x live in
-        let same : found.0 ≡ place_of m other.0 = here ∙ sym other.1 in
+        let n = born found.0 (holds_some _ (holder_of ((world m).body found.0)) found.2) in
         let met = any_in (same_path found.0) found.0 (beneath (world m) s) found.1 (same_path_refl found.0) in
-        let porter = subst (λ y. has_porter (world m) y ≡ true) same found.2 in
-        let listed = subst (λ y. list_any (same_path y) (beneath (world m) s) ≡ true) same met in
-        absurd (none other.0 (subst (λ y. IsSome (kind_there (world m) y)) (sym other.1) live) (rw (porter, listed) refl))
+        let sought : is_sought_at m s found.0 ≡ true = rw (found.2, met) refl in
+        let off = subst (λ x. is_sought_at m s x ≡ false) n.4 (none n.0 n.1 n.2 n.3) in
+        absurd (cc)
 
 -- ---- where nothing is held
 

@@ -9,9 +9,13 @@ use Rattle.fk_model.specs.World.{World}
 use Rattle.fk_store.specs.Contents.{Contents}
 use Rattle.fk_store.specs.World.{world, place_of}
 
--- an object is one, beneath the space at s
+-- what stands at x is one, beneath the space at s
+abbrev pub is_sought_at : Contents → Path → Path → Bool
+is_sought_at m s x = has_porter (world m) x && list_any (same_path x) (beneath (world m) s)
+
+-- an object is one
 abbrev pub is_sought : Contents → Path → Who → Bool
-is_sought m s who = has_porter (world m) (place_of m who) && list_any (same_path (place_of m who)) (beneath (world m) s)
+is_sought m s who = is_sought_at m s (place_of m who)
 
 -- nobody else holds the space at x, and no porter a space beneath it
 abbrev pub may_hold : World → Path → Path → Bool

@@ -1,5 +1,5 @@
 //! Spaces beneath others that porters hold.
-ghost use Rattle.std.specs.Prelude.{◌≡◌, IsTrue};
+ghost use Rattle.std.specs.Prelude.{◌≡◌, ◌<◌, IsTrue, true, false};
 ghost use Rattle.std.specs.List.{list_any};
 ghost use Rattle.fk_model.specs.Holds.{is_porter};
 ghost use Rattle.fk_model.specs.Objects.{Thread, holds};
@@ -10,7 +10,7 @@ ghost use Rattle.fk_model.specs.SpaceRows as rows;
 ghost use Rattle.fk_model.specs.Talks.{thread_led_to};
 ghost use Rattle.fk_store.specs.Paths.{path, place};
 ghost use Rattle.fk_store.specs.World.{world, IsLive, IsSpace};
-ghost use Rattle.fk_spaces.specs.Sought.{is_sought};
+ghost use Rattle.fk_spaces.specs.Sought.{is_sought, is_sought_at};
 
 use fk_model::{Body, Mode, Who};
 use fk_plans::is_beneath;
@@ -43,14 +43,26 @@ fn has_porter(store: &Store, who: Who) -> bool
 }
 
 /// An object is a space beneath another one that a porter holds.
-fn is_held_beneath(store: &Store, who: Who, outer: u32) -> bool
+fn is_held_there(store: &Store, who: Who, outer: u32) -> bool
     requires space { IsSpace store.now outer }
     ensures { result ≡ is_sought store.now (path store.now outer) who }
 {
     has_porter(store, who) && is_beneath(store, who, outer)
 }
 
-/// A porter holds a space beneath another one.
+/// The space with this birth number lies beneath another one, and a porter holds it.
+fn is_held_beneath(store: &Store, space: u32, outer: u32) -> bool
+    requires outer { IsSpace store.now outer }
+    ensures some { result ≡ true → true ≡ list_any (rows.has_porter (world store.now)) (beneath (world store.now) (path store.now outer)) }
+    ensures none { result ≡ false → 0 < space → IsSpace store.now space → is_sought_at store.now (path store.now outer) (path store.now space) ≡ false }
+{
+    match store.home(space) {
+        None => false,
+        Some(who) => is_held_there(store, who, outer),
+    }
+}
+
+/// A porter holds a space beneath another one. It looks at spaces alone, by their birth numbers.
 pub fn has_porter_beneath(store: &Store, outer: u32) -> bool
     requires space { IsSpace store.now outer }
     ensures { result ≡ list_any (rows.has_porter (world store.now)) (beneath (world store.now) (path store.now outer)) }
@@ -58,12 +70,11 @@ pub fn has_porter_beneath(store: &Store, outer: u32) -> bool
     if !store.is_any_held() {
         return false;
     }
-    let mut at = store.after(None);
-    while let Some(who) = at {
-        if is_held_beneath(store, who, outer) {
+    store.held_births();
+    for space in 0..store.next_birth() {
+        if is_held_beneath(store, space, outer) {
             return true;
         }
-        at = store.after(Some(who));
     }
     false
 }

@@ -18,3 +18,4 @@ pub mod Counting
 pub mod Within
 pub mod Outside
 pub mod Lefts
+pub mod HeldBirths

@@ -300,7 +300,8 @@ module _ (rows : Cells) (r : Rows) (ringed : AreRinged rows r) (who : Who) (whos
       let found = of_all who (entries m) n h in
       let e = found.0 in
       let at_e = of_nodes who e (short e found.1) n found.2 in
-      are.all n at_e.1 (ap (λ (w : Who). and_then (target (n % 5)) (cell rows w.space w.slot)) at_e.0 ∙ ap (and_then (target (n % 5))) (there e found.1) ∙ at_e.2)
+      are.all n at_e.1
+      (ap (λ (w : Who). and_then (target (n % 5)) (cell rows w.space w.slot)) at_e.0 ∙ ap (and_then (target (n % 5))) (there e found.1) ∙ at_e.2)
 
   -- it comes to as many that pass a test as they have pointers that lead there
   pub leaders-sum : (test : Who → Bool) → sum_by (λ q. cond {A = ℕ} (test q) 1 0) whos ≡ sum_by (λ e. cond (test e.0) (body_hits who e.1) 0) (entries m)

@@ -1,5 +1,5 @@
 //! Who holds a space, and who decides over what is held.
-ghost use Rattle.std.specs.Prelude.{◌≡◌, Some, IfSome, false, option_map, nat_eq, ◌&&◌};
+ghost use Rattle.std.specs.Prelude.{◌≡◌, ◌<◌, ℕ, Some, IsSome, IfSome, false, option_map, nat_eq, ◌&&◌};
 ghost use Rattle.fk_model.specs.Places.{Path};
 ghost use Rattle.fk_model.specs.Places.Ptr.{At};
 ghost use Rattle.fk_model.specs.Holds as holds;
@@ -9,7 +9,7 @@ ghost use Rattle.fk_model.specs.World.Edit.{SetHolder};
 ghost use Rattle.fk_model.specs.Valid.{kind_there};
 ghost use Rattle.fk_store.specs.Paths.{path, place, HasOwnPath};
 ghost use Rattle.fk_store.specs.Named.{Each};
-ghost use Rattle.fk_store.specs.World.{world, place_of, IsLive};
+ghost use Rattle.fk_store.specs.World.{world, place_of, IsLive, IsSpace};
 
 use crate::Store;
 use crate::edits::with_holder;
@@ -59,6 +59,14 @@ impl Store {
         ensures { result ≡ false → (x : Path) → holds.decider (world self.now) x ≡ None }
     {
         self.bodies.is_any_held()
+    }
+
+    /// A space that is held has a birth number, by which its place is known.
+    pub fn held_births(&self)
+        ensures { (x : Path) → IsSome (holds.holder_of ((world self.now).body x))
+            → (n : ℕ) × (n < (world self.now).next) × (0 < n) × IsSpace self.now n × (path self.now n ≡ x) }
+    {
+        let _below_2_32 = self.next;
     }
 
     /// A space is held, or one above it.
