@@ -5,6 +5,9 @@ use Rattle.fk_model.specs.declared.moves.Ask.TheVariants as asks
 use Rattle.fk_model.specs.declared.moves.Move.{Move}
 use Rattle.fk_model.specs.declared.names.Who.{Who}
 use Rattle.fk_model.specs.declared.stage.Stage.{Stage}
+use Rattle.fk_model.specs.declared.thread.Mode as modes_of
+use Rattle.fk_model.specs.declared.thread.Mode.TheVariants as modes
+use Rattle.fk_model.specs.declared.thread.Thread as threads_of
 use Rattle.fk_model.specs.Calls.{todo_of}
 use Rattle.fk_model.specs.Holds.{is_free, is_porter, is_unheld}
 use Rattle.fk_model.specs.LinkRows.{user_at}
@@ -28,6 +31,7 @@ use Rattle.fk_plans.proofs.Moved.{sure_moving}
 use Rattle.fk_plans.specs.Effects.{effect_by, in_running, of_running, is_running, is_running_mode}
 use Rattle.fk_plans.specs.Plans.{caller_by}
 use Rattle.fk_plans.specs.Verdicts.{outcome_by, IsVerdict, IsSureVerdict, move_by}
+use Rattle.fk_store.specs.Bodies.{mode_by, thread_by}
 use Rattle.fk_store.specs.Contents.{Contents}
 use Rattle.fk_store.specs.Moves.{picked_by}
 use Rattle.fk_store.specs.Paths.{path, place}
@@ -264,6 +268,19 @@ run_judged m move ask e is ready =
     let x = place (path m) move.who in
     step_judged m move ask (record { caller = user move.who; chooses = false; verdict = verdicts.Runs e }) is ready
     ∙ ap (stepped w) (unrefused w (path m) (caller_by (path m) (user move.who) (words_of ask)) e (thread_at w x))
+
+-- on the registers of the thread at hand, at its counter
+pub running_there : (w : World) (p : ℕ → Path) (x : Path) (e : Effect) (t : threads_of.Thread) →
+    Some (thread_by p t) ≡ thread_at w x → is_running (thread_at w x) ≡ true →
+    of_running (effect_by w p x e) (thread_at w x) ≡ effect_by w p x e t.regs t.pc
+running_there w p x e t there running = rw (← there) (in_mode t.mode (rw (← there) at running))
+  where
+    in_mode : (mode : modes_of.Mode) → is_running_mode (mode_by mode t.regs) ≡ true →
+        in_running (effect_by w p x e) t.pc (mode_by mode t.regs) ≡ effect_by w p x e t.regs t.pc
+    in_mode modes.Running running = refl
+    in_mode modes.Calling running = absurd (cc)
+    in_mode (modes.Halted code) running = absurd (cc)
+    in_mode modes.Native running = absurd (cc)
 
 pub ready_judged : (m : Contents) (move : Move) (ask : Ask) (j : Judgement) (b : Bool) →
     IsJudged m move ask j → (IsTrue b ↔ GoesAllowed (world m) (place (path m) j.caller.who) (move_by m j.caller (words_of ask) j.chooses move.pick j.verdict)) →

@@ -2,6 +2,9 @@
 ghost use Rattle.std.specs.Prelude.{◌≡◌, ◌↔◌, ℕ, List, true, false, IsTrue, IsOk, IfOk, IfSome, IfNone, OnErr};
 ghost use Rattle.fk_model.specs.declared.moves.Ask.TheVariants as asks;
 ghost use Rattle.fk_model.specs.Valid.{IsValid};
+ghost use Rattle.fk_model.specs.Searches.{thread_at};
+ghost use Rattle.fk_plans.specs.Effects.{effect_by, of_running};
+ghost use Rattle.fk_store.specs.Paths.{path, place};
 ghost use Rattle.fk_store.specs.World.{world};
 ghost use Rattle.fk_calls.specs.Judgements.{is_fit_move, IsMoving, IsReadyMove, IsRun, IsStepTo, may_lack};
 ghost use Rattle.fk_calls.specs.Rows as stages;
@@ -11,7 +14,7 @@ use crate::judging::{given, judge, moving_of, running};
 use crate::rows::restores;
 use fk_model::{Ask, Move, NoMemory, Said, Stage};
 use fk_plans::{
-    Caller, Effect, Moving, carry_out, is_effect_ready, is_moving_ready, is_ready, move_words, run,
+    Caller, Effect, Moving, carry_out, is_effect_ready, is_moving_ready, is_ready, make_effect, move_words,
 };
 use fk_store::Store;
 use fk_user::Instruction;
@@ -76,7 +79,9 @@ pub fn attempt(store: &mut Store, m: &Move, ask: &Ask) -> Result<Option<Said>, N
             is_porter: false,
         };
         if let Instruction::Runs(effect) = fk_user::instruction(store, caller, thread) {
-            return Ok(attempt_effect(store, m, ask, effect));
+            let registers = thread.regs;
+            let counter = thread.pc;
+            return Ok(attempt_effect(store, m, ask, registers, counter, effect));
         }
     }
     // Words that go to a receiver need none either.
@@ -86,10 +91,20 @@ pub fn attempt(store: &mut Store, m: &Move, ask: &Ask) -> Result<Option<Said>, N
     attempt_judged(store, m, ask)
 }
 
-/// The same, of an instruction with this effect.
+/// The same, of an instruction with this effect on these registers at this counter.
 #[inline(always)]
-fn attempt_effect(store: &mut Store, m: &Move, ask: &Ask, effect: Effect) -> Option<Said>
+fn attempt_effect(
+    store: &mut Store,
+    m: &Move,
+    ask: &Ask,
+    registers: [u64; 16],
+    counter: u64,
+    effect: Effect,
+) -> Option<Said>
     requires judged { IsRun store.old m.now ask.now effect }
+    requires at { of_running (effect_by (world store.old) (path store.old) (place (path store.old) m.now.who) effect)
+        (thread_at (world store.old) (place (path store.old) m.now.who))
+        ≡ effect_by (world store.old) (path store.old) (place (path store.old) m.now.who) effect registers counter }
     ensures made { IfSome result (λ said. IsReadyMove store.old m.now ask.now × IsStepTo store.old m.now ask.now store.new said) }
     ensures unready { IfNone result ((IsReadyMove store.old m.now ask.now → ⊥) × (store.new ≡ store.old)) }
 {
@@ -100,7 +115,7 @@ fn attempt_effect(store: &mut Store, m: &Move, ask: &Ask, effect: Effect) -> Opt
     if !is_effect_ready(store, caller, m.pick, &effect) {
         return None;
     }
-    run(store, m.who, effect);
+    make_effect(store, m.who, registers, counter, effect);
     Some(Said::Nothing)
 }
 

@@ -15,7 +15,13 @@ use fk_store::Store;
 /// Makes an effect of a running thread with these registers at this counter.
 #[tactic(auto, unfolding(fk_model::specs::World::apply_all))]
 #[inline(always)]
-fn make_effect(store: &mut Store, me: Who, mut registers: [u64; 16], counter: u64, effect: Effect)
+pub fn make_effect(
+    store: &mut Store,
+    me: Who,
+    mut registers: [u64; 16],
+    counter: u64,
+    effect: Effect,
+)
     requires { IsEffect (path store.old) (world store.old) effect }
     ensures step { stepped (world store.old) (effect_by (world store.old) (path store.old) (place (path store.old) me) effect registers counter)
         ≡ record { world = world store.new; said = Nothing } }

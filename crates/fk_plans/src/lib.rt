@@ -29,7 +29,7 @@ pub use fk_readers::{
     last_slot, led_to, mutex_in, object_in, place, pointer_in, port_in, reference_in, referred,
     slot_for, thread_by_handle, thread_in,
 };
-pub use instructions::run;
+pub use instructions::{make_effect, run};
 pub use moving::move_words;
 pub use own::own_page;
 pub use plan::{Deed, Effect, Moving, News, Plan, Verdict, Words};

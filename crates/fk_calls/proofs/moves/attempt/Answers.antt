@@ -1,9 +1,15 @@
 use Rattle.std.proofs.Common.{[]}
-use Rattle.fk_calls.proofs.Judged.{instruction_judged}
+use Rattle.fk_store.specs.Paths.{path, place}
+use Rattle.fk_store.specs.World.{world}
+use Rattle.fk_calls.proofs.Judged.{instruction_judged, running_there}
 use Rattle.fk_calls.proofs.moves.attempt.Goals as goal
 
 pub attempt_effect-requires : goal.attempt_effect-requires
 attempt_effect-requires c =
+    let m = c.args.store.now in
     let judged = instruction_judged c.args.store.now c.args.m.now _ (c.in-Some.ensures.free (cc)) (c.in-Some.ensures.running (cc))
     (c.instruction.ensures.row []) c.instruction.ensures.fits c.instruction.ensures.instruction c.instruction.ensures.sure in
-    record { judged = rw (c.in-Some.ensures.run (cc)) (rw c.in-Runs.is at judged) }
+    record {
+      judged = rw (c.in-Some.ensures.run (cc)) (rw c.in-Runs.is at judged);
+      at = running_there (world m) (path m) (place (path m) c.args.m.now.who) _ _ c.in-Some.ensures.there (c.in-Some.ensures.running (cc));
+    }

@@ -1,4 +1,6 @@
-use Rattle.std.proofs.Common.{false, refl, ◌∙◌}
+use Rattle.std.proofs.Common.{false, refl, ap, ◌∙◌}
+use Rattle.fk_model.specs.Moves.{stepped}
+use Rattle.fk_store.specs.World.{world}
 use Rattle.fk_plans.specs.declared.plan.Verdict.TheVariants as verdicts
 use Rattle.fk_calls.specs.declared.judging.Judgement.{Judgement}
 use Rattle.fk_calls.specs.Judgements.{words_of}
@@ -12,8 +14,11 @@ pub returns-clause-made : goal.returns-clause-made
 returns-clause-made c =
     let judged = c.requires.judged in
     let j : Judgement = record { caller = user c.args.m.now.who; chooses = false; verdict = verdicts.Runs c.args.effect } in
-    let ready = (ready_judged c.args.store.now c.args.m.now c.args.ask.now j _ judged (c.is_effect_ready.ensures (words_of c.args.ask.now))).0 (cc) in
-    (ready, run_judged c.args.store.now c.args.m.now c.args.ask.now c.args.effect judged ready ∙ c.run.ensures.step)
+    let ready = (ready_judged c.args.store.now c.args.m.now c.args.ask.now j _ judged (c.is_effect_ready.ensures (words_of c.args.ask.now))).0 (cc) in (
+      ready,
+      run_judged c.args.store.now c.args.m.now c.args.ask.now c.args.effect judged ready
+          ∙ ap (stepped (world c.args.store.now)) c.requires.at ∙ c.make_effect.ensures.step,
+    )
 
 pub returns-then-not-is_effect_ready-clause-unready : goal.returns-then-not-is_effect_ready-clause-unready
 returns-then-not-is_effect_ready-clause-unready c =
