@@ -14,7 +14,8 @@ use crate::judging::{given, judge, moving_of, running};
 use crate::rows::restores;
 use fk_model::{Ask, Move, NoMemory, Said, Stage};
 use fk_plans::{
-    Caller, Effect, Moving, carry_out, is_effect_ready, is_moving_ready, is_ready, make_effect, move_words,
+    Caller, Effect, Moving, carry_out, is_effect_ready, is_moving_ready, is_ready, make_effect,
+    move_words,
 };
 use fk_store::Store;
 use fk_user::Instruction;
@@ -165,9 +166,8 @@ pub fn take(store: &mut Store, m: &Move, ask: &Ask) -> Result<Said, NoMemory>
     ensures lacking { OnErr result (store.new ≡ store.old) }
     ensures sure { may_lack store.old m.now ask.now ≡ false → IsOk result }
 {
-    let j = match judge(store, m, ask) {
-        Some(j) => j,
+    match attempt(store, m, ask)? {
+        Some(said) => Ok(said),
         None => unreachable!(),
-    };
-    carry_out(store, j.caller, given(ask), &j.verdict)
+    }
 }
