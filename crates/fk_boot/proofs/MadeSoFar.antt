@@ -16,15 +16,15 @@ use Rattle.fk_model.specs.Searches.{slots}
 use Rattle.fk_model.proofs.walks.PlaceLaws.{same_path_refl, same_path_eq, same_path_ne, same_path_sym}
 use Rattle.fk_store.proofs.finding.Walks.{not_root}
 use Rattle.fk_store.specs.World.{first_world}
-use Rattle.fk_entries.specs.declared.types.Program.{Program}
-use Rattle.fk_entries.specs.declared.types.SpaceEntry.{SpaceEntry}
-use Rattle.fk_entries.specs.declared.types.ObjectEntry.{ObjectEntry}
-use Rattle.fk_entries.specs.declared.types.Spec.{Spec}
-use Rattle.fk_entries.specs.declared.types.Spec.TheVariants as specs
-use Rattle.fk_sections.specs.Kept.{EachAfter, KeepsSpace, KeepsObject}
-use Rattle.fk_fields.specs.Paths.{enclosing}
-use Rattle.fk_sections.specs.Spaces.{has_space, has_space_or_root, may_stand, count_beneath}
-use Rattle.fk_sections.specs.Objects.{has_object}
+use Rattle.fk_scenario_entries.specs.declared.types.Program.{Program}
+use Rattle.fk_scenario_entries.specs.declared.types.SpaceEntry.{SpaceEntry}
+use Rattle.fk_scenario_entries.specs.declared.types.ObjectEntry.{ObjectEntry}
+use Rattle.fk_scenario_entries.specs.declared.types.Spec.{Spec}
+use Rattle.fk_scenario_entries.specs.declared.types.Spec.TheVariants as specs
+use Rattle.fk_scenario_sections.specs.Kept.{EachAfter, KeepsSpace, KeepsObject}
+use Rattle.fk_scenario_fields.specs.Paths.{enclosing}
+use Rattle.fk_scenario_sections.specs.Spaces.{has_space, has_space_or_root, may_stand, count_beneath}
+use Rattle.fk_scenario_sections.specs.Objects.{has_object}
 use Rattle.fk_boot.specs.FirstWorld.{page_words, program_page, program_pages, zero_pages, space_itself, space_changes, words_of_program, first_body, object_changes}
 use Rattle.fk_boot.specs.MadeSoFar.{HasPlace, CanStand, HasSpaces, HasObjects}
 use Rattle.fk_boot.proofs.Changes.{apply_all-append}

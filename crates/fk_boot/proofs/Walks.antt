@@ -11,8 +11,8 @@ use Rattle.fk_model.specs.World.Change.{Make, MakeSpace}
 use Rattle.fk_model.proofs.walks.PlaceLaws.{same_path_refl}
 use Rattle.fk_store.specs.Contents.{Contents}
 use Rattle.fk_store.specs.Makes.{making}
-use Rattle.fk_entries.specs.declared.types.Spec.{Spec}
-use Rattle.fk_entries.specs.declared.types.Spec.TheVariants as specs
+use Rattle.fk_scenario_entries.specs.declared.types.Spec.{Spec}
+use Rattle.fk_scenario_entries.specs.declared.types.Spec.TheVariants as specs
 use Rattle.fk_store.specs.Paths.{path, space_at}
 use Rattle.fk_store.specs.World.{world, IsSpace}
 use Rattle.fk_store.proofs.finding.LookUps.{birth_at-space_at}

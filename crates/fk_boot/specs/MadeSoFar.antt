@@ -3,13 +3,13 @@ use Rattle.std.specs.Prelude.{◌≡◌, ℕ, ◌+◌, ◌<◌, ◌||◌, IsSome
 use Rattle.fk_model.specs.Places.{Path}
 use Rattle.fk_model.specs.Valid.{birth_at, kind_there}
 use Rattle.fk_model.specs.World.{World}
-use Rattle.fk_fields.specs.Paths.{enclosing}
-use Rattle.fk_sections.specs.Spaces.{has_space_or_root, count_beneath}
-use Rattle.fk_sections.specs.Objects.{has_object}
-use Rattle.fk_entries.specs.declared.types.SpaceEntry.{SpaceEntry}
-use Rattle.fk_entries.specs.declared.types.ObjectEntry.{ObjectEntry}
-use Rattle.fk_entries.specs.declared.types.Spec.{Spec}
-use Rattle.fk_entries.specs.declared.types.Spec.TheVariants.{Thread, Mutex, Cond, Portset, Mapping, Region, Port, Reference}
+use Rattle.fk_scenario_fields.specs.Paths.{enclosing}
+use Rattle.fk_scenario_sections.specs.Spaces.{has_space_or_root, count_beneath}
+use Rattle.fk_scenario_sections.specs.Objects.{has_object}
+use Rattle.fk_scenario_entries.specs.declared.types.SpaceEntry.{SpaceEntry}
+use Rattle.fk_scenario_entries.specs.declared.types.ObjectEntry.{ObjectEntry}
+use Rattle.fk_scenario_entries.specs.declared.types.Spec.{Spec}
+use Rattle.fk_scenario_entries.specs.declared.types.Spec.TheVariants.{Thread, Mutex, Cond, Portset, Mapping, Region, Port, Reference}
 
 -- ---- places, by their slots from the root down
 

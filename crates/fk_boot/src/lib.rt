@@ -1,7 +1,7 @@
 //! The first world of a scenario.
 //!
 //! It stands on `fk_scenario` for scenarios, on `fk_store` for the world that a store is, and on
-//! `fk_laws` for what keeps a world valid. It promises that `boot` gives a store of the world that
+//! `laws_machine` for what keeps a world valid. It promises that `boot` gives a store of the world that
 //! `specs/FirstWorld.antt` has: what the entries of the scenario make of a world that has the root
 //! alone, in the order of the file: the spaces with their pages, then the objects, and then where
 //! these lead. That world is valid. It is never refused but for want of memory, since a scenario that

@@ -3,8 +3,8 @@ ghost use Rattle.std.specs.Prelude.{◌≡◌, ℕ, ◌<◌, ◌≤◌, length, 
 ghost use Rattle.fk_model.specs.Objects.Body.{Thread_of};
 ghost use Rattle.fk_model.specs.Places.{Path};
 ghost use Rattle.fk_model.specs.World.{apply_all};
-ghost use Rattle.fk_entries.specs.Kept.{IsSpecInRange};
-ghost use Rattle.fk_entries.specs.declared.types.Spec.TheVariants as specs;
+ghost use Rattle.fk_scenario_entries.specs.Kept.{IsSpecInRange};
+ghost use Rattle.fk_scenario_entries.specs.declared.types.Spec.TheVariants as specs;
 ghost use Rattle.fk_store.specs.Contents.{Contents};
 ghost use Rattle.fk_store.specs.Bodies.{body_by, thread_by};
 ghost use Rattle.fk_store.specs.Makes.{IsNext};

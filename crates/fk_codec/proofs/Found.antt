@@ -2,10 +2,10 @@
 use Rattle.std.proofs.Common.{◌≡◌, List, ℕ, Result, Ok, Err}
 use Rattle.std.specs.Prelude.{IfOk}
 use Rattle.fk_image.specs.declared.image.Image.{Image}
-use Rattle.fk_spelling.specs.Reading.{image_reading}
-use Rattle.fk_spelling.specs.Spells.{SpellsImage}
-use Rattle.fk_spelling.proofs.Basics.{IsBytes}
-use Rattle.fk_spelling.proofs.RoundTrip.{reading_takes}
+use Rattle.fk_image_format.specs.Reading.{image_reading}
+use Rattle.fk_image_format.specs.Spells.{SpellsImage}
+use Rattle.fk_image_format.proofs.Basics.{IsBytes}
+use Rattle.fk_image_format.proofs.RoundTrip.{reading_takes}
 use Rattle.fk_codec.specs.declared.fail.ReadFail.{ReadFail}
 use Rattle.fk_codec.specs.Given.{Reads}
 

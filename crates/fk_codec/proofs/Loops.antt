@@ -3,12 +3,12 @@ use Rattle.std.proofs.Common.{◌≡◌, ℕ, ◌-◌, ◌+◌, ◌≤◌, ◌<�
 use Rattle.fk_image.specs.declared.image.SpaceRec.{SpaceRec}
 use Rattle.fk_image.specs.declared.open.Open.{Open}
 use Rattle.fk_image.specs.Preorder.{after_space}
-use Rattle.fk_spelling.specs.declared.stop.Stop.{Stop}
-use Rattle.fk_spelling.specs.Fields.{read_many}
-use Rattle.fk_spelling.specs.Reading.{read_space}
-use Rattle.fk_reading.specs.declared.fail.Fail.{Fail}
-use Rattle.fk_reading.specs.Given.{Fails}
-use Rattle.fk_reading.proofs.Loops.{goes_on, fails_there, is_done}
+use Rattle.fk_image_format.specs.declared.stop.Stop.{Stop}
+use Rattle.fk_image_format.specs.Fields.{read_many}
+use Rattle.fk_image_format.specs.Reading.{read_space}
+use Rattle.fk_image_reading.specs.declared.fail.Fail.{Fail}
+use Rattle.fk_image_reading.specs.Given.{Fails}
+use Rattle.fk_image_reading.proofs.Loops.{goes_on, fails_there, is_done}
 
 pub spaces_go : (count i : ℕ) (before : List SpaceRec × List Open) (done : List SpaceRec) (bytes : List ℕ) (x : SpaceRec) (after : List ℕ) →
     i < count → read_space before bytes ≡ Ok (x, after)

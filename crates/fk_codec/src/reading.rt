@@ -3,24 +3,24 @@ ghost use Rattle.std.specs.Prelude.{◌≡◌, [], length, IfOk, Ok};
 ghost use Rattle.fk_image.specs.declared.image.Image.{Image};
 ghost use Rattle.fk_image.specs.Preorder as preorder;
 ghost use Rattle.fk_image.specs.Preorder.{after_space, root_path};
-ghost use Rattle.fk_spelling.specs.Fields.{read_many};
-ghost use Rattle.fk_spelling.specs.Offsets.{wrong_link};
-ghost use Rattle.fk_spelling.specs.Reading as words;
-ghost use Rattle.fk_spelling.specs.Spells.{SpellsImage};
-ghost use Rattle.fk_reading.specs.Given.{Decodes};
+ghost use Rattle.fk_image_format.specs.Fields.{read_many};
+ghost use Rattle.fk_image_format.specs.Offsets.{wrong_link};
+ghost use Rattle.fk_image_format.specs.Reading as words;
+ghost use Rattle.fk_image_format.specs.Spells.{SpellsImage};
+ghost use Rattle.fk_image_reading.specs.Given.{Decodes};
 ghost use Rattle.fk_codec.specs.Given.{Reads};
 
 use crate::fail::{ImageError, ReadFail};
 use fk_image::{Image, Link, Open, Path, SpaceRec, enter, kind_in_space, room_under};
-use fk_model::List;
-use fk_pointers::{PointerFail, check_links};
-use fk_reading::{
+use fk_image_pointers::{PointerFail, check_links};
+use fk_image_reading::{
     Fail, read_below, read_byte, read_link, read_objects, read_pages, read_u16, read_u32, refused,
 };
+use fk_model::List;
 use std::alloc::Global;
 
 /// The first space, which is the subtree's root.
-#[tactic(auto, unfolding(fk_spelling::specs::Reading::read_first))]
+#[tactic(auto, unfolding(fk_image_format::specs::Reading::read_first))]
 fn read_first(alloc: Global, bytes: &[u8]) -> Result<(SpaceRec, &[u8]), Fail>
     ensures { Decodes (λ x. (x.0, x.1.now)) result (words.read_first bytes.now) }
 {
@@ -49,7 +49,7 @@ fn read_first(alloc: Global, bytes: &[u8]) -> Result<(SpaceRec, &[u8]), Fail>
 }
 
 /// The lowest slot under a parent in which a space may follow.
-#[tactic(auto, unfolding(fk_spelling::specs::Reading::read_room))]
+#[tactic(auto, unfolding(fk_image_format::specs::Reading::read_room))]
 fn read_room(path: &mut Path, parent: u32, bytes: &[u8]) -> Result<u16, Fail>
     ensures room { Decodes (λ x. x) result (words.read_room path.old parent bytes.now) }
     ensures path { IfOk result (λ _. path.new ≡ preorder.from parent path.old) }
@@ -61,7 +61,7 @@ fn read_room(path: &mut Path, parent: u32, bytes: &[u8]) -> Result<u16, Fail>
 }
 
 /// A space behind others.
-#[tactic(auto, unfolding(fk_spelling::specs::Reading::read_next))]
+#[tactic(auto, unfolding(fk_image_format::specs::Reading::read_next))]
 fn read_next<'a>(
     alloc: Global,
     done: &[SpaceRec],
@@ -93,7 +93,7 @@ fn read_next<'a>(
     Ok((space, rest))
 }
 
-#[tactic(auto, unfolding(fk_spelling::specs::Reading::read_space))]
+#[tactic(auto, unfolding(fk_image_format::specs::Reading::read_space))]
 fn read_space<'a>(
     alloc: Global,
     done: &[SpaceRec],
@@ -132,7 +132,7 @@ fn read_spaces(alloc: Global, count: u32, bytes: &[u8]) -> Result<(List<SpaceRec
 }
 
 /// The magic, the version and the number of spaces.
-#[tactic(auto, unfolding(fk_spelling::specs::Reading::read_head))]
+#[tactic(auto, unfolding(fk_image_format::specs::Reading::read_head))]
 fn read_head(bytes: &[u8]) -> Result<(u32, &[u8]), Fail>
     ensures { Decodes (λ x. (x.0, x.1.now)) result (words.read_head bytes.now) }
 {
@@ -154,7 +154,7 @@ fn read_head(bytes: &[u8]) -> Result<(u32, &[u8]), Fail>
     Ok((count, rest))
 }
 
-#[tactic(auto, unfolding(fk_spelling::specs::Reading::read_image))]
+#[tactic(auto, unfolding(fk_image_format::specs::Reading::read_image))]
 fn read_image(alloc: Global, bytes: &[u8]) -> Result<Image, Fail>
     ensures { Decodes (λ x. x) result (words.read_image bytes.now) }
 {
@@ -177,7 +177,7 @@ fn led(alloc: Global, image: Image) -> Result<Image, ReadFail>
     }
 }
 
-#[tactic(auto, unfolding(fk_spelling::specs::Reading::image_reading))]
+#[tactic(auto, unfolding(fk_image_format::specs::Reading::image_reading))]
 fn checked_image(alloc: Global, bytes: &[u8]) -> Result<Image, ReadFail>
     ensures { Reads result (words.image_reading bytes.now) }
 {

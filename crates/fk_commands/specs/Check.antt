@@ -1,7 +1,7 @@
 -- The command `check`: what a text comes to.
 use Rattle.std.specs.Prelude.{◌≡◌, ℕ, suc, ◌+◌, List, [], ◌∷◌, ◌++◌, length, codes, decimal, Result, Ok, Err}
-use Rattle.fk_entries.specs.declared.types.SpaceEntry.{SpaceEntry}
-use Rattle.fk_fields.specs.declared.fail.ScenarioError.{ScenarioError}
+use Rattle.fk_scenario_entries.specs.declared.types.SpaceEntry.{SpaceEntry}
+use Rattle.fk_scenario_fields.specs.declared.fail.ScenarioError.{ScenarioError}
 use Rattle.fk_scenario.specs.declared.scenario.Scenario.{Scenario}
 use Rattle.fk_commands.specs.declared.status.Status.{Status}
 use Rattle.fk_commands.specs.declared.status.Status.TheVariants.{Ok as Done, BadScenario}

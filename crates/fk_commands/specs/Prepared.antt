@@ -5,7 +5,7 @@ use Rattle.fk_asm.specs.declared.fail.AsmError.{AsmError}
 use Rattle.fk_causes.specs.Causes.{Rose, MayHold}
 use Rattle.fk_causes.specs.declared.whole.TheConstants.{LIMIT}
 use Rattle.fk_causes.specs.Shelf.{FileMap, HasAt}
-use Rattle.fk_fields.specs.declared.fail.ScenarioError.{ScenarioError}
+use Rattle.fk_scenario_fields.specs.declared.fail.ScenarioError.{ScenarioError}
 use Rattle.fk_image.specs.declared.image.Image.{Image}
 use Rattle.fk_scenario.specs.declared.scenario.Scenario.{Scenario}
 use Rattle.fk_commands.specs.declared.prepared.Prepared.{Prepared}

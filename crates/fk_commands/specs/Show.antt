@@ -2,8 +2,8 @@
 use Rattle.std.specs.Prelude.{◌≡◌, ℕ, List, Option, Some, None, Result, Ok, Err}
 use Rattle.fk_causes.specs.Shelf.{FileMap, HasAt}
 use Rattle.fk_image.specs.declared.image.Image.{Image}
-use Rattle.fk_show.specs.Shown.{shown}
-use Rattle.fk_spelling.specs.Reading.{image_reading}
+use Rattle.fk_image_show.specs.Shown.{shown}
+use Rattle.fk_image_format.specs.Reading.{image_reading}
 use Rattle.fk_commands.specs.declared.status.Status.{Status}
 use Rattle.fk_commands.specs.declared.status.Status.TheVariants.{Ok as Done, Absent, BadImage}
 use Rattle.fk_commands.specs.declared.outcome.Outcome.{Outcome}

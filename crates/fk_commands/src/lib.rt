@@ -5,7 +5,7 @@
 //! `check` and `show` prepare the counts of a scenario and of an image. `play` stands in `fk_plays`.
 //!
 //! It stands on `fk_asm` for programs, on `fk_lone` for the machine of `exec`, on `fk_scenario`, on
-//! `fk_codec` and `fk_show` for images, on `fk_report` for how a run ends, and on `fk_causes` for the
+//! `fk_codec` and `fk_image_show` for images, on `fk_report` for how a run ends, and on `fk_causes` for the
 //! shelf.
 //!
 //! It promises of each command the outcome and the output that its definition calls for (`specs/Exec.antt`,

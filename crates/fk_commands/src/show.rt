@@ -1,7 +1,7 @@
 //! The command `show`: the counts of an image are shown.
 ghost use Rattle.std.specs.Prelude.{◌≡◌, Ok, IfOk, IfErr};
 ghost use Rattle.fk_causes.specs.Causes.{Rose};
-ghost use Rattle.fk_spelling.specs.Reading.{image_reading};
+ghost use Rattle.fk_image_format.specs.Reading.{image_reading};
 ghost use Rattle.fk_commands.specs.Show.{IsShow, IsShown};
 ghost use Rattle.fk_commands.specs.Prepared.{ComesTo, IsRefusal, IsImageFail};
 
@@ -11,8 +11,8 @@ use crate::status::Status;
 use fk_causes::Shelf;
 use fk_codec::{ReadFail, read};
 use fk_image::Image;
+use fk_image_show::show_text;
 use fk_model::Text;
-use fk_show::show_text;
 use std::alloc::Global;
 
 /// The image that the bytes of the file of a name spell.

@@ -6,7 +6,7 @@ use Rattle.fk_model.specs.declared.moves.Said.{Said}
 use Rattle.fk_model.specs.Moves.{Step}
 use Rattle.fk_model.specs.Searches.{depth}
 use Rattle.fk_model.specs.Valid.{IsValid}
-use Rattle.fk_laws.proofs.validity.Steps.{step_keeps_valid_lem}
+use Rattle.laws_machine.proofs.validity.Steps.{step_keeps_valid_lem}
 use Rattle.fk_store.specs.Contents.{Contents}
 use Rattle.fk_store.specs.Moves.{picked_by}
 use Rattle.fk_store.specs.Paths.{path, place}

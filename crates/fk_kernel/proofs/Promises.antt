@@ -13,9 +13,9 @@ use Rattle.fk_store.specs.Paths.{path, place}
 use Rattle.fk_store.specs.World.{world}
 use Rattle.fk_calls.specs.Acts.{is_native_act}
 use Rattle.fk_calls.specs.Judgements.{is_fit_move, IsReadyMove, IsStepTo}
-use Rattle.fk_prompt.specs.Events.{IsPrompt, IsCorrect}
-use Rattle.fk_prompt.specs.Events.IsPrompt.{Gets, PorterGets, Holds, PorterHolds}
-use Rattle.fk_prompt.proofs.Events.{prompt_is_ready, correct_step}
+use Rattle.laws_prompt.specs.Events.{IsPrompt, IsCorrect}
+use Rattle.laws_prompt.specs.Events.IsPrompt.{Gets, PorterGets, Holds, PorterHolds}
+use Rattle.laws_prompt.proofs.Events.{prompt_is_ready, correct_step}
 use Rattle.fk_kernel.specs.Events.{is_fit_event}
 
 -- a prompt move is no act of a native server

@@ -7,7 +7,7 @@ ghost use Rattle.fk_store.specs.Moves.{said_by};
 ghost use Rattle.fk_store.specs.Paths.{path, place};
 ghost use Rattle.fk_store.specs.World.{world};
 ghost use Rattle.fk_calls.specs.Judgements.{IsReadyMove};
-ghost use Rattle.fk_prompt.specs.Events.{IsPrompt, IsCorrect};
+ghost use Rattle.laws_prompt.specs.Events.{IsPrompt, IsCorrect};
 ghost use Rattle.fk_kernel.specs.Events.{is_fit_event, IsReadyEvent, IsAnyReady, IsMoveReady, may_lack, step_of};
 
 use fk_model::{Ask, Move, NoMemory, Said, Who};

@@ -1,7 +1,7 @@
 //! The kernel: a store whose threads move.
 //!
 //! It stands on `fk_store`, on `fk_calls` for what a move comes to, on `fk_picks` for whom a move
-//! picks, and on `fk_laws` for the world that stays valid. Its contracts see a kernel by the world of
+//! picks, and on `laws_machine` for the world that stays valid. Its contracts see a kernel by the world of
 //! its store alone: a move names threads by birth numbers and slots, and `event_of` finds their paths
 //! in that world.
 //!

@@ -1,6 +1,6 @@
 -- Plays: why a scenario isn't run.
 use Rattle.std.proofs.Common.{◌≡◌, Result, ap}
-use Rattle.fk_fields.specs.declared.fail.ScenarioError.{ScenarioError}
+use Rattle.fk_scenario_fields.specs.declared.fail.ScenarioError.{ScenarioError}
 use Rattle.fk_scenario.specs.declared.scenario.Scenario.{Scenario}
 use Rattle.fk_commands.specs.declared.status.Status.{Status}
 use Rattle.fk_commands.specs.declared.status.Status.TheVariants.{Usage, BadScenario, NoMemory}

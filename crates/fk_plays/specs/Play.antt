@@ -3,7 +3,7 @@ use Rattle.std.specs.Prelude.{◌≡◌, ◌<◌, ℕ, List, [], length, Option,
 use Rattle.fk_causes.specs.Shelf.{FileMap, HasAt}
 use Rattle.fk_kernel.specs.Events.{IsAnyReady}
 use Rattle.fk_model.specs.World.{World}
-use Rattle.fk_fields.specs.declared.fail.ScenarioError.{ScenarioError}
+use Rattle.fk_scenario_fields.specs.declared.fail.ScenarioError.{ScenarioError}
 use Rattle.fk_scenario.specs.declared.scenario.Scenario.{Scenario}
 use Rattle.fk_scenario.specs.Reading.{scenario_reading}
 use Rattle.fk_scenario.specs.Rules.{server_rules}
@@ -20,7 +20,7 @@ use Rattle.fk_commands.specs.Outcomes.{IsRefused}
 use Rattle.fk_plays.specs.Replay.{MayPlay, played}
 use Rattle.fk_report.specs.Report.{report_text}
 use Rattle.fk_report.specs.Threads.{AreThreads, HaveHalted}
-use Rattle.fk_traces.specs.Trace.{Spells, IsFirstBad}
+use Rattle.fk_trace_text.specs.Trace.{Spells, IsFirstBad}
 
 -- ---- which scenarios are run
 

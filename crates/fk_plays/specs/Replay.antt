@@ -7,7 +7,7 @@ use Rattle.fk_model.specs.World.{World}
 use Rattle.fk_kernel.specs.Events.{IsReadyEvent, step_of}
 use Rattle.fk_plays.specs.declared.replay.ReplayFail.{ReplayFail}
 use Rattle.fk_plays.specs.declared.replay.ReplayFail.TheVariants.{Trace, NoMemory}
-use Rattle.fk_traces.specs.Trace.{IsFirstBad}
+use Rattle.fk_trace_text.specs.Trace.{IsFirstBad}
 
 -- a user's move is ready in a world
 abbrev pub IsReadyMove : World → Move → Type 0

@@ -2,14 +2,14 @@
 ghost use Rattle.std.specs.Prelude.{◌≡◌, ◌<◌, ◌≤◌, List, length, IfOk, IfErr, IfSome, IfNone};
 ghost use Rattle.std.specs.Bool.{OnTrue, OnFalse};
 ghost use Rattle.fk_model.specs.declared.moves.Move as moves_of;
-ghost use Rattle.fk_traces.specs.Trace.{BeginsWith, BeginsWithNone, Spells};
+ghost use Rattle.fk_trace_text.specs.Trace.{BeginsWith, BeginsWithNone, Spells};
 ghost use Rattle.fk_plays.specs.Replay.{IsReadyMove, MayPlay, after_move, played, IsCause, GivesMoves};
 ghost use Rattle.fk_plays.specs.declared.replay.ReplayFail.TheVariants as fails;
 ghost use Rattle.fk_store.specs.World.{world};
 
 use fk_kernel::Kernel;
 use fk_model::{Ask, List as Items, Move, NoMemory};
-use fk_traces::{after_first_line, first_move};
+use fk_trace_text::{after_first_line, first_move};
 use std::alloc::Global;
 
 /// Why a trace isn't played to its end.
@@ -86,7 +86,7 @@ fn make_next<'a>(
 /// `Trace` with the index of the first line that is misspelled, whose move isn't ready in its turn,
 /// or that stands at the budget; a bad first line of the text counts as that of the move 0.
 /// `NoMemory` where there is no memory for the moves.
-#[tactic(auto, using(crate::proofs::Replays::played_nil, fk_traces::proofs::Traces::none_are_legal))]
+#[tactic(auto, using(crate::proofs::Replays::played_nil, fk_trace_text::proofs::Traces::none_are_legal))]
 pub fn replay(
     alloc: Global,
     kernel: &mut Kernel,

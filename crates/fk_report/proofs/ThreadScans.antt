@@ -11,8 +11,8 @@ use Rattle.fk_model.specs.Objects.Mode.{Running, Calling, Halted, Native}
 use Rattle.fk_model.specs.World.{World}
 use Rattle.fk_model.specs.Valid.{kind_there}
 use Rattle.fk_store.specs.Contents.{Contents}
-use Rattle.fk_tables.specs.Names.{who_cmp}
-use Rattle.fk_tables.specs.Orders.{IsFirstAfter}
+use Rattle.fk_store_tables.specs.Names.{who_cmp}
+use Rattle.fk_store_tables.specs.Orders.{IsFirstAfter}
 use Rattle.fk_store.specs.World.{world, place_of, IsLive}
 use Rattle.fk_report.specs.declared.threads.ThreadState.{ThreadState}
 use Rattle.fk_report.specs.Threads.{state_in, state_at}

@@ -4,17 +4,17 @@ use Rattle.std.proofs.lemmas.List.Elements.{All-nil}
 use Rattle.std.specs.List.{All}
 use Rattle.toml.specs.Data.{Members}
 use Rattle.fk_model.specs.declared.moves.Rule.{Rule}
-use Rattle.fk_fields.specs.Gives.{placed}
-use Rattle.fk_fields.specs.Fields.{known, integer_in, needed_integer, ranged}
-use Rattle.fk_fields.proofs.Steps.{after, placed-Ok}
-use Rattle.fk_entries.proofs.Kept.{in_range}
-use Rattle.fk_sections.specs.Programs.{programs_from}
-use Rattle.fk_sections.specs.Spaces.{spaces_from, count_beneath}
-use Rattle.fk_sections.specs.Objects.{objects_from}
-use Rattle.fk_sections.specs.Servers.{servers_from}
-use Rattle.fk_sections.specs.Jobs.{entries_from}
-use Rattle.fk_sections.specs.Kept.{EachAfter, KeepsSpace, KeepsObject}
-use Rattle.fk_sections.proofs.Kept.{IsSmall, programs_kept, spaces_kept, objects_kept}
+use Rattle.fk_scenario_fields.specs.Gives.{placed}
+use Rattle.fk_scenario_fields.specs.Fields.{known, integer_in, needed_integer, ranged}
+use Rattle.fk_scenario_fields.proofs.Steps.{after, placed-Ok}
+use Rattle.fk_scenario_entries.proofs.Kept.{in_range}
+use Rattle.fk_scenario_sections.specs.Programs.{programs_from}
+use Rattle.fk_scenario_sections.specs.Spaces.{spaces_from, count_beneath}
+use Rattle.fk_scenario_sections.specs.Objects.{objects_from}
+use Rattle.fk_scenario_sections.specs.Servers.{servers_from}
+use Rattle.fk_scenario_sections.specs.Jobs.{entries_from}
+use Rattle.fk_scenario_sections.specs.Kept.{EachAfter, KeepsSpace, KeepsObject}
+use Rattle.fk_scenario_sections.proofs.Kept.{IsSmall, programs_kept, spaces_kept, objects_kept}
 use Rattle.fk_scenario.specs.declared.reading.Places.{Places}
 use Rattle.fk_scenario.specs.declared.reading.Round.{Round}
 use Rattle.fk_scenario.specs.declared.scenario.Scenario.{Scenario}

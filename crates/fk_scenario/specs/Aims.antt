@@ -2,14 +2,14 @@
 use Rattle.std.specs.Prelude.{ℕ, ◌+◌, Bool, true, false, not, ◌&&◌, ◌||◌, ◌==◌, List, [], ◌∷◌, ◌++◌, length, Option, Some, None, Result, Ok}
 use Rattle.std.specs.List.{find}
 use Rattle.std.specs.Str.{bytes_eq}
-use Rattle.fk_fields.specs.declared.fail.ScenarioError.{ScenarioError}
-use Rattle.fk_fields.specs.Gives.{◌>>=◌, unless, placed}
-use Rattle.fk_fields.specs.Paths.{enclosing}
-use Rattle.fk_entries.specs.declared.types.SpaceEntry.{SpaceEntry}
-use Rattle.fk_entries.specs.declared.types.ObjectEntry.{ObjectEntry}
-use Rattle.fk_entries.specs.declared.types.Spec.{Spec}
-use Rattle.fk_entries.specs.declared.types.Spec.TheVariants.{Thread, Mutex, Cond, Portset, Mapping, Region, Port, Reference}
-use Rattle.fk_sections.specs.Spaces.{has_space}
+use Rattle.fk_scenario_fields.specs.declared.fail.ScenarioError.{ScenarioError}
+use Rattle.fk_scenario_fields.specs.Gives.{◌>>=◌, unless, placed}
+use Rattle.fk_scenario_fields.specs.Paths.{enclosing}
+use Rattle.fk_scenario_entries.specs.declared.types.SpaceEntry.{SpaceEntry}
+use Rattle.fk_scenario_entries.specs.declared.types.ObjectEntry.{ObjectEntry}
+use Rattle.fk_scenario_entries.specs.declared.types.Spec.{Spec}
+use Rattle.fk_scenario_entries.specs.declared.types.Spec.TheVariants.{Thread, Mutex, Cond, Portset, Mapping, Region, Port, Reference}
+use Rattle.fk_scenario_sections.specs.Spaces.{has_space}
 
 -- the object with a path
 abbrev pub object_with : List ObjectEntry → List ℕ → Option ObjectEntry

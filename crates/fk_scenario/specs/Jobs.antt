@@ -4,14 +4,14 @@ use Rattle.std.specs.List.{list_any, starts_with}
 use Rattle.std.specs.Str.{bytes_eq}
 use Rattle.fk_model.specs.declared.job.JobSpec.{JobSpec}
 use Rattle.fk_model.specs.declared.job.JobSpec.TheVariants.{Checkpoint, Restore}
-use Rattle.fk_fields.specs.declared.fail.ScenarioError.{ScenarioError}
-use Rattle.fk_fields.specs.Gives.{◌>>=◌, or_rule, unless, placed}
-use Rattle.fk_fields.specs.Paths.{enclosing}
-use Rattle.fk_entries.specs.declared.types.SpaceEntry.{SpaceEntry}
-use Rattle.fk_entries.specs.declared.types.ServerEntry.{ServerEntry}
-use Rattle.fk_entries.specs.declared.jobs.JobEntry.{JobEntry}
-use Rattle.fk_entries.specs.declared.jobs.JobKind.{JobKind}
-use Rattle.fk_entries.specs.declared.jobs.JobKind.TheVariants as kinds
+use Rattle.fk_scenario_fields.specs.declared.fail.ScenarioError.{ScenarioError}
+use Rattle.fk_scenario_fields.specs.Gives.{◌>>=◌, or_rule, unless, placed}
+use Rattle.fk_scenario_fields.specs.Paths.{enclosing}
+use Rattle.fk_scenario_entries.specs.declared.types.SpaceEntry.{SpaceEntry}
+use Rattle.fk_scenario_entries.specs.declared.types.ServerEntry.{ServerEntry}
+use Rattle.fk_scenario_entries.specs.declared.jobs.JobEntry.{JobEntry}
+use Rattle.fk_scenario_entries.specs.declared.jobs.JobKind.{JobKind}
+use Rattle.fk_scenario_entries.specs.declared.jobs.JobKind.TheVariants as kinds
 
 -- spaces are numbered in the order of the file, the root as 0, and the first besides it as 1
 abbrev pub first_number : List SpaceEntry → ℕ

@@ -1,7 +1,7 @@
 -- What every scenario that is read keeps, and a machine that begins with it rests on.
 use Rattle.std.specs.Prelude.{◌≡◌, ◌≤◌, [], length, All, Ok}
-use Rattle.fk_sections.specs.Spaces.{count_beneath}
-use Rattle.fk_sections.specs.Kept.{EachAfter, KeepsSpace, KeepsObject}
+use Rattle.fk_scenario_sections.specs.Spaces.{count_beneath}
+use Rattle.fk_scenario_sections.specs.Kept.{EachAfter, KeepsSpace, KeepsObject}
 use Rattle.fk_scenario.specs.declared.scenario.Scenario.{Scenario}
 use Rattle.fk_scenario.specs.Aims.{aims_from}
 use Rattle.fk_scenario.specs.Servers.{serving_from}

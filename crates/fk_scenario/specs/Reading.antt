@@ -5,19 +5,19 @@ use Rattle.toml.specs.Data.{Items, no_items, Members, no_members, get_member}
 use Rattle.toml.specs.Parse.{parse_document}
 use Rattle.toml.specs.View.{table_view, array_view}
 use Rattle.fk_model.specs.declared.moves.Rule.{Rule}
-use Rattle.fk_fields.specs.declared.fail.ScenarioError.{ScenarioError}
-use Rattle.fk_fields.specs.Gives.{◌>>=◌, placed}
-use Rattle.fk_fields.specs.Fields.{known, integer_in, array_in, table_in, needed_integer, ranged}
+use Rattle.fk_scenario_fields.specs.declared.fail.ScenarioError.{ScenarioError}
+use Rattle.fk_scenario_fields.specs.Gives.{◌>>=◌, placed}
+use Rattle.fk_scenario_fields.specs.Fields.{known, integer_in, array_in, table_in, needed_integer, ranged}
 use Rattle.fk_scenario.specs.declared.reading.Top as code_top
 use Rattle.fk_scenario.specs.declared.reading.Sections as code
 use Rattle.fk_scenario.specs.declared.reading.Places.{Places}
 use Rattle.fk_scenario.specs.declared.reading.Round.{Round}
 use Rattle.fk_scenario.specs.declared.scenario.Scenario.{Scenario}
-use Rattle.fk_sections.specs.Programs.{programs_from}
-use Rattle.fk_sections.specs.Spaces.{spaces_from}
-use Rattle.fk_sections.specs.Objects.{objects_from}
-use Rattle.fk_sections.specs.Servers.{servers_from}
-use Rattle.fk_sections.specs.Jobs.{entries_from}
+use Rattle.fk_scenario_sections.specs.Programs.{programs_from}
+use Rattle.fk_scenario_sections.specs.Spaces.{spaces_from}
+use Rattle.fk_scenario_sections.specs.Objects.{objects_from}
+use Rattle.fk_scenario_sections.specs.Servers.{servers_from}
+use Rattle.fk_scenario_sections.specs.Jobs.{entries_from}
 use Rattle.fk_scenario.specs.Servers.{serving_from}
 use Rattle.fk_scenario.specs.Jobs.{jobs_from}
 use Rattle.fk_scenario.specs.Aims.{aims_from}

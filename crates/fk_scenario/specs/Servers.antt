@@ -2,14 +2,14 @@
 use Rattle.std.specs.Prelude.{ℕ, Bool, true, false, not, ◌&&◌, List, [], ◌∷◌, ◌++◌, length, None, Result, Ok}
 use Rattle.std.specs.List.{list_any}
 use Rattle.std.specs.Str.{bytes_eq}
-use Rattle.fk_fields.specs.declared.fail.ScenarioError.{ScenarioError}
-use Rattle.fk_fields.specs.Gives.{◌>>=◌, unless, placed}
-use Rattle.fk_entries.specs.declared.types.ObjectEntry.{ObjectEntry}
-use Rattle.fk_entries.specs.declared.types.ServerEntry.{ServerEntry}
-use Rattle.fk_entries.specs.declared.types.ServiceSpec.{ServiceSpec}
-use Rattle.fk_entries.specs.declared.types.ServiceSpec.TheVariants.{Console, Listed}
-use Rattle.fk_entries.specs.declared.types.Spec.{Spec}
-use Rattle.fk_entries.specs.declared.types.Spec.TheVariants.{Port}
+use Rattle.fk_scenario_fields.specs.declared.fail.ScenarioError.{ScenarioError}
+use Rattle.fk_scenario_fields.specs.Gives.{◌>>=◌, unless, placed}
+use Rattle.fk_scenario_entries.specs.declared.types.ObjectEntry.{ObjectEntry}
+use Rattle.fk_scenario_entries.specs.declared.types.ServerEntry.{ServerEntry}
+use Rattle.fk_scenario_entries.specs.declared.types.ServiceSpec.{ServiceSpec}
+use Rattle.fk_scenario_entries.specs.declared.types.ServiceSpec.TheVariants.{Console, Listed}
+use Rattle.fk_scenario_entries.specs.declared.types.Spec.{Spec}
+use Rattle.fk_scenario_entries.specs.declared.types.Spec.TheVariants.{Port}
 use Rattle.fk_scenario.specs.Aims.{object_with, is_one}
 
 -- a port in no set

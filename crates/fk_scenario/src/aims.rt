@@ -1,12 +1,12 @@
 //! What paths and sets of objects lead to.
 ghost use Rattle.std.specs.Prelude.{◌≡◌, ◌++◌, ◌∷◌, [], option_map, option_copied, IfOk};
-ghost use Rattle.fk_fields.specs.Gives.{Answers};
+ghost use Rattle.fk_scenario_fields.specs.Gives.{Answers};
 ghost use Rattle.fk_scenario.specs.Aims as definitions;
 
-use fk_entries::{ObjectEntry, SpaceEntry, Spec};
-use fk_fields::{Entries, Fail, ScenarioFail, enclosing, index_at, rule};
 use fk_model::{List, NoMemory};
-use fk_sections::has_space;
+use fk_scenario_entries::{ObjectEntry, SpaceEntry, Spec};
+use fk_scenario_fields::{Entries, Fail, ScenarioFail, enclosing, index_at, rule};
+use fk_scenario_sections::has_space;
 use std::alloc::Global;
 
 const SECTION: u8 = 4;

@@ -1,11 +1,11 @@
 //! The jobs of a document, among its spaces and servers.
 ghost use Rattle.std.specs.Prelude.{◌≡◌, ◌++◌, ◌∷◌, [], IfOk};
-ghost use Rattle.fk_fields.specs.Gives.{Gives, Answers};
+ghost use Rattle.fk_scenario_fields.specs.Gives.{Gives, Answers};
 ghost use Rattle.fk_scenario.specs.Jobs as definitions;
 
-use fk_entries::{JobEntry, JobKind, ServerEntry, SpaceEntry};
-use fk_fields::{Fail, ScenarioFail, enclosing, index_at, rule, unless};
 use fk_model::{JobSpec, List, NoMemory};
+use fk_scenario_entries::{JobEntry, JobKind, ServerEntry, SpaceEntry};
+use fk_scenario_fields::{Fail, ScenarioFail, enclosing, index_at, rule, unless};
 use std::alloc::Global;
 
 const SECTION: u8 = 6;

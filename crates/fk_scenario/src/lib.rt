@@ -1,6 +1,6 @@
 //! The reader of scenarios: from the bytes of a TOML document to what a machine begins with.
 //!
-//! It stands on `fk_sections` for a first round, section by section, in which each entry meets those before
+//! It stands on `fk_scenario_sections` for a first round, section by section, in which each entry meets those before
 //! it. Here each meets all others in a second round. `specs/Reading.antt` has
 //! what a document says: a scenario, or the first refusal by rule, section and index. `read_scenario` gives
 //! exactly that, and every scenario that it gives keeps what a machine rests on that begins with it
@@ -14,8 +14,8 @@ mod rules;
 mod scenario;
 mod servers;
 
-pub use fk_entries::{ObjectEntry, Program, ServerEntry, ServiceSpec, SpaceEntry, Spec};
-pub use fk_fields::{ScenarioError, ScenarioFail};
+pub use fk_scenario_entries::{ObjectEntry, Program, ServerEntry, ServiceSpec, SpaceEntry, Spec};
+pub use fk_scenario_fields::{ScenarioError, ScenarioFail};
 pub use reading::read_scenario;
 pub use rules::server_rules;
 pub use scenario::Scenario;

@@ -2,8 +2,8 @@
 ghost use Rattle.std.specs.Prelude.{◌≡◌, ◌≤◌, option_map, is_some, codes, IfOk, IfErr};
 ghost use Rattle.toml.specs.Data.{get_member};
 ghost use Rattle.toml.specs.View.{table_view};
-ghost use Rattle.fk_fields.specs.Gives.{Gives, Answers};
-ghost use Rattle.fk_entries.specs.Servers.{rules_view};
+ghost use Rattle.fk_scenario_fields.specs.Gives.{Gives, Answers};
+ghost use Rattle.fk_scenario_entries.specs.Servers.{rules_view};
 ghost use Rattle.fk_scenario.specs.Kept.{KeepsScenario};
 ghost use Rattle.fk_scenario.specs.Reading as definitions;
 
@@ -11,13 +11,13 @@ use crate::aims::check_aims;
 use crate::jobs::jobs_of;
 use crate::scenario::Scenario;
 use crate::servers::check_servers;
-use fk_entries::{JobEntry, ObjectEntry, Program, ServerEntry, SpaceEntry};
-use fk_fields::{
+use fk_model::{List, Rule};
+use fk_scenario_entries::{JobEntry, ObjectEntry, Program, ServerEntry, SpaceEntry};
+use fk_scenario_fields::{
     Entries, Fail, ScenarioError, ScenarioFail, array_in, has_key, integer_in, known,
     needed_integer, ranged, table_in,
 };
-use fk_model::{List, Rule};
-use fk_sections::{entries_in, objects_in, programs_in, servers_in, spaces_in};
+use fk_scenario_sections::{entries_in, objects_in, programs_in, servers_in, spaces_in};
 use std::alloc::Global;
 use toml::Table;
 use toml::value::Array;

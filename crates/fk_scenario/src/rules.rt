@@ -1,6 +1,6 @@
 //! The rules that native servers have here.
 ghost use Rattle.std.specs.Prelude.{◌≡◌, IfOk};
-ghost use Rattle.fk_entries.specs.Servers.{rules_view};
+ghost use Rattle.fk_scenario_entries.specs.Servers.{rules_view};
 ghost use Rattle.fk_scenario.specs.Rules as definitions;
 
 use fk_model::{NoMemory, Rule};

@@ -1,6 +1,6 @@
 //! What a scenario is.
-use fk_entries::{ObjectEntry, Program, ServerEntry, SpaceEntry};
 use fk_model::{JobSpec, List};
+use fk_scenario_entries::{ObjectEntry, Program, ServerEntry, SpaceEntry};
 
 /// A scenario: its entries in the order of the file, the programs in the order of their names.
 #[derive(Drop)]

@@ -1,12 +1,12 @@
 //! Whether servers may serve.
 ghost use Rattle.std.specs.Prelude.{◌≡◌, ◌++◌, ◌∷◌, [], IfOk};
-ghost use Rattle.fk_fields.specs.Gives.{Answers};
+ghost use Rattle.fk_scenario_fields.specs.Gives.{Answers};
 ghost use Rattle.fk_scenario.specs.Aims.{object_with, is_one};
 ghost use Rattle.fk_scenario.specs.Servers as definitions;
 
-use fk_entries::{ObjectEntry, ServerEntry, ServiceSpec, Spec};
-use fk_fields::{Entries, Fail, Path, ScenarioFail, index_at, rule};
 use fk_model::{NoMemory, Text};
+use fk_scenario_entries::{ObjectEntry, ServerEntry, ServiceSpec, Spec};
+use fk_scenario_fields::{Entries, Fail, Path, ScenarioFail, index_at, rule};
 use std::alloc::Global;
 
 const SECTION: u8 = 5;

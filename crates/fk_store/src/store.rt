@@ -26,7 +26,7 @@ mod served;
 mod words;
 
 use fk_model::{Body, NoMemory, Who};
-use fk_tables::{Bodies, Pages, Sweep};
+use fk_store_tables::{Bodies, Pages, Sweep};
 use std::alloc::Global;
 use std::marker::Model;
 

@@ -15,16 +15,16 @@ use Rattle.fk_model.specs.World.{World, Edit, edited, apply, apply_all, set_at}
 use Rattle.fk_model.specs.World.Change.{Alter}
 use Rattle.fk_model.specs.StateRows.{referable}
 use Rattle.fk_model.specs.Valid.{kind_there, is_one_of, may_lead, all_in}
-use Rattle.fk_laws.proofs.safety.Safe.{takes_pointer, takes_set, AreSafe}
-use Rattle.fk_laws.proofs.validity.Edits.{outline-edited}
-use Rattle.fk_laws.proofs.validity.Outlines.{Outline, outline_of, outline-kind}
-use Rattle.fk_entries.specs.declared.types.SpaceEntry.{SpaceEntry}
-use Rattle.fk_entries.specs.declared.types.ObjectEntry.{ObjectEntry}
-use Rattle.fk_entries.specs.declared.types.Spec.{Spec}
-use Rattle.fk_entries.specs.declared.types.Spec.TheVariants as specs
-use Rattle.fk_fields.specs.Paths.{enclosing}
+use Rattle.laws_machine.proofs.safety.Safe.{takes_pointer, takes_set, AreSafe}
+use Rattle.laws_machine.proofs.validity.Edits.{outline-edited}
+use Rattle.laws_machine.proofs.validity.Outlines.{Outline, outline_of, outline-kind}
+use Rattle.fk_scenario_entries.specs.declared.types.SpaceEntry.{SpaceEntry}
+use Rattle.fk_scenario_entries.specs.declared.types.ObjectEntry.{ObjectEntry}
+use Rattle.fk_scenario_entries.specs.declared.types.Spec.{Spec}
+use Rattle.fk_scenario_entries.specs.declared.types.Spec.TheVariants as specs
+use Rattle.fk_scenario_fields.specs.Paths.{enclosing}
 use Rattle.fk_scenario.specs.Aims.{object_with, is_region_spec, is_port_spec, is_portset_spec, can_be_referred_to, is_one, entry_space, aims_well}
-use Rattle.fk_sections.specs.Spaces.{has_space}
+use Rattle.fk_scenario_sections.specs.Spaces.{has_space}
 use Rattle.fk_boot.specs.FirstWorld.{first_body, aim_changes, aims}
 use Rattle.fk_boot.proofs.Aiming.{find-passes, both-hold}
 use Rattle.fk_boot.proofs.Walks.{last}

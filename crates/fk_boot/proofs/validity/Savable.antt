@@ -16,19 +16,19 @@ use Rattle.fk_model.specs.Searches.{slots, depth, talk_at, fault_at}
 use Rattle.fk_model.specs.Holds.{holder_of}
 use Rattle.fk_model.specs.StateRows.{is_native}
 use Rattle.fk_model.specs.Whole.{stands_in, HasFullPages, IsSavable}
-use Rattle.fk_whole.specs.Runnable.{IsRunnable}
-use Rattle.fk_whole.proofs.Laws.{savable_runnable}
-use Rattle.fk_savable.proofs.Kept.{IsTidy, IsKept, AreKept}
-use Rattle.fk_savable.proofs.Standing.{low-stands}
-use Rattle.fk_savable.proofs.Laws.{savable-all}
-use Rattle.fk_entries.specs.declared.types.Program.{Program}
-use Rattle.fk_entries.specs.declared.types.SpaceEntry.{SpaceEntry}
-use Rattle.fk_entries.specs.declared.types.ObjectEntry.{ObjectEntry}
-use Rattle.fk_entries.specs.declared.types.Spec.{Spec}
-use Rattle.fk_entries.specs.declared.types.Spec.TheVariants as specs
+use Rattle.laws_whole.specs.Runnable.{IsRunnable}
+use Rattle.laws_whole.proofs.Laws.{savable_runnable}
+use Rattle.laws_savable.proofs.Kept.{IsTidy, IsKept, AreKept}
+use Rattle.laws_savable.proofs.Standing.{low-stands}
+use Rattle.laws_savable.proofs.Laws.{savable-all}
+use Rattle.fk_scenario_entries.specs.declared.types.Program.{Program}
+use Rattle.fk_scenario_entries.specs.declared.types.SpaceEntry.{SpaceEntry}
+use Rattle.fk_scenario_entries.specs.declared.types.ObjectEntry.{ObjectEntry}
+use Rattle.fk_scenario_entries.specs.declared.types.Spec.{Spec}
+use Rattle.fk_scenario_entries.specs.declared.types.Spec.TheVariants as specs
 use Rattle.fk_scenario.specs.declared.scenario.Scenario.{Scenario}
-use Rattle.fk_entries.specs.Kept.{AreSlots, IsSpecInRange}
-use Rattle.fk_sections.specs.Kept.{EachAfter, KeepsSpace, KeepsObject}
+use Rattle.fk_scenario_entries.specs.Kept.{AreSlots, IsSpecInRange}
+use Rattle.fk_scenario_sections.specs.Kept.{EachAfter, KeepsSpace, KeepsObject}
 use Rattle.fk_scenario.specs.Kept.{KeepsScenario}
 use Rattle.fk_store.specs.World.{first_world}
 use Rattle.fk_boot.specs.FirstWorld.{page_words, zero_pages, program_page, words_of_program, space_itself, space_changes, first_body, object_changes, aims, points_to, belongs_to, aim_changes, boot_changes, booted}

@@ -8,15 +8,15 @@ use Rattle.fk_model.specs.Searches.{talk_at, fault_at}
 use Rattle.fk_model.specs.World.{World, apply_all}
 use Rattle.fk_model.specs.Valid.{IsConsistent, IsRooted, IsPaged, IsValid, kind_there, birth_at, all_in, is_good, services}
 use Rattle.fk_store.specs.World.{first_world}
-use Rattle.fk_laws.proofs.safety.Safe.{AreSafe}
-use Rattle.fk_laws.proofs.validity.Changes.{valid-apply_all, rooted-apply_all, paged-apply_all}
-use Rattle.fk_entries.specs.declared.types.Program.{Program}
-use Rattle.fk_entries.specs.declared.types.SpaceEntry.{SpaceEntry}
-use Rattle.fk_entries.specs.declared.types.ObjectEntry.{ObjectEntry}
+use Rattle.laws_machine.proofs.safety.Safe.{AreSafe}
+use Rattle.laws_machine.proofs.validity.Changes.{valid-apply_all, rooted-apply_all, paged-apply_all}
+use Rattle.fk_scenario_entries.specs.declared.types.Program.{Program}
+use Rattle.fk_scenario_entries.specs.declared.types.SpaceEntry.{SpaceEntry}
+use Rattle.fk_scenario_entries.specs.declared.types.ObjectEntry.{ObjectEntry}
 use Rattle.fk_scenario.specs.declared.scenario.Scenario.{Scenario}
-use Rattle.fk_sections.specs.Kept.{EachAfter, KeepsSpace}
+use Rattle.fk_scenario_sections.specs.Kept.{EachAfter, KeepsSpace}
 use Rattle.fk_scenario.specs.Kept.{KeepsScenario}
-use Rattle.fk_sections.specs.Spaces.{has_space}
+use Rattle.fk_scenario_sections.specs.Spaces.{has_space}
 use Rattle.fk_boot.specs.FirstWorld.{space_changes, object_changes, aim_changes, boot_changes, booted}
 use Rattle.fk_boot.specs.MadeSoFar.{HasSpaces}
 use Rattle.fk_boot.proofs.Aiming.{or_right, all-inside, each-aims}

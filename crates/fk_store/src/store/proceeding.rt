@@ -11,7 +11,7 @@ ghost use Rattle.fk_store.specs.World.{world};
 
 use crate::Store;
 use fk_model::{Mode, Who};
-use fk_tables::Nudge;
+use fk_store_tables::Nudge;
 
 impl Store {
     /// A thread goes on with these registers, at this counter and in this mode. What is no thread

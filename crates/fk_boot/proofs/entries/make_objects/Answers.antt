@@ -1,5 +1,5 @@
 use Rattle.std.proofs.Common.{take, refl}
-use Rattle.fk_sections.specs.Kept.{KeepsObject}
+use Rattle.fk_scenario_sections.specs.Kept.{KeepsObject}
 use Rattle.fk_store.specs.World.{world}
 use Rattle.fk_boot.specs.FirstWorld.{object_changes}
 use Rattle.fk_boot.proofs.Changes.{more-entries, no-entries}

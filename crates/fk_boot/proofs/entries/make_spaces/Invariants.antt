@@ -1,7 +1,7 @@
 use Rattle.std.proofs.Common.{◌≡◌, take, drop}
 use Rattle.std.specs.List.{flat_map}
 use Rattle.fk_model.specs.World.{apply_all}
-use Rattle.fk_sections.specs.Kept.{EachAfter, KeepsSpace}
+use Rattle.fk_scenario_sections.specs.Kept.{EachAfter, KeepsSpace}
 use Rattle.fk_store.specs.World.{world}
 use Rattle.fk_boot.specs.FirstWorld.{space_changes}
 use Rattle.fk_boot.specs.MadeSoFar.{HasSpaces}

@@ -1,5 +1,5 @@
 use Rattle.std.proofs.Common.{subst, sym, arith}
-use Rattle.fk_spelling.proofs.RoundTrip.{reading_again}
+use Rattle.fk_image_format.proofs.RoundTrip.{reading_again}
 use Rattle.fk_codec.specs.Given.{Reads}
 use Rattle.fk_codec.proofs.Found.{is_found}
 use Rattle.fk_codec.proofs.reading.read.Goals as goal

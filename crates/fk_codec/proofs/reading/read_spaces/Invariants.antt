@@ -1,7 +1,7 @@
 use Rattle.std.proofs.Common.{◌≡◌, ◌-◌, [], length}
 use Rattle.fk_image.specs.Preorder.{after_space, root_path}
-use Rattle.fk_spelling.specs.Fields.{read_many}
-use Rattle.fk_spelling.specs.Reading.{read_space}
+use Rattle.fk_image_format.specs.Fields.{read_many}
+use Rattle.fk_image_format.specs.Reading.{read_space}
 use Rattle.fk_codec.proofs.reading.read_spaces.Given as goal
 
 abbrev pub invariant-loop-number : goal.invariant-loop-number

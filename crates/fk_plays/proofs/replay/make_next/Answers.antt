@@ -2,7 +2,7 @@ use Rattle.std.proofs.Common.{◌<◌}
 use Rattle.std.proofs.lemmas.Bool.{OnFalse_at}
 use Rattle.fk_store.specs.World.{world}
 use Rattle.fk_plays.specs.Replay.{IsReadyMove}
-use Rattle.fk_traces.proofs.Traces.{BeginsWithNone-first}
+use Rattle.fk_trace_text.proofs.Traces.{BeginsWithNone-first}
 use Rattle.fk_plays.proofs.replay.make_next.Goals as goal
 
 -- the line that stands first is of a move that isn't ready

@@ -1,10 +1,10 @@
 use Rattle.std.proofs.Common.{◌≡◌, ℕ, ◌<◌, ◌≤◌, [], ◌∷◌, ◌++◌, length, length-append, ap, sym, subst, ◌∙◌, inl, inr, rules, arith, refl}
 use Rattle.fk_model.specs.World.{World}
 use Rattle.fk_store.specs.World.{world}
-use Rattle.fk_traces.specs.Trace.{trace_text, AreLegal, Spells, BeginsWith, BeginsWithNone}
+use Rattle.fk_trace_text.specs.Trace.{trace_text, AreLegal, Spells, BeginsWith, BeginsWithNone}
 use Rattle.fk_plays.specs.Replay.{IsReadyMove, MayPlay, after_move, played}
 use Rattle.fk_plays.proofs.Replays.{played-more}
-use Rattle.fk_traces.proofs.Traces.{AreLegal-more, trace_text-more, Spells-same, Spells-not_bad, trace_text-all}
+use Rattle.fk_trace_text.proofs.Traces.{AreLegal-more, trace_text-more, Spells-same, Spells-not_bad, trace_text-all}
 use Rattle.fk_plays.proofs.replay.replay.Goals as goal
 
 pub returns-in_default-clause-back : goal.returns-in_default-clause-back

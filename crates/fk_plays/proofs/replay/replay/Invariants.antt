@@ -1,5 +1,5 @@
 use Rattle.std.proofs.Common.{◌≡◌, ◌≤◌, ◌++◌, length}
-use Rattle.fk_traces.specs.Trace.{trace_text, AreLegal}
+use Rattle.fk_trace_text.specs.Trace.{trace_text, AreLegal}
 use Rattle.fk_plays.specs.Replay.{MayPlay, played}
 use Rattle.fk_store.specs.World.{world}
 use Rattle.fk_plays.proofs.replay.replay.Given as goal

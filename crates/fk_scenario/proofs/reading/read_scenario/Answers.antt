@@ -1,5 +1,5 @@
 use Rattle.toml.specs.View.{table_view}
-use Rattle.fk_entries.specs.Servers.{rules_view}
+use Rattle.fk_scenario_entries.specs.Servers.{rules_view}
 use Rattle.fk_scenario.proofs.Kept.{scenario_kept}
 use Rattle.fk_scenario.proofs.reading.read_scenario.Goals as goal
 

@@ -1,0 +1,50 @@
+//! Worked examples: what a porter's call owes, so that a world stays savable, and that without it one doesn't. Each example
+//! is the contract of a function that does nothing, proved by computing both sides.
+#![tactic(auto)]
+
+ghost use Rattle.fk_model.specs.Runs.{after};
+ghost use Rattle.fk_model.specs.Whole.{IsWhole, IsSavable};
+ghost use Rattle.laws_whole.specs.Runnable.{IsDue};
+ghost use Rattle.examples_moves.specs.Worked.{IsReadyTo};
+ghost use Rattle.laws_savable.specs.Savable.{Owes};
+ghost use Rattle.examples_owed.specs.Owed.{leads_within, leads_outside, gives_hold, makes_in, makes_held_in, destroys_in, renames_from};
+
+/// A whole and savable world in which a porter makes calls that are due, and gives what they owe: it
+/// holds by itself, makes references in its scratch and users' objects elsewhere, and destroys these.
+/// It is ready to set the hold, and the world can be saved afterwards.
+pub fn a_porter_gives_what_it_owes()
+    ensures whole { IsWhole leads_outside }
+    ensures savable { IsSavable leads_outside }
+    ensures due { IsDue leads_outside gives_hold }
+    ensures hold { Owes leads_outside gives_hold }
+    ensures mutex { Owes leads_outside (makes_in 3 1) }
+    ensures reference { Owes leads_outside (makes_in 241 9) }
+    ensures space { Owes leads_outside (makes_held_in 3) }
+    ensures clears { Owes leads_outside (destroys_in 240) }
+    ensures destroys { Owes leads_outside (destroys_in 1) }
+    ensures renames { Owes leads_outside (renames_from 8) }
+    ensures ready { IsReadyTo leads_outside gives_hold }
+    ensures after { IsSavable (after leads_outside gives_hold) }
+{}
+
+/// A holder that lives within isn't owed, and with it the world can't be saved, though it could before.
+pub fn a_holder_that_lives_within()
+    ensures whole { IsWhole leads_within }
+    ensures savable { IsSavable leads_within }
+    ensures due { IsDue leads_within gives_hold }
+    ensures owes { Owes leads_within gives_hold → ⊥ }
+    ensures after { IsSavable (after leads_within gives_hold) → ⊥ }
+{}
+
+/// Nor can it be with a mutex or a space in a slot of scratch, without the porter at whose port a talk
+/// is parked, or with the scratch in a slot of a user's and the porter there.
+pub fn what_a_porter_may_not_leave()
+    ensures mutex_owes { Owes leads_outside (makes_in 241 1) → ⊥ }
+    ensures mutex { IsSavable (after leads_outside (makes_in 241 1)) → ⊥ }
+    ensures space_owes { Owes leads_outside (makes_held_in 241) → ⊥ }
+    ensures space { IsSavable (after leads_outside (makes_held_in 241)) → ⊥ }
+    ensures porter_owes { Owes leads_outside (destroys_in 255) → ⊥ }
+    ensures porter { IsSavable (after leads_outside (destroys_in 255)) → ⊥ }
+    ensures renamed_owes { Owes leads_outside (renames_from 255) → ⊥ }
+    ensures renamed { IsSavable (after leads_outside (renames_from 255)) → ⊥ }
+{}

@@ -1,0 +1,10 @@
+//! Whether an image is valid.
+//!
+//! It stands on `fk_image` for the records and what validity is (`specs/Valid.antt` there), and on
+//! `fk_image_pointers` for where pointers lead. `is_valid` answers exactly that.
+#![tactic(auto)]
+
+mod objects;
+mod spaces;
+
+pub use spaces::is_valid;

@@ -1,0 +1,12 @@
+use Rattle.std.proofs.Common.{append_assoc}
+use Rattle.fk_image_writing.proofs.writing.put_thread.Goals as goal
+
+pub returns : goal.returns
+returns c = rw (
+  c.in_ok-put_fault.ensures,
+  c.in_ok-put_talk.ensures,
+  c.in_ok-put_mode.ensures,
+  c.in_ok-extend_from_slice.ensures.items,
+  c.to_le_bytes.ensures,
+  c.in_ok-put_words.ensures,
+) (simp append_assoc)

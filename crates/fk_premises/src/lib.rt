@@ -1,9 +1,0 @@
-//! Worked examples of what the laws suppose: a world that meets each premise, and worlds that just don't.
-//!
-//! It stands on `fk_worked` for its worlds, on `fk_frozen`, `fk_whole` and `fk_further` for the premises of
-//! their laws, and on `fk_model`; nothing stands on it.
-//! Each example is a function that does nothing and ensures what is so. The worlds are written by
-//! hand; the prover tests each object that they list.
-#![tactic(auto)]
-
-pub mod premises;

@@ -1,5 +1,0 @@
-use Rattle.fk_transparency.proofs.cut.GivenPages.{page_give_user}
-use Rattle.fk_transparency.proofs.cut_laws.a_given_page_keeps_the_cut.Goals as goal
-
-pub returns : goal.returns
-returns c = page_give_user

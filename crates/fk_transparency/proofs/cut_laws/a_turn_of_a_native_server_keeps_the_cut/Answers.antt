@@ -1,5 +1,0 @@
-use Rattle.fk_transparency.proofs.talks.Natives.{over_keeps}
-use Rattle.fk_transparency.proofs.cut_laws.a_turn_of_a_native_server_keeps_the_cut.Goals as goal
-
-pub returns : goal.returns
-returns c = over_keeps

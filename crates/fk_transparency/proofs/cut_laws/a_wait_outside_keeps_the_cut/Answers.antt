@@ -1,5 +1,0 @@
-use Rattle.fk_transparency.proofs.waits.Outside.{wait_outside_keeps}
-use Rattle.fk_transparency.proofs.cut_laws.a_wait_outside_keeps_the_cut.Goals as goal
-
-pub returns : goal.returns
-returns c = wait_outside_keeps

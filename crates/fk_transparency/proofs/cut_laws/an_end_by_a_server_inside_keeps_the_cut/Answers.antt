@@ -1,5 +1,0 @@
-use Rattle.fk_transparency.proofs.talks.Ends.{end_keeps}
-use Rattle.fk_transparency.proofs.cut_laws.an_end_by_a_server_inside_keeps_the_cut.Goals as goal
-
-pub returns : goal.returns
-returns c = end_keeps

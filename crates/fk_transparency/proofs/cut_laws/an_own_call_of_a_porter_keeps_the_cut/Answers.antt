@@ -1,5 +1,0 @@
-use Rattle.fk_transparency.proofs.cut.Calls.{serverless_calls_keep}
-use Rattle.fk_transparency.proofs.cut_laws.an_own_call_of_a_porter_keeps_the_cut.Goals as goal
-
-pub returns : goal.returns
-returns c = serverless_calls_keep

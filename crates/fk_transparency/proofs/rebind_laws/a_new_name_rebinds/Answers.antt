@@ -1,5 +1,0 @@
-use Rattle.fk_transparency.proofs.cut.Objects.{rename_rebinds}
-use Rattle.fk_transparency.proofs.rebind_laws.a_new_name_rebinds.Goals as goal
-
-pub returns : goal.returns
-returns c = rename_rebinds

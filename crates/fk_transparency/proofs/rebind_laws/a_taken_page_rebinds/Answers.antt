@@ -1,5 +1,0 @@
-use Rattle.fk_transparency.proofs.cut.Pages.{page_take_rebinds}
-use Rattle.fk_transparency.proofs.rebind_laws.a_taken_page_rebinds.Goals as goal
-
-pub returns : goal.returns
-returns c = page_take_rebinds

@@ -1,5 +1,0 @@
-use Rattle.fk_transparency.proofs.rebinding.Messages.{server_over_rebinds}
-use Rattle.fk_transparency.proofs.rebind_laws.a_turn_of_a_server_rebinds.Goals as goal
-
-pub returns : goal.returns
-returns c = server_over_rebinds

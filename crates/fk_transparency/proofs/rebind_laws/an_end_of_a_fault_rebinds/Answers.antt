@@ -1,5 +1,0 @@
-use Rattle.fk_transparency.proofs.waits.FaultEnds.{fault_done_rebinds}
-use Rattle.fk_transparency.proofs.rebind_laws.an_end_of_a_fault_rebinds.Goals as goal
-
-pub returns : goal.returns
-returns c = fault_done_rebinds

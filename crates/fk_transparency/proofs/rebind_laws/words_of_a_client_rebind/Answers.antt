@@ -1,5 +1,0 @@
-use Rattle.fk_transparency.proofs.rebinding.Messages.{client_send_rebinds}
-use Rattle.fk_transparency.proofs.rebind_laws.words_of_a_client_rebind.Goals as goal
-
-pub returns : goal.returns
-returns c = client_send_rebinds

@@ -1,5 +1,0 @@
-use Rattle.fk_transparency.proofs.rebinding.Messages.{server_send_rebinds}
-use Rattle.fk_transparency.proofs.rebind_laws.words_of_a_server_rebind.Goals as goal
-
-pub returns : goal.returns
-returns c = server_send_rebinds

@@ -1,5 +1,0 @@
-use Rattle.fk_whole.proofs.Laws.{gives_one_number}
-use Rattle.fk_whole.proofs.a_due_move_gives_one_number.Goals as goal
-
-pub returns : goal.returns
-returns c = gives_one_number

@@ -1,0 +1,121 @@
+-- A due move keeps a world savable, and so does a run of them.
+use Rattle.std.proofs.Common.{◌≡◌, [], ◌∷◌, true, List, refl, arith}
+use Rattle.fk_model.specs.declared.moves.Ask.{Ask}
+use Rattle.fk_model.specs.declared.moves.Ask.TheVariants as asks
+use Rattle.fk_model.specs.Places.{Path}
+use Rattle.fk_model.specs.World.{World, Change, apply, apply_all}
+use Rattle.fk_model.specs.Outcomes.{Outcome}
+use Rattle.fk_model.specs.Outcomes.Outcome.{Refused, Waits, Goes}
+use Rattle.fk_model.specs.Moves.{outcome, step, stepped}
+use Rattle.fk_model.specs.Runs.{after, run}
+use Rattle.fk_model.specs.Valid.{IsConsistent, is_fit}
+use Rattle.fk_model.specs.Whole.{IsSavable}
+use Rattle.laws_machine.proofs.validity.Changes.{valid-apply}
+use Rattle.laws_machine.proofs.validity.Steps.{facts_of}
+use Rattle.laws_machine.proofs.safety.Safe.{AreSafe}
+use Rattle.laws_machine.proofs.safety.Outcomes.{SafeOutcome}
+use Rattle.laws_machine.proofs.safety.Moves.{outcome-safe}
+use Rattle.laws_frozen.specs.Users.{is_users}
+use Rattle.laws_whole.specs.Runnable.{has_all_words}
+use Rattle.laws_whole.proofs.Younger.{younger-all}
+use Rattle.laws_whole.proofs.Laws.{savable_runnable, keeps_runnable, gives_one_number}
+use Rattle.laws_savable.specs.Savable.{OwesAsk, DueMoveKeepsSavable, UsersMoveKeepsSavable, RunKeepsSavable}
+use Rattle.laws_savable.proofs.Kept.{AreTidy, AreKept, KeptOutcome}
+use Rattle.laws_savable.proofs.Bodies.{AllTidy, all-tidy, are-tidy, tidy-apply}
+use Rattle.laws_savable.proofs.Holders.{HoldersOutside, outside-apply}
+use Rattle.laws_savable.proofs.Standing.{AllStand}
+use Rattle.laws_savable.proofs.Sorts.{stand-apply}
+use Rattle.laws_savable.proofs.Placed.{TalksPlaced, FaultsPlaced, talks-apply, faults-apply}
+use Rattle.laws_savable.proofs.Moves.{Premise, outcome-kept}
+
+-- ---- what can be saved, but for births
+
+pub record Saved (v : World) : Type 0 where
+  pub tidy : AllTidy v
+  pub outside : HoldersOutside v
+  pub talks : TalksPlaced v
+  pub faults : FaultsPlaced v
+  pub stand : AllStand v
+
+tidy-of : (w : World) → IsSavable w → AreTidy w
+tidy-of w savable x t there = record { shaped = savable.shaped x t there; stops = savable.few_stops x t there; code = savable.codes x t there }
+
+saved-of : (w : World) → IsSavable w → Saved w
+saved-of w savable = record {
+  tidy = all-tidy w (tidy-of w savable);
+  outside = savable.holders_outside;
+  talks = savable.talks_placed;
+  faults = savable.faults_placed;
+  stand = savable.slots_kept;
+}
+
+saved-all : (cs : List Change) (v : World) → IsConsistent v → Saved v → AreSafe v cs → AreKept v cs → Saved (apply_all cs v)
+unfolding apply_all
+saved-all [] v valid saved safe kept = saved
+saved-all (c ∷ cs) v valid saved safe kept = saved-all cs (apply c v) (valid-apply c v valid safe.0) (record {
+  tidy = tidy-apply v saved.tidy c kept.0;
+  outside = outside-apply v valid saved.outside c safe.0 kept.0;
+  talks = talks-apply v saved.talks saved.faults valid c safe.0 kept.0;
+  faults = faults-apply v saved.talks saved.faults valid c safe.0 kept.0;
+  stand = stand-apply v saved.stand c safe.0 kept.0;
+}) safe.1 kept.1
+
+-- kept changes that are safe keep a world savable
+pub savable-all : (cs : List Change) (w : World) → IsConsistent w → IsSavable w → AreSafe w cs → AreKept w cs → IsSavable (apply_all cs w)
+savable-all cs w valid savable safe kept =
+    let saved = saved-all cs w valid (saved-of w savable) safe kept in
+    let tidy = are-tidy (apply_all cs w) saved.tidy in
+    record {
+      younger = younger-all cs w valid savable.younger safe;
+      shaped = λ x t there. (tidy x t there).shaped;
+      few_stops = λ x t there. (tidy x t there).stops;
+      codes = λ x t there. (tidy x t there).code;
+      holders_outside = saved.outside;
+      talks_placed = saved.talks;
+      faults_placed = saved.faults;
+      slots_kept = saved.stand;
+    }
+
+savable-stepped : (w : World) (o : Outcome) → IsConsistent w → IsSavable w → SafeOutcome w o → KeptOutcome w o → IsSavable (stepped w o).world
+savable-stepped w (Goes cs said) valid savable safe kept = savable-all cs w valid savable safe.safe kept.kept
+savable-stepped w (Refused status) valid savable safe kept = savable
+savable-stepped w Waits valid savable safe kept = savable
+
+-- ---- a move, and a run
+
+pub keeps_savable : DueMoveKeepsSavable
+unfolding step
+keeps_savable w e whole savable due owes =
+    let premise : Premise w = record {
+      valid = whole.valid.consistent;
+      rooted = whole.valid.rooted;
+      pages = whole.full;
+      tidy = tidy-of w savable;
+      stand = savable.slots_kept;
+    } in
+    savable-stepped w (outcome w e.mover e.pick e.ask) whole.valid.consistent savable
+    (outcome-safe w e.mover e.pick e.ask (facts_of w whole.valid whole.few) due.fit)
+    (outcome-kept w premise e.mover e.pick e.ask due.words owes)
+
+users-due : (w : World) (x : Path) (ask : Ask) → is_users ask ≡ true → (is_fit w x ask ≡ true) × (has_all_words ask ≡ true) × OwesAsk w x ask
+unfolding is_fit
+users-due w x asks.Run users = (refl, refl, tt)
+users-due w x (asks.Call stage words) users = cc
+users-due w x asks.Accept users = (refl, refl, tt)
+users-due w x (asks.Give words len) users = (refl, refl, tt)
+users-due w x asks.Over users = (refl, refl, tt)
+
+pub users_keep_savable : UsersMoveKeepsSavable
+users_keep_savable w e whole savable users =
+    let due = users-due w e.mover e.ask users in
+    keeps_savable w e whole savable (record { fit = due.0; words = due.1 }) due.2
+
+pub run_keeps_savable : RunKeepsSavable
+unfolding run
+run_keeps_savable w [] sound left owes = sound
+run_keeps_savable w (e ∷ es) sound left owes =
+    let runs = savable_runnable w sound.whole sound.savable in
+    let one = gives_one_number w e runs owes.0 in
+    let next = keeps_runnable w e runs owes.0 (omega (arith, left)) in
+    run_keeps_savable (after w e) es
+    (record { whole = next.whole; savable = keeps_savable w e sound.whole sound.savable owes.0 owes.1 }) (omega (arith, one, left)) owes.2

@@ -1,0 +1,223 @@
+-- What every move comes to keeps what can be saved, where a porter's call gives what it owes.
+use Rattle.std.proofs.Common.{◌≡◌, ℕ, Bool, true, false, if◌then◌else◌, not, ◌&&◌, ◌||◌, is_none, length, List, [], ◌∷◌, take, Option, Some, None, refl, ap}
+use Rattle.std.proofs.lemmas.Bool.{and_parts, eqb-true}
+use Rattle.fk_model.specs.declared.limits.TheConstants.{LAST_PORTER_SLOT, PAGE_WORDS}
+use Rattle.fk_model.specs.declared.moves.Ask.{Ask}
+use Rattle.fk_model.specs.declared.moves.Ask.TheVariants as asks
+use Rattle.fk_model.specs.declared.stage.Stage.{Stage}
+use Rattle.fk_model.specs.declared.stage.Stage.TheVariants.{Create, Destroy, Rename, Search, Point, Clear, Locate, CountIn, GetState, SetState, GetPtr, SetPtr, SpaceHold, SpaceRelease, ThreadStop, ThreadGo, PageGive, PageTake, PageRead, PageNext, MutexLock, MutexTrylock, MutexUnlock, CondWait, CondAsleep, CondSignal, CondBroadcast, Connect, ClientReceive, ClientSend, ClientOver, Disconnect, Wait, ServerReceive, ServerSend, ServerOver, ServerEnd, FaultDone, LinkSet, LinkPark, FaultSet, FaultPark, HoldSet, SpaceMakeHeld}
+use Rattle.fk_model.specs.declared.statuses.status.TheConstants.{DENIED}
+use Rattle.fk_model.specs.declared.thread.Turn.TheVariants as turns
+use Rattle.fk_model.specs.Places.{Path}
+use Rattle.fk_model.specs.Objects.{Mode, Thread, Body, thread_of, and_then, holds}
+use Rattle.fk_model.specs.Objects.Body.{Thread_of}
+use Rattle.fk_model.specs.Objects.Mode.{Running, Calling}
+use Rattle.fk_model.specs.World.{World}
+use Rattle.fk_model.specs.Holds.{is_free, is_unheld, is_porter}
+use Rattle.fk_model.specs.Outcomes.{Outcome, Caller, path_of}
+use Rattle.fk_model.specs.Outcomes.Outcome.{Refused, Waits, Goes}
+use Rattle.fk_model.specs.LinkRows.{user_at}
+use Rattle.fk_model.specs.StateRows.{is_native}
+use Rattle.fk_model.specs.Moves.{stage_row, is_for_porters, is_denied, allowed_row, chooses, with_pick, closed, call_row, goes_on, user_move, porter_at, porter_move, outcome}
+use Rattle.fk_model.specs.Valid.{IsConsistent, IsRooted}
+use Rattle.fk_model.specs.Whole.{HasFullPages}
+use Rattle.laws_machine.proofs.safety.Reads.{IsCaller, kind-there, body-thread_of}
+use Rattle.laws_machine.proofs.safety.Moves.{thread-caller}
+use Rattle.laws_whole.specs.Runnable.{has_all_words}
+use Rattle.laws_savable.specs.Savable.{OwesStage, OwesAsk}
+use Rattle.laws_savable.proofs.Kept.{is_last_receive, AreTidy, is_single, leaves_room, of_thread, KeptOutcome, refused, waits, goes, kept-when, if-kept}
+use Rattle.laws_savable.proofs.Todos.{opens, is_wait, opens_first, GoesOn, has_rest}
+use Rattle.laws_savable.proofs.Standing.{AllStand, native-last}
+use Rattle.laws_savable.proofs.Rows.{run_row-kept, mutex_lock-kept, mutex_trylock-kept, mutex_unlock-kept, cond_wait-kept, cond_asleep-kept, cond_signal-kept, cond_broadcast-kept, send-kept, receive-kept, over-kept, thread_stop-kept, thread_go-kept, page_give-kept, page_take-kept, page_read-kept, page_next-kept}
+use Rattle.laws_savable.proofs.Objects.{create-kept, destroy-kept, rename-kept, point-kept, clear-kept, search_row-kept, locate-kept, count_in-kept, space_hold-kept, space_release-kept, hold_set-kept, space_make_held-kept, get_state-kept, set_state-kept, get_ptr-kept, set_ptr-kept}
+use Rattle.laws_savable.proofs.Links.{IsNester, wait-kept, connect-kept, disconnect-kept, fault_done-kept, link_set-kept, link_park-kept, fault_set-kept, fault_park-kept, accept_row-kept, give_row-kept, over_row-kept}
+
+-- what is known of the world in which a move is judged
+pub record Premise (w : World) : Type 0 where
+  pub valid : IsConsistent w
+  pub rooted : IsRooted w
+  pub pages : HasFullPages w
+  pub tidy : AreTidy w
+  pub stand : AllStand w
+
+-- a porter in its space's last slot gives 64 words, and what its call owes
+pub record IsGiving (w : World) (c : Caller) (stage : Stage) : Type 0 where
+  pub nester : IsNester w c
+  pub words : length c.words ≡ PAGE_WORDS
+  pub owes : OwesStage w c stage
+
+-- a user is at the stage; a porter gives
+pub record IsMaking (w : World) (c : Caller) (stage : Stage) : Type 0 where
+  pub caller : IsCaller w c
+  pub single : c.is_porter ≡ false → opens stage ≡ false → of_thread is_single (w.body (path_of c)) ≡ true
+  pub room : c.is_porter ≡ false → is_wait stage ≡ true → of_thread (leaves_room 2) (w.body (path_of c)) ≡ true
+  pub giving : c.is_porter ≡ true → IsGiving w c stage
+  pub allowed : is_denied c stage ≡ false
+
+module _ (w : World) (premise : Premise w) where
+  -- who makes a stage that is for porters is one
+  for-porters : (c : Caller) (stage : Stage) → is_denied c stage ≡ false → is_for_porters stage ≡ true → c.is_porter ≡ true
+  for-porters c stage allowed for = by c.is_porter allowed for
+    where
+      by : (porter : Bool) → is_denied (record c { is_porter = porter }) stage ≡ false → is_for_porters stage ≡ true → porter ≡ true
+      by true allowed for = refl
+      by false allowed for = cc
+
+  -- and who makes one that is for users is none
+  stage_row-kept : (c : Caller) (pick : Option Path) (stage : Stage) → IsMaking w c stage → KeptOutcome w (stage_row w c pick stage)
+  stage_row-kept c pick (Create s x kind) m = create-kept w c s x kind (λ e. (m.giving e).owes)
+  stage_row-kept c pick (Destroy s x) m = destroy-kept w premise.stand c s x (λ e. (m.giving e).owes)
+  stage_row-kept c pick (Rename s x y) m = rename-kept w c s x y (λ e. (m.giving e).owes)
+  stage_row-kept c pick (Search s from) m = search_row-kept w c (λ user. m.single user refl) s from
+  stage_row-kept c pick (Point s x s2 x2) m = point-kept w c s x s2 x2
+  stage_row-kept c pick (Clear s x) m = clear-kept w c s x
+  stage_row-kept c pick (Locate reference s) m = locate-kept w c (λ user. m.single user refl) reference s
+  stage_row-kept c pick (CountIn base s x) m = count_in-kept w c (λ user. m.single user refl) base s x
+  stage_row-kept c pick (GetState s x address) m = get_state-kept w c s x address
+  stage_row-kept c pick (SetState s x address) m = set_state-kept w premise.pages c (λ e. (m.giving e).words) s x address
+  stage_row-kept c pick (GetPtr s x field reference) m = get_ptr-kept w c (λ user. m.single user refl) s x field reference
+  stage_row-kept c pick (SetPtr s x field reference) m = set_ptr-kept w c s x field reference
+  stage_row-kept c pick (SpaceHold s x) m = space_hold-kept w c m.caller s x
+  stage_row-kept c pick (SpaceRelease s x) m = space_release-kept w c s x
+  stage_row-kept c pick (ThreadStop h) m = thread_stop-kept w c h
+  stage_row-kept c pick (ThreadGo h) m = thread_go-kept w premise.tidy c h
+  stage_row-kept c pick (PageGive s page address) m = page_give-kept w c s page address
+  stage_row-kept c pick (PageTake s page address) m = page_take-kept w c s page address
+  stage_row-kept c pick (PageRead s page address) m = page_read-kept w c s page address
+  stage_row-kept c pick (PageNext s from) m = page_next-kept w c (λ user. m.single user refl) s from
+  stage_row-kept c pick (MutexLock mutex) m = mutex_lock-kept w c mutex
+  stage_row-kept c pick (MutexTrylock mutex) m = mutex_trylock-kept w c mutex
+  stage_row-kept c pick (MutexUnlock mutex) m = mutex_unlock-kept w c mutex
+  stage_row-kept c pick (CondWait cond mutex) m = cond_wait-kept w c cond mutex (by c.is_porter refl m.allowed)
+    where
+      by : (porter : Bool) → c.is_porter ≡ porter → is_denied (record c { is_porter = porter }) (CondWait cond mutex) ≡ false →
+          of_thread is_single (w.body (path_of c)) ≡ true
+      by true e allowed = cc
+      by false e allowed = m.single e refl
+  stage_row-kept c pick (CondAsleep cond mutex) m = cond_asleep-kept w c cond mutex
+  stage_row-kept c pick (CondSignal cond) m = cond_signal-kept w premise.tidy c pick cond
+  stage_row-kept c pick (CondBroadcast cond) m = cond_broadcast-kept w premise.tidy c cond
+  stage_row-kept c pick (Connect h) m = connect-kept w c h
+  stage_row-kept c pick (ClientReceive into room) m = receive-kept w c turns.Client into room
+  stage_row-kept c pick (ClientSend address count) m = send-kept w c turns.Client address count
+  stage_row-kept c pick ClientOver m = over-kept w c turns.Client
+  stage_row-kept c pick Disconnect m = disconnect-kept w c turns.Client
+  stage_row-kept c pick (Wait set) m = wait-kept w c (λ user. m.room user refl) pick set
+  stage_row-kept c pick (ServerReceive into room) m = receive-kept w c turns.Server into room
+  stage_row-kept c pick (ServerSend address count) m = send-kept w c turns.Server address count
+  stage_row-kept c pick ServerOver m = over-kept w c turns.Server
+  stage_row-kept c pick ServerEnd m = disconnect-kept w c turns.Server
+  stage_row-kept c pick FaultDone m = fault_done-kept w c
+  stage_row-kept c pick (LinkSet s x port server) m = link_set-kept w c s x port server
+  stage_row-kept c pick (LinkPark s x port) m = link_park-kept w c (m.giving (for-porters c (LinkPark s x port) m.allowed refl)).nester s x port
+  stage_row-kept c pick (FaultSet s x port taker) m = fault_set-kept w c s x port taker
+  stage_row-kept c pick (FaultPark s x port taken) m =
+      fault_park-kept w c (m.giving (for-porters c (FaultPark s x port taken) m.allowed refl)).nester s x port taken
+  stage_row-kept c pick (HoldSet s x thread) m = hold_set-kept w c s x thread (m.giving (for-porters c (HoldSet s x thread) m.allowed refl)).owes
+  stage_row-kept c pick (SpaceMakeHeld x) m = space_make_held-kept w c m.caller x (m.giving (for-porters c (SpaceMakeHeld x) m.allowed refl)).owes
+
+  allowed_row-kept : (c : Caller) (pick : Option Path) (stage : Stage) → (is_denied c stage ≡ false → IsMaking w c stage) →
+      KeptOutcome w (allowed_row w c pick stage)
+  allowed_row-kept c pick stage making = by (is_denied c stage) refl
+    where
+      by : (t : Bool) → is_denied c stage ≡ t → KeptOutcome w (if t then Refused DENIED else stage_row w c pick stage)
+      by true e = refused
+      by false e = stage_row-kept c pick stage (making e)
+
+  with_pick-kept : (chosen : Bool) (pick : Option Path) (o : Outcome) → KeptOutcome w o → KeptOutcome w (with_pick chosen pick o)
+  with_pick-kept chosen pick (Refused status) kept = kept-when w (is_none pick) (Refused status) (λ e. kept)
+  with_pick-kept chosen pick Waits kept = kept
+  with_pick-kept chosen pick (Goes changes said) kept = kept-when w (chosen || is_none pick) (Goes changes said) (λ e. kept)
+
+  closed-kept : (c : Caller) (o : Outcome) → KeptOutcome w o → KeptOutcome w (closed c o)
+  closed-kept c (Refused status) kept = if-kept w c.is_porter _ _ (goes tt) (goes (tt, tt))
+  closed-kept c Waits kept = kept
+  closed-kept c (Goes changes said) kept = kept
+
+  call_row-kept : (c : Caller) (pick : Option Path) (stage : Stage) → (is_denied c stage ≡ false → IsMaking w c stage) → KeptOutcome w (call_row w c pick stage)
+  unfolding call_row
+  call_row-kept c pick stage making =
+      closed-kept c _ (with_pick-kept (chooses stage) pick (allowed_row w c pick stage) (allowed_row-kept c pick stage making))
+
+  -- ---- who moves
+
+  thread-body : (o : Option Body) (t : Thread) → and_then thread_of o ≡ Some t → o ≡ Some (Thread_of t)
+  thread-body None t h = cc
+  thread-body (Some b) t h = ap (λ b. Some b) (body-thread_of b t h)
+
+  rootless : (t : Thread) → and_then thread_of (w.body []) ≡ Some t → ⊥
+  rootless t h = let root = premise.rooted.root in let kind = kind-there w [] (Thread_of t) (thread-body _ t h) in cc
+
+  -- a user at a stage of a call
+  making : (k : ℕ) (s : Path) (t : Thread) (stage : Stage) (todo : List Stage) (rest : List ℕ) → and_then thread_of (w.body (k ∷ s)) ≡ Some t →
+      t.mode ≡ Calling (stage ∷ todo) rest → is_denied (user_at (k ∷ s)) stage ≡ false → IsMaking w (user_at (k ∷ s)) stage
+  making k s t stage todo rest there mode allowed = record {
+    caller = thread-caller w premise.valid (user_at (k ∷ s)) t there;
+    single = λ user last. rw (there, mode) (single todo goes.first last);
+    room = λ user wait. rw (there, mode) (room todo goes.first wait);
+    giving = λ porter. cc;
+    allowed = allowed;
+  }
+    where
+      goes : GoesOn (stage ∷ todo)
+      goes = has_rest (stage ∷ todo) (let shaped = (premise.tidy (k ∷ s) t there).shaped in (rw mode at shaped).0)
+
+      single : (todo : List Stage) → opens_first (stage ∷ todo) ≡ true → opens stage ≡ false → is_single (Calling (stage ∷ todo) rest) ≡ true
+      single [] first last = refl
+      single (next ∷ todo) first last = let no = (and_parts (opens stage) (not (is_wait stage) || is_last_receive (next ∷ todo)) first).0 in cc
+
+      room : (todo : List Stage) → opens_first (stage ∷ todo) ≡ true → is_wait stage ≡ true → leaves_room 2 (Calling (stage ∷ todo) rest) ≡ true
+      room [] first wait = refl
+      room (next ∷ todo) first wait = let second = (and_parts (opens stage) (not (is_wait stage) || is_last_receive (next ∷ todo)) first).1 in rw wait at second
+
+  user-runs : (x : Path) (t : Thread) (g : List ℕ) → and_then thread_of (w.body x) ≡ Some t → t.mode ≡ Running g → holds is_native (w.body x) ≡ false
+  user-runs x t g there mode = let body = thread-body (w.body x) t there in rw (body, mode) refl
+
+  goes_on-kept : (k : ℕ) (s : Path) (pick : Option Path) (t : Thread) (mode : Mode) → and_then thread_of (w.body (k ∷ s)) ≡ Some t →
+      t.mode ≡ mode → KeptOutcome w (goes_on w (k ∷ s) pick t mode)
+  goes_on-kept k s pick t (Running g) there is = with_pick-kept false pick _
+      (run_row-kept w s k g t.counter (user-runs (k ∷ s) t g there is) (let shaped = (premise.tidy (k ∷ s) t there).shaped in rw is at shaped))
+  goes_on-kept k s pick t (Calling (stage ∷ todo) rest) there is = call_row-kept (user_at (k ∷ s)) pick stage (making k s t stage todo rest there is)
+  goes_on-kept k s pick t (Calling [] rest) there is = waits
+  goes_on-kept k s pick t mode there is = waits
+
+  user_move-kept : (x : Path) (pick : Option Path) (o : Option Thread) → and_then thread_of (w.body x) ≡ o → KeptOutcome w (user_move w x pick o)
+  user_move-kept x pick None there = waits
+  user_move-kept [] pick (Some t) there = absurd (rootless t there)
+  user_move-kept (k ∷ s) pick (Some t) there =
+      kept-when w (is_free w s t) (goes_on w (k ∷ s) pick t t.mode) (λ free. goes_on-kept k s pick t t.mode there refl)
+
+  porter-gives : (k : ℕ) (s : Path) (stage : Stage) (words : List ℕ) (t : Thread) → length words ≡ PAGE_WORDS →
+      OwesStage w (porter_at (k ∷ s) words) stage → and_then thread_of (w.body (k ∷ s)) ≡ Some t → is_porter t.mode ≡ true →
+      IsGiving w (porter_at (k ∷ s) words) stage
+  porter-gives k s stage words t all owes there porter = record { nester = nester; words = all; owes = owes }
+    where
+      native : holds is_native (w.body (k ∷ s)) ≡ true
+      native = rw (thread-body (w.body (k ∷ s)) t there) porter
+
+      nester : holds is_native (w.body (LAST_PORTER_SLOT ∷ s)) ≡ true
+      nester = let last = native-last w premise.stand k s native in rw last at native
+
+  porter_move-kept : (x : Path) (pick : Option Path) (stage : Stage) (words : List ℕ) (o : Option Thread) → length words ≡ PAGE_WORDS →
+      OwesStage w (porter_at x words) stage → and_then thread_of (w.body x) ≡ o → KeptOutcome w (porter_move w x pick stage words o)
+  porter_move-kept x pick stage words None all owes there = waits
+  porter_move-kept [] pick stage words (Some t) all owes there = absurd (rootless t there)
+  porter_move-kept (k ∷ s) pick stage words (Some t) all owes there =
+      kept-when w (is_porter t.mode && is_unheld w s) (call_row w (porter_at (k ∷ s) words) pick stage)
+      (λ free. call_row-kept (porter_at (k ∷ s) words) pick stage (λ allowed. record {
+        caller = thread-caller w premise.valid (porter_at (k ∷ s) words) t there;
+        single = λ user last. cc;
+        room = λ user wait. cc;
+        giving = λ porter. porter-gives k s stage words t all owes there (and_parts _ _ free).0;
+        allowed = allowed;
+      }))
+
+  -- ---- a move
+
+  pub outcome-kept : (x : Path) (pick : Option Path) (ask : Ask) → has_all_words ask ≡ true → OwesAsk w x ask → KeptOutcome w (outcome w x pick ask)
+  unfolding outcome
+  outcome-kept x pick asks.Run all owes = user_move-kept x pick _ refl
+  outcome-kept x pick (asks.Call stage words) all owes = porter_move-kept x pick stage words _ (eqb-true (length words) PAGE_WORDS all) owes refl
+  outcome-kept x pick asks.Accept all owes = accept_row-kept w x pick
+  outcome-kept x pick (asks.Give words len) all owes = with_pick-kept false pick _ (give_row-kept w x (take len words))
+  outcome-kept x pick asks.Over all owes = with_pick-kept false pick _ (over_row-kept w x)

@@ -1,0 +1,25 @@
+//! What can be saved stays so: the premise of checkpointers is kept by every move that is due, each law the contract of a
+//! function that does nothing. Users and native servers owe nothing for it; a porter's call owes little, so that a job's
+//! proof can give it.
+//!
+//! It stands on `fk_model`, whose definitions the laws are about, on `laws_machine`, `laws_frozen` and `laws_whole`.
+#![tactic(auto)]
+
+ghost use Rattle.laws_savable.specs.Savable.{DueMoveKeepsSavable, RunKeepsSavable, UsersMoveKeepsSavable};
+
+/// A move that is due keeps a whole world savable, where a porter's call gives what it owes: users'
+/// objects in users' slots, and a holder outside of what it is to hold.
+pub fn a_due_move_keeps_a_savable_world()
+    ensures { DueMoveKeepsSavable }
+{}
+
+/// Every move of a user or a native server keeps one savable.
+pub fn a_users_move_keeps_a_savable_world()
+    ensures { UsersMoveKeepsSavable }
+{}
+
+/// A run of such moves ends in a world that is whole and savable, where it begins in one with a birth
+/// number left for each of its moves.
+pub fn a_run_keeps_a_savable_world()
+    ensures { RunKeepsSavable }
+{}

@@ -1,0 +1,53 @@
+//! A case, called.
+use fk_causes::{MemShelf, MemSink, MemSource, NoMemory, Shelf};
+use fk_run::{End, Report, fault_line, fluke_top};
+use fk_trace_text::trace_text;
+use std::alloc::Global;
+use test_case_files::{Case, Ending, Fails};
+
+/// A shelf with these files on it. What fails is counted from the next call on.
+fn shelf_of(alloc: Global, case: &Case, fails: &[u64]) -> Result<MemShelf, NoMemory> {
+    let puts = case.files.len() as u64;
+    let mut numbers = Vec::new(alloc);
+    for call in fails {
+        numbers.push(call.saturating_add(puts))?;
+    }
+    let mut shelf = MemShelf::new(numbers);
+    for (name, bytes) in &case.files {
+        if shelf.put(name.as_str(), bytes).is_err() {
+            return Err(NoMemory);
+        }
+    }
+    Ok(shelf)
+}
+
+/// The moves of a report as a trace, and how they ended.
+fn report_of(alloc: Global, report: &Report) -> Result<Vec<u8>, NoMemory> {
+    let mut text = trace_text(alloc, report.history.as_slice())?;
+    text.push_str(match report.end {
+        End::Halted => "end halted\n",
+        End::Quiet => "end quiet\n",
+        End::Budget => "end budget\n",
+        End::Listed => "end listed\n",
+    })?;
+    Ok(text.into_bytes())
+}
+
+/// What comes of the call of a case in which these calls of its source, its sink and its shelf fail.
+pub fn call(alloc: Global, case: &Case, fails: &Fails) -> Result<Ending, NoMemory> {
+    let mut source = MemSource::new(case.source.clone()?, fails.source.clone()?);
+    let mut sink = MemSink::new(alloc, case.room, fails.sink.clone()?)?;
+    let mut shelf = shelf_of(alloc, case, &fails.shelf)?;
+    let outcome = fluke_top(alloc, &case.words, &mut source, &mut sink, &mut shelf);
+    let report = match &outcome.report {
+        Some(report) => Some(report_of(alloc, report)?),
+        None => None,
+    };
+    Ok(Ending {
+        status: outcome.status.number(),
+        error: fault_line(alloc, &outcome.status)?,
+        output: sink.bytes().to_vec(alloc)?,
+        files: shelf.files().clone()?,
+        report,
+    })
+}
