@@ -19,6 +19,7 @@ pub mod Records
 pub mod StateRows
 pub mod ObjectRows
 pub mod NativeRows
+pub mod Answers
 pub mod Freezing
 pub mod Moves
 pub mod Runs
