@@ -1,0 +1,92 @@
+-- Machines over answers: a job as what it asks next, and what it becomes by what it hears. What it asks after the answers so
+-- far is a function of these and of its first state.
+use Rattle.std.specs.Prelude.{◌≡◌, ℕ, zero, suc, false, List, [], ◌∷◌, None}
+use Rattle.fk_model.specs.declared.limits.TheConstants.{LAST_PORTER_SLOT}
+use Rattle.fk_model.specs.declared.moves.Ask.TheVariants as asks
+use Rattle.fk_model.specs.declared.stage.Stage.{Stage}
+use Rattle.fk_model.specs.Places.{Path}
+use Rattle.fk_model.specs.World.{World}
+use Rattle.fk_model.specs.Outcomes.{Said}
+use Rattle.fk_model.specs.Outcomes.Said.{Answered}
+use Rattle.fk_model.specs.Moves.{chooses, IsReady, step}
+use Rattle.fk_model.specs.Runs.{Event, after}
+use Rattle.laws_frozen.specs.Holding.{IsUsersMove}
+use Rattle.laws_whole.specs.Runnable.{IsDue}
+use Rattle.laws_savable.specs.Savable.{Owes, IsSound}
+
+-- a porter's call with the words that it gives, or the end
+pub data Head (A : Type 0) : Type 0 where
+  Stops : (end : A) → Head A
+  Asks : (stage : Stage) (words : List ℕ) → Head A
+
+pub record Machine (S A : Type 0) : Type 0 where
+  pub head : S → Head A
+  -- by the status and the words of an answer
+  pub next : S → ℕ → List ℕ → S
+
+-- what it becomes by what a move tells
+abbrev pub heard : {S A : Type 0} → Machine S A → S → Said → S
+heard m s (Answered status words) = m.next s status words
+heard m s other = s
+
+-- the porter's own event
+abbrev pub call_of : Path → Stage → List ℕ → Event
+call_of nester stage words = record { mover = LAST_PORTER_SLOT ∷ nester; pick = None; ask = asks.Call stage words }
+
+abbrev pub said_of : World → Event → Said
+said_of w e = (step w e.mover e.pick e.ask).said
+
+abbrev pub IsReadyAt : World → Event → Type 0
+IsReadyAt w e = IsReady w e.mover e.pick e.ask
+
+-- a list of moves in which the porter makes the calls that its machine asks for, and users and native servers move between
+-- them in any way: from a world and a state to a world and a state. Each of its worlds is sound, the last one too
+pub data Interleaved {S A : Type 0} (m : Machine S A) (nester : Path) : World → S → List Event → World → S → Type 0 where
+  Here : (w : World) (s : S) → IsSound w → Interleaved m nester w s [] w s
+  Another : (w : World) (s : S) (e : Event) (es : List Event) (v : World) (t : S) → IsSound w → IsUsersMove nester w e →
+      Interleaved m nester (after w e) s es v t → Interleaved m nester w s (e ∷ es) v t
+  Own : (w : World) (s : S) (stage : Stage) (words : List ℕ) (es : List Event) (v : World) (t : S) → IsSound w → m.head s ≡ Asks stage words →
+      IsReadyAt w (call_of nester stage words) →
+      Interleaved m nester (after w (call_of nester stage words)) (heard m s (said_of w (call_of nester stage words))) es v t →
+      Interleaved m nester w s (call_of nester stage words ∷ es) v t
+
+-- how many of the moves are the porter's
+abbrev pub own_moves : {S A : Type 0} {m : Machine S A} {nester : Path} {w : World} {s : S} {es : List Event} {v : World} {t : S} →
+    Interleaved m nester w s es v t → ℕ
+own_moves (Here w s sound) = zero
+own_moves (Another w s e es v t sound move rest) = own_moves rest
+own_moves (Own w s stage words es v t sound asked ready rest) = suc (own_moves rest)
+
+-- the same, begun by a call of the machine's
+pub record AtWork {S A : Type 0} (m : Machine S A) (nester : Path) (w : World) (s : S) (v : World) (t : S) : Type 0 where
+  pub stage : Stage
+  pub words : List ℕ
+  pub asked : m.head s ≡ Asks stage words
+  pub ready : IsReadyAt w (call_of nester stage words)
+  pub events : List Event
+  pub run : Interleaved m nester (after w (call_of nester stage words)) (heard m s (said_of w (call_of nester stage words))) events v t
+
+-- its first call counts too
+abbrev pub calls_made : {S A : Type 0} {m : Machine S A} {nester : Path} {w : World} {s : S} {v : World} {t : S} → AtWork m nester w s v t → ℕ
+calls_made work = suc (own_moves work.run)
+
+-- what a call owes to the world in which it is made, so that this can be saved afterwards as before. It picks nobody
+pub record IsOwedCall (w : World) (nester : Path) (stage : Stage) (words : List ℕ) : Type 0 where
+  pub due : IsDue w (call_of nester stage words)
+  pub owes : Owes w (call_of nester stage words)
+  pub unpicking : chooses stage ≡ false
+
+-- ---- an interleaving goes on at its end, by a move of others or by its machine's next call, where what comes of it is sound
+
+abbrev pub GoesOnByOthers : Type 0 → Type 0 → Type 0
+GoesOnByOthers S A = (m : Machine S A) (nester : Path) (w : World) (s : S) (v : World) (t : S) (e : Event) → AtWork m nester w s v t → IsUsersMove nester v e →
+    IsSound (after v e) → AtWork m nester w s (after v e) t
+
+abbrev pub GoesOnByOwn : Type 0 → Type 0 → Type 0
+GoesOnByOwn S A = (m : Machine S A) (nester : Path) (w : World) (s : S) (v : World) (t : S) (stage : Stage) (words : List ℕ) → AtWork m nester w s v t →
+    m.head t ≡ Asks stage words → IsReadyAt v (call_of nester stage words) → IsSound (after v (call_of nester stage words)) →
+    AtWork m nester w s (after v (call_of nester stage words)) (heard m t (said_of v (call_of nester stage words)))
+
+-- and where it has come to is sound
+abbrev pub NowIsSound : Type 0 → Type 0 → Type 0
+NowIsSound S A = (m : Machine S A) (nester : Path) (w : World) (s : S) (v : World) (t : S) → AtWork m nester w s v t → IsSound v

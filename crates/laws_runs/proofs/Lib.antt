@@ -1,0 +1,7 @@
+pub mod Named
+pub mod Asking
+pub mod Composing
+pub mod Onwards
+pub mod Headline
+pub mod Same
+pub mod Turning

@@ -1,0 +1,5 @@
+use Rattle.laws_runs.proofs.Headline.{checkpoints_hold}
+use Rattle.laws_runs.proofs.a_checkpoint_holds.Goals as goal
+
+pub returns : goal.returns
+returns g c = checkpoints_hold

@@ -1,0 +1,5 @@
+pub mod Cores
+pub mod Composed
+pub mod Turning
+pub mod Onwards
+pub mod Headline

@@ -1,0 +1,52 @@
+-- What a subtree does in a run: the moves of the run as which it sees those, from any place of the history to any later one.
+use Rattle.std.specs.Prelude.{◌≡◌, ℕ, ◌+◌, ◌≤◌, List, [], ◌∷◌, ◌++◌, length, take, drop, map}
+use Rattle.fk_model.specs.declared.moves.Ask.TheVariants as asks
+use Rattle.fk_model.specs.declared.moves.Move.{Move}
+use Rattle.fk_model.specs.Places.{Path}
+use Rattle.fk_model.specs.World.{World}
+use Rattle.fk_model.specs.Searches.{depth}
+use Rattle.fk_model.specs.Runs.{Event}
+use Rattle.fk_model.specs.Who.{event_of}
+use Rattle.fk_model.specs.Cut.{cut, IsPlain}
+use Rattle.fk_model.specs.Further.{Onward, Told, IsFurther}
+use Rattle.fk_model.specs.Rebind.{rebound, rebound_told}
+use Rattle.laws_further.specs.Runs.{IsSeenRun}
+use Rattle.laws_runs.specs.Cores.{House, Core, Asker, asker, IsRun, world_at}
+use Rattle.laws_runs.specs.Cores.Asker.{Nobody, Others, Job}
+use Rattle.laws_runs.specs.Cores.IsRun.{Begins, Goes}
+use Rattle.laws_runs.specs.Composed.{AskAsUsers, AreTidy, IsStart}
+
+-- the event that a move is
+abbrev pub event_by : {S : Type 0} → World → Move → Asker S → List Event
+event_by w m Nobody = []
+event_by w m (Others ask) = event_of w ask m ∷ []
+event_by w m (Job begun s stage words) = event_of w (asks.Call stage words) m ∷ []
+
+-- the events of a run
+abbrev pub events_of : {J S A V : Type 0} {h : House J S A V} {first c : Core S A V} {past : List Move} → IsRun h first past c → List Event
+events_of Begins = []
+events_of {h = h} (Goes past c m d run ready settles) = events_of run ++ event_by c.world m (asker h c m.who)
+
+-- the first n from the one with index k on
+abbrev pub between : {J S A V : Type 0} {h : House J S A V} {first c : Core S A V} {past : List Move} → IsRun h first past c → ℕ → ℕ → List Event
+between run k n = take n (drop k (events_of run))
+
+-- from any place of the history on where a subtree is plain, and up to the first move that it sees as other: the moves as which
+-- it sees the run's are a further run of its cut, and end in the cut that it has there
+abbrev pub RunGoesOn : Type 0 → Type 0 → Type 0 → Type 0 → Type 0
+RunGoesOn J S A V = (h : House J S A V) (first c : Core S A V) (past : List Move) (run : IsRun h first past c) →
+    AskAsUsers h → AreTidy h → IsStart first → first.world.next + length past ≤ depth →
+    (k n : ℕ) → k + n ≤ length past → (nester : Path) (slot : ℕ) (ms : List Onward) → IsPlain (world_at run k) nester slot →
+    IsSeenRun nester slot (world_at run k) (between run k n) ms →
+    IsPlain (world_at run (k + n)) nester slot
+    × ((told : List Told) × IsFurther (cut (world_at run k) nester slot) ms told (cut (world_at run (k + n)) nester slot))
+
+-- a subtree whose cut is another's with other outward ports has the further runs that the other has, with these ports, and no others
+pub record GoesOnAs (bind : ℕ → ℕ) (c d : World) (ms : List Onward) : Type 0 where
+  pub forth : (told : List Told) (later : World) → IsFurther c ms told later → IsFurther d ms (map (rebound_told bind) told) (rebound bind later)
+  pub back : (heard : List Told) (after : World) → IsFurther d ms heard after →
+      (told : List Told) × (later : World) × IsFurther c ms told later × (heard ≡ map (rebound_told bind) told) × (after ≡ rebound bind later)
+
+abbrev pub RestoredGoesOn : Type 0
+RestoredGoesOn = (w v : World) (nester other : Path) (slot place : ℕ) (bind : ℕ → ℕ) (ms : List Onward) → IsPlain w nester slot →
+    cut v other place ≡ rebound bind (cut w nester slot) → GoesOnAs bind (cut w nester slot) (cut v other place) ms

@@ -1,0 +1,57 @@
+//! Whole runs: cores, turns of users, native servers and jobs, one after the other, and what a run is for the jobs that
+//! work in it and for the subtrees that it moves. Each law is the contract of a function that does nothing.
+//!
+//! It stands on `laws_further` and `laws_jobs`. It names no store: a core of code says in its own clauses which of these
+//! cores it stands for.
+#![tactic(auto)]
+
+ghost use Rattle.laws_runs.specs.Composed.{RunIsComposed, OneRun};
+ghost use Rattle.laws_runs.specs.Turning.{JobsMoves};
+ghost use Rattle.laws_runs.specs.Headline.{CheckpointsHold, RestoresHold, RestoredGoOn};
+ghost use Rattle.laws_runs.specs.Onwards.{RunGoesOn, RestoredGoesOn};
+
+/// Whatever the moves of a run, each job's moves are its machine's among others' moves.
+pub fn a_run_is_composed<J, S, A, V>()
+    ensures { RunIsComposed J S A V }
+{}
+
+/// A move of a job is its machine's call at that moment, in a run in which the job has worked alone
+/// among others.
+pub fn a_jobs_move_is_its_call<J, S, A, V>()
+    ensures { JobsMoves J S A V }
+{}
+
+/// A history has one run: the core that it comes to is determined, and so is the world after each of
+/// its moves.
+pub fn a_history_has_one_run<J, S, A, V>()
+    ensures { OneRun J S A V }
+{}
+
+/// From any place of a run's history on where a subtree is plain, and up to the first move that it
+/// sees as other, the moves as which it sees the run's are a further run of its cut, and end in the
+/// cut that it has there.
+pub fn a_run_goes_on<J, S, A, V>()
+    ensures { RunGoesOn J S A V }
+{}
+
+/// A subtree whose cut is another's with other outward ports has exactly the further runs of the
+/// other, with these ports.
+pub fn a_restored_subtree_goes_on()
+    ensures { RestoredGoesOn }
+{}
+
+/// A checkpoint that is done gives the picture of a closed subtree as it was at its first move, and
+/// that stays the same up to after its last one.
+pub fn a_checkpoint_holds<J, S, A, V>()
+    ensures { CheckpointsHold J S A V }
+{}
+
+/// A restore that is done leaves a plain subtree whose cut is the picture, its ports bound.
+pub fn a_restore_holds<J, S, A, V>()
+    ensures { RestoresHold J S A V }
+{}
+
+/// What was restored has exactly the further runs of what was saved.
+pub fn what_is_restored_goes_on<J, S, A, V>()
+    ensures { RestoredGoOn J S A V }
+{}
