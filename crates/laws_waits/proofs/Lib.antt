@@ -1,0 +1,14 @@
+pub mod Quiet
+pub mod Kept
+pub mod Comes
+pub mod Stays
+pub mod Rows
+pub mod Unready
+pub mod Memory
+pub mod Calm
+pub mod Few
+pub mod Found
+pub mod Wakes
+pub mod Never
+pub mod Complete
+pub mod Chains

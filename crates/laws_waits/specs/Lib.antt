@@ -1,0 +1,10 @@
+pub mod Touching
+pub mod Stuck
+pub mod Laws
+pub mod Calm
+pub mod Few
+pub mod Found
+pub mod Wakes
+pub mod Rows
+pub mod Complete
+pub mod Chains
