@@ -1,0 +1,2 @@
+pub mod Natives
+pub mod Both

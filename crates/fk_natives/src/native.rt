@@ -1,0 +1,58 @@
+//! The two kinds of native servers, as one type.
+ghost use Rattle.std.specs.Prelude.{◌≡◌};
+
+use crate::console::Console;
+use crate::server::Server;
+use crate::service::{Heard, Service};
+use fk_model::{Ask, NoMemory};
+use fk_responders::Table;
+
+/// A console, or a server that replies.
+#[derive(Drop)]
+pub enum Native {
+    Console(Console),
+    Server(Server),
+}
+
+impl Service for Native {
+    ghost use Rattle.fk_natives.specs.Both as both;
+
+    ghost meaning = { λ s. both.meaning s };
+
+    ghost has_room = { λ s. both.has_room s };
+
+    fn ask(&self) -> Option<Ask> {
+        match self {
+            Native::Console(console) => console.ask(),
+            Native::Server(server) => server.ask(),
+        }
+    }
+
+    fn reserve(&mut self) -> Result<(), NoMemory> {
+        match self {
+            Native::Console(console) => console.reserve(),
+            Native::Server(server) => server.reserve(),
+        }
+    }
+
+    fn absorb(&mut self, table: &Table, heard: &Heard) {
+        match self {
+            Native::Console(console) => console.absorb(table, heard),
+            Native::Server(server) => server.absorb(table, heard),
+        }
+    }
+
+    fn alias(&self) -> Option<&str> {
+        match self {
+            Native::Console(console) => console.alias(),
+            Native::Server(server) => server.alias(),
+        }
+    }
+
+    fn printed(&self) -> &[u64] {
+        match self {
+            Native::Console(console) => console.printed(),
+            Native::Server(server) => server.printed(),
+        }
+    }
+}

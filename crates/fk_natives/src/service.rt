@@ -1,0 +1,82 @@
+//! What native servers have in common.
+ghost use Rattle.std.specs.Prelude.{◌≡◌, Bool, map, true, Option, option_map, OnOk};
+ghost use Rattle.fk_natives.specs.Natives.{State, hears, DoesFit, asks_for, alias_of, printed_by, side_at, side_after};
+
+use fk_model::{Ask, NoMemory, Reply, Turn, Who};
+use fk_responders::Table;
+
+/// Whose turn it is, if a server has a client.
+#[derive(Clone, Copy)]
+pub enum Side {
+    /// It has no client.
+    Idle,
+    /// It is the client's turn.
+    Client,
+    /// It is the server's own turn.
+    Own,
+}
+
+/// What a native server is told.
+#[derive(Clone, Copy)]
+pub enum Heard {
+    /// It has a client, which has this turn, and the words moved in it.
+    Taken { client: Who, turn: Turn, moved: u16 },
+    /// The client has sent these words.
+    Words(Reply),
+    /// The turn has changed.
+    Over,
+    /// The client has taken so many words.
+    Given(u8),
+    /// The talk has ended.
+    Ended,
+}
+
+/// A native server.
+pub trait Service {
+    ghost meaning: { Self → State };
+
+    ghost has_room: { Self → Bool };
+
+    /// What it asks for: nothing exactly at its client's turn.
+    fn ask(&self) -> Option<Ask>
+        ensures { result ≡ asks_for (meaning self.now) };
+
+    /// Makes room for one thing that it is told, and changes nothing else.
+    fn reserve(&mut self) -> Result<(), NoMemory>
+        ensures same { meaning self.new ≡ meaning self.old }
+        ensures room { OnOk result (has_room self.new ≡ true) };
+
+    /// Is told something. That uses up its room.
+    fn absorb(&mut self, table: &Table, heard: &Heard)
+        requires fits { DoesFit (map (λ r. r.rule) table.now.list.items) (meaning self.old) }
+        requires room { has_room self.old ≡ true }
+        ensures { meaning self.new ≡ hears (meaning self.old) heard.now };
+
+    /// A console's alias. Others have none.
+    fn alias(&self) -> Option<&str>
+        ensures { option_map (λ alias. alias.now) result ≡ alias_of (meaning self.now) };
+
+    /// The words that a console has been sent. Others have none.
+    fn printed(&self) -> &[u64]
+        ensures { result.now ≡ printed_by (meaning self.now) };
+}
+
+/// Whose turn it is in a talk that is taken up.
+pub fn side_at(turn: Turn) -> Side
+    ensures { result ≡ side_at turn }
+{
+    match turn {
+        Turn::Client => Side::Client,
+        Turn::Server => Side::Own,
+    }
+}
+
+/// Whose turn it is after an Over.
+pub fn side_after(side: Side) -> Side
+    ensures { result ≡ side_after side }
+{
+    match side {
+        Side::Client => Side::Own,
+        _ => Side::Client,
+    }
+}

@@ -1,0 +1,14 @@
+//! Responders: closures by which native servers reply, each beside the fact that it gives its rule's answer.
+//!
+//! It stands on `fk_model` for rules, replies and the definition of an answer. It promises that a responder
+//! answers every request of at most 64 words by its rule, by what it keeps beside its closure; and a table
+//! tells the names and the rules of its responders in their order.
+#![tactic(auto)]
+
+mod responder;
+mod table;
+mod words;
+
+pub use responder::{Call, Responder};
+pub use table::Table;
+pub use words::{append, reply_of, without, words_of};
