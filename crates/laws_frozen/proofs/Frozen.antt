@@ -118,7 +118,7 @@ module _ (there : Path → Option Kind) (x : Path) where
 -- ---- a place to which an object is renamed
 
 -- where the place is the root, the hold is on the root itself or above the object, and neither can be
-root_apart : (w : World) (me : Path) (k slot : ℕ) (s : Path) → is_frozen_for w me (slot ∷ s) ≡ true → w.body (slot ∷ s) ≡ None →
+pub root_apart : (w : World) (me : Path) (k slot : ℕ) (s : Path) → is_frozen_for w me (slot ∷ s) ≡ true → w.body (slot ∷ s) ≡ None →
     is_frozen_for w me (k ∷ s) ≡ false → ⊥
 unfolding decider
 root_apart w me k slot s frozen empty free = by (decider w s) frozen free
@@ -128,7 +128,7 @@ root_apart w me k slot s frozen empty free = by (decider w s) frozen free
     by (Some p) on off = cc
     by None on off = let none : false ≡ true = rw empty at on in cc
 
-place_apart : (w v : World) (me root : Path) (k slot : ℕ) (s : Path) → is_frozen_for w me root ≡ true → v.body root ≡ w.body root → v.body (slot ∷ s) ≡ None →
+pub place_apart : (w v : World) (me root : Path) (k slot : ℕ) (s : Path) → is_frozen_for w me root ≡ true → v.body root ≡ w.body root → v.body (slot ∷ s) ≡ None →
     is_frozen_for w me (k ∷ s) ≡ false → (q : Path) → same_path (q ++ root) (slot ∷ s) ≡ false
 place_apart w v me root k slot s frozen same empty free [] = same_path_ne root (slot ∷ s) (λ e.
     let frozen_there : is_frozen_for w me (slot ∷ s) ≡ true = rw e at frozen in

@@ -1,3 +1,14 @@
 pub mod Filling
 pub mod Nesters
 pub mod Weaving
+pub mod Goings
+pub mod Rows
+pub mod Ready
+pub mod Unled
+pub mod Bones
+pub mod Kept
+pub mod LeadLaws
+pub mod Own
+pub mod Dropped
+pub mod Held
+pub mod Holds

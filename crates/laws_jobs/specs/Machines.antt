@@ -1,14 +1,14 @@
 -- Machines over answers: a job as what it asks next, and what it becomes by what it hears. What it asks after the answers so
 -- far is a function of these and of its first state.
-use Rattle.std.specs.Prelude.{◌≡◌, ℕ, zero, suc, false, List, [], ◌∷◌, None}
-use Rattle.fk_model.specs.declared.limits.TheConstants.{LAST_PORTER_SLOT}
+use Rattle.std.specs.Prelude.{◌≡◌, ℕ, zero, suc, false, List, [], ◌∷◌, replicate, None}
+use Rattle.fk_model.specs.declared.limits.TheConstants.{PAGE_WORDS, LAST_PORTER_SLOT}
 use Rattle.fk_model.specs.declared.moves.Ask.TheVariants as asks
 use Rattle.fk_model.specs.declared.stage.Stage.{Stage}
 use Rattle.fk_model.specs.Places.{Path}
 use Rattle.fk_model.specs.World.{World}
-use Rattle.fk_model.specs.Outcomes.{Said}
+use Rattle.fk_model.specs.Outcomes.{Said, Caller}
 use Rattle.fk_model.specs.Outcomes.Said.{Answered}
-use Rattle.fk_model.specs.Moves.{chooses, IsReady, step}
+use Rattle.fk_model.specs.Moves.{chooses, porter_at, IsReady, step}
 use Rattle.fk_model.specs.Runs.{Event, after}
 use Rattle.laws_frozen.specs.Holding.{IsUsersMove}
 use Rattle.laws_whole.specs.Runnable.{IsDue}
@@ -28,6 +28,14 @@ pub record Machine (S A : Type 0) : Type 0 where
 abbrev pub heard : {S A : Type 0} → Machine S A → S → Said → S
 heard m s (Answered status words) = m.next s status words
 heard m s other = s
+
+-- who makes its calls
+abbrev pub porter : Path → List ℕ → Caller
+porter nester words = porter_at (LAST_PORTER_SLOT ∷ nester) words
+
+-- what a porter gives with a call that reads nothing of it
+abbrev pub no_words : List ℕ
+no_words = replicate PAGE_WORDS 0
 
 -- the porter's own event
 abbrev pub call_of : Path → Stage → List ℕ → Event

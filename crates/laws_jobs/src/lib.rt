@@ -7,6 +7,9 @@
 
 ghost use Rattle.laws_jobs.specs.Machines.{GoesOnByOthers, GoesOnByOwn, NowIsSound};
 ghost use Rattle.laws_jobs.specs.Nesters.{UsersFillLow, NesterStays};
+ghost use Rattle.laws_jobs.specs.Calls.{CallIsItsRow, CalmCallIsReady};
+ghost use Rattle.laws_jobs.specs.Holds.{HoldComesTo, ReleaseComesTo};
+ghost use Rattle.laws_jobs.specs.Leads.{OthersKeepLeads, OthersKeepUnled, OthersKeepOpenPlace, OwnKeepOpenPlace, HoldKeepsOpenPlace, CountsTell};
 
 /// A job at work goes on with each move of another and with its own next call, where the world after
 /// it is sound, and so is each world to which it comes.
@@ -24,4 +27,56 @@ pub fn users_fill_no_high_slot()
 /// No move of a user or a native server moves or replaces a space that has a porter after it.
 pub fn a_nester_stays()
     ensures { NesterStays }
+{}
+
+/// Whether somebody outside leads to an object of a held subtree stays with every move of another.
+pub fn others_keep_what_leads_in()
+    ensures { OthersKeepLeads }
+{}
+
+/// No move of another comes to lead in where nobody did.
+pub fn others_lead_nothing_in()
+    ensures { OthersKeepUnled }
+{}
+
+/// Where a held subtree isn't closed, and whether it is, stays with every move of another.
+pub fn others_keep_the_open_place()
+    ensures { OthersKeepOpenPlace }
+{}
+
+/// A count above 0 is a pointer from outside.
+pub fn a_count_tells()
+    ensures { CountsTell }
+{}
+
+/// A porter that makes, leads or destroys a scratch reference keeps the place where its subtree
+/// isn't closed.
+pub fn own_changes_keep_the_open_place()
+    ensures { OwnKeepOpenPlace }
+{}
+
+/// So does the hold itself.
+pub fn a_hold_keeps_the_open_place()
+    ensures { HoldKeepsOpenPlace }
+{}
+
+/// A ready call of a porter makes the changes that its row lists, and tells what its row tells.
+pub fn a_call_is_its_row()
+    ensures { CallIsItsRow }
+{}
+
+/// A call that comes to something is ready where nothing outside the porter's subtree is held.
+pub fn a_calm_call_is_ready()
+    ensures { CalmCallIsReady }
+{}
+
+/// A ready hold of a porter without scratch is done exactly where a space stands in the slot; the
+/// subtree's cut, and where it isn't closed, stay. Else all is as before.
+pub fn a_hold_begins()
+    ensures { HoldComesTo }
+{}
+
+/// A release of what the porter holds is done, and leaves the cut.
+pub fn a_hold_ends()
+    ensures { ReleaseComesTo }
 {}
