@@ -1,0 +1,13 @@
+pub mod Numbers
+pub mod Trees
+pub mod Bodies
+pub mod Imaged
+pub mod Ordered
+pub mod Leading
+pub mod Fitting
+pub mod Fresh
+pub mod Validated
+pub mod Saved
+pub mod Once
+pub mod Needed
+pub mod Cuts

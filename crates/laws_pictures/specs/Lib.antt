@@ -1,0 +1,4 @@
+pub mod Tree
+pub mod Imaged
+pub mod Saved
+pub mod Pictured
