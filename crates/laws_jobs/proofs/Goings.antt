@@ -1,19 +1,20 @@
 -- A porter's own move is its row.
-use Rattle.std.proofs.Common.{◌≡◌, ℕ, Bool, true, false, not, ◌&&◌, is_some, List, ◌∷◌, Option, Some, None, refl, ap, ◌∙◌}
+use Rattle.std.proofs.Common.{◌≡◌, ℕ, Bool, true, false, not, ◌&&◌, is_some, List, [], ◌∷◌, Option, Some, None, refl, sym, ap, ◌∙◌}
 use Rattle.fk_model.specs.declared.limits.TheConstants.{LAST_PORTER_SLOT}
 use Rattle.fk_model.specs.declared.moves.Ask.TheVariants as asks
 use Rattle.fk_model.specs.declared.stage.Stage.{Stage}
 use Rattle.fk_model.specs.Places.{Path, Ptr}
 use Rattle.fk_model.specs.Objects.{Body, thread_of, and_then, holds}
 use Rattle.fk_model.specs.Objects.Body.{Mutex, Cond, Mapping, Region, Port, Portset, Space, Thread_of, Reference}
-use Rattle.fk_model.specs.World.{World}
+use Rattle.fk_model.specs.World.{World, Change, apply, apply_all}
 use Rattle.fk_model.specs.Holds.{decider, is_unheld, is_porter}
 use Rattle.fk_model.specs.StateRows.{is_native}
 use Rattle.fk_model.specs.Outcomes.{Outcome, when}
 use Rattle.fk_model.specs.Outcomes.Outcome.{Goes}
+use Rattle.fk_model.specs.Outcomes.Said.{Answered}
 use Rattle.fk_model.specs.Moves.{call_row, porter_move, outcome, GoesAllowed, Step, step, stepped}
 use Rattle.fk_model.specs.Runs.{after}
-use Rattle.laws_jobs.specs.Machines.{porter, call_of, said_of, IsReadyAt}
+use Rattle.laws_jobs.specs.Machines.{Reply, reply_of, IsAnswered, porter, call_of, said_of, IsReadyAt}
 use Rattle.laws_jobs.specs.Calls.{CallIsItsRow}
 
 module _ (nester : Path) (w : World) (stage : Stage) (words : List ℕ) where
@@ -65,3 +66,24 @@ module _ (nester : Path) (w : World) (stage : Stage) (words : List ℕ) where
 
 pub call_is_its_row : CallIsItsRow
 call_is_its_row nester w stage words changes said row ready = comes_to nester w stage words (Goes changes said) row ready
+
+-- ---- what is answered, by what the row lists
+
+module _ (nester : Path) (w : World) (stage : Stage) (words : List ℕ) (reply : Reply) (answered : IsAnswered nester w stage words reply) where
+  -- the changes of the row, and its answer
+  pub goes_by : (changes : List Change) (status : ℕ) (given : List ℕ) → call_row w (porter nester words) None stage ≡ Goes changes (Answered status given) →
+      (after w (call_of nester stage words) ≡ apply_all changes w) × ((reply.status ≡ status) × (reply.words ≡ given))
+  goes_by changes status given row =
+      let goes = call_is_its_row nester w stage words changes (Answered status given) row answered.ready in
+      let told : reply ≡ record { status = status; words = given } = sym answered.said ∙ ap reply_of goes.1 in
+      (goes.0, (ap (λ (r : Reply). r.status) told, ap (λ (r : Reply). r.words) told))
+
+  pub one_change : (change : Change) (status : ℕ) (given : List ℕ) → call_row w (porter nester words) None stage ≡ Goes (change ∷ []) (Answered status given) →
+      (after w (call_of nester stage words) ≡ apply change w) × ((reply.status ≡ status) × (reply.words ≡ given))
+  unfolding apply_all
+  one_change change status given row = goes_by (change ∷ []) status given row
+
+  pub no_change : (status : ℕ) (given : List ℕ) → call_row w (porter nester words) None stage ≡ Goes [] (Answered status given) →
+      (after w (call_of nester stage words) ≡ w) × ((reply.status ≡ status) × (reply.words ≡ given))
+  unfolding apply_all
+  no_change status given row = goes_by [] status given row

@@ -1,11 +1,13 @@
 -- Machines over answers: a job as what it asks next, and what it becomes by what it hears. What it asks after the answers so
 -- far is a function of these and of its first state.
-use Rattle.std.specs.Prelude.{◌≡◌, ℕ, zero, suc, false, List, [], ◌∷◌, replicate, None}
+use Rattle.std.specs.Prelude.{◌≡◌, ℕ, ◌≤◌, zero, suc, false, List, [], ◌∷◌, replicate, None}
 use Rattle.fk_model.specs.declared.limits.TheConstants.{PAGE_WORDS, LAST_PORTER_SLOT}
 use Rattle.fk_model.specs.declared.moves.Ask.TheVariants as asks
 use Rattle.fk_model.specs.declared.stage.Stage.{Stage}
 use Rattle.fk_model.specs.Places.{Path}
 use Rattle.fk_model.specs.World.{World}
+use Rattle.fk_model.specs.Searches.{depth}
+use Rattle.fk_model.specs.Valid.{IsValid}
 use Rattle.fk_model.specs.Outcomes.{Said, Caller}
 use Rattle.fk_model.specs.Outcomes.Said.{Answered}
 use Rattle.fk_model.specs.Moves.{chooses, porter_at, IsReady, step}
@@ -24,10 +26,19 @@ pub record Machine (S A : Type 0) : Type 0 where
   -- by the status and the words of an answer
   pub next : S → ℕ → List ℕ → S
 
+-- an answer, as a porter hears it
+pub record Reply : Type 0 where
+  pub status : ℕ
+  pub words : List ℕ
+
+-- what a move tells its porter. Each call of a porter tells an answer
+abbrev pub reply_of : Said → Reply
+reply_of (Answered status words) = record { status = status; words = words }
+reply_of other = record { status = 0; words = [] }
+
 -- what it becomes by what a move tells
 abbrev pub heard : {S A : Type 0} → Machine S A → S → Said → S
-heard m s (Answered status words) = m.next s status words
-heard m s other = s
+heard m s said = m.next s (reply_of said).status (reply_of said).words
 
 -- who makes its calls
 abbrev pub porter : Path → List ℕ → Caller
@@ -46,6 +57,13 @@ said_of w e = (step w e.mover e.pick e.ask).said
 
 abbrev pub IsReadyAt : World → Event → Type 0
 IsReadyAt w e = IsReady w e.mover e.pick e.ask
+
+-- a call that is made in a sound world, and its answer
+pub record IsAnswered (nester : Path) (w : World) (stage : Stage) (words : List ℕ) (reply : Reply) : Type 0 where
+  pub valid : IsValid w
+  pub few : w.next ≤ depth
+  pub ready : IsReadyAt w (call_of nester stage words)
+  pub said : reply_of (said_of w (call_of nester stage words)) ≡ reply
 
 -- a list of moves in which the porter makes the calls that its machine asks for, and users and native servers move between
 -- them in any way: from a world and a state to a world and a state. Each of its worlds is sound, the last one too
