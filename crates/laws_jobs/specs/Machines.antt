@@ -65,11 +65,16 @@ pub record IsAnswered (nester : Path) (w : World) (stage : Stage) (words : List 
   pub ready : IsReadyAt w (call_of nester stage words)
   pub said : reply_of (said_of w (call_of nester stage words)) ≡ reply
 
+-- it has a call to make
+abbrev pub IsAtCall : {S A : Type 0} → Machine S A → S → Type 0
+IsAtCall m s = (stage : Stage) × (words : List ℕ) × (m.head s ≡ Asks stage words)
+
 -- a list of moves in which the porter makes the calls that its machine asks for, and users and native servers move between
--- them in any way: from a world and a state to a world and a state. Each of its worlds is sound, the last one too
+-- them in any way: from a world and a state to a world and a state. Each of its worlds is sound, the last one too; and the list
+-- ends where the machine does
 pub data Interleaved {S A : Type 0} (m : Machine S A) (nester : Path) : World → S → List Event → World → S → Type 0 where
   Here : (w : World) (s : S) → IsSound w → Interleaved m nester w s [] w s
-  Another : (w : World) (s : S) (e : Event) (es : List Event) (v : World) (t : S) → IsSound w → IsUsersMove nester w e →
+  Another : (w : World) (s : S) (e : Event) (es : List Event) (v : World) (t : S) → IsSound w → IsAtCall m s → IsUsersMove nester w e →
       Interleaved m nester (after w e) s es v t → Interleaved m nester w s (e ∷ es) v t
   Own : (w : World) (s : S) (stage : Stage) (words : List ℕ) (es : List Event) (v : World) (t : S) → IsSound w → m.head s ≡ Asks stage words →
       IsReadyAt w (call_of nester stage words) →
@@ -80,7 +85,7 @@ pub data Interleaved {S A : Type 0} (m : Machine S A) (nester : Path) : World �
 abbrev pub own_moves : {S A : Type 0} {m : Machine S A} {nester : Path} {w : World} {s : S} {es : List Event} {v : World} {t : S} →
     Interleaved m nester w s es v t → ℕ
 own_moves (Here w s sound) = zero
-own_moves (Another w s e es v t sound move rest) = own_moves rest
+own_moves (Another w s e es v t sound works move rest) = own_moves rest
 own_moves (Own w s stage words es v t sound asked ready rest) = suc (own_moves rest)
 
 -- the same, begun by a call of the machine's
@@ -105,8 +110,8 @@ pub record IsOwedCall (w : World) (nester : Path) (stage : Stage) (words : List 
 -- ---- an interleaving goes on at its end, by a move of others or by its machine's next call, where what comes of it is sound
 
 abbrev pub GoesOnByOthers : Type 0 → Type 0 → Type 0
-GoesOnByOthers S A = (m : Machine S A) (nester : Path) (w : World) (s : S) (v : World) (t : S) (e : Event) → AtWork m nester w s v t → IsUsersMove nester v e →
-    IsSound (after v e) → AtWork m nester w s (after v e) t
+GoesOnByOthers S A = (m : Machine S A) (nester : Path) (w : World) (s : S) (v : World) (t : S) (e : Event) → AtWork m nester w s v t → IsAtCall m t →
+    IsUsersMove nester v e → IsSound (after v e) → AtWork m nester w s (after v e) t
 
 abbrev pub GoesOnByOwn : Type 0 → Type 0 → Type 0
 GoesOnByOwn S A = (m : Machine S A) (nester : Path) (w : World) (s : S) (v : World) (t : S) (stage : Stage) (words : List ℕ) → AtWork m nester w s v t →

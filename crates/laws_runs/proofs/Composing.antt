@@ -291,7 +291,7 @@ module _ {J S A V : Type 0} (h : House J S A V) (first : Core S A V) (users : As
         let due = users_due c.world (named c.world m.who) ask is in
         goes_next k w k.state upto up
         (subst (λ y. AtWork h.machine w.worked.nester (world_at run k.begun) w.worked.start y k.state) (sym goes)
-        (work_waits h.machine w.worked.nester (world_at run k.begun) w.worked.start c.world k.state e w.now (users_move ask is ready w.worked.nester porter.porter)
+        (work_waits h.machine w.worked.nester (world_at run k.begun) w.worked.start c.world k.state e w.now (w.stage, w.words, w.asked) (users_move ask is ready w.worked.nester porter.porter)
         (kept c.world e sound_now (record { fit = due.0; words = due.1 }) due.2 few_now).sound))
 
     -- ---- a move of the job's
