@@ -1,0 +1,5 @@
+pub mod Same
+pub mod Mild
+pub mod Tells
+pub mod Seeks
+pub mod SeekBounds

@@ -1,0 +1,5 @@
+use Rattle.laws_checkpoint.proofs.Seeks.{seeker_is_ready}
+use Rattle.laws_checkpoint.proofs.a_seekers_next_call_is_ready.Goals as goal
+
+pub returns : goal.returns
+returns c = seeker_is_ready

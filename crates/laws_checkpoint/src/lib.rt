@@ -1,0 +1,34 @@
+//! The checkpoint: a job that holds a subtree, tells where it isn't closed or gathers its image, and releases it, as a machine
+//! over the answers to its calls; and its law over every interleaving with others' moves. Each law is the contract of a
+//! function that does nothing.
+//!
+//! It stands on `laws_jobs`, and on what that stands on.
+#![tactic(auto)]
+
+ghost use Rattle.laws_checkpoint.specs.Foreign.{ForeignIsExact, ForeignIsBounded, SeekerIsReady, SeekingKeepsOpenPlace, PointerIsTold};
+
+/// Whatever others do between its calls, a seeker that comes to its end has found the first place at
+/// which the subtree isn't closed, as it was at the beginning.
+pub fn a_seeker_finds_the_first_place()
+    ensures { ForeignIsExact }
+{}
+
+/// A seeker makes three calls for each field, one for each step down, and one for each object.
+pub fn a_seeker_is_bounded()
+    ensures { ForeignIsBounded }
+{}
+
+/// A seeker's next call is ready wherever nothing outside the subtree is held.
+pub fn a_seekers_next_call_is_ready()
+    ensures { SeekerIsReady }
+{}
+
+/// While a seeker works the subtree is closed, or not, as it was.
+pub fn seeking_keeps_the_open_place()
+    ensures { SeekingKeepsOpenPlace }
+{}
+
+/// The way inside, and what the nester answers, tell the pointer as the cut shows it.
+pub fn a_pointer_is_told()
+    ensures { PointerIsTold }
+{}
