@@ -1,0 +1,6 @@
+pub mod Orders
+pub mod Laws
+pub mod Begun
+pub mod Looking
+pub mod Ready
+pub mod Fit

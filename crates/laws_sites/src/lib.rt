@@ -1,0 +1,86 @@
+//! What a restorer builds, over every interleaving: laws without code, each the contract of a function that does nothing.
+//!
+//! A restorer knows its calls from its image. What it has made so far is a *site*: the subtree seen alone, to what its scratch
+//! references lead, and its pin in the new space. Each of its *orders* asks for one call and makes of a site another; what others do
+//! between the calls leaves the site. So whoever gives orders that a site may take has built, at their end, what the orders make of
+//! the site, and a port is missed exactly where none stands in its slot.
+//!
+//! It stands on `laws_jobs`, whose machines and interleavings it speaks of, and on `laws_cut` for how a subtree is seen.
+//! `laws_restore` gives the orders that make an image's picture.
+#![tactic(auto)]
+
+ghost use Rattle.laws_sites.specs.Fit.{ServesNobody};
+ghost use Rattle.laws_sites.specs.Begun.{Begins};
+ghost use Rattle.laws_sites.specs.Looking.{TakesKeepLooks, PinsTell, OthersKeepLooks, ChecksTell};
+ghost use Rattle.laws_sites.specs.Ready.{NextIsReady, Releases};
+ghost use Rattle.laws_sites.specs.Laws.{BuiltIsCut, RestoresBuilt, NeverLost, PlacesAreNamed, CallsBounded, OthersKeepSites};
+
+/// A restorer makes no more calls than it has orders.
+pub fn calls_are_bounded()
+    ensures { CallsBounded }
+{}
+
+/// Others keep the site at which a restorer stands.
+pub fn others_keep_a_site()
+    ensures { OthersKeepSites }
+{}
+
+/// A place that a site names is named so in the world.
+pub fn places_are_named()
+    ensures { PlacesAreNamed }
+{}
+
+/// Whatever others do between its calls, a restorer that comes to its end has built what its orders say.
+pub fn a_restore_builds_its_orders()
+    ensures { RestoresBuilt }
+{}
+
+/// It never gets an answer for which it has no end.
+pub fn a_restore_is_never_lost()
+    ensures { NeverLost }
+{}
+
+/// Without a pin, what a site has built is the subtree seen alone.
+pub fn what_is_built_is_the_cut()
+    ensures { BuiltIsCut }
+{}
+
+/// Its first call makes an empty space in a free slot, or is told that the slot is taken and changes nothing.
+pub fn a_restore_begins()
+    ensures { Begins }
+{}
+
+/// Led to a slot of the nester, the pin leads to a port there exactly where one stands there.
+pub fn a_pin_tells()
+    ensures { PinsTell }
+{}
+
+/// Others keep that.
+pub fn others_keep_what_a_pin_tells()
+    ensures { OthersKeepLooks }
+{}
+
+/// So does the call that leads scratch there too.
+pub fn scratch_keeps_what_a_pin_tells()
+    ensures { TakesKeepLooks }
+{}
+
+/// The look is answered so.
+pub fn a_look_tells_what_the_pin_tells()
+    ensures { ChecksTell }
+{}
+
+/// Its next call is ready wherever its porter is free and no space outside its subtree is held.
+pub fn the_next_call_is_ready()
+    ensures { NextIsReady }
+{}
+
+/// Its release leaves what was built, with its root unheld.
+pub fn a_restore_is_released()
+    ensures { Releases }
+{}
+
+/// A thread inside serves nobody in the whole world, where nobody inside is seen to be served by it.
+pub fn a_thread_inside_serves_nobody()
+    ensures { ServesNobody }
+{}
