@@ -121,10 +121,10 @@ module _ (nester : Path) (slot : ℕ) where
   pub arrives : (f : Site) (w v : World) (s t : State) (es : List Event) → At f w s → (run : Interleaved (restorer slot) nester w s es v t) → Arrives f v t (left s) (own_moves run)
   unfolding does_all
   arrives f _ _ _ _ _ at (Here w s sound) = record { at = at; few = omega arith }
-  arrives f _ v _ t _ (Works os g w shows may is) (Another _ _ e es _ _ sound moves rest) =
+  arrives f _ v _ t _ (Works os g w shows may is) (Another _ _ e es _ _ sound works moves rest) =
       let later = arrives f (after w e) v (Working os) t es (Works os g (after w e) (others nester slot g w e shows moves) may is) rest in
       record { at = later.at; few = later.few }
-  arrives f _ v _ t _ (Fails w end a b) (Another _ _ e es _ _ sound moves rest) =
+  arrives f _ v _ t _ (Fails w end a b) (Another _ _ e es _ _ sound works moves rest) =
       let later = arrives f (after w e) v (Over end) t es (Fails (after w e) end a b) rest in
       record { at = later.at; few = later.few }
   arrives f _ v _ t _ (Fails w end a b) (Own _ _ stage words es _ _ sound asks ready rest) = cc
