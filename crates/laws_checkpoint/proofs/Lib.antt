@@ -3,3 +3,4 @@ pub mod Mild
 pub mod Tells
 pub mod Seeks
 pub mod SeekBounds
+pub mod Gathers

@@ -5,6 +5,7 @@
 //! It stands on `laws_jobs`, and on what that stands on.
 #![tactic(auto)]
 
+ghost use Rattle.laws_checkpoint.specs.Gather.{PointersAreGathered};
 ghost use Rattle.laws_checkpoint.specs.Foreign.{ForeignIsExact, ForeignIsBounded, SeekerIsReady, SeekingKeepsOpenPlace, PointerIsTold};
 
 /// Whatever others do between its calls, a seeker that comes to its end has found the first place at
@@ -31,4 +32,10 @@ pub fn seeking_keeps_the_open_place()
 /// The way inside, and what the nester answers, tell the pointer as the cut shows it.
 pub fn a_pointer_is_told()
     ensures { PointerIsTold }
+{}
+
+/// Whatever others do between its calls, a gatherer that comes to its end has where the fields of
+/// objects inside lead, as the subtree saw it at the beginning.
+pub fn the_pointers_are_gathered()
+    ensures { PointersAreGathered }
 {}

@@ -104,7 +104,7 @@ module _ (w v : World) (nester : Path) (slot : ℕ) (same : IsSameInside (slot �
   to_alike x (Some q) h = refl
   to_alike x None h = out_alike x h
 
-  ptr_alike : (q : Path) (b : Body) → w.body (q ++ root) ≡ Some b → (p : Ptr) → IsIn p (pointers b) →
+  pub ptr_alike : (q : Path) (b : Body) → w.body (q ++ root) ≡ Some b → (p : Ptr) → IsIn p (pointers b) →
       Alike nester slot (ports_of w nester slot) (ports_of v nester slot) p
   ptr_alike q b there (At x) is =
       let led : list_any (leads_to x) (body_pointers (w.body (q ++ root))) ≡ true = rw there (any_in (leads_to x) (At x) (pointers b) is (same_path_refl x)) in
