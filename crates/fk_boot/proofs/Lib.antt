@@ -3,3 +3,4 @@ pub mod Walks
 pub mod MadeSoFar
 pub mod Aiming
 pub mod validity
+pub mod Nesting

@@ -25,6 +25,7 @@ use Rattle.fk_scenario_sections.specs.Kept.{EachAfter, KeepsSpace, KeepsObject}
 use Rattle.fk_scenario_fields.specs.Paths.{enclosing}
 use Rattle.fk_scenario_sections.specs.Spaces.{has_space, has_space_or_root, may_stand, count_beneath}
 use Rattle.fk_scenario_sections.specs.Objects.{has_object}
+use Rattle.fk_scenario.specs.Servers.{has_key}
 use Rattle.fk_boot.specs.FirstWorld.{page_words, program_page, program_pages, zero_pages, space_itself, space_changes, words_of_program, first_body, object_changes}
 use Rattle.fk_boot.specs.MadeSoFar.{HasPlace, CanStand, HasSpaces, HasObjects}
 use Rattle.fk_boot.proofs.Changes.{apply_all-append}
@@ -302,20 +303,20 @@ made-object w spaces done o b other keeps h = record {
         let there : bytes_eq o.path q ≡ false = sym (reversed o.path q) ∙ (same_path_sym (reverse o.path) (reverse q) ∙ e) in
         rw (has_object-last done o q (has_space_or_root spaces q), there) (h.alone q ∙ or_false (has_space_or_root spaces q || has_object done q))
 
-no-birth : (spec : Spec) → valid.birth_of (first_body spec) ≡ None
-no-birth (specs.Thread entry regs stops) = refl
-no-birth (specs.Mutex locked) = refl
-no-birth specs.Cond = refl
-no-birth specs.Portset = refl
-no-birth (specs.Mapping region first count offset write) = refl
-no-birth (specs.Region first count write keeper) = refl
-no-birth (specs.Port set) = refl
-no-birth (specs.Reference to) = refl
+no-birth : (served : Bool) (spec : Spec) → valid.birth_of (first_body served spec) ≡ None
+no-birth served (specs.Thread entry regs stops) = refl
+no-birth served (specs.Mutex locked) = refl
+no-birth served specs.Cond = refl
+no-birth served specs.Portset = refl
+no-birth served (specs.Mapping region first count offset write) = refl
+no-birth served (specs.Region first count write keeper) = refl
+no-birth served (specs.Port set) = refl
+no-birth served (specs.Reference to) = refl
 
-pub object-stands : (spaces : List SpaceEntry) (done : List ObjectEntry) (o : ObjectEntry) (w : World) →
-    HasObjects w spaces done → KeepsObject spaces done o → HasObjects (apply_all (object_changes o) w) spaces (done ++ o ∷ [])
+pub object-stands : (ports : List (List ℕ)) (spaces : List SpaceEntry) (done : List ObjectEntry) (o : ObjectEntry) (w : World) →
+    HasObjects w spaces done → KeepsObject spaces done o → HasObjects (apply_all (object_changes ports o) w) spaces (done ++ o ∷ [])
 unfolding apply_all
-object-stands spaces done o w h keeps = made-object w spaces done o (first_body o.spec) (no-birth o.spec) keeps h
+object-stands ports spaces done o w h keeps = made-object w spaces done o (first_body (has_key ports o.path) o.spec) (no-birth (has_key ports o.path) o.spec) keeps h
 
 pub object-place : (spaces : List SpaceEntry) (done : List ObjectEntry) (o : ObjectEntry) (w : World) →
     HasObjects w spaces done → KeepsObject spaces done o → HasPlace w o.path
@@ -352,10 +353,10 @@ pub next-stands : (programs : List Program) (xs : List SpaceEntry) (i : ℕ) (x 
     → HasSpaces w (take i xs) → HasSpaces v (take (i + 1) xs)
 next-stands programs xs i x w v h is e stands = rw (e, take-next xs i x h is) (entry-stands programs (take i xs) x w stands)
 
-pub next-object : (spaces : List SpaceEntry) (xs : List ObjectEntry) (i : ℕ) (x : ObjectEntry) (w v : World) →
-    i < length xs → x ≡ get_or xs i x → v ≡ apply_all (object_changes x) w
+pub next-object : (ports : List (List ℕ)) (spaces : List SpaceEntry) (xs : List ObjectEntry) (i : ℕ) (x : ObjectEntry) (w v : World) →
+    i < length xs → x ≡ get_or xs i x → v ≡ apply_all (object_changes ports x) w
     → KeepsObject spaces (take i xs) x → HasObjects w spaces (take i xs) → HasObjects v spaces (take (i + 1) xs)
-next-object spaces xs i x w v h is e keeps stands = rw (e, take-next xs i x h is) (object-stands spaces (take i xs) x w stands keeps)
+next-object ports spaces xs i x w v h is e keeps stands = rw (e, take-next xs i x h is) (object-stands ports spaces (take i xs) x w stands keeps)
 
 -- there are birth numbers enough
 pub few-born : (w : World) (xs : List SpaceEntry) (i : ℕ) → count_beneath xs ≤ 255 → HasSpaces w (take i xs) → w.next ≤ 256

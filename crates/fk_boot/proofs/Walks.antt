@@ -1,5 +1,5 @@
 -- Walks down to a space, and what is made there.
-use Rattle.std.proofs.Common.{◌≡◌, ◌≢◌, ◌==◌, true, ℕ, suc, ◌-◌, ◌<◌, ◌≤◌, List, [], ◌∷◌, ◌++◌, append_assoc, length, get_or, take, drop, reverse, Some, None, refl, sym, ap, ◌∙◌, arith}
+use Rattle.std.proofs.Common.{◌≡◌, ◌≢◌, ◌==◌, Bool, true, ℕ, suc, ◌-◌, ◌<◌, ◌≤◌, List, [], ◌∷◌, ◌++◌, append_assoc, length, get_or, take, drop, reverse, Some, None, refl, sym, ap, ◌∙◌, arith}
 use Rattle.std.proofs.Math.Seq.{drop-cons, take-suc}
 use Rattle.std.proofs.lemmas.Grind.{reverse_onto}
 use Rattle.std.proofs.lemmas.List.{reverse-append, take_all}
@@ -61,21 +61,21 @@ unfolding apply
 made-space w x = rw (same_path_refl x) refl
 
 -- an object of a scenario is no space
-making-first : (x : Path) (spec : Spec) → making x (first_body spec) ≡ Make x (first_body spec)
-making-first x (specs.Thread entry regs stops) = refl
-making-first x (specs.Mutex locked) = refl
-making-first x specs.Cond = refl
-making-first x specs.Portset = refl
-making-first x (specs.Mapping region first count offset write) = refl
-making-first x (specs.Region first count write keeper) = refl
-making-first x (specs.Port set) = refl
-making-first x (specs.Reference to) = refl
+making-first : (x : Path) (served : Bool) (spec : Spec) → making x (first_body served spec) ≡ Make x (first_body served spec)
+making-first x served (specs.Thread entry regs stops) = refl
+making-first x served (specs.Mutex locked) = refl
+making-first x served specs.Cond = refl
+making-first x served specs.Portset = refl
+making-first x served (specs.Mapping region first count offset write) = refl
+making-first x served (specs.Region first count write keeper) = refl
+making-first x served (specs.Port set) = refl
+making-first x served (specs.Reference to) = refl
 
 -- an object is made
-pub makes : (x y : Path) (b : Body) (spec : Spec) (w v : World) → y ≡ x → b ≡ first_body spec → v ≡ apply (making y b) w
-    → v ≡ apply_all (Make x (first_body spec) ∷ []) w
+pub makes : (x y : Path) (b : Body) (served : Bool) (spec : Spec) (w v : World) → y ≡ x → b ≡ first_body served spec → v ≡ apply (making y b) w
+    → v ≡ apply_all (Make x (first_body served spec) ∷ []) w
 unfolding apply_all
-makes x y b spec w v e f h = h ∙ ap (λ c. apply c w) (ap (λ z. making z b) e ∙ (ap (making x) f ∙ making-first x spec))
+makes x y b served spec w v e f h = h ∙ ap (λ c. apply c w) (ap (λ z. making z b) e ∙ (ap (making x) f ∙ making-first x served spec))
 
 pub makes-space : (x y : Path) (w v : World) (k : ℕ) (s : Path) → y ≡ k ∷ s → y ≡ x → v ≡ apply (MakeSpace y None) w → v ≡ apply_all (space_itself x) w
 unfolding apply_all

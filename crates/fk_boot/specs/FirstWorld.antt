@@ -1,11 +1,11 @@
 -- The first world of a scenario: what its entries make, in the order of the file.
-use Rattle.std.specs.Prelude.{ℕ, ◌*◌, ◌-◌, Bool, false, not, ◌&&◌, ◌==◌, nat_lt, List, [], ◌∷◌, ◌++◌, map, length, take, drop, reverse, replicate, Option, Some, None, if◌then◌else◌}
+use Rattle.std.specs.Prelude.{ℕ, ◌*◌, ◌-◌, Bool, not, ◌&&◌, ◌==◌, nat_lt, is_none, List, [], ◌∷◌, ◌++◌, map, length, take, drop, reverse, replicate, Option, Some, None, if◌then◌else◌}
 use Rattle.std.specs.List.{flat_map, list_all, slice_get}
-use Rattle.fk_model.specs.declared.limits.TheConstants.{PAGES, PAGE_WORDS}
+use Rattle.fk_model.specs.declared.limits.TheConstants.{PAGES, PAGE_WORDS, LAST_PORTER_SLOT}
 use Rattle.fk_model.specs.Places.{Path}
 use Rattle.fk_model.specs.Places.Ptr.{Null, At}
 use Rattle.fk_model.specs.Objects.{Body, and_then}
-use Rattle.fk_model.specs.Objects.Mode.{Running}
+use Rattle.fk_model.specs.Objects.Mode.{Running, Native}
 use Rattle.fk_model.specs.Objects.Body.{Mutex, Cond, Mapping, Region, Port, Portset, Thread_of, Reference}
 use Rattle.fk_model.specs.World.{World, Change, Edit, apply_all}
 use Rattle.fk_model.specs.World.Change.{Alter, Make, MakeSpace, PutPage}
@@ -15,7 +15,9 @@ use Rattle.fk_store.specs.World.{first_world}
 use Rattle.fk_scenario_entries.specs.declared.types.Program.{Program}
 use Rattle.fk_scenario_entries.specs.declared.types.SpaceEntry.{SpaceEntry}
 use Rattle.fk_scenario_entries.specs.declared.types.ObjectEntry.{ObjectEntry}
+use Rattle.fk_scenario_entries.specs.declared.types.ServerEntry.{ServerEntry}
 use Rattle.fk_scenario.specs.declared.scenario.Scenario.{Scenario}
+use Rattle.fk_scenario.specs.Servers.{has_key}
 use Rattle.fk_scenario_entries.specs.declared.types.Spec.{Spec}
 use Rattle.fk_scenario_entries.specs.declared.types.Spec.TheVariants as specs
 
@@ -62,21 +64,22 @@ space_changes programs s =
     space_itself space ++ (zero_pages space s.pages ++ program_pages space (words_of_program programs s.program))
 
 -- what an object is at first. A thread runs from its entry on, with zeros in the registers that aren't given; nothing leads anywhere,
--- and no port is in a set
-abbrev pub first_body : Spec → Body
-first_body (specs.Thread entry regs stops) =
+-- and no port is in a set. A port that is in none later either may be served
+abbrev pub first_body : Bool → Spec → Body
+first_body served (specs.Thread entry regs stops) =
     Thread_of (record { mode = Running (regs ++ replicate (16 - length regs) 0); counter = entry; stops = stops; talk = None; fault = None })
-first_body (specs.Mutex locked) = Mutex locked
-first_body specs.Cond = Cond
-first_body specs.Portset = Portset
-first_body (specs.Mapping region first count offset write) =
+first_body served (specs.Mutex locked) = Mutex locked
+first_body served specs.Cond = Cond
+first_body served specs.Portset = Portset
+first_body served (specs.Mapping region first count offset write) =
     Mapping (record { first = first; count = count; offset = offset; write = write; region = Null })
-first_body (specs.Region first count write keeper) = Region (record { first = first; count = count; write = write; keeper = Null })
-first_body (specs.Port set) = Port None false
-first_body (specs.Reference to) = Reference Null
+first_body served (specs.Region first count write keeper) = Region (record { first = first; count = count; write = write; keeper = Null })
+first_body served (specs.Port set) = Port None (is_none set && served)
+first_body served (specs.Reference to) = Reference Null
 
-abbrev pub object_changes : ObjectEntry → List Change
-object_changes o = Make (reverse o.path) (first_body o.spec) ∷ []
+-- the ports of these servers are served
+abbrev pub object_changes : List (List ℕ) → ObjectEntry → List Change
+object_changes ports o = Make (reverse o.path) (first_body (has_key ports o.path) o.spec) ∷ []
 
 -- ---- where objects lead
 
@@ -104,12 +107,28 @@ aims specs.Portset = []
 abbrev pub aim_changes : ObjectEntry → List Change
 aim_changes o = map (Alter (reverse o.path)) (aims o.spec)
 
+-- ---- porters
+
+-- a porter makes the calls of jobs. It has no program
+abbrev pub porter : Body
+porter = Thread_of (record { mode = Native (replicate 16 0); counter = 0; stops = 0; talk = None; fault = None })
+
+-- a nester has its porter in the last slot
+abbrev pub porter_changes : SpaceEntry → List Change
+porter_changes s = if s.nester then Make (LAST_PORTER_SLOT ∷ reverse s.path) porter ∷ [] else []
+
 -- ---- the whole
 
--- the spaces in the order of the file, so that their birth numbers count from 1; then the objects, each leading nowhere; and when all
--- are there, where they lead
+-- the ports that are served, in the order of the file
+abbrev pub served_ports : List ServerEntry → List (List ℕ)
+served_ports servers = map (λ s. s.port) servers
+
+-- the spaces in the order of the file, so that their birth numbers count from 1; then the objects, each leading nowhere; when all
+-- are there, where they lead; and then the porters of nesters
 abbrev pub boot_changes : Scenario → List Change
-boot_changes s = flat_map (space_changes s.programs) s.spaces ++ (flat_map object_changes s.objects ++ flat_map aim_changes s.objects)
+boot_changes s =
+    flat_map (space_changes s.programs) s.spaces
+    ++ (flat_map (object_changes (served_ports s.servers)) s.objects ++ (flat_map aim_changes s.objects ++ flat_map porter_changes s.spaces))
 
 -- the world with which a scenario begins
 unfoldable pub booted : Scenario → World

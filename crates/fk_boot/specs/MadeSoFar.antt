@@ -2,8 +2,11 @@
 use Rattle.std.specs.Prelude.{◌≡◌, ℕ, ◌+◌, ◌<◌, ◌||◌, IsSome, is_some, IfSome, List, [], ◌∷◌, length, None, Some, reverse}
 use Rattle.fk_model.specs.Places.{Path}
 use Rattle.fk_model.specs.Valid.{birth_at, kind_there}
-use Rattle.fk_model.specs.World.{World}
+use Rattle.fk_model.specs.declared.limits.TheConstants.{LAST_PORTER_SLOT}
+use Rattle.fk_model.specs.declared.names.Kind.TheVariants as kinds
+use Rattle.fk_model.specs.World.{World, apply_all}
 use Rattle.fk_scenario_fields.specs.Paths.{enclosing}
+use Rattle.fk_boot.specs.FirstWorld.{porter_changes}
 use Rattle.fk_scenario_sections.specs.Spaces.{has_space_or_root, count_beneath}
 use Rattle.fk_scenario_sections.specs.Objects.{has_object}
 use Rattle.fk_scenario_entries.specs.declared.types.SpaceEntry.{SpaceEntry}
@@ -63,3 +66,15 @@ pub record HasSpaces (w : World) (entries : List SpaceEntry) : Type 0 where
 pub record HasObjects (w : World) (spaces : List SpaceEntry) (objects : List ObjectEntry) : Type 0 where
   pub births : (slots : List ℕ) → is_some (birth_at w (reverse slots)) ≡ has_space_or_root spaces slots
   pub alone : (slots : List ℕ) → is_some (w.body (reverse slots)) ≡ (has_space_or_root spaces slots || has_object objects slots)
+
+-- ---- porters
+
+-- a porter may be made in a space: it is there, and nothing stands in its last slot
+pub record CanNest (w : World) (s : SpaceEntry) : Type 0 where
+  pub space : kind_there w (reverse s.path) ≡ Some kinds.Space
+  pub empty : w.body (LAST_PORTER_SLOT ∷ reverse s.path) ≡ None
+
+-- porters may be made in some spaces, one after the other
+abbrev pub AreNestable : World → List SpaceEntry → Type 0
+AreNestable w [] = Unit {0}
+AreNestable w (s ∷ ss) = CanNest w s × AreNestable (apply_all (porter_changes s) w) ss

@@ -1,7 +1,7 @@
 //! The store with which a scenario begins.
 ghost use Rattle.std.specs.Prelude.{◌≡◌, ◌≤◌, [], All, OnOk, IfOk};
 ghost use Rattle.std.specs.List.{flat_map};
-ghost use Rattle.fk_model.specs.Valid.{IsValid};
+ghost use Rattle.fk_model.specs.Valid.{IsValid, kind_there};
 ghost use Rattle.fk_model.specs.Whole.{IsSavable};
 ghost use Rattle.laws_whole.specs.Runnable.{IsRunnable};
 ghost use Rattle.fk_model.specs.World.{apply_all};
@@ -9,14 +9,16 @@ ghost use Rattle.fk_scenario_sections.specs.Kept.{EachAfter, KeepsSpace, KeepsOb
 ghost use Rattle.fk_scenario.specs.Kept.{KeepsScenario};
 ghost use Rattle.fk_scenario_sections.specs.Spaces.{count_beneath};
 ghost use Rattle.fk_store.specs.World.{world, first_world};
-ghost use Rattle.fk_boot.specs.FirstWorld.{booted, space_changes, object_changes, aim_changes};
+ghost use Rattle.fk_boot.specs.FirstWorld.{booted, space_changes, object_changes, aim_changes, served_ports};
 ghost use Rattle.fk_boot.specs.MadeSoFar.{CanStand, CanAim, AreBorn, HasSpaces, HasObjects};
 
 use crate::aims::aim_object;
 use crate::making::{make_object, make_space};
 use crate::pages::{put_program, put_zeros, words_of_program};
+use crate::porters::make_porters;
 use fk_model::NoMemory;
-use fk_scenario::{ObjectEntry, Program, Scenario, SpaceEntry};
+use fk_scenario::{ObjectEntry, Program, Scenario, ServerEntry, SpaceEntry};
+use fk_scenario_fields::{Entries, Path};
 use fk_store::Store;
 use std::alloc::Global;
 
@@ -50,19 +52,20 @@ fn make_spaces(
     Ok(())
 }
 
-/// Makes the objects of a scenario, in the order of its file.
+/// Makes the objects of a scenario, in the order of its file. The ports with these paths are served.
 fn make_objects(
     store: &mut Store,
+    ports: &Entries<Path>,
     spaces: &[SpaceEntry],
     entries: &[ObjectEntry],
 ) -> Result<(), NoMemory>
     requires spaces { HasSpaces (world store.old) spaces.now }
     requires keeps { EachAfter (KeepsObject spaces.now) [] entries.now }
-    ensures world { OnOk result (world store.new ≡ apply_all (flat_map object_changes entries.now) (world store.old)) }
+    ensures world { OnOk result (world store.new ≡ apply_all (flat_map (object_changes ports.now) entries.now) (world store.old)) }
     ensures stands { OnOk result (HasObjects (world store.new) spaces.now entries.now) }
 {
     for entry in entries {
-        make_object(store, entry)?;
+        make_object(store, ports, entry)?;
     }
     Ok(())
 }
@@ -70,16 +73,28 @@ fn make_objects(
 /// Lets the objects of a scenario lead where they are to, in the order of its file.
 fn aim_objects(store: &mut Store, entries: &[ObjectEntry])
     requires { All (CanAim (world store.old)) entries.now }
-    ensures { world store.new ≡ apply_all (flat_map aim_changes entries.now) (world store.old) }
+    ensures world { world store.new ≡ apply_all (flat_map aim_changes entries.now) (world store.old) }
+    ensures kinds { kind_there (world store.new) ≡ kind_there (world store.old) }
 {
     for entry in entries {
         aim_object(store, entry);
     }
 }
 
+/// The ports that servers have.
+fn ports_of(alloc: Global, servers: &[ServerEntry]) -> Result<Entries<Path>, NoMemory>
+    ensures { IfOk result (λ ports. ports ≡ served_ports servers.now) }
+{
+    let mut ports = Entries::new(alloc);
+    for server in servers {
+        ports = ports.with(alloc, server.port.copy()?)?;
+    }
+    Ok(ports)
+}
+
 /// The store with which a scenario begins: its spaces with their pages of zeros and their programs,
-/// then its objects, and then where these lead, each in the order of the file. Spaces have birth
-/// numbers from 1 on, and the root 0. Its world is valid, a run may begin in it, and it can be saved.
+/// then its objects, of which the ports of servers are served, then where these lead, and then the porters
+/// of nesters, each in the order of the file. Spaces have birth numbers from 1 on, and the root 0. Its world is valid, a run may begin in it, and it can be saved.
 /// For want of memory there is none.
 pub fn boot(alloc: Global, scenario: &Scenario) -> Result<Store, NoMemory>
     requires { KeepsScenario scenario.now }
@@ -91,8 +106,10 @@ pub fn boot(alloc: Global, scenario: &Scenario) -> Result<Store, NoMemory>
     let mut store = Store::new(alloc)?;
     let spaces = scenario.spaces.as_slice();
     make_spaces(&mut store, scenario.programs.as_slice(), spaces)?;
+    let ports = ports_of(alloc, scenario.servers.as_slice())?;
     let objects = scenario.objects.as_slice();
-    make_objects(&mut store, spaces, objects)?;
+    make_objects(&mut store, &ports, spaces, objects)?;
     aim_objects(&mut store, objects);
+    make_porters(&mut store, spaces)?;
     Ok(store)
 }

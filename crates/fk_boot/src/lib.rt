@@ -4,10 +4,10 @@
 //! `laws_machine` for what keeps a world valid. It promises that `boot` gives a store of the world that
 //! `specs/FirstWorld.antt` has: what the entries of the scenario make of a world that has the root
 //! alone, in the order of the file: the spaces with their pages, then the objects, and then where
-//! these lead. That world is valid. It is never refused but for want of memory, since a scenario that
+//! these lead, and then the porters of nesters; the ports of servers are served. That world is valid. It is never refused but for want of memory, since a scenario that
 //! was read keeps what this rests on.
 //!
-//! Today nesters and servers can't be made: `is_bootable` tells of a scenario whether it has none.
+//! Today nothing runs nesters and servers: `is_bootable` tells of a scenario whether it has none.
 #![tactic(auto)]
 
 mod aims;
@@ -16,6 +16,7 @@ mod entries;
 mod making;
 mod names;
 mod pages;
+mod porters;
 
 pub use bootable::is_bootable;
 pub use entries::boot;

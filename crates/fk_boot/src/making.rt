@@ -1,5 +1,5 @@
 //! The spaces and the objects with which a scenario begins.
-ghost use Rattle.std.specs.Prelude.{◌≡◌, ℕ, ◌<◌, ◌≤◌, length, reverse, None, OnOk, IfOk};
+ghost use Rattle.std.specs.Prelude.{◌≡◌, ℕ, ◌<◌, ◌≤◌, length, reverse, false, None, OnOk, IfOk};
 ghost use Rattle.fk_model.specs.Objects.Body.{Thread_of};
 ghost use Rattle.fk_model.specs.Places.{Path};
 ghost use Rattle.fk_model.specs.World.{apply_all};
@@ -18,6 +18,7 @@ ghost use Rattle.fk_boot.specs.MadeSoFar.{HasPlace, CanStand, AreBorn};
 use crate::names::name_of;
 use fk_model::{Body, Mode, NoMemory, Ptr, Thread};
 use fk_scenario::{ObjectEntry, Spec};
+use fk_scenario_fields::{Entries, Path as Slots};
 use fk_store::Store;
 
 /// Makes a space, unless it is the root, and gives its birth number.
@@ -48,7 +49,7 @@ pub fn make_space(store: &mut Store, slots: &[u8]) -> Result<u32, NoMemory>
 /// others.
 fn first_thread(entry: u16, given: &[u64], stops: u16) -> Thread
     requires { length given.now ≤ 16 }
-    ensures body { (paths : ℕ → Path) → Thread_of (thread_by paths result) ≡ definitions.first_body (specs.Thread entry given.now stops) }
+    ensures body { (paths : ℕ → Path) → Thread_of (thread_by paths result) ≡ definitions.first_body false (specs.Thread entry given.now stops) }
     ensures talk { result.talk ≡ None }
     ensures fault { result.fault ≡ None }
 {
@@ -64,10 +65,10 @@ fn first_thread(entry: u16, given: &[u64], stops: u16) -> Thread
     }
 }
 
-/// What an object is at first. Nothing leads anywhere, and no port is in a set.
-fn first_body(spec: &Spec) -> Body
+/// What an object is at first. Nothing leads anywhere, and no port is in a set. A port may be served.
+fn first_body(spec: &Spec, served: bool) -> Body
     requires { IsSpecInRange spec.now }
-    ensures body { (paths : ℕ → Path) → body_by paths result ≡ definitions.first_body spec.now }
+    ensures body { (paths : ℕ → Path) → body_by paths result ≡ definitions.first_body served spec.now }
     ensures birth { (next : ℕ) → IsNext next result }
     ensures named { (m : Contents) → OnNamed (IsLive m) result }
     ensures sized { IsSized result }
@@ -103,21 +104,26 @@ fn first_body(spec: &Spec) -> Body
             write: *write,
             keeper: Ptr::Null,
         },
-        Spec::Port { .. } => Body::Port {
+        Spec::Port { set } => Body::Port {
             set: None,
-            served: false,
+            served: set.is_none() && served,
         },
         Spec::Reference { .. } => Body::Reference { to: Ptr::Null },
     }
 }
 
-/// Makes an object.
-pub fn make_object(store: &mut Store, object: &ObjectEntry) -> Result<(), NoMemory>
+/// Makes an object. The ports with these paths are served.
+pub fn make_object(
+    store: &mut Store,
+    ports: &Entries<Slots>,
+    object: &ObjectEntry,
+) -> Result<(), NoMemory>
     requires beneath { 0 < length object.now.path }
     requires place { HasPlace (world store.old) object.now.path }
     requires range { IsSpecInRange object.now.spec }
-    ensures { OnOk result (world store.new ≡ apply_all (definitions.object_changes object.now) (world store.old)) }
+    ensures { OnOk result (world store.new ≡ apply_all (definitions.object_changes ports.now object.now) (world store.old)) }
 {
-    let who = name_of(store, object.path.as_slice());
-    store.make(who, first_body(&object.spec))
+    let path = object.path.as_slice();
+    let who = name_of(store, path);
+    store.make(who, first_body(&object.spec, ports.has(path)))
 }

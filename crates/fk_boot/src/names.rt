@@ -44,3 +44,12 @@ pub fn name_of(store: &Store, slots: &[u8]) -> Who
     let space = find_space(store, above).unwrap();
     Who { space, slot: *slot }
 }
+
+/// The birth number of a space that is there.
+pub fn birth_of(store: &Store, slots: &[u8]) -> u32
+    requires space { IsSome (birth_at (world store.now) (reverse slots.now)) }
+    ensures path { path store.now result ≡ reverse slots.now }
+    ensures space { IsSpace store.now result }
+{
+    find_space(store, slots).unwrap()
+}

@@ -25,17 +25,19 @@ use Rattle.fk_scenario_entries.specs.declared.types.Spec.TheVariants as specs
 use Rattle.fk_scenario_fields.specs.Paths.{enclosing}
 use Rattle.fk_scenario.specs.Aims.{object_with, is_region_spec, is_port_spec, is_portset_spec, can_be_referred_to, is_one, entry_space, aims_well}
 use Rattle.fk_scenario_sections.specs.Spaces.{has_space}
+use Rattle.fk_scenario.specs.Servers.{has_key}
 use Rattle.fk_boot.specs.FirstWorld.{first_body, aim_changes, aims}
 use Rattle.fk_boot.proofs.Aiming.{find-passes, both-hold}
+use Rattle.fk_boot.proofs.Changes.{apply_all-append}
 use Rattle.fk_boot.proofs.Walks.{last}
 use Rattle.fk_boot.proofs.validity.Pages.{safe-append}
 use Rattle.fk_boot.proofs.validity.Objects.{outline_at, IsAsMade}
 
 -- ---- what is known while objects are aimed
 
-pub record AllThere (there : Path → Option Outline) (spaces : List SpaceEntry) (objects : List ObjectEntry) : Type 0 where
+pub record AllThere (ports : List (List ℕ)) (there : Path → Option Outline) (spaces : List SpaceEntry) (objects : List ObjectEntry) : Type 0 where
   pub kept : (path : List ℕ) → has_space spaces path ≡ true → option_map (λ (f : Outline). f.kind) (there (reverse path)) ≡ Some kinds.Space
-  pub made : All (IsAsMade there) objects
+  pub made : All (IsAsMade ports there) objects
 
 -- edits leave it
 same-outlines : (w : World) (x : Path) (e : Edit) → outline_at (apply (Alter x e) w) ≡ outline_at w
@@ -66,41 +68,41 @@ kind-at w x = outline-kind (w.body x)
 
 -- objects that pass a test are of kinds that a pointer may lead to
 abbrev Fits : List Kind → (Spec → Bool) → Type 0
-Fits wanted test = (spec : Spec) → test spec ≡ true → list_any (same_kind (kind_of (first_body spec))) wanted ≡ true
+Fits wanted test = (served : Bool) (spec : Spec) → test spec ≡ true → list_any (same_kind (kind_of (first_body served spec))) wanted ≡ true
 
 region-fits : Fits (kinds.Region ∷ []) is_region_spec
-region-fits (specs.Region first count write keeper) h = refl
-region-fits spec h = absurd (cc)
+region-fits served (specs.Region first count write keeper) h = refl
+region-fits served spec h = absurd (cc)
 
 port-fits : Fits (kinds.Port ∷ []) is_port_spec
-port-fits (specs.Port set) h = refl
-port-fits spec h = absurd (cc)
+port-fits served (specs.Port set) h = refl
+port-fits served spec h = absurd (cc)
 
 portset-fits : Fits (kinds.Portset ∷ []) is_portset_spec
-portset-fits specs.Portset h = refl
-portset-fits spec h = absurd (cc)
+portset-fits served specs.Portset h = refl
+portset-fits served spec h = absurd (cc)
 
 referable-fits : Fits referable can_be_referred_to
-referable-fits (specs.Mapping region first count offset write) h = refl
-referable-fits (specs.Region first count write keeper) h = refl
-referable-fits (specs.Port set) h = refl
-referable-fits (specs.Thread entry regs stops) h = refl
-referable-fits spec h = absurd (cc)
+referable-fits served (specs.Mapping region first count offset write) h = refl
+referable-fits served (specs.Region first count write keeper) h = refl
+referable-fits served (specs.Port set) h = refl
+referable-fits served (specs.Thread entry regs stops) h = refl
+referable-fits served spec h = absurd (cc)
 
-one-fits : (w : World) (objects : List ObjectEntry) (wanted : List Kind) (test : Spec → Bool) (path : List ℕ) → Fits wanted test
-    → All (IsAsMade (outline_at w)) objects → is_one test (object_with objects path) ≡ true → is_one_of wanted (kind_there w (reverse path)) ≡ true
-one-fits w objects wanted test path fits all one = by (object_with objects path) refl one
+one-fits : (ports : List (List ℕ)) (w : World) (objects : List ObjectEntry) (wanted : List Kind) (test : Spec → Bool) (path : List ℕ) → Fits wanted test
+    → All (IsAsMade ports (outline_at w)) objects → is_one test (object_with objects path) ≡ true → is_one_of wanted (kind_there w (reverse path)) ≡ true
+one-fits ports w objects wanted test path fits all one = by (object_with objects path) refl one
   where
     by : (found : Option ObjectEntry) → object_with objects path ≡ found → is_one test found ≡ true
         → is_one_of wanted (kind_there w (reverse path)) ≡ true
     by None e one = absurd (cc)
     by (Some o) e one =
-        let is = find-passes (IsAsMade (outline_at w)) (λ (o : ObjectEntry). bytes_eq o.path path) objects o e all in
+        let is = find-passes (IsAsMade ports (outline_at w)) (λ (o : ObjectEntry). bytes_eq o.path path) objects o e all in
         let same : o.path ≡ path = (bytes_eq-Decides o.path path).0 is.0 in
-        let kind : kind_there w (reverse path) ≡ Some (kind_of (first_body o.spec)) =
+        let kind : kind_there w (reverse path) ≡ Some (kind_of (first_body (has_key ports o.path) o.spec)) =
         kind-at w (reverse path) ∙ ap (λ (p : List ℕ). option_map (λ (f : Outline). f.kind) (outline_at w (reverse p))) (sym same)
         ∙ ap (option_map (λ (f : Outline). f.kind)) is.1 in
-        rw kind (fits o.spec one)
+        rw kind (fits (has_key ports o.path) o.spec one)
 
 -- ---- fields take what their kinds hold
 
@@ -143,54 +145,64 @@ kind-made w x f is = outline-kind (w.body x) ∙ ap (option_map (λ (f : Outline
 set-place : (path : List ℕ) (slot : ℕ) → 1 ≤ length path → set_at (reverse path) slot ≡ reverse (enclosing path ++ slot ∷ [])
 set-place path slot inside = rw (last path inside) (sym (reverse-append (enclosing path) (slot ∷ [])))
 
-refers-safe : (w : World) (spaces : List SpaceEntry) (objects : List ObjectEntry) (to : List ℕ) → AllThere (outline_at w) spaces objects
+refers-safe : (ports : List (List ℕ)) (w : World) (spaces : List SpaceEntry) (objects : List ObjectEntry) (to : List ℕ) → AllThere ports (outline_at w) spaces objects
     → (has_space spaces to || is_one can_be_referred_to (object_with objects to)) ≡ true → is_one_of referable (kind_there w (reverse to)) ≡ true
-refers-safe w spaces objects to all h = by (has_space spaces to) refl h
+refers-safe ports w spaces objects to all h = by (has_space spaces to) refl h
   where
     by : (b : Bool) → has_space spaces to ≡ b → (b || is_one can_be_referred_to (object_with objects to)) ≡ true
         → is_one_of referable (kind_there w (reverse to)) ≡ true
     by true e h = rw (kind-at w (reverse to), all.kept to e) refl
-    by false e h = one-fits w objects referable can_be_referred_to to referable-fits all.made h
+    by false e h = one-fits ports w objects referable can_be_referred_to to referable-fits all.made h
 
-aims-safe : (w : World) (spaces : List SpaceEntry) (objects : List ObjectEntry) (path : List ℕ) (spec : Spec) → AllThere (outline_at w) spaces objects
-    → 1 ≤ length path → outline_at w (reverse path) ≡ Some (outline_of (first_body spec)) → aims_well spaces objects (enclosing path) spec ≡ true
+aims-safe : (ports : List (List ℕ)) (w : World) (spaces : List SpaceEntry) (objects : List ObjectEntry) (path : List ℕ) (served : Bool) (spec : Spec) → AllThere ports (outline_at w) spaces objects
+    → 1 ≤ length path → outline_at w (reverse path) ≡ Some (outline_of (first_body served spec)) → aims_well spaces objects (enclosing path) spec ≡ true
     → AreSafe w (map (Alter (reverse path)) (aims spec))
-aims-safe w spaces objects path (specs.Mapping (Some region) first count offset write) all inside is well =
-    let fits = one-fits w objects (kinds.Region ∷ []) is_region_spec region region-fits all.made well in
+aims-safe ports w spaces objects path served (specs.Mapping (Some region) first count offset write) all inside is well =
+    let fits = one-fits ports w objects (kinds.Region ∷ []) is_region_spec region region-fits all.made well in
     (mapping-takes w (At (reverse region)) (w.body (reverse path)) (kind-made w (reverse path) _ is) fits, tt)
-aims-safe w spaces objects path (specs.Mapping None first count offset write) all inside is well = tt
-aims-safe w spaces objects path (specs.Region first count write (Some keeper)) all inside is well =
-    let fits = one-fits w objects (kinds.Port ∷ []) is_port_spec keeper port-fits all.made well in
+aims-safe ports w spaces objects path served (specs.Mapping None first count offset write) all inside is well = tt
+aims-safe ports w spaces objects path served (specs.Region first count write (Some keeper)) all inside is well =
+    let fits = one-fits ports w objects (kinds.Port ∷ []) is_port_spec keeper port-fits all.made well in
     (region-takes w (At (reverse keeper)) (w.body (reverse path)) (kind-made w (reverse path) _ is) fits, tt)
-aims-safe w spaces objects path (specs.Region first count write None) all inside is well = tt
-aims-safe w spaces objects path (specs.Reference (Some to)) all inside is well =
+aims-safe ports w spaces objects path served (specs.Region first count write None) all inside is well = tt
+aims-safe ports w spaces objects path served (specs.Reference (Some to)) all inside is well =
     let parts = both-hold (not (length to == 0)) (has_space spaces to || is_one can_be_referred_to (object_with objects to)) well in
-    let fits = refers-safe w spaces objects to all parts.1 in
+    let fits = refers-safe ports w spaces objects to all parts.1 in
     (reference-takes w (At (reverse to)) (w.body (reverse path)) (kind-made w (reverse path) _ is) fits, tt)
-aims-safe w spaces objects path (specs.Reference None) all inside is well = tt
-aims-safe w spaces objects path (specs.Port (Some slot)) all inside is well =
-    let fits = one-fits w objects (kinds.Portset ∷ []) is_portset_spec (enclosing path ++ slot ∷ []) portset-fits all.made well in
+aims-safe ports w spaces objects path served (specs.Reference None) all inside is well = tt
+aims-safe ports w spaces objects path served (specs.Port (Some slot)) all inside is well =
+    let fits = one-fits ports w objects (kinds.Portset ∷ []) is_portset_spec (enclosing path ++ slot ∷ []) portset-fits all.made well in
     (port-takes w (reverse path) slot (w.body (reverse path)) is (rw (set-place path slot inside) fits), tt)
-aims-safe w spaces objects path (specs.Port None) all inside is well = tt
-aims-safe w spaces objects path (specs.Thread entry regs stops) all inside is well = tt
-aims-safe w spaces objects path (specs.Mutex locked) all inside is well = tt
-aims-safe w spaces objects path specs.Cond all inside is well = tt
-aims-safe w spaces objects path specs.Portset all inside is well = tt
+aims-safe ports w spaces objects path served (specs.Port None) all inside is well = tt
+aims-safe ports w spaces objects path served (specs.Thread entry regs stops) all inside is well = tt
+aims-safe ports w spaces objects path served (specs.Mutex locked) all inside is well = tt
+aims-safe ports w spaces objects path served specs.Cond all inside is well = tt
+aims-safe ports w spaces objects path served specs.Portset all inside is well = tt
 
 -- ---- all aims
 
-pub all-safe : (w : World) (spaces : List SpaceEntry) (objects os : List ObjectEntry) → AllThere (outline_at w) spaces objects
-    → All (IsAsMade (outline_at w)) os → All (λ (o : ObjectEntry). 0 < length o.path) os
+pub all-safe : (ports : List (List ℕ)) (w : World) (spaces : List SpaceEntry) (objects os : List ObjectEntry) → AllThere ports (outline_at w) spaces objects
+    → All (IsAsMade ports (outline_at w)) os → All (λ (o : ObjectEntry). 0 < length o.path) os
     → All (λ (o : ObjectEntry). aims_well spaces objects (entry_space o) o.spec ≡ true) os → AreSafe w (flat_map aim_changes os)
-all-safe w spaces objects [] all made inside well = tt
-all-safe w spaces objects (o ∷ os) all made inside well =
+all-safe ports w spaces objects [] all made inside well = tt
+all-safe ports w spaces objects (o ∷ os) all made inside well =
     let v = apply_all (aim_changes o) w in
     let same : outline_at v ≡ outline_at w = same-all w (reverse o.path) (aims o.spec) in
-    let here = aims-safe w spaces objects o.path o.spec all (All-head (λ (o : ObjectEntry). 0 < length o.path) o os inside)
-    (All-head (IsAsMade (outline_at w)) o os made)
+    let here = aims-safe ports w spaces objects o.path (has_key ports o.path) o.spec all (All-head (λ (o : ObjectEntry). 0 < length o.path) o os inside)
+    (All-head (IsAsMade ports (outline_at w)) o os made)
     (All-head (λ (o : ObjectEntry). aims_well spaces objects (entry_space o) o.spec ≡ true) o os well) in
-    let rest = all-safe v spaces objects os (subst (λ (there : Path → Option Outline). AllThere there spaces objects) (sym same) all)
-    (subst (λ (there : Path → Option Outline). All (IsAsMade there) os) (sym same) (All-tail (IsAsMade (outline_at w)) o os made))
+    let rest = all-safe ports v spaces objects os (subst (λ (there : Path → Option Outline). AllThere ports there spaces objects) (sym same) all)
+    (subst (λ (there : Path → Option Outline). All (IsAsMade ports there) os) (sym same) (All-tail (IsAsMade ports (outline_at w)) o os made))
     (All-tail (λ (o : ObjectEntry). 0 < length o.path) o os inside)
     (All-tail (λ (o : ObjectEntry). aims_well spaces objects (entry_space o) o.spec ≡ true) o os well) in
     safe-append (aim_changes o) (flat_map aim_changes os) w here rest
+
+-- aims leave the kinds of all objects
+pub aims-kinds : (w : World) (os : List ObjectEntry) → kind_there (apply_all (flat_map aim_changes os) w) ≡ kind_there w
+unfolding apply_all
+aims-kinds w [] = refl
+aims-kinds w (o ∷ os) =
+    ap kind_there (apply_all-append (aim_changes o) (flat_map aim_changes os) w) ∙ (aims-kinds (apply_all (aim_changes o) w) os ∙ kinds-by w (apply_all (aim_changes o) w) (same-all w (reverse o.path) (aims o.spec)))
+  where
+    kinds-by : (w v : World) → outline_at v ≡ outline_at w → kind_there v ≡ kind_there w
+    kinds-by w v same = λ i x. (kind-at v x ∙ (ap (λ f. option_map (λ (f : Outline). f.kind) (f x)) same ∙ sym (kind-at w x))) i

@@ -1,11 +1,11 @@
 -- The first world of a scenario is whole, and can be saved.
-use Rattle.std.proofs.Common.{◌≡◌, ℕ, ◌-◌, ◌*◌, ◌≤◌, Bool, true, false, cond, ◌&&◌, ◌==◌, nat_lt, nat_le, List, [], ◌∷◌, ◌++◌, length, take, drop, replicate, reverse, map, get_or, Option, Some, None, refl, ap, ◌∙◌, arith}
+use Rattle.std.proofs.Common.{◌≡◌, ℕ, ◌-◌, ◌*◌, ◌≤◌, Bool, true, false, cond, if◌then◌else◌, ◌&&◌, ◌==◌, nat_lt, nat_le, List, [], ◌∷◌, ◌++◌, length, take, drop, replicate, reverse, map, get_or, Option, Some, None, refl, ap, ◌∙◌, arith}
 use Rattle.std.proofs.lemmas.List.Elements.{All-get_or}
 use Rattle.std.specs.List.{flat_map}
 use Rattle.std.proofs.lemmas.Bool.{le-leb}
 use Rattle.std.proofs.lemmas.List.{length-append, length-replicate, length-take}
 use Rattle.std.proofs.Math.Nat.{min-le_left}
-use Rattle.fk_model.specs.declared.limits.TheConstants.{LAST_USER_SLOT, PAGE_WORDS}
+use Rattle.fk_model.specs.declared.limits.TheConstants.{LAST_USER_SLOT, LAST_PORTER_SLOT, PAGE_WORDS}
 use Rattle.fk_model.specs.Places.{Path, same_path, slot_of}
 use Rattle.fk_model.specs.Places.Ptr.{At}
 use Rattle.fk_model.specs.Objects.{Talk, Fault, Thread, thread_of, and_then}
@@ -31,7 +31,8 @@ use Rattle.fk_scenario_entries.specs.Kept.{AreSlots, IsSpecInRange}
 use Rattle.fk_scenario_sections.specs.Kept.{EachAfter, KeepsSpace, KeepsObject}
 use Rattle.fk_scenario.specs.Kept.{KeepsScenario}
 use Rattle.fk_store.specs.World.{first_world}
-use Rattle.fk_boot.specs.FirstWorld.{page_words, zero_pages, program_page, words_of_program, space_itself, space_changes, first_body, object_changes, aims, points_to, belongs_to, aim_changes, boot_changes, booted}
+use Rattle.fk_scenario.specs.Servers.{has_key}
+use Rattle.fk_boot.specs.FirstWorld.{page_words, zero_pages, program_page, words_of_program, space_itself, space_changes, first_body, object_changes, aims, points_to, belongs_to, aim_changes, porter, porter_changes, served_ports, boot_changes, booted}
 use Rattle.fk_boot.proofs.Changes.{apply_all-append}
 use Rattle.fk_boot.proofs.MadeSoFar.{first-stands}
 use Rattle.fk_boot.proofs.Walks.{last}
@@ -143,39 +144,39 @@ spaces-first programs before (s ∷ ss) each =
 
 -- ---- objects, and where they lead
 
-first-native : (spec : Spec) → is_native (first_body spec) ≡ false
-first-native (specs.Thread entry regs stops) = refl
-first-native (specs.Mutex locked) = refl
-first-native specs.Cond = refl
-first-native specs.Portset = refl
-first-native (specs.Mapping region first count offset write) = refl
-first-native (specs.Region first count write keeper) = refl
-first-native (specs.Port set) = refl
-first-native (specs.Reference to) = refl
+first-native : (served : Bool) (spec : Spec) → is_native (first_body served spec) ≡ false
+first-native served (specs.Thread entry regs stops) = refl
+first-native served (specs.Mutex locked) = refl
+first-native served specs.Cond = refl
+first-native served specs.Portset = refl
+first-native served (specs.Mapping region first count offset write) = refl
+first-native served (specs.Region first count write keeper) = refl
+first-native served (specs.Port set) = refl
+first-native served (specs.Reference to) = refl
 
 length-registers : (regs : List ℕ) → length regs ≤ 16 → length (regs ++ replicate (16 - length regs) 0) ≡ 16
 length-registers regs few =
     let both = length-append regs (replicate (16 - length regs) 0) in omega (arith, few, both, length-replicate {A = ℕ} (16 - length regs) 0)
 
-first-tidy : (spec : Spec) → IsSpecInRange spec → IsTidy (first_body spec)
-first-tidy (specs.Thread entry regs stops) range = record { shaped = length-registers regs range.1; stops = range.2; code = tt }
-first-tidy (specs.Mutex locked) range = tt
-first-tidy specs.Cond range = tt
-first-tidy specs.Portset range = tt
-first-tidy (specs.Mapping region first count offset write) range = tt
-first-tidy (specs.Region first count write keeper) range = tt
-first-tidy (specs.Port set) range = tt
-first-tidy (specs.Reference to) range = tt
+first-tidy : (served : Bool) (spec : Spec) → IsSpecInRange spec → IsTidy (first_body served spec)
+first-tidy served (specs.Thread entry regs stops) range = record { shaped = length-registers regs range.1; stops = range.2; code = tt }
+first-tidy served (specs.Mutex locked) range = tt
+first-tidy served specs.Cond range = tt
+first-tidy served specs.Portset range = tt
+first-tidy served (specs.Mapping region first count offset write) range = tt
+first-tidy served (specs.Region first count write keeper) range = tt
+first-tidy served (specs.Port set) range = tt
+first-tidy served (specs.Reference to) range = tt
 
-objects-first : (spaces : List SpaceEntry) (before os : List ObjectEntry) → EachAfter (KeepsObject spaces) before os → AreFirst (flat_map object_changes os)
-objects-first spaces before [] each = tt
-objects-first spaces before (o ∷ os) each =
+objects-first : (ports : List (List ℕ)) (spaces : List SpaceEntry) (before os : List ObjectEntry) → EachAfter (KeepsObject spaces) before os → AreFirst (flat_map (object_changes ports) os)
+objects-first ports spaces before [] each = tt
+objects-first ports spaces before (o ∷ os) each =
     let keeps = each.0 in (
       (
-        low-stands (slot_of (reverse o.path)) (first_body o.spec) (low-slot o.path keeps.inside keeps.slots) (first-native o.spec),
-        first-tidy o.spec keeps.in_range,
+        low-stands (slot_of (reverse o.path)) (first_body (has_key ports o.path) o.spec) (low-slot o.path keeps.inside keeps.slots) (first-native (has_key ports o.path) o.spec),
+        first-tidy (has_key ports o.path) o.spec keeps.in_range,
       ),
-      objects-first spaces (before ++ o ∷ []) os each.1,
+      objects-first ports spaces (before ++ o ∷ []) os each.1,
     )
 
 points-first : (x : Path) (to : Option (List ℕ)) → AreFirst (map (Alter x) (points_to to))
@@ -200,9 +201,20 @@ aims-first : (os : List ObjectEntry) → AreFirst (flat_map aim_changes os)
 aims-first [] = tt
 aims-first (o ∷ os) = first-then (aim_changes o) _ (aim-first (reverse o.path) o.spec) (aims-first os)
 
+porters-first : (ss : List SpaceEntry) → AreFirst (flat_map porter_changes ss)
+porters-first [] = tt
+porters-first (s ∷ ss) = first-then (porter_changes s) _ (by s.nester) (porters-first ss)
+  where
+    by : (nests : Bool) → AreFirst (if nests then Make (LAST_PORTER_SLOT ∷ reverse s.path) porter ∷ [] else [])
+    by true = ((refl, record { shaped = refl; stops = omega arith; code = tt }), tt)
+    by false = tt
+
 boot-first : (s : Scenario) → KeepsScenario s → AreFirst (boot_changes s)
-boot-first s keeps = first-then (flat_map (space_changes s.programs) s.spaces) _ (spaces-first s.programs [] s.spaces keeps.spaces)
-    (first-then (flat_map object_changes s.objects) _ (objects-first s.spaces [] s.objects keeps.objects) (aims-first s.objects))
+boot-first s keeps =
+    let ports = served_ports s.servers in
+    first-then (flat_map (space_changes s.programs) s.spaces) _ (spaces-first s.programs [] s.spaces keeps.spaces)
+    (first-then (flat_map (object_changes ports) s.objects) _ (objects-first ports s.spaces [] s.objects keeps.objects)
+    (first-then (flat_map aim_changes s.objects) _ (aims-first s.objects) (porters-first s.spaces)))
 
 -- ---- the root alone
 
@@ -236,10 +248,10 @@ first-savable = record {
 
 -- ---- the whole
 
-object-next : (os : List ObjectEntry) (w : World) → (apply_all (flat_map object_changes os) w).next ≡ w.next
+object-next : (ports : List (List ℕ)) (os : List ObjectEntry) (w : World) → (apply_all (flat_map (object_changes ports) os) w).next ≡ w.next
 unfolding apply apply_all
-object-next [] w = refl
-object-next (o ∷ os) w = object-next os (apply (Make (reverse o.path) (first_body o.spec)) w)
+object-next ports [] w = refl
+object-next ports (o ∷ os) w = object-next ports os (apply (Make (reverse o.path) (first_body (has_key ports o.path) o.spec)) w)
 
 edits-next : (x : Path) (edits : List Edit) (w : World) → (apply_all (map (Alter x) edits) w).next ≡ w.next
 unfolding apply apply_all
@@ -253,16 +265,31 @@ aim-next (o ∷ os) w =
     ap (λ (v : World). v.next) (apply_all-append (aim_changes o) (flat_map aim_changes os) w) ∙ aim-next os (apply_all (aim_changes o) w)
     ∙ edits-next (reverse o.path) (aims o.spec) w
 
+porter-next : (ss : List SpaceEntry) (w : World) → (apply_all (flat_map porter_changes ss) w).next ≡ w.next
+unfolding apply apply_all
+porter-next [] w = refl
+porter-next (s ∷ ss) w =
+    ap (λ (v : World). v.next) (apply_all-append (porter_changes s) (flat_map porter_changes ss) w)
+    ∙ (porter-next ss (apply_all (porter_changes s) w) ∙ by s.nester)
+  where
+    by : (nests : Bool) → (apply_all (if nests then Make (LAST_PORTER_SLOT ∷ reverse s.path) porter ∷ [] else []) w).next ≡ w.next
+    by true = refl
+    by false = refl
+
 booted-few : (s : Scenario) → KeepsScenario s → (booted s).next ≤ depth
 unfolding booted
 booted-few s keeps =
     let made = flat_map (space_changes s.programs) s.spaces in
-    let put = flat_map object_changes s.objects in
+    let put = flat_map (object_changes (served_ports s.servers)) s.objects in
     let aimed = flat_map aim_changes s.objects in
+    let nested = flat_map porter_changes s.spaces in
     let stands = (spaces-safe s.programs [] s.spaces first_world first-stands keeps.spaces).1 in
-    let same = ap (λ (v : World). v.next) (apply_all-append made (put ++ aimed) first_world)
-    ∙ ap (λ (v : World). v.next) (apply_all-append put aimed (apply_all made first_world)) ∙ aim-next s.objects (apply_all put (apply_all made first_world))
-    ∙ object-next s.objects (apply_all made first_world) ∙ stands.next in
+    let w = apply_all made first_world in
+    let v = apply_all put w in
+    let same = ap (λ (v : World). v.next) (apply_all-append made (put ++ (aimed ++ nested)) first_world)
+    ∙ (ap (λ (v : World). v.next) (apply_all-append put (aimed ++ nested) w)
+    ∙ (ap (λ (v : World). v.next) (apply_all-append aimed nested v)
+    ∙ (porter-next s.spaces (apply_all aimed v) ∙ (aim-next s.objects v ∙ (object-next (served_ports s.servers) s.objects w ∙ stands.next))))) in
     let few = keeps.few_spaces in
     rw same (omega (arith, few))
 

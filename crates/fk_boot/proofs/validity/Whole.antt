@@ -1,11 +1,13 @@
 -- The first world of a scenario is valid.
-use Rattle.std.proofs.Common.{◌≡◌, ℕ, ◌<◌, ◌≤◌, true, ◌==◌, List, [], ◌∷◌, ◌++◌, append_assoc, append-nil, length, reverse, Some, refl, sym, ◌∙◌, arith}
+use Rattle.std.proofs.Common.{◌≡◌, ℕ, ◌<◌, ◌≤◌, Bool, true, false, if◌then◌else◌, ◌==◌, List, [], ◌∷◌, ◌++◌, append_assoc, append-nil, length, reverse, Some, refl, sym, ◌∙◌, arith}
 use Rattle.std.proofs.lemmas.List.Elements.{All-nil}
 use Rattle.std.specs.List.{flat_map}
 use Rattle.fk_model.specs.Places.{Path}
 use Rattle.fk_model.specs.Objects.{Talk, Fault}
 use Rattle.fk_model.specs.Searches.{talk_at, fault_at}
+use Rattle.fk_model.specs.declared.limits.TheConstants.{LAST_PORTER_SLOT}
 use Rattle.fk_model.specs.World.{World, apply_all}
+use Rattle.fk_model.specs.World.Change.{Make}
 use Rattle.fk_model.specs.Valid.{IsConsistent, IsRooted, IsPaged, IsValid, kind_there, birth_at, all_in, is_good, services}
 use Rattle.fk_store.specs.World.{first_world}
 use Rattle.laws_machine.proofs.safety.Safe.{AreSafe}
@@ -17,14 +19,15 @@ use Rattle.fk_scenario.specs.declared.scenario.Scenario.{Scenario}
 use Rattle.fk_scenario_sections.specs.Kept.{EachAfter, KeepsSpace}
 use Rattle.fk_scenario.specs.Kept.{KeepsScenario}
 use Rattle.fk_scenario_sections.specs.Spaces.{has_space}
-use Rattle.fk_boot.specs.FirstWorld.{space_changes, object_changes, aim_changes, boot_changes, booted}
-use Rattle.fk_boot.specs.MadeSoFar.{HasSpaces}
+use Rattle.fk_boot.specs.FirstWorld.{space_changes, object_changes, aim_changes, porter, porter_changes, served_ports, boot_changes, booted}
+use Rattle.fk_boot.specs.MadeSoFar.{HasSpaces, AreNestable}
 use Rattle.fk_boot.proofs.Aiming.{or_right, all-inside, each-aims}
 use Rattle.fk_boot.proofs.Changes.{apply_all-append}
 use Rattle.fk_boot.proofs.MadeSoFar.{some, first-stands, entry-stands, spaces-stand}
 use Rattle.fk_boot.proofs.validity.Pages.{safe-append, birth-space, entry-safe}
 use Rattle.fk_boot.proofs.validity.Objects.{outline_at, IsAsMade, Made, objects-safe}
-use Rattle.fk_boot.proofs.validity.Aims.{AllThere, kind-at, all-safe}
+use Rattle.fk_boot.proofs.validity.Aims.{AllThere, kind-at, all-safe, aims-kinds}
+use Rattle.fk_boot.proofs.Nesting.{nestable}
 
 -- ---- the root alone
 
@@ -96,26 +99,41 @@ spaces-safe programs done (s ∷ ss) w stands each =
 -- ---- the whole
 
 -- where all are made, what objects may lead to is there
-all-there : (w : World) (spaces : List SpaceEntry) (objects : List ObjectEntry) → Made w spaces objects → AllThere (outline_at w) spaces objects
-all-there w spaces objects made = record {
+all-there : (ports : List (List ℕ)) (w : World) (spaces : List SpaceEntry) (objects : List ObjectEntry) → Made ports w spaces objects → AllThere ports (outline_at w) spaces objects
+all-there ports w spaces objects made = record {
   kept = λ path has.
       let birth = some (birth_at w (reverse path)) (made.stands.births path ∙ or_right (length path == 0) (has_space spaces path) has) in
       sym (kind-at w (reverse path)) ∙ birth-space w (reverse path) birth;
   made = made.as_made;
 }
 
+-- porters are made safely, one after the other
+porters-safe : (ss : List SpaceEntry) (w : World) → AreNestable w ss → AreSafe w (flat_map porter_changes ss)
+porters-safe [] w nests = tt
+porters-safe (s ∷ ss) w nests =
+    safe-append (porter_changes s) (flat_map porter_changes ss) w (by s.nester) (porters-safe ss (apply_all (porter_changes s) w) nests.1)
+  where
+    by : (nests : Bool) → AreSafe w (if nests then Make (LAST_PORTER_SLOT ∷ reverse s.path) porter ∷ [] else [])
+    by true = (record { place = record { slot = omega arith; space = (nests.0).space; empty = (nests.0).empty }; plain = refl; good = refl }, tt)
+    by false = tt
+
 pub boot-safe : (s : Scenario) → KeepsScenario s → AreSafe first_world (boot_changes s)
 boot-safe s keeps =
+    let ports = served_ports s.servers in
     let spaces = spaces-safe s.programs [] s.spaces first_world first-stands keeps.spaces in
     let w = apply_all (flat_map (space_changes s.programs) s.spaces) first_world in
-    let begin : Made w s.spaces [] = record { stands = spaces-stand w s.spaces spaces.1; as_made = All-nil (IsAsMade (outline_at w)) } in
-    let objects = objects-safe s.spaces [] s.objects w begin keeps.objects in
-    let v = apply_all (flat_map object_changes s.objects) w in
-    let there = all-there v s.spaces s.objects objects.1 in
-    let aims = all-safe v s.spaces s.objects s.objects there there.made
+    let begin : Made ports w s.spaces [] = record { stands = spaces-stand w s.spaces spaces.1; as_made = All-nil (IsAsMade ports (outline_at w)) } in
+    let objects = objects-safe ports s.spaces [] s.objects w begin keeps.objects in
+    let v = apply_all (flat_map (object_changes ports) s.objects) w in
+    let there = all-there ports v s.spaces s.objects objects.1 in
+    let aims = all-safe ports v s.spaces s.objects s.objects there there.made
     (all-inside s.spaces [] s.objects keeps.objects) (each-aims s.spaces s.objects 0 s.objects keeps.aims) in
-    safe-append (flat_map (space_changes s.programs) s.spaces) (flat_map object_changes s.objects ++ flat_map aim_changes s.objects) first_world spaces.0
-    (safe-append (flat_map object_changes s.objects) (flat_map aim_changes s.objects) w objects.0 aims)
+    let u = apply_all (flat_map aim_changes s.objects) v in
+    let nests = nestable s.programs v u s.spaces s.objects keeps.spaces keeps.objects (objects.1).stands (aims-kinds v s.objects) in
+    safe-append (flat_map (space_changes s.programs) s.spaces)
+    (flat_map (object_changes ports) s.objects ++ (flat_map aim_changes s.objects ++ flat_map porter_changes s.spaces)) first_world spaces.0
+    (safe-append (flat_map (object_changes ports) s.objects) (flat_map aim_changes s.objects ++ flat_map porter_changes s.spaces) w objects.0
+    (safe-append (flat_map aim_changes s.objects) (flat_map porter_changes s.spaces) v aims (porters-safe s.spaces u nests)))
 
 pub booted-valid : (s : Scenario) → KeepsScenario s → IsValid (booted s)
 unfolding booted

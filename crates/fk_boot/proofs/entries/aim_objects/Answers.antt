@@ -22,5 +22,5 @@ loop-entry-preserved c =
       kinds = c.aim_object.ensures.kinds ∙ kept.kinds;
     }
 
-pub returns : goal.returns
-returns c = no-entries aim_changes c.args.entries.now c.loop-entry.entry-index _ _ c.loop-entry-test.false c.loop-entry.invariant.left
+pub returns-clause-world : goal.returns-clause-world
+returns-clause-world c = no-entries aim_changes c.args.entries.now c.loop-entry.entry-index _ _ c.loop-entry-test.false c.loop-entry.invariant.left

@@ -17,8 +17,8 @@ loop-entry-preserved c =
     let x = c.entry-item.result in
     let keeps = each-first (KeepsObject c.args.spaces.now) xs i x c.loop-entry-test.true c.entry-item.is kept.keeps in
     record {
-      left = more-entries object_changes xs i x _ _ _ c.loop-entry-test.true c.entry-item.is c.in_ok-make_object.ensures kept.left;
-      stands = next-object c.args.spaces.now xs i x _ _ c.loop-entry-test.true c.entry-item.is c.in_ok-make_object.ensures keeps kept.stands;
+      left = more-entries (object_changes c.args.ports.now) xs i x _ _ _ c.loop-entry-test.true c.entry-item.is c.in_ok-make_object.ensures kept.left;
+      stands = next-object c.args.ports.now c.args.spaces.now xs i x _ _ c.loop-entry-test.true c.entry-item.is c.in_ok-make_object.ensures keeps kept.stands;
       keeps = each-rest (KeepsObject c.args.spaces.now) xs i x c.loop-entry-test.true kept.keeps;
     }
 
@@ -34,4 +34,4 @@ make_object-requires c =
     }
 
 pub returns-clause-world : goal.returns-clause-world
-returns-clause-world c = no-entries object_changes c.args.entries.now c.loop-entry.entry-index _ _ c.loop-entry-test.false c.loop-entry.invariant.left
+returns-clause-world c = no-entries (object_changes c.args.ports.now) c.args.entries.now c.loop-entry.entry-index _ _ c.loop-entry-test.false c.loop-entry.invariant.left

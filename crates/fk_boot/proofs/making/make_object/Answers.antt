@@ -1,15 +1,20 @@
 use Rattle.std.proofs.Common.{◌∙◌, ap, reverse}
+use Rattle.fk_scenario.specs.Servers.{has_key}
 use Rattle.fk_store.specs.World.{world}
 use Rattle.fk_store.specs.Paths.{path}
 use Rattle.fk_store.proofs.finding.Results.{on_ok}
+use Rattle.fk_boot.specs.FirstWorld.{first_body}
 use Rattle.fk_boot.proofs.Walks.{makes}
 use Rattle.fk_boot.proofs.making.make_object.Goals as goal
 
 pub returns : goal.returns
 returns c =
+    let object = c.args.object.now in
+    let served = c.has.ensures ∙ ap (has_key c.args.ports.now) c.as_slice-path.ensures in
     on_ok c.make.result _ _
-    (makes (reverse c.args.object.now.path) _ _ c.args.object.now.spec (world c.args.store.now) (world c.make.new.self)
-    (c.name_of-who.ensures.place ∙ ap reverse c.as_slice.ensures) (c.first_body.ensures.body (path c.args.store.now)))
+    (makes (reverse object.path) _ _ (has_key c.args.ports.now object.path) object.spec (world c.args.store.now) (world c.make.new.self)
+    (c.name_of-who.ensures.place ∙ ap reverse c.as_slice-path.ensures)
+    (c.first_body.ensures.body (path c.args.store.now) ∙ ap (λ is. first_body is object.spec) served))
     c.make.ensures.world
 
 pub make-requires-clause-birth : goal.make-requires-clause-birth
