@@ -17,11 +17,11 @@ use Rattle.laws_jobs.specs.Machines.{no_words, porter}
 use Rattle.laws_jobs.specs.Machines.{Reply}
 use Rattle.laws_sites.specs.Orders.{Spot, Site, Order, Shows, SpotShows, stage_of, words_of, May}
 use Rattle.laws_sites.specs.Orders.Spot.{Unsure}
-use Rattle.laws_sites.specs.Orders.Order.{Readies, Leads, LeadsTop, Makes, Sets, Points, Gives, MakesPin, Pins, Takes, Checks, ParksTalk, ParksFault, Drops, DropsPin, Deadens, LinksTalk, Holds}
+use Rattle.laws_sites.specs.Orders.Order.{Readies, Leads, LeadsTop, Makes, Sets, Points, Gives, MakesPin, Pins, Takes, Checks, ParksTalk, ParksFault, Drops, DropsPin, Deadens, LinksTalk, RaisesFault, LinksFault, Holds}
 use Rattle.laws_sites.proofs.Standing.{ref_slot, ref_named}
 use Rattle.laws_sites.proofs.Plain.{Plain, plain}
 use Rattle.laws_sites.proofs.Pinned.{pinned, pins-row}
-use Rattle.laws_sites.proofs.Tied.{links_talk-plain, holds-plain}
+use Rattle.laws_sites.proofs.Tied.{links_talk-plain, raises_fault-plain, links_fault-plain, holds-plain}
 use Rattle.laws_sites.proofs.Dropped.{drops-plain, drops_pin-plain}
 use Rattle.laws_sites.proofs.Deadened.{deadens-plain}
 use Rattle.laws_jobs.proofs.Rows.{object-there, points_as}
@@ -74,6 +74,8 @@ module _ (nester : Path) (slot : ℕ) (g : Site) (w : World) (shows : Shows nest
   comes (Drops r) may = of_plain (Drops r) (drops-plain nester slot g w shows valid r may.0 may.1)
   comes DropsPin may = of_plain DropsPin (drops_pin-plain nester slot g w shows valid (pinned nester slot g w shows may.0) may.1)
   comes (LinksTalk s q x r u port server words) may = of_plain (LinksTalk s q x r u port server words) (links_talk-plain nester slot g w shows valid.consistent s q x r u port server words may)
+  comes (RaisesFault s q x r port words) may = of_plain (RaisesFault s q x r port words) (raises_fault-plain nester slot g w shows valid.consistent s q x r port words may)
+  comes (LinksFault s q x r u port taker words) may = of_plain (LinksFault s q x r u port taker words) (links_fault-plain nester slot g w shows valid.consistent s q x r u port taker words may)
   comes (Holds s q x r holder) may = of_plain (Holds s q x r holder) (holds-plain nester slot g w shows valid.consistent s q x r holder may)
   comes (Deadens r) may = of_plain (Deadens r) (deadens-plain nester slot g w shows valid r may)
   comes (Readies r) may = of_plain (Readies r) (plain nester slot g w shows valid.consistent (Readies r) tt may)

@@ -39,7 +39,7 @@ use Rattle.laws_jobs.specs.Calls.{fresh, has_pointer}
 use Rattle.laws_sites.specs.Orders.{Spot, Pin, Site, pin_of, lifted, eye, bare, PinShows, IsKeptBy, SpotShows, Shows, Order, stage_of, words_of, does, is_ref_slot, with_built, with_pin, after_set, after_pointer, IsLive, MayMake, MaySet, MayPoint, MayLead, MayGive, MayPark, May}
 use Rattle.laws_sites.specs.Orders.Spot.{To, Unsure}
 use Rattle.laws_sites.specs.Orders.Pin.{NoPin, Loose, Fast}
-use Rattle.laws_sites.specs.Orders.Order.{Readies, Leads, LeadsTop, Makes, Sets, Points, Gives, MakesPin, Pins, Takes, Checks, ParksTalk, ParksFault, Drops, DropsPin, Deadens, LinksTalk, Holds}
+use Rattle.laws_sites.specs.Orders.Order.{Readies, Leads, LeadsTop, Makes, Sets, Points, Gives, MakesPin, Pins, Takes, Checks, ParksTalk, ParksFault, Drops, DropsPin, Deadens, LinksTalk, RaisesFault, LinksFault, Holds}
 use Rattle.laws_sites.proofs.Standing.{kind_seen, unfrozen, decides, nester_unfrozen, ref_slot, ref_named, user_named, ref_there, ref_led, ref_unfrozen, big, empty_there, root_there, root_named, place-row}
 use Rattle.laws_sites.proofs.Changes.{bare-pin, alters, makes, makes_space, gives, leads, led_there, pin_kept, above_stays, readies}
 use Rattle.laws_jobs.proofs.Rows.{own-place, object-there, create-row, point-row, set_ptr-row, set_state-row, page_give-row, link_park-row, fault_park-row}
@@ -487,6 +487,8 @@ module _ (nester : Path) (slot : ℕ) where
     IsPlainOrder DropsPin = ⊥
     IsPlainOrder (Deadens r) = ⊥
     IsPlainOrder (LinksTalk s q x r u port server words) = ⊥
+    IsPlainOrder (RaisesFault s q x r port words) = ⊥
+    IsPlainOrder (LinksFault s q x r u port taker words) = ⊥
     IsPlainOrder (Holds s q x r holder) = ⊥
     IsPlainOrder other = Unit {0}
 
@@ -508,4 +510,6 @@ module _ (nester : Path) (slot : ℕ) where
     plain DropsPin is may = absurd is
     plain (Deadens r) is may = absurd is
     plain (LinksTalk s q x r u port server words) is may = absurd is
+    plain (RaisesFault s q x r port words) is may = absurd is
+    plain (LinksFault s q x r u port taker words) is may = absurd is
     plain (Holds s q x r holder) is may = absurd is

@@ -13,7 +13,7 @@ use Rattle.laws_jobs.specs.Machines.{Reply, IsAnswered}
 use Rattle.laws_jobs.specs.Machines.Head.{Stops}
 use Rattle.laws_jobs.specs.Machines.Interleaved.{Here, Another, Own}
 use Rattle.laws_sites.specs.Orders.{Site, Shows, Order, stage_of, words_of, does, does_all, May, MayAll, End, State, head, passes, fails, is_port_in, restorer}
-use Rattle.laws_sites.specs.Orders.Order.{Readies, Leads, LeadsTop, Makes, Sets, Points, Gives, MakesPin, Pins, Takes, Checks, ParksTalk, ParksFault, Drops, DropsPin, Deadens, LinksTalk, Holds}
+use Rattle.laws_sites.specs.Orders.Order.{Readies, Leads, LeadsTop, Makes, Sets, Points, Gives, MakesPin, Pins, Takes, Checks, ParksTalk, ParksFault, Drops, DropsPin, Deadens, LinksTalk, RaisesFault, LinksFault, Holds}
 use Rattle.laws_sites.specs.Orders.State.{Working, Over}
 use Rattle.laws_sites.specs.Orders.End.{Done, Lost}
 use Rattle.laws_sites.specs.Laws.{RestoresBuilt, NeverLost, CallsBounded}
@@ -24,7 +24,7 @@ use Rattle.laws_sites.proofs.Comes.{comes}
 use Rattle.laws_sites.proofs.Plain.{Plain, plain}
 use Rattle.laws_sites.proofs.Pinned.{pinned, pins, checks}
 use Rattle.laws_sites.proofs.Deadened.{deadens-plain}
-use Rattle.laws_sites.proofs.Tied.{links_talk-plain, holds-plain}
+use Rattle.laws_sites.proofs.Tied.{links_talk-plain, raises_fault-plain, links_fault-plain, holds-plain}
 use Rattle.laws_sites.proofs.Dropped.{drops-plain, drops_pin-plain}
 
 module _ (nester : Path) (slot : ℕ) where
@@ -71,6 +71,8 @@ module _ (nester : Path) (slot : ℕ) where
   own g w DropsPin reply shows may answered = plain-does g w DropsPin reply shows answered (λ s ws. refl) (drops_pin-plain nester slot g w shows answered.valid (pinned nester slot g w shows may.0) may.1)
   own g w (Deadens r) reply shows may answered = plain-does g w (Deadens r) reply shows answered (λ s ws. refl) (deadens-plain nester slot g w shows answered.valid r may)
   own g w (LinksTalk s q x r u port server words) reply shows may answered = plain-does g w (LinksTalk s q x r u port server words) reply shows answered (λ s ws. refl) (links_talk-plain nester slot g w shows answered.valid.consistent s q x r u port server words may)
+  own g w (RaisesFault s q x r port words) reply shows may answered = plain-does g w (RaisesFault s q x r port words) reply shows answered (λ s ws. refl) (raises_fault-plain nester slot g w shows answered.valid.consistent s q x r port words may)
+  own g w (LinksFault s q x r u port taker words) reply shows may answered = plain-does g w (LinksFault s q x r u port taker words) reply shows answered (λ s ws. refl) (links_fault-plain nester slot g w shows answered.valid.consistent s q x r u port taker words may)
   own g w (Holds s q x r holder) reply shows may answered = plain-does g w (Holds s q x r holder) reply shows answered (λ s ws. refl) (holds-plain nester slot g w shows answered.valid.consistent s q x r holder may)
 
   -- ---- one call of its own

@@ -1,6 +1,7 @@
 -- Talks and faults between threads inside, and inner holds.
-use Rattle.std.proofs.Common.{◌≡◌, ℕ, Bool, true, false, ◌==◌, is_some, List, [], ◌∷◌, ◌++◌, Option, Some, None, Ok, refl, sym, ap, subst, ◌∙◌}
-use Rattle.fk_model.specs.declared.limits.TheConstants.{OWN_SPACE, LAST_PORTER_SLOT}
+use Rattle.std.proofs.lemmas.Bool.{and_parts, leb-true}
+use Rattle.std.proofs.Common.{nat_le, arith, ne_eqb, ◌≡◌, ℕ, Bool, true, false, ◌==◌, is_some, List, [], ◌∷◌, ◌++◌, Option, Some, None, Ok, refl, sym, ap, subst, ◌∙◌}
+use Rattle.fk_model.specs.declared.limits.TheConstants.{OWN_SPACE, FIRST_SCRATCH_SLOT, LAST_SCRATCH_SLOT, LAST_PORTER_SLOT}
 use Rattle.fk_model.specs.declared.names.Kind.{Kind}
 use Rattle.fk_model.specs.declared.names.Kind.TheVariants as kinds
 use Rattle.fk_model.specs.declared.stage.Stage.TheVariants.{LinkSet, FaultSet, HoldSet}
@@ -27,8 +28,8 @@ use Rattle.laws_cut.specs.Likeness.{seeing, IfServer, HasLikeness}
 use Rattle.laws_cut.specs.Likeness.PtrLikeness.{Inside}
 use Rattle.laws_cut.specs.LikeChanges.{seen_edit}
 use Rattle.laws_jobs.specs.Machines.{no_words, porter}
-use Rattle.laws_sites.specs.Orders.{Site, eye, bare, Shows, MayLink, MayHold, IsKindThere, with_built, inner_talk}
-use Rattle.laws_sites.specs.Orders.Order.{LinksTalk, Holds}
+use Rattle.laws_sites.specs.Orders.{Site, eye, bare, Shows, MayLink, MayRaise, MayHold, IsKindThere, is_ref_slot, with_built, inner_talk, inner_fault}
+use Rattle.laws_sites.specs.Orders.Order.{LinksTalk, RaisesFault, LinksFault, Holds}
 use Rattle.laws_sites.proofs.Standing.{kind_seen, unfrozen, ref_named, ref_led, user_named, big, place-row}
 use Rattle.laws_sites.proofs.Changes.{alters}
 use Rattle.laws_sites.proofs.Plain.{Plain, big_thread}
@@ -57,6 +58,12 @@ module _ (nester : Path) (words : List ℕ) (w : World) where
       call_row w (porter nester words) None (FaultSet s x r u) ≡ Goes (Alter (x ∷ space) (SetFault (given_fault (porter nester words) (At port) (Some (Server (At server))))) ∷ []) (Answered OK [])
   unfolding call_row fault_set
   fault_set-row s x r u space port server t h there at some thread free = rw (h, there, at, some, thread, free) refl
+
+  pub fault_raise-row : (s x r : ℕ) (space port : Path) (t : Thread) → space_argument w (porter nester words) s ≡ Ok space → object_in w (porter nester words) thread_of space x ≡ Ok t →
+      referred w (porter nester words) kinds.Port r ≡ Ok (At port) → is_frozen_for w me (x ∷ space) ≡ false →
+      call_row w (porter nester words) None (FaultSet s x r OWN_SPACE) ≡ Goes (Alter (x ∷ space) (SetFault (given_fault (porter nester words) (At port) None)) ∷ []) (Answered OK [])
+  unfolding call_row fault_set
+  fault_raise-row s x r space port t h there at free = rw (h, there, at, free) refl
 
   pub hold_set-row : (s x r : ℕ) (space thread : Path) (old : Option Ptr) → space_argument w (porter nester words) s ≡ Ok space → object_in w (porter nester words) space_of space x ≡ Ok old →
       referred w (porter nester words) kinds.Thread r ≡ Ok (At thread) → is_frozen_for w me (x ∷ space) ≡ false →
@@ -127,6 +134,60 @@ module _ (nester : Path) (slot : ℕ) (g : Site) (w : World) (shows : Shows nest
             (unfrozen nester slot g w shows (x ∷ q));
         shown = subst (λ (e : Edit). Shows nester slot (with_built (apply (Alter (x ∷ q) e) g.built) g) (apply (Alter (x ∷ (q ++ root)) edit) w)) seen changed;
       }
+
+  seen_raised_is : (port : Ptr) (y : Path) (words : List ℕ) → see port ≡ At y →
+      seen_edit see false (SetFault (given_fault (porter nester words) port None)) ≡ SetFault (Some (inner_fault y None words))
+  seen_raised_is port y words e = rw e refl
+
+  seen_taken_is : (port taker : Ptr) (y z : Path) (words : List ℕ) → see port ≡ At y → see taker ≡ At z →
+      seen_edit see false (SetFault (given_fault (porter nester words) port (Some (Server taker)))) ≡ SetFault (Some (inner_fault y (Some z) words))
+  seen_taken_is port taker y z words e h = rw (e, h) refl
+
+  pub raises_fault-plain : (s : ℕ) (q : Path) (x r : ℕ) (y : Path) (words : List ℕ) → (may : MayRaise g slot s q x r y) → Plain nester slot g w shows valid (RaisesFault s q x r y words)
+  unfolding apply_all
+  raises_fault-plain s q x r y words may =
+      let t = big_thread nester slot g w shows valid q x may.thread in
+      let port : Path = y ++ root in
+      let to = ref_led nester slot g w shows r (At y) may.scratch may.led in
+      let edit : Edit = SetFault (given_fault (porter nester words) (At port) None) in
+      let changed : Shows nester slot (with_built (apply (Alter (x ∷ q) (seen_edit see false edit)) g.built) g) (apply (Alter (x ∷ (q ++ root)) edit) w) =
+      alters nester slot g w shows false x q edit may.low (inside y, tt) in
+      let seen : seen_edit see false edit ≡ SetFault (Some (inner_fault y None words)) = seen_raised_is (At port) y words (shows.like.within y) in
+      record {
+        changes = Alter (x ∷ (q ++ root)) edit ∷ [];
+        row = fault_raise-row nester words w s x r (q ++ root) port t.thread (place-row nester slot g w shows words s q may.place)
+            (object-there nester words w thread_of (q ++ root) x (Thread_of t.thread) t.thread (user_named nester slot g w shows x may.low) t.there refl)
+            (port-there nester words w r port (object-there nester words w reference_of nester r (Reference (At port)) (At port) (ref_named nester slot g w shows r may.scratch) to.0 refl) (kind_of_there y kinds.Port may.port_there))
+            (unfrozen nester slot g w shows (x ∷ q));
+        shown = subst (λ (e : Edit). Shows nester slot (with_built (apply (Alter (x ∷ q) e) g.built) g) (apply (Alter (x ∷ (q ++ root)) edit) w)) seen changed;
+      }
+
+  pub links_fault-plain : (s : ℕ) (q : Path) (x r u : ℕ) (y z : Path) (words : List ℕ) → (may : MayLink g slot s q x r u y z) → Plain nester slot g w shows valid (LinksFault s q x r u y z words)
+  unfolding apply_all
+  links_fault-plain s q x r u y z words may =
+      let t = big_thread nester slot g w shows valid q x may.thread in
+      let port : Path = y ++ root in
+      let taker : Path = z ++ root in
+      let to = ref_led nester slot g w shows r (At y) may.scratch may.led in
+      let by = ref_led nester slot g w shows u (At z) may.second may.served in
+      let edit : Edit = SetFault (given_fault (porter nester words) (At port) (Some (Server (At taker)))) in
+      let out : is_out (see (At port)) ≡ false = ap is_out (shows.like.within y) in
+      let changed : Shows nester slot (with_built (apply (Alter (x ∷ q) (seen_edit see false edit)) g.built) g) (apply (Alter (x ∷ (q ++ root)) edit) w) =
+      alters nester slot g w shows false x q edit may.low (inside y, subst (λ (b : Bool). IfServer b (Server (At taker)) (HasLikeness root see (bare root w))) (sym out) (inside z)) in
+      let seen : seen_edit see false edit ≡ SetFault (Some (inner_fault y (Some z) words)) = seen_taken_is (At port) (At taker) y z words (shows.like.within y) (shows.like.within z) in
+      record {
+        changes = Alter (x ∷ (q ++ root)) edit ∷ [];
+        row = fault_set-row nester words w s x r u (q ++ root) port taker t.thread (place-row nester slot g w shows words s q may.place)
+            (object-there nester words w thread_of (q ++ root) x (Thread_of t.thread) t.thread (user_named nester slot g w shows x may.low) t.there refl)
+            (port-there nester words w r port (object-there nester words w reference_of nester r (Reference (At port)) (At port) (ref_named nester slot g w shows r may.scratch) to.0 refl) (kind_of_there y kinds.Port may.port_there))
+            (no_place u may.second)
+            (thread-there nester words w u taker (object-there nester words w reference_of nester u (Reference (At taker)) (At taker) (ref_named nester slot g w shows u may.second) by.0 refl) (kind_of_there z kinds.Thread may.server_there))
+            (unfrozen nester slot g w shows (x ∷ q));
+        shown = subst (λ (e : Edit). Shows nester slot (with_built (apply (Alter (x ∷ q) e) g.built) g) (apply (Alter (x ∷ (q ++ root)) edit) w)) seen changed;
+      }
+    where
+      no_place : (u : ℕ) → is_ref_slot u ≡ true → (u == OWN_SPACE) ≡ false
+      no_place u h = let least = leb-true u LAST_SCRATCH_SLOT (and_parts (nat_le FIRST_SCRATCH_SLOT u) (nat_le u LAST_SCRATCH_SLOT) h).1 in ne_eqb u OWN_SPACE (λ e. omega (arith, least, e))
 
   pub holds-plain : (s : ℕ) (q : Path) (x r : ℕ) (z : Path) → (may : MayHold g slot s q x r z) → Plain nester slot g w shows valid (Holds s q x r z)
   unfolding apply_all

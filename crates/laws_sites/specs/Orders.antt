@@ -3,13 +3,13 @@
 -- A restorer knows from its image which calls it will make: its state is the list of those that are left. A site is what it has
 -- made so far: the subtree seen alone, to what its references in the nester's scratch lead, and its reference in the new space, the
 -- pin, by which it keeps a port of the nester in its place while it looks whether it is one.
-use Rattle.std.specs.Prelude.{◌≡◌, ℕ, ◌≤◌, Bool, true, false, not, ◌&&◌, ◌==◌, nat_le, nat_lt, IsSome, is_some, List, [], ◌∷◌, ◌++◌, length, map, Option, Some, None, if◌then◌else◌, slice_index}
+use Rattle.std.specs.Prelude.{◌≡◌, ℕ, ◌≤◌, Bool, true, false, not, ◌&&◌, ◌==◌, nat_le, nat_lt, IsSome, is_some, List, [], ◌∷◌, ◌++◌, length, map, Option, Some, None, option_map, if◌then◌else◌, slice_index}
 use Rattle.std.specs.List.{list_any}
 use Rattle.fk_model.specs.declared.limits.TheConstants.{OWN_SPACE, LAST_USER_SLOT, FIRST_SCRATCH_SLOT, LAST_SCRATCH_SLOT, LAST_PORTER_SLOT, PAGES, PAGE_WORDS}
 use Rattle.fk_model.specs.declared.names.Kind.{Kind}
 use Rattle.fk_model.specs.declared.names.Kind.TheVariants as kinds
 use Rattle.fk_model.specs.declared.stage.Stage.{Stage}
-use Rattle.fk_model.specs.declared.stage.Stage.TheVariants.{Create, Destroy, Point, Locate, SetState, SetPtr, PageGive, LinkSet, LinkPark, FaultPark, HoldSet}
+use Rattle.fk_model.specs.declared.stage.Stage.TheVariants.{Create, Destroy, Point, Locate, SetState, SetPtr, PageGive, LinkSet, LinkPark, FaultSet, FaultPark, HoldSet}
 use Rattle.fk_model.specs.declared.statuses.status.TheConstants.{OK}
 use Rattle.fk_model.specs.Places.{Path, Ptr}
 use Rattle.fk_model.specs.Places.Ptr.{Null, Dead, At, Out, Outside, Far}
@@ -124,6 +124,9 @@ pub data Order : Type 0 where
   ParksFault : (s : ℕ) (q : Path) (x i taken : ℕ) (words : List ℕ) → Order
   -- a talk with a thread inside: scratch r leads to the port at k, u to the server at j
   LinksTalk : (s : ℕ) (q : Path) (x r u : ℕ) (port server : Path) (words : List ℕ) → Order
+  -- a fault at a port inside, to which scratch r leads: raised, or taken by the thread to which u leads
+  RaisesFault : (s : ℕ) (q : Path) (x r : ℕ) (port : Path) (words : List ℕ) → Order
+  LinksFault : (s : ℕ) (q : Path) (x r u : ℕ) (port taker : Path) (words : List ℕ) → Order
   -- an inner space gets a holder, to which scratch r leads
   Holds : (s : ℕ) (q : Path) (x r : ℕ) (holder : Path) → Order
   -- the end of a scratch reference, and of the pin
@@ -147,6 +150,8 @@ stage_of slot (Checks r i) = Locate r OWN_SPACE
 stage_of slot (ParksTalk s q x i words) = LinkPark s x i
 stage_of slot (ParksFault s q x i taken words) = FaultPark s x i taken
 stage_of slot (LinksTalk s q x r u port server words) = LinkSet s x r u
+stage_of slot (RaisesFault s q x r port words) = FaultSet s x r OWN_SPACE
+stage_of slot (LinksFault s q x r u port taker words) = FaultSet s x r u
 stage_of slot (Holds s q x r holder) = HoldSet s x r
 stage_of slot (Drops r) = Destroy OWN_SPACE r
 stage_of slot DropsPin = Destroy slot FIRST_SCRATCH_SLOT
@@ -158,6 +163,8 @@ words_of (Gives s q page words) = words
 words_of (ParksTalk s q x i words) = words
 words_of (ParksFault s q x i taken words) = words
 words_of (LinksTalk s q x r u port server words) = words
+words_of (RaisesFault s q x r port words) = words
+words_of (LinksFault s q x r u port taker words) = words
 words_of other = no_words
 
 -- ---- what an order makes of a site
@@ -198,6 +205,9 @@ parked_fault i taken words = record { page = slice_index words 0; write = slice_
 abbrev pub inner_talk : Path → Path → List ℕ → Talk
 inner_talk port server words = record { port = At port; peer = Server (At server); turn = turn_by (slice_index words 0); moved = slice_index words 1 }
 
+abbrev pub inner_fault : Path → Option Path → List ℕ → Fault
+inner_fault port taker words = record { page = slice_index words 0; write = slice_index words 1 == 1; port = At port; taker = option_map (λ thread. Server (At thread)) taker }
+
 abbrev pub does : Order → Site → Site
 does (Readies r) g = with_spot r (Some (To Null)) g
 does (Leads r s q x) g = with_spot r (Some (To (At (x ∷ q)))) g
@@ -213,6 +223,8 @@ does (Checks r i) g = with_pin (Fast i) (with_spot r (Some (To (Out i))) g)
 does (ParksTalk s q x i words) g = with_built (apply (Alter (x ∷ q) (SetTalk (Some (parked_talk i words)))) g.built) g
 does (ParksFault s q x i taken words) g = with_built (apply (Alter (x ∷ q) (SetFault (Some (parked_fault i taken words)))) g.built) g
 does (LinksTalk s q x r u port server words) g = with_built (apply (Alter (x ∷ q) (SetTalk (Some (inner_talk port server words)))) g.built) g
+does (RaisesFault s q x r port words) g = with_built (apply (Alter (x ∷ q) (SetFault (Some (inner_fault port None words)))) g.built) g
+does (LinksFault s q x r u port taker words) g = with_built (apply (Alter (x ∷ q) (SetFault (Some (inner_fault port (Some taker) words)))) g.built) g
 does (Holds s q x r holder) g = with_built (apply (Alter (x ∷ q) (SetHolder (Some (At holder)))) g.built) g
 does (Drops r) g = with_spot r None g
 does DropsPin g = with_pin NoPin g
@@ -341,6 +353,14 @@ pub record MayDeaden (g : Site) (r : ℕ) : Type 0 where
   pub pin : g.pin ≡ NoPin
   pub region : g.built ≡ apply (fresh (0 ∷ []) kinds.Region) alone
 
+pub record MayRaise (g : Site) (slot s : ℕ) (q : Path) (x r : ℕ) (port : Path) : Type 0 where
+  pub place : IsPlace g slot s q
+  pub low : x ≤ LAST_USER_SLOT
+  pub thread : is_some (and_then thread_of (g.built.body (x ∷ q))) ≡ true
+  pub scratch : is_ref_slot r ≡ true
+  pub led : g.spot r ≡ Some (To (At port))
+  pub port_there : IsKindThere g.built port kinds.Port
+
 abbrev pub May : ℕ → Order → Site → Type 0
 May slot (Readies r) g = (is_ref_slot r ≡ true) × (g.spot r ≡ None)
 May slot (Leads r s q x) g = MayLead g slot r s q x
@@ -356,6 +376,8 @@ May slot (Checks r i) g = (is_ref_slot r ≡ true) × (g.spot r ≡ Some Unsure)
 May slot (ParksTalk s q x i words) g = MayPark g slot s q x i
 May slot (ParksFault s q x i taken words) g = MayPark g slot s q x i
 May slot (LinksTalk s q x r u port server words) g = MayLink g slot s q x r u port server
+May slot (RaisesFault s q x r port words) g = MayRaise g slot s q x r port
+May slot (LinksFault s q x r u port taker words) g = MayLink g slot s q x r u port taker
 May slot (Holds s q x r holder) g = MayHold g slot s q x r holder
 May slot (Drops r) g = (is_ref_slot r ≡ true) × IsSome (g.spot r)
 May slot DropsPin g = ((g.pin ≡ NoPin) → ⊥) × ((k : ℕ) → stays_in (g.spot k) ≡ true)
