@@ -419,8 +419,8 @@ module _ (nester : Path) (slot : ℕ) (start : World) (near : far_field ((cut st
         let kind = kind_up nester slot start near w base valid few ways (k ∷ at) (s ++ root) way (above nester slot start near w base valid few j s live) in
         let old = base.scratched.places in
         let row = point-row nester no_words w OWN_SPACE PLACES from k nester at old.0 (At (k ∷ at)) (own-place nester no_words w) (ref_read nester slot start near w base valid few PLACES old.0 refl old.1)
-            (from_named nester slot start near w base valid few from at h (above_kind nester slot w base.holding valid k at kind))
-            (space_pointer nester no_words w at k (live_slot nester slot start near w base valid few k at (space_live nester slot start near w base valid few (k ∷ at) kind)) kind) (free nester slot start near w base valid few PLACES old.0 old.1) in
+        (from_named nester slot start near w base valid few from at h (above_kind nester slot w base.holding valid k at kind))
+        (space_pointer nester no_words w at k (live_slot nester slot start near w base valid few k at (space_live nester slot start near w base valid few (k ∷ at) kind)) kind) (free nester slot start near w base valid few PLACES old.0 old.1) in
         let goes = one_change nester slot start near w base valid few (Point OWN_SPACE PLACES from k) reply (Alter (PLACES ∷ nester) (SetPointer (At (k ∷ at)))) OK [] answered row in
         let nearby : (x : Path) → leads_to x (At (k ∷ at)) ≡ true → IsNear w root x = λ x led. inl (p, sym (same_path_eq (k ∷ at) x led) ∙ inside) in
         let v : World = apply (Alter (PLACES ∷ nester) (SetPointer (At (k ∷ at)))) w in
@@ -444,7 +444,7 @@ module _ (nester : Path) (slot : ℕ) (start : World) (near : far_field ((cut st
         let old = base.scratched.targets in
         let there : IsSome (w.body (j ∷ (s ++ root))) = ap is_some body.1 in
         let row = get_ptr-row nester no_words w PLACES j n TARGETS (s ++ root) body.0 old.0 known.field (places_named nester slot start near w base valid few j s placed (above nester slot start near w base valid few j s live))
-            (object-there nester no_words w anything (s ++ root) j body.0 body.0 (live_slot nester slot start near w base valid few j (s ++ root) there) body.1 refl) (ref_read nester slot start near w base valid few TARGETS old.0 refl old.1) known.is in
+        (object-there nester no_words w anything (s ++ root) j body.0 body.0 (live_slot nester slot start near w base valid few j (s ++ root) there) body.1 refl) (ref_read nester slot start near w base valid few TARGETS old.0 refl old.1) known.is in
         let goes = one_change nester slot start near w base valid few (GetPtr PLACES j n TARGETS) reply (Alter (TARGETS ∷ nester) (SetPointer to)) OK (field_number known.field ∷ []) answered row in
         let nearby : (x : Path) → leads_to x to ≡ true → IsNear w root x = λ x led. inr (j ∷ s, subst (λ (o : Option Body). list_any (leads_to x) (body_pointers o) ≡ true) (sym body.1) (by_near x body.0 known.field known.among led)) in
         let v : World = apply (Alter (TARGETS ∷ nester) (SetPointer to)) w in
@@ -587,7 +587,7 @@ module _ (nester : Path) (slot : ℕ) (start : World) (near : far_field ((cut st
         let kind = beneath_kind (k ∷ at) field.to field.ref beneath in
         let above = above_kind nester slot w base.holding valid k (at ++ root) kind in
         let row = point-row nester no_words w OWN_SPACE STEPS (place_at slot at) k nester (at ++ root) steps.0 (At to) (own-place nester no_words w)
-            (ref_read nester slot start near w base valid few STEPS steps.0 refl steps.1) (place_named at st above) (space_pointer nester no_words w (at ++ root) k (live_slot nester slot start near w base valid few k (at ++ root) (space_live nester slot start near w base valid few to kind)) kind) (free nester slot start near w base valid few STEPS steps.0 steps.1) in
+        (ref_read nester slot start near w base valid few STEPS steps.0 refl steps.1) (place_named at st above) (space_pointer nester no_words w (at ++ root) k (live_slot nester slot start near w base valid few k (at ++ root) (space_live nester slot start near w base valid few to kind)) kind) (free nester slot start near w base valid few STEPS steps.0 steps.1) in
         let goes = one_change nester slot start near w base valid few (Point OWN_SPACE STEPS (place_at slot at) k) reply (Alter (STEPS ∷ nester) (SetPointer (At to))) OK [] answered row in
         let nearby : (y : Path) → leads_to y (At to) ≡ true → IsNear w root y = λ y led. inl (k ∷ at, sym (same_path_eq to y led)) in
         let v : World = apply (Alter (STEPS ∷ nester) (SetPointer (At to))) w in

@@ -4,3 +4,5 @@ pub mod Tells
 pub mod Seeks
 pub mod SeekBounds
 pub mod Gathers
+pub mod Scans
+pub mod Walks

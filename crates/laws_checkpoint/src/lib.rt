@@ -6,6 +6,7 @@
 #![tactic(auto)]
 
 ghost use Rattle.laws_checkpoint.specs.Gather.{PointersAreGathered};
+ghost use Rattle.laws_checkpoint.specs.Walk.{ObjectsAreMet};
 ghost use Rattle.laws_checkpoint.specs.Foreign.{ForeignIsExact, ForeignIsBounded, SeekerIsReady, SeekingKeepsOpenPlace, PointerIsTold};
 
 /// Whatever others do between its calls, a seeker that comes to its end has found the first place at
@@ -38,4 +39,10 @@ pub fn a_pointer_is_told()
 /// objects inside lead, as the subtree saw it at the beginning.
 pub fn the_pointers_are_gathered()
     ensures { PointersAreGathered }
+{}
+
+/// Whatever others do between its calls, a walker that comes to its end has met every object inside,
+/// in preorder.
+pub fn the_objects_are_met()
+    ensures { ObjectsAreMet }
 {}

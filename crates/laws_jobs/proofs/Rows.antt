@@ -1,9 +1,9 @@
 -- The rows of a porter's calls, each where what it reads is known.
-use Rattle.std.proofs.Common.{◌≡◌, ℕ, Bool, true, false, cond, not, ◌||◌, ◌==◌, nat_le, nat_lt, List, [], ◌∷◌, ◌++◌, map, Option, Some, None, Result, Ok, Err, refl, ◌≤◌, option_map, arith}
-use Rattle.fk_model.specs.declared.limits.TheConstants.{OWN_SPACE, PAGES, LAST_PORTER_SLOT}
+use Rattle.std.proofs.Common.{◌≡◌, ℕ, Bool, true, false, cond, not, ◌&&◌, ◌||◌, ◌==◌, nat_le, nat_lt, List, [], ◌∷◌, ◌++◌, map, Option, Some, None, Result, Ok, Err, refl, ◌≤◌, option_map, arith}
+use Rattle.fk_model.specs.declared.limits.TheConstants.{OWN_SPACE, SLOTS, PAGES, LAST_PORTER_SLOT}
 use Rattle.fk_model.specs.declared.names.Kind.{Kind}
 use Rattle.fk_model.specs.declared.names.Kind.TheVariants as kinds
-use Rattle.fk_model.specs.declared.stage.Stage.TheVariants.{Create, Point, Locate, SetState, SetPtr, PageGive, LinkPark, FaultPark, GetPtr, CountIn}
+use Rattle.fk_model.specs.declared.stage.Stage.TheVariants.{Create, Point, Locate, SetState, SetPtr, PageGive, LinkPark, FaultPark, GetPtr, CountIn, Search, GetState, PageNext}
 use Rattle.fk_model.specs.declared.statuses.status.TheConstants as status
 use Rattle.fk_model.specs.Places.{Path, Ptr}
 use Rattle.fk_model.specs.Places.Ptr.{At}
@@ -13,17 +13,18 @@ use Rattle.fk_model.specs.Objects.Body.{Mutex, Cond, Mapping, Region, Port, Port
 use Rattle.fk_model.specs.World.{World}
 use Rattle.fk_model.specs.World.Change.{Alter, PutPage}
 use Rattle.fk_model.specs.World.Edit.{SetPointer, SetTalk, SetFault}
+use Rattle.fk_model.specs.Searches.{lowest}
 use Rattle.fk_model.specs.Holds.{is_frozen_for, is_decided_by}
 use Rattle.fk_model.specs.Outcomes.{Outcome, ◌>>=◌, or_refuse, done}
 use Rattle.fk_model.specs.Outcomes.Outcome.{Goes}
 use Rattle.fk_model.specs.Outcomes.Said.{Answered}
 use Rattle.fk_model.specs.Readers.{object_in, anything, space_argument, kind_at, handle}
-use Rattle.fk_model.specs.Records.{set_edits, takes_state}
-use Rattle.fk_model.specs.StateRows.{is_native, is_still, held_kinds, is_of_kinds, set_state, set_ptr, Field, field_of, field_number, field_pointer, get_ptr}
-use Rattle.fk_model.specs.SpaceRows.{page_give}
+use Rattle.fk_model.specs.Records.{record_of, set_edits, takes_state}
+use Rattle.fk_model.specs.StateRows.{get_state, is_native, is_still, held_kinds, is_of_kinds, set_state, set_ptr, Field, field_of, field_number, field_pointer, get_ptr}
+use Rattle.fk_model.specs.SpaceRows.{page_give, next_page, page_next}
 use Rattle.fk_model.specs.LinkRows.{given_talk, link_park}
 use Rattle.fk_model.specs.FaultRows.{given_fault, fault_park}
-use Rattle.fk_model.specs.ObjectRows.{create, pointer_to, pointer_in, point, target_of, way_to, kind_number, locate, pointer_count, count_in}
+use Rattle.fk_model.specs.ObjectRows.{search, create, pointer_to, pointer_in, point, target_of, way_to, kind_number, locate, pointer_count, count_in}
 use Rattle.fk_model.specs.Moves.{closed, with_pick, call_row}
 use Rattle.laws_jobs.specs.Calls.{fresh, has_pointer}
 use Rattle.std.proofs.lemmas.Bool.{le-leb, ne_eqb}
@@ -161,6 +162,42 @@ module _ (nester : Path) (words : List ℕ) (w : World) where
       Goes (Alter (x ∷ space) (SetFault (given_fault (porter nester words) (At (i ∷ nester)) (cond (taken == 1) (Some Parked) None))) ∷ []) (Answered status.OK [])
   unfolding call_row fault_park
   fault_park-row s x i taken space t port h there at free = rw (h, there, at, free) refl
+
+  -- what a search comes to, by what it finds
+  abbrev pub found_as : Option (ℕ × ℕ) → Outcome
+  found_as None = Goes [] (Answered status.NONE [])
+  found_as (Some f) = Goes [] (Answered status.OK (f.0 ∷ f.1 ∷ []))
+
+  abbrev pub taken_among : (ℕ → Option Body) → ℕ → ℕ → Option (ℕ × ℕ)
+  taken_among there from k = cond (nat_le from k && nat_le k LAST_PORTER_SLOT) (option_map {U = ℕ × ℕ} (λ b. (k, number_of_kind (kind_of b))) (there k)) None
+
+  pub search-row : (s from : ℕ) (space : Path) → space_argument w (porter nester words) s ≡ Ok space →
+      call_row w (porter nester words) None (Search s from) ≡ found_as (lowest SLOTS (taken_among (λ k. w.body (k ∷ space)) from))
+  unfolding call_row search
+  search-row s from space h = rw h (by (lowest SLOTS (taken_among (λ k. w.body (k ∷ space)) from)))
+    where
+      by : (o : Option (ℕ × ℕ)) → closed (porter nester words) (with_pick false None (or_refuse status.NONE o >>= (λ f. done (porter nester words) [] (f.0 ∷ f.1 ∷ [])))) ≡ found_as o
+      by None = refl
+      by (Some f) = refl
+
+  pub state-row : (s x : ℕ) (space : Path) (b : Body) → space_argument w (porter nester words) s ≡ Ok space → object_in w (porter nester words) anything space x ≡ Ok b →
+      call_row w (porter nester words) None (GetState s x 0) ≡ Goes [] (Answered status.OK (record_of b))
+  unfolding call_row get_state
+  state-row s x space b h there = rw (h, there) refl
+
+  -- what a look for pages comes to, and a page that is there
+  abbrev pub page_as : Option ℕ → Outcome
+  page_as None = Goes [] (Answered status.NONE [])
+  page_as (Some page) = Goes [] (Answered status.OK (page ∷ []))
+
+  pub page_next-row : (s from : ℕ) (space : Path) → space_argument w (porter nester words) s ≡ Ok space →
+      call_row w (porter nester words) None (PageNext s from) ≡ page_as (next_page w space from)
+  unfolding call_row page_next
+  page_next-row s from space h = rw h (by (next_page w space from))
+    where
+      by : (o : Option ℕ) → closed (porter nester words) (with_pick false None (or_refuse status.NONE o >>= (λ page. done (porter nester words) [] (page ∷ [])))) ≡ page_as o
+      by None = refl
+      by (Some page) = refl
 
   -- ---- places
 
