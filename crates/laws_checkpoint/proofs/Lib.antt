@@ -6,3 +6,4 @@ pub mod SeekBounds
 pub mod Gathers
 pub mod Scans
 pub mod Walks
+pub mod Contents

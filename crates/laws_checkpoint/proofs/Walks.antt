@@ -56,12 +56,12 @@ module _ (nester : Path) (slot : ℕ) (start : World) (near : far_field ((cut st
   abbrev c : World
   c = cut start nester slot
 
-  abbrev there : Path → ℕ → Option Body
+  abbrev pub there : Path → ℕ → Option Body
   there q k = start.body ((k ∷ q) ++ root)
 
   -- ---- what the cut shows of a body
 
-  unheld_some : (q : Path) (b : Body) → kind_of (unheld q b) ≡ kind_of b
+  pub unheld_some : (q : Path) (b : Body) → kind_of (unheld q b) ≡ kind_of b
   unheld_some (k ∷ q) b = refl
   unheld_some [] (Space birth holder) = refl
   unheld_some [] (Mutex locked) = refl
@@ -93,7 +93,7 @@ module _ (nester : Path) (slot : ℕ) (start : World) (near : far_field ((cut st
       by None = refl
       by (Some b) = ap Some (unheld_some q (seen_by (cutting (ports_of start nester slot) nester slot) b) ∙ seen_kind b)
 
-  some_seen : (q : Path) → is_some (c.body q) ≡ is_some (start.body (q ++ root))
+  pub some_seen : (q : Path) → is_some (c.body q) ≡ is_some (start.body (q ++ root))
   some_seen q = sym (is_some-kind (c.body q)) ∙ (ap is_some (kind_seen q) ∙ is_some-kind (start.body (q ++ root)))
     where
       is_some-kind : (o : Option Body) → is_some (option_map kind_of o) ≡ is_some o
@@ -109,7 +109,7 @@ module _ (nester : Path) (slot : ℕ) (start : World) (near : far_field ((cut st
 
   -- ---- what is left to be met
 
-  abbrev IsSpace : Path → Type 0
+  abbrev pub IsSpace : Path → Type 0
   IsSpace q = kind_there start (q ++ root) ≡ Some kinds.Space
 
   abbrev within : ℕ → Path → ℕ → List Path
@@ -139,7 +139,7 @@ module _ (nester : Path) (slot : ℕ) (start : World) (near : far_field ((cut st
   no_members test off (k ∷ ks) = rw (off k) (no_members test off ks)
 
   -- nothing lies beneath what is no space
-  none_beneath : (m : ℕ) (q : Path) → (IsSpace q → ⊥) → beneath_by m c q ≡ []
+  pub none_beneath : (m : ℕ) (q : Path) → (IsSpace q → ⊥) → beneath_by m c q ≡ []
   unfolding beneath_by residents
   none_beneath zero q other = refl
   none_beneath (suc m) q other = ap (flat_map (λ j. (j ∷ q) ∷ beneath_by m c (j ∷ q))) (no_members (λ j. is_some (c.body (j ∷ q))) off (slots SLOTS))
@@ -165,7 +165,7 @@ module _ (nester : Path) (slot : ℕ) (start : World) (near : far_field ((cut st
 
   -- ---- where a state stands
 
-  abbrev PlacedIn : World → Path → Type 0
+  abbrev pub PlacedIn : World → Path → Type 0
   PlacedIn w [] = Unit {0}
   PlacedIn w (j ∷ q) = w.body (PLACES ∷ nester) ≡ Some (Reference (At ((j ∷ q) ++ root)))
 
@@ -192,11 +192,11 @@ module _ (nester : Path) (slot : ℕ) (start : World) (near : far_field ((cut st
     pub deep : length (place_of s) + suc level ≡ depth
     pub end : ends level s ≡ total
 
-  placed_moved : (w v : World) → v.body (PLACES ∷ nester) ≡ w.body (PLACES ∷ nester) → (q : Path) → PlacedIn w q → PlacedIn v q
+  pub placed_moved : (w v : World) → v.body (PLACES ∷ nester) ≡ w.body (PLACES ∷ nester) → (q : Path) → PlacedIn w q → PlacedIn v q
   placed_moved w v same [] h = tt
   placed_moved w v same (j ∷ q) h = same ∙ h
 
-  from_moved : (w v : World) → v.body (PLACES ∷ nester) ≡ w.body (PLACES ∷ nester) → (from : ℕ) (at : Path) → FromIs nester slot start near w from at → FromIs nester slot start near v from at
+  pub from_moved : (w v : World) → v.body (PLACES ∷ nester) ≡ w.body (PLACES ∷ nester) → (from : ℕ) (at : Path) → FromIs nester slot start near w from at → FromIs nester slot start near v from at
   from_moved w v same from at (inl h) = inl h
   from_moved w v same from at (inr h) = inr (h.0, same ∙ h.1)
 
@@ -267,14 +267,14 @@ module _ (nester : Path) (slot : ℕ) (start : World) (near : far_field ((cut st
   -- ---- its own calls
 
   module _ (w : World) (base : Base nester slot start near w) (valid : IsValid w) (few : w.next ≤ depth) where
-    same_there : (q : Path) (k : ℕ) → w.body (k ∷ (q ++ root)) ≡ there q k
+    pub same_there : (q : Path) (k : ℕ) → w.body (k ∷ (q ++ root)) ≡ there q k
     same_there q k = base.inside.bodies (k ∷ q)
 
-    space_now : (q : Path) → IsSpace q → kind_there w (q ++ root) ≡ Some kinds.Space
+    pub space_now : (q : Path) → IsSpace q → kind_there w (q ++ root) ≡ Some kinds.Space
     unfolding kind_there
     space_now q space = ap (option_map kind_of) (base.inside.bodies q) ∙ space
 
-    named : (q : Path) → PlacedIn w q → IsSpace q → space_argument w (porter nester no_words) (space_at slot q) ≡ Ok (q ++ root)
+    pub named : (q : Path) → PlacedIn w q → IsSpace q → space_argument w (porter nester no_words) (space_at slot q) ≡ Ok (q ++ root)
     named [] placed space = slot_named nester slot start near w base valid few
     named (j ∷ q) placed space = ref_named nester no_words w PLACES ((j ∷ q) ++ root) (omega arith) placed (space_now (j ∷ q) space)
 
@@ -300,24 +300,24 @@ module _ (nester : Path) (slot : ℕ) (start : World) (near : far_field ((cut st
         (own_base nester slot start near w PLACES old.0 (At (way ∷ at)) base valid valid_after few (is_places nester slot start near) old.1 nearby)
         (own_body nester slot w PLACES old.0 (At (way ∷ at)) base.holding (is_places nester slot start near) old.1 nearby) inside is space low deep eq)
 
-    abbrev seen_taken : Path → ℕ → ℕ → Option (ℕ × ℕ)
+    abbrev pub seen_taken : Path → ℕ → ℕ → Option (ℕ × ℕ)
     seen_taken q k = taken_among nester no_words w (λ j. w.body (j ∷ (q ++ root))) k
 
-    below_none : (q : Path) (k j : ℕ) → j < k → seen_taken q k j ≡ None
+    pub below_none : (q : Path) (k j : ℕ) → j < k → seen_taken q k j ≡ None
     below_none q k j less = by (nat_le k j) refl
       where
         by : (t : Bool) → nat_le k j ≡ t → cond (t && nat_le j LAST_PORTER_SLOT) (option_map {U = ℕ × ℕ} (λ b. (j, number_of_kind (kind_of b))) (w.body (j ∷ (q ++ root)))) None ≡ None
         by true e = let most = leb-true k j e in absurd (omega (arith, most, less))
         by false e = refl
 
-    empty_none : (q : Path) (k j : ℕ) → there q j ≡ None → seen_taken q k j ≡ None
+    pub empty_none : (q : Path) (k j : ℕ) → there q j ≡ None → seen_taken q k j ≡ None
     empty_none q k j e = ap (λ (o : Option Body). cond (nat_le k j && nat_le j LAST_PORTER_SLOT) (option_map {U = ℕ × ℕ} (λ b. (j, number_of_kind (kind_of b))) o) None) (same_there q j ∙ e) ∙ by (nat_le k j && nat_le j LAST_PORTER_SLOT)
       where
         by : (t : Bool) → cond t (option_map {T = Body} {U = ℕ × ℕ} (λ b. (j, number_of_kind (kind_of b))) None) None ≡ None
         by true = refl
         by false = refl
 
-    found_there : (q : Path) (k j : ℕ) (b : Body) → k ≤ j → j < SLOTS → there q j ≡ Some b → seen_taken q k j ≡ Some (j, number_of_kind (kind_of b))
+    pub found_there : (q : Path) (k j : ℕ) (b : Body) → k ≤ j → j < SLOTS → there q j ≡ Some b → seen_taken q k j ≡ Some (j, number_of_kind (kind_of b))
     found_there q k j b low high e = rw (le-leb k j low, le-leb j LAST_PORTER_SLOT (omega (arith, high)), same_there q j ∙ e) refl
 
     -- what a search comes to
@@ -427,14 +427,14 @@ module _ (nester : Path) (slot : ℕ) (start : World) (near : far_field ((cut st
 
     -- ---- each call comes to something
 
-    comes_search : (q : Path) (k : ℕ) → PlacedIn w q → IsSpace q → Comes nester w (Search (space_at slot q) k)
+    pub comes_search : (q : Path) (k : ℕ) → PlacedIn w q → IsSpace q → Comes nester w (Search (space_at slot q) k)
     comes_search q k placed space = by (lowest SLOTS (seen_taken q k)) refl
       where
         by : (o : Option (ℕ × ℕ)) → lowest SLOTS (seen_taken q k) ≡ o → Comes nester w (Search (space_at slot q) k)
         by None e = record { changes = []; status = NONE; given = []; row = searched q k placed space None e; mild = Changes_nothing }
         by (Some f) e = record { changes = []; status = OK; given = f.0 ∷ f.1 ∷ []; row = searched q k placed space (Some f) e; mild = Changes_nothing }
 
-    comes_down : (from way : ℕ) (ways : List ℕ) (j : ℕ) (q : Path) (at : Path) → FromIs nester slot start near w from at → follow (way ∷ at) ways ≡ (j ∷ q) ++ root → IsSpace (j ∷ q) →
+    pub comes_down : (from way : ℕ) (ways : List ℕ) (j : ℕ) (q : Path) (at : Path) → FromIs nester slot start near w from at → follow (way ∷ at) ways ≡ (j ∷ q) ++ root → IsSpace (j ∷ q) →
         Comes nester w (Point OWN_SPACE PLACES from way)
     comes_down from way ways j q at h is space =
         let kind = kind_up nester slot start near w base valid few ways (way ∷ at) ((j ∷ q) ++ root) is (space_now (j ∷ q) space) in

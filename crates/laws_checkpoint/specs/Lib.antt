@@ -1,3 +1,4 @@
 pub mod Foreign
 pub mod Gather
 pub mod Walk
+pub mod Contents

@@ -7,6 +7,7 @@
 
 ghost use Rattle.laws_checkpoint.specs.Gather.{PointersAreGathered};
 ghost use Rattle.laws_checkpoint.specs.Walk.{ObjectsAreMet};
+ghost use Rattle.laws_checkpoint.specs.Contents.{SpacesAreRead};
 ghost use Rattle.laws_checkpoint.specs.Foreign.{ForeignIsExact, ForeignIsBounded, SeekerIsReady, SeekingKeepsOpenPlace, PointerIsTold};
 
 /// Whatever others do between its calls, a seeker that comes to its end has found the first place at
@@ -45,4 +46,10 @@ pub fn the_pointers_are_gathered()
 /// in preorder.
 pub fn the_objects_are_met()
     ensures { ObjectsAreMet }
+{}
+
+/// Whatever others do between its calls, a reader that comes to its end has the records and the pages
+/// of each space, as they were at the beginning.
+pub fn the_spaces_are_read()
+    ensures { SpacesAreRead }
 {}

@@ -3,7 +3,7 @@ use Rattle.std.proofs.Common.{◌≡◌, ℕ, Bool, true, false, cond, not, ◌&
 use Rattle.fk_model.specs.declared.limits.TheConstants.{OWN_SPACE, SLOTS, PAGES, LAST_PORTER_SLOT}
 use Rattle.fk_model.specs.declared.names.Kind.{Kind}
 use Rattle.fk_model.specs.declared.names.Kind.TheVariants as kinds
-use Rattle.fk_model.specs.declared.stage.Stage.TheVariants.{Create, Point, Locate, SetState, SetPtr, PageGive, LinkPark, FaultPark, GetPtr, CountIn, Search, GetState, PageNext}
+use Rattle.fk_model.specs.declared.stage.Stage.TheVariants.{Create, Point, Locate, SetState, SetPtr, PageGive, LinkPark, FaultPark, GetPtr, CountIn, Search, GetState, PageNext, PageRead}
 use Rattle.fk_model.specs.declared.statuses.status.TheConstants as status
 use Rattle.fk_model.specs.Places.{Path, Ptr}
 use Rattle.fk_model.specs.Places.Ptr.{At}
@@ -21,7 +21,7 @@ use Rattle.fk_model.specs.Outcomes.Said.{Answered}
 use Rattle.fk_model.specs.Readers.{object_in, anything, space_argument, kind_at, handle}
 use Rattle.fk_model.specs.Records.{record_of, set_edits, takes_state}
 use Rattle.fk_model.specs.StateRows.{get_state, is_native, is_still, held_kinds, is_of_kinds, set_state, set_ptr, Field, field_of, field_number, field_pointer, get_ptr}
-use Rattle.fk_model.specs.SpaceRows.{page_give, next_page, page_next}
+use Rattle.fk_model.specs.SpaceRows.{page_give, next_page, page_next, page_read}
 use Rattle.fk_model.specs.LinkRows.{given_talk, link_park}
 use Rattle.fk_model.specs.FaultRows.{given_fault, fault_park}
 use Rattle.fk_model.specs.ObjectRows.{search, create, pointer_to, pointer_in, point, target_of, way_to, kind_number, locate, pointer_count, count_in}
@@ -198,6 +198,11 @@ module _ (nester : Path) (words : List ℕ) (w : World) where
       by : (o : Option ℕ) → closed (porter nester words) (with_pick false None (or_refuse status.NONE o >>= (λ page. done (porter nester words) [] (page ∷ [])))) ≡ page_as o
       by None = refl
       by (Some page) = refl
+
+  pub page_read-row : (s page : ℕ) (space : Path) (found : List ℕ) → space_argument w (porter nester words) s ≡ Ok space → nat_lt page PAGES ≡ true → w.page space page ≡ Some found →
+      call_row w (porter nester words) None (PageRead s page 0) ≡ Goes [] (Answered status.OK found)
+  unfolding call_row page_read
+  page_read-row s page space found h fits there = rw (h, fits, there) refl
 
   -- ---- places
 
