@@ -41,6 +41,23 @@ asks_for (OfServer index rule config position request left sides.Own) = Some (gi
 
 -- ---- what becomes of it
 
+-- what it hears: a client with this turn and so many words moved in it; the words of its client; that the turn has changed, that so
+-- many of its words were taken, that the talk has ended
+pub data News : Type 0 where
+  Taken : (turn : Turn) (moved : ℕ) → News
+  Words : (words : List ℕ) → News
+  Over : News
+  Given : (count : ℕ) → News
+  Ended : News
+
+-- as the code has it
+abbrev pub news_of : Heard → News
+news_of (tells.Taken client turn moved) = Taken turn moved
+news_of (tells.Words reply) = Words (reply_words reply)
+news_of tells.Over = Over
+news_of (tells.Given count) = Given count
+news_of tells.Ended = Ended
+
 -- whose turn it is in a talk that is taken up, and after an Over
 abbrev pub side_at : Turn → Side
 side_at turns.Client = sides.Client
@@ -51,12 +68,12 @@ side_after sides.Client = sides.Own
 side_after other = sides.Client
 
 -- a console keeps each word that it is sent
-abbrev pub console_hears : List ℕ → List ℕ → Side → Heard → State
-console_hears alias words side (tells.Taken client turn moved) = OfConsole alias words (side_at turn)
-console_hears alias words side (tells.Words reply) = OfConsole alias (words ++ reply_words reply) side
-console_hears alias words side tells.Over = OfConsole alias words (side_after side)
-console_hears alias words side (tells.Given count) = OfConsole alias words side
-console_hears alias words side tells.Ended = OfConsole alias words sides.Idle
+abbrev pub console_hears : List ℕ → List ℕ → Side → News → State
+console_hears alias words side (Taken turn moved) = OfConsole alias words (side_at turn)
+console_hears alias words side (Words more) = OfConsole alias (words ++ more) side
+console_hears alias words side Over = OfConsole alias words (side_after side)
+console_hears alias words side (Given count) = OfConsole alias words side
+console_hears alias words side Ended = OfConsole alias words sides.Idle
 
 -- a server computes its reply by its rule, and leaves out the words that were moved already. Its position rises
 abbrev pub replies : ℕ → Rule → List ℕ → ℕ → List ℕ → ℕ → State
@@ -73,17 +90,17 @@ hears_over index rule config position request sides.Client = replies index rule 
 hears_over index rule config position request other = OfServer index rule config position [] [] sides.Client
 
 -- of a request the first 64 words are kept
-abbrev pub server_hears : ℕ → Rule → List ℕ → ℕ → List ℕ → List ℕ → Side → Heard → State
-server_hears index rule config position request left side (tells.Taken client turn moved) = takes_up index rule config position moved turn
-server_hears index rule config position request left side (tells.Words reply) =
-    OfServer index rule config position (take 64 (request ++ reply_words reply)) left side
-server_hears index rule config position request left side tells.Over = hears_over index rule config position request side
-server_hears index rule config position request left side (tells.Given count) = OfServer index rule config position request (drop count left) side
-server_hears index rule config position request left side tells.Ended = OfServer index rule config position [] [] sides.Idle
+abbrev pub server_hears : ℕ → Rule → List ℕ → ℕ → List ℕ → List ℕ → Side → News → State
+server_hears index rule config position request left side (Taken turn moved) = takes_up index rule config position moved turn
+server_hears index rule config position request left side (Words words) =
+    OfServer index rule config position (take 64 (request ++ words)) left side
+server_hears index rule config position request left side Over = hears_over index rule config position request side
+server_hears index rule config position request left side (Given count) = OfServer index rule config position request (drop count left) side
+server_hears index rule config position request left side Ended = OfServer index rule config position [] [] sides.Idle
 
-abbrev pub hears : State → Heard → State
-hears (OfConsole alias words side) heard = console_hears alias words side heard
-hears (OfServer index rule config position request left side) heard = server_hears index rule config position request left side heard
+abbrev pub hears : State → News → State
+hears (OfConsole alias words side) news = console_hears alias words side news
+hears (OfServer index rule config position request left side) news = server_hears index rule config position request left side news
 
 -- ---- what is printed of it
 
