@@ -54,18 +54,18 @@ module _ {J S A V : Type 0} (h : House J S A V) (c : Core S A V) (who : Who) whe
       at_work j its porter (Some k) work e = at_head j its porter k work (h.machine.head k.state) refl e
 
       at_job : (j : J) → current h c ≡ Some j → (b : Bool) → is_porter_of (h.nester j) who ≡ b →
-          (if b then work_asks h.machine (work_of c.events c.work (h.begins j c.ends)) else others_ask (h.servers.asks c.servers who))
+          (if b then work_asks h.machine (work_of c.events c.work (h.begins j c.ends)) else others_ask (h.servers.asks c.servers c.world who))
           ≡ Job begun t stage words → JobAsks begun t stage words
       at_job j its true porter e = at_work j its porter (work_of c.events c.work (h.begins j c.ends)) refl e
-      at_job j its false porter e = absurd (none_for (h.servers.asks c.servers who) begun t stage words e)
+      at_job j its false porter e = absurd (none_for (h.servers.asks c.servers c.world who) begun t stage words e)
 
       by : (o : Option J) → current h c ≡ o → asks_of_job h c who o ≡ Job begun t stage words → JobAsks begun t stage words
-      by None its e = absurd (none_for (h.servers.asks c.servers who) begun t stage words e)
+      by None its e = absurd (none_for (h.servers.asks c.servers c.world who) begun t stage words e)
       by (Some j) its e = at_job j its (is_porter_of (h.nester j) who) refl e
 
-  others_from : AskAsUsers h → (ask : Ask) (o : Option Ask) → h.servers.asks c.servers who ≡ o → others_ask {S = S} o ≡ Others ask → is_users ask ≡ true
+  others_from : AskAsUsers h → (ask : Ask) (o : Option Ask) → h.servers.asks c.servers c.world who ≡ o → others_ask {S = S} o ≡ Others ask → is_users ask ≡ true
   others_from users ask None its e = cc
-  others_from users ask (Some found) its e = let same : found ≡ ask = cc in rw (← same) (users c.servers who found its)
+  others_from users ask (Some found) its e = let same : found ≡ ask = cc in rw (← same) (users c.servers c.world who found its)
 
   job_never : (ask : Ask) (k : Option (Work S)) → work_asks h.machine k ≡ Others ask → ⊥
   job_never ask None e = cc
@@ -80,13 +80,13 @@ module _ {J S A V : Type 0} (h : House J S A V) (c : Core S A V) (who : Who) whe
   others_of users ask e = by (current h c) e
     where
       at_job : (j : J) (b : Bool) →
-          (if b then work_asks h.machine (work_of c.events c.work (h.begins j c.ends)) else others_ask (h.servers.asks c.servers who)) ≡ Others ask →
+          (if b then work_asks h.machine (work_of c.events c.work (h.begins j c.ends)) else others_ask (h.servers.asks c.servers c.world who)) ≡ Others ask →
           is_users ask ≡ true
       at_job j true e = absurd (job_never ask (work_of c.events c.work (h.begins j c.ends)) e)
-      at_job j false e = others_from users ask (h.servers.asks c.servers who) refl e
+      at_job j false e = others_from users ask (h.servers.asks c.servers c.world who) refl e
 
       by : (o : Option J) → asks_of_job h c who o ≡ Others ask → is_users ask ≡ true
-      by None e = others_from users ask (h.servers.asks c.servers who) refl e
+      by None e = others_from users ask (h.servers.asks c.servers c.world who) refl e
       by (Some j) e = at_job j (is_porter_of (h.nester j) who) e
 
 abbrev work : {S : Type 0} → ℕ → S → Work S

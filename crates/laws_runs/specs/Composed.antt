@@ -10,6 +10,7 @@ use Rattle.fk_model.specs.Searches.{depth}
 use Rattle.laws_frozen.specs.Users.{is_users}
 use Rattle.laws_savable.specs.Savable.{IsSound}
 use Rattle.laws_jobs.specs.Machines.{AtWork}
+use Rattle.fk_model.specs.World.{World}
 use Rattle.laws_jobs.specs.Machines.Head.{Stops}
 use Rattle.laws_jobs.specs.Jobs.{IsClean, MayBegin, IsTidyJob}
 use Rattle.laws_runs.specs.Cores.{JobEnd, House, Work, Core, IsRun, world_at}
@@ -18,7 +19,7 @@ use Rattle.laws_runs.specs.Cores.JobEnd.{Worked}
 -- native servers ask for what users may
 module _ {J S A V : Type 0} where
   abbrev pub AskAsUsers : House J S A V → Type 0
-  AskAsUsers h = (v : V) (who : Who) (ask : Ask) → h.servers.asks v who ≡ Some ask → is_users ask ≡ true
+  AskAsUsers h = (v : V) (w : World) (who : Who) (ask : Ask) → h.servers.asks v w who ≡ Some ask → is_users ask ≡ true
 
   abbrev pub AreTidy : House J S A V → Type 0
   AreTidy h = (j : J) (ends : List (JobEnd A)) (s : S) → h.begins j ends ≡ Some s → IsTidyJob h.machine (h.nester j) s

@@ -27,9 +27,9 @@ pub data JobEnd (A : Type 0) : Type 0 where
   Worked : (end : A) (begun last : ℕ) → JobEnd A
   Idle : (why : Unmoved) → JobEnd A
 
--- the native servers, all together: who is asked gives what it asks for, None where it has nothing to ask; and what becomes of them
+-- the native servers, all together: who is asked in a world gives what it asks for, None where it has nothing to ask; and what becomes of them
 pub record Servers (V : Type 0) : Type 0 where
-  pub asks : V → Who → Option Ask
+  pub asks : V → World → Who → Option Ask
   pub hears : V → World → Event → V
 
 -- a scenario's jobs, each by its entry: J; and its native servers
@@ -97,10 +97,10 @@ module _ {J S A V : Type 0} where
   current h c = slice_get h.jobs (length c.ends)
 
   abbrev pub asks_of_job : House J S A V → Core S A V → Who → Option J → Asker S
-  asks_of_job h c who None = others_ask (h.servers.asks c.servers who)
+  asks_of_job h c who None = others_ask (h.servers.asks c.servers c.world who)
   asks_of_job h c who (Some j) =
       if is_porter_of (h.nester j) who then work_asks h.machine (work_of c.events c.work (h.begins j c.ends))
-      else others_ask (h.servers.asks c.servers who)
+      else others_ask (h.servers.asks c.servers c.world who)
 
   abbrev pub asker : House J S A V → Core S A V → Who → Asker S
   asker h c who = asks_of_job h c who (current h c)
