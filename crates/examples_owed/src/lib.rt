@@ -7,7 +7,7 @@ ghost use Rattle.fk_model.specs.Whole.{IsWhole, IsSavable};
 ghost use Rattle.laws_whole.specs.Runnable.{IsDue};
 ghost use Rattle.examples_moves.specs.Worked.{IsReadyTo};
 ghost use Rattle.laws_savable.specs.Savable.{Owes};
-ghost use Rattle.examples_owed.specs.Owed.{leads_within, leads_outside, gives_hold, makes_in, makes_held_in, destroys_in, renames_from};
+ghost use Rattle.examples_owed.specs.Owed.{leads_within, leads_outside, unheld, scratched, scratched_unheld, scratched_deeper, with_register, with_counter, with_moved, with_missing, with_word, gives_hold, makes_in, makes_within, releases, makes_held_in, destroys_in, renames_from};
 
 /// A whole and savable world in which a porter makes calls that are due, and gives what they owe: it
 /// holds by itself, makes references in its scratch and users' objects elsewhere, and destroys these.
@@ -20,11 +20,41 @@ pub fn a_porter_gives_what_it_owes()
     ensures mutex { Owes leads_outside (makes_in 3 1) }
     ensures reference { Owes leads_outside (makes_in 241 9) }
     ensures space { Owes leads_outside (makes_held_in 3) }
+    ensures within { Owes leads_outside (makes_within 240 9) }
+    ensures releases { Owes leads_outside releases }
     ensures clears { Owes leads_outside (destroys_in 240) }
     ensures destroys { Owes leads_outside (destroys_in 1) }
     ensures renames { Owes leads_outside (renames_from 8) }
     ensures ready { IsReadyTo leads_outside gives_hold }
     ensures after { IsSavable (after leads_outside gives_hold) }
+    ensures made_within { IsSavable (after leads_outside (makes_within 240 9)) }
+{}
+
+/// Scratch may stand in a space that the porter beside it holds; not in one that nobody holds, in one
+/// further in whose holder is no porter, or where the hold is given up.
+pub fn scratch_is_a_porters()
+    ensures held { IsSavable scratched }
+    ensures unheld { IsSavable scratched_unheld → ⊥ }
+    ensures deeper { IsSavable scratched_deeper → ⊥ }
+    ensures makes_owes { Owes unheld (makes_within 240 9) → ⊥ }
+    ensures makes { IsSavable (after unheld (makes_within 240 9)) → ⊥ }
+    ensures releases_owes { Owes scratched releases → ⊥ }
+    ensures releases { IsSavable (after scratched releases) → ⊥ }
+{}
+
+/// The greatest numbers that an image holds can be saved, and no greater ones: of a register, a counter,
+/// a word of a page, the words moved in a turn, and the page of a fault.
+pub fn numbers_that_an_image_holds()
+    ensures register { IsSavable (with_register 0xffff_ffff_ffff_ffff) }
+    ensures register_above { IsSavable (with_register 0x1_0000_0000_0000_0000) → ⊥ }
+    ensures counter { IsSavable (with_counter 0xffff_ffff_ffff_ffff) }
+    ensures counter_above { IsSavable (with_counter 0x1_0000_0000_0000_0000) → ⊥ }
+    ensures word { IsSavable (with_word 0xffff_ffff_ffff_ffff) }
+    ensures word_above { IsSavable (with_word 0x1_0000_0000_0000_0000) → ⊥ }
+    ensures moved { IsSavable (with_moved 65535) }
+    ensures moved_above { IsSavable (with_moved 65536) → ⊥ }
+    ensures missing { IsSavable (with_missing 255) }
+    ensures missing_above { IsSavable (with_missing 256) → ⊥ }
 {}
 
 /// A holder that lives within isn't owed, and with it the world can't be saved, though it could before.

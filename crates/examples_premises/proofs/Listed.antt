@@ -1,12 +1,12 @@
 -- What is tested of each object that a world lists holds of the world: that it is valid, whole, plain and savable.
-use Rattle.std.proofs.Common.{◌≡◌, ℕ, ◌+◌, ◌<◌, ◌≤◌, eqb, ltb, Bool, true, false, not, ◌&&◌, ◌||◌, cond, IsSome, is_some, is_none, List, [], ◌∷◌, ◌++◌, length, Option, Some, None, option_map, refl, sym, subst, ◌∙◌, arith}
+use Rattle.std.proofs.Common.{◌≡◌, ℕ, ◌+◌, ◌<◌, ◌≤◌, eqb, ltb, nat_le, Bool, true, false, not, ◌&&◌, ◌||◌, cond, IsSome, is_some, is_none, List, [], ◌∷◌, ◌++◌, length, Option, Some, None, option_map, refl, sym, subst, ◌∙◌, arith}
 use Rattle.std.specs.List.{list_all, list_any}
-use Rattle.std.proofs.lemmas.Bool.{and_parts, eqb-true, ltb-true}
-use Rattle.fk_model.specs.declared.limits.TheConstants.{SLOTS, PAGES, PAGE_WORDS, MOST_STOPS}
+use Rattle.std.proofs.lemmas.Bool.{and_parts, eqb-true, leb-true, ltb-true}
+use Rattle.fk_model.specs.declared.limits.TheConstants.{SLOTS, PAGES, PAGE_WORDS, MOST_STOPS, MOST_MOVED}
 use Rattle.fk_model.specs.declared.names.Kind.TheVariants as kinds
 use Rattle.fk_model.specs.Places.{Path, same_path, strip, is_within, parent, Ptr}
 use Rattle.fk_model.specs.Places.Ptr.{At}
-use Rattle.fk_model.specs.Objects.{Peer, Talk, Fault, Thread, Body, kind_of, thread_of, and_then, holds, is_served, flag_of}
+use Rattle.fk_model.specs.Objects.{Peer, Talk, Fault, Thread, Body, registers_of, kind_of, thread_of, and_then, holds, is_served, flag_of}
 use Rattle.fk_model.specs.Objects.Peer.{Server, Service, Parked}
 use Rattle.fk_model.specs.Objects.Body.{Space, Thread_of}
 use Rattle.fk_model.specs.World.{World, serves}
@@ -15,7 +15,7 @@ use Rattle.fk_model.specs.Holds.{holder_of}
 use Rattle.fk_model.specs.StateRows.{is_native}
 use Rattle.fk_model.specs.Valid.{kind_there, all_in, is_good, birth_of, birth_at, is_served_port, HasService, services, lies_with, IsConsistent, IsRooted, HasPlace, IsPaged, IsValid}
 use Rattle.fk_model.specs.Shapes.{IsShapedMode, IsCodeInRange}
-use Rattle.fk_model.specs.Whole.{is_placed, stands_in, IsWhole, IsSavable}
+use Rattle.fk_model.specs.Whole.{is_placed, stands_in, is_scratch_slot, is_porters, is_word, are_words, HasNumbers, IsWhole, IsSavable}
 use Rattle.fk_model.specs.Cut.{ports_of, cutting, seen_by, unheld, cut, is_far, has_far, is_served_by, IsPlain}
 use Rattle.fk_model.proofs.walks.PlaceLaws.{same_path_eq, strip-append}
 use Rattle.examples_moves.specs.Worked.{Page, body_in, page_among}
@@ -393,24 +393,40 @@ abbrev stands_well : Path → Body → Bool
 stands_well [] b = true
 stands_well (k ∷ s) b = stands_in k b
 
-abbrev pub is_savable_at : World → Path → Body → Bool
-is_savable_at w x b = is_younger w x b && is_held_from_outside x b && joins_in_place w b && stands_well x b
+abbrev keeps_scratch : World → Path → Bool
+keeps_scratch w [] = true
+keeps_scratch w (k ∷ s) = not (is_scratch_slot k) || is_porters w s
 
-module _ (w : World) (es : List (Path × Body))
-    (bodies : (x : Path) → w.body x ≡ body_in es x) (all : list_all (λ e. is_savable_at w e.0 e.1) es ≡ true) (shapes : All IsShapedAt es) where
+abbrev has_numbers : Body → Bool
+has_numbers (Thread_of t) =
+    are_words (registers_of t.mode) && is_word t.counter
+    && all_in (λ (talk : Talk). nat_le talk.moved MOST_MOVED) t.talk && all_in (λ (fault : Fault). ltb fault.page PAGES) t.fault
+has_numbers other = true
+
+abbrev pub is_savable_at : World → Path → Body → Bool
+is_savable_at w x b =
+    is_younger w x b && is_held_from_outside x b && joins_in_place w b && stands_well x b && keeps_scratch w x && has_numbers b
+
+module _ (w : World) (es : List (Path × Body)) (ps : List Page) (bodies : (x : Path) → w.body x ≡ body_in es x)
+    (pages : (s : Path) (g : ℕ) → w.page s g ≡ page_among ps s g) (all : list_all (λ e. is_savable_at w e.0 e.1) es ≡ true)
+    (all_pages : list_all (λ (p : Page). are_words p.words) ps ≡ true) (shapes : All IsShapedAt es) where
   record IsSavableHere (x : Path) (b : Body) : Type 0 where
     younger : is_younger w x b ≡ true
     held : is_held_from_outside x b ≡ true
     joins : joins_in_place w b ≡ true
     stands : stands_well x b ≡ true
+    scratch : keeps_scratch w x ≡ true
+    numbers : has_numbers b ≡ true
 
   here : (x : Path) (b : Body) → w.body x ≡ Some b → IsSavableHere x b
   here x b there =
       let its = found (is_savable_at w) es all x b (sym (bodies x) ∙ there) in
-      let a = and_parts (is_younger w x b && is_held_from_outside x b && joins_in_place w b) (stands_well x b) its in
+      let f = and_parts (is_younger w x b && is_held_from_outside x b && joins_in_place w b && stands_well x b && keeps_scratch w x) (has_numbers b) its in
+      let e = and_parts (is_younger w x b && is_held_from_outside x b && joins_in_place w b && stands_well x b) (keeps_scratch w x) f.0 in
+      let a = and_parts (is_younger w x b && is_held_from_outside x b && joins_in_place w b) (stands_well x b) e.0 in
       let c = and_parts (is_younger w x b && is_held_from_outside x b) (joins_in_place w b) a.0 in
       let d = and_parts (is_younger w x b) (is_held_from_outside x b) c.0 in
-      record { younger = d.0; held = d.1; joins = c.1; stands = a.1 }
+      record { younger = d.0; held = d.1; joins = c.1; stands = a.1; scratch = e.1; numbers = f.1 }
 
   thread_there : (x : Path) (t : Thread) → and_then thread_of (w.body x) ≡ Some t → w.body x ≡ Some (Thread_of t)
   thread_there x t h = by (w.body x) h
@@ -450,6 +466,39 @@ module _ (w : World) (es : List (Path × Body))
       (all_in (λ (fault : Fault). all_in (is_placed w fault.port) fault.taker) t.fault ≡ true)
   joined_at x t there = and_parts (all_in (λ (talk : Talk). is_placed w talk.port talk.peer) t.talk) _ (here x (Thread_of t) there).joins
 
+  -- the numbers of a thread that is there
+  record AreInRange (t : Thread) : Type 0 where
+    registers : are_words (registers_of t.mode) ≡ true
+    counter : is_word t.counter ≡ true
+    moved : all_in (λ (talk : Talk). nat_le talk.moved MOST_MOVED) t.talk ≡ true
+    missing : all_in (λ (fault : Fault). ltb fault.page PAGES) t.fault ≡ true
+
+  in_range : (x : Path) (t : Thread) → w.body x ≡ Some (Thread_of t) → AreInRange t
+  in_range x t there =
+      let a = and_parts (are_words (registers_of t.mode) && is_word t.counter && all_in (λ (talk : Talk). nat_le talk.moved MOST_MOVED) t.talk) _
+      (here x (Thread_of t) there).numbers in
+      let b = and_parts (are_words (registers_of t.mode) && is_word t.counter) _ a.0 in
+      let c = and_parts (are_words (registers_of t.mode)) (is_word t.counter) b.0 in
+      record { registers = c.0; counter = c.1; moved = b.1; missing = a.1 }
+
+  scratch_at : (k : ℕ) (x : Path) → is_scratch_slot k ≡ true → IsSome (w.body (k ∷ x)) → is_porters w x ≡ true
+  scratch_at k x scratch live = by (w.body (k ∷ x)) refl live
+    where
+      by : (o : Option Body) → w.body (k ∷ x) ≡ o → IsSome o → is_porters w x ≡ true
+      by None e h = cc
+      by (Some b) e h = let its = (here (k ∷ x) b e).scratch in rw scratch at its
+
+  numbers : HasNumbers w
+  numbers = record {
+    registers = λ x t h. (in_range x t (thread_there x t h)).registers;
+    counters = λ x t h. (in_range x t (thread_there x t h)).counter;
+    moved = λ x talk h. let there = no_talk (λ (t : Thread). t.talk) (w.body x) talk h in
+        leb-true talk.moved MOST_MOVED (rw there.2 at (in_range x there.0 there.1).moved);
+    missing = λ x fault h. let there = no_talk (λ (t : Thread). t.fault) (w.body x) fault h in
+        ltb-true fault.page PAGES (rw there.2 at (in_range x there.0 there.1).missing);
+    pages = λ s g words h. let its = page_found (λ (p : Page). are_words p.words) ps all_pages s g words (sym (pages s g) ∙ h) in rw (← its.4) its.1;
+  }
+
   pub savable : IsSavable w
   savable = record {
     younger = is_young;
@@ -461,4 +510,6 @@ module _ (w : World) (es : List (Path × Body))
     faults_placed = λ x fault taker h g. let there = no_talk (λ (t : Thread). t.fault) (w.body x) fault h in
         rw g at (rw there.2 at (joined_at x there.0 there.1).1);
     slots_kept = λ k x b there. (here (k ∷ x) b there).stands;
+    scratch_kept = scratch_at;
+    numbers = numbers;
   }

@@ -3,10 +3,10 @@ use Rattle.std.specs.Prelude.{ℕ, Bool, true, false, List, [], ◌∷◌, Optio
 use Rattle.fk_model.specs.declared.thread.Turn.{Turn}
 use Rattle.fk_model.specs.declared.thread.Turn.TheVariants as turns
 use Rattle.fk_model.specs.Places.{Path, Ptr}
-use Rattle.fk_model.specs.Places.Ptr.{Out, Outside}
+use Rattle.fk_model.specs.Places.Ptr.{Null, At, Out, Outside}
 use Rattle.fk_model.specs.Objects.{Peer, Talk, Body}
 use Rattle.fk_model.specs.Objects.Peer.{Server}
-use Rattle.fk_model.specs.Objects.Body.{Mutex, Region, Port, Space, Reference}
+use Rattle.fk_model.specs.Objects.Body.{Mutex, Mapping, Region, Port, Space, Reference}
 use Rattle.fk_model.specs.World.{World, apply_all}
 use Rattle.fk_model.specs.Outcomes.{Outcome, listed}
 use Rattle.fk_model.specs.Outcomes.Outcome.{Refused, Waits, Goes}
@@ -81,6 +81,16 @@ held_within holder = alone_of
     ((2 ∷ [], Space 0 holder) ∷ (5 ∷ [], running 0 []) ∷ (in_2 0, with_talk (outward turns.Server 0) (calling 20 (36 ∷ 0 ∷ 0 ∷ 0 ∷ 192 ∷ 4 ∷ [])))
     ∷ (in_2 1, fault_out None) ∷ (in_2 3, fault_out (Some (Server Outside))) ∷ []) (numbered (2 ∷ []) 1000 3 ∷ [])
 
+-- ---- a thread in the space in slot 2 receives through a mapping, into page 3 of the space in slot 3, which is held by the thread in slot 5,
+-- or by nobody
+
+unfoldable pub receiving_through : Option Ptr → World
+receiving_through holder = alone_of
+    ((2 ∷ [], Space 0 None) ∷ (3 ∷ [], Space 0 holder) ∷ (5 ∷ [], running 0 [])
+    ∷ (in_2 0, with_talk (outward turns.Server 0) (calling 20 (36 ∷ 0 ∷ 0 ∷ 0 ∷ 192 ∷ 4 ∷ [])))
+    ∷ (in_2 1, Mapping (record { first = 3; count = 1; offset = 0; write = true; region = At (0 ∷ 3 ∷ []) }))
+    ∷ (0 ∷ 3 ∷ [], Region (record { first = 3; count = 1; write = true; keeper = Null })) ∷ []) (numbered (3 ∷ []) 1000 3 ∷ [])
+
 -- ---- the thread in slot 0 destroys what is in slot 3: a client, a space with one in it, or the port of one
 
 abbrev pub destroys_3 : Body
@@ -95,5 +105,5 @@ inner_talk port = with_talk (served_by port (5 ∷ []) turns.Client 0) (running 
 
 -- ---- to compute in these worlds is to unfold these
 unfoldable pub further_worlds : Unit {0}
-unfolding machine alone_of talking_out kept_out connecting held_within destroying touch_row onward_row
+unfolding machine alone_of talking_out kept_out connecting held_within receiving_through destroying touch_row onward_row
 further_worlds = tt

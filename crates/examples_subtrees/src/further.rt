@@ -9,7 +9,7 @@ ghost use Rattle.fk_model.specs.Further.Onward.{ByOthers};
 ghost use Rattle.fk_model.specs.Further.Touch.{Taken, Given, Filled, Handed, Left, FaultTaken, FaultDone, PageGiven, PageTaken};
 ghost use Rattle.fk_model.specs.Further.Told.{ToldWords, ToldOver, ToldEnd, ToldFault};
 ghost use Rattle.examples_moves.specs.Worked.{numbers_from, running, calling, stopped, with_talk};
-ghost use Rattle.examples_subtrees.specs.Further.{is_ready, later, heard, own_move_taking, outward, talking_out, sending_out, kept_out, connecting, connects, in_2, held_within, destroying, inner_talk};
+ghost use Rattle.examples_subtrees.specs.Further.{is_ready, later, heard, own_move_taking, outward, talking_out, sending_out, kept_out, connecting, connects, in_2, held_within, receiving_through, destroying, inner_talk};
 
 /// A peer outside takes at least one word of a Send and at most what lies before the page's end, the
 /// count and 64; both sides are then that much further.
@@ -73,6 +73,16 @@ pub fn a_hold_inside_bars_no_end_and_no_page()
     ensures fault_done { is_ready (held_within (Some (At (5 ∷ [])))) (ByOthers (FaultDone (in_2 3))) ≡ false }
     ensures given { is_ready (held_within (Some (At (5 ∷ [])))) (ByOthers (Given (in_2 0) (7 ∷ []))) ≡ false }
     ensures handed { is_ready (held_within (Some (At (5 ∷ [])))) (ByOthers (Handed (in_2 0))) ≡ false }
+{}
+
+/// Words that are given to a free thread go to no page of a space that is held inside, to which a mapping
+/// leads. A page there is given and taken all the same.
+pub fn words_go_to_no_page_that_is_held_inside()
+    ensures held { is_ready (receiving_through (Some (At (5 ∷ [])))) (ByOthers (Given (in_2 0) (7 ∷ 8 ∷ []))) ≡ false }
+    ensures unheld { is_ready (receiving_through None) (ByOthers (Given (in_2 0) (7 ∷ 8 ∷ []))) ≡ true }
+    ensures page { (later (receiving_through None) (ByOthers (Given (in_2 0) (7 ∷ 8 ∷ [])))).page (3 ∷ []) 3 ≡ Some (7 ∷ 8 ∷ numbers_from 1194 62) }
+    ensures page_given { is_ready (receiving_through (Some (At (5 ∷ [])))) (ByOthers (PageGiven (3 ∷ []) 7 (replicate 64 0))) ≡ true }
+    ensures page_taken { is_ready (receiving_through (Some (At (5 ∷ [])))) (ByOthers (PageTaken (3 ∷ []) 3)) ≡ true }
 {}
 
 /// With no hold all of that is ready; words up to the room, and at least one.

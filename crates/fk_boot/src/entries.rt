@@ -16,6 +16,7 @@ use crate::aims::aim_object;
 use crate::making::{make_object, make_space};
 use crate::pages::{put_program, put_zeros, words_of_program};
 use crate::porters::make_porters;
+use crate::words::read_words;
 use fk_model::NoMemory;
 use fk_scenario::{ObjectEntry, Program, Scenario, ServerEntry, SpaceEntry};
 use fk_scenario_fields::{Entries, Path};
@@ -103,6 +104,7 @@ pub fn boot(alloc: Global, scenario: &Scenario) -> Result<Store, NoMemory>
     ensures runnable { IfOk result (λ store. IsRunnable (world store)) }
     ensures savable { IfOk result (λ store. IsSavable (world store)) }
 {
+    read_words(scenario);
     let mut store = Store::new(alloc)?;
     let spaces = scenario.spaces.as_slice();
     make_spaces(&mut store, scenario.programs.as_slice(), spaces)?;

@@ -17,6 +17,7 @@ mod making;
 mod names;
 mod pages;
 mod porters;
+mod words;
 
 pub use bootable::is_bootable;
 pub use entries::boot;

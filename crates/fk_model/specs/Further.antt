@@ -138,11 +138,12 @@ given_at w x words into s page =
     Goes (PutPage s page (overwritten (words_at w s page) (into % PAGE_WORDS) words)
     ∷ Alter x (CountMoved (length words)) ∷ Alter x (Shift (length words)) ∷ []) Nothing
 
--- a block that the other side gives: at least one word, and no more than the receiver's side allows
+-- a block that the other side gives: at least one word, and no more than the receiver's side allows. A page that a hold inside freezes takes
+-- none, since a free receiver says that nobody holds the subtree itself
 abbrev pub given_to : World → Path → List ℕ → ℕ × ℕ → Outcome
 given_to w x words receive =
     when (nat_lt 0 (length words) && nat_le (length words) (min BLOCK_WORDS (min receive.1 (to_page_end receive.0))))
-    (their_page w (parent x) receive.0 (given_at w x words receive.0))
+    (their_page w (parent x) receive.0 (λ s page. when (is_unheld w s) (given_at w x words receive.0 s page)))
 
 abbrev pub filled_at : Path → ℕ × ℕ → Outcome
 filled_at x receive = when (receive.1 == 0) (Goes (Alter x (End FULL []) ∷ []) Nothing)

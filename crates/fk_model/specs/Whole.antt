@@ -1,9 +1,10 @@
 -- What a world keeps while a machine runs: what every law of subtrees supposes, and what saving one needs besides.
-use Rattle.std.specs.Prelude.{◌≡◌, ℕ, ◌<◌, ◌≤◌, Bool, true, false, not, ◌&&◌, ◌==◌, nat_le, is_some, List, ◌∷◌, length, Some, if◌then◌else◌}
-use Rattle.fk_model.specs.declared.limits.TheConstants.{LAST_USER_SLOT, LAST_SCRATCH_SLOT, LAST_PORTER_SLOT, MOST_STOPS, PAGE_WORDS}
-use Rattle.fk_model.specs.Places.{Path, parent, is_within, Ptr}
+use Rattle.std.specs.Prelude.{◌≡◌, ℕ, ◌^◌, ◌<◌, ◌≤◌, Bool, true, false, not, ◌&&◌, ◌||◌, ◌==◌, nat_le, nat_lt, IsSome, is_some, List, ◌∷◌, length, Some, if◌then◌else◌}
+use Rattle.std.specs.List.{list_all}
+use Rattle.fk_model.specs.declared.limits.TheConstants.{LAST_USER_SLOT, LAST_SCRATCH_SLOT, LAST_PORTER_SLOT, MOST_STOPS, MOST_MOVED, PAGES, PAGE_WORDS}
+use Rattle.fk_model.specs.Places.{Path, parent, is_within, Ptr, leads_to}
 use Rattle.fk_model.specs.Places.Ptr.{At}
-use Rattle.fk_model.specs.Objects.{Peer, Talk, Fault, Thread, Body, thread_of, reference_of, and_then, holds}
+use Rattle.fk_model.specs.Objects.{Peer, Talk, Fault, Thread, Body, registers_of, thread_of, reference_of, and_then, holds}
 use Rattle.fk_model.specs.Objects.Peer.{Server, Service, Parked}
 use Rattle.fk_model.specs.World.{World}
 use Rattle.fk_model.specs.Searches.{depth, talk_at, fault_at}
@@ -28,6 +29,30 @@ abbrev pub stands_in : ℕ → Body → Bool
 stands_in k b =
     if nat_le k LAST_USER_SLOT then not (is_native b)
     else (if nat_le k LAST_SCRATCH_SLOT then is_some (reference_of b) else k == LAST_PORTER_SLOT && is_native b)
+
+abbrev pub is_scratch_slot : ℕ → Bool
+is_scratch_slot k = not (nat_le k LAST_USER_SLOT) && nat_le k LAST_SCRATCH_SLOT
+
+-- a space in which a porter has scratch: its own, or one in a slot of its own that it holds
+abbrev pub is_porters : World → Path → Bool
+is_porters w s = holds is_native (w.body (LAST_PORTER_SLOT ∷ s)) || holds (leads_to (LAST_PORTER_SLOT ∷ parent s)) (holder_of (w.body s))
+
+-- ---- numbers
+
+abbrev pub is_word : ℕ → Bool
+is_word n = nat_lt n (2 ^ 64)
+
+abbrev pub are_words : List ℕ → Bool
+are_words words = list_all is_word words
+
+-- numbers are such as an image holds: registers, counters and words of pages below 2^64, at most 65,535 words moved in a turn, and faults
+-- on pages that a space has
+pub record HasNumbers (w : World) : Type 0 where
+  pub registers : (x : Path) (t : Thread) → and_then thread_of (w.body x) ≡ Some t → are_words (registers_of t.mode) ≡ true
+  pub counters : (x : Path) (t : Thread) → and_then thread_of (w.body x) ≡ Some t → is_word t.counter ≡ true
+  pub moved : (x : Path) (talk : Talk) → talk_at w x ≡ Some talk → talk.moved ≤ MOST_MOVED
+  pub missing : (x : Path) (fault : Fault) → fault_at w x ≡ Some fault → fault.page < PAGES
+  pub pages : (s : Path) (page : ℕ) (words : List ℕ) → w.page s page ≡ Some words → are_words words ≡ true
 
 -- every page has all its words
 abbrev pub HasFullPages : World → Type 0
@@ -54,3 +79,6 @@ pub record IsSavable (w : World) : Type 0 where
   pub faults_placed : (x : Path) (fault : Fault) (taker : Peer) → fault_at w x ≡ Some fault → fault.taker ≡ Some taker → is_placed w fault.port taker ≡ true
   -- slots above 239 are for porters and their scratch
   pub slots_kept : (k : ℕ) (x : Path) (b : Body) → w.body (k ∷ x) ≡ Some b → stands_in k b ≡ true
+  pub scratch_kept : (k : ℕ) (x : Path) → is_scratch_slot k ≡ true → IsSome (w.body (k ∷ x)) → is_porters w x ≡ true
+  -- and an image has room for each number
+  pub numbers : HasNumbers w

@@ -18,7 +18,6 @@ use Rattle.fk_model.specs.Valid.{IsRooted, is_fit}
 use Rattle.fk_model.proofs.walks.PlaceLaws.{same_path_eq}
 use Rattle.laws_frozen.specs.Users.{is_low, is_users, IsUsers, AreUsers}
 use Rattle.laws_frozen.proofs.Users.{users_name_low}
-use Rattle.laws_whole.specs.Runnable.{has_all_words}
 use Rattle.laws_savable.specs.Savable.{OwesAsk}
 use Rattle.laws_jobs.specs.Jobs.{IsClean}
 use Rattle.laws_jobs.specs.Nesters.{UsersFillLow}
@@ -82,13 +81,13 @@ users_fill_low w e rooted users x k high there =
 
 -- ---- what they owe is nothing
 
-pub users_due : (w : World) (x : Path) (ask : Ask) → is_users ask ≡ true → (is_fit w x ask ≡ true) × (has_all_words ask ≡ true) × OwesAsk w x ask
+pub users_due : (w : World) (x : Path) (ask : Ask) → is_users ask ≡ true → (is_fit w x ask ≡ true) × OwesAsk w x ask
 unfolding is_fit
-users_due w x asks.Run users = (refl, refl, tt)
+users_due w x asks.Run users = (refl, tt)
 users_due w x (asks.Call stage words) users = cc
-users_due w x asks.Accept users = (refl, refl, tt)
-users_due w x (asks.Give words len) users = (refl, refl, tt)
-users_due w x asks.Over users = (refl, refl, tt)
+users_due w x asks.Accept users = (refl, tt)
+users_due w x (asks.Give words len) users = (refl, tt)
+users_due w x asks.Over users = (refl, tt)
 
 scratch_high : (s : Path) (k : ℕ) → is_scratch s (k ∷ s) ≡ true → nat_le k LAST_USER_SLOT ≡ false
 scratch_high s k h = by (nat_le k LAST_USER_SLOT) refl

@@ -1,5 +1,5 @@
 -- Who asks for what, read back.
-use Rattle.std.proofs.Common.{◌≡◌, ℕ, Bool, true, false, ◌==◌, List, Option, Some, None, refl, ap, ◌∙◌, if◌then◌else◌, eqb-true}
+use Rattle.std.proofs.Common.{◌≡◌, ℕ, Bool, true, false, ◌==◌, List, Option, Some, None, refl, ap, ◌∙◌, if◌then◌else◌, eqb-true, cond}
 use Rattle.std.proofs.lemmas.Bool.{and_parts}
 use Rattle.fk_model.specs.declared.limits.TheConstants.{LAST_PORTER_SLOT}
 use Rattle.fk_model.specs.declared.moves.Ask.{Ask}
@@ -8,8 +8,9 @@ use Rattle.fk_model.specs.declared.stage.Stage.{Stage}
 use Rattle.laws_frozen.specs.Users.{is_users}
 use Rattle.laws_jobs.specs.Machines.{Head}
 use Rattle.laws_jobs.specs.Machines.Head.{Stops, Asks}
-use Rattle.laws_runs.specs.Cores.{House, Work, Core, current, is_porter_of, others_ask, job_asks, work_of, work_asks, asks_of_job, asker}
-use Rattle.laws_runs.specs.Cores.Asker.{Others, Job}
+use Rattle.laws_runs.specs.Cores.{House, Work, Core, current, is_porter_of, others_ask, job_asks, work_of, work_asks, asks_of_job, Asker, asker}
+use Rattle.laws_runs.specs.Cores.Asker.{Nobody, Others, Job}
+use Rattle.laws_whole.specs.Runnable.{has_all_words}
 use Rattle.laws_runs.specs.Composed.{AskAsUsers}
 
 module _ {J S A V : Type 0} (h : House J S A V) (c : Core S A V) (who : Who) where
@@ -24,7 +25,11 @@ module _ {J S A V : Type 0} (h : House J S A V) (c : Core S A V) (who : Who) whe
 
   none_for : (o : Option Ask) (begun : ℕ) (t : S) (stage : Stage) (words : List ℕ) → others_ask o ≡ Job begun t stage words → ⊥
   none_for None begun t stage words e = cc
-  none_for (Some ask) begun t stage words e = cc
+  none_for (Some ask) begun t stage words e = by (has_all_words ask) e
+    where
+      by : (b : Bool) → (if b then Others ask else Nobody) ≡ Job begun t stage words → ⊥
+      by true e = cc
+      by false e = cc
 
   pub job_of : (begun : ℕ) (t : S) (stage : Stage) (words : List ℕ) → asker h c who ≡ Job begun t stage words → JobAsks begun t stage words
   job_of begun t stage words e = by (current h c) refl e
@@ -63,9 +68,14 @@ module _ {J S A V : Type 0} (h : House J S A V) (c : Core S A V) (who : Who) whe
       by None its e = absurd (none_for (h.servers.asks c.servers c.world who) begun t stage words e)
       by (Some j) its e = at_job j its (is_porter_of (h.nester j) who) refl e
 
-  others_from : AskAsUsers h → (ask : Ask) (o : Option Ask) → h.servers.asks c.servers c.world who ≡ o → others_ask {S = S} o ≡ Others ask → is_users ask ≡ true
+  others_from : AskAsUsers h → (ask : Ask) (o : Option Ask) → h.servers.asks c.servers c.world who ≡ o → others_ask {S = S} o ≡ Others ask →
+      (is_users ask ≡ true) × (has_all_words ask ≡ true)
   others_from users ask None its e = cc
-  others_from users ask (Some found) its e = let same : found ≡ ask = cc in rw (← same) (users c.servers c.world who found its)
+  others_from users ask (Some found) its e = by (has_all_words found) refl e
+    where
+      by : (b : Bool) → has_all_words found ≡ b → cond {A = Asker S} b (Others found) Nobody ≡ Others ask → (is_users ask ≡ true) × (has_all_words ask ≡ true)
+      by true words e = let same : found ≡ ask = cc in (rw (← same) (users c.servers c.world who found its), rw (← same) words)
+      by false words e = cc
 
   job_never : (ask : Ask) (k : Option (Work S)) → work_asks h.machine k ≡ Others ask → ⊥
   job_never ask None e = cc
@@ -75,17 +85,17 @@ module _ {J S A V : Type 0} (h : House J S A V) (c : Core S A V) (who : Who) whe
       by (Stops end) e = cc
       by (Asks stage words) e = cc
 
-  -- what others ask for is what users may
-  pub others_of : AskAsUsers h → (ask : Ask) → asker h c who ≡ Others ask → is_users ask ≡ true
+  -- what others ask for is what users may, and what they give is words
+  pub others_of : AskAsUsers h → (ask : Ask) → asker h c who ≡ Others ask → (is_users ask ≡ true) × (has_all_words ask ≡ true)
   others_of users ask e = by (current h c) e
     where
       at_job : (j : J) (b : Bool) →
           (if b then work_asks h.machine (work_of c.events c.work (h.begins j c.ends)) else others_ask (h.servers.asks c.servers c.world who)) ≡ Others ask →
-          is_users ask ≡ true
+          (is_users ask ≡ true) × (has_all_words ask ≡ true)
       at_job j true e = absurd (job_never ask (work_of c.events c.work (h.begins j c.ends)) e)
       at_job j false e = others_from users ask (h.servers.asks c.servers c.world who) refl e
 
-      by : (o : Option J) → asks_of_job h c who o ≡ Others ask → is_users ask ≡ true
+      by : (o : Option J) → asks_of_job h c who o ≡ Others ask → (is_users ask ≡ true) × (has_all_words ask ≡ true)
       by None e = others_from users ask (h.servers.asks c.servers c.world who) refl e
       by (Some j) e = at_job j (is_porter_of (h.nester j) who) e
 

@@ -19,7 +19,7 @@ use Rattle.fk_model.specs.Who.{event_of, space_born, named}
 use Rattle.laws_frozen.specs.Users.{is_users}
 use Rattle.laws_frozen.specs.Holding.{IsUsersMove}
 use Rattle.laws_jobs.proofs.Filling.{users_due, clean_on}
-use Rattle.laws_whole.specs.Runnable.{IsDue}
+use Rattle.laws_whole.specs.Runnable.{has_all_words, IsDue}
 use Rattle.laws_whole.proofs.Laws.{gives_one_number, keeps_runnable, savable_runnable}
 use Rattle.laws_savable.specs.Savable.{Owes, IsSound}
 use Rattle.laws_savable.proofs.Laws.{keeps_savable}
@@ -281,9 +281,9 @@ module _ {J S A V : Type 0} (h : House J S A V) (first : Core S A V) (users : As
           other = apart_from_porter c.world (LAST_PORTER_SLOT ∷ nester) (named c.world m.who) (option_map (named c.world) m.pick) ask native is ready;
         }
 
-    others_next : (ask : Ask) → is_users ask ≡ true → IsReadyAt c.world (event_of c.world ask m) → d.world ≡ after c.world (event_of c.world ask m) →
+    others_next : (ask : Ask) → is_users ask ≡ true → has_all_words ask ≡ true → IsReadyAt c.world (event_of c.world ask m) → d.world ≡ after c.world (event_of c.world ask m) →
         (k : Work S) → c.work ≡ Some k → (upto : ℕ) → upto ≡ length past + 1 → Next k.begun upto k.state
-    others_next ask is ready goes k works upto up =
+    others_next ask is words ready goes k works upto up =
         let w = stands.working k works in
         let porter = (tidy w.worked.job c.ends w.worked.start w.worked.starts).stays (world_at run k.begun) w.worked.nester c.world k.state w.worked.may w.now
         w.stage w.words w.asked in
@@ -292,7 +292,7 @@ module _ {J S A V : Type 0} (h : House J S A V) (first : Core S A V) (users : As
         goes_next k w k.state upto up
         (subst (λ y. AtWork h.machine w.worked.nester (world_at run k.begun) w.worked.start y k.state) (sym goes)
         (work_waits h.machine w.worked.nester (world_at run k.begun) w.worked.start c.world k.state e w.now (w.stage, w.words, w.asked) (users_move ask is ready w.worked.nester porter.porter)
-        (kept c.world e sound_now (record { fit = due.0; words = due.1 }) due.2 few_now).sound))
+        (kept c.world e sound_now (record { fit = due.0; words = words }) due.1 few_now).sound))
 
     -- ---- a move of the job's
 
@@ -418,15 +418,16 @@ module _ {J S A V : Type 0} (h : House J S A V) (first : Core S A V) (users : As
     moved_others ask e now settling =
         let is = others_of h c m.who users ask e in
         let still = settled (others_moved h c (event_of c.world ask m)) d settling in
-        let due = users_due c.world (named c.world m.who) ask is in
-        assembled (event_of c.world ask m) (record { fit = due.0; words = due.1 }) due.2 still.world still.events
-        (λ idle. subst IsClean (sym still.world) (clean_on c.world (event_of c.world ask m) sound_now.whole.valid.rooted is (stands.clean (sym still.work ∙ idle))))
+        let due = users_due c.world (named c.world m.who) ask is.0 in
+        assembled (event_of c.world ask m) (record { fit = due.0; words = is.1 }) due.1 still.world still.events
+        (λ idle. subst IsClean (sym still.world) (clean_on c.world (event_of c.world ask m) sound_now.whole.valid.rooted is.0 (stands.clean (sym still.work ∙ idle))))
         (ended_still (others_moved h c (event_of c.world ask m)) still refl)
         (λ k works. at is still k (sym still.work ∙ works))
       where
-        at : is_users ask ≡ true → Settled (others_moved h c (event_of c.world ask m)) d → (k : Work S) → c.work ≡ Some k → Working all k
+        at : (is_users ask ≡ true) × (has_all_words ask ≡ true) → Settled (others_moved h c (event_of c.world ask m)) d → (k : Work S) → c.work ≡ Some k →
+            Working all k
         at is still k works =
-            let next = others_next ask is now still.world k works (length (past ++ m ∷ [])) longer in
+            let next = others_next ask is.0 is.1 now still.world k works (length (past ++ m ∷ [])) longer in
             let same = still.still k works in
             let w = stands.working k works in
             record {
@@ -566,11 +567,11 @@ module _ {J S A V : Type 0} (h : House J S A V) (first : Core S A V) (users : As
         by Nobody e now settling = absurd now
         by (Others ask) e now settling =
             let is = others_of h c m.who users ask e in
-            let due = users_due c.world (named c.world m.who) ask is in
+            let due = users_due c.world (named c.world m.who) ask is.0 in
             record {
               event = event_of c.world ask m;
               is = ap (event_by c.world m) e;
-              due = record { fit = due.0; words = due.1 };
+              due = record { fit = due.0; words = is.1 };
               goes = (settled (others_moved h c (event_of c.world ask m)) d settling).world;
             }
         by (Job begun t stage words) e now settling =

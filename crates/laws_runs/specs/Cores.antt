@@ -12,6 +12,7 @@ use Rattle.fk_model.specs.World.{World}
 use Rattle.fk_model.specs.Valid.{birth_at}
 use Rattle.fk_model.specs.Runs.{Event, after}
 use Rattle.fk_model.specs.Who.{event_of}
+use Rattle.laws_whole.specs.Runnable.{has_all_words}
 use Rattle.laws_jobs.specs.Machines.{Head, Machine, heard, said_of, IsReadyAt}
 use Rattle.laws_jobs.specs.Machines.Head.{Stops, Asks}
 
@@ -67,9 +68,10 @@ pub data Asker (S : Type 0) : Type 0 where
   Others : (ask : Ask) → Asker S
   Job : (begun : ℕ) (state : S) (stage : Stage) (words : List ℕ) → Asker S
 
+-- (who asks to give what isn't words asks for nothing)
 abbrev pub others_ask : {S : Type 0} → Option Ask → Asker S
 others_ask None = Nobody
-others_ask (Some ask) = Others ask
+others_ask (Some ask) = if has_all_words ask then Others ask else Nobody
 
 abbrev pub job_asks : {S A : Type 0} → ℕ → S → Head A → Asker S
 job_asks begun s (Stops end) = Nobody

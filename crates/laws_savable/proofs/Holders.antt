@@ -22,12 +22,12 @@ HoldersOutside v = (x y : Path) → holder_of (v.body x) ≡ Some (At y) → is_
 
 -- ---- what becomes of a holder
 
-is_holding : Edit → Bool
+abbrev pub is_holding : Edit → Bool
 is_holding (SetHolder holder) = true
 is_holding other = false
 
 space-edited : (edit : Edit) (birth : ℕ) (holder : Option Ptr) → is_holding edit ≡ false → edited edit (Space birth holder) ≡ Space birth holder
-unfolding edited is_holding
+unfolding edited
 space-edited (SetHolder new) birth holder other = cc
 space-edited (SetLocked locked) birth holder other = refl
 space-edited edit birth holder other = refl
@@ -38,7 +38,7 @@ no_space (Mutex locked) other = refl
 no_space b other = refl
 
 -- an edit that sets no holder leaves it
-same-holder : (edit : Edit) (b : Body) → is_holding edit ≡ false → holder_of (Some (edited edit b)) ≡ holder_of (Some b)
+pub same-holder : (edit : Edit) (b : Body) → is_holding edit ≡ false → holder_of (Some (edited edit b)) ≡ holder_of (Some b)
 same-holder edit (Space birth holder) other = ap (λ b. holder_of (Some b)) (space-edited edit birth holder other)
 same-holder edit (Mutex locked) other = no_space (edited edit (Mutex locked)) (λ e. let k = same_kind edit (Mutex locked) in cc)
 same-holder edit Cond other = no_space (edited edit Cond) (λ e. let k = same_kind edit Cond in cc)
@@ -49,7 +49,7 @@ same-holder edit Portset other = no_space (edited edit Portset) (λ e. let k = s
 same-holder edit (Thread_of t) other = no_space (edited edit (Thread_of t)) (λ e. let k = same_kind edit (Thread_of t) in cc)
 same-holder edit (Reference to) other = no_space (edited edit (Reference to)) (λ e. let k = same_kind edit (Reference to) in cc)
 
-mapped-holder : (edit : Edit) (o : Option Body) → is_holding edit ≡ false → holder_of (option_map (edited edit) o) ≡ holder_of o
+pub mapped-holder : (edit : Edit) (o : Option Body) → is_holding edit ≡ false → holder_of (option_map (edited edit) o) ≡ holder_of o
 mapped-holder edit None other = refl
 mapped-holder edit (Some b) other = same-holder edit b other
 
@@ -123,7 +123,7 @@ module _ (v : World) (valid : IsConsistent v) (outside : HoldersOutside v) where
       by None e h = cc
 
   altered : (x : Path) (edit : Edit) → IsKept v (Alter x edit) → HoldersOutside (apply (Alter x edit) v)
-  unfolding apply is_holding
+  unfolding apply
   altered x (SetHolder holder) kept q y h = by (same_path q x) refl h
     where
       out : (o : Option Ptr) → o ≡ Some (At y) → IsOutside x o → is_within x y ≡ false
@@ -131,7 +131,7 @@ module _ (v : World) (valid : IsConsistent v) (outside : HoldersOutside v) where
 
       by : (t : Bool) → same_path q x ≡ t → holder_of (if t then option_map (edited (SetHolder holder)) (v.body q) else v.body q) ≡ Some (At y) →
           is_within q y ≡ false
-      by true e h = let here = same_path_eq q x e in rw here (out holder (set-holder holder (v.body q) (At y) h) kept)
+      by true e h = let here = same_path_eq q x e in rw here (out holder (set-holder holder (v.body q) (At y) h) kept.0)
       by false e h = outside q y h
   altered x edit kept q y h = by (same_path q x) h
     where

@@ -1,26 +1,30 @@
 -- A due move keeps a world savable, and so does a run of them.
-use Rattle.std.proofs.Common.{◌≡◌, [], ◌∷◌, true, List, refl, arith}
+use Rattle.std.proofs.Common.{◌≡◌, ◌<◌, ◌≤◌, [], ◌∷◌, true, List, Option, Some, None, refl, arith}
+use Rattle.fk_model.specs.declared.limits.TheConstants.{MOST_MOVED, PAGES}
 use Rattle.fk_model.specs.declared.moves.Ask.{Ask}
 use Rattle.fk_model.specs.declared.moves.Ask.TheVariants as asks
 use Rattle.fk_model.specs.Places.{Path}
+use Rattle.fk_model.specs.Objects.{Talk, Fault, Thread, thread_of, and_then}
 use Rattle.fk_model.specs.World.{World, Change, apply, apply_all}
 use Rattle.fk_model.specs.Outcomes.{Outcome}
 use Rattle.fk_model.specs.Outcomes.Outcome.{Refused, Waits, Goes}
 use Rattle.fk_model.specs.Moves.{outcome, step, stepped}
 use Rattle.fk_model.specs.Runs.{after, run}
 use Rattle.fk_model.specs.Valid.{IsConsistent, is_fit}
-use Rattle.fk_model.specs.Whole.{IsSavable}
+use Rattle.fk_model.specs.Whole.{HasNumbers, IsSavable}
 use Rattle.laws_machine.proofs.validity.Changes.{valid-apply}
 use Rattle.laws_machine.proofs.validity.Steps.{facts_of}
 use Rattle.laws_machine.proofs.safety.Safe.{AreSafe}
 use Rattle.laws_machine.proofs.safety.Outcomes.{SafeOutcome}
 use Rattle.laws_machine.proofs.safety.Moves.{outcome-safe}
 use Rattle.laws_frozen.specs.Users.{is_users}
-use Rattle.laws_whole.specs.Runnable.{has_all_words}
 use Rattle.laws_whole.proofs.Younger.{younger-all}
 use Rattle.laws_whole.proofs.Laws.{savable_runnable, keeps_runnable, gives_one_number}
 use Rattle.laws_savable.specs.Savable.{OwesAsk, DueMoveKeepsSavable, UsersMoveKeepsSavable, RunKeepsSavable}
-use Rattle.laws_savable.proofs.Kept.{AreTidy, AreKept, KeptOutcome}
+use Rattle.laws_savable.proofs.Words.{all-words, words-all, numbered-of, of-numbered}
+use Rattle.laws_savable.proofs.Kept.{IsFewMoved, IsOnPage, AreTidy, AreKept, KeptOutcome}
+use Rattle.laws_savable.proofs.Pages.{PagesHaveWords, pages-apply}
+use Rattle.laws_savable.proofs.Scratch.{ScratchKept, scratch-apply}
 use Rattle.laws_savable.proofs.Bodies.{AllTidy, all-tidy, are-tidy, tidy-apply}
 use Rattle.laws_savable.proofs.Holders.{HoldersOutside, outside-apply}
 use Rattle.laws_savable.proofs.Standing.{AllStand}
@@ -36,9 +40,49 @@ pub record Saved (v : World) : Type 0 where
   pub talks : TalksPlaced v
   pub faults : FaultsPlaced v
   pub stand : AllStand v
+  pub scratch : ScratchKept v
+  pub pages : PagesHaveWords v
 
 tidy-of : (w : World) → IsSavable w → AreTidy w
-tidy-of w savable x t there = record { shaped = savable.shaped x t there; stops = savable.few_stops x t there; code = savable.codes x t there }
+tidy-of w savable x t there = record {
+  shaped = savable.shaped x t there;
+  stops = savable.few_stops x t there;
+  code = savable.codes x t there;
+  numbers = numbered-of t.mode (savable.shaped x t there) (savable.numbers.registers x t there);
+  counter = savable.numbers.counters x t there;
+  moved = few t.talk (λ talk its. savable.numbers.moved x talk (rw there its));
+  missing = on t.fault (λ fault its. savable.numbers.missing x fault (rw there its));
+}
+  where
+    few : (o : Option Talk) → ((talk : Talk) → o ≡ Some talk → talk.moved ≤ MOST_MOVED) → IsFewMoved o
+    few None h = tt
+    few (Some talk) h = h talk refl
+
+    on : (o : Option Fault) → ((fault : Fault) → o ≡ Some fault → fault.page < PAGES) → IsOnPage o
+    on None h = tt
+    on (Some fault) h = h fault refl
+
+words-of : (w : World) → IsSavable w → PagesHaveWords w
+words-of w savable s page words there = all-words words (savable.numbers.pages s page words there)
+
+numbers-of : (w : World) → AreTidy w → PagesHaveWords w → HasNumbers w
+numbers-of w tidy pages = record {
+  registers = λ x t there. of-numbered t.mode (tidy x t there).shaped (tidy x t there).numbers;
+  counters = λ x t there. (tidy x t there).counter;
+  moved = λ x talk there. few (and_then thread_of (w.body x)) (λ t its. (tidy x t its).moved) talk there;
+  missing = λ x fault there. on (and_then thread_of (w.body x)) (λ t its. (tidy x t its).missing) fault there;
+  pages = λ s page words there. words-all words (pages s page words there);
+}
+  where
+    few : (o : Option Thread) → ((t : Thread) → o ≡ Some t → IsFewMoved t.talk) → (talk : Talk) → and_then (λ (t : Thread). t.talk) o ≡ Some talk →
+        talk.moved ≤ MOST_MOVED
+    few None h talk there = cc
+    few (Some t) h talk there = let its = h t refl in rw there at its
+
+    on : (o : Option Thread) → ((t : Thread) → o ≡ Some t → IsOnPage t.fault) → (fault : Fault) → and_then (λ (t : Thread). t.fault) o ≡ Some fault →
+        fault.page < PAGES
+    on None h fault there = cc
+    on (Some t) h fault there = let its = h t refl in rw there at its
 
 saved-of : (w : World) → IsSavable w → Saved w
 saved-of w savable = record {
@@ -47,6 +91,8 @@ saved-of w savable = record {
   talks = savable.talks_placed;
   faults = savable.faults_placed;
   stand = savable.slots_kept;
+  scratch = savable.scratch_kept;
+  pages = words-of w savable;
 }
 
 saved-all : (cs : List Change) (v : World) → IsConsistent v → Saved v → AreSafe v cs → AreKept v cs → Saved (apply_all cs v)
@@ -58,6 +104,8 @@ saved-all (c ∷ cs) v valid saved safe kept = saved-all cs (apply c v) (valid-a
   talks = talks-apply v saved.talks saved.faults valid c safe.0 kept.0;
   faults = faults-apply v saved.talks saved.faults valid c safe.0 kept.0;
   stand = stand-apply v saved.stand c safe.0 kept.0;
+  scratch = scratch-apply v valid saved.stand saved.scratch c safe.0 kept.0;
+  pages = pages-apply v saved.pages c kept.0;
 }) safe.1 kept.1
 
 -- kept changes that are safe keep a world savable
@@ -74,6 +122,8 @@ savable-all cs w valid savable safe kept =
       talks_placed = saved.talks;
       faults_placed = saved.faults;
       slots_kept = saved.stand;
+      scratch_kept = saved.scratch;
+      numbers = numbers-of (apply_all cs w) tidy saved.pages;
     }
 
 savable-stepped : (w : World) (o : Outcome) → IsConsistent w → IsSavable w → SafeOutcome w o → KeptOutcome w o → IsSavable (stepped w o).world
@@ -92,23 +142,25 @@ keeps_savable w e whole savable due owes =
       pages = whole.full;
       tidy = tidy-of w savable;
       stand = savable.slots_kept;
+      words = words-of w savable;
+      scratch = savable.scratch_kept;
     } in
     savable-stepped w (outcome w e.mover e.pick e.ask) whole.valid.consistent savable
     (outcome-safe w e.mover e.pick e.ask (facts_of w whole.valid whole.few) due.fit)
-    (outcome-kept w premise e.mover e.pick e.ask due.words owes)
+    (outcome-kept w premise e.mover e.pick e.ask due.fit due.words owes)
 
-users-due : (w : World) (x : Path) (ask : Ask) → is_users ask ≡ true → (is_fit w x ask ≡ true) × (has_all_words ask ≡ true) × OwesAsk w x ask
+users-due : (w : World) (x : Path) (ask : Ask) → is_users ask ≡ true → (is_fit w x ask ≡ true) × OwesAsk w x ask
 unfolding is_fit
-users-due w x asks.Run users = (refl, refl, tt)
+users-due w x asks.Run users = (refl, tt)
 users-due w x (asks.Call stage words) users = cc
-users-due w x asks.Accept users = (refl, refl, tt)
-users-due w x (asks.Give words len) users = (refl, refl, tt)
-users-due w x asks.Over users = (refl, refl, tt)
+users-due w x asks.Accept users = (refl, tt)
+users-due w x (asks.Give words len) users = (refl, tt)
+users-due w x asks.Over users = (refl, tt)
 
 pub users_keep_savable : UsersMoveKeepsSavable
-users_keep_savable w e whole savable users =
+users_keep_savable w e whole savable users words =
     let due = users-due w e.mover e.ask users in
-    keeps_savable w e whole savable (record { fit = due.0; words = due.1 }) due.2
+    keeps_savable w e whole savable (record { fit = due.0; words = words }) due.1
 
 pub run_keeps_savable : RunKeepsSavable
 unfolding run

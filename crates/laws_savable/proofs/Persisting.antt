@@ -1,15 +1,18 @@
 -- What a row knows of a thread that is at a call still holds after the row's earlier changes.
-use Rattle.std.proofs.Common.{◌≡◌, ℕ, Bool, true, false, if◌then◌else◌, ◌&&◌, nat_le, List, [], ◌∷◌, Option, Some, None, option_map, refl}
+use Rattle.std.proofs.Common.{◌≡◌, ℕ, ◌+◌, ◌≤◌, Bool, true, false, if◌then◌else◌, ◌&&◌, nat_le, List, [], ◌∷◌, Option, Some, None, option_map, refl, arith}
 use Rattle.fk_model.specs.declared.stage.Stage.{Stage}
+use Rattle.fk_model.specs.declared.stage.Stage.TheVariants.{ClientReceive, ClientSend, ServerReceive, ServerSend}
 use Rattle.fk_model.specs.Places.{Path, same_path, Ptr}
 use Rattle.fk_model.specs.Objects.{Mode, Talk, Thread, Body, thread_of, and_then}
 use Rattle.fk_model.specs.Objects.Mode.{Running, Calling}
 use Rattle.fk_model.specs.Objects.Body.{Mutex, Thread_of}
-use Rattle.fk_model.specs.World.{World, Edit, edited, apply, replaced_in, finished_in}
+use Rattle.fk_model.specs.World.{World, Edit, edited, apply, shifted_in, replaced_in, finished_in}
 use Rattle.fk_model.specs.World.Change.{Alter}
-use Rattle.fk_model.specs.World.Edit.{SetLocked, SetPointer, Replace, Finish, SetTalk}
+use Rattle.fk_model.specs.World.Edit.{SetLocked, SetPointer, Shift, Replace, Finish, SetTalk, CountMoved}
 use Rattle.fk_model.specs.Valid.{all_in}
-use Rattle.laws_savable.proofs.Kept.{is_single, is_last_receive, leaves_room, of_thread, FitsAnswers}
+use Rattle.laws_savable.proofs.Todos.{is_last_receive}
+use Rattle.laws_savable.proofs.Words.{below-word, word-below, has_way}
+use Rattle.laws_savable.proofs.Kept.{is_single, leaves_room, of_thread, FitsAnswers}
 
 -- ---- tests of modes
 
@@ -112,3 +115,61 @@ pub room-talked : (y : Path) (talk : Option Talk) (n : ℕ) (v : World) (x : Pat
 room-talked y talk n v x h =
     altered y (Finish []) (leaves_room n) (finish-leaves n) (apply (Alter y (SetTalk talk)) v) x
     (altered y (SetTalk talk) (leaves_room n) (talk-leaves talk (leaves_room n)) v x h)
+
+-- ---- the way of a Send or a Receive
+
+pub way-less : (k n : ℕ) → k ≤ n → (m : Mode) → has_way n m ≡ true → has_way k m ≡ true
+way-less k n few (Calling (ClientSend address count ∷ todo) rest) way =
+    let far = word-below (address + n) way in below-word (address + k) (omega (arith, few, far))
+way-less k n few (Calling (ClientReceive address count ∷ todo) rest) way =
+    let far = word-below (address + n) way in below-word (address + k) (omega (arith, few, far))
+way-less k n few (Calling (ServerSend address count ∷ todo) rest) way =
+    let far = word-below (address + n) way in below-word (address + k) (omega (arith, few, far))
+way-less k n few (Calling (ServerReceive address count ∷ todo) rest) way =
+    let far = word-below (address + n) way in below-word (address + k) (omega (arith, few, far))
+way-less k n few (Calling (stage ∷ todo) rest) way = refl
+way-less k n few (Calling [] rest) way = refl
+way-less k n few (Running g) way = refl
+way-less k n few m way = refl
+
+-- k words of it are gone, and k are left
+way-after : (k : ℕ) → k ≤ 64 → (m : Mode) → has_way 128 m ≡ true → has_way k (shifted_in k m) ≡ true
+way-after k few (Calling (ClientSend address count ∷ todo) rest) way =
+    let far = word-below (address + 128) way in below-word (address + k + k) (omega (arith, few, far))
+way-after k few (Calling (ClientReceive address count ∷ todo) rest) way =
+    let far = word-below (address + 128) way in below-word (address + k + k) (omega (arith, few, far))
+way-after k few (Calling (ServerSend address count ∷ todo) rest) way =
+    let far = word-below (address + 128) way in below-word (address + k + k) (omega (arith, few, far))
+way-after k few (Calling (ServerReceive address count ∷ todo) rest) way =
+    let far = word-below (address + 128) way in below-word (address + k + k) (omega (arith, few, far))
+way-after k few (Calling (stage ∷ todo) rest) way = refl
+way-after k few (Calling [] rest) way = refl
+way-after k few (Running g) way = refl
+way-after k few m way = refl
+
+counted-leaves : (count : ℕ) (f : Mode → Bool) → Leaves (CountMoved count) f
+unfolding Leaves edited
+counted-leaves count f None h = refl
+counted-leaves count f (Some (Thread_of t)) h = h
+counted-leaves count f (Some (Mutex locked)) h = h
+counted-leaves count f (Some b) h = h
+
+pub way-counted : (y : Path) (count n : ℕ) (v : World) (x : Path) → of_thread (has_way n) (v.body x) ≡ true →
+    of_thread (has_way n) ((apply (Alter y (CountMoved count)) v).body x) ≡ true
+way-counted y count n v x h = altered y (CountMoved count) (has_way n) (counted-leaves count (has_way n)) v x h
+
+-- whoever is shifted, it may be the same thread
+pub way-shifted : (y : Path) (k : ℕ) → k ≤ 64 → (v : World) (x : Path) → of_thread (has_way 128) (v.body x) ≡ true →
+    of_thread (has_way k) ((apply (Alter y (Shift k)) v).body x) ≡ true
+unfolding apply edited
+way-shifted y k few v x h = by (same_path x y)
+  where
+    of : (o : Option Body) → of_thread (has_way 128) o ≡ true → of_thread (has_way k) (option_map (edited (Shift k)) o) ≡ true
+    of None h = refl
+    of (Some (Thread_of t)) h = way-after k few t.mode h
+    of (Some (Mutex locked)) h = refl
+    of (Some b) h = refl
+
+    by : (t : Bool) → of_thread (has_way k) (if t then option_map (edited (Shift k)) (v.body x) else v.body x) ≡ true
+    by true = of (v.body x) h
+    by false = of_thread-mono (has_way 128) (has_way k) (way-less k 128 (omega (arith, few))) (v.body x) h

@@ -154,7 +154,7 @@ module _ (v : World) (talks : TalksPlaced v) (faults : FaultsPlaced v) where
       talk_of (Some (edited edit (Thread_of t))) ≡ Some new → is_placed v new.port new.peer ≡ true
   unfolding edited
   talk-edited x (SetTalk None) t there kept new h = cc
-  talk-edited x (SetTalk (Some talk)) t there kept new h = let same : talk ≡ new = cc in rw (← same) kept
+  talk-edited x (SetTalk (Some talk)) t there kept new h = let same : talk ≡ new = cc in rw (← same) kept.0
   talk-edited x (SetPeer peer) t there kept new h = changed-talk x t there (λ talk. record talk { peer = peer }) kept new h
   talk-edited x (CountMoved count) t there kept new h =
       changed-talk x t there (λ talk. record talk { moved = min MOST_MOVED (talk.moved + count) }) (λ talk at. talks x talk at) new h
@@ -186,7 +186,7 @@ module _ (v : World) (talks : TalksPlaced v) (faults : FaultsPlaced v) where
   fault-edited x (SetFault (Some fault)) t there kept new taker h is =
       let same : fault ≡ new = cc in
       let whom : fault.taker ≡ Some taker = rw same is in
-      rw (← same) (placed fault.taker whom kept)
+      rw (← same) (placed fault.taker whom kept.0)
     where
       placed : (o : Option Peer) → o ≡ Some taker → all_in (is_placed v fault.port) o ≡ true → is_placed v fault.port taker ≡ true
       placed o e h = rw e at h
@@ -411,7 +411,7 @@ module _ (v : World) (talks : TalksPlaced v) (faults : FaultsPlaced v) where
             rootless (Some b) u e f port h = cc
         by (k ∷ z) true e port h =
             let here = same_path_eq (LAST_PORTER_SLOT ∷ z) x e in
-            let none = last (rw here at h) k in
+            let none = (last (rw here at h)).0 k in
             let gone : is_port (v.body (k ∷ z)) ≡ false = rw (← here) at none in
             cc
 

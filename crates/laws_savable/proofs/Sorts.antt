@@ -24,7 +24,7 @@ user-before o t there before = rw there at before
 proceed-native : (v : World) (x : Path) (mode : Mode) (counter : ℕ) (b : Body) → v.body x ≡ Some b → IsKeptEdit v x (Proceed mode counter) →
     is_native (edited (Proceed mode counter) b) ≡ is_native b
 unfolding edited
-proceed-native v x mode counter (Thread_of t) there kept = kept.user ∙ sym (user-before (v.body x) t there kept.before)
+proceed-native v x mode counter (Thread_of t) there kept = kept.0.user ∙ sym (user-before (v.body x) t there kept.0.before)
 proceed-native v x mode counter (Mutex locked) there kept = refl
 proceed-native v x mode counter b there kept = refl
 

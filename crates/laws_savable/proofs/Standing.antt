@@ -109,22 +109,25 @@ leaf_by-first (suc n) w x = by (first_resident w x) refl (λ j. leaf_by-first n 
 
 pub last-kill : (w : World) → AllStand w → (x : ℕ) (space : Path) → nat_le x LAST_SCRATCH_SLOT ≡ true → IsLastKill w (leaf w (x ∷ space))
 unfolding leaf
-last-kill w stand x space named native k = by (leaf_by depth w (x ∷ space)) (leaf_by-first depth w (x ∷ space)) native
+last-kill w stand x space named native = by (leaf_by depth w (x ∷ space)) (leaf_by-first depth w (x ∷ space)) native
   where
-    none : (y z : Path) (j : ℕ) → y ≡ j ∷ z → ((i : ℕ) → i < j → w.body (i ∷ z) ≡ None) → j ≡ LAST_PORTER_SLOT →
+    none : (k : ℕ) (y z : Path) (j : ℕ) → y ≡ j ∷ z → ((i : ℕ) → i < j → w.body (i ∷ z) ≡ None) → j ≡ LAST_PORTER_SLOT →
         (t : Bool) → is_port (w.body (k ∷ z)) ≡ t → t ≡ false
-    none y z j at before last false e = refl
-    none y z j at before last true e =
+    none k y z j at before last false e = refl
+    none k y z j at before last true e =
         let low = leb-true k LAST_USER_SLOT (port-low w stand k z e) in
         let empty = before k (rw last (omega (arith, low))) in
         let no : is_port None ≡ true = rw empty at e in
         cc
 
-    by : (y : Path) → IsFirst w (x ∷ space) y → holds is_native (w.body y) ≡ true → is_port (w.body (k ∷ parent y)) ≡ false
+    by : (y : Path) → IsFirst w (x ∷ space) y → holds is_native (w.body y) ≡ true →
+        ((k : ℕ) → is_port (w.body (k ∷ parent y)) ≡ false) × ((k : ℕ) → k < LAST_PORTER_SLOT → w.body (k ∷ parent y) ≡ None)
     by y (Itself same) native =
         let last = native-last w stand x space (rw same at native) in
         let below = leb-true x LAST_SCRATCH_SLOT named in
         absurd (omega (arith, last, below))
     by y (Lowest j z at before) native =
-        let last = native-last w stand j z (rw at at native) in
-        rw at (none y z j at before last (is_port (w.body (k ∷ z))) refl)
+        let last = native-last w stand j z (rw at at native) in (
+          λ k. rw at (none k y z j at before last (is_port (w.body (k ∷ z))) refl),
+          λ k low. rw at (before k (rw last low)),
+        )

@@ -6,11 +6,19 @@ use Rattle.fk_model.specs.declared.stage.Stage.{Stage}
 use Rattle.fk_model.specs.declared.stage.Stage.TheVariants.{Create, Destroy, Rename, Search, Point, Clear, Locate, CountIn, GetState, SetState, GetPtr, SetPtr, SpaceHold, SpaceRelease, ThreadStop, ThreadGo, PageGive, PageTake, PageRead, PageNext, MutexLock, MutexTrylock, MutexUnlock, CondWait, CondAsleep, CondSignal, CondBroadcast, Connect, ClientReceive, ClientSend, ClientOver, Disconnect, Wait, ServerReceive, ServerSend, ServerOver, ServerEnd, FaultDone, LinkSet, LinkPark, FaultSet, FaultPark, HoldSet, SpaceMakeHeld}
 use Rattle.fk_model.specs.Calls.{code_of, arguments, argument_registers, with_values, without_values, with_answers, left_by, IsTodo, IsRest}
 use Rattle.fk_model.specs.World.{shifted}
+use Rattle.fk_model.specs.Whole.{is_word}
 use Rattle.fk_model.proofs.calls.CallLaws.{registers, sixteen}
 use Rattle.laws_whole.proofs.Lengths.{length-with_answers, length-left_by}
-use Rattle.laws_savable.proofs.Kept.{is_last_receive}
 
 -- ---- stages
+
+abbrev pub is_server_receive : Stage → Bool
+is_server_receive (ServerReceive into room) = true
+is_server_receive other = false
+
+abbrev pub is_last_receive : List Stage → Bool
+is_last_receive (stage ∷ []) = is_server_receive stage
+is_last_receive other = false
 
 -- stages that others may follow in a call
 abbrev pub opens : Stage → Bool
@@ -38,64 +46,65 @@ abbrev pub shifted_first : ℕ → List Stage → List Stage
 shifted_first k (stage ∷ todo) = shifted k stage ∷ todo
 shifted_first k [] = []
 
--- its tail is a call, its first stage may have others behind it, and it is a call after words were moved
+-- its tail is a call, its first stage may have others behind it, it is a call after words were moved, and its code is a word
 pub record GoesOn (todo : List Stage) : Type 0 where
   pub tail : tail_is todo ≡ true
   pub first : opens_first todo ≡ true
   pub shift : (k : ℕ) → nat_lt 0 (code_of (shifted_first k todo)) ≡ true
+  pub code : is_word (code_of todo) ≡ true
 
 pub has_rest : (todo : List Stage) → IsTodo todo → GoesOn todo
 unfolding code_of
-has_rest (Create s x kind ∷ []) is = record { tail = refl; first = refl; shift = λ k. refl }
-has_rest (Destroy s x ∷ []) is = record { tail = refl; first = refl; shift = λ k. refl }
-has_rest (Rename s x y ∷ []) is = record { tail = refl; first = refl; shift = λ k. refl }
-has_rest (Search s from ∷ []) is = record { tail = refl; first = refl; shift = λ k. refl }
-has_rest (Point s x s2 x2 ∷ []) is = record { tail = refl; first = refl; shift = λ k. refl }
-has_rest (Clear s x ∷ []) is = record { tail = refl; first = refl; shift = λ k. refl }
-has_rest (Locate reference s ∷ []) is = record { tail = refl; first = refl; shift = λ k. refl }
-has_rest (CountIn base s x ∷ []) is = record { tail = refl; first = refl; shift = λ k. refl }
-has_rest (GetState s x address ∷ []) is = record { tail = refl; first = refl; shift = λ k. refl }
-has_rest (SetState s x address ∷ []) is = record { tail = refl; first = refl; shift = λ k. refl }
-has_rest (GetPtr s x field reference ∷ []) is = record { tail = refl; first = refl; shift = λ k. refl }
-has_rest (SetPtr s x field reference ∷ []) is = record { tail = refl; first = refl; shift = λ k. refl }
-has_rest (SpaceHold s x ∷ []) is = record { tail = refl; first = refl; shift = λ k. refl }
-has_rest (SpaceRelease s x ∷ []) is = record { tail = refl; first = refl; shift = λ k. refl }
-has_rest (ThreadStop h ∷ []) is = record { tail = refl; first = refl; shift = λ k. refl }
-has_rest (ThreadGo h ∷ []) is = record { tail = refl; first = refl; shift = λ k. refl }
-has_rest (PageGive s page address ∷ []) is = record { tail = refl; first = refl; shift = λ k. refl }
-has_rest (PageTake s page address ∷ []) is = record { tail = refl; first = refl; shift = λ k. refl }
-has_rest (PageRead s page address ∷ []) is = record { tail = refl; first = refl; shift = λ k. refl }
-has_rest (PageNext s from ∷ []) is = record { tail = refl; first = refl; shift = λ k. refl }
-has_rest (MutexLock m ∷ []) is = record { tail = refl; first = refl; shift = λ k. refl }
-has_rest (MutexTrylock m ∷ []) is = record { tail = refl; first = refl; shift = λ k. refl }
-has_rest (MutexUnlock m ∷ []) is = record { tail = refl; first = refl; shift = λ k. refl }
-has_rest (CondWait c m ∷ []) is = record { tail = refl; first = refl; shift = λ k. refl }
-has_rest (CondAsleep c m ∷ []) is = record { tail = refl; first = refl; shift = λ k. refl }
-has_rest (CondSignal c ∷ []) is = record { tail = refl; first = refl; shift = λ k. refl }
-has_rest (CondBroadcast c ∷ []) is = record { tail = refl; first = refl; shift = λ k. refl }
-has_rest (Connect h ∷ []) is = record { tail = refl; first = refl; shift = λ k. refl }
-has_rest (Connect h ∷ ClientSend address count ∷ ClientOver ∷ ClientReceive into room ∷ []) is = record { tail = refl; first = refl; shift = λ k. refl }
-has_rest (ClientSend address count ∷ ClientOver ∷ ClientReceive into room ∷ []) is = record { tail = refl; first = refl; shift = λ k. refl }
-has_rest (ClientOver ∷ ClientReceive into room ∷ []) is = record { tail = refl; first = refl; shift = λ k. refl }
-has_rest (ClientReceive into room ∷ []) is = record { tail = refl; first = refl; shift = λ k. refl }
-has_rest (ClientSend address count ∷ []) is = record { tail = refl; first = refl; shift = λ k. refl }
-has_rest (ClientOver ∷ []) is = record { tail = refl; first = refl; shift = λ k. refl }
-has_rest (Disconnect ∷ []) is = record { tail = refl; first = refl; shift = λ k. refl }
-has_rest (Wait set ∷ []) is = record { tail = refl; first = refl; shift = λ k. refl }
-has_rest (Wait set ∷ ServerReceive into room ∷ []) is = record { tail = refl; first = refl; shift = λ k. refl }
-has_rest (ServerReceive into room ∷ []) is = record { tail = refl; first = refl; shift = λ k. refl }
-has_rest (ServerSend address count ∷ []) is = record { tail = refl; first = refl; shift = λ k. refl }
-has_rest (ServerOver ∷ []) is = record { tail = refl; first = refl; shift = λ k. refl }
-has_rest (ServerSend address count ∷ ServerOver ∷ ServerReceive into room ∷ []) is = record { tail = refl; first = refl; shift = λ k. refl }
-has_rest (ServerOver ∷ ServerReceive into room ∷ []) is = record { tail = refl; first = refl; shift = λ k. refl }
-has_rest (ServerEnd ∷ []) is = record { tail = refl; first = refl; shift = λ k. refl }
-has_rest (FaultDone ∷ []) is = record { tail = refl; first = refl; shift = λ k. refl }
-has_rest (LinkSet s x port server ∷ []) is = record { tail = refl; first = refl; shift = λ k. refl }
-has_rest (LinkPark s x port ∷ []) is = record { tail = refl; first = refl; shift = λ k. refl }
-has_rest (FaultSet s x port taker ∷ []) is = record { tail = refl; first = refl; shift = λ k. refl }
-has_rest (FaultPark s x port taken ∷ []) is = record { tail = refl; first = refl; shift = λ k. refl }
-has_rest (HoldSet s x thread ∷ []) is = record { tail = refl; first = refl; shift = λ k. refl }
-has_rest (SpaceMakeHeld x ∷ []) is = record { tail = refl; first = refl; shift = λ k. refl }
+has_rest (Create s x kind ∷ []) is = record { tail = refl; first = refl; shift = λ k. refl; code = refl }
+has_rest (Destroy s x ∷ []) is = record { tail = refl; first = refl; shift = λ k. refl; code = refl }
+has_rest (Rename s x y ∷ []) is = record { tail = refl; first = refl; shift = λ k. refl; code = refl }
+has_rest (Search s from ∷ []) is = record { tail = refl; first = refl; shift = λ k. refl; code = refl }
+has_rest (Point s x s2 x2 ∷ []) is = record { tail = refl; first = refl; shift = λ k. refl; code = refl }
+has_rest (Clear s x ∷ []) is = record { tail = refl; first = refl; shift = λ k. refl; code = refl }
+has_rest (Locate reference s ∷ []) is = record { tail = refl; first = refl; shift = λ k. refl; code = refl }
+has_rest (CountIn base s x ∷ []) is = record { tail = refl; first = refl; shift = λ k. refl; code = refl }
+has_rest (GetState s x address ∷ []) is = record { tail = refl; first = refl; shift = λ k. refl; code = refl }
+has_rest (SetState s x address ∷ []) is = record { tail = refl; first = refl; shift = λ k. refl; code = refl }
+has_rest (GetPtr s x field reference ∷ []) is = record { tail = refl; first = refl; shift = λ k. refl; code = refl }
+has_rest (SetPtr s x field reference ∷ []) is = record { tail = refl; first = refl; shift = λ k. refl; code = refl }
+has_rest (SpaceHold s x ∷ []) is = record { tail = refl; first = refl; shift = λ k. refl; code = refl }
+has_rest (SpaceRelease s x ∷ []) is = record { tail = refl; first = refl; shift = λ k. refl; code = refl }
+has_rest (ThreadStop h ∷ []) is = record { tail = refl; first = refl; shift = λ k. refl; code = refl }
+has_rest (ThreadGo h ∷ []) is = record { tail = refl; first = refl; shift = λ k. refl; code = refl }
+has_rest (PageGive s page address ∷ []) is = record { tail = refl; first = refl; shift = λ k. refl; code = refl }
+has_rest (PageTake s page address ∷ []) is = record { tail = refl; first = refl; shift = λ k. refl; code = refl }
+has_rest (PageRead s page address ∷ []) is = record { tail = refl; first = refl; shift = λ k. refl; code = refl }
+has_rest (PageNext s from ∷ []) is = record { tail = refl; first = refl; shift = λ k. refl; code = refl }
+has_rest (MutexLock m ∷ []) is = record { tail = refl; first = refl; shift = λ k. refl; code = refl }
+has_rest (MutexTrylock m ∷ []) is = record { tail = refl; first = refl; shift = λ k. refl; code = refl }
+has_rest (MutexUnlock m ∷ []) is = record { tail = refl; first = refl; shift = λ k. refl; code = refl }
+has_rest (CondWait c m ∷ []) is = record { tail = refl; first = refl; shift = λ k. refl; code = refl }
+has_rest (CondAsleep c m ∷ []) is = record { tail = refl; first = refl; shift = λ k. refl; code = refl }
+has_rest (CondSignal c ∷ []) is = record { tail = refl; first = refl; shift = λ k. refl; code = refl }
+has_rest (CondBroadcast c ∷ []) is = record { tail = refl; first = refl; shift = λ k. refl; code = refl }
+has_rest (Connect h ∷ []) is = record { tail = refl; first = refl; shift = λ k. refl; code = refl }
+has_rest (Connect h ∷ ClientSend address count ∷ ClientOver ∷ ClientReceive into room ∷ []) is = record { tail = refl; first = refl; shift = λ k. refl; code = refl }
+has_rest (ClientSend address count ∷ ClientOver ∷ ClientReceive into room ∷ []) is = record { tail = refl; first = refl; shift = λ k. refl; code = refl }
+has_rest (ClientOver ∷ ClientReceive into room ∷ []) is = record { tail = refl; first = refl; shift = λ k. refl; code = refl }
+has_rest (ClientReceive into room ∷ []) is = record { tail = refl; first = refl; shift = λ k. refl; code = refl }
+has_rest (ClientSend address count ∷ []) is = record { tail = refl; first = refl; shift = λ k. refl; code = refl }
+has_rest (ClientOver ∷ []) is = record { tail = refl; first = refl; shift = λ k. refl; code = refl }
+has_rest (Disconnect ∷ []) is = record { tail = refl; first = refl; shift = λ k. refl; code = refl }
+has_rest (Wait set ∷ []) is = record { tail = refl; first = refl; shift = λ k. refl; code = refl }
+has_rest (Wait set ∷ ServerReceive into room ∷ []) is = record { tail = refl; first = refl; shift = λ k. refl; code = refl }
+has_rest (ServerReceive into room ∷ []) is = record { tail = refl; first = refl; shift = λ k. refl; code = refl }
+has_rest (ServerSend address count ∷ []) is = record { tail = refl; first = refl; shift = λ k. refl; code = refl }
+has_rest (ServerOver ∷ []) is = record { tail = refl; first = refl; shift = λ k. refl; code = refl }
+has_rest (ServerSend address count ∷ ServerOver ∷ ServerReceive into room ∷ []) is = record { tail = refl; first = refl; shift = λ k. refl; code = refl }
+has_rest (ServerOver ∷ ServerReceive into room ∷ []) is = record { tail = refl; first = refl; shift = λ k. refl; code = refl }
+has_rest (ServerEnd ∷ []) is = record { tail = refl; first = refl; shift = λ k. refl; code = refl }
+has_rest (FaultDone ∷ []) is = record { tail = refl; first = refl; shift = λ k. refl; code = refl }
+has_rest (LinkSet s x port server ∷ []) is = record { tail = refl; first = refl; shift = λ k. refl; code = refl }
+has_rest (LinkPark s x port ∷ []) is = record { tail = refl; first = refl; shift = λ k. refl; code = refl }
+has_rest (FaultSet s x port taker ∷ []) is = record { tail = refl; first = refl; shift = λ k. refl; code = refl }
+has_rest (FaultPark s x port taken ∷ []) is = record { tail = refl; first = refl; shift = λ k. refl; code = refl }
+has_rest (HoldSet s x thread ∷ []) is = record { tail = refl; first = refl; shift = λ k. refl; code = refl }
+has_rest (SpaceMakeHeld x ∷ []) is = record { tail = refl; first = refl; shift = λ k. refl; code = refl }
 has_rest other is = absurd (false≢true is)
 
 -- ---- registers that are made 0

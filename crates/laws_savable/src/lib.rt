@@ -8,12 +8,13 @@
 ghost use Rattle.laws_savable.specs.Savable.{DueMoveKeepsSavable, RunKeepsSavable, UsersMoveKeepsSavable};
 
 /// A move that is due keeps a whole world savable, where a porter's call gives what it owes: users'
-/// objects in users' slots, and a holder outside of what it is to hold.
+/// objects in users' slots, references in scratch of its own space or of one that it holds there, and
+/// none left where the hold is given up; and a holder outside of what it is to hold.
 pub fn a_due_move_keeps_a_savable_world()
     ensures { DueMoveKeepsSavable }
 {}
 
-/// Every move of a user or a native server keeps one savable.
+/// Every move of a user or a native server keeps one savable, where what the server gives is words.
 pub fn a_users_move_keeps_a_savable_world()
     ensures { UsersMoveKeepsSavable }
 {}

@@ -1,6 +1,6 @@
 -- What a due move comes to leaves pages and registers full.
-use Rattle.std.proofs.Common.{◌≡◌, ℕ, Bool, true, false, if◌then◌else◌, ◌&&◌, length, List, ◌∷◌, take, Option, Some, None, refl}
-use Rattle.std.proofs.lemmas.Bool.{eqb-true}
+use Rattle.std.proofs.Common.{◌≡◌, ℕ, Bool, true, false, if◌then◌else◌, ◌&&◌, ◌==◌, length, List, ◌∷◌, take, Option, Some, None, refl}
+use Rattle.std.proofs.lemmas.Bool.{and_parts, eqb-true}
 use Rattle.fk_model.specs.declared.limits.TheConstants.{PAGE_WORDS}
 use Rattle.fk_model.specs.declared.moves.Ask.{Ask}
 use Rattle.fk_model.specs.declared.moves.Ask.TheVariants as asks
@@ -17,7 +17,7 @@ use Rattle.fk_model.specs.Outcomes.Outcome.{Refused, Waits, Goes}
 use Rattle.fk_model.specs.LinkRows.{user_at}
 use Rattle.fk_model.specs.Holds.{is_free, is_unheld, is_porter}
 use Rattle.fk_model.specs.Moves.{stage_row, is_denied, allowed_row, chooses, with_pick, closed, call_row, goes_on, user_move, porter_at, porter_move, outcome}
-use Rattle.fk_model.specs.Whole.{HasFullPages}
+use Rattle.fk_model.specs.Whole.{are_words, HasFullPages}
 use Rattle.laws_whole.specs.Runnable.{HasRegisters, has_all_words}
 use Rattle.laws_whole.proofs.Outcomes.{FullOutcome, refused, waits, goes, full-when}
 use Rattle.laws_whole.proofs.Rows.{GivesAll, run_row-full, mutex_lock-full, mutex_trylock-full, mutex_unlock-full, cond_wait-full, cond_asleep-full, cond_signal-full, cond_broadcast-full, send-full, receive-full, over-full, thread_stop-full, thread_go-full, page_give-full, page_take-full, page_read-full, page_next-full}
@@ -137,7 +137,7 @@ pub outcome-full : (w : World) (x : Path) (pick : Option Path) (ask : Ask) → H
 unfolding outcome
 outcome-full w x pick asks.Run pages registers all = user_move-full w x pick _ pages registers refl
 outcome-full w x pick (asks.Call stage words) pages registers all =
-    porter_move-full w x pick stage words _ pages registers (eqb-true (length words) PAGE_WORDS all)
+    porter_move-full w x pick stage words _ pages registers (eqb-true (length words) PAGE_WORDS (and_parts (length words == PAGE_WORDS) (are_words words) all).0)
 outcome-full w x pick asks.Accept pages registers all = accept_row-full w x pick
 outcome-full w x pick (asks.Give words len) pages registers all = with_pick-full false pick _ (give_row-full w pages x (take len words))
 outcome-full w x pick asks.Over pages registers all = with_pick-full false pick _ (over_row-full w x)

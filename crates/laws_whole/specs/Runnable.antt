@@ -1,6 +1,6 @@
 -- What a world keeps while a machine runs: it is whole, and each thread has its registers. A run supplies this at each of
 -- its moves, from its beginning alone.
-use Rattle.std.specs.Prelude.{◌≡◌, ℕ, ◌+◌, ◌<◌, ◌≤◌, Bool, true, false, ◌==◌, List, [], ◌∷◌, length, Some}
+use Rattle.std.specs.Prelude.{◌≡◌, ℕ, ◌+◌, ◌<◌, ◌≤◌, Bool, true, false, ◌&&◌, ◌==◌, List, [], ◌∷◌, length, Some}
 use Rattle.fk_model.specs.declared.limits.TheConstants.{PAGE_WORDS}
 use Rattle.fk_model.specs.declared.moves.Ask.{Ask}
 use Rattle.fk_model.specs.declared.moves.Ask.TheVariants as asks
@@ -13,7 +13,7 @@ use Rattle.fk_model.specs.Outcomes.{listed}
 use Rattle.fk_model.specs.Moves.{outcome}
 use Rattle.fk_model.specs.Runs.{Event, after, run}
 use Rattle.fk_model.specs.Valid.{IsValid, birth_at, is_fit}
-use Rattle.fk_model.specs.Whole.{IsWhole, IsSavable}
+use Rattle.fk_model.specs.Whole.{are_words, IsWhole, IsSavable}
 
 -- every thread has 16 registers
 abbrev pub HasRegisters : World → Type 0
@@ -23,12 +23,13 @@ pub record IsRunnable (w : World) : Type 0 where
   pub whole : IsWhole w
   pub registers : HasRegisters w
 
--- a porter gives 64 words
+-- a porter gives 64 words, and a native server gives words
 abbrev pub has_all_words : Ask → Bool
-has_all_words (asks.Call stage words) = length words == PAGE_WORDS
+has_all_words (asks.Call stage words) = length words == PAGE_WORDS && are_words words
+has_all_words (asks.Give words len) = are_words words
 has_all_words other = true
 
--- a move that a machine may make: it is fit, and a porter gives 64 words
+-- a move that a machine may make: it is fit, and what a porter or a native server gives is words, a porter's 64
 pub record IsDue (w : World) (e : Event) : Type 0 where
   pub fit : is_fit w e.mover e.ask ≡ true
   pub words : has_all_words e.ask ≡ true

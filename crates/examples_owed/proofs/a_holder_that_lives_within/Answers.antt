@@ -15,7 +15,7 @@ returns-clause-due c = record { fit = refl; words = refl }
 
 pub returns-clause-owes : goal.returns-clause-owes
 unfolding premises
-returns-clause-owes c = λ owes. let h = owes [] (within 5) refl refl in cc
+returns-clause-owes c = λ owes. let h = owes.0 [] (within 5) refl refl in cc
 
 pub returns-clause-after : goal.returns-clause-after
 unfolding premises

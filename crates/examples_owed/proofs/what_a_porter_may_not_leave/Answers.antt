@@ -10,7 +10,7 @@ use Rattle.examples_owed.proofs.what_a_porter_may_not_leave.Goals as goal
 
 pub returns-clause-mutex_owes : goal.returns-clause-mutex_owes
 unfolding premises
-returns-clause-mutex_owes c = λ owes. cc
+returns-clause-mutex_owes c = λ owes. let h = owes [] refl in cc
 
 pub returns-clause-mutex : goal.returns-clause-mutex
 unfolding premises

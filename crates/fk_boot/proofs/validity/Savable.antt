@@ -1,8 +1,8 @@
 -- The first world of a scenario is whole, and can be saved.
-use Rattle.std.proofs.Common.{◌≡◌, ℕ, ◌-◌, ◌*◌, ◌≤◌, Bool, true, false, cond, if◌then◌else◌, ◌&&◌, ◌==◌, nat_lt, nat_le, List, [], ◌∷◌, ◌++◌, length, take, drop, replicate, reverse, map, get_or, Option, Some, None, refl, ap, ◌∙◌, arith}
+use Rattle.std.proofs.Common.{◌≡◌, ℕ, zero, suc, ◌-◌, ◌*◌, ◌≤◌, Bool, true, false, cond, if◌then◌else◌, not, ◌&&◌, ◌==◌, nat_lt, nat_le, List, [], ◌∷◌, ◌++◌, length, take, drop, replicate, reverse, map, get_or, Option, Some, None, refl, ap, ◌∙◌, arith}
 use Rattle.std.proofs.lemmas.List.Elements.{All-get_or}
-use Rattle.std.specs.List.{flat_map}
-use Rattle.std.proofs.lemmas.Bool.{le-leb}
+use Rattle.std.specs.List.{flat_map, list_all, slice_get}
+use Rattle.std.proofs.lemmas.Bool.{and_parts, le-leb}
 use Rattle.std.proofs.lemmas.List.{length-append, length-replicate, length-take}
 use Rattle.std.proofs.Math.Nat.{min-le_left}
 use Rattle.fk_model.specs.declared.limits.TheConstants.{LAST_USER_SLOT, LAST_PORTER_SLOT, PAGE_WORDS}
@@ -15,9 +15,10 @@ use Rattle.fk_model.specs.World.Edit.{SetPointer, SetMember}
 use Rattle.fk_model.specs.Searches.{slots, depth, talk_at, fault_at}
 use Rattle.fk_model.specs.Holds.{holder_of}
 use Rattle.fk_model.specs.StateRows.{is_native}
-use Rattle.fk_model.specs.Whole.{stands_in, HasFullPages, IsSavable}
+use Rattle.fk_model.specs.Whole.{stands_in, is_scratch_slot, are_words, HasFullPages, IsSavable}
 use Rattle.laws_whole.specs.Runnable.{IsRunnable}
 use Rattle.laws_whole.proofs.Laws.{savable_runnable}
+use Rattle.laws_savable.proofs.Words.{AreWords, below-word, all-words, words-append, words-take, words-drop, words-zeros}
 use Rattle.laws_savable.proofs.Kept.{IsTidy, IsKept, AreKept}
 use Rattle.laws_savable.proofs.Standing.{low-stands}
 use Rattle.laws_savable.proofs.Laws.{savable-all}
@@ -32,7 +33,8 @@ use Rattle.fk_scenario_sections.specs.Kept.{EachAfter, KeepsSpace, KeepsObject}
 use Rattle.fk_scenario.specs.Kept.{KeepsScenario}
 use Rattle.fk_store.specs.World.{first_world}
 use Rattle.fk_scenario.specs.Servers.{has_key}
-use Rattle.fk_boot.specs.FirstWorld.{page_words, zero_pages, program_page, words_of_program, space_itself, space_changes, first_body, object_changes, aims, points_to, belongs_to, aim_changes, porter, porter_changes, served_ports, boot_changes, booted}
+use Rattle.fk_boot.specs.Words.{has_words, HasWords}
+use Rattle.fk_boot.specs.FirstWorld.{words_in, page_words, zero_pages, program_page, words_of_program, space_itself, space_changes, first_body, object_changes, aims, points_to, belongs_to, aim_changes, porter, porter_changes, served_ports, boot_changes, booted}
 use Rattle.fk_boot.proofs.Changes.{apply_all-append}
 use Rattle.fk_boot.proofs.MadeSoFar.{first-stands}
 use Rattle.fk_boot.proofs.Walks.{last}
@@ -45,12 +47,12 @@ IsFirstEdit (SetPointer to) = Unit {0}
 IsFirstEdit (SetMember set) = Unit {0}
 IsFirstEdit other = ⊥
 
--- users' objects in users' slots, spaces that nobody holds, full pages
+-- users' objects in users' slots, spaces that nobody holds, full pages of words
 abbrev IsFirst : Change → Type 0
 IsFirst (Alter x edit) = IsFirstEdit edit
-IsFirst (Make x body) = (stands_in (slot_of x) body ≡ true) × IsTidy body
+IsFirst (Make x body) = (stands_in (slot_of x) body ≡ true) × IsTidy body × (is_scratch_slot (slot_of x) ≡ false)
 IsFirst (MakeSpace x holder) = (nat_le (slot_of x) LAST_USER_SLOT ≡ true) × (holder ≡ None)
-IsFirst (PutPage space page words) = length words ≡ PAGE_WORDS
+IsFirst (PutPage space page words) = (length words ≡ PAGE_WORDS) × AreWords words
 IsFirst other = ⊥
 
 abbrev AreFirst : List Change → Type 0
@@ -61,14 +63,18 @@ first-then : (cs ds : List Change) → AreFirst cs → AreFirst ds → AreFirst 
 first-then [] ds first after = after
 first-then (c ∷ cs) ds first after = (first.0, first-then cs ds first.1 after)
 
+-- a user's slot is none of scratch
+no-scratch : (k : ℕ) → nat_le k LAST_USER_SLOT ≡ true → is_scratch_slot k ≡ false
+no-scratch k low = rw low refl
+
 kept-first : (c : Change) (v : World) → IsFirst c → IsKept v c
 kept-first (Alter x (SetPointer to)) v first = tt
 kept-first (Alter x (SetMember set)) v first = tt
 kept-first (Alter x edit) v first = absurd first
-kept-first (Make x body) v first = first
+kept-first (Make x body) v first = (first.0, first.1, λ scratch. let no = first.2 in cc)
 kept-first (MakeSpace x None) v first = (first.0, tt)
 kept-first (MakeSpace x (Some holder)) v first = let never = first.1 in cc
-kept-first (PutPage space page words) v first = tt
+kept-first (PutPage space page words) v first = first.1
 kept-first c v first = absurd first
 
 all-kept : (cs : List Change) (v : World) → AreFirst cs → AreKept v cs
@@ -80,7 +86,7 @@ unfolding apply
 put-full v full (PutPage space page new) first s g words h = by (same_path s space && g == page) h
   where
     by : (t : Bool) → (cond t (Some new) (v.page s g)) ≡ Some words → length words ≡ PAGE_WORDS
-    by true h = let same : new ≡ words = cc in rw (← same) first
+    by true h = let same : new ≡ words = cc in rw (← same) first.0
     by false h = full s g words h
 put-full v full (Alter x edit) first s g words h = full s g words h
 put-full v full (Make x body) first s g words h = full s g words h
@@ -101,21 +107,42 @@ length-page words few =
 
 zeros-first : (space : Path) (pages : List ℕ) → AreFirst (zero_pages space pages)
 zeros-first space [] = tt
-zeros-first space (page ∷ pages) = (length-page [] (omega arith), zeros-first space pages)
+zeros-first space (page ∷ pages) = ((length-page [] (omega arith), words-zeros 64), zeros-first space pages)
+
+page-all : (words : List ℕ) → AreWords words → AreWords (page_words words)
+page-all words all = words-append words (replicate (PAGE_WORDS - length words) 0) all (words-zeros (PAGE_WORDS - length words))
 
 length-first : (k : ℕ) (words : List ℕ) → length (take k words) ≤ k
 length-first k words = let e = length-take k words in let least = min-le_left k (length words) in omega (arith, e, least)
 
-part-first : (space : Path) (words : List ℕ) (page : ℕ) → AreFirst (program_page space words page)
-part-first space words page = by (nat_lt (page * PAGE_WORDS) (length words))
+part-first : (space : Path) (words : List ℕ) (page : ℕ) → AreWords words → AreFirst (program_page space words page)
+part-first space words page all = by (nat_lt (page * PAGE_WORDS) (length words))
   where
     by : (t : Bool) → AreFirst (cond t (PutPage space page (page_words (take PAGE_WORDS (drop (page * PAGE_WORDS) words))) ∷ []) [])
-    by true = (length-page (take PAGE_WORDS (drop (page * PAGE_WORDS) words)) (length-first PAGE_WORDS (drop (page * PAGE_WORDS) words)), tt)
+    by true = (
+      (
+        length-page (take PAGE_WORDS (drop (page * PAGE_WORDS) words)) (length-first PAGE_WORDS (drop (page * PAGE_WORDS) words)),
+        page-all _ (words-take PAGE_WORDS (drop (page * PAGE_WORDS) words) (words-drop (page * PAGE_WORDS) words all)),
+      ),
+      tt,
+    )
     by false = tt
 
-parts-first : (space : Path) (words pages : List ℕ) → AreFirst (flat_map (program_page space words) pages)
-parts-first space words [] = tt
-parts-first space words (page ∷ pages) = first-then (program_page space words page) _ (part-first space words page) (parts-first space words pages)
+parts-first : (space : Path) (words pages : List ℕ) → AreWords words → AreFirst (flat_map (program_page space words) pages)
+parts-first space words [] all = tt
+parts-first space words (page ∷ pages) all =
+    first-then (program_page space words page) _ (part-first space words page all) (parts-first space words pages all)
+
+-- the words of the program that a space names
+program-all : (programs : List Program) (index : Option ℕ) → list_all (λ (p : Program). are_words p.words) programs ≡ true →
+    AreWords (words_of_program programs index)
+program-all programs None all = tt
+program-all programs (Some index) all = by programs index all
+  where
+    by : (ps : List Program) (i : ℕ) → list_all (λ (p : Program). are_words p.words) ps ≡ true → AreWords (words_in (slice_get ps i))
+    by [] i all = tt
+    by (p ∷ ps) zero all = all-words p.words (and_parts (are_words p.words) _ all).0
+    by (p ∷ ps) (suc i) all = by ps i (and_parts (are_words p.words) _ all).1
 
 -- the last slot of a path is a user's
 low-slot : (path : List ℕ) → 1 ≤ length path → AreSlots path → nat_le (slot_of (reverse path)) LAST_USER_SLOT ≡ true
@@ -130,17 +157,18 @@ itself-first (k ∷ path) few =
     let ends = last (k ∷ path) (omega arith) in
     rw ends ((rw ends at low, refl), tt)
 
-space-first : (programs : List Program) (before : List SpaceEntry) (s : SpaceEntry) → KeepsSpace programs before s → AreFirst (space_changes programs s)
-space-first programs before s keeps =
+space-first : (programs : List Program) (before : List SpaceEntry) (s : SpaceEntry) → list_all (λ (p : Program). are_words p.words) programs ≡ true →
+    KeepsSpace programs before s → AreFirst (space_changes programs s)
+space-first programs before s all keeps =
     first-then (space_itself (reverse s.path)) _ (itself-first s.path keeps.slots)
     (first-then (zero_pages (reverse s.path) s.pages) _ (zeros-first (reverse s.path) s.pages)
-    (parts-first (reverse s.path) (words_of_program programs s.program) (slots 256)))
+    (parts-first (reverse s.path) (words_of_program programs s.program) (slots 256) (program-all programs s.program all)))
 
-spaces-first : (programs : List Program) (before ss : List SpaceEntry) → EachAfter (KeepsSpace programs) before ss →
-    AreFirst (flat_map (space_changes programs) ss)
-spaces-first programs before [] each = tt
-spaces-first programs before (s ∷ ss) each =
-    first-then (space_changes programs s) _ (space-first programs before s each.0) (spaces-first programs (before ++ s ∷ []) ss each.1)
+spaces-first : (programs : List Program) (before ss : List SpaceEntry) → list_all (λ (p : Program). are_words p.words) programs ≡ true →
+    EachAfter (KeepsSpace programs) before ss → AreFirst (flat_map (space_changes programs) ss)
+spaces-first programs before [] all each = tt
+spaces-first programs before (s ∷ ss) all each =
+    first-then (space_changes programs s) _ (space-first programs before s all each.0) (spaces-first programs (before ++ s ∷ []) ss all each.1)
 
 -- ---- objects, and where they lead
 
@@ -158,25 +186,40 @@ length-registers : (regs : List ℕ) → length regs ≤ 16 → length (regs ++ 
 length-registers regs few =
     let both = length-append regs (replicate (16 - length regs) 0) in omega (arith, few, both, length-replicate {A = ℕ} (16 - length regs) 0)
 
-first-tidy : (served : Bool) (spec : Spec) → IsSpecInRange spec → IsTidy (first_body served spec)
-first-tidy served (specs.Thread entry regs stops) range = record { shaped = length-registers regs range.1; stops = range.2; code = tt }
-first-tidy served (specs.Mutex locked) range = tt
-first-tidy served specs.Cond range = tt
-first-tidy served specs.Portset range = tt
-first-tidy served (specs.Mapping region first count offset write) range = tt
-first-tidy served (specs.Region first count write keeper) range = tt
-first-tidy served (specs.Port set) range = tt
-first-tidy served (specs.Reference to) range = tt
+first-tidy : (served : Bool) (spec : Spec) → IsSpecInRange spec → has_words spec ≡ true → IsTidy (first_body served spec)
+first-tidy served (specs.Thread entry regs stops) range all =
+    let low = range.0 in
+    record {
+      shaped = length-registers regs range.1;
+      stops = range.2;
+      code = tt;
+      numbers = words-append regs (replicate (16 - length regs) 0) (all-words regs all) (words-zeros (16 - length regs));
+      counter = below-word entry (omega (arith, low));
+      moved = tt;
+      missing = tt;
+    }
+first-tidy served (specs.Mutex locked) range all = tt
+first-tidy served specs.Cond range all = tt
+first-tidy served specs.Portset range all = tt
+first-tidy served (specs.Mapping region first count offset write) range all = tt
+first-tidy served (specs.Region first count write keeper) range all = tt
+first-tidy served (specs.Port set) range all = tt
+first-tidy served (specs.Reference to) range all = tt
 
-objects-first : (ports : List (List ℕ)) (spaces : List SpaceEntry) (before os : List ObjectEntry) → EachAfter (KeepsObject spaces) before os → AreFirst (flat_map (object_changes ports) os)
-objects-first ports spaces before [] each = tt
-objects-first ports spaces before (o ∷ os) each =
-    let keeps = each.0 in (
+objects-first : (ports : List (List ℕ)) (spaces : List SpaceEntry) (before os : List ObjectEntry) → list_all (λ (o : ObjectEntry). has_words o.spec) os ≡ true →
+    EachAfter (KeepsObject spaces) before os → AreFirst (flat_map (object_changes ports) os)
+objects-first ports spaces before [] all each = tt
+objects-first ports spaces before (o ∷ os) all each =
+    let keeps = each.0 in
+    let both = and_parts (has_words o.spec) (list_all (λ (o : ObjectEntry). has_words o.spec) os) all in
+    let low = low-slot o.path keeps.inside keeps.slots in
+    let served = has_key ports o.path in (
       (
-        low-stands (slot_of (reverse o.path)) (first_body (has_key ports o.path) o.spec) (low-slot o.path keeps.inside keeps.slots) (first-native (has_key ports o.path) o.spec),
-        first-tidy (has_key ports o.path) o.spec keeps.in_range,
+        low-stands (slot_of (reverse o.path)) (first_body served o.spec) low (first-native served o.spec),
+        first-tidy served o.spec keeps.in_range both.0,
+        no-scratch (slot_of (reverse o.path)) low,
       ),
-      objects-first ports spaces (before ++ o ∷ []) os each.1,
+      objects-first ports spaces (before ++ o ∷ []) os both.1 each.1,
     )
 
 points-first : (x : Path) (to : Option (List ℕ)) → AreFirst (map (Alter x) (points_to to))
@@ -206,14 +249,29 @@ porters-first [] = tt
 porters-first (s ∷ ss) = first-then (porter_changes s) _ (by s.nester) (porters-first ss)
   where
     by : (nests : Bool) → AreFirst (if nests then Make (LAST_PORTER_SLOT ∷ reverse s.path) porter ∷ [] else [])
-    by true = ((refl, record { shaped = refl; stops = omega arith; code = tt }), tt)
+    by true = (
+      (
+        refl,
+        record {
+          shaped = refl;
+          stops = omega arith;
+          code = tt;
+          numbers = words-zeros 16;
+          counter = refl;
+          moved = tt;
+          missing = tt;
+        },
+        refl,
+      ),
+      tt,
+    )
     by false = tt
 
-boot-first : (s : Scenario) → KeepsScenario s → AreFirst (boot_changes s)
-boot-first s keeps =
+boot-first : (s : Scenario) → KeepsScenario s → HasWords s → AreFirst (boot_changes s)
+boot-first s keeps words =
     let ports = served_ports s.servers in
-    first-then (flat_map (space_changes s.programs) s.spaces) _ (spaces-first s.programs [] s.spaces keeps.spaces)
-    (first-then (flat_map (object_changes ports) s.objects) _ (objects-first ports s.spaces [] s.objects keeps.objects)
+    first-then (flat_map (space_changes s.programs) s.spaces) _ (spaces-first s.programs [] s.spaces words.programs keeps.spaces)
+    (first-then (flat_map (object_changes ports) s.objects) _ (objects-first ports s.spaces [] s.objects words.objects keeps.objects)
     (first-then (flat_map aim_changes s.objects) _ (aims-first s.objects) (porters-first s.spaces)))
 
 -- ---- the root alone
@@ -228,6 +286,14 @@ first-savable = record {
   talks_placed = λ x talk h. absurd (talkless x talk h);
   faults_placed = λ x fault taker h is. absurd (faultless x fault h);
   slots_kept = λ k x b h. absurd (cc);
+  scratch_kept = λ k x scratch h. absurd (cc);
+  numbers = record {
+    registers = λ x t h. absurd (threadless x t h);
+    counters = λ x t h. absurd (threadless x t h);
+    moved = λ x talk h. absurd (talkless x talk h);
+    missing = λ x fault h. absurd (faultless x fault h);
+    pages = λ s page words h. absurd (cc);
+  };
 }
   where
     threadless : (x : Path) (t : Thread) → and_then thread_of (first_world.body x) ≡ Some t → ⊥
@@ -296,15 +362,16 @@ booted-few s keeps =
 none-full : HasFullPages first_world
 none-full s page words h = absurd (cc)
 
-booted-full : (s : Scenario) → KeepsScenario s → HasFullPages (booted s)
+booted-full : (s : Scenario) → KeepsScenario s → HasWords s → HasFullPages (booted s)
 unfolding booted
-booted-full s keeps = all-full (boot_changes s) first_world none-full (boot-first s keeps)
+booted-full s keeps words = all-full (boot_changes s) first_world none-full (boot-first s keeps words)
 
-pub booted-savable : (s : Scenario) → KeepsScenario s → IsSavable (booted s)
+pub booted-savable : (s : Scenario) → KeepsScenario s → HasWords s → IsSavable (booted s)
 unfolding booted
-booted-savable s keeps =
-    savable-all (boot_changes s) first_world first-consistent first-savable (boot-safe s keeps) (all-kept (boot_changes s) first_world (boot-first s keeps))
+booted-savable s keeps words =
+    savable-all (boot_changes s) first_world first-consistent first-savable (boot-safe s keeps)
+    (all-kept (boot_changes s) first_world (boot-first s keeps words))
 
-pub booted-runnable : (s : Scenario) → KeepsScenario s → IsRunnable (booted s)
-booted-runnable s keeps = savable_runnable (booted s)
-    (record { valid = booted-valid s keeps; few = booted-few s keeps; full = booted-full s keeps }) (booted-savable s keeps)
+pub booted-runnable : (s : Scenario) → KeepsScenario s → HasWords s → IsRunnable (booted s)
+booted-runnable s keeps words = savable_runnable (booted s)
+    (record { valid = booted-valid s keeps; few = booted-few s keeps; full = booted-full s keeps words }) (booted-savable s keeps words)

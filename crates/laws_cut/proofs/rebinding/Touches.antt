@@ -151,9 +151,11 @@ module _ {see : Ptr → Ptr} {small c : World} (like : IsLikeness [] see small c
   given_here : (k : ℕ) (q : Path) (words : List ℕ) (receive : ℕ × ℕ) → Alike (given_to small (k ∷ q) words receive) (given_to c (k ∷ (q ++ [])) words receive)
   given_here k q words receive =
       same_test (ltb 0 (length words) && leb (length words) (min BLOCK_WORDS (min receive.1 (to_page_end receive.0)))) _ _
-      (their_page-like like q receive.0 (given_at small (k ∷ q) words receive.0) (given_at c (k ∷ (q ++ [])) words receive.0)
-      (λ s page. rw (words_at-like like s page) (Both (PutsPage s page (overwritten (words_at c (s ++ []) page) (receive.0 % PAGE_WORDS) words))
-      (Both (Alters k q _ (CountMoved (length words)) refl tt) (Both (Alters k q _ (Shift (length words)) refl tt) Empty)))))
+      (their_page-like like q receive.0 (λ s page. when (is_unheld small s) (given_at small (k ∷ q) words receive.0 s page))
+      (λ s page. when (is_unheld c s) (given_at c (k ∷ (q ++ [])) words receive.0 s page))
+      (λ s page. when_so (is_unheld small s) (is_unheld c (s ++ [])) _ _ (is_unheld-like like (top_free c world) s)
+      (λ on. rw (words_at-like like s page) (Both (PutsPage s page (overwritten (words_at c (s ++ []) page) (receive.0 % PAGE_WORDS) words))
+      (Both (Alters k q _ (CountMoved (length words)) refl tt) (Both (Alters k q _ (Shift (length words)) refl tt) Empty))))))
 
   left_here : (k : ℕ) (q : Path) (t : Thread) → t ≡ seen_thread (λ p. p) t → Alike (left_by_peer (k ∷ q) (seen_thread see t)) (left_by_peer (k ∷ (q ++ [])) t)
   left_here k q t shown = when_so _ (holds is_outside_talk t.talk) _ _ (talk_out t shown) (λ on. by (is_talking turns.Client t.mode))

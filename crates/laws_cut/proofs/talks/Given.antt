@@ -1,6 +1,6 @@
 -- The law of the cut for a Send of a server outside: the subtree sees that words are given to a thread of it, or that it has
 -- no room for them.
-use Rattle.std.proofs.Common.{◌≡◌, ℕ, zero, suc, ◌+◌, ◌/◌, ◌%◌, ◌<◌, ◌≤◌, eqb, ltb, min, Bool, true, false, cond, ◌&&◌, List, [], ◌∷◌, ◌++◌, take, drop, length, Option, Some, None, is_some, is_none, option_map, unwrap_or, Ok, Err, refl, sym, ap, subst, ◌∙◌, arith}
+use Rattle.std.proofs.Common.{◌≡◌, ℕ, zero, suc, ◌+◌, ◌/◌, ◌%◌, ◌<◌, ◌≤◌, eqb, ltb, min, Bool, true, false, cond, not, ◌&&◌, List, [], ◌∷◌, ◌++◌, take, drop, length, Option, Some, None, is_some, is_none, option_map, unwrap_or, Ok, Err, refl, sym, ap, subst, ◌∙◌, arith}
 use Rattle.std.proofs.lemmas.Bool.{le-leb, lt-ltb, ne_eqb, and_parts}
 use Rattle.std.proofs.lemmas.List.{length-drop, length-take-le}
 use Rattle.std.proofs.Math.Seq.{drop-append_seam, take-append_seam}
@@ -10,18 +10,18 @@ use Rattle.fk_model.specs.declared.moves.Ask.TheVariants as asks
 use Rattle.fk_model.specs.declared.statuses.status.TheConstants.{BADADDRESS, FULL, WRONGTURN}
 use Rattle.fk_model.specs.declared.stage.Stage.TheVariants.{ServerSend}
 use Rattle.fk_model.specs.declared.thread.Turn.TheVariants as turns
-use Rattle.fk_model.specs.Places.{Path, same_path, strip, is_within, parent, slot_of, Ptr}
+use Rattle.fk_model.specs.Places.{Path, same_path, strip, is_within, parent, slot_of, Ptr, leads_to}
 use Rattle.fk_model.specs.Places.Ptr.{At}
-use Rattle.fk_model.specs.Objects.{Talk, Thread, thread_of, and_then, holds}
+use Rattle.fk_model.specs.Objects.{Talk, Thread, Body, kind_of, thread_of, and_then, or_else, holds}
 use Rattle.fk_model.specs.Objects.Peer.{Server}
-use Rattle.fk_model.specs.Objects.Body.{Space}
+use Rattle.fk_model.specs.Objects.Body.{Mutex, Space}
 use Rattle.fk_model.specs.World.{World, Change, apply_all, serves}
 use Rattle.fk_model.specs.World.Change.{Alter, PutPage}
 use Rattle.fk_model.specs.World.Edit.{Shift, Finish, End, CountMoved, SetFault}
 use Rattle.fk_model.specs.Searches.{talk_at, client_of, client_at, objects, thread_at}
 use Rattle.fk_model.specs.Reach.{Reach, at_home, mapped, followed, mapping_at, keeper, led_by, reach_within, reach, reach_word, words_at}
 use Rattle.fk_model.specs.Reach.Reach.{Home, Missing, Bad}
-use Rattle.fk_model.specs.Holds.{is_free}
+use Rattle.fk_model.specs.Holds.{holder_of, decider, is_frozen_for, is_free, is_unheld}
 use Rattle.fk_model.specs.Outcomes.{Said, Outcome, ◌>>=◌, when, done, listed}
 use Rattle.fk_model.specs.Outcomes.Outcome.{Refused, Waits, Goes}
 use Rattle.fk_model.specs.Outcomes.Said.{Nothing, Full, Given as SaidGiven}
@@ -30,8 +30,8 @@ use Rattle.fk_model.specs.Readers.{own_page_at, own_page, their_page_at, their_p
 use Rattle.fk_model.specs.Talks.{Line, line, same_side, receiving, thread_led_to}
 use Rattle.fk_model.specs.TransferRows.{overwritten, block, to_page_end, moved_words, sends_words, sends_into, sends_to_thread, sends, send}
 use Rattle.fk_model.specs.LinkRows.{user_at}
-use Rattle.fk_model.specs.Moves.{with_pick, closed, call_row, outcome, IsReady, stepped, step}
-use Rattle.fk_model.specs.Valid.{is_fit, kind_there, leads_there, is_good_peer, lies_with}
+use Rattle.fk_model.specs.Moves.{with_pick, closed, call_row, outcome, GoesAllowed, IsReady, stepped, step}
+use Rattle.fk_model.specs.Valid.{is_fit, kind_there, leads_there, is_good_peer, lies_with, all_in, is_good, is_one_of, IsConsistent}
 use Rattle.fk_model.specs.Whole.{HasFullPages, IsWhole}
 use Rattle.fk_model.specs.Cut.{is_out, ports_of, cut_ptr, cut, IsPlain}
 use Rattle.fk_model.specs.Further.{Touch, Onward, Told, if_awaiting, given_to, filled_at, touch_row, IsOnward}
@@ -41,7 +41,7 @@ use Rattle.fk_model.specs.Seen.Seen.{Onwards, Unseen, Other}
 use Rattle.fk_model.specs.Seen.{Seen, count_set, page_put, fills, given_by, given_of, received_words, on_inner, IsSeen}
 use Rattle.fk_model.proofs.walks.PlaceLaws.{same_path_eq, same_path_refl, strip-append}
 use Rattle.laws_cut.specs.CutLaws.{HasDone, KeepsCut, IsAtStage, moves, IsServerSend, StageKeepsCut}
-use Rattle.laws_cut.specs.Likeness.{seen_thread, PtrLikeness, ReachLikeness}
+use Rattle.laws_cut.specs.Likeness.{seen_thread, PtrLikeness, ReachLikeness, AlikeOptions, IsSeenAs}
 use Rattle.laws_cut.specs.Likeness.PtrLikeness.{Nulls, Deads, Inside, PortAt, PortOut}
 use Rattle.laws_cut.specs.Likeness.ReachLikeness.{Homes, Misses, Bads}
 use Rattle.laws_cut.specs.LikeChanges.{LikeChanges}
@@ -49,7 +49,7 @@ use Rattle.laws_cut.specs.LikeChanges.LikeChange.{Alters, PutsPage}
 use Rattle.laws_cut.specs.LikeChanges.LikeChanges.{Empty, Both, Beyond}
 use Rattle.laws_cut.proofs.likeness.Instances.{cut-like}
 use Rattle.laws_cut.proofs.likeness.Memory.{reach_word-like, words_at-like}
-use Rattle.laws_cut.proofs.likeness.Holds.{strip_none, is_free-like, unheld-free}
+use Rattle.laws_cut.proofs.likeness.Holds.{strip_none, decider-like, is_free-like, unheld-free}
 use Rattle.laws_cut.proofs.cut.Plain.{AreQuiet}
 use Rattle.laws_cut.proofs.cut.Inside.{thread_seen, thread_beneath}
 use Rattle.laws_cut.proofs.likeness.Servers.{find_some, serves_is, good_talk}
@@ -114,6 +114,31 @@ take_back m at page words inside long =
     let behind : drop at (take at page ++ rest) ≡ rest = subst (λ (n : ℕ). drop n (take at page ++ rest) ≡ rest) head (drop-append_seam (take at page) rest) in
     ap (take m) behind ∙ subst (λ (n : ℕ). take n rest ≡ words) long (take-append_seam words (drop (at + length words) page))
 
+-- ---- who decides is a thread
+
+decider_thread : (w : World) → IsConsistent w → (x : Path) (p : Ptr) → decider w x ≡ Some p → leads_there (kind_there w) (kinds.Thread ∷ []) p ≡ true
+unfolding decider
+decider_thread w valid x p = by x
+  where
+    holds_thread : (x : Path) → holder_of (w.body x) ≡ Some p → leads_there (kind_there w) (kinds.Thread ∷ []) p ≡ true
+    holds_thread x h = of (w.body x) (valid.good x) h
+      where
+        of : (o : Option Body) → all_in (is_good (kind_there w) x) o ≡ true → holder_of o ≡ Some p → leads_there (kind_there w) (kinds.Thread ∷ []) p ≡ true
+        of (Some (Space birth (Some q))) good h = let same : q ≡ p = cc in rw same at good
+        of (Some (Space birth None)) good h = cc
+        of (Some (Mutex locked)) good h = cc
+        of (Some b) good h = cc
+        of None good h = cc
+
+    either : (o q : Option Ptr) → or_else o q ≡ Some p → (o ≡ Some p → leads_there (kind_there w) (kinds.Thread ∷ []) p ≡ true) →
+        (q ≡ Some p → leads_there (kind_there w) (kinds.Thread ∷ []) p ≡ true) → leads_there (kind_there w) (kinds.Thread ∷ []) p ≡ true
+    either None q h first second = second h
+    either (Some r) q h first second = first h
+
+    by : (x : Path) → decider w x ≡ Some p → leads_there (kind_there w) (kinds.Thread ∷ []) p ≡ true
+    by [] h = holds_thread [] h
+    by (k ∷ x) h = either (decider w x) (holder_of (w.body (k ∷ x))) h (by x) (holds_thread (k ∷ x))
+
 -- ---- whom a server outside serves, it serves at a port outside
 
 module _ (w : World) (root : Path) (birth : ℕ) (holder : Option Ptr) (top : w.body root ≡ Some (Space birth holder)) where
@@ -165,7 +190,7 @@ served_outward w nester slot plain sound j s out k z served =
     seen.1.0 (and_parts (leads_there (kind_there w) (kinds.Port ∷ []) talk.port) (is_good_peer (kind_there w) talk.peer) good).0 near in
     (its.0, talk, its.2, its.3, port)
 
-module _ (w : World) (nester : Path) (slot : ℕ) (plain : IsPlain w nester slot) (full : HasFullPages w) (x : Path) (out : is_within
+module _ (w : World) (nester : Path) (slot : ℕ) (plain : IsPlain w nester slot) (full : HasFullPages w) (valid : IsConsistent w) (x : Path) (out : is_within
     (slot ∷ nester) (slot_of x ∷ parent x) ≡ false) (k : ℕ) (z : Path) (t : Thread) (is : and_then thread_of (w.body (k ∷ (z ++ slot ∷ nester))) ≡ Some t)
     (talk : Talk) (its : t.talk ≡ Some talk) (outward : is_out (cut_ptr (ports_of w nester slot) nester slot talk.port) ≡ true) where
   abbrev root : Path
@@ -186,12 +211,12 @@ module _ (w : World) (nester : Path) (slot : ℕ) (plain : IsPlain w nester slot
   abbrev IsTouched : Touch → World → Type 0
   IsTouched touch later = IsPlain later nester slot × ((told : List Told) × IsOnward small (ByOthers touch) told (cut later nester slot))
 
-  -- what is seen of a row's changes has been done to the subtree
+  -- what is seen of a row's changes, where they are allowed, has been done to the subtree
   abbrev Touches : Outcome → Type 0
-  Touches o = (touch : Touch) → given_of w (listed o) client (k ∷ z) ≡ Some touch → IsTouched touch (stepped w o).world
+  Touches o = (touch : Touch) → GoesAllowed w me o → given_of w (listed o) client (k ∷ z) ≡ Some touch → IsTouched touch (stepped w o).world
 
   nothing_seen : (o : Outcome) → count_set (listed o) ≡ None → fills client (listed o) ≡ false → Touches o
-  nothing_seen o uncounted unfilled touch h = absurd (by (count_set (listed o)) (fills client (listed o)) uncounted unfilled h)
+  nothing_seen o uncounted unfilled touch allowed h = absurd (by (count_set (listed o)) (fills client (listed o)) uncounted unfilled h)
     where
       by : (count : Option ℕ) (b : Bool) → count ≡ None → b ≡ false → given_by w client (k ∷ z) (listed o) count (page_put (listed o)) ≡ Some touch → ⊥
       by count b e f = rw e (λ h. let off = rw unfilled at h in cc)
@@ -245,7 +270,7 @@ module _ (w : World) (nester : Path) (slot : ℕ) (plain : IsPlain w nester slot
     filled_row none = rw here (awaiting (filled_at (k ∷ z)) ∙ rw none refl)
 
     filled : eqb receive.1 0 ≡ true → Touches (Goes (Alter client (End FULL []) ∷ []) Nothing)
-    filled none touch h =
+    filled none touch allowed h =
         let same = rw (same_path_refl client) at h in
         let form : touch ≡ Filled (k ∷ z) = cc in
         rw form (has_touched w nester slot plain (Filled (k ∷ z)) (Alter (k ∷ z) (End FULL []) ∷ [])
@@ -264,14 +289,47 @@ module _ (w : World) (nester : Path) (slot : ℕ) (plain : IsPlain w nester slot
         abbrev far : List Change → List Change
         far tail = PutPage (s ++ root) p put ∷ Alter client (CountMoved m) ∷ Alter client (Shift m) ∷ tail
 
-        given_row : touch_row small (Given (k ∷ z) words) ≡ Goes near Nothing
+        -- a page that one outside may write, where nobody holds the subtree itself, nobody holds
+        unheld_here : is_frozen_for w me (s ++ root) ≡ false → is_unheld small s ≡ true
+        unfolding kind_there
+        unheld_here allowed =
+            let like = cut-like w nester slot plain in
+            by (decider small s) (decider w (s ++ root)) refl refl (decider-like like (unheld-free like z t free) s)
+          where
+            nobody : (p seen : Ptr) → PtrLikeness root w p seen → leads_there (kind_there w) (kinds.Thread ∷ []) p ≡ true → leads_to me p ≡ true → ⊥
+            nobody _ _ Nulls thread mine = cc
+            nobody _ _ Deads thread mine = cc
+            nobody _ _ (Inside y) thread mine =
+                let same = same_path_eq (y ++ root) me mine in
+                let there : is_within root me ≡ true = ap (is_within root) (sym same) ∙ ap is_some (strip-append root y) in
+                let clash : true ≡ false = sym there ∙ out in
+                cc
+            nobody _ _ (PortAt y slot apart kind) thread mine = port (w.body y) kind thread
+              where
+                port : (o : Option Body) → and_then (λ b. Some (kind_of b)) o ≡ Some kinds.Port → is_one_of (kinds.Thread ∷ []) (option_map kind_of o) ≡ true → ⊥
+                port None kind thread = cc
+                port (Some b) kind thread = let same : kind_of b ≡ kinds.Port = cc in let never = rw same at thread in cc
+            nobody _ _ (PortOut old slot) thread mine = cc
+
+            by : (o p : Option Ptr) → decider small s ≡ o → decider w (s ++ root) ≡ p → AlikeOptions (IsSeenAs root see w) o p → is_unheld small s ≡ true
+            by None p e f h = rw e refl
+            by (Some seen) None e f h = absurd h
+            by (Some seen) (Some p) e f h =
+                absurd (nobody p (see p) h.1 (decider_thread w valid (s ++ root) p f) (not_off (leads_to me p) (rw f at allowed)))
+              where
+                not_off : (b : Bool) → not b ≡ false → b ≡ true
+                not_off true h = refl
+                not_off false h = cc
+
+        given_row : is_unheld small s ≡ true → touch_row small (Given (k ∷ z) words) ≡ Goes near Nothing
         unfolding touch_row
-        given_row =
+        given_row unheld =
             rw here (awaiting (given_to small (k ∷ z) words) ∙ rw (
               lt-ltb 0 (length words) (omega (arith, longs, some)),
               le-leb (length words) (min BLOCK_WORDS
                   (min receive.1 (to_page_end receive.0))) (omega (arith, longs, room)),
               home,
+              unheld,
               words_at-like (cut-like w nester slot plain) s p,
             ) refl)
 
@@ -281,11 +339,11 @@ module _ (w : World) (nester : Path) (slot : ℕ) (plain : IsPlain w nester slot
 
         given : (tail : List Change) (said : Said) → LikeChanges root see (apply_all (far []) w) [] tail → AreQuiet root tail → Touches (Goes (far tail) said)
         unfolding apply_all
-        given tail said beyond quiet touch h =
+        given tail said beyond quiet touch allowed h =
             let shown : Some (Given (k ∷ z) words) ≡ Some touch = subst (λ (v : List ℕ). Some (Given (k ∷ z) v) ≡ Some touch) read_back h in
             let form : touch ≡ Given (k ∷ z) words = cc in
             rw form (has_touched w nester slot plain (Given (k ∷ z) words) near (far tail)
-            Nothing given_row (Both (PutsPage s p put) (Both (Alters k z (CountMoved (length words)) (CountMoved m) (ap (λ (n : ℕ). CountMoved n) longs) tt)
+            Nothing (given_row (unheld_here allowed.0)) (Both (PutsPage s p put) (Both (Alters k z (CountMoved (length words)) (CountMoved m) (ap (λ (n : ℕ). CountMoved n) longs) tt)
             (Both (Alters k z (Shift (length words)) (Shift m) (ap (λ (n : ℕ). Shift n) longs) tt) beyond))) (tt, (tt, (tt, quiet))))
 
   -- ---- the row of a Send
@@ -417,7 +475,8 @@ module _ (w : World) (nester : Path) (slot : ℕ) (plain : IsPlain w nester slot
 -- ---- the law
 
 module _ (w : World) (nester : Path) (slot : ℕ) (plain : IsPlain w nester slot) (full : HasFullPages w) (sound : IsWhole w) (j : ℕ) (s : Path)
-    (out : is_within (slot ∷ nester) (j ∷ s) ≡ false) (pick : Option Path) (address count : ℕ) (at : IsAtStage w (j ∷ s) (ServerSend address count)) where
+    (out : is_within (slot ∷ nester) (j ∷ s) ≡ false) (pick : Option Path) (address count : ℕ) (at : IsAtStage w (j ∷ s) (ServerSend address count))
+    (ready : GoesAllowed w (j ∷ s) (outcome w (j ∷ s) pick asks.Run)) where
   abbrev asked : Outcome
   asked = outcome w (j ∷ s) pick asks.Run
 
@@ -427,14 +486,15 @@ module _ (w : World) (nester : Path) (slot : ℕ) (plain : IsPlain w nester slot
 
   touched_inside : (k : ℕ) (z : Path) → client_of w (j ∷ s) ≡ Some (k ∷ (z ++ slot ∷ nester)) →
       (touch : Touch) → given_of w (listed asked) (k ∷ (z ++ slot ∷ nester)) (k ∷ z) ≡ Some touch → Touched touch
-  touched_inside k z served =
+  touched_inside k z served touch =
       let its = served_outward w nester slot plain sound j s out k z served in
       let row = stage_outcome w nester slot plain (j ∷ s) pick (ServerSend address count) at in
-      let calls = call_seen w nester slot plain full (j ∷ s) out k z its.0 its.2 its.1 its.3 its.4 served address count pick in
-      subst (λ (o : Outcome). (touch : Touch) → given_of w (listed o) (k ∷ (z ++ slot ∷ nester)) (k ∷ z) ≡ Some touch → IsPlain (stepped w o).world
+      let calls = call_seen w nester slot plain full sound.valid.consistent (j ∷ s) out k z its.0 its.2 its.1 its.3 its.4 served address count pick in
+      subst (λ (o : Outcome). (touch : Touch) → GoesAllowed w (j ∷ s) o → given_of w (listed o) (k ∷ (z ++ slot ∷ nester)) (k ∷ z) ≡ Some touch → IsPlain (stepped w o).world
       nester slot × ((told : List Told) × IsOnward (cut w nester slot) (ByOthers touch) told (cut (stepped w o).world nester slot))) (sym row.1)
       (touches-when w nester slot
-      plain full (j ∷ s) out k z its.0 its.2 its.1 its.3 its.4 (is_free w s row.0) (call_row w (user_at (j ∷ s)) pick (ServerSend address count)) calls)
+      plain full sound.valid.consistent (j ∷ s) out k z its.0 its.2 its.1 its.3 its.4 (is_free w s row.0)
+      (call_row w (user_at (j ∷ s)) pick (ServerSend address count)) calls) touch ready
 
   touched_at : (c q : Path) (k : ℕ) (z : Path) →
       c ≡ k ∷ (z ++ slot ∷ nester) → q ≡ k ∷ z → client_of w (j ∷ s) ≡ Some c → (touch : Touch) → given_of w (listed asked) c q ≡ Some touch → Touched touch
@@ -477,7 +537,7 @@ unfolding step
 send_outside w nester slot plain full j s pick address count out at sound same fit ready (Onwards m) seen =
     let far = seen_outside w
     (slot ∷ nester) (j ∷ s) pick (outcome w (j ∷ s) pick asks.Run) (strip (slot ∷ nester) (j ∷ s)) m (strip_none (slot ∷ nester) (j ∷ s) out) seen.1 in
-    touched_by w nester slot plain full sound j s out pick address count at m
+    touched_by w nester slot plain full sound j s out pick address count at ready m
     (taken_row w (slot ∷ nester) (moves (j ∷ s) pick)
     (outcome w (j ∷ s) pick asks.Run) None _ (ServerSend address count) m refl (stage_called w nester slot plain (j ∷ s) (ServerSend address count) at) far)
 send_outside w nester slot plain full j s pick address count out at sound same fit ready Unseen seen =

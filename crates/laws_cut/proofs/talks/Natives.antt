@@ -1,5 +1,5 @@
 -- The law of the cut for a native server that gives words, or hands its client the turn.
-use Rattle.std.proofs.Common.{◌≡◌, ℕ, eqb, Bool, true, false, ◌&&◌, List, [], ◌∷◌, ◌++◌, take, Option, Some, None, is_some, is_none, option_map, refl, sym, ap, ◌∙◌}
+use Rattle.std.proofs.Common.{◌≡◌, ℕ, eqb, Bool, true, false, ◌&&◌, List, [], ◌∷◌, ◌++◌, take, Option, Some, None, is_some, is_none, option_map, refl, sym, ap, subst, ◌∙◌}
 use Rattle.std.proofs.lemmas.Bool.{and_parts}
 use Rattle.fk_model.specs.declared.moves.Ask.TheVariants as asks
 use Rattle.fk_model.specs.declared.names.Kind.TheVariants as kinds
@@ -261,12 +261,14 @@ give_keeps w nester slot port pick words len sound plain fit ready (Onwards m) s
     let here = slots_of port (not_root w plain.birth plain.holder port sound.valid serving) in
     let o : Outcome = with_pick false pick (give_row w port (take len words)) in
     by_client w nester slot plain port pick (stepped w o).world (given_of w (listed o)) m
-    (λ k z served.
+    (λ k z served touch.
     let its = native_outward w nester slot plain port pick out k z served in
     let root : Path = slot ∷ nester in
     let beyond : is_within root (slot_of port ∷ parent port) ≡ false = ap (is_within root) here ∙ out in
-    touches-picked w nester slot plain sound.full port beyond k z its.0 its.2 its.1 its.3 its.4 pick (give_row w port (take len words))
-    (give_seen w nester slot plain sound.full port beyond k z its.0 its.2 its.1 its.3 its.4 port served (take len words)))
+    let valid = sound.valid.consistent in
+    touches-picked w nester slot plain sound.full valid port beyond k z its.0 its.2 its.1 its.3 its.4 pick (give_row w port (take len words))
+    (give_seen w nester slot plain sound.full valid port beyond k z its.0 its.2 its.1 its.3 its.4 port served (take len words)) touch
+    (subst (λ (y : Path). GoesAllowed w y o) (sym here) ready))
     (seen_touch w nester slot plain port
     pick (record { mover = port; pick = pick; ask = asks.Give words len }) o (strip (slot ∷ nester) port) m (strip_none (slot ∷ nester) port out) seen.1)
 give_keeps w nester slot port pick words len sound plain fit ready Unseen seen =

@@ -1,4 +1,4 @@
-use Rattle.std.proofs.Common.{true, List, [], ◌∷◌, Some, None, refl}
+use Rattle.std.proofs.Common.{true, List, [], ◌∷◌, None, refl}
 use Rattle.fk_model.specs.Places.{Path}
 use Rattle.fk_model.specs.Objects.{Body}
 use Rattle.fk_model.specs.Objects.Body.{Port, Space}

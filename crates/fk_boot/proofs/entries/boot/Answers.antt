@@ -40,7 +40,7 @@ pub returns-clause-valid : goal.returns-clause-valid
 returns-clause-valid c = rw (returns-clause-world c) (booted-valid c.args.scenario.now c.requires)
 
 pub returns-clause-runnable : goal.returns-clause-runnable
-returns-clause-runnable c = rw (returns-clause-world c) (booted-runnable c.args.scenario.now c.requires)
+returns-clause-runnable c = rw (returns-clause-world c) (booted-runnable c.args.scenario.now c.requires c.read_words.ensures)
 
 pub returns-clause-savable : goal.returns-clause-savable
-returns-clause-savable c = rw (returns-clause-world c) (booted-savable c.args.scenario.now c.requires)
+returns-clause-savable c = rw (returns-clause-world c) (booted-savable c.args.scenario.now c.requires c.read_words.ensures)
