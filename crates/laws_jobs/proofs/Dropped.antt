@@ -3,28 +3,29 @@ use Rattle.std.proofs.Common.{◌≡◌, ℕ, ◌≤◌, Bool, true, false, not,
 use Rattle.std.specs.List.{list_any}
 use Rattle.std.proofs.lemmas.Bool.{or_cases, and_parts, leb-true}
 use Rattle.std.proofs.lemmas.List.Folds.{list_any-append}
-use Rattle.fk_model.specs.declared.limits.TheConstants.{FIRST_SCRATCH_SLOT, LAST_SCRATCH_SLOT}
+use Rattle.fk_model.specs.declared.limits.TheConstants.{FIRST_SCRATCH_SLOT, LAST_SCRATCH_SLOT, LAST_PORTER_SLOT}
 use Rattle.fk_model.specs.declared.names.Kind.{Kind}
 use Rattle.fk_model.specs.declared.names.Kind.TheVariants as kinds
 use Rattle.fk_model.specs.Places.{Path, same_path, Ptr, leads_to}
 use Rattle.fk_model.specs.Places.Ptr.{Null}
-use Rattle.fk_model.specs.Objects.{Peer, Talk, Fault, Body, kind_of}
+use Rattle.fk_model.specs.Objects.{Peer, Talk, Fault, Body, kind_of, holds}
 use Rattle.fk_model.specs.Objects.Peer.{Server, Service, Parked}
 use Rattle.fk_model.specs.Objects.Body.{Mutex, Cond, Mapping, Region, Port, Portset, Space, Thread_of, Reference}
 use Rattle.fk_model.specs.World.{World, set_at, apply}
 use Rattle.fk_model.specs.World.Change.{Alter, Make, Kill}
 use Rattle.fk_model.specs.World.Edit.{SetPointer}
 use Rattle.fk_model.specs.Searches.{pointers, option_list, talk_pointers, fault_pointers, peer_pointer, depth}
-use Rattle.fk_model.specs.StateRows.{referable}
-use Rattle.fk_model.specs.Holds.{holder_of}
+use Rattle.fk_model.specs.StateRows.{referable, is_native}
+use Rattle.fk_model.specs.Holds.{holder_of, decider}
 use Rattle.fk_model.specs.Freezing.{body_pointers, is_in_set, is_swept}
 use Rattle.fk_model.specs.ObjectRows.{is_scratch}
 use Rattle.fk_model.specs.Valid.{IsValid, kind_there, is_one_of, leads_there, may_lead, all_in, is_good, is_good_peer, is_good_talk, is_good_fault}
-use Rattle.fk_model.specs.Closed.{open_place}
+use Rattle.fk_model.specs.Closed.{open_place, is_led_to}
 use Rattle.laws_machine.proofs.Frame.{apply-body}
 use Rattle.fk_model.proofs.walks.PlaceLaws.{same_path_eq, same_path_ne, leads_to_at}
 use Rattle.laws_frozen.specs.Frozen.{IsSameInside}
-use Rattle.laws_frozen.specs.Holding.{IsHolding, only_reference}
+use Rattle.laws_frozen.specs.Holding.{IsHolding, IsNear, only_reference}
+use Rattle.laws_frozen.proofs.Holding.{holder_none, none_above, decider_none}
 use Rattle.laws_frozen.proofs.Frozen.{there_live as led_live}
 use Rattle.laws_frozen.proofs.FrozenCut.{same-cut}
 use Rattle.laws_jobs.specs.Leads.{OwnKeepOpenPlace}
@@ -131,7 +132,7 @@ module _ (nester : Path) (slot : ℕ) (w v : World) (holding : IsHolding nester 
   clash : (P : Type 0) (b : Bool) → b ≡ true → b ≡ false → P
   clash P b on off = let both : true ≡ false = sym on ∙ off in cc
 
-  inside_plain : (q : Path) → is_scratch nester (q ++ root) ≡ false
+  pub inside_plain : (q : Path) → is_scratch nester (q ++ root) ≡ false
   inside_plain q = by (is_scratch nester (q ++ root)) refl
     where
       by_path : (q : Path) → is_scratch nester (q ++ root) ≡ true → ⊥
@@ -185,13 +186,56 @@ module _ (nester : Path) (slot : ℕ) (w v : World) (holding : IsHolding nester 
       by false e = refl
       by true e = absurd (by_body (w.body x) refl (scratch_body x e) live)
 
-  inside : IsSameInside root w v
+  pub inside : IsSameInside root w v
   unfolding kind_there
   inside = record {
     bodies = λ q. bodies (q ++ root) (inside_plain q);
     pages = λ q page. pages (q ++ root) page (inside_plain q);
     kinds = λ x q led. ap (option_map kind_of) (bodies x (led_plain x q led));
   }
+
+  pub scratch_leads : (z : Path) → is_led_to v root z ≡ is_led_to w root z
+  scratch_leads = leads_same nester slot w v holding.holder (ap holder_of (bodies root (inside_plain [])) ∙ holding.holder) valid valid_after few few_after bodies
+
+  -- the porter holds on, if its scratch is near and references alone
+  pub scratch_holding : ((k : ℕ) → is_scratch nester (k ∷ nester) ≡ true → only_reference (v.body (k ∷ nester)) ≡ true) →
+      ((k : ℕ) (x : Path) → is_scratch nester (k ∷ nester) ≡ true → list_any (leads_to x) (body_pointers (v.body (k ∷ nester))) ≡ true → IsNear w root x) → IsHolding nester slot v
+  scratch_holding references near = record {
+    low = holding.low;
+    holder = ap holder_of (bodies root (inside_plain [])) ∙ holding.holder;
+    above = decider_none v nester (λ p a e. ap holder_of (bodies a (higher p a e)) ∙ holder_none w a (none_above w p a (subst (λ (y : Path). decider w y ≡ None) e holding.above)));
+    porter = ap (holds is_native) (bodies (LAST_PORTER_SLOT ∷ nester) porters_place) ∙ holding.porter;
+    scratch = references;
+    near = λ k x its led. still (near k x its led);
+  }
+    where
+      still : {x : Path} → IsNear w root x → IsNear v root x
+      still (inl its) = inl its
+      still {x = x} (inr its) = inr (its.0, subst (λ (o : Option Body). list_any (leads_to x) (body_pointers o) ≡ true) (sym (bodies (its.0 ++ root) (inside_plain its.0))) its.1)
+
+      porters_place : is_scratch nester (LAST_PORTER_SLOT ∷ nester) ≡ false
+      porters_place = by (same_path nester nester && nat_le FIRST_SCRATCH_SLOT LAST_PORTER_SLOT)
+        where
+          by : (t : Bool) → (t && nat_le LAST_PORTER_SLOT LAST_SCRATCH_SLOT) ≡ false
+          by true = refl
+          by false = refl
+
+      higher : (p a : Path) → nester ≡ p ++ a → is_scratch nester a ≡ false
+      higher p a e = by (is_scratch nester a) refl
+        where
+          at : (a : Path) → nester ≡ p ++ a → is_scratch nester a ≡ true → ⊥
+          at [] e h =
+              let both = and_parts (same_path [] nester && nat_le FIRST_SCRATCH_SLOT 0) (nat_le 0 LAST_SCRATCH_SLOT) h in
+              let first = and_parts (same_path [] nester) (nat_le FIRST_SCRATCH_SLOT 0) both.0 in
+              let second = first.1 in cc
+          at (k ∷ y) e h =
+              let both = and_parts (same_path y nester && nat_le FIRST_SCRATCH_SLOT k) (nat_le k LAST_SCRATCH_SLOT) h in
+              let first = and_parts (same_path y nester) (nat_le FIRST_SCRATCH_SLOT k) both.0 in
+              omega (arith, ap length (same_path_eq y nester first.0), ap length e, length-append p (k ∷ y))
+
+          by : (t : Bool) → is_scratch nester a ≡ t → t ≡ false
+          by false h = refl
+          by true h = absurd (at a e h)
 
   pub scratch_open : open_place v nester slot ≡ open_place w nester slot
   scratch_open =

@@ -12,3 +12,4 @@ pub mod Own
 pub mod Dropped
 pub mod Held
 pub mod Holds
+pub mod Gone

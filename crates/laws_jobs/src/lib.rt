@@ -9,7 +9,7 @@ ghost use Rattle.laws_jobs.specs.Machines.{GoesOnByOthers, GoesOnByOwn, NowIsSou
 ghost use Rattle.laws_jobs.specs.Nesters.{UsersFillLow, NesterStays};
 ghost use Rattle.laws_jobs.specs.Calls.{CallIsItsRow, CalmCallIsReady};
 ghost use Rattle.laws_jobs.specs.Holds.{HoldComesTo, ReleaseComesTo};
-ghost use Rattle.laws_jobs.specs.Leads.{OthersKeepLeads, OthersKeepUnled, OthersKeepOpenPlace, OwnKeepOpenPlace, HoldKeepsOpenPlace, CountsTell};
+ghost use Rattle.laws_jobs.specs.Leads.{OthersKeepLeads, OthersKeepUnled, OthersKeepOpenPlace, OwnKeepOpenPlace, HoldKeepsOpenPlace, CountsTell, ReferenceGoesAlone};
 
 /// A job at work goes on with each move of another and with its own next call, where the world after
 /// it is sound, and so is each world to which it comes.
@@ -79,4 +79,9 @@ pub fn a_hold_begins()
 /// A release of what the porter holds is done, and leaves the cut.
 pub fn a_hold_ends()
     ensures { ReleaseComesTo }
+{}
+
+/// Nothing leads to a reference, so one that is destroyed takes nothing with it.
+pub fn a_reference_goes_alone()
+    ensures { ReferenceGoesAlone }
 {}
