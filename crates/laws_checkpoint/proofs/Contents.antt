@@ -150,16 +150,16 @@ module _ (nester : Path) (slot : ℕ) (start : World) (near : far_field ((cut st
 
   -- ---- what is left
 
-  abbrev left_objects : Path → ℕ → List Item
+  abbrev pub left_objects : Path → ℕ → List Item
   left_objects q k = items_from (record_at c q) (SLOTS - k) k
 
-  abbrev left_pages : Path → ℕ → List Item
+  abbrev pub left_pages : Path → ℕ → List Item
   left_pages q from = items_from (c.page q) (PAGES - from) from
 
-  abbrev with_content : List Content → Path → List Item → List Item → List Path → List Content
+  abbrev pub with_content : List Content → Path → List Item → List Item → List Path → List Content
   with_content got q objects pages qs = got ++ record { path = q; objects = objects; pages = pages } ∷ map (content c) qs
 
-  abbrev ends : State → List Content
+  abbrev pub ends : State → List Content
   ends (Down from ways q qs got) = with_content got q (left_objects q 0) (left_pages q 0) qs
   ends (Searches k objects q qs got) = with_content got q (objects ++ left_objects q k) (left_pages q 0) qs
   ends (Reads j objects q qs got) = with_content got q (objects ++ left_objects q j) (left_pages q 0) qs

@@ -49,6 +49,9 @@ use Rattle.laws_jobs.proofs.Weaving.{first_sound}
 use Rattle.laws_frozen.proofs.FrozenCut.{ptr_alike}
 use Rattle.laws_checkpoint.specs.Foreign.{PLACES, TARGETS, STEPS, Task, way_from, reading, told_pointer, located_at, IsScratched}
 use Rattle.laws_checkpoint.specs.Gather.{place_at, pointer_fields, pointer_task, field_as, body_as, shown_at, State, begin_at, begin, go_on, arrive, head, takes, read, looked, next, gatherer, pointers_of, all_pointers, PointersAreGathered}
+use Rattle.laws_checkpoint.proofs.Mild.{Comes, ComesWith}
+use Rattle.laws_checkpoint.proofs.Mild.IsMild.{Changes_nothing, Leads as Leads_anew}
+use Rattle.laws_checkpoint.proofs.Mild.IsOwnSlot.{Places as Own_places, Targets as Own_targets, Steps as Own_steps}
 use Rattle.laws_checkpoint.proofs.Tells.{root_kind, above_kind, pointer_told}
 use Rattle.laws_checkpoint.proofs.Seeks.{follow, follow-way, FromIs, PlacedAt, Base, base_others, first_base, root_is, placed_by, own_base, seen_body, live_body, kind_up, live_slot, space_live, above, free, from_named, places_named, slot_named, ref_read, valid_own, one_change, no_change, found_row}
 use Rattle.fk_model.specs.Objects.{Window, Extent, Talk, Fault, Thread, Peer}
@@ -230,10 +233,10 @@ module _ (nester : Path) (slot : ℕ) (start : World) (near : far_field ((cut st
     pub among : IsIn to (pointers body)
     pub ref : w.body (TARGETS ∷ nester) ≡ Some (Reference to)
 
-  abbrev Placed : World → Path → Type 0
+  abbrev pub Placed : World → Path → Type 0
   Placed w q = PlacedAt nester slot start near w q
 
-  abbrev CountedFor : World → Path → List ℕ → Type 0
+  abbrev pub CountedFor : World → Path → List ℕ → Type 0
   CountedFor w [] fs = fs ≡ []
   CountedFor w (k ∷ s) fs = (b : Body) → w.body ((k ∷ s) ++ root) ≡ Some b → AllPointing b fs
 
@@ -270,7 +273,7 @@ module _ (nester : Path) (slot : ℕ) (start : World) (near : far_field ((cut st
       by (Pointer p) among before = ptr p among before
       by NoThread among before = refl
 
-  abbrev ends : State → List Ptr
+  abbrev pub ends : State → List Ptr
   ends (Down from ways t ts got) = got ++ (pointers_of show t t.fields ++ all_pointers show ts)
   ends (Fields n fs t ts got) = got ++ (pointers_of show t (n ∷ fs) ++ all_pointers show ts)
   ends (Looks at n fs t ts got) = got ++ (pointers_of show t (n ∷ fs) ++ all_pointers show ts)
@@ -278,7 +281,7 @@ module _ (nester : Path) (slot : ℕ) (start : World) (near : far_field ((cut st
   ends (Beside n fs t ts got) = got ++ (pointers_of show t (n ∷ fs) ++ all_pointers show ts)
   ends (Over got) = got
 
-  abbrev tasks_of : State → Type 0
+  abbrev pub tasks_of : State → Type 0
   tasks_of (Down from ways t ts got) = Task_ok t × Tasks_ok ts
   tasks_of (Fields n fs t ts got) = Task_ok t × Tasks_ok ts
   tasks_of (Looks at n fs t ts got) = Task_ok t × Tasks_ok ts
@@ -286,7 +289,7 @@ module _ (nester : Path) (slot : ℕ) (start : World) (near : far_field ((cut st
   tasks_of (Beside n fs t ts got) = Task_ok t × Tasks_ok ts
   tasks_of (Over got) = Unit {0}
 
-  abbrev StepsAt : World → Path → Type 0
+  abbrev pub StepsAt : World → Path → Type 0
   StepsAt w [] = Unit {0}
   StepsAt w (k ∷ p) = w.body (STEPS ∷ nester) ≡ Some (Reference (At ((k ∷ p) ++ root)))
 
@@ -295,7 +298,7 @@ module _ (nester : Path) (slot : ℕ) (start : World) (near : far_field ((cut st
     pub q : Path
     pub is : to ≡ At ((j ∷ q) ++ (at ++ root))
 
-  abbrev MayBeneath : Path → Ptr → Type 0
+  abbrev pub MayBeneath : Path → Ptr → Type 0
   MayBeneath [] to = Unit {0}
   MayBeneath (k ∷ p) to = Beneath (k ∷ p) to
 
@@ -317,7 +320,7 @@ module _ (nester : Path) (slot : ℕ) (start : World) (near : far_field ((cut st
 
   -- ---- it begins with the next object that has pointers
 
-  abbrev Steps : World → Type 0
+  abbrev pub Steps : World → Type 0
   Steps w = (p : Ptr) × (w.body (STEPS ∷ nester) ≡ Some (Reference p))
 
   pub begins : (w : World) (ts : List Task) (got : List Ptr) → Base nester slot start near w → Steps w → Tasks_ok ts → Stands w (begin slot ts got) (got ++ all_pointers show ts)
@@ -381,7 +384,7 @@ module _ (nester : Path) (slot : ℕ) (start : World) (near : far_field ((cut st
     position_same _ (AtBeside n fs t ts got h g f out) = AtBeside n fs t ts got (placed_by nester slot start near w v places t.path h) (counted_moved w v same t.path fs g) (field_moved w v same targets t.path n f) out
     position_same _ (AtOver got) = AtOver got
 
-  others : (w : World) (e : Event) (s : State) (found : List Ptr) → IsUsersMove nester w e → (after w e).next ≤ depth → Stands w s found → Stands (after w e) s found
+  pub others : (w : World) (e : Event) (s : State) (found : List Ptr) → IsUsersMove nester w e → (after w e).next ≤ depth → Stands w s found → Stands (after w e) s found
   others w e s found moves few its =
       let kept = others_keep_hold nester slot w e its.base.holding moves in
       let places = kept.around.scratch PLACES is_places in
@@ -643,6 +646,93 @@ module _ (nester : Path) (slot : ℕ) (start : World) (near : far_field ((cut st
         by Dead e row = let some : field_number (Pointer Dead) ≡ 2 = subst (λ (p : Ptr). field_number (Pointer p) ≡ 2) e field.some in cc
         by Outside e row = let some : field_number (Pointer Outside) ≡ 2 = subst (λ (p : Ptr). field_number (Pointer p) ≡ 2) e field.some in cc
 
+    -- ---- each call comes to something
+
+    comes_down : (from k : ℕ) (ways : List ℕ) (j : ℕ) (s : Path) (t : Task) (at : Path) → FromIs nester slot start near w from at → follow (k ∷ at) ways ≡ s ++ root → t.path ≡ j ∷ s → Task_ok t →
+        Comes nester w (Point OWN_SPACE PLACES from k)
+    comes_down from k ways j s t at h way path its =
+        let live : IsSome (c.body (j ∷ s)) = subst (λ (q : Path). IsSome (c.body q)) path its.live in
+        let kind = kind_up nester slot start near w base valid few ways (k ∷ at) (s ++ root) way (above nester slot start near w base valid few j s live) in
+        let old = base.scratched.places in
+        record {
+          changes = _;
+          status = OK;
+          given = [];
+          mild = Leads_anew PLACES old.0 (At (k ∷ at)) Own_places old.1;
+          row = point-row nester no_words w OWN_SPACE PLACES from k nester at old.0 (At (k ∷ at)) (own-place nester no_words w) (ref_read nester slot start near w base valid few PLACES old.0 refl old.1)
+              (from_named nester slot start near w base valid few from at h (above_kind nester slot w base.holding valid k at kind))
+              (space_pointer nester no_words w at k (live_slot nester slot start near w base valid few k at (space_live nester slot start near w base valid few (k ∷ at) kind)) kind)
+              (free nester slot start near w base valid few PLACES old.0 old.1);
+        }
+
+    comes_read : (n : ℕ) (fs : List ℕ) (t : Task) (q : Path) → t.path ≡ q → Placed w q → CountedFor w q (n ∷ fs) → Task_ok t → Comes nester w (reading q n)
+    comes_read n fs t [] path placed counts its = cc
+    comes_read n fs t (j ∷ s) path placed counts its =
+        let live : IsSome (c.body (j ∷ s)) = subst (λ (q : Path). IsSome (c.body q)) path its.live in
+        let body = live_body nester slot start near w base j s live in
+        let known = pointed body.0 n (counts body.0 body.1).0 in
+        let old = base.scratched.targets in
+        let there : IsSome (w.body (j ∷ (s ++ root))) = ap is_some body.1 in
+        record {
+          changes = _;
+          status = OK;
+          given = field_number known.field ∷ [];
+          mild = Leads_anew TARGETS old.0 (field_pointer known.field) Own_targets old.1;
+          row = get_ptr-row nester no_words w PLACES j n TARGETS (s ++ root) body.0 old.0 known.field (places_named nester slot start near w base valid few j s placed (above nester slot start near w base valid few j s live))
+              (object-there nester no_words w anything (s ++ root) j body.0 body.0 (live_slot nester slot start near w base valid few j (s ++ root) there) body.1 refl)
+              (ref_read nester slot start near w base valid few TARGETS old.0 refl old.1) known.is;
+        }
+
+    comes_located : (top : Path) (to : Ptr) (s : ℕ) → call_row w (porter nester no_words) None (Locate TARGETS s) ≡ located_as nester no_words w top (Ok to) → Comes nester w (Locate TARGETS s)
+    comes_located top to s row = by (way_to top to) row
+      where
+        by : (o : Option (List ℕ)) → call_row w (porter nester no_words) None (Locate TARGETS s) ≡ elim o [
+          | None ↦ Goes [] (Answered NONE [])
+          | Some way ↦ Goes [] (Answered OK (way ++ kind_number (kind_at w to) ∷ []))
+        ] → Comes nester w (Locate TARGETS s)
+        by None h = record { changes = []; status = NONE; given = []; row = h; mild = Changes_nothing }
+        by (Some way) h = record { changes = []; status = OK; given = way ++ kind_number (kind_at w to) ∷ []; row = h; mild = Changes_nothing }
+
+    comes_leads : (k : ℕ) (at : Path) (n : ℕ) (q : Path) (field : Field_at w q n) → StepsAt w at → Beneath (k ∷ at) field.to → Comes nester w (Point OWN_SPACE STEPS (place_at slot at) k)
+    comes_leads k at n q field st beneath =
+        let to : Path = k ∷ (at ++ root) in
+        let kind = beneath_kind (k ∷ at) field.to field.ref beneath in
+        let higher = above_kind nester slot w base.holding valid k (at ++ root) kind in
+        record {
+          changes = _;
+          status = OK;
+          given = [];
+          mild = Leads_anew STEPS steps.0 (At to) Own_steps steps.1;
+          row = point-row nester no_words w OWN_SPACE STEPS (place_at slot at) k nester (at ++ root) steps.0 (At to) (own-place nester no_words w)
+              (ref_read nester slot start near w base valid few STEPS steps.0 refl steps.1) (place_named at st higher)
+              (space_pointer nester no_words w (at ++ root) k (live_slot nester slot start near w base valid few k (at ++ root) (space_live nester slot start near w base valid few to kind)) kind)
+              (free nester slot start near w base valid few STEPS steps.0 steps.1);
+        }
+
+    abbrev asking_now : Stage → List ℕ → Head (List Ptr)
+    asking_now stage words = Asks stage words
+
+    again : (stage other : Stage) (words given : List ℕ) → asking_now stage words ≡ Asks other given → (P : Stage → List ℕ → Type 0) → P stage words → P other given
+    again stage other words given e P p =
+        let stages : stage ≡ other = cc in
+        let same : words ≡ given = cc in
+        subst (λ (ws : List ℕ). P other ws) same (subst (λ (st : Stage). P st words) stages p)
+
+    pub comes_next : (s : State) (stage : Stage) (words : List ℕ) → Position w s → tasks_of s → head slot s ≡ Asks stage words → ComesWith nester w stage words
+    comes_next _ stage words (AtDown from k ways j s t ts got at p h inside way path) tasks asks =
+        again (Point OWN_SPACE PLACES from k) stage no_words words asks (λ st ws. ComesWith nester w st ws) (refl, comes_down from k ways j s t at h way path tasks.0)
+    comes_next _ stage words (AtFields n fs t ts got placed counts) tasks asks =
+        again (reading t.path n) stage no_words words asks (λ st ws. ComesWith nester w st ws) (refl, comes_read n fs t t.path refl placed counts tasks.0)
+    comes_next _ stage words (AtLooks at n fs t ts got placed counts field st b) tasks asks =
+        again (Locate TARGETS (place_at slot at)) stage no_words words asks (λ st ws. ComesWith nester w st ws)
+        (refl, comes_located (at ++ root) field.to (place_at slot at) (found_row nester slot start near w base valid few (at ++ root) field.to (place_at slot at) field.ref field.some (place_named at st (place_kind at field.to field.ref b))))
+    comes_next _ stage words (AtLeads k at n fs t ts got placed counts field st b) tasks asks =
+        again (Point OWN_SPACE STEPS (place_at slot at) k) stage no_words words asks (λ st ws. ComesWith nester w st ws) (refl, comes_leads k at n t.path field st b)
+    comes_next _ stage words (AtBeside n fs t ts got placed counts field out) tasks asks =
+        again (Locate TARGETS OWN_SPACE) stage no_words words asks (λ st ws. ComesWith nester w st ws)
+        (refl, comes_located nester field.to OWN_SPACE (found_row nester slot start near w base valid few nester field.to OWN_SPACE field.ref field.some (own-place nester no_words w)))
+    comes_next _ stage words (AtOver got) tasks asks = cc
+
   -- ---- the whole
 
   abbrev asking : Stage → List ℕ → Head (List Ptr)
@@ -651,7 +741,7 @@ module _ (nester : Path) (slot : ℕ) (start : World) (near : far_field ((cut st
   asked : (stage other : Stage) (words given : List ℕ) → asking stage words ≡ Asks other given → (P : Stage → List ℕ → Type 0) → P stage words → P other given
   asked stage other words given e P p = let stages : stage ≡ other = cc in let same : words ≡ given = cc in subst (λ (ws : List ℕ). P other ws) same (subst (λ (st : Stage). P st words) stages p)
 
-  own : (w : World) (s : State) (stage : Stage) (words : List ℕ) (reply : Reply) (found : List Ptr) → Stands w s found → head slot s ≡ Asks stage words → IsAnswered nester w stage words reply →
+  pub own : (w : World) (s : State) (stage : Stage) (words : List ℕ) (reply : Reply) (found : List Ptr) → Stands w s found → head slot s ≡ Asks stage words → IsAnswered nester w stage words reply →
       Stands (after w (call_of nester stage words)) (next slot s reply.status reply.words) found
   own w s stage words reply found its asks answered = by s its.position its.tasks its.end asks answered
     where

@@ -7,3 +7,5 @@ pub mod Gathers
 pub mod Scans
 pub mod Walks
 pub mod Contents
+pub mod Tasks
+pub mod Phases

@@ -81,22 +81,22 @@ module _ (nester : Path) (slot : ℕ) (start : World) (root_near : far_field ((c
 
   -- ---- what is left to be found
 
-  abbrev at_object : Path → Option ℕ
+  abbrev pub at_object : Path → Option ℕ
   at_object q = or_else (far_field (c.body q)) (when_bad (led q) led_to_from_outside)
 
-  abbrev paths_of : List Task → List Path
+  abbrev pub paths_of : List Task → List Path
   paths_of ts = map (λ (t : Task). t.path) ts
 
-  abbrev rests : List Task → Option Place
+  abbrev pub rests : List Task → Option Place
   rests ts = first_place at_object slot (paths_of ts)
 
-  abbrev left : Task → List ℕ → Option ℕ
+  abbrev pub left : Task → List ℕ → Option ℕ
   left t fs = or_else (first_bad t.strict (c.body t.path) fs) (when_bad (led t.path) led_to_from_outside)
 
-  abbrev ends_with : Task → List Task → Option ℕ → Option Place
+  abbrev pub ends_with : Task → List Task → Option ℕ → Option Place
   ends_with t ts o = or_else (option_map (place_of slot t) o) (rests ts)
 
-  abbrev ends : State → Option Place
+  abbrev pub ends : State → Option Place
   ends (Down from ways t ts) = ends_with t ts (left t t.fields)
   ends (Fields fs t ts) = ends_with t ts (left t fs)
   ends (Inside n fs t ts) = ends_with t ts (left t (n ∷ fs))
@@ -111,7 +111,7 @@ module _ (nester : Path) (slot : ℕ) (start : World) (root_near : far_field ((c
   AllTasks [] = Unit {0}
   AllTasks (t ∷ ts) = IsTask t × AllTasks ts
 
-  abbrev tasks_of : State → Type 0
+  abbrev pub tasks_of : State → Type 0
   tasks_of (Down from ways t ts) = IsTask t × AllTasks ts
   tasks_of (Fields fs t ts) = IsTask t × AllTasks ts
   tasks_of (Inside n fs t ts) = IsTask t × AllTasks ts

@@ -112,7 +112,7 @@ module _ (nester : Path) (slot : ℕ) (start : World) (near : far_field ((cut st
   abbrev pub IsSpace : Path → Type 0
   IsSpace q = kind_there start (q ++ root) ≡ Some kinds.Space
 
-  abbrev within : ℕ → Path → ℕ → List Path
+  abbrev pub within : ℕ → Path → ℕ → List Path
   within m q k = flat_map (λ j. (j ∷ q) ∷ beneath_by m c (j ∷ q)) (filter (λ j. is_some (c.body (j ∷ q))) (rising (SLOTS - k) k))
 
   -- what is left of the spaces above too
@@ -120,7 +120,7 @@ module _ (nester : Path) (slot : ℕ) (start : World) (near : far_field ((cut st
   above m [] = []
   above m (j ∷ q) = within (suc m) q (j + 1) ++ above (suc m) q
 
-  abbrev left : ℕ → Path → ℕ → List Path
+  abbrev pub left : ℕ → Path → ℕ → List Path
   left m q k = within m q k ++ above m q
 
   residents_rise : (q : Path) → residents c q ≡ filter (λ j. is_some (c.body (j ∷ q))) (rising (SLOTS - 0) 0)
@@ -175,12 +175,12 @@ module _ (nester : Path) (slot : ℕ) (start : World) (near : far_field ((cut st
     AtSearches : (q : Path) (k : ℕ) (got : List Met) → PlacedIn w q → IsSpace q → k ≤ SLOTS → Position w (Searches q k got)
     AtOver : (got : List Met) → Position w (Over got)
 
-  abbrev place_of : State → Path
+  abbrev pub place_of : State → Path
   place_of (Down from ways q k got) = q
   place_of (Searches q k got) = q
   place_of (Over got) = []
 
-  abbrev ends : ℕ → State → List Met
+  abbrev pub ends : ℕ → State → List Met
   ends m (Down from ways q k got) = got ++ map (met c) (left m q k)
   ends m (Searches q k got) = got ++ map (met c) (left m q k)
   ends m (Over got) = got

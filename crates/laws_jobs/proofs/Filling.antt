@@ -89,7 +89,7 @@ users_due w x asks.Accept users = (refl, tt)
 users_due w x (asks.Give words len) users = (refl, tt)
 users_due w x asks.Over users = (refl, tt)
 
-scratch_high : (s : Path) (k : ℕ) → is_scratch s (k ∷ s) ≡ true → nat_le k LAST_USER_SLOT ≡ false
+pub scratch_high : (s : Path) (k : ℕ) → is_scratch s (k ∷ s) ≡ true → nat_le k LAST_USER_SLOT ≡ false
 scratch_high s k h = by (nat_le k LAST_USER_SLOT) refl
   where
     by : (b : Bool) → nat_le k LAST_USER_SLOT ≡ b → b ≡ false
