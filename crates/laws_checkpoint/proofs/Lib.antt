@@ -9,3 +9,4 @@ pub mod Walks
 pub mod Contents
 pub mod Tasks
 pub mod Phases
+pub mod Working

@@ -169,7 +169,7 @@ module _ (nester : Path) (slot birth : ℕ) where
               cc
           others (space, inr rest) = (space, rest)
 
-  tidy_held : (v : World) (made : List ℕ) (holder : Option Ptr) → Tidy v made → Tidy (apply (Alter root (SetHolder holder)) v) made
+  pub tidy_held : (v : World) (made : List ℕ) (holder : Option Ptr) → Tidy v made → Tidy (apply (Alter root (SetHolder holder)) v) made
   unfolding apply edited
   tidy_held v made holder tidy = record {
     named = by_nester (same_path nester root) refl ∙ tidy.named;

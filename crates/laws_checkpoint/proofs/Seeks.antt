@@ -743,6 +743,12 @@ pub first_base : (nester : Path) (slot : ℕ) (w : World) → IsHolding nester s
 unfolding led
 first_base nester slot w holding near scratched = record { holding = holding; inside = inside-itself (slot ∷ nester) w; same = refl; leads = λ q. refl; scratched = scratched }
 
+-- what is left of all tasks is the first place
+pub rests_are : (nester : Path) (slot : ℕ) (start : World) (near : far_field ((cut start nester slot).body []) ≡ None) →
+    rests nester slot start near (map (task_of (cut start nester slot)) (preorder start nester slot)) ≡ open_place start nester slot
+unfolding open_place led
+rests_are nester slot start near = ap (first_place (open_field start nester slot) slot) (paths-back (cut start nester slot) (preorder start nester slot))
+
 module _ (nester : Path) (slot : ℕ) (w : World) (holding : IsHolding nester slot w) (sound : IsSound w) (scratched : IsScratched nester w) where
   its_root : (far_field ((cut w nester slot).body []) ≡ None) × IsSome ((cut w nester slot).body [])
   its_root = root_is nester slot w holding sound.whole.valid

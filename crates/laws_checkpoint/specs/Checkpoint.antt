@@ -45,8 +45,9 @@ abbrev pub asks_as : {A : Type 0} → Head A → Head End
 asks_as (Asks stage words) = Asks stage words
 asks_as (Stops end) = Stops Gone
 
+-- what was made last is dropped first
 abbrev pub ends_as : End → State
-ends_as end = Drops PLACES (TARGETS ∷ STEPS ∷ []) end
+ends_as end = Drops STEPS (TARGETS ∷ PLACES ∷ []) end
 
 abbrev pub gathers_on : List Content → gathers.State → Head (List Ptr) → State
 gathers_on contents s (Asks stage words) = Gathers contents s

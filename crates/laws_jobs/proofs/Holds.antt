@@ -284,7 +284,7 @@ module _ (nester : Path) (slot : ℕ) (w : World) (holding : IsHolding nester sl
       by (Some (Reference to)) e h = cc
       by None e h = cc
 
-  release-row : call_row w (porter nester no_words) None (SpaceRelease OWN_SPACE slot) ≡ Goes (Alter here (SetHolder None) ∷ []) (Answered status.OK [])
+  pub release-row : call_row w (porter nester no_words) None (SpaceRelease OWN_SPACE slot) ≡ Goes (Alter here (SetHolder None) ∷ []) (Answered status.OK [])
   unfolding call_row space_release
   release-row =
       let low = holding.low in
@@ -292,7 +292,7 @@ module _ (nester : Path) (slot : ℕ) (w : World) (holding : IsHolding nester sl
       object-there nester no_words w space_of nester slot (Space space_here.birth (Some (At caller))) (Some (At caller)) (le-leb slot LAST_PORTER_SLOT (omega (arith, low))) space_here.there refl in
       rw (own-place nester no_words w, object, holding.above, same_path_refl caller) refl
 
-  unheld_root : holder_of ((released_world nester slot w).body here) ≡ None
+  pub unheld_root : holder_of ((released_world nester slot w).body here) ≡ None
   unfolding apply edited
   unheld_root = rw (same_path_refl here, space_here.there) refl
 
@@ -303,7 +303,7 @@ module _ (nester : Path) (slot : ℕ) (w : World) (holding : IsHolding nester sl
       by : (j : ℕ) → ports_of (released_world nester slot w) nester slot j ≡ ports_of w nester slot j
       by j = rw (port_by_kind ((released_world nester slot w).body (j ∷ nester)), port_by_kind (w.body (j ∷ nester)), same_kinds w here (SetHolder None) (j ∷ nester)) refl
 
-  same_cut : cut (released_world nester slot w) nester slot ≡ cut w nester slot
+  pub same_cut : cut (released_world nester slot w) nester slot ≡ cut w nester slot
   unfolding cut apply edited seen_by
   same_cut =
       ap (λ (ports : ℕ → Bool). cut_by ports (released_world nester slot w) nester slot) ports_same
