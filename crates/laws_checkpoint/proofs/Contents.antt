@@ -1,6 +1,6 @@
 -- A reader gathers what stands in each space.
-use Rattle.std.proofs.Common.{◌≡◌, ℕ, zero, suc, ◌+◌, ◌-◌, ◌≤◌, ◌<◌, Bool, true, false, cond, ◌&&◌, ◌==◌, nat_le, nat_lt, IsSome, is_some, is_none, List, [], ◌∷◌, ◌++◌, map, Option, Some, None, option_map, Ok, refl, sym, ap, subst, arith, ◌∙◌, ◌⊎◌, inl, inr}
-use Rattle.std.proofs.lemmas.Bool.{le-leb, leb-true, cases_lt}
+use Rattle.std.proofs.Common.{◌≡◌, ℕ, zero, suc, ◌+◌, ◌-◌, ◌≤◌, ◌<◌, Bool, true, false, cond, ◌==◌, nat_le, List, [], ◌∷◌, ◌++◌, map, Option, Some, None, option_map, refl, sym, ap, subst, arith, ◌∙◌, inl, inr}
+use Rattle.std.proofs.lemmas.Bool.{le-leb, leb-true}
 use Rattle.fk_model.specs.declared.limits.TheConstants.{OWN_SPACE, SLOTS, PAGES, LAST_PORTER_SLOT}
 use Rattle.fk_model.specs.declared.names.Kind.TheVariants as kinds
 use Rattle.fk_model.specs.declared.stage.Stage.{Stage}
@@ -8,7 +8,7 @@ use Rattle.fk_model.specs.declared.stage.Stage.TheVariants.{Point, Search, GetSt
 use Rattle.fk_model.specs.declared.statuses.status.TheConstants.{OK, NONE}
 use Rattle.fk_model.specs.Places.{Path, leads_to}
 use Rattle.fk_model.specs.Places.Ptr.{At}
-use Rattle.fk_model.specs.Objects.{Talk, Fault, Thread, Peer, Body, kind_of, number_of_kind, and_then}
+use Rattle.fk_model.specs.Objects.{Talk, Fault, Thread, Peer, Body, kind_of, number_of_kind}
 use Rattle.fk_model.specs.Objects.Body.{Mutex, Cond, Mapping, Region, Port, Portset, Space, Thread_of, Reference}
 use Rattle.fk_model.specs.World.{World, apply}
 use Rattle.fk_model.specs.World.Change.{Alter}
@@ -25,9 +25,8 @@ use Rattle.fk_model.specs.Valid.{IsValid, is_fit, kind_there}
 use Rattle.fk_model.specs.Closed.{far_field}
 use Rattle.fk_model.specs.Cut.{cut, cutting, ports_of, seen_by, unheld}
 use Rattle.fk_model.proofs.walks.PlaceLaws.{same_path_eq}
-use Rattle.fk_model.proofs.walks.WalkLaws.{live-kind}
 use Rattle.fk_model.proofs.walks.Members.{IsIn}
-use Rattle.laws_frozen.specs.Holding.{IsHolding, IsUsersMove, IsNear}
+use Rattle.laws_frozen.specs.Holding.{IsUsersMove, IsNear}
 use Rattle.laws_frozen.proofs.Holding.{others_keep_hold}
 use Rattle.laws_jobs.specs.Machines.{Head, Reply, reply_of, heard, said_of, porter, no_words, call_of, IsAnswered, Interleaved}
 use Rattle.laws_jobs.specs.Machines.Head.{Stops, Asks}
@@ -35,16 +34,15 @@ use Rattle.laws_jobs.specs.Machines.Interleaved.{Here, Another, Own}
 use Rattle.laws_jobs.proofs.Own.{own_body}
 use Rattle.laws_jobs.proofs.Rows.{own-place, object-there, point-row, space_pointer, state-row, page_as, page_next-row, page_read-row}
 use Rattle.laws_jobs.proofs.Weaving.{first_sound}
-use Rattle.laws_checkpoint.specs.Foreign.{PLACES, way_from, IsScratched}
+use Rattle.laws_checkpoint.specs.Foreign.{PLACES, way_from}
 use Rattle.laws_checkpoint.specs.Walk.{space_at}
-use Rattle.laws_checkpoint.specs.Contents.{Item, Content, with_item, items_from, record_in, record_at, content, State, begin_at, begin, arrive, head, searched, looked, next, reader, SpacesAreRead}
+use Rattle.laws_checkpoint.specs.Contents.{Item, Content, with_item, items_from, record_in, record_at, content, State, begin, arrive, head, searched, looked, next, reader, SpacesAreRead}
 use Rattle.laws_checkpoint.specs.Contents.State.{Down, Searches, Reads, Looks, Copies, Over}
 use Rattle.laws_checkpoint.proofs.Scans.{Scan, scan, lowest_none, lowest_first}
 use Rattle.laws_checkpoint.proofs.Scans.Scan.{Nobody, First}
 use Rattle.laws_checkpoint.proofs.Mild.{Comes, ComesWith}
-use Rattle.laws_checkpoint.proofs.Mild.IsMild.{Changes_nothing, Leads}
-use Rattle.laws_checkpoint.proofs.Mild.IsOwnSlot.{Places}
-use Rattle.laws_checkpoint.proofs.Tells.{root_kind, above_kind}
+use Rattle.laws_checkpoint.proofs.Mild.IsMild.{Changes_nothing}
+use Rattle.laws_checkpoint.proofs.Tells.{above_kind}
 use Rattle.laws_checkpoint.proofs.Seeks.{follow, follow-way, FromIs, Base, base_others, first_base, root_is, own_base, kind_up, live_slot, space_live, free, from_named, ref_read, valid_own, one_change, no_change, is_places}
 use Rattle.laws_checkpoint.proofs.Walks.{there, kind_seen, IsSpace, PlacedIn, placed_moved, from_moved, same_there, space_now, named, seen_taken, below_none, empty_none, found_there, searched as search_comes, comes_down, comes_search}
 

@@ -1,7 +1,7 @@
 -- A gatherer has the pointers that the cut shows.
-use Rattle.std.proofs.Common.{◌≡◌, ℕ, ◌≤◌, Bool, true, false, cond, ◌==◌, IsSome, is_some, List, [], ◌∷◌, ◌++◌, map, Option, Some, None, option_map, Ok, refl, sym, ap, subst, arith, length, ◌∙◌, inl, inr, suc, ◌+◌, ◌*◌, nat_le, length-append, ◌⊎◌}
+use Rattle.std.proofs.Common.{◌≡◌, ℕ, ◌≤◌, Bool, true, false, cond, ◌==◌, IsSome, is_some, List, [], ◌∷◌, ◌++◌, map, Option, Some, None, option_map, Ok, refl, sym, ap, subst, arith, length, ◌∙◌, inl, inr, suc, nat_le}
 use Rattle.std.specs.List.{list_any}
-use Rattle.std.proofs.lemmas.Bool.{ne_eqb, le-leb}
+use Rattle.std.proofs.lemmas.Bool.{ne_eqb}
 use Rattle.fk_model.specs.declared.limits.TheConstants.{OWN_SPACE, LAST_PORTER_SLOT}
 use Rattle.fk_model.specs.declared.names.Kind.TheVariants as kinds
 use Rattle.fk_model.specs.declared.stage.Stage.{Stage}
@@ -9,12 +9,12 @@ use Rattle.fk_model.specs.declared.stage.Stage.TheVariants.{Point, GetPtr, Locat
 use Rattle.fk_model.specs.declared.statuses.status.TheConstants.{OK, NONE}
 use Rattle.fk_model.specs.Places.{Path, same_path, strip, Ptr, leads_to}
 use Rattle.fk_model.specs.Places.Ptr.{Null, Dead, At, Out, Outside, Far}
-use Rattle.fk_model.specs.Objects.{Body, reference_of}
+use Rattle.fk_model.specs.Objects.{Body}
 use Rattle.fk_model.specs.Objects.Body.{Reference}
-use Rattle.fk_model.specs.World.{World, apply, Change, apply_all}
+use Rattle.fk_model.specs.World.{World, apply}
 use Rattle.fk_model.specs.World.Change.{Alter}
 use Rattle.fk_model.specs.World.Edit.{SetPointer}
-use Rattle.fk_model.specs.Searches.{beneath, objects, depth}
+use Rattle.fk_model.specs.Searches.{beneath, depth}
 use Rattle.fk_model.specs.Freezing.{body_pointers}
 use Rattle.fk_model.specs.Outcomes.Outcome.{Goes}
 use Rattle.fk_model.specs.Outcomes.Said.{Answered}
@@ -25,29 +25,25 @@ use Rattle.fk_model.specs.ObjectRows.{outermost, way_down, is_scratch, way_to, k
 use Rattle.fk_model.specs.Moves.{call_row}
 use Rattle.fk_model.specs.Runs.{Event, after}
 use Rattle.fk_model.specs.Valid.{IsValid, is_fit, kind_there}
-use Rattle.fk_model.specs.Closed.{far_field, is_led_to}
+use Rattle.fk_model.specs.Closed.{far_field}
 use Rattle.fk_model.specs.Cut.{cut, cut_ptr, ports_of}
 use Rattle.fk_model.proofs.walks.PlaceLaws.{strip-append, strip_some, same_path_refl, same_path_eq}
 use Rattle.fk_model.proofs.walks.Members.{IsIn}
 use Rattle.laws_frozen.specs.Frozen.{IsSameInside}
 use Rattle.laws_frozen.specs.Holding.{IsUsersMove, IsNear, IsHolding}
 use Rattle.laws_frozen.proofs.Holding.{others_keep_hold}
-use Rattle.laws_frozen.proofs.FrozenLaws.{frozen_cut_stays}
 use Rattle.laws_jobs.specs.Machines.Head.{Stops, Asks}
 use Rattle.laws_jobs.specs.Machines.Interleaved.{Here, Another, Own}
 use Rattle.laws_checkpoint.specs.Gather.State.{Down, Fields, Looks, Leads, Beside, Over}
-use Rattle.laws_jobs.proofs.LeadLaws.{others_keep_leads}
-use Rattle.laws_jobs.proofs.Unled.{held_frozen}
-use Rattle.laws_jobs.proofs.Own.{other_body, own_body, pointed_inside, pointed_holding}
+use Rattle.laws_jobs.proofs.Own.{other_body, own_body, pointed_inside}
 use Rattle.std.proofs.lemmas.Bool.Decides.{nat_tests}
-use Rattle.fk_model.specs.Holds.{decider, is_frozen_for}
 use Rattle.fk_model.proofs.walks.WalkLaws.{live-kind}
 use Rattle.laws_frozen.proofs.Frozen.{there_live}
 use Rattle.laws_jobs.specs.Machines.{Head, Reply, reply_of, heard, said_of, porter, no_words, call_of, IsAnswered, Interleaved}
 use Rattle.laws_jobs.proofs.Rows.{own-place, object-there, point-row, get_ptr-row, located_as, space_pointer, ref_named}
 use Rattle.laws_jobs.proofs.Weaving.{first_sound}
 use Rattle.laws_frozen.proofs.FrozenCut.{ptr_alike}
-use Rattle.laws_checkpoint.specs.Foreign.{PLACES, TARGETS, STEPS, Task, way_from, reading, told_pointer, located_at, IsScratched}
+use Rattle.laws_checkpoint.specs.Foreign.{PLACES, TARGETS, STEPS, Task, way_from, reading, told_pointer, located_at}
 use Rattle.laws_checkpoint.specs.Gather.{place_at, pointer_fields, pointer_task, field_as, body_as, shown_at, State, begin_at, begin, go_on, arrive, head, takes, read, looked, next, gatherer, pointers_of, all_pointers, PointersAreGathered}
 use Rattle.laws_checkpoint.proofs.Mild.{Comes, ComesWith}
 use Rattle.laws_checkpoint.proofs.Mild.IsMild.{Changes_nothing, Leads as Leads_anew}

@@ -10,3 +10,4 @@ pub mod Contents
 pub mod Tasks
 pub mod Phases
 pub mod Working
+pub mod Ended

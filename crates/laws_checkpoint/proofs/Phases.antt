@@ -1,21 +1,20 @@
 -- A checkpoint from its first call to its last: what holds in each of its states.
-use Rattle.std.proofs.Common.{◌≡◌, ℕ, ◌+◌, ◌≤◌, ◌<◌, Bool, true, false, cond, not, ◌&&◌, ◌==◌, nat_le, IsSome, is_some, List, [], ◌∷◌, ◌++◌, map, length, Option, Some, None, option_map, Ok, refl, sym, ap, subst, arith, length-append, ◌∙◌, ◌⊎◌, inl, inr}
+use Rattle.std.proofs.Common.{◌≡◌, ℕ, ◌≤◌, Bool, true, false, cond, ◌&&◌, nat_le, IsSome, is_some, List, [], ◌∷◌, ◌++◌, length, Option, Some, None, option_map, refl, sym, ap, subst, arith, length-append, ◌∙◌, inl, inr}
 use Rattle.std.specs.List.{list_any}
-use Rattle.std.proofs.lemmas.Bool.{and_parts, leb-true, le-leb}
-use Rattle.fk_model.specs.declared.limits.TheConstants.{OWN_SPACE, LAST_USER_SLOT, FIRST_SCRATCH_SLOT, LAST_SCRATCH_SLOT, LAST_PORTER_SLOT}
+use Rattle.std.proofs.lemmas.Bool.{and_parts}
+use Rattle.fk_model.specs.declared.limits.TheConstants.{OWN_SPACE, FIRST_SCRATCH_SLOT, LAST_SCRATCH_SLOT, LAST_PORTER_SLOT}
 use Rattle.fk_model.specs.declared.names.Kind.TheVariants as kinds
-use Rattle.fk_model.specs.declared.stage.Stage.{Stage}
-use Rattle.fk_model.specs.declared.stage.Stage.TheVariants.{Create, Destroy, SpaceHold, SpaceRelease}
+use Rattle.fk_model.specs.declared.stage.Stage.TheVariants.{Create, Destroy}
 use Rattle.fk_model.specs.declared.statuses.status.TheConstants.{OK}
 use Rattle.fk_model.specs.Places.{Path, same_path, strip, is_within, Ptr, leads_to}
-use Rattle.fk_model.specs.Places.Ptr.{Null, At}
-use Rattle.fk_model.specs.Objects.{Body, kind_of, number_of_kind, and_then, holds}
+use Rattle.fk_model.specs.Places.Ptr.{Null}
+use Rattle.fk_model.specs.Objects.{Body, number_of_kind, and_then, holds}
 use Rattle.fk_model.specs.Objects.Body.{Reference}
 use Rattle.fk_model.specs.World.{World, Change, edited, apply, apply_all}
 use Rattle.fk_model.specs.World.Change.{Alter, Make, Kill}
 use Rattle.fk_model.specs.World.Edit.{SetPointer, SetHolder}
-use Rattle.fk_model.specs.Searches.{objects, depth}
-use Rattle.fk_model.specs.Holds.{holder_of, decider, is_frozen_for}
+use Rattle.fk_model.specs.Searches.{depth}
+use Rattle.fk_model.specs.Holds.{decider, is_frozen_for}
 use Rattle.fk_model.specs.Freezing.{body_pointers}
 use Rattle.fk_model.specs.Outcomes.Outcome.{Goes}
 use Rattle.fk_model.specs.Outcomes.Said.{Answered}
@@ -24,8 +23,8 @@ use Rattle.fk_model.specs.StateRows.{is_native}
 use Rattle.fk_model.specs.ObjectRows.{is_scratch}
 use Rattle.fk_model.specs.Moves.{call_row}
 use Rattle.fk_model.specs.Runs.{Event, after}
-use Rattle.fk_model.specs.Valid.{IsValid, is_fit, kind_there, birth_of, birth_at}
-use Rattle.fk_model.specs.Closed.{Place, IsClosed, open_place, is_led_to, far_field}
+use Rattle.fk_model.specs.Valid.{IsValid, birth_of, birth_at}
+use Rattle.fk_model.specs.Closed.{is_led_to, far_field}
 use Rattle.fk_model.specs.Cut.{cut}
 use Rattle.fk_model.proofs.walks.PlaceLaws.{same_path_refl, same_path_eq, same_path_ne, strip_some}
 use Rattle.fk_model.proofs.walks.Members.{IsIn}
@@ -33,29 +32,17 @@ use Rattle.laws_frozen.specs.Frozen.{IsSameInside}
 use Rattle.laws_frozen.specs.Holding.{IsHolding, IsUsersMove, IsNear, only_reference}
 use Rattle.laws_frozen.proofs.Holding.{others_keep_hold}
 use Rattle.laws_frozen.proofs.FrozenCut.{same-cut}
-use Rattle.laws_savable.specs.Savable.{IsSound}
-use Rattle.laws_jobs.specs.Machines.{Head, Reply, reply_of, heard, said_of, porter, no_words, call_of, IsReadyAt, IsAnswered, Interleaved, AtWork}
-use Rattle.laws_jobs.specs.Machines.Head.{Stops, Asks}
-use Rattle.laws_jobs.specs.Machines.Interleaved.{Here, Another, Own}
-use Rattle.laws_jobs.specs.Jobs.{IsClean, MayBegin}
-use Rattle.laws_jobs.specs.Leads.{held_world}
-use Rattle.laws_jobs.specs.Holds.{hold, release, IsSpaceAt, Held, Unheld, released_world, Released}
+use Rattle.laws_jobs.specs.Machines.{porter, no_words}
+use Rattle.laws_jobs.specs.Jobs.{IsClean}
 use Rattle.laws_jobs.proofs.Filling.{users_fill_low, scratch_high}
 use Rattle.laws_jobs.proofs.Nesters.{nester_stays}
-use Rattle.laws_jobs.proofs.Weaving.{first_sound}
-use Rattle.laws_jobs.proofs.Goings.{goes_by, one_change, called}
 use Rattle.laws_jobs.proofs.LeadLaws.{others_keep_leads}
-use Rattle.laws_jobs.proofs.Dropped.{inside, inside_plain, scratch_leads, scratch_holding}
+use Rattle.laws_jobs.proofs.Dropped.{inside, scratch_leads, scratch_holding}
 use Rattle.laws_jobs.proofs.Gone.{bodies_stay, pages_stay, gone, destroy-row}
-use Rattle.laws_jobs.proofs.Holds.{hold_comes_to, release_comes_to}
 use Rattle.laws_jobs.proofs.Rows.{own-place, object-there, create-row}
-use Rattle.laws_machine.proofs.validity.Steps.{step_keeps_valid_lem}
-use Rattle.laws_checkpoint.specs.Foreign.{PLACES, TARGETS, STEPS, IsScratched}
-use Rattle.laws_checkpoint.specs.Checkpoint.{End, State, head, next, checkpoint}
-use Rattle.laws_checkpoint.specs.Checkpoint.End.{Gone, Foreign, Done}
-use Rattle.laws_checkpoint.specs.Checkpoint.State.{Holds, Readies, Walks, Seeks, Reads, Gathers, Drops, Releases, Over}
-use Rattle.laws_checkpoint.proofs.Same.{inside-itself, inside-then}
-use Rattle.laws_checkpoint.proofs.Mild.{IsOwnSlot, IsMild, Comes, ComesWith}
+use Rattle.laws_checkpoint.specs.Foreign.{IsScratched}
+use Rattle.laws_checkpoint.proofs.Same.{inside-then}
+use Rattle.laws_checkpoint.proofs.Mild.{IsOwnSlot, IsMild}
 use Rattle.laws_checkpoint.proofs.Mild.IsOwnSlot.{Places, Targets, Steps}
 use Rattle.laws_checkpoint.proofs.Mild.IsMild.{Changes_nothing, Leads}
 use Rattle.laws_checkpoint.proofs.Seeks.{Base, root_is}

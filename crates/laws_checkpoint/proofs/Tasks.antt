@@ -1,25 +1,23 @@
 -- What the parts of a checkpoint are given by those before them.
-use Rattle.std.proofs.Common.{◌≡◌, ℕ, zero, suc, ◌-◌, ◌==◌, Bool, true, false, cond, IsSome, is_some, List, [], ◌∷◌, ◌++◌, map, filter, Option, Some, None, option_map, refl, sym, ap, subst, ◌∙◌, ◌⊎◌, inl, inr}
-use Rattle.std.specs.List.{flat_map}
+use Rattle.std.proofs.Common.{◌≡◌, ℕ, zero, suc, Bool, true, false, cond, IsSome, List, [], ◌∷◌, ◌++◌, map, filter, Option, Some, None, option_map, refl, ap, subst, ◌⊎◌, inl, inr}
 use Rattle.fk_model.specs.declared.limits.TheConstants.{SLOTS}
 use Rattle.fk_model.specs.declared.names.Kind.TheVariants as kinds
 use Rattle.fk_model.specs.Places.{Path}
-use Rattle.fk_model.specs.Objects.{Body, kind_of, number_of_kind}
+use Rattle.fk_model.specs.Objects.{Body, kind_of}
 use Rattle.fk_model.specs.Objects.Body.{Mutex, Cond, Mapping, Region, Port, Portset, Space, Thread_of, Reference}
 use Rattle.fk_model.specs.World.{World}
 use Rattle.fk_model.specs.Records.{record_of, word}
 use Rattle.fk_model.specs.Searches.{residents, beneath_by, beneath, objects, depth}
-use Rattle.fk_model.specs.Valid.{IsValid, kind_there}
+use Rattle.fk_model.specs.Valid.{kind_there}
 use Rattle.fk_model.specs.Closed.{far_field}
 use Rattle.fk_model.specs.Cut.{cut}
-use Rattle.fk_model.proofs.walks.Members.{IsIn, in_left, in_right, of_flat_map, of_filter}
+use Rattle.fk_model.proofs.walks.Members.{IsIn, of_flat_map}
 use Rattle.laws_checkpoint.specs.Foreign.{Task, task_of, fields_of, is_strict}
 use Rattle.laws_checkpoint.specs.Walk.{Met, met, number_there}
-use Rattle.laws_checkpoint.specs.Contents.{Item, Content, with_item, items_from, record_in, record_at, content}
-use Rattle.laws_checkpoint.specs.Gather.{pointer_fields, pointer_task}
+use Rattle.laws_checkpoint.specs.Contents.{with_item, items_from, record_in, record_at, content}
+use Rattle.laws_checkpoint.specs.Gather.{pointer_fields}
 use Rattle.laws_checkpoint.specs.Assembly.{is_space_number, spaces_met, fields_by, is_strict_number, met_task, sought_tasks, pointers_by, item_task, holder_task, content_tasks, gathered_tasks}
-use Rattle.laws_checkpoint.proofs.Gathers.{Task_ok, Tasks_ok}
-use Rattle.laws_checkpoint.proofs.Seeks.{of_objects}
+use Rattle.laws_checkpoint.proofs.Gathers.{Tasks_ok}
 
 -- ---- the tasks of a seeker
 

@@ -1,23 +1,20 @@
 -- A walker meets every object inside, in preorder.
-use Rattle.std.proofs.Common.{◌≡◌, ℕ, zero, suc, ◌+◌, ◌-◌, ◌≤◌, ◌<◌, Bool, true, false, cond, ◌&&◌, ◌==◌, nat_le, nat_lt, IsSome, is_some, List, [], ◌∷◌, ◌++◌, map, filter, length, Option, Some, None, option_map, Ok, refl, sym, ap, subst, arith, length-append, ◌∙◌, ◌⊎◌, inl, inr, eq-eqb}
+use Rattle.std.proofs.Common.{◌≡◌, ℕ, zero, suc, ◌+◌, ◌-◌, ◌≤◌, ◌<◌, Bool, true, false, cond, ◌&&◌, nat_le, is_some, List, [], ◌∷◌, ◌++◌, map, filter, length, Option, Some, None, option_map, Ok, refl, sym, ap, subst, arith, length-append, ◌∙◌, inl, inr}
 use Rattle.std.specs.List.{flat_map}
-use Rattle.std.proofs.lemmas.Bool.{le-leb, lt-leb, leb-true, cases_lt}
-use Rattle.std.proofs.lemmas.List.{append_assoc}
+use Rattle.std.proofs.lemmas.Bool.{le-leb, leb-true}
 use Rattle.fk_model.specs.declared.limits.TheConstants.{OWN_SPACE, SLOTS, LAST_PORTER_SLOT}
 use Rattle.fk_model.specs.declared.names.Kind.TheVariants as kinds
 use Rattle.fk_model.specs.declared.stage.Stage.{Stage}
 use Rattle.fk_model.specs.declared.stage.Stage.TheVariants.{Point, Search}
 use Rattle.fk_model.specs.declared.statuses.status.TheConstants.{OK, NONE}
-use Rattle.fk_model.specs.Places.{Path, leads_to, same_path}
+use Rattle.fk_model.specs.Places.{Path, leads_to}
 use Rattle.fk_model.specs.Places.Ptr.{At}
-use Rattle.fk_model.specs.Objects.{Body, kind_of, number_of_kind, reference_of}
+use Rattle.fk_model.specs.Objects.{Body, kind_of, number_of_kind}
 use Rattle.fk_model.specs.Objects.Body.{Mutex, Cond, Mapping, Region, Port, Portset, Space, Thread_of, Reference}
 use Rattle.fk_model.specs.World.{World, apply}
 use Rattle.fk_model.specs.World.Change.{Alter}
 use Rattle.fk_model.specs.World.Edit.{SetPointer}
 use Rattle.fk_model.specs.Searches.{lowest, slots, residents, beneath_by, beneath, objects, depth}
-use Rattle.fk_model.specs.Outcomes.Outcome.{Goes}
-use Rattle.fk_model.specs.Outcomes.Said.{Answered}
 use Rattle.fk_model.specs.Readers.{space_argument}
 use Rattle.fk_model.specs.Moves.{call_row}
 use Rattle.fk_model.specs.Runs.{Event, after}
@@ -26,16 +23,15 @@ use Rattle.fk_model.specs.Closed.{far_field}
 use Rattle.fk_model.specs.Cut.{cut, cutting, ports_of, seen_by, unheld}
 use Rattle.fk_model.proofs.walks.PlaceLaws.{same_path_eq}
 use Rattle.fk_model.proofs.walks.WalkLaws.{live-kind, short}
-use Rattle.laws_frozen.specs.Holding.{IsHolding, IsUsersMove, IsNear}
+use Rattle.laws_frozen.specs.Holding.{IsUsersMove, IsNear}
 use Rattle.laws_frozen.proofs.Holding.{others_keep_hold}
-use Rattle.laws_savable.specs.Savable.{IsSound}
 use Rattle.laws_jobs.specs.Machines.{Head, Reply, reply_of, heard, said_of, porter, no_words, call_of, IsAnswered, Interleaved}
 use Rattle.laws_jobs.specs.Machines.Head.{Stops, Asks}
 use Rattle.laws_jobs.specs.Machines.Interleaved.{Here, Another, Own}
 use Rattle.laws_jobs.proofs.Own.{own_body}
-use Rattle.laws_jobs.proofs.Rows.{own-place, point-row, search-row, found_as, taken_among, space_pointer, own_named, ref_named}
+use Rattle.laws_jobs.proofs.Rows.{own-place, point-row, search-row, found_as, taken_among, space_pointer, ref_named}
 use Rattle.laws_jobs.proofs.Weaving.{first_sound}
-use Rattle.laws_checkpoint.specs.Foreign.{PLACES, way_from, IsScratched}
+use Rattle.laws_checkpoint.specs.Foreign.{PLACES, way_from}
 use Rattle.laws_checkpoint.specs.Walk.{Met, number_there, met, State, space_at, reach, arrive, leaves, enters, goes_on, head, found, next, walker, begin, ObjectsAreMet}
 use Rattle.laws_checkpoint.specs.Walk.State.{Down, Searches, Over}
 use Rattle.laws_checkpoint.proofs.Scans.{rising, slots_rise, Scan, scan, lowest_none, lowest_first}

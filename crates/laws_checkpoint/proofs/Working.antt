@@ -1,23 +1,22 @@
 -- A checkpoint over every interleaving, from its hold to its release.
-use Rattle.std.proofs.Common.{◌≡◌, ℕ, ◌+◌, ◌≤◌, arith, Bool, true, false, IsSome, List, [], ◌∷◌, ◌++◌, map, Option, Some, None, option_map, refl, sym, ap, subst, ◌∙◌, ◌⊎◌, inl, inr}
+use Rattle.std.proofs.Common.{◌≡◌, ℕ, ◌≤◌, arith, true, IsSome, List, [], ◌∷◌, map, Option, Some, None, refl, sym, ap, subst, ◌∙◌, inl, inr}
 use Rattle.fk_model.specs.declared.limits.TheConstants.{OWN_SPACE, LAST_USER_SLOT, LAST_PORTER_SLOT}
 use Rattle.fk_model.specs.declared.moves.Ask.TheVariants as asks
 use Rattle.fk_model.specs.declared.names.Kind.TheVariants as kinds
 use Rattle.fk_model.specs.declared.stage.Stage.{Stage}
-use Rattle.fk_model.specs.declared.stage.Stage.TheVariants.{Create, Destroy, SpaceHold, SpaceRelease}
+use Rattle.fk_model.specs.declared.stage.Stage.TheVariants.{Create, Destroy, SpaceRelease}
 use Rattle.fk_model.specs.declared.statuses.status.TheConstants.{OK}
 use Rattle.fk_model.specs.Places.{Path, Ptr}
 use Rattle.fk_model.specs.Places.Ptr.{Null}
-use Rattle.fk_model.specs.Objects.{Body, kind_of, number_of_kind, holds}
+use Rattle.fk_model.specs.Objects.{number_of_kind}
 use Rattle.fk_model.specs.Objects.Body.{Reference}
-use Rattle.fk_model.specs.World.{World, Change, apply, apply_all}
+use Rattle.fk_model.specs.World.{World, apply}
 use Rattle.fk_model.specs.World.Change.{Alter, Make, Kill}
 use Rattle.fk_model.specs.World.Edit.{SetHolder}
 use Rattle.fk_model.specs.Searches.{objects, depth}
 use Rattle.fk_model.specs.Holds.{holder_of}
 use Rattle.fk_model.specs.Outcomes.Outcome.{Goes}
 use Rattle.fk_model.specs.Outcomes.Said.{Answered}
-use Rattle.fk_model.specs.StateRows.{is_native}
 use Rattle.fk_model.specs.Moves.{call_row}
 use Rattle.fk_model.specs.Runs.{Event, after}
 use Rattle.fk_model.specs.Valid.{IsValid, is_fit, kind_there}
@@ -30,12 +29,12 @@ use Rattle.laws_frozen.proofs.Holding.{others_keep_hold}
 use Rattle.laws_frozen.proofs.FrozenCut.{same-cut}
 use Rattle.laws_savable.specs.Savable.{IsSound}
 use Rattle.laws_machine.proofs.validity.Steps.{step_keeps_valid_lem}
-use Rattle.laws_jobs.specs.Machines.{Head, Reply, reply_of, heard, said_of, porter, no_words, call_of, IsReadyAt, IsAtCall, IsAnswered, Interleaved}
+use Rattle.laws_jobs.specs.Machines.{Head, Reply, reply_of, heard, said_of, porter, no_words, call_of, IsAtCall, IsAnswered, Interleaved}
 use Rattle.laws_jobs.specs.Machines.Head.{Stops, Asks}
 use Rattle.laws_jobs.specs.Machines.Interleaved.{Here, Another, Own}
 use Rattle.laws_jobs.specs.Jobs.{MayBegin}
 use Rattle.laws_jobs.specs.Leads.{held_world}
-use Rattle.laws_jobs.specs.Holds.{Held, released_world}
+use Rattle.laws_jobs.specs.Holds.{Held}
 use Rattle.laws_jobs.proofs.Weaving.{first_sound}
 use Rattle.laws_jobs.proofs.Goings.{goes_by, one_change}
 use Rattle.laws_jobs.proofs.Holds.{release-row, unheld_root, same_cut as released_cut}
@@ -48,10 +47,10 @@ use Rattle.laws_checkpoint.specs.Contents as reads
 use Rattle.laws_checkpoint.specs.Gather.{shown_at, all_pointers}
 use Rattle.laws_checkpoint.specs.Gather as gathers
 use Rattle.laws_checkpoint.specs.Assembly.{spaces_met, sought_tasks, gathered_tasks, assembled}
-use Rattle.laws_checkpoint.specs.Checkpoint.{End, State, asks_as, ends_as, gathers_on, gathering, reads_on, reading, sought, seeks_on, seeking, walks_on, walking, head, readied, dropped, next, checkpoint}
+use Rattle.laws_checkpoint.specs.Checkpoint.{End, State, asks_as, ends_as, gathers_on, gathering, reads_on, reading, sought, seeks_on, seeking, walks_on, walking, head, next, checkpoint}
 use Rattle.laws_checkpoint.specs.Checkpoint.End.{Gone, Foreign, Done}
-use Rattle.laws_checkpoint.specs.Checkpoint.State.{Holds, Readies, Walks, Seeks, Reads, Gathers, Drops, Releases, Over}
-use Rattle.laws_checkpoint.proofs.Mild.{IsOwnSlot, IsMild, Comes, ComesWith}
+use Rattle.laws_checkpoint.specs.Checkpoint.State.{Readies, Walks, Seeks, Reads, Gathers, Drops, Releases, Over}
+use Rattle.laws_checkpoint.proofs.Mild.{IsOwnSlot, ComesWith}
 use Rattle.laws_checkpoint.proofs.Mild.IsOwnSlot.{Places, Targets, Steps}
 use Rattle.laws_checkpoint.proofs.Tells.{root_kind}
 use Rattle.laws_checkpoint.proofs.Seeks as seeking_on
@@ -61,13 +60,13 @@ use Rattle.laws_checkpoint.proofs.Walks.{kind_seen}
 use Rattle.laws_checkpoint.proofs.Contents as reading_on
 use Rattle.laws_checkpoint.proofs.Gathers as gathering_on
 use Rattle.laws_checkpoint.proofs.Tasks.{sought_are, spaces_are, gathered_ok}
-use Rattle.laws_checkpoint.proofs.Phases.{own_scratch, Tidy, tidy_empty, tidy_clean, tidy_others, tidy_mild, tidy_made, tidy_dropped, tidy_held, Held_on, held_others, make-row, held_made, made_there, made_other, drop-row, held_dropped, dropped_other, base_of, held_of}
+use Rattle.laws_checkpoint.proofs.Phases.{own_scratch, Tidy, tidy_empty, tidy_others, tidy_mild, tidy_made, tidy_dropped, tidy_held, Held_on, held_others, make-row, held_made, made_there, made_other, drop-row, held_dropped, dropped_other, base_of, held_of}
 
-asks_back : {A : Type 0} (h : Head A) (stage : Stage) (words : List ℕ) → asks_as h ≡ Asks stage words → h ≡ Asks stage words
+pub asks_back : {A : Type 0} (h : Head A) (stage : Stage) (words : List ℕ) → asks_as h ≡ Asks stage words → h ≡ Asks stage words
 asks_back (Asks st ws) stage words e = let one : st ≡ stage = cc in let two : ws ≡ words = cc in λ i. Asks (one i) (two i)
 asks_back (Stops end) stage words e = cc
 
-no_stop : {A : Type 0} (P : Type 0) (h : Head A) (stage : Stage) (words : List ℕ) (end : End) → h ≡ Asks stage words → asks_as h ≡ Stops end → P
+pub no_stop : {A : Type 0} (P : Type 0) (h : Head A) (stage : Stage) (words : List ℕ) (end : End) → h ≡ Asks stage words → asks_as h ≡ Stops end → P
 no_stop P (Asks st ws) stage words end e stops = cc
 no_stop P (Stops a) stage words end e stops = cc
 
@@ -340,8 +339,11 @@ module _ (nester : Path) (slot birth : ℕ) (low : slot ≤ LAST_USER_SLOT) (w :
           world = goes.0;
           held_on = held_dropped nester slot birth start v r its own valid few ref.0 ref.1 after_valid few;
           tidy = tidy_dropped nester slot birth v made r ref.0 valid ref.1 tidy;
-          others_stay = λ k other there. (there.0, dropped_other nester slot birth start v r its own valid few ref.0 ref.1 (k ∷ nester)
-              (same_path_ne (k ∷ nester) (r ∷ nester) (λ e. other (let same : k ≡ r = cc in same))) ∙ there.1);
+          others_stay = λ k other there. (
+            there.0,
+            dropped_other nester slot birth start v r its own valid few ref.0 ref.1 (k ∷ nester)
+                (same_path_ne (k ∷ nester) (r ∷ nester) (λ e. other (let same : k ≡ r = cc in same))) ∙ there.1,
+          );
         }
 
   pub own : (v : World) (s : State) (stage : Stage) (words : List ℕ) (reply : Reply) → Phase v s → head slot s ≡ Asks stage words → IsAnswered nester v stage words reply →

@@ -1,10 +1,9 @@
 -- What a checkpoint is for the run in which it works, and what it ends with.
-use Rattle.std.specs.Prelude.{◌≡◌, ℕ, ◌≤◌, Option, Some, None, ◌∷◌}
+use Rattle.std.specs.Prelude.{◌≡◌, ℕ, ◌≤◌, Some, ◌∷◌}
 use Rattle.fk_model.specs.declared.limits.TheConstants.{LAST_USER_SLOT}
 use Rattle.fk_model.specs.Places.{Path}
 use Rattle.fk_model.specs.World.{World}
-use Rattle.fk_model.specs.Holds.{holder_of}
-use Rattle.fk_model.specs.Closed.{Place, IsClosed, open_place}
+use Rattle.fk_model.specs.Closed.{IsClosed, open_place}
 use Rattle.fk_model.specs.Cut.{cut}
 use Rattle.laws_jobs.specs.Machines.{AtWork}
 use Rattle.laws_jobs.specs.Machines.Head.{Stops}

@@ -6,6 +6,7 @@
 #![tactic(auto)]
 
 ghost use Rattle.laws_checkpoint.specs.Gather.{PointersAreGathered};
+ghost use Rattle.laws_checkpoint.specs.Laws.{CheckpointIsTidy, CheckpointKeepsCut, CheckpointEndsAsItWas};
 ghost use Rattle.laws_checkpoint.specs.Walk.{ObjectsAreMet};
 ghost use Rattle.laws_checkpoint.specs.Contents.{SpacesAreRead};
 ghost use Rattle.laws_checkpoint.specs.Foreign.{ForeignIsExact, ForeignIsBounded, SeekerIsReady, SeekingKeepsOpenPlace, PointerIsTold};
@@ -52,4 +53,21 @@ pub fn the_objects_are_met()
 /// of each space, as they were at the beginning.
 pub fn the_spaces_are_read()
     ensures { SpacesAreRead }
+{}
+
+/// What a run wants of a checkpoint: its calls are owed, its porter stays while it has any to make, and
+/// no scratch is left at its end.
+pub fn a_checkpoint_is_tidy()
+    ensures { CheckpointIsTidy }
+{}
+
+/// While a checkpoint works, and behind its release, the subtree's cut is what it was.
+pub fn a_checkpoint_keeps_the_cut()
+    ensures { CheckpointKeepsCut }
+{}
+
+/// A checkpoint ends as the subtree was when it began: no space in the slot; not closed, and the first
+/// place that says so; or closed.
+pub fn a_checkpoint_ends_as_it_was()
+    ensures { CheckpointEndsAsItWas }
 {}

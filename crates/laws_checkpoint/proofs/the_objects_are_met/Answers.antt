@@ -1,7 +1,4 @@
 use Rattle.laws_checkpoint.proofs.Walks.{objects_are_met}
-use Rattle.laws_checkpoint.proofs.Tasks.{sought_are}
-use Rattle.laws_checkpoint.proofs.Working.{arrives}
-use Rattle.laws_checkpoint.proofs.Phases.{own_scratch}
 use Rattle.laws_checkpoint.proofs.the_objects_are_met.Goals as goal
 
 pub returns : goal.returns
