@@ -1,12 +1,13 @@
 -- From its first call on: a checkpoint has never held, or stands in one of its states; and what comes of that.
-use Rattle.std.proofs.Common.{◌≡◌, ℕ, ◌≤◌, Bool, true, cond, List, [], ◌∷◌, Option, Some, None, is_some, refl, sym, ap, subst, ◌∙◌, ◌⊎◌, inl, inr, ne_eqb}
-use Rattle.fk_model.specs.declared.limits.TheConstants.{OWN_SPACE, LAST_USER_SLOT, LAST_PORTER_SLOT}
+use Rattle.std.proofs.Common.{◌≡◌, ℕ, ◌≤◌, Bool, true, cond, List, [], ◌∷◌, Option, Some, None, is_some, IsSome, arith, false, not, ◌&&◌, nat_le, Result, Ok, refl, sym, ap, subst, ◌∙◌, ◌⊎◌, inl, inr, ne_eqb}
+use Rattle.std.proofs.lemmas.Bool.{and_parts, leb-false, le-leb}
+use Rattle.fk_model.specs.declared.limits.TheConstants.{OWN_SPACE, LAST_USER_SLOT, FIRST_SCRATCH_SLOT, LAST_SCRATCH_SLOT, LAST_PORTER_SLOT}
 use Rattle.fk_model.specs.declared.stage.Stage.{Stage}
 use Rattle.fk_model.specs.declared.stage.Stage.TheVariants.{Create, Destroy, Search, Point, Locate, GetState, PageNext, PageRead, SpaceHold, SpaceRelease}
 use Rattle.fk_model.specs.declared.statuses.status.TheConstants.{OK}
 use Rattle.fk_model.specs.Places.{Path}
 use Rattle.fk_model.specs.Places.Ptr.{At}
-use Rattle.fk_model.specs.Objects.{Body}
+use Rattle.fk_model.specs.Objects.{Body, holds}
 use Rattle.fk_model.specs.Holds.{holder_of}
 use Rattle.fk_model.specs.World.{World}
 use Rattle.fk_model.specs.ObjectRows.{is_scratch}
@@ -14,11 +15,15 @@ use Rattle.fk_model.specs.Outcomes.{Said}
 use Rattle.fk_model.specs.Outcomes.Said.{Answered}
 use Rattle.fk_model.specs.Runs.{Event, after}
 use Rattle.fk_model.specs.Valid.{is_fit, birth_at}
+use Rattle.fk_model.specs.Whole.{is_scratch_slot}
+use Rattle.fk_model.specs.Readers.{space_argument}
+use Rattle.fk_model.specs.StateRows.{is_native}
+use Rattle.fk_model.proofs.walks.PlaceLaws.{same_path_refl}
 use Rattle.fk_model.specs.Cut.{cut}
 use Rattle.laws_frozen.specs.Holding.{IsHolding}
 use Rattle.laws_frozen.proofs.FrozenCut.{same-cut}
-use Rattle.laws_savable.specs.Savable.{IsSound}
-use Rattle.laws_jobs.specs.Machines.{Head, heard, said_of, no_words, call_of, IsReadyAt, Interleaved, AtWork, IsOwedCall}
+use Rattle.laws_savable.specs.Savable.{may_make, MayMake, LeavesNoScratch, IsSound}
+use Rattle.laws_jobs.specs.Machines.{Head, heard, said_of, porter, no_words, call_of, IsReadyAt, Interleaved, AtWork, IsOwedCall}
 use Rattle.laws_jobs.specs.Machines.Head.{Stops, Asks}
 use Rattle.laws_jobs.specs.Machines.Interleaved.{Here, Another, Own}
 use Rattle.laws_jobs.specs.Jobs.{IsClean, MayBegin, HasPorter}
@@ -40,6 +45,8 @@ use Rattle.laws_checkpoint.specs.Checkpoint.End.{Gone, Foreign, Done}
 use Rattle.laws_checkpoint.specs.Checkpoint.State.{Holds, Readies, Over}
 use Rattle.laws_checkpoint.specs.Laws.{CheckpointIsTidy, CheckpointKeepsCut, EndsAsItWas, CheckpointEndsAsItWas}
 use Rattle.laws_checkpoint.proofs.Same.{inside-itself}
+use Rattle.laws_checkpoint.proofs.Mild.{IsOwnSlot}
+use Rattle.laws_checkpoint.proofs.Mild.IsOwnSlot.{Places, Targets, Steps}
 use Rattle.laws_checkpoint.proofs.Phases.{Tidy, tidy_clean, tidy_held, scratch_slot}
 use Rattle.laws_checkpoint.proofs.Working.{asks_back, no_stop, Verdict, Phase, arrives}
 use Rattle.laws_checkpoint.proofs.Working.Phase.{AtFirst, AtSecond, AtThird, AtWalks, AtSeeks, AtReads, AtGathers, AtDrops, AtTwoLeft, AtOneLeft, AtReleases, AtOver}
@@ -258,13 +265,46 @@ module _ (slot : ℕ) (v : World) (nester : Path) where
   owed_gathers (g_Beside n fs t ts got) stage words e = given_by v nester (Locate TARGETS OWN_SPACE) stage words e (record { due = record { fit = refl; words = refl }; owes = tt; unpicking = refl })
   owed_gathers (g_Over got) stage words e = cc
 
+-- ---- its scratch is made beside its porter, and there is none where it releases
+
+abbrev placed_at : Path → Result Path ℕ
+placed_at x = Ok x
+
+same_place : (x y : Path) → placed_at x ≡ Ok y → x ≡ y
+same_place x y e = cc
+
+owed_make : (v : World) (nester : Path) (r : ℕ) → IsOwnSlot r → holds is_native (v.body (LAST_PORTER_SLOT ∷ nester)) ≡ true → MayMake v (porter nester no_words) OWN_SPACE r 9
+unfolding space_argument
+owed_make v nester r own native space e = subst (λ (s : Path). may_make v s r 9 ≡ true) (same_place nester space e) (by r own)
+  where
+    by : (r : ℕ) → IsOwnSlot r → may_make v nester r 9 ≡ true
+    by _ Places = rw native refl
+    by _ Targets = rw native refl
+    by _ Steps = rw native refl
+
+scratch_of : (s : Path) (k : ℕ) → is_scratch_slot k ≡ true → is_scratch s (k ∷ s) ≡ true
+scratch_of s k is =
+    let both = and_parts (not (nat_le k LAST_USER_SLOT)) (nat_le k LAST_SCRATCH_SLOT) is in
+    let high = leb-false k LAST_USER_SLOT (off (nat_le k LAST_USER_SLOT) both.0) in
+    rw (same_path_refl s, le-leb FIRST_SCRATCH_SLOT k (omega (arith, high)), both.1) refl
+  where
+    off : (t : Bool) → not t ≡ true → t ≡ false
+    off true h = cc
+    off false h = refl
+
+owed_release : (v : World) (nester : Path) (slot : ℕ) → ((k : ℕ) → is_scratch_slot k ≡ true → IsSome (v.body (k ∷ slot ∷ nester)) → ⊥) →
+    LeavesNoScratch v (porter nester no_words) OWN_SPACE slot
+unfolding space_argument
+owed_release v nester slot none space e k is live =
+    absurd (none k is (subst (λ (s : Path). IsSome (v.body (k ∷ slot ∷ s))) (sym (same_place nester space e)) live))
+
 module _ (slot birth : ℕ) (w : World) (nester : Path) (low : slot ≤ LAST_USER_SLOT) (may : MayBegin w nester birth) where
   owed_in : (held : Held nester slot w) (sound : IsSound (held_world nester slot w)) (v : World) (t : State) (stage : Stage) (words : List ℕ) →
       Phase nester slot birth low w may held sound v t → head slot t ≡ Asks stage words → IsOwedCall v nester stage words
   unfolding is_fit
-  owed_in held sound v _ stage words (AtFirst its tidy) e = given_by v nester (Create OWN_SPACE PLACES 9) stage words e (record { due = record { fit = refl; words = refl }; owes = refl; unpicking = refl })
-  owed_in held sound v _ stage words (AtSecond its places tidy) e = given_by v nester (Create OWN_SPACE TARGETS 9) stage words e (record { due = record { fit = refl; words = refl }; owes = refl; unpicking = refl })
-  owed_in held sound v _ stage words (AtThird its places targets tidy) e = given_by v nester (Create OWN_SPACE STEPS 9) stage words e (record { due = record { fit = refl; words = refl }; owes = refl; unpicking = refl })
+  owed_in held sound v _ stage words (AtFirst its tidy) e = given_by v nester (Create OWN_SPACE PLACES 9) stage words e (record { due = record { fit = refl; words = refl }; owes = owed_make v nester PLACES Places its.holding.porter; unpicking = refl })
+  owed_in held sound v _ stage words (AtSecond its places tidy) e = given_by v nester (Create OWN_SPACE TARGETS 9) stage words e (record { due = record { fit = refl; words = refl }; owes = owed_make v nester TARGETS Targets its.holding.porter; unpicking = refl })
+  owed_in held sound v _ stage words (AtThird its places targets tidy) e = given_by v nester (Create OWN_SPACE STEPS 9) stage words e (record { due = record { fit = refl; words = refl }; owes = owed_make v nester STEPS Steps its.holding.porter; unpicking = refl })
   owed_in held sound v _ stage words (AtWalks s its asking tidy) e = owed_walks slot v nester s stage words (asks_back (walks.head slot s) stage words e)
   owed_in held sound v _ stage words (AtSeeks s its asking tidy) e = owed_seeks slot v nester s stage words (asks_back (seeks.head slot s) stage words e)
   owed_in held sound v _ stage words (AtReads s closed its asking tidy) e = owed_reads slot v nester s stage words (asks_back (reads.head slot s) stage words e)
@@ -272,7 +312,7 @@ module _ (slot birth : ℕ) (w : World) (nester : Path) (low : slot ≤ LAST_USE
   owed_in held sound v _ stage words (AtDrops end verdict its scratched tidy) e = given_by v nester (Destroy OWN_SPACE STEPS) stage words e (record { due = record { fit = refl; words = refl }; owes = refl; unpicking = refl })
   owed_in held sound v _ stage words (AtTwoLeft end verdict its targets places tidy) e = given_by v nester (Destroy OWN_SPACE TARGETS) stage words e (record { due = record { fit = refl; words = refl }; owes = refl; unpicking = refl })
   owed_in held sound v _ stage words (AtOneLeft end verdict its places tidy) e = given_by v nester (Destroy OWN_SPACE PLACES) stage words e (record { due = record { fit = refl; words = refl }; owes = refl; unpicking = refl })
-  owed_in held sound v _ stage words (AtReleases end verdict its tidy) e = given_by v nester (SpaceRelease OWN_SPACE slot) stage words e (record { due = record { fit = refl; words = refl }; owes = tt; unpicking = refl })
+  owed_in held sound v _ stage words (AtReleases end verdict its tidy) e = given_by v nester (SpaceRelease OWN_SPACE slot) stage words e (record { due = record { fit = refl; words = refl }; owes = owed_release v nester slot (λ k is live. (tidy.clean (slot ∷ nester) k (scratch_of (slot ∷ nester) k is) live).1); unpicking = refl })
   owed_in held sound v _ stage words (AtOver end verdict same unheld tidy) e = cc
 
   owed_first : (stage : Stage) (words : List ℕ) → head slot Holds ≡ Asks stage words → IsOwedCall w nester stage words
