@@ -1,3 +1,4 @@
 pub mod FirstWorld
 pub mod MadeSoFar
 pub mod Words
+pub mod Services

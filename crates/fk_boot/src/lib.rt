@@ -17,7 +17,9 @@ mod making;
 mod names;
 mod pages;
 mod porters;
+mod services;
 mod words;
 
 pub use bootable::is_bootable;
 pub use entries::boot;
+pub use services::services_of;

@@ -1,0 +1,202 @@
+-- Acts of servers: which there are, and that there are no others.
+use Rattle.std.proofs.Common.{◌≡◌, ℕ, suc, ◌+◌, ◌<◌, Bool, true, false, if◌then◌else◌, nat_lt, List, [], ◌∷◌, length, Option, Some, None, option_map, IfNone, IfSome, refl, sym, ap, subst, ◌∙◌, arith}
+use Rattle.std.proofs.lemmas.Bool.{ltb-false}
+use Rattle.std.proofs.lemmas.Bool.Decides.{Decides-ltb}
+use Rattle.std.specs.List.{slice_get}
+use Rattle.fk_model.specs.declared.moves.Ask.{Ask}
+use Rattle.fk_model.specs.declared.moves.Ask.TheVariants as asks
+use Rattle.fk_model.specs.declared.moves.Move.{Move}
+use Rattle.fk_model.specs.declared.names.Who.{Who}
+use Rattle.fk_model.specs.Moves.{IsReady, GoesAllowed, outcome, with_pick}
+use Rattle.fk_model.specs.Outcomes.{Outcome}
+use Rattle.fk_model.specs.Outcomes.Outcome.{Refused, Waits, Goes}
+use Rattle.fk_model.specs.Places.{Path}
+use Rattle.fk_model.specs.Who.{named, event_of}
+use Rattle.fk_model.specs.World.{World}
+use Rattle.laws_jobs.specs.Machines.{IsReadyAt}
+use Rattle.fk_model.specs.declared.stage.Stage.{Stage}
+use Rattle.fk_model.specs.Moves.{user_move}
+use Rattle.fk_model.specs.Objects.{Body}
+use Rattle.fk_model.specs.Objects.Body.{Thread_of, Port}
+use Rattle.fk_model.specs.Places.Ptr.{At}
+use Rattle.fk_model.specs.Valid.{is_served_port}
+use Rattle.fk_natives.specs.declared.service.Side.TheVariants as sides
+use Rattle.fk_natives.specs.Natives.{State, OfConsole, OfServer, asks_for, gives_left}
+use Rattle.fk_store.specs.Names.{same_who}
+use Rattle.fk_store_tables.proofs.NameLaws.{same_who_eq}
+use Rattle.laws_runs.specs.Cores.{IsReadyBy, others_ask}
+use Rattle.laws_runs.specs.Cores.Asker.{Nobody, Others}
+use Rattle.laws_whole.specs.Runnable.{has_all_words}
+use Rattle.fk_core.specs.Machines.{IsAnyReady}
+use Rattle.fk_core.specs.Served.{Services, serving, asked, asked_of, gives_words}
+use Rattle.fk_core.specs.Cores.{RunCore, house, is_act, IsReadyMove, HasNoAct, HaveNoActs}
+
+-- who needs no pick has none
+no-pick : (w : World) (x p : Path) (o : Outcome) → GoesAllowed w x (with_pick false (Some p) o) → ⊥
+no-pick w x p (Refused status) h = h
+no-pick w x p Waits h = h
+no-pick w x p (Goes changes said) h = h
+
+unpicked-ready : (w : World) (x p : Path) (ask : Ask) → is_act ask ≡ true → (ask ≡ asks.Accept → ⊥) → IsReady w x (Some p) ask → ⊥
+unfolding outcome
+unpicked-ready w x p asks.Run act other h = cc
+unpicked-ready w x p (asks.Call stage words) act other h = cc
+unpicked-ready w x p asks.Accept act other h = other refl
+unpicked-ready w x p (asks.Give words len) act other h = no-pick w x p _ h
+unpicked-ready w x p asks.Over act other h = no-pick w x p _ h
+
+pub no-act : (c : RunCore) (port : Who) (ask : Ask) → asked c.servers c.world port ≡ Some ask → (ask ≡ asks.Accept → ⊥)
+    → (IsReadyAt c.world (event_of c.world ask (record { who = port; pick = None })) → ⊥) → HasNoAct c port
+no-act c port ask is other unready m asked_for who asks_it act ready = by m.pick refl
+  where
+    same : asked_for ≡ ask
+    same = let e : Some asked_for ≡ Some ask = sym asks_it ∙ is in let f : asked_for ≡ ask = cc in f
+
+    at : (pick : Option Who) → Move
+    at pick = record { who = port; pick = pick }
+
+    there : (pick : Option Who) → m.pick ≡ pick → IsReadyAt c.world (event_of c.world ask (record { who = port; pick = pick }))
+    there pick e =
+        let whole : IsReadyAt c.world (event_of c.world ask (record { who = m.who; pick = m.pick })) = subst (λ a. IsReadyAt c.world (event_of c.world a m)) same ready in
+        subst (λ k. IsReadyAt c.world (event_of c.world ask (record { who = k; pick = pick }))) who
+        (subst (λ p. IsReadyAt c.world (event_of c.world ask (record { who = m.who; pick = p }))) e whole)
+
+    by : (pick : Option Who) → m.pick ≡ pick → ⊥
+    by None e = unready (there None e)
+    by (Some p) e =
+        unpicked-ready c.world (named c.world port) (named c.world p) ask (subst (λ a. is_act a ≡ true) same act) other (there (Some p) e)
+
+pub if-none : {A : Type 0} (o : Option A) (X Y : Type 0) → (X → Y) → IfNone o X → IfNone o Y
+if-none None X Y f h = f h
+if-none (Some a) X Y f h = tt
+
+-- ---- one server after the other
+
+pub no-acts : (c : RunCore) (from : ℕ) → HaveNoActs c from from
+no-acts c from k served low high is = absurd (omega (arith, low, high))
+
+least : (k at : ℕ) → k < at + 1 → (k < at → ⊥) → k ≡ at
+least k at high other = by (nat_lt k at) refl
+  where
+    by : (t : Bool) → nat_lt k at ≡ t → k ≡ at
+    by true e = absurd (other ((Decides-ltb k at).0 e))
+    by false e = let above = ltb-false k at e in omega (arith, high, above)
+
+pub one-more : (c : RunCore) (from at : ℕ) (port : Who) → option_map (λ (s : Who × State). s.0) (slice_get c.servers at) ≡ Some port → HasNoAct c port
+    → HaveNoActs c from at → HaveNoActs c from (at + 1)
+one-more c from at port is none before k served low high there = by (nat_lt k at) refl
+  where
+    by : (t : Bool) → nat_lt k at ≡ t → HasNoAct c served.0
+    by true e = before k served low ((Decides-ltb k at).0 e) there
+    by false e =
+        let here : k ≡ at = least k at high (λ less. let no = (Decides-ltb k at).1 less in cc) in
+        let name : Some served.0 ≡ Some port = sym (ap (option_map (λ (s : Who × State). s.0)) (subst (λ j. slice_get c.servers j ≡ Some served) here there)) ∙ is in
+        let same : served.0 ≡ port = cc in
+        subst (HasNoAct c) (sym same) none
+
+-- ---- no move is left
+
+found : (services : Services) (who : Who) (state : State) → serving services who ≡ Some state →
+    (k : ℕ) × (served : Who × State) × (slice_get services k ≡ Some served) × (k < length services) × (served.0 ≡ who)
+unfolding serving
+found [] who state is = absurd (cc)
+found (e ∷ es) who state is = by (same_who e.0 who) refl (λ rest. found es who state rest)
+  where
+    by : (t : Bool) → same_who e.0 who ≡ t → (serving es who ≡ Some state → (k : ℕ) × (served : Who × State) × (slice_get es k ≡ Some served) × (k < length es) × (served.0 ≡ who))
+        → (k : ℕ) × (served : Who × State) × (slice_get (e ∷ es) k ≡ Some served) × (k < length (e ∷ es)) × (served.0 ≡ who)
+    by true same later = (0, e, refl, omega arith, same_who_eq e.0 who same)
+    by false other later = let rest = later (rw other at is) in (suc rest.0, rest.1, rest.2, omega (arith, rest.3), rest.4)
+
+-- no server asks for a call
+no-call : (left : List ℕ) (stage : Stage) (words : List ℕ) → gives_left left ≡ asks.Call stage words → ⊥
+no-call [] stage words is = cc
+no-call (word ∷ left) stage words is = cc
+
+state-calls : (state : State) (stage : Stage) (words : List ℕ) → asks_for state ≡ Some (asks.Call stage words) → ⊥
+state-calls (OfConsole alias printed sides.Idle) stage words is = cc
+state-calls (OfConsole alias printed sides.Client) stage words is = cc
+state-calls (OfConsole alias printed sides.Own) stage words is = cc
+state-calls (OfServer index rule config position request left sides.Idle) stage words is = cc
+state-calls (OfServer index rule config position request left sides.Client) stage words is = cc
+state-calls (OfServer index rule config position request left sides.Own) stage words is =
+    no-call left stage words (let same : gives_left left ≡ asks.Call stage words = cc in same)
+
+never-calls : (services : Services) (w : World) (who : Who) (stage : Stage) (words : List ℕ) → asked services w who ≡ Some (asks.Call stage words) → ⊥
+never-calls services w who stage words is = by (is_served_port w (At (named w who))) (serving services who) is
+  where
+    by : (port : Bool) (state : Option State) → (if port then asked_of state else Some asks.Run) ≡ Some (asks.Call stage words) → ⊥
+    by true (Some state) e = state-calls state stage words e
+    by true None e = cc
+    by false state e = cc
+
+-- who is ready to run isn't a port
+no-thread : (w : World) (x : Path) (pick : Option Path) → GoesAllowed w x (user_move w x pick None) → ⊥
+no-thread w x pick h = h
+
+pub runs : (services : Services) (w : World) (who : Who) (pick : Option Path) → IsReady w (named w who) pick asks.Run → asked services w who ≡ Some asks.Run
+unfolding outcome
+runs services w who pick ready = by (w.body (named w who)) refl
+  where
+    by : (o : Option Body) → w.body (named w who) ≡ o → asked services w who ≡ Some asks.Run
+    by (Some (Thread_of t)) e = rw e refl
+    by (Some (Port set served)) e = absurd (no-thread w (named w who) pick (rw e at ready))
+    by (Some b) e = rw e refl
+    by None e = rw e refl
+
+pub over : (c : RunCore) → (IsAnyReady c.world → ⊥) → HaveNoActs c 0 (length c.servers) → (m : Move) → IsReadyMove c m → ⊥
+over c users acts m ready = at (asked c.servers c.world m.who) refl ready
+  where
+    run : (ask : Ask) → is_act ask ≡ true → Some asks.Run ≡ Some ask → ⊥
+    run ask is e = let same : asks.Run ≡ ask = cc in let not : is_act asks.Run ≡ true = subst (λ a. is_act a ≡ true) (sym same) is in cc
+
+    act : (ask : Ask) → is_act ask ≡ true → asked c.servers c.world m.who ≡ Some ask → IsReadyAt c.world (event_of c.world ask m) → ⊥
+    act ask is wants ready = by (is_served_port c.world (At (named c.world m.who))) (serving c.servers m.who) refl wants
+      where
+        by : (port : Bool) (state : Option State) → serving c.servers m.who ≡ state → (if port then asked_of state else Some asks.Run) ≡ Some ask → ⊥
+        by true (Some state) serves e =
+            let there = found c.servers m.who state serves in
+            acts there.0 there.1 (omega arith) there.3 there.2 m ask (sym there.4) (subst (λ k. asked c.servers c.world k ≡ Some ask) (sym there.4) wants) is ready
+        by true None serves e = run ask is e
+        by false state serves e = run ask is e
+
+    by_ask : (ask : Ask) → asked c.servers c.world m.who ≡ Some ask → IsReadyAt c.world (event_of c.world ask m) → ⊥
+    by_ask asks.Run wants ready = users (named c.world m.who, option_map (named c.world) m.pick, ready)
+    by_ask (asks.Call stage words) wants ready = never-calls c.servers c.world m.who stage words wants
+    by_ask asks.Accept wants ready = act asks.Accept refl wants ready
+    by_ask (asks.Give words len) wants ready = act (asks.Give words len) refl wants ready
+    by_ask asks.Over wants ready = act asks.Over refl wants ready
+
+    at : (o : Option Ask) → asked c.servers c.world m.who ≡ o → IsReadyBy house c m (others_ask o) → ⊥
+    at None wants ready = ready
+    at (Some ask) wants ready = by (has_all_words ask) ready
+      where
+        by : (words : Bool) → IsReadyBy house c m (if words then Others ask else Nobody) → ⊥
+        by true ready = by_ask ask wants ready
+        by false ready = ready
+
+pub runs-ready : (c : RunCore) (m : Move) → IsReadyAt c.world (event_of c.world asks.Run m) → IsReadyMove c m
+runs-ready c m ready = rw (runs c.servers c.world m.who (option_map (named c.world) m.pick) ready) ready
+
+pub if-some : {A : Type 0} (o : Option A) (X Y : A → Type 0) → ((a : A) → X a → Y a) → IfSome o X → IfSome o Y
+if-some None X Y f h = tt
+if-some (Some a) X Y f h = f a h
+
+-- what is asked for is words, where what is given is
+pub words-asked : (services : Services) (w : World) (who : Who) (ask : Ask) → asked services w who ≡ Some ask → gives_words ask ≡ true → has_all_words ask ≡ true
+words-asked services w who asks.Run is words = refl
+words-asked services w who (asks.Call stage given) is words = absurd (never-calls services w who stage given is)
+words-asked services w who asks.Accept is words = refl
+words-asked services w who (asks.Give given len) is words = words
+words-asked services w who asks.Over is words = refl
+
+-- a move that asks for this is ready in a core where it is in the machine
+pub ready-asked : (c : RunCore) (m : Move) (ask : Ask) → asked c.servers c.world m.who ≡ Some ask → has_all_words ask ≡ true
+    → IsReadyAt c.world (event_of c.world ask m) → IsReadyMove c m
+ready-asked c m ask is words ready = rw (is, words) ready
+
+pub asked-ready : (c : RunCore) (m : Move) (ask : Ask) → asked c.servers c.world m.who ≡ Some ask → IsReadyMove c m → IsReadyAt c.world (event_of c.world ask m)
+asked-ready c m ask is ready = by (has_all_words ask) (rw is at ready)
+  where
+    by : (words : Bool) → IsReadyBy house c m (if words then Others ask else Nobody) → IsReadyAt c.world (event_of c.world ask m)
+    by true ready = ready
+    by false ready = absurd ready

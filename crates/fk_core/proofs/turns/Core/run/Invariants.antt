@@ -1,0 +1,17 @@
+use Rattle.std.proofs.Common.{◌≡◌, ◌+◌, ◌-◌, length, map}
+use Rattle.laws_runs.specs.Cores.{IsRun}
+use Rattle.fk_core.specs.Served.{AllFit}
+use Rattle.fk_core.specs.Cores.{house, core_at}
+use Rattle.fk_core.proofs.turns.Core.run.Given as goal
+
+abbrev pub invariant-loop-m : goal.invariant-loop-m
+invariant-loop-m g l = record {
+  run : IsRun house (core_at (g.K.Machine.contents l.fn.self.kernel) l.fn.self.services.list l.fn.self.events) l.history
+      (core_at (g.K.Machine.contents l.self.kernel) l.self.services.list l.self.events);
+  fits : AllFit (map (λ r. r.rule) l.table.list.items) l.self.services.list;
+  budget : l.self.budget ≡ l.fn.self.budget;
+  events : l.self.events ≡ l.fn.self.events + length l.history;
+}
+
+abbrev pub decreases-loop-m : goal.decreases-loop-m
+decreases-loop-m g l = l.self.budget - l.self.events

@@ -1,0 +1,3 @@
+pub mod Served
+pub mod Cores
+pub mod Machines

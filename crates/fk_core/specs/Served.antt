@@ -1,0 +1,120 @@
+-- Native servers, each by its port: what they ask for, and what each hears of a move.
+use Rattle.std.specs.Prelude.{◌≡◌, Bool, true, List, [], ◌∷◌, map, take, Option, Some, None, if◌then◌else◌}
+use Rattle.std.specs.List.{All}
+use Rattle.fk_model.specs.declared.moves.Ask.{Ask}
+use Rattle.fk_model.specs.declared.moves.Ask.TheVariants as asks
+use Rattle.fk_model.specs.declared.moves.Rule.{Rule}
+use Rattle.fk_model.specs.declared.moves.Said as says_of
+use Rattle.fk_model.specs.declared.moves.Said.TheVariants as says
+use Rattle.fk_model.specs.declared.names.Who.{Who}
+use Rattle.fk_model.specs.Endings.{has_ended}
+use Rattle.fk_model.specs.Outcomes as outcomes
+use Rattle.fk_model.specs.Outcomes.Said.{Nothing, Answered, Taken, Words, Given, Full, Passed, Ended}
+use Rattle.fk_model.specs.Places.{Path, leads_to}
+use Rattle.fk_model.specs.Runs.{Event, after}
+use Rattle.fk_model.specs.Places.Ptr.{At}
+use Rattle.fk_model.specs.Valid.{is_served_port}
+use Rattle.fk_model.specs.Whole.{are_words}
+use Rattle.fk_model.specs.Who.{named}
+use Rattle.fk_model.specs.World.{World}
+use Rattle.fk_natives.specs.Natives as natives
+use Rattle.fk_natives.specs.Natives.{State, News, hears, asks_for, DoesFit}
+use Rattle.fk_store.specs.Names.{same_who}
+use Rattle.fk_core.specs.Machines.{is_who}
+use Rattle.laws_jobs.specs.Machines.{said_of}
+use Rattle.laws_runs.specs.Cores.{Servers}
+
+-- the servers in the order of the file, each with the name of its port
+abbrev pub Services : Type 0
+Services = List (Who × State)
+
+-- ---- what they ask for
+
+-- the server of a port
+unfoldable pub serving : Services → Who → Option State
+serving [] who = None
+serving (e ∷ es) who = if same_who e.0 who then Some e.1 else serving es who
+
+-- what a server asks for; everybody else runs
+abbrev pub asked_of : Option State → Option Ask
+asked_of None = Some asks.Run
+asked_of (Some state) = asks_for state
+
+-- where a served port stands its server is asked. What stands there once that port is gone runs
+abbrev pub asked_at : Bool → Services → Who → Option Ask
+asked_at is_port services who = if is_port then asked_of (serving services who) else Some asks.Run
+
+abbrev pub asked : Services → World → Who → Option Ask
+asked services w who = asked_at (is_served_port w (At (named w who))) services who
+
+-- what is given is words
+abbrev pub gives_words : Ask → Bool
+gives_words (asks.Give words len) = are_words words
+gives_words other = true
+
+-- ---- what they hear
+
+-- what a move tells the server of the port at a path
+abbrev pub said_at : outcomes.Said → Path → Option News
+said_at Nothing port = None
+said_at (Answered status words) port = None
+said_at (Taken to client resumed turn moved) port = if leads_to port to then Some (natives.Taken turn moved) else None
+said_at (Words to words) port = if leads_to port to then Some (natives.Words words) else None
+said_at (Given to count) port = if leads_to port to then Some (natives.Given count) else None
+said_at (Full to) port = None
+said_at (Passed to) port = if leads_to port to then Some natives.Over else None
+said_at (Ended to) port = None
+
+-- a server that had a client before the move and has none after it hears that the talk has ended, whoever moved; any other what the
+-- move tells it
+abbrev pub news_at : World → Event → Path → Option News
+news_at w e port = if has_ended w (after w e) port then Some natives.Ended else said_at (said_of w e) port
+
+abbrev pub after_news : Option News → State → State
+after_news None state = state
+after_news (Some news) state = hears state news
+
+abbrev pub hears_of : World → Event → Who × State → Who × State
+hears_of w e served = (served.0, after_news (news_at w e (named w served.0)) served.1)
+
+-- all servers, as a run has them
+abbrev pub servers : Servers Services
+servers = record { asks = asked; hears = λ services w e. map (hears_of w e) services }
+
+-- ---- the same by names
+
+abbrev pub said_to : says_of.Said → Who → Option News
+said_to says.Nothing who = None
+said_to (says.Answer answer) who = None
+said_to (says.Taken port client resumed turn moved) who = if same_who who port then Some (natives.Taken turn moved) else None
+said_to (says.Words port words len) who = if same_who who port then Some (natives.Words (take len words)) else None
+said_to (says.Given port len) who = if same_who who port then Some (natives.Given len) else None
+said_to (says.Full port) who = None
+said_to (says.Over port) who = if same_who who port then Some natives.Over else None
+said_to (says.Ended port) who = None
+
+abbrev pub news_to : says_of.Said → Option Who → Who → Option News
+news_to said ended who = if is_who ended who then Some natives.Ended else said_to said who
+
+abbrev pub told : says_of.Said → Option Who → Who × State → Who × State
+told said ended served = (served.0, after_news (news_to said ended served.0) served.1)
+
+-- ---- what they rest on
+
+-- the table has the rule of each at its place
+abbrev pub AllFit : List Rule → Services → Type 0
+AllFit rules [] = Unit {0}
+AllFit rules (e ∷ es) = DoesFit rules e.1 × AllFit rules es
+
+-- what stands at each port is shown by its state
+abbrev pub shown : {S : Type 0} → (S → State) → List (Who × S) → Services
+shown meaning list = map (λ e. (e.0, meaning e.1)) list
+
+-- each has room for what it may hear
+abbrev pub HaveRoom : {S : Type 0} → (S → Bool) → List (Who × S) → Type 0
+HaveRoom has_room list = All (λ e. has_room e.1 ≡ true) list
+
+-- servers as the code has them: whether there is room for what each may hear
+pub record Housed : Type 0 where
+  pub list : Services
+  pub ready : Bool

@@ -1,0 +1,30 @@
+//! Whole runs.
+ghost use Rattle.std.specs.Prelude.{◌≡◌, ◌+◌, ◌≤◌, length, map, OnOk, IfOk};
+ghost use Rattle.laws_runs.specs.Cores.{IsRun};
+ghost use Rattle.fk_core.specs.Served.{AllFit};
+ghost use Rattle.fk_core.specs.Cores.{house, core_at, IsOver, IsReadyMove};
+
+use crate::machine::Machine;
+use crate::turns::Core;
+use fk_model::{List as Items, Move, NoMemory};
+use fk_natives::Service;
+use fk_responders::Table;
+use std::alloc::Global;
+
+impl<K: Machine + Drop, S: Service + Drop> Core<K, S> {
+    /// Makes moves until none is ready or the budget is used, and gives them in their order.
+    pub fn run(&mut self, alloc: Global, table: &Table) -> Result<Items<Move>, NoMemory>
+        requires fits { AllFit (map (λ r. r.rule) table.now.list.items) self.old.services.list }
+        ensures run { IfOk result (λ history. IsRun house (core_at (K.contents self.old.kernel) self.old.services.list self.old.events) history
+            (core_at (K.contents self.new.kernel) self.new.services.list self.new.events)) }
+        ensures over { OnOk result (IsOver self.old.budget (core_at (K.contents self.new.kernel) self.new.services.list self.new.events)) }
+        ensures events { IfOk result (λ history. self.new.events ≡ self.old.events + length history) }
+    {
+        let mut history = Items::new(alloc);
+        while let Some(m) = self.choose() {
+            self.turn(table, &m)?;
+            history.push(m)?;
+        }
+        Ok(history)
+    }
+}

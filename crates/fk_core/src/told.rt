@@ -1,0 +1,52 @@
+//! What a server hears of a move.
+ghost use Rattle.std.specs.Prelude.{◌≡◌, false, None, option_map};
+ghost use Rattle.fk_model.specs.declared.names.Who as whos;
+ghost use Rattle.fk_core.specs.Served.{said_to, news_to};
+ghost use Rattle.fk_natives.specs.Natives.{news_of};
+
+use crate::machine::Told;
+use fk_model::{Reply, Said, Who};
+use fk_natives::Heard;
+
+/// What a move tells the server of a port.
+fn said_to(said: &Said, who: Who) -> Option<Heard>
+    ensures { option_map news_of result ≡ said_to said.now who }
+{
+    match said {
+        Said::Taken {
+            port,
+            client,
+            turn,
+            moved,
+            ..
+        } if who == *port => Some(Heard::Taken {
+            client: *client,
+            turn: *turn,
+            moved: *moved,
+        }),
+        Said::Words { port, words, len } if who == *port => Some(Heard::Words(Reply {
+            words: *words,
+            len: *len,
+        })),
+        Said::Given { port, len } if who == *port => Some(Heard::Given(*len)),
+        Said::Over { port } if who == *port => Some(Heard::Over),
+        _ => None,
+    }
+}
+
+/// What the server of a port hears of a move. That its talk has ended goes before all else.
+pub fn heard_by(told: &Told, who: Who) -> Option<Heard>
+    ensures { option_map news_of result ≡ news_to told.now.said told.now.ended who }
+{
+    if told.ended == Some(who) {
+        return Some(Heard::Ended);
+    }
+    said_to(&told.said, who)
+}
+
+/// Whether a move may tell a server anything.
+pub fn is_telling(told: &Told) -> bool
+    ensures { result ≡ false → (who : whos.Who) → news_to told.now.said told.now.ended who ≡ None }
+{
+    told.ended.is_some() || !matches!(told.said, Said::Nothing | Said::Answer(_))
+}
