@@ -1,0 +1,14 @@
+pub mod Ways
+pub mod Leaving
+pub mod Lists
+pub mod Building
+pub mod Filled
+pub mod Led
+pub mod Pointing
+pub mod Halfway
+pub mod Outward
+pub mod Standing
+pub mod Tying
+pub mod HoldsGiven
+pub mod Whole
+pub mod Scripted

@@ -1,0 +1,6 @@
+pub mod Rooms
+pub mod Script
+pub mod Fits
+pub mod Stages
+pub mod Roomed
+pub mod Laws

@@ -1,0 +1,26 @@
+//! The restorer's script, and what it makes over every interleaving with others' moves: laws without code, each the contract of
+//! a function that does nothing.
+//!
+//! A subtree that is seen alone is listed by its *rooms*, its spaces with what stands in each. The script makes the spaces, fills
+//! them, leads their pointers, those that lead out by rising slots of the nester, ties talks and faults, and gives spaces inside
+//! their holders; then it drops its scratch. Worlds between its passes are given by *masks*, which say which pointers are led.
+//!
+//! It stands on `laws_sites`, which says what orders make of a site whatever others do between them.
+#![tactic(auto)]
+
+ghost use Rattle.laws_restore.specs.Laws.{ScriptMakes, RestoresPicture, NeverLost};
+
+/// The script of a subtree may be given to a new space order by order, and makes that subtree with its ports bound.
+pub fn a_script_makes_the_subtree()
+    ensures { ScriptMakes }
+{}
+
+/// Whatever others do between its calls, a restorer that comes to its end has made the subtree, and left no scratch.
+pub fn a_restorer_makes_the_subtree()
+    ensures { RestoresPicture }
+{}
+
+/// It never gets an answer for which it has no end.
+pub fn a_restorer_is_never_lost()
+    ensures { NeverLost }
+{}
