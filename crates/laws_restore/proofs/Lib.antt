@@ -12,3 +12,4 @@ pub mod Tying
 pub mod HoldsGiven
 pub mod Whole
 pub mod Scripted
+pub mod Coming

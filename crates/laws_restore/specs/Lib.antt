@@ -4,3 +4,5 @@ pub mod Fits
 pub mod Stages
 pub mod Roomed
 pub mod Laws
+pub mod Restore
+pub mod Ends

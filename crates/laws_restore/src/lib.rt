@@ -9,6 +9,7 @@
 #![tactic(auto)]
 
 ghost use Rattle.laws_restore.specs.Laws.{ScriptMakes, RestoresPicture, NeverLost};
+ghost use Rattle.laws_restore.specs.Ends.{RestoreEndsSo};
 
 /// The script of a subtree may be given to a new space order by order, and makes that subtree with its ports bound.
 pub fn a_script_makes_the_subtree()
@@ -23,4 +24,10 @@ pub fn a_restorer_makes_the_subtree()
 /// It never gets an answer for which it has no end.
 pub fn a_restorer_is_never_lost()
     ensures { NeverLost }
+{}
+
+/// A restore ends so: its slot was empty and the subtree stands there unheld, or it was empty and a port was missing, or it was
+/// taken and nothing was done.
+pub fn a_restore_ends_so()
+    ensures { RestoreEndsSo }
 {}

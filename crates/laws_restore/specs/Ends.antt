@@ -1,0 +1,27 @@
+-- What a restore is for the run in which it works, and how it ends.
+use Rattle.std.specs.Prelude.{◌≡◌, ℕ, ◌≤◌, IsSome, List, ◌∷◌, None}
+use Rattle.fk_model.specs.declared.limits.TheConstants.{LAST_USER_SLOT}
+use Rattle.fk_model.specs.Places.{Path}
+use Rattle.fk_model.specs.World.{World}
+use Rattle.fk_model.specs.Holds.{holder_of}
+use Rattle.fk_model.specs.Rebind.{rebound}
+use Rattle.fk_model.specs.Cut.{cut}
+use Rattle.laws_jobs.specs.Machines.{AtWork}
+use Rattle.laws_jobs.specs.Machines.Head.{Stops}
+use Rattle.laws_jobs.specs.Jobs.{MayBegin}
+use Rattle.laws_restore.specs.Rooms.{Room}
+use Rattle.laws_restore.specs.Roomed.{IsRoomed}
+use Rattle.laws_restore.specs.Restore.{End, State, restore}
+use Rattle.laws_restore.specs.Restore.End.{Done, Occupied, NoPort}
+use Rattle.laws_restore.specs.Restore.State.{Makes}
+
+-- its slot was empty and the subtree stands there, unheld, with its ports bound; the slot was taken, and nothing was done; or the
+-- slot was empty
+abbrev pub EndsSo : World → World → Path → ℕ → (ℕ → ℕ) → World → End → Type 0
+EndsSo w v nester slot bind c Done = (w.body (slot ∷ nester) ≡ None) × (cut v nester slot ≡ rebound bind c) × (holder_of (v.body (slot ∷ nester)) ≡ None)
+EndsSo w v nester slot bind c Occupied = IsSome (w.body (slot ∷ nester)) × (v ≡ w)
+EndsSo w v nester slot bind c (NoPort port) = w.body (slot ∷ nester) ≡ None
+
+abbrev pub RestoreEndsSo : Type 0
+RestoreEndsSo = (slot birth : ℕ) (bind : ℕ → ℕ) (c : World) (rooms : List Room) (w v : World) (nester : Path) (t : State) (end : End) → slot ≤ LAST_USER_SLOT → IsRoomed bind c rooms → MayBegin w nester birth →
+    AtWork (restore slot bind rooms) nester w Makes v t → (restore slot bind rooms).head t ≡ Stops end → EndsSo w v nester slot bind c end
