@@ -11,3 +11,5 @@ pub mod Tasks
 pub mod Phases
 pub mod Working
 pub mod Ended
+pub mod Recorded
+pub mod Assembled
