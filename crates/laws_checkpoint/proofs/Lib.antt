@@ -13,3 +13,4 @@ pub mod Working
 pub mod Ended
 pub mod Recorded
 pub mod Assembled
+pub mod Preorder
