@@ -51,10 +51,10 @@ use Rattle.laws_checkpoint.proofs.Phases.{Tidy, tidy_clean, tidy_held, scratch_s
 use Rattle.laws_checkpoint.proofs.Working.{asks_back, no_stop, Verdict, Phase, arrives}
 use Rattle.laws_checkpoint.proofs.Working.Phase.{AtFirst, AtSecond, AtThird, AtWalks, AtSeeks, AtReads, AtGathers, AtDrops, AtTwoLeft, AtOneLeft, AtReleases, AtOver}
 
-abbrev stopping : End → Head End
+abbrev pub stopping : End → Head End
 stopping end = Stops end
 
-same_end : (a b : End) → stopping a ≡ Stops b → a ≡ b
+pub same_end : (a b : End) → stopping a ≡ Stops b → a ≡ b
 same_end a b e = cc
 
 abbrev call_head : {A : Type 0} → Stage → List ℕ → Head A
@@ -282,7 +282,7 @@ owed_make v nester r own native space e = subst (λ (s : Path). may_make v s r 9
     by _ Targets = rw native refl
     by _ Steps = rw native refl
 
-scratch_of : (s : Path) (k : ℕ) → is_scratch_slot k ≡ true → is_scratch s (k ∷ s) ≡ true
+pub scratch_of : (s : Path) (k : ℕ) → is_scratch_slot k ≡ true → is_scratch s (k ∷ s) ≡ true
 scratch_of s k is =
     let both = and_parts (not (nat_le k LAST_USER_SLOT)) (nat_le k LAST_SCRATCH_SLOT) is in
     let high = leb-false k LAST_USER_SLOT (off (nat_le k LAST_USER_SLOT) both.0) in

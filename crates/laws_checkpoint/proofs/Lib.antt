@@ -14,3 +14,5 @@ pub mod Ended
 pub mod Recorded
 pub mod Assembled
 pub mod Preorder
+pub mod Imaged
+pub mod Saved

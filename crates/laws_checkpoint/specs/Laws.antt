@@ -1,13 +1,18 @@
 -- What a checkpoint is for the run in which it works, and what it ends with.
-use Rattle.std.specs.Prelude.{◌≡◌, ℕ, ◌≤◌, Some, ◌∷◌}
+use Rattle.std.specs.Prelude.{◌≡◌, ℕ, ◌≤◌, true, Option, Some, None, ◌∷◌}
 use Rattle.fk_model.specs.declared.limits.TheConstants.{LAST_USER_SLOT}
 use Rattle.fk_model.specs.Places.{Path}
 use Rattle.fk_model.specs.World.{World}
 use Rattle.fk_model.specs.Closed.{IsClosed, open_place}
 use Rattle.fk_model.specs.Cut.{cut}
+use Rattle.fk_image.specs.declared.image.Image.{Image}
+use Rattle.fk_image.specs.Picture.{picture}
+use Rattle.fk_image.specs.Valid.{is_valid}
+use Rattle.laws_further.specs.ClosedLaws.{IsUncut, IsUsersAlone}
+use Rattle.laws_pictures.specs.Imaged.{HasNumbers}
 use Rattle.laws_jobs.specs.Machines.{AtWork}
 use Rattle.laws_jobs.specs.Machines.Head.{Stops}
-use Rattle.laws_jobs.specs.Jobs.{MayBegin, IsTidyJob}
+use Rattle.laws_jobs.specs.Jobs.{MayBegin, IsTidyJob, Saves}
 use Rattle.laws_jobs.specs.Holds.{IsSpaceAt}
 use Rattle.laws_checkpoint.specs.Checkpoint.{End, State, checkpoint}
 use Rattle.laws_checkpoint.specs.Checkpoint.End.{Gone, Foreign, Done}
@@ -31,3 +36,25 @@ EndsAsItWas w nester slot (Done image) = IsSpaceAt w (slot ∷ nester) × IsClos
 abbrev pub CheckpointEndsAsItWas : Type 0
 CheckpointEndsAsItWas = (slot birth : ℕ) (w v : World) (nester : Path) (t : State) (end : End) → slot ≤ LAST_USER_SLOT → MayBegin w nester birth →
     AtWork (checkpoint slot) nester w Holds v t → (checkpoint slot).head t ≡ Stops end → EndsAsItWas w nester slot end
+
+-- what it wants besides of the world in which it begins: it is nobody's cut, no porter and no served port lies inside, and the
+-- numbers inside are such as an image holds
+pub record MaySave (w : World) (nester : Path) (slot : ℕ) : Type 0 where
+  pub uncut : IsUncut w
+  pub users : IsUsersAlone w nester slot
+  pub numbers : HasNumbers (cut w nester slot)
+
+-- the image with which it is done is valid, and its picture is the subtree as it was when it began
+abbrev pub CheckpointImagesSubtree : Type 0
+CheckpointImagesSubtree = (slot birth : ℕ) (w v : World) (nester : Path) (t : State) (image : Image) → slot ≤ LAST_USER_SLOT → MayBegin w nester birth →
+    MaySave w nester slot → AtWork (checkpoint slot) nester w Holds v t → (checkpoint slot).head t ≡ Stops (Done image) →
+    (is_valid image ≡ true) × (picture image ≡ cut w nester slot)
+
+abbrev pub picture_of : End → Option World
+picture_of Gone = None
+picture_of (Foreign place) = None
+picture_of (Done image) = Some (picture image)
+
+-- so it is what a run wants of a checkpoint
+abbrev pub CheckpointSaves : Type 0
+CheckpointSaves = (slot birth : ℕ) (w : World) (nester : Path) → slot ≤ LAST_USER_SLOT → MaySave w nester slot → Saves (checkpoint slot) birth slot picture_of w nester Holds

@@ -6,7 +6,7 @@
 #![tactic(auto)]
 
 ghost use Rattle.laws_checkpoint.specs.Gather.{PointersAreGathered};
-ghost use Rattle.laws_checkpoint.specs.Laws.{CheckpointIsTidy, CheckpointKeepsCut, CheckpointEndsAsItWas};
+ghost use Rattle.laws_checkpoint.specs.Laws.{CheckpointIsTidy, CheckpointKeepsCut, CheckpointEndsAsItWas, CheckpointImagesSubtree, CheckpointSaves};
 ghost use Rattle.laws_checkpoint.specs.Walk.{ObjectsAreMet};
 ghost use Rattle.laws_checkpoint.specs.Contents.{SpacesAreRead};
 ghost use Rattle.laws_checkpoint.specs.Foreign.{ForeignIsExact, ForeignIsBounded, SeekerIsReady, SeekingKeepsOpenPlace, PointerIsTold};
@@ -70,4 +70,15 @@ pub fn a_checkpoint_keeps_the_cut()
 /// place that says so; or closed.
 pub fn a_checkpoint_ends_as_it_was()
     ensures { CheckpointEndsAsItWas }
+{}
+
+/// The image with which a checkpoint is done is valid, and its picture is the subtree as it was when
+/// the checkpoint began.
+pub fn a_checkpoint_images_its_subtree()
+    ensures { CheckpointImagesSubtree }
+{}
+
+/// So it is what a run wants of a checkpoint.
+pub fn a_checkpoint_saves()
+    ensures { CheckpointSaves }
 {}

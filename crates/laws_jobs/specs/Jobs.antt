@@ -47,11 +47,11 @@ pub record IsTidyJob {S A : Type 0} (m : Machine S A) (birth : ℕ) (s : S) : Ty
 
 -- ---- a job's own law, over every interleaving
 
--- a checkpoint of the subtree in a slot: the cut is the same while it works, and what it ends with, if it is done, is the picture
--- of a closed subtree
-pub record Saves {S A : Type 0} (m : Machine S A) (birth slot : ℕ) (picture : A → Option World) (s : S) : Type 0 where
-  pub keeps : (w : World) (nester : Path) (v : World) (t : S) → MayBegin w nester birth → AtWork m nester w s v t → cut v nester slot ≡ cut w nester slot
-  pub gives : (w : World) (nester : Path) (v : World) (t : S) (end : A) (c : World) → MayBegin w nester birth → AtWork m nester w s v t →
+-- a checkpoint of the subtree in a slot of a nester, begun in a world: the cut is the same while it works, and what it ends with, if
+-- it is done, is the picture of a closed subtree
+pub record Saves {S A : Type 0} (m : Machine S A) (birth slot : ℕ) (picture : A → Option World) (w : World) (nester : Path) (s : S) : Type 0 where
+  pub keeps : (v : World) (t : S) → MayBegin w nester birth → AtWork m nester w s v t → cut v nester slot ≡ cut w nester slot
+  pub gives : (v : World) (t : S) (end : A) (c : World) → MayBegin w nester birth → AtWork m nester w s v t →
       m.head t ≡ Stops end → picture end ≡ Some c → IsClosed w nester slot × (c ≡ cut w nester slot)
 
 -- a restore of a picture in a slot

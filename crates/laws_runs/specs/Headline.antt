@@ -33,7 +33,8 @@ abbrev pub CheckpointsHold : Type 0 → Type 0 → Type 0 → Type 0 → Type 0
 CheckpointsHold J S A V = (h : House J S A V) (first c : Core S A V) (past : List Move) (run : IsRun h first past c) →
     AskAsUsers h → AreTidy h → IsStart first → first.world.next + length past ≤ depth →
     (index : ℕ) (job : J) (slot : ℕ) (picture : A → Option World) (end : A) (begun last : ℕ) (saved : World) → slice_get h.jobs index ≡ Some job →
-    ((ends : List (JobEnd A)) (s : S) → h.begins job ends ≡ Some s → Saves h.machine (h.nester job) slot picture s) →
+    ((nester : Path) (ends : List (JobEnd A)) (s : S) → birth_at (world_at run begun) nester ≡ Some (h.nester job) → h.begins job ends ≡ Some s →
+    Saves h.machine (h.nester job) slot picture (world_at run begun) nester s) →
     slice_get c.ends index ≡ Some (Worked end begun last) → picture end ≡ Some saved → Checkpointed run (h.nester job) slot begun last saved
 
 -- a restore that is done, of what a checkpoint of the same run has saved: the cuts, and the further runs
