@@ -124,7 +124,7 @@ module _ (z : Path) where
 
   -- ---- sweeps
 
-  record Clean (f : Sweep) : Type 0 where
+  pub record Clean (f : Sweep) : Type 0 where
     pub pointer : (p : Ptr) → leads_to z p ≡ false → leads_to z (f.pointer p) ≡ false
     pub holder : (p : Ptr) → leads_to z p ≡ false → Off (option_list (λ p. p ∷ []) (f.holder p))
     pub talk : (talk : Talk) → Off (talk_pointers talk) → Off (option_list talk_pointers (f.talk talk))
@@ -151,7 +151,7 @@ module _ (z : Path) where
     swept_body at (Port set served) h = refl
     swept_body at Portset h = refl
 
-    swept_there : (at : Path) (o : Option Body) → Off (body_pointers o) → Off (body_pointers (option_map (through f at) o))
+    pub swept_there : (at : Path) (o : Option Body) → Off (body_pointers o) → Off (body_pointers (option_map (through f at) o))
     swept_there at None h = refl
     swept_there at (Some b) h = swept_body at b h
 
@@ -167,7 +167,7 @@ module _ (z : Path) where
   taker_less x None h = refl
   taker_less x (Some taker) h = if_list Peer peer_pointer (serves x taker) (Some taker) h
 
-  death_clean : (x : Path) → Clean (death_sweep x)
+  pub death_clean : (x : Path) → Clean (death_sweep x)
   death_clean x = record {
     pointer = λ p h. if_off (leads_to x p) Dead p refl h;
     holder = λ p h. if_list Ptr (λ p. p ∷ []) (leads_to x p) (Some p) (off_one p h);

@@ -46,7 +46,7 @@ module _ (nester : Path) (slot : ℕ) (w : World) (reply : Reply) (low : slot �
   free_porter : IsFreePorter
   free_porter = called nester w stage no_words answered.ready
 
-  abbrev made_as : Option Body → Outcome
+  abbrev pub made_as : Option Body → Outcome
   made_as None = Goes (MakeSpace root (Some (At me)) ∷ []) (Answered OK [])
   made_as (Some b) = Goes [] (Answered OCCUPIED [])
 
@@ -57,7 +57,7 @@ module _ (nester : Path) (slot : ℕ) (w : World) (reply : Reply) (low : slot �
   call_made None = refl
   call_made (Some b) = refl
 
-  make-row : call_row w (porter nester no_words) None stage ≡ made_as (w.body root)
+  pub make-row : call_row w (porter nester no_words) None stage ≡ made_as (w.body root)
   unfolding call_row space_make_held
   make-row = rw (le-leb slot LAST_PORTER_SLOT (omega (arith, low))) (call_made (w.body root))
 
@@ -67,7 +67,7 @@ module _ (nester : Path) (slot : ℕ) (w : World) (reply : Reply) (low : slot �
     abbrev made : World
     made = apply (MakeSpace root (Some (At me))) w
 
-    none_beneath : (q : Path) → w.body (q ++ root) ≡ None
+    pub none_beneath : (q : Path) → w.body (q ++ root) ≡ None
     unfolding kind_there
     none_beneath [] = empty
     none_beneath (k ∷ q) = by (w.body (k ∷ (q ++ root))) refl (none_beneath q)

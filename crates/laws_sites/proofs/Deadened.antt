@@ -30,6 +30,7 @@ use Rattle.laws_sites.specs.Orders.{Spot, Pin, Site, pin_of, eye, bare, PinShows
 use Rattle.laws_sites.specs.Orders.Spot.{To, Unsure}
 use Rattle.laws_sites.specs.Orders.Pin.{NoPin}
 use Rattle.laws_sites.specs.Orders.Order.{Deadens}
+use Rattle.laws_sites.proofs.Nearby.{inside_near}
 use Rattle.laws_sites.proofs.Standing.{unfrozen, ref_led, big, root_there, root_named}
 use Rattle.laws_sites.proofs.Plain.{Plain}
 use Rattle.laws_sites.proofs.Dropped.{leaf_alone, lowest_off, above_off}
@@ -252,4 +253,4 @@ module _ (nester : Path) (slot : ℕ) (g : Site) (w : World) (shows : Shows nest
 
   pub deadens-plain : Plain nester slot g w shows valid.consistent (Deadens r)
   unfolding apply_all
-  deadens-plain = record { changes = Kill x ∷ []; row = deaden-row; shown = shown_now }
+  deadens-plain = record { changes = Kill x ∷ []; near = (inside_near nester slot (0 ∷ []), tt); row = deaden-row; shown = shown_now }

@@ -28,7 +28,8 @@ use Rattle.laws_sites.specs.Orders.{Pin, Site, pin_of, bare, PinShows, Shows, st
 use Rattle.laws_sites.specs.Orders.Pin.{NoPin, Fast}
 use Rattle.laws_sites.specs.Orders.Order.{Drops, DropsPin}
 use Rattle.laws_sites.proofs.Plain.{Plain}
-use Rattle.laws_sites.proofs.Standing.{unfrozen, ref_named, ref_there, ref_unfrozen, root_named}
+use Rattle.laws_sites.proofs.Nearby.{inside_near, scratch_near}
+use Rattle.laws_sites.proofs.Standing.{ref_slot, unfrozen, ref_named, ref_there, ref_unfrozen, root_named}
 use Rattle.laws_sites.proofs.Changes.{above_stays, scratch-shows, range}
 use Rattle.laws_sites.proofs.Pinned.{IsPinned, inner_spot}
 use Rattle.laws_jobs.proofs.Rows.{own-place, object-there}
@@ -139,6 +140,7 @@ module _ (nester : Path) (slot : ℕ) (g : Site) (w : World) (shows : Shows nest
       let x : Path = r ∷ nester in
       record {
         changes = Kill x ∷ [];
+        near = (scratch_near nester slot r (ref_slot nester slot g w shows r is), tt);
         row = destroy-row nester w valid OWN_SPACE r nester ref.to ref.is (own-place nester no_words w)
             (object-there nester no_words w anything nester r (Reference ref.to) (Reference ref.to) (ref_named nester slot g w shows r is) ref.is refl)
             (ref_unfrozen nester slot g w shows r ref.to ref.is) (above_off r nester (omega arith));
@@ -176,6 +178,7 @@ module _ (nester : Path) (slot : ℕ) (g : Site) (w : World) (shows : Shows nest
       let same : (y : Path) → same_path y (pin_of root) ≡ false → v.body y ≡ w.body y = λ y apart. bodies_stay w valid (pin_of root) pin.to pin.is y apart in
       record {
         changes = Kill (pin_of root) ∷ [];
+        near = (inside_near nester slot (FIRST_SCRATCH_SLOT ∷ []), tt);
         row = destroy-row nester w valid slot FIRST_SCRATCH_SLOT root pin.to pin.is (root_named nester slot g w shows no_words)
             (object-there nester no_words w anything root FIRST_SCRATCH_SLOT (Reference pin.to) (Reference pin.to) refl pin.is refl)
             (unfrozen nester slot g w shows (FIRST_SCRATCH_SLOT ∷ [])) (above_off FIRST_SCRATCH_SLOT root (omega arith));

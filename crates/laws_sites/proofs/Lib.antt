@@ -1,3 +1,4 @@
+pub mod Nearby
 pub mod Others
 pub mod Goings
 pub mod Standing
@@ -16,3 +17,4 @@ pub mod Looking
 pub mod Ready
 pub mod Released
 pub mod Fit
+pub mod Near

@@ -40,6 +40,8 @@ use Rattle.laws_sites.specs.Orders.{Spot, Pin, Site, pin_of, lifted, eye, bare, 
 use Rattle.laws_sites.specs.Orders.Spot.{To, Unsure}
 use Rattle.laws_sites.specs.Orders.Pin.{NoPin, Loose, Fast}
 use Rattle.laws_sites.specs.Orders.Order.{Readies, Leads, LeadsTop, Makes, Sets, Points, Gives, MakesPin, Pins, Takes, Checks, ParksTalk, ParksFault, Drops, DropsPin, Deadens, LinksTalk, RaisesFault, LinksFault, Holds}
+use Rattle.laws_sites.specs.Near.{AreNear}
+use Rattle.laws_sites.proofs.Nearby.{inside_near, scratch_near, edits_near, fresh_near, page_near}
 use Rattle.laws_sites.proofs.Standing.{kind_seen, unfrozen, decides, nester_unfrozen, ref_slot, ref_named, user_named, ref_there, ref_led, ref_unfrozen, big, empty_there, root_there, root_named, place-row}
 use Rattle.laws_sites.proofs.Changes.{bare-pin, alters, makes, makes_space, gives, leads, led_there, pin_kept, above_stays, readies}
 use Rattle.laws_jobs.proofs.Rows.{own-place, object-there, create-row, point-row, set_ptr-row, set_state-row, page_give-row, link_park-row, fault_park-row}
@@ -122,6 +124,7 @@ module _ (nester : Path) (slot : ℕ) where
   module _ (g : Site) (w : World) (shows : Shows nester slot g w) (valid : IsConsistent w) where
     pub record Plain (o : Order) : Type 0 where
       pub changes : List Change
+      pub near : AreNear nester slot changes
       pub row : call_row w (porter nester (words_of o)) None (stage_of slot o) ≡ Goes changes (Answered OK [])
       pub shown : Shows nester slot (does o g) (apply_all changes w)
 
@@ -133,6 +136,7 @@ module _ (nester : Path) (slot : ℕ) where
         let empty : w.body (r ∷ nester) ≡ None = subst (λ (o : Option Spot). SpotShows nester slot w g.pin r o) none (shows.spots r (ref_slot nester slot g w shows r is)) in
         record {
           changes = Make (r ∷ nester) (Reference Null) ∷ [];
+          near = (scratch_near nester slot r (ref_slot nester slot g w shows r is), tt);
           row = create-row nester no_words w OWN_SPACE r kinds.Reference nester (own-place nester no_words w) (ref_named nester slot g w shows r is) (nester_unfrozen nester slot g w shows) empty;
           shown = readies nester slot g w shows r valid is none empty;
         }
@@ -146,6 +150,7 @@ module _ (nester : Path) (slot : ℕ) where
         let same : list_any (same_kind (kind_of found.body)) referable ≡ true = subst (λ (k : Kind). list_any (same_kind k) referable ≡ true) (kind_seen (seeing see) found.body) its in
         record {
           changes = Alter (r ∷ nester) (SetPointer (At (x ∷ (q ++ root)))) ∷ [];
+          near = (scratch_near nester slot r (ref_slot nester slot g w shows r may.scratch), tt);
           row = point-row nester no_words w OWN_SPACE r s x nester (q ++ root) ref.to (At (x ∷ (q ++ root))) (own-place nester no_words w)
               (object-there nester no_words w reference_of nester r (Reference ref.to) ref.to (ref_named nester slot g w shows r may.scratch) ref.is refl)
               (place-row nester slot g w shows no_words s q may.place)
@@ -161,6 +166,7 @@ module _ (nester : Path) (slot : ℕ) where
         let space = root_there nester slot g w shows in
         record {
           changes = Alter (r ∷ nester) (SetPointer (At root)) ∷ [];
+          near = (scratch_near nester slot r (ref_slot nester slot g w shows r is), tt);
           row = point-row nester no_words w OWN_SPACE r OWN_SPACE slot nester nester ref.to (At root) (own-place nester no_words w)
               (object-there nester no_words w reference_of nester r (Reference ref.to) ref.to (ref_named nester slot g w shows r is) ref.is refl)
               (own-place nester no_words w)
@@ -187,6 +193,7 @@ module _ (nester : Path) (slot : ℕ) where
     unfolding apply_all
     makes-plain s q x kind may = record {
       changes = fresh (x ∷ (q ++ root)) kind ∷ [];
+      near = (fresh_near nester slot x q kind, tt);
       row = create-row nester no_words w s x kind (q ++ root) (place-row nester slot g w shows no_words s q may.place) (user_named nester slot g w shows x may.low) (unfrozen nester slot g w shows q)
           (empty_there nester slot g w shows x q may.low may.empty);
       shown = fresh-shown x q kind may.low;
@@ -215,6 +222,7 @@ module _ (nester : Path) (slot : ℕ) where
         let edits : set_edits may.object words ≡ set_edits found.body words = ap (λ (b : Body). set_edits b words) found.seen ∙ set_edits-seen see found.body words in
         record {
           changes = map (Alter (x ∷ (q ++ root))) (set_edits found.body words);
+          near = edits_near nester slot x q (set_edits found.body words);
           row = set_state-row nester words w s x (q ++ root) found.body (place-row nester slot g w shows words s q may.place)
               (object-there nester words w anything (q ++ root) x found.body found.body (user_named nester slot g w shows x may.low) found.there refl)
               (unfrozen nester slot g w shows (x ∷ q)) (decides nester slot g w shows (x ∷ q)) (native_off found.body found.plain) (takes_too q found.body words its);
@@ -324,6 +332,7 @@ module _ (nester : Path) (slot : ℕ) where
         subst (λ (p : Ptr). Shows nester slot (with_built (apply (Alter (x ∷ q) (SetPointer p)) g.built) g) (apply (Alter (x ∷ (q ++ root)) (SetPointer big_to)) w)) way.seen changed in
         record {
           changes = Alter (x ∷ (q ++ root)) (SetPointer big_to) ∷ [];
+          near = (inside_near nester slot (x ∷ q), tt);
           row = set_ptr-row nester no_words w s x r (q ++ root) found.body big_to (place-row nester slot g w shows no_words s q may.place)
               (object-there nester no_words w anything (q ++ root) x found.body found.body (user_named nester slot g w shows x may.low) found.there refl)
               (object-there nester no_words w reference_of nester r (Reference big_to) big_to (ref_named nester slot g w shows r may.scratch) ref.0 refl)
@@ -337,6 +346,7 @@ module _ (nester : Path) (slot : ℕ) where
     unfolding apply_all
     gives-plain s q page words may = record {
       changes = _;
+      near = (page_near nester slot q, tt);
       row = page_give-row nester words w s page (q ++ root) (place-row nester slot g w shows words s q may.place) (unfrozen nester slot g w shows q) may.fits (sym (shows.like.pages q page) ∙ may.empty);
       shown = gives nester slot g w shows q page words;
     }
@@ -379,6 +389,7 @@ module _ (nester : Path) (slot : ℕ) where
         let none : w.body (pin_of root) ≡ None = subst (λ (p : Pin). PinShows nester slot w p) is shows.pin in
         record {
           changes = Make (pin_of root) (Reference Null) ∷ [];
+          near = (inside_near nester slot (FIRST_SCRATCH_SLOT ∷ []), tt);
           row = create-row nester no_words w slot FIRST_SCRATCH_SLOT kinds.Reference root (root_named nester slot g w shows no_words) refl (unfrozen nester slot g w shows []) none;
           shown = made_pin none;
         }
@@ -390,6 +401,7 @@ module _ (nester : Path) (slot : ℕ) where
         let pin = subst (λ (p : Pin). PinShows nester slot w p) loose shows.pin in
         record {
           changes = Alter (r ∷ nester) (SetPointer pin.0) ∷ [];
+          near = (scratch_near nester slot r (ref_slot nester slot g w shows r is), tt);
           row = point-row nester no_words w OWN_SPACE r slot FIRST_SCRATCH_SLOT nester root ref.to pin.0 (own-place nester no_words w)
               (object-there nester no_words w reference_of nester r (Reference ref.to) ref.to (ref_named nester slot g w shows r is) ref.is refl)
               (root_named nester slot g w shows no_words)
@@ -439,6 +451,7 @@ module _ (nester : Path) (slot : ℕ) where
         alters nester slot g w shows false x q edit may.low (good, rw port.seen tt) in
         record {
           changes = Alter (x ∷ (q ++ root)) edit ∷ [];
+          near = (inside_near nester slot (x ∷ q), tt);
           row = link_park-row nester words w s x i (q ++ root) t.thread (port.set, port.served) (place-row nester slot g w shows words s q may.place)
               (object-there nester words w thread_of (q ++ root) x (Thread_of t.thread) t.thread (user_named nester slot g w shows x may.low) t.there refl)
               (object-there nester words w port_of nester i (Port port.set port.served) (port.set, port.served) (user_named nester slot g w shows i may.port) port.there refl)
@@ -470,6 +483,7 @@ module _ (nester : Path) (slot : ℕ) where
         (apply (Alter (x ∷ (q ++ root)) edit) w)) port.seen changed in
         record {
           changes = Alter (x ∷ (q ++ root)) edit ∷ [];
+          near = (inside_near nester slot (x ∷ q), tt);
           row = fault_park-row nester words w s x i taken (q ++ root) t.thread (port.set, port.served) (place-row nester slot g w shows words s q may.place)
               (object-there nester words w thread_of (q ++ root) x (Thread_of t.thread) t.thread (user_named nester slot g w shows x may.low) t.there refl)
               (object-there nester words w port_of nester i (Port port.set port.served) (port.set, port.served) (user_named nester slot g w shows i may.port) port.there refl)

@@ -4,3 +4,4 @@ pub mod Begun
 pub mod Looking
 pub mod Ready
 pub mod Fit
+pub mod Near

@@ -13,6 +13,7 @@ ghost use Rattle.laws_sites.specs.Fit.{ServesNobody};
 ghost use Rattle.laws_sites.specs.Begun.{Begins};
 ghost use Rattle.laws_sites.specs.Looking.{TakesKeepLooks, PinsTell, OthersKeepLooks, ChecksTell};
 ghost use Rattle.laws_sites.specs.Ready.{NextIsReady, Releases};
+ghost use Rattle.laws_sites.specs.Near.{OwnCallsAreNear, NewSpaceIsUnled, OthersKeepNewUnled, NearCallsKeepUnled};
 ghost use Rattle.laws_sites.specs.Laws.{BuiltIsCut, RestoresBuilt, NeverLost, PlacesAreNamed, CallsBounded, OthersKeepSites};
 
 /// A restorer makes no more calls than it has orders.
@@ -83,4 +84,24 @@ pub fn a_restore_is_released()
 /// A thread inside serves nobody in the whole world, where nobody inside is seen to be served by it.
 pub fn a_thread_inside_serves_nobody()
     ensures { ServesNobody }
+{}
+
+/// A restorer's calls change its new subtree and its scratch, and nothing else but what led to an object that they destroy.
+pub fn own_calls_change_what_is_near()
+    ensures { OwnCallsAreNear }
+{}
+
+/// Nobody outside leads into a space that was just made.
+pub fn nobody_leads_into_a_new_space()
+    ensures { NewSpaceIsUnled }
+{}
+
+/// Nobody outside comes to lead in while others move.
+pub fn others_come_not_to_lead_in()
+    ensures { OthersKeepNewUnled }
+{}
+
+/// Nor by the restorer's own calls.
+pub fn own_calls_lead_nobody_in()
+    ensures { NearCallsKeepUnled }
 {}
