@@ -57,7 +57,7 @@ stopping end = Stops end
 pub same_end : (a b : End) → stopping a ≡ Stops b → a ≡ b
 same_end a b e = cc
 
-abbrev call_head : {A : Type 0} → Stage → List ℕ → Head A
+abbrev pub call_head : {A : Type 0} → Stage → List ℕ → Head A
 call_head stage words = Asks stage words
 
 -- of a call that is known
@@ -86,7 +86,7 @@ module _ (slot birth : ℕ) (w : World) (nester : Path) (low : slot ≤ LAST_USE
       let both = sym stops ∙ asks_it in
       cc
 
-  empty : (y : Path) → is_scratch nester y ≡ true → w.body y ≡ None
+  pub empty : (y : Path) → is_scratch nester y ≡ true → w.body y ≡ None
   empty y is =
       let its = scratch_slot nester y is in
       ap w.body its.1 ∙ may.clean nester its.0 (subst (λ (x : Path). is_scratch nester x ≡ true) its.1 is)
@@ -210,6 +210,10 @@ module _ (slot birth : ℕ) (w : World) (nester : Path) (low : slot ≤ LAST_USE
   porter_in held sound v _ stage words (AtOneLeft end verdict its places tidy) asks_it = (its.holding, tidy.named)
   porter_in held sound v _ stage words (AtReleases end verdict its tidy) asks_it = (its.holding, tidy.named)
   porter_in held sound v _ stage words (AtOver end verdict same unheld tidy) asks_it = cc
+
+  pub holding_in : (held : Held nester slot w) (sound : IsSound (held_world nester slot w)) (v : World) (t : State) (stage : Stage) (words : List ℕ) →
+      Phase nester slot birth low w may held sound v t → head slot t ≡ Asks stage words → IsHolding nester slot v
+  holding_in held sound v t stage words phase asks_it = (porter_in held sound v t stage words phase asks_it).0
 
   pub porter_stays : (v : World) (t : State) (stage : Stage) (words : List ℕ) → Came v t → head slot t ≡ Asks stage words → HasPorter v nester birth
   porter_stays v t stage words (NeverHeld none same over) asks_it = let both = sym (ap (head slot) over) ∙ asks_it in cc

@@ -16,3 +16,4 @@ pub mod Assembled
 pub mod Preorder
 pub mod Imaged
 pub mod Saved
+pub mod Calling

@@ -84,11 +84,11 @@ places_steps e = omega (arith, e)
 targets_steps : TARGETS ≡ STEPS → ⊥
 targets_steps e = omega (arith, e)
 
-fresh_targets : IsIn TARGETS (PLACES ∷ []) → ⊥
+pub fresh_targets : IsIn TARGETS (PLACES ∷ []) → ⊥
 fresh_targets (inl e) = places_targets e
 fresh_targets (inr h) = h
 
-fresh_steps : IsIn STEPS (TARGETS ∷ PLACES ∷ []) → ⊥
+pub fresh_steps : IsIn STEPS (TARGETS ∷ PLACES ∷ []) → ⊥
 fresh_steps (inl e) = targets_steps e
 fresh_steps (inr (inl e)) = places_steps e
 fresh_steps (inr (inr h)) = h

@@ -1,7 +1,11 @@
 -- What a checkpoint is for the run in which it works, and what it ends with.
-use Rattle.std.specs.Prelude.{◌≡◌, ℕ, ◌≤◌, true, Option, Some, None, ◌∷◌}
+use Rattle.std.specs.Prelude.{◌≡◌, ℕ, ◌≤◌, true, false, List, Option, Some, None, ◌∷◌}
 use Rattle.fk_model.specs.declared.limits.TheConstants.{LAST_USER_SLOT}
-use Rattle.fk_model.specs.Places.{Path}
+use Rattle.fk_model.specs.declared.stage.Stage.{Stage}
+use Rattle.fk_model.specs.Places.{Path, same_path}
+use Rattle.fk_model.specs.Holds.{holder_of}
+use Rattle.fk_model.specs.ObjectRows.{is_scratch}
+use Rattle.fk_model.specs.Runs.{after}
 use Rattle.fk_model.specs.World.{World}
 use Rattle.fk_model.specs.Closed.{IsClosed, open_place}
 use Rattle.fk_model.specs.Cut.{cut}
@@ -10,10 +14,12 @@ use Rattle.fk_image.specs.Picture.{picture}
 use Rattle.fk_image.specs.Valid.{is_valid}
 use Rattle.laws_further.specs.ClosedLaws.{IsUncut, IsUsersAlone}
 use Rattle.laws_pictures.specs.Imaged.{HasNumbers}
-use Rattle.laws_jobs.specs.Machines.{AtWork}
-use Rattle.laws_jobs.specs.Machines.Head.{Stops}
+use Rattle.laws_jobs.specs.Machines.{call_of, IsReadyAt, AtWork}
+use Rattle.laws_jobs.specs.Machines.Head.{Stops, Asks}
 use Rattle.laws_jobs.specs.Jobs.{MayBegin, IsTidyJob, Saves}
-use Rattle.laws_jobs.specs.Holds.{IsSpaceAt}
+use Rattle.laws_jobs.specs.Holds.{hold, IsSpaceAt}
+use Rattle.laws_jobs.specs.Calls.{IsCalm}
+use Rattle.laws_savable.specs.Savable.{IsSound}
 use Rattle.laws_checkpoint.specs.Checkpoint.{End, State, checkpoint}
 use Rattle.laws_checkpoint.specs.Checkpoint.End.{Gone, Foreign, Done}
 use Rattle.laws_checkpoint.specs.Checkpoint.State.{Holds}
@@ -58,3 +64,27 @@ picture_of (Done image) = Some (picture image)
 -- so it is what a run wants of a checkpoint
 abbrev pub CheckpointSaves : Type 0
 CheckpointSaves = (slot birth : ℕ) (w : World) (nester : Path) → slot ≤ LAST_USER_SLOT → MaySave w nester slot → Saves (checkpoint slot) birth slot picture_of w nester Holds
+
+-- ---- its calls
+
+-- its next call is ready wherever nothing outside is held
+abbrev pub CheckpointIsReady : Type 0
+CheckpointIsReady = (slot birth : ℕ) (w v : World) (nester : Path) (t : State) (stage : Stage) (words : List ℕ) → slot ≤ LAST_USER_SLOT → MayBegin w nester birth →
+    AtWork (checkpoint slot) nester w Holds v t → (checkpoint slot).head t ≡ Asks stage words → IsCalm (slot ∷ nester) v → IsReadyAt v (call_of nester stage words)
+
+-- all but the porter's scratch and who holds the root
+pub record IsSameBeside (nester : Path) (slot : ℕ) (v u : World) : Type 0 where
+  pub bodies : (y : Path) → is_scratch nester y ≡ false → same_path y (slot ∷ nester) ≡ false → u.body y ≡ v.body y
+  pub pages : (y : Path) (page : ℕ) → u.page y page ≡ v.page y page
+
+-- each of its calls leaves the rest, the first one and each later one
+pub record LeavesRest (slot birth : ℕ) (w : World) (nester : Path) : Type 0 where
+  pub first : IsReadyAt w (hold nester slot) → IsSameBeside nester slot w (after w (hold nester slot))
+  pub later : (v : World) (t : State) (stage : Stage) (words : List ℕ) → AtWork (checkpoint slot) nester w Holds v t → (checkpoint slot).head t ≡ Asks stage words →
+      IsSound v → IsReadyAt v (call_of nester stage words) → IsSameBeside nester slot v (after v (call_of nester stage words))
+  -- and at its end, whatever it comes to where there was a space, nobody holds that
+  pub ends : (v : World) (t : State) (end : End) → AtWork (checkpoint slot) nester w Holds v t → (checkpoint slot).head t ≡ Stops end → IsSpaceAt w (slot ∷ nester) →
+      holder_of (v.body (slot ∷ nester)) ≡ None
+
+abbrev pub CheckpointLeavesRest : Type 0
+CheckpointLeavesRest = (slot birth : ℕ) (w : World) (nester : Path) → slot ≤ LAST_USER_SLOT → MayBegin w nester birth → IsSound (after w (hold nester slot)) → LeavesRest slot birth w nester

@@ -6,7 +6,7 @@
 #![tactic(auto)]
 
 ghost use Rattle.laws_checkpoint.specs.Gather.{PointersAreGathered};
-ghost use Rattle.laws_checkpoint.specs.Laws.{CheckpointIsTidy, CheckpointKeepsCut, CheckpointEndsAsItWas, CheckpointImagesSubtree, CheckpointSaves};
+ghost use Rattle.laws_checkpoint.specs.Laws.{CheckpointIsTidy, CheckpointKeepsCut, CheckpointEndsAsItWas, CheckpointImagesSubtree, CheckpointSaves, CheckpointIsReady, CheckpointLeavesRest};
 ghost use Rattle.laws_checkpoint.specs.Walk.{ObjectsAreMet};
 ghost use Rattle.laws_checkpoint.specs.Contents.{SpacesAreRead};
 ghost use Rattle.laws_checkpoint.specs.Foreign.{ForeignIsExact, ForeignIsBounded, SeekerIsReady, SeekingKeepsOpenPlace, PointerIsTold};
@@ -81,4 +81,15 @@ pub fn a_checkpoint_images_its_subtree()
 /// So it is what a run wants of a checkpoint.
 pub fn a_checkpoint_saves()
     ensures { CheckpointSaves }
+{}
+
+/// The next call of a checkpoint is ready wherever nothing outside its subtree is held.
+pub fn a_checkpoints_next_call_is_ready()
+    ensures { CheckpointIsReady }
+{}
+
+/// Each call of a checkpoint leaves all but its scratch and who holds the subtree's root, and at its end
+/// nobody holds that.
+pub fn a_checkpoint_leaves_the_rest()
+    ensures { CheckpointLeavesRest }
 {}
