@@ -61,7 +61,7 @@ abbrev pub call_head : {A : Type 0} → Stage → List ℕ → Head A
 call_head stage words = Asks stage words
 
 -- of a call that is known
-given_by : {A : Type 0} (v : World) (nester : Path) (stage other : Stage) (words : List ℕ) → call_head {A = A} stage no_words ≡ Asks other words → IsOwedCall v nester stage no_words →
+pub given_by : {A : Type 0} (v : World) (nester : Path) (stage other : Stage) (words : List ℕ) → call_head {A = A} stage no_words ≡ Asks other words → IsOwedCall v nester stage no_words →
     IsOwedCall v nester other words
 given_by v nester stage other words e owed =
     let one : stage ≡ other = cc in
@@ -95,7 +95,7 @@ module _ (slot birth : ℕ) (w : World) (nester : Path) (low : slot ≤ LAST_USE
   nobody P None e h = cc
   nobody P (Some b) e h = cc
 
-  tidy_before : Tidy nester slot birth w []
+  pub tidy_before : Tidy nester slot birth w []
   tidy_before = record { named = may.named; clean = λ s k is live. nobody ((s ≡ nester) × ⊥) (w.body (k ∷ s)) (may.clean s k is) live }
 
   first_state : (said : Said) → said ≡ Answered OK [] → heard (checkpoint slot) Holds said ≡ Readies PLACES (TARGETS ∷ STEPS ∷ [])
@@ -296,7 +296,7 @@ scratch_of s k is =
     off true h = cc
     off false h = refl
 
-owed_release : (v : World) (nester : Path) (slot : ℕ) → ((k : ℕ) → is_scratch_slot k ≡ true → IsSome (v.body (k ∷ slot ∷ nester)) → ⊥) →
+pub owed_release : (v : World) (nester : Path) (slot : ℕ) → ((k : ℕ) → is_scratch_slot k ≡ true → IsSome (v.body (k ∷ slot ∷ nester)) → ⊥) →
     LeavesNoScratch v (porter nester no_words) OWN_SPACE slot
 unfolding space_argument
 owed_release v nester slot none space e k is live =

@@ -217,7 +217,7 @@ module _ (w : World) (nester : Path) (slot : ℕ) (sound : IsSound w) (clean : I
   distinct [] apart spaces = tt
   distinct (x ∷ xs) apart spaces = (
     others (x ++ root) xs (spaces x (inl refl)) (λ z is. spaces z (inr is))
-    (λ y is e. apart.0 (subst (λ (z : Path). IsIn z xs) (sym (append_cancel_right x y root e)) is)),
+        (λ y is e. apart.0 (subst (λ (z : Path). IsIn z xs) (sym (append_cancel_right x y root e)) is)),
     distinct xs apart.1 (λ z is. spaces z (inr is)),
   )
 

@@ -179,9 +179,11 @@ module _ (c : World) (sel : Path → Bool) (above : (k : ℕ) (s : Path) → IsS
       by : (t b : Bool) → sel (j ∷ s) ≡ b → ((l : Path) → StandsAt s (suc j) l → Chained l (left (from_slot n s m (suc j)))) → Chained l (left (first_then n s m j t))
       by false b e later = later l (on s j l at)
       by true true e later =
-          subst (Chained l) (sym (left_stretch n s m j e))
-          (at, chained_both (j ∷ s) (left (beneath_by n c (j ∷ s))) (left (from_slot n s m (suc j))) (deeper j)
-          (later (last_of (j ∷ s) (left (beneath_by n c (j ∷ s)))) (behind_stretch n s j)))
+          subst (Chained l) (sym (left_stretch n s m j e)) (
+            at,
+            chained_both (j ∷ s) (left (beneath_by n c (j ∷ s))) (left (from_slot n s m (suc j))) (deeper j)
+                (later (last_of (j ∷ s) (left (beneath_by n c (j ∷ s)))) (behind_stretch n s j)),
+          )
       by true false e later = subst (Chained l) (sym (left_nothing n s m j e)) (later l (on s j l at))
 
   pub chain_beneath : (n : ℕ) (s : Path) → Chained s (left (beneath_by n c s))
@@ -232,9 +234,11 @@ module _ (c : World) (sel : Path → Bool) (above : (k : ℕ) (s : Path) → IsS
       by : (t b : Bool) → sel (j ∷ s) ≡ b → Apart (left (from_slot n s m (suc j))) → Apart (left (first_then n s m j t))
       by false b e rest = rest
       by true true e rest =
-          subst Apart (sym (left_stretch n s m j e))
-          (head_once, apart_both (left (beneath_by n c (j ∷ s))) (left (from_slot n s m (suc j))) (deeper j) rest
-          (λ x is there. clash x (inr (of_filter sel x (beneath_by n c (j ∷ s)) is).0) there))
+          subst Apart (sym (left_stretch n s m j e)) (
+            head_once,
+            apart_both (left (beneath_by n c (j ∷ s))) (left (from_slot n s m (suc j))) (deeper j) rest
+                (λ x is there. clash x (inr (of_filter sel x (beneath_by n c (j ∷ s)) is).0) there),
+          )
       by true false e rest = subst Apart (sym (left_nothing n s m j e)) rest
 
   apart_beneath : (n : ℕ) (s : Path) → Apart (left (beneath_by n c s))
@@ -245,8 +249,8 @@ module _ (c : World) (sel : Path → Bool) (above : (k : ℕ) (s : Path) → IsS
   pub all_apart : (n : ℕ) (s : Path) → Apart (s ∷ left (beneath_by n c s))
   all_apart n s = (
     λ is.
-      let its = lies_in n s s (of_filter sel s (beneath_by n c s) is).0 in
-      beneath_longer its.1.0 its.0 s its.1.1,
+        let its = lies_in n s s (of_filter sel s (beneath_by n c s) is).0 in
+        beneath_longer its.1.0 its.0 s its.1.1,
     apart_beneath n s,
   )
 

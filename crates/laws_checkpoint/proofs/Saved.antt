@@ -79,6 +79,7 @@ checkpoint_saves slot birth w nester low save = record {
     by v t Gone c may work stops pictured = cc
     by v t (Foreign place) c may work stops pictured = cc
     by v t (Done image) c may work stops pictured =
-        let at = came slot birth w nester low may v t work in
-        ((ends_as_it_was slot birth w nester low may v t (Done image) at stops).1,
-        sym (same_world (picture image) c pictured) ∙ (images_subtree slot birth w nester low may save v t image at stops).1)
+        let at = came slot birth w nester low may v t work in (
+          (ends_as_it_was slot birth w nester low may v t (Done image) at stops).1,
+          sym (same_world (picture image) c pictured) ∙ (images_subtree slot birth w nester low may save v t image at stops).1,
+        )

@@ -1,0 +1,42 @@
+//! Worked examples: a world in which a checkpoint may begin, the briefest job, and jobs that aren't what a run wants. Each
+//! example is the contract of a function that does nothing.
+#![tactic(auto)]
+
+ghost use Rattle.std.specs.Prelude.{[]};
+ghost use Rattle.fk_model.specs.Runs.{after};
+ghost use Rattle.laws_savable.specs.Savable.{IsSound};
+ghost use Rattle.laws_further.specs.ClosedLaws.{IsUncut, IsUsersAlone};
+ghost use Rattle.laws_jobs.specs.Machines.{IsReadyAt};
+ghost use Rattle.laws_jobs.specs.Jobs.{MayBegin, IsTidyJob, Saves};
+ghost use Rattle.laws_jobs.specs.Holds.{hold};
+ghost use Rattle.examples_jobs.specs.Brief.{BriefIsTidy, full};
+ghost use Rattle.examples_jobs.specs.Wrong.{destroys_its_porter, makes_a_mutex, leaves_scratch, holds_at_once, says_nothing};
+ghost use Rattle.examples_jobs.specs.Wrong.State.{First};
+
+/// A job that holds a subtree and releases it is what a run wants of a job.
+pub fn the_briefest_job_is_tidy()
+    ensures { BriefIsTidy }
+{}
+
+/// A world in which a job may begin and a checkpoint of the subtree in slot 1 too, ready to hold it; and
+/// what comes of the hold is sound again.
+pub fn a_world_in_which_a_checkpoint_may_begin()
+    ensures may { MayBegin full [] 0 }
+    ensures uncut { IsUncut full }
+    ensures users { IsUsersAlone full [] 1 }
+    ensures ready { IsReadyAt full (hold [] 1) }
+    ensures held { IsSound (after full (hold [] 1)) }
+{}
+
+/// A job that destroys its own porter, makes anything but references in its scratch, or leaves scratch,
+/// isn't tidy.
+pub fn jobs_that_are_not_tidy()
+    ensures porter { IsTidyJob destroys_its_porter 0 First → ⊥ }
+    ensures mutex { IsTidyJob makes_a_mutex 0 First → ⊥ }
+    ensures scratch { IsTidyJob leaves_scratch 0 First → ⊥ }
+{}
+
+/// A job that says it has saved what it only held doesn't save.
+pub fn a_job_that_does_not_save()
+    ensures { Saves holds_at_once 0 1 says_nothing full [] First → ⊥ }
+{}
