@@ -18,3 +18,4 @@ pub mod Ready
 pub mod Released
 pub mod Fit
 pub mod Near
+pub mod Owed

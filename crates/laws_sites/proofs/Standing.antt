@@ -1,5 +1,5 @@
 -- What a restorer's calls read of the world, by its site.
-use Rattle.std.proofs.Common.{◌≡◌, ℕ, ◌≤◌, Bool, true, false, cond, nat_le, IsSome, IfSome, List, [], ◌∷◌, ◌++◌, Option, Some, None, option_map, Ok, refl, sym, subst, arith, ◌∙◌}
+use Rattle.std.proofs.Common.{◌≡◌, ℕ, ◌≤◌, Bool, true, false, cond, nat_le, IsSome, IfSome, List, [], ◌∷◌, ◌++◌, length, Option, Some, None, option_map, Ok, refl, sym, ap, subst, arith, length-append, ◌∙◌}
 use Rattle.std.proofs.lemmas.Bool.{and_parts, leb-true, le-leb, ne_eqb}
 use Rattle.fk_model.specs.declared.limits.TheConstants.{OWN_SPACE, LAST_USER_SLOT, FIRST_SCRATCH_SLOT, LAST_SCRATCH_SLOT, LAST_PORTER_SLOT}
 use Rattle.fk_model.specs.Places.{Path, same_path, Ptr}
@@ -143,6 +143,18 @@ module _ (nester : Path) (slot : ℕ) (g : Site) (w : World) (shows : Shows nest
       apart = same_path_ne (k ∷ (q ++ root)) (pin_of root) (λ e. let slots : k ≡ FIRST_SCRATCH_SLOT = cc in omega (arith, slots, low))
 
       by : (t : Bool) (o : Option Body) → t ≡ false → None ≡ option_map (λ b. unheld (k ∷ q) (seen_by (seeing see) b)) (cond t None o) → o ≡ None
+      by true o off e = cc
+      by false None off e = refl
+      by false (Some body) off e = cc
+
+  -- and deeper inside, in any slot
+  pub empty_beneath : (k x : ℕ) (q : Path) → g.built.body (k ∷ x ∷ q) ≡ None → w.body (k ∷ x ∷ (q ++ root)) ≡ None
+  empty_beneath k x q empty = by (same_path (k ∷ x ∷ (q ++ root)) (pin_of root)) (w.body (k ∷ x ∷ (q ++ root))) apart (sym empty ∙ shows.like.bodies (k ∷ x ∷ q))
+    where
+      apart : same_path (k ∷ x ∷ (q ++ root)) (pin_of root) ≡ false
+      apart = same_path_ne (k ∷ x ∷ (q ++ root)) (pin_of root) (λ e. omega (arith, ap length e, length-append q root))
+
+      by : (t : Bool) (o : Option Body) → t ≡ false → None ≡ option_map (λ b. unheld (k ∷ x ∷ q) (seen_by (seeing see) b)) (cond t None o) → o ≡ None
       by true o off e = cc
       by false None off e = refl
       by false (Some body) off e = cc

@@ -72,6 +72,10 @@ module _ (nester : Path) (words : List ℕ) (w : World) where
   unfolding call_row hold_set
   hold_set-row s x r space thread old h there holder free = rw (h, there, holder, free) refl
 
+-- scratch is no place
+pub no_place : (u : ℕ) → is_ref_slot u ≡ true → (u == OWN_SPACE) ≡ false
+no_place u h = let least = leb-true u LAST_SCRATCH_SLOT (and_parts (nat_le FIRST_SCRATCH_SLOT u) (nat_le u LAST_SCRATCH_SLOT) h).1 in ne_eqb u OWN_SPACE (λ e. omega (arith, least, e))
+
 module _ (nester : Path) (slot : ℕ) (g : Site) (w : World) (shows : Shows nester slot g w) (valid : IsConsistent w) where
   abbrev root : Path
   root = slot ∷ nester
@@ -110,7 +114,7 @@ module _ (nester : Path) (slot : ℕ) (g : Site) (w : World) (shows : Shows nest
   space_seen (Thread_of t) h = cc
   space_seen (Reference to) h = cc
 
-  kind_of_there : (y : Path) (kind : Kind) → IsKindThere g.built y kind → kind_at w (At (y ++ root)) ≡ Some kind
+  pub kind_of_there : (y : Path) (kind : Kind) → IsKindThere g.built y kind → kind_at w (At (y ++ root)) ≡ Some kind
   kind_of_there y kind its = subst (λ (y : Path). kind_at w (At (y ++ root)) ≡ Some kind) (sym its.is) (kind_big kind its.slot its.space its.body (subst (λ (y : Path). g.built.body y ≡ Some its.body) its.is its.there) its.is_kind)
 
   pub links_talk-plain : (s : ℕ) (q : Path) (x r u : ℕ) (y z : Path) (words : List ℕ) → (may : MayLink g slot s q x r u y z) → Plain nester slot g w shows valid (LinksTalk s q x r u y z words)
@@ -189,9 +193,6 @@ module _ (nester : Path) (slot : ℕ) (g : Site) (w : World) (shows : Shows nest
             (unfrozen nester slot g w shows (x ∷ q));
         shown = subst (λ (e : Edit). Shows nester slot (with_built (apply (Alter (x ∷ q) e) g.built) g) (apply (Alter (x ∷ (q ++ root)) edit) w)) seen changed;
       }
-    where
-      no_place : (u : ℕ) → is_ref_slot u ≡ true → (u == OWN_SPACE) ≡ false
-      no_place u h = let least = leb-true u LAST_SCRATCH_SLOT (and_parts (nat_le FIRST_SCRATCH_SLOT u) (nat_le u LAST_SCRATCH_SLOT) h).1 in ne_eqb u OWN_SPACE (λ e. omega (arith, least, e))
 
   pub holds-plain : (s : ℕ) (q : Path) (x r : ℕ) (z : Path) → (may : MayHold g slot s q x r z) → Plain nester slot g w shows valid (Holds s q x r z)
   unfolding apply_all

@@ -5,3 +5,4 @@ pub mod Looking
 pub mod Ready
 pub mod Fit
 pub mod Near
+pub mod Owed

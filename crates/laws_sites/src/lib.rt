@@ -14,6 +14,7 @@ ghost use Rattle.laws_sites.specs.Begun.{Begins};
 ghost use Rattle.laws_sites.specs.Looking.{TakesKeepLooks, PinsTell, OthersKeepLooks, ChecksTell};
 ghost use Rattle.laws_sites.specs.Ready.{NextIsReady, Releases};
 ghost use Rattle.laws_sites.specs.Near.{OwnCallsAreNear, NewSpaceIsUnled, OthersKeepNewUnled, NearCallsKeepUnled};
+ghost use Rattle.laws_sites.specs.Owed.{OrdersAreOwed};
 ghost use Rattle.laws_sites.specs.Laws.{BuiltIsCut, RestoresBuilt, NeverLost, PlacesAreNamed, CallsBounded, OthersKeepSites};
 
 /// A restorer makes no more calls than it has orders.
@@ -104,4 +105,10 @@ pub fn others_come_not_to_lead_in()
 /// Nor by the restorer's own calls.
 pub fn own_calls_lead_nobody_in()
     ensures { NearCallsKeepUnled }
+{}
+
+/// Where nobody leads in, the call of each order that suits is owed: fit, with words such as a porter gives, and leaving the world
+/// such as can be saved.
+pub fn orders_are_owed()
+    ensures { OrdersAreOwed }
 {}
