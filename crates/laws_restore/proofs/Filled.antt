@@ -37,7 +37,7 @@ module _ (c : World) (root : c.body [] ≡ Some (Space 0 None)) (slot : ℕ) whe
           (leaves_goes slot here p q None way)
           (λ g good. ordered slot here _ q None g (Makes P q k kinds.Space) (apply (fresh (k ∷ q) kinds.Space) g.built) good refl
               (ap (apply (fresh (k ∷ q) kinds.Space)) good.built ∙ fresh_made c made [] [] k q (Space 0 holder) its.0 refl)
-              (record { place = place_of slot here q None g good space; low = its.1; empty = rw good.built empty }))
+              (record { place = place_of slot here q None g good space; low = its.1; empty = rw good.built empty }) tt)
 
   pub spaces_made : (rooms : List Room) (p : Path) (made : List Path) → AreSpaces c rooms made →
       Leaves slot (building c made [] []) p None (building c (with_spaces rooms made) [] []) (after_spaces p rooms) None (makes_spaces slot p rooms)
@@ -65,7 +65,7 @@ module _ (c : World) (root : c.body [] ≡ Some (Space 0 None)) (slot : ℕ) whe
         leaves_on slot here q None (building c (y ∷ made) done given) q None (building c (with_items q is (y ∷ made)) done given) q None (Makes P q i.slot (kind_of i.body) ∷ []) _
             (λ g good. ordered slot here _ q None g (Makes P q i.slot (kind_of i.body)) (apply (fresh y (kind_of i.body)) g.built) good refl
                 (ap (apply (fresh y (kind_of i.body))) good.built ∙ fresh_made c made done given i.slot q i.body its.0.there (sub_out y done made sub its.1))
-                (record { place = place_of slot here q None g good there_q; low = its.0.low; empty = rw good.built empty }))
+                (record { place = place_of slot here q None g good there_q; low = its.0.low; empty = rw good.built empty }) tt)
             (items_made bind is (y ∷ made) done given (λ z h. still_among z y made (sub z h)) (still_made q y made above) its.2)
 
     -- each of them is among what is made, and has no record yet
@@ -88,7 +88,7 @@ module _ (c : World) (root : c.body [] ≡ Some (Space 0 None)) (slot : ℕ) whe
         leaves_on slot here q None (building c made (y ∷ done) given) q None (building c made (with_items q is (y ∷ done)) given) q None (Sets P q i.slot words ∷ []) _
             (λ g good. ordered slot here _ q None g (Sets P q i.slot words) _ good refl
                 (ap (λ (w : World). after_set y words (w.body y) w) good.built ∙ record_made c made done given i.slot q i.body its.0.there ready.0 ready.1 words its.0.says)
-                (record { place = place_of slot here q None g good there_q; low = its.0.low; object = blank i.body; there = rw good.built blank_here; takes = rw good.built takes }))
+                (record { place = place_of slot here q None g good there_q; low = its.0.low; object = blank i.body; there = rw good.built blank_here; takes = rw good.built takes }) its.0.given)
             (items_set bind is made (y ∷ done) (y ∷ start) given (kinds_same (y ∷ done)) kinds_same above its.2 ready.2)
 
     sheets_given : (ss : List Sheet) (made done : List Path) (given : List (Path × ℕ)) → AreMade q made → AreSheets c q ss given →
@@ -101,7 +101,7 @@ module _ (c : World) (root : c.body [] ≡ Some (Space 0 None)) (slot : ℕ) whe
         leaves_on slot here q None (building c made done ((q, s.number) ∷ given)) q None (building c made done (with_sheets q ss ((q, s.number) ∷ given))) q None (Gives P q s.number s.words ∷ []) _
             (λ g good. ordered slot here _ q None g (Gives P q s.number s.words) (apply (PutPage q s.number s.words) g.built) good refl
                 (ap (apply (PutPage q s.number s.words)) good.built ∙ page_made c made done given q s.number s.words its.0.0)
-                (record { place = place_of slot here q None g good there_q; fits = lt-ltb s.number PAGES its.0.1; empty = rw good.built empty; full = its.0.2 }))
+                (record { place = place_of slot here q None g good there_q; fits = lt-ltb s.number PAGES its.0.1; empty = rw good.built empty; full = its.0.2 }) its.0.4)
             (sheets_given ss made done ((q, s.number) ∷ given) above its.1)
 
     ready : (bind : ℕ → ℕ) (is : List Item) (big made done : List Path) → AreItems bind c q is made → IsSub done made → IsSub (with_items q is made) big → AreReady is big done

@@ -9,6 +9,7 @@ use Rattle.fk_model.specs.World.{World, edited, apply}
 use Rattle.fk_model.specs.World.Change.{Alter}
 use Rattle.fk_model.specs.World.Edit.{SetHolder}
 use Rattle.laws_sites.specs.Orders.Order.{Holds}
+use Rattle.fk_model.specs.Whole.{is_scratch_slot}
 use Rattle.laws_restore.specs.Rooms.{Room}
 use Rattle.laws_restore.specs.Script.{P, T, goes_to, leads_to_at, holds_space, stands_held, holds_spaces, after_holds}
 use Rattle.laws_restore.specs.Stages.{Mask, bound, leading, all_led}
@@ -18,7 +19,7 @@ use Rattle.laws_restore.proofs.Ways.{on}
 use Rattle.laws_restore.proofs.Led.{led_kinds, led_way, body_old, led_as, led_alike}
 use Rattle.laws_restore.proofs.Tying.{kind_there_of}
 
-module _ (bind : ℕ → ℕ) (c : World) (root : c.body [] ≡ Some (Space 0 None)) (slot : ℕ) where
+module _ (bind : ℕ → ℕ) (c : World) (root : c.body [] ≡ Some (Space 0 None)) (slot : ℕ) (unscratched : (k : ℕ) (x : Path) → is_scratch_slot k ≡ true → c.body (k ∷ x) ≡ None) where
   abbrev new : Mask
   new = all_led true
 
@@ -58,7 +59,8 @@ module _ (bind : ℕ → ℕ) (c : World) (root : c.body [] ≡ Some (Space 0 No
                     scratch = refl;
                     led = led.to;
                     holder_there = rw built (kind_there_of here h kinds.Thread (kinds_same [] ∙ ap (option_map kind_of) root) (kinds_same h ∙ aim.1) (λ e. cc));
-                  }) in
+                  })
+                  (its.7, λ j is. rw (built, unscratched j y is) refl) in
               record { site = next.site; runs = on slot g site next.site _ _ led.runs next.runs; good = next.good })
 
   -- one that nobody holds

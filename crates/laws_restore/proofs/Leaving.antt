@@ -8,6 +8,7 @@ use Rattle.laws_sites.specs.Orders.{Spot, Pin, Site, Order, does, May, with_buil
 use Rattle.laws_sites.specs.Orders.Spot.{To}
 use Rattle.laws_sites.specs.Orders.Pin.{NoPin, Fast}
 use Rattle.laws_sites.specs.Orders.Named.{ByScratch}
+use Rattle.laws_sites.specs.Owed.{Suits}
 use Rattle.laws_restore.specs.Fits.{there, IsWay}
 use Rattle.laws_restore.specs.Script.{P, T, U, D, goes_to, leads_to_at}
 use Rattle.laws_restore.proofs.Ways.{Runs, none, one, on, Walked, goes, leads, space_kind}
@@ -127,5 +128,5 @@ module _ (slot : ℕ) where
   pub place_of : (c : World) (q : Path) (aim : Option ℕ) (g : Site) → Good c q aim g → there c q ≡ Some kinds.Space → IsPlace g slot P q
   place_of c q aim g good space = record { named = ByScratch P q refl good.at; space = space_kind (g.built.body q) (subst (λ (c : World). there c q ≡ Some kinds.Space) (sym good.built) space) }
 
-  pub ordered : (c d : World) (q : Path) (aim : Option ℕ) (g : Site) (o : Order) (built : World) → Good c q aim g → does o g ≡ with_built built g → built ≡ d → May slot o g → Next d q aim g (o ∷ [])
-  ordered c d q aim g o built good makes e may = record { site = does o g; runs = one slot g o may; good = rw makes (built_good c d q aim g built e good) }
+  pub ordered : (c d : World) (q : Path) (aim : Option ℕ) (g : Site) (o : Order) (built : World) → Good c q aim g → does o g ≡ with_built built g → built ≡ d → May slot o g → Suits g o → Next d q aim g (o ∷ [])
+  ordered c d q aim g o built good makes e may suits = record { site = does o g; runs = one slot g o may suits; good = rw makes (built_good c d q aim g built e good) }

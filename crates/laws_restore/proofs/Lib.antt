@@ -8,8 +8,10 @@ pub mod Pointing
 pub mod Halfway
 pub mod Outward
 pub mod Standing
+pub mod Idle
 pub mod Tying
 pub mod HoldsGiven
 pub mod Whole
 pub mod Scripted
 pub mod Coming
+pub mod Owing

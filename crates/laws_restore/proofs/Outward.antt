@@ -1,5 +1,5 @@
 -- The passes that lead pointers out, one slot of the nester after the other.
-use Rattle.std.proofs.Common.{◌≡◌, ℕ, suc, ◌≤◌, ◌<◌, Bool, true, false, cond, ◌||◌, ◌==◌, eqb, nat_lt, is_some, List, [], ◌∷◌, ◌++◌, Option, Some, None, refl, sym, ap, subst, arith, eqb-true, ◌∙◌}
+use Rattle.std.proofs.Common.{◌≡◌, ℕ, suc, ◌≤◌, ◌<◌, Bool, true, false, cond, ◌||◌, ◌==◌, eqb, nat_le, nat_lt, is_some, List, [], ◌∷◌, ◌++◌, Option, Some, None, refl, sym, ap, subst, arith, eqb-true, ◌∙◌}
 use Rattle.std.proofs.lemmas.Bool.{le-ltb, lt-ltb, ltb-true, ltb-false, eqb-false}
 use Rattle.fk_model.specs.declared.limits.TheConstants.{LAST_USER_SLOT}
 use Rattle.fk_model.specs.declared.thread.Turn.{Turn}
@@ -22,7 +22,7 @@ use Rattle.laws_sites.specs.Orders.Order.{LeadsTop, Points, Pins, Takes, Checks,
 use Rattle.laws_restore.specs.Fits.{there, IsWay}
 use Rattle.laws_restore.specs.Script.{P, T, U, D, pointer_of, is_out_to, is_talk_out, is_fault_out, leads_out, talk_words, fault_words, taken_flag, parks_talk, parks_fault, leads_body_out}
 use Rattle.laws_restore.specs.Stages.{Mask, bound, leading, led_below, is_out_below, is_led_below, shown_talk, shown_fault, is_among}
-use Rattle.laws_restore.specs.Roomed.{IsAim, IsPair, IsTalkAim, IsFaultAim, IsTakenAim, IsAble}
+use Rattle.laws_restore.specs.Roomed.{GivesTalk, GivesFault, IsAim, IsPair, IsTalkAim, IsFaultAim, IsTakenAim, IsAble}
 use Rattle.laws_restore.proofs.Leaving.{Good, Leaves, leaves_on, leaves_none, place_of, ordered}
 use Rattle.laws_restore.proofs.Ways.{one, on}
 use Rattle.laws_restore.proofs.Led.{led_kinds, led_alike}
@@ -48,9 +48,9 @@ module _ (slot : ℕ) (c : World) (p : Path) where
       let s3 : Site = does (Takes T) s2 in
       let s4 : Site = does (Checks T j) s3 in
       let stay : (k : ℕ) → (k ≡ T → ⊥) → stays_in (s3.spot k) ≡ true = λ k apart. others k (eqb k T) refl apart (stays_all g good k) in
-      let run1 = one slot g (Pins j) (good.pin, stays_all g good, low) in
-      let run2 = on slot g s2 s3 _ (Takes T ∷ []) run1 (one slot s2 (Takes T) (refl, good.aimed.0, refl)) in
-      let run3 = on slot g s3 s4 _ (Checks T j ∷ []) run2 (one slot s3 (Checks T j) (refl, refl, stay, low)) in
+      let run1 = one slot g (Pins j) (good.pin, stays_all g good, low) tt in
+      let run2 = on slot g s2 s3 _ (Takes T ∷ []) run1 (one slot s2 (Takes T) (refl, good.aimed.0, refl) tt) in
+      let run3 = on slot g s3 s4 _ (Checks T j ∷ []) run2 (one slot s3 (Checks T j) (refl, refl, stay, low) tt) in
       record {
         site = s4;
         runs = run3;
@@ -72,7 +72,7 @@ module _ (slot : ℕ) (c : World) (p : Path) where
   pub closes_slot : (j : ℕ) → Leaves slot c p (Some j) c p None (LeadsTop T ∷ [])
   closes_slot j g good = record {
     site = does (LeadsTop T) g;
-    runs = one slot g (LeadsTop T) (refl, rw good.aimed.0 refl);
+    runs = one slot g (LeadsTop T) (refl, rw good.aimed.0 refl) tt;
     good = record {
       built = good.built;
       at = good.at;
@@ -159,6 +159,10 @@ is_out_at i (At z) h = cc
 is_out_at i Outside h = cc
 is_out_at i Far h = cc
 
+few_taken : (taker : Option Peer) → nat_le (taken_flag taker) 1 ≡ true
+few_taken None = refl
+few_taken (Some taker) = refl
+
 module _ (bind : ℕ → ℕ) (c : World) (root : c.body [] ≡ Some (Space 0 None)) (slot i : ℕ) (low : bind i ≤ LAST_USER_SLOT) where
   abbrev new : Mask
   new = led_below (suc i)
@@ -223,10 +227,10 @@ module _ (bind : ℕ → ℕ) (c : World) (root : c.body [] ≡ Some (Space 0 No
     half_space : there half q ≡ Some kinds.Space
     half_space = halfway_kinds bind c new mid old done y (Thread_of t) its.there anew q ∙ space
 
-    talk_step : (o : Option Talk) → t.talk ≡ o → IsTalkAim bind c o → Leaves slot from q (Some (bind i)) half q (Some (bind i)) (parks_talk i bind q x o)
+    talk_step : (o : Option Talk) → t.talk ≡ o → IsTalkAim bind c o → GivesTalk o → Leaves slot from q (Some (bind i)) half q (Some (bind i)) (parks_talk i bind q x o)
     unfolding apply
-    talk_step None e aim = leaves_none slot from half q (Some (bind i)) (to_half bind c new mid old done y (Thread_of t) its.there anew (rw e refl))
-    talk_step (Some talk) e aim = by (is_out_to i talk.port) refl
+    talk_step None e aim told = leaves_none slot from half q (Some (bind i)) (to_half bind c new mid old done y (Thread_of t) its.there anew (rw e refl))
+    talk_step (Some talk) e aim told = by (is_out_to i talk.port) refl
       where
         by : (b : Bool) → is_out_to i talk.port ≡ b → Leaves slot from q (Some (bind i)) half q (Some (bind i)) (cond b (ParksTalk P q x (bind i) (talk_words talk) ∷ []) [])
         by true h = λ g good.
@@ -234,13 +238,13 @@ module _ (bind : ℕ → ℕ) (c : World) (root : c.body [] ≡ Some (Space 0 No
             let edit = SetTalk (Some (parked_talk (bind i) (talk_words talk))) in
             ordered slot from half q (Some (bind i)) g (ParksTalk P q x (bind i) (talk_words talk)) (apply (Alter y edit) g.built) good refl
                 (ap (apply (Alter y edit)) good.built ∙ edit_half bind c new mid old done y (Thread_of t) its.there anew edit (talk_set y t talk e port (peer_outside talk.peer talk.port port aim)))
-                (record { place = place_of slot from q (Some (bind i)) g good (led_kinds bind c new old done q ∙ space); low = its.low; thread = rw good.built thread_here; pinned = good.aimed.1; port = low })
+                (record { place = place_of slot from q (Some (bind i)) g good (led_kinds bind c new old done q ∙ space); low = its.low; thread = rw good.built thread_here; pinned = good.aimed.1; port = low }) told
         by false h = leaves_none slot from half q (Some (bind i)) (to_half bind c new mid old done y (Thread_of t) its.there anew (rw (e, next_below i talk.port h) refl))
 
-    fault_step : (o : Option Fault) → t.fault ≡ o → IsFaultAim bind c o → Leaves slot half q (Some (bind i)) to q (Some (bind i)) (parks_fault i bind q x o)
+    fault_step : (o : Option Fault) → t.fault ≡ o → IsFaultAim bind c o → GivesFault o → Leaves slot half q (Some (bind i)) to q (Some (bind i)) (parks_fault i bind q x o)
     unfolding apply
-    fault_step None e aim = leaves_none slot half to q (Some (bind i)) (from_half bind c new mid old done y (Thread_of t) its.there anew (rw e refl))
-    fault_step (Some fault) e aim = by (is_out_to i fault.port) refl
+    fault_step None e aim told = leaves_none slot half to q (Some (bind i)) (from_half bind c new mid old done y (Thread_of t) its.there anew (rw e refl))
+    fault_step (Some fault) e aim told = by (is_out_to i fault.port) refl
       where
         by : (b : Bool) → is_out_to i fault.port ≡ b → Leaves slot half q (Some (bind i)) to q (Some (bind i)) (cond b (ParksFault P q x (bind i) (taken_flag fault.taker) (fault_words fault) ∷ []) [])
         by true h = λ g good.
@@ -248,12 +252,12 @@ module _ (bind : ℕ → ℕ) (c : World) (root : c.body [] ≡ Some (Space 0 No
             let edit = SetFault (Some (parked_fault (bind i) (taken_flag fault.taker) (fault_words fault))) in
             ordered slot half to q (Some (bind i)) g (ParksFault P q x (bind i) (taken_flag fault.taker) (fault_words fault)) (apply (Alter y edit) g.built) good refl
                 (ap (apply (Alter y edit)) good.built ∙ edit_rest bind c new mid old done y (Thread_of t) its.there anew edit (fault_set y t fault e port fault.taker refl (subst (λ (p : Ptr). IsTakenAim bind c p fault.taker) port aim)))
-                (record { place = place_of slot half q (Some (bind i)) g good half_space; low = its.low; thread = rw good.built thread_half; pinned = good.aimed.1; port = low })
+                (record { place = place_of slot half q (Some (bind i)) g good half_space; low = its.low; thread = rw good.built thread_half; pinned = good.aimed.1; port = low }) (told.0, told.1, few_taken fault.taker)
         by false h = leaves_none slot half to q (Some (bind i)) (from_half bind c new mid old done y (Thread_of t) its.there anew (rw (e, next_below i fault.port h) refl))
 
     thread_out : Leaves slot from q (Some (bind i)) to q (Some (bind i)) (parks_talk i bind q x t.talk ++ parks_fault i bind q x t.fault)
     thread_out = leaves_on slot from q (Some (bind i)) half q (Some (bind i)) to q (Some (bind i)) (parks_talk i bind q x t.talk) (parks_fault i bind q x t.fault)
-        (talk_step t.talk refl its.aims.0) (fault_step t.fault refl its.aims.1)
+        (talk_step t.talk refl its.aims.0 its.told.0) (fault_step t.fault refl its.aims.1 its.told.1)
 
   -- a pointer
   pointer_out : (q : Path) (x : ℕ) (b : Body) (done : List Path) → there c q ≡ Some kinds.Space → IsAble bind c q x b → is_among (x ∷ q) done ≡ false → has_pointer b ≡ true → (IsAim bind c b (pointer_of b)) →

@@ -104,6 +104,7 @@ module _ (bind : ℕ → ℕ) (c : World) (root : c.body [] ≡ Some (Space 0 No
               has = bound_has bind old y b has;
               fits = rw (good.built, bound_kinds bind old y b) fits;
             })
+            tt
 
 -- ---- inner pointers
 

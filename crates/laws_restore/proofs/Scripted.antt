@@ -11,6 +11,7 @@ use Rattle.laws_sites.specs.Orders.End.{Done}
 use Rattle.laws_sites.specs.Begun.{first}
 use Rattle.laws_sites.proofs.Ended.{built_is_cut}
 use Rattle.laws_sites.proofs.Restored.{restores_built, never_lost}
+use Rattle.laws_sites.specs.Owed.{SuitsAll}
 use Rattle.laws_restore.specs.Rooms.{Room}
 use Rattle.laws_restore.specs.Script.{script}
 use Rattle.laws_restore.specs.Roomed.{IsRoomed}
@@ -28,6 +29,9 @@ module _ (slot : ℕ) (bind : ℕ → ℕ) (c : World) (rooms : List Room) (its 
 
 pub script_makes : ScriptMakes
 script_makes slot bind c rooms its = ((script_ends bind c rooms its slot).runs.may, makes slot bind c rooms its)
+
+pub script_suits : (slot : ℕ) (bind : ℕ → ℕ) (c : World) (rooms : List Room) → IsRoomed bind c rooms → SuitsAll (script slot bind rooms) first
+script_suits slot bind c rooms its = (script_ends bind c rooms its slot).runs.suits
 
 pub restored_shows : (nester : Path) (slot : ℕ) (bind : ℕ → ℕ) (c : World) (rooms : List Room) (es : List Event) (w v : World) (t : State) → IsRoomed bind c rooms → Shows nester slot first w →
     Interleaved (restorer slot) nester w (Working (script slot bind rooms)) es v t → head slot t ≡ Stops Done → Shows nester slot (finished bind c) v

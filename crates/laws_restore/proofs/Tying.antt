@@ -1,5 +1,5 @@
 -- The pass that makes talks and faults between threads inside.
-use Rattle.std.proofs.Common.{◌≡◌, ℕ, ◌≤◌, Bool, true, false, ◌||◌, nat_lt, is_some, List, [], ◌∷◌, ◌++◌, Option, Some, None, option_map, refl, sym, ap, arith, ◌∙◌}
+use Rattle.std.proofs.Common.{◌≡◌, ℕ, ◌≤◌, ◌<◌, Bool, true, false, cond, ◌||◌, nat_lt, is_some, List, [], ◌∷◌, ◌++◌, Option, Some, None, option_map, refl, sym, ap, arith, ◌∙◌}
 use Rattle.std.proofs.lemmas.Bool.{lt-ltb}
 use Rattle.fk_model.specs.declared.limits.TheConstants.{LAST_USER_SLOT}
 use Rattle.fk_model.specs.declared.names.Kind.{Kind}
@@ -12,16 +12,22 @@ use Rattle.fk_model.specs.Objects.Body.{Mutex, Cond, Mapping, Region, Port, Port
 use Rattle.fk_model.specs.World.{World, edited, apply}
 use Rattle.fk_model.specs.World.Change.{Alter}
 use Rattle.fk_model.specs.World.Edit.{SetTalk, SetFault}
-use Rattle.laws_sites.specs.Orders.{inner_talk, inner_fault, IsKindThere}
+use Rattle.laws_sites.specs.Orders.{Site, inner_talk, inner_fault, IsKindThere}
 use Rattle.laws_sites.specs.Orders.Spot.{To}
 use Rattle.laws_sites.specs.Orders.Order.{LinksTalk, RaisesFault, LinksFault}
+use Rattle.fk_model.specs.Valid.{services}
+use Rattle.fk_model.proofs.walks.PlaceLaws.{same_path_refl, same_path_eq}
+use Rattle.fk_model.specs.Places.{same_path}
+use Rattle.laws_sites.specs.Fit.{IsIdleIn}
+use Rattle.laws_sites.specs.Owed.{IsFree}
+use Rattle.laws_restore.proofs.Idle.{talks, faults, talks_less, faults_less, led_talks, led_faults, by_talk, by_fault, other_fault, other_talk, idle_by}
 use Rattle.laws_restore.specs.Fits.{there, IsWay}
 use Rattle.laws_restore.specs.Script.{P, T, U, leads_to_at, talk_words, fault_words, is_talk_inside, is_fault_inside, ties_inside, ties_talk, ties_fault, ties_its_talk, ties_its_fault, ties_body}
 use Rattle.laws_restore.specs.Stages.{Mask, bound, leading, led_below, all_led, is_out_below, is_led_below, anywhere, shown_talk, shown_fault, shown_ptr, is_among}
-use Rattle.laws_restore.specs.Roomed.{IsAim, IsPair, IsTalkAim, IsFaultAim, IsTakenAim, IsAble}
+use Rattle.laws_restore.specs.Roomed.{AreBeside, GivesTalk, GivesFault, IsAim, IsPair, IsTalkAim, IsFaultAim, IsTakenAim, IsAble}
 use Rattle.laws_restore.proofs.Leaving.{Leaves, leaves_on, leaves_none, leads_t, leads_u, place_of, ordered}
 use Rattle.laws_restore.proofs.Ways.{on}
-use Rattle.laws_restore.proofs.Led.{led_kinds, led_way, led_alike}
+use Rattle.laws_restore.proofs.Led.{body_old, led_kinds, led_way, led_alike}
 use Rattle.laws_restore.proofs.Halfway.{before, halfway, after, halfway_kinds, halfway_way, halfway_there, to_half, edit_half, from_half, edit_rest}
 use Rattle.laws_restore.proofs.Outward.{turn_back, flag_back}
 
@@ -37,7 +43,8 @@ kind_there_of w (k ∷ q) kind top is apart = by (w.body (k ∷ q)) refl is
 pub all_below : (j : ℕ) → j ≤ LAST_USER_SLOT → nat_lt j 240 ≡ true
 all_below j low = lt-ltb j 240 (omega (arith, low))
 
-module _ (bind : ℕ → ℕ) (c : World) (root : c.body [] ≡ Some (Space 0 None)) (slot : ℕ) where
+module _ (bind : ℕ → ℕ) (c : World) (root : c.body [] ≡ Some (Space 0 None)) (slot : ℕ)
+    (one_service : (server x y : Path) → 0 < services c server x → 0 < services c server y → x ≡ y) (one_each : (server x : Path) → services c server x ≤ 1) where
   abbrev new : Mask
   new = all_led false
 
@@ -96,11 +103,57 @@ module _ (bind : ℕ → ℕ) (c : World) (root : c.body [] ≡ Some (Space 0 No
     here_kind : (w : World) → ((z : Path) → there w z ≡ there c z) → (z : Path) (kind : Kind) → there c z ≡ Some kind → (kind ≡ kinds.Space → ⊥) → IsKindThere w z kind
     here_kind w same z kind is apart = kind_there_of w z kind (same [] ∙ top_kind) (same z ∙ is) apart
 
+    -- where its talk, or its fault, is the one that a thread is to serve, that serves nobody yet
+    beside : (port server : Path) → AreBeside port server → (w : World) → (g : Site) → g.built ≡ w → IsIdleIn w server → IsFree g port server
+    beside (j ∷ p) (k ∷ r) same w g built idle = record { space = p; port_slot = j; server_slot = k; port_is = refl; server_is = rw same refl; idle = rw built idle }
+    beside [] server same w g built idle = absurd same
+    beside (j ∷ p) [] same w g built idle = absurd same
+
+    talk_there : (talk : Talk) (server : Path) → t.talk ≡ Some talk → talk.peer ≡ Server (At server) → talks bind c server (c.body y) ≡ true
+    talk_there talk server e s = rw (its.there, e, s) (same_path_refl server)
+
+    fault_there : (fault : Fault) (taker : Path) → t.fault ≡ Some fault → fault.taker ≡ Some (Server (At taker)) → faults bind c taker (c.body y) ≡ true
+    fault_there fault taker e s = rw (its.there, e, s) (same_path_refl taker)
+
+    off_by : (a b : Bool) → (a ≡ true → b ≡ true) → b ≡ false → a ≡ false
+    off_by false b less off = refl
+    off_by true b less off = let clash = sym (less refl) ∙ off in cc
+
+    idle_from : (talk : Talk) (port server : Path) → t.talk ≡ Some talk → talk.port ≡ At port → talk.peer ≡ Server (At server) → IsIdleIn from server
+    idle_from talk port server e p s =
+        let there = talk_there talk server e s in
+        let old_here = body_old bind c new old done y (Thread_of t) its.there anew in
+        idle_by bind c server from y (λ a b. one_service server a b) (by_talk bind c server y there) (led_talks bind c server new old done) (led_faults bind c server new old done)
+            (rw (old_here, e, p) refl)
+            (off_by (faults bind c server (from.body y)) (faults bind c server (c.body y)) (led_faults bind c server new old done y) (other_fault bind c server y (one_each server y) there))
+
+    half_talks : (server z : Path) → talks bind c server (half.body z) ≡ true → talks bind c server (c.body z) ≡ true
+    half_talks server z h = by (same_path z y) refl h
+      where
+        by : (b : Bool) → same_path z y ≡ b → talks bind c server (cond b (Some (bound bind mid y (Thread_of t))) (from.body z)) ≡ true → talks bind c server (c.body z) ≡ true
+        by true e h = let same = same_path_eq z y e in rw (same, its.there) (talks_less bind c server mid y (Thread_of t) h)
+        by false e h = led_talks bind c server new old done z h
+
+    half_faults : (server z : Path) → faults bind c server (half.body z) ≡ true → faults bind c server (c.body z) ≡ true
+    half_faults server z h = by (same_path z y) refl h
+      where
+        by : (b : Bool) → same_path z y ≡ b → faults bind c server (cond b (Some (bound bind mid y (Thread_of t))) (from.body z)) ≡ true → faults bind c server (c.body z) ≡ true
+        by true e h = let same = same_path_eq z y e in rw (same, its.there) (faults_less bind c server mid y (Thread_of t) h)
+        by false e h = led_faults bind c server new old done z h
+
+    idle_half : (fault : Fault) (port taker : Path) → t.fault ≡ Some fault → fault.port ≡ At port → fault.taker ≡ Some (Server (At taker)) → IsIdleIn half taker
+    idle_half fault port taker e p s =
+        let there = fault_there fault taker e s in
+        let half_here = halfway_there bind c new mid old done y (Thread_of t) its.there anew in
+        idle_by bind c taker half y (λ a b. one_service taker a b) (by_fault bind c taker y there) (half_talks taker) (half_faults taker)
+            (off_by (talks bind c taker (half.body y)) (talks bind c taker (c.body y)) (half_talks taker y) (other_talk bind c taker y (one_each taker y) there))
+            (rw (half_here, e, p) refl)
+
     -- a talk between two inside
-    ties : (talk : Talk) (port server : Path) → t.talk ≡ Some talk → talk.port ≡ At port → talk.peer ≡ Server (At server) → IsPair bind c (At port) (Server (At server)) →
+    ties : (talk : Talk) (port server : Path) → t.talk ≡ Some talk → talk.port ≡ At port → talk.peer ≡ Server (At server) → GivesTalk (Some talk) → IsPair bind c (At port) (Server (At server)) →
         Leaves slot from q None half q None (leads_to_at slot T q port ++ (leads_to_at slot U q server ++ LinksTalk P q x T U port server (talk_words talk) ∷ []))
     unfolding apply
-    ties talk port server e p s aim g good =
+    ties talk port server e p s told aim g good =
         let edit = SetTalk (Some (inner_talk port server (talk_words talk))) in
         let to_port = leads_t slot from q port g good (led_way bind c new old done port aim.0) in
         let to_server = leads_u slot from q server to_port.site to_port.good (led_way bind c new old done server aim.2) in
@@ -119,7 +172,8 @@ module _ (bind : ℕ → ℕ) (c : World) (root : c.body [] ≡ Some (Space 0 No
               second = refl;
               served = to_server.to;
               server_there = rw built (here_kind from from_kinds server kinds.Thread aim.3 (λ e. cc));
-            }) in
+            })
+            (told.0, told.1, beside port server aim.4 from site built (idle_from talk port server e p s)) in
         record {
           site = next.site;
           runs = on slot g to_port.site next.site _ _ to_port.runs (on slot to_port.site site next.site _ _ to_server.runs next.runs);
@@ -129,12 +183,12 @@ module _ (bind : ℕ → ℕ) (c : World) (root : c.body [] ≡ Some (Space 0 No
     talk_out : (talk : Talk) (j : ℕ) → t.talk ≡ Some talk → talk.port ≡ Out j → j ≤ LAST_USER_SLOT → Leaves slot from q None half q None []
     talk_out talk j e p low = leaves_none slot from half q None (to_half bind c new mid old done y (Thread_of t) its.there anew (rw (e, p, all_below j low) refl))
 
-    talk_step : (o : Option Talk) → t.talk ≡ o → IsTalkAim bind c o → Leaves slot from q None half q None (ties_its_talk slot q x o)
-    talk_step None e aim = leaves_none slot from half q None (to_half bind c new mid old done y (Thread_of t) its.there anew (rw e refl))
-    talk_step (Some talk) e aim = by talk.port talk.peer refl refl aim
+    talk_step : (o : Option Talk) → t.talk ≡ o → GivesTalk o → IsTalkAim bind c o → Leaves slot from q None half q None (ties_its_talk slot q x o)
+    talk_step None e told aim = leaves_none slot from half q None (to_half bind c new mid old done y (Thread_of t) its.there anew (rw e refl))
+    talk_step (Some talk) e told aim = by talk.port talk.peer refl refl aim
       where
         by : (port : Ptr) (peer : Peer) → talk.port ≡ port → talk.peer ≡ peer → IsPair bind c port peer → Leaves slot from q None half q None (ties_talk slot q x talk port peer)
-        by (At port) (Server (At server)) p s aim = ties talk port server e p s aim
+        by (At port) (Server (At server)) p s aim = ties talk port server e p s told aim
         by (Out j) (Server Outside) p s aim = talk_out talk j e p aim.0
         by (At port) (Server Null) p s aim = absurd aim
         by (At port) (Server Dead) p s aim = absurd aim
@@ -155,10 +209,10 @@ module _ (bind : ℕ → ℕ) (c : World) (root : c.body [] ≡ Some (Space 0 No
         by Outside peer p s aim = absurd aim
         by Far peer p s aim = absurd aim
 
-    raises : (fault : Fault) (port : Path) → t.fault ≡ Some fault → fault.port ≡ At port → fault.taker ≡ None → IsWay (there c) port × (there c port ≡ Some kinds.Port) →
+    raises : (fault : Fault) (port : Path) → t.fault ≡ Some fault → fault.port ≡ At port → fault.taker ≡ None → GivesFault (Some fault) → IsWay (there c) port × (there c port ≡ Some kinds.Port) →
         Leaves slot half q None to q None (leads_to_at slot T q port ++ RaisesFault P q x T port (fault_words fault) ∷ [])
     unfolding apply
-    raises fault port e p s aim g good =
+    raises fault port e p s told aim g good =
         let edit = SetFault (Some (inner_fault port None (fault_words fault))) in
         let to_port = leads_t slot half q port g good (halfway_way bind c new mid old done y (Thread_of t) its.there anew port aim.0) in
         let site = to_port.site in
@@ -172,13 +226,14 @@ module _ (bind : ℕ → ℕ) (c : World) (root : c.body [] ≡ Some (Space 0 No
               scratch = refl;
               led = to_port.to;
               port_there = rw built (here_kind half half_kinds port kinds.Port aim.1 (λ e. cc));
-            }) in
+            })
+            told in
         record { site = next.site; runs = on slot g site next.site _ _ to_port.runs next.runs; good = next.good }
 
-    takes : (fault : Fault) (port taker : Path) → t.fault ≡ Some fault → fault.port ≡ At port → fault.taker ≡ Some (Server (At taker)) → IsPair bind c (At port) (Server (At taker)) →
+    takes : (fault : Fault) (port taker : Path) → t.fault ≡ Some fault → fault.port ≡ At port → fault.taker ≡ Some (Server (At taker)) → GivesFault (Some fault) → IsPair bind c (At port) (Server (At taker)) →
         Leaves slot half q None to q None (leads_to_at slot T q port ++ (leads_to_at slot U q taker ++ LinksFault P q x T U port taker (fault_words fault) ∷ []))
     unfolding apply
-    takes fault port taker e p s aim g good =
+    takes fault port taker e p s told aim g good =
         let edit = SetFault (Some (inner_fault port (Some taker) (fault_words fault))) in
         let way : (z : Path) → IsWay (there c) z → IsWay (there half) z = halfway_way bind c new mid old done y (Thread_of t) its.there anew in
         let to_port = leads_t slot half q port g good (way port aim.0) in
@@ -198,7 +253,8 @@ module _ (bind : ℕ → ℕ) (c : World) (root : c.body [] ≡ Some (Space 0 No
               second = refl;
               served = to_taker.to;
               server_there = rw built (here_kind half half_kinds taker kinds.Thread aim.3 (λ e. cc));
-            }) in
+            })
+            (told.0, told.1, beside port taker aim.4 half site built (idle_half fault port taker e p s)) in
         record {
           site = next.site;
           runs = on slot g to_port.site next.site _ _ to_port.runs (on slot to_port.site site next.site _ _ to_taker.runs next.runs);
@@ -208,13 +264,13 @@ module _ (bind : ℕ → ℕ) (c : World) (root : c.body [] ≡ Some (Space 0 No
     fault_out : (fault : Fault) (j : ℕ) → t.fault ≡ Some fault → fault.port ≡ Out j → j ≤ LAST_USER_SLOT → Leaves slot half q None to q None []
     fault_out fault j e p low = leaves_none slot half to q None (from_half bind c new mid old done y (Thread_of t) its.there anew (rw (e, p, all_below j low) refl))
 
-    fault_step : (o : Option Fault) → t.fault ≡ o → IsFaultAim bind c o → Leaves slot half q None to q None (ties_its_fault slot q x o)
-    fault_step None e aim = leaves_none slot half to q None (from_half bind c new mid old done y (Thread_of t) its.there anew (rw e refl))
-    fault_step (Some fault) e aim = by fault.port fault.taker refl refl aim
+    fault_step : (o : Option Fault) → t.fault ≡ o → GivesFault o → IsFaultAim bind c o → Leaves slot half q None to q None (ties_its_fault slot q x o)
+    fault_step None e told aim = leaves_none slot half to q None (from_half bind c new mid old done y (Thread_of t) its.there anew (rw e refl))
+    fault_step (Some fault) e told aim = by fault.port fault.taker refl refl aim
       where
         by : (port : Ptr) (taker : Option Peer) → fault.port ≡ port → fault.taker ≡ taker → IsTakenAim bind c port taker → Leaves slot half q None to q None (ties_fault slot q x fault port taker)
-        by (At port) None p s aim = raises fault port e p s aim
-        by (At port) (Some (Server (At taker))) p s aim = takes fault port taker e p s aim
+        by (At port) None p s aim = raises fault port e p s told aim
+        by (At port) (Some (Server (At taker))) p s aim = takes fault port taker e p s told aim
         by (Out j) None p s aim = fault_out fault j e p aim.0
         by (Out j) (Some (Server Outside)) p s aim = fault_out fault j e p aim.0
         by (At port) (Some (Server Null)) p s aim = absurd aim
@@ -241,7 +297,7 @@ module _ (bind : ℕ → ℕ) (c : World) (root : c.body [] ≡ Some (Space 0 No
         by Far (Some peer) p s aim = absurd aim
 
     thread_tied : Leaves slot from q None to q None (ties_its_talk slot q x t.talk ++ ties_its_fault slot q x t.fault)
-    thread_tied = leaves_on slot from q None half q None to q None (ties_its_talk slot q x t.talk) (ties_its_fault slot q x t.fault) (talk_step t.talk refl its.aims.0) (fault_step t.fault refl its.aims.1)
+    thread_tied = leaves_on slot from q None half q None to q None (ties_its_talk slot q x t.talk) (ties_its_fault slot q x t.fault) (talk_step t.talk refl its.told.0 its.aims.0) (fault_step t.fault refl its.told.1 its.aims.1)
 
   -- ---- what leads inside, or out, is led already
 

@@ -13,6 +13,7 @@ use Rattle.laws_sites.specs.Orders.{Site, Order, does, does_all, May, MayAll, is
 use Rattle.laws_sites.specs.Orders.Spot.{To}
 use Rattle.laws_sites.specs.Orders.Named.{ByRoot, ByScratch}
 use Rattle.laws_sites.specs.Orders.Order.{Leads, LeadsTop}
+use Rattle.laws_sites.specs.Owed.{Suits, SuitsAll}
 use Rattle.laws_restore.specs.Fits.{there, is_referable, IsWay}
 use Rattle.laws_restore.specs.Script.{P, down, root_down, from_root, goes_by, goes_to, leads_by, leads_to_at}
 
@@ -49,22 +50,29 @@ object_of : (c : World) (y : Path) (o : Option Body) → c.body y ≡ o → is_r
 object_of c y None e h = cc
 object_of c y (Some b) e h = record { body = b; there = e; leads = h }
 
+suits_append : (os ps : List Order) (g : Site) → SuitsAll os g → SuitsAll ps (does_all os g) → SuitsAll (os ++ ps) g
+unfolding does_all
+suits_append [] ps g first then = then
+suits_append (o ∷ os) ps g first then = (first.0, suits_append os ps (does o g) first.1 then)
+
 module _ (slot : ℕ) where
   pub record Runs (g h : Site) (os : List Order) : Type 0 where
     pub may : MayAll slot os g
+    pub suits : SuitsAll os g
     pub end : does_all os g ≡ h
 
   pub none : (g : Site) → Runs g g []
   unfolding does_all
-  none g = record { may = tt; end = refl }
+  none g = record { may = tt; suits = tt; end = refl }
 
-  pub one : (g : Site) (o : Order) → May slot o g → Runs g (does o g) (o ∷ [])
+  pub one : (g : Site) (o : Order) → May slot o g → Suits g o → Runs g (does o g) (o ∷ [])
   unfolding does_all
-  one g o may = record { may = (may, tt); end = refl }
+  one g o may suits = record { may = (may, tt); suits = (suits, tt); end = refl }
 
   pub on : (g h k : Site) (os ps : List Order) → Runs g h os → Runs h k ps → Runs g k (os ++ ps)
   on g h k os ps first second = record {
     may = may_append slot os ps g first.may (subst (λ (s : Site). MayAll slot ps s) (sym first.end) second.may);
+    suits = suits_append os ps g first.suits (subst (λ (s : Site). SuitsAll ps s) (sym first.end) second.suits);
     end = does_append os ps g ∙ ap (does_all ps) first.end ∙ second.end;
   }
 
@@ -80,7 +88,7 @@ module _ (slot : ℕ) where
     pub others : (k : ℕ) → eqb k r ≡ false → site.spot k ≡ g.spot k
 
   pub top : (g : Site) (r : ℕ) → is_ref_slot r ≡ true → IsSome (g.spot r) → Walked g r [] (LeadsTop r ∷ [])
-  top g r is ready = record { site = does (LeadsTop r) g; runs = one g (LeadsTop r) (is, ready); built = refl; pin = refl; at = rw (eq-eqb r r refl) refl; others = λ k off. rw off refl }
+  top g r is ready = record { site = does (LeadsTop r) g; runs = one g (LeadsTop r) (is, ready) tt; built = refl; pin = refl; at = rw (eq-eqb r r refl) refl; others = λ k off. rw off refl }
 
   -- one step down, from a space that is named
   first_step : (g : Site) (r s k : ℕ) (q : Path) → is_ref_slot r ≡ true → IsSome (g.spot r) → Named g slot s q → IsWay (there g.built) (k ∷ q) → Walked g r (k ∷ q) (Leads r s q k ∷ [])
@@ -89,7 +97,7 @@ module _ (slot : ℕ) where
       let place : IsPlace g slot s q = record { named = named; space = space_kind (g.built.body q) way.2 } in
       record {
         site = does (Leads r s q k) g;
-        runs = one g (Leads r s q k) (record { scratch = is; ready = ready; place = place; low = way.1; object = object.body; there = object.there; leads = object.leads });
+        runs = one g (Leads r s q k) (record { scratch = is; ready = ready; place = place; low = way.1; object = object.body; there = object.there; leads = object.leads }) tt;
         built = refl;
         pin = refl;
         at = rw (eq-eqb r r refl) refl;

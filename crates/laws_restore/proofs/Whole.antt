@@ -1,5 +1,5 @@
 -- The whole script: it may be given order by order, and makes the subtree with its ports bound.
-use Rattle.std.proofs.Common.{◌≡◌, ℕ, zero, suc, ◌+◌, ◌≤◌, Bool, true, false, cond, ◌⊎◌, inl, inr, eqb, List, [], ◌∷◌, ◌++◌, Option, Some, None, option_map, refl, sym, ap, subst, arith, eqb-true, ◌∙◌}
+use Rattle.std.proofs.Common.{◌≡◌, ℕ, zero, suc, ◌+◌, ◌≤◌, Bool, true, false, cond, ◌||◌, ◌⊎◌, inl, inr, eqb, List, [], ◌∷◌, ◌++◌, Option, Some, None, option_map, refl, sym, ap, subst, arith, eqb-true, ◌∙◌}
 use Rattle.std.specs.List.{list_any}
 use Rattle.fk_model.specs.declared.limits.TheConstants.{LAST_USER_SLOT}
 use Rattle.fk_model.specs.declared.names.Kind.TheVariants as kinds
@@ -15,10 +15,13 @@ use Rattle.laws_sites.specs.Orders.Pin.{NoPin}
 use Rattle.laws_sites.specs.Orders.Named.{ByRoot}
 use Rattle.laws_sites.specs.Orders.Order.{Readies, Leads, LeadsTop, Makes, MakesPin, Pins, Takes, Checks, Deadens}
 use Rattle.laws_sites.specs.Begun.{first}
+use Rattle.fk_model.specs.Whole.{is_scratch_slot}
+use Rattle.fk_model.proofs.walks.PlaceLaws.{same_path_eq}
+use Rattle.std.proofs.lemmas.Bool.{le-leb}
 use Rattle.laws_restore.specs.Rooms.{Room}
 use Rattle.laws_restore.specs.Script.{P, T, U, D, has, each, through_rooms, after_rooms, makes_spaces, fills, points_body, leads_in, leads_out, leads_body_out, leads_out_by, leads_outs, after_outs, ties_body, ties_inside, holds_spaces, after_holds, any_room, made_by, filled_by, pointed_by, led_out_by, tied_by, opens, closes, script}
 use Rattle.laws_restore.specs.Stages.{Mask, nowhere, shown_talk, shown_fault, anywhere, nothing_led, led_below, all_led, recorded, blank, is_among, is_given, built_at, building, bound, leading}
-use Rattle.laws_restore.specs.Roomed.{all_made, all_given, with_spaces, IsRoomed}
+use Rattle.laws_restore.specs.Roomed.{IsNewSpace, with_space, AreSpaces, all_made, all_given, with_spaces, IsRoomed}
 use Rattle.laws_restore.proofs.Ways.{Runs, on}
 use Rattle.laws_restore.proofs.Lists.{IsSub}
 use Rattle.laws_restore.proofs.Leaving.{Good, Leaves, leaves_on, leaves_none, leaves_to}
@@ -72,6 +75,7 @@ module _ (slot : ℕ) where
         ),
       ),
     );
+    suits = (tt, (tt, (tt, (tt, (tt, (tt, (tt, (tt, (tt, tt)))))))));
     end = refl;
   }
 
@@ -114,6 +118,19 @@ unled bind y Portset = refl
 unled bind y (Space birth holder) = refl
 unled bind y (Thread_of t) = rw (nobody_talks t.talk, nobody_faults t.fault) refl
 unled bind y (Reference to) = refl
+
+-- spaces stand in users' slots
+low_spaces : (c : World) (rooms : List Room) (made : List Path) → AreSpaces c rooms made → (k : ℕ) (x : Path) → (is_among (k ∷ x) made ≡ true → k ≤ LAST_USER_SLOT) → is_among (k ∷ x) (with_spaces rooms made) ≡ true → k ≤ LAST_USER_SLOT
+low_spaces c [] made its k x low h = low h
+low_spaces c (r ∷ rs) made its k x low h = low_spaces c rs (with_space r.path made) its.1 k x (by r.path its.0) h
+  where
+    one : (j : ℕ) (q : Path) → j ≤ LAST_USER_SLOT → (t : Bool) → same_path (k ∷ x) (j ∷ q) ≡ t → (t || is_among (k ∷ x) made) ≡ true → k ≤ LAST_USER_SLOT
+    one j q is true e h = let same = same_path_eq (k ∷ x) (j ∷ q) e in let slots : k ≡ j = cc in rw slots is
+    one j q is false e h = low h
+
+    by : (path : Path) → IsNewSpace c path r.holder made → is_among (k ∷ x) (with_space path made) ≡ true → k ≤ LAST_USER_SLOT
+    by [] new h = low h
+    by (j ∷ q) new h = one j q new.1 (same_path (k ∷ x) (j ∷ q)) refl h
 
 module _ (bind : ℕ → ℕ) (c : World) (rooms : List Room) (its : IsRoomed bind c rooms) where
   abbrev spaces : List Path
@@ -220,7 +237,7 @@ module _ (bind : ℕ → ℕ) (c : World) (rooms : List Room) (its : IsRoomed bi
     tied p =
         leaves_to slot (at (led_below 240)) (leading bind c (all_led false) (led_below 240) items) (at (all_led false)) p (after_rooms (has ties_inside) p rooms) None None _
             (pass_done bind c rooms its (all_led false) (led_below 240) refl)
-            (rooms_led bind c slot None (all_led false) (led_below 240) ties_inside (ties_body slot) (tie_item bind c its.root slot) (tie_idle bind c its.root slot) rooms p spaces [] [] no_items its.filled)
+            (rooms_led bind c slot None (all_led false) (led_below 240) ties_inside (ties_body slot) (tie_item bind c its.root slot its.one_service its.one_each) (tie_idle bind c its.root slot its.one_service its.one_each) rooms p spaces [] [] no_items its.filled)
 
     -- ---- all of it stands
 
@@ -281,10 +298,29 @@ module _ (bind : ℕ → ℕ) (c : World) (rooms : List Room) (its : IsRoomed bi
         by y None e = refl
         by y (Some b) e = ap Some (either y b e (is_among y spaces) refl)
 
+    -- nothing stands in a slot of scratch
+    pub unscratched : (k : ℕ) (x : Path) → is_scratch_slot k ≡ true → c.body (k ∷ x) ≡ None
+    unscratched k x is = by (is_among (k ∷ x) made) refl
+      where
+        high : k ≤ LAST_USER_SLOT → ⊥
+        high low =
+            let on = le-leb k LAST_USER_SLOT low in
+            let off : is_scratch_slot k ≡ false = rw on refl in
+            let clash = sym is ∙ off in
+            cc
+
+        item : (is_among (k ∷ x) spaces ≡ true) ⊎ IsItem bind c (k ∷ x) → c.body (k ∷ x) ≡ None
+        item (inl h) = absurd (high (low_spaces c rooms [] its.spaces k x (λ e. cc) h))
+        item (inr found) = let same : k ≡ found.slot = (let here = found.is in cc) in absurd (high (subst (λ (j : ℕ). j ≤ LAST_USER_SLOT) (sym same) found.able.low))
+
+        by : (t : Bool) → is_among (k ∷ x) made ≡ t → c.body (k ∷ x) ≡ None
+        by false h = its.whole k x h
+        by true h = item (rooms_are bind c rooms spaces spaces [] (k ∷ x) its.filled h)
+
     held : (p : Path) → Leaves slot (at (all_led false)) p None (rebound bind c) (after_holds p rooms) None (holds_spaces slot p rooms)
     held p =
         leaves_to slot (at (all_led false)) (leading bind c (all_led true) (all_led false) spaces) (rebound bind c) p (after_holds p rooms) None None (holds_spaces slot p rooms) whole_stands
-            (spaces_held bind c its.root slot rooms p [] its.spaces)
+            (spaces_held bind c its.root slot unscratched rooms p [] its.spaces)
 
     -- ---- the scratch goes
 
@@ -317,6 +353,7 @@ module _ (bind : ℕ → ℕ) (c : World) (rooms : List Room) (its : IsRoomed bi
             ((good.pin, λ k. by k (eqb k U) (eqb k T) (stays_all slot (rebound bind c) p g good k)), ((refl, rw good.at refl), ((refl, refl), ((refl, refl), ((refl, rw good.dead refl), tt))))),
           ),
         );
+        suits = (tt, (tt, (tt, (tt, (tt, (tt, (tt, tt)))))));
         end = refl;
       };
       built = good.built;

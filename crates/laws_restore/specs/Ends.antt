@@ -1,13 +1,14 @@
 -- What a restore is for the run in which it works, and how it ends.
 use Rattle.std.specs.Prelude.{◌≡◌, ℕ, ◌≤◌, IsSome, List, ◌∷◌, None}
 use Rattle.fk_model.specs.declared.limits.TheConstants.{LAST_USER_SLOT}
+use Rattle.fk_model.specs.declared.stage.Stage.{Stage}
 use Rattle.fk_model.specs.Places.{Path}
 use Rattle.fk_model.specs.World.{World}
 use Rattle.fk_model.specs.Holds.{holder_of}
 use Rattle.fk_model.specs.Rebind.{rebound}
 use Rattle.fk_model.specs.Cut.{cut}
-use Rattle.laws_jobs.specs.Machines.{AtWork}
-use Rattle.laws_jobs.specs.Machines.Head.{Stops}
+use Rattle.laws_jobs.specs.Machines.{AtWork, IsOwedCall}
+use Rattle.laws_jobs.specs.Machines.Head.{Stops, Asks}
 use Rattle.laws_jobs.specs.Jobs.{MayBegin}
 use Rattle.laws_restore.specs.Rooms.{Room}
 use Rattle.laws_restore.specs.Roomed.{IsRoomed}
@@ -25,3 +26,9 @@ EndsSo w v nester slot bind c (NoPort port) = w.body (slot ∷ nester) ≡ None
 abbrev pub RestoreEndsSo : Type 0
 RestoreEndsSo = (slot birth : ℕ) (bind : ℕ → ℕ) (c : World) (rooms : List Room) (w v : World) (nester : Path) (t : State) (end : End) → slot ≤ LAST_USER_SLOT → IsRoomed bind c rooms → MayBegin w nester birth →
     AtWork (restore slot bind rooms) nester w Makes v t → (restore slot bind rooms).head t ≡ Stops end → EndsSo w v nester slot bind c end
+
+-- each of its calls is owed: fit, of a porter's words, and such as leaves a world that can be saved
+abbrev pub RestoreIsOwed : Type 0
+RestoreIsOwed = (slot birth : ℕ) (bind : ℕ → ℕ) (c : World) (rooms : List Room) (w : World) (nester : Path) → slot ≤ LAST_USER_SLOT → IsRoomed bind c rooms → MayBegin w nester birth →
+    ((stage : Stage) (words : List ℕ) → (restore slot bind rooms).head Makes ≡ Asks stage words → IsOwedCall w nester stage words) ×
+    ((v : World) (t : State) → AtWork (restore slot bind rooms) nester w Makes v t → (stage : Stage) (words : List ℕ) → (restore slot bind rooms).head t ≡ Asks stage words → IsOwedCall v nester stage words)

@@ -3,17 +3,19 @@
 use Rattle.std.specs.Prelude.{◌≡◌, ℕ, ◌≤◌, ◌<◌, true, false, List, [], ◌∷◌, length, Option, Some, None}
 use Rattle.fk_model.specs.declared.limits.TheConstants.{LAST_USER_SLOT, PAGES, PAGE_WORDS}
 use Rattle.fk_model.specs.declared.names.Kind.TheVariants as kinds
-use Rattle.fk_model.specs.Places.{Path, Ptr}
+use Rattle.fk_model.specs.Places.{Path, Ptr, is_within}
 use Rattle.fk_model.specs.Places.Ptr.{Null, Dead, At, Out, Outside, Far}
 use Rattle.fk_model.specs.Objects.{Peer, Talk, Fault, Body, space_of}
 use Rattle.fk_model.specs.Objects.Peer.{Server}
 use Rattle.fk_model.specs.Objects.Body.{Space, Thread_of}
 use Rattle.fk_model.specs.World.{World}
+use Rattle.fk_model.specs.Valid.{services, are_talk_words, are_fault_words}
 use Rattle.fk_model.specs.Records.{record_of, set, takes_state}
 use Rattle.fk_model.specs.StateRows.{held_kinds, is_of_kinds}
+use Rattle.laws_sites.specs.Owed.{IsGiven}
 use Rattle.laws_restore.specs.Fits.{there, IsWay}
 use Rattle.laws_restore.specs.Rooms.{Item, Sheet, Room}
-use Rattle.laws_restore.specs.Script.{pointer_of, padded}
+use Rattle.laws_restore.specs.Script.{pointer_of, padded, talk_words, fault_words}
 use Rattle.laws_restore.specs.Stages.{blank, recorded, is_among, is_given}
 
 -- what a pointer of this body leads to is there, and its field may hold it
@@ -26,8 +28,13 @@ IsAim bind c b Outside = ⊥
 IsAim bind c b Far = ⊥
 
 -- somebody at a port: a thread inside at a port inside, a peer outside at a port outside
+-- in one space
+abbrev pub AreBeside : Path → Path → Type 0
+AreBeside (j ∷ p) (k ∷ q) = p ≡ q
+AreBeside x y = ⊥
+
 abbrev pub IsPair : (ℕ → ℕ) → World → Ptr → Peer → Type 0
-IsPair bind c (At port) (Server (At thread)) = IsWay (there c) port × (there c port ≡ Some kinds.Port) × IsWay (there c) thread × (there c thread ≡ Some kinds.Thread)
+IsPair bind c (At port) (Server (At thread)) = IsWay (there c) port × (there c port ≡ Some kinds.Port) × IsWay (there c) thread × (there c thread ≡ Some kinds.Thread) × AreBeside port thread
 IsPair bind c (Out i) (Server Outside) = (i ≤ LAST_USER_SLOT) × (bind i ≤ LAST_USER_SLOT)
 IsPair bind c port peer = ⊥
 
@@ -52,6 +59,19 @@ abbrev pub AreAims : (ℕ → ℕ) → World → Body → Type 0
 AreAims bind c (Thread_of t) = IsTalkAim bind c t.talk × IsFaultAim bind c t.fault
 AreAims bind c b = IsAim bind c b (pointer_of b)
 
+-- a porter can give the words that make them
+abbrev pub GivesTalk : Option Talk → Type 0
+GivesTalk None = Unit {0}
+GivesTalk (Some talk) = IsGiven (talk_words talk) × (are_talk_words (talk_words talk) ≡ true)
+
+abbrev pub GivesFault : Option Fault → Type 0
+GivesFault None = Unit {0}
+GivesFault (Some fault) = IsGiven (fault_words fault) × (are_fault_words (fault_words fault) ≡ true)
+
+abbrev pub AreTold : Body → Type 0
+AreTold (Thread_of t) = GivesTalk t.talk × GivesFault t.fault
+AreTold b = Unit {0}
+
 -- an object whose record a new one takes, which then says all of it but its pointers, and whose pointers can be led
 pub record IsAble (bind : ℕ → ℕ) (c : World) (q : Path) (x : ℕ) (b : Body) : Type 0 where
   pub there : c.body (x ∷ q) ≡ Some b
@@ -60,6 +80,8 @@ pub record IsAble (bind : ℕ → ℕ) (c : World) (q : Path) (x : ℕ) (b : Bod
   pub takes : takes_state c q (blank b) (padded (record_of b)) ≡ true
   pub says : set (blank b) (padded (record_of b)) ≡ recorded b
   pub aims : AreAims bind c b
+  pub given : IsGiven (padded (record_of b))
+  pub told : AreTold b
 
 -- ---- items and sheets of a room
 
@@ -70,7 +92,7 @@ AreItems bind c q (i ∷ is) done = IsAble bind c q i.slot i.body × (is_among (
 abbrev pub AreSheets : World → Path → List Sheet → List (Path × ℕ) → Type 0
 AreSheets c q [] given = Unit {0}
 AreSheets c q (s ∷ ss) given =
-    ((c.page q s.number ≡ Some s.words) × (s.number < PAGES) × (length s.words ≡ PAGE_WORDS) × (is_given q s.number given ≡ false)) × AreSheets c q ss ((q, s.number) ∷ given)
+    ((c.page q s.number ≡ Some s.words) × (s.number < PAGES) × (length s.words ≡ PAGE_WORDS) × (is_given q s.number given ≡ false) × IsGiven s.words) × AreSheets c q ss ((q, s.number) ∷ given)
 
 abbrev pub with_items : Path → List Item → List Path → List Path
 with_items q [] done = done
@@ -92,10 +114,15 @@ IsHolderAim c None = Unit {0}
 IsHolderAim c (Some (At x)) = IsWay (there c) x × (there c x ≡ Some kinds.Thread)
 IsHolderAim c (Some other) = ⊥
 
+-- the holder doesn't lie in what it holds
+abbrev pub IsOutside : Path → Option Ptr → Type 0
+IsOutside x (Some (At holder)) = is_within x holder ≡ false
+IsOutside x other = Unit {0}
+
 abbrev pub IsNewSpace : World → Path → Option Ptr → List Path → Type 0
 IsNewSpace c [] holder made = holder ≡ None
 IsNewSpace c (k ∷ q) holder made =
-    (c.body (k ∷ q) ≡ Some (Space 0 holder)) × (k ≤ LAST_USER_SLOT) × (there c q ≡ Some kinds.Space) × IsWay (there c) q × AreMade q made × (is_among (k ∷ q) made ≡ false) × IsHolderAim c holder
+    (c.body (k ∷ q) ≡ Some (Space 0 holder)) × (k ≤ LAST_USER_SLOT) × (there c q ≡ Some kinds.Space) × IsWay (there c) q × AreMade q made × (is_among (k ∷ q) made ≡ false) × IsHolderAim c holder × IsOutside (k ∷ q) holder
 
 abbrev pub with_space : Path → List Path → List Path
 with_space [] made = made
@@ -140,4 +167,7 @@ pub record IsRoomed (bind : ℕ → ℕ) (c : World) (rooms : List Room) : Type 
   pub spaces : AreSpaces c rooms []
   pub filled : AreRooms bind c rooms (with_spaces rooms []) []
   pub whole : (k : ℕ) (q : Path) → is_among (k ∷ q) (all_made rooms (with_spaces rooms [])) ≡ false → c.body (k ∷ q) ≡ None
+  -- a thread serves one talk or one fault
+  pub one_service : (server x y : Path) → 0 < services c server x → 0 < services c server y → x ≡ y
+  pub one_each : (server x : Path) → services c server x ≤ 1
   pub pages : (q : Path) (n : ℕ) → is_given q n (all_given rooms []) ≡ false → c.page q n ≡ None

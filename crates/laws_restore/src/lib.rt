@@ -9,7 +9,7 @@
 #![tactic(auto)]
 
 ghost use Rattle.laws_restore.specs.Laws.{ScriptMakes, RestoresPicture, NeverLost};
-ghost use Rattle.laws_restore.specs.Ends.{RestoreEndsSo};
+ghost use Rattle.laws_restore.specs.Ends.{RestoreEndsSo, RestoreIsOwed};
 
 /// The script of a subtree may be given to a new space order by order, and makes that subtree with its ports bound.
 pub fn a_script_makes_the_subtree()
@@ -30,4 +30,9 @@ pub fn a_restorer_is_never_lost()
 /// taken and nothing was done.
 pub fn a_restore_ends_so()
     ensures { RestoreEndsSo }
+{}
+
+/// Each call of a restore is owed: fit, of a porter's words, and such as leaves a world that can be saved.
+pub fn a_restores_calls_are_owed()
+    ensures { RestoreIsOwed }
 {}

@@ -1,12 +1,12 @@
 -- What an order needs besides, so that its call is owed: words such as a porter gives, servers that serve nobody, holders outside.
-use Rattle.std.specs.Prelude.{◌≡◌, ℕ, true, false, ◌&&◌, ◌==◌, nat_le, List, ◌∷◌, length, None}
+use Rattle.std.specs.Prelude.{◌≡◌, ℕ, true, false, ◌&&◌, ◌==◌, nat_le, List, [], ◌∷◌, length, None}
 use Rattle.fk_model.specs.declared.limits.TheConstants.{PAGE_WORDS}
 use Rattle.fk_model.specs.Places.{Path, is_within}
 use Rattle.fk_model.specs.World.{World}
 use Rattle.fk_model.specs.Valid.{IsValid, are_talk_words, are_fault_words}
 use Rattle.fk_model.specs.Whole.{are_words, is_scratch_slot}
 use Rattle.laws_jobs.specs.Machines.{IsOwedCall}
-use Rattle.laws_sites.specs.Orders.{Site, Shows, Order, May, stage_of, words_of}
+use Rattle.laws_sites.specs.Orders.{Site, Shows, Order, does, May, stage_of, words_of}
 use Rattle.laws_sites.specs.Orders.Order.{Sets, Gives, ParksTalk, ParksFault, LinksTalk, RaisesFault, LinksFault, Holds}
 use Rattle.laws_sites.specs.Fit.{IsUnled, IsIdleIn}
 
@@ -34,6 +34,10 @@ Suits g (LinksFault s q x r u port taker words) = IsGiven words × (are_fault_wo
 -- the holder doesn't lie in what it holds, and no scratch is there
 Suits g (Holds s q x r holder) = (is_within (x ∷ q) holder ≡ false) × ((k : ℕ) → is_scratch_slot k ≡ true → g.built.body (k ∷ x ∷ q) ≡ None)
 Suits g other = Unit {0}
+
+abbrev pub SuitsAll : List Order → Site → Type 0
+SuitsAll [] g = Unit {0}
+SuitsAll (o ∷ os) g = Suits g o × SuitsAll os (does o g)
 
 abbrev pub OrdersAreOwed : Type 0
 OrdersAreOwed = (nester : Path) (slot : ℕ) (g : Site) (w : World) (o : Order) → Shows nester slot g w → May slot o g → Suits g o → IsUnled nester slot w → IsValid w →
