@@ -24,7 +24,7 @@ use Rattle.fk_image.specs.Valid.{is_valid}
 use Rattle.laws_savable.specs.Savable.{IsSound}
 use Rattle.laws_further.specs.ClosedLaws.{IsUncut, IsUsersAlone}
 use Rattle.laws_further.proofs.ClosedLaws.{closed_is_plain}
-use Rattle.laws_pictures.specs.Imaged.{image_of, AreItsSpaces, IsAlone, HasNumbers}
+use Rattle.laws_pictures.specs.Imaged.{image_of, AreItsSpaces, IsAlone}
 use Rattle.laws_pictures.specs.Saved.{IsSavedSubtree}
 use Rattle.laws_pictures.proofs.Saved.{subtree_is_sound}
 use Rattle.laws_pictures.proofs.Once.{subtree_has_image}
@@ -33,6 +33,7 @@ use Rattle.laws_checkpoint.specs.Walk.{Met, met}
 use Rattle.laws_checkpoint.specs.Assembly.{spaces_met}
 use Rattle.laws_checkpoint.proofs.Tasks.{spaces_are}
 use Rattle.laws_checkpoint.proofs.Preorder.{Apart, spaces_apart, are_its_spaces}
+use Rattle.laws_checkpoint.proofs.Numbers.{numbers_inside}
 use Rattle.laws_checkpoint.proofs.Ended.{scratch_of}
 
 -- ---- numbers of their own, as many as spaces
@@ -63,7 +64,7 @@ unclosed field slot (p ∷ qs) h q is = by (field p) refl h is (unclosed field s
     by None e h (inr there) rest = rest h q there
 
 module _ (w : World) (nester : Path) (slot : ℕ) (sound : IsSound w) (clean : IsClean w) (uncut : IsUncut w) (alone : IsUsersAlone w nester slot)
-    (closed : IsClosed w nester slot) (numbers : HasNumbers (cut w nester slot)) where
+    (closed : IsClosed w nester slot) where
   abbrev root : Path
   root = slot ∷ nester
 
@@ -271,4 +272,4 @@ module _ (w : World) (nester : Path) (slot : ℕ) (sound : IsSound w) (clean : I
   all_spaces q is = spaces_are c rooted.root q is
 
   pub has_image : (is_valid (image_of c sp) ≡ true) × (picture (image_of c sp) ≡ c)
-  has_image = subtree_has_image w nester slot sp saved (are_its_spaces c parents rooted long) numbers few_spaces
+  has_image = subtree_has_image w nester slot sp saved (are_its_spaces c parents rooted long) (numbers_inside w nester slot sound.whole sound.savable) few_spaces

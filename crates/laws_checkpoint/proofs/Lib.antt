@@ -14,6 +14,7 @@ pub mod Ended
 pub mod Recorded
 pub mod Assembled
 pub mod Preorder
+pub mod Numbers
 pub mod Imaged
 pub mod Saved
 pub mod Calling

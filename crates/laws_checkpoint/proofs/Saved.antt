@@ -43,7 +43,7 @@ module _ (slot birth : ℕ) (w : World) (nester : Path) (low : slot ≤ LAST_USE
   Imaged image = (is_valid image ≡ true) × (picture image ≡ cut w nester slot)
 
   of_image : IsClosed w nester slot → Imaged (image_of (cut w nester slot) (spaces_of (cut w nester slot)))
-  of_image closed = has_image w nester slot may.sound may.clean save.uncut save.users closed save.numbers
+  of_image closed = has_image w nester slot may.sound may.clean save.uncut save.users closed
 
   of_verdict : (held : Held nester slot w) (sound : IsSound (held_world nester slot w)) (image : Image) → Verdict nester slot birth low w may held sound (Done image) → Imaged image
   of_verdict held sound image verdict =
@@ -51,7 +51,7 @@ module _ (slot birth : ℕ) (w : World) (nester : Path) (low : slot ≤ LAST_USE
       let c = cut start nester slot in
       let shown = assembled_is start nester slot (spaces_of c) (λ q t e. sound.savable.shaped (q ++ slot ∷ nester) t e)
       (λ q is. spaces_are c (root_space nester slot birth low w may held sound) q is)
-      (λ q k high. ap (λ (d : World). d.body (k ∷ q)) held.cut ∙ none_high w nester slot may.sound may.clean save.uncut save.users verdict.0 save.numbers q k high) in
+      (λ q k high. ap (λ (d : World). d.body (k ∷ q)) held.cut ∙ none_high w nester slot may.sound may.clean save.uncut save.users verdict.0 q k high) in
       subst Imaged (sym (verdict.1 ∙ shown ∙ ap (λ (d : World). image_of d (spaces_of d)) held.cut)) (of_image verdict.0)
 
   pub images_subtree : (v : World) (t : State) (image : Image) → Came slot birth w nester low may v t → head slot t ≡ Stops (Done image) → Imaged image

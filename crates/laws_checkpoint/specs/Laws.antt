@@ -13,7 +13,6 @@ use Rattle.fk_image.specs.declared.image.Image.{Image}
 use Rattle.fk_image.specs.Picture.{picture}
 use Rattle.fk_image.specs.Valid.{is_valid}
 use Rattle.laws_further.specs.ClosedLaws.{IsUncut, IsUsersAlone}
-use Rattle.laws_pictures.specs.Imaged.{HasNumbers}
 use Rattle.laws_jobs.specs.Machines.{call_of, IsReadyAt, AtWork}
 use Rattle.laws_jobs.specs.Machines.Head.{Stops, Asks}
 use Rattle.laws_jobs.specs.Jobs.{MayBegin, IsTidyJob, Saves}
@@ -43,12 +42,10 @@ abbrev pub CheckpointEndsAsItWas : Type 0
 CheckpointEndsAsItWas = (slot birth : ℕ) (w v : World) (nester : Path) (t : State) (end : End) → slot ≤ LAST_USER_SLOT → MayBegin w nester birth →
     AtWork (checkpoint slot) nester w Holds v t → (checkpoint slot).head t ≡ Stops end → EndsAsItWas w nester slot end
 
--- what it wants besides of the world in which it begins: it is nobody's cut, no porter and no served port lies inside, and the
--- numbers inside are such as an image holds
+-- what it wants besides of the world in which it begins: it is nobody's cut, and no porter and no served port lies inside
 pub record MaySave (w : World) (nester : Path) (slot : ℕ) : Type 0 where
   pub uncut : IsUncut w
   pub users : IsUsersAlone w nester slot
-  pub numbers : HasNumbers (cut w nester slot)
 
 -- the image with which it is done is valid, and its picture is the subtree as it was when it began
 abbrev pub CheckpointImagesSubtree : Type 0
