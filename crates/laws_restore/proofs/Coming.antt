@@ -10,7 +10,7 @@ use Rattle.fk_model.specs.Outcomes.{Said}
 use Rattle.fk_model.specs.Outcomes.Said.{Answered}
 use Rattle.fk_model.specs.Runs.{Event, after}
 use Rattle.fk_model.specs.Rebind.{rebound}
-use Rattle.fk_model.specs.Cut.{cut}
+use Rattle.fk_model.specs.Cut.{cut, IsPlain}
 use Rattle.laws_savable.specs.Savable.{IsSound}
 use Rattle.laws_jobs.specs.Machines.{Reply, IsAnswered, no_words, call_of, said_of, reply_of, heard, IsReadyAt, Interleaved, AtWork}
 use Rattle.laws_jobs.specs.Machines.Head.{Stops}
@@ -26,6 +26,7 @@ use Rattle.laws_sites.proofs.Near.{own_calls_are_near, near_calls_keep_unled, ot
 use Rattle.laws_sites.proofs.Begun.{begins}
 use Rattle.laws_sites.proofs.Others.{others}
 use Rattle.laws_sites.proofs.Released.{releases}
+use Rattle.laws_sites.proofs.Plainly.{releases_plain}
 use Rattle.laws_sites.proofs.Restored.{own_call}
 use Rattle.laws_restore.specs.Rooms.{Room}
 use Rattle.laws_restore.specs.Script.{script}
@@ -34,7 +35,8 @@ use Rattle.laws_restore.specs.Laws.{finished}
 use Rattle.laws_restore.specs.Restore.{End, State, head, looked_at, refused, drops, objects, lowest_bound, restore}
 use Rattle.laws_restore.specs.Restore.End.{Done, Occupied, NoPort}
 use Rattle.laws_restore.specs.Restore.State.{Makes as Begins, Works, Clears, Over}
-use Rattle.laws_restore.specs.Ends.{EndsSo, RestoreEndsSo}
+use Rattle.laws_restore.specs.Restore.{is_done}
+use Rattle.laws_restore.specs.Ends.{EndsSo, RestoreEndsSo, RestoreRestores}
 use Rattle.laws_restore.proofs.Scripted.{script_makes, script_suits}
 
 module _ (slot birth : ℕ) (bind : ℕ → ℕ) (c : World) (rooms : List Room) (w : World) (nester : Path) (low : slot ≤ LAST_USER_SLOT) (its : IsRoomed bind c rooms) (may_begin : MayBegin w nester birth) where
@@ -58,7 +60,7 @@ module _ (slot birth : ℕ) (bind : ℕ → ℕ) (c : World) (rooms : List Room)
   pub data Came : World → State → Type 0 where
     Working : (os : List Order) (g : Site) (v : World) → Empty → Shows nester slot g v → IsUnled nester slot v → MayAll slot os g → SuitsAll os g → does_all os g ≡ finished bind c → Came v (Works os)
     Clearing : (os : List Order) (more port : ℕ) (v : World) → Empty → AreDrops os → Came v (Clears os more port)
-    Finished : (v : World) → Empty → cut v nester slot ≡ rebound bind c → holder_of (v.body root) ≡ None → Came v (Over Done)
+    Finished : (v : World) → Empty → IsPlain v nester slot → cut v nester slot ≡ rebound bind c → holder_of (v.body root) ≡ None → Came v (Over Done)
     Missing : (port : ℕ) (v : World) → Empty → Came v (Over (NoPort port))
     Taken : (v : World) → IsSome (w.body root) → v ≡ w → Came v (Over Occupied)
 
@@ -90,12 +92,13 @@ module _ (slot birth : ℕ) (bind : ℕ → ℕ) (c : World) (rooms : List Room)
   after_own g v o os status words true e empty well shown unled may suits is = Working os (does o g) v empty (shown refl) unled may suits is
   after_own g v o os status words false e empty well shown unled may suits is = no_port v os o empty (well refl)
 
-  released : (g : Site) (u : World) → Empty → Shows nester slot g u → g ≡ finished bind c → IsSound u → IsReadyAt u (call_of nester (SpaceRelease OWN_SPACE slot) no_words) →
+  released : (g : Site) (u : World) → Empty → Shows nester slot g u → IsUnled nester slot u → g ≡ finished bind c → IsSound u → IsReadyAt u (call_of nester (SpaceRelease OWN_SPACE slot) no_words) →
       Came (after u (call_of nester (SpaceRelease OWN_SPACE slot) no_words)) (Over Done)
-  released g u empty shows is sound ready =
+  released g u empty shows unled is sound ready =
       let reply = reply_of (said_of u (call_of nester (SpaceRelease OWN_SPACE slot) no_words)) in
-      let end = releases nester slot g u reply shows (rw is refl) (record { valid = sound.whole.valid; few = sound.whole.few; ready = ready; said = refl }) in
-      Finished _ empty (end.2 ∙ ap (λ (g : Site). g.built) is) end.1
+      let answered : IsAnswered nester u (SpaceRelease OWN_SPACE slot) no_words reply = record { valid = sound.whole.valid; few = sound.whole.few; ready = ready; said = refl } in
+      let end = releases nester slot g u reply shows (rw is refl) answered in
+      Finished _ empty (releases_plain nester slot g u reply shows (rw is refl) unled answered) (end.2 ∙ ap (λ (g : Site). g.built) is) end.1
 
   pub arrives : (u v : World) (s t : State) (es : List Event) → Came u s → (run : Interleaved (restore slot bind rooms) nester u s es v t) → Came v t
   unfolding does_all
@@ -103,10 +106,10 @@ module _ (slot birth : ℕ) (bind : ℕ → ℕ) (c : World) (rooms : List Room)
   arrives _ v _ t _ (Working os g u empty shows unled may suits is) (Another _ _ e es _ _ sound works moves rest) =
       arrives (after u e) v (Works os) t es (Working os g (after u e) empty (others nester slot g u e shows moves) (others_keep_new_unled nester slot g u e shows moves unled) may suits is) rest
   arrives _ v _ t _ (Clearing os more port u empty drop) (Another _ _ e es _ _ sound works moves rest) = arrives (after u e) v (Clears os more port) t es (Clearing os more port (after u e) empty drop) rest
-  arrives _ v _ t _ (Finished u empty same unheld) (Another _ _ e es _ _ sound works moves rest) = let asked = works.2 in cc
+  arrives _ v _ t _ (Finished u empty plain same unheld) (Another _ _ e es _ _ sound works moves rest) = let asked = works.2 in cc
   arrives _ v _ t _ (Missing port u empty) (Another _ _ e es _ _ sound works moves rest) = let asked = works.2 in cc
   arrives _ v _ t _ (Taken u there same) (Another _ _ e es _ _ sound works moves rest) = let asked = works.2 in cc
-  arrives _ v _ t _ (Finished u empty same unheld) (Own _ _ stage words es _ _ sound asks ready rest) = cc
+  arrives _ v _ t _ (Finished u empty plain same unheld) (Own _ _ stage words es _ _ sound asks ready rest) = cc
   arrives _ v _ t _ (Missing port u empty) (Own _ _ stage words es _ _ sound asks ready rest) = cc
   arrives _ v _ t _ (Taken u there same) (Own _ _ stage words es _ _ sound asks ready rest) = cc
   arrives _ v _ t _ (Clearing [] zero port u empty drop) (Own _ _ stage words es _ _ sound asks ready rest) =
@@ -119,7 +122,7 @@ module _ (slot birth : ℕ) (bind : ℕ → ℕ) (c : World) (rooms : List Room)
       let stages : SpaceRelease OWN_SPACE slot ≡ stage = cc in
       let given : no_words ≡ words = cc in
       let same : call_of nester (SpaceRelease OWN_SPACE slot) no_words ≡ call_of nester stage words = rw (stages, given) refl in
-      let here = released g u empty shows is sound (subst (IsReadyAt u) (sym same) ready) in
+      let here = released g u empty shows unled is sound (subst (IsReadyAt u) (sym same) ready) in
       arrives (after u (call_of nester stage words)) v (Over Done) t es (subst (λ (e : Event). Came (after u e) (Over Done)) same here) rest
   arrives _ v _ t _ (Working (o ∷ os) g u empty shows unled may suits is) (Own _ _ stage words es _ _ sound asks ready rest) =
       let stages : stage_of slot o ≡ stage = cc in
@@ -179,9 +182,24 @@ module _ (slot birth : ℕ) (bind : ℕ → ℕ) (c : World) (rooms : List Room)
   ended _ _ end (Working (o ∷ os) g v empty shows unled may suits is) stops = cc
   ended _ _ end (Clearing [] more port v empty drop) stops = cc
   ended _ _ end (Clearing (o ∷ os) more port v empty drop) stops = cc
-  ended _ _ end (Finished v empty same unheld) stops = let is : Done ≡ end = cc in subst (EndsSo w v nester slot bind c) is (empty, same, unheld)
+  ended _ _ end (Finished v empty plain same unheld) stops = let is : Done ≡ end = cc in subst (EndsSo w v nester slot bind c) is (empty, same, unheld)
   ended _ _ end (Missing port v empty) stops = let is : NoPort port ≡ end = cc in subst (EndsSo w v nester slot bind c) is empty
   ended _ _ end (Taken v there same) stops = let is : Occupied ≡ end = cc in subst (EndsSo w v nester slot bind c) is (there, same)
 
 pub ends_so : RestoreEndsSo
 ends_so slot birth bind c rooms w v nester t end low its may work stops = ended slot birth bind c rooms w nester low its may v t end (came slot birth bind c rooms w nester low its may v t work) stops
+
+plain_end : (slot birth : ℕ) (bind : ℕ → ℕ) (c : World) (rooms : List Room) (w : World) (nester : Path) (low : slot ≤ LAST_USER_SLOT) (its : IsRoomed bind c rooms) (may : MayBegin w nester birth) (v : World) (t : State) (end : End) →
+    Came slot birth bind c rooms w nester low its may v t → head slot t ≡ Stops end → is_done end ≡ true → IsPlain v nester slot × (cut v nester slot ≡ rebound bind c)
+plain_end slot birth bind c rooms w nester low its may _ _ end (Working [] g v empty shows unled may_all suits is) stops done = cc
+plain_end slot birth bind c rooms w nester low its may _ _ end (Working (o ∷ os) g v empty shows unled may_all suits is) stops done = cc
+plain_end slot birth bind c rooms w nester low its may _ _ end (Clearing [] more port v empty drop) stops done = cc
+plain_end slot birth bind c rooms w nester low its may _ _ end (Clearing (o ∷ os) more port v empty drop) stops done = cc
+plain_end slot birth bind c rooms w nester low its may _ _ end (Finished v empty plain same unheld) stops done = (plain, same)
+plain_end slot birth bind c rooms w nester low its may _ _ end (Missing port v empty) stops done = let is : NoPort port ≡ end = cc in let off : is_done end ≡ false = rw (← is) refl in let clash = sym done ∙ off in cc
+plain_end slot birth bind c rooms w nester low its may _ _ end (Taken v there same) stops done = let is : Occupied ≡ end = cc in let off : is_done end ≡ false = rw (← is) refl in let clash = sym done ∙ off in cc
+
+pub restores : RestoreRestores
+restores slot birth bind c rooms low its = record {
+  gives = λ w nester v t end may work stops done. plain_end slot birth bind c rooms w nester low its may v t end (came slot birth bind c rooms w nester low its may v t work) stops done;
+}

@@ -102,7 +102,7 @@ module _ (slot birth : ℕ) (bind : ℕ → ℕ) (c : World) (rooms : List Room)
   owed_at _ _ sound (Clearing (Drops r ∷ os) more port v empty drop) stage words e =
       given_by v nester (Destroy OWN_SPACE r) stage no_words words (let one : Destroy OWN_SPACE r ≡ stage = cc in one) (let two : no_words ≡ words = cc in two) (drop_owed v r drop.0)
   owed_at _ _ sound (Clearing (o ∷ os) more port v empty drop) stage words e = absurd drop
-  owed_at _ _ sound (Finished v empty same unheld) stage words e = cc
+  owed_at _ _ sound (Finished v empty plain same unheld) stage words e = cc
   owed_at _ _ sound (Missing port v empty) stage words e = cc
   owed_at _ _ sound (Taken v there same) stage words e = cc
 

@@ -9,10 +9,10 @@ use Rattle.fk_model.specs.Rebind.{rebound}
 use Rattle.fk_model.specs.Cut.{cut}
 use Rattle.laws_jobs.specs.Machines.{AtWork, IsOwedCall}
 use Rattle.laws_jobs.specs.Machines.Head.{Stops, Asks}
-use Rattle.laws_jobs.specs.Jobs.{MayBegin}
+use Rattle.laws_jobs.specs.Jobs.{MayBegin, Restores}
 use Rattle.laws_restore.specs.Rooms.{Room}
 use Rattle.laws_restore.specs.Roomed.{IsRoomed}
-use Rattle.laws_restore.specs.Restore.{End, State, restore}
+use Rattle.laws_restore.specs.Restore.{End, State, restore, is_done}
 use Rattle.laws_restore.specs.Restore.End.{Done, Occupied, NoPort}
 use Rattle.laws_restore.specs.Restore.State.{Makes}
 
@@ -32,3 +32,7 @@ abbrev pub RestoreIsOwed : Type 0
 RestoreIsOwed = (slot birth : ℕ) (bind : ℕ → ℕ) (c : World) (rooms : List Room) (w : World) (nester : Path) → slot ≤ LAST_USER_SLOT → IsRoomed bind c rooms → MayBegin w nester birth →
     ((stage : Stage) (words : List ℕ) → (restore slot bind rooms).head Makes ≡ Asks stage words → IsOwedCall w nester stage words) ×
     ((v : World) (t : State) → AtWork (restore slot bind rooms) nester w Makes v t → (stage : Stage) (words : List ℕ) → (restore slot bind rooms).head t ≡ Asks stage words → IsOwedCall v nester stage words)
+
+-- what a run wants of a restore: done, it leaves a plain subtree, which is the picture with its ports bound
+abbrev pub RestoreRestores : Type 0
+RestoreRestores = (slot birth : ℕ) (bind : ℕ → ℕ) (c : World) (rooms : List Room) → slot ≤ LAST_USER_SLOT → IsRoomed bind c rooms → Restores (restore slot bind rooms) birth slot bind c is_done Makes

@@ -9,7 +9,7 @@
 #![tactic(auto)]
 
 ghost use Rattle.laws_restore.specs.Laws.{ScriptMakes, RestoresPicture, NeverLost};
-ghost use Rattle.laws_restore.specs.Ends.{RestoreEndsSo, RestoreIsOwed};
+ghost use Rattle.laws_restore.specs.Ends.{RestoreEndsSo, RestoreIsOwed, RestoreRestores};
 
 /// The script of a subtree may be given to a new space order by order, and makes that subtree with its ports bound.
 pub fn a_script_makes_the_subtree()
@@ -35,4 +35,9 @@ pub fn a_restore_ends_so()
 /// Each call of a restore is owed: fit, of a porter's words, and such as leaves a world that can be saved.
 pub fn a_restores_calls_are_owed()
     ensures { RestoreIsOwed }
+{}
+
+/// What a run wants of a restore that is done: a plain subtree, which is the picture with its ports bound.
+pub fn a_restore_restores()
+    ensures { RestoreRestores }
 {}

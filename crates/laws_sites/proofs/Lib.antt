@@ -19,3 +19,4 @@ pub mod Released
 pub mod Fit
 pub mod Near
 pub mod Owed
+pub mod Plainly

@@ -11,12 +11,13 @@ use Rattle.fk_model.specs.Holds.{holder_of}
 use Rattle.fk_model.specs.Moves.{IsReady}
 use Rattle.fk_model.specs.Runs.{after}
 use Rattle.fk_model.specs.Valid.{IsValid}
-use Rattle.fk_model.specs.Cut.{cut}
+use Rattle.fk_model.specs.Cut.{cut, IsPlain}
 use Rattle.laws_jobs.specs.Machines.{no_words, call_of}
 use Rattle.laws_jobs.specs.Calls.{IsCalm}
 use Rattle.laws_jobs.specs.Machines.{Reply, IsAnswered}
 use Rattle.laws_sites.specs.Orders.{Site, Shows, Order, stage_of, words_of, May}
 use Rattle.laws_sites.specs.Orders.Pin.{NoPin}
+use Rattle.laws_sites.specs.Fit.{IsUnled}
 
 abbrev pub NextIsReady : Type 0
 NextIsReady = (nester : Path) (slot : ℕ) (g : Site) (w : World) (o : Order) → Shows nester slot g w → May slot o g → IsValid w → IsCalm (slot ∷ nester) w →
@@ -27,3 +28,8 @@ abbrev pub Releases : Type 0
 Releases = (nester : Path) (slot : ℕ) (g : Site) (w : World) (reply : Reply) → Shows nester slot g w → g.pin ≡ NoPin → IsAnswered nester w (SpaceRelease OWN_SPACE slot) no_words reply →
     (reply.status ≡ OK) × (holder_of ((after w (call_of nester (SpaceRelease OWN_SPACE slot) no_words)).body (slot ∷ nester)) ≡ None) ×
     (cut (after w (call_of nester (SpaceRelease OWN_SPACE slot) no_words)) nester slot ≡ g.built)
+
+-- and where nobody leads in from outside, the subtree is plain
+abbrev pub ReleasesPlain : Type 0
+ReleasesPlain = (nester : Path) (slot : ℕ) (g : Site) (w : World) (reply : Reply) → Shows nester slot g w → g.pin ≡ NoPin → IsUnled nester slot w → IsAnswered nester w (SpaceRelease OWN_SPACE slot) no_words reply →
+    IsPlain (after w (call_of nester (SpaceRelease OWN_SPACE slot) no_words)) nester slot

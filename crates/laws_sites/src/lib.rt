@@ -12,7 +12,7 @@
 ghost use Rattle.laws_sites.specs.Fit.{ServesNobody};
 ghost use Rattle.laws_sites.specs.Begun.{Begins};
 ghost use Rattle.laws_sites.specs.Looking.{TakesKeepLooks, PinsTell, OthersKeepLooks, ChecksTell};
-ghost use Rattle.laws_sites.specs.Ready.{NextIsReady, Releases};
+ghost use Rattle.laws_sites.specs.Ready.{NextIsReady, Releases, ReleasesPlain};
 ghost use Rattle.laws_sites.specs.Near.{OwnCallsAreNear, NewSpaceIsUnled, OthersKeepNewUnled, NearCallsKeepUnled};
 ghost use Rattle.laws_sites.specs.Owed.{OrdersAreOwed};
 ghost use Rattle.laws_sites.specs.Laws.{BuiltIsCut, RestoresBuilt, NeverLost, PlacesAreNamed, CallsBounded, OthersKeepSites};
@@ -111,4 +111,9 @@ pub fn own_calls_lead_nobody_in()
 /// such as can be saved.
 pub fn orders_are_owed()
     ensures { OrdersAreOwed }
+{}
+
+/// Where nobody leads in, what a restorer releases is plain.
+pub fn a_released_subtree_is_plain()
+    ensures { ReleasesPlain }
 {}
