@@ -15,3 +15,4 @@ pub mod Whole
 pub mod Scripted
 pub mod Coming
 pub mod Owing
+pub mod Example

@@ -6,3 +6,4 @@ pub mod Roomed
 pub mod Laws
 pub mod Restore
 pub mod Ends
+pub mod Example

@@ -9,6 +9,7 @@
 #![tactic(auto)]
 
 ghost use Rattle.laws_restore.specs.Laws.{ScriptMakes, RestoresPicture, NeverLost};
+ghost use Rattle.laws_restore.specs.Example.{SmallIsRoomed, OneScript};
 ghost use Rattle.laws_restore.specs.Ends.{RestoreEndsSo, RestoreIsOwed, RestoreRestores};
 
 /// The script of a subtree may be given to a new space order by order, and makes that subtree with its ports bound.
@@ -40,4 +41,14 @@ pub fn a_restores_calls_are_owed()
 /// What a run wants of a restore that is done: a plain subtree, which is the picture with its ports bound.
 pub fn a_restore_restores()
     ensures { RestoreRestores }
+{}
+
+/// A small subtree with a talk, a fault, a hold, a page and pointers of each sort is such as the laws suppose.
+pub fn a_small_subtree_is_roomed()
+    ensures { SmallIsRoomed }
+{}
+
+/// The script of a space with one reference out, order by order.
+pub fn the_script_of_one_reference()
+    ensures { OneScript }
 {}
