@@ -1,12 +1,12 @@
 -- The briefest job is tidy.
-use Rattle.std.proofs.Common.{◌≡◌, ℕ, ◌≤◌, Bool, true, false, cond, List, [], ◌∷◌, Option, Some, None, refl, sym, ap, subst, ◌∙◌, ◌⊎◌, inl, inr, ne_eqb}
+use Rattle.std.proofs.Common.{◌≡◌, ℕ, ◌≤◌, Bool, true, false, cond, List, [], ◌∷◌, Some, None, refl, sym, ap, subst, ◌∙◌, ◌⊎◌, inl, inr, ne_eqb}
 use Rattle.fk_model.specs.declared.limits.TheConstants.{OWN_SPACE, LAST_USER_SLOT, LAST_PORTER_SLOT}
 use Rattle.fk_model.specs.declared.stage.Stage.{Stage}
 use Rattle.fk_model.specs.declared.stage.Stage.TheVariants.{SpaceHold, SpaceRelease}
 use Rattle.fk_model.specs.declared.statuses.status.TheConstants.{OK}
 use Rattle.fk_model.specs.Places.{Path}
 use Rattle.fk_model.specs.Places.Ptr.{At}
-use Rattle.fk_model.specs.World.{World, apply}
+use Rattle.fk_model.specs.World.{World}
 use Rattle.fk_model.specs.World.Change.{Alter}
 use Rattle.fk_model.specs.World.Edit.{SetHolder}
 use Rattle.fk_model.specs.Searches.{depth}
@@ -17,11 +17,11 @@ use Rattle.fk_model.specs.Valid.{is_fit}
 use Rattle.laws_frozen.specs.Holding.{IsUsersMove}
 use Rattle.laws_savable.specs.Savable.{IsSound}
 use Rattle.laws_jobs.specs.Machines.{Head, Reply, reply_of, heard, said_of, no_words, call_of, IsReadyAt, IsAnswered, Interleaved, AtWork, IsOwedCall}
-use Rattle.laws_jobs.specs.Machines.Head.{Stops, Asks}
+use Rattle.laws_jobs.specs.Machines.Head.{Asks}
 use Rattle.laws_jobs.specs.Machines.Interleaved.{Here, Another, Own}
-use Rattle.laws_jobs.specs.Jobs.{IsClean, MayBegin, HasPorter}
+use Rattle.laws_jobs.specs.Jobs.{MayBegin, HasPorter}
 use Rattle.laws_jobs.specs.Leads.{held_world}
-use Rattle.laws_jobs.specs.Holds.{hold, release, Held, Unheld}
+use Rattle.laws_jobs.specs.Holds.{hold, Held, Unheld}
 use Rattle.laws_jobs.proofs.Weaving.{first_sound}
 use Rattle.laws_jobs.proofs.Goings.{one_change}
 use Rattle.laws_jobs.proofs.Holds.{hold_comes_to, release-row}

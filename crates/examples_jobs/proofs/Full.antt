@@ -1,14 +1,9 @@
 -- The full world: a job may begin in it, and a checkpoint of its subtree.
-use Rattle.std.proofs.Common.{◌≡◌, ◌+◌, ℕ, ◌≤◌, Bool, true, false, not, ◌&&◌, IsSome, List, [], ◌∷◌, ◌++◌, if◌then◌else◌, eqb, Option, Some, None, refl, sym, ◌∙◌, arith}
+use Rattle.std.proofs.Common.{◌≡◌, ◌+◌, ℕ, ◌≤◌, Bool, true, false, not, List, [], ◌∷◌, if◌then◌else◌, eqb, Option, Some, None, refl, arith}
 use Rattle.fk_model.specs.declared.limits.TheConstants.{MOST_STOPS}
-use Rattle.fk_model.specs.declared.moves.Ask.TheVariants as asks
-use Rattle.fk_model.specs.declared.stage.Stage.{Stage}
-use Rattle.fk_model.specs.declared.stage.Stage.TheVariants.{SpaceHold}
-use Rattle.fk_model.specs.declared.limits.TheConstants.{OWN_SPACE}
-use Rattle.fk_model.specs.Places.{Path, same_path, parent, slot_of}
-use Rattle.fk_model.specs.Objects.{Body, holds, is_served}
+use Rattle.fk_model.specs.Places.{Path, same_path}
+use Rattle.fk_model.specs.Objects.{Body}
 use Rattle.fk_model.specs.Objects.Body.{Space}
-use Rattle.fk_model.specs.StateRows.{is_native}
 use Rattle.fk_model.specs.ObjectRows.{is_scratch}
 use Rattle.fk_model.specs.Valid.{kind_there}
 use Rattle.fk_model.specs.Whole.{IsWhole, IsSavable}
@@ -19,14 +14,14 @@ use Rattle.laws_savable.specs.Savable.{IsSound, Owes}
 use Rattle.laws_savable.proofs.Laws.{keeps_savable}
 use Rattle.laws_whole.specs.Runnable.{IsDue}
 use Rattle.laws_further.specs.ClosedLaws.{IsUncut, IsUsersAlone}
-use Rattle.laws_jobs.specs.Machines.{no_words, call_of, IsReadyAt}
+use Rattle.laws_jobs.specs.Machines.{IsReadyAt}
 use Rattle.laws_jobs.specs.Jobs.{IsClean, MayBegin}
 use Rattle.laws_jobs.specs.Holds.{hold}
 use Rattle.examples_moves.specs.Worked.{body_in}
 use Rattle.examples_moves.proofs.Tested.{legal-tested}
-use Rattle.examples_premises.specs.Premises.{premises, within, objects_of, pages_of, full_of_all}
+use Rattle.examples_premises.specs.Premises.{premises, within, objects_of, pages_of}
 use Rattle.examples_premises.proofs.Listed.{All, found, IsShapedAt, whole, savable, plain}
-use Rattle.examples_premises.proofs.Apart.{is_uncut_at, uncut, users_alone}
+use Rattle.examples_premises.proofs.Apart.{uncut, users_alone}
 use Rattle.examples_jobs.specs.Brief.{full}
 
 abbrev listed : List (Path × Body)

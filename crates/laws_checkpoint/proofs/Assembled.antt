@@ -1,9 +1,8 @@
 -- What was read and gathered of spaces, put together, is their part of the image.
-use Rattle.std.proofs.Common.{◌≡◌, ◌≤◌, ℕ, zero, suc, ◌+◌, ◌==◌, if◌then◌else◌, List, [], ◌∷◌, ◌++◌, map, drop, length, Option, Some, None, option_map, refl, sym, ap, subst, ◌∙◌, arith, ◌⊎◌, inl, inr, append_assoc}
+use Rattle.std.proofs.Common.{◌≡◌, ◌≤◌, ℕ, zero, suc, ◌+◌, List, [], ◌∷◌, ◌++◌, map, drop, length, Option, Some, None, option_map, refl, sym, ap, subst, ◌∙◌, arith, ◌⊎◌, inl, inr, append_assoc}
 use Rattle.fk_model.specs.declared.limits.TheConstants.{SLOTS, PAGES}
 use Rattle.fk_model.specs.declared.names.Kind.TheVariants as kinds
 use Rattle.fk_model.specs.Places.{Path, slot_of, Ptr}
-use Rattle.fk_model.specs.Places.Ptr.{Null}
 use Rattle.fk_model.specs.Objects.{and_then, thread_of, Thread, Body, kind_of}
 use Rattle.fk_model.specs.Objects.Body.{Mutex, Cond, Mapping, Region, Port, Portset, Space, Thread_of, Reference}
 use Rattle.fk_model.specs.World.{World, Sweep}
@@ -12,17 +11,14 @@ use Rattle.fk_model.specs.Shapes.{IsShapedMode}
 use Rattle.fk_model.specs.Valid.{kind_there}
 use Rattle.fk_model.specs.Cut.{ports_of, cut_ptr, cutting, seen_by, unheld, cut}
 use Rattle.fk_model.proofs.walks.Members.{IsIn}
-use Rattle.fk_image.specs.declared.image.Link.{Link, Link as links}
 use Rattle.fk_image.specs.declared.image.Rec.{Rec}
-use Rattle.fk_image.specs.declared.image.ObjectRec.{ObjectRec}
 use Rattle.fk_image.specs.declared.image.PageRec.{PageRec}
 use Rattle.fk_image.specs.declared.image.SpaceRec.{SpaceRec}
-use Rattle.fk_image.specs.declared.image.Image.{Image}
 use Rattle.laws_pictures.specs.Imaged.{link_of, rec_of, with_object, objects_from, with_page, pages_from, rec_at, holder_link, parent_number, space_rec, image_of}
 use Rattle.laws_checkpoint.specs.Foreign.{Task}
-use Rattle.laws_checkpoint.specs.Contents.{Item, Content, with_item, items_from, record_in, record_at, content}
-use Rattle.laws_checkpoint.specs.Gather.{pointer_fields, field_as, body_as, shown_at, pointers_of, all_pointers}
-use Rattle.laws_checkpoint.specs.Assembly.{pointers_by, item_task, holder_task, content_tasks, gathered_tasks, pointer_at, rec_from, asked_of, asked_of_all, objects_with, page_rec, holder_from, behind_holder, space_with, spaces_with, paths_read, assembled}
+use Rattle.laws_checkpoint.specs.Contents.{Item, with_item, items_from, record_in, record_at, content}
+use Rattle.laws_checkpoint.specs.Gather.{pointer_fields, body_as, shown_at, pointers_of, all_pointers}
+use Rattle.laws_checkpoint.specs.Assembly.{pointers_by, item_task, holder_task, content_tasks, gathered_tasks, rec_from, asked_of, asked_of_all, objects_with, page_rec, holder_from, behind_holder, space_with, spaces_with, paths_read, assembled}
 use Rattle.laws_checkpoint.proofs.Tasks.{pointers_are}
 use Rattle.laws_checkpoint.proofs.Recorded.{rec_is}
 

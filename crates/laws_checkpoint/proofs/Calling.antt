@@ -1,9 +1,9 @@
 -- What each call of a checkpoint comes to, when it is ready, and what it leaves.
-use Rattle.std.proofs.Common.{◌≡◌, ℕ, ◌≤◌, true, false, List, [], ◌∷◌, Option, Some, None, refl, sym, ap, subst, ◌∙◌, ◌⊎◌, inl, inr}
+use Rattle.std.proofs.Common.{◌≡◌, ℕ, ◌≤◌, false, List, [], ◌∷◌, Option, Some, None, refl, sym, ap, subst, ◌∙◌, ◌⊎◌, inl, inr}
 use Rattle.fk_model.specs.declared.limits.TheConstants.{OWN_SPACE, LAST_USER_SLOT, LAST_PORTER_SLOT}
 use Rattle.fk_model.specs.declared.names.Kind.TheVariants as kinds
 use Rattle.fk_model.specs.declared.stage.Stage.{Stage}
-use Rattle.fk_model.specs.declared.stage.Stage.TheVariants.{Create, Destroy, SpaceHold, SpaceRelease}
+use Rattle.fk_model.specs.declared.stage.Stage.TheVariants.{Create, Destroy, SpaceRelease}
 use Rattle.fk_model.specs.declared.statuses.status.TheConstants.{OK}
 use Rattle.fk_model.specs.Places.{Path, same_path, Ptr}
 use Rattle.fk_model.specs.Places.Ptr.{Null, At}
@@ -18,12 +18,12 @@ use Rattle.fk_model.specs.Outcomes.Outcome.{Goes}
 use Rattle.fk_model.specs.Outcomes.Said.{Answered}
 use Rattle.fk_model.specs.Moves.{call_row}
 use Rattle.fk_model.specs.Searches.{depth}
-use Rattle.fk_model.specs.Runs.{Event, after}
+use Rattle.fk_model.specs.Runs.{after}
 use Rattle.fk_model.specs.Valid.{IsValid}
 use Rattle.fk_model.proofs.walks.PlaceLaws.{same_path_ne}
 use Rattle.laws_frozen.specs.Holding.{IsHolding}
 use Rattle.laws_savable.specs.Savable.{IsSound}
-use Rattle.laws_jobs.specs.Machines.{Head, heard, porter, no_words, call_of, said_of, IsReadyAt, AtWork}
+use Rattle.laws_jobs.specs.Machines.{heard, porter, no_words, call_of, said_of, IsReadyAt}
 use Rattle.laws_jobs.specs.Machines.Head.{Stops, Asks}
 use Rattle.laws_jobs.specs.Jobs.{MayBegin}
 use Rattle.laws_jobs.specs.Calls.{IsCalm}
@@ -40,9 +40,8 @@ use Rattle.laws_checkpoint.specs.Walk as walks
 use Rattle.laws_checkpoint.specs.Contents as reads
 use Rattle.laws_checkpoint.specs.Gather as gathers
 use Rattle.laws_checkpoint.specs.Checkpoint.{End, State, head, checkpoint}
-use Rattle.laws_checkpoint.specs.Checkpoint.End.{Gone, Foreign, Done}
-use Rattle.laws_checkpoint.specs.Checkpoint.State.{Holds, Over}
-use Rattle.laws_checkpoint.specs.Laws.{CheckpointIsReady, IsSameBeside, LeavesRest, CheckpointLeavesRest}
+use Rattle.laws_checkpoint.specs.Checkpoint.State.{Holds}
+use Rattle.laws_checkpoint.specs.Laws.{CheckpointIsReady, IsSameBeside, CheckpointLeavesRest}
 use Rattle.laws_checkpoint.proofs.Mild.{IsOwnSlot, IsMild, ComesWith}
 use Rattle.laws_checkpoint.proofs.Mild.IsOwnSlot.{Places, Targets, Steps}
 use Rattle.laws_checkpoint.proofs.Mild.IsMild.{Changes_nothing, Leads}
@@ -53,7 +52,7 @@ use Rattle.laws_checkpoint.proofs.Gathers as gathering_on
 use Rattle.laws_checkpoint.proofs.Phases.{own_scratch, tidy_empty, Held_on, make-row, drop-row}
 use Rattle.laws_checkpoint.proofs.Working.{asks_back, near, valid_start, few_start, Phase, fresh_targets, fresh_steps}
 use Rattle.laws_checkpoint.proofs.Working.Phase.{AtFirst, AtSecond, AtThird, AtWalks, AtSeeks, AtReads, AtGathers, AtDrops, AtTwoLeft, AtOneLeft, AtReleases, AtOver}
-use Rattle.laws_checkpoint.proofs.Ended.{Came, came, call_head, ended_in, same_end, holding_in, empty}
+use Rattle.laws_checkpoint.proofs.Ended.{Came, came, call_head, ended_in, holding_in, empty}
 use Rattle.laws_checkpoint.proofs.Ended.Came.{NeverHeld, InPhase}
 
 module _ (nester : Path) (slot : ℕ) where

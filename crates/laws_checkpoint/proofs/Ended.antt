@@ -1,5 +1,5 @@
 -- From its first call on: a checkpoint has never held, or stands in one of its states; and what comes of that.
-use Rattle.std.proofs.Common.{◌≡◌, ℕ, ◌≤◌, Bool, true, cond, List, [], ◌∷◌, Option, Some, None, is_some, IsSome, arith, false, not, ◌&&◌, nat_le, Result, Ok, refl, sym, ap, subst, ◌∙◌, ◌⊎◌, inl, inr, ne_eqb}
+use Rattle.std.proofs.Common.{◌≡◌, ℕ, ◌≤◌, Bool, true, cond, List, [], ◌∷◌, Option, Some, None, is_some, IsSome, arith, false, not, nat_le, Result, Ok, refl, sym, ap, subst, ◌∙◌, ◌⊎◌, inl, inr, ne_eqb}
 use Rattle.std.proofs.lemmas.Bool.{and_parts, leb-false, le-leb}
 use Rattle.fk_model.specs.declared.limits.TheConstants.{OWN_SPACE, LAST_USER_SLOT, FIRST_SCRATCH_SLOT, LAST_SCRATCH_SLOT, LAST_PORTER_SLOT}
 use Rattle.fk_model.specs.declared.stage.Stage.{Stage}

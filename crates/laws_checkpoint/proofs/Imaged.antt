@@ -1,35 +1,32 @@
 -- What was assembled of a closed subtree is a valid image, whose picture the subtree is.
-use Rattle.std.proofs.Common.{◌≡◌, ℕ, zero, suc, ◌+◌, ◌<◌, ◌≤◌, ◌^◌, Bool, true, false, cond, not, ◌&&◌, ◌||◌, ◌==◌, eqb, nat_le, is_some, IsSome, List, [], ◌∷◌, ◌++◌, map, length, Option, Some, None, option_map, unwrap_or, refl, sym, ap, subst, ◌∙◌, arith, ◌⊎◌, inl, inr, length-append, ne_eqb, eqb-true}
+use Rattle.std.proofs.Common.{◌≡◌, ℕ, suc, ◌<◌, ◌≤◌, ◌^◌, Bool, true, false, cond, not, ◌&&◌, ◌||◌, ◌==◌, eqb, nat_le, is_some, IsSome, List, [], ◌∷◌, ◌++◌, map, length, Option, Some, None, option_map, unwrap_or, refl, sym, ap, subst, ◌∙◌, arith, ◌⊎◌, inl, inr, length-append, ne_eqb, eqb-true}
 use Rattle.std.specs.List.{IsDistinct, AllByRecursion, list_any}
-use Rattle.std.proofs.lemmas.Bool.{and_parts, or_cases, leb-true, leb-false, le-leb}
+use Rattle.std.proofs.lemmas.Bool.{or_cases, leb-true}
 use Rattle.std.proofs.lemmas.List.{append_cancel_right}
 use Rattle.std.proofs.lemmas.Map.Steps.{length-le_from_distinct_below}
-use Rattle.fk_model.specs.declared.limits.TheConstants.{LAST_USER_SLOT, LAST_SCRATCH_SLOT, LAST_PORTER_SLOT, SLOTS}
+use Rattle.fk_model.specs.declared.limits.TheConstants.{LAST_USER_SLOT, LAST_SCRATCH_SLOT, LAST_PORTER_SLOT}
 use Rattle.fk_model.specs.declared.names.Kind.TheVariants as kinds
-use Rattle.fk_model.specs.Places.{Path, Ptr}
-use Rattle.fk_model.specs.Objects.{and_then, or_else, holds, thread_of, reference_of, Thread, Window, Body, kind_of}
+use Rattle.fk_model.specs.Places.{Path}
+use Rattle.fk_model.specs.Objects.{and_then, or_else, holds, reference_of, Window, Body, kind_of}
 use Rattle.fk_model.specs.Objects.Body.{Mutex, Cond, Mapping, Region, Port, Portset, Space, Thread_of, Reference}
 use Rattle.fk_model.specs.World.{World}
 use Rattle.fk_model.specs.Searches.{objects, depth}
 use Rattle.fk_model.specs.StateRows.{is_native}
-use Rattle.fk_model.specs.ObjectRows.{is_scratch}
 use Rattle.fk_model.specs.Valid.{kind_there, birth_of, birth_at, IsRooted}
-use Rattle.fk_model.specs.Cut.{is_far, is_out, ports_of, cutting, seen_by, unheld, cut, IsPlain}
-use Rattle.fk_model.specs.Closed.{Place, when_bad, far_field, is_led_to, open_field, led_to_from_outside, first_place, open_place, IsClosed}
+use Rattle.fk_model.specs.Cut.{is_far, is_out, ports_of, cutting, seen_by, unheld, cut}
+use Rattle.fk_model.specs.Closed.{when_bad, far_field, is_led_to, open_field, led_to_from_outside, first_place, open_place, IsClosed}
 use Rattle.fk_model.proofs.walks.Members.{IsIn}
 use Rattle.fk_model.proofs.walks.WalkLaws.{live_above, short, walked}
-use Rattle.fk_image.specs.declared.image.Image.{Image}
 use Rattle.fk_image.specs.Picture.{picture}
 use Rattle.fk_image.specs.Valid.{is_valid}
 use Rattle.laws_savable.specs.Savable.{IsSound}
 use Rattle.laws_further.specs.ClosedLaws.{IsUncut, IsUsersAlone}
 use Rattle.laws_further.proofs.ClosedLaws.{closed_is_plain}
-use Rattle.laws_pictures.specs.Imaged.{image_of, AreItsSpaces, IsAlone}
+use Rattle.laws_pictures.specs.Imaged.{image_of}
 use Rattle.laws_pictures.specs.Saved.{IsSavedSubtree}
-use Rattle.laws_pictures.proofs.Saved.{subtree_is_sound}
 use Rattle.laws_pictures.proofs.Once.{subtree_has_image}
 use Rattle.laws_jobs.specs.Jobs.{IsClean}
-use Rattle.laws_checkpoint.specs.Walk.{Met, met}
+use Rattle.laws_checkpoint.specs.Walk.{met}
 use Rattle.laws_checkpoint.specs.Assembly.{spaces_met}
 use Rattle.laws_checkpoint.proofs.Tasks.{spaces_are}
 use Rattle.laws_checkpoint.proofs.Preorder.{Apart, spaces_apart, are_its_spaces}

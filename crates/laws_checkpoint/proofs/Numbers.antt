@@ -1,10 +1,10 @@
 -- The numbers inside a subtree of a world that can be saved are such as an image holds.
-use Rattle.std.proofs.Common.{◌≡◌, ℕ, ◌<◌, ◌≤◌, ◌^◌, Bool, true, false, ◌&&◌, ◌==◌, List, [], ◌∷◌, ◌++◌, length, Option, Some, None, option_map, refl, sym, ap, subst, ◌∙◌, arith}
+use Rattle.std.proofs.Common.{◌≡◌, ℕ, ◌<◌, ◌≤◌, ◌^◌, true, List, [], ◌∷◌, ◌++◌, length, Option, Some, None, option_map, refl, sym, ap, subst, ◌∙◌}
 use Rattle.std.specs.List.{list_all}
-use Rattle.std.proofs.lemmas.Bool.{ltb-true, and_from}
+use Rattle.std.proofs.lemmas.Bool.{ltb-true}
 use Rattle.fk_model.specs.declared.limits.TheConstants.{MOST_STOPS, MOST_MOVED}
 use Rattle.fk_model.specs.Places.{Path}
-use Rattle.fk_model.specs.Objects.{Mode, Talk, Fault, Thread, Body, and_then, thread_of, registers_of}
+use Rattle.fk_model.specs.Objects.{Talk, Fault, Thread, Body, and_then, thread_of, registers_of}
 use Rattle.fk_model.specs.Objects.Body.{Mutex, Cond, Mapping, Region, Port, Portset, Space, Thread_of, Reference}
 use Rattle.fk_model.specs.World.{World, Sweep}
 use Rattle.fk_model.specs.Searches.{talk_at, fault_at}

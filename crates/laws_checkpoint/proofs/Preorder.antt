@@ -1,5 +1,5 @@
 -- The spaces that were met are the subtree's spaces in preorder: each once, and behind each the next one.
-use Rattle.std.proofs.Common.{◌≡◌, ℕ, zero, suc, ◌+◌, ◌<◌, ◌≤◌, Bool, true, false, cond, ◌==◌, is_some, IsSome, List, [], ◌∷◌, ◌++◌, map, filter, flat_map, length, Option, Some, None, option_map, refl, sym, ap, subst, ◌∙◌, arith, ◌⊎◌, inl, inr, append_assoc, length-append}
+use Rattle.std.proofs.Common.{◌≡◌, ℕ, zero, suc, ◌<◌, ◌≤◌, Bool, true, false, cond, is_some, IsSome, List, [], ◌∷◌, ◌++◌, map, filter, flat_map, length, Option, Some, None, option_map, refl, sym, ap, subst, ◌∙◌, arith, ◌⊎◌, inl, inr, append_assoc, length-append}
 use Rattle.std.specs.Prelude.{slice_get}
 use Rattle.std.proofs.lemmas.List.Elements.{filter-append}
 use Rattle.fk_model.specs.declared.limits.TheConstants.{SLOTS}
@@ -10,7 +10,7 @@ use Rattle.fk_model.specs.Objects.Body.{Mutex, Cond, Mapping, Region, Port, Port
 use Rattle.fk_model.specs.World.{World}
 use Rattle.fk_model.specs.Searches.{slots, residents, depth, beneath_by, beneath, objects}
 use Rattle.fk_model.specs.Valid.{kind_there, IsRooted}
-use Rattle.fk_model.proofs.walks.Members.{IsIn, in_left, in_right, in_either, in_filter, of_filter, of_flat_map}
+use Rattle.fk_model.proofs.walks.Members.{IsIn, in_either, in_filter, of_filter, of_flat_map}
 use Rattle.fk_model.proofs.walks.PlaceLaws.{same_path_refl, same_path_eq}
 use Rattle.fk_model.proofs.walks.WalkLaws.{walked}
 use Rattle.laws_pictures.specs.Imaged.{rank, Follows, AreItsSpaces}

@@ -1,7 +1,6 @@
 -- An object's record and the pointers of its fields make its record in an image.
 use Rattle.std.proofs.Common.{◌≡◌, ℕ, Bool, true, false, cond, ◌==◌, is_none, if◌then◌else◌, List, [], ◌∷◌, ◌++◌, map, length, Option, Some, None, option_map, refl, sym, ap, subst, ◌∙◌}
 use Rattle.fk_model.specs.Places.{Path, Ptr}
-use Rattle.fk_model.specs.Places.Ptr.{Null, Outside}
 use Rattle.fk_model.specs.Objects.{and_then, Mode, Peer, Talk, Fault, Thread, Body, registers_of, flag_of}
 use Rattle.fk_model.specs.Objects.Mode.{Running, Calling, Halted, Native}
 use Rattle.fk_model.specs.Objects.Peer.{Server, Service, Parked}
@@ -13,16 +12,15 @@ use Rattle.fk_model.specs.LinkRows.{turn_number}
 use Rattle.fk_model.specs.StateRows.{peer_field}
 use Rattle.fk_model.specs.Records.{mode_number, halt_code, talk_words, fault_words, padded, record_of, word, record_registers}
 use Rattle.fk_model.specs.Shapes.{IsShapedMode}
-use Rattle.fk_model.specs.Cut.{is_out, ports_of, cut_ptr, cut_peer, cut_talk, cut_fault, cutting, unborn, seen_by}
+use Rattle.fk_model.specs.Cut.{is_out, ports_of, cut_ptr, cut_peer, cutting, seen_by}
 use Rattle.fk_model.proofs.calls.CallLaws.{sixteen, words_keep_length_lem}
-use Rattle.fk_image.specs.declared.image.Link.{Link, Link as links}
+use Rattle.fk_image.specs.declared.image.Link.{Link as links}
 use Rattle.fk_image.specs.declared.image.TalkRec.{TalkRec}
 use Rattle.fk_image.specs.declared.image.FaultRec.{FaultRec}
 use Rattle.fk_image.specs.declared.image.Rec.{Rec, Rec as recs}
 use Rattle.laws_pictures.specs.Imaged.{link_of, peer_link, talk_rec, fault_rec, thread_rec, rec_of}
-use Rattle.laws_checkpoint.specs.Contents.{record_in}
 use Rattle.laws_checkpoint.specs.Gather.{pointer_fields, body_as, field_as}
-use Rattle.laws_checkpoint.specs.Assembly.{pointer_at, peer_from, talk_from, fault_from, thread_from, rec_by, rec_from}
+use Rattle.laws_checkpoint.specs.Assembly.{pointer_at, peer_from, thread_from, rec_by, rec_from}
 
 -- ---- the words of a thread's record
 

@@ -1,35 +1,32 @@
 -- A checkpoint that is done has the picture of its subtree, and so is what a run wants of it.
-use Rattle.std.proofs.Common.{◌≡◌, ℕ, ◌≤◌, true, List, [], ◌∷◌, ◌++◌, map, Option, Some, None, refl, sym, ap, subst, ◌∙◌}
+use Rattle.std.proofs.Common.{◌≡◌, ℕ, ◌≤◌, true, List, ◌∷◌, ◌++◌, map, Option, Some, sym, ap, subst, ◌∙◌}
 use Rattle.fk_model.specs.declared.limits.TheConstants.{LAST_USER_SLOT}
-use Rattle.fk_model.specs.declared.names.Kind.TheVariants as kinds
 use Rattle.fk_model.specs.Places.{Path}
-use Rattle.fk_model.specs.Objects.{and_then, thread_of, Thread}
 use Rattle.fk_model.specs.World.{World}
 use Rattle.fk_model.specs.Searches.{objects}
-use Rattle.fk_model.specs.Valid.{kind_there}
 use Rattle.fk_model.specs.Cut.{cut}
-use Rattle.fk_model.specs.Closed.{open_place, IsClosed}
+use Rattle.fk_model.specs.Closed.{IsClosed}
 use Rattle.fk_image.specs.declared.image.Image.{Image}
 use Rattle.fk_image.specs.Picture.{picture}
 use Rattle.fk_image.specs.Valid.{is_valid}
 use Rattle.laws_savable.specs.Savable.{IsSound}
 use Rattle.laws_pictures.specs.Imaged.{image_of}
-use Rattle.laws_jobs.specs.Machines.{Head, AtWork}
+use Rattle.laws_jobs.specs.Machines.{AtWork}
 use Rattle.laws_jobs.specs.Machines.Head.{Stops}
-use Rattle.laws_jobs.specs.Jobs.{MayBegin, Saves}
+use Rattle.laws_jobs.specs.Jobs.{MayBegin}
 use Rattle.laws_jobs.specs.Leads.{held_world}
 use Rattle.laws_jobs.specs.Holds.{Held}
-use Rattle.laws_checkpoint.specs.Walk.{Met, met}
+use Rattle.laws_checkpoint.specs.Walk.{met}
 use Rattle.laws_checkpoint.specs.Assembly.{spaces_met}
 use Rattle.laws_checkpoint.specs.Checkpoint.{End, State, head, checkpoint}
 use Rattle.laws_checkpoint.specs.Checkpoint.End.{Gone, Foreign, Done}
-use Rattle.laws_checkpoint.specs.Checkpoint.State.{Holds, Over}
+use Rattle.laws_checkpoint.specs.Checkpoint.State.{Holds}
 use Rattle.laws_checkpoint.specs.Laws.{MaySave, CheckpointImagesSubtree, picture_of, CheckpointSaves}
 use Rattle.laws_checkpoint.proofs.Tasks.{spaces_are}
-use Rattle.laws_checkpoint.proofs.Working.{root_space, Verdict, Phase}
+use Rattle.laws_checkpoint.proofs.Working.{root_space, Verdict}
 use Rattle.laws_checkpoint.proofs.Assembled.{assembled_is}
 use Rattle.laws_checkpoint.proofs.Imaged.{none_high, has_image}
-use Rattle.laws_checkpoint.proofs.Ended.{stopping, same_end, Came, came, cut_kept, ended_in, ends_as_it_was}
+use Rattle.laws_checkpoint.proofs.Ended.{same_end, Came, came, cut_kept, ended_in, ends_as_it_was}
 use Rattle.laws_checkpoint.proofs.Ended.Came.{NeverHeld, InPhase}
 
 abbrev shown_as : World → Option World
