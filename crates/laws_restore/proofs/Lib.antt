@@ -16,3 +16,4 @@ pub mod Scripted
 pub mod Coming
 pub mod Owing
 pub mod Example
+pub mod Counted

@@ -1,5 +1,5 @@
 -- What a restore is for the run in which it works, and how it ends.
-use Rattle.std.specs.Prelude.{◌≡◌, ℕ, ◌≤◌, IsSome, List, ◌∷◌, None}
+use Rattle.std.specs.Prelude.{◌≡◌, ℕ, ◌+◌, ◌≤◌, IsSome, List, ◌∷◌, length, None}
 use Rattle.fk_model.specs.declared.limits.TheConstants.{LAST_USER_SLOT}
 use Rattle.fk_model.specs.declared.stage.Stage.{Stage}
 use Rattle.fk_model.specs.Places.{Path}
@@ -7,12 +7,13 @@ use Rattle.fk_model.specs.World.{World}
 use Rattle.fk_model.specs.Holds.{holder_of}
 use Rattle.fk_model.specs.Rebind.{rebound}
 use Rattle.fk_model.specs.Cut.{cut}
-use Rattle.laws_jobs.specs.Machines.{AtWork, IsOwedCall}
+use Rattle.laws_jobs.specs.Machines.{AtWork, calls_made, IsOwedCall}
 use Rattle.laws_jobs.specs.Machines.Head.{Stops, Asks}
 use Rattle.laws_jobs.specs.Jobs.{MayBegin, Restores}
 use Rattle.laws_restore.specs.Rooms.{Room}
+use Rattle.laws_restore.specs.Script.{script}
 use Rattle.laws_restore.specs.Roomed.{IsRoomed}
-use Rattle.laws_restore.specs.Restore.{End, State, restore, is_done}
+use Rattle.laws_restore.specs.Restore.{End, State, objects, restore, is_done}
 use Rattle.laws_restore.specs.Restore.End.{Done, Occupied, NoPort}
 use Rattle.laws_restore.specs.Restore.State.{Makes}
 
@@ -36,3 +37,8 @@ RestoreIsOwed = (slot birth : ℕ) (bind : ℕ → ℕ) (c : World) (rooms : Lis
 -- what a run wants of a restore: done, it leaves a plain subtree, which is the picture with its ports bound
 abbrev pub RestoreRestores : Type 0
 RestoreRestores = (slot birth : ℕ) (bind : ℕ → ℕ) (c : World) (rooms : List Room) → slot ≤ LAST_USER_SLOT → IsRoomed bind c rooms → Restores (restore slot bind rooms) birth slot bind c is_done Makes
+
+-- it makes no more calls than its script has orders, and as many more as it takes to clear
+abbrev pub RestoreIsCounted : Type 0
+RestoreIsCounted = (slot : ℕ) (bind : ℕ → ℕ) (rooms : List Room) (w v : World) (nester : Path) (t : State) → (work : AtWork (restore slot bind rooms) nester w Makes v t) →
+    calls_made work ≤ length (script slot bind rooms) + (objects rooms + 7)

@@ -10,7 +10,7 @@
 
 ghost use Rattle.laws_restore.specs.Laws.{ScriptMakes, RestoresPicture, NeverLost};
 ghost use Rattle.laws_restore.specs.Example.{SmallIsRoomed, OneScript};
-ghost use Rattle.laws_restore.specs.Ends.{RestoreEndsSo, RestoreIsOwed, RestoreRestores};
+ghost use Rattle.laws_restore.specs.Ends.{RestoreEndsSo, RestoreIsOwed, RestoreIsCounted, RestoreRestores};
 
 /// The script of a subtree may be given to a new space order by order, and makes that subtree with its ports bound.
 pub fn a_script_makes_the_subtree()
@@ -51,4 +51,9 @@ pub fn a_small_subtree_is_roomed()
 /// The script of a space with one reference out, order by order.
 pub fn the_script_of_one_reference()
     ensures { OneScript }
+{}
+
+/// A restore makes no more calls than its script has orders, and as many more as it takes to clear.
+pub fn a_restores_calls_are_counted()
+    ensures { RestoreIsCounted }
 {}
