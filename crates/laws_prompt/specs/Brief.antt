@@ -1,6 +1,6 @@
 -- Brevity: a move does little. It writes at most one page, which has 64 words, counts at most 64 words as moved, and makes,
 -- destroys or renames at most one object.
-use Rattle.std.specs.Prelude.{◌≡◌, ℕ, ◌≤◌, not, ◌&&◌, List, [], ◌∷◌, is_some, Option}
+use Rattle.std.specs.Prelude.{◌≡◌, ℕ, ◌≤◌, true, not, ◌&&◌, List, [], ◌∷◌, is_some, Option}
 use Rattle.fk_model.specs.declared.limits.TheConstants.{BLOCK_WORDS}
 use Rattle.fk_model.specs.declared.moves.Ask.{Ask}
 use Rattle.fk_model.specs.declared.stage.Stage.TheVariants.{Destroy}
@@ -8,8 +8,11 @@ use Rattle.fk_model.specs.Places.{Path, same_path}
 use Rattle.fk_model.specs.World.{World, Change, Edit}
 use Rattle.fk_model.specs.World.Change.{Alter, DropPage}
 use Rattle.fk_model.specs.World.Edit.{CountMoved, Shift}
-use Rattle.fk_model.specs.Outcomes.{listed}
-use Rattle.fk_model.specs.Moves.{outcome}
+use Rattle.fk_model.specs.Outcomes.{Outcome, listed}
+use Rattle.fk_model.specs.Outcomes.Outcome.{Refused, Waits, Goes}
+use Rattle.fk_model.specs.LinkRows.{user_at}
+use Rattle.fk_model.specs.ObjectRows.{destroy}
+use Rattle.fk_model.specs.Moves.{outcome, porter_at}
 use Rattle.laws_prompt.specs.Callers.{IsUserAt, IsPorterFor, users_step, porters_step}
 
 -- it counts no more words than a block has
@@ -40,15 +43,22 @@ MovesAreBrief = (w : World) (x : Path) (pick : Option Path) (ask : Ask) → AreB
 
 -- ---- destroy
 
--- what stands in one world stands in the other too, and nothing else, but for one object that is gone at most
-pub data LosesOne (w v : World) : Type 0 where
-  LosesNone : ((q : Path) → is_some (v.body q) ≡ is_some (w.body q)) → LosesOne w v
-  Loses : (gone : Path) → ((q : Path) → is_some (v.body q) ≡ (is_some (w.body q) && not (same_path q gone))) → LosesOne w v
+-- an object that stood in one world is gone in the other; all else that stood there stands, and nothing more
+pub record RemovesOne (w v : World) : Type 0 where
+  pub gone : Path
+  pub there : is_some (w.body gone) ≡ true
+  pub rest : (q : Path) → is_some (v.body q) ≡ (is_some (w.body q) && not (same_path q gone))
+
+-- a stage of destroy that is refused leaves all that stands, one that goes removes exactly one object, and none waits
+abbrev pub Destroys : World → World → Outcome → Type 0
+Destroys w v (Refused status) = (q : Path) → is_some (v.body q) ≡ is_some (w.body q)
+Destroys w v Waits = ⊥
+Destroys w v (Goes changes said) = RemovesOne w v
 
 abbrev pub UsersDestroyOne : Type 0
 UsersDestroyOne = (w : World) (space : Path) (slot s x : ℕ) → IsUserAt w space slot (Destroy s x) →
-    LosesOne w (users_step w space slot).world
+    Destroys w (users_step w space slot).world (destroy w (user_at (slot ∷ space)) s x)
 
 abbrev pub PortersDestroyOne : Type 0
 PortersDestroyOne = (w : World) (space : Path) (slot s x : ℕ) (words : List ℕ) → IsPorterFor w space slot (Destroy s x) →
-    LosesOne w (porters_step w space slot (Destroy s x) words).world
+    Destroys w (porters_step w space slot (Destroy s x) words).world (destroy w (porter_at (slot ∷ space) words) s x)

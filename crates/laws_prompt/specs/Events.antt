@@ -14,13 +14,14 @@ use Rattle.fk_model.specs.Outcomes.{Said, listed}
 use Rattle.fk_model.specs.Outcomes.Said.{Answered}
 use Rattle.fk_model.specs.Readers.{space_argument}
 use Rattle.fk_model.specs.LinkRows.{user_at}
+use Rattle.fk_model.specs.ObjectRows.{destroy}
 use Rattle.fk_model.specs.Moves.{IsReady, outcome, step, porter_at}
 use Rattle.fk_model.specs.Runs.{Event}
 use Rattle.laws_whole.specs.Runnable.{IsRunnable, IsDue}
 use Rattle.laws_prompt.specs.Callers.{IsUserAt, IsPorterFor, is_done}
 use Rattle.laws_prompt.specs.Correct.{ShowsRecord, AnswersRecord, MeetsItself, GivesItself}
 use Rattle.laws_prompt.specs.Prompt.{is_open, may_hold}
-use Rattle.laws_prompt.specs.Brief.{AreBrief, LosesOne}
+use Rattle.laws_prompt.specs.Brief.{AreBrief, Destroys}
 
 -- a user moves, and a porter asks for a stage. Neither picks
 abbrev pub users_event : Path → ℕ → Event
@@ -50,7 +51,7 @@ PromptIsReady = (w : World) (e : Event) → IsPrompt w e → IsReady w e.mover e
 -- ---- correctness and brevity
 
 -- an event leads from one world to another, and tells this: what is got is the record, what is set again changes nothing, a
--- stage of destroy takes one object, all that is done is brief, and pages keep all their words and threads their registers
+-- stage of destroy that goes removes one object, all that is done is brief, and pages keep all their words and threads their registers
 pub record IsCorrect (w : World) (e : Event) (v : World) (said : Said) : Type 0 where
   pub got : (space : Path) (slot s x address : ℕ) → e ≡ users_event space slot → IsRunnable w → IsUserAt w space slot (GetState s x address) →
       is_done v (slot ∷ space) ≡ true → ShowsRecord w v (user_at (slot ∷ space)) s x address
@@ -60,9 +61,10 @@ pub record IsCorrect (w : World) (e : Event) (v : World) (said : Said) : Type 0 
       MeetsItself w (user_at (slot ∷ space)) s x address → is_done v (slot ∷ space) ≡ true → v ≡ apply (Alter (slot ∷ space) (Finish [])) w
   pub given : (space : Path) (slot s x address : ℕ) (words : List ℕ) → e ≡ porters_event space slot (SetState s x address) words →
       IsPorterFor w space slot (SetState s x address) → GivesItself w (porter_at (slot ∷ space) words) s x → said ≡ Answered OK [] → v ≡ w
-  pub destroyed : (space : Path) (slot s x : ℕ) → e ≡ users_event space slot → IsUserAt w space slot (Destroy s x) → LosesOne w v
+  pub destroyed : (space : Path) (slot s x : ℕ) → e ≡ users_event space slot → IsUserAt w space slot (Destroy s x) →
+      Destroys w v (destroy w (user_at (slot ∷ space)) s x)
   pub removed : (space : Path) (slot s x : ℕ) (words : List ℕ) → e ≡ porters_event space slot (Destroy s x) words →
-      IsPorterFor w space slot (Destroy s x) → LosesOne w v
+      IsPorterFor w space slot (Destroy s x) → Destroys w v (destroy w (porter_at (slot ∷ space) words) s x)
   pub brief : AreBrief (listed (outcome w e.mover e.pick e.ask))
   pub runs : IsRunnable w → IsDue w e → w.next + 1 ≤ depth → IsRunnable v
 

@@ -51,7 +51,8 @@ pub fn a_move_does_little()
     ensures { MovesAreBrief }
 {}
 
-/// A stage of `destroy` takes one object from the world, or none, and brings none.
+/// A stage of `destroy` that goes removes exactly one object, one that is refused none, and neither
+/// brings one.
 pub fn a_stage_of_destroy_removes_one_object()
     ensures user { UsersDestroyOne }
     ensures porter { PortersDestroyOne }
