@@ -80,7 +80,7 @@ module _ (c : World) (made set : List Path) (given : List (Path × ℕ)) (k : �
       inner z true e j r at =
           let here = same_path_eq z y e in
           rw here (subst (λ (t : Bool). f ((building c made set given).body y) ≡ cond (t || is_among y made) (option_map (λ b. cond (is_among y set) (recorded b) (blank b)) (c.body y)) None) (sym (subst (λ (z : Path). same_path z y ≡ true) here e))
-              (h ∙ sym (rw (is, unset) refl)))
+          (h ∙ sym (rw (is, unset) refl)))
       inner z false e j r at = rw at (subst (λ (t : Bool). built_at c made set (j ∷ r) ≡ cond (t || is_among (j ∷ r) made) (option_map (λ b. cond (is_among (j ∷ r) set) (recorded b) (blank b)) (c.body (j ∷ r))) None) (sym (subst (λ (z : Path). same_path z y ≡ false) at e)) refl)
 
       by : (z : Path) → cond (same_path z y) (f ((building c made set given).body z)) ((building c made set given).body z) ≡ built_at c (y ∷ made) set z

@@ -164,7 +164,7 @@ module _ (slot birth : ℕ) (bind : ℕ → ℕ) (c : World) (rooms : List Room)
           let both = script_makes slot bind c rooms its in
           let unled = new_space_is_unled nester slot w reply low made.0 answered in
           from (Works (script slot bind rooms)) (ap (λ (status : ℕ). cond (status == OK) (Works (script slot bind rooms)) (Over Occupied)) made.1)
-              (Working (script slot bind rooms) first _ made.0 made.2 unled both.0 (script_suits slot bind c rooms its) both.1)
+          (Working (script slot bind rooms) first _ made.0 made.2 unled both.0 (script_suits slot bind c rooms its) both.1)
       by (inr taken) =
           from (Over Occupied) (ap (λ (status : ℕ). cond (status == OK) (Works (script slot bind rooms)) (Over Occupied)) taken.1) (Taken _ taken.0 taken.2)
 
@@ -175,7 +175,7 @@ module _ (slot birth : ℕ) (bind : ℕ → ℕ) (c : World) (rooms : List Room)
       let two : work.words ≡ no_words = cc in
       let is : call_of nester work.stage work.words ≡ call_of nester (SpaceMakeHeld slot) no_words = λ i. call_of nester (one i) (two i) in
       from_first v t work.events (subst (IsReadyAt w) is work.ready)
-          (subst (λ (e : Event). Interleaved (restore slot bind rooms) nester (after w e) (heard (restore slot bind rooms) Begins (said_of w e)) work.events v t) is work.run)
+      (subst (λ (e : Event). Interleaved (restore slot bind rooms) nester (after w e) (heard (restore slot bind rooms) Begins (said_of w e)) work.events v t) is work.run)
 
   pub ended : (v : World) (t : State) (end : End) → Came v t → head slot t ≡ Stops end → EndsSo w v nester slot bind c end
   ended _ _ end (Working [] g v empty shows unled may suits is) stops = cc

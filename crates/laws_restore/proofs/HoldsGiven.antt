@@ -43,25 +43,25 @@ module _ (bind : ℕ → ℕ) (c : World) (root : c.body [] ≡ Some (Space 0 No
       let kinds_same = led_kinds bind c new old made in
       let aim = its.6 in
       leaves_on slot here p None here q None done q None (goes_to slot p q) (leads_to_at slot T q h ++ Holds P q k T h ∷ [])
-          (leaves_goes slot here p q None (led_way bind c new old made q its.3))
-          (λ g good.
-              let led = leads_t slot here q h g good (led_way bind c new old made h aim.0) in
-              let site = led.site in
-              let built = led.good.built in
-              let next = ordered slot here done q None site (Holds P q k T h) (apply (Alter y (SetHolder (Some (At h)))) site.built) led.good refl
-                  (ap (apply (Alter y (SetHolder (Some (At h))))) built ∙ led_as bind c new old made y b is anew (option_map (edited (SetHolder (Some (At h))))) refl)
-                  (record {
-                    place = place_of slot here q None site led.good (kinds_same q ∙ its.2);
-                    low = its.1;
-                    body = bound bind old y b;
-                    there = rw built old_there;
-                    space = refl;
-                    scratch = refl;
-                    led = led.to;
-                    holder_there = rw built (kind_there_of here h kinds.Thread (kinds_same [] ∙ ap (option_map kind_of) root) (kinds_same h ∙ aim.1) (λ e. cc));
-                  })
-                  (its.7, λ j is. rw (built, unscratched j y is) refl) in
-              record { site = next.site; runs = on slot g site next.site _ _ led.runs next.runs; good = next.good })
+      (leaves_goes slot here p q None (led_way bind c new old made q its.3))
+      (λ g good.
+      let led = leads_t slot here q h g good (led_way bind c new old made h aim.0) in
+      let site = led.site in
+      let built = led.good.built in
+      let next = ordered slot here done q None site (Holds P q k T h) (apply (Alter y (SetHolder (Some (At h)))) site.built) led.good refl
+      (ap (apply (Alter y (SetHolder (Some (At h))))) built ∙ led_as bind c new old made y b is anew (option_map (edited (SetHolder (Some (At h))))) refl)
+      (record {
+        place = place_of slot here q None site led.good (kinds_same q ∙ its.2);
+        low = its.1;
+        body = bound bind old y b;
+        there = rw built old_there;
+        space = refl;
+        scratch = refl;
+        led = led.to;
+        holder_there = rw built (kind_there_of here h kinds.Thread (kinds_same [] ∙ ap (option_map kind_of) root) (kinds_same h ∙ aim.1) (λ e. cc));
+      })
+      (its.7, λ j is. rw (built, unscratched j y is) refl) in
+      record { site = next.site; runs = on slot g site next.site _ _ led.runs next.runs; good = next.good })
 
   -- one that nobody holds
   unheld : (path : Path) (made : List Path) (p : Path) → IsNewSpace c path None made → Leaves slot (world made) p None (world (with_space path made)) p None []
@@ -86,4 +86,4 @@ module _ (bind : ℕ → ℕ) (c : World) (root : c.body [] ≡ Some (Space 0 No
   spaces_held [] p made its = leaves_none slot (world made) (world made) p None refl
   spaces_held (r ∷ rs) p made its =
       leaves_on slot (world made) p None (world (with_space r.path made)) (stands_held p r.path r.holder) None (world (with_spaces rs (with_space r.path made))) (after_holds (stands_held p r.path r.holder) rs) None
-          (holds_space slot p r.path r.holder) (holds_spaces slot (stands_held p r.path r.holder) rs) (one_space r.path r.holder p made its.0) (spaces_held rs (stands_held p r.path r.holder) (with_space r.path made) its.1)
+      (holds_space slot p r.path r.holder) (holds_spaces slot (stands_held p r.path r.holder) rs) (one_space r.path r.holder p made its.0) (spaces_held rs (stands_held p r.path r.holder) (with_space r.path made) its.1)

@@ -70,18 +70,17 @@ module _ (bind : ℕ → ℕ) (c : World) where
 module _ (bind : ℕ → ℕ) (c : World) (slot : ℕ) (aim : Option ℕ) (new old : Mask) (test : Body → Bool) (orders : Path → ℕ → Body → List Order)
     -- an object of a room that is visited is done by its orders
     (item : (q : Path) (x : ℕ) (b : Body) (done : List Path) → there c q ≡ Some kinds.Space → IsWay (there c) q → IsAble bind c q x b → is_among (x ∷ q) done ≡ false →
-        Leaves slot (leading bind c new old done) q aim (leading bind c new old ((x ∷ q) ∷ done)) q aim (orders q x b))
+    Leaves slot (leading bind c new old done) q aim (leading bind c new old ((x ∷ q) ∷ done)) q aim (orders q x b))
     -- and those of other rooms need none
     (idle : (q : Path) (x : ℕ) (b : Body) → IsAble bind c q x b → test b ≡ false → bound bind old (x ∷ q) b ≡ bound bind new (x ∷ q) b) where
-
   items_led : (q : Path) (is : List Item) (made done : List Path) → there c q ≡ Some kinds.Space → IsWay (there c) q → IsSub done made → AreItems bind c q is made →
       Leaves slot (leading bind c new old done) q aim (leading bind c new old (with_items q is done)) q aim (flat_map (λ (i : Item). orders q i.slot i.body) is)
   items_led q [] made done space way sub its = leaves_none slot _ _ q aim refl
   items_led q (i ∷ is) made done space way sub its =
       let y = i.slot ∷ q in
       leaves_on slot (leading bind c new old done) q aim (leading bind c new old (y ∷ done)) q aim (leading bind c new old (with_items q is (y ∷ done))) q aim (orders q i.slot i.body) _
-          (item q i.slot i.body done space way its.0 (sub_out y done made sub its.1))
-          (items_led q is (y ∷ made) (y ∷ done) space way (sub_both y done made sub) its.2)
+      (item q i.slot i.body done space way its.0 (sub_out y done made sub its.1))
+      (items_led q is (y ∷ made) (y ∷ done) space way (sub_both y done made sub) its.2)
 
   pub items_idle : (q : Path) (is : List Item) (made done : List Path) → AreItems bind c q is made → list_any (λ (i : Item). test i.body) is ≡ false → leading bind c new old done ≡ leading bind c new old (with_items q is done)
   items_idle q [] made done its off = refl
@@ -102,24 +101,24 @@ module _ (bind : ℕ → ℕ) (c : World) (slot : ℕ) (aim : Option ℕ) (new o
     where
       by : (t : Bool) → has test r ≡ t → ((from : Path) → Leaves slot (leading bind c new old (with_items r.path r.items done)) from aim (leading bind c new old (all_made rs (with_items r.path r.items done))) (after_rooms (has test) from rs) aim (through_rooms slot (has test) (each orders) from rs)) →
           Leaves slot (leading bind c new old done) p aim (leading bind c new old (all_made rs (with_items r.path r.items done))) (cond t (after_rooms (has test) r.path rs) (after_rooms (has test) p rs)) aim
-              (cond t (goes_to slot p r.path ++ (each orders r ++ through_rooms slot (has test) (each orders) r.path rs)) (through_rooms slot (has test) (each orders) p rs))
+          (cond t (goes_to slot p r.path ++ (each orders r ++ through_rooms slot (has test) (each orders) r.path rs)) (through_rooms slot (has test) (each orders) p rs))
       by true e later =
           let q = r.path in
           let next = with_items q r.items done in
           let end = leading bind c new old (all_made rs next) in
           let rest = through_rooms slot (has test) (each orders) q rs in
           leaves_on slot (leading bind c new old done) p aim (leading bind c new old done) q aim end (after_rooms (has test) q rs) aim (goes_to slot p q) (each orders r ++ rest)
-              (leaves_goes slot (leading bind c new old done) p q aim (led_way bind c new old done q its.0.way))
-              (leaves_on slot (leading bind c new old done) q aim (leading bind c new old next) q aim end (after_rooms (has test) q rs) aim (each orders r) rest
-                  (items_led q r.items made done its.0.space its.0.way sub its.0.items)
-                  (later q))
+          (leaves_goes slot (leading bind c new old done) p q aim (led_way bind c new old done q its.0.way))
+          (leaves_on slot (leading bind c new old done) q aim (leading bind c new old next) q aim end (after_rooms (has test) q rs) aim (each orders r) rest
+          (items_led q r.items made done its.0.space its.0.way sub its.0.items)
+          (later q))
       by false e later =
           let q = r.path in
           let next = with_items q r.items done in
           let end = leading bind c new old (all_made rs next) in
           let same = items_idle q r.items made done its.0.items e in
           subst (λ (w : World). Leaves slot w p aim end (after_rooms (has test) p rs) aim (through_rooms slot (has test) (each orders) p rs)) (sym same)
-              (later p)
+          (later p)
 
   -- where no room is visited nothing has to be done
   pub rooms_idle : (rooms : List Room) (made done : List Path) (given : List (Path × ℕ)) → AreRooms bind c rooms made given → list_any (has test) rooms ≡ false →

@@ -237,8 +237,8 @@ module _ (bind : ℕ → ℕ) (c : World) (root : c.body [] ≡ Some (Space 0 No
             let port = is_out_at i talk.port h in
             let edit = SetTalk (Some (parked_talk (bind i) (talk_words talk))) in
             ordered slot from half q (Some (bind i)) g (ParksTalk P q x (bind i) (talk_words talk)) (apply (Alter y edit) g.built) good refl
-                (ap (apply (Alter y edit)) good.built ∙ edit_half bind c new mid old done y (Thread_of t) its.there anew edit (talk_set y t talk e port (peer_outside talk.peer talk.port port aim)))
-                (record { place = place_of slot from q (Some (bind i)) g good (led_kinds bind c new old done q ∙ space); low = its.low; thread = rw good.built thread_here; pinned = good.aimed.1; port = low }) told
+            (ap (apply (Alter y edit)) good.built ∙ edit_half bind c new mid old done y (Thread_of t) its.there anew edit (talk_set y t talk e port (peer_outside talk.peer talk.port port aim)))
+            (record { place = place_of slot from q (Some (bind i)) g good (led_kinds bind c new old done q ∙ space); low = its.low; thread = rw good.built thread_here; pinned = good.aimed.1; port = low }) told
         by false h = leaves_none slot from half q (Some (bind i)) (to_half bind c new mid old done y (Thread_of t) its.there anew (rw (e, next_below i talk.port h) refl))
 
     fault_step : (o : Option Fault) → t.fault ≡ o → IsFaultAim bind c o → GivesFault o → Leaves slot half q (Some (bind i)) to q (Some (bind i)) (parks_fault i bind q x o)
@@ -251,8 +251,8 @@ module _ (bind : ℕ → ℕ) (c : World) (root : c.body [] ≡ Some (Space 0 No
             let port = is_out_at i fault.port h in
             let edit = SetFault (Some (parked_fault (bind i) (taken_flag fault.taker) (fault_words fault))) in
             ordered slot half to q (Some (bind i)) g (ParksFault P q x (bind i) (taken_flag fault.taker) (fault_words fault)) (apply (Alter y edit) g.built) good refl
-                (ap (apply (Alter y edit)) good.built ∙ edit_rest bind c new mid old done y (Thread_of t) its.there anew edit (fault_set y t fault e port fault.taker refl (subst (λ (p : Ptr). IsTakenAim bind c p fault.taker) port aim)))
-                (record { place = place_of slot half q (Some (bind i)) g good half_space; low = its.low; thread = rw good.built thread_half; pinned = good.aimed.1; port = low }) (told.0, told.1, few_taken fault.taker)
+            (ap (apply (Alter y edit)) good.built ∙ edit_rest bind c new mid old done y (Thread_of t) its.there anew edit (fault_set y t fault e port fault.taker refl (subst (λ (p : Ptr). IsTakenAim bind c p fault.taker) port aim)))
+            (record { place = place_of slot half q (Some (bind i)) g good half_space; low = its.low; thread = rw good.built thread_half; pinned = good.aimed.1; port = low }) (told.0, told.1, few_taken fault.taker)
         by false h = leaves_none slot half to q (Some (bind i)) (from_half bind c new mid old done y (Thread_of t) its.there anew (rw (e, next_below i fault.port h) refl))
 
     thread_out : Leaves slot from q (Some (bind i)) to q (Some (bind i)) (parks_talk i bind q x t.talk ++ parks_fault i bind q x t.fault)

@@ -96,7 +96,7 @@ module _ (slot birth : ℕ) (bind : ℕ → ℕ) (c : World) (rooms : List Room)
       given_by v nester (SpaceRelease OWN_SPACE slot) stage no_words words (let one : SpaceRelease OWN_SPACE slot ≡ stage = cc in one) (let two : no_words ≡ words = cc in two) (release_owed v g shows is)
   owed_at _ _ sound (Working (o ∷ os) g v empty shows unled may suits is) stage words e =
       given_by v nester (stage_of slot o) stage (words_of o) words (let one : stage_of slot o ≡ stage = cc in one) (let two : words_of o ≡ words = cc in two)
-          (orders_are_owed nester slot g v o shows may.0 suits.0 unled sound.whole.valid)
+      (orders_are_owed nester slot g v o shows may.0 suits.0 unled sound.whole.valid)
   owed_at _ _ sound (Clearing [] more port v empty drop) stage words e =
       given_by v nester (Destroy OWN_SPACE slot) stage no_words words (let one : Destroy OWN_SPACE slot ≡ stage = cc in one) (let two : no_words ≡ words = cc in two) (destroy_owed v)
   owed_at _ _ sound (Clearing (Drops r ∷ os) more port v empty drop) stage words e =
@@ -113,6 +113,7 @@ module _ (slot birth : ℕ) (bind : ℕ → ℕ) (c : World) (rooms : List Room)
   sound_now v t work = now_sound (restore slot bind rooms) nester w Begins v t work
 
 pub is_owed : RestoreIsOwed
-is_owed slot birth bind c rooms w nester low its may_begin =
-    (owed_first slot birth bind c rooms w nester low its may_begin,
-    λ v t work stage words e. owed_at slot birth bind c rooms w nester low its may_begin v t (sound_now slot birth bind c rooms w nester low its may_begin v t work) (came slot birth bind c rooms w nester low its may_begin v t work) stage words e)
+is_owed slot birth bind c rooms w nester low its may_begin = (
+  owed_first slot birth bind c rooms w nester low its may_begin,
+  λ v t work stage words e. owed_at slot birth bind c rooms w nester low its may_begin v t (sound_now slot birth bind c rooms w nester low its may_begin v t work) (came slot birth bind c rooms w nester low its may_begin v t work) stage words e,
+)

@@ -89,22 +89,22 @@ module _ (bind : ℕ → ℕ) (c : World) (root : c.body [] ≡ Some (Space 0 No
         let y = x ∷ q in
         let old_body = body_old bind c new old done y b its.there anew in
         ordered slot here _ q aim g (Points P q x r) (after_pointer y (g.spot r) g.built) good refl
-            (ap (λ (o : Option Spot). after_pointer y o g.built) led ∙ ap (λ (m : World). apply (Alter y (SetPointer p)) m) good.built
-            ∙ ap (λ (p : Ptr). apply (Alter y (SetPointer p)) here) is
-            ∙ led_as bind c new old done y b its.there anew (option_map (edited (SetPointer (rebound_ptr bind (pointer_of b))))) (ap Some (pointer_set bind new old y b has shows)))
-            (record {
-              place = place_of slot here q aim g good (led_kinds bind c new old done q ∙ space);
-              low = its.low;
-              scratch = scratch;
-              object = bound bind old y b;
-              there = rw good.built old_body;
-              to = p;
-              led = led;
-              live = rw good.built live;
-              has = bound_has bind old y b has;
-              fits = rw (good.built, bound_kinds bind old y b) fits;
-            })
-            tt
+        (ap (λ (o : Option Spot). after_pointer y o g.built) led ∙ ap (λ (m : World). apply (Alter y (SetPointer p)) m) good.built
+        ∙ ap (λ (p : Ptr). apply (Alter y (SetPointer p)) here) is
+        ∙ led_as bind c new old done y b its.there anew (option_map (edited (SetPointer (rebound_ptr bind (pointer_of b))))) (ap Some (pointer_set bind new old y b has shows)))
+        (record {
+          place = place_of slot here q aim g good (led_kinds bind c new old done q ∙ space);
+          low = its.low;
+          scratch = scratch;
+          object = bound bind old y b;
+          there = rw good.built old_body;
+          to = p;
+          led = led;
+          live = rw good.built live;
+          has = bound_has bind old y b has;
+          fits = rw (good.built, bound_kinds bind old y b) fits;
+        })
+        tt
 
 -- ---- inner pointers
 

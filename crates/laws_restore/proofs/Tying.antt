@@ -124,8 +124,8 @@ module _ (bind : ℕ → ℕ) (c : World) (root : c.body [] ≡ Some (Space 0 No
         let there = talk_there talk server e s in
         let old_here = body_old bind c new old done y (Thread_of t) its.there anew in
         idle_by bind c server from y (λ a b. one_service server a b) (by_talk bind c server y there) (led_talks bind c server new old done) (led_faults bind c server new old done)
-            (rw (old_here, e, p) refl)
-            (off_by (faults bind c server (from.body y)) (faults bind c server (c.body y)) (led_faults bind c server new old done y) (other_fault bind c server y (one_each server y) there))
+        (rw (old_here, e, p) refl)
+        (off_by (faults bind c server (from.body y)) (faults bind c server (c.body y)) (led_faults bind c server new old done y) (other_fault bind c server y (one_each server y) there))
 
     half_talks : (server z : Path) → talks bind c server (half.body z) ≡ true → talks bind c server (c.body z) ≡ true
     half_talks server z h = by (same_path z y) refl h
@@ -146,8 +146,8 @@ module _ (bind : ℕ → ℕ) (c : World) (root : c.body [] ≡ Some (Space 0 No
         let there = fault_there fault taker e s in
         let half_here = halfway_there bind c new mid old done y (Thread_of t) its.there anew in
         idle_by bind c taker half y (λ a b. one_service taker a b) (by_fault bind c taker y there) (half_talks taker) (half_faults taker)
-            (off_by (talks bind c taker (half.body y)) (talks bind c taker (c.body y)) (half_talks taker y) (other_talk bind c taker y (one_each taker y) there))
-            (rw (half_here, e, p) refl)
+        (off_by (talks bind c taker (half.body y)) (talks bind c taker (c.body y)) (half_talks taker y) (other_talk bind c taker y (one_each taker y) there))
+        (rw (half_here, e, p) refl)
 
     -- a talk between two inside
     ties : (talk : Talk) (port server : Path) → t.talk ≡ Some talk → talk.port ≡ At port → talk.peer ≡ Server (At server) → GivesTalk (Some talk) → IsPair bind c (At port) (Server (At server)) →
@@ -161,19 +161,19 @@ module _ (bind : ℕ → ℕ) (c : World) (root : c.body [] ≡ Some (Space 0 No
         let at_port : site.spot T ≡ Some (To (At port)) = to_server.others T refl ∙ to_port.to in
         let built = to_server.good.built in
         let next = ordered slot from half q None site (LinksTalk P q x T U port server (talk_words talk)) (apply (Alter y edit) site.built) to_server.good refl
-            (ap (apply (Alter y edit)) built ∙ edit_half bind c new mid old done y (Thread_of t) its.there anew edit (talk_set y t talk port server e p s))
-            (record {
-              place = place_of slot from q None site to_server.good (from_kinds q ∙ space);
-              low = its.low;
-              thread = rw built thread_here;
-              scratch = refl;
-              led = at_port;
-              port_there = rw built (here_kind from from_kinds port kinds.Port aim.1 (λ e. cc));
-              second = refl;
-              served = to_server.to;
-              server_there = rw built (here_kind from from_kinds server kinds.Thread aim.3 (λ e. cc));
-            })
-            (told.0, told.1, beside port server aim.4 from site built (idle_from talk port server e p s)) in
+        (ap (apply (Alter y edit)) built ∙ edit_half bind c new mid old done y (Thread_of t) its.there anew edit (talk_set y t talk port server e p s))
+        (record {
+          place = place_of slot from q None site to_server.good (from_kinds q ∙ space);
+          low = its.low;
+          thread = rw built thread_here;
+          scratch = refl;
+          led = at_port;
+          port_there = rw built (here_kind from from_kinds port kinds.Port aim.1 (λ e. cc));
+          second = refl;
+          served = to_server.to;
+          server_there = rw built (here_kind from from_kinds server kinds.Thread aim.3 (λ e. cc));
+        })
+        (told.0, told.1, beside port server aim.4 from site built (idle_from talk port server e p s)) in
         record {
           site = next.site;
           runs = on slot g to_port.site next.site _ _ to_port.runs (on slot to_port.site site next.site _ _ to_server.runs next.runs);
@@ -218,16 +218,16 @@ module _ (bind : ℕ → ℕ) (c : World) (root : c.body [] ≡ Some (Space 0 No
         let site = to_port.site in
         let built = to_port.good.built in
         let next = ordered slot half to q None site (RaisesFault P q x T port (fault_words fault)) (apply (Alter y edit) site.built) to_port.good refl
-            (ap (apply (Alter y edit)) built ∙ edit_rest bind c new mid old done y (Thread_of t) its.there anew edit (raise_set y t fault port e p s))
-            (record {
-              place = place_of slot half q None site to_port.good (half_kinds q ∙ space);
-              low = its.low;
-              thread = rw built thread_half;
-              scratch = refl;
-              led = to_port.to;
-              port_there = rw built (here_kind half half_kinds port kinds.Port aim.1 (λ e. cc));
-            })
-            told in
+        (ap (apply (Alter y edit)) built ∙ edit_rest bind c new mid old done y (Thread_of t) its.there anew edit (raise_set y t fault port e p s))
+        (record {
+          place = place_of slot half q None site to_port.good (half_kinds q ∙ space);
+          low = its.low;
+          thread = rw built thread_half;
+          scratch = refl;
+          led = to_port.to;
+          port_there = rw built (here_kind half half_kinds port kinds.Port aim.1 (λ e. cc));
+        })
+        told in
         record { site = next.site; runs = on slot g site next.site _ _ to_port.runs next.runs; good = next.good }
 
     takes : (fault : Fault) (port taker : Path) → t.fault ≡ Some fault → fault.port ≡ At port → fault.taker ≡ Some (Server (At taker)) → GivesFault (Some fault) → IsPair bind c (At port) (Server (At taker)) →
@@ -242,19 +242,19 @@ module _ (bind : ℕ → ℕ) (c : World) (root : c.body [] ≡ Some (Space 0 No
         let at_port : site.spot T ≡ Some (To (At port)) = to_taker.others T refl ∙ to_port.to in
         let built = to_taker.good.built in
         let next = ordered slot half to q None site (LinksFault P q x T U port taker (fault_words fault)) (apply (Alter y edit) site.built) to_taker.good refl
-            (ap (apply (Alter y edit)) built ∙ edit_rest bind c new mid old done y (Thread_of t) its.there anew edit (taken_set y t fault port taker e p s))
-            (record {
-              place = place_of slot half q None site to_taker.good (half_kinds q ∙ space);
-              low = its.low;
-              thread = rw built thread_half;
-              scratch = refl;
-              led = at_port;
-              port_there = rw built (here_kind half half_kinds port kinds.Port aim.1 (λ e. cc));
-              second = refl;
-              served = to_taker.to;
-              server_there = rw built (here_kind half half_kinds taker kinds.Thread aim.3 (λ e. cc));
-            })
-            (told.0, told.1, beside port taker aim.4 half site built (idle_half fault port taker e p s)) in
+        (ap (apply (Alter y edit)) built ∙ edit_rest bind c new mid old done y (Thread_of t) its.there anew edit (taken_set y t fault port taker e p s))
+        (record {
+          place = place_of slot half q None site to_taker.good (half_kinds q ∙ space);
+          low = its.low;
+          thread = rw built thread_half;
+          scratch = refl;
+          led = at_port;
+          port_there = rw built (here_kind half half_kinds port kinds.Port aim.1 (λ e. cc));
+          second = refl;
+          served = to_taker.to;
+          server_there = rw built (here_kind half half_kinds taker kinds.Thread aim.3 (λ e. cc));
+        })
+        (told.0, told.1, beside port taker aim.4 half site built (idle_half fault port taker e p s)) in
         record {
           site = next.site;
           runs = on slot g to_port.site next.site _ _ to_port.runs (on slot to_port.site site next.site _ _ to_taker.runs next.runs);

@@ -144,7 +144,7 @@ module _ (slot : ℕ) where
       by (Some (k ∷ w)) e =
           let is = strip_some p q (k ∷ w) e in
           subst (λ (z : Path). Walked g P z (down P P p (k ∷ w))) (sym is)
-              (downs g P P p k w refl (rw at refl) (ByScratch P p refl at) (subst (λ (z : Path). IsWay (there g.built) z) is way))
+          (downs g P P p k w refl (rw at refl) (ByScratch P p refl at) (subst (λ (z : Path). IsWay (there g.built) z) is way))
 
   -- another scratch reference is led somewhere, from where P stands if it lies beneath
   pub leads : (g : Site) (r : ℕ) (p z : Path) → is_ref_slot r ≡ true → IsSome (g.spot r) → g.spot P ≡ Some (To (At p)) → IsWay (there g.built) z → Walked g r z (leads_to_at slot r p z)
@@ -156,4 +156,4 @@ module _ (slot : ℕ) where
       by (Some (k ∷ w)) e =
           let to = strip_some p z (k ∷ w) e in
           subst (λ (y : Path). Walked g r y (down r P p (k ∷ w))) (sym to)
-              (downs g r P p k w is ready (ByScratch P p refl at) (subst (λ (y : Path). IsWay (there g.built) y) to way))
+          (downs g r P p k w is ready (ByScratch P p refl at) (subst (λ (y : Path). IsWay (there g.built) y) to way))

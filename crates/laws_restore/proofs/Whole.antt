@@ -181,8 +181,8 @@ module _ (bind : ℕ → ℕ) (c : World) (rooms : List Room) (its : IsRoomed bi
     led_inside : (p : Path) → Leaves slot (at nothing_led) p None (at (led_below 0)) (after_rooms (has leads_in) p rooms) None (through_rooms slot (has leads_in) (each (points_body slot)) p rooms)
     led_inside p =
         leaves_to slot (at nothing_led) (leading bind c (led_below 0) nothing_led items) (at (led_below 0)) p (after_rooms (has leads_in) p rooms) None None _
-            (pass_done bind c rooms its (led_below 0) nothing_led refl)
-            (rooms_led bind c slot None (led_below 0) nothing_led leads_in (points_body slot) (point_item bind c its.root slot) (point_idle bind c its.root slot) rooms p spaces [] [] no_items its.filled)
+        (pass_done bind c rooms its (led_below 0) nothing_led refl)
+        (rooms_led bind c slot None (led_below 0) nothing_led leads_in (points_body slot) (point_item bind c its.root slot) (point_idle bind c its.root slot) rooms p spaces [] [] no_items its.filled)
 
     module _ (i : ℕ) (low : i ≤ LAST_USER_SLOT) (p : Path) where
       abbrev from : World
@@ -206,7 +206,7 @@ module _ (bind : ℕ → ℕ) (c : World) (rooms : List Room) (its : IsRoomed bi
       pass_led : Leaves slot from p (Some (bind i)) half stands (Some (bind i)) pass
       pass_led =
           rooms_led bind c slot (Some (bind i)) (led_below (suc i)) (led_below i) (leads_out i) (leads_body_out i bind) (out_item bind c its.root slot i its_low) (out_idle bind c its.root slot i its_low)
-              rooms p spaces [] [] no_items its.filled
+          rooms p spaces [] [] no_items its.filled
 
       slot_led : Leaves slot from p None to stands None (leads_out_by slot bind rooms p i)
       slot_led = by (list_any (has (leads_out i)) rooms) refl
@@ -215,13 +215,13 @@ module _ (bind : ℕ → ℕ) (c : World) (rooms : List Room) (its : IsRoomed bi
               Leaves slot from p None to stands None (cond t ((Pins (bind i) ∷ Takes T ∷ Checks T (bind i) ∷ []) ++ (pass ++ LeadsTop T ∷ [])) [])
           by true e =
               leaves_on slot from p None from p (Some (bind i)) to stands None (Pins (bind i) ∷ Takes T ∷ Checks T (bind i) ∷ []) (pass ++ LeadsTop T ∷ []) (opens_slot slot from p (bind i) its_low)
-                  (leaves_on slot from p (Some (bind i)) half stands (Some (bind i)) to stands None pass (LeadsTop T ∷ []) pass_led
-                      (leaves_to slot half half to stands stands (Some (bind i)) None (LeadsTop T ∷ []) (pass_done bind c rooms its (led_below (suc i)) (led_below i) refl) (closes_slot slot half stands (bind i))))
+              (leaves_on slot from p (Some (bind i)) half stands (Some (bind i)) to stands None pass (LeadsTop T ∷ []) pass_led
+              (leaves_to slot half half to stands stands (Some (bind i)) None (LeadsTop T ∷ []) (pass_done bind c rooms its (led_below (suc i)) (led_below i) refl) (closes_slot slot half stands (bind i))))
           by false e =
               let same = rooms_idle bind c slot (Some (bind i)) (led_below (suc i)) (led_below i) (leads_out i) (leads_body_out i bind) (out_item bind c its.root slot i its_low) (out_idle bind c its.root slot i its_low) rooms spaces [] [] its.filled e in
               let here : stands ≡ p = after_none (has (leads_out i)) p rooms e in
               subst (λ (z : Path). Leaves slot from p None to z None []) (sym here)
-                  (leaves_none slot from to p None (same ∙ pass_done bind c rooms its (led_below (suc i)) (led_below i) refl))
+              (leaves_none slot from to p None (same ∙ pass_done bind c rooms its (led_below (suc i)) (led_below i) refl))
 
     slots_led : (n i : ℕ) → n + i ≡ 240 → (p : Path) → Leaves slot (at (led_below i)) p None (at (led_below 240)) (after_outs rooms p n i) None (leads_outs slot bind rooms p n i)
     unfolding leads_outs
@@ -231,13 +231,13 @@ module _ (bind : ℕ → ℕ) (c : World) (rooms : List Room) (its : IsRoomed bi
         let next : n + suc i ≡ 240 = omega (arith, e) in
         let there = after_rooms (has (leads_out i)) p rooms in
         leaves_on slot (at (led_below i)) p None (at (led_below (suc i))) there None (at (led_below 240)) (after_outs rooms there n (suc i)) None
-            (leads_out_by slot bind rooms p i) (leads_outs slot bind rooms there n (suc i)) (slot_led i low p) (slots_led n (suc i) next there)
+        (leads_out_by slot bind rooms p i) (leads_outs slot bind rooms there n (suc i)) (slot_led i low p) (slots_led n (suc i) next there)
 
     tied : (p : Path) → Leaves slot (at (led_below 240)) p None (at (all_led false)) (after_rooms (has ties_inside) p rooms) None (through_rooms slot (has ties_inside) (each (ties_body slot)) p rooms)
     tied p =
         leaves_to slot (at (led_below 240)) (leading bind c (all_led false) (led_below 240) items) (at (all_led false)) p (after_rooms (has ties_inside) p rooms) None None _
-            (pass_done bind c rooms its (all_led false) (led_below 240) refl)
-            (rooms_led bind c slot None (all_led false) (led_below 240) ties_inside (ties_body slot) (tie_item bind c its.root slot its.one_service its.one_each) (tie_idle bind c its.root slot its.one_service its.one_each) rooms p spaces [] [] no_items its.filled)
+        (pass_done bind c rooms its (all_led false) (led_below 240) refl)
+        (rooms_led bind c slot None (all_led false) (led_below 240) ties_inside (ties_body slot) (tie_item bind c its.root slot its.one_service its.one_each) (tie_idle bind c its.root slot its.one_service its.one_each) rooms p spaces [] [] no_items its.filled)
 
     -- ---- all of it stands
 
@@ -320,7 +320,7 @@ module _ (bind : ℕ → ℕ) (c : World) (rooms : List Room) (its : IsRoomed bi
     held : (p : Path) → Leaves slot (at (all_led false)) p None (rebound bind c) (after_holds p rooms) None (holds_spaces slot p rooms)
     held p =
         leaves_to slot (at (all_led false)) (leading bind c (all_led true) (all_led false) spaces) (rebound bind c) p (after_holds p rooms) None None (holds_spaces slot p rooms) whole_stands
-            (spaces_held bind c its.root slot unscratched rooms p [] its.spaces)
+        (spaces_held bind c its.root slot unscratched rooms p [] its.spaces)
 
     -- ---- the scratch goes
 
@@ -401,7 +401,7 @@ module _ (bind : ℕ → ℕ) (c : World) (rooms : List Room) (its : IsRoomed bi
         filled : Leaves slot (building c spaces [] []) (made_by rooms) None (at nothing_led) (filled_by rooms) None (through_rooms slot any_room fills (made_by rooms) rooms)
         filled =
             leaves_to slot (building c spaces [] []) (building c made items (all_given rooms [])) (at nothing_led) (made_by rooms) (filled_by rooms) None None _ all_built
-                (rooms_filled c its.root slot bind rooms (made_by rooms) spaces [] [] no_items its.filled)
+            (rooms_filled c its.root slot bind rooms (made_by rooms) spaces [] [] no_items its.filled)
 
     pub script_ends : Ended first (script slot bind rooms)
     unfolding script

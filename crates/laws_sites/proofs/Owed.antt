@@ -81,7 +81,7 @@ module _ (nester : Path) (slot : ℕ) (g : Site) (w : World) (shows : Shows nest
   make_pin space e =
       let here = same_place root space (sym (root_named nester slot g w shows no_words) ∙ e) in
       subst (λ (s : Path). may_make w s FIRST_SCRATCH_SLOT 9 ≡ true) here
-          (or_last (holds is_native (w.body (LAST_PORTER_SLOT ∷ root))) (holds (leads_to (LAST_PORTER_SLOT ∷ nester)) (holder_of (w.body root))) (rw shows.holder (same_path_refl (LAST_PORTER_SLOT ∷ nester))))
+      (or_last (holds is_native (w.body (LAST_PORTER_SLOT ∷ root))) (holds (leads_to (LAST_PORTER_SLOT ∷ nester)) (holder_of (w.body root))) (rw shows.holder (same_path_refl (LAST_PORTER_SLOT ∷ nester))))
 
   low_scratch : (r : ℕ) → is_ref_slot r ≡ true → nat_le r LAST_SCRATCH_SLOT ≡ true
   low_scratch r is = (and_parts (nat_le FIRST_SCRATCH_SLOT r) (nat_le r LAST_SCRATCH_SLOT) is).1
@@ -94,13 +94,13 @@ module _ (nester : Path) (slot : ℕ) (g : Site) (w : World) (shows : Shows nest
       port_at =
           let to = ref_led nester slot g w shows r (At port) may.scratch may.led in
           port-there nester words w r (port ++ root) (object-there nester words w reference_of nester r (Reference (At (port ++ root))) (At (port ++ root)) (ref_named nester slot g w shows r may.scratch) to.0 refl)
-              (kind_of_there nester slot g w shows valid.consistent port kinds.Port may.port_there)
+          (kind_of_there nester slot g w shows valid.consistent port kinds.Port may.port_there)
 
       server_at : referred w (porter nester words) kinds.Thread u ≡ Ok (At (server ++ root))
       server_at =
           let to = ref_led nester slot g w shows u (At server) may.second may.served in
           thread-there nester words w u (server ++ root) (object-there nester words w reference_of nester u (Reference (At (server ++ root))) (At (server ++ root)) (ref_named nester slot g w shows u may.second) to.0 refl)
-              (kind_of_there nester slot g w shows valid.consistent server kinds.Thread may.server_there)
+          (kind_of_there nester slot g w shows valid.consistent server kinds.Thread may.server_there)
 
       idle : is_serving w (server ++ root) ≡ false
       idle = subst (λ (y : Path). is_serving w (y ++ root) ≡ false) (sym free.server_is)
@@ -152,7 +152,7 @@ module _ (nester : Path) (slot : ℕ) (g : Site) (w : World) (shows : Shows nest
         holder_at =
             let to = ref_led nester slot g w shows r (At holder) may.scratch may.led in
             thread-there nester no_words w r (holder ++ root) (object-there nester no_words w reference_of nester r (Reference (At (holder ++ root))) (At (holder ++ root)) (ref_named nester slot g w shows r may.scratch) to.0 refl)
-                (kind_of_there nester slot g w shows valid.consistent holder kinds.Thread may.holder_there)
+            (kind_of_there nester slot g w shows valid.consistent holder kinds.Thread may.holder_there)
 
         outside : NamesHolderOutside w (porter nester no_words) s x r
         outside space y at to =
