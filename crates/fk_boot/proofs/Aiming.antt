@@ -114,7 +114,7 @@ object-stands-at w spaces objects slots h beneath has = record {
 }
 
 -- an object that is found at a path stands there
-one-stands : (w : World) (spaces : List SpaceEntry) (objects : List ObjectEntry) (test : Spec → Bool) (path : List ℕ) →
+pub one-stands : (w : World) (spaces : List SpaceEntry) (objects : List ObjectEntry) (test : Spec → Bool) (path : List ℕ) →
     HasObjects w spaces objects → All (λ (o : ObjectEntry). 0 < length o.path) objects
     → is_one test (object_with objects path) ≡ true → StandsAt w path
 one-stands w spaces objects test path h inside one = by (object_with objects path) refl

@@ -1,11 +1,11 @@
 -- Porters may be made: the spaces are there, and no entry names their last slots.
-use Rattle.std.proofs.Common.{◌≡◌, ℕ, suc, ◌+◌, ◌<◌, ◌≤◌, Bool, true, false, ◌&&◌, ◌||◌, ◌==◌, if◌then◌else◌, List, [], ◌∷◌, ◌++◌, append_assoc, length, get_or, drop, reverse, Option, Some, None, option_map, is_some, IsSome, refl, sym, ap, subst, ◌∙◌, arith, add-one}
+use Rattle.std.proofs.Common.{◌≡◌, ℕ, suc, ◌+◌, ◌<◌, ◌≤◌, Bool, not, true, false, ◌&&◌, ◌||◌, ◌==◌, if◌then◌else◌, List, [], ◌∷◌, ◌++◌, append_assoc, length, get_or, drop, reverse, Option, Some, None, option_map, is_some, IsSome, Ok, refl, sym, ap, subst, ◌∙◌, arith, add-one}
 use Rattle.std.proofs.Math.Seq.{drop-cons}
 use Rattle.std.proofs.lemmas.List.{length-append, reverse-append, reverse-reverse}
 use Rattle.std.proofs.lemmas.List.Elements.{All-nil, All-cons, All-head, All-tail}
 use Rattle.std.proofs.lemmas.List.Folds.{list_any-append}
 use Rattle.std.proofs.lemmas.Slice.Eq.{bytes_eq-Decides}
-use Rattle.std.specs.List.{All, list_any}
+use Rattle.std.specs.List.{All, list_any, flat_map}
 use Rattle.std.specs.Str.{bytes_eq}
 use Rattle.fk_model.specs.declared.limits.TheConstants.{LAST_PORTER_SLOT}
 use Rattle.fk_model.specs.declared.names.Kind.{Kind}
@@ -26,9 +26,13 @@ use Rattle.fk_scenario_entries.specs.Kept.{AreSlots}
 use Rattle.fk_scenario_fields.specs.Paths.{enclosing}
 use Rattle.fk_scenario_sections.specs.Kept.{EachAfter, KeepsSpace, KeepsObject}
 use Rattle.fk_scenario_sections.specs.Spaces.{has_space, has_space_or_root, may_stand}
+use Rattle.fk_scenario_entries.specs.declared.types.ServerEntry.{ServerEntry}
+use Rattle.fk_scenario.specs.Aims.{object_with, is_one}
+use Rattle.fk_scenario.specs.Servers.{is_lone_port, has_key, alias_of, has_new_alias, may_serve, serving_from}
 use Rattle.fk_boot.specs.FirstWorld.{porter, porter_changes}
-use Rattle.fk_boot.specs.MadeSoFar.{HasObjects, CanNest, AreNestable}
-use Rattle.fk_boot.proofs.Aiming.{or_right}
+use Rattle.fk_boot.specs.MadeSoFar.{HasObjects, StandsAt, CanNest, AreNestable}
+use Rattle.fk_boot.proofs.Aiming.{or_right, one-stands}
+use Rattle.fk_boot.proofs.Changes.{apply_all-append}
 use Rattle.fk_boot.proofs.MadeSoFar.{some}
 use Rattle.fk_boot.proofs.validity.Pages.{birth-space}
 
@@ -231,3 +235,67 @@ kind-birth w x h = by (w.body x) h
     by None h = absurd (cc)
     by (Some (Space birth holder)) h = refl
     by (Some b) h = absurd (cc)
+
+-- what stands stands once porters are made
+porter-keeps : (w : World) (s : SpaceEntry) (q : Path) (k : Kind) → CanNest w s → kind_there w q ≡ Some k → kind_there (apply_all (porter_changes s) w) q ≡ Some k
+unfolding apply_all
+porter-keeps w s q k can is = by s.nester
+  where
+    by : (nests : Bool) → kind_there (apply_all (if nests then Make (LAST_PORTER_SLOT ∷ reverse s.path) porter ∷ [] else []) w) q ≡ Some k
+    by true = kind-still w (LAST_PORTER_SLOT ∷ reverse s.path) q porter k can.empty is
+    by false = is
+
+porters-keep : (ss : List SpaceEntry) (w : World) (q : Path) (k : Kind) → AreNestable w ss → kind_there w q ≡ Some k
+    → kind_there (apply_all (flat_map porter_changes ss) w) q ≡ Some k
+unfolding apply_all
+porters-keep [] w q k nests is = is
+porters-keep (s ∷ ss) w q k nests is =
+    rw (apply_all-append (porter_changes s) (flat_map porter_changes ss)) (porters-keep ss (apply_all (porter_changes s) w) q k nests.1 (porter-keeps w s q k nests.0 is))
+
+still-there : (ss : List SpaceEntry) (w : World) (q : Path) → AreNestable w ss → IsSome (kind_there w q) → IsSome (kind_there (apply_all (flat_map porter_changes ss) w) q)
+still-there ss w q nests there = by (kind_there w q) refl there
+  where
+    by : (o : Option Kind) → kind_there w q ≡ o → IsSome o → IsSome (kind_there (apply_all (flat_map porter_changes ss) w) q)
+    by None e h = absurd (cc)
+    by (Some k) e h = rw (porters-keep ss w q k nests e) refl
+
+-- ---- the ports of servers
+
+each-serves : (objects : List ObjectEntry) (ports aliases : List (List ℕ)) (servers : List ServerEntry) → serving_from objects ports aliases servers ≡ Ok tt
+    → All (λ (s : ServerEntry). is_one is_lone_port (object_with objects s.port) ≡ true) servers
+unfolding serving_from
+each-serves objects ports aliases [] e = All-nil (λ (s : ServerEntry). is_one is_lone_port (object_with objects s.port) ≡ true)
+each-serves objects ports aliases (s ∷ ss) e =
+    by (may_serve objects ports aliases s) refl (λ rest. each-serves objects (ports ++ s.port ∷ []) (aliases ++ alias_of s.service) ss rest)
+  where
+    first : (a b c : Bool) → ((a && b) && c) ≡ true → a ≡ true
+    first true b c h = refl
+    first false b c h = absurd (cc)
+
+    by : (may : Bool) → may_serve objects ports aliases s ≡ may
+        → (serving_from objects (ports ++ s.port ∷ []) (aliases ++ alias_of s.service) ss ≡ Ok tt
+            → All (λ (s : ServerEntry). is_one is_lone_port (object_with objects s.port) ≡ true) ss)
+        → All (λ (s : ServerEntry). is_one is_lone_port (object_with objects s.port) ≡ true) (s ∷ ss)
+    by true t later =
+        All-cons (λ (s : ServerEntry). is_one is_lone_port (object_with objects s.port) ≡ true) s ss
+        (first (is_one is_lone_port (object_with objects s.port)) (not (has_key ports s.port)) (has_new_alias aliases s.service) t) (later (rw t at e))
+    by false t later = absurd (let refused = rw t at e in cc)
+
+-- where the objects of a scenario stand, so do the ports of its servers, and still once objects lead and porters are made
+pub ports-stand : (w v : World) (spaces : List SpaceEntry) (objects : List ObjectEntry) (servers : List ServerEntry) →
+    HasObjects w spaces objects → All (λ (o : ObjectEntry). 0 < length o.path) objects → serving_from objects [] [] servers ≡ Ok tt
+    → kind_there v ≡ kind_there w → AreNestable v spaces → All (λ (s : ServerEntry). StandsAt (apply_all (flat_map porter_changes spaces) v) s.port) servers
+ports-stand w v spaces objects servers h inside serves same nests = all servers (each-serves objects [] [] servers serves)
+  where
+    one : (s : ServerEntry) → is_one is_lone_port (object_with objects s.port) ≡ true → StandsAt (apply_all (flat_map porter_changes spaces) v) s.port
+    one s is =
+        let stands = one-stands w spaces objects is_lone_port s.port h inside is in
+        record { beneath = stands.beneath; there = still-there spaces v (reverse s.port) nests (rw same stands.there) }
+
+    all : (ss : List ServerEntry) → All (λ (s : ServerEntry). is_one is_lone_port (object_with objects s.port) ≡ true) ss
+        → All (λ (s : ServerEntry). StandsAt (apply_all (flat_map porter_changes spaces) v) s.port) ss
+    all [] each = All-nil (λ (s : ServerEntry). StandsAt (apply_all (flat_map porter_changes spaces) v) s.port)
+    all (s ∷ ss) each =
+        All-cons (λ (s : ServerEntry). StandsAt (apply_all (flat_map porter_changes spaces) v) s.port) s ss
+        (one s (All-head (λ (s : ServerEntry). is_one is_lone_port (object_with objects s.port) ≡ true) s ss each))
+        (all ss (All-tail (λ (s : ServerEntry). is_one is_lone_port (object_with objects s.port) ≡ true) s ss each))

@@ -10,7 +10,7 @@ ghost use Rattle.fk_scenario.specs.Kept.{KeepsScenario};
 ghost use Rattle.fk_scenario_sections.specs.Spaces.{count_beneath};
 ghost use Rattle.fk_store.specs.World.{world, first_world};
 ghost use Rattle.fk_boot.specs.FirstWorld.{booted, space_changes, object_changes, aim_changes, served_ports};
-ghost use Rattle.fk_boot.specs.MadeSoFar.{CanStand, CanAim, AreBorn, HasSpaces, HasObjects};
+ghost use Rattle.fk_boot.specs.MadeSoFar.{CanStand, CanAim, StandsAt, AreBorn, HasSpaces, HasObjects};
 
 use crate::aims::aim_object;
 use crate::making::{make_object, make_space};
@@ -100,6 +100,7 @@ fn ports_of(alloc: Global, servers: &[ServerEntry]) -> Result<Entries<Path>, NoM
 pub fn boot(alloc: Global, scenario: &Scenario) -> Result<Store, NoMemory>
     requires { KeepsScenario scenario.now }
     ensures world { IfOk result (λ store. world store ≡ booted scenario.now) }
+    ensures ports { IfOk result (λ store. All (λ s. StandsAt (world store) s.port) scenario.now.servers) }
     ensures valid { IfOk result (λ store. IsValid (world store)) }
     ensures runnable { IfOk result (λ store. IsRunnable (world store)) }
     ensures savable { IfOk result (λ store. IsSavable (world store)) }

@@ -19,6 +19,8 @@ impl<K: Machine + Drop, S: Service + Drop> Core<K, S> {
             (core_at (K.contents self.new.kernel) self.new.services.list self.new.events)) }
         ensures over { OnOk result (IsOver self.old.budget (core_at (K.contents self.new.kernel) self.new.services.list self.new.events)) }
         ensures events { IfOk result (λ history. self.new.events ≡ self.old.events + length history) }
+        ensures budget { self.new.budget ≡ self.old.budget }
+        ensures within { self.old.events ≤ self.old.budget → OnOk result (self.new.events ≤ self.new.budget) }
     {
         let mut history = Items::new(alloc);
         while let Some(m) = self.choose() {

@@ -1,5 +1,6 @@
 //! The core: a kernel with its native servers.
 ghost use Rattle.std.specs.Prelude.{◌≡◌, ◌↔◌, ◌+◌, ◌<◌, ◌≤◌, Some, None, true, IsTrue, IfOk, OnOk, OnErr, IfSome, IfNone, length, map};
+ghost use Rattle.std.specs.Bool.{OnTrue, OnFalse};
 ghost use Rattle.fk_core.specs.Served.{asked, gives_words, AllFit, shown};
 ghost use Rattle.fk_model.specs.Whole.{are_words};
 ghost use Rattle.laws_whole.specs.Runnable.{has_all_words};
@@ -118,13 +119,81 @@ impl<K: Machine + Drop, S: Service + Drop> Core<K, S> {
         ensures budget { self.new.budget ≡ self.old.budget }
         ensures events { OnOk result (self.new.events ≡ self.old.events + 1) }
     {
+        self.go(table, m)?;
+        Ok(())
+    }
+
+    /// Makes a move where it is ready, tells the servers, and answers whether it was. Where it wasn't, and for
+    /// want of memory, all is as before.
+    pub fn go(&mut self, table: &Table, m: &Move) -> Result<bool, NoMemory>
+        requires few { self.old.events < self.old.budget }
+        requires fits { AllFit (map (λ r. r.rule) table.now.list.items) self.old.services.list }
+        ensures made { IfOk result (λ made. OnTrue made (IsReadyMove (core_at (K.contents self.old.kernel) self.old.services.list self.old.events) m.now
+            × IsTurned (core_at (K.contents self.old.kernel) self.old.services.list self.old.events) m.now
+            (core_at (K.contents self.new.kernel) self.new.services.list self.new.events))) }
+        ensures unready { IfOk result (λ made. OnFalse made
+            (IsReadyMove (core_at (K.contents self.old.kernel) self.old.services.list self.old.events) m.now → ⊥)) }
+        ensures same { IfOk result (λ made. OnFalse made (core_at (K.contents self.new.kernel) self.new.services.list self.new.events
+            ≡ core_at (K.contents self.old.kernel) self.old.services.list self.old.events)) }
+        ensures lacking { OnErr result (core_at (K.contents self.new.kernel) self.new.services.list self.new.events
+            ≡ core_at (K.contents self.old.kernel) self.old.services.list self.old.events) }
+        ensures fits { AllFit (map (λ r. r.rule) table.now.list.items) self.new.services.list }
+        ensures budget { self.new.budget ≡ self.old.budget }
+        ensures events { IfOk result (λ made. OnTrue made (self.new.events ≡ self.old.events + 1)) }
+    {
         self.services.reserve()?;
-        let ask = self.ask(m.who).unwrap();
-        let told = self.kernel.attempt(m, &ask)?.unwrap();
+        let Some(ask) = self.ask(m.who) else {
+            return Ok(false);
+        };
+        let Some(told) = self.kernel.attempt(m, &ask)? else {
+            return Ok(false);
+        };
         self.services.hear(table, &told);
         self.events += 1;
         self.last = last_thread(&ask, m.who, self.last);
-        Ok(())
+        Ok(true)
+    }
+
+    /// Whether a move is left: one is ready, whatever the budget.
+    pub fn has_move(&self) -> bool
+        ensures { IsTrue result ↔ IsAnyMove (core_at (K.contents self.now.kernel) self.now.services.list self.now.events) }
+    {
+        self.find().is_some()
+    }
+
+    /// The machine.
+    pub fn kernel(&self) -> &K
+        ensures { K.contents result.now ≡ K.contents self.now.kernel }
+    {
+        &self.kernel
+    }
+
+    /// The servers with their ports, in the order of the file.
+    pub fn services(&self) -> &[(Who, S)]
+        ensures { shown S.meaning result.now ≡ self.now.services.list }
+    {
+        self.services.as_slice()
+    }
+
+    /// Whether the budget has a move more.
+    pub fn is_below_budget(&self) -> bool
+        ensures { IsTrue result ↔ (self.now.events < self.now.budget) }
+    {
+        self.events < self.budget
+    }
+
+    /// How many moves may be made.
+    pub fn budget(&self) -> u64
+        ensures { result ≡ self.now.budget }
+    {
+        self.budget
+    }
+
+    /// How many moves were made.
+    pub fn events(&self) -> u64
+        ensures { result ≡ self.now.events }
+    {
+        self.events
     }
 
     /// The act of a server that picks nobody, where it is ready.

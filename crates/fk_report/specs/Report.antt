@@ -1,8 +1,10 @@
 -- The report of a run.
-use Rattle.std.specs.Prelude.{ℕ, List, [], ◌++◌, reverse, codes, decimal}
+use Rattle.std.specs.Prelude.{ℕ, List, [], ◌++◌, map, reverse, Option, Some, None, codes, decimal}
 use Rattle.std.specs.List.{flat_map}
 use Rattle.fk_model.specs.declared.thread.Mode.{Mode}
 use Rattle.fk_model.specs.declared.thread.Mode.TheVariants.{Running, Calling, Halted, Native}
+use Rattle.fk_model.specs.declared.names.Who.{Who}
+use Rattle.fk_natives.specs.Natives.{State, alias_of, printed_by}
 use Rattle.fk_report.specs.declared.end.End.{End}
 use Rattle.fk_report.specs.declared.end.End.TheVariants as ends
 use Rattle.fk_report.specs.declared.threads.ThreadState.{ThreadState}
@@ -11,12 +13,17 @@ use Rattle.fk_report.specs.declared.threads.ThreadState.{ThreadState}
 abbrev pub path_text : List ℕ → List ℕ
 path_text path = flat_map (λ slot. codes "/" ++ decimal slot) (reverse path)
 
+-- what a user thread is about
+abbrev pub mode_text : Mode → List ℕ
+mode_text Running = codes " running\n"
+mode_text Calling = codes " calling\n"
+mode_text (Halted code) = codes " halted " ++ (decimal code ++ codes "\n")
+mode_text Native = []
+
 -- a user thread: its path, and what it is about; a thread that is no program's has no line
 abbrev pub thread_line_of : List ℕ → Mode → List ℕ
-thread_line_of path Running = codes "thread " ++ (path ++ codes " running\n")
-thread_line_of path Calling = codes "thread " ++ (path ++ codes " calling\n")
-thread_line_of path (Halted code) = codes "thread " ++ (path ++ (codes " halted " ++ (decimal code ++ codes "\n")))
 thread_line_of path Native = []
+thread_line_of path mode = codes "thread " ++ (path ++ mode_text mode)
 
 abbrev pub thread_line : ThreadState → List ℕ
 thread_line thread = thread_line_of (path_text thread.path) thread.mode
@@ -31,6 +38,26 @@ end_word ends.Listed = codes "listed"
 abbrev pub end_lines : ℕ → End → List ℕ
 end_lines events end = codes "events " ++ (decimal events ++ (codes "\nend " ++ (end_word end ++ codes "\n")))
 
--- the whole report, with a line for each user thread
+-- a word after a space
+abbrev pub word_text : ℕ → List ℕ
+word_text word = codes " " ++ decimal word
+
+-- a console: its alias, and each word that it was sent
+abbrev pub out_of : Option (List ℕ) → List ℕ → List ℕ
+out_of None words = []
+out_of (Some alias) words = codes "out " ++ (alias ++ (flat_map word_text words ++ codes "\n"))
+
+abbrev pub out_line : State → List ℕ
+out_line state = out_of (alias_of state) (printed_by state)
+
+-- what servers are, each at its port
+abbrev pub states : {S : Type 0} → (S → State) → List (Who × S) → List State
+states meaning services = map (λ e. meaning e.1) services
+
+-- the report of a run without servers
 abbrev pub report_text : ℕ → End → List ThreadState → List ℕ
 report_text events end threads = end_lines events end ++ flat_map thread_line threads
+
+-- the whole report, with a line for each console and for each user thread
+abbrev pub run_text : ℕ → End → List State → List ThreadState → List ℕ
+run_text events end states threads = end_lines events end ++ (flat_map out_line states ++ flat_map thread_line threads)

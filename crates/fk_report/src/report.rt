@@ -1,34 +1,76 @@
 //! The report of a run.
-ghost use Rattle.std.specs.Prelude.{◌≡◌, IfOk, string_bytes};
+ghost use Rattle.std.specs.Prelude.{◌≡◌, ◌++◌, IfOk, OnOk, map, string_bytes};
+ghost use Rattle.std.specs.List.{flat_map};
 ghost use Rattle.fk_report.specs.Report as definitions;
 
 use crate::end::End;
 use crate::threads::ThreadState;
-use fk_model::Mode;
+use fk_decimal::push_number;
+use fk_model::{Mode, Who};
+use fk_natives::Service;
 use std::alloc::{AllocError, Global};
 
-/// A path as text: a slash before each slot, from the root inwards.
-fn path_text(alloc: Global, path: &[u8]) -> Result<String, AllocError>
-    ensures { IfOk result (λ text. string_bytes text ≡ definitions.path_text path.now) }
+/// Appends a path: a slash before each slot, from the root inwards.
+fn push_path(text: &mut String, path: &[u8]) -> Result<(), AllocError>
+    ensures { OnOk result (string_bytes text.new ≡ string_bytes text.old ++ definitions.path_text path.now) }
 {
-    let mut text = String::new(alloc);
     for slot in path.iter().rev() {
-        text.push_str(format!(in alloc; "/{slot}")?.as_str())?;
+        text.push_str("/")?;
+        push_number(text, u64::from(*slot))?;
     }
-    Ok(text)
+    Ok(())
 }
 
-/// The line of a thread. One that is no program's has none.
-fn thread_line(alloc: Global, thread: &ThreadState) -> Result<String, AllocError>
-    ensures { IfOk result (λ text. string_bytes text ≡ definitions.thread_line thread.now) }
+/// Appends what a thread is about, and ends its line.
+fn push_mode(text: &mut String, mode: Mode) -> Result<(), AllocError>
+    ensures { OnOk result (string_bytes text.new ≡ string_bytes text.old ++ definitions.mode_text mode) }
 {
-    let path = path_text(alloc, thread.path.as_slice())?;
-    match thread.mode {
-        Mode::Running => format!(in alloc; "thread {path} running\n"),
-        Mode::Calling => format!(in alloc; "thread {path} calling\n"),
-        Mode::Halted(code) => format!(in alloc; "thread {path} halted {code}\n"),
-        Mode::Native => Ok(String::new(alloc)),
+    match mode {
+        Mode::Running => text.push_str(" running\n"),
+        Mode::Calling => text.push_str(" calling\n"),
+        Mode::Halted(code) => {
+            text.push_str(" halted ")?;
+            push_number(text, u64::from(code))?;
+            text.push_str("\n")
+        }
+        Mode::Native => Ok(()),
     }
+}
+
+/// Appends the line of a thread. One that is no program's has none.
+fn push_thread(text: &mut String, thread: &ThreadState) -> Result<(), AllocError>
+    ensures { OnOk result (string_bytes text.new ≡ string_bytes text.old ++ definitions.thread_line thread.now) }
+{
+    if matches!(thread.mode, Mode::Native) {
+        return Ok(());
+    }
+    text.push_str("thread ")?;
+    push_path(text, thread.path.as_slice())?;
+    push_mode(text, thread.mode)
+}
+
+/// Appends each word after a space.
+fn push_words(text: &mut String, words: &[u64]) -> Result<(), AllocError>
+    ensures { OnOk result (string_bytes text.new ≡ string_bytes text.old ++ flat_map definitions.word_text words.now) }
+{
+    for word in words {
+        text.push_str(" ")?;
+        push_number(text, *word)?;
+    }
+    Ok(())
+}
+
+/// Appends the line of a console. A server that is none has none.
+fn push_out<S: Service>(text: &mut String, service: &S) -> Result<(), AllocError>
+    ensures { OnOk result (string_bytes text.new ≡ string_bytes text.old ++ definitions.out_line (S.meaning service.now)) }
+{
+    let Some(alias) = service.alias() else {
+        return Ok(());
+    };
+    text.push_str("out ")?;
+    text.push_str(alias)?;
+    push_words(text, service.printed())?;
+    text.push_str("\n")
 }
 
 fn end_word(end: End) -> &'static str
@@ -46,11 +88,35 @@ fn end_word(end: End) -> &'static str
 fn end_lines(alloc: Global, events: u64, end: End) -> Result<String, AllocError>
     ensures { IfOk result (λ text. string_bytes text ≡ definitions.end_lines events end) }
 {
-    let word = end_word(end);
-    format!(in alloc; "events {events}\nend {word}\n")
+    let mut text = String::from_str(alloc, "events ")?;
+    push_number(&mut text, events)?;
+    text.push_str("\nend ")?;
+    text.push_str(end_word(end))?;
+    text.push_str("\n")?;
+    Ok(text)
 }
 
-/// The report of a run: how many moves it made, how it ended, and its user threads in the order of
+/// Appends the lines of consoles.
+fn push_outs<S: Service>(text: &mut String, services: &[(Who, S)]) -> Result<(), AllocError>
+    ensures { OnOk result (string_bytes text.new ≡ string_bytes text.old ++ flat_map definitions.out_line (definitions.states S.meaning services.now)) }
+{
+    for (_, service) in services {
+        push_out(text, service)?;
+    }
+    Ok(())
+}
+
+/// Appends the lines of threads.
+fn push_threads(text: &mut String, threads: &[ThreadState]) -> Result<(), AllocError>
+    ensures { OnOk result (string_bytes text.new ≡ string_bytes text.old ++ flat_map definitions.thread_line threads.now) }
+{
+    for thread in threads {
+        push_thread(text, thread)?;
+    }
+    Ok(())
+}
+
+/// The report of a run without servers: how many moves it made, how it ended, and its user threads in the order of
 /// the list.
 pub fn report_text(
     alloc: Global,
@@ -61,8 +127,23 @@ pub fn report_text(
     ensures { IfOk result (λ text. string_bytes text ≡ definitions.report_text events end threads.now) }
 {
     let mut text = end_lines(alloc, events, end)?;
-    for thread in threads {
-        text.push_str(thread_line(alloc, thread)?.as_str())?;
-    }
+    push_threads(&mut text, threads)?;
+    Ok(text)
+}
+
+/// The report of a run: how many moves it made, how it ended, its consoles in the order of the file, and its user
+/// threads in the order of the list.
+pub fn run_text<S: Service>(
+    alloc: Global,
+    events: u64,
+    end: End,
+    services: &[(Who, S)],
+    threads: &[ThreadState],
+) -> Result<String, AllocError>
+    ensures { IfOk result (λ text. string_bytes text ≡ definitions.run_text events end (definitions.states S.meaning services.now) threads.now) }
+{
+    let mut text = end_lines(alloc, events, end)?;
+    push_outs(&mut text, services)?;
+    push_threads(&mut text, threads)?;
     Ok(text)
 }

@@ -1,9 +1,9 @@
-use Rattle.std.proofs.Common.{◌++◌}
+use Rattle.std.proofs.Common.{[], ◌++◌}
 use Rattle.std.specs.List.{flat_map}
 use Rattle.fk_store.specs.World.{world, first_world}
 use Rattle.fk_boot.specs.FirstWorld.{booted, space_changes, object_changes, aim_changes, porter_changes, served_ports}
-use Rattle.fk_boot.proofs.Aiming.{all-can}
-use Rattle.fk_boot.proofs.Nesting.{nestable}
+use Rattle.fk_boot.proofs.Aiming.{all-can, all-inside}
+use Rattle.fk_boot.proofs.Nesting.{nestable, ports-stand}
 use Rattle.fk_boot.proofs.Changes.{then-all}
 use Rattle.fk_boot.proofs.validity.Whole.{booted-valid}
 use Rattle.fk_boot.proofs.validity.Savable.{booted-runnable, booted-savable}
@@ -44,3 +44,13 @@ returns-clause-runnable c = rw (returns-clause-world c) (booted-runnable c.args.
 
 pub returns-clause-savable : goal.returns-clause-savable
 returns-clause-savable c = rw (returns-clause-world c) (booted-savable c.args.scenario.now c.requires c.read_words.ensures)
+
+pub returns-clause-ports : goal.returns-clause-ports
+returns-clause-ports c =
+    let s = c.args.scenario.now in
+    let stands = rw (c.as_slice-spaces.ensures, c.as_slice-objects.ensures) at c.in_ok-make_objects.ensures.stands in
+    let porters = rw c.as_slice-spaces.ensures at c.in_ok-make_porters.ensures in
+    let nests = nestable s.programs (world c.make_objects.new.store) (world c.aim_objects.new.store) s.spaces s.objects
+    c.requires.spaces c.requires.objects stands c.aim_objects.ensures.kinds in
+    rw porters (ports-stand (world c.make_objects.new.store) (world c.aim_objects.new.store) s.spaces s.objects s.servers stands
+    (all-inside s.spaces [] s.objects c.requires.objects) c.requires.servers c.aim_objects.ensures.kinds nests)

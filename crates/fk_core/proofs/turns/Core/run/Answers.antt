@@ -10,6 +10,7 @@ loop-m-init g c = record {
   run = begun _ c.new-history.result c.new-history.ensures;
   fits = c.requires.fits;
   budget = refl;
+  within = λ few. few;
   events = rw c.new-history.ensures (omega arith);
 }
 
@@ -28,5 +29,7 @@ loop-m-preserved g c =
           (subst (λ x. IsReadyMove x c.in-Some.m) (sym same) c.in-Some.ensures.ready.1) c.in_ok-turn.ensures.turned c.in_ok-push.ensures.ok;
       fits = c.turn.ensures.fits;
       budget = c.turn.ensures.budget ∙ (c.choose.ensures.budget ∙ c.loop-m.invariant.budget);
+      within = λ few. (let below = c.in-Some.ensures.ready.0 in let kept = c.turn.ensures.budget in let chosen = c.choose.ensures.budget in
+          omega (arith, below, kept, chosen, turned, count));
       events = omega (arith, count, counted, turned, long);
     }

@@ -1,4 +1,4 @@
-use Rattle.std.proofs.Common.{◌≡◌, ◌+◌, ◌-◌, length, map}
+use Rattle.std.proofs.Common.{◌≡◌, ◌≤◌, ◌+◌, ◌-◌, length, map}
 use Rattle.laws_runs.specs.Cores.{IsRun}
 use Rattle.fk_core.specs.Served.{AllFit}
 use Rattle.fk_core.specs.Cores.{house, core_at}
@@ -10,6 +10,7 @@ invariant-loop-m g l = record {
       (core_at (g.K.Machine.contents l.self.kernel) l.self.services.list l.self.events);
   fits : AllFit (map (λ r. r.rule) l.table.list.items) l.self.services.list;
   budget : l.self.budget ≡ l.fn.self.budget;
+  within : l.fn.self.events ≤ l.fn.self.budget → l.self.events ≤ l.self.budget;
   events : l.self.events ≡ l.fn.self.events + length l.history;
 }
 

@@ -1,6 +1,0 @@
-use Rattle.std.proofs.Common.{◌≡◌, ◌++◌, string_bytes}
-use Rattle.fk_report.specs.Report as definitions
-use Rattle.fk_report.proofs.report.path_text.Given as goal
-
-abbrev pub invariant-loop-slot : goal.invariant-loop-slot
-invariant-loop-slot l = string_bytes l.text ++ definitions.path_text l.slot-iterator.iter.rest.now ≡ definitions.path_text l.path

@@ -1,0 +1,75 @@
+-- What a run comes to, by a trace or by itself, from its first core.
+use Rattle.std.specs.Prelude.{◌≡◌, ◌<◌, ℕ, List, [], map, length, Option, Some, None, string_bytes}
+use Rattle.fk_model.specs.declared.moves.Move.{Move}
+use Rattle.fk_model.specs.Who.{named}
+use Rattle.laws_runs.specs.Cores.{IsRun}
+use Rattle.fk_boot.specs.FirstWorld.{booted}
+use Rattle.fk_boot.specs.Services.{first_services}
+use Rattle.fk_commands.specs.declared.status.Status.{Status}
+use Rattle.fk_commands.specs.declared.status.Status.TheVariants.{Ok as Done, BadTrace, Budget}
+use Rattle.fk_commands.specs.declared.outcome.Report.{Report}
+use Rattle.fk_commands.specs.declared.prepared.Prepared.{Prepared}
+use Rattle.fk_commands.specs.Status.{progress_of, Finished}
+use Rattle.fk_core.specs.Cores.{RunCore, house, IsAnyMove}
+use Rattle.fk_report.specs.declared.end.End.{End}
+use Rattle.fk_report.specs.declared.end.End.TheVariants as ends
+use Rattle.fk_report.specs.declared.threads.ThreadState.{ThreadState}
+use Rattle.fk_report.specs.Report.{run_text}
+use Rattle.fk_report.specs.Threads.{AreThreads, HaveHalted}
+use Rattle.fk_runs.specs.Replay.{MayPlay}
+use Rattle.fk_scenario.specs.declared.scenario.Scenario.{Scenario}
+use Rattle.fk_trace_text.specs.Trace.{Spells, IsFirstBad}
+
+-- the core with which a scenario begins: its first world, and its servers as they are at first, each at its port
+pub record IsFirst (s : Scenario) (c : RunCore) : Type 0 where
+  pub world : c.world ≡ booted s
+  pub servers : map (λ e. (named c.world e.0, e.1)) c.servers ≡ first_services s.servers
+  pub ends : c.ends ≡ []
+  pub work : c.work ≡ None
+  pub events : c.events ≡ 0
+
+-- how a run ends in a core
+abbrev pub IsEnd : ℕ → RunCore → End → Type 0
+IsEnd budget c ends.Halted = (¬ IsAnyMove c) × HaveHalted c.world
+IsEnd budget c ends.Quiet = (¬ IsAnyMove c) × (¬ HaveHalted c.world)
+IsEnd budget c ends.Budget = IsAnyMove c × (c.events ≡ budget)
+IsEnd budget c ends.Listed = IsAnyMove c × (c.events < budget)
+
+-- a run that used its budget tells so
+abbrev pub status_of_end : ℕ → End → Status
+status_of_end budget ends.Halted = Done
+status_of_end budget ends.Quiet = Done
+status_of_end budget ends.Budget = Budget budget
+status_of_end budget ends.Listed = Done
+
+-- what is prepared of a core to which a history has come
+pub record IsMade (last : RunCore) (budget : ℕ) (history : List Move) (made : Prepared) : Type 0 where
+  pub end : End
+  pub report : made.report ≡ Some (record { history = history; end = end })
+  pub ends : IsEnd budget last end
+  pub threads : List ThreadState
+  pub are : AreThreads last.world threads
+  pub written : string_bytes made.output ≡ run_text (length history) end (map (λ e. e.1) last.servers) threads
+  pub status : made.status ≡ status_of_end budget end
+  pub finished : progress_of made.status ≡ Finished
+
+-- the report's moves are a legal history from the first core, and it ends as they do; what is written is the report of their last core
+pub record IsReported (first : RunCore) (budget : ℕ) (report : Report) (text : List ℕ) : Type 0 where
+  pub last : RunCore
+  pub run : IsRun house first report.history last
+  pub end : IsEnd budget last report.end
+  pub threads : List ThreadState
+  pub are : AreThreads last.world threads
+  pub written : text ≡ run_text (length report.history) report.end (map (λ e. e.1) last.servers) threads
+
+-- a run by a trace: the report's moves are the trace's; or the index of its first bad line
+abbrev pub IsPlayed : RunCore → ℕ → List ℕ → Status → Option Report → List ℕ → Type 0
+IsPlayed first budget trace status None text = (index : ℕ) × (status ≡ BadTrace index) × IsFirstBad (MayPlay budget first) trace index × (text ≡ [])
+IsPlayed first budget trace status (Some report) text =
+    Spells (MayPlay budget first) trace report.history × IsReported first budget report text × (status ≡ status_of_end budget report.end)
+
+-- a run by itself goes on while a move is left
+abbrev pub IsRunAlone : RunCore → ℕ → Status → Option Report → List ℕ → Type 0
+IsRunAlone first budget status None text = ⊥
+IsRunAlone first budget status (Some report) text =
+    IsReported first budget report text × (¬ (report.end ≡ ends.Listed)) × (status ≡ status_of_end budget report.end)
