@@ -17,3 +17,4 @@ pub mod Coming
 pub mod Owing
 pub mod Example
 pub mod Counted
+pub mod Bounds

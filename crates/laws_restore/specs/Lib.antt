@@ -7,3 +7,4 @@ pub mod Laws
 pub mod Restore
 pub mod Ends
 pub mod Example
+pub mod Bounded

@@ -11,6 +11,7 @@
 ghost use Rattle.laws_restore.specs.Laws.{ScriptMakes, RestoresPicture, NeverLost};
 ghost use Rattle.laws_restore.specs.Example.{SmallIsRoomed, OneScript};
 ghost use Rattle.laws_restore.specs.Ends.{RestoreEndsSo, RestoreIsOwed, RestoreIsCounted, RestoreRestores};
+ghost use Rattle.laws_restore.specs.Bounded.{ScriptIsBounded, RestoreIsBounded};
 
 /// The script of a subtree may be given to a new space order by order, and makes that subtree with its ports bound.
 pub fn a_script_makes_the_subtree()
@@ -56,4 +57,14 @@ pub fn the_script_of_one_reference()
 /// A restore makes no more calls than its script has orders, and as many more as it takes to clear.
 pub fn a_restores_calls_are_counted()
     ensures { RestoreIsCounted }
+{}
+
+/// The script of n bodies and pages, none deeper than d, has at most 30 (n + 1) (d + 1) orders.
+pub fn a_script_is_bounded()
+    ensures { ScriptIsBounded }
+{}
+
+/// Its restore makes at most 40 (n + 1) (d + 1) calls, however it ends.
+pub fn a_restore_is_bounded()
+    ensures { RestoreIsBounded }
 {}
