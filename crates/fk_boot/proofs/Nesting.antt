@@ -274,7 +274,7 @@ each-serves objects ports aliases (s ∷ ss) e =
 
     by : (may : Bool) → may_serve objects ports aliases s ≡ may
         → (serving_from objects (ports ++ s.port ∷ []) (aliases ++ alias_of s.service) ss ≡ Ok tt
-            → All (λ (s : ServerEntry). is_one is_lone_port (object_with objects s.port) ≡ true) ss)
+        → All (λ (s : ServerEntry). is_one is_lone_port (object_with objects s.port) ≡ true) ss)
         → All (λ (s : ServerEntry). is_one is_lone_port (object_with objects s.port) ≡ true) (s ∷ ss)
     by true t later =
         All-cons (λ (s : ServerEntry). is_one is_lone_port (object_with objects s.port) ≡ true) s ss
