@@ -61,7 +61,7 @@ fn slot_in_set(store: &Store, space: u32, set: u64, port: Who) -> Option<u8>
 }
 
 /// A talk, or a fault that somebody has taken, waits to be taken up.
-fn is_parked(peer: Peer) -> bool
+pub fn is_parked(peer: Peer) -> bool
     ensures { (p : ℕ → Path) → result ≡ rows.is_parked (Some (peer_by p peer)) }
 {
     match peer {
@@ -124,7 +124,7 @@ pub fn connects_by(store: &Store, who: Who) -> Option<u64>
 
 /// The port to which a thread is at its connect, where that isn't refused.
 #[tactic(auto, using(crate::proofs::Handles::named_first))]
-fn connecting_to(store: &Store, who: Who, thread: &Thread) -> Option<Who>
+pub fn connecting_to(store: &Store, who: Who, thread: &Thread) -> Option<Who>
     ensures to { option_map (λ port. At (place (path store.now) port)) result
         ≡ rows.connecting_to (world store.now) (place (path store.now) who) (thread_by (path store.now) thread.now) }
     ensures first { IsSome result → is_connecting (todo_of_mode (mode_by thread.now.mode thread.now.regs)) ≡ true }

@@ -4,7 +4,7 @@
 //! It stands on `fk_plans`, and on `fk_deaths` for the calls that end with a talk, and promises of
 //! each stage that its verdict stands for the outcome of the stage's row in the abstract machine, and
 //! can be carried out. A wait looks at the thread that is picked alone. `connects_by` and `is_member`
-//! tell where such threads are to be found.
+//! tell where such threads are to be found; `connecting_to` and `is_parked` serve native servers too.
 #![tactic(auto)]
 
 mod candidates;
@@ -13,7 +13,7 @@ mod leaving;
 mod restoring;
 mod waiting;
 
-pub use candidates::{connects_by, is_member};
+pub use candidates::{connecting_to, connects_by, is_member, is_parked};
 pub use connecting::connect;
 pub use leaving::disconnect;
 pub use restoring::{link_park, link_set};

@@ -1,5 +1,5 @@
 -- Plans: the changes that a plan makes.
-use Rattle.std.specs.Prelude.{◌≤◌, ◌+◌, ◌≡◌, ℕ, true, List, [], ◌∷◌, Option, Some, None, option_map, IsSome, ⊤}
+use Rattle.std.specs.Prelude.{◌≤◌, ◌+◌, ◌≡◌, ℕ, Bool, true, false, ◌&&◌, List, [], ◌∷◌, Option, Some, None, option_map, IsSome, ⊤}
 use Rattle.fk_model.specs.declared.names.Who.{Who}
 use Rattle.fk_model.specs.declared.stage.Stage.TheVariants.{CondAsleep, CondWait, MutexLock}
 use Rattle.fk_model.specs.ObjectRows.{new_object}
@@ -117,10 +117,18 @@ abbrev pub IsMakingHeld : (ℕ → Path) → World → Who → Who → Type 0
 IsMakingHeld p w object holder =
     (birth_at w (p object.space) ≡ Some object.space) × (w.body (place p object) ≡ None) × IsSome (kind_there w (place p holder))
 
+-- it begins a talk or ends one, or gives it another peer
+abbrev pub moves_talk : Deed → Bool
+moves_talk (deeds.Unlinks client) = true
+moves_talk (deeds.Links client talk) = true
+moves_talk (deeds.Serves client peer) = true
+moves_talk other = false
+
+-- of two deeds one at most moves a talk
 abbrev pub IsPlan : (ℕ → Path) → World → Plan → Type 0
 IsPlan p w plans.Nothing = ⊤
 IsPlan p w (plans.One a) = IsDeed p w a
-IsPlan p w (plans.Two a b) = IsDeed p w a × IsDeed p (after p a w) b
+IsPlan p w (plans.Two a b) = IsDeed p w a × IsDeed p (after p a w) b × ((moves_talk a && moves_talk b) ≡ false)
 IsPlan p w (plans.Moves block client receiver sender) =
     let counted = after p (deeds.Counts client block.count) (after p (deeds.Sends block) w) in
     IsBlock p w block × IsLow counted (place p receiver) block.count

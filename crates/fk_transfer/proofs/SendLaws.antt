@@ -113,7 +113,7 @@ if_moving (Some m) f h = f m h
 
 -- ---- what is left as it is before each is advanced
 
-todo_counted : (w : World) (x y : Path) (k : ℕ) → todo_at (apply (Alter y (CountMoved k)) w) x ≡ todo_at w x
+pub todo_counted : (w : World) (x y : Path) (k : ℕ) → todo_at (apply (Alter y (CountMoved k)) w) x ≡ todo_at w x
 unfolding todo_at apply edited
 todo_counted w x y k = by (same_path x y) (w.body x)
   where
@@ -131,7 +131,7 @@ todo_counted w x y k = by (same_path x y) (w.body x)
     by true (Some (Thread_of thread)) = refl
     by true (Some (Reference old)) = refl
 
-todo_paged : (w : World) (x s : Path) (page : ℕ) (words : List ℕ) → todo_at (apply (PutPage s page words) w) x ≡ todo_at w x
+pub todo_paged : (w : World) (x s : Path) (page : ℕ) (words : List ℕ) → todo_at (apply (PutPage s page words) w) x ≡ todo_at w x
 unfolding todo_at apply
 todo_paged w x s page words = refl
 

@@ -12,4 +12,4 @@ mod sending;
 
 pub use passing::over;
 pub use receiving::receive;
-pub use sending::{moving, send};
+pub use sending::{moved, moving, send};

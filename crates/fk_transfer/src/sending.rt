@@ -43,8 +43,8 @@ fn least(a: u64, b: u64) -> u64
     if a < b { a } else { b }
 }
 
-/// How many words one move takes.
-fn moved(address: u64, count: u64, into: u64, room: u64) -> u8
+/// How many words one move takes: of so many from an address, to an address with so much room.
+pub fn moved(address: u64, count: u64, into: u64, room: u64) -> u8
     ensures moved { result ≡ rows.moved_words address count into room }
     ensures at { address % 64 + result ≤ 64 }
     ensures into { into % 64 + result ≤ 64 }

@@ -1,4 +1,4 @@
-use Rattle.std.proofs.Common.{◌∷◌, false}
+use Rattle.std.proofs.Common.{◌∷◌, false, refl}
 use Rattle.fk_model.specs.declared.stage.Stage.TheVariants.{CondWait}
 use Rattle.fk_store.specs.Paths.{path, place}
 use Rattle.fk_store.specs.World.{world}
@@ -13,5 +13,6 @@ returns-clause-fits c =
         tt,
         first_unlocked (world c.args.store.now)
             (c.args.m ∷ p c.args.caller.who.space) (place p c.args.caller.who) false (CondWait c.args.cond c.args.m) c.requires.first,
+        refl,
       ),
     )

@@ -1,4 +1,4 @@
-use Rattle.std.proofs.Common.{◌<◌, ◌+◌, arith}
+use Rattle.std.proofs.Common.{◌<◌, ◌+◌, refl, arith}
 use Rattle.fk_store.specs.Paths.{path, place}
 use Rattle.fk_store.specs.World.{world}
 use Rattle.fk_transfer.proofs.SendLaws.{own_low}
@@ -10,4 +10,4 @@ returns-clause-fits c =
     let p = path c.args.store.now in
     let low = own_low (world c.args.store.now) (place p c.args.caller.who) (place p c.args.client)
     c.args.side c.args.message.address c.args.message.count c.moved-count.result c.requires.calling left in
-    (c.requires.user, (c.requires.port, (c.moved-count.ensures.at, c.requires.from.1)), (tt, (tt, low)))
+    (c.requires.user, (c.requires.port, (c.moved-count.ensures.at, c.requires.from.1)), (tt, (tt, low, refl)))
