@@ -1,0 +1,4 @@
+pub mod Seats
+pub mod Changes
+pub mod Deaths
+pub mod Verdicts
