@@ -1,0 +1,68 @@
+-- Made: what an act leaves.
+use Rattle.std.proofs.Common.{◌≡◌, ◌<◌, ◌+◌, ◌^◌, ℕ, Bool, true, false, cond, List, [], ◌∷◌, Option, Some, None, refl, ◌∙◌}
+use Rattle.fk_model.specs.declared.names.Who.{Who}
+use Rattle.fk_model.specs.LinkRows.{is_parked}
+use Rattle.fk_model.specs.Objects.{Peer, Talk, and_then, holds}
+use Rattle.fk_model.specs.Objects.Peer.{Server, Service, Parked}
+use Rattle.fk_model.specs.Places.{Path, same_path}
+use Rattle.fk_model.specs.Searches.{is_service, talk_at}
+use Rattle.fk_model.specs.Talks.{path_to}
+use Rattle.fk_model.specs.World.{World, Change, Edit, apply, apply_all}
+use Rattle.fk_model.specs.World.Change.{Alter, PutPage}
+use Rattle.fk_model.specs.World.Edit.{CountMoved}
+use Rattle.fk_model.proofs.walks.PlaceLaws.{same_path_eq, same_path_ne}
+use Rattle.fk_store.specs.Contents.{Contents}
+use Rattle.fk_store.specs.Paths.{path, place}
+use Rattle.fk_store.specs.World.{world}
+use Rattle.fk_threads.specs.Shifted.{IsLow}
+use Rattle.fk_transfer.proofs.SendLaws.{todo_counted, todo_paged}
+use Rattle.fk_endings.specs.Clients.{HasClient, IsEnding, native_at, native_port}
+use Rattle.fk_endings.proofs.Changes.{AreQuiet, all-same, same-ending, then-same}
+use Rattle.fk_acts.specs.declared.act.Act.{Act}
+use Rattle.fk_acts.specs.declared.act.Act.TheVariants as acts
+use Rattle.fk_acts.specs.Acts.{changes_of, IsAct}
+
+-- who receives words can count them once they are there
+pub low_later : (w : World) (x s : Path) (page : ℕ) (words : List ℕ) (k : ℕ) → IsLow w x k →
+    IsLow (apply (Alter x (CountMoved k)) (apply (PutPage s page words) w)) x k
+low_later w x s page words k low = rw (todo_counted (apply (PutPage s page words) w) x x k ∙ todo_paged w x s page words) low
+
+-- ---- each server keeps its client
+
+-- whatever becomes of one who is nobody's client
+nobodys : (w : World) (x : Path) (e : Edit) → native_at w x ≡ None → IsEnding w (apply (Alter x e) w) None
+unfolding apply
+nobodys w x e none p has = record { client = has.client; native = rw (same_path_ne has.client x apart) has.native }
+  where
+    apart : has.client ≡ x → ⊥
+    apart at = absurd (let is = rw at at has.native in cc)
+
+unlinked : (w : World) (x : Path) → talk_at w x ≡ None → native_at w x ≡ None
+unlinked w x none = rw none refl
+
+parked : (w : World) (x : Path) → holds (λ (talk : Talk). is_parked (Some talk.peer)) (talk_at w x) ≡ true → native_at w x ≡ None
+parked w x is = by (talk_at w x) is
+  where
+    of_peer : (talk : Talk) (q : Peer) → is_parked (Some q) ≡ true → cond {A = Option Path} (is_service q) (path_to talk.port) None ≡ None
+    of_peer talk Parked is = refl
+    of_peer talk Service is = absurd (cc)
+    of_peer talk (Server thread) is = absurd (cc)
+
+    by : (o : Option Talk) → holds (λ (talk : Talk). is_parked (Some talk.peer)) o ≡ true → and_then native_port o ≡ None
+    by None is = absurd (cc)
+    by (Some talk) is = of_peer talk talk.peer is
+
+pub act-ending : (m : Contents) (port : Who) (words : List ℕ) (act : Act) → IsAct m port words act →
+    IsEnding (world m) (apply_all (changes_of (world m) (path m) port words act) (world m)) None
+unfolding apply_all
+act-ending m port words (acts.Takes client) is =
+    then-same (world m) _ _ None (nobodys (world m) (place (path m) client) _ (unlinked (world m) _ is.for_whom.1)) (all-same _ (_ ∷ []) (refl, tt))
+act-ending m port words (acts.Resumes client turn moved) is =
+    nobodys (world m) (place (path m) client) _ (parked (world m) (place (path m) client) is.for_whom.1)
+act-ending m port words acts.GivesNothing is = λ p has. has
+act-ending m port words (acts.Gives client to into count) is =
+    same-ending (world m) _ (all-same (world m) (changes_of (world m) (path m) port words (acts.Gives client to into count)) (refl, (refl, (refl, tt))))
+act-ending m port words (acts.Fills client) is =
+    same-ending (world m) _ (all-same (world m) (changes_of (world m) (path m) port words (acts.Fills client)) (refl, tt))
+act-ending m port words (acts.Passes client) is =
+    same-ending (world m) _ (all-same (world m) (changes_of (world m) (path m) port words (acts.Passes client)) (refl, (refl, tt)))
