@@ -1,8 +1,9 @@
 -- Judged: the move of a thread that is judged.
-use Rattle.std.proofs.Common.{◌≡◌, ℕ, Bool, true, false, cond, ◌↔◌, IsTrue, IfOk, Result, Ok, Err, is_some, ◌&&◌, List, [], ◌∷◌, length, Option, Some, None, option_map, IsSome, IfSome, refl, sym, ap, subst, ◌∙◌}
+use Rattle.std.proofs.Common.{◌≡◌, ◌≤◌, ℕ, Bool, true, false, cond, ◌↔◌, IsTrue, IfOk, Result, Ok, Err, is_some, ◌&&◌, List, [], ◌∷◌, length, Option, Some, None, option_map, IsSome, IfSome, refl, sym, ap, subst, ◌∙◌}
 use Rattle.fk_model.specs.declared.moves.Ask.{Ask}
 use Rattle.fk_model.specs.declared.moves.Ask.TheVariants as asks
 use Rattle.fk_model.specs.declared.moves.Move.{Move}
+use Rattle.fk_model.specs.declared.moves.Said as moves_of
 use Rattle.fk_model.specs.declared.names.Who.{Who}
 use Rattle.fk_model.specs.declared.stage.Stage.{Stage}
 use Rattle.fk_model.specs.declared.thread.Mode as modes_of
@@ -11,14 +12,14 @@ use Rattle.fk_model.specs.declared.thread.Thread as threads_of
 use Rattle.fk_model.specs.Calls.{todo_of}
 use Rattle.fk_model.specs.Holds.{is_free, is_porter, is_unheld}
 use Rattle.fk_model.specs.LinkRows.{user_at}
-use Rattle.fk_model.specs.Moves.{allowed_row, call_row, chooses, closed, with_pick, goes_on, user_move, porter_at, porter_move, outcome, step, GoesAllowed, stepped}
+use Rattle.fk_model.specs.Moves.{allowed_row, call_row, chooses, closed, with_pick, goes_on, user_move, porter_at, porter_move, outcome, step, GoesAllowed, Step, stepped}
 use Rattle.fk_model.specs.Objects.{Mode, Thread, Body, kind_of, thread_of, and_then, holds}
 use Rattle.fk_model.specs.Objects.Mode.{Running, Calling, Halted, Native}
 use Rattle.fk_model.specs.Outcomes as outcomes
 use Rattle.fk_model.specs.Outcomes.{Outcome, when}
 use Rattle.fk_model.specs.Outcomes.Outcome.{Refused, Waits, Goes}
 use Rattle.fk_model.specs.Places.{Path, parent}
-use Rattle.fk_model.specs.Valid.{kind_there}
+use Rattle.fk_model.specs.Valid.{kind_there, IsValid}
 use Rattle.fk_model.specs.World.{World}
 use Rattle.fk_readers.specs.declared.caller.Caller.{Caller}
 use Rattle.fk_plans.specs.declared.plan.Effect.{Effect}
@@ -39,11 +40,14 @@ use Rattle.fk_store.specs.Threads.{todo_of_mode, todo_of_thread, todo_at, is_fre
 use Rattle.fk_store.specs.World.{world}
 use Rattle.fk_user.specs.Effects.{IsInstruction}
 use Rattle.fk_user.specs.Running.{run_at, run_of_thread, run_in_mode}
+use Rattle.fk_endings.specs.Clients.{IsEnding}
+use Rattle.fk_endings.specs.Endings.{IsLeft}
+use Rattle.fk_endings.proofs.Verdicts.{verdict-ending}
 use Rattle.fk_calls.specs.declared.judging.Judgement.{Judgement}
 use Rattle.fk_calls.specs.Doings.{IsAtStage, is_free_porter_at}
 use Rattle.fk_calls.specs.Rows.{takes_memory, first_takes_memory}
-use Rattle.fk_calls.specs.Judgements.{words_of, outcome_of, IsJudged, IsMoving, IsReadyMove, IsRun}
-use Rattle.fk_model.specs.Searches.{thread_at}
+use Rattle.fk_calls.specs.Judgements.{words_of, outcome_of, IsJudged, IsMoving, IsReadyMove, IsRun, IsStepTo, IsEnded}
+use Rattle.fk_model.specs.Searches.{depth, thread_at}
 
 -- ---- the machine's move of a free user
 
@@ -170,7 +174,6 @@ instruction_judged m move v free running row fits instruction sure =
     let pick = picked_by (path m) move.pick in
     let whole = picked_unrefused c pick _ (instruction_unrefused m w (path m) c v instruction) in
     record {
-      act = refl;
       mover = refl;
       free = λ u. free;
       fits = fits;
@@ -191,7 +194,6 @@ stage_judged m move stage v free at row fits sure =
     let c = caller_by (path m) (user move.who) [] in
     let pick = picked_by (path m) move.pick in
     record {
-      act = refl;
       mover = refl;
       free = λ u. free;
       fits = fits;
@@ -222,7 +224,6 @@ porter_judged m move stage words v free long row fits sure =
     let c = caller_by (path m) (porter move.who) words in
     let pick = picked_by (path m) move.pick in
     record {
-      act = refl;
       mover = refl;
       free = λ u. absurd (cc);
       fits = fits;
@@ -256,8 +257,7 @@ step_judged m move ask j is ready =
     let x = place (path m) move.who in
     let c = caller_by (path m) j.caller (words_of ask) in
     let pick = picked_by (path m) move.pick in
-    let goes : GoesAllowed w x (outcome_of m move ask) = subst (λ native. cond native ⊥ (GoesAllowed w x (outcome_of m move ask))) is.act ready in
-    ap (stepped w) (is.outcome ∙ picked c j.chooses pick (outcome_by w (path m) c j.verdict) w x (subst (GoesAllowed w x) is.outcome goes))
+    ap (stepped w) (is.outcome ∙ picked c j.chooses pick (outcome_by w (path m) c j.verdict) w x (subst (GoesAllowed w x) is.outcome ready))
 
 -- an instruction with this effect makes it
 pub run_judged : (m : Contents) (move : Move) (ask : Ask) (e : Effect) → IsRun m move ask e → IsReadyMove m move ask →
@@ -286,17 +286,12 @@ pub ready_judged : (m : Contents) (move : Move) (ask : Ask) (j : Judgement) (b :
     IsJudged m move ask j → (IsTrue b ↔ GoesAllowed (world m) (place (path m) j.caller.who) (move_by m j.caller (words_of ask) j.chooses move.pick j.verdict)) →
     IsTrue b ↔ IsReadyMove m move ask
 ready_judged m move ask j b is h =
-    subst (λ native. IsTrue b ↔ cond native ⊥ (GoesAllowed (world m) (place (path m) move.who) (outcome_of m move ask))) (sym is.act)
-    (subst (λ o. IsTrue b ↔ GoesAllowed (world m) (place (path m) move.who) o) (sym is.outcome)
-    (subst (λ who. IsTrue b ↔ GoesAllowed (world m) (place (path m) who) (move_by m j.caller (words_of ask) j.chooses move.pick j.verdict)) is.mover h))
+    subst (λ o. IsTrue b ↔ GoesAllowed (world m) (place (path m) move.who) o) (sym is.outcome)
+    (subst (λ who. IsTrue b ↔ GoesAllowed (world m) (place (path m) who) (move_by m j.caller (words_of ask) j.chooses move.pick j.verdict)) is.mover h)
 
 -- a move that comes to nothing is never ready
 pub never_ready : (m : Contents) (move : Move) (ask : Ask) → outcome_of m move ask ≡ Waits → IsReadyMove m move ask → ⊥
-never_ready m move asks.Run waits ready = rw waits at ready
-never_ready m move (asks.Call stage words) waits ready = rw waits at ready
-never_ready m move asks.Accept waits ready = ready
-never_ready m move (asks.Give words len) waits ready = ready
-never_ready m move asks.Over waits ready = ready
+never_ready m move ask waits ready = rw waits at ready
 
 pub iff_never : (m : Contents) (move : Move) (ask : Ask) → (IsReadyMove m move ask → ⊥) → IsTrue false ↔ IsReadyMove m move ask
 iff_never m move ask never = ((λ h. absurd (cc)), (λ ready. absurd (never ready)))
@@ -323,3 +318,19 @@ porter_there w x free = by (w.body x) free
 pub if_ok : {A B : Type 0} {P Q : A → Type 0} → (r : Result A B) → ((a : A) → P a → Q a) → IfOk r P → IfOk r Q
 if_ok (Ok a) f h = f a h
 if_ok (Err e) f h = tt
+
+-- a move that is made ends no more than its verdict
+pub ended_judged : (m n : Contents) (move : Move) (ask : Ask) (j : Judgement) (said : moves_of.Said) (port : Option Path) →
+    IsJudged m move ask j → IsReadyMove m move ask → IsStepTo m move ask n said →
+    (let c = caller_by (path m) j.caller (words_of ask) in
+    IsEnding (world m) (stepped (world m) (closed c (outcome_by (world m) (path m) c j.verdict))).world port) → IsEnding (world m) (world n) port
+ended_judged m n move ask j said port is ready made ends =
+    subst (λ (s : Step). IsEnding (world m) s.world port) (sym (step_judged m move ask j is ready) ∙ made) ends
+
+-- and nobody's talk, where that is so
+pub quiet_judged : (m n : Contents) (move : Move) (ask : Ask) (j : Judgement) (said : moves_of.Said) → IsValid (world m) → (world m).next ≤ depth →
+    IsLeft (world m) (path m) j.verdict None → IsJudged m move ask j → IsReadyMove m move ask × IsStepTo m move ask n said → IsEnded m n None
+quiet_judged m n move ask j said valid few left is made = record {
+  ending = ended_judged m n move ask j said None is made.0 made.1 (verdict-ending m j.caller (words_of ask) valid few j.verdict None is.fits left);
+  apart = tt;
+}

@@ -1,15 +1,17 @@
 -- Judgements: the move that a judgement stands for.
-use Rattle.std.specs.Prelude.{◌≡◌, ℕ, Bool, true, false, List, [], length}
+use Rattle.std.specs.Prelude.{◌≡◌, ℕ, Bool, true, false, List, [], length, Option, option_map}
 use Rattle.fk_model.specs.declared.moves.Ask.{Ask}
 use Rattle.fk_model.specs.declared.moves.Ask.TheVariants as asks
 use Rattle.fk_model.specs.declared.moves.Move.{Move}
 use Rattle.fk_model.specs.declared.moves.Said.{Said}
-use Rattle.fk_model.specs.Moves.{outcome, step}
+use Rattle.fk_model.specs.declared.names.Who.{Who}
+use Rattle.fk_model.specs.Moves.{outcome, step, IsReady}
 use Rattle.fk_model.specs.Outcomes.{Outcome}
 use Rattle.fk_model.specs.Valid.{is_fit}
 use Rattle.fk_store.specs.Contents.{Contents}
 use Rattle.fk_store.specs.Moves.{picked_by, said_by}
-use Rattle.fk_store.specs.Paths.{path, place}
+use Rattle.fk_store.specs.Named.{Each}
+use Rattle.fk_store.specs.Paths.{path, place, HasOwnPath}
 use Rattle.fk_store.specs.Threads.{is_free_at}
 use Rattle.fk_store.specs.World.{world}
 use Rattle.fk_plans.specs.declared.plan.Effect.{Effect}
@@ -17,8 +19,8 @@ use Rattle.fk_plans.specs.declared.plan.Moving.{Moving}
 use Rattle.fk_plans.specs.declared.plan.Verdict.TheVariants as verdicts
 use Rattle.fk_plans.specs.Movings.{verdict_of}
 use Rattle.fk_plans.specs.Verdicts.{IsVerdict, IsSureVerdict, move_by}
+use Rattle.fk_endings.specs.Clients.{IsEnding}
 use Rattle.fk_calls.specs.declared.judging.Judgement.{Judgement}
-use Rattle.fk_calls.specs.Acts.{is_native_act, IsReadyFor}
 use Rattle.fk_calls.specs.Rows.{may_want_memory}
 
 -- the words that a porter gives; a user gives none
@@ -33,7 +35,6 @@ outcome_of m move ask = outcome (world m) (place (path m) move.who) (picked_by (
 -- the move of a free user or porter comes to what this judgement says, which can be carried out, and takes memory only
 -- where the move may want it. A porter gives 64 words
 pub record IsJudged (m : Contents) (move : Move) (ask : Ask) (j : Judgement) : Type 0 where
-  pub act : is_native_act ask ≡ false
   pub mover : j.caller.who ≡ move.who
   pub free : j.caller.is_porter ≡ false → is_free_at (world m) (place (path m) move.who) ≡ true
   pub outcome : outcome_of m move ask ≡ move_by m j.caller (words_of ask) j.chooses move.pick j.verdict
@@ -54,7 +55,7 @@ IsMoving m move ask words =
 
 -- a move is ready
 abbrev pub IsReadyMove : Contents → Move → Ask → Type 0
-IsReadyMove m move ask = IsReadyFor (world m) (place (path m) move.who) (picked_by (path m) move.pick) ask
+IsReadyMove m move ask = IsReady (world m) (place (path m) move.who) (picked_by (path m) move.pick) ask
 
 -- a move is fit
 abbrev pub is_fit_move : Contents → Move → Ask → Bool
@@ -64,6 +65,12 @@ is_fit_move m move ask = is_fit (world m) (place (path m) move.who) ask
 abbrev pub IsStepTo : Contents → Move → Ask → Contents → Said → Type 0
 IsStepTo m move ask n said =
     step (world m) (place (path m) move.who) (picked_by (path m) move.pick) ask ≡ record { world = world n; said = said_by (path n) said }
+
+-- from what one store holds to what another does this port's native server has lost its client, and no other has; the port
+-- has a path of its own
+pub record IsEnded (m n : Contents) (port : Option Who) : Type 0 where
+  pub ending : IsEnding (world m) (world n) (option_map (place (path m)) port)
+  pub apart : Each (HasOwnPath (path m)) port
 
 -- a move may want memory, for an object or a page
 abbrev pub may_lack : Contents → Move → Ask → Bool

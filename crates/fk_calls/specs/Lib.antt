@@ -1,5 +1,4 @@
 pub mod Rows
 pub mod Doings
-pub mod Acts
 pub mod Judgements
 pub mod Choices

@@ -10,6 +10,7 @@ ghost use Rattle.fk_store.specs.Bodies.{mode_by, thread_by};
 ghost use Rattle.fk_store.specs.Paths.{path, place};
 ghost use Rattle.fk_store.specs.Threads.{is_free_at};
 ghost use Rattle.fk_store.specs.World.{world, IsSpace};
+ghost use Rattle.fk_acts.specs.Acts.{is_act};
 ghost use Rattle.fk_calls.specs.Doings.{IsAtStage};
 ghost use Rattle.fk_calls.specs.Judgements.{IsJudged, IsMoving, IsReadyMove, outcome_of, words_of};
 ghost use Rattle.fk_calls.specs.Rows.{are_given, are_given_for};
@@ -29,9 +30,10 @@ pub struct Judgement {
     pub verdict: Verdict,
 }
 
-/// What a move comes to; none where it is never ready. Servers don't move as yet.
+/// What the move of a user or a porter comes to; none where it is never ready.
 pub fn judge(store: &Store, m: &Move, ask: &Ask) -> Option<Judgement>
     requires valid { IsValid (world store.now) }
+    requires thread { is_act ask.now ≡ false }
     requires words { are_given_for ask.now ≡ true }
     ensures judged { IfSome result (λ judgement. IsJudged store.now m.now ask.now judgement) }
     ensures never { IfNone result (IsReadyMove store.now m.now ask.now → ⊥) }
@@ -39,7 +41,7 @@ pub fn judge(store: &Store, m: &Move, ask: &Ask) -> Option<Judgement>
     match ask {
         Ask::Run => judge_user(store, m),
         Ask::Call { stage, words } => judge_porter(store, m, stage, words),
-        Ask::Accept | Ask::Give { .. } | Ask::Over => None,
+        Ask::Accept | Ask::Give { .. } | Ask::Over => unreachable!(),
     }
 }
 

@@ -1,12 +1,12 @@
-//! Calls: which move of a user or a porter is ready, and making it.
+//! Calls: which move of a user, a porter or a native server is ready, and making it.
 //!
 //! It stands on the crates of rows, each of which judges stages, on `fk_user`, which judges
-//! instructions, and on `fk_plans`, which says when a verdict is ready and carries it out. Here is
+//! instructions, on `fk_plans`, which says when a verdict is ready and carries it out, on `fk_acts` for
+//! native servers, and on `fk_endings` for whose client is lost. Here is
 //! the one match from a stage to its judge. It promises that `ready` answers exactly whether the
 //! abstract machine is ready to make a move, that `take` makes of the store's world what the machine
-//! makes of it, that `attempt` does both, judging once, that `is_fit` tells which moves may be made
-//! at all, and that `may_pick` tells whom a user may pick. Servers don't move as yet: no
-//! act of a native server is ready.
+//! makes of it, that `attempt` does both, judging once, and tells which native server lost its client,
+//! that `is_fit` tells which moves may be made at all, and that `may_pick` tells whom a user may pick.
 #![tactic(auto)]
 
 mod doing;
@@ -17,5 +17,5 @@ mod picking;
 mod rows;
 
 pub use fitting::is_fit;
-pub use moves::{attempt, ready, take};
+pub use moves::{Told, attempt, ready, take};
 pub use picking::{Picks, may_pick};

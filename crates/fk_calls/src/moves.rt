@@ -6,13 +6,15 @@ ghost use Rattle.fk_model.specs.Searches.{thread_at};
 ghost use Rattle.fk_plans.specs.Effects.{effect_by, of_running};
 ghost use Rattle.fk_store.specs.Paths.{path, place};
 ghost use Rattle.fk_store.specs.World.{world};
-ghost use Rattle.fk_calls.specs.Judgements.{is_fit_move, IsMoving, IsReadyMove, IsRun, IsStepTo, may_lack};
+ghost use Rattle.fk_acts.specs.Acts.{is_act};
+ghost use Rattle.fk_calls.specs.Judgements.{is_fit_move, IsEnded, IsMoving, IsReadyMove, IsRun, IsStepTo, may_lack};
 ghost use Rattle.fk_calls.specs.Rows as stages;
 ghost use Rattle.fk_calls.specs.Rows.{are_given_for};
 
 use crate::judging::{given, judge, moving_of, running};
 use crate::rows::restores;
-use fk_model::{Ask, Move, NoMemory, Said, Stage};
+use fk_endings::ended_by;
+use fk_model::{Ask, Move, NoMemory, Said, Stage, Who};
 use fk_plans::{
     Caller, Effect, Moving, carry_out, is_effect_ready, is_moving_ready, is_ready, make_effect,
     move_words,
@@ -20,20 +22,45 @@ use fk_plans::{
 use fk_store::Store;
 use fk_user::Instruction;
 
+/// What a move tells, and the port whose native server lost its client by it, if one did.
+#[derive(Clone, Copy)]
+pub struct Told {
+    pub said: Said,
+    pub ended: Option<Who>,
+}
+
 /// Whether a move is ready. It may name what isn't there, which is never ready. It needn't be fit.
 pub fn ready(store: &Store, m: &Move, ask: &Ask) -> bool
     requires valid { IsValid (world store.now) }
     ensures { IsTrue result ↔ IsReadyMove store.now m.now ask.now }
 {
     match ask {
+        Ask::Run => ready_user(store, m),
         Ask::Call { stage, .. } => {
             if restores(stage) {
                 return may_restore(store, m, stage);
             }
             ready_given(store, m, ask)
         }
-        Ask::Run | Ask::Accept | Ask::Give { .. } | Ask::Over => ready_given(store, m, ask),
+        Ask::Accept | Ask::Give { .. } | Ask::Over => fk_acts::ready(store, m, ask),
     }
+}
+
+/// Whether a user's move is ready. Most are instructions. They need no judgement, which is large.
+fn ready_user(store: &Store, m: &Move) -> bool
+    requires valid { IsValid (world store.now) }
+    ensures { IsTrue result ↔ IsReadyMove store.now m.now asks.Run }
+{
+    if let Some(thread) = running(store, m.who, &Ask::Run) {
+        let caller = Caller {
+            who: m.who,
+            is_porter: false,
+        };
+        if let Instruction::Runs(effect) = fk_user::instruction(store, caller, thread) {
+            return is_effect_ready(store, caller, m.pick, &effect);
+        }
+    }
+    ready_given(store, m, &Ask::Run)
 }
 
 /// Whether a porter's move that makes a talk or a fault again is ready. It is so whatever words the
@@ -53,6 +80,7 @@ fn may_restore(store: &Store, m: &Move, stage: &Stage) -> bool
 /// Whether a move is ready for which a porter's words are in range.
 fn ready_given(store: &Store, m: &Move, ask: &Ask) -> bool
     requires valid { IsValid (world store.now) }
+    requires thread { is_act ask.now ≡ false }
     requires words { are_given_for ask.now ≡ true }
     ensures { IsTrue result ↔ IsReadyMove store.now m.now ask.now }
 {
@@ -62,17 +90,22 @@ fn ready_given(store: &Store, m: &Move, ask: &Ask) -> bool
     }
 }
 
-/// Makes a move where it is ready, and gives what it tells; none where it isn't, and then all stays
-/// as it is. It is fit. For want of memory all stays as it was; a stage that makes an object or a page
-/// may want it.
-pub fn attempt(store: &mut Store, m: &Move, ask: &Ask) -> Result<Option<Said>, NoMemory>
+/// Makes a move where it is ready, and gives what it tells, and the port whose native server lost its
+/// client by it; none where it isn't ready, and then all stays as it is. It is fit. For want of memory all stays as
+/// it was; a stage that makes an object or a page may want it.
+pub fn attempt(store: &mut Store, m: &Move, ask: &Ask) -> Result<Option<Told>, NoMemory>
     requires valid { IsValid (world store.old) }
     requires fit { is_fit_move store.old m.now ask.now ≡ true }
-    ensures made { IfOk result (λ tried. IfSome tried (λ said. IsReadyMove store.old m.now ask.now × IsStepTo store.old m.now ask.now store.new said)) }
+    ensures made { IfOk result (λ tried. IfSome tried (λ told. IsReadyMove store.old m.now ask.now × IsStepTo store.old m.now ask.now store.new told.said)) }
+    ensures ended { IfOk result (λ tried. IfSome tried (λ told. IsEnded store.old store.new told.ended)) }
     ensures unready { IfOk result (λ tried. IfNone tried ((IsReadyMove store.old m.now ask.now → ⊥) × (store.new ≡ store.old))) }
     ensures lacking { OnErr result (IsReadyMove store.old m.now ask.now × (store.new ≡ store.old)) }
     ensures sure { may_lack store.old m.now ask.now ≡ false → IsOk result }
 {
+    match ask {
+        Ask::Accept | Ask::Give { .. } | Ask::Over => return Ok(attempt_act(store, m, ask)),
+        Ask::Run | Ask::Call { .. } => {}
+    }
     // Most moves are instructions. They need no judgement, which is large.
     if let Some(thread) = running(store, m.who, ask) {
         let caller = Caller {
@@ -92,6 +125,20 @@ pub fn attempt(store: &mut Store, m: &Move, ask: &Ask) -> Result<Option<Said>, N
     attempt_judged(store, m, ask)
 }
 
+/// The same, of an act of a native server.
+fn attempt_act(store: &mut Store, m: &Move, ask: &Ask) -> Option<Told>
+    requires valid { IsValid (world store.old) }
+    requires act { is_act ask.now ≡ true }
+    ensures made { IfSome result (λ told. IsReadyMove store.old m.now ask.now × IsStepTo store.old m.now ask.now store.new told.said) }
+    ensures ended { IfSome result (λ told. IsEnded store.old store.new told.ended) }
+    ensures unready { IfNone result ((IsReadyMove store.old m.now ask.now → ⊥) × (store.new ≡ store.old)) }
+{
+    match fk_acts::attempt(store, m, ask) {
+        Some(said) => Some(Told { said, ended: None }),
+        None => None,
+    }
+}
+
 /// The same, of an instruction with this effect on these registers at this counter.
 #[inline(always)]
 fn attempt_effect(
@@ -101,12 +148,14 @@ fn attempt_effect(
     registers: [u64; 16],
     counter: u64,
     effect: Effect,
-) -> Option<Said>
+) -> Option<Told>
+    requires valid { IsValid (world store.old) }
     requires judged { IsRun store.old m.now ask.now effect }
     requires at { of_running (effect_by (world store.old) (path store.old) (place (path store.old) m.now.who) effect)
         (thread_at (world store.old) (place (path store.old) m.now.who))
         ≡ effect_by (world store.old) (path store.old) (place (path store.old) m.now.who) effect registers counter }
-    ensures made { IfSome result (λ said. IsReadyMove store.old m.now ask.now × IsStepTo store.old m.now ask.now store.new said) }
+    ensures made { IfSome result (λ told. IsReadyMove store.old m.now ask.now × IsStepTo store.old m.now ask.now store.new told.said) }
+    ensures ended { IfSome result (λ told. IsEnded store.old store.new told.ended) }
     ensures unready { IfNone result ((IsReadyMove store.old m.now ask.now → ⊥) × (store.new ≡ store.old)) }
 {
     let caller = Caller {
@@ -116,14 +165,20 @@ fn attempt_effect(
     if !is_effect_ready(store, caller, m.pick, &effect) {
         return None;
     }
+    store.names();
     make_effect(store, m.who, registers, counter, effect);
-    Some(Said::Nothing)
+    Some(Told {
+        said: Said::Nothing,
+        ended: None,
+    })
 }
 
 /// The same, of words that go to a thread that receives them.
-fn attempt_moving(store: &mut Store, m: &Move, ask: &Ask, moving: &Moving) -> Option<Said>
+fn attempt_moving(store: &mut Store, m: &Move, ask: &Ask, moving: &Moving) -> Option<Told>
+    requires valid { IsValid (world store.old) }
     requires judged { IsMoving store.old m.now ask.now moving.now }
-    ensures made { IfSome result (λ said. IsReadyMove store.old m.now ask.now × IsStepTo store.old m.now ask.now store.new said) }
+    ensures made { IfSome result (λ told. IsReadyMove store.old m.now ask.now × IsStepTo store.old m.now ask.now store.new told.said) }
+    ensures ended { IfSome result (λ told. IsEnded store.old store.new told.ended) }
     ensures unready { IfNone result ((IsReadyMove store.old m.now ask.now → ⊥) × (store.new ≡ store.old)) }
 {
     let caller = Caller {
@@ -133,15 +188,21 @@ fn attempt_moving(store: &mut Store, m: &Move, ask: &Ask, moving: &Moving) -> Op
     if !is_moving_ready(store, caller, m.pick, moving) {
         return None;
     }
+    store.names();
     move_words(store, caller, moving);
-    Some(Said::Nothing)
+    Some(Told {
+        said: Said::Nothing,
+        ended: None,
+    })
 }
 
-/// The same, of any move. It is judged once.
-fn attempt_judged(store: &mut Store, m: &Move, ask: &Ask) -> Result<Option<Said>, NoMemory>
+/// The same, of any move of a user or a porter. It is judged once.
+fn attempt_judged(store: &mut Store, m: &Move, ask: &Ask) -> Result<Option<Told>, NoMemory>
     requires valid { IsValid (world store.old) }
+    requires thread { is_act ask.now ≡ false }
     requires fit { is_fit_move store.old m.now ask.now ≡ true }
-    ensures made { IfOk result (λ tried. IfSome tried (λ said. IsReadyMove store.old m.now ask.now × IsStepTo store.old m.now ask.now store.new said)) }
+    ensures made { IfOk result (λ tried. IfSome tried (λ told. IsReadyMove store.old m.now ask.now × IsStepTo store.old m.now ask.now store.new told.said)) }
+    ensures ended { IfOk result (λ tried. IfSome tried (λ told. IsEnded store.old store.new told.ended)) }
     ensures unready { IfOk result (λ tried. IfNone tried ((IsReadyMove store.old m.now ask.now → ⊥) × (store.new ≡ store.old))) }
     ensures lacking { OnErr result (IsReadyMove store.old m.now ask.now × (store.new ≡ store.old)) }
     ensures sure { may_lack store.old m.now ask.now ≡ false → IsOk result }
@@ -153,7 +214,11 @@ fn attempt_judged(store: &mut Store, m: &Move, ask: &Ask) -> Result<Option<Said>
     if !is_ready(store, j.caller, j.chooses, m.pick, &j.verdict) {
         return Ok(None);
     }
-    Ok(Some(carry_out(store, j.caller, given(ask), &j.verdict)?))
+    let ended = ended_by(store, j.caller, &j.verdict);
+    Ok(Some(Told {
+        said: carry_out(store, j.caller, given(ask), &j.verdict)?,
+        ended,
+    }))
 }
 
 /// Makes a move, which is ready and fit, and gives what it tells. For want of memory all stays as it was;
@@ -167,7 +232,7 @@ pub fn take(store: &mut Store, m: &Move, ask: &Ask) -> Result<Said, NoMemory>
     ensures sure { may_lack store.old m.now ask.now ≡ false → IsOk result }
 {
     match attempt(store, m, ask)? {
-        Some(said) => Ok(said),
+        Some(told) => Ok(told.said),
         None => unreachable!(),
     }
 }

@@ -11,6 +11,7 @@ use Rattle.fk_store.specs.Contents.{Contents}
 use Rattle.fk_store.specs.Moves.{picked_by}
 use Rattle.fk_store.specs.Paths.{path, place}
 use Rattle.fk_store.specs.World.{world}
+use Rattle.fk_calls.specs.declared.moves.Told.{Told}
 use Rattle.fk_calls.specs.Judgements.{is_fit_move, IsStepTo}
 
 module _ (m n : Contents) (move : Move) (ask : Ask) (valid : IsValid (world m)) (few : (world m).next ≤ depth) (fit : is_fit_move m move ask ≡ true) where
@@ -27,9 +28,9 @@ module _ (m n : Contents) (move : Move) (ask : Ask) (valid : IsValid (world m)) 
   kept-step (Err e) is same = kept-same same
 
   -- and a move that is tried
-  pub kept-tried : {E : Type 0} (R N : Type 0) (r : Result (Option Said) E) →
-      IfOk r (λ tried. IfSome tried (λ said. R × IsStepTo m move ask n said)) →
+  pub kept-tried : {E : Type 0} (R N : Type 0) (r : Result (Option Told) E) →
+      IfOk r (λ tried. IfSome tried (λ told. R × IsStepTo m move ask n told.said)) →
       IfOk r (λ tried. IfNone tried (N × (n ≡ m))) → OnErr r (R × (n ≡ m)) → IsValid (world n)
   kept-tried R N (Ok None) made same lacking = kept-same same.1
-  kept-tried R N (Ok (Some said)) made same lacking = kept-made said made.1
+  kept-tried R N (Ok (Some told)) made same lacking = kept-made told.said made.1
   kept-tried R N (Err e) made same lacking = kept-same lacking.1

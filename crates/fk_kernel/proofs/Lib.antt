@@ -1,3 +1,4 @@
 mod Scans
 mod Kept
+mod Endings
 pub mod Promises

@@ -1,5 +1,5 @@
 -- Promises: what the laws of state and holds say of a kernel's steps.
-use Rattle.std.proofs.Common.{◌≡◌, true, false, cond, Option, Some, None, Result, Ok, Err, IsSome, IfOk, IfSome, IfNone, refl, sym, subst}
+use Rattle.std.proofs.Common.{◌≡◌, true, Option, Some, None, Result, Ok, Err, IsSome, IfOk, IfSome, IfNone, refl}
 use Rattle.fk_model.specs.declared.moves.Ask.{Ask}
 use Rattle.fk_model.specs.declared.moves.Move.{Move}
 use Rattle.fk_model.specs.declared.moves.Said.{Said}
@@ -11,19 +11,11 @@ use Rattle.fk_store.specs.Contents.{Contents}
 use Rattle.fk_store.specs.Moves.{picked_by, said_by}
 use Rattle.fk_store.specs.Paths.{path, place}
 use Rattle.fk_store.specs.World.{world}
-use Rattle.fk_calls.specs.Acts.{is_native_act}
+use Rattle.fk_calls.specs.declared.moves.Told.{Told}
 use Rattle.fk_calls.specs.Judgements.{is_fit_move, IsReadyMove, IsStepTo}
 use Rattle.laws_prompt.specs.Events.{IsPrompt, IsCorrect}
-use Rattle.laws_prompt.specs.Events.IsPrompt.{Gets, PorterGets, Holds, PorterHolds}
 use Rattle.laws_prompt.proofs.Events.{prompt_is_ready, correct_step}
 use Rattle.fk_kernel.specs.Events.{is_fit_event}
-
--- a prompt move is no act of a native server
-no_native_act : (w : World) (e : Event) → IsPrompt w e → is_native_act e.ask ≡ false
-no_native_act w _ (Gets space slot s x address at unbarred) = refl
-no_native_act w _ (PorterGets space slot s x address words at) = refl
-no_native_act w _ (Holds space slot s x at may) = refl
-no_native_act w _ (PorterHolds space slot s x words at may) = refl
 
 module _ (m : Contents) (move : Move) (ask : Ask) (born : path m ≡ space_born (world m)) where
   -- a fit event is a fit move
@@ -32,8 +24,7 @@ module _ (m : Contents) (move : Move) (ask : Ask) (born : path m ≡ space_born 
 
   -- a prompt move is ready
   pub prompt-ready : IsPrompt (world m) (event_of (world m) ask move) → IsReadyMove m move ask
-  prompt-ready prompt = subst (λ native. cond native ⊥ (IsReady (world m) (place (path m) move.who) (picked_by (path m) move.pick) ask))
-      (sym (no_native_act (world m) (event_of (world m) ask move) prompt)) (rw born (prompt_is_ready (world m) (event_of (world m) ask move) prompt))
+  prompt-ready prompt = rw born (prompt_is_ready (world m) (event_of (world m) ask move) prompt)
 
   -- a step is correct
   pub correct-made : (n : Contents) (said : Said) → IsStepTo m move ask n said →
@@ -41,18 +32,18 @@ module _ (m : Contents) (move : Move) (ask : Ask) (born : path m ≡ space_born 
   correct-made n said is =
       correct_step (world m) (event_of (world m) ask move) (world n) (said_by (path n) said) (rw born at is)
 
-  pub correct-tried : {E : Type 0} (n : Contents) (R : Type 0) (r : Result (Option Said) E) →
-      IfOk r (λ tried. IfSome tried (λ said. R × IsStepTo m move ask n said)) →
-      IfOk r (λ tried. IfSome tried (λ said. IsCorrect (world m) (event_of (world m) ask move) (world n) (said_by (path n) said)))
-  correct-tried n R (Ok (Some said)) made = correct-made n said made.1
+  pub correct-tried : {E : Type 0} (n : Contents) (R : Type 0) (r : Result (Option Told) E) →
+      IfOk r (λ tried. IfSome tried (λ told. R × IsStepTo m move ask n told.said)) →
+      IfOk r (λ tried. IfSome tried (λ told. IsCorrect (world m) (event_of (world m) ask move) (world n) (said_by (path n) told.said)))
+  correct-tried n R (Ok (Some told)) made = correct-made n told.said made.1
   correct-tried n R (Ok None) made = made
   correct-tried n R (Err e) made = made
 
   -- a prompt move that is tried is made
-  pub prompt-tried : {E : Type 0} (N : Type 0) (r : Result (Option Said) E) →
+  pub prompt-tried : {E : Type 0} (N : Type 0) (r : Result (Option Told) E) →
       IfOk r (λ tried. IfNone tried ((IsReadyMove m move ask → ⊥) × N)) →
       IsPrompt (world m) (event_of (world m) ask move) → IfOk r IsSome
-  prompt-tried N (Ok (Some said)) unready prompt = refl
+  prompt-tried N (Ok (Some told)) unready prompt = refl
   prompt-tried N (Ok None) unready prompt = absurd (unready.0 (prompt-ready prompt))
   prompt-tried N (Err e) unready prompt = unready
 

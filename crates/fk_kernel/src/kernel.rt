@@ -1,15 +1,18 @@
 //! The kernel.
-ghost use Rattle.std.specs.Prelude.{◌≡◌, ◌↔◌, true, false, IsTrue, IsOk, IfOk, IfSome, IfNone, IsSome, OnErr};
+ghost use Rattle.std.specs.Prelude.{◌≡◌, ◌↔◌, true, false, IsTrue, IsOk, IfOk, IfSome, IfNone, IsSome, OnErr, None, Some};
 ghost use Rattle.fk_model.specs.declared.moves.Ask.TheVariants as asks;
 ghost use Rattle.fk_model.specs.Valid.{IsValid};
-ghost use Rattle.fk_model.specs.Who.{event_of};
+ghost use Rattle.fk_model.specs.Who.{event_of, named};
 ghost use Rattle.fk_store.specs.Moves.{said_by};
 ghost use Rattle.fk_store.specs.Paths.{path, place};
 ghost use Rattle.fk_store.specs.World.{world};
 ghost use Rattle.fk_calls.specs.Judgements.{IsReadyMove};
 ghost use Rattle.laws_prompt.specs.Events.{IsPrompt, IsCorrect};
-ghost use Rattle.fk_kernel.specs.Events.{is_fit_event, IsReadyEvent, IsAnyReady, IsMoveReady, may_lack, step_of};
+ghost use Rattle.fk_model.specs.Endings.{has_ended};
+ghost use Rattle.fk_kernel.specs.Events as events;
+ghost use Rattle.fk_kernel.specs.Events.{is_fit_event, is_who, AreNamed, IsAcceptReady, IsAnyReady, IsIdleBetween, IsIdleUpTo, IsMoveReady, IsReadyEvent, may_lack, step_of};
 
+use fk_calls::Told;
 use fk_model::{Ask, Move, NoMemory, Said, Who};
 use fk_store::Store;
 use std::marker::Model;
@@ -51,7 +54,7 @@ impl Kernel {
     }
 
     /// Whether a move is ready. A move may name what isn't there, which is never ready, and needn't be
-    /// fit. Servers don't move as yet.
+    /// fit.
     pub fn ready(&self, m: &Move, ask: &Ask) -> bool
         ensures ready { IsTrue result ↔ IsReadyEvent (world self.now) (event_of (world self.now) ask.now m.now) }
         ensures prompt { IsPrompt (world self.now) (event_of (world self.now) ask.now m.now) → IsTrue result }
@@ -85,27 +88,31 @@ impl Kernel {
         fk_calls::take(&mut self.store, m, ask)
     }
 
-    /// Makes a move where it is ready, and gives what the move tells; none where it isn't, and then
-    /// all stays as it is. The move is fit. Only a stage that makes an object or a page may lack memory, and then too all stays as
-    /// it is.
-    pub fn attempt(&mut self, m: &Move, ask: &Ask) -> Result<Option<Said>, NoMemory>
+    /// Makes a move where it is ready, and gives what the move tells, and the port whose native server lost
+    /// its client by it, as it was named before; none where the move isn't ready, and then all stays as it is. The
+    /// move is fit. Only a stage that makes an object or a page may lack memory, and then too all stays as it is.
+    pub fn attempt(&mut self, m: &Move, ask: &Ask) -> Result<Option<Told>, NoMemory>
         requires fit { is_fit_event (world self.old) (event_of (world self.old) ask.now m.now) ≡ true }
-        ensures made { IfOk result (λ tried. IfSome tried (λ said.
+        ensures made { IfOk result (λ tried. IfSome tried (λ told.
             IsReadyEvent (world self.old) (event_of (world self.old) ask.now m.now)
             × (step_of (world self.old) (event_of (world self.old) ask.now m.now)
-            ≡ record { world = world self.new; said = said_by (path self.new) said }))) }
+            ≡ record { world = world self.new; said = said_by (path self.new) told.said }))) }
+        ensures ended { IfOk result (λ tried. IfSome tried (λ told. (port : Who) →
+            has_ended (world self.old) (world self.new) (named (world self.old) port) ≡ is_who told.ended port)) }
         ensures unready { IfOk result (λ tried. IfNone tried (
             (IsReadyEvent (world self.old) (event_of (world self.old) ask.now m.now) → ⊥)
             × (self.new ≡ self.old))) }
         ensures prompt { IsPrompt (world self.old) (event_of (world self.old) ask.now m.now) → IfOk result IsSome }
-        ensures correct { IfOk result (λ tried. IfSome tried (λ said.
+        ensures correct { IfOk result (λ tried. IfSome tried (λ told.
             IsCorrect (world self.old) (event_of (world self.old) ask.now m.now)
-            (world self.new) (said_by (path self.new) said))) }
+            (world self.new) (said_by (path self.new) told.said))) }
         ensures lacking { OnErr result (self.new ≡ self.old) }
         ensures done { may_lack (world self.old) (event_of (world self.old) ask.now m.now) ≡ false → IsOk result }
     {
         self.store.names();
-        fk_calls::attempt(&mut self.store, m, ask)
+        let tried = fk_calls::attempt(&mut self.store, m, ask);
+        self.store.names();
+        tried
     }
 
     /// A user's move that is ready. There is none exactly where no user's move is.
@@ -114,17 +121,45 @@ impl Kernel {
         ensures none { IfNone result (IsAnyReady (world self.old) → ⊥) }
         ensures same { self.new ≡ self.old }
     {
-        self.store.names();
-        self.first_ready()
+        self.next_after(None)
     }
 
-    /// The move of the first user that is ready, in the order of spaces and slots.
-    fn first_ready(&self) -> Option<Move>
-        ensures ready { IfSome result (λ m. IsReadyMove self.now m asks.Run) }
+    /// The same. It looks first at the users after this object in the order of spaces and slots, and then
+    /// from the first on, at each once.
+    pub fn next_after(&self, last: Option<Who>) -> Option<Move>
+        ensures ready { IfSome result (λ m. IsReadyEvent (world self.now) (event_of (world self.now) Ask.Run m)) }
         ensures none { IfNone result (IsAnyReady (world self.now) → ⊥) }
     {
-        let mut at = self.store.after(None);
+        self.store.names();
+        match self.ready_between(last, None) {
+            Some(m) => Some(m),
+            None => self.ready_up_to(last),
+        }
+    }
+
+    /// A ready move of a user among those up to an object.
+    fn ready_up_to(&self, last: Option<Who>) -> Option<Move>
+        ensures ready { IfSome result (λ m. IsReadyMove self.now m asks.Run) }
+        ensures none { IfNone result (IsIdleUpTo self.now last) }
+    {
+        match last {
+            Some(_) => self.ready_between(None, last),
+            None => None,
+        }
+    }
+
+    /// The move of the first user that is ready, in the order of spaces and slots, after an object and up
+    /// to another.
+    fn ready_between(&self, after: Option<Who>, last: Option<Who>) -> Option<Move>
+        ensures ready { IfSome result (λ m. IsReadyMove self.now m asks.Run) }
+        ensures none { IfNone result (IsIdleBetween self.now after last) }
+        ensures named { AreNamed self.now }
+    {
+        let mut at = self.store.after(after);
         while let Some(who) = at {
+            if is_past(who, last) {
+                return None;
+            }
             if let Some(m) = self.ready_move(who) {
                 return Some(m);
             }
@@ -143,5 +178,26 @@ impl Kernel {
             return Some(m);
         }
         fk_picks::ready_pick(&self.store, who)
+    }
+
+    /// Whom the native server of a port may accept: a thread at its connect there, or one whose talk waits
+    /// there. There is nobody exactly where no accept is ready.
+    pub fn ready_accept(&self, port: Who) -> Option<Who>
+        ensures ready { IfSome result (λ who. IsReadyEvent (world self.now)
+            (event_of (world self.now) Ask.Accept (record { who = port; pick = Some who }))) }
+        ensures none { IfNone result (IsAcceptReady (world self.now) (named (world self.now) port) → ⊥) }
+    {
+        self.store.names();
+        fk_picks::ready_accept(&self.store, port)
+    }
+}
+
+/// An object comes after another in the order of spaces and slots, where there is another.
+fn is_past(who: Who, last: Option<Who>) -> bool
+    ensures { result ≡ events.is_past who last }
+{
+    match last {
+        Some(last) => last < who,
+        None => false,
     }
 }

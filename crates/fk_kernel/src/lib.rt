@@ -5,13 +5,14 @@
 //! its store alone: a move names threads by birth numbers and slots, and `event_of` finds their paths
 //! in that world.
 //!
-//! It promises that `ready` answers exactly whether the abstract machine is ready to make a move,
-//! that `step` makes of the world what the machine makes of it and tells what the machine tells,
-//! that `attempt` does both at once, that `is_fit` tells which moves may be made at all, and that
-//! `next` finds a move of a user that is ready wherever there is one. Servers don't move as yet: no
-//! act of a native server is ready.
+//! It promises that `ready` answers exactly whether the abstract machine is ready to make a move, of a user,
+//! a porter or a native server, that `step` makes of the world what the machine makes of it and tells what
+//! the machine tells, that `attempt` does both at once, and tells the port whose native server lost its
+//! client by it, that `is_fit` tells which moves may be made at all, that `next` and `next_after` find a move
+//! of a user that is ready wherever there is one, and `ready_accept` whom a native server may accept.
 #![tactic(auto)]
 
 mod kernel;
 
+pub use fk_calls::Told;
 pub use kernel::Kernel;

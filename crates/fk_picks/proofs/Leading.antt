@@ -8,17 +8,18 @@ use Rattle.fk_model.specs.Searches.{pointers_to, thread_at}
 use Rattle.fk_model.proofs.walks.Members.{IsIn}
 use Rattle.fk_store.specs.Contents.{Contents}
 use Rattle.fk_store.specs.World.{world, place_of}
-use Rattle.fk_calls.proofs.Choices.{nobody_picked}
+use Rattle.fk_picks.specs.declared.moves.Picker.{Picker}
+use Rattle.fk_picks.proofs.Scans.{nobody}
 use Rattle.fk_picks.specs.Stands.{ComesBy, ConnectsBy, ConnectsByReference, IsPicked, StandsAt}
 use Rattle.fk_picks.specs.Stands.StandsAt.{Leads, Connects}
 use Rattle.fk_picks.proofs.Stands.{counted_first, some_hits}
 
 -- each object that leads there, and by which somebody is picked, is among these
-abbrev pub AreToCome : Contents → Who → Who → List Who → Type 0
+abbrev pub AreToCome : Contents → Picker → Who → List Who → Type 0
 AreToCome m me port whos = (y q : Path) → pointers_to (place_of m port) ((world m).body y) ≢ 0 →
     ComesBy (world m) y q → IsPicked m me q → (from : Who) × (place_of m from ≡ y) × IsIn from whos
 
-pub next_to_come : (m : Contents) (me port who : Who) (whos : List Who) → AreToCome m me port (who ∷ whos) →
+pub next_to_come : (m : Contents) (me : Picker) (port who : Who) (whos : List Who) → AreToCome m me port (who ∷ whos) →
     ((q : Path) → ComesBy (world m) (place_of m who) q → IsPicked m me q → ⊥) → AreToCome m me port whos
 next_to_come m me port who whos all none y q leads comes picked = let found = all y q leads comes picked in by found.0 found.1 found.2
   where
@@ -27,7 +28,7 @@ next_to_come m me port who whos all none y q leads comes picked = let found = al
     by from at (inr later) = (from, at, later)
 
 -- who stands at a port leads there, or connects by it or by what leads there
-pub stands_picked : (m : Contents) (me port : Who) (q : Path) → ((x : Path) → ConnectsBy (world m) (place_of m port) x → IsPicked m me x → ⊥) →
+pub stands_picked : (m : Contents) (me : Picker) (port : Who) (q : Path) → ((x : Path) → ConnectsBy (world m) (place_of m port) x → IsPicked m me x → ⊥) →
     ((y x : Path) → pointers_to (place_of m port) ((world m).body y) ≢ 0 → ComesBy (world m) y x → IsPicked m me x → ⊥) →
     StandsAt (world m) (place_of m port) q → IsPicked m me q → ⊥
 stands_picked m me port q own leading (Leads leads) picked = leading q q leads (inl refl) picked
@@ -40,18 +41,18 @@ stands_picked m me port q own leading (Connects h first (inr led)) picked =
 
 -- ---- what is a thread is no reference, and what is none isn't picked
 
-pub by_thread : (m : Contents) (me from : Who) (t : Thread) → Some t ≡ thread_at (world m) (place_of m from) → (IsPicked m me (place_of m from) → ⊥) →
+pub by_thread : (m : Contents) (me : Picker) (from : Who) (t : Thread) → Some t ≡ thread_at (world m) (place_of m from) → (IsPicked m me (place_of m from) → ⊥) →
     (q : Path) → ComesBy (world m) (place_of m from) q → IsPicked m me q → ⊥
 by_thread m me from t there none q (inl same) picked = none (subst (IsPicked m me) same picked)
 by_thread m me from t there none q (inr way) picked = let no = rw way.1 at there in absurd (cc)
 
-pub by_reference : (m : Contents) (me from : Who) → None ≡ thread_at (world m) (place_of m from) →
+pub by_reference : (m : Contents) (me : Picker) (from : Who) → None ≡ thread_at (world m) (place_of m from) →
     ((q : Path) → ConnectsByReference (world m) (place_of m from) q → IsPicked m me q → ⊥) →
     (q : Path) → ComesBy (world m) (place_of m from) q → IsPicked m me q → ⊥
-by_reference m me from nobody none q (inl same) picked =
+by_reference m me from none_there none q (inl same) picked =
     let here : IsPicked m me (place_of m from) = subst (IsPicked m me) same picked in
-    rw (nobody_picked (world m) (place_of m from) (sym nobody) (place_of m me)) at here
-by_reference m me from nobody none q (inr way) picked = none q way picked
+    absurd (nobody m me (place_of m from) (sym none_there) here)
+by_reference m me from none_there none q (inr way) picked = none q way picked
 
 -- ---- where no move is found
 

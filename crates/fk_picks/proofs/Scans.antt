@@ -1,5 +1,5 @@
 -- Scans: who is ready among all objects, from one object on.
-use Rattle.std.proofs.Common.{◌≡◌, ℕ, ◌+◌, ◌-◌, ◌*◌, true, IsTrue, IsSome, [], ◌∷◌, Option, Some, None, is_some, option_map, refl, sym, subst}
+use Rattle.std.proofs.Common.{◌≡◌, ℕ, ◌+◌, ◌-◌, ◌*◌, Bool, true, false, ◌&&◌, is_none, IsTrue, IsSome, [], ◌∷◌, Option, Some, None, is_some, option_map, refl, sym, subst}
 use Rattle.std.specs.declared.cmp.Ordering.{Ordering}
 use Rattle.std.specs.declared.cmp.Ordering.TheVariants.{Less, Equal, Greater}
 use Rattle.std.specs.Ordering.{is_le, nat_cmp, ordering_then}
@@ -15,7 +15,13 @@ use Rattle.fk_store.specs.Names.{who_cmp, rank}
 use Rattle.fk_store.specs.Orders.{IsFirstAfter}
 use Rattle.fk_store.specs.World.{world, place_of, IsLive}
 use Rattle.fk_calls.proofs.Choices.{nobody_picked}
+use Rattle.fk_model.specs.Moves.{outcome, GoesAllowed}
+use Rattle.fk_model.specs.NativeRows.{accept_row, accepts_found, is_serving_port}
+use Rattle.fk_model.specs.Outcomes.{when}
+use Rattle.fk_model.specs.Searches.{client_at}
 use Rattle.fk_picks.specs.Stands.{IsPicked}
+use Rattle.fk_picks.specs.declared.moves.Picker.{Picker}
+use Rattle.fk_picks.specs.declared.moves.Picker.TheVariants.{User, Server}
 
 -- ---- who is yet to come
 
@@ -76,6 +82,16 @@ pub rootless : (m : Contents) → thread_at (world m) [] ≡ None
 unfolding world
 rootless m = refl
 
+-- what is no thread is picked by nobody
+pub nobody : (m : Contents) (me : Picker) (q : Path) → thread_at (world m) q ≡ None → IsPicked m me q → ⊥
+unfolding outcome accept_row
+nobody m (User who) q none picked = rw (nobody_picked (world m) q none (place_of m who)) at picked
+nobody m (Server port) q none picked = by (is_serving_port (world m) (place_of m port) && is_none (client_at (world m) (place_of m port))) (rw none at picked)
+  where
+    by : (b : Bool) → GoesAllowed (world m) (place_of m port) (when b (accepts_found (world m) (place_of m port) q None)) → ⊥
+    by true ready = ready
+    by false ready = ready
+
 -- a name for each object
 abbrev pub AreNamed : Contents → Type 0
 AreNamed m = (k : ℕ) (s : Path) → IsSome (kind_there (world m) (k ∷ s)) → (other : Who) × (place_of m other ≡ k ∷ s)
@@ -85,18 +101,18 @@ pub record IsNamed (m : Contents) (q : Path) : Type 0 where
   pub at : place_of m who ≡ q
   pub live : IsLive m who
 
-pub picked_named : (m : Contents) (me : Who) (q : Path) → AreNamed m → IsPicked m me q → IsNamed m q
-picked_named m me [] named picked = absurd (rw (nobody_picked (world m) [] (rootless m) (place_of m me)) at picked)
+pub picked_named : (m : Contents) (me : Picker) (q : Path) → AreNamed m → IsPicked m me q → IsNamed m q
+picked_named m me [] named picked = absurd (nobody m me [] (rootless m) picked)
 picked_named m me (k ∷ s) named picked = by (thread_at (world m) (k ∷ s)) refl
   where
     by : (o : Option Thread) → thread_at (world m) (k ∷ s) ≡ o → IsNamed m (k ∷ s)
-    by None e = absurd (rw (nobody_picked (world m) (k ∷ s) e (place_of m me)) at picked)
+    by None e = absurd (nobody m me (k ∷ s) e picked)
     by (Some t) e =
         let some = thread_there (world m) (k ∷ s) t e in
         let other = named k s some in
         record { who = other.0; at = other.1; live = rw (other.1) some }
 
 -- so nobody else is picked
-pub nobody_to_pick : (m : Contents) (me : Who) → AreNamed m → IsAhead m (λ other. IsPicked m me (place_of m other)) None → (q : Path) → IsPicked m me q → ⊥
+pub nobody_to_pick : (m : Contents) (me : Picker) → AreNamed m → IsAhead m (λ other. IsPicked m me (place_of m other)) None → (q : Path) → IsPicked m me q → ⊥
 nobody_to_pick m me named none q picked =
     let who = picked_named m me q named picked in none who.who who.live (rw who.at picked)

@@ -1,23 +1,31 @@
 -- Stands: whom a wait may take stands at a port of its set.
-use Rattle.std.proofs.Common.{◌≡◌, ◌≢◌, nat_le, ◌<◌, inl, inr, ℕ, Bool, true, false, cond, ◌&&◌, List, [], ◌∷◌, ◌++◌, count_by, Option, Some, None, option_map, is_some, IsSome, Result, Ok, Err, refl, arith}
+use Rattle.std.proofs.Common.{◌≡◌, ◌≢◌, nat_le, ◌<◌, inl, inr, ℕ, Bool, true, false, cond, ◌&&◌, List, [], ◌∷◌, ◌++◌, count_by, Option, Some, None, option_map, is_some, IsSome, Result, Ok, Err, if◌then◌else◌, refl, ap, ◌∙◌, arith}
 use Rattle.std.proofs.lemmas.List.Sums.{sum_by-append, sum_by-cons}
 use Rattle.fk_model.specs.declared.names.Kind.TheVariants as kinds
 use Rattle.fk_model.specs.declared.stage.Stage.TheVariants.{Connect}
 use Rattle.fk_model.specs.Holds.{is_free, is_unheld}
-use Rattle.fk_model.specs.LinkRows.{Candidate, Faulting, Connecting, Resuming, candidate, candidate_by, connecting, faulting, resuming, if_read, is_member, is_open, is_parked, port_named, slot_in_set, user_at}
-use Rattle.fk_model.specs.Objects.{Mode, Talk, Fault, Thread, Body, and_then, or_else, thread_of, kind_of, same_kind}
+use Rattle.fk_model.specs.LinkRows.{new_talk, Candidate, Faulting, Connecting, Resuming, candidate, candidate_by, connecting, faulting, resuming, if_read, is_member, is_open, is_parked, port_named, slot_in_set, user_at}
+use Rattle.fk_model.specs.declared.thread.Turn.TheVariants as turns
+use Rattle.fk_model.specs.Moves.{GoesAllowed}
+use Rattle.fk_model.specs.NativeRows.{accepts_found, accepts_thread, connects_here, parked_here, takes_up}
+use Rattle.fk_model.specs.Objects.{Mode, Talk, Fault, Thread, Body, and_then, or_else, holds, thread_of, kind_of, same_kind}
+use Rattle.fk_model.specs.Objects.Peer.{Service}
 use Rattle.fk_model.specs.Objects.Body.{Port, Space, Thread_of, Reference}
 use Rattle.fk_model.specs.Objects.Mode.{Running, Calling, Halted, Native}
 use Rattle.fk_model.specs.Places.{Path, parent, slot_of, same_path, leads_to, Ptr}
 use Rattle.fk_model.specs.Places.Ptr.{Null, Dead, At, Out, Outside, Far}
 use Rattle.fk_model.specs.Readers.{and_read, handle, handled, led_to, is_kind, kind_at}
-use Rattle.fk_model.specs.Outcomes.{last_slot}
+use Rattle.fk_model.specs.Outcomes.{Outcome, last_slot, when}
+use Rattle.fk_model.specs.Outcomes.Outcome.{Goes}
+use Rattle.fk_model.specs.Outcomes.Said.{Taken}
 use Rattle.fk_model.specs.declared.statuses.status.TheConstants.{WRONGKIND, BADHANDLE}
 use Rattle.fk_model.proofs.walks.PlaceLaws.{same_path_refl}
 use Rattle.fk_model.specs.Searches.{pointers_to, talk_pointers, fault_pointers, option_list, peer_pointer, thread_at}
 use Rattle.fk_model.specs.Talks.{first_stage}
 use Rattle.fk_model.specs.Valid.{kind_there}
 use Rattle.fk_model.specs.World.{World}
+use Rattle.fk_model.specs.World.Change.{Alter}
+use Rattle.fk_model.specs.World.Edit.{Finish, SetTalk}
 use Rattle.fk_store.specs.Threads.{todo_at, todo_of_mode}
 use Rattle.fk_store.proofs.finding.Walks.{same_path_true}
 use Rattle.fk_links.specs.Connects.{connect_first}
@@ -179,15 +187,15 @@ module _ (w : World) (s : Path) (set : ℕ) (q : Path) (t : Thread) (root : kind
           let port = pointed (λ slot. Resuming slot talk) talk.port c (is_parked (Some talk.peer)) is in
           stands_by talk.port port (Leads (some_hits (rw body_here (talk_leads (port.slot ∷ s) t talk there port.at))))
 
-  connects_here : (h : ℕ) → connect_first (todo_of_mode t.mode) ≡ Some h → connect_first (todo_at w q) ≡ Some h
+  first_here : (h : ℕ) → connect_first (todo_of_mode t.mode) ≡ Some h → connect_first (todo_at w q) ≡ Some h
   unfolding todo_at
-  connects_here h is = rw here is
+  first_here h is = rw here is
 
   named_stands : (h k : ℕ) (p : Ptr) → connect_first (todo_of_mode t.mode) ≡ Some h → handle w (user_at q) kinds.Port h ≡ Ok p →
       slot_in_set w s set p ≡ Some k → StandsIn w s set q
   named_stands h k p first named is =
       let port = in_set w s set k p root is in
-      stands_by p port (Connects h (connects_here h first) (named_handle w (port.slot ∷ s) q h (rw port.at at named)))
+      stands_by p port (Connects h (first_here h first) (named_handle w (port.slot ∷ s) q h (rw port.at at named)))
 
   connecting_stands : (c : Candidate) → connecting w s set q t ≡ Some c → StandsIn w s set q
   connecting_stands c is = by t.mode refl (is_some t.talk) is
@@ -240,3 +248,81 @@ candidate_stands w s set q root some = by (is_unheld w (parent q)) (thread_at w 
     by true (Some t) here some = chosen t (candidate_by w s set q t) here refl some
     by true None here some = absurd (cc)
     by false o here some = absurd (cc)
+
+-- ---- whom a native server may accept
+
+-- a pointer that leads to a port is one to it
+leads_at : (port : Path) (p : Ptr) → leads_to port p ≡ true → p ≡ At port
+leads_at port (At x) is = ap At (same_path_true x port is)
+leads_at port Null is = absurd (cc)
+leads_at port Dead is = absurd (cc)
+leads_at port (Out slot) is = absurd (cc)
+leads_at port Outside is = absurd (cc)
+leads_at port Far is = absurd (cc)
+
+module _ (w : World) (port q : Path) (t : Thread) (here : thread_at w q ≡ Some t) where
+  thread_here : w.body q ≡ Some (Thread_of t)
+  thread_here = by (w.body q) here
+    where
+      by : (o : Option Body) → and_then thread_of o ≡ Some t → o ≡ Some (Thread_of t)
+      by (Some (Thread_of other)) here = let same : other ≡ t = cc in rw same refl
+      by (Some other) here = absurd (cc)
+      by None here = absurd (cc)
+
+  -- one at its connect to the port
+  accepted_connects : connects_here w port q t ≡ true → StandsAt w port q
+  unfolding todo_at
+  accepted_connects is = by t.mode refl (is_some t.talk) is
+    where
+      named : (h : ℕ) (r : Result Ptr ℕ) → connect_first (todo_of_mode t.mode) ≡ Some h → handle w (user_at q) kinds.Port h ≡ r →
+          holds (leads_to port) (if_read r) ≡ true → StandsAt w port q
+      named h (Ok p) first at leads = Connects h (rw here first) (named_handle w port q h (at ∙ ap Ok (leads_at port p leads)))
+      named h (Err status) first at leads = absurd (cc)
+
+      by : (m : Mode) → t.mode ≡ m → (b : Bool) →
+          holds (leads_to port) (cond {A = Option Ptr} b None (and_then (port_named w q) (first_stage m))) ≡ true → StandsAt w port q
+      by (Calling (Connect h ∷ todo) rest) e false is = named h (handle w (user_at q) kinds.Port h) (rw e refl) refl is
+      by (Calling (other ∷ todo) rest) e false is = absurd (cc)
+      by (Calling [] rest) e false is = absurd (cc)
+      by (Running g) e false is = absurd (cc)
+      by (Halted g code) e false is = absurd (cc)
+      by (Native g) e false is = absurd (cc)
+      by m e true is = absurd (cc)
+
+  -- one whose talk is parked there
+  accepted_parked : (talk : Talk) → parked_here port t ≡ Some talk → StandsAt w port q
+  accepted_parked talk is = by t.talk refl is
+    where
+      test : (other : Talk) (b : Bool) → t.talk ≡ Some other → (leads_to port other.port && is_parked (Some other.peer)) ≡ b →
+          cond {A = Option Talk} b (Some other) None ≡ Some talk → StandsAt w port q
+      test other true there e is =
+          let leads = leads_at port other.port (both_true (leads_to port other.port) (is_parked (Some other.peer)) e).0 in
+          Leads (some_hits (rw thread_here (talk_leads port t other there leads)))
+      test other false there e is = absurd (cc)
+
+      by : (o : Option Talk) → t.talk ≡ o →
+          and_then (λ (talk : Talk). if leads_to port talk.port && is_parked (Some talk.peer) then Some talk else None) o ≡ Some talk → StandsAt w port q
+      by None there is = absurd (cc)
+      by (Some other) there is = test other _ there refl is
+
+-- stands at its port
+pub accepted_stands : (w : World) (me port q : Path) → GoesAllowed w me (accepts_found w port q (thread_at w q)) → StandsAt w port q
+accepted_stands w me port q ready = by (thread_at w q) refl ready
+  where
+    parked : (t : Thread) → thread_at w q ≡ Some t → (o : Option Talk) → parked_here port t ≡ o → GoesAllowed w me (takes_up port q o) → StandsAt w port q
+    parked t here None e ready = absurd ready
+    parked t here (Some talk) e ready = accepted_parked w port q t here talk e
+
+    thread : (t : Thread) → thread_at w q ≡ Some t → (b : Bool) → connects_here w port q t ≡ b →
+        GoesAllowed w me (cond {A = Outcome} b (Goes (Alter q (SetTalk (Some (new_talk (At port) Service))) ∷ Alter q (Finish []) ∷ []) (Taken (At port) q false turns.Client 0))
+        (takes_up port q (parked_here port t))) → StandsAt w port q
+    thread t here true e ready = accepted_connects w port q t here e
+    thread t here false e ready = parked t here (parked_here port t) refl ready
+
+    free : (t : Thread) → thread_at w q ≡ Some t → (b : Bool) → GoesAllowed w me (when b (accepts_thread w port q t)) → StandsAt w port q
+    free t here true ready = thread t here (connects_here w port q t) refl ready
+    free t here false ready = absurd ready
+
+    by : (o : Option Thread) → thread_at w q ≡ o → GoesAllowed w me (accepts_found w port q o) → StandsAt w port q
+    by None here ready = absurd ready
+    by (Some t) here ready = free t here (is_free w (parent q) t) ready

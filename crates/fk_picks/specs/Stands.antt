@@ -1,5 +1,6 @@
 -- Stands: who stands at a port, by whatever leads there.
 use Rattle.std.specs.Prelude.{◌≡◌, ◌≢◌, ◌⊎◌, ℕ, true, ◌∷◌, Some}
+use Rattle.fk_model.specs.declared.moves.Ask.{Ask}
 use Rattle.fk_model.specs.declared.moves.Ask.TheVariants as asks
 use Rattle.fk_model.specs.declared.names.Who.{Who}
 use Rattle.fk_model.specs.LinkRows.{is_member}
@@ -14,10 +15,21 @@ use Rattle.fk_store.specs.Paths.{path, place}
 use Rattle.fk_store.specs.Threads.{todo_at}
 use Rattle.fk_store.specs.World.{world}
 use Rattle.fk_links.specs.Connects.{connect_first}
+use Rattle.fk_picks.specs.declared.moves.Picker.{Picker}
+use Rattle.fk_picks.specs.declared.moves.Picker.TheVariants.{User, Server}
 
--- the move of a user that picks what is at a path is ready
-abbrev pub IsPicked : Contents → Who → Path → Type 0
-IsPicked m me q = IsReady (world m) (place (path m) me) (Some q) asks.Run
+-- who picks, and by which ask
+abbrev pub who_of : Picker → Who
+who_of (User who) = who
+who_of (Server port) = port
+
+abbrev pub ask_of : Picker → Ask
+ask_of (User who) = asks.Run
+ask_of (Server port) = asks.Accept
+
+-- the move of a user, or the accept of a server, that picks what is at a path is ready
+abbrev pub IsPicked : Contents → Picker → Path → Type 0
+IsPicked m me q = IsReady (world m) (place (path m) (who_of me)) (Some q) (ask_of me)
 
 -- a thread is at its connect, and its handle is what is at y
 abbrev pub ConnectsBy : World → Path → Path → Type 0

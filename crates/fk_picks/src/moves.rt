@@ -1,43 +1,77 @@
-//! Moves that pick somebody.
-ghost use Rattle.std.specs.Prelude.{IfSome, IfNone};
-ghost use Rattle.fk_model.specs.declared.moves.Ask.TheVariants as asks;
+//! Picks that are ready.
+ghost use Rattle.std.specs.Prelude.{◌≡◌, ◌↔◌, IsTrue, IfSome, IfNone};
 ghost use Rattle.fk_model.specs.Places.{Path};
 ghost use Rattle.fk_model.specs.Valid.{IsValid};
 ghost use Rattle.fk_store.specs.Paths.{path, place};
 ghost use Rattle.fk_store.specs.World.{world};
-ghost use Rattle.fk_calls.specs.Judgements.{IsReadyMove};
-ghost use Rattle.fk_picks.specs.Stands.{IsPicked};
+ghost use Rattle.fk_picks.specs.Stands.{ask_of, who_of, IsPicked};
 
 use fk_model::{Ask, Move, Who};
 use fk_store::Store;
 
-/// The move of a user that picks an object, if it is ready.
-pub fn move_with(store: &Store, who: Who, other: Who) -> Option<Move>
+/// Who picks somebody.
+#[derive(Clone, Copy)]
+pub enum Picker {
+    /// A user, by its move.
+    User(Who),
+    /// The native server of a port, by an accept.
+    Server(Who),
+}
+
+/// The name by which it moves.
+fn who_of(picker: Picker) -> Who
+    ensures { result ≡ who_of picker }
+{
+    match picker {
+        Picker::User(who) | Picker::Server(who) => who,
+    }
+}
+
+/// What it asks for.
+fn ask_of(picker: Picker) -> Ask
+    ensures { result ≡ ask_of picker }
+{
+    match picker {
+        Picker::User(_) => Ask::Run,
+        Picker::Server(_) => Ask::Accept,
+    }
+}
+
+/// An object may be picked.
+pub fn picks(store: &Store, picker: Picker, other: Who) -> bool
     requires valid { IsValid (world store.now) }
-    ensures ready { IfSome result (λ m. IsReadyMove store.now m asks.Run) }
-    ensures none { IfNone result (IsPicked store.now who (place (path store.now) other) → ⊥) }
+    ensures { IsTrue result ↔ IsPicked store.now picker (place (path store.now) other) }
 {
     let m = Move {
-        who,
+        who: who_of(picker),
         pick: Some(other),
     };
-    if fk_calls::ready(store, &m, &Ask::Run) {
-        Some(m)
+    fk_calls::ready(store, &m, &ask_of(picker))
+}
+
+/// An object, if it may be picked.
+pub fn picked(store: &Store, picker: Picker, other: Who) -> Option<Who>
+    requires valid { IsValid (world store.now) }
+    ensures ready { IfSome result (λ found. IsPicked store.now picker (place (path store.now) found)) }
+    ensures none { IfNone result (IsPicked store.now picker (place (path store.now) other) → ⊥) }
+{
+    if picks(store, picker, other) {
+        Some(other)
     } else {
         None
     }
 }
 
-/// A move of a user that picks any object, the first in the order of spaces and slots.
-pub fn move_with_any(store: &Store, who: Who) -> Option<Move>
+/// The first object that may be picked, in the order of spaces and slots.
+pub fn picked_of_all(store: &Store, picker: Picker) -> Option<Who>
     requires valid { IsValid (world store.now) }
-    ensures ready { IfSome result (λ m. IsReadyMove store.now m asks.Run) }
-    ensures none { IfNone result ((q : Path) → IsPicked store.now who q → ⊥) }
+    ensures ready { IfSome result (λ found. IsPicked store.now picker (place (path store.now) found)) }
+    ensures none { IfNone result ((q : Path) → IsPicked store.now picker q → ⊥) }
 {
     let mut at = store.after(None);
     while let Some(other) = at {
-        if let Some(m) = move_with(store, who, other) {
-            return Some(m);
+        if picks(store, picker, other) {
+            return Some(other);
         }
         at = store.after(Some(other));
     }

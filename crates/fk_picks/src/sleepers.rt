@@ -1,44 +1,42 @@
 //! Sleepers of a condition.
 ghost use Rattle.std.specs.Prelude.{◌≡◌, true, IfSome, IfNone, IsSome};
-ghost use Rattle.fk_model.specs.declared.moves.Ask.TheVariants as asks;
 ghost use Rattle.fk_model.specs.Places.{Path, parent, same_path};
 ghost use Rattle.fk_model.specs.SyncRows as rows;
 ghost use Rattle.fk_model.specs.Valid.{IsValid};
 ghost use Rattle.fk_store.specs.Paths.{path, place};
 ghost use Rattle.fk_store.specs.World.{world};
-ghost use Rattle.fk_calls.specs.Judgements.{IsReadyMove};
 ghost use Rattle.fk_picks.specs.Stands.{IsPicked};
 
-use crate::moves::move_with;
-use fk_model::{Move, Who};
+use crate::moves::{Picker, picked};
+use fk_model::Who;
 use fk_store::Store;
 use fk_threads::asleep_on;
 
-/// A move of a user that wakes the thread in a slot, which sleeps on a condition.
-fn move_waking(store: &Store, who: Who, cond: u64, other: Who) -> Option<Move>
+/// The thread in a slot, if a user may wake it, which sleeps on a condition.
+fn woken(store: &Store, who: Who, cond: u64, other: Who) -> Option<Who>
     requires valid { IsValid (world store.now) }
-    ensures ready { IfSome result (λ m. IsReadyMove store.now m asks.Run) }
+    ensures ready { IfSome result (λ found. IsPicked store.now (Picker.User who) (place (path store.now) found)) }
     ensures none { IfNone result (IsSome (rows.asleep_on cond ((world store.now).body (place (path store.now) other)))
-        → IsPicked store.now who (place (path store.now) other) → ⊥) }
+        → IsPicked store.now (Picker.User who) (place (path store.now) other) → ⊥) }
 {
     asleep_on(store, other, cond)?;
-    move_with(store, who, other)
+    picked(store, Picker::User(who), other)
 }
 
-/// A move of a user that wakes a sleeper on a condition of its space.
-pub fn wakes_one(store: &Store, who: Who, cond: u64) -> Option<Move>
+/// A sleeper on a condition of a user's space whom it may wake.
+pub fn wakes_one(store: &Store, who: Who, cond: u64) -> Option<Who>
     requires valid { IsValid (world store.now) }
-    ensures ready { IfSome result (λ m. IsReadyMove store.now m asks.Run) }
+    ensures ready { IfSome result (λ found. IsPicked store.now (Picker.User who) (place (path store.now) found)) }
     ensures none { IfNone result ((q : Path) → same_path (parent q) (path store.now who.space) ≡ true
-        → IsSome (rows.asleep_on cond ((world store.now).body q)) → IsPicked store.now who q → ⊥) }
+        → IsSome (rows.asleep_on cond ((world store.now).body q)) → IsPicked store.now (Picker.User who) q → ⊥) }
 {
     for slot in 0..256u16 {
         let other = Who {
             space: who.space,
             slot: slot as u8,
         };
-        if let Some(m) = move_waking(store, who, cond, other) {
-            return Some(m);
+        if let Some(found) = woken(store, who, cond, other) {
+            return Some(found);
         }
     }
     None

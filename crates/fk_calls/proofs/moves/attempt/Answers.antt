@@ -10,6 +10,7 @@ attempt_effect-requires c =
     let judged = instruction_judged c.args.store.now c.args.m.now _ (c.in-Some.ensures.free (cc)) (c.in-Some.ensures.running (cc))
     (c.instruction.ensures.row []) c.instruction.ensures.fits c.instruction.ensures.instruction c.instruction.ensures.sure in
     record {
+      valid = c.requires.valid;
       judged = rw (c.in-Some.ensures.run (cc)) (rw c.in-Runs.is at judged);
       at = running_there (world m) (path m) (place (path m) c.args.m.now.who) _ _ c.in-Some.ensures.there (c.in-Some.ensures.running (cc));
     }

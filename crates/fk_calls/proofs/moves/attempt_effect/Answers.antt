@@ -1,10 +1,11 @@
 use Rattle.std.proofs.Common.{false, refl, ap, ◌∙◌}
 use Rattle.fk_model.specs.Moves.{stepped}
+use Rattle.fk_model.specs.declared.moves.Said.TheVariants as says
 use Rattle.fk_store.specs.World.{world}
 use Rattle.fk_plans.specs.declared.plan.Verdict.TheVariants as verdicts
 use Rattle.fk_calls.specs.declared.judging.Judgement.{Judgement}
 use Rattle.fk_calls.specs.Judgements.{words_of}
-use Rattle.fk_calls.proofs.Judged.{user, ready_judged, run_judged}
+use Rattle.fk_calls.proofs.Judged.{user, quiet_judged, ready_judged, run_judged}
 use Rattle.fk_calls.proofs.moves.attempt_effect.Goals as goal
 
 pub is_effect_ready-requires-clause-free : goal.is_effect_ready-requires-clause-free
@@ -26,3 +27,9 @@ returns-then-not-is_effect_ready-clause-unready c =
     let j : Judgement = record { caller = user c.args.m.now.who; chooses = false; verdict = verdicts.Runs c.args.effect } in
     let ready = (ready_judged c.args.store.now c.args.m.now c.args.ask.now j _ judged (c.is_effect_ready.ensures (words_of c.args.ask.now))).1 in
     ((λ r. let yes = ready r in absurd (cc)), refl)
+
+pub returns-clause-ended : goal.returns-clause-ended
+returns-clause-ended c =
+    let j : Judgement = record { caller = user c.args.m.now.who; chooses = false; verdict = verdicts.Runs c.args.effect } in
+    quiet_judged c.args.store.now c.make_effect.new.store c.args.m.now c.args.ask.now j says.Nothing c.requires.valid c.names.ensures.few refl
+    c.requires.judged (returns-clause-made c)

@@ -1,7 +1,7 @@
 use Rattle.std.proofs.Common.{◌∙◌}
 use Rattle.fk_calls.specs.Judgements.{words_of}
 use Rattle.fk_calls.proofs.Given.{fit_given}
-use Rattle.fk_calls.proofs.Judged.{ready_judged, step_judged, free_there}
+use Rattle.fk_calls.proofs.Judged.{ended_judged, ready_judged, step_judged, free_there}
 use Rattle.fk_calls.proofs.moves.attempt_judged.Goals as goal
 
 pub judge-requires-clause-words : goal.judge-requires-clause-words
@@ -19,3 +19,12 @@ returns-clause-made c =
     let ready = (ready_judged c.args.store.now c.args.m.now c.args.ask.now c.in-Some.j _ judged (c.is_ready.ensures (words_of c.args.ask.now))).0 (cc) in
     let step = rw c.given.ensures at c.in_ok-carry_out.ensures.step in
     (ready, step_judged c.args.store.now c.args.m.now c.args.ask.now c.in-Some.j judged ready ∙ step)
+
+pub returns-clause-ended : goal.returns-clause-ended
+returns-clause-ended c =
+    let made = returns-clause-made c in
+    record {
+      ending = ended_judged c.args.store.now c.carry_out.new.store c.args.m.now c.args.ask.now c.in-Some.j _ _ c.in-Some.ensures.judged made.0 made.1
+          (c.ended_by-ended.ensures.ending (words_of c.args.ask.now));
+      apart = c.ended_by-ended.ensures.apart;
+    }

@@ -1,9 +1,13 @@
-use Rattle.std.proofs.Common.{false, refl, ◌∙◌}
-use Rattle.fk_plans.proofs.Moved.{fits_plan}
+use Rattle.std.proofs.Common.{false, None, refl, ◌∙◌}
+use Rattle.fk_model.specs.declared.moves.Said.TheVariants as says
+use Rattle.fk_store.specs.Paths.{path}
+use Rattle.fk_store.specs.World.{world}
+use Rattle.fk_endings.specs.Endings.{IsLeft}
+use Rattle.fk_plans.proofs.Moved.{each, fits_plan}
 use Rattle.fk_plans.specs.Movings.{plan_of, verdict_of}
 use Rattle.fk_calls.specs.declared.judging.Judgement.{Judgement}
 use Rattle.fk_calls.specs.Judgements.{words_of}
-use Rattle.fk_calls.proofs.Judged.{user, free_there, ready_judged, step_judged}
+use Rattle.fk_calls.proofs.Judged.{user, free_there, quiet_judged, ready_judged, step_judged}
 use Rattle.fk_calls.proofs.moves.attempt_moving.Goals as goal
 
 pub is_moving_ready-requires-clause-free : goal.is_moving_ready-requires-clause-free
@@ -29,3 +33,11 @@ returns-then-not-is_moving_ready-clause-unready c =
     let j : Judgement = record { caller = user c.args.m.now.who; chooses = false; verdict = verdict_of c.args.moving.now } in
     let ready = (ready_judged c.args.store.now c.args.m.now c.args.ask.now j _ judged (c.is_moving_ready.ensures (words_of c.args.ask.now))).1 in
     ((λ r. let yes = ready r in absurd (cc)), refl)
+
+pub returns-clause-ended : goal.returns-clause-ended
+returns-clause-ended c =
+    let m = c.args.store.now in
+    let moving = c.args.moving.now in
+    let j : Judgement = record { caller = user c.args.m.now.who; chooses = false; verdict = verdict_of moving } in
+    quiet_judged m c.move_words.new.store c.args.m.now c.args.ask.now j says.Nothing c.requires.valid c.names.ensures.few
+    (each (λ v. IsLeft (world m) (path m) v None) moving.last (plan_of moving) refl refl) c.requires.judged (returns-clause-made c)

@@ -8,6 +8,6 @@ use Rattle.fk_picks.proofs.ports.takes_by_handle.Goals as goal
 pub returns-clause-none : goal.returns-clause-none
 returns-clause-none c q connects picked =
     let m = c.args.store.now in
-    each_slot (λ x. ConnectsBy (world m) (place (path m) c.args.handle) x → IsPicked m c.args.who x → ⊥) q (path m c.args.handle.space)
+    each_slot (λ x. ConnectsBy (world m) (place (path m) c.args.handle) x → IsPicked m c.args.picker x → ⊥) q (path m c.args.handle.space)
     (connecting_slot (world m) q c.args.handle.slot c.requires.valid connects.0) connects.1
     (λ k low. c.loop-slot.invariant k (omega (arith, low))) connects picked

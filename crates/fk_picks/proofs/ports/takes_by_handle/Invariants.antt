@@ -7,4 +7,4 @@ use Rattle.fk_picks.proofs.ports.takes_by_handle.Given as goal
 -- none in the slots so far
 abbrev pub invariant-loop-slot : goal.invariant-loop-slot
 invariant-loop-slot l = let s = path l.store l.handle.space in
-    (k : ℕ) → k < l.slot → ConnectsBy (world l.store) (place (path l.store) l.handle) (k ∷ s) → IsPicked l.store l.who (k ∷ s) → ⊥
+    (k : ℕ) → k < l.slot → ConnectsBy (world l.store) (place (path l.store) l.handle) (k ∷ s) → IsPicked l.store l.picker (k ∷ s) → ⊥

@@ -9,8 +9,8 @@ pub loop-from-preserved : goal.loop-from-preserved
 loop-from-preserved c = λ all.
     let m = c.args.store.now in
     let left = c.loop-from.invariant (sym c.in-Some.ensures.all ∙ all) in
-    next_to_come m c.args.who c.args.port c.in-Some.from c.next.new.self.0
-    (subst (λ whos. AreToCome m c.args.who c.args.port whos) c.in-Some.ensures.some left) c.in_default-takes_by.ensures.none
+    next_to_come m c.args.picker c.args.port c.in-Some.from c.next.new.self.0
+    (subst (λ whos. AreToCome m c.args.picker c.args.port whos) c.in-Some.ensures.some left) c.in_default-takes_by.ensures.none
 
 pub returns-then-are_all-clause-none : goal.returns-then-are_all-clause-none
 returns-then-are_all-clause-none c y q leads comes picked =

@@ -4,7 +4,7 @@ use Rattle.fk_picks.proofs.ports.takes_leading.Given as goal
 
 -- each by whom somebody is picked is yet to come
 abbrev pub invariant-loop-from : goal.invariant-loop-from
-invariant-loop-from l = l.leaders.1 ≡ true → AreToCome l.store l.who l.fn.port l.leaders.0
+invariant-loop-from l = l.leaders.1 ≡ true → AreToCome l.store l.picker l.fn.port l.leaders.0
 
 abbrev pub decreases-loop-from : goal.decreases-loop-from
 decreases-loop-from l = length l.leaders.0

@@ -4,6 +4,7 @@ use Rattle.fk_model.specs.Places.{Path}
 use Rattle.fk_store.specs.Paths.{path}
 use Rattle.fk_store.specs.World.{world}
 use Rattle.fk_picks.specs.Stands.{StandsAt, IsPicked}
+use Rattle.fk_picks.specs.declared.moves.Picker.TheVariants.{User}
 use Rattle.fk_picks.proofs.Slots.{member_low, one_more}
 use Rattle.fk_picks.proofs.ports.takes_one.Goals as goal
 
@@ -17,5 +18,5 @@ pub loop-slot-preserved : goal.loop-slot-preserved
 loop-slot-preserved c =
     let m = c.args.store.now in
     let s = path m c.args.who.space in
-    one_more (λ k. is_member c.args.set ((world m).body (k ∷ s)) ≡ true → (q : Path) → StandsAt (world m) (k ∷ s) q → IsPicked m c.args.who q → ⊥)
+    one_more (λ k. is_member c.args.set ((world m).body (k ∷ s)) ≡ true → (q : Path) → StandsAt (world m) (k ∷ s) q → IsPicked m (User c.args.who) q → ⊥)
     c.loop-slot.slot c.loop-slot.invariant c.in_default.ensures.none

@@ -4,10 +4,11 @@ use Rattle.fk_model.specs.Places.{Path}
 use Rattle.fk_store.specs.Paths.{path}
 use Rattle.fk_store.specs.World.{world}
 use Rattle.fk_picks.specs.Stands.{StandsAt, IsPicked}
+use Rattle.fk_picks.specs.declared.moves.Picker.TheVariants.{User}
 use Rattle.fk_picks.proofs.ports.takes_one.Given as goal
 
 -- nobody at the ports in the slots so far
 abbrev pub invariant-loop-slot : goal.invariant-loop-slot
 invariant-loop-slot l = let s = path l.store l.who.space in
     (k : ℕ) → k < l.slot → is_member l.set ((world l.store).body (k ∷ s)) ≡ true →
-    (q : Path) → StandsAt (world l.store) (k ∷ s) q → IsPicked l.store l.who q → ⊥
+    (q : Path) → StandsAt (world l.store) (k ∷ s) q → IsPicked l.store (User l.who) q → ⊥

@@ -4,6 +4,7 @@ use Rattle.fk_store.specs.Paths.{path}
 use Rattle.fk_store.specs.World.{world}
 use Rattle.fk_store.proofs.finding.Walks.{same_path_true}
 use Rattle.fk_picks.specs.Stands.{IsPicked}
+use Rattle.fk_picks.specs.declared.moves.Picker.TheVariants.{User}
 use Rattle.fk_picks.proofs.Slots.{asleep_slot, each_slot}
 use Rattle.fk_picks.proofs.sleepers.wakes_one.Goals as goal
 
@@ -11,6 +12,6 @@ pub returns-clause-none : goal.returns-clause-none
 returns-clause-none c q near asleep picked =
     let m = c.args.store.now in
     let s = path m c.args.who.space in
-    each_slot (λ x. IsSome (asleep_on c.args.cond ((world m).body x)) → IsPicked m c.args.who x → ⊥) q s
+    each_slot (λ x. IsSome (asleep_on c.args.cond ((world m).body x)) → IsPicked m (User c.args.who) x → ⊥) q s
     (asleep_slot (world m) q c.args.cond c.requires.valid asleep) (same_path_true _ s near)
     (λ k low. c.loop-slot.invariant k (omega (arith, low))) asleep picked

@@ -1,11 +1,11 @@
 use Rattle.fk_store.specs.World.{place_of}
 use Rattle.fk_picks.proofs.Scans.{IsAhead, left_from}
 use Rattle.fk_picks.specs.Stands.{IsPicked}
-use Rattle.fk_picks.proofs.moves.move_with_any.Given as goal
+use Rattle.fk_picks.proofs.moves.picked_of_all.Given as goal
 
 -- each that may be picked is yet to come
 abbrev pub invariant-loop-at : goal.invariant-loop-at
-invariant-loop-at l = IsAhead l.store (λ other. IsPicked l.store l.who (place_of l.store other)) l.at
+invariant-loop-at l = IsAhead l.store (λ other. IsPicked l.store l.picker (place_of l.store other)) l.at
 
 abbrev pub decreases-loop-at : goal.decreases-loop-at
 decreases-loop-at l = left_from l.store l.at

@@ -2,7 +2,7 @@ use Rattle.fk_store.specs.Paths.{path}
 use Rattle.fk_store.specs.World.{world}
 use Rattle.fk_picks.proofs.Leading.{if_none}
 use Rattle.fk_picks.proofs.Stands.{candidate_stands}
-use Rattle.fk_picks.proofs.picks.ready_pick.Goals as goal
+use Rattle.fk_picks.proofs.picks.user_picks.Goals as goal
 
 pub returns-in-Candidates-clause-none : goal.returns-in-Candidates-clause-none
 returns-in-Candidates-clause-none c =

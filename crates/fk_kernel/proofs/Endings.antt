@@ -1,0 +1,63 @@
+-- Endings: which native server has lost its client, by its port's name.
+use Rattle.std.proofs.Common.{◌≡◌, ◌≤◌, Bool, true, false, ◌&&◌, is_some, is_none, Option, Some, None, Result, Ok, Err, IfOk, IfSome, option_map, refl, sym, ap, subst, ◌∙◌}
+use Rattle.fk_model.specs.declared.names.Who.{Who}
+use Rattle.fk_model.specs.Endings.{has_ended}
+use Rattle.fk_model.specs.Places.{Path, same_path}
+use Rattle.fk_model.specs.Searches.{client_at, depth}
+use Rattle.fk_model.specs.Valid.{IsValid}
+use Rattle.fk_model.specs.Who.{named, space_born}
+use Rattle.fk_model.specs.World.{World}
+use Rattle.fk_model.proofs.walks.PlaceLaws.{same_path_eq}
+use Rattle.fk_store.specs.Contents.{Contents}
+use Rattle.fk_store.specs.Paths.{path, place}
+use Rattle.fk_store.specs.World.{world}
+use Rattle.fk_endings.specs.Clients.{HasClient, LosesClient}
+use Rattle.fk_endings.proofs.Changes.{client-found, found-client}
+use Rattle.fk_calls.specs.declared.moves.Told.{Told}
+use Rattle.fk_calls.specs.Judgements.{IsEnded}
+use Rattle.fk_kernel.specs.Events.{is_who}
+
+module _ (m n : Contents) (valid : IsValid (world m)) (few : (world m).next ≤ depth) (kept : IsValid (world n)) (low : (world n).next ≤ depth) where
+  some_before : (p : Path) → HasClient (world m) p → is_some (client_at (world m) p) ≡ true
+  some_before p has = client-found (world m) valid.consistent valid.rooted few p has
+
+  some_after : (p : Path) → HasClient (world n) p → is_some (client_at (world n) p) ≡ true
+  some_after p has = client-found (world n) kept.consistent kept.rooted low p has
+
+  none_some : (o : Option Path) → is_some o ≡ true → is_none o ≡ false
+  none_some None some = absurd (cc)
+  none_some (Some x) some = refl
+
+  -- who had a client has one
+  stays : (p : Path) → (HasClient (world m) p → HasClient (world n) p) → has_ended (world m) (world n) p ≡ false
+  stays p keeps = by (is_some (client_at (world m) p)) refl
+    where
+      by : (b : Bool) → is_some (client_at (world m) p) ≡ b → (b && is_none (client_at (world n) p)) ≡ false
+      by false e = refl
+      by true e = none_some (client_at (world n) p) (some_after p (keeps (found-client (world m) p e)))
+
+  -- who lost its client has none
+  ends : (p : Path) → LosesClient (world m) (world n) p → has_ended (world m) (world n) p ≡ true
+  ends p lost = rw (some_before p lost.had) (by (client_at (world n) p) refl)
+    where
+      by : (o : Option Path) → client_at (world n) p ≡ o → is_none o ≡ true
+      by None e = refl
+      by (Some x) e = absurd (lost.none (found-client (world n) p (rw e refl)))
+
+  pub ended-exact : (o : Option Who) → IsEnded m n o → (port : Who) → has_ended (world m) (world n) (place (path m) port) ≡ is_who o port
+  ended-exact None ended port = stays (place (path m) port) (ended.ending (place (path m) port))
+  ended-exact (Some one) ended port = by (same_path (place (path m) port) (place (path m) one)) refl ∙ (ended.apart port).0
+    where
+      by : (b : Bool) → same_path (place (path m) port) (place (path m) one) ≡ b → has_ended (world m) (world n) (place (path m) port) ≡ b
+      by true e =
+          let same = same_path_eq (place (path m) port) (place (path m) one) e in
+          rw same (ends (place (path m) one) ended.ending)
+      by false e = stays (place (path m) port) (ended.ending.others (place (path m) port) e)
+
+  -- of a move that is tried
+  pub ended-tried : {E : Type 0} (born : path m ≡ space_born (world m)) (r : Result (Option Told) E) →
+      IfOk r (λ tried. IfSome tried (λ told. IsEnded m n told.ended)) →
+      IfOk r (λ tried. IfSome tried (λ told. (port : Who) → has_ended (world m) (world n) (named (world m) port) ≡ is_who told.ended port))
+  ended-tried born (Ok (Some told)) ended = λ port. rw (← born) (ended-exact told.ended ended port)
+  ended-tried born (Ok None) ended = tt
+  ended-tried born (Err e) ended = tt
