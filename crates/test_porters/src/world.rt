@@ -8,12 +8,18 @@
 //! COUNT`: it makes so many moves. `shows SLOT = REGISTERS`: its first registers. `keeps SLOT = WORDS`:
 //! its state record from word 21 on, which is its talk's turn, the words moved, its fault, the page, and
 //! 1 for a write.
+//!
+//! `takes PORT picking SPACE SLOT = RESUMED TURN MOVED`: the native server of a port of the root accepts
+//! a client, or takes up its talk: 1 where that was parked, whose turn it is, and the words moved. `gives
+//! PORT giving WORDS = COUNT`: it gives words, and so many are taken; `fills` with the same: there was no room. `hands
+//! PORT`: it hands the turn over. `untaken`, `ungiven`, `unhanded`: that act isn't ready. `meets PORT =
+//! SPACE SLOT`: whom it may accept, if anybody. `lost PORT`: by the last move a server lost its client; `kept`: none did.
 use crate::line::Line;
 use crate::porter::put_porter;
 use anyhow::{Context, bail};
 use fk_boot::boot;
 use fk_kernel::Kernel;
-use fk_model::{Answer, Ask, Body, Move, NoMemory, Said, Todo, Who};
+use fk_model::{Answer, Ask, Body, Move, Said, Todo, Turn, Who};
 use fk_scenario::{read_scenario, server_rules};
 use fk_stages::todo;
 use std::alloc::Global;
@@ -23,6 +29,8 @@ use std::alloc::Global;
 pub struct World {
     kernel: Kernel,
     porter: Who,
+    /// The port whose native server lost its client by the last move.
+    ended: Option<Who>,
 }
 
 /// The kernel of a scenario, with a porter in a slot.
@@ -115,10 +123,48 @@ fn answer_in(said: &Option<Said>) -> Option<&Answer> {
     }
 }
 
-/// Makes a user's move where it is ready, and tells whether it was.
-#[tactic(auto, unfolding(fk_model::specs::Valid::is_fit))]
-fn make(kernel: &mut Kernel, m: &Move) -> Result<bool, NoMemory> {
-    Ok(kernel.attempt(m, &Ask::Run)?.is_some())
+/// What the native server of a port of the root asks for, by the verb of a line and the words that it gives.
+fn act_of(verb: &str, given: &[u64]) -> anyhow::Result<Ask> {
+    Ok(match verb {
+        "takes" | "untaken" => Ask::Accept,
+        "gives" | "fills" | "ungiven" => Ask::Give {
+            words: filled(given),
+            len: given.len().min(64) as u8,
+        },
+        "hands" | "unhanded" => Ask::Over,
+        _ => bail!("no act"),
+    })
+}
+
+/// The number of a side.
+fn side_number(turn: Turn) -> u64 {
+    match turn {
+        Turn::Client => 1,
+        Turn::Server => 2,
+    }
+}
+
+/// What an act tells is as a line says.
+fn is_told(line: &Line, said: &Option<Said>) -> bool {
+    let wanted = line.wanted.as_slice();
+    match (line.verb, said) {
+        (
+            "takes",
+            Some(Said::Taken {
+                resumed,
+                turn,
+                moved,
+                ..
+            }),
+        ) => {
+            let told = [u64::from(*resumed), side_number(*turn), u64::from(*moved)];
+            wanted == told.as_slice()
+        }
+        ("gives", Some(Said::Given { len, .. })) => wanted == [u64::from(*len)].as_slice(),
+        ("fills", Some(Said::Full { .. })) | ("hands", Some(Said::Over { .. })) => true,
+        ("untaken" | "ungiven" | "unhanded", None) => true,
+        _ => false,
+    }
 }
 
 impl World {
@@ -130,7 +176,28 @@ impl World {
     pub fn new(alloc: Global, text: &[u8], porter: &[u64]) -> anyhow::Result<World> {
         let porter = named(porter).context("no name")?;
         let kernel = kernel_of(alloc, text, porter)?;
-        Ok(World { kernel, porter })
+        Ok(World {
+            kernel,
+            porter,
+            ended: None,
+        })
+    }
+
+    /// What a move tells; nothing where it isn't ready.
+    fn tries(&mut self, m: &Move, ask: &Ask) -> anyhow::Result<Option<Said>> {
+        if !self.kernel.is_fit(m, ask) {
+            bail!("not fit");
+        }
+        let Ok(tried) = self.kernel.attempt(m, ask) else {
+            bail!("no memory");
+        };
+        match tried {
+            Some(told) => {
+                self.ended = told.ended;
+                Ok(Some(told.said))
+            }
+            None => Ok(None),
+        }
     }
 
     /// What the porter's move tells; nothing where it isn't ready.
@@ -142,14 +209,7 @@ impl World {
     ) -> anyhow::Result<Option<Said>> {
         let ask = ask_of(call, given)?;
         let who = self.porter;
-        let m = Move { who, pick };
-        if !self.kernel.is_fit(&m, &ask) {
-            bail!("not fit");
-        }
-        let Ok(said) = self.kernel.attempt(&m, &ask) else {
-            bail!("no memory");
-        };
-        Ok(said)
+        self.tries(&Move { who, pick }, &ask)
     }
 
     /// What the porter asks for is fit.
@@ -162,10 +222,8 @@ impl World {
 
     /// A thread moves; false where it isn't ready.
     fn moves(&mut self, who: Who, pick: Option<Who>) -> anyhow::Result<bool> {
-        let Ok(made) = make(&mut self.kernel, &Move { who, pick }) else {
-            bail!("no memory");
-        };
-        Ok(made)
+        let said = self.tries(&Move { who, pick }, &Ask::Run)?;
+        Ok(said.is_some())
     }
 
     /// A thread makes so many moves.
@@ -221,6 +279,28 @@ impl World {
         })
     }
 
+    /// The native server of a port of the root acts, as a line says.
+    fn acts(&mut self, line: &Line) -> anyhow::Result<bool> {
+        let who = in_root(line.subject.as_slice()).context("no port")?;
+        let pick = named(line.picked.as_slice());
+        let ask = act_of(line.verb, line.given.as_slice())?;
+        let said = self.tries(&Move { who, pick }, &ask)?;
+        Ok(is_told(line, &said))
+    }
+
+    /// Whom the native server of a port of the root may accept, and which server lost its client.
+    fn servers(&self, line: &Line) -> anyhow::Result<bool> {
+        let port = in_root(line.subject.as_slice());
+        Ok(match line.verb {
+            "meets" => {
+                self.kernel.ready_accept(port.context("no port")?) == named(line.wanted.as_slice())
+            }
+            "lost" => port.is_some() && self.ended == port,
+            "kept" => self.ended.is_none(),
+            _ => bail!("no step"),
+        })
+    }
+
     /// A step is made, and is as its line says.
     ///
     /// # Errors
@@ -230,6 +310,10 @@ impl World {
         match line.verb {
             "asks" | "bars" => self.asks(line),
             "unfit" => Ok(!self.is_fit(line.subject.as_slice(), line.given.as_slice())?),
+            "takes" | "untaken" | "gives" | "fills" | "ungiven" | "hands" | "unhanded" => {
+                self.acts(line)
+            }
+            "meets" | "lost" | "kept" => self.servers(line),
             _ => self.thread_steps(line),
         }
     }
