@@ -33,6 +33,10 @@ bootable (Err error) = Err error
 abbrev pub scenario_to_run : List ℕ → Result Scenario ScenarioError
 scenario_to_run text = bootable (scenario_reading server_rules text)
 
+-- a text has one
+abbrev pub CanRun : List ℕ → Type 0
+CanRun text = (s : Scenario) × (scenario_to_run text ≡ Ok s)
+
 -- ---- how a run ends
 
 -- how a run of so many moves ends in a world

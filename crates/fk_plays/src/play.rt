@@ -6,7 +6,7 @@ ghost use Rattle.fk_scenario.specs.Kept.{KeepsScenario};
 ghost use Rattle.fk_store.specs.World.{world};
 ghost use Rattle.fk_boot.specs.FirstWorld.{booted};
 ghost use Rattle.fk_commands.specs.Files.{trace_name};
-ghost use Rattle.fk_plays.specs.Play.{IsEnd, IsPlay, IsPlayed, scenario_to_run, status_of_end};
+ghost use Rattle.fk_plays.specs.Play.{CanRun, IsEnd, IsPlay, IsPlayed, scenario_to_run, status_of_end};
 ghost use Rattle.fk_commands.specs.Prepared.{ComesTo, IsRefusal, IsScenarioFail, IsFileFail, outcome_of};
 ghost use Rattle.fk_commands.specs.Status.{progress_of, Finished};
 ghost use Rattle.fk_report.specs.Threads.{AreThreads};
@@ -122,7 +122,8 @@ fn play_scenario(alloc: Global, scenario: &Scenario, trace: &[u8]) -> Result<Pre
 /// # Errors
 ///
 /// `BadScenario` for a text that is no scenario. `Absent` where the shelf has no such trace, and
-/// `ShelfFault` where the get of it failed. `BadTrace` with the index of its first bad line.
+/// `ShelfFault` where the get of it failed,
+/// both of them only for a text that is one. `BadTrace` with the index of its first bad line.
 /// `NoMemory` where there is no memory for any of it.
 pub fn play<H: Shelf>(
     alloc: Global,
@@ -131,7 +132,7 @@ pub fn play<H: Shelf>(
     shelf: &mut H,
 ) -> Result<Prepared, Status>
     ensures comes { ComesTo (IsPlay name.now (H.files shelf.old) (scenario_to_run text.now)) result }
-    ensures refusal { IfErr result (IsRefusal ⊥ (Rose (H.failed_gets shelf.old) (H.failed_gets shelf.new))) }
+    ensures refusal { IfErr result (IsRefusal ⊥ (Rose (H.failed_gets shelf.old) (H.failed_gets shelf.new) × CanRun text.now)) }
     ensures same_files { H.files shelf.new ≡ H.files shelf.old }
     ensures same_puts { H.failed_puts shelf.new ≡ H.failed_puts shelf.old }
 {

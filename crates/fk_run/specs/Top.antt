@@ -1,5 +1,5 @@
 -- What the words of the command line call for, and what a call did of it.
-use Rattle.std.specs.Prelude.{ℕ, Bool, ◌&&◌, List, Option, Some, None, length, nat_lt}
+use Rattle.std.specs.Prelude.{◌≡◌, ◌≤◌, ⊤, ℕ, Bool, ◌&&◌, List, Option, Some, None, length, nat_lt}
 use Rattle.std.specs.Bool.{MatchBool}
 use Rattle.std.specs.Io.KnownBytes.{Appends}
 use Rattle.fk_asm.specs.Assembler.{assembled}
@@ -15,9 +15,9 @@ use Rattle.fk_commands.specs.Check.{IsCheck}
 use Rattle.fk_run.specs.Commands.{Command, Exec, Check, Play, Show, reads_source}
 use Rattle.fk_commands.specs.Exec.{IsExec}
 use Rattle.fk_commands.specs.Outcomes.{IsRefused}
-use Rattle.fk_plays.specs.Play.{IsPlay, scenario_to_run}
+use Rattle.fk_plays.specs.Play.{CanRun, IsPlay, scenario_to_run}
 use Rattle.fk_commands.specs.Show.{IsShow}
-use Rattle.fk_commands.specs.Status.{progress_of, is_past_reading}
+use Rattle.fk_commands.specs.Status.{progress_of, is_past_reading, Finished}
 
 -- a source that holds too many bytes is refused, and else they come to what they call for
 abbrev pub IsUnlessTooLong : List ℕ → (Outcome → List ℕ → Type 0) → Outcome → List ℕ → Type 0
@@ -43,12 +43,26 @@ pub record IsDone (command : Option Command) (left : Option (List ℕ)) (files :
   pub due : IsDue command left files outcome text
   pub written : Appends old new text
 
--- a call did what is due up to its writing, of which only a front was done: but for its status, its outcome is the due one
+-- a call did what is due up to its writing, of which only a front was done: its outcome is the due one but for the status, and
+-- that is one after which all is written
 pub record IsCutOff (command : Option Command) (left : Option (List ℕ)) (files : Option FileMap) (old new : Option (List ℕ)) (outcome : Outcome) : Type 0 where
   pub status : Status
+  pub finished : progress_of status ≡ Finished
   pub text : List ℕ
   pub due : IsDue command left files (record outcome { status = status }) text
   pub written : AppendsPrefix old new text
+
+-- which commands get to the shelf over these bytes of the source: `play` only with a scenario that can be run
+abbrev pub AsksShelf : Option Command → List ℕ → Type 0
+AsksShelf None bytes = ⊥
+AsksShelf (Some Exec) bytes = ⊥
+AsksShelf (Some Check) bytes = ⊥
+AsksShelf (Some (Play name)) bytes = (length bytes ≤ LIMIT) × CanRun bytes
+AsksShelf (Some (Show name)) bytes = ⊤
+
+-- the same over whatever the source holds
+abbrev pub GetsToShelf : Option Command → Option (List ℕ) → Type 0
+GetsToShelf command left = (bytes : List ℕ) × MayHold left bytes × AsksShelf command bytes
 
 -- whether a call with this status has read its source to the end
 abbrev pub has_read_all : Option Command → Status → Bool

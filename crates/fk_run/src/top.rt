@@ -6,7 +6,7 @@ ghost use Rattle.fk_causes.specs.Causes.{Rose};
 ghost use Rattle.fk_run.specs.Commands.{command_of, reads_source, reads_shelf, seen};
 ghost use Rattle.fk_commands.specs.Prepared.{ComesTo, IsRefusal};
 ghost use Rattle.fk_commands.specs.Status.{was_cut_short, has_written_nothing};
-ghost use Rattle.fk_run.specs.Top.{IsDue, IsDone, IsCutOff, has_read_all};
+ghost use Rattle.fk_run.specs.Top.{IsDue, IsDone, IsCutOff, GetsToShelf, has_read_all};
 
 use crate::command::{Command, command_of};
 use crate::source_text::source_text;
@@ -31,7 +31,7 @@ fn prepare<R: Source, H: Shelf>(
 ) -> Result<Prepared, Status>
     ensures comes { ComesTo (IsDue (Some (seen command.entry)) (R.left source.old) (H.files shelf.old)) result }
     ensures refusal { IfErr result (IsRefusal (Rose (R.faults source.old) (R.faults source.new))
-        (Rose (H.failed_gets shelf.old) (H.failed_gets shelf.new))) }
+        (Rose (H.failed_gets shelf.old) (H.failed_gets shelf.new) × GetsToShelf (Some (seen command.entry)) (R.left source.old))) }
     ensures all_read { OnOk result (OnTrue (reads_source (Some (seen command.entry))) (IsAtEnd (R.left source.new))) }
     ensures all_read_before { IfErr result (λ status. OnTrue (has_read_all (Some (seen command.entry)) status) (IsAtEnd (R.left source.new))) }
     ensures source { OnFalse (reads_source (Some (seen command.entry))) (source.new ≡ source.old) }
@@ -62,8 +62,9 @@ fn prepare<R: Source, H: Shelf>(
 /// or the memory failed, the outcome and the output are those that the bytes of the source and the
 /// files of the shelf call for: where these are told, those that are told, and some that they may have
 /// held where not. `ReadFault`, `WriteFault` and `ShelfFault` come only where that object's count of
-/// faults rose in this call; `NoMemory` where there is no memory for the text, for what is made of
-/// it, or for the output.
+/// faults rose in this call: `ShelfFault` of `play` only once the scenario is accepted, `WriteFault` only
+/// once all is done but the writing. `NoMemory` comes where there is no memory for the text, for what is
+/// made of it, or for the output.
 ///
 /// The whole output is written after `Ok` and `Budget`, a prefix of it after `WriteFault`, and
 /// nothing otherwise. No file of the shelf changes.
@@ -81,8 +82,8 @@ pub fn fluke_top<R: Source, W: Sink, H: Shelf>(
     ensures done { OnFalse (was_cut_short result.status) (IsDone (command_of (map string_bytes words.now))
         (R.left source.old) (H.files shelf.old) (W.written sink.old) (W.written sink.new) result) }
     ensures read_fault { result.status ≡ Status.ReadFault → Rose (R.faults source.old) (R.faults source.new) }
-    ensures shelf_fault { result.status ≡ Status.ShelfFault
-        → Rose (H.failed_gets shelf.old) (H.failed_gets shelf.new) }
+    ensures shelf_fault { result.status ≡ Status.ShelfFault → Rose (H.failed_gets shelf.old) (H.failed_gets shelf.new)
+        × GetsToShelf (command_of (map string_bytes words.now)) (R.left source.old) }
     ensures write_fault { result.status ≡ Status.WriteFault → Rose (W.faults sink.old) (W.faults sink.new) }
     ensures cut_off { result.status ≡ Status.WriteFault → IsCutOff (command_of (map string_bytes words.now))
         (R.left source.old) (H.files shelf.old) (W.written sink.old) (W.written sink.new) result }

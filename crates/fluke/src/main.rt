@@ -51,11 +51,15 @@ fn main(rt: HostRuntime) -> ExitCode {
         }
         Err(status) => status,
     };
-    if let Ok(line) = fault_line(rt.alloc(), &status)
-        && !line.is_empty()
-    {
-        // There is nobody left to tell of a failure here; the exit status says what happened.
-        let _ = eprintln!(rt; "{line}");
+    // There is nobody left to tell of a failure to write here; the exit status says what happened.
+    match fault_line(rt.alloc(), &status) {
+        Ok(line) if line.is_empty() => {}
+        Ok(line) => {
+            let _ = eprintln!(rt; "{line}");
+        }
+        Err(_) => {
+            let _ = eprintln!(rt; "fluke: no memory");
+        }
     }
     ExitCode::from(status.number())
 }
