@@ -1,12 +1,12 @@
 //! Porters: the calls that porters make, which no scenario of today does, and what must come of them.
 //!
-//! Standard input names files of the current folder, each on a line. Each begins worlds by `world SCENARIO
-//! SPACE SLOT`: the file of a scenario, and where a porter is put. The lines behind it are steps that are
-//! made there one after another (`world`); one that is empty or begins with `#` says nothing. Expected
-//! answers are worked by hand from the rules of the calls.
+//! Each file `NAME.steps` of the current folder begins worlds by `world SCENARIO SPACE SLOT`: the file of a
+//! scenario, and where a porter is put. The lines behind it are steps that are made there one after another
+//! (`world`); one that is empty or begins with `#` says nothing. Expected answers are worked by hand from the
+//! rules of the calls. A new file of steps needs no other edit.
 //!
-//! The program says which steps differ, and ends with a line of counts; it fails where one differs. It
-//! promises of the world to which it gives a porter that this stays valid, and nothing else.
+//! The program says which steps differ, and ends with a line of counts; it fails where one differs, or where
+//! it finds none. It promises of the world to which it gives a porter that this stays valid, and nothing else.
 #![tactic(auto)]
 
 mod line;
@@ -86,17 +86,31 @@ fn try_file<R: Files + Print + AllocGlobal>(
     Ok(())
 }
 
+/// The files of steps in the folder, in the order of their names.
+fn files_of_steps<R: Files + AllocGlobal + Clone + Drop>(rt: &R) -> anyhow::Result<Vec<String>> {
+    let mut names = Vec::new(rt.alloc());
+    for entry in fs::read_dir(rt, ".")? {
+        let entry = entry?;
+        let name = entry.file_name();
+        if name.ends_with(".steps") {
+            names.push(String::from_str(rt.alloc(), name)?)?;
+        }
+    }
+    names.sort()?;
+    Ok(names)
+}
+
 fn main(rt: HostRuntime) -> anyhow::Result<()> {
     let mut tally = Tally {
         steps: 0,
         differ: 0,
     };
-    for path in rt.lines(rt.alloc()) {
-        let path = path?;
+    for path in &files_of_steps(&rt)? {
         try_file(&rt, &mut tally, path.as_str()).context(format_args!("{path}"))?;
     }
     let Tally { steps, differ } = tally;
     println!(rt; "{steps} steps, {differ} differ")?;
+    ensure!(steps > 0, "no step was found");
     ensure!(differ == 0, "{differ} steps differ");
     Ok(())
 }
