@@ -5,10 +5,16 @@ use fk_model::{Turn, Who};
 #[derive(Clone, Copy)]
 pub enum Act {
     /// A client at its connect has a talk with it.
-    Takes { client: Who },
+    Takes {
+        client: Who,
+    },
     /// It takes up the talk of a client that waits at the port, in this turn, in which so many words
     /// were moved.
-    Resumes { client: Who, turn: Turn, moved: u16 },
+    Resumes {
+        client: Who,
+        turn: Turn,
+        moved: u16,
+    },
     /// Nothing was to be given.
     GivesNothing,
     /// So many words go to a page of the client's memory, from a word on.
@@ -19,7 +25,11 @@ pub enum Act {
         count: u8,
     },
     /// The client has no room left, so its call ends.
-    Fills { client: Who },
+    Fills {
+        client: Who,
+    },
     /// The client has the turn.
-    Passes { client: Who },
+    Passes {
+        client: Who,
+    },
 }

@@ -206,7 +206,14 @@ fn gives_nothing(store: &Store, port: Who) -> Option<Act>
 /// Words go to the page of a client at its Receive, as many as it has room for up to the page's end. It
 /// waits until that page is there.
 #[tactic(auto, using(fk_plans::proofs::Low::home_low))]
-fn gives_to(store: &Store, port: Who, words: &[u64], client: Who, into: u64, room: u64) -> Option<Act>
+fn gives_to(
+    store: &Store,
+    port: Who,
+    words: &[u64],
+    client: Who,
+    into: u64,
+    room: u64,
+) -> Option<Act>
     requires few { length words.now ≤ 64 }
     requires receives { IsReceiver (world store.now) (place (path store.now) client) into }
     ensures outcome { outcome_by (world store.now) (path store.now) port words.now result

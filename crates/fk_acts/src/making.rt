@@ -76,14 +76,7 @@ fn takes(store: &mut Store, port: Who, client: Who) -> Said
 
 /// Words go to a client that receives them.
 #[tactic(auto, unfolding(fk_model::specs::World::apply_all))]
-fn gives(
-    store: &mut Store,
-    words: &[u64],
-    client: Who,
-    to: (u32, u8),
-    into: u8,
-    count: u8,
-)
+fn gives(store: &mut Store, words: &[u64], client: Who, to: (u32, u8), into: u8, count: u8)
     requires gift { IsGift (world store.old) (path store.old) words.now client to into count }
     ensures world { (port : Who) → world store.new
         ≡ apply_all (changes_of (world store.old) (path store.old) port words.now (Act.Gives client to into count)) (world store.old) }

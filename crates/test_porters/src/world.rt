@@ -150,12 +150,14 @@ fn is_told(line: &Line, said: &Option<Said>) -> bool {
     match (line.verb, said) {
         (
             "takes",
-            Some(Said::Taken {
-                resumed,
-                turn,
-                moved,
-                ..
-            }),
+            Some(
+                Said::Taken {
+                    resumed,
+                    turn,
+                    moved,
+                    ..
+                },
+            ),
         ) => {
             let told = [u64::from(*resumed), side_number(*turn), u64::from(*moved)];
             wanted == told.as_slice()

@@ -6,5 +6,5 @@ use Rattle.fk_acts.proofs.making.gives.Goals as goal
 pub advance-requires : goal.advance-requires
 advance-requires c = record {
   low = rw (c.from.ensures, c.count_moved.ensures.paths, c.count_moved.ensures.world, c.put_words.ensures.paths, c.put_words.ensures.world)
-    (low_later (world c.args.store.now) (place (path c.args.store.now) c.args.client) _ _ _ c.args.count c.requires.gift.low);
+      (low_later (world c.args.store.now) (place (path c.args.store.now) c.args.client) _ _ _ c.args.count c.requires.gift.low);
 }
