@@ -1,0 +1,9 @@
+pub mod Ways
+pub mod Records
+pub mod Aims
+pub mod Beneath
+pub mod Spaces
+pub mod Filled
+pub mod Served
+pub mod Roomed
+pub mod Restored
