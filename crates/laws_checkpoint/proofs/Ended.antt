@@ -98,25 +98,29 @@ module _ (slot birth : ℕ) (w : World) (nester : Path) (low : slot ≤ LAST_USE
   pub tidy_before : Tidy nester slot birth w []
   tidy_before = record { named = may.named; clean = λ s k is live. nobody ((s ≡ nester) × ⊥) (w.body (k ∷ s)) (may.clean s k is) live }
 
-  first_state : (said : Said) → said ≡ Answered OK [] → heard (checkpoint slot) Holds said ≡ Readies PLACES (TARGETS ∷ STEPS ∷ [])
+  pub first_state : (said : Said) → said ≡ Answered OK [] → heard (checkpoint slot) Holds said ≡ Readies PLACES (TARGETS ∷ STEPS ∷ [])
   first_state said e = ap (heard (checkpoint slot) Holds) e
 
-  first_over : (said : Said) (status : ℕ) → (status ≡ OK → ⊥) → said ≡ Answered status [] → heard (checkpoint slot) Holds said ≡ Over Gone
+  pub first_over : (said : Said) (status : ℕ) → (status ≡ OK → ⊥) → said ≡ Answered status [] → heard (checkpoint slot) Holds said ≡ Over Gone
   first_over said status other e =
       ap (heard (checkpoint slot) Holds) e ∙ ap (λ (t : Bool). cond t (Readies PLACES (TARGETS ∷ STEPS ∷ [])) (Over Gone)) (ne_eqb status OK other)
 
+  pub first_phase : (held : Held nester slot w) (sound : IsSound (held_world nester slot w)) →
+      Phase nester slot birth low w may held sound (held_world nester slot w) (Readies PLACES (TARGETS ∷ STEPS ∷ []))
+  unfolding Rattle.laws_checkpoint.proofs.Seeks.led
+  first_phase held sound =
+      AtFirst (record { holding = held.holding; inside = inside-itself (slot ∷ nester) (held_world nester slot w); leads = λ q. refl })
+      (tidy_held nester slot birth w [] (Some (At (LAST_PORTER_SLOT ∷ nester))) tidy_before)
+
   from_hold : (v : World) (t : State) (es : List Event) → IsReadyAt w (hold nester slot) →
       Interleaved (checkpoint slot) nester (after w (hold nester slot)) (heard (checkpoint slot) Holds (said_of w (hold nester slot))) es v t → Came v t
-  unfolding Rattle.laws_checkpoint.proofs.Seeks.led
   from_hold v t es ready run =
       let sound = first_sound (checkpoint slot) nester (after w (hold nester slot)) (heard (checkpoint slot) Holds (said_of w (hold nester slot))) es v t run in
       by sound (hold_comes_to nester slot w low empty may.sound.whole.valid sound.whole.valid may.sound.whole.few ready)
     where
       begun : IsSound (after w (hold nester slot)) → (held : Held nester slot w) → (sound : IsSound (held_world nester slot w)) → Came v t
       begun ignored held sound =
-          let first : Phase nester slot birth low w may held sound (held_world nester slot w) (Readies PLACES (TARGETS ∷ STEPS ∷ [])) =
-          AtFirst (record { holding = held.holding; inside = inside-itself (slot ∷ nester) (held_world nester slot w); leads = λ q. refl })
-          (tidy_held nester slot birth w [] (Some (At (LAST_PORTER_SLOT ∷ nester))) tidy_before) in
+          let first = first_phase held sound in
           let here : Interleaved (checkpoint slot) nester (held_world nester slot w) (Readies PLACES (TARGETS ∷ STEPS ∷ [])) es v t =
           subst (λ (s : State). Interleaved (checkpoint slot) nester (held_world nester slot w) s es v t) (first_state (said_of w (hold nester slot)) held.said)
           (subst (λ (u : World). Interleaved (checkpoint slot) nester u (heard (checkpoint slot) Holds (said_of w (hold nester slot))) es v t) held.world run) in

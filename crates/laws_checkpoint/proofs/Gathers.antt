@@ -83,12 +83,12 @@ pushed (g ∷ got) p rest = ap (λ (ps : List Ptr). g ∷ ps) (pushed got p rest
 
 module _ (nester : Path) (slot : ℕ) (x : Path) (w : World) (holding : IsHolding nester slot w) (target : w.body (TARGETS ∷ nester) ≡ Some (Reference (At x)))
     (valid : IsValid w) (few : w.next ≤ depth) where
-  live_target : IsSome (w.body x)
+  pub live_target : IsSome (w.body x)
   live_target =
       sym (live-kind w x) ∙ there_live (kind_there w) x (TARGETS ∷ nester) (w.body (TARGETS ∷ nester)) (valid.consistent.good (TARGETS ∷ nester))
       (rw target (rw (same_path_refl x) refl))
 
-  above_live : (j : ℕ) (q y : Path) → IsSome (w.body ((j ∷ q) ++ y)) → kind_there w y ≡ Some kinds.Space
+  pub above_live : (j : ℕ) (q y : Path) → IsSome (w.body ((j ∷ q) ++ y)) → kind_there w y ≡ Some kinds.Space
   above_live j [] y live = valid.consistent.parents j y live
   above_live j (i ∷ q) y live = above_live i q y (space_there ((i ∷ q) ++ y) (valid.consistent.parents j ((i ∷ q) ++ y) live))
     where

@@ -18,3 +18,7 @@ pub mod Numbers
 pub mod Imaged
 pub mod Saved
 pub mod Calling
+pub mod Spending
+pub mod Reading
+pub mod Sums
+pub mod Bounds

@@ -13,7 +13,7 @@ use Rattle.laws_checkpoint.specs.Foreign.{Task, State, place_of, way_from, begin
 use Rattle.laws_checkpoint.specs.Foreign.State.{Down, Fields, Inside, Beside, Over}
 
 -- the calls that a state may still make
-abbrev left : State → ℕ
+abbrev pub left : State → ℕ
 left (Down from [] t ts) = 0
 left (Down from (k ∷ ways) t ts) = length (k ∷ ways) + (3 * length t.fields + 1) + costs ts
 left (Fields fs t ts) = (3 * length fs + 1) + costs ts
@@ -21,7 +21,7 @@ left (Inside n fs t ts) = 2 + (3 * length fs + 1) + costs ts
 left (Beside n fs t ts) = 1 + (3 * length fs + 1) + costs ts
 left (Over place) = 0
 
-way-long : (q : Path) (below : List ℕ) → length (way_from below q) ≡ length q + length below
+pub way-long : (q : Path) (below : List ℕ) → length (way_from below q) ≡ length q + length below
 way-long [] below = omega arith
 way-long (k ∷ q) below = let rest = way-long q (k ∷ below) in omega (arith, rest)
 
@@ -29,12 +29,12 @@ begins-at : (slot : ℕ) (q : Path) (t : Task) (ts : List Task) → left (begin_
 begins-at slot [] t ts = omega arith
 begins-at slot (k ∷ q) t ts = let rest = way-long q [] in omega (arith, rest)
 
-begins : (slot : ℕ) (ts : List Task) → left (begin slot ts) ≤ costs ts
+pub begins : (slot : ℕ) (ts : List Task) → left (begin slot ts) ≤ costs ts
 begins slot [] = omega arith
 begins slot (t ∷ ts) = let first = begins-at slot t.path t ts in omega (arith, first)
 
 module _ (slot : ℕ) where
-  fewer : (s : State) (stage : Stage) (words answer : List ℕ) (status : ℕ) → head slot s ≡ Asks stage words → left (next slot s status answer) + 1 ≤ left s
+  pub fewer : (s : State) (stage : Stage) (words answer : List ℕ) (status : ℕ) → head slot s ≡ Asks stage words → left (next slot s status answer) + 1 ≤ left s
   fewer (Down from [] t ts) stage words answer status asks = cc
   fewer (Down from (k ∷ ways) t ts) stage words answer status asks = by ways
     where

@@ -119,7 +119,7 @@ module _ (nester : Path) (slot : ℕ) (start : World) (near : far_field ((cut st
   abbrev pub left : ℕ → Path → ℕ → List Path
   left m q k = within m q k ++ above m q
 
-  residents_rise : (q : Path) → residents c q ≡ filter (λ j. is_some (c.body (j ∷ q))) (rising (SLOTS - 0) 0)
+  pub residents_rise : (q : Path) → residents c q ≡ filter (λ j. is_some (c.body (j ∷ q))) (rising (SLOTS - 0) 0)
   unfolding residents
   residents_rise q =
       let whole : SLOTS ≡ SLOTS - 0 = omega arith in
@@ -148,7 +148,7 @@ module _ (nester : Path) (slot : ℕ) (start : World) (near : far_field ((cut st
           by true e = absurd (other (valid_start.consistent.parents j (q ++ root) (sym (some_seen (j ∷ q)) ∙ e)))
 
   -- a scan of the slots of a space, as the cut shows them
-  scan_filter : (q : Path) (n k : ℕ) → filter (λ j. is_some (c.body (j ∷ q))) (rising n k) ≡ filter (λ j. is_some (there q j)) (rising n k)
+  pub scan_filter : (q : Path) (n k : ℕ) → filter (λ j. is_some (c.body (j ∷ q))) (rising n k) ≡ filter (λ j. is_some (there q j)) (rising n k)
   scan_filter q n k = ap (λ (test : ℕ → Bool). filter test (rising n k)) (λ i j. some_seen (j ∷ q) i)
 
   within_none : (m : ℕ) (q : Path) (k : ℕ) → filter (λ j. is_some (there q j)) (rising (SLOTS - k) k) ≡ [] → within m q k ≡ []

@@ -209,7 +209,7 @@ module _ (nester : Path) (slot birth : ℕ) (low : slot ≤ LAST_USER_SLOT) (w :
       by (Asks stage words) e = AtSeeks s its (stage, words, e) tidy
       by (Stops place) e = ended place (seeking_on.finds nester slot start near v s place (open_place w nester slot) its e)
 
-  begins_seeking : (v : World) → Base nester slot start near v → seeking_on.Stands nester slot start near v (seeks.begin slot (sought_tasks mets)) (open_place w nester slot)
+  pub begins_seeking : (v : World) → Base nester slot start near v → seeking_on.Stands nester slot start near v (seeks.begin slot (sought_tasks mets)) (open_place w nester slot)
   unfolding open_place Rattle.laws_checkpoint.proofs.Seeks.led
   begins_seeking v base =
       let tasks : List Task = map (task_of c) (preorder start nester slot) in

@@ -5,3 +5,4 @@ pub mod Contents
 pub mod Assembly
 pub mod Checkpoint
 pub mod Laws
+pub mod Bounded

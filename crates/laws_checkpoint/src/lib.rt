@@ -7,6 +7,7 @@
 
 ghost use Rattle.laws_checkpoint.specs.Gather.{PointersAreGathered};
 ghost use Rattle.laws_checkpoint.specs.Laws.{CheckpointIsTidy, CheckpointKeepsCut, CheckpointEndsAsItWas, CheckpointImagesSubtree, CheckpointSaves, CheckpointIsReady, CheckpointLeavesRest};
+ghost use Rattle.laws_checkpoint.specs.Bounded.{CheckpointIsBounded};
 ghost use Rattle.laws_checkpoint.specs.Walk.{ObjectsAreMet};
 ghost use Rattle.laws_checkpoint.specs.Contents.{SpacesAreRead};
 ghost use Rattle.laws_checkpoint.specs.Foreign.{ForeignIsExact, ForeignIsBounded, SeekerIsReady, SeekingKeepsOpenPlace, PointerIsTold};
@@ -92,4 +93,10 @@ pub fn a_checkpoints_next_call_is_ready()
 /// nobody holds that.
 pub fn a_checkpoint_leaves_the_rest()
     ensures { CheckpointLeavesRest }
+{}
+
+/// Ended or not, a checkpoint has made at most 100 (n + 1) (d + 1) calls, where its subtree has n bodies and pages, none deeper
+/// than d.
+pub fn a_checkpoint_is_bounded()
+    ensures { CheckpointIsBounded }
 {}

@@ -285,7 +285,7 @@ module _ {J S A V : Type 0} (h : House J S A V) (first : Core S A V) (users : As
         (k : Work S) → c.work ≡ Some k → (upto : ℕ) → upto ≡ length past + 1 → Next k.begun upto k.state
     others_next ask is words ready goes k works upto up =
         let w = stands.working k works in
-        let porter = (tidy w.worked.job c.ends w.worked.start w.worked.starts).stays (world_at run k.begun) w.worked.nester c.world k.state w.worked.may w.now
+        let porter = (tidy (length c.ends) w.worked.job c.ends w.worked.start w.worked.its w.worked.starts).stays (world_at run k.begun) w.worked.nester c.world k.state w.worked.may w.now
         w.stage w.words w.asked in
         let e = event_of c.world ask m in
         let due = users_due c.world (named c.world m.who) ask is in
@@ -313,7 +313,7 @@ module _ {J S A V : Type 0} (h : House J S A V) (first : Core S A V) (users : As
         IsReadyAt c.world (event_of c.world (asks.Call stage words) m) → Made k.begun k.state (event_of c.world (asks.Call stage words) m)
     made_later k works stage words asks_it ready =
         let w = stands.working k works in
-        let law = tidy w.worked.job c.ends w.worked.start w.worked.starts in
+        let law = tidy (length c.ends) w.worked.job c.ends w.worked.start w.worked.its w.worked.starts in
         let porter = law.stays (world_at run k.begun) w.worked.nester c.world k.state w.worked.may w.now stage words asks_it.asked in
         let owed = law.later (world_at run k.begun) w.worked.nester c.world k.state w.worked.may w.now stage words asks_it.asked in
         let same_job : asks_it.job ≡ w.worked.job = (let one = asks_it.its in let two = w.worked.its in cc) in
@@ -342,7 +342,7 @@ module _ {J S A V : Type 0} (h : House J S A V) (first : Core S A V) (users : As
         caller_there c.world (named c.world m.who) (option_map (named c.world) m.pick) stage words ready in
         let at = named_there c.world sound_now.whole.valid sound_now.whole.few birth m.who.slot (rw (asks_it.space) at there) in
         let may : MayBegin c.world nester birth = record { sound = sound_now; clean = stands.clean idle; named = at } in
-        let owed = (tidy asks_it.job c.ends t starts).first c.world nester may stage words asks_it.asked in
+        let owed = (tidy (length c.ends) asks_it.job c.ends t asks_it.its starts).first c.world nester may stage words asks_it.asked in
         let is = same_event nester stage words asks_it.slot (ap (space_born c.world) asks_it.space) owed.unpicking ready in
         let events = stands.events in
         record {
@@ -489,7 +489,7 @@ module _ {J S A V : Type 0} (h : House J S A V) (first : Core S A V) (users : As
         cleaned : (end : A) → h.machine.head later ≡ Stops end → d.world ≡ after c.world event → IsClean d.world
         cleaned end stops goes =
             let next = done.next (length (past ++ m ∷ [])) longer goes in
-            (tidy next.worked.job c.ends next.worked.start next.worked.starts).ends (world_at all begun) next.worked.nester d.world later end next.worked.may
+            (tidy (length c.ends) next.worked.job c.ends next.worked.start next.worked.its next.worked.starts).ends (world_at all begun) next.worked.nester d.world later end next.worked.may
             next.now stops
 
         ended_now : (end : A) → h.machine.head later ≡ Stops end → Settled (job_moved h c event begun later (Stops end)) d →

@@ -34,7 +34,7 @@ module _ {J S A V : Type 0} (h : House J S A V) (first : Core S A V) (users : As
         IsReadyAt c.world (event_of c.world (asks.Call stage words) m) → IsJobsMove run m k.begun k.state stage words
     later k works stage words asks_it ready =
         let w = stand.working k works in
-        let law = tidy w.worked.job c.ends w.worked.start w.worked.starts in
+        let law = tidy (length c.ends) w.worked.job c.ends w.worked.start w.worked.its w.worked.starts in
         let porter = law.stays (world_at run k.begun) w.worked.nester c.world k.state w.worked.may w.now stage words asks_it.asked in
         let owed = law.later (world_at run k.begun) w.worked.nester c.world k.state w.worked.may w.now stage words asks_it.asked in
         let same_job : asks_it.job ≡ w.worked.job = (let one = asks_it.its in let two = w.worked.its in cc) in
@@ -60,7 +60,7 @@ module _ {J S A V : Type 0} (h : House J S A V) (first : Core S A V) (users : As
         caller_there c.world (named c.world m.who) (option_map (named c.world) m.pick) stage words ready in
         let at = named_there c.world sound_now.whole.valid sound_now.whole.few birth m.who.slot (rw (asks_it.space) at there) in
         let may : MayBegin c.world nester birth = record { sound = sound_now; clean = stand.clean idle; named = at } in
-        let owed = (tidy asks_it.job c.ends t starts).first c.world nester may stage words asks_it.asked in
+        let owed = (tidy (length c.ends) asks_it.job c.ends t asks_it.its starts).first c.world nester may stage words asks_it.asked in
         let place : begun ≡ length past = sym now ∙ stand.events in
         record {
           job = asks_it.job;

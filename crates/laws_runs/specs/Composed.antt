@@ -21,8 +21,10 @@ module _ {J S A V : Type 0} where
   abbrev pub AskAsUsers : House J S A V → Type 0
   AskAsUsers h = (v : V) (w : World) (who : Who) (ask : Ask) → h.servers.asks v w who ≡ Some ask → is_users ask ≡ true
 
+  -- what is at work is one of the scenario's jobs, however those before it have ended
   abbrev pub AreTidy : House J S A V → Type 0
-  AreTidy h = (j : J) (ends : List (JobEnd A)) (s : S) → h.begins j ends ≡ Some s → IsTidyJob h.machine (h.nester j) s
+  AreTidy h = (index : ℕ) (j : J) (ends : List (JobEnd A)) (s : S) → slice_get h.jobs index ≡ Some j → h.begins j ends ≡ Some s →
+      IsTidyJob h.machine (h.nester j) s
 
 -- a run may begin so
 pub record IsStart {S A V : Type 0} (c : Core S A V) : Type 0 where
