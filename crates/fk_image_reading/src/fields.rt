@@ -6,6 +6,7 @@ ghost use Rattle.fk_image_format.specs.Reading as words;
 ghost use Rattle.fk_image_reading.specs.Given.{Decodes, IsFault, Refuses};
 
 use crate::fail::Fail;
+use byteorder::{ByteOrder, LittleEndian};
 use fk_image::Link;
 use fk_image_format::Stop;
 
@@ -36,7 +37,7 @@ pub fn read_u16(bytes: &[u8]) -> Result<(u16, &[u8]), Fail>
     ensures fault { IfErr result (λ fail. IsFault fail) }
 {
     match bytes.split_first_chunk::<2>() {
-        Some((number, rest)) => Ok((u16::from_le_bytes(*number), rest)),
+        Some((number, rest)) => Ok((LittleEndian::read_u16(number), rest)),
         None => Err(refused(bytes, 3)),
     }
 }
@@ -47,7 +48,7 @@ pub fn read_u32(bytes: &[u8]) -> Result<(u32, &[u8]), Fail>
     ensures fault { IfErr result (λ fail. IsFault fail) }
 {
     match bytes.split_first_chunk::<4>() {
-        Some((number, rest)) => Ok((u32::from_le_bytes(*number), rest)),
+        Some((number, rest)) => Ok((LittleEndian::read_u32(number), rest)),
         None => Err(refused(bytes, 3)),
     }
 }
@@ -58,7 +59,7 @@ pub fn read_u64(bytes: &[u8]) -> Result<(u64, &[u8]), Fail>
     ensures fault { IfErr result (λ fail. IsFault fail) }
 {
     match bytes.split_first_chunk::<8>() {
-        Some((number, rest)) => Ok((u64::from_le_bytes(*number), rest)),
+        Some((number, rest)) => Ok((LittleEndian::read_u64(number), rest)),
         None => Err(refused(bytes, 3)),
     }
 }

@@ -1,6 +1,7 @@
 //! The parts of an image from its bytes: fields, pointers, threads, objects and pages.
 //!
-//! It stands on `fk_image_format` for what bytes say and what refuses them, and on `fk_image` for the records.
+//! It stands on `fk_image_format` for what bytes say and what refuses them, on `fk_image` for the records, and on
+//! `byteorder` for numbers.
 //! Each function reads its part from the front of the bytes and gives it with the bytes behind it, exactly as
 //! `fk_image_format` has it, or the fault of the first bad field. None recurses, and each takes time and memory
 //! in proportion to the bytes that it reads, whatever the numbers in them promise.

@@ -1,10 +1,11 @@
 //! The bytes of an image.
 //!
-//! It stands on `fk_image_format` for what an image's spelling is, and on `fk_image` for the records and for which
-//! images are valid. `write` gives the one spelling of a valid image. It recurses on nothing, and takes time
+//! It stands on `fk_image_format` for what an image's spelling is, on `fk_image` for the records and for which
+//! images are valid, and on `byteorder` for numbers. `write` gives the one spelling of a valid image. It recurses on nothing, and takes time
 //! and memory in proportion to the bytes that it gives.
 #![tactic(auto)]
 
+mod numbers;
 mod writing;
 
 pub use writing::write;

@@ -6,6 +6,7 @@ ghost use Rattle.fk_image.specs.Valid.{is_valid};
 ghost use Rattle.fk_image_format.specs.Spelling as spells;
 ghost use Rattle.fk_image_format.specs.Spells.{SpellsImage};
 
+use crate::numbers::{put_u16, put_u32, put_u64};
 use fk_image::{FaultRec, Image, Link, ObjectRec, PageRec, Rec, SpaceRec, TalkRec, ThreadRec};
 use fk_model::NoMemory;
 use std::alloc::Global;
@@ -18,7 +19,7 @@ fn put_link(out: &mut Vec<u8>, to: Link) -> Result<(), NoMemory>
         Link::Dead => out.push(1)?,
         Link::In { space, slot } => {
             out.push(2)?;
-            out.extend_from_slice(&space.to_le_bytes())?;
+            put_u32(out, space)?;
             out.push(slot)?;
         }
         Link::Out(slot) => out.extend_from_slice(&[3, slot])?,
@@ -32,7 +33,7 @@ fn put_words(out: &mut Vec<u8>, words: &[u64]) -> Result<(), NoMemory>
     ensures { OnOk result (out.new.items ≡ out.old.items ++ spells.words_bytes words.now) }
 {
     for word in words {
-        out.extend_from_slice(&word.to_le_bytes())?;
+        put_u64(out, *word)?;
     }
     Ok(())
 }
@@ -44,7 +45,7 @@ fn put_talk(out: &mut Vec<u8>, talk: Option<TalkRec>) -> Result<(), NoMemory>
         None => out.push(0)?,
         Some(talk) => {
             out.push(talk.turn)?;
-            out.extend_from_slice(&talk.moved.to_le_bytes())?;
+            put_u16(out, talk.moved)?;
             put_link(out, talk.port)?;
             put_link(out, talk.server)?;
         }
@@ -89,15 +90,14 @@ fn put_mode(out: &mut Vec<u8>, mode: u8, code: u8, stops: u16) -> Result<(), NoM
     ensures { OnOk result (out.new.items ≡ out.old.items ++ (mode ∷ code ∷ to_le_bytes w16 stops)) }
 {
     out.extend_from_slice(&[mode, code])?;
-    out.extend_from_slice(&stops.to_le_bytes())?;
-    Ok(())
+    put_u16(out, stops)
 }
 
 fn put_thread(out: &mut Vec<u8>, thread: &ThreadRec) -> Result<(), NoMemory>
     ensures { OnOk result (out.new.items ≡ out.old.items ++ spells.thread_bytes thread.now) }
 {
     put_words(out, &thread.regs)?;
-    out.extend_from_slice(&thread.pc.to_le_bytes())?;
+    put_u64(out, thread.pc)?;
     put_mode(out, thread.mode, thread.code, thread.stops)?;
     put_talk(out, thread.talk)?;
     put_fault(out, thread.fault)?;
@@ -108,8 +108,7 @@ fn put_extent(out: &mut Vec<u8>, kind: u8, first: u8, count: u16) -> Result<(), 
     ensures { OnOk result (out.new.items ≡ out.old.items ++ (kind ∷ first ∷ to_le_bytes w16 count)) }
 {
     out.extend_from_slice(&[kind, first])?;
-    out.extend_from_slice(&count.to_le_bytes())?;
-    Ok(())
+    put_u16(out, count)
 }
 
 fn put_body(out: &mut Vec<u8>, body: &Rec) -> Result<(), NoMemory>
@@ -141,7 +140,7 @@ fn put_body(out: &mut Vec<u8>, body: &Rec) -> Result<(), NoMemory>
         }
         Rec::Port { set } => {
             out.push(5)?;
-            out.extend_from_slice(&set.to_le_bytes())?;
+            put_u16(out, *set)?;
         }
         Rec::Portset => out.push(6)?,
         Rec::Thread(thread) => {
@@ -181,12 +180,12 @@ fn put_space(out: &mut Vec<u8>, space: &SpaceRec) -> Result<(), NoMemory>
     requires pages { length space.now.pages < 2 ^ 16 }
     ensures { OnOk result (out.new.items ≡ out.old.items ++ spells.space_bytes space.now) }
 {
-    out.extend_from_slice(&space.parent.to_le_bytes())?;
+    put_u32(out, space.parent)?;
     out.push(space.slot)?;
     put_link(out, space.holder)?;
-    out.extend_from_slice(&(space.objects.len() as u16).to_le_bytes())?;
+    put_u16(out, space.objects.len() as u16)?;
     put_objects(out, space.objects.as_slice())?;
-    out.extend_from_slice(&(space.pages.len() as u16).to_le_bytes())?;
+    put_u16(out, space.pages.len() as u16)?;
     put_pages(out, space.pages.as_slice())
 }
 
@@ -197,8 +196,8 @@ pub fn write(alloc: Global, image: &Image) -> Result<Vec<u8>, NoMemory>
 {
     let mut out = Vec::new(alloc);
     out.extend_from_slice(b"FLUKEIMG")?;
-    out.extend_from_slice(&1u16.to_le_bytes())?;
-    out.extend_from_slice(&(image.spaces.len() as u32).to_le_bytes())?;
+    put_u16(&mut out, 1)?;
+    put_u32(&mut out, image.spaces.len() as u32)?;
     for space in image.spaces.as_slice() {
         put_space(&mut out, space)?;
     }

@@ -6,7 +6,6 @@ returns c = rw (
   c.in_ok-put_fault.ensures,
   c.in_ok-put_talk.ensures,
   c.in_ok-put_mode.ensures,
-  c.in_ok-extend_from_slice.ensures.items,
-  c.to_le_bytes.ensures,
+  c.in_ok-put_u64.ensures,
   c.in_ok-put_words.ensures,
 ) (simp append_assoc)
