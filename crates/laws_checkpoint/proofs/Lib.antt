@@ -13,6 +13,7 @@ pub mod Working
 pub mod Ended
 pub mod Recorded
 pub mod Assembled
+pub mod Narrowed
 pub mod Preorder
 pub mod Numbers
 pub mod Imaged

@@ -18,6 +18,7 @@ use Rattle.laws_jobs.specs.Leads.{held_world}
 use Rattle.laws_jobs.specs.Holds.{Held}
 use Rattle.laws_checkpoint.specs.Walk.{met}
 use Rattle.laws_checkpoint.specs.Assembly.{spaces_met}
+use Rattle.laws_checkpoint.specs.Narrow.{narrowed}
 use Rattle.laws_checkpoint.specs.Checkpoint.{End, State, head, checkpoint}
 use Rattle.laws_checkpoint.specs.Checkpoint.End.{Gone, Foreign, Done}
 use Rattle.laws_checkpoint.specs.Checkpoint.State.{Holds}
@@ -25,6 +26,7 @@ use Rattle.laws_checkpoint.specs.Laws.{MaySave, CheckpointImagesSubtree, picture
 use Rattle.laws_checkpoint.proofs.Tasks.{spaces_are}
 use Rattle.laws_checkpoint.proofs.Working.{root_space, Verdict}
 use Rattle.laws_checkpoint.proofs.Assembled.{assembled_is}
+use Rattle.laws_checkpoint.proofs.Narrowed.{valid_is_narrow}
 use Rattle.laws_checkpoint.proofs.Imaged.{none_high, has_image}
 use Rattle.laws_checkpoint.proofs.Ended.{same_end, Came, came, cut_kept, ended_in, ends_as_it_was}
 use Rattle.laws_checkpoint.proofs.Ended.Came.{NeverHeld, InPhase}
@@ -49,7 +51,9 @@ module _ (slot birth : ℕ) (w : World) (nester : Path) (low : slot ≤ LAST_USE
       let shown = assembled_is start nester slot (spaces_of c) (λ q t e. sound.savable.shaped (q ++ slot ∷ nester) t e)
       (λ q is. spaces_are c (root_space nester slot birth low w may held sound) q is)
       (λ q k high. ap (λ (d : World). d.body (k ∷ q)) held.cut ∙ none_high w nester slot may.sound may.clean save.uncut save.users verdict.0 q k high) in
-      subst Imaged (sym (verdict.1 ∙ shown ∙ ap (λ (d : World). image_of d (spaces_of d)) held.cut)) (of_image verdict.0)
+      let imaged = of_image verdict.0 in
+      let its = shown ∙ ap (λ (d : World). image_of d (spaces_of d)) held.cut in
+      subst Imaged (sym (verdict.1 ∙ ap narrowed its ∙ valid_is_narrow (image_of (cut w nester slot) (spaces_of (cut w nester slot))) imaged.0)) imaged
 
   pub images_subtree : (v : World) (t : State) (image : Image) → Came slot birth w nester low may v t → head slot t ≡ Stops (Done image) → Imaged image
   images_subtree v t image (NeverHeld none same over) stops =

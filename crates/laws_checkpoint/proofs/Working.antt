@@ -47,6 +47,7 @@ use Rattle.laws_checkpoint.specs.Contents as reads
 use Rattle.laws_checkpoint.specs.Gather.{shown_at, all_pointers}
 use Rattle.laws_checkpoint.specs.Gather as gathers
 use Rattle.laws_checkpoint.specs.Assembly.{spaces_met, sought_tasks, gathered_tasks, assembled}
+use Rattle.laws_checkpoint.specs.Narrow.{narrowed}
 use Rattle.laws_checkpoint.specs.Checkpoint.{End, State, asks_as, ends_as, gathers_on, gathering, reads_on, reading, sought, seeks_on, seeking, walks_on, walking, head, next, checkpoint}
 use Rattle.laws_checkpoint.specs.Checkpoint.End.{Gone, Foreign, Done}
 use Rattle.laws_checkpoint.specs.Checkpoint.State.{Readies, Walks, Seeks, Reads, Gathers, Drops, Releases, Over}
@@ -139,7 +140,7 @@ module _ (nester : Path) (slot birth : ℕ) (low : slot ≤ LAST_USER_SLOT) (w :
   abbrev pub Verdict : End → Type 0
   Verdict Gone = ⊥
   Verdict (Foreign place) = open_place w nester slot ≡ Some place
-  Verdict (Done image) = (open_place w nester slot ≡ None) × (image ≡ assembled contents pointers)
+  Verdict (Done image) = (open_place w nester slot ≡ None) × (image ≡ narrowed (assembled contents pointers))
 
   abbrev pub Ref : World → ℕ → Type 0
   Ref v r = (p : Ptr) × (v.body (r ∷ nester) ≡ Some (Reference p))
@@ -182,7 +183,7 @@ module _ (nester : Path) (slot birth : ℕ) (low : slot ≤ LAST_USER_SLOT) (w :
       by (Asks stage words) e = AtGathers s closed its (stage, words, e) tidy
       by (Stops ps) e =
           let same = gathering_on.finds nester slot start near v s ps pointers its e in
-          dropping v (Done (assembled contents ps)) (closed, ap (assembled contents) same) its.base tidy
+          dropping v (Done (narrowed (assembled contents ps))) (closed, ap (λ (qs : List Ptr). narrowed (assembled contents qs)) same) its.base tidy
 
   from_reads : (v : World) (s : reads.State) → open_place w nester slot ≡ None → reading_on.Stands nester slot start near valid_start few_start v s contents → Tidy_now v three → Phase v (reading slot s)
   from_reads v s closed its tidy = by (reads.head slot s) refl

@@ -19,6 +19,7 @@ use Rattle.laws_checkpoint.specs.Contents.{Content}
 use Rattle.laws_checkpoint.specs.Contents as reads
 use Rattle.laws_checkpoint.specs.Gather as gathers
 use Rattle.laws_checkpoint.specs.Assembly.{spaces_met, sought_tasks, gathered_tasks, assembled}
+use Rattle.laws_checkpoint.specs.Narrow.{narrowed}
 
 -- how it ends: the slot held no space; the subtree isn't closed, first here; or its image
 pub data End : Type 0 where
@@ -51,7 +52,7 @@ ends_as end = Drops STEPS (TARGETS ∷ PLACES ∷ []) end
 
 abbrev pub gathers_on : List Content → gathers.State → Head (List Ptr) → State
 gathers_on contents s (Asks stage words) = Gathers contents s
-gathers_on contents s (Stops ps) = ends_as (Done (assembled contents ps))
+gathers_on contents s (Stops ps) = ends_as (Done (narrowed (assembled contents ps)))
 
 abbrev pub gathering : ℕ → List Content → gathers.State → State
 gathering slot contents s = gathers_on contents s (gathers.head slot s)

@@ -3,6 +3,7 @@ pub mod Gather
 pub mod Walk
 pub mod Contents
 pub mod Assembly
+pub mod Narrow
 pub mod Checkpoint
 pub mod Laws
 pub mod Bounded
