@@ -17,7 +17,7 @@ use Rattle.laws_restore.specs.Rooms.{Item, Sheet, Room}
 use Rattle.laws_restore.specs.Fits.{there, is_referable, IsWay}
 use Rattle.laws_restore.specs.Script.{P, T, U, padded, next_name, down, root_down, from_root, goes_by, goes_to, leads_by, leads_to_at, through_rooms, after_rooms, makes_space, makes_spaces, stands_at, fills, points_in, points_body, leads_in, is_out_to, is_talk_out, is_fault_out, leads_out, parks_talk, parks_fault, leads_body_out, has, each, leads_out_by, leads_outs, ties_talk, ties_fault, ties_its_talk, ties_its_fault, ties_body, ties_inside, talk_words, fault_words, taken_flag, holds_space, holds_spaces, stands_held, closes, any_room, made_by, filled_by, pointed_by, led_out_by, tied_by, script}
 use Rattle.laws_restore.specs.Roomed.{IsAim, IsPair, IsTakenAim, IsTalkAim, IsFaultAim, AreAims, IsNewSpace, AreItems, AreSpaces, AreRooms, IsRoomed, with_items, with_sheets, with_space, with_spaces}
-use Rattle.laws_restore.specs.Restore.{objects}
+use Rattle.laws_restore.specs.Restore.{beneath, objects}
 use Rattle.laws_restore.specs.Bounded.{count_of, LiesWithin, ScriptIsBounded, RestoreIsBounded}
 use Rattle.laws_restore.proofs.Counted.{is_counted}
 
@@ -627,9 +627,13 @@ module _ (slot : ℕ) (bind : ℕ → ℕ) (c : World) (d : ℕ) (deep : LiesWit
       let l6 = length-append (holds_spaces slot (tied_by rooms) rooms) closes in
       omega (arith, makes, fill, point, out, out_most, tie, hold, twice, six, l1, l2, l3, l4, l5, l6)
 
+one_at_most : (q : Path) → beneath q ≤ 1
+one_at_most [] = omega arith
+one_at_most (k ∷ q) = omega arith
+
 fewer : (rooms : List Room) → objects rooms ≤ count_of rooms
 fewer [] = omega arith
-fewer (r ∷ rs) = let rest = fewer rs in omega (arith, rest)
+fewer (r ∷ rs) = let rest = fewer rs in let here = one_at_most r.path in omega (arith, rest, here)
 
 -- one more than so many, each at least 1
 rises : (n d : ℕ) → n * suc d + suc d ≤ (n + 1) * (d + 1)

@@ -1,35 +1,52 @@
 -- Where a restore at work has come to, and so how it ends.
-use Rattle.std.proofs.Common.{◌≡◌, ℕ, zero, suc, ◌≤◌, Bool, true, false, cond, ◌==◌, nat_le, IsSome, List, [], ◌∷◌, None, ◌⊎◌, inl, inr, refl, sym, ap, subst, ◌∙◌}
-use Rattle.fk_model.specs.declared.limits.TheConstants.{OWN_SPACE, LAST_USER_SLOT, LAST_SCRATCH_SLOT}
-use Rattle.fk_model.specs.declared.stage.Stage.TheVariants.{SpaceMakeHeld, SpaceRelease}
+use Rattle.std.proofs.Common.{◌≡◌, ℕ, zero, suc, ◌≤◌, Bool, true, false, cond, ◌==◌, eqb, nat_le, IsSome, List, [], ◌∷◌, ◌++◌, length, Option, Some, None, option_map, arith, ◌⊎◌, inl, inr, refl, sym, ap, subst, ◌∙◌}
+use Rattle.fk_model.specs.declared.limits.TheConstants.{OWN_SPACE, LAST_USER_SLOT, LAST_SCRATCH_SLOT, LAST_PORTER_SLOT}
+use Rattle.fk_model.specs.declared.stage.Stage.TheVariants.{Destroy, SpaceMakeHeld, SpaceRelease}
 use Rattle.fk_model.specs.declared.statuses.status.TheConstants.{OK, OCCUPIED}
-use Rattle.fk_model.specs.Places.{Path}
+use Rattle.fk_model.specs.Places.{Path, same_path}
+use Rattle.fk_model.specs.Places.Ptr.{At}
+use Rattle.fk_model.specs.Objects.{Body}
 use Rattle.fk_model.specs.Holds.{holder_of}
-use Rattle.fk_model.specs.World.{World}
+use Rattle.fk_model.specs.World.{World, edited, apply}
+use Rattle.fk_model.specs.World.Change.{MakeSpace}
+use Rattle.fk_model.specs.World.Edit.{SetHolder}
+use Rattle.fk_model.specs.ObjectRows.{is_scratch}
+use Rattle.fk_model.specs.Whole.{is_scratch_slot}
+use Rattle.fk_model.specs.Valid.{IsValid}
+use Rattle.fk_model.proofs.walks.PlaceLaws.{same_path_eq}
+use Rattle.laws_cut.specs.Likeness.{seeing}
 use Rattle.fk_model.specs.Outcomes.{Said}
 use Rattle.fk_model.specs.Outcomes.Said.{Answered}
 use Rattle.fk_model.specs.Runs.{Event, after}
 use Rattle.fk_model.specs.Rebind.{rebound}
-use Rattle.fk_model.specs.Cut.{cut, IsPlain}
+use Rattle.fk_model.specs.Cut.{cut, IsPlain, seen_by, unheld}
 use Rattle.laws_savable.specs.Savable.{IsSound}
 use Rattle.laws_jobs.specs.Machines.{Reply, IsAnswered, no_words, call_of, said_of, reply_of, heard, IsReadyAt, Interleaved, AtWork}
 use Rattle.laws_jobs.specs.Machines.Head.{Stops}
 use Rattle.laws_jobs.specs.Machines.Interleaved.{Here, Another, Own}
-use Rattle.laws_jobs.specs.Jobs.{MayBegin}
-use Rattle.laws_sites.specs.Orders.{Site, Shows, Order, stage_of, words_of, does, does_all, MayAll, passes, fails}
-use Rattle.laws_sites.specs.Orders.Order.{Readies, Leads, LeadsTop, Makes, Sets, Points, Gives, MakesPin, Pins, Takes, Checks, ParksTalk, ParksFault, Drops, DropsPin, Deadens, LinksTalk, RaisesFault, LinksFault, Holds}
+use Rattle.laws_jobs.specs.Jobs.{IsClean, MayBegin}
+use Rattle.laws_jobs.specs.Holds.{released_world}
+use Rattle.laws_jobs.proofs.Holds.{release_comes_to}
+use Rattle.laws_jobs.proofs.Goings.{goes_by}
+use Rattle.laws_jobs.proofs.Weaving.{first_sound}
+use Rattle.laws_sites.specs.Orders.{Pin, Site, PinShows, SpotShows, Shows, eye, pin_of, Order, stage_of, words_of, does, does_all, May, MayAll, passes, fails, with_pin}
+use Rattle.laws_sites.specs.Orders.Pin.{NoPin, Loose}
+use Rattle.laws_sites.specs.Orders.Order.{Pins, Checks, Drops}
 use Rattle.laws_sites.specs.Orders.End.{Lost}
 use Rattle.laws_sites.specs.Begun.{first}
 use Rattle.laws_sites.specs.Fit.{IsUnled}
 use Rattle.laws_sites.specs.Owed.{SuitsAll}
 use Rattle.laws_sites.proofs.Near.{own_calls_are_near, near_calls_keep_unled, others_keep_new_unled, new_space_is_unled}
-use Rattle.laws_sites.proofs.Begun.{begins}
-use Rattle.laws_sites.proofs.Others.{others}
+use Rattle.laws_sites.specs.Near.{IsNearCall}
+use Rattle.laws_sites.proofs.Nearby.{inside_near}
+use Rattle.laws_sites.proofs.Begun.{begins, make-row, made_as}
+use Rattle.laws_sites.proofs.Others.{others, holding}
 use Rattle.laws_sites.proofs.Released.{releases}
 use Rattle.laws_sites.proofs.Plainly.{releases_plain}
 use Rattle.laws_sites.proofs.Restored.{own_call}
 use Rattle.laws_restore.specs.Rooms.{Room}
-use Rattle.laws_restore.specs.Script.{script}
+use Rattle.laws_restore.specs.Fits.{there}
+use Rattle.laws_restore.specs.Script.{P, T, U, D, script}
 use Rattle.laws_restore.specs.Roomed.{IsRoomed}
 use Rattle.laws_restore.specs.Laws.{finished}
 use Rattle.laws_restore.specs.Restore.{End, State, head, looked_at, refused, drops, objects, lowest_bound, restore}
@@ -37,7 +54,14 @@ use Rattle.laws_restore.specs.Restore.End.{Done, Occupied, NoPort}
 use Rattle.laws_restore.specs.Restore.State.{Makes as Begins, Works, Clears, Over}
 use Rattle.laws_restore.specs.Restore.{is_done}
 use Rattle.laws_restore.specs.Ends.{EndsSo, RestoreEndsSo, RestoreRestores}
-use Rattle.laws_restore.proofs.Scripted.{script_makes, script_suits}
+use Rattle.laws_restore.proofs.Ways.{SafeAt, SafeAll}
+use Rattle.laws_restore.proofs.Asked.{IsAsked}
+use Rattle.laws_restore.proofs.Whole.{unscratched}
+use Rattle.laws_restore.proofs.Scripted.{script_makes, script_suits, script_safe}
+use Rattle.laws_restore.proofs.Emptying.{IsEmptied, emptied_others, world, left_world, fewer, no_scratch, next_emptied, all_gone}
+use Rattle.laws_restore.proofs.Listed.{all_standing, standing_length, emptied_from}
+use Rattle.laws_restore.proofs.Refused.{left_at, refused_shows}
+use Rattle.laws_restore.proofs.Tidying.{Tidied, tidied_first, tidied_others, tidied_near, tidied_emptied, clean_from}
 
 module _ (slot birth : ℕ) (bind : ℕ → ℕ) (c : World) (rooms : List Room) (w : World) (nester : Path) (low : slot ≤ LAST_USER_SLOT) (its : IsRoomed bind c rooms) (may_begin : MayBegin w nester birth) where
   abbrev root : Path
@@ -47,7 +71,7 @@ module _ (slot birth : ℕ) (bind : ℕ → ℕ) (c : World) (rooms : List Room)
   Empty = w.body root ≡ None
 
   -- scratch is dropped alone
-  abbrev AreDrops : List Order → Type 0
+  abbrev pub AreDrops : List Order → Type 0
   AreDrops [] = Unit {0}
   AreDrops (Drops r ∷ os) = (nat_le r LAST_SCRATCH_SLOT ≡ true) × AreDrops os
   AreDrops (o ∷ os) = ⊥
@@ -56,75 +80,208 @@ module _ (slot birth : ℕ) (bind : ℕ → ℕ) (c : World) (rooms : List Room)
   rest_drops (Drops r) os its = its.1
   rest_drops o os its = absurd its
 
+  abbrev pub IsAskedHere : ℕ → Site → Type 0
+  IsAskedHere = IsAsked bind c rooms
+
+  -- a new space with all that is to stand in it, and scratch that these orders drop
+  pub record IsLeft (os : List Order) (g : Site) : Type 0 where
+    pub drop : AreDrops os
+    pub may : MayAll slot os g
+    pub stands : (y : Path) → there g.built y ≡ there c y
+    pub pin : g.pin ≡ NoPin → ⊥
+    pub spots : (k : ℕ) → (does_all os g).spot k ≡ None
+
   -- where it has come to
   pub data Came : World → State → Type 0 where
-    Working : (os : List Order) (g : Site) (v : World) → Empty → Shows nester slot g v → IsUnled nester slot v → MayAll slot os g → SuitsAll os g → does_all os g ≡ finished bind c → Came v (Works os)
-    Clearing : (os : List Order) (more port : ℕ) (v : World) → Empty → AreDrops os → Came v (Clears os more port)
-    Finished : (v : World) → Empty → IsPlain v nester slot → cut v nester slot ≡ rebound bind c → holder_of (v.body root) ≡ None → Came v (Over Done)
-    Missing : (port : ℕ) (v : World) → Empty → Came v (Over (NoPort port))
+    Working : (os : List Order) (g : Site) (v : World) → Empty → Shows nester slot g v → IsUnled nester slot v → MayAll slot os g → SuitsAll os g → SafeAll IsAskedHere os g → Tidied nester slot birth v →
+        does_all os g ≡ finished bind c → Came v (Works os)
+    Dropping : (o : Order) (os : List Order) (port : ℕ) (g : Site) (v : World) → Empty → Shows nester slot g v → IsLeft (o ∷ os) g → Tidied nester slot birth v → Came v (Clears (o ∷ os) (suc (objects rooms)) port)
+    Clearing : (xs : List Path) (more port : ℕ) (v : World) → Empty → IsEmptied nester slot v xs → length xs ≡ suc more → Tidied nester slot birth v → Came v (Clears [] more port)
+    Finished : (v : World) → Empty → IsPlain v nester slot → cut v nester slot ≡ rebound bind c → holder_of (v.body root) ≡ None → IsClean v → Came v (Over Done)
+    Missing : (port : ℕ) (v : World) → Empty → ((q : Path) → v.body (q ++ root) ≡ None) → IsClean v → Came v (Over (NoPort port))
     Taken : (v : World) → IsSome (w.body root) → v ≡ w → Came v (Over Occupied)
 
+  -- ---- a port is missing
+
+  drops_from : (g : Site) (j : ℕ) → (h : Site) → IsAskedHere j g → h.built ≡ g.built → ((k : ℕ) → h.spot k ≡ g.spot k) → (h.pin ≡ NoPin → ⊥) → IsLeft drops h
+  unfolding does_all
+  drops_from g j h asked built spot pin = record {
+    drop = (refl, (refl, (refl, (refl, tt))));
+    may = ((refl, rw (spot P) asked.at), ((refl, rw (spot T) asked.t), ((refl, rw (spot U) asked.u), ((refl, rw (spot D) asked.dead), tt))));
+    stands = λ y. ap (λ (m : World). there m y) built ∙ asked.stands y;
+    pin = pin;
+    spots = λ k. by k (eqb k D) (eqb k U) (eqb k T) (eqb k P) refl refl refl refl;
+  }
+    where
+      by : (k : ℕ) (d u t p : Bool) → eqb k D ≡ d → eqb k U ≡ u → eqb k T ≡ t → eqb k P ≡ p → cond d None (cond u None (cond t None (cond p None (h.spot k)))) ≡ None
+      by k true u t p a b e f = refl
+      by k false true t p a b e f = refl
+      by k false false true p a b e f = refl
+      by k false false false true a b e f = refl
+      by k false false false false a b e f = spot k ∙ asked.none k f e b a
+
   -- no other order is refused
-  no_port : (u : World) (os : List Order) (o : Order) → Empty → (fails o ≡ Lost → ⊥) → Came u (refused bind rooms os (looked_at o))
-  no_port u os (Pins i) empty well = Clearing drops (objects rooms) (lowest_bound bind rooms i 240 0) u empty (refl, (refl, (refl, (refl, tt))))
-  no_port u os (Checks r i) empty well = Clearing drops (objects rooms) (lowest_bound bind rooms i 240 0) u empty (refl, (refl, (refl, (refl, tt))))
-  no_port u os (Readies r) empty well = absurd (well refl)
-  no_port u os (Leads r s q x) empty well = absurd (well refl)
-  no_port u os (LeadsTop r) empty well = absurd (well refl)
-  no_port u os (Makes s q x kind) empty well = absurd (well refl)
-  no_port u os (Sets s q x words) empty well = absurd (well refl)
-  no_port u os (Points s q x r) empty well = absurd (well refl)
-  no_port u os (Gives s q page words) empty well = absurd (well refl)
-  no_port u os MakesPin empty well = absurd (well refl)
-  no_port u os (Takes r) empty well = absurd (well refl)
-  no_port u os (ParksTalk s q x i words) empty well = absurd (well refl)
-  no_port u os (ParksFault s q x i taken words) empty well = absurd (well refl)
-  no_port u os (LinksTalk s q x r t port server words) empty well = absurd (well refl)
-  no_port u os (RaisesFault s q x r port words) empty well = absurd (well refl)
-  no_port u os (LinksFault s q x r t port taker words) empty well = absurd (well refl)
-  no_port u os (Holds s q x r holder) empty well = absurd (well refl)
-  no_port u os (Drops r) empty well = absurd (well refl)
-  no_port u os DropsPin empty well = absurd (well refl)
-  no_port u os (Deadens r) empty well = absurd (well refl)
+  no_port : (g : Site) (u : World) (os : List Order) (o : Order) → Empty → (fails o ≡ Lost → ⊥) → May slot o g → SafeAt IsAskedHere o g → Shows nester slot (left_at o g) u → Tidied nester slot birth u → Came u (refused bind rooms os (looked_at o))
+  no_port g u os (Pins i) empty well may asked shows tidied = Dropping (Drops P) _ (lowest_bound bind rooms i 240 0) (with_pin Loose g) u empty shows (drops_from g i (with_pin Loose g) asked refl (λ k. refl) (λ e. cc)) tidied
+  no_port g u os (Checks r i) empty well may asked shows tidied = Dropping (Drops P) _ (lowest_bound bind rooms i 240 0) g u empty shows (drops_from g i g asked refl (λ k. refl) asked.pin) tidied
+  no_port g u os o empty well may asked shows tidied = absurd (well refl)
 
-  after_own : (g : Site) (v : World) (o : Order) (os : List Order) (status : ℕ) (words : List ℕ) (b : Bool) → passes o status words ≡ b → Empty → (b ≡ false → (fails o ≡ Lost → ⊥)) → (b ≡ true → Shows nester slot (does o g) v) → IsUnled nester slot v →
-      MayAll slot os (does o g) → SuitsAll os (does o g) → does_all os (does o g) ≡ finished bind c → Came v (cond b (Works os) (refused bind rooms os (looked_at o)))
-  after_own g v o os status words true e empty well shown unled may suits is = Working os (does o g) v empty (shown refl) unled may suits is
-  after_own g v o os status words false e empty well shown unled may suits is = no_port v os o empty (well refl)
+  after_own : (g : Site) (v : World) (o : Order) (os : List Order) (status : ℕ) (words : List ℕ) (b : Bool) → passes o status words ≡ b → Empty → (b ≡ false → (fails o ≡ Lost → ⊥)) → (b ≡ true → Shows nester slot (does o g) v) →
+      ((fails o ≡ Lost → ⊥) → Shows nester slot (left_at o g) v) → IsUnled nester slot v → May slot o g → SafeAt IsAskedHere o g → Tidied nester slot birth v →
+      MayAll slot os (does o g) → SuitsAll os (does o g) → SafeAll IsAskedHere os (does o g) → does_all os (does o g) ≡ finished bind c → Came v (cond b (Works os) (refused bind rooms os (looked_at o)))
+  after_own g v o os status words true e empty well shown left unled may_now asked tidied may suits safe is = Working os (does o g) v empty (shown refl) unled may suits safe tidied is
+  after_own g v o os status words false e empty well shown left unled may_now asked tidied may suits safe is = no_port g v os o empty (well refl) may_now asked (left (well refl)) tidied
 
-  released : (g : Site) (u : World) → Empty → Shows nester slot g u → IsUnled nester slot u → g ≡ finished bind c → IsSound u → IsReadyAt u (call_of nester (SpaceRelease OWN_SPACE slot) no_words) →
+  -- ---- scratch is dropped, and then all is destroyed
+
+  clears_on : (os : List Order) (port : ℕ) (g : Site) (v : World) → Empty → Shows nester slot g v → IsLeft os g → Tidied nester slot birth v → Came v (Clears os (suc (objects rooms)) port)
+  unfolding does_all
+  clears_on [] port g v empty shows left tidied =
+      Clearing (all_standing bind c rooms its) (suc (objects rooms)) port v empty (emptied_from bind c rooms its nester slot g v shows left.stands left.pin left.spots) (standing_length bind c rooms its) tidied
+  clears_on (o ∷ os) port g v empty shows left tidied = Dropping o os port g v empty shows left tidied
+
+  drop_lost : (o : Order) (os : List Order) → AreDrops (o ∷ os) → fails o ≡ Lost
+  drop_lost (Drops r) os drop = refl
+  drop_lost o os drop = absurd drop
+
+  drop_built : (o : Order) (os : List Order) (g : Site) → AreDrops (o ∷ os) → ((does o g).built ≡ g.built) × ((does o g).pin ≡ g.pin)
+  drop_built (Drops r) os g drop = (refl, refl)
+  drop_built o os g drop = absurd drop
+
+  left_on : (o : Order) (os : List Order) (g : Site) → IsLeft (o ∷ os) g → IsLeft os (does o g)
+  unfolding does_all
+  left_on o os g left =
+      let same = drop_built o os g left.drop in
+      record {
+        drop = rest_drops o os left.drop;
+        may = left.may.1;
+        stands = λ y. ap (λ (m : World). there m y) same.0 ∙ left.stands y;
+        pin = λ e. left.pin (sym same.1 ∙ e);
+        spots = left.spots;
+      }
+
+  dropped : (o : Order) (os : List Order) (port : ℕ) (g : Site) (u : World) → Empty → Shows nester slot g u → IsLeft (o ∷ os) g → Tidied nester slot birth u → IsSound u → IsReadyAt u (call_of nester (stage_of slot o) (words_of o)) →
+      Came (after u (call_of nester (stage_of slot o) (words_of o))) (Clears os (suc (objects rooms)) port)
+  dropped o os port g u empty shows left tidied sound ready =
+      let call = own_call nester slot g u o shows left.may.0 sound ready in
+      let answered : IsAnswered nester u (stage_of slot o) (words_of o) call.reply = record { valid = sound.whole.valid; few = sound.whole.few; ready = ready; said = ap reply_of call.said } in
+      let near = own_calls_are_near nester slot g u o call.reply shows left.may.0 answered in
+      let shown = call.its.shown (by call.reply.status call.reply.words (passes o call.reply.status call.reply.words) refl call.its.fails_well (drop_lost o os left.drop)) in
+      clears_on os port (does o g) _ empty shown (left_on o os g left) (tidied_near nester slot birth u (call_of nester (stage_of slot o) (words_of o)) near tidied)
+    where
+      by : (status : ℕ) (words : List ℕ) (b : Bool) → passes o status words ≡ b → (passes o status words ≡ false → (fails o ≡ Lost → ⊥)) → fails o ≡ Lost → passes o status words ≡ true
+      by status words true e well lost = e
+      by status words false e well lost = absurd (well e lost)
+
+  -- one object goes
+  destroyed : (xs : List Path) (more port : ℕ) (v : World) → Empty → IsEmptied nester slot v xs → length xs ≡ suc (suc more) → Tidied nester slot birth v → IsSound v → IsSound (after v (call_of nester (Destroy OWN_SPACE slot) no_words)) →
+      IsReadyAt v (call_of nester (Destroy OWN_SPACE slot) no_words) → Came (after v (call_of nester (Destroy OWN_SPACE slot) no_words)) (Clears [] more port)
+  destroyed xs more port v empty emptied many tidied sound sound_after ready =
+      let valid = sound.whole.valid in
+      let is = world nester slot v valid xs emptied ready in
+      let valid_after : IsValid (left_world nester slot v valid xs emptied) = subst IsValid is sound_after.whole.valid in
+      subst (λ (m : World). Came m (Clears [] more port)) (sym is)
+      (Clearing _ more port (left_world nester slot v valid xs emptied) empty (next_emptied nester slot v valid xs emptied valid_after more many)
+      (let few = fewer nester slot v valid xs emptied in omega (arith, few, many)) (tidied_emptied nester slot birth v valid xs emptied tidied))
+
+  -- the last is the space itself
+  destroyed_last : (xs : List Path) (port : ℕ) (v : World) → Empty → IsEmptied nester slot v xs → length xs ≡ 1 → Tidied nester slot birth v → IsSound v →
+      IsReadyAt v (call_of nester (Destroy OWN_SPACE slot) no_words) → Came (after v (call_of nester (Destroy OWN_SPACE slot) no_words)) (Over (NoPort port))
+  destroyed_last xs port v empty emptied last tidied sound ready =
+      let valid = sound.whole.valid in
+      let is = world nester slot v valid xs emptied ready in
+      let none = all_gone nester slot v valid xs emptied last in
+      subst (λ (m : World). Came m (Over (NoPort port))) (sym is)
+      (Missing port (left_world nester slot v valid xs emptied) empty none
+      (clean_from nester slot birth (left_world nester slot v valid xs emptied) low (tidied_emptied nester slot birth v valid xs emptied tidied) (λ k q scratch. none (k ∷ q)) (no_scratch nester slot v valid xs emptied)))
+
+  -- ---- the release
+
+  -- what has been made has no scratch in it
+  pub empty_inside : (v : World) (g : Site) → Shows nester slot g v → g ≡ finished bind c → (k : ℕ) (q : Path) → is_scratch_slot k ≡ true → v.body (k ∷ (q ++ root)) ≡ None
+  unfolding rebound
+  empty_inside v g shows is k q scratch = by (same_path (k ∷ (q ++ root)) (pin_of root)) refl (sym none ∙ shows.like.bodies (k ∷ q))
+    where
+      none : g.built.body (k ∷ q) ≡ None
+      none = let off = unscratched bind c rooms its slot k q scratch in rw (is, off) refl
+
+      pin : PinShows nester slot v NoPin
+      pin = subst (λ (p : Pin). PinShows nester slot v p) (ap (λ (g : Site). g.pin) is) shows.pin
+
+      absent : (o : Option Body) → None ≡ option_map (λ b. unheld (k ∷ q) (seen_by (seeing (eye nester slot)) b)) o → o ≡ None
+      absent None e = refl
+      absent (Some b) e = cc
+
+      by : (t : Bool) → same_path (k ∷ (q ++ root)) (pin_of root) ≡ t → None ≡ option_map (λ b. unheld (k ∷ q) (seen_by (seeing (eye nester slot)) b)) (cond t None (v.body (k ∷ (q ++ root)))) → v.body (k ∷ (q ++ root)) ≡ None
+      by true e h = let here = same_path_eq (k ∷ (q ++ root)) (pin_of root) e in rw here pin
+      by false e h = absent (v.body (k ∷ (q ++ root))) h
+
+  no_spots : (v : World) (g : Site) → Shows nester slot g v → g ≡ finished bind c → (k : ℕ) → is_scratch nester (k ∷ nester) ≡ true → v.body (k ∷ nester) ≡ None
+  no_spots v g shows is k scratch = subst (λ (g : Site). SpotShows nester slot v g.pin k (g.spot k)) is (shows.spots k scratch)
+
+  -- a release changes a holder alone
+  released_clean : (v : World) → IsClean v → IsClean (released_world nester slot v)
+  unfolding apply
+  released_clean v clean s k scratch = by (same_path (k ∷ s) root) (clean s k scratch)
+    where
+      by : (t : Bool) → v.body (k ∷ s) ≡ None → cond t (option_map (edited (SetHolder None)) (v.body (k ∷ s))) (v.body (k ∷ s)) ≡ None
+      by true none = rw none refl
+      by false none = none
+
+  released : (g : Site) (u : World) → Empty → Shows nester slot g u → IsUnled nester slot u → g ≡ finished bind c → Tidied nester slot birth u → IsSound u → IsReadyAt u (call_of nester (SpaceRelease OWN_SPACE slot) no_words) →
       Came (after u (call_of nester (SpaceRelease OWN_SPACE slot) no_words)) (Over Done)
-  released g u empty shows unled is sound ready =
+  released g u empty shows unled is tidied sound ready =
       let reply = reply_of (said_of u (call_of nester (SpaceRelease OWN_SPACE slot) no_words)) in
       let answered : IsAnswered nester u (SpaceRelease OWN_SPACE slot) no_words reply = record { valid = sound.whole.valid; few = sound.whole.few; ready = ready; said = refl } in
       let end = releases nester slot g u reply shows (rw is refl) answered in
-      Finished _ empty (releases_plain nester slot g u reply shows (rw is refl) unled answered) (end.2 ∙ ap (λ (g : Site). g.built) is) end.1
+      let comes = release_comes_to nester slot u (holding nester slot g u shows) ready in
+      let clean = clean_from nester slot birth u low tidied (empty_inside u g shows is) (no_spots u g shows is) in
+      Finished _ empty (releases_plain nester slot g u reply shows (rw is refl) unled answered) (end.2 ∙ ap (λ (g : Site). g.built) is) end.1 (subst IsClean (sym comes.world) (released_clean u clean))
 
   pub arrives : (u v : World) (s t : State) (es : List Event) → Came u s → (run : Interleaved (restore slot bind rooms) nester u s es v t) → Came v t
   unfolding does_all
   arrives _ _ _ _ _ at (Here u s sound) = at
-  arrives _ v _ t _ (Working os g u empty shows unled may suits is) (Another _ _ e es _ _ sound works moves rest) =
-      arrives (after u e) v (Works os) t es (Working os g (after u e) empty (others nester slot g u e shows moves) (others_keep_new_unled nester slot g u e shows moves unled) may suits is) rest
-  arrives _ v _ t _ (Clearing os more port u empty drop) (Another _ _ e es _ _ sound works moves rest) = arrives (after u e) v (Clears os more port) t es (Clearing os more port (after u e) empty drop) rest
-  arrives _ v _ t _ (Finished u empty plain same unheld) (Another _ _ e es _ _ sound works moves rest) = let asked = works.2 in cc
-  arrives _ v _ t _ (Missing port u empty) (Another _ _ e es _ _ sound works moves rest) = let asked = works.2 in cc
+  arrives _ v _ t _ (Working os g u empty shows unled may suits safe tidied is) (Another _ _ e es _ _ sound works moves rest) =
+      let kept = others nester slot g u e shows moves in
+      arrives (after u e) v (Works os) t es (Working os g (after u e) empty kept (others_keep_new_unled nester slot g u e shows moves unled) may suits safe (tidied_others nester slot birth u e moves kept.porter tidied) is) rest
+  arrives _ v _ t _ (Dropping o os port g u empty shows left tidied) (Another _ _ e es _ _ sound works moves rest) =
+      let kept = others nester slot g u e shows moves in
+      arrives (after u e) v (Clears (o ∷ os) (suc (objects rooms)) port) t es (Dropping o os port g (after u e) empty kept left (tidied_others nester slot birth u e moves kept.porter tidied)) rest
+  arrives _ v _ t _ (Clearing xs more port u empty emptied many tidied) (Another _ _ e es _ _ sound works moves rest) =
+      let kept = emptied_others nester slot u e xs emptied moves in
+      arrives (after u e) v (Clears [] more port) t es (Clearing xs more port (after u e) empty kept many (tidied_others nester slot birth u e moves kept.holding.porter tidied)) rest
+  arrives _ v _ t _ (Finished u empty plain same unheld clean) (Another _ _ e es _ _ sound works moves rest) = let asked = works.2 in cc
+  arrives _ v _ t _ (Missing port u empty none clean) (Another _ _ e es _ _ sound works moves rest) = let asked = works.2 in cc
   arrives _ v _ t _ (Taken u there same) (Another _ _ e es _ _ sound works moves rest) = let asked = works.2 in cc
-  arrives _ v _ t _ (Finished u empty plain same unheld) (Own _ _ stage words es _ _ sound asks ready rest) = cc
-  arrives _ v _ t _ (Missing port u empty) (Own _ _ stage words es _ _ sound asks ready rest) = cc
+  arrives _ v _ t _ (Finished u empty plain same unheld clean) (Own _ _ stage words es _ _ sound asks ready rest) = cc
+  arrives _ v _ t _ (Missing port u empty none clean) (Own _ _ stage words es _ _ sound asks ready rest) = cc
   arrives _ v _ t _ (Taken u there same) (Own _ _ stage words es _ _ sound asks ready rest) = cc
-  arrives _ v _ t _ (Clearing [] zero port u empty drop) (Own _ _ stage words es _ _ sound asks ready rest) =
-      arrives (after u (call_of nester stage words)) v (Over (NoPort port)) t es (Missing port (after u (call_of nester stage words)) empty) rest
-  arrives _ v _ t _ (Clearing [] (suc more) port u empty drop) (Own _ _ stage words es _ _ sound asks ready rest) =
-      arrives (after u (call_of nester stage words)) v (Clears [] more port) t es (Clearing [] more port (after u (call_of nester stage words)) empty tt) rest
-  arrives _ v _ t _ (Clearing (o ∷ os) more port u empty drop) (Own _ _ stage words es _ _ sound asks ready rest) =
-      arrives (after u (call_of nester stage words)) v (Clears os more port) t es (Clearing os more port (after u (call_of nester stage words)) empty (rest_drops o os drop)) rest
-  arrives _ v _ t _ (Working [] g u empty shows unled may suits is) (Own _ _ stage words es _ _ sound asks ready rest) =
+  arrives _ v _ t _ (Dropping o os port g u empty shows left tidied) (Own _ _ stage words es _ _ sound asks ready rest) =
+      let stages : stage_of slot o ≡ stage = cc in
+      let given : words_of o ≡ words = cc in
+      let same : call_of nester (stage_of slot o) (words_of o) ≡ call_of nester stage words = rw (stages, given) refl in
+      let here = dropped o os port g u empty shows left tidied sound (subst (IsReadyAt u) (sym same) ready) in
+      arrives (after u (call_of nester stage words)) v (Clears os (suc (objects rooms)) port) t es (subst (λ (e : Event). Came (after u e) (Clears os (suc (objects rooms)) port)) same here) rest
+  arrives _ v _ t _ (Clearing xs zero port u empty emptied many tidied) (Own _ _ stage words es _ _ sound asks ready rest) =
+      let stages : Destroy OWN_SPACE slot ≡ stage = cc in
+      let given : no_words ≡ words = cc in
+      let same : call_of nester (Destroy OWN_SPACE slot) no_words ≡ call_of nester stage words = rw (stages, given) refl in
+      let here = destroyed_last xs port u empty emptied many tidied sound (subst (IsReadyAt u) (sym same) ready) in
+      arrives (after u (call_of nester stage words)) v (Over (NoPort port)) t es (subst (λ (e : Event). Came (after u e) (Over (NoPort port))) same here) rest
+  arrives _ v _ t _ (Clearing xs (suc more) port u empty emptied many tidied) (Own _ _ stage words es _ _ sound asks ready rest) =
+      let stages : Destroy OWN_SPACE slot ≡ stage = cc in
+      let given : no_words ≡ words = cc in
+      let same : call_of nester (Destroy OWN_SPACE slot) no_words ≡ call_of nester stage words = rw (stages, given) refl in
+      let after_sound : IsSound (after u (call_of nester stage words)) = first_sound (restore slot bind rooms) nester (after u (call_of nester stage words)) (Clears [] more port) es v t rest in
+      let here = destroyed xs more port u empty emptied many tidied sound (subst (λ (e : Event). IsSound (after u e)) (sym same) after_sound) (subst (IsReadyAt u) (sym same) ready) in
+      arrives (after u (call_of nester stage words)) v (Clears [] more port) t es (subst (λ (e : Event). Came (after u e) (Clears [] more port)) same here) rest
+  arrives _ v _ t _ (Working [] g u empty shows unled may suits safe tidied is) (Own _ _ stage words es _ _ sound asks ready rest) =
       let stages : SpaceRelease OWN_SPACE slot ≡ stage = cc in
       let given : no_words ≡ words = cc in
       let same : call_of nester (SpaceRelease OWN_SPACE slot) no_words ≡ call_of nester stage words = rw (stages, given) refl in
-      let here = released g u empty shows unled is sound (subst (IsReadyAt u) (sym same) ready) in
+      let here = released g u empty shows unled is tidied sound (subst (IsReadyAt u) (sym same) ready) in
       arrives (after u (call_of nester stage words)) v (Over Done) t es (subst (λ (e : Event). Came (after u e) (Over Done)) same here) rest
-  arrives _ v _ t _ (Working (o ∷ os) g u empty shows unled may suits is) (Own _ _ stage words es _ _ sound asks ready rest) =
+  arrives _ v _ t _ (Working (o ∷ os) g u empty shows unled may suits safe tidied is) (Own _ _ stage words es _ _ sound asks ready rest) =
       let stages : stage_of slot o ≡ stage = cc in
       let given : words_of o ≡ words = cc in
       arrives (after u (call_of nester stage words)) v (heard (restore slot bind rooms) (Works (o ∷ os)) (said_of u (call_of nester stage words))) t es (stands stages given ready) rest
@@ -137,9 +294,12 @@ module _ (slot birth : ℕ) (bind : ℕ → ℕ) (c : World) (rooms : List Room)
           let end : World = after u (call_of nester (stage_of slot o) (words_of o)) in
           let same : call_of nester (stage_of slot o) (words_of o) ≡ call_of nester stage words = rw (stages, given) refl in
           let answered : IsAnswered nester u (stage_of slot o) (words_of o) call.reply = record { valid = sound.whole.valid; few = sound.whole.few; ready = mine; said = ap reply_of call.said } in
-          let still = near_calls_keep_unled nester slot u (call_of nester (stage_of slot o) (words_of o)) (own_calls_are_near nester slot g u o call.reply shows may.0 answered) unled in
+          let near = own_calls_are_near nester slot g u o call.reply shows may.0 answered in
+          let still = near_calls_keep_unled nester slot u (call_of nester (stage_of slot o) (words_of o)) near unled in
+          let tidy = tidied_near nester slot birth u (call_of nester (stage_of slot o) (words_of o)) near tidied in
           let there : Came end (heard (restore slot bind rooms) (Works (o ∷ os)) (Answered call.reply.status call.reply.words)) =
-          after_own g end o os call.reply.status call.reply.words (passes o call.reply.status call.reply.words) refl empty call.its.fails_well call.its.shown still may.1 suits.1 is in
+          after_own g end o os call.reply.status call.reply.words (passes o call.reply.status call.reply.words) refl empty call.its.fails_well call.its.shown
+          (refused_shows nester slot g u shows o call.reply may.0 answered) still may.0 safe.0 tidy may.1 suits.1 safe.1 is in
           let told = subst (λ (said : Said). Came end (heard (restore slot bind rooms) (Works (o ∷ os)) said)) (sym call.said) there in
           subst (λ (e : Event). Came (after u e) (heard (restore slot bind rooms) (Works (o ∷ os)) (said_of u e))) same told
 
@@ -163,8 +323,11 @@ module _ (slot birth : ℕ) (bind : ℕ → ℕ) (c : World) (rooms : List Room)
       by (inl made) =
           let both = script_makes slot bind c rooms its in
           let unled = new_space_is_unled nester slot w reply low made.0 answered in
+          let goes = goes_by nester w (SpaceMakeHeld slot) no_words reply answered (MakeSpace root (Some (At (LAST_PORTER_SLOT ∷ nester))) ∷ []) OK [] (make-row nester slot w reply low answered ∙ ap (made_as nester slot w reply low answered) made.0) in
+          let near : IsNearCall nester slot w (call_of nester (SpaceMakeHeld slot) no_words) = record { changes = MakeSpace root (Some (At (LAST_PORTER_SLOT ∷ nester))) ∷ []; world = goes.0; near = (inside_near nester slot [], tt) } in
+          let tidied = tidied_near nester slot birth w (call_of nester (SpaceMakeHeld slot) no_words) near (tidied_first nester slot birth w may_begin) in
           from (Works (script slot bind rooms)) (ap (λ (status : ℕ). cond (status == OK) (Works (script slot bind rooms)) (Over Occupied)) made.1)
-          (Working (script slot bind rooms) first _ made.0 made.2 unled both.0 (script_suits slot bind c rooms its) both.1)
+          (Working (script slot bind rooms) first _ made.0 made.2 unled both.0 (script_suits slot bind c rooms its) (script_safe slot bind c rooms its) tidied both.1)
       by (inr taken) =
           from (Over Occupied) (ap (λ (status : ℕ). cond (status == OK) (Works (script slot bind rooms)) (Over Occupied)) taken.1) (Taken _ taken.0 taken.2)
 
@@ -178,12 +341,12 @@ module _ (slot birth : ℕ) (bind : ℕ → ℕ) (c : World) (rooms : List Room)
       (subst (λ (e : Event). Interleaved (restore slot bind rooms) nester (after w e) (heard (restore slot bind rooms) Begins (said_of w e)) work.events v t) is work.run)
 
   pub ended : (v : World) (t : State) (end : End) → Came v t → head slot t ≡ Stops end → EndsSo w v nester slot bind c end
-  ended _ _ end (Working [] g v empty shows unled may suits is) stops = cc
-  ended _ _ end (Working (o ∷ os) g v empty shows unled may suits is) stops = cc
-  ended _ _ end (Clearing [] more port v empty drop) stops = cc
-  ended _ _ end (Clearing (o ∷ os) more port v empty drop) stops = cc
-  ended _ _ end (Finished v empty plain same unheld) stops = let is : Done ≡ end = cc in subst (EndsSo w v nester slot bind c) is (empty, same, unheld)
-  ended _ _ end (Missing port v empty) stops = let is : NoPort port ≡ end = cc in subst (EndsSo w v nester slot bind c) is empty
+  ended _ _ end (Working [] g v empty shows unled may suits safe tidied is) stops = cc
+  ended _ _ end (Working (o ∷ os) g v empty shows unled may suits safe tidied is) stops = cc
+  ended _ _ end (Dropping o os port g v empty shows left tidied) stops = cc
+  ended _ _ end (Clearing xs more port v empty emptied many tidied) stops = cc
+  ended _ _ end (Finished v empty plain same unheld clean) stops = let is : Done ≡ end = cc in subst (EndsSo w v nester slot bind c) is (empty, same, unheld)
+  ended _ _ end (Missing port v empty none clean) stops = let is : NoPort port ≡ end = cc in subst (EndsSo w v nester slot bind c) is (empty, none)
   ended _ _ end (Taken v there same) stops = let is : Occupied ≡ end = cc in subst (EndsSo w v nester slot bind c) is (there, same)
 
 pub ends_so : RestoreEndsSo
@@ -191,12 +354,12 @@ ends_so slot birth bind c rooms w v nester t end low its may work stops = ended 
 
 plain_end : (slot birth : ℕ) (bind : ℕ → ℕ) (c : World) (rooms : List Room) (w : World) (nester : Path) (low : slot ≤ LAST_USER_SLOT) (its : IsRoomed bind c rooms) (may : MayBegin w nester birth) (v : World) (t : State) (end : End) →
     Came slot birth bind c rooms w nester low its may v t → head slot t ≡ Stops end → is_done end ≡ true → IsPlain v nester slot × (cut v nester slot ≡ rebound bind c)
-plain_end slot birth bind c rooms w nester low its may _ _ end (Working [] g v empty shows unled may_all suits is) stops done = cc
-plain_end slot birth bind c rooms w nester low its may _ _ end (Working (o ∷ os) g v empty shows unled may_all suits is) stops done = cc
-plain_end slot birth bind c rooms w nester low its may _ _ end (Clearing [] more port v empty drop) stops done = cc
-plain_end slot birth bind c rooms w nester low its may _ _ end (Clearing (o ∷ os) more port v empty drop) stops done = cc
-plain_end slot birth bind c rooms w nester low its may _ _ end (Finished v empty plain same unheld) stops done = (plain, same)
-plain_end slot birth bind c rooms w nester low its may _ _ end (Missing port v empty) stops done = let is : NoPort port ≡ end = cc in let off : is_done end ≡ false = rw (← is) refl in let clash = sym done ∙ off in cc
+plain_end slot birth bind c rooms w nester low its may _ _ end (Working [] g v empty shows unled may_all suits safe tidied is) stops done = cc
+plain_end slot birth bind c rooms w nester low its may _ _ end (Working (o ∷ os) g v empty shows unled may_all suits safe tidied is) stops done = cc
+plain_end slot birth bind c rooms w nester low its may _ _ end (Dropping o os port g v empty shows left tidied) stops done = cc
+plain_end slot birth bind c rooms w nester low its may _ _ end (Clearing xs more port v empty emptied many tidied) stops done = cc
+plain_end slot birth bind c rooms w nester low its may _ _ end (Finished v empty plain same unheld clean) stops done = (plain, same)
+plain_end slot birth bind c rooms w nester low its may _ _ end (Missing port v empty none clean) stops done = let is : NoPort port ≡ end = cc in let off : is_done end ≡ false = rw (← is) refl in let clash = sym done ∙ off in cc
 plain_end slot birth bind c rooms w nester low its may _ _ end (Taken v there same) stops done = let is : Occupied ≡ end = cc in let off : is_done end ≡ false = rw (← is) refl in let clash = sym done ∙ off in cc
 
 pub restores : RestoreRestores

@@ -11,9 +11,9 @@ use Rattle.laws_sites.specs.Orders.Named.{ByScratch}
 use Rattle.laws_sites.specs.Owed.{Suits}
 use Rattle.laws_restore.specs.Fits.{there, IsWay}
 use Rattle.laws_restore.specs.Script.{P, T, U, D, goes_to, leads_to_at}
-use Rattle.laws_restore.proofs.Ways.{Runs, none, one, on, Walked, goes, leads, space_kind}
+use Rattle.laws_restore.proofs.Ways.{SafeAt, Runs, none, one, on, Walked, goes, leads, space_kind}
 
-module _ (slot : ℕ) where
+module _ (slot : ℕ) (Safe : ℕ → Site → Type 0) where
   -- T is free for use, or leads to the port to which the pin leads
   abbrev pub IsAimed : Option ℕ → Option Spot → Pin → Type 0
   IsAimed None spot pin = IsSome spot × (stays_in spot ≡ true)
@@ -31,7 +31,7 @@ module _ (slot : ℕ) where
 
   pub record Next (c : World) (p : Path) (aim : Option ℕ) (g : Site) (os : List Order) : Type 0 where
     pub site : Site
-    pub runs : Runs slot g site os
+    pub runs : Runs slot Safe g site os
     pub good : Good c p aim site
 
   abbrev pub Leaves : World → Path → Option ℕ → World → Path → Option ℕ → List Order → Type 0
@@ -42,17 +42,17 @@ module _ (slot : ℕ) where
   leaves_on c p a d q b e r f os ps first second g good =
       let there = first g good in
       let end = second there.site there.good in
-      record { site = end.site; runs = on slot g there.site end.site os ps there.runs end.runs; good = end.good }
+      record { site = end.site; runs = on slot Safe g there.site end.site os ps there.runs end.runs; good = end.good }
 
   pub leaves_none : (c d : World) (p : Path) (a : Option ℕ) → c ≡ d → Leaves c p a d p a []
-  leaves_none c d p a e g good = record { site = g; runs = none slot g; good = subst (λ (c : World). Good c p a g) e good }
+  leaves_none c d p a e g good = record { site = g; runs = none slot Safe g; good = subst (λ (c : World). Good c p a g) e good }
 
   pub leaves_to : (c d e : World) (p q : Path) (a b : Option ℕ) (os : List Order) → d ≡ e → Leaves c p a d q b os → Leaves c p a e q b os
   leaves_to c d e p q a b os same first = subst (λ (w : World). Leaves c p a w q b os) same first
 
   -- ---- P goes on
 
-  goes_good : (c : World) (p q : Path) (aim : Option ℕ) (g : Site) (os : List Order) → Good c p aim g → (way : Walked slot g P q os) → Good c q aim way.site
+  goes_good : (c : World) (p q : Path) (aim : Option ℕ) (g : Site) (os : List Order) → Good c p aim g → (way : Walked slot Safe g P q os) → Good c q aim way.site
   goes_good c p q aim g os good way = record {
     built = way.built ∙ good.built;
     at = way.at;
@@ -69,7 +69,7 @@ module _ (slot : ℕ) where
 
   pub leaves_goes : (c : World) (p q : Path) (aim : Option ℕ) → IsWay (there c) q → Leaves c p aim c q aim (goes_to slot p q)
   leaves_goes c p q aim way g good =
-      let walked = goes slot g p q good.at (subst (λ (c : World). IsWay (there c) q) (sym good.built) way) in
+      let walked = goes slot Safe g p q good.at (subst (λ (c : World). IsWay (there c) q) (sym good.built) way) in
       record { site = walked.site; runs = walked.runs; good = goes_good c p q aim g (goes_to slot p q) good walked }
 
   -- ---- T, or U, is led
@@ -77,14 +77,14 @@ module _ (slot : ℕ) where
   -- with what it leads to
   pub record Led (c : World) (p : Path) (g : Site) (r : ℕ) (z : Path) (os : List Order) : Type 0 where
     pub site : Site
-    pub runs : Runs slot g site os
+    pub runs : Runs slot Safe g site os
     pub good : Good c p None site
     pub to : site.spot r ≡ Some (To (At z))
     pub others : (k : ℕ) → eqb k r ≡ false → site.spot k ≡ g.spot k
 
   pub leads_t : (c : World) (p z : Path) (g : Site) → Good c p None g → IsWay (there c) z → Led c p g T z (leads_to_at slot T p z)
   leads_t c p z g good way =
-      let walked = leads slot g T p z refl good.aimed.0 good.at (subst (λ (c : World). IsWay (there c) z) (sym good.built) way) in
+      let walked = leads slot Safe g T p z refl good.aimed.0 good.at (subst (λ (c : World). IsWay (there c) z) (sym good.built) way) in
       record {
         site = walked.site;
         runs = walked.runs;
@@ -103,7 +103,7 @@ module _ (slot : ℕ) where
 
   pub leads_u : (c : World) (p z : Path) (g : Site) → Good c p None g → IsWay (there c) z → Led c p g U z (leads_to_at slot U p z)
   leads_u c p z g good way =
-      let walked = leads slot g U p z refl good.u.0 good.at (subst (λ (c : World). IsWay (there c) z) (sym good.built) way) in
+      let walked = leads slot Safe g U p z refl good.u.0 good.at (subst (λ (c : World). IsWay (there c) z) (sym good.built) way) in
       record {
         site = walked.site;
         runs = walked.runs;
@@ -128,5 +128,5 @@ module _ (slot : ℕ) where
   pub place_of : (c : World) (q : Path) (aim : Option ℕ) (g : Site) → Good c q aim g → there c q ≡ Some kinds.Space → IsPlace g slot P q
   place_of c q aim g good space = record { named = ByScratch P q refl good.at; space = space_kind (g.built.body q) (subst (λ (c : World). there c q ≡ Some kinds.Space) (sym good.built) space) }
 
-  pub ordered : (c d : World) (q : Path) (aim : Option ℕ) (g : Site) (o : Order) (built : World) → Good c q aim g → does o g ≡ with_built built g → built ≡ d → May slot o g → Suits g o → Next d q aim g (o ∷ [])
-  ordered c d q aim g o built good makes e may suits = record { site = does o g; runs = one slot g o may suits; good = rw makes (built_good c d q aim g built e good) }
+  pub ordered : (c d : World) (q : Path) (aim : Option ℕ) (g : Site) (o : Order) (built : World) → Good c q aim g → SafeAt Safe o g → does o g ≡ with_built built g → built ≡ d → May slot o g → Suits g o → Next d q aim g (o ∷ [])
+  ordered c d q aim g o built good safe makes e may suits = record { site = does o g; runs = one slot Safe g o may suits safe; good = rw makes (built_good c d q aim g built e good) }

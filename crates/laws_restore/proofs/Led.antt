@@ -7,7 +7,7 @@ use Rattle.fk_model.specs.Objects.{Body, kind_of}
 use Rattle.fk_model.specs.Objects.Body.{Mutex, Cond, Mapping, Region, Port, Portset, Space, Thread_of, Reference}
 use Rattle.fk_model.specs.World.{World, at_path}
 use Rattle.fk_model.proofs.walks.PlaceLaws.{same_path_eq}
-use Rattle.laws_sites.specs.Orders.{Order}
+use Rattle.laws_sites.specs.Orders.{Site, Order}
 use Rattle.laws_restore.specs.Fits.{there, IsWay}
 use Rattle.laws_restore.specs.Rooms.{Item, Room}
 use Rattle.laws_restore.specs.Script.{goes_to, has, each, through_rooms, after_rooms}
@@ -67,18 +67,18 @@ module _ (bind : ℕ → ℕ) (c : World) where
 
 -- ---- a pass over rooms
 
-module _ (bind : ℕ → ℕ) (c : World) (slot : ℕ) (aim : Option ℕ) (new old : Mask) (test : Body → Bool) (orders : Path → ℕ → Body → List Order)
+module _ (bind : ℕ → ℕ) (c : World) (slot : ℕ) (Safe : ℕ → Site → Type 0) (aim : Option ℕ) (new old : Mask) (test : Body → Bool) (orders : Path → ℕ → Body → List Order)
     -- an object of a room that is visited is done by its orders
     (item : (q : Path) (x : ℕ) (b : Body) (done : List Path) → there c q ≡ Some kinds.Space → IsWay (there c) q → IsAble bind c q x b → is_among (x ∷ q) done ≡ false →
-    Leaves slot (leading bind c new old done) q aim (leading bind c new old ((x ∷ q) ∷ done)) q aim (orders q x b))
+    Leaves slot Safe (leading bind c new old done) q aim (leading bind c new old ((x ∷ q) ∷ done)) q aim (orders q x b))
     -- and those of other rooms need none
     (idle : (q : Path) (x : ℕ) (b : Body) → IsAble bind c q x b → test b ≡ false → bound bind old (x ∷ q) b ≡ bound bind new (x ∷ q) b) where
   items_led : (q : Path) (is : List Item) (made done : List Path) → there c q ≡ Some kinds.Space → IsWay (there c) q → IsSub done made → AreItems bind c q is made →
-      Leaves slot (leading bind c new old done) q aim (leading bind c new old (with_items q is done)) q aim (flat_map (λ (i : Item). orders q i.slot i.body) is)
-  items_led q [] made done space way sub its = leaves_none slot _ _ q aim refl
+      Leaves slot Safe (leading bind c new old done) q aim (leading bind c new old (with_items q is done)) q aim (flat_map (λ (i : Item). orders q i.slot i.body) is)
+  items_led q [] made done space way sub its = leaves_none slot Safe _ _ q aim refl
   items_led q (i ∷ is) made done space way sub its =
       let y = i.slot ∷ q in
-      leaves_on slot (leading bind c new old done) q aim (leading bind c new old (y ∷ done)) q aim (leading bind c new old (with_items q is (y ∷ done))) q aim (orders q i.slot i.body) _
+      leaves_on slot Safe (leading bind c new old done) q aim (leading bind c new old (y ∷ done)) q aim (leading bind c new old (with_items q is (y ∷ done))) q aim (orders q i.slot i.body) _
       (item q i.slot i.body done space way its.0 (sub_out y done made sub its.1))
       (items_led q is (y ∷ made) (y ∷ done) space way (sub_both y done made sub) its.2)
 
@@ -93,23 +93,23 @@ module _ (bind : ℕ → ℕ) (c : World) (slot : ℕ) (aim : Option ℕ) (new o
       split false b h = (refl, h)
 
   pub rooms_led : (rooms : List Room) (p : Path) (made done : List Path) (given : List (Path × ℕ)) → IsSub done made → AreRooms bind c rooms made given →
-      Leaves slot (leading bind c new old done) p aim (leading bind c new old (all_made rooms done)) (after_rooms (has test) p rooms) aim (through_rooms slot (has test) (each orders) p rooms)
+      Leaves slot Safe (leading bind c new old done) p aim (leading bind c new old (all_made rooms done)) (after_rooms (has test) p rooms) aim (through_rooms slot (has test) (each orders) p rooms)
   unfolding through_rooms
-  rooms_led [] p made done given sub its = leaves_none slot _ _ p aim refl
+  rooms_led [] p made done given sub its = leaves_none slot Safe _ _ p aim refl
   rooms_led (r ∷ rs) p made done given sub its =
       by (has test r) refl (λ from. rooms_led rs from (with_items r.path r.items made) (with_items r.path r.items done) _ (sub_with r.path r.items done made sub) its.1)
     where
-      by : (t : Bool) → has test r ≡ t → ((from : Path) → Leaves slot (leading bind c new old (with_items r.path r.items done)) from aim (leading bind c new old (all_made rs (with_items r.path r.items done))) (after_rooms (has test) from rs) aim (through_rooms slot (has test) (each orders) from rs)) →
-          Leaves slot (leading bind c new old done) p aim (leading bind c new old (all_made rs (with_items r.path r.items done))) (cond t (after_rooms (has test) r.path rs) (after_rooms (has test) p rs)) aim
+      by : (t : Bool) → has test r ≡ t → ((from : Path) → Leaves slot Safe (leading bind c new old (with_items r.path r.items done)) from aim (leading bind c new old (all_made rs (with_items r.path r.items done))) (after_rooms (has test) from rs) aim (through_rooms slot (has test) (each orders) from rs)) →
+          Leaves slot Safe (leading bind c new old done) p aim (leading bind c new old (all_made rs (with_items r.path r.items done))) (cond t (after_rooms (has test) r.path rs) (after_rooms (has test) p rs)) aim
           (cond t (goes_to slot p r.path ++ (each orders r ++ through_rooms slot (has test) (each orders) r.path rs)) (through_rooms slot (has test) (each orders) p rs))
       by true e later =
           let q = r.path in
           let next = with_items q r.items done in
           let end = leading bind c new old (all_made rs next) in
           let rest = through_rooms slot (has test) (each orders) q rs in
-          leaves_on slot (leading bind c new old done) p aim (leading bind c new old done) q aim end (after_rooms (has test) q rs) aim (goes_to slot p q) (each orders r ++ rest)
-          (leaves_goes slot (leading bind c new old done) p q aim (led_way bind c new old done q its.0.way))
-          (leaves_on slot (leading bind c new old done) q aim (leading bind c new old next) q aim end (after_rooms (has test) q rs) aim (each orders r) rest
+          leaves_on slot Safe (leading bind c new old done) p aim (leading bind c new old done) q aim end (after_rooms (has test) q rs) aim (goes_to slot p q) (each orders r ++ rest)
+          (leaves_goes slot Safe (leading bind c new old done) p q aim (led_way bind c new old done q its.0.way))
+          (leaves_on slot Safe (leading bind c new old done) q aim (leading bind c new old next) q aim end (after_rooms (has test) q rs) aim (each orders r) rest
           (items_led q r.items made done its.0.space its.0.way sub its.0.items)
           (later q))
       by false e later =
@@ -117,7 +117,7 @@ module _ (bind : ℕ → ℕ) (c : World) (slot : ℕ) (aim : Option ℕ) (new o
           let next = with_items q r.items done in
           let end = leading bind c new old (all_made rs next) in
           let same = items_idle q r.items made done its.0.items e in
-          subst (λ (w : World). Leaves slot w p aim end (after_rooms (has test) p rs) aim (through_rooms slot (has test) (each orders) p rs)) (sym same)
+          subst (λ (w : World). Leaves slot Safe w p aim end (after_rooms (has test) p rs) aim (through_rooms slot (has test) (each orders) p rs)) (sym same)
           (later p)
 
   -- where no room is visited nothing has to be done

@@ -1,4 +1,5 @@
 pub mod Ways
+pub mod Asked
 pub mod Leaving
 pub mod Lists
 pub mod Building
@@ -13,6 +14,10 @@ pub mod Tying
 pub mod HoldsGiven
 pub mod Whole
 pub mod Scripted
+pub mod Emptying
+pub mod Listed
+pub mod Refused
+pub mod Tidying
 pub mod Coming
 pub mod Owing
 pub mod Example

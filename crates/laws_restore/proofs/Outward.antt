@@ -1,5 +1,5 @@
 -- The passes that lead pointers out, one slot of the nester after the other.
-use Rattle.std.proofs.Common.{◌≡◌, ℕ, suc, ◌≤◌, ◌<◌, Bool, true, false, cond, ◌||◌, ◌==◌, eqb, nat_le, nat_lt, is_some, List, [], ◌∷◌, ◌++◌, Option, Some, None, refl, sym, ap, subst, arith, eqb-true, ◌∙◌}
+use Rattle.std.proofs.Common.{◌≡◌, ℕ, suc, ◌≤◌, ◌<◌, Bool, true, false, cond, ◌||◌, ◌==◌, eqb, nat_le, nat_lt, IsSome, is_some, List, [], ◌∷◌, ◌++◌, Option, Some, None, refl, sym, ap, subst, arith, eqb-true, ◌∙◌}
 use Rattle.std.proofs.lemmas.Bool.{le-ltb, lt-ltb, ltb-true, ltb-false, eqb-false}
 use Rattle.fk_model.specs.declared.limits.TheConstants.{LAST_USER_SLOT}
 use Rattle.fk_model.specs.declared.thread.Turn.{Turn}
@@ -18,6 +18,7 @@ use Rattle.fk_model.specs.Rebind.{rebound_ptr}
 use Rattle.laws_jobs.specs.Calls.{has_pointer}
 use Rattle.laws_sites.specs.Orders.{Site, does, stays_in, parked_talk, parked_fault}
 use Rattle.laws_sites.specs.Orders.Spot.{Unsure}
+use Rattle.laws_sites.specs.Orders.Pin.{NoPin}
 use Rattle.laws_sites.specs.Orders.Order.{LeadsTop, Points, Pins, Takes, Checks, ParksTalk, ParksFault}
 use Rattle.laws_restore.specs.Fits.{there, IsWay}
 use Rattle.laws_restore.specs.Script.{P, T, U, D, pointer_of, is_out_to, is_talk_out, is_fault_out, leads_out, talk_words, fault_words, taken_flag, parks_talk, parks_fault, leads_body_out}
@@ -31,8 +32,8 @@ use Rattle.laws_restore.proofs.Halfway.{before, halfway, after, halfway_kinds, h
 
 -- ---- a slot is begun and ended
 
-module _ (slot : ℕ) (c : World) (p : Path) where
-  pub stays_all : (g : Site) → Good slot c p None g → (k : ℕ) → stays_in (g.spot k) ≡ true
+module _ (slot : ℕ) (Safe : ℕ → Site → Type 0) (c : World) (p : Path) where
+  pub stays_all : (g : Site) → Good slot Safe c p None g → (k : ℕ) → stays_in (g.spot k) ≡ true
   stays_all g good k = by (eqb k P) (eqb k T) (eqb k U) (eqb k D) refl refl refl refl
     where
       by : (a b u d : Bool) → eqb k P ≡ a → eqb k T ≡ b → eqb k U ≡ u → eqb k D ≡ d → stays_in (g.spot k) ≡ true
@@ -42,15 +43,27 @@ module _ (slot : ℕ) (c : World) (p : Path) where
       by false false false true e f h i = let is = eqb-true k D i in let dead = good.dead in rw (is, dead) refl
       by false false false false e f h i = let off = good.none k e f h i in rw off refl
 
-  pub opens_slot : (j : ℕ) → j ≤ LAST_USER_SLOT → Leaves slot c p None c p (Some j) (Pins j ∷ Takes T ∷ Checks T j ∷ [])
-  opens_slot j low g good =
+  -- all of it that is made stands, no scratch leads out, and the pin is there
+  pub record IsOpening (g : Site) : Type 0 where
+    pub built : g.built ≡ c
+    pub at : IsSome (g.spot P)
+    pub t : IsSome (g.spot T)
+    pub u : IsSome (g.spot U)
+    pub dead : IsSome (g.spot D)
+    pub none : (k : ℕ) → eqb k P ≡ false → eqb k T ≡ false → eqb k U ≡ false → eqb k D ≡ false → g.spot k ≡ None
+    pub pin : g.pin ≡ NoPin → ⊥
+
+  pub opens_slot : (j : ℕ) → j ≤ LAST_USER_SLOT → ((g : Site) → IsOpening g → Safe j g) → Leaves slot Safe c p None c p (Some j) (Pins j ∷ Takes T ∷ Checks T j ∷ [])
+  opens_slot j low safe g good =
       let s2 : Site = does (Pins j) g in
       let s3 : Site = does (Takes T) s2 in
       let s4 : Site = does (Checks T j) s3 in
+      let first : IsOpening g = record { built = good.built; at = rw good.at refl; t = good.aimed.0; u = good.u.0; dead = rw good.dead refl; none = good.none; pin = good.pin } in
+      let second : IsOpening s3 = record { built = good.built; at = rw good.at refl; t = refl; u = good.u.0; dead = rw good.dead refl; none = λ k p t u d. rw t (good.none k p t u d); pin = λ e. cc } in
       let stay : (k : ℕ) → (k ≡ T → ⊥) → stays_in (s3.spot k) ≡ true = λ k apart. others k (eqb k T) refl apart (stays_all g good k) in
-      let run1 = one slot g (Pins j) (good.pin, stays_all g good, low) tt in
-      let run2 = on slot g s2 s3 _ (Takes T ∷ []) run1 (one slot s2 (Takes T) (refl, good.aimed.0, refl) tt) in
-      let run3 = on slot g s3 s4 _ (Checks T j ∷ []) run2 (one slot s3 (Checks T j) (refl, refl, stay, low) tt) in
+      let run1 = one slot Safe g (Pins j) (good.pin, stays_all g good, low) tt (safe g first) in
+      let run2 = on slot Safe g s2 s3 _ (Takes T ∷ []) run1 (one slot Safe s2 (Takes T) (refl, good.aimed.0, refl) tt tt) in
+      let run3 = on slot Safe g s3 s4 _ (Checks T j ∷ []) run2 (one slot Safe s3 (Checks T j) (refl, refl, stay, low) tt (safe s3 second)) in
       record {
         site = s4;
         runs = run3;
@@ -69,10 +82,10 @@ module _ (slot : ℕ) (c : World) (p : Path) where
       others k true e apart stays = absurd (apart (eqb-true k T e))
       others k false e apart stays = stays
 
-  pub closes_slot : (j : ℕ) → Leaves slot c p (Some j) c p None (LeadsTop T ∷ [])
+  pub closes_slot : (j : ℕ) → Leaves slot Safe c p (Some j) c p None (LeadsTop T ∷ [])
   closes_slot j g good = record {
     site = does (LeadsTop T) g;
-    runs = one slot g (LeadsTop T) (refl, rw good.aimed.0 refl) tt;
+    runs = one slot Safe g (LeadsTop T) (refl, rw good.aimed.0 refl) tt tt;
     good = record {
       built = good.built;
       at = good.at;
@@ -163,7 +176,7 @@ few_taken : (taker : Option Peer) → nat_le (taken_flag taker) 1 ≡ true
 few_taken None = refl
 few_taken (Some taker) = refl
 
-module _ (bind : ℕ → ℕ) (c : World) (root : c.body [] ≡ Some (Space 0 None)) (slot i : ℕ) (low : bind i ≤ LAST_USER_SLOT) where
+module _ (bind : ℕ → ℕ) (c : World) (root : c.body [] ≡ Some (Space 0 None)) (slot : ℕ) (Safe : ℕ → Site → Type 0) (i : ℕ) (low : bind i ≤ LAST_USER_SLOT) where
   abbrev new : Mask
   new = led_below (suc i)
 
@@ -227,57 +240,57 @@ module _ (bind : ℕ → ℕ) (c : World) (root : c.body [] ≡ Some (Space 0 No
     half_space : there half q ≡ Some kinds.Space
     half_space = halfway_kinds bind c new mid old done y (Thread_of t) its.there anew q ∙ space
 
-    talk_step : (o : Option Talk) → t.talk ≡ o → IsTalkAim bind c o → GivesTalk o → Leaves slot from q (Some (bind i)) half q (Some (bind i)) (parks_talk i bind q x o)
+    talk_step : (o : Option Talk) → t.talk ≡ o → IsTalkAim bind c o → GivesTalk o → Leaves slot Safe from q (Some (bind i)) half q (Some (bind i)) (parks_talk i bind q x o)
     unfolding apply
-    talk_step None e aim told = leaves_none slot from half q (Some (bind i)) (to_half bind c new mid old done y (Thread_of t) its.there anew (rw e refl))
+    talk_step None e aim told = leaves_none slot Safe from half q (Some (bind i)) (to_half bind c new mid old done y (Thread_of t) its.there anew (rw e refl))
     talk_step (Some talk) e aim told = by (is_out_to i talk.port) refl
       where
-        by : (b : Bool) → is_out_to i talk.port ≡ b → Leaves slot from q (Some (bind i)) half q (Some (bind i)) (cond b (ParksTalk P q x (bind i) (talk_words talk) ∷ []) [])
+        by : (b : Bool) → is_out_to i talk.port ≡ b → Leaves slot Safe from q (Some (bind i)) half q (Some (bind i)) (cond b (ParksTalk P q x (bind i) (talk_words talk) ∷ []) [])
         by true h = λ g good.
             let port = is_out_at i talk.port h in
             let edit = SetTalk (Some (parked_talk (bind i) (talk_words talk))) in
-            ordered slot from half q (Some (bind i)) g (ParksTalk P q x (bind i) (talk_words talk)) (apply (Alter y edit) g.built) good refl
+            ordered slot Safe from half q (Some (bind i)) g (ParksTalk P q x (bind i) (talk_words talk)) (apply (Alter y edit) g.built) good tt refl
             (ap (apply (Alter y edit)) good.built ∙ edit_half bind c new mid old done y (Thread_of t) its.there anew edit (talk_set y t talk e port (peer_outside talk.peer talk.port port aim)))
-            (record { place = place_of slot from q (Some (bind i)) g good (led_kinds bind c new old done q ∙ space); low = its.low; thread = rw good.built thread_here; pinned = good.aimed.1; port = low }) told
-        by false h = leaves_none slot from half q (Some (bind i)) (to_half bind c new mid old done y (Thread_of t) its.there anew (rw (e, next_below i talk.port h) refl))
+            (record { place = place_of slot Safe from q (Some (bind i)) g good (led_kinds bind c new old done q ∙ space); low = its.low; thread = rw good.built thread_here; pinned = good.aimed.1; port = low }) told
+        by false h = leaves_none slot Safe from half q (Some (bind i)) (to_half bind c new mid old done y (Thread_of t) its.there anew (rw (e, next_below i talk.port h) refl))
 
-    fault_step : (o : Option Fault) → t.fault ≡ o → IsFaultAim bind c o → GivesFault o → Leaves slot half q (Some (bind i)) to q (Some (bind i)) (parks_fault i bind q x o)
+    fault_step : (o : Option Fault) → t.fault ≡ o → IsFaultAim bind c o → GivesFault o → Leaves slot Safe half q (Some (bind i)) to q (Some (bind i)) (parks_fault i bind q x o)
     unfolding apply
-    fault_step None e aim told = leaves_none slot half to q (Some (bind i)) (from_half bind c new mid old done y (Thread_of t) its.there anew (rw e refl))
+    fault_step None e aim told = leaves_none slot Safe half to q (Some (bind i)) (from_half bind c new mid old done y (Thread_of t) its.there anew (rw e refl))
     fault_step (Some fault) e aim told = by (is_out_to i fault.port) refl
       where
-        by : (b : Bool) → is_out_to i fault.port ≡ b → Leaves slot half q (Some (bind i)) to q (Some (bind i)) (cond b (ParksFault P q x (bind i) (taken_flag fault.taker) (fault_words fault) ∷ []) [])
+        by : (b : Bool) → is_out_to i fault.port ≡ b → Leaves slot Safe half q (Some (bind i)) to q (Some (bind i)) (cond b (ParksFault P q x (bind i) (taken_flag fault.taker) (fault_words fault) ∷ []) [])
         by true h = λ g good.
             let port = is_out_at i fault.port h in
             let edit = SetFault (Some (parked_fault (bind i) (taken_flag fault.taker) (fault_words fault))) in
-            ordered slot half to q (Some (bind i)) g (ParksFault P q x (bind i) (taken_flag fault.taker) (fault_words fault)) (apply (Alter y edit) g.built) good refl
+            ordered slot Safe half to q (Some (bind i)) g (ParksFault P q x (bind i) (taken_flag fault.taker) (fault_words fault)) (apply (Alter y edit) g.built) good tt refl
             (ap (apply (Alter y edit)) good.built ∙ edit_rest bind c new mid old done y (Thread_of t) its.there anew edit (fault_set y t fault e port fault.taker refl (subst (λ (p : Ptr). IsTakenAim bind c p fault.taker) port aim)))
-            (record { place = place_of slot half q (Some (bind i)) g good half_space; low = its.low; thread = rw good.built thread_half; pinned = good.aimed.1; port = low }) (told.0, told.1, few_taken fault.taker)
-        by false h = leaves_none slot half to q (Some (bind i)) (from_half bind c new mid old done y (Thread_of t) its.there anew (rw (e, next_below i fault.port h) refl))
+            (record { place = place_of slot Safe half q (Some (bind i)) g good half_space; low = its.low; thread = rw good.built thread_half; pinned = good.aimed.1; port = low }) (told.0, told.1, few_taken fault.taker)
+        by false h = leaves_none slot Safe half to q (Some (bind i)) (from_half bind c new mid old done y (Thread_of t) its.there anew (rw (e, next_below i fault.port h) refl))
 
-    thread_out : Leaves slot from q (Some (bind i)) to q (Some (bind i)) (parks_talk i bind q x t.talk ++ parks_fault i bind q x t.fault)
-    thread_out = leaves_on slot from q (Some (bind i)) half q (Some (bind i)) to q (Some (bind i)) (parks_talk i bind q x t.talk) (parks_fault i bind q x t.fault)
+    thread_out : Leaves slot Safe from q (Some (bind i)) to q (Some (bind i)) (parks_talk i bind q x t.talk ++ parks_fault i bind q x t.fault)
+    thread_out = leaves_on slot Safe from q (Some (bind i)) half q (Some (bind i)) to q (Some (bind i)) (parks_talk i bind q x t.talk) (parks_fault i bind q x t.fault)
         (talk_step t.talk refl its.aims.0 its.told.0) (fault_step t.fault refl its.aims.1 its.told.1)
 
   -- a pointer
   pointer_out : (q : Path) (x : ℕ) (b : Body) (done : List Path) → there c q ≡ Some kinds.Space → IsAble bind c q x b → is_among (x ∷ q) done ≡ false → has_pointer b ≡ true → (IsAim bind c b (pointer_of b)) →
       leads_out i b ≡ is_out_to i (pointer_of b) →
-      Leaves slot (world done) q (Some (bind i)) (world ((x ∷ q) ∷ done)) q (Some (bind i)) (cond (is_out_to i (pointer_of b)) (Points P q x T ∷ []) [])
+      Leaves slot Safe (world done) q (Some (bind i)) (world ((x ∷ q) ∷ done)) q (Some (bind i)) (cond (is_out_to i (pointer_of b)) (Points P q x T ∷ []) [])
   pointer_out q x b done space its anew pointing aim same = by (is_out_to i (pointer_of b)) refl
     where
-      by : (t : Bool) → is_out_to i (pointer_of b) ≡ t → Leaves slot (world done) q (Some (bind i)) (world ((x ∷ q) ∷ done)) q (Some (bind i)) (cond t (Points P q x T ∷ []) [])
+      by : (t : Bool) → is_out_to i (pointer_of b) ≡ t → Leaves slot Safe (world done) q (Some (bind i)) (world ((x ∷ q) ∷ done)) q (Some (bind i)) (cond t (Points P q x T ∷ []) [])
       by true h = λ g good.
           let port = is_out_at i (pointer_of b) h in
           let fits : IsAim bind c b (Out i) = subst (IsAim bind c b) port aim in
           let shows : new.pointer (pointer_of b) ≡ true = rw (port, now_below i) refl in
-          pointed bind c root slot new old (Some (bind i)) x q b done space its anew g T (Out (bind i)) good refl good.aimed.0 (sym (ap (rebound_ptr bind) port)) pointing shows tt fits.2
-      by false h = leaves_none slot (world done) (world ((x ∷ q) ∷ done)) q (Some (bind i)) (led_alike bind c new old done (x ∷ q) b its.there (alike_out bind i (x ∷ q) b (same ∙ h)))
+          pointed bind c root slot Safe new old (Some (bind i)) x q b done space its anew g T (Out (bind i)) good refl good.aimed.0 (sym (ap (rebound_ptr bind) port)) pointing shows tt fits.2
+      by false h = leaves_none slot Safe (world done) (world ((x ∷ q) ∷ done)) q (Some (bind i)) (led_alike bind c new old done (x ∷ q) b its.there (alike_out bind i (x ∷ q) b (same ∙ h)))
 
-  quiet : (q : Path) (x : ℕ) (b : Body) (done : List Path) → IsAble bind c q x b → leads_out i b ≡ false → Leaves slot (world done) q (Some (bind i)) (world ((x ∷ q) ∷ done)) q (Some (bind i)) []
-  quiet q x b done its off = leaves_none slot (world done) (world ((x ∷ q) ∷ done)) q (Some (bind i)) (led_alike bind c new old done (x ∷ q) b its.there (alike_out bind i (x ∷ q) b off))
+  quiet : (q : Path) (x : ℕ) (b : Body) (done : List Path) → IsAble bind c q x b → leads_out i b ≡ false → Leaves slot Safe (world done) q (Some (bind i)) (world ((x ∷ q) ∷ done)) q (Some (bind i)) []
+  quiet q x b done its off = leaves_none slot Safe (world done) (world ((x ∷ q) ∷ done)) q (Some (bind i)) (led_alike bind c new old done (x ∷ q) b its.there (alike_out bind i (x ∷ q) b off))
 
   pub out_item : (q : Path) (x : ℕ) (b : Body) (done : List Path) → there c q ≡ Some kinds.Space → IsWay (there c) q → IsAble bind c q x b → is_among (x ∷ q) done ≡ false →
-      Leaves slot (world done) q (Some (bind i)) (world ((x ∷ q) ∷ done)) q (Some (bind i)) (leads_body_out i bind q x b)
+      Leaves slot Safe (world done) q (Some (bind i)) (world ((x ∷ q) ∷ done)) q (Some (bind i)) (leads_body_out i bind q x b)
   out_item q x (Thread_of t) done space way its anew = thread_out q x t done space its anew
   out_item q x (Mapping w) done space way its anew = pointer_out q x (Mapping w) done space its anew refl its.aims refl
   out_item q x (Region r) done space way its anew = pointer_out q x (Region r) done space its anew refl its.aims refl

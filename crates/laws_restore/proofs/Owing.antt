@@ -1,37 +1,30 @@
 -- Each call of a restore is owed.
-use Rattle.std.proofs.Common.{◌≡◌, ℕ, ◌≤◌, Bool, true, false, cond, nat_le, is_some, List, [], ◌∷◌, Option, Some, None, option_map, Result, Ok, refl, sym, ap, subst, arith, ◌∙◌}
+use Rattle.std.proofs.Common.{◌≡◌, ℕ, ◌≤◌, true, false, nat_le, is_some, List, [], ◌∷◌, None, Result, Ok, refl, sym, subst, arith, ◌∙◌}
 use Rattle.std.proofs.lemmas.Bool.{le-leb}
 use Rattle.fk_model.specs.declared.limits.TheConstants.{OWN_SPACE, LAST_USER_SLOT, LAST_SCRATCH_SLOT}
 use Rattle.fk_model.specs.declared.stage.Stage.{Stage}
 use Rattle.fk_model.specs.declared.stage.Stage.TheVariants.{Destroy, SpaceMakeHeld, SpaceRelease}
-use Rattle.fk_model.specs.Places.{Path, same_path}
-use Rattle.fk_model.specs.Objects.{Body}
+use Rattle.fk_model.specs.Places.{Path}
 use Rattle.fk_model.specs.World.{World}
 use Rattle.fk_model.specs.Valid.{is_fit}
-use Rattle.fk_model.specs.Whole.{is_scratch_slot}
-use Rattle.fk_model.specs.Rebind.{rebound}
-use Rattle.fk_model.specs.Cut.{seen_by, unheld}
-use Rattle.fk_model.proofs.walks.PlaceLaws.{same_path_eq}
-use Rattle.laws_cut.specs.Likeness.{seeing}
+use Rattle.fk_model.specs.Cut.{unheld}
 use Rattle.laws_savable.specs.Savable.{IsSound, LeavesNoScratch}
 use Rattle.laws_jobs.specs.Machines.{porter, no_words, AtWork, IsOwedCall}
-use Rattle.laws_jobs.specs.Machines.Head.{Asks}
-use Rattle.laws_jobs.specs.Jobs.{MayBegin}
+use Rattle.laws_jobs.specs.Machines.Head.{Stops, Asks}
+use Rattle.laws_jobs.specs.Jobs.{IsClean, MayBegin, HasPorter}
 use Rattle.laws_jobs.proofs.Weaving.{now_sound}
 use Rattle.laws_jobs.proofs.Rows.{own-place}
-use Rattle.laws_sites.specs.Orders.{Site, Shows, Pin, PinShows, eye, pin_of, stage_of, words_of, does_all}
-use Rattle.laws_sites.specs.Orders.Pin.{NoPin}
+use Rattle.laws_sites.specs.Orders.{Site, Shows, stage_of, words_of, does_all}
 use Rattle.laws_sites.specs.Orders.Order.{Drops}
 use Rattle.laws_sites.proofs.Owed.{orders_are_owed}
 use Rattle.laws_restore.specs.Rooms.{Room}
 use Rattle.laws_restore.specs.Roomed.{IsRoomed}
 use Rattle.laws_restore.specs.Laws.{finished}
-use Rattle.laws_restore.specs.Restore.{State, head, restore}
+use Rattle.laws_restore.specs.Restore.{End, State, head, restore}
 use Rattle.laws_restore.specs.Restore.State.{Makes as Begins}
-use Rattle.laws_restore.specs.Ends.{RestoreIsOwed}
-use Rattle.laws_restore.proofs.Whole.{unscratched}
-use Rattle.laws_restore.proofs.Coming.{Came, came}
-use Rattle.laws_restore.proofs.Coming.Came.{Working, Clearing, Finished, Missing, Taken}
+use Rattle.laws_restore.specs.Ends.{RestoreIsOwed, RestoreIsTidy}
+use Rattle.laws_restore.proofs.Coming.{Came, came, empty_inside}
+use Rattle.laws_restore.proofs.Coming.Came.{Working, Dropping, Clearing, Finished, Missing, Taken}
 
 -- of a call that is known
 given_by : (v : World) (nester : Path) (stage other : Stage) (given words : List ℕ) → stage ≡ other → given ≡ words → IsOwedCall v nester stage given → IsOwedCall v nester other words
@@ -47,25 +40,6 @@ module _ (slot birth : ℕ) (bind : ℕ → ℕ) (c : World) (rooms : List Room)
   abbrev root : Path
   root = slot ∷ nester
 
-  -- the finished space has no scratch
-  empty_scratch : (v : World) (g : Site) → Shows nester slot g v → g ≡ finished bind c → (k : ℕ) → is_scratch_slot k ≡ true → v.body (k ∷ root) ≡ None
-  unfolding rebound
-  empty_scratch v g shows is k scratch = by (same_path (k ∷ root) (pin_of root)) refl (sym none ∙ shows.like.bodies (k ∷ []))
-    where
-      none : g.built.body (k ∷ []) ≡ None
-      none = let off = unscratched bind c rooms its slot k [] scratch in rw (is, off) refl
-
-      pin : PinShows nester slot v NoPin
-      pin = subst (λ (p : Pin). PinShows nester slot v p) (ap (λ (g : Site). g.pin) is) shows.pin
-
-      absent : (o : Option Body) → None ≡ option_map (λ b. unheld (k ∷ []) (seen_by (seeing (eye nester slot)) b)) o → o ≡ None
-      absent None e = refl
-      absent (Some b) e = cc
-
-      by : (t : Bool) → same_path (k ∷ root) (pin_of root) ≡ t → None ≡ option_map (λ b. unheld (k ∷ []) (seen_by (seeing (eye nester slot)) b)) (cond t None (v.body (k ∷ root))) → v.body (k ∷ root) ≡ None
-      by true e h = let here = same_path_eq (k ∷ root) (pin_of root) e in rw here pin
-      by false e h = absent (v.body (k ∷ root)) h
-
   release_owed : (v : World) (g : Site) → Shows nester slot g v → g ≡ finished bind c → IsOwedCall v nester (SpaceRelease OWN_SPACE slot) no_words
   unfolding is_fit
   release_owed v g shows is = record { due = record { fit = refl; words = refl }; owes = owes; unpicking = refl }
@@ -73,7 +47,7 @@ module _ (slot birth : ℕ) (bind : ℕ → ℕ) (c : World) (rooms : List Room)
       owes : LeavesNoScratch v (porter nester no_words) OWN_SPACE slot
       owes space at k scratch live =
           let here = same_place nester space (sym (own-place nester no_words v) ∙ at) in
-          let none : v.body (k ∷ slot ∷ space) ≡ None = subst (λ (s : Path). v.body (k ∷ slot ∷ s) ≡ None) here (empty_scratch v g shows is k scratch) in
+          let none : v.body (k ∷ slot ∷ space) ≡ None = subst (λ (s : Path). v.body (k ∷ slot ∷ s) ≡ None) here (empty_inside slot birth bind c rooms w nester low its may_begin v g shows is k [] scratch) in
           let off : is_some (v.body (k ∷ slot ∷ space)) ≡ false = rw none refl in
           let clash = sym live ∙ off in
           cc
@@ -92,18 +66,18 @@ module _ (slot birth : ℕ) (bind : ℕ → ℕ) (c : World) (rooms : List Room)
 
   pub owed_at : (v : World) (t : State) → IsSound v → Came slot birth bind c rooms w nester low its may_begin v t → (stage : Stage) (words : List ℕ) → head slot t ≡ Asks stage words → IsOwedCall v nester stage words
   unfolding does_all
-  owed_at _ _ sound (Working [] g v empty shows unled may suits is) stage words e =
+  owed_at _ _ sound (Working [] g v empty shows unled may suits safe tidied is) stage words e =
       given_by v nester (SpaceRelease OWN_SPACE slot) stage no_words words (let one : SpaceRelease OWN_SPACE slot ≡ stage = cc in one) (let two : no_words ≡ words = cc in two) (release_owed v g shows is)
-  owed_at _ _ sound (Working (o ∷ os) g v empty shows unled may suits is) stage words e =
+  owed_at _ _ sound (Working (o ∷ os) g v empty shows unled may suits safe tidied is) stage words e =
       given_by v nester (stage_of slot o) stage (words_of o) words (let one : stage_of slot o ≡ stage = cc in one) (let two : words_of o ≡ words = cc in two)
       (orders_are_owed nester slot g v o shows may.0 suits.0 unled sound.whole.valid)
-  owed_at _ _ sound (Clearing [] more port v empty drop) stage words e =
+  owed_at _ _ sound (Clearing xs more port v empty emptied many tidied) stage words e =
       given_by v nester (Destroy OWN_SPACE slot) stage no_words words (let one : Destroy OWN_SPACE slot ≡ stage = cc in one) (let two : no_words ≡ words = cc in two) (destroy_owed v)
-  owed_at _ _ sound (Clearing (Drops r ∷ os) more port v empty drop) stage words e =
-      given_by v nester (Destroy OWN_SPACE r) stage no_words words (let one : Destroy OWN_SPACE r ≡ stage = cc in one) (let two : no_words ≡ words = cc in two) (drop_owed v r drop.0)
-  owed_at _ _ sound (Clearing (o ∷ os) more port v empty drop) stage words e = absurd drop
-  owed_at _ _ sound (Finished v empty plain same unheld) stage words e = cc
-  owed_at _ _ sound (Missing port v empty) stage words e = cc
+  owed_at _ _ sound (Dropping (Drops r) os port g v empty shows left tidied) stage words e =
+      given_by v nester (Destroy OWN_SPACE r) stage no_words words (let one : Destroy OWN_SPACE r ≡ stage = cc in one) (let two : no_words ≡ words = cc in two) (drop_owed v r left.drop.0)
+  owed_at _ _ sound (Dropping o os port g v empty shows left tidied) stage words e = absurd left.drop
+  owed_at _ _ sound (Finished v empty plain same unheld clean) stage words e = cc
+  owed_at _ _ sound (Missing port v empty none clean) stage words e = cc
   owed_at _ _ sound (Taken v there same) stage words e = cc
 
   owed_first : (stage : Stage) (words : List ℕ) → head slot Begins ≡ Asks stage words → IsOwedCall w nester stage words
@@ -112,8 +86,35 @@ module _ (slot birth : ℕ) (bind : ℕ → ℕ) (c : World) (rooms : List Room)
   sound_now : (v : World) (t : State) → AtWork (restore slot bind rooms) nester w Begins v t → IsSound v
   sound_now v t work = now_sound (restore slot bind rooms) nester w Begins v t work
 
+  -- ---- its porter stays, and no scratch is left
+
+  stays_at : (v : World) (t : State) → Came slot birth bind c rooms w nester low its may_begin v t → (stage : Stage) (words : List ℕ) → head slot t ≡ Asks stage words → HasPorter v nester birth
+  stays_at _ _ (Working os g v empty shows unled may suits safe tidied is) stage words e = record { porter = shows.porter; named = tidied.named }
+  stays_at _ _ (Dropping o os port g v empty shows left tidied) stage words e = record { porter = shows.porter; named = tidied.named }
+  stays_at _ _ (Clearing xs more port v empty emptied many tidied) stage words e = record { porter = emptied.holding.porter; named = tidied.named }
+  stays_at _ _ (Finished v empty plain same unheld clean) stage words e = cc
+  stays_at _ _ (Missing port v empty none clean) stage words e = cc
+  stays_at _ _ (Taken v there same) stage words e = cc
+
+  clean_at : (v : World) (t : State) (end : End) → Came slot birth bind c rooms w nester low its may_begin v t → head slot t ≡ Stops end → IsClean v
+  clean_at _ _ end (Working [] g v empty shows unled may suits safe tidied is) e = cc
+  clean_at _ _ end (Working (o ∷ os) g v empty shows unled may suits safe tidied is) e = cc
+  clean_at _ _ end (Dropping o os port g v empty shows left tidied) e = cc
+  clean_at _ _ end (Clearing xs more port v empty emptied many tidied) e = cc
+  clean_at _ _ end (Finished v empty plain same unheld clean) e = clean
+  clean_at _ _ end (Missing port v empty none clean) e = clean
+  clean_at _ _ end (Taken v there same) e = subst IsClean (sym same) may_begin.clean
+
 pub is_owed : RestoreIsOwed
 is_owed slot birth bind c rooms w nester low its may_begin = (
   owed_first slot birth bind c rooms w nester low its may_begin,
   λ v t work stage words e. owed_at slot birth bind c rooms w nester low its may_begin v t (sound_now slot birth bind c rooms w nester low its may_begin v t work) (came slot birth bind c rooms w nester low its may_begin v t work) stage words e,
 )
+
+pub is_tidy : RestoreIsTidy
+is_tidy slot birth bind c rooms low its = record {
+  first = λ w nester may. (is_owed slot birth bind c rooms w nester low its may).0;
+  later = λ w nester v t may work. (is_owed slot birth bind c rooms w nester low its may).1 v t work;
+  stays = λ w nester v t may work. stays_at slot birth bind c rooms w nester low its may v t (came slot birth bind c rooms w nester low its may v t work);
+  ends = λ w nester v t end may work. clean_at slot birth bind c rooms w nester low its may v t end (came slot birth bind c rooms w nester low its may v t work);
+}

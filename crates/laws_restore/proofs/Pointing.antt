@@ -75,25 +75,25 @@ pointer_set bind new old y Portset h on = cc
 pointer_set bind new old y (Space birth holder) h on = cc
 pointer_set bind new old y (Thread_of t) h on = cc
 
-module _ (bind : ℕ → ℕ) (c : World) (root : c.body [] ≡ Some (Space 0 None)) (slot : ℕ) (new old : Mask) (aim : Option ℕ) where
+module _ (bind : ℕ → ℕ) (c : World) (root : c.body [] ≡ Some (Space 0 None)) (slot : ℕ) (Safe : ℕ → Site → Type 0) (new old : Mask) (aim : Option ℕ) where
   -- ---- one object's pointer becomes that of scratch r
 
   module _ (x : ℕ) (q : Path) (b : Body) (done : List Path) (space : there c q ≡ Some kinds.Space) (its : IsAble bind c q x b) (anew : is_among (x ∷ q) done ≡ false) where
     abbrev here : World
     here = leading bind c new old done
 
-    pub pointed : (g : Site) (r : ℕ) (p : Ptr) → Good slot here q aim g → is_ref_slot r ≡ true → g.spot r ≡ Some (To p) → p ≡ rebound_ptr bind (pointer_of b) → has_pointer b ≡ true → new.pointer (pointer_of b) ≡ true →
-        IsLive here p → is_of_kinds (held_kinds b) (kind_at here p) ≡ true → Next slot (leading bind c new old ((x ∷ q) ∷ done)) q aim g (Points P q x r ∷ [])
+    pub pointed : (g : Site) (r : ℕ) (p : Ptr) → Good slot Safe here q aim g → is_ref_slot r ≡ true → g.spot r ≡ Some (To p) → p ≡ rebound_ptr bind (pointer_of b) → has_pointer b ≡ true → new.pointer (pointer_of b) ≡ true →
+        IsLive here p → is_of_kinds (held_kinds b) (kind_at here p) ≡ true → Next slot Safe (leading bind c new old ((x ∷ q) ∷ done)) q aim g (Points P q x r ∷ [])
     unfolding apply
     pointed g r p good scratch led is has shows live fits =
         let y = x ∷ q in
         let old_body = body_old bind c new old done y b its.there anew in
-        ordered slot here _ q aim g (Points P q x r) (after_pointer y (g.spot r) g.built) good refl
+        ordered slot Safe here _ q aim g (Points P q x r) (after_pointer y (g.spot r) g.built) good tt refl
         (ap (λ (o : Option Spot). after_pointer y o g.built) led ∙ ap (λ (m : World). apply (Alter y (SetPointer p)) m) good.built
         ∙ ap (λ (p : Ptr). apply (Alter y (SetPointer p)) here) is
         ∙ led_as bind c new old done y b its.there anew (option_map (edited (SetPointer (rebound_ptr bind (pointer_of b))))) (ap Some (pointer_set bind new old y b has shows)))
         (record {
-          place = place_of slot here q aim g good (led_kinds bind c new old done q ∙ space);
+          place = place_of slot Safe here q aim g good (led_kinds bind c new old done q ∙ space);
           low = its.low;
           scratch = scratch;
           object = bound bind old y b;
@@ -158,39 +158,39 @@ alike bind y (Thread_of t) h = rw (talk_off t.talk, fault_off t.fault) refl
     fault_off None = refl
     fault_off (Some fault) = rw (below_zero fault.port) refl
 
-module _ (bind : ℕ → ℕ) (c : World) (root : c.body [] ≡ Some (Space 0 None)) (slot : ℕ) where
+module _ (bind : ℕ → ℕ) (c : World) (root : c.body [] ≡ Some (Space 0 None)) (slot : ℕ) (Safe : ℕ → Site → Type 0) where
   abbrev world : List Path → World
   world done = leading bind c (led_below 0) nothing_led done
 
   pub point_item : (q : Path) (x : ℕ) (b : Body) (done : List Path) → there c q ≡ Some kinds.Space → IsWay (there c) q → IsAble bind c q x b → is_among (x ∷ q) done ≡ false →
-      Leaves slot (world done) q None (world ((x ∷ q) ∷ done)) q None (points_body slot q x b)
+      Leaves slot Safe (world done) q None (world ((x ∷ q) ∷ done)) q None (points_body slot q x b)
   point_item q x b done space way its anew = by (pointer_of b) refl
     where
-      idle : stays_inside (pointer_of b) ≡ false → Leaves slot (world done) q None (world ((x ∷ q) ∷ done)) q None []
-      idle off = leaves_none slot (world done) (world ((x ∷ q) ∷ done)) q None (led_alike bind c (led_below 0) nothing_led done (x ∷ q) b its.there (alike bind (x ∷ q) b off))
+      idle : stays_inside (pointer_of b) ≡ false → Leaves slot Safe (world done) q None (world ((x ∷ q) ∷ done)) q None []
+      idle off = leaves_none slot Safe (world done) (world ((x ∷ q) ∷ done)) q None (led_alike bind c (led_below 0) nothing_led done (x ∷ q) b its.there (alike bind (x ∷ q) b off))
 
-      inside : (z : Path) → pointer_of b ≡ At z → Leaves slot (world done) q None (world ((x ∷ q) ∷ done)) q None (leads_to_at slot T q z ++ Points P q x T ∷ [])
+      inside : (z : Path) → pointer_of b ≡ At z → Leaves slot Safe (world done) q None (world ((x ∷ q) ∷ done)) q None (leads_to_at slot T q z ++ Points P q x T ∷ [])
       inside z e g good =
           let stays : stays_inside (pointer_of b) ≡ true = rw e refl in
           let has = inside_has b stays in
           let aim : IsAim bind c b (At z) = subst (IsAim bind c b) e (aim_of bind c b has its.aims) in
           let there_way = led_way bind c (led_below 0) nothing_led done z aim.0 in
-          let led = leads_t slot (world done) q z g good there_way in
+          let led = leads_t slot Safe (world done) q z g good there_way in
           let kind : kind_at (world done) (At z) ≡ there c z = as_kind ((world done).body z) ∙ led_kinds bind c (led_below 0) nothing_led done z in
           let live = live_way (world done) z (led_kinds bind c (led_below 0) nothing_led done [] ∙ ap (option_map kind_of) root) there_way in
           let fine : is_of_kinds (held_kinds b) (kind_at (world done) (At z)) ≡ true = rw kind aim.1 in
           let shows : (led_below 0).pointer (pointer_of b) ≡ true = rw e refl in
-          let next = pointed bind c root slot (led_below 0) nothing_led None x q b done space its anew led.site T (At z) led.good refl led.to (sym (ap (rebound_ptr bind) e)) has shows live fine in
-          record { site = next.site; runs = on slot g led.site next.site (leads_to_at slot T q z) (Points P q x T ∷ []) led.runs next.runs; good = next.good }
+          let next = pointed bind c root slot Safe (led_below 0) nothing_led None x q b done space its anew led.site T (At z) led.good refl led.to (sym (ap (rebound_ptr bind) e)) has shows live fine in
+          record { site = next.site; runs = on slot Safe g led.site next.site (leads_to_at slot T q z) (Points P q x T ∷ []) led.runs next.runs; good = next.good }
 
-      dead : pointer_of b ≡ Dead → Leaves slot (world done) q None (world ((x ∷ q) ∷ done)) q None (Points P q x D ∷ [])
+      dead : pointer_of b ≡ Dead → Leaves slot Safe (world done) q None (world ((x ∷ q) ∷ done)) q None (Points P q x D ∷ [])
       dead e g good =
           let stays : stays_inside (pointer_of b) ≡ true = rw e refl in
           let has = inside_has b stays in
           let shows : (led_below 0).pointer (pointer_of b) ≡ true = rw e refl in
-          pointed bind c root slot (led_below 0) nothing_led None x q b done space its anew g D Dead good refl good.dead (sym (ap (rebound_ptr bind) e)) has shows tt refl
+          pointed bind c root slot Safe (led_below 0) nothing_led None x q b done space its anew g D Dead good refl good.dead (sym (ap (rebound_ptr bind) e)) has shows tt refl
 
-      by : (p : Ptr) → pointer_of b ≡ p → Leaves slot (world done) q None (world ((x ∷ q) ∷ done)) q None (points_in slot q x p)
+      by : (p : Ptr) → pointer_of b ≡ p → Leaves slot Safe (world done) q None (world ((x ∷ q) ∷ done)) q None (points_in slot q x p)
       by (At z) e = inside z e
       by Dead e = dead e
       by Null e = idle (rw e refl)

@@ -43,7 +43,7 @@ kind_there_of w (k ∷ q) kind top is apart = by (w.body (k ∷ q)) refl is
 pub all_below : (j : ℕ) → j ≤ LAST_USER_SLOT → nat_lt j 240 ≡ true
 all_below j low = lt-ltb j 240 (omega (arith, low))
 
-module _ (bind : ℕ → ℕ) (c : World) (root : c.body [] ≡ Some (Space 0 None)) (slot : ℕ)
+module _ (bind : ℕ → ℕ) (c : World) (root : c.body [] ≡ Some (Space 0 None)) (slot : ℕ) (Safe : ℕ → Site → Type 0)
     (one_service : (server x y : Path) → 0 < services c server x → 0 < services c server y → x ≡ y) (one_each : (server x : Path) → services c server x ≤ 1) where
   abbrev new : Mask
   new = all_led false
@@ -151,19 +151,19 @@ module _ (bind : ℕ → ℕ) (c : World) (root : c.body [] ≡ Some (Space 0 No
 
     -- a talk between two inside
     ties : (talk : Talk) (port server : Path) → t.talk ≡ Some talk → talk.port ≡ At port → talk.peer ≡ Server (At server) → GivesTalk (Some talk) → IsPair bind c (At port) (Server (At server)) →
-        Leaves slot from q None half q None (leads_to_at slot T q port ++ (leads_to_at slot U q server ++ LinksTalk P q x T U port server (talk_words talk) ∷ []))
+        Leaves slot Safe from q None half q None (leads_to_at slot T q port ++ (leads_to_at slot U q server ++ LinksTalk P q x T U port server (talk_words talk) ∷ []))
     unfolding apply
     ties talk port server e p s told aim g good =
         let edit = SetTalk (Some (inner_talk port server (talk_words talk))) in
-        let to_port = leads_t slot from q port g good (led_way bind c new old done port aim.0) in
-        let to_server = leads_u slot from q server to_port.site to_port.good (led_way bind c new old done server aim.2) in
+        let to_port = leads_t slot Safe from q port g good (led_way bind c new old done port aim.0) in
+        let to_server = leads_u slot Safe from q server to_port.site to_port.good (led_way bind c new old done server aim.2) in
         let site = to_server.site in
         let at_port : site.spot T ≡ Some (To (At port)) = to_server.others T refl ∙ to_port.to in
         let built = to_server.good.built in
-        let next = ordered slot from half q None site (LinksTalk P q x T U port server (talk_words talk)) (apply (Alter y edit) site.built) to_server.good refl
+        let next = ordered slot Safe from half q None site (LinksTalk P q x T U port server (talk_words talk)) (apply (Alter y edit) site.built) to_server.good tt refl
         (ap (apply (Alter y edit)) built ∙ edit_half bind c new mid old done y (Thread_of t) its.there anew edit (talk_set y t talk port server e p s))
         (record {
-          place = place_of slot from q None site to_server.good (from_kinds q ∙ space);
+          place = place_of slot Safe from q None site to_server.good (from_kinds q ∙ space);
           low = its.low;
           thread = rw built thread_here;
           scratch = refl;
@@ -176,18 +176,18 @@ module _ (bind : ℕ → ℕ) (c : World) (root : c.body [] ≡ Some (Space 0 No
         (told.0, told.1, beside port server aim.4 from site built (idle_from talk port server e p s)) in
         record {
           site = next.site;
-          runs = on slot g to_port.site next.site _ _ to_port.runs (on slot to_port.site site next.site _ _ to_server.runs next.runs);
+          runs = on slot Safe g to_port.site next.site _ _ to_port.runs (on slot Safe to_port.site site next.site _ _ to_server.runs next.runs);
           good = next.good;
         }
 
-    talk_out : (talk : Talk) (j : ℕ) → t.talk ≡ Some talk → talk.port ≡ Out j → j ≤ LAST_USER_SLOT → Leaves slot from q None half q None []
-    talk_out talk j e p low = leaves_none slot from half q None (to_half bind c new mid old done y (Thread_of t) its.there anew (rw (e, p, all_below j low) refl))
+    talk_out : (talk : Talk) (j : ℕ) → t.talk ≡ Some talk → talk.port ≡ Out j → j ≤ LAST_USER_SLOT → Leaves slot Safe from q None half q None []
+    talk_out talk j e p low = leaves_none slot Safe from half q None (to_half bind c new mid old done y (Thread_of t) its.there anew (rw (e, p, all_below j low) refl))
 
-    talk_step : (o : Option Talk) → t.talk ≡ o → GivesTalk o → IsTalkAim bind c o → Leaves slot from q None half q None (ties_its_talk slot q x o)
-    talk_step None e told aim = leaves_none slot from half q None (to_half bind c new mid old done y (Thread_of t) its.there anew (rw e refl))
+    talk_step : (o : Option Talk) → t.talk ≡ o → GivesTalk o → IsTalkAim bind c o → Leaves slot Safe from q None half q None (ties_its_talk slot q x o)
+    talk_step None e told aim = leaves_none slot Safe from half q None (to_half bind c new mid old done y (Thread_of t) its.there anew (rw e refl))
     talk_step (Some talk) e told aim = by talk.port talk.peer refl refl aim
       where
-        by : (port : Ptr) (peer : Peer) → talk.port ≡ port → talk.peer ≡ peer → IsPair bind c port peer → Leaves slot from q None half q None (ties_talk slot q x talk port peer)
+        by : (port : Ptr) (peer : Peer) → talk.port ≡ port → talk.peer ≡ peer → IsPair bind c port peer → Leaves slot Safe from q None half q None (ties_talk slot q x talk port peer)
         by (At port) (Server (At server)) p s aim = ties talk port server e p s told aim
         by (Out j) (Server Outside) p s aim = talk_out talk j e p aim.0
         by (At port) (Server Null) p s aim = absurd aim
@@ -210,17 +210,17 @@ module _ (bind : ℕ → ℕ) (c : World) (root : c.body [] ≡ Some (Space 0 No
         by Far peer p s aim = absurd aim
 
     raises : (fault : Fault) (port : Path) → t.fault ≡ Some fault → fault.port ≡ At port → fault.taker ≡ None → GivesFault (Some fault) → IsWay (there c) port × (there c port ≡ Some kinds.Port) →
-        Leaves slot half q None to q None (leads_to_at slot T q port ++ RaisesFault P q x T port (fault_words fault) ∷ [])
+        Leaves slot Safe half q None to q None (leads_to_at slot T q port ++ RaisesFault P q x T port (fault_words fault) ∷ [])
     unfolding apply
     raises fault port e p s told aim g good =
         let edit = SetFault (Some (inner_fault port None (fault_words fault))) in
-        let to_port = leads_t slot half q port g good (halfway_way bind c new mid old done y (Thread_of t) its.there anew port aim.0) in
+        let to_port = leads_t slot Safe half q port g good (halfway_way bind c new mid old done y (Thread_of t) its.there anew port aim.0) in
         let site = to_port.site in
         let built = to_port.good.built in
-        let next = ordered slot half to q None site (RaisesFault P q x T port (fault_words fault)) (apply (Alter y edit) site.built) to_port.good refl
+        let next = ordered slot Safe half to q None site (RaisesFault P q x T port (fault_words fault)) (apply (Alter y edit) site.built) to_port.good tt refl
         (ap (apply (Alter y edit)) built ∙ edit_rest bind c new mid old done y (Thread_of t) its.there anew edit (raise_set y t fault port e p s))
         (record {
-          place = place_of slot half q None site to_port.good (half_kinds q ∙ space);
+          place = place_of slot Safe half q None site to_port.good (half_kinds q ∙ space);
           low = its.low;
           thread = rw built thread_half;
           scratch = refl;
@@ -228,23 +228,23 @@ module _ (bind : ℕ → ℕ) (c : World) (root : c.body [] ≡ Some (Space 0 No
           port_there = rw built (here_kind half half_kinds port kinds.Port aim.1 (λ e. cc));
         })
         told in
-        record { site = next.site; runs = on slot g site next.site _ _ to_port.runs next.runs; good = next.good }
+        record { site = next.site; runs = on slot Safe g site next.site _ _ to_port.runs next.runs; good = next.good }
 
     takes : (fault : Fault) (port taker : Path) → t.fault ≡ Some fault → fault.port ≡ At port → fault.taker ≡ Some (Server (At taker)) → GivesFault (Some fault) → IsPair bind c (At port) (Server (At taker)) →
-        Leaves slot half q None to q None (leads_to_at slot T q port ++ (leads_to_at slot U q taker ++ LinksFault P q x T U port taker (fault_words fault) ∷ []))
+        Leaves slot Safe half q None to q None (leads_to_at slot T q port ++ (leads_to_at slot U q taker ++ LinksFault P q x T U port taker (fault_words fault) ∷ []))
     unfolding apply
     takes fault port taker e p s told aim g good =
         let edit = SetFault (Some (inner_fault port (Some taker) (fault_words fault))) in
         let way : (z : Path) → IsWay (there c) z → IsWay (there half) z = halfway_way bind c new mid old done y (Thread_of t) its.there anew in
-        let to_port = leads_t slot half q port g good (way port aim.0) in
-        let to_taker = leads_u slot half q taker to_port.site to_port.good (way taker aim.2) in
+        let to_port = leads_t slot Safe half q port g good (way port aim.0) in
+        let to_taker = leads_u slot Safe half q taker to_port.site to_port.good (way taker aim.2) in
         let site = to_taker.site in
         let at_port : site.spot T ≡ Some (To (At port)) = to_taker.others T refl ∙ to_port.to in
         let built = to_taker.good.built in
-        let next = ordered slot half to q None site (LinksFault P q x T U port taker (fault_words fault)) (apply (Alter y edit) site.built) to_taker.good refl
+        let next = ordered slot Safe half to q None site (LinksFault P q x T U port taker (fault_words fault)) (apply (Alter y edit) site.built) to_taker.good tt refl
         (ap (apply (Alter y edit)) built ∙ edit_rest bind c new mid old done y (Thread_of t) its.there anew edit (taken_set y t fault port taker e p s))
         (record {
-          place = place_of slot half q None site to_taker.good (half_kinds q ∙ space);
+          place = place_of slot Safe half q None site to_taker.good (half_kinds q ∙ space);
           low = its.low;
           thread = rw built thread_half;
           scratch = refl;
@@ -257,18 +257,18 @@ module _ (bind : ℕ → ℕ) (c : World) (root : c.body [] ≡ Some (Space 0 No
         (told.0, told.1, beside port taker aim.4 half site built (idle_half fault port taker e p s)) in
         record {
           site = next.site;
-          runs = on slot g to_port.site next.site _ _ to_port.runs (on slot to_port.site site next.site _ _ to_taker.runs next.runs);
+          runs = on slot Safe g to_port.site next.site _ _ to_port.runs (on slot Safe to_port.site site next.site _ _ to_taker.runs next.runs);
           good = next.good;
         }
 
-    fault_out : (fault : Fault) (j : ℕ) → t.fault ≡ Some fault → fault.port ≡ Out j → j ≤ LAST_USER_SLOT → Leaves slot half q None to q None []
-    fault_out fault j e p low = leaves_none slot half to q None (from_half bind c new mid old done y (Thread_of t) its.there anew (rw (e, p, all_below j low) refl))
+    fault_out : (fault : Fault) (j : ℕ) → t.fault ≡ Some fault → fault.port ≡ Out j → j ≤ LAST_USER_SLOT → Leaves slot Safe half q None to q None []
+    fault_out fault j e p low = leaves_none slot Safe half to q None (from_half bind c new mid old done y (Thread_of t) its.there anew (rw (e, p, all_below j low) refl))
 
-    fault_step : (o : Option Fault) → t.fault ≡ o → GivesFault o → IsFaultAim bind c o → Leaves slot half q None to q None (ties_its_fault slot q x o)
-    fault_step None e told aim = leaves_none slot half to q None (from_half bind c new mid old done y (Thread_of t) its.there anew (rw e refl))
+    fault_step : (o : Option Fault) → t.fault ≡ o → GivesFault o → IsFaultAim bind c o → Leaves slot Safe half q None to q None (ties_its_fault slot q x o)
+    fault_step None e told aim = leaves_none slot Safe half to q None (from_half bind c new mid old done y (Thread_of t) its.there anew (rw e refl))
     fault_step (Some fault) e told aim = by fault.port fault.taker refl refl aim
       where
-        by : (port : Ptr) (taker : Option Peer) → fault.port ≡ port → fault.taker ≡ taker → IsTakenAim bind c port taker → Leaves slot half q None to q None (ties_fault slot q x fault port taker)
+        by : (port : Ptr) (taker : Option Peer) → fault.port ≡ port → fault.taker ≡ taker → IsTakenAim bind c port taker → Leaves slot Safe half q None to q None (ties_fault slot q x fault port taker)
         by (At port) None p s aim = raises fault port e p s told aim
         by (At port) (Some (Server (At taker))) p s aim = takes fault port taker e p s told aim
         by (Out j) None p s aim = fault_out fault j e p aim.0
@@ -296,8 +296,8 @@ module _ (bind : ℕ → ℕ) (c : World) (root : c.body [] ≡ Some (Space 0 No
         by Outside (Some peer) p s aim = absurd aim
         by Far (Some peer) p s aim = absurd aim
 
-    thread_tied : Leaves slot from q None to q None (ties_its_talk slot q x t.talk ++ ties_its_fault slot q x t.fault)
-    thread_tied = leaves_on slot from q None half q None to q None (ties_its_talk slot q x t.talk) (ties_its_fault slot q x t.fault) (talk_step t.talk refl its.told.0 its.aims.0) (fault_step t.fault refl its.told.1 its.aims.1)
+    thread_tied : Leaves slot Safe from q None to q None (ties_its_talk slot q x t.talk ++ ties_its_fault slot q x t.fault)
+    thread_tied = leaves_on slot Safe from q None half q None to q None (ties_its_talk slot q x t.talk) (ties_its_fault slot q x t.fault) (talk_step t.talk refl its.told.0 its.aims.0) (fault_step t.fault refl its.told.1 its.aims.1)
 
   -- ---- what leads inside, or out, is led already
 
@@ -370,11 +370,11 @@ module _ (bind : ℕ → ℕ) (c : World) (root : c.body [] ≡ Some (Space 0 No
   tie_idle q x Portset its off = refl
   tie_idle q x (Space birth holder) its off = refl
 
-  quiet : (q : Path) (x : ℕ) (b : Body) (done : List Path) → IsAble bind c q x b → ties_inside b ≡ false → Leaves slot (world done) q None (world ((x ∷ q) ∷ done)) q None []
-  quiet q x b done its off = leaves_none slot (world done) (world ((x ∷ q) ∷ done)) q None (led_alike bind c new old done (x ∷ q) b its.there (tie_idle q x b its off))
+  quiet : (q : Path) (x : ℕ) (b : Body) (done : List Path) → IsAble bind c q x b → ties_inside b ≡ false → Leaves slot Safe (world done) q None (world ((x ∷ q) ∷ done)) q None []
+  quiet q x b done its off = leaves_none slot Safe (world done) (world ((x ∷ q) ∷ done)) q None (led_alike bind c new old done (x ∷ q) b its.there (tie_idle q x b its off))
 
   pub tie_item : (q : Path) (x : ℕ) (b : Body) (done : List Path) → there c q ≡ Some kinds.Space → IsWay (there c) q → IsAble bind c q x b → is_among (x ∷ q) done ≡ false →
-      Leaves slot (world done) q None (world ((x ∷ q) ∷ done)) q None (ties_body slot q x b)
+      Leaves slot Safe (world done) q None (world ((x ∷ q) ∷ done)) q None (ties_body slot q x b)
   tie_item q x (Thread_of t) done space way its anew = thread_tied q x t done space its anew
   tie_item q x (Mapping w) done space way its anew = quiet q x (Mapping w) done its refl
   tie_item q x (Region r) done space way its anew = quiet q x (Region r) done its refl

@@ -19,6 +19,7 @@ use Rattle.fk_model.specs.Whole.{is_scratch_slot}
 use Rattle.fk_model.proofs.walks.PlaceLaws.{same_path_eq}
 use Rattle.std.proofs.lemmas.Bool.{le-leb}
 use Rattle.laws_restore.specs.Rooms.{Room}
+use Rattle.laws_restore.specs.Fits.{there}
 use Rattle.laws_restore.specs.Script.{P, T, U, D, has, each, through_rooms, after_rooms, makes_spaces, fills, points_body, leads_in, leads_out, leads_body_out, leads_out_by, leads_outs, after_outs, ties_body, ties_inside, holds_spaces, after_holds, any_room, made_by, filled_by, pointed_by, led_out_by, tied_by, opens, closes, script}
 use Rattle.laws_restore.specs.Stages.{Mask, nowhere, shown_talk, shown_fault, anywhere, nothing_led, led_below, all_led, recorded, blank, is_among, is_given, built_at, building, bound, leading}
 use Rattle.laws_restore.specs.Roomed.{IsNewSpace, with_space, AreSpaces, all_made, all_given, with_spaces, IsRoomed}
@@ -26,9 +27,10 @@ use Rattle.laws_restore.proofs.Ways.{Runs, on}
 use Rattle.laws_restore.proofs.Lists.{IsSub}
 use Rattle.laws_restore.proofs.Leaving.{Good, Leaves, leaves_on, leaves_none, leaves_to}
 use Rattle.laws_restore.proofs.Filled.{spaces_made, rooms_filled}
-use Rattle.laws_restore.proofs.Led.{rooms_led, rooms_idle, after_none}
+use Rattle.laws_restore.proofs.Asked.{IsAsked}
+use Rattle.laws_restore.proofs.Led.{led_kinds, rooms_led, rooms_idle, after_none}
 use Rattle.laws_restore.proofs.Pointing.{point_item, point_idle}
-use Rattle.laws_restore.proofs.Outward.{stays_all, opens_slot, closes_slot, out_item, out_idle}
+use Rattle.laws_restore.proofs.Outward.{stays_all, IsOpening, opens_slot, closes_slot, out_item, out_idle}
 use Rattle.laws_restore.proofs.Standing.{IsItem, rooms_are, others_are_spaces, pass_done}
 use Rattle.laws_restore.proofs.Tying.{tie_item, tie_idle}
 use Rattle.laws_restore.proofs.HoldsGiven.{spaces_held}
@@ -53,7 +55,8 @@ module _ (slot : ℕ) where
       by k apart false false false true e = refl
       by k apart false false false false e = refl
 
-  pub begins_runs : Runs slot first begun (opens slot)
+module _ (slot : ℕ) (Safe : ℕ → Site → Type 0) where
+  pub begins_runs : Runs slot Safe first (begun slot) (opens slot)
   unfolding does_all apply same_path
   begins_runs = record {
     may = (
@@ -68,7 +71,7 @@ module _ (slot : ℕ) where
               record { place = record { named = ByRoot; space = refl }; low = omega arith; empty = refl },
               (
                 record { scratch = refl; ready = refl; place = record { named = ByRoot; space = refl }; low = omega arith; object = _; there = refl; leads = refl },
-                (deadens, (refl, ((refl, refl), tt))),
+                (deadens slot, (refl, ((refl, refl), tt))),
               ),
             ),
           ),
@@ -76,6 +79,7 @@ module _ (slot : ℕ) where
       ),
     );
     suits = (tt, (tt, (tt, (tt, (tt, (tt, (tt, (tt, (tt, tt)))))))));
+    safe = (tt, (tt, (tt, (tt, (tt, (tt, (tt, (tt, (tt, tt)))))))));
     end = refl;
   }
 
@@ -86,7 +90,7 @@ module _ (slot : ℕ) where
       by [] = refl
       by (k ∷ q) = refl
 
-  pub begins_good : (c : World) → Good slot (building c [] [] []) [] None begun
+  pub begins_good : (c : World) → Good slot Safe (building c [] [] []) [] None (begun slot)
   begins_good c = record {
     built = alone_building c;
     at = refl;
@@ -175,14 +179,17 @@ module _ (bind : ℕ → ℕ) (c : World) (rooms : List Room) (its : IsRoomed bi
   -- ---- the passes that lead pointers
 
   module _ (slot : ℕ) where
+    abbrev Safe : ℕ → Site → Type 0
+    Safe = IsAsked bind c rooms
+
     abbrev at : Mask → World
     at m = leading bind c m m []
 
-    led_inside : (p : Path) → Leaves slot (at nothing_led) p None (at (led_below 0)) (after_rooms (has leads_in) p rooms) None (through_rooms slot (has leads_in) (each (points_body slot)) p rooms)
+    led_inside : (p : Path) → Leaves slot Safe (at nothing_led) p None (at (led_below 0)) (after_rooms (has leads_in) p rooms) None (through_rooms slot (has leads_in) (each (points_body slot)) p rooms)
     led_inside p =
-        leaves_to slot (at nothing_led) (leading bind c (led_below 0) nothing_led items) (at (led_below 0)) p (after_rooms (has leads_in) p rooms) None None _
+        leaves_to slot Safe (at nothing_led) (leading bind c (led_below 0) nothing_led items) (at (led_below 0)) p (after_rooms (has leads_in) p rooms) None None _
         (pass_done bind c rooms its (led_below 0) nothing_led refl)
-        (rooms_led bind c slot None (led_below 0) nothing_led leads_in (points_body slot) (point_item bind c its.root slot) (point_idle bind c its.root slot) rooms p spaces [] [] no_items its.filled)
+        (rooms_led bind c slot Safe None (led_below 0) nothing_led leads_in (points_body slot) (point_item bind c its.root slot Safe) (point_idle bind c its.root slot Safe) rooms p spaces [] [] no_items its.filled)
 
     module _ (i : ℕ) (low : i ≤ LAST_USER_SLOT) (p : Path) where
       abbrev from : World
@@ -203,41 +210,56 @@ module _ (bind : ℕ → ℕ) (c : World) (rooms : List Room) (its : IsRoomed bi
       its_low : bind i ≤ LAST_USER_SLOT
       its_low = its.binds i low
 
-      pass_led : Leaves slot from p (Some (bind i)) half stands (Some (bind i)) pass
+      pass_led : Leaves slot Safe from p (Some (bind i)) half stands (Some (bind i)) pass
       pass_led =
-          rooms_led bind c slot (Some (bind i)) (led_below (suc i)) (led_below i) (leads_out i) (leads_body_out i bind) (out_item bind c its.root slot i its_low) (out_idle bind c its.root slot i its_low)
+          rooms_led bind c slot Safe (Some (bind i)) (led_below (suc i)) (led_below i) (leads_out i) (leads_body_out i bind) (out_item bind c its.root slot Safe i its_low) (out_idle bind c its.root slot Safe i its_low)
           rooms p spaces [] [] no_items its.filled
 
-      slot_led : Leaves slot from p None to stands None (leads_out_by slot bind rooms p i)
+      slot_led : Leaves slot Safe from p None to stands None (leads_out_by slot bind rooms p i)
       slot_led = by (list_any (has (leads_out i)) rooms) refl
         where
-          by : (t : Bool) → list_any (has (leads_out i)) rooms ≡ t →
-              Leaves slot from p None to stands None (cond t ((Pins (bind i) ∷ Takes T ∷ Checks T (bind i) ∷ []) ++ (pass ++ LeadsTop T ∷ [])) [])
-          by true e =
-              leaves_on slot from p None from p (Some (bind i)) to stands None (Pins (bind i) ∷ Takes T ∷ Checks T (bind i) ∷ []) (pass ++ LeadsTop T ∷ []) (opens_slot slot from p (bind i) its_low)
-              (leaves_on slot from p (Some (bind i)) half stands (Some (bind i)) to stands None pass (LeadsTop T ∷ []) pass_led
-              (leaves_to slot half half to stands stands (Some (bind i)) None (LeadsTop T ∷ []) (pass_done bind c rooms its (led_below (suc i)) (led_below i) refl) (closes_slot slot half stands (bind i))))
-          by false e =
-              let same = rooms_idle bind c slot (Some (bind i)) (led_below (suc i)) (led_below i) (leads_out i) (leads_body_out i bind) (out_item bind c its.root slot i its_low) (out_idle bind c its.root slot i its_low) rooms spaces [] [] its.filled e in
-              let here : stands ≡ p = after_none (has (leads_out i)) p rooms e in
-              subst (λ (z : Path). Leaves slot from p None to z None []) (sym here)
-              (leaves_none slot from to p None (same ∙ pass_done bind c rooms its (led_below (suc i)) (led_below i) refl))
+          asked : list_any (has (leads_out i)) rooms ≡ true → (g : Site) → IsOpening slot Safe from p g → Safe (bind i) g
+          asked e g opening = record {
+            port = i;
+            low = low;
+            leads = e;
+            bound = refl;
+            stands = λ y. ap (λ (c : World). there c y) opening.built ∙ led_kinds bind c (led_below i) (led_below i) [] y;
+            at = opening.at;
+            t = opening.t;
+            u = opening.u;
+            dead = opening.dead;
+            none = opening.none;
+            pin = opening.pin;
+          }
 
-    slots_led : (n i : ℕ) → n + i ≡ 240 → (p : Path) → Leaves slot (at (led_below i)) p None (at (led_below 240)) (after_outs rooms p n i) None (leads_outs slot bind rooms p n i)
+          by : (t : Bool) → list_any (has (leads_out i)) rooms ≡ t →
+              Leaves slot Safe from p None to stands None (cond t ((Pins (bind i) ∷ Takes T ∷ Checks T (bind i) ∷ []) ++ (pass ++ LeadsTop T ∷ [])) [])
+          by true e =
+              leaves_on slot Safe from p None from p (Some (bind i)) to stands None (Pins (bind i) ∷ Takes T ∷ Checks T (bind i) ∷ []) (pass ++ LeadsTop T ∷ []) (opens_slot slot Safe from p (bind i) its_low (asked e))
+              (leaves_on slot Safe from p (Some (bind i)) half stands (Some (bind i)) to stands None pass (LeadsTop T ∷ []) pass_led
+              (leaves_to slot Safe half half to stands stands (Some (bind i)) None (LeadsTop T ∷ []) (pass_done bind c rooms its (led_below (suc i)) (led_below i) refl) (closes_slot slot Safe half stands (bind i))))
+          by false e =
+              let same = rooms_idle bind c slot Safe (Some (bind i)) (led_below (suc i)) (led_below i) (leads_out i) (leads_body_out i bind) (out_item bind c its.root slot Safe i its_low) (out_idle bind c its.root slot Safe i its_low) rooms spaces [] [] its.filled e in
+              let here : stands ≡ p = after_none (has (leads_out i)) p rooms e in
+              subst (λ (z : Path). Leaves slot Safe from p None to z None []) (sym here)
+              (leaves_none slot Safe from to p None (same ∙ pass_done bind c rooms its (led_below (suc i)) (led_below i) refl))
+
+    slots_led : (n i : ℕ) → n + i ≡ 240 → (p : Path) → Leaves slot Safe (at (led_below i)) p None (at (led_below 240)) (after_outs rooms p n i) None (leads_outs slot bind rooms p n i)
     unfolding leads_outs
-    slots_led zero i e p = leaves_none slot (at (led_below i)) (at (led_below 240)) p None (ap (λ (i : ℕ). at (led_below i)) (let same : i ≡ 240 = omega (arith, e) in same))
+    slots_led zero i e p = leaves_none slot Safe (at (led_below i)) (at (led_below 240)) p None (ap (λ (i : ℕ). at (led_below i)) (let same : i ≡ 240 = omega (arith, e) in same))
     slots_led (suc n) i e p =
         let low : i ≤ LAST_USER_SLOT = omega (arith, e) in
         let next : n + suc i ≡ 240 = omega (arith, e) in
         let there = after_rooms (has (leads_out i)) p rooms in
-        leaves_on slot (at (led_below i)) p None (at (led_below (suc i))) there None (at (led_below 240)) (after_outs rooms there n (suc i)) None
+        leaves_on slot Safe (at (led_below i)) p None (at (led_below (suc i))) there None (at (led_below 240)) (after_outs rooms there n (suc i)) None
         (leads_out_by slot bind rooms p i) (leads_outs slot bind rooms there n (suc i)) (slot_led i low p) (slots_led n (suc i) next there)
 
-    tied : (p : Path) → Leaves slot (at (led_below 240)) p None (at (all_led false)) (after_rooms (has ties_inside) p rooms) None (through_rooms slot (has ties_inside) (each (ties_body slot)) p rooms)
+    tied : (p : Path) → Leaves slot Safe (at (led_below 240)) p None (at (all_led false)) (after_rooms (has ties_inside) p rooms) None (through_rooms slot (has ties_inside) (each (ties_body slot)) p rooms)
     tied p =
-        leaves_to slot (at (led_below 240)) (leading bind c (all_led false) (led_below 240) items) (at (all_led false)) p (after_rooms (has ties_inside) p rooms) None None _
+        leaves_to slot Safe (at (led_below 240)) (leading bind c (all_led false) (led_below 240) items) (at (all_led false)) p (after_rooms (has ties_inside) p rooms) None None _
         (pass_done bind c rooms its (all_led false) (led_below 240) refl)
-        (rooms_led bind c slot None (all_led false) (led_below 240) ties_inside (ties_body slot) (tie_item bind c its.root slot its.one_service its.one_each) (tie_idle bind c its.root slot its.one_service its.one_each) rooms p spaces [] [] no_items its.filled)
+        (rooms_led bind c slot Safe None (all_led false) (led_below 240) ties_inside (ties_body slot) (tie_item bind c its.root slot Safe its.one_service its.one_each) (tie_idle bind c its.root slot Safe its.one_service its.one_each) rooms p spaces [] [] no_items its.filled)
 
     -- ---- all of it stands
 
@@ -317,29 +339,29 @@ module _ (bind : ℕ → ℕ) (c : World) (rooms : List Room) (its : IsRoomed bi
         by false h = its.whole k x h
         by true h = item (rooms_are bind c rooms spaces spaces [] (k ∷ x) its.filled h)
 
-    held : (p : Path) → Leaves slot (at (all_led false)) p None (rebound bind c) (after_holds p rooms) None (holds_spaces slot p rooms)
+    held : (p : Path) → Leaves slot Safe (at (all_led false)) p None (rebound bind c) (after_holds p rooms) None (holds_spaces slot p rooms)
     held p =
-        leaves_to slot (at (all_led false)) (leading bind c (all_led true) (all_led false) spaces) (rebound bind c) p (after_holds p rooms) None None (holds_spaces slot p rooms) whole_stands
-        (spaces_held bind c its.root slot unscratched rooms p [] its.spaces)
+        leaves_to slot Safe (at (all_led false)) (leading bind c (all_led true) (all_led false) spaces) (rebound bind c) p (after_holds p rooms) None None (holds_spaces slot p rooms) whole_stands
+        (spaces_held bind c its.root slot Safe unscratched rooms p [] its.spaces)
 
     -- ---- the scratch goes
 
     -- a list of orders at whose end the subtree stands, and no scratch
     pub record Ended (g : Site) (os : List Order) : Type 0 where
       pub site : Site
-      pub runs : Runs slot g site os
+      pub runs : Runs slot Safe g site os
       pub built : site.built ≡ rebound bind c
       pub spots : (k : ℕ) → site.spot k ≡ None
       pub pin : site.pin ≡ NoPin
 
     abbrev Ends : World → Path → List Order → Type 0
-    Ends d p os = (g : Site) → Good slot d p None g → Ended g os
+    Ends d p os = (g : Site) → Good slot Safe d p None g → Ended g os
 
-    ends_on : (d : World) (p : Path) (e : World) (q : Path) (os ps : List Order) → Leaves slot d p None e q None os → Ends e q ps → Ends d p (os ++ ps)
+    ends_on : (d : World) (p : Path) (e : World) (q : Path) (os ps : List Order) → Leaves slot Safe d p None e q None os → Ends e q ps → Ends d p (os ++ ps)
     ends_on d p e q os ps first second g good =
         let next = first g good in
         let end = second next.site next.good in
-        record { site = end.site; runs = on slot g next.site end.site os ps next.runs end.runs; built = end.built; spots = end.spots; pin = end.pin }
+        record { site = end.site; runs = on slot Safe g next.site end.site os ps next.runs end.runs; built = end.built; spots = end.spots; pin = end.pin }
 
     cleared : (p : Path) → Ends (rebound bind c) p closes
     unfolding does_all
@@ -350,10 +372,11 @@ module _ (bind : ℕ → ℕ) (c : World) (rooms : List Room) (its : IsRoomed bi
           (refl, good.aimed.0),
           (
             (refl, good.u.0),
-            ((good.pin, λ k. by k (eqb k U) (eqb k T) (stays_all slot (rebound bind c) p g good k)), ((refl, rw good.at refl), ((refl, refl), ((refl, refl), ((refl, rw good.dead refl), tt))))),
+            ((good.pin, λ k. by k (eqb k U) (eqb k T) (stays_all slot Safe (rebound bind c) p g good k)), ((refl, rw good.at refl), ((refl, refl), ((refl, refl), ((refl, rw good.dead refl), tt))))),
           ),
         );
         suits = (tt, (tt, (tt, (tt, (tt, (tt, (tt, tt)))))));
+        safe = (tt, (tt, (tt, (tt, (tt, (tt, (tt, tt)))))));
         end = refl;
       };
       built = good.built;
@@ -391,25 +414,25 @@ module _ (bind : ℕ → ℕ) (c : World) (rooms : List Room) (its : IsRoomed bi
 
     passes_end : Ends (building c [] [] []) [] passes
     passes_end =
-        ends_on (building c [] [] []) [] (building c spaces [] []) (made_by rooms) _ _ (spaces_made c its.root slot rooms [] [] its.spaces)
+        ends_on (building c [] [] []) [] (building c spaces [] []) (made_by rooms) _ _ (spaces_made c its.root slot Safe rooms [] [] its.spaces)
         (ends_on (building c spaces [] []) (made_by rooms) (at nothing_led) (filled_by rooms) _ _ filled
         (ends_on (at nothing_led) (filled_by rooms) (at (led_below 0)) (pointed_by rooms) _ _ (led_inside (filled_by rooms))
         (ends_on (at (led_below 0)) (pointed_by rooms) (at (led_below 240)) (led_out_by rooms) _ _ (slots_led 240 0 refl (pointed_by rooms))
         (ends_on (at (led_below 240)) (led_out_by rooms) (at (all_led false)) (tied_by rooms) _ _ (tied (led_out_by rooms))
         (ends_on (at (all_led false)) (tied_by rooms) (rebound bind c) end _ _ (held (tied_by rooms)) (cleared end))))))
       where
-        filled : Leaves slot (building c spaces [] []) (made_by rooms) None (at nothing_led) (filled_by rooms) None (through_rooms slot any_room fills (made_by rooms) rooms)
+        filled : Leaves slot Safe (building c spaces [] []) (made_by rooms) None (at nothing_led) (filled_by rooms) None (through_rooms slot any_room fills (made_by rooms) rooms)
         filled =
-            leaves_to slot (building c spaces [] []) (building c made items (all_given rooms [])) (at nothing_led) (made_by rooms) (filled_by rooms) None None _ all_built
-            (rooms_filled c its.root slot bind rooms (made_by rooms) spaces [] [] no_items its.filled)
+            leaves_to slot Safe (building c spaces [] []) (building c made items (all_given rooms [])) (at nothing_led) (made_by rooms) (filled_by rooms) None None _ all_built
+            (rooms_filled c its.root slot Safe bind rooms (made_by rooms) spaces [] [] no_items its.filled)
 
     pub script_ends : Ended first (script slot bind rooms)
     unfolding script
     script_ends =
-        let end = passes_end (begun slot) (begins_good slot c) in
+        let end = passes_end (begun slot) (begins_good slot Safe c) in
         record {
           site = end.site;
-          runs = on slot first (begun slot) end.site (opens slot) passes (begins_runs slot) end.runs;
+          runs = on slot Safe first (begun slot) end.site (opens slot) passes (begins_runs slot Safe) end.runs;
           built = end.built;
           spots = end.spots;
           pin = end.pin;

@@ -6,6 +6,7 @@ use Rattle.std.specs.List.{list_any}
 use Rattle.fk_model.specs.declared.limits.TheConstants.{OWN_SPACE}
 use Rattle.fk_model.specs.declared.stage.Stage.TheVariants.{Destroy, SpaceMakeHeld, SpaceRelease}
 use Rattle.fk_model.specs.declared.statuses.status.TheConstants.{OK}
+use Rattle.fk_model.specs.Places.{Path}
 use Rattle.laws_jobs.specs.Machines.{no_words, Head, Machine}
 use Rattle.laws_jobs.specs.Machines.Head.{Stops, Asks}
 use Rattle.laws_sites.specs.Orders.{Order, stage_of, words_of, passes}
@@ -40,17 +41,22 @@ abbrev pub lowest_bound : (ℕ → ℕ) → List Room → ℕ → ℕ → ℕ �
 lowest_bound bind rooms j zero i = i
 lowest_bound bind rooms j (suc n) i = if bind i == j && list_any (has (leads_out i)) rooms then i else lowest_bound bind rooms j n (suc i)
 
--- spaces, the new one among them, and what stands in each
+-- what stands beneath the new space: the spaces there, and what stands in each and in the new one
+abbrev pub beneath : Path → ℕ
+beneath [] = zero
+beneath (k ∷ q) = suc zero
+
 abbrev pub objects : List Room → ℕ
 objects [] = zero
-objects (r ∷ rs) = suc (length r.items) + objects rs
+objects (r ∷ rs) = (beneath r.path + length r.items) + objects rs
 
 abbrev pub drops : List Order
 drops = Drops P ∷ Drops T ∷ Drops U ∷ Drops D ∷ []
 
+-- the scratch goes, then these, the pin and the space itself
 abbrev pub refused : (ℕ → ℕ) → List Room → List Order → Option ℕ → State
 refused bind rooms os None = Works os
-refused bind rooms os (Some j) = Clears drops (objects rooms) (lowest_bound bind rooms j 240 0)
+refused bind rooms os (Some j) = Clears drops (suc (objects rooms)) (lowest_bound bind rooms j 240 0)
 
 -- ---- the machine
 

@@ -10,7 +10,7 @@
 
 ghost use Rattle.laws_restore.specs.Laws.{ScriptMakes, RestoresPicture, NeverLost};
 ghost use Rattle.laws_restore.specs.Example.{SmallIsRoomed, OneScript};
-ghost use Rattle.laws_restore.specs.Ends.{RestoreEndsSo, RestoreIsOwed, RestoreIsCounted, RestoreRestores};
+ghost use Rattle.laws_restore.specs.Ends.{RestoreEndsSo, RestoreIsOwed, RestoreIsTidy, RestoreIsCounted, RestoreRestores};
 ghost use Rattle.laws_restore.specs.Bounded.{ScriptIsBounded, RestoreIsBounded};
 
 /// The script of a subtree may be given to a new space order by order, and makes that subtree with its ports bound.
@@ -28,8 +28,8 @@ pub fn a_restorer_is_never_lost()
     ensures { NeverLost }
 {}
 
-/// A restore ends so: its slot was empty and the subtree stands there unheld, or it was empty and a port was missing, or it was
-/// taken and nothing was done.
+/// A restore ends so: its slot was empty and the subtree stands there unheld; or it was empty, a port was missing and nothing
+/// stands there again; or it was taken and nothing was done.
 pub fn a_restore_ends_so()
     ensures { RestoreEndsSo }
 {}
@@ -37,6 +37,11 @@ pub fn a_restore_ends_so()
 /// Each call of a restore is owed: fit, of a porter's words, and such as leaves a world that can be saved.
 pub fn a_restores_calls_are_owed()
     ensures { RestoreIsOwed }
+{}
+
+/// It is tidy: its calls are owed, its porter stays while it has one to make, and no scratch is left at its end.
+pub fn a_restore_is_tidy()
+    ensures { RestoreIsTidy }
 {}
 
 /// What a run wants of a restore that is done: a plain subtree, which is the picture with its ports bound.

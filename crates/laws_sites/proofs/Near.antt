@@ -102,7 +102,7 @@ module _ (nester : Path) (slot : ℕ) where
   -- ---- what leads in
 
   -- who isn't near isn't changed by what is, but by a death
-  not_there : (x y : Path) → is_near nester slot x ≡ true → is_within root y ≡ false → is_scratch nester y ≡ false → same_path y x ≡ false
+  pub not_there : (x y : Path) → is_near nester slot x ≡ true → is_within root y ≡ false → is_scratch nester y ≡ false → same_path y x ≡ false
   not_there x y near out off = by (same_path y x) refl
     where
       by : (t : Bool) → same_path y x ≡ t → t ≡ false

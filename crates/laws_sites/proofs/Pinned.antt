@@ -147,7 +147,7 @@ module _ (nester : Path) (slot : ℕ) where
     located i Outside changes status words low h port = let same : words ≡ [] = cc in let off = rw same at port in cc
     located i Far changes status words low h port = let same : words ≡ [] = cc in let off = rw same at port in cc
 
-    still_here : (to : Ptr) (changes : List Change) (status : ℕ) (words : List ℕ) → located_here nester no_words w (target_of to) ≡ Goes changes (Answered status words) → changes ≡ []
+    pub still_here : (to : Ptr) (changes : List Change) (status : ℕ) (words : List ℕ) → located_here nester no_words w (target_of to) ≡ Goes changes (Answered status words) → changes ≡ []
     still_here Null changes status words h = cc
     still_here Dead changes status words h = cc
     still_here (At x) changes status words h = by (option_map (λ (q : Path). outermost q ∷ cond (nat_le (length q) 1) 0 1 ∷ []) (strip nester x)) h
