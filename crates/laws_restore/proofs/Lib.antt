@@ -20,6 +20,7 @@ pub mod Refused
 pub mod Tidying
 pub mod Coming
 pub mod Owing
+pub mod Readied
 pub mod Example
 pub mod Counted
 pub mod Bounds

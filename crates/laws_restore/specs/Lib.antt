@@ -6,5 +6,6 @@ pub mod Roomed
 pub mod Laws
 pub mod Restore
 pub mod Ends
+pub mod Exact
 pub mod Example
 pub mod Bounded

@@ -11,6 +11,7 @@
 ghost use Rattle.laws_restore.specs.Laws.{ScriptMakes, RestoresPicture, NeverLost};
 ghost use Rattle.laws_restore.specs.Example.{SmallIsRoomed, OneScript};
 ghost use Rattle.laws_restore.specs.Ends.{RestoreEndsSo, RestoreIsOwed, RestoreIsTidy, RestoreIsCounted, RestoreRestores};
+ghost use Rattle.laws_restore.specs.Exact.{RestoreIsReady};
 ghost use Rattle.laws_restore.specs.Bounded.{ScriptIsBounded, RestoreIsBounded};
 
 /// The script of a subtree may be given to a new space order by order, and makes that subtree with its ports bound.
@@ -42,6 +43,11 @@ pub fn a_restores_calls_are_owed()
 /// It is tidy: its calls are owed, its porter stays while it has one to make, and no scratch is left at its end.
 pub fn a_restore_is_tidy()
     ensures { RestoreIsTidy }
+{}
+
+/// Its next call is ready wherever its porter is free and no space outside the new one is held.
+pub fn a_restores_next_call_is_ready()
+    ensures { RestoreIsReady }
 {}
 
 /// What a run wants of a restore that is done: a plain subtree, which is the picture with its ports bound.
