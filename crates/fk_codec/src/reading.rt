@@ -12,6 +12,7 @@ ghost use Rattle.fk_codec.specs.Given.{Reads};
 
 use crate::fail::{ImageError, ReadFail};
 use fk_image::{Image, Link, Open, Path, SpaceRec, enter, kind_in_space, room_under};
+use fk_image_format::reason;
 use fk_image_pointers::{PointerFail, check_links};
 use fk_image_reading::{
     Fail, read_below, read_byte, read_link, read_objects, read_pages, read_u16, read_u32, refused,
@@ -26,15 +27,15 @@ fn read_first(alloc: Global, bytes: &[u8]) -> Result<(SpaceRec, &[u8]), Fail>
 {
     let (parent, behind_parent) = read_u32(bytes)?;
     if parent != u32::MAX {
-        return Err(refused(bytes, 5));
+        return Err(refused(bytes, reason::RANGE));
     }
     let (slot, behind_slot) = read_byte(behind_parent)?;
     if slot != 0 {
-        return Err(refused(behind_parent, 5));
+        return Err(refused(behind_parent, reason::RANGE));
     }
     let (tag, rest) = read_byte(behind_slot)?;
     if tag != 0 {
-        return Err(refused(behind_slot, 5));
+        return Err(refused(behind_slot, reason::RANGE));
     }
     let (objects, rest) = read_objects(alloc, rest)?;
     let (pages, rest) = read_pages(alloc, rest)?;
@@ -55,7 +56,7 @@ fn read_room(path: &mut Path, parent: u32, bytes: &[u8]) -> Result<u16, Fail>
     ensures path { IfOk result (λ _. path.new ≡ preorder.from parent path.old) }
 {
     match room_under(path, parent)? {
-        None => Err(refused(bytes, 4)),
+        None => Err(refused(bytes, reason::ORDER)),
         Some(floor) => Ok(floor),
     }
 }
@@ -75,10 +76,10 @@ fn read_next<'a>(
     let floor = read_room(path, parent, bytes)?;
     let (slot, rest) = read_below(240, rest)?;
     if u16::from(slot) < floor {
-        return Err(refused(bytes, 4));
+        return Err(refused(bytes, reason::ORDER));
     }
     if kind_in_space(done, parent, slot).is_some() {
-        return Err(refused(bytes, 4));
+        return Err(refused(bytes, reason::ORDER));
     }
     let (holder, rest) = read_link(rest)?;
     let (objects, rest) = read_objects(alloc, rest)?;
@@ -137,19 +138,19 @@ fn read_head(bytes: &[u8]) -> Result<(u32, &[u8]), Fail>
     ensures { Decodes (λ x. (x.0, x.1.now)) result (words.read_head bytes.now) }
 {
     if bytes.len() < 8 {
-        return Err(refused(bytes, 3));
+        return Err(refused(bytes, reason::CUT));
     }
     let (front, behind_magic) = bytes.split_at(8);
     if front != b"FLUKEIMG".as_slice() {
-        return Err(refused(bytes, 1));
+        return Err(refused(bytes, reason::MAGIC));
     }
     let (version, behind_version) = read_u16(behind_magic)?;
     if version != 1 {
-        return Err(refused(behind_magic, 2));
+        return Err(refused(behind_magic, reason::VERSION));
     }
     let (count, rest) = read_u32(behind_version)?;
     if count == 0 {
-        return Err(refused(behind_version, 5));
+        return Err(refused(behind_version, reason::RANGE));
     }
     Ok((count, rest))
 }
@@ -161,7 +162,7 @@ fn read_image(alloc: Global, bytes: &[u8]) -> Result<Image, Fail>
     let (count, rest) = read_head(bytes)?;
     let (spaces, rest) = read_spaces(alloc, count, rest)?;
     if !rest.is_empty() {
-        return Err(refused(rest, 7));
+        return Err(refused(rest, reason::LEFT_OVER));
     }
     Ok(Image { spaces })
 }
@@ -172,7 +173,7 @@ fn led(alloc: Global, image: Image) -> Result<Image, ReadFail>
 {
     match check_links(alloc, image.spaces.as_slice()) {
         Ok(()) => Ok(image),
-        Err(PointerFail::Wrong(offset)) => Err(ReadFail::Image(ImageError { offset, reason: 6 })),
+        Err(PointerFail::Wrong(offset)) => Err(ReadFail::Image(ImageError { offset, reason: reason::POINTER })),
         Err(PointerFail::NoMemory) => Err(ReadFail::NoMemory),
     }
 }

@@ -1,6 +1,7 @@
 -- Fields from left to right: a value and the bytes behind it, or the fault of the first bad field.
 use Rattle.std.specs.Prelude.{ℕ, zero, suc, Bool, List, [], ◌∷◌, ◌++◌, length, take, drop, Result, Ok, Err, nat_lt, if◌then◌else◌}
 use Rattle.std.specs.Int.{Width, byte_len, from_le_bytes}
+use Rattle.fk_image_format.specs.declared.reasons.reason.TheConstants as reasons
 use Rattle.fk_image_format.specs.declared.stop.Stop.{Stop}
 
 infixl 10 ◌>>=◌
@@ -16,18 +17,18 @@ abbrev pub expect : Bool → List ℕ → ℕ → Result (Unit {0}) Stop
 expect good bytes reason = if good then Ok tt else refuse_field bytes reason
 
 abbrev pub read_byte : List ℕ → Result (ℕ × List ℕ) Stop
-read_byte [] = refuse_field [] 3
+read_byte [] = refuse_field [] reasons.CUT
 read_byte (b ∷ rest) = Ok (b, rest)
 
 abbrev pub read_number : Width → List ℕ → Result (ℕ × List ℕ) Stop
-read_number w bytes = if nat_lt (length bytes) (byte_len w) then refuse_field bytes 3 else Ok
+read_number w bytes = if nat_lt (length bytes) (byte_len w) then refuse_field bytes reasons.CUT else Ok
     (from_le_bytes w (take (byte_len w) bytes), drop (byte_len w) bytes)
 
 -- a byte below a limit
 unfoldable pub read_below : ℕ → List ℕ → Result (ℕ × List ℕ) Stop
 read_below limit bytes = do
   b ← read_byte bytes
-  if nat_lt b.0 limit then Ok b else refuse_field bytes 5
+  if nat_lt b.0 limit then Ok b else refuse_field bytes reasons.RANGE
 
 -- n items, each read in the light of what those before it left
 unfoldable pub read_many : {S X : Type 0} → (S → List ℕ → Result (X × List ℕ) Stop) → (S → X → S) → ℕ → S → List X → List ℕ → Result (List X × List ℕ) Stop

@@ -18,6 +18,7 @@ use Rattle.fk_image.specs.Ranges.{is_extent, is_set_word, is_mode_byte, is_code}
 use Rattle.fk_image.specs.Preorder.{room_under, root_path, after_space}
 use Rattle.fk_image.specs.Links.{kind_in_space}
 use Rattle.fk_image.specs.Valid.{after_object, after_page}
+use Rattle.fk_image_format.specs.declared.reasons.reason.TheConstants as reasons
 use Rattle.fk_image_format.specs.declared.stop.Stop.{Stop}
 use Rattle.fk_image_format.specs.Spelling.{magic}
 use Rattle.fk_image_format.specs.Fields.{◌>>=◌, refuse_field, expect, read_byte, read_number, read_below, read_many}
@@ -37,7 +38,7 @@ read_link bytes = do
         Ok (Out slot.0, slot.1))
       else if tag.0 == 4 then Ok (Root, tag.1)
       else if tag.0 == 5 then Ok (Outside, tag.1)
-      else refuse_field bytes 5
+      else refuse_field bytes reasons.RANGE
 
 -- ---- threads
 
@@ -54,13 +55,13 @@ read_words count bytes = read_many read_word same_state count 0 [] bytes
 unfoldable pub read_mode : List ℕ → List ℕ → Result (ℕ × List ℕ) Stop
 read_mode regs bytes = do
   mode ← read_byte bytes
-  if is_mode_byte regs mode.0 then Ok mode else refuse_field bytes 5
+  if is_mode_byte regs mode.0 then Ok mode else refuse_field bytes reasons.RANGE
 
 -- a halt code, behind the mode
 unfoldable pub read_code : ℕ → List ℕ → Result (ℕ × List ℕ) Stop
 read_code mode bytes = do
   code ← read_byte bytes
-  if is_code mode code.0 then Ok code else refuse_field bytes 5
+  if is_code mode code.0 then Ok code else refuse_field bytes reasons.RANGE
 
 unfoldable pub read_open_talk : ℕ → List ℕ → Result (Option TalkRec × List ℕ) Stop
 read_open_talk turn bytes = do
@@ -110,7 +111,7 @@ unfoldable pub read_extent : List ℕ → Result ((ℕ × ℕ) × List ℕ) Stop
 read_extent bytes = do
   first ← read_byte bytes
   count ← read_number w16 first.1
-  if is_extent first.0 count.0 then Ok ((first.0, count.0), count.1) else refuse_field first.1 5
+  if is_extent first.0 count.0 then Ok ((first.0, count.0), count.1) else refuse_field first.1 reasons.RANGE
 
 unfoldable pub read_mapping : List ℕ → Result (Rec × List ℕ) Stop
 read_mapping bytes = do
@@ -130,7 +131,7 @@ read_region bytes = do
 unfoldable pub read_port : List ℕ → Result (Rec × List ℕ) Stop
 read_port bytes = do
   set ← read_number w16 bytes
-  if is_set_word set.0 then Ok (Port set.0, set.1) else refuse_field bytes 5
+  if is_set_word set.0 then Ok (Port set.0, set.1) else refuse_field bytes reasons.RANGE
 
 unfoldable pub read_mutex : List ℕ → Result (Rec × List ℕ) Stop
 read_mutex bytes = do
@@ -153,19 +154,19 @@ read_body bytes = do
       else if kind.0 == 6 then Ok (Portset, kind.1)
       else if kind.0 == 8 then read_thread kind.1
       else if kind.0 == 9 then read_reference kind.1
-      else refuse_field bytes 5
+      else refuse_field bytes reasons.RANGE
 
 unfoldable pub read_object : ℕ → List ℕ → Result (ObjectRec × List ℕ) Stop
 read_object floor bytes = do
   slot ← read_below 240 bytes
-  _ ← expect (not (nat_lt slot.0 floor)) bytes 4
+  _ ← expect (not (nat_lt slot.0 floor)) bytes reasons.ORDER
   body ← read_body slot.1
   Ok (record { slot = slot.0; body = body.0 }, body.1)
 
 unfoldable pub read_page : ℕ → List ℕ → Result (PageRec × List ℕ) Stop
 read_page floor bytes = do
   page ← read_byte bytes
-  _ ← expect (not (nat_lt page.0 floor)) bytes 4
+  _ ← expect (not (nat_lt page.0 floor)) bytes reasons.ORDER
   words ← read_words 64 page.1
   Ok (record { page = page.0; words = words.0 }, words.1)
 
@@ -184,11 +185,11 @@ read_pages bytes = do
 unfoldable pub read_first : List ℕ → Result (SpaceRec × List ℕ) Stop
 read_first bytes = do
   parent ← read_number w32 bytes
-  _ ← expect (parent.0 == 4294967295) bytes 5
+  _ ← expect (parent.0 == 4294967295) bytes reasons.RANGE
   slot ← read_byte parent.1
-  _ ← expect (slot.0 == 0) parent.1 5
+  _ ← expect (slot.0 == 0) parent.1 reasons.RANGE
   tag ← read_byte slot.1
-  _ ← expect (tag.0 == 0) slot.1 5
+  _ ← expect (tag.0 == 0) slot.1 reasons.RANGE
   objects ← read_objects tag.1
   pages ← read_pages objects.1
   Ok (record { parent = parent.0; slot = slot.0; holder = Null; objects = objects.0; pages = pages.0 }, pages.1)
@@ -199,15 +200,15 @@ or_refuse_field (Some n) bytes reason = Ok n
 
 -- the lowest slot under the parent in which the space may follow
 unfoldable pub read_room : List Open → ℕ → List ℕ → Result ℕ Stop
-read_room path parent bytes = or_refuse_field (room_under path parent) bytes 4
+read_room path parent bytes = or_refuse_field (room_under path parent) bytes reasons.ORDER
 
 unfoldable pub read_next : List SpaceRec → List Open → List ℕ → Result (SpaceRec × List ℕ) Stop
 read_next done path bytes = do
   parent ← read_number w32 bytes
   floor ← read_room path parent.0 bytes
   slot ← read_below 240 parent.1
-  _ ← expect (not (nat_lt slot.0 floor)) bytes 4
-  _ ← expect (not (is_some (kind_in_space done parent.0 slot.0))) bytes 4
+  _ ← expect (not (nat_lt slot.0 floor)) bytes reasons.ORDER
+  _ ← expect (not (is_some (kind_in_space done parent.0 slot.0))) bytes reasons.ORDER
   holder ← read_link slot.1
   objects ← read_objects holder.1
   pages ← read_pages objects.1
@@ -224,26 +225,26 @@ read_space before bytes = read_placed before.0 before.1 bytes
 
 unfoldable pub read_head : List ℕ → Result (ℕ × List ℕ) Stop
 read_head bytes = do
-  _ ← expect (not (nat_lt (length bytes) 8)) bytes 3
-  _ ← expect (pointwise nat_eq (take 8 bytes) magic) bytes 1
+  _ ← expect (not (nat_lt (length bytes) 8)) bytes reasons.CUT
+  _ ← expect (pointwise nat_eq (take 8 bytes) magic) bytes reasons.MAGIC
   version ← read_number w16 (drop 8 bytes)
-  _ ← expect (version.0 == 1) (drop 8 bytes) 2
+  _ ← expect (version.0 == 1) (drop 8 bytes) reasons.VERSION
   count ← read_number w32 version.1
-  _ ← expect (not (count.0 == 0)) version.1 5
+  _ ← expect (not (count.0 == 0)) version.1 reasons.RANGE
   Ok count
 
--- reasons 1 to 5 and 7
+-- with every reason but that of a wrong pointer
 unfoldable pub read_image : List ℕ → Result Image Stop
 read_image bytes = do
   count ← read_head bytes
   spaces ← read_many read_space after_space count.0 ([], root_path) [] count.1
-  _ ← expect (length spaces.1 == 0) spaces.1 7
+  _ ← expect (length spaces.1 == 0) spaces.1 reasons.LEFT_OVER
   Ok (record { spaces = spaces.0 })
 
--- reason 6, sought after the rest
+-- a wrong pointer, sought after the rest
 abbrev pub linked : Image → Option ℕ → Result Image (ℕ × ℕ)
 linked i None = Ok i
-linked i (Some at) = Err (at, 6)
+linked i (Some at) = Err (at, reasons.POINTER)
 
 -- an offset from the front
 abbrev pub finished : List ℕ → Result Image Stop → Result Image (ℕ × ℕ)

@@ -2,13 +2,15 @@
 //! spell none.
 //!
 //! It stands on `fk_image` for images and their validity. `specs/Spelling.antt` has the bytes of an image,
-//! `specs/Reading.antt` what bytes say from left to right, with the reasons 1 to 5 and 7, and
-//! `specs/Offsets.antt` where in its bytes a wrong pointer stands, which is reason 6. It has no code of its
-//! own but laws: that these fit together.
+//! `specs/Reading.antt` what bytes say from left to right, with the reasons found so, and
+//! `specs/Offsets.antt` where in its bytes a wrong pointer stands. It has no code of its own but the reasons'
+//! numbers, and laws: that these fit together.
 #![tactic(auto)]
 
 mod laws;
+mod reasons;
 mod stop;
 
 pub use laws::{faultless, led, read_again};
+pub use reasons::reason;
 pub use stop::Stop;

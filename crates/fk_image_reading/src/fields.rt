@@ -8,7 +8,7 @@ ghost use Rattle.fk_image_reading.specs.Given.{Decodes, IsFault, Refuses};
 use crate::fail::Fail;
 use byteorder::{ByteOrder, LittleEndian};
 use fk_image::Link;
-use fk_image_format::Stop;
+use fk_image_format::{Stop, reason};
 
 /// The fault of the field at the front of these bytes.
 pub fn refused(bytes: &[u8], reason: u8) -> Fail
@@ -20,25 +20,25 @@ pub fn refused(bytes: &[u8], reason: u8) -> Fail
     })
 }
 
-/// A byte. Where none is left, that is reason 3.
+/// A byte. Where none is left, the bytes end within a field.
 pub fn read_byte(bytes: &[u8]) -> Result<(u8, &[u8]), Fail>
     ensures read { Decodes (λ x. (x.0, x.1.now)) result (fields.read_byte bytes.now) }
     ensures fault { IfErr result (λ fail. IsFault fail) }
 {
     match bytes {
-        [] => Err(Fail::At(Stop { left: 0, reason: 3 })),
+        [] => Err(Fail::At(Stop { left: 0, reason: reason::CUT })),
         [byte, rest @ ..] => Ok((*byte, rest)),
     }
 }
 
-/// A number of two bytes, the lowest first. Where fewer are left, that is reason 3; so in the next two.
+/// A number of two bytes, the lowest first. Where fewer are left, the bytes end within a field; so in the next two.
 pub fn read_u16(bytes: &[u8]) -> Result<(u16, &[u8]), Fail>
     ensures read { Decodes (λ x. (x.0, x.1.now)) result (fields.read_number w16 bytes.now) }
     ensures fault { IfErr result (λ fail. IsFault fail) }
 {
     match bytes.split_first_chunk::<2>() {
         Some((number, rest)) => Ok((LittleEndian::read_u16(number), rest)),
-        None => Err(refused(bytes, 3)),
+        None => Err(refused(bytes, reason::CUT)),
     }
 }
 
@@ -49,7 +49,7 @@ pub fn read_u32(bytes: &[u8]) -> Result<(u32, &[u8]), Fail>
 {
     match bytes.split_first_chunk::<4>() {
         Some((number, rest)) => Ok((LittleEndian::read_u32(number), rest)),
-        None => Err(refused(bytes, 3)),
+        None => Err(refused(bytes, reason::CUT)),
     }
 }
 
@@ -60,11 +60,11 @@ pub fn read_u64(bytes: &[u8]) -> Result<(u64, &[u8]), Fail>
 {
     match bytes.split_first_chunk::<8>() {
         Some((number, rest)) => Ok((LittleEndian::read_u64(number), rest)),
-        None => Err(refused(bytes, 3)),
+        None => Err(refused(bytes, reason::CUT)),
     }
 }
 
-/// A byte below a limit; any other is reason 5.
+/// A byte below a limit; any other is out of its range.
 #[tactic(auto, unfolding(fk_image_format::specs::Fields::read_below))]
 pub fn read_below(limit: u8, bytes: &[u8]) -> Result<(u8, &[u8]), Fail>
     ensures read { Decodes (λ x. (x.0, x.1.now)) result (fields.read_below limit bytes.now) }
@@ -74,7 +74,7 @@ pub fn read_below(limit: u8, bytes: &[u8]) -> Result<(u8, &[u8]), Fail>
     if byte < limit {
         Ok((byte, rest))
     } else {
-        Err(refused(bytes, 5))
+        Err(refused(bytes, reason::RANGE))
     }
 }
 
@@ -94,7 +94,7 @@ pub fn read_words<const N: usize>(bytes: &[u8]) -> Result<([u64; N], &[u8]), Fai
     Ok((numbers, rest))
 }
 
-/// A pointer: its tag, and what that tag is followed by. An unknown tag is reason 5, and so is a slot above 239.
+/// A pointer: its tag, and what that tag is followed by. An unknown tag is out of its range, and so is a slot above 239.
 #[tactic(auto, unfolding(fk_image_format::specs::Reading::read_link))]
 pub fn read_link(bytes: &[u8]) -> Result<(Link, &[u8]), Fail>
     ensures read { Decodes (λ x. (x.0, x.1.now)) result (words.read_link bytes.now) }
@@ -115,6 +115,6 @@ pub fn read_link(bytes: &[u8]) -> Result<(Link, &[u8]), Fail>
         }
         4 => Ok((Link::Root, rest)),
         5 => Ok((Link::Outside, rest)),
-        _ => Err(refused(bytes, 5)),
+        _ => Err(refused(bytes, reason::RANGE)),
     }
 }

@@ -11,6 +11,7 @@ use crate::fail::Fail;
 use crate::fields::{read_below, read_byte, read_link, read_u16, read_words, refused};
 use crate::threads::read_thread;
 use fk_image::{ObjectRec, Objects, PageRec, Rec, is_extent, is_set_word};
+use fk_image_format::reason;
 use fk_model::{List, NoMemory};
 use std::alloc::Global;
 
@@ -25,7 +26,7 @@ fn read_extent(bytes: &[u8]) -> Result<((u8, u16), &[u8]), Fail>
     if is_extent(first, count) {
         Ok(((first, count), rest))
     } else {
-        Err(refused(behind_first, 5))
+        Err(refused(behind_first, reason::RANGE))
     }
 }
 
@@ -74,7 +75,7 @@ fn read_port(bytes: &[u8]) -> Result<(Rec, &[u8]), Fail>
     if is_set_word(set) {
         Ok((Rec::Port { set }, rest))
     } else {
-        Err(refused(bytes, 5))
+        Err(refused(bytes, reason::RANGE))
     }
 }
 
@@ -132,7 +133,7 @@ fn add_body<'a>(
         6 => Ok(add(objects, slot, (Rec::Portset, rest))?),
         8 => Ok(add(objects, slot, read_thread(alloc, rest)?)?),
         9 => Ok(add(objects, slot, read_reference(rest)?)?),
-        _ => Err(refused(bytes, 5)),
+        _ => Err(refused(bytes, reason::RANGE)),
     }
 }
 
@@ -150,7 +151,7 @@ fn add_object<'a>(
 {
     let (slot, rest) = read_below(240, bytes)?;
     if u16::from(slot) < floor {
-        return Err(refused(bytes, 4));
+        return Err(refused(bytes, reason::ORDER));
     }
     let rest = add_body(alloc, objects, slot, rest)?;
     Ok((slot, rest))
@@ -190,7 +191,7 @@ fn read_page(floor: u16, bytes: &[u8]) -> Result<(PageRec, &[u8]), Fail>
 {
     let (page, rest) = read_byte(bytes)?;
     if u16::from(page) < floor {
-        return Err(refused(bytes, 4));
+        return Err(refused(bytes, reason::ORDER));
     }
     let (words, rest) = read_words::<64>(rest)?;
     Ok((PageRec { page, words }, rest))

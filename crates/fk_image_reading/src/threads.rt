@@ -6,6 +6,7 @@ ghost use Rattle.fk_image_reading.specs.Given.{Decodes, IsFault};
 use crate::fail::Fail;
 use crate::fields::{read_below, read_byte, read_link, read_u16, read_u64, read_words, refused};
 use fk_image::{BoxedThread, FaultRec, Link, Rec, TalkRec, ThreadRec, is_code, is_mode_byte};
+use fk_image_format::reason;
 use std::alloc::Global;
 
 /// A mode, behind the registers.
@@ -18,7 +19,7 @@ fn read_mode<'a>(regs: &[u64; 16], bytes: &'a [u8]) -> Result<(u8, &'a [u8]), Fa
     if is_mode_byte(regs, mode) {
         Ok((mode, rest))
     } else {
-        Err(refused(bytes, 5))
+        Err(refused(bytes, reason::RANGE))
     }
 }
 
@@ -32,7 +33,7 @@ fn read_code(mode: u8, bytes: &[u8]) -> Result<(u8, &[u8]), Fail>
     if is_code(mode, code) {
         Ok((code, rest))
     } else {
-        Err(refused(bytes, 5))
+        Err(refused(bytes, reason::RANGE))
     }
 }
 
