@@ -173,7 +173,10 @@ fn led(alloc: Global, image: Image) -> Result<Image, ReadFail>
 {
     match check_links(alloc, image.spaces.as_slice()) {
         Ok(()) => Ok(image),
-        Err(PointerFail::Wrong(offset)) => Err(ReadFail::Image(ImageError { offset, reason: reason::POINTER })),
+        Err(PointerFail::Wrong(offset)) => Err(ReadFail::Image(ImageError {
+            offset,
+            reason: reason::POINTER,
+        })),
         Err(PointerFail::NoMemory) => Err(ReadFail::NoMemory),
     }
 }

@@ -26,7 +26,10 @@ pub fn read_byte(bytes: &[u8]) -> Result<(u8, &[u8]), Fail>
     ensures fault { IfErr result (λ fail. IsFault fail) }
 {
     match bytes {
-        [] => Err(Fail::At(Stop { left: 0, reason: reason::CUT })),
+        [] => Err(Fail::At(Stop {
+            left: 0,
+            reason: reason::CUT,
+        })),
         [byte, rest @ ..] => Ok((*byte, rest)),
     }
 }

@@ -62,11 +62,13 @@ module _ {T B : Type 0} (boot_of : T → B) (count_of : T → ℕ) (boot : B) (s
   }
 
   -- where a ticket stays, tickets still differ
-  tickets : (s : St) (o : Kept s) (j : ℕ) (v w : View B) → get_elem? s.views j ≡ some v → w.ticket ≡ v.ticket → (t : ℕ) → total (λ u. has t u.ticket) (set s.views j w) ≤ 1
+  tickets : (s : St) (o : Kept s) (j : ℕ) (v w : View B) → get_elem? s.views j ≡ some v → w.ticket ≡ v.ticket → (t : ℕ)
+      → total (λ u. has t u.ticket) (set s.views j w) ≤ 1
   tickets s o j v w me same t = omega (arith, o.apart t, ap (has t) same, total-set (λ u. has t u.ticket) s.views j v w me)
 
   abbrev Goes : ℕ → ℕ → Me T (View B) → (ℕ → ℕ) → (ℕ → Me T (View B) → Type 0) → List (View B) → List ℕ → List (home.Option T) → Type 0
-  Goes i id m f then vs ws hs = (w : View B) × (a : Act T) × Valid hs m.1 a × Kept record { words = set ws i (f (get_or ws i 0)); homes = homes_after hs m.1 a; views = set vs id w } × then (get_or ws i 0) (w, carried_after m.1 a)
+  Goes i id m f then vs ws hs = (w : View B) × (a : Act T) × Valid hs m.1 a
+      × Kept record { words = set ws i (f (get_or ws i 0)); homes = homes_after hs m.1 a; views = set vs id w } × then (get_or ws i 0) (w, carried_after m.1 a)
 
   through : (n id i : ℕ) (m : Me T (View B)) (f : ℕ → ℕ) (then : ℕ → Me T (View B) → Type 0)
       → ((s : St) (o : Kept s) → get_elem? s.views id ≡ some m.0 → get_or (o.drawn % 2 ^ 64 ∷ o.served % 2 ^ 64 ∷ o.front ∷ []) i 0 < 2 ^ 64
@@ -93,7 +95,8 @@ module _ {T B : Type 0} (boot_of : T → B) (count_of : T → ℕ) (boot : B) (s
       by k u (Some t) e is = let alive = ((o.views k u e).waiting t is).0 in omega arith
 
   -- no two views have the ticket that is served
-  alone : (s : St) (o : Kept s) (j k : ℕ) (v u : View B) → k ≢ j → get_elem? s.views j ≡ some v → get_elem? s.views k ≡ some u → v.ticket ≡ Some o.served → u.ticket ≡ Some o.served → ⊥
+  alone : (s : St) (o : Kept s) (j k : ℕ) (v u : View B) → k ≢ j → get_elem? s.views j ≡ some v → get_elem? s.views k ≡ some u → v.ticket ≡ Some o.served
+      → u.ticket ≡ Some o.served → ⊥
   alone s o j k v u ne me them mine theirs = let one = has_yes o.served o.served refl in
       omega (arith, one, ap (has o.served) mine, ap (has o.served) theirs, o.apart o.served, terms_le (λ x. has o.served x.ticket) s.views j k v u ne me them)
 
@@ -104,7 +107,8 @@ module _ {T B : Type 0} (boot_of : T → B) (count_of : T → ℕ) (boot : B) (s
       by : (k : ℕ) (u : View B) (b : Bool) → get_elem? s.views k ≡ some u → u.out ≡ b → flag b ≡ 0
       by k u false e is = refl
       by k u true e is = dite (ℕ_discrete k j)
-          (λ same. let it : v ≡ u = some-injective v u (sym me ∙ (ap (λ i. get_elem? s.views i) (sym same) ∙ e)) in never (sym not-out ∙ (ap (λ (x : View B). x.out) it ∙ is)))
+          (λ same. let it : v ≡ u = some-injective v u (sym me ∙ (ap (λ i. get_elem? s.views i) (sym same) ∙ e)) in
+          never (sym not-out ∙ (ap (λ (x : View B). x.out) it ∙ is)))
           (λ ne. absurd (alone s o j k v u ne me e ((o.views j v me).turn turn) ((o.views k u e).turn ((o.views k u e).out is))))
 
   absent_le : (h : home.Option T) → absent h ≤ 1
@@ -124,11 +128,27 @@ module _ {T B : Type 0} (boot_of : T → B) (count_of : T → ℕ) (boot : B) (s
         subst (λ k. Kept record { words = k ∷ o.served % 2 ^ 64 ∷ o.front ∷ []; homes = o.home ∷ []; views = set s.views id w }) (sym next)
             (moved s o id v w (o.drawn + 1) o.served o.front o.home me (omega arith)
             (λ t. dite (ℕ_discrete t o.drawn)
-            (λ same. let one = has_yes t o.drawn (sym same) in omega (arith, one, undrawn s o, ap (λ (k : ℕ). total (λ u. has k u.ticket) s.views) same, total-set (λ u. has t u.ticket) s.views id v w me))
-            (λ ne. let zero-here = has_no t o.drawn (λ e. ne (sym e)) in omega (arith, zero-here, o.apart t, total-set (λ u. has t u.ticket) s.views id v w me)))
+            (λ same. let one = has_yes t o.drawn (sym same) in
+            omega (arith, one, undrawn s o, ap (λ (k : ℕ). total (λ u. has k u.ticket) s.views) same, total-set (λ u. has t u.ticket) s.views id v w me))
+            (λ ne. let zero-here = has_no t o.drawn (λ e. ne (sym e)) in
+            omega (arith, zero-here, o.apart t, total-set (λ u. has t u.ticket) s.views id v w me)))
             refl (omega arith) o.value
-            record { begun = fits.begun; waiting = λ t e. let same : o.drawn ≡ t = ap number e in (alive, omega arith, omega arith); turn = λ e. never e; knows = λ e. never e; out = λ e. never e }
-            (λ k u ne e f. record { begun = f.begun; waiting = λ t has-it. let r = f.waiting t has-it in let late = r.2 in (r.0, r.1, omega arith); turn = f.turn; knows = f.knows; out = f.out })),
+            record {
+              begun = fits.begun;
+              waiting = λ t e. let same : o.drawn ≡ t = ap number e in
+                  (alive, omega arith, omega arith);
+              turn = λ e. never e;
+              knows = λ e. never e;
+              out = λ e. never e;
+            }
+            (λ k u ne e f. record {
+              begun = f.begun;
+              waiting = λ t has-it. let r = f.waiting t has-it in
+                  let late = r.2 in (r.0, r.1, omega arith);
+              turn = f.turn;
+              knows = f.knows;
+              out = f.out;
+            })),
         (o.drawn, refl, refl),
       ))
 
@@ -147,7 +167,8 @@ module _ {T B : Type 0} (boot_of : T → B) (count_of : T → ℕ) (boot : B) (s
         ((λ e. absurd (ne e)), λ _. refl),
       ) in
       dite (ℕ_discrete (o.served % 2 ^ 64) (number v.ticket % 2 ^ 64))
-      (λ hit. let wait = fits.waiting t mine in let a = wait.1 in let b = wait.2 in let c = few_wait s o in let same : t ≡ o.served = omega (arith, hit, num) in (
+      (λ hit. let wait = fits.waiting t mine in let a = wait.1 in let b = wait.2 in let c = few_wait s o in
+      let same : t ≡ o.served = omega (arith, hit, num) in (
         w,
         keeps,
         tt,
@@ -179,15 +200,23 @@ module _ {T B : Type 0} (boot_of : T → B) (count_of : T → ℕ) (boot : B) (s
     where
       by : (s : St) (o : Kept s) → get_elem? s.views id ≡ some m.0 → (h : home.Option T) → o.home ≡ h
           → Goes 2 id m (λ x. x) (took boot_of count_of (step n 2 0 0 none) m) s.views (o.drawn % 2 ^ 64 ∷ o.served % 2 ^ 64 ∷ o.front ∷ []) (o.home ∷ [])
-      by s o me none there = absurd (omega (arith, o.out, ap absent there, others_out s o id m.0 me (ap (λ (u : View B). u.turn) is) (ap (λ (u : View B). u.out) is)))
+      by s o me none there = absurd (omega (
+        arith,
+        o.out,
+        ap absent there,
+        others_out s o id m.0 me (ap (λ (u : View B). u.turn) is) (ap (λ (u : View B). u.out) is),
+      ))
       by s o me (some x) there =
           let v = m.0 in let w : View B = view_at v.ticket true true true v.seen v.parts v.boot in let fits = o.views id v me in
-          let mine : v.ticket ≡ Some t = ap (λ (u : View B). u.ticket) is in let turn : v.turn ≡ true = ap (λ (u : View B). u.turn) is in let knows : v.knows ≡ true = ap (λ (u : View B). u.knows) is in
-          let not-out : flag v.out ≡ 0 = ap (λ (u : View B). flag u.out) is in let begun = fits.begun (fits.waiting t mine).0 in let value = o.value x there in (
+          let mine : v.ticket ≡ Some t = ap (λ (u : View B). u.ticket) is in let turn : v.turn ≡ true = ap (λ (u : View B). u.turn) is in
+          let knows : v.knows ≡ true = ap (λ (u : View B). u.knows) is in
+          let not-out : flag v.out ≡ 0 = ap (λ (u : View B). flag u.out) is in let begun = fits.begun (fits.waiting t mine).0 in
+          let value = o.value x there in (
             w,
             takes 0 x,
             ap some there,
-            moved s o id v w o.drawn o.served o.front none me (omega arith) (tickets s o id v w me refl) refl (omega (arith, ap absent there)) (λ y e. absurd (some-ne-none y (sym e)))
+            moved s o id v w o.drawn o.served o.front none me (omega arith) (tickets s o id v w me refl) refl (omega (arith, ap absent there))
+                (λ y e. absurd (some-ne-none y (sym e)))
                 record { begun = fits.begun; waiting = fits.waiting; turn = λ _. fits.turn turn; knows = λ _. (refl, (fits.knows knows).1); out = λ _. refl }
                 (λ k u away e f. f),
             (x, begun.0 ∙ ap (λ (b : B). Some b) (sym value.0), value.1 ∙ sym (fits.knows knows).1, refl),
@@ -197,8 +226,10 @@ module _ {T B : Type 0} (boot_of : T → B) (count_of : T → ℕ) (boot : B) (s
       → Allows Kept n id m 2 (λ _. new) (λ _. raised (step n 2 new 0 none) m new)
   raises n id m t new is up = through n id 2 m (λ _. new) (λ _. raised (step n 2 new 0 none) m new) (λ s o me small.
       let v = m.0 in let w : View B = view_at v.ticket true true true new v.parts v.boot in let fits = o.views id v me in
-      let mine : v.ticket ≡ Some t = ap (λ (u : View B). u.ticket) is in let turn : v.turn ≡ true = ap (λ (u : View B). u.turn) is in let knows : v.knows ≡ true = ap (λ (u : View B). u.knows) is in
-      let out : flag v.out ≡ 1 = ap (λ (u : View B). flag u.out) is in let begun = fits.begun (fits.waiting t mine).0 in let now : v.seen ≡ o.front = (fits.knows knows).1 in let up' : o.front ≤ new = omega arith in (
+      let mine : v.ticket ≡ Some t = ap (λ (u : View B). u.ticket) is in let turn : v.turn ≡ true = ap (λ (u : View B). u.turn) is in
+      let knows : v.knows ≡ true = ap (λ (u : View B). u.knows) is in
+      let out : flag v.out ≡ 1 = ap (λ (u : View B). flag u.out) is in let begun = fits.begun (fits.waiting t mine).0 in
+      let now : v.seen ≡ o.front = (fits.knows knows).1 in let up' : o.front ≤ new = omega arith in (
         w,
         keeps,
         tt,
@@ -215,11 +246,13 @@ module _ {T B : Type 0} (boot_of : T → B) (count_of : T → ℕ) (boot : B) (s
         refl,
       ))
 
-  gives_held : (n id : ℕ) (v : View B) (x : T) (more : List (ℕ × T)) (t : ℕ) → {seen parts : ℕ} {b : Option B} → v ≡ holding t seen parts b → v.boot ≡ Some (boot_of x) → count_of x ≡ v.seen
+  gives_held : (n id : ℕ) (v : View B) (x : T) (more : List (ℕ × T)) (t : ℕ) → {seen parts : ℕ} {b : Option B} → v ≡ holding t seen parts b
+      → v.boot ≡ Some (boot_of x) → count_of x ≡ v.seen
       → Allows Kept n id (v, (0, x) ∷ more) 2 (λ y. y) (gave (step n 2 0 0 none) (v, (0, x) ∷ more))
   gives_held n id v x more t is boots counts = through n id 2 (v, (0, x) ∷ more) (λ y. y) (gave (step n 2 0 0 none) (v, (0, x) ∷ more)) (λ s o me small.
       let w : View B = view_at v.ticket true true false v.seen v.parts v.boot in let fits = o.views id v me in
-      let mine : v.ticket ≡ Some t = ap (λ (u : View B). u.ticket) is in let turn : v.turn ≡ true = ap (λ (u : View B). u.turn) is in let knows : v.knows ≡ true = ap (λ (u : View B). u.knows) is in
+      let mine : v.ticket ≡ Some t = ap (λ (u : View B). u.ticket) is in let turn : v.turn ≡ true = ap (λ (u : View B). u.turn) is in
+      let knows : v.knows ≡ true = ap (λ (u : View B). u.knows) is in
       let out : flag v.out ≡ 1 = ap (λ (u : View B). flag u.out) is in let begun = fits.begun (fits.waiting t mine).0 in
       let same : boot_of x ≡ boot = inside (boot_of x) boot (sym boots ∙ begun.0) in let counted : count_of x ≡ o.front = counts ∙ (fits.knows knows).1 in (
         w,
@@ -233,9 +266,11 @@ module _ {T B : Type 0} (boot_of : T → B) (count_of : T → ℕ) (boot : B) (s
         refl,
       ))
 
-  pub gives_it : (n id : ℕ) (m : Me T (View B)) (t : ℕ) (x : T) (more : List (ℕ × T)) → {seen parts : ℕ} {b : Option B} → m ≡ (holding t seen parts b, (0, x) ∷ more) → b ≡ Some (boot_of x) → count_of x ≡ seen
+  pub gives_it : (n id : ℕ) (m : Me T (View B)) (t : ℕ) (x : T) (more : List (ℕ × T)) → {seen parts : ℕ} {b : Option B}
+      → m ≡ (holding t seen parts b, (0, x) ∷ more) → b ≡ Some (boot_of x) → count_of x ≡ seen
       → Allows Kept n id m 2 (λ y. y) (gave (step n 2 0 0 none) m)
-  gives_it n id m t x more {seen} {parts} {b} is boots counts = subst (λ k. Allows Kept n id k 2 (λ y. y) (gave (step n 2 0 0 none) k)) (sym is) (gives_held n id (holding t seen parts b) x more t refl boots counts)
+  gives_it n id m t x more {seen} {parts} {b} is boots counts = subst (λ k. Allows Kept n id k 2 (λ y. y) (gave (step n 2 0 0 none) k)) (sym is)
+      (gives_held n id (holding t seen parts b) x more t refl boots counts)
 
   pub passes : (n id : ℕ) (m : Me T (View B)) (t : ℕ) → {seen parts : ℕ} {b : Option B} → m.0 ≡ knowing t seen parts b
       → Allows Kept n id m 1 (λ x. (x + 1) % 2 ^ 64) (passed (step n 1 1 0 none) m)
@@ -255,7 +290,8 @@ module _ {T B : Type 0} (boot_of : T → B) (count_of : T → ℕ) (boot : B) (s
             (λ k u away e f. record {
               begun = f.begun;
               waiting = λ i has-it. let r = f.waiting i has-it in let late = r.1 in
-                  let other : i ≢ o.served = λ same. alone s o id k v u away me e (fits.turn turn) (has-it ∙ ap (λ (x : ℕ). Some x) same) in (r.0, omega arith, r.2);
+                  let other : i ≢ o.served = λ same. alone s o id k v u away me e (fits.turn turn) (has-it ∙ ap (λ (x : ℕ). Some x) same) in
+                  (r.0, omega arith, r.2);
               turn = λ on. absurd (alone s o id k v u away me e (fits.turn turn) (f.turn on));
               knows = λ know. absurd (alone s o id k v u away me e (fits.turn turn) (f.turn (f.knows know).0));
               out = f.out;

@@ -1,4 +1,5 @@
--- The rule of the table. Word 0 counts the tickets that were drawn and word 1 those that were served, modulo 2^64. Word 2 is the front, the count of the value at home.
+-- The rule of the table. Word 0 counts the tickets that were drawn and word 1 those that were served, modulo 2^64. Word 2 is the front, the count of the value
+-- at home.
 use Rattle.std.specs.Prelude.{◌≡◌, ℕ, ◌+◌, ◌%◌, ◌^◌, ◌<◌, ◌≤◌, List, [], ◌∷◌, Bool, true, false, cond, ◌==◌, max, Option, None, Some}
 use mathlib.Core.Option.{none, some}
 use mathlib.Core.Option as home

@@ -5,7 +5,11 @@ use Rattle.fk_rlock.proofs.Keeps.{raises, gives_it, passes}
 use Rattle.fk_rlock.proofs.ruled.Ruled.leave.Goals as goal
 
 pub store-requires : goal.store-requires
-store-requires g c = let h = c.requires.held in (search rules, omega (arith, c.self.inside.sized.0), raises _ _ _ _ _ _ _ h.0 _ (ap (λ m. m.0) h.2) c.requires.up)
+store-requires g c = let h = c.requires.held in (
+  search rules,
+  omega (arith, c.self.inside.sized.0),
+  raises _ _ _ _ _ _ _ h.0 _ (ap (λ m. m.0) h.2) c.requires.up,
+)
 
 pub load-requires : goal.load-requires
 load-requires g c = let h = c.requires.held in
