@@ -2,13 +2,16 @@
 //!
 //! It stands on `fk_model` for rules, replies and the definition of an answer. It promises that a responder
 //! answers every request of at most 64 words by its rule, by what it keeps beside its closure; and a table
-//! tells the names and the rules of its responders in their order.
+//! tells the names and the rules of its responders in their order. `echo`, `feed` and `sum` give the answers of the three
+//! rules, for the closures that a program makes.
 #![tactic(auto)]
 
 mod responder;
+mod rules;
 mod table;
 mod words;
 
 pub use responder::{Call, Responder};
+pub use rules::{echo, feed, sum};
 pub use table::Table;
 pub use words::{append, reply_of, without, words_of};
