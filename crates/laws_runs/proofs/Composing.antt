@@ -32,9 +32,9 @@ use Rattle.laws_runs.specs.Cores.Settles.{Stays, Ends}
 use Rattle.laws_runs.specs.Cores.IsRun.{Begins, Goes}
 use Rattle.laws_runs.specs.Onwards.{event_by}
 use Rattle.laws_jobs.specs.Jobs.{IsClean, MayBegin}
-use Rattle.laws_runs.specs.Composed.{AskAsUsers, AreTidy, IsStart, HasWorked, HasEnded, RunIsComposed}
+use Rattle.laws_runs.specs.Composed.{AskAsUsers, AreTidy, IsStart, is_jobs, job_moves, WorksSo, HasWorked, HasEnded, RunIsComposed}
 use Rattle.laws_runs.proofs.Named.{named_is, named_there, unpicked, caller_there, apart_from_porter}
-use Rattle.laws_jobs.proofs.Weaving.{work_begins, work_waits, work_goes_on}
+use Rattle.laws_runs.proofs.Counting.{work_begins, work_waits, work_goes_on}
 use Rattle.laws_runs.proofs.Asking.{JobAsks, job_of, others_of, goes_on_work, begins_work}
 
 -- ---- one move of the world
@@ -127,7 +127,7 @@ module _ {J S A V : Type 0} (h : House J S A V) (first : Core S A V) (users : As
 
   pub record Working {c : Core S A V} {past : List Move} (run : IsRun h first past c) (k : Work S) : Type 0 where
     pub worked : HasWorked run (length c.ends) c.ends k.begun (length past)
-    pub now : AtWork h.machine worked.nester (world_at run k.begun) worked.start c.world k.state
+    pub now : WorksSo h.machine worked.nester (world_at run k.begun) worked.start c.world k.state (job_moves run k.begun) (job_moves run (length past))
     pub stage : Stage
     pub words : List ℕ
     pub asked : h.machine.head k.state ≡ Asks stage words
@@ -141,9 +141,11 @@ module _ {J S A V : Type 0} (h : House J S A V) (first : Core S A V) (users : As
     pub ended : (index : ℕ) (end : A) (begun last : ℕ) → slice_get c.ends index ≡ Some (Worked end begun last) → HasEnded run index end begun last
     pub working : (k : Work S) → c.work ≡ Some k → Working run k
 
-  same_work : (nester : Path) (s : S) (w u v x : World) (t : S) → u ≡ w → x ≡ v → AtWork h.machine nester w s v t → AtWork h.machine nester u s x t
-  same_work nester s w u v x t e f work =
-      subst (λ y. AtWork h.machine nester y s x t) (sym e) (subst (λ y. AtWork h.machine nester w s y t) (sym f) work)
+  same_work : (nester : Path) (s : S) (w u v x : World) (t : S) (a b i j : ℕ) → u ≡ w → x ≡ v → i ≡ a → j ≡ b → WorksSo h.machine nester w s v t a b → WorksSo h.machine nester u s x t i j
+  same_work nester s w u v x t a b i j e f g k works =
+      let there = subst (λ y. WorksSo h.machine nester y s x t a b) (sym e) (subst (λ y. WorksSo h.machine nester w s y t a b) (sym f) works) in
+      let count = there.count in
+      record { work = there.work; count = omega (arith, count, g, k) }
 
   module _ (past : List Move) (c : Core S A V) (m : Move) (d : Core S A V) (run : IsRun h first past c) (ready : IsReadyIn h c m)
       (settles : Settles h (moved h c m) d) (stands : Stands run) (left : first.world.next + (length past + 1) ≤ depth) where
@@ -158,6 +160,12 @@ module _ {J S A V : Type 0} (h : House J S A V) (first : Core S A V) (users : As
 
     latest : (k : ℕ) → k ≡ length past + 1 → world_at all k ≡ d.world
     latest k e = rw (lt-leb k (length past) (omega (arith, e))) refl
+
+    earlier_count : (k : ℕ) → k ≤ length past → job_moves all k ≡ job_moves run k
+    earlier_count k low = rw (le-leb k (length past) low) refl
+
+    latest_count : (k : ℕ) → k ≡ length past + 1 → job_moves all k ≡ job_moves run (length past) + is_jobs (asker h c m.who)
+    latest_count k e = rw (lt-leb k (length past) (omega (arith, e))) refl
 
     sound_now : IsSound c.world
     sound_now = subst IsSound stands.last (stands.sound (length past) (omega arith))
@@ -182,8 +190,9 @@ module _ {J S A V : Type 0} (h : House J S A V) (first : Core S A V) (users : As
           within = (above, omega (arith, low, longer));
           throughout = λ k after_it before. (let there = w.throughout k after_it before in (
             there.0,
-            same_work w.nester w.start (world_at run begun) (world_at all begun) (world_at run k) (world_at all k) there.0
-                (earlier begun (omega (arith, low, above))) (earlier k (omega (arith, low, before))) there.1,
+            same_work w.nester w.start (world_at run begun) (world_at all begun) (world_at run k) (world_at all k) there.0 _ _ _ _
+                (earlier begun (omega (arith, low, above))) (earlier k (omega (arith, low, before)))
+                (earlier_count begun (omega (arith, low, above))) (earlier_count k (omega (arith, low, before))) there.1,
           ));
         }
 
@@ -196,8 +205,8 @@ module _ {J S A V : Type 0} (h : House J S A V) (first : Core S A V) (users : As
         record {
           worked = carried index (take index c.ends) (take index d.ends) same begun (last + 1) e.worked;
           state = e.state;
-          there = same_work e.worked.nester e.worked.start (world_at run begun) (world_at all begun) (world_at run (last + 1)) (world_at all (last + 1)) e.state
-              (earlier begun (omega (arith, low, above))) (earlier (last + 1) low) e.there;
+          there = same_work e.worked.nester e.worked.start (world_at run begun) (world_at all begun) (world_at run (last + 1)) (world_at all (last + 1)) e.state _ _ _ _
+              (earlier begun (omega (arith, low, above))) (earlier (last + 1) low) (earlier_count begun (omega (arith, low, above))) (earlier_count (last + 1) low) e.there;
           stopped = e.stopped;
         }
 
@@ -206,10 +215,10 @@ module _ {J S A V : Type 0} (h : House J S A V) (first : Core S A V) (users : As
     -- a job has worked from its first move to here
     record Next (begun upto : ℕ) (t : S) : Type 0 where
       worked : HasWorked all (length c.ends) c.ends begun upto
-      now : AtWork h.machine worked.nester (world_at all begun) worked.start d.world t
+      now : WorksSo h.machine worked.nester (world_at all begun) worked.start d.world t (job_moves all begun) (job_moves all (length past + 1))
 
     goes_next : (k : Work S) (w : Working run k) (t : S) (upto : ℕ) → upto ≡ length past + 1 →
-        AtWork h.machine w.worked.nester (world_at run k.begun) w.worked.start d.world t → Next k.begun upto t
+        WorksSo h.machine w.worked.nester (world_at run k.begun) w.worked.start d.world t (job_moves run k.begun) (job_moves all (length past + 1)) → Next k.begun upto t
     goes_next k w t upto is work =
         let low = w.worked.within.1 in
         let above = w.worked.within.0 in
@@ -225,29 +234,31 @@ module _ {J S A V : Type 0} (h : House J S A V) (first : Core S A V) (users : As
             within = (omega (arith, above, is), omega (arith, is, longer));
             throughout = λ i after_it before. at i after_it (splits i (length past) (omega (arith, is, before)));
           };
-          now = subst (λ y. AtWork h.machine w.worked.nester y w.worked.start d.world t) (sym begins) work;
+          now = same_work w.worked.nester w.worked.start (world_at run k.begun) (world_at all k.begun) d.world d.world t _ _ _ _ begins refl
+              (earlier_count k.begun (omega (arith, above))) refl work;
         }
       where
         at : (i : ℕ) → k.begun < i → (i ≤ length past) ⊎ (i ≡ length past + 1) →
-            (t : S) × AtWork h.machine w.worked.nester (world_at all k.begun) w.worked.start (world_at all i) t
+            (t : S) × WorksSo h.machine w.worked.nester (world_at all k.begun) w.worked.start (world_at all i) t (job_moves all k.begun) (job_moves all i)
         at i after_it (inl low) =
             let above = w.worked.within.0 in
             let there = w.worked.throughout i after_it low in (
               there.0,
-              same_work w.worked.nester w.worked.start (world_at run k.begun) (world_at all k.begun) (world_at run i) (world_at all i) there.0
-                  (earlier k.begun (omega (arith, above))) (earlier i low) there.1,
+              same_work w.worked.nester w.worked.start (world_at run k.begun) (world_at all k.begun) (world_at run i) (world_at all i) there.0 _ _ _ _
+                  (earlier k.begun (omega (arith, above))) (earlier i low) (earlier_count k.begun (omega (arith, above))) (earlier_count i low) there.1,
             )
         at i after_it (inr is) =
             let above = w.worked.within.0 in (
               t,
-              same_work w.worked.nester w.worked.start (world_at run k.begun) (world_at all k.begun) d.world (world_at all i) t
-                  (earlier k.begun (omega (arith, above))) (latest i is) work,
+              same_work w.worked.nester w.worked.start (world_at run k.begun) (world_at all k.begun) d.world (world_at all i) t _ _ _ _
+                  (earlier k.begun (omega (arith, above))) (latest i is) (earlier_count k.begun (omega (arith, above))) (ap (λ n. job_moves all n) is) work,
             )
 
     begins_next : (j : J) (s : S) (nester : Path) (begun : ℕ) (t : S) (upto : ℕ) → upto ≡ length past + 1 → begun ≡ length past → current h c ≡ Some j →
-        h.begins j c.ends ≡ Some s → MayBegin c.world nester (h.nester j) → AtWork h.machine nester c.world s d.world t → Next begun upto t
+        h.begins j c.ends ≡ Some s → MayBegin c.world nester (h.nester j) → WorksSo h.machine nester c.world s d.world t (job_moves run (length past)) (job_moves all (length past + 1)) → Next begun upto t
     begins_next j s nester begun t upto is now its starts may work =
         let begins : world_at all begun ≡ c.world = earlier begun (omega (arith, now)) ∙ (ap (λ k. world_at run k) now ∙ stands.last) in
+        let counted : job_moves all begun ≡ job_moves run (length past) = earlier_count begun (omega (arith, now)) ∙ ap (λ k. job_moves run k) now in
         record {
           worked = record {
             job = j;
@@ -259,11 +270,11 @@ module _ {J S A V : Type 0} (h : House J S A V) (first : Core S A V) (users : As
             within = (omega (arith, now, is), omega (arith, is, longer));
             throughout = λ i after_it before. (
               t,
-              same_work nester s c.world (world_at all begun) d.world (world_at all i) t begins
-                  (latest i (omega (arith, is, now, after_it, before))) work,
+              same_work nester s c.world (world_at all begun) d.world (world_at all i) t _ _ _ _ begins
+                  (latest i (omega (arith, is, now, after_it, before))) counted (ap (λ n. job_moves all n) (omega (arith, is, now, after_it, before))) work,
             );
           };
-          now = subst (λ y. AtWork h.machine nester y s d.world t) (sym begins) work;
+          now = same_work nester s c.world (world_at all begun) d.world d.world t _ _ _ _ begins refl counted refl work;
         }
 
     -- ---- a move of others
@@ -281,17 +292,22 @@ module _ {J S A V : Type 0} (h : House J S A V) (first : Core S A V) (users : As
           other = apart_from_porter c.world (LAST_PORTER_SLOT ∷ nester) (named c.world m.who) (option_map (named c.world) m.pick) ask native is ready;
         }
 
-    others_next : (ask : Ask) → is_users ask ≡ true → has_all_words ask ≡ true → IsReadyAt c.world (event_of c.world ask m) → d.world ≡ after c.world (event_of c.world ask m) →
+    -- what the move counts for
+    counts : (a : Asker S) → asker h c m.who ≡ a → job_moves all (length past + 1) ≡ job_moves run (length past) + is_jobs a
+    counts a e = latest_count (length past + 1) refl ∙ ap (λ (b : Asker S). job_moves run (length past) + is_jobs b) e
+
+    others_next : (ask : Ask) → asker h c m.who ≡ Others ask → is_users ask ≡ true → has_all_words ask ≡ true → IsReadyAt c.world (event_of c.world ask m) → d.world ≡ after c.world (event_of c.world ask m) →
         (k : Work S) → c.work ≡ Some k → (upto : ℕ) → upto ≡ length past + 1 → Next k.begun upto k.state
-    others_next ask is words ready goes k works upto up =
+    others_next ask theirs is words ready goes k works upto up =
         let w = stands.working k works in
-        let porter = (tidy (length c.ends) w.worked.job c.ends w.worked.start w.worked.its w.worked.starts).stays (world_at run k.begun) w.worked.nester c.world k.state w.worked.may w.now
+        let porter = (tidy (length c.ends) w.worked.job c.ends w.worked.start w.worked.its w.worked.starts).stays (world_at run k.begun) w.worked.nester c.world k.state w.worked.may w.now.work
         w.stage w.words w.asked in
+        let none = counts (Others ask) theirs in
         let e = event_of c.world ask m in
         let due = users_due c.world (named c.world m.who) ask is in
         goes_next k w k.state upto up
-        (subst (λ y. AtWork h.machine w.worked.nester (world_at run k.begun) w.worked.start y k.state) (sym goes)
-        (work_waits h.machine w.worked.nester (world_at run k.begun) w.worked.start c.world k.state e w.now (w.stage, w.words, w.asked) (users_move ask is ready w.worked.nester porter.porter)
+        (same_work w.worked.nester w.worked.start (world_at run k.begun) (world_at run k.begun) (after c.world e) d.world k.state _ _ _ _ refl goes refl (omega (arith, none))
+        (work_waits h.machine w.worked.nester (world_at run k.begun) w.worked.start c.world k.state e (job_moves run k.begun) (job_moves run (length past)) w.now (w.stage, w.words, w.asked) (users_move ask is ready w.worked.nester porter.porter)
         (kept c.world e sound_now (record { fit = due.0; words = words }) due.1 few_now).sound))
 
     -- ---- a move of the job's
@@ -309,13 +325,16 @@ module _ {J S A V : Type 0} (h : House J S A V) (first : Core S A V) (users : As
         let none = unpicked c.world (named c.world m.who) stage words unpicking (option_map (named c.world) m.pick) ready in
         λ i. record { mover = slot i ∷ space i; pick = none i; ask = asks.Call stage words }
 
-    made_later : (k : Work S) → c.work ≡ Some k → (stage : Stage) (words : List ℕ) → JobAsks h c m.who k.begun k.state stage words →
+    abbrev OneMore : Type 0
+    OneMore = job_moves all (length past + 1) ≡ job_moves run (length past) + 1
+
+    made_later : OneMore → (k : Work S) → c.work ≡ Some k → (stage : Stage) (words : List ℕ) → JobAsks h c m.who k.begun k.state stage words →
         IsReadyAt c.world (event_of c.world (asks.Call stage words) m) → Made k.begun k.state (event_of c.world (asks.Call stage words) m)
-    made_later k works stage words asks_it ready =
+    made_later one k works stage words asks_it ready =
         let w = stands.working k works in
         let law = tidy (length c.ends) w.worked.job c.ends w.worked.start w.worked.its w.worked.starts in
-        let porter = law.stays (world_at run k.begun) w.worked.nester c.world k.state w.worked.may w.now stage words asks_it.asked in
-        let owed = law.later (world_at run k.begun) w.worked.nester c.world k.state w.worked.may w.now stage words asks_it.asked in
+        let porter = law.stays (world_at run k.begun) w.worked.nester c.world k.state w.worked.may w.now.work stage words asks_it.asked in
+        let owed = law.later (world_at run k.begun) w.worked.nester c.world k.state w.worked.may w.now.work stage words asks_it.asked in
         let same_job : asks_it.job ≡ w.worked.job = (let one = asks_it.its in let two = w.worked.its in cc) in
         let there = named_is c.world sound_now.whole.valid sound_now.whole.few (h.nester w.worked.job) w.worked.nester porter.named in
         let space : space_born c.world m.who.space ≡ w.worked.nester = ap (space_born c.world) (asks_it.space ∙ ap h.nester same_job) ∙ there in
@@ -325,17 +344,19 @@ module _ {J S A V : Type 0} (h : House J S A V) (first : Core S A V) (users : As
           due = subst (IsDue c.world) (sym is) owed.due;
           owes = subst (Owes c.world) (sym is) owed.owes;
           next = λ upto up goes. goes_next k w (heard h.machine k.state (said_of c.world (event_of c.world (asks.Call stage words) m))) upto up
-              (subst (λ y. AtWork h.machine w.worked.nester (world_at run k.begun) w.worked.start y
-              (heard h.machine k.state (said_of c.world (event_of c.world (asks.Call stage words) m)))) (sym goes)
-              (subst (λ e. AtWork h.machine w.worked.nester (world_at run k.begun) w.worked.start (after c.world e) (heard h.machine k.state (said_of c.world e))) (sym is)
-              (work_goes_on h.machine w.worked.nester (world_at run k.begun) w.worked.start c.world k.state stage words w.now asks_it.asked
+              (subst (λ y. WorksSo h.machine w.worked.nester (world_at run k.begun) w.worked.start y
+              (heard h.machine k.state (said_of c.world (event_of c.world (asks.Call stage words) m))) (job_moves run k.begun) (job_moves all (length past + 1))) (sym goes)
+              (subst (λ e. WorksSo h.machine w.worked.nester (world_at run k.begun) w.worked.start (after c.world e) (heard h.machine k.state (said_of c.world e)) (job_moves run k.begun)
+              (job_moves all (length past + 1))) (sym is)
+              (work_goes_on h.machine w.worked.nester (world_at run k.begun) w.worked.start c.world k.state stage words (job_moves run k.begun) (job_moves run (length past))
+              (job_moves all (length past + 1)) one w.now asks_it.asked
               (subst (IsReadyAt c.world) is ready) (kept c.world call sound_now owed.due owed.owes few_now).sound)));
         }
 
-    made_first : (begun : ℕ) (t : S) (stage : Stage) (words : List ℕ) (asks_it : JobAsks h c m.who begun t stage words) → c.work ≡ None → c.events ≡ begun →
+    made_first : OneMore → (begun : ℕ) (t : S) (stage : Stage) (words : List ℕ) (asks_it : JobAsks h c m.who begun t stage words) → c.work ≡ None → c.events ≡ begun →
         h.begins asks_it.job c.ends ≡ Some t →
         IsReadyAt c.world (event_of c.world (asks.Call stage words) m) → Made begun t (event_of c.world (asks.Call stage words) m)
-    made_first begun t stage words asks_it idle now starts ready =
+    made_first one begun t stage words asks_it idle now starts ready =
         let birth = h.nester asks_it.job in
         let nester = space_born c.world birth in
         let there : IsSome (c.world.body (m.who.slot ∷ space_born c.world m.who.space)) =
@@ -350,9 +371,10 @@ module _ {J S A V : Type 0} (h : House J S A V) (first : Core S A V) (users : As
           owes = subst (Owes c.world) (sym is) owed.owes;
           next = λ upto up goes. begins_next asks_it.job t nester begun (heard h.machine t (said_of c.world (event_of c.world (asks.Call stage words) m))) upto up
               (omega (arith, now, events)) asks_it.its starts may
-              (subst (λ y. AtWork h.machine nester c.world t y (heard h.machine t (said_of c.world (event_of c.world (asks.Call stage words) m)))) (sym goes)
-              (subst (λ e. AtWork h.machine nester c.world t (after c.world e) (heard h.machine t (said_of c.world e))) (sym is)
-              (work_begins h.machine nester c.world t stage words asks_it.asked (subst (IsReadyAt c.world) is ready)
+              (subst (λ y. WorksSo h.machine nester c.world t y (heard h.machine t (said_of c.world (event_of c.world (asks.Call stage words) m))) (job_moves run (length past))
+              (job_moves all (length past + 1))) (sym goes)
+              (subst (λ e. WorksSo h.machine nester c.world t (after c.world e) (heard h.machine t (said_of c.world e)) (job_moves run (length past)) (job_moves all (length past + 1))) (sym is)
+              (work_begins h.machine nester c.world t stage words (job_moves run (length past)) (job_moves all (length past + 1)) one asks_it.asked (subst (IsReadyAt c.world) is ready)
               (kept c.world (call_of nester stage words) sound_now owed.due owed.owes few_now).sound)));
         }
 
@@ -363,6 +385,9 @@ module _ {J S A V : Type 0} (h : House J S A V) (first : Core S A V) (users : As
         asks_it : JobAsks h c m.who begun t stage words
         asks_it = job_of h c m.who begun t stage words e
 
+        one_more : OneMore
+        one_more = counts (Job begun t stage words) e
+
         its : Option (Work S)
         its = Some (record { begun = begun; state = t })
 
@@ -371,10 +396,15 @@ module _ {J S A V : Type 0} (h : House J S A V) (first : Core S A V) (users : As
             let both = goes_on_work c.events (h.begins asks_it.job c.ends) k begun t (subst (λ o. work_of c.events o (h.begins asks_it.job c.ends) ≡ its) works asks_it.work) in
             subst (λ b. Made b t (event_of c.world (asks.Call stage words) m)) both.0
             (subst (λ x. Made k.begun x (event_of c.world (asks.Call stage words) m)) both.1
-            (made_later k works stage words (rw (both.0, both.1) asks_it) ready))
+            (made_later one_more k works stage words (rw (both.0, both.1) asks_it) ready))
         by None idle =
             let both = begins_work c.events (h.begins asks_it.job c.ends) begun t (subst (λ o. work_of c.events o (h.begins asks_it.job c.ends) ≡ its) idle asks_it.work) in
-            made_first begun t stage words asks_it idle both.0 both.1 ready
+            made_first one_more begun t stage words asks_it idle both.0 both.1 ready
+
+    -- to the end of the history
+    same_now : {begun upto : ℕ} {t : S} (next : Next begun upto t) →
+        WorksSo h.machine next.worked.nester (world_at all begun) next.worked.start d.world t (job_moves all begun) (job_moves all (length (past ++ m ∷ [])))
+    same_now next = same_work next.worked.nester next.worked.start _ _ _ _ _ _ _ _ _ refl refl refl (ap (λ n. job_moves all n) longer) next.now
 
     -- ---- all together
 
@@ -427,7 +457,7 @@ module _ {J S A V : Type 0} (h : House J S A V) (first : Core S A V) (users : As
         at : (is_users ask ≡ true) × (has_all_words ask ≡ true) → Settled (others_moved h c (event_of c.world ask m)) d → (k : Work S) → c.work ≡ Some k →
             Working all k
         at is still k works =
-            let next = others_next ask is.0 is.1 now still.world k works (length (past ++ m ∷ [])) longer in
+            let next = others_next ask e is.0 is.1 now still.world k works (length (past ++ m ∷ [])) longer in
             let same = still.still k works in
             let w = stands.working k works in
             record {
@@ -441,7 +471,7 @@ module _ {J S A V : Type 0} (h : House J S A V) (first : Core S A V) (users : As
                 within = next.worked.within;
                 throughout = next.worked.throughout;
               };
-              now = next.now;
+              now = same_now next;
               stage = w.stage;
               words = w.words;
               asked = w.asked;
@@ -480,7 +510,7 @@ module _ {J S A V : Type 0} (h : House J S A V) (first : Core S A V) (users : As
                 within = next.worked.within;
                 throughout = next.worked.throughout;
               };
-              now = next.now;
+              now = same_now next;
               stage = stage;
               words = words;
               asked = asks_on;
@@ -490,7 +520,7 @@ module _ {J S A V : Type 0} (h : House J S A V) (first : Core S A V) (users : As
         cleaned end stops goes =
             let next = done.next (length (past ++ m ∷ [])) longer goes in
             (tidy (length c.ends) next.worked.job c.ends next.worked.start next.worked.its next.worked.starts).ends (world_at all begun) next.worked.nester d.world later end next.worked.may
-            next.now stops
+            next.now.work stops
 
         ended_now : (end : A) → h.machine.head later ≡ Stops end → Settled (job_moved h c event begun later (Stops end)) d →
             HasEnded all (length c.ends) end begun c.events
@@ -513,7 +543,8 @@ module _ {J S A V : Type 0} (h : House J S A V) (first : Core S A V) (users : As
                 throughout = next.worked.throughout;
               };
               state = later;
-              there = subst (λ y. AtWork h.machine next.worked.nester (world_at all begun) next.worked.start y later) (sym (latest (c.events + 1) upto)) next.now;
+              there = same_work next.worked.nester next.worked.start (world_at all begun) (world_at all begun) d.world (world_at all (c.events + 1)) later _ _ _ _
+                  refl (latest (c.events + 1) upto) refl (ap (λ n. job_moves all n) upto) next.now;
               stopped = stops;
             }
 

@@ -26,7 +26,7 @@ checkpoints_hold {J = J} h first c past run users tidy start left index job slot
     let birth : h.nester w.job ≡ h.nester job = ap h.nester one in
     let may = subst (λ b. MayBegin (world_at run begun) w.nester b) birth w.may in
     let law = saves w.nester (take index c.ends) w.start may.named (subst (λ j. h.begins j (take index c.ends) ≡ Some w.start) one w.starts) in
-    let got = law.gives (world_at run (last + 1)) e.state end saved may e.there e.stopped done in
+    let got = law.gives (world_at run (last + 1)) e.state end saved may e.there.work e.stopped done in
     let within = w.within in
     record {
       nester = w.nester;
@@ -35,7 +35,7 @@ checkpoints_hold {J = J} h first c past run users tidy start left index job slot
       closed = got.0;
       picture = got.1;
       same = λ k low high. at w.nester k (first_or_later begun k low) (λ above. (let there = w.throughout k above high in
-          law.keeps (world_at run k) there.0 may there.1));
+          law.keeps (world_at run k) there.0 may there.1.work));
     }
   where
     at : (nester : Path) (k : ℕ) → (k ≡ begun) ⊎ (begun < k) → (begun < k → cut (world_at run k) nester slot ≡ cut (world_at run begun) nester slot) →
@@ -50,7 +50,7 @@ restores_hold h first c past run users tidy start left index job slot bind saved
     let one : w.job ≡ job = (let two = w.its in cc) in
     let law = restores w.start (subst (λ j. h.begins j (take index c.ends) ≡ Some w.start) one w.starts) in
     let may = subst (λ b. MayBegin (world_at run begun) w.nester b) (ap h.nester one) w.may in
-    let got = law.gives (world_at run begun) w.nester (world_at run (last + 1)) e.state end may e.there e.stopped done in
+    let got = law.gives (world_at run begun) w.nester (world_at run (last + 1)) e.state end may e.there.work e.stopped done in
     record { nester = w.nester; named = may.named; plain = got.0; cut_there = got.1 }
 
 pub restored_go_on : {J S A V : Type 0} → RestoredGoOn J S A V

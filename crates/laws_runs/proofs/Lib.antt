@@ -1,5 +1,6 @@
 pub mod Named
 pub mod Asking
+pub mod Counting
 pub mod Composing
 pub mod Onwards
 pub mod Headline

@@ -35,8 +35,8 @@ module _ {J S A V : Type 0} (h : House J S A V) (first : Core S A V) (users : As
     later k works stage words asks_it ready =
         let w = stand.working k works in
         let law = tidy (length c.ends) w.worked.job c.ends w.worked.start w.worked.its w.worked.starts in
-        let porter = law.stays (world_at run k.begun) w.worked.nester c.world k.state w.worked.may w.now stage words asks_it.asked in
-        let owed = law.later (world_at run k.begun) w.worked.nester c.world k.state w.worked.may w.now stage words asks_it.asked in
+        let porter = law.stays (world_at run k.begun) w.worked.nester c.world k.state w.worked.may w.now.work stage words asks_it.asked in
+        let owed = law.later (world_at run k.begun) w.worked.nester c.world k.state w.worked.may w.now.work stage words asks_it.asked in
         let same_job : asks_it.job ≡ w.worked.job = (let one = asks_it.its in let two = w.worked.its in cc) in
         let there = named_is c.world sound_now.whole.valid sound_now.whole.few (h.nester w.worked.job) w.worked.nester porter.named in
         record {
@@ -48,7 +48,7 @@ module _ {J S A V : Type 0} (h : House J S A V) (first : Core S A V) (users : As
           may = w.worked.may;
           event = is_call w.worked.nester stage words asks_it.slot (ap (space_born c.world) (asks_it.space ∙ ap h.nester same_job) ∙ there) owed.unpicking ready;
           asked = asks_it.asked;
-          at = inr w.now;
+          at = inr w.now.work;
         }
 
     at_first : (begun : ℕ) (t : S) (stage : Stage) (words : List ℕ) (asks_it : JobAsks h c m.who begun t stage words) → c.work ≡ None → c.events ≡ begun →
