@@ -4,6 +4,7 @@
 //! It stands on `laws_runs`, `laws_checkpoint` and `laws_rooms`.
 #![tactic(auto)]
 
+ghost use Rattle.laws_house.specs.Laws.{CheckpointsAreBrief, RestoresAreBrief, CheckpointsEndAsItWas, CheckpointsSave, RestoresMake, SavedGoesOn};
 ghost use Rattle.laws_house.specs.Parts.{PartsWork, PartsAreTidy};
 
 /// A machine that is a part of another one is at work where that one is in this part, with as many calls.
@@ -14,4 +15,38 @@ pub fn a_part_works<S, A, T, B>()
 /// What is tidy by itself is tidy as a part.
 pub fn a_part_is_tidy<S, A, T, B>()
     ensures { PartsAreTidy S A T B }
+{}
+
+/// Ended or not, a checkpoint of a run has made at most 100 (n + 1) (d + 1) of its moves, where its subtree had n bodies and pages,
+/// none deeper than d.
+pub fn checkpoints_are_brief<V>()
+    ensures { CheckpointsAreBrief V }
+{}
+
+/// And a restore at most 40 (n + 1) (d + 1), by its image.
+pub fn restores_are_brief<V>()
+    ensures { RestoresAreBrief V }
+{}
+
+/// A checkpoint of a run ends as its subtree was at its first move: no space in the slot; not closed, and the first place that says
+/// so; or closed.
+pub fn checkpoints_end_as_it_was<V>()
+    ensures { CheckpointsEndAsItWas V }
+{}
+
+/// One that is done began at a closed subtree; its image is valid, and its picture is that subtree's cut, which was the same from its
+/// first move to behind its last.
+pub fn checkpoints_save<V>()
+    ensures { CheckpointsSave V }
+{}
+
+/// A restore that is done leaves a plain subtree, which is its image's picture with its ports bound.
+pub fn restores_make<V>()
+    ensures { RestoresMake V }
+{}
+
+/// What a checkpoint of a run has saved and a restore of it has made again has exactly the further runs that it had, with its ports
+/// bound.
+pub fn saved_subtrees_go_on<V>()
+    ensures { SavedGoesOn V }
 {}

@@ -6,7 +6,7 @@
 #![tactic(auto)]
 
 ghost use Rattle.laws_runs.specs.Composed.{RunIsComposed, OneRun};
-ghost use Rattle.laws_runs.specs.Turning.{JobsMoves};
+ghost use Rattle.laws_runs.specs.Turning.{JobsMoves, JobsMovesInHistory};
 ghost use Rattle.laws_runs.specs.Headline.{CheckpointsHold, RestoresHold, RestoredGoOn};
 ghost use Rattle.laws_runs.specs.Onwards.{RunGoesOn, RestoredGoesOn};
 
@@ -19,6 +19,12 @@ pub fn a_run_is_composed<J, S, A, V>()
 /// among others.
 pub fn a_jobs_move_is_its_call<J, S, A, V>()
     ensures { JobsMoves J S A V }
+{}
+
+/// And each move of a history that a job has made leads from the world before it to the world after
+/// it by such a call.
+pub fn a_historys_moves_are_calls<J, S, A, V>()
+    ensures { JobsMovesInHistory J S A V }
 {}
 
 /// A history has one run: the core that it comes to is determined, and so is the world after each of

@@ -1,0 +1,267 @@
+-- The house's laws, from those of its parts.
+use Rattle.std.proofs.Common.{◌≡◌, ℕ, zero, suc, ◌+◌, ◌*◌, ◌<◌, ◌≤◌, Bool, true, false, cond, List, [], ◌∷◌, ◌++◌, length, take, Option, Some, None, option_map, refl, sym, ap, subst, arith, ◌∙◌, ◌⊎◌, inl, inr}
+use Rattle.std.specs.List.{slice_get}
+use Rattle.fk_model.specs.declared.limits.TheConstants.{LAST_USER_SLOT}
+use Rattle.fk_model.specs.declared.moves.Move.{Move}
+use Rattle.fk_model.specs.declared.stage.Stage.{Stage}
+use Rattle.fk_model.specs.declared.stage.Stage.TheVariants.{SpaceHold}
+use Rattle.fk_model.specs.Places.{Path}
+use Rattle.fk_model.specs.World.{World}
+use Rattle.fk_model.specs.Cut.{cut}
+use Rattle.fk_model.specs.Runs.{Event, after}
+use Rattle.fk_model.specs.Valid.{birth_at}
+use Rattle.fk_image.specs.declared.image.Image.{Image}
+use Rattle.fk_image.specs.Picture.{picture}
+use Rattle.fk_image.specs.Valid.{is_valid}
+use Rattle.laws_savable.specs.Savable.{IsSound}
+use Rattle.laws_jobs.specs.Machines.{Head, Machine, heard, said_of, call_of, IsReadyAt, AtWork, calls_made}
+use Rattle.laws_jobs.specs.Machines.Head.{Stops, Asks}
+use Rattle.laws_jobs.specs.Jobs.{MayBegin, Saves, Restores}
+use Rattle.laws_jobs.specs.Holds.{hold}
+use Rattle.laws_jobs.proofs.Weaving.{first_sound}
+use Rattle.laws_checkpoint.specs.Checkpoint as checkpoints
+use Rattle.laws_checkpoint.specs.Checkpoint.{checkpoint}
+use Rattle.laws_checkpoint.specs.Checkpoint.End.{Done, Gone, Foreign}
+use Rattle.laws_checkpoint.specs.Checkpoint.State.{Holds}
+use Rattle.laws_checkpoint.specs.Bounded.{count_of, LiesWithin}
+use Rattle.laws_checkpoint.specs.Laws.{MaySave, EndsAsItWas, IsSameBeside, picture_of}
+use Rattle.laws_checkpoint.proofs.Bounds.{checkpoint_is_bounded}
+use Rattle.laws_checkpoint.proofs.Ended.{checkpoint_ends_as_it_was}
+use Rattle.laws_checkpoint.proofs.Saved.{checkpoint_saves, checkpoint_images_subtree}
+use Rattle.laws_checkpoint.proofs.Calling.{checkpoint_leaves_rest}
+use Rattle.laws_restore.specs.Restore as restores
+use Rattle.laws_restore.specs.Restore.State.{Makes}
+use Rattle.laws_restore.specs.Bounded as made
+use Rattle.laws_rooms.specs.Rooms.{rooms_of}
+use Rattle.laws_rooms.specs.Restoring.{bound_by, restore_of}
+use Rattle.laws_rooms.proofs.Restored.{image_is_restored, image_restore_is_bounded}
+use Rattle.laws_runs.specs.Cores.{JobEnd, Servers, Core, Asker, IsRun, world_at}
+use Rattle.laws_runs.specs.Cores.JobEnd.{Worked}
+use Rattle.laws_runs.specs.Cores.Asker.{Job as Asked_by_job}
+use Rattle.laws_runs.specs.Composed.{IsComposed, job_moves, WorksSo, HasWorked, HasEnded}
+use Rattle.laws_runs.specs.Turning.{asker_at, MovesAt}
+use Rattle.laws_runs.specs.Headline.{Checkpointed}
+use Rattle.laws_runs.proofs.Composing.{composed}
+use Rattle.laws_runs.proofs.Turning.{moves_in_history}
+use Rattle.laws_runs.proofs.Headline.{checkpoints_hold, restores_hold, restored_go_on}
+use Rattle.laws_house.specs.Houses.{Job, Task, Source, State, End, machine, image_of_end, image_made, sourced, valid_one, begins_by, house}
+use Rattle.laws_house.specs.Houses.Source.{MadeBy}
+use Rattle.laws_house.specs.Houses.Task.{Checkpoint, Restore}
+use Rattle.laws_house.specs.Houses.State.{Checking, Restoring}
+use Rattle.laws_house.specs.Houses.End.{Checked, Restored}
+use Rattle.laws_house.specs.Parts.{IsPart, PartWorks}
+use Rattle.laws_house.specs.Laws.{NamesUsersSlots, IsGrounded, CheckpointsAreBrief, RestoresAreBrief, LeftBeside, CheckpointsLeaveTheRest, CheckpointsEndAsItWas, CheckpointsSave, RestoresMake, SavedGoesOn}
+use Rattle.laws_house.proofs.Parts.{asks_part, stops_part, works}
+
+-- ---- the two parts
+
+pub checkpoint_part : (slot : ℕ) → IsPart (checkpoint slot) machine (Checking slot) Checked
+checkpoint_part slot = record { head = λ s. refl; next = λ s status words. refl }
+
+pub restore_part : (slot : ℕ) (pairs : List (ℕ × ℕ)) (image : Image) → IsPart (restore_of slot image pairs) machine (Restoring slot pairs image) Restored
+restore_part slot pairs image = record { head = λ s. refl; next = λ s status words. refl }
+
+-- ---- how a job starts
+
+same_state : (a b : State) → Some a ≡ Some b → a ≡ b
+same_state a b e = cc
+
+starts_checkpoint : (task : Task) (ends : List (JobEnd End)) (slot : ℕ) (s : State) → task ≡ Checkpoint slot → begins_by task ends ≡ Some s → s ≡ Checking slot Holds
+starts_checkpoint task ends slot s is starts = same_state s (Checking slot Holds) (sym starts ∙ ap (λ t. begins_by t ends) is)
+
+valid_is : (o : Option Image) (image : Image) → valid_one o ≡ Some image → is_valid image ≡ true
+valid_is None image e = cc
+valid_is (Some other) image e = by (is_valid other) refl e
+  where
+    by : (t : Bool) → is_valid other ≡ t → cond t (Some other) None ≡ Some image → is_valid image ≡ true
+    by true is e = let same : other ≡ image = cc in ap is_valid (sym same) ∙ is
+    by false is e = cc
+
+starts_restore : (task : Task) (ends : List (JobEnd End)) (slot : ℕ) (pairs : List (ℕ × ℕ)) (source : Source) (image : Image) (s : State) → task ≡ Restore slot pairs source →
+    valid_one (sourced ends source) ≡ Some image → begins_by task ends ≡ Some s → s ≡ Restoring slot pairs image Makes
+starts_restore task ends slot pairs source image s is its starts =
+    same_state s (Restoring slot pairs image Makes)
+    (sym starts ∙ (ap (λ t. begins_by t ends) is ∙ ap (λ (o : Option Image). option_map (λ image. Restoring slot pairs image Makes) o) its))
+
+-- ---- what is saved and made, by the whole
+
+abbrev pub pictured : End → Option World
+pictured (Checked end) = picture_of end
+pictured (Restored end) = None
+
+abbrev pub is_made : End → Bool
+is_made (Checked end) = false
+is_made (Restored end) = restores.is_done end
+
+saves_whole : (slot birth : ℕ) (w : World) (nester : Path) → Saves (checkpoint slot) birth slot picture_of w nester Holds → Saves machine birth slot pictured w nester (Checking slot Holds)
+saves_whole slot birth w nester law = record {
+  keeps = λ v t may work. (let its = works (checkpoint slot) machine (Checking slot) Checked nester (checkpoint_part slot) w Holds v t work in law.keeps v its.state may its.part);
+  gives = λ v t end c may work stopped done. (let its = works (checkpoint slot) machine (Checking slot) Checked nester (checkpoint_part slot) w Holds v t work in
+      let stop = stops_part (checkpoint slot) machine (Checking slot) Checked nester (checkpoint_part slot) t its.state end its.is stopped in
+      law.gives v its.state stop.0 c may its.part stop.1 (ap pictured stop.2 ∙ done));
+}
+
+restores_whole : (slot birth : ℕ) (image : Image) (pairs : List (ℕ × ℕ)) → Restores (restore_of slot image pairs) birth slot (bound_by pairs) (picture image) restores.is_done Makes →
+    Restores machine birth slot (bound_by pairs) (picture image) is_made (Restoring slot pairs image Makes)
+restores_whole slot birth image pairs law = record {
+  gives = λ w nester v t end may work stopped done. (let its = works (restore_of slot image pairs) machine (Restoring slot pairs image) Restored nester (restore_part slot pairs image) w Makes v t work in
+      let stop = stops_part (restore_of slot image pairs) machine (Restoring slot pairs image) Restored nester (restore_part slot pairs image) t its.state end its.is stopped in
+      law.gives w nester v its.state stop.0 may its.part stop.1 (ap is_made stop.2 ∙ done));
+}
+
+-- ---- a run
+
+slots_of : (j : Job) (task : Task) → j.task ≡ task → NamesUsersSlots j.task → NamesUsersSlots task
+slots_of j task is names = subst NamesUsersSlots is names
+
+module _ {V : Type 0} (jobs : List Job) (servers : Servers V) (first c : Core State End V) (past : List Move) (run : IsRun (house jobs servers) first past c) (grounded : IsGrounded jobs servers first past) where
+  whole : IsComposed run
+  whole = composed (house jobs servers) first c past run grounded.users grounded.tidy grounded.start grounded.few
+
+  checkpoint_brief : (index begun upto : ℕ) (ends : List (JobEnd End)) (its : HasWorked run index ends begun upto) (slot d k : ℕ) → its.job.task ≡ Checkpoint slot →
+      LiesWithin (cut (world_at run begun) its.nester slot) d → begun < k → k ≤ upto →
+      job_moves run k ≤ job_moves run begun + 100 * ((count_of (cut (world_at run begun) its.nester slot) + 1) * (d + 1))
+  checkpoint_brief index begun upto ends its slot d k is deep above low =
+      by its.start (starts_checkpoint its.job.task ends slot its.start is its.starts) (its.throughout k above low)
+    where
+      limit : ℕ
+      limit = 100 * ((count_of (cut (world_at run begun) its.nester slot) + 1) * (d + 1))
+
+      on : (t : State) → WorksSo machine its.nester (world_at run begun) (Checking slot Holds) (world_at run k) t (job_moves run begun) (job_moves run k) →
+          job_moves run k ≤ job_moves run begun + 100 * ((count_of (cut (world_at run begun) its.nester slot) + 1) * (d + 1))
+      on t so =
+          let part = works (checkpoint slot) machine (Checking slot) Checked its.nester (checkpoint_part slot) (world_at run begun) Holds (world_at run k) t so.work in
+          let most = checkpoint_is_bounded slot its.job.nester (world_at run begun) (world_at run k) its.nester part.state d (slots_of its.job (Checkpoint slot) is (grounded.slots index its.job its.its)) its.may deep part.part in
+          let same = part.count in
+          let count = so.count in
+          omega (arith, most, same, count)
+
+      by : (s : State) → s ≡ Checking slot Holds → ((t : State) × WorksSo machine its.nester (world_at run begun) s (world_at run k) t (job_moves run begun) (job_moves run k)) →
+          job_moves run k ≤ job_moves run begun + 100 * ((count_of (cut (world_at run begun) its.nester slot) + 1) * (d + 1))
+      by s e there = on there.0 (subst (λ x. WorksSo machine its.nester (world_at run begun) x (world_at run k) there.0 (job_moves run begun) (job_moves run k)) e there.1)
+
+  restore_brief : (index begun upto : ℕ) (ends : List (JobEnd End)) (its : HasWorked run index ends begun upto) (slot d k : ℕ) (pairs : List (ℕ × ℕ)) (source : Source) (image : Image) →
+      its.job.task ≡ Restore slot pairs source → valid_one (sourced ends source) ≡ Some image → made.LiesWithin (picture image) d → begun < k → k ≤ upto →
+      job_moves run k ≤ job_moves run begun + 40 * ((made.count_of (rooms_of image) + 1) * (d + 1))
+  restore_brief index begun upto ends its slot d k pairs source image is from deep above low =
+      by its.start (starts_restore its.job.task ends slot pairs source image its.start is from its.starts) (its.throughout k above low)
+    where
+      on : (t : State) → WorksSo machine its.nester (world_at run begun) (Restoring slot pairs image Makes) (world_at run k) t (job_moves run begun) (job_moves run k) →
+          job_moves run k ≤ job_moves run begun + 40 * ((made.count_of (rooms_of image) + 1) * (d + 1))
+      on t so =
+          let part = works (restore_of slot image pairs) machine (Restoring slot pairs image) Restored its.nester (restore_part slot pairs image) (world_at run begun) Makes (world_at run k) t so.work in
+          let names = slots_of its.job (Restore slot pairs source) is (grounded.slots index its.job its.its) in
+          let most = image_restore_is_bounded slot image pairs d (world_at run begun) (world_at run k) its.nester part.state (record { low = names.0; users = names.1; valid = valid_is (sourced ends source) image from }) deep part.part in
+          let same = part.count in
+          let count = so.count in
+          omega (arith, most, same, count)
+
+      by : (s : State) → s ≡ Restoring slot pairs image Makes → ((t : State) × WorksSo machine its.nester (world_at run begun) s (world_at run k) t (job_moves run begun) (job_moves run k)) →
+          job_moves run k ≤ job_moves run begun + 40 * ((made.count_of (rooms_of image) + 1) * (d + 1))
+      by s e there = on there.0 (subst (λ x. WorksSo machine its.nester (world_at run begun) x (world_at run k) there.0 (job_moves run begun) (job_moves run k)) e there.1)
+
+  -- ---- ends
+
+  record Ended_checkpoint (j : Job) (slot begun last : ℕ) (end : checkpoints.End) : Type 0 where
+    nester : Path
+    may : MayBegin (world_at run begun) nester j.nester
+    low : slot ≤ LAST_USER_SLOT
+    state : checkpoints.State
+    work : AtWork (checkpoint slot) nester (world_at run begun) Holds (world_at run (last + 1)) state
+    stopped : (checkpoint slot).head state ≡ Stops end
+
+  ended_checkpoint : (index : ℕ) (j : Job) (slot begun last : ℕ) (end : checkpoints.End) → slice_get jobs index ≡ Some j → j.task ≡ Checkpoint slot →
+      slice_get c.ends index ≡ Some (Worked (Checked end) begun last) → Ended_checkpoint j slot begun last end
+  ended_checkpoint index j slot begun last end its is ended = by (whole.ended index (Checked end) begun last ended)
+    where
+      same_end : (a b : checkpoints.End) → Checked a ≡ Checked b → a ≡ b
+      same_end a b e = cc
+
+      from : (e : HasEnded run index (Checked end) begun last) → e.worked.job ≡ j → e.worked.start ≡ Checking slot Holds → Ended_checkpoint j slot begun last end
+      from e job start =
+          let there = subst (λ s. AtWork machine e.worked.nester (world_at run begun) s (world_at run (last + 1)) e.state) start e.there.work in
+          let part = works (checkpoint slot) machine (Checking slot) Checked e.worked.nester (checkpoint_part slot) (world_at run begun) Holds (world_at run (last + 1)) e.state there in
+          let stop = stops_part (checkpoint slot) machine (Checking slot) Checked e.worked.nester (checkpoint_part slot) e.state part.state (Checked end) part.is e.stopped in
+          record {
+            nester = e.worked.nester;
+            may = subst (λ (i : Job). MayBegin (world_at run begun) e.worked.nester i.nester) job e.worked.may;
+            low = slots_of j (Checkpoint slot) is (grounded.slots index j its);
+            state = part.state;
+            work = part.part;
+            stopped = stop.1 ∙ ap (λ (a : checkpoints.End). Stops a) (same_end stop.0 end stop.2);
+          }
+
+      by : HasEnded run index (Checked end) begun last → Ended_checkpoint j slot begun last end
+      by e =
+          let w = e.worked in
+          let job : w.job ≡ j = (let two = w.its in cc) in
+          from e job (starts_checkpoint w.job.task (take index c.ends) slot w.start (ap (λ (i : Job). i.task) job ∙ is) w.starts)
+
+pub checkpoints_are_brief : {V : Type 0} → CheckpointsAreBrief V
+checkpoints_are_brief jobs servers first c past run grounded index begun upto ends its slot d k is deep above low =
+    checkpoint_brief jobs servers first c past run grounded index begun upto ends its slot d k is deep above low
+
+pub restores_are_brief : {V : Type 0} → RestoresAreBrief V
+restores_are_brief jobs servers first c past run grounded index begun upto ends its slot d k pairs source image is from deep above low =
+    restore_brief jobs servers first c past run grounded index begun upto ends its slot d k pairs source image is from deep above low
+
+pub checkpoints_end_as_it_was : {V : Type 0} → CheckpointsEndAsItWas V
+checkpoints_end_as_it_was jobs servers first c past run grounded index j slot begun last end its is ended =
+    let e = ended_checkpoint jobs servers first c past run grounded index j slot begun last end its is ended in
+    record {
+      nester = e.nester;
+      named = e.may.named;
+      was = checkpoint_ends_as_it_was slot j.nester (world_at run begun) (world_at run (last + 1)) e.nester e.state end e.low e.may e.work e.stopped;
+    }
+
+pub checkpoints_save : {V : Type 0} → CheckpointsSave V
+checkpoints_save jobs servers first c past run grounded index j slot begun last image its is ended may_save =
+    let e = ended_checkpoint jobs servers first c past run grounded index j slot begun last (Done image) its is ended in
+    (
+      (checkpoint_images_subtree slot j.nester (world_at run begun) (world_at run (last + 1)) e.nester e.state image e.low e.may (may_save e.nester e.may.named) e.work e.stopped).0,
+      checkpoints_hold (house jobs servers) first c past run grounded.users grounded.tidy grounded.start grounded.few index j slot pictured (Checked (Done image)) begun last (picture image) its
+          (λ nester ends s named starts. subst (λ x. Saves machine j.nester slot pictured (world_at run begun) nester x) (sym (starts_checkpoint j.task ends slot s is starts))
+          (saves_whole slot j.nester (world_at run begun) nester (checkpoint_saves slot j.nester (world_at run begun) nester e.low (may_save nester named)))) ended refl,
+    )
+
+pub restores_make : {V : Type 0} → RestoresMake V
+restores_make jobs servers first c past run grounded index j slot begun last pairs source image its is from ended =
+    let names = slots_of j (Restore slot pairs source) is (grounded.slots index j its) in
+    restores_hold (house jobs servers) first c past run grounded.users grounded.tidy grounded.start grounded.few index j slot (bound_by pairs) (picture image) is_made (Restored restores.Done) begun last its
+    (λ s starts. subst (λ x. Restores machine j.nester slot (bound_by pairs) (picture image) is_made x) (sym (starts_restore j.task (take index c.ends) slot pairs source image s is from starts))
+    (restores_whole slot j.nester image pairs (image_is_restored slot j.nester image pairs
+    (record { low = names.0; users = names.1; valid = valid_is (sourced (take index c.ends) source) image from })))) ended refl
+
+-- ---- the two together
+
+got_before : {A : Type 0} (xs : List A) (n i : ℕ) → i < n → slice_get (take n xs) i ≡ slice_get xs i
+got_before {A = A} [] n i low = by n
+  where
+    by : (n : ℕ) → slice_get {X = A} (take n []) i ≡ slice_get {X = A} [] i
+    by zero = refl
+    by (suc n) = refl
+got_before (x ∷ xs) zero i low = absurd (omega (arith, low))
+got_before (x ∷ xs) (suc n) zero low = refl
+got_before (x ∷ xs) (suc n) (suc i) low = got_before xs n i (omega (arith, low))
+
+pub saved_goes_on : {V : Type 0} → SavedGoesOn V
+saved_goes_on jobs servers first c past run grounded from to i j slot place hold release made done pairs image its is ended may_save their there restored_it before =
+    let saved = checkpoints_save jobs servers first c past run grounded from i slot hold release image its is ended may_save in
+    let source : valid_one (sourced (take to c.ends) (MadeBy from)) ≡ Some image =
+    ap valid_one (ap image_made (got_before c.ends to from before ∙ ended)) ∙ ap (λ t. cond t (Some image) None) saved.0 in
+    let restored = restores_make jobs servers first c past run grounded to j place made done pairs (MadeBy from) image their there source restored_it in
+    let may = may_save saved.1.nester saved.1.named in
+    (
+      saved.1.nester,
+      (
+        restored.nester,
+        (
+          saved.1.named,
+          (
+            restored.named,
+            λ ms. restored_go_on (house jobs servers) first c past run grounded.users grounded.tidy grounded.start grounded.few i.nester slot hold release (picture image) saved.1
+                may.uncut may.users j.nester place made done (bound_by pairs) restored ms,
+          ),
+        ),
+      ),
+    )

@@ -1,0 +1,126 @@
+-- What a run in which checkpoints and restores work is for the subtrees that they save and make again.
+use Rattle.std.specs.Prelude.{◌≡◌, ℕ, ◌+◌, ◌*◌, ◌<◌, ◌≤◌, Bool, true, false, List, length, take, Option, Some, None}
+use Rattle.std.specs.List.{slice_get}
+use Rattle.fk_model.specs.declared.limits.TheConstants.{LAST_USER_SLOT}
+use Rattle.fk_model.specs.declared.moves.Move.{Move}
+use Rattle.fk_model.specs.declared.stage.Stage.{Stage}
+use Rattle.fk_model.specs.Places.{Path}
+use Rattle.fk_model.specs.World.{World}
+use Rattle.fk_model.specs.Searches.{depth}
+use Rattle.fk_model.specs.Cut.{cut}
+use Rattle.fk_model.specs.Further.{Onward}
+use Rattle.fk_model.specs.Valid.{birth_at}
+use Rattle.fk_image.specs.declared.image.Image.{Image}
+use Rattle.fk_image.specs.Picture.{picture}
+use Rattle.fk_image.specs.Valid.{is_valid}
+use Rattle.laws_checkpoint.specs.Checkpoint as checkpoints
+use Rattle.laws_checkpoint.specs.Checkpoint.End.{Done}
+use Rattle.laws_checkpoint.specs.Bounded.{count_of, LiesWithin}
+use Rattle.laws_checkpoint.specs.Laws.{MaySave, EndsAsItWas, IsSameBeside, picture_of}
+use Rattle.laws_restore.specs.Restore as restores
+use Rattle.laws_restore.specs.Restore.State.{Makes}
+use Rattle.laws_restore.specs.Ends.{EndsSo}
+use Rattle.laws_restore.specs.Bounded as made
+use Rattle.laws_rooms.specs.Rooms.{rooms_of}
+use Rattle.laws_rooms.specs.Restoring.{bound_by, are_user_pairs}
+use Rattle.laws_runs.specs.Cores.{JobEnd, Servers, Core, Asker, IsRun, world_at}
+use Rattle.laws_runs.specs.Cores.JobEnd.{Worked}
+use Rattle.laws_runs.specs.Cores.Asker.{Job as Asked_by_job}
+use Rattle.laws_runs.specs.Composed.{AskAsUsers, AreTidy, IsStart, job_moves, HasWorked}
+use Rattle.laws_runs.specs.Turning.{asker_at}
+use Rattle.laws_runs.specs.Onwards.{GoesOnAs}
+use Rattle.laws_runs.specs.Headline.{Checkpointed, Restored as Restored_there}
+use Rattle.laws_house.specs.Houses.{Job, Task, Source, State, End, valid_one, sourced, house}
+use Rattle.laws_house.specs.Houses.Source.{MadeBy}
+use Rattle.laws_house.specs.Houses.Task.{Checkpoint, Restore}
+use Rattle.laws_house.specs.Houses.State.{Checking, Restoring}
+use Rattle.laws_house.specs.Houses.End.{Checked, Restored}
+
+-- a job names slots of users, as the reader of scenarios asks
+abbrev pub NamesUsersSlots : Task → Type 0
+NamesUsersSlots (Checkpoint slot) = slot ≤ LAST_USER_SLOT
+NamesUsersSlots (Restore slot pairs source) = (slot ≤ LAST_USER_SLOT) × (are_user_pairs pairs ≡ true)
+
+abbrev pub NameUsersSlots : List Job → Type 0
+NameUsersSlots jobs = (index : ℕ) (j : Job) → slice_get jobs index ≡ Some j → NamesUsersSlots j.task
+
+-- what is supposed of a run: of its native servers, its jobs, its first core, and how many moves it has
+pub record IsGrounded {V : Type 0} (jobs : List Job) (servers : Servers V) (first : Core State End V) (past : List Move) : Type 0 where
+  pub users : AskAsUsers (house jobs servers)
+  pub tidy : AreTidy (house jobs servers)
+  pub slots : NameUsersSlots jobs
+  pub start : IsStart first
+  pub few : first.world.next + length past ≤ depth
+
+-- ---- how many moves a job makes in a history, ended or not
+
+abbrev pub CheckpointsAreBrief : Type 0 → Type 0
+CheckpointsAreBrief V = (jobs : List Job) (servers : Servers V) (first c : Core State End V) (past : List Move) (run : IsRun (house jobs servers) first past c) →
+    IsGrounded jobs servers first past → (index begun upto : ℕ) (ends : List (JobEnd End)) (its : HasWorked run index ends begun upto) (slot d k : ℕ) →
+    its.job.task ≡ Checkpoint slot → LiesWithin (cut (world_at run begun) its.nester slot) d → begun < k → k ≤ upto →
+    job_moves run k ≤ job_moves run begun + 100 * ((count_of (cut (world_at run begun) its.nester slot) + 1) * (d + 1))
+
+abbrev pub RestoresAreBrief : Type 0 → Type 0
+RestoresAreBrief V = (jobs : List Job) (servers : Servers V) (first c : Core State End V) (past : List Move) (run : IsRun (house jobs servers) first past c) →
+    IsGrounded jobs servers first past → (index begun upto : ℕ) (ends : List (JobEnd End)) (its : HasWorked run index ends begun upto) (slot d k : ℕ)
+    (pairs : List (ℕ × ℕ)) (source : Source) (image : Image) → its.job.task ≡ Restore slot pairs source → valid_one (sourced ends source) ≡ Some image →
+    made.LiesWithin (picture image) d → begun < k → k ≤ upto →
+    job_moves run k ≤ job_moves run begun + 40 * ((made.count_of (rooms_of image) + 1) * (d + 1))
+
+-- ---- what a job's moves leave
+
+-- each move of a checkpoint changes nothing but its nester's scratch and who holds the subtree's root
+pub record LeftBeside (birth slot : ℕ) (begins w v : World) : Type 0 where
+  pub nester : Path
+  pub named : birth_at begins nester ≡ Some birth
+  pub same : IsSameBeside nester slot w v
+
+abbrev pub CheckpointsLeaveTheRest : Type 0 → Type 0
+CheckpointsLeaveTheRest V = (jobs : List Job) (servers : Servers V) (first c : Core State End V) (past : List Move) (run : IsRun (house jobs servers) first past c) →
+    IsGrounded jobs servers first past → (k begun slot : ℕ) (s : checkpoints.State) (stage : Stage) (words : List ℕ) → k < length past →
+    asker_at run k ≡ Asked_by_job begun (Checking slot s) stage words →
+    (birth : ℕ) × LeftBeside birth slot (world_at run begun) (world_at run k) (world_at run (k + 1))
+
+-- ---- how a checkpoint ends, and what a done one has saved
+
+-- no space in the slot, the first place where the subtree isn't closed, or closed, as it was at its first move
+pub record EndedAsItWas (birth slot : ℕ) (w : World) (end : checkpoints.End) : Type 0 where
+  pub nester : Path
+  pub named : birth_at w nester ≡ Some birth
+  pub was : EndsAsItWas w nester slot end
+
+abbrev pub CheckpointsEndAsItWas : Type 0 → Type 0
+CheckpointsEndAsItWas V = (jobs : List Job) (servers : Servers V) (first c : Core State End V) (past : List Move) (run : IsRun (house jobs servers) first past c) →
+    IsGrounded jobs servers first past → (index : ℕ) (j : Job) (slot begun last : ℕ) (end : checkpoints.End) → slice_get jobs index ≡ Some j →
+    j.task ≡ Checkpoint slot → slice_get c.ends index ≡ Some (Worked (Checked end) begun last) → EndedAsItWas j.nester slot (world_at run begun) end
+
+-- the subtree of a nester in a world may be saved
+abbrev pub MaySaveThere : ℕ → ℕ → World → Type 0
+MaySaveThere birth slot w = (nester : Path) → birth_at w nester ≡ Some birth → MaySave w nester slot
+
+abbrev pub CheckpointsSave : Type 0 → Type 0
+CheckpointsSave V = (jobs : List Job) (servers : Servers V) (first c : Core State End V) (past : List Move) (run : IsRun (house jobs servers) first past c) →
+    IsGrounded jobs servers first past → (index : ℕ) (j : Job) (slot begun last : ℕ) (image : Image) → slice_get jobs index ≡ Some j →
+    j.task ≡ Checkpoint slot → slice_get c.ends index ≡ Some (Worked (Checked (Done image)) begun last) → MaySaveThere j.nester slot (world_at run begun) →
+    (is_valid image ≡ true) × Checkpointed run j.nester slot begun last (picture image)
+
+-- ---- what a done restore has made
+
+abbrev pub RestoresMake : Type 0 → Type 0
+RestoresMake V = (jobs : List Job) (servers : Servers V) (first c : Core State End V) (past : List Move) (run : IsRun (house jobs servers) first past c) →
+    IsGrounded jobs servers first past → (index : ℕ) (j : Job) (slot begun last : ℕ) (pairs : List (ℕ × ℕ)) (source : Source) (image : Image) →
+    slice_get jobs index ≡ Some j → j.task ≡ Restore slot pairs source → valid_one (sourced (take index c.ends) source) ≡ Some image →
+    slice_get c.ends index ≡ Some (Worked (Restored restores.Done) begun last) →
+    Restored_there run j.nester slot begun last (bound_by pairs) (picture image)
+
+-- ---- the two together: what a checkpoint of the run has saved and a restore of the run has made again
+
+-- has exactly the further runs that it had, with its ports bound
+abbrev pub SavedGoesOn : Type 0 → Type 0
+SavedGoesOn V = (jobs : List Job) (servers : Servers V) (first c : Core State End V) (past : List Move) (run : IsRun (house jobs servers) first past c) →
+    IsGrounded jobs servers first past → (from to : ℕ) (i j : Job) (slot place hold release made done : ℕ) (pairs : List (ℕ × ℕ)) (image : Image) →
+    slice_get jobs from ≡ Some i → i.task ≡ Checkpoint slot → slice_get c.ends from ≡ Some (Worked (Checked (Done image)) hold release) →
+    MaySaveThere i.nester slot (world_at run hold) →
+    slice_get jobs to ≡ Some j → j.task ≡ Restore place pairs (MadeBy from) → slice_get c.ends to ≡ Some (Worked (Restored restores.Done) made done) → from < to →
+    (nester : Path) × (other : Path) × (birth_at (world_at run hold) nester ≡ Some i.nester) × (birth_at (world_at run made) other ≡ Some j.nester) ×
+    ((ms : List Onward) → GoesOnAs (bound_by pairs) (cut (world_at run hold) nester slot) (cut (world_at run (done + 1)) other place) ms)
