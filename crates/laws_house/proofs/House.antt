@@ -1,22 +1,21 @@
 -- The house's laws, from those of its parts.
-use Rattle.std.proofs.Common.{◌≡◌, ℕ, zero, suc, ◌+◌, ◌*◌, ◌<◌, ◌≤◌, Bool, true, false, cond, List, [], ◌∷◌, ◌++◌, length, take, Option, Some, None, option_map, refl, sym, ap, subst, arith, ◌∙◌, ◌⊎◌, inl, inr}
+use Rattle.std.proofs.Common.{◌≡◌, ℕ, zero, suc, ◌+◌, ◌*◌, ◌<◌, ◌≤◌, Bool, true, false, cond, List, [], ◌∷◌, length, take, Option, Some, None, option_map, refl, sym, ap, subst, arith, ◌∙◌, ◌⊎◌, inl, inr}
 use Rattle.std.specs.List.{slice_get}
-use Rattle.fk_model.specs.declared.limits.TheConstants.{LAST_USER_SLOT}
+use Rattle.fk_model.specs.declared.limits.TheConstants.{OWN_SPACE, LAST_USER_SLOT}
 use Rattle.fk_model.specs.declared.moves.Move.{Move}
 use Rattle.fk_model.specs.declared.stage.Stage.{Stage}
 use Rattle.fk_model.specs.declared.stage.Stage.TheVariants.{SpaceHold}
 use Rattle.fk_model.specs.Places.{Path}
 use Rattle.fk_model.specs.World.{World}
 use Rattle.fk_model.specs.Cut.{cut}
-use Rattle.fk_model.specs.Runs.{Event, after}
-use Rattle.fk_model.specs.Valid.{birth_at}
+use Rattle.fk_model.specs.Runs.{after}
 use Rattle.fk_image.specs.declared.image.Image.{Image}
 use Rattle.fk_image.specs.Picture.{picture}
 use Rattle.fk_image.specs.Valid.{is_valid}
 use Rattle.laws_savable.specs.Savable.{IsSound}
-use Rattle.laws_jobs.specs.Machines.{Head, Machine, heard, said_of, call_of, IsReadyAt, AtWork, calls_made}
+use Rattle.laws_jobs.specs.Machines.{no_words, call_of, IsReadyAt, AtWork}
 use Rattle.laws_jobs.specs.Machines.Head.{Stops, Asks}
-use Rattle.laws_jobs.specs.Jobs.{MayBegin, Saves, Restores}
+use Rattle.laws_jobs.specs.Jobs.{MayBegin, IsTidyJob, Saves, Restores}
 use Rattle.laws_jobs.specs.Holds.{hold}
 use Rattle.laws_jobs.proofs.Weaving.{first_sound}
 use Rattle.laws_checkpoint.specs.Checkpoint as checkpoints
@@ -24,9 +23,9 @@ use Rattle.laws_checkpoint.specs.Checkpoint.{checkpoint}
 use Rattle.laws_checkpoint.specs.Checkpoint.End.{Done, Gone, Foreign}
 use Rattle.laws_checkpoint.specs.Checkpoint.State.{Holds}
 use Rattle.laws_checkpoint.specs.Bounded.{count_of, LiesWithin}
-use Rattle.laws_checkpoint.specs.Laws.{MaySave, EndsAsItWas, IsSameBeside, picture_of}
+use Rattle.laws_checkpoint.specs.Laws.{IsSameBeside, picture_of}
 use Rattle.laws_checkpoint.proofs.Bounds.{checkpoint_is_bounded}
-use Rattle.laws_checkpoint.proofs.Ended.{checkpoint_ends_as_it_was}
+use Rattle.laws_checkpoint.proofs.Ended.{checkpoint_is_tidy, checkpoint_ends_as_it_was}
 use Rattle.laws_checkpoint.proofs.Saved.{checkpoint_saves, checkpoint_images_subtree}
 use Rattle.laws_checkpoint.proofs.Calling.{checkpoint_leaves_rest}
 use Rattle.laws_restore.specs.Restore as restores
@@ -34,24 +33,25 @@ use Rattle.laws_restore.specs.Restore.State.{Makes}
 use Rattle.laws_restore.specs.Bounded as made
 use Rattle.laws_rooms.specs.Rooms.{rooms_of}
 use Rattle.laws_rooms.specs.Restoring.{bound_by, restore_of}
-use Rattle.laws_rooms.proofs.Restored.{image_is_restored, image_restore_is_bounded}
-use Rattle.laws_runs.specs.Cores.{JobEnd, Servers, Core, Asker, IsRun, world_at}
+use Rattle.laws_restore.proofs.Owing.{is_tidy as restore_is_tidy}
+use Rattle.laws_rooms.proofs.Roomed.{valid_is_roomed}
+use Rattle.laws_rooms.proofs.Restored.{pairs_bind, image_is_restored, image_restore_is_bounded}
+use Rattle.laws_runs.specs.Cores.{JobEnd, Servers, Core, IsRun, world_at}
 use Rattle.laws_runs.specs.Cores.JobEnd.{Worked}
 use Rattle.laws_runs.specs.Cores.Asker.{Job as Asked_by_job}
 use Rattle.laws_runs.specs.Composed.{IsComposed, job_moves, WorksSo, HasWorked, HasEnded}
 use Rattle.laws_runs.specs.Turning.{asker_at, MovesAt}
-use Rattle.laws_runs.specs.Headline.{Checkpointed}
 use Rattle.laws_runs.proofs.Composing.{composed}
 use Rattle.laws_runs.proofs.Turning.{moves_in_history}
 use Rattle.laws_runs.proofs.Headline.{checkpoints_hold, restores_hold, restored_go_on}
-use Rattle.laws_house.specs.Houses.{Job, Task, Source, State, End, machine, image_of_end, image_made, sourced, valid_one, begins_by, house}
-use Rattle.laws_house.specs.Houses.Source.{MadeBy}
+use Rattle.laws_house.specs.Houses.{Job, Task, Source, State, End, machine, image_made, sourced, valid_one, begins_by, house}
+use Rattle.laws_house.specs.Houses.Source.{Given, MadeBy}
 use Rattle.laws_house.specs.Houses.Task.{Checkpoint, Restore}
 use Rattle.laws_house.specs.Houses.State.{Checking, Restoring}
 use Rattle.laws_house.specs.Houses.End.{Checked, Restored}
-use Rattle.laws_house.specs.Parts.{IsPart, PartWorks}
-use Rattle.laws_house.specs.Laws.{NamesUsersSlots, IsGrounded, CheckpointsAreBrief, RestoresAreBrief, LeftBeside, CheckpointsLeaveTheRest, CheckpointsEndAsItWas, CheckpointsSave, RestoresMake, SavedGoesOn}
-use Rattle.laws_house.proofs.Parts.{asks_part, stops_part, works}
+use Rattle.laws_house.specs.Parts.{IsPart}
+use Rattle.laws_house.specs.Laws.{NamesUsersSlots, HouseIsTidy, IsGrounded, CheckpointsAreBrief, RestoresAreBrief, LeftBeside, CheckpointsLeaveTheRest, CheckpointsEndAsItWas, CheckpointsSave, RestoresMake, SavedGoesOn}
+use Rattle.laws_house.proofs.Parts.{asks_part, stops_part, works, parts_are_tidy}
 
 -- ---- the two parts
 
@@ -114,9 +114,28 @@ restores_whole slot birth image pairs law = record {
 slots_of : (j : Job) (task : Task) → j.task ≡ task → NamesUsersSlots j.task → NamesUsersSlots task
 slots_of j task is names = subst NamesUsersSlots is names
 
+pub house_is_tidy : {V : Type 0} → HouseIsTidy V
+house_is_tidy jobs servers names index j ends s its starts = by j.task starts (names index j its)
+  where
+    made : (slot : ℕ) (pairs : List (ℕ × ℕ)) → NamesUsersSlots (Restore slot pairs (Given None)) → (o : Option Image) → ((image : Image) → o ≡ Some image → is_valid image ≡ true) →
+        option_map (λ image. Restoring slot pairs image Makes) o ≡ Some s → IsTidyJob machine j.nester s
+    made slot pairs names None valid e = cc
+    made slot pairs names (Some image) valid e =
+        let is = same_state (Restoring slot pairs image Makes) s e in
+        subst (IsTidyJob machine j.nester) is
+        (parts_are_tidy (restore_of slot image pairs) machine (Restoring slot pairs image) Restored j.nester Makes (restore_part slot pairs image)
+        (restore_is_tidy slot j.nester (bound_by pairs) (picture image) (rooms_of image) names.0 (valid_is_roomed (bound_by pairs) image (pairs_bind pairs names.1) (valid image refl))))
+
+    by : (task : Task) → begins_by task ends ≡ Some s → NamesUsersSlots task → IsTidyJob machine j.nester s
+    by (Checkpoint slot) e low =
+        let is = same_state (Checking slot Holds) s e in
+        subst (IsTidyJob machine j.nester) is
+        (parts_are_tidy (checkpoint slot) machine (Checking slot) Checked j.nester Holds (checkpoint_part slot) (checkpoint_is_tidy slot j.nester low))
+    by (Restore slot pairs source) e names = made slot pairs names (valid_one (sourced ends source)) (λ image from. valid_is (sourced ends source) image from) e
+
 module _ {V : Type 0} (jobs : List Job) (servers : Servers V) (first c : Core State End V) (past : List Move) (run : IsRun (house jobs servers) first past c) (grounded : IsGrounded jobs servers first past) where
   whole : IsComposed run
-  whole = composed (house jobs servers) first c past run grounded.users grounded.tidy grounded.start grounded.few
+  whole = composed (house jobs servers) first c past run grounded.users (house_is_tidy jobs servers grounded.slots) grounded.start grounded.few
 
   checkpoint_brief : (index begun upto : ℕ) (ends : List (JobEnd End)) (its : HasWorked run index ends begun upto) (slot d k : ℕ) → its.job.task ≡ Checkpoint slot →
       LiesWithin (cut (world_at run begun) its.nester slot) d → begun < k → k ≤ upto →
@@ -197,6 +216,98 @@ module _ {V : Type 0} (jobs : List Job) (servers : Servers V) (first c : Core St
           let job : w.job ≡ j = (let two = w.its in cc) in
           from e job (starts_checkpoint w.job.task (take index c.ends) slot w.start (ap (λ (i : Job). i.task) job ∙ is) w.starts)
 
+  -- ---- each move of a checkpoint
+
+  same_slot : (slot other : ℕ) (s t : checkpoints.State) → Checking slot s ≡ Checking other t → (slot ≡ other) × (s ≡ t)
+  same_slot slot other s t e = (cc, cc)
+
+  leaves_rest : (k begun slot : ℕ) (s : checkpoints.State) (stage : Stage) (words : List ℕ) → k < length past → asker_at run k ≡ Asked_by_job begun (Checking slot s) stage words →
+      (birth : ℕ) × LeftBeside birth slot (world_at run begun) (world_at run k) (world_at run (k + 1))
+  leaves_rest k begun slot s stage words low e =
+      let its = moves_in_history (house jobs servers) first c past run grounded.users (house_is_tidy jobs servers grounded.slots) grounded.start grounded.few k begun (Checking slot s) stage words low e in
+      by its
+    where
+      Left : Type 0
+      Left = (birth : ℕ) × LeftBeside birth slot (world_at run begun) (world_at run k) (world_at run (k + 1))
+
+      asks_under_part : (s : checkpoints.State) → machine.head (Checking slot s) ≡ Asks stage words → checkpoints.head slot s ≡ Asks stage words
+      asks_under_part s asked = asks_part (checkpoint slot) machine (Checking slot) Checked [] (checkpoint_part slot) (Checking slot s) s stage words refl asked
+
+      -- it is the first, or a later one
+      first_move : (its : MovesAt run k begun (Checking slot s) stage words) → slot ≤ LAST_USER_SLOT → begun ≡ k → s ≡ Holds → Left
+      first_move its user now is =
+          let asked = asks_under_part Holds (subst (λ (x : checkpoints.State). machine.head (Checking slot x) ≡ Asks stage words) is its.asked) in
+          let one : SpaceHold OWN_SPACE slot ≡ stage = cc in
+          let two : no_words ≡ words = cc in
+          let event : call_of its.nester stage words ≡ hold its.nester slot = λ i. call_of its.nester (sym one i) (sym two i) in
+          let goes : world_at run (k + 1) ≡ after (world_at run k) (hold its.nester slot) = its.goes ∙ ap (λ e. after (world_at run k) e) event in
+          let may = subst (λ i. MayBegin (world_at run i) its.nester its.job.nester) now its.may in
+          let sound = subst IsSound goes (whole.sound (k + 1) (omega (arith, low))) in (
+            its.job.nester,
+            record {
+              nester = its.nester;
+              named = its.may.named;
+              same = subst (IsSameBeside its.nester slot (world_at run k)) (sym goes)
+                  ((checkpoint_leaves_rest slot its.job.nester (world_at run k) its.nester user may sound).first (subst (IsReadyAt (world_at run k)) event its.ready));
+            },
+          )
+
+      later_move : (its : MovesAt run k begun (Checking slot s) stage words) → slot ≤ LAST_USER_SLOT → AtWork (checkpoint slot) its.nester (world_at run begun) Holds (world_at run k) s → Left
+      later_move its user work =
+          let asked = asks_under_part s its.asked in
+          let held = work.asked in
+          let one : SpaceHold OWN_SPACE slot ≡ work.stage = cc in
+          let two : no_words ≡ work.words = cc in
+          let event : call_of its.nester work.stage work.words ≡ hold its.nester slot = λ i. call_of its.nester (sym one i) (sym two i) in
+          let behind = first_sound (checkpoint slot) its.nester _ _ work.events (world_at run k) s work.run in
+          let sound = subst (λ e. IsSound (after (world_at run begun) e)) event behind in (
+            its.job.nester,
+            record {
+              nester = its.nester;
+              named = its.may.named;
+              same = subst (IsSameBeside its.nester slot (world_at run k)) (sym its.goes)
+                  ((checkpoint_leaves_rest slot its.job.nester (world_at run begun) its.nester user its.may sound).later (world_at run k) s stage words work asked (whole.sound k (omega (arith, low))) its.ready);
+            },
+          )
+
+      checks : (its : MovesAt run k begun (Checking slot s) stage words) (other : ℕ) → other ≤ LAST_USER_SLOT → its.start ≡ Checking other Holds →
+          ((begun ≡ k) × (Checking slot s ≡ its.start)) ⊎ AtWork machine its.nester (world_at run begun) its.start (world_at run k) (Checking slot s) → Left
+      checks its other user start (inl now) =
+          let same = same_slot slot other s Holds (now.1 ∙ start) in
+          first_move its (subst (λ i. i ≤ LAST_USER_SLOT) (sym same.0) user) now.0 same.1
+      checks its other user start (inr work) =
+          let there = subst (λ x. AtWork machine its.nester (world_at run begun) x (world_at run k) (Checking slot s)) start work in
+          let part = works (checkpoint other) machine (Checking other) Checked its.nester (checkpoint_part other) (world_at run begun) Holds (world_at run k) (Checking slot s) there in
+          let same = same_slot slot other s part.state part.is in
+          later_move its (subst (λ i. i ≤ LAST_USER_SLOT) (sym same.0) user)
+          (subst (λ i. AtWork (checkpoint i) its.nester (world_at run begun) Holds (world_at run k) s) (sym same.0)
+          (subst (λ x. AtWork (checkpoint other) its.nester (world_at run begun) Holds (world_at run k) x) (sym same.1) part.part))
+
+      restores_not : (its : MovesAt run k begun (Checking slot s) stage words) (other : ℕ) (pairs : List (ℕ × ℕ)) (image : Image) → its.start ≡ Restoring other pairs image Makes →
+          ((begun ≡ k) × (Checking slot s ≡ its.start)) ⊎ AtWork machine its.nester (world_at run begun) its.start (world_at run k) (Checking slot s) → Left
+      restores_not its other pairs image start (inl now) = let apart = now.1 ∙ start in cc
+      restores_not its other pairs image start (inr work) =
+          let there = subst (λ x. AtWork machine its.nester (world_at run begun) x (world_at run k) (Checking slot s)) start work in
+          let part = works (restore_of other image pairs) machine (Restoring other pairs image) Restored its.nester (restore_part other pairs image) (world_at run begun) Makes (world_at run k) (Checking slot s) there in
+          let apart = part.is in
+          cc
+
+      from_image : (its : MovesAt run k begun (Checking slot s) stage words) (other : ℕ) (pairs : List (ℕ × ℕ)) (o : Option Image) →
+          option_map (λ image. Restoring other pairs image Makes) o ≡ Some its.start → Left
+      from_image its other pairs None e = cc
+      from_image its other pairs (Some image) e = restores_not its other pairs image (sym (same_state (Restoring other pairs image Makes) its.start e)) its.at
+
+      by : (its : MovesAt run k begun (Checking slot s) stage words) → Left
+      by its = on its.job.task refl (grounded.slots its.index its.job its.its)
+        where
+          on : (task : Task) → its.job.task ≡ task → NamesUsersSlots its.job.task → Left
+          on (Checkpoint other) is names = checks its other (slots_of its.job (Checkpoint other) is names) (starts_checkpoint its.job.task its.ends other its.start is its.starts) its.at
+          on (Restore other pairs source) is names =
+              from_image its other pairs (valid_one (sourced its.ends source)) (sym (ap (λ t. begins_by t its.ends) is) ∙ its.starts)
+
+pub checkpoints_leave_the_rest : {V : Type 0} → CheckpointsLeaveTheRest V
+checkpoints_leave_the_rest jobs servers first c past run grounded k begun slot s stage words low e = leaves_rest jobs servers first c past run grounded k begun slot s stage words low e
+
 pub checkpoints_are_brief : {V : Type 0} → CheckpointsAreBrief V
 checkpoints_are_brief jobs servers first c past run grounded index begun upto ends its slot d k is deep above low =
     checkpoint_brief jobs servers first c past run grounded index begun upto ends its slot d k is deep above low
@@ -216,10 +327,9 @@ checkpoints_end_as_it_was jobs servers first c past run grounded index j slot be
 
 pub checkpoints_save : {V : Type 0} → CheckpointsSave V
 checkpoints_save jobs servers first c past run grounded index j slot begun last image its is ended may_save =
-    let e = ended_checkpoint jobs servers first c past run grounded index j slot begun last (Done image) its is ended in
-    (
+    let e = ended_checkpoint jobs servers first c past run grounded index j slot begun last (Done image) its is ended in (
       (checkpoint_images_subtree slot j.nester (world_at run begun) (world_at run (last + 1)) e.nester e.state image e.low e.may (may_save e.nester e.may.named) e.work e.stopped).0,
-      checkpoints_hold (house jobs servers) first c past run grounded.users grounded.tidy grounded.start grounded.few index j slot pictured (Checked (Done image)) begun last (picture image) its
+      checkpoints_hold (house jobs servers) first c past run grounded.users (house_is_tidy jobs servers grounded.slots) grounded.start grounded.few index j slot pictured (Checked (Done image)) begun last (picture image) its
           (λ nester ends s named starts. subst (λ x. Saves machine j.nester slot pictured (world_at run begun) nester x) (sym (starts_checkpoint j.task ends slot s is starts))
           (saves_whole slot j.nester (world_at run begun) nester (checkpoint_saves slot j.nester (world_at run begun) nester e.low (may_save nester named)))) ended refl,
     )
@@ -227,7 +337,7 @@ checkpoints_save jobs servers first c past run grounded index j slot begun last 
 pub restores_make : {V : Type 0} → RestoresMake V
 restores_make jobs servers first c past run grounded index j slot begun last pairs source image its is from ended =
     let names = slots_of j (Restore slot pairs source) is (grounded.slots index j its) in
-    restores_hold (house jobs servers) first c past run grounded.users grounded.tidy grounded.start grounded.few index j slot (bound_by pairs) (picture image) is_made (Restored restores.Done) begun last its
+    restores_hold (house jobs servers) first c past run grounded.users (house_is_tidy jobs servers grounded.slots) grounded.start grounded.few index j slot (bound_by pairs) (picture image) is_made (Restored restores.Done) begun last its
     (λ s starts. subst (λ x. Restores machine j.nester slot (bound_by pairs) (picture image) is_made x) (sym (starts_restore j.task (take index c.ends) slot pairs source image s is from starts))
     (restores_whole slot j.nester image pairs (image_is_restored slot j.nester image pairs
     (record { low = names.0; users = names.1; valid = valid_is (sourced (take index c.ends) source) image from })))) ended refl
@@ -245,23 +355,17 @@ got_before (x ∷ xs) (suc n) zero low = refl
 got_before (x ∷ xs) (suc n) (suc i) low = got_before xs n i (omega (arith, low))
 
 pub saved_goes_on : {V : Type 0} → SavedGoesOn V
-saved_goes_on jobs servers first c past run grounded from to i j slot place hold release made done pairs image its is ended may_save their there restored_it before =
-    let saved = checkpoints_save jobs servers first c past run grounded from i slot hold release image its is ended may_save in
+saved_goes_on jobs servers first c past run grounded from to i j slot place holds release made done pairs image its is ended may_save their there restored_it before =
+    let saved = checkpoints_save jobs servers first c past run grounded from i slot holds release image its is ended may_save in
     let source : valid_one (sourced (take to c.ends) (MadeBy from)) ≡ Some image =
     ap valid_one (ap image_made (got_before c.ends to from before ∙ ended)) ∙ ap (λ t. cond t (Some image) None) saved.0 in
     let restored = restores_make jobs servers first c past run grounded to j place made done pairs (MadeBy from) image their there source restored_it in
     let may = may_save saved.1.nester saved.1.named in
-    (
-      saved.1.nester,
-      (
-        restored.nester,
-        (
-          saved.1.named,
-          (
-            restored.named,
-            λ ms. restored_go_on (house jobs servers) first c past run grounded.users grounded.tidy grounded.start grounded.few i.nester slot hold release (picture image) saved.1
-                may.uncut may.users j.nester place made done (bound_by pairs) restored ms,
-          ),
-        ),
-      ),
-    )
+    record {
+      nester = saved.1.nester;
+      named = saved.1.named;
+      there = restored.nester;
+      named_there = restored.named;
+      further = λ ms. restored_go_on (house jobs servers) first c past run grounded.users (house_is_tidy jobs servers grounded.slots) grounded.start grounded.few i.nester slot holds release (picture image) saved.1
+          may.uncut may.users j.nester place made done (bound_by pairs) restored ms;
+    }

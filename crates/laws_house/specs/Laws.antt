@@ -1,5 +1,5 @@
 -- What a run in which checkpoints and restores work is for the subtrees that they save and make again.
-use Rattle.std.specs.Prelude.{◌≡◌, ℕ, ◌+◌, ◌*◌, ◌<◌, ◌≤◌, Bool, true, false, List, length, take, Option, Some, None}
+use Rattle.std.specs.Prelude.{◌≡◌, ℕ, ◌+◌, ◌*◌, ◌<◌, ◌≤◌, true, List, length, take, Some}
 use Rattle.std.specs.List.{slice_get}
 use Rattle.fk_model.specs.declared.limits.TheConstants.{LAST_USER_SLOT}
 use Rattle.fk_model.specs.declared.moves.Move.{Move}
@@ -16,14 +16,13 @@ use Rattle.fk_image.specs.Valid.{is_valid}
 use Rattle.laws_checkpoint.specs.Checkpoint as checkpoints
 use Rattle.laws_checkpoint.specs.Checkpoint.End.{Done}
 use Rattle.laws_checkpoint.specs.Bounded.{count_of, LiesWithin}
-use Rattle.laws_checkpoint.specs.Laws.{MaySave, EndsAsItWas, IsSameBeside, picture_of}
+use Rattle.laws_checkpoint.specs.Laws.{MaySave, EndsAsItWas, IsSameBeside}
 use Rattle.laws_restore.specs.Restore as restores
 use Rattle.laws_restore.specs.Restore.State.{Makes}
-use Rattle.laws_restore.specs.Ends.{EndsSo}
 use Rattle.laws_restore.specs.Bounded as made
 use Rattle.laws_rooms.specs.Rooms.{rooms_of}
 use Rattle.laws_rooms.specs.Restoring.{bound_by, are_user_pairs}
-use Rattle.laws_runs.specs.Cores.{JobEnd, Servers, Core, Asker, IsRun, world_at}
+use Rattle.laws_runs.specs.Cores.{JobEnd, Servers, Core, IsRun, world_at}
 use Rattle.laws_runs.specs.Cores.JobEnd.{Worked}
 use Rattle.laws_runs.specs.Cores.Asker.{Job as Asked_by_job}
 use Rattle.laws_runs.specs.Composed.{AskAsUsers, AreTidy, IsStart, job_moves, HasWorked}
@@ -33,7 +32,7 @@ use Rattle.laws_runs.specs.Headline.{Checkpointed, Restored as Restored_there}
 use Rattle.laws_house.specs.Houses.{Job, Task, Source, State, End, valid_one, sourced, house}
 use Rattle.laws_house.specs.Houses.Source.{MadeBy}
 use Rattle.laws_house.specs.Houses.Task.{Checkpoint, Restore}
-use Rattle.laws_house.specs.Houses.State.{Checking, Restoring}
+use Rattle.laws_house.specs.Houses.State.{Checking}
 use Rattle.laws_house.specs.Houses.End.{Checked, Restored}
 
 -- a job names slots of users, as the reader of scenarios asks
@@ -44,10 +43,13 @@ NamesUsersSlots (Restore slot pairs source) = (slot ≤ LAST_USER_SLOT) × (are_
 abbrev pub NameUsersSlots : List Job → Type 0
 NameUsersSlots jobs = (index : ℕ) (j : Job) → slice_get jobs index ≡ Some j → NamesUsersSlots j.task
 
+-- such jobs are tidy, whatever native servers there are
+abbrev pub HouseIsTidy : Type 0 → Type 0
+HouseIsTidy V = (jobs : List Job) (servers : Servers V) → NameUsersSlots jobs → AreTidy (house jobs servers)
+
 -- what is supposed of a run: of its native servers, its jobs, its first core, and how many moves it has
 pub record IsGrounded {V : Type 0} (jobs : List Job) (servers : Servers V) (first : Core State End V) (past : List Move) : Type 0 where
   pub users : AskAsUsers (house jobs servers)
-  pub tidy : AreTidy (house jobs servers)
   pub slots : NameUsersSlots jobs
   pub start : IsStart first
   pub few : first.world.next + length past ≤ depth
@@ -115,6 +117,15 @@ RestoresMake V = (jobs : List Job) (servers : Servers V) (first c : Core State E
 
 -- ---- the two together: what a checkpoint of the run has saved and a restore of the run has made again
 
+-- the subtree in a slot of one nester in a world, and that in a slot of another one in a later world, where this nester stood in a
+-- world before it: what is the latter's is exactly what was the former's, its ports bound
+pub record GoesOnAgain (birth slot : ℕ) (w : World) (other place : ℕ) (before v : World) (bind : ℕ → ℕ) : Type 0 where
+  pub nester : Path
+  pub named : birth_at w nester ≡ Some birth
+  pub there : Path
+  pub named_there : birth_at before there ≡ Some other
+  pub further : (ms : List Onward) → GoesOnAs bind (cut w nester slot) (cut v there place) ms
+
 -- has exactly the further runs that it had, with its ports bound
 abbrev pub SavedGoesOn : Type 0 → Type 0
 SavedGoesOn V = (jobs : List Job) (servers : Servers V) (first c : Core State End V) (past : List Move) (run : IsRun (house jobs servers) first past c) →
@@ -122,5 +133,4 @@ SavedGoesOn V = (jobs : List Job) (servers : Servers V) (first c : Core State En
     slice_get jobs from ≡ Some i → i.task ≡ Checkpoint slot → slice_get c.ends from ≡ Some (Worked (Checked (Done image)) hold release) →
     MaySaveThere i.nester slot (world_at run hold) →
     slice_get jobs to ≡ Some j → j.task ≡ Restore place pairs (MadeBy from) → slice_get c.ends to ≡ Some (Worked (Restored restores.Done) made done) → from < to →
-    (nester : Path) × (other : Path) × (birth_at (world_at run hold) nester ≡ Some i.nester) × (birth_at (world_at run made) other ≡ Some j.nester) ×
-    ((ms : List Onward) → GoesOnAs (bound_by pairs) (cut (world_at run hold) nester slot) (cut (world_at run (done + 1)) other place) ms)
+    GoesOnAgain i.nester slot (world_at run hold) j.nester place (world_at run made) (world_at run (done + 1)) (bound_by pairs)

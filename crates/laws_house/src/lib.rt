@@ -4,7 +4,7 @@
 //! It stands on `laws_runs`, `laws_checkpoint` and `laws_rooms`.
 #![tactic(auto)]
 
-ghost use Rattle.laws_house.specs.Laws.{CheckpointsAreBrief, RestoresAreBrief, CheckpointsEndAsItWas, CheckpointsSave, RestoresMake, SavedGoesOn};
+ghost use Rattle.laws_house.specs.Laws.{HouseIsTidy, CheckpointsAreBrief, RestoresAreBrief, CheckpointsLeaveTheRest, CheckpointsEndAsItWas, CheckpointsSave, RestoresMake, SavedGoesOn};
 ghost use Rattle.laws_house.specs.Parts.{PartsWork, PartsAreTidy};
 
 /// A machine that is a part of another one is at work where that one is in this part, with as many calls.
@@ -17,6 +17,11 @@ pub fn a_part_is_tidy<S, A, T, B>()
     ensures { PartsAreTidy S A T B }
 {}
 
+/// Jobs that name users' slots, as the reader of scenarios asks, are such as a run wants them.
+pub fn a_house_is_tidy<V>()
+    ensures { HouseIsTidy V }
+{}
+
 /// Ended or not, a checkpoint of a run has made at most 100 (n + 1) (d + 1) of its moves, where its subtree had n bodies and pages,
 /// none deeper than d.
 pub fn checkpoints_are_brief<V>()
@@ -26,6 +31,11 @@ pub fn checkpoints_are_brief<V>()
 /// And a restore at most 40 (n + 1) (d + 1), by its image.
 pub fn restores_are_brief<V>()
     ensures { RestoresAreBrief V }
+{}
+
+/// Each move of a checkpoint leaves every page, and every object but its nester's scratch and who holds the subtree's root.
+pub fn checkpoints_leave_the_rest<V>()
+    ensures { CheckpointsLeaveTheRest V }
 {}
 
 /// A checkpoint of a run ends as its subtree was at its first move: no space in the slot; not closed, and the first place that says
