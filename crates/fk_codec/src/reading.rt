@@ -11,13 +11,14 @@ ghost use Rattle.fk_image_reading.specs.Given.{Decodes};
 ghost use Rattle.fk_codec.specs.Given.{Reads};
 
 use crate::fail::{ImageError, ReadFail};
-use fk_image::{Image, Link, Open, Path, SpaceRec, enter, kind_in_space, room_under};
+use fk_image::{Image, Link, Open, SpaceRec, enter, kind_in_space, room_under};
 use fk_image_format::reason;
 use fk_image_pointers::{PointerFail, check_links};
 use fk_image_reading::{
     Fail, read_below, read_byte, read_link, read_objects, read_pages, read_u16, read_u32, refused,
 };
 use fk_model::List;
+use fk_stack::Stack;
 use std::alloc::Global;
 
 /// The first space, which is the subtree's root.
@@ -51,7 +52,7 @@ fn read_first(alloc: Global, bytes: &[u8]) -> Result<(SpaceRec, &[u8]), Fail>
 
 /// The lowest slot under a parent in which a space may follow.
 #[tactic(auto, unfolding(fk_image_format::specs::Reading::read_room))]
-fn read_room(path: &mut Path, parent: u32, bytes: &[u8]) -> Result<u16, Fail>
+fn read_room(path: &mut Stack<Open>, parent: u32, bytes: &[u8]) -> Result<u16, Fail>
     ensures room { Decodes (λ x. x) result (words.read_room path.old parent bytes.now) }
     ensures path { IfOk result (λ _. path.new ≡ preorder.from parent path.old) }
 {
@@ -66,7 +67,7 @@ fn read_room(path: &mut Path, parent: u32, bytes: &[u8]) -> Result<u16, Fail>
 fn read_next<'a>(
     alloc: Global,
     done: &[SpaceRec],
-    path: &mut Path,
+    path: &mut Stack<Open>,
     bytes: &'a [u8],
 ) -> Result<(SpaceRec, &'a [u8]), Fail>
     ensures read { Decodes (λ x. (x.0, x.1.now)) result (words.read_next done.now path.old bytes.now) }
@@ -99,7 +100,7 @@ fn read_space<'a>(
     alloc: Global,
     done: &[SpaceRec],
     number: u32,
-    path: &mut Path,
+    path: &mut Stack<Open>,
     bytes: &'a [u8],
 ) -> Result<(SpaceRec, &'a [u8]), Fail>
     requires { number ≡ length done.now }
@@ -121,7 +122,7 @@ fn read_spaces(alloc: Global, count: u32, bytes: &[u8]) -> Result<(List<SpaceRec
     ensures { Decodes (λ x. (x.0, x.1.now)) result (read_many words.read_space after_space count ([], root_path) [] bytes.now) }
 {
     let mut spaces = List::new(alloc);
-    let mut path = Path::new(alloc);
+    let mut path = Stack::new(alloc);
     path.push(Open { space: 0, floor: 0 })?;
     let mut rest = bytes;
     for number in 0..count {

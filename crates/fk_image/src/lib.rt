@@ -1,6 +1,6 @@
 //! Images: a subtree in records, as a checkpoint keeps it.
 //!
-//! It stands on `fk_model`, over whose worlds `specs/Picture.antt` says what subtree an image stands for.
+//! It stands on `fk_stack` for the open path, and on `fk_model`, over whose worlds `specs/Picture.antt` says what subtree an image stands for.
 //! `specs/Valid.antt` says which images are valid: those whose numbers fit their fields, whose spaces stand
 //! in preorder, and whose pointers lead to what their fields may hold (`specs/Links.antt`). It promises the
 //! parts of that test that a reader needs, equal copies, and which ports of the nester an image leads to.
@@ -24,5 +24,5 @@ pub use links::{
 };
 pub use objects::{Objects, kind_of_rec};
 pub use open::Open;
-pub use path::{Path, enter, room_under};
+pub use path::{enter, room_under};
 pub use ranges::{is_code, is_extent, is_mode_byte, is_set_word};

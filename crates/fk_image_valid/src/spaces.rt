@@ -7,9 +7,10 @@ ghost use Rattle.fk_image.specs.Preorder as preorder;
 ghost use Rattle.fk_image.specs.Valid as words;
 
 use crate::objects::{fits_link, fits_objects, fits_pages};
-use fk_image::{Image, Link, Open, Path, SpaceRec, enter, kind_in_space, room_under};
+use fk_image::{Image, Link, Open, SpaceRec, enter, kind_in_space, room_under};
 use fk_image_pointers::{PointerFail, check_links};
 use fk_model::NoMemory;
+use fk_stack::Stack;
 use std::alloc::Global;
 
 fn is_first(space: &SpaceRec) -> bool
@@ -19,7 +20,7 @@ fn is_first(space: &SpaceRec) -> bool
 }
 
 /// Whether a space may follow others. The path then begins at its parent.
-fn is_next(done: &[SpaceRec], path: &mut Path, space: &SpaceRec) -> Result<bool, NoMemory>
+fn is_next(done: &[SpaceRec], path: &mut Stack<Open>, space: &SpaceRec) -> Result<bool, NoMemory>
     ensures next { IfOk result (λ next. next ≡ words.is_next done.now path.old space.now) }
     ensures path { IfOk result (λ next. path.new ≡ preorder.from space.now.parent path.old) }
 {
@@ -39,7 +40,7 @@ fn is_next(done: &[SpaceRec], path: &mut Path, space: &SpaceRec) -> Result<bool,
 fn stands_in_order(
     done: &[SpaceRec],
     number: u32,
-    path: &mut Path,
+    path: &mut Stack<Open>,
     space: &SpaceRec,
 ) -> Result<bool, NoMemory>
     requires { number ≡ length done.now }
@@ -59,7 +60,7 @@ fn stands_in_order(
 fn fits_space(
     done: &[SpaceRec],
     number: u32,
-    path: &mut Path,
+    path: &mut Stack<Open>,
     space: &SpaceRec,
 ) -> Result<bool, NoMemory>
     requires { number ≡ length done.now }
@@ -76,7 +77,7 @@ fn fits_spaces(alloc: Global, spaces: &[SpaceRec]) -> Result<bool, NoMemory>
     let Ok(count) = u32::try_from(spaces.len()) else {
         return Ok(false);
     };
-    let mut path = Path::new(alloc);
+    let mut path = Stack::new(alloc);
     path.push(Open { space: 0, floor: 0 })?;
     for number in 0..count {
         let at = number as usize;
