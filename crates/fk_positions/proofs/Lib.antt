@@ -1,0 +1,6 @@
+pub mod Walked
+pub mod Parted
+pub mod Itemed
+pub mod Linked
+pub mod Placed
+pub mod Scripted

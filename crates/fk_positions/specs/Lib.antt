@@ -1,0 +1,4 @@
+pub mod Walks
+pub mod Passes
+pub mod Positions
+pub mod Laws
