@@ -140,7 +140,7 @@ module _ (slot birth : ℕ) (bind : ℕ → ℕ) (c : World) (rooms : List Room)
       Clearing (all_standing bind c rooms its) (suc (objects rooms)) port v empty (emptied_from bind c rooms its nester slot g v shows left.stands left.pin left.spots) (standing_length bind c rooms its) tidied
   clears_on (o ∷ os) port g v empty shows left tidied = Dropping o os port g v empty shows left tidied
 
-  drop_lost : (o : Order) (os : List Order) → AreDrops (o ∷ os) → fails o ≡ Lost
+  pub drop_lost : (o : Order) (os : List Order) → AreDrops (o ∷ os) → fails o ≡ Lost
   drop_lost (Drops r) os drop = refl
   drop_lost o os drop = absurd drop
 
@@ -303,9 +303,39 @@ module _ (slot birth : ℕ) (bind : ℕ → ℕ) (c : World) (rooms : List Room)
           let told = subst (λ (said : Said). Came end (heard (restore slot bind rooms) (Works (o ∷ os)) said)) (sym call.said) there in
           subst (λ (e : Event). Came (after u e) (heard (restore slot bind rooms) (Works (o ∷ os)) (said_of u e))) same told
 
+  -- ---- what is known of it while it works
+
+  pub record InWork (os : List Order) (v : World) : Type 0 where
+    pub site : Site
+    pub shows : Shows nester slot site v
+    pub may : MayAll slot os site
+    pub safe : SafeAll IsAskedHere os site
+
+  pub in_work : (v : World) (s : State) (os : List Order) → Came v s → s ≡ Works os → InWork os v
+  in_work _ _ os (Working ps g v empty shows unled may suits safe tidied is) e =
+      let same : ps ≡ os = cc in
+      record { site = g; shows = shows; may = subst (λ (qs : List Order). MayAll slot qs g) same may; safe = subst (λ (qs : List Order). SafeAll IsAskedHere qs g) same safe }
+  in_work _ _ os (Dropping o ps port g v empty shows left tidied) e = cc
+  in_work _ _ os (Clearing xs more port v empty emptied many tidied) e = cc
+  in_work _ _ os (Finished v empty plain same unheld clean) e = cc
+  in_work _ _ os (Missing port v empty none clean) e = cc
+  in_work _ _ os (Taken v there same) e = cc
+
+  -- scratch alone is dropped
+  pub in_drops : (v : World) (s : State) (o : Order) (os : List Order) (more port : ℕ) → Came v s → s ≡ Clears (o ∷ os) more port → AreDrops (o ∷ os)
+  in_drops _ _ o os more port (Working ps g v empty shows unled may suits safe tidied is) e = cc
+  in_drops _ _ o os more port (Dropping p ps port2 g v empty shows left tidied) e =
+      let one : p ≡ o = cc in
+      let two : ps ≡ os = cc in
+      subst (λ (q : Order). AreDrops (q ∷ os)) one (subst (λ (qs : List Order). AreDrops (p ∷ qs)) two left.drop)
+  in_drops _ _ o os more port (Clearing xs more2 port2 v empty emptied many tidied) e = cc
+  in_drops _ _ o os more port (Finished v empty plain same unheld clean) e = cc
+  in_drops _ _ o os more port (Missing port2 v empty none clean) e = cc
+  in_drops _ _ o os more port (Taken v there same) e = cc
+
   -- ---- its first call
 
-  from_first : (v : World) (t : State) (es : List Event) → IsReadyAt w (call_of nester (SpaceMakeHeld slot) no_words) →
+  pub from_first : (v : World) (t : State) (es : List Event) → IsReadyAt w (call_of nester (SpaceMakeHeld slot) no_words) →
       Interleaved (restore slot bind rooms) nester (after w (call_of nester (SpaceMakeHeld slot) no_words)) (heard (restore slot bind rooms) Begins (said_of w (call_of nester (SpaceMakeHeld slot) no_words))) es v t → Came v t
   from_first v t es ready run = by (begins nester slot w reply low (λ k scratch. may_begin.clean nester k scratch) answered)
     where

@@ -35,7 +35,7 @@ module _ (c : World) (root : c.body [] ≡ Some (Space 0 None)) (slot : ℕ) (Sa
       let empty : here.body (k ∷ q) ≡ None = rw its.5 refl in
       leaves_on slot Safe here p None here q None (building c ((k ∷ q) ∷ made) [] []) q None (goes_to slot p q) (Makes P q k kinds.Space ∷ [])
       (leaves_goes slot Safe here p q None way)
-      (λ g good. ordered slot Safe here _ q None g (Makes P q k kinds.Space) (apply (fresh (k ∷ q) kinds.Space) g.built) good tt refl
+      (λ g good. ordered slot Safe here _ q None g (Makes P q k kinds.Space) (apply (fresh (k ∷ q) kinds.Space) g.built) good refl refl
       (ap (apply (fresh (k ∷ q) kinds.Space)) good.built ∙ fresh_made c made [] [] k q (Space 0 holder) its.0 refl)
       (record { place = place_of slot Safe here q None g good space; low = its.1; empty = rw good.built empty }) tt)
 
@@ -63,7 +63,7 @@ module _ (c : World) (root : c.body [] ≡ Some (Space 0 None)) (slot : ℕ) (Sa
         let empty : here.body y ≡ None = rw its.1 refl in
         let there_q : there here q ≡ Some kinds.Space = made_there c root made done given q above ∙ space in
         leaves_on slot Safe here q None (building c (y ∷ made) done given) q None (building c (with_items q is (y ∷ made)) done given) q None (Makes P q i.slot (kind_of i.body) ∷ []) _
-        (λ g good. ordered slot Safe here _ q None g (Makes P q i.slot (kind_of i.body)) (apply (fresh y (kind_of i.body)) g.built) good tt refl
+        (λ g good. ordered slot Safe here _ q None g (Makes P q i.slot (kind_of i.body)) (apply (fresh y (kind_of i.body)) g.built) good refl refl
         (ap (apply (fresh y (kind_of i.body))) good.built ∙ fresh_made c made done given i.slot q i.body its.0.there (sub_out y done made sub its.1))
         (record { place = place_of slot Safe here q None g good there_q; low = its.0.low; empty = rw good.built empty }) tt)
         (items_made bind is (y ∷ made) done given (λ z h. still_among z y made (sub z h)) (still_made q y made above) its.2)
@@ -86,7 +86,7 @@ module _ (c : World) (root : c.body [] ≡ Some (Space 0 None)) (slot : ℕ) (Sa
         let blank_here = blank_there c made done given i.slot q i.body its.0.there ready.0 ready.1 in
         let takes = takes_same here c q same (blank i.body) words ∙ its.0.takes in
         leaves_on slot Safe here q None (building c made (y ∷ done) given) q None (building c made (with_items q is (y ∷ done)) given) q None (Sets P q i.slot words ∷ []) _
-        (λ g good. ordered slot Safe here _ q None g (Sets P q i.slot words) _ good tt refl
+        (λ g good. ordered slot Safe here _ q None g (Sets P q i.slot words) _ good refl refl
         (ap (λ (w : World). after_set y words (w.body y) w) good.built ∙ record_made c made done given i.slot q i.body its.0.there ready.0 ready.1 words its.0.says)
         (record { place = place_of slot Safe here q None g good there_q; low = its.0.low; object = blank i.body; there = rw good.built blank_here; takes = rw good.built takes }) its.0.given)
         (items_set bind is made (y ∷ done) (y ∷ start) given (kinds_same (y ∷ done)) kinds_same above its.2 ready.2)
@@ -99,7 +99,7 @@ module _ (c : World) (root : c.body [] ≡ Some (Space 0 None)) (slot : ℕ) (Sa
         let there_q : there here q ≡ Some kinds.Space = made_there c root made done given q above ∙ space in
         let empty : here.page q s.number ≡ None = rw its.0.3 refl in
         leaves_on slot Safe here q None (building c made done ((q, s.number) ∷ given)) q None (building c made done (with_sheets q ss ((q, s.number) ∷ given))) q None (Gives P q s.number s.words ∷ []) _
-        (λ g good. ordered slot Safe here _ q None g (Gives P q s.number s.words) (apply (PutPage q s.number s.words) g.built) good tt refl
+        (λ g good. ordered slot Safe here _ q None g (Gives P q s.number s.words) (apply (PutPage q s.number s.words) g.built) good refl refl
         (ap (apply (PutPage q s.number s.words)) good.built ∙ page_made c made done given q s.number s.words its.0.0)
         (record { place = place_of slot Safe here q None g good there_q; fits = lt-ltb s.number PAGES its.0.1; empty = rw good.built empty; full = its.0.2 }) its.0.4)
         (sheets_given ss made done ((q, s.number) ∷ given) above its.1)

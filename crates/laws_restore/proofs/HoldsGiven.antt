@@ -49,7 +49,7 @@ module _ (bind : ℕ → ℕ) (c : World) (root : c.body [] ≡ Some (Space 0 No
       let led = leads_t slot Safe here q h g good (led_way bind c new old made h aim.0) in
       let site = led.site in
       let built = led.good.built in
-      let next = ordered slot Safe here done q None site (Holds P q k T h) (apply (Alter y (SetHolder (Some (At h)))) site.built) led.good tt refl
+      let next = ordered slot Safe here done q None site (Holds P q k T h) (apply (Alter y (SetHolder (Some (At h)))) site.built) led.good refl refl
       (ap (apply (Alter y (SetHolder (Some (At h))))) built ∙ led_as bind c new old made y b is anew (option_map (edited (SetHolder (Some (At h))))) refl)
       (record {
         place = place_of slot Safe here q None site led.good (kinds_same q ∙ its.2);

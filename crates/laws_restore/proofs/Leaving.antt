@@ -11,7 +11,7 @@ use Rattle.laws_sites.specs.Orders.Named.{ByScratch}
 use Rattle.laws_sites.specs.Owed.{Suits}
 use Rattle.laws_restore.specs.Fits.{there, IsWay}
 use Rattle.laws_restore.specs.Script.{P, T, U, D, goes_to, leads_to_at}
-use Rattle.laws_restore.proofs.Ways.{SafeAt, Runs, none, one, on, Walked, goes, leads, space_kind}
+use Rattle.laws_restore.proofs.Ways.{is_look, Runs, none, one, on, Walked, goes, leads, space_kind}
 
 module _ (slot : ℕ) (Safe : ℕ → Site → Type 0) where
   -- T is free for use, or leads to the port to which the pin leads
@@ -128,5 +128,5 @@ module _ (slot : ℕ) (Safe : ℕ → Site → Type 0) where
   pub place_of : (c : World) (q : Path) (aim : Option ℕ) (g : Site) → Good c q aim g → there c q ≡ Some kinds.Space → IsPlace g slot P q
   place_of c q aim g good space = record { named = ByScratch P q refl good.at; space = space_kind (g.built.body q) (subst (λ (c : World). there c q ≡ Some kinds.Space) (sym good.built) space) }
 
-  pub ordered : (c d : World) (q : Path) (aim : Option ℕ) (g : Site) (o : Order) (built : World) → Good c q aim g → SafeAt Safe o g → does o g ≡ with_built built g → built ≡ d → May slot o g → Suits g o → Next d q aim g (o ∷ [])
-  ordered c d q aim g o built good safe makes e may suits = record { site = does o g; runs = one slot Safe g o may suits safe; good = rw makes (built_good c d q aim g built e good) }
+  pub ordered : (c d : World) (q : Path) (aim : Option ℕ) (g : Site) (o : Order) (built : World) → Good c q aim g → is_look o ≡ false → does o g ≡ with_built built g → built ≡ d → May slot o g → Suits g o → Next d q aim g (o ∷ [])
+  ordered c d q aim g o built good off makes e may suits = record { site = does o g; runs = one slot Safe g o may suits off; good = rw makes (built_good c d q aim g built e good) }

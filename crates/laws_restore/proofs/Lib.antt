@@ -21,6 +21,7 @@ pub mod Tidying
 pub mod Coming
 pub mod Owing
 pub mod Readied
+pub mod Looked
 pub mod Example
 pub mod Counted
 pub mod Bounds

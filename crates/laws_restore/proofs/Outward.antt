@@ -16,7 +16,7 @@ use Rattle.fk_model.specs.World.Edit.{SetTalk, SetFault}
 use Rattle.fk_model.specs.LinkRows.{turn_number, turn_by}
 use Rattle.fk_model.specs.Rebind.{rebound_ptr}
 use Rattle.laws_jobs.specs.Calls.{has_pointer}
-use Rattle.laws_sites.specs.Orders.{Site, does, stays_in, parked_talk, parked_fault}
+use Rattle.laws_sites.specs.Orders.{Site, does, does_all, stays_in, parked_talk, parked_fault}
 use Rattle.laws_sites.specs.Orders.Spot.{Unsure}
 use Rattle.laws_sites.specs.Orders.Pin.{NoPin}
 use Rattle.laws_sites.specs.Orders.Order.{LeadsTop, Points, Pins, Takes, Checks, ParksTalk, ParksFault}
@@ -25,7 +25,8 @@ use Rattle.laws_restore.specs.Script.{P, T, U, D, pointer_of, is_out_to, is_talk
 use Rattle.laws_restore.specs.Stages.{Mask, bound, leading, led_below, is_out_below, is_led_below, shown_talk, shown_fault, is_among}
 use Rattle.laws_restore.specs.Roomed.{GivesTalk, GivesFault, IsAim, IsPair, IsTalkAim, IsFaultAim, IsTakenAim, IsAble}
 use Rattle.laws_restore.proofs.Leaving.{Good, Leaves, leaves_on, leaves_none, place_of, ordered}
-use Rattle.laws_restore.proofs.Ways.{one, on}
+use Rattle.laws_restore.proofs.Ways.{one}
+use Rattle.laws_restore.proofs.Ways.Grouped.{NoMore, Look}
 use Rattle.laws_restore.proofs.Led.{led_kinds, led_alike}
 use Rattle.laws_restore.proofs.Pointing.{pointed}
 use Rattle.laws_restore.proofs.Halfway.{before, halfway, after, halfway_kinds, halfway_there, to_half, edit_half, from_half, edit_rest}
@@ -54,6 +55,7 @@ module _ (slot : ℕ) (Safe : ℕ → Site → Type 0) (c : World) (p : Path) wh
     pub pin : g.pin ≡ NoPin → ⊥
 
   pub opens_slot : (j : ℕ) → j ≤ LAST_USER_SLOT → ((g : Site) → IsOpening g → Safe j g) → Leaves slot Safe c p None c p (Some j) (Pins j ∷ Takes T ∷ Checks T j ∷ [])
+  unfolding does_all
   opens_slot j low safe g good =
       let s2 : Site = does (Pins j) g in
       let s3 : Site = does (Takes T) s2 in
@@ -61,12 +63,15 @@ module _ (slot : ℕ) (Safe : ℕ → Site → Type 0) (c : World) (p : Path) wh
       let first : IsOpening g = record { built = good.built; at = rw good.at refl; t = good.aimed.0; u = good.u.0; dead = rw good.dead refl; none = good.none; pin = good.pin } in
       let second : IsOpening s3 = record { built = good.built; at = rw good.at refl; t = refl; u = good.u.0; dead = rw good.dead refl; none = λ k p t u d. rw t (good.none k p t u d); pin = λ e. cc } in
       let stay : (k : ℕ) → (k ≡ T → ⊥) → stays_in (s3.spot k) ≡ true = λ k apart. others k (eqb k T) refl apart (stays_all g good k) in
-      let run1 = one slot Safe g (Pins j) (good.pin, stays_all g good, low) tt (safe g first) in
-      let run2 = on slot Safe g s2 s3 _ (Takes T ∷ []) run1 (one slot Safe s2 (Takes T) (refl, good.aimed.0, refl) tt tt) in
-      let run3 = on slot Safe g s3 s4 _ (Checks T j ∷ []) run2 (one slot Safe s3 (Checks T j) (refl, refl, stay, low) tt (safe s3 second)) in
       record {
         site = s4;
-        runs = run3;
+        runs = record {
+          may = ((good.pin, stays_all g good, low), ((refl, good.aimed.0, refl), ((refl, refl, stay, low), tt)));
+          suits = (tt, (tt, (tt, tt)));
+          safe = (safe g first, (tt, (safe s3 second, tt)));
+          grouped = Look T j [] NoMore;
+          end = refl;
+        };
         good = record {
           built = good.built;
           at = good.at;
@@ -85,7 +90,7 @@ module _ (slot : ℕ) (Safe : ℕ → Site → Type 0) (c : World) (p : Path) wh
   pub closes_slot : (j : ℕ) → Leaves slot Safe c p (Some j) c p None (LeadsTop T ∷ [])
   closes_slot j g good = record {
     site = does (LeadsTop T) g;
-    runs = one slot Safe g (LeadsTop T) (refl, rw good.aimed.0 refl) tt tt;
+    runs = one slot Safe g (LeadsTop T) (refl, rw good.aimed.0 refl) tt refl;
     good = record {
       built = good.built;
       at = good.at;
@@ -249,7 +254,7 @@ module _ (bind : ℕ → ℕ) (c : World) (root : c.body [] ≡ Some (Space 0 No
         by true h = λ g good.
             let port = is_out_at i talk.port h in
             let edit = SetTalk (Some (parked_talk (bind i) (talk_words talk))) in
-            ordered slot Safe from half q (Some (bind i)) g (ParksTalk P q x (bind i) (talk_words talk)) (apply (Alter y edit) g.built) good tt refl
+            ordered slot Safe from half q (Some (bind i)) g (ParksTalk P q x (bind i) (talk_words talk)) (apply (Alter y edit) g.built) good refl refl
             (ap (apply (Alter y edit)) good.built ∙ edit_half bind c new mid old done y (Thread_of t) its.there anew edit (talk_set y t talk e port (peer_outside talk.peer talk.port port aim)))
             (record { place = place_of slot Safe from q (Some (bind i)) g good (led_kinds bind c new old done q ∙ space); low = its.low; thread = rw good.built thread_here; pinned = good.aimed.1; port = low }) told
         by false h = leaves_none slot Safe from half q (Some (bind i)) (to_half bind c new mid old done y (Thread_of t) its.there anew (rw (e, next_below i talk.port h) refl))
@@ -263,7 +268,7 @@ module _ (bind : ℕ → ℕ) (c : World) (root : c.body [] ≡ Some (Space 0 No
         by true h = λ g good.
             let port = is_out_at i fault.port h in
             let edit = SetFault (Some (parked_fault (bind i) (taken_flag fault.taker) (fault_words fault))) in
-            ordered slot Safe half to q (Some (bind i)) g (ParksFault P q x (bind i) (taken_flag fault.taker) (fault_words fault)) (apply (Alter y edit) g.built) good tt refl
+            ordered slot Safe half to q (Some (bind i)) g (ParksFault P q x (bind i) (taken_flag fault.taker) (fault_words fault)) (apply (Alter y edit) g.built) good refl refl
             (ap (apply (Alter y edit)) good.built ∙ edit_rest bind c new mid old done y (Thread_of t) its.there anew edit (fault_set y t fault e port fault.taker refl (subst (λ (p : Ptr). IsTakenAim bind c p fault.taker) port aim)))
             (record { place = place_of slot Safe half q (Some (bind i)) g good half_space; low = its.low; thread = rw good.built thread_half; pinned = good.aimed.1; port = low }) (told.0, told.1, few_taken fault.taker)
         by false h = leaves_none slot Safe half to q (Some (bind i)) (from_half bind c new mid old done y (Thread_of t) its.there anew (rw (e, next_below i fault.port h) refl))

@@ -88,7 +88,7 @@ module _ (bind : ℕ → ℕ) (c : World) (root : c.body [] ≡ Some (Space 0 No
     pointed g r p good scratch led is has shows live fits =
         let y = x ∷ q in
         let old_body = body_old bind c new old done y b its.there anew in
-        ordered slot Safe here _ q aim g (Points P q x r) (after_pointer y (g.spot r) g.built) good tt refl
+        ordered slot Safe here _ q aim g (Points P q x r) (after_pointer y (g.spot r) g.built) good refl refl
         (ap (λ (o : Option Spot). after_pointer y o g.built) led ∙ ap (λ (m : World). apply (Alter y (SetPointer p)) m) good.built
         ∙ ap (λ (p : Ptr). apply (Alter y (SetPointer p)) here) is
         ∙ led_as bind c new old done y b its.there anew (option_map (edited (SetPointer (rebound_ptr bind (pointer_of b))))) (ap Some (pointer_set bind new old y b has shows)))

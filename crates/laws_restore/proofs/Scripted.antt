@@ -16,7 +16,7 @@ use Rattle.laws_restore.specs.Rooms.{Room}
 use Rattle.laws_restore.specs.Script.{script}
 use Rattle.laws_restore.specs.Roomed.{IsRoomed}
 use Rattle.laws_restore.specs.Laws.{finished, ScriptMakes, RestoresPicture, NeverLost}
-use Rattle.laws_restore.proofs.Ways.{SafeAll}
+use Rattle.laws_restore.proofs.Ways.{Grouped, SafeAll}
 use Rattle.laws_restore.proofs.Asked.{IsAsked}
 use Rattle.laws_restore.proofs.Whole.{script_ends}
 
@@ -37,6 +37,9 @@ script_suits slot bind c rooms its = (script_ends bind c rooms its slot).runs.su
 
 pub script_safe : (slot : ℕ) (bind : ℕ → ℕ) (c : World) (rooms : List Room) → IsRoomed bind c rooms → SafeAll (IsAsked bind c rooms) (script slot bind rooms) first
 script_safe slot bind c rooms its = (script_ends bind c rooms its slot).runs.safe
+
+pub script_grouped : (slot : ℕ) (bind : ℕ → ℕ) (c : World) (rooms : List Room) → IsRoomed bind c rooms → Grouped (script slot bind rooms)
+script_grouped slot bind c rooms its = (script_ends bind c rooms its slot).runs.grouped
 
 pub restored_shows : (nester : Path) (slot : ℕ) (bind : ℕ → ℕ) (c : World) (rooms : List Room) (es : List Event) (w v : World) (t : State) → IsRoomed bind c rooms → Shows nester slot first w →
     Interleaved (restorer slot) nester w (Working (script slot bind rooms)) es v t → head slot t ≡ Stops Done → Shows nester slot (finished bind c) v

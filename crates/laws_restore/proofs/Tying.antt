@@ -160,7 +160,7 @@ module _ (bind : ℕ → ℕ) (c : World) (root : c.body [] ≡ Some (Space 0 No
         let site = to_server.site in
         let at_port : site.spot T ≡ Some (To (At port)) = to_server.others T refl ∙ to_port.to in
         let built = to_server.good.built in
-        let next = ordered slot Safe from half q None site (LinksTalk P q x T U port server (talk_words talk)) (apply (Alter y edit) site.built) to_server.good tt refl
+        let next = ordered slot Safe from half q None site (LinksTalk P q x T U port server (talk_words talk)) (apply (Alter y edit) site.built) to_server.good refl refl
         (ap (apply (Alter y edit)) built ∙ edit_half bind c new mid old done y (Thread_of t) its.there anew edit (talk_set y t talk port server e p s))
         (record {
           place = place_of slot Safe from q None site to_server.good (from_kinds q ∙ space);
@@ -217,7 +217,7 @@ module _ (bind : ℕ → ℕ) (c : World) (root : c.body [] ≡ Some (Space 0 No
         let to_port = leads_t slot Safe half q port g good (halfway_way bind c new mid old done y (Thread_of t) its.there anew port aim.0) in
         let site = to_port.site in
         let built = to_port.good.built in
-        let next = ordered slot Safe half to q None site (RaisesFault P q x T port (fault_words fault)) (apply (Alter y edit) site.built) to_port.good tt refl
+        let next = ordered slot Safe half to q None site (RaisesFault P q x T port (fault_words fault)) (apply (Alter y edit) site.built) to_port.good refl refl
         (ap (apply (Alter y edit)) built ∙ edit_rest bind c new mid old done y (Thread_of t) its.there anew edit (raise_set y t fault port e p s))
         (record {
           place = place_of slot Safe half q None site to_port.good (half_kinds q ∙ space);
@@ -241,7 +241,7 @@ module _ (bind : ℕ → ℕ) (c : World) (root : c.body [] ≡ Some (Space 0 No
         let site = to_taker.site in
         let at_port : site.spot T ≡ Some (To (At port)) = to_taker.others T refl ∙ to_port.to in
         let built = to_taker.good.built in
-        let next = ordered slot Safe half to q None site (LinksFault P q x T U port taker (fault_words fault)) (apply (Alter y edit) site.built) to_taker.good tt refl
+        let next = ordered slot Safe half to q None site (LinksFault P q x T U port taker (fault_words fault)) (apply (Alter y edit) site.built) to_taker.good refl refl
         (ap (apply (Alter y edit)) built ∙ edit_rest bind c new mid old done y (Thread_of t) its.there anew edit (taken_set y t fault port taker e p s))
         (record {
           place = place_of slot Safe half q None site to_taker.good (half_kinds q ∙ space);

@@ -1,5 +1,5 @@
 -- Orders that may be given one after another, and the ways of scratch references.
-use Rattle.std.proofs.Common.{◌≡◌, ℕ, true, false, eqb, IsSome, List, [], ◌∷◌, ◌++◌, Option, Some, None, option_map, refl, sym, ap, subst, eq-eqb, ◌∙◌}
+use Rattle.std.proofs.Common.{◌≡◌, ℕ, Bool, true, false, eqb, IsSome, List, [], ◌∷◌, ◌++◌, Option, Some, None, option_map, refl, sym, ap, subst, eq-eqb, ◌∙◌}
 use Rattle.std.specs.List.{list_any}
 use Rattle.fk_model.specs.declared.names.Kind.TheVariants as kinds
 use Rattle.fk_model.specs.Places.{Path, strip}
@@ -12,7 +12,7 @@ use Rattle.fk_model.proofs.walks.PlaceLaws.{strip_some}
 use Rattle.laws_sites.specs.Orders.{Site, Order, does, does_all, May, MayAll, is_space, is_ref_slot, Named, IsPlace}
 use Rattle.laws_sites.specs.Orders.Spot.{To}
 use Rattle.laws_sites.specs.Orders.Named.{ByRoot, ByScratch}
-use Rattle.laws_sites.specs.Orders.Order.{Leads, LeadsTop, Pins, Checks}
+use Rattle.laws_sites.specs.Orders.Order.{Leads, LeadsTop, Pins, Takes, Checks}
 use Rattle.laws_sites.specs.Owed.{Suits, SuitsAll}
 use Rattle.laws_restore.specs.Fits.{there, is_referable, IsWay}
 use Rattle.laws_restore.specs.Script.{P, down, root_down, from_root, goes_by, goes_to, leads_by, leads_to_at}
@@ -55,12 +55,35 @@ unfolding does_all
 suits_append [] ps g first then = then
 suits_append (o ∷ os) ps g first then = (first.0, suits_append os ps (does o g) first.1 then)
 
+-- ---- a port is looked for by three orders, one after another
+
+abbrev pub is_look : Order → Bool
+is_look (Pins i) = true
+is_look (Takes r) = true
+is_look (Checks r i) = true
+is_look other = false
+
+pub data Grouped : List Order → Type 0 where
+  NoMore : Grouped []
+  Other : (o : Order) (os : List Order) → is_look o ≡ false → Grouped os → Grouped (o ∷ os)
+  Look : (r j : ℕ) (os : List Order) → Grouped os → Grouped (Pins j ∷ Takes r ∷ Checks r j ∷ os)
+
+grouped_append : (os ps : List Order) → Grouped os → Grouped ps → Grouped (os ++ ps)
+grouped_append _ ps NoMore then = then
+grouped_append _ ps (Other o os off first) then = Other o (os ++ ps) off (grouped_append os ps first then)
+grouped_append _ ps (Look r j os first) then = Look r j (os ++ ps) (grouped_append os ps first then)
+
 -- what is to hold of each site at which a port is asked for in a slot of the nester
 module _ (Safe : ℕ → Site → Type 0) where
   abbrev pub SafeAt : Order → Site → Type 0
   SafeAt (Pins i) g = Safe i g
   SafeAt (Checks r i) g = Safe i g
   SafeAt other g = Unit {0}
+
+  safe_else : (o : Order) (g : Site) → is_look o ≡ false → SafeAt o g
+  safe_else (Pins i) g off = cc
+  safe_else (Checks r i) g off = cc
+  safe_else o g off = tt
 
   abbrev pub SafeAll : List Order → Site → Type 0
   SafeAll [] g = Unit {0}
@@ -76,21 +99,23 @@ module _ (slot : ℕ) (Safe : ℕ → Site → Type 0) where
     pub may : MayAll slot os g
     pub suits : SuitsAll os g
     pub safe : SafeAll Safe os g
+    pub grouped : Grouped os
     pub end : does_all os g ≡ h
 
   pub none : (g : Site) → Runs g g []
   unfolding does_all
-  none g = record { may = tt; suits = tt; safe = tt; end = refl }
+  none g = record { may = tt; suits = tt; safe = tt; grouped = NoMore; end = refl }
 
-  pub one : (g : Site) (o : Order) → May slot o g → Suits g o → SafeAt Safe o g → Runs g (does o g) (o ∷ [])
+  pub one : (g : Site) (o : Order) → May slot o g → Suits g o → is_look o ≡ false → Runs g (does o g) (o ∷ [])
   unfolding does_all
-  one g o may suits safe = record { may = (may, tt); suits = (suits, tt); safe = (safe, tt); end = refl }
+  one g o may suits off = record { may = (may, tt); suits = (suits, tt); safe = (safe_else Safe o g off, tt); grouped = Other o [] off NoMore; end = refl }
 
   pub on : (g h k : Site) (os ps : List Order) → Runs g h os → Runs h k ps → Runs g k (os ++ ps)
   on g h k os ps first second = record {
     may = may_append slot os ps g first.may (subst (λ (s : Site). MayAll slot ps s) (sym first.end) second.may);
     suits = suits_append os ps g first.suits (subst (λ (s : Site). SuitsAll ps s) (sym first.end) second.suits);
     safe = safe_append Safe os ps g first.safe (subst (λ (s : Site). SafeAll Safe ps s) (sym first.end) second.safe);
+    grouped = grouped_append os ps first.grouped second.grouped;
     end = does_append os ps g ∙ ap (does_all ps) first.end ∙ second.end;
   }
 
@@ -106,7 +131,7 @@ module _ (slot : ℕ) (Safe : ℕ → Site → Type 0) where
     pub others : (k : ℕ) → eqb k r ≡ false → site.spot k ≡ g.spot k
 
   pub top : (g : Site) (r : ℕ) → is_ref_slot r ≡ true → IsSome (g.spot r) → Walked g r [] (LeadsTop r ∷ [])
-  top g r is ready = record { site = does (LeadsTop r) g; runs = one g (LeadsTop r) (is, ready) tt tt; built = refl; pin = refl; at = rw (eq-eqb r r refl) refl; others = λ k off. rw off refl }
+  top g r is ready = record { site = does (LeadsTop r) g; runs = one g (LeadsTop r) (is, ready) tt refl; built = refl; pin = refl; at = rw (eq-eqb r r refl) refl; others = λ k off. rw off refl }
 
   -- one step down, from a space that is named
   first_step : (g : Site) (r s k : ℕ) (q : Path) → is_ref_slot r ≡ true → IsSome (g.spot r) → Named g slot s q → IsWay (there g.built) (k ∷ q) → Walked g r (k ∷ q) (Leads r s q k ∷ [])
@@ -115,7 +140,7 @@ module _ (slot : ℕ) (Safe : ℕ → Site → Type 0) where
       let place : IsPlace g slot s q = record { named = named; space = space_kind (g.built.body q) way.2 } in
       record {
         site = does (Leads r s q k) g;
-        runs = one g (Leads r s q k) (record { scratch = is; ready = ready; place = place; low = way.1; object = object.body; there = object.there; leads = object.leads }) tt tt;
+        runs = one g (Leads r s q k) (record { scratch = is; ready = ready; place = place; low = way.1; object = object.body; there = object.there; leads = object.leads }) tt refl;
         built = refl;
         pin = refl;
         at = rw (eq-eqb r r refl) refl;

@@ -24,6 +24,7 @@ use Rattle.laws_restore.specs.Script.{P, T, U, D, has, each, through_rooms, afte
 use Rattle.laws_restore.specs.Stages.{Mask, nowhere, shown_talk, shown_fault, anywhere, nothing_led, led_below, all_led, recorded, blank, is_among, is_given, built_at, building, bound, leading}
 use Rattle.laws_restore.specs.Roomed.{IsNewSpace, with_space, AreSpaces, all_made, all_given, with_spaces, IsRoomed}
 use Rattle.laws_restore.proofs.Ways.{Runs, on}
+use Rattle.laws_restore.proofs.Ways.Grouped.{NoMore, Other}
 use Rattle.laws_restore.proofs.Lists.{IsSub}
 use Rattle.laws_restore.proofs.Leaving.{Good, Leaves, leaves_on, leaves_none, leaves_to}
 use Rattle.laws_restore.proofs.Filled.{spaces_made, rooms_filled}
@@ -80,6 +81,7 @@ module _ (slot : ℕ) (Safe : ℕ → Site → Type 0) where
     );
     suits = (tt, (tt, (tt, (tt, (tt, (tt, (tt, (tt, (tt, tt)))))))));
     safe = (tt, (tt, (tt, (tt, (tt, (tt, (tt, (tt, (tt, tt)))))))));
+    grouped = Other _ _ refl (Other _ _ refl (Other _ _ refl (Other _ _ refl (Other _ _ refl (Other _ _ refl (Other _ _ refl (Other _ _ refl (Other _ _ refl NoMore))))))));
     end = refl;
   }
 
@@ -377,6 +379,7 @@ module _ (bind : ℕ → ℕ) (c : World) (rooms : List Room) (its : IsRoomed bi
         );
         suits = (tt, (tt, (tt, (tt, (tt, (tt, (tt, tt)))))));
         safe = (tt, (tt, (tt, (tt, (tt, (tt, (tt, tt)))))));
+        grouped = Other _ _ refl (Other _ _ refl (Other _ _ refl (Other _ _ refl (Other _ _ refl (Other _ _ refl (Other _ _ refl NoMore))))));
         end = refl;
       };
       built = good.built;

@@ -11,7 +11,7 @@
 ghost use Rattle.laws_restore.specs.Laws.{ScriptMakes, RestoresPicture, NeverLost};
 ghost use Rattle.laws_restore.specs.Example.{SmallIsRoomed, OneScript};
 ghost use Rattle.laws_restore.specs.Ends.{RestoreEndsSo, RestoreIsOwed, RestoreIsTidy, RestoreIsCounted, RestoreRestores};
-ghost use Rattle.laws_restore.specs.Exact.{RestoreIsReady};
+ghost use Rattle.laws_restore.specs.Exact.{RestoreIsReady, NoPortIsExact};
 ghost use Rattle.laws_restore.specs.Bounded.{ScriptIsBounded, RestoreIsBounded};
 
 /// The script of a subtree may be given to a new space order by order, and makes that subtree with its ports bound.
@@ -48,6 +48,12 @@ pub fn a_restore_is_tidy()
 /// Its next call is ready wherever its porter is free and no space outside the new one is held.
 pub fn a_restores_next_call_is_ready()
     ensures { RestoreIsReady }
+{}
+
+/// It ends for want of a port exactly where it leads to a slot of the nester in which none stands, and tells the lowest slot of
+/// the image that is bound there.
+pub fn a_missing_port_is_told_exactly()
+    ensures { NoPortIsExact }
 {}
 
 /// What a run wants of a restore that is done: a plain subtree, which is the picture with its ports bound.
