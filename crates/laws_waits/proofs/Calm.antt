@@ -153,7 +153,12 @@ module _ (w : World) (me : Path) (e : Edit) (t : Thread) (there : thread_at w me
       (apart.0, unstirred _, apart.1, page-left w me e t there (parent x) address far, memory-left w me e t there)
   quiet-touches x (Ending y space) stuck apart = (apart, unstirred y, held-other w me e t there space stuck.2.1)
   quiet-touches x (Waiting set) stuck apart = (apart, set-other w me e t there (parent x) set stuck.1.1, nobody x (set ∷ parent x))
-  quiet-touches x (WaitingOut set) stuck apart = (apart, set-other w me e t there (parent x) set stuck.1.1, nobody x (set ∷ parent x), λ space held. held-other w me e t there space held)
+  quiet-touches x (WaitingOut set) stuck apart = (
+    apart,
+    set-other w me e t there (parent x) set stuck.1.1,
+    nobody x (set ∷ parent x),
+    λ space held. held-other w me e t there space held,
+  )
   quiet-touches x (Holding s j space) stuck apart =
       (apart, place-left w me e t there x s space stuck.2, space-other w me e t there (j ∷ space) stuck.3, λ q h. off-right (same_path q me) _ plain.2)
   quiet-touches x Barred stuck apart = absurd apart

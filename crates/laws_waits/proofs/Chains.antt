@@ -55,7 +55,8 @@ last-apart : (next prev : ℕ → ℕ) (a x : ℕ) (l : List ℕ) (y n : ℕ) �
 last-apart next prev a x [] y n way first none e = first (e ∙ way.1)
 last-apart next prev a x (z ∷ l) y n way first none e = last-apart next prev a z l y n way.2 none.0 none.1 e
 
-joins : (next prev : ℕ → ℕ) (x : ℕ) (l : List ℕ) (y node : ℕ) → IsWay next prev x l y → IsNoneOf x l → AreApart l → IsNoneOf y l → node ≢ y → IsNoneOf node (x ∷ l) →
+joins : (next prev : ℕ → ℕ) (x : ℕ) (l : List ℕ) (y node : ℕ) → IsWay next prev x l y → IsNoneOf x l → AreApart l → IsNoneOf y l → node ≢ y
+    → IsNoneOf node (x ∷ l) →
     IsWay (put_at (put_at next (prev y) node) node y) (put_at (put_at prev y node) node (prev y)) x (l ++ node ∷ []) y
 joins next prev x [] y node way self apart end other off =
     let last = way.1 in (
@@ -81,7 +82,8 @@ joins_last_lem next prev head node l is off = record {
 
 -- ---- a node leaves
 
-after-leaving : (next prev : ℕ → ℕ) (x node : ℕ) (k : List ℕ) (y : ℕ) → next x ≡ node → prev node ≡ x → IsWay next prev node k y → IsNoneOf x k → AreApart k → IsNoneOf y k →
+after-leaving : (next prev : ℕ → ℕ) (x node : ℕ) (k : List ℕ) (y : ℕ) → next x ≡ node → prev node ≡ x → IsWay next prev node k y → IsNoneOf x k → AreApart k
+    → IsNoneOf y k →
     IsWay (put_at next (prev node) (next node)) (put_at prev (next node) (prev node)) x k y
 after-leaving next prev x node [] y to from way self apart end = (
   ap (λ p. put_at next p (next node) x) from ∙ put-same next x (next node) ∙ way.0,
@@ -104,7 +106,8 @@ behind-apart next prev x node (z ∷ l) k y n way none end e = behind-apart next
 behind-apart next prev x node [] [] y n way none end e = end (e ∙ way.2.0)
 behind-apart next prev x node [] (z ∷ k) y n way none end e = none.0 (e ∙ way.2.0)
 
-leaves : (next prev : ℕ → ℕ) (x node : ℕ) (l k : List ℕ) (y : ℕ) → IsWay next prev x (l ++ node ∷ k) y → AreApart (x ∷ (l ++ node ∷ k)) → IsNoneOf y (l ++ node ∷ k) →
+leaves : (next prev : ℕ → ℕ) (x node : ℕ) (l k : List ℕ) (y : ℕ) → IsWay next prev x (l ++ node ∷ k) y → AreApart (x ∷ (l ++ node ∷ k))
+    → IsNoneOf y (l ++ node ∷ k) →
     IsWay (put_at next (prev node) (next node)) (put_at prev (next node) (prev node)) x (l ++ k) y
 leaves next prev x node [] k y way apart end = after-leaving next prev x node k y way.0 way.1 way.2 apart.0.1 apart.1.1 end.1
 leaves next prev x node (z ∷ l) k y way apart end =

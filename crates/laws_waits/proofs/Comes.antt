@@ -62,7 +62,8 @@ module _ (v : World) (z y : Path) where
   called f t u same h = by (is_some u.talk) refl (first_stage u.mode) refl h
     where
       by : (b : Bool) → is_some u.talk ≡ b → (o : Option Stage) → first_stage u.mode ≡ o →
-          holds f (if b then None else and_then (port_named v y) o) ≡ true → holds f (if is_some t.talk then None else and_then (port_named v y) (first_stage t.mode)) ≡ true
+          holds f (if b then None else and_then (port_named v y) o) ≡ true
+          → holds f (if is_some t.talk then None else and_then (port_named v y) (first_stage t.mode)) ≡ true
       by true e o g h = cc
       by false e None g h = cc
       by false e (Some (Connect handle)) g h =
@@ -133,7 +134,8 @@ module _ (w : World) (c : Change) (x z : Path) (brings : BringsNobody w c x z) w
       holds (is_in (apply c w) z) (connecting_to (apply c w) y t) ≡ true → holds (is_in w z) (connecting_to w y t) ≡ true
   call_old y t named inside = by (is_some t.talk) (first_stage t.mode) refl inside
     where
-      by : (b : Bool) (o : Option Stage) → first_stage t.mode ≡ o → holds (is_in (apply c w) z) (if b then None else and_then (port_named (apply c w) y) o) ≡ true →
+      by : (b : Bool) (o : Option Stage) → first_stage t.mode ≡ o
+          → holds (is_in (apply c w) z) (if b then None else and_then (port_named (apply c w) y) o) ≡ true →
           holds (is_in w z) (if b then None else and_then (port_named w y) o) ≡ true
       by true o e inside = cc
       by false None e inside = cc
@@ -183,8 +185,10 @@ module _ (w : World) (c : Change) (x z : Path) (brings : BringsNobody w c x z) w
     where
       served : (e : Edit) (t : Thread) → is_served_by x (turned e t) ≡ is_served_by x t
       served e t =
-          ap (λ b. b || holds (λ (fault : Fault). holds (serves x) fault.taker) (turned e t).fault) (quiet_talk (λ talk. serves x talk.peer) (λ talk n. refl) e t)
-          ∙ ap (λ (o : Option Fault). holds (λ (talk : Talk). serves x talk.peer) t.talk || holds (λ (fault : Fault). holds (serves x) fault.taker) o) (quiet_fault e t)
+          ap (λ b. b || holds (λ (fault : Fault). holds (serves x) fault.taker) (turned e t).fault)
+          (quiet_talk (λ talk. serves x talk.peer) (λ talk n. refl) e t)
+          ∙ ap (λ (o : Option Fault). holds (λ (talk : Talk). serves x talk.peer) t.talk || holds (λ (fault : Fault). holds (serves x) fault.taker) o)
+          (quiet_fault e t)
 
       by : (b : Bool) → stirs w c y ≡ b → holds (is_served_by x) (thread_at (apply c w) y) ≡ false
       by true e = brings.unserved y e

@@ -95,10 +95,18 @@ module _ (w : World) (unheld : (q : Path) → decider w q ≡ None) (me : Path) 
   or-true false = refl
 
   allowed : (c : Change) → IsAllowed w me c
-  allowed (Alter x edit) = record { object = unfrozen x; changed = all-free (option_list (changed_pointers edit) (w.body x)); made = all-free (made_pointers edit) }
+  allowed (Alter x edit) = record {
+    object = unfrozen x;
+    changed = all-free (option_list (changed_pointers edit) (w.body x));
+    made = all-free (made_pointers edit);
+  }
   allowed (Make x body) = record { object = unfrozen x; made = all-free (pointers body) }
   allowed (MakeSpace x holder) = record { object = unfrozen x; made = all-free (option_list (λ p. p ∷ []) holder) }
-  allowed (Kill x) = record { object = unfrozen x; changed = all-free (body_pointers (w.body x)); others = λ q. rw (unfrozen q, all-free (lost_with x (w.body q))) (or-true (not (is_swept x q (w.body q)))) }
+  allowed (Kill x) = record {
+    object = unfrozen x;
+    changed = all-free (body_pointers (w.body x));
+    others = λ q. rw (unfrozen q, all-free (lost_with x (w.body q))) (or-true (not (is_swept x q (w.body q))));
+  }
   allowed (Move x slot) = record { object = unfrozen x; others = λ q. rw (unfrozen q) (or-true (not (is_swept x q (w.body q)))) }
   allowed (PutPage space page words) = unfrozen space
   allowed (DropPage space page) = unfrozen space
@@ -114,7 +122,8 @@ module _ (w : World) (unheld : (q : Path) → decider w q ≡ None) (x : Path) w
   closed-ready (Goes changes said) moves = all-allowed w unheld x changes
   closed-ready Waits moves = absurd (moves refl)
 
-  pub stage-ready : (stage : Stage) → chooses stage ≡ false → (allowed_row w (user_at x) None stage ≡ Waits → ⊥) → GoesAllowed w x (call_row w (user_at x) None stage)
+  pub stage-ready : (stage : Stage) → chooses stage ≡ false → (allowed_row w (user_at x) None stage ≡ Waits → ⊥)
+      → GoesAllowed w x (call_row w (user_at x) None stage)
   unfolding call_row
   stage-ready stage plain moves =
       subst (λ b. GoesAllowed w x (closed (user_at x) (with_pick b None (allowed_row w (user_at x) None stage)))) (sym plain)
@@ -128,7 +137,8 @@ module _ (w : World) (unheld : (q : Path) → decider w q ≡ None) (x : Path) w
       by false h = never_wait_lem w (user_at x) None stage other h
 
   -- a thread at a stage that it makes is ready
-  pub thread_ready : (pick : Option Path) (t : Thread) (stage : Stage) (todo : List Stage) (rest : List ℕ) → thread_at w x ≡ Some t → is_free w (parent x) t ≡ true →
+  pub thread_ready : (pick : Option Path) (t : Thread) (stage : Stage) (todo : List Stage) (rest : List ℕ) → thread_at w x ≡ Some t
+      → is_free w (parent x) t ≡ true →
       t.mode ≡ Calling (stage ∷ todo) rest → GoesAllowed w x (call_row w (user_at x) pick stage) → IsReady w x pick asks.Run
   unfolding outcome
   thread_ready pick t stage todo rest there free mode goes =
@@ -174,7 +184,8 @@ module _ (w : World) (space me : Path) (g : List ℕ) (counter : ℕ) where
 instruction-acts : (w : World) (space : Path) (slot : ℕ) (g : List ℕ) (counter : ℕ) → IsAct (run_row w space slot g counter)
 unfolding run_row_by
 instruction-acts w space slot g counter =
-    access-acts (slot ∷ space) false (halts_with (slot ∷ space) g counter) (executes todo_of w space (slot ∷ space) g counter) (reach_word w space counter false)
+    access-acts (slot ∷ space) false (halts_with (slot ∷ space) g counter) (executes todo_of w space (slot ∷ space) g counter)
+    (reach_word w space counter false)
     (stop-acts w space (slot ∷ space) g counter) (λ s page. performs-acts w space (slot ∷ space) g counter (act (word_at w s page counter) g counter))
 
 -- ---- what a row that waits has read
@@ -204,7 +215,8 @@ module _ (w : World) (k : ℕ) (s : Path) where
           on None h = cc
           on (Some c) h = cc
 
-      by : (b : Bool) → and_read (if b then Ok j else Err status.BADHANDLE) (λ j. seen_as view (w.body (j ∷ space))) ≡ Ok a → (b ≡ true) × (and_then view (w.body (j ∷ space)) ≡ Some a)
+      by : (b : Bool) → and_read (if b then Ok j else Err status.BADHANDLE) (λ j. seen_as view (w.body (j ∷ space))) ≡ Ok a
+          → (b ≡ true) × (and_then view (w.body (j ∷ space)) ≡ Some a)
       by true h = (refl, seen (w.body (j ∷ space)) h)
       by false h = cc
 
@@ -233,7 +245,8 @@ module _ (w : World) (k : ℕ) (s : Path) where
       let seen = object-is mutex_of s m got.0 got.1 in
       by got.0 got.2 seen.1 seen.0
     where
-      by : (locked : Bool) → when (not locked) (done (user_at me) (sets_locked (m ∷ s) true ∷ []) []) ≡ Waits → and_then mutex_of (w.body (m ∷ s)) ≡ Some locked →
+      by : (locked : Bool) → when (not locked) (done (user_at me) (sets_locked (m ∷ s) true ∷ []) []) ≡ Waits
+          → and_then mutex_of (w.body (m ∷ s)) ≡ Some locked →
           nat_le m LAST_USER_SLOT ≡ true → HasReason w me
       by true h seen low = found (Locking m) (at, low, seen) refl
       by false h seen low = absurd (cc)
@@ -252,7 +265,8 @@ module _ (w : World) (k : ℕ) (s : Path) where
   no-some (Some a) h = cc
 
   module _ (whole : IsWholeWorld w) where
-    handled-at : (z : Path) (o : Option Body) (p : Ptr) → list_any is_outer (body_pointers o) ≡ false → handled w kinds.Port z o ≡ Ok p → (port : Path) × (p ≡ At port)
+    handled-at : (z : Path) (o : Option Body) (p : Ptr) → list_any is_outer (body_pointers o) ≡ false → handled w kinds.Port z o ≡ Ok p
+        → (port : Path) × (p ≡ At port)
     handled-at z None p inner h = cc
     handled-at z (Some (Reference Null)) p inner h = cc
     handled-at z (Some (Reference Dead)) p inner h = cc
@@ -276,7 +290,8 @@ module _ (w : World) (k : ℕ) (s : Path) where
         by (nat_le h LAST_USER_SLOT) refl got.0 got.1 (no-some (talk_at w me) talk.0)
       where
         by : (b : Bool) → nat_le h LAST_USER_SLOT ≡ b → (p : Ptr) →
-            and_read (if b then Ok h else Err status.BADHANDLE) (λ h. handled w kinds.Port (h ∷ s) (w.body (h ∷ s))) ≡ Ok p → talk_at w me ≡ None → HasReason w me
+            and_read (if b then Ok h else Err status.BADHANDLE) (λ h. handled w kinds.Port (h ∷ s) (w.body (h ∷ s))) ≡ Ok p → talk_at w me ≡ None
+            → HasReason w me
         by true low p leads none =
             let port = handled-at (h ∷ s) (w.body (h ∷ s)) p (whole (h ∷ s)) leads in
             found (Connecting h port.0) (at, low, none, leads ∙ ap Ok port.1) refl
@@ -325,7 +340,8 @@ module _ (w : World) (k : ℕ) (s : Path) where
           on client (talk_at w client) refl serving h
 
   -- a call's own page that makes it wait is there
-  own-there : (write : Bool) (go : Path → ℕ → Outcome) (r : Reach) → own_page_at me write go r ≡ Waits → (is_home r ≡ true) × ((t : Path) × (g : ℕ) × (go t g ≡ Waits))
+  own-there : (write : Bool) (go : Path → ℕ → Outcome) (r : Reach) → own_page_at me write go r ≡ Waits
+      → (is_home r ≡ true) × ((t : Path) × (g : ℕ) × (go t g ≡ Waits))
   own-there write go (Home t g) h = (refl, (t, g, h))
   own-there write go (Missing t g (Some port)) h = absurd (cc)
   own-there write go (Missing t g None) h = absurd (cc)
@@ -353,12 +369,15 @@ module _ (w : World) (k : ℕ) (s : Path) where
     inner-at Far wanted inner good = cc
 
     -- a talk's port and its peer are inside
-    talk-good : (x : Path) (talk : Talk) → talk_at w x ≡ Some talk → (is_good_talk (kind_there w) talk ≡ true) × (list_any is_outer (talk_pointers talk) ≡ false)
+    talk-good : (x : Path) (talk : Talk) → talk_at w x ≡ Some talk
+        → (is_good_talk (kind_there w) talk ≡ true) × (list_any is_outer (talk_pointers talk) ≡ false)
     talk-good x talk at = by (w.body x) (valid.consistent.good x) (whole x) at
       where
         by : (o : Option Body) → all_in (is_good (kind_there w) x) o ≡ true → list_any is_outer (body_pointers o) ≡ false →
-            and_then (λ (t : Thread). t.talk) (and_then thread_of o) ≡ Some talk → (is_good_talk (kind_there w) talk ≡ true) × (list_any is_outer (talk_pointers talk) ≡ false)
-        by (Some (Thread_of t)) good inner at = on t.talk at (and_parts _ _ good).0 (or_off _ _ (sym (list_any-append is_outer (option_list talk_pointers t.talk) (option_list fault_pointers t.fault)) ∙ inner)).0
+            and_then (λ (t : Thread). t.talk) (and_then thread_of o) ≡ Some talk
+            → (is_good_talk (kind_there w) talk ≡ true) × (list_any is_outer (talk_pointers talk) ≡ false)
+        by (Some (Thread_of t)) good inner at = on t.talk at (and_parts _ _ good).0
+            (or_off _ _ (sym (list_any-append is_outer (option_list talk_pointers t.talk) (option_list fault_pointers t.fault)) ∙ inner)).0
           where
             on : (o : Option Talk) → o ≡ Some talk → all_in (is_good_talk (kind_there w)) o ≡ true → list_any is_outer (option_list talk_pointers o) ≡ false →
                 (is_good_talk (kind_there w) talk ≡ true) × (list_any is_outer (talk_pointers talk) ≡ false)
@@ -386,7 +405,8 @@ module _ (w : World) (k : ℕ) (s : Path) where
     no-hold-free : (y : Path) (t : Thread) → is_resting t ≡ false → is_free w (parent y) t ≡ true
     no-hold-free y t awake = awake-free w s 0 y t (rw (unheld (parent y)) refl) (rw awake refl)
 
-    away : (side : Turn) (y : Path) (t : Thread) → (is_free w (parent y) t && is_some (receiving (other_side side) t.mode)) ≡ false → is_at_hand (other_side side) t ≡ false
+    away : (side : Turn) (y : Path) (t : Thread) → (is_free w (parent y) t && is_some (receiving (other_side side) t.mode)) ≡ false
+        → is_at_hand (other_side side) t ≡ false
     away side y t h = by (is_resting t) refl
       where
         by : (b : Bool) → is_resting t ≡ b → (not b && is_some (receiving (other_side side) t.mode)) ≡ false
@@ -405,30 +425,39 @@ module _ (w : World) (k : ℕ) (s : Path) where
         by true e h = absurd (cc)
         by false e h = away side y t e
 
-    talks-to : (side : Turn) (client : Path) (talk : Talk) (end : End_of_talk) → talk_at w (talk_place side me client) ≡ Some talk → is_talk_of side me side talk ≡ true →
+    talks-to : (side : Turn) (client : Path) (talk : Talk) (end : End_of_talk) → talk_at w (talk_place side me client) ≡ Some talk
+        → is_talk_of side me side talk ≡ true →
         is_with side client end talk ≡ true → IsTalkingTo w me side client end
     talks-to side client talk end at is with_it =
         ap (holds (λ (talk : Talk). is_talk_of side me side talk && is_with side client end talk)) at ∙ rw (is, with_it) refl
 
-    over-client : (client : Path) (talk : Talk) (p : Peer) → IsAtStage w me ClientOver → talk_at w me ≡ Some talk → is_talk_of turns.Client me turns.Client talk ≡ true →
+    over-client : (client : Path) (talk : Talk) (p : Peer) → IsAtStage w me ClientOver → talk_at w me ≡ Some talk
+        → is_talk_of turns.Client me turns.Client talk ≡ true →
         talk.peer ≡ p → passes_to w (user_at me) turns.Client (line_of turns.Client me client talk) p ≡ Waits → HasReason w me
     over-client client talk (Server q) stage at is peer h =
         let y = peer-at me talk q at peer in
         let to : talk.peer ≡ Server (At y.0) = peer ∙ ap Server y.1 in
-        let gone = over-end turns.Client me y.0 (thread_at w y.0) (subst (λ q. passes_to_thread w (user_at me) turns.Client me (thread_led_to w q) ≡ Waits) y.1 h) in
-        found (Passing turns.Client client (Absent y.0)) (stage, talks-to turns.Client client talk (Absent y.0) at is (ap (serves y.0) to ∙ same_path_refl y.0), gone) refl
+        let gone = over-end turns.Client me y.0 (thread_at w y.0)
+        (subst (λ q. passes_to_thread w (user_at me) turns.Client me (thread_led_to w q) ≡ Waits) y.1 h) in
+        found (Passing turns.Client client (Absent y.0))
+        (stage, talks-to turns.Client client talk (Absent y.0) at is (ap (serves y.0) to ∙ same_path_refl y.0), gone) refl
     over-client client talk Parked stage at is peer h =
         found (Passing turns.Client client Unclaimed) (stage, talks-to turns.Client client talk Unclaimed at is (ap (λ q. is_parked (Some q)) peer), tt) refl
     over-client client talk Service stage at is peer h =
         let on = service-open me talk at in
-        let goes : when true (telling (Passed talk.port) (passes (user_at me) turns.Client me [])) ≡ Waits = subst (λ b. when b (telling (Passed talk.port) (passes (user_at me) turns.Client me [])) ≡ Waits) on h in
+        let goes : when true (telling (Passed talk.port) (passes (user_at me) turns.Client me []))
+        ≡ Waits = subst (λ b. when b (telling (Passed talk.port) (passes (user_at me) turns.Client me [])) ≡ Waits) on h in
         absurd (cc)
 
-    over-server : (client : Path) (talk : Talk) → IsAtStage w me ServerOver → talk_at w client ≡ Some talk → is_talk_of turns.Server me turns.Server talk ≡ true →
+    over-server : (client : Path) (talk : Talk) → IsAtStage w me ServerOver → talk_at w client ≡ Some talk
+        → is_talk_of turns.Server me turns.Server talk ≡ true →
         passes_to w (user_at me) turns.Server (line_of turns.Server me client talk) (Server (At client)) ≡ Waits → HasReason w me
     over-server client talk stage at is h =
-        found (Passing turns.Server client (Absent client))
-        (stage, talks-to turns.Server client talk (Absent client) at is (same_path_refl client), over-end turns.Server client client (thread_at w client) h) refl
+        found (Passing turns.Server client (Absent client)) (
+          stage,
+          talks-to turns.Server client talk (Absent client) at is (same_path_refl client),
+          over-end turns.Server client client (thread_at w client) h,
+        ) refl
 
     over-reason : (side : Turn) → IsAtStage w me (over_stage side) → over w (user_at me) side ≡ Waits → HasReason w me
     unfolding over
@@ -457,7 +486,8 @@ module _ (w : World) (k : ℕ) (s : Path) where
     words-move : (client y : Path) (k address count : ℕ) (page : List ℕ) (into : ℕ) (t : Path) (g : ℕ) (other : List ℕ) →
         sends_words (user_at me) client y k address count page into t g other ≡ Waits → ⊥
     words-move client y k address count page into t g other =
-        sent-moves k count (PutPage t g (overwritten other (into % PAGE_WORDS) (block k address page)) ∷ Alter client (CountMoved k) ∷ Alter y (Shift k) ∷ []) Nothing
+        sent-moves k count (PutPage t g (overwritten other (into % PAGE_WORDS) (block k address page)) ∷ Alter client (CountMoved k) ∷ Alter y (Shift k)
+        ∷ []) Nothing
 
     service-moves : (client : Path) (port : Ptr) (address count : ℕ) (page : List ℕ) → sends_to_service (user_at me) client port address count page ≡ Waits → ⊥
     service-moves client port address count page =
@@ -472,7 +502,8 @@ module _ (w : World) (k : ℕ) (s : Path) where
       where
         on : (into room : ℕ) → receiving (other_side side) t.mode ≡ Some (into, room) → (b : Bool) → (room == 0) ≡ b →
             (if b then Goes (Alter y (End status.FULL []) ∷ []) Nothing else their_page_at (λ t other_page.
-            sends_words (user_at me) client y (moved_words address count into room) address count page into t other_page (words_at w t other_page)) (reach_word w (parent y) into true)) ≡ Waits →
+            sends_words (user_at me) client y (moved_words address count into room) address count page into t other_page (words_at w t other_page))
+            (reach_word w (parent y) into true)) ≡ Waits →
             (is_at_hand (other_side side) t ≡ false) ⊎ Lack side y
         on into room there true e h = absurd (cc)
         on into room there false e h =
@@ -480,8 +511,10 @@ module _ (w : World) (k : ℕ) (s : Path) where
               into,
               room,
               (ap (and_then (λ (t : Thread). receiving (other_side side) t.mode)) at ∙ there, e),
-              page-away (λ t other_page. sends_words (user_at me) client y (moved_words address count into room) address count page into t other_page (words_at w t other_page))
-                  (reach_word w (parent y) into true) (λ t g. words-move client y (moved_words address count into room) address count page into t g (words_at w t g)) h,
+              page-away (λ t other_page. sends_words (user_at me) client y (moved_words address count into room) address count page into t other_page
+                  (words_at w t other_page))
+                  (reach_word w (parent y) into true)
+                  (λ t g. words-move client y (moved_words address count into room) address count page into t g (words_at w t g)) h,
             )
 
         by : (b : Bool) → is_free w (parent y) t ≡ b → (o : Option (ℕ × ℕ)) → receiving (other_side side) t.mode ≡ o →
@@ -492,14 +525,18 @@ module _ (w : World) (k : ℕ) (s : Path) where
 
     -- what a Send has come to, with its own page there
     module _ (address count : ℕ) (more : (count == 0) ≡ false) (home : is_home (reach_word w s address false) ≡ true) (page : List ℕ) where
-      send-thread : (side : Turn) (client y : Path) (talk : Talk) → IsAtStage w me (send_stage side address count) → talk_at w (talk_place side me client) ≡ Some talk →
-          is_talk_of side me side talk ≡ true → is_with side client (Absent y) talk ≡ true → (holds (is_at_hand (other_side side)) (thread_at w y) ≡ false) ⊎ Lack side y → HasReason w me
+      send-thread : (side : Turn) (client y : Path) (talk : Talk) → IsAtStage w me (send_stage side address count)
+          → talk_at w (talk_place side me client) ≡ Some talk →
+          is_talk_of side me side talk ≡ true → is_with side client (Absent y) talk ≡ true
+          → (holds (is_at_hand (other_side side)) (thread_at w y) ≡ false) ⊎ Lack side y → HasReason w me
       send-thread side client y talk stage at is with_it (inl gone) =
           found (Sending side address count true client (Absent y)) (stage, more, home, talks-to side client talk (Absent y) at is with_it, gone) refl
       send-thread side client y talk stage at is with_it (inr lack) =
-          found (Lacking side address count true client y lack.0 lack.1) (stage, more, home, talks-to side client talk (Absent y) at is with_it, lack.2, lack.3) refl
+          found (Lacking side address count true client y lack.0 lack.1)
+          (stage, more, home, talks-to side client talk (Absent y) at is with_it, lack.2, lack.3) refl
 
-      send-client : (client : Path) (talk : Talk) (p : Peer) → IsAtStage w me (ClientSend address count) → talk_at w me ≡ Some talk → is_talk_of turns.Client me turns.Client talk ≡ true →
+      send-client : (client : Path) (talk : Talk) (p : Peer) → IsAtStage w me (ClientSend address count) → talk_at w me ≡ Some talk
+          → is_talk_of turns.Client me turns.Client talk ≡ true →
           talk.peer ≡ p → sends_to w (user_at me) turns.Client (line_of turns.Client me client talk) address count page p ≡ Waits → HasReason w me
       send-client client talk (Server q) stage at is peer h =
           let y = peer-at me talk q at peer in
@@ -508,20 +545,23 @@ module _ (w : World) (k : ℕ) (s : Path) where
           (send-end turns.Client me y.0 address count page (thread_at w y.0) refl
           (subst (λ q. sends_to_thread w (user_at me) turns.Client me address count page (thread_led_to w q) ≡ Waits) y.1 h))
       send-client client talk Parked stage at is peer h =
-          found (Sending turns.Client address count true client Unclaimed) (stage, more, home, talks-to turns.Client client talk Unclaimed at is (ap (λ q. is_parked (Some q)) peer), tt) refl
+          found (Sending turns.Client address count true client Unclaimed)
+          (stage, more, home, talks-to turns.Client client talk Unclaimed at is (ap (λ q. is_parked (Some q)) peer), tt) refl
       send-client client talk Service stage at is peer h =
           let on = service-open me talk at in
           let goes = subst (λ b. when b (sends_to_service (user_at me) me talk.port address count page) ≡ Waits) on h in
           absurd (service-moves me talk.port address count page goes)
 
-    send-reason : (side : Turn) (address count : ℕ) → IsAtStage w me (send_stage side address count) → send w (user_at me) side address count ≡ Waits → HasReason w me
+    send-reason : (side : Turn) (address count : ℕ) → IsAtStage w me (send_stage side address count) → send w (user_at me) side address count ≡ Waits
+        → HasReason w me
     unfolding send
     send-reason side address count stage h =
         let got = read (in_turn w me side side) _ h in
         let t = talked side side got.0 got.1 in
         by side stage t.client t.talk t.at t.is (count == 0) refl (subst (λ l. sends w (user_at me) side address count l ≡ Waits) t.same got.2)
       where
-        on : (side : Turn) → IsAtStage w me (send_stage side address count) → (client : Path) (talk : Talk) → talk_at w (talk_place side me client) ≡ Some talk →
+        on : (side : Turn) → IsAtStage w me (send_stage side address count) → (client : Path) (talk : Talk)
+            → talk_at w (talk_place side me client) ≡ Some talk →
             is_talk_of side me side talk ≡ true → (count == 0) ≡ false → is_home (reach_word w s address false) ≡ true → (page : List ℕ) →
             sends_to w (user_at me) side (line_of side me client talk) address count page (line_of side me client talk).other ≡ Waits → HasReason w me
         on turns.Client stage client talk at is more home page h = send-client address count more home page client talk talk.peer stage at is refl h
@@ -529,9 +569,11 @@ module _ (w : World) (k : ℕ) (s : Path) where
             send-thread address count more home page turns.Server client client talk stage at is (same_path_refl client)
             (send-end turns.Server client client address count page (thread_at w client) refl h)
 
-        by : (side : Turn) → IsAtStage w me (send_stage side address count) → (client : Path) (talk : Talk) → talk_at w (talk_place side me client) ≡ Some talk →
+        by : (side : Turn) → IsAtStage w me (send_stage side address count) → (client : Path) (talk : Talk)
+            → talk_at w (talk_place side me client) ≡ Some talk →
             is_talk_of side me side talk ≡ true → (b : Bool) → (count == 0) ≡ b →
-            (if b then done (user_at me) [] [] else own_page_at me false (λ s page. sends_to w (user_at me) side (line_of side me client talk) address count (words_at w s page) (line_of side me client talk).other)
+            (if b then done (user_at me) [] [] else own_page_at me false
+            (λ s page. sends_to w (user_at me) side (line_of side me client talk) address count (words_at w s page) (line_of side me client talk).other)
             (reach_word w s address false)) ≡ Waits → HasReason w me
         by side stage client talk at is true e h = absurd (cc)
         by side stage client talk at is false e h =
@@ -574,8 +616,10 @@ module _ (w : World) (k : ℕ) (s : Path) where
         let two = read (object_in w (user_at me) space_of one.0 x) _ one.2 in
         let three = unrefused status.HELD (is_frozen_for w me one.0) _ two.2 in
         let four = unrefused status.DENIED (is_within (x ∷ one.0) s) _ three.1 in
-        when-on (not (is_held_by_other w me (x ∷ one.0)) && not (list_any (has_porter w) (beneath w (x ∷ one.0)))) (done (user_at me) (Alter (x ∷ one.0) (SetHolder (Some (At me))) ∷ []) [])
-        (rw (no-holder-at (x ∷ one.0), no-porters (beneath w (x ∷ one.0))) refl) (done-moves (user_at me) (Alter (x ∷ one.0) (SetHolder (Some (At me))) ∷ []) []) four.1
+        when-on (not (is_held_by_other w me (x ∷ one.0)) && not (list_any (has_porter w) (beneath w (x ∷ one.0))))
+        (done (user_at me) (Alter (x ∷ one.0) (SetHolder (Some (At me))) ∷ []) [])
+        (rw (no-holder-at (x ∷ one.0), no-porters (beneath w (x ∷ one.0))) refl)
+        (done-moves (user_at me) (Alter (x ∷ one.0) (SetHolder (Some (At me))) ∷ []) []) four.1
 
     -- ---- what chooses
 
@@ -584,7 +628,8 @@ module _ (w : World) (k : ℕ) (s : Path) where
     refused-ready stage st h =
         subst (λ o. GoesAllowed w me (closed (user_at me) (with_pick (chooses stage) None o))) (sym h) (all-allowed w unheld me (Alter me (End st []) ∷ []))
 
-    chosen-ready : (stage : Stage) (pick : Option Path) → chooses stage ≡ true → (cs : List Change) (said : Said) → allowed_row w (user_at me) pick stage ≡ Goes cs said →
+    chosen-ready : (stage : Stage) (pick : Option Path) → chooses stage ≡ true → (cs : List Change) (said : Said)
+        → allowed_row w (user_at me) pick stage ≡ Goes cs said →
         GoesAllowed w me (call_row w (user_at me) pick stage)
     unfolding call_row
     chosen-ready stage pick picks cs said h =
@@ -626,11 +671,13 @@ module _ (w : World) (k : ℕ) (s : Path) where
       unfolding cond_signal sleepers
       signal-never c todo rest mode = by (object_in w (user_at me) cond_of s c) refl
         where
-          asleep : (b : Body) → object_in w (user_at me) cond_of s c ≡ Ok b → (j : ℕ) (o : Option ℕ) → asleep_on c (w.body (j ∷ s)) ≡ o → (change : Change) → IsIn change (woken (j ∷ s) o) → ⊥
+          asleep : (b : Body) → object_in w (user_at me) cond_of s c ≡ Ok b → (j : ℕ) (o : Option ℕ) → asleep_on c (w.body (j ∷ s)) ≡ o → (change : Change)
+              → IsIn change (woken (j ∷ s) o) → ⊥
           asleep b e j None at change h = h
           asleep b e j (Some m) at change h =
               not-goes (CondSignal c) todo rest (Some (j ∷ s)) mode
-              (chosen-ready (CondSignal c) (Some (j ∷ s)) refl (Alter (j ∷ s) (Replace (MutexLock m)) ∷ Alter me (Finish []) ∷ []) Nothing (rw (e, same_path_refl s, at) refl))
+              (chosen-ready (CondSignal c) (Some (j ∷ s)) refl (Alter (j ∷ s) (Replace (MutexLock m)) ∷ Alter me (Finish []) ∷ []) Nothing
+              (rw (e, same_path_refl s, at) refl))
 
           slept : (b : Body) → object_in w (user_at me) cond_of s c ≡ Ok b → (cs : List Change) → sleepers w s c ≡ cs → ⊥
           slept b e [] none =
@@ -665,14 +712,17 @@ module _ (w : World) (k : ℕ) (s : Path) where
       calling-reason (Connect h) todo rest mode = plain-reason (Connect h) todo rest mode refl (connect-reason whole h)
       calling-reason (ClientReceive into room) todo rest mode = plain-reason (ClientReceive into room) todo rest mode refl (receive-at turns.Client into room)
       calling-reason (ServerReceive into room) todo rest mode = plain-reason (ServerReceive into room) todo rest mode refl (receive-at turns.Server into room)
-      calling-reason (ClientSend address count) todo rest mode = plain-reason (ClientSend address count) todo rest mode refl (send-reason turns.Client address count)
-      calling-reason (ServerSend address count) todo rest mode = plain-reason (ServerSend address count) todo rest mode refl (send-reason turns.Server address count)
+      calling-reason (ClientSend address count) todo rest mode = plain-reason (ClientSend address count) todo rest mode refl
+          (send-reason turns.Client address count)
+      calling-reason (ServerSend address count) todo rest mode = plain-reason (ServerSend address count) todo rest mode refl
+          (send-reason turns.Server address count)
       calling-reason ClientOver todo rest mode = plain-reason ClientOver todo rest mode refl (over-reason turns.Client)
       calling-reason ServerOver todo rest mode = plain-reason ServerOver todo rest mode refl (over-reason turns.Server)
       calling-reason (Wait set) todo rest mode = wait-reason set todo rest mode
       calling-reason FaultDone todo rest mode = plain-reason FaultDone todo rest mode refl (λ at h. absurd (fault_done-never h))
       calling-reason (SpaceHold h x) todo rest mode = plain-reason (SpaceHold h x) todo rest mode refl (λ at waits. absurd (hold-never h x waits))
-      calling-reason (Create p x kind) todo rest mode = absurd (not-goes (Create p x kind) todo rest None mode (other-ready w unheld me (Create p x kind) refl refl))
+      calling-reason (Create p x kind) todo rest mode = absurd
+          (not-goes (Create p x kind) todo rest None mode (other-ready w unheld me (Create p x kind) refl refl))
       calling-reason stage todo rest mode = absurd (not-goes stage todo rest None mode (other-ready w unheld me stage refl refl))
 
       -- ---- an instruction goes
@@ -698,7 +748,8 @@ has_reason w k s t valid few whole unheld there busy unready = by (is_resting t)
     user-only false h = absurd (cc)
 
     awake : is_resting t ≡ false → (m : Mode) → t.mode ≡ m → HasReason w (k ∷ s)
-    awake rests (Running g) mode = absurd (run-ready w k s valid whole unheld few t there (no-hold-free w k s valid whole unheld (k ∷ s) t rests) unready g mode)
+    awake rests (Running g) mode = absurd (run-ready w k s valid whole unheld few t there
+        (no-hold-free w k s valid whole unheld (k ∷ s) t rests) unready g mode)
     awake rests (Calling [] rest) mode = absurd (busy rest mode)
     awake rests (Calling (stage ∷ todo) rest) mode =
         calling-reason w k s valid whole unheld few t there (no-hold-free w k s valid whole unheld (k ∷ s) t rests) unready stage todo rest mode

@@ -50,8 +50,10 @@ module _ (w : World) (y : Path) (e : Edit) (t : Thread) (there : thread_at w y �
       by : (b : Bool) → same_path z y ≡ b → b ≡ false
       by true same =
           let here = same_path_eq z y same in
-          let found = held-some (λ (talk : Talk). is_talk_of turns.Client x turns.Client talk && is_with turns.Client client (Absent z) talk) (talk_at w x) talking in
-          let serving : holds (λ (talk : Talk). serves z talk.peer) (talk_at w x) ≡ true = ap (holds (λ (talk : Talk). serves z talk.peer)) found.1 ∙ (and_parts _ _ found.2).1 in
+          let found = held-some (λ (talk : Talk). is_talk_of turns.Client x turns.Client talk && is_with turns.Client client (Absent z) talk)
+          (talk_at w x) talking in
+          let serving : holds (λ (talk : Talk). serves z talk.peer) (talk_at w x) ≡ true = ap (holds (λ (talk : Talk). serves z talk.peer)) found.1
+          ∙ (and_parts _ _ found.2).1 in
           let on : is_peer_of w y x ≡ true = ap (λ q. is_peer_of w q x) (sym here) ∙ serving in
           let off = nobody.client in
           absurd (cc)
@@ -60,7 +62,8 @@ module _ (w : World) (y : Path) (e : Edit) (t : Thread) (there : thread_at w y �
     where
       by : (b : Bool) → same_path z y ≡ b → b ≡ false
       by true same =
-          let found = held-some (λ (talk : Talk). is_talk_of turns.Server x turns.Server talk && is_with turns.Server client (Absent z) talk) (talk_at w client) talking in
+          let found = held-some (λ (talk : Talk). is_talk_of turns.Server x turns.Server talk && is_with turns.Server client (Absent z) talk)
+          (talk_at w client) talking in
           let its = same_path_eq client z (and_parts _ _ found.2).1 in
           let here = same_path_eq z y same in
           let apart = place-apart turns.Server turns.Server client (talking-first turns.Server client (Absent z) talking) in

@@ -42,7 +42,8 @@ unfolding decider strip
 holder_above w [] h = ([], rw (same_path_refl []) refl, h)
 holder_above w (k ∷ x) h = by (decider w x) refl h (holder_above w x)
   where
-    within-more : (space : Path) → is_within space x ≡ true → is_some (cond {A = Option Path} (same_path (k ∷ x) space) (Some []) (option_map (λ q. k ∷ q) (strip space x))) ≡ true
+    within-more : (space : Path) → is_within space x ≡ true
+        → is_some (cond {A = Option Path} (same_path (k ∷ x) space) (Some []) (option_map (λ q. k ∷ q) (strip space x))) ≡ true
     within-more space h = on (same_path (k ∷ x) space) (strip space x) h
       where
         on : (b : Bool) (o : Option Path) → is_some o ≡ true → is_some (cond {A = Option Path} b (Some []) (option_map (λ q. k ∷ q) o)) ≡ true
@@ -52,7 +53,8 @@ holder_above w (k ∷ x) h = by (decider w x) refl h (holder_above w x)
 
     by : (o : Option Ptr) → decider w x ≡ o → is_some (or_else o (holder_of (w.body (k ∷ x)))) ≡ true →
         (is_some (decider w x) ≡ true → (space : Path) × (is_within space x ≡ true) × (is_held w space ≡ true)) →
-        (space : Path) × (is_some (cond {A = Option Path} (same_path (k ∷ x) space) (Some []) (option_map (λ q. k ∷ q) (strip space x))) ≡ true) × (is_held w space ≡ true)
+        (space : Path) × (is_some (cond {A = Option Path} (same_path (k ∷ x) space) (Some []) (option_map (λ q. k ∷ q) (strip space x))) ≡ true)
+        × (is_held w space ≡ true)
     by (Some p) e h above = let found = above (ap is_some e) in (found.0, within-more found.0 found.1, found.2)
     by None e h above = (k ∷ x, rw (same_path_refl (k ∷ x)) refl, h)
 
@@ -80,7 +82,8 @@ module _ (w : World) (s : Path) (set : ℕ) (y : Path) where
   else-second (Some c) b h = refl
 
   some-faulting : (o : Option Fault) → holds (λ (fault : Fault). is_open fault.taker && is_in w (set ∷ s) fault.port) o ≡ true →
-      is_some (and_then (λ (fault : Fault). if is_open fault.taker then option_map (λ slot. Faulting slot fault) (slot_in_set w s set fault.port) else None) o) ≡ true
+      is_some (and_then (λ (fault : Fault). if is_open fault.taker then option_map (λ slot. Faulting slot fault)
+      (slot_in_set w s set fault.port) else None) o) ≡ true
   some-faulting None h = cc
   some-faulting (Some fault) h =
       let both = and_parts (is_open fault.taker) (is_in w (set ∷ s) fault.port) h in
@@ -88,7 +91,8 @@ module _ (w : World) (s : Path) (set : ℕ) (y : Path) where
       rw both.0 mapped
 
   some-resuming : (o : Option Talk) → holds (λ (talk : Talk). is_parked (Some talk.peer) && is_in w (set ∷ s) talk.port) o ≡ true →
-      is_some (and_then (λ (talk : Talk). if is_parked (Some talk.peer) then option_map (λ slot. Resuming slot talk) (slot_in_set w s set talk.port) else None) o) ≡ true
+      is_some (and_then (λ (talk : Talk). if is_parked (Some talk.peer) then option_map (λ slot. Resuming slot talk)
+      (slot_in_set w s set talk.port) else None) o) ≡ true
   some-resuming None h = cc
   some-resuming (Some talk) h =
       let both = and_parts (is_parked (Some talk.peer)) (is_in w (set ∷ s) talk.port) h in
@@ -115,7 +119,8 @@ module _ (w : World) (s : Path) (set : ℕ) (y : Path) where
   comes-candidate : (t : Thread) → is_unheld w (parent y) ≡ true → comes_by w (set ∷ s) y t ≡ true → is_some (candidate_by w s set y t) ≡ true
   comes-candidate t unheld comes = by (or_cases (comes_faulting w (set ∷ s) t) _ comes)
     where
-      either : (comes_connecting w (set ∷ s) y t ≡ true) ⊎ (comes_resuming w (set ∷ s) t ≡ true) → is_some (or_else (connecting w s set y t) (resuming w s set t)) ≡ true
+      either : (comes_connecting w (set ∷ s) y t ≡ true) ⊎ (comes_resuming w (set ∷ s) t ≡ true)
+          → is_some (or_else (connecting w s set y t) (resuming w s set t)) ≡ true
       either (inl h) = else-first (connecting w s set y t) (resuming w s set t) (some-connecting (connecting_to w y t) h)
       either (inr h) = else-second (connecting w s set y t) (resuming w s set t) (some-resuming t.talk h)
 
@@ -162,7 +167,8 @@ pub record IsMemberAt (w : World) (s : Path) (set slot : ℕ) (p : Ptr) : Type 0
 member-at : (w : World) (s : Path) (set slot : ℕ) (p : Ptr) → slot_in_set w s set p ≡ Some slot → IsMemberAt w s set slot p
 member-at w s set slot (At q) h = by (same_path (parent q) s && is_member set (w.body q)) refl h
   where
-    by : (b : Bool) → (same_path (parent q) s && is_member set (w.body q)) ≡ b → cond {A = Option ℕ} b (Some (slot_of q)) None ≡ Some slot → IsMemberAt w s set slot (At q)
+    by : (b : Bool) → (same_path (parent q) s && is_member set (w.body q)) ≡ b → cond {A = Option ℕ} b (Some (slot_of q)) None ≡ Some slot
+        → IsMemberAt w s set slot (At q)
     by true e h =
         let both = and_parts (same_path (parent q) s) (is_member set (w.body q)) e in
         let same : slot_of q ≡ slot = cc in
@@ -260,7 +266,8 @@ module _ (w : World) (valid : IsValid w) (k : ℕ) (s : Path) (me_thread : Threa
           (record { object = their-unfrozen; changed = no-pointer (Finish []) (λ b. refl) (w.body y); made = refl }, (own-finish _, tt)),
         )
 
-    take-connected : (slot : ℕ) (o : Option Ptr) → connecting_to w y t ≡ o → option_map Connects (and_then (slot_in_set w s set) o) ≡ Some (Connects slot) → Taken (Some (Connects slot))
+    take-connected : (slot : ℕ) (o : Option Ptr) → connecting_to w y t ≡ o → option_map Connects (and_then (slot_in_set w s set) o) ≡ Some (Connects slot)
+        → Taken (Some (Connects slot))
     take-connected slot None e h = cc
     take-connected slot (Some p) e h = by (slot_in_set w s set p) refl h (is_some t.talk) refl e
       where
@@ -278,21 +285,25 @@ module _ (w : World) (valid : IsValid w) (k : ℕ) (s : Path) (me_thread : Threa
 
     -- what kind of candidate it is
     from-fault : (o : Option Fault) → t.fault ≡ o → (c : Candidate) →
-        and_then (λ (fault : Fault). if is_open fault.taker then option_map (λ slot. Faulting slot fault) (slot_in_set w s set fault.port) else None) o ≡ Some c → Taken (Some c)
+        and_then (λ (fault : Fault). if is_open fault.taker then option_map (λ slot. Faulting slot fault) (slot_in_set w s set fault.port) else None) o
+        ≡ Some c → Taken (Some c)
     from-fault None its c h = cc
     from-fault (Some fault) its c h = by (is_open fault.taker) refl (slot_in_set w s set fault.port) h
       where
-        by : (b : Bool) → is_open fault.taker ≡ b → (o : Option ℕ) → cond {A = Option Candidate} b (option_map (λ slot. Faulting slot fault) o) None ≡ Some c → Taken (Some c)
+        by : (b : Bool) → is_open fault.taker ≡ b → (o : Option ℕ) → cond {A = Option Candidate} b (option_map (λ slot. Faulting slot fault) o) None ≡ Some c
+            → Taken (Some c)
         by true untaken (Some slot) h = let same : Faulting slot fault ≡ c = cc in subst (λ c. Taken (Some c)) same (take-faulting slot fault its untaken)
         by true untaken None h = cc
         by false untaken o h = cc
 
     from-talk : (o : Option Talk) → t.talk ≡ o → (c : Candidate) →
-        and_then (λ (talk : Talk). if is_parked (Some talk.peer) then option_map (λ slot. Resuming slot talk) (slot_in_set w s set talk.port) else None) o ≡ Some c → Taken (Some c)
+        and_then (λ (talk : Talk). if is_parked (Some talk.peer) then option_map (λ slot. Resuming slot talk) (slot_in_set w s set talk.port) else None) o
+        ≡ Some c → Taken (Some c)
     from-talk None its c h = cc
     from-talk (Some talk) its c h = by (is_parked (Some talk.peer)) refl (slot_in_set w s set talk.port) h
       where
-        by : (b : Bool) → is_parked (Some talk.peer) ≡ b → (o : Option ℕ) → cond {A = Option Candidate} b (option_map (λ slot. Resuming slot talk) o) None ≡ Some c → Taken (Some c)
+        by : (b : Bool) → is_parked (Some talk.peer) ≡ b → (o : Option ℕ)
+            → cond {A = Option Candidate} b (option_map (λ slot. Resuming slot talk) o) None ≡ Some c → Taken (Some c)
         by true parked (Some slot) h = let same : Resuming slot talk ≡ c = cc in subst (λ c. Taken (Some c)) same (take-resuming slot talk its parked)
         by true parked None h = cc
         by false parked o h = cc
@@ -306,13 +317,15 @@ module _ (w : World) (valid : IsValid w) (k : ℕ) (s : Path) (me_thread : Threa
     candidate-goes : (c : Candidate) → candidate_by w s set y t ≡ Some c → Taken (Some c)
     candidate-goes c h = by (faulting w s set t) refl h
       where
-        later : (b : Bool) (a : Option Candidate) → connecting w s set y t ≡ a → cond {A = Option Candidate} b (or_else a (resuming w s set t)) None ≡ Some c → Taken (Some c)
+        later : (b : Bool) (a : Option Candidate) → connecting w s set y t ≡ a → cond {A = Option Candidate} b (or_else a (resuming w s set t)) None ≡ Some c
+            → Taken (Some c)
         later false a at h = cc
         later true None at h = from-talk t.talk refl c h
         later true (Some d) at h = from-connect (and_then (slot_in_set w s set) (connecting_to w y t)) refl c (at ∙ h)
 
         by : (o : Option Candidate) → faulting w s set t ≡ o →
-            or_else o (cond {A = Option Candidate} (is_free w (parent y) t) (or_else (connecting w s set y t) (resuming w s set t)) None) ≡ Some c → Taken (Some c)
+            or_else o (cond {A = Option Candidate} (is_free w (parent y) t) (or_else (connecting w s set y t) (resuming w s set t)) None) ≡ Some c
+            → Taken (Some c)
         by (Some d) at h = from-fault t.fault refl c (at ∙ h)
         by None at h = later (is_free w (parent y) t) (connecting w s set y t) refl h
 
@@ -320,7 +333,8 @@ module _ (w : World) (valid : IsValid w) (k : ℕ) (s : Path) (me_thread : Threa
   unfolding candidate
   candidate-taken set y c h = by (is_unheld w (parent y)) refl (thread_at w y) refl h
     where
-      by : (b : Bool) → is_unheld w (parent y) ≡ b → (o : Option Thread) → thread_at w y ≡ o → cond {A = Option Candidate} b (and_then (candidate_by w s set y) o) None ≡ Some c →
+      by : (b : Bool) → is_unheld w (parent y) ≡ b → (o : Option Thread) → thread_at w y ≡ o
+          → cond {A = Option Candidate} b (and_then (candidate_by w s set y) o) None ≡ Some c →
           GoesAllowed w (k ∷ s) (takes_candidate (user_at (k ∷ s)) y (Some c))
       by true e (Some t) at h = candidate-goes set y t at e c h
       by true e None at h = cc

@@ -194,7 +194,8 @@ handled-kind v z b h = refl
 no-reference : (v : World) (z : Path) (e : Edit) (b : Body) → is_some (reference_of b) ≡ false →
     handled v kinds.Port z (Some (edited e b)) ≡ handled v kinds.Port z (Some b)
 no-reference v z e b h =
-    let none : is_some (reference_of (edited e b)) ≡ false = reference-kind (edited e b) ∙ ap (λ k. number_of_kind k == 9) (same_kind e b) ∙ sym (reference-kind b) ∙ h in
+    let none : is_some (reference_of (edited e b)) ≡ false = reference-kind (edited e b) ∙ ap (λ k. number_of_kind k == 9) (same_kind e b)
+    ∙ sym (reference-kind b) ∙ h in
     handled-kind v z (edited e b) none
     ∙ ap (λ k. if same_kind_of kinds.Port k then Ok (At z) else Err WRONGKIND) (same_kind e b)
     ∙ sym (handled-kind v z b h)

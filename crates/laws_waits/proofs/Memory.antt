@@ -92,11 +92,14 @@ module _ (w v : World) (same : IsSameMemory w v) where
       ∙ mapped-same (λ m. Bad) (λ m. Bad) (Missing s page (keeper v s page)) (Missing s page (keeper w s page)) (λ m. refl) refl (mapping_at w s page))
   within-same (suc n) s page write =
       home-by (v.page s page) (w.page s page) _ _ _ (same.pages s page)
-      (ap (λ o. is_home (mapped (λ m. followed (λ t other. reach_within n v t other write) (led_by v m page write m.region)) (Missing s page (keeper v s page)) o)) (mapping-same s page)
+      (ap (λ o. is_home (mapped (λ m. followed (λ t other. reach_within n v t other write) (led_by v m page write m.region))
+      (Missing s page (keeper v s page)) o)) (mapping-same s page)
       ∙ mapped-same (λ m. followed (λ t other. reach_within n v t other write) (led_by v m page write m.region))
-      (λ m. followed (λ t other. reach_within n w t other write) (led_by w m page write m.region)) (Missing s page (keeper v s page)) (Missing s page (keeper w s page))
+      (λ m. followed (λ t other. reach_within n w t other write) (led_by w m page write m.region)) (Missing s page (keeper v s page))
+      (Missing s page (keeper w s page))
       (λ m. ap (λ o. is_home (followed (λ t other. reach_within n v t other write) o)) (led-same m page write m.region)
-      ∙ followed-same (λ t other. reach_within n v t other write) (λ t other. reach_within n w t other write) (λ t g. within-same n t g write) (led_by w m page write m.region))
+      ∙ followed-same (λ t other. reach_within n v t other write) (λ t other. reach_within n w t other write) (λ t g. within-same n t g write)
+      (led_by w m page write m.region))
       refl (mapping_at w s page))
 
   pub word-same : (s : Path) (address : ℕ) (write : Bool) → is_home (reach_word v s address write) ≡ is_home (reach_word w s address write)
@@ -196,7 +199,8 @@ module _ (w : World) where
   unfolding apply
   memory_kept (Alter x e) out = record {
     mappings = λ q. either (and_then mapping_of) (same_path q x) (option_map (edited e) (w.body q)) (w.body q) (λ h. edit-mapping e (w.body q) (there q h));
-    regions = λ q. either numbers_at (same_path q x) (option_map (edited e) (w.body q)) (w.body q) (λ h. ap (option_map numbers) (edit-region e (w.body q) (there q h)));
+    regions = λ q. either numbers_at (same_path q x) (option_map (edited e) (w.body q)) (w.body q)
+        (λ h. ap (option_map numbers) (edit-region e (w.body q) (there q h)));
     pages = λ s g. refl;
   }
     where
@@ -208,13 +212,15 @@ module _ (w : World) where
     pages = λ s g. refl;
   }
   memory_kept (MakeSpace x holder) out = record {
-    mappings = λ q. either (and_then mapping_of) (same_path q x) (Some (Space w.next holder)) (w.body q) (λ h. (placed x q (Some (Space w.next holder)) out refl h).0);
+    mappings = λ q. either (and_then mapping_of) (same_path q x) (Some (Space w.next holder)) (w.body q)
+        (λ h. (placed x q (Some (Space w.next holder)) out refl h).0);
     regions = λ q. either numbers_at (same_path q x) (Some (Space w.next holder)) (w.body q) (λ h. (placed x q (Some (Space w.next holder)) out refl h).1);
     pages = λ s g. refl;
   }
   memory_kept (Kill x) out = record {
     mappings = λ q. either (and_then mapping_of) (same_path q x) None _ (λ h. (placed x q None out.0 refl h).0 ∙ sym (mapping q)) ∙ mapping q;
-    regions = λ q. either numbers_at (same_path q x) None _ (λ h. (placed x q None out.0 refl h).1 ∙ sym (swept-region (death_sweep x) q (w.body q))) ∙ swept-region (death_sweep x) q (w.body q);
+    regions = λ q. either numbers_at (same_path q x) None _ (λ h. (placed x q None out.0 refl h).1 ∙ sym (swept-region (death_sweep x) q (w.body q)))
+        ∙ swept-region (death_sweep x) q (w.body q);
     pages = λ s g. either is_some (same_path s x) None (w.page s g) (λ h. let here = same_path_eq s x h in rw (here, out.1 g) refl);
   }
     where

@@ -159,7 +159,8 @@ module _ (w : World) (c : Caller) where
       place s _ (λ space.
       read (object_in w c anything space x) _ (λ b.
       read (refuse status.BADADDRESS (is_bad_record_address c address)) _ (λ a.
-      either c.is_porter _ _ (done-moves c _ _) (own-moves (path_of c) true (shows w c b address) (reach_word w c.space address true) (λ s page. done-moves c _ _)))))
+      either c.is_porter _ _ (done-moves c _ _) (own-moves (path_of c) true (shows w c b address) (reach_word w c.space address true)
+      (λ s page. done-moves c _ _)))))
 
   record-moves : (space x : Path) (b : Body) (words : List ℕ) → Moves (sets_record w c space x b words)
   record-moves space x b words =
@@ -399,5 +400,6 @@ module _ (w : World) (space me : Path) (g : List ℕ) (counter : ℕ) where
 pub instructions_never_wait_lem : InstructionsNeverWait
 unfolding run_row_by
 instructions_never_wait_lem w space slot g counter =
-    access-moves (slot ∷ space) false (halts_with (slot ∷ space) g counter) (executes todo_of w space (slot ∷ space) g counter) (reach_word w space counter false)
+    access-moves (slot ∷ space) false (halts_with (slot ∷ space) g counter) (executes todo_of w space (slot ∷ space) g counter)
+    (reach_word w space counter false)
     (stop-goes w space (slot ∷ space) g counter) (λ s page. performs-moves w space (slot ∷ space) g counter (act (word_at w s page counter) g counter))

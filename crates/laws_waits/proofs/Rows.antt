@@ -168,7 +168,8 @@ module _ (w : World) (valid : IsValid w) (few : w.next ≤ depth) where
   unfolding line
   line_is me client turns.Client turn talk at is = ap (line_from me (λ (talk : Talk). talk.peer)) at
   line_is me client turns.Server turn talk at is =
-      let test : holds (λ (talk : Talk). serves me talk.peer) (talk_at w client) ≡ true = ap (holds (λ (talk : Talk). serves me talk.peer)) at ∙ (and_parts _ _ is).1 in
+      let test : holds (λ (talk : Talk). serves me talk.peer) (talk_at w client) ≡ true = ap (holds (λ (talk : Talk). serves me talk.peer)) at
+      ∙ (and_parts _ _ is).1 in
       ap (and_then (λ client. line_from client (λ (talk : Talk). Server (At client)) (talk_at w client))) (client-found me client test)
       ∙ ap (line_from client (λ (talk : Talk). Server (At client))) at
 
@@ -193,7 +194,8 @@ there-home : (home away : Reach) (o : Option (List ℕ)) → is_some o ≡ true 
 there-home home away None h = cc
 there-home home away (Some words) h = refl
 
-pub home-reach : (w : World) (space : Path) (address : ℕ) (write : Bool) → IsAtHome w space address → reach_word w space address write ≡ Home space (address / PAGE_WORDS)
+pub home-reach : (w : World) (space : Path) (address : ℕ) (write : Bool) → IsAtHome w space address
+    → reach_word w space address write ≡ Home space (address / PAGE_WORDS)
 unfolding reach reach_within
 home-reach w space address write home =
     ap (λ b. if b then reach w space (address / PAGE_WORDS) write else Bad) home.0

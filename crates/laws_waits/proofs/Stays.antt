@@ -41,11 +41,13 @@ module _ (w : World) (c : Change) where
   talk-test test blind q quiet h =
       thread-kept (λ o. holds test (and_then (λ (t : Thread). t.talk) o) ≡ true) w q (λ e t at off on. quiet_talk test blind e t ∙ on) c quiet h
 
-  talk-blind : (side : Turn) (me : Path) (turn : Turn) (talk : Talk) (n : ℕ) → is_talk_of side me turn (record talk { moved = n }) ≡ is_talk_of side me turn talk
+  talk-blind : (side : Turn) (me : Path) (turn : Turn) (talk : Talk) (n : ℕ)
+      → is_talk_of side me turn (record talk { moved = n }) ≡ is_talk_of side me turn talk
   talk-blind turns.Client me turn talk n = refl
   talk-blind turns.Server me turn talk n = refl
 
-  with-blind : (side : Turn) (client : Path) (end : End) (talk : Talk) (n : ℕ) → is_with side client end (record talk { moved = n }) ≡ is_with side client end talk
+  with-blind : (side : Turn) (client : Path) (end : End) (talk : Talk) (n : ℕ)
+      → is_with side client end (record talk { moved = n }) ≡ is_with side client end talk
   with-blind turns.Client client (Absent y) talk n = refl
   with-blind turns.Client client (Covered y space) talk n = refl
   with-blind turns.Client client Unclaimed talk n = refl

@@ -43,7 +43,8 @@ use Rattle.laws_waits.proofs.Rows.{goes-on, free-resting, free-beneath, held-dec
 -- ---- a stage that waits is no move
 
 waits-unready : (w : World) (x : Path) (b : Bool) (pick : Option Path) (o : Outcome) → o ≡ Waits → GoesAllowed w x (closed (user_at x) (with_pick b pick o)) → ⊥
-waits-unready w x b pick o e goes = let none : GoesAllowed w x (closed (user_at x) (with_pick b pick Waits)) = subst (λ o. GoesAllowed w x (closed (user_at x) (with_pick b pick o))) e goes in none
+waits-unready w x b pick o e goes = let none : GoesAllowed w x (closed (user_at x) (with_pick b pick Waits)) = subst
+    (λ o. GoesAllowed w x (closed (user_at x) (with_pick b pick o))) e goes in none
 
 -- ---- mutexes and conditions
 
@@ -81,7 +82,8 @@ pub data Gone (w : World) (side : Turn) (talk : Talk) : Peer → Type 0 where
   ByService : is_service_free w talk.port ≡ false → Gone w side talk Service
 
 module _ (w : World) (side : Turn) where
-  away-unmet : (y : Path) (t : Thread) → is_at_hand (other_side side) t ≡ false → (is_free w (parent y) t && is_some (receiving (other_side side) t.mode)) ≡ false
+  away-unmet : (y : Path) (t : Thread) → is_at_hand (other_side side) t ≡ false
+      → (is_free w (parent y) t && is_some (receiving (other_side side) t.mode)) ≡ false
   away-unmet y t away = by (is_free w (parent y) t) refl
     where
       by : (b : Bool) → is_free w (parent y) t ≡ b → (b && is_some (receiving (other_side side) t.mode)) ≡ false
@@ -216,7 +218,8 @@ module _ (w : World) (k : ℕ) (s : Path) where
         let l = line_of side me client found.0 in
         let page = reached-home w s address false far home in
         ap (λ r. r >>= (λ l. sends w (user_at me) side address count l)) (turn-ok w valid few me client side side found.0 found.1 both.0)
-        ∙ ap (λ b. if b then done (user_at me) [] [] else own_page w (user_at me) address false (λ s page. sends_to w (user_at me) side l address count (words_at w s page) l.other)) more
+        ∙ ap (λ b. if b then done (user_at me) [] [] else own_page w (user_at me) address false
+        (λ s page. sends_to w (user_at me) side l address count (words_at w s page) l.other)) more
         ∙ ap (own_page_at me false (λ s page. sends_to w (user_at me) side l address count (words_at w s page) l.other)) page.2
         ∙ idle found.0 (words_at w page.0 page.1) both.1
 
@@ -241,7 +244,8 @@ module _ (w : World) (k : ℕ) (s : Path) where
         room-waits : (client : Path) (page : List ℕ) → sends_into w (user_at me) client y address count page (Some (into, room)) ≡ Waits
         room-waits client page = rw (there.1) (page-waits (reach_word w (parent y) into true) _ away)
 
-        met : (side : Turn) (client : Path) (page : List ℕ) (o : Option Thread) → and_then (λ (t : Thread). receiving (other_side side) t.mode) o ≡ Some (into, room) →
+        met : (side : Turn) (client : Path) (page : List ℕ) (o : Option Thread)
+            → and_then (λ (t : Thread). receiving (other_side side) t.mode) o ≡ Some (into, room) →
             sends_to_thread w (user_at me) side client address count page (and_then (λ t. Some (y, t)) o) ≡ Waits
         met side client page None h = refl
         met side client page (Some t) h = free_by (is_free w (parent y) t)
@@ -331,8 +335,10 @@ module _ (w : World) (k : ℕ) (s : Path) (unserved : (y : Path) → holds (is_s
   not-serving : is_serving w (k ∷ s) ≡ false
   unfolding client_of faulter_of
   not-serving =
-      let no_talk = no-find (λ c. holds (λ (talk : Talk). serves (k ∷ s) talk.peer) (talk_at w c)) (objects w) (λ y. talk-unserved (thread_at w y) (unserved y)) in
-      let no_fault = no-find (λ c. holds (λ (fault : Fault). holds (serves (k ∷ s)) fault.taker) (fault_at w c)) (objects w) (λ y. fault-unserved (thread_at w y) (unserved y)) in
+      let no_talk = no-find (λ c. holds (λ (talk : Talk). serves (k ∷ s) talk.peer) (talk_at w c)) (objects w)
+      (λ y. talk-unserved (thread_at w y) (unserved y)) in
+      let no_fault = no-find (λ c. holds (λ (fault : Fault). holds (serves (k ∷ s)) fault.taker) (fault_at w c)) (objects w)
+      (λ y. fault-unserved (thread_at w y) (unserved y)) in
       rw (no_talk, no_fault) refl
 
 -- who doesn't come is no candidate
@@ -394,7 +400,8 @@ module _ (w : World) (s : Path) (set : ℕ) (y : Path) where
   unfolding candidate
   no-comer h = by (is_unheld w (parent y)) (thread_at w y) h
     where
-      by : (b : Bool) (o : Option Thread) → holds (comes_by w (set ∷ s) y) o ≡ false → cond {A = Option Candidate} b (and_then (candidate_by w s set y) o) None ≡ None
+      by : (b : Bool) (o : Option Thread) → holds (comes_by w (set ∷ s) y) o ≡ false
+          → cond {A = Option Candidate} b (and_then (candidate_by w s set y) o) None ≡ None
       by true None h = refl
       by true (Some t) h = no-candidate t h
       by false o h = refl
@@ -403,7 +410,8 @@ module _ (w : World) (s : Path) (set : ℕ) (y : Path) where
   unfolding candidate
   no-covered space beneath = let frozen = held-decider w space (parent y) beneath.0 beneath.1 in rw frozen refl
 
-wait-waits : (w : World) (k : ℕ) (s : Path) (set : ℕ) (pick : Option Path) → IsSet w s set → ((y : Path) → holds (is_served_by (k ∷ s)) (thread_at w y) ≡ false) →
+wait-waits : (w : World) (k : ℕ) (s : Path) (set : ℕ) (pick : Option Path) → IsSet w s set
+    → ((y : Path) → holds (is_served_by (k ∷ s)) (thread_at w y) ≡ false) →
     ((y : Path) → candidate w s set y ≡ None) → wait w (user_at (k ∷ s)) pick set ≡ Waits
 unfolding wait
 wait-waits w k s set pick there unserved nobody =
@@ -460,9 +468,11 @@ module _ (w : World) (k : ℕ) (s : Path) (valid : IsValid w) (few : w.next ≤ 
       waits-unready w (k ∷ s) false pick _ (receive-waits w k s valid few turns.Server into room far client stuck.1 stuck.2)
       (at-stage w (k ∷ s) pick (ServerReceive into room) stuck.0 ready)
   unready (Passing turns.Client client end) stuck pick ready =
-      waits-unready w (k ∷ s) false pick _ (over-waits w k s valid few turns.Client client end stuck.1 stuck.2) (at-stage w (k ∷ s) pick ClientOver stuck.0 ready)
+      waits-unready w (k ∷ s) false pick _ (over-waits w k s valid few turns.Client client end stuck.1 stuck.2)
+      (at-stage w (k ∷ s) pick ClientOver stuck.0 ready)
   unready (Passing turns.Server client end) stuck pick ready =
-      waits-unready w (k ∷ s) false pick _ (over-waits w k s valid few turns.Server client end stuck.1 stuck.2) (at-stage w (k ∷ s) pick ServerOver stuck.0 ready)
+      waits-unready w (k ∷ s) false pick _ (over-waits w k s valid few turns.Server client end stuck.1 stuck.2)
+      (at-stage w (k ∷ s) pick ServerOver stuck.0 ready)
   unready (Sending turns.Client address count far client end) stuck pick ready =
       waits-unready w (k ∷ s) false pick _ (send-waits w k s valid few turns.Client address count far client end stuck.1 stuck.2 stuck.3 stuck.4)
       (at-stage w (k ∷ s) pick (ClientSend address count) stuck.0 ready)

@@ -52,12 +52,14 @@ module _ (w : World) (c : Change) (x : Path) (own : names_body w c x ≡ false) 
 
   other-left : (side : Turn) (client z : Path) → IsTalkingTo w x side client (Absent z) → stirs w c z ≡ false
   other-left turns.Client client z talking = unstirred z (λ stranger.
-      let found = held-some (λ (talk : Talk). is_talk_of turns.Client x turns.Client talk && is_with turns.Client client (Absent z) talk) (talk_at w x) talking in
+      let found = held-some (λ (talk : Talk). is_talk_of turns.Client x turns.Client talk && is_with turns.Client client (Absent z) talk)
+      (talk_at w x) talking in
       let on : is_peer_of w z x ≡ true = ap (holds (λ (talk : Talk). serves z talk.peer)) found.1 ∙ (and_parts _ _ found.2).1 in
       let off = stranger.client in
       absurd (cc))
   other-left turns.Server client z talking =
-      let found = held-some (λ (talk : Talk). is_talk_of turns.Server x turns.Server talk && is_with turns.Server client (Absent z) talk) (talk_at w client) talking in
+      let found = held-some (λ (talk : Talk). is_talk_of turns.Server x turns.Server talk && is_with turns.Server client (Absent z) talk)
+      (talk_at w client) talking in
       let same = same_path_eq client z (and_parts _ _ found.2).1 in
       ap (stirs w c) (sym same) ∙ place-left turns.Server turns.Server client (talking-first turns.Server client (Absent z) talking)
 
