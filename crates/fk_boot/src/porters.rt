@@ -20,6 +20,7 @@ fn porter() -> Thread
     ensures body { (paths : ℕ → Path) → Thread_of (thread_by paths result) ≡ definitions.porter }
     ensures talk { result.talk ≡ None }
     ensures fault { result.fault ≡ None }
+    ensures sized { length result.regs ≡ 16 }
 {
     Thread {
         regs: [0; 16],

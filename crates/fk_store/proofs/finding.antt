@@ -19,3 +19,5 @@ pub mod Within
 pub mod Outside
 pub mod Lefts
 pub mod HeldBirths
+pub mod Sizes
+pub mod Leading

@@ -1,5 +1,6 @@
 -- Kept: what holds of every store.
-use Rattle.std.specs.Prelude.{◌≡◌, ℕ, ◌<◌, Bool, true, Some, is_some}
+use Rattle.std.specs.Prelude.{◌≡◌, ℕ, ◌<◌, Bool, true, List, length, Some, is_some}
+use Rattle.fk_model.specs.declared.limits.TheConstants.{PAGE_WORDS}
 use Rattle.std.specs.FinMap.{get}
 use Rattle.fk_model.specs.declared.names.Who.{Who}
 use Rattle.fk_model.specs.declared.body.Body.{Body}
@@ -12,7 +13,7 @@ use Rattle.fk_store.specs.Named.{OnNamed}
 abbrev pub is_there : Contents → Who → Bool
 is_there m who = is_some (get m.bodies who)
 
--- the pages of a mapping or a region are pages that a space has
+-- the pages of a mapping or a region are pages that a space has, and a thread has its 16 registers
 abbrev pub IsSized : Body → Type 0
 IsSized (Mutex locked) = Unit {0}
 IsSized Cond = Unit {0}
@@ -21,7 +22,7 @@ IsSized (Region first count write keeper) = is_page_range first count ≡ true
 IsSized (Port set served) = Unit {0}
 IsSized Portset = Unit {0}
 IsSized (Space birth holder) = Unit {0}
-IsSized (Thread thread) = Unit {0}
+IsSized (Thread thread) = length thread.regs ≡ 16
 IsSized (Reference to) = Unit {0}
 
 pub record IsWellFormed (m : Contents) : Type 0 where
@@ -39,3 +40,5 @@ pub record IsWellFormed (m : Contents) : Type 0 where
   -- what a body names is there
   pub leads : (who : Who) (b : Body) → get m.bodies who ≡ Some b → OnNamed (λ other. is_there m other ≡ true) b
   pub sized : (who : Who) (b : Body) → get m.bodies who ≡ Some b → IsSized b
+  -- a page has all its words
+  pub full : (space page : ℕ) (words : List ℕ) → get m.pages (space, page) ≡ Some words → length words ≡ PAGE_WORDS

@@ -23,6 +23,7 @@ mod holds;
 mod proceeding;
 mod residents;
 mod served;
+mod sizes;
 mod words;
 
 use fk_model::{Body, NoMemory, Who};

@@ -12,6 +12,7 @@ ghost use Rattle.fk_store.specs.Paths.{path, place};
 ghost use Rattle.fk_store.specs.Bodies.{mode_by, thread_by};
 ghost use Rattle.fk_store.specs.Named.{OnNamed};
 ghost use Rattle.fk_store.specs.Threads.{is_free_at};
+ghost use Rattle.fk_store.specs.WellFormed.{IsSized};
 ghost use Rattle.fk_store.specs.World.{world, IsLive, IsSpace};
 ghost use Rattle.fk_model.specs.Searches.{thread_at};
 
@@ -24,6 +25,7 @@ impl Store {
     pub fn thread(&self, who: Who) -> Option<&Thread>
         ensures thread { option_map (thread_by (path self.now)) (option_copied result) ≡ thread_at (world self.now) (place (path self.now) who) }
         ensures named { IfSome result (λ thread. OnNamed (IsLive self.now) (Body.Thread thread.now)) }
+        ensures sized { IfSome result (λ thread. IsSized (Body.Thread thread.now)) }
         ensures space { IsSome result → IsSpace self.now who.space }
     {
         match self.at(who) {

@@ -1,5 +1,6 @@
 -- Kills: an object with nothing in it that is taken away and swept from all bodies is the one destroyed at the path.
-use Rattle.std.proofs.Common.{◌≡◌, ◌≢◌, ℕ, Bool, true, false, cond, ◌&&◌, ◌==◌, List, [], ◌∷◌, Option, Some, None, option_map, is_some, refl, sym, ap, subst, ◌∙◌}
+use Rattle.std.proofs.Common.{◌≡◌, ◌≢◌, ℕ, Bool, true, false, cond, ◌&&◌, ◌==◌, List, [], ◌∷◌, Option, Some, None, option_map, is_some, length, refl, sym, ap, subst, ◌∙◌}
+use Rattle.fk_model.specs.declared.limits.TheConstants.{PAGE_WORDS}
 use Rattle.std.specs.FinMap.{FinMap, get, remove, get-remove}
 use Rattle.fk_model.specs.declared.names.Who.{Who}
 use Rattle.fk_model.specs.declared.body.Body as bodies_of
@@ -129,6 +130,13 @@ module _
         by true e is = absurd (cc)
         by false e is = live_stays space e ∙ kept.paged space page is
 
+    full_left : (space page : ℕ) (words : List ℕ) → get pages2 (space, page) ≡ Some words → length words ≡ PAGE_WORDS
+    full_left space page words h = by (is_number space (birth_there m who)) (sym (pages space page) ∙ h)
+      where
+        by : (t : Bool) → cond t None (get m.pages (space, page)) ≡ Some words → length words ≡ PAGE_WORDS
+        by true is = absurd (cc)
+        by false is = kept.full space page words is
+
     pub kept-killed : IsWellFormed killed
     kept-killed = record {
       begun = kept.begun;
@@ -140,6 +148,7 @@ module _
       paged = paged_left;
       leads = leads_left;
       sized = sized_left;
+      full = full_left;
     }
 
     pub path-killed : (n : ℕ) → path m n ≢ place (path m) who → path killed n ≡ path m n

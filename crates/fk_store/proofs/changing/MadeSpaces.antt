@@ -111,6 +111,7 @@ module _ (m : Contents) (kept : IsWellFormed m)
         (λ q c h. OnNamed-map (λ q. is_there m q ≡ true)
         (λ q. is_there with_space q ≡ true) (after_there m kept who live slot empty (bodies.Space m.next holder)) c (kept.leads q c h));
     sized = after_body m kept who live slot empty (bodies.Space m.next holder) IsSized tt kept.sized;
+    full = kept.full;
   }
 
   module _ (kept2 : IsWellFormed with_space) where

@@ -95,4 +95,5 @@ module _ (m : Contents) (kept : IsWellFormed m) where
             (OnNamed-map (λ q. is_there m q ≡ true) (λ q. is_there (with_body m who b) q ≡ true) after_there b named)
             (λ q c h. OnNamed-map (λ q. is_there m q ≡ true) (λ q. is_there (with_body m who b) q ≡ true) after_there c (kept.leads q c h));
         sized = after_body IsSized sized kept.sized;
+        full = kept.full;
       }

@@ -21,7 +21,7 @@ use Rattle.fk_store.specs.Contents.{Contents}
 use Rattle.fk_store.specs.Bodies.{talk_by, thread_by, body_by}
 use Rattle.fk_store.specs.Named.{Each, OnTalk, OnNamed}
 use Rattle.fk_store.specs.Nudges.{edit_of}
-use Rattle.fk_store.specs.WellFormed.{IsWellFormed}
+use Rattle.fk_store.specs.WellFormed.{IsSized, IsWellFormed}
 use Rattle.fk_store.proofs.changing.EditLaws.{stops_nobody, turn_nobody}
 use Rattle.fk_store.proofs.changing.InPlace.{Stays, Changes, changes}
 use Rattle.fk_store.proofs.changing.ThreadLaws.{alter-nobody}
@@ -50,6 +50,11 @@ thread_named : (change : Nudge) (P : Who → Type 0) (t : State) → OnNamed P (
 thread_named (Counts count) P t on = (talk_named P (counted count) (λ talk h. h) t.talk on.0, on.1)
 thread_named (Passes turn) P t on = (talk_named P (passed turn) (λ talk h. h) t.talk on.0, on.1)
 thread_named (Stops stops) P t on = on
+
+thread_sized : (change : Nudge) (t : State) → IsSized (Thread t) → IsSized (Thread (nudged_thread change t))
+thread_sized (Counts count) t h = h
+thread_sized (Passes turn) t h = h
+thread_sized (Stops stops) t h = h
 
 edits : (change : Nudge) (p : ℕ → Path) (b : Body) → edited (edit_of change) (body_by p b) ≡ body_by p (nudged change b)
 unfolding edited
@@ -94,7 +99,7 @@ module _ (change : Nudge) where
   stays p who P (Port set served) = record { kind = refl; home = λ h. h; named = λ h. h; sized = λ h. h }
   stays p who P Portset = record { kind = refl; home = λ h. h; named = λ h. h; sized = λ h. h }
   stays p who P (Space birth holder) = record { kind = refl; home = λ h. h; named = λ h. h; sized = λ h. h }
-  stays p who P (Thread thread) = record { kind = refl; home = λ h. h; named = thread_named change P thread; sized = λ h. h }
+  stays p who P (Thread thread) = record { kind = refl; home = λ h. h; named = thread_named change P thread; sized = thread_sized change thread }
   stays p who P (Reference to) = record { kind = refl; home = λ h. h; named = λ h. h; sized = λ h. h }
 
   pub small_change : (m : Contents) → IsWellFormed m → (who : Who) (bodies2 : FinMap who_cmp Body) →

@@ -1,6 +1,8 @@
 -- Pages: a page put or taken away under a name is that at the path.
-use Rattle.std.proofs.Common.{◌≡◌, ℕ, Bool, true, false, cond, ◌&&◌, ◌==◌, List, [], ◌∷◌, Option, Some, None, option_map, is_some, refl, ap, ◌∙◌, arith}
+use Rattle.std.proofs.Common.{◌≡◌, ℕ, Bool, true, false, cond, ◌&&◌, ◌==◌, List, [], ◌∷◌, Option, Some, None, unwrap_or, slice_set, option_map, is_some, length, refl, sym, ap, subst, ◌∙◌, arith}
+use Rattle.fk_model.specs.declared.limits.TheConstants.{PAGE_WORDS}
 use Rattle.std.proofs.lemmas.Bool.Decides.{nat_tests}
+use Rattle.std.proofs.lemmas.List.{length-set}
 use Rattle.std.specs.Ordering.{eq_by_cmp}
 use Rattle.std.specs.FinMap.{FinMap, get, insert, remove, get-insert, get-remove}
 use Rattle.fk_model.specs.declared.names.Who.{Who}
@@ -52,8 +54,9 @@ module _ (m : Contents) (kept : IsWellFormed m) (pages : FinMap page_cmp (List �
   unfolding kind_there world
   kinds-pages = λ i x. option_map kind_of (bodies-pages x i)
 
-  pub kept-pages : ((space page : ℕ) → is_some (get pages (space, page)) ≡ true → is_live m space ≡ true) → IsWellFormed (with_pages m pages)
-  kept-pages housed = record {
+  pub kept-pages : ((space page : ℕ) → is_some (get pages (space, page)) ≡ true → is_live m space ≡ true) →
+      ((space page : ℕ) (words : List ℕ) → get pages (space, page) ≡ Some words → length words ≡ PAGE_WORDS) → IsWellFormed (with_pages m pages)
+  kept-pages housed full = record {
     begun = kept.begun;
     alone = λ q n h. home-births m kept (with_pages m pages) births n ∙ kept.alone q n h;
     younger = kept.younger;
@@ -63,6 +66,7 @@ module _ (m : Contents) (kept : IsWellFormed m) (pages : FinMap page_cmp (List �
     paged = λ space page h. is_live-births m kept (with_pages m pages) births space ∙ housed space page h;
     leads = kept.leads;
     sized = kept.sized;
+    full = full;
   }
 
 module _ (m : Contents) (kept : IsWellFormed m) (space page : ℕ) where
@@ -81,14 +85,28 @@ module _ (m : Contents) (kept : IsWellFormed m) (space page : ℕ) where
             by None none = rw (lost_apart m kept (at space 0) (IsSpace-live m kept space live) s none) refl
             by (Some n) here = rw (get-insert page_total m.pages (space, page) words (n, g), tied n g space page, same_space m kept s n space here) refl
 
-    pub put_page-kept : IsWellFormed (with_pages m (insert m.pages (space, page) words))
-    put_page-kept = kept-pages m kept (insert m.pages (space, page) words)
+    pub put_page-kept : length words ≡ PAGE_WORDS → IsWellFormed (with_pages m (insert m.pages (space, page) words))
+    put_page-kept long = kept-pages m kept (insert m.pages (space, page) words)
         (λ q g h. by q g (eq_by_cmp page_cmp (q, g) (space, page)) refl (rw (get-insert page_total m.pages (space, page) words (q, g)) at h))
+        (λ q g other h. full q g other (eq_by_cmp page_cmp (q, g) (space, page)) (sym (get-insert page_total m.pages (space, page) words (q, g)) ∙ h))
       where
+        full : (q g : ℕ) (other : List ℕ) (t : Bool) → cond t (Some words) (get m.pages (q, g)) ≡ Some other → length other ≡ PAGE_WORDS
+        full q g other true is = let same : words ≡ other = cc in subst (λ words. length words ≡ PAGE_WORDS) same long
+        full q g other false is = kept.full q g other is
+
         by : (q g : ℕ) (t : Bool) → eq_by_cmp page_cmp (q, g) (space, page) ≡ t →
             is_some (cond (eq_by_cmp page_cmp (q, g) (space, page)) (Some words) (get m.pages (q, g))) ≡ true → is_live m q ≡ true
         by q g true e h = let same : q ≡ space = ap (λ p. p.0) (page_tied (q, g) (space, page) e) in rw same (IsSpace-live m kept space live)
         by q g false e h = kept.paged q g (rw e at h)
+
+  -- a page with another word has as many
+  pub put_word-long : (at word : ℕ) → is_some (get m.pages (space, page)) ≡ true →
+      length (slice_set (unwrap_or (get m.pages (space, page)) []) at word) ≡ PAGE_WORDS
+  put_word-long at word there = by (get m.pages (space, page)) refl there
+    where
+      by : (o : Option (List ℕ)) → get m.pages (space, page) ≡ o → is_some o ≡ true → length (slice_set (unwrap_or o []) at word) ≡ PAGE_WORDS
+      by None e some = absurd (cc)
+      by (Some words) e some = length-set words at word ∙ kept.full space page words e
 
   pub drop_page-world : world (with_pages m (remove m.pages (space, page))) ≡ apply (DropPage (path m space) page) (world m)
   unfolding world apply
@@ -110,7 +128,12 @@ module _ (m : Contents) (kept : IsWellFormed m) (space page : ℕ) where
   pub drop_page-kept : IsWellFormed (with_pages m (remove m.pages (space, page)))
   drop_page-kept = kept-pages m kept
       (remove m.pages (space, page)) (λ q g h. by q g (eq_by_cmp page_cmp (q, g) (space, page)) (rw (get-remove page_total m.pages (space, page) (q, g)) at h))
+      (λ q g words h. full q g words (eq_by_cmp page_cmp (q, g) (space, page)) (sym (get-remove page_total m.pages (space, page) (q, g)) ∙ h))
     where
+      full : (q g : ℕ) (words : List ℕ) (t : Bool) → cond t None (get m.pages (q, g)) ≡ Some words → length words ≡ PAGE_WORDS
+      full q g words true is = absurd (cc)
+      full q g words false is = kept.full q g words is
+
       by : (q g : ℕ) (t : Bool) → is_some (cond t None (get m.pages (q, g))) ≡ true → is_live m q ≡ true
       by q g true h = absurd (cc)
       by q g false h = kept.paged q g h

@@ -1,5 +1,5 @@
 -- Proceeding: a thread goes on where it stands.
-use Rattle.std.proofs.Common.{◌≡◌, ℕ, List, Some, None, refl}
+use Rattle.std.proofs.Common.{◌≡◌, ℕ, List, length, Some, None, refl}
 use Rattle.std.specs.FinMap.{FinMap, get, insert}
 use Rattle.fk_model.specs.declared.names.Who.{Who}
 use Rattle.fk_model.specs.declared.thread.Mode.{Mode}
@@ -16,7 +16,7 @@ use Rattle.fk_store.specs.WellFormed.{IsWellFormed}
 use Rattle.fk_store.proofs.changing.InPlace.{Stays, Changes, changes}
 use Rattle.fk_store.proofs.changing.ThreadLaws.{proceed_nobody}
 
-module _ (g : List ℕ) (c : ℕ) (mode : Mode) where
+module _ (g : List ℕ) (long : length g ≡ 16) (c : ℕ) (mode : Mode) where
   edits : (p : ℕ → Path) (b : Body) → edited (Proceed (mode_by mode g) c) (body_by p b) ≡ body_by p (proceeded g c mode b)
   unfolding edited
   edits p (Mutex locked) = refl
@@ -37,7 +37,7 @@ module _ (g : List ℕ) (c : ℕ) (mode : Mode) where
   stays p who P (Port set served) = record { kind = refl; home = λ h. h; named = λ h. h; sized = λ h. h }
   stays p who P Portset = record { kind = refl; home = λ h. h; named = λ h. h; sized = λ h. h }
   stays p who P (Space birth holder) = record { kind = refl; home = λ h. h; named = λ h. h; sized = λ h. h }
-  stays p who P (Thread thread) = record { kind = refl; home = λ h. h; named = λ h. h; sized = λ h. h }
+  stays p who P (Thread thread) = record { kind = refl; home = λ h. h; named = λ h. h; sized = λ h. long }
   stays p who P (Reference to) = record { kind = refl; home = λ h. h; named = λ h. h; sized = λ h. h }
 
   pub goes_on : (m : Contents) → IsWellFormed m → (who : Who) (bodies2 : FinMap who_cmp Body) →

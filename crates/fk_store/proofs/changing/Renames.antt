@@ -225,6 +225,7 @@ module _ (m : Contents) (kept : IsWellFormed m) (who : Who) (there : is_there m 
       paged = λ space page h. live_same space ∙ kept.paged space page h;
       leads = leads_moved;
       sized = sized_moved;
+      full = kept.full;
     }
 
     pub path-stays : (n : ℕ) → path m n ≢ x → path renamed n ≡ path m n

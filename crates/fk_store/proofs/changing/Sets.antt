@@ -160,6 +160,7 @@ module _ (m : Contents)
     paged = λ space page h. is_live-births m kept (with_body m who b) put_births space ∙ kept.paged space page h;
     leads = kept_named named;
     sized = kept_sized sized;
+    full = kept.full;
   }
 
 -- what a set of a body of the same kind leaves

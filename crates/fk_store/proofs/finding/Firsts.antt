@@ -34,6 +34,7 @@ kept-first = record {
   paged = λ space page h. let none : get first.pages (space, page) ≡ None = get-empty page_cmp (space, page) in let nothing = ap is_some none in absurd (cc);
   leads = λ who b h. no_body who (rw h refl);
   sized = λ who b h. no_body who (rw h refl);
+  full = λ space page words h. let none : get first.pages (space, page) ≡ None = get-empty page_cmp (space, page) in absurd (cc);
 }
 
 pub world-first : world first ≡ first_world

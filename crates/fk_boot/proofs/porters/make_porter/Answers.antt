@@ -20,7 +20,7 @@ make-requires c = record {
   empty = rw (c.birth_of.ensures.path, c.as_slice.ensures) c.requires.empty;
   birth = tt;
   named = rw (c.porter.ensures.talk, c.porter.ensures.fault) (tt, tt);
-  sized = tt;
+  sized = c.porter.ensures.sized;
 }
 
 pub returns : goal.returns

@@ -1,4 +1,5 @@
-use Rattle.std.proofs.Common.{refl, sym, ◌∙◌, is_some, ap}
+use Rattle.std.proofs.Common.{◌≡◌, length, refl, sym, ◌∙◌, is_some, ap, arith}
+use Rattle.fk_model.specs.declared.limits.TheConstants.{PAGE_WORDS}
 use Rattle.fk_store.proofs.finding.Results.{on_ok, on_err, on_both}
 use Rattle.fk_store.proofs.finding.LookUps.{page-path}
 use Rattle.fk_store.proofs.changing.PageLaws.{put_page-kept, put_page-world, kinds-pages, paths-pages}
@@ -7,8 +8,9 @@ use Rattle.fk_store.proofs.store.Store.put_page.Goals as goal
 pub invariant_of-self : goal.invariant_of-self
 invariant_of-self c =
     let live = rw (← c.self.view_is) at c.requires in
+    let long : length c.args.words.now ≡ PAGE_WORDS = omega arith in
     on_both c.put.result _ _ _
-    (λ e. rw e (put_page-kept _ c.self.invariant c.args.space c.args.page c.args.words.now live))
+    (λ e. rw e (put_page-kept _ c.self.invariant c.args.space c.args.page c.args.words.now live long))
     (λ e. rw e c.self.invariant)
     c.put.ensures.ok c.put.ensures.err
 

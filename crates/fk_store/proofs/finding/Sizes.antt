@@ -1,0 +1,63 @@
+-- Sizes: every page of a store's world has its words, and every thread its registers.
+use Rattle.std.proofs.Common.{◌≡◌, ℕ, List, [], ◌∷◌, length, Option, Some, None, option_map, unwrap_or, refl, sym, ap, subst, ◌∙◌}
+use Rattle.std.proofs.lemmas.Option.{same_Some}
+use Rattle.std.specs.FinMap.{get}
+use Rattle.fk_model.specs.declared.thread.Mode.{Mode as StoredMode}
+use Rattle.fk_model.specs.declared.thread.Mode.TheVariants as modes
+use Rattle.fk_model.specs.declared.body.Body as bodies_of
+use Rattle.fk_model.specs.declared.body.Body.TheVariants as bodies
+use Rattle.fk_model.specs.declared.names.Who.{Who}
+use Rattle.fk_model.specs.Calls.{todo_of, rest_of}
+use Rattle.fk_model.specs.Objects.{Thread, registers_of, thread_of, and_then}
+use Rattle.fk_model.specs.Places.{Path}
+use Rattle.fk_model.specs.Whole.{HasFullPages}
+use Rattle.fk_model.proofs.calls.CallLaws.{words_keep_length_lem, length-rest_of}
+use Rattle.fk_store.specs.Names.{at}
+use Rattle.fk_store.specs.Contents.{Contents}
+use Rattle.fk_store.specs.Paths.{path, space_at}
+use Rattle.fk_store.specs.Bodies.{mode_by, body_by}
+use Rattle.fk_store.specs.World.{world}
+use Rattle.fk_store.specs.WellFormed.{IsSized, IsWellFormed}
+
+-- the stages of a call and the rest beside them are as long as the registers
+mode-long : (mode : StoredMode) (g : List ℕ) → length (registers_of (mode_by mode g)) ≡ length g
+mode-long modes.Running g = refl
+mode-long modes.Calling g = words_keep_length_lem _ _ ∙ length-rest_of (unwrap_or (todo_of g) []) g
+mode-long (modes.Halted code) g = refl
+mode-long modes.Native g = refl
+
+body-long : (p : ℕ → Path) (b : bodies_of.Body) → IsSized b → (t : Thread) → thread_of (body_by p b) ≡ Some t → length (registers_of t.mode) ≡ 16
+body-long p (bodies.Mutex locked) sized t is = absurd (cc)
+body-long p bodies.Cond sized t is = absurd (cc)
+body-long p (bodies.Mapping first count offset write region) sized t is = absurd (cc)
+body-long p (bodies.Region first count write keeper) sized t is = absurd (cc)
+body-long p (bodies.Port set served) sized t is = absurd (cc)
+body-long p bodies.Portset sized t is = absurd (cc)
+body-long p (bodies.Space birth holder) sized t is = absurd (cc)
+body-long p (bodies.Thread thread) sized t is =
+    subst (λ (t : Thread). length (registers_of t.mode) ≡ 16) (same_Some _ _ is) (mode-long thread.mode thread.regs ∙ sized)
+body-long p (bodies.Reference to) sized t is = absurd (cc)
+
+module _ (m : Contents) (kept : IsWellFormed m) where
+  pub registers-long : (x : Path) (t : Thread) → and_then thread_of ((world m).body x) ≡ Some t → length (registers_of t.mode) ≡ 16
+  unfolding world
+  registers-long [] t is = absurd (cc)
+  registers-long (k ∷ s) t is = by (space_at m s) is
+    where
+      under : (who : Who) (o : Option bodies_of.Body) →
+          get m.bodies who ≡ o → and_then thread_of (option_map (body_by (path m)) o) ≡ Some t → length (registers_of t.mode) ≡ 16
+      under who None e is = absurd (cc)
+      under who (Some b) e is = body-long (path m) b (kept.sized who b e) t is
+
+      by : (o : Option ℕ) →
+          and_then thread_of (and_then (λ n. option_map (body_by (path m)) (get m.bodies (at n k))) o) ≡ Some t → length (registers_of t.mode) ≡ 16
+      by None is = absurd (cc)
+      by (Some n) is = under (at n k) (get m.bodies (at n k)) refl is
+
+  pub pages-long : HasFullPages (world m)
+  unfolding world
+  pages-long s page words is = by (space_at m s) is
+    where
+      by : (o : Option ℕ) → and_then (λ n. get m.pages (n, page)) o ≡ Some words → length words ≡ 64
+      by None is = absurd (cc)
+      by (Some n) is = kept.full n page words is
