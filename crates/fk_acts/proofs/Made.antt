@@ -1,5 +1,6 @@
 -- Made: what an act leaves.
-use Rattle.std.proofs.Common.{◌≡◌, ◌<◌, ◌+◌, ◌^◌, ℕ, Bool, true, false, cond, List, [], ◌∷◌, Option, Some, None, refl, ◌∙◌}
+use Rattle.std.proofs.Common.{◌≡◌, ◌<◌, ◌+◌, ◌^◌, ℕ, Bool, true, false, cond, List, [], ◌∷◌, Option, Some, None, refl, sym, ap, ◌∙◌}
+use Rattle.fk_model.specs.declared.moves.Said as says_of
 use Rattle.fk_model.specs.declared.names.Who.{Who}
 use Rattle.fk_model.specs.LinkRows.{is_parked}
 use Rattle.fk_model.specs.Objects.{Peer, Talk, and_then, holds}
@@ -12,15 +13,19 @@ use Rattle.fk_model.specs.World.Change.{Alter, PutPage}
 use Rattle.fk_model.specs.World.Edit.{CountMoved}
 use Rattle.fk_model.proofs.walks.PlaceLaws.{same_path_eq, same_path_ne}
 use Rattle.fk_store.specs.Contents.{Contents}
-use Rattle.fk_store.specs.Paths.{path, place}
+use Rattle.fk_store.specs.Moves.{said_by}
+use Rattle.fk_store.specs.Names.{same_who}
+use Rattle.fk_store.specs.Paths.{path, place, HasOwnPath}
 use Rattle.fk_store.specs.World.{world}
 use Rattle.fk_threads.specs.Shifted.{IsLow}
 use Rattle.fk_transfer.proofs.SendLaws.{todo_counted, todo_paged}
+use Rattle.fk_plans.specs.Hearers.{says_to, says_to_who, told_port, IsHeard}
+use Rattle.fk_plans.proofs.Hearers.{by-name, own}
 use Rattle.fk_endings.specs.Clients.{HasClient, IsEnding, native_at, native_port}
 use Rattle.fk_endings.proofs.Changes.{AreQuiet, all-same, same-ending, then-same}
 use Rattle.fk_acts.specs.declared.act.Act.{Act}
 use Rattle.fk_acts.specs.declared.act.Act.TheVariants as acts
-use Rattle.fk_acts.specs.Acts.{changes_of, IsAct}
+use Rattle.fk_acts.specs.Acts.{changes_of, told_of, IsAct}
 
 -- who receives words can count them once they are there
 pub low_later : (w : World) (x s : Path) (page : ℕ) (words : List ℕ) (k : ℕ) → IsLow w x k →
@@ -66,3 +71,17 @@ act-ending m port words (acts.Fills client) is =
     same-ending (world m) _ (all-same (world m) (changes_of (world m) (path m) port words (acts.Fills client)) (refl, tt))
 act-ending m port words (acts.Passes client) is =
     same-ending (world m) _ (all-same (world m) (changes_of (world m) (path m) port words (acts.Passes client)) (refl, (refl, tt)))
+
+-- ---- who hears it
+
+pub act-heard : (p q : ℕ → Path) (port : Who) (act : Act) (said : says_of.Said) →
+    said_by q said ≡ told_of p port act → told_port said ≡ Some port → HasOwnPath p port → IsHeard p (said_by q said) said
+act-heard p q port act said tells is apart who = ap (λ s. says_to s (place p who)) tells ∙ by act ∙ sym (by-name said port is who)
+  where
+    by : (act : Act) → says_to (told_of p port act) (place p who) ≡ same_who who port
+    by (acts.Takes client) = own p port who apart
+    by (acts.Resumes client turn moved) = own p port who apart
+    by acts.GivesNothing = own p port who apart
+    by (acts.Gives client to into count) = own p port who apart
+    by (acts.Fills client) = own p port who apart
+    by (acts.Passes client) = own p port who apart

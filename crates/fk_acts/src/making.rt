@@ -1,5 +1,5 @@
 //! Making an act.
-ghost use Rattle.std.specs.Prelude.{◌≡◌, ◌≤◌, ◌+◌, [], ◌∷◌, take, length, IsSome};
+ghost use Rattle.std.specs.Prelude.{◌≡◌, ◌≤◌, ◌+◌, [], ◌∷◌, take, length, IsSome, Some};
 ghost use Rattle.fk_model.specs.Reach.{words_at};
 ghost use Rattle.fk_model.specs.TransferRows.{overwritten};
 ghost use Rattle.fk_model.specs.Valid.{kind_there};
@@ -8,6 +8,7 @@ ghost use Rattle.fk_model.specs.World.Change.{PutPage};
 ghost use Rattle.fk_store.specs.Moves.{said_by};
 ghost use Rattle.fk_store.specs.Paths.{path};
 ghost use Rattle.fk_store.specs.World.{world, IsLive, IsSpace};
+ghost use Rattle.fk_plans.specs.Hearers.{told_port};
 ghost use Rattle.fk_acts.specs.Acts.{changes_of, told_of, IsAct, IsGift};
 
 use crate::act::Act;
@@ -55,6 +56,7 @@ fn takes(store: &mut Store, port: Who, client: Who) -> Said
     requires live { IsLive store.old port }
     ensures world { world store.new ≡ apply_all (changes_of (world store.old) (path store.old) port [] (Act.Takes client)) (world store.old) }
     ensures said { said_by (path store.new) result ≡ told_of (path store.old) port (Act.Takes client) }
+    ensures port { told_port result ≡ Some port }
 {
     let turn = Turn::Client;
     let talk = Talk {
@@ -94,6 +96,7 @@ pub fn make(store: &mut Store, port: Who, words: &[u64], act: &Act) -> Said
     ensures world { world store.new
         ≡ apply_all (changes_of (world store.old) (path store.old) port words.now act.now) (world store.old) }
     ensures said { said_by (path store.new) result ≡ told_of (path store.old) port act.now }
+    ensures port { told_port result ≡ Some port }
 {
     match *act {
         Act::Takes { client } => takes(store, port, client),

@@ -4,15 +4,16 @@ ghost use Rattle.fk_model.specs.Moves as machine;
 ghost use Rattle.fk_model.specs.Moves.{IsReady};
 ghost use Rattle.fk_model.specs.Valid.{IsValid};
 ghost use Rattle.fk_store.specs.Moves.{picked_by, said_by};
-ghost use Rattle.fk_store.specs.Paths.{path, place};
-ghost use Rattle.fk_store.specs.World.{world};
+ghost use Rattle.fk_store.specs.Paths.{path, place, HasOwnPath};
+ghost use Rattle.fk_store.specs.World.{world, IsLive};
 ghost use Rattle.fk_endings.specs.Clients.{IsEnding};
+ghost use Rattle.fk_plans.specs.Hearers.{IsHeard};
 ghost use Rattle.fk_acts.specs.Acts.{is_act};
 
 use crate::allowing::is_allowed;
 use crate::judging::{act_of, given};
 use crate::making::make;
-use fk_model::{Ask, Move, Said};
+use fk_model::{Ask, Move, Said, Who};
 use fk_store::Store;
 
 /// Whether an act of a native server is ready. The move names its port.
@@ -36,6 +37,7 @@ pub fn attempt(store: &mut Store, m: &Move, ask: &Ask) -> Option<Said>
     ensures step { IfSome result (λ said. machine.step
         (world store.old) (place (path store.old) m.now.who) (picked_by (path store.old) m.now.pick) ask.now
         ≡ record { world = world store.new; said = said_by (path store.new) said }) }
+    ensures heard { IfSome result (λ said. IsHeard (path store.old) (said_by (path store.new) said) said) }
     ensures clients { IsSome result → IsEnding (world store.old) (world store.new) None }
     ensures unready { IfNone result
         (IsReady (world store.old) (place (path store.old) m.now.who) (picked_by (path store.old) m.now.pick) ask.now → ⊥) }
@@ -45,5 +47,16 @@ pub fn attempt(store: &mut Store, m: &Move, ask: &Ask) -> Option<Said>
     if !is_allowed(store, m.who, &act) {
         return None;
     }
+    own_path(store, m.who);
     Some(make(store, m.who, given(ask), &act))
+}
+
+/// An object that is there has a path of its own.
+fn own_path(store: &Store, who: Who)
+    requires live { IsLive store.now who }
+    ensures { HasOwnPath (path store.now) who }
+{
+    if store.at(who).is_none() {
+        unreachable!();
+    }
 }

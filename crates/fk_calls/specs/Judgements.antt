@@ -17,6 +17,7 @@ use Rattle.fk_store.specs.World.{world}
 use Rattle.fk_plans.specs.declared.plan.Effect.{Effect}
 use Rattle.fk_plans.specs.declared.plan.Moving.{Moving}
 use Rattle.fk_plans.specs.declared.plan.Verdict.TheVariants as verdicts
+use Rattle.fk_plans.specs.Hearers.{IsHeard}
 use Rattle.fk_plans.specs.Movings.{verdict_of}
 use Rattle.fk_plans.specs.Verdicts.{IsVerdict, IsSureVerdict, move_by}
 use Rattle.fk_endings.specs.Clients.{IsEnding}
@@ -71,6 +72,10 @@ IsStepTo m move ask n said =
 pub record IsEnded (m n : Contents) (port : Option Who) : Type 0 where
   pub ending : IsEnding (world m) (world n) (option_map (place (path m)) port)
   pub apart : Each (HasOwnPath (path m)) port
+
+-- who hears what a move tells by its path before, hears it by its name
+abbrev pub IsHeardBy : Contents → Contents → Said → Type 0
+IsHeardBy m n said = IsHeard (path m) (said_by (path n) said) said
 
 -- a move may want memory, for an object or a page
 abbrev pub may_lack : Contents → Move → Ask → Bool

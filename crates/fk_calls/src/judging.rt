@@ -64,14 +64,24 @@ pub fn running<'a>(store: &'a Store, who: Who, ask: &Ask) -> Option<&'a Thread>
     ensures there { IfSome result (λ thread. Some (thread_by (path store.now) thread.now) ≡ thread_at (world store.now) (place (path store.now) who)) }
 {
     match ask {
-        Ask::Run => match free_user(store, who) {
-            Some(thread) => match thread.mode {
-                Mode::Running => Some(thread),
-                Mode::Calling | Mode::Halted(_) | Mode::Native => None,
-            },
-            None => None,
-        },
+        Ask::Run => running_user(store, who),
         Ask::Call { .. } | Ask::Accept | Ask::Give { .. } | Ask::Over => None,
+    }
+}
+
+/// The free user in a slot, where it runs.
+#[inline(always)]
+pub fn running_user<'a>(store: &'a Store, who: Who) -> Option<&'a Thread>
+    ensures free { IsSome result → is_free_at (world store.now) (place (path store.now) who) ≡ true }
+    ensures running { IsSome result → is_running (thread_at (world store.now) (place (path store.now) who)) ≡ true }
+    ensures there { IfSome result (λ thread. Some (thread_by (path store.now) thread.now) ≡ thread_at (world store.now) (place (path store.now) who)) }
+{
+    match free_user(store, who) {
+        Some(thread) => match thread.mode {
+            Mode::Running => Some(thread),
+            Mode::Calling | Mode::Halted(_) | Mode::Native => None,
+        },
+        None => None,
     }
 }
 

@@ -17,5 +17,5 @@ mod picking;
 mod rows;
 
 pub use fitting::is_fit;
-pub use moves::{Told, attempt, ready, take};
+pub use moves::{Told, attempt, proceed, ready, take};
 pub use picking::{Picks, may_pick};

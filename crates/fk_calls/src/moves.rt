@@ -1,23 +1,26 @@
 //! Which moves are ready, and making them.
-ghost use Rattle.std.specs.Prelude.{◌≡◌, ◌↔◌, ℕ, List, true, false, IsTrue, IsOk, IfOk, IfSome, IfNone, OnErr};
+ghost use Rattle.std.specs.Prelude.{◌≡◌, ◌↔◌, ℕ, List, None, true, false, IsTrue, IsOk, IfOk, IfSome, IfNone, OnErr};
+ghost use Rattle.std.specs.Bool.{OnTrue, OnFalse};
 ghost use Rattle.fk_model.specs.declared.moves.Ask.TheVariants as asks;
 ghost use Rattle.fk_model.specs.Valid.{IsValid};
 ghost use Rattle.fk_model.specs.Searches.{thread_at};
 ghost use Rattle.fk_plans.specs.Effects.{effect_by, of_running};
-ghost use Rattle.fk_store.specs.Paths.{path, place};
+ghost use Rattle.fk_store.specs.Paths.{path, place, HasOwnPath};
 ghost use Rattle.fk_store.specs.World.{world};
 ghost use Rattle.fk_acts.specs.Acts.{is_act};
-ghost use Rattle.fk_calls.specs.Judgements.{is_fit_move, IsEnded, IsMoving, IsReadyMove, IsRun, IsStepTo, may_lack};
+ghost use Rattle.fk_calls.specs.Judgements.{is_fit_move, IsEnded, IsMoving, IsReadyMove, IsRun, IsStepTo, may_lack, IsHeardBy};
+ghost use Rattle.fk_plans.specs.Verdicts.{hearer_of, IsVerdict};
+ghost use Rattle.fk_store.specs.Named.{Each};
 ghost use Rattle.fk_calls.specs.Rows as stages;
 ghost use Rattle.fk_calls.specs.Rows.{are_given_for};
 
-use crate::judging::{given, judge, moving_of, running};
+use crate::judging::{given, judge, moving_of, running, running_user};
 use crate::rows::restores;
 use fk_endings::ended_by;
 use fk_model::{Ask, Move, NoMemory, Said, Stage, Who};
 use fk_plans::{
-    Caller, Effect, Moving, carry_out, is_effect_ready, is_moving_ready, is_ready, make_effect,
-    move_words,
+    Caller, Effect, Moving, News, Verdict, carry_out, is_effect_ready, is_moving_ready, is_ready,
+    make_effect, move_words,
 };
 use fk_store::Store;
 use fk_user::Instruction;
@@ -98,6 +101,7 @@ pub fn attempt(store: &mut Store, m: &Move, ask: &Ask) -> Result<Option<Told>, N
     requires fit { is_fit_move store.old m.now ask.now ≡ true }
     ensures made { IfOk result (λ tried. IfSome tried (λ told. IsReadyMove store.old m.now ask.now × IsStepTo store.old m.now ask.now store.new told.said)) }
     ensures ended { IfOk result (λ tried. IfSome tried (λ told. IsEnded store.old store.new told.ended)) }
+    ensures heard { IfOk result (λ tried. IfSome tried (λ told. IsHeardBy store.old store.new told.said)) }
     ensures unready { IfOk result (λ tried. IfNone tried ((IsReadyMove store.old m.now ask.now → ⊥) × (store.new ≡ store.old))) }
     ensures lacking { OnErr result (IsReadyMove store.old m.now ask.now × (store.new ≡ store.old)) }
     ensures sure { may_lack store.old m.now ask.now ≡ false → IsOk result }
@@ -115,7 +119,7 @@ pub fn attempt(store: &mut Store, m: &Move, ask: &Ask) -> Result<Option<Told>, N
         if let Instruction::Runs(effect) = fk_user::instruction(store, caller, thread) {
             let registers = thread.regs;
             let counter = thread.pc;
-            return Ok(attempt_effect(store, m, ask, registers, counter, effect));
+            return Ok(attempt_instruction(store, m, ask, registers, counter, effect));
         }
     }
     // Words that go to a receiver need none either.
@@ -131,6 +135,7 @@ fn attempt_act(store: &mut Store, m: &Move, ask: &Ask) -> Option<Told>
     requires act { is_act ask.now ≡ true }
     ensures made { IfSome result (λ told. IsReadyMove store.old m.now ask.now × IsStepTo store.old m.now ask.now store.new told.said) }
     ensures ended { IfSome result (λ told. IsEnded store.old store.new told.ended) }
+    ensures heard { IfSome result (λ told. IsHeardBy store.old store.new told.said) }
     ensures unready { IfNone result ((IsReadyMove store.old m.now ask.now → ⊥) × (store.new ≡ store.old)) }
 {
     match fk_acts::attempt(store, m, ask) {
@@ -139,9 +144,35 @@ fn attempt_act(store: &mut Store, m: &Move, ask: &Ask) -> Option<Told>
     }
 }
 
-/// The same, of an instruction with this effect on these registers at this counter.
+/// Makes the instruction of the user in a slot, where that is what it does next and where it is ready, and answers
+/// whether it did; else all stays as it is. It tells nothing, and no server loses its client by it. So nobody needs
+/// room here for what moves tell.
+pub fn proceed(store: &mut Store, who: Who) -> bool
+    requires valid { IsValid (world store.old) }
+    ensures made { OnTrue result (IsReadyMove store.old (record { who = who; pick = None }) asks.Run
+        × IsStepTo store.old (record { who = who; pick = None }) asks.Run store.new Said.Nothing) }
+    ensures ended { OnTrue result (IsEnded store.old store.new None) }
+    ensures same { OnFalse result (store.new ≡ store.old) }
+{
+    let Some(thread) = running_user(store, who) else {
+        return false;
+    };
+    let caller = Caller {
+        who,
+        is_porter: false,
+    };
+    let Instruction::Runs(effect) = fk_user::instruction(store, caller, thread) else {
+        return false;
+    };
+    let registers = thread.regs;
+    let counter = thread.pc;
+    let m = Move { who, pick: None };
+    make_instruction(store, &m, registers, counter, effect)
+}
+
+/// Attempts an instruction with this effect on these registers at this counter.
 #[inline(always)]
-fn attempt_effect(
+fn attempt_instruction(
     store: &mut Store,
     m: &Move,
     ask: &Ask,
@@ -150,27 +181,54 @@ fn attempt_effect(
     effect: Effect,
 ) -> Option<Told>
     requires valid { IsValid (world store.old) }
-    requires judged { IsRun store.old m.now ask.now effect }
+    requires run { ask.now ≡ asks.Run }
+    requires judged { IsRun store.old m.now asks.Run effect }
     requires at { of_running (effect_by (world store.old) (path store.old) (place (path store.old) m.now.who) effect)
         (thread_at (world store.old) (place (path store.old) m.now.who))
         ≡ effect_by (world store.old) (path store.old) (place (path store.old) m.now.who) effect registers counter }
     ensures made { IfSome result (λ told. IsReadyMove store.old m.now ask.now × IsStepTo store.old m.now ask.now store.new told.said) }
     ensures ended { IfSome result (λ told. IsEnded store.old store.new told.ended) }
+    ensures heard { IfSome result (λ told. IsHeardBy store.old store.new told.said) }
     ensures unready { IfNone result ((IsReadyMove store.old m.now ask.now → ⊥) × (store.new ≡ store.old)) }
+{
+    if make_instruction(store, m, registers, counter, effect) {
+        Some(Told {
+            said: Said::Nothing,
+            ended: None,
+        })
+    } else {
+        None
+    }
+}
+
+/// Makes an instruction with this effect on these registers at this counter, where it is ready, and answers whether it is.
+#[inline(always)]
+fn make_instruction(
+    store: &mut Store,
+    m: &Move,
+    registers: [u64; 16],
+    counter: u64,
+    effect: Effect,
+) -> bool
+    requires valid { IsValid (world store.old) }
+    requires judged { IsRun store.old m.now asks.Run effect }
+    requires at { of_running (effect_by (world store.old) (path store.old) (place (path store.old) m.now.who) effect)
+        (thread_at (world store.old) (place (path store.old) m.now.who))
+        ≡ effect_by (world store.old) (path store.old) (place (path store.old) m.now.who) effect registers counter }
+    ensures made { OnTrue result (IsReadyMove store.old m.now asks.Run × IsStepTo store.old m.now asks.Run store.new Said.Nothing) }
+    ensures ended { OnTrue result (IsEnded store.old store.new None) }
+    ensures unready { OnFalse result ((IsReadyMove store.old m.now asks.Run → ⊥) × (store.new ≡ store.old)) }
 {
     let caller = Caller {
         who: m.who,
         is_porter: false,
     };
     if !is_effect_ready(store, caller, m.pick, &effect) {
-        return None;
+        return false;
     }
     store.names();
     make_effect(store, m.who, registers, counter, effect);
-    Some(Told {
-        said: Said::Nothing,
-        ended: None,
-    })
+    true
 }
 
 /// The same, of words that go to a thread that receives them.
@@ -179,6 +237,7 @@ fn attempt_moving(store: &mut Store, m: &Move, ask: &Ask, moving: &Moving) -> Op
     requires judged { IsMoving store.old m.now ask.now moving.now }
     ensures made { IfSome result (λ told. IsReadyMove store.old m.now ask.now × IsStepTo store.old m.now ask.now store.new told.said) }
     ensures ended { IfSome result (λ told. IsEnded store.old store.new told.ended) }
+    ensures heard { IfSome result (λ told. IsHeardBy store.old store.new told.said) }
     ensures unready { IfNone result ((IsReadyMove store.old m.now ask.now → ⊥) × (store.new ≡ store.old)) }
 {
     let caller = Caller {
@@ -203,6 +262,7 @@ fn attempt_judged(store: &mut Store, m: &Move, ask: &Ask) -> Result<Option<Told>
     requires fit { is_fit_move store.old m.now ask.now ≡ true }
     ensures made { IfOk result (λ tried. IfSome tried (λ told. IsReadyMove store.old m.now ask.now × IsStepTo store.old m.now ask.now store.new told.said)) }
     ensures ended { IfOk result (λ tried. IfSome tried (λ told. IsEnded store.old store.new told.ended)) }
+    ensures heard { IfOk result (λ tried. IfSome tried (λ told. IsHeardBy store.old store.new told.said)) }
     ensures unready { IfOk result (λ tried. IfNone tried ((IsReadyMove store.old m.now ask.now → ⊥) × (store.new ≡ store.old))) }
     ensures lacking { OnErr result (IsReadyMove store.old m.now ask.now × (store.new ≡ store.old)) }
     ensures sure { may_lack store.old m.now ask.now ≡ false → IsOk result }
@@ -215,10 +275,27 @@ fn attempt_judged(store: &mut Store, m: &Move, ask: &Ask) -> Result<Option<Told>
         return Ok(None);
     }
     let ended = ended_by(store, j.caller, &j.verdict);
+    apart(store, j.caller, &j.verdict);
     Ok(Some(Told {
         said: carry_out(store, j.caller, given(ask), &j.verdict)?,
         ended,
     }))
+}
+
+/// The port whose server a verdict tells something has a path of its own.
+fn apart(store: &Store, caller: Caller, verdict: &Verdict)
+    requires fits { IsVerdict store.now caller verdict.now }
+    ensures { Each (HasOwnPath (path store.now)) (hearer_of verdict.now) }
+{
+    if let Verdict::Tells { news, .. } = verdict {
+        let port = match *news {
+            News::Words(words) => words.port,
+            News::Passed { port } | News::Ended { port } => port,
+        };
+        if store.at(port).is_none() {
+            unreachable!();
+        }
+    }
 }
 
 /// Makes a move, which is ready and fit, and gives what it tells. For want of memory all stays as it was;

@@ -1,21 +1,30 @@
 -- Endings: which native server has lost its client, by its port's name.
 use Rattle.std.proofs.Common.{◌≡◌, ◌≤◌, Bool, true, false, ◌&&◌, is_some, is_none, Option, Some, None, Result, Ok, Err, IfOk, IfSome, option_map, refl, sym, ap, subst, ◌∙◌}
+use Rattle.std.specs.Bool.{OnTrue}
+use Rattle.fk_model.specs.declared.moves.Ask.{Ask}
+use Rattle.fk_model.specs.declared.moves.Ask.TheVariants as asks
+use Rattle.fk_model.specs.declared.moves.Move.{Move}
+use Rattle.fk_model.specs.declared.moves.Said.TheVariants as says
 use Rattle.fk_model.specs.declared.names.Who.{Who}
 use Rattle.fk_model.specs.Endings.{has_ended}
+use Rattle.fk_model.specs.Moves.{Step, step}
+use Rattle.fk_model.specs.Outcomes.Said.{Nothing}
 use Rattle.fk_model.specs.Places.{Path, same_path}
 use Rattle.fk_model.specs.Searches.{client_at, depth}
 use Rattle.fk_model.specs.Valid.{IsValid}
-use Rattle.fk_model.specs.Who.{named, space_born}
+use Rattle.fk_model.specs.Who.{event_of, named, space_born}
 use Rattle.fk_model.specs.World.{World}
 use Rattle.fk_model.proofs.walks.PlaceLaws.{same_path_eq}
 use Rattle.fk_store.specs.Contents.{Contents}
+use Rattle.fk_store.specs.Moves.{picked_by}
 use Rattle.fk_store.specs.Paths.{path, place}
 use Rattle.fk_store.specs.World.{world}
+use Rattle.fk_plans.specs.Hearers.{says_to, says_to_who}
 use Rattle.fk_endings.specs.Clients.{HasClient, LosesClient}
 use Rattle.fk_endings.proofs.Changes.{client-found, found-client}
 use Rattle.fk_calls.specs.declared.moves.Told.{Told}
-use Rattle.fk_calls.specs.Judgements.{IsEnded}
-use Rattle.fk_kernel.specs.Events.{is_who}
+use Rattle.fk_calls.specs.Judgements.{IsEnded, IsHeardBy, IsReadyMove, IsStepTo}
+use Rattle.fk_kernel.specs.Events.{is_who, step_of, IsReadyEvent}
 
 module _ (m n : Contents) (valid : IsValid (world m)) (few : (world m).next ≤ depth) (kept : IsValid (world n)) (low : (world n).next ≤ depth) where
   some_before : (p : Path) → HasClient (world m) p → is_some (client_at (world m) p) ≡ true
@@ -61,3 +70,31 @@ module _ (m n : Contents) (valid : IsValid (world m)) (few : (world m).next ≤ 
   ended-tried born (Ok (Some told)) ended = λ port. rw (← born) (ended-exact told.ended ended port)
   ended-tried born (Ok None) ended = tt
   ended-tried born (Err e) ended = tt
+
+  -- of an instruction that is proceeded with
+  pub ended-proceeded : (born : path m ≡ space_born (world m)) (b : Bool) → OnTrue b (IsEnded m n None) →
+      OnTrue b ((port : Who) → has_ended (world m) (world n) (named (world m) port) ≡ false)
+  ended-proceeded born true ended = λ port. rw (← born) (ended-exact None ended port)
+  ended-proceeded born false ended = tt
+
+-- ---- who hears what a move tells
+
+pub heard-tried : {E : Type 0} (m n : Contents) (move : Move) (ask : Ask) (born : path m ≡ space_born (world m)) (r : Result (Option Told) E) →
+    IfOk r (λ tried. IfSome tried (λ told. IsReadyMove m move ask × IsStepTo m move ask n told.said)) →
+    IfOk r (λ tried. IfSome tried (λ told. IsHeardBy m n told.said)) →
+    IfOk r (λ tried. IfSome tried (λ told. (port : Who) →
+    says_to (step_of (world m) (event_of (world m) ask move)).said (named (world m) port) ≡ says_to_who told.said port))
+heard-tried m n move ask born (Ok (Some told)) made heard = λ port.
+    subst (λ p. says_to (step (world m) (place p move.who) (picked_by p move.pick) ask).said (place p port) ≡ says_to_who told.said port) born
+    (ap (λ (s : Step). says_to s.said (place (path m) port)) made.1 ∙ heard port)
+heard-tried m n move ask born (Ok None) made heard = tt
+heard-tried m n move ask born (Err e) made heard = tt
+
+-- ---- an instruction that is proceeded with, as an event
+
+pub made-proceeded : (m n : Contents) (who : Who) (born : path m ≡ space_born (world m)) (b : Bool) →
+    OnTrue b (IsReadyMove m (record { who = who; pick = None }) asks.Run × IsStepTo m (record { who = who; pick = None }) asks.Run n says.Nothing) →
+    OnTrue b (IsReadyEvent (world m) (event_of (world m) asks.Run (record { who = who; pick = None }))
+    × (step_of (world m) (event_of (world m) asks.Run (record { who = who; pick = None })) ≡ record { world = world n; said = Nothing }))
+made-proceeded m n who born true made = rw (← born) made
+made-proceeded m n who born false made = tt

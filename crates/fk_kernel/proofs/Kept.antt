@@ -1,11 +1,13 @@
 -- Kept: a fit step keeps a world valid.
-use Rattle.std.proofs.Common.{◌≡◌, ◌≤◌, true, Option, Some, None, Result, Ok, Err, IfOk, IfSome, IfNone, OnErr, ap, subst}
+use Rattle.std.proofs.Common.{◌≡◌, ◌≤◌, Bool, true, false, refl, Option, Some, None, Result, Ok, Err, IfOk, IfSome, IfNone, OnErr, ap, subst}
+use Rattle.std.specs.Bool.{OnTrue, OnFalse}
 use Rattle.fk_model.specs.declared.moves.Ask.{Ask}
+use Rattle.fk_model.specs.declared.moves.Ask.TheVariants as asks
 use Rattle.fk_model.specs.declared.moves.Move.{Move}
 use Rattle.fk_model.specs.declared.moves.Said.{Said}
 use Rattle.fk_model.specs.Moves.{Step}
 use Rattle.fk_model.specs.Searches.{depth}
-use Rattle.fk_model.specs.Valid.{IsValid}
+use Rattle.fk_model.specs.Valid.{IsValid, is_fit}
 use Rattle.laws_machine.proofs.validity.Steps.{step_keeps_valid_lem}
 use Rattle.fk_store.specs.Contents.{Contents}
 use Rattle.fk_store.specs.Moves.{picked_by}
@@ -13,6 +15,11 @@ use Rattle.fk_store.specs.Paths.{path, place}
 use Rattle.fk_store.specs.World.{world}
 use Rattle.fk_calls.specs.declared.moves.Told.{Told}
 use Rattle.fk_calls.specs.Judgements.{is_fit_move, IsStepTo}
+
+-- to run is fit
+run-fit : (m : Contents) (move : Move) → is_fit_move m move asks.Run ≡ true
+unfolding is_fit
+run-fit m move = refl
 
 module _ (m n : Contents) (move : Move) (ask : Ask) (valid : IsValid (world m)) (few : (world m).next ≤ depth) (fit : is_fit_move m move ask ≡ true) where
   kept-made : (said : Said) → IsStepTo m move ask n said → IsValid (world n)
@@ -34,3 +41,9 @@ module _ (m n : Contents) (move : Move) (ask : Ask) (valid : IsValid (world m)) 
   kept-tried R N (Ok None) made same lacking = kept-same same.1
   kept-tried R N (Ok (Some told)) made same lacking = kept-made told.said made.1
   kept-tried R N (Err e) made same lacking = kept-same lacking.1
+
+-- an instruction that is proceeded with
+pub kept-proceeded : (m n : Contents) (move : Move) (R : Type 0) (said : Said) → IsValid (world m) → (world m).next ≤ depth → (b : Bool) →
+    OnTrue b (R × IsStepTo m move asks.Run n said) → OnFalse b (n ≡ m) → IsValid (world n)
+kept-proceeded m n move R said valid few true made same = kept-made m n move asks.Run valid few (run-fit m move) said made.1
+kept-proceeded m n move R said valid few false made same = kept-same m n move asks.Run valid few (run-fit m move) same

@@ -1,11 +1,14 @@
 //! The kernel.
 ghost use Rattle.std.specs.Prelude.{◌≡◌, ◌↔◌, true, false, IsTrue, IsOk, IfOk, IfSome, IfNone, IsSome, OnErr, None, Some};
 ghost use Rattle.fk_model.specs.declared.moves.Ask.TheVariants as asks;
+ghost use Rattle.std.specs.Bool.{OnTrue, OnFalse};
+ghost use Rattle.fk_model.specs.Outcomes.Said.{Nothing};
 ghost use Rattle.fk_model.specs.Valid.{IsValid};
 ghost use Rattle.fk_model.specs.Who.{event_of, named};
 ghost use Rattle.fk_store.specs.Moves.{said_by};
 ghost use Rattle.fk_store.specs.Paths.{path, place};
 ghost use Rattle.fk_store.specs.World.{world};
+ghost use Rattle.fk_plans.specs.Hearers.{says_to, says_to_who};
 ghost use Rattle.fk_calls.specs.Judgements.{IsReadyMove};
 ghost use Rattle.laws_prompt.specs.Events.{IsPrompt, IsCorrect};
 ghost use Rattle.fk_model.specs.Endings.{has_ended};
@@ -99,6 +102,9 @@ impl Kernel {
             ≡ record { world = world self.new; said = said_by (path self.new) told.said }))) }
         ensures ended { IfOk result (λ tried. IfSome tried (λ told. (port : Who) →
             has_ended (world self.old) (world self.new) (named (world self.old) port) ≡ is_who told.ended port)) }
+        ensures told { IfOk result (λ tried. IfSome tried (λ told. (port : Who) →
+            says_to (step_of (world self.old) (event_of (world self.old) ask.now m.now)).said (named (world self.old) port)
+            ≡ says_to_who told.said port)) }
         ensures unready { IfOk result (λ tried. IfNone tried (
             (IsReadyEvent (world self.old) (event_of (world self.old) ask.now m.now) → ⊥)
             × (self.new ≡ self.old))) }
@@ -113,6 +119,22 @@ impl Kernel {
         let tried = fk_calls::attempt(&mut self.store, m, ask);
         self.store.names();
         tried
+    }
+
+    /// Makes the instruction of the user in a slot, where that is what it does next and where it is ready, and answers
+    /// whether it did; else all stays as it is. It tells nothing, and no native server loses its client by it.
+    pub fn proceed(&mut self, who: Who) -> bool
+        ensures made { OnTrue result (
+            IsReadyEvent (world self.old) (event_of (world self.old) Ask.Run (record { who = who; pick = None }))
+            × (step_of (world self.old) (event_of (world self.old) Ask.Run (record { who = who; pick = None }))
+            ≡ record { world = world self.new; said = Nothing })) }
+        ensures ended { OnTrue result ((port : Who) → has_ended (world self.old) (world self.new) (named (world self.old) port) ≡ false) }
+        ensures same { OnFalse result (self.new ≡ self.old) }
+    {
+        self.store.names();
+        let made = fk_calls::proceed(&mut self.store, who);
+        self.store.names();
+        made
     }
 
     /// A user's move that is ready. There is none exactly where no user's move is.

@@ -8,7 +8,8 @@
 //! It promises that `ready` answers exactly whether the abstract machine is ready to make a move, of a user,
 //! a porter or a native server, that `step` makes of the world what the machine makes of it and tells what
 //! the machine tells, that `attempt` does both at once, and tells the port whose native server lost its
-//! client by it, that `is_fit` tells which moves may be made at all, that `next` and `next_after` find a move
+//! client by it, that `proceed` makes an instruction alone, where that is a user's next move, that `is_fit` tells which moves may be
+//! made at all, that `next` and `next_after` find a move
 //! of a user that is ready wherever there is one, and `ready_accept` whom a native server may accept.
 #![tactic(auto)]
 

@@ -9,3 +9,4 @@ pub mod Told
 pub mod Low
 pub mod Woken
 pub mod Moved
+pub mod Hearers

@@ -9,3 +9,4 @@ pub mod Blocks
 pub mod Sources
 pub mod Own
 pub mod Movings
+pub mod Hearers

@@ -1,5 +1,5 @@
 -- Verdicts: the outcome that a verdict stands for, and what a judge promises.
-use Rattle.std.specs.Prelude.{◌≡◌, ℕ, Bool, true, false, List, [], ◌∷◌, take, drop, ◌+◌, ◌≤◌, if◌then◌else◌, Option, Result, Ok, Err, IfOk, IsSome, ⊤}
+use Rattle.std.specs.Prelude.{◌≡◌, ℕ, Bool, true, false, List, [], ◌∷◌, take, drop, ◌+◌, ◌≤◌, if◌then◌else◌, Option, Some, None, Result, Ok, Err, IfOk, IsSome, ⊤}
 use Rattle.fk_model.specs.declared.names.Who.{Who}
 use Rattle.fk_model.specs.Holds.{is_frozen_for}
 use Rattle.fk_model.specs.Moves.{closed, with_pick}
@@ -53,6 +53,17 @@ abbrev pub port_of : News → Who
 port_of (news.Words words) = words.port
 port_of (news.Passed port) = port
 port_of (news.Ended port) = port
+
+-- a server that hears it. That its talk has ended it is told otherwise
+abbrev pub hearer : News → Option Who
+hearer (news.Words words) = Some words.port
+hearer (news.Passed port) = Some port
+hearer (news.Ended port) = None
+
+-- the same of what a verdict tells
+abbrev pub hearer_of : Verdict → Option Who
+hearer_of (verdicts.Tells plan news last) = hearer news
+hearer_of other = None
 
 -- and whether the stage is done then
 abbrev pub tells : outcomes.Caller → List Change → Said → Bool → Outcome

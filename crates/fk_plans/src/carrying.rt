@@ -1,13 +1,16 @@
 //! Carrying a verdict out.
-ghost use Rattle.std.specs.Prelude.{◌≡◌, ℕ, List, false, true, IfOk, IsOk, OnErr, OnOk, length};
+ghost use Rattle.std.specs.Prelude.{◌≡◌, ℕ, Bool, List, false, true, IfOk, IsOk, OnErr, OnOk, length};
 ghost use Rattle.fk_model.specs.Moves.{closed, stepped};
 ghost use Rattle.fk_model.specs.Outcomes.Outcome.{Refused};
 ghost use Rattle.fk_model.specs.World.{apply, apply_all};
 ghost use Rattle.fk_store.specs.Moves.{said_by};
 ghost use Rattle.fk_store.specs.Paths.{path, place};
 ghost use Rattle.fk_store.specs.World.{world, IsLive};
+ghost use Rattle.fk_plans.specs.declared.plan.News as news_of;
+ghost use Rattle.fk_plans.specs.declared.plan.Plan as plans;
 ghost use Rattle.fk_plans.specs.Plans.{caller_by, change_by, changes_by, IsDeed, IsPlan, IsSure};
-ghost use Rattle.fk_plans.specs.Verdicts.{outcome_by, news_by, tells, IsNews, IsPlanOf, IsRecordOf, IsVerdict, IsSureVerdict};
+ghost use Rattle.fk_plans.specs.Verdicts.{hearer, outcome_by, news_by, tells, IsNews, IsPlanOf, IsRecordOf, IsVerdict, IsSureVerdict};
+ghost use Rattle.fk_plans.specs.Hearers.{told_port};
 
 use crate::blocks::{copy_page, send_block};
 use crate::destroying::destroy;
@@ -159,6 +162,8 @@ pub fn carry_out(
     ensures step { IfOk result (λ said. let c = caller_by (path store.old) caller given.now in
         stepped (world store.old) (closed c (outcome_by (world store.old) (path store.old) c verdict.now))
         ≡ record { world = world store.new; said = said_by (path store.new) said }) }
+    ensures told { (plan : plans.Plan) (news : news_of.News) (last : Bool) →
+        verdict.now ≡ Verdict.Tells plan news last → IfOk result (λ said. told_port said ≡ hearer news) }
     ensures err { OnErr result (store.new ≡ store.old) }
     ensures sure { IsSureVerdict verdict.now → IsOk result }
 {
@@ -228,6 +233,7 @@ fn tell(
         stepped (world store.old) (tells c (changes_by (path store.old) given.now plan.now (world store.old))
         (news_by (world store.old) (path store.old) news.now) last)
         ≡ record { world = world store.new; said = said_by (path store.new) said }) }
+    ensures told { IfOk result (λ said. told_port said ≡ hearer news.now) }
     ensures err { OnErr result (store.new ≡ store.old) }
     ensures sure { IsSure plan.now → IsOk result }
 {

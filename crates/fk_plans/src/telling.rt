@@ -1,5 +1,5 @@
 //! What a porter is told.
-ghost use Rattle.std.specs.Prelude.{◌≡◌, ◌+◌, ◌≤◌, ℕ, take, drop, IsSome};
+ghost use Rattle.std.specs.Prelude.{◌≡◌, ◌+◌, ◌≤◌, ℕ, take, drop, IsSome, Some};
 ghost use Rattle.fk_model.specs.Outcomes.Said.{Answered, Words as Told};
 ghost use Rattle.fk_model.specs.Places.Ptr.{At};
 ghost use Rattle.fk_model.specs.Places.{Path};
@@ -9,7 +9,8 @@ ghost use Rattle.fk_store.specs.Moves.{said_by};
 ghost use Rattle.fk_store.specs.Paths.{path, place};
 ghost use Rattle.fk_store.specs.World.{world};
 ghost use Rattle.fk_threads.specs.Answers.{all_four, listed};
-ghost use Rattle.fk_plans.specs.Verdicts.{news_by, port_of, AreWords, IsNews};
+ghost use Rattle.fk_plans.specs.Verdicts.{hearer, news_by, port_of, AreWords, IsNews};
+ghost use Rattle.fk_plans.specs.Hearers.{told_port};
 
 use crate::plan::{News, Words};
 use fk_model::status::OK;
@@ -73,8 +74,9 @@ fn told_all(words: [u64; 64]) -> Said
 /// Words that come to a port, of a page.
 fn told_words(store: &Store, words: &Words) -> Said
     requires { AreWords (path store.now) (world store.now) words.now }
-    ensures { (p : ℕ → Path) → said_by p result ≡ Told
+    ensures said { (p : ℕ → Path) → said_by p result ≡ Told
         (At (place p words.now.port)) (take words.now.count (drop words.now.at (words_at (world store.now) (path store.now words.now.space) words.now.page))) }
+    ensures port { told_port result ≡ Some words.now.port }
 {
     match store.page(words.space, words.page) {
         Some(page) => from_page(*page, words),
@@ -85,8 +87,9 @@ fn told_words(store: &Store, words: &Words) -> Said
 /// What is told to a native server.
 pub fn said_of(store: &Store, news: &News) -> Said
     requires { IsNews store.now news.now }
-    ensures { (p : ℕ → Path) → place p (port_of news.now) ≡ place (path store.now) (port_of news.now)
+    ensures said { (p : ℕ → Path) → place p (port_of news.now) ≡ place (path store.now) (port_of news.now)
         → said_by p result ≡ news_by (world store.now) (path store.now) news.now }
+    ensures port { told_port result ≡ hearer news.now }
 {
     match news {
         News::Words(words) => told_words(store, words),
@@ -98,7 +101,8 @@ pub fn said_of(store: &Store, news: &News) -> Said
 /// The same, of the words of the page.
 fn from_page(page: [u64; 64], words: &Words) -> Said
     requires { words.now.at + words.now.count ≤ 64 }
-    ensures { (p : ℕ → Path) → said_by p result ≡ Told (At (place p words.now.port)) (take words.now.count (drop words.now.at page)) }
+    ensures said { (p : ℕ → Path) → said_by p result ≡ Told (At (place p words.now.port)) (take words.now.count (drop words.now.at page)) }
+    ensures port { told_port result ≡ Some words.now.port }
 {
     let at = words.at as usize;
     let count = words.count as usize;

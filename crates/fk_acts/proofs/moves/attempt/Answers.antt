@@ -4,7 +4,7 @@ use Rattle.fk_store.specs.Paths.{path, place}
 use Rattle.fk_store.specs.World.{world}
 use Rattle.fk_acts.specs.Acts.{words_of}
 use Rattle.fk_acts.proofs.Allowed.{allowed_iff}
-use Rattle.fk_acts.proofs.Made.{act-ending}
+use Rattle.fk_acts.proofs.Made.{act-ending, act-heard}
 use Rattle.fk_acts.proofs.moves.attempt.Goals as goal
 
 pub returns-clause-ready : goal.returns-clause-ready
@@ -25,3 +25,8 @@ returns-clause-clients c some =
     let m = c.args.store.now in
     let words = words_of c.args.ask.now in
     rw (c.make.ensures.world, c.given.ensures.words) (act-ending m c.args.m.now.who words c.in_ok-act.act c.in_ok-act.ensures.fits)
+
+pub returns-clause-heard : goal.returns-clause-heard
+returns-clause-heard c =
+    act-heard (path c.args.store.now) (path c.make.new.store) c.args.m.now.who c.in_ok-act.act c.make.result c.make.ensures.said c.make.ensures.port
+    c.own_path.ensures

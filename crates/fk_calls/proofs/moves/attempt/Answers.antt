@@ -4,13 +4,14 @@ use Rattle.fk_store.specs.World.{world}
 use Rattle.fk_calls.proofs.Judged.{instruction_judged, running_there}
 use Rattle.fk_calls.proofs.moves.attempt.Goals as goal
 
-pub attempt_effect-requires : goal.attempt_effect-requires
-attempt_effect-requires c =
+pub attempt_instruction-requires : goal.attempt_instruction-requires
+attempt_instruction-requires c =
     let m = c.args.store.now in
     let judged = instruction_judged c.args.store.now c.args.m.now _ (c.in-Some.ensures.free (cc)) (c.in-Some.ensures.running (cc))
     (c.instruction.ensures.row []) c.instruction.ensures.fits c.instruction.ensures.instruction c.instruction.ensures.sure in
     record {
       valid = c.requires.valid;
-      judged = rw (c.in-Some.ensures.run (cc)) (rw c.in-Runs.is at judged);
+      run = c.in-Some.ensures.run (cc);
+      judged = rw c.in-Runs.is at judged;
       at = running_there (world m) (path m) (place (path m) c.args.m.now.who) _ _ c.in-Some.ensures.there (c.in-Some.ensures.running (cc));
     }

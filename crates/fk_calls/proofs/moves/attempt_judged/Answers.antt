@@ -1,4 +1,7 @@
 use Rattle.std.proofs.Common.{◌∙◌}
+use Rattle.fk_store.specs.Paths.{path}
+use Rattle.fk_store.specs.World.{world}
+use Rattle.fk_plans.proofs.Hearers.{heard_verdict}
 use Rattle.fk_calls.specs.Judgements.{words_of}
 use Rattle.fk_calls.proofs.Given.{fit_given}
 use Rattle.fk_calls.proofs.Judged.{ended_judged, ready_judged, step_judged, free_there}
@@ -28,3 +31,12 @@ returns-clause-ended c =
           (c.ended_by-ended.ensures.ending (words_of c.args.ask.now));
       apart = c.ended_by-ended.ensures.apart;
     }
+
+pub returns-clause-heard : goal.returns-clause-heard
+returns-clause-heard c =
+    let m = c.args.store.now in
+    let j = c.in-Some.j in
+    let step = rw c.given.ensures at c.in_ok-carry_out.ensures.step in
+    heard_verdict (world m) (path m) (path c.carry_out.new.store) j.caller.who (words_of c.args.ask.now) j.caller.is_porter j.verdict _ _
+    (λ plan n last is. ((rw is at c.in-Some.ensures.judged.fits).0, c.in_ok-carry_out.ensures.told plan n last is))
+    c.apart.ensures step

@@ -12,7 +12,7 @@ returns-then-last-clause-step c =
     rw (
       c.if-last.true,
       c.requires.user,
-      c.said_of-said.ensures (path c.finish.new.store) (rw c.finish.ensures.paths port),
+      c.said_of-said.ensures.said (path c.finish.new.store) (rw c.finish.ensures.paths port),
       c.finish.ensures.world,
       c.in_ok-carry_all.ensures.places c.args.caller.who c.requires.live,
       c.in_ok-carry_all.ensures.world,

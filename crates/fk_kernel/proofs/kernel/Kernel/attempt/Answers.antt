@@ -1,5 +1,5 @@
 use Rattle.std.proofs.Common.{sym}
-use Rattle.fk_kernel.proofs.Endings.{ended-tried}
+use Rattle.fk_kernel.proofs.Endings.{ended-tried, heard-tried}
 use Rattle.fk_kernel.proofs.Kept.{kept-tried}
 use Rattle.fk_kernel.proofs.Promises.{correct-tried, fit-move, prompt-tried}
 use Rattle.fk_kernel.proofs.kernel.Kernel.attempt.Goals as goal
@@ -36,3 +36,9 @@ returns-clause-ended c =
     let ended = ended-tried m n c.self.invariant c.names.ensures.few kept c.names-2.ensures.few c.names.ensures.born
     c.attempt-tried.result c.attempt-tried.ensures.ended in
     rw c.self.view_is at ended
+
+pub returns-clause-told : goal.returns-clause-told
+returns-clause-told c =
+    let told = heard-tried c.self.inside.store c.attempt-tried.new.store c.args.m.now c.args.ask.now c.names.ensures.born
+    c.attempt-tried.result c.attempt-tried.ensures.made c.attempt-tried.ensures.heard in
+    rw c.self.view_is at told

@@ -1,12 +1,12 @@
-use Rattle.std.proofs.Common.{false, refl, ap, ◌∙◌}
+use Rattle.std.proofs.Common.{[], false, refl, ap, ◌∙◌}
 use Rattle.fk_model.specs.Moves.{stepped}
+use Rattle.fk_model.specs.declared.moves.Ask.TheVariants as asks
 use Rattle.fk_model.specs.declared.moves.Said.TheVariants as says
 use Rattle.fk_store.specs.World.{world}
 use Rattle.fk_plans.specs.declared.plan.Verdict.TheVariants as verdicts
 use Rattle.fk_calls.specs.declared.judging.Judgement.{Judgement}
-use Rattle.fk_calls.specs.Judgements.{words_of}
 use Rattle.fk_calls.proofs.Judged.{user, quiet_judged, ready_judged, run_judged}
-use Rattle.fk_calls.proofs.moves.attempt_effect.Goals as goal
+use Rattle.fk_calls.proofs.moves.make_instruction.Goals as goal
 
 pub is_effect_ready-requires-clause-free : goal.is_effect_ready-requires-clause-free
 is_effect_ready-requires-clause-free c = c.requires.judged.free
@@ -15,9 +15,9 @@ pub returns-clause-made : goal.returns-clause-made
 returns-clause-made c =
     let judged = c.requires.judged in
     let j : Judgement = record { caller = user c.args.m.now.who; chooses = false; verdict = verdicts.Runs c.args.effect } in
-    let ready = (ready_judged c.args.store.now c.args.m.now c.args.ask.now j _ judged (c.is_effect_ready.ensures (words_of c.args.ask.now))).0 (cc) in (
+    let ready = (ready_judged c.args.store.now c.args.m.now asks.Run j _ judged (c.is_effect_ready.ensures [])).0 (cc) in (
       ready,
-      run_judged c.args.store.now c.args.m.now c.args.ask.now c.args.effect judged ready
+      run_judged c.args.store.now c.args.m.now asks.Run c.args.effect judged ready
           ∙ ap (stepped (world c.args.store.now)) c.requires.at ∙ c.make_effect.ensures.step,
     )
 
@@ -25,11 +25,11 @@ pub returns-then-not-is_effect_ready-clause-unready : goal.returns-then-not-is_e
 returns-then-not-is_effect_ready-clause-unready c =
     let judged = c.requires.judged in
     let j : Judgement = record { caller = user c.args.m.now.who; chooses = false; verdict = verdicts.Runs c.args.effect } in
-    let ready = (ready_judged c.args.store.now c.args.m.now c.args.ask.now j _ judged (c.is_effect_ready.ensures (words_of c.args.ask.now))).1 in
+    let ready = (ready_judged c.args.store.now c.args.m.now asks.Run j _ judged (c.is_effect_ready.ensures [])).1 in
     ((λ r. let yes = ready r in absurd (cc)), refl)
 
 pub returns-clause-ended : goal.returns-clause-ended
 returns-clause-ended c =
     let j : Judgement = record { caller = user c.args.m.now.who; chooses = false; verdict = verdicts.Runs c.args.effect } in
-    quiet_judged c.args.store.now c.make_effect.new.store c.args.m.now c.args.ask.now j says.Nothing c.requires.valid c.names.ensures.few refl
+    quiet_judged c.args.store.now c.make_effect.new.store c.args.m.now asks.Run j says.Nothing c.requires.valid c.names.ensures.few refl
     c.requires.judged (returns-clause-made c)
