@@ -95,7 +95,7 @@ module _ (slot birth : ℕ) (bind : ℕ → ℕ) (c : World) (rooms : List Room)
   pub data Came : World → State → Type 0 where
     Working : (os : List Order) (g : Site) (v : World) → Empty → Shows nester slot g v → IsUnled nester slot v → MayAll slot os g → SuitsAll os g → SafeAll IsAskedHere os g → Tidied nester slot birth v →
         does_all os g ≡ finished bind c → Came v (Works os)
-    Dropping : (o : Order) (os : List Order) (port : ℕ) (g : Site) (v : World) → Empty → Shows nester slot g v → IsLeft (o ∷ os) g → Tidied nester slot birth v → Came v (Clears (o ∷ os) (suc (objects rooms)) port)
+    Dropping : (o : Order) (os : List Order) (port : ℕ) (g : Site) (v : World) → Empty → Shows nester slot g v → IsUnled nester slot v → IsLeft (o ∷ os) g → Tidied nester slot birth v → Came v (Clears (o ∷ os) (suc (objects rooms)) port)
     Clearing : (xs : List Path) (more port : ℕ) (v : World) → Empty → IsEmptied nester slot v xs → length xs ≡ suc more → Tidied nester slot birth v → Came v (Clears [] more port)
     Finished : (v : World) → Empty → IsPlain v nester slot → cut v nester slot ≡ rebound bind c → holder_of (v.body root) ≡ None → IsClean v → Came v (Over Done)
     Missing : (port : ℕ) (v : World) → Empty → ((q : Path) → v.body (q ++ root) ≡ None) → IsClean v → Came v (Over (NoPort port))
@@ -121,24 +121,24 @@ module _ (slot birth : ℕ) (bind : ℕ → ℕ) (c : World) (rooms : List Room)
       by k false false false false a b e f = spot k ∙ asked.none k f e b a
 
   -- no other order is refused
-  no_port : (g : Site) (u : World) (os : List Order) (o : Order) → Empty → (fails o ≡ Lost → ⊥) → May slot o g → SafeAt IsAskedHere o g → Shows nester slot (left_at o g) u → Tidied nester slot birth u → Came u (refused bind rooms os (looked_at o))
-  no_port g u os (Pins i) empty well may asked shows tidied = Dropping (Drops P) _ (lowest_bound bind rooms i 240 0) (with_pin Loose g) u empty shows (drops_from g i (with_pin Loose g) asked refl (λ k. refl) (λ e. cc)) tidied
-  no_port g u os (Checks r i) empty well may asked shows tidied = Dropping (Drops P) _ (lowest_bound bind rooms i 240 0) g u empty shows (drops_from g i g asked refl (λ k. refl) asked.pin) tidied
-  no_port g u os o empty well may asked shows tidied = absurd (well refl)
+  no_port : (g : Site) (u : World) (os : List Order) (o : Order) → Empty → (fails o ≡ Lost → ⊥) → May slot o g → SafeAt IsAskedHere o g → Shows nester slot (left_at o g) u → IsUnled nester slot u → Tidied nester slot birth u → Came u (refused bind rooms os (looked_at o))
+  no_port g u os (Pins i) empty well may asked shows unled tidied = Dropping (Drops P) _ (lowest_bound bind rooms i 240 0) (with_pin Loose g) u empty shows unled (drops_from g i (with_pin Loose g) asked refl (λ k. refl) (λ e. cc)) tidied
+  no_port g u os (Checks r i) empty well may asked shows unled tidied = Dropping (Drops P) _ (lowest_bound bind rooms i 240 0) g u empty shows unled (drops_from g i g asked refl (λ k. refl) asked.pin) tidied
+  no_port g u os o empty well may asked shows unled tidied = absurd (well refl)
 
   after_own : (g : Site) (v : World) (o : Order) (os : List Order) (status : ℕ) (words : List ℕ) (b : Bool) → passes o status words ≡ b → Empty → (b ≡ false → (fails o ≡ Lost → ⊥)) → (b ≡ true → Shows nester slot (does o g) v) →
       ((fails o ≡ Lost → ⊥) → Shows nester slot (left_at o g) v) → IsUnled nester slot v → May slot o g → SafeAt IsAskedHere o g → Tidied nester slot birth v →
       MayAll slot os (does o g) → SuitsAll os (does o g) → SafeAll IsAskedHere os (does o g) → does_all os (does o g) ≡ finished bind c → Came v (cond b (Works os) (refused bind rooms os (looked_at o)))
   after_own g v o os status words true e empty well shown left unled may_now asked tidied may suits safe is = Working os (does o g) v empty (shown refl) unled may suits safe tidied is
-  after_own g v o os status words false e empty well shown left unled may_now asked tidied may suits safe is = no_port g v os o empty (well refl) may_now asked (left (well refl)) tidied
+  after_own g v o os status words false e empty well shown left unled may_now asked tidied may suits safe is = no_port g v os o empty (well refl) may_now asked (left (well refl)) unled tidied
 
   -- ---- scratch is dropped, and then all is destroyed
 
-  clears_on : (os : List Order) (port : ℕ) (g : Site) (v : World) → Empty → Shows nester slot g v → IsLeft os g → Tidied nester slot birth v → Came v (Clears os (suc (objects rooms)) port)
+  clears_on : (os : List Order) (port : ℕ) (g : Site) (v : World) → Empty → Shows nester slot g v → IsUnled nester slot v → IsLeft os g → Tidied nester slot birth v → Came v (Clears os (suc (objects rooms)) port)
   unfolding does_all
-  clears_on [] port g v empty shows left tidied =
+  clears_on [] port g v empty shows unled left tidied =
       Clearing (all_standing bind c rooms its) (suc (objects rooms)) port v empty (emptied_from bind c rooms its nester slot g v shows left.stands left.pin left.spots) (standing_length bind c rooms its) tidied
-  clears_on (o ∷ os) port g v empty shows left tidied = Dropping o os port g v empty shows left tidied
+  clears_on (o ∷ os) port g v empty shows unled left tidied = Dropping o os port g v empty shows unled left tidied
 
   pub drop_lost : (o : Order) (os : List Order) → AreDrops (o ∷ os) → fails o ≡ Lost
   drop_lost (Drops r) os drop = refl
@@ -160,14 +160,14 @@ module _ (slot birth : ℕ) (bind : ℕ → ℕ) (c : World) (rooms : List Room)
         spots = left.spots;
       }
 
-  dropped : (o : Order) (os : List Order) (port : ℕ) (g : Site) (u : World) → Empty → Shows nester slot g u → IsLeft (o ∷ os) g → Tidied nester slot birth u → IsSound u → IsReadyAt u (call_of nester (stage_of slot o) (words_of o)) →
+  dropped : (o : Order) (os : List Order) (port : ℕ) (g : Site) (u : World) → Empty → Shows nester slot g u → IsUnled nester slot u → IsLeft (o ∷ os) g → Tidied nester slot birth u → IsSound u → IsReadyAt u (call_of nester (stage_of slot o) (words_of o)) →
       Came (after u (call_of nester (stage_of slot o) (words_of o))) (Clears os (suc (objects rooms)) port)
-  dropped o os port g u empty shows left tidied sound ready =
+  dropped o os port g u empty shows unled left tidied sound ready =
       let call = own_call nester slot g u o shows left.may.0 sound ready in
       let answered : IsAnswered nester u (stage_of slot o) (words_of o) call.reply = record { valid = sound.whole.valid; few = sound.whole.few; ready = ready; said = ap reply_of call.said } in
       let near = own_calls_are_near nester slot g u o call.reply shows left.may.0 answered in
       let shown = call.its.shown (by call.reply.status call.reply.words (passes o call.reply.status call.reply.words) refl call.its.fails_well (drop_lost o os left.drop)) in
-      clears_on os port (does o g) _ empty shown (left_on o os g left) (tidied_near nester slot birth u (call_of nester (stage_of slot o) (words_of o)) near tidied)
+      clears_on os port (does o g) _ empty shown (near_calls_keep_unled nester slot u (call_of nester (stage_of slot o) (words_of o)) near unled) (left_on o os g left) (tidied_near nester slot birth u (call_of nester (stage_of slot o) (words_of o)) near tidied)
     where
       by : (status : ℕ) (words : List ℕ) (b : Bool) → passes o status words ≡ b → (passes o status words ≡ false → (fails o ≡ Lost → ⊥)) → fails o ≡ Lost → passes o status words ≡ true
       by status words true e well lost = e
@@ -244,9 +244,9 @@ module _ (slot birth : ℕ) (bind : ℕ → ℕ) (c : World) (rooms : List Room)
   arrives _ v _ t _ (Working os g u empty shows unled may suits safe tidied is) (Another _ _ e es _ _ sound works moves rest) =
       let kept = others nester slot g u e shows moves in
       arrives (after u e) v (Works os) t es (Working os g (after u e) empty kept (others_keep_new_unled nester slot g u e shows moves unled) may suits safe (tidied_others nester slot birth u e moves kept.porter tidied) is) rest
-  arrives _ v _ t _ (Dropping o os port g u empty shows left tidied) (Another _ _ e es _ _ sound works moves rest) =
+  arrives _ v _ t _ (Dropping o os port g u empty shows unled left tidied) (Another _ _ e es _ _ sound works moves rest) =
       let kept = others nester slot g u e shows moves in
-      arrives (after u e) v (Clears (o ∷ os) (suc (objects rooms)) port) t es (Dropping o os port g (after u e) empty kept left (tidied_others nester slot birth u e moves kept.porter tidied)) rest
+      arrives (after u e) v (Clears (o ∷ os) (suc (objects rooms)) port) t es (Dropping o os port g (after u e) empty kept (others_keep_new_unled nester slot g u e shows moves unled) left (tidied_others nester slot birth u e moves kept.porter tidied)) rest
   arrives _ v _ t _ (Clearing xs more port u empty emptied many tidied) (Another _ _ e es _ _ sound works moves rest) =
       let kept = emptied_others nester slot u e xs emptied moves in
       arrives (after u e) v (Clears [] more port) t es (Clearing xs more port (after u e) empty kept many (tidied_others nester slot birth u e moves kept.holding.porter tidied)) rest
@@ -256,11 +256,11 @@ module _ (slot birth : ℕ) (bind : ℕ → ℕ) (c : World) (rooms : List Room)
   arrives _ v _ t _ (Finished u empty plain same unheld clean) (Own _ _ stage words es _ _ sound asks ready rest) = cc
   arrives _ v _ t _ (Missing port u empty none clean) (Own _ _ stage words es _ _ sound asks ready rest) = cc
   arrives _ v _ t _ (Taken u there same) (Own _ _ stage words es _ _ sound asks ready rest) = cc
-  arrives _ v _ t _ (Dropping o os port g u empty shows left tidied) (Own _ _ stage words es _ _ sound asks ready rest) =
+  arrives _ v _ t _ (Dropping o os port g u empty shows unled left tidied) (Own _ _ stage words es _ _ sound asks ready rest) =
       let stages : stage_of slot o ≡ stage = cc in
       let given : words_of o ≡ words = cc in
       let same : call_of nester (stage_of slot o) (words_of o) ≡ call_of nester stage words = rw (stages, given) refl in
-      let here = dropped o os port g u empty shows left tidied sound (subst (IsReadyAt u) (sym same) ready) in
+      let here = dropped o os port g u empty shows unled left tidied sound (subst (IsReadyAt u) (sym same) ready) in
       arrives (after u (call_of nester stage words)) v (Clears os (suc (objects rooms)) port) t es (subst (λ (e : Event). Came (after u e) (Clears os (suc (objects rooms)) port)) same here) rest
   arrives _ v _ t _ (Clearing xs zero port u empty emptied many tidied) (Own _ _ stage words es _ _ sound asks ready rest) =
       let stages : Destroy OWN_SPACE slot ≡ stage = cc in
@@ -315,7 +315,7 @@ module _ (slot birth : ℕ) (bind : ℕ → ℕ) (c : World) (rooms : List Room)
   in_work _ _ os (Working ps g v empty shows unled may suits safe tidied is) e =
       let same : ps ≡ os = cc in
       record { site = g; shows = shows; may = subst (λ (qs : List Order). MayAll slot qs g) same may; safe = subst (λ (qs : List Order). SafeAll IsAskedHere qs g) same safe }
-  in_work _ _ os (Dropping o ps port g v empty shows left tidied) e = cc
+  in_work _ _ os (Dropping o ps port g v empty shows unled left tidied) e = cc
   in_work _ _ os (Clearing xs more port v empty emptied many tidied) e = cc
   in_work _ _ os (Finished v empty plain same unheld clean) e = cc
   in_work _ _ os (Missing port v empty none clean) e = cc
@@ -324,7 +324,7 @@ module _ (slot birth : ℕ) (bind : ℕ → ℕ) (c : World) (rooms : List Room)
   -- scratch alone is dropped
   pub in_drops : (v : World) (s : State) (o : Order) (os : List Order) (more port : ℕ) → Came v s → s ≡ Clears (o ∷ os) more port → AreDrops (o ∷ os)
   in_drops _ _ o os more port (Working ps g v empty shows unled may suits safe tidied is) e = cc
-  in_drops _ _ o os more port (Dropping p ps port2 g v empty shows left tidied) e =
+  in_drops _ _ o os more port (Dropping p ps port2 g v empty shows unled left tidied) e =
       let one : p ≡ o = cc in
       let two : ps ≡ os = cc in
       subst (λ (q : Order). AreDrops (q ∷ os)) one (subst (λ (qs : List Order). AreDrops (p ∷ qs)) two left.drop)
@@ -373,7 +373,7 @@ module _ (slot birth : ℕ) (bind : ℕ → ℕ) (c : World) (rooms : List Room)
   pub ended : (v : World) (t : State) (end : End) → Came v t → head slot t ≡ Stops end → EndsSo w v nester slot bind c end
   ended _ _ end (Working [] g v empty shows unled may suits safe tidied is) stops = cc
   ended _ _ end (Working (o ∷ os) g v empty shows unled may suits safe tidied is) stops = cc
-  ended _ _ end (Dropping o os port g v empty shows left tidied) stops = cc
+  ended _ _ end (Dropping o os port g v empty shows unled left tidied) stops = cc
   ended _ _ end (Clearing xs more port v empty emptied many tidied) stops = cc
   ended _ _ end (Finished v empty plain same unheld clean) stops = let is : Done ≡ end = cc in subst (EndsSo w v nester slot bind c) is (empty, same, unheld)
   ended _ _ end (Missing port v empty none clean) stops = let is : NoPort port ≡ end = cc in subst (EndsSo w v nester slot bind c) is (empty, none)
@@ -386,7 +386,7 @@ plain_end : (slot birth : ℕ) (bind : ℕ → ℕ) (c : World) (rooms : List Ro
     Came slot birth bind c rooms w nester low its may v t → head slot t ≡ Stops end → is_done end ≡ true → IsPlain v nester slot × (cut v nester slot ≡ rebound bind c)
 plain_end slot birth bind c rooms w nester low its may _ _ end (Working [] g v empty shows unled may_all suits safe tidied is) stops done = cc
 plain_end slot birth bind c rooms w nester low its may _ _ end (Working (o ∷ os) g v empty shows unled may_all suits safe tidied is) stops done = cc
-plain_end slot birth bind c rooms w nester low its may _ _ end (Dropping o os port g v empty shows left tidied) stops done = cc
+plain_end slot birth bind c rooms w nester low its may _ _ end (Dropping o os port g v empty shows unled left tidied) stops done = cc
 plain_end slot birth bind c rooms w nester low its may _ _ end (Clearing xs more port v empty emptied many tidied) stops done = cc
 plain_end slot birth bind c rooms w nester low its may _ _ end (Finished v empty plain same unheld clean) stops done = (plain, same)
 plain_end slot birth bind c rooms w nester low its may _ _ end (Missing port v empty none clean) stops done = let is : NoPort port ≡ end = cc in let off : is_done end ≡ false = rw (← is) refl in let clash = sym done ∙ off in cc

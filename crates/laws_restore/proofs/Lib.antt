@@ -22,6 +22,8 @@ pub mod Coming
 pub mod Owing
 pub mod Readied
 pub mod Looked
+pub mod Lasting
+pub mod Resting
 pub mod Example
 pub mod Counted
 pub mod Bounds

@@ -73,9 +73,9 @@ module _ (slot birth : ℕ) (bind : ℕ → ℕ) (c : World) (rooms : List Room)
       (orders_are_owed nester slot g v o shows may.0 suits.0 unled sound.whole.valid)
   owed_at _ _ sound (Clearing xs more port v empty emptied many tidied) stage words e =
       given_by v nester (Destroy OWN_SPACE slot) stage no_words words (let one : Destroy OWN_SPACE slot ≡ stage = cc in one) (let two : no_words ≡ words = cc in two) (destroy_owed v)
-  owed_at _ _ sound (Dropping (Drops r) os port g v empty shows left tidied) stage words e =
+  owed_at _ _ sound (Dropping (Drops r) os port g v empty shows unled left tidied) stage words e =
       given_by v nester (Destroy OWN_SPACE r) stage no_words words (let one : Destroy OWN_SPACE r ≡ stage = cc in one) (let two : no_words ≡ words = cc in two) (drop_owed v r left.drop.0)
-  owed_at _ _ sound (Dropping o os port g v empty shows left tidied) stage words e = absurd left.drop
+  owed_at _ _ sound (Dropping o os port g v empty shows unled left tidied) stage words e = absurd left.drop
   owed_at _ _ sound (Finished v empty plain same unheld clean) stage words e = cc
   owed_at _ _ sound (Missing port v empty none clean) stage words e = cc
   owed_at _ _ sound (Taken v there same) stage words e = cc
@@ -90,7 +90,7 @@ module _ (slot birth : ℕ) (bind : ℕ → ℕ) (c : World) (rooms : List Room)
 
   stays_at : (v : World) (t : State) → Came slot birth bind c rooms w nester low its may_begin v t → (stage : Stage) (words : List ℕ) → head slot t ≡ Asks stage words → HasPorter v nester birth
   stays_at _ _ (Working os g v empty shows unled may suits safe tidied is) stage words e = record { porter = shows.porter; named = tidied.named }
-  stays_at _ _ (Dropping o os port g v empty shows left tidied) stage words e = record { porter = shows.porter; named = tidied.named }
+  stays_at _ _ (Dropping o os port g v empty shows unled left tidied) stage words e = record { porter = shows.porter; named = tidied.named }
   stays_at _ _ (Clearing xs more port v empty emptied many tidied) stage words e = record { porter = emptied.holding.porter; named = tidied.named }
   stays_at _ _ (Finished v empty plain same unheld clean) stage words e = cc
   stays_at _ _ (Missing port v empty none clean) stage words e = cc
@@ -99,7 +99,7 @@ module _ (slot birth : ℕ) (bind : ℕ → ℕ) (c : World) (rooms : List Room)
   clean_at : (v : World) (t : State) (end : End) → Came slot birth bind c rooms w nester low its may_begin v t → head slot t ≡ Stops end → IsClean v
   clean_at _ _ end (Working [] g v empty shows unled may suits safe tidied is) e = cc
   clean_at _ _ end (Working (o ∷ os) g v empty shows unled may suits safe tidied is) e = cc
-  clean_at _ _ end (Dropping o os port g v empty shows left tidied) e = cc
+  clean_at _ _ end (Dropping o os port g v empty shows unled left tidied) e = cc
   clean_at _ _ end (Clearing xs more port v empty emptied many tidied) e = cc
   clean_at _ _ end (Finished v empty plain same unheld clean) e = clean
   clean_at _ _ end (Missing port v empty none clean) e = clean

@@ -38,7 +38,7 @@ module _ (slot birth : ℕ) (bind : ℕ → ℕ) (c : World) (rooms : List Room)
   ready_at _ _ sound calm (Working (o ∷ os) g v empty shows unled may suits safe tidied is) stage words e =
       known v nester (stage_of slot o) stage (words_of o) words (let one : stage_of slot o ≡ stage = cc in one) (let two : words_of o ≡ words = cc in two)
       (next_is_ready nester slot g v o shows may.0 sound.whole.valid calm)
-  ready_at _ _ sound calm (Dropping o os port g v empty shows left tidied) stage words e =
+  ready_at _ _ sound calm (Dropping o os port g v empty shows unled left tidied) stage words e =
       known v nester (stage_of slot o) stage (words_of o) words (let one : stage_of slot o ≡ stage = cc in one) (let two : words_of o ≡ words = cc in two)
       (next_is_ready nester slot g v o shows left.may.0 sound.whole.valid calm)
   ready_at _ _ sound calm (Clearing xs more port v empty emptied many tidied) stage words e =

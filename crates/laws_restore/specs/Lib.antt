@@ -7,5 +7,6 @@ pub mod Laws
 pub mod Restore
 pub mod Ends
 pub mod Exact
+pub mod Rest
 pub mod Example
 pub mod Bounded

@@ -12,6 +12,7 @@ ghost use Rattle.laws_restore.specs.Laws.{ScriptMakes, RestoresPicture, NeverLos
 ghost use Rattle.laws_restore.specs.Example.{SmallIsRoomed, OneScript};
 ghost use Rattle.laws_restore.specs.Ends.{RestoreEndsSo, RestoreIsOwed, RestoreIsTidy, RestoreIsCounted, RestoreRestores};
 ghost use Rattle.laws_restore.specs.Exact.{RestoreIsReady, NoPortIsExact};
+ghost use Rattle.laws_restore.specs.Rest.{RestoreLeavesFar, LastCallIsKnown, OccupiedIsExact};
 ghost use Rattle.laws_restore.specs.Bounded.{ScriptIsBounded, RestoreIsBounded};
 
 /// The script of a subtree may be given to a new space order by order, and makes that subtree with its ports bound.
@@ -54,6 +55,21 @@ pub fn a_restores_next_call_is_ready()
 /// the image that is bound there.
 pub fn a_missing_port_is_told_exactly()
     ensures { NoPortIsExact }
+{}
+
+/// It is told that its slot is taken exactly where it was.
+pub fn a_taken_slot_is_told_exactly()
+    ensures { OccupiedIsExact }
+{}
+
+/// Its last call is the release, a stage of destroying its new space, or its first call itself.
+pub fn a_restores_last_call_is_known()
+    ensures { LastCallIsKnown }
+{}
+
+/// Each of its calls but the stages of destroying leaves all that is neither in its new space nor its nester's scratch.
+pub fn a_restore_leaves_the_rest()
+    ensures { RestoreLeavesFar }
 {}
 
 /// What a run wants of a restore that is done: a plain subtree, which is the picture with its ports bound.
