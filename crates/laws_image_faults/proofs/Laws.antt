@@ -1,0 +1,108 @@
+-- Laws: a fault that is told is the first, and what breaks the form is told.
+use Rattle.std.proofs.Common.{◌≡◌, ℕ, ◌-◌, ◌==◌, false, List, [], ◌∷◌, ◌++◌, length, Option, Some, None, Result, Ok, Err, refl, sym, ap, subst, ◌∙◌, arith}
+use Rattle.std.proofs.lemmas.Bool.{ne_eqb}
+use Rattle.std.proofs.lemmas.List.{length-append, append-nil}
+use Rattle.fk_image.specs.declared.image.Image.{Image}
+use Rattle.fk_image_format.specs.declared.reasons.reason.TheConstants as reasons
+use Rattle.fk_image_format.specs.declared.stop.Stop.{Stop}
+use Rattle.fk_image_format.specs.Fields.{◌>>=◌}
+use Rattle.fk_image_format.specs.Offsets.{wrong_link}
+use Rattle.fk_image_format.specs.Reading.{linked, finished, image_reading}
+use Rattle.laws_image_faults.specs.Forms.{Holds}
+use Rattle.laws_image_faults.specs.Forms.Form.{Whole}
+use Rattle.laws_image_faults.specs.Images.{image}
+use Rattle.laws_image_faults.specs.Faults.{Says, FaultsAreFirst, BreaksAreTold}
+use Rattle.laws_image_faults.specs.Faults.Says.{OfField, OfPointer, OfRest}
+use Rattle.laws_image_faults.proofs.Runs.{run, left_of}
+use Rattle.laws_image_faults.proofs.Breaks.{run-broken, run-held, broken-run}
+use Rattle.laws_image_faults.proofs.Wholes.{spaces_read, ended, image_is, same-image}
+
+-- ---- what an error is
+
+offset_or : Result Image (ℕ × ℕ) → ℕ
+offset_or (Ok i) = 0
+offset_or (Err e) = e.0
+
+reason_or : Result Image (ℕ × ℕ) → ℕ
+reason_or (Ok i) = 0
+reason_or (Err e) = e.1
+
+same_offset : (a b c d : ℕ) → ◌≡◌ {A = Result Image (ℕ × ℕ)} (Err (a, b)) (Err (c, d)) → a ≡ c
+unfolding offset_or
+same_offset a b c d is = ap offset_or is
+
+same_reason : (a b c d : ℕ) → ◌≡◌ {A = Result Image (ℕ × ℕ)} (Err (a, b)) (Err (c, d)) → b ≡ d
+unfolding reason_or
+same_reason a b c d is = ap reason_or is
+
+-- where bytes have been read as far as this, that is the offset
+offset_is : (bytes before after : List ℕ) (left : ℕ) → bytes ≡ before ++ after → length after ≡ left → length before ≡ length bytes - left
+offset_is bytes before after left spelled many = let all = ap length spelled ∙ length-append before after in omega (arith, all, many)
+
+module _ (bytes : List ℕ) where
+  of_field : (stop : Stop) (offset reason : ℕ) → run image bytes ≡ Err stop.left → ◌≡◌ {A = Result Image (ℕ × ℕ)} (Err (length bytes - stop.left, stop.reason)) (Err (offset, reason)) →
+      Says bytes offset reason
+  of_field stop offset reason breaks is =
+      let broken = run-broken image bytes stop.left breaks in
+      OfField offset reason (record {
+        before = broken.before;
+        after = broken.after;
+        next = broken.next;
+        spelled = broken.spelled;
+        at = offset_is bytes broken.before broken.after stop.left broken.spelled broken.many ∙ same_offset _ _ _ _ is;
+        held = broken.held;
+        broken = broken.broken;
+      })
+
+  of_pointer : (i : Image) (o : Option ℕ) (offset reason : ℕ) → run image bytes ≡ Ok (i, []) → wrong_link i ≡ o → linked i o ≡ Err (offset, reason) →
+      Says bytes offset reason
+  of_pointer i None offset reason whole is told = absurd (cc)
+  of_pointer i (Some at) offset reason whole is told =
+      let held = run-held image bytes [] i whole in
+      let all : bytes ≡ held.before = held.spelled ∙ append-nil held.before in
+      subst (Says bytes offset) (same_reason at reasons.POINTER offset reason told)
+      (OfPointer offset i (subst (λ b. Holds image b (Whole i)) (sym all) held.held) (is ∙ ap Some (same_offset at reasons.POINTER offset reason told)))
+
+  of_rest : (i : Image) (rest : List ℕ) (offset reason : ℕ) → run image bytes ≡ Ok (i, rest) → (rest ≡ [] → ⊥) →
+      ◌≡◌ {A = Result Image (ℕ × ℕ)} (Err (length bytes - length rest, reasons.LEFT_OVER)) (Err (offset, reason)) → Says bytes offset reason
+  of_rest i rest offset reason whole some is =
+      let held = run-held image bytes rest i whole in
+      subst (Says bytes offset) (same_reason _ _ _ _ is) (OfRest offset (record {
+        before = held.before;
+        after = rest;
+        said = i;
+        spelled = held.spelled;
+        at = offset_is bytes held.before rest (length rest) held.spelled refl ∙ same_offset _ _ _ _ is;
+        held = held.held;
+        goes_on = some;
+      }))
+
+  left_over : (i : Image) (b : ℕ) (more : List ℕ) → finished bytes (ended (i, b ∷ more)) ≡ Err (length bytes - length (b ∷ more), reasons.LEFT_OVER)
+  left_over i b more = let some : (length (b ∷ more) == 0) ≡ false = ne_eqb (length (b ∷ more)) 0 (λ none. absurd (omega (arith, none))) in rw some refl
+
+  first_by : (r : Result (Image × List ℕ) Stop) (offset reason : ℕ) → left_of r ≡ run image bytes → finished bytes (r >>= ended) ≡ Err (offset, reason) →
+      Says bytes offset reason
+  first_by (Err stop) offset reason same told = of_field stop offset reason (sym same) told
+  first_by (Ok x) offset reason same told = by x.1 refl told
+    where
+      by : (rest : List ℕ) → x.1 ≡ rest → finished bytes (ended (x.0, rest)) ≡ Err (offset, reason) → Says bytes offset reason
+      by [] none told = of_pointer x.0 (wrong_link x.0) offset reason (sym same ∙ ap (λ rest. Ok (x.0, rest)) none) refl told
+      by (b ∷ more) some told =
+          of_rest x.0 (b ∷ more) offset reason (sym same ∙ ap (λ rest. Ok (x.0, rest)) some) (λ none. absurd (cc)) (sym (left_over x.0 b more) ∙ told)
+
+pub faults_first : FaultsAreFirst
+unfolding image_reading
+faults_first bytes offset reason told = first_by bytes (spaces_read bytes) offset reason (same-image bytes) (ap (finished bytes) (sym (image_is bytes)) ∙ told)
+
+told_by : (bytes : List ℕ) (left : ℕ) (r : Result (Image × List ℕ) Stop) → left_of r ≡ Err left →
+    (reason : ℕ) × (finished bytes (r >>= ended) ≡ Err (length bytes - left, reason))
+told_by bytes left (Ok x) is = absurd (cc)
+told_by bytes left (Err stop) is = let same : stop.left ≡ left = cc in (stop.reason, ap (λ left. Err (length bytes - left, stop.reason)) same)
+
+pub breaks_told : BreaksAreTold
+unfolding image_reading
+breaks_told bytes offset breaks =
+    let here = ap (run image) breaks.spelled ∙ broken-run image breaks.before breaks.after breaks.next breaks.held breaks.broken in
+    let told = told_by bytes (length breaks.after) (spaces_read bytes) (same-image bytes ∙ here) in
+    let at = sym (offset_is bytes breaks.before breaks.after (length breaks.after) breaks.spelled refl) ∙ breaks.at in
+    (told.0, ap (finished bytes) (image_is bytes) ∙ told.1 ∙ ap (λ o. Err (o, told.0)) at)

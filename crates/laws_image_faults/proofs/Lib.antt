@@ -1,0 +1,5 @@
+pub mod Runs
+pub mod Breaks
+pub mod Parts
+pub mod Wholes
+pub mod Laws

@@ -1,0 +1,23 @@
+-- The first fault of bytes that are no image, by the form of an image alone.
+use Rattle.std.specs.Prelude.{◌≡◌, ℕ, List, Some, Err}
+use Rattle.fk_image.specs.declared.image.Image.{Image}
+use Rattle.fk_image_format.specs.declared.reasons.reason.TheConstants as reasons
+use Rattle.fk_image_format.specs.Reading.{image_reading}
+use Rattle.fk_image_format.specs.Offsets.{wrong_link}
+use Rattle.laws_image_faults.specs.Forms.{BreaksAt, GoesOnAt, Holds}
+use Rattle.laws_image_faults.specs.Forms.Form.{Whole}
+use Rattle.laws_image_faults.specs.Images.{image}
+
+-- what the fault with this reason says of the bytes: a field that doesn't hold what it may, a pointer that leads where it may not, bytes that are left
+pub data Says (bytes : List ℕ) : ℕ → ℕ → Type 0 where
+  OfField : (offset reason : ℕ) → BreaksAt image bytes offset → Says bytes offset reason
+  OfPointer : (offset : ℕ) (i : Image) → Holds image bytes (Whole i) → wrong_link i ≡ Some offset → Says bytes offset reasons.POINTER
+  OfRest : (offset : ℕ) → GoesOnAt image bytes offset → Says bytes offset reasons.LEFT_OVER
+
+-- a fault that is told is the first one
+abbrev pub FaultsAreFirst : Type 0
+FaultsAreFirst = (bytes : List ℕ) (offset reason : ℕ) → image_reading bytes ≡ Err (offset, reason) → Says bytes offset reason
+
+-- where bytes break the form, that is what is told
+abbrev pub BreaksAreTold : Type 0
+BreaksAreTold = (bytes : List ℕ) (offset : ℕ) → BreaksAt image bytes offset → (reason : ℕ) × (image_reading bytes ≡ Err (offset, reason))

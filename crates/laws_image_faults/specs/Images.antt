@@ -1,0 +1,242 @@
+-- The form of an image: its fields from left to right, each with what it may hold. Where pointers lead isn't asked, nor whether a count can be filled.
+use Rattle.std.specs.Prelude.{ℕ, zero, suc, Bool, true, not, ◌&&◌, ◌||◌, ◌==◌, nat_lt, nat_eq, List, [], ◌∷◌, ◌++◌, Option, Some, None, is_some, if◌then◌else◌, slice_index}
+use Rattle.std.specs.Cmp.Lexicographic.{pointwise}
+use Rattle.std.specs.Int.{Width, w16, w32, w64, byte_len, from_le_bytes}
+use Rattle.fk_image.specs.declared.image.Link.{Link}
+use Rattle.fk_image.specs.declared.image.Link.TheVariants.{Null, Dead, In, Out, Root, Outside}
+use Rattle.fk_image.specs.declared.image.TalkRec.{TalkRec}
+use Rattle.fk_image.specs.declared.image.FaultRec.{FaultRec}
+use Rattle.fk_image.specs.declared.image.Rec.{Rec}
+use Rattle.fk_image.specs.declared.image.Rec.TheVariants.{Mutex, Cond, Portset, Mapping, Region, Port, Thread, Reference}
+use Rattle.fk_image.specs.declared.image.ObjectRec.{ObjectRec}
+use Rattle.fk_image.specs.declared.image.PageRec.{PageRec}
+use Rattle.fk_image.specs.declared.image.SpaceRec.{SpaceRec}
+use Rattle.fk_image.specs.declared.image.Image.{Image}
+use Rattle.fk_image.specs.declared.open.Open.{Open}
+use Rattle.fk_image.specs.Ranges.{is_extent, is_set_word, is_mode_byte, is_code}
+use Rattle.fk_image.specs.Preorder.{has_room, room_under, root_path, after_space}
+use Rattle.fk_image.specs.Links.{kind_in_space}
+use Rattle.fk_image.specs.Valid.{after_object, after_page}
+use Rattle.fk_image_format.specs.Spelling.{magic}
+use Rattle.laws_image_faults.specs.Forms.{Form}
+use Rattle.laws_image_faults.specs.Forms.Form.{Whole, Field, Pair}
+
+-- ---- fields
+
+-- one form and then another, which hangs on what the first one says
+infixl 10 ◌>>=◌
+unfoldable pub ◌>>=◌ : {X Y : Type 0} → Form X → (X → Form Y) → Form Y
+(Whole x) >>= g = g x
+(Field size may rest) >>= g = Field size may (λ field. rest field >>= g)
+(Pair size may size2 may2 both rest) >>= g = Pair size may size2 may2 both (λ first second. rest first second >>= g)
+
+abbrev pub byte_in : List ℕ → ℕ
+byte_in field = slice_index field 0
+
+-- a byte, and a number of more bytes, the lowest first
+abbrev pub byte : (ℕ → Bool) → Form ℕ
+byte may = Field 1 (λ field. may (byte_in field)) (λ field. Whole (byte_in field))
+
+abbrev pub number : Width → (ℕ → Bool) → Form ℕ
+number w may = Field (byte_len w) (λ field. may (from_le_bytes w field)) (λ field. Whole (from_le_bytes w field))
+
+abbrev pub any : ℕ → Bool
+any n = true
+
+abbrev pub below : ℕ → ℕ → Bool
+below limit n = nat_lt n limit
+
+abbrev pub is : ℕ → ℕ → Bool
+is m n = n == m
+
+-- n parts, each in the light of what those before it left
+unfoldable pub many : {S X : Type 0} → (S → Form X) → (S → X → S) → ℕ → S → List X → Form (List X)
+many part next zero s done = Whole done
+many part next (suc n) s done = part s >>= λ x. many part next n (next s x) (done ++ x ∷ [])
+
+-- ---- pointers
+
+abbrev pub is_tag : ℕ → Bool
+is_tag tag = tag == 0 || (tag == 1 || (tag == 2 || (tag == 3 || (tag == 4 || tag == 5))))
+
+abbrev pub link_in : Form Link
+link_in = do
+  space ← number w32 any
+  slot ← byte (below 240)
+  Whole (In slot space)
+
+abbrev pub link_out : Form Link
+link_out = byte (below 240) >>= λ slot. Whole (Out slot)
+
+abbrev pub link_of : ℕ → Form Link
+link_of tag = if tag == 0 then Whole Null
+    else if tag == 1 then Whole Dead
+    else if tag == 2 then link_in
+    else if tag == 3 then link_out
+    else if tag == 4 then Whole Root
+    else Whole Outside
+
+unfoldable pub link : Form Link
+link = byte is_tag >>= link_of
+
+-- ---- threads
+
+abbrev pub words : ℕ → Form (List ℕ)
+words count = many {S = ℕ} (λ s. number w64 any) (λ s x. s) count 0 []
+
+abbrev pub talk_of : ℕ → Form (Option TalkRec)
+talk_of turn = if turn == 0 then Whole None else (do
+  moved ← number w16 any
+  port ← link
+  server ← link
+  Whole (Some (record { turn = turn; moved = moved; port = port; server = server })))
+
+unfoldable pub talk : Form (Option TalkRec)
+talk = byte (below 3) >>= talk_of
+
+abbrev pub taker_of : ℕ → Form (Option Link)
+taker_of state = if state == 1 then Whole None else (link >>= λ taker. Whole (Some taker))
+
+abbrev pub fault_of : ℕ → Form (Option FaultRec)
+fault_of state = if state == 0 then Whole None else (do
+  page ← byte any
+  write ← byte (below 2)
+  port ← link
+  taker ← taker_of state
+  Whole (Some (record { page = page; write = write; port = port; taker = taker })))
+
+unfoldable pub fault : Form (Option FaultRec)
+fault = byte (below 3) >>= fault_of
+
+unfoldable pub thread : Form Rec
+thread = do
+  regs ← words 16
+  pc ← number w64 any
+  mode ← byte (is_mode_byte regs)
+  code ← byte (is_code mode)
+  stops ← number w16 any
+  talk ← talk
+  fault ← fault
+  Whole (Thread (record { regs = regs; pc = pc; mode = mode; code = code; stops = stops; talk = talk; fault = fault }))
+
+-- ---- objects and pages
+
+-- a first page, and how many there are from it on
+unfoldable pub extent : Form (ℕ × ℕ)
+extent = do
+  first ← byte any
+  count ← number w16 (is_extent first)
+  Whole (first, count)
+
+unfoldable pub mapping : Form Rec
+mapping = do
+  pages ← extent
+  offset ← byte any
+  write ← byte (below 2)
+  region ← link
+  Whole (Mapping pages.0 pages.1 offset write region)
+
+unfoldable pub region : Form Rec
+region = do
+  pages ← extent
+  write ← byte (below 2)
+  keeper ← link
+  Whole (Region pages.0 pages.1 write keeper)
+
+abbrev pub is_kind : ℕ → Bool
+is_kind kind = kind == 1 || (kind == 2 || (kind == 3 || (kind == 4 || (kind == 5 || (kind == 6 || (kind == 8 || kind == 9))))))
+
+abbrev pub body_of : ℕ → Form Rec
+body_of kind = if kind == 1 then (byte (below 2) >>= λ locked. Whole (Mutex locked))
+    else if kind == 2 then Whole Cond
+    else if kind == 3 then mapping
+    else if kind == 4 then region
+    else if kind == 5 then (number w16 is_set_word >>= λ set. Whole (Port set))
+    else if kind == 6 then Whole Portset
+    else if kind == 8 then thread
+    else (link >>= λ to. Whole (Reference to))
+
+unfoldable pub body : Form Rec
+body = byte is_kind >>= body_of
+
+-- a slot that users may name, from a lowest one on
+abbrev pub is_slot_from : ℕ → ℕ → Bool
+is_slot_from floor slot = nat_lt slot 240 && not (nat_lt slot floor)
+
+unfoldable pub object : ℕ → Form ObjectRec
+object floor = do
+  slot ← byte (is_slot_from floor)
+  body ← body
+  Whole (record { slot = slot; body = body })
+
+abbrev pub is_page_from : ℕ → ℕ → Bool
+is_page_from floor page = not (nat_lt page floor)
+
+unfoldable pub page : ℕ → Form PageRec
+page floor = do
+  page ← byte (is_page_from floor)
+  words ← words 64
+  Whole (record { page = page; words = words })
+
+unfoldable pub objects : Form (List ObjectRec)
+objects = number w16 any >>= λ count. many object after_object count 0 []
+
+unfoldable pub pages : Form (List PageRec)
+pages = number w16 any >>= λ count. many page after_page count 0 []
+
+-- ---- spaces
+
+-- the subtree's root, which lies in no space of the image and is held by nobody
+unfoldable pub root : Form SpaceRec
+root = do
+  parent ← number w32 (is 4294967295)
+  slot ← byte (is 0)
+  tag ← byte (is 0)
+  objects ← objects
+  pages ← pages
+  Whole (record { parent = parent; slot = slot; holder = Null; objects = objects; pages = pages })
+
+-- a slot of a space behind the spaces so far: it has room there, and nothing else stands in it
+abbrev pub is_place : List SpaceRec → List Open → ℕ → ℕ → Bool
+is_place done path parent slot = has_room (room_under path parent) slot && not (is_some (kind_in_space done parent slot))
+
+-- a parent and a slot
+abbrev pub place : List SpaceRec → List Open → Form (ℕ × ℕ)
+place done path = Pair (byte_len w32) (λ parent. is_some (room_under path (from_le_bytes w32 parent))) 1 (λ slot. below 240 (byte_in slot))
+    (λ parent slot. is_place done path (from_le_bytes w32 parent) (byte_in slot)) (λ parent slot. Whole (from_le_bytes w32 parent, byte_in slot))
+
+unfoldable pub inner : List SpaceRec → List Open → Form SpaceRec
+inner done path = do
+  place ← place done path
+  holder ← link
+  objects ← objects
+  pages ← pages
+  Whole (record { parent = place.0; slot = place.1; holder = holder; objects = objects; pages = pages })
+
+abbrev pub space_behind : List SpaceRec → List Open → Form SpaceRec
+space_behind [] path = root
+space_behind (d ∷ done) path = inner (d ∷ done) path
+
+abbrev pub space : List SpaceRec × List Open → Form SpaceRec
+space before = space_behind before.0 before.1
+
+-- ---- images
+
+abbrev pub is_some_number : ℕ → Bool
+is_some_number n = not (n == 0)
+
+abbrev pub begins : Form (List ℕ)
+begins = Field 8 (λ field. pointwise nat_eq field magic) Whole
+
+-- the version, and how many spaces there are
+unfoldable pub head : Form ℕ
+head = do
+  _ ← begins
+  version ← number w16 (is 1)
+  number w32 is_some_number
+
+unfoldable pub image : Form Image
+image = do
+  count ← head
+  spaces ← many space after_space count ([], root_path) []
+  Whole (record { spaces = spaces })
