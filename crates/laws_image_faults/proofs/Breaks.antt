@@ -113,7 +113,9 @@ module _ {X : Type 0} where
   run-broken (Whole x) bytes left read = absurd (cc)
   run-broken (Field size may rest) bytes left read = by (λ field. run-broken (rest field)) (field_at size may bytes) refl read
     where
-      by : ((field after : List ℕ) (left : ℕ) → run (rest field) after ≡ Err left → Broken (rest field) after left) → (r : Result (List ℕ × List ℕ) ℕ) → field_at size may bytes ≡ r → (r >>= λ x. run (rest x.0) x.1) ≡ Err left → Broken (Field size may rest) bytes left
+      by : ((field after : List ℕ) (left : ℕ) → run (rest field) after ≡ Err left → Broken (rest field) after left) →
+          (r : Result (List ℕ × List ℕ) ℕ) → field_at size may bytes ≡ r → (r >>= λ x. run (rest x.0) x.1) ≡ Err left →
+          Broken (Field size may rest) bytes left
       by each (Err e) none is =
           let same : e ≡ left = cc in
           let off = none-read size may bytes e none in
@@ -197,7 +199,8 @@ module _ {X : Type 0} where
       record { before = []; spelled = rest; held = subst (λ z. Holds (Whole y) [] (Whole z)) same (Nothing (Whole y)) }
   run-held (Field size may rest) bytes after x read = by (λ field. run-held (rest field)) (field_at size may bytes) refl read
     where
-      by : ((field bytes after : List ℕ) (x : X) → run (rest field) bytes ≡ Ok (x, after) → Held (rest field) bytes after x) → (r : Result (List ℕ × List ℕ) ℕ) → field_at size may bytes ≡ r → (r >>= λ y. run (rest y.0) y.1) ≡ Ok (x, after) →
+      by : ((field bytes after : List ℕ) (x : X) → run (rest field) bytes ≡ Ok (x, after) → Held (rest field) bytes after x) →
+          (r : Result (List ℕ × List ℕ) ℕ) → field_at size may bytes ≡ r → (r >>= λ y. run (rest y.0) y.1) ≡ Ok (x, after) →
           Held (Field size may rest) bytes after x
       by each (Err e) none is = absurd (cc)
       by each (Ok y) there is =

@@ -40,8 +40,8 @@ offset_is : (bytes before after : List ℕ) (left : ℕ) → bytes ≡ before ++
 offset_is bytes before after left spelled many = let all = ap length spelled ∙ length-append before after in omega (arith, all, many)
 
 module _ (bytes : List ℕ) where
-  of_field : (stop : Stop) (offset reason : ℕ) → run image bytes ≡ Err stop.left → ◌≡◌ {A = Result Image (ℕ × ℕ)} (Err (length bytes - stop.left, stop.reason)) (Err (offset, reason)) →
-      Says bytes offset reason
+  of_field : (stop : Stop) (offset reason : ℕ) → run image bytes ≡ Err stop.left →
+      ◌≡◌ {A = Result Image (ℕ × ℕ)} (Err (length bytes - stop.left, stop.reason)) (Err (offset, reason)) → Says bytes offset reason
   of_field stop offset reason breaks is =
       let broken = run-broken image bytes stop.left breaks in
       OfField offset reason (record {

@@ -155,7 +155,8 @@ same-thread bytes = go (read_words 16 bytes) _ (forms.words 16) _ bytes (same-wo
 same-extent : (bytes : List ℕ) → left_of (read_extent bytes) ≡ run forms.extent bytes
 unfolding read_extent forms.extent run
 same-extent bytes = go (read_byte bytes) _ (byte any) _ bytes (any-byte bytes)
-    (λ first. go-number (is_extent first.0) (λ count. if is_extent first.0 count.0 then Ok ((first.0, count.0), count.1) else refuse_field first.1 reasons.RANGE)
+    (λ first. go-number (is_extent first.0)
+    (λ count. if is_extent first.0 count.0 then Ok ((first.0, count.0), count.1) else refuse_field first.1 reasons.RANGE)
     (λ count. Whole (first.0, count)) w16 first.1 (λ count rest is. rw is refl) (λ count rest is. rw is refl))
 
 same-mapping : (bytes : List ℕ) → left_of (read_mapping bytes) ≡ run forms.mapping bytes

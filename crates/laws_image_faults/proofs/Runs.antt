@@ -99,7 +99,8 @@ module _ {Y : Type 0} (may : ℕ → Bool) (k : ℕ × List ℕ → Result (Y ×
   unfolding run ◌>>>◌ field_at
   go-number w bytes fits off = by (nat_lt (length bytes) (byte_len w))
     where
-      going : (t : Bool) → may (from_le_bytes w (take (byte_len w) bytes)) ≡ t → left_of (k (from_le_bytes w (take (byte_len w) bytes), drop (byte_len w) bytes))
+      going : (t : Bool) → may (from_le_bytes w (take (byte_len w) bytes)) ≡ t →
+          left_of (k (from_le_bytes w (take (byte_len w) bytes), drop (byte_len w) bytes))
           ≡ (tested t (take (byte_len w) bytes) (drop (byte_len w) bytes) bytes >>= λ x. run (g (from_le_bytes w x.0)) x.1)
       going true is = fits _ _ is
       going false is = off _ _ is

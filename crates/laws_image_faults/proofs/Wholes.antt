@@ -94,13 +94,15 @@ module _ (done : List SpaceRec) (path : List Open) where
   slot_here bytes parent floor (b ∷ after) = rw (one_byte b after) (by (nat_lt b 240))
     where
       by : (t : Bool) → left_of ((if t then Ok (b, after) else refuse_field (b ∷ after) reasons.RANGE) >>= space_behind bytes parent floor)
-          ≡ (tested t (b ∷ []) after (b ∷ after) >>= λ y. together (has_room (Some floor) (byte_in y.0) && not (is_some (kind_in_space done parent (byte_in y.0))))
-          bytes (run (space_of (parent, byte_in y.0)) y.1))
+          ≡ (tested t (b ∷ []) after (b ∷ after)
+          >>= λ y. together (has_room (Some floor) (byte_in y.0) && not (is_some (kind_in_space done parent (byte_in y.0)))) bytes
+          (run (space_of (parent, byte_in y.0)) y.1))
       by true = ends bytes parent b after (nat_lt b floor) (is_some (kind_in_space done parent b))
       by false = refl
 
   abbrev Room : List ℕ → List ℕ → List ℕ → Option ℕ → Type 0
-  Room bytes field rest o = left_of (or_refuse_field o bytes reasons.ORDER >>= λ floor. read_below 240 rest >>= space_behind bytes (from_le_bytes w32 field) floor)
+  Room bytes field rest o =
+      left_of (or_refuse_field o bytes reasons.ORDER >>= λ floor. read_below 240 rest >>= space_behind bytes (from_le_bytes w32 field) floor)
       ≡ (tested (is_some o) field rest bytes >>= λ x. field_at 1 is_slot_field x.1
       >>= λ y. together (forms.is_place done path (from_le_bytes w32 x.0) (byte_in y.0)) bytes (run (space_of (from_le_bytes w32 x.0, byte_in y.0)) y.1))
 
@@ -108,8 +110,10 @@ module _ (done : List SpaceRec) (path : List Open) where
   room_then bytes field rest None e = refl
   room_then bytes field rest (Some floor) e =
       subst (λ o. left_of (read_below 240 rest >>= space_behind bytes (from_le_bytes w32 field) floor)
-      ≡ (field_at 1 is_slot_field rest >>= λ y. together (has_room o (byte_in y.0) && not (is_some (kind_in_space done (from_le_bytes w32 field) (byte_in y.0))))
-      bytes (run (space_of (from_le_bytes w32 field, byte_in y.0)) y.1))) (sym e) (slot_here bytes (from_le_bytes w32 field) floor rest)
+      ≡ (field_at 1 is_slot_field rest
+      >>= λ y. together (has_room o (byte_in y.0) && not (is_some (kind_in_space done (from_le_bytes w32 field) (byte_in y.0)))) bytes
+      (run (space_of (from_le_bytes w32 field, byte_in y.0)) y.1)))
+      (sym e) (slot_here bytes (from_le_bytes w32 field) floor rest)
 
   abbrev parent_tested : List ℕ → Bool → Result (List ℕ × List ℕ) ℕ
   parent_tested bytes t = if t then Err (length bytes)
@@ -193,5 +197,6 @@ image_is bytes = by (read_head bytes)
 pub same-image : (bytes : List ℕ) → left_of (spaces_read bytes) ≡ run forms.image bytes
 unfolding forms.image run
 same-image bytes = go (read_head bytes) _ forms.head _ bytes (same-head bytes)
-    (λ count. go (read_many read_space after_space count.0 ([], root_path) [] count.1) _ (forms.many forms.space after_space count.0 ([], root_path) []) _ count.1
+    (λ count. go (read_many read_space after_space count.0 ([], root_path) [] count.1) _
+    (forms.many forms.space after_space count.0 ([], root_path) []) _ count.1
     (same-many read_space forms.space after_space same-space count.0 ([], root_path) [] count.1) (λ spaces. refl))
