@@ -16,5 +16,5 @@ pub use answers::words_of;
 pub use descent::{space_of, way};
 pub use fields::Fields;
 pub use met::Met;
-pub use seek::{Look, Seek, Sought, tells_port};
+pub use seek::{Look, Seek, Sought, met_at, tells_port};
 pub use walk::{Step, Walk};

@@ -1,0 +1,4 @@
+pub mod Fields
+pub mod Gathering
+pub mod Todos
+pub mod Gathered
