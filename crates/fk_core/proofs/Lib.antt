@@ -2,3 +2,5 @@ pub mod Lists
 pub mod Turning
 pub mod Acting
 pub mod Histories
+pub mod Cutting
+pub mod Proceeding

@@ -26,7 +26,8 @@ use Rattle.fk_store.specs.World.{world}
 use Rattle.laws_whole.specs.Runnable.{has_all_words}
 use Rattle.laws_runs.specs.Cores.{Settles, moved}
 use Rattle.laws_runs.specs.Cores.Settles.{Stays}
-use Rattle.fk_core.specs.Machines.{step_of, is_who, says_to, says_to_who}
+use Rattle.fk_kernel.specs.Events.{step_of, is_who}
+use Rattle.fk_plans.specs.Hearers.{says_to, says_to_who}
 use Rattle.fk_core.specs.Served.{Services, serving, asked, asked_of, said_at, news_at, after_news, hears_of, said_to, news_to, told, AllFit}
 use Rattle.fk_core.specs.Cores.{house, core_at, IsTurned}
 

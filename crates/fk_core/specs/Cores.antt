@@ -1,5 +1,5 @@
 -- Cores: the run's core that a kernel with its servers is. No jobs are there yet.
-use Rattle.std.specs.Prelude.{◌≡◌, ℕ, ◌<◌, ◌≤◌, Bool, true, false, [], Some, None}
+use Rattle.std.specs.Prelude.{◌≡◌, ℕ, ◌+◌, ◌<◌, ◌≤◌, Bool, true, false, [], Option, Some, None}
 use Rattle.std.specs.List.{slice_get}
 use Rattle.fk_model.specs.declared.moves.Ask.{Ask}
 use Rattle.fk_model.specs.declared.moves.Ask.TheVariants as asks
@@ -70,3 +70,8 @@ HaveNoActs c from to = (k : ℕ) (served : Who × State) → from ≤ k → k < 
 -- there is no move left: none is ready, or the budget is used
 abbrev pub IsOver : ℕ → RunCore → Type 0
 IsOver budget c = c.events < budget → IsAnyMove c → ⊥
+
+-- what comes of an advance: a move that was ready and is made, while the budget had one more; or nothing
+abbrev pub IsAdvanced : ℕ → RunCore → Option Move → RunCore → Type 0
+IsAdvanced budget c None d = d ≡ c
+IsAdvanced budget c (Some m) d = (c.events < budget) × IsReadyMove c m × IsTurned c m d × (d.events ≡ c.events + 1)

@@ -1,3 +1,4 @@
 pub mod Served
 pub mod Cores
-pub mod Machines
+pub mod Ends
+pub mod Cuts

@@ -20,7 +20,7 @@ use Rattle.fk_model.specs.World.{World}
 use Rattle.fk_natives.specs.Natives as natives
 use Rattle.fk_natives.specs.Natives.{State, News, hears, asks_for, DoesFit}
 use Rattle.fk_store.specs.Names.{same_who}
-use Rattle.fk_core.specs.Machines.{is_who}
+use Rattle.fk_kernel.specs.Events.{is_who}
 use Rattle.laws_jobs.specs.Machines.{said_of}
 use Rattle.laws_runs.specs.Cores.{Servers}
 

@@ -4,8 +4,8 @@ ghost use Rattle.std.specs.List.{slice_get};
 ghost use Rattle.fk_core.specs.Served.{asked_of, serving, told, news_to, after_news, AllFit, shown, HaveRoom};
 ghost use Rattle.fk_natives.specs.Natives.{DoesFit};
 
-use crate::machine::Told;
 use crate::told::{heard_by, is_telling};
+use fk_kernel::Told;
 use fk_model::{Ask, NoMemory, Who};
 use fk_natives::Service;
 use fk_responders::Table;

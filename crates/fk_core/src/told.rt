@@ -4,7 +4,7 @@ ghost use Rattle.fk_model.specs.declared.names.Who as whos;
 ghost use Rattle.fk_core.specs.Served.{said_to, news_to};
 ghost use Rattle.fk_natives.specs.Natives.{news_of};
 
-use crate::machine::Told;
+use fk_kernel::Told;
 use fk_model::{Reply, Said, Who};
 use fk_natives::Heard;
 

@@ -42,9 +42,20 @@ is_halted modes.Calling = false
 is_halted (modes.Halted code) = true
 is_halted modes.Native = false
 
+-- a thread in this mode has halted, or is no user
+abbrev pub is_over : CodeMode → Bool
+is_over modes.Running = false
+is_over modes.Calling = false
+is_over (modes.Halted code) = true
+is_over modes.Native = true
+
+-- the user thread at a path has halted, if one is there
+abbrev pub HasHalted : World → Path → Type 0
+HasHalted w x = (t : ThreadState) → state_at w x ≡ Some t → is_halted t.mode ≡ true
+
 -- every user thread has halted
 abbrev pub HaveHalted : World → Type 0
-HaveHalted w = (x : Path) (t : ThreadState) → state_at w x ≡ Some t → is_halted t.mode ≡ true
+HaveHalted w = (x : Path) → HasHalted w x
 
 -- ---- while they are gathered
 

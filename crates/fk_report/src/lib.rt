@@ -3,14 +3,16 @@
 //!
 //! It stands on `fk_model` for threads, on `fk_natives` for consoles and on `fk_store` for the world that a store is. It promises
 //! that `threads_of` gives each user thread of that world once, in the order of paths
-//! (`specs/Threads.antt`), that `have_halted` says whether all of them have halted, and that
+//! (`specs/Threads.antt`), that `have_halted` says whether all of them have halted, as `all_halted` does of a store, and that
 //! `run_text` and `report_text` write what `specs/Report.antt` has.
 #![tactic(auto)]
 
 mod end;
 mod report;
+mod resting;
 mod threads;
 
 pub use end::End;
 pub use report::{report_text, run_text};
+pub use resting::all_halted;
 pub use threads::{ThreadState, have_halted, threads_of};

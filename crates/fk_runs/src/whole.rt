@@ -4,35 +4,25 @@ ghost use Rattle.fk_commands.specs.Prepared.{ComesTo, IsRefusal};
 ghost use Rattle.fk_commands.specs.Status.{progress_of, Finished};
 ghost use Rattle.fk_core.specs.Cores.{core_at};
 ghost use Rattle.fk_core.specs.Served.{AllFit};
-ghost use Rattle.fk_report.specs.Threads.{AreThreads};
 ghost use Rattle.fk_runs.specs.Runs.{IsEnd, IsMade, IsPlayed, IsRunAlone, status_of_end};
-ghost use Rattle.fk_store.specs.World.{world};
 
 use crate::traces::{ReplayFail, replay};
 use fk_commands::{Prepared, Report, Status};
-use fk_core::{Core, Machine};
+use fk_core::Core;
 use fk_model::{List as Items, Move, NoMemory};
 use fk_natives::Service;
-use fk_report::{End, ThreadState, have_halted, run_text, threads_of};
+use fk_report::{End, run_text, threads_of};
 use fk_responders::Table;
 use std::alloc::Global;
 
-/// How a run ends that has come to a core with these threads.
-fn end_of<K: Machine + Drop, S: Service + Drop>(core: &Core<K, S>, threads: &[ThreadState]) -> End
-    requires threads { AreThreads (world (K.contents core.now.kernel)) threads.now }
+/// How a run ends that has come to a core: as the core has ended, or with the list that was played.
+fn end_of<S: Service + Drop>(core: &Core<S>) -> End
     requires within { core.now.events ≤ core.now.budget }
-    ensures { IsEnd core.now.budget (core_at (K.contents core.now.kernel) core.now.services.list core.now.events) result }
+    ensures { IsEnd core.now.budget (core_at core.now.kernel core.now.services.list core.now.events) result }
 {
-    if core.has_move() {
-        if core.is_below_budget() {
-            End::Listed
-        } else {
-            End::Budget
-        }
-    } else if have_halted(threads) {
-        End::Halted
-    } else {
-        End::Quiet
+    match core.ended() {
+        Some(end) => end,
+        None => End::Listed,
     }
 }
 
@@ -48,16 +38,16 @@ fn status_of(end: End, budget: u64) -> Status
 }
 
 /// The report and the text of a run that has come to a core.
-fn prepared<K: Machine + Drop, S: Service + Drop>(
+fn prepared<S: Service + Drop>(
     alloc: Global,
-    core: &Core<K, S>,
+    core: &Core<S>,
     history: Items<Move>,
 ) -> Result<Prepared, NoMemory>
     requires within { core.now.events ≤ core.now.budget }
-    ensures { IfOk result (λ made. IsMade (core_at (K.contents core.now.kernel) core.now.services.list core.now.events) core.now.budget history made) }
+    ensures { IfOk result (λ made. IsMade (core_at core.now.kernel core.now.services.list core.now.events) core.now.budget history made) }
 {
     let threads = threads_of(alloc, core.kernel().store())?;
-    let end = end_of(core, threads.as_slice());
+    let end = end_of(core);
     let events = history.len() as u64;
     let output = run_text(alloc, events, end, core.services(), threads.as_slice())?;
     Ok(Prepared {
@@ -72,15 +62,15 @@ fn prepared<K: Machine + Drop, S: Service + Drop>(
 /// # Errors
 ///
 /// `BadTrace` with the index of the first bad line of the trace; `NoMemory`.
-pub fn play_core<K: Machine + Drop, S: Service + Drop>(
+pub fn play_core<S: Service + Drop>(
     alloc: Global,
-    mut core: Core<K, S>,
+    mut core: Core<S>,
     table: &Table,
     trace: &[u8],
 ) -> Result<Prepared, Status>
     requires fits { AllFit (map (λ r. r.rule) table.now.list.items) core.services.list }
     requires first { core.events ≡ 0 }
-    ensures comes { ComesTo (λ outcome. IsPlayed (core_at (K.contents core.kernel) core.services.list core.events) core.budget trace.now outcome.status outcome.report) result }
+    ensures comes { ComesTo (λ outcome. IsPlayed (core_at core.kernel core.services.list core.events) core.budget trace.now outcome.status outcome.report) result }
     ensures refusal { IfErr result (IsRefusal ⊥ ⊥) }
 {
     let history = match replay(alloc, &mut core, table, trace) {
@@ -96,14 +86,14 @@ pub fn play_core<K: Machine + Drop, S: Service + Drop>(
 /// # Errors
 ///
 /// `NoMemory`.
-pub fn run_core<K: Machine + Drop, S: Service + Drop>(
+pub fn run_core<S: Service + Drop>(
     alloc: Global,
-    mut core: Core<K, S>,
+    mut core: Core<S>,
     table: &Table,
 ) -> Result<Prepared, Status>
     requires fits { AllFit (map (λ r. r.rule) table.now.list.items) core.services.list }
     requires first { core.events ≡ 0 }
-    ensures comes { ComesTo (λ outcome. IsRunAlone (core_at (K.contents core.kernel) core.services.list core.events) core.budget outcome.status outcome.report) result }
+    ensures comes { ComesTo (λ outcome. IsRunAlone (core_at core.kernel core.services.list core.events) core.budget outcome.status outcome.report) result }
     ensures refusal { IfErr result (IsRefusal ⊥ ⊥) }
 {
     let history = core.run(alloc, table)?;

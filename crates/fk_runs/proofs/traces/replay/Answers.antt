@@ -11,13 +11,13 @@ use Rattle.fk_runs.proofs.traces.replay.Goals as goal
 pub returns-in_default-clause-back : goal.returns-in_default-clause-back
 returns-in_default-clause-back g c =
     let core = c.args.core.now in
-    λ moves spells. Spells-not_bad (MayPlay core.budget (core_at (g.K.Machine.contents core.kernel) core.services.list core.events)) c.args.text.now moves 0 spells
+    λ moves spells. Spells-not_bad (MayPlay core.budget (core_at core.kernel core.services.list core.events)) c.args.text.now moves 0 spells
     (inl (c.in_default.ensures.none, refl))
 
 pub loop-rest-init : goal.loop-rest-init
 loop-rest-init g c =
     let core = c.args.core.now in
-    let first = core_at (g.K.Machine.contents core.kernel) core.services.list core.events in
+    let first = core_at core.kernel core.services.list core.events in
     let zero = c.requires.first in
     let spelled : c.args.text.now ≡ trace_text [] ++ c.in-Some.rest.now = search rules in
     rw c.new-moves.ensures (record {
@@ -33,9 +33,9 @@ loop-rest-init g c =
 pub returns-in_default-2-clause-cause : goal.returns-in_default-2-clause-cause
 returns-in_default-2-clause-cause g c =
     let core = c.args.core.now in
-    let first = core_at (g.K.Machine.contents core.kernel) core.services.list core.events in
+    let first = core_at core.kernel core.services.list core.events in
     let at = c.loop-rest.core in
-    let now = core_at (g.K.Machine.contents at.kernel) at.services.list at.events in
+    let now = core_at at.kernel at.services.list at.events in
     let kept = c.loop-rest.invariant in
     let none : BeginsWithNone (λ move. (at.events < core.budget) × IsReadyMove now move) c.loop-rest.rest.now =
     subst (λ b. BeginsWithNone (λ move. (at.events < b) × IsReadyMove now move) c.loop-rest.rest.now) kept.budget
@@ -55,15 +55,15 @@ returns-in_default-2-clause-cause g c =
 pub returns-in_default-2-clause-back : goal.returns-in_default-2-clause-back
 returns-in_default-2-clause-back g c = λ moves spells.
     let core = c.args.core.now in
-    Spells-not_bad (MayPlay core.budget (core_at (g.K.Machine.contents core.kernel) core.services.list core.events))
+    Spells-not_bad (MayPlay core.budget (core_at core.kernel core.services.list core.events))
     c.args.text.now moves c.len-index.result spells (returns-in_default-2-clause-cause g c)
 
 pub loop-rest-preserved : goal.loop-rest-preserved
 loop-rest-preserved g c =
     let core = c.args.core.now in
-    let first = core_at (g.K.Machine.contents core.kernel) core.services.list core.events in
+    let first = core_at core.kernel core.services.list core.events in
     let at = c.loop-rest.core in
-    let now = core_at (g.K.Machine.contents at.kernel) at.services.list at.events in
+    let now = core_at at.kernel at.services.list at.events in
     let new = c.make_next.new.core in
     let kept = c.loop-rest.invariant in
     let moves = c.loop-rest.moves in
@@ -72,7 +72,7 @@ loop-rest-preserved g c =
     let next : BeginsWith c.loop-rest.rest.now one c.in-Some-2.after.now = search rules in
     let few : at.events < at.budget = search rules in
     let ready : IsReadyMove now one = search rules in
-    let turned : IsTurned now one (core_at (g.K.Machine.contents new.kernel) new.services.list new.events) = search rules in
+    let turned : IsTurned now one (core_at new.kernel new.services.list new.events) = search rules in
     let counted : new.events ≡ at.events + 1 = search rules in
     let budget = kept.budget in
     let events = kept.events in
@@ -93,7 +93,7 @@ loop-rest-preserved g c =
 pub returns-clause-back : goal.returns-clause-back
 returns-clause-back g c = λ moves spells.
     let core = c.args.core.now in
-    let M = MayPlay core.budget (core_at (g.K.Machine.contents core.kernel) core.services.list core.events) in
+    let M = MayPlay core.budget (core_at core.kernel core.services.list core.events) in
     let none : length c.loop-rest.rest.now ≡ 0 = search rules in
     let read : Spells M c.args.text.now c.loop-rest.moves = record {
       legal = c.loop-rest.invariant.legal;

@@ -1,15 +1,8 @@
-use Rattle.std.proofs.Common.{◌≡◌, true, false}
-use Rattle.fk_store.specs.World.{world}
+use Rattle.fk_core.specs.Cores.{core_at}
+use Rattle.fk_runs.proofs.Made.{ended-end}
 use Rattle.fk_runs.proofs.whole.end_of.Goals as goal
 
-pub returns-then-have_halted : goal.returns-then-have_halted
-returns-then-have_halted g c = (
-  λ any. let yes = c.has_move.ensures.1 any in absurd (cc),
-  (c.have_halted.ensures.world (world (g.K.Machine.contents c.args.core.now.kernel)) c.requires.threads).0 c.if-have_halted.true,
-)
-
-pub returns-else-have_halted : goal.returns-else-have_halted
-returns-else-have_halted g c = (
-  λ any. let yes = c.has_move.ensures.1 any in absurd (cc),
-  λ halted. let yes = (c.have_halted.ensures.world (world (g.K.Machine.contents c.args.core.now.kernel)) c.requires.threads).1 halted in absurd (cc),
-)
+pub returns-in-Some : goal.returns-in-Some
+returns-in-Some g c =
+    let core = c.args.core.now in
+    ended-end core.budget (core_at core.kernel core.services.list core.events) c.in-Some.end (rw c.in-Some.is at c.ended.ensures) c.requires.within

@@ -9,13 +9,13 @@ use Rattle.fk_core.proofs.turns.Core.go.Goals as goal
 
 pub attempt-requires : goal.attempt-requires
 attempt-requires g c =
-    let w = world (g.K.Machine.contents c.args.self.now.kernel) in
+    let w = world c.args.self.now.kernel in
     record { fit = fit-asked _ w c.args.m.now.who c.in-Some.ask (named w c.args.m.now.who) (sym c.ask.ensures.asked ∙ c.in-Some.is) }
 
 pub returns-clause-made : goal.returns-clause-made
 returns-clause-made g c =
-    let m = g.K.Machine.contents c.args.self.now.kernel in
-    let n = g.K.Machine.contents c.attempt.new.self in
+    let m = c.args.self.now.kernel in
+    let n = c.attempt.new.self in
     let list = c.args.self.now.services.list in
     let ask = c.in-Some.ask in
     let what = c.in-Some-2.told in

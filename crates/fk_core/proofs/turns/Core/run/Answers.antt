@@ -1,12 +1,11 @@
-use Rattle.std.proofs.Common.{◌∙◌, ◌∷◌, [], length, refl, sym, ap, subst, arith}
+use Rattle.std.proofs.Common.{◌≡◌, ◌∙◌, ◌∷◌, [], length, Some, refl, ap, subst, arith}
 use Rattle.std.proofs.lemmas.List.{length-append}
-use Rattle.laws_runs.specs.Cores.{IsRun}
-use Rattle.fk_core.specs.Cores.{RunCore, house, core_at, IsReadyMove}
+use Rattle.fk_core.specs.Cores.{core_at, IsAdvanced}
 use Rattle.fk_core.proofs.Histories.{begun, one_more}
 use Rattle.fk_core.proofs.turns.Core.run.Goals as goal
 
-pub loop-m-init : goal.loop-m-init
-loop-m-init g c = record {
+pub loop-history-init : goal.loop-history-init
+loop-history-init g c = record {
   run = begun _ c.new-history.result c.new-history.ensures;
   fits = c.requires.fits;
   budget = refl;
@@ -14,22 +13,35 @@ loop-m-init g c = record {
   events = rw c.new-history.ensures (omega arith);
 }
 
-pub loop-m-preserved : goal.loop-m-preserved
-loop-m-preserved g c =
-    let first = core_at (g.K.Machine.contents c.args.self.now.kernel) c.args.self.now.services.list c.args.self.now.events in
-    let last = core_at (g.K.Machine.contents c.turn.new.self.kernel) c.turn.new.self.services.list c.turn.new.self.events in
-    let same = c.choose.ensures.same in
-    let count = ap (λ (c : RunCore). c.events) same in
-    let counted = c.loop-m.invariant.events in
-    let turned = c.in_ok-turn.ensures.events in
-    let long = ap length c.in_ok-push.ensures.ok ∙ length-append c.loop-m.history (c.in-Some.m ∷ []) in
+pub loop-history-preserved : goal.loop-history-preserved
+loop-history-preserved g c =
+    let first = core_at c.args.self.now.kernel c.args.self.now.services.list c.args.self.now.events in
+    let was = c.loop-history.self in
+    let before = core_at was.kernel was.services.list was.events in
+    let new = c.advance.new.self in
+    let last = core_at new.kernel new.services.list new.events in
+    let made : IsAdvanced was.budget before (Some c.in-Some.m) last = subst (λ o. IsAdvanced was.budget before o last) c.in-Some.is c.in_ok-m.ensures.advanced in
+    let below = made.0 in
+    let count = made.3 in
+    let kept = c.advance.ensures.budget in
+    let counted = c.loop-history.invariant.events in
+    let long = ap length c.in_ok-push.ensures.ok ∙ length-append c.loop-history.history (c.in-Some.m ∷ []) in
     record {
-      run = one_more first _ last c.loop-m.history c.push.new.self c.in-Some.m
-          (subst (λ x. IsRun house first c.loop-m.history x) (sym same) c.loop-m.invariant.run)
-          (subst (λ x. IsReadyMove x c.in-Some.m) (sym same) c.in-Some.ensures.ready.1) c.in_ok-turn.ensures.turned c.in_ok-push.ensures.ok;
-      fits = c.turn.ensures.fits;
-      budget = c.turn.ensures.budget ∙ (c.choose.ensures.budget ∙ c.loop-m.invariant.budget);
-      within = λ few. (let below = c.in-Some.ensures.ready.0 in let kept = c.turn.ensures.budget in let chosen = c.choose.ensures.budget in
-          omega (arith, below, kept, chosen, turned, count));
-      events = omega (arith, count, counted, turned, long);
+      run = one_more first before last c.loop-history.history c.push.new.self c.in-Some.m c.loop-history.invariant.run made.1 made.2 c.in_ok-push.ensures.ok;
+      fits = c.advance.ensures.fits;
+      budget = kept ∙ c.loop-history.invariant.budget;
+      within = λ few. omega (arith, below, kept, count);
+      events = omega (arith, counted, count, long);
     }
+
+pub loop-history-smaller : goal.loop-history-smaller
+loop-history-smaller g c =
+    let was = c.loop-history.self in
+    let before = core_at was.kernel was.services.list was.events in
+    let new = c.advance.new.self in
+    let last = core_at new.kernel new.services.list new.events in
+    let made : IsAdvanced was.budget before (Some c.in-Some.m) last = subst (λ o. IsAdvanced was.budget before o last) c.in-Some.is c.in_ok-m.ensures.advanced in
+    let below = made.0 in
+    let count = made.3 in
+    let kept = c.advance.ensures.budget in
+    omega (arith, below, count, kept)

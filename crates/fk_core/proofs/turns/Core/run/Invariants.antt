@@ -4,15 +4,15 @@ use Rattle.fk_core.specs.Served.{AllFit}
 use Rattle.fk_core.specs.Cores.{house, core_at}
 use Rattle.fk_core.proofs.turns.Core.run.Given as goal
 
-abbrev pub invariant-loop-m : goal.invariant-loop-m
-invariant-loop-m g l = record {
-  run : IsRun house (core_at (g.K.Machine.contents l.fn.self.kernel) l.fn.self.services.list l.fn.self.events) l.history
-      (core_at (g.K.Machine.contents l.self.kernel) l.self.services.list l.self.events);
+abbrev pub invariant-loop-history : goal.invariant-loop-history
+invariant-loop-history g l = record {
+  run : IsRun house (core_at l.fn.self.kernel l.fn.self.services.list l.fn.self.events) l.history
+      (core_at l.self.kernel l.self.services.list l.self.events);
   fits : AllFit (map (λ r. r.rule) l.table.list.items) l.self.services.list;
   budget : l.self.budget ≡ l.fn.self.budget;
   within : l.fn.self.events ≤ l.fn.self.budget → l.self.events ≤ l.self.budget;
   events : l.self.events ≡ l.fn.self.events + length l.history;
 }
 
-abbrev pub decreases-loop-m : goal.decreases-loop-m
-decreases-loop-m g l = l.self.budget - l.self.events
+abbrev pub decreases-loop-history : goal.decreases-loop-history
+decreases-loop-history g l = l.self.budget - l.self.events

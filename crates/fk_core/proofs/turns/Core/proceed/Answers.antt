@@ -1,0 +1,12 @@
+use Rattle.std.proofs.Common.{IsSome, refl, sym, subst}
+use Rattle.std.proofs.lemmas.Bool.{OnTrue_at}
+use Rattle.fk_core.proofs.Proceeding.{proceeded}
+use Rattle.fk_core.proofs.turns.Core.proceed.Goals as goal
+
+pub returns-then-proceed-clause-advanced : goal.returns-then-proceed-clause-advanced
+returns-then-proceed-clause-advanced g c =
+    let self = c.args.self.now in
+    proceeded self.kernel c.proceed.new.self self.services.list self.budget self.events c.in_ok-who.who
+    (c.same_thread.ensures (subst (λ o. IsSome o) (sym c.in_ok-who.was) refl))
+    (OnTrue_at c.if-proceed.true c.proceed.ensures.made)
+    (OnTrue_at c.if-proceed.true c.proceed.ensures.ended)
