@@ -12,6 +12,7 @@ pub fn lines_of(alloc: Global, text: &[u8]) -> Result<Vec<&[u8]>, AllocError>
     text.split(|byte| *byte == b'\n').collect(alloc)
 }
 
+/// What stands between separators. Any other byte is part of a piece, also a form feed or one from 128 on.
 fn pieces_of(alloc: Global, line: &[u8]) -> Result<Vec<&[u8]>, AllocError>
     ensures { IfOk result (λ pieces. map (λ piece. piece.now) pieces.items ≡ slice_split definitions.is_separator line.now) }
 {
@@ -19,6 +20,7 @@ fn pieces_of(alloc: Global, line: &[u8]) -> Result<Vec<&[u8]>, AllocError>
         .collect(alloc)
 }
 
+/// Where a comment begins, which may be inside a token.
 fn comment_at(line: &[u8]) -> Option<usize>
     ensures { result ≡ position definitions.is_semicolon line.now }
 {

@@ -58,6 +58,7 @@ pub fn is_label(token: &[u8]) -> bool
 pub fn operand_of(token: &[u8]) -> Result<Value<'_>, Reason>
     ensures { GivesOrReason definitions.value_view result (definitions.operand_of token.now) }
 {
+    // A label goes first: what is none is a number or an ill-formed one, whatever it begins with.
     if is_label(token) {
         return Ok(Value::Label(token));
     }

@@ -75,6 +75,7 @@ fn may_restore(store: &Store, m: &Move, stage: &Stage) -> bool
 {
     let ask = Ask::Call {
         stage: *stage,
+        // Whether the move is ready hangs on no word, but the judge wants words in range.
         words: [1; 64],
     };
     ready_given(store, m, &ask)
@@ -139,6 +140,7 @@ fn attempt_act(store: &mut Store, m: &Move, ask: &Ask) -> Option<Told>
     ensures unready { IfNone result ((IsReadyMove store.old m.now ask.now → ⊥) × (store.new ≡ store.old)) }
 {
     match fk_acts::attempt(store, m, ask) {
+        // By no act does a server lose its client.
         Some(said) => Some(Told { said, ended: None }),
         None => None,
     }
@@ -226,6 +228,7 @@ fn make_instruction(
     if !is_effect_ready(store, caller, m.pick, &effect) {
         return false;
     }
+    // Tells that names and paths agree.
     store.names();
     make_effect(store, m.who, registers, counter, effect);
     true
@@ -247,6 +250,7 @@ fn attempt_moving(store: &mut Store, m: &Move, ask: &Ask, moving: &Moving) -> Op
     if !is_moving_ready(store, caller, m.pick, moving) {
         return None;
     }
+    // Tells that names and paths agree.
     store.names();
     move_words(store, caller, moving);
     Some(Told {

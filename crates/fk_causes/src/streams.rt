@@ -40,6 +40,7 @@ impl<R: Read> Source for StdSource<R> {
         match self.reader.read(into) {
             Ok(count) => Ok(count),
             Err(_) => {
+                // At its last value the count is taken as one that rose.
                 self.faults = self.faults.saturating_add(1);
                 Err(Failed)
             }
@@ -81,8 +82,10 @@ impl<W: Write> Sink for StdSink<W> {
         ensures faults { CountsFault self.old.faults self.new.faults result }
     {
         match self.writer.write(piece) {
+            // Nothing is what a piece of nothing takes: that is no fault.
             Ok(count) if count > 0 || piece.is_empty() => Ok(count),
             _ => {
+                // At its last value the count is taken as one that rose.
                 self.faults = self.faults.saturating_add(1);
                 Err(Failed)
             }

@@ -16,6 +16,7 @@ pub fn has_own_path(store: &Store, who: Who)
     requires { IsLive store.now who }
     ensures { HasOwnPath (path store.now) who }
 {
+    // What is there has its path alone: the look tells it.
     let _there = store.at(who);
 }
 
@@ -37,6 +38,7 @@ pub fn is_met(store: &Store, who: Who)
     requires { IsLive store.now who }
     ensures { IsIn (place_of store.now who) (objects (world store.now)) }
 {
+    // The walk goes over slots below 256 of spaces below 2^32, as names are and as the types of their parts say.
     store.names();
     let _there = store.at(who);
     let _below_256 = who.slot;

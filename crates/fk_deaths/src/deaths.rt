@@ -96,6 +96,7 @@ fn end_with_port(store: &mut Store, port: Who)
     ensures paths { path store.new ≡ path store.old }
 {
     let _below_2_32 = store.next_birth();
+    // This comes before the death, after which the port has no clients, and takes no memory for a list of them.
     if end_found(store, port) {
         return;
     }

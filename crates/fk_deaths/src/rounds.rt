@@ -37,6 +37,8 @@ pub fn end_found(store: &mut Store, port: Who) -> bool
     ensures paths { path store.new ≡ path store.old }
 {
     let _below_2_32 = store.next_birth();
+    // A walk along the port's ring can't go on while the store changes, so each client is a walk of its own. More than
+    // a few are left to the scan of all objects.
     for _round in 0..64u8 {
         match client_left(store, port) {
             Left::Client(who) => end_client(store, who, port),

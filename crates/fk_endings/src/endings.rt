@@ -171,9 +171,11 @@ pub fn ended_by(store: &Store, caller: Caller, verdict: &Verdict) -> Option<Who>
         (option_map (place (path store.now)) result) }
     ensures apart { Each (HasOwnPath (path store.now)) result }
 {
+    // Tells that names and paths agree.
     store.names();
     match left_by_verdict(store, verdict) {
         Some(port) => {
+            // A look tells that no other object has the path of this one.
             if store.at(port).is_none() {
                 unreachable!();
             }

@@ -20,6 +20,7 @@ fn frees(store: &Store, caller: Caller, thread: Who) -> Verdict
     ensures fits { IsVerdict store.now caller result }
     ensures sure { IsSureVerdict result }
 {
+    // Any hold counts, the caller's own too: a thread that is held mustn't move on.
     if store.is_frozen(thread.space) {
         return Verdict::Waits;
     }

@@ -1,4 +1,5 @@
-//! The kernel.
+//! The kernel. Its contracts speak of paths and those of the store of names, so each call begins with the store's
+//! `names`: it does nothing, and tells that the two agree, which a store keeps and only a call of it can say.
 ghost use Rattle.std.specs.Prelude.{◌≡◌, ◌↔◌, true, false, IsTrue, IsOk, IfOk, IfSome, IfNone, IsSome, OnErr, None, Some};
 ghost use Rattle.fk_model.specs.declared.moves.Ask.TheVariants as asks;
 ghost use Rattle.std.specs.Bool.{OnTrue, OnFalse};
@@ -117,6 +118,7 @@ impl Kernel {
     {
         self.store.names();
         let tried = fk_calls::attempt(&mut self.store, m, ask);
+        // And so they do in the world that the move leaves.
         self.store.names();
         tried
     }

@@ -17,6 +17,7 @@ pub fn create(store: &Store, caller: Caller, s: u64, x: u64, kind: u64) -> Resul
     ensures { Judges store.now caller result (λ w c. rows.create w c s x kind) }
 {
     let space = place(store, caller, s)?;
+    // The new slot is an argument, so it goes before HELD.
     let slot = slot_for(caller, x)?;
     if store.space_frozen_for(caller.who, space) {
         return Err(HELD);

@@ -92,6 +92,7 @@ pub fn destroy(store: &Store, caller: Caller, s: u64, x: u64) -> Result<Verdict,
         return Err(DENIED);
     }
     let object = store.leaf(named);
+    // What goes first may be frozen where what is named isn't.
     if store.frozen_for(caller.who, object) {
         return Err(HELD);
     }

@@ -38,6 +38,7 @@ pub fn rename(store: &Store, caller: Caller, s: u64, x: u64, y: u64) -> Result<V
     if store.frozen_for(caller.who, object) {
         return Err(HELD);
     }
+    // The new slot is a check of the call's own, after HELD.
     if y > LAST_USER_SLOT {
         return Err(BADHANDLE);
     }

@@ -89,6 +89,7 @@ fn takes_leading(store: &Store, picker: Picker, port: Who) -> Option<Who>
             return Some(found);
         }
     }
+    // Rings that were given up, which no well-formed store does, tell nobody: then all objects are looked at.
     if leaders.are_all() {
         return None;
     }

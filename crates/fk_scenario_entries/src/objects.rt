@@ -58,6 +58,7 @@ fn window_of(extent: (Option<i64>, Option<i64>)) -> Result<(u8, u16), Fail>
     ensures { Gives (λ x. x) result (definitions.window_of extent) }
 {
     let first = ranged_or(0, 0, 255, extent.0)?;
+    // One that is left out is 1, as that of what is created; every other number is 0.
     let count = ranged_or(1, 1, 256, extent.1)?;
     unless(rule::RANGES, first + count <= 256)?;
     Ok((first as u8, count as u16))

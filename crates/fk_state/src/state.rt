@@ -109,6 +109,7 @@ fn is_still(store: &Store, caller: Caller, object: Who, body: &Body) -> bool
         (place (path store.now) object) (body_by (path store.now) body.now) }
 {
     match body {
+        // A hold counts where the caller's is the outermost. To have halted is no stop.
         Body::Thread(thread) => thread.stops != 0 || decides(store, caller, object),
         _ => true,
     }

@@ -84,6 +84,7 @@ impl Store {
         ensures born { path self.now ≡ space_born (world self.now) }
         ensures few { (world self.now).next ≤ depth }
     {
+        // What the store's type keeps is seen in this crate alone. By this call the others have it.
         let _below_2_32 = self.next;
     }
 

@@ -98,6 +98,7 @@ impl Hints {
         if has_room(&self.rows, who.space) {
             lay_value(&mut self.rows, who.space, who.slot, tellers);
         } else {
+            // Without room for it, whoever asks is told that it may be anybody: to say too much is right.
             self.stray = true;
         }
     }

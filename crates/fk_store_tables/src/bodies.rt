@@ -287,6 +287,7 @@ impl Bodies {
     pub fn slots(&self)
         ensures { (q : Who) (b : Body) → map.get self.now q ≡ Some b → q.slot < 256 }
     {
+        // The type of the rows says it.
         let _rows = &self.rows;
     }
 

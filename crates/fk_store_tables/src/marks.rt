@@ -39,6 +39,7 @@ pub fn mark(marks: &mut Vec<[bool; 16]>, who: Who, so: bool)
     requires { so ≡ true → who.space < length marks.old.items }
     ensures { (s g : ℕ) → mark_at marks.new.items s g ≡ (if so && (s == who.space && g == who.slot / 16) then true else mark_at marks.old.items s g) }
 {
+    // A mark is never taken back: it says that something may be there, so what removes an object owes it nothing.
     if so {
         marks[who.space as usize][usize::from(who.slot / 16)] = true;
     }
