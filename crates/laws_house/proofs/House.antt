@@ -1,29 +1,34 @@
 -- The house's laws, from those of its parts.
-use Rattle.std.proofs.Common.{◌≡◌, ℕ, zero, suc, ◌+◌, ◌*◌, ◌<◌, ◌≤◌, Bool, true, false, cond, List, [], ◌∷◌, length, take, Option, Some, None, option_map, refl, sym, ap, subst, arith, ◌∙◌, ◌⊎◌, inl, inr}
+use Rattle.std.proofs.Common.{◌≡◌, ℕ, zero, suc, ◌+◌, ◌*◌, ◌<◌, ◌≤◌, Bool, true, false, cond, nat_le, List, [], ◌∷◌, length, take, Option, Some, None, option_map, refl, sym, ap, subst, arith, ◌∙◌, ◌⊎◌, inl, inr}
 use Rattle.std.specs.List.{slice_get}
 use Rattle.fk_model.specs.declared.limits.TheConstants.{OWN_SPACE, LAST_USER_SLOT}
 use Rattle.fk_model.specs.declared.moves.Move.{Move}
 use Rattle.fk_model.specs.declared.stage.Stage.{Stage}
 use Rattle.fk_model.specs.declared.stage.Stage.TheVariants.{SpaceHold}
+use Rattle.fk_model.specs.declared.moves.Ask.TheVariants as asks
+use Rattle.fk_model.specs.Who.{event_of}
 use Rattle.fk_model.specs.Places.{Path}
 use Rattle.fk_model.specs.World.{World}
 use Rattle.fk_model.specs.Cut.{cut}
-use Rattle.fk_model.specs.Runs.{after}
+use Rattle.fk_model.specs.Runs.{Event, after}
+use Rattle.fk_model.specs.Valid.{birth_at}
 use Rattle.fk_image.specs.declared.image.Image.{Image}
 use Rattle.fk_image.specs.Picture.{picture}
 use Rattle.fk_image.specs.Valid.{is_valid}
 use Rattle.laws_savable.specs.Savable.{IsSound}
-use Rattle.laws_jobs.specs.Machines.{no_words, call_of, IsReadyAt, AtWork}
+use Rattle.laws_jobs.specs.Machines.{no_words, call_of, IsReadyAt, AtWork, heard, said_of, Head}
 use Rattle.laws_jobs.specs.Machines.Head.{Stops, Asks}
 use Rattle.laws_jobs.specs.Jobs.{MayBegin, IsTidyJob, Saves, Restores}
 use Rattle.laws_jobs.specs.Holds.{hold}
 use Rattle.laws_jobs.proofs.Weaving.{first_sound}
+use Rattle.laws_further.specs.ClosedLaws.{IsUncut}
+use Rattle.laws_uncut.proofs.Kept.{keeps_uncut}
 use Rattle.laws_checkpoint.specs.Checkpoint as checkpoints
 use Rattle.laws_checkpoint.specs.Checkpoint.{checkpoint}
 use Rattle.laws_checkpoint.specs.Checkpoint.End.{Done, Gone, Foreign}
 use Rattle.laws_checkpoint.specs.Checkpoint.State.{Holds}
 use Rattle.laws_checkpoint.specs.Bounded.{count_of, LiesWithin}
-use Rattle.laws_checkpoint.specs.Laws.{IsSameBeside, picture_of}
+use Rattle.laws_checkpoint.specs.Laws.{MaySave, IsSameBeside, picture_of}
 use Rattle.laws_checkpoint.proofs.Bounds.{checkpoint_is_bounded}
 use Rattle.laws_checkpoint.proofs.Ended.{checkpoint_is_tidy, checkpoint_ends_as_it_was}
 use Rattle.laws_checkpoint.proofs.Saved.{checkpoint_saves, checkpoint_images_subtree}
@@ -36,9 +41,11 @@ use Rattle.laws_rooms.specs.Restoring.{bound_by, restore_of}
 use Rattle.laws_restore.proofs.Owing.{is_tidy as restore_is_tidy}
 use Rattle.laws_rooms.proofs.Roomed.{valid_is_roomed}
 use Rattle.laws_rooms.proofs.Restored.{pairs_bind, image_is_restored, image_restore_is_bounded}
-use Rattle.laws_runs.specs.Cores.{JobEnd, Servers, Core, IsRun, world_at}
+use Rattle.laws_runs.specs.Cores.{Asker, Core, House, IsRun, JobEnd, Servers, Settles, asker, job_moved, moved, moved_by, with_end, world_at}
+use Rattle.laws_runs.specs.Cores.Settles.{Stays, Ends}
+use Rattle.laws_runs.specs.Cores.IsRun.{Begins, Goes}
 use Rattle.laws_runs.specs.Cores.JobEnd.{Worked}
-use Rattle.laws_runs.specs.Cores.Asker.{Job as Asked_by_job}
+use Rattle.laws_runs.specs.Cores.Asker.{Nobody, Others, Job as Asked_by_job}
 use Rattle.laws_runs.specs.Composed.{IsComposed, job_moves, WorksSo, HasWorked, HasEnded}
 use Rattle.laws_runs.specs.Turning.{asker_at, MovesAt}
 use Rattle.laws_runs.proofs.Composing.{composed}
@@ -50,7 +57,7 @@ use Rattle.laws_house.specs.Houses.Task.{Checkpoint, Restore}
 use Rattle.laws_house.specs.Houses.State.{Checking, Restoring}
 use Rattle.laws_house.specs.Houses.End.{Checked, Restored}
 use Rattle.laws_house.specs.Parts.{IsPart}
-use Rattle.laws_house.specs.Laws.{NamesUsersSlots, HouseIsTidy, IsGrounded, CheckpointsAreBrief, RestoresAreBrief, LeftBeside, CheckpointsLeaveTheRest, CheckpointsEndAsItWas, CheckpointsSave, RestoresMake, SavedGoesOn}
+use Rattle.laws_house.specs.Laws.{NamesUsersSlots, HouseIsTidy, RunStaysUncut, IsGrounded, CheckpointsAreBrief, RestoresAreBrief, LeftBeside, CheckpointsLeaveTheRest, CheckpointsEndAsItWas, CheckpointsSave, RestoresMake, SavedGoesOn}
 use Rattle.laws_house.proofs.Parts.{asks_part, stops_part, works, parts_are_tidy}
 
 -- ---- the two parts
@@ -132,6 +139,40 @@ house_is_tidy jobs servers names index j ends s its starts = by j.task starts (n
         subst (IsTidyJob machine j.nester) is
         (parts_are_tidy (checkpoint slot) machine (Checking slot) Checked j.nester Holds (checkpoint_part slot) (checkpoint_is_tidy slot j.nester low))
     by (Restore slot pairs source) e names = made slot pairs names (valid_one (sourced ends source)) (λ image from. valid_is (sourced ends source) image from) e
+
+-- ---- each world of a run is nobody's cut
+
+module _ {J S A V : Type 0} (h : House J S A V) (first : Core S A V) where
+  settled_world : (c d : Core S A V) → Settles h c d → d.world ≡ c.world
+  settled_world _ _ (Stays c none) = refl
+  settled_world _ _ (Ends c d why now rest) = settled_world (with_end c why) d rest
+
+  moved_uncut : (c : Core S A V) (m : Move) (a : Asker S) → IsUncut c.world → IsUncut (moved_by h c m a).world
+  moved_uncut c m Nobody uncut = uncut
+  moved_uncut c m (Others ask) uncut = keeps_uncut c.world (event_of c.world ask m) uncut
+  moved_uncut c m (Asked_by_job begun s stage words) uncut = by (heard h.machine s (said_of c.world event)) (h.machine.head (heard h.machine s (said_of c.world event)))
+    where
+      event : Event
+      event = event_of c.world (asks.Call stage words) m
+
+      by : (t : S) (head : Head A) → IsUncut (job_moved h c event begun t head).world
+      by t (Asks more given) = keeps_uncut c.world event uncut
+      by t (Stops end) = keeps_uncut c.world event uncut
+
+  uncut_run : {c : Core S A V} {past : List Move} → IsRun h first past c → IsUncut first.world → IsUncut c.world
+  uncut_run Begins uncut = uncut
+  uncut_run (Goes past c m d run ready settles) uncut = subst IsUncut (sym (settled_world (moved h c m) d settles)) (moved_uncut c m (asker h c m.who) (uncut_run run uncut))
+
+  pub uncut_at : {c : Core S A V} {past : List Move} (run : IsRun h first past c) → IsUncut first.world → (k : ℕ) → IsUncut (world_at run k)
+  uncut_at Begins uncut k = uncut
+  uncut_at (Goes past c m d run ready settles) uncut k = by (nat_le k (length past)) (uncut_at run uncut k) (uncut_run (Goes past c m d run ready settles) uncut)
+    where
+      by : (t : Bool) → IsUncut (world_at run k) → IsUncut d.world → IsUncut (cond t (world_at run k) d.world)
+      by true one two = one
+      by false one two = two
+
+pub run_stays_uncut : {V : Type 0} → RunStaysUncut V
+run_stays_uncut jobs servers first c past run uncut k = uncut_at (house jobs servers) first run uncut k
 
 module _ {V : Type 0} (jobs : List Job) (servers : Servers V) (first c : Core State End V) (past : List Move) (run : IsRun (house jobs servers) first past c) (grounded : IsGrounded jobs servers first past) where
   whole : IsComposed run
@@ -326,7 +367,9 @@ checkpoints_end_as_it_was jobs servers first c past run grounded index j slot be
     }
 
 pub checkpoints_save : {V : Type 0} → CheckpointsSave V
-checkpoints_save jobs servers first c past run grounded index j slot begun last image its is ended may_save =
+checkpoints_save jobs servers first c past run grounded index j slot begun last image its is ended alone =
+    let may_save : (nester : Path) → birth_at (world_at run begun) nester ≡ Some j.nester → MaySave (world_at run begun) nester slot =
+    λ nester named. record { uncut = uncut_at (house jobs servers) first run grounded.uncut begun; users = alone nester named } in
     let e = ended_checkpoint jobs servers first c past run grounded index j slot begun last (Done image) its is ended in (
       (checkpoint_images_subtree slot j.nester (world_at run begun) (world_at run (last + 1)) e.nester e.state image e.low e.may (may_save e.nester e.may.named) e.work e.stopped).0,
       checkpoints_hold (house jobs servers) first c past run grounded.users (house_is_tidy jobs servers grounded.slots) grounded.start grounded.few index j slot pictured (Checked (Done image)) begun last (picture image) its
@@ -355,17 +398,16 @@ got_before (x ∷ xs) (suc n) zero low = refl
 got_before (x ∷ xs) (suc n) (suc i) low = got_before xs n i (omega (arith, low))
 
 pub saved_goes_on : {V : Type 0} → SavedGoesOn V
-saved_goes_on jobs servers first c past run grounded from to i j slot place holds release made done pairs image its is ended may_save their there restored_it before =
-    let saved = checkpoints_save jobs servers first c past run grounded from i slot holds release image its is ended may_save in
+saved_goes_on jobs servers first c past run grounded from to i j slot place holds release made done pairs image its is ended alone their there restored_it before =
+    let saved = checkpoints_save jobs servers first c past run grounded from i slot holds release image its is ended alone in
     let source : valid_one (sourced (take to c.ends) (MadeBy from)) ≡ Some image =
     ap valid_one (ap image_made (got_before c.ends to from before ∙ ended)) ∙ ap (λ t. cond t (Some image) None) saved.0 in
     let restored = restores_make jobs servers first c past run grounded to j place made done pairs (MadeBy from) image their there source restored_it in
-    let may = may_save saved.1.nester saved.1.named in
     record {
       nester = saved.1.nester;
       named = saved.1.named;
       there = restored.nester;
       named_there = restored.named;
       further = λ ms. restored_go_on (house jobs servers) first c past run grounded.users (house_is_tidy jobs servers grounded.slots) grounded.start grounded.few i.nester slot holds release (picture image) saved.1
-          may.uncut may.users j.nester place made done (bound_by pairs) restored ms;
+          (uncut_at (house jobs servers) first run grounded.uncut holds) (alone saved.1.nester saved.1.named) j.nester place made done (bound_by pairs) restored ms;
     }

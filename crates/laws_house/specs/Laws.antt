@@ -13,10 +13,11 @@ use Rattle.fk_model.specs.Valid.{birth_at}
 use Rattle.fk_image.specs.declared.image.Image.{Image}
 use Rattle.fk_image.specs.Picture.{picture}
 use Rattle.fk_image.specs.Valid.{is_valid}
+use Rattle.laws_further.specs.ClosedLaws.{IsUncut, IsUsersAlone}
 use Rattle.laws_checkpoint.specs.Checkpoint as checkpoints
 use Rattle.laws_checkpoint.specs.Checkpoint.End.{Done}
 use Rattle.laws_checkpoint.specs.Bounded.{count_of, LiesWithin}
-use Rattle.laws_checkpoint.specs.Laws.{MaySave, EndsAsItWas, IsSameBeside}
+use Rattle.laws_checkpoint.specs.Laws.{EndsAsItWas, IsSameBeside}
 use Rattle.laws_restore.specs.Restore as restores
 use Rattle.laws_restore.specs.Restore.State.{Makes}
 use Rattle.laws_restore.specs.Bounded as made
@@ -53,6 +54,13 @@ pub record IsGrounded {V : Type 0} (jobs : List Job) (servers : Servers V) (firs
   pub slots : NameUsersSlots jobs
   pub start : IsStart first
   pub few : first.world.next + length past ≤ depth
+  -- it is nobody's cut
+  pub uncut : IsUncut first.world
+
+-- each of its worlds is nobody's cut
+abbrev pub RunStaysUncut : Type 0 → Type 0
+RunStaysUncut V = (jobs : List Job) (servers : Servers V) (first c : Core State End V) (past : List Move) (run : IsRun (house jobs servers) first past c) →
+    IsUncut first.world → (k : ℕ) → IsUncut (world_at run k)
 
 -- ---- how many moves a job makes in a history, ended or not
 
@@ -96,14 +104,14 @@ CheckpointsEndAsItWas V = (jobs : List Job) (servers : Servers V) (first c : Cor
     IsGrounded jobs servers first past → (index : ℕ) (j : Job) (slot begun last : ℕ) (end : checkpoints.End) → slice_get jobs index ≡ Some j →
     j.task ≡ Checkpoint slot → slice_get c.ends index ≡ Some (Worked (Checked end) begun last) → EndedAsItWas j.nester slot (world_at run begun) end
 
--- the subtree of a nester in a world may be saved
-abbrev pub MaySaveThere : ℕ → ℕ → World → Type 0
-MaySaveThere birth slot w = (nester : Path) → birth_at w nester ≡ Some birth → MaySave w nester slot
+-- no porter and no served port lies in the slot of a nester, in a world
+abbrev pub UsersAloneThere : ℕ → ℕ → World → Type 0
+UsersAloneThere birth slot w = (nester : Path) → birth_at w nester ≡ Some birth → IsUsersAlone w nester slot
 
 abbrev pub CheckpointsSave : Type 0 → Type 0
 CheckpointsSave V = (jobs : List Job) (servers : Servers V) (first c : Core State End V) (past : List Move) (run : IsRun (house jobs servers) first past c) →
     IsGrounded jobs servers first past → (index : ℕ) (j : Job) (slot begun last : ℕ) (image : Image) → slice_get jobs index ≡ Some j →
-    j.task ≡ Checkpoint slot → slice_get c.ends index ≡ Some (Worked (Checked (Done image)) begun last) → MaySaveThere j.nester slot (world_at run begun) →
+    j.task ≡ Checkpoint slot → slice_get c.ends index ≡ Some (Worked (Checked (Done image)) begun last) → UsersAloneThere j.nester slot (world_at run begun) →
     (is_valid image ≡ true) × Checkpointed run j.nester slot begun last (picture image)
 
 -- ---- what a done restore has made
@@ -131,6 +139,6 @@ abbrev pub SavedGoesOn : Type 0 → Type 0
 SavedGoesOn V = (jobs : List Job) (servers : Servers V) (first c : Core State End V) (past : List Move) (run : IsRun (house jobs servers) first past c) →
     IsGrounded jobs servers first past → (from to : ℕ) (i j : Job) (slot place hold release made done : ℕ) (pairs : List (ℕ × ℕ)) (image : Image) →
     slice_get jobs from ≡ Some i → i.task ≡ Checkpoint slot → slice_get c.ends from ≡ Some (Worked (Checked (Done image)) hold release) →
-    MaySaveThere i.nester slot (world_at run hold) →
+    UsersAloneThere i.nester slot (world_at run hold) →
     slice_get jobs to ≡ Some j → j.task ≡ Restore place pairs (MadeBy from) → slice_get c.ends to ≡ Some (Worked (Restored restores.Done) made done) → from < to →
     GoesOnAgain i.nester slot (world_at run hold) j.nester place (world_at run made) (world_at run (done + 1)) (bound_by pairs)

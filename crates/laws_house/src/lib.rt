@@ -4,7 +4,7 @@
 //! It stands on `laws_runs`, `laws_checkpoint` and `laws_rooms`.
 #![tactic(auto)]
 
-ghost use Rattle.laws_house.specs.Laws.{HouseIsTidy, CheckpointsAreBrief, RestoresAreBrief, CheckpointsLeaveTheRest, CheckpointsEndAsItWas, CheckpointsSave, RestoresMake, SavedGoesOn};
+ghost use Rattle.laws_house.specs.Laws.{HouseIsTidy, RunStaysUncut, CheckpointsAreBrief, RestoresAreBrief, CheckpointsLeaveTheRest, CheckpointsEndAsItWas, CheckpointsSave, RestoresMake, SavedGoesOn};
 ghost use Rattle.laws_house.specs.Parts.{PartsWork, PartsAreTidy};
 
 /// A machine that is a part of another one is at work where that one is in this part, with as many calls.
@@ -20,6 +20,11 @@ pub fn a_part_is_tidy<S, A, T, B>()
 /// Jobs that name users' slots, as the reader of scenarios asks, are such as a run wants them.
 pub fn a_house_is_tidy<V>()
     ensures { HouseIsTidy V }
+{}
+
+/// Each world of a run that begins in a world that is nobody's cut is nobody's cut.
+pub fn a_run_stays_uncut<V>()
+    ensures { RunStaysUncut V }
 {}
 
 /// Ended or not, a checkpoint of a run has made at most 100 (n + 1) (d + 1) of its moves, where its subtree had n bodies and pages,

@@ -1,0 +1,6 @@
+pub mod Outcomes
+pub mod Found
+pub mod Rows
+pub mod Objects
+pub mod Moves
+pub mod Kept
