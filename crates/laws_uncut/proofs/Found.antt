@@ -1,25 +1,25 @@
 -- What a reader finds in a world that is nobody's cut leads somewhere in it or nowhere; and so does a missing page's keeper.
-use Rattle.std.proofs.Common.{◌≡◌, ℕ, zero, suc, ◌/◌, Bool, true, false, ◌||◌, if◌then◌else◌, nat_lt, leb, eqb, List, [], ◌∷◌, ◌++◌, Option, Some, None, Result, Ok, Err, refl, sym, ap, ◌∙◌}
+use Rattle.std.proofs.Common.{◌≡◌, ℕ, zero, suc, ◌/◌, Bool, true, false, ◌||◌, if◌then◌else◌, nat_lt, eqb, List, [], ◌∷◌, ◌++◌, Option, Some, None, Result, Ok, Err, refl, sym, ap, ◌∙◌}
 use Rattle.std.specs.List.{list_any}
 use Rattle.fk_model.specs.declared.limits.TheConstants.{SLOTS, MAPPINGS, SPACE_WORDS, PAGE_WORDS, OWN_SPACE}
 use Rattle.fk_model.specs.declared.names.Kind.{Kind}
 use Rattle.fk_model.specs.declared.names.Kind.TheVariants as kinds
-use Rattle.fk_model.specs.declared.statuses.status.TheConstants.{BADHANDLE, WRONGKIND}
+use Rattle.fk_model.specs.declared.statuses.status.TheConstants.{WRONGKIND}
 use Rattle.fk_model.specs.Places.{Path, Ptr}
-use Rattle.fk_model.specs.Places.Ptr.{Null, Dead, At, Out, Outside, Far}
+use Rattle.fk_model.specs.Places.Ptr.{Null, At, Out}
 use Rattle.fk_model.specs.Objects.{Window, Extent, Talk, Fault, Peer, Thread, Body, kind_of, same_kind, region_of, covers, reference_of, and_then}
 use Rattle.fk_model.specs.Objects.Peer.{Server, Service, Parked}
 use Rattle.fk_model.specs.Objects.Body.{Mutex, Cond, Mapping, Region, Port, Portset, Space, Thread_of, Reference}
 use Rattle.fk_model.specs.World.{World}
-use Rattle.fk_model.specs.Searches.{lowest, peer_pointer, option_list, talk_pointers, fault_pointers, pointers}
+use Rattle.fk_model.specs.Searches.{peer_pointer, option_list, talk_pointers, fault_pointers, pointers}
 use Rattle.fk_model.specs.Reach.{Reach, region_at, mapping_at, live_keeper, keeper, led_by, followed, mapped, at_home, reach_within, reach, reach_word}
 use Rattle.fk_model.specs.Reach.Reach.{Home, Missing, Bad}
 use Rattle.fk_model.specs.Outcomes.{Outcome, Caller}
-use Rattle.fk_model.specs.Readers.{and_read, anything, object_in, kind_at, is_kind, led_to, handled, handle, referred, missed, accessed, own_page_at, own_page, their_page_at, their_page}
+use Rattle.fk_model.specs.Readers.{and_read, anything, object_in, kind_at, is_kind, led_to, referred, missed, accessed, own_page_at, own_page, their_page_at, their_page}
 use Rattle.fk_model.specs.FaultRows.{named_taker}
 use Rattle.fk_model.specs.ObjectRows.{pointer_to, pointer_in}
 use Rattle.fk_model.specs.StateRows.{Field, or_null, peer_field, thread_field, first_field, field_of, field_pointer, referable}
-use Rattle.fk_model.specs.StateRows.Field.{Pointer, NoThread}
+use Rattle.fk_model.specs.StateRows.Field.{Pointer}
 use Rattle.fk_model.proofs.walks.Lowest.{lowest-found}
 use Rattle.laws_machine.proofs.safety.Reads.{object_in-found}
 use Rattle.laws_further.specs.ClosedLaws.{is_cut_pointer, IsUncut}

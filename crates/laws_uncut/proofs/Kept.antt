@@ -1,5 +1,5 @@
 -- What such changes leave of a world that is nobody's cut.
-use Rattle.std.proofs.Common.{◌≡◌, ℕ, Bool, true, false, if◌then◌else◌, List, [], ◌∷◌, ◌++◌, Option, Some, None, option_map, refl, sym, ap, ◌∙◌, ◌||◌}
+use Rattle.std.proofs.Common.{◌≡◌, ℕ, Bool, true, false, if◌then◌else◌, List, [], ◌∷◌, Option, Some, None, option_map, refl, ap, ◌∙◌, ◌||◌}
 use Rattle.std.specs.List.{list_any}
 use Rattle.fk_model.specs.Places.{Path, same_path, parent, Ptr, leads_to}
 use Rattle.fk_model.specs.Places.Ptr.{At, Dead}
@@ -7,14 +7,13 @@ use Rattle.fk_model.specs.Objects.{Peer, Talk, Fault, Thread, Body, Mode, and_th
 use Rattle.fk_model.specs.Objects.Peer.{Server, Service, Parked}
 use Rattle.fk_model.specs.Objects.Mode.{Running, Calling, Halted, Native}
 use Rattle.fk_model.specs.Objects.Body.{Mutex, Cond, Mapping, Region, Port, Portset, Space, Thread_of, Reference}
-use Rattle.fk_model.specs.World.{World, Change, Edit, Sweep, edited, through, death_sweep, following, talk_without, taker_without, fault_without, follow, follow_peer, serves, apply, apply_all, at_mode, ended_in, finished_in}
+use Rattle.fk_model.specs.World.{World, Change, Edit, Sweep, edited, through, death_sweep, following, taker_without, follow, follow_peer, serves, apply, apply_all, ended_in, finished_in}
 use Rattle.fk_model.specs.World.Change.{Alter, Make, MakeSpace, Kill, Move, PutPage, DropPage}
 use Rattle.fk_model.specs.World.Edit.{SetLocked, SetWindow, SetExtent, SetMember, SetPointer, SetHolder, Proceed, Shift, Finish, End, Replace, SetStops, SetTalk, CountMoved, PassTurn, SetPeer, SetFault, SetTaker}
 use Rattle.fk_model.specs.Searches.{peer_pointer, option_list, talk_pointers, fault_pointers, pointers}
 use Rattle.fk_model.specs.Outcomes.{Outcome}
 use Rattle.fk_model.specs.Outcomes.Outcome.{Refused, Waits, Goes}
 use Rattle.fk_model.specs.Moves.{stepped, outcome, step}
-use Rattle.fk_model.specs.Runs.{Event, after}
 use Rattle.laws_further.specs.ClosedLaws.{is_cut_pointer, IsUncut}
 use Rattle.laws_uncut.specs.Uncut.{MovesKeepUncut}
 use Rattle.laws_uncut.proofs.Outcomes.{IsOurs, AreOurs, IsOursEdit, SetsOurs, SetOurs, OursOutcome}

@@ -1,6 +1,5 @@
 -- What a move comes to sets no pointer that stands in cuts alone.
-use Rattle.std.proofs.Common.{◌≡◌, ℕ, Bool, true, false, if◌then◌else◌, ◌&&◌, ◌==◌, length, List, ◌∷◌, take, Option, Some, None, refl}
-use Rattle.fk_model.specs.declared.limits.TheConstants.{PAGE_WORDS}
+use Rattle.std.proofs.Common.{ℕ, Bool, true, false, if◌then◌else◌, ◌&&◌, List, ◌∷◌, take, Option, Some, None}
 use Rattle.fk_model.specs.declared.moves.Ask.{Ask}
 use Rattle.fk_model.specs.declared.moves.Ask.TheVariants as asks
 use Rattle.fk_model.specs.declared.stage.Stage.{Stage}
@@ -8,7 +7,7 @@ use Rattle.fk_model.specs.declared.stage.Stage.TheVariants.{Create, Destroy, Ren
 use Rattle.fk_model.specs.declared.statuses.status.TheConstants.{DENIED}
 use Rattle.fk_model.specs.declared.thread.Turn.TheVariants as turns
 use Rattle.fk_model.specs.Places.{Path, parent, slot_of}
-use Rattle.fk_model.specs.Objects.{Mode, Thread, registers_of, thread_of, and_then}
+use Rattle.fk_model.specs.Objects.{Mode, Thread}
 use Rattle.fk_model.specs.Objects.Mode.{Running, Calling}
 use Rattle.fk_model.specs.World.{World}
 use Rattle.fk_model.specs.Outcomes.{Outcome, Caller}

@@ -1,13 +1,12 @@
 -- The rows of instructions, mutexes and conditions, messages and pages set no pointer that stands in cuts alone.
-use Rattle.std.proofs.Common.{◌≡◌, ℕ, ◌-◌, ◌%◌, ◌≤◌, Bool, true, false, if◌then◌else◌, ◌==◌, length, List, [], ◌∷◌, ◌++◌, replicate, Option, Some, None, refl, ◌∙◌, arith}
+use Rattle.std.proofs.Common.{ℕ, ◌%◌, Bool, true, false, if◌then◌else◌, ◌==◌, List, [], ◌∷◌, ◌++◌, Option, Some, None}
 use Rattle.std.specs.List.{flat_map}
-use Rattle.std.proofs.lemmas.List.{length-set, length-replicate}
 use Rattle.fk_model.specs.declared.instruction.Act.{Act}
 use Rattle.fk_model.specs.declared.instruction.Act.TheVariants.{Put, Jump, Load, Store, Halt, Call}
 use Rattle.fk_model.specs.declared.limits.TheConstants.{SLOTS, PAGE_WORDS, ZEROS}
 use Rattle.fk_model.specs.declared.stage.Stage.{Stage}
 use Rattle.fk_model.specs.declared.thread.Turn.{Turn}
-use Rattle.fk_model.specs.declared.statuses.status.TheConstants.{BADCALL, NONE}
+use Rattle.fk_model.specs.declared.statuses.status.TheConstants.{NONE}
 use Rattle.fk_model.specs.Places.{Path, parent}
 use Rattle.fk_model.specs.Objects.{Peer, Thread}
 use Rattle.fk_model.specs.Objects.Peer.{Server, Service, Parked}
@@ -21,7 +20,6 @@ use Rattle.fk_model.specs.Reach.{words_at}
 use Rattle.fk_model.specs.Outcomes.{Said, Outcome, ◌>>=◌, or_refuse, Caller, path_of}
 use Rattle.fk_model.specs.Outcomes.Said.{Nothing}
 use Rattle.fk_model.specs.Outcomes.Outcome.{Waits}
-use Rattle.fk_model.specs.Readers.{own_page}
 use Rattle.fk_model.specs.Talks.{Line, thread_led_to}
 use Rattle.fk_model.specs.UserRows.{word_at, halts_with, loads, stores, enters, performs, executes, run_row, run_row_by}
 use Rattle.fk_model.specs.SyncRows.{mutex_lock, mutex_trylock, mutex_unlock, cond_wait, cond_asleep, woken, asleep_on, sleepers, signals, unless_slept_on, picks_sleeper, cond_signal, cond_broadcast}
