@@ -52,16 +52,18 @@ fn is_deed_allowed(store: &Store, me: Who, deed: &Deed) -> bool
                 && is_object_unfrozen(store, me, object)
                 && !store.leads_to_frozen(me, to)
         }
-        Deed::Wakes { thread, .. } => !store.frozen_for(me, thread),
-        Deed::Sleeps { thread, .. } => !store.frozen_for(me, thread),
-        Deed::Records { to, .. } => !store.space_frozen_for(me, to.0),
+        Deed::Wakes { thread, .. }
+        | Deed::Sleeps { thread, .. }
+        | Deed::Shifts { thread, .. }
+        | Deed::Ends { thread, .. }
+        | Deed::Stops { thread, .. }
+        | Deed::Finishes { thread } => !store.frozen_for(me, thread),
+        Deed::Records { to, .. } | Deed::Copies { to, .. } => !store.space_frozen_for(me, to.0),
         Deed::Sends(block) => !store.space_frozen_for(me, block.to.0),
-        Deed::Counts { client, .. } => !store.frozen_for(me, client),
-        Deed::Shifts { thread, .. } | Deed::Ends { thread, .. } | Deed::Stops { thread, .. } => {
-            !store.frozen_for(me, thread)
+        Deed::Drops { space, .. } => !store.space_frozen_for(me, space),
+        Deed::Counts { client, .. } | Deed::Passes { client, .. } => {
+            !store.frozen_for(me, client)
         }
-        Deed::Finishes { thread } => !store.frozen_for(me, thread),
-        Deed::Passes { client, .. } => !store.frozen_for(me, client),
         Deed::Unlinks { client } => {
             !store.frozen_for(me, client) && is_talk_unfrozen(store, me, client)
         }
@@ -93,8 +95,6 @@ fn is_deed_allowed(store: &Store, me: Who, deed: &Deed) -> bool
                 && is_object_unfrozen(store, me, space)
                 && is_holder_unfrozen(store, me, holder)
         }
-        Deed::Copies { to, .. } => !store.space_frozen_for(me, to.0),
-        Deed::Drops { space, .. } => !store.space_frozen_for(me, space),
     }
 }
 

@@ -7,7 +7,7 @@ ghost use Rattle.fk_store.specs.Paths.{path, place};
 ghost use Rattle.fk_store.specs.World.{world};
 
 use fk_deaths::{fault_leads_to_frozen, peer_leads_to_frozen, talk_leads_to_frozen};
-use fk_model::{Body, Who};
+use fk_model::Who;
 use fk_store::Store;
 
 /// Nothing is frozen to which the talk of a thread as a client leads.
@@ -15,19 +15,9 @@ pub fn is_talk_unfrozen(store: &Store, me: Who, client: Who) -> bool
     ensures { result ≡ are_unfrozen (world store.now) (place (path store.now) me)
         (option_list (of_talk talk_pointers) ((world store.now).body (place (path store.now) client))) }
 {
-    match store.at(client) {
-        Some(Body::Thread(thread)) => !talk_leads_to_frozen(store, me, thread.talk),
-        Some(
-            Body::Mutex { .. }
-            | Body::Cond
-            | Body::Mapping { .. }
-            | Body::Region { .. }
-            | Body::Port { .. }
-            | Body::Portset
-            | Body::Space { .. }
-            | Body::Reference { .. },
-        )
-        | None => true,
+    match store.thread(client) {
+        Some(thread) => !talk_leads_to_frozen(store, me, thread.talk),
+        None => true,
     }
 }
 
@@ -36,19 +26,9 @@ pub fn is_fault_unfrozen(store: &Store, me: Who, thread: Who) -> bool
     ensures { result ≡ are_unfrozen (world store.now) (place (path store.now) me)
         (option_list (of_fault fault_pointers) ((world store.now).body (place (path store.now) thread))) }
 {
-    match store.at(thread) {
-        Some(Body::Thread(thread)) => !fault_leads_to_frozen(store, me, thread.fault),
-        Some(
-            Body::Mutex { .. }
-            | Body::Cond
-            | Body::Mapping { .. }
-            | Body::Region { .. }
-            | Body::Port { .. }
-            | Body::Portset
-            | Body::Space { .. }
-            | Body::Reference { .. },
-        )
-        | None => true,
+    match store.thread(thread) {
+        Some(thread) => !fault_leads_to_frozen(store, me, thread.fault),
+        None => true,
     }
 }
 
@@ -57,22 +37,12 @@ pub fn is_peer_unfrozen(store: &Store, me: Who, client: Who) -> bool
     ensures { result ≡ are_unfrozen (world store.now) (place (path store.now) me)
         (option_list (of_talk (λ (talk : Talk_by). peer_pointer talk.peer)) ((world store.now).body (place (path store.now) client))) }
 {
-    match store.at(client) {
-        Some(Body::Thread(thread)) => match thread.talk {
+    match store.thread(client) {
+        Some(thread) => match thread.talk {
             Some(talk) => !peer_leads_to_frozen(store, me, Some(talk.peer)),
             None => true,
         },
-        Some(
-            Body::Mutex { .. }
-            | Body::Cond
-            | Body::Mapping { .. }
-            | Body::Region { .. }
-            | Body::Port { .. }
-            | Body::Portset
-            | Body::Space { .. }
-            | Body::Reference { .. },
-        )
-        | None => true,
+        None => true,
     }
 }
 
@@ -81,21 +51,11 @@ pub fn is_taker_unfrozen(store: &Store, me: Who, thread: Who) -> bool
     ensures { result ≡ are_unfrozen (world store.now) (place (path store.now) me)
         (option_list (of_fault (λ (fault : Fault_by). option_list peer_pointer fault.taker)) ((world store.now).body (place (path store.now) thread))) }
 {
-    match store.at(thread) {
-        Some(Body::Thread(thread)) => match thread.fault {
+    match store.thread(thread) {
+        Some(thread) => match thread.fault {
             Some(fault) => !peer_leads_to_frozen(store, me, fault.taker),
             None => true,
         },
-        Some(
-            Body::Mutex { .. }
-            | Body::Cond
-            | Body::Mapping { .. }
-            | Body::Region { .. }
-            | Body::Port { .. }
-            | Body::Portset
-            | Body::Space { .. }
-            | Body::Reference { .. },
-        )
-        | None => true,
+        None => true,
     }
 }
