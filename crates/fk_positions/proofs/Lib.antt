@@ -4,3 +4,5 @@ pub mod Itemed
 pub mod Linked
 pub mod Placed
 pub mod Scripted
+pub mod Steps
+pub mod Visited

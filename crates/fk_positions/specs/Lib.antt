@@ -1,4 +1,5 @@
 pub mod Walks
 pub mod Passes
 pub mod Positions
+pub mod Code
 pub mod Laws
