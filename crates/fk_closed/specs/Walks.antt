@@ -11,11 +11,6 @@ use Rattle.fk_store.specs.Paths.{path}
 use Rattle.fk_store.specs.Bodies.{body_by}
 use Rattle.fk_store.specs.World.{world, place_of, IsLive}
 
--- the first one is taken away, if there is one
-abbrev pub Pops : Option Who → List Who → List Who → Type 0
-Pops None old new = (old ≡ []) × (new ≡ [])
-Pops (Some who) old new = old ≡ who ∷ new
-
 -- the root of the subtree in a slot of a nester, and all objects of the subtree seen alone, in their order
 abbrev pub AreObjects : Contents → Path → ℕ → List Who → Type 0
 AreObjects m nester slot whos = map (place_of m) whos ≡ map (λ q. q ++ slot ∷ nester) ([] ∷ objects (cut (world m) nester slot))

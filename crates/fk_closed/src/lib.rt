@@ -1,6 +1,6 @@
 //! Whether a subtree of a store is closed, or the first place where it isn't; the walk through it, and who is where.
 //!
-//! It stands on `fk_store`, and on `fk_model`, whose definitions of a subtree seen alone its contracts cite. It walks a
+//! It stands on `fk_store`, on `fk_stack` for its walk, and on `fk_model`, whose definitions of a subtree seen alone its contracts cite. It walks a
 //! subtree in preorder without recursion, and changes nothing.
 #![tactic(auto)]
 
@@ -9,7 +9,6 @@ mod closing;
 mod far;
 mod led;
 mod points;
-mod stack;
 mod walk;
 
 pub use above::{has_own_path, is_inside, path_below};

@@ -12,13 +12,13 @@ ghost use Rattle.fk_store.specs.Paths.{path};
 ghost use Rattle.fk_store.specs.World.{world, place_of, IsLive};
 ghost use Rattle.fk_closed.specs.Walks.{AreObjects};
 
-use crate::stack::Stack;
 use fk_model::{Body, List, NoMemory, Who};
+use fk_stack::Stack;
 use fk_store::Store;
 use std::alloc::Global;
 
 /// Puts an object before what a walk has yet to come to, if it is there.
-fn await_object(store: &Store, who: Who, stack: &mut Stack) -> Result<(), NoMemory>
+fn await_object(store: &Store, who: Who, stack: &mut Stack<Who>) -> Result<(), NoMemory>
     ensures { OnOk result (stack.new ≡ if is_some ((world store.now).body (place_of store.now who)) then who ∷ stack.old else stack.old) }
 {
     if store.at(who).is_some() {
@@ -28,7 +28,7 @@ fn await_object(store: &Store, who: Who, stack: &mut Stack) -> Result<(), NoMemo
 }
 
 /// Puts what stands in a space before what a walk has yet to come to, the lowest slot first.
-fn await_residents(store: &Store, space: u32, stack: &mut Stack) -> Result<(), NoMemory>
+fn await_residents(store: &Store, space: u32, stack: &mut Stack<Who>) -> Result<(), NoMemory>
     ensures { OnOk result (stack.new ≡ map (at space) (residents (world store.now) (path store.now space)) ++ stack.old) }
 {
     let mut left = 256u16;
@@ -59,7 +59,7 @@ pub fn birth_of(body: &Body) -> Option<u32>
 }
 
 /// Puts what stands in an object before what a walk has yet to come to.
-fn await_inner(store: &Store, who: Who, stack: &mut Stack) -> Result<(), NoMemory>
+fn await_inner(store: &Store, who: Who, stack: &mut Stack<Who>) -> Result<(), NoMemory>
     ensures { OnOk result (map (place_of store.now) stack.new
         ≡ map (λ k. k ∷ place_of store.now who) (residents (world store.now) (place_of store.now who)) ++ map (place_of store.now) stack.old) }
 {
