@@ -204,8 +204,8 @@ module _ (nester : Path) (slot : ℕ) where
 
   change_far : (c : Change) (v : World) → IsNearChange nester slot c → IsApart v → IsSameFar nester slot v (apply c v)
   unfolding apply
-  change_far (Alter x edit) v near apart = record { bodies = λ y far. rw (far_apart x y near far) refl; pages = λ y page far. refl }
-  change_far (Make x body) v near apart = record { bodies = λ y far. rw (far_apart x y near far) refl; pages = λ y page far. refl }
+  change_far (Alter x edit) v near apart = record { bodies = λ y far. rw (far_apart x y near.0 far) refl; pages = λ y page far. refl }
+  change_far (Make x body) v near apart = record { bodies = λ y far. rw (far_apart x y near.0 far) refl; pages = λ y page far. refl }
   change_far (MakeSpace x holder) v near apart = record { bodies = λ y far. rw (far_apart x y near far) refl; pages = λ y page far. refl }
   change_far (Kill x) v near apart = record {
     bodies = λ y far. apply-body (Kill x) v y (rw (far_apart x y near far, apart x y near far) refl);

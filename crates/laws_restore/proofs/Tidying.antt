@@ -102,12 +102,12 @@ module _ (nester : Path) (slot birth : ℕ) where
   change_tidied : (c : Change) (v : World) → IsNearChange nester slot c → Tidied v → Tidied (apply c v)
   unfolding apply
   change_tidied (Alter x edit) v near its = record {
-    named = rw (not_there nester slot x nester near nester_inside nester_scratch) its.named;
-    near = λ s k is live. on_path v its x near (option_map (edited edit)) (λ y o. o) s k is (λ y o h. h) (same_path (k ∷ s) x) refl live;
+    named = rw (not_there nester slot x nester near.0 nester_inside nester_scratch) its.named;
+    near = λ s k is live. on_path v its x near.0 (option_map (edited edit)) (λ y o. o) s k is (λ y o h. h) (same_path (k ∷ s) x) refl live;
   }
   change_tidied (Make x body) v near its = record {
-    named = rw (not_there nester slot x nester near nester_inside nester_scratch) its.named;
-    near = λ s k is live. on_path v its x near (λ o. Some body) (λ y o. o) s k is (λ y o h. h) (same_path (k ∷ s) x) refl live;
+    named = rw (not_there nester slot x nester near.0 nester_inside nester_scratch) its.named;
+    near = λ s k is live. on_path v its x near.0 (λ o. Some body) (λ y o. o) s k is (λ y o h. h) (same_path (k ∷ s) x) refl live;
   }
   change_tidied (MakeSpace x holder) v near its = record {
     named = rw (not_there nester slot x nester near nester_inside nester_scratch) its.named;

@@ -53,7 +53,7 @@ module _ (nester : Path) (slot : ℕ) where
     pinning i reply may answered = by (pointer_in w (porter nester no_words) nester i) (pins-row nester slot g w shows i (pinned nester slot g w shows may.0))
       where
         by : (r : Result Ptr ℕ) → call_row w (porter nester no_words) None (stage_of slot (Pins i)) ≡ points_as nester no_words w (pin_of root) r → IsNearCall nester slot w (call_of nester (stage_of slot (Pins i)) no_words)
-        by (Ok to) h = record { changes = _; world = (goes_by nester w (stage_of slot (Pins i)) no_words reply answered _ _ _ h).0; near = (inside_near nester slot (FIRST_SCRATCH_SLOT ∷ []), tt) }
+        by (Ok to) h = record { changes = _; world = (goes_by nester w (stage_of slot (Pins i)) no_words reply answered _ _ _ h).0; near = ((inside_near nester slot (FIRST_SCRATCH_SLOT ∷ []), tt), tt) }
         by (Err status) h = record { changes = []; world = (goes_by nester w (stage_of slot (Pins i)) no_words reply answered _ _ _ h).0; near = tt }
 
     checking : (r i : ℕ) (reply : Reply) → May slot (Checks r i) g → IsAnswered nester w (stage_of slot (Checks r i)) no_words reply → IsNearCall nester slot w (call_of nester (stage_of slot (Checks r i)) no_words)
@@ -116,8 +116,8 @@ module _ (nester : Path) (slot : ℕ) where
 
   change_unled : (c : Change) (w : World) → IsNearChange nester slot c → IsUnled nester slot w → IsUnled nester slot (apply c w)
   unfolding apply
-  change_unled (Alter x edit) w near unled q y out off = rw (not_there x y near out off) (unled q y out off)
-  change_unled (Make x body) w near unled q y out off = rw (not_there x y near out off) (unled q y out off)
+  change_unled (Alter x edit) w near unled q y out off = rw (not_there x y near.0 out off) (unled q y out off)
+  change_unled (Make x body) w near unled q y out off = rw (not_there x y near.0 out off) (unled q y out off)
   change_unled (MakeSpace x holder) w near unled q y out off = rw (not_there x y near out off) (unled q y out off)
   change_unled (Kill x) w near unled q y out off = rw (not_there x y near out off) (swept_there (q ++ root) _ (death_clean (q ++ root) x) y (w.body y) (unled q y out off))
   change_unled (PutPage space page words) w near unled q y out off = unled q y out off

@@ -136,7 +136,7 @@ module _ (nester : Path) (slot : ℕ) where
         let empty : w.body (r ∷ nester) ≡ None = subst (λ (o : Option Spot). SpotShows nester slot w g.pin r o) none (shows.spots r (ref_slot nester slot g w shows r is)) in
         record {
           changes = Make (r ∷ nester) (Reference Null) ∷ [];
-          near = (scratch_near nester slot r (ref_slot nester slot g w shows r is), tt);
+          near = ((scratch_near nester slot r (ref_slot nester slot g w shows r is), tt), tt);
           row = create-row nester no_words w OWN_SPACE r kinds.Reference nester (own-place nester no_words w) (ref_named nester slot g w shows r is) (nester_unfrozen nester slot g w shows) empty;
           shown = readies nester slot g w shows r valid is none empty;
         }
@@ -150,7 +150,7 @@ module _ (nester : Path) (slot : ℕ) where
         let same : list_any (same_kind (kind_of found.body)) referable ≡ true = subst (λ (k : Kind). list_any (same_kind k) referable ≡ true) (kind_seen (seeing see) found.body) its in
         record {
           changes = Alter (r ∷ nester) (SetPointer (At (x ∷ (q ++ root)))) ∷ [];
-          near = (scratch_near nester slot r (ref_slot nester slot g w shows r may.scratch), tt);
+          near = ((scratch_near nester slot r (ref_slot nester slot g w shows r may.scratch), tt), tt);
           row = point-row nester no_words w OWN_SPACE r s x nester (q ++ root) ref.to (At (x ∷ (q ++ root))) (own-place nester no_words w)
               (object-there nester no_words w reference_of nester r (Reference ref.to) ref.to (ref_named nester slot g w shows r may.scratch) ref.is refl)
               (place-row nester slot g w shows no_words s q may.place)
@@ -166,7 +166,7 @@ module _ (nester : Path) (slot : ℕ) where
         let space = root_there nester slot g w shows in
         record {
           changes = Alter (r ∷ nester) (SetPointer (At root)) ∷ [];
-          near = (scratch_near nester slot r (ref_slot nester slot g w shows r is), tt);
+          near = ((scratch_near nester slot r (ref_slot nester slot g w shows r is), tt), tt);
           row = point-row nester no_words w OWN_SPACE r OWN_SPACE slot nester nester ref.to (At root) (own-place nester no_words w)
               (object-there nester no_words w reference_of nester r (Reference ref.to) ref.to (ref_named nester slot g w shows r is) ref.is refl)
               (own-place nester no_words w)
@@ -222,7 +222,7 @@ module _ (nester : Path) (slot : ℕ) where
         let edits : set_edits may.object words ≡ set_edits found.body words = ap (λ (b : Body). set_edits b words) found.seen ∙ set_edits-seen see found.body words in
         record {
           changes = map (Alter (x ∷ (q ++ root))) (set_edits found.body words);
-          near = edits_near nester slot x q (set_edits found.body words);
+          near = edits_near nester slot x q found.body words;
           row = set_state-row nester words w s x (q ++ root) found.body (place-row nester slot g w shows words s q may.place)
               (object-there nester words w anything (q ++ root) x found.body found.body (user_named nester slot g w shows x may.low) found.there refl)
               (unfrozen nester slot g w shows (x ∷ q)) (decides nester slot g w shows (x ∷ q)) (native_off found.body found.plain) (takes_too q found.body words its);
@@ -332,7 +332,7 @@ module _ (nester : Path) (slot : ℕ) where
         subst (λ (p : Ptr). Shows nester slot (with_built (apply (Alter (x ∷ q) (SetPointer p)) g.built) g) (apply (Alter (x ∷ (q ++ root)) (SetPointer big_to)) w)) way.seen changed in
         record {
           changes = Alter (x ∷ (q ++ root)) (SetPointer big_to) ∷ [];
-          near = (inside_near nester slot (x ∷ q), tt);
+          near = ((inside_near nester slot (x ∷ q), tt), tt);
           row = set_ptr-row nester no_words w s x r (q ++ root) found.body big_to (place-row nester slot g w shows no_words s q may.place)
               (object-there nester no_words w anything (q ++ root) x found.body found.body (user_named nester slot g w shows x may.low) found.there refl)
               (object-there nester no_words w reference_of nester r (Reference big_to) big_to (ref_named nester slot g w shows r may.scratch) ref.0 refl)
@@ -389,7 +389,7 @@ module _ (nester : Path) (slot : ℕ) where
         let none : w.body (pin_of root) ≡ None = subst (λ (p : Pin). PinShows nester slot w p) is shows.pin in
         record {
           changes = Make (pin_of root) (Reference Null) ∷ [];
-          near = (inside_near nester slot (FIRST_SCRATCH_SLOT ∷ []), tt);
+          near = ((inside_near nester slot (FIRST_SCRATCH_SLOT ∷ []), tt), tt);
           row = create-row nester no_words w slot FIRST_SCRATCH_SLOT kinds.Reference root (root_named nester slot g w shows no_words) refl (unfrozen nester slot g w shows []) none;
           shown = made_pin none;
         }
@@ -401,7 +401,7 @@ module _ (nester : Path) (slot : ℕ) where
         let pin = subst (λ (p : Pin). PinShows nester slot w p) loose shows.pin in
         record {
           changes = Alter (r ∷ nester) (SetPointer pin.0) ∷ [];
-          near = (scratch_near nester slot r (ref_slot nester slot g w shows r is), tt);
+          near = ((scratch_near nester slot r (ref_slot nester slot g w shows r is), tt), tt);
           row = point-row nester no_words w OWN_SPACE r slot FIRST_SCRATCH_SLOT nester root ref.to pin.0 (own-place nester no_words w)
               (object-there nester no_words w reference_of nester r (Reference ref.to) ref.to (ref_named nester slot g w shows r is) ref.is refl)
               (root_named nester slot g w shows no_words)
@@ -451,7 +451,7 @@ module _ (nester : Path) (slot : ℕ) where
         alters nester slot g w shows false x q edit may.low (good, rw port.seen tt) in
         record {
           changes = Alter (x ∷ (q ++ root)) edit ∷ [];
-          near = (inside_near nester slot (x ∷ q), tt);
+          near = ((inside_near nester slot (x ∷ q), tt), tt);
           row = link_park-row nester words w s x i (q ++ root) t.thread (port.set, port.served) (place-row nester slot g w shows words s q may.place)
               (object-there nester words w thread_of (q ++ root) x (Thread_of t.thread) t.thread (user_named nester slot g w shows x may.low) t.there refl)
               (object-there nester words w port_of nester i (Port port.set port.served) (port.set, port.served) (user_named nester slot g w shows i may.port) port.there refl)
@@ -483,7 +483,7 @@ module _ (nester : Path) (slot : ℕ) where
         (apply (Alter (x ∷ (q ++ root)) edit) w)) port.seen changed in
         record {
           changes = Alter (x ∷ (q ++ root)) edit ∷ [];
-          near = (inside_near nester slot (x ∷ q), tt);
+          near = ((inside_near nester slot (x ∷ q), tt), tt);
           row = fault_park-row nester words w s x i taken (q ++ root) t.thread (port.set, port.served) (place-row nester slot g w shows words s q may.place)
               (object-there nester words w thread_of (q ++ root) x (Thread_of t.thread) t.thread (user_named nester slot g w shows x may.low) t.there refl)
               (object-there nester words w port_of nester i (Port port.set port.served) (port.set, port.served) (user_named nester slot g w shows i may.port) port.there refl)

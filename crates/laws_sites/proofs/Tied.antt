@@ -30,7 +30,7 @@ use Rattle.laws_cut.specs.LikeChanges.{seen_edit}
 use Rattle.laws_jobs.specs.Machines.{no_words, porter}
 use Rattle.laws_sites.specs.Orders.{Site, eye, bare, Shows, MayLink, MayRaise, MayHold, IsKindThere, is_ref_slot, with_built, inner_talk, inner_fault}
 use Rattle.laws_sites.specs.Orders.Order.{LinksTalk, RaisesFault, LinksFault, Holds}
-use Rattle.laws_sites.proofs.Nearby.{inside_near}
+use Rattle.laws_sites.proofs.Nearby.{inside_near, page_near}
 use Rattle.laws_sites.proofs.Standing.{kind_seen, unfrozen, ref_named, ref_led, user_named, big, place-row}
 use Rattle.laws_sites.proofs.Changes.{alters}
 use Rattle.laws_sites.proofs.Plain.{Plain, big_thread}
@@ -132,7 +132,7 @@ module _ (nester : Path) (slot : ℕ) (g : Site) (w : World) (shows : Shows nest
       let seen : seen_edit see false edit ≡ SetTalk (Some (inner_talk y z words)) = seen_talk_is (At port) (At server) y z words (shows.like.within y) (shows.like.within z) in
       record {
         changes = Alter (x ∷ (q ++ root)) edit ∷ [];
-        near = (inside_near nester slot (x ∷ q), tt);
+        near = ((inside_near nester slot (x ∷ q), page_near nester slot z), tt);
         row = link_set-row nester words w s x r u (q ++ root) port server t.thread (place-row nester slot g w shows words s q may.place)
             (object-there nester words w thread_of (q ++ root) x (Thread_of t.thread) t.thread (user_named nester slot g w shows x may.low) t.there refl)
             (port-there nester words w r port (object-there nester words w reference_of nester r (Reference (At port)) (At port) (ref_named nester slot g w shows r may.scratch) to.0 refl) (kind_of_there y kinds.Port may.port_there))
@@ -161,7 +161,7 @@ module _ (nester : Path) (slot : ℕ) (g : Site) (w : World) (shows : Shows nest
       let seen : seen_edit see false edit ≡ SetFault (Some (inner_fault y None words)) = seen_raised_is (At port) y words (shows.like.within y) in
       record {
         changes = Alter (x ∷ (q ++ root)) edit ∷ [];
-        near = (inside_near nester slot (x ∷ q), tt);
+        near = ((inside_near nester slot (x ∷ q), tt), tt);
         row = fault_raise-row nester words w s x r (q ++ root) port t.thread (place-row nester slot g w shows words s q may.place)
             (object-there nester words w thread_of (q ++ root) x (Thread_of t.thread) t.thread (user_named nester slot g w shows x may.low) t.there refl)
             (port-there nester words w r port (object-there nester words w reference_of nester r (Reference (At port)) (At port) (ref_named nester slot g w shows r may.scratch) to.0 refl) (kind_of_there y kinds.Port may.port_there))
@@ -184,7 +184,7 @@ module _ (nester : Path) (slot : ℕ) (g : Site) (w : World) (shows : Shows nest
       let seen : seen_edit see false edit ≡ SetFault (Some (inner_fault y (Some z) words)) = seen_taken_is (At port) (At taker) y z words (shows.like.within y) (shows.like.within z) in
       record {
         changes = Alter (x ∷ (q ++ root)) edit ∷ [];
-        near = (inside_near nester slot (x ∷ q), tt);
+        near = ((inside_near nester slot (x ∷ q), tt), tt);
         row = fault_set-row nester words w s x r u (q ++ root) port taker t.thread (place-row nester slot g w shows words s q may.place)
             (object-there nester words w thread_of (q ++ root) x (Thread_of t.thread) t.thread (user_named nester slot g w shows x may.low) t.there refl)
             (port-there nester words w r port (object-there nester words w reference_of nester r (Reference (At port)) (At port) (ref_named nester slot g w shows r may.scratch) to.0 refl) (kind_of_there y kinds.Port may.port_there))
@@ -206,7 +206,7 @@ module _ (nester : Path) (slot : ℕ) (g : Site) (w : World) (shows : Shows nest
       alters nester slot g w shows false x q edit may.low (inside z) in
       record {
         changes = Alter (x ∷ (q ++ root)) edit ∷ [];
-        near = (inside_near nester slot (x ∷ q), tt);
+        near = ((inside_near nester slot (x ∷ q), tt), tt);
         row = hold_set-row nester no_words w s x r (q ++ root) holder space.holder (place-row nester slot g w shows no_words s q may.place)
             (object-there nester no_words w space_of (q ++ root) x (Space space.birth space.holder) space.holder (user_named nester slot g w shows x may.low) (found.there ∙ ap Some space.is) refl)
             (thread-there nester no_words w r holder (object-there nester no_words w reference_of nester r (Reference (At holder)) (At holder) (ref_named nester slot g w shows r may.scratch) to.0 refl) (kind_of_there z kinds.Thread may.holder_there))

@@ -1,10 +1,15 @@
 -- A restorer's calls change its new subtree and its scratch, and nothing else; and nobody outside comes to lead into the subtree.
-use Rattle.std.specs.Prelude.{◌≡◌, ℕ, ◌≤◌, Bool, true, ◌||◌, List, [], ◌∷◌, None}
+use Rattle.std.specs.Prelude.{◌≡◌, ℕ, ◌≤◌, Bool, true, ◌||◌, List, [], ◌∷◌, Some, None}
 use Rattle.fk_model.specs.declared.limits.TheConstants.{LAST_USER_SLOT}
 use Rattle.fk_model.specs.declared.stage.Stage.TheVariants.{SpaceMakeHeld}
 use Rattle.fk_model.specs.Places.{Path, is_within}
-use Rattle.fk_model.specs.World.{World, Change, apply_all}
+use Rattle.fk_model.specs.Places.Ptr.{At}
+use Rattle.fk_model.specs.Objects.{Peer, Body}
+use Rattle.fk_model.specs.Objects.Peer.{Server, Parked}
+use Rattle.fk_model.specs.Objects.Body.{Thread_of}
+use Rattle.fk_model.specs.World.{World, Change, Edit, apply_all}
 use Rattle.fk_model.specs.World.Change.{Alter, Make, MakeSpace, Kill, PutPage}
+use Rattle.fk_model.specs.World.Edit.{SetTalk, SetPeer}
 use Rattle.fk_model.specs.ObjectRows.{is_scratch}
 use Rattle.fk_model.specs.Runs.{Event, after}
 use Rattle.laws_frozen.specs.Holding.{IsUsersMove}
@@ -16,9 +21,24 @@ use Rattle.laws_sites.specs.Fit.{IsUnled}
 abbrev pub is_near : Path → ℕ → Path → Bool
 is_near nester slot x = is_within (slot ∷ nester) x || is_scratch nester x
 
+-- the peer of a talk that is made lies inside, or there is none yet
+abbrev pub IsInnerPeer : Path → ℕ → Peer → Type 0
+IsInnerPeer nester slot (Server (At x)) = is_within (slot ∷ nester) x ≡ true
+IsInnerPeer nester slot Parked = Unit {0}
+IsInnerPeer nester slot other = ⊥
+
+abbrev pub IsInnerEdit : Path → ℕ → Edit → Type 0
+IsInnerEdit nester slot (SetTalk (Some talk)) = IsInnerPeer nester slot talk.peer
+IsInnerEdit nester slot (SetPeer peer) = ⊥
+IsInnerEdit nester slot other = Unit {0}
+
+abbrev pub IsTalkless : Body → Type 0
+IsTalkless (Thread_of t) = t.talk ≡ None
+IsTalkless other = Unit {0}
+
 abbrev pub IsNearChange : Path → ℕ → Change → Type 0
-IsNearChange nester slot (Alter x edit) = is_near nester slot x ≡ true
-IsNearChange nester slot (Make x body) = is_near nester slot x ≡ true
+IsNearChange nester slot (Alter x edit) = (is_near nester slot x ≡ true) × IsInnerEdit nester slot edit
+IsNearChange nester slot (Make x body) = (is_near nester slot x ≡ true) × IsTalkless body
 IsNearChange nester slot (MakeSpace x holder) = is_near nester slot x ≡ true
 IsNearChange nester slot (Kill x) = is_near nester slot x ≡ true
 IsNearChange nester slot (PutPage space page words) = is_within (slot ∷ nester) space ≡ true
