@@ -52,8 +52,8 @@ fn is_deed_allowed(store: &Store, me: Who, deed: &Deed) -> bool
                 && is_object_unfrozen(store, me, object)
                 && !store.leads_to_frozen(me, to)
         }
-        Deed::Wakes { thread, .. }
-        | Deed::Sleeps { thread, .. }
+        Deed::Wakes { thread, .. } => !store.frozen_for(me, thread),
+        Deed::Sleeps { thread, .. }
         | Deed::Shifts { thread, .. }
         | Deed::Ends { thread, .. }
         | Deed::Stops { thread, .. }
