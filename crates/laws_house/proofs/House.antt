@@ -70,13 +70,13 @@ restore_part slot pairs image = record { head = λ s. refl; next = λ s status w
 
 -- ---- how a job starts
 
-same_state : (a b : State) → Some a ≡ Some b → a ≡ b
+pub same_state : (a b : State) → Some a ≡ Some b → a ≡ b
 same_state a b e = cc
 
 starts_checkpoint : (task : Task) (ends : List (JobEnd End)) (slot : ℕ) (s : State) → task ≡ Checkpoint slot → begins_by task ends ≡ Some s → s ≡ Checking slot Holds
 starts_checkpoint task ends slot s is starts = same_state s (Checking slot Holds) (sym starts ∙ ap (λ t. begins_by t ends) is)
 
-valid_is : (o : Option Image) (image : Image) → valid_one o ≡ Some image → is_valid image ≡ true
+pub valid_is : (o : Option Image) (image : Image) → valid_one o ≡ Some image → is_valid image ≡ true
 valid_is None image e = cc
 valid_is (Some other) image e = by (is_valid other) refl e
   where
@@ -84,7 +84,7 @@ valid_is (Some other) image e = by (is_valid other) refl e
     by true is e = let same : other ≡ image = cc in ap is_valid (sym same) ∙ is
     by false is e = cc
 
-starts_restore : (task : Task) (ends : List (JobEnd End)) (slot : ℕ) (pairs : List (ℕ × ℕ)) (source : Source) (image : Image) (s : State) → task ≡ Restore slot pairs source →
+pub starts_restore : (task : Task) (ends : List (JobEnd End)) (slot : ℕ) (pairs : List (ℕ × ℕ)) (source : Source) (image : Image) (s : State) → task ≡ Restore slot pairs source →
     valid_one (sourced ends source) ≡ Some image → begins_by task ends ≡ Some s → s ≡ Restoring slot pairs image Makes
 starts_restore task ends slot pairs source image s is its starts =
     same_state s (Restoring slot pairs image Makes)
@@ -118,7 +118,7 @@ restores_whole slot birth image pairs law = record {
 
 -- ---- a run
 
-slots_of : (j : Job) (task : Task) → j.task ≡ task → NamesUsersSlots j.task → NamesUsersSlots task
+pub slots_of : (j : Job) (task : Task) → j.task ≡ task → NamesUsersSlots j.task → NamesUsersSlots task
 slots_of j task is names = subst NamesUsersSlots is names
 
 pub house_is_tidy : {V : Type 0} → HouseIsTidy V

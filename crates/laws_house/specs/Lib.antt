@@ -1,3 +1,4 @@
 pub mod Houses
 pub mod Parts
 pub mod Laws
+pub mod Moves

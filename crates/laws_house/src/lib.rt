@@ -5,6 +5,7 @@
 #![tactic(auto)]
 
 ghost use Rattle.laws_house.specs.Laws.{HouseIsTidy, RunStaysUncut, CheckpointsAreBrief, RestoresAreBrief, CheckpointsLeaveTheRest, CheckpointsEndAsItWas, CheckpointsSave, RestoresMake, SavedGoesOn};
+ghost use Rattle.laws_house.specs.Moves.{RestoresLeaveTheRest, JobsAreReady, RestoresEndSo, LastCallIsKnown, GoneLeavesAll};
 ghost use Rattle.laws_house.specs.Parts.{PartsWork, PartsAreTidy};
 
 /// A machine that is a part of another one is at work where that one is in this part, with as many calls.
@@ -64,4 +65,30 @@ pub fn restores_make<V>()
 /// bound.
 pub fn saved_subtrees_go_on<V>()
     ensures { SavedGoesOn V }
+{}
+
+/// Each move by which a restore makes its subtree, or drops its scratch, leaves all but the new space and its nester's scratch.
+pub fn restores_leave_the_rest<V>()
+    ensures { RestoresLeaveTheRest V }
+{}
+
+/// The next move of a job that is at work is ready wherever nothing outside its subtree is held.
+pub fn jobs_are_ready<V>()
+    ensures { JobsAreReady V }
+{}
+
+/// A restore of a run ends so: its subtree stands where nothing stood; its slot was taken, which it is told exactly there, and
+/// nothing is changed; or a port was missing, and nothing stands in the slot.
+pub fn restores_end_so<V>()
+    ensures { RestoresEndSo V }
+{}
+
+/// A checkpoint's last call is its release, but for one that found no space.
+pub fn a_checkpoints_last_call_is_known()
+    ensures { LastCallIsKnown }
+{}
+
+/// That one leaves all as it was.
+pub fn a_checkpoint_without_a_space_leaves_all()
+    ensures { GoneLeavesAll }
 {}

@@ -1,0 +1,91 @@
+-- A job's moves in a run, one by one: what they leave, when the next one is ready, and which is the last.
+use Rattle.std.specs.Prelude.{◌≡◌, ℕ, ◌+◌, ◌<◌, ◌≤◌, ◌⊎◌, IsSome, false, List, ◌∷◌, length, take, Some}
+use Rattle.std.specs.List.{slice_get}
+use Rattle.fk_model.specs.declared.limits.TheConstants.{OWN_SPACE, LAST_USER_SLOT}
+use Rattle.fk_model.specs.declared.moves.Move.{Move}
+use Rattle.fk_model.specs.declared.stage.Stage.{Stage}
+use Rattle.fk_model.specs.declared.stage.Stage.TheVariants.{SpaceRelease}
+use Rattle.fk_model.specs.Places.{Path}
+use Rattle.fk_model.specs.World.{World}
+use Rattle.fk_model.specs.Valid.{birth_at}
+use Rattle.fk_image.specs.declared.image.Image.{Image}
+use Rattle.fk_image.specs.Picture.{picture}
+use Rattle.laws_jobs.specs.Machines.{call_of, IsReadyAt, AtWork}
+use Rattle.laws_jobs.specs.Machines.Head.{Stops, Asks}
+use Rattle.laws_jobs.specs.Jobs.{MayBegin}
+use Rattle.laws_jobs.specs.Calls.{IsCalm}
+use Rattle.laws_checkpoint.specs.Checkpoint as checkpoints
+use Rattle.laws_restore.specs.Restore as restores
+use Rattle.laws_restore.specs.Ends.{EndsSo}
+use Rattle.laws_restore.specs.Rest.{IsSameFar, destroys}
+use Rattle.laws_rooms.specs.Restoring.{bound_by}
+use Rattle.laws_runs.specs.Cores.{Servers, Work, Core, IsRun, world_at}
+use Rattle.laws_runs.specs.Cores.JobEnd.{Worked}
+use Rattle.laws_runs.specs.Cores.Asker.{Job as Asked_by_job}
+use Rattle.laws_runs.specs.Turning.{asker_at}
+use Rattle.laws_house.specs.Houses.{Job, Source, State, End, machine, valid_one, sourced, house}
+use Rattle.laws_house.specs.Houses.Task.{Restore}
+use Rattle.laws_house.specs.Houses.State.{Checking, Restoring}
+use Rattle.laws_house.specs.Houses.End.{Restored}
+use Rattle.laws_house.specs.Laws.{IsGrounded}
+
+-- ---- what a restore's moves leave
+
+pub record LeftFar (birth slot : ℕ) (begins w v : World) : Type 0 where
+  pub nester : Path
+  pub named : birth_at begins nester ≡ Some birth
+  pub same : IsSameFar nester slot w v
+
+-- all but the new space and its nester's scratch; not said of the moves that destroy the new space again, where a port was missing
+abbrev pub RestoresLeaveTheRest : Type 0 → Type 0
+RestoresLeaveTheRest V = (jobs : List Job) (servers : Servers V) (first c : Core State End V) (past : List Move) (run : IsRun (house jobs servers) first past c) →
+    IsGrounded jobs servers first past → (k begun slot : ℕ) (pairs : List (ℕ × ℕ)) (image : Image) (s : restores.State) (stage : Stage) (words : List ℕ) → k < length past →
+    asker_at run k ≡ Asked_by_job begun (Restoring slot pairs image s) stage words → destroys s ≡ false →
+    (birth : ℕ) × LeftFar birth slot (world_at run begun) (world_at run k) (world_at run (k + 1))
+
+-- ---- the next move of a job that is at work
+
+abbrev pub slot_of_state : State → ℕ
+slot_of_state (Checking slot s) = slot
+slot_of_state (Restoring slot pairs image s) = slot
+
+-- is ready wherever nothing outside its subtree is held
+pub record NextIsReady (state : State) (v : World) : Type 0 where
+  pub nester : Path
+  pub ready : (stage : Stage) (words : List ℕ) → machine.head state ≡ Asks stage words → IsCalm (slot_of_state state ∷ nester) v → IsReadyAt v (call_of nester stage words)
+
+abbrev pub JobsAreReady : Type 0 → Type 0
+JobsAreReady V = (jobs : List Job) (servers : Servers V) (first c : Core State End V) (past : List Move) (run : IsRun (house jobs servers) first past c) →
+    IsGrounded jobs servers first past → (k : Work State) → c.work ≡ Some k → NextIsReady k.state c.world
+
+-- ---- how a restore ends
+
+pub record EndedSo (birth slot : ℕ) (pairs : List (ℕ × ℕ)) (image : Image) (w v : World) (end : restores.End) : Type 0 where
+  pub nester : Path
+  pub named : birth_at w nester ≡ Some birth
+  -- the subtree stands there where nothing stood; the slot was taken and nothing is changed; or nothing stands there, as before
+  pub so : EndsSo w v nester slot (bound_by pairs) (picture image) end
+  -- it is told that the slot was taken exactly where it was
+  pub taken : (end ≡ restores.Occupied → IsSome (w.body (slot ∷ nester))) × (IsSome (w.body (slot ∷ nester)) → end ≡ restores.Occupied)
+
+abbrev pub RestoresEndSo : Type 0 → Type 0
+RestoresEndSo V = (jobs : List Job) (servers : Servers V) (first c : Core State End V) (past : List Move) (run : IsRun (house jobs servers) first past c) →
+    IsGrounded jobs servers first past → (index : ℕ) (j : Job) (slot begun last : ℕ) (pairs : List (ℕ × ℕ)) (source : Source) (image : Image) (end : restores.End) →
+    slice_get jobs index ≡ Some j → j.task ≡ Restore slot pairs source → valid_one (sourced (take index c.ends) source) ≡ Some image →
+    slice_get c.ends index ≡ Some (Worked (Restored end) begun last) → EndedSo j.nester slot pairs image (world_at run begun) (world_at run (last + 1)) end
+
+-- ---- a checkpoint's last call: its release, but for one that found no space, whose only call is its hold
+
+abbrev pub IsLastCall : ℕ → checkpoints.End → checkpoints.State → Stage → Type 0
+IsLastCall slot checkpoints.Gone s stage = (s ≡ checkpoints.Holds) ⊎ (s ≡ checkpoints.Releases checkpoints.Gone)
+IsLastCall slot (checkpoints.Foreign place) s stage = stage ≡ SpaceRelease OWN_SPACE slot
+IsLastCall slot (checkpoints.Done image) s stage = stage ≡ SpaceRelease OWN_SPACE slot
+
+abbrev pub LastCallIsKnown : Type 0
+LastCallIsKnown = (slot : ℕ) (s : checkpoints.State) (stage : Stage) (words : List ℕ) (status : ℕ) (told : List ℕ) (end : checkpoints.End) →
+    checkpoints.head slot s ≡ Asks stage words → checkpoints.next slot s status told ≡ checkpoints.Over end → IsLastCall slot end s stage
+
+-- and that one leaves all as it was
+abbrev pub GoneLeavesAll : Type 0
+GoneLeavesAll = (slot birth : ℕ) (w v : World) (nester : Path) (t : checkpoints.State) → slot ≤ LAST_USER_SLOT → MayBegin w nester birth →
+    AtWork (checkpoints.checkpoint slot) nester w checkpoints.Holds v t → checkpoints.head slot t ≡ Stops checkpoints.Gone → v ≡ w
