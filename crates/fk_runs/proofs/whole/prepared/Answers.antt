@@ -14,7 +14,7 @@ returns g c =
       ends = c.end_of-end.ensures;
       threads = c.in_ok-threads.threads;
       are = rw (c.store.ensures, c.kernel.ensures) at c.in_ok-threads.ensures;
-      written = rw (c.len-events.ensures, c.as_slice-2.ensures, states) at c.in_ok-output.ensures;
+      written = rw (c.len-events.ensures, c.as_slice.ensures, states) at c.in_ok-output.ensures;
       status = c.status_of.ensures.status ∙ ap (λ b. status_of_end b c.end_of-end.result) c.budget.ensures;
       finished = c.status_of.ensures.finished;
     }
