@@ -27,7 +27,7 @@ fn is_out(slot: u8, to: Link) -> bool
 }
 
 /// The pointer of a mapping, a region or a reference.
-fn link_of(body: &Rec) -> Link
+pub fn link_of(body: &Rec) -> Link
     ensures { result ≡ words.link_of body.now }
 {
     match body {
