@@ -1,2 +1,3 @@
 pub mod Brief
 pub mod Wrong
+pub mod Turns

@@ -10,6 +10,7 @@ ghost use Rattle.laws_jobs.specs.Machines.{IsReadyAt};
 ghost use Rattle.laws_jobs.specs.Jobs.{MayBegin, IsTidyJob, Saves};
 ghost use Rattle.laws_jobs.specs.Holds.{hold};
 ghost use Rattle.examples_jobs.specs.Brief.{BriefIsTidy, full};
+ghost use Rattle.examples_jobs.specs.Turns.{NotYetEnded, EndedInTime, OneMove};
 ghost use Rattle.examples_jobs.specs.Wrong.{destroys_its_porter, makes_a_mutex, leaves_scratch, holds_at_once, says_nothing};
 ghost use Rattle.examples_jobs.specs.Wrong.State.{First};
 
@@ -39,4 +40,15 @@ pub fn jobs_that_are_not_tidy()
 /// A job that says it has saved what it only held doesn't save.
 pub fn a_job_that_does_not_save()
     ensures { Saves holds_at_once 0 1 says_nothing full [] First → ⊥ }
+{}
+
+/// A job that has no image ends from its time on and not before, while a move of another is ready.
+pub fn a_job_ends_in_its_time()
+    ensures early { NotYetEnded }
+    ensures late { EndedInTime }
+{}
+
+/// The first move of a history leads from its first world to the world after one move.
+pub fn a_history_of_one_move()
+    ensures { OneMove }
 {}
