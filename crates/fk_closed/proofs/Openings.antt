@@ -1,7 +1,7 @@
 -- Openings: the first object of a subtree that says that it isn't closed.
-use Rattle.std.proofs.Common.{◌≡◌, ℕ, ◌+◌, ◌<◌, ◌≤◌, Bool, false, List, [], ◌∷◌, ◌++◌, true, drop, get_or, length, map, is_some, Option, Some, None, Result, Ok, Err, IfOk, option_map, unwrap_or, refl, sym, ap, subst, ◌∙◌}
+use Rattle.std.proofs.Common.{◌≡◌, ℕ, ◌+◌, ◌<◌, ◌≤◌, Bool, false, List, [], ◌∷◌, ◌++◌, true, drop, get_or, length, map, reverse, is_some, Option, Some, None, Result, Ok, Err, IfOk, option_map, unwrap_or, refl, sym, ap, subst, ◌∙◌}
 use Rattle.std.specs.List.{AllByRecursion}
-use Rattle.std.proofs.lemmas.List.{drop_more, at_drop_more, at_drop_all}
+use Rattle.std.proofs.lemmas.List.{reverse-reverse, drop_more, at_drop_more, at_drop_all}
 use Rattle.fk_model.specs.declared.body.Body.{Body as StoredBody}
 use Rattle.fk_model.specs.Closed.{Place, far_field, when_bad, is_led_to, led_to_from_outside, open_field, first_place, open_place}
 use Rattle.fk_model.specs.Cut.{cut, cutting, ports_of, seen_by, unheld}
@@ -78,10 +78,11 @@ pub no_place : (w : World) (nester : Path) (slot : ℕ) (x q : Path) → x ≡ q
     None ≡ place_at w nester slot x
 no_place w nester slot x q is none = place_when w nester slot x q is None none
 
-pub a_place : (w : World) (nester : Path) (slot : ℕ) (x q below more : Path) (number : ℕ) → x ≡ q ++ slot ∷ nester →
-    Some number ≡ open_field w nester slot q → below ≡ q → more ≡ below ++ slot ∷ [] → Some (record { path = more; field = number }) ≡ place_at w nester slot x
-a_place w nester slot x q below more number is some here added =
-    ap (λ p. Some (record { path = p; field = number })) (added ∙ ap (λ p. p ++ slot ∷ []) here) ∙ place_when w nester slot x q is (Some number) some
+pub a_place : (w : World) (nester : Path) (slot : ℕ) (x q told : Path) (number : ℕ) → x ≡ q ++ slot ∷ nester →
+    Some number ≡ open_field w nester slot q → told ≡ reverse (q ++ slot ∷ []) →
+    Some (record { path = reverse told; field = number }) ≡ place_at w nester slot x
+a_place w nester slot x q told number is some here =
+    ap (λ p. Some (record { path = p; field = number })) (ap reverse here ∙ reverse-reverse (q ++ slot ∷ [])) ∙ place_when w nester slot x q is (Some number) some
 
 -- ---- all of them
 

@@ -1,13 +1,14 @@
 -- Where a subtree isn't closed: the first of its objects that says so.
-use Rattle.std.specs.Prelude.{ℕ, List, [], ◌∷◌, ◌++◌, Option, None, option_map, unwrap_or}
+use Rattle.std.specs.Prelude.{ℕ, List, [], ◌∷◌, ◌++◌, reverse, Option, None, option_map, unwrap_or}
 use Rattle.fk_model.specs.Closed.{Place, open_field}
 use Rattle.fk_model.specs.Objects.{or_else}
 use Rattle.fk_model.specs.Places.{Path, strip}
 use Rattle.fk_model.specs.World.{World}
 use Rattle.fk_closed.specs.declared.closing.Place as places
 
+-- a place whose path is told from the nester, by the path that the machine has
 abbrev pub placed : places.Place → Place
-placed p = record { path = p.path; field = p.field }
+placed p = record { path = reverse p.path; field = p.field }
 
 -- what the object at a path of the subtree in a slot of a nester says, with its path from the subtree's root
 abbrev pub place_below : World → Path → ℕ → Path → Option Place

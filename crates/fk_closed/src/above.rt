@@ -1,5 +1,5 @@
 //! The way up from an object.
-ghost use Rattle.std.specs.Prelude.{◌≡◌, ◌++◌, [], ◌<◌, IfSome, IfNone, IfOk};
+ghost use Rattle.std.specs.Prelude.{◌≡◌, ◌++◌, [], ◌∷◌, ◌<◌, reverse, IfSome, IfNone, IfOk};
 ghost use Rattle.fk_model.specs.Places as places;
 ghost use Rattle.fk_model.specs.Places.{Path};
 ghost use Rattle.fk_store.specs.Paths.{path, HasOwnPath};
@@ -64,17 +64,13 @@ pub fn is_inside(store: &Store, root: Who, who: Who) -> bool
     true
 }
 
-/// The path of an object of a subtree, from its slot outwards, as far as the subtree's root.
-///
-/// # Errors
-///
-/// There is no memory for it.
-pub fn path_below(alloc: Global, store: &Store, root: Who, who: Who) -> Result<List<u8>, NoMemory>
+/// The slots from that of an object of a subtree outwards, as far as the subtree's root.
+fn way_up(alloc: Global, store: &Store, root: Who, who: Who) -> Result<Vec<u8>, NoMemory>
     requires live { IsLive store.now who }
     requires own { HasOwnPath (path store.now) root }
-    ensures { (q : Path) → place_of store.now who ≡ q ++ place_of store.now root → IfOk result (λ path. path ≡ q) }
+    ensures { (q : Path) → place_of store.now who ≡ q ++ place_of store.now root → IfOk result (λ path. path.items ≡ q) }
 {
-    let mut path = List::new(alloc);
+    let mut path = Vec::new(alloc);
     let mut at = who;
     while at != root {
         path.push(at.slot)?;
@@ -84,4 +80,40 @@ pub fn path_below(alloc: Global, store: &Store, root: Who, who: Who) -> Result<L
         }
     }
     Ok(path)
+}
+
+/// The path of an object of a subtree from the subtree's root.
+///
+/// # Errors
+///
+/// There is no memory for it.
+pub fn path_below(alloc: Global, store: &Store, root: Who, who: Who) -> Result<List<u8>, NoMemory>
+    requires live { IsLive store.now who }
+    requires own { HasOwnPath (path store.now) root }
+    ensures { (q : Path) → place_of store.now who ≡ q ++ place_of store.now root → IfOk result (λ path. path ≡ reverse q) }
+{
+    let mut path = way_up(alloc, store, root, who)?;
+    path.reverse();
+    Ok(List::of(path))
+}
+
+/// The path of an object of a subtree from the nester, the subtree's slot first.
+///
+/// # Errors
+///
+/// There is no memory for it.
+pub fn path_from_nester(
+    alloc: Global,
+    store: &Store,
+    root: Who,
+    who: Who,
+) -> Result<List<u8>, NoMemory>
+    requires live { IsLive store.now who }
+    requires own { HasOwnPath (path store.now) root }
+    ensures { (q : Path) → place_of store.now who ≡ q ++ place_of store.now root → IfOk result (λ path. path ≡ reverse (q ++ root.slot ∷ [])) }
+{
+    let mut path = way_up(alloc, store, root, who)?;
+    path.push(root.slot)?;
+    path.reverse();
+    Ok(List::of(path))
 }

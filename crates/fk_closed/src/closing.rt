@@ -10,7 +10,7 @@ ghost use Rattle.fk_store.specs.World.{world, place_of, IsLive};
 ghost use Rattle.fk_closed.specs.Walks.{IsPart};
 ghost use Rattle.fk_closed.specs.Places.{placed, place_at, first_at};
 
-use crate::above::{has_own_path, path_below};
+use crate::above::{has_own_path, path_from_nester};
 use crate::far::far_field;
 use crate::led::is_led_to;
 use crate::walk::objects_of;
@@ -24,7 +24,7 @@ const LED_TO: u8 = 15;
 /// Where a subtree isn't closed.
 #[derive(Drop)]
 pub struct Place {
-    /// An object: the slots from its own outwards to that of the subtree's root.
+    /// An object, by its path from the nester: the slot of the subtree's root first, its own last.
     pub path: List<u8>,
     /// The number of its pointer field that leads where it may not; 15 where something outside leads to it.
     pub field: u8,
@@ -73,8 +73,7 @@ fn open_at(alloc: Global, store: &Store, root: Who, who: Who) -> Result<Option<P
     match open_field(store, root, who) {
         None => Ok(None),
         Some(field) => {
-            let mut path = path_below(alloc, store, root, who)?;
-            path.push(root.slot)?;
+            let path = path_from_nester(alloc, store, root, who)?;
             Ok(Some(Place { path, field }))
         }
     }

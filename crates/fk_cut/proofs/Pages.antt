@@ -1,5 +1,5 @@
 -- Pages: those of the spaces of a subtree, and lists of what is shown.
-use Rattle.std.proofs.Common.{◌≡◌, ℕ, zero, suc, ◌+◌, ◌<◌, ◌≤◌, Bool, true, false, List, [], ◌∷◌, ◌++◌, get_or, take, length, map, flat_map, is_some, Option, Some, None, Result, Ok, Err, IfOk, option_map, refl, sym, ap, ◌∙◌, arith}
+use Rattle.std.proofs.Common.{◌≡◌, ℕ, zero, suc, ◌+◌, ◌<◌, ◌≤◌, Bool, true, false, List, [], ◌∷◌, ◌++◌, get_or, take, length, map, reverse, flat_map, is_some, Option, Some, None, Result, Ok, Err, IfOk, option_map, refl, sym, ap, ◌∙◌, arith}
 use Rattle.std.proofs.lemmas.List.{append-nil, append_assoc, map-append, take_more, take_all}
 use Rattle.std.specs.FinMap.{get}
 use Rattle.fk_model.specs.declared.limits.TheConstants.{PAGES}
@@ -31,7 +31,7 @@ flat_map_append f (x ∷ xs) ys = ap (λ zs. f x ++ zs) (flat_map_append f xs ys
 
 -- ---- one page, and those below a number
 
-pub page_when : (w : World) (s q here : Path) (page : ℕ) (words : List ℕ) (old new : List CutPage) → w.page s page ≡ Some words → here ≡ q →
+pub page_when : (w : World) (s q here : Path) (page : ℕ) (words : List ℕ) (old new : List CutPage) → w.page s page ≡ Some words → here ≡ reverse q →
     new ≡ old ++ record { path = here; page = page; words = words } ∷ [] → new ≡ old ++ page_shown q page (w.page s page)
 page_when w s q here page words old new there same added = rw (there, ← same) added
 

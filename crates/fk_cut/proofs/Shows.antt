@@ -1,5 +1,5 @@
 -- Shows: what a subtree that is seen alone shows of the fields of an object.
-use Rattle.std.proofs.Common.{◌≡◌, ◌⊎◌, inl, inr, ℕ, Bool, true, false, List, [], ◌∷◌, ◌++◌, is_some, map, unwrap_or, Option, Some, None, Result, Ok, Err, IfOk, option_map, refl, sym, ap, ◌∙◌}
+use Rattle.std.proofs.Common.{◌≡◌, ◌⊎◌, inl, inr, ℕ, Bool, true, false, List, [], ◌∷◌, ◌++◌, is_some, map, reverse, unwrap_or, Option, Some, None, Result, Ok, Err, IfOk, option_map, refl, sym, ap, ◌∙◌}
 use Rattle.fk_model.specs.declared.body.Body as bodies_of
 use Rattle.fk_model.specs.declared.body.Body.TheVariants as bodies
 use Rattle.fk_model.specs.declared.names.Ptr as stored_ptr
@@ -27,7 +27,7 @@ use Rattle.fk_cut.specs.Shown.{shown, shown_each, shown_peers, alone, fields_the
 use Rattle.fk_closed.specs.Walks.{IsPart, seen, held_by, seen_body}
 use Rattle.fk_closed.proofs.Leads.{has_pointers, plain_kind}
 
-pub shown_inside : (ports : ℕ → Bool) (nester : Path) (slot : ℕ) (x here : Path) → ((q : Path) → x ≡ q ++ slot ∷ nester → here ≡ q) →
+pub shown_inside : (ports : ℕ → Bool) (nester : Path) (slot : ℕ) (x here : Path) → ((q : Path) → x ≡ q ++ slot ∷ nester → here ≡ reverse q) →
     true ≡ is_some (strip (slot ∷ nester) x) → shows.At here ≡ shown (cut_to ports nester x (strip (slot ∷ nester) x))
 shown_inside ports nester slot x here is inside = by (strip (slot ∷ nester) x) refl inside
   where
@@ -186,7 +186,7 @@ record_same m root (k ∷ q) (bodies.Thread t) = thread_record m root t
 record_same m root (k ∷ q) (bodies.Reference to) = refl
 
 pub object_when : (m : Contents) (root who : Who) (q here : Path) (b : bodies_of.Body) (words : List ℕ) (ptrs : List CutPtr) →
-    (world m).body (place_of m who) ≡ Some (body_by (path m) b) → place_of m who ≡ q ++ place_of m root → here ≡ q →
+    (world m).body (place_of m who) ≡ Some (body_by (path m) b) → place_of m who ≡ q ++ place_of m root → here ≡ reverse q →
     words ≡ record_of (body_by (path m) b) → ptrs ≡ fields_there (seen_body m root q b) →
     record { path = here; words = words; ptrs = ptrs } ≡ object_there (cut (world m) (path m root.space) root.slot) q
 unfolding cut

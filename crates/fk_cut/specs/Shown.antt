@@ -1,5 +1,6 @@
--- Shown: objects and pages of a subtree that is seen alone, as lists.
-use Rattle.std.specs.Prelude.{◌≡◌, ℕ, Bool, List, [], ◌∷◌, map, replicate, unwrap_or, Option, Some, None, option_map}
+-- Shown: objects and pages of a subtree that is seen alone, as lists. A path is told from the subtree's root, which is the machine's path
+-- the other way round.
+use Rattle.std.specs.Prelude.{◌≡◌, ℕ, Bool, List, [], ◌∷◌, map, replicate, reverse, unwrap_or, Option, Some, None, option_map}
 use Rattle.std.specs.List.{flat_map}
 use Rattle.fk_model.specs.declared.limits.TheConstants.{RECORD_WORDS, PAGES}
 use Rattle.fk_model.specs.declared.thread.Fault.{Fault as StoredFault}
@@ -33,7 +34,7 @@ use Rattle.fk_closed.specs.Walks.{seen}
 abbrev pub shown : Ptr → CutPtr
 shown Null = shows.Null
 shown Dead = shows.Dead
-shown (At q) = shows.At q
+shown (At q) = shows.At (reverse q)
 shown (Out slot) = shows.Out slot
 shown Outside = shows.Outside
 shown Far = shows.Far
@@ -110,11 +111,11 @@ record_there None = replicate RECORD_WORDS 0
 record_there (Some b) = record_of b
 
 abbrev pub object_there : World → Path → CutObject
-object_there c q = record { path = q; words = record_there (c.body q); ptrs = fields_there (c.body q) }
+object_there c q = record { path = reverse q; words = record_there (c.body q); ptrs = fields_there (c.body q) }
 
 abbrev pub page_shown : Path → ℕ → Option (List ℕ) → List CutPage
 page_shown q page None = []
-page_shown q page (Some words) = record { path = q; page = page; words = words } ∷ []
+page_shown q page (Some words) = record { path = reverse q; page = page; words = words } ∷ []
 
 -- the pages of a space, by rising number
 abbrev pub pages_there : World → Path → List CutPage

@@ -20,7 +20,7 @@ use std::alloc::Global;
 /// An object of a subtree.
 #[derive(Drop)]
 pub struct CutObject {
-    /// The slots from its own outwards, as far as the subtree's root.
+    /// The slots from the subtree's root to its own; none is the root.
     pub path: List<u8>,
     /// Its state record.
     pub words: [u64; 32],

@@ -24,7 +24,7 @@ pub enum CutPtr {
     Null,
     /// What it led to was destroyed.
     Dead,
-    /// An object of the subtree: the slots from its own outwards, as far as the subtree's root.
+    /// An object of the subtree: the slots from the subtree's root to its own.
     At(List<u8>),
     /// The port in this slot of the nester.
     Out(u8),

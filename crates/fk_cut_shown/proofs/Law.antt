@@ -186,11 +186,11 @@ module _ (w v : World) (n m : Path) (i j : ℕ) (lists : CutWorld) (first : IsSa
       by (Some a) b e f =
           let place = page-place w n i first.whole first.savable q page (rw e refl) in
           let is = page-in (cut w n i) ([] ∷ objects (cut w n i)) q page a place.0 place.1 e in
-          sym (page-of (cut v m j) ([] ∷ objects (cut v m j)) _ (rw pages-listed at is)) ∙ f
+          sym (page-of (cut v m j) ([] ∷ objects (cut v m j)) q page a (rw pages-listed at is)) ∙ f
       by None (Some b) e f =
           let place = page-place v m j second.whole second.savable q page (rw f refl) in
           let is = page-in (cut v m j) ([] ∷ objects (cut v m j)) q page b place.0 place.1 f in
-          sym e ∙ page-of (cut w n i) ([] ∷ objects (cut w n i)) _ (rw (← pages-listed) at is)
+          sym e ∙ page-of (cut w n i) ([] ∷ objects (cut w n i)) q page b (rw (← pages-listed) at is)
 
   cuts-same : cut w n i ≡ cut v m j
   unfolding cut

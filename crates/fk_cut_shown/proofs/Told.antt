@@ -1,6 +1,7 @@
 -- What a record and four fields say of a body: all of it, where it is seen in a cut.
-use Rattle.std.proofs.Common.{◌≡◌, ℕ, ◌+◌, ◌-◌, Bool, true, false, if◌then◌else◌, ◌==◌, is_none, List, [], ◌∷◌, ◌++◌, length, get_or, Option, Some, None, refl, sym, ap, subst, ◌∙◌, arith}
+use Rattle.std.proofs.Common.{◌≡◌, ℕ, ◌+◌, ◌-◌, Bool, true, false, if◌then◌else◌, ◌==◌, is_none, List, [], ◌∷◌, ◌++◌, length, reverse, get_or, Option, Some, None, refl, sym, ap, subst, ◌∙◌, arith}
 use Rattle.std.proofs.lemmas.Bool.{ne_eqb}
+use Rattle.std.proofs.lemmas.List.{reverse-reverse}
 use Rattle.fk_model.specs.declared.limits.TheConstants.{RECORD_WORDS}
 use Rattle.fk_model.specs.declared.thread.Turn.{Turn}
 use Rattle.fk_model.specs.declared.thread.Turn.TheVariants as turns
@@ -24,7 +25,7 @@ use Rattle.fk_cut.specs.Shown.{shown, shown_each, shown_peer, shown_peers, field
 unshown : CutPtr → Ptr
 unshown shows.Null = Null
 unshown shows.Dead = Dead
-unshown (shows.At q) = At q
+unshown (shows.At q) = At (reverse q)
 unshown (shows.Out slot) = Out slot
 unshown shows.Outside = Outside
 unshown shows.Far = Far
@@ -35,7 +36,7 @@ unshown-shown : (p : Ptr) → unshown (shown p) ≡ p
 unfolding unshown
 unshown-shown Null = refl
 unshown-shown Dead = refl
-unshown-shown (At q) = refl
+unshown-shown (At q) = ap At (reverse-reverse q)
 unshown-shown (Out slot) = refl
 unshown-shown Outside = refl
 unshown-shown Far = refl
@@ -49,7 +50,7 @@ unshown-server : (p : Ptr) → unshown_peer (shown p) ≡ Server p
 unfolding unshown_peer unshown
 unshown-server Null = refl
 unshown-server Dead = refl
-unshown-server (At q) = refl
+unshown-server (At q) = ap (λ q. Server (At q)) (reverse-reverse q)
 unshown-server (Out slot) = refl
 unshown-server Outside = refl
 unshown-server Far = refl
@@ -70,7 +71,7 @@ unfolding unshown_holder unshown
 unshown-holder None leads = refl
 unshown-holder (Some Null) leads = absurd (leads refl)
 unshown-holder (Some Dead) leads = refl
-unshown-holder (Some (At q)) leads = refl
+unshown-holder (Some (At q)) leads = ap (λ q. Some (At q)) (reverse-reverse q)
 unshown-holder (Some (Out slot)) leads = refl
 unshown-holder (Some Outside) leads = refl
 unshown-holder (Some Far) leads = refl

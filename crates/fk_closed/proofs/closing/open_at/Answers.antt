@@ -9,10 +9,9 @@ returns-in-None c =
     let part = part_path m c.args.root c.args.who c.requires.part in
     no_place (world m) (path m c.args.root.space) c.args.root.slot (place_of m c.args.who) part.0 part.1 (c.in-None.ensures part.0 part.1)
 
-pub returns-in_ok-push-in-Some : goal.returns-in_ok-push-in-Some
-returns-in_ok-push-in-Some c =
+pub returns-in_ok-path-in-Some : goal.returns-in_ok-path-in-Some
+returns-in_ok-path-in-Some c =
     let m = c.args.store.now in
     let part = part_path m c.args.root c.args.who c.requires.part in
-    a_place (world m) (path m c.args.root.space) c.args.root.slot (place_of m c.args.who)
-    part.0 c.in_ok-path-in-Some.path c.push.new.self c.in-Some.field part.1
-    (c.in-Some.ensures part.0 part.1) (c.in_ok-path-in-Some.ensures part.0 part.1) c.in_ok-push-in-Some.ensures.ok
+    a_place (world m) (path m c.args.root.space) c.args.root.slot (place_of m c.args.who) part.0 c.in_ok-path-in-Some.path c.in-Some.field part.1
+    (c.in-Some.ensures part.0 part.1) (c.in_ok-path-in-Some.ensures part.0 part.1)
