@@ -133,13 +133,3 @@ boot_changes s =
 -- the world with which a scenario begins
 unfoldable pub booted : Scenario → World
 booted s = apply_all (boot_changes s) first_world
-
--- ---- what can begin today
-
--- a space without a porter
-abbrev pub is_no_nester : SpaceEntry → Bool
-is_no_nester e = not e.nester
-
--- a scenario without nesters and without servers
-abbrev pub is_bootable : Scenario → Bool
-is_bootable s = list_all is_no_nester s.spaces && length s.servers == 0

@@ -1,8 +1,7 @@
 //! The command `check`: the counts of a scenario are told.
-ghost use Rattle.std.specs.Prelude.{◌≡◌, ◌+◌, Ok, IfOk, IfErr, string_bytes};
-ghost use Rattle.fk_scenario.specs.Kept.{KeepsScenario};
+ghost use Rattle.std.specs.Prelude.{◌≡◌, ◌+◌, Ok, IfOk, IfErr, map, string_bytes};
+ghost use Rattle.fk_scenario.specs.Kept.{KeepsScenario, HasRules};
 ghost use Rattle.fk_scenario.specs.Reading.{scenario_reading};
-ghost use Rattle.fk_scenario.specs.Rules as rules_here;
 ghost use Rattle.fk_commands.specs.Check as words;
 ghost use Rattle.fk_commands.specs.Check.{IsCheck};
 ghost use Rattle.fk_commands.specs.Prepared.{ComesTo, IsRefusal, IsScenarioFail};
@@ -10,20 +9,22 @@ ghost use Rattle.fk_commands.specs.Prepared.{ComesTo, IsRefusal, IsScenarioFail}
 use crate::prepared::Prepared;
 use crate::status::Status;
 use fk_model::NoMemory;
-use fk_scenario::{Scenario, ScenarioFail, SpaceEntry, read_scenario, server_rules};
+use fk_responders::Table;
+use fk_scenario::{Scenario, ScenarioFail, SpaceEntry, read_scenario};
 use std::alloc::{AllocError, Global};
 
-/// The scenario that a text is, by the rules that native servers have here.
+/// The scenario that a text is, by the rules that a table has for native servers.
 ///
 /// # Errors
 ///
 /// `BadScenario` for a text that is no scenario. `NoMemory` where there is no memory for it.
-pub fn scenario_in(alloc: Global, text: &[u8]) -> Result<Scenario, Status>
-    ensures read { IfOk result (λ scenario. scenario_reading rules_here.server_rules text.now ≡ Ok scenario) }
+pub fn scenario_in(alloc: Global, table: &Table, text: &[u8]) -> Result<Scenario, Status>
+    ensures read { IfOk result (λ scenario. scenario_reading (map (λ r. (string_bytes r.name, r.rule)) table.now.list.items) text.now ≡ Ok scenario) }
     ensures keeps { IfOk result KeepsScenario }
-    ensures fail { IfErr result (IsScenarioFail (scenario_reading rules_here.server_rules text.now)) }
+    ensures rules { IfOk result (HasRules (map (λ r. r.rule) table.now.list.items)) }
+    ensures fail { IfErr result (IsScenarioFail (scenario_reading (map (λ r. (string_bytes r.name, r.rule)) table.now.list.items) text.now)) }
 {
-    let rules = server_rules(alloc)?;
+    let rules = table.rules(alloc)?;
     match read_scenario(alloc, text, &rules) {
         Ok(scenario) => Ok(scenario),
         Err(ScenarioFail::Scenario(error)) => Err(Status::BadScenario {
@@ -81,11 +82,11 @@ fn counts_text(
 /// # Errors
 ///
 /// `BadScenario` for a text that is no scenario. `NoMemory` where there is no memory for it.
-pub fn check(alloc: Global, text: &[u8]) -> Result<Prepared, Status>
-    ensures comes { ComesTo (IsCheck (scenario_reading rules_here.server_rules text.now)) result }
+pub fn check(alloc: Global, table: &Table, text: &[u8]) -> Result<Prepared, Status>
+    ensures comes { ComesTo (IsCheck (scenario_reading (map (λ r. (string_bytes r.name, r.rule)) table.now.list.items) text.now)) result }
     ensures refusal { IfErr result (IsRefusal ⊥ ⊥) }
 {
-    let scenario = scenario_in(alloc, text)?;
+    let scenario = scenario_in(alloc, table, text)?;
     let spaces = plus(1, space_count(scenario.spaces.as_slice())?)?;
     let output = counts_text(
         alloc,

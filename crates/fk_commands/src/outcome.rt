@@ -14,6 +14,7 @@ pub struct Report {
 #[derive(Drop)]
 pub struct Outcome {
     pub status: Status,
-    /// The run, where one was made: with the statuses `Ok`, `Budget` and `WriteFault` of `play`.
+    /// The run, where one was made: of `run` and `play` with the statuses `Ok`, `Budget` and `WriteFault`, and with
+    /// `ShelfFault` where a put failed.
     pub report: Option<Report>,
 }

@@ -26,7 +26,7 @@ pub enum Status {
     /// The line of the move with this index is the first of the trace that is misspelled, whose move
     /// isn't ready, or that stands at the budget.
     BadTrace { index: u64 },
-    /// The thread ran for as many instructions as the budget has, and didn't halt. All else was done.
+    /// As many moves were made as the budget has, and one was left. All else was done.
     Budget { budget: u64 },
     /// A read of the source failed.
     ReadFault,

@@ -1,15 +1,10 @@
-//! The command `play`: a scenario is run by the moves of a trace.
+//! The commands `play` and `run`: a scenario is run, by the moves of a trace or by itself.
 //!
-//! `play` reads the scenario, makes its first world and prepares the report; `replay` makes the moves, each
-//! as its line is read.
-//!
-//! It stands on `fk_commands` for what a command prepares, on `fk_scenario` and `fk_boot` for the first
-//! world, on `fk_trace_text` and `fk_kernel` for the moves, and on `fk_report` for the report.
-//!
-//! It promises the outcome and the output that `specs/Play.antt` calls for, unless a get or the memory
-//! failed: the moves in the report are those that the trace spells, each ready in its turn from the
-//! scenario's first world; or the index of the first line that is bad.
+//! It stands on `fk_commands` for scenarios, files and what a command prepares, and on `fk_runs` for the first core of a
+//! scenario and for its run. It promises that `play` and `run` come to what `specs/Play.antt` has: the report's moves
+//! are a legal history from the scenario's first core, those of the trace or those that were chosen while one was left,
+//! and what is written is the report of their last core. It answers a fault of the shelf only where a get failed.
 #![tactic(auto)]
 
 pub mod play;
-mod replay;
+pub mod run;

@@ -1,17 +1,21 @@
 -- What is due, from what the parts of a call come to.
-use Rattle.std.proofs.Common.{◌≡◌, ℕ, List, [], Option, Some, None, Result, Ok, Err, IfErr, refl, sym, append-nil}
+use Rattle.std.proofs.Common.{◌≡◌, ℕ, Bool, true, false, List, [], Option, Some, None, IsSome, Result, Ok, Err, IfErr, refl, sym, subst, append-nil, string_bytes}
+use Rattle.std.specs.Bool.{OnFalse}
 use Rattle.std.specs.Io.KnownBytes.{Appends}
-use Rattle.fk_causes.specs.Causes.{MayHold}
-use Rattle.fk_causes.specs.Shelf.{FileMap}
+use Rattle.fk_causes.specs.Causes.{MayHold, AppendsPrefix, Rose}
+use Rattle.fk_causes.specs.Shelf.{FileMap, KeepsOthers}
 use Rattle.fk_commands.specs.declared.prepared.Prepared.{Prepared}
 use Rattle.fk_commands.specs.declared.status.Status.{Status}
 use Rattle.fk_commands.specs.declared.status.Status.TheVariants.{Ok as Done, Usage, TooLong, BadText, BadScenario, Absent, BadImage, BadTrace, Budget, ReadFault, WriteFault, ShelfFault, NoMemory}
 use Rattle.fk_run.specs.Commands.{Command, Show}
 use Rattle.fk_commands.specs.Outcomes.{without_report}
-use Rattle.fk_commands.specs.Prepared.{ComesTo, IsRefusal}
+use Rattle.fk_commands.specs.declared.outcome.Outcome.{Outcome}
+use Rattle.fk_commands.specs.declared.outcome.Report.{Report}
+use Rattle.fk_commands.specs.Prepared.{ComesTo, IsRefusal, outcome_of}
+use Rattle.fk_commands.specs.Status.{progress_of, Finished, was_cut_short}
 use Rattle.fk_commands.proofs.Comes.{comes-also}
 use Rattle.fk_commands.specs.Show.{IsShow}
-use Rattle.fk_run.specs.Top.{IsDue, IsDone, GetsToShelf}
+use Rattle.fk_run.specs.Top.{Rules, IsDue, IsDone, IsCutOff, IsUnput, HasFailed, GetsToShelf}
 
 -- what a source may hold: what it tells, or else anything
 held : (left : Option (List ℕ)) → (bytes : List ℕ) × MayHold left bytes
@@ -23,28 +27,28 @@ appended-nothing None = tt
 appended-nothing (Some bytes) = sym (append-nil bytes)
 
 -- words that are no command
-pub no-command : (command : Option Command) → command ≡ None →
-    (left : Option (List ℕ)) (files : Option FileMap) (written : Option (List ℕ)) → IsDone command left files written written (without_report Usage)
-no-command command none left files written = record {
+pub no-command : (rules : Rules) (command : Option Command) → command ≡ None →
+    (left : Option (List ℕ)) (files : Option FileMap) (written : Option (List ℕ)) → IsDone rules command left files written written (without_report Usage)
+no-command rules command none left files written = record {
   text = [];
   due = record { bytes = (held left).0; held = (held left).1; called_for = rw none (refl, refl) };
   written = appended-nothing written;
 }
 
 -- `show` looks at no source, which may hold anything
-pub show-due : (name : List ℕ) (left : Option (List ℕ)) (files : Option FileMap) (r : Result Prepared Status) →
-    ComesTo (IsShow name files) r → ComesTo (IsDue (Some (Show name)) left files) r
-show-due name left files r comes =
+pub show-due : (rules : Rules) (name : List ℕ) (left : Option (List ℕ)) (files : Option FileMap) (r : Result Prepared Status) →
+    ComesTo (IsShow name files) r → ComesTo (IsDue rules (Some (Show name)) left files) r
+show-due rules name left files r comes =
     comes-also (IsShow name files)
-    (IsDue (Some (Show name)) left files) (λ outcome text shown. record { bytes = (held left).0; held = (held left).1; called_for = shown }) r comes
+    (IsDue rules (Some (Show name)) left files) (λ outcome text shown. record { bytes = (held left).0; held = (held left).1; called_for = shown }) r comes
 
 -- and asks the shelf whatever the source holds
-pub show-refused : (AtSource AtShelf : Type 0) (name : List ℕ) (left : Option (List ℕ)) (r : Result Prepared Status) →
-    IfErr r (IsRefusal ⊥ AtShelf) → IfErr r (IsRefusal AtSource (AtShelf × GetsToShelf (Some (Show name)) left))
-show-refused AtSource AtShelf name left (Ok run) h = h
-show-refused AtSource AtShelf name left (Err status) h = by status h
+pub show-refused : (rules : Rules) (AtSource AtShelf : Type 0) (name : List ℕ) (left : Option (List ℕ)) (r : Result Prepared Status) →
+    IfErr r (IsRefusal ⊥ AtShelf) → IfErr r (IsRefusal AtSource (AtShelf × GetsToShelf rules (Some (Show name)) left))
+show-refused rules AtSource AtShelf name left (Ok run) h = h
+show-refused rules AtSource AtShelf name left (Err status) h = by status h
   where
-    by : (status : Status) → IsRefusal ⊥ AtShelf status → IsRefusal AtSource (AtShelf × GetsToShelf (Some (Show name)) left) status
+    by : (status : Status) → IsRefusal ⊥ AtShelf status → IsRefusal AtSource (AtShelf × GetsToShelf rules (Some (Show name)) left) status
     by Done h = h
     by Usage h = h
     by TooLong h = h
@@ -58,3 +62,53 @@ show-refused AtSource AtShelf name left (Err status) h = by status h
     by WriteFault h = h
     by ShelfFault h = (h, ((held left).0, (held left).1, tt))
     by NoMemory h = h
+
+-- files that aren't touched are as before
+pub keeps_same : (files : Option FileMap) (name : List ℕ) → KeepsOthers files files name
+keeps_same None name = tt
+keeps_same (Some files) name = λ other differs. refl
+
+module _ (rules : Rules) (command : Option Command) (left : Option (List ℕ)) (files : Option FileMap) (run : Prepared) (outcome : Outcome) where
+  -- what is prepared is due, and was done whole
+  pub done-whole : (old new : Option (List ℕ)) → IsDue rules command left files (outcome_of run) (string_bytes run.output)
+      → OnFalse (was_cut_short outcome.status) (outcome ≡ outcome_of run) → OnFalse (was_cut_short outcome.status) (Appends old new (string_bytes run.output))
+      → OnFalse (was_cut_short outcome.status) (IsDone rules command left files old new outcome)
+  done-whole old new due same written = by (was_cut_short outcome.status) same written
+    where
+      by : (b : Bool) → OnFalse b (outcome ≡ outcome_of run) → OnFalse b (Appends old new (string_bytes run.output))
+          → OnFalse b (IsDone rules command left files old new outcome)
+      by true same written = tt
+      by false same written = record {
+        text = string_bytes run.output;
+        due = subst (λ (o : Outcome). IsDue rules command left files o (string_bytes run.output)) (sym same) due;
+        written = written;
+      }
+
+  but-for-status : IsDue rules command left files (outcome_of run) (string_bytes run.output) → outcome.report ≡ run.report
+      → IsDue rules command left files (record outcome { status = run.status }) (string_bytes run.output)
+  but-for-status due same =
+      subst (λ (r : Option Report). IsDue rules command left files (record { status = run.status; report = r }) (string_bytes run.output)) (sym same) due
+
+  -- or up to the writing
+  pub done-front : (old new : Option (List ℕ)) → IsDue rules command left files (outcome_of run) (string_bytes run.output) → progress_of run.status ≡ Finished
+      → outcome.report ≡ run.report → AppendsPrefix old new (string_bytes run.output) → IsCutOff rules command left files old new outcome
+  done-front old new due finished same written = record {
+    status = run.status;
+    finished = finished;
+    text = string_bytes run.output;
+    due = but-for-status due same;
+    written = written;
+  }
+
+  -- or up to a put
+  pub unput : (gets_before gets_now puts_before puts_now : ℕ) → IsDue rules command left files (outcome_of run) (string_bytes run.output)
+      → progress_of run.status ≡ Finished → outcome.report ≡ run.report → IsSome outcome.report → Rose puts_before puts_now
+      → HasFailed gets_before gets_now puts_before puts_now rules command left files outcome outcome.report
+  unput gb gn pb pn due finished same some rose = by outcome.report some
+    where
+      by : (report : Option Report) → IsSome report → HasFailed gb gn pb pn rules command left files outcome report
+      by None some = absurd (cc)
+      by (Some report) some = (
+        rose,
+        record { status = run.status; finished = finished; text = string_bytes run.output; due = but-for-status due same },
+      )

@@ -1,5 +1,5 @@
 -- Commands: what the words of the command line ask for.
-use Rattle.std.specs.Prelude.{ℕ, Bool, true, false, List, [], ◌∷◌, Option, Some, None, nat_eq, if◌then◌else◌, codes}
+use Rattle.std.specs.Prelude.{ℕ, Bool, true, false, ◌&&◌, List, [], ◌∷◌, Option, Some, None, option_map, nat_eq, if◌then◌else◌, codes}
 use Rattle.std.specs.Cmp.Lexicographic.{pointwise}
 use Rattle.fk_model.specs.Names.{is_name}
 use Rattle.fk_run.specs.declared.command.Command as code
@@ -10,6 +10,8 @@ pub data Command : Type 0 where
   Exec : Command
   -- the source's scenario is read, and its counts are told
   Check : Command
+  -- the source's scenario runs by itself, and its trace is put under a name where one is given
+  Run : (trace : Option (List ℕ)) → Command
   -- the source's scenario is run by the moves of the trace with this name
   Play : (name : List ℕ) → Command
   -- the counts of the image with this name are shown
@@ -19,6 +21,7 @@ pub data Command : Type 0 where
 abbrev pub seen : code.Command → Command
 seen variants.Exec = Exec
 seen variants.Check = Check
+seen (variants.Run trace) = Run (option_map (λ name. name.now) trace)
 seen (variants.Play name) = Play name.now
 seen (variants.Show name) = Show name.now
 
@@ -32,12 +35,15 @@ command_of [] = None
 command_of (word ∷ []) =
     if pointwise nat_eq word (codes "exec") then Some Exec
     else if pointwise nat_eq word (codes "check") then Some Check
+    else if pointwise nat_eq word (codes "run") then Some (Run None)
     else None
 command_of (word ∷ name ∷ []) =
     if pointwise nat_eq word (codes "play") then named Play name
     else if pointwise nat_eq word (codes "show") then named Show name
     else None
-command_of (word ∷ name ∷ more ∷ words) = None
+command_of (word ∷ option ∷ name ∷ []) =
+    if pointwise nat_eq word (codes "run") && pointwise nat_eq option (codes "--trace") then named (λ trace. Run (Some trace)) name else None
+command_of (word ∷ option ∷ name ∷ more ∷ words) = None
 
 -- ---- what a command looks at
 
@@ -45,12 +51,15 @@ abbrev pub reads_source : Option Command → Bool
 reads_source None = false
 reads_source (Some Exec) = true
 reads_source (Some Check) = true
+reads_source (Some (Run trace)) = true
 reads_source (Some (Play name)) = true
 reads_source (Some (Show name)) = false
 
-abbrev pub reads_shelf : Option Command → Bool
-reads_shelf None = false
-reads_shelf (Some Exec) = false
-reads_shelf (Some Check) = false
-reads_shelf (Some (Play name)) = true
-reads_shelf (Some (Show name)) = true
+abbrev pub uses_shelf : Option Command → Bool
+uses_shelf None = false
+uses_shelf (Some Exec) = false
+uses_shelf (Some Check) = false
+uses_shelf (Some (Run None)) = false
+uses_shelf (Some (Run (Some name))) = true
+uses_shelf (Some (Play name)) = true
+uses_shelf (Some (Show name)) = true

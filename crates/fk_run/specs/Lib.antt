@@ -4,10 +4,12 @@ pub use Rattle.fk_commands.specs.Outcomes
 pub use Rattle.fk_commands.specs.Files
 pub use Rattle.fk_commands.specs.ExecText
 pub use Rattle.fk_commands.specs.Exec
-pub use Rattle.fk_plays.specs.Replay
+pub use Rattle.fk_runs.specs.Replay
+pub use Rattle.fk_runs.specs.Runs
 pub use Rattle.fk_plays.specs.Play
 pub use Rattle.fk_commands.specs.Check
 pub use Rattle.fk_commands.specs.Show
 pub use Rattle.fk_commands.specs.Prepared
 pub mod Commands
+pub mod Puts
 pub mod Top

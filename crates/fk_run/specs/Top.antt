@@ -1,21 +1,22 @@
 -- What the words of the command line call for, and what a call did of it.
-use Rattle.std.specs.Prelude.{◌≡◌, ◌≤◌, ⊤, ℕ, Bool, ◌&&◌, List, Option, Some, None, length, nat_lt}
+use Rattle.std.specs.Prelude.{◌≡◌, ◌≤◌, ⊤, ℕ, Bool, true, false, ◌&&◌, List, Option, Some, None, length, nat_lt}
 use Rattle.std.specs.Bool.{MatchBool}
 use Rattle.std.specs.Io.KnownBytes.{Appends}
 use Rattle.fk_asm.specs.Assembler.{assembled}
-use Rattle.fk_causes.specs.Causes.{MayHold, AppendsPrefix}
+use Rattle.fk_causes.specs.Causes.{MayHold, AppendsPrefix, Rose}
 use Rattle.fk_causes.specs.declared.whole.TheConstants.{LIMIT}
 use Rattle.fk_causes.specs.Shelf.{FileMap}
 use Rattle.fk_scenario.specs.Reading.{scenario_reading}
-use Rattle.fk_scenario.specs.Rules.{server_rules}
+use Rattle.fk_model.specs.declared.moves.Rule.{Rule}
 use Rattle.fk_commands.specs.declared.status.Status.{Status}
-use Rattle.fk_commands.specs.declared.status.Status.TheVariants.{Usage, TooLong}
+use Rattle.fk_commands.specs.declared.status.Status.TheVariants.{Ok as Done, Usage, TooLong, BadText, BadScenario, Absent, BadImage, BadTrace, Budget, ReadFault, WriteFault, ShelfFault, NoMemory}
+use Rattle.fk_commands.specs.declared.outcome.Report.{Report}
 use Rattle.fk_commands.specs.declared.outcome.Outcome.{Outcome}
 use Rattle.fk_commands.specs.Check.{IsCheck}
-use Rattle.fk_run.specs.Commands.{Command, Exec, Check, Play, Show, reads_source}
+use Rattle.fk_run.specs.Commands.{Command, Exec, Check, Run, Play, Show, reads_source}
 use Rattle.fk_commands.specs.Exec.{IsExec}
 use Rattle.fk_commands.specs.Outcomes.{IsRefused}
-use Rattle.fk_plays.specs.Play.{CanRun, IsPlay, scenario_to_run}
+use Rattle.fk_plays.specs.Play.{IsPlay, IsWholeRun, IsScenario}
 use Rattle.fk_commands.specs.Show.{IsShow}
 use Rattle.fk_commands.specs.Status.{progress_of, is_past_reading, Finished}
 
@@ -23,46 +24,114 @@ use Rattle.fk_commands.specs.Status.{progress_of, is_past_reading, Finished}
 abbrev pub IsUnlessTooLong : List ℕ → (Outcome → List ℕ → Type 0) → Outcome → List ℕ → Type 0
 IsUnlessTooLong bytes Is outcome text = MatchBool (nat_lt LIMIT (length bytes)) (IsRefused TooLong outcome text) (Is outcome text)
 
--- the outcome and the output of a command over the files of the shelf and all bytes of the source; each command has a line
-abbrev pub IsCalledFor : Option Command → Option FileMap → List ℕ → Outcome → List ℕ → Type 0
-IsCalledFor None files bytes outcome text = IsRefused Usage outcome text
-IsCalledFor (Some Exec) files bytes outcome text = IsUnlessTooLong bytes (IsExec (assembled bytes)) outcome text
-IsCalledFor (Some Check) files bytes outcome text = IsUnlessTooLong bytes (IsCheck (scenario_reading server_rules bytes)) outcome text
-IsCalledFor (Some (Play name)) files bytes outcome text = IsUnlessTooLong bytes (IsPlay name files (scenario_to_run bytes)) outcome text
-IsCalledFor (Some (Show name)) files bytes outcome text = IsShow name files outcome text
+-- the names and the rules of a table of responders
+abbrev pub Rules : Type 0
+Rules = List (List ℕ × Rule)
+
+-- the outcome and the output of a command over the rules for servers, the files of the shelf and all bytes of the source; each command has a line
+abbrev pub IsCalledFor : Rules → Option Command → Option FileMap → List ℕ → Outcome → List ℕ → Type 0
+IsCalledFor rules None files bytes outcome text = IsRefused Usage outcome text
+IsCalledFor rules (Some Exec) files bytes outcome text = IsUnlessTooLong bytes (IsExec (assembled bytes)) outcome text
+IsCalledFor rules (Some Check) files bytes outcome text = IsUnlessTooLong bytes (IsCheck (scenario_reading rules bytes)) outcome text
+IsCalledFor rules (Some (Run trace)) files bytes outcome text = IsUnlessTooLong bytes (IsWholeRun (scenario_reading rules bytes)) outcome text
+IsCalledFor rules (Some (Play name)) files bytes outcome text = IsUnlessTooLong bytes (IsPlay name files (scenario_reading rules bytes)) outcome text
+IsCalledFor rules (Some (Show name)) files bytes outcome text = IsShow name files outcome text
 
 -- the same over whatever the source holds: where it tells its bytes, these
-pub record IsDue (command : Option Command) (left : Option (List ℕ)) (files : Option FileMap) (outcome : Outcome) (text : List ℕ) : Type 0 where
+pub record IsDue (rules : Rules) (command : Option Command) (left : Option (List ℕ)) (files : Option FileMap) (outcome : Outcome) (text : List ℕ) : Type 0 where
   pub bytes : List ℕ
   pub held : MayHold left bytes
-  pub called_for : IsCalledFor command files bytes outcome text
+  pub called_for : IsCalledFor rules command files bytes outcome text
 
 -- a call did what is due, and wrote all of its output
-pub record IsDone (command : Option Command) (left : Option (List ℕ)) (files : Option FileMap) (old new : Option (List ℕ)) (outcome : Outcome) : Type 0 where
+pub record IsDone (rules : Rules) (command : Option Command) (left : Option (List ℕ)) (files : Option FileMap) (old new : Option (List ℕ)) (outcome : Outcome) : Type 0 where
   pub text : List ℕ
-  pub due : IsDue command left files outcome text
+  pub due : IsDue rules command left files outcome text
   pub written : Appends old new text
 
 -- a call did what is due up to its writing, of which only a front was done: its outcome is the due one but for the status, and
 -- that is one after which all is written
-pub record IsCutOff (command : Option Command) (left : Option (List ℕ)) (files : Option FileMap) (old new : Option (List ℕ)) (outcome : Outcome) : Type 0 where
+pub record IsCutOff (rules : Rules) (command : Option Command) (left : Option (List ℕ)) (files : Option FileMap) (old new : Option (List ℕ)) (outcome : Outcome) : Type 0 where
   pub status : Status
   pub finished : progress_of status ≡ Finished
   pub text : List ℕ
-  pub due : IsDue command left files (record outcome { status = status }) text
+  pub due : IsDue rules command left files (record outcome { status = status }) text
   pub written : AppendsPrefix old new text
 
--- which commands get to the shelf over these bytes of the source: `play` only with a scenario that can be run
-abbrev pub AsksShelf : Option Command → List ℕ → Type 0
-AsksShelf None bytes = ⊥
-AsksShelf (Some Exec) bytes = ⊥
-AsksShelf (Some Check) bytes = ⊥
-AsksShelf (Some (Play name)) bytes = (length bytes ≤ LIMIT) × CanRun bytes
-AsksShelf (Some (Show name)) bytes = ⊤
+-- a call did what is due up to a put that failed: its outcome is the due one but for the status
+pub record IsUnput (rules : Rules) (command : Option Command) (left : Option (List ℕ)) (files : Option FileMap) (outcome : Outcome) : Type 0 where
+  pub status : Status
+  pub finished : progress_of status ≡ Finished
+  pub text : List ℕ
+  pub due : IsDue rules command left files (record outcome { status = status }) text
+
+-- which commands get to the shelf over these bytes of the source: `play` only with a scenario
+abbrev pub AsksShelf : Rules → Option Command → List ℕ → Type 0
+AsksShelf rules None bytes = ⊥
+AsksShelf rules (Some Exec) bytes = ⊥
+AsksShelf rules (Some Check) bytes = ⊥
+AsksShelf rules (Some (Run trace)) bytes = ⊥
+AsksShelf rules (Some (Play name)) bytes = (length bytes ≤ LIMIT) × IsScenario (scenario_reading rules bytes)
+AsksShelf rules (Some (Show name)) bytes = ⊤
 
 -- the same over whatever the source holds
-abbrev pub GetsToShelf : Option Command → Option (List ℕ) → Type 0
-GetsToShelf command left = (bytes : List ℕ) × MayHold left bytes × AsksShelf command bytes
+abbrev pub GetsToShelf : Rules → Option Command → Option (List ℕ) → Type 0
+GetsToShelf rules command left = (bytes : List ℕ) × MayHold left bytes × AsksShelf rules command bytes
+
+-- why a call ended with a fault of the shelf: a get failed, and there is no run; or a put did, once the run was made
+abbrev pub HasFailed : (gets_before gets_now puts_before puts_now : ℕ) → Rules → Option Command → Option (List ℕ) → Option FileMap → Outcome
+    → Option Report → Type 0
+HasFailed gets_before gets_now puts_before puts_now rules command left files outcome None = Rose gets_before gets_now × GetsToShelf rules command left
+HasFailed gets_before gets_now puts_before puts_now rules command left files outcome (Some report) =
+    Rose puts_before puts_now × IsUnput rules command left files outcome
+
+-- which statuses come without a run
+abbrev pub has_no_report : Status → Bool
+has_no_report Done = false
+has_no_report Usage = true
+has_no_report TooLong = true
+has_no_report (BadText line reason) = true
+has_no_report (BadScenario rule section index) = true
+has_no_report (Absent name) = true
+has_no_report (BadImage name offset reason) = true
+has_no_report (BadTrace index) = true
+has_no_report (Budget budget) = false
+has_no_report ReadFault = true
+has_no_report WriteFault = false
+has_no_report ShelfFault = false
+has_no_report NoMemory = true
+
+-- whether all puts were made
+abbrev pub has_put_all : Status → Bool
+has_put_all Done = true
+has_put_all Usage = false
+has_put_all TooLong = false
+has_put_all (BadText line reason) = false
+has_put_all (BadScenario rule section index) = false
+has_put_all (Absent name) = false
+has_put_all (BadImage name offset reason) = false
+has_put_all (BadTrace index) = false
+has_put_all (Budget budget) = true
+has_put_all ReadFault = false
+has_put_all WriteFault = true
+has_put_all ShelfFault = false
+has_put_all NoMemory = false
+
+-- whether none was tried
+abbrev pub has_put_none : Status → Bool
+has_put_none Done = false
+has_put_none Usage = true
+has_put_none TooLong = true
+has_put_none (BadText line reason) = true
+has_put_none (BadScenario rule section index) = true
+has_put_none (Absent name) = true
+has_put_none (BadImage name offset reason) = true
+has_put_none (BadTrace index) = true
+has_put_none (Budget budget) = false
+has_put_none ReadFault = true
+has_put_none WriteFault = false
+has_put_none ShelfFault = false
+has_put_none NoMemory = false
 
 -- whether a call with this status has read its source to the end
 abbrev pub has_read_all : Option Command → Status → Bool

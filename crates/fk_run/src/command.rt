@@ -11,6 +11,8 @@ pub enum Command<'a> {
     Exec,
     /// Reads the source's scenario and tells its counts.
     Check,
+    /// Runs the source's scenario by itself, and puts its trace under a name where one is given.
+    Run(Option<&'a str>),
     /// Runs the source's scenario by the moves of the trace with this name.
     Play(&'a str),
     /// Shows the counts of the image with this name.
@@ -24,12 +26,16 @@ pub fn command_of(words: &[String]) -> Option<Command<'_>>
     match words {
         [word] if word.as_str() == "exec" => Some(Command::Exec),
         [word] if word.as_str() == "check" => Some(Command::Check),
+        [word] if word.as_str() == "run" => Some(Command::Run(None)),
         [word, name] if word.as_str() == "play" && is_name(name.as_bytes()) => {
             Some(Command::Play(name.as_str()))
         }
         [word, name] if word.as_str() == "show" && is_name(name.as_bytes()) => {
             Some(Command::Show(name.as_str()))
         }
+        [word, option, name]
+            if word.as_str() == "run" && option.as_str() == "--trace" && is_name(name.as_bytes()) =>
+            { Some(Command::Run(Some(name.as_str()))) }
         _ => None,
     }
 }

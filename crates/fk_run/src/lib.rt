@@ -2,8 +2,8 @@
 //! text and an outcome out.
 //!
 //! `top` finds the command in the words (`command`), reads the source where the command reads it
-//! (`source_text`), lets `fk_commands` or `fk_plays` prepare its outcome and its output, and alone writes
-//! and answers.
+//! (`source_text`), lets `fk_commands` or `fk_plays` prepare its outcome and its output, puts what a run leaves on the
+//! shelf (`puts`), and alone writes and answers.
 //!
 //! It stands on these two for all that a command does, and on `fk_causes` for the source, the sink and
 //! the shelf.
@@ -14,6 +14,7 @@
 #![tactic(auto)]
 
 mod command;
+mod puts;
 mod source_text;
 mod top;
 

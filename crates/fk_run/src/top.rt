@@ -1,24 +1,28 @@
 //! The top call: the words of the command line, from the source and the shelf to the sink.
-ghost use Rattle.std.specs.Prelude.{◌≡◌, ◌↔◌, Some, None, OnOk, IfErr, map, string_bytes};
+ghost use Rattle.std.specs.Prelude.{◌≡◌, ◌↔◌, Some, None, IsSome, OnOk, IfErr, map, string_bytes};
 ghost use Rattle.std.specs.Bool.{OnTrue, OnFalse};
-ghost use Rattle.std.specs.Io.KnownBytes.{IsAtEnd, Keeps};
-ghost use Rattle.fk_causes.specs.Causes.{Rose};
-ghost use Rattle.fk_run.specs.Commands.{command_of, reads_source, reads_shelf, seen};
-ghost use Rattle.fk_commands.specs.Prepared.{ComesTo, IsRefusal};
-ghost use Rattle.fk_commands.specs.Status.{was_cut_short, has_written_nothing};
-ghost use Rattle.fk_run.specs.Top.{IsDue, IsDone, IsCutOff, GetsToShelf, has_read_all};
+ghost use Rattle.std.specs.Io.KnownBytes.{Appends, IsAtEnd, Keeps};
+ghost use Rattle.fk_causes.specs.Causes.{AppendsPrefix, Rose};
+ghost use Rattle.fk_run.specs.Commands.{command_of, reads_source, uses_shelf, seen};
+ghost use Rattle.fk_commands.specs.Prepared.{ComesTo, IsRefusal, outcome_of};
+ghost use Rattle.fk_commands.specs.Status.{progress_of, Finished, was_cut_short, has_written_nothing};
+ghost use Rattle.fk_run.specs.Puts.{HasPut, KeepsFiles};
+ghost use Rattle.fk_run.specs.Top.{IsDue, IsDone, IsCutOff, HasFailed, GetsToShelf, has_no_report, has_put_all, has_put_none, has_read_all};
 
 use crate::command::{Command, command_of};
+use crate::puts::put_files;
 use crate::source_text::source_text;
-use fk_causes::{Failed, Shelf, Sink, Source, write_all};
+use fk_causes::{Failed, Shelf, ShelfFail, Sink, Source, write_all};
 use fk_commands::check::check;
 use fk_commands::exec::exec;
 use fk_commands::show::show;
 use fk_commands::{Outcome, Prepared, Status};
 use fk_plays::play::play;
+use fk_plays::run::run;
+use fk_responders::Table;
 use std::alloc::Global;
 
-/// Does all of a command but the writing.
+/// Does all of a command but the puts and the writing.
 ///
 /// # Errors
 ///
@@ -26,51 +30,109 @@ use std::alloc::Global;
 fn prepare<R: Source, H: Shelf>(
     alloc: Global,
     command: Command<'_>,
+    table: &Table,
     source: &mut R,
     shelf: &mut H,
 ) -> Result<Prepared, Status>
-    ensures comes { ComesTo (IsDue (Some (seen command.entry)) (R.left source.old) (H.files shelf.old)) result }
+    ensures comes { ComesTo (IsDue (map (λ r. (string_bytes r.name, r.rule)) table.now.list.items) (Some (seen command.entry)) (R.left source.old) (H.files shelf.old)) result }
     ensures refusal { IfErr result (IsRefusal (Rose (R.faults source.old) (R.faults source.new))
-        (Rose (H.failed_gets shelf.old) (H.failed_gets shelf.new) × GetsToShelf (Some (seen command.entry)) (R.left source.old))) }
+        (Rose (H.failed_gets shelf.old) (H.failed_gets shelf.new)
+        × GetsToShelf (map (λ r. (string_bytes r.name, r.rule)) table.now.list.items) (Some (seen command.entry)) (R.left source.old))) }
     ensures all_read { OnOk result (OnTrue (reads_source (Some (seen command.entry))) (IsAtEnd (R.left source.new))) }
     ensures all_read_before { IfErr result (λ status. OnTrue (has_read_all (Some (seen command.entry)) status) (IsAtEnd (R.left source.new))) }
     ensures source { OnFalse (reads_source (Some (seen command.entry))) (source.new ≡ source.old) }
-    ensures shelf { OnFalse (reads_shelf (Some (seen command.entry))) (shelf.new ≡ shelf.old) }
+    ensures shelf { OnFalse (uses_shelf (Some (seen command.entry))) (shelf.new ≡ shelf.old) }
     ensures same_files { H.files shelf.new ≡ H.files shelf.old }
     ensures same_puts { H.failed_puts shelf.new ≡ H.failed_puts shelf.old }
 {
     match command {
         Command::Exec => exec(alloc, &source_text(alloc, source)?),
-        Command::Check => check(alloc, &source_text(alloc, source)?),
-        Command::Play(name) => play(alloc, name, &source_text(alloc, source)?, shelf),
+        Command::Check => check(alloc, table, &source_text(alloc, source)?),
+        Command::Run(_) => run(alloc, table, &source_text(alloc, source)?),
+        Command::Play(name) => play(alloc, table, name, &source_text(alloc, source)?, shelf),
         Command::Show(name) => show(alloc, name, shelf),
     }
 }
 
+/// Puts what a command puts of its run, and then writes its output.
+fn finish<W: Sink, H: Shelf>(
+    alloc: Global,
+    command: Command<'_>,
+    prepared: Prepared,
+    sink: &mut W,
+    shelf: &mut H,
+) -> Outcome
+    requires finished { progress_of prepared.status ≡ Finished }
+    ensures done { OnFalse (was_cut_short result.status) (result ≡ outcome_of prepared) }
+    ensures written { OnFalse (was_cut_short result.status) (Appends (W.written sink.old) (W.written sink.new) (string_bytes prepared.output)) }
+    ensures status { OnTrue (has_put_none result.status) ⊥ }
+    ensures shelf_fault { result.status ≡ Status.ShelfFault → (result.report ≡ prepared.report) × IsSome result.report
+        × Rose (H.failed_puts shelf.old) (H.failed_puts shelf.new) }
+    ensures write_fault { result.status ≡ Status.WriteFault → (result.report ≡ prepared.report) × Rose (W.faults sink.old) (W.faults sink.new)
+        × AppendsPrefix (W.written sink.old) (W.written sink.new) (string_bytes prepared.output) }
+    ensures nothing { OnTrue (has_written_nothing result.status) (Keeps (W.written sink.old) (W.written sink.new)) }
+    ensures no_report { OnTrue (has_no_report result.status) (result.report ≡ None) }
+    ensures put { OnTrue (has_put_all result.status) (HasPut (Some (seen command.entry)) result.report (H.files shelf.new)) }
+    ensures files { KeepsFiles (Some (seen command.entry)) (H.files shelf.old) (H.files shelf.new) }
+    ensures shelf { OnFalse (uses_shelf (Some (seen command.entry))) (shelf.new ≡ shelf.old) }
+{
+    let Prepared {
+        status,
+        report,
+        output,
+    } = prepared;
+    match put_files(alloc, command, &report, shelf) {
+        Ok(()) => {}
+        Err(ShelfFail::Failed) => {
+            return Outcome {
+                status: Status::ShelfFault,
+                report,
+            };
+        }
+        Err(ShelfFail::NoMemory) => {
+            return Outcome {
+                status: Status::NoMemory,
+                report: None,
+            };
+        }
+    }
+    match write_all(sink, output.as_bytes()) {
+        Ok(()) => Outcome { status, report },
+        Err(Failed) => Outcome {
+            status: Status::WriteFault,
+            report,
+        },
+    }
+}
+
 /// Does the command that the words are, over the bytes of the source and the files of the shelf, and
-/// writes to the sink.
+/// writes to the sink. Native servers reply by the responders of the table.
 ///
 /// `exec` assembles the source's text and runs it as one thread, with its words from address 0 on
 /// and zeros after them, for at most 100,000 instructions, and writes how that ended. `check` reads the source's scenario, and
-/// writes its counts. `play NAME`
+/// writes its counts. `run` reads the source's scenario, runs it by itself until no move is ready or its budget is used, and
+/// writes the report of that run; `run --trace NAME` puts its trace on the shelf besides, as `NAME.trc`, before it writes.
+/// `play NAME`
 /// reads the source's scenario, makes the moves of the trace that lies on the shelf as `NAME.trc`,
 /// and writes the report of that run. `show NAME` reads no source, and writes the counts of the image
 /// that lies on the shelf as `NAME.img`. NAME is 1 to 32 characters of `a` to `z`, `0` to `9` and `_`.
 ///
 /// The status of the outcome says how the call ended. `Usage` comes exactly for words that are no
-/// command, and leaves the source, the sink and the shelf as they were. Unless a read, a write, a get
+/// command, and leaves the source, the sink and the shelf as they were. Unless a read, a write, a get, a put
 /// or the memory failed, the outcome and the output are those that the bytes of the source and the
 /// files of the shelf call for: where these are told, those that are told, and some that they may have
 /// held where not. `ReadFault`, `WriteFault` and `ShelfFault` come only where that object's count of
-/// faults rose in this call: `ShelfFault` of `play` only once the scenario is accepted, `WriteFault` only
+/// faults rose in this call: `ShelfFault` of `play` only once the scenario is accepted, that of `run` only once the run is
+/// made and its put failed, `WriteFault` only
 /// once all is done but the writing. `NoMemory` comes where there is no memory for the text, for what is
 /// made of it, or for the output.
 ///
 /// The whole output is written after `Ok` and `Budget`, a prefix of it after `WriteFault`, and
-/// nothing otherwise. No file of the shelf changes.
+/// nothing otherwise. No file of the shelf changes but the trace of a run that asks for it.
 pub fn fluke_top<R: Source, W: Sink, H: Shelf>(
     alloc: Global,
     words: &[String],
+    table: &Table,
     source: &mut R,
     sink: &mut W,
     shelf: &mut H,
@@ -79,24 +141,29 @@ pub fn fluke_top<R: Source, W: Sink, H: Shelf>(
     ensures untouched { result.status ≡ Status.Usage
         → (source.new ≡ source.old) × (sink.new ≡ sink.old) × (shelf.new ≡ shelf.old) }
 
-    ensures done { OnFalse (was_cut_short result.status) (IsDone (command_of (map string_bytes words.now))
+    ensures done { OnFalse (was_cut_short result.status) (IsDone (map (λ r. (string_bytes r.name, r.rule)) table.now.list.items)
+        (command_of (map string_bytes words.now))
         (R.left source.old) (H.files shelf.old) (W.written sink.old) (W.written sink.new) result) }
     ensures read_fault { result.status ≡ Status.ReadFault → Rose (R.faults source.old) (R.faults source.new) }
-    ensures shelf_fault { result.status ≡ Status.ShelfFault → Rose (H.failed_gets shelf.old) (H.failed_gets shelf.new)
-        × GetsToShelf (command_of (map string_bytes words.now)) (R.left source.old) }
+    ensures shelf_fault { result.status ≡ Status.ShelfFault → HasFailed (H.failed_gets shelf.old) (H.failed_gets shelf.new)
+        (H.failed_puts shelf.old) (H.failed_puts shelf.new) (map (λ r. (string_bytes r.name, r.rule)) table.now.list.items)
+        (command_of (map string_bytes words.now)) (R.left source.old) (H.files shelf.old) result result.report }
     ensures write_fault { result.status ≡ Status.WriteFault → Rose (W.faults sink.old) (W.faults sink.new) }
-    ensures cut_off { result.status ≡ Status.WriteFault → IsCutOff (command_of (map string_bytes words.now))
+    ensures cut_off { result.status ≡ Status.WriteFault → IsCutOff (map (λ r. (string_bytes r.name, r.rule)) table.now.list.items)
+        (command_of (map string_bytes words.now))
         (R.left source.old) (H.files shelf.old) (W.written sink.old) (W.written sink.new) result }
 
     ensures all_read { OnTrue (has_read_all (command_of (map string_bytes words.now)) result.status)
         (IsAtEnd (R.left source.new)) }
     ensures nothing { OnTrue (has_written_nothing result.status) (Keeps (W.written sink.old) (W.written sink.new)) }
-    ensures no_report { OnTrue (has_written_nothing result.status) (result.report ≡ None) }
+    ensures no_report { OnTrue (has_no_report result.status) (result.report ≡ None) }
 
     ensures source { OnFalse (reads_source (command_of (map string_bytes words.now))) (source.new ≡ source.old) }
-    ensures shelf { OnFalse (reads_shelf (command_of (map string_bytes words.now))) (shelf.new ≡ shelf.old) }
-    ensures same_files { H.files shelf.new ≡ H.files shelf.old }
-    ensures same_puts { H.failed_puts shelf.new ≡ H.failed_puts shelf.old }
+    ensures shelf { OnFalse (uses_shelf (command_of (map string_bytes words.now))) (shelf.new ≡ shelf.old) }
+    ensures put { OnTrue (has_put_all result.status) (HasPut (command_of (map string_bytes words.now)) result.report (H.files shelf.new)) }
+    ensures files { KeepsFiles (command_of (map string_bytes words.now)) (H.files shelf.old) (H.files shelf.new) }
+    ensures no_put { OnTrue (has_put_none result.status)
+        ((H.files shelf.new ≡ H.files shelf.old) × (H.failed_puts shelf.new ≡ H.failed_puts shelf.old)) }
 {
     let Some(command) = command_of(words) else {
         return Outcome {
@@ -104,24 +171,11 @@ pub fn fluke_top<R: Source, W: Sink, H: Shelf>(
             report: None,
         };
     };
-    let Prepared {
-        status,
-        report,
-        output,
-    } = match prepare(alloc, command, source, shelf) {
-        Ok(prepared) => prepared,
-        Err(status) => {
-            return Outcome {
-                status,
-                report: None,
-            };
-        }
-    };
-    match write_all(sink, output.as_bytes()) {
-        Ok(()) => Outcome { status, report },
-        Err(Failed) => Outcome {
-            status: Status::WriteFault,
-            report,
+    match prepare(alloc, command, table, source, shelf) {
+        Ok(prepared) => finish(alloc, command, prepared, sink, shelf),
+        Err(status) => Outcome {
+            status,
+            report: None,
         },
     }
 }

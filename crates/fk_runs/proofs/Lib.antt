@@ -1,2 +1,3 @@
 pub mod Replays
 pub mod Made
+pub mod Firsts

@@ -1,5 +1,9 @@
 -- What every scenario that is read keeps, and a machine that begins with it rests on.
-use Rattle.std.specs.Prelude.{◌≡◌, ◌≤◌, [], length, All, Ok}
+use Rattle.std.specs.Prelude.{◌≡◌, ℕ, ◌≤◌, List, [], length, map, All, Some, Ok}
+use Rattle.std.specs.List.{slice_get}
+use Rattle.fk_model.specs.declared.moves.Rule.{Rule}
+use Rattle.fk_scenario_entries.specs.declared.types.ServiceSpec.{ServiceSpec}
+use Rattle.fk_scenario_entries.specs.declared.types.ServiceSpec.TheVariants.{Console, Listed}
 use Rattle.fk_scenario_sections.specs.Spaces.{count_beneath}
 use Rattle.fk_scenario_sections.specs.Kept.{EachAfter, KeepsSpace, KeepsObject}
 use Rattle.fk_scenario.specs.declared.scenario.Scenario.{Scenario}
@@ -16,3 +20,17 @@ pub record KeepsScenario (s : Scenario) : Type 0 where
   pub objects : EachAfter (KeepsObject s.spaces) [] s.objects
   pub aims : aims_from s.spaces s.objects 0 s.objects ≡ Ok tt
   pub servers : serving_from s.objects [] [] s.servers ≡ Ok tt
+
+-- ---- what servers have of the table by which they are read
+
+-- its rules, in order
+abbrev pub rules_of : List (List ℕ × Rule) → List Rule
+rules_of table = map (λ r. r.1) table
+
+-- the rule of a server stands at the place that it keeps; a console needs none
+abbrev pub HasRule : List Rule → ServiceSpec → Type 0
+HasRule rules (Console alias) = Unit {0}
+HasRule rules (Listed index rule config) = slice_get rules index ≡ Some rule
+
+abbrev pub HasRules : List Rule → Scenario → Type 0
+HasRules rules s = All (λ e. HasRule rules e.service) s.servers

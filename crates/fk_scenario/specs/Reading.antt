@@ -116,9 +116,9 @@ scenario_of rules ms = do
   round ← first_round rules top.sections
   second_round top.budget top.workers round
 
--- jobs can't be run yet: where nothing else is wrong, a document that has the key is refused by rule 11
-abbrev pub without_jobs : Members → Scenario → Result Scenario ScenarioError
-without_jobs ms scenario = if is_some (get_member (codes "job") ms) then Err (record { rule = 11; section = 6; index = 0 }) else Ok scenario
+-- jobs can't be run yet: a document that has the key is refused by rule 11
+abbrev pub without_jobs : Members → Result (Unit {0}) ScenarioError
+without_jobs ms = if is_some (get_member (codes "job") ms) then Err (record { rule = 11; section = 6; index = 0 }) else Ok tt
 
 -- the document that bytes are, if they are one
 unfoldable pub tree_of : List ℕ → Option Members
@@ -127,7 +127,7 @@ tree_of bytes = if is_utf8 bytes then parse_document bytes else None
 -- bytes that are no document are refused by rule 1, without a section
 abbrev pub scenario_in : List (List ℕ × Rule) → Option Members → Result Scenario ScenarioError
 scenario_in rules None = Err (record { rule = 1; section = 0; index = 0 })
-scenario_in rules (Some ms) = scenario_of rules ms >>= without_jobs ms
+scenario_in rules (Some ms) = without_jobs ms >>= λ _. scenario_of rules ms
 
 -- the scenario that bytes are, with the rules that servers may have, or the first refusal
 unfoldable pub scenario_reading : List (List ℕ × Rule) → List ℕ → Result Scenario ScenarioError

@@ -4,7 +4,7 @@ ghost use Rattle.toml.specs.Data.{get_member};
 ghost use Rattle.toml.specs.View.{table_view};
 ghost use Rattle.fk_scenario_fields.specs.Gives.{Gives, Answers};
 ghost use Rattle.fk_scenario_entries.specs.Servers.{rules_view};
-ghost use Rattle.fk_scenario.specs.Kept.{KeepsScenario};
+ghost use Rattle.fk_scenario.specs.Kept.{KeepsScenario, HasRules, rules_of};
 ghost use Rattle.fk_scenario.specs.Reading as definitions;
 
 use crate::aims::check_aims;
@@ -220,8 +220,7 @@ fn tree_of(alloc: Global, bytes: &[u8]) -> Result<Option<Table>, ScenarioFail>
 /// # Errors
 ///
 /// `Scenario` exactly where the bytes are refused, with the first refusal: its rule, its section, and the
-/// index of the entry in its section. While jobs can't be run, a document with jobs that is right
-/// otherwise is refused by rule 11. `NoMemory` where there is no memory for the document or the scenario.
+/// index of the entry in its section. While jobs can't be run, a document with jobs is refused by rule 11. `NoMemory` where there is no memory for the document or the scenario.
 #[tactic(auto, unfolding(crate::specs::Reading::scenario_reading))]
 pub fn read_scenario(
     alloc: Global,
@@ -230,13 +229,14 @@ pub fn read_scenario(
 ) -> Result<Scenario, ScenarioFail>
     ensures exact { Answers result (definitions.scenario_reading (rules_view rules.now) bytes.now) }
     ensures keeps { IfOk result KeepsScenario }
+    ensures rules { IfOk result (HasRules (rules_of (rules_view rules.now))) }
 {
     let Some(table) = tree_of(alloc, bytes)? else {
         return Err(NO_DOCUMENT);
     };
-    let scenario = scenario_of(alloc, rules, &table)?;
     if has_key(&table, "job") {
         return Err(JOBS);
     }
+    let scenario = scenario_of(alloc, rules, &table)?;
     Ok(scenario)
 }

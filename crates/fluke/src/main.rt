@@ -6,8 +6,15 @@
 //! status.
 #![tactic(auto)]
 
+ghost use Rattle.std.specs.Prelude.{◌≡◌, ◌≤◌, length};
+ghost use Rattle.fk_model.specs.Answers.{answer, reply_words};
+ghost use Rattle.fk_model.specs.declared.moves.Rule.TheVariants as rules;
+
 use fk_causes::{FolderShelf, StdSink, StdSource};
+use fk_model::{Reply, Rule};
+use fk_responders::{Responder, Table, echo, feed, sum};
 use fk_run::{Outcome, Status, fault_line, fluke_top};
+use std::alloc::AllocError;
 use std::env::Env;
 use std::io::ErrorKind;
 use std::process::ExitCode;
@@ -34,22 +41,68 @@ fn status_of(error: &io::Error) -> Status {
     }
 }
 
+/// Does what the words of the command line ask for. Native servers reply by the responders of the table.
+fn status_by(rt: &HostRuntime, table: &Table) -> Status {
+    let words = match words_of(rt) {
+        Ok(words) => words,
+        Err(status) => return status,
+    };
+    let mut source = StdSource::new(rt.stdin());
+    let mut sink = StdSink::new(rt.stdout());
+    let mut shelf = FolderShelf::new(rt);
+    let Outcome { status, .. } = fluke_top(
+        rt.alloc(),
+        &words,
+        table,
+        &mut source,
+        &mut sink,
+        &mut shelf,
+    );
+    status
+}
+
+/// The same, with a table of the three responders.
+fn status_of_call(rt: &HostRuntime) -> Result<Status, AllocError> {
+    let alloc = rt.alloc();
+    let mut list = Vec::new(alloc);
+    list.push(Responder::new(
+        String::from_str(alloc, "echo")?,
+        Rule::Echo,
+        Box::new(
+            alloc,
+            |_config: &[u64], _position: u64, request: &[u64]| -> Reply
+                requires { length request.now ≤ 64 }
+                ensures { reply_words result ≡ answer rules.Echo _config.now _position request.now }
+            { echo(request) },
+        )?,
+    ))?;
+    list.push(Responder::new(
+        String::from_str(alloc, "feed")?,
+        Rule::Feed,
+        Box::new(
+            alloc,
+            |config: &[u64], position: u64, _request: &[u64]| -> Reply
+                ensures { reply_words result ≡ answer rules.Feed config.now position _request.now }
+            { feed(config, position) },
+        )?,
+    ))?;
+    list.push(Responder::new(
+        String::from_str(alloc, "sum")?,
+        Rule::Sum,
+        Box::new(
+            alloc,
+            |_config: &[u64], _position: u64, request: &[u64]| -> Reply
+                ensures { reply_words result ≡ answer rules.Sum _config.now _position request.now }
+            { sum(request) },
+        )?,
+    ))?;
+    Ok(status_by(rt, &Table { list }))
+}
+
 fn main(rt: HostRuntime) -> ExitCode {
-    let status = match words_of(&rt) {
-        Ok(words) => {
-            let mut source = StdSource::new(rt.stdin());
-            let mut sink = StdSink::new(rt.stdout());
-            let mut shelf = FolderShelf::new(&rt);
-            let Outcome { status, .. } = fluke_top(
-                rt.alloc(),
-                &words,
-                &mut source,
-                &mut sink,
-                &mut shelf,
-            );
-            status
-        }
-        Err(status) => status,
+    let status = match status_of_call(&rt) {
+        Ok(status) => status,
+        Err(_) => Status::NoMemory,
     };
     // There is nobody left to tell of a failure to write here; the exit status says what happened.
     match fault_line(rt.alloc(), &status) {

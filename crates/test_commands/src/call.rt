@@ -1,5 +1,6 @@
 //! A case, called.
 use fk_causes::{MemShelf, MemSink, MemSource, NoMemory, Shelf};
+use fk_responders::Table;
 use fk_run::{End, Report, fault_line, fluke_top};
 use fk_trace_text::trace_text;
 use std::alloc::Global;
@@ -34,11 +35,18 @@ fn report_of(alloc: Global, report: &Report) -> Result<Vec<u8>, NoMemory> {
 }
 
 /// What comes of the call of a case in which these calls of its source, its sink and its shelf fail.
-pub fn call(alloc: Global, case: &Case, fails: &Fails) -> Result<Ending, NoMemory> {
+pub fn call(alloc: Global, table: &Table, case: &Case, fails: &Fails) -> Result<Ending, NoMemory> {
     let mut source = MemSource::new(case.source.clone()?, fails.source.clone()?);
     let mut sink = MemSink::new(alloc, case.room, fails.sink.clone()?)?;
     let mut shelf = shelf_of(alloc, case, &fails.shelf)?;
-    let outcome = fluke_top(alloc, &case.words, &mut source, &mut sink, &mut shelf);
+    let outcome = fluke_top(
+        alloc,
+        &case.words,
+        table,
+        &mut source,
+        &mut sink,
+        &mut shelf,
+    );
     let report = match &outcome.report {
         Some(report) => Some(report_of(alloc, report)?),
         None => None,

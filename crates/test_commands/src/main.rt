@@ -7,12 +7,18 @@
 //! new case is a new file, or some more lines of one.
 //!
 //! The program says of each case what differs, and ends with a line of counts; it fails where a case
-//! differs. It promises no more than that it always ends.
+//! differs, and where it finds none. It promises no more than that it always ends.
 #![tactic(auto)]
+
+ghost use Rattle.std.specs.Prelude.{◌≡◌, ◌≤◌, length};
+ghost use Rattle.fk_model.specs.Answers.{answer, reply_words};
+ghost use Rattle.fk_model.specs.declared.moves.Rule.TheVariants as rules;
 
 mod call;
 
 use anyhow::{Context, ensure};
+use fk_model::{Reply, Rule};
+use fk_responders::{Responder, Table, echo, feed, sum};
 use std::fs;
 use std::rt::Files;
 use test_case_files::{Case, Fails, cases_of, sections_of};
@@ -27,11 +33,12 @@ struct Tally {
 /// Makes the call of a case in which these calls of its source, its sink and its shelf fail.
 fn try_call<R: Print + AllocGlobal>(
     rt: &R,
+    table: &Table,
     tally: &mut Tally,
     case: &Case,
     fails: &Fails,
 ) -> anyhow::Result<()> {
-    let found = call::call(rt.alloc(), case, fails)
+    let found = call::call(rt.alloc(), table, case, fails)
         .ok()
         .context("no memory")?;
     tally.calls = tally.calls.saturating_add(1);
@@ -44,13 +51,18 @@ fn try_call<R: Print + AllocGlobal>(
 }
 
 /// Makes the call of a case, or those in which one call fails in its turn.
-fn try_case<R: Print + AllocGlobal>(rt: &R, tally: &mut Tally, case: &Case) -> anyhow::Result<()> {
+fn try_case<R: Print + AllocGlobal>(
+    rt: &R,
+    table: &Table,
+    tally: &mut Tally,
+    case: &Case,
+) -> anyhow::Result<()> {
     let Some(turns) = case.fails.turns else {
-        return try_call(rt, tally, case, &case.fails);
+        return try_call(rt, table, tally, case, &case.fails);
     };
     for call in turns.first..turns.end {
         let fails = case.fails.with(turns, call)?;
-        try_call(rt, tally, case, &fails)?;
+        try_call(rt, table, tally, case, &fails)?;
     }
     Ok(())
 }
@@ -58,6 +70,7 @@ fn try_case<R: Print + AllocGlobal>(rt: &R, tally: &mut Tally, case: &Case) -> a
 /// Makes the calls of all cases of a file.
 fn try_file<R: Files + Print + AllocGlobal>(
     rt: &R,
+    table: &Table,
     tally: &mut Tally,
     path: &str,
 ) -> anyhow::Result<()> {
@@ -65,7 +78,7 @@ fn try_file<R: Files + Print + AllocGlobal>(
     let sections = sections_of(rt, text.as_str())?;
     let cases = cases_of(rt.alloc(), &sections)?;
     for case in &cases {
-        try_case(rt, tally, case)?;
+        try_case(rt, table, tally, case)?;
     }
     Ok(())
 }
@@ -84,16 +97,55 @@ fn files_of_cases<R: Files + AllocGlobal + Clone + Drop>(rt: &R) -> anyhow::Resu
     Ok(names)
 }
 
-fn main(rt: HostRuntime) -> anyhow::Result<()> {
+/// Makes the calls of all files.
+fn try_files(rt: &HostRuntime, table: &Table) -> anyhow::Result<()> {
     let mut tally = Tally {
         calls: 0,
         differ: 0,
     };
-    for path in &files_of_cases(&rt)? {
-        try_file(&rt, &mut tally, path.as_str()).context(format_args!("{path}"))?;
+    for path in &files_of_cases(rt)? {
+        try_file(rt, table, &mut tally, path.as_str()).context(format_args!("{path}"))?;
     }
     let Tally { calls, differ } = tally;
     println!(rt; "{calls} calls, {differ} differ")?;
+    ensure!(calls > 0, "no case was found");
     ensure!(differ == 0, "{differ} calls differ");
     Ok(())
+}
+
+fn main(rt: HostRuntime) -> anyhow::Result<()> {
+    let alloc = rt.alloc();
+    let mut list = Vec::new(alloc);
+    list.push(Responder::new(
+        String::from_str(alloc, "echo")?,
+        Rule::Echo,
+        Box::new(
+            alloc,
+            |_config: &[u64], _position: u64, request: &[u64]| -> Reply
+                requires { length request.now ≤ 64 }
+                ensures { reply_words result ≡ answer rules.Echo _config.now _position request.now }
+            { echo(request) },
+        )?,
+    ))?;
+    list.push(Responder::new(
+        String::from_str(alloc, "feed")?,
+        Rule::Feed,
+        Box::new(
+            alloc,
+            |config: &[u64], position: u64, _request: &[u64]| -> Reply
+                ensures { reply_words result ≡ answer rules.Feed config.now position _request.now }
+            { feed(config, position) },
+        )?,
+    ))?;
+    list.push(Responder::new(
+        String::from_str(alloc, "sum")?,
+        Rule::Sum,
+        Box::new(
+            alloc,
+            |_config: &[u64], _position: u64, request: &[u64]| -> Reply
+                ensures { reply_words result ≡ answer rules.Sum _config.now _position request.now }
+            { sum(request) },
+        )?,
+    ))?;
+    try_files(&rt, &Table { list })
 }

@@ -17,7 +17,7 @@
 use crate::line::Line;
 use crate::porter::put_porter;
 use anyhow::{Context, bail};
-use fk_boot::boot;
+use fk_boot::first_store;
 use fk_kernel::Kernel;
 use fk_model::{Answer, Ask, Body, Move, Said, Todo, Turn, Who};
 use fk_scenario::{read_scenario, server_rules};
@@ -41,7 +41,7 @@ fn kernel_of(alloc: Global, text: &[u8], porter: Who) -> anyhow::Result<Kernel> 
     let Ok(scenario) = read_scenario(alloc, text, &rules) else {
         bail!("no scenario");
     };
-    let Ok(mut store) = boot(alloc, &scenario) else {
+    let Ok(mut store) = first_store(alloc, &scenario) else {
         bail!("no memory");
     };
     let Ok(()) = put_porter(&mut store, porter) else {

@@ -6,4 +6,4 @@ use Rattle.fk_run.proofs.top.fluke_top.Goals as goal
 pub returns-in_default-clause-done : goal.returns-in_default-clause-done
 returns-in_default-clause-done g c =
     let none : command_of (map string_bytes c.args.words.now) ≡ None = search rules in
-    no-command _ none _ _ _
+    no-command _ _ none _ _ _
