@@ -1,13 +1,12 @@
 -- A job's moves in a run, one by one.
-use Rattle.std.proofs.Common.{◌≡◌, ℕ, ◌+◌, ◌<◌, ◌≤◌, Bool, true, false, cond, ◌==◌, IsSome, List, [], ◌∷◌, length, take, Option, Some, None, option_map, refl, sym, ap, subst, arith, ◌∙◌, ◌⊎◌, inl, inr}
+use Rattle.std.proofs.Common.{◌≡◌, ℕ, ◌+◌, ◌<◌, ◌≤◌, Bool, true, false, cond, ◌==◌, List, [], ◌∷◌, length, take, Option, Some, None, option_map, refl, sym, ap, subst, ◌∙◌, ◌⊎◌, inl, inr}
 use Rattle.std.specs.List.{slice_get}
 use Rattle.fk_model.specs.declared.limits.TheConstants.{OWN_SPACE, LAST_USER_SLOT}
 use Rattle.fk_model.specs.declared.moves.Move.{Move}
 use Rattle.fk_model.specs.declared.stage.Stage.{Stage}
 use Rattle.fk_model.specs.declared.stage.Stage.TheVariants.{SpaceMakeHeld, SpaceRelease}
 use Rattle.fk_model.specs.declared.statuses.status.TheConstants.{OK}
-use Rattle.fk_model.specs.Places.{Path, Ptr}
-use Rattle.fk_model.specs.World.{World}
+use Rattle.fk_model.specs.Places.{Ptr}
 use Rattle.fk_model.specs.Closed.{Place}
 use Rattle.fk_model.specs.Runs.{after}
 use Rattle.fk_image.specs.declared.image.Image.{Image}
@@ -16,7 +15,6 @@ use Rattle.fk_image.specs.Valid.{is_valid}
 use Rattle.laws_jobs.specs.Machines.{Head, no_words, call_of, IsReadyAt, AtWork}
 use Rattle.laws_jobs.specs.Machines.Head.{Stops, Asks}
 use Rattle.laws_jobs.specs.Jobs.{MayBegin}
-use Rattle.laws_jobs.specs.Calls.{IsCalm}
 use Rattle.laws_checkpoint.specs.Foreign as seeks
 use Rattle.laws_checkpoint.specs.Walk as walks
 use Rattle.laws_checkpoint.specs.Walk.{Met}
@@ -32,7 +30,7 @@ use Rattle.laws_checkpoint.proofs.Calling.{checkpoint_is_ready}
 use Rattle.laws_restore.specs.Restore as restores
 use Rattle.laws_restore.specs.Restore.State.{Makes}
 use Rattle.laws_restore.specs.Roomed.{IsRoomed}
-use Rattle.laws_restore.specs.Rest.{IsSameFar, destroys}
+use Rattle.laws_restore.specs.Rest.{IsSameFar}
 use Rattle.laws_restore.proofs.Readied.{is_ready as restore_is_ready}
 use Rattle.laws_restore.proofs.Resting.{leaves_far}
 use Rattle.laws_restore.proofs.Lasting.{occupied_is_exact}
@@ -84,7 +82,7 @@ same_restore slot other pairs given image picture_of s t e = (cc, cc, cc, cc)
 module _ {V : Type 0} (jobs : List Job) (servers : Servers V) (first c : Core State End V) (past : List Move) (run : IsRun (house jobs servers) first past c) (grounded : IsGrounded jobs servers first past) where
   -- ---- what a restore's moves leave
 
-  module _ (k begun slot : ℕ) (pairs : List (ℕ × ℕ)) (image : Image) (s : restores.State) (stage : Stage) (words : List ℕ) (kept : destroys s ≡ false) where
+  module _ (k begun slot : ℕ) (pairs : List (ℕ × ℕ)) (image : Image) (s : restores.State) (stage : Stage) (words : List ℕ) where
     Left : Type 0
     Left = (birth : ℕ) × LeftFar birth slot (world_at run begun) (world_at run k) (world_at run (k + 1))
 
@@ -121,7 +119,7 @@ module _ {V : Type 0} (jobs : List Job) (servers : Servers V) (first c : Core St
             nester = its.nester;
             named = its.may.named;
             same = subst (IsSameFar its.nester slot (world_at run k)) (sym its.goes)
-                ((leaves_far slot its.job.nester (bound_by pairs) (picture image) (rooms_of image) (world_at run begun) its.nester user roomed its.may).later (world_at run k) s stage words work asked kept its.ready);
+                ((leaves_far slot its.job.nester (bound_by pairs) (picture image) (rooms_of image) (world_at run begun) its.nester user roomed its.may).later (world_at run k) s stage words work asked its.ready);
           },
         )
 
@@ -222,8 +220,8 @@ module _ {V : Type 0} (jobs : List Job) (servers : Servers V) (first c : Core St
           on e job (starts_restore w.job.task (take index c.ends) slot pairs source image w.start (ap (λ (i : Job). i.task) job ∙ is) from w.starts)
 
 pub restores_leave_the_rest : {V : Type 0} → RestoresLeaveTheRest V
-restores_leave_the_rest jobs servers first c past run grounded k begun slot pairs image s stage words low e kept =
-    leaves_the_rest jobs servers first c past run grounded k begun slot pairs image s stage words kept low e
+restores_leave_the_rest jobs servers first c past run grounded k begun slot pairs image s stage words low e =
+    leaves_the_rest jobs servers first c past run grounded k begun slot pairs image s stage words low e
 
 pub jobs_are_ready : {V : Type 0} → JobsAreReady V
 jobs_are_ready jobs servers first c past run grounded k working = next_ready jobs servers first c past run grounded k working

@@ -1,5 +1,5 @@
 -- A job's moves in a run, one by one: what they leave, when the next one is ready, and which is the last.
-use Rattle.std.specs.Prelude.{◌≡◌, ℕ, ◌+◌, ◌<◌, ◌≤◌, ◌⊎◌, IsSome, false, List, ◌∷◌, length, take, Some}
+use Rattle.std.specs.Prelude.{◌≡◌, ℕ, ◌+◌, ◌<◌, ◌≤◌, ◌⊎◌, IsSome, List, ◌∷◌, length, take, Some}
 use Rattle.std.specs.List.{slice_get}
 use Rattle.fk_model.specs.declared.limits.TheConstants.{OWN_SPACE, LAST_USER_SLOT}
 use Rattle.fk_model.specs.declared.moves.Move.{Move}
@@ -17,7 +17,7 @@ use Rattle.laws_jobs.specs.Calls.{IsCalm}
 use Rattle.laws_checkpoint.specs.Checkpoint as checkpoints
 use Rattle.laws_restore.specs.Restore as restores
 use Rattle.laws_restore.specs.Ends.{EndsSo}
-use Rattle.laws_restore.specs.Rest.{IsSameFar, destroys}
+use Rattle.laws_restore.specs.Rest.{IsSameFar}
 use Rattle.laws_rooms.specs.Restoring.{bound_by}
 use Rattle.laws_runs.specs.Cores.{Servers, Work, Core, IsRun, world_at}
 use Rattle.laws_runs.specs.Cores.JobEnd.{Worked}
@@ -36,11 +36,11 @@ pub record LeftFar (birth slot : ℕ) (begins w v : World) : Type 0 where
   pub named : birth_at begins nester ≡ Some birth
   pub same : IsSameFar nester slot w v
 
--- all but the new space and its nester's scratch; not said of the moves that destroy the new space again, where a port was missing
+-- all but the new space and its nester's scratch, also where it destroys the new space again
 abbrev pub RestoresLeaveTheRest : Type 0 → Type 0
 RestoresLeaveTheRest V = (jobs : List Job) (servers : Servers V) (first c : Core State End V) (past : List Move) (run : IsRun (house jobs servers) first past c) →
     IsGrounded jobs servers first past → (k begun slot : ℕ) (pairs : List (ℕ × ℕ)) (image : Image) (s : restores.State) (stage : Stage) (words : List ℕ) → k < length past →
-    asker_at run k ≡ Asked_by_job begun (Restoring slot pairs image s) stage words → destroys s ≡ false →
+    asker_at run k ≡ Asked_by_job begun (Restoring slot pairs image s) stage words →
     (birth : ℕ) × LeftFar birth slot (world_at run begun) (world_at run k) (world_at run (k + 1))
 
 -- ---- the next move of a job that is at work

@@ -67,7 +67,7 @@ pub fn saved_subtrees_go_on<V>()
     ensures { SavedGoesOn V }
 {}
 
-/// Each move by which a restore makes its subtree, or drops its scratch, leaves all but the new space and its nester's scratch.
+/// Each move of a restore leaves all but the new space and its nester's scratch, also where it destroys the new space again.
 pub fn restores_leave_the_rest<V>()
     ensures { RestoresLeaveTheRest V }
 {}

@@ -27,7 +27,7 @@ use Rattle.fk_model.specs.ObjectRows.{is_scratch, ends_with, kills, destroy, tol
 use Rattle.fk_model.specs.Moves.{closed, with_pick, call_row}
 use Rattle.fk_model.specs.Runs.{Event, after}
 use Rattle.fk_model.specs.Valid.{IsValid, kind_there, birth_of, birth_at}
-use Rattle.fk_model.proofs.walks.PlaceLaws.{same_path_eq, same_path_refl, same_path_ne, same_path_cancel, strip_some}
+use Rattle.fk_model.proofs.walks.PlaceLaws.{same_path_eq, same_path_refl, same_path_ne, same_path_cancel, strip_some, strip-append}
 use Rattle.fk_model.proofs.walks.Lowest.{lowest-found}
 use Rattle.laws_frozen.specs.Holding.{IsHolding, IsUsersMove}
 use Rattle.laws_frozen.proofs.Holding.{holder_none, none_above, decider_none, others_keep_hold}
@@ -338,6 +338,9 @@ module _ (nester : Path) (slot : ℕ) where
     pub found : IsInside v root gone
     unfolding leaf
     found = leaf_inside depth v root root_there
+
+    pub gone_inside : is_within root gone ≡ true
+    gone_inside = subst (λ (z : Path). is_within root z ≡ true) (sym found.is) (rw (strip-append root found.way) refl)
 
     decided : (q : Path) → decider v (q ++ root) ≡ Some (At me)
     unfolding decider

@@ -16,6 +16,7 @@ pub mod Whole
 pub mod Scripted
 pub mod Emptying
 pub mod Listed
+pub mod Secluded
 pub mod Refused
 pub mod Tidying
 pub mod Coming

@@ -66,16 +66,16 @@ module _ (slot birth : ℕ) (bind : ℕ → ℕ) (c : World) (rooms : List Room)
 
   pub owed_at : (v : World) (t : State) → IsSound v → Came slot birth bind c rooms w nester low its may_begin v t → (stage : Stage) (words : List ℕ) → head slot t ≡ Asks stage words → IsOwedCall v nester stage words
   unfolding does_all
-  owed_at _ _ sound (Working [] g v empty shows unled may suits safe tidied is) stage words e =
+  owed_at _ _ sound (Working [] g v empty shows alone may suits safe tidied is) stage words e =
       given_by v nester (SpaceRelease OWN_SPACE slot) stage no_words words (let one : SpaceRelease OWN_SPACE slot ≡ stage = cc in one) (let two : no_words ≡ words = cc in two) (release_owed v g shows is)
-  owed_at _ _ sound (Working (o ∷ os) g v empty shows unled may suits safe tidied is) stage words e =
+  owed_at _ _ sound (Working (o ∷ os) g v empty shows alone may suits safe tidied is) stage words e =
       given_by v nester (stage_of slot o) stage (words_of o) words (let one : stage_of slot o ≡ stage = cc in one) (let two : words_of o ≡ words = cc in two)
-      (orders_are_owed nester slot g v o shows may.0 suits.0 unled sound.whole.valid)
-  owed_at _ _ sound (Clearing xs more port v empty emptied many tidied) stage words e =
+      (orders_are_owed nester slot g v o shows may.0 suits.0 alone.unled sound.whole.valid)
+  owed_at _ _ sound (Clearing xs more port v empty emptied many alone tidied) stage words e =
       given_by v nester (Destroy OWN_SPACE slot) stage no_words words (let one : Destroy OWN_SPACE slot ≡ stage = cc in one) (let two : no_words ≡ words = cc in two) (destroy_owed v)
-  owed_at _ _ sound (Dropping (Drops r) os port g v empty shows unled left tidied) stage words e =
+  owed_at _ _ sound (Dropping (Drops r) os port g v empty shows alone left tidied) stage words e =
       given_by v nester (Destroy OWN_SPACE r) stage no_words words (let one : Destroy OWN_SPACE r ≡ stage = cc in one) (let two : no_words ≡ words = cc in two) (drop_owed v r left.drop.0)
-  owed_at _ _ sound (Dropping o os port g v empty shows unled left tidied) stage words e = absurd left.drop
+  owed_at _ _ sound (Dropping o os port g v empty shows alone left tidied) stage words e = absurd left.drop
   owed_at _ _ sound (Finished v empty plain same unheld clean) stage words e = cc
   owed_at _ _ sound (Missing port v empty none clean) stage words e = cc
   owed_at _ _ sound (Taken v there same) stage words e = cc
@@ -89,18 +89,18 @@ module _ (slot birth : ℕ) (bind : ℕ → ℕ) (c : World) (rooms : List Room)
   -- ---- its porter stays, and no scratch is left
 
   stays_at : (v : World) (t : State) → Came slot birth bind c rooms w nester low its may_begin v t → (stage : Stage) (words : List ℕ) → head slot t ≡ Asks stage words → HasPorter v nester birth
-  stays_at _ _ (Working os g v empty shows unled may suits safe tidied is) stage words e = record { porter = shows.porter; named = tidied.named }
-  stays_at _ _ (Dropping o os port g v empty shows unled left tidied) stage words e = record { porter = shows.porter; named = tidied.named }
-  stays_at _ _ (Clearing xs more port v empty emptied many tidied) stage words e = record { porter = emptied.holding.porter; named = tidied.named }
+  stays_at _ _ (Working os g v empty shows alone may suits safe tidied is) stage words e = record { porter = shows.porter; named = tidied.named }
+  stays_at _ _ (Dropping o os port g v empty shows alone left tidied) stage words e = record { porter = shows.porter; named = tidied.named }
+  stays_at _ _ (Clearing xs more port v empty emptied many alone tidied) stage words e = record { porter = emptied.holding.porter; named = tidied.named }
   stays_at _ _ (Finished v empty plain same unheld clean) stage words e = cc
   stays_at _ _ (Missing port v empty none clean) stage words e = cc
   stays_at _ _ (Taken v there same) stage words e = cc
 
   clean_at : (v : World) (t : State) (end : End) → Came slot birth bind c rooms w nester low its may_begin v t → head slot t ≡ Stops end → IsClean v
-  clean_at _ _ end (Working [] g v empty shows unled may suits safe tidied is) e = cc
-  clean_at _ _ end (Working (o ∷ os) g v empty shows unled may suits safe tidied is) e = cc
-  clean_at _ _ end (Dropping o os port g v empty shows unled left tidied) e = cc
-  clean_at _ _ end (Clearing xs more port v empty emptied many tidied) e = cc
+  clean_at _ _ end (Working [] g v empty shows alone may suits safe tidied is) e = cc
+  clean_at _ _ end (Working (o ∷ os) g v empty shows alone may suits safe tidied is) e = cc
+  clean_at _ _ end (Dropping o os port g v empty shows alone left tidied) e = cc
+  clean_at _ _ end (Clearing xs more port v empty emptied many alone tidied) e = cc
   clean_at _ _ end (Finished v empty plain same unheld clean) e = clean
   clean_at _ _ end (Missing port v empty none clean) e = clean
   clean_at _ _ end (Taken v there same) e = subst IsClean (sym same) may_begin.clean

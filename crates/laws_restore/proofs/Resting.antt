@@ -1,12 +1,12 @@
 -- A restore's calls leave what is neither in its new space nor its nester's scratch.
-use Rattle.std.proofs.Common.{◌≡◌, ℕ, ◌≤◌, Bool, true, false, not, ◌&&◌, ◌||◌, ◌⊎◌, inl, inr, nat_le, IsSome, is_some, List, [], ◌∷◌, ◌++◌, length, Option, Some, None, option_map, refl, sym, ap, subst, arith, length-append, ◌∙◌}
+use Rattle.std.proofs.Common.{◌≡◌, ℕ, ◌≤◌, Bool, true, false, not, ◌||◌, ◌⊎◌, inl, inr, IsSome, is_some, List, [], ◌∷◌, ◌++◌, length, Option, Some, None, option_map, refl, sym, ap, subst, arith, length-append, ◌∙◌}
 use Rattle.std.specs.List.{list_any}
 use Rattle.std.proofs.lemmas.Bool.{and_parts, or_cases}
-use Rattle.fk_model.specs.declared.limits.TheConstants.{OWN_SPACE, LAST_USER_SLOT, FIRST_SCRATCH_SLOT, LAST_SCRATCH_SLOT, LAST_PORTER_SLOT}
+use Rattle.fk_model.specs.declared.limits.TheConstants.{OWN_SPACE, LAST_USER_SLOT, LAST_PORTER_SLOT}
 use Rattle.fk_model.specs.declared.names.Kind.{Kind}
 use Rattle.fk_model.specs.declared.names.Kind.TheVariants as kinds
 use Rattle.fk_model.specs.declared.stage.Stage.{Stage}
-use Rattle.fk_model.specs.declared.stage.Stage.TheVariants.{SpaceMakeHeld, SpaceRelease}
+use Rattle.fk_model.specs.declared.stage.Stage.TheVariants.{Destroy, SpaceMakeHeld, SpaceRelease}
 use Rattle.fk_model.specs.declared.statuses.status.TheConstants.{OK, OCCUPIED}
 use Rattle.fk_model.specs.Places.{Path, same_path, strip, is_within, parent, Ptr, leads_to}
 use Rattle.fk_model.specs.Places.Ptr.{At}
@@ -16,7 +16,7 @@ use Rattle.fk_model.specs.World.{World, Change, set_at, apply, apply_all}
 use Rattle.fk_model.specs.World.Change.{Alter, Make, MakeSpace, Kill, Move, PutPage, DropPage}
 use Rattle.fk_model.specs.Holds.{holder_of}
 use Rattle.fk_model.specs.Freezing.{body_pointers, is_swept}
-use Rattle.fk_model.specs.ObjectRows.{is_scratch}
+use Rattle.fk_model.specs.ObjectRows.{is_scratch, kills}
 use Rattle.fk_model.specs.Runs.{after}
 use Rattle.fk_model.specs.Valid.{IsValid, kind_there, is_one_of, all_in, is_good}
 use Rattle.fk_model.proofs.walks.PlaceLaws.{same_path_eq, strip-append, strip_some}
@@ -44,7 +44,9 @@ use Rattle.laws_restore.specs.Rooms.{Room}
 use Rattle.laws_restore.specs.Roomed.{IsRoomed}
 use Rattle.laws_restore.specs.Restore.{State, head, restore}
 use Rattle.laws_restore.specs.Restore.State.{Makes as Begins}
-use Rattle.laws_restore.specs.Rest.{IsSameFar, destroys, RestoreLeavesFar}
+use Rattle.laws_restore.specs.Rest.{IsSameFar, RestoreLeavesFar}
+use Rattle.laws_restore.proofs.Emptying.{IsEmptied, world, gone, gone_inside}
+use Rattle.laws_restore.proofs.Secluded.{IsSecluded, scratch_of, kills_near}
 use Rattle.laws_restore.proofs.Coming.{Came, came}
 use Rattle.laws_restore.proofs.Coming.Came.{Working, Dropping, Clearing, Finished, Missing, Taken}
 
@@ -140,18 +142,6 @@ module _ (nester : Path) (slot : ℕ) where
             let on : is_within root (j ∷ y) ≡ true = subst (λ (z : Path). is_within root (j ∷ z) ≡ true) above (rw (strip-append root (j ∷ q)) refl) in
             let both = sym on ∙ out in cc
 
-    scratch_of : (x : Path) → is_scratch nester x ≡ true → only_reference (v.body x) ≡ true
-    scratch_of [] e =
-        let both = and_parts (same_path [] nester && nat_le FIRST_SCRATCH_SLOT 0) (nat_le 0 LAST_SCRATCH_SLOT) e in
-        let first = and_parts (same_path [] nester) (nat_le FIRST_SCRATCH_SLOT 0) both.0 in
-        let second = first.1 in cc
-    scratch_of (k ∷ z) e =
-        let both = and_parts (same_path z nester && nat_le FIRST_SCRATCH_SLOT k) (nat_le k LAST_SCRATCH_SLOT) e in
-        let first = and_parts (same_path z nester) (nat_le FIRST_SCRATCH_SLOT k) both.0 in
-        let here = same_path_eq z nester first.0 in
-        let at : is_scratch nester (k ∷ nester) ≡ true = subst (λ (z : Path). is_scratch nester (k ∷ z) ≡ true) here e in
-        subst (λ (z : Path). only_reference (v.body (k ∷ z)) ≡ true) (sym here) (held.scratch k at)
-
     nothing_leads : (x y : Path) → only_reference (v.body x) ≡ true → list_any (leads_to x) (body_pointers (v.body y)) ≡ false
     unfolding kind_there
     nothing_leads x y ref = by (v.body x) refl ref
@@ -192,7 +182,7 @@ module _ (nester : Path) (slot : ℕ) where
 
         by : (is_within root x ≡ true) ⊎ (is_scratch nester x ≡ true) → is_swept x y (v.body y) ≡ false
         by (inl h) = way (strip root x) refl h
-        by (inr h) = no_set (kind_there v) x y (v.body y) (valid.consistent.good y) (ref_kind (v.body x) (scratch_of x h)) (nothing_leads x y (scratch_of x h))
+        by (inr h) = no_set (kind_there v) x y (v.body y) (valid.consistent.good y) (ref_kind (v.body x) (scratch_of nester slot v held x h)) (nothing_leads x y (scratch_of nester slot v held x h))
 
   -- ---- near changes leave what is far
 
@@ -245,6 +235,13 @@ module _ (nester : Path) (slot : ℕ) where
       let comes = release_comes_to nester slot v (holding nester slot g v shows) ready in
       subst (IsSameFar nester slot v) (sym comes.world) (record { bodies = λ y far. rw (far_apart root y (inside_near nester slot []) far) refl; pages = λ y page far. refl })
 
+  destroy_far : (v : World) (xs : List Path) → IsValid v → IsEmptied nester slot v xs → IsSecluded nester slot v → IsReadyAt v (call_of nester (Destroy OWN_SPACE slot) no_words) →
+      IsSameFar nester slot v (after v (call_of nester (Destroy OWN_SPACE slot) no_words))
+  destroy_far v xs valid emptied alone ready =
+      let dies = gone nester slot v valid xs emptied in
+      let near = kills_near nester slot v emptied.holding alone dies (gone_inside nester slot v valid xs emptied) in
+      subst (IsSameFar nester slot v) (sym (world nester slot v valid xs emptied ready)) (changes_far (kills v dies) v near (apart_now v valid emptied.holding alone.unled))
+
 -- a call that is known
 known : (v : World) (nester : Path) (slot : ℕ) (stage other : Stage) (given words : List ℕ) → stage ≡ other → given ≡ words → (IsReadyAt v (call_of nester stage given) → IsSameFar nester slot v (after v (call_of nester stage given))) →
     IsReadyAt v (call_of nester other words) → IsSameFar nester slot v (after v (call_of nester other words))
@@ -253,18 +250,20 @@ known v nester slot stage other given words one two far =
     (subst (λ (st : Stage). IsReadyAt v (call_of nester st given) → IsSameFar nester slot v (after v (call_of nester st given))) one far)
 
 module _ (slot birth : ℕ) (bind : ℕ → ℕ) (c : World) (rooms : List Room) (w : World) (nester : Path) (low : slot ≤ LAST_USER_SLOT) (its : IsRoomed bind c rooms) (may_begin : MayBegin w nester birth) where
-  later_far : (v : World) (t : State) → IsSound v → Came slot birth bind c rooms w nester low its may_begin v t → (stage : Stage) (words : List ℕ) → head slot t ≡ Asks stage words → destroys t ≡ false →
+  later_far : (v : World) (t : State) → IsSound v → Came slot birth bind c rooms w nester low its may_begin v t → (stage : Stage) (words : List ℕ) → head slot t ≡ Asks stage words →
       IsReadyAt v (call_of nester stage words) → IsSameFar nester slot v (after v (call_of nester stage words))
-  later_far _ _ sound (Working [] g v empty shows unled may suits safe tidied is) stage words e off =
+  later_far _ _ sound (Working [] g v empty shows alone may suits safe tidied is) stage words e =
       known v nester slot (SpaceRelease OWN_SPACE slot) stage no_words words (let one : SpaceRelease OWN_SPACE slot ≡ stage = cc in one) (let two : no_words ≡ words = cc in two) (release_far nester slot v g shows)
-  later_far _ _ sound (Working (o ∷ os) g v empty shows unled may suits safe tidied is) stage words e off =
-      known v nester slot (stage_of slot o) stage (words_of o) words (let one : stage_of slot o ≡ stage = cc in one) (let two : words_of o ≡ words = cc in two) (call_far nester slot v g o shows unled may.0 sound)
-  later_far _ _ sound (Dropping o os port g v empty shows unled left tidied) stage words e off =
-      known v nester slot (stage_of slot o) stage (words_of o) words (let one : stage_of slot o ≡ stage = cc in one) (let two : words_of o ≡ words = cc in two) (call_far nester slot v g o shows unled left.may.0 sound)
-  later_far _ _ sound (Clearing xs more port v empty emptied many tidied) stage words e off = cc
-  later_far _ _ sound (Finished v empty plain same unheld clean) stage words e off = cc
-  later_far _ _ sound (Missing port v empty none clean) stage words e off = cc
-  later_far _ _ sound (Taken v there same) stage words e off = cc
+  later_far _ _ sound (Working (o ∷ os) g v empty shows alone may suits safe tidied is) stage words e =
+      known v nester slot (stage_of slot o) stage (words_of o) words (let one : stage_of slot o ≡ stage = cc in one) (let two : words_of o ≡ words = cc in two) (call_far nester slot v g o shows alone.unled may.0 sound)
+  later_far _ _ sound (Dropping o os port g v empty shows alone left tidied) stage words e =
+      known v nester slot (stage_of slot o) stage (words_of o) words (let one : stage_of slot o ≡ stage = cc in one) (let two : words_of o ≡ words = cc in two) (call_far nester slot v g o shows alone.unled left.may.0 sound)
+  later_far _ _ sound (Clearing xs more port v empty emptied many alone tidied) stage words e =
+      known v nester slot (Destroy OWN_SPACE slot) stage no_words words (let one : Destroy OWN_SPACE slot ≡ stage = cc in one) (let two : no_words ≡ words = cc in two)
+      (destroy_far nester slot v xs sound.whole.valid emptied alone)
+  later_far _ _ sound (Finished v empty plain same unheld clean) stage words e = cc
+  later_far _ _ sound (Missing port v empty none clean) stage words e = cc
+  later_far _ _ sound (Taken v there same) stage words e = cc
 
   first_far : IsReadyAt w (call_of nester (SpaceMakeHeld slot) no_words) → IsSameFar nester slot w (after w (call_of nester (SpaceMakeHeld slot) no_words))
   unfolding apply_all apply
@@ -289,5 +288,5 @@ module _ (slot birth : ℕ) (bind : ℕ → ℕ) (c : World) (rooms : List Room)
 pub leaves_far : RestoreLeavesFar
 leaves_far slot birth bind c rooms w nester low its may = record {
   first = first_far slot birth bind c rooms w nester low its may;
-  later = λ v t stage words work e off ready. later_far slot birth bind c rooms w nester low its may v t (now_sound (restore slot bind rooms) nester w Begins v t work) (came slot birth bind c rooms w nester low its may v t work) stage words e off ready;
+  later = λ v t stage words work e ready. later_far slot birth bind c rooms w nester low its may v t (now_sound (restore slot bind rooms) nester w Begins v t work) (came slot birth bind c rooms w nester low its may v t work) stage words e ready;
 }

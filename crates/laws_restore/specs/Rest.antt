@@ -1,5 +1,5 @@
 -- What a restore's calls leave as it was, which calls are its first and its last, and when exactly its slot was taken.
-use Rattle.std.specs.Prelude.{◌≡◌, ℕ, ◌≤◌, Bool, true, false, IsSome, List, [], ◌∷◌}
+use Rattle.std.specs.Prelude.{◌≡◌, ℕ, ◌≤◌, false, IsSome, List, ◌∷◌}
 use Rattle.fk_model.specs.declared.limits.TheConstants.{OWN_SPACE, LAST_USER_SLOT}
 use Rattle.fk_model.specs.declared.stage.Stage.{Stage}
 use Rattle.fk_model.specs.declared.stage.Stage.TheVariants.{Destroy, SpaceMakeHeld, SpaceRelease}
@@ -14,22 +14,17 @@ use Rattle.laws_restore.specs.Rooms.{Room}
 use Rattle.laws_restore.specs.Roomed.{IsRoomed}
 use Rattle.laws_restore.specs.Restore.{End, State, restore}
 use Rattle.laws_restore.specs.Restore.End.{Done, Occupied, NoPort}
-use Rattle.laws_restore.specs.Restore.State.{Makes, Clears, Over}
+use Rattle.laws_restore.specs.Restore.State.{Makes, Over}
 
 -- all but the new space and its nester's scratch
 pub record IsSameFar (nester : Path) (slot : ℕ) (v u : World) : Type 0 where
   pub bodies : (y : Path) → is_near nester slot y ≡ false → u.body y ≡ v.body y
   pub pages : (y : Path) (page : ℕ) → is_near nester slot y ≡ false → u.page y page ≡ v.page y page
 
--- a port was missing, its scratch is gone, and now it destroys
-abbrev pub destroys : State → Bool
-destroys (Clears [] more port) = true
-destroys other = false
-
--- each call by which it makes its subtree, or drops its scratch, leaves the rest
+-- its first call leaves the rest, and so does each later one, also where it destroys what it has made
 pub record LeavesFar (slot : ℕ) (bind : ℕ → ℕ) (rooms : List Room) (w : World) (nester : Path) : Type 0 where
   pub first : IsReadyAt w (call_of nester (SpaceMakeHeld slot) no_words) → IsSameFar nester slot w (after w (call_of nester (SpaceMakeHeld slot) no_words))
-  pub later : (v : World) (t : State) (stage : Stage) (words : List ℕ) → AtWork (restore slot bind rooms) nester w Makes v t → (restore slot bind rooms).head t ≡ Asks stage words → destroys t ≡ false →
+  pub later : (v : World) (t : State) (stage : Stage) (words : List ℕ) → AtWork (restore slot bind rooms) nester w Makes v t → (restore slot bind rooms).head t ≡ Asks stage words →
       IsReadyAt v (call_of nester stage words) → IsSameFar nester slot v (after v (call_of nester stage words))
 
 abbrev pub RestoreLeavesFar : Type 0

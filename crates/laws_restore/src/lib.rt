@@ -67,7 +67,7 @@ pub fn a_restores_last_call_is_known()
     ensures { LastCallIsKnown }
 {}
 
-/// Each of its calls but the stages of destroying leaves all that is neither in its new space nor its nester's scratch.
+/// Each of its calls leaves all that is neither in its new space nor its nester's scratch, those that destroy the new space again too.
 pub fn a_restore_leaves_the_rest()
     ensures { RestoreLeavesFar }
 {}
