@@ -269,33 +269,33 @@ module _ (w : World) (uncut : IsUncut w) where
       by true = within-ours MAPPINGS s (address / PAGE_WORDS) write
       by false = tt
 
-  missed-ours : (otherwise : Outcome) (me : Path) (page : ℕ) (write : Bool) (keeper : Option Ptr) → AreOurs (option_list (λ p. p ∷ []) keeper) →
-      OursOutcome otherwise → OursOutcome (missed otherwise me page write keeper)
+  missed-ours : {v : World} → (otherwise : Outcome) (me : Path) (page : ℕ) (write : Bool) (keeper : Option Ptr) → AreOurs (option_list (λ p. p ∷ []) keeper) →
+      OursOutcome v otherwise → OursOutcome v (missed otherwise me page write keeper)
   missed-ours otherwise me page write None ours other = other
   missed-ours otherwise me page write (Some keeper) ours other = goes (ours, tt)
 
-  accessed-at : (me : Path) (write : Bool) (halts : ℕ → Outcome) (go : Path → ℕ → Outcome) (r : Reach) → IsOursReach r →
-      ((code : ℕ) → OursOutcome (halts code)) → ((s : Path) (page : ℕ) → OursOutcome (go s page)) → OursOutcome (accessed me write halts go r)
+  accessed-at : {v : World} → (me : Path) (write : Bool) (halts : ℕ → Outcome) (go : Path → ℕ → Outcome) (r : Reach) → IsOursReach r →
+      ((code : ℕ) → OursOutcome v (halts code)) → ((s : Path) (page : ℕ) → OursOutcome v (go s page)) → OursOutcome v (accessed me write halts go r)
   accessed-at me write halts go (Home s page) ours halting going = going s page
   accessed-at me write halts go (Missing s page keeper) ours halting going = missed-ours _ me page write keeper ours (halting _)
   accessed-at me write halts go Bad ours halting going = halting _
 
-  pub accessed-ours : (space me : Path) (address : ℕ) (write : Bool) (halts : ℕ → Outcome) (go : Path → ℕ → Outcome) →
-      ((code : ℕ) → OursOutcome (halts code)) → ((s : Path) (page : ℕ) → OursOutcome (go s page)) → OursOutcome (accessed me write halts go (reach_word w space address write))
+  pub accessed-ours : {v : World} → (space me : Path) (address : ℕ) (write : Bool) (halts : ℕ → Outcome) (go : Path → ℕ → Outcome) →
+      ((code : ℕ) → OursOutcome v (halts code)) → ((s : Path) (page : ℕ) → OursOutcome v (go s page)) → OursOutcome v (accessed me write halts go (reach_word w space address write))
   accessed-ours space me address write halts go halting going = accessed-at me write halts go (reach_word w space address write) (word-ours space address write) halting going
 
-  own_page_at-ours : (me : Path) (write : Bool) (go : Path → ℕ → Outcome) (r : Reach) → IsOursReach r → ((s : Path) (page : ℕ) → OursOutcome (go s page)) → OursOutcome (own_page_at me write go r)
+  own_page_at-ours : {v : World} → (me : Path) (write : Bool) (go : Path → ℕ → Outcome) (r : Reach) → IsOursReach r → ((s : Path) (page : ℕ) → OursOutcome v (go s page)) → OursOutcome v (own_page_at me write go r)
   own_page_at-ours me write go (Home s page) ours going = going s page
   own_page_at-ours me write go (Missing s page keeper) ours going = missed-ours _ me page write keeper ours refused
   own_page_at-ours me write go Bad ours going = refused
 
-  pub own_page-ours : (c : Caller) (address : ℕ) (write : Bool) (go : Path → ℕ → Outcome) → ((s : Path) (page : ℕ) → OursOutcome (go s page)) → OursOutcome (own_page w c address write go)
+  pub own_page-ours : {v : World} → (c : Caller) (address : ℕ) (write : Bool) (go : Path → ℕ → Outcome) → ((s : Path) (page : ℕ) → OursOutcome v (go s page)) → OursOutcome v (own_page w c address write go)
   own_page-ours c address write go going = own_page_at-ours _ write go (reach_word w c.space address write) (word-ours c.space address write) going
 
-  their_page_at-ours : (go : Path → ℕ → Outcome) (r : Reach) → ((s : Path) (page : ℕ) → OursOutcome (go s page)) → OursOutcome (their_page_at go r)
+  their_page_at-ours : {v : World} → (go : Path → ℕ → Outcome) (r : Reach) → ((s : Path) (page : ℕ) → OursOutcome v (go s page)) → OursOutcome v (their_page_at go r)
   their_page_at-ours go (Home s page) going = going s page
   their_page_at-ours go (Missing s page keeper) going = waits
   their_page_at-ours go Bad going = waits
 
-  pub their_page-ours : (space : Path) (address : ℕ) (go : Path → ℕ → Outcome) → ((s : Path) (page : ℕ) → OursOutcome (go s page)) → OursOutcome (their_page w space address go)
+  pub their_page-ours : {v : World} → (space : Path) (address : ℕ) (go : Path → ℕ → Outcome) → ((s : Path) (page : ℕ) → OursOutcome v (go s page)) → OursOutcome v (their_page w space address go)
   their_page-ours space address go going = their_page_at-ours go (reach_word w space address true) going

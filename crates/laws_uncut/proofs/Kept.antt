@@ -16,7 +16,7 @@ use Rattle.fk_model.specs.Outcomes.Outcome.{Refused, Waits, Goes}
 use Rattle.fk_model.specs.Moves.{stepped, outcome, step}
 use Rattle.laws_further.specs.ClosedLaws.{is_cut_pointer, IsUncut}
 use Rattle.laws_uncut.specs.Uncut.{MovesKeepUncut}
-use Rattle.laws_uncut.proofs.Outcomes.{IsOurs, AreOurs, IsOursEdit, SetsOurs, SetOurs, OursOutcome}
+use Rattle.laws_uncut.proofs.Outcomes.{IsOurs, AreOurs, IsOursEdit, SetsOurs, SetOurs, IsOursRow, OursOutcome}
 use Rattle.laws_uncut.proofs.Found.{first-ours, rest-ours, both-ours, left-ours, right-ours, one-ours}
 use Rattle.laws_uncut.proofs.Moves.{outcome-ours}
 
@@ -243,13 +243,10 @@ either false a b one two = two
 uncut-apply : (c : Change) (w : World) → IsUncut w → SetsOurs c → IsUncut (apply c w)
 unfolding apply
 uncut-apply (Alter x edit) w uncut new = λ y. either (same_path y x) _ _ (mapped (edited edit) (λ b ours. edited-ours edit b new ours) (w.body y) (uncut y)) (uncut y)
-uncut-apply (Make x body) w uncut new = λ y. either (same_path y x) (Some body) (w.body y) new (uncut y)
+uncut-apply (Make x body) w uncut new = λ y. either (same_path y x) (Some body) (w.body y) new.0 (uncut y)
 uncut-apply (MakeSpace x holder) w uncut new = λ y. either (same_path y x) (Some (Space w.next holder)) (w.body y) new (uncut y)
 uncut-apply (Kill x) w uncut new = λ y. either (same_path y x) None _ refl (mapped (through (death_sweep x) y) (through-ours (death_sweep x) (death-ours x) y) (w.body y) (uncut y))
-uncut-apply (Move x slot) w uncut new = λ y.
-    let to = slot ∷ parent x in
-    either (same_path y to) _ _ (mapped (through (following x to) to) (through-ours (following x to) (following-ours x to) to) (w.body x) (uncut x))
-    (either (same_path y x) None _ refl (mapped (through (following x to) y) (through-ours (following x to) (following-ours x to) y) (w.body y) (uncut y)))
+uncut-apply (Move x slot) w uncut new = absurd new
 uncut-apply (PutPage space page words) w uncut new = uncut
 uncut-apply (DropPage space page) w uncut new = uncut
 
@@ -258,8 +255,26 @@ unfolding apply_all
 uncut-all [] w uncut new = uncut
 uncut-all (c ∷ cs) w uncut new = uncut-all cs (apply c w) (uncut-apply c w uncut new.0) new.1
 
-uncut-stepped : (w : World) (o : Outcome) → IsUncut w → OursOutcome o → IsUncut (stepped w o).world
-uncut-stepped w (Goes changes said) uncut new = uncut-all changes w uncut new.ours
+uncut-move : (x : Path) (slot : ℕ) (w : World) → IsUncut w → IsUncut (apply (Move x slot) w)
+unfolding apply
+uncut-move x slot w uncut = λ y.
+    let to = slot ∷ parent x in
+    either (same_path y to) _ _ (mapped (through (following x to) to) (through-ours (following x to) (following-ours x to) to) (w.body x) (uncut x))
+    (either (same_path y x) None _ refl (mapped (through (following x to) y) (through-ours (following x to) (following-ours x to) y) (w.body y) (uncut y)))
+
+uncut-row : (cs : List Change) (w : World) → IsUncut w → IsOursRow w cs → IsUncut (apply_all cs w)
+unfolding apply_all
+uncut-row [] w uncut new = uncut
+uncut-row (Move x slot ∷ cs) w uncut new = uncut-all cs (apply (Move x slot) w) (uncut-move x slot w uncut) new.2
+uncut-row (Alter x edit ∷ cs) w uncut new = uncut-all (Alter x edit ∷ cs) w uncut new
+uncut-row (Make x body ∷ cs) w uncut new = uncut-all (Make x body ∷ cs) w uncut new
+uncut-row (MakeSpace x holder ∷ cs) w uncut new = uncut-all (MakeSpace x holder ∷ cs) w uncut new
+uncut-row (Kill x ∷ cs) w uncut new = uncut-all (Kill x ∷ cs) w uncut new
+uncut-row (PutPage space page words ∷ cs) w uncut new = uncut-all (PutPage space page words ∷ cs) w uncut new
+uncut-row (DropPage space page ∷ cs) w uncut new = uncut-all (DropPage space page ∷ cs) w uncut new
+
+uncut-stepped : (w : World) (o : Outcome) → IsUncut w → OursOutcome w o → IsUncut (stepped w o).world
+uncut-stepped w (Goes changes said) uncut new = uncut-row changes w uncut new.ours
 uncut-stepped w (Refused status) uncut new = uncut
 uncut-stepped w Waits uncut new = uncut
 

@@ -4,3 +4,5 @@ pub mod Rows
 pub mod Objects
 pub mod Moves
 pub mod Kept
+pub mod Stood
+pub mod Staying

@@ -23,7 +23,7 @@ use Rattle.laws_uncut.proofs.Objects.{create-ours, destroy-ours, rename-ours, po
 -- ---- one stage
 
 stage_row-ours : (w : World) (c : Caller) (pick : Option Path) (stage : Stage) → IsUncut w →
-    OursOutcome (stage_row w c pick stage)
+    OursOutcome w (stage_row w c pick stage)
 stage_row-ours w c pick (Create s x kind) uncut = create-ours w c s x kind
 stage_row-ours w c pick (Destroy s x) uncut = destroy-ours w c s x
 stage_row-ours w c pick (Rename s x y) uncut = rename-ours w c s x y
@@ -70,52 +70,52 @@ stage_row-ours w c pick (HoldSet s x thread) uncut = hold_set-ours w uncut c s x
 stage_row-ours w c pick (SpaceMakeHeld x) uncut = space_make_held-ours w c x
 
 allowed_row-ours : (w : World) (c : Caller) (pick : Option Path) (stage : Stage) → IsUncut w →
-    OursOutcome (allowed_row w c pick stage)
+    OursOutcome w (allowed_row w c pick stage)
 allowed_row-ours w c pick stage uncut = by (is_denied c stage)
   where
-    by : (t : Bool) → OursOutcome (if t then Refused DENIED else stage_row w c pick stage)
+    by : (t : Bool) → OursOutcome w (if t then Refused DENIED else stage_row w c pick stage)
     by true = refused
     by false = stage_row-ours w c pick stage uncut
 
-with_pick-ours : (chosen : Bool) (pick : Option Path) (o : Outcome) → OursOutcome o → OursOutcome (with_pick chosen pick o)
+with_pick-ours : {w : World} (chosen : Bool) (pick : Option Path) (o : Outcome) → OursOutcome w o → OursOutcome w (with_pick chosen pick o)
 with_pick-ours chosen pick (Refused status) full = search ours-when
 with_pick-ours chosen pick Waits full = waits
 with_pick-ours chosen pick (Goes changes said) full = search ours-when
 
-closed-ours : (c : Caller) (o : Outcome) → OursOutcome o → OursOutcome (closed c o)
-closed-ours c (Refused status) full = by c.is_porter
+closed-ours : {w : World} (c : Caller) (o : Outcome) → OursOutcome w o → OursOutcome w (closed c o)
+closed-ours {w} c (Refused status) full = by c.is_porter
   where
-    by : (porter : Bool) → OursOutcome (closed (record c { is_porter = porter }) (Refused status))
+    by : (porter : Bool) → OursOutcome w (closed (record c { is_porter = porter }) (Refused status))
     by true = goes tt
     by false = goes (tt, tt)
 closed-ours c Waits full = waits
 closed-ours c (Goes changes said) full = full
 
 call_row-ours : (w : World) (c : Caller) (pick : Option Path) (stage : Stage) → IsUncut w →
-    OursOutcome (call_row w c pick stage)
+    OursOutcome w (call_row w c pick stage)
 unfolding call_row
 call_row-ours w c pick stage uncut =
     closed-ours c _ (with_pick-ours (chooses stage) pick (allowed_row w c pick stage) (allowed_row-ours w c pick stage uncut))
 
 -- ---- who moves
 
-goes_on-ours : (w : World) (x : Path) (pick : Option Path) (t : Thread) (mode : Mode) → IsUncut w → OursOutcome (goes_on w x pick t mode)
+goes_on-ours : (w : World) (x : Path) (pick : Option Path) (t : Thread) (mode : Mode) → IsUncut w → OursOutcome w (goes_on w x pick t mode)
 goes_on-ours w x pick t (Running g) uncut = with_pick-ours false pick _ (run_row-ours w uncut (parent x) (slot_of x) g t.counter)
 goes_on-ours w x pick t (Calling (stage ∷ todo) rest) uncut = call_row-ours w (user_at x) pick stage uncut
 goes_on-ours w x pick t mode uncut = waits
 
-user_move-ours : (w : World) (x : Path) (pick : Option Path) (o : Option Thread) → IsUncut w → OursOutcome (user_move w x pick o)
+user_move-ours : (w : World) (x : Path) (pick : Option Path) (o : Option Thread) → IsUncut w → OursOutcome w (user_move w x pick o)
 user_move-ours w x pick None uncut = waits
 user_move-ours w x pick (Some t) uncut = ours-when (is_free w (parent x) t) (goes_on w x pick t t.mode) (λ free. goes_on-ours w x pick t t.mode uncut)
 
-porter_move-ours : (w : World) (x : Path) (pick : Option Path) (stage : Stage) (words : List ℕ) (o : Option Thread) → IsUncut w → OursOutcome (porter_move w x pick stage words o)
+porter_move-ours : (w : World) (x : Path) (pick : Option Path) (stage : Stage) (words : List ℕ) (o : Option Thread) → IsUncut w → OursOutcome w (porter_move w x pick stage words o)
 porter_move-ours w x pick stage words None uncut = waits
 porter_move-ours w x pick stage words (Some t) uncut =
     ours-when (is_porter t.mode && is_unheld w (parent x)) (call_row w (porter_at x words) pick stage) (λ free. call_row-ours w (porter_at x words) pick stage uncut)
 
 -- ---- a move
 
-pub outcome-ours : (w : World) (x : Path) (pick : Option Path) (ask : Ask) → IsUncut w → OursOutcome (outcome w x pick ask)
+pub outcome-ours : (w : World) (x : Path) (pick : Option Path) (ask : Ask) → IsUncut w → OursOutcome w (outcome w x pick ask)
 unfolding outcome
 outcome-ours w x pick asks.Run uncut = user_move-ours w x pick _ uncut
 outcome-ours w x pick (asks.Call stage words) uncut = porter_move-ours w x pick stage words _ uncut

@@ -1,11 +1,23 @@
-//! What no move makes: a pointer that stands in cuts alone. Each law is the contract of a function that does nothing.
+//! What no move makes: a pointer that stands in cuts alone, a porter, a served port. Each law is the contract of a function that does nothing.
 //!
 //! It stands on `laws_further` for the definition, and on `laws_machine` for what readers say of a world.
 #![tactic(auto)]
 
+ghost use Rattle.laws_uncut.specs.Placed.{PortersStood, ServedStood, PortersSpaceStays};
 ghost use Rattle.laws_uncut.specs.Uncut.{MovesKeepUncut};
 
 /// Whatever move is made, a world whose pointers lead somewhere in it or nowhere is such a world after it.
 pub fn moves_keep_a_world_uncut()
     ensures { MovesKeepUncut }
+{}
+
+/// Who is a porter in the last slot of a space after a move was one before it, and what is a served port was one.
+pub fn no_move_makes_a_server()
+    ensures porters { PortersStood }
+    ensures ports { ServedStood }
+{}
+
+/// A space that has a porter after a fit move of a valid world is the one that was there.
+pub fn a_porters_space_stays()
+    ensures { PortersSpaceStays }
 {}
