@@ -5,8 +5,9 @@
 //! What must be written stands in `stdout`, worked by hand from the rules.
 //!
 //! `space`, `cond` and `port` make an object, by a space and a slot, `native`, `calling` and `halted` a
-//! thread in this mode, `reference` one that leads to another object, `page` a page filled with a word
-//! (`making`); `drop` takes a page away. All of these show the store then. Where memory is refused, it must
+//! thread in this mode, `sending` one that has sent the first block of a message to a port, `reference` one
+//! that leads to another object, `page` a page filled with a word (`making`); `drop` takes a page away,
+//! `clear` lets an object's pointer lead nowhere. All of these show the store then. Where memory is refused, it must
 //! be as it was, and is asked once more; so the program writes the same whichever one allocation of a
 //! making is refused (`rt try --fail-alloc 1..`). The other lines show something (`showing`, `subtrees`).
 //!
@@ -18,7 +19,7 @@ mod numbers;
 mod showing;
 mod subtrees;
 
-use crate::making::{make_at_last, put_page_at_last, thing_of};
+use crate::making::{clear_pointer, make_at_last, put_page_at_last, thing_of};
 use anyhow::{Context, bail};
 use fk_store::Store;
 use std::alloc::Global;
@@ -59,6 +60,7 @@ fn step(alloc: Global, store: &mut Store, verb: &str, rest: &str) -> anyhow::Res
             *store = new_store(alloc)?;
             showing::all(alloc, store)
         }
+        "clear" => clear_pointer(alloc, store, who),
         "page" => put_page_at_last(alloc, store, who, numbers[2]),
         "drop" => {
             store.drop_page(who.space, who.slot);

@@ -1,5 +1,7 @@
 //! Objects and pages that are made, at the second try where memory is refused at the first.
-ghost use Rattle.std.specs.Prelude.{IfSome};
+ghost use Rattle.std.specs.Prelude.{◌≡◌, Some, None, IfSome};
+ghost use Rattle.fk_model.specs.declared.thread.Peer.TheVariants as peers;
+ghost use Rattle.fk_model.specs.declared.thread.Turn.TheVariants as turns;
 ghost use Rattle.fk_store.specs.Makes.{IsNext};
 ghost use Rattle.fk_store.specs.Named.{OnNamed};
 ghost use Rattle.fk_store.specs.WellFormed.{IsSized};
@@ -8,7 +10,7 @@ ghost use Rattle.fk_store.specs.World.{world, IsLive};
 use crate::numbers::name_of;
 use crate::showing;
 use anyhow::Context;
-use fk_model::{Body, Mode, NoMemory, Ptr, Thread, Who};
+use fk_model::{Body, Mode, NoMemory, Peer, Ptr, Talk, Thread, Turn, Who};
 use fk_store::Store;
 use std::alloc::Global;
 
@@ -17,9 +19,12 @@ use std::alloc::Global;
 pub enum Thing {
     Space,
     Cond,
-    Port,
+    /// A native server serves it or doesn't.
+    Port(bool),
     Reference(Who),
     Thread(Mode),
+    /// A thread that sends to the native server of a port, one block of it so far.
+    Sending(Who),
 }
 
 /// What a line makes; nothing where it makes nothing.
@@ -27,8 +32,9 @@ pub fn thing_of(verb: &str, numbers: &[u64; 4]) -> Option<Thing> {
     Some(match verb {
         "space" => Thing::Space,
         "cond" => Thing::Cond,
-        "port" => Thing::Port,
+        "port" => Thing::Port(numbers[2] == 1),
         "reference" => Thing::Reference(name_of(numbers[2], numbers[3]).ok()?),
+        "sending" => Thing::Sending(name_of(numbers[2], numbers[3]).ok()?),
         "native" => Thing::Thread(Mode::Native),
         "calling" => Thing::Thread(Mode::Calling),
         "halted" => Thing::Thread(Mode::Halted(u8::try_from(numbers[2]).ok()?)),
@@ -54,23 +60,50 @@ fn body_of(store: &Store, thing: &Thing) -> Option<Body>
             })
         }
         Thing::Cond => Some(Body::Cond),
-        Thing::Port => Some(Body::Port {
-            set: None,
-            served: false,
-        }),
+        Thing::Port(served) => Some(Body::Port { set: None, served }),
         Thing::Reference(to) => {
             store.at(to)?;
             Some(Body::Reference { to: Ptr::At(to) })
         }
-        Thing::Thread(mode) => Some(Body::Thread(Thread {
-            regs: [0; 16],
-            pc: 0,
-            mode,
-            stops: 0,
-            talk: None,
-            fault: None,
-        })),
+        Thing::Thread(mode) => Some(Body::Thread(thread_in(mode))),
+        Thing::Sending(port) => {
+            store.at(port)?;
+            Some(Body::Thread(sending_to(port)))
+        }
     }
+}
+
+/// A thread in a mode, with empty registers.
+fn thread_in(mode: Mode) -> Thread
+    ensures talk { result.talk ≡ None }
+    ensures fault { result.fault ≡ None }
+{
+    Thread {
+        regs: [0; 16],
+        pc: 0,
+        mode,
+        stops: 0,
+        talk: None,
+        fault: None,
+    }
+}
+
+/// A thread that sends 70 words to the native server of a port, after the first block of 64.
+fn sending_to(port: Who) -> Thread
+    ensures talk { result.talk ≡ Some (record { port = port; peer = peers.Service; turn = turns.Client; moved = 64 }) }
+    ensures fault { result.fault ≡ None }
+{
+    let mut thread = thread_in(Mode::Calling);
+    thread.regs[0] = 34;
+    thread.regs[2] = 192;
+    thread.regs[3] = 6;
+    thread.talk = Some(Talk {
+        port,
+        peer: Peer::Service,
+        turn: Turn::Client,
+        moved: 64,
+    });
+    thread
 }
 
 /// Makes a thing in an empty slot of a live space.
@@ -123,5 +156,11 @@ pub fn put_page_at_last(
         }
         put_page(store, who, word).ok().context("no memory")?;
     }
+    showing::all(alloc, store)
+}
+
+/// The pointer of an object leads nowhere, and shows the store then.
+pub fn clear_pointer(alloc: Global, store: &mut Store, who: Who) -> anyhow::Result<String> {
+    store.point(who, Ptr::Null);
     showing::all(alloc, store)
 }

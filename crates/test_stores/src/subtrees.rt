@@ -26,6 +26,7 @@ fn add_pointer(text: &mut String, pointer: &CutPtr) -> anyhow::Result<()> {
         CutPtr::Null => text.push_str(" null")?,
         CutPtr::Dead => text.push_str(" dead")?,
         CutPtr::Out(slot) => write!(text, " out {slot}")?,
+        CutPtr::Outside => text.push_str(" outside")?,
         CutPtr::At(path) => {
             let path = path.as_slice();
             write!(text, " at {path:?}")?;
@@ -35,12 +36,25 @@ fn add_pointer(text: &mut String, pointer: &CutPtr) -> anyhow::Result<()> {
     Ok(())
 }
 
-/// Adds an object as it is seen: its path, the kind that its record begins with, and its pointers.
+/// Adds whose turn it is in the talk of a thread, and how many words were moved in it.
+fn add_talk(text: &mut String, words: &[u64; 32]) -> anyhow::Result<()> {
+    let (turn, moved) = (words[21], words[22]);
+    if turn != 0 {
+        write!(text, " turn {turn} moved {moved}")?;
+    }
+    Ok(())
+}
+
+/// Adds an object as it is seen: its path, the kind that its record begins with, its pointers, and the talk that
+/// the record of a thread shows.
 fn add_object(text: &mut String, object: &CutObject) -> anyhow::Result<()> {
     let (path, kind) = (object.path.as_slice(), object.words[0]);
     write!(text, "{path:?} {kind}")?;
     for pointer in &object.ptrs {
         add_pointer(text, pointer)?;
+    }
+    if kind == 8 {
+        add_talk(text, &object.words)?;
     }
     text.push_str("; ")?;
     Ok(())
