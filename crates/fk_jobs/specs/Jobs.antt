@@ -1,0 +1,121 @@
+-- A scenario's jobs in code: what is planned, how the first of them have ended, and what the next one has come to.
+use Rattle.std.specs.Prelude.{◌≡◌, ℕ, Bool, false, List, [], ◌∷◌, ◌++◌, map, length, Option, Some, None, option_map, is_some}
+use Rattle.std.specs.List.{slice_get}
+use Rattle.fk_model.specs.declared.moves.Ask.{Ask}
+use Rattle.fk_model.specs.declared.moves.Ask.TheVariants as asks
+use Rattle.laws_jobs.specs.Machines.{Head}
+use Rattle.laws_jobs.specs.Machines.Head.{Stops, Asks}
+use Rattle.laws_checkpoint.specs.Checkpoint.State.{Holds}
+use Rattle.laws_checkpoint.specs.Checkpoint.End.{Gone}
+use Rattle.laws_house.specs.Houses.{Job, State, End, machine, begins}
+use Rattle.laws_house.specs.Houses.Task.{Checkpoint}
+use Rattle.laws_house.specs.Houses.State.{Checking}
+use Rattle.laws_house.specs.Houses.End.{Checked}
+use Rattle.laws_runs.specs.Cores.{JobEnd, Work, work_of}
+use Rattle.laws_runs.specs.Cores.JobEnd.{Worked, Idle}
+use Rattle.laws_runs.specs.Cores.Unmoved.{Dead}
+use Rattle.fk_jobs.specs.declared.plan.Plan.{Plan}
+use Rattle.fk_jobs.specs.declared.jobs.Ended.{Ended}
+
+-- ---- what is planned
+
+abbrev pub job_of : Plan → Job
+job_of p = record { nester = p.nester; at = p.at; task = Checkpoint p.slot }
+
+abbrev pub first_state : Plan → State
+first_state p = Checking p.slot Holds
+
+-- ---- jobs one after the other
+
+-- all of them, how the first have ended, and the next one, where it has made a move; and whether there is room for an answer
+pub record Queue : Type 0 where
+  pub jobs : List Job
+  pub ends : List (JobEnd End)
+  pub work : Option (Work State)
+  pub ready : Bool
+
+-- the one whose turn it is
+abbrev pub current : Queue → Option Job
+current q = slice_get q.jobs (length q.ends)
+
+abbrev pub first_of : List (JobEnd End) → Option Job → Option State
+first_of ends None = None
+first_of ends (Some j) = begins j ends
+
+abbrev pub state_from : Option (Work State) → Option State → Option State
+state_from (Some k) first = Some k.state
+state_from None first = first
+
+-- its state, or its first one
+abbrev pub state_of : Queue → Option State
+state_of q = state_from q.work (first_of q.ends (current q))
+
+-- ---- what it asks for, and what it hears
+
+-- a machine's next call, where it has one to make
+abbrev pub call_at : Head End → Option Ask
+call_at (Asks stage words) = Some (asks.Call stage words)
+call_at (Stops end) = None
+
+abbrev pub asked_by : Option State → Option Ask
+asked_by None = None
+asked_by (Some s) = call_at (machine.head s)
+
+-- with what a machine ends
+abbrev pub end_at : Head End → End
+end_at (Stops end) = end
+end_at (Asks stage words) = Checked Gone
+
+-- it goes on, or has ended with the move at this place of the history
+abbrev pub goes_on : Queue → ℕ → ℕ → State → Head End → Queue
+goes_on q begun events s (Asks stage words) =
+    record { jobs = q.jobs; ends = q.ends; work = Some (record { begun = begun; state = s }); ready = false }
+goes_on q begun events s (Stops end) = record { jobs = q.jobs; ends = q.ends ++ Worked end begun events ∷ []; work = None; ready = false }
+
+abbrev pub hears_at : Queue → ℕ → ℕ → State → Queue
+hears_at q begun events s = goes_on q begun events s (machine.head s)
+
+abbrev pub hears_by : Queue → ℕ → ℕ → List ℕ → Option (Work State) → Queue
+hears_by q events status words None = q
+hears_by q events status words (Some k) = hears_at q k.begun events (machine.next k.state status words)
+
+-- an answer to the call at a place of the history
+abbrev pub hears : Queue → ℕ → ℕ → List ℕ → Queue
+hears q events status words = hears_by q events status words (work_of events q.work (first_of q.ends (current q)))
+
+-- the one at work has ended with the move at this place: the next one's turn has come
+abbrev pub passed_by : Queue → ℕ → Option (Work State) → Queue
+passed_by q last None = q
+passed_by q last (Some k) =
+    record { jobs = q.jobs; ends = q.ends ++ Worked (end_at (machine.head k.state)) k.begun last ∷ []; work = None; ready = false }
+
+abbrev pub passed : Queue → ℕ → Queue
+passed q last = passed_by q last q.work
+
+-- the one whose turn it is has ended without a move
+abbrev pub with_dead : Queue → Queue
+with_dead q = record { jobs = q.jobs; ends = q.ends ++ Idle Dead ∷ []; work = q.work; ready = false }
+
+-- ---- the same as the code has it
+
+abbrev pub shown_end : {W : Type 0} → (W → State) → Option (Ended W) → JobEnd End
+shown_end state None = Idle Dead
+shown_end state (Some e) = Worked (end_at (machine.head (state e.worker))) e.begun e.last
+
+abbrev pub shown_ends : {W : Type 0} → (W → State) → List (Option (Ended W)) → List (JobEnd End)
+shown_ends state ends = map (shown_end state) ends
+
+abbrev pub shown_work : {W : Type 0} → (W → State) → Option W → Option ℕ → Option (Work State)
+shown_work state None begun = None
+shown_work state (Some w) None = None
+shown_work state (Some w) (Some begun) = Some (record { begun = begun; state = state w })
+
+-- the place of its first move, which is this one where it has made none
+abbrev pub begun_from : Option ℕ → ℕ → ℕ
+begun_from None events = events
+begun_from (Some begun) events = begun
+
+-- the machine of the one whose turn it is, at its first state where it has made no move
+pub record IsSeated {W : Type 0} (state : W → State) (worker : Option W) (begun : Option ℕ) (plan : Option Plan) : Type 0 where
+  pub there : is_some worker ≡ is_some plan
+  pub fresh : begun ≡ None → option_map state worker ≡ option_map first_state plan

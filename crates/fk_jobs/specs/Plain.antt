@@ -1,0 +1,33 @@
+-- Calls that are fit wherever they are made, and pick nobody.
+use Rattle.std.specs.Prelude.{◌≡◌, ℕ, Bool, true, false, Some}
+use Rattle.fk_model.specs.declared.moves.Ask.{Ask}
+use Rattle.fk_model.specs.declared.moves.Ask.TheVariants as asks
+use Rattle.fk_model.specs.declared.stage.Stage.{Stage}
+use Rattle.fk_model.specs.declared.stage.Stage.TheVariants.{Wait, CondSignal, LinkSet, LinkPark, FaultSet, FaultPark}
+use Rattle.fk_model.specs.Places.{Path}
+use Rattle.fk_model.specs.Valid.{is_fit}
+use Rattle.fk_model.specs.World.{World}
+use Rattle.laws_checkpoint.specs.Checkpoint as checkpoints
+use Rattle.laws_house.specs.Houses.{machine}
+use Rattle.laws_house.specs.Houses.State.{Checking}
+use Rattle.fk_jobs.specs.Jobs.{call_at}
+
+-- none that picks somebody, and none that makes a talk or a fault again
+abbrev pub is_plain_stage : Stage → Bool
+is_plain_stage (Wait set) = false
+is_plain_stage (CondSignal cond) = false
+is_plain_stage (LinkSet s x port server) = false
+is_plain_stage (LinkPark s x port) = false
+is_plain_stage (FaultSet s x port taker) = false
+is_plain_stage (FaultPark s x port taken) = false
+is_plain_stage other = true
+
+abbrev pub is_plain : Ask → Bool
+is_plain (asks.Call stage words) = is_plain_stage stage
+is_plain other = false
+
+abbrev pub CheckpointsAskPlainly : Type 0
+CheckpointsAskPlainly = (slot : ℕ) (s : checkpoints.State) (ask : Ask) → call_at (machine.head (Checking slot s)) ≡ Some ask → is_plain ask ≡ true
+
+abbrev pub PlainIsFit : Type 0
+PlainIsFit = (w : World) (x : Path) (ask : Ask) → is_plain ask ≡ true → is_fit w x ask ≡ true

@@ -1,0 +1,19 @@
+//! The jobs of a scenario, one after the other, each a machine over answers.
+//!
+//! It stands on `laws_house` for what jobs are and on `laws_runs` for what a run makes of them. It is generic in the code of
+//! a job, of which it wants a machine's contract (`Worker`), and knows nothing of worlds: who has it says when an answer comes,
+//! and when a job has ended without a move.
+//!
+//! It promises that what it asks for is the next call of the job whose turn it is, that an answer brings that job on, or to its end
+//! with the places of its first move and its last, and that the next one's turn has come then; and that each call is fit wherever it is
+//! made and picks nobody (`specs/Plain.antt`). Taking an answer takes no memory: `reserve` makes room before. There are checkpoints alone
+//! as yet.
+#![tactic(auto)]
+
+mod jobs;
+mod plan;
+mod worker;
+
+pub use jobs::{Ended, Jobs};
+pub use plan::Plan;
+pub use worker::{Worker, checkpoints_ask_plainly, plain_is_fit};

@@ -1,0 +1,50 @@
+//! What a job's code has to promise.
+ghost use Rattle.std.specs.Prelude.{◌≡◌, true, OnOk, IfSome, is_some, take};
+ghost use Rattle.laws_checkpoint.specs.Checkpoint.State.{Holds};
+ghost use Rattle.laws_house.specs.Houses.{State, machine};
+ghost use Rattle.laws_house.specs.Houses.State.{Checking};
+ghost use Rattle.fk_jobs.specs.Jobs.{call_at};
+ghost use Rattle.fk_jobs.specs.Plain.{is_plain, CheckpointsAskPlainly, PlainIsFit};
+
+use fk_model::{Answer, Ask, NoMemory};
+use std::alloc::Global;
+
+/// A job's machine in code.
+pub trait Worker {
+    ghost state: { Self → State };
+
+    ghost has_room: { Self → Type 0 };
+
+    /// A checkpoint that is about to begin, of the subtree in a slot of its nester.
+    fn checkpoint(alloc: Global, slot: u8) -> Self
+        ensures { state result ≡ Checking slot Holds };
+
+    /// Its next call. It has none exactly where it has ended.
+    fn next(&self) -> Option<Ask>
+        ensures next { result ≡ call_at (machine.head (state self.now)) }
+        ensures plain { IfSome result (λ ask. is_plain ask ≡ true) };
+
+    /// Whether it has a call to make.
+    fn is_at_call(&self) -> bool
+        ensures { result ≡ is_some (call_at (machine.head (state self.now))) };
+
+    /// Makes room for one answer, and changes nothing else.
+    fn reserve(&mut self) -> Result<(), NoMemory>
+        ensures same { state self.new ≡ state self.old }
+        ensures room { OnOk result (has_room self.new) };
+
+    /// Takes the answer to its next call. That uses up its room.
+    fn absorb(&mut self, answer: &Answer)
+        requires { has_room self.old }
+        ensures { state self.new ≡ machine.next (state self.old) answer.now.status (take answer.now.len answer.now.words) };
+}
+
+/// Each call of a checkpoint is plain.
+pub fn checkpoints_ask_plainly()
+    ensures { CheckpointsAskPlainly }
+{}
+
+/// What is plain is fit wherever it is made.
+pub fn plain_is_fit()
+    ensures { PlainIsFit }
+{}
