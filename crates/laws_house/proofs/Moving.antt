@@ -34,6 +34,7 @@ use Rattle.laws_restore.specs.Rest.{IsSameFar}
 use Rattle.laws_restore.proofs.Readied.{is_ready as restore_is_ready}
 use Rattle.laws_restore.proofs.Resting.{leaves_far}
 use Rattle.laws_restore.proofs.Lasting.{occupied_is_exact}
+use Rattle.laws_restore.proofs.Looked.{no_port_is_exact}
 use Rattle.laws_rooms.specs.Rooms.{rooms_of}
 use Rattle.laws_rooms.specs.Restoring.{bound_by, restore_of}
 use Rattle.laws_rooms.proofs.Roomed.{valid_is_roomed}
@@ -210,6 +211,10 @@ module _ {V : Type 0} (jobs : List Job) (servers : Servers V) (first c : Core St
             named = may.named;
             so = image_restore_ends_so slot j.nester image pairs (world_at run begun) (world_at run (last + 1)) e.worked.nester part.state end (record { low = names.0; users = names.1; valid = valid }) may part.part stops;
             taken = occupied_is_exact slot j.nester (bound_by pairs) (picture image) (rooms_of image) (world_at run begun) (world_at run (last + 1)) e.worked.nester part.state end names.0
+                (valid_is_roomed (bound_by pairs) image (pairs_bind pairs names.1) valid) may part.part stops;
+            state = part.state;
+            work = part.part;
+            missing = no_port_is_exact slot j.nester (bound_by pairs) (picture image) (rooms_of image) (world_at run begun) (world_at run (last + 1)) e.worked.nester part.state end names.0
                 (valid_is_roomed (bound_by pairs) image (pairs_bind pairs names.1) valid) may part.part stops;
           }
 

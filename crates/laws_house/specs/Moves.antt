@@ -18,7 +18,9 @@ use Rattle.laws_checkpoint.specs.Checkpoint as checkpoints
 use Rattle.laws_restore.specs.Restore as restores
 use Rattle.laws_restore.specs.Ends.{EndsSo}
 use Rattle.laws_restore.specs.Rest.{IsSameFar}
-use Rattle.laws_rooms.specs.Restoring.{bound_by}
+use Rattle.laws_restore.specs.Exact.{EndsByMiss}
+use Rattle.laws_rooms.specs.Rooms.{rooms_of}
+use Rattle.laws_rooms.specs.Restoring.{bound_by, restore_of}
 use Rattle.laws_runs.specs.Cores.{Servers, Work, Core, IsRun, world_at}
 use Rattle.laws_runs.specs.Cores.JobEnd.{Worked}
 use Rattle.laws_runs.specs.Cores.Asker.{Job as Asked_by_job}
@@ -67,6 +69,10 @@ pub record EndedSo (birth slot : ℕ) (pairs : List (ℕ × ℕ)) (image : Image
   pub so : EndsSo w v nester slot (bound_by pairs) (picture image) end
   -- it is told that the slot was taken exactly where it was
   pub taken : (end ≡ restores.Occupied → IsSome (w.body (slot ∷ nester))) × (IsSome (w.body (slot ∷ nester)) → end ≡ restores.Occupied)
+  -- and of no port exactly where it led to a slot of its nester in which none stood; then of the lowest slot of its image that is bound there
+  pub state : restores.State
+  pub work : AtWork (restore_of slot image pairs) nester w restores.Makes v state
+  pub missing : EndsByMiss slot (bound_by pairs) (rooms_of image) work.run end
 
 abbrev pub RestoresEndSo : Type 0 → Type 0
 RestoresEndSo V = (jobs : List Job) (servers : Servers V) (first c : Core State End V) (past : List Move) (run : IsRun (house jobs servers) first past c) →

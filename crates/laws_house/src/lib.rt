@@ -78,7 +78,8 @@ pub fn jobs_are_ready<V>()
 {}
 
 /// A restore of a run ends so: its subtree stands where nothing stood; its slot was taken, which it is told exactly there, and
-/// nothing is changed; or a port was missing, and nothing stands in the slot.
+/// nothing is changed; or a port was missing, which it is told exactly where it led to a slot without one, and nothing stands in
+/// the slot.
 pub fn restores_end_so<V>()
     ensures { RestoresEndSo V }
 {}
