@@ -5,6 +5,7 @@ ghost use Rattle.laws_house.specs.Houses.{State, machine};
 ghost use Rattle.laws_house.specs.Houses.State.{Checking};
 ghost use Rattle.fk_jobs.specs.Jobs.{call_at};
 ghost use Rattle.fk_jobs.specs.Plain.{is_plain, CheckpointsAskPlainly, PlainIsFit};
+ghost use Rattle.fk_jobs.specs.Turns.{JobMovesSo, JobEndsSo};
 
 use fk_model::{Answer, Ask, NoMemory};
 use std::alloc::Global;
@@ -47,4 +48,14 @@ pub fn checkpoints_ask_plainly()
 /// What is plain is fit wherever it is made.
 pub fn plain_is_fit()
     ensures { PlainIsFit }
+{}
+
+/// A job's move in a run is what its jobs hear of it.
+pub fn jobs_move_so<V>()
+    ensures { JobMovesSo V }
+{}
+
+/// And so is an end without a move.
+pub fn jobs_end_so<V>()
+    ensures { JobEndsSo V }
 {}
