@@ -1,5 +1,5 @@
 -- Proceeding: an instruction is a turn, and one move after another.
-use Rattle.std.proofs.Common.{◌≡◌, ℕ, ◌+◌, ◌<◌, Bool, true, false, if◌then◌else◌, map, Option, Some, None, option_map, Result, Ok, Err, IfOk, IfNone, OnErr, refl, sym, ap, subst, ◌∙◌}
+use Rattle.std.proofs.Common.{◌≡◌, ℕ, ◌+◌, ◌<◌, Bool, true, false, if◌then◌else◌, map, is_some, Option, Some, None, option_map, Result, Ok, Err, IfOk, IfNone, OnErr, refl, sym, ap, subst, ◌∙◌}
 use Rattle.std.specs.Bool.{OnTrue}
 use Rattle.fk_model.specs.declared.moves.Ask.TheVariants as asks
 use Rattle.fk_model.specs.declared.moves.Move.{Move}
@@ -36,3 +36,8 @@ proceeded m n services budget events who few made ends =
   where
     tells : (port : Who) → says_to (step_of (world m) (event_of (world m) asks.Run (record { who = who; pick = None }))).said (named (world m) port) ≡ says_to_who says.Nothing port
     tells port = ap (λ (s : Step). says_to s.said (named (world m) port)) made.1
+
+-- a move that picks nobody
+pub unpicked : (who : Who) (pick : Option Who) → is_some pick ≡ false → ◌≡◌ {A = Move} (record { who = who; pick = None }) (record { who = who; pick = pick })
+unpicked who None none = refl
+unpicked who (Some other) none = absurd (cc)

@@ -164,6 +164,53 @@ impl<S: Service + Drop> Core<S> {
         ensures budget { self.new.budget ≡ self.old.budget }
         ensures events { IfOk result (λ made. OnTrue made (self.new.events ≡ self.old.events + 1)) }
     {
+        if self.go_plain(m) {
+            return Ok(true);
+        }
+        self.go_told(table, m)
+    }
+
+    /// Makes an instruction, where that is what a move is and where it is ready, and answers whether it did; else all is as
+    /// before. What other moves tell takes much room; this needs none.
+    fn go_plain(&mut self, m: &Move) -> bool
+        requires few { self.old.events < self.old.budget }
+        ensures made { OnTrue result (IsAdvanced self.old.budget (core_at self.old.kernel self.old.services.list self.old.events) (Some m.now)
+            (core_at self.new.kernel self.new.services.list self.new.events)) }
+        ensures kernel { OnFalse result (self.new.kernel ≡ self.old.kernel) }
+        ensures events { OnFalse result (self.new.events ≡ self.old.events) }
+        ensures services { self.new.services.list ≡ self.old.services.list }
+        ensures budget { self.new.budget ≡ self.old.budget }
+    {
+        if m.pick.is_some() {
+            return false;
+        }
+        if self.kernel.proceed(m.who) {
+            self.events += 1;
+            self.last = Some(m.who);
+            self.heard = None;
+            return true;
+        }
+        false
+    }
+
+    /// The same of any move.
+    #[inline(never)]
+    fn go_told(&mut self, table: &Table, m: &Move) -> Result<bool, NoMemory>
+        requires few { self.old.events < self.old.budget }
+        requires fits { AllFit (map (λ r. r.rule) table.now.list.items) self.old.services.list }
+        ensures made { IfOk result (λ made. OnTrue made (IsReadyMove (core_at self.old.kernel self.old.services.list self.old.events) m.now
+            × IsTurned (core_at self.old.kernel self.old.services.list self.old.events) m.now
+            (core_at self.new.kernel self.new.services.list self.new.events))) }
+        ensures unready { IfOk result (λ made. OnFalse made
+            (IsReadyMove (core_at self.old.kernel self.old.services.list self.old.events) m.now → ⊥)) }
+        ensures same { IfOk result (λ made. OnFalse made (core_at self.new.kernel self.new.services.list self.new.events
+            ≡ core_at self.old.kernel self.old.services.list self.old.events)) }
+        ensures lacking { OnErr result (core_at self.new.kernel self.new.services.list self.new.events
+            ≡ core_at self.old.kernel self.old.services.list self.old.events) }
+        ensures fits { AllFit (map (λ r. r.rule) table.now.list.items) self.new.services.list }
+        ensures budget { self.new.budget ≡ self.old.budget }
+        ensures events { IfOk result (λ made. OnTrue made (self.new.events ≡ self.old.events + 1)) }
+    {
         self.services.reserve()?;
         let Some(ask) = self.ask(m.who) else {
             return Ok(false);

@@ -1,3 +1,4 @@
 pub mod Replays
 pub mod Made
 pub mod Firsts
+pub mod Replayed

@@ -1,5 +1,5 @@
 -- What a run comes to, by a trace or by itself, from its first core.
-use Rattle.std.specs.Prelude.{◌≡◌, ◌<◌, ℕ, List, [], map, length, Option, Some, None, string_bytes}
+use Rattle.std.specs.Prelude.{◌≡◌, ◌<◌, ◌≤◌, ℕ, List, [], map, length, Option, Some, None, string_bytes, All}
 use Rattle.fk_model.specs.declared.moves.Move.{Move}
 use Rattle.fk_model.specs.Who.{named}
 use Rattle.laws_runs.specs.Cores.{IsRun}
@@ -18,7 +18,7 @@ use Rattle.fk_report.specs.Report.{run_text}
 use Rattle.fk_report.specs.Threads.{AreThreads, HaveHalted}
 use Rattle.fk_runs.specs.Replay.{MayPlay}
 use Rattle.fk_scenario.specs.declared.scenario.Scenario.{Scenario}
-use Rattle.fk_trace_text.specs.Trace.{Spells, IsFirstBad}
+use Rattle.fk_trace_text.specs.Trace.{Spells, IsFirstBad, IsMove, trace_text}
 
 -- the core with which a scenario begins: its first world, and its servers as they are at first, each at its port
 pub record IsFirst (s : Scenario) (c : RunCore) : Type 0 where
@@ -44,6 +44,7 @@ status_of_end budget ends.Listed = Done
 
 -- what is prepared of a core to which a history has come
 pub record IsMade (last : RunCore) (budget : ℕ) (history : List Move) (made : Prepared) : Type 0 where
+  pub within : length history ≤ budget
   pub end : End
   pub report : made.report ≡ Some (record { history = history; end = end })
   pub ends : IsEnd budget last end
@@ -57,6 +58,7 @@ pub record IsMade (last : RunCore) (budget : ℕ) (history : List Move) (made : 
 pub record IsReported (first : RunCore) (budget : ℕ) (report : Report) (text : List ℕ) : Type 0 where
   pub last : RunCore
   pub run : IsRun house first report.history last
+  pub within : length report.history ≤ budget
   pub end : IsEnd budget last report.end
   pub threads : List ThreadState
   pub are : AreThreads last.world threads
@@ -73,3 +75,8 @@ abbrev pub IsRunAlone : RunCore → ℕ → Status → Option Report → List �
 IsRunAlone first budget status None text = ⊥
 IsRunAlone first budget status (Some report) text =
     IsReported first budget report text × (¬ (report.end ≡ ends.Listed)) × (status ≡ status_of_end budget report.end)
+
+-- the trace of a run by itself plays to the same status, report and text. The names in a history are as small as their types
+abbrev pub RunPlaysAgain : Type 0
+RunPlaysAgain = (first : RunCore) (budget : ℕ) (status : Status) (report : Report) (text : List ℕ) → All IsMove report.history
+    → IsRunAlone first budget status (Some report) text → IsPlayed first budget (trace_text report.history) status (Some report) text

@@ -9,10 +9,12 @@
 //! spells or those that were chosen while one was left; or the index of the first line that is bad.
 #![tactic(auto)]
 
+mod again;
 mod first;
 mod traces;
 mod whole;
 
+pub use again::a_run_plays_again;
 pub use first::first_core;
 pub use traces::{ReplayFail, replay};
 pub use whole::{play_core, run_core};

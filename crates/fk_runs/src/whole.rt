@@ -44,6 +44,7 @@ fn prepared<S: Service + Drop>(
     history: Items<Move>,
 ) -> Result<Prepared, NoMemory>
     requires within { core.now.events ≤ core.now.budget }
+    requires few { length history ≤ core.now.budget }
     ensures { IfOk result (λ made. IsMade (core_at core.now.kernel core.now.services.list core.now.events) core.now.budget history made) }
 {
     let threads = threads_of(alloc, core.kernel().store())?;

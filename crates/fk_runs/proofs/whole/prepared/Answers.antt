@@ -9,6 +9,7 @@ pub returns : goal.returns
 returns g c =
     let states = states-shown g.S.Service.meaning c.services.result.now ∙ ap (map (λ (e : Who × State). e.1)) c.services.ensures in
     record {
+      within = c.requires.few;
       end = c.end_of-end.result;
       report = refl;
       ends = c.end_of-end.ensures;

@@ -5,7 +5,7 @@ use Rattle.fk_core.specs.Cores.{core_at}
 use Rattle.fk_core.specs.Served.{asked, told}
 use Rattle.fk_core.proofs.Acting.{ready-asked}
 use Rattle.fk_core.proofs.Turning.{fit-asked, turned, fits-told}
-use Rattle.fk_core.proofs.turns.Core.go.Goals as goal
+use Rattle.fk_core.proofs.turns.Core.go_told.Goals as goal
 
 pub attempt-requires : goal.attempt-requires
 attempt-requires g c =

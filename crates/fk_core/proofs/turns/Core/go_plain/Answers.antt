@@ -1,0 +1,17 @@
+use Rattle.std.proofs.Common.{◌≡◌, ◌∙◌, ◌+◌, false, is_some, Some, sym, subst}
+use Rattle.std.proofs.lemmas.Bool.{OnTrue_at}
+use Rattle.fk_model.specs.declared.moves.Move.{Move}
+use Rattle.fk_core.specs.Cores.{core_at, IsAdvanced}
+use Rattle.fk_core.proofs.Proceeding.{proceeded, unpicked}
+use Rattle.fk_core.proofs.turns.Core.go_plain.Goals as goal
+
+pub returns-then-proceed-clause-made : goal.returns-then-proceed-clause-made
+returns-then-proceed-clause-made g c =
+    let self = c.args.self.now in
+    let m = c.args.m.now in
+    let none : is_some m.pick ≡ false = sym c.is_some.ensures ∙ c.if-is_some.false in
+    subst (λ (mv : Move). IsAdvanced self.budget (core_at self.kernel self.services.list self.events) (Some mv)
+        (core_at c.proceed.new.self self.services.list (self.events + 1)))
+    (unpicked m.who m.pick none)
+    (proceeded self.kernel c.proceed.new.self self.services.list self.budget self.events m.who c.requires.few
+    (OnTrue_at c.if-proceed.true c.proceed.ensures.made) (OnTrue_at c.if-proceed.true c.proceed.ensures.ended))
