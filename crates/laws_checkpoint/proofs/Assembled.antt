@@ -45,7 +45,8 @@ drop_more (suc m) n (x ∷ xs) = ap (λ (k : ℕ). drop k (x ∷ xs)) (suc_plus 
 all_append : (show : Path → ℕ → Ptr) (ts us : List Task) → all_pointers show (ts ++ us) ≡ all_pointers show ts ++ all_pointers show us
 all_append show [] us = refl
 all_append show (t ∷ ts) us =
-    ap (λ (ps : List Ptr). pointers_of show t t.fields ++ ps) (all_append show ts us) ∙ sym (append_assoc (pointers_of show t t.fields) (all_pointers show ts) (all_pointers show us))
+    ap (λ (ps : List Ptr). pointers_of show t t.fields ++ ps) (all_append show ts us)
+    ∙ sym (append_assoc (pointers_of show t t.fields) (all_pointers show ts) (all_pointers show us))
 
 module _ (w : World) (nester : Path) (slot : ℕ) (sp : List Path)
     (shaped : (q : Path) (t : Thread) → and_then thread_of (w.body (q ++ slot ∷ nester)) ≡ Some t → IsShapedMode t.mode) where
@@ -157,12 +158,14 @@ module _ (w : World) (nester : Path) (slot : ℕ) (sp : List Path)
           one : Item
           one = record { number = k; words = its.words }
 
-          joined : objects_with sp (one ∷ rest) ((mine ++ items_pointers q rest) ++ more) ≡ objects_with sp (one ∷ rest) (mine ++ (items_pointers q rest ++ more))
+          joined : objects_with sp (one ∷ rest) ((mine ++ items_pointers q rest) ++ more)
+              ≡ objects_with sp (one ∷ rest) (mine ++ (items_pointers q rest ++ more))
           joined = ap (objects_with sp (one ∷ rest)) (append_assoc mine (items_pointers q rest) more)
 
           shifted : objects_with sp rest (drop (asked_of one) (mine ++ (items_pointers q rest ++ more))) ≡ objects_from (rec_at c sp q) n (suc k)
           shifted =
-              ap (λ (n : ℕ). objects_with sp rest (drop n (mine ++ (items_pointers q rest ++ more)))) (sym (length_map (show (k ∷ q)) (pointers_by (word its.words 0)))) ∙
+              ap (λ (n : ℕ). objects_with sp rest (drop n (mine ++ (items_pointers q rest ++ more))))
+              (sym (length_map (show (k ∷ q)) (pointers_by (word its.words 0)))) ∙
               ap (objects_with sp rest) (drop_length mine (items_pointers q rest ++ more)) ∙ later more
 
   behind : (q : Path) (is : List Item) (more : List Ptr) → drop (asked_of_all is) (items_pointers q is ++ more) ≡ more
@@ -172,7 +175,8 @@ module _ (w : World) (nester : Path) (slot : ℕ) (sp : List Path)
       let mine = map (show (i.number ∷ q)) (pointers_by (word i.words 0)) in
       drop_more (asked_of i) (asked_of_all is) ((mine ++ items_pointers q is) ++ more) ∙
       ap (λ (ps : List Ptr). drop (asked_of_all is) (drop (asked_of i) ps)) (append_assoc mine (items_pointers q is) more) ∙
-      ap (λ (n : ℕ). drop (asked_of_all is) (drop n (mine ++ (items_pointers q is ++ more)))) (sym (length_map (show (i.number ∷ q)) (pointers_by (word i.words 0)))) ∙
+      ap (λ (n : ℕ). drop (asked_of_all is) (drop n (mine ++ (items_pointers q is ++ more))))
+      (sym (length_map (show (i.number ∷ q)) (pointers_by (word i.words 0)))) ∙
       ap (drop (asked_of_all is)) (drop_length mine (items_pointers q is ++ more)) ∙ behind q is more
 
   pages_are : (pages : ℕ → Option (List ℕ)) (n k : ℕ) → map page_rec (items_from pages n k) ≡ pages_from pages n k
@@ -196,7 +200,8 @@ module _ (w : World) (nester : Path) (slot : ℕ) (sp : List Path)
   fewer : (g : ℕ → Option Rec) (m n k : ℕ) → ((j : ℕ) → g (n + k + j) ≡ None) → objects_from g (n + m) k ≡ objects_from g n k
   unfolding objects_from
   fewer g m zero k none =
-      ap (λ (i : ℕ). objects_from g i k) (zero_plus m) ∙ none_from g m k (λ j. subst (λ (i : ℕ). g i ≡ None) (let e : zero + k + j ≡ k + j = omega arith in e) (none j))
+      ap (λ (i : ℕ). objects_from g i k) (zero_plus m)
+      ∙ none_from g m k (λ j. subst (λ (i : ℕ). g i ≡ None) (let e : zero + k + j ≡ k + j = omega arith in e) (none j))
   fewer g m (suc n) k none =
       ap (λ (i : ℕ). objects_from g i k) (suc_plus n m) ∙
       ap (with_object k (g k)) (fewer g m n (suc k) (λ j. subst (λ (i : ℕ). g i ≡ None) (let e : suc n + k + j ≡ n + suc k + j = omega arith in e) (none j)))
@@ -215,19 +220,23 @@ module _ (w : World) (nester : Path) (slot : ℕ) (sp : List Path)
 
   -- of the root no holder is asked for, and none is shown
   holder_is : (q : Path) (more : List Ptr) → kind_there c q ≡ Some kinds.Space →
-      (holder_from sp q (all_pointers show (holder_task q) ++ more) ≡ holder_link sp (c.body q)) × (behind_holder q (all_pointers show (holder_task q) ++ more) ≡ more)
+      (holder_from sp q (all_pointers show (holder_task q) ++ more) ≡ holder_link sp (c.body q))
+      × (behind_holder q (all_pointers show (holder_task q) ++ more) ≡ more)
   unfolding kind_there seen_by
   holder_is q more space = by q (w.body (q ++ root)) refl (ap (option_map kind_of) (sym (body_is q)) ∙ space)
     where
       by : (q : Path) (o : Option Body) → w.body (q ++ root) ≡ o → option_map kind_of (option_map (λ (b : Body). unheld q (seen_by f b)) o) ≡ Some kinds.Space →
-          (holder_from sp q (all_pointers show (holder_task q) ++ more) ≡ holder_link sp (c.body q)) × (behind_holder q (all_pointers show (holder_task q) ++ more) ≡ more)
+          (holder_from sp q (all_pointers show (holder_task q) ++ more) ≡ holder_link sp (c.body q))
+          × (behind_holder q (all_pointers show (holder_task q) ++ more) ≡ more)
       by [] (Some (Space birth holder)) e is = (sym (ap (holder_link sp) (body_is [] ∙ ap (option_map (λ (b : Body). unheld [] (seen_by f b))) e)), refl)
       by (k ∷ q) (Some (Space birth None)) e is = (
-        ap (link_of sp) (show_is (k ∷ q) 0 ∙ ap (body_as see 0) e) ∙ sym (ap (holder_link sp) (body_is (k ∷ q) ∙ ap (option_map (λ (b : Body). seen_by f b)) e)),
+        ap (link_of sp) (show_is (k ∷ q) 0 ∙ ap (body_as see 0) e)
+            ∙ sym (ap (holder_link sp) (body_is (k ∷ q) ∙ ap (option_map (λ (b : Body). seen_by f b)) e)),
         refl,
       )
       by (k ∷ q) (Some (Space birth (Some p))) e is = (
-        ap (link_of sp) (show_is (k ∷ q) 0 ∙ ap (body_as see 0) e) ∙ sym (ap (holder_link sp) (body_is (k ∷ q) ∙ ap (option_map (λ (b : Body). seen_by f b)) e)),
+        ap (link_of sp) (show_is (k ∷ q) 0 ∙ ap (body_as see 0) e)
+            ∙ sym (ap (holder_link sp) (body_is (k ∷ q) ∙ ap (option_map (λ (b : Body). seen_by f b)) e)),
         refl,
       )
       by [] None e is = cc
@@ -281,7 +290,8 @@ module _ (w : World) (nester : Path) (slot : ℕ) (sp : List Path)
   spaces_are (q ∷ qs) h =
       let its = h q (inl refl) in
       let more = all_pointers show (gathered_tasks (map (content c) qs)) in
-      let apart : all_pointers show (gathered_tasks (map (content c) (q ∷ qs))) ≡ mine_of q ++ more = all_append show (content_tasks (content c q)) (gathered_tasks (map (content c) qs)) in
+      let apart : all_pointers show (gathered_tasks (map (content c) (q ∷ qs))) ≡ mine_of q
+      ++ more = all_append show (content_tasks (content c q)) (gathered_tasks (map (content c) qs)) in
       ap (spaces_with sp (map (content c) (q ∷ qs))) apart ∙
       (λ i. space_is q more its.0 its.1 i ∷
       (ap (spaces_with sp (map (content c) qs)) (behind_space q more its.0) ∙ spaces_are qs (λ x is. h x (inr is))) i)
@@ -295,9 +305,13 @@ pub assembled_is : (w : World) (nester : Path) (slot : ℕ) (sp : List Path) →
     ((q : Path) (t : Thread) → and_then thread_of (w.body (q ++ slot ∷ nester)) ≡ Some t → IsShapedMode t.mode) →
     ((q : Path) → IsIn q sp → kind_there (cut w nester slot) q ≡ Some kinds.Space) →
     ((q : Path) (k : ℕ) → 240 ≤ k → (cut w nester slot).body (k ∷ q) ≡ None) →
-    assembled (map (content (cut w nester slot)) sp) (all_pointers (shown_at w nester slot) (gathered_tasks (map (content (cut w nester slot)) sp))) ≡ image_of (cut w nester slot) sp
+    assembled (map (content (cut w nester slot)) sp) (all_pointers (shown_at w nester slot) (gathered_tasks (map (content (cut w nester slot)) sp)))
+    ≡ image_of (cut w nester slot) sp
 assembled_is w nester slot sp shaped spaces none =
-    ap (λ (xs : List Path). record { spaces = spaces_with xs (map (content (cut w nester slot)) sp) (all_pointers (shown_at w nester slot) (gathered_tasks (map (content (cut w nester slot)) sp))) })
+    ap (λ (xs : List Path). record {
+      spaces = spaces_with xs (map (content (cut w nester slot)) sp)
+          (all_pointers (shown_at w nester slot) (gathered_tasks (map (content (cut w nester slot)) sp)));
+    })
     (paths_are (cut w nester slot) sp) ∙
     ap (λ (ss : List SpaceRec). record { spaces = ss })
     (spaces_are w nester slot sp shaped sp

@@ -130,7 +130,8 @@ module _ (nester : Path) (slot birth : ℕ) (low : slot ≤ LAST_USER_SLOT) (w :
   walk_deep v _ (w_AtSearches q k got placed space high) = within q (live_of (start.body (q ++ slot ∷ nester)) space)
   walk_deep v _ (w_AtOver got) = omega arith
 
-  reached : (v : World) → Base nester slot start is_near v → IsValid v → v.next ≤ depth → (k : ℕ) (p : Path) (to : Ptr) → v.body (TARGETS ∷ nester) ≡ Some (Reference to) → (j : ℕ) (q : Path) →
+  reached : (v : World) → Base nester slot start is_near v → IsValid v → v.next ≤ depth → (k : ℕ) (p : Path) (to : Ptr)
+      → v.body (TARGETS ∷ nester) ≡ Some (Reference to) → (j : ℕ) (q : Path) →
       to ≡ At ((j ∷ q) ++ ((k ∷ p) ++ slot ∷ nester)) → length (k ∷ p) ≤ d
   unfolding kind_there
   reached v base valid few k p to ref j q is =
@@ -141,7 +142,8 @@ module _ (nester : Path) (slot birth : ℕ) (low : slot ≤ LAST_USER_SLOT) (w :
       let there : IsSome (v.body ((k ∷ p) ++ slot ∷ nester)) = live_of (v.body ((k ∷ p) ++ slot ∷ nester)) kind in
       within (k ∷ p) (sym (ap is_some (base.inside.bodies (k ∷ p))) ∙ there)
 
-  gather_deep : (v : World) → Base nester slot start is_near v → IsValid v → v.next ≤ depth → (s : gathers.State) → gathering_on.Position nester slot start is_near v s → gather_depth slot d most s ≤ d
+  gather_deep : (v : World) → Base nester slot start is_near v → IsValid v → v.next ≤ depth → (s : gathers.State)
+      → gathering_on.Position nester slot start is_near v s → gather_depth slot d most s ≤ d
   gather_deep v base valid few _ (g_AtDown from k ways j s t ts got at p h inside is path) = omega arith
   gather_deep v base valid few _ (g_AtFields n fs t ts got placed counts) = omega arith
   gather_deep v base valid few _ (g_AtLooks [] n fs t ts got placed counts field steps beneath) = omega arith
@@ -157,7 +159,8 @@ module _ (nester : Path) (slot birth : ℕ) (low : slot ≤ LAST_USER_SLOT) (w :
   made_drops : (n : ℕ) (end : End) → n ≤ most → Made n (ends_as end)
   made_drops n end few = omega (arith, few)
 
-  made_gathers : (v : World) (n : ℕ) (s : gathers.State) → IsValid v → v.next ≤ depth → gathering_on.Stands nester slot start is_near v s all_gathered → Gathered slot d most n s →
+  made_gathers : (v : World) (n : ℕ) (s : gathers.State) → IsValid v → v.next ≤ depth → gathering_on.Stands nester slot start is_near v s all_gathered
+      → Gathered slot d most n s →
       Made n (gathering slot all_read s)
   made_gathers v n s valid few its spent = by (gathers.head slot s)
     where
@@ -177,10 +180,12 @@ module _ (nester : Path) (slot birth : ℕ) (low : slot ≤ LAST_USER_SLOT) (w :
           let costs_same = same_costs (gathered_tasks all_read) in
           subst (λ (cs : List Content). Made n (gathering slot cs (gathers.begin slot (gathered_tasks cs) []))) (sym same)
           (made_gathers v n (gathers.begin slot (gathered_tasks all_read) []) valid few
-          (gathering_on.begins nester slot start is_near v (gathered_tasks all_read) [] its.base its.base.scratched.steps (gathered_ok nester slot start is_near (root_space nester slot birth low w may held sound)))
+          (gathering_on.begins nester slot start is_near v (gathered_tasks all_read) [] its.base its.base.scratched.steps
+          (gathered_ok nester slot start is_near (root_space nester slot birth low w may held sound)))
           (gather_begun slot d most n (gathered_tasks all_read) [] (omega (arith, few_calls, costs_same))))
 
-  made_seeks : (v : World) (n : ℕ) (s : seeks.State) → IsValid v → v.next ≤ depth → seeking_on.Stands nester slot start is_near v s (open_place w nester slot) → n + seeks_left s ≤ read_base →
+  made_seeks : (v : World) (n : ℕ) (s : seeks.State) → IsValid v → v.next ≤ depth → seeking_on.Stands nester slot start is_near v s (open_place w nester slot)
+      → n + seeks_left s ≤ read_base →
       Made n (seeking slot all_met s)
   made_seeks v n s valid few its spent = by (seeks.head slot s)
     where
@@ -189,22 +194,26 @@ module _ (nester : Path) (slot birth : ℕ) (low : slot ≤ LAST_USER_SLOT) (w :
       ended None =
           made_reads v n (reads.begin slot all_spaces []) valid few
           (reading_on.begins nester slot start is_near is_valid is_few v all_spaces [] its.base
-          (reading_on.spaces_of nester slot start is_near is_valid is_few all_spaces (λ q is. spaces_are c (root_space nester slot birth low w may held sound) q is)))
+          (reading_on.spaces_of nester slot start is_near is_valid is_few all_spaces
+          (λ q is. spaces_are c (root_space nester slot birth low w may held sound) q is)))
           (read_begun nester slot start is_near is_valid is_few read_base n all_spaces [] (omega (arith, spent)))
 
       by : (h : Head (Option Place)) → Made n (seeks_on slot all_met s h)
       by (Asks stage words) = spent
       by (Stops place) = ended place
 
-  walked_few : (v : World) (n : ℕ) (s : walks.State) → walking_on.Stands nester slot start is_near is_valid is_few v s all_met → Walked slot d 4 n s → n ≤ 4 + weigh (d + 6) all_met + 1
+  walked_few : (v : World) (n : ℕ) (s : walks.State) → walking_on.Stands nester slot start is_near is_valid is_few v s all_met → Walked slot d 4 n s
+      → n ≤ 4 + weigh (d + 6) all_met + 1
   walked_few v n s its spent = by s its.level its.end spent
     where
-      by : (s : walks.State) (level : ℕ) → walking_on.ends nester slot start is_near is_valid is_few level s ≡ all_met → Walked slot d 4 n s → n ≤ 4 + weigh (d + 6) all_met + 1
+      by : (s : walks.State) (level : ℕ) → walking_on.ends nester slot start is_near is_valid is_few level s ≡ all_met → Walked slot d 4 n s
+          → n ≤ 4 + weigh (d + 6) all_met + 1
       by (walks.Down from ways q k got) level e spent = walked_most slot d 4 n (walks.Down from ways q k got) spent _ all_met e
       by (walks.Searches q k got) level e spent = walked_most slot d 4 n (walks.Searches q k got) spent _ all_met e
       by (walks.Over got) level e spent = walked_most slot d 4 n (walks.Over got) spent [] all_met (none_more got ∙ e)
 
-  made_walks : (v : World) (n : ℕ) (s : walks.State) → IsValid v → v.next ≤ depth → walking_on.Stands nester slot start is_near is_valid is_few v s all_met → Walked slot d 4 n s → Made n (walking slot s)
+  made_walks : (v : World) (n : ℕ) (s : walks.State) → IsValid v → v.next ≤ depth → walking_on.Stands nester slot start is_near is_valid is_few v s all_met
+      → Walked slot d 4 n s → Made n (walking slot s)
   made_walks v n s valid few its spent = by (walks.head slot s) refl
     where
       by : (h : Head (List Met)) → walks.head slot s ≡ h → Made n (walks_on slot s h)
@@ -214,7 +223,8 @@ module _ (nester : Path) (slot birth : ℕ) (low : slot ≤ LAST_USER_SLOT) (w :
           let few_calls = walked_few v n s its spent in
           let first = seeks_begin slot (sought_tasks all_met) in
           subst (λ (ms : List Met). Made n (seeking slot ms (seeks.begin slot (sought_tasks ms)))) (sym same)
-          (made_seeks v n (seeks.begin slot (sought_tasks all_met)) valid few (begins_seeking nester slot birth low w may held sound v its.base) (omega (arith, few_calls, first)))
+          (made_seeks v n (seeks.begin slot (sought_tasks all_met)) valid few (begins_seeking nester slot birth low w may held sound v its.base)
+          (omega (arith, few_calls, first)))
 
   -- ---- each call
 
@@ -277,10 +287,13 @@ module _ (nester : Path) (slot birth : ℕ) (low : slot ≤ LAST_USER_SLOT) (w :
   made_most v valid few n _ (AtReleases end verdict its tidy) spent = omega (arith, spent)
   made_most v valid few n _ (AtOver end verdict same unheld tidy) spent = omega (arith, spent)
 
-  pub bounded : (v u : World) (s t : State) (es : List Event) (n : ℕ) → At_phase v s → Made n s → (run : Interleaved (checkpoint slot) nester v s es u t) → n + own_moves run ≤ most + 4
-  bounded _ _ _ _ _ n phase spent (Here v s its_sound) = let calls = made_most v its_sound.whole.valid its_sound.whole.few n s phase spent in omega (arith, calls)
+  pub bounded : (v u : World) (s t : State) (es : List Event) (n : ℕ) → At_phase v s → Made n s → (run : Interleaved (checkpoint slot) nester v s es u t)
+      → n + own_moves run ≤ most + 4
+  bounded _ _ _ _ _ n phase spent (Here v s its_sound) = let calls = made_most v its_sound.whole.valid its_sound.whole.few n s phase spent in
+      omega (arith, calls)
   bounded _ u _ t _ n phase spent (Another v s e es _ _ its_sound works moves rest) =
-      bounded (after v e) u s t es n (others nester slot birth low w may held sound v e s moves (first_sound (checkpoint slot) nester (after v e) s es u t rest).whole.few works phase) spent rest
+      bounded (after v e) u s t es n (others nester slot birth low w may held sound v e s moves
+      (first_sound (checkpoint slot) nester (after v e) s es u t rest).whole.few works phase) spent rest
   bounded _ u _ t _ n phase spent (Own v s stage words es _ _ its_sound asks_it ready rest) =
       let reply = reply_of (said_of v (call_of nester stage words)) in
       let answered : IsAnswered nester v stage words reply = record { valid = its_sound.whole.valid; few = its_sound.whole.few; ready = ready; said = refl } in
@@ -323,11 +336,14 @@ module _ (slot birth : ℕ) (w v : World) (nester : Path) (t : State) (d : ℕ) 
       let product = suc-mul count (suc d) in
       omega (arith, none, is, product)
 
-  limited_held : (held : Held nester slot w) (sound : IsSound (held_world nester slot w)) → Limited (held_world nester slot w) (Readies PLACES (TARGETS ∷ STEPS ∷ []))
+  limited_held : (held : Held nester slot w) (sound : IsSound (held_world nester slot w))
+      → Limited (held_world nester slot w) (Readies PLACES (TARGETS ∷ STEPS ∷ []))
   limited_held held sound es run =
       let deep_there = subst (λ (c : World). LiesWithin c d) (sym held.cut) deep in
-      let first : Phase nester slot birth low w may held sound (held_world nester slot w) (Readies PLACES (TARGETS ∷ STEPS ∷ [])) = first_phase slot birth w nester low may held sound in
-      let calls = bounded nester slot birth low w may held sound d deep_there (held_world nester slot w) v (Readies PLACES (TARGETS ∷ STEPS ∷ [])) t es 1 first (omega arith) run in
+      let first : Phase nester slot birth low w may held sound (held_world nester slot w)
+      (Readies PLACES (TARGETS ∷ STEPS ∷ [])) = first_phase slot birth w nester low may held sound in
+      let calls = bounded nester slot birth low w may held sound d deep_there (held_world nester slot w) v
+      (Readies PLACES (TARGETS ∷ STEPS ∷ [])) t es 1 first (omega arith) run in
       let all = most-calls nester slot birth low w may held sound d deep_there in
       let same = ap (λ (c : World). 100 * ((count_of c + 1) * (d + 1))) held.cut in
       omega (arith, calls, all, same)
@@ -340,9 +356,12 @@ module _ (slot birth : ℕ) (w v : World) (nester : Path) (t : State) (d : ℕ) 
       by : IsSound (after w (hold nester slot)) → Held nester slot w ⊎ Unheld nester slot w → suc (own_moves run) ≤ limit
       by sound (inl held) =
           subst (Limited (after w (hold nester slot))) (sym (first_state slot birth w nester low may (said_of w (hold nester slot)) held.said))
-          (subst (λ (u : World). Limited u (Readies PLACES (TARGETS ∷ STEPS ∷ []))) (sym held.world) (limited_held held (subst IsSound held.world sound))) es run
+          (subst (λ (u : World). Limited u (Readies PLACES (TARGETS ∷ STEPS ∷ []))) (sym held.world)
+          (limited_held held (subst IsSound held.world sound))) es run
       by sound (inr none) =
-          subst (Limited (after w (hold nester slot))) (sym (first_over slot birth w nester low may (said_of w (hold nester slot)) none.status none.refused none.said)) (limited_over (after w (hold nester slot))) es run
+          subst (Limited (after w (hold nester slot)))
+          (sym (first_over slot birth w nester low may (said_of w (hold nester slot)) none.status none.refused none.said))
+          (limited_over (after w (hold nester slot))) es run
 
 pub checkpoint_is_bounded : CheckpointIsBounded
 checkpoint_is_bounded slot birth w v nester t d low may deep work =

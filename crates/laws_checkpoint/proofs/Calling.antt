@@ -78,7 +78,8 @@ module _ (nester : Path) (slot : ℕ) where
   unfolding apply_all apply
   same_made v r own = record { bodies = λ y off other. rw (off_scratch r y own off) refl; pages = λ y page. refl }
 
-  same_dropped : (v : World) (r : ℕ) (to : Ptr) → IsOwnSlot r → IsValid v → v.body (r ∷ nester) ≡ Some (Reference to) → Same v (apply_all (Kill (r ∷ nester) ∷ []) v)
+  same_dropped : (v : World) (r : ℕ) (to : Ptr) → IsOwnSlot r → IsValid v → v.body (r ∷ nester) ≡ Some (Reference to)
+      → Same v (apply_all (Kill (r ∷ nester) ∷ []) v)
   unfolding apply_all
   same_dropped v r to own valid there = record {
     bodies = λ y off other. bodies_stay v valid (r ∷ nester) to there y (off_scratch r y own off);
@@ -105,20 +106,32 @@ module _ (nester : Path) (slot : ℕ) where
   KnownWith v stage words = (words ≡ no_words) × Known v stage
 
   of_mild : (v : World) (stage : Stage) (words : List ℕ) → ComesWith nester v stage words → KnownWith v stage words
-  of_mild v stage words comes = (comes.0, record { changes = comes.1.changes; status = comes.1.status; given = comes.1.given; row = comes.1.row; same = same_mild v comes.1.changes comes.1.mild })
+  of_mild v stage words comes = (
+    comes.0,
+    record {
+      changes = comes.1.changes;
+      status = comes.1.status;
+      given = comes.1.given;
+      row = comes.1.row;
+      same = same_mild v comes.1.changes comes.1.mild;
+    },
+  )
 
-  is_this : {A : Type 0} (v : World) (stage other : Stage) (words : List ℕ) → call_head {A = A} stage no_words ≡ Asks other words → Known v stage → KnownWith v other words
+  is_this : {A : Type 0} (v : World) (stage other : Stage) (words : List ℕ) → call_head {A = A} stage no_words ≡ Asks other words → Known v stage
+      → KnownWith v other words
   is_this v stage other words e known =
       let one : stage ≡ other = cc in
       let two : no_words ≡ words = cc in
       (sym two, subst (Known v) one known)
 
-  module _ (birth : ℕ) (low : slot ≤ LAST_USER_SLOT) (w : World) (may : MayBegin w nester birth) (held : Held nester slot w) (sound : IsSound (held_world nester slot w))
+  module _ (birth : ℕ) (low : slot ≤ LAST_USER_SLOT) (w : World) (may : MayBegin w nester birth) (held : Held nester slot w)
+      (sound : IsSound (held_world nester slot w))
       (v : World) (valid : IsValid v) (few : v.next ≤ depth) where
     abbrev start : World
     start = held_world nester slot w
 
-    made_call : (r : ℕ) (made : List ℕ) → IsOwnSlot r → Held_on nester slot birth start v → v.body (r ∷ nester) ≡ None → Known v (Create OWN_SPACE r (number_of_kind kinds.Reference))
+    made_call : (r : ℕ) (made : List ℕ) → IsOwnSlot r → Held_on nester slot birth start v → v.body (r ∷ nester) ≡ None
+        → Known v (Create OWN_SPACE r (number_of_kind kinds.Reference))
     made_call r made own its empty = record {
       changes = Make (r ∷ nester) (Reference Null) ∷ [];
       status = OK;
@@ -127,7 +140,8 @@ module _ (nester : Path) (slot : ℕ) where
       same = same_made v r own;
     }
 
-    dropped_call : (r : ℕ) (to : Ptr) → IsOwnSlot r → Held_on nester slot birth start v → v.body (r ∷ nester) ≡ Some (Reference to) → Known v (Destroy OWN_SPACE r)
+    dropped_call : (r : ℕ) (to : Ptr) → IsOwnSlot r → Held_on nester slot birth start v → v.body (r ∷ nester) ≡ Some (Reference to)
+        → Known v (Destroy OWN_SPACE r)
     dropped_call r to own its there = record {
       changes = Kill (r ∷ nester) ∷ [];
       status = OK;
@@ -145,43 +159,62 @@ module _ (nester : Path) (slot : ℕ) where
       same = same_released v None;
     }
 
-    known : (t : State) (stage : Stage) (words : List ℕ) → Phase nester slot birth low w may held sound v t → head slot t ≡ Asks stage words → KnownWith v stage words
+    known : (t : State) (stage : Stage) (words : List ℕ) → Phase nester slot birth low w may held sound v t → head slot t ≡ Asks stage words
+        → KnownWith v stage words
     known _ stage words (AtFirst its tidy) e =
-        is_this v (Create OWN_SPACE PLACES 9) stage words e (made_call PLACES [] Places its (tidy_empty nester slot birth v [] PLACES tidy (own_scratch nester PLACES Places) (λ h. h)))
+        is_this v (Create OWN_SPACE PLACES 9) stage words e
+        (made_call PLACES [] Places its (tidy_empty nester slot birth v [] PLACES tidy (own_scratch nester PLACES Places) (λ h. h)))
     known _ stage words (AtSecond its places tidy) e =
-        is_this v (Create OWN_SPACE TARGETS 9) stage words e (made_call TARGETS [] Targets its (tidy_empty nester slot birth v (PLACES ∷ []) TARGETS tidy (own_scratch nester TARGETS Targets) fresh_targets))
+        is_this v (Create OWN_SPACE TARGETS 9) stage words e
+        (made_call TARGETS [] Targets its (tidy_empty nester slot birth v (PLACES ∷ []) TARGETS tidy (own_scratch nester TARGETS Targets) fresh_targets))
     known _ stage words (AtThird its places targets tidy) e =
-        is_this v (Create OWN_SPACE STEPS 9) stage words e (made_call STEPS [] Steps its (tidy_empty nester slot birth v (TARGETS ∷ PLACES ∷ []) STEPS tidy (own_scratch nester STEPS Steps) fresh_steps))
+        is_this v (Create OWN_SPACE STEPS 9) stage words e
+        (made_call STEPS [] Steps its (tidy_empty nester slot birth v (TARGETS ∷ PLACES ∷ []) STEPS tidy (own_scratch nester STEPS Steps) fresh_steps))
     known _ stage words (AtWalks s its asking tidy) e =
-        of_mild v stage words (walking_on.comes_next nester slot start (near nester slot birth low w may held sound) (valid_start nester slot birth low w may held sound) (few_start nester slot birth low w may held sound)
+        of_mild v stage words (walking_on.comes_next nester slot start (near nester slot birth low w may held sound)
+        (valid_start nester slot birth low w may held sound) (few_start nester slot birth low w may held sound)
         v its.base valid few s stage words its.position (asks_back (walks.head slot s) stage words e))
     known _ stage words (AtSeeks s its asking tidy) e =
-        of_mild v stage words (seeking_on.comes_next nester slot start (near nester slot birth low w may held sound) v its.base valid few s stage words its.position its.tasks (asks_back (seeks.head slot s) stage words e))
+        of_mild v stage words (seeking_on.comes_next nester slot start
+        (near nester slot birth low w may held sound) v its.base valid few s stage words its.position its.tasks
+        (asks_back (seeks.head slot s) stage words e))
     known _ stage words (AtReads s closed its asking tidy) e =
-        of_mild v stage words (reading_on.comes_next nester slot start (near nester slot birth low w may held sound) (valid_start nester slot birth low w may held sound) (few_start nester slot birth low w may held sound)
+        of_mild v stage words (reading_on.comes_next nester slot start (near nester slot birth low w may held sound)
+        (valid_start nester slot birth low w may held sound) (few_start nester slot birth low w may held sound)
         v its.base valid few s stage words its.position (asks_back (reads.head slot s) stage words e))
     known _ stage words (AtGathers s closed its asking tidy) e =
-        of_mild v stage words (gathering_on.comes_next nester slot start (near nester slot birth low w may held sound) v its.base its.steps valid few s stage words its.position its.tasks (asks_back (gathers.head slot s) stage words e))
-    known _ stage words (AtDrops end verdict its scratched tidy) e = is_this v (Destroy OWN_SPACE STEPS) stage words e (dropped_call STEPS scratched.steps.0 Steps its scratched.steps.1)
-    known _ stage words (AtTwoLeft end verdict its targets places tidy) e = is_this v (Destroy OWN_SPACE TARGETS) stage words e (dropped_call TARGETS targets.0 Targets its targets.1)
-    known _ stage words (AtOneLeft end verdict its places tidy) e = is_this v (Destroy OWN_SPACE PLACES) stage words e (dropped_call PLACES places.0 Places its places.1)
+        of_mild v stage words (gathering_on.comes_next nester slot start
+        (near nester slot birth low w may held sound) v its.base its.steps valid few s stage words its.position its.tasks
+        (asks_back (gathers.head slot s) stage words e))
+    known _ stage words (AtDrops end verdict its scratched tidy) e = is_this v (Destroy OWN_SPACE STEPS) stage words e
+        (dropped_call STEPS scratched.steps.0 Steps its scratched.steps.1)
+    known _ stage words (AtTwoLeft end verdict its targets places tidy) e = is_this v (Destroy OWN_SPACE TARGETS) stage words e
+        (dropped_call TARGETS targets.0 Targets its targets.1)
+    known _ stage words (AtOneLeft end verdict its places tidy) e = is_this v (Destroy OWN_SPACE PLACES) stage words e
+        (dropped_call PLACES places.0 Places its places.1)
     known _ stage words (AtReleases end verdict its tidy) e = is_this v (SpaceRelease OWN_SPACE slot) stage words e (released_call its.holding)
     known _ stage words (AtOver end verdict same unheld tidy) e = cc
 
   -- a ready one leaves what its changes leave
-  known_leaves : (v : World) (stage : Stage) (words : List ℕ) → KnownWith v stage words → IsReadyAt v (call_of nester stage words) → Same v (after v (call_of nester stage words))
+  known_leaves : (v : World) (stage : Stage) (words : List ℕ) → KnownWith v stage words → IsReadyAt v (call_of nester stage words)
+      → Same v (after v (call_of nester stage words))
   known_leaves v stage words call ready =
       let goes = call_is_its_row nester v stage words call.1.changes (Answered call.1.status call.1.given)
-      (subst (λ (ws : List ℕ). call_row v (porter nester ws) None stage ≡ Goes call.1.changes (Answered call.1.status call.1.given)) (sym call.0) call.1.row) ready in
+      (subst (λ (ws : List ℕ). call_row v (porter nester ws) None stage ≡ Goes call.1.changes (Answered call.1.status call.1.given))
+      (sym call.0) call.1.row) ready in
       subst (Same v) (sym goes.0) call.1.same
 
   module _ (birth : ℕ) (low : slot ≤ LAST_USER_SLOT) (w : World) (may : MayBegin w nester birth) where
-    known_at : (v : World) (t : State) (stage : Stage) (words : List ℕ) → IsSound v → Came slot birth w nester low may v t → head slot t ≡ Asks stage words → IsHolding nester slot v × KnownWith v stage words
+    known_at : (v : World) (t : State) (stage : Stage) (words : List ℕ) → IsSound v → Came slot birth w nester low may v t → head slot t ≡ Asks stage words
+        → IsHolding nester slot v × KnownWith v stage words
     known_at v t stage words now (NeverHeld none same over) e = let both = sym (ap (head slot) over) ∙ e in cc
-    known_at v t stage words now (InPhase held sound phase) e =
-        (holding_in slot birth w nester low may held sound v t stage words phase e, known birth low w may held sound v now.whole.valid now.whole.few t stage words phase e)
+    known_at v t stage words now (InPhase held sound phase) e = (
+      holding_in slot birth w nester low may held sound v t stage words phase e,
+      known birth low w may held sound v now.whole.valid now.whole.few t stage words phase e,
+    )
 
-    ready_at : (v : World) (t : State) (stage : Stage) (words : List ℕ) → IsSound v → Came slot birth w nester low may v t → head slot t ≡ Asks stage words → IsCalm root v →
+    ready_at : (v : World) (t : State) (stage : Stage) (words : List ℕ) → IsSound v → Came slot birth w nester low may v t → head slot t ≡ Asks stage words
+        → IsCalm root v →
         IsReadyAt v (call_of nester stage words)
     ready_at v t stage words now at e calm =
         let its = known_at v t stage words now at e in
@@ -189,20 +222,23 @@ module _ (nester : Path) (slot : ℕ) where
         (calm_call_ready nester slot v stage no_words its.1.1.changes (Answered its.1.1.status its.1.1.given) its.0 calm its.1.1.row)
 
     first_leaves : IsSound (after w (hold nester slot)) → IsReadyAt w (hold nester slot) → Same w (after w (hold nester slot))
-    first_leaves sound ready = by (hold_comes_to nester slot w low (empty slot birth w nester low may) may.sound.whole.valid sound.whole.valid may.sound.whole.few ready)
+    first_leaves sound ready = by (hold_comes_to nester slot w low
+        (empty slot birth w nester low may) may.sound.whole.valid sound.whole.valid may.sound.whole.few ready)
       where
         by : Held nester slot w ⊎ Unheld nester slot w → Same w (after w (hold nester slot))
         by (inl held) = subst (Same w) (sym held.world) (same_holder w (Some (At (LAST_PORTER_SLOT ∷ nester))))
         by (inr none) = subst (Same w) (sym none.world) (same_itself w)
 
-    unheld_at_end : (v : World) (t : State) (end : End) → Came slot birth w nester low may v t → head slot t ≡ Stops end → IsSpaceAt w root → holder_of (v.body root) ≡ None
+    unheld_at_end : (v : World) (t : State) (end : End) → Came slot birth w nester low may v t → head slot t ≡ Stops end → IsSpaceAt w root
+        → holder_of (v.body root) ≡ None
     unheld_at_end v t end (NeverHeld none same over) stops space = absurd (none space)
     unheld_at_end v t end (InPhase held sound phase) stops space = (ended_in slot birth w nester low may held sound v t end phase stops).2
 
 pub checkpoint_is_ready : CheckpointIsReady
 checkpoint_is_ready slot birth w v nester t stage words low may work e calm =
     ready_at nester slot birth low w may v t stage words
-    (last_sound (checkpoint slot) nester (after w (call_of nester work.stage work.words)) (heard (checkpoint slot) Holds (said_of w (call_of nester work.stage work.words))) work.events v t work.run)
+    (last_sound (checkpoint slot) nester (after w (call_of nester work.stage work.words))
+    (heard (checkpoint slot) Holds (said_of w (call_of nester work.stage work.words))) work.events v t work.run)
     (came slot birth w nester low may v t work) e calm
 
 pub checkpoint_leaves_rest : CheckpointLeavesRest

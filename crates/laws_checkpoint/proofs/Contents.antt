@@ -49,12 +49,14 @@ use Rattle.laws_checkpoint.proofs.Walks.{there, kind_seen, IsSpace, PlacedIn, pl
 -- ---- what is listed from a number on
 
 -- numbers at which nothing is are passed over
-skip : (f : ℕ → Option (List ℕ)) (last n k j : ℕ) → k + n ≡ j → j ≤ last → ((i : ℕ) → k ≤ i → i < j → f i ≡ None) → items_from f (last - k) k ≡ items_from f (last - j) j
+skip : (f : ℕ → Option (List ℕ)) (last n k j : ℕ) → k + n ≡ j → j ≤ last → ((i : ℕ) → k ≤ i → i < j → f i ≡ None)
+    → items_from f (last - k) k ≡ items_from f (last - j) j
 unfolding items_from
 skip f last zero k j sum high none = let same : k ≡ j = omega (arith, sum) in ap (λ i. items_from f (last - i) i) same
 skip f last (suc n) k j sum high none =
     let one : last - k ≡ suc (last - suc k) = omega (arith, sum, high) in
-    ap (λ m. items_from f m k) one ∙ (ap (λ (o : Option (List ℕ)). with_item k o (items_from f (last - suc k) (suc k))) (none k (omega arith) (omega (arith, sum)))
+    ap (λ m. items_from f m k) one ∙ (ap (λ (o : Option (List ℕ)). with_item k o (items_from f (last - suc k) (suc k)))
+    (none k (omega arith) (omega (arith, sum)))
     ∙ skip f last n (suc k) j (omega (arith, sum)) high (λ i low less. none i (omega (arith, low)) less))
 
 pub listed_none : (f : ℕ → Option (List ℕ)) (last k : ℕ) → k ≤ last → ((i : ℕ) → k ≤ i → i < last → f i ≡ None) → items_from f (last - k) k ≡ []
@@ -98,25 +100,30 @@ module _ (nester : Path) (slot : ℕ) (start : World) (near : far_field ((cut st
 
   -- ---- a record of what is seen is the record of what is there
 
-  talk_same : (t : Thread) (o : Option Talk) → record_of (seen_by (cutting (ports_of start nester slot) nester slot) (Thread_of (record t { talk = o; fault = None }))) ≡ record_of (Thread_of (record t { talk = o; fault = None }))
+  talk_same : (t : Thread) (o : Option Talk) → record_of
+      (seen_by (cutting (ports_of start nester slot) nester slot) (Thread_of (record t { talk = o; fault = None })))
+      ≡ record_of (Thread_of (record t { talk = o; fault = None }))
   unfolding record_of seen_by
   talk_same t None = refl
   talk_same t (Some talk) = refl
 
   thread_same : (t : Thread) (o : Option Talk) (p : Option Fault) →
-      record_of (seen_by (cutting (ports_of start nester slot) nester slot) (Thread_of (record t { talk = o; fault = p }))) ≡ record_of (Thread_of (record t { talk = o; fault = p }))
+      record_of (seen_by (cutting (ports_of start nester slot) nester slot) (Thread_of (record t { talk = o; fault = p })))
+      ≡ record_of (Thread_of (record t { talk = o; fault = p }))
   unfolding record_of seen_by
   thread_same t None None = refl
   thread_same t (Some talk) None = refl
   thread_same t None (Some fault) = by fault.taker
     where
-      by : (taker : Option Peer) → record_of (seen_by (cutting (ports_of start nester slot) nester slot) (Thread_of (record t { talk = None; fault = Some (record fault { taker = taker }) })))
+      by : (taker : Option Peer) → record_of (seen_by (cutting (ports_of start nester slot) nester slot)
+          (Thread_of (record t { talk = None; fault = Some (record fault { taker = taker }) })))
           ≡ record_of (Thread_of (record t { talk = None; fault = Some (record fault { taker = taker }) }))
       by None = refl
       by (Some peer) = refl
   thread_same t (Some talk) (Some fault) = by fault.taker
     where
-      by : (taker : Option Peer) → record_of (seen_by (cutting (ports_of start nester slot) nester slot) (Thread_of (record t { talk = Some talk; fault = Some (record fault { taker = taker }) })))
+      by : (taker : Option Peer) → record_of (seen_by (cutting (ports_of start nester slot) nester slot)
+          (Thread_of (record t { talk = Some talk; fault = Some (record fault { taker = taker }) })))
           ≡ record_of (Thread_of (record t { talk = Some talk; fault = Some (record fault { taker = taker }) }))
       by None = refl
       by (Some peer) = refl
@@ -172,12 +179,17 @@ module _ (nester : Path) (slot : ℕ) (start : World) (near : far_field ((cut st
     pub has : record_in (Some body) ≡ Some (record_of body)
 
   pub data Position (w : World) : State → Type 0 where
-    AtDown : (from way : ℕ) (ways : List ℕ) (j : ℕ) (q : Path) (qs : List Path) (got : List Content) (at p : Path) → FromIs nester slot start near w from at → way ∷ at ≡ p ++ root →
+    AtDown : (from way : ℕ) (ways : List ℕ) (j : ℕ) (q : Path) (qs : List Path) (got : List Content) (at p : Path) → FromIs nester slot start near w from at
+        → way ∷ at ≡ p ++ root →
         follow (way ∷ at) ways ≡ (j ∷ q) ++ root → Space_at (j ∷ q) → Position w (Down from (way ∷ ways) (j ∷ q) qs got)
-    AtSearches : (k : ℕ) (objects : List Item) (q : Path) (qs : List Path) (got : List Content) → Placed w q → Space_at q → k ≤ SLOTS → Position w (Searches k objects q qs got)
-    AtReads : (j : ℕ) (objects : List Item) (q : Path) (qs : List Path) (got : List Content) → Placed w q → Space_at q → j < SLOTS → Object_at q j → Position w (Reads j objects q qs got)
-    AtLooks : (from : ℕ) (objects pages : List Item) (q : Path) (qs : List Path) (got : List Content) → Placed w q → Space_at q → from ≤ PAGES → Position w (Looks from objects pages q qs got)
-    AtCopies : (page : ℕ) (objects pages : List Item) (q : Path) (qs : List Path) (got : List Content) (words : List ℕ) → Placed w q → Space_at q → page < PAGES →
+    AtSearches : (k : ℕ) (objects : List Item) (q : Path) (qs : List Path) (got : List Content) → Placed w q → Space_at q → k ≤ SLOTS
+        → Position w (Searches k objects q qs got)
+    AtReads : (j : ℕ) (objects : List Item) (q : Path) (qs : List Path) (got : List Content) → Placed w q → Space_at q → j < SLOTS → Object_at q j
+        → Position w (Reads j objects q qs got)
+    AtLooks : (from : ℕ) (objects pages : List Item) (q : Path) (qs : List Path) (got : List Content) → Placed w q → Space_at q → from ≤ PAGES
+        → Position w (Looks from objects pages q qs got)
+    AtCopies : (page : ℕ) (objects pages : List Item) (q : Path) (qs : List Path) (got : List Content) (words : List ℕ) → Placed w q → Space_at q
+        → page < PAGES →
         c.page q page ≡ Some words → Position w (Copies page objects pages q qs got)
     AtOver : (got : List Content) → Position w (Over got)
 
@@ -202,14 +214,18 @@ module _ (nester : Path) (slot : ℕ) (start : World) (near : far_field ((cut st
   position_same : (w v : World) → v.body (PLACES ∷ nester) ≡ w.body (PLACES ∷ nester) → (s : State) → Position w s → Position v s
   position_same w v same _ (AtDown from way ways j q qs got at p h inside is space) =
       AtDown from way ways j q qs got at p (from_moved nester slot start near valid_start few_start w v same from at h) inside is space
-  position_same w v same _ (AtSearches k objects q qs got h space low) = AtSearches k objects q qs got (placed_moved nester slot start near valid_start few_start w v same q h) space low
-  position_same w v same _ (AtReads j objects q qs got h space low object) = AtReads j objects q qs got (placed_moved nester slot start near valid_start few_start w v same q h) space low object
-  position_same w v same _ (AtLooks from objects pages q qs got h space low) = AtLooks from objects pages q qs got (placed_moved nester slot start near valid_start few_start w v same q h) space low
+  position_same w v same _ (AtSearches k objects q qs got h space low) = AtSearches k objects q qs got
+      (placed_moved nester slot start near valid_start few_start w v same q h) space low
+  position_same w v same _ (AtReads j objects q qs got h space low object) = AtReads j objects q qs got
+      (placed_moved nester slot start near valid_start few_start w v same q h) space low object
+  position_same w v same _ (AtLooks from objects pages q qs got h space low) = AtLooks from objects pages q qs got
+      (placed_moved nester slot start near valid_start few_start w v same q h) space low
   position_same w v same _ (AtCopies page objects pages q qs got words h space low is) =
       AtCopies page objects pages q qs got words (placed_moved nester slot start near valid_start few_start w v same q h) space low is
   position_same w v same _ (AtOver got) = AtOver got
 
-  pub others : (w : World) (e : Event) (s : State) (end : List Content) → IsUsersMove nester w e → (after w e).next ≤ depth → Stands w s end → Stands (after w e) s end
+  pub others : (w : World) (e : Event) (s : State) (end : List Content) → IsUsersMove nester w e → (after w e).next ≤ depth → Stands w s end
+      → Stands (after w e) s end
   others w e s end moves few its =
       let kept = others_keep_hold nester slot w e its.base.holding moves in
       record {
@@ -227,9 +243,15 @@ module _ (nester : Path) (slot : ℕ) (start : World) (near : far_field ((cut st
       let numbers : PAGES - 0 ≡ PAGES = omega arith in
       λ i. got ++ record { path = q; objects = items_from (record_at c q) (slots i) 0; pages = items_from (c.page q) (numbers i) 0 } ∷ map (content c) qs
 
-  pub begins : (w : World) (qs : List Path) (got : List Content) → Base nester slot start near w → Spaces_left qs → Stands w (begin slot qs got) (got ++ map (content c) qs)
+  pub begins : (w : World) (qs : List Path) (got : List Content) → Base nester slot start near w → Spaces_left qs
+      → Stands w (begin slot qs got) (got ++ map (content c) qs)
   begins w [] got base spaces = record { base = base; position = AtOver got; spaces = tt; end = sym (none_more got) }
-  begins w ([] ∷ qs) got base spaces = record { base = base; position = AtSearches 0 [] [] qs got tt spaces.0 (omega arith); spaces = spaces.1; end = whole [] qs got }
+  begins w ([] ∷ qs) got base spaces = record {
+    base = base;
+    position = AtSearches 0 [] [] qs got tt spaces.0 (omega arith);
+    spaces = spaces.1;
+    end = whole [] qs got;
+  }
   begins w ((j ∷ q) ∷ qs) got base spaces = record {
     base = base;
     position = AtDown OWN_SPACE slot (way_from [] (j ∷ q)) j q qs got nester [] (inl (refl, refl)) refl (follow-way root (j ∷ q) []) spaces.0;
@@ -237,8 +259,10 @@ module _ (nester : Path) (slot : ℕ) (start : World) (near : far_field ((cut st
     end = whole (j ∷ q) qs got;
   }
 
-  arrived : (w : World) (ways : List ℕ) (j : ℕ) (q : Path) (qs : List Path) (got end : List Content) (at p : Path) → Base nester slot start near w → w.body (PLACES ∷ nester) ≡ Some (Reference (At at)) →
-      at ≡ p ++ root → follow at ways ≡ (j ∷ q) ++ root → Space_at (j ∷ q) → Spaces_left qs → with_content got (j ∷ q) (left_objects (j ∷ q) 0) (left_pages (j ∷ q) 0) qs ≡ end →
+  arrived : (w : World) (ways : List ℕ) (j : ℕ) (q : Path) (qs : List Path) (got end : List Content) (at p : Path) → Base nester slot start near w
+      → w.body (PLACES ∷ nester) ≡ Some (Reference (At at)) →
+      at ≡ p ++ root → follow at ways ≡ (j ∷ q) ++ root → Space_at (j ∷ q) → Spaces_left qs
+      → with_content got (j ∷ q) (left_objects (j ∷ q) 0) (left_pages (j ∷ q) 0) qs ≡ end →
       Stands w (arrive ways (j ∷ q) qs got) end
   arrived w [] j q qs got end at p base ref inside is space spaces eq = record {
     base = base;
@@ -256,21 +280,26 @@ module _ (nester : Path) (slot : ℕ) (start : World) (near : far_field ((cut st
   -- ---- its own calls
 
   module _ (w : World) (base : Base nester slot start near w) (valid : IsValid w) (few : w.next ≤ depth) where
-    own_down : (from way : ℕ) (ways : List ℕ) (j : ℕ) (q : Path) (qs : List Path) (got : List Content) (at p : Path) (reply : Reply) (end : List Content) → FromIs nester slot start near w from at →
-        way ∷ at ≡ p ++ root → follow (way ∷ at) ways ≡ (j ∷ q) ++ root → Space_at (j ∷ q) → Spaces_left qs → IsAnswered nester w (Point OWN_SPACE PLACES from way) no_words reply →
+    own_down : (from way : ℕ) (ways : List ℕ) (j : ℕ) (q : Path) (qs : List Path) (got : List Content) (at p : Path) (reply : Reply) (end : List Content)
+        → FromIs nester slot start near w from at →
+        way ∷ at ≡ p ++ root → follow (way ∷ at) ways ≡ (j ∷ q) ++ root → Space_at (j ∷ q) → Spaces_left qs
+        → IsAnswered nester w (Point OWN_SPACE PLACES from way) no_words reply →
         with_content got (j ∷ q) (left_objects (j ∷ q) 0) (left_pages (j ∷ q) 0) qs ≡ end →
         Stands (after w (call_of nester (Point OWN_SPACE PLACES from way) no_words)) (arrive ways (j ∷ q) qs got) end
     unfolding is_fit
     own_down from way ways j q qs got at p reply end h inside is space spaces answered eq =
         let comes = comes_down nester slot start near valid_start few_start w base valid few from way ways j q at h is space in
-        let kind = kind_up nester slot start near w base valid few ways (way ∷ at) ((j ∷ q) ++ root) is (space_now nester slot start near valid_start few_start w base valid few (j ∷ q) space) in
+        let kind = kind_up nester slot start near w base valid few ways (way ∷ at) ((j ∷ q) ++ root) is
+        (space_now nester slot start near valid_start few_start w base valid few (j ∷ q) space) in
         let old = base.scratched.places in
         let row = point-row nester no_words w OWN_SPACE PLACES from way nester at old.0 (At (way ∷ at)) (own-place nester no_words w)
         (ref_read nester slot start near w base valid few PLACES old.0 refl old.1)
         (from_named nester slot start near w base valid few from at h (above_kind nester slot w base.holding valid way at kind))
-        (space_pointer nester no_words w at way (live_slot nester slot start near w base valid few way at (space_live nester slot start near w base valid few (way ∷ at) kind)) kind)
+        (space_pointer nester no_words w at way (live_slot nester slot start near w base valid few way at
+        (space_live nester slot start near w base valid few (way ∷ at) kind)) kind)
         (free nester slot start near w base valid few PLACES old.0 old.1) in
-        let goes = one_change nester slot start near w base valid few (Point OWN_SPACE PLACES from way) reply (Alter (PLACES ∷ nester) (SetPointer (At (way ∷ at)))) OK [] answered row in
+        let goes = one_change nester slot start near w base valid few (Point OWN_SPACE PLACES from way) reply
+        (Alter (PLACES ∷ nester) (SetPointer (At (way ∷ at)))) OK [] answered row in
         let nearby : (x : Path) → leads_to x (At (way ∷ at)) ≡ true → IsNear w root x = λ x led. inl (p, sym (same_path_eq (way ∷ at) x led) ∙ inside) in
         let valid_after : IsValid (apply (Alter (PLACES ∷ nester) (SetPointer (At (way ∷ at)))) w) =
         subst IsValid goes.0 (valid_own nester slot start near w base valid few (Point OWN_SPACE PLACES from way) refl) in
@@ -294,7 +323,8 @@ module _ (nester : Path) (slot : ℕ) (start : World) (near : far_field ((cut st
     taken_none : (q : Path) (k i : ℕ) → is_there q i ≡ None → record_at c q i ≡ None
     taken_none q k i e = record_there q i ∙ ap record_in e
 
-    own_search : (k : ℕ) (objects : List Item) (q : Path) (qs : List Path) (got : List Content) (reply : Reply) (end : List Content) → Placed w q → Space_at q → k ≤ SLOTS → Spaces_left qs →
+    own_search : (k : ℕ) (objects : List Item) (q : Path) (qs : List Path) (got : List Content) (reply : Reply) (end : List Content) → Placed w q → Space_at q
+        → k ≤ SLOTS → Spaces_left qs →
         IsAnswered nester w (Search (space_at slot q) k) no_words reply → with_content got q (objects ++ left_objects q k) (left_pages q 0) qs ≡ end →
         Stands (after w (call_of nester (Search (space_at slot q) k) no_words)) (searched k objects q qs got reply.status reply.words) end
     own_search k objects q qs got reply end placed space low spaces answered eq = by (scan (is_there q) SLOTS k low)
@@ -308,16 +338,19 @@ module _ (nester : Path) (slot : ℕ) (start : World) (near : far_field ((cut st
           position = AtLooks 0 objects [] q qs got placed space (omega arith);
           spaces = spaces;
           end = ap (λ (os : List Item). with_content got q os (left_pages q 0) qs)
-              (sym (none_more objects) ∙ ap (λ (os : List Item). objects ++ os) (sym (listed_none (record_at c q) SLOTS k low (λ i up less. taken_none q k i (none i up less))))) ∙ eq;
+              (sym (none_more objects) ∙ ap (λ (os : List Item). objects ++ os)
+              (sym (listed_none (record_at c q) SLOTS k low (λ i up less. taken_none q k i (none i up less))))) ∙ eq;
         }
 
-        listed : (j : ℕ) → k ≤ j → j < SLOTS → ((i : ℕ) → k ≤ i → i < j → is_there q i ≡ None) → left_objects q k ≡ with_item j (record_at c q j) (left_objects q (j + 1))
+        listed : (j : ℕ) → k ≤ j → j < SLOTS → ((i : ℕ) → k ≤ i → i < j → is_there q i ≡ None)
+            → left_objects q k ≡ with_item j (record_at c q j) (left_objects q (j + 1))
         listed j up high before = listed_first (record_at c q) SLOTS k j up high (λ i least less. taken_none q k i (before i least less))
 
         here : (j : ℕ) → j < SLOTS → left_objects q j ≡ with_item j (record_at c q j) (left_objects q (j + 1))
         here j high = listed_first (record_at c q) SLOTS j j (omega arith) high (λ i low less. absurd (omega (arith, low, less)))
 
-        reads : (j : ℕ) (b : Body) → k ≤ j → j < SLOTS → is_there q j ≡ Some b → ((i : ℕ) → k ≤ i → i < j → is_there q i ≡ None) → record_in (Some b) ≡ Some (record_of b) →
+        reads : (j : ℕ) (b : Body) → k ≤ j → j < SLOTS → is_there q j ≡ Some b → ((i : ℕ) → k ≤ i → i < j → is_there q i ≡ None)
+            → record_in (Some b) ≡ Some (record_of b) →
             Stands w (Reads j objects q qs got) end
         reads j b up high is before has = record {
           base = base;
@@ -337,10 +370,12 @@ module _ (nester : Path) (slot : ℕ) (start : World) (near : far_field ((cut st
         }
 
         found : (j : ℕ) (b : Body) → k ≤ j → j < SLOTS → is_there q j ≡ Some b → ((i : ℕ) → k ≤ i → i < j → is_there q i ≡ None) → (t : State) →
-            cond (number_of_kind (kind_of b) == number_of_kind kinds.Space) (Searches (j + 1) objects q qs got) (Reads j objects q qs got) ≡ t → Stands w t end → Goal
+            cond (number_of_kind (kind_of b) == number_of_kind kinds.Space) (Searches (j + 1) objects q qs got) (Reads j objects q qs got) ≡ t
+            → Stands w t end → Goal
         found j b up high is before t e its =
             let row = search_comes nester slot start near valid_start few_start w base valid few q k placed space (Some (j, number_of_kind (kind_of b)))
-            (lowest_first (is_there q) SLOTS (seen_taken nester slot start near valid_start few_start w base valid few q k) k (below_none nester slot start near valid_start few_start w base valid few q k) j (j, number_of_kind (kind_of b)) up high
+            (lowest_first (is_there q) SLOTS (seen_taken nester slot start near valid_start few_start w base valid few q k) k
+            (below_none nester slot start near valid_start few_start w base valid few q k) j (j, number_of_kind (kind_of b)) up high
             (found_there nester slot start near valid_start few_start w base valid few q k j b up high is)
             (λ i least less. empty_none nester slot start near valid_start few_start w base valid few q k i (before i least less))) in
             stands_at (Search (space_at slot q) k) reply OK (j ∷ number_of_kind (kind_of b) ∷ []) (Searches k objects q qs got) t end answered row
@@ -349,18 +384,27 @@ module _ (nester : Path) (slot : ℕ) (start : World) (near : far_field ((cut st
         by : Scan (is_there q) SLOTS k → Goal
         by (Nobody none listed) =
             let row = search_comes nester slot start near valid_start few_start w base valid few q k placed space None
-            (lowest_none (is_there q) SLOTS (seen_taken nester slot start near valid_start few_start w base valid few q k) k (below_none nester slot start near valid_start few_start w base valid few q k)
+            (lowest_none (is_there q) SLOTS (seen_taken nester slot start near valid_start few_start w base valid few q k) k
+            (below_none nester slot start near valid_start few_start w base valid few q k)
             (λ j up high. empty_none nester slot start near valid_start few_start w base valid few q k j (none j up high))) in
             stands_at (Search (space_at slot q) k) reply NONE [] (Searches k objects q qs got) (Looks 0 objects [] q qs got) end answered row refl (over none)
-        by (First j (Space birth holder) up high is before ignored) = found j (Space birth holder) up high is before (Searches (j + 1) objects q qs got) refl (passes j birth holder up high is before)
-        by (First j (Mutex locked) up high is before ignored) = found j (Mutex locked) up high is before (Reads j objects q qs got) refl (reads j (Mutex locked) up high is before refl)
+        by (First j (Space birth holder) up high is before ignored) = found j (Space birth holder) up high is before (Searches (j + 1) objects q qs got) refl
+            (passes j birth holder up high is before)
+        by (First j (Mutex locked) up high is before ignored) = found j (Mutex locked) up high is before (Reads j objects q qs got) refl
+            (reads j (Mutex locked) up high is before refl)
         by (First j Cond up high is before ignored) = found j Cond up high is before (Reads j objects q qs got) refl (reads j Cond up high is before refl)
-        by (First j (Mapping m) up high is before ignored) = found j (Mapping m) up high is before (Reads j objects q qs got) refl (reads j (Mapping m) up high is before refl)
-        by (First j (Region r) up high is before ignored) = found j (Region r) up high is before (Reads j objects q qs got) refl (reads j (Region r) up high is before refl)
-        by (First j (Port set served) up high is before ignored) = found j (Port set served) up high is before (Reads j objects q qs got) refl (reads j (Port set served) up high is before refl)
-        by (First j Portset up high is before ignored) = found j Portset up high is before (Reads j objects q qs got) refl (reads j Portset up high is before refl)
-        by (First j (Thread_of t) up high is before ignored) = found j (Thread_of t) up high is before (Reads j objects q qs got) refl (reads j (Thread_of t) up high is before refl)
-        by (First j (Reference to) up high is before ignored) = found j (Reference to) up high is before (Reads j objects q qs got) refl (reads j (Reference to) up high is before refl)
+        by (First j (Mapping m) up high is before ignored) = found j (Mapping m) up high is before (Reads j objects q qs got) refl
+            (reads j (Mapping m) up high is before refl)
+        by (First j (Region r) up high is before ignored) = found j (Region r) up high is before (Reads j objects q qs got) refl
+            (reads j (Region r) up high is before refl)
+        by (First j (Port set served) up high is before ignored) = found j (Port set served) up high is before (Reads j objects q qs got) refl
+            (reads j (Port set served) up high is before refl)
+        by (First j Portset up high is before ignored) = found j Portset up high is before (Reads j objects q qs got) refl
+            (reads j Portset up high is before refl)
+        by (First j (Thread_of t) up high is before ignored) = found j (Thread_of t) up high is before (Reads j objects q qs got) refl
+            (reads j (Thread_of t) up high is before refl)
+        by (First j (Reference to) up high is before ignored) = found j (Reference to) up high is before (Reads j objects q qs got) refl
+            (reads j (Reference to) up high is before refl)
 
     -- a record
 
@@ -368,9 +412,11 @@ module _ (nester : Path) (slot : ℕ) (start : World) (near : far_field ((cut st
         call_row w (porter nester no_words) None (GetState (space_at slot q) j 0) ≡ Goes [] (Answered OK (record_of b))
     record_row q j b placed space high is =
         state-row nester no_words w (space_at slot q) j (q ++ root) b (named nester slot start near valid_start few_start w base valid few q placed space)
-        (object-there nester no_words w anything (q ++ root) j b b (le-leb j LAST_PORTER_SLOT (omega (arith, high))) (same_there nester slot start near valid_start few_start w base valid few q j ∙ is) refl)
+        (object-there nester no_words w anything (q ++ root) j b b (le-leb j LAST_PORTER_SLOT (omega (arith, high)))
+        (same_there nester slot start near valid_start few_start w base valid few q j ∙ is) refl)
 
-    own_record : (j : ℕ) (objects : List Item) (q : Path) (qs : List Path) (got : List Content) (reply : Reply) (end : List Content) → Placed w q → Space_at q → j < SLOTS → Object_at q j → Spaces_left qs →
+    own_record : (j : ℕ) (objects : List Item) (q : Path) (qs : List Path) (got : List Content) (reply : Reply) (end : List Content) → Placed w q → Space_at q
+        → j < SLOTS → Object_at q j → Spaces_left qs →
         IsAnswered nester w (GetState (space_at slot q) j 0) no_words reply → with_content got q (objects ++ left_objects q j) (left_pages q 0) qs ≡ end →
         Stands (after w (call_of nester (GetState (space_at slot q) j 0) no_words)) (next slot (Reads j objects q qs got) reply.status reply.words) end
     own_record j objects q qs got reply end placed space high object spaces answered eq =
@@ -378,13 +424,15 @@ module _ (nester : Path) (slot : ℕ) (start : World) (near : far_field ((cut st
         let listed : left_objects q j ≡ item ∷ left_objects q (j + 1) =
         listed_first (record_at c q) SLOTS j j (omega arith) high (λ i low less. absurd (omega (arith, low, less)))
         ∙ ap (λ (o : Option (List ℕ)). with_item j o (left_objects q (j + 1))) (record_there q j ∙ (ap record_in object.is ∙ object.has)) in
-        stands_at (GetState (space_at slot q) j 0) reply OK (record_of object.body) (Reads j objects q qs got) (Searches (j + 1) (objects ++ item ∷ []) q qs got) end answered
+        stands_at (GetState (space_at slot q) j 0) reply OK (record_of object.body) (Reads j objects q qs got)
+        (Searches (j + 1) (objects ++ item ∷ []) q qs got) end answered
         (record_row q j object.body placed space high object.is) refl
         (record {
           base = base;
           position = AtSearches (j + 1) (objects ++ item ∷ []) q qs got placed space (omega (arith, high));
           spaces = spaces;
-          end = ap (λ (os : List Item). with_content got q os (left_pages q 0) qs) (pushed objects item (left_objects q (j + 1)) ∙ ap (λ (os : List Item). objects ++ os) (sym listed)) ∙ eq;
+          end = ap (λ (os : List Item). with_content got q os (left_pages q 0) qs) (pushed objects item (left_objects q (j + 1))
+              ∙ ap (λ (os : List Item). objects ++ os) (sym listed)) ∙ eq;
         })
 
     -- pages
@@ -403,7 +451,8 @@ module _ (nester : Path) (slot : ℕ) (start : World) (near : far_field ((cut st
         by false e = refl
 
     page_none : (q : Path) (from page : ℕ) → c.page q page ≡ None → seen_page q from page ≡ None
-    page_none q from page e = ap (λ (o : Option (List ℕ)). cond (nat_le from page) (option_map {T = List ℕ} {U = ℕ} (λ words. page) o) None) (page_now q page ∙ e) ∙ by (nat_le from page)
+    page_none q from page e = ap (λ (o : Option (List ℕ)). cond (nat_le from page) (option_map {T = List ℕ} {U = ℕ} (λ words. page) o) None) (page_now q page
+        ∙ e) ∙ by (nat_le from page)
       where
         by : (t : Bool) → cond t (option_map {T = List ℕ} {U = ℕ} (λ words. page) None) None ≡ None
         by true = refl
@@ -416,58 +465,76 @@ module _ (nester : Path) (slot : ℕ) (start : World) (near : far_field ((cut st
         call_row w (porter nester no_words) None (PageNext (space_at slot q) from) ≡ page_as nester no_words w o
     unfolding next_page
     pages_row q from placed space o e =
-        page_next-row nester no_words w (space_at slot q) from (q ++ root) (named nester slot start near valid_start few_start w base valid few q placed space) ∙ ap (page_as nester no_words w) e
+        page_next-row nester no_words w (space_at slot q) from (q ++ root)
+        (named nester slot start near valid_start few_start w base valid few q placed space) ∙ ap (page_as nester no_words w) e
 
-    own_pages : (from : ℕ) (objects pages : List Item) (q : Path) (qs : List Path) (got : List Content) (reply : Reply) (end : List Content) → Placed w q → Space_at q → from ≤ PAGES → Spaces_left qs →
+    own_pages : (from : ℕ) (objects pages : List Item) (q : Path) (qs : List Path) (got : List Content) (reply : Reply) (end : List Content) → Placed w q
+        → Space_at q → from ≤ PAGES → Spaces_left qs →
         IsAnswered nester w (PageNext (space_at slot q) from) no_words reply → with_content got q objects (pages ++ left_pages q from) qs ≡ end →
         Stands (after w (call_of nester (PageNext (space_at slot q) from) no_words)) (looked slot from objects pages q qs got reply.status reply.words) end
     own_pages from objects pages q qs got reply end placed space low spaces answered eq = by (scan (c.page q) PAGES from low)
       where
         Goal : Type 0
-        Goal = Stands (after w (call_of nester (PageNext (space_at slot q) from) no_words)) (looked slot from objects pages q qs got reply.status reply.words) end
+        Goal = Stands (after w (call_of nester (PageNext (space_at slot q) from) no_words))
+            (looked slot from objects pages q qs got reply.status reply.words) end
 
-        ended : ((i : ℕ) → from ≤ i → i < PAGES → c.page q i ≡ None) → Stands w (begin slot qs (got ++ record { path = q; objects = objects; pages = pages } ∷ [])) end
+        ended : ((i : ℕ) → from ≤ i → i < PAGES → c.page q i ≡ None)
+            → Stands w (begin slot qs (got ++ record { path = q; objects = objects; pages = pages } ∷ [])) end
         ended none =
-            let all : pages ≡ pages ++ left_pages q from = sym (none_more pages) ∙ ap (λ (ps : List Item). pages ++ ps) (sym (listed_none (c.page q) PAGES from low none)) in
+            let all : pages ≡ pages ++ left_pages q from = sym (none_more pages)
+            ∙ ap (λ (ps : List Item). pages ++ ps) (sym (listed_none (c.page q) PAGES from low none)) in
             subst (λ (end : List Content). Stands w (begin slot qs (got ++ record { path = q; objects = objects; pages = pages } ∷ [])) end)
-            (pushed got (record { path = q; objects = objects; pages = pages }) (map (content c) qs) ∙ (ap (λ (ps : List Item). with_content got q objects ps qs) all ∙ eq))
+            (pushed got (record { path = q; objects = objects; pages = pages }) (map (content c) qs)
+            ∙ (ap (λ (ps : List Item). with_content got q objects ps qs) all ∙ eq))
             (begins w qs (got ++ record { path = q; objects = objects; pages = pages } ∷ []) base spaces)
 
         by : Scan (c.page q) PAGES from → Goal
         by (Nobody none ignored) =
-            stands_at (PageNext (space_at slot q) from) reply NONE [] (Looks from objects pages q qs got) (begin slot qs (got ++ record { path = q; objects = objects; pages = pages } ∷ [])) end answered
-            (pages_row q from placed space None (lowest_none (c.page q) PAGES (seen_page q from) from (page_below q from) (λ j up high. page_none q from j (none j up high)))) refl (ended none)
+            stands_at (PageNext (space_at slot q) from) reply NONE [] (Looks from objects pages q qs got)
+            (begin slot qs (got ++ record { path = q; objects = objects; pages = pages } ∷ [])) end answered
+            (pages_row q from placed space None (lowest_none (c.page q) PAGES (seen_page q from) from (page_below q from)
+            (λ j up high. page_none q from j (none j up high)))) refl (ended none)
         by (First j words up high is before ignored) =
             stands_at (PageNext (space_at slot q) from) reply OK (j ∷ []) (Looks from objects pages q qs got) (Copies j objects pages q qs got) end answered
-            (pages_row q from placed space (Some j) (lowest_first (c.page q) PAGES (seen_page q from) from (page_below q from) j j up high (page_found q from j words up is) (λ i least less. page_none q from i (before i least less))))
+            (pages_row q from placed space (Some j)
+            (lowest_first (c.page q) PAGES (seen_page q from) from (page_below q from) j j up high (page_found q from j words up is)
+            (λ i least less. page_none q from i (before i least less))))
             (rw (le-leb from j up, le-leb (suc j) PAGES high) refl)
             (record {
               base = base;
               position = AtCopies j objects pages q qs got words placed space high is;
               spaces = spaces;
               end = ap (λ (ps : List Item). with_content got q objects (pages ++ ps) qs)
-                  (listed_first (c.page q) PAGES j j (omega arith) high (λ i low less. absurd (omega (arith, low, less))) ∙ sym (listed_first (c.page q) PAGES from j up high before)) ∙ eq;
+                  (listed_first (c.page q) PAGES j j (omega arith) high (λ i low less. absurd (omega (arith, low, less)))
+                  ∙ sym (listed_first (c.page q) PAGES from j up high before)) ∙ eq;
             })
 
     page_row : (q : Path) (page : ℕ) (words : List ℕ) → Placed w q → Space_at q → page < PAGES → c.page q page ≡ Some words →
         call_row w (porter nester no_words) None (PageRead (space_at slot q) page 0) ≡ Goes [] (Answered OK words)
     page_row q page words placed space high is =
-        page_read-row nester no_words w (space_at slot q) page (q ++ root) words (named nester slot start near valid_start few_start w base valid few q placed space) (le-leb (suc page) PAGES high) (page_now q page ∙ is)
+        page_read-row nester no_words w (space_at slot q) page (q ++ root) words
+        (named nester slot start near valid_start few_start w base valid few q placed space) (le-leb (suc page) PAGES high) (page_now q page ∙ is)
 
-    own_page : (page : ℕ) (objects pages : List Item) (q : Path) (qs : List Path) (got : List Content) (words : List ℕ) (reply : Reply) (end : List Content) → Placed w q → Space_at q → page < PAGES →
-        c.page q page ≡ Some words → Spaces_left qs → IsAnswered nester w (PageRead (space_at slot q) page 0) no_words reply → with_content got q objects (pages ++ left_pages q page) qs ≡ end →
-        Stands (after w (call_of nester (PageRead (space_at slot q) page 0) no_words)) (next slot (Copies page objects pages q qs got) reply.status reply.words) end
+    own_page : (page : ℕ) (objects pages : List Item) (q : Path) (qs : List Path) (got : List Content) (words : List ℕ) (reply : Reply) (end : List Content)
+        → Placed w q → Space_at q → page < PAGES →
+        c.page q page ≡ Some words → Spaces_left qs → IsAnswered nester w (PageRead (space_at slot q) page 0) no_words reply
+        → with_content got q objects (pages ++ left_pages q page) qs ≡ end →
+        Stands (after w (call_of nester (PageRead (space_at slot q) page 0) no_words))
+        (next slot (Copies page objects pages q qs got) reply.status reply.words) end
     own_page page objects pages q qs got words reply end placed space high is spaces answered eq =
         let item : Item = record { number = page; words = words } in
         let listed : left_pages q page ≡ item ∷ left_pages q (page + 1) =
-        listed_first (c.page q) PAGES page page (omega arith) high (λ i low less. absurd (omega (arith, low, less))) ∙ ap (λ (o : Option (List ℕ)). with_item page o (left_pages q (page + 1))) is in
-        stands_at (PageRead (space_at slot q) page 0) reply OK words (Copies page objects pages q qs got) (Looks (page + 1) objects (pages ++ item ∷ []) q qs got) end answered
+        listed_first (c.page q) PAGES page page (omega arith) high (λ i low less. absurd (omega (arith, low, less)))
+        ∙ ap (λ (o : Option (List ℕ)). with_item page o (left_pages q (page + 1))) is in
+        stands_at (PageRead (space_at slot q) page 0) reply OK words (Copies page objects pages q qs got)
+        (Looks (page + 1) objects (pages ++ item ∷ []) q qs got) end answered
         (page_row q page words placed space high is) refl
         (record {
           base = base;
           position = AtLooks (page + 1) objects (pages ++ item ∷ []) q qs got placed space (omega (arith, high));
           spaces = spaces;
-          end = ap (λ (ps : List Item). with_content got q objects ps qs) (pushed pages item (left_pages q (page + 1)) ∙ ap (λ (ps : List Item). pages ++ ps) (sym listed)) ∙ eq;
+          end = ap (λ (ps : List Item). with_content got q objects ps qs) (pushed pages item (left_pages q (page + 1))
+              ∙ ap (λ (ps : List Item). pages ++ ps) (sym listed)) ∙ eq;
         })
 
     -- ---- each call comes to something
@@ -493,10 +560,19 @@ module _ (nester : Path) (slot : ℕ) (start : World) (near : far_field ((cut st
         asked (Point OWN_SPACE PLACES from way) stage no_words words asks (λ st ws. ComesWith nester w st ws)
         (refl, comes_down nester slot start near valid_start few_start w base valid few from way ways j q at h is space)
     comes_next _ stage words (AtSearches k objects q qs got placed space low) asks =
-        asked (Search (space_at slot q) k) stage no_words words asks (λ st ws. ComesWith nester w st ws) (refl, comes_search nester slot start near valid_start few_start w base valid few q k placed space)
+        asked (Search (space_at slot q) k) stage no_words words asks (λ st ws. ComesWith nester w st ws)
+        (refl, comes_search nester slot start near valid_start few_start w base valid few q k placed space)
     comes_next _ stage words (AtReads j objects q qs got placed space high object) asks =
-        asked (GetState (space_at slot q) j 0) stage no_words words asks (λ st ws. ComesWith nester w st ws)
-        (refl, record { changes = []; status = OK; given = record_of object.body; row = record_row q j object.body placed space high object.is; mild = Changes_nothing })
+        asked (GetState (space_at slot q) j 0) stage no_words words asks (λ st ws. ComesWith nester w st ws) (
+          refl,
+          record {
+            changes = [];
+            status = OK;
+            given = record_of object.body;
+            row = record_row q j object.body placed space high object.is;
+            mild = Changes_nothing;
+          },
+        )
     comes_next _ stage words (AtLooks from objects pages q qs got placed space low) asks =
         asked (PageNext (space_at slot q) from) stage no_words words asks (λ st ws. ComesWith nester w st ws) (refl, comes_pages q from placed space)
     comes_next _ stage words (AtCopies page objects pages q qs got found placed space high is) asks =
@@ -506,14 +582,16 @@ module _ (nester : Path) (slot : ℕ) (start : World) (near : far_field ((cut st
 
   -- ---- the whole
 
-  pub own : (w : World) (s : State) (stage : Stage) (words : List ℕ) (reply : Reply) (end : List Content) → Stands w s end → head slot s ≡ Asks stage words → IsAnswered nester w stage words reply →
+  pub own : (w : World) (s : State) (stage : Stage) (words : List ℕ) (reply : Reply) (end : List Content) → Stands w s end → head slot s ≡ Asks stage words
+      → IsAnswered nester w stage words reply →
       Stands (after w (call_of nester stage words)) (next slot s reply.status reply.words) end
   own w s stage words reply end its asks answered = by s its.position its.spaces its.end asks answered
     where
       Goal : State → Stage → List ℕ → Type 0
       Goal s st ws = IsAnswered nester w st ws reply → Stands (after w (call_of nester st ws)) (next slot s reply.status reply.words) end
 
-      go : (stage other : Stage) (words given : List ℕ) → asking w its.base answered.valid answered.few stage words ≡ Asks other given → (P : Stage → List ℕ → Type 0) → P stage words → P other given
+      go : (stage other : Stage) (words given : List ℕ) → asking w its.base answered.valid answered.few stage words ≡ Asks other given
+          → (P : Stage → List ℕ → Type 0) → P stage words → P other given
       go = asked w its.base answered.valid answered.few
 
       by : (s : State) → Position w s → Spaces_left (rest_of s) → ends s ≡ end → head slot s ≡ Asks stage words → Goal s stage words
@@ -521,17 +599,21 @@ module _ (nester : Path) (slot : ℕ) (start : World) (near : far_field ((cut st
           go (Point OWN_SPACE PLACES from way) stage no_words words asks (Goal (Down from (way ∷ ways) (j ∷ q) qs got))
           (λ mine. own_down w its.base mine.valid mine.few from way ways j q qs got at p reply end h inside is space spaces mine eq)
       by _ (AtSearches k objects q qs got placed space low) spaces eq asks =
-          go (Search (space_at slot q) k) stage no_words words asks (Goal (Searches k objects q qs got)) (λ mine. own_search w its.base mine.valid mine.few k objects q qs got reply end placed space low spaces mine eq)
+          go (Search (space_at slot q) k) stage no_words words asks (Goal (Searches k objects q qs got))
+          (λ mine. own_search w its.base mine.valid mine.few k objects q qs got reply end placed space low spaces mine eq)
       by _ (AtReads j objects q qs got placed space high object) spaces eq asks =
-          go (GetState (space_at slot q) j 0) stage no_words words asks (Goal (Reads j objects q qs got)) (λ mine. own_record w its.base mine.valid mine.few j objects q qs got reply end placed space high object spaces mine eq)
+          go (GetState (space_at slot q) j 0) stage no_words words asks (Goal (Reads j objects q qs got))
+          (λ mine. own_record w its.base mine.valid mine.few j objects q qs got reply end placed space high object spaces mine eq)
       by _ (AtLooks from objects pages q qs got placed space low) spaces eq asks =
-          go (PageNext (space_at slot q) from) stage no_words words asks (Goal (Looks from objects pages q qs got)) (λ mine. own_pages w its.base mine.valid mine.few from objects pages q qs got reply end placed space low spaces mine eq)
+          go (PageNext (space_at slot q) from) stage no_words words asks (Goal (Looks from objects pages q qs got))
+          (λ mine. own_pages w its.base mine.valid mine.few from objects pages q qs got reply end placed space low spaces mine eq)
       by _ (AtCopies page objects pages q qs got found placed space high is) spaces eq asks =
           go (PageRead (space_at slot q) page 0) stage no_words words asks (Goal (Copies page objects pages q qs got))
           (λ mine. own_page w its.base mine.valid mine.few page objects pages q qs got found reply end placed space high is spaces mine eq)
       by _ (AtOver got) spaces eq asks = cc
 
-  pub arrives : (w v : World) (s t : State) (es : List Event) (end : List Content) → Stands w s end → Interleaved (reader slot) nester w s es v t → Stands v t end
+  pub arrives : (w v : World) (s t : State) (es : List Event) (end : List Content) → Stands w s end → Interleaved (reader slot) nester w s es v t
+      → Stands v t end
   arrives _ _ _ _ _ end its (Here w s sound) = its
   arrives _ v _ t _ end its (Another w s e es _ _ sound works moves rest) =
       arrives (after w e) v s t es end (others w e s end moves (first_sound (reader slot) nester (after w e) s es v t rest).whole.few its) rest
@@ -561,6 +643,7 @@ pub spaces_are_read : SpacesAreRead
 spaces_are_read nester slot w v t es got qs holding sound scratched spaces run stops =
     let near = (root_is nester slot w holding sound.whole.valid).0 in
     let base = first_base nester slot w holding near scratched in
-    let first = begins nester slot w near sound.whole.valid sound.whole.few w qs [] base (spaces_of nester slot w near sound.whole.valid sound.whole.few qs spaces) in
+    let first = begins nester slot w near sound.whole.valid sound.whole.few w qs [] base
+    (spaces_of nester slot w near sound.whole.valid sound.whole.few qs spaces) in
     finds nester slot w near sound.whole.valid sound.whole.few v t got (map (content (cut w nester slot)) qs)
     (arrives nester slot w near sound.whole.valid sound.whole.few w v (begin slot qs []) t es (map (content (cut w nester slot)) qs) first run) stops

@@ -61,7 +61,8 @@ abbrev pub call_head : {A : Type 0} → Stage → List ℕ → Head A
 call_head stage words = Asks stage words
 
 -- of a call that is known
-pub given_by : {A : Type 0} (v : World) (nester : Path) (stage other : Stage) (words : List ℕ) → call_head {A = A} stage no_words ≡ Asks other words → IsOwedCall v nester stage no_words →
+pub given_by : {A : Type 0} (v : World) (nester : Path) (stage other : Stage) (words : List ℕ) → call_head {A = A} stage no_words ≡ Asks other words
+    → IsOwedCall v nester stage no_words →
     IsOwedCall v nester other words
 given_by v nester stage other words e owed =
     let one : stage ≡ other = cc in
@@ -74,7 +75,8 @@ module _ (slot birth : ℕ) (w : World) (nester : Path) (low : slot ≤ LAST_USE
     NeverHeld : (IsSpaceAt w (slot ∷ nester) → ⊥) → v ≡ w → t ≡ Over Gone → Came v t
     InPhase : (held : Held nester slot w) (sound : IsSound (held_world nester slot w)) → Phase nester slot birth low w may held sound v t → Came v t
 
-  over_here : (v u : World) (end : End) (s t : State) (es : List Event) → s ≡ Over end → Interleaved (checkpoint slot) nester v s es u t → (u ≡ v) × (t ≡ Over end)
+  over_here : (v u : World) (end : End) (s t : State) (es : List Event) → s ≡ Over end → Interleaved (checkpoint slot) nester v s es u t
+      → (u ≡ v) × (t ≡ Over end)
   over_here _ _ end _ _ _ same (Here v s sound) = (refl, same)
   over_here _ u end _ t _ same (Another v s e es _ _ sound works moves rest) =
       let stops : head slot s ≡ Stops end = ap (head slot) same in
@@ -123,8 +125,10 @@ module _ (slot birth : ℕ) (w : World) (nester : Path) (low : slot ≤ LAST_USE
           let first = first_phase held sound in
           let here : Interleaved (checkpoint slot) nester (held_world nester slot w) (Readies PLACES (TARGETS ∷ STEPS ∷ [])) es v t =
           subst (λ (s : State). Interleaved (checkpoint slot) nester (held_world nester slot w) s es v t) (first_state (said_of w (hold nester slot)) held.said)
-          (subst (λ (u : World). Interleaved (checkpoint slot) nester u (heard (checkpoint slot) Holds (said_of w (hold nester slot))) es v t) held.world run) in
-          InPhase held sound (arrives nester slot birth low w may held sound (held_world nester slot w) v (Readies PLACES (TARGETS ∷ STEPS ∷ [])) t es first here)
+          (subst (λ (u : World). Interleaved (checkpoint slot) nester u
+          (heard (checkpoint slot) Holds (said_of w (hold nester slot))) es v t) held.world run) in
+          InPhase held sound (arrives nester slot birth low w may held sound (held_world nester slot w) v
+          (Readies PLACES (TARGETS ∷ STEPS ∷ [])) t es first here)
 
       by : IsSound (after w (hold nester slot)) → Held nester slot w ⊎ Unheld nester slot w → Came v t
       by sound (inl held) = begun sound held (subst IsSound held.world sound)
@@ -166,8 +170,10 @@ module _ (slot birth : ℕ) (w : World) (nester : Path) (low : slot ≤ LAST_USE
   -- ---- the end
 
   -- in a state of work it doesn't end
-  pub ended_in : (held : Held nester slot w) (sound : IsSound (held_world nester slot w)) (v : World) (t : State) (end : End) → Phase nester slot birth low w may held sound v t →
-      head slot t ≡ Stops end → Verdict nester slot birth low w may held sound end × (t ≡ Over end) × (holder_of (v.body (slot ∷ nester)) ≡ None) × Tidy nester slot birth v []
+  pub ended_in : (held : Held nester slot w) (sound : IsSound (held_world nester slot w)) (v : World) (t : State) (end : End)
+      → Phase nester slot birth low w may held sound v t →
+      head slot t ≡ Stops end → Verdict nester slot birth low w may held sound end × (t ≡ Over end) × (holder_of (v.body (slot ∷ nester)) ≡ None)
+      × Tidy nester slot birth v []
   ended_in held sound v _ end (AtFirst its tidy) stops = cc
   ended_in held sound v _ end (AtSecond its places tidy) stops = cc
   ended_in held sound v _ end (AtThird its places targets tidy) stops = cc
@@ -183,7 +189,8 @@ module _ (slot birth : ℕ) (w : World) (nester : Path) (low : slot ≤ LAST_USE
       let its : other ≡ end = (let e : head slot (Over other) ≡ Stops end = stops in same_end other end e) in
       (subst (Verdict nester slot birth low w may held sound) its verdict, ap Over its, unheld, tidy)
 
-  as_it_was : (held : Held nester slot w) (sound : IsSound (held_world nester slot w)) (end : End) → Verdict nester slot birth low w may held sound end → EndsAsItWas w nester slot end
+  as_it_was : (held : Held nester slot w) (sound : IsSound (held_world nester slot w)) (end : End) → Verdict nester slot birth low w may held sound end
+      → EndsAsItWas w nester slot end
   as_it_was held sound Gone verdict = absurd verdict
   as_it_was held sound (Foreign place) verdict = verdict
   as_it_was held sound (Done image) verdict = (held.space, verdict.0)
@@ -221,7 +228,8 @@ module _ (slot birth : ℕ) (w : World) (nester : Path) (low : slot ≤ LAST_USE
 
   pub porter_stays : (v : World) (t : State) (stage : Stage) (words : List ℕ) → Came v t → head slot t ≡ Asks stage words → HasPorter v nester birth
   porter_stays v t stage words (NeverHeld none same over) asks_it = let both = sym (ap (head slot) over) ∙ asks_it in cc
-  porter_stays v t stage words (InPhase held sound phase) asks_it = let its = porter_in held sound v t stage words phase asks_it in record { porter = its.0.porter; named = its.1 }
+  porter_stays v t stage words (InPhase held sound phase) asks_it = let its = porter_in held sound v t stage words phase asks_it in
+      record { porter = its.0.porter; named = its.1 }
 
 -- ---- what its calls owe
 
@@ -229,8 +237,10 @@ module _ (slot : ℕ) (v : World) (nester : Path) where
   pub owed_walks : (s : walks.State) (stage : Stage) (words : List ℕ) → walks.head slot s ≡ Asks stage words → IsOwedCall v nester stage words
   unfolding is_fit
   owed_walks (w_Down from [] q k got) stage words e = cc
-  owed_walks (w_Down from (way ∷ ways) q k got) stage words e = given_by v nester (Point OWN_SPACE PLACES from way) stage words e (record { due = record { fit = refl; words = refl }; owes = tt; unpicking = refl })
-  owed_walks (w_Searches q k got) stage words e = given_by v nester (Search (walks.space_at slot q) k) stage words e (record { due = record { fit = refl; words = refl }; owes = tt; unpicking = refl })
+  owed_walks (w_Down from (way ∷ ways) q k got) stage words e = given_by v nester (Point OWN_SPACE PLACES from way) stage words e
+      (record { due = record { fit = refl; words = refl }; owes = tt; unpicking = refl })
+  owed_walks (w_Searches q k got) stage words e = given_by v nester (Search (walks.space_at slot q) k) stage words e
+      (record { due = record { fit = refl; words = refl }; owes = tt; unpicking = refl })
   owed_walks (w_Over got) stage words e = cc
 
   owed_count : (q : Path) → IsOwedCall v nester (seeks.counting slot q) no_words
@@ -246,31 +256,43 @@ module _ (slot : ℕ) (v : World) (nester : Path) where
   pub owed_seeks : (s : seeks.State) (stage : Stage) (words : List ℕ) → seeks.head slot s ≡ Asks stage words → IsOwedCall v nester stage words
   unfolding is_fit
   owed_seeks (s_Down from [] t ts) stage words e = cc
-  owed_seeks (s_Down from (way ∷ ways) t ts) stage words e = given_by v nester (Point OWN_SPACE PLACES from way) stage words e (record { due = record { fit = refl; words = refl }; owes = tt; unpicking = refl })
+  owed_seeks (s_Down from (way ∷ ways) t ts) stage words e = given_by v nester (Point OWN_SPACE PLACES from way) stage words e
+      (record { due = record { fit = refl; words = refl }; owes = tt; unpicking = refl })
   owed_seeks (s_Fields [] t ts) stage words e = given_by v nester (seeks.counting slot t.path) stage words e (owed_count t.path)
   owed_seeks (s_Fields (n ∷ fs) t ts) stage words e = given_by v nester (seeks.reading t.path n) stage words e (owed_read t.path n)
-  owed_seeks (s_Inside n fs t ts) stage words e = given_by v nester (Locate TARGETS slot) stage words e (record { due = record { fit = refl; words = refl }; owes = tt; unpicking = refl })
-  owed_seeks (s_Beside n fs t ts) stage words e = given_by v nester (Locate TARGETS OWN_SPACE) stage words e (record { due = record { fit = refl; words = refl }; owes = tt; unpicking = refl })
+  owed_seeks (s_Inside n fs t ts) stage words e = given_by v nester (Locate TARGETS slot) stage words e
+      (record { due = record { fit = refl; words = refl }; owes = tt; unpicking = refl })
+  owed_seeks (s_Beside n fs t ts) stage words e = given_by v nester (Locate TARGETS OWN_SPACE) stage words e
+      (record { due = record { fit = refl; words = refl }; owes = tt; unpicking = refl })
   owed_seeks (s_Over place) stage words e = cc
 
   pub owed_reads : (s : reads.State) (stage : Stage) (words : List ℕ) → reads.head slot s ≡ Asks stage words → IsOwedCall v nester stage words
   unfolding is_fit
   owed_reads (r_Down from [] q qs got) stage words e = cc
-  owed_reads (r_Down from (way ∷ ways) q qs got) stage words e = given_by v nester (Point OWN_SPACE PLACES from way) stage words e (record { due = record { fit = refl; words = refl }; owes = tt; unpicking = refl })
-  owed_reads (r_Searches k objects q qs got) stage words e = given_by v nester (Search (walks.space_at slot q) k) stage words e (record { due = record { fit = refl; words = refl }; owes = tt; unpicking = refl })
-  owed_reads (r_Reads j objects q qs got) stage words e = given_by v nester (GetState (walks.space_at slot q) j 0) stage words e (record { due = record { fit = refl; words = refl }; owes = tt; unpicking = refl })
-  owed_reads (r_Looks from objects pages q qs got) stage words e = given_by v nester (PageNext (walks.space_at slot q) from) stage words e (record { due = record { fit = refl; words = refl }; owes = tt; unpicking = refl })
-  owed_reads (r_Copies page objects pages q qs got) stage words e = given_by v nester (PageRead (walks.space_at slot q) page 0) stage words e (record { due = record { fit = refl; words = refl }; owes = tt; unpicking = refl })
+  owed_reads (r_Down from (way ∷ ways) q qs got) stage words e = given_by v nester (Point OWN_SPACE PLACES from way) stage words e
+      (record { due = record { fit = refl; words = refl }; owes = tt; unpicking = refl })
+  owed_reads (r_Searches k objects q qs got) stage words e = given_by v nester (Search (walks.space_at slot q) k) stage words e
+      (record { due = record { fit = refl; words = refl }; owes = tt; unpicking = refl })
+  owed_reads (r_Reads j objects q qs got) stage words e = given_by v nester (GetState (walks.space_at slot q) j 0) stage words e
+      (record { due = record { fit = refl; words = refl }; owes = tt; unpicking = refl })
+  owed_reads (r_Looks from objects pages q qs got) stage words e = given_by v nester (PageNext (walks.space_at slot q) from) stage words e
+      (record { due = record { fit = refl; words = refl }; owes = tt; unpicking = refl })
+  owed_reads (r_Copies page objects pages q qs got) stage words e = given_by v nester (PageRead (walks.space_at slot q) page 0) stage words e
+      (record { due = record { fit = refl; words = refl }; owes = tt; unpicking = refl })
   owed_reads (r_Over got) stage words e = cc
 
   pub owed_gathers : (s : gathers.State) (stage : Stage) (words : List ℕ) → gathers.head slot s ≡ Asks stage words → IsOwedCall v nester stage words
   unfolding is_fit
   owed_gathers (g_Down from [] t ts got) stage words e = cc
-  owed_gathers (g_Down from (way ∷ ways) t ts got) stage words e = given_by v nester (Point OWN_SPACE PLACES from way) stage words e (record { due = record { fit = refl; words = refl }; owes = tt; unpicking = refl })
+  owed_gathers (g_Down from (way ∷ ways) t ts got) stage words e = given_by v nester (Point OWN_SPACE PLACES from way) stage words e
+      (record { due = record { fit = refl; words = refl }; owes = tt; unpicking = refl })
   owed_gathers (g_Fields n fs t ts got) stage words e = given_by v nester (seeks.reading t.path n) stage words e (owed_read t.path n)
-  owed_gathers (g_Looks at n fs t ts got) stage words e = given_by v nester (Locate TARGETS (gathers.place_at slot at)) stage words e (record { due = record { fit = refl; words = refl }; owes = tt; unpicking = refl })
-  owed_gathers (g_Leads k at n fs t ts got) stage words e = given_by v nester (Point OWN_SPACE STEPS (gathers.place_at slot at) k) stage words e (record { due = record { fit = refl; words = refl }; owes = tt; unpicking = refl })
-  owed_gathers (g_Beside n fs t ts got) stage words e = given_by v nester (Locate TARGETS OWN_SPACE) stage words e (record { due = record { fit = refl; words = refl }; owes = tt; unpicking = refl })
+  owed_gathers (g_Looks at n fs t ts got) stage words e = given_by v nester (Locate TARGETS (gathers.place_at slot at)) stage words e
+      (record { due = record { fit = refl; words = refl }; owes = tt; unpicking = refl })
+  owed_gathers (g_Leads k at n fs t ts got) stage words e = given_by v nester (Point OWN_SPACE STEPS (gathers.place_at slot at) k) stage words e
+      (record { due = record { fit = refl; words = refl }; owes = tt; unpicking = refl })
+  owed_gathers (g_Beside n fs t ts got) stage words e = given_by v nester (Locate TARGETS OWN_SPACE) stage words e
+      (record { due = record { fit = refl; words = refl }; owes = tt; unpicking = refl })
   owed_gathers (g_Over got) stage words e = cc
 
 -- ---- its scratch is made beside its porter, and there is none where it releases
@@ -281,7 +303,8 @@ placed_at x = Ok x
 same_place : (x y : Path) → placed_at x ≡ Ok y → x ≡ y
 same_place x y e = cc
 
-owed_make : (v : World) (nester : Path) (r : ℕ) → IsOwnSlot r → holds is_native (v.body (LAST_PORTER_SLOT ∷ nester)) ≡ true → MayMake v (porter nester no_words) OWN_SPACE r 9
+owed_make : (v : World) (nester : Path) (r : ℕ) → IsOwnSlot r → holds is_native (v.body (LAST_PORTER_SLOT ∷ nester)) ≡ true
+    → MayMake v (porter nester no_words) OWN_SPACE r 9
 unfolding space_argument
 owed_make v nester r own native space e = subst (λ (s : Path). may_make v s r 9 ≡ true) (same_place nester space e) (by r own)
   where
@@ -310,24 +333,38 @@ module _ (slot birth : ℕ) (w : World) (nester : Path) (low : slot ≤ LAST_USE
   owed_in : (held : Held nester slot w) (sound : IsSound (held_world nester slot w)) (v : World) (t : State) (stage : Stage) (words : List ℕ) →
       Phase nester slot birth low w may held sound v t → head slot t ≡ Asks stage words → IsOwedCall v nester stage words
   unfolding is_fit
-  owed_in held sound v _ stage words (AtFirst its tidy) e = given_by v nester (Create OWN_SPACE PLACES 9) stage words e (record { due = record { fit = refl; words = refl }; owes = owed_make v nester PLACES Places its.holding.porter; unpicking = refl })
-  owed_in held sound v _ stage words (AtSecond its places tidy) e = given_by v nester (Create OWN_SPACE TARGETS 9) stage words e (record { due = record { fit = refl; words = refl }; owes = owed_make v nester TARGETS Targets its.holding.porter; unpicking = refl })
-  owed_in held sound v _ stage words (AtThird its places targets tidy) e = given_by v nester (Create OWN_SPACE STEPS 9) stage words e (record { due = record { fit = refl; words = refl }; owes = owed_make v nester STEPS Steps its.holding.porter; unpicking = refl })
+  owed_in held sound v _ stage words (AtFirst its tidy) e = given_by v nester (Create OWN_SPACE PLACES 9) stage words e
+      (record { due = record { fit = refl; words = refl }; owes = owed_make v nester PLACES Places its.holding.porter; unpicking = refl })
+  owed_in held sound v _ stage words (AtSecond its places tidy) e = given_by v nester (Create OWN_SPACE TARGETS 9) stage words e
+      (record { due = record { fit = refl; words = refl }; owes = owed_make v nester TARGETS Targets its.holding.porter; unpicking = refl })
+  owed_in held sound v _ stage words (AtThird its places targets tidy) e = given_by v nester (Create OWN_SPACE STEPS 9) stage words e
+      (record { due = record { fit = refl; words = refl }; owes = owed_make v nester STEPS Steps its.holding.porter; unpicking = refl })
   owed_in held sound v _ stage words (AtWalks s its asking tidy) e = owed_walks slot v nester s stage words (asks_back (walks.head slot s) stage words e)
   owed_in held sound v _ stage words (AtSeeks s its asking tidy) e = owed_seeks slot v nester s stage words (asks_back (seeks.head slot s) stage words e)
   owed_in held sound v _ stage words (AtReads s closed its asking tidy) e = owed_reads slot v nester s stage words (asks_back (reads.head slot s) stage words e)
-  owed_in held sound v _ stage words (AtGathers s closed its asking tidy) e = owed_gathers slot v nester s stage words (asks_back (gathers.head slot s) stage words e)
-  owed_in held sound v _ stage words (AtDrops end verdict its scratched tidy) e = given_by v nester (Destroy OWN_SPACE STEPS) stage words e (record { due = record { fit = refl; words = refl }; owes = refl; unpicking = refl })
-  owed_in held sound v _ stage words (AtTwoLeft end verdict its targets places tidy) e = given_by v nester (Destroy OWN_SPACE TARGETS) stage words e (record { due = record { fit = refl; words = refl }; owes = refl; unpicking = refl })
-  owed_in held sound v _ stage words (AtOneLeft end verdict its places tidy) e = given_by v nester (Destroy OWN_SPACE PLACES) stage words e (record { due = record { fit = refl; words = refl }; owes = refl; unpicking = refl })
-  owed_in held sound v _ stage words (AtReleases end verdict its tidy) e = given_by v nester (SpaceRelease OWN_SPACE slot) stage words e (record { due = record { fit = refl; words = refl }; owes = owed_release v nester slot (λ k is live. (tidy.clean (slot ∷ nester) k (scratch_of (slot ∷ nester) k is) live).1); unpicking = refl })
+  owed_in held sound v _ stage words (AtGathers s closed its asking tidy) e = owed_gathers slot v nester s stage words
+      (asks_back (gathers.head slot s) stage words e)
+  owed_in held sound v _ stage words (AtDrops end verdict its scratched tidy) e = given_by v nester (Destroy OWN_SPACE STEPS) stage words e
+      (record { due = record { fit = refl; words = refl }; owes = refl; unpicking = refl })
+  owed_in held sound v _ stage words (AtTwoLeft end verdict its targets places tidy) e = given_by v nester (Destroy OWN_SPACE TARGETS) stage words e
+      (record { due = record { fit = refl; words = refl }; owes = refl; unpicking = refl })
+  owed_in held sound v _ stage words (AtOneLeft end verdict its places tidy) e = given_by v nester (Destroy OWN_SPACE PLACES) stage words e
+      (record { due = record { fit = refl; words = refl }; owes = refl; unpicking = refl })
+  owed_in held sound v _ stage words (AtReleases end verdict its tidy) e = given_by v nester (SpaceRelease OWN_SPACE slot) stage words e
+      (record {
+        due = record { fit = refl; words = refl };
+        owes = owed_release v nester slot (λ k is live. (tidy.clean (slot ∷ nester) k (scratch_of (slot ∷ nester) k is) live).1);
+        unpicking = refl;
+      })
   owed_in held sound v _ stage words (AtOver end verdict same unheld tidy) e = cc
 
   owed_first : (stage : Stage) (words : List ℕ) → head slot Holds ≡ Asks stage words → IsOwedCall w nester stage words
   unfolding is_fit
-  owed_first stage words e = given_by w nester (SpaceHold OWN_SPACE slot) stage words e (record { due = record { fit = refl; words = refl }; owes = tt; unpicking = refl })
+  owed_first stage words e = given_by w nester (SpaceHold OWN_SPACE slot) stage words e
+      (record { due = record { fit = refl; words = refl }; owes = tt; unpicking = refl })
 
-  owed_later : (v : World) (t : State) (stage : Stage) (words : List ℕ) → Came slot birth w nester low may v t → head slot t ≡ Asks stage words → IsOwedCall v nester stage words
+  owed_later : (v : World) (t : State) (stage : Stage) (words : List ℕ) → Came slot birth w nester low may v t → head slot t ≡ Asks stage words
+      → IsOwedCall v nester stage words
   owed_later v t stage words (NeverHeld none same over) e = let both = sym (ap (head slot) over) ∙ e in cc
   owed_later v t stage words (InPhase held sound phase) e = owed_in held sound v t stage words phase e
 
@@ -343,4 +380,5 @@ pub checkpoint_keeps_cut : CheckpointKeepsCut
 checkpoint_keeps_cut slot birth w v nester t low may work = cut_kept slot birth w nester low may v t (came slot birth w nester low may v t work)
 
 pub checkpoint_ends_as_it_was : CheckpointEndsAsItWas
-checkpoint_ends_as_it_was slot birth w v nester t end low may work stops = ends_as_it_was slot birth w nester low may v t end (came slot birth w nester low may v t work) stops
+checkpoint_ends_as_it_was slot birth w v nester t end low may work stops = ends_as_it_was slot birth w nester low may v t end
+    (came slot birth w nester low may v t work) stops

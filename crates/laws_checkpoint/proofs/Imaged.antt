@@ -117,7 +117,8 @@ module _ (w : World) (nester : Path) (slot : ℕ) (sound : IsSound w) (clean : I
   above : (k : ℕ) (x : Path) → IsSome (c.body (k ∷ x)) → IsSome (c.body x)
   above k x live = live_is x ∙ live_above w sound.whole.valid.consistent k (x ++ root) (sym (live_is (k ∷ x)) ∙ live)
 
-  kind_map : (q : Path) (o : Option Body) → option_map kind_of (option_map (λ (b : Body). unheld q (seen_by (cutting (ports_of w nester slot) nester slot) b)) o) ≡ option_map kind_of o
+  kind_map : (q : Path) (o : Option Body) → option_map kind_of
+      (option_map (λ (b : Body). unheld q (seen_by (cutting (ports_of w nester slot) nester slot) b)) o) ≡ option_map kind_of o
   unfolding seen_by
   kind_map [] (Some (Space birth holder)) = refl
   kind_map [] (Some (Mutex locked)) = refl
@@ -219,11 +220,13 @@ module _ (w : World) (nester : Path) (slot : ℕ) (sound : IsSound w) (clean : I
     distinct xs apart.1 (λ z is. spaces z (inr is)),
   )
 
-  below : (xs : List Path) → ((y : Path) → IsIn y xs → kind_there w (y ++ root) ≡ Some kinds.Space) → (q : ℕ) → list_any (eqb q) (numbers_of xs) ≡ true → q < w.next
+  below : (xs : List Path) → ((y : Path) → IsIn y xs → kind_there w (y ++ root) ≡ Some kinds.Space) → (q : ℕ) → list_any (eqb q) (numbers_of xs) ≡ true
+      → q < w.next
   below [] spaces q h = cc
   below (x ∷ xs) spaces q h = by (or_cases (eqb q (number w (x ++ root))) (list_any (eqb q) (numbers_of xs)) h) (below xs (λ z is. spaces z (inr is)) q)
     where
-      by : (eqb q (number w (x ++ root)) ≡ true) ⊎ (list_any (eqb q) (numbers_of xs) ≡ true) → (list_any (eqb q) (numbers_of xs) ≡ true → q < w.next) → q < w.next
+      by : (eqb q (number w (x ++ root)) ≡ true) ⊎ (list_any (eqb q) (numbers_of xs) ≡ true) → (list_any (eqb q) (numbers_of xs) ≡ true → q < w.next)
+          → q < w.next
       by (inl e) rest =
           let less = sound.whole.valid.consistent.born (x ++ root) (number w (x ++ root)) (has_number (x ++ root) (spaces x (inl refl))) in
           let same = eqb-true q (number w (x ++ root)) e in
@@ -269,4 +272,5 @@ module _ (w : World) (nester : Path) (slot : ℕ) (sound : IsSound w) (clean : I
   all_spaces q is = spaces_are c rooted.root q is
 
   pub has_image : (is_valid (image_of c sp) ≡ true) × (picture (image_of c sp) ≡ c)
-  has_image = subtree_has_image w nester slot sp saved (are_its_spaces c parents rooted long) (numbers_inside w nester slot sound.whole sound.savable) few_spaces
+  has_image = subtree_has_image w nester slot sp saved (are_its_spaces c parents rooted long)
+      (numbers_inside w nester slot sound.whole sound.savable) few_spaces

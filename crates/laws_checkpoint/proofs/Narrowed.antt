@@ -92,8 +92,10 @@ mode_is_byte regs mode e = by (either (mode == 0 || mode == 2) (mode == 1 && is_
 
 thread : (t : ThreadRec) → fits_thread t ≡ true → narrow_thread t ≡ t
 thread t e =
-    let h8 = and_parts (are_words 16 t.regs && is_word t.pc && is_mode_byte t.regs t.mode && is_byte t.code && is_code t.mode t.code && is_half t.stops && fits_talk t.talk) (fits_fault t.fault) e in
-    let h7 = and_parts (are_words 16 t.regs && is_word t.pc && is_mode_byte t.regs t.mode && is_byte t.code && is_code t.mode t.code && is_half t.stops) (fits_talk t.talk) h8.0 in
+    let h8 = and_parts (are_words 16 t.regs && is_word t.pc && is_mode_byte t.regs t.mode && is_byte t.code && is_code t.mode t.code && is_half t.stops
+    && fits_talk t.talk) (fits_fault t.fault) e in
+    let h7 = and_parts (are_words 16 t.regs && is_word t.pc && is_mode_byte t.regs t.mode && is_byte t.code && is_code t.mode t.code && is_half t.stops)
+    (fits_talk t.talk) h8.0 in
     let h6 = and_parts (are_words 16 t.regs && is_word t.pc && is_mode_byte t.regs t.mode && is_byte t.code && is_code t.mode t.code) (is_half t.stops) h7.0 in
     let h5 = and_parts (are_words 16 t.regs && is_word t.pc && is_mode_byte t.regs t.mode && is_byte t.code) (is_code t.mode t.code) h6.0 in
     let h4 = and_parts (are_words 16 t.regs && is_word t.pc && is_mode_byte t.regs t.mode) (is_byte t.code) h5.0 in
@@ -161,14 +163,17 @@ null_link (Out slot) e = cc
 null_link Root e = cc
 null_link Outside e = cc
 
-ordered : (done : List SpaceRec) (path : List Open) (s : SpaceRec) → stands_in_order done path s ≡ true → (number s.parent ≡ s.parent) × (narrow_link s.holder ≡ s.holder)
+ordered : (done : List SpaceRec) (path : List Open) (s : SpaceRec) → stands_in_order done path s ≡ true
+    → (number s.parent ≡ s.parent) × (narrow_link s.holder ≡ s.holder)
 ordered [] path s e =
     let two = and_parts (s.parent == 4294967295 && s.slot == 0) (is_null s.holder) e in
     let one = and_parts (s.parent == 4294967295) (s.slot == 0) two.0 in
     (subst (λ n. number n ≡ n) (sym (eqb-true s.parent 4294967295 one.0)) refl, null_link s.holder two.1)
 ordered (d ∷ done) path s e =
-    let four = and_parts (ltb s.parent (2 ^ 32) && is_slot s.slot && has_room (room_under path s.parent) s.slot && not (is_some (kind_in_space (d ∷ done) s.parent s.slot))) (fits_link s.holder) e in
-    let three = and_parts (ltb s.parent (2 ^ 32) && is_slot s.slot && has_room (room_under path s.parent) s.slot) (not (is_some (kind_in_space (d ∷ done) s.parent s.slot))) four.0 in
+    let four = and_parts (ltb s.parent (2 ^ 32) && is_slot s.slot && has_room (room_under path s.parent) s.slot
+    && not (is_some (kind_in_space (d ∷ done) s.parent s.slot))) (fits_link s.holder) e in
+    let three = and_parts (ltb s.parent (2 ^ 32) && is_slot s.slot && has_room (room_under path s.parent) s.slot)
+    (not (is_some (kind_in_space (d ∷ done) s.parent s.slot))) four.0 in
     let two = and_parts (ltb s.parent (2 ^ 32) && is_slot s.slot) (has_room (room_under path s.parent) s.slot) three.0 in
     let one = and_parts (ltb s.parent (2 ^ 32)) (is_slot s.slot) two.0 in
     (stays (2 ^ 32) s.parent one.0, link s.holder four.1)

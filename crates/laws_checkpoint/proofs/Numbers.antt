@@ -104,7 +104,8 @@ module _ (w : World) (nester : Path) (slot : ℕ) (whole : IsWhole w) (savable :
     registers = λ x t e. let its = of_cut x t e in
         subst (λ (u : Thread). list_all is_word (registers_of u.mode) ≡ true) (sym its.is) (savable.numbers.registers (x ++ root) its.from (thread_is x t its));
     counter = λ x t e. let its = of_cut x t e in
-        subst (λ (u : Thread). u.counter < 2 ^ 64) (sym its.is) (ltb-true its.from.counter (2 ^ 64) (savable.numbers.counters (x ++ root) its.from (thread_is x t its)));
+        subst (λ (u : Thread). u.counter < 2 ^ 64) (sym its.is)
+        (ltb-true its.from.counter (2 ^ 64) (savable.numbers.counters (x ++ root) its.from (thread_is x t its)));
     stops = λ x t e. let its = of_cut x t e in
         subst (λ (u : Thread). u.stops ≤ MOST_STOPS) (sym its.is) (savable.few_stops (x ++ root) its.from (thread_is x t its));
     codes = λ x t e. let its = of_cut x t e in

@@ -96,7 +96,8 @@ module _ (nester : Path) (slot birth : ℕ) where
   pub tidy_clean : (v : World) → Tidy v [] → IsClean v
   tidy_clean v tidy s k is = empty_from (v.body (k ∷ s)) (λ live. (tidy.clean s k is live).1)
 
-  pub tidy_others : (v : World) (e : Event) (made : List ℕ) → IsUsersMove nester v e → holds is_native ((after v e).body me) ≡ true → Tidy v made → Tidy (after v e) made
+  pub tidy_others : (v : World) (e : Event) (made : List ℕ) → IsUsersMove nester v e → holds is_native ((after v e).body me) ≡ true → Tidy v made
+      → Tidy (after v e) made
   tidy_others v e made moves native tidy = record {
     named = nester_stays v e moves.valid moves.few moves.users nester native ∙ tidy.named;
     clean = λ s k is live. tidy.clean s k is (users_fill_low v e moves.valid.rooted moves.users s k (scratch_high s k is) live);
@@ -111,7 +112,8 @@ module _ (nester : Path) (slot birth : ℕ) where
     clean = λ s k is live. tidy.clean s k is (was (same_path (k ∷ s) (r ∷ nester)) (v.body (k ∷ s)) live);
   }
     where
-      by_nester : (t : Bool) → same_path nester (r ∷ nester) ≡ t → and_then birth_of (cond t (option_map (edited (SetPointer to)) (v.body nester)) (v.body nester)) ≡ and_then birth_of (v.body nester)
+      by_nester : (t : Bool) → same_path nester (r ∷ nester) ≡ t
+          → and_then birth_of (cond t (option_map (edited (SetPointer to)) (v.body nester)) (v.body nester)) ≡ and_then birth_of (v.body nester)
       by_nester false e = refl
       by_nester true e = let same = same_path_eq nester (r ∷ nester) e in absurd (omega (arith, ap length same))
 
@@ -128,30 +130,39 @@ module _ (nester : Path) (slot birth : ℕ) where
     clean = λ s k is live. by s k is (same_path (k ∷ s) (r ∷ nester)) refl live;
   }
     where
-      by_nester : (t : Bool) → same_path nester (r ∷ nester) ≡ t → and_then birth_of (cond t (Some (Reference Null)) (v.body nester)) ≡ and_then birth_of (v.body nester)
+      by_nester : (t : Bool) → same_path nester (r ∷ nester) ≡ t
+          → and_then birth_of (cond t (Some (Reference Null)) (v.body nester)) ≡ and_then birth_of (v.body nester)
       by_nester false e = refl
       by_nester true e = let same = same_path_eq nester (r ∷ nester) e in absurd (omega (arith, ap length same))
 
-      by : (s : Path) (k : ℕ) → is_scratch s (k ∷ s) ≡ true → (t : Bool) → same_path (k ∷ s) (r ∷ nester) ≡ t → IsSome (cond t (Some (Reference Null)) (v.body (k ∷ s))) →
+      by : (s : Path) (k : ℕ) → is_scratch s (k ∷ s) ≡ true → (t : Bool) → same_path (k ∷ s) (r ∷ nester) ≡ t
+          → IsSome (cond t (Some (Reference Null)) (v.body (k ∷ s))) →
           (s ≡ nester) × IsIn k (r ∷ made)
-      by s k is true e live = let same = same_path_eq (k ∷ s) (r ∷ nester) e in let slots : k ≡ r = cc in let spaces : s ≡ nester = cc in (spaces, inl (sym slots))
+      by s k is true e live = let same = same_path_eq (k ∷ s) (r ∷ nester) e in let slots : k ≡ r = cc in
+          let spaces : s ≡ nester = cc in (spaces, inl (sym slots))
       by s k is false e live = let its = tidy.clean s k is live in (its.0, inr its.1)
 
-  pub tidy_dropped : (v : World) (made : List ℕ) (r : ℕ) (to : Ptr) → IsValid v → v.body (r ∷ nester) ≡ Some (Reference to) → Tidy v (r ∷ made) → Tidy (apply (Kill (r ∷ nester)) v) made
+  pub tidy_dropped : (v : World) (made : List ℕ) (r : ℕ) (to : Ptr) → IsValid v → v.body (r ∷ nester) ≡ Some (Reference to) → Tidy v (r ∷ made)
+      → Tidy (apply (Kill (r ∷ nester)) v) made
   tidy_dropped v made r to valid there tidy = record {
-    named = ap (and_then birth_of) (bodies_stay v valid (r ∷ nester) to there nester (same_path_ne nester (r ∷ nester) (λ e. omega (arith, ap length e)))) ∙ tidy.named;
+    named = ap (and_then birth_of) (bodies_stay v valid (r ∷ nester) to there nester (same_path_ne nester (r ∷ nester) (λ e. omega (arith, ap length e))))
+        ∙ tidy.named;
     clean = λ s k is live. by s k is (same_path (k ∷ s) (r ∷ nester)) refl live;
   }
     where
-      by : (s : Path) (k : ℕ) → is_scratch s (k ∷ s) ≡ true → (t : Bool) → same_path (k ∷ s) (r ∷ nester) ≡ t → IsSome ((apply (Kill (r ∷ nester)) v).body (k ∷ s)) → (s ≡ nester) × IsIn k made
+      by : (s : Path) (k : ℕ) → is_scratch s (k ∷ s) ≡ true → (t : Bool) → same_path (k ∷ s) (r ∷ nester) ≡ t
+          → IsSome ((apply (Kill (r ∷ nester)) v).body (k ∷ s)) → (s ≡ nester) × IsIn k made
       by s k is true e live =
           let same = same_path_eq (k ∷ s) (r ∷ nester) e in
-          no_such ((s ≡ nester) × IsIn k made) ((apply (Kill (r ∷ nester)) v).body (k ∷ s)) (ap (apply (Kill (r ∷ nester)) v).body same ∙ gone v valid (r ∷ nester) to there) live
+          no_such ((s ≡ nester) × IsIn k made) ((apply (Kill (r ∷ nester)) v).body (k ∷ s)) (ap (apply (Kill (r ∷ nester)) v).body same
+          ∙ gone v valid (r ∷ nester) to there) live
       by s k is false e live = others (tidy.clean s k is (subst (λ (o : Option Body). IsSome o) (bodies_stay v valid (r ∷ nester) to there (k ∷ s) e) live))
         where
           others : (s ≡ nester) × IsIn k (r ∷ made) → (s ≡ nester) × IsIn k made
           others (space, inl same) =
-              let on : same_path (k ∷ s) (r ∷ nester) ≡ true = subst (λ (j : ℕ). same_path (j ∷ s) (r ∷ nester) ≡ true) same (subst (λ (y : Path). same_path (r ∷ y) (r ∷ nester) ≡ true) (sym space) (same_path_refl (r ∷ nester))) in
+              let on : same_path (k ∷ s) (r ∷ nester)
+              ≡ true = subst (λ (j : ℕ). same_path (j ∷ s) (r ∷ nester) ≡ true) same
+              (subst (λ (y : Path). same_path (r ∷ y) (r ∷ nester) ≡ true) (sym space) (same_path_refl (r ∷ nester))) in
               let both = sym on ∙ e in
               cc
           others (space, inr rest) = (space, rest)
@@ -163,7 +174,8 @@ module _ (nester : Path) (slot birth : ℕ) where
     clean = λ s k is live. tidy.clean s k is (was (same_path (k ∷ s) root) (v.body (k ∷ s)) live);
   }
     where
-      by_nester : (t : Bool) → same_path nester root ≡ t → and_then birth_of (cond t (option_map (edited (SetHolder holder)) (v.body nester)) (v.body nester)) ≡ and_then birth_of (v.body nester)
+      by_nester : (t : Bool) → same_path nester root ≡ t
+          → and_then birth_of (cond t (option_map (edited (SetHolder holder)) (v.body nester)) (v.body nester)) ≡ and_then birth_of (v.body nester)
       by_nester false e = refl
       by_nester true e = let same = same_path_eq nester root e in absurd (omega (arith, ap length same))
 
@@ -199,8 +211,10 @@ module _ (nester : Path) (slot birth : ℕ) where
     unfrozen v its = rw its.holding.above refl
 
     pub make-row : (v : World) (r : ℕ) → Held_on v → IsOwnSlot r → v.body (r ∷ nester) ≡ None →
-        call_row v (porter nester no_words) None (Create OWN_SPACE r (number_of_kind kinds.Reference)) ≡ Goes (Make (r ∷ nester) (Reference Null) ∷ []) (Answered OK [])
-    make-row v r its own empty = create-row nester no_words v OWN_SPACE r kinds.Reference nester (own-place nester no_words v) (own_fits r own) (unfrozen v its) empty
+        call_row v (porter nester no_words) None (Create OWN_SPACE r (number_of_kind kinds.Reference))
+        ≡ Goes (Make (r ∷ nester) (Reference Null) ∷ []) (Answered OK [])
+    make-row v r its own empty = create-row nester no_words v OWN_SPACE r kinds.Reference nester (own-place nester no_words v) (own_fits r own)
+        (unfrozen v its) empty
 
     module _ (v : World) (r : ℕ) (its : Held_on v) (own : IsOwnSlot r) (valid : IsValid v) (few : v.next ≤ depth) where
       abbrev x : Path
@@ -210,7 +224,8 @@ module _ (nester : Path) (slot birth : ℕ) where
       is_own = own_scratch nester r own
 
       apart : (y : Path) → is_scratch nester y ≡ false → same_path y x ≡ false
-      apart y off = same_path_ne y x (λ e. let on : is_scratch nester y ≡ true = subst (λ (y : Path). is_scratch nester y ≡ true) (sym e) is_own in let both = sym on ∙ off in cc)
+      apart y off = same_path_ne y x (λ e. let on : is_scratch nester y ≡ true = subst (λ (y : Path). is_scratch nester y ≡ true) (sym e) is_own in
+          let both = sym on ∙ off in cc)
 
       pub held_made : IsValid (apply (Make x (Reference Null)) v) → Held_on (apply (Make x (Reference Null)) v)
       unfolding apply
@@ -230,7 +245,8 @@ module _ (nester : Path) (slot birth : ℕ) where
           pages : (y : Path) (page : ℕ) → is_scratch nester y ≡ false → u.page y page ≡ v.page y page
           pages y page off = refl
 
-          references : (k : ℕ) → is_scratch nester (k ∷ nester) ≡ true → (t : Bool) → same_path (k ∷ nester) x ≡ t → only_reference (cond t (Some (Reference Null)) (v.body (k ∷ nester))) ≡ true
+          references : (k : ℕ) → is_scratch nester (k ∷ nester) ≡ true → (t : Bool) → same_path (k ∷ nester) x ≡ t
+              → only_reference (cond t (Some (Reference Null)) (v.body (k ∷ nester))) ≡ true
           references k is true e = refl
           references k is false e = its.holding.scratch k is
 
@@ -286,18 +302,21 @@ module _ (nester : Path) (slot birth : ℕ) where
             at : (k : ℕ) → same_path (k ∷ nester) x ≡ true → u.body (k ∷ nester) ≡ None
             at k e = ap u.body (same_path_eq (k ∷ nester) x e) ∙ gone v valid x to there
 
-            references : (k : ℕ) → is_scratch nester (k ∷ nester) ≡ true → (t : Bool) → same_path (k ∷ nester) x ≡ t → only_reference (u.body (k ∷ nester)) ≡ true
+            references : (k : ℕ) → is_scratch nester (k ∷ nester) ≡ true → (t : Bool) → same_path (k ∷ nester) x ≡ t
+                → only_reference (u.body (k ∷ nester)) ≡ true
             references k is true e = ap only_reference (at k e)
             references k is false e = ap only_reference (bodies_stay v valid x to there (k ∷ nester) e) ∙ its.holding.scratch k is
 
             near : (k : ℕ) (y : Path) → is_scratch nester (k ∷ nester) ≡ true → (t : Bool) → same_path (k ∷ nester) x ≡ t →
                 list_any (leads_to y) (body_pointers (u.body (k ∷ nester))) ≡ true → IsNear v root y
             near k y is true e led =
-                let off : list_any (leads_to y) (body_pointers (u.body (k ∷ nester))) ≡ false = ap (λ (o : Option Body). list_any (leads_to y) (body_pointers o)) (at k e) in
+                let off : list_any (leads_to y) (body_pointers (u.body (k ∷ nester)))
+                ≡ false = ap (λ (o : Option Body). list_any (leads_to y) (body_pointers o)) (at k e) in
                 let both = sym led ∙ off in
                 cc
             near k y is false e led =
-                its.holding.near k y is (subst (λ (o : Option Body). list_any (leads_to y) (body_pointers o) ≡ true) (bodies_stay v valid x to there (k ∷ nester) e) led)
+                its.holding.near k y is (subst (λ (o : Option Body). list_any (leads_to y) (body_pointers o) ≡ true)
+                (bodies_stay v valid x to there (k ∷ nester) e) led)
 
         pub dropped_other : (y : Path) → same_path y x ≡ false → (apply (Kill x) v).body y ≡ v.body y
         dropped_other y off = bodies_stay v valid x to there y off

@@ -171,12 +171,14 @@ module _ (c : World) (sel : Path → Bool) (above : (k : ℕ) (s : Path) → IsS
   left_nothing : (n : ℕ) (s : Path) (m j : ℕ) → sel (j ∷ s) ≡ false → left (first_then n s m j true) ≡ left (from_slot n s m (suc j))
   left_nothing n s m j e = rw e (ap (λ (xs : List Path). left (xs ++ from_slot n s m (suc j))) (nothing_beneath n (j ∷ s) e))
 
-  chain_from : (n : ℕ) (s : Path) → ((k : ℕ) → Chained (k ∷ s) (left (beneath_by n c (k ∷ s)))) → (m j : ℕ) (l : Path) → StandsAt s j l → Chained l (left (from_slot n s m j))
+  chain_from : (n : ℕ) (s : Path) → ((k : ℕ) → Chained (k ∷ s) (left (beneath_by n c (k ∷ s)))) → (m j : ℕ) (l : Path) → StandsAt s j l
+      → Chained l (left (from_slot n s m j))
   unfolding rising
   chain_from n s deeper zero j l at = tt
   chain_from n s deeper (suc m) j l at = by (taken s j) (sel (j ∷ s)) refl (chain_from n s deeper m (suc j))
     where
-      by : (t b : Bool) → sel (j ∷ s) ≡ b → ((l : Path) → StandsAt s (suc j) l → Chained l (left (from_slot n s m (suc j)))) → Chained l (left (first_then n s m j t))
+      by : (t b : Bool) → sel (j ∷ s) ≡ b → ((l : Path) → StandsAt s (suc j) l → Chained l (left (from_slot n s m (suc j))))
+          → Chained l (left (first_then n s m j t))
       by false b e later = later l (on s j l at)
       by true true e later =
           subst (Chained l) (sym (left_stretch n s m j e)) (
@@ -285,7 +287,8 @@ unfolding rank
 rank_in [] x h = absurd h
 rank_in (a ∷ xs) x h = by (same_path a x) refl h (rank_in xs x)
   where
-    by : (t : Bool) → same_path a x ≡ t → (a ≡ x) ⊎ IsIn x xs → (IsIn x xs → slice_get xs (rank xs x) ≡ Some x) → slice_get (a ∷ xs) (cond t 0 (suc (rank xs x))) ≡ Some x
+    by : (t : Bool) → same_path a x ≡ t → (a ≡ x) ⊎ IsIn x xs → (IsIn x xs → slice_get xs (rank xs x) ≡ Some x)
+        → slice_get (a ∷ xs) (cond t 0 (suc (rank xs x))) ≡ Some x
     by true e h rest = ap (λ (y : Path). Some y) (same_path_eq a x e)
     by false e (inl same) rest =
         let same_at : same_path a x ≡ true = ap (same_path a) (sym same) ∙ same_path_refl a in

@@ -59,36 +59,43 @@ module _ (nester : Path) (slot : ℕ) (start : World) (near : far_field ((cut st
     Finds : (j : ℕ) → residents_from q k ≡ suc (residents_from q (j + 1)) → s ≡ Reads j objects q qs got → Told k objects q qs got s
 
   module _ (w : World) (base : Base nester slot start near w) (valid : IsValid w) (few : w.next ≤ depth) where
-    told : (k : ℕ) (objects : List Item) (q : Path) (qs : List Path) (got : List Content) (reply : Reply) → PlacedIn nester slot start near valid_start few_start w q →
+    told : (k : ℕ) (objects : List Item) (q : Path) (qs : List Path) (got : List Content) (reply : Reply)
+        → PlacedIn nester slot start near valid_start few_start w q →
         IsSpace nester slot start near valid_start few_start q → k ≤ SLOTS → IsAnswered nester w (Search (space_at slot q) k) no_words reply →
         Told k objects q qs got (searched k objects q qs got reply.status reply.words)
     told k objects q qs got reply placed space low answered = by (scan (is_there q) SLOTS k low)
       where
-        answers : (status : ℕ) (given : List ℕ) → (reply.status ≡ status) × (reply.words ≡ given) → Told k objects q qs got (searched k objects q qs got status given) →
+        answers : (status : ℕ) (given : List ℕ) → (reply.status ≡ status) × (reply.words ≡ given)
+            → Told k objects q qs got (searched k objects q qs got status given) →
             Told k objects q qs got (searched k objects q qs got reply.status reply.words)
         answers status given same its =
             subst (λ (st : ℕ). Told k objects q qs got (searched k objects q qs got st reply.words)) (sym same.0)
             (subst (λ (ws : List ℕ). Told k objects q qs got (searched k objects q qs got status ws)) (sym same.1) its)
 
-        found : (j : ℕ) → residents_from q k ≡ suc (residents_from q (j + 1)) → (b : Bool) → Told k objects q qs got (cond b (Searches (j + 1) objects q qs got) (Reads j objects q qs got))
+        found : (j : ℕ) → residents_from q k ≡ suc (residents_from q (j + 1)) → (b : Bool)
+            → Told k objects q qs got (cond b (Searches (j + 1) objects q qs got) (Reads j objects q qs got))
         found j fewer true = Passes j fewer refl
         found j fewer false = Finds j fewer refl
 
         by : Scan (is_there q) SLOTS k → Told k objects q qs got (searched k objects q qs got reply.status reply.words)
         by (Nobody none listed) =
             let row = search_comes nester slot start near valid_start few_start w base valid few q k placed space None
-            (lowest_none (is_there q) SLOTS (seen_taken nester slot start near valid_start few_start w base valid few q k) k (below_none nester slot start near valid_start few_start w base valid few q k)
+            (lowest_none (is_there q) SLOTS (seen_taken nester slot start near valid_start few_start w base valid few q k) k
+            (below_none nester slot start near valid_start few_start w base valid few q k)
             (λ j up high. empty_none nester slot start near valid_start few_start w base valid few q k j (none j up high))) in
             let goes = no_change nester slot start near w base valid few (Search (space_at slot q) k) reply NONE [] answered row in
             answers NONE [] goes.1 (NoneLeft refl)
         by (First j b up high is before listed) =
             let row = search_comes nester slot start near valid_start few_start w base valid few q k placed space (Some (j, number_of_kind (kind_of b)))
-            (lowest_first (is_there q) SLOTS (seen_taken nester slot start near valid_start few_start w base valid few q k) k (below_none nester slot start near valid_start few_start w base valid few q k) j (j, number_of_kind (kind_of b)) up high
+            (lowest_first (is_there q) SLOTS (seen_taken nester slot start near valid_start few_start w base valid few q k) k
+            (below_none nester slot start near valid_start few_start w base valid few q k) j (j, number_of_kind (kind_of b)) up high
             (found_there nester slot start near valid_start few_start w base valid few q k j b up high is)
             (λ i least less. empty_none nester slot start near valid_start few_start w base valid few q k i (before i least less))) in
-            let goes = no_change nester slot start near w base valid few (Search (space_at slot q) k) reply OK (j ∷ number_of_kind (kind_of b) ∷ []) answered row in
+            let goes = no_change nester slot start near w base valid few (Search (space_at slot q) k) reply OK (j ∷ number_of_kind (kind_of b)
+            ∷ []) answered row in
             answers OK (j ∷ number_of_kind (kind_of b) ∷ []) goes.1
-            (rw (le-leb k j up, le-leb (suc j) SLOTS high) (found j (ap (λ (ks : List ℕ). length ks) listed) (number_of_kind (kind_of b) == number_of_kind kinds.Space)))
+            (rw (le-leb k j up, le-leb (suc j) SLOTS high)
+            (found j (ap (λ (ks : List ℕ). length ks) listed) (number_of_kind (kind_of b) == number_of_kind kinds.Space)))
 
   abbrev asking : Stage → List ℕ → Head (List Content)
   asking stage words = Asks stage words
@@ -109,24 +116,30 @@ module _ (nester : Path) (slot : ℕ) (start : World) (near : far_field ((cut st
     read_begun n ([] ∷ qs) got few = omega (arith, few)
     read_begun n ((j ∷ q) ∷ qs) got few = let long = way-long (j ∷ q) [] in omega (arith, few, long)
 
-    pub read_on : (w : World) (n : ℕ) (s : State) (stage : Stage) (words : List ℕ) (reply : Reply) → Base nester slot start near w → IsValid w → w.next ≤ depth →
-        Position nester slot start near valid_start few_start w s → head slot s ≡ Asks stage words → IsAnswered nester w stage words reply → Read n s → Read (n + 1) (next slot s reply.status reply.words)
+    pub read_on : (w : World) (n : ℕ) (s : State) (stage : Stage) (words : List ℕ) (reply : Reply) → Base nester slot start near w → IsValid w
+        → w.next ≤ depth →
+        Position nester slot start near valid_start few_start w s → head slot s ≡ Asks stage words → IsAnswered nester w stage words reply → Read n s
+        → Read (n + 1) (next slot s reply.status reply.words)
     read_on w n s stage words reply its valid few position asks answered spent = by s position asks answered spent
       where
-        same_call : (other : Stage) → asking other no_words ≡ Asks stage words → IsAnswered nester w stage words reply → IsAnswered nester w other no_words reply
+        same_call : (other : Stage) → asking other no_words ≡ Asks stage words → IsAnswered nester w stage words reply
+            → IsAnswered nester w other no_words reply
         same_call other e given =
             let stages : other ≡ stage = cc in
             let same : no_words ≡ words = cc in
-            subst (λ (st : Stage). IsAnswered nester w st no_words reply) (sym stages) (subst (λ (ws : List ℕ). IsAnswered nester w stage ws reply) (sym same) given)
+            subst (λ (st : Stage). IsAnswered nester w st no_words reply) (sym stages)
+            (subst (λ (ws : List ℕ). IsAnswered nester w stage ws reply) (sym same) given)
 
-        by : (s : State) → Position nester slot start near valid_start few_start w s → head slot s ≡ Asks stage words → IsAnswered nester w stage words reply → Read n s → Read (n + 1) (next slot s reply.status reply.words)
+        by : (s : State) → Position nester slot start near valid_start few_start w s → head slot s ≡ Asks stage words → IsAnswered nester w stage words reply
+            → Read n s → Read (n + 1) (next slot s reply.status reply.words)
         by _ (AtDown from way ways j q qs got at p h inside is space) e given few_left = on ways few_left
           where
             on : (ways : List ℕ) → n + suc (length ways) ≤ base + sizes got + (length (j ∷ q) + 1) → Read (n + 1) (arrive ways (j ∷ q) qs got)
             on [] few = omega (arith, few)
             on (way ∷ ways) few = omega (arith, few)
         by _ (AtSearches k objects q qs got placed space low) e given few_left =
-            on (searched k objects q qs got reply.status reply.words) (told w its valid few k objects q qs got reply placed space low (same_call (Search (space_at slot q) k) e given))
+            on (searched k objects q qs got reply.status reply.words)
+            (told w its valid few k objects q qs got reply placed space low (same_call (Search (space_at slot q) k) e given))
           where
             on : (s : State) → Told k objects q qs got s → Read (n + 1) s
             on s (NoneLeft is) = subst (Read (n + 1)) (sym is) (omega (arith, few_left))
@@ -160,7 +173,8 @@ module _ (nester : Path) (slot : ℕ) (start : World) (near : far_field ((cut st
     pub read_most : (n : ℕ) (s : State) (total : List Content) → ends nester slot start near valid_start few_start s ≡ total → Read n s → n ≤ base + sizes total
     read_most n s total e spent = by s e spent
       where
-        within : (got : List Content) (q : Path) (objects pages : List Item) (rest : List Content) → got ++ record { path = q; objects = objects; pages = pages } ∷ rest ≡ total →
+        within : (got : List Content) (q : Path) (objects pages : List Item) (rest : List Content)
+            → got ++ record { path = q; objects = objects; pages = pages } ∷ rest ≡ total →
             sizes got + size q (length objects) (length pages) ≤ sizes total
         within got q objects pages rest e =
             let both = sizes-append got (record { path = q; objects = objects; pages = pages } ∷ rest) in
@@ -169,14 +183,17 @@ module _ (nester : Path) (slot : ℕ) (start : World) (near : far_field ((cut st
 
         by : (s : State) → ends nester slot start near valid_start few_start s ≡ total → Read n s → n ≤ base + sizes total
         by (Down from ways q qs got) e spent =
-            let more = within got q (left_objects nester slot start near valid_start few_start q 0) (left_pages nester slot start near valid_start few_start q 0) _ e in
+            let more = within got q (left_objects nester slot start near valid_start few_start q 0)
+            (left_pages nester slot start near valid_start few_start q 0) _ e in
             omega (arith, more, spent)
         by (Searches k objects q qs got) e spent =
-            let more = within got q (objects ++ left_objects nester slot start near valid_start few_start q k) (left_pages nester slot start near valid_start few_start q 0) _ e in
+            let more = within got q (objects ++ left_objects nester slot start near valid_start few_start q k)
+            (left_pages nester slot start near valid_start few_start q 0) _ e in
             let long = length-append objects (left_objects nester slot start near valid_start few_start q k) in
             omega (arith, more, spent, long)
         by (Reads j objects q qs got) e spent =
-            let more = within got q (objects ++ left_objects nester slot start near valid_start few_start q j) (left_pages nester slot start near valid_start few_start q 0) _ e in
+            let more = within got q (objects ++ left_objects nester slot start near valid_start few_start q j)
+            (left_pages nester slot start near valid_start few_start q 0) _ e in
             let long = length-append objects (left_objects nester slot start near valid_start few_start q j) in
             omega (arith, more, spent, long)
         by (Looks from objects pages q qs got) e spent =

@@ -57,12 +57,23 @@ same_rec a b e = cc
 -- ---- talks and faults, by the words that show them
 
 abbrev talk_by : List Path → ℕ → ℕ → List Ptr → Option TalkRec
-talk_by sp a b ps = if a == 0 then None else Some (record { turn = a; moved = b; port = link_of sp (pointer_at ps 0); server = peer_from sp (pointer_at ps 0) (pointer_at ps 1) })
+talk_by sp a b ps = if a == 0 then None else Some (record {
+  turn = a;
+  moved = b;
+  port = link_of sp (pointer_at ps 0);
+  server = peer_from sp (pointer_at ps 0) (pointer_at ps 1);
+})
 
 abbrev fault_by : List Path → ℕ → ℕ → ℕ → List Ptr → Option FaultRec
 fault_by sp c d e ps =
     if c == 0 then None else
-    Some (record { page = d; write = e; port = link_of sp (pointer_at ps 2); taker = if c == 2 then Some (peer_from sp (pointer_at ps 2) (pointer_at ps 3)) else None })
+    Some (record {
+      page = d;
+      write = e;
+      port = link_of sp (pointer_at ps 2);
+      taker = if c
+          == 2 then Some (peer_from sp (pointer_at ps 2) (pointer_at ps 3)) else None;
+    })
 
 abbrev a_of : Option Talk → ℕ
 a_of None = 0
@@ -93,16 +104,21 @@ fault_is_words None = refl
 fault_is_words (Some fault) = refl
 
 record_is : (t : Thread) → record_of (Thread_of t) ≡
-    words_of (registers_of t.mode) t.counter (mode_number t.mode) (halt_code t.mode) t.stops (a_of t.talk) (b_of t.talk) (c_of t.fault) (d_of t.fault) (e_of t.fault)
+    words_of (registers_of t.mode) t.counter (mode_number t.mode) (halt_code t.mode) t.stops (a_of t.talk) (b_of t.talk) (c_of t.fault) (d_of t.fault)
+    (e_of t.fault)
 unfolding record_of
-record_is t = λ i. padded 32 (8 ∷ (registers_of t.mode ++ (t.counter ∷ mode_number t.mode ∷ halt_code t.mode ∷ t.stops ∷ []) ++ talk_is_words t.talk i ++ fault_is_words t.fault i))
+record_is t = λ i. padded 32 (8 ∷ (registers_of t.mode ++ (t.counter ∷ mode_number t.mode ∷ halt_code t.mode ∷ t.stops ∷ []) ++ talk_is_words t.talk i
+    ++ fault_is_words t.fault i))
 
-thread_is : (t : Thread) → IsShapedMode t.mode → AreWords (record_of (Thread_of t)) (registers_of t.mode) t.counter (mode_number t.mode) (halt_code t.mode) t.stops
+thread_is : (t : Thread) → IsShapedMode t.mode → AreWords (record_of (Thread_of t)) (registers_of t.mode) t.counter (mode_number t.mode)
+    (halt_code t.mode) t.stops
     (a_of t.talk) (b_of t.talk) (c_of t.fault) (d_of t.fault) (e_of t.fault)
 thread_is t shaped =
-    subst (λ (ws : List ℕ). AreWords ws (registers_of t.mode) t.counter (mode_number t.mode) (halt_code t.mode) t.stops (a_of t.talk) (b_of t.talk) (c_of t.fault) (d_of t.fault) (e_of t.fault))
+    subst (λ (ws : List ℕ). AreWords ws (registers_of t.mode) t.counter (mode_number t.mode) (halt_code t.mode) t.stops (a_of t.talk) (b_of t.talk)
+    (c_of t.fault) (d_of t.fault) (e_of t.fault))
     (sym (record_is t))
-    (are_words (registers_of t.mode) t.counter (mode_number t.mode) (halt_code t.mode) t.stops (a_of t.talk) (b_of t.talk) (c_of t.fault) (d_of t.fault) (e_of t.fault) (registers_long t.mode shaped))
+    (are_words (registers_of t.mode) t.counter (mode_number t.mode) (halt_code t.mode) t.stops (a_of t.talk) (b_of t.talk) (c_of t.fault) (d_of t.fault)
+    (e_of t.fault) (registers_long t.mode shaped))
 
 module _ (w : World) (nester : Path) (slot : ℕ) (sp : List Path) where
   abbrev see : Ptr → Ptr
@@ -112,10 +128,12 @@ module _ (w : World) (nester : Path) (slot : ℕ) (sp : List Path) where
   f = cutting (ports_of w nester slot) nester slot
 
   -- who serves is told by the port and by the field
-  peer_is : (port : Ptr) (peer : Peer) → peer_from sp (see port) (field_as see (Some (peer_field peer))) ≡ peer_link sp (cut_peer (ports_of w nester slot) nester slot (is_out (see port)) peer)
+  peer_is : (port : Ptr) (peer : Peer) → peer_from sp (see port) (field_as see (Some (peer_field peer)))
+      ≡ peer_link sp (cut_peer (ports_of w nester slot) nester slot (is_out (see port)) peer)
   peer_is port peer = by (is_out (see port)) peer
     where
-      by : (out : Bool) (peer : Peer) → cond out links.Outside (link_of sp (field_as see (Some (peer_field peer)))) ≡ peer_link sp (cut_peer (ports_of w nester slot) nester slot out peer)
+      by : (out : Bool) (peer : Peer) → cond out links.Outside (link_of sp (field_as see (Some (peer_field peer))))
+          ≡ peer_link sp (cut_peer (ports_of w nester slot) nester slot out peer)
       by true peer = refl
       by false (Server thread) = refl
       by false Service = refl
@@ -129,26 +147,35 @@ module _ (w : World) (nester : Path) (slot : ℕ) (sp : List Path) where
 
   -- the four pointers of a thread
   abbrev four : Thread → List Ptr → List Ptr
-  four t more = body_as see 0 (Some (Thread_of t)) ∷ body_as see 1 (Some (Thread_of t)) ∷ body_as see 2 (Some (Thread_of t)) ∷ body_as see 3 (Some (Thread_of t)) ∷ more
+  four t more = body_as see 0 (Some (Thread_of t)) ∷ body_as see 1 (Some (Thread_of t)) ∷ body_as see 2 (Some (Thread_of t))
+      ∷ body_as see 3 (Some (Thread_of t)) ∷ more
 
   talk_is : (t : Thread) (o : Option Talk) (more : List Ptr) →
       talk_by sp (a_of (seen_talk o)) (b_of (seen_talk o)) (four (record t { talk = o }) more) ≡ option_map (talk_rec sp) (seen_talk o)
   talk_is t None more = refl
   talk_is t (Some talk) more = by talk.turn (peer_is talk.port talk.peer)
     where
-      by : (turn : Turn) → peer_from sp (see talk.port) (field_as see (Some (peer_field talk.peer))) ≡ peer_link sp (cut_peer (ports_of w nester slot) nester slot (is_out (see talk.port)) talk.peer) →
+      by : (turn : Turn) → peer_from sp (see talk.port) (field_as see (Some (peer_field talk.peer)))
+          ≡ peer_link sp (cut_peer (ports_of w nester slot) nester slot (is_out (see talk.port)) talk.peer) →
           talk_by sp (turn_number turn) talk.moved (four (record t { talk = Some talk }) more) ≡
-          Some (record { turn = turn_number turn; moved = talk.moved; port = link_of sp (see talk.port); server = peer_link sp (cut_peer (ports_of w nester slot) nester slot (is_out (see talk.port)) talk.peer) })
+          Some (record {
+            turn = turn_number turn;
+            moved = talk.moved;
+            port = link_of sp (see talk.port);
+            server = peer_link sp (cut_peer (ports_of w nester slot) nester slot (is_out (see talk.port)) talk.peer);
+          })
       by turns.Client e = λ i. Some (record { turn = 1; moved = talk.moved; port = link_of sp (see talk.port); server = e i })
       by turns.Server e = λ i. Some (record { turn = 2; moved = talk.moved; port = link_of sp (see talk.port); server = e i })
 
   fault_is : (t : Thread) (o : Option Fault) (more : List Ptr) →
-      fault_by sp (c_of (seen_fault o)) (d_of (seen_fault o)) (e_of (seen_fault o)) (four (record t { fault = o }) more) ≡ option_map (fault_rec sp) (seen_fault o)
+      fault_by sp (c_of (seen_fault o)) (d_of (seen_fault o)) (e_of (seen_fault o)) (four (record t { fault = o }) more)
+      ≡ option_map (fault_rec sp) (seen_fault o)
   fault_is t None more = refl
   fault_is t (Some fault) more = by fault.taker
     where
       by : (taker : Option Peer) →
-          fault_by sp (c_of (seen_fault (Some (record fault { taker = taker })))) fault.page (flag_of fault.write) (four (record t { fault = Some (record fault { taker = taker }) }) more) ≡
+          fault_by sp (c_of (seen_fault (Some (record fault { taker = taker })))) fault.page (flag_of fault.write)
+          (four (record t { fault = Some (record fault { taker = taker }) }) more) ≡
           option_map (fault_rec sp) (seen_fault (Some (record fault { taker = taker })))
       by None = refl
       by (Some peer) =
@@ -156,7 +183,8 @@ module _ (w : World) (nester : Path) (slot : ℕ) (sp : List Path) where
           λ i. Some (record { page = fault.page; write = flag_of fault.write; port = link_of sp (see fault.port); taker = Some (e i) })
 
   thread_kept : (t : Thread) (more : List Ptr) → IsShapedMode t.mode →
-      rec_from sp (record_of (seen_by f (Thread_of t))) (four t more) ≡ recs.Thread (thread_rec sp (record t { talk = seen_talk t.talk; fault = seen_fault t.fault }))
+      rec_from sp (record_of (seen_by f (Thread_of t))) (four t more)
+      ≡ recs.Thread (thread_rec sp (record t { talk = seen_talk t.talk; fault = seen_fault t.fault }))
   unfolding seen_by
   thread_kept t more shaped =
       let u : Thread = record t { talk = seen_talk t.talk; fault = seen_fault t.fault } in
@@ -164,9 +192,18 @@ module _ (w : World) (nester : Path) (slot : ℕ) (sp : List Path) where
       let talk = (λ i. talk_by sp (its.turn i) (its.moved i) (four t more)) ∙ talk_is t t.talk more in
       let fault = (λ i. fault_by sp (its.state i) (its.page i) (its.write i) (four t more)) ∙ fault_is t t.fault more in
       by_thread (word (record_of (Thread_of u)) 0) its.kind ∙
-      (λ i. recs.Thread (record { regs = its.regs i; pc = its.pc i; mode = its.mode i; code = its.code i; stops = its.stops i; talk = talk i; fault = fault i }))
+      (λ i. recs.Thread (record {
+        regs = its.regs i;
+        pc = its.pc i;
+        mode = its.mode i;
+        code = its.code i;
+        stops = its.stops i;
+        talk = talk i;
+        fault = fault i;
+      }))
     where
-      by_thread : (kind : ℕ) → kind ≡ 8 → rec_by kind sp (record_of (seen_by f (Thread_of t))) (four t more) ≡ recs.Thread (thread_from sp (record_of (seen_by f (Thread_of t))) (four t more))
+      by_thread : (kind : ℕ) → kind ≡ 8 → rec_by kind sp (record_of (seen_by f (Thread_of t))) (four t more)
+          ≡ recs.Thread (thread_from sp (record_of (seen_by f (Thread_of t))) (four t more))
       by_thread kind e = ap (λ (n : ℕ). rec_by n sp (record_of (seen_by f (Thread_of t))) (four t more)) e
 
   -- every object but a space

@@ -13,5 +13,6 @@ pub inside-then : (root : Path) (w v u : World) → IsSameInside root w v → Is
 inside-then root w v u first later = record {
   bodies = λ q. later.bodies q ∙ first.bodies q;
   pages = λ q page. later.pages q page ∙ first.pages q page;
-  kinds = λ x q led. let there : list_any (leads_to x) (body_pointers (v.body (q ++ root))) ≡ true = rw (first.bodies q) led in later.kinds x q there ∙ first.kinds x q led;
+  kinds = λ x q led. let there : list_any (leads_to x) (body_pointers (v.body (q ++ root))) ≡ true = rw (first.bodies q) led in later.kinds x q there
+      ∙ first.kinds x q led;
 }

@@ -67,8 +67,10 @@ module _ {A : Type 0} where
         one : suc k ≡ k + 1
         one = omega arith
 
-        listed : (o : Option A) → there k ≡ o → filter taken (rising (last - k) k) ≡ cond (is_some o) (k ∷ filter taken (rising n (suc k))) (filter taken (rising n (suc k)))
-        listed o e = ap (λ m. filter taken (rising m k)) more ∙ ap (λ (o : Option A). cond (is_some o) (k ∷ filter taken (rising n (suc k))) (filter taken (rising n (suc k)))) e
+        listed : (o : Option A) → there k ≡ o → filter taken (rising (last - k) k)
+            ≡ cond (is_some o) (k ∷ filter taken (rising n (suc k))) (filter taken (rising n (suc k)))
+        listed o e = ap (λ m. filter taken (rising m k)) more
+            ∙ ap (λ (o : Option A). cond (is_some o) (k ∷ filter taken (rising n (suc k))) (filter taken (rising n (suc k)))) e
 
         rest_is : filter taken (rising n (suc k)) ≡ filter taken (rising (last - (k + 1)) (k + 1))
         rest_is = ap (λ m. filter taken (rising m (suc k))) (sym behind) ∙ ap (λ j. filter taken (rising (last - (k + 1)) j)) one
@@ -77,14 +79,17 @@ module _ {A : Type 0} where
         shorter = omega (arith, sum)
 
         by : (o : Option A) → there k ≡ o → Scan there last (suc k) → Scan there last k
-        by (Some a) e rest = First k a (omega arith) (omega (arith, sum)) e (λ i low high. absurd (omega (arith, low, high))) (listed (Some a) e ∙ ap (λ ks. k ∷ ks) rest_is)
-        by None e (Nobody none is) = Nobody (λ j low high. at j low high (cases_lt k j)) (listed None e ∙ (ap (λ m. filter taken (rising m (suc k))) (sym shorter) ∙ is))
+        by (Some a) e rest = First k a (omega arith) (omega (arith, sum)) e (λ i low high. absurd (omega (arith, low, high))) (listed (Some a) e
+            ∙ ap (λ ks. k ∷ ks) rest_is)
+        by None e (Nobody none is) = Nobody (λ j low high. at j low high (cases_lt k j)) (listed None e
+            ∙ (ap (λ m. filter taken (rising m (suc k))) (sym shorter) ∙ is))
           where
             at : (j : ℕ) → k ≤ j → j < last → (k < j) ⊎ (j ≤ k) → there j ≡ None
             at j low high (inl less) = none j (omega (arith, less)) high
             at j low high (inr most) = let same : j ≡ k = omega (arith, low, most) in ap there same ∙ e
         by None e (First j a low high there_is before is) =
-            First j a (omega (arith, low)) high there_is (λ i up down. at i up down (cases_lt k i)) (listed None e ∙ (ap (λ m. filter taken (rising m (suc k))) (sym shorter) ∙ is))
+            First j a (omega (arith, low)) high there_is (λ i up down. at i up down (cases_lt k i)) (listed None e
+            ∙ (ap (λ m. filter taken (rising m (suc k))) (sym shorter) ∙ is))
           where
             at : (i : ℕ) → k ≤ i → i < j → (k < i) ⊎ (i ≤ k) → there i ≡ None
             at i up down (inl less) = before i (omega (arith, less)) down

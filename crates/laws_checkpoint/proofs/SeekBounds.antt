@@ -52,11 +52,13 @@ module _ (slot : ℕ) where
       by_two true = omega arith
       by_two false = omega arith
 
-      by_one : (a b : Bool) → left (cond a (Fields fs t ts) (cond b (Inside n fs t ts) (Over (Some (place_of slot t n))))) + 1 ≤ (3 * length (n ∷ fs) + 1) + costs ts
+      by_one : (a b : Bool) → left (cond a (Fields fs t ts) (cond b (Inside n fs t ts) (Over (Some (place_of slot t n))))) + 1 ≤
+          (3 * length (n ∷ fs) + 1) + costs ts
       by_one true b = omega arith
       by_one false b = by_two b
 
-      by : (answer : List ℕ) → left (read (Fields fs t ts) (Inside n fs t ts) (Over (Some (place_of slot t n))) answer) + 1 ≤ (3 * length (n ∷ fs) + 1) + costs ts
+      by : (answer : List ℕ) → left (read (Fields fs t ts) (Inside n fs t ts) (Over (Some (place_of slot t n))) answer) + 1 ≤
+          (3 * length (n ∷ fs) + 1) + costs ts
       by [] = omega arith
       by (m ∷ ms) = by_one (m == 0 || m == 1) (m == 2)
   fewer (Inside n fs t ts) stage words answer status asks = by (status == OK) t.strict

@@ -52,11 +52,13 @@ module _ (slot d base : ℕ) where
   left_it n (j ∷ []) got deep few = omega (arith, few)
   left_it n (j ∷ i ∷ q) got deep few = let long = way-long (i ∷ q) [] in omega (arith, few, deep, long)
 
-  entered : (n : ℕ) (q : Path) (j : ℕ) (got : List Met) (x : Met) → n + weigh (d + 3) q ≤ base + weigh (d + 6) got → Walked (n + 1) (walks.enters slot q j (got ++ x ∷ []))
+  entered : (n : ℕ) (q : Path) (j : ℕ) (got : List Met) (x : Met) → n + weigh (d + 3) q ≤ base + weigh (d + 6) got
+      → Walked (n + 1) (walks.enters slot q j (got ++ x ∷ []))
   entered n [] j got x few = let more = weigh-last (d + 6) got x in omega (arith, few, more)
   entered n (i ∷ q) j got x few = let more = weigh-last (d + 6) got x in omega (arith, few, more)
 
-  pub walked_on : (n : ℕ) (s : walks.State) (stage : Stage) (words answer : List ℕ) (status : ℕ) → walks.head slot s ≡ Asks stage words → length (walk_place s) ≤ d →
+  pub walked_on : (n : ℕ) (s : walks.State) (stage : Stage) (words answer : List ℕ) (status : ℕ) → walks.head slot s ≡ Asks stage words
+      → length (walk_place s) ≤ d →
       Walked n s → Walked (n + 1) (walks.next slot s status answer)
   walked_on n (w_Down from [] q k got) stage words answer status asks deep few = cc
   walked_on n (w_Down from (way ∷ ways) q k got) stage words answer status asks deep few = by ways few
@@ -69,7 +71,8 @@ module _ (slot d base : ℕ) where
       met : ℕ → ℕ → Met
       met j kind = record { path = j ∷ q; kind = kind }
 
-      goes : (j kind : ℕ) (space : Bool) → Walked (n + 1) (cond space (walks.enters slot q j (got ++ met j kind ∷ [])) (w_Searches q (j + 1) (got ++ met j kind ∷ [])))
+      goes : (j kind : ℕ) (space : Bool) → Walked (n + 1)
+          (cond space (walks.enters slot q j (got ++ met j kind ∷ [])) (w_Searches q (j + 1) (got ++ met j kind ∷ [])))
       goes j kind true = entered n q j got (met j kind) few
       goes j kind false = let more = weigh-last (d + 6) got (met j kind) in omega (arith, few, more)
 
@@ -121,7 +124,8 @@ module _ (slot d most : ℕ) where
   gather_depth (g_Beside m fs t ts got) = 0
   gather_depth (g_Over got) = 0
 
-  begun_at : (n : ℕ) (q : Path) (fs : List ℕ) (t : Task) (ts : List Task) (got : List Ptr) (rest : gathers.State) → n + length q + weigh field t.fields + gather_costs ts ≤ most →
+  begun_at : (n : ℕ) (q : Path) (fs : List ℕ) (t : Task) (ts : List Task) (got : List Ptr) (rest : gathers.State)
+      → n + length q + weigh field t.fields + gather_costs ts ≤ most →
       Gathered n rest → Gathered n (gathers.begin_at slot q fs t ts got rest)
   begun_at n [] fs t ts got rest few later = later
   begun_at n (k ∷ q) [] t ts got rest few later = later
@@ -129,13 +133,16 @@ module _ (slot d most : ℕ) where
 
   pub gather_begun : (n : ℕ) (ts : List Task) (got : List Ptr) → n + gather_costs ts ≤ most → Gathered n (gathers.begin slot ts got)
   gather_begun n [] got few = omega (arith, few)
-  gather_begun n (t ∷ ts) got few = begun_at n t.path t.fields t ts got (gathers.begin slot ts got) (omega (arith, few)) (gather_begun n ts got (omega (arith, few)))
+  gather_begun n (t ∷ ts) got few = begun_at n t.path t.fields t ts got (gathers.begin slot ts got) (omega (arith, few))
+      (gather_begun n ts got (omega (arith, few)))
 
-  went_on : (n : ℕ) (fs : List ℕ) (t : Task) (ts : List Task) (got : List Ptr) → n + weigh field fs + gather_costs ts ≤ most → Gathered n (gathers.go_on slot fs t ts got)
+  went_on : (n : ℕ) (fs : List ℕ) (t : Task) (ts : List Task) (got : List Ptr) → n + weigh field fs + gather_costs ts ≤ most
+      → Gathered n (gathers.go_on slot fs t ts got)
   went_on n [] t ts got few = gather_begun n ts got (omega (arith, few))
   went_on n (f ∷ fs) t ts got few = omega (arith, few)
 
-  pub gathered_on : (n : ℕ) (s : gathers.State) (stage : Stage) (words answer : List ℕ) (status : ℕ) → gathers.head slot s ≡ Asks stage words → gather_depth s ≤ d →
+  pub gathered_on : (n : ℕ) (s : gathers.State) (stage : Stage) (words answer : List ℕ) (status : ℕ) → gathers.head slot s ≡ Asks stage words
+      → gather_depth s ≤ d →
       Gathered n s → Gathered (n + 1) (gathers.next slot s status answer)
   gathered_on n (g_Down from [] t ts got) stage words answer status asks deep few = cc
   gathered_on n (g_Down from (k ∷ ways) t ts got) stage words answer status asks deep few = by ways few
@@ -152,11 +159,13 @@ module _ (slot d most : ℕ) where
       three true = omega (arith, few)
       three false = taken Far
 
-      two : (a b : Bool) → Gathered (n + 1) (cond a (gathers.takes slot Dead fs t ts got) (cond b (g_Looks [] m fs t ts got) (gathers.takes slot Far fs t ts got)))
+      two : (a b : Bool) → Gathered (n + 1) (cond a (gathers.takes slot Dead fs t ts got)
+          (cond b (g_Looks [] m fs t ts got) (gathers.takes slot Far fs t ts got)))
       two true b = taken Dead
       two false b = three b
 
-      one : (a b c : Bool) → Gathered (n + 1) (cond a (gathers.takes slot Null fs t ts got) (cond b (gathers.takes slot Dead fs t ts got) (cond c (g_Looks [] m fs t ts got) (gathers.takes slot Far fs t ts got))))
+      one : (a b c : Bool) → Gathered (n + 1) (cond a (gathers.takes slot Null fs t ts got)
+          (cond b (gathers.takes slot Dead fs t ts got) (cond c (g_Looks [] m fs t ts got) (gathers.takes slot Far fs t ts got))))
       one true b c = taken Null
       one false b c = two b c
 
@@ -172,7 +181,8 @@ module _ (slot d most : ℕ) where
       own k true = taken (At at)
       own k false = taken (At (k ∷ at))
 
-      near : (k : ℕ) (a b : Bool) → Gathered (n + 1) (cond a (cond b (gathers.takes slot (At at) fs t ts got) (gathers.takes slot (At (k ∷ at)) fs t ts got)) (g_Leads k at m fs t ts got))
+      near : (k : ℕ) (a b : Bool) → Gathered (n + 1)
+          (cond a (cond b (gathers.takes slot (At at) fs t ts got) (gathers.takes slot (At (k ∷ at)) fs t ts got)) (g_Leads k at m fs t ts got))
       near k true b = own k b
       near k false b = omega (arith, few)
 

@@ -90,7 +90,8 @@ module _ (c : World) where
   crowds zero s = let ones = one-each s (residents c s) in omega (arith, ones)
   crowds (suc n) s = by (λ k. crowds n (k ∷ s)) (residents c s)
     where
-      by : ((k : ℕ) → sum_of crowd (beneath_by n c (k ∷ s)) + crowd (k ∷ s) ≡ length (beneath_by (suc n) c (k ∷ s))) → (ks : List ℕ) → sum_of crowd (flat_map (stretch n s) ks) + length ks ≡ length (flat_map (stretch (suc n) s) ks)
+      by : ((k : ℕ) → sum_of crowd (beneath_by n c (k ∷ s)) + crowd (k ∷ s) ≡ length (beneath_by (suc n) c (k ∷ s))) → (ks : List ℕ)
+          → sum_of crowd (flat_map (stretch n s) ks) + length ks ≡ length (flat_map (stretch (suc n) s) ks)
       by each [] = omega arith
       by each (k ∷ ks) =
           let rest = by each ks in
@@ -106,10 +107,12 @@ module _ (c : World) where
 
     no-deeper : (n : ℕ) (s : Path) → length s + n ≡ bottom → length (beneath_by (suc n) c s) ≤ length (beneath_by n c s)
     unfolding beneath_by residents
-    no-deeper zero s deep = let is = ap (λ (ks : List ℕ). length (flat_map (stretch zero s) ks)) (nobody s (omega (arith, deep)) (slots SLOTS)) in omega (arith, is)
+    no-deeper zero s deep = let is = ap (λ (ks : List ℕ). length (flat_map (stretch zero s) ks)) (nobody s (omega (arith, deep)) (slots SLOTS)) in
+        omega (arith, is)
     no-deeper (suc n) s deep = by (λ k. no-deeper n (k ∷ s) (omega (arith, deep))) (residents c s)
       where
-        by : ((k : ℕ) → length (beneath_by (suc n) c (k ∷ s)) ≤ length (beneath_by n c (k ∷ s))) → (ks : List ℕ) → length (flat_map (stretch (suc n) s) ks) ≤ length (flat_map (stretch n s) ks)
+        by : ((k : ℕ) → length (beneath_by (suc n) c (k ∷ s)) ≤ length (beneath_by n c (k ∷ s))) → (ks : List ℕ)
+            → length (flat_map (stretch (suc n) s) ks) ≤ length (flat_map (stretch n s) ks)
         by each [] = omega arith
         by each (k ∷ ks) =
             let rest = by each ks in
@@ -170,7 +173,8 @@ module _ (c : World) where
       with_one None few = omega (arith, few)
       with_one (Some words) few = omega (arith, few)
 
-      by : (o : Option Body) → length rest_items ≤ length rest_slots → length (with_item k (record_in o) rest_items) ≤ length (cond (is_some o) (k ∷ rest_slots) rest_slots)
+      by : (o : Option Body) → length rest_items ≤ length rest_slots
+          → length (with_item k (record_in o) rest_items) ≤ length (cond (is_some o) (k ∷ rest_slots) rest_slots)
       by None few = omega (arith, few)
       by (Some b) few = with_one (record_in (Some b)) few
 
@@ -192,7 +196,8 @@ module _ (c : World) where
     costs-append (x ∷ xs) ys = let rest = costs-append xs ys in omega (arith, rest)
 
     four : (kind : ℕ) → weigh each (pointers_by kind) ≤ 4 * each
-    four kind = by (kind == number_of_kind kinds.Thread) (kind == number_of_kind kinds.Mapping) (kind == number_of_kind kinds.Region) (kind == number_of_kind kinds.Reference)
+    four kind = by (kind == number_of_kind kinds.Thread) (kind == number_of_kind kinds.Mapping) (kind == number_of_kind kinds.Region) (kind
+        == number_of_kind kinds.Reference)
       where
         by : (a b e f : Bool) → weigh {A = ℕ} each (cond a (0 ∷ 1 ∷ 2 ∷ 3 ∷ []) (cond b (0 ∷ []) (cond e (0 ∷ []) (cond f (0 ∷ []) [])))) ≤ 4 * each
         by true b e f = omega arith
@@ -225,7 +230,8 @@ module _ (c : World) where
         let three = weigh-fewer item_most (content c q).objects (residents c q) (objects-few q) in
         omega (arith, both, one, two, three)
 
-    contents-cost : (qs : List Path) → AllWithin d qs → gather_costs slot d most (gathered_tasks (map (content c) qs)) ≤ weigh (d + each) qs + sum_of (λ q. weigh item_most (residents c q)) qs
+    contents-cost : (qs : List Path) → AllWithin d qs
+        → gather_costs slot d most (gathered_tasks (map (content c) qs)) ≤ weigh (d + each) qs + sum_of (λ q. weigh item_most (residents c q)) qs
     contents-cost [] h = omega arith
     contents-cost (q ∷ qs) h =
         let both = costs-append (content_tasks (content c q)) (gathered_tasks (map (content c) qs)) in
@@ -250,13 +256,16 @@ module _ (nester : Path) (slot : ℕ) (start : World) (near : far_field ((cut st
 
   crowd_is : (q : Path) → residents_from nester slot start near valid_start few_start q 0 ≡ crowd shown q
   crowd_is q =
-      ap (λ (ks : List ℕ). length ks) (sym (residents_rise nester slot start near valid_start few_start q ∙ scan_filter nester slot start near valid_start few_start q (SLOTS - 0) 0))
+      ap (λ (ks : List ℕ). length ks) (sym (residents_rise nester slot start near valid_start few_start q
+      ∙ scan_filter nester slot start near valid_start few_start q (SLOTS - 0) 0))
 
-  size-few : (d : ℕ) (q : Path) → length q ≤ d → sizes nester slot start near valid_start few_start (content shown q ∷ []) ≤ (d + 3) + 2 * crowd shown q + 2 * pages_in shown q
+  size-few : (d : ℕ) (q : Path) → length q ≤ d → sizes nester slot start near valid_start few_start (content shown q ∷ []) ≤
+      (d + 3) + 2 * crowd shown q + 2 * pages_in shown q
   size-few d q low = let is = crowd_is q in let few = objects-few shown q in omega (arith, low, is, few)
 
   pub sizes-few : (d : ℕ) (qs : List Path) → AllWithin shown d qs →
-      sizes nester slot start near valid_start few_start (map (content shown) qs) ≤ weigh (d + 3) qs + 2 * sum_of (crowd shown) qs + 2 * sum_of (pages_in shown) qs
+      sizes nester slot start near valid_start few_start (map (content shown) qs) ≤ weigh (d + 3) qs + 2 * sum_of (crowd shown) qs + 2 * sum_of
+      (pages_in shown) qs
   sizes-few d [] h = omega arith
   sizes-few d (q ∷ qs) h = let one = size-few d q h.0 in let rest = sizes-few d qs h.1 in omega (arith, one, rest)
 
@@ -365,7 +374,8 @@ module _ (nester : Path) (slot : ℕ) (start : World) (near : far_field ((cut st
         ones (q ∷ qs) = let rest = ones qs in omega (arith, rest)
 
     -- all together
-    pub all-most : 9 + weigh (d + 6) mets + costs (sought_tasks mets) + sizes nester slot start near valid_start few_start contents + gather_costs slot d most (gathered_tasks contents)
+    pub all-most : 9 + weigh (d + 6) mets + costs (sought_tasks mets) + sizes nester slot start near valid_start few_start contents + gather_costs slot d most
+        (gathered_tasks contents)
         ≤ 100 * ((count_of shown + 1) * (d + 1))
     all-most =
         let walk = walk-most in
@@ -373,7 +383,8 @@ module _ (nester : Path) (slot : ℕ) (start : World) (near : far_field ((cut st
         let read = read-most in
         let gather = gather-most in
         let count = count_is in
-        let is : (count_of shown + 1) * (d + 1) ≡ suc (suc n + p) * e = ap (λ k. (k + 1) * (d + 1)) count ∙ (ap (λ k. k * (d + 1)) (omega arith) ∙ ap (λ k. suc (suc n + p) * k) (omega arith)) in
+        let is : (count_of shown + 1) * (d + 1) ≡ suc (suc n + p) * e = ap (λ k. (k + 1) * (d + 1)) count
+        ∙ (ap (λ k. k * (d + 1)) (omega arith) ∙ ap (λ k. suc (suc n + p) * k) (omega arith)) in
         let one = suc-mul (suc n + p) e in
         let two = add-mul (suc n) p e in
         let three = suc-mul n e in

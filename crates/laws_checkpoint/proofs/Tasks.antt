@@ -86,7 +86,8 @@ kind_by (Some (Thread_of t)) h = cc
 kind_by (Some (Reference to)) h = cc
 kind_by None h = cc
 
-of_map : (c : World) (x : Path) (qs : List Path) → IsIn x (map (λ (m : Met). m.path) (filter (λ (m : Met). is_space_number m.kind) (map (met c) qs))) → is_space_number (number_there (c.body x)) ≡ true
+of_map : (c : World) (x : Path) (qs : List Path) → IsIn x (map (λ (m : Met). m.path) (filter (λ (m : Met). is_space_number m.kind) (map (met c) qs)))
+    → is_space_number (number_there (c.body x)) ≡ true
 of_map c x [] h = absurd h
 of_map c x (q ∷ qs) h = by (is_space_number (number_there (c.body q))) refl h (λ is. of_map c x qs is)
   where
@@ -94,14 +95,16 @@ of_map c x (q ∷ qs) h = by (is_space_number (number_there (c.body q))) refl h 
     rest = map (λ (m : Met). m.path) (filter (λ (m : Met). is_space_number m.kind) (map (met c) qs))
 
     by : (t : Bool) → is_space_number (number_there (c.body q)) ≡ t →
-        IsIn x (map (λ (m : Met). m.path) (cond t (met c q ∷ filter (λ (m : Met). is_space_number m.kind) (map (met c) qs)) (filter (λ (m : Met). is_space_number m.kind) (map (met c) qs)))) →
+        IsIn x (map (λ (m : Met). m.path) (cond t (met c q ∷ filter (λ (m : Met). is_space_number m.kind) (map (met c) qs))
+        (filter (λ (m : Met). is_space_number m.kind) (map (met c) qs)))) →
         (IsIn x rest → is_space_number (number_there (c.body x)) ≡ true) → is_space_number (number_there (c.body x)) ≡ true
     by true e (inl same) later = subst (λ (y : Path). is_space_number (number_there (c.body y)) ≡ true) same e
     by true e (inr is) later = later is
     by false e is later = later is
 
 -- each space that was met is one
-pub spaces_are : (c : World) → kind_there c [] ≡ Some kinds.Space → (x : Path) → IsIn x (spaces_met (map (met c) (objects c))) → kind_there c x ≡ Some kinds.Space
+pub spaces_are : (c : World) → kind_there c [] ≡ Some kinds.Space → (x : Path) → IsIn x (spaces_met (map (met c) (objects c)))
+    → kind_there c x ≡ Some kinds.Space
 unfolding kind_there
 spaces_are c root x (inl e) = subst (λ (y : Path). kind_there c y ≡ Some kinds.Space) e root
 spaces_are c root x (inr is) = kind_by (c.body x) (of_map c x (objects c) is)

@@ -86,7 +86,8 @@ far_is (Some (Space birth None)) = refl
 far_is (Some (Space birth (Some p))) = last_bad (is_far p || is_out p) 0
 far_is (Some (Thread_of t)) = by t.talk t.fault
   where
-    by : (o : Option Talk) (p : Option Fault) → or_else (when_bad (holds (λ (talk : Talk). is_far talk.port) o) 0) (when_bad (holds (λ (fault : Fault). is_far fault.port) p) 2)
+    by : (o : Option Talk) (p : Option Fault) → or_else (when_bad (holds (λ (talk : Talk). is_far talk.port) o) 0)
+        (when_bad (holds (λ (fault : Fault). is_far fault.port) p) 2)
         ≡ first_bad false (Some (Thread_of (record t { talk = o; fault = p }))) (0 ∷ 2 ∷ [])
     by None None = refl
     by None (Some fault) = ap (λ b. when_bad b 2) (loose fault.port) ∙ last_bad (is_bad false fault.port) 2
@@ -154,7 +155,12 @@ module _ (ports : ℕ → Bool) (nester : Path) (slot : ℕ) where
       by : (o : Option Talk) (p : Option Fault) → IsCounted (Thread_of (record t { talk = o; fault = p })) 2
       by o None = record { to = Null; field = refl; seen = refl; near = λ x led. cc }
       by None (Some fault) = record { to = fault.port; field = refl; seen = refl; near = λ x led. rw led refl }
-      by (Some talk) (Some fault) = record { to = fault.port; field = refl; seen = refl; near = λ x led. on_right x (talk_pointers talk) (fault_pointers fault) (rw led refl) }
+      by (Some talk) (Some fault) = record {
+        to = fault.port;
+        field = refl;
+        seen = refl;
+        near = λ x led. on_right x (talk_pointers talk) (fault_pointers fault) (rw led refl);
+      }
 
 -- ---- what the two look-ups tell of a pointer that leads somewhere
 
@@ -270,11 +276,14 @@ module _ (nester : Path) (slot : ℕ) (w : World) (holding : IsHolding nester sl
   nester_no_port = no_port (w.body nester) nester_kind
 
   own_slot : (i : ℕ) → is_some (way_to root (At (i ∷ nester))) ≡ false → (i == slot) ≡ false
-  own_slot i off = ne_eqb i slot (λ e. let on : is_some (option_map way_down (strip root root)) ≡ true = ap (λ (o : Option Path). is_some (option_map way_down o)) (strip-append root []) in
-      let here : is_some (option_map way_down (strip root root)) ≡ false = subst (λ (k : ℕ). is_some (option_map way_down (strip root (k ∷ nester))) ≡ false) e off in
+  own_slot i off = ne_eqb i slot (λ e. let on : is_some (option_map way_down (strip root root))
+      ≡ true = ap (λ (o : Option Path). is_some (option_map way_down o)) (strip-append root []) in
+      let here : is_some (option_map way_down (strip root root))
+      ≡ false = subst (λ (k : ℕ). is_some (option_map way_down (strip root (k ∷ nester))) ≡ false) e off in
       let both = sym on ∙ here in cc)
 
-  beside_one : (i : ℕ) → is_some (way_to root (At (i ∷ nester))) ≡ false → (kind_number (kind_at w (At (i ∷ nester))) == 5) ≡ not (is_bad false (cut_out (ports_of w nester slot) nester (i ∷ nester)))
+  beside_one : (i : ℕ) → is_some (way_to root (At (i ∷ nester))) ≡ false
+      → (kind_number (kind_at w (At (i ∷ nester))) == 5) ≡ not (is_bad false (cut_out (ports_of w nester slot) nester (i ∷ nester)))
   beside_one i off = port_number (w.body (i ∷ nester)) ∙ rw (same_path_refl nester, own_slot i off) (by (is_port (w.body (i ∷ nester))))
     where
       by : (t : Bool) → t ≡ not (is_bad false (cond t (Out i) Far))
@@ -291,15 +300,19 @@ module _ (nester : Path) (slot : ℕ) (w : World) (holding : IsHolding nester sl
   two_long : (n : ℕ) → nat_le (suc (suc n)) 1 ≡ false
   two_long n = grind (arith, nat_tests)
 
-  beside_at : (x q : Path) → x ≡ q ++ nester → is_some (way_to root (At x)) ≡ false → tells_port (way_down q ++ kind_number (kind_at w (At x)) ∷ []) ≡ not (is_bad false (cut_to (At x)))
+  beside_at : (x q : Path) → x ≡ q ++ nester → is_some (way_to root (At x)) ≡ false
+      → tells_port (way_down q ++ kind_number (kind_at w (At x)) ∷ []) ≡ not (is_bad false (cut_to (At x)))
   beside_at x [] e off =
       ap (λ (o : Option Body). kind_number (and_then (λ b. Some (kind_of b)) o) == 5) (ap w.body e) ∙ port_number (w.body nester) ∙ nester_no_port
-      ∙ sym (ap not (ap (is_bad false) (outer_cut x (not_within (strip root x) off)) ∙ far_bad x (λ i same. let long = ap length (sym e ∙ same) in omega (arith, long))))
+      ∙ sym (ap not (ap (is_bad false) (outer_cut x (not_within (strip root x) off))
+      ∙ far_bad x (λ i same. let long = ap length (sym e ∙ same) in omega (arith, long))))
   beside_at x (i ∷ []) e off =
       let here : is_some (way_to root (At (i ∷ nester))) ≡ false = subst (λ (y : Path). is_some (way_to root (At y)) ≡ false) e off in
-      ap (λ (y : Path). kind_number (kind_at w (At y)) == 5) e ∙ beside_one i here ∙ sym (ap not (ap (is_bad false) (outer_cut x (not_within (strip root x) off) ∙ ap (cut_out (ports_of w nester slot) nester) e)))
+      ap (λ (y : Path). kind_number (kind_at w (At y)) == 5) e ∙ beside_one i here
+      ∙ sym (ap not (ap (is_bad false) (outer_cut x (not_within (strip root x) off) ∙ ap (cut_out (ports_of w nester slot) nester) e)))
   beside_at x (j ∷ i ∷ q) e off =
-      rw (two_long (length q)) refl ∙ sym (ap not (ap (is_bad false) (outer_cut x (not_within (strip root x) off)) ∙ far_bad x (λ k same. let long = ap length (sym e ∙ same) in omega (arith, long, length-append q nester))))
+      rw (two_long (length q)) refl ∙ sym (ap not (ap (is_bad false) (outer_cut x (not_within (strip root x) off))
+      ∙ far_bad x (λ k same. let long = ap length (sym e ∙ same) in omega (arith, long, length-append q nester))))
 
   pub told_beside : (to : Ptr) → Somewhere to → is_some (way_to root to) ≡ false → beside to ≡ not (is_bad false (cut_to to))
   told_beside (At x) some off = by (strip nester x) refl
@@ -319,17 +332,20 @@ module _ (nester : Path) (slot : ℕ) (w : World) (holding : IsHolding nester sl
   told_beside Far some h = refl
 
   -- a port of the nester is told by its slot
-  told_one : (i : ℕ) → is_some (way_to root (At (i ∷ nester))) ≡ false → cut_out (ports_of w nester slot) nester (i ∷ nester) ≡ cond (kind_number (kind_at w (At (i ∷ nester))) == 5) (Out i) Far
+  told_one : (i : ℕ) → is_some (way_to root (At (i ∷ nester))) ≡ false
+      → cut_out (ports_of w nester slot) nester (i ∷ nester) ≡ cond (kind_number (kind_at w (At (i ∷ nester))) == 5) (Out i) Far
   told_one i off = rw (port_number (w.body (i ∷ nester)), same_path_refl nester, own_slot i off) refl
 
   far_cut : (x : Path) → ((i : ℕ) → x ≡ i ∷ nester → ⊥) → cut_out (ports_of w nester slot) nester x ≡ Far
   far_cut [] apart = refl
   far_cut (i ∷ x) apart = rw (same_path_ne x nester (λ e. apart i (ap (λ (y : Path). i ∷ y) e))) refl
 
-  out_told : (x q : Path) → x ≡ q ++ nester → is_some (way_to root (At x)) ≡ false → cut_out (ports_of w nester slot) nester x ≡ told_pointer None (Some (way_down q ++ kind_number (kind_at w (At x)) ∷ []))
+  out_told : (x q : Path) → x ≡ q ++ nester → is_some (way_to root (At x)) ≡ false
+      → cut_out (ports_of w nester slot) nester x ≡ told_pointer None (Some (way_down q ++ kind_number (kind_at w (At x)) ∷ []))
   out_told x [] e off =
       far_cut x (λ i same. let long = ap length (sym e ∙ same) in omega (arith, long))
-      ∙ sym (ap (λ (b : Bool). cond b (Out OWN_SPACE) Far) (ap (λ (o : Option Body). kind_number (and_then (λ b. Some (kind_of b)) o) == 5) (ap w.body e) ∙ port_number (w.body nester) ∙ nester_no_port))
+      ∙ sym (ap (λ (b : Bool). cond b (Out OWN_SPACE) Far) (ap (λ (o : Option Body). kind_number (and_then (λ b. Some (kind_of b)) o) == 5) (ap w.body e)
+      ∙ port_number (w.body nester) ∙ nester_no_port))
   out_told x (i ∷ []) e off =
       let here : is_some (way_to root (At (i ∷ nester))) ≡ false = subst (λ (y : Path). is_some (way_to root (At y)) ≡ false) e off in
       ap (cut_out (ports_of w nester slot) nester) e ∙ told_one i here ∙ sym (ap (λ (y : Path). cond (kind_number (kind_at w (At y)) == 5) (Out i) Far) e)
@@ -339,7 +355,8 @@ module _ (nester : Path) (slot : ℕ) (w : World) (holding : IsHolding nester sl
   pub pointer_told : (x : Path) → cut_to (At x) ≡ told_pointer (strip root x) (located_at w nester x)
   pointer_told x = by (strip root x) refl
     where
-      by_nester : (o : Option Path) → strip nester x ≡ o → is_some (way_to root (At x)) ≡ false → cut_out (ports_of w nester slot) nester x ≡ told_pointer None (option_map (λ q. way_down q ++ kind_number (kind_at w (At x)) ∷ []) o)
+      by_nester : (o : Option Path) → strip nester x ≡ o → is_some (way_to root (At x)) ≡ false
+          → cut_out (ports_of w nester slot) nester x ≡ told_pointer None (option_map (λ q. way_down q ++ kind_number (kind_at w (At x)) ∷ []) o)
       by_nester (Some q) e off = out_told x q (strip_some nester x q e) off
       by_nester None e off = far_cut x (λ i same.
           let found : strip nester (i ∷ nester) ≡ None = subst (λ (y : Path). strip nester y ≡ None) same e in

@@ -85,7 +85,8 @@ module _ (nester : Path) (slot : ℕ) (start : World) (near : far_field ((cut st
   unfolding cut
   kind_seen q = by (start.body (q ++ root))
     where
-      by : (o : Option Body) → option_map kind_of (option_map (λ b. unheld q (seen_by (cutting (ports_of start nester slot) nester slot) b)) o) ≡ option_map kind_of o
+      by : (o : Option Body) → option_map kind_of (option_map (λ b. unheld q (seen_by (cutting (ports_of start nester slot) nester slot) b)) o)
+          ≡ option_map kind_of o
       by None = refl
       by (Some b) = ap Some (unheld_some q (seen_by (cutting (ports_of start nester slot) nester slot) b) ∙ seen_kind b)
 
@@ -154,10 +155,12 @@ module _ (nester : Path) (slot : ℕ) (start : World) (near : far_field ((cut st
   within_none : (m : ℕ) (q : Path) (k : ℕ) → filter (λ j. is_some (there q j)) (rising (SLOTS - k) k) ≡ [] → within m q k ≡ []
   within_none m q k e = ap (flat_map (λ j. (j ∷ q) ∷ beneath_by m c (j ∷ q))) (scan_filter q (SLOTS - k) k ∙ e)
 
-  within_first : (m : ℕ) (q : Path) (k j : ℕ) → filter (λ j. is_some (there q j)) (rising (SLOTS - k) k) ≡ j ∷ filter (λ j. is_some (there q j)) (rising (SLOTS - (j + 1)) (j + 1)) →
+  within_first : (m : ℕ) (q : Path) (k j : ℕ) → filter (λ j. is_some (there q j)) (rising (SLOTS - k) k) ≡ j
+      ∷ filter (λ j. is_some (there q j)) (rising (SLOTS - (j + 1)) (j + 1)) →
       within m q k ≡ (j ∷ q) ∷ (beneath_by m c (j ∷ q) ++ within m q (j + 1))
   within_first m q k j e =
-      ap (flat_map (λ j. (j ∷ q) ∷ beneath_by m c (j ∷ q))) (scan_filter q (SLOTS - k) k ∙ (e ∙ ap (λ ks. j ∷ ks) (sym (scan_filter q (SLOTS - (j + 1)) (j + 1)))))
+      ap (flat_map (λ j. (j ∷ q) ∷ beneath_by m c (j ∷ q))) (scan_filter q (SLOTS - k) k
+      ∙ (e ∙ ap (λ ks. j ∷ ks) (sym (scan_filter q (SLOTS - (j + 1)) (j + 1)))))
 
   -- ---- where a state stands
 
@@ -166,7 +169,8 @@ module _ (nester : Path) (slot : ℕ) (start : World) (near : far_field ((cut st
   PlacedIn w (j ∷ q) = w.body (PLACES ∷ nester) ≡ Some (Reference (At ((j ∷ q) ++ root)))
 
   pub data Position (w : World) : State → Type 0 where
-    AtDown : (from way : ℕ) (ways : List ℕ) (j : ℕ) (q : Path) (k : ℕ) (got : List Met) (at p : Path) → FromIs nester slot start near w from at → way ∷ at ≡ p ++ root →
+    AtDown : (from way : ℕ) (ways : List ℕ) (j : ℕ) (q : Path) (k : ℕ) (got : List Met) (at p : Path) → FromIs nester slot start near w from at
+        → way ∷ at ≡ p ++ root →
         follow (way ∷ at) ways ≡ (j ∷ q) ++ root → IsSpace (j ∷ q) → k ≤ SLOTS → Position w (Down from (way ∷ ways) (j ∷ q) k got)
     AtSearches : (q : Path) (k : ℕ) (got : List Met) → PlacedIn w q → IsSpace q → k ≤ SLOTS → Position w (Searches q k got)
     AtOver : (got : List Met) → Position w (Over got)
@@ -192,16 +196,19 @@ module _ (nester : Path) (slot : ℕ) (start : World) (near : far_field ((cut st
   placed_moved w v same [] h = tt
   placed_moved w v same (j ∷ q) h = same ∙ h
 
-  pub from_moved : (w v : World) → v.body (PLACES ∷ nester) ≡ w.body (PLACES ∷ nester) → (from : ℕ) (at : Path) → FromIs nester slot start near w from at → FromIs nester slot start near v from at
+  pub from_moved : (w v : World) → v.body (PLACES ∷ nester) ≡ w.body (PLACES ∷ nester) → (from : ℕ) (at : Path) → FromIs nester slot start near w from at
+      → FromIs nester slot start near v from at
   from_moved w v same from at (inl h) = inl h
   from_moved w v same from at (inr h) = inr (h.0, same ∙ h.1)
 
   position_same : (w v : World) → v.body (PLACES ∷ nester) ≡ w.body (PLACES ∷ nester) → (s : State) → Position w s → Position v s
-  position_same w v same _ (AtDown from way ways j q k got at p h inside is space low) = AtDown from way ways j q k got at p (from_moved w v same from at h) inside is space low
+  position_same w v same _ (AtDown from way ways j q k got at p h inside is space low) = AtDown from way ways j q k got at p
+      (from_moved w v same from at h) inside is space low
   position_same w v same _ (AtSearches q k got h space low) = AtSearches q k got (placed_moved w v same q h) space low
   position_same w v same _ (AtOver got) = AtOver got
 
-  pub others : (w : World) (e : Event) (s : State) (end : List Met) → IsUsersMove nester w e → (after w e).next ≤ depth → Stands w s end → Stands (after w e) s end
+  pub others : (w : World) (e : Event) (s : State) (end : List Met) → IsUsersMove nester w e → (after w e).next ≤ depth → Stands w s end
+      → Stands (after w e) s end
   others w e s end moves few its =
       let kept = others_keep_hold nester slot w e its.base.holding moves in
       record {
@@ -232,7 +239,8 @@ module _ (nester : Path) (slot : ℕ) (start : World) (near : far_field ((cut st
   short_slot j q space = let below = valid_start.rooted.slots j (q ++ root) (sym (live-kind start ((j ∷ q) ++ root)) ∙ ap is_some space) in omega (arith, below)
 
   -- back to the space above
-  left_it : (w : World) (q : Path) (m : ℕ) (got end : List Met) → Base nester slot start near w → IsSpace q → length q + suc m ≡ depth → got ++ map (met c) (above m q) ≡ end →
+  left_it : (w : World) (q : Path) (m : ℕ) (got end : List Met) → Base nester slot start near w → IsSpace q → length q + suc m ≡ depth
+      → got ++ map (met c) (above m q) ≡ end →
       Stands w (leaves slot q got) end
   unfolding above
   left_it w [] m got end base space deep is = record { base = base; position = AtOver got; level = m; deep = deep; end = nothing_more got ∙ is }
@@ -240,10 +248,13 @@ module _ (nester : Path) (slot : ℕ) (start : World) (near : far_field ((cut st
       nothing_more : (ms : List Met) → ms ≡ ms ++ []
       nothing_more [] = refl
       nothing_more (x ∷ ms) = ap (λ xs. x ∷ xs) (nothing_more ms)
-  left_it w (j ∷ q) m got end base space deep is = reached w q (j + 1) (suc m) got end base (space_above j q space) (short_slot j q space) (omega (arith, deep)) is
+  left_it w (j ∷ q) m got end base space deep is = reached w q (j + 1) (suc m) got end base (space_above j q space) (short_slot j q space)
+      (omega (arith, deep)) is
 
-  arrived : (w : World) (ways : List ℕ) (j : ℕ) (q : Path) (k m : ℕ) (got end : List Met) (at p : Path) → Base nester slot start near w → w.body (PLACES ∷ nester) ≡ Some (Reference (At at)) →
-      at ≡ p ++ root → follow at ways ≡ (j ∷ q) ++ root → IsSpace (j ∷ q) → k ≤ SLOTS → length (j ∷ q) + suc m ≡ depth → got ++ map (met c) (left m (j ∷ q) k) ≡ end →
+  arrived : (w : World) (ways : List ℕ) (j : ℕ) (q : Path) (k m : ℕ) (got end : List Met) (at p : Path) → Base nester slot start near w
+      → w.body (PLACES ∷ nester) ≡ Some (Reference (At at)) →
+      at ≡ p ++ root → follow at ways ≡ (j ∷ q) ++ root → IsSpace (j ∷ q) → k ≤ SLOTS → length (j ∷ q) + suc m ≡ depth
+      → got ++ map (met c) (left m (j ∷ q) k) ≡ end →
       Stands w (arrive ways (j ∷ q) k got) end
   arrived w [] j q k m got end at p base ref inside is space low deep eq = record {
     base = base;
@@ -274,7 +285,8 @@ module _ (nester : Path) (slot : ℕ) (start : World) (near : far_field ((cut st
     named [] placed space = slot_named nester slot start near w base valid few
     named (j ∷ q) placed space = ref_named nester no_words w PLACES ((j ∷ q) ++ root) (omega arith) placed (space_now (j ∷ q) space)
 
-    own_down : (from way : ℕ) (ways : List ℕ) (j : ℕ) (q : Path) (k m : ℕ) (got : List Met) (at p : Path) (reply : Reply) (end : List Met) → FromIs nester slot start near w from at →
+    own_down : (from way : ℕ) (ways : List ℕ) (j : ℕ) (q : Path) (k m : ℕ) (got : List Met) (at p : Path) (reply : Reply) (end : List Met)
+        → FromIs nester slot start near w from at →
         way ∷ at ≡ p ++ root → follow (way ∷ at) ways ≡ (j ∷ q) ++ root → IsSpace (j ∷ q) → k ≤ SLOTS → length (j ∷ q) + suc m ≡ depth →
         IsAnswered nester w (Point OWN_SPACE PLACES from way) no_words reply → got ++ map (met c) (left m (j ∷ q) k) ≡ end →
         Stands (after w (call_of nester (Point OWN_SPACE PLACES from way) no_words)) (arrive ways (j ∷ q) k got) end
@@ -285,9 +297,11 @@ module _ (nester : Path) (slot : ℕ) (start : World) (near : far_field ((cut st
         let row = point-row nester no_words w OWN_SPACE PLACES from way nester at old.0 (At (way ∷ at)) (own-place nester no_words w)
         (ref_read nester slot start near w base valid few PLACES old.0 refl old.1)
         (from_named nester slot start near w base valid few from at h (above_kind nester slot w base.holding valid way at kind))
-        (space_pointer nester no_words w at way (live_slot nester slot start near w base valid few way at (space_live nester slot start near w base valid few (way ∷ at) kind)) kind)
+        (space_pointer nester no_words w at way (live_slot nester slot start near w base valid few way at
+        (space_live nester slot start near w base valid few (way ∷ at) kind)) kind)
         (free nester slot start near w base valid few PLACES old.0 old.1) in
-        let goes = one_change nester slot start near w base valid few (Point OWN_SPACE PLACES from way) reply (Alter (PLACES ∷ nester) (SetPointer (At (way ∷ at)))) OK [] answered row in
+        let goes = one_change nester slot start near w base valid few (Point OWN_SPACE PLACES from way) reply
+        (Alter (PLACES ∷ nester) (SetPointer (At (way ∷ at)))) OK [] answered row in
         let nearby : (x : Path) → leads_to x (At (way ∷ at)) ≡ true → IsNear w root x = λ x led. inl (p, sym (same_path_eq (way ∷ at) x led) ∙ inside) in
         let valid_after : IsValid (apply (Alter (PLACES ∷ nester) (SetPointer (At (way ∷ at)))) w) =
         subst IsValid goes.0 (valid_own nester slot start near w base valid few (Point OWN_SPACE PLACES from way) refl) in
@@ -302,12 +316,14 @@ module _ (nester : Path) (slot : ℕ) (start : World) (near : far_field ((cut st
     pub below_none : (q : Path) (k j : ℕ) → j < k → seen_taken q k j ≡ None
     below_none q k j less = by (nat_le k j) refl
       where
-        by : (t : Bool) → nat_le k j ≡ t → cond (t && nat_le j LAST_PORTER_SLOT) (option_map {U = ℕ × ℕ} (λ b. (j, number_of_kind (kind_of b))) (w.body (j ∷ (q ++ root)))) None ≡ None
+        by : (t : Bool) → nat_le k j ≡ t → cond (t && nat_le j LAST_PORTER_SLOT)
+            (option_map {U = ℕ × ℕ} (λ b. (j, number_of_kind (kind_of b))) (w.body (j ∷ (q ++ root)))) None ≡ None
         by true e = let most = leb-true k j e in absurd (omega (arith, most, less))
         by false e = refl
 
     pub empty_none : (q : Path) (k j : ℕ) → there q j ≡ None → seen_taken q k j ≡ None
-    empty_none q k j e = ap (λ (o : Option Body). cond (nat_le k j && nat_le j LAST_PORTER_SLOT) (option_map {U = ℕ × ℕ} (λ b. (j, number_of_kind (kind_of b))) o) None) (same_there q j ∙ e) ∙ by (nat_le k j && nat_le j LAST_PORTER_SLOT)
+    empty_none q k j e = ap (λ (o : Option Body). cond (nat_le k j && nat_le j LAST_PORTER_SLOT)
+        (option_map {U = ℕ × ℕ} (λ b. (j, number_of_kind (kind_of b))) o) None) (same_there q j ∙ e) ∙ by (nat_le k j && nat_le j LAST_PORTER_SLOT)
       where
         by : (t : Bool) → cond t (option_map {T = Body} {U = ℕ × ℕ} (λ b. (j, number_of_kind (kind_of b))) None) None ≡ None
         by true = refl
@@ -348,7 +364,8 @@ module _ (nester : Path) (slot : ℕ) (start : World) (near : far_field ((cut st
         all : (b : Body) → there q j ≡ Some b → got_it b ++ map (met c) (beneath_by m c (j ∷ q) ++ left m q (j + 1)) ≡ end
         all b is =
             pushed got (record { path = j ∷ q; kind = number_of_kind (kind_of b) }) (map (met c) (beneath_by m c (j ∷ q) ++ left m q (j + 1)))
-            ∙ (ap (λ (n : ℕ). got ++ record { path = j ∷ q; kind = n } ∷ map (met c) (beneath_by m c (j ∷ q) ++ left m q (j + 1))) (sym (number_seen (j ∷ q) b is))
+            ∙ (ap (λ (n : ℕ). got ++ record { path = j ∷ q; kind = n } ∷ map (met c) (beneath_by m c (j ∷ q) ++ left m q (j + 1)))
+            (sym (number_seen (j ∷ q) b is))
             ∙ (ap (λ (ps : List Path). got ++ met c (j ∷ q) ∷ map (met c) ps) (sym (joined (beneath_by m c (j ∷ q)) (within m q (j + 1)) (above m q)))
             ∙ (ap (λ (ps : List Path). got ++ map (met c) (ps ++ above m q)) (sym listed) ∙ eq)))
 
@@ -358,7 +375,8 @@ module _ (nester : Path) (slot : ℕ) (start : World) (near : far_field ((cut st
           position = AtSearches q (j + 1) (got_it b) placed space (omega (arith, high));
           level = m;
           deep = deep;
-          end = ap (λ (ps : List Path). got_it b ++ map (met c) (ps ++ left m q (j + 1))) (sym (none_beneath m (j ∷ q) (λ h. apart (sym (ap (option_map kind_of) is) ∙ h)))) ∙ all b is;
+          end = ap (λ (ps : List Path). got_it b ++ map (met c) (ps ++ left m q (j + 1)))
+              (sym (none_beneath m (j ∷ q) (λ h. apart (sym (ap (option_map kind_of) is) ∙ h)))) ∙ all b is;
         }
 
         within_it : (n : ℕ) → m ≡ suc n → beneath_by m c (j ∷ q) ++ left m q (j + 1) ≡ left n (j ∷ q) 0
@@ -366,7 +384,8 @@ module _ (nester : Path) (slot : ℕ) (start : World) (near : far_field ((cut st
             ap (λ (m : ℕ). beneath_by m c (j ∷ q) ++ (within m q (j + 1) ++ above m q)) e
             ∙ ap (λ (ps : List Path). ps ++ (within (suc n) q (j + 1) ++ above (suc n) q)) (inner n (j ∷ q))
 
-        enter : (q : Path) → PlacedIn w q → (n : ℕ) (got : List Met) → length (j ∷ q) + suc n ≡ depth → IsSpace (j ∷ q) → got ++ map (met c) (left n (j ∷ q) 0) ≡ end → Stands w (enters slot q j got) end
+        enter : (q : Path) → PlacedIn w q → (n : ℕ) (got : List Met) → length (j ∷ q) + suc n ≡ depth → IsSpace (j ∷ q)
+            → got ++ map (met c) (left n (j ∷ q) 0) ≡ end → Stands w (enters slot q j got) end
         enter [] placed n got deep space eq = reached w (j ∷ []) 0 n got end base space (omega arith) deep eq
         enter (i ∷ p) placed n got deep space eq = record {
           base = base;
@@ -404,21 +423,26 @@ module _ (nester : Path) (slot : ℕ) (start : World) (near : far_field ((cut st
 
         by : Scan (there q) SLOTS k → Goal (found slot q k got reply.status reply.words)
         by (Nobody none listed) =
-            let row = searched q k placed space None (lowest_none (there q) SLOTS (seen_taken q k) k (below_none q k) (λ j up high. empty_none q k j (none j up high))) in
+            let row = searched q k placed space None
+            (lowest_none (there q) SLOTS (seen_taken q k) k (below_none q k) (λ j up high. empty_none q k j (none j up high))) in
             let goes = no_change nester slot start near w base valid few (Search (space_at slot q) k) reply NONE [] answered row in
             subst (λ (ws : List ℕ). Goal (found slot q k got reply.status ws)) (sym goes.1.1)
             (subst (λ (v : World). Stands v (leaves slot q got) end) (sym goes.0)
             (left_it w q m got end base space deep (ap (λ (ps : List Path). got ++ map (met c) (ps ++ above m q)) (sym (within_none m q k listed)) ∙ eq)))
         by (First j b up high is before listed) =
-            let row = searched q k placed space (Some (j, number_of_kind (kind_of b))) (lowest_first (there q) SLOTS (seen_taken q k) k (below_none q k) j (j, number_of_kind (kind_of b)) up high
+            let row = searched q k placed space (Some (j, number_of_kind (kind_of b)))
+            (lowest_first (there q) SLOTS (seen_taken q k) k (below_none q k) j (j, number_of_kind (kind_of b)) up high
             (found_there q k j b up high is) (λ i least less. empty_none q k i (before i least less))) in
-            let goes = no_change nester slot start near w base valid few (Search (space_at slot q) k) reply OK (j ∷ number_of_kind (kind_of b) ∷ []) answered row in
-            let takes : found slot q k got OK (j ∷ number_of_kind (kind_of b) ∷ []) ≡ goes_on slot q j (number_of_kind (kind_of b)) (got ++ record { path = j ∷ q; kind = number_of_kind (kind_of b) } ∷ []) =
+            let goes = no_change nester slot start near w base valid few (Search (space_at slot q) k) reply OK (j ∷ number_of_kind (kind_of b)
+            ∷ []) answered row in
+            let takes : found slot q k got OK (j ∷ number_of_kind (kind_of b) ∷ [])
+            ≡ goes_on slot q j (number_of_kind (kind_of b)) (got ++ record { path = j ∷ q; kind = number_of_kind (kind_of b) } ∷ []) =
             rw (le-leb k j up, le-leb (suc j) SLOTS high) refl in
             subst (λ (ws : List ℕ). Goal (found slot q k got reply.status ws)) (sym goes.1.1)
             (subst (λ (st : ℕ). Goal (found slot q k got st (j ∷ number_of_kind (kind_of b) ∷ []))) (sym goes.1.0)
             (subst Goal (sym takes)
-            (subst (λ (v : World). Stands v (goes_on slot q j (number_of_kind (kind_of b)) (got ++ record { path = j ∷ q; kind = number_of_kind (kind_of b) } ∷ [])) end) (sym goes.0)
+            (subst (λ (v : World). Stands v (goes_on slot q j (number_of_kind (kind_of b)) (got ++ record { path = j ∷ q; kind = number_of_kind (kind_of b) }
+            ∷ [])) end) (sym goes.0)
             (meets q k m j b got end placed space deep high is (within_first m q k j listed) eq))))
 
     -- ---- each call comes to something
@@ -430,7 +454,8 @@ module _ (nester : Path) (slot : ℕ) (start : World) (near : far_field ((cut st
         by None e = record { changes = []; status = NONE; given = []; row = searched q k placed space None e; mild = Changes_nothing }
         by (Some f) e = record { changes = []; status = OK; given = f.0 ∷ f.1 ∷ []; row = searched q k placed space (Some f) e; mild = Changes_nothing }
 
-    pub comes_down : (from way : ℕ) (ways : List ℕ) (j : ℕ) (q : Path) (at : Path) → FromIs nester slot start near w from at → follow (way ∷ at) ways ≡ (j ∷ q) ++ root → IsSpace (j ∷ q) →
+    pub comes_down : (from way : ℕ) (ways : List ℕ) (j : ℕ) (q : Path) (at : Path) → FromIs nester slot start near w from at
+        → follow (way ∷ at) ways ≡ (j ∷ q) ++ root → IsSpace (j ∷ q) →
         Comes nester w (Point OWN_SPACE PLACES from way)
     comes_down from way ways j q at h is space =
         let kind = kind_up nester slot start near w base valid few ways (way ∷ at) ((j ∷ q) ++ root) is (space_now (j ∷ q) space) in
@@ -443,7 +468,8 @@ module _ (nester : Path) (slot : ℕ) (start : World) (near : far_field ((cut st
           row = point-row nester no_words w OWN_SPACE PLACES from way nester at old.0 (At (way ∷ at)) (own-place nester no_words w)
               (ref_read nester slot start near w base valid few PLACES old.0 refl old.1)
               (from_named nester slot start near w base valid few from at h (above_kind nester slot w base.holding valid way at kind))
-              (space_pointer nester no_words w at way (live_slot nester slot start near w base valid few way at (space_live nester slot start near w base valid few (way ∷ at) kind)) kind)
+              (space_pointer nester no_words w at way
+              (live_slot nester slot start near w base valid few way at (space_live nester slot start near w base valid few (way ∷ at) kind)) kind)
               (free nester slot start near w base valid few PLACES old.0 old.1);
         }
 
@@ -465,14 +491,16 @@ module _ (nester : Path) (slot : ℕ) (start : World) (near : far_field ((cut st
 
   -- ---- the whole
 
-  pub own : (w : World) (s : State) (stage : Stage) (words : List ℕ) (reply : Reply) (end : List Met) → Stands w s end → head slot s ≡ Asks stage words → IsAnswered nester w stage words reply →
+  pub own : (w : World) (s : State) (stage : Stage) (words : List ℕ) (reply : Reply) (end : List Met) → Stands w s end → head slot s ≡ Asks stage words
+      → IsAnswered nester w stage words reply →
       Stands (after w (call_of nester stage words)) (next slot s reply.status reply.words) end
   own w s stage words reply end its asks answered = by s its.position its.deep its.end asks answered
     where
       Goal : State → Stage → List ℕ → Type 0
       Goal s st ws = IsAnswered nester w st ws reply → Stands (after w (call_of nester st ws)) (next slot s reply.status reply.words) end
 
-      by : (s : State) → Position w s → length (place_of s) + suc its.level ≡ depth → ends its.level s ≡ end → head slot s ≡ Asks stage words → Goal s stage words
+      by : (s : State) → Position w s → length (place_of s) + suc its.level ≡ depth → ends its.level s ≡ end → head slot s ≡ Asks stage words
+          → Goal s stage words
       by _ (AtDown from way ways j q k got at p h inside is space low) deep eq asks =
           asked w its.base answered.valid answered.few (Point OWN_SPACE PLACES from way) stage no_words words asks (Goal (Down from (way ∷ ways) (j ∷ q) k got))
           (λ mine. own_down w its.base mine.valid mine.few from way ways j q k its.level got at p reply end h inside is space low deep mine eq)

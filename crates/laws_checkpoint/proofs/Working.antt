@@ -161,12 +161,17 @@ module _ (nester : Path) (slot birth : ℕ) (low : slot ≤ LAST_USER_SLOT) (w :
     AtFirst : Held_now v → Tidy_now v [] → Phase v (Readies PLACES (TARGETS ∷ STEPS ∷ []))
     AtSecond : Held_now v → Ref v PLACES → Tidy_now v (PLACES ∷ []) → Phase v (Readies TARGETS (STEPS ∷ []))
     AtThird : Held_now v → Ref v PLACES → Ref v TARGETS → Tidy_now v (TARGETS ∷ PLACES ∷ []) → Phase v (Readies STEPS [])
-    AtWalks : (s : walks.State) → walking_on.Stands nester slot start near valid_start few_start v s mets → Asking (walks.head slot s) → Tidy_now v three → Phase v (Walks s)
-    AtSeeks : (s : seeks.State) → seeking_on.Stands nester slot start near v s (open_place w nester slot) → Asking (seeks.head slot s) → Tidy_now v three → Phase v (Seeks mets s)
-    AtReads : (s : reads.State) → open_place w nester slot ≡ None → reading_on.Stands nester slot start near valid_start few_start v s contents → Asking (reads.head slot s) → Tidy_now v three → Phase v (Reads s)
-    AtGathers : (s : gathers.State) → open_place w nester slot ≡ None → gathering_on.Stands nester slot start near v s pointers → Asking (gathers.head slot s) → Tidy_now v three → Phase v (Gathers contents s)
+    AtWalks : (s : walks.State) → walking_on.Stands nester slot start near valid_start few_start v s mets → Asking (walks.head slot s) → Tidy_now v three
+        → Phase v (Walks s)
+    AtSeeks : (s : seeks.State) → seeking_on.Stands nester slot start near v s (open_place w nester slot) → Asking (seeks.head slot s) → Tidy_now v three
+        → Phase v (Seeks mets s)
+    AtReads : (s : reads.State) → open_place w nester slot ≡ None → reading_on.Stands nester slot start near valid_start few_start v s contents
+        → Asking (reads.head slot s) → Tidy_now v three → Phase v (Reads s)
+    AtGathers : (s : gathers.State) → open_place w nester slot ≡ None → gathering_on.Stands nester slot start near v s pointers → Asking (gathers.head slot s)
+        → Tidy_now v three → Phase v (Gathers contents s)
     AtDrops : (end : End) → Verdict end → Held_now v → IsScratched nester v → Tidy_now v three → Phase v (Drops STEPS (TARGETS ∷ PLACES ∷ []) end)
-    AtTwoLeft : (end : End) → Verdict end → Held_now v → Ref v TARGETS → Ref v PLACES → Tidy_now v (TARGETS ∷ PLACES ∷ []) → Phase v (Drops TARGETS (PLACES ∷ []) end)
+    AtTwoLeft : (end : End) → Verdict end → Held_now v → Ref v TARGETS → Ref v PLACES → Tidy_now v (TARGETS ∷ PLACES ∷ [])
+        → Phase v (Drops TARGETS (PLACES ∷ []) end)
     AtOneLeft : (end : End) → Verdict end → Held_now v → Ref v PLACES → Tidy_now v (PLACES ∷ []) → Phase v (Drops PLACES [] end)
     AtReleases : (end : End) → Verdict end → Held_now v → Tidy_now v [] → Phase v (Releases end)
     AtOver : (end : End) → Verdict end → cut v nester slot ≡ c → holder_of (v.body root) ≡ None → Tidy_now v [] → Phase v (Over end)
@@ -176,7 +181,8 @@ module _ (nester : Path) (slot birth : ℕ) (low : slot ≤ LAST_USER_SLOT) (w :
   dropping : (v : World) (end : End) → Verdict end → Base nester slot start near v → Tidy_now v three → Phase v (ends_as end)
   dropping v end verdict base tidy = AtDrops end verdict (held_of nester slot birth start near v base) base.scratched tidy
 
-  from_gathers : (v : World) (s : gathers.State) → open_place w nester slot ≡ None → gathering_on.Stands nester slot start near v s pointers → Tidy_now v three → Phase v (gathering slot contents s)
+  from_gathers : (v : World) (s : gathers.State) → open_place w nester slot ≡ None → gathering_on.Stands nester slot start near v s pointers
+      → Tidy_now v three → Phase v (gathering slot contents s)
   from_gathers v s closed its tidy = by (gathers.head slot s) refl
     where
       by : (h : Head (List Ptr)) → gathers.head slot s ≡ h → Phase v (gathers_on contents s h)
@@ -185,7 +191,8 @@ module _ (nester : Path) (slot birth : ℕ) (low : slot ≤ LAST_USER_SLOT) (w :
           let same = gathering_on.finds nester slot start near v s ps pointers its e in
           dropping v (Done (narrowed (assembled contents ps))) (closed, ap (λ (qs : List Ptr). narrowed (assembled contents qs)) same) its.base tidy
 
-  from_reads : (v : World) (s : reads.State) → open_place w nester slot ≡ None → reading_on.Stands nester slot start near valid_start few_start v s contents → Tidy_now v three → Phase v (reading slot s)
+  from_reads : (v : World) (s : reads.State) → open_place w nester slot ≡ None → reading_on.Stands nester slot start near valid_start few_start v s contents
+      → Tidy_now v three → Phase v (reading slot s)
   from_reads v s closed its tidy = by (reads.head slot s) refl
     where
       by : (h : Head (List Content)) → reads.head slot s ≡ h → Phase v (reads_on slot s h)
@@ -194,9 +201,11 @@ module _ (nester : Path) (slot birth : ℕ) (low : slot ≤ LAST_USER_SLOT) (w :
           let same = reading_on.finds nester slot start near valid_start few_start v s got contents its e in
           subst (λ (cs : List Content). Phase v (gathering slot cs (gathers.begin slot (gathered_tasks cs) []))) (sym same)
           (from_gathers v (gathers.begin slot (gathered_tasks contents) []) closed
-          (gathering_on.begins nester slot start near v (gathered_tasks contents) [] its.base its.base.scratched.steps (gathered_ok nester slot start near root_space)) tidy)
+          (gathering_on.begins nester slot start near v (gathered_tasks contents) [] its.base its.base.scratched.steps
+          (gathered_ok nester slot start near root_space)) tidy)
 
-  from_seeks : (v : World) (s : seeks.State) → seeking_on.Stands nester slot start near v s (open_place w nester slot) → Tidy_now v three → Phase v (seeking slot mets s)
+  from_seeks : (v : World) (s : seeks.State) → seeking_on.Stands nester slot start near v s (open_place w nester slot) → Tidy_now v three
+      → Phase v (seeking slot mets s)
   from_seeks v s its tidy = by (seeks.head slot s) refl
     where
       ended : (place : Option Place) → place ≡ open_place w nester slot → Phase v (sought slot mets place)
@@ -210,15 +219,19 @@ module _ (nester : Path) (slot birth : ℕ) (low : slot ≤ LAST_USER_SLOT) (w :
       by (Asks stage words) e = AtSeeks s its (stage, words, e) tidy
       by (Stops place) e = ended place (seeking_on.finds nester slot start near v s place (open_place w nester slot) its e)
 
-  pub begins_seeking : (v : World) → Base nester slot start near v → seeking_on.Stands nester slot start near v (seeks.begin slot (sought_tasks mets)) (open_place w nester slot)
+  pub begins_seeking : (v : World) → Base nester slot start near v
+      → seeking_on.Stands nester slot start near v (seeks.begin slot (sought_tasks mets)) (open_place w nester slot)
   unfolding open_place Rattle.laws_checkpoint.proofs.Seeks.led
   begins_seeking v base =
       let tasks : List Task = map (task_of c) (preorder start nester slot) in
-      let first = seeking_on.begins nester slot start near v tasks base (all_tasks nester slot start near (preorder start nester slot) (preorder_live start nester slot root_there)) in
+      let first = seeking_on.begins nester slot start near v tasks base
+      (all_tasks nester slot start near (preorder start nester slot) (preorder_live start nester slot root_there)) in
       subst (λ (ts : List Task). seeking_on.Stands nester slot start near v (seeks.begin slot ts) (open_place w nester slot)) (sym (sought_are c))
-      (subst (λ (o : Option Place). seeking_on.Stands nester slot start near v (seeks.begin slot tasks) o) (seeking_on.rests_are nester slot start near ∙ held.place) first)
+      (subst (λ (o : Option Place). seeking_on.Stands nester slot start near v (seeks.begin slot tasks) o) (seeking_on.rests_are nester slot start near
+      ∙ held.place) first)
 
-  from_walks : (v : World) (s : walks.State) → walking_on.Stands nester slot start near valid_start few_start v s mets → Tidy_now v three → Phase v (walking slot s)
+  from_walks : (v : World) (s : walks.State) → walking_on.Stands nester slot start near valid_start few_start v s mets → Tidy_now v three
+      → Phase v (walking slot s)
   from_walks v s its tidy = by (walks.head slot s) refl
     where
       by : (h : Head (List Met)) → walks.head slot s ≡ h → Phase v (walks_on slot s h)
@@ -233,7 +246,8 @@ module _ (nester : Path) (slot birth : ℕ) (low : slot ≤ LAST_USER_SLOT) (w :
   ref_others : (v : World) (e : Event) (r : ℕ) → IsUsersMove nester v e → IsHolding nester slot v → IsOwnSlot r → Ref v r → Ref (after v e) r
   ref_others v e r moves holding own ref = (ref.0, (others_keep_hold nester slot v e holding moves).around.scratch r (own_scratch nester r own) ∙ ref.1)
 
-  pub others : (v : World) (e : Event) (s : State) → IsUsersMove nester v e → (after v e).next ≤ depth → IsAtCall (checkpoint slot) s → Phase v s → Phase (after v e) s
+  pub others : (v : World) (e : Event) (s : State) → IsUsersMove nester v e → (after v e).next ≤ depth → IsAtCall (checkpoint slot) s → Phase v s
+      → Phase (after v e) s
   others v e _ moves few works (AtFirst its tidy) =
       let later = held_others nester slot birth start v e moves few its in
       AtFirst later (tidy_others nester slot birth v e [] moves later.holding.porter tidy)
@@ -269,7 +283,8 @@ module _ (nester : Path) (slot birth : ℕ) (low : slot ≤ LAST_USER_SLOT) (w :
       (tidy_others nester slot birth v e (TARGETS ∷ PLACES ∷ []) moves later.holding.porter tidy)
   others v e _ moves few works (AtOneLeft end verdict its places tidy) =
       let later = held_others nester slot birth start v e moves few its in
-      AtOneLeft end verdict later (ref_others v e PLACES moves its.holding Places places) (tidy_others nester slot birth v e (PLACES ∷ []) moves later.holding.porter tidy)
+      AtOneLeft end verdict later (ref_others v e PLACES moves its.holding Places places)
+      (tidy_others nester slot birth v e (PLACES ∷ []) moves later.holding.porter tidy)
   others v e _ moves few works (AtReleases end verdict its tidy) =
       let later = held_others nester slot birth start v e moves few its in
       AtReleases end verdict later (tidy_others nester slot birth v e [] moves later.holding.porter tidy)
@@ -290,10 +305,12 @@ module _ (nester : Path) (slot birth : ℕ) (low : slot ≤ LAST_USER_SLOT) (w :
   not_in k h = h
 
   -- what a working part's call leaves
-  mild_tidy : (v : World) (stage : Stage) (words : List ℕ) (reply : Reply) (made : List ℕ) → IsAnswered nester v stage words reply → ComesWith nester v stage words → Tidy_now v made →
+  mild_tidy : (v : World) (stage : Stage) (words : List ℕ) (reply : Reply) (made : List ℕ) → IsAnswered nester v stage words reply
+      → ComesWith nester v stage words → Tidy_now v made →
       Tidy_now (after v (call_of nester stage words)) made
   mild_tidy v stage words reply made answered comes tidy =
-      let row = subst (λ (ws : List ℕ). call_row v (porter nester ws) None stage ≡ Goes comes.1.changes (Answered comes.1.status comes.1.given)) (sym comes.0) comes.1.row in
+      let row = subst (λ (ws : List ℕ). call_row v (porter nester ws) None stage ≡ Goes comes.1.changes (Answered comes.1.status comes.1.given))
+      (sym comes.0) comes.1.row in
       let goes = goes_by nester v stage words reply answered comes.1.changes comes.1.status comes.1.given row in
       subst (λ (u : World). Tidy_now u made) (sym goes.0) (tidy_mild nester slot birth v comes.1.changes made comes.1.mild tidy)
 
@@ -312,8 +329,10 @@ module _ (nester : Path) (slot birth : ℕ) (low : slot ≤ LAST_USER_SLOT) (w :
     unfolding is_fit
     makes r made reply own fresh its tidy answered =
         let empty = tidy_empty nester slot birth v made r tidy (own_scratch nester r own) fresh in
-        let goes = one_change nester v (Create OWN_SPACE r (number_of_kind kinds.Reference)) no_words reply answered (Make (r ∷ nester) (Reference Null)) OK [] (make-row nester slot birth start v r its own empty) in
-        let after_valid : IsValid (apply (Make (r ∷ nester) (Reference Null)) v) = subst IsValid goes.0 (valid_after (Create OWN_SPACE r (number_of_kind kinds.Reference)) refl) in
+        let goes = one_change nester v (Create OWN_SPACE r (number_of_kind kinds.Reference)) no_words reply answered
+        (Make (r ∷ nester) (Reference Null)) OK [] (make-row nester slot birth start v r its own empty) in
+        let after_valid : IsValid (apply (Make (r ∷ nester) (Reference Null)) v) = subst IsValid goes.0
+        (valid_after (Create OWN_SPACE r (number_of_kind kinds.Reference)) refl) in
         record {
           world = goes.0;
           held_on = held_made nester slot birth start v r its own valid few after_valid;
@@ -321,8 +340,11 @@ module _ (nester : Path) (slot birth : ℕ) (low : slot ≤ LAST_USER_SLOT) (w :
         }
 
     ref_made : (r k : ℕ) → Held_now v → IsOwnSlot r → (k ≡ r → ⊥) → Ref v k → Ref (apply (Make (r ∷ nester) (Reference Null)) v) k
-    ref_made r k its own other ref =
-        (ref.0, made_other nester slot birth start v r its own valid few (k ∷ nester) (same_path_ne (k ∷ nester) (r ∷ nester) (λ e. other (let same : k ≡ r = cc in same))) ∙ ref.1)
+    ref_made r k its own other ref = (
+      ref.0,
+      made_other nester slot birth start v r its own valid few (k ∷ nester)
+          (same_path_ne (k ∷ nester) (r ∷ nester) (λ e. other (let same : k ≡ r = cc in same))) ∙ ref.1,
+    )
 
     -- a reference is dropped
     record DroppedNow (r : ℕ) (made : List ℕ) : Type 0 where
@@ -331,10 +353,12 @@ module _ (nester : Path) (slot birth : ℕ) (low : slot ≤ LAST_USER_SLOT) (w :
       tidy : Tidy_now (apply (Kill (r ∷ nester)) v) made
       others_stay : (k : ℕ) → (k ≡ r → ⊥) → Ref v k → Ref (apply (Kill (r ∷ nester)) v) k
 
-    drops : (r : ℕ) (made : List ℕ) (reply : Reply) → IsOwnSlot r → Ref v r → Held_now v → Tidy_now v (r ∷ made) → IsAnswered nester v (Destroy OWN_SPACE r) no_words reply → DroppedNow r made
+    drops : (r : ℕ) (made : List ℕ) (reply : Reply) → IsOwnSlot r → Ref v r → Held_now v → Tidy_now v (r ∷ made)
+        → IsAnswered nester v (Destroy OWN_SPACE r) no_words reply → DroppedNow r made
     unfolding is_fit apply
     drops r made reply own ref its tidy answered =
-        let goes = one_change nester v (Destroy OWN_SPACE r) no_words reply answered (Kill (r ∷ nester)) OK [] (drop-row nester slot birth start v r its own valid few ref.0 ref.1) in
+        let goes = one_change nester v (Destroy OWN_SPACE r) no_words reply answered (Kill (r ∷ nester)) OK []
+        (drop-row nester slot birth start v r its own valid few ref.0 ref.1) in
         let after_valid : IsValid (apply (Kill (r ∷ nester)) v) = subst IsValid goes.0 (valid_after (Destroy OWN_SPACE r) refl) in
         record {
           world = goes.0;
@@ -347,7 +371,8 @@ module _ (nester : Path) (slot birth : ℕ) (low : slot ≤ LAST_USER_SLOT) (w :
           );
         }
 
-  pub own : (v : World) (s : State) (stage : Stage) (words : List ℕ) (reply : Reply) → Phase v s → head slot s ≡ Asks stage words → IsAnswered nester v stage words reply →
+  pub own : (v : World) (s : State) (stage : Stage) (words : List ℕ) (reply : Reply) → Phase v s → head slot s ≡ Asks stage words
+      → IsAnswered nester v stage words reply →
       Phase (after v (call_of nester stage words)) (next slot s reply.status reply.words)
   own v s stage words reply phase asks_it answered = by s phase asks_it answered
     where
@@ -364,7 +389,8 @@ module _ (nester : Path) (slot birth : ℕ) (low : slot ≤ LAST_USER_SLOT) (w :
           asked (Create OWN_SPACE TARGETS (number_of_kind kinds.Reference)) stage no_words words e (Goal (Readies TARGETS (STEPS ∷ []))) (λ mine.
           (let made = makes v mine.valid mine.few TARGETS (PLACES ∷ []) reply Targets fresh_targets its tidy mine in
           subst (λ (u : World). Phase u (Readies STEPS [])) (sym made.world)
-          (AtThird made.held_on (ref_made v mine.valid mine.few TARGETS PLACES its Targets places_targets places) (Null, made_there nester slot birth start v TARGETS its Targets mine.valid mine.few) made.tidy)))
+          (AtThird made.held_on (ref_made v mine.valid mine.few TARGETS PLACES its Targets places_targets places)
+          (Null, made_there nester slot birth start v TARGETS its Targets mine.valid mine.few) made.tidy)))
       by _ (AtThird its places targets tidy) e =
           asked (Create OWN_SPACE STEPS (number_of_kind kinds.Reference)) stage no_words words e (Goal (Readies STEPS [])) (λ mine.
           (let made = makes v mine.valid mine.few STEPS (TARGETS ∷ PLACES ∷ []) reply Steps fresh_steps its tidy mine in
@@ -376,32 +402,38 @@ module _ (nester : Path) (slot birth : ℕ) (low : slot ≤ LAST_USER_SLOT) (w :
           let base = base_of nester slot birth start near (apply (Make (STEPS ∷ nester) (Reference Null)) v) made.held_on scratched in
           subst (λ (u : World). Phase u (walking slot walks.begin)) (sym made.world)
           (from_walks (apply (Make (STEPS ∷ nester) (Reference Null)) v) walks.begin
-          (walking_on.begun_here nester slot start near valid_start few_start (apply (Make (STEPS ∷ nester) (Reference Null)) v) base (root_kind nester slot start held.holding valid_start)) made.tidy)))
+          (walking_on.begun_here nester slot start near valid_start few_start (apply (Make (STEPS ∷ nester) (Reference Null)) v) base
+          (root_kind nester slot start held.holding valid_start)) made.tidy)))
       by _ (AtWalks s its asking tidy) e = λ mine.
           (let asks_now = asks_back (walks.head slot s) stage words e in
           let later = walking_on.own nester slot start near valid_start few_start v s stage words reply mets its asks_now mine in
           let comes = walking_on.comes_next nester slot start near valid_start few_start v its.base mine.valid mine.few s stage words its.position asks_now in
-          from_walks (after v (call_of nester stage words)) (walks.next slot s reply.status reply.words) later (mild_tidy v stage words reply three mine comes tidy))
+          from_walks (after v (call_of nester stage words)) (walks.next slot s reply.status reply.words) later
+          (mild_tidy v stage words reply three mine comes tidy))
       by _ (AtSeeks s its asking tidy) e = λ mine.
           (let asks_now = asks_back (seeks.head slot s) stage words e in
           let later = seeking_on.own nester slot start near v s stage words reply (open_place w nester slot) its asks_now mine in
           let comes = seeking_on.comes_next nester slot start near v its.base mine.valid mine.few s stage words its.position its.tasks asks_now in
-          from_seeks (after v (call_of nester stage words)) (seeks.next slot s reply.status reply.words) later (mild_tidy v stage words reply three mine comes tidy))
+          from_seeks (after v (call_of nester stage words)) (seeks.next slot s reply.status reply.words) later
+          (mild_tidy v stage words reply three mine comes tidy))
       by _ (AtReads s closed its asking tidy) e = λ mine.
           (let asks_now = asks_back (reads.head slot s) stage words e in
           let later = reading_on.own nester slot start near valid_start few_start v s stage words reply contents its asks_now mine in
           let comes = reading_on.comes_next nester slot start near valid_start few_start v its.base mine.valid mine.few s stage words its.position asks_now in
-          from_reads (after v (call_of nester stage words)) (reads.next slot s reply.status reply.words) closed later (mild_tidy v stage words reply three mine comes tidy))
+          from_reads (after v (call_of nester stage words)) (reads.next slot s reply.status reply.words) closed later
+          (mild_tidy v stage words reply three mine comes tidy))
       by _ (AtGathers s closed its asking tidy) e = λ mine.
           (let asks_now = asks_back (gathers.head slot s) stage words e in
           let later = gathering_on.own nester slot start near v s stage words reply pointers its asks_now mine in
           let comes = gathering_on.comes_next nester slot start near v its.base its.steps mine.valid mine.few s stage words its.position its.tasks asks_now in
-          from_gathers (after v (call_of nester stage words)) (gathers.next slot s reply.status reply.words) closed later (mild_tidy v stage words reply three mine comes tidy))
+          from_gathers (after v (call_of nester stage words)) (gathers.next slot s reply.status reply.words) closed later
+          (mild_tidy v stage words reply three mine comes tidy))
       by _ (AtDrops end verdict its scratched tidy) e =
           asked (Destroy OWN_SPACE STEPS) stage no_words words e (Goal (Drops STEPS (TARGETS ∷ PLACES ∷ []) end)) (λ mine.
           (let dropped = drops v mine.valid mine.few STEPS (TARGETS ∷ PLACES ∷ []) reply Steps scratched.steps its tidy mine in
           subst (λ (u : World). Phase u (Drops TARGETS (PLACES ∷ []) end)) (sym dropped.world)
-          (AtTwoLeft end verdict dropped.held_on (dropped.others_stay TARGETS targets_steps scratched.targets) (dropped.others_stay PLACES places_steps scratched.places) dropped.tidy)))
+          (AtTwoLeft end verdict dropped.held_on (dropped.others_stay TARGETS targets_steps scratched.targets)
+          (dropped.others_stay PLACES places_steps scratched.places) dropped.tidy)))
       by _ (AtTwoLeft end verdict its targets places tidy) e =
           asked (Destroy OWN_SPACE TARGETS) stage no_words words e (Goal (Drops TARGETS (PLACES ∷ []) end)) (λ mine.
           (let dropped = drops v mine.valid mine.few TARGETS (PLACES ∷ []) reply Targets targets its tidy mine in
@@ -413,9 +445,11 @@ module _ (nester : Path) (slot birth : ℕ) (low : slot ≤ LAST_USER_SLOT) (w :
           subst (λ (u : World). Phase u (Releases end)) (sym dropped.world) (AtReleases end verdict dropped.held_on dropped.tidy)))
       by _ (AtReleases end verdict its tidy) e =
           asked (SpaceRelease OWN_SPACE slot) stage no_words words e (Goal (Releases end)) (λ mine.
-          (let goes = one_change nester v (SpaceRelease OWN_SPACE slot) no_words reply mine (Alter root (SetHolder None)) OK [] (release-row nester slot v its.holding) in
+          (let goes = one_change nester v (SpaceRelease OWN_SPACE slot) no_words reply mine (Alter root (SetHolder None)) OK []
+          (release-row nester slot v its.holding) in
           subst (λ (u : World). Phase u (Over end)) (sym goes.0)
-          (AtOver end verdict (released_cut nester slot v its.holding ∙ same-cut start v nester slot its.inside) (unheld_root nester slot v its.holding) (tidy_held nester slot birth v [] None tidy))))
+          (AtOver end verdict (released_cut nester slot v its.holding ∙ same-cut start v nester slot its.inside) (unheld_root nester slot v its.holding)
+          (tidy_held nester slot birth v [] None tidy))))
       by _ (AtOver end verdict same unheld tidy) e = cc
 
   pub arrives : (v u : World) (s t : State) (es : List Event) → Phase v s → Interleaved (checkpoint slot) nester v s es u t → Phase u t

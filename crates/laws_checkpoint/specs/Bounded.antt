@@ -29,4 +29,5 @@ LiesWithin c d = (y : Path) → IsSome (c.body y) → length y ≤ d
 -- in every run, whether it has ended or not, and however it ends
 abbrev pub CheckpointIsBounded : Type 0
 CheckpointIsBounded = (slot birth : ℕ) (w v : World) (nester : Path) (t : State) (d : ℕ) → slot ≤ LAST_USER_SLOT → MayBegin w nester birth →
-    LiesWithin (cut w nester slot) d → (work : AtWork (checkpoint slot) nester w Holds v t) → calls_made work ≤ 100 * ((count_of (cut w nester slot) + 1) * (d + 1))
+    LiesWithin (cut w nester slot) d → (work : AtWork (checkpoint slot) nester w Holds v t)
+    → calls_made work ≤ 100 * ((count_of (cut w nester slot) + 1) * (d + 1))

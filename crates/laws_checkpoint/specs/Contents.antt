@@ -93,7 +93,8 @@ head slot (Over got) = Stops got
 -- a space is passed by, any other object is read; and behind the last one come the pages
 abbrev pub searched : ℕ → List Item → Path → List Path → List Content → ℕ → List ℕ → State
 searched k objects q qs got status (j ∷ kind ∷ rest) =
-    if status == OK && (nat_le k j && nat_lt j SLOTS) then (if kind == number_of_kind kinds.Space then Searches (j + 1) objects q qs got else Reads j objects q qs got)
+    if status == OK && (nat_le k j && nat_lt j SLOTS) then (if kind
+    == number_of_kind kinds.Space then Searches (j + 1) objects q qs got else Reads j objects q qs got)
     else Looks 0 objects [] q qs got
 searched k objects q qs got status other = Looks 0 objects [] q qs got
 
@@ -117,6 +118,8 @@ reader slot = record { head = head slot; next = next slot }
 
 -- over every interleaving: of any spaces inside it is what stands in them, as it was when it began
 abbrev pub SpacesAreRead : Type 0
-SpacesAreRead = (nester : Path) (slot : ℕ) (w v : World) (t : State) (es : List Event) (got : List Content) (qs : List Path) → IsHolding nester slot w → IsSound w →
-    IsScratched nester w → ((q : Path) → IsIn q qs → kind_there (cut w nester slot) q ≡ Some kinds.Space) → Interleaved (reader slot) nester w (begin slot qs []) es v t →
+SpacesAreRead = (nester : Path) (slot : ℕ) (w v : World) (t : State) (es : List Event) (got : List Content) (qs : List Path) → IsHolding nester slot w
+    → IsSound w →
+    IsScratched nester w → ((q : Path) → IsIn q qs → kind_there (cut w nester slot) q ≡ Some kinds.Space)
+    → Interleaved (reader slot) nester w (begin slot qs []) es v t →
     head slot t ≡ Stops got → got ≡ map (content (cut w nester slot)) qs

@@ -159,7 +159,8 @@ ForeignIsExact = (nester : Path) (slot : ℕ) (w v : World) (t : State) (es : Li
 abbrev pub SeekingKeepsOpenPlace : Type 0
 SeekingKeepsOpenPlace = (nester : Path) (slot : ℕ) (w v : World) (t : State) (es : List Event) → IsHolding nester slot w →
     IsSound w → IsScratched nester w →
-    Interleaved (seeker slot) nester w (begin slot (map (task_of (cut w nester slot)) ([] ∷ objects (cut w nester slot)))) es v t → open_place v nester slot ≡ open_place w nester slot
+    Interleaved (seeker slot) nester w (begin slot (map (task_of (cut w nester slot)) ([] ∷ objects (cut w nester slot)))) es v t
+    → open_place v nester slot ≡ open_place w nester slot
 
 -- ---- a pointer as the image tells it
 
@@ -199,5 +200,6 @@ ForeignIsBounded = (nester : Path) (slot : ℕ) (w v : World) (t : State) (es : 
 abbrev pub SeekerIsReady : Type 0
 SeekerIsReady = (nester : Path) (slot : ℕ) (w v : World) (t : State) (es : List Event) (stage : Stage) (words : List ℕ) → IsHolding nester slot w → IsSound w →
     IsScratched nester w →
-    Interleaved (seeker slot) nester w (begin slot (map (task_of (cut w nester slot)) ([] ∷ objects (cut w nester slot)))) es v t → head slot t ≡ Asks stage words →
+    Interleaved (seeker slot) nester w (begin slot (map (task_of (cut w nester slot)) ([] ∷ objects (cut w nester slot)))) es v t
+    → head slot t ≡ Asks stage words →
     IsCalm (slot ∷ nester) v → IsReadyAt v (call_of nester stage words)

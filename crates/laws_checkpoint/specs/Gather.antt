@@ -101,7 +101,8 @@ takes slot p fs t ts got = go_on slot fs t ts (got ++ p ∷ [])
 abbrev pub read : ℕ → ℕ → List ℕ → Task → List Task → List Ptr → List ℕ → State
 read slot n fs t ts got [] = Over got
 read slot n fs t ts got (m ∷ ms) =
-    if m == 0 then takes slot Null fs t ts got else (if m == 1 then takes slot Dead fs t ts got else (if m == 2 then Looks [] n fs t ts got else takes slot Far fs t ts got))
+    if m == 0 then takes slot Null fs t ts got else (if m
+    == 1 then takes slot Dead fs t ts got else (if m == 2 then Looks [] n fs t ts got else takes slot Far fs t ts got))
 
 abbrev pub looked : ℕ → Path → ℕ → List ℕ → Task → List Task → List Ptr → List ℕ → State
 looked slot at n fs t ts got (k ∷ far ∷ rest) =

@@ -60,14 +60,17 @@ picture_of (Done image) = Some (picture image)
 
 -- so it is what a run wants of a checkpoint
 abbrev pub CheckpointSaves : Type 0
-CheckpointSaves = (slot birth : ℕ) (w : World) (nester : Path) → slot ≤ LAST_USER_SLOT → MaySave w nester slot → Saves (checkpoint slot) birth slot picture_of w nester Holds
+CheckpointSaves = (slot birth : ℕ) (w : World) (nester : Path) → slot ≤ LAST_USER_SLOT → MaySave w nester slot
+    → Saves (checkpoint slot) birth slot picture_of w nester Holds
 
 -- ---- its calls
 
 -- its next call is ready wherever nothing outside is held
 abbrev pub CheckpointIsReady : Type 0
-CheckpointIsReady = (slot birth : ℕ) (w v : World) (nester : Path) (t : State) (stage : Stage) (words : List ℕ) → slot ≤ LAST_USER_SLOT → MayBegin w nester birth →
-    AtWork (checkpoint slot) nester w Holds v t → (checkpoint slot).head t ≡ Asks stage words → IsCalm (slot ∷ nester) v → IsReadyAt v (call_of nester stage words)
+CheckpointIsReady = (slot birth : ℕ) (w v : World) (nester : Path) (t : State) (stage : Stage) (words : List ℕ) → slot ≤ LAST_USER_SLOT
+    → MayBegin w nester birth →
+    AtWork (checkpoint slot) nester w Holds v t → (checkpoint slot).head t ≡ Asks stage words → IsCalm (slot ∷ nester) v
+    → IsReadyAt v (call_of nester stage words)
 
 -- all but the porter's scratch and who holds the root
 pub record IsSameBeside (nester : Path) (slot : ℕ) (v u : World) : Type 0 where
@@ -77,11 +80,14 @@ pub record IsSameBeside (nester : Path) (slot : ℕ) (v u : World) : Type 0 wher
 -- each of its calls leaves the rest, the first one and each later one
 pub record LeavesRest (slot birth : ℕ) (w : World) (nester : Path) : Type 0 where
   pub first : IsReadyAt w (hold nester slot) → IsSameBeside nester slot w (after w (hold nester slot))
-  pub later : (v : World) (t : State) (stage : Stage) (words : List ℕ) → AtWork (checkpoint slot) nester w Holds v t → (checkpoint slot).head t ≡ Asks stage words →
+  pub later : (v : World) (t : State) (stage : Stage) (words : List ℕ) → AtWork (checkpoint slot) nester w Holds v t
+      → (checkpoint slot).head t ≡ Asks stage words →
       IsSound v → IsReadyAt v (call_of nester stage words) → IsSameBeside nester slot v (after v (call_of nester stage words))
   -- and at its end, whatever it comes to where there was a space, nobody holds that
-  pub ends : (v : World) (t : State) (end : End) → AtWork (checkpoint slot) nester w Holds v t → (checkpoint slot).head t ≡ Stops end → IsSpaceAt w (slot ∷ nester) →
+  pub ends : (v : World) (t : State) (end : End) → AtWork (checkpoint slot) nester w Holds v t → (checkpoint slot).head t ≡ Stops end
+      → IsSpaceAt w (slot ∷ nester) →
       holder_of (v.body (slot ∷ nester)) ≡ None
 
 abbrev pub CheckpointLeavesRest : Type 0
-CheckpointLeavesRest = (slot birth : ℕ) (w : World) (nester : Path) → slot ≤ LAST_USER_SLOT → MayBegin w nester birth → IsSound (after w (hold nester slot)) → LeavesRest slot birth w nester
+CheckpointLeavesRest = (slot birth : ℕ) (w : World) (nester : Path) → slot ≤ LAST_USER_SLOT → MayBegin w nester birth → IsSound (after w (hold nester slot))
+    → LeavesRest slot birth w nester

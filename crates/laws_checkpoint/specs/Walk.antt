@@ -87,5 +87,6 @@ begin = Searches [] 0 []
 
 -- over every interleaving: what it comes to is every object inside, in preorder, as it was when it began
 abbrev pub ObjectsAreMet : Type 0
-ObjectsAreMet = (nester : Path) (slot : ℕ) (w v : World) (t : State) (es : List Event) (got : List Met) → IsHolding nester slot w → IsSound w → IsScratched nester w →
+ObjectsAreMet = (nester : Path) (slot : ℕ) (w v : World) (t : State) (es : List Event) (got : List Met) → IsHolding nester slot w → IsSound w
+    → IsScratched nester w →
     Interleaved (walker slot) nester w begin es v t → head slot t ≡ Stops got → got ≡ map (met (cut w nester slot)) (objects (cut w nester slot))

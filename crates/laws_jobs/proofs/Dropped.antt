@@ -124,7 +124,8 @@ module _ (there : Path → Option Kind) (x : Path) (is : there x ≡ Some kinds.
       by false s e h = h
       by true s e h = absurd (body_live at b good e)
 
-module _ (nester : Path) (slot : ℕ) (w v : World) (holding : IsHolding nester slot w) (valid : IsValid w) (valid_after : IsValid v) (few : w.next ≤ depth) (few_after : v.next ≤ depth)
+module _ (nester : Path) (slot : ℕ) (w v : World) (holding : IsHolding nester slot w) (valid : IsValid w) (valid_after : IsValid v) (few : w.next ≤ depth)
+    (few_after : v.next ≤ depth)
     (bodies : (y : Path) → is_scratch nester y ≡ false → v.body y ≡ w.body y) (pages : (y : Path) (page : ℕ) → is_scratch nester y ≡ false → v.page y page ≡ w.page y page) where
   abbrev root : Path
   root = slot ∷ nester
@@ -159,7 +160,8 @@ module _ (nester : Path) (slot : ℕ) (w v : World) (holding : IsHolding nester 
       live = led_live (kind_there w) x (q ++ root) (w.body (q ++ root)) (valid.consistent.good (q ++ root)) led
 
       by_body : (o : Option Body) → w.body x ≡ o → only_reference o ≡ true → is_some (option_map kind_of o) ≡ true → ⊥
-      by_body (Some (Reference to)) e h live = there_live (kind_there w) x (ap (option_map kind_of) e) (q ++ root) (w.body (q ++ root)) (valid.consistent.good (q ++ root)) led
+      by_body (Some (Reference to)) e h live = there_live (kind_there w) x (ap (option_map kind_of) e) (q ++ root) (w.body (q ++ root))
+          (valid.consistent.good (q ++ root)) led
       by_body (Some (Mutex locked)) e h live = cc
       by_body (Some Cond) e h live = cc
       by_body (Some (Mapping m)) e h live = cc
@@ -195,15 +197,18 @@ module _ (nester : Path) (slot : ℕ) (w v : World) (holding : IsHolding nester 
   }
 
   pub scratch_leads : (z : Path) → is_led_to v root z ≡ is_led_to w root z
-  scratch_leads = leads_same nester slot w v holding.holder (ap holder_of (bodies root (inside_plain [])) ∙ holding.holder) valid valid_after few few_after bodies
+  scratch_leads = leads_same nester slot w v holding.holder (ap holder_of (bodies root (inside_plain []))
+      ∙ holding.holder) valid valid_after few few_after bodies
 
   -- the porter holds on, if its scratch is near and references alone
   pub scratch_holding : ((k : ℕ) → is_scratch nester (k ∷ nester) ≡ true → only_reference (v.body (k ∷ nester)) ≡ true) →
-      ((k : ℕ) (x : Path) → is_scratch nester (k ∷ nester) ≡ true → list_any (leads_to x) (body_pointers (v.body (k ∷ nester))) ≡ true → IsNear w root x) → IsHolding nester slot v
+      ((k : ℕ) (x : Path) → is_scratch nester (k ∷ nester) ≡ true → list_any (leads_to x) (body_pointers (v.body (k ∷ nester))) ≡ true → IsNear w root x)
+      → IsHolding nester slot v
   scratch_holding references near = record {
     low = holding.low;
     holder = ap holder_of (bodies root (inside_plain [])) ∙ holding.holder;
-    above = decider_none v nester (λ p a e. ap holder_of (bodies a (higher p a e)) ∙ holder_none w a (none_above w p a (subst (λ (y : Path). decider w y ≡ None) e holding.above)));
+    above = decider_none v nester (λ p a e. ap holder_of (bodies a (higher p a e))
+        ∙ holder_none w a (none_above w p a (subst (λ (y : Path). decider w y ≡ None) e holding.above)));
     porter = ap (holds is_native) (bodies (LAST_PORTER_SLOT ∷ nester) porters_place) ∙ holding.porter;
     scratch = references;
     near = λ k x its led. still (near k x its led);
@@ -211,7 +216,11 @@ module _ (nester : Path) (slot : ℕ) (w v : World) (holding : IsHolding nester 
     where
       still : {x : Path} → IsNear w root x → IsNear v root x
       still (inl its) = inl its
-      still {x = x} (inr its) = inr (its.0, subst (λ (o : Option Body). list_any (leads_to x) (body_pointers o) ≡ true) (sym (bodies (its.0 ++ root) (inside_plain its.0))) its.1)
+      still {x = x} (inr its) = inr (
+        its.0,
+        subst (λ (o : Option Body). list_any (leads_to x) (body_pointers o) ≡ true)
+            (sym (bodies (its.0 ++ root) (inside_plain its.0))) its.1,
+      )
 
       porters_place : is_scratch nester (LAST_PORTER_SLOT ∷ nester) ≡ false
       porters_place = by (same_path nester nester && nat_le FIRST_SCRATCH_SLOT LAST_PORTER_SLOT)
@@ -240,20 +249,27 @@ module _ (nester : Path) (slot : ℕ) (w v : World) (holding : IsHolding nester 
   pub scratch_open : open_place v nester slot ≡ open_place w nester slot
   scratch_open =
       open_same w v nester slot (same-cut w v nester slot inside)
-      (λ q. leads_same nester slot w v holding.holder (ap holder_of (bodies root (inside_plain [])) ∙ holding.holder) valid valid_after few few_after bodies (q ++ root))
+      (λ q. leads_same nester slot w v holding.holder (ap holder_of (bodies root (inside_plain [])) ∙ holding.holder) valid valid_after few few_after bodies
+      (q ++ root))
 
 apart_from : (nester x y : Path) → is_scratch nester x ≡ true → is_scratch nester y ≡ false → same_path y x ≡ false
-apart_from nester x y is off = same_path_ne y x (λ e. let on : is_scratch nester y ≡ true = subst (λ (z : Path). is_scratch nester z ≡ true) (sym e) is in let both = sym on ∙ off in cc)
+apart_from nester x y is off = same_path_ne y x (λ e. let on : is_scratch nester y ≡ true = subst (λ (z : Path). is_scratch nester z ≡ true) (sym e) is in
+    let both = sym on ∙ off in cc)
 
 pub own_keep_open_place : OwnKeepOpenPlace
 unfolding apply kind_there
 own_keep_open_place nester slot w (Alter x (SetPointer to)) holding valid valid_after few own =
-    scratch_open nester slot w (apply (Alter x (SetPointer to)) w) holding valid valid_after few few (λ y off. rw (apart_from nester x y own.0 off) refl) (λ y page off. refl)
+    scratch_open nester slot w (apply (Alter x (SetPointer to)) w) holding valid valid_after few few (λ y off. rw (apart_from nester x y own.0 off) refl)
+    (λ y page off. refl)
 own_keep_open_place nester slot w (Make x (Reference Null)) holding valid valid_after few own =
-    scratch_open nester slot w (apply (Make x (Reference Null)) w) holding valid valid_after few few (λ y off. rw (apart_from nester x y own.0 off) refl) (λ y page off. refl)
+    scratch_open nester slot w (apply (Make x (Reference Null)) w) holding valid valid_after few few (λ y off. rw (apart_from nester x y own.0 off) refl)
+    (λ y page off. refl)
 own_keep_open_place nester slot w (Kill x) holding valid valid_after few own =
     scratch_open nester slot w (apply (Kill x) w) holding valid valid_after few few
-    (λ y off. apply-body (Kill x) w y (rw (apart_from nester x y own.0 off, unswept (kind_there w) x (is_reference own.1.0 own.1.1) y (w.body y) (valid.consistent.good y)) refl))
+    (λ y off. apply-body (Kill x) w y (rw (
+      apart_from nester x y own.0 off,
+      unswept (kind_there w) x (is_reference own.1.0 own.1.1) y (w.body y) (valid.consistent.good y),
+    ) refl))
     (λ y page off. rw (apart_from nester x y own.0 off) refl)
   where
     is_reference : (p : Ptr) → w.body x ≡ Some (Reference p) → kind_there w x ≡ Some kinds.Reference

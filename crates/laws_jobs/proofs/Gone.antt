@@ -71,7 +71,8 @@ module _ (w : World) (valid : IsValid w) (x : Path) (to : Ptr) (there : w.body x
 
   pub not_there : (y q : Path) → list_any (leads_to y) (body_pointers (w.body q)) ≡ true → same_path y x ≡ false
   not_there y q led = same_path_ne y x (λ e.
-      let here : list_any (leads_to x) (body_pointers (w.body q)) ≡ true = subst (λ (y : Path). list_any (leads_to y) (body_pointers (w.body q)) ≡ true) e led in
+      let here : list_any (leads_to x) (body_pointers (w.body q))
+      ≡ true = subst (λ (y : Path). list_any (leads_to y) (body_pointers (w.body q)) ≡ true) e led in
       there_live (kind_there w) x kind_is q (w.body q) (valid.consistent.good q) here)
 
   nobody : (k : ℕ) → w.body (k ∷ x) ≡ None
@@ -93,11 +94,13 @@ module _ (nester : Path) (w : World) (valid : IsValid w) where
   abbrev me : Path
   me = LAST_PORTER_SLOT ∷ nester
 
-  pub destroy-row : (s x : ℕ) (space : Path) (to : Ptr) → w.body (x ∷ space) ≡ Some (Reference to) → space_argument w (porter nester no_words) s ≡ Ok space → object_in w (porter nester no_words) anything space x ≡ Ok (Reference to) →
+  pub destroy-row : (s x : ℕ) (space : Path) (to : Ptr) → w.body (x ∷ space) ≡ Some (Reference to) → space_argument w (porter nester no_words) s ≡ Ok space
+      → object_in w (porter nester no_words) anything space x ≡ Ok (Reference to) →
       is_frozen_for w me (x ∷ space) ≡ false → is_within (x ∷ space) nester ≡ false →
       call_row w (porter nester no_words) None (Destroy s x) ≡ Goes (Kill (x ∷ space) ∷ []) (Answered OK [])
   unfolding call_row destroy
-  destroy-row s x space to there h object free apart = rw (h, object, free, apart, its_leaf w valid (x ∷ space) to there, free, there, same_path_refl (x ∷ space)) refl
+  destroy-row s x space to there h object free apart = rw
+      (h, object, free, apart, its_leaf w valid (x ∷ space) to there, free, there, same_path_refl (x ∷ space)) refl
 
 pub reference_goes_alone : ReferenceGoesAlone
 reference_goes_alone w x to valid there = (λ y apart. bodies_stay w valid x to there y apart, λ y page. pages_stay w valid x to there y page)

@@ -24,7 +24,8 @@ use Rattle.laws_jobs.specs.Leads.{held_world, HoldKeepsOpenPlace}
 use Rattle.laws_jobs.proofs.LeadLaws.{pointers_any, some_leads, leads_found, open_same}
 use Rattle.laws_jobs.proofs.Own.{same_kinds}
 
-module _ (nester : Path) (slot birth : ℕ) (w : World) (there : w.body (slot ∷ nester) ≡ Some (Space birth None)) (empty : (y : Path) → is_scratch nester y ≡ true → w.body y ≡ None) (valid : IsValid w)
+module _ (nester : Path) (slot birth : ℕ) (w : World) (there : w.body (slot ∷ nester) ≡ Some (Space birth None)) (empty : (y : Path)
+    → is_scratch nester y ≡ true → w.body y ≡ None) (valid : IsValid w)
     (valid_after : IsValid (held_world nester slot w)) (few : w.next ≤ depth) where
   abbrev root : Path
   root = slot ∷ nester
@@ -51,11 +52,16 @@ module _ (nester : Path) (slot birth : ℕ) (w : World) (there : w.body (slot �
   ports_same = λ i j. by j i
     where
       by : (j : ℕ) → ports_of v nester slot j ≡ ports_of w nester slot j
-      by j = rw (port_by_kind (v.body (j ∷ nester)), port_by_kind (w.body (j ∷ nester)), same_kinds w root (SetHolder (Some (At (LAST_PORTER_SLOT ∷ nester)))) (j ∷ nester)) refl
+      by j = rw (
+        port_by_kind (v.body (j ∷ nester)),
+        port_by_kind (w.body (j ∷ nester)),
+        same_kinds w root (SetHolder (Some (At (LAST_PORTER_SLOT ∷ nester)))) (j ∷ nester),
+      ) refl
 
   same_cut : cut v nester slot ≡ cut w nester slot
   unfolding cut apply edited seen_by
-  same_cut = ap (λ (ports : ℕ → Bool). cut_by ports v nester slot) ports_same ∙ (λ i. record { body = λ q. body_same q i; page = λ q page. w.page (q ++ root) page; next = zero })
+  same_cut = ap (λ (ports : ℕ → Bool). cut_by ports v nester slot) ports_same
+      ∙ (λ i. record { body = λ q. body_same q i; page = λ q page. w.page (q ++ root) page; next = zero })
     where
       body_same : (q : Path) → (cut_by (ports_of w nester slot) v nester slot).body q ≡ (cut_by (ports_of w nester slot) w nester slot).body q
       body_same [] = rw (same_path_refl root, there) refl
@@ -97,16 +103,20 @@ module _ (nester : Path) (slot birth : ℕ) (w : World) (there : w.body (slot �
       by false false e f = refl
       by true false e f =
           let found = of_any (leads_in_from w root z) ([] ∷ objects w) e in
-          let both = and_parts (not (is_within root found.0) && not false) (list_any (leads_to z) (body_pointers (w.body found.0))) (sym (test_is z found.0) ∙ found.2) in
+          let both = and_parts (not (is_within root found.0) && not false) (list_any (leads_to z) (body_pointers (w.body found.0))) (sym (test_is z found.0)
+          ∙ found.2) in
           let out = not_off (is_within root found.0) (and_parts (not (is_within root found.0)) (not false) both.0).0 in
-          let on : list_any (leads_to z) (body_pointers (v.body found.0)) ≡ true = subst (λ (o : Option Body). list_any (leads_to z) (body_pointers o) ≡ true) (sym (other found.0 out)) both.1 in
+          let on : list_any (leads_to z) (body_pointers (v.body found.0))
+          ≡ true = subst (λ (o : Option Body). list_any (leads_to z) (body_pointers o) ≡ true) (sym (other found.0 out)) both.1 in
           sym f ∙ leads_found nester slot v held valid_after few_after z found.0 (record { outside = out; scratch = plain z found.0 both.1; leads = on })
       by false true e f =
           let its = some_leads nester slot v held z f in
-          let on : list_any (leads_to z) (body_pointers (w.body its.0)) ≡ true = subst (λ (o : Option Body). list_any (leads_to z) (body_pointers o) ≡ true) (other its.0 its.1.outside) its.1.leads in
+          let on : list_any (leads_to z) (body_pointers (w.body its.0))
+          ≡ true = subst (λ (o : Option Body). list_any (leads_to z) (body_pointers o) ≡ true) (other its.0 its.1.outside) its.1.leads in
           let found = any_in (leads_in_from w root z) its.0 ([] ∷ objects w) (listed z its.0 on) (test_is z its.0 ∙ (rw (its.1.outside, on) refl)) in
           sym found ∙ e
 
 pub hold_keeps_open_place : HoldKeepsOpenPlace
 hold_keeps_open_place nester slot birth w there empty valid valid_after few =
-    open_same w (held_world nester slot w) nester slot (same_cut nester slot birth w there empty valid valid_after few) (λ q. leads_same nester slot birth w there empty valid valid_after few (q ++ slot ∷ nester))
+    open_same w (held_world nester slot w) nester slot (same_cut nester slot birth w there empty valid valid_after few)
+    (λ q. leads_same nester slot birth w there empty valid valid_after few (q ++ slot ∷ nester))

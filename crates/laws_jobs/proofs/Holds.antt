@@ -81,7 +81,8 @@ module _ (nester : Path) (slot : ℕ) (low : slot ≤ LAST_USER_SLOT) (w : World
       by_tests false false false = refl
 
       by : (o : Option Body) → closed (porter nester no_words) (with_pick false None (seen_as space_of o >>= (λ holder. refuse status.HELD frozen >>= (λ u.
-          refuse status.DENIED within >>= (λ u. when may (done (porter nester no_words) (Alter root (SetHolder (Some (At me))) ∷ []) [])))))) ≡ hold_at root me frozen within may o
+          refuse status.DENIED within >>= (λ u. when may (done (porter nester no_words) (Alter root (SetHolder (Some (At me))) ∷ []) []))))))
+          ≡ hold_at root me frozen within may o
       by None = refl
       by (Some (Space birth holder)) = by_tests frozen within may
       by (Some (Mutex locked)) = refl
@@ -127,7 +128,8 @@ module _ (nester : Path) (slot : ℕ) (low : slot ≤ LAST_USER_SLOT) (w : World
         no_led : (k : ℕ) (x : Path) → is_scratch nester (k ∷ nester) ≡ true →
             list_any (leads_to x) (body_pointers ((held_world nester slot w).body (k ∷ nester))) ≡ true → ⊥
         no_led k x its led =
-            let off : list_any (leads_to x) (body_pointers ((held_world nester slot w).body (k ∷ nester))) ≡ false = rw (slot_apart k (high k its), empty (k ∷ nester) its) refl in
+            let off : list_any (leads_to x) (body_pointers ((held_world nester slot w).body (k ∷ nester)))
+            ≡ false = rw (slot_apart k (high k its), empty (k ∷ nester) its) refl in
             let both = sym led ∙ off in cc
 
     held-ports : ports_of (held_world nester slot w) nester slot ≡ ports_of w nester slot
@@ -135,7 +137,11 @@ module _ (nester : Path) (slot : ℕ) (low : slot ≤ LAST_USER_SLOT) (w : World
     held-ports = λ i j. by j i
       where
         by : (j : ℕ) → ports_of (held_world nester slot w) nester slot j ≡ ports_of w nester slot j
-        by j = rw (port_by_kind ((held_world nester slot w).body (j ∷ nester)), port_by_kind (w.body (j ∷ nester)), same_kinds w root (SetHolder (Some (At me))) (j ∷ nester)) refl
+        by j = rw (
+          port_by_kind ((held_world nester slot w).body (j ∷ nester)),
+          port_by_kind (w.body (j ∷ nester)),
+          same_kinds w root (SetHolder (Some (At me))) (j ∷ nester),
+        ) refl
 
     held-cut : (birth : ℕ) (old : Option Ptr) → w.body root ≡ Some (Space birth old) → cut (held_world nester slot w) nester slot ≡ cut w nester slot
     unfolding cut apply edited seen_by
@@ -143,7 +149,8 @@ module _ (nester : Path) (slot : ℕ) (low : slot ≤ LAST_USER_SLOT) (w : World
         ap (λ (ports : ℕ → Bool). cut_by ports (held_world nester slot w) nester slot) held-ports
         ∙ (λ i. record { body = λ q. body_same q i; page = λ q page. w.page (q ++ root) page; next = zero })
       where
-        body_same : (q : Path) → (cut_by (ports_of w nester slot) (held_world nester slot w) nester slot).body q ≡ (cut_by (ports_of w nester slot) w nester slot).body q
+        body_same : (q : Path) → (cut_by (ports_of w nester slot) (held_world nester slot w) nester slot).body q
+            ≡ (cut_by (ports_of w nester slot) w nester slot).body q
         body_same [] = rw (same_path_refl root, there) refl
         body_same (k ∷ q) = rw (beneath_apart q k) refl
 
@@ -185,7 +192,8 @@ space_there : (w : World) (x : Path) (birth : ℕ) (old : Option Ptr) → w.body
 unfolding kind_there
 space_there w x birth old there = rw there refl
 
-module _ (nester : Path) (slot : ℕ) (w : World) (low : slot ≤ LAST_USER_SLOT) (empty : (y : Path) → is_scratch nester y ≡ true → w.body y ≡ None) (valid : IsValid w)
+module _ (nester : Path) (slot : ℕ) (w : World) (low : slot ≤ LAST_USER_SLOT) (empty : (y : Path) → is_scratch nester y ≡ true
+    → w.body y ≡ None) (valid : IsValid w)
     (valid_after : IsValid (after w (hold nester slot))) (few : w.next ≤ depth) (ready : IsReadyAt w (hold nester slot)) where
   abbrev top : Path
   top = slot ∷ nester
@@ -206,7 +214,8 @@ module _ (nester : Path) (slot : ℕ) (w : World) (low : slot ≤ LAST_USER_SLOT
       apart None e = refl
       apart (Some q) e = let at = strip_some top nester q e in absurd (omega (arith, ap length at, length-append q top))
 
-  refused : (refusal : ℕ) → (refusal ≡ status.OK → ⊥) → (IsSpaceAt w top → ⊥) → hold_at top mover (frozen nester slot low w) (within nester slot low w) (may nester slot low w) (w.body top) ≡ Goes [] (Answered refusal []) →
+  refused : (refusal : ℕ) → (refusal ≡ status.OK → ⊥) → (IsSpaceAt w top → ⊥)
+      → hold_at top mover (frozen nester slot low w) (within nester slot low w) (may nester slot low w) (w.body top) ≡ Goes [] (Answered refusal []) →
       Held nester slot w ⊎ Unheld nester slot w
   unfolding apply_all
   refused refusal other none is =
@@ -230,7 +239,8 @@ module _ (nester : Path) (slot : ℕ) (w : World) (low : slot ≤ LAST_USER_SLOT
       by : (t : Bool) → may nester slot low w ≡ t → Held nester slot w ⊎ Unheld nester slot w
       by false e = absurd (subst (GoesAllowed w mover) (row false e) its.allowed)
       by true e =
-          let goes = call_is_its_row nester w (SpaceHold OWN_SPACE slot) no_words (Alter top (SetHolder (Some (At mover))) ∷ []) (Answered status.OK []) (row true e) ready in
+          let goes = call_is_its_row nester w (SpaceHold OWN_SPACE slot) no_words (Alter top (SetHolder (Some (At mover))) ∷ []) (Answered status.OK [])
+          (row true e) ready in
           let world : after w (hold nester slot) ≡ held_world nester slot w = goes.0 in
           inl (record {
             space = space_there w top birth old there;
@@ -289,7 +299,8 @@ module _ (nester : Path) (slot : ℕ) (w : World) (holding : IsHolding nester sl
   release-row =
       let low = holding.low in
       let object : object_in w (porter nester no_words) space_of nester slot ≡ Ok (Some (At caller)) =
-      object-there nester no_words w space_of nester slot (Space space_here.birth (Some (At caller))) (Some (At caller)) (le-leb slot LAST_PORTER_SLOT (omega (arith, low))) space_here.there refl in
+      object-there nester no_words w space_of nester slot (Space space_here.birth (Some (At caller))) (Some (At caller))
+      (le-leb slot LAST_PORTER_SLOT (omega (arith, low))) space_here.there refl in
       rw (own-place nester no_words w, object, holding.above, same_path_refl caller) refl
 
   pub unheld_root : holder_of ((released_world nester slot w).body here) ≡ None
@@ -301,7 +312,11 @@ module _ (nester : Path) (slot : ℕ) (w : World) (holding : IsHolding nester sl
   ports_same = λ i j. by j i
     where
       by : (j : ℕ) → ports_of (released_world nester slot w) nester slot j ≡ ports_of w nester slot j
-      by j = rw (port_by_kind ((released_world nester slot w).body (j ∷ nester)), port_by_kind (w.body (j ∷ nester)), same_kinds w here (SetHolder None) (j ∷ nester)) refl
+      by j = rw (
+        port_by_kind ((released_world nester slot w).body (j ∷ nester)),
+        port_by_kind (w.body (j ∷ nester)),
+        same_kinds w here (SetHolder None) (j ∷ nester),
+      ) refl
 
   pub same_cut : cut (released_world nester slot w) nester slot ≡ cut w nester slot
   unfolding cut apply edited seen_by
@@ -309,12 +324,14 @@ module _ (nester : Path) (slot : ℕ) (w : World) (holding : IsHolding nester sl
       ap (λ (ports : ℕ → Bool). cut_by ports (released_world nester slot w) nester slot) ports_same
       ∙ (λ i. record { body = λ q. body_same q i; page = λ q page. w.page (q ++ here) page; next = zero })
     where
-      body_same : (q : Path) → (cut_by (ports_of w nester slot) (released_world nester slot w) nester slot).body q ≡ (cut_by (ports_of w nester slot) w nester slot).body q
+      body_same : (q : Path) → (cut_by (ports_of w nester slot) (released_world nester slot w) nester slot).body q
+          ≡ (cut_by (ports_of w nester slot) w nester slot).body q
       body_same [] = rw (same_path_refl here, space_here.there) refl
       body_same (k ∷ q) = rw (same_path_ne (k ∷ (q ++ here)) here (λ e. omega (arith, ap length e, length-append q here))) refl
 
 pub release_comes_to : ReleaseComesTo
 unfolding apply_all
 release_comes_to nester slot w holding ready =
-    let goes = call_is_its_row nester w (SpaceRelease OWN_SPACE slot) no_words (Alter (slot ∷ nester) (SetHolder None) ∷ []) (Answered status.OK []) (release-row nester slot w holding) ready in
+    let goes = call_is_its_row nester w (SpaceRelease OWN_SPACE slot) no_words (Alter (slot ∷ nester) (SetHolder None) ∷ []) (Answered status.OK [])
+    (release-row nester slot w holding) ready in
     record { said = goes.1; world = goes.0; unheld = unheld_root nester slot w holding; cut = same_cut nester slot w holding }

@@ -93,7 +93,8 @@ module _ (z : Path) where
   peer_kept : (peer : Peer) (o : Option Talk) → Off (option_list (λ (talk : Talk). peer_pointer talk.peer) o) → On (talk_list o) →
       On (talk_list (option_map (λ (talk : Talk). record talk { peer = peer }) o))
   peer_kept peer None off h = h
-  peer_kept peer (Some talk) off h = on_both (talk.port ∷ []) (peer_pointer talk.peer) (talk.port ∷ []) (peer_pointer peer) (λ e. e) (λ e. clash (On (peer_pointer peer)) _ e off) h
+  peer_kept peer (Some talk) off h = on_both (talk.port ∷ []) (peer_pointer talk.peer) (talk.port ∷ []) (peer_pointer peer) (λ e. e)
+      (λ e. clash (On (peer_pointer peer)) _ e off) h
 
   taker_kept : (taker : Option Peer) (o : Option Fault) → Off (option_list (λ (fault : Fault). option_list peer_pointer fault.taker) o) → On (fault_list o) →
       On (fault_list (option_map (λ (fault : Fault). record fault { taker = taker }) o))
@@ -139,7 +140,8 @@ module _ (z : Path) where
 
   module _ (x : Path) (apart : same_path z x ≡ false) where
     not_both : (P : Type 0) (p : Ptr) → leads_to z p ≡ true → leads_to x p ≡ true → P
-    not_both P p h g = let at = leads_to_at z p h in let there : same_path z x ≡ true = subst (λ (p : Ptr). leads_to x p ≡ true) at g in clash P (same_path z x) there apart
+    not_both P p h g = let at = leads_to_at z p h in
+        let there : same_path z x ≡ true = subst (λ (p : Ptr). leads_to x p ≡ true) at g in clash P (same_path z x) there apart
 
     if_kept : (p q : Ptr) → leads_to z p ≡ true → leads_to z (cond (leads_to x p) q p) ≡ true
     if_kept p q h = by (leads_to x p) refl
@@ -172,9 +174,11 @@ module _ (z : Path) where
     fault_kept : (fault : Fault) → Off (fault_lost x fault) → On (fault_pointers fault) → On (option_list fault_pointers (fault_without x fault))
     fault_kept fault lost h = by (leads_to x fault.port) lost
       where
-        by : (t : Bool) → Off (cond t (fault_pointers fault) []) → On (option_list fault_pointers (cond t None (Some (record fault { taker = and_then (taker_without x) fault.taker }))))
+        by : (t : Bool) → Off (cond t (fault_pointers fault) [])
+            → On (option_list fault_pointers (cond t None (Some (record fault { taker = and_then (taker_without x) fault.taker }))))
         by true lost = clash (On []) (list_any (leads_to z) (fault_pointers fault)) h lost
-        by false lost = on_both (fault.port ∷ []) (option_list peer_pointer fault.taker) (fault.port ∷ []) (option_list peer_pointer (and_then (taker_without x) fault.taker)) (λ e. e) (taker_less fault.taker) h
+        by false lost = on_both (fault.port ∷ []) (option_list peer_pointer fault.taker) (fault.port ∷ [])
+            (option_list peer_pointer (and_then (taker_without x) fault.taker)) (λ e. e) (taker_less fault.taker) h
 
     talks_left : (o : Option Talk) → Off (option_list (talk_lost x) o) → On (talk_list o) → On (talk_list (and_then (talk_without x) o))
     talks_left None lost h = h
@@ -218,12 +222,14 @@ module _ (z : Path) where
 
       talk_follows : (o : Option Talk) → On (talk_list o) → On (talk_list (and_then (following x y).talk o))
       talk_follows None h = h
-      talk_follows (Some talk) h = on_both (talk.port ∷ []) (peer_pointer talk.peer) (follow x y talk.port ∷ []) (peer_pointer (follow_peer x y talk.peer)) (port_follows talk.port) (peer_follows talk.peer) h
+      talk_follows (Some talk) h = on_both (talk.port ∷ []) (peer_pointer talk.peer) (follow x y talk.port ∷ []) (peer_pointer (follow_peer x y talk.peer))
+          (port_follows talk.port) (peer_follows talk.peer) h
 
       fault_follows : (o : Option Fault) → On (fault_list o) → On (fault_list (and_then (following x y).fault o))
       fault_follows None h = h
       fault_follows (Some fault) h =
-          on_both (fault.port ∷ []) (option_list peer_pointer fault.taker) (follow x y fault.port ∷ []) (option_list peer_pointer (option_map (follow_peer x y) fault.taker))
+          on_both (fault.port ∷ []) (option_list peer_pointer fault.taker) (follow x y fault.port ∷ [])
+          (option_list peer_pointer (option_map (follow_peer x y) fault.taker))
           (port_follows fault.port) (taker_follows fault.taker) h
 
       body_follows : (at : Path) (b : Body) → On (pointers b) → On (pointers (through (following x y) at b))
@@ -233,7 +239,8 @@ module _ (z : Path) where
       body_follows at (Space birth None) h = cc
       body_follows at (Space birth (Some p)) h = port_follows p h
       body_follows at (Thread_of t) h =
-          on_both (talk_list t.talk) (fault_list t.fault) (talk_list (and_then (following x y).talk t.talk)) (fault_list (and_then (following x y).fault t.fault))
+          on_both (talk_list t.talk) (fault_list t.fault) (talk_list (and_then (following x y).talk t.talk))
+          (fault_list (and_then (following x y).fault t.fault))
           (talk_follows t.talk) (fault_follows t.fault) h
       body_follows at (Mutex locked) h = cc
       body_follows at Cond h = cc
@@ -248,7 +255,8 @@ module _ (z : Path) where
   no_left true b h = cc
   no_left false b h = refl
 
-  off_parts_of : (x : Path) (ps qs : List Ptr) → list_any (leads_to x) (ps ++ qs) ≡ false → (list_any (leads_to x) ps ≡ false) × (list_any (leads_to x) qs ≡ false)
+  off_parts_of : (x : Path) (ps qs : List Ptr) → list_any (leads_to x) (ps ++ qs) ≡ false
+      → (list_any (leads_to x) ps ≡ false) × (list_any (leads_to x) qs ≡ false)
   off_parts_of x ps qs h = by (list_any (leads_to x) ps) (list_any (leads_to x) qs) (sym (list_any-append (leads_to x) ps qs) ∙ h)
     where
       by : (a b : Bool) → (a || b) ≡ false → (a ≡ false) × (b ≡ false)
@@ -273,7 +281,8 @@ module _ (z : Path) where
       rw (no_left (leads_to x fault.port) false both.0) refl
 
   -- where nothing is swept nothing is lost
-  talk_unswept : (x : Path) (o : Option Talk) (p : Option Fault) → list_any (leads_to x) (talk_list o ++ fault_list p) ≡ false → Off (option_list (talk_lost x) o ++ option_list (fault_lost x) p)
+  talk_unswept : (x : Path) (o : Option Talk) (p : Option Fault) → list_any (leads_to x) (talk_list o ++ fault_list p) ≡ false
+      → Off (option_list (talk_lost x) o ++ option_list (fault_lost x) p)
   talk_unswept x o p h =
       let both = off_parts_of x (talk_list o) (fault_list p) h in
       list_any-append (leads_to z) (option_list (talk_lost x) o) (option_list (fault_lost x) p) ∙ rw (no_talk x o both.0, no_fault x p both.1) refl
@@ -304,14 +313,17 @@ module _ (nester : Path) (slot : ℕ) (w : World) (me : Path) (valid : IsConsist
   z_frozen = frozen_inside w me root q frozen
 
   -- whoever leads there isn't who may be destroyed, and where it stands isn't empty
-  not_at : (v : World) (x y : Path) → list_any (leads_to z) (body_pointers (v.body x)) ≡ false → list_any (leads_to z) (body_pointers (v.body y)) ≡ true → same_path y x ≡ false
-  not_at v x y off on = same_path_ne y x (λ e. let here : list_any (leads_to z) (body_pointers (v.body x)) ≡ true = subst (λ (y : Path). list_any (leads_to z) (body_pointers (v.body y)) ≡ true) e on in clash z ⊥ _ here off)
+  not_at : (v : World) (x y : Path) → list_any (leads_to z) (body_pointers (v.body x)) ≡ false → list_any (leads_to z) (body_pointers (v.body y)) ≡ true
+      → same_path y x ≡ false
+  not_at v x y off on = same_path_ne y x (λ e. let here : list_any (leads_to z) (body_pointers (v.body x))
+      ≡ true = subst (λ (y : Path). list_any (leads_to z) (body_pointers (v.body y)) ≡ true) e on in clash z ⊥ _ here off)
 
   nothing_off : (v : World) (x : Path) → v.body x ≡ None → list_any (leads_to z) (body_pointers (v.body x)) ≡ false
   nothing_off v x e = rw e refl
 
   z_apart : (x : Path) → is_frozen_for w me x ≡ false → same_path z x ≡ false
-  z_apart x free = same_path_ne z x (λ e. let on : is_frozen_for w me x ≡ true = subst (λ (y : Path). is_frozen_for w me y ≡ true) e z_frozen in clash z ⊥ _ on free)
+  z_apart x free = same_path_ne z x (λ e. let on : is_frozen_for w me x ≡ true = subst (λ (y : Path). is_frozen_for w me y ≡ true) e z_frozen in
+      clash z ⊥ _ on free)
 
   off_of : (ps : List Ptr) → are_unfrozen w me ps ≡ true → list_any (leads_to z) ps ≡ false
   off_of ps h = unfrozen_off z w me z_frozen ps h
@@ -326,7 +338,9 @@ module _ (nester : Path) (slot : ℕ) (w : World) (me : Path) (valid : IsConsist
     abbrev MayOff : Path → Edit → Type 0
     MayOff x edit = list_any (leads_to z) (option_list (changed_pointers edit) (v.body x)) ≡ false
 
-    altered : (x : Path) (edit : Edit) (y : Path) → MayOff x edit → On_at (v.body y) → ((b : Body) → list_any (leads_to z) (changed_pointers edit b) ≡ false → list_any (leads_to z) (pointers b) ≡ true → list_any (leads_to z) (pointers (edited edit b)) ≡ true) →
+    altered : (x : Path) (edit : Edit) (y : Path) → MayOff x edit → On_at (v.body y)
+        → ((b : Body) → list_any (leads_to z) (changed_pointers edit b) ≡ false → list_any (leads_to z) (pointers b) ≡ true
+        → list_any (leads_to z) (pointers (edited edit b)) ≡ true) →
         On_at (cond (same_path y x) (option_map (edited edit) (v.body y)) (v.body y))
     altered x edit y off on kept = by (same_path y x) refl
       where
@@ -336,42 +350,56 @@ module _ (nester : Path) (slot : ℕ) (w : World) (me : Path) (valid : IsConsist
 
         by : (t : Bool) → same_path y x ≡ t → On_at (cond t (option_map (edited edit) (v.body y)) (v.body y))
         by false e = on
-        by true e = inner (v.body y) (subst (λ (x : Path). list_any (leads_to z) (option_list (changed_pointers edit) (v.body x)) ≡ false) (sym (same_path_eq y x e)) off) on
+        by true e = inner (v.body y) (subst (λ (x : Path). list_any (leads_to z) (option_list (changed_pointers edit) (v.body x)) ≡ false)
+            (sym (same_path_eq y x e)) off) on
 
     may_off : (x : Path) (edit : Edit) → are_unfrozen w me (option_list (changed_pointers edit) (w.body x)) ≡ true → MayOff x edit
-    may_off x edit h = subst (λ (ps : List Ptr). list_any (leads_to z) ps ≡ false) (sym (same_changed edit (v.body x) (w.body x) (alike x))) (off_of (option_list (changed_pointers edit) (w.body x)) h)
+    may_off x edit h = subst (λ (ps : List Ptr). list_any (leads_to z) ps ≡ false) (sym (same_changed edit (v.body x) (w.body x) (alike x)))
+        (off_of (option_list (changed_pointers edit) (w.body x)) h)
 
     -- what a death takes along isn't a pointer there
-    lost_off : (x y : Path) → (not (is_swept x y (w.body y)) || (not (is_frozen_for w me y) && are_unfrozen w me (lost_with x (w.body y)))) ≡ true → list_any (leads_to z) (lost_with x (v.body y)) ≡ false
-    lost_off x y may = subst (λ (ps : List Ptr). list_any (leads_to z) ps ≡ false) (sym (same_lost x (v.body y) (w.body y) (alike y))) (by (is_swept x y (w.body y)) refl may)
+    lost_off : (x y : Path) → (not (is_swept x y (w.body y)) || (not (is_frozen_for w me y) && are_unfrozen w me (lost_with x (w.body y)))) ≡ true
+        → list_any (leads_to z) (lost_with x (v.body y)) ≡ false
+    lost_off x y may = subst (λ (ps : List Ptr). list_any (leads_to z) ps ≡ false) (sym (same_lost x (v.body y) (w.body y) (alike y)))
+        (by (is_swept x y (w.body y)) refl may)
       where
-        by : (t : Bool) → is_swept x y (w.body y) ≡ t → (not t || (not (is_frozen_for w me y) && are_unfrozen w me (lost_with x (w.body y)))) ≡ true → list_any (leads_to z) (lost_with x (w.body y)) ≡ false
+        by : (t : Bool) → is_swept x y (w.body y) ≡ t → (not t || (not (is_frozen_for w me y) && are_unfrozen w me (lost_with x (w.body y)))) ≡ true
+            → list_any (leads_to z) (lost_with x (w.body y)) ≡ false
         by true e may = off_of (lost_with x (w.body y)) (and_parts (not (is_frozen_for w me y)) (are_unfrozen w me (lost_with x (w.body y))) may).1
         by false e may = unswept_off z x y (w.body y) e
 
     change_kept : (c : Change) → is_mild c ≡ false → IsAllowed w me c → IsSafe v c → IsUsers w c → Led v → Led (apply c v)
     unfolding apply
     change_kept (Alter x (SetPointer to)) wild may safe users led =
-        with_leads v (apply (Alter x (SetPointer to)) v) led.0 led.1 (altered x (SetPointer to) led.0 (may_off x (SetPointer to) may.changed) led.1.leads (λ b off on. clash z _ _ on off))
+        with_leads v (apply (Alter x (SetPointer to)) v) led.0 led.1
+        (altered x (SetPointer to) led.0 (may_off x (SetPointer to) may.changed) led.1.leads (λ b off on. clash z _ _ on off))
     change_kept (Alter x (SetHolder holder)) wild may safe users led =
-        with_leads v (apply (Alter x (SetHolder holder)) v) led.0 led.1 (altered x (SetHolder holder) led.0 (may_off x (SetHolder holder) may.changed) led.1.leads (λ b off on. clash z _ _ on off))
+        with_leads v (apply (Alter x (SetHolder holder)) v) led.0 led.1
+        (altered x (SetHolder holder) led.0 (may_off x (SetHolder holder) may.changed) led.1.leads (λ b off on. clash z _ _ on off))
     change_kept (Alter x (SetTalk talk)) wild may safe users led =
-        with_leads v (apply (Alter x (SetTalk talk)) v) led.0 led.1 (altered x (SetTalk talk) led.0 (may_off x (SetTalk talk) may.changed) led.1.leads (talk_edit z talk))
+        with_leads v (apply (Alter x (SetTalk talk)) v) led.0 led.1
+        (altered x (SetTalk talk) led.0 (may_off x (SetTalk talk) may.changed) led.1.leads (talk_edit z talk))
     change_kept (Alter x (SetPeer peer)) wild may safe users led =
-        with_leads v (apply (Alter x (SetPeer peer)) v) led.0 led.1 (altered x (SetPeer peer) led.0 (may_off x (SetPeer peer) may.changed) led.1.leads (peer_edit z peer))
+        with_leads v (apply (Alter x (SetPeer peer)) v) led.0 led.1
+        (altered x (SetPeer peer) led.0 (may_off x (SetPeer peer) may.changed) led.1.leads (peer_edit z peer))
     change_kept (Alter x (SetFault fault)) wild may safe users led =
-        with_leads v (apply (Alter x (SetFault fault)) v) led.0 led.1 (altered x (SetFault fault) led.0 (may_off x (SetFault fault) may.changed) led.1.leads (fault_edit z fault))
+        with_leads v (apply (Alter x (SetFault fault)) v) led.0 led.1
+        (altered x (SetFault fault) led.0 (may_off x (SetFault fault) may.changed) led.1.leads (fault_edit z fault))
     change_kept (Alter x (SetTaker taker)) wild may safe users led =
-        with_leads v (apply (Alter x (SetTaker taker)) v) led.0 led.1 (altered x (SetTaker taker) led.0 (may_off x (SetTaker taker) may.changed) led.1.leads (taker_edit z taker))
+        with_leads v (apply (Alter x (SetTaker taker)) v) led.0 led.1
+        (altered x (SetTaker taker) led.0 (may_off x (SetTaker taker) may.changed) led.1.leads (taker_edit z taker))
     change_kept (Alter x edit) wild may safe users led = cc
     change_kept (Make [] body) wild may safe users led = absurd safe
     change_kept (Make (k ∷ s) body) wild may safe users led =
         with_leads v (apply (Make (k ∷ s) body) v) led.0 led.1 (rw (not_at v (k ∷ s) led.0 (nothing_off v (k ∷ s) safe.place.empty) led.1.leads) led.1.leads)
     change_kept (MakeSpace [] holder) wild may safe users led = absurd safe
     change_kept (MakeSpace (k ∷ s) holder) wild may safe users led =
-        with_leads v (apply (MakeSpace (k ∷ s) holder) v) led.0 led.1 (rw (not_at v (k ∷ s) led.0 (nothing_off v (k ∷ s) safe.place.empty) led.1.leads) led.1.leads)
+        with_leads v (apply (MakeSpace (k ∷ s) holder) v) led.0 led.1
+        (rw (not_at v (k ∷ s) led.0 (nothing_off v (k ∷ s) safe.place.empty) led.1.leads) led.1.leads)
     change_kept (Kill x) wild may safe users led =
-        let own : list_any (leads_to z) (body_pointers (v.body x)) ≡ false = subst (λ (ps : List Ptr). list_any (leads_to z) ps ≡ false) (sym (same_pointers (v.body x) (w.body x) (alike x))) (off_of (body_pointers (w.body x)) may.changed) in
+        let own : list_any (leads_to z) (body_pointers (v.body x))
+        ≡ false = subst (λ (ps : List Ptr). list_any (leads_to z) ps ≡ false) (sym (same_pointers (v.body x) (w.body x) (alike x)))
+        (off_of (body_pointers (w.body x)) may.changed) in
         with_leads v (apply (Kill x) v) led.0 led.1
         (rw (not_at v x led.0 own led.1.leads) (left z x (z_apart x may.object) led.0 (v.body led.0) (lost_off x led.0 (may.others led.0)) led.1.leads))
     change_kept (Move [] j) wild may safe users led = absurd safe
@@ -387,7 +415,8 @@ module _ (nester : Path) (slot : ℕ) (w : World) (me : Path) (valid : IsConsist
             by None e = refl
             by (Some p) e =
                 let far = place_apart w v me root k j s frozen (same.bodies []) safe.empty may.object p in
-                let near : same_path (p ++ root) (j ∷ s) ≡ true = subst (λ (y : Path). same_path (p ++ root) y ≡ true) (sym (strip_some root (j ∷ s) p e)) (same_path_refl (p ++ root)) in
+                let near : same_path (p ++ root) (j ∷ s)
+                ≡ true = subst (λ (y : Path). same_path (p ++ root) y ≡ true) (sym (strip_some root (j ∷ s) p e)) (same_path_refl (p ++ root)) in
                 clash z (true ≡ false) _ near far
 
         vacant : same_path led.0 (j ∷ s) ≡ false
@@ -409,21 +438,26 @@ module _ (nester : Path) (slot : ℕ) (w : World) (me : Path) (valid : IsConsist
     change_kept (DropPage space page) wild may safe users led = cc
 
   mild_kept : (c : Change) (v : World) → is_mild c ≡ true → Led v → Led (apply c v)
-  mild_kept c v mild led = with_leads v (apply c v) led.0 led.1 (subst (λ (ps : List Ptr). list_any (leads_to z) ps ≡ true) (sym (same_pointers ((apply c v).body led.0) (v.body led.0) (mild_same c v mild led.0))) led.1.leads)
+  mild_kept c v mild led = with_leads v (apply c v) led.0 led.1
+      (subst (λ (ps : List Ptr). list_any (leads_to z) ps ≡ true)
+      (sym (same_pointers ((apply c v).body led.0) (v.body led.0) (mild_same c v mild led.0))) led.1.leads)
 
   milds_kept : (cs : List Change) (v : World) → AreMild cs → Led v → Led (apply_all cs v)
   unfolding apply_all
   milds_kept [] v mild led = led
   milds_kept (c ∷ cs) v mild led = milds_kept cs (apply c v) mild.1 (mild_kept c v mild.0 led)
 
-  changes_kept : (cs : List Change) (v : World) → IsSameInside root w v → ((y : Path) → bones (v.body y) ≡ bones (w.body y)) → AreAllowed w me cs → AreSafe v cs → AreUsers w cs → TouchOnce w cs → Led v → Led (apply_all cs v)
+  changes_kept : (cs : List Change) (v : World) → IsSameInside root w v → ((y : Path) → bones (v.body y) ≡ bones (w.body y)) → AreAllowed w me cs
+      → AreSafe v cs → AreUsers w cs → TouchOnce w cs → Led v → Led (apply_all cs v)
   unfolding apply_all
   changes_kept [] v same alike may safe users once led = led
   changes_kept (c ∷ cs) v same alike may safe users once led =
       by (is_mild c) refl once
-      (λ mild rest. changes_kept cs (apply c v) (change-same w root me valid frozen v same c may.0 safe.0) (λ y. mild_same c v mild y ∙ alike y) may.1 safe.1 users.1 rest (mild_kept c v mild led))
+      (λ mild rest. changes_kept cs (apply c v) (change-same w root me valid frozen v same c may.0 safe.0) (λ y. mild_same c v mild y
+      ∙ alike y) may.1 safe.1 users.1 rest (mild_kept c v mild led))
     where
-      by : (t : Bool) → is_mild c ≡ t → EitherOf t (TouchOnce w cs) (MakesAnew w c × AreMild cs) → (is_mild c ≡ true → TouchOnce w cs → Led (apply_all cs (apply c v))) → Led (apply_all cs (apply c v))
+      by : (t : Bool) → is_mild c ≡ t → EitherOf t (TouchOnce w cs) (MakesAnew w c × AreMild cs)
+          → (is_mild c ≡ true → TouchOnce w cs → Led (apply_all cs (apply c v))) → Led (apply_all cs (apply c v))
       by true e once rest = rest e once
       by false e once rest = milds_kept cs (apply c v) once.1 (change_kept v same alike c e may.0 safe.0 users.0 led)
 

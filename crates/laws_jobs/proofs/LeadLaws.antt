@@ -56,7 +56,8 @@ module _ (nester : Path) (slot : ℕ) (w : World) (held : holder_of (w.body (slo
   holders x = rw held refl
 
   -- what is sought in the list
-  pub test_is : (z x : Path) → leads_in_from w root z x ≡ (not (is_within root x) && not (is_scratch nester x) && list_any (leads_to z) (body_pointers (w.body x)))
+  pub test_is : (z x : Path) → leads_in_from w root z x
+      ≡ (not (is_within root x) && not (is_scratch nester x) && list_any (leads_to z) (body_pointers (w.body x)))
   test_is z x = rw (holders x, pointers_any z (w.body x)) refl
 
   parts : (z x : Path) → leads_in_from w root z x ≡ true → LeadsIn nester slot w z x
@@ -112,27 +113,31 @@ module _ (nester : Path) (slot : ℕ) (w : World) (e : Event) (holding : IsHoldi
   led_after : (q : Path) → IsLed nester slot w (q ++ top) → IsLed nester slot (after w e) (q ++ top)
   unfolding step
   led_after q led =
-      outcome_kept nester slot w e.mover moves.valid.consistent frozen q (outcome w e.mover e.pick e.ask) moves.ready (outcome-safe w e.mover e.pick e.ask (facts_of w moves.valid moves.few) moves.fit)
+      outcome_kept nester slot w e.mover moves.valid.consistent frozen q (outcome w e.mover e.pick e.ask) moves.ready
+      (outcome-safe w e.mover e.pick e.ask (facts_of w moves.valid moves.few) moves.fit)
       (users_name_low w e.mover e.pick e.ask moves.valid.rooted moves.users) (users_touch_once w e.mover e.pick e.ask moves.valid.rooted.root moves.users) led
 
   unled_after : (q : Path) → IsUnledAt nester slot (q ++ top) w → IsUnledAt nester slot (q ++ top) (after w e)
   unfolding step
   unled_after q unled =
-      outcome_unled nester slot w e.mover moves.valid.consistent frozen q (outcome w e.mover e.pick e.ask) moves.ready (outcome-safe w e.mover e.pick e.ask (facts_of w moves.valid moves.few) moves.fit)
+      outcome_unled nester slot w e.mover moves.valid.consistent frozen q (outcome w e.mover e.pick e.ask) moves.ready
+      (outcome-safe w e.mover e.pick e.ask (facts_of w moves.valid moves.few) moves.fit)
       (users_name_low w e.mover e.pick e.ask moves.valid.rooted moves.users) unled
 
   leads_stay : (q : Path) → is_led_to (after w e) top (q ++ top) ≡ is_led_to w top (q ++ top)
   leads_stay q = by (is_led_to w top (q ++ top)) refl
     where
       by : (t : Bool) → is_led_to w top (q ++ top) ≡ t → is_led_to (after w e) top (q ++ top) ≡ t
-      by true on = let its = led_after q (some_leads nester slot w holding.holder (q ++ top) on) in leads_found nester slot (after w e) held_after valid_after few (q ++ top) its.0 its.1
+      by true on = let its = led_after q (some_leads nester slot w holding.holder (q ++ top) on) in
+          leads_found nester slot (after w e) held_after valid_after few (q ++ top) its.0 its.1
       by false off = none (is_led_to (after w e) top (q ++ top)) refl
         where
           none : (t : Bool) → is_led_to (after w e) top (q ++ top) ≡ t → t ≡ false
           none false off = refl
           none true on =
               let its = some_leads nester slot (after w e) held_after (q ++ top) on in
-              clash (true ≡ false) _ its.1.leads (unled_after q (none_leads nester slot w holding.holder moves.valid moves.few (q ++ top) off) its.0 its.1.outside its.1.scratch)
+              clash (true ≡ false) _ its.1.leads (unled_after q
+              (none_leads nester slot w holding.holder moves.valid moves.few (q ++ top) off) its.0 its.1.outside its.1.scratch)
 
 pub others_keep_leads : OthersKeepLeads
 others_keep_leads nester slot w e holding moves few q = leads_stay nester slot w e holding moves few q
@@ -140,8 +145,10 @@ others_keep_leads nester slot w e holding moves few q = leads_stay nester slot w
 pub others_keep_unled : OthersKeepUnled
 unfolding step
 others_keep_unled nester slot w e holding moves unled q =
-    outcome_unled nester slot w e.mover moves.valid.consistent (held_frozen nester slot w e.mover holding moves.other) q (outcome w e.mover e.pick e.ask) moves.ready
-    (outcome-safe w e.mover e.pick e.ask (facts_of w moves.valid moves.few) moves.fit) (users_name_low w e.mover e.pick e.ask moves.valid.rooted moves.users) (unled q)
+    outcome_unled nester slot w e.mover moves.valid.consistent (held_frozen nester slot w e.mover holding moves.other) q
+    (outcome w e.mover e.pick e.ask) moves.ready
+    (outcome-safe w e.mover e.pick e.ask (facts_of w moves.valid moves.few) moves.fit) (users_name_low w e.mover e.pick e.ask moves.valid.rooted moves.users)
+    (unled q)
 
 -- ---- where the subtree isn't closed
 
@@ -150,7 +157,8 @@ first_same f g same slot [] = refl
 first_same f g same slot (q ∷ qs) = rw (same q, first_same f g same slot qs) refl
 
 -- the cut and what leads in are all of it
-pub open_same : (w v : World) (nester : Path) (slot : ℕ) → cut v nester slot ≡ cut w nester slot → ((q : Path) → is_led_to v (slot ∷ nester) (q ++ slot ∷ nester) ≡ is_led_to w (slot ∷ nester) (q ++ slot ∷ nester)) →
+pub open_same : (w v : World) (nester : Path) (slot : ℕ) → cut v nester slot ≡ cut w nester slot
+    → ((q : Path) → is_led_to v (slot ∷ nester) (q ++ slot ∷ nester) ≡ is_led_to w (slot ∷ nester) (q ++ slot ∷ nester)) →
     open_place v nester slot ≡ open_place w nester slot
 unfolding open_place
 open_same w v nester slot same leads =
@@ -161,7 +169,8 @@ open_same w v nester slot same leads =
 
 pub others_keep_open_place : OthersKeepOpenPlace
 others_keep_open_place nester slot w e holding moves few =
-    open_same w (after w e) nester slot (frozen_cut_stays w nester slot e.mover e.pick e.ask (frozen_move nester slot w e holding moves few)) (leads_stay nester slot w e holding moves few)
+    open_same w (after w e) nester slot (frozen_cut_stays w nester slot e.mover e.pick e.ask (frozen_move nester slot w e holding moves few))
+    (leads_stay nester slot w e holding moves few)
 
 -- ---- what `count_in` tells
 
@@ -186,4 +195,5 @@ any_same f g same (x ∷ xs) = rw (same x, any_same f g same xs) refl
 pub counts_tell : CountsTell
 counts_tell nester slot w held z =
     sum_any (counts_from (slot ∷ nester) nester) (λ q. pointers_to z (w.body q)) ([] ∷ objects w)
-    ∙ any_same (λ x. counts_from (slot ∷ nester) nester x && nat_lt 0 (pointers_to z (w.body x))) (leads_in_from w (slot ∷ nester) z) (λ x. rw (holders nester slot w held x) refl) ([] ∷ objects w)
+    ∙ any_same (λ x. counts_from (slot ∷ nester) nester x && nat_lt 0 (pointers_to z (w.body x))) (leads_in_from w (slot ∷ nester) z)
+    (λ x. rw (holders nester slot w held x) refl) ([] ∷ objects w)

@@ -28,7 +28,8 @@ use Rattle.laws_jobs.proofs.LeadLaws.{some_leads, leads_found}
 
 -- ---- what leads in is of what is no scratch
 
-module _ (nester : Path) (slot : ℕ) (w v : World) (held : holder_of (w.body (slot ∷ nester)) ≡ Some (At (LAST_PORTER_SLOT ∷ nester))) (held_after : holder_of (v.body (slot ∷ nester)) ≡ Some (At (LAST_PORTER_SLOT ∷ nester)))
+module _ (nester : Path) (slot : ℕ) (w v : World) (held : holder_of (w.body (slot ∷ nester)) ≡ Some (At (LAST_PORTER_SLOT ∷ nester)))
+    (held_after : holder_of (v.body (slot ∷ nester)) ≡ Some (At (LAST_PORTER_SLOT ∷ nester)))
     (valid : IsValid w) (valid_after : IsValid v) (few : w.next ≤ depth) (few_after : v.next ≤ depth) (same : (y : Path) → is_scratch nester y ≡ false → v.body y ≡ w.body y) where
   pub leads_same : (z : Path) → is_led_to v (slot ∷ nester) z ≡ is_led_to w (slot ∷ nester) z
   leads_same z = by (is_led_to w (slot ∷ nester) z) (is_led_to v (slot ∷ nester) z) refl refl
@@ -38,12 +39,15 @@ module _ (nester : Path) (slot : ℕ) (w v : World) (held : holder_of (w.body (s
       by false false e f = refl
       by true false e f =
           let its = some_leads nester slot w held z e in
-          let there : list_any (leads_to z) (body_pointers (v.body its.0)) ≡ true = subst (λ (o : Option Body). list_any (leads_to z) (body_pointers o) ≡ true) (sym (same its.0 its.1.scratch)) its.1.leads in
-          let on = leads_found nester slot v held_after valid_after few_after z its.0 (record { outside = its.1.outside; scratch = its.1.scratch; leads = there }) in
+          let there : list_any (leads_to z) (body_pointers (v.body its.0))
+          ≡ true = subst (λ (o : Option Body). list_any (leads_to z) (body_pointers o) ≡ true) (sym (same its.0 its.1.scratch)) its.1.leads in
+          let on = leads_found nester slot v held_after valid_after few_after z its.0
+          (record { outside = its.1.outside; scratch = its.1.scratch; leads = there }) in
           sym f ∙ on
       by false true e f =
           let its = some_leads nester slot v held_after z f in
-          let there : list_any (leads_to z) (body_pointers (w.body its.0)) ≡ true = subst (λ (o : Option Body). list_any (leads_to z) (body_pointers o) ≡ true) (same its.0 its.1.scratch) its.1.leads in
+          let there : list_any (leads_to z) (body_pointers (w.body its.0))
+          ≡ true = subst (λ (o : Option Body). list_any (leads_to z) (body_pointers o) ≡ true) (same its.0 its.1.scratch) its.1.leads in
           let on = leads_found nester slot w held valid few z its.0 (record { outside = its.1.outside; scratch = its.1.scratch; leads = there }) in
           sym on ∙ e
 
@@ -87,7 +91,8 @@ scratch_range nester s h =
 
 pub inside_apart : (nester : Path) (slot r : ℕ) → slot ≤ LAST_USER_SLOT → LAST_USER_SLOT < r → (q : Path) → same_path (q ++ slot ∷ nester) (r ∷ nester) ≡ false
 inside_apart nester slot r low far [] = same_path_ne (slot ∷ nester) (r ∷ nester) (λ e. let same : slot ≡ r = cc in omega (arith, low, same, far))
-inside_apart nester slot r low far (j ∷ q) = same_path_ne (j ∷ (q ++ slot ∷ nester)) (r ∷ nester) (λ e. let long = ap length e in omega (arith, long, length-append q (slot ∷ nester)))
+inside_apart nester slot r low far (j ∷ q) = same_path_ne (j ∷ (q ++ slot ∷ nester)) (r ∷ nester) (λ e. let long = ap length e in
+    omega (arith, long, length-append q (slot ∷ nester)))
 
 module _ (nester : Path) (slot : ℕ) (w : World) (r : ℕ) (old to : Ptr) (holding : IsHolding nester slot w) (is : is_scratch nester (r ∷ nester) ≡ true)
     (there : w.body (r ∷ nester) ≡ Some (Reference old)) (near : (x : Path) → leads_to x to ≡ true → IsNear w (slot ∷ nester) x) where
@@ -124,7 +129,11 @@ module _ (nester : Path) (slot : ℕ) (w : World) (r : ℕ) (old to : Ptr) (hold
 
   still_near : (x : Path) → IsNear w root x → IsNear pointed root x
   still_near x (inl its) = inl its
-  still_near x (inr its) = inr (its.0, subst (λ (o : Option Body). list_any (leads_to x) (body_pointers o) ≡ true) (sym (other_body (its.0 ++ root) (outside its.0))) its.1)
+  still_near x (inr its) = inr (
+    its.0,
+    subst (λ (o : Option Body). list_any (leads_to x) (body_pointers o) ≡ true)
+        (sym (other_body (its.0 ++ root) (outside its.0))) its.1,
+  )
 
   led_by : (x : Path) → list_any (leads_to x) (body_pointers (Some (Reference to))) ≡ true → leads_to x to ≡ true
   led_by x h = by (leads_to x to) h
@@ -138,25 +147,33 @@ module _ (nester : Path) (slot : ℕ) (w : World) (r : ℕ) (old to : Ptr) (hold
     low = holding.low;
     holder = ap holder_of (other_body root (outside [])) ∙ holding.holder;
     above = same_decider w (r ∷ nester) to nester ∙ holding.above;
-    porter = ap (holds is_native) (other_body (LAST_PORTER_SLOT ∷ nester) (same_path_ne (LAST_PORTER_SLOT ∷ nester) (r ∷ nester) (λ e. let same : LAST_PORTER_SLOT ≡ r = cc in let most = range.1 in omega (arith, same, most)))) ∙ holding.porter;
+    porter = ap (holds is_native) (other_body (LAST_PORTER_SLOT ∷ nester)
+        (same_path_ne (LAST_PORTER_SLOT ∷ nester) (r ∷ nester) (λ e. let same : LAST_PORTER_SLOT ≡ r = cc in
+        let most = range.1 in omega (arith, same, most)))) ∙ holding.porter;
     scratch = λ k its. by_scratch k its (same_path (k ∷ nester) (r ∷ nester)) refl;
     near = λ k x its led. by_near k x its (same_path (k ∷ nester) (r ∷ nester)) refl led;
   }
     where
-      by_scratch : (k : ℕ) → is_scratch nester (k ∷ nester) ≡ true → (t : Bool) → same_path (k ∷ nester) (r ∷ nester) ≡ t → only_reference (pointed.body (k ∷ nester)) ≡ true
-      by_scratch k its true e = let at = same_path_eq (k ∷ nester) (r ∷ nester) e in subst (λ (y : Path). only_reference (pointed.body y) ≡ true) (sym at) (ap only_reference own_body)
+      by_scratch : (k : ℕ) → is_scratch nester (k ∷ nester) ≡ true → (t : Bool) → same_path (k ∷ nester) (r ∷ nester) ≡ t
+          → only_reference (pointed.body (k ∷ nester)) ≡ true
+      by_scratch k its true e = let at = same_path_eq (k ∷ nester) (r ∷ nester) e in
+          subst (λ (y : Path). only_reference (pointed.body y) ≡ true) (sym at) (ap only_reference own_body)
       by_scratch k its false e = ap only_reference (other_body (k ∷ nester) e) ∙ holding.scratch k its
 
-      by_near : (k : ℕ) (x : Path) → is_scratch nester (k ∷ nester) ≡ true → (t : Bool) → same_path (k ∷ nester) (r ∷ nester) ≡ t → list_any (leads_to x) (body_pointers (pointed.body (k ∷ nester))) ≡ true → IsNear pointed root x
+      by_near : (k : ℕ) (x : Path) → is_scratch nester (k ∷ nester) ≡ true → (t : Bool) → same_path (k ∷ nester) (r ∷ nester) ≡ t
+          → list_any (leads_to x) (body_pointers (pointed.body (k ∷ nester))) ≡ true → IsNear pointed root x
       by_near k x its true e led =
           let at = same_path_eq (k ∷ nester) (r ∷ nester) e in
-          let here : list_any (leads_to x) (body_pointers (pointed.body (r ∷ nester))) ≡ true = subst (λ (y : Path). list_any (leads_to x) (body_pointers (pointed.body y)) ≡ true) at led in
+          let here : list_any (leads_to x) (body_pointers (pointed.body (r ∷ nester)))
+          ≡ true = subst (λ (y : Path). list_any (leads_to x) (body_pointers (pointed.body y)) ≡ true) at led in
           still_near x (near x (led_by x (subst (λ (o : Option Body). list_any (leads_to x) (body_pointers o) ≡ true) own_body here)))
-      by_near k x its false e led = still_near x (holding.near k x its (subst (λ (o : Option Body). list_any (leads_to x) (body_pointers o) ≡ true) (other_body (k ∷ nester) e) led))
+      by_near k x its false e led = still_near x (holding.near k x its
+          (subst (λ (o : Option Body). list_any (leads_to x) (body_pointers o) ≡ true) (other_body (k ∷ nester) e) led))
 
   module _ (valid : IsValid w) (valid_after : IsValid pointed) (few : w.next ≤ depth) where
     pub pointed_leads : (z : Path) → is_led_to pointed root z ≡ is_led_to w root z
     unfolding apply
     pointed_leads z =
         leads_same nester slot w pointed holding.holder pointed_holding.holder valid valid_after few few
-        (λ y off. other_body y (same_path_ne y (r ∷ nester) (λ e. let on : is_scratch nester y ≡ true = subst (λ (y : Path). is_scratch nester y ≡ true) (sym e) is in let both = sym on ∙ off in cc))) z
+        (λ y off. other_body y (same_path_ne y (r ∷ nester) (λ e. let on : is_scratch nester y
+        ≡ true = subst (λ (y : Path). is_scratch nester y ≡ true) (sym e) is in let both = sym on ∙ off in cc))) z

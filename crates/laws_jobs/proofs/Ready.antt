@@ -76,10 +76,18 @@ module _ (nester : Path) (slot : ℕ) (w : World) (holding : IsHolding nester sl
   or_true false = refl
 
   allowed : (c : Change) → IsAllowed w me c
-  allowed (Alter x edit) = record { object = free_all x; changed = unfrozen_all (option_list (changed_pointers edit) (w.body x)); made = unfrozen_all (made_pointers edit) }
+  allowed (Alter x edit) = record {
+    object = free_all x;
+    changed = unfrozen_all (option_list (changed_pointers edit) (w.body x));
+    made = unfrozen_all (made_pointers edit);
+  }
   allowed (Make x body) = record { object = free_all x; made = unfrozen_all (pointers body) }
   allowed (MakeSpace x holder) = record { object = free_all x; made = unfrozen_all (option_list (λ p. p ∷ []) holder) }
-  allowed (Kill x) = record { object = free_all x; changed = unfrozen_all (body_pointers (w.body x)); others = λ q. rw (free_all q, unfrozen_all (lost_with x (w.body q))) (or_true (not (is_swept x q (w.body q)))) }
+  allowed (Kill x) = record {
+    object = free_all x;
+    changed = unfrozen_all (body_pointers (w.body x));
+    others = λ q. rw (free_all q, unfrozen_all (lost_with x (w.body q))) (or_true (not (is_swept x q (w.body q))));
+  }
   allowed (Move x slot) = record { object = free_all x; others = λ q. rw (free_all q) (or_true (not (is_swept x q (w.body q)))) }
   allowed (PutPage space page words) = free_all space
   allowed (DropPage space page) = free_all space

@@ -39,11 +39,13 @@ module _ (nester : Path) (words : List ℕ) (w : World) where
   unfolding space_argument
   own-place = refl
 
-  pub object-there : {A : Type 0} (view : Body → Option A) (s : Path) (k : ℕ) (b : Body) (a : A) → nat_le k LAST_PORTER_SLOT ≡ true → w.body (k ∷ s) ≡ Some b → view b ≡ Some a → object_in w (porter nester words) view s k ≡ Ok a
+  pub object-there : {A : Type 0} (view : Body → Option A) (s : Path) (k : ℕ) (b : Body) (a : A) → nat_le k LAST_PORTER_SLOT ≡ true → w.body (k ∷ s) ≡ Some b
+      → view b ≡ Some a → object_in w (porter nester words) view s k ≡ Ok a
   unfolding object_in
   object-there view s k b a fits there viewed = rw (fits, there, viewed) refl
 
-  pub create-row : (s x : ℕ) (kind : Kind) (space : Path) → space_argument w (porter nester words) s ≡ Ok space → nat_le x LAST_PORTER_SLOT ≡ true → is_frozen_for w me space ≡ false → w.body (x ∷ space) ≡ None →
+  pub create-row : (s x : ℕ) (kind : Kind) (space : Path) → space_argument w (porter nester words) s ≡ Ok space → nat_le x LAST_PORTER_SLOT ≡ true
+      → is_frozen_for w me space ≡ false → w.body (x ∷ space) ≡ None →
       call_row w (porter nester words) None (Create s x (number_of_kind kind)) ≡ Goes (fresh (x ∷ space) kind ∷ []) (Answered status.OK [])
   unfolding call_row create
   create-row s x kinds.Mutex space h fits free empty = rw (h, fits, free, empty) refl
@@ -56,8 +58,10 @@ module _ (nester : Path) (words : List ℕ) (w : World) where
   create-row s x kinds.Thread space h fits free empty = rw (h, fits, free, empty) refl
   create-row s x kinds.Reference space h fits free empty = rw (h, fits, free, empty) refl
 
-  pub point-row : (s x s2 x2 : ℕ) (space space2 : Path) (old to : Ptr) → space_argument w (porter nester words) s ≡ Ok space → object_in w (porter nester words) reference_of space x ≡ Ok old →
-      space_argument w (porter nester words) s2 ≡ Ok space2 → object_in w (porter nester words) (pointer_to (x2 ∷ space2)) space2 x2 ≡ Ok to → is_frozen_for w me (x ∷ space) ≡ false →
+  pub point-row : (s x s2 x2 : ℕ) (space space2 : Path) (old to : Ptr) → space_argument w (porter nester words) s ≡ Ok space
+      → object_in w (porter nester words) reference_of space x ≡ Ok old →
+      space_argument w (porter nester words) s2 ≡ Ok space2 → object_in w (porter nester words) (pointer_to (x2 ∷ space2)) space2 x2 ≡ Ok to
+      → is_frozen_for w me (x ∷ space) ≡ false →
       call_row w (porter nester words) None (Point s x s2 x2) ≡ Goes (Alter (x ∷ space) (SetPointer to) ∷ []) (Answered status.OK [])
   unfolding call_row point
   point-row s x s2 x2 space space2 old to h ref h2 target free = rw (h, ref, h2, target, free) refl
@@ -67,18 +71,22 @@ module _ (nester : Path) (words : List ℕ) (w : World) where
   points_as x (Err status) = Goes [] (Answered status [])
   points_as x (Ok to) = Goes (Alter x (SetPointer to) ∷ []) (Answered status.OK [])
 
-  pub pin-row : (s x i : ℕ) (space : Path) (old : Ptr) → space_argument w (porter nester words) s ≡ Ok space → object_in w (porter nester words) reference_of space x ≡ Ok old → is_frozen_for w me (x ∷ space) ≡ false →
+  pub pin-row : (s x i : ℕ) (space : Path) (old : Ptr) → space_argument w (porter nester words) s ≡ Ok space
+      → object_in w (porter nester words) reference_of space x ≡ Ok old → is_frozen_for w me (x ∷ space) ≡ false →
       call_row w (porter nester words) None (Point s x OWN_SPACE i) ≡ points_as (x ∷ space) (pointer_in w (porter nester words) nester i)
   unfolding call_row point
   pin-row s x i space old h ref free = rw (h, ref, own-place, free) (by (pointer_in w (porter nester words) nester i))
     where
-      by : (r : Result Ptr ℕ) → closed (porter nester words) (with_pick false None (r >>= (λ to. done (porter nester words) (Alter (x ∷ space) (SetPointer to) ∷ []) []))) ≡ points_as (x ∷ space) r
+      by : (r : Result Ptr ℕ) → closed (porter nester words)
+          (with_pick false None (r >>= (λ to. done (porter nester words) (Alter (x ∷ space) (SetPointer to) ∷ []) []))) ≡ points_as (x ∷ space) r
       by (Ok to) = refl
       by (Err status) = refl
 
-  pub get_ptr-row : (s x n r : ℕ) (space : Path) (b : Body) (old : Ptr) (f : Field) → space_argument w (porter nester words) s ≡ Ok space → object_in w (porter nester words) anything space x ≡ Ok b →
+  pub get_ptr-row : (s x n r : ℕ) (space : Path) (b : Body) (old : Ptr) (f : Field) → space_argument w (porter nester words) s ≡ Ok space
+      → object_in w (porter nester words) anything space x ≡ Ok b →
       object_in w (porter nester words) reference_of nester r ≡ Ok old → field_of n b ≡ Some f →
-      call_row w (porter nester words) None (GetPtr s x n r) ≡ Goes (Alter (r ∷ nester) (SetPointer (field_pointer f)) ∷ []) (Answered status.OK (field_number f ∷ []))
+      call_row w (porter nester words) None (GetPtr s x n r)
+      ≡ Goes (Alter (r ∷ nester) (SetPointer (field_pointer f)) ∷ []) (Answered status.OK (field_number f ∷ []))
   unfolding call_row get_ptr
   get_ptr-row s x n r space b old f h there ref field = rw (h, there, ref, field) refl
 
@@ -89,7 +97,8 @@ module _ (nester : Path) (words : List ℕ) (w : World) where
     | Some way ↦ Goes [] (Answered status.OK (way ++ kind_number (kind_at w to) ∷ []))
   ]
 
-  pub locate-row : (r s : ℕ) (top : Path) (to : Ptr) → object_in w (porter nester words) reference_of nester r ≡ Ok to → space_argument w (porter nester words) s ≡ Ok top →
+  pub locate-row : (r s : ℕ) (top : Path) (to : Ptr) → object_in w (porter nester words) reference_of nester r ≡ Ok to
+      → space_argument w (porter nester words) s ≡ Ok top →
       call_row w (porter nester words) None (Locate r s) ≡ located_as top (target_of to)
   unfolding call_row locate
   locate-row r s top to ref place = rw (ref, place) (by (target_of to))
@@ -101,23 +110,29 @@ module _ (nester : Path) (words : List ℕ) (w : World) where
       by_way to None = refl
       by_way to (Some way) = refl
 
-      by : (r : Result Ptr ℕ) → closed (porter nester words) (with_pick false None (r >>= (λ to. or_refuse status.NONE (way_to top to) >>= (λ way. done (porter nester words) [] (way ++ kind_number (kind_at w to) ∷ []))))) ≡ located_as top r
+      by : (r : Result Ptr ℕ) → closed (porter nester words)
+          (with_pick false None (r >>= (λ to. or_refuse status.NONE (way_to top to)
+          >>= (λ way. done (porter nester words) [] (way ++ kind_number (kind_at w to) ∷ []))))) ≡ located_as top r
       by (Err status) = refl
       by (Ok to) = by_way to (way_to top to)
 
-  pub count-row : (base s x : ℕ) (top space : Path) (b : Body) → (x == OWN_SPACE) ≡ false → space_argument w (porter nester words) base ≡ Ok top → space_argument w (porter nester words) s ≡ Ok space →
+  pub count-row : (base s x : ℕ) (top space : Path) (b : Body) → (x == OWN_SPACE) ≡ false → space_argument w (porter nester words) base ≡ Ok top
+      → space_argument w (porter nester words) s ≡ Ok space →
       object_in w (porter nester words) anything space x ≡ Ok b →
       call_row w (porter nester words) None (CountIn base s x) ≡ Goes [] (Answered status.OK (pointer_count w top nester (x ∷ space) ∷ []))
   unfolding call_row count_in
   count-row base s x top space b other h g there = rw (h, g, other, there) refl
 
-  pub count_space-row : (base s : ℕ) (top space : Path) → space_argument w (porter nester words) base ≡ Ok top → space_argument w (porter nester words) s ≡ Ok space →
+  pub count_space-row : (base s : ℕ) (top space : Path) → space_argument w (porter nester words) base ≡ Ok top
+      → space_argument w (porter nester words) s ≡ Ok space →
       call_row w (porter nester words) None (CountIn base s OWN_SPACE) ≡ Goes [] (Answered status.OK (pointer_count w top nester space ∷ []))
   unfolding call_row count_in
   count_space-row base s top space h g = rw (h, g) refl
 
-  pub set_ptr-row : (s x r : ℕ) (space : Path) (b : Body) (to : Ptr) → space_argument w (porter nester words) s ≡ Ok space → object_in w (porter nester words) anything space x ≡ Ok b →
-      object_in w (porter nester words) reference_of nester r ≡ Ok to → is_frozen_for w me (x ∷ space) ≡ false → has_pointer b ≡ true → is_of_kinds (held_kinds b) (kind_at w to) ≡ true →
+  pub set_ptr-row : (s x r : ℕ) (space : Path) (b : Body) (to : Ptr) → space_argument w (porter nester words) s ≡ Ok space
+      → object_in w (porter nester words) anything space x ≡ Ok b →
+      object_in w (porter nester words) reference_of nester r ≡ Ok to → is_frozen_for w me (x ∷ space) ≡ false → has_pointer b ≡ true
+      → is_of_kinds (held_kinds b) (kind_at w to) ≡ true →
       call_row w (porter nester words) None (SetPtr s x 0 r) ≡ Goes (Alter (x ∷ space) (SetPointer to) ∷ []) (Answered status.OK [])
   unfolding call_row set_ptr
   set_ptr-row s x r space (Mapping m) to h there ref free has fits = rw (h, there, ref, free, fits) refl
@@ -139,27 +154,33 @@ module _ (nester : Path) (words : List ℕ) (w : World) where
   still x (Mutex locked) h = refl
   still x b h = refl
 
-  pub set_state-row : (s x : ℕ) (space : Path) (b : Body) → space_argument w (porter nester words) s ≡ Ok space → object_in w (porter nester words) anything space x ≡ Ok b →
+  pub set_state-row : (s x : ℕ) (space : Path) (b : Body) → space_argument w (porter nester words) s ≡ Ok space
+      → object_in w (porter nester words) anything space x ≡ Ok b →
       is_frozen_for w me (x ∷ space) ≡ false → is_decided_by w me (x ∷ space) ≡ true → is_native b ≡ false → takes_state w space b words ≡ true →
       call_row w (porter nester words) None (SetState s x 0) ≡ Goes (map (Alter (x ∷ space)) (set_edits b words)) (Answered status.OK [])
   unfolding call_row set_state
   set_state-row s x space b h there free mine user takes = rw (h, there, free, user, still (x ∷ space) b mine, takes) refl
 
-  pub page_give-row : (s page : ℕ) (space : Path) → space_argument w (porter nester words) s ≡ Ok space → is_frozen_for w me space ≡ false → nat_lt page PAGES ≡ true → w.page space page ≡ None →
+  pub page_give-row : (s page : ℕ) (space : Path) → space_argument w (porter nester words) s ≡ Ok space → is_frozen_for w me space ≡ false
+      → nat_lt page PAGES ≡ true → w.page space page ≡ None →
       call_row w (porter nester words) None (PageGive s page 0) ≡ Goes (PutPage space page words ∷ []) (Answered status.OK [])
   unfolding call_row page_give
   page_give-row s page space h free fits empty = rw (h, free, fits, empty) refl
 
-  pub link_park-row : (s x i : ℕ) (space : Path) (t : Thread) (port : Option ℕ × Bool) → space_argument w (porter nester words) s ≡ Ok space → object_in w (porter nester words) thread_of space x ≡ Ok t →
+  pub link_park-row : (s x i : ℕ) (space : Path) (t : Thread) (port : Option ℕ × Bool) → space_argument w (porter nester words) s ≡ Ok space
+      → object_in w (porter nester words) thread_of space x ≡ Ok t →
       object_in w (porter nester words) port_of nester i ≡ Ok port → is_frozen_for w me (x ∷ space) ≡ false →
-      call_row w (porter nester words) None (LinkPark s x i) ≡ Goes (Alter (x ∷ space) (SetTalk (given_talk (porter nester words) (At (i ∷ nester)) Parked)) ∷ []) (Answered status.OK [])
+      call_row w (porter nester words) None (LinkPark s x i)
+      ≡ Goes (Alter (x ∷ space) (SetTalk (given_talk (porter nester words) (At (i ∷ nester)) Parked)) ∷ []) (Answered status.OK [])
   unfolding call_row link_park
   link_park-row s x i space t port h there at free = rw (h, there, at, free) refl
 
-  pub fault_park-row : (s x i taken : ℕ) (space : Path) (t : Thread) (port : Option ℕ × Bool) → space_argument w (porter nester words) s ≡ Ok space → object_in w (porter nester words) thread_of space x ≡ Ok t →
+  pub fault_park-row : (s x i taken : ℕ) (space : Path) (t : Thread) (port : Option ℕ × Bool) → space_argument w (porter nester words) s ≡ Ok space
+      → object_in w (porter nester words) thread_of space x ≡ Ok t →
       object_in w (porter nester words) port_of nester i ≡ Ok port → is_frozen_for w me (x ∷ space) ≡ false →
       call_row w (porter nester words) None (FaultPark s x i taken) ≡
-      Goes (Alter (x ∷ space) (SetFault (given_fault (porter nester words) (At (i ∷ nester)) (cond (taken == 1) (Some Parked) None))) ∷ []) (Answered status.OK [])
+      Goes (Alter (x ∷ space) (SetFault (given_fault (porter nester words) (At (i ∷ nester)) (cond (taken == 1) (Some Parked) None))) ∷ [])
+      (Answered status.OK [])
   unfolding call_row fault_park
   fault_park-row s x i taken space t port h there at free = rw (h, there, at, free) refl
 
@@ -176,11 +197,13 @@ module _ (nester : Path) (words : List ℕ) (w : World) where
   unfolding call_row search
   search-row s from space h = rw h (by (lowest SLOTS (taken_among (λ k. w.body (k ∷ space)) from)))
     where
-      by : (o : Option (ℕ × ℕ)) → closed (porter nester words) (with_pick false None (or_refuse status.NONE o >>= (λ f. done (porter nester words) [] (f.0 ∷ f.1 ∷ [])))) ≡ found_as o
+      by : (o : Option (ℕ × ℕ)) → closed (porter nester words)
+          (with_pick false None (or_refuse status.NONE o >>= (λ f. done (porter nester words) [] (f.0 ∷ f.1 ∷ [])))) ≡ found_as o
       by None = refl
       by (Some f) = refl
 
-  pub state-row : (s x : ℕ) (space : Path) (b : Body) → space_argument w (porter nester words) s ≡ Ok space → object_in w (porter nester words) anything space x ≡ Ok b →
+  pub state-row : (s x : ℕ) (space : Path) (b : Body) → space_argument w (porter nester words) s ≡ Ok space
+      → object_in w (porter nester words) anything space x ≡ Ok b →
       call_row w (porter nester words) None (GetState s x 0) ≡ Goes [] (Answered status.OK (record_of b))
   unfolding call_row get_state
   state-row s x space b h there = rw (h, there) refl
@@ -195,11 +218,13 @@ module _ (nester : Path) (words : List ℕ) (w : World) where
   unfolding call_row page_next
   page_next-row s from space h = rw h (by (next_page w space from))
     where
-      by : (o : Option ℕ) → closed (porter nester words) (with_pick false None (or_refuse status.NONE o >>= (λ page. done (porter nester words) [] (page ∷ [])))) ≡ page_as o
+      by : (o : Option ℕ) → closed (porter nester words)
+          (with_pick false None (or_refuse status.NONE o >>= (λ page. done (porter nester words) [] (page ∷ [])))) ≡ page_as o
       by None = refl
       by (Some page) = refl
 
-  pub page_read-row : (s page : ℕ) (space : Path) (found : List ℕ) → space_argument w (porter nester words) s ≡ Ok space → nat_lt page PAGES ≡ true → w.page space page ≡ Some found →
+  pub page_read-row : (s page : ℕ) (space : Path) (found : List ℕ) → space_argument w (porter nester words) s ≡ Ok space → nat_lt page PAGES ≡ true
+      → w.page space page ≡ Some found →
       call_row w (porter nester words) None (PageRead s page 0) ≡ Goes [] (Answered status.OK found)
   unfolding call_row page_read
   page_read-row s page space found h fits there = rw (h, fits, there) refl
@@ -218,14 +243,19 @@ module _ (nester : Path) (words : List ℕ) (w : World) where
   space_body (Some (Reference to)) h = cc
   space_body None h = cc
 
-  pub space_pointer : (x : Path) (k : ℕ) → nat_le k LAST_PORTER_SLOT ≡ true → kind_there w (k ∷ x) ≡ Some kinds.Space → object_in w (porter nester words) (pointer_to (k ∷ x)) x k ≡ Ok (At (k ∷ x))
+  pub space_pointer : (x : Path) (k : ℕ) → nat_le k LAST_PORTER_SLOT ≡ true → kind_there w (k ∷ x) ≡ Some kinds.Space
+      → object_in w (porter nester words) (pointer_to (k ∷ x)) x k ≡ Ok (At (k ∷ x))
   unfolding kind_there
-  space_pointer x k fits space = let its = space_body (w.body (k ∷ x)) space in object-there (pointer_to (k ∷ x)) x k (Space its.0 its.1.0) (At (k ∷ x)) fits its.1.1 refl
+  space_pointer x k fits space = let its = space_body (w.body (k ∷ x)) space in
+      object-there (pointer_to (k ∷ x)) x k (Space its.0 its.1.0) (At (k ∷ x)) fits its.1.1 refl
 
   pub own_named : (s : ℕ) → s ≤ LAST_PORTER_SLOT → kind_there w (s ∷ nester) ≡ Some kinds.Space → space_argument w (porter nester words) s ≡ Ok (s ∷ nester)
   unfolding space_argument handle kind_there
-  own_named s low space = let its = space_body (w.body (s ∷ nester)) space in rw (ne_eqb s OWN_SPACE (λ e. omega (arith, low, e)), le-leb s LAST_PORTER_SLOT (omega (arith, low)), its.1.1) refl
+  own_named s low space = let its = space_body (w.body (s ∷ nester)) space in
+      rw (ne_eqb s OWN_SPACE (λ e. omega (arith, low, e)), le-leb s LAST_PORTER_SLOT (omega (arith, low)), its.1.1) refl
 
-  pub ref_named : (s : ℕ) (x : Path) → s ≤ LAST_PORTER_SLOT → w.body (s ∷ nester) ≡ Some (Reference (At x)) → kind_there w x ≡ Some kinds.Space → space_argument w (porter nester words) s ≡ Ok x
+  pub ref_named : (s : ℕ) (x : Path) → s ≤ LAST_PORTER_SLOT → w.body (s ∷ nester) ≡ Some (Reference (At x)) → kind_there w x ≡ Some kinds.Space
+      → space_argument w (porter nester words) s ≡ Ok x
   unfolding space_argument handle kind_there
-  ref_named s x low ref space = let its = space_body (w.body x) space in rw (ne_eqb s OWN_SPACE (λ e. omega (arith, low, e)), le-leb s LAST_PORTER_SLOT (omega (arith, low)), ref, its.1.1) refl
+  ref_named s x low ref space = let its = space_body (w.body x) space in
+      rw (ne_eqb s OWN_SPACE (λ e. omega (arith, low, e)), le-leb s LAST_PORTER_SLOT (omega (arith, low)), ref, its.1.1) refl

@@ -51,10 +51,12 @@ module _ (z : Path) where
   pub both_off : (ps qs : List Ptr) → Off (ps ++ qs) → Off ps × Off qs
   both_off ps qs h = by (list_any (leads_to z) ps) (list_any (leads_to z) qs) refl refl (sym (list_any-append (leads_to z) ps qs) ∙ h)
     where
-      by : (a b : Bool) → list_any (leads_to z) ps ≡ a → list_any (leads_to z) qs ≡ b → (list_any (leads_to z) ps || list_any (leads_to z) qs) ≡ false → Off ps × Off qs
+      by : (a b : Bool) → list_any (leads_to z) ps ≡ a → list_any (leads_to z) qs ≡ b → (list_any (leads_to z) ps || list_any (leads_to z) qs) ≡ false
+          → Off ps × Off qs
       by false false e f h = (e, f)
       by true b e f h = let on : (true || list_any (leads_to z) qs) ≡ false = subst (λ (a : Bool). (a || list_any (leads_to z) qs) ≡ false) e h in cc
-      by false true e f h = let on : (false || true) ≡ false = subst (λ (a : Bool). (false || a) ≡ false) f (subst (λ (a : Bool). (a || list_any (leads_to z) qs) ≡ false) e h) in cc
+      by false true e f h = let on : (false || true)
+          ≡ false = subst (λ (a : Bool). (false || a) ≡ false) f (subst (λ (a : Bool). (a || list_any (leads_to z) qs) ≡ false) e h) in cc
 
   -- ---- edits
 
@@ -64,17 +66,21 @@ module _ (z : Path) where
   fault_off : (o : Option Talk) (p : Option Fault) → Off (option_list talk_pointers o ++ option_list fault_pointers p) → Off (option_list fault_pointers p)
   fault_off o p h = (both_off (option_list talk_pointers o) (option_list fault_pointers p) h).1
 
-  mapped_talk : (f : Talk → Talk) → ((talk : Talk) → talk_pointers (f talk) ≡ talk_pointers talk) → (o : Option Talk) → Off (option_list talk_pointers o) → Off (option_list talk_pointers (option_map f o))
+  mapped_talk : (f : Talk → Talk) → ((talk : Talk) → talk_pointers (f talk) ≡ talk_pointers talk) → (o : Option Talk) → Off (option_list talk_pointers o)
+      → Off (option_list talk_pointers (option_map f o))
   mapped_talk f same None h = h
   mapped_talk f same (Some talk) h = subst (λ (ps : List Ptr). Off ps) (sym (same talk)) h
 
-  peer_set : (peer : Peer) (o : Option Talk) → Off (option_list talk_pointers o) → Off (peer_pointer peer) → Off (option_list talk_pointers (option_map (λ (talk : Talk). record talk { peer = peer }) o))
+  peer_set : (peer : Peer) (o : Option Talk) → Off (option_list talk_pointers o) → Off (peer_pointer peer)
+      → Off (option_list talk_pointers (option_map (λ (talk : Talk). record talk { peer = peer }) o))
   peer_set peer None h g = refl
   peer_set peer (Some talk) h g = off_both (talk.port ∷ []) (peer_pointer peer) (both_off (talk.port ∷ []) (peer_pointer talk.peer) h).0 g
 
-  taker_set : (taker : Option Peer) (o : Option Fault) → Off (option_list fault_pointers o) → Off (option_list peer_pointer taker) → Off (option_list fault_pointers (option_map (λ (fault : Fault). record fault { taker = taker }) o))
+  taker_set : (taker : Option Peer) (o : Option Fault) → Off (option_list fault_pointers o) → Off (option_list peer_pointer taker)
+      → Off (option_list fault_pointers (option_map (λ (fault : Fault). record fault { taker = taker }) o))
   taker_set taker None h g = refl
-  taker_set taker (Some fault) h g = off_both (fault.port ∷ []) (option_list peer_pointer taker) (both_off (fault.port ∷ []) (option_list peer_pointer fault.taker) h).0 g
+  taker_set taker (Some fault) h g = off_both (fault.port ∷ []) (option_list peer_pointer taker)
+      (both_off (fault.port ∷ []) (option_list peer_pointer fault.taker) h).0 g
 
   abbrev thread_pointers : Thread → List Ptr
   thread_pointers t = option_list talk_pointers t.talk ++ option_list fault_pointers t.fault
@@ -99,10 +105,15 @@ module _ (z : Path) where
   unfolding edited
   edited_thread (SetTalk talk) t h g = off_both (option_list talk_pointers talk) (option_list fault_pointers t.fault) g (fault_off t.talk t.fault h)
   edited_thread (SetFault fault) t h g = off_both (option_list talk_pointers t.talk) (option_list fault_pointers fault) (talk_off t.talk t.fault h) g
-  edited_thread (SetPeer peer) t h g = off_both (option_list talk_pointers (option_map (λ (talk : Talk). record talk { peer = peer }) t.talk)) (option_list fault_pointers t.fault) (peer_set peer t.talk (talk_off t.talk t.fault h) g) (fault_off t.talk t.fault h)
-  edited_thread (SetTaker taker) t h g = off_both (option_list talk_pointers t.talk) (option_list fault_pointers (option_map (λ (fault : Fault). record fault { taker = taker }) t.fault)) (talk_off t.talk t.fault h) (taker_set taker t.fault (fault_off t.talk t.fault h) g)
-  edited_thread (CountMoved count) t h g = off_both (option_list talk_pointers (option_map (counted count) t.talk)) (option_list fault_pointers t.fault) (mapped_talk (counted count) (λ talk. refl) t.talk (talk_off t.talk t.fault h)) (fault_off t.talk t.fault h)
-  edited_thread (PassTurn turn) t h g = off_both (option_list talk_pointers (option_map (passed turn) t.talk)) (option_list fault_pointers t.fault) (mapped_talk (passed turn) (λ talk. refl) t.talk (talk_off t.talk t.fault h)) (fault_off t.talk t.fault h)
+  edited_thread (SetPeer peer) t h g = off_both (option_list talk_pointers (option_map (λ (talk : Talk). record talk { peer = peer }) t.talk))
+      (option_list fault_pointers t.fault) (peer_set peer t.talk (talk_off t.talk t.fault h) g) (fault_off t.talk t.fault h)
+  edited_thread (SetTaker taker) t h g = off_both (option_list talk_pointers t.talk)
+      (option_list fault_pointers (option_map (λ (fault : Fault). record fault { taker = taker }) t.fault)) (talk_off t.talk t.fault h)
+      (taker_set taker t.fault (fault_off t.talk t.fault h) g)
+  edited_thread (CountMoved count) t h g = off_both (option_list talk_pointers (option_map (counted count) t.talk)) (option_list fault_pointers t.fault)
+      (mapped_talk (counted count) (λ talk. refl) t.talk (talk_off t.talk t.fault h)) (fault_off t.talk t.fault h)
+  edited_thread (PassTurn turn) t h g = off_both (option_list talk_pointers (option_map (passed turn) t.talk)) (option_list fault_pointers t.fault)
+      (mapped_talk (passed turn) (λ talk. refl) t.talk (talk_off t.talk t.fault h)) (fault_off t.talk t.fault h)
   edited_thread (End status answers) t h g = rw (ended_same status answers t t.mode) h
   edited_thread (Finish answers) t h g = rw (finished_same answers t t.mode) h
   edited_thread (SetLocked locked) t h g = h
@@ -145,7 +156,8 @@ module _ (z : Path) where
     swept_body at (Reference to) h = off_one _ (clean.pointer to (one_off to h))
     swept_body at (Space birth None) h = refl
     swept_body at (Space birth (Some p)) h = clean.holder p (one_off p h)
-    swept_body at (Thread_of t) h = off_both (option_list talk_pointers (and_then f.talk t.talk)) (option_list fault_pointers (and_then f.fault t.fault)) (swept_talk t.talk (talk_off t.talk t.fault h)) (swept_fault t.fault (fault_off t.talk t.fault h))
+    swept_body at (Thread_of t) h = off_both (option_list talk_pointers (and_then f.talk t.talk)) (option_list fault_pointers (and_then f.fault t.fault))
+        (swept_talk t.talk (talk_off t.talk t.fault h)) (swept_fault t.fault (fault_off t.talk t.fault h))
     swept_body at (Mutex locked) h = refl
     swept_body at Cond h = refl
     swept_body at (Port set served) h = refl
@@ -172,7 +184,10 @@ module _ (z : Path) where
     pointer = λ p h. if_off (leads_to x p) Dead p refl h;
     holder = λ p h. if_list Ptr (λ p. p ∷ []) (leads_to x p) (Some p) (off_one p h);
     talk = λ talk h. if_list Talk talk_pointers (leads_to x talk.port || serves x talk.peer) (Some talk) h;
-    fault = λ fault h. if_list Fault fault_pointers (leads_to x fault.port) (Some (record fault { taker = and_then (taker_without x) fault.taker })) (off_both (fault.port ∷ []) (option_list peer_pointer (and_then (taker_without x) fault.taker)) (both_off (fault.port ∷ []) (option_list peer_pointer fault.taker) h).0 (taker_less x fault.taker (both_off (fault.port ∷ []) (option_list peer_pointer fault.taker) h).1));
+    fault = λ fault h. if_list Fault fault_pointers (leads_to x fault.port) (Some (record fault { taker = and_then (taker_without x) fault.taker }))
+        (off_both (fault.port ∷ []) (option_list peer_pointer (and_then (taker_without x) fault.taker))
+        (both_off (fault.port ∷ []) (option_list peer_pointer fault.taker) h).0
+        (taker_less x fault.taker (both_off (fault.port ∷ []) (option_list peer_pointer fault.taker) h).1));
   }
 
   module _ (x y : Path) (apart : same_path y z ≡ false) where
@@ -192,19 +207,27 @@ module _ (z : Path) where
     follow_clean = record {
       pointer = follow_off;
       holder = λ p h. off_one _ (follow_off p h);
-      talk = λ talk h. off_both (follow x y talk.port ∷ []) (peer_pointer (follow_peer x y talk.peer)) (off_one _ (follow_off talk.port (one_off talk.port (both_off (talk.port ∷ []) (peer_pointer talk.peer) h).0))) (peer_follows talk.peer (both_off (talk.port ∷ []) (peer_pointer talk.peer) h).1);
-      fault = λ fault h. off_both (follow x y fault.port ∷ []) (option_list peer_pointer (option_map (follow_peer x y) fault.taker)) (off_one _ (follow_off fault.port (one_off fault.port (both_off (fault.port ∷ []) (option_list peer_pointer fault.taker) h).0))) (taker_follows fault.taker (both_off (fault.port ∷ []) (option_list peer_pointer fault.taker) h).1);
+      talk = λ talk h. off_both (follow x y talk.port ∷ []) (peer_pointer (follow_peer x y talk.peer))
+          (off_one _ (follow_off talk.port (one_off talk.port (both_off (talk.port ∷ []) (peer_pointer talk.peer) h).0)))
+          (peer_follows talk.peer (both_off (talk.port ∷ []) (peer_pointer talk.peer) h).1);
+      fault = λ fault h. off_both (follow x y fault.port ∷ []) (option_list peer_pointer (option_map (follow_peer x y) fault.taker))
+          (off_one _ (follow_off fault.port (one_off fault.port (both_off (fault.port ∷ []) (option_list peer_pointer fault.taker) h).0)))
+          (taker_follows fault.taker (both_off (fault.port ∷ []) (option_list peer_pointer fault.taker) h).1);
     }
 
   -- ---- what is allowed leads to nothing frozen
 
   pub unfrozen_off : (w : World) (me : Path) → is_frozen_for w me z ≡ true → (ps : List Ptr) → are_unfrozen w me ps ≡ true → Off ps
   unfrozen_off w me frozen [] h = refl
-  unfrozen_off w me frozen (p ∷ ps) h = by (leads_to z p) (leads_to_frozen w me p) (list_any (leads_to_frozen w me) ps) refl refl refl (unfrozen_off w me frozen ps)
+  unfrozen_off w me frozen (p ∷ ps) h = by (leads_to z p) (leads_to_frozen w me p) (list_any (leads_to_frozen w me) ps) refl refl refl
+      (unfrozen_off w me frozen ps)
     where
-      by : (t f r : Bool) → leads_to z p ≡ t → leads_to_frozen w me p ≡ f → list_any (leads_to_frozen w me) ps ≡ r → (are_unfrozen w me ps ≡ true → Off ps) → Off (p ∷ ps)
-      by t true r e g k rest = let on : not (true || list_any (leads_to_frozen w me) ps) ≡ true = subst (λ (a : Bool). not (a || list_any (leads_to_frozen w me) ps) ≡ true) g h in cc
-      by t false true e g k rest = let on : not (false || true) ≡ true = subst (λ (a : Bool). not (false || a) ≡ true) k (subst (λ (a : Bool). not (a || list_any (leads_to_frozen w me) ps) ≡ true) g h) in cc
+      by : (t f r : Bool) → leads_to z p ≡ t → leads_to_frozen w me p ≡ f → list_any (leads_to_frozen w me) ps ≡ r → (are_unfrozen w me ps ≡ true → Off ps)
+          → Off (p ∷ ps)
+      by t true r e g k rest = let on : not (true || list_any (leads_to_frozen w me) ps)
+          ≡ true = subst (λ (a : Bool). not (a || list_any (leads_to_frozen w me) ps) ≡ true) g h in cc
+      by t false true e g k rest = let on : not (false || true)
+          ≡ true = subst (λ (a : Bool). not (false || a) ≡ true) k (subst (λ (a : Bool). not (a || list_any (leads_to_frozen w me) ps) ≡ true) g h) in cc
       by true false false e g k rest = let at = leads_to_at z p e in let on : leads_to_frozen w me p ≡ true = rw at frozen in cc
       by false false false e g k rest = rw e (rest (rw k refl))
 
@@ -218,11 +241,13 @@ module _ (nester : Path) (slot : ℕ) (w : World) (me : Path) (valid : IsConsist
   allowed_off : (ps : List Ptr) → are_unfrozen w me ps ≡ true → list_any (leads_to (q ++ root)) ps ≡ false
   allowed_off ps h = unfrozen_off (q ++ root) w me (frozen_inside w me root q frozen) ps h
 
-  at_there : (z : Path) (t : Bool) (o p : Option Body) → (t ≡ true → list_any (leads_to z) (body_pointers o) ≡ false) → list_any (leads_to z) (body_pointers p) ≡ false → list_any (leads_to z) (body_pointers (cond t o p)) ≡ false
+  at_there : (z : Path) (t : Bool) (o p : Option Body) → (t ≡ true → list_any (leads_to z) (body_pointers o) ≡ false)
+      → list_any (leads_to z) (body_pointers p) ≡ false → list_any (leads_to z) (body_pointers (cond t o p)) ≡ false
   at_there z true o p h g = h refl
   at_there z false o p h g = g
 
-  altered_off : (z : Path) (edit : Edit) (o : Option Body) → list_any (leads_to z) (body_pointers o) ≡ false → list_any (leads_to z) (made_pointers edit) ≡ false → list_any (leads_to z) (body_pointers (option_map (edited edit) o)) ≡ false
+  altered_off : (z : Path) (edit : Edit) (o : Option Body) → list_any (leads_to z) (body_pointers o) ≡ false
+      → list_any (leads_to z) (made_pointers edit) ≡ false → list_any (leads_to z) (body_pointers (option_map (edited edit) o)) ≡ false
   altered_off z edit None h g = refl
   altered_off z edit (Some b) h g = edited_off z edit b h g
 
@@ -249,24 +274,31 @@ module _ (nester : Path) (slot : ℕ) (w : World) (me : Path) (valid : IsConsist
   change_unled : (v : World) (same : IsSameInside root w v) (c : Change) → IsAllowed w me c → IsSafe v c → IsUsers w c → Unled v → Unled (apply c v)
   unfolding apply
   change_unled v same (Alter x edit) may safe users unled y out scratch =
-      at_there (q ++ root) (same_path y x) _ _ (λ e. altered_off (q ++ root) edit (v.body y) (unled y out scratch) (allowed_off (made_pointers edit) may.made)) (unled y out scratch)
-  change_unled v same (Make x body) may safe users unled y out scratch = at_there (q ++ root) (same_path y x) _ _ (λ e. allowed_off (pointers body) may.made) (unled y out scratch)
-  change_unled v same (MakeSpace x holder) may safe users unled y out scratch = at_there (q ++ root) (same_path y x) _ _ (λ e. allowed_off (option_list (λ p. p ∷ []) holder) may.made) (unled y out scratch)
+      at_there (q ++ root) (same_path y x) _ _ (λ e.
+      altered_off (q ++ root) edit (v.body y) (unled y out scratch) (allowed_off (made_pointers edit) may.made)) (unled y out scratch)
+  change_unled v same (Make x body) may safe users unled y out scratch = at_there (q ++ root) (same_path y x) _ _ (λ e. allowed_off (pointers body) may.made)
+      (unled y out scratch)
+  change_unled v same (MakeSpace x holder) may safe users unled y out scratch = at_there (q ++ root) (same_path y x) _ _
+      (λ e. allowed_off (option_list (λ p. p ∷ []) holder) may.made) (unled y out scratch)
   change_unled v same (Kill x) may safe users unled y out scratch =
       at_there (q ++ root) (same_path y x) None _ (λ e. refl) (swept_there (q ++ root) _ (death_clean (q ++ root) x) y (v.body y) (unled y out scratch))
   change_unled v same (Move [] j) may safe users unled y out scratch = absurd safe
   change_unled v same (Move (k ∷ s) j) may safe users unled y out scratch =
-      let apart : same_path (j ∷ s) (q ++ root) ≡ false = same_path_sym (j ∷ s) (q ++ root) ∙ place_apart w v me root k j s frozen (same.bodies []) safe.empty may.object q in
+      let apart : same_path (j ∷ s) (q ++ root) ≡ false = same_path_sym (j ∷ s) (q ++ root)
+      ∙ place_apart w v me root k j s frozen (same.bodies []) safe.empty may.object q in
       at_there (q ++ root) (same_path y (j ∷ s)) _ _
-      (λ e. swept_there (q ++ root) _ (follow_clean (q ++ root) (k ∷ s) (j ∷ s) apart) (j ∷ s) (v.body (k ∷ s)) (unled (k ∷ s) (not_inside (k ∷ s) may.object) (not_scratch (k ∷ s) users.0)))
-      (at_there (q ++ root) (same_path y (k ∷ s)) None _ (λ e. refl) (swept_there (q ++ root) _ (follow_clean (q ++ root) (k ∷ s) (j ∷ s) apart) y (v.body y) (unled y out scratch)))
+      (λ e. swept_there (q ++ root) _ (follow_clean (q ++ root) (k ∷ s) (j ∷ s) apart) (j ∷ s) (v.body (k ∷ s))
+      (unled (k ∷ s) (not_inside (k ∷ s) may.object) (not_scratch (k ∷ s) users.0)))
+      (at_there (q ++ root) (same_path y (k ∷ s)) None _ (λ e. refl)
+      (swept_there (q ++ root) _ (follow_clean (q ++ root) (k ∷ s) (j ∷ s) apart) y (v.body y) (unled y out scratch)))
   change_unled v same (PutPage space page words) may safe users unled y out scratch = unled y out scratch
   change_unled v same (DropPage space page) may safe users unled y out scratch = unled y out scratch
 
   changes_unled : (cs : List Change) (v : World) → IsSameInside root w v → AreAllowed w me cs → AreSafe v cs → AreUsers w cs → Unled v → Unled (apply_all cs v)
   unfolding apply_all
   changes_unled [] v same may safe users unled = unled
-  changes_unled (c ∷ cs) v same may safe users unled = changes_unled cs (apply c v) (change-same w root me valid frozen v same c may.0 safe.0) may.1 safe.1 users.1 (change_unled v same c may.0 safe.0 users.0 unled)
+  changes_unled (c ∷ cs) v same may safe users unled = changes_unled cs (apply c v)
+      (change-same w root me valid frozen v same c may.0 safe.0) may.1 safe.1 users.1 (change_unled v same c may.0 safe.0 users.0 unled)
 
   pub outcome_unled : (o : Outcome) → GoesAllowed w me o → SafeOutcome w o → AreUsers w (listed o) → Unled w → Unled (stepped w o).world
   outcome_unled (Goes changes said) may safe users unled =
@@ -274,6 +306,7 @@ module _ (nester : Path) (slot : ℕ) (w : World) (me : Path) (valid : IsConsist
   outcome_unled (Refused status) may safe users unled = absurd may
   outcome_unled Waits may safe users unled = absurd may
 
-pub held_frozen : (nester : Path) (slot : ℕ) (w : World) (x : Path) → IsHolding nester slot w → same_path (LAST_PORTER_SLOT ∷ nester) x ≡ false → is_frozen_for w x (slot ∷ nester) ≡ true
+pub held_frozen : (nester : Path) (slot : ℕ) (w : World) (x : Path) → IsHolding nester slot w → same_path (LAST_PORTER_SLOT ∷ nester) x ≡ false
+    → is_frozen_for w x (slot ∷ nester) ≡ true
 unfolding decider
 held_frozen nester slot w x holding other = rw (holding.above, holding.holder, other) refl

@@ -33,7 +33,8 @@ module _ {S A : Type 0} (m : Machine S A) (nester : Path) where
 
   own_on : (w : World) (s : S) (es : List Event) (v : World) (t : S) (stage : Stage) (words : List ℕ) → Interleaved m nester w s es v t →
       m.head t ≡ Asks stage words → IsReadyAt v (call_of nester stage words) → IsSound (after v (call_of nester stage words)) →
-      Interleaved m nester w s (es ++ call_of nester stage words ∷ []) (after v (call_of nester stage words)) (heard m t (said_of v (call_of nester stage words)))
+      Interleaved m nester w s (es ++ call_of nester stage words ∷ []) (after v (call_of nester stage words))
+      (heard m t (said_of v (call_of nester stage words)))
   own_on _ _ _ _ _ stage words (Here w s sound) asked ready later =
       let e = call_of nester stage words in
       Own w s stage words [] (after w e) (heard m s (said_of w e)) sound asked ready (Here (after w e) (heard m s (said_of w e)) later)

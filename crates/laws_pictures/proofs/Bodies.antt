@@ -37,13 +37,15 @@ no_rec os k e = by (rec_in os k) (sym (kind_by_rec os k) ∙ e)
     by (Some r) e = absurd cc
 
 -- what holds of each object holds of the one in a slot
-pub rec_all : (test : Rec → Bool) (os : List ObjectRec) (k : ℕ) (r : Rec) → list_all (λ (o : ObjectRec). test o.body) os ≡ true → rec_in os k ≡ Some r → test r ≡ true
+pub rec_all : (test : Rec → Bool) (os : List ObjectRec) (k : ℕ) (r : Rec) → list_all (λ (o : ObjectRec). test o.body) os ≡ true → rec_in os k ≡ Some r
+    → test r ≡ true
 unfolding rec_in
 rec_all test [] k r all e = absurd cc
 rec_all test (o ∷ os) k r all e = by (o.slot == k) (and_parts (test o.body) (list_all (λ (p : ObjectRec). test p.body) os) all) (λ h. rec_all test os k r h) e
   where
     by : (b : Bool) → (test o.body ≡ true) × (list_all (λ (p : ObjectRec). test p.body) os ≡ true) →
-        (list_all (λ (p : ObjectRec). test p.body) os ≡ true → rec_in os k ≡ Some r → test r ≡ true) → cond b (Some o.body) (rec_in os k) ≡ Some r → test r ≡ true
+        (list_all (λ (p : ObjectRec). test p.body) os ≡ true → rec_in os k ≡ Some r → test r ≡ true) → cond b (Some o.body) (rec_in os k) ≡ Some r
+        → test r ≡ true
     by true both rest e = let same : o.body ≡ r = cc in subst (λ s. test s ≡ true) same both.0
     by false both rest e = rest both.1 e
 
@@ -88,12 +90,14 @@ ranged floor (o ∷ os) k r up e = by (o.slot == k) refl (ranged (o.slot + 1) os
 
 -- ---- pointers of each space
 
-pub lead_at : (ss : List SpaceRec) (number : ℕ) (xs : List SpaceRec) (i : ℕ) (s : SpaceRec) → spaces_lead ss number xs ≡ true → slice_get xs i ≡ Some s → space_leads ss (number + i) s ≡ true
+pub lead_at : (ss : List SpaceRec) (number : ℕ) (xs : List SpaceRec) (i : ℕ) (s : SpaceRec) → spaces_lead ss number xs ≡ true → slice_get xs i ≡ Some s
+    → space_leads ss (number + i) s ≡ true
 lead_at ss number [] i s e at = absurd cc
 lead_at ss number (x ∷ xs) zero s e at =
     let same : x ≡ s = cc in
     let zeroth : number ≡ number + 0 = omega arith in
-    subst (λ n. space_leads ss n s ≡ true) zeroth (subst (λ (u : SpaceRec). space_leads ss number u ≡ true) same (and_parts (space_leads ss number x) (spaces_lead ss (number + 1) xs) e).0)
+    subst (λ n. space_leads ss n s ≡ true) zeroth (subst (λ (u : SpaceRec). space_leads ss number u ≡ true) same
+    (and_parts (space_leads ss number x) (spaces_lead ss (number + 1) xs) e).0)
 lead_at ss number (x ∷ xs) (suc i) s e at =
     let next : number + 1 + i ≡ number + suc i = omega arith in
     subst (λ n. space_leads ss n s ≡ true) next (lead_at ss (number + 1) xs i s (and_parts (space_leads ss number x) (spaces_lead ss (number + 1) xs) e).1 at)
@@ -131,7 +135,8 @@ module _ (ss : List SpaceRec) (tree : IsTree ss) where
   pub stands : (k : ℕ) (q : Path) (b : Body) → pictured_body_at ss (k ∷ q) ≡ Some b → Object ss k q b ⊎ Inner ss k q b
   stands k q b e = by (space_number ss q) refl e
     where
-      inner : (n : ℕ) → space_path ss n ≡ q → (o : Option ℕ) → child ss n k ≡ o → and_then (λ number. of_space ss (slice_get ss number)) o ≡ Some b → Inner ss k q b
+      inner : (n : ℕ) → space_path ss n ≡ q → (o : Option ℕ) → child ss n k ≡ o → and_then (λ number. of_space ss (slice_get ss number)) o ≡ Some b
+          → Inner ss k q b
       inner n path None is e = absurd cc
       inner n path (Some m) is e =
           let c = below ss n k m is in
@@ -139,7 +144,8 @@ module _ (ss : List SpaceRec) (tree : IsTree ss) where
           record { before = c.before; space = c.child; here = c.here; slot = c.place; path = ap (space_path ss) c.parent ∙ path; is = cc }
 
       at : (n : ℕ) → space_path ss n ≡ q → (s : SpaceRec) → slice_get ss n ≡ Some s → (r : Option Rec) → rec_in s.objects k ≡ r →
-          or_else (option_map (pictured_body ss) r) (and_then (λ number. of_space ss (slice_get ss number)) (child ss n k)) ≡ Some b → Object ss k q b ⊎ Inner ss k q b
+          or_else (option_map (pictured_body ss) r) (and_then (λ number. of_space ss (slice_get ss number)) (child ss n k)) ≡ Some b
+          → Object ss k q b ⊎ Inner ss k q b
       at n path s here None is e = inr (inner n path (child ss n k) refl e)
       at n path s here (Some r) is e = inl (record { number = n; space = s; body = r; here = here; path = path; there = is; is = cc })
 
@@ -148,16 +154,19 @@ module _ (ss : List SpaceRec) (tree : IsTree ss) where
       by (Some n) is e =
           let known = path_of ss tree q n is in
           let s = item_of (slice_get ss n) known.0 in
-          at n known.1 s.item s.is (rec_in s.item.objects k) refl (sym (ap (λ o. or_else (of_object ss k o) (and_then (λ number. of_space ss (slice_get ss number)) (child ss n k))) s.is) ∙ e)
+          at n known.1 s.item s.is (rec_in s.item.objects k) refl
+          (sym (ap (λ o. or_else (of_object ss k o) (and_then (λ number. of_space ss (slice_get ss number)) (child ss n k))) s.is) ∙ e)
 
   -- and all that the records say stands there
-  pub object_at : (n k : ℕ) (s : SpaceRec) (r : Rec) → slice_get ss n ≡ Some s → rec_in s.objects k ≡ Some r → pictured_body_at ss (k ∷ space_path ss n) ≡ Some (pictured_body ss r)
+  pub object_at : (n k : ℕ) (s : SpaceRec) (r : Rec) → slice_get ss n ≡ Some s → rec_in s.objects k ≡ Some r
+      → pictured_body_at ss (k ∷ space_path ss n) ≡ Some (pictured_body ss r)
   object_at n k s r here there =
       ap (and_then (λ m. pictured_body_in ss m k)) (number_of ss tree n (is_there (slice_get ss n) s here))
       ∙ ap (λ o. or_else (of_object ss k o) (and_then (λ number. of_space ss (slice_get ss number)) (child ss n k))) here
       ∙ ap (λ o. or_else (option_map (pictured_body ss) o) (and_then (λ number. of_space ss (slice_get ss number)) (child ss n k))) there
 
-  pub space_at : IsFull ss → (n : ℕ) (s : SpaceRec) → slice_get ss (suc n) ≡ Some s → pictured_body_at ss (space_path ss (suc n)) ≡ Some (bodies.Space 0 (pictured_holder ss s.holder))
+  pub space_at : IsFull ss → (n : ℕ) (s : SpaceRec) → slice_get ss (suc n) ≡ Some s
+      → pictured_body_at ss (space_path ss (suc n)) ≡ Some (bodies.Space 0 (pictured_holder ss s.holder))
   space_at full n s here =
       let above = parent_there n s here in
       let none = no_rec above.item.objects s.slot (sym (ap (kind_of_space s.slot) above.is) ∙ full.free n s here) in
@@ -170,4 +179,5 @@ module _ (ss : List SpaceRec) (tree : IsTree ss) where
       ∙ ap (of_space ss) here
     where
       parent_there : (n : ℕ) (s : SpaceRec) → slice_get ss (suc n) ≡ Some s → Item (slice_get ss s.parent)
-      parent_there n s here = let low = tree.low n s here in item_of (slice_get ss s.parent) (there_below ss s.parent (suc n) (omega (arith, low)) (is_there (slice_get ss (suc n)) s here))
+      parent_there n s here = let low = tree.low n s here in
+          item_of (slice_get ss s.parent) (there_below ss s.parent (suc n) (omega (arith, low)) (is_there (slice_get ss (suc n)) s here))

@@ -123,7 +123,8 @@ module _ (ss : List SpaceRec) (big : World) where
 
   -- ---- talks and faults
 
-  talk_seen : (t : Option TalkRec) → talk_leads ss t ≡ true → and_then (λ talk. Some (seen_talk id talk)) (option_map (pictured_talk ss) t) ≡ option_map (pictured_talk ss) t
+  talk_seen : (t : Option TalkRec) → talk_leads ss t ≡ true
+      → and_then (λ talk. Some (seen_talk id talk)) (option_map (pictured_talk ss) t) ≡ option_map (pictured_talk ss) t
   talk_seen None e = refl
   talk_seen (Some t) e =
       let both = and_parts (leads_to_port ss t.port) (serves_port ss t.port t.server) e in
@@ -145,7 +146,8 @@ module _ (ss : List SpaceRec) (big : World) where
   taker_alike to None e f = tt
   taker_alike to (Some p) e f = peer_alike to p e f
 
-  fault_seen : (f : Option FaultRec) → fault_leads ss f ≡ true → and_then (λ fault. Some (seen_fault id fault)) (option_map (pictured_fault ss) f) ≡ option_map (pictured_fault ss) f
+  fault_seen : (f : Option FaultRec) → fault_leads ss f ≡ true
+      → and_then (λ fault. Some (seen_fault id fault)) (option_map (pictured_fault ss) f) ≡ option_map (pictured_fault ss) f
   fault_seen None e = refl
   fault_seen (Some f) e =
       let both = and_parts (leads_to_port ss f.port) (taker_leads ss f.port f.taker) e in
@@ -160,7 +162,8 @@ module _ (ss : List SpaceRec) (big : World) where
   no_porter : (regs : List ℕ) (number code : ℕ) → is_porter (mode regs number code) ≡ false
   no_porter regs number code = by (number == 0) (number == 1) (todo_of regs)
     where
-      by : (a b : Bool) (o : Option (List Stage)) → is_porter (cond a (modes.Running regs) (cond b (mode_while_calling regs o) (modes.Halted regs code))) ≡ false
+      by : (a b : Bool) (o : Option (List Stage)) → is_porter (cond a (modes.Running regs) (cond b (mode_while_calling regs o) (modes.Halted regs code)))
+          ≡ false
       by true b o = refl
       by false true None = refl
       by false true (Some todo) = refl
@@ -208,7 +211,8 @@ picture_of i valid k q b e =
         subst (λ b. Seen i.spaces (picture i) b) (sym o.is) (body_seen i.spaces (picture i) o.space.objects o.body right)
     by lead (inr s) =
         let all = and_parts (may_hold i.spaces (0 + suc s.before) s.space.holder) _ (lead_at i.spaces 0 i.spaces (suc s.before) s.space lead s.here) in
-        subst (λ b. Seen i.spaces (picture i) b) (sym s.is) (space_seen i.spaces (picture i) _ (holder i.spaces (picture i) (0 + suc s.before) s.space.holder all.0))
+        subst (λ b. Seen i.spaces (picture i) b) (sym s.is)
+        (space_seen i.spaces (picture i) _ (holder i.spaces (picture i) (0 + suc s.before) s.space.holder all.0))
 
 pub picture_is_cut_world : PictureIsCutWorld
 unfolding picture kind_there seen_by
@@ -217,7 +221,8 @@ picture_is_cut_world i valid = record {
   pages = λ q page. ap (λ x. (picture i).page x page) (sym (append-nil q));
   unborn = refl;
   top = refl;
-  plain = λ k q. subst (λ x. IfSome ((picture i).body (k ∷ x)) (IsPlainBody id (HasLikeness [] id (picture i)))) (sym (append-nil q)) (plain k q (pictured_body_at i.spaces (k ∷ q)) refl);
+  plain = λ k q. subst (λ x. IfSome ((picture i).body (k ∷ x)) (IsPlainBody id (HasLikeness [] id (picture i)))) (sym (append-nil q))
+      (plain k q (pictured_body_at i.spaces (k ∷ q)) refl);
   within = λ x. ap ptrs.At (append-nil x);
   null = refl;
   dead = refl;
@@ -233,4 +238,5 @@ picture_is_cut_world i valid = record {
 
     same_bodies : (q : Path) → (picture i).body q ≡ option_map (λ b. unheld q (seen_by (seeing id) b)) ((picture i).body (q ++ []))
     same_bodies [] = refl
-    same_bodies (k ∷ q) = at k q (pictured_body_at i.spaces (k ∷ q)) refl ∙ ap (λ x. option_map (λ b. unheld (k ∷ q) (seen_by (seeing id) b)) ((picture i).body (k ∷ x))) (sym (append-nil q))
+    same_bodies (k ∷ q) = at k q (pictured_body_at i.spaces (k ∷ q)) refl
+        ∙ ap (λ x. option_map (λ b. unheld (k ∷ q) (seen_by (seeing id) b)) ((picture i).body (k ∷ x))) (sym (append-nil q))

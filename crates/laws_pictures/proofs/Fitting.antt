@@ -34,7 +34,8 @@ objects_short f (suc n) k = by (f k) (objects_short f n (suc k))
     by None le = omega (arith, le)
     by (Some r) le = omega (arith, le)
 
-objects_fit_from : (f : ℕ → Option Rec) (n k floor : ℕ) → floor ≤ k → k + n ≤ 240 → ((j : ℕ) (r : Rec) → f j ≡ Some r → fits_body r ≡ true) → all_from after_object fits_object floor (objects_from f n k) ≡ true
+objects_fit_from : (f : ℕ → Option Rec) (n k floor : ℕ) → floor ≤ k → k + n ≤ 240 → ((j : ℕ) (r : Rec) → f j ≡ Some r → fits_body r ≡ true)
+    → all_from after_object fits_object floor (objects_from f n k) ≡ true
 unfolding objects_from
 objects_fit_from f zero k floor le most fit = refl
 objects_fit_from f (suc n) k floor le most fit = by (f k) refl (λ g h. objects_fit_from f n (suc k) g h (omega (arith, most)) fit)
@@ -42,9 +43,11 @@ objects_fit_from f (suc n) k floor le most fit = by (f k) refl (λ g h. objects_
     next : k + 1 ≤ suc k
     next = omega arith
 
-    by : (o : Option Rec) → f k ≡ o → ((g : ℕ) → g ≤ suc k → all_from after_object fits_object g (objects_from f n (suc k)) ≡ true) → all_from after_object fits_object floor (with_object k o (objects_from f n (suc k))) ≡ true
+    by : (o : Option Rec) → f k ≡ o → ((g : ℕ) → g ≤ suc k → all_from after_object fits_object g (objects_from f n (suc k)) ≡ true)
+        → all_from after_object fits_object floor (with_object k o (objects_from f n (suc k))) ≡ true
     by None e rest = rest floor (omega (arith, le))
-    by (Some r) e rest = and_from _ _ (and_from _ _ (and_from _ _ (lt-ltb k 240 (omega (arith, most))) (ap not (le-ltb k floor le))) (fit k r e)) (rest (k + 1) next)
+    by (Some r) e rest = and_from _ _ (and_from _ _ (and_from _ _ (lt-ltb k 240 (omega (arith, most))) (ap not (le-ltb k floor le))) (fit k r e))
+        (rest (k + 1) next)
 
 pages_short : (f : ℕ → Option (List ℕ)) (n k : ℕ) → length (pages_from f n k) ≤ n
 unfolding pages_from
@@ -55,7 +58,8 @@ pages_short f (suc n) k = by (f k) (pages_short f n (suc k))
     by None le = omega (arith, le)
     by (Some r) le = omega (arith, le)
 
-pages_fit_from : (f : ℕ → Option (List ℕ)) (n k floor : ℕ) → floor ≤ k → k + n ≤ 256 → ((j : ℕ) (ws : List ℕ) → f j ≡ Some ws → are_words 64 ws ≡ true) → all_from after_page fits_page floor (pages_from f n k) ≡ true
+pages_fit_from : (f : ℕ → Option (List ℕ)) (n k floor : ℕ) → floor ≤ k → k + n ≤ 256 → ((j : ℕ) (ws : List ℕ) → f j ≡ Some ws → are_words 64 ws ≡ true)
+    → all_from after_page fits_page floor (pages_from f n k) ≡ true
 unfolding pages_from
 pages_fit_from f zero k floor le most fit = refl
 pages_fit_from f (suc n) k floor le most fit = by (f k) refl (λ g h. pages_fit_from f n (suc k) g h (omega (arith, most)) fit)
@@ -63,26 +67,36 @@ pages_fit_from f (suc n) k floor le most fit = by (f k) refl (λ g h. pages_fit_
     next : k + 1 ≤ suc k
     next = omega arith
 
-    by : (o : Option (List ℕ)) → f k ≡ o → ((g : ℕ) → g ≤ suc k → all_from after_page fits_page g (pages_from f n (suc k)) ≡ true) → all_from after_page fits_page floor (with_page k o (pages_from f n (suc k))) ≡ true
+    by : (o : Option (List ℕ)) → f k ≡ o → ((g : ℕ) → g ≤ suc k → all_from after_page fits_page g (pages_from f n (suc k)) ≡ true)
+        → all_from after_page fits_page floor (with_page k o (pages_from f n (suc k))) ≡ true
     by None e rest = rest floor (omega (arith, le))
-    by (Some ws) e rest = and_from _ _ (and_from _ _ (and_from _ _ (lt-ltb k 256 (omega (arith, most))) (ap not (le-ltb k floor le))) (fit k ws e)) (rest (k + 1) next)
+    by (Some ws) e rest = and_from _ _ (and_from _ _ (and_from _ _ (lt-ltb k 256 (omega (arith, most))) (ap not (le-ltb k floor le))) (fit k ws e))
+        (rest (k + 1) next)
 
 -- ---- modes
 
-code_of_call : (cs : List Call) (code : ℕ) (g : List ℕ) (todo : List Stage) → list_all (λ (d : Call). is_call_code d.code) cs ≡ true → named_by cs code g ≡ Some todo → is_call_code code ≡ true
+code_of_call : (cs : List Call) (code : ℕ) (g : List ℕ) (todo : List Stage) → list_all (λ (d : Call). is_call_code d.code) cs ≡ true
+    → named_by cs code g ≡ Some todo → is_call_code code ≡ true
 code_of_call [] code g todo all e = absurd cc
 code_of_call (d ∷ cs) code g todo all e = by (code == d.code) refl (and_parts (is_call_code d.code) _ all) (λ h. code_of_call cs code g todo h) e
   where
-    by : (b : Bool) → (code == d.code) ≡ b → (is_call_code d.code ≡ true) × (list_all (λ (d : Call). is_call_code d.code) cs ≡ true) → (list_all (λ (d : Call). is_call_code d.code) cs ≡ true → named_by cs code g ≡ Some todo → is_call_code code ≡ true) →
+    by : (b : Bool) → (code == d.code) ≡ b → (is_call_code d.code ≡ true) × (list_all (λ (d : Call). is_call_code d.code) cs ≡ true)
+        → (list_all (λ (d : Call). is_call_code d.code) cs ≡ true → named_by cs code g ≡ Some todo → is_call_code code ≡ true) →
         cond b (Some (d.todo g)) (named_by cs code g) ≡ Some todo → is_call_code code ≡ true
     by true p both rest e = ap is_call_code (eqb-true code d.code p) ∙ both.0
     by false p both rest e = rest both.1 e
 
-mode_fits : (m : Mode) → IsShapedMode m → is_porter m ≡ false → IsCodeInRange m → (is_mode_byte (registers_of m) (mode_number m) ≡ true) × (is_byte (halt_code m) ≡ true) × (is_code (mode_number m) (halt_code m) ≡ true) × (length (registers_of m) ≡ 16)
+mode_fits : (m : Mode) → IsShapedMode m → is_porter m ≡ false → IsCodeInRange m
+    → (is_mode_byte (registers_of m) (mode_number m) ≡ true) × (is_byte (halt_code m) ≡ true) × (is_code (mode_number m) (halt_code m) ≡ true)
+    × (length (registers_of m) ≡ 16)
 unfolding todo_of
 mode_fits (modes.Running g) shaped user range = (refl, refl, refl, shaped)
-mode_fits (modes.Calling todo rest) shaped user range =
-    (code_of_call calls (slice_index (words todo rest) 0) (words todo rest) todo refl (words_read_back_lem todo rest shaped.0 shaped.1).0, refl, refl, words_keep_length_lem todo rest ∙ shaped.1.sixteen)
+mode_fits (modes.Calling todo rest) shaped user range = (
+  code_of_call calls (slice_index (words todo rest) 0) (words todo rest) todo refl (words_read_back_lem todo rest shaped.0 shaped.1).0,
+  refl,
+  refl,
+  words_keep_length_lem todo rest ∙ shaped.1.sixteen,
+)
 mode_fits (modes.Halted g code) shaped user range = (refl, lt-ltb code 256 (omega (arith, range)), refl, shaped)
 mode_fits (modes.Native g) shaped user range = absurd cc
 
@@ -119,7 +133,8 @@ module _ (c : World) (sp : List Path) (alone : IsAlone c) (sound : IsSound c) (n
   talk_fits None low led = refl
   talk_fits (Some talk) low led =
       let moved = low talk refl in
-      and_from _ _ (and_from _ _ (and_from _ _ (turn_fits talk.turn) (lt-ltb talk.moved (2 ^ 16) (omega (arith, moved)))) (link_fits talk.port led.0)) (peer_fits talk.port talk.peer led.1)
+      and_from _ _ (and_from _ _ (and_from _ _ (turn_fits talk.turn) (lt-ltb talk.moved (2 ^ 16) (omega (arith, moved)))) (link_fits talk.port led.0))
+      (peer_fits talk.port talk.peer led.1)
 
   taker_fits : (port : Ptr) (taker : Option Peer) → IsTakenBy c port taker → fits_taker (option_map (peer_link sp) taker) ≡ true
   taker_fits port None led = refl
@@ -128,16 +143,21 @@ module _ (c : World) (sp : List Path) (alone : IsAlone c) (sound : IsSound c) (n
   fault_fits : (f : Option Fault) → ((fault : Fault) → f ≡ Some fault → fault.page < 256) → IsLedFault c f → fits_fault (option_map (fault_rec sp) f) ≡ true
   fault_fits None low led = refl
   fault_fits (Some fault) low led =
-      and_from _ _ (and_from _ _ (and_from _ _ (lt-ltb fault.page 256 (low fault refl)) (bit_fits fault.write)) (link_fits fault.port led.0)) (taker_fits fault.port fault.taker led.1)
+      and_from _ _ (and_from _ _ (and_from _ _ (lt-ltb fault.page 256 (low fault refl)) (bit_fits fault.write)) (link_fits fault.port led.0))
+      (taker_fits fault.port fault.taker led.1)
 
-  window_fits : (first count : ℕ) → is_page_range first count ≡ true → (is_byte first ≡ true) × (is_half count ≡ true) × ((ltb 0 count && leb (first + count) 256) ≡ true)
+  window_fits : (first count : ℕ) → is_page_range first count ≡ true
+      → (is_byte first ≡ true) × (is_half count ≡ true) × ((ltb 0 count && leb (first + count) 256) ≡ true)
   window_fits first count e =
       let p = and_parts (leb 1 count && leb count PAGES) (leb (first + count) PAGES) e in
       let r = and_parts (leb 1 count) (leb count PAGES) p.0 in
       let a = leb-true 1 count r.0 in
       let b = leb-true count PAGES r.1 in
-      let s = leb-true (first + count) PAGES p.1 in
-      (lt-ltb first 256 (omega (arith, a, s)), lt-ltb count (2 ^ 16) (omega (arith, b)), and_from _ _ (lt-ltb 0 count (omega (arith, a))) (le-leb (first + count) 256 (omega (arith, s))))
+      let s = leb-true (first + count) PAGES p.1 in (
+        lt-ltb first 256 (omega (arith, a, s)),
+        lt-ltb count (2 ^ 16) (omega (arith, b)),
+        and_from _ _ (lt-ltb 0 count (omega (arith, a))) (le-leb (first + count) 256 (omega (arith, s))),
+      )
 
   set_fits : (q : Path) (k : ℕ) (set : Option ℕ) (served : Bool) → is_good_set (kind_there c) (k ∷ q) set served ≡ true → is_set_word (member_word set) ≡ true
   unfolding kind_there
@@ -180,8 +200,10 @@ module _ (c : World) (sp : List Path) (alone : IsAlone c) (sound : IsSound c) (n
           let m = mode_fits t.mode led.0 led.1 (numbers.codes x t is) in
           let stops = numbers.stops x t is in
           let regs : are_words 16 (registers_of t.mode) ≡ true = and_from _ _ (eq-eqb (length (registers_of t.mode)) 16 m.3) (numbers.registers x t is) in
-          goes _ e (and_from _ _ (and_from _ _ (and_from _ _ (and_from _ _ (and_from _ _ (and_from _ _ (and_from _ _ regs (lt-ltb t.counter (2 ^ 64) (numbers.counter x t is))) m.0) m.1) m.2)
-          (lt-ltb t.stops (2 ^ 16) (omega (arith, stops)))) (talk_fits t.talk (λ talk at. numbers.moved x t talk is at) led.2)) (fault_fits t.fault (λ fault at. numbers.missing x t fault is at) led.3))
+          goes _ e (and_from _ _ (and_from _ _ (and_from _ _
+          (and_from _ _ (and_from _ _ (and_from _ _ (and_from _ _ regs (lt-ltb t.counter (2 ^ 64) (numbers.counter x t is))) m.0) m.1) m.2)
+          (lt-ltb t.stops (2 ^ 16) (omega (arith, stops)))) (talk_fits t.talk (λ talk at. numbers.moved x t talk is at) led.2))
+          (fault_fits t.fault (λ fault at. numbers.missing x t fault is at) led.3))
       by (bodies.Reference to) led good is e = goes _ e (link_fits to led)
 
   rec_fits : (q : Path) (j : ℕ) (r : Rec) → rec_at c sp q j ≡ Some r → fits_body r ≡ true
@@ -195,6 +217,8 @@ module _ (c : World) (sp : List Path) (alone : IsAlone c) (sound : IsSound c) (n
   all_fit q =
       let few = objects_short (rec_at c sp q) 240 0 in
       let some = pages_short (c.page q) 256 0 in (
-        and_from _ _ (lt-ltb (length (objects_from (rec_at c sp q) 240 0)) (2 ^ 16) (omega (arith, few))) (objects_fit_from (rec_at c sp q) 240 0 0 (omega arith) (omega arith) (λ j r e. rec_fits q j r e)),
-        and_from _ _ (lt-ltb (length (pages_from (c.page q) 256 0)) (2 ^ 16) (omega (arith, some))) (pages_fit_from (c.page q) 256 0 0 (omega arith) (omega arith) (λ j ws e. numbers.pages q j ws e)),
+        and_from _ _ (lt-ltb (length (objects_from (rec_at c sp q) 240 0)) (2 ^ 16) (omega (arith, few)))
+            (objects_fit_from (rec_at c sp q) 240 0 0 (omega arith) (omega arith) (λ j r e. rec_fits q j r e)),
+        and_from _ _ (lt-ltb (length (pages_from (c.page q) 256 0)) (2 ^ 16) (omega (arith, some)))
+            (pages_fit_from (c.page q) 256 0 0 (omega arith) (omega arith) (λ j ws e. numbers.pages q j ws e)),
       )

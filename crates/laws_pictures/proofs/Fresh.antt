@@ -44,7 +44,8 @@ module _ (c : World) (sp : List Path) (alone : IsAlone c) (its : AreItsSpaces c 
   AllSeen n floor seen = (p : ℕ × ℕ) → list_any (is_same_place p) seen ≡ true → SeenBy n floor p
 
   -- a server that was named isn't named again by another
-  absent : (n k : ℕ) (seen : List (ℕ × ℕ)) (j : ℕ) (r q : Path) → AllSeen n k seen → IsMember r → IsMember q → rank sp q ≡ n → 0 < services c (j ∷ r) (k ∷ q) → list_any (is_same_place (rank sp r, j)) seen ≡ false
+  absent : (n k : ℕ) (seen : List (ℕ × ℕ)) (j : ℕ) (r q : Path) → AllSeen n k seen → IsMember r → IsMember q → rank sp q ≡ n → 0 < services c (j ∷ r) (k ∷ q)
+      → list_any (is_same_place (rank sp r, j)) seen ≡ false
   absent n k seen j r q all m mq at served = false_from_ne_true _ (λ e. clash (all (rank sp r, j) e))
     where
       heads : (a b : ℕ) (x y : Path) → a ∷ x ≡ b ∷ y → (a ≡ b) × (x ≡ y)
@@ -68,12 +69,14 @@ module _ (c : World) (sp : List Path) (alone : IsAlone c) (its : AreItsSpaces c 
   record Adds (seen : List (ℕ × ℕ)) (pe : Peer) (new : List (ℕ × ℕ)) : Type 0 where
     pub how : (new ≡ seen) ⊎ ((j : ℕ) × (r : Path) × (pe ≡ peers.Server (ptrs.At (j ∷ r))) × (new ≡ (rank sp r, j) ∷ seen))
 
-  add : (seen rest : List (ℕ × ℕ)) (pe : Peer) → ((j : ℕ) (r : Path) → pe ≡ peers.Server (ptrs.At (j ∷ r)) → list_any (is_same_place (rank sp r, j)) seen ≡ false) →
+  add : (seen rest : List (ℕ × ℕ)) (pe : Peer) → ((j : ℕ) (r : Path) → pe ≡ peers.Server (ptrs.At (j ∷ r))
+      → list_any (is_same_place (rank sp r, j)) seen ≡ false) →
       ((new : List (ℕ × ℕ)) → Adds seen pe new → are_fresh new rest ≡ true) → are_fresh seen (peer (peer_link sp pe) ++ rest) ≡ true
   add seen rest (peers.Server ptrs.Null) none go = go seen (record { how = inl refl })
   add seen rest (peers.Server ptrs.Dead) none go = go seen (record { how = inl refl })
   add seen rest (peers.Server (ptrs.At [])) none go = go seen (record { how = inl refl })
-  add seen rest (peers.Server (ptrs.At (j ∷ r))) none go = and_from _ _ (ap not (none j r refl)) (go ((rank sp r, j) ∷ seen) (record { how = inr (j, r, refl, refl) }))
+  add seen rest (peers.Server (ptrs.At (j ∷ r))) none go = and_from _ _ (ap not (none j r refl))
+      (go ((rank sp r, j) ∷ seen) (record { how = inr (j, r, refl, refl) }))
   add seen rest (peers.Server (ptrs.Out i)) none go = go seen (record { how = inl refl })
   add seen rest (peers.Server ptrs.Outside) none go = go seen (record { how = inl refl })
   add seen rest (peers.Server ptrs.Far) none go = go seen (record { how = inl refl })
@@ -86,22 +89,30 @@ module _ (c : World) (sp : List Path) (alone : IsAlone c) (its : AreItsSpaces c 
     serves_it : (j : ℕ) (r : Path) → serves (j ∷ r) (peers.Server (ptrs.At (j ∷ r))) ≡ true
     serves_it j r = same_path_refl (j ∷ r)
 
-    services_are : (y : Path) → services c y (k ∷ q) ≡ flag_of (holds (λ (talk : Talk). serves y talk.peer) t.talk) + flag_of (holds (λ (fault : Fault). holds (serves y) fault.taker) t.fault)
-    services_are y = ap (λ o. flag_of (holds (λ (talk : Talk). serves y talk.peer) (and_then (λ (u : Thread). u.talk) (and_then thread_of o))) + flag_of (holds (λ (fault : Fault). holds (serves y) fault.taker) (and_then (λ (u : Thread). u.fault) (and_then thread_of o)))) is
+    services_are : (y : Path) → services c y (k ∷ q)
+        ≡ flag_of (holds (λ (talk : Talk). serves y talk.peer) t.talk) + flag_of (holds (λ (fault : Fault). holds (serves y) fault.taker) t.fault)
+    services_are y = ap (λ o. flag_of (holds (λ (talk : Talk). serves y talk.peer) (and_then (λ (u : Thread). u.talk) (and_then thread_of o))) + flag_of
+        (holds (λ (fault : Fault). holds (serves y) fault.taker) (and_then (λ (u : Thread). u.fault) (and_then thread_of o)))) is
 
-    by_talk : (j : ℕ) (r : Path) (talk : Talk) → t.talk ≡ Some talk → talk.peer ≡ peers.Server (ptrs.At (j ∷ r)) → flag_of (holds (λ (talk : Talk). serves (j ∷ r) talk.peer) t.talk) ≡ 1
-    by_talk j r talk at pe = ap (λ o. flag_of (holds (λ (talk : Talk). serves (j ∷ r) talk.peer) o)) at ∙ ap (λ p. flag_of (serves (j ∷ r) p)) pe ∙ ap flag_of (serves_it j r)
+    by_talk : (j : ℕ) (r : Path) (talk : Talk) → t.talk ≡ Some talk → talk.peer ≡ peers.Server (ptrs.At (j ∷ r))
+        → flag_of (holds (λ (talk : Talk). serves (j ∷ r) talk.peer) t.talk) ≡ 1
+    by_talk j r talk at pe = ap (λ o. flag_of (holds (λ (talk : Talk). serves (j ∷ r) talk.peer) o)) at ∙ ap (λ p. flag_of (serves (j ∷ r) p)) pe
+        ∙ ap flag_of (serves_it j r)
 
-    by_fault : (j : ℕ) (r : Path) (fault : Fault) (taker : Peer) → t.fault ≡ Some fault → fault.taker ≡ Some taker → taker ≡ peers.Server (ptrs.At (j ∷ r)) → flag_of (holds (λ (fault : Fault). holds (serves (j ∷ r)) fault.taker) t.fault) ≡ 1
-    by_fault j r fault taker at some pe = ap (λ o. flag_of (holds (λ (fault : Fault). holds (serves (j ∷ r)) fault.taker) o)) at ∙ ap (λ o. flag_of (holds (serves (j ∷ r)) o)) some ∙ ap (λ p. flag_of (serves (j ∷ r) p)) pe ∙ ap flag_of (serves_it j r)
+    by_fault : (j : ℕ) (r : Path) (fault : Fault) (taker : Peer) → t.fault ≡ Some fault → fault.taker ≡ Some taker → taker ≡ peers.Server (ptrs.At (j ∷ r))
+        → flag_of (holds (λ (fault : Fault). holds (serves (j ∷ r)) fault.taker) t.fault) ≡ 1
+    by_fault j r fault taker at some pe = ap (λ o. flag_of (holds (λ (fault : Fault). holds (serves (j ∷ r)) fault.taker) o)) at
+        ∙ ap (λ o. flag_of (holds (serves (j ∷ r)) o)) some ∙ ap (λ p. flag_of (serves (j ∷ r) p)) pe ∙ ap flag_of (serves_it j r)
 
     served_talk : (j : ℕ) (r : Path) (talk : Talk) → t.talk ≡ Some talk → talk.peer ≡ peers.Server (ptrs.At (j ∷ r)) → 0 < services c (j ∷ r) (k ∷ q)
     served_talk j r talk at pe = let sum = services_are (j ∷ r) in let one = by_talk j r talk at pe in omega (arith, sum, one)
 
-    served_fault : (j : ℕ) (r : Path) (fault : Fault) (taker : Peer) → t.fault ≡ Some fault → fault.taker ≡ Some taker → taker ≡ peers.Server (ptrs.At (j ∷ r)) → 0 < services c (j ∷ r) (k ∷ q)
+    served_fault : (j : ℕ) (r : Path) (fault : Fault) (taker : Peer) → t.fault ≡ Some fault → fault.taker ≡ Some taker
+        → taker ≡ peers.Server (ptrs.At (j ∷ r)) → 0 < services c (j ∷ r) (k ∷ q)
     served_fault j r fault taker at some pe = let sum = services_are (j ∷ r) in let one = by_fault j r fault taker at some pe in omega (arith, sum, one)
 
-    not_both : (j : ℕ) (r : Path) (talk : Talk) (fault : Fault) (taker : Peer) → t.talk ≡ Some talk → talk.peer ≡ peers.Server (ptrs.At (j ∷ r)) → t.fault ≡ Some fault → fault.taker ≡ Some taker → taker ≡ peers.Server (ptrs.At (j ∷ r)) → ⊥
+    not_both : (j : ℕ) (r : Path) (talk : Talk) (fault : Fault) (taker : Peer) → t.talk ≡ Some talk → talk.peer ≡ peers.Server (ptrs.At (j ∷ r))
+        → t.fault ≡ Some fault → fault.taker ≡ Some taker → taker ≡ peers.Server (ptrs.At (j ∷ r)) → ⊥
     not_both j r talk fault taker at pe at2 some pe2 =
         let sum = services_are (j ∷ r) in
         let a = by_talk j r talk at pe in
@@ -109,10 +120,12 @@ module _ (c : World) (sp : List Path) (alone : IsAlone c) (its : AreItsSpaces c 
         let most = once.each (j ∷ r) (k ∷ q) in
         omega (arith, sum, a, b, most)
 
-  in_cons : (p a : ℕ × ℕ) (seen : List (ℕ × ℕ)) → list_any (is_same_place p) (a ∷ seen) ≡ true → ((p.0 ≡ a.0) × (p.1 ≡ a.1)) ⊎ (list_any (is_same_place p) seen ≡ true)
+  in_cons : (p a : ℕ × ℕ) (seen : List (ℕ × ℕ)) → list_any (is_same_place p) (a ∷ seen) ≡ true
+      → ((p.0 ≡ a.0) × (p.1 ≡ a.1)) ⊎ (list_any (is_same_place p) seen ≡ true)
   in_cons p a seen e = by (a.0 == p.0) refl (a.1 == p.1) refl e
     where
-      by : (x : Bool) → (a.0 == p.0) ≡ x → (y : Bool) → (a.1 == p.1) ≡ y → ((x && y) || list_any (is_same_place p) seen) ≡ true → ((p.0 ≡ a.0) × (p.1 ≡ a.1)) ⊎ (list_any (is_same_place p) seen ≡ true)
+      by : (x : Bool) → (a.0 == p.0) ≡ x → (y : Bool) → (a.1 == p.1) ≡ y → ((x && y) || list_any (is_same_place p) seen) ≡ true
+          → ((p.0 ≡ a.0) × (p.1 ≡ a.1)) ⊎ (list_any (is_same_place p) seen ≡ true)
       by true g true h e = inl (sym (eqb-true a.0 p.0 g), sym (eqb-true a.1 p.1 h))
       by true g false h e = inr e
       by false g y h e = inr e
@@ -120,18 +133,42 @@ module _ (c : World) (sp : List Path) (alone : IsAlone c) (its : AreItsSpaces c 
   raise : (n k : ℕ) (seen : List (ℕ × ℕ)) → AllSeen n k seen → AllSeen n (suc k) seen
   raise n k seen all p e =
       let s = all p e in
-      record { slot = s.slot; space = s.space; member = s.member; first = s.first; second = s.second; client = s.client; above = s.above; client_member = s.client_member; served = s.served; early = by s s.early }
+      record {
+        slot = s.slot;
+        space = s.space;
+        member = s.member;
+        first = s.first;
+        second = s.second;
+        client = s.client;
+        above = s.above;
+        client_member = s.client_member;
+        served = s.served;
+        early = by s s.early;
+      }
     where
-      by : (s : SeenBy n k p) → (rank sp s.above < n) ⊎ ((rank sp s.above ≡ n) × (s.client < k)) → (rank sp s.above < n) ⊎ ((rank sp s.above ≡ n) × (s.client < suc k))
+      by : (s : SeenBy n k p) → (rank sp s.above < n) ⊎ ((rank sp s.above ≡ n) × (s.client < k))
+          → (rank sp s.above < n) ⊎ ((rank sp s.above ≡ n) × (s.client < suc k))
       by s (inl lt) = inl lt
       by s (inr h) = let lt = h.1 in inr (h.0, omega (arith, lt))
 
   closed : (n k : ℕ) (seen : List (ℕ × ℕ)) → AllSeen n k seen → AllSeen (suc n) 0 seen
   closed n k seen all p e =
       let s = all p e in
-      record { slot = s.slot; space = s.space; member = s.member; first = s.first; second = s.second; client = s.client; above = s.above; client_member = s.client_member; served = s.served; early = by s s.early }
+      record {
+        slot = s.slot;
+        space = s.space;
+        member = s.member;
+        first = s.first;
+        second = s.second;
+        client = s.client;
+        above = s.above;
+        client_member = s.client_member;
+        served = s.served;
+        early = by s s.early;
+      }
     where
-      by : (s : SeenBy n k p) → (rank sp s.above < n) ⊎ ((rank sp s.above ≡ n) × (s.client < k)) → (rank sp s.above < suc n) ⊎ ((rank sp s.above ≡ suc n) × (s.client < 0))
+      by : (s : SeenBy n k p) → (rank sp s.above < n) ⊎ ((rank sp s.above ≡ n) × (s.client < k))
+          → (rank sp s.above < suc n) ⊎ ((rank sp s.above ≡ suc n) × (s.client < 0))
       by s (inl lt) = inl (omega (arith, lt))
       by s (inr h) = let same = h.0 in inl (omega (arith, same))
 
@@ -146,7 +183,18 @@ module _ (c : World) (sp : List Path) (alone : IsAlone c) (its : AreItsSpaces c 
           one : (p : ℕ × ℕ) → ((p.0 ≡ rank sp h.1) × (p.1 ≡ h.0)) ⊎ (list_any (is_same_place p) seen ≡ true) → SeenBy n (suc k) p
           one p (inl g) =
               let known = of h.0 h.1 h.2 in
-              record { slot = h.0; space = h.1; member = known.0; first = g.0; second = g.1; client = k; above = q; client_member = mq; served = known.1; early = inr (at, omega arith) }
+              record {
+                slot = h.0;
+                space = h.1;
+                member = known.0;
+                first = g.0;
+                second = g.1;
+                client = k;
+                above = q;
+                client_member = mq;
+                served = known.1;
+                early = inr (at, omega arith);
+              }
           one p (inr g) = all p g
 
   peer_member : (port : Ptr) (pe : Peer) (j : ℕ) (r : Path) → IsPeerOf c port pe → pe ≡ peers.Server (ptrs.At (j ∷ r)) → IsMember r
@@ -162,18 +210,21 @@ module _ (c : World) (sp : List Path) (alone : IsAlone c) (its : AreItsSpaces c 
 
   module _ (n k : ℕ) (q : Path) (t : Thread) (mq : IsMember q) (at : rank sp q ≡ n) (is : c.body (k ∷ q) ≡ Some (bodies.Thread_of t)) where
     abbrev NoTaker : List (ℕ × ℕ) → Type 0
-    NoTaker seen = (j : ℕ) (r : Path) (fault : Fault) (taker : Peer) → IsMember r → t.fault ≡ Some fault → fault.taker ≡ Some taker → taker ≡ peers.Server (ptrs.At (j ∷ r)) → list_any (is_same_place (rank sp r, j)) seen ≡ false
+    NoTaker seen = (j : ℕ) (r : Path) (fault : Fault) (taker : Peer) → IsMember r → t.fault ≡ Some fault → fault.taker ≡ Some taker
+        → taker ≡ peers.Server (ptrs.At (j ∷ r)) → list_any (is_same_place (rank sp r, j)) seen ≡ false
 
     no_taker : (seen : List (ℕ × ℕ)) → AllSeen n k seen → NoTaker seen
     no_taker seen all j r fault taker mr f g h = absent n k seen j r q all mr mq at (served_fault k q t mq is j r fault taker f g h)
 
-    no_taker_more : (seen new : List (ℕ × ℕ)) (talk : Talk) → AllSeen n k seen → t.talk ≡ Some talk → IsPeerOf c talk.port talk.peer → Adds seen talk.peer new → NoTaker new
+    no_taker_more : (seen new : List (ℕ × ℕ)) (talk : Talk) → AllSeen n k seen → t.talk ≡ Some talk → IsPeerOf c talk.port talk.peer → Adds seen talk.peer new
+        → NoTaker new
     no_taker_more seen new talk all e led adds j r fault taker mr f g h = by adds.how
       where
         heads : (a b : ℕ) (x y : Path) → a ≡ b → x ≡ y → a ∷ x ≡ b ∷ y
         heads a b x y e f = λ i. e i ∷ f i
 
-        by : (new ≡ seen) ⊎ ((i : ℕ) × (s : Path) × (talk.peer ≡ peers.Server (ptrs.At (i ∷ s))) × (new ≡ (rank sp s, i) ∷ seen)) → list_any (is_same_place (rank sp r, j)) new ≡ false
+        by : (new ≡ seen) ⊎ ((i : ℕ) × (s : Path) × (talk.peer ≡ peers.Server (ptrs.At (i ∷ s))) × (new ≡ (rank sp s, i) ∷ seen))
+            → list_any (is_same_place (rank sp r, j)) new ≡ false
         by (inl same) = ap (list_any (is_same_place (rank sp r, j))) same ∙ no_taker seen all j r fault taker mr f g h
         by (inr u) = ap (list_any (is_same_place (rank sp r, j))) u.3 ∙ false_from_ne_true _ (λ hit. hits (in_cons (rank sp r, j) (rank sp u.1, u.0) seen hit))
           where
@@ -186,15 +237,19 @@ module _ (c : World) (sp : List Path) (alone : IsAlone c) (its : AreItsSpaces c 
                 not_both k q t mq is u.0 u.1 talk fault taker e u.2 f g (h ∙ ap (λ x. peers.Server (ptrs.At x)) (heads j u.0 r u.1 both.1 r_same))
             hits (inr g2) = clash (sym g2 ∙ no_taker seen all j r fault taker mr f g h)
 
-    talk_step : (seen rest : List (ℕ × ℕ)) → AllSeen n k seen → (o : Option Talk) → t.talk ≡ o → IsLedTalk c o → ((new : List (ℕ × ℕ)) → AllSeen n (suc k) new → NoTaker new → are_fresh new rest ≡ true) →
+    talk_step : (seen rest : List (ℕ × ℕ)) → AllSeen n k seen → (o : Option Talk) → t.talk ≡ o → IsLedTalk c o
+        → ((new : List (ℕ × ℕ)) → AllSeen n (suc k) new → NoTaker new → are_fresh new rest ≡ true) →
         are_fresh seen (talk_peers (option_map (talk_rec sp) o) ++ rest) ≡ true
     talk_step seen rest all None e led go = go seen (raise n k seen all) (no_taker seen all)
     talk_step seen rest all (Some talk) e led go =
-        add seen rest talk.peer (λ j r pe. absent n k seen j r q all (peer_member talk.port talk.peer j r led.1 pe) mq at (served_talk k q t mq is j r talk e pe))
-        (λ new adds. go new (grown n k q seen new talk.peer mq at adds (raise n k seen all) (λ j r pe. (peer_member talk.port talk.peer j r led.1 pe, served_talk k q t mq is j r talk e pe)))
+        add seen rest talk.peer (λ j r pe. absent n k seen j r q all (peer_member talk.port talk.peer j r led.1 pe) mq at
+        (served_talk k q t mq is j r talk e pe))
+        (λ new adds. go new (grown n k q seen new talk.peer mq at adds (raise n k seen all)
+        (λ j r pe. (peer_member talk.port talk.peer j r led.1 pe, served_talk k q t mq is j r talk e pe)))
         (no_taker_more seen new talk all e led.1 adds))
 
-    fault_step : (seen rest : List (ℕ × ℕ)) → AllSeen n (suc k) seen → NoTaker seen → (o : Option Fault) → t.fault ≡ o → IsLedFault c o → ((new : List (ℕ × ℕ)) → AllSeen n (suc k) new → are_fresh new rest ≡ true) →
+    fault_step : (seen rest : List (ℕ × ℕ)) → AllSeen n (suc k) seen → NoTaker seen → (o : Option Fault) → t.fault ≡ o → IsLedFault c o
+        → ((new : List (ℕ × ℕ)) → AllSeen n (suc k) new → are_fresh new rest ≡ true) →
         are_fresh seen (fault_peers (option_map (fault_rec sp) o) ++ rest) ≡ true
     fault_step seen rest all none None e led go = go seen all
     fault_step seen rest all none (Some fault) e led go = by fault.taker refl led.1
@@ -203,12 +258,14 @@ module _ (c : World) (sp : List Path) (alone : IsAlone c) (its : AreItsSpaces c 
         by None g led = go seen all
         by (Some taker) g led =
             add seen rest taker (λ j r pe. none j r fault taker (peer_member fault.port taker j r led pe) e g pe)
-            (λ new adds. go new (grown n k q seen new taker mq at adds all (λ j r pe. (peer_member fault.port taker j r led pe, served_fault k q t mq is j r fault taker e g pe))))
+            (λ new adds. go new (grown n k q seen new taker mq at adds all
+            (λ j r pe. (peer_member fault.port taker j r led pe, served_fault k q t mq is j r fault taker e g pe))))
 
   -- ---- objects, and spaces
 
   objects_fresh : (n : ℕ) (q : Path) → IsMember q → rank sp q ≡ n → (count k : ℕ) (seen rest : List (ℕ × ℕ)) → AllSeen n k seen →
-      ((m : ℕ) (new : List (ℕ × ℕ)) → AllSeen n m new → are_fresh new rest ≡ true) → are_fresh seen (flat_map object_peers (objects_from (rec_at c sp q) count k) ++ rest) ≡ true
+      ((m : ℕ) (new : List (ℕ × ℕ)) → AllSeen n m new → are_fresh new rest ≡ true)
+      → are_fresh seen (flat_map object_peers (objects_from (rec_at c sp q) count k) ++ rest) ≡ true
   unfolding objects_from
   objects_fresh n q mq at zero k seen rest all go = go k seen all
   objects_fresh n q mq at (suc count) k seen rest all go = by (c.body (k ∷ q)) refl (λ new ok. objects_fresh n q mq at count (suc k) new rest ok go)
@@ -217,10 +274,13 @@ module _ (c : World) (sp : List Path) (alone : IsAlone c) (its : AreItsSpaces c 
       os = objects_from (rec_at c sp q) count (suc k)
 
       joined : (r : Rec) → flat_map object_peers (record { slot = k; body = r } ∷ os) ++ rest ≡ body_peers r ++ (flat_map object_peers os ++ rest)
-      joined r = ap (λ (ps : List (ℕ × ℕ)). ps ++ rest) (flat_map-cons object_peers (record { slot = k; body = r }) os) ∙ append_assoc (body_peers r) (flat_map object_peers os) rest
+      joined r = ap (λ (ps : List (ℕ × ℕ)). ps ++ rest) (flat_map-cons object_peers (record { slot = k; body = r }) os)
+          ∙ append_assoc (body_peers r) (flat_map object_peers os) rest
 
-      silent : (r : Rec) → body_peers r ≡ [] → ((new : List (ℕ × ℕ)) → AllSeen n (suc k) new → are_fresh new (flat_map object_peers os ++ rest) ≡ true) → are_fresh seen (flat_map object_peers (record { slot = k; body = r } ∷ os) ++ rest) ≡ true
-      silent r none later = ap (are_fresh seen) (joined r ∙ ap (λ (ps : List (ℕ × ℕ)). ps ++ (flat_map object_peers os ++ rest)) none) ∙ later seen (raise n k seen all)
+      silent : (r : Rec) → body_peers r ≡ [] → ((new : List (ℕ × ℕ)) → AllSeen n (suc k) new → are_fresh new (flat_map object_peers os ++ rest) ≡ true)
+          → are_fresh seen (flat_map object_peers (record { slot = k; body = r } ∷ os) ++ rest) ≡ true
+      silent r none later = ap (are_fresh seen) (joined r ∙ ap (λ (ps : List (ℕ × ℕ)). ps ++ (flat_map object_peers os ++ rest)) none)
+          ∙ later seen (raise n k seen all)
 
       by : (o : Option Body) → c.body (k ∷ q) ≡ o → ((new : List (ℕ × ℕ)) → AllSeen n (suc k) new → are_fresh new (flat_map object_peers os ++ rest) ≡ true) →
           are_fresh seen (flat_map object_peers (with_object k (and_then (rec_of sp) o) os) ++ rest) ≡ true
@@ -242,7 +302,8 @@ module _ (c : World) (sp : List Path) (alone : IsAlone c) (its : AreItsSpaces c 
       by (Some bodies.Portset) is later = silent recs.Portset refl later
       by (Some (bodies.Reference to)) is later = silent (recs.Reference (link_of sp to)) refl later
 
-  spaces_fresh : (xs : List Path) (n : ℕ) (seen : List (ℕ × ℕ)) → ((i : ℕ) → slice_get xs i ≡ slice_get sp (n + i)) → AllSeen n 0 seen → are_fresh seen (flat_map space_peers (map (space_rec c sp) xs)) ≡ true
+  spaces_fresh : (xs : List Path) (n : ℕ) (seen : List (ℕ × ℕ)) → ((i : ℕ) → slice_get xs i ≡ slice_get sp (n + i)) → AllSeen n 0 seen
+      → are_fresh seen (flat_map space_peers (map (space_rec c sp) xs)) ≡ true
   spaces_fresh [] n seen agree all = refl
   spaces_fresh (q ∷ xs) n seen agree all =
       let same : n + 0 ≡ n = omega arith in

@@ -36,10 +36,12 @@ unfolding rank
 ranked [] n p e = absurd cc
 ranked (x ∷ sp) n p e = by (same_path x p) refl n e (λ m h. ranked sp m p h)
   where
-    by : (b : Bool) → same_path x p ≡ b → (n : ℕ) → slice_get (x ∷ sp) n ≡ Some p → ((m : ℕ) → slice_get sp m ≡ Some p → (slice_get sp (rank sp p) ≡ Some p) × (rank sp p ≤ m)) →
+    by : (b : Bool) → same_path x p ≡ b → (n : ℕ) → slice_get (x ∷ sp) n ≡ Some p
+        → ((m : ℕ) → slice_get sp m ≡ Some p → (slice_get sp (rank sp p) ≡ Some p) × (rank sp p ≤ m)) →
         (slice_get (x ∷ sp) (cond b 0 (suc (rank sp p))) ≡ Some p) × (cond b 0 (suc (rank sp p)) ≤ n)
     by true same n e rest = (ap (λ (y : Path). Some y) (same_path_eq x p same), omega arith)
-    by false apart zero e rest = let one : x ≡ p = cc in let eq : same_path x p ≡ true = subst (λ y. same_path x y ≡ true) one (same_path_refl x) in absurd (clash (sym eq ∙ apart))
+    by false apart zero e rest = let one : x ≡ p = cc in
+        let eq : same_path x p ≡ true = subst (λ y. same_path x y ≡ true) one (same_path_refl x) in absurd (clash (sym eq ∙ apart))
       where
         clash : true ≡ false → ⊥
         clash e = cc
@@ -64,11 +66,14 @@ rec_found f (suc n) k j le lt = by (f k) refl (cases_lt k j) (λ h. rec_found f 
     none : j ≤ k → rec_in (objects_from f n (suc k)) j ≡ None
     none ge = rec_none f n (suc k) j (omega (arith, ge))
 
-    by : (o : Option Rec) → f k ≡ o → (k < j) ⊎ (j ≤ k) → (suc k ≤ j → rec_in (objects_from f n (suc k)) j ≡ f j) → rec_in (with_object k o (objects_from f n (suc k))) j ≡ f j
+    by : (o : Option Rec) → f k ≡ o → (k < j) ⊎ (j ≤ k) → (suc k ≤ j → rec_in (objects_from f n (suc k)) j ≡ f j)
+        → rec_in (with_object k o (objects_from f n (suc k))) j ≡ f j
     by None e (inl l) rest = rest (omega (arith, l))
     by None e (inr ge) rest = let same : k ≡ j = omega (arith, le, ge) in none ge ∙ sym e ∙ ap f same
-    by (Some r) e (inl l) rest = ap (λ b. cond b (Some r) (rec_in (objects_from f n (suc k)) j)) (ne_eqb k j (λ e. omega (arith, e, l))) ∙ rest (omega (arith, l))
-    by (Some r) e (inr ge) rest = let same : k ≡ j = omega (arith, le, ge) in ap (λ b. cond b (Some r) (rec_in (objects_from f n (suc k)) j)) (eq-eqb k j same) ∙ sym e ∙ ap f same
+    by (Some r) e (inl l) rest = ap (λ b. cond b (Some r) (rec_in (objects_from f n (suc k)) j)) (ne_eqb k j (λ e. omega (arith, e, l)))
+        ∙ rest (omega (arith, l))
+    by (Some r) e (inr ge) rest = let same : k ≡ j = omega (arith, le, ge) in
+        ap (λ b. cond b (Some r) (rec_in (objects_from f n (suc k)) j)) (eq-eqb k j same) ∙ sym e ∙ ap f same
 
 pub rec_past : (f : ℕ → Option Rec) (n k j : ℕ) → k + n ≤ j → rec_in (objects_from f n k) j ≡ None
 unfolding objects_from rec_in
@@ -96,11 +101,14 @@ page_found f (suc n) k j le lt = by (f k) refl (cases_lt k j) (λ h. page_found 
     none : j ≤ k → page_in (pages_from f n (suc k)) j ≡ None
     none ge = page_none f n (suc k) j (omega (arith, ge))
 
-    by : (o : Option (List ℕ)) → f k ≡ o → (k < j) ⊎ (j ≤ k) → (suc k ≤ j → page_in (pages_from f n (suc k)) j ≡ f j) → page_in (with_page k o (pages_from f n (suc k))) j ≡ f j
+    by : (o : Option (List ℕ)) → f k ≡ o → (k < j) ⊎ (j ≤ k) → (suc k ≤ j → page_in (pages_from f n (suc k)) j ≡ f j)
+        → page_in (with_page k o (pages_from f n (suc k))) j ≡ f j
     by None e (inl l) rest = rest (omega (arith, l))
     by None e (inr ge) rest = let same : k ≡ j = omega (arith, le, ge) in none ge ∙ sym e ∙ ap f same
-    by (Some r) e (inl l) rest = ap (λ b. cond b (Some r) (page_in (pages_from f n (suc k)) j)) (ne_eqb k j (λ e. omega (arith, e, l))) ∙ rest (omega (arith, l))
-    by (Some r) e (inr ge) rest = let same : k ≡ j = omega (arith, le, ge) in ap (λ b. cond b (Some r) (page_in (pages_from f n (suc k)) j)) (eq-eqb k j same) ∙ sym e ∙ ap f same
+    by (Some r) e (inl l) rest = ap (λ b. cond b (Some r) (page_in (pages_from f n (suc k)) j)) (ne_eqb k j (λ e. omega (arith, e, l)))
+        ∙ rest (omega (arith, l))
+    by (Some r) e (inr ge) rest = let same : k ≡ j = omega (arith, le, ge) in ap (λ b. cond b (Some r) (page_in (pages_from f n (suc k)) j)) (eq-eqb k j same)
+        ∙ sym e ∙ ap f same
 
 pub page_past : (f : ℕ → Option (List ℕ)) (n k j : ℕ) → k + n ≤ j → page_in (pages_from f n k) j ≡ None
 unfolding pages_from page_in
@@ -230,9 +238,11 @@ module _ (c : World) (sp : List Path) (alone : IsAlone c) (its : AreItsSpaces c 
           let b = made (suc n) t f in
           let u = under m a.path a.at in
           let v = under n b.path b.at in
-          let numbers : u.number ≡ v.number = sym (parent_is m a.path u) ∙ ap (λ (r : SpaceRec). r.parent) a.is ∙ parents ∙ ap (λ (r : SpaceRec). r.parent) (sym b.is) ∙ parent_is n b.path v in
+          let numbers : u.number ≡ v.number = sym (parent_is m a.path u) ∙ ap (λ (r : SpaceRec). r.parent) a.is ∙ parents
+          ∙ ap (λ (r : SpaceRec). r.parent) (sym b.is) ∙ parent_is n b.path v in
           let aboves : u.above ≡ v.above = same_some u.above v.above (slice_get sp v.number) (ap (slice_get sp) (sym numbers) ∙ u.at) v.at in
-          let at : u.slot ≡ v.slot = sym (ap slot_of u.is) ∙ ap (λ (r : SpaceRec). r.slot) a.is ∙ places ∙ ap (λ (r : SpaceRec). r.slot) (sym b.is) ∙ ap slot_of v.is in
+          let at : u.slot ≡ v.slot = sym (ap slot_of u.is) ∙ ap (λ (r : SpaceRec). r.slot) a.is ∙ places ∙ ap (λ (r : SpaceRec). r.slot) (sym b.is)
+          ∙ ap slot_of v.is in
           let paths : a.path ≡ b.path = u.is ∙ ap (λ k. k ∷ u.above) at ∙ ap (λ x. v.slot ∷ x) aboves ∙ sym v.is in
           let same = its.once (suc m) (suc n) b.path (a.at ∙ ap (λ (y : Path). Some y) paths) b.at in
           omega (arith, same)
@@ -302,15 +312,26 @@ module _ (c : World) (sp : List Path) (alone : IsAlone c) (its : AreItsSpaces c 
 
   talk_back : (t : Option Talk) → IsLedTalk c t → option_map (pictured_talk ss) (option_map (talk_rec sp) t) ≡ t
   talk_back None led = refl
-  talk_back (Some t) led = λ i. Some (record { port = link_back t.port led.0 i; peer = peer_back t.port t.peer led.1 i; turn = turn_back t.turn i; moved = t.moved })
+  talk_back (Some t) led = λ i. Some (record {
+    port = link_back t.port led.0 i;
+    peer = peer_back t.port t.peer led.1 i;
+    turn = turn_back t.turn i;
+    moved = t.moved;
+  })
 
-  taker_back : (port : Ptr) (taker : Option Peer) → IsTakenBy c port taker → option_map (λ to. peers.Server (ptr ss to)) (option_map (peer_link sp) taker) ≡ taker
+  taker_back : (port : Ptr) (taker : Option Peer) → IsTakenBy c port taker
+      → option_map (λ to. peers.Server (ptr ss to)) (option_map (peer_link sp) taker) ≡ taker
   taker_back port None led = refl
   taker_back port (Some p) led = ap (λ (q : Peer). Some q) (peer_back port p led)
 
   fault_back : (f : Option Fault) → IsLedFault c f → option_map (pictured_fault ss) (option_map (fault_rec sp) f) ≡ f
   fault_back None led = refl
-  fault_back (Some f) led = λ i. Some (record { page = f.page; write = flag_back f.write i; port = link_back f.port led.0 i; taker = taker_back f.port f.taker led.1 i })
+  fault_back (Some f) led = λ i. Some (record {
+    page = f.page;
+    write = flag_back f.write i;
+    port = link_back f.port led.0 i;
+    taker = taker_back f.port f.taker led.1 i;
+  })
 
   holder_back : (holder : Option Ptr) → IsHeldBy c holder → pictured_holder ss (holder_link sp (Some (bodies.Space 0 holder))) ≡ holder
   holder_back None h = refl
@@ -334,7 +355,8 @@ module _ (c : World) (sp : List Path) (alone : IsAlone c) (its : AreItsSpaces c 
   body_back (bodies.Port set served) led rest inner = λ i. Some (bodies.Port (set_back set i) (sym led i))
   body_back bodies.Portset led rest inner = refl
   body_back (bodies.Space birth holder) led rest inner = inner birth holder refl
-  body_back (bodies.Thread_of t) led rest inner = λ i. Some (bodies.Thread_of (record t { mode = mode_back t.mode led.0 led.1 i; talk = talk_back t.talk led.2 i; fault = fault_back t.fault led.3 i }))
+  body_back (bodies.Thread_of t) led rest inner = λ i. Some
+      (bodies.Thread_of (record t { mode = mode_back t.mode led.0 led.1 i; talk = talk_back t.talk led.2 i; fault = fault_back t.fault led.3 i }))
   body_back (bodies.Reference to) led rest inner = ap (λ p. Some (bodies.Reference p)) (link_back to led)
 
   pub rec_is : (q : Path) (k : ℕ) → rec_in (objects_from (rec_at c sp q) 240 0) k ≡ rec_at c sp q k
@@ -356,7 +378,8 @@ module _ (c : World) (sp : List Path) (alone : IsAlone c) (its : AreItsSpaces c 
   kind_of_body p b e = ap (option_map kind_of) e
 
   -- a space's record tells its holder
-  inner_body : (m k : ℕ) (q : Path) → slice_get sp m ≡ Some q → (birth : ℕ) (holder : Option Ptr) → c.body (k ∷ q) ≡ Some (bodies.Space birth holder) → child_body m k ≡ Some (bodies.Space birth holder)
+  inner_body : (m k : ℕ) (q : Path) → slice_get sp m ≡ Some q → (birth : ℕ) (holder : Option Ptr) → c.body (k ∷ q) ≡ Some (bodies.Space birth holder)
+      → child_body m k ≡ Some (bodies.Space birth holder)
   unfolding child_body
   inner_body m k q at birth holder e =
       let p = k ∷ q in
@@ -371,8 +394,10 @@ module _ (c : World) (sp : List Path) (alone : IsAlone c) (its : AreItsSpaces c 
       held_back birth None h = holder_back None h
       held_back birth (Some p) h = holder_back (Some p) h
 
-      by : (n : ℕ) → slice_get sp n ≡ Some (k ∷ q) → (birth ≡ 0) × IsHeldBy c holder → ((j : ℕ) → slice_get sp (suc j) ≡ Some (k ∷ q) → slice_get ss (suc j) ≡ Some (space_rec c sp (k ∷ q))) →
-          ((j : ℕ) → slice_get ss (suc j) ≡ Some (space_rec c sp (k ∷ q)) → child ss (rank sp q) k ≡ Some (suc j)) → child_body m k ≡ Some (bodies.Space birth holder)
+      by : (n : ℕ) → slice_get sp n ≡ Some (k ∷ q) → (birth ≡ 0) × IsHeldBy c holder
+          → ((j : ℕ) → slice_get sp (suc j) ≡ Some (k ∷ q) → slice_get ss (suc j) ≡ Some (space_rec c sp (k ∷ q))) →
+          ((j : ℕ) → slice_get ss (suc j) ≡ Some (space_rec c sp (k ∷ q)) → child ss (rank sp q) k ≡ Some (suc j))
+          → child_body m k ≡ Some (bodies.Space birth holder)
       by zero found led here child_is = absurd (clash (same_some [] (k ∷ q) (slice_get sp 0) its.first found))
       by (suc j) found led here child_is =
           ap (λ n. and_then (λ number. of_space ss (slice_get ss number)) (child ss n k)) (sym (ranked_is m q at))
@@ -407,9 +432,11 @@ module _ (c : World) (sp : List Path) (alone : IsAlone c) (its : AreItsSpaces c 
   unfolding child_body
   bodies_back k q = by (space_number ss q) refl
     where
-      standing : (m : ℕ) → slice_get sp m ≡ Some q → (o : Option Body) → c.body (k ∷ q) ≡ o → or_else (option_map (pictured_body ss) (and_then (rec_of sp) o)) (child_body m k) ≡ o
+      standing : (m : ℕ) → slice_get sp m ≡ Some q → (o : Option Body) → c.body (k ∷ q) ≡ o
+          → or_else (option_map (pictured_body ss) (and_then (rec_of sp) o)) (child_body m k) ≡ o
       standing m at None e = no_child m k q at e
-      standing m at (Some b) e = body_back b (alone.led (k ∷ q) b e) (child_body m k) (λ birth holder is. inner_body m k q at birth holder (e ∙ ap (λ d. Some d) is) ∙ ap (λ d. Some d) (sym is))
+      standing m at (Some b) e = body_back b (alone.led (k ∷ q) b e) (child_body m k)
+          (λ birth holder is. inner_body m k q at birth holder (e ∙ ap (λ d. Some d) is) ∙ ap (λ d. Some d) (sym is))
 
       by : (o : Option ℕ) → space_number ss q ≡ o → and_then (λ m. pictured_body_in ss m k) o ≡ c.body (k ∷ q)
       by None e = nowhere (c.body (k ∷ q)) refl

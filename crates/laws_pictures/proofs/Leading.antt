@@ -80,7 +80,8 @@ module _ (sp : List Path) where
   thread_told (Some (bodies.Reference to)) e = absurd cc
 
   -- an object that may be referred to, or a space
-  referable_told : (o : Option Body) → is_one_of referable (option_map kind_of o) ≡ true → (is_referable (kind_told o) ≡ true) ⊎ (option_map kind_of o ≡ Some kinds.Space)
+  referable_told : (o : Option Body) → is_one_of referable (option_map kind_of o) ≡ true
+      → (is_referable (kind_told o) ≡ true) ⊎ (option_map kind_of o ≡ Some kinds.Space)
   referable_told None e = absurd cc
   referable_told (Some (bodies.Mutex locked)) e = absurd cc
   referable_told (Some bodies.Cond) e = absurd cc
@@ -103,16 +104,19 @@ any_at test [] i x e t = absurd cc
 any_at test (y ∷ xs) zero x e t = let same : y ≡ x = cc in or_left (test y) (list_any test xs) (ap test same ∙ t)
 any_at test (y ∷ xs) (suc i) x e t = or_right (test y) (list_any test xs) (any_at test xs i x e t)
 
-all_recs : (test : Rec → Bool) (f : ℕ → Option Rec) (n k : ℕ) → ((j : ℕ) (r : Rec) → f j ≡ Some r → test r ≡ true) → list_all (λ (o : ObjectRec). test o.body) (objects_from f n k) ≡ true
+all_recs : (test : Rec → Bool) (f : ℕ → Option Rec) (n k : ℕ) → ((j : ℕ) (r : Rec) → f j ≡ Some r → test r ≡ true)
+    → list_all (λ (o : ObjectRec). test o.body) (objects_from f n k) ≡ true
 unfolding objects_from
 all_recs test f zero k each = refl
 all_recs test f (suc n) k each = by (f k) refl (all_recs test f n (suc k) each)
   where
-    by : (o : Option Rec) → f k ≡ o → list_all (λ (o : ObjectRec). test o.body) (objects_from f n (suc k)) ≡ true → list_all (λ (o : ObjectRec). test o.body) (with_object k o (objects_from f n (suc k))) ≡ true
+    by : (o : Option Rec) → f k ≡ o → list_all (λ (o : ObjectRec). test o.body) (objects_from f n (suc k)) ≡ true
+        → list_all (λ (o : ObjectRec). test o.body) (with_object k o (objects_from f n (suc k))) ≡ true
     by None e rest = rest
     by (Some r) e rest = and_from (test r) _ (each k r e) rest
 
-all_lead_from : (ss : List SpaceRec) (xs : List SpaceRec) (number : ℕ) → ((i : ℕ) (s : SpaceRec) → slice_get xs i ≡ Some s → space_leads ss (number + i) s ≡ true) → spaces_lead ss number xs ≡ true
+all_lead_from : (ss : List SpaceRec) (xs : List SpaceRec) (number : ℕ)
+    → ((i : ℕ) (s : SpaceRec) → slice_get xs i ≡ Some s → space_leads ss (number + i) s ≡ true) → spaces_lead ss number xs ≡ true
 all_lead_from ss [] number each = refl
 all_lead_from ss (x ∷ xs) number each =
     let same : number + 0 ≡ number = omega arith in
@@ -127,9 +131,11 @@ unfolding run_beneath
 beneath_parents space [] i s lt e = absurd cc
 beneath_parents space (x ∷ xs) i s lt e = by (ltb x.parent space) refl i lt e (λ j h g. beneath_parents space xs j s h g)
   where
-    by : (b : Bool) → ltb x.parent space ≡ b → (j : ℕ) → j < cond b 0 (suc (run_beneath space xs)) → slice_get (x ∷ xs) j ≡ Some s → ((j : ℕ) → j < run_beneath space xs → slice_get xs j ≡ Some s → space ≤ s.parent) → space ≤ s.parent
+    by : (b : Bool) → ltb x.parent space ≡ b → (j : ℕ) → j < cond b 0 (suc (run_beneath space xs)) → slice_get (x ∷ xs) j ≡ Some s
+        → ((j : ℕ) → j < run_beneath space xs → slice_get xs j ≡ Some s → space ≤ s.parent) → space ≤ s.parent
     by true p j lt e rest = absurd (omega (arith, lt))
-    by false p zero lt e rest = let same : x ≡ s = cc in let at : x.parent ≡ s.parent = ap (λ (u : SpaceRec). u.parent) same in let le = ltb-false x.parent space p in omega (arith, at, le)
+    by false p zero lt e rest = let same : x ≡ s = cc in let at : x.parent ≡ s.parent = ap (λ (u : SpaceRec). u.parent) same in
+        let le = ltb-false x.parent space p in omega (arith, at, le)
     by false p (suc j) lt e rest = rest j (omega (arith, lt)) e
 
 get_drop : {A : Type 0} (n : ℕ) (xs : List A) (i : ℕ) → slice_get (drop n xs) i ≡ slice_get xs (n + i)
@@ -161,7 +167,8 @@ module _ (c : World) (sp : List Path) (alone : IsAlone c) (its : AreItsSpaces c 
   root_kind = kind_read [] ∙ ap (option_map kind_of) alone.root
 
   -- a pointer to an object of a kind, as its link
-  leads_by : (wanted : List Kind) (test : Option Kind → Bool) → ((o : Option Body) → is_one_of wanted (option_map kind_of o) ≡ true → test (kind_told sp o) ≡ true) →
+  leads_by : (wanted : List Kind) (test : Option Kind → Bool)
+      → ((o : Option Body) → is_one_of wanted (option_map kind_of o) ≡ true → test (kind_told sp o) ≡ true) →
       (k : ℕ) (q : Path) → is_one_of wanted (kind_there c (k ∷ q)) ≡ true → test (kind_in_space ss (rank sp q) k) ≡ true
   leads_by wanted test told k q e =
       ap test (kind_is k q (member_of k q wanted e)) ∙ told (c.body (k ∷ q)) (ap (is_one_of wanted) (sym (kind_read (k ∷ q))) ∙ e)
@@ -211,8 +218,10 @@ module _ (c : World) (sp : List Path) (alone : IsAlone c) (its : AreItsSpaces c 
   refer_leads (ptrs.At []) led e = refl
   refer_leads (ptrs.At (k ∷ q)) led e = by (referable_told sp (c.body (k ∷ q)) (ap (is_one_of referable) (sym (kind_read (k ∷ q))) ∙ e))
     where
-      by : (is_referable (kind_told sp (c.body (k ∷ q))) ≡ true) ⊎ (option_map kind_of (c.body (k ∷ q)) ≡ Some kinds.Space) → (is_referable (kind_in_space ss (rank sp q) k) || has_space_at ss (rank sp q) k) ≡ true
-      by (inl h) = or_left (is_referable (kind_in_space ss (rank sp q) k)) (has_space_at ss (rank sp q) k) (ap is_referable (kind_is k q (member_of k q referable e)) ∙ h)
+      by : (is_referable (kind_told sp (c.body (k ∷ q))) ≡ true) ⊎ (option_map kind_of (c.body (k ∷ q)) ≡ Some kinds.Space)
+          → (is_referable (kind_in_space ss (rank sp q) k) || has_space_at ss (rank sp q) k) ≡ true
+      by (inl h) = or_left (is_referable (kind_in_space ss (rank sp q) k)) (has_space_at ss (rank sp q) k)
+          (ap is_referable (kind_is k q (member_of k q referable e)) ∙ h)
       by (inr h) = or_right (is_referable (kind_in_space ss (rank sp q) k)) (has_space_at ss (rank sp q) k) (space_here k q (kind_read (k ∷ q) ∙ h))
   refer_leads (ptrs.Out i) led e = refl
   refer_leads ptrs.Outside led e = absurd led
@@ -227,7 +236,8 @@ module _ (c : World) (sp : List Path) (alone : IsAlone c) (its : AreItsSpaces c 
   port_leads ptrs.Outside led e = absurd led
   port_leads ptrs.Far led e = absurd led
 
-  peer_leads : (port : Ptr) (peer : Peer) → IsPeerOf c port peer → leads_there (kind_there c) (kinds.Port ∷ []) port ≡ true → is_good_peer (kind_there c) peer ≡ true →
+  peer_leads : (port : Ptr) (peer : Peer) → IsPeerOf c port peer → leads_there (kind_there c) (kinds.Port ∷ []) port ≡ true
+      → is_good_peer (kind_there c) peer ≡ true →
       ((server : Ptr) → peer ≡ peers.Server server → lies_with port server) → serves_port ss (link_of sp port) (peer_link sp peer) ≡ true
   peer_leads (ptrs.Out i) (peers.Server ptrs.Outside) h e g near = refl
   peer_leads (ptrs.Out i) (peers.Server ptrs.Null) h e g near = absurd h
@@ -254,19 +264,22 @@ module _ (c : World) (sp : List Path) (alone : IsAlone c) (its : AreItsSpaces c 
   peer_leads ptrs.Outside peer h e g near = absurd h
   peer_leads ptrs.Far peer h e g near = absurd h
 
-  talk_led : (t : Option Talk) → IsLedTalk c t → all_in (is_good_talk (kind_there c)) t ≡ true → ((talk : Talk) (server : Ptr) → t ≡ Some talk → talk.peer ≡ peers.Server server → lies_with talk.port server) →
+  talk_led : (t : Option Talk) → IsLedTalk c t → all_in (is_good_talk (kind_there c)) t ≡ true
+      → ((talk : Talk) (server : Ptr) → t ≡ Some talk → talk.peer ≡ peers.Server server → lies_with talk.port server) →
       talk_leads ss (option_map (talk_rec sp) t) ≡ true
   talk_led None led e near = refl
   talk_led (Some talk) led e near =
       let both = and_parts (leads_there (kind_there c) (kinds.Port ∷ []) talk.port) (is_good_peer (kind_there c) talk.peer) e in
       and_from _ _ (port_leads talk.port led.0 both.0) (peer_leads talk.port talk.peer led.1 both.0 both.1 (λ server is. near talk server refl is))
 
-  taker_led : (port : Ptr) (taker : Option Peer) → IsTakenBy c port taker → leads_there (kind_there c) (kinds.Port ∷ []) port ≡ true → all_in (is_good_peer (kind_there c)) taker ≡ true →
+  taker_led : (port : Ptr) (taker : Option Peer) → IsTakenBy c port taker → leads_there (kind_there c) (kinds.Port ∷ []) port ≡ true
+      → all_in (is_good_peer (kind_there c)) taker ≡ true →
       ((server : Ptr) → taker ≡ Some (peers.Server server) → lies_with port server) → taker_leads ss (link_of sp port) (option_map (peer_link sp) taker) ≡ true
   taker_led port None led e g near = refl
   taker_led port (Some peer) led e g near = peer_leads port peer led e g (λ server is. near server (ap (λ (p : Peer). Some p) is))
 
-  fault_led : (f : Option Fault) → IsLedFault c f → all_in (is_good_fault (kind_there c)) f ≡ true → ((fault : Fault) (taker : Ptr) → f ≡ Some fault → fault.taker ≡ Some (peers.Server taker) → lies_with fault.port taker) →
+  fault_led : (f : Option Fault) → IsLedFault c f → all_in (is_good_fault (kind_there c)) f ≡ true
+      → ((fault : Fault) (taker : Ptr) → f ≡ Some fault → fault.taker ≡ Some (peers.Server taker) → lies_with fault.port taker) →
       fault_leads ss (option_map (fault_rec sp) f) ≡ true
   fault_led None led e near = refl
   fault_led (Some fault) led e near =
@@ -275,7 +288,8 @@ module _ (c : World) (sp : List Path) (alone : IsAlone c) (its : AreItsSpaces c 
 
   -- ---- objects
 
-  set_leads : (q : Path) (k : ℕ) (set : Option ℕ) (served : Bool) → IsMember q → is_good_set (kind_there c) (k ∷ q) set served ≡ true → is_set_of (objects_from (rec_at c sp q) 240 0) (member_word set) ≡ true
+  set_leads : (q : Path) (k : ℕ) (set : Option ℕ) (served : Bool) → IsMember q → is_good_set (kind_there c) (k ∷ q) set served ≡ true
+      → is_set_of (objects_from (rec_at c sp q) 240 0) (member_word set) ≡ true
   set_leads q k None served m e = refl
   set_leads q k (Some j) served m e =
       let both = and_parts (not served) (is_one_of (kinds.Portset ∷ []) (kind_there c (j ∷ q))) e in
@@ -285,19 +299,23 @@ module _ (c : World) (sp : List Path) (alone : IsAlone c) (its : AreItsSpaces c 
       ∙ ap is_portset_kind (kind_by_rec (objects_from (rec_at c sp q) 240 0) j ∙ ap (option_map kind_of_rec) (rec_is c sp alone its q j))
       ∙ portset_told sp (c.body (j ∷ q)) (ap (is_one_of (kinds.Portset ∷ [])) (sym (kind_read (j ∷ q))) ∙ both.1))
 
-  body_led : (q : Path) (k : ℕ) (b : Body) (r : Rec) → IsMember q → c.body (k ∷ q) ≡ Some b → rec_of sp b ≡ Some r → body_leads ss (objects_from (rec_at c sp q) 240 0) r ≡ true
+  body_led : (q : Path) (k : ℕ) (b : Body) (r : Rec) → IsMember q → c.body (k ∷ q) ≡ Some b → rec_of sp b ≡ Some r
+      → body_leads ss (objects_from (rec_at c sp q) 240 0) r ≡ true
   body_led q k b r m is e = by b (alone.led (k ∷ q) b is) (sound.good (k ∷ q) b is) is e
     where
       made_is : (x y : Rec) → Some x ≡ Some y → x ≡ y
       made_is x y e = cc
 
-      goes : (x : Rec) → Some x ≡ Some r → body_leads ss (objects_from (rec_at c sp q) 240 0) x ≡ true → body_leads ss (objects_from (rec_at c sp q) 240 0) r ≡ true
+      goes : (x : Rec) → Some x ≡ Some r → body_leads ss (objects_from (rec_at c sp q) 240 0) x ≡ true
+          → body_leads ss (objects_from (rec_at c sp q) 240 0) r ≡ true
       goes x e h = subst (λ y. body_leads ss (objects_from (rec_at c sp q) 240 0) y ≡ true) (made_is x r e) h
 
-      by : (b : Body) → IsLedBody c b → is_good (kind_there c) (k ∷ q) b ≡ true → c.body (k ∷ q) ≡ Some b → rec_of sp b ≡ Some r → body_leads ss (objects_from (rec_at c sp q) 240 0) r ≡ true
+      by : (b : Body) → IsLedBody c b → is_good (kind_there c) (k ∷ q) b ≡ true → c.body (k ∷ q) ≡ Some b → rec_of sp b ≡ Some r
+          → body_leads ss (objects_from (rec_at c sp q) 240 0) r ≡ true
       by (bodies.Mutex locked) led good is e = goes _ e refl
       by bodies.Cond led good is e = goes _ e refl
-      by (bodies.Mapping w) led good is e = goes _ e (region_leads w.region led (sound.windows (k ∷ q) w is) (and_parts _ (may_lead (kind_there c) (kinds.Region ∷ []) w.region) good).1)
+      by (bodies.Mapping w) led good is e = goes _ e
+          (region_leads w.region led (sound.windows (k ∷ q) w is) (and_parts _ (may_lead (kind_there c) (kinds.Region ∷ []) w.region) good).1)
       by (bodies.Region w) led good is e = goes _ e (keeper_leads w.keeper led (and_parts _ (may_lead (kind_there c) (kinds.Port ∷ []) w.keeper) good).1)
       by (bodies.Port set served) led good is e = goes _ e (set_leads q k set served m good)
       by bodies.Portset led good is e = goes _ e refl
@@ -305,8 +323,10 @@ module _ (c : World) (sp : List Path) (alone : IsAlone c) (its : AreItsSpaces c 
       by (bodies.Thread_of t) led good is e =
           let both = and_parts (all_in (is_good_talk (kind_there c)) t.talk) (all_in (is_good_fault (kind_there c)) t.fault) good in
           goes _ e (and_from _ _
-          (talk_led t.talk led.2 both.0 (λ talk server at peer. sound.talks_near (k ∷ q) talk server (ap (λ o. and_then (λ (u : Thread). u.talk) (and_then thread_of o)) is ∙ at) peer))
-          (fault_led t.fault led.3 both.1 (λ fault taker at peer. sound.faults_near (k ∷ q) fault taker (ap (λ o. and_then (λ (u : Thread). u.fault) (and_then thread_of o)) is ∙ at) peer)))
+          (talk_led t.talk led.2 both.0 (λ talk server at peer.
+          sound.talks_near (k ∷ q) talk server (ap (λ o. and_then (λ (u : Thread). u.talk) (and_then thread_of o)) is ∙ at) peer))
+          (fault_led t.fault led.3 both.1 (λ fault taker at peer.
+          sound.faults_near (k ∷ q) fault taker (ap (λ o. and_then (λ (u : Thread). u.fault) (and_then thread_of o)) is ∙ at) peer)))
       by (bodies.Reference to) led good is e = goes _ e (refer_leads to led good)
 
   -- ---- holders
@@ -342,7 +362,8 @@ module _ (c : World) (sp : List Path) (alone : IsAlone c) (its : AreItsSpaces c 
       same (Some x) e f = cc
 
       by : (u : Under c sp alone its m q) → (n < suc m) ⊎ (suc m ≤ n) → (n ≤ u.number → u.number < end_of ss n → Within p u.above) → Within p q
-      by u (inr big) rest = let one : suc m ≡ n = omega (arith, ge, big) in record { rest = []; is = same (slice_get sp n) (ap (slice_get sp) (sym one) ∙ at) here }
+      by u (inr big) rest = let one : suc m ≡ n = omega (arith, ge, big) in
+          record { rest = []; is = same (slice_get sp n) (ap (slice_get sp) (sym one) ∙ at) here }
       by u (inl small) rest =
           let end = end_is n in
           let run = run_beneath n (drop (n + 1) ss) in
@@ -370,14 +391,16 @@ module _ (c : World) (sp : List Path) (alone : IsAlone c) (its : AreItsSpaces c 
           clash : true ≡ false → ⊥
           clash e = cc
 
-      held : (birth : ℕ) (y : Path) → c.body p ≡ Some (bodies.Space birth (Some (ptrs.At y))) → is_one_of (kinds.Thread ∷ []) (kind_there c y) ≡ true → may_hold ss n (link_of sp (ptrs.At y)) ≡ true
+      held : (birth : ℕ) (y : Path) → c.body p ≡ Some (bodies.Space birth (Some (ptrs.At y))) → is_one_of (kinds.Thread ∷ []) (kind_there c y) ≡ true
+          → may_hold ss n (link_of sp (ptrs.At y)) ≡ true
       held birth [] is e = absurd (not_root (kinds.Thread ∷ []) refl e)
       held birth (k ∷ q) is e =
           let m = member_of k q (kinds.Thread ∷ []) e in
           and_from _ _ (leads_by (kinds.Thread ∷ []) is_thread_kind (thread_told sp) k q e)
           (outside k q m (sound.holders_outside p (k ∷ q) (ap holder_of is)) (is_space_within ss n (rank sp q)) refl)
 
-      held_by : (birth : ℕ) (h : Ptr) → c.body p ≡ Some (bodies.Space birth (Some h)) → IsHeldBy c (Some h) → is_good (kind_there c) p (bodies.Space birth (Some h)) ≡ true → may_hold ss n (link_of sp h) ≡ true
+      held_by : (birth : ℕ) (h : Ptr) → c.body p ≡ Some (bodies.Space birth (Some h)) → IsHeldBy c (Some h)
+          → is_good (kind_there c) p (bodies.Space birth (Some h)) ≡ true → may_hold ss n (link_of sp h) ≡ true
       held_by birth (ptrs.At y) is led good = held birth y is good
       held_by birth ptrs.Null is led good = absurd led
       held_by birth ptrs.Dead is led good = absurd led
@@ -388,7 +411,8 @@ module _ (c : World) (sp : List Path) (alone : IsAlone c) (its : AreItsSpaces c 
       by : (o : Option Body) → c.body p ≡ o → may_hold ss n (holder_link sp o) ≡ true
       by None is = refl
       by (Some (bodies.Space birth None)) is = refl
-      by (Some (bodies.Space birth (Some h))) is = held_by birth h is (alone.led p (bodies.Space birth (Some h)) is).1 (sound.good p (bodies.Space birth (Some h)) is)
+      by (Some (bodies.Space birth (Some h))) is = held_by birth h is (alone.led p (bodies.Space birth (Some h)) is).1
+          (sound.good p (bodies.Space birth (Some h)) is)
       by (Some (bodies.Mutex locked)) is = refl
       by (Some bodies.Cond) is = refl
       by (Some (bodies.Mapping m)) is = refl

@@ -18,7 +18,8 @@ use Rattle.laws_pictures.proofs.Bodies.{Object, Inner, stands, rising, ranged}
 registers_read : (regs : List ℕ) (number code : ℕ) → length regs ≡ 16 → registers_of (mode regs number code) ≡ regs
 registers_read regs number code long = by (number == 0) (number == 1) (todo_of regs) refl
   where
-    by : (a b : Bool) (o : Option (List Stage)) → todo_of regs ≡ o → registers_of (cond a (modes.Running regs) (cond b (mode_while_calling regs o) (modes.Halted regs code))) ≡ regs
+    by : (a b : Bool) (o : Option (List Stage)) → todo_of regs ≡ o
+        → registers_of (cond a (modes.Running regs) (cond b (mode_while_calling regs o) (modes.Halted regs code))) ≡ regs
     by true b o e = refl
     by false true None e = refl
     by false true (Some todo) e = (todo_writes_back_lem regs todo long e).2
@@ -46,10 +47,12 @@ thread_same t u e = ap (λ (v : Thread). v.mode) (one t u e)
     one : (t u : Thread) → bodies.Thread_of t ≡ bodies.Thread_of u → t ≡ u
     one t u e = cc
 
-thread_words : (ss : List SpaceRec) (t : Thread) (r : Rec) → fits_body r ≡ true → bodies.Thread_of t ≡ pictured_body ss r → list_all is_word (registers_of t.mode) ≡ true
+thread_words : (ss : List SpaceRec) (t : Thread) (r : Rec) → fits_body r ≡ true → bodies.Thread_of t ≡ pictured_body ss r
+    → list_all is_word (registers_of t.mode) ≡ true
 thread_words ss t (recs.Thread u) fits e =
     let both = and_parts (length u.regs == 16) (list_all is_word u.regs) (words_of u fits) in
-    ap (λ m. list_all is_word (registers_of m)) (thread_same t _ e) ∙ ap (list_all is_word) (registers_read u.regs u.mode u.code (eqb-true (length u.regs) 16 both.0)) ∙ both.1
+    ap (λ m. list_all is_word (registers_of m)) (thread_same t _ e)
+    ∙ ap (list_all is_word) (registers_read u.regs u.mode u.code (eqb-true (length u.regs) 16 both.0)) ∙ both.1
 thread_words ss t (recs.Mutex locked) fits e = absurd cc
 thread_words ss t recs.Cond fits e = absurd cc
 thread_words ss t recs.Portset fits e = absurd cc
@@ -64,5 +67,6 @@ pictures_have_words i [] t valid e = absurd cc
 pictures_have_words i (k ∷ q) t valid e = let good = valid_is_tree i valid in by (stands i.spaces good.0 k q (bodies.Thread_of t) e)
   where
     by : Object i.spaces k q (bodies.Thread_of t) ⊎ Inner i.spaces k q (bodies.Thread_of t) → list_all is_word (registers_of t.mode) ≡ true
-    by (inl o) = let full = (valid_is_tree i valid).1 in thread_words i.spaces t o.body (ranged 0 o.space.objects k o.body (rising o.space.objects (full.objects o.number o.space o.here)) o.there).fits o.is
+    by (inl o) = let full = (valid_is_tree i valid).1 in
+        thread_words i.spaces t o.body (ranged 0 o.space.objects k o.body (rising o.space.objects (full.objects o.number o.space o.here)) o.there).fits o.is
     by (inr s) = let is = s.is in absurd cc

@@ -49,7 +49,8 @@ child_is number (s ∷ ss) space slot n e = by (s.parent == space) refl (s.slot 
     later : Child (number + 1) ss space slot n → Child number (s ∷ ss) space slot n
     later r = let is = r.sum in record { at = suc r.at; child = r.child; here = r.here; sum = omega (arith, is); parent = r.parent; place = r.place }
 
-    by : (a : Bool) → (s.parent == space) ≡ a → (b : Bool) → (s.slot == slot) ≡ b → (child_from (number + 1) ss space slot ≡ Some n → Child (number + 1) ss space slot n) →
+    by : (a : Bool) → (s.parent == space) ≡ a → (b : Bool) → (s.slot == slot) ≡ b
+        → (child_from (number + 1) ss space slot ≡ Some n → Child (number + 1) ss space slot n) →
         cond (a && b) (Some number) (child_from (number + 1) ss space slot) ≡ Some n → Child number (s ∷ ss) space slot n
     by true p true q rest e =
         let same : number ≡ n = cc in
@@ -65,7 +66,8 @@ child_there number (t ∷ xs) zero s e =
     rw (eq-eqb t.parent s.parent (ap (λ (u : SpaceRec). u.parent) same), eq-eqb t.slot s.slot (ap (λ (u : SpaceRec). u.slot) same)) refl
 child_there number (t ∷ xs) (suc i) s e = by (lies_in s.parent s.slot t) (child_there (number + 1) xs i s e)
   where
-    by : (b : Bool) → is_some (child_from (number + 1) xs s.parent s.slot) ≡ true → is_some (cond b (Some number) (child_from (number + 1) xs s.parent s.slot)) ≡ true
+    by : (b : Bool) → is_some (child_from (number + 1) xs s.parent s.slot) ≡ true
+        → is_some (cond b (Some number) (child_from (number + 1) xs s.parent s.slot)) ≡ true
     by true is = refl
     by false is = is
 
@@ -110,7 +112,8 @@ module _ (ss : List SpaceRec) (tree : IsTree ss) where
       none (suc d) = refl
   fuel zero e (suc n) p q = absurd (omega (arith, p))
   fuel (suc d) zero (suc n) p q = absurd (omega (arith, q))
-  fuel (suc d) (suc e) (suc n) p q = up_is d n ∙ by (slice_get ss (suc n)) refl (λ m le. fuel d e m (omega (arith, le, p)) (omega (arith, le, q))) ∙ sym (up_is e n)
+  fuel (suc d) (suc e) (suc n) p q = up_is d n ∙ by (slice_get ss (suc n)) refl (λ m le. fuel d e m (omega (arith, le, p)) (omega (arith, le, q)))
+      ∙ sym (up_is e n)
     where
       by : (o : Option SpaceRec) → slice_get ss (suc n) ≡ o → ((m : ℕ) → m ≤ n → path_within d ss m ≡ path_within e ss m) → up d o ≡ up e o
       by None is rest = refl
@@ -127,7 +130,8 @@ module _ (ss : List SpaceRec) (tree : IsTree ss) where
       let s = item_of (slice_get ss (suc n)) is in
       let low = tree.low n s.item s.is in
       ap (space_number ss) (path_up n s.item s.is)
-      ∙ ap (and_then (λ m. child ss m s.item.slot)) (number_by d s.item.parent (omega (arith, low, le)) (there_below ss s.item.parent (suc n) (omega (arith, low)) is))
+      ∙ ap (and_then (λ m. child ss m s.item.slot))
+      (number_by d s.item.parent (omega (arith, low, le)) (there_below ss s.item.parent (suc n) (omega (arith, low)) is))
       ∙ child_of n s.item s.is
 
   pub number_of : (n : ℕ) → is_some (slice_get ss n) ≡ true → space_number ss (space_path ss n) ≡ Some n
@@ -138,7 +142,8 @@ module _ (ss : List SpaceRec) (tree : IsTree ss) where
   path_of [] n e = let zeroth : n ≡ 0 = cc in (rw zeroth tree.top, rw zeroth refl)
   path_of (k ∷ x) n e = by (space_number ss x) refl (path_of x) e
     where
-      by : (o : Option ℕ) → space_number ss x ≡ o → ((m : ℕ) → space_number ss x ≡ Some m → (is_some (slice_get ss m) ≡ true) × (space_path ss m ≡ x)) → and_then (λ m. child ss m k) o ≡ Some n → (is_some (slice_get ss n) ≡ true) × (space_path ss n ≡ k ∷ x)
+      by : (o : Option ℕ) → space_number ss x ≡ o → ((m : ℕ) → space_number ss x ≡ Some m → (is_some (slice_get ss m) ≡ true) × (space_path ss m ≡ x))
+          → and_then (λ m. child ss m k) o ≡ Some n → (is_some (slice_get ss n) ≡ true) × (space_path ss n ≡ k ∷ x)
       by None is rest e = absurd cc
       by (Some m) is rest e =
           let above = rest m is in

@@ -34,7 +34,8 @@ module _ (w : World) (nester : Path) (slot : ℕ) (it : IsSavedSubtree w nester 
   abbrev c : World
   c = cut w nester slot
 
-  serves_seen : (y : Path) (out : Bool) (peer : Peer) → serves y (cut_peer (ports_of w nester slot) nester slot out peer) ≡ true → serves (y ++ root) peer ≡ true
+  serves_seen : (y : Path) (out : Bool) (peer : Peer) → serves y (cut_peer (ports_of w nester slot) nester slot out peer) ≡ true
+      → serves (y ++ root) peer ≡ true
   serves_seen y true peer e = absurd cc
   serves_seen y false (peers.Server p) e =
       let at = see_at w nester slot it p y (leads_to_at y (cut_ptr (ports_of w nester slot) nester slot p) e) in
@@ -42,15 +43,19 @@ module _ (w : World) (nester : Path) (slot : ℕ) (it : IsSavedSubtree w nester 
   serves_seen y false peers.Service e = absurd cc
   serves_seen y false peers.Parked e = absurd cc
 
-  talk_seen : (y : Path) (o : Option Talk) → holds (λ (talk : Talk). serves y talk.peer) (and_then (cutting (ports_of w nester slot) nester slot).talk o) ≡ true → holds (λ (talk : Talk). serves (y ++ root) talk.peer) o ≡ true
+  talk_seen : (y : Path) (o : Option Talk) → holds (λ (talk : Talk). serves y talk.peer) (and_then (cutting (ports_of w nester slot) nester slot).talk o)
+      ≡ true → holds (λ (talk : Talk). serves (y ++ root) talk.peer) o ≡ true
   talk_seen y None e = absurd cc
   talk_seen y (Some talk) e = serves_seen y (is_out (cut_ptr (ports_of w nester slot) nester slot talk.port)) talk.peer e
 
-  fault_seen : (y : Path) (o : Option Fault) → holds (λ (fault : Fault). holds (serves y) fault.taker) (and_then (cutting (ports_of w nester slot) nester slot).fault o) ≡ true → holds (λ (fault : Fault). holds (serves (y ++ root)) fault.taker) o ≡ true
+  fault_seen : (y : Path) (o : Option Fault) → holds (λ (fault : Fault). holds (serves y) fault.taker)
+      (and_then (cutting (ports_of w nester slot) nester slot).fault o) ≡ true → holds (λ (fault : Fault). holds (serves (y ++ root)) fault.taker) o ≡ true
   fault_seen y None e = absurd cc
   fault_seen y (Some fault) e = by fault.taker e
     where
-      by : (o : Option Peer) → holds (serves y) (option_map (cut_peer (ports_of w nester slot) nester slot (is_out (cut_ptr (ports_of w nester slot) nester slot fault.port))) o) ≡ true → holds (serves (y ++ root)) o ≡ true
+      by : (o : Option Peer) → holds (serves y) (option_map
+          (cut_peer (ports_of w nester slot) nester slot (is_out (cut_ptr (ports_of w nester slot) nester slot fault.port))) o) ≡ true
+          → holds (serves (y ++ root)) o ≡ true
       by None e = absurd cc
       by (Some peer) e = serves_seen y (is_out (cut_ptr (ports_of w nester slot) nester slot fault.port)) peer e
 
@@ -85,7 +90,8 @@ module _ (w : World) (nester : Path) (slot : ℕ) (it : IsSavedSubtree w nester 
   fault_by y (bodies.Reference to) e = absurd cc
 
   -- what holds of a body's threads inside holds of the world's
-  carried : (test new : Option Body → Bool) → test None ≡ false → test (Some (bodies.Space 0 None)) ≡ false → ((d : Body) → test (Some (seen_by (cutting (ports_of w nester slot) nester slot) d)) ≡ true → new (Some d) ≡ true) →
+  carried : (test new : Option Body → Bool) → test None ≡ false → test (Some (bodies.Space 0 None)) ≡ false
+      → ((d : Body) → test (Some (seen_by (cutting (ports_of w nester slot) nester slot) d)) ≡ true → new (Some d) ≡ true) →
       (x : Path) → test (c.body x) ≡ true → new (w.body (x ++ root)) ≡ true
   carried test new none top each [] e = absurd (clash (sym e ∙ ap test (top_is w nester slot it) ∙ top))
     where
@@ -107,7 +113,8 @@ module _ (w : World) (nester : Path) (slot : ℕ) (it : IsSavedSubtree w nester 
   pub serves_once : ServesOnce c
   serves_once = record {
     one = λ server x y p q. (let a = fewer server x in let b = fewer server y in
-        append_cancel_right x y root (it.whole.valid.consistent.one_service (server ++ root) (x ++ root) (y ++ root) (omega (arith, a, p)) (omega (arith, b, q))));
+        append_cancel_right x y root (it.whole.valid.consistent.one_service (server ++ root) (x ++ root) (y ++ root) (omega (arith, a, p))
+        (omega (arith, b, q))));
     each = λ server x. (let a = fewer server x in let b = it.whole.valid.consistent.one_each (server ++ root) (x ++ root) in omega (arith, a, b));
   }
 

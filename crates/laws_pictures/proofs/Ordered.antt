@@ -29,7 +29,8 @@ module _ (c : World) (sp : List Path) (alone : IsAlone c) (its : AreItsSpaces c 
   link_fits ptrs.Null led = refl
   link_fits ptrs.Dead led = refl
   link_fits (ptrs.At []) led = refl
-  link_fits (ptrs.At (k ∷ q)) led = and_from _ _ (lt-ltb (rank sp q) (2 ^ 32) (in_range q (its.all q (alone.parents k q led)))) (lt-ltb k 240 (alone.slots k q led))
+  link_fits (ptrs.At (k ∷ q)) led = and_from _ _ (lt-ltb (rank sp q) (2 ^ 32) (in_range q (its.all q (alone.parents k q led))))
+      (lt-ltb k 240 (alone.slots k q led))
   link_fits (ptrs.Out i) led = lt-ltb i 240 (omega (arith, led))
   link_fits ptrs.Outside led = refl
   link_fits ptrs.Far led = refl
@@ -60,10 +61,12 @@ module _ (c : World) (sp : List Path) (alone : IsAlone c) (its : AreItsSpaces c 
   from_here [] floor = ap (λ b. cond b (opens [] floor) []) (eq-eqb (rank sp []) (rank sp []) refl)
   from_here (j ∷ q) floor = ap (λ b. cond b (opens (j ∷ q) floor) (from (rank sp (j ∷ q)) (opens q (j + 1)))) (eq-eqb (rank sp (j ∷ q)) (rank sp (j ∷ q)) refl)
 
-  from_above : (z : Path) (j : ℕ) (q : Path) (floor : ℕ) → ((y x : Path) → z ++ (j ∷ q) ≡ y ++ x → IsMember x) → from (rank sp q) (opens (z ++ (j ∷ q)) floor) ≡ opens q (j + 1)
+  from_above : (z : Path) (j : ℕ) (q : Path) (floor : ℕ) → ((y x : Path) → z ++ (j ∷ q) ≡ y ++ x → IsMember x)
+      → from (rank sp q) (opens (z ++ (j ∷ q)) floor) ≡ opens q (j + 1)
   unfolding from opens
   from_above [] j q floor all =
-      ap (λ b. cond b (opens (j ∷ q) floor) (from (rank sp q) (opens q (j + 1)))) (ne_eqb (rank sp (j ∷ q)) (rank sp q) (λ e. longer (same_rank (j ∷ q) q (all [] (j ∷ q) refl) (all (j ∷ []) q refl) e)))
+      ap (λ b. cond b (opens (j ∷ q) floor) (from (rank sp q) (opens q (j + 1))))
+      (ne_eqb (rank sp (j ∷ q)) (rank sp q) (λ e. longer (same_rank (j ∷ q) q (all [] (j ∷ q) refl) (all (j ∷ []) q refl) e)))
       ∙ from_here q (j + 1)
     where
       longer : j ∷ q ≡ q → ⊥
@@ -71,7 +74,8 @@ module _ (c : World) (sp : List Path) (alone : IsAlone c) (its : AreItsSpaces c 
   from_above (i ∷ z) j q floor all =
       let top = i ∷ (z ++ (j ∷ q)) in
       ap (λ b. cond b (opens top floor) (from (rank sp q) (opens (z ++ (j ∷ q)) (i + 1))))
-      (ne_eqb (rank sp top) (rank sp q) (λ e. longer (same_rank top q (all [] top refl) (all (i ∷ (z ++ (j ∷ []))) q (ap (λ x. i ∷ x) (sym (append_assoc z (j ∷ []) q)))) e)))
+      (ne_eqb (rank sp top) (rank sp q) (λ e. longer
+      (same_rank top q (all [] top refl) (all (i ∷ (z ++ (j ∷ []))) q (ap (λ x. i ∷ x) (sym (append_assoc z (j ∷ []) q)))) e)))
       ∙ from_above z j q (i + 1) (λ y x e. all (i ∷ y) x (ap (λ w. i ∷ w) e))
     where
       longer : i ∷ (z ++ (j ∷ q)) ≡ q → ⊥
@@ -153,7 +157,15 @@ module _ (c : World) (sp : List Path) (alone : IsAlone c) (its : AreItsSpaces c 
       let m = (ranked sp b.number q b.at).0 in
       let below = (ranked sp b.number q b.at).1 in
       let under = b.le in
-      record { floor = 0; le = omega arith; from_is = ap (λ x. from (rank sp q) (opens x 0)) same ∙ from_here q 0; member = m; low = there_low sp (rank sp q) q m; early = omega (arith, below, under) }
+      record {
+        floor = 0;
+        le = omega arith;
+        from_is = ap (λ x. from (rank sp q) (opens x 0)) same
+            ∙ from_here q 0;
+        member = m;
+        low = there_low sp (rank sp q) q m;
+        early = omega (arith, below, under);
+      }
   room n l k q at (inr h) =
       let all : (y x : Path) → h.0 ++ (h.1 ∷ q) ≡ y ++ x → IsMember x =
       λ y x e. (let b = before c sp alone its n y x (at ∙ ap (λ (w : Path). Some w) (h.2 ∙ e)) in (ranked sp b.number x b.at).0) in
@@ -184,7 +196,8 @@ module _ (c : World) (sp : List Path) (alone : IsAlone c) (its : AreItsSpaces c 
   unfolding opens
   in_order [] d ds n l parts long at = refl
   in_order (p ∷ rest) d ds n l parts long at = by p here (its.order n l p at here) parts
-      (λ q' parts'. in_order rest d (ds ++ q' ∷ []) (suc n) q' (parts' ∙ sym (append_assoc (d ∷ ds) (q' ∷ []) rest)) (length-append (d ∷ ds) (q' ∷ []) ∙ more) (here_of q' parts'))
+      (λ q' parts'. in_order rest d (ds ++ q' ∷ []) (suc n) q' (parts' ∙ sym (append_assoc (d ∷ ds) (q' ∷ []) rest)) (length-append (d ∷ ds) (q' ∷ []) ∙ more)
+      (here_of q' parts'))
     where
       more : length (d ∷ ds) + 1 ≡ suc (suc n)
       more = omega (arith, long)
@@ -212,16 +225,20 @@ module _ (c : World) (sp : List Path) (alone : IsAlone c) (its : AreItsSpaces c 
           let early = r.early in
           let short : rank sp q < length (d ∷ ds) = omega (arith, early, long) in
           let rec_there : slice_get done (rank sp q) ≡ Some (f q) =
-          get_map f (d ∷ ds) (rank sp q) ∙ ap (option_map f) (sym (get_before (d ∷ ds) ((k ∷ q) ∷ rest) (rank sp q) short) ∙ ap (λ xs. slice_get xs (rank sp q)) (sym parts) ∙ r.member) in
+          get_map f (d ∷ ds) (rank sp q) ∙ ap (option_map f) (sym (get_before (d ∷ ds) ((k ∷ q) ∷ rest) (rank sp q) short)
+          ∙ ap (λ xs. slice_get xs (rank sp q)) (sym parts) ∙ r.member) in
           let none : kind_in_space done (rank sp q) k ≡ None = ap (kind_of_space k) rec_there ∙ no_object k q kind in
           let low = r.low in
           let next : is_next done (opens l 0) (f (k ∷ q)) ≡ true =
-          and_from _ _ (and_from _ _ (and_from _ _ (and_from _ _ (lt-ltb (rank sp q) (2 ^ 32) (omega (arith, low, few))) (lt-ltb k 240 (alone.slots k q some))) (has_room_from (room_under (opens l 0) (rank sp q)) r.floor k floor_is r.le)) (free (kind_in_space done (rank sp q) k) none))
+          and_from _ _ (and_from _ _ (and_from _ _
+          (and_from _ _ (lt-ltb (rank sp q) (2 ^ 32) (omega (arith, low, few))) (lt-ltb k 240 (alone.slots k q some)))
+          (has_room_from (room_under (opens l 0) (rank sp q)) r.floor k floor_is r.le)) (free (kind_in_space done (rank sp q) k) none))
           (holder_fits (c.body (k ∷ q)) (λ b e. alone.led (k ∷ q) b e)) in
           let fits = and_from _ _ (and_from _ _ next (full (k ∷ q)).0) (full (k ∷ q)).1 in
           let count : length done ≡ rank sp (k ∷ q) = mapped_long (d ∷ ds) ∙ long ∙ sym (ranked_is c sp alone its (suc n) (k ∷ q) here) in
           let path : path_after done (f (k ∷ q)) (opens l 0) ≡ opens (k ∷ q) 0 =
-          ap (after_entering (length done) k) r.from_is ∙ enters (length done) k q r.floor ∙ ap (λ m. record { space = m; floor = 0 } ∷ opens q (k + 1)) count in
+          ap (after_entering (length done) k) r.from_is ∙ enters (length done) k q r.floor
+          ∙ ap (λ m. record { space = m; floor = 0 } ∷ opens q (k + 1)) count in
           let goes : all_from after_space fits_space (after_space (done, opens l 0) (f (k ∷ q))) (map f rest) ≡ true =
           ap (λ x. all_from after_space fits_space (done ++ f (k ∷ q) ∷ [], x) (map f rest)) path
           ∙ ap (λ xs. all_from after_space fits_space (xs, opens (k ∷ q) 0) (map f rest)) (sym (map-append f (d ∷ ds) ((k ∷ q) ∷ [])))
@@ -238,12 +255,14 @@ module _ (c : World) (sp : List Path) (alone : IsAlone c) (its : AreItsSpaces c 
       let first : d ≡ [] = first_is (sym (ap (λ xs. slice_get xs 0) e) ∙ its.first) in
       let long : length sp ≡ suc (length rest) = ap length e in
       let mapped = mapped_long rest in
-      let null : is_null (holder_link sp (c.body d)) ≡ true = ap (λ p. is_null (holder_link sp (c.body p))) first ∙ ap (λ o. is_null (holder_link sp o)) alone.root in
+      let null : is_null (holder_link sp (c.body d)) ≡ true = ap (λ p. is_null (holder_link sp (c.body p))) first
+      ∙ ap (λ o. is_null (holder_link sp o)) alone.root in
       let top : is_first (f d) ≡ true = subst (λ p. is_null (holder_link sp (c.body p)) ≡ true → is_first (f p) ≡ true) (sym first) (λ h. h) null in
       let fits = and_from _ _ (and_from _ _ top (full d).0) (full d).1 in
       let root : opens [] 0 ≡ root_path = ap (λ n. record { space = n; floor = 0 } ∷ []) (ranked_is c sp alone its 0 [] its.first) in
       let goes = ap (λ x. all_from after_space fits_space (f d ∷ [], x) (map f rest)) (sym root) ∙ in_order rest d [] 0 [] e refl its.first in
-      and_from _ _ (and_from _ _ (lt-ltb 0 (length (map f (d ∷ rest))) (omega arith)) (lt-ltb (length (map f (d ∷ rest))) (2 ^ 32) (omega (arith, mapped, long, few)))) (and_from _ _ fits goes)
+      and_from _ _ (and_from _ _ (lt-ltb 0 (length (map f (d ∷ rest))) (omega arith))
+      (lt-ltb (length (map f (d ∷ rest))) (2 ^ 32) (omega (arith, mapped, long, few)))) (and_from _ _ fits goes)
     where
       first_is : Some d ≡ Some [] → d ≡ []
       first_is e = cc

@@ -95,7 +95,8 @@ module _ (w : World) (nester : Path) (slot : ℕ) (it : IsSavedSubtree w nester 
   port_low : (i : ℕ) → ports_of w nester slot i ≡ true → i ≤ LAST_USER_SLOT
   port_low i e = by (w.body (i ∷ nester)) refl (and_parts (not (i == slot)) (is_port (w.body (i ∷ nester))) e).1
     where
-      at_most : (b : Body) → is_some (port_of b) ≡ true → (low scratch porter : Bool) → cond low (not (is_native b)) (cond scratch (is_some (reference_of b)) (porter && is_native b)) ≡ true → low ≡ true
+      at_most : (b : Body) → is_some (port_of b) ≡ true → (low scratch porter : Bool)
+          → cond low (not (is_native b)) (cond scratch (is_some (reference_of b)) (porter && is_native b)) ≡ true → low ≡ true
       at_most (bodies.Port set served) p true scratch porter e = refl
       at_most (bodies.Port set served) p false true porter e = absurd cc
       at_most (bodies.Port set served) p false false true e = absurd cc
@@ -122,13 +123,15 @@ module _ (w : World) (nester : Path) (slot : ℕ) (it : IsSavedSubtree w nester 
 
       by : (o : Option Body) → w.body (i ∷ nester) ≡ o → is_port o ≡ true → i ≤ LAST_USER_SLOT
       by None is e = absurd cc
-      by (Some b) is e = leb-true i LAST_USER_SLOT (at_most b (is_a b e) (leb i LAST_USER_SLOT) (leb i LAST_SCRATCH_SLOT) (i == LAST_PORTER_SLOT) (it.savable.slots_kept i nester b is))
+      by (Some b) is e = leb-true i LAST_USER_SLOT
+          (at_most b (is_a b e) (leb i LAST_USER_SLOT) (leb i LAST_SCRATCH_SLOT) (i == LAST_PORTER_SLOT) (it.savable.slots_kept i nester b is))
 
   record Led (wanted : List Kind) (p : Ptr) : Type 0 where
     pub led : IsLed c p
     pub leads : may_lead (kind_there c) wanted p ≡ true
 
-  out_led : (wanted : List Kind) (x : Path) → is_far (cut_out (ports_of w nester slot) nester x) ≡ false → Led wanted (cut_out (ports_of w nester slot) nester x)
+  out_led : (wanted : List Kind) (x : Path) → is_far (cut_out (ports_of w nester slot) nester x) ≡ false
+      → Led wanted (cut_out (ports_of w nester slot) nester x)
   out_led wanted [] near = absurd cc
   out_led wanted (i ∷ x) near = by (same_path x nester) (ports_of w nester slot i) refl near
     where
@@ -142,10 +145,15 @@ module _ (w : World) (nester : Path) (slot : ℕ) (it : IsSavedSubtree w nester 
   ptr_led wanted ptrs.Dead good real near = record { led = tt; leads = refl }
   ptr_led wanted (ptrs.At x) good real near = by (strip root x) refl near
     where
-      by : (o : Option Path) → strip root x ≡ o → is_far (cut_to (ports_of w nester slot) nester x o) ≡ false → Led wanted (cut_to (ports_of w nester slot) nester x o)
+      by : (o : Option Path) → strip root x ≡ o → is_far (cut_to (ports_of w nester slot) nester x o) ≡ false
+          → Led wanted (cut_to (ports_of w nester slot) nester x o)
       by (Some q) e far =
           let is = strip_some root x q e in
-          record { led = some_same q ∙ ap (λ y. is_some (w.body y)) (sym is) ∙ kind_some wanted x good; leads = ap (is_one_of wanted) (kind_same q ∙ ap (kind_there w) (sym is)) ∙ good }
+          record {
+            led = some_same q ∙ ap (λ y. is_some (w.body y)) (sym is)
+                ∙ kind_some wanted x good;
+            leads = ap (is_one_of wanted) (kind_same q ∙ ap (kind_there w) (sym is)) ∙ good;
+          }
       by None e far = out_led wanted x far
   ptr_led wanted (ptrs.Out i) good real near = absurd cc
   ptr_led wanted ptrs.Outside good real near = absurd cc
@@ -169,7 +177,8 @@ module _ (w : World) (nester : Path) (slot : ℕ) (it : IsSavedSubtree w nester 
       clash : true ≡ false → ⊥
       clash e = cc
 
-  serves_here : (k : ℕ) (q : Path) (r : Ptr) → is_one_of (kinds.Port ∷ []) (kind_there w (k ∷ (q ++ root))) ≡ true → (j : ℕ) → is_one_of (kinds.Thread ∷ []) (kind_there w (j ∷ (q ++ root))) ≡ true → r ≡ ptrs.At (j ∷ q) → PairOf (ptrs.At (k ∷ q)) (peers.Server r)
+  serves_here : (k : ℕ) (q : Path) (r : Ptr) → is_one_of (kinds.Port ∷ []) (kind_there w (k ∷ (q ++ root))) ≡ true → (j : ℕ)
+      → is_one_of (kinds.Thread ∷ []) (kind_there w (j ∷ (q ++ root))) ≡ true → r ≡ ptrs.At (j ∷ q) → PairOf (ptrs.At (k ∷ q)) (peers.Server r)
   serves_here k q r port j thread e = subst (λ s. PairOf (ptrs.At (k ∷ q)) (peers.Server s)) (sym e) (record {
     led = some_same (k ∷ q) ∙ kind_some (kinds.Port ∷ []) (k ∷ (q ++ root)) port;
     leads = ap (is_one_of (kinds.Port ∷ [])) (kind_same (k ∷ q)) ∙ port;
@@ -181,14 +190,17 @@ module _ (w : World) (nester : Path) (slot : ℕ) (it : IsSavedSubtree w nester 
       one : (a b : Ptr) → peers.Server a ≡ peers.Server b → a ≡ b
       one a b e = cc
 
-  pair_inside : (k : ℕ) (q : Path) (peer : Peer) → is_one_of (kinds.Port ∷ []) (kind_there w (k ∷ (q ++ root))) ≡ true → is_good_peer (kind_there w) peer ≡ true → list_any is_cut_pointer (peer_pointer peer) ≡ false →
-      ((server : Ptr) → peer ≡ peers.Server server → lies_with (ptrs.At (k ∷ (q ++ root))) server) → is_placed w (ptrs.At (k ∷ (q ++ root))) peer ≡ true → PairOf (ptrs.At (k ∷ q)) (cut_peer (ports_of w nester slot) nester slot false peer)
+  pair_inside : (k : ℕ) (q : Path) (peer : Peer) → is_one_of (kinds.Port ∷ []) (kind_there w (k ∷ (q ++ root))) ≡ true
+      → is_good_peer (kind_there w) peer ≡ true → list_any is_cut_pointer (peer_pointer peer) ≡ false →
+      ((server : Ptr) → peer ≡ peers.Server server → lies_with (ptrs.At (k ∷ (q ++ root))) server) → is_placed w (ptrs.At (k ∷ (q ++ root))) peer ≡ true
+      → PairOf (ptrs.At (k ∷ q)) (cut_peer (ports_of w nester slot) nester slot false peer)
   pair_inside k q (peers.Server ptrs.Null) port good real lies placed = absurd cc
   pair_inside k q (peers.Server ptrs.Dead) port good real lies placed = absurd cc
   pair_inside k q (peers.Server (ptrs.Out i)) port good real lies placed = absurd cc
   pair_inside k q (peers.Server ptrs.Outside) port good real lies placed = absurd cc
   pair_inside k q (peers.Server ptrs.Far) port good real lies placed = absurd cc
-  pair_inside k q (peers.Server (ptrs.At [])) port good real lies placed = let same : [] ≡ q ++ root = lies (ptrs.At []) refl in let long = ap length same in let sum = length-append q root in absurd (omega (arith, long, sum))
+  pair_inside k q (peers.Server (ptrs.At [])) port good real lies placed = let same : [] ≡ q ++ root = lies (ptrs.At []) refl in let long = ap length same in
+      let sum = length-append q root in absurd (omega (arith, long, sum))
   pair_inside k q (peers.Server (ptrs.At (j ∷ s))) port good real lies placed =
       let same : s ≡ q ++ root = lies (ptrs.At (j ∷ s)) refl in
       serves_here k q (see (ptrs.At (j ∷ s))) port j (ap (λ x. is_one_of (kinds.Thread ∷ []) (kind_there w (j ∷ x))) (sym same) ∙ good)
@@ -211,7 +223,9 @@ module _ (w : World) (nester : Path) (slot : ℕ) (it : IsSavedSubtree w nester 
       clash : true ≡ false → ⊥
       clash e = cc
 
-  pair_out : (x : Path) (peer : Peer) → is_far (cut_out (ports_of w nester slot) nester x) ≡ false → PairOf (cut_out (ports_of w nester slot) nester x) (cut_peer (ports_of w nester slot) nester slot (is_out (cut_out (ports_of w nester slot) nester x)) peer)
+  pair_out : (x : Path) (peer : Peer) → is_far (cut_out (ports_of w nester slot) nester x) ≡ false
+      → PairOf (cut_out (ports_of w nester slot) nester x)
+      (cut_peer (ports_of w nester slot) nester slot (is_out (cut_out (ports_of w nester slot) nester x)) peer)
   pair_out [] peer near = absurd cc
   pair_out (i ∷ x) peer near = by (same_path x nester) (ports_of w nester slot i) refl near
     where
@@ -221,8 +235,10 @@ module _ (w : World) (nester : Path) (slot : ℕ) (it : IsSavedSubtree w nester 
       by true false e near = absurd cc
       by false b e near = absurd cc
 
-  pair : (port : Ptr) (peer : Peer) → leads_there (kind_there w) (kinds.Port ∷ []) port ≡ true → is_cut_pointer port ≡ false → is_far (see port) ≡ false → is_good_peer (kind_there w) peer ≡ true →
-      list_any is_cut_pointer (peer_pointer peer) ≡ false → ((server : Ptr) → peer ≡ peers.Server server → lies_with port server) → is_placed w port peer ≡ true →
+  pair : (port : Ptr) (peer : Peer) → leads_there (kind_there w) (kinds.Port ∷ []) port ≡ true → is_cut_pointer port ≡ false → is_far (see port) ≡ false
+      → is_good_peer (kind_there w) peer ≡ true →
+      list_any is_cut_pointer (peer_pointer peer) ≡ false → ((server : Ptr) → peer ≡ peers.Server server → lies_with port server)
+      → is_placed w port peer ≡ true →
       PairOf (see port) (cut_peer (ports_of w nester slot) nester slot (is_out (see port)) peer)
   pair ptrs.Null peer leads real near good real2 lies placed = absurd cc
   pair ptrs.Dead peer leads real near good real2 lies placed = absurd cc
@@ -238,12 +254,14 @@ module _ (w : World) (nester : Path) (slot : ℕ) (it : IsSavedSubtree w nester 
           (λ server same. subst (λ y. lies_with (ptrs.At y) server) is (lies server same)) (ap (λ y. is_placed w (ptrs.At y) peer) (sym is) ∙ placed)
 
       by : (o : Option Path) → strip root x ≡ o → is_far (cut_to (ports_of w nester slot) nester x o) ≡ false →
-          PairOf (cut_to (ports_of w nester slot) nester x o) (cut_peer (ports_of w nester slot) nester slot (is_out (cut_to (ports_of w nester slot) nester x o)) peer)
+          PairOf (cut_to (ports_of w nester slot) nester x o)
+          (cut_peer (ports_of w nester slot) nester slot (is_out (cut_to (ports_of w nester slot) nester x o)) peer)
       by (Some q) e far = inside q (strip_some root x q e)
       by None e far = pair_out x peer far
 
   -- where a port inside or outside is shown, with nobody at it
-  port_shown : (port : Ptr) → leads_there (kind_there w) (kinds.Port ∷ []) port ≡ true → is_cut_pointer port ≡ false → is_far (see port) ≡ false → (IsLed c (see port)) × (leads_there (kind_there c) (kinds.Port ∷ []) (see port) ≡ true)
+  port_shown : (port : Ptr) → leads_there (kind_there w) (kinds.Port ∷ []) port ≡ true → is_cut_pointer port ≡ false → is_far (see port) ≡ false
+      → (IsLed c (see port)) × (leads_there (kind_there c) (kinds.Port ∷ []) (see port) ≡ true)
   port_shown ptrs.Null leads real near = absurd cc
   port_shown ptrs.Dead leads real near = absurd cc
   port_shown (ptrs.Out i) leads real near = absurd cc
@@ -252,10 +270,14 @@ module _ (w : World) (nester : Path) (slot : ℕ) (it : IsSavedSubtree w nester 
   port_shown (ptrs.At x) leads real near = by (strip root x) refl near
     where
       by : (o : Option Path) → strip root x ≡ o → is_far (cut_to (ports_of w nester slot) nester x o) ≡ false →
-          (IsLed c (cut_to (ports_of w nester slot) nester x o)) × (leads_there (kind_there c) (kinds.Port ∷ []) (cut_to (ports_of w nester slot) nester x o) ≡ true)
+          (IsLed c (cut_to (ports_of w nester slot) nester x o))
+          × (leads_there (kind_there c) (kinds.Port ∷ []) (cut_to (ports_of w nester slot) nester x o) ≡ true)
       by (Some q) e far =
-          let is = strip_some root x q e in
-          (some_same q ∙ ap (λ y. is_some (w.body y)) (sym is) ∙ kind_some (kinds.Port ∷ []) x leads, ap (is_one_of (kinds.Port ∷ [])) (kind_same q ∙ ap (kind_there w) (sym is)) ∙ leads)
+          let is = strip_some root x q e in (
+            some_same q ∙ ap (λ y. is_some (w.body y)) (sym is)
+                ∙ kind_some (kinds.Port ∷ []) x leads,
+            ap (is_one_of (kinds.Port ∷ [])) (kind_same q ∙ ap (kind_there w) (sym is)) ∙ leads,
+          )
       by None e far = let p = pair_out x peers.Parked far in (p.led, p.leads)
 
   -- ---- bodies
@@ -280,8 +302,10 @@ module _ (w : World) (nester : Path) (slot : ℕ) (it : IsSavedSubtree w nester 
     pub good : all_in (is_good_talk (kind_there c)) o ≡ true
     pub near : (talk : Talk) (server : Ptr) → o ≡ Some talk → talk.peer ≡ peers.Server server → lies_with talk.port server
 
-  talk_of : (x : Path) (o : Option Talk) → all_in (is_good_talk (kind_there w)) o ≡ true → list_any is_cut_pointer (option_list talk_pointers o) ≡ false → list_any is_far (option_list talk_pointers (and_then f.talk o)) ≡ false →
-      ((talk : Talk) (server : Ptr) → o ≡ Some talk → talk.peer ≡ peers.Server server → lies_with talk.port server) → ((talk : Talk) → o ≡ Some talk → is_placed w talk.port talk.peer ≡ true) → TalkOf x (and_then f.talk o)
+  talk_of : (x : Path) (o : Option Talk) → all_in (is_good_talk (kind_there w)) o ≡ true → list_any is_cut_pointer (option_list talk_pointers o) ≡ false
+      → list_any is_far (option_list talk_pointers (and_then f.talk o)) ≡ false →
+      ((talk : Talk) (server : Ptr) → o ≡ Some talk → talk.peer ≡ peers.Server server → lies_with talk.port server)
+      → ((talk : Talk) → o ≡ Some talk → is_placed w talk.port talk.peer ≡ true) → TalkOf x (and_then f.talk o)
   talk_of x None good real near lies placed = record { led = tt; good = refl; near = λ talk server e h. absurd cc }
   talk_of x (Some talk) good real near lies placed =
       let g = and_parts (leads_there (kind_there w) (kinds.Port ∷ []) talk.port) (is_good_peer (kind_there w) talk.peer) good in
@@ -290,10 +314,12 @@ module _ (w : World) (nester : Path) (slot : ℕ) (it : IsSavedSubtree w nester 
       let p = pair talk.port talk.peer g.0 r.0 n.0 g.1 r.1 (λ server e. lies talk server refl e) (placed talk refl) in
       record { led = (p.led, p.peer_of); good = and_from _ _ p.leads p.good; near = λ other server e h. by other server p (same other e) h }
     where
-      same : (other : Talk) → Some (cut_talk (ports_of w nester slot) nester slot talk) ≡ Some other → cut_talk (ports_of w nester slot) nester slot talk ≡ other
+      same : (other : Talk) → Some (cut_talk (ports_of w nester slot) nester slot talk) ≡ Some other
+          → cut_talk (ports_of w nester slot) nester slot talk ≡ other
       same other e = cc
 
-      by : (other : Talk) (server : Ptr) → PairOf (see talk.port) (cut_peer (ports_of w nester slot) nester slot (is_out (see talk.port)) talk.peer) → cut_talk (ports_of w nester slot) nester slot talk ≡ other → other.peer ≡ peers.Server server → lies_with other.port server
+      by : (other : Talk) (server : Ptr) → PairOf (see talk.port) (cut_peer (ports_of w nester slot) nester slot (is_out (see talk.port)) talk.peer)
+          → cut_talk (ports_of w nester slot) nester slot talk ≡ other → other.peer ≡ peers.Server server → lies_with other.port server
       by other server p e h = subst (λ (u : Talk). u.peer ≡ peers.Server server → lies_with u.port server) e (p.near server) h
 
   record FaultOf (x : Path) (o : Option Fault) : Type 0 where
@@ -301,32 +327,43 @@ module _ (w : World) (nester : Path) (slot : ℕ) (it : IsSavedSubtree w nester 
     pub good : all_in (is_good_fault (kind_there c)) o ≡ true
     pub near : (fault : Fault) (taker : Ptr) → o ≡ Some fault → fault.taker ≡ Some (peers.Server taker) → lies_with fault.port taker
 
-  fault_of : (x : Path) (o : Option Fault) → all_in (is_good_fault (kind_there w)) o ≡ true → list_any is_cut_pointer (option_list fault_pointers o) ≡ false → list_any is_far (option_list fault_pointers (and_then f.fault o)) ≡ false →
-      ((fault : Fault) (taker : Ptr) → o ≡ Some fault → fault.taker ≡ Some (peers.Server taker) → lies_with fault.port taker) → ((fault : Fault) (taker : Peer) → o ≡ Some fault → fault.taker ≡ Some taker → is_placed w fault.port taker ≡ true) → FaultOf x (and_then f.fault o)
+  fault_of : (x : Path) (o : Option Fault) → all_in (is_good_fault (kind_there w)) o ≡ true → list_any is_cut_pointer (option_list fault_pointers o) ≡ false
+      → list_any is_far (option_list fault_pointers (and_then f.fault o)) ≡ false →
+      ((fault : Fault) (taker : Ptr) → o ≡ Some fault → fault.taker ≡ Some (peers.Server taker) → lies_with fault.port taker)
+      → ((fault : Fault) (taker : Peer) → o ≡ Some fault → fault.taker ≡ Some taker → is_placed w fault.port taker ≡ true) → FaultOf x (and_then f.fault o)
   fault_of x None good real near lies placed = record { led = tt; good = refl; near = λ fault taker e h. absurd cc }
   fault_of x (Some fault) good real near lies placed =
       let g = and_parts (leads_there (kind_there w) (kinds.Port ∷ []) fault.port) (all_in (is_good_peer (kind_there w)) fault.taker) good in
       let r = first_of is_cut_pointer fault.port (option_list peer_pointer fault.taker) real in
-      let n = first_of is_far (see fault.port) (option_list peer_pointer (option_map (cut_peer (ports_of w nester slot) nester slot (is_out (see fault.port))) fault.taker)) near in
+      let n = first_of is_far (see fault.port) (option_list peer_pointer
+      (option_map (cut_peer (ports_of w nester slot) nester slot (is_out (see fault.port))) fault.taker)) near in
       let shown = port_shown fault.port g.0 r.0 n.0 in
       let t = taken fault.taker refl g.0 r.0 n.0 g.1 r.1 in
       record { led = (shown.0, t.0); good = and_from _ _ shown.1 t.1; near = λ other taker e h. by other taker t.2 (same other e) h }
     where
-      same : (other : Fault) → Some (cut_fault (ports_of w nester slot) nester slot fault) ≡ Some other → cut_fault (ports_of w nester slot) nester slot fault ≡ other
+      same : (other : Fault) → Some (cut_fault (ports_of w nester slot) nester slot fault) ≡ Some other
+          → cut_fault (ports_of w nester slot) nester slot fault ≡ other
       same other e = cc
 
-      by : (other : Fault) (taker : Ptr) → ((s : Ptr) → option_map (cut_peer (ports_of w nester slot) nester slot (is_out (see fault.port))) fault.taker ≡ Some (peers.Server s) → lies_with (see fault.port) s) → cut_fault (ports_of w nester slot) nester slot fault ≡ other → other.taker ≡ Some (peers.Server taker) → lies_with other.port taker
+      by : (other : Fault) (taker : Ptr) → ((s : Ptr)
+          → option_map (cut_peer (ports_of w nester slot) nester slot (is_out (see fault.port))) fault.taker ≡ Some (peers.Server s)
+          → lies_with (see fault.port) s) → cut_fault (ports_of w nester slot) nester slot fault ≡ other → other.taker ≡ Some (peers.Server taker)
+          → lies_with other.port taker
       by other taker near e h = subst (λ (u : Fault). u.taker ≡ Some (peers.Server taker) → lies_with u.port taker) e (near taker) h
 
       one : (a b : Peer) → Some a ≡ Some b → a ≡ b
       one a b e = cc
 
-      taken : (o : Option Peer) → fault.taker ≡ o → leads_there (kind_there w) (kinds.Port ∷ []) fault.port ≡ true → is_cut_pointer fault.port ≡ false → is_far (see fault.port) ≡ false → all_in (is_good_peer (kind_there w)) o ≡ true → list_any is_cut_pointer (option_list peer_pointer o) ≡ false →
-          (IsTakenBy c (see fault.port) (option_map (cut_peer (ports_of w nester slot) nester slot (is_out (see fault.port))) o)) × (all_in (is_good_peer (kind_there c)) (option_map (cut_peer (ports_of w nester slot) nester slot (is_out (see fault.port))) o) ≡ true) ×
-          ((s : Ptr) → option_map (cut_peer (ports_of w nester slot) nester slot (is_out (see fault.port))) o ≡ Some (peers.Server s) → lies_with (see fault.port) s)
+      taken : (o : Option Peer) → fault.taker ≡ o → leads_there (kind_there w) (kinds.Port ∷ []) fault.port ≡ true → is_cut_pointer fault.port ≡ false
+          → is_far (see fault.port) ≡ false → all_in (is_good_peer (kind_there w)) o ≡ true → list_any is_cut_pointer (option_list peer_pointer o) ≡ false →
+          (IsTakenBy c (see fault.port) (option_map (cut_peer (ports_of w nester slot) nester slot (is_out (see fault.port))) o))
+          × (all_in (is_good_peer (kind_there c)) (option_map (cut_peer (ports_of w nester slot) nester slot (is_out (see fault.port))) o) ≡ true) ×
+          ((s : Ptr) → option_map (cut_peer (ports_of w nester slot) nester slot (is_out (see fault.port))) o ≡ Some (peers.Server s)
+          → lies_with (see fault.port) s)
       taken None is leads real near good real2 = (tt, refl, λ s e. absurd cc)
       taken (Some peer) is leads real near good real2 =
-          let p = pair fault.port peer leads real near good real2 (λ server e. lies fault server refl (is ∙ ap (λ (q : Peer). Some q) e)) (placed fault peer refl is) in
+          let p = pair fault.port peer leads real near good real2 (λ server e. lies fault server refl (is ∙ ap (λ (q : Peer). Some q) e))
+          (placed fault peer refl is) in
           (p.peer_of, p.good, λ s e. p.near s (one (cut_peer (ports_of w nester slot) nester slot (is_out (see fault.port)) peer) (peers.Server s) e))
 
   record Stood (k : ℕ) (q : Path) (b : Body) : Type 0 where
@@ -346,7 +383,8 @@ module _ (w : World) (nester : Path) (slot : ℕ) (it : IsSavedSubtree w nester 
   not_port (Some (bodies.Reference to)) e f = cc
 
   -- who holds a space inside is inside
-  held : (p : Ptr) → leads_there (kind_there w) (kinds.Thread ∷ []) p ≡ true → is_cut_pointer p ≡ false → is_far (see p) ≡ false → (IsHeldBy c (Some (see p))) × (leads_there (kind_there c) (kinds.Thread ∷ []) (see p) ≡ true)
+  held : (p : Ptr) → leads_there (kind_there w) (kinds.Thread ∷ []) p ≡ true → is_cut_pointer p ≡ false → is_far (see p) ≡ false
+      → (IsHeldBy c (Some (see p))) × (leads_there (kind_there c) (kinds.Thread ∷ []) (see p) ≡ true)
   held ptrs.Null good real near = absurd cc
   held ptrs.Dead good real near = absurd cc
   held (ptrs.Out i) good real near = absurd cc
@@ -361,27 +399,36 @@ module _ (w : World) (nester : Path) (slot : ℕ) (it : IsSavedSubtree w nester 
           clash : true ≡ false → ⊥
           clash e = cc
 
-          at : (a : Bool) → same_path y nester ≡ a → (d b : Bool) → is_port (w.body (i ∷ nester)) ≡ b → is_far (cond (a && (d && b)) (ptrs.Out i) ptrs.Far) ≡ false → ⊥
-          at true e true true g near = not_port (w.body (i ∷ nester)) (ap (is_one_of (kinds.Thread ∷ [])) (sym (there_is w (i ∷ nester))) ∙ ap (λ z. is_one_of (kinds.Thread ∷ []) (kind_there w (i ∷ z))) (sym (same_path_eq y nester e)) ∙ good) g
+          at : (a : Bool) → same_path y nester ≡ a → (d b : Bool) → is_port (w.body (i ∷ nester)) ≡ b
+              → is_far (cond (a && (d && b)) (ptrs.Out i) ptrs.Far) ≡ false → ⊥
+          at true e true true g near = not_port (w.body (i ∷ nester)) (ap (is_one_of (kinds.Thread ∷ [])) (sym (there_is w (i ∷ nester)))
+              ∙ ap (λ z. is_one_of (kinds.Thread ∷ []) (kind_there w (i ∷ z))) (sym (same_path_eq y nester e)) ∙ good) g
           at true e true false g near = clash near
           at true e false b g near = clash near
           at false e d b g near = clash near
 
       by : (o : Option Path) → strip root x ≡ o → is_far (cut_to (ports_of w nester slot) nester x o) ≡ false →
-          (IsHeldBy c (Some (cut_to (ports_of w nester slot) nester x o))) × (leads_there (kind_there c) (kinds.Thread ∷ []) (cut_to (ports_of w nester slot) nester x o) ≡ true)
+          (IsHeldBy c (Some (cut_to (ports_of w nester slot) nester x o)))
+          × (leads_there (kind_there c) (kinds.Thread ∷ []) (cut_to (ports_of w nester slot) nester x o) ≡ true)
       by (Some q) e far =
-          let is = strip_some root x q e in
-          (some_same q ∙ ap (λ y. is_some (w.body y)) (sym is) ∙ kind_some (kinds.Thread ∷ []) x good, ap (is_one_of (kinds.Thread ∷ [])) (kind_same q ∙ ap (kind_there w) (sym is)) ∙ good)
+          let is = strip_some root x q e in (
+            some_same q ∙ ap (λ y. is_some (w.body y)) (sym is)
+                ∙ kind_some (kinds.Thread ∷ []) x good,
+            ap (is_one_of (kinds.Thread ∷ [])) (kind_same q ∙ ap (kind_there w) (sym is)) ∙ good,
+          )
       by None e far = absurd (out x good far)
 
   seen_here : (k : ℕ) (q : Path) (b : Body) → w.body (k ∷ (q ++ root)) ≡ Some b → c.body (k ∷ q) ≡ Some (seen_by f b)
   seen_here k q b e = body_is (k ∷ q) ∙ ap (option_map (λ b. unheld (k ∷ q) (seen_by f b))) e
 
-  set_good : (k : ℕ) (q : Path) (set : Option ℕ) (served : Bool) → is_good_set (kind_there w) (k ∷ (q ++ root)) set served ≡ true → is_good_set (kind_there c) (k ∷ q) (and_then (λ set. Some set) set) false ≡ true
+  set_good : (k : ℕ) (q : Path) (set : Option ℕ) (served : Bool) → is_good_set (kind_there w) (k ∷ (q ++ root)) set served ≡ true
+      → is_good_set (kind_there c) (k ∷ q) (and_then (λ set. Some set) set) false ≡ true
   set_good k q None served good = refl
-  set_good k q (Some j) served good = ap (is_one_of (kinds.Portset ∷ [])) (kind_same (j ∷ q)) ∙ (and_parts (not served) (is_one_of (kinds.Portset ∷ []) (kind_there w (j ∷ (q ++ root)))) good).1
+  set_good k q (Some j) served good = ap (is_one_of (kinds.Portset ∷ [])) (kind_same (j ∷ q))
+      ∙ (and_parts (not served) (is_one_of (kinds.Portset ∷ []) (kind_there w (j ∷ (q ++ root)))) good).1
 
-  holder_led : (holder : Option Ptr) → all_in (leads_there (kind_there w) (kinds.Thread ∷ [])) holder ≡ true → list_any is_cut_pointer (option_list (λ p. p ∷ []) holder) ≡ false → list_any is_far (option_list (λ p. p ∷ []) (and_then f.holder holder)) ≡ false →
+  holder_led : (holder : Option Ptr) → all_in (leads_there (kind_there w) (kinds.Thread ∷ [])) holder ≡ true
+      → list_any is_cut_pointer (option_list (λ p. p ∷ []) holder) ≡ false → list_any is_far (option_list (λ p. p ∷ []) (and_then f.holder holder)) ≡ false →
       (IsHeldBy c (and_then f.holder holder)) × (all_in (leads_there (kind_there c) (kinds.Thread ∷ [])) (and_then f.holder holder) ≡ true)
   holder_led None good real near = (tt, refl)
   holder_led (Some p) good real near = held p good (first_of is_cut_pointer p [] real).0 (first_of is_far (see p) [] near).0
@@ -390,17 +437,22 @@ module _ (w : World) (nester : Path) (slot : ℕ) (it : IsSavedSubtree w nester 
   thread_there x t e = ap (and_then thread_of) e
 
   module _ (k : ℕ) (q : Path) (t : Thread) (e : w.body (k ∷ (q ++ root)) ≡ Some (bodies.Thread_of t)) where
-    thread_talk : all_in (is_good_talk (kind_there w)) t.talk ≡ true → list_any is_cut_pointer (option_list talk_pointers t.talk) ≡ false → list_any is_far (option_list talk_pointers (and_then f.talk t.talk)) ≡ false → TalkOf (k ∷ q) (and_then f.talk t.talk)
+    thread_talk : all_in (is_good_talk (kind_there w)) t.talk ≡ true → list_any is_cut_pointer (option_list talk_pointers t.talk) ≡ false
+        → list_any is_far (option_list talk_pointers (and_then f.talk t.talk)) ≡ false → TalkOf (k ∷ q) (and_then f.talk t.talk)
     thread_talk good real near =
         talk_of (k ∷ q) t.talk good real near
-        (λ talk server at peer. it.whole.valid.consistent.talks_near (k ∷ (q ++ root)) talk server (ap (and_then (λ (u : Thread). u.talk)) (thread_there (k ∷ (q ++ root)) t e) ∙ at) peer)
+        (λ talk server at peer. it.whole.valid.consistent.talks_near (k ∷ (q ++ root)) talk server
+        (ap (and_then (λ (u : Thread). u.talk)) (thread_there (k ∷ (q ++ root)) t e) ∙ at) peer)
         (λ talk at. it.savable.talks_placed (k ∷ (q ++ root)) talk (ap (and_then (λ (u : Thread). u.talk)) (thread_there (k ∷ (q ++ root)) t e) ∙ at))
 
-    thread_fault : all_in (is_good_fault (kind_there w)) t.fault ≡ true → list_any is_cut_pointer (option_list fault_pointers t.fault) ≡ false → list_any is_far (option_list fault_pointers (and_then f.fault t.fault)) ≡ false → FaultOf (k ∷ q) (and_then f.fault t.fault)
+    thread_fault : all_in (is_good_fault (kind_there w)) t.fault ≡ true → list_any is_cut_pointer (option_list fault_pointers t.fault) ≡ false
+        → list_any is_far (option_list fault_pointers (and_then f.fault t.fault)) ≡ false → FaultOf (k ∷ q) (and_then f.fault t.fault)
     thread_fault good real near =
         fault_of (k ∷ q) t.fault good real near
-        (λ fault taker at peer. it.whole.valid.consistent.faults_near (k ∷ (q ++ root)) fault taker (ap (and_then (λ (u : Thread). u.fault)) (thread_there (k ∷ (q ++ root)) t e) ∙ at) peer)
-        (λ fault taker at peer. it.savable.faults_placed (k ∷ (q ++ root)) fault taker (ap (and_then (λ (u : Thread). u.fault)) (thread_there (k ∷ (q ++ root)) t e) ∙ at) peer)
+        (λ fault taker at peer. it.whole.valid.consistent.faults_near (k ∷ (q ++ root)) fault taker
+        (ap (and_then (λ (u : Thread). u.fault)) (thread_there (k ∷ (q ++ root)) t e) ∙ at) peer)
+        (λ fault taker at peer. it.savable.faults_placed (k ∷ (q ++ root)) fault taker
+        (ap (and_then (λ (u : Thread). u.fault)) (thread_there (k ∷ (q ++ root)) t e) ∙ at) peer)
 
     record Both : Type 0 where
       pub talk : TalkOf (k ∷ q) (and_then f.talk t.talk)
@@ -409,12 +461,16 @@ module _ (w : World) (nester : Path) (slot : ℕ) (it : IsSavedSubtree w nester 
     both_of : Both
     unfolding seen_by
     both_of =
-        let good = and_parts (all_in (is_good_talk (kind_there w)) t.talk) (all_in (is_good_fault (kind_there w)) t.fault) (good_body (k ∷ (q ++ root)) (bodies.Thread_of t) e) in
-        let real = split_lists is_cut_pointer (option_list talk_pointers t.talk) (option_list fault_pointers t.fault) (no_cut (k ∷ (q ++ root)) (bodies.Thread_of t) e) in
-        let near = split_lists is_far (option_list talk_pointers (and_then f.talk t.talk)) (option_list fault_pointers (and_then f.fault t.fault)) (no_far (k ∷ q) (seen_by f (bodies.Thread_of t)) (seen_here k q (bodies.Thread_of t) e)) in
+        let good = and_parts (all_in (is_good_talk (kind_there w)) t.talk) (all_in (is_good_fault (kind_there w)) t.fault)
+        (good_body (k ∷ (q ++ root)) (bodies.Thread_of t) e) in
+        let real = split_lists is_cut_pointer (option_list talk_pointers t.talk) (option_list fault_pointers t.fault)
+        (no_cut (k ∷ (q ++ root)) (bodies.Thread_of t) e) in
+        let near = split_lists is_far (option_list talk_pointers (and_then f.talk t.talk)) (option_list fault_pointers (and_then f.fault t.fault))
+        (no_far (k ∷ q) (seen_by f (bodies.Thread_of t)) (seen_here k q (bodies.Thread_of t) e)) in
         record { talk = thread_talk good.0 real.0 near.0; fault = thread_fault good.1 real.1 near.1 }
 
-  stood_by : (k : ℕ) (q : Path) (b : Body) → w.body (k ∷ (q ++ root)) ≡ Some b → is_good (kind_there w) (k ∷ (q ++ root)) b ≡ true → list_any is_cut_pointer (pointers b) ≡ false → list_any is_far (pointers (seen_by f b)) ≡ false → Stood k q (seen_by f b)
+  stood_by : (k : ℕ) (q : Path) (b : Body) → w.body (k ∷ (q ++ root)) ≡ Some b → is_good (kind_there w) (k ∷ (q ++ root)) b ≡ true
+      → list_any is_cut_pointer (pointers b) ≡ false → list_any is_far (pointers (seen_by f b)) ≡ false → Stood k q (seen_by f b)
   unfolding seen_by
   stood_by k q (bodies.Mutex locked) e good real near = record { led = tt; good = refl }
   stood_by k q bodies.Cond e good real near = record { led = tt; good = refl }
@@ -432,7 +488,10 @@ module _ (w : World) (nester : Path) (slot : ℕ) (it : IsSavedSubtree w nester 
   stood_by k q (bodies.Thread_of t) e good real near =
       let b = both_of k q t e in
       let user = ap (holds is_native) (sym e) ∙ it.plain.no_porter (k ∷ q) in
-      record { led = (it.savable.shaped (k ∷ (q ++ root)) t (thread_there (k ∷ (q ++ root)) t e), user, b.talk.led, b.fault.led); good = and_from _ _ b.talk.good b.fault.good }
+      record {
+        led = (it.savable.shaped (k ∷ (q ++ root)) t (thread_there (k ∷ (q ++ root)) t e), user, b.talk.led, b.fault.led);
+        good = and_from _ _ b.talk.good b.fault.good;
+      }
   stood_by k q (bodies.Reference to) e good real near =
       let p = ptr_led referable to good (first_of is_cut_pointer to [] real).0 (first_of is_far (see to) [] near).0 in
       record { led = p.led; good = p.leads }
@@ -447,7 +506,8 @@ module _ (w : World) (nester : Path) (slot : ℕ) (it : IsSavedSubtree w nester 
   pub of_seen : (k : ℕ) (q : Path) (b : Body) → c.body (k ∷ q) ≡ Some b → (d : Body) × (w.body (k ∷ (q ++ root)) ≡ Some d) × (seen_by f d ≡ b)
   of_seen k q b e = by (w.body (k ∷ (q ++ root))) refl (sym (body_is (k ∷ q)) ∙ e)
     where
-      by : (o : Option Body) → w.body (k ∷ (q ++ root)) ≡ o → option_map (λ b. unheld (k ∷ q) (seen_by f b)) o ≡ Some b → (d : Body) × (w.body (k ∷ (q ++ root)) ≡ Some d) × (seen_by f d ≡ b)
+      by : (o : Option Body) → w.body (k ∷ (q ++ root)) ≡ o → option_map (λ b. unheld (k ∷ q) (seen_by f b)) o ≡ Some b
+          → (d : Body) × (w.body (k ∷ (q ++ root)) ≡ Some d) × (seen_by f d ≡ b)
       by None is e = absurd cc
       by (Some d) is e = (d, is, cc)
 
@@ -478,7 +538,8 @@ module _ (w : World) (nester : Path) (slot : ℕ) (it : IsSavedSubtree w nester 
 
   -- ---- who serves, and who holds
 
-  talk_near_by : (k : ℕ) (q : Path) (d : Body) → w.body (k ∷ (q ++ root)) ≡ Some d → (talk : Talk) (server : Ptr) → and_then (λ (u : Thread). u.talk) (thread_of (seen_by f d)) ≡ Some talk → talk.peer ≡ peers.Server server → lies_with talk.port server
+  talk_near_by : (k : ℕ) (q : Path) (d : Body) → w.body (k ∷ (q ++ root)) ≡ Some d → (talk : Talk) (server : Ptr)
+      → and_then (λ (u : Thread). u.talk) (thread_of (seen_by f d)) ≡ Some talk → talk.peer ≡ peers.Server server → lies_with talk.port server
   unfolding seen_by
   talk_near_by k q (bodies.Thread_of t) is talk server e h = (both_of k q t is).talk.near talk server e h
   talk_near_by k q (bodies.Mutex locked) is talk server e h = absurd cc
@@ -490,7 +551,8 @@ module _ (w : World) (nester : Path) (slot : ℕ) (it : IsSavedSubtree w nester 
   talk_near_by k q (bodies.Space birth holder) is talk server e h = absurd cc
   talk_near_by k q (bodies.Reference to) is talk server e h = absurd cc
 
-  fault_near_by : (k : ℕ) (q : Path) (d : Body) → w.body (k ∷ (q ++ root)) ≡ Some d → (fault : Fault) (taker : Ptr) → and_then (λ (u : Thread). u.fault) (thread_of (seen_by f d)) ≡ Some fault → fault.taker ≡ Some (peers.Server taker) → lies_with fault.port taker
+  fault_near_by : (k : ℕ) (q : Path) (d : Body) → w.body (k ∷ (q ++ root)) ≡ Some d → (fault : Fault) (taker : Ptr)
+      → and_then (λ (u : Thread). u.fault) (thread_of (seen_by f d)) ≡ Some fault → fault.taker ≡ Some (peers.Server taker) → lies_with fault.port taker
   unfolding seen_by
   fault_near_by k q (bodies.Thread_of t) is fault taker e h = (both_of k q t is).fault.near fault taker e h
   fault_near_by k q (bodies.Mutex locked) is fault taker e h = absurd cc
@@ -522,7 +584,8 @@ module _ (w : World) (nester : Path) (slot : ℕ) (it : IsSavedSubtree w nester 
     where
       by : (o : Option Body) → c.body (k ∷ q) ≡ o → and_then (λ (u : Thread). u.fault) (and_then thread_of o) ≡ Some fault → lies_with fault.port taker
       by None is e = absurd cc
-      by (Some b) is e = let d = of_seen k q b is in fault_near_by k q d.0 d.1 fault taker (ap (λ b. and_then (λ (u : Thread). u.fault) (thread_of b)) d.2 ∙ e) h
+      by (Some b) is e = let d = of_seen k q b is in
+          fault_near_by k q d.0 d.1 fault taker (ap (λ b. and_then (λ (u : Thread). u.fault) (thread_of b)) d.2 ∙ e) h
 
   -- what is seen inside is there
   pub see_at : (p : Ptr) (y : Path) → see p ≡ ptrs.At y → p ≡ ptrs.At (y ++ root)
@@ -556,9 +619,11 @@ module _ (w : World) (nester : Path) (slot : ℕ) (it : IsSavedSubtree w nester 
 
       by : (o : Option Path) → strip x y ≡ o → is_some o ≡ false
       by None is = refl
-      by (Some z) is = absurd (clash (sym (ap (λ u. is_some (strip (x ++ root) (u ++ root))) (strip_some x y z is) ∙ ap (λ u. is_some (strip (x ++ root) u)) (append_assoc z x root) ∙ ap is_some (strip-append (x ++ root) z)) ∙ e))
+      by (Some z) is = absurd (clash (sym (ap (λ u. is_some (strip (x ++ root) (u ++ root))) (strip_some x y z is)
+          ∙ ap (λ u. is_some (strip (x ++ root) u)) (append_assoc z x root) ∙ ap is_some (strip-append (x ++ root) z)) ∙ e))
 
-  holder_by : (k : ℕ) (q y : Path) (d : Body) → w.body (k ∷ (q ++ root)) ≡ Some d → holder_of (Some (seen_by f d)) ≡ Some (ptrs.At y) → is_within (k ∷ q) y ≡ false
+  holder_by : (k : ℕ) (q y : Path) (d : Body) → w.body (k ∷ (q ++ root)) ≡ Some d → holder_of (Some (seen_by f d)) ≡ Some (ptrs.At y)
+      → is_within (k ∷ q) y ≡ false
   unfolding seen_by
   holder_by k q y (bodies.Space birth None) is e = absurd cc
   holder_by k q y (bodies.Space birth (Some p)) is e =

@@ -15,7 +15,8 @@ use Rattle.laws_pictures.specs.Tree.{IsTree, IsFull, ValidIsTree}
 
 -- ---- one more at the end
 
-pub last_or_before : {A : Type 0} (xs : List A) (x y : A) (n : ℕ) → slice_get (xs ++ x ∷ []) n ≡ Some y → (slice_get xs n ≡ Some y) ⊎ ((x ≡ y) × (n ≡ length xs))
+pub last_or_before : {A : Type 0} (xs : List A) (x y : A) (n : ℕ) → slice_get (xs ++ x ∷ []) n ≡ Some y
+    → (slice_get xs n ≡ Some y) ⊎ ((x ≡ y) × (n ≡ length xs))
 last_or_before [] x y zero e = inr (cc, refl)
 last_or_before [] x y (suc n) e = absurd cc
 last_or_before (z ∷ xs) x y zero e = inl e
@@ -58,7 +59,8 @@ record Found (done : List SpaceRec) (n : ℕ) (path : List Open) (space : ℕ) :
   pub floor : Floor done one
   pub floors : Floors done up
 
-found : (done : List SpaceRec) (n space : ℕ) (path : List Open) → Descends n path → Floors done path → is_some (room_under path space) ≡ true → Found done n path space
+found : (done : List SpaceRec) (n space : ℕ) (path : List Open) → Descends n path → Floors done path → is_some (room_under path space) ≡ true
+    → Found done n path space
 unfolding from
 found done n space [] d f e = absurd cc
 found done n space (o ∷ up) d f e = by (o.space == space) refl (λ h. found done o.space space up d.1 f.1 h) e
@@ -70,7 +72,16 @@ found done n space (o ∷ up) d f e = by (o.space == space) refl (λ h. found do
         let r = rest e in
         let low = d.0 in
         let lower = r.below in
-        record { one = r.one; up = r.up; is = rw p r.is; same = r.same; below = omega (arith, low, lower); descends = r.descends; floor = r.floor; floors = r.floors }
+        record {
+          one = r.one;
+          up = r.up;
+          is = rw p r.is;
+          same = r.same;
+          below = omega (arith, low, lower);
+          descends = r.descends;
+          floor = r.floor;
+          floors = r.floors;
+        }
 
 -- ---- spaces so far
 
@@ -101,7 +112,8 @@ module _ (done : List SpaceRec) (s : SpaceRec) (good : Good done) (here : Here d
       by (inl h) = good.tree.low n t h
       by (inr h) = let low = here.low in let at = h.1 in let same : s.parent ≡ t.parent = ap (λ (u : SpaceRec). u.parent) h.0 in omega (arith, low, at, same)
 
-  apart_more : (m n : ℕ) (t u : SpaceRec) → slice_get (done ++ s ∷ []) (suc m) ≡ Some t → slice_get (done ++ s ∷ []) (suc n) ≡ Some u → t.parent ≡ u.parent → t.slot ≡ u.slot → m ≡ n
+  apart_more : (m n : ℕ) (t u : SpaceRec) → slice_get (done ++ s ∷ []) (suc m) ≡ Some t → slice_get (done ++ s ∷ []) (suc n) ≡ Some u → t.parent ≡ u.parent
+      → t.slot ≡ u.slot → m ≡ n
   apart_more m n t u e f p k = by (last_or_before done s t (suc m) e) (last_or_before done s u (suc n) f)
     where
       parents : {a b : SpaceRec} → a ≡ b → a.parent ≡ b.parent
@@ -127,7 +139,8 @@ module _ (done : List SpaceRec) (s : SpaceRec) (good : Good done) (here : Here d
           let low = good.tree.low n t h in
           let lt = there_low done (suc n) t h in
           as_before (omega (arith, low, lt)) (good.full.free n t h)
-      by (inr h) = as_before (subst (λ (u : SpaceRec). u.parent < length done) h.0 here.low) (subst (λ (u : SpaceRec). kind_in_space done u.parent u.slot ≡ None) h.0 here.free)
+      by (inr h) = as_before (subst (λ (u : SpaceRec). u.parent < length done) h.0 here.low)
+          (subst (λ (u : SpaceRec). kind_in_space done u.parent u.slot ≡ None) h.0 here.free)
 
   more : Good (done ++ s ∷ [])
   more = record {
@@ -234,18 +247,21 @@ step d ds path s good descends floors e =
         at_least true p e = absurd cc
         at_least false p e = ltb-false slot other p
 
-    inner : s.parent < length (d ∷ ds) → (m : ℕ) (t : SpaceRec) → t.parent ≡ length (d ∷ ds) → (slice_get (d ∷ ds) (suc m) ≡ Some t) ⊎ ((s ≡ t) × (suc m ≡ length (d ∷ ds))) → ⊥
+    inner : s.parent < length (d ∷ ds) → (m : ℕ) (t : SpaceRec) → t.parent ≡ length (d ∷ ds)
+        → (slice_get (d ∷ ds) (suc m) ≡ Some t) ⊎ ((s ≡ t) × (suc m ≡ length (d ∷ ds))) → ⊥
     inner low m t p (inl h) =
         let lower = good.tree.low m t h in
         let lt = there_low (d ∷ ds) (suc m) t h in
         omega (arith, p, lower, lt)
     inner low m t p (inr h) = let same : s.parent ≡ t.parent = ap (λ (u : SpaceRec). u.parent) h.0 in omega (arith, same, p, low)
 
-    outer : (floor : ℕ) → floor ≤ s.slot → (m : ℕ) (t : SpaceRec) → (slice_get (d ∷ ds) (suc m) ≡ Some t → t.parent ≡ s.parent → t.slot < floor) → t.parent ≡ s.parent → (slice_get (d ∷ ds) (suc m) ≡ Some t) ⊎ ((s ≡ t) × (suc m ≡ length (d ∷ ds))) → t.slot < s.slot + 1
+    outer : (floor : ℕ) → floor ≤ s.slot → (m : ℕ) (t : SpaceRec) → (slice_get (d ∷ ds) (suc m) ≡ Some t → t.parent ≡ s.parent → t.slot < floor)
+        → t.parent ≡ s.parent → (slice_get (d ∷ ds) (suc m) ≡ Some t) ⊎ ((s ≡ t) × (suc m ≡ length (d ∷ ds))) → t.slot < s.slot + 1
     outer floor le m t lower p (inl h) = let lt = lower h p in omega (arith, lt, le)
     outer floor le m t lower p (inr h) = let same : s.slot ≡ t.slot = ap (λ (u : SpaceRec). u.slot) h.0 in omega (arith, same)
 
-all_good : (rest : List SpaceRec) (d : SpaceRec) (ds : List SpaceRec) (path : List Open) → Good (d ∷ ds) → Descends (length (d ∷ ds)) path → Floors (d ∷ ds) path →
+all_good : (rest : List SpaceRec) (d : SpaceRec) (ds : List SpaceRec) (path : List Open) → Good (d ∷ ds) → Descends (length (d ∷ ds)) path
+    → Floors (d ∷ ds) path →
     all_from after_space fits_space (d ∷ ds, path) rest ≡ true → Good ((d ∷ ds) ++ rest)
 all_good [] d ds path good descends floors e = subst (λ xs. Good xs) (sym (append-nil (d ∷ ds))) good
 all_good (s ∷ rest) d ds path good descends floors e =

@@ -31,9 +31,11 @@ SubtreeIsSound = (w : World) (nester : Path) (slot : ℕ) → IsSavedSubtree w n
 
 -- a subtree whose numbers are in range has a valid image, whose picture it is
 abbrev pub SubtreeHasImage : Type 0
-SubtreeHasImage = (w : World) (nester : Path) (slot : ℕ) (sp : List Path) → IsSavedSubtree w nester slot → AreItsSpaces (cut w nester slot) sp → HasNumbers (cut w nester slot) → length sp < 2 ^ 32 →
+SubtreeHasImage = (w : World) (nester : Path) (slot : ℕ) (sp : List Path) → IsSavedSubtree w nester slot → AreItsSpaces (cut w nester slot) sp
+    → HasNumbers (cut w nester slot) → length sp < 2 ^ 32 →
     (is_valid (image_of (cut w nester slot) sp) ≡ true) × (picture (image_of (cut w nester slot) sp) ≡ cut w nester slot)
 
 -- and words in a thread's registers are needed: no valid image's picture has others
 abbrev pub PicturesHaveWords : Type 0
-PicturesHaveWords = (i : Image) (x : Path) (t : Thread) → is_valid i ≡ true → (picture i).body x ≡ Some (Thread_of t) → list_all is_word (registers_of t.mode) ≡ true
+PicturesHaveWords = (i : Image) (x : Path) (t : Thread) → is_valid i ≡ true → (picture i).body x ≡ Some (Thread_of t)
+    → list_all is_word (registers_of t.mode) ≡ true

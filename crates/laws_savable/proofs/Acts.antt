@@ -72,7 +72,8 @@ low-put a None made = record { low = omega arith }
 
 low-on : (i : Instr) (a b c counter : ℕ) → IsWord i.n → IsWord a → IsWord b → IsWord c → IsLow (act_on i a b c counter)
 low-on i a b c counter number first second third =
-    low-if (i.op == HALT) _ _ (record { low = omega arith }) (low-if (i.op == SET) _ _ (record { low = number }) (low-if (i.op == MOV) _ _ (record { low = second })
+    low-if (i.op == HALT) _ _ (record { low = omega arith })
+    (low-if (i.op == SET) _ _ (record { low = number }) (low-if (i.op == MOV) _ _ (record { low = second })
     (low-if (nat_le i.op REM) _ _ (low-put i.a (combined i.op b c) (made-combined i.op b c second third)) (low-if (i.op == LOAD) _ _ (record { low = tt })
     (low-if (i.op == STORE) _ _ (record { low = first }) (low-if (i.op == JMP) _ _ (record { low = number })
     (low-if (i.op == JZ) _ _ (record { low = word-if (a == 0) i.n (next counter) number after })
@@ -90,7 +91,13 @@ low-in word g counter all = by (nat_le (word / 2 ^ 56) CALL && word / 2 ^ 32 % 2
     number = let low = mod-lt word {m = 2 ^ 32} (omega arith) in below-word (word % 2 ^ 32) (omega (arith, low))
 
     by : (t : Bool) → IsLow (act_in (if t
-        then Some (record { op = word / 2 ^ 56; a = word / 2 ^ 52 % 16; b = word / 2 ^ 48 % 16; c = word / 2 ^ 44 % 16; n = word % 2 ^ 32 }) else None) g counter)
+        then Some (record {
+          op = word / 2 ^ 56;
+          a = word / 2 ^ 52 % 16;
+          b = word / 2 ^ 48 % 16;
+          c = word / 2 ^ 44 % 16;
+          n = word % 2 ^ 32;
+        }) else None) g counter)
     by true = low-on (record { op = word / 2 ^ 56; a = word / 2 ^ 52 % 16; b = word / 2 ^ 48 % 16; c = word / 2 ^ 44 % 16; n = word % 2 ^ 32 })
         _ _ _ counter number (words-at g all _) (words-at g all _) (words-at g all _)
     by false = record { low = omega arith }

@@ -79,7 +79,8 @@ lowest-below {A} (suc n) f a h = by (lowest n f) refl h (lowest-below n f a)
 
 pub taken-words : (w : World) (space : Path) (last from : ℕ) (found : ℕ × ℕ) → lowest SLOTS (taken_from w space last from) ≡ Some found →
     AreWords (found.0 ∷ found.1 ∷ [])
-taken-words w space last from found h = let at = lowest-below SLOTS (taken_from w space last from) found h in by at.0 at.1 (nat_le from at.0 && nat_le at.0 last) at.2
+taken-words w space last from found h = let at = lowest-below SLOTS (taken_from w space last from) found h in
+    by at.0 at.1 (nat_le from at.0 && nat_le at.0 last) at.2
   where
     of : (k : ℕ) → k < SLOTS → (o : Option Body) → option_map (λ b. (k, number_of_kind (kind_of b))) o ≡ Some found → AreWords (found.0 ∷ found.1 ∷ [])
     of k low None h = cc
@@ -142,7 +143,8 @@ module _ (w : World) (valid : IsConsistent w) (rooted : IsRooted w) where
   pub way-words : (c : Caller) (reference : ℕ) (space : Path) (p to : Ptr) (way : List ℕ) → object_in w c reference_of c.space reference ≡ Ok p →
       target_of p ≡ Ok to → way_to space to ≡ Some way → AreWords (way ++ kind_number (kind_at w to) ∷ [])
   way-words c reference space (At x) to way read target found =
-      let same : to ≡ At x = cc in words-append way (kind_number (kind_at w to) ∷ []) (by (strip space x) refl (rw same at found)) (kind-word (kind_at w to), tt)
+      let same : to ≡ At x = cc in words-append way (kind_number (kind_at w to) ∷ []) (by (strip space x) refl (rw same at found))
+      (kind-word (kind_at w to), tt)
     where
       by : (o : Option Path) → strip space x ≡ o → option_map way_down o ≡ Some way → AreWords way
       by None e h = cc
@@ -181,14 +183,16 @@ module _ (w : World) (valid : IsConsistent w) (rooted : IsRooted w) where
       of x true false e h = cc
       of x false member e h = cc
 
-      by : (o : Option Path) → and_then (λ x. if same_path (parent x) space && is_member set (w.body x) then Some (slot_of x) else None) o ≡ Some slot → slot ≤ 255
+      by : (o : Option Path) → and_then (λ x. if same_path (parent x) space && is_member set (w.body x) then Some (slot_of x) else None) o ≡ Some slot
+          → slot ≤ 255
       by None h = cc
       by (Some x) h = of x (same_path (parent x) space) (is_member set (w.body x)) refl h
 
   few-faulting : (space : Path) (set : ℕ) (t : Thread) → IsTidyThread t → IsFewCandidate (faulting w space set t)
   few-faulting space set t tidy = by t.fault tidy.missing
     where
-      of : (fault : Fault) → fault.page < PAGES → (o : Option ℕ) → slot_in_set w space set fault.port ≡ o → IsFewCandidate (option_map (λ slot. Faulting slot fault) o)
+      of : (fault : Fault) → fault.page < PAGES → (o : Option ℕ) → slot_in_set w space set fault.port ≡ o
+          → IsFewCandidate (option_map (λ slot. Faulting slot fault) o)
       of fault low None e = tt
       of fault low (Some slot) e = (slot-few space set fault.port slot e, low)
 
@@ -205,7 +209,8 @@ module _ (w : World) (valid : IsConsistent w) (rooted : IsRooted w) where
   few-resuming : (space : Path) (set : ℕ) (t : Thread) → IsTidyThread t → IsFewCandidate (resuming w space set t)
   few-resuming space set t tidy = by t.talk tidy.moved
     where
-      of : (talk : Talk) → talk.moved ≤ MOST_MOVED → (o : Option ℕ) → slot_in_set w space set talk.port ≡ o → IsFewCandidate (option_map (λ slot. Resuming slot talk) o)
+      of : (talk : Talk) → talk.moved ≤ MOST_MOVED → (o : Option ℕ) → slot_in_set w space set talk.port ≡ o
+          → IsFewCandidate (option_map (λ slot. Resuming slot talk) o)
       of talk few None e = tt
       of talk few (Some slot) e = (slot-few space set talk.port slot e, few)
 
@@ -214,7 +219,8 @@ module _ (w : World) (valid : IsConsistent w) (rooted : IsRooted w) where
       test talk few true = of talk few (slot_in_set w space set talk.port) refl
       test talk few false = tt
 
-      by : (o : Option Talk) → IsFewMoved o → IsFewCandidate (and_then (λ (talk : Talk). if is_parked (Some talk.peer) then option_map (λ slot. Resuming slot talk)
+      by : (o : Option Talk) → IsFewMoved o → IsFewCandidate
+          (and_then (λ (talk : Talk). if is_parked (Some talk.peer) then option_map (λ slot. Resuming slot talk)
           (slot_in_set w space set talk.port) else None) o)
       by None few = tt
       by (Some talk) few = test talk few (is_parked (Some talk.peer))
@@ -301,8 +307,13 @@ module _ (w : World) (valid : IsConsistent w) (rooted : IsRooted w) where
       let few = range-few m.first m.count two.0 in
       let first = few.0 in
       let count = few.1 in
-      let low = ltb-true m.offset PAGES two.1 in
-      (small-word m.first (omega (arith, first)), (small-word m.count (omega (arith, count)), (small-word m.offset (omega (arith, low)), (flag-word m.write, tt))))
+      let low = ltb-true m.offset PAGES two.1 in (
+        small-word m.first (omega (arith, first)),
+        (
+          small-word m.count (omega (arith, count)),
+          (small-word m.offset (omega (arith, low)), (flag-word m.write, tt)),
+        ),
+      )
   state-all at (Region r) tidy good =
       let few = range-few r.first r.count (and_parts (is_page_range r.first r.count) _ good).0 in
       let first = few.0 in

@@ -231,7 +231,8 @@ thread-tidy (SetStops stops) t kept tidy = record {
 }
 thread-tidy (SetTalk talk) t kept tidy = with-talk t talk tidy kept
 thread-tidy (CountMoved count) t kept tidy =
-    with-talk t _ tidy (few-mapped (λ talk. record talk { moved = min MOST_MOVED (talk.moved + count) }) (λ talk few. min-le_left MOST_MOVED (talk.moved + count))
+    with-talk t _ tidy (few-mapped (λ talk. record talk { moved = min MOST_MOVED (talk.moved + count) })
+    (λ talk few. min-le_left MOST_MOVED (talk.moved + count))
     t.talk tidy.moved)
 thread-tidy (PassTurn turn) t kept tidy =
     with-talk t _ tidy (few-mapped (λ talk. record talk { turn = turn; moved = 0 }) (λ talk few. omega arith) t.talk tidy.moved)

@@ -191,7 +191,8 @@ takes_up-kept w port x t served there = by t.talk refl
 
 accepts_thread-kept : (w : World) (port x : Path) (t : Thread) → is_served_port w (At port) ≡ true → and_then thread_of (w.body x) ≡ Some t →
     KeptOutcome w (accepts_thread w port x t)
-accepts_thread-kept w port x t served there = if-kept w (connects_here w port x t) _ _ (goes ((served, omega arith), ((tt, tt), tt))) (takes_up-kept w port x t served there)
+accepts_thread-kept w port x t served there = if-kept w (connects_here w port x t) _ _ (goes ((served, omega arith), ((tt, tt), tt)))
+    (takes_up-kept w port x t served there)
 
 accepts_found-kept : (w : World) (port x : Path) (o : Option Thread) → is_served_port w (At port) ≡ true → and_then thread_of (w.body x) ≡ o →
     KeptOutcome w (accepts_found w port x o)
@@ -252,7 +253,8 @@ gives_to-kept w memory port words all x receive at = if-kept w (receive.1 == 0) 
   where
     way : (o : Option Thread) → o ≡ Some at.0 → receive.0 < SPACE_WORDS →
         all_in (λ (t : Thread). has_way (moved_words 0 (length words) receive.0 receive.1) t.mode) o ≡ true
-    way (Some t) e low = let same : t ≡ at.0 = cc in rw same (received-way _ (moved-few 0 (length words) receive.0 receive.1) turns.Client at.0.mode receive at.2 low)
+    way (Some t) e low = let same : t ≡ at.0 = cc in
+        rw same (received-way _ (moved-few 0 (length words) receive.0 receive.1) turns.Client at.0.mode receive at.2 low)
     way None e low = refl
 
 pub give_row-kept : (w : World) → Memory w → (port : Path) (words : List ℕ) → AreWords words → KeptOutcome w (give_row w port words)

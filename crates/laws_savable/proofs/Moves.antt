@@ -241,7 +241,8 @@ module _ (w : World) (premise : Premise w) where
   porter-way m h = cc
 
   porter-gives : (k : ℕ) (s : Path) (stage : Stage) (words : List ℕ) (t : Thread) → (length words ≡ PAGE_WORDS) × AreWords words →
-      is_fit_stage w (porter_at (k ∷ s) words) stage ≡ true → OwesStage w (porter_at (k ∷ s) words) stage → and_then thread_of (w.body (k ∷ s)) ≡ Some t → is_porter t.mode ≡ true →
+      is_fit_stage w (porter_at (k ∷ s) words) stage ≡ true → OwesStage w (porter_at (k ∷ s) words) stage → and_then thread_of (w.body (k ∷ s)) ≡ Some t
+      → is_porter t.mode ≡ true →
       IsGiving w (porter_at (k ∷ s) words) stage
   porter-gives k s stage words t all fit owes there porter = record { nester = nester; words = all.0; all = all.1; fit = fit; owes = owes }
     where

@@ -101,8 +101,13 @@ module _ (w : World) where
 
   new-low : (k : ℕ) (s : Path) (kind : ℕ) → nat_le k LAST_USER_SLOT ≡ true → IfKept (new_object (k ∷ s) kind)
   new-low k s kind low =
-      pick-kept (kind == 1) _ _ (low-stands k (Mutex false) low refl, tt, no-scratch k low) (pick-kept (kind == 2) _ _ (low-stands k Cond low refl, tt, no-scratch k low)
-      (pick-kept (kind == 3) _ _ (low-stands k (Mapping (record { first = 0; count = 1; offset = 0; write = false; region = Null })) low refl, tt, no-scratch k low)
+      pick-kept (kind == 1) _ _ (low-stands k (Mutex false) low refl, tt, no-scratch k low)
+      (pick-kept (kind == 2) _ _ (low-stands k Cond low refl, tt, no-scratch k low)
+      (pick-kept (kind == 3) _ _ (
+        low-stands k (Mapping (record { first = 0; count = 1; offset = 0; write = false; region = Null })) low refl,
+        tt,
+        no-scratch k low,
+      )
       (pick-kept (kind == 4) _ _ (low-stands k (Region (record { first = 0; count = 1; write = false; keeper = Null })) low refl, tt, no-scratch k low)
       (pick-kept (kind == 5) _ _ (low-stands k (Port None false) low refl, tt, no-scratch k low)
       (pick-kept (kind == 6) _ _ (low-stands k Portset low refl, tt, no-scratch k low)
@@ -307,7 +312,8 @@ module _ (w : World) where
       none : KeepsScratch w (x ∷ space) None
       none k scratch live = by c.is_porter refl
         where
-          test : (o : Option Ptr) → holder ≡ o → c.is_porter ≡ false → holds (leads_to (LAST_PORTER_SLOT ∷ space)) o ≡ true → not (holds (leads_to (path_of c)) o) ≡ false → ⊥
+          test : (o : Option Ptr) → holder ≡ o → c.is_porter ≡ false → holds (leads_to (LAST_PORTER_SLOT ∷ space)) o ≡ true
+              → not (holds (leads_to (path_of c)) o) ≡ false → ⊥
           test None is user h own = cc
           test (Some p) is user h own = users-none user p is h (not-off _ own)
 

@@ -32,7 +32,8 @@ missed-home : (s : Path) (page : ℕ) (away : Reach) (o : Option (List ℕ)) →
 missed-home s page away None missed = missed
 missed-home s page away (Some words) missed = tt
 
-missed-mapped : (go : Window → Reach) (missing : Reach) (o : Option Window) → IsMissed missing → ((m : Window) → IsMissed (go m)) → IsMissed (mapped go missing o)
+missed-mapped : (go : Window → Reach) (missing : Reach) (o : Option Window) → IsMissed missing → ((m : Window) → IsMissed (go m))
+    → IsMissed (mapped go missing o)
 missed-mapped go missing None here there = here
 missed-mapped go missing (Some m) here there = there m
 
@@ -52,7 +53,8 @@ region-page w valid m page write (At region) place h = by (w.body region) (valid
     fits r range true false e h = cc
     fits r range false u e h = cc
 
-    by : (o : Option Body) → all_in (is_good (kind_there w) region) o ≡ true → and_then (page_of_region m page write region) (and_then region_of o) ≡ Some place →
+    by : (o : Option Body) → all_in (is_good (kind_there w) region) o ≡ true
+        → and_then (page_of_region m page write region) (and_then region_of o) ≡ Some place →
         place.1 < PAGES
     by (Some (Region r)) good h = fits r (and_parts (nat_le 1 r.count && nat_le r.count PAGES && nat_le (r.first + r.count) PAGES) _ good).0
         (nat_lt (m.offset + (page - m.first)) r.count) (not write || (m.write && r.write)) refl h
@@ -62,7 +64,8 @@ region-page w valid m page write (At region) place h = by (w.body region) (valid
 region-page w valid m page write Null place h = cc
 region-page w valid m page write p place h = cc
 
-missed-followed : (go : Path → ℕ → Reach) (o : Option (Path × ℕ)) → ((place : Path × ℕ) → o ≡ Some place → IsMissed (go place.0 place.1)) → IsMissed (followed go o)
+missed-followed : (go : Path → ℕ → Reach) (o : Option (Path × ℕ)) → ((place : Path × ℕ) → o ≡ Some place → IsMissed (go place.0 place.1))
+    → IsMissed (followed go o)
 missed-followed go None there = tt
 missed-followed go (Some place) there = there place refl
 

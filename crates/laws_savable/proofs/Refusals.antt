@@ -77,7 +77,8 @@ path_at-word p = refuses WRONGKIND refl
 
 pub space_argument-word : (w : World) (c : Caller) (s : ℕ) → RefusesByWord (space_argument w c s)
 unfolding space_argument
-space_argument-word w c s = either (s == OWN_SPACE) _ _ (reads c.space) (then-word (handle w c kinds.Space s) path_at (handle-word w c kinds.Space s) path_at-word)
+space_argument-word w c s = either (s == OWN_SPACE) _ _ (reads c.space)
+    (then-word (handle w c kinds.Space s) path_at (handle-word w c kinds.Space s) path_at-word)
 
 pub referred-word : (w : World) (c : Caller) (wanted : Kind) (k : ℕ) → RefusesByWord (referred w c wanted k)
 unfolding referred
@@ -109,4 +110,23 @@ object_or_space-word w c space x = either (x == OWN_SPACE) _ _ (reads space)
     (then-word (object_in w c anything space x) _ (object_in-word w c anything space x) (λ b. reads (x ∷ space)))
 
 -- a row is a walk through its checks
-pub ruleset kept_row = (kept->>=, kept-refuse, kept-or_refuse, kept-when, waits, refused, refuse-word, or_refuse-word, slot_for-word, object_in-word, handle-word, space_argument-word, referred-word, named_taker-word, thread_by_handle-word, in_turn-word, target_of-word, object_or_space-word)
+pub ruleset kept_row = (
+  kept->>=,
+  kept-refuse,
+  kept-or_refuse,
+  kept-when,
+  waits,
+  refused,
+  refuse-word,
+  or_refuse-word,
+  slot_for-word,
+  object_in-word,
+  handle-word,
+  space_argument-word,
+  referred-word,
+  named_taker-word,
+  thread_by_handle-word,
+  in_turn-word,
+  target_of-word,
+  object_or_space-word,
+)

@@ -134,7 +134,10 @@ performs-kept w memory space me g counter (Load register address) is low =
 performs-kept w memory space me g counter (Store address value) is low =
     accessed-kept w memory space me address true (halts_with me g counter) (stores w me g counter address value)
     (λ code few. goes ((halts (w.body me) g code is.mine is.sixteen is.all few, is.next), tt))
-    (λ s page reached. goes (words-set (words_at w s page) _ value reached.words low.low, ((runs (w.body me) _ is.mine is.sixteen is.all, next-word counter), tt)))
+    (λ s page reached. goes (
+      words-set (words_at w s page) _ value reached.words low.low,
+      ((runs (w.body me) _ is.mine is.sixteen is.all, next-word counter), tt),
+    ))
 performs-kept w memory space me g counter (Halt code) is low = goes ((halts (w.body me) g code is.mine is.sixteen is.all low.low, is.next), tt)
 performs-kept w memory space me g counter Call is low = enters-kept w me g counter (todo_of g) is refl
 

@@ -86,7 +86,8 @@ slots-apart k j x y apart = by (same_path (k ∷ x) (j ∷ y)) refl
 
 module _ (v : World) (valid : IsConsistent v) (stand : AllStand v) where
   -- who holds a space from the last slot beside it is a porter
-  pub stands-porter : (z : Path) → holder_of (v.body z) ≡ Some (At (LAST_PORTER_SLOT ∷ parent z)) → holds is_native (v.body (LAST_PORTER_SLOT ∷ parent z)) ≡ true
+  pub stands-porter : (z : Path) → holder_of (v.body z) ≡ Some (At (LAST_PORTER_SLOT ∷ parent z))
+      → holds is_native (v.body (LAST_PORTER_SLOT ∷ parent z)) ≡ true
   unfolding kind_there
   stands-porter z h = there (v.body (LAST_PORTER_SLOT ∷ parent z)) refl (thread (v.body z) (valid.good z) h)
     where
@@ -149,7 +150,8 @@ module _ (v : World) (valid : IsConsistent v) (stand : AllStand v) (kept : Scrat
       by true live = was-some (edited edit) (v.body q) live
       by false live = live
 
-  altered-native : (y : Path) (edit : Edit) → IsKeptEdit v y edit → (q : Path) → holds is_native (v.body q) ≡ true → holds is_native (altered_at y edit q) ≡ true
+  altered-native : (y : Path) (edit : Edit) → IsKeptEdit v y edit → (q : Path) → holds is_native (v.body q) ≡ true
+      → holds is_native (altered_at y edit q) ≡ true
   altered-native y edit keeps q h = by (same_path q y) refl
     where
       on : (o : Option Body) → v.body q ≡ o → IsKeptEdit v q edit → holds is_native o ≡ true → holds is_native (option_map (edited edit) o) ≡ true
@@ -196,7 +198,8 @@ module _ (v : World) (valid : IsConsistent v) (stand : AllStand v) (kept : Scrat
       (same (λ o. holds is_native o) refl (LAST_PORTER_SLOT ∷ x)) (same (λ o. holds (leads_to (LAST_PORTER_SLOT ∷ parent x)) (holder_of o)) refl x)
       (by (same_path (k ∷ x) (j ∷ y)) refl live)
     where
-      same : (test : Option Body → Bool) → test None ≡ false → (q : Path) → test (v.body q) ≡ true → test (if same_path q (j ∷ y) then Some new else v.body q) ≡ true
+      same : (test : Option Body → Bool) → test None ≡ false → (q : Path) → test (v.body q) ≡ true
+          → test (if same_path q (j ∷ y) then Some new else v.body q) ≡ true
       same test none q h = on (same_path q (j ∷ y)) refl
         where
           on : (t : Bool) → same_path q (j ∷ y) ≡ t → test (if t then Some new else v.body q) ≡ true

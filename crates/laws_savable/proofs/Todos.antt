@@ -83,7 +83,8 @@ has_rest (CondAsleep c m ∷ []) is = record { tail = refl; first = refl; shift 
 has_rest (CondSignal c ∷ []) is = record { tail = refl; first = refl; shift = λ k. refl; code = refl }
 has_rest (CondBroadcast c ∷ []) is = record { tail = refl; first = refl; shift = λ k. refl; code = refl }
 has_rest (Connect h ∷ []) is = record { tail = refl; first = refl; shift = λ k. refl; code = refl }
-has_rest (Connect h ∷ ClientSend address count ∷ ClientOver ∷ ClientReceive into room ∷ []) is = record { tail = refl; first = refl; shift = λ k. refl; code = refl }
+has_rest (Connect h ∷ ClientSend address count ∷ ClientOver ∷ ClientReceive into room
+    ∷ []) is = record { tail = refl; first = refl; shift = λ k. refl; code = refl }
 has_rest (ClientSend address count ∷ ClientOver ∷ ClientReceive into room ∷ []) is = record { tail = refl; first = refl; shift = λ k. refl; code = refl }
 has_rest (ClientOver ∷ ClientReceive into room ∷ []) is = record { tail = refl; first = refl; shift = λ k. refl; code = refl }
 has_rest (ClientReceive into room ∷ []) is = record { tail = refl; first = refl; shift = λ k. refl; code = refl }

@@ -101,7 +101,8 @@ values-all [] all = tt
 values-all (stage ∷ todo) all = values-append (arguments stage) (flat_map arguments todo) all.0 (values-all todo all.1)
 
 pub words-left : (stage : Stage) (todo : List Stage) (rest : List ℕ) → AreValues (arguments stage) → AreWords rest → AreWords (left_by stage todo rest)
-words-left stage todo rest values all = words-without (argument_registers todo) (with_values (arguments stage) rest) (words-with (arguments stage) rest values all)
+words-left stage todo rest values all = words-without (argument_registers todo) (with_values (arguments stage) rest)
+    (words-with (arguments stage) rest values all)
 
 pub words-called : (todo : List Stage) (rest : List ℕ) → IsTodo todo → AreArguments todo → AreWords rest → AreWords (words todo rest)
 unfolding words
