@@ -11,7 +11,7 @@ returns-then-proceed-clause-made g c =
     let m = c.args.m.now in
     let none : is_some m.pick ≡ false = sym c.is_some.ensures ∙ c.if-is_some.false in
     subst (λ (mv : Move). IsAdvanced self.budget (core_at self.kernel self.services.list self.events) (Some mv)
-        (core_at c.proceed.new.self self.services.list (self.events + 1)))
+    (core_at c.proceed.new.self self.services.list (self.events + 1)))
     (unpicked m.who m.pick none)
     (proceeded self.kernel c.proceed.new.self self.services.list self.budget self.events m.who c.requires.few
     (OnTrue_at c.if-proceed.true c.proceed.ensures.made) (OnTrue_at c.if-proceed.true c.proceed.ensures.ended))
