@@ -1,5 +1,6 @@
 -- What is behind the first items of a list.
-use Rattle.std.proofs.Common.{◌≡◌, ℕ, zero, suc, ◌+◌, ◌-◌, ◌<◌, List, [], ◌∷◌, ◌++◌, map, length, take, drop, ◌≤◌, min, replicate, refl, sym, ap, subst, ◌∙◌, arith, append_assoc, Bool, true, false}
+use Rattle.std.proofs.Common.{◌≡◌, ℕ, zero, suc, ◌+◌, ◌-◌, ◌<◌, List, [], ◌∷◌, ◌++◌, map, length, take}
+use Rattle.std.proofs.Common.{drop, ◌≤◌, min, replicate, refl, sym, ap, subst, ◌∙◌, arith, append_assoc, Bool, true, false}
 use Rattle.std.specs.Prelude.{nat_lt, slice_get, slice_index_or}
 use Rattle.std.proofs.lemmas.List.{drop_all, take_all, take_min as take-min, length-take, drop-replicate, append-nil}
 use Rattle.std.proofs.Math.Nat.{min_comm}
@@ -66,7 +67,8 @@ asked_one : (i : Item) (is : List Item) (ps : List Ptr) → drop (asked_of_all i
 unfolding asked_of_all
 asked_one i is ps = drop_more (asked_of i) (asked_of_all is) ps
 
-behind_is : (left behind : List Lead) (count : ℕ) (i : Item) → count ≡ asked_of i → behind ≡ drop count left → leads_of behind ≡ drop (asked_of i) (leads_of left)
+behind_is : (left behind : List Lead) (count : ℕ) (i : Item) → count ≡ asked_of i → behind ≡ drop count left
+    → leads_of behind ≡ drop (asked_of i) (leads_of left)
 behind_is left behind count i asked is = ap leads_of is ∙ drop_map count left ∙ ap (λ k. drop k (leads_of left)) asked
 
 pub asked_step : (items : List CodeItem) (n count : ℕ) (d : CodeItem) (left behind : List Lead) (all : List Ptr) → n < length items →
@@ -80,7 +82,8 @@ asked_step items n count d left behind all less asked is whole =
 pub asked_end : (items : List CodeItem) (n : ℕ) (left : List Lead) (all : List Ptr) → length items ≤ n →
     drop (asked_of_all (items_of (drop n items))) (leads_of left) ≡ all → leads_of left ≡ all
 unfolding asked_of_all
-asked_end items n left all past whole = sym (ap (λ is. drop (asked_of_all (items_of is)) (leads_of left)) (no_more items n (λ less. omega (arith, less, past)))) ∙ whole
+asked_end items n left all past whole = sym (ap (λ is. drop (asked_of_all (items_of is)) (leads_of left))
+    (no_more items n (λ less. omega (arith, less, past)))) ∙ whole
 
 -- ---- objects by rising slot
 
@@ -93,7 +96,8 @@ unfolding rising objects_with
 rising_one sp floor i is ps true e = rw e refl
 rising_one sp floor i is ps false e = rw e refl
 
-pub object_step : (sp : List Path) (items : List CodeItem) (n floor count next : ℕ) (d : CodeItem) (left behind : List Lead) (objects more all : List ObjectRec) → n < length items →
+pub object_step : (sp : List Path) (items : List CodeItem) (n floor count next : ℕ) (d : CodeItem) (left behind : List Lead)
+    (objects more all : List ObjectRec) → n < length items →
     count ≡ asked_of (item_of (slice_index_or items n d)) → behind ≡ drop count left →
     more ≡ objects ++ kept_of sp floor (item_of (slice_index_or items n d)) (leads_of left) → next ≡ floor_after floor (slice_index_or items n d).number →
     objects ++ rising floor (objects_with sp (items_of (drop n items)) (leads_of left)) ≡ all →
@@ -113,16 +117,19 @@ pub object_end : (sp : List Path) (items : List CodeItem) (n floor : ℕ) (left 
     objects ++ rising floor (objects_with sp (items_of (drop n items)) (leads_of left)) ≡ all → objects ≡ all
 unfolding rising objects_with
 object_end sp items n floor left objects all past whole =
-    sym (append-nil objects) ∙ sym (ap (λ is. objects ++ rising floor (objects_with sp (items_of is) (leads_of left))) (no_more items n (λ less. omega (arith, less, past)))) ∙ whole
+    sym (append-nil objects) ∙ sym (ap (λ is. objects ++ rising floor (objects_with sp (items_of is) (leads_of left)))
+    (no_more items n (λ less. omega (arith, less, past)))) ∙ whole
 
 -- ---- spaces
 
 space_one : (sp : List Path) (c : Content) (cs : List Content) (ps : List Ptr) →
-    map narrow_space (spaces_with sp (c ∷ cs) ps) ≡ narrow_space (space_with sp c ps) ∷ map narrow_space (spaces_with sp cs (drop (asked_of_all c.objects) (behind_holder c.path ps)))
+    map narrow_space (spaces_with sp (c ∷ cs) ps) ≡ narrow_space (space_with sp c ps)
+    ∷ map narrow_space (spaces_with sp cs (drop (asked_of_all c.objects) (behind_holder c.path ps)))
 unfolding spaces_with
 space_one sp c cs ps = refl
 
-pub space_step : (sp : List Path) (contents : List CodeContent) (n : ℕ) (content : CodeContent) (left behind : List Lead) (spaces more : List SpaceRec) (space : SpaceRec)
+pub space_step : (sp : List Path) (contents : List CodeContent) (n : ℕ) (content : CodeContent) (left behind : List Lead) (spaces more : List SpaceRec)
+    (space : SpaceRec)
     (all : List SpaceRec) → n < length contents → content ≡ slice_index_or contents n content → more ≡ spaces ++ space ∷ [] →
     space ≡ narrow_space (space_with sp (content_of content) (leads_of left)) →
     leads_of behind ≡ drop (asked_of_all (items_of content.objects)) (behind_holder (up content.path) (leads_of left)) →
@@ -142,7 +149,8 @@ pub space_end : (sp : List Path) (contents : List CodeContent) (n : ℕ) (left :
     spaces ++ map narrow_space (spaces_with sp (contents_of (drop n contents)) (leads_of left)) ≡ all → spaces ≡ all
 unfolding spaces_with
 space_end sp contents n left spaces all past whole =
-    sym (append-nil spaces) ∙ sym (ap (λ cs. spaces ++ map narrow_space (spaces_with sp (contents_of cs) (leads_of left))) (no_more contents n (λ less. omega (arith, less, past)))) ∙ whole
+    sym (append-nil spaces) ∙ sym (ap (λ cs. spaces ++ map narrow_space (spaces_with sp (contents_of cs) (leads_of left)))
+    (no_more contents n (λ less. omega (arith, less, past)))) ∙ whole
 
 pub image_of : (spaces more : List SpaceRec) → spaces ≡ more → ◌≡◌ {A = Image} (record { spaces = spaces }) (record { spaces = more })
 image_of spaces more e = subst (λ ss. ◌≡◌ {A = Image} (record { spaces = spaces }) (record { spaces = ss })) e refl

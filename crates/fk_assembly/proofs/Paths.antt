@@ -1,5 +1,6 @@
 -- Paths from the root down, and from the object outwards.
-use Rattle.std.proofs.Common.{◌≡◌, ℕ, zero, suc, ◌+◌, ◌<◌, ◌-◌, ◌==◌, Bool, true, false, not, take, drop, List, [], ◌∷◌, ◌++◌, length, refl, sym, ap, subst, ◌∙◌, arith}
+use Rattle.std.proofs.Common.{◌≡◌, ℕ, zero, suc, ◌+◌, ◌<◌, ◌-◌, ◌==◌, Bool, true, false, not}
+use Rattle.std.proofs.Common.{take, drop, List, [], ◌∷◌, ◌++◌, length, refl, sym, ap, subst, ◌∙◌, arith}
 use Rattle.std.proofs.lemmas.List.{reverse-reverse, length-reverse}
 use Rattle.fk_model.specs.Places.{Path, Ptr, same_path, slot_of}
 use Rattle.fk_model.proofs.walks.PlaceLaws.{same_path_refl, same_path_eq, same_path_ne, same_path_apart}
@@ -83,7 +84,8 @@ behind_some path ps some = by (up path) (below path some)
 
 -- ---- the number of a path
 
-pub rank_here : (contents : List Content) (at : ℕ) (q : Path) → at < length contents → same_path (up (path_at contents at)) q ≡ true → rank (spaces_of (drop at contents)) q ≡ 0
+pub rank_here : (contents : List Content) (at : ℕ) (q : Path) → at < length contents → same_path (up (path_at contents at)) q ≡ true
+    → rank (spaces_of (drop at contents)) q ≡ 0
 unfolding rank
 rank_here [] at q less same = absurd (omega (arith, less))
 rank_here (d ∷ contents) zero q less same = rw same refl
@@ -127,10 +129,12 @@ ended place path at past over = rw (no_more place at past, no_more path at over)
 
 -- ---- number by number
 
-pub rank_found : (contents : List Content) (at all : ℕ) (q : Path) → at < length contents → same_path (up (path_at contents at)) q ≡ true → all ≡ at + rank (spaces_of (drop at contents)) q → at ≡ all
+pub rank_found : (contents : List Content) (at all : ℕ) (q : Path) → at < length contents → same_path (up (path_at contents at)) q ≡ true
+    → all ≡ at + rank (spaces_of (drop at contents)) q → at ≡ all
 rank_found contents at all q less same is = let here = rank_here contents at q less same in omega (arith, here, is)
 
-pub rank_on : (contents : List Content) (at all : ℕ) (q : Path) → at < length contents → same_path (up (path_at contents at)) q ≡ false → all ≡ at + rank (spaces_of (drop at contents)) q →
+pub rank_on : (contents : List Content) (at all : ℕ) (q : Path) → at < length contents → same_path (up (path_at contents at)) q ≡ false
+    → all ≡ at + rank (spaces_of (drop at contents)) q →
     all ≡ (at + 1) + rank (spaces_of (drop (at + 1) contents)) q
 rank_on contents at all q less same is =
     let next = rank_next contents at q less same in

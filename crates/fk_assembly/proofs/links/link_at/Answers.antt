@@ -7,7 +7,8 @@ use Rattle.fk_assembly.proofs.links.link_at.Goals as goal
 
 pub returns-in-Some : goal.returns-in-Some
 returns-in-Some c =
-    c.link_of.ensures ∙ ap (λ p. narrow_link (link_of (spaces_of c.args.contents.now) p)) (sym (pointer_get c.args.leads.now c.args.at ∙ ap pointer_in (sym c.in-Some.ensures)))
+    c.link_of.ensures ∙ ap (λ p. narrow_link (link_of (spaces_of c.args.contents.now) p))
+    (sym (pointer_get c.args.leads.now c.args.at ∙ ap pointer_in (sym c.in-Some.ensures)))
 
 pub returns-in-None : goal.returns-in-None
 returns-in-None c =

@@ -9,12 +9,14 @@ use Rattle.fk_assembly.proofs.links.rank.Goals as goal
 pub returns-then-is_same : goal.returns-then-is_same
 returns-then-is_same c =
     rank_found c.args.contents.now c.loop-at.at (rank (spaces_of c.args.contents.now) (up c.args.path.now)) (up c.args.path.now) c.loop-at-test.true
-    (same_up (path_at c.args.contents.now c.loop-at.at) c.args.path.now ∙ ap (λ place. same_path place c.args.path.now) (sym c.path_at.ensures) ∙ sym c.if-is_same.ensures) c.loop-at.invariant
+    (same_up (path_at c.args.contents.now c.loop-at.at) c.args.path.now ∙ ap (λ place. same_path place c.args.path.now) (sym c.path_at.ensures)
+    ∙ sym c.if-is_same.ensures) c.loop-at.invariant
 
 pub loop-at-preserved : goal.loop-at-preserved
 loop-at-preserved c =
     rank_on c.args.contents.now c.loop-at.at (rank (spaces_of c.args.contents.now) (up c.args.path.now)) (up c.args.path.now) c.loop-at-test.true
-    (same_up (path_at c.args.contents.now c.loop-at.at) c.args.path.now ∙ ap (λ place. same_path place c.args.path.now) (sym c.path_at.ensures) ∙ sym c.if-is_same.ensures) c.loop-at.invariant
+    (same_up (path_at c.args.contents.now c.loop-at.at) c.args.path.now ∙ ap (λ place. same_path place c.args.path.now) (sym c.path_at.ensures)
+    ∙ sym c.if-is_same.ensures) c.loop-at.invariant
 
 pub returns : goal.returns
 returns c =

@@ -1,0 +1,3 @@
+pub mod Checkpoints
+pub mod Phases
+pub mod Lefts

@@ -1,0 +1,61 @@
+//! How a checkpoint is about to end, while it drops its scratch and releases the subtree.
+ghost use Rattle.std.specs.Prelude.{◌≡◌, IfOk, IfSome, IfNone, OnOk};
+ghost use Rattle.fk_checkpoint.specs.Checkpoints.{end_of, ending_of, IsReady};
+
+use crate::left::outwards;
+use fk_assembly::assembled;
+use fk_finish::{Finish, Place};
+use fk_gathering::{Content, Lead};
+use fk_model::NoMemory;
+use fk_seeking::{Walk, met_at};
+use std::alloc::Global;
+
+/// How a checkpoint is about to end.
+#[derive(Drop)]
+pub enum Ending {
+    /// The subtree isn't closed: at the object before this place of those that a walk has met, by this field.
+    Foreign {
+        walk: Walk,
+        at: usize,
+        field: u8,
+    },
+    /// It is closed, and this was gathered of it.
+    Done {
+        contents: Vec<Content>,
+        leads: Vec<Lead>,
+    },
+    /// What it ends with is made.
+    Made(Finish),
+}
+
+/// What it ends with; nothing where that is made.
+fn made(alloc: Global, slot: u8, ending: &Ending) -> Result<Option<Finish>, NoMemory>
+    ensures made { IfOk result (λ finish. IfSome finish (λ f. ending_of slot ending.now ≡ end_of f)) }
+    ensures ready { IfOk result (λ finish. IfNone finish (IsReady ending.now)) }
+{
+    match ending {
+        Ending::Foreign { walk, at, field } => {
+            let path = outwards(alloc, slot, met_at(walk.mets(), *at))?;
+            Ok(Some(Finish::Foreign(Place {
+                path,
+                field: *field,
+            })))
+        }
+        Ending::Done { contents, leads } => {
+            let image = assembled(alloc, contents.as_slice(), leads.as_slice())?;
+            Ok(Some(Finish::Image(image)))
+        }
+        Ending::Made(_) => Ok(None),
+    }
+}
+
+/// Makes what a checkpoint ends with, which needs memory, and changes nothing else.
+pub fn make(alloc: Global, slot: u8, ending: &mut Ending) -> Result<(), NoMemory>
+    ensures same { ending_of slot ending.new ≡ ending_of slot ending.old }
+    ensures ready { OnOk result (IsReady ending.new) }
+{
+    if let Some(finish) = made(alloc, slot, ending)? {
+        *ending = Ending::Made(finish);
+    }
+    Ok(())
+}
