@@ -1,28 +1,32 @@
 -- The house's laws, from those of its parts.
-use Rattle.std.proofs.Common.{◌≡◌, ℕ, zero, suc, ◌+◌, ◌*◌, ◌<◌, ◌≤◌, Bool, true, false, cond, nat_le, List, [], ◌∷◌, length, take, Option, Some, None, option_map, refl, sym, ap, subst, arith, ◌∙◌, ◌⊎◌, inl, inr}
+use Rattle.std.proofs.Common.{◌≡◌, ℕ, zero, suc, ◌+◌, ◌*◌, ◌<◌, ◌≤◌, Bool, true, false, cond, nat_le, List, [], ◌∷◌, length, take, Option, Some, None, option_map, refl, sym, ap, subst, arith, ◌∙◌, ◌⊎◌, inl, inr, ◌++◌, not, ◌&&◌, ◌==◌, is_some, if◌then◌else◌}
 use Rattle.std.specs.List.{slice_get}
-use Rattle.fk_model.specs.declared.limits.TheConstants.{OWN_SPACE, LAST_USER_SLOT}
+use Rattle.fk_model.specs.declared.limits.TheConstants.{OWN_SPACE, LAST_USER_SLOT, LAST_SCRATCH_SLOT, LAST_PORTER_SLOT}
+use Rattle.fk_model.specs.declared.names.Kind.TheVariants as kinds
+use Rattle.fk_model.specs.Objects.{Body, kind_of, holds, is_served, reference_of}
+use Rattle.fk_model.specs.Objects.Body.{Mutex, Cond, Mapping, Region, Port, Portset, Space, Thread_of, Reference}
+use Rattle.fk_model.specs.StateRows.{is_native}
+use Rattle.fk_model.specs.Whole.{stands_in}
+use Rattle.std.proofs.lemmas.Bool.{and_parts, eqb-true}
 use Rattle.fk_model.specs.declared.moves.Move.{Move}
 use Rattle.fk_model.specs.declared.stage.Stage.{Stage}
 use Rattle.fk_model.specs.declared.stage.Stage.TheVariants.{SpaceHold}
-use Rattle.fk_model.specs.declared.moves.Ask.TheVariants as asks
-use Rattle.fk_model.specs.Who.{event_of}
 use Rattle.fk_model.specs.Places.{Path}
 use Rattle.fk_model.specs.World.{World}
 use Rattle.fk_model.specs.Cut.{cut}
-use Rattle.fk_model.specs.Runs.{Event, after}
-use Rattle.fk_model.specs.Valid.{birth_at}
+use Rattle.fk_model.specs.Runs.{after}
+use Rattle.fk_model.specs.Valid.{kind_there, birth_at}
 use Rattle.fk_image.specs.declared.image.Image.{Image}
 use Rattle.fk_image.specs.Picture.{picture}
 use Rattle.fk_image.specs.Valid.{is_valid}
 use Rattle.laws_savable.specs.Savable.{IsSound}
-use Rattle.laws_jobs.specs.Machines.{no_words, call_of, IsReadyAt, AtWork, heard, said_of, Head}
+use Rattle.laws_jobs.specs.Machines.{no_words, call_of, IsReadyAt, AtWork}
 use Rattle.laws_jobs.specs.Machines.Head.{Stops, Asks}
 use Rattle.laws_jobs.specs.Jobs.{MayBegin, IsTidyJob, Saves, Restores}
-use Rattle.laws_jobs.specs.Holds.{hold}
+use Rattle.laws_jobs.specs.Holds.{hold, IsSpaceAt}
+use Rattle.laws_jobs.proofs.Goings.{called}
 use Rattle.laws_jobs.proofs.Weaving.{first_sound}
-use Rattle.laws_further.specs.ClosedLaws.{IsUncut}
-use Rattle.laws_uncut.proofs.Kept.{keeps_uncut}
+use Rattle.laws_further.specs.ClosedLaws.{IsUsersAlone}
 use Rattle.laws_checkpoint.specs.Checkpoint as checkpoints
 use Rattle.laws_checkpoint.specs.Checkpoint.{checkpoint}
 use Rattle.laws_checkpoint.specs.Checkpoint.End.{Done, Gone, Foreign}
@@ -41,11 +45,9 @@ use Rattle.laws_rooms.specs.Restoring.{bound_by, restore_of}
 use Rattle.laws_restore.proofs.Owing.{is_tidy as restore_is_tidy}
 use Rattle.laws_rooms.proofs.Roomed.{valid_is_roomed}
 use Rattle.laws_rooms.proofs.Restored.{pairs_bind, image_is_restored, image_restore_is_bounded}
-use Rattle.laws_runs.specs.Cores.{Asker, Core, House, IsRun, JobEnd, Servers, Settles, asker, job_moved, moved, moved_by, with_end, world_at}
-use Rattle.laws_runs.specs.Cores.Settles.{Stays, Ends}
-use Rattle.laws_runs.specs.Cores.IsRun.{Begins, Goes}
+use Rattle.laws_runs.specs.Cores.{Core, IsRun, JobEnd, Servers, world_at}
 use Rattle.laws_runs.specs.Cores.JobEnd.{Worked}
-use Rattle.laws_runs.specs.Cores.Asker.{Nobody, Others, Job as Asked_by_job}
+use Rattle.laws_runs.specs.Cores.Asker.{Job as Asked_by_job}
 use Rattle.laws_runs.specs.Composed.{IsComposed, job_moves, WorksSo, HasWorked, HasEnded}
 use Rattle.laws_runs.specs.Turning.{asker_at, MovesAt}
 use Rattle.laws_runs.proofs.Composing.{composed}
@@ -57,8 +59,9 @@ use Rattle.laws_house.specs.Houses.Task.{Checkpoint, Restore}
 use Rattle.laws_house.specs.Houses.State.{Checking, Restoring}
 use Rattle.laws_house.specs.Houses.End.{Checked, Restored}
 use Rattle.laws_house.specs.Parts.{IsPart}
-use Rattle.laws_house.specs.Laws.{NamesUsersSlots, HouseIsTidy, RunStaysUncut, IsGrounded, CheckpointsAreBrief, RestoresAreBrief, LeftBeside, CheckpointsLeaveTheRest, CheckpointsEndAsItWas, CheckpointsSave, RestoresMake, SavedGoesOn}
+use Rattle.laws_house.specs.Laws.{NamesUsersSlots, IsUnserved, HouseIsTidy, RunStaysUncut, IsGrounded, CheckpointsAreBrief, RestoresAreBrief, LeftBeside, CheckpointsLeaveTheRest, CheckpointsEndAsItWas, CheckpointsSave, RestoresMake, SavedGoesOn}
 use Rattle.laws_house.proofs.Parts.{asks_part, stops_part, works, parts_are_tidy}
+use Rattle.laws_house.proofs.Kept.{uncut_at, Stood, stood_at}
 
 -- ---- the two parts
 
@@ -141,35 +144,6 @@ house_is_tidy jobs servers names index j ends s its starts = by j.task starts (n
     by (Restore slot pairs source) e names = made slot pairs names (valid_one (sourced ends source)) (λ image from. valid_is (sourced ends source) image from) e
 
 -- ---- each world of a run is nobody's cut
-
-module _ {J S A V : Type 0} (h : House J S A V) (first : Core S A V) where
-  settled_world : (c d : Core S A V) → Settles h c d → d.world ≡ c.world
-  settled_world _ _ (Stays c none) = refl
-  settled_world _ _ (Ends c d why now rest) = settled_world (with_end c why) d rest
-
-  moved_uncut : (c : Core S A V) (m : Move) (a : Asker S) → IsUncut c.world → IsUncut (moved_by h c m a).world
-  moved_uncut c m Nobody uncut = uncut
-  moved_uncut c m (Others ask) uncut = keeps_uncut c.world (event_of c.world ask m) uncut
-  moved_uncut c m (Asked_by_job begun s stage words) uncut = by (heard h.machine s (said_of c.world event)) (h.machine.head (heard h.machine s (said_of c.world event)))
-    where
-      event : Event
-      event = event_of c.world (asks.Call stage words) m
-
-      by : (t : S) (head : Head A) → IsUncut (job_moved h c event begun t head).world
-      by t (Asks more given) = keeps_uncut c.world event uncut
-      by t (Stops end) = keeps_uncut c.world event uncut
-
-  uncut_run : {c : Core S A V} {past : List Move} → IsRun h first past c → IsUncut first.world → IsUncut c.world
-  uncut_run Begins uncut = uncut
-  uncut_run (Goes past c m d run ready settles) uncut = subst IsUncut (sym (settled_world (moved h c m) d settles)) (moved_uncut c m (asker h c m.who) (uncut_run run uncut))
-
-  pub uncut_at : {c : Core S A V} {past : List Move} (run : IsRun h first past c) → IsUncut first.world → (k : ℕ) → IsUncut (world_at run k)
-  uncut_at Begins uncut k = uncut
-  uncut_at (Goes past c m d run ready settles) uncut k = by (nat_le k (length past)) (uncut_at run uncut k) (uncut_run (Goes past c m d run ready settles) uncut)
-    where
-      by : (t : Bool) → IsUncut (world_at run k) → IsUncut d.world → IsUncut (cond t (world_at run k) d.world)
-      by true one two = one
-      by false one two = two
 
 pub run_stays_uncut : {V : Type 0} → RunStaysUncut V
 run_stays_uncut jobs servers first c past run uncut k = uncut_at (house jobs servers) first run uncut k
@@ -366,8 +340,90 @@ checkpoints_end_as_it_was jobs servers first c past run grounded index j slot be
       was = checkpoint_ends_as_it_was slot j.nester (world_at run begun) (world_at run (last + 1)) e.nester e.state end e.low e.may e.work e.stopped;
     }
 
+-- ---- users alone lie in what is saved
+
+last_slot : (k : ℕ) (b : Body) → stands_in k b ≡ true → is_native b ≡ true → k ≡ LAST_PORTER_SLOT
+last_slot k b stands native = by (nat_le k LAST_USER_SLOT) (nat_le k LAST_SCRATCH_SLOT) stands
+  where
+    no_reference : (b : Body) → is_native b ≡ true → is_some (reference_of b) ≡ true → ⊥
+    no_reference (Thread_of t) native some = cc
+    no_reference (Reference to) native some = cc
+    no_reference b native some = cc
+
+    both : (native_b : Bool) → native_b ≡ true → not native_b ≡ true → ⊥
+    both true one two = cc
+    both false one two = cc
+
+    by : (t r : Bool) → (if t then not (is_native b) else (if r then is_some (reference_of b) else (k == LAST_PORTER_SLOT && is_native b))) ≡ true → k ≡ LAST_PORTER_SLOT
+    by true r e = absurd (both (is_native b) native e)
+    by false true e = absurd (no_reference b native e)
+    by false false e = eqb-true k LAST_PORTER_SLOT (and_parts (k == LAST_PORTER_SLOT) (is_native b) e).0
+
+native_last : (w : World) → IsSound w → (k : ℕ) (x : Path) → holds is_native (w.body (k ∷ x)) ≡ true → k ≡ LAST_PORTER_SLOT
+native_last w sound k x there = by (w.body (k ∷ x)) refl there
+  where
+    by : (o : Option Body) → w.body (k ∷ x) ≡ o → holds is_native o ≡ true → k ≡ LAST_PORTER_SLOT
+    by (Some b) e native = last_slot k b (sound.savable.slots_kept k x b e) native
+    by None e native = cc
+
+a_slot : (q : Path) (slot : ℕ) (nester : Path) → (k : ℕ) × (x : Path) × (q ++ slot ∷ nester ≡ k ∷ x)
+a_slot [] slot nester = (slot, nester, refl)
+a_slot (k ∷ q) slot nester = (k, q ++ slot ∷ nester, refl)
+
+off_unless : (b : Bool) → (b ≡ true → ⊥) → b ≡ false
+off_unless true h = absurd (h refl)
+off_unless false h = refl
+
+alone_later : (first w : World) (nester : Path) (slot : ℕ) → IsSound w → Stood first w → IsUnserved first nester slot → IsSpaceAt w (slot ∷ nester) → IsUsersAlone w nester slot
+unfolding kind_there
+alone_later first w nester slot sound stood before space = by (w.body (slot ∷ nester)) refl space
+  where
+    porter : (q : Path) → holds is_native (w.body (q ++ slot ∷ nester)) ≡ true → ⊥
+    porter q there =
+        let at = a_slot q slot nester in
+        let native : holds is_native (w.body (at.0 ∷ at.1)) ≡ true = ap (λ (y : Path). holds is_native (w.body y)) (sym at.2) ∙ there in
+        let last = native_last w sound at.0 at.1 native in
+        let then_there = stood.porters at.1 (ap (λ k. holds is_native (w.body (k ∷ at.1))) (sym last) ∙ native) in
+        let was : holds is_native (first.body (q ++ slot ∷ nester)) ≡ true = ap (λ (y : Path). holds is_native (first.body y)) (at.2 ∙ ap (λ k. k ∷ at.1) last) ∙ then_there in
+        let both = sym was ∙ before.no_porter q in
+        cc
+
+    served : (q : Path) → holds is_served (w.body (q ++ slot ∷ nester)) ≡ true → ⊥
+    served q there = let both = sym (stood.served (q ++ slot ∷ nester) there) ∙ before.unserved q in cc
+
+    by : (o : Option Body) → w.body (slot ∷ nester) ≡ o → option_map kind_of o ≡ Some kinds.Space → IsUsersAlone w nester slot
+    by (Some (Space birth holder)) e kind = record {
+      birth = birth;
+      holder = holder;
+      root = e;
+      no_porter = λ q. off_unless (holds is_native (w.body (q ++ slot ∷ nester))) (porter q);
+      unserved = λ q. off_unless (holds is_served (w.body (q ++ slot ∷ nester))) (served q);
+    }
+    by (Some (Mutex locked)) e kind = cc
+    by (Some Cond) e kind = cc
+    by (Some (Mapping m)) e kind = cc
+    by (Some (Region r)) e kind = cc
+    by (Some (Port set served)) e kind = cc
+    by (Some Portset) e kind = cc
+    by (Some (Thread_of t)) e kind = cc
+    by (Some (Reference to)) e kind = cc
+    by None e kind = cc
+
+alone_there : {V : Type 0} (jobs : List Job) (servers : Servers V) (first c : Core State End V) (past : List Move) (run : IsRun (house jobs servers) first past c) (grounded : IsGrounded jobs servers first past)
+    (index : ℕ) (j : Job) (slot begun last : ℕ) (image : Image) → slice_get jobs index ≡ Some j → j.task ≡ Checkpoint slot →
+    slice_get c.ends index ≡ Some (Worked (Checked (Done image)) begun last) → (nester : Path) → birth_at (world_at run begun) nester ≡ Some j.nester → IsUsersAlone (world_at run begun) nester slot
+alone_there jobs servers first c past run grounded index j slot begun last image its is ended nester named =
+    let e = ended_checkpoint jobs servers first c past run grounded index j slot begun last (Done image) its is ended in
+    let native = (called e.nester (world_at run begun) e.work.stage e.work.words e.work.ready).native in
+    let stood = stood_at (house jobs servers) first grounded.users (house_is_tidy jobs servers grounded.slots) grounded.start grounded.uncut run grounded.few begun in
+    let was = checkpoint_ends_as_it_was slot j.nester (world_at run begun) (world_at run (last + 1)) e.nester e.state (Done image) e.low e.may e.work e.stopped in
+    let before = grounded.alone index j slot its is e.nester (sym (stood.births e.nester native) ∙ e.may.named) in
+    let same : e.nester ≡ nester = e.may.sound.whole.valid.consistent.apart e.nester nester j.nester e.may.named named in
+    subst (λ (x : Path). IsUsersAlone (world_at run begun) x slot) same (alone_later first.world (world_at run begun) e.nester slot e.may.sound stood before was.0)
+
 pub checkpoints_save : {V : Type 0} → CheckpointsSave V
-checkpoints_save jobs servers first c past run grounded index j slot begun last image its is ended alone =
+checkpoints_save jobs servers first c past run grounded index j slot begun last image its is ended =
+    let alone = alone_there jobs servers first c past run grounded index j slot begun last image its is ended in
     let may_save : (nester : Path) → birth_at (world_at run begun) nester ≡ Some j.nester → MaySave (world_at run begun) nester slot =
     λ nester named. record { uncut = uncut_at (house jobs servers) first run grounded.uncut begun; users = alone nester named } in
     let e = ended_checkpoint jobs servers first c past run grounded index j slot begun last (Done image) its is ended in (
@@ -398,8 +454,8 @@ got_before (x ∷ xs) (suc n) zero low = refl
 got_before (x ∷ xs) (suc n) (suc i) low = got_before xs n i (omega (arith, low))
 
 pub saved_goes_on : {V : Type 0} → SavedGoesOn V
-saved_goes_on jobs servers first c past run grounded from to i j slot place holds release made done pairs image its is ended alone their there restored_it before =
-    let saved = checkpoints_save jobs servers first c past run grounded from i slot holds release image its is ended alone in
+saved_goes_on jobs servers first c past run grounded from to i j slot place holds release made done pairs image its is ended their there restored_it before =
+    let saved = checkpoints_save jobs servers first c past run grounded from i slot holds release image its is ended in
     let source : valid_one (sourced (take to c.ends) (MadeBy from)) ≡ Some image =
     ap valid_one (ap image_made (got_before c.ends to from before ∙ ended)) ∙ ap (λ t. cond t (Some image) None) saved.0 in
     let restored = restores_make jobs servers first c past run grounded to j place made done pairs (MadeBy from) image their there source restored_it in
@@ -409,5 +465,5 @@ saved_goes_on jobs servers first c past run grounded from to i j slot place hold
       there = restored.nester;
       named_there = restored.named;
       further = λ ms. restored_go_on (house jobs servers) first c past run grounded.users (house_is_tidy jobs servers grounded.slots) grounded.start grounded.few i.nester slot holds release (picture image) saved.1
-          (uncut_at (house jobs servers) first run grounded.uncut holds) (alone saved.1.nester saved.1.named) j.nester place made done (bound_by pairs) restored ms;
+          (uncut_at (house jobs servers) first run grounded.uncut holds) (alone_there jobs servers first c past run grounded from i slot holds release image its is ended saved.1.nester saved.1.named) j.nester place made done (bound_by pairs) restored ms;
     }

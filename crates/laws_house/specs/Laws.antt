@@ -1,9 +1,11 @@
 -- What a run in which checkpoints and restores work is for the subtrees that they save and make again.
-use Rattle.std.specs.Prelude.{◌≡◌, ℕ, ◌+◌, ◌*◌, ◌<◌, ◌≤◌, true, List, length, take, Some}
+use Rattle.std.specs.Prelude.{◌≡◌, ℕ, ◌+◌, ◌*◌, ◌<◌, ◌≤◌, true, List, length, take, Some, ◌∷◌, ◌++◌, false}
 use Rattle.std.specs.List.{slice_get}
 use Rattle.fk_model.specs.declared.limits.TheConstants.{LAST_USER_SLOT}
 use Rattle.fk_model.specs.declared.moves.Move.{Move}
 use Rattle.fk_model.specs.declared.stage.Stage.{Stage}
+use Rattle.fk_model.specs.Objects.{holds, is_served}
+use Rattle.fk_model.specs.StateRows.{is_native}
 use Rattle.fk_model.specs.Places.{Path}
 use Rattle.fk_model.specs.World.{World}
 use Rattle.fk_model.specs.Searches.{depth}
@@ -13,7 +15,7 @@ use Rattle.fk_model.specs.Valid.{birth_at}
 use Rattle.fk_image.specs.declared.image.Image.{Image}
 use Rattle.fk_image.specs.Picture.{picture}
 use Rattle.fk_image.specs.Valid.{is_valid}
-use Rattle.laws_further.specs.ClosedLaws.{IsUncut, IsUsersAlone}
+use Rattle.laws_further.specs.ClosedLaws.{IsUncut}
 use Rattle.laws_checkpoint.specs.Checkpoint as checkpoints
 use Rattle.laws_checkpoint.specs.Checkpoint.End.{Done}
 use Rattle.laws_checkpoint.specs.Bounded.{count_of, LiesWithin}
@@ -48,14 +50,25 @@ NameUsersSlots jobs = (index : ℕ) (j : Job) → slice_get jobs index ≡ Some 
 abbrev pub HouseIsTidy : Type 0 → Type 0
 HouseIsTidy V = (jobs : List Job) (servers : Servers V) → NameUsersSlots jobs → AreTidy (house jobs servers)
 
+-- no porter and no served port lies in the slot of a nester
+pub record IsUnserved (w : World) (nester : Path) (slot : ℕ) : Type 0 where
+  pub no_porter : (q : Path) → holds is_native (w.body (q ++ slot ∷ nester)) ≡ false
+  pub unserved : (q : Path) → holds is_served (w.body (q ++ slot ∷ nester)) ≡ false
+
+-- in each subtree that a job is to save, as the reader of scenarios asks of the first world
+abbrev pub SaveUsersAlone : List Job → World → Type 0
+SaveUsersAlone jobs w = (index : ℕ) (j : Job) (slot : ℕ) → slice_get jobs index ≡ Some j → j.task ≡ Checkpoint slot →
+    (nester : Path) → birth_at w nester ≡ Some j.nester → IsUnserved w nester slot
+
 -- what is supposed of a run: of its native servers, its jobs, its first core, and how many moves it has
 pub record IsGrounded {V : Type 0} (jobs : List Job) (servers : Servers V) (first : Core State End V) (past : List Move) : Type 0 where
   pub users : AskAsUsers (house jobs servers)
   pub slots : NameUsersSlots jobs
   pub start : IsStart first
   pub few : first.world.next + length past ≤ depth
-  -- it is nobody's cut
+  -- it is nobody's cut, and users alone lie in what is to be saved
   pub uncut : IsUncut first.world
+  pub alone : SaveUsersAlone jobs first.world
 
 -- each of its worlds is nobody's cut
 abbrev pub RunStaysUncut : Type 0 → Type 0
@@ -104,14 +117,10 @@ CheckpointsEndAsItWas V = (jobs : List Job) (servers : Servers V) (first c : Cor
     IsGrounded jobs servers first past → (index : ℕ) (j : Job) (slot begun last : ℕ) (end : checkpoints.End) → slice_get jobs index ≡ Some j →
     j.task ≡ Checkpoint slot → slice_get c.ends index ≡ Some (Worked (Checked end) begun last) → EndedAsItWas j.nester slot (world_at run begun) end
 
--- no porter and no served port lies in the slot of a nester, in a world
-abbrev pub UsersAloneThere : ℕ → ℕ → World → Type 0
-UsersAloneThere birth slot w = (nester : Path) → birth_at w nester ≡ Some birth → IsUsersAlone w nester slot
-
 abbrev pub CheckpointsSave : Type 0 → Type 0
 CheckpointsSave V = (jobs : List Job) (servers : Servers V) (first c : Core State End V) (past : List Move) (run : IsRun (house jobs servers) first past c) →
     IsGrounded jobs servers first past → (index : ℕ) (j : Job) (slot begun last : ℕ) (image : Image) → slice_get jobs index ≡ Some j →
-    j.task ≡ Checkpoint slot → slice_get c.ends index ≡ Some (Worked (Checked (Done image)) begun last) → UsersAloneThere j.nester slot (world_at run begun) →
+    j.task ≡ Checkpoint slot → slice_get c.ends index ≡ Some (Worked (Checked (Done image)) begun last) →
     (is_valid image ≡ true) × Checkpointed run j.nester slot begun last (picture image)
 
 -- ---- what a done restore has made
@@ -139,6 +148,5 @@ abbrev pub SavedGoesOn : Type 0 → Type 0
 SavedGoesOn V = (jobs : List Job) (servers : Servers V) (first c : Core State End V) (past : List Move) (run : IsRun (house jobs servers) first past c) →
     IsGrounded jobs servers first past → (from to : ℕ) (i j : Job) (slot place hold release made done : ℕ) (pairs : List (ℕ × ℕ)) (image : Image) →
     slice_get jobs from ≡ Some i → i.task ≡ Checkpoint slot → slice_get c.ends from ≡ Some (Worked (Checked (Done image)) hold release) →
-    UsersAloneThere i.nester slot (world_at run hold) →
     slice_get jobs to ≡ Some j → j.task ≡ Restore place pairs (MadeBy from) → slice_get c.ends to ≡ Some (Worked (Restored restores.Done) made done) → from < to →
     GoesOnAgain i.nester slot (world_at run hold) j.nester place (world_at run made) (world_at run (done + 1)) (bound_by pairs)
