@@ -6,3 +6,5 @@ pub mod Placed
 pub mod Scripted
 pub mod Steps
 pub mod Visited
+pub mod Asked
+pub mod Staged

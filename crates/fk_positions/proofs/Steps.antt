@@ -1,5 +1,5 @@
 -- One step of the code's loops.
-use Rattle.std.proofs.Common.{◌≡◌, ℕ, zero, suc, ◌-◌, ◌<◌, Bool, true, false, cond, ◌==◌, List, refl, sym, ap, ◌∙◌, arith, ne_eqb}
+use Rattle.std.proofs.Common.{◌≡◌, ℕ, zero, suc, ◌-◌, ◌<◌, cond, ◌==◌, List, sym, ap, ◌∙◌, arith, ne_eqb}
 use Rattle.fk_image.specs.declared.image.SpaceRec.{SpaceRec}
 use Rattle.fk_positions.specs.Walks.{parent_of, child_by}
 

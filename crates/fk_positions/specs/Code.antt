@@ -1,5 +1,5 @@
 -- Words of the code: tests of an image's records, and calls in place of orders.
-use Rattle.std.specs.Prelude.{ℕ, Bool, true, false, ◌||◌, ◌==◌, Option, Some, None}
+use Rattle.std.specs.Prelude.{ℕ, Bool, true, false, ◌||◌, ◌==◌, Option, Some, None, if◌then◌else◌}
 use Rattle.fk_image.specs.declared.image.Link.{Link}
 use Rattle.fk_image.specs.declared.image.Link.TheVariants.{Dead, In, Out, Root}
 use Rattle.fk_image.specs.declared.image.TalkRec.{TalkRec}
@@ -41,3 +41,7 @@ leads_out i r = is_out i (link_of r) || talk_is_out i (talk_of r) || fault_is_ou
 
 abbrev pub ties_inside : Rec → Bool
 ties_inside r = talk_is_within (talk_of r) || fault_is_within (fault_of r)
+
+-- a port and a thread both lie inside
+abbrev pub are_within : Link → Link → Bool
+are_within port thread = if leads_within port then leads_within thread else false

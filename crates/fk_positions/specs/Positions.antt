@@ -128,7 +128,7 @@ module _ (ss : List SpaceRec) (slot : ℕ) (bind : ℕ → ℕ) where
       else at pass a (spots.Room (suc n))
 
   abbrev pub next_part : Pass → ℕ → ℕ → ℕ → ℕ → Option SpaceRec → Position
-  next_part pass a n j k None = at pass a (spots.Room (suc n))
+  next_part pass a n j k None = at pass a (spots.After 0)
   next_part pass a n j k (Some s) =
       if nat_lt k LAST_PART
       then record { walk = walked (part_at ss slot bind n s pass j k); pass = pass; spot = spots.Part n j (suc k); stands = a }

@@ -16,8 +16,15 @@ pub fn leads_within(to: Link) -> bool
     matches!(to, Link::In { .. } | Link::Root)
 }
 
+/// Whether a port and a thread both lie inside.
+pub fn are_within(port: Link, thread: Link) -> bool
+    ensures { result ≡ code.are_within port thread }
+{
+    leads_within(port) && leads_within(thread)
+}
+
 /// Whether a pointer leads to the port in this slot of the nester.
-fn is_out(slot: u8, to: Link) -> bool
+pub fn is_out(slot: u8, to: Link) -> bool
     ensures { result ≡ code.is_out slot to }
 {
     match to {
@@ -38,7 +45,8 @@ pub fn link_of(body: &Rec) -> Link
     }
 }
 
-fn talk_of(body: &Rec) -> Option<TalkRec>
+/// The talk of a thread.
+pub fn talk_of(body: &Rec) -> Option<TalkRec>
     ensures { result ≡ words.talk_of body.now }
 {
     match body {
@@ -47,7 +55,8 @@ fn talk_of(body: &Rec) -> Option<TalkRec>
     }
 }
 
-fn fault_of(body: &Rec) -> Option<FaultRec>
+/// The fault of a thread.
+pub fn fault_of(body: &Rec) -> Option<FaultRec>
     ensures { result ≡ words.fault_of body.now }
 {
     match body {
@@ -142,6 +151,13 @@ pub fn any_space_leads_out(spaces: &[SpaceRec], slot: u8) -> bool
     spaces
         .iter()
         .any(|space| any_leads_out(slot, space.objects.as_slice()))
+}
+
+/// The same as the script asks it.
+pub fn leads_out_any(spaces: &[SpaceRec], slot: u8) -> bool
+    ensures { result ≡ words.leads_out_any spaces.now slot }
+{
+    any_space_leads_out(spaces, slot)
 }
 
 /// Whether a pass does something in a space.

@@ -45,7 +45,7 @@ pub enum Spot {
     /// The space with this number is next.
     Room(u32),
     /// This part of an item of a space is next.
-    Part { space: u32, item: u32, part: u8 },
+    Part { space: u32, item: usize, part: u8 },
     /// So many of the orders behind its spaces were given.
     After(u8),
 }
