@@ -1,0 +1,62 @@
+-- How many empty places may still go by before the next order, or the end.
+use Rattle.std.specs.Prelude.{ℕ, zero, suc, ◌+◌, ◌*◌, ◌-◌, Bool, true, false, not, ◌&&◌, is_none, List, [], ◌∷◌, drop, Option, Some, None, slice_get}
+use Rattle.fk_image.specs.declared.image.SpaceRec.{SpaceRec}
+use Rattle.fk_positions.specs.declared.position.Walk.{Walk}
+use Rattle.fk_positions.specs.declared.position.Walk.TheVariants.{Done}
+use Rattle.fk_positions.specs.declared.position.Pass.{Pass, Pass as passes}
+use Rattle.fk_positions.specs.declared.position.Pass.TheVariants.{Spaces, Fills, Inward, Outward, Ties, Holds}
+use Rattle.fk_positions.specs.declared.position.Spot.{Spot}
+use Rattle.fk_positions.specs.declared.position.Spot.TheVariants.{Before, Room, Part, After}
+use Rattle.fk_positions.specs.declared.position.Position.{Position}
+use Rattle.laws_sites.specs.Orders.{Order}
+use Rattle.fk_positions.specs.Passes.{items_of}
+
+-- the places of the orders with which the script ends, and behind them
+abbrev pub closes : Walk → Pass → Spot → Bool
+closes Done Holds (After k) = true
+closes walk pass spot = false
+
+abbrev pub is_closing : Position → Bool
+is_closing p = closes p.walk p.pass p.spot
+
+-- no order stands here, and one may follow
+abbrev pub is_empty : Position → Option Order → Bool
+is_empty p order = not (is_closing p) && is_none order
+
+abbrev pub rooms_left : Pass → List SpaceRec → ℕ
+rooms_left pass [] = 0
+rooms_left pass (s ∷ ss) = (10 + items_of pass s * 8) + rooms_left pass ss
+
+abbrev pub item_left : Pass → ℕ → ℕ → Option SpaceRec → ℕ
+item_left pass j k None = 0
+item_left pass j k (Some s) = (items_of pass s - j) * 8 + (7 - k)
+
+abbrev pub spot_left : List SpaceRec → Pass → Spot → ℕ
+spot_left ss pass (Before k) = 2 + rooms_left pass ss
+spot_left ss pass (Room n) = 1 + rooms_left pass (drop n ss)
+spot_left ss pass (Part n j k) = 2 + (item_left pass j k (slice_get ss n) + rooms_left pass (drop (suc n) ss))
+spot_left ss pass (After k) = 0
+
+abbrev pub pass_left : List SpaceRec → Pass → ℕ
+pass_left ss pass = 3 + rooms_left pass ss
+
+-- so many slots of the nester, from one on, and the passes behind them
+abbrev pub outs_left : List SpaceRec → ℕ → ℕ → ℕ
+outs_left ss zero i = pass_left ss passes.Ties + pass_left ss passes.Holds
+outs_left ss (suc n) i = pass_left ss (passes.Outward i) + outs_left ss n (suc i)
+
+-- the passes behind one
+abbrev pub later : List SpaceRec → Pass → ℕ
+later ss Spaces = pass_left ss passes.Fills + (pass_left ss passes.Inward + outs_left ss 240 0)
+later ss Fills = pass_left ss passes.Inward + outs_left ss 240 0
+later ss Inward = outs_left ss 240 0
+later ss (Outward i) = outs_left ss (239 - i) (suc i)
+later ss Ties = pass_left ss passes.Holds
+later ss Holds = 0
+
+abbrev pub walk_left : Walk → ℕ
+walk_left Done = 0
+walk_left other = 1
+
+abbrev pub places_left : List SpaceRec → Position → ℕ
+places_left ss p = (later ss p.pass + spot_left ss p.pass p.spot) * 2 + walk_left p.walk
