@@ -51,7 +51,7 @@ module _ (ss : List SpaceRec) (slot : ℕ) (bind : ℕ → ℕ) where
   outs_end : (i : ℕ) → 239 ≤ i → outs_left ss (239 - i) (suc i) ≡ pass_left ss passes.Ties + pass_left ss passes.Holds
   outs_end i le = let none : 239 - i ≡ 0 = omega (arith, le) in ap (λ n. outs_left ss n (suc i)) none
 
-  after_pass : (pass : Pass) (a k : ℕ) → closes walks.Done pass (spots.After k) ≡ false → Less (next_pass ss slot bind pass a) pass (spots.After k)
+  pub after_pass : (pass : Pass) (a k : ℕ) → closes walks.Done pass (spots.After k) ≡ false → Less (next_pass ss slot bind pass a) pass (spots.After k)
   after_pass Spaces a k more = omega arith
   after_pass Fills a k more = omega arith
   after_pass Inward a k more = omega arith

@@ -1,3 +1,4 @@
 pub mod Given
 pub mod Plain
 pub mod Lefts
+pub mod Skipped

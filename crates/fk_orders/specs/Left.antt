@@ -1,5 +1,6 @@
 -- How many empty places may still go by before the next order, or the end.
-use Rattle.std.specs.Prelude.{ℕ, zero, suc, ◌+◌, ◌*◌, ◌-◌, Bool, true, false, not, ◌&&◌, is_none, List, [], ◌∷◌, drop, Option, Some, None, slice_get}
+use Rattle.std.specs.Prelude.{ℕ, zero, suc, ◌+◌, ◌*◌, ◌-◌, Bool, true, false, not, ◌&&◌, ◌==◌, is_none, List, [], ◌∷◌, drop, Option, Some, None, slice_get}
+use Rattle.fk_image.specs.declared.image.Image.{Image}
 use Rattle.fk_image.specs.declared.image.SpaceRec.{SpaceRec}
 use Rattle.fk_positions.specs.declared.position.Walk.{Walk}
 use Rattle.fk_positions.specs.declared.position.Walk.TheVariants.{Done}
@@ -9,7 +10,11 @@ use Rattle.fk_positions.specs.declared.position.Spot.{Spot}
 use Rattle.fk_positions.specs.declared.position.Spot.TheVariants.{Before, Room, Part, After}
 use Rattle.fk_positions.specs.declared.position.Position.{Position}
 use Rattle.laws_sites.specs.Orders.{Order}
-use Rattle.fk_positions.specs.Passes.{items_of}
+use Rattle.fk_positions.specs.Passes.{items_of, leads_out_any}
+
+-- the image with these spaces
+abbrev pub image_of : List SpaceRec → Image
+image_of ss = record { spaces = ss }
 
 -- the places of the orders with which the script ends, and behind them
 abbrev pub closes : Walk → Pass → Spot → Bool
@@ -18,6 +23,14 @@ closes walk pass spot = false
 
 abbrev pub is_closing : Position → Bool
 is_closing p = closes p.walk p.pass p.spot
+
+-- a pass is about to begin of a slot of the nester to which nothing leads
+abbrev pub unused_by : List SpaceRec → Walk → Pass → Spot → Bool
+unused_by ss Done (Outward i) (Before k) = k == 0 && not (leads_out_any ss i)
+unused_by ss walk pass spot = false
+
+abbrev pub is_unused : List SpaceRec → Position → Bool
+is_unused ss p = unused_by ss p.walk p.pass p.spot
 
 -- no order stands here, and one may follow
 abbrev pub is_empty : Position → Option Order → Bool

@@ -60,7 +60,7 @@ fn at(pass: Pass, stands: u32, spot: Spot) -> Position
 }
 
 /// The first place of the pass behind this one.
-fn next_pass(pass: Pass, stands: u32) -> Position
+pub fn next_pass(pass: Pass, stands: u32) -> Position
     ensures { (ss : List records.SpaceRec) (slot : ℕ) (bind : ℕ → ℕ) → result ≡ places.next_pass ss slot bind pass stands }
 {
     match pass {
