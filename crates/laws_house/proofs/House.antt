@@ -76,7 +76,8 @@ restore_part slot pairs image = record { head = λ s. refl; next = λ s status w
 pub same_state : (a b : State) → Some a ≡ Some b → a ≡ b
 same_state a b e = cc
 
-starts_checkpoint : (task : Task) (ends : List (JobEnd End)) (slot : ℕ) (s : State) → task ≡ Checkpoint slot → begins_by task ends ≡ Some s → s ≡ Checking slot Holds
+pub starts_checkpoint : (task : Task) (ends : List (JobEnd End)) (slot : ℕ) (s : State) → task ≡ Checkpoint slot → begins_by task ends ≡ Some s
+    → s ≡ Checking slot Holds
 starts_checkpoint task ends slot s is starts = same_state s (Checking slot Holds) (sym starts ∙ ap (λ t. begins_by t ends) is)
 
 pub valid_is : (o : Option Image) (image : Image) → valid_one o ≡ Some image → is_valid image ≡ true
@@ -87,7 +88,8 @@ valid_is (Some other) image e = by (is_valid other) refl e
     by true is e = let same : other ≡ image = cc in ap is_valid (sym same) ∙ is
     by false is e = cc
 
-pub starts_restore : (task : Task) (ends : List (JobEnd End)) (slot : ℕ) (pairs : List (ℕ × ℕ)) (source : Source) (image : Image) (s : State) → task ≡ Restore slot pairs source →
+pub starts_restore : (task : Task) (ends : List (JobEnd End)) (slot : ℕ) (pairs : List (ℕ × ℕ)) (source : Source) (image : Image) (s : State)
+    → task ≡ Restore slot pairs source →
     valid_one (sourced ends source) ≡ Some image → begins_by task ends ≡ Some s → s ≡ Restoring slot pairs image Makes
 starts_restore task ends slot pairs source image s is its starts =
     same_state s (Restoring slot pairs image Makes)
@@ -103,19 +105,25 @@ abbrev pub is_made : End → Bool
 is_made (Checked end) = false
 is_made (Restored end) = restores.is_done end
 
-saves_whole : (slot birth : ℕ) (w : World) (nester : Path) → Saves (checkpoint slot) birth slot picture_of w nester Holds → Saves machine birth slot pictured w nester (Checking slot Holds)
+saves_whole : (slot birth : ℕ) (w : World) (nester : Path) → Saves (checkpoint slot) birth slot picture_of w nester Holds
+    → Saves machine birth slot pictured w nester (Checking slot Holds)
 saves_whole slot birth w nester law = record {
-  keeps = λ v t may work. (let its = works (checkpoint slot) machine (Checking slot) Checked nester (checkpoint_part slot) w Holds v t work in law.keeps v its.state may its.part);
-  gives = λ v t end c may work stopped done. (let its = works (checkpoint slot) machine (Checking slot) Checked nester (checkpoint_part slot) w Holds v t work in
+  keeps = λ v t may work. (let its = works (checkpoint slot) machine (Checking slot) Checked nester (checkpoint_part slot) w Holds v t work in
+      law.keeps v its.state may its.part);
+  gives = λ v t end c may work stopped done. (let its = works (checkpoint slot) machine (Checking slot) Checked nester
+      (checkpoint_part slot) w Holds v t work in
       let stop = stops_part (checkpoint slot) machine (Checking slot) Checked nester (checkpoint_part slot) t its.state end its.is stopped in
       law.gives v its.state stop.0 c may its.part stop.1 (ap pictured stop.2 ∙ done));
 }
 
-restores_whole : (slot birth : ℕ) (image : Image) (pairs : List (ℕ × ℕ)) → Restores (restore_of slot image pairs) birth slot (bound_by pairs) (picture image) restores.is_done Makes →
+restores_whole : (slot birth : ℕ) (image : Image) (pairs : List (ℕ × ℕ))
+    → Restores (restore_of slot image pairs) birth slot (bound_by pairs) (picture image) restores.is_done Makes →
     Restores machine birth slot (bound_by pairs) (picture image) is_made (Restoring slot pairs image Makes)
 restores_whole slot birth image pairs law = record {
-  gives = λ w nester v t end may work stopped done. (let its = works (restore_of slot image pairs) machine (Restoring slot pairs image) Restored nester (restore_part slot pairs image) w Makes v t work in
-      let stop = stops_part (restore_of slot image pairs) machine (Restoring slot pairs image) Restored nester (restore_part slot pairs image) t its.state end its.is stopped in
+  gives = λ w nester v t end may work stopped done.
+      (let its = works (restore_of slot image pairs) machine (Restoring slot pairs image) Restored nester (restore_part slot pairs image) w Makes v t work in
+      let stop = stops_part (restore_of slot image pairs) machine (Restoring slot pairs image) Restored nester
+      (restore_part slot pairs image) t its.state end its.is stopped in
       law.gives w nester v its.state stop.0 may its.part stop.1 (ap is_made stop.2 ∙ done));
 }
 
@@ -127,14 +135,16 @@ slots_of j task is names = subst NamesUsersSlots is names
 pub house_is_tidy : {V : Type 0} → HouseIsTidy V
 house_is_tidy jobs servers names index j ends s its starts = by j.task starts (names index j its)
   where
-    made : (slot : ℕ) (pairs : List (ℕ × ℕ)) → NamesUsersSlots (Restore slot pairs (Given None)) → (o : Option Image) → ((image : Image) → o ≡ Some image → is_valid image ≡ true) →
+    made : (slot : ℕ) (pairs : List (ℕ × ℕ)) → NamesUsersSlots (Restore slot pairs (Given None)) → (o : Option Image)
+        → ((image : Image) → o ≡ Some image → is_valid image ≡ true) →
         option_map (λ image. Restoring slot pairs image Makes) o ≡ Some s → IsTidyJob machine j.nester s
     made slot pairs names None valid e = cc
     made slot pairs names (Some image) valid e =
         let is = same_state (Restoring slot pairs image Makes) s e in
         subst (IsTidyJob machine j.nester) is
         (parts_are_tidy (restore_of slot image pairs) machine (Restoring slot pairs image) Restored j.nester Makes (restore_part slot pairs image)
-        (restore_is_tidy slot j.nester (bound_by pairs) (picture image) (rooms_of image) names.0 (valid_is_roomed (bound_by pairs) image (pairs_bind pairs names.1) (valid image refl))))
+        (restore_is_tidy slot j.nester (bound_by pairs) (picture image) (rooms_of image) names.0
+        (valid_is_roomed (bound_by pairs) image (pairs_bind pairs names.1) (valid image refl))))
 
     by : (task : Task) → begins_by task ends ≡ Some s → NamesUsersSlots task → IsTidyJob machine j.nester s
     by (Checkpoint slot) e low =
@@ -152,7 +162,8 @@ module _ {V : Type 0} (jobs : List Job) (servers : Servers V) (first c : Core St
   whole : IsComposed run
   whole = composed (house jobs servers) first c past run grounded.users (house_is_tidy jobs servers grounded.slots) grounded.start grounded.few
 
-  checkpoint_brief : (index begun upto : ℕ) (ends : List (JobEnd End)) (its : HasWorked run index ends begun upto) (slot d k : ℕ) → its.job.task ≡ Checkpoint slot →
+  checkpoint_brief : (index begun upto : ℕ) (ends : List (JobEnd End)) (its : HasWorked run index ends begun upto) (slot d k : ℕ)
+      → its.job.task ≡ Checkpoint slot →
       LiesWithin (cut (world_at run begun) its.nester slot) d → begun < k → k ≤ upto →
       job_moves run k ≤ job_moves run begun + 100 * ((count_of (cut (world_at run begun) its.nester slot) + 1) * (d + 1))
   checkpoint_brief index begun upto ends its slot d k is deep above low =
@@ -164,58 +175,71 @@ module _ {V : Type 0} (jobs : List Job) (servers : Servers V) (first c : Core St
       on : (t : State) → WorksSo machine its.nester (world_at run begun) (Checking slot Holds) (world_at run k) t (job_moves run begun) (job_moves run k) →
           job_moves run k ≤ job_moves run begun + 100 * ((count_of (cut (world_at run begun) its.nester slot) + 1) * (d + 1))
       on t so =
-          let part = works (checkpoint slot) machine (Checking slot) Checked its.nester (checkpoint_part slot) (world_at run begun) Holds (world_at run k) t so.work in
-          let most = checkpoint_is_bounded slot its.job.nester (world_at run begun) (world_at run k) its.nester part.state d (slots_of its.job (Checkpoint slot) is (grounded.slots index its.job its.its)) its.may deep part.part in
+          let part = works (checkpoint slot) machine (Checking slot) Checked its.nester (checkpoint_part slot) (world_at run begun) Holds
+          (world_at run k) t so.work in
+          let most = checkpoint_is_bounded slot its.job.nester (world_at run begun) (world_at run k) its.nester part.state d
+          (slots_of its.job (Checkpoint slot) is (grounded.slots index its.job its.its)) its.may deep part.part in
           let same = part.count in
           let count = so.count in
           omega (arith, most, same, count)
 
-      by : (s : State) → s ≡ Checking slot Holds → ((t : State) × WorksSo machine its.nester (world_at run begun) s (world_at run k) t (job_moves run begun) (job_moves run k)) →
+      by : (s : State) → s ≡ Checking slot Holds → ((t : State)
+          × WorksSo machine its.nester (world_at run begun) s (world_at run k) t (job_moves run begun) (job_moves run k)) →
           job_moves run k ≤ job_moves run begun + 100 * ((count_of (cut (world_at run begun) its.nester slot) + 1) * (d + 1))
-      by s e there = on there.0 (subst (λ x. WorksSo machine its.nester (world_at run begun) x (world_at run k) there.0 (job_moves run begun) (job_moves run k)) e there.1)
+      by s e there = on there.0 (subst (λ x. WorksSo machine its.nester (world_at run begun) x (world_at run k) there.0 (job_moves run begun)
+          (job_moves run k)) e there.1)
 
-  restore_brief : (index begun upto : ℕ) (ends : List (JobEnd End)) (its : HasWorked run index ends begun upto) (slot d k : ℕ) (pairs : List (ℕ × ℕ)) (source : Source) (image : Image) →
+  restore_brief : (index begun upto : ℕ) (ends : List (JobEnd End)) (its : HasWorked run index ends begun upto) (slot d k : ℕ) (pairs : List (ℕ × ℕ))
+      (source : Source) (image : Image) →
       its.job.task ≡ Restore slot pairs source → valid_one (sourced ends source) ≡ Some image → made.LiesWithin (picture image) d → begun < k → k ≤ upto →
       job_moves run k ≤ job_moves run begun + 40 * ((made.count_of (rooms_of image) + 1) * (d + 1))
   restore_brief index begun upto ends its slot d k pairs source image is from deep above low =
       by its.start (starts_restore its.job.task ends slot pairs source image its.start is from its.starts) (its.throughout k above low)
     where
-      on : (t : State) → WorksSo machine its.nester (world_at run begun) (Restoring slot pairs image Makes) (world_at run k) t (job_moves run begun) (job_moves run k) →
+      on : (t : State) → WorksSo machine its.nester (world_at run begun) (Restoring slot pairs image Makes) (world_at run k) t (job_moves run begun)
+          (job_moves run k) →
           job_moves run k ≤ job_moves run begun + 40 * ((made.count_of (rooms_of image) + 1) * (d + 1))
       on t so =
-          let part = works (restore_of slot image pairs) machine (Restoring slot pairs image) Restored its.nester (restore_part slot pairs image) (world_at run begun) Makes (world_at run k) t so.work in
+          let part = works (restore_of slot image pairs) machine (Restoring slot pairs image) Restored its.nester (restore_part slot pairs image)
+          (world_at run begun) Makes (world_at run k) t so.work in
           let names = slots_of its.job (Restore slot pairs source) is (grounded.slots index its.job its.its) in
-          let most = image_restore_is_bounded slot image pairs d (world_at run begun) (world_at run k) its.nester part.state (record { low = names.0; users = names.1; valid = valid_is (sourced ends source) image from }) deep part.part in
+          let most = image_restore_is_bounded slot image pairs d (world_at run begun) (world_at run k) its.nester part.state
+          (record { low = names.0; users = names.1; valid = valid_is (sourced ends source) image from }) deep part.part in
           let same = part.count in
           let count = so.count in
           omega (arith, most, same, count)
 
-      by : (s : State) → s ≡ Restoring slot pairs image Makes → ((t : State) × WorksSo machine its.nester (world_at run begun) s (world_at run k) t (job_moves run begun) (job_moves run k)) →
+      by : (s : State) → s ≡ Restoring slot pairs image Makes
+          → ((t : State) × WorksSo machine its.nester (world_at run begun) s (world_at run k) t (job_moves run begun) (job_moves run k)) →
           job_moves run k ≤ job_moves run begun + 40 * ((made.count_of (rooms_of image) + 1) * (d + 1))
-      by s e there = on there.0 (subst (λ x. WorksSo machine its.nester (world_at run begun) x (world_at run k) there.0 (job_moves run begun) (job_moves run k)) e there.1)
+      by s e there = on there.0 (subst (λ x. WorksSo machine its.nester (world_at run begun) x (world_at run k) there.0 (job_moves run begun)
+          (job_moves run k)) e there.1)
 
   -- ---- ends
 
-  record Ended_checkpoint (j : Job) (slot begun last : ℕ) (end : checkpoints.End) : Type 0 where
-    nester : Path
-    may : MayBegin (world_at run begun) nester j.nester
-    low : slot ≤ LAST_USER_SLOT
-    state : checkpoints.State
-    work : AtWork (checkpoint slot) nester (world_at run begun) Holds (world_at run (last + 1)) state
-    stopped : (checkpoint slot).head state ≡ Stops end
+  pub record Ended_checkpoint (j : Job) (slot begun last : ℕ) (end : checkpoints.End) : Type 0 where
+    pub nester : Path
+    pub may : MayBegin (world_at run begun) nester j.nester
+    pub low : slot ≤ LAST_USER_SLOT
+    pub state : checkpoints.State
+    pub work : AtWork (checkpoint slot) nester (world_at run begun) Holds (world_at run (last + 1)) state
+    pub stopped : (checkpoint slot).head state ≡ Stops end
 
-  ended_checkpoint : (index : ℕ) (j : Job) (slot begun last : ℕ) (end : checkpoints.End) → slice_get jobs index ≡ Some j → j.task ≡ Checkpoint slot →
+  pub ended_checkpoint : (index : ℕ) (j : Job) (slot begun last : ℕ) (end : checkpoints.End) → slice_get jobs index ≡ Some j → j.task ≡ Checkpoint slot →
       slice_get c.ends index ≡ Some (Worked (Checked end) begun last) → Ended_checkpoint j slot begun last end
   ended_checkpoint index j slot begun last end its is ended = by (whole.ended index (Checked end) begun last ended)
     where
       same_end : (a b : checkpoints.End) → Checked a ≡ Checked b → a ≡ b
       same_end a b e = cc
 
-      from : (e : HasEnded run index (Checked end) begun last) → e.worked.job ≡ j → e.worked.start ≡ Checking slot Holds → Ended_checkpoint j slot begun last end
+      from : (e : HasEnded run index (Checked end) begun last) → e.worked.job ≡ j → e.worked.start ≡ Checking slot Holds
+          → Ended_checkpoint j slot begun last end
       from e job start =
           let there = subst (λ s. AtWork machine e.worked.nester (world_at run begun) s (world_at run (last + 1)) e.state) start e.there.work in
-          let part = works (checkpoint slot) machine (Checking slot) Checked e.worked.nester (checkpoint_part slot) (world_at run begun) Holds (world_at run (last + 1)) e.state there in
-          let stop = stops_part (checkpoint slot) machine (Checking slot) Checked e.worked.nester (checkpoint_part slot) e.state part.state (Checked end) part.is e.stopped in
+          let part = works (checkpoint slot) machine (Checking slot) Checked e.worked.nester (checkpoint_part slot) (world_at run begun) Holds
+          (world_at run (last + 1)) e.state there in
+          let stop = stops_part (checkpoint slot) machine (Checking slot) Checked e.worked.nester (checkpoint_part slot) e.state part.state
+          (Checked end) part.is e.stopped in
           record {
             nester = e.worked.nester;
             may = subst (λ (i : Job). MayBegin (world_at run begun) e.worked.nester i.nester) job e.worked.may;
@@ -236,10 +260,12 @@ module _ {V : Type 0} (jobs : List Job) (servers : Servers V) (first c : Core St
   same_slot : (slot other : ℕ) (s t : checkpoints.State) → Checking slot s ≡ Checking other t → (slot ≡ other) × (s ≡ t)
   same_slot slot other s t e = (cc, cc)
 
-  leaves_rest : (k begun slot : ℕ) (s : checkpoints.State) (stage : Stage) (words : List ℕ) → k < length past → asker_at run k ≡ Asked_by_job begun (Checking slot s) stage words →
+  leaves_rest : (k begun slot : ℕ) (s : checkpoints.State) (stage : Stage) (words : List ℕ) → k < length past
+      → asker_at run k ≡ Asked_by_job begun (Checking slot s) stage words →
       (birth : ℕ) × LeftBeside birth slot (world_at run begun) (world_at run k) (world_at run (k + 1))
   leaves_rest k begun slot s stage words low e =
-      let its = moves_in_history (house jobs servers) first c past run grounded.users (house_is_tidy jobs servers grounded.slots) grounded.start grounded.few k begun (Checking slot s) stage words low e in
+      let its = moves_in_history (house jobs servers) first c past run grounded.users
+      (house_is_tidy jobs servers grounded.slots) grounded.start grounded.few k begun (Checking slot s) stage words low e in
       by its
     where
       Left : Type 0
@@ -263,11 +289,13 @@ module _ {V : Type 0} (jobs : List Job) (servers : Servers V) (first c : Core St
               nester = its.nester;
               named = its.may.named;
               same = subst (IsSameBeside its.nester slot (world_at run k)) (sym goes)
-                  ((checkpoint_leaves_rest slot its.job.nester (world_at run k) its.nester user may sound).first (subst (IsReadyAt (world_at run k)) event its.ready));
+                  ((checkpoint_leaves_rest slot its.job.nester (world_at run k) its.nester user may sound).first
+                  (subst (IsReadyAt (world_at run k)) event its.ready));
             },
           )
 
-      later_move : (its : MovesAt run k begun (Checking slot s) stage words) → slot ≤ LAST_USER_SLOT → AtWork (checkpoint slot) its.nester (world_at run begun) Holds (world_at run k) s → Left
+      later_move : (its : MovesAt run k begun (Checking slot s) stage words) → slot ≤ LAST_USER_SLOT
+          → AtWork (checkpoint slot) its.nester (world_at run begun) Holds (world_at run k) s → Left
       later_move its user work =
           let asked = asks_under_part s its.asked in
           let held = work.asked in
@@ -281,7 +309,8 @@ module _ {V : Type 0} (jobs : List Job) (servers : Servers V) (first c : Core St
               nester = its.nester;
               named = its.may.named;
               same = subst (IsSameBeside its.nester slot (world_at run k)) (sym its.goes)
-                  ((checkpoint_leaves_rest slot its.job.nester (world_at run begun) its.nester user its.may sound).later (world_at run k) s stage words work asked (whole.sound k (omega (arith, low))) its.ready);
+                  ((checkpoint_leaves_rest slot its.job.nester (world_at run begun) its.nester user its.may sound).later
+                  (world_at run k) s stage words work asked (whole.sound k (omega (arith, low))) its.ready);
             },
           )
 
@@ -292,18 +321,21 @@ module _ {V : Type 0} (jobs : List Job) (servers : Servers V) (first c : Core St
           first_move its (subst (λ i. i ≤ LAST_USER_SLOT) (sym same.0) user) now.0 same.1
       checks its other user start (inr work) =
           let there = subst (λ x. AtWork machine its.nester (world_at run begun) x (world_at run k) (Checking slot s)) start work in
-          let part = works (checkpoint other) machine (Checking other) Checked its.nester (checkpoint_part other) (world_at run begun) Holds (world_at run k) (Checking slot s) there in
+          let part = works (checkpoint other) machine (Checking other) Checked its.nester (checkpoint_part other) (world_at run begun) Holds (world_at run k)
+          (Checking slot s) there in
           let same = same_slot slot other s part.state part.is in
           later_move its (subst (λ i. i ≤ LAST_USER_SLOT) (sym same.0) user)
           (subst (λ i. AtWork (checkpoint i) its.nester (world_at run begun) Holds (world_at run k) s) (sym same.0)
           (subst (λ x. AtWork (checkpoint other) its.nester (world_at run begun) Holds (world_at run k) x) (sym same.1) part.part))
 
-      restores_not : (its : MovesAt run k begun (Checking slot s) stage words) (other : ℕ) (pairs : List (ℕ × ℕ)) (image : Image) → its.start ≡ Restoring other pairs image Makes →
+      restores_not : (its : MovesAt run k begun (Checking slot s) stage words) (other : ℕ) (pairs : List (ℕ × ℕ)) (image : Image)
+          → its.start ≡ Restoring other pairs image Makes →
           ((begun ≡ k) × (Checking slot s ≡ its.start)) ⊎ AtWork machine its.nester (world_at run begun) its.start (world_at run k) (Checking slot s) → Left
       restores_not its other pairs image start (inl now) = let apart = now.1 ∙ start in cc
       restores_not its other pairs image start (inr work) =
           let there = subst (λ x. AtWork machine its.nester (world_at run begun) x (world_at run k) (Checking slot s)) start work in
-          let part = works (restore_of other image pairs) machine (Restoring other pairs image) Restored its.nester (restore_part other pairs image) (world_at run begun) Makes (world_at run k) (Checking slot s) there in
+          let part = works (restore_of other image pairs) machine (Restoring other pairs image) Restored its.nester (restore_part other pairs image)
+          (world_at run begun) Makes (world_at run k) (Checking slot s) there in
           let apart = part.is in
           cc
 
@@ -316,7 +348,8 @@ module _ {V : Type 0} (jobs : List Job) (servers : Servers V) (first c : Core St
       by its = on its.job.task refl (grounded.slots its.index its.job its.its)
         where
           on : (task : Task) → its.job.task ≡ task → NamesUsersSlots its.job.task → Left
-          on (Checkpoint other) is names = checks its other (slots_of its.job (Checkpoint other) is names) (starts_checkpoint its.job.task its.ends other its.start is its.starts) its.at
+          on (Checkpoint other) is names = checks its other (slots_of its.job (Checkpoint other) is names)
+              (starts_checkpoint its.job.task its.ends other its.start is its.starts) its.at
           on (Restore other pairs source) is names =
               from_image its other pairs (valid_one (sourced its.ends source)) (sym (ap (λ t. begins_by t its.ends) is) ∙ its.starts)
 
@@ -354,7 +387,8 @@ last_slot k b stands native = by (nat_le k LAST_USER_SLOT) (nat_le k LAST_SCRATC
     both true one two = cc
     both false one two = cc
 
-    by : (t r : Bool) → (if t then not (is_native b) else (if r then is_some (reference_of b) else (k == LAST_PORTER_SLOT && is_native b))) ≡ true → k ≡ LAST_PORTER_SLOT
+    by : (t r : Bool) → (if t then not (is_native b) else (if r then is_some (reference_of b) else (k == LAST_PORTER_SLOT && is_native b))) ≡ true
+        → k ≡ LAST_PORTER_SLOT
     by true r e = absurd (both (is_native b) native e)
     by false true e = absurd (no_reference b native e)
     by false false e = eqb-true k LAST_PORTER_SLOT (and_parts (k == LAST_PORTER_SLOT) (is_native b) e).0
@@ -374,7 +408,8 @@ off_unless : (b : Bool) → (b ≡ true → ⊥) → b ≡ false
 off_unless true h = absurd (h refl)
 off_unless false h = refl
 
-alone_later : (first w : World) (nester : Path) (slot : ℕ) → IsSound w → Stood first w → IsUnserved first nester slot → IsSpaceAt w (slot ∷ nester) → IsUsersAlone w nester slot
+alone_later : (first w : World) (nester : Path) (slot : ℕ) → IsSound w → Stood first w → IsUnserved first nester slot → IsSpaceAt w (slot ∷ nester)
+    → IsUsersAlone w nester slot
 unfolding kind_there
 alone_later first w nester slot sound stood before space = by (w.body (slot ∷ nester)) refl space
   where
@@ -384,7 +419,8 @@ alone_later first w nester slot sound stood before space = by (w.body (slot ∷ 
         let native : holds is_native (w.body (at.0 ∷ at.1)) ≡ true = ap (λ (y : Path). holds is_native (w.body y)) (sym at.2) ∙ there in
         let last = native_last w sound at.0 at.1 native in
         let then_there = stood.porters at.1 (ap (λ k. holds is_native (w.body (k ∷ at.1))) (sym last) ∙ native) in
-        let was : holds is_native (first.body (q ++ slot ∷ nester)) ≡ true = ap (λ (y : Path). holds is_native (first.body y)) (at.2 ∙ ap (λ k. k ∷ at.1) last) ∙ then_there in
+        let was : holds is_native (first.body (q ++ slot ∷ nester))
+        ≡ true = ap (λ (y : Path). holds is_native (first.body y)) (at.2 ∙ ap (λ k. k ∷ at.1) last) ∙ then_there in
         let both = sym was ∙ before.no_porter q in
         cc
 
@@ -409,17 +445,22 @@ alone_later first w nester slot sound stood before space = by (w.body (slot ∷ 
     by (Some (Reference to)) e kind = cc
     by None e kind = cc
 
-alone_there : {V : Type 0} (jobs : List Job) (servers : Servers V) (first c : Core State End V) (past : List Move) (run : IsRun (house jobs servers) first past c) (grounded : IsGrounded jobs servers first past)
+alone_there : {V : Type 0} (jobs : List Job) (servers : Servers V) (first c : Core State End V) (past : List Move)
+    (run : IsRun (house jobs servers) first past c) (grounded : IsGrounded jobs servers first past)
     (index : ℕ) (j : Job) (slot begun last : ℕ) (image : Image) → slice_get jobs index ≡ Some j → j.task ≡ Checkpoint slot →
-    slice_get c.ends index ≡ Some (Worked (Checked (Done image)) begun last) → (nester : Path) → birth_at (world_at run begun) nester ≡ Some j.nester → IsUsersAlone (world_at run begun) nester slot
+    slice_get c.ends index ≡ Some (Worked (Checked (Done image)) begun last) → (nester : Path) → birth_at (world_at run begun) nester ≡ Some j.nester
+    → IsUsersAlone (world_at run begun) nester slot
 alone_there jobs servers first c past run grounded index j slot begun last image its is ended nester named =
     let e = ended_checkpoint jobs servers first c past run grounded index j slot begun last (Done image) its is ended in
     let native = (called e.nester (world_at run begun) e.work.stage e.work.words e.work.ready).native in
-    let stood = stood_at (house jobs servers) first grounded.users (house_is_tidy jobs servers grounded.slots) grounded.start grounded.uncut run grounded.few begun in
-    let was = checkpoint_ends_as_it_was slot j.nester (world_at run begun) (world_at run (last + 1)) e.nester e.state (Done image) e.low e.may e.work e.stopped in
+    let stood = stood_at (house jobs servers) first grounded.users
+    (house_is_tidy jobs servers grounded.slots) grounded.start grounded.uncut run grounded.few begun in
+    let was = checkpoint_ends_as_it_was slot j.nester (world_at run begun) (world_at run (last + 1)) e.nester e.state
+    (Done image) e.low e.may e.work e.stopped in
     let before = grounded.alone index j slot its is e.nester (sym (stood.births e.nester native) ∙ e.may.named) in
     let same : e.nester ≡ nester = e.may.sound.whole.valid.consistent.apart e.nester nester j.nester e.may.named named in
-    subst (λ (x : Path). IsUsersAlone (world_at run begun) x slot) same (alone_later first.world (world_at run begun) e.nester slot e.may.sound stood before was.0)
+    subst (λ (x : Path). IsUsersAlone (world_at run begun) x slot) same
+    (alone_later first.world (world_at run begun) e.nester slot e.may.sound stood before was.0)
 
 pub checkpoints_save : {V : Type 0} → CheckpointsSave V
 checkpoints_save jobs servers first c past run grounded index j slot begun last image its is ended =
@@ -427,23 +468,29 @@ checkpoints_save jobs servers first c past run grounded index j slot begun last 
     let may_save : (nester : Path) → birth_at (world_at run begun) nester ≡ Some j.nester → MaySave (world_at run begun) nester slot =
     λ nester named. record { uncut = uncut_at (house jobs servers) first run grounded.uncut begun; users = alone nester named } in
     let e = ended_checkpoint jobs servers first c past run grounded index j slot begun last (Done image) its is ended in (
-      (checkpoint_images_subtree slot j.nester (world_at run begun) (world_at run (last + 1)) e.nester e.state image e.low e.may (may_save e.nester e.may.named) e.work e.stopped).0,
-      checkpoints_hold (house jobs servers) first c past run grounded.users (house_is_tidy jobs servers grounded.slots) grounded.start grounded.few index j slot pictured (Checked (Done image)) begun last (picture image) its
-          (λ nester ends s named starts. subst (λ x. Saves machine j.nester slot pictured (world_at run begun) nester x) (sym (starts_checkpoint j.task ends slot s is starts))
-          (saves_whole slot j.nester (world_at run begun) nester (checkpoint_saves slot j.nester (world_at run begun) nester e.low (may_save nester named)))) ended refl,
+      (checkpoint_images_subtree slot j.nester (world_at run begun) (world_at run (last + 1)) e.nester e.state image e.low e.may
+          (may_save e.nester e.may.named) e.work e.stopped).0,
+      checkpoints_hold (house jobs servers) first c past run grounded.users
+          (house_is_tidy jobs servers grounded.slots) grounded.start grounded.few index j slot pictured (Checked (Done image)) begun last (picture image) its
+          (λ nester ends s named starts. subst (λ x. Saves machine j.nester slot pictured (world_at run begun) nester x)
+          (sym (starts_checkpoint j.task ends slot s is starts))
+          (saves_whole slot j.nester (world_at run begun) nester
+          (checkpoint_saves slot j.nester (world_at run begun) nester e.low (may_save nester named)))) ended refl,
     )
 
 pub restores_make : {V : Type 0} → RestoresMake V
 restores_make jobs servers first c past run grounded index j slot begun last pairs source image its is from ended =
     let names = slots_of j (Restore slot pairs source) is (grounded.slots index j its) in
-    restores_hold (house jobs servers) first c past run grounded.users (house_is_tidy jobs servers grounded.slots) grounded.start grounded.few index j slot (bound_by pairs) (picture image) is_made (Restored restores.Done) begun last its
-    (λ s starts. subst (λ x. Restores machine j.nester slot (bound_by pairs) (picture image) is_made x) (sym (starts_restore j.task (take index c.ends) slot pairs source image s is from starts))
+    restores_hold (house jobs servers) first c past run grounded.users (house_is_tidy jobs servers grounded.slots) grounded.start grounded.few index j slot
+    (bound_by pairs) (picture image) is_made (Restored restores.Done) begun last its
+    (λ s starts. subst (λ x. Restores machine j.nester slot (bound_by pairs) (picture image) is_made x)
+    (sym (starts_restore j.task (take index c.ends) slot pairs source image s is from starts))
     (restores_whole slot j.nester image pairs (image_is_restored slot j.nester image pairs
     (record { low = names.0; users = names.1; valid = valid_is (sourced (take index c.ends) source) image from })))) ended refl
 
 -- ---- the two together
 
-got_before : {A : Type 0} (xs : List A) (n i : ℕ) → i < n → slice_get (take n xs) i ≡ slice_get xs i
+pub got_before : {A : Type 0} (xs : List A) (n i : ℕ) → i < n → slice_get (take n xs) i ≡ slice_get xs i
 got_before {A = A} [] n i low = by n
   where
     by : (n : ℕ) → slice_get {X = A} (take n []) i ≡ slice_get {X = A} [] i
@@ -464,6 +511,8 @@ saved_goes_on jobs servers first c past run grounded from to i j slot place hold
       named = saved.1.named;
       there = restored.nester;
       named_there = restored.named;
-      further = λ ms. restored_go_on (house jobs servers) first c past run grounded.users (house_is_tidy jobs servers grounded.slots) grounded.start grounded.few i.nester slot holds release (picture image) saved.1
-          (uncut_at (house jobs servers) first run grounded.uncut holds) (alone_there jobs servers first c past run grounded from i slot holds release image its is ended saved.1.nester saved.1.named) j.nester place made done (bound_by pairs) restored ms;
+      further = λ ms. restored_go_on (house jobs servers) first c past run grounded.users
+          (house_is_tidy jobs servers grounded.slots) grounded.start grounded.few i.nester slot holds release (picture image) saved.1
+          (uncut_at (house jobs servers) first run grounded.uncut holds)
+          (alone_there jobs servers first c past run grounded from i slot holds release image its is ended saved.1.nester saved.1.named) j.nester place made done (bound_by pairs) restored ms;
     }

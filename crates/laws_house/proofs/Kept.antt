@@ -35,7 +35,8 @@ module _ {J S A V : Type 0} (h : House J S A V) (first : Core S A V) where
   moved_uncut : (c : Core S A V) (m : Move) (a : Asker S) → IsUncut c.world → IsUncut (moved_by h c m a).world
   moved_uncut c m Nobody uncut = uncut
   moved_uncut c m (Others ask) uncut = keeps_uncut c.world (event_of c.world ask m) uncut
-  moved_uncut c m (Asked_by_job begun s stage words) uncut = by (heard h.machine s (said_of c.world event)) (h.machine.head (heard h.machine s (said_of c.world event)))
+  moved_uncut c m (Asked_by_job begun s stage words) uncut = by (heard h.machine s (said_of c.world event))
+      (h.machine.head (heard h.machine s (said_of c.world event)))
     where
       event : Event
       event = event_of c.world (asks.Call stage words) m
@@ -46,11 +47,13 @@ module _ {J S A V : Type 0} (h : House J S A V) (first : Core S A V) where
 
   pub uncut_run : {c : Core S A V} {past : List Move} → IsRun h first past c → IsUncut first.world → IsUncut c.world
   uncut_run Begins uncut = uncut
-  uncut_run (Goes past c m d run ready settles) uncut = subst IsUncut (sym (settled_world (moved h c m) d settles)) (moved_uncut c m (asker h c m.who) (uncut_run run uncut))
+  uncut_run (Goes past c m d run ready settles) uncut = subst IsUncut (sym (settled_world (moved h c m) d settles))
+      (moved_uncut c m (asker h c m.who) (uncut_run run uncut))
 
   pub uncut_at : {c : Core S A V} {past : List Move} (run : IsRun h first past c) → IsUncut first.world → (k : ℕ) → IsUncut (world_at run k)
   uncut_at Begins uncut k = uncut
-  uncut_at (Goes past c m d run ready settles) uncut k = by (nat_le k (length past)) (uncut_at run uncut k) (uncut_run (Goes past c m d run ready settles) uncut)
+  uncut_at (Goes past c m d run ready settles) uncut k = by (nat_le k (length past)) (uncut_at run uncut k)
+      (uncut_run (Goes past c m d run ready settles) uncut)
     where
       by : (t : Bool) → IsUncut (world_at run k) → IsUncut d.world → IsUncut (cond t (world_at run k) d.world)
       by true one two = one
@@ -81,7 +84,8 @@ module _ {J S A V : Type 0} (h : House J S A V) (first : Core S A V) (users : As
       subst (Stood first.world) (sym made.goes)
       (stood_on first.world c.world made.event (uncut_run h first run uncut) sound made.due.fit (stood_now run (omega (arith, left, longer))))
 
-  pub stood_at : {c : Core S A V} {past : List Move} (run : IsRun h first past c) → first.world.next + length past ≤ depth → (k : ℕ) → Stood first.world (world_at run k)
+  pub stood_at : {c : Core S A V} {past : List Move} (run : IsRun h first past c) → first.world.next + length past ≤ depth → (k : ℕ)
+      → Stood first.world (world_at run k)
   stood_at Begins left k = record { porters = λ x there. there; served = λ x there. there; births = λ x there. refl }
   stood_at (Goes past c m d run ready settles) left k =
       let longer = length-append past (m ∷ []) in

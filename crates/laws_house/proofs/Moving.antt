@@ -66,17 +66,21 @@ data Starts (j : Job) (s : State) : Type 0 where
 starts : (j : Job) (ends : List (JobEnd End)) (s : State) → NamesUsersSlots j.task → begins_by j.task ends ≡ Some s → Starts j s
 starts j ends s names e = by j.task names e
   where
-    made : (slot : ℕ) (pairs : List (ℕ × ℕ)) (source : Source) → NamesUsersSlots (Restore slot pairs source) → (o : Option Image) → ((image : Image) → o ≡ Some image → is_valid image ≡ true) →
+    made : (slot : ℕ) (pairs : List (ℕ × ℕ)) (source : Source) → NamesUsersSlots (Restore slot pairs source) → (o : Option Image)
+        → ((image : Image) → o ≡ Some image → is_valid image ≡ true) →
         option_map (λ image. Restoring slot pairs image Makes) o ≡ Some s → Starts j s
     made slot pairs source names None valid e = cc
     made slot pairs source names (Some image) valid e =
-        AsRestore slot pairs image names.0 (valid_is_roomed (bound_by pairs) image (pairs_bind pairs names.1) (valid image refl)) (sym (same_state (Restoring slot pairs image Makes) s e))
+        AsRestore slot pairs image names.0 (valid_is_roomed (bound_by pairs) image (pairs_bind pairs names.1) (valid image refl))
+        (sym (same_state (Restoring slot pairs image Makes) s e))
 
     by : (task : Task) → NamesUsersSlots task → begins_by task ends ≡ Some s → Starts j s
     by (Checkpoint slot) low e = AsCheckpoint slot low (sym (same_state (Checking slot checkpoints.Holds) s e))
-    by (Restore slot pairs source) names e = made slot pairs source names (valid_one (sourced ends source)) (λ image from. valid_is (sourced ends source) image from) e
+    by (Restore slot pairs source) names e = made slot pairs source names (valid_one (sourced ends source))
+        (λ image from. valid_is (sourced ends source) image from) e
 
-same_restore : (slot other : ℕ) (pairs given : List (ℕ × ℕ)) (image picture_of : Image) (s t : restores.State) → Restoring slot pairs image s ≡ Restoring other given picture_of t →
+same_restore : (slot other : ℕ) (pairs given : List (ℕ × ℕ)) (image picture_of : Image) (s t : restores.State)
+    → Restoring slot pairs image s ≡ Restoring other given picture_of t →
     (slot ≡ other) × (pairs ≡ given) × (image ≡ picture_of) × (s ≡ t)
 same_restore slot other pairs given image picture_of s t e = (cc, cc, cc, cc)
 
@@ -88,7 +92,8 @@ module _ {V : Type 0} (jobs : List Job) (servers : Servers V) (first c : Core St
     Left = (birth : ℕ) × LeftFar birth slot (world_at run begun) (world_at run k) (world_at run (k + 1))
 
     asks_under_part : (s : restores.State) → machine.head (Restoring slot pairs image s) ≡ Asks stage words → restores.head slot s ≡ Asks stage words
-    asks_under_part s asked = asks_part (restore_of slot image pairs) machine (Restoring slot pairs image) Restored [] (restore_part slot pairs image) (Restoring slot pairs image s) s stage words refl asked
+    asks_under_part s asked = asks_part (restore_of slot image pairs) machine (Restoring slot pairs image) Restored [] (restore_part slot pairs image)
+        (Restoring slot pairs image s) s stage words refl asked
 
     abbrev It : Type 0
     It = MovesAt run k begun (Restoring slot pairs image s) stage words
@@ -100,18 +105,21 @@ module _ {V : Type 0} (jobs : List Job) (servers : Servers V) (first c : Core St
         let one : SpaceMakeHeld slot ≡ stage = cc in
         let two : no_words ≡ words = cc in
         let event : call_of its.nester stage words ≡ call_of its.nester (SpaceMakeHeld slot) no_words = λ i. call_of its.nester (sym one i) (sym two i) in
-        let goes : world_at run (k + 1) ≡ after (world_at run k) (call_of its.nester (SpaceMakeHeld slot) no_words) = its.goes ∙ ap (λ e. after (world_at run k) e) event in
+        let goes : world_at run (k + 1) ≡ after (world_at run k) (call_of its.nester (SpaceMakeHeld slot) no_words) = its.goes
+        ∙ ap (λ e. after (world_at run k) e) event in
         let may = subst (λ i. MayBegin (world_at run i) its.nester its.job.nester) now its.may in (
           its.job.nester,
           record {
             nester = its.nester;
             named = its.may.named;
             same = subst (IsSameFar its.nester slot (world_at run k)) (sym goes)
-                ((leaves_far slot its.job.nester (bound_by pairs) (picture image) (rooms_of image) (world_at run k) its.nester user roomed may).first (subst (IsReadyAt (world_at run k)) event its.ready));
+                ((leaves_far slot its.job.nester (bound_by pairs) (picture image) (rooms_of image) (world_at run k) its.nester user roomed may).first
+                (subst (IsReadyAt (world_at run k)) event its.ready));
           },
         )
 
-    later_move : (its : It) → slot ≤ LAST_USER_SLOT → IsRoomed (bound_by pairs) (picture image) (rooms_of image) → AtWork (restore_of slot image pairs) its.nester (world_at run begun) Makes (world_at run k) s → Left
+    later_move : (its : It) → slot ≤ LAST_USER_SLOT → IsRoomed (bound_by pairs) (picture image) (rooms_of image)
+        → AtWork (restore_of slot image pairs) its.nester (world_at run begun) Makes (world_at run k) s → Left
     unfolding Left
     later_move its user roomed work =
         let asked = asks_under_part s its.asked in (
@@ -120,78 +128,97 @@ module _ {V : Type 0} (jobs : List Job) (servers : Servers V) (first c : Core St
             nester = its.nester;
             named = its.may.named;
             same = subst (IsSameFar its.nester slot (world_at run k)) (sym its.goes)
-                ((leaves_far slot its.job.nester (bound_by pairs) (picture image) (rooms_of image) (world_at run begun) its.nester user roomed its.may).later (world_at run k) s stage words work asked its.ready);
+                ((leaves_far slot its.job.nester (bound_by pairs) (picture image) (rooms_of image) (world_at run begun) its.nester user roomed its.may).later
+                (world_at run k) s stage words work asked its.ready);
           },
         )
 
     left_by : (its : It) → Starts its.job its.start → Left
     left_by its (AsCheckpoint other user start) = by its.at
       where
-        by : ((begun ≡ k) × (Restoring slot pairs image s ≡ its.start)) ⊎ AtWork machine its.nester (world_at run begun) its.start (world_at run k) (Restoring slot pairs image s) → Left
+        by : ((begun ≡ k) × (Restoring slot pairs image s ≡ its.start))
+            ⊎ AtWork machine its.nester (world_at run begun) its.start (world_at run k) (Restoring slot pairs image s) → Left
         by (inl now) = let apart = now.1 ∙ start in cc
         by (inr work) =
             let there = subst (λ x. AtWork machine its.nester (world_at run begun) x (world_at run k) (Restoring slot pairs image s)) start work in
-            let part = works (checkpoint other) machine (Checking other) Checked its.nester (checkpoint_part other) (world_at run begun) checkpoints.Holds (world_at run k) (Restoring slot pairs image s) there in
+            let part = works (checkpoint other) machine (Checking other) Checked its.nester (checkpoint_part other) (world_at run begun) checkpoints.Holds
+            (world_at run k) (Restoring slot pairs image s) there in
             let apart = part.is in
             cc
     left_by its (AsRestore other given seen user roomed start) = by its.at
       where
-        by : ((begun ≡ k) × (Restoring slot pairs image s ≡ its.start)) ⊎ AtWork machine its.nester (world_at run begun) its.start (world_at run k) (Restoring slot pairs image s) → Left
+        by : ((begun ≡ k) × (Restoring slot pairs image s ≡ its.start))
+            ⊎ AtWork machine its.nester (world_at run begun) its.start (world_at run k) (Restoring slot pairs image s) → Left
         by (inl now) =
             let same = same_restore slot other pairs given image seen s Makes (now.1 ∙ start) in
             first_move its (subst (λ i. i ≤ LAST_USER_SLOT) (sym same.0) user)
-            (subst (λ (i : Image). IsRoomed (bound_by pairs) (picture i) (rooms_of i)) (sym same.2) (subst (λ (ps : List (ℕ × ℕ)). IsRoomed (bound_by ps) (picture seen) (rooms_of seen)) (sym same.1) roomed))
+            (subst (λ (i : Image). IsRoomed (bound_by pairs) (picture i) (rooms_of i)) (sym same.2)
+            (subst (λ (ps : List (ℕ × ℕ)). IsRoomed (bound_by ps) (picture seen) (rooms_of seen)) (sym same.1) roomed))
             now.0 same.3
         by (inr work) =
             let there = subst (λ x. AtWork machine its.nester (world_at run begun) x (world_at run k) (Restoring slot pairs image s)) start work in
-            let part = works (restore_of other seen given) machine (Restoring other given seen) Restored its.nester (restore_part other given seen) (world_at run begun) Makes (world_at run k) (Restoring slot pairs image s) there in
+            let part = works (restore_of other seen given) machine (Restoring other given seen) Restored its.nester (restore_part other given seen)
+            (world_at run begun) Makes (world_at run k) (Restoring slot pairs image s) there in
             let same = same_restore slot other pairs given image seen s part.state part.is in
             later_move its (subst (λ i. i ≤ LAST_USER_SLOT) (sym same.0) user)
-            (subst (λ (i : Image). IsRoomed (bound_by pairs) (picture i) (rooms_of i)) (sym same.2) (subst (λ (ps : List (ℕ × ℕ)). IsRoomed (bound_by ps) (picture seen) (rooms_of seen)) (sym same.1) roomed))
+            (subst (λ (i : Image). IsRoomed (bound_by pairs) (picture i) (rooms_of i)) (sym same.2)
+            (subst (λ (ps : List (ℕ × ℕ)). IsRoomed (bound_by ps) (picture seen) (rooms_of seen)) (sym same.1) roomed))
             (subst (λ i. AtWork (restore_of i image pairs) its.nester (world_at run begun) Makes (world_at run k) s) (sym same.0)
             (subst (λ (ps : List (ℕ × ℕ)). AtWork (restore_of other image ps) its.nester (world_at run begun) Makes (world_at run k) s) (sym same.1)
             (subst (λ (i : Image). AtWork (restore_of other i given) its.nester (world_at run begun) Makes (world_at run k) s) (sym same.2)
             (subst (λ x. AtWork (restore_of other seen given) its.nester (world_at run begun) Makes (world_at run k) x) (sym same.3) part.part))))
 
-    leaves_the_rest : k < length past → asker_at run k ≡ Asked_by_job begun (Restoring slot pairs image s) stage words → (birth : ℕ) × LeftFar birth slot (world_at run begun) (world_at run k) (world_at run (k + 1))
+    leaves_the_rest : k < length past → asker_at run k ≡ Asked_by_job begun (Restoring slot pairs image s) stage words
+        → (birth : ℕ) × LeftFar birth slot (world_at run begun) (world_at run k) (world_at run (k + 1))
     unfolding Left
     leaves_the_rest low e =
-        let its = moves_in_history (house jobs servers) first c past run grounded.users (house_is_tidy jobs servers grounded.slots) grounded.start grounded.few k begun (Restoring slot pairs image s) stage words low e in
+        let its = moves_in_history (house jobs servers) first c past run grounded.users
+        (house_is_tidy jobs servers grounded.slots) grounded.start grounded.few k begun (Restoring slot pairs image s) stage words low e in
         left_by its (starts its.job its.ends its.start (grounded.slots its.index its.job its.its) its.starts)
 
   -- ---- the next move
 
   next_ready : (k : Work State) → c.work ≡ Some k → NextIsReady k.state c.world
   next_ready k working =
-      let w = (stands (house jobs servers) first grounded.users (house_is_tidy jobs servers grounded.slots) grounded.start run grounded.few).working k working in
+      let w = (stands (house jobs servers) first grounded.users
+      (house_is_tidy jobs servers grounded.slots) grounded.start run grounded.few).working k working in
       by w (starts w.worked.job c.ends w.worked.start (grounded.slots (length c.ends) w.worked.job w.worked.its) w.worked.starts)
     where
-      by : (w : Working (house jobs servers) first grounded.users (house_is_tidy jobs servers grounded.slots) grounded.start run k) → Starts w.worked.job w.worked.start → NextIsReady k.state c.world
+      by : (w : Working (house jobs servers) first grounded.users (house_is_tidy jobs servers grounded.slots) grounded.start run k)
+          → Starts w.worked.job w.worked.start → NextIsReady k.state c.world
       by w (AsCheckpoint slot user start) =
           let there = subst (λ x. AtWork machine w.worked.nester (world_at run k.begun) x c.world k.state) start w.now.work in
-          let part = works (checkpoint slot) machine (Checking slot) Checked w.worked.nester (checkpoint_part slot) (world_at run k.begun) checkpoints.Holds c.world k.state there in
+          let part = works (checkpoint slot) machine (Checking slot) Checked w.worked.nester (checkpoint_part slot)
+          (world_at run k.begun) checkpoints.Holds c.world k.state there in
           subst (λ x. NextIsReady x c.world) (sym part.is) (record {
             nester = w.worked.nester;
-            ready = λ stage words asked calm. checkpoint_is_ready slot w.worked.job.nester (world_at run k.begun) c.world w.worked.nester part.state stage words user w.worked.may part.part
-                (asks_part (checkpoint slot) machine (Checking slot) Checked w.worked.nester (checkpoint_part slot) (Checking slot part.state) part.state stage words refl asked) calm;
+            ready = λ stage words asked calm. checkpoint_is_ready slot w.worked.job.nester
+                (world_at run k.begun) c.world w.worked.nester part.state stage words user w.worked.may part.part
+                (asks_part (checkpoint slot) machine (Checking slot) Checked w.worked.nester (checkpoint_part slot)
+                (Checking slot part.state) part.state stage words refl asked) calm;
           })
       by w (AsRestore slot pairs image user roomed start) =
           let there = subst (λ x. AtWork machine w.worked.nester (world_at run k.begun) x c.world k.state) start w.now.work in
-          let part = works (restore_of slot image pairs) machine (Restoring slot pairs image) Restored w.worked.nester (restore_part slot pairs image) (world_at run k.begun) Makes c.world k.state there in
+          let part = works (restore_of slot image pairs) machine (Restoring slot pairs image) Restored w.worked.nester (restore_part slot pairs image)
+          (world_at run k.begun) Makes c.world k.state there in
           subst (λ x. NextIsReady x c.world) (sym part.is) (record {
             nester = w.worked.nester;
-            ready = λ stage words asked calm. restore_is_ready slot w.worked.job.nester (bound_by pairs) (picture image) (rooms_of image) (world_at run k.begun) c.world w.worked.nester part.state stage words user roomed
-                w.worked.may part.part (asks_part (restore_of slot image pairs) machine (Restoring slot pairs image) Restored w.worked.nester (restore_part slot pairs image) (Restoring slot pairs image part.state) part.state
+            ready = λ stage words asked calm. restore_is_ready slot w.worked.job.nester (bound_by pairs) (picture image) (rooms_of image)
+                (world_at run k.begun) c.world w.worked.nester part.state stage words user roomed
+                w.worked.may part.part (asks_part (restore_of slot image pairs) machine (Restoring slot pairs image) Restored w.worked.nester
+                (restore_part slot pairs image) (Restoring slot pairs image part.state) part.state
                 stage words refl asked) calm;
           })
 
   -- ---- ends of restores
 
-  ended_so : (index : ℕ) (j : Job) (slot begun last : ℕ) (pairs : List (ℕ × ℕ)) (source : Source) (image : Image) (end : restores.End) → slice_get jobs index ≡ Some j → j.task ≡ Restore slot pairs source →
+  ended_so : (index : ℕ) (j : Job) (slot begun last : ℕ) (pairs : List (ℕ × ℕ)) (source : Source) (image : Image) (end : restores.End)
+      → slice_get jobs index ≡ Some j → j.task ≡ Restore slot pairs source →
       valid_one (sourced (take index c.ends) source) ≡ Some image → slice_get c.ends index ≡ Some (Worked (Restored end) begun last) →
       EndedSo j.nester slot pairs image (world_at run begun) (world_at run (last + 1)) end
   ended_so index j slot begun last pairs source image end its is from ended =
-      by ((composed (house jobs servers) first c past run grounded.users (house_is_tidy jobs servers grounded.slots) grounded.start grounded.few).ended index (Restored end) begun last ended)
+      by ((composed (house jobs servers) first c past run grounded.users (house_is_tidy jobs servers grounded.slots) grounded.start grounded.few).ended index
+      (Restored end) begun last ended)
     where
       same_end : (a b : restores.End) → Restored a ≡ Restored b → a ≡ b
       same_end a b e = cc
@@ -200,8 +227,10 @@ module _ {V : Type 0} (jobs : List Job) (servers : Servers V) (first c : Core St
           EndedSo j.nester slot pairs image (world_at run begun) (world_at run (last + 1)) end
       on e job start =
           let there = subst (λ s. AtWork machine e.worked.nester (world_at run begun) s (world_at run (last + 1)) e.state) start e.there.work in
-          let part = works (restore_of slot image pairs) machine (Restoring slot pairs image) Restored e.worked.nester (restore_part slot pairs image) (world_at run begun) Makes (world_at run (last + 1)) e.state there in
-          let stop = stops_part (restore_of slot image pairs) machine (Restoring slot pairs image) Restored e.worked.nester (restore_part slot pairs image) e.state part.state (Restored end) part.is e.stopped in
+          let part = works (restore_of slot image pairs) machine (Restoring slot pairs image) Restored e.worked.nester (restore_part slot pairs image)
+          (world_at run begun) Makes (world_at run (last + 1)) e.state there in
+          let stop = stops_part (restore_of slot image pairs) machine (Restoring slot pairs image) Restored e.worked.nester
+          (restore_part slot pairs image) e.state part.state (Restored end) part.is e.stopped in
           let stops = stop.1 ∙ ap (λ (a : restores.End). Stops a) (same_end stop.0 end stop.2) in
           let may = subst (λ (i : Job). MayBegin (world_at run begun) e.worked.nester i.nester) job e.worked.may in
           let names = slots_of j (Restore slot pairs source) is (grounded.slots index j its) in
@@ -209,12 +238,15 @@ module _ {V : Type 0} (jobs : List Job) (servers : Servers V) (first c : Core St
           record {
             nester = e.worked.nester;
             named = may.named;
-            so = image_restore_ends_so slot j.nester image pairs (world_at run begun) (world_at run (last + 1)) e.worked.nester part.state end (record { low = names.0; users = names.1; valid = valid }) may part.part stops;
-            taken = occupied_is_exact slot j.nester (bound_by pairs) (picture image) (rooms_of image) (world_at run begun) (world_at run (last + 1)) e.worked.nester part.state end names.0
+            so = image_restore_ends_so slot j.nester image pairs (world_at run begun) (world_at run (last + 1)) e.worked.nester part.state end
+                (record { low = names.0; users = names.1; valid = valid }) may part.part stops;
+            taken = occupied_is_exact slot j.nester (bound_by pairs) (picture image) (rooms_of image) (world_at run begun)
+                (world_at run (last + 1)) e.worked.nester part.state end names.0
                 (valid_is_roomed (bound_by pairs) image (pairs_bind pairs names.1) valid) may part.part stops;
             state = part.state;
             work = part.part;
-            missing = no_port_is_exact slot j.nester (bound_by pairs) (picture image) (rooms_of image) (world_at run begun) (world_at run (last + 1)) e.worked.nester part.state end names.0
+            missing = no_port_is_exact slot j.nester (bound_by pairs) (picture image) (rooms_of image) (world_at run begun)
+                (world_at run (last + 1)) e.worked.nester part.state end names.0
                 (valid_is_roomed (bound_by pairs) image (pairs_bind pairs names.1) valid) may part.part stops;
           }
 
@@ -264,15 +296,21 @@ over a b e = cc
 pub last_call_is_known : LastCallIsKnown
 last_call_is_known slot checkpoints.Holds stage words status told end asked e = by (status == OK) e
   where
-    by : (t : Bool) → cond t (checkpoints.Readies seeks.PLACES (seeks.TARGETS ∷ seeks.STEPS ∷ [])) (checkpoints.Over checkpoints.Gone) ≡ checkpoints.Over end → IsLastCall slot end checkpoints.Holds stage
+    by : (t : Bool) → cond t (checkpoints.Readies seeks.PLACES (seeks.TARGETS ∷ seeks.STEPS ∷ [])) (checkpoints.Over checkpoints.Gone) ≡ checkpoints.Over end
+        → IsLastCall slot end checkpoints.Holds stage
     by true e = cc
     by false e = subst (λ (x : checkpoints.End). IsLastCall slot x checkpoints.Holds stage) (over checkpoints.Gone end e) (inl refl)
-last_call_is_known slot (checkpoints.Readies r []) stage words status told end asked e = walking (IsLastCall slot end (checkpoints.Readies r []) stage) slot end walks.begin (walks.head slot walks.begin) e
+last_call_is_known slot (checkpoints.Readies r []) stage words status told end asked e = walking
+    (IsLastCall slot end (checkpoints.Readies r []) stage) slot end walks.begin (walks.head slot walks.begin) e
 last_call_is_known slot (checkpoints.Readies r (k ∷ rest)) stage words status told end asked e = cc
-last_call_is_known slot (checkpoints.Walks s) stage words status told end asked e = walking (IsLastCall slot end (checkpoints.Walks s) stage) slot end (walks.next slot s status told) (walks.head slot (walks.next slot s status told)) e
-last_call_is_known slot (checkpoints.Seeks mets s) stage words status told end asked e = seeking (IsLastCall slot end (checkpoints.Seeks mets s) stage) slot end mets (seeks.next slot s status told) (seeks.head slot (seeks.next slot s status told)) e
-last_call_is_known slot (checkpoints.Reads s) stage words status told end asked e = reading (IsLastCall slot end (checkpoints.Reads s) stage) slot end (reads.next slot s status told) (reads.head slot (reads.next slot s status told)) e
-last_call_is_known slot (checkpoints.Gathers cs s) stage words status told end asked e = gathering (IsLastCall slot end (checkpoints.Gathers cs s) stage) slot end cs (gathers.next slot s status told) (gathers.head slot (gathers.next slot s status told)) e
+last_call_is_known slot (checkpoints.Walks s) stage words status told end asked e = walking (IsLastCall slot end (checkpoints.Walks s) stage) slot end
+    (walks.next slot s status told) (walks.head slot (walks.next slot s status told)) e
+last_call_is_known slot (checkpoints.Seeks mets s) stage words status told end asked e = seeking
+    (IsLastCall slot end (checkpoints.Seeks mets s) stage) slot end mets (seeks.next slot s status told) (seeks.head slot (seeks.next slot s status told)) e
+last_call_is_known slot (checkpoints.Reads s) stage words status told end asked e = reading (IsLastCall slot end (checkpoints.Reads s) stage) slot end
+    (reads.next slot s status told) (reads.head slot (reads.next slot s status told)) e
+last_call_is_known slot (checkpoints.Gathers cs s) stage words status told end asked e = gathering
+    (IsLastCall slot end (checkpoints.Gathers cs s) stage) slot end cs (gathers.next slot s status told) (gathers.head slot (gathers.next slot s status told)) e
 last_call_is_known slot (checkpoints.Drops r [] other) stage words status told end asked e = cc
 last_call_is_known slot (checkpoints.Drops r (k ∷ rest) other) stage words status told end asked e = cc
 last_call_is_known slot (checkpoints.Releases other) stage words status told end asked e =
@@ -281,7 +319,8 @@ last_call_is_known slot (checkpoints.Releases other) stage words status told end
     release : (other : checkpoints.End) → checkpoints.head slot (checkpoints.Releases other) ≡ Asks stage words → stage ≡ SpaceRelease OWN_SPACE slot
     release other asked = let one : SpaceRelease OWN_SPACE slot ≡ stage = cc in sym one
 
-    by : (other : checkpoints.End) → checkpoints.head slot (checkpoints.Releases other) ≡ Asks stage words → IsLastCall slot other (checkpoints.Releases other) stage
+    by : (other : checkpoints.End) → checkpoints.head slot (checkpoints.Releases other) ≡ Asks stage words
+        → IsLastCall slot other (checkpoints.Releases other) stage
     by checkpoints.Gone asked = inr refl
     by (checkpoints.Foreign place) asked = release (checkpoints.Foreign place) asked
     by (checkpoints.Done image) asked = release (checkpoints.Done image) asked

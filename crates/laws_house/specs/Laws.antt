@@ -78,7 +78,8 @@ RunStaysUncut V = (jobs : List Job) (servers : Servers V) (first c : Core State 
 -- ---- how many moves a job makes in a history, ended or not
 
 abbrev pub CheckpointsAreBrief : Type 0 → Type 0
-CheckpointsAreBrief V = (jobs : List Job) (servers : Servers V) (first c : Core State End V) (past : List Move) (run : IsRun (house jobs servers) first past c) →
+CheckpointsAreBrief V = (jobs : List Job) (servers : Servers V) (first c : Core State End V) (past : List Move)
+    (run : IsRun (house jobs servers) first past c) →
     IsGrounded jobs servers first past → (index begun upto : ℕ) (ends : List (JobEnd End)) (its : HasWorked run index ends begun upto) (slot d k : ℕ) →
     its.job.task ≡ Checkpoint slot → LiesWithin (cut (world_at run begun) its.nester slot) d → begun < k → k ≤ upto →
     job_moves run k ≤ job_moves run begun + 100 * ((count_of (cut (world_at run begun) its.nester slot) + 1) * (d + 1))
@@ -99,7 +100,8 @@ pub record LeftBeside (birth slot : ℕ) (begins w v : World) : Type 0 where
   pub same : IsSameBeside nester slot w v
 
 abbrev pub CheckpointsLeaveTheRest : Type 0 → Type 0
-CheckpointsLeaveTheRest V = (jobs : List Job) (servers : Servers V) (first c : Core State End V) (past : List Move) (run : IsRun (house jobs servers) first past c) →
+CheckpointsLeaveTheRest V = (jobs : List Job) (servers : Servers V) (first c : Core State End V) (past : List Move)
+    (run : IsRun (house jobs servers) first past c) →
     IsGrounded jobs servers first past → (k begun slot : ℕ) (s : checkpoints.State) (stage : Stage) (words : List ℕ) → k < length past →
     asker_at run k ≡ Asked_by_job begun (Checking slot s) stage words →
     (birth : ℕ) × LeftBeside birth slot (world_at run begun) (world_at run k) (world_at run (k + 1))
@@ -113,7 +115,8 @@ pub record EndedAsItWas (birth slot : ℕ) (w : World) (end : checkpoints.End) :
   pub was : EndsAsItWas w nester slot end
 
 abbrev pub CheckpointsEndAsItWas : Type 0 → Type 0
-CheckpointsEndAsItWas V = (jobs : List Job) (servers : Servers V) (first c : Core State End V) (past : List Move) (run : IsRun (house jobs servers) first past c) →
+CheckpointsEndAsItWas V = (jobs : List Job) (servers : Servers V) (first c : Core State End V) (past : List Move)
+    (run : IsRun (house jobs servers) first past c) →
     IsGrounded jobs servers first past → (index : ℕ) (j : Job) (slot begun last : ℕ) (end : checkpoints.End) → slice_get jobs index ≡ Some j →
     j.task ≡ Checkpoint slot → slice_get c.ends index ≡ Some (Worked (Checked end) begun last) → EndedAsItWas j.nester slot (world_at run begun) end
 
@@ -148,5 +151,6 @@ abbrev pub SavedGoesOn : Type 0 → Type 0
 SavedGoesOn V = (jobs : List Job) (servers : Servers V) (first c : Core State End V) (past : List Move) (run : IsRun (house jobs servers) first past c) →
     IsGrounded jobs servers first past → (from to : ℕ) (i j : Job) (slot place hold release made done : ℕ) (pairs : List (ℕ × ℕ)) (image : Image) →
     slice_get jobs from ≡ Some i → i.task ≡ Checkpoint slot → slice_get c.ends from ≡ Some (Worked (Checked (Done image)) hold release) →
-    slice_get jobs to ≡ Some j → j.task ≡ Restore place pairs (MadeBy from) → slice_get c.ends to ≡ Some (Worked (Restored restores.Done) made done) → from < to →
+    slice_get jobs to ≡ Some j → j.task ≡ Restore place pairs (MadeBy from) → slice_get c.ends to ≡ Some (Worked (Restored restores.Done) made done)
+    → from < to →
     GoesOnAgain i.nester slot (world_at run hold) j.nester place (world_at run made) (world_at run (done + 1)) (bound_by pairs)

@@ -40,8 +40,10 @@ pub record LeftFar (birth slot : ℕ) (begins w v : World) : Type 0 where
 
 -- all but the new space and its nester's scratch, also where it destroys the new space again
 abbrev pub RestoresLeaveTheRest : Type 0 → Type 0
-RestoresLeaveTheRest V = (jobs : List Job) (servers : Servers V) (first c : Core State End V) (past : List Move) (run : IsRun (house jobs servers) first past c) →
-    IsGrounded jobs servers first past → (k begun slot : ℕ) (pairs : List (ℕ × ℕ)) (image : Image) (s : restores.State) (stage : Stage) (words : List ℕ) → k < length past →
+RestoresLeaveTheRest V = (jobs : List Job) (servers : Servers V) (first c : Core State End V) (past : List Move)
+    (run : IsRun (house jobs servers) first past c) →
+    IsGrounded jobs servers first past → (k begun slot : ℕ) (pairs : List (ℕ × ℕ)) (image : Image) (s : restores.State) (stage : Stage) (words : List ℕ)
+    → k < length past →
     asker_at run k ≡ Asked_by_job begun (Restoring slot pairs image s) stage words →
     (birth : ℕ) × LeftFar birth slot (world_at run begun) (world_at run k) (world_at run (k + 1))
 
@@ -54,7 +56,8 @@ slot_of_state (Restoring slot pairs image s) = slot
 -- is ready wherever nothing outside its subtree is held
 pub record NextIsReady (state : State) (v : World) : Type 0 where
   pub nester : Path
-  pub ready : (stage : Stage) (words : List ℕ) → machine.head state ≡ Asks stage words → IsCalm (slot_of_state state ∷ nester) v → IsReadyAt v (call_of nester stage words)
+  pub ready : (stage : Stage) (words : List ℕ) → machine.head state ≡ Asks stage words → IsCalm (slot_of_state state ∷ nester) v
+      → IsReadyAt v (call_of nester stage words)
 
 abbrev pub JobsAreReady : Type 0 → Type 0
 JobsAreReady V = (jobs : List Job) (servers : Servers V) (first c : Core State End V) (past : List Move) (run : IsRun (house jobs servers) first past c) →
@@ -76,7 +79,8 @@ pub record EndedSo (birth slot : ℕ) (pairs : List (ℕ × ℕ)) (image : Image
 
 abbrev pub RestoresEndSo : Type 0 → Type 0
 RestoresEndSo V = (jobs : List Job) (servers : Servers V) (first c : Core State End V) (past : List Move) (run : IsRun (house jobs servers) first past c) →
-    IsGrounded jobs servers first past → (index : ℕ) (j : Job) (slot begun last : ℕ) (pairs : List (ℕ × ℕ)) (source : Source) (image : Image) (end : restores.End) →
+    IsGrounded jobs servers first past → (index : ℕ) (j : Job) (slot begun last : ℕ) (pairs : List (ℕ × ℕ)) (source : Source) (image : Image)
+    (end : restores.End) →
     slice_get jobs index ≡ Some j → j.task ≡ Restore slot pairs source → valid_one (sourced (take index c.ends) source) ≡ Some image →
     slice_get c.ends index ≡ Some (Worked (Restored end) begun last) → EndedSo j.nester slot pairs image (world_at run begun) (world_at run (last + 1)) end
 

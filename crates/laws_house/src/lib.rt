@@ -7,6 +7,8 @@
 ghost use Rattle.laws_house.specs.Laws.{HouseIsTidy, RunStaysUncut, CheckpointsAreBrief, RestoresAreBrief, CheckpointsLeaveTheRest, CheckpointsEndAsItWas, CheckpointsSave, RestoresMake, SavedGoesOn};
 ghost use Rattle.laws_house.specs.Moves.{RestoresLeaveTheRest, JobsAreReady, RestoresEndSo, LastCallIsKnown, GoneLeavesAll};
 ghost use Rattle.laws_house.specs.Parts.{PartsWork, PartsAreTidy};
+ghost use Rattle.laws_house.specs.Headline.{JobsNameUsersSlots, HeadlineHolds};
+ghost use Rattle.laws_house.specs.Places.{CheckpointsMoveSo, RestoresMoveSo, JobsEndClean, CheckpointsRelease, RestoresWantAnImage, RestoresWantTheirMaker};
 
 /// A machine that is a part of another one is at work where that one is in this part, with as many calls.
 pub fn a_part_works<S, A, T, B>()
@@ -92,4 +94,47 @@ pub fn a_checkpoints_last_call_is_known()
 /// That one leaves all as it was.
 pub fn a_checkpoint_without_a_space_leaves_all()
     ensures { GoneLeavesAll }
+{}
+
+/// The first move of a checkpoint that has ended is its hold, and its last one its release, but for one that found no space.
+pub fn checkpoints_move_so<V>()
+    ensures { CheckpointsMoveSo V }
+{}
+
+/// The first move of a restore that has ended makes its space, held, and its last one is its release, a stage of destroying that
+/// space, or the first move itself.
+pub fn restores_move_so<V>()
+    ensures { RestoresMoveSo V }
+{}
+
+/// Behind a job's last move no scratch stands.
+pub fn jobs_end_clean<V>()
+    ensures { JobsEndClean V }
+{}
+
+/// And behind a checkpoint's nobody holds the space that it looked at.
+pub fn checkpoints_release<V>()
+    ensures { CheckpointsRelease V }
+{}
+
+/// A restore has no image exactly where its source gives none that can be made again.
+pub fn restores_want_an_image<V>()
+    ensures { RestoresWantAnImage V }
+{}
+
+/// And where a checkpoint is to make it, exactly where that one isn't done.
+pub fn restores_want_their_maker<V>()
+    ensures { RestoresWantTheirMaker V }
+{}
+
+/// The jobs of a scenario name users' slots where its reader has seen that they do.
+pub fn jobs_name_users_slots()
+    ensures { JobsNameUsersSlots }
+{}
+
+/// All together, over any run from a first world that is grounded: its history is legal; each checkpoint and each restore ends as
+/// it should, by its own moves, at their places, and leaves the rest; and what was saved and made again goes on exactly as it would
+/// have.
+pub fn the_headline_holds<V>()
+    ensures { HeadlineHolds V }
 {}

@@ -214,7 +214,8 @@ unfolding outs
 outs_pay a m i [] h = cc
 outs_pay a m i (it ∷ is) h = by (leads_out i it.body) h (λ later. outs_pay a m i is later)
   where
-    by : (t : Bool) → (t || list_any (λ (item : Item). leads_out i item.body) is) ≡ true → (list_any (λ (item : Item). leads_out i item.body) is ≡ true → a + outs m i is ≤ outs (a + m) i is) →
+    by : (t : Bool) → (t || list_any (λ (item : Item). leads_out i item.body) is) ≡ true
+        → (list_any (λ (item : Item). leads_out i item.body) is ≡ true → a + outs m i is ≤ outs (a + m) i is) →
         a + (cond t m zero + outs m i is) ≤ cond t (a + m) zero + outs (a + m) i is
     by true h pays = let rest = outs_grow a m i is in omega (arith, rest)
     by false h pays = let rest = pays h in omega (arith, rest)
@@ -229,7 +230,8 @@ unfolding sum
 rooms_pay a m i [] h = cc
 rooms_pay a m i (r ∷ rs) h = by (has (leads_out i) r) refl h (λ later. rooms_pay a m i rs later)
   where
-    by : (t : Bool) → has (leads_out i) r ≡ t → (t || list_any (has (leads_out i)) rs) ≡ true → (list_any (has (leads_out i)) rs ≡ true → a + room_outs m i rs ≤ room_outs (a + m) i rs) →
+    by : (t : Bool) → has (leads_out i) r ≡ t → (t || list_any (has (leads_out i)) rs) ≡ true
+        → (list_any (has (leads_out i)) rs ≡ true → a + room_outs m i rs ≤ room_outs (a + m) i rs) →
         a + (outs m i r.items + room_outs m i rs) ≤ outs (a + m) i r.items + room_outs (a + m) i rs
     by true e h pays = let rest = rooms_grow a m i rs in let here = outs_pay a m i r.items e in omega (arith, rest, here)
     by false e h pays = let rest = pays h in let here = outs_grow a m i r.items in omega (arith, rest, here)
@@ -280,7 +282,8 @@ body_out i bind q x Portset = lead_out i q x Null
 body_out i bind q x (Space birth holder) = lead_out i q x Null
 body_out i bind q x (Reference to) = lead_out i q x to
 
-each_out : (i : ℕ) (bind : ℕ → ℕ) (q : Path) (is : List Item) → length (flat_map (λ (item : Item). leads_body_out i bind q item.slot item.body) is) ≤ outs 2 i is
+each_out : (i : ℕ) (bind : ℕ → ℕ) (q : Path) (is : List Item)
+    → length (flat_map (λ (item : Item). leads_body_out i bind q item.slot item.body) is) ≤ outs 2 i is
 unfolding outs
 each_out i bind q [] = omega arith
 each_out i bind q (it ∷ is) =
@@ -363,7 +366,10 @@ module _ (slot : ℕ) (bind : ℕ → ℕ) (c : World) (d : ℕ) (deep : LiesWit
 
   fine : (rooms : List Room) (made : List Path) (given : List (Path × ℕ)) → AreRooms bind c rooms made given → Fine rooms
   fine [] made given are = tt
-  fine (r ∷ rs) made given are = ((are.0.way, aimed r.path r.items made are.0.items), fine rs (with_items r.path r.items made) (with_sheets r.path r.sheets given) are.1)
+  fine (r ∷ rs) made given are = (
+    (are.0.way, aimed r.path r.items made are.0.items),
+    fine rs (with_items r.path r.items made) (with_sheets r.path r.sheets given) are.1,
+  )
 
   -- from room to room
   through : (visits : Room → Bool) (orders : Room → List Order) (f : Room → ℕ) (p : Path) (rooms : List Room) → Fine rooms →
@@ -373,7 +379,8 @@ module _ (slot : ℕ) (bind : ℕ → ℕ) (c : World) (d : ℕ) (deep : LiesWit
   through visits orders f p (r ∷ rs) is h = by (visits r) refl (λ from. through visits orders f from rs is.1 h)
     where
       by : (t : Bool) → visits r ≡ t → ((from : Path) → length (through_rooms slot visits orders from rs) ≤ sum f rs) →
-          length (cond t (goes_to slot p r.path ++ (orders r ++ through_rooms slot visits orders r.path rs)) (through_rooms slot visits orders p rs)) ≤ f r + sum f rs
+          length (cond t (goes_to slot p r.path ++ (orders r ++ through_rooms slot visits orders r.path rs))
+          (through_rooms slot visits orders p rs)) ≤ f r + sum f rs
       by true e later =
           let rest = later r.path in
           let here = h r is.0.1 e in
@@ -392,7 +399,8 @@ module _ (slot : ℕ) (bind : ℕ → ℕ) (c : World) (d : ℕ) (deep : LiesWit
       let both = length-append (goes_to slot p q) (Makes P q k kinds.Space ∷ []) in
       omega (arith, goes, both)
 
-  makes_length : (p : Path) (rooms : List Room) (made : List Path) → AreSpaces c rooms made → length (makes_spaces slot p rooms) ≤ 2 * sum (weight (suc d)) rooms
+  makes_length : (p : Path) (rooms : List Room) (made : List Path) → AreSpaces c rooms made
+      → length (makes_spaces slot p rooms) ≤ 2 * sum (weight (suc d)) rooms
   unfolding makes_spaces sum
   makes_length p [] made are = omega arith
   makes_length p (r ∷ rs) made are =
@@ -416,7 +424,8 @@ module _ (slot : ℕ) (bind : ℕ → ℕ) (c : World) (d : ℕ) (deep : LiesWit
   hold_length p (k ∷ q) (Some Outside) made new = omega arith
   hold_length p (k ∷ q) (Some Far) made new = omega arith
 
-  holds_length : (p : Path) (rooms : List Room) (made : List Path) → AreSpaces c rooms made → length (holds_spaces slot p rooms) ≤ 3 * sum (weight (suc d)) rooms
+  holds_length : (p : Path) (rooms : List Room) (made : List Path) → AreSpaces c rooms made
+      → length (holds_spaces slot p rooms) ≤ 3 * sum (weight (suc d)) rooms
   unfolding holds_spaces sum
   holds_length p [] made are = omega arith
   holds_length p (r ∷ rs) made are =
@@ -448,7 +457,8 @@ module _ (slot : ℕ) (bind : ℕ → ℕ) (c : World) (d : ℕ) (deep : LiesWit
 
   -- ---- pointers, talks and faults inside
 
-  each_length : (orders : Path → ℕ → Body → List Order) (k : ℕ) (q : Path) (is : List Item) → Aimed is → ((x : ℕ) (b : Body) → AreAims bind c b → length (orders q x b) ≤ k) →
+  each_length : (orders : Path → ℕ → Body → List Order) (k : ℕ) (q : Path) (is : List Item) → Aimed is
+      → ((x : ℕ) (b : Body) → AreAims bind c b → length (orders q x b) ≤ k) →
       length (flat_map (λ (item : Item). orders q item.slot item.body) is) ≤ cost k is
   unfolding cost
   each_length orders k q [] aims h = omega arith
@@ -516,7 +526,8 @@ module _ (slot : ℕ) (bind : ℕ → ℕ) (c : World) (d : ℕ) (deep : LiesWit
   talk_length q x talk Outside peer pair = omega arith
   talk_length q x talk Far peer pair = omega arith
 
-  fault_length : (q : Path) (x : ℕ) (fault : Fault) (port : Ptr) (taker : Option Peer) → IsTakenAim bind c port taker → length (ties_fault slot q x fault port taker) ≤ 3 * suc d
+  fault_length : (q : Path) (x : ℕ) (fault : Fault) (port : Ptr) (taker : Option Peer) → IsTakenAim bind c port taker
+      → length (ties_fault slot q x fault port taker) ≤ 3 * suc d
   fault_length q x fault (At port) None aim =
       let a = leads_most T q port aim.0 in
       let f = length-append (leads_to_at slot T q port) (RaisesFault P q x T port (fault_words fault) ∷ []) in
@@ -581,7 +592,8 @@ module _ (slot : ℕ) (bind : ℕ → ℕ) (c : World) (d : ℕ) (deep : LiesWit
           omega (arith, all, pay)
 
       by : (t : Bool) → list_any (has (leads_out i)) rooms ≡ t →
-          length (cond t ((Pins (bind i) ∷ Takes T ∷ Checks T (bind i) ∷ []) ++ (through_rooms slot (has (leads_out i)) (each (leads_body_out i bind)) p rooms ++ LeadsTop T ∷ [])) []) ≤ room_outs (4 + (suc d + 2)) i rooms
+          length (cond t ((Pins (bind i) ∷ Takes T ∷ Checks T (bind i) ∷ [])
+          ++ (through_rooms slot (has (leads_out i)) (each (leads_body_out i bind)) p rooms ++ LeadsTop T ∷ [])) []) ≤ room_outs (4 + (suc d + 2)) i rooms
       by true e =
           let all = through (has (leads_out i)) (each (leads_body_out i bind)) (λ r. outs (suc d + 2) i r.items) p rooms is one in
           let pay = rooms_pay 4 (suc d + 2) i rooms e in
@@ -637,7 +649,8 @@ fewer (r ∷ rs) = let rest = fewer rs in let here = one_at_most r.path in omega
 
 -- one more than so many, each at least 1
 rises : (n d : ℕ) → n * suc d + suc d ≤ (n + 1) * (d + 1)
-rises n d = let product = suc-mul n (suc d) in let is : (n + 1) * (d + 1) ≡ suc n * suc d = ap (λ (k : ℕ). k * (d + 1)) (omega arith) ∙ ap (λ (k : ℕ). suc n * k) (omega arith) in omega (arith, product, is)
+rises n d = let product = suc-mul n (suc d) in let is : (n + 1) * (d + 1) ≡ suc n * suc d = ap (λ (k : ℕ). k * (d + 1)) (omega arith)
+    ∙ ap (λ (k : ℕ). suc n * k) (omega arith) in omega (arith, product, is)
 
 at_least : (n d : ℕ) → n ≤ n * suc d
 at_least zero d = omega arith

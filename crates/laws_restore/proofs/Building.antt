@@ -55,8 +55,10 @@ way_same f g [] same way = tt
 way_same f g (k ∷ q) same way = (ap is_referable (same (k ∷ q)) ∙ way.0, way.1, same q ∙ way.2, way_same f g q same way.3)
 
 module _ (c : World) (root : c.body [] ≡ Some (Space 0 None)) where
-  pub among_kind : (made set : List Path) (given : List (Path × ℕ)) (k : ℕ) (q : Path) → is_among (k ∷ q) made ≡ true → there (building c made set given) (k ∷ q) ≡ there c (k ∷ q)
-  among_kind made set given k q among = rw among (under (λ b. cond (is_among (k ∷ q) set) (recorded b) (blank b)) (λ b. either_kind (is_among (k ∷ q) set) b) (c.body (k ∷ q)))
+  pub among_kind : (made set : List Path) (given : List (Path × ℕ)) (k : ℕ) (q : Path) → is_among (k ∷ q) made ≡ true
+      → there (building c made set given) (k ∷ q) ≡ there c (k ∷ q)
+  among_kind made set given k q among = rw among (under (λ b. cond (is_among (k ∷ q) set) (recorded b) (blank b)) (λ b. either_kind (is_among (k ∷ q) set) b)
+      (c.body (k ∷ q)))
 
   pub made_there : (made set : List Path) (given : List (Path × ℕ)) (q : Path) → AreMade q made → there (building c made set given) q ≡ there c q
   made_there made set given [] above = rw root refl
@@ -64,8 +66,13 @@ module _ (c : World) (root : c.body [] ≡ Some (Space 0 None)) where
 
   pub made_way : (made set : List Path) (given : List (Path × ℕ)) (q : Path) → AreMade q made → IsWay (there c) q → IsWay (there (building c made set given)) q
   made_way made set given [] above way = tt
-  made_way made set given (k ∷ q) above way =
-      (ap is_referable (made_there made set given (k ∷ q) above) ∙ way.0, way.1, made_there made set given q above.1 ∙ way.2, made_way made set given q above.1 way.3)
+  made_way made set given (k ∷ q) above way = (
+    ap is_referable (made_there made set given (k ∷ q) above) ∙ way.0,
+    way.1,
+    made_there made set given q above.1
+        ∙ way.2,
+    made_way made set given q above.1 way.3,
+  )
 
 -- ---- one more is made
 
@@ -73,15 +80,21 @@ module _ (c : World) (made set : List Path) (given : List (Path × ℕ)) (k : �
   abbrev y : Path
   y = k ∷ q
 
-  made_as : (f : Option Body → Option Body) → f ((building c made set given).body y) ≡ Some (blank b) → at_path y f (building c made set given) ≡ building c (y ∷ made) set given
+  made_as : (f : Option Body → Option Body) → f ((building c made set given).body y) ≡ Some (blank b)
+      → at_path y f (building c made set given) ≡ building c (y ∷ made) set given
   made_as f h = λ i. record { body = λ z. by z i; page = (building c made set given).page; next = 0 }
     where
-      inner : (z : Path) (t : Bool) → same_path z y ≡ t → (j : ℕ) (r : Path) → z ≡ j ∷ r → cond t (f ((building c made set given).body z)) ((building c made set given).body z) ≡ built_at c (y ∷ made) set z
+      inner : (z : Path) (t : Bool) → same_path z y ≡ t → (j : ℕ) (r : Path) → z ≡ j ∷ r
+          → cond t (f ((building c made set given).body z)) ((building c made set given).body z) ≡ built_at c (y ∷ made) set z
       inner z true e j r at =
           let here = same_path_eq z y e in
-          rw here (subst (λ (t : Bool). f ((building c made set given).body y) ≡ cond (t || is_among y made) (option_map (λ b. cond (is_among y set) (recorded b) (blank b)) (c.body y)) None) (sym (subst (λ (z : Path). same_path z y ≡ true) here e))
+          rw here (subst (λ (t : Bool). f ((building c made set given).body y)
+          ≡ cond (t || is_among y made) (option_map (λ b. cond (is_among y set) (recorded b) (blank b)) (c.body y)) None)
+          (sym (subst (λ (z : Path). same_path z y ≡ true) here e))
           (h ∙ sym (rw (is, unset) refl)))
-      inner z false e j r at = rw at (subst (λ (t : Bool). built_at c made set (j ∷ r) ≡ cond (t || is_among (j ∷ r) made) (option_map (λ b. cond (is_among (j ∷ r) set) (recorded b) (blank b)) (c.body (j ∷ r))) None) (sym (subst (λ (z : Path). same_path z y ≡ false) at e)) refl)
+      inner z false e j r at = rw at (subst (λ (t : Bool). built_at c made set (j ∷ r)
+          ≡ cond (t || is_among (j ∷ r) made) (option_map (λ b. cond (is_among (j ∷ r) set) (recorded b) (blank b)) (c.body (j ∷ r))) None)
+          (sym (subst (λ (z : Path). same_path z y ≡ false) at e)) refl)
 
       by : (z : Path) → cond (same_path z y) (f ((building c made set given).body z)) ((building c made set given).body z) ≡ built_at c (y ∷ made) set z
       by [] = rw (same_path_ne [] y (λ e. cc)) refl
@@ -91,7 +104,8 @@ module _ (c : World) (made set : List Path) (given : List (Path × ℕ)) (k : �
   unfolding apply
   fresh_made = by b is made_as
     where
-      by : (b : Body) → c.body y ≡ Some b → ((f : Option Body → Option Body) → f ((building c made set given).body y) ≡ Some (blank b) → at_path y f (building c made set given) ≡ building c (y ∷ made) set given) →
+      by : (b : Body) → c.body y ≡ Some b → ((f : Option Body → Option Body) → f ((building c made set given).body y) ≡ Some (blank b)
+          → at_path y f (building c made set given) ≡ building c (y ∷ made) set given) →
           apply (fresh y (kind_of b)) (building c made set given) ≡ building c (y ∷ made) set given
       by (Mutex locked) e made = made (λ there. Some (Mutex false)) refl
       by Cond e made = made (λ there. Some Cond) refl
@@ -122,7 +136,8 @@ alter_all x (e ∷ es) m = alter_all x es (apply (Alter x e) m) ∙ (λ i. recor
     twice None = refl
     twice (Some b) = refl
 
-    by : (t : Bool) (o : Option Body) → cond t (option_map (edited_by es) (cond t (option_map (edited e) o) o)) (cond t (option_map (edited e) o) o) ≡ cond t (option_map (edited_by (e ∷ es)) o) o
+    by : (t : Bool) (o : Option Body) → cond t (option_map (edited_by es) (cond t (option_map (edited e) o) o)) (cond t (option_map (edited e) o) o)
+        ≡ cond t (option_map (edited_by (e ∷ es)) o) o
     by true o = twice o
     by false o = refl
 
@@ -133,20 +148,25 @@ module _ (c : World) (made done : List Path) (given : List (Path × ℕ)) (k : �
   pub blank_there : (building c made done given).body x ≡ Some (blank b)
   blank_there = rw (there, is, unset) refl
 
-  set_as : (f : Option Body → Option Body) → f (Some (blank b)) ≡ Some (recorded b) → at_path x f (building c made done given) ≡ building c made (x ∷ done) given
+  set_as : (f : Option Body → Option Body) → f (Some (blank b)) ≡ Some (recorded b)
+      → at_path x f (building c made done given) ≡ building c made (x ∷ done) given
   set_as f h = λ i. record { body = λ z. by z i; page = (building c made done given).page; next = 0 }
     where
-      inner : (z : Path) (t : Bool) → same_path z x ≡ t → (j : ℕ) (r : Path) → z ≡ j ∷ r → cond t (f ((building c made done given).body z)) ((building c made done given).body z) ≡ built_at c made (x ∷ done) z
+      inner : (z : Path) (t : Bool) → same_path z x ≡ t → (j : ℕ) (r : Path) → z ≡ j ∷ r
+          → cond t (f ((building c made done given).body z)) ((building c made done given).body z) ≡ built_at c made (x ∷ done) z
       inner z true e j r at =
           let here = same_path_eq z x e in
           rw here (ap f blank_there ∙ h ∙ sym (rw (there, is, same_path_refl x) refl))
-      inner z false e j r at = rw at (subst (λ (t : Bool). built_at c made done (j ∷ r) ≡ cond (is_among (j ∷ r) made) (option_map (λ b. cond (t || is_among (j ∷ r) done) (recorded b) (blank b)) (c.body (j ∷ r))) None) (sym (subst (λ (z : Path). same_path z x ≡ false) at e)) refl)
+      inner z false e j r at = rw at (subst (λ (t : Bool). built_at c made done (j ∷ r)
+          ≡ cond (is_among (j ∷ r) made) (option_map (λ b. cond (t || is_among (j ∷ r) done) (recorded b) (blank b)) (c.body (j ∷ r))) None)
+          (sym (subst (λ (z : Path). same_path z x ≡ false) at e)) refl)
 
       by : (z : Path) → cond (same_path z x) (f ((building c made done given).body z)) ((building c made done given).body z) ≡ built_at c made (x ∷ done) z
       by [] = rw (same_path_ne [] x (λ e. cc)) refl
       by (j ∷ r) = inner (j ∷ r) (same_path (j ∷ r) x) refl j r refl
 
-  pub record_made : (words : List ℕ) → set (blank b) words ≡ recorded b → after_set x words ((building c made done given).body x) (building c made done given) ≡ building c made (x ∷ done) given
+  pub record_made : (words : List ℕ) → set (blank b) words ≡ recorded b
+      → after_set x words ((building c made done given).body x) (building c made done given) ≡ building c made (x ∷ done) given
   unfolding set
   record_made words says =
       ap (λ (o : Option Body). after_set x words o (building c made done given)) blank_there
@@ -187,7 +207,8 @@ portset_kind (Some (Space birth holder)) = refl
 portset_kind (Some (Thread_of t)) = refl
 portset_kind (Some (Reference to)) = refl
 
-pub takes_same : (w v : World) (q : Path) → ((k : ℕ) → there w (k ∷ q) ≡ there v (k ∷ q)) → (b : Body) (words : List ℕ) → takes_state w q b words ≡ takes_state v q b words
+pub takes_same : (w v : World) (q : Path) → ((k : ℕ) → there w (k ∷ q) ≡ there v (k ∷ q)) → (b : Body) (words : List ℕ)
+    → takes_state w q b words ≡ takes_state v q b words
 unfolding takes_state
 takes_same w v q same (Port set served) words = rw (portset_kind (w.body _), portset_kind (v.body _), same _) refl
 takes_same w v q same (Mutex locked) words = refl

@@ -28,7 +28,8 @@ module _ (slot : ℕ) (bind : ℕ → ℕ) (rooms : List Room) where
   goes_on os None = omega arith
   goes_on os (Some j) = omega arith
 
-  less : (s : State) (stage : Stage) (words : List ℕ) (status : ℕ) (told : List ℕ) → head slot s ≡ Asks stage words → suc (left (next slot bind rooms s status told)) ≤ left s
+  less : (s : State) (stage : Stage) (words : List ℕ) (status : ℕ) (told : List ℕ) → head slot s ≡ Asks stage words
+      → suc (left (next slot bind rooms s status told)) ≤ left s
   less Makes stage words status told e = by (status == OK)
     where
       by : (t : Bool) → suc (left (cond t (Works (script slot bind rooms)) (Over Occupied))) ≤ length (script slot bind rooms) + (objects rooms + 7)
@@ -45,18 +46,21 @@ module _ (slot : ℕ) (bind : ℕ → ℕ) (rooms : List Room) where
   less (Clears (o ∷ os) more port) stage words status told e = omega arith
   less (Over end) stage words status told e = cc
 
-  counted : (nester : Path) (w v : World) (s t : State) (es : List Event) → (run : Interleaved (restore slot bind rooms) nester w s es v t) → own_moves run ≤ left s
+  counted : (nester : Path) (w v : World) (s t : State) (es : List Event) → (run : Interleaved (restore slot bind rooms) nester w s es v t)
+      → own_moves run ≤ left s
   counted nester _ _ _ _ _ (Here w s sound) = omega arith
   counted nester _ v _ t _ (Another w s e es _ _ sound works moves rest) = counted nester (after w e) v s t es rest
   counted nester _ v _ t _ (Own w s stage words es _ _ sound asks ready rest) =
       let reply = reply_of (said_of w (call_of nester stage words)) in
       let few = less s stage words reply.status reply.words asks in
-      let later = counted nester (after w (call_of nester stage words)) v (heard (restore slot bind rooms) s (said_of w (call_of nester stage words))) t es rest in
+      let later = counted nester (after w (call_of nester stage words)) v
+      (heard (restore slot bind rooms) s (said_of w (call_of nester stage words))) t es rest in
       omega (arith, few, later)
 
 pub is_counted : RestoreIsCounted
 is_counted slot bind rooms w v nester t work =
     let reply = reply_of (said_of w (call_of nester work.stage work.words)) in
     let few = less slot bind rooms Makes work.stage work.words reply.status reply.words work.asked in
-    let later = counted slot bind rooms nester (after w (call_of nester work.stage work.words)) v (heard (restore slot bind rooms) Makes (said_of w (call_of nester work.stage work.words))) t work.events work.run in
+    let later = counted slot bind rooms nester (after w (call_of nester work.stage work.words)) v
+    (heard (restore slot bind rooms) Makes (said_of w (call_of nester work.stage work.words))) t work.events work.run in
     omega (arith, few, later)

@@ -79,7 +79,8 @@ unfolding without
 without_none x [] h = refl
 without_none x (y ∷ ys) h = by (same_path x y) (same_path y x) refl refl h (without_none x ys)
   where
-    by : (s t : Bool) → same_path x y ≡ s → same_path y x ≡ t → (s || is_among x ys) ≡ false → (is_among x ys ≡ false → without x ys ≡ ys) → cond t (without x ys) (y ∷ without x ys) ≡ y ∷ ys
+    by : (s t : Bool) → same_path x y ≡ s → same_path y x ≡ t → (s || is_among x ys) ≡ false → (is_among x ys ≡ false → without x ys ≡ ys)
+        → cond t (without x ys) (y ∷ without x ys) ≡ y ∷ ys
     by true t e f h rest = cc
     by false true e f h rest = let one = same_path_eq y x f in let on : same_path x y ≡ true = rw one (same_path_refl x) in let clash = sym on ∙ e in cc
     by false false e f h rest = ap (λ (zs : List Path). y ∷ zs) (rest h)
@@ -89,8 +90,10 @@ unfolding without AreApart
 without_length x [] apart h = cc
 without_length x (y ∷ ys) apart h = by (same_path x y) (same_path y x) refl refl h (without_length x ys apart.1)
   where
-    by : (s t : Bool) → same_path x y ≡ s → same_path y x ≡ t → (s || is_among x ys) ≡ true → (is_among x ys ≡ true → suc (length (without x ys)) ≡ length ys) → suc (length (cond t (without x ys) (y ∷ without x ys))) ≡ suc (length ys)
-    by true true e f h rest = let one = same_path_eq y x f in ap (λ (zs : List Path). suc (length zs)) (without_none x ys (subst (λ (z : Path). is_among z ys ≡ false) one apart.0))
+    by : (s t : Bool) → same_path x y ≡ s → same_path y x ≡ t → (s || is_among x ys) ≡ true → (is_among x ys ≡ true → suc (length (without x ys)) ≡ length ys)
+        → suc (length (cond t (without x ys) (y ∷ without x ys))) ≡ suc (length ys)
+    by true true e f h rest = let one = same_path_eq y x f in
+        ap (λ (zs : List Path). suc (length zs)) (without_none x ys (subst (λ (z : Path). is_among z ys ≡ false) one apart.0))
     by true false e f h rest = let one = same_path_eq x y e in let on : same_path y x ≡ true = rw one (same_path_refl y) in let clash = sym on ∙ f in cc
     by false true e f h rest = let one = same_path_eq y x f in let on : same_path x y ≡ true = rw one (same_path_refl x) in let clash = sym on ∙ e in cc
     by false false e f h rest = ap suc (rest h)
@@ -114,7 +117,8 @@ module _ (w : World) (gone : Path) where
   after_kill = apply_all (kills w gone) w
 
   -- what a sweep keeps, and the end of a call
-  ends_keep : (Q : Option Body → Type 0) (y : Path) → ((o : Option Body) → Q o → Q (option_map (edited (End ENDED [])) o)) → (ends : List Path) (v : World) → Q (v.body y) → Q ((apply_all (end_all ends) v).body y)
+  ends_keep : (Q : Option Body → Type 0) (y : Path) → ((o : Option Body) → Q o → Q (option_map (edited (End ENDED [])) o)) → (ends : List Path) (v : World)
+      → Q (v.body y) → Q ((apply_all (end_all ends) v).body y)
   unfolding apply_all apply
   ends_keep Q y keep [] v h = h
   ends_keep Q y keep (x ∷ ends) v h = ends_keep Q y keep ends (apply (Alter x (End ENDED [])) v) (at (same_path y x) refl)
@@ -123,7 +127,8 @@ module _ (w : World) (gone : Path) where
       at true e = rw e (keep (v.body y) h)
       at false e = rw e h
 
-  keeps : (Q : Option Body → Type 0) (y : Path) → same_path y gone ≡ false → ((o : Option Body) → Q o → Q (option_map (through (death_sweep gone) y) o)) → ((o : Option Body) → Q o → Q (option_map (edited (End ENDED [])) o)) →
+  keeps : (Q : Option Body → Type 0) (y : Path) → same_path y gone ≡ false → ((o : Option Body) → Q o → Q (option_map (through (death_sweep gone) y) o))
+      → ((o : Option Body) → Q o → Q (option_map (edited (End ENDED [])) o)) →
       Q (w.body y) → Q (after_kill.body y)
   unfolding apply_all apply
   keeps Q y apart sweep keep h = ends_keep Q y keep (ends_with w gone (w.body gone)) (apply (Kill gone) w) (rw apart (sweep (w.body y) h))
@@ -136,11 +141,13 @@ module _ (w : World) (gone : Path) where
   mapped f t (Some b) h = h
 
   pub still_there : (y : Path) → same_path y gone ≡ false → is_some (after_kill.body y) ≡ is_some (w.body y)
-  still_there y apart = keeps (IsThere (is_some (w.body y))) y apart (mapped (through (death_sweep gone) y) (is_some (w.body y))) (mapped (edited (End ENDED [])) (is_some (w.body y))) refl
+  still_there y apart = keeps (IsThere (is_some (w.body y))) y apart (mapped (through (death_sweep gone) y) (is_some (w.body y)))
+      (mapped (edited (End ENDED [])) (is_some (w.body y))) refl
 
   pub is_gone : is_some (after_kill.body gone) ≡ false
   unfolding apply_all apply
-  is_gone = ends_keep (IsThere false) gone (mapped (edited (End ENDED [])) false) (ends_with w gone (w.body gone)) (apply (Kill gone) w) (rw (same_path_refl gone) refl)
+  is_gone = ends_keep (IsThere false) gone (mapped (edited (End ENDED [])) false) (ends_with w gone (w.body gone)) (apply (Kill gone) w)
+      (rw (same_path_refl gone) refl)
 
   pub native_stays : (y : Path) → same_path y gone ≡ false → holds is_native (w.body y) ≡ true → holds is_native (after_kill.body y) ≡ true
   unfolding edited
@@ -233,7 +240,8 @@ module _ (w : World) (gone : Path) where
       end (Some (Reference to)) h = refl
       end None h = refl
 
-  pub holder_stays : (y holder : Path) → same_path y gone ≡ false → same_path holder gone ≡ false → holder_of (w.body y) ≡ Some (At holder) → holder_of (after_kill.body y) ≡ Some (At holder)
+  pub holder_stays : (y holder : Path) → same_path y gone ≡ false → same_path holder gone ≡ false → holder_of (w.body y) ≡ Some (At holder)
+      → holder_of (after_kill.body y) ≡ Some (At holder)
   unfolding edited
   holder_stays y holder apart off h = keeps (λ o. holder_of o ≡ Some (At holder)) y apart sweep end h
     where
@@ -265,7 +273,8 @@ module _ (w : World) (gone : Path) where
 -- ---- the first leaf lies within, and is there
 
 resident_there : (w : World) (x : Path) (k : ℕ) → first_resident w x ≡ Some k → is_some (w.body (k ∷ x)) ≡ true
-resident_there w x k e = let found = lowest-found SLOTS (λ k. option_map (λ (b : Body). k) (w.body (k ∷ x))) k e in by found.0 (w.body (found.0 ∷ x)) refl found.1
+resident_there w x k e = let found = lowest-found SLOTS (λ k. option_map (λ (b : Body). k) (w.body (k ∷ x))) k e in
+    by found.0 (w.body (found.0 ∷ x)) refl found.1
   where
     by : (j : ℕ) (o : Option Body) → w.body (j ∷ x) ≡ o → option_map (λ (b : Body). j) o ≡ Some k → is_some (w.body (k ∷ x)) ≡ true
     by j None at h = cc
@@ -285,7 +294,8 @@ leaf_inside (suc n) w x there = by (first_resident w x) refl (λ k. leaf_inside 
     over [] k = refl
     over (j ∷ q) k = ap (λ (z : Path). j ∷ z) (over q k)
 
-    by : (o : Option ℕ) → first_resident w x ≡ o → ((k : ℕ) → is_some (w.body (k ∷ x)) ≡ true → IsInside w (k ∷ x) (leaf_by n w (k ∷ x))) → IsInside w x (leaf_from (λ k. leaf_by n w (k ∷ x)) x o)
+    by : (o : Option ℕ) → first_resident w x ≡ o → ((k : ℕ) → is_some (w.body (k ∷ x)) ≡ true → IsInside w (k ∷ x) (leaf_by n w (k ∷ x)))
+        → IsInside w x (leaf_from (λ k. leaf_by n w (k ∷ x)) x o)
     by None e deeper = record { way = []; is = refl; there = there }
     by (Some k) e deeper =
         let rest = deeper k (resident_there w x k e) in
@@ -365,7 +375,9 @@ module _ (nester : Path) (slot : ℕ) where
     unfolding call_row destroy
     row = by (v.body root) refl root_there
       where
-        ends : (t : Bool) → closed (porter nester no_words) (with_pick false None (telling (told_with v gone (v.body gone)) (cond t (done (porter nester no_words) (kills v gone) []) (stays (porter nester no_words) (kills v gone))))) ≡
+        ends : (t : Bool) → closed (porter nester no_words)
+            (with_pick false None (telling (told_with v gone (v.body gone))
+            (cond t (done (porter nester no_words) (kills v gone) []) (stays (porter nester no_words) (kills v gone))))) ≡
             Goes (kills v gone) (Answered OK [])
         ends true = refl
         ends false = refl
@@ -373,12 +385,20 @@ module _ (nester : Path) (slot : ℕ) where
         named : slot ≤ LAST_PORTER_SLOT
         named = let low = its.holding.low in omega (arith, low)
 
-        by : (o : Option Body) → v.body root ≡ o → is_some o ≡ true → call_row v (porter nester no_words) None (Destroy OWN_SPACE slot) ≡ Goes (kills v gone) (Answered OK [])
+        by : (o : Option Body) → v.body root ≡ o → is_some o ≡ true
+            → call_row v (porter nester no_words) None (Destroy OWN_SPACE slot) ≡ Goes (kills v gone) (Answered OK [])
         by None e h = cc
         by (Some b) e h =
-            rw (own-place nester no_words v, object-there nester no_words v anything nester slot b b (le-leb slot LAST_PORTER_SLOT named) e refl, unfrozen [], not_above, gone_unfrozen) (ends (same_path gone root))
+            rw (
+              own-place nester no_words v,
+              object-there nester no_words v anything nester slot b b (le-leb slot LAST_PORTER_SLOT named) e refl,
+              unfrozen [],
+              not_above,
+              gone_unfrozen,
+            ) (ends (same_path gone root))
 
-    pub world : IsReadyAt v (call_of nester (Destroy OWN_SPACE slot) no_words) → after v (call_of nester (Destroy OWN_SPACE slot) no_words) ≡ apply_all (kills v gone) v
+    pub world : IsReadyAt v (call_of nester (Destroy OWN_SPACE slot) no_words)
+        → after v (call_of nester (Destroy OWN_SPACE slot) no_words) ≡ apply_all (kills v gone) v
     world ready = (call_is_its_row nester v (Destroy OWN_SPACE slot) no_words (kills v gone) (Answered OK []) row ready).0
 
     pub calm_ready : IsCalm root v → IsReadyAt v (call_of nester (Destroy OWN_SPACE slot) no_words)
@@ -424,7 +444,8 @@ module _ (nester : Path) (slot : ℕ) where
     fewer = without_length found.way xs its.apart (sym (its.listed found.way) ∙ subst (λ (z : Path). is_some (v.body z) ≡ true) found.is found.there)
 
     pub no_scratch : (k : ℕ) → is_scratch nester (k ∷ nester) ≡ true → left_world.body (k ∷ nester) ≡ None
-    no_scratch k is = by (left_world.body (k ∷ nester)) refl (still_there v gone (k ∷ nester) (apart_outside (k ∷ nester) (λ q. beside q k (apart_slot k is))) ∙ ap is_some (its.scratch k is))
+    no_scratch k is = by (left_world.body (k ∷ nester)) refl (still_there v gone (k ∷ nester) (apart_outside (k ∷ nester) (λ q. beside q k (apart_slot k is)))
+        ∙ ap is_some (its.scratch k is))
       where
         by : (o : Option Body) → left_world.body (k ∷ nester) ≡ o → is_some o ≡ false → o ≡ None
         by None e h = refl
@@ -469,7 +490,8 @@ module _ (nester : Path) (slot : ℕ) where
                 (holder_none v a (none_above v p a (subst (λ (y : Path). decider v y ≡ None) e its.holding.above))));
             porter = porter_stays;
             scratch = λ k is. rw (no_scratch k is) refl;
-            near = λ k x is led. let none = no_scratch k is in let off : list_any (leads_to x) (body_pointers (left_world.body (k ∷ nester))) ≡ false = rw none refl in let both = sym led ∙ off in cc;
+            near = λ k x is led. let none = no_scratch k is in
+                let off : list_any (leads_to x) (body_pointers (left_world.body (k ∷ nester))) ≡ false = rw none refl in let both = sym led ∙ off in cc;
           };
           apart = without_apart found.way xs its.apart;
           listed = there_now;
@@ -481,14 +503,16 @@ module _ (nester : Path) (slot : ℕ) where
               where
                 by : (t : Bool) → same_path root gone ≡ t → t ≡ false
                 by false e = refl
-                by true e = let here = same_path_eq root gone e in let both = sym live ∙ ap (λ (z : Path). is_some (left_world.body z)) here ∙ is_gone v gone in cc
+                by true e = let here = same_path_eq root gone e in
+                    let both = sym live ∙ ap (λ (z : Path). is_some (left_world.body z)) here ∙ is_gone v gone in cc
 
         by : (ys : List Path) → without found.way xs ≡ ys → (ys ≡ [] → ⊥) → IsEmptied left_world (without found.way xs)
         by [] e some = absurd (some refl)
         by (y ∷ ys) e some = emptied (below y (there_now y ∙ ap (is_among y) e ∙ rw (same_path_refl y) refl))
 
     pub all_gone : length xs ≡ 1 → (q : Path) → left_world.body (q ++ root) ≡ None
-    all_gone last q = by (left_world.body (q ++ root)) refl (there_now q ∙ ap (is_among q) (none (without found.way xs) (let few = fewer in omega (arith, few, last))))
+    all_gone last q = by (left_world.body (q ++ root)) refl (there_now q
+        ∙ ap (is_among q) (none (without found.way xs) (let few = fewer in omega (arith, few, last))))
       where
         none : (ys : List Path) → length ys ≡ 0 → ys ≡ []
         none [] h = refl

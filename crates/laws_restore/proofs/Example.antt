@@ -20,7 +20,16 @@ port_able = record { there = refl; low = omega arith; no_space = refl; takes = r
 
 region_able : IsAble small_bind small [] 2 small_region
 unfolding same_path record_of set takes_state edited
-region_able = record { there = refl; low = omega arith; no_space = refl; takes = refl; says = refl; aims = (omega arith, omega arith, refl); given = refl; told = tt }
+region_able = record {
+  there = refl;
+  low = omega arith;
+  no_space = refl;
+  takes = refl;
+  says = refl;
+  aims = (omega arith, omega arith, refl);
+  given = refl;
+  told = tt;
+}
 
 client_able : IsAble small_bind small [] 3 small_client
 unfolding same_path record_of set takes_state edited
@@ -37,14 +46,25 @@ client_able = record {
 
 server_able : IsAble small_bind small [] 4 small_server
 unfolding same_path record_of set takes_state edited
-server_able = record { there = refl; low = omega arith; no_space = refl; takes = refl; says = refl; aims = (tt, (omega arith, omega arith)); given = refl; told = (tt, (refl, refl)) }
+server_able = record {
+  there = refl;
+  low = omega arith;
+  no_space = refl;
+  takes = refl;
+  says = refl;
+  aims = (tt, (omega arith, omega arith));
+  given = refl;
+  told = (tt, (refl, refl));
+}
 
 dead_able : IsAble small_bind small (5 ∷ []) 0 (Reference Dead)
 unfolding same_path record_of set takes_state edited
 dead_able = record { there = refl; low = omega arith; no_space = refl; takes = refl; says = refl; aims = tt; given = refl; told = tt }
 
 abbrev chain : Bool → Bool → Bool → Bool → Bool → Bool → Option Body
-chain f e d c b a = cond f (Some (Reference Dead)) (cond e (Some small_server) (cond d (Some small_client) (cond c (Some small_region) (cond b (Some (Port None false)) (cond a (Some (Space 0 (Some (At (3 ∷ []))))) None)))))
+chain f e d c b a = cond f (Some (Reference Dead))
+    (cond e (Some small_server) (cond d (Some small_client)
+    (cond c (Some small_region) (cond b (Some (Port None false)) (cond a (Some (Space 0 (Some (At (3 ∷ []))))) None)))))
 
 none_of : (f e d c b a : Bool) → (f || (e || (d || (c || (b || (a || false)))))) ≡ false → chain f e d c b a ≡ None
 none_of true e d c b a h = cc
@@ -57,7 +77,8 @@ none_of false false false false false false h = refl
 
 nothing_else : (k : ℕ) (q : Path) → is_among (k ∷ q) (all_made small_rooms (with_spaces small_rooms [])) ≡ false → small_at (k ∷ q) ≡ None
 unfolding same_path
-nothing_else k q h = none_of (same_path (k ∷ q) (0 ∷ 5 ∷ [])) (same_path (k ∷ q) (4 ∷ [])) (same_path (k ∷ q) (3 ∷ [])) (same_path (k ∷ q) (2 ∷ [])) (same_path (k ∷ q) (1 ∷ [])) (same_path (k ∷ q) (5 ∷ [])) h
+nothing_else k q h = none_of (same_path (k ∷ q) (0 ∷ 5 ∷ [])) (same_path (k ∷ q) (4 ∷ [])) (same_path (k ∷ q) (3 ∷ [])) (same_path (k ∷ q) (2 ∷ []))
+    (same_path (k ∷ q) (1 ∷ [])) (same_path (k ∷ q) (5 ∷ [])) h
 
 -- nothing of the inner space stands in the outer one
 not_deeper : (k : ℕ) → same_path (k ∷ []) (0 ∷ 5 ∷ []) ≡ false
@@ -70,7 +91,8 @@ not_deeper k = by (eqb k 0)
 
 outer_whole : (k : ℕ) → is_among (k ∷ []) ((4 ∷ []) ∷ (3 ∷ []) ∷ (2 ∷ []) ∷ (1 ∷ []) ∷ (5 ∷ []) ∷ []) ≡ false → small_at (k ∷ []) ≡ None
 unfolding same_path
-outer_whole k h = rw (not_deeper k) (none_of false (same_path (k ∷ []) (4 ∷ [])) (same_path (k ∷ []) (3 ∷ [])) (same_path (k ∷ []) (2 ∷ [])) (same_path (k ∷ []) (1 ∷ [])) (same_path (k ∷ []) (5 ∷ [])) h)
+outer_whole k h = rw (not_deeper k) (none_of false (same_path (k ∷ []) (4 ∷ [])) (same_path (k ∷ []) (3 ∷ [])) (same_path (k ∷ []) (2 ∷ []))
+    (same_path (k ∷ []) (1 ∷ [])) (same_path (k ∷ []) (5 ∷ [])) h)
 
 outer_is_room : IsRoom small_bind small outer_room ((5 ∷ []) ∷ []) []
 unfolding same_path
@@ -105,7 +127,8 @@ client_serves z x false false false false false false false is h = absurd (omega
 
 the_client : (z x : Path) → 0 < services small z x → x ≡ 3 ∷ []
 the_client z x h =
-    client_serves z x (same_path x []) (same_path x (0 ∷ 5 ∷ [])) (same_path x (4 ∷ [])) (same_path x (3 ∷ [])) (same_path x (2 ∷ [])) (same_path x (1 ∷ [])) (same_path x (5 ∷ [])) refl h
+    client_serves z x (same_path x []) (same_path x (0 ∷ 5 ∷ [])) (same_path x (4 ∷ [])) (same_path x (3 ∷ [])) (same_path x (2 ∷ [])) (same_path x (1 ∷ []))
+    (same_path x (5 ∷ [])) refl h
 
 at_most : (t : Bool) → flag_of t + 0 ≤ 1
 at_most true = omega arith
@@ -158,7 +181,8 @@ small_is_roomed = record {
   );
   whole = nothing_else;
   one_service = λ z x y h e. the_client z x h ∙ sym (the_client z y e);
-  one_each = λ z x. once z x (same_path x []) (same_path x (0 ∷ 5 ∷ [])) (same_path x (4 ∷ [])) (same_path x (3 ∷ [])) (same_path x (2 ∷ [])) (same_path x (1 ∷ [])) (same_path x (5 ∷ []));
+  one_each = λ z x. once z x (same_path x []) (same_path x (0 ∷ 5 ∷ [])) (same_path x (4 ∷ [])) (same_path x (3 ∷ [])) (same_path x (2 ∷ []))
+      (same_path x (1 ∷ [])) (same_path x (5 ∷ []));
   pages = no_page;
 }
 

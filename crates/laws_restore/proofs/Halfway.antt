@@ -65,6 +65,7 @@ module _ (bind : ℕ → ℕ) (c : World) (new mid old : Mask) (done : List Path
       once : at_path y (option_map (edited e)) halfway ≡ at_path y (λ o. Some (edited e (bound bind mid y b))) before
       once = λ i. record { body = λ z. by z (same_path z y) i; page = c.page; next = 0 }
         where
-          by : (z : Path) (t : Bool) → cond t (option_map (edited e) (cond t (Some (bound bind mid y b)) (before.body z))) (cond t (Some (bound bind mid y b)) (before.body z)) ≡ cond t (Some (edited e (bound bind mid y b))) (before.body z)
+          by : (z : Path) (t : Bool) → cond t (option_map (edited e) (cond t (Some (bound bind mid y b)) (before.body z)))
+              (cond t (Some (bound bind mid y b)) (before.body z)) ≡ cond t (Some (edited e (bound bind mid y b))) (before.body z)
           by z true = refl
           by z false = refl

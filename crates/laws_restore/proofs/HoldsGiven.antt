@@ -65,9 +65,11 @@ module _ (bind : ℕ → ℕ) (c : World) (root : c.body [] ≡ Some (Space 0 No
       record { site = next.site; runs = on slot Safe g site next.site _ _ led.runs next.runs; good = next.good })
 
   -- one that nobody holds
-  unheld : (path : Path) (made : List Path) (p : Path) → IsNewSpace c path None made → Leaves slot Safe (world made) p None (world (with_space path made)) p None []
+  unheld : (path : Path) (made : List Path) (p : Path) → IsNewSpace c path None made
+      → Leaves slot Safe (world made) p None (world (with_space path made)) p None []
   unheld [] made p its = leaves_none slot Safe (world made) (world made) p None refl
-  unheld (k ∷ q) made p its = leaves_none slot Safe (world made) (world ((k ∷ q) ∷ made)) p None (led_alike bind c new old made (k ∷ q) (Space 0 None) its.0 refl)
+  unheld (k ∷ q) made p its = leaves_none slot Safe (world made) (world ((k ∷ q) ∷ made)) p None
+      (led_alike bind c new old made (k ∷ q) (Space 0 None) its.0 refl)
 
   one_space : (path : Path) (holder : Option Ptr) (p : Path) (made : List Path) → IsNewSpace c path holder made →
       Leaves slot Safe (world made) p None (world (with_space path made)) (stands_held p path holder) None (holds_space slot p path holder)
@@ -86,5 +88,7 @@ module _ (bind : ℕ → ℕ) (c : World) (root : c.body [] ≡ Some (Space 0 No
   unfolding holds_spaces
   spaces_held [] p made its = leaves_none slot Safe (world made) (world made) p None refl
   spaces_held (r ∷ rs) p made its =
-      leaves_on slot Safe (world made) p None (world (with_space r.path made)) (stands_held p r.path r.holder) None (world (with_spaces rs (with_space r.path made))) (after_holds (stands_held p r.path r.holder) rs) None
-      (holds_space slot p r.path r.holder) (holds_spaces slot (stands_held p r.path r.holder) rs) (one_space r.path r.holder p made its.0) (spaces_held rs (stands_held p r.path r.holder) (with_space r.path made) its.1)
+      leaves_on slot Safe (world made) p None (world (with_space r.path made)) (stands_held p r.path r.holder) None
+      (world (with_spaces rs (with_space r.path made))) (after_holds (stands_held p r.path r.holder) rs) None
+      (holds_space slot p r.path r.holder) (holds_spaces slot (stands_held p r.path r.holder) rs) (one_space r.path r.holder p made its.0)
+      (spaces_held rs (stands_held p r.path r.holder) (with_space r.path made) its.1)

@@ -37,20 +37,24 @@ module _ (bind : ℕ → ℕ) (c : World) (z : Path) where
   taker_same None = refl
   taker_same (Some taker) = same_serves taker
 
-  talk_less : (m : Ptr → Bool) (o : Option Talk) → holds (λ (talk : Talk). serves z talk.peer) (and_then (rebinding bind).talk (shown_talk m o)) ≡ true → holds (λ (talk : Talk). serves z talk.peer) o ≡ true
+  talk_less : (m : Ptr → Bool) (o : Option Talk) → holds (λ (talk : Talk). serves z talk.peer) (and_then (rebinding bind).talk (shown_talk m o)) ≡ true
+      → holds (λ (talk : Talk). serves z talk.peer) o ≡ true
   talk_less m None h = h
   talk_less m (Some talk) h = by (m talk.port) h
     where
-      by : (t : Bool) → holds (λ (talk : Talk). serves z talk.peer) (and_then (rebinding bind).talk (cond t (Some talk) None)) ≡ true → serves z talk.peer ≡ true
+      by : (t : Bool) → holds (λ (talk : Talk). serves z talk.peer) (and_then (rebinding bind).talk (cond t (Some talk) None)) ≡ true
+          → serves z talk.peer ≡ true
       by true h = sym (same_serves talk.peer) ∙ h
       by false h = cc
 
-  fault_less : (m : Ptr → Bool) (o : Option Fault) → holds (λ (fault : Fault). holds (serves z) fault.taker) (and_then (rebinding bind).fault (shown_fault m o)) ≡ true →
+  fault_less : (m : Ptr → Bool) (o : Option Fault)
+      → holds (λ (fault : Fault). holds (serves z) fault.taker) (and_then (rebinding bind).fault (shown_fault m o)) ≡ true →
       holds (λ (fault : Fault). holds (serves z) fault.taker) o ≡ true
   fault_less m None h = h
   fault_less m (Some fault) h = by (m fault.port) h
     where
-      by : (t : Bool) → holds (λ (fault : Fault). holds (serves z) fault.taker) (and_then (rebinding bind).fault (cond t (Some fault) None)) ≡ true → holds (serves z) fault.taker ≡ true
+      by : (t : Bool) → holds (λ (fault : Fault). holds (serves z) fault.taker) (and_then (rebinding bind).fault (cond t (Some fault) None)) ≡ true
+          → holds (serves z) fault.taker ≡ true
       by true h = sym (taker_same fault.taker) ∙ h
       by false h = cc
 
@@ -120,7 +124,8 @@ module _ (bind : ℕ → ℕ) (c : World) (z : Path) where
       by true e = let two = both y e h in absurd (omega (arith, two, few))
 
   -- in a world that shows no more than c, whoever is to be served by z alone isn't yet
-  pub idle_by : (v : World) (x : Path) → ((a b : Path) → 0 < services c z a → 0 < services c z b → a ≡ b) → 0 < services c z x → ((y : Path) → talks (v.body y) ≡ true → talks (c.body y) ≡ true) →
+  pub idle_by : (v : World) (x : Path) → ((a b : Path) → 0 < services c z a → 0 < services c z b → a ≡ b) → 0 < services c z x
+      → ((y : Path) → talks (v.body y) ≡ true → talks (c.body y) ≡ true) →
       ((y : Path) → faults (v.body y) ≡ true → faults (c.body y) ≡ true) → talks (v.body x) ≡ false → faults (v.body x) ≡ false → IsIdleIn v z
   idle_by v x one here less_talks less_faults no_talk no_fault y = (talk (talks (v.body y)) refl, fault (faults (v.body y)) refl)
     where

@@ -23,19 +23,22 @@ module _ (slot : ℕ) (bind : ℕ → ℕ) (rooms : List Room) where
   turned os None end e = cc
   turned os (Some j) end e = cc
 
-  last : (s : State) (stage : Stage) (words : List ℕ) (status : ℕ) (told : List ℕ) (end : End) → head slot s ≡ Asks stage words → next slot bind rooms s status told ≡ Over end → IsLastCall slot end s stage
+  last : (s : State) (stage : Stage) (words : List ℕ) (status : ℕ) (told : List ℕ) (end : End) → head slot s ≡ Asks stage words
+      → next slot bind rooms s status told ≡ Over end → IsLastCall slot end s stage
   last Makes stage words status told end asks e = by (status == OK) e
     where
       by : (b : Bool) → cond b (Works (script slot bind rooms)) (Over Occupied) ≡ Over end → IsLastCall slot end Makes stage
       by true e = cc
       by false e = let is : Occupied ≡ end = cc in by_end Makes stage Occupied end is refl
-  last (Works []) stage words status told end asks e = let is : Done ≡ end = cc in let stages : SpaceRelease OWN_SPACE slot ≡ stage = cc in by_end (Works []) stage Done end is (sym stages)
+  last (Works []) stage words status told end asks e = let is : Done ≡ end = cc in
+      let stages : SpaceRelease OWN_SPACE slot ≡ stage = cc in by_end (Works []) stage Done end is (sym stages)
   last (Works (o ∷ os)) stage words status told end asks e = absurd (by (passes o status told) e)
     where
       by : (b : Bool) → cond b (Works os) (refused bind rooms os (looked_at o)) ≡ Over end → ⊥
       by true e = cc
       by false e = turned os (looked_at o) end e
-  last (Clears [] zero port) stage words status told end asks e = let is : NoPort port ≡ end = cc in let stages : Destroy OWN_SPACE slot ≡ stage = cc in by_end (Clears [] zero port) stage (NoPort port) end is (sym stages)
+  last (Clears [] zero port) stage words status told end asks e = let is : NoPort port ≡ end = cc in
+      let stages : Destroy OWN_SPACE slot ≡ stage = cc in by_end (Clears [] zero port) stage (NoPort port) end is (sym stages)
   last (Clears [] (suc more) port) stage words status told end asks e = cc
   last (Clears (o ∷ os) more port) stage words status told end asks e = cc
   last (Over other) stage words status told end asks e = cc

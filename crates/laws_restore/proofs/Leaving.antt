@@ -52,7 +52,8 @@ module _ (slot : ℕ) (Safe : ℕ → Site → Type 0) where
 
   -- ---- P goes on
 
-  goes_good : (c : World) (p q : Path) (aim : Option ℕ) (g : Site) (os : List Order) → Good c p aim g → (way : Walked slot Safe g P q os) → Good c q aim way.site
+  goes_good : (c : World) (p q : Path) (aim : Option ℕ) (g : Site) (os : List Order) → Good c p aim g → (way : Walked slot Safe g P q os)
+      → Good c q aim way.site
   goes_good c p q aim g os good way = record {
     built = way.built ∙ good.built;
     at = way.at;
@@ -126,7 +127,15 @@ module _ (slot : ℕ) (Safe : ℕ → Site → Type 0) where
   built_good c d p aim g built e good = record { built = e; at = good.at; aimed = good.aimed; u = good.u; dead = good.dead; none = good.none; pin = good.pin }
 
   pub place_of : (c : World) (q : Path) (aim : Option ℕ) (g : Site) → Good c q aim g → there c q ≡ Some kinds.Space → IsPlace g slot P q
-  place_of c q aim g good space = record { named = ByScratch P q refl good.at; space = space_kind (g.built.body q) (subst (λ (c : World). there c q ≡ Some kinds.Space) (sym good.built) space) }
+  place_of c q aim g good space = record {
+    named = ByScratch P q refl good.at;
+    space = space_kind (g.built.body q) (subst (λ (c : World). there c q ≡ Some kinds.Space) (sym good.built) space);
+  }
 
-  pub ordered : (c d : World) (q : Path) (aim : Option ℕ) (g : Site) (o : Order) (built : World) → Good c q aim g → is_look o ≡ false → does o g ≡ with_built built g → built ≡ d → May slot o g → Suits g o → Next d q aim g (o ∷ [])
-  ordered c d q aim g o built good off makes e may suits = record { site = does o g; runs = one slot Safe g o may suits off; good = rw makes (built_good c d q aim g built e good) }
+  pub ordered : (c d : World) (q : Path) (aim : Option ℕ) (g : Site) (o : Order) (built : World) → Good c q aim g → is_look o ≡ false
+      → does o g ≡ with_built built g → built ≡ d → May slot o g → Suits g o → Next d q aim g (o ∷ [])
+  ordered c d q aim g o built good off makes e may suits = record {
+    site = does o g;
+    runs = one slot Safe g o may suits off;
+    good = rw makes (built_good c d q aim g built e good);
+  }

@@ -34,7 +34,8 @@ module _ (bind : ℕ → ℕ) (c : World) where
   either_kind new old false y b = kind_bound bind old y b
 
   pub led_kinds : (new old : Mask) (done : List Path) (y : Path) → there (leading bind c new old done) y ≡ there c y
-  led_kinds new old done y = under (λ b. cond (is_among y done) (bound bind new y b) (bound bind old y b)) (λ b. either_kind new old (is_among y done) y b) (c.body y)
+  led_kinds new old done y = under (λ b. cond (is_among y done) (bound bind new y b) (bound bind old y b)) (λ b. either_kind new old (is_among y done) y b)
+      (c.body y)
 
   pub led_way : (new old : Mask) (done : List Path) (z : Path) → IsWay (there c) z → IsWay (there (leading bind c new old done)) z
   led_way new old done z way = way_same (there (leading bind c new old done)) (there c) z (led_kinds new old done) way
@@ -61,55 +62,72 @@ module _ (bind : ℕ → ℕ) (c : World) where
         either true = refl
         either false = same
 
-        by : (z : Path) (t : Bool) → same_path z y ≡ t → (leading bind c new old done).body z ≡ option_map (λ b. cond (t || is_among z done) (bound bind new z b) (bound bind old z b)) (c.body z)
+        by : (z : Path) (t : Bool) → same_path z y ≡ t
+            → (leading bind c new old done).body z ≡ option_map (λ b. cond (t || is_among z done) (bound bind new z b) (bound bind old z b)) (c.body z)
         by z true e = let here = same_path_eq z y e in rw (here, is) (ap Some (either (is_among y done)))
         by z false e = refl
 
 -- ---- a pass over rooms
 
-module _ (bind : ℕ → ℕ) (c : World) (slot : ℕ) (Safe : ℕ → Site → Type 0) (aim : Option ℕ) (new old : Mask) (test : Body → Bool) (orders : Path → ℕ → Body → List Order)
+module _ (bind : ℕ → ℕ) (c : World) (slot : ℕ) (Safe : ℕ → Site → Type 0) (aim : Option ℕ) (new old : Mask) (test : Body → Bool) (orders : Path → ℕ → Body
+    → List Order)
     -- an object of a room that is visited is done by its orders
-    (item : (q : Path) (x : ℕ) (b : Body) (done : List Path) → there c q ≡ Some kinds.Space → IsWay (there c) q → IsAble bind c q x b → is_among (x ∷ q) done ≡ false →
+    (item : (q : Path) (x : ℕ) (b : Body) (done : List Path) → there c q ≡ Some kinds.Space → IsWay (there c) q → IsAble bind c q x b
+    → is_among (x ∷ q) done ≡ false →
     Leaves slot Safe (leading bind c new old done) q aim (leading bind c new old ((x ∷ q) ∷ done)) q aim (orders q x b))
     -- and those of other rooms need none
     (idle : (q : Path) (x : ℕ) (b : Body) → IsAble bind c q x b → test b ≡ false → bound bind old (x ∷ q) b ≡ bound bind new (x ∷ q) b) where
-  items_led : (q : Path) (is : List Item) (made done : List Path) → there c q ≡ Some kinds.Space → IsWay (there c) q → IsSub done made → AreItems bind c q is made →
-      Leaves slot Safe (leading bind c new old done) q aim (leading bind c new old (with_items q is done)) q aim (flat_map (λ (i : Item). orders q i.slot i.body) is)
+  items_led : (q : Path) (is : List Item) (made done : List Path) → there c q ≡ Some kinds.Space → IsWay (there c) q → IsSub done made
+      → AreItems bind c q is made →
+      Leaves slot Safe (leading bind c new old done) q aim (leading bind c new old (with_items q is done)) q aim
+      (flat_map (λ (i : Item). orders q i.slot i.body) is)
   items_led q [] made done space way sub its = leaves_none slot Safe _ _ q aim refl
   items_led q (i ∷ is) made done space way sub its =
       let y = i.slot ∷ q in
-      leaves_on slot Safe (leading bind c new old done) q aim (leading bind c new old (y ∷ done)) q aim (leading bind c new old (with_items q is (y ∷ done))) q aim (orders q i.slot i.body) _
+      leaves_on slot Safe (leading bind c new old done) q aim (leading bind c new old (y ∷ done)) q aim
+      (leading bind c new old (with_items q is (y ∷ done))) q aim (orders q i.slot i.body) _
       (item q i.slot i.body done space way its.0 (sub_out y done made sub its.1))
       (items_led q is (y ∷ made) (y ∷ done) space way (sub_both y done made sub) its.2)
 
-  pub items_idle : (q : Path) (is : List Item) (made done : List Path) → AreItems bind c q is made → list_any (λ (i : Item). test i.body) is ≡ false → leading bind c new old done ≡ leading bind c new old (with_items q is done)
+  pub items_idle : (q : Path) (is : List Item) (made done : List Path) → AreItems bind c q is made → list_any (λ (i : Item). test i.body) is ≡ false
+      → leading bind c new old done ≡ leading bind c new old (with_items q is done)
   items_idle q [] made done its off = refl
   items_idle q (i ∷ is) made done its off =
       let both = split (test i.body) (list_any (λ (i : Item). test i.body) is) off in
-      led_alike bind c new old done (i.slot ∷ q) i.body its.0.there (idle q i.slot i.body its.0 both.0) ∙ items_idle q is ((i.slot ∷ q) ∷ made) ((i.slot ∷ q) ∷ done) its.2 both.1
+      led_alike bind c new old done (i.slot ∷ q) i.body its.0.there (idle q i.slot i.body its.0 both.0)
+      ∙ items_idle q is ((i.slot ∷ q) ∷ made) ((i.slot ∷ q) ∷ done) its.2 both.1
     where
       split : (a b : Bool) → (a || b) ≡ false → (a ≡ false) × (b ≡ false)
       split true b h = cc
       split false b h = (refl, h)
 
   pub rooms_led : (rooms : List Room) (p : Path) (made done : List Path) (given : List (Path × ℕ)) → IsSub done made → AreRooms bind c rooms made given →
-      Leaves slot Safe (leading bind c new old done) p aim (leading bind c new old (all_made rooms done)) (after_rooms (has test) p rooms) aim (through_rooms slot (has test) (each orders) p rooms)
+      Leaves slot Safe (leading bind c new old done) p aim (leading bind c new old (all_made rooms done)) (after_rooms (has test) p rooms) aim
+      (through_rooms slot (has test) (each orders) p rooms)
   unfolding through_rooms
   rooms_led [] p made done given sub its = leaves_none slot Safe _ _ p aim refl
   rooms_led (r ∷ rs) p made done given sub its =
-      by (has test r) refl (λ from. rooms_led rs from (with_items r.path r.items made) (with_items r.path r.items done) _ (sub_with r.path r.items done made sub) its.1)
+      by (has test r) refl (λ from. rooms_led rs from (with_items r.path r.items made) (with_items r.path r.items done) _
+      (sub_with r.path r.items done made sub) its.1)
     where
-      by : (t : Bool) → has test r ≡ t → ((from : Path) → Leaves slot Safe (leading bind c new old (with_items r.path r.items done)) from aim (leading bind c new old (all_made rs (with_items r.path r.items done))) (after_rooms (has test) from rs) aim (through_rooms slot (has test) (each orders) from rs)) →
-          Leaves slot Safe (leading bind c new old done) p aim (leading bind c new old (all_made rs (with_items r.path r.items done))) (cond t (after_rooms (has test) r.path rs) (after_rooms (has test) p rs)) aim
-          (cond t (goes_to slot p r.path ++ (each orders r ++ through_rooms slot (has test) (each orders) r.path rs)) (through_rooms slot (has test) (each orders) p rs))
+      by : (t : Bool) → has test r ≡ t → ((from : Path)
+          → Leaves slot Safe (leading bind c new old (with_items r.path r.items done)) from aim
+          (leading bind c new old (all_made rs (with_items r.path r.items done))) (after_rooms (has test) from rs) aim
+          (through_rooms slot (has test) (each orders) from rs)) →
+          Leaves slot Safe (leading bind c new old done) p aim (leading bind c new old (all_made rs (with_items r.path r.items done)))
+          (cond t (after_rooms (has test) r.path rs) (after_rooms (has test) p rs)) aim
+          (cond t (goes_to slot p r.path ++ (each orders r ++ through_rooms slot (has test) (each orders) r.path rs))
+          (through_rooms slot (has test) (each orders) p rs))
       by true e later =
           let q = r.path in
           let next = with_items q r.items done in
           let end = leading bind c new old (all_made rs next) in
           let rest = through_rooms slot (has test) (each orders) q rs in
-          leaves_on slot Safe (leading bind c new old done) p aim (leading bind c new old done) q aim end (after_rooms (has test) q rs) aim (goes_to slot p q) (each orders r ++ rest)
+          leaves_on slot Safe (leading bind c new old done) p aim (leading bind c new old done) q aim end (after_rooms (has test) q rs) aim (goes_to slot p q)
+          (each orders r ++ rest)
           (leaves_goes slot Safe (leading bind c new old done) p q aim (led_way bind c new old done q its.0.way))
-          (leaves_on slot Safe (leading bind c new old done) q aim (leading bind c new old next) q aim end (after_rooms (has test) q rs) aim (each orders r) rest
+          (leaves_on slot Safe (leading bind c new old done) q aim (leading bind c new old next) q aim end (after_rooms (has test) q rs) aim
+          (each orders r) rest
           (items_led q r.items made done its.0.space its.0.way sub its.0.items)
           (later q))
       by false e later =
@@ -121,7 +139,8 @@ module _ (bind : ℕ → ℕ) (c : World) (slot : ℕ) (Safe : ℕ → Site → 
           (later p)
 
   -- where no room is visited nothing has to be done
-  pub rooms_idle : (rooms : List Room) (made done : List Path) (given : List (Path × ℕ)) → AreRooms bind c rooms made given → list_any (has test) rooms ≡ false →
+  pub rooms_idle : (rooms : List Room) (made done : List Path) (given : List (Path × ℕ)) → AreRooms bind c rooms made given
+      → list_any (has test) rooms ≡ false →
       leading bind c new old done ≡ leading bind c new old (all_made rooms done)
   rooms_idle [] made done given its off = refl
   rooms_idle (r ∷ rs) made done given its off =
@@ -136,6 +155,7 @@ pub after_none : (visits : Room → Bool) (p : Path) (rooms : List Room) → lis
 after_none visits p [] off = refl
 after_none visits p (r ∷ rs) off = by (visits r) (list_any visits rs) refl refl off (after_none visits p rs)
   where
-    by : (a b : Bool) → visits r ≡ a → list_any visits rs ≡ b → (a || b) ≡ false → (list_any visits rs ≡ false → after_rooms visits p rs ≡ p) → cond a (after_rooms visits r.path rs) (after_rooms visits p rs) ≡ p
+    by : (a b : Bool) → visits r ≡ a → list_any visits rs ≡ b → (a || b) ≡ false → (list_any visits rs ≡ false → after_rooms visits p rs ≡ p)
+        → cond a (after_rooms visits r.path rs) (after_rooms visits p rs) ≡ p
     by true b e f h later = cc
     by false b e f h later = later (f ∙ h)

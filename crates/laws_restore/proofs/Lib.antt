@@ -13,6 +13,8 @@ pub mod Idle
 pub mod Tying
 pub mod HoldsGiven
 pub mod Whole
+pub mod Used
+pub mod Earlier
 pub mod Scripted
 pub mod Emptying
 pub mod Listed

@@ -37,7 +37,8 @@ items_length q (i ∷ is) done = let rest = items_length q is ((i.slot ∷ q) �
 
 made_length : (rooms : List Room) (done : List Path) → length (all_made rooms done) ≡ items_in rooms + length done
 made_length [] done = omega arith
-made_length (r ∷ rs) done = let rest = made_length rs (with_items r.path r.items done) in let here = items_length r.path r.items done in omega (arith, rest, here)
+made_length (r ∷ rs) done = let rest = made_length rs (with_items r.path r.items done) in
+    let here = items_length r.path r.items done in omega (arith, rest, here)
 
 space_length : (q : Path) (made : List Path) → length (with_space q made) ≡ beneath q + length made
 space_length [] made = omega arith
@@ -77,7 +78,8 @@ module _ (bind : ℕ → ℕ) (c : World) where
   items_apart q [] done its apart = apart
   items_apart q (i ∷ is) done its apart = items_apart q is ((i.slot ∷ q) ∷ done) its.2 (its.1, apart)
 
-  rooms_apart : (rooms : List Room) (done : List Path) (given : List (Path × ℕ)) → AreRooms bind c rooms done given → AreApart done → AreApart (all_made rooms done)
+  rooms_apart : (rooms : List Room) (done : List Path) (given : List (Path × ℕ)) → AreRooms bind c rooms done given → AreApart done
+      → AreApart (all_made rooms done)
   rooms_apart [] done given its apart = apart
   rooms_apart (r ∷ rs) done given its apart = rooms_apart rs (with_items r.path r.items done) _ its.1 (items_apart r.path r.items done its.0.items apart)
 
@@ -124,11 +126,15 @@ module _ (bind : ℕ → ℕ) (c : World) where
     unfolding AreApart same_path
     standing_apart = (
       sym (made_there FIRST_SCRATCH_SLOT []) ∙ ap is_some (unscratched bind c rooms its 0 FIRST_SCRATCH_SLOT [] refl),
-      (no_root rooms (with_spaces rooms []) (no_root_spaces rooms [] refl), rooms_apart rooms (with_spaces rooms []) [] its.filled (spaces_apart rooms [] its.spaces tt)),
+      (
+        no_root rooms (with_spaces rooms []) (no_root_spaces rooms [] refl),
+        rooms_apart rooms (with_spaces rooms []) [] its.filled (spaces_apart rooms [] its.spaces tt),
+      ),
     )
 
     -- a site with all of that, a pin and no scratch else
-    pub emptied_from : (nester : Path) (slot : ℕ) (g : Site) (v : World) → Shows nester slot g v → ((y : Path) → there g.built y ≡ there c y) → (g.pin ≡ NoPin → ⊥) → ((k : ℕ) → g.spot k ≡ None) →
+    pub emptied_from : (nester : Path) (slot : ℕ) (g : Site) (v : World) → Shows nester slot g v → ((y : Path) → there g.built y ≡ there c y)
+        → (g.pin ≡ NoPin → ⊥) → ((k : ℕ) → g.spot k ≡ None) →
         IsEmptied nester slot v all_standing
     unfolding same_path
     emptied_from nester slot g v shows stands pin spots = record {
@@ -152,7 +158,8 @@ module _ (bind : ℕ → ℕ) (c : World) where
         mapped f a None e = rw e refl
         mapped f a (Some b) e = rw e refl
 
-        inner : (k : ℕ) (q : Path) (t : Bool) → same_path (k ∷ (q ++ slot ∷ nester)) (pin_of (slot ∷ nester)) ≡ t → same_path (k ∷ q) (FIRST_SCRATCH_SLOT ∷ []) ≡ t →
+        inner : (k : ℕ) (q : Path) (t : Bool) → same_path (k ∷ (q ++ slot ∷ nester)) (pin_of (slot ∷ nester)) ≡ t
+            → same_path (k ∷ q) (FIRST_SCRATCH_SLOT ∷ []) ≡ t →
             g.built.body (k ∷ q) ≡ option_map (λ b. unheld (k ∷ q) (seen_by (seeing (eye nester slot)) b)) (cond t None (v.body (k ∷ (q ++ slot ∷ nester)))) →
             is_some (v.body (k ∷ (q ++ slot ∷ nester))) ≡ (t || is_among (k ∷ q) made)
         inner k q true e f like =
@@ -169,7 +176,8 @@ module _ (bind : ℕ → ℕ) (c : World) where
             whether : same_path (k ∷ (q ++ slot ∷ nester)) (pin_of (slot ∷ nester)) ≡ same_path (k ∷ q) (FIRST_SCRATCH_SLOT ∷ [])
             whether = same_path_cancel (k ∷ q) (FIRST_SCRATCH_SLOT ∷ []) (slot ∷ nester)
 
-            both : (t : Bool) → same_path (k ∷ (q ++ slot ∷ nester)) (pin_of (slot ∷ nester)) ≡ t → is_some (v.body (k ∷ (q ++ slot ∷ nester))) ≡ is_among (k ∷ q) all_standing
+            both : (t : Bool) → same_path (k ∷ (q ++ slot ∷ nester)) (pin_of (slot ∷ nester)) ≡ t
+                → is_some (v.body (k ∷ (q ++ slot ∷ nester))) ≡ is_among (k ∷ q) all_standing
             both t e =
                 let f : same_path (k ∷ q) (FIRST_SCRATCH_SLOT ∷ []) ≡ t = sym whether ∙ e in
                 let like = shows.like.bodies (k ∷ q) in

@@ -54,14 +54,31 @@ module _ (slot : ℕ) (Safe : ℕ → Site → Type 0) (c : World) (p : Path) wh
     pub none : (k : ℕ) → eqb k P ≡ false → eqb k T ≡ false → eqb k U ≡ false → eqb k D ≡ false → g.spot k ≡ None
     pub pin : g.pin ≡ NoPin → ⊥
 
-  pub opens_slot : (j : ℕ) → j ≤ LAST_USER_SLOT → ((g : Site) → IsOpening g → Safe j g) → Leaves slot Safe c p None c p (Some j) (Pins j ∷ Takes T ∷ Checks T j ∷ [])
+  pub opens_slot : (j : ℕ) → j ≤ LAST_USER_SLOT → ((g : Site) → IsOpening g → Safe j g)
+      → Leaves slot Safe c p None c p (Some j) (Pins j ∷ Takes T ∷ Checks T j ∷ [])
   unfolding does_all
   opens_slot j low safe g good =
       let s2 : Site = does (Pins j) g in
       let s3 : Site = does (Takes T) s2 in
       let s4 : Site = does (Checks T j) s3 in
-      let first : IsOpening g = record { built = good.built; at = rw good.at refl; t = good.aimed.0; u = good.u.0; dead = rw good.dead refl; none = good.none; pin = good.pin } in
-      let second : IsOpening s3 = record { built = good.built; at = rw good.at refl; t = refl; u = good.u.0; dead = rw good.dead refl; none = λ k p t u d. rw t (good.none k p t u d); pin = λ e. cc } in
+      let first : IsOpening g = record {
+        built = good.built;
+        at = rw good.at refl;
+        t = good.aimed.0;
+        u = good.u.0;
+        dead = rw good.dead refl;
+        none = good.none;
+        pin = good.pin;
+      } in
+      let second : IsOpening s3 = record {
+        built = good.built;
+        at = rw good.at refl;
+        t = refl;
+        u = good.u.0;
+        dead = rw good.dead refl;
+        none = λ k p t u d. rw t (good.none k p t u d);
+        pin = λ e. cc;
+      } in
       let stay : (k : ℕ) → (k ≡ T → ⊥) → stays_in (s3.spot k) ≡ true = λ k apart. others k (eqb k T) refl apart (stays_all g good k) in
       record {
         site = s4;
@@ -152,7 +169,8 @@ pub alike_out : (bind : ℕ → ℕ) (i : ℕ) (y : Path) (b : Body) → leads_o
 alike_out bind i y (Mapping w) h = rw (alike_led i w.region h) refl
 alike_out bind i y (Region r) h = rw (alike_led i r.keeper h) refl
 alike_out bind i y (Reference to) h = rw (alike_led i to h) refl
-alike_out bind i y (Thread_of t) h = let off = or_off (is_talk_out i t.talk) (is_fault_out i t.fault) h in rw (talk_alike i t.talk off.0, fault_alike i t.fault off.1) refl
+alike_out bind i y (Thread_of t) h = let off = or_off (is_talk_out i t.talk) (is_fault_out i t.fault) h in
+    rw (talk_alike i t.talk off.0, fault_alike i t.fault off.1) refl
 alike_out bind i y (Mutex locked) h = refl
 alike_out bind i y Cond h = refl
 alike_out bind i y (Port set served) h = refl
@@ -169,7 +187,7 @@ pub flag_back : (b : Bool) → (flag_of b == 1) ≡ b
 flag_back true = refl
 flag_back false = refl
 
-is_out_at : (i : ℕ) (p : Ptr) → is_out_to i p ≡ true → p ≡ Out i
+pub is_out_at : (i : ℕ) (p : Ptr) → is_out_to i p ≡ true → p ≡ Out i
 is_out_at i (Out j) h = ap Out (eqb-true j i h)
 is_out_at i Null h = cc
 is_out_at i Dead h = cc
@@ -200,8 +218,10 @@ module _ (bind : ℕ → ℕ) (c : World) (root : c.body [] ≡ Some (Space 0 No
   unfolding edited
   talk_set y t talk e port peer = rw (e, port, now_below i, peer, turn_back talk.turn) refl
 
-  fault_set : (y : Path) (t : Thread) (fault : Fault) → t.fault ≡ Some fault → fault.port ≡ Out i → (taker : Option Peer) → fault.taker ≡ taker → IsTakenAim bind c (Out i) taker →
-      edited (SetFault (Some (parked_fault (bind i) (taken_flag fault.taker) (fault_words fault)))) (bound bind mid y (Thread_of t)) ≡ bound bind new y (Thread_of t)
+  fault_set : (y : Path) (t : Thread) (fault : Fault) → t.fault ≡ Some fault → fault.port ≡ Out i → (taker : Option Peer) → fault.taker ≡ taker
+      → IsTakenAim bind c (Out i) taker →
+      edited (SetFault (Some (parked_fault (bind i) (taken_flag fault.taker) (fault_words fault)))) (bound bind mid y (Thread_of t))
+      ≡ bound bind new y (Thread_of t)
   unfolding edited
   fault_set y t fault e port None is its = rw (e, port, now_below i, is, flag_back fault.write) refl
   fault_set y t fault e port (Some (Server Outside)) is its = rw (e, port, now_below i, is, flag_back fault.write) refl
@@ -245,56 +265,86 @@ module _ (bind : ℕ → ℕ) (c : World) (root : c.body [] ≡ Some (Space 0 No
     half_space : there half q ≡ Some kinds.Space
     half_space = halfway_kinds bind c new mid old done y (Thread_of t) its.there anew q ∙ space
 
-    talk_step : (o : Option Talk) → t.talk ≡ o → IsTalkAim bind c o → GivesTalk o → Leaves slot Safe from q (Some (bind i)) half q (Some (bind i)) (parks_talk i bind q x o)
+    talk_step : (o : Option Talk) → t.talk ≡ o → IsTalkAim bind c o → GivesTalk o
+        → Leaves slot Safe from q (Some (bind i)) half q (Some (bind i)) (parks_talk i bind q x o)
     unfolding apply
     talk_step None e aim told = leaves_none slot Safe from half q (Some (bind i)) (to_half bind c new mid old done y (Thread_of t) its.there anew (rw e refl))
     talk_step (Some talk) e aim told = by (is_out_to i talk.port) refl
       where
-        by : (b : Bool) → is_out_to i talk.port ≡ b → Leaves slot Safe from q (Some (bind i)) half q (Some (bind i)) (cond b (ParksTalk P q x (bind i) (talk_words talk) ∷ []) [])
+        by : (b : Bool) → is_out_to i talk.port ≡ b
+            → Leaves slot Safe from q (Some (bind i)) half q (Some (bind i)) (cond b (ParksTalk P q x (bind i) (talk_words talk) ∷ []) [])
         by true h = λ g good.
             let port = is_out_at i talk.port h in
             let edit = SetTalk (Some (parked_talk (bind i) (talk_words talk))) in
             ordered slot Safe from half q (Some (bind i)) g (ParksTalk P q x (bind i) (talk_words talk)) (apply (Alter y edit) g.built) good refl refl
-            (ap (apply (Alter y edit)) good.built ∙ edit_half bind c new mid old done y (Thread_of t) its.there anew edit (talk_set y t talk e port (peer_outside talk.peer talk.port port aim)))
-            (record { place = place_of slot Safe from q (Some (bind i)) g good (led_kinds bind c new old done q ∙ space); low = its.low; thread = rw good.built thread_here; pinned = good.aimed.1; port = low }) told
-        by false h = leaves_none slot Safe from half q (Some (bind i)) (to_half bind c new mid old done y (Thread_of t) its.there anew (rw (e, next_below i talk.port h) refl))
+            (ap (apply (Alter y edit)) good.built ∙ edit_half bind c new mid old done y (Thread_of t) its.there anew edit
+            (talk_set y t talk e port (peer_outside talk.peer talk.port port aim)))
+            (record {
+              place = place_of slot Safe from q (Some (bind i)) g good (led_kinds bind c new old done q ∙ space);
+              low = its.low;
+              thread = rw good.built thread_here;
+              pinned = good.aimed.1;
+              port = low;
+            }) told
+        by false h = leaves_none slot Safe from half q (Some (bind i))
+            (to_half bind c new mid old done y (Thread_of t) its.there anew (rw (e, next_below i talk.port h) refl))
 
-    fault_step : (o : Option Fault) → t.fault ≡ o → IsFaultAim bind c o → GivesFault o → Leaves slot Safe half q (Some (bind i)) to q (Some (bind i)) (parks_fault i bind q x o)
+    fault_step : (o : Option Fault) → t.fault ≡ o → IsFaultAim bind c o → GivesFault o
+        → Leaves slot Safe half q (Some (bind i)) to q (Some (bind i)) (parks_fault i bind q x o)
     unfolding apply
     fault_step None e aim told = leaves_none slot Safe half to q (Some (bind i)) (from_half bind c new mid old done y (Thread_of t) its.there anew (rw e refl))
     fault_step (Some fault) e aim told = by (is_out_to i fault.port) refl
       where
-        by : (b : Bool) → is_out_to i fault.port ≡ b → Leaves slot Safe half q (Some (bind i)) to q (Some (bind i)) (cond b (ParksFault P q x (bind i) (taken_flag fault.taker) (fault_words fault) ∷ []) [])
+        by : (b : Bool) → is_out_to i fault.port ≡ b
+            → Leaves slot Safe half q (Some (bind i)) to q (Some (bind i))
+            (cond b (ParksFault P q x (bind i) (taken_flag fault.taker) (fault_words fault) ∷ []) [])
         by true h = λ g good.
             let port = is_out_at i fault.port h in
             let edit = SetFault (Some (parked_fault (bind i) (taken_flag fault.taker) (fault_words fault))) in
-            ordered slot Safe half to q (Some (bind i)) g (ParksFault P q x (bind i) (taken_flag fault.taker) (fault_words fault)) (apply (Alter y edit) g.built) good refl refl
-            (ap (apply (Alter y edit)) good.built ∙ edit_rest bind c new mid old done y (Thread_of t) its.there anew edit (fault_set y t fault e port fault.taker refl (subst (λ (p : Ptr). IsTakenAim bind c p fault.taker) port aim)))
-            (record { place = place_of slot Safe half q (Some (bind i)) g good half_space; low = its.low; thread = rw good.built thread_half; pinned = good.aimed.1; port = low }) (told.0, told.1, few_taken fault.taker)
-        by false h = leaves_none slot Safe half to q (Some (bind i)) (from_half bind c new mid old done y (Thread_of t) its.there anew (rw (e, next_below i fault.port h) refl))
+            ordered slot Safe half to q (Some (bind i)) g (ParksFault P q x (bind i) (taken_flag fault.taker) (fault_words fault))
+            (apply (Alter y edit) g.built) good refl refl
+            (ap (apply (Alter y edit)) good.built ∙ edit_rest bind c new mid old done y (Thread_of t) its.there anew edit
+            (fault_set y t fault e port fault.taker refl (subst (λ (p : Ptr). IsTakenAim bind c p fault.taker) port aim)))
+            (record {
+              place = place_of slot Safe half q (Some (bind i)) g good half_space;
+              low = its.low;
+              thread = rw good.built thread_half;
+              pinned = good.aimed.1;
+              port = low;
+            }) (told.0, told.1, few_taken fault.taker)
+        by false h = leaves_none slot Safe half to q (Some (bind i))
+            (from_half bind c new mid old done y (Thread_of t) its.there anew (rw (e, next_below i fault.port h) refl))
 
     thread_out : Leaves slot Safe from q (Some (bind i)) to q (Some (bind i)) (parks_talk i bind q x t.talk ++ parks_fault i bind q x t.fault)
-    thread_out = leaves_on slot Safe from q (Some (bind i)) half q (Some (bind i)) to q (Some (bind i)) (parks_talk i bind q x t.talk) (parks_fault i bind q x t.fault)
+    thread_out = leaves_on slot Safe from q (Some (bind i)) half q (Some (bind i)) to q (Some (bind i)) (parks_talk i bind q x t.talk)
+        (parks_fault i bind q x t.fault)
         (talk_step t.talk refl its.aims.0 its.told.0) (fault_step t.fault refl its.aims.1 its.told.1)
 
   -- a pointer
-  pointer_out : (q : Path) (x : ℕ) (b : Body) (done : List Path) → there c q ≡ Some kinds.Space → IsAble bind c q x b → is_among (x ∷ q) done ≡ false → has_pointer b ≡ true → (IsAim bind c b (pointer_of b)) →
+  pointer_out : (q : Path) (x : ℕ) (b : Body) (done : List Path) → there c q ≡ Some kinds.Space → IsAble bind c q x b → is_among (x ∷ q) done ≡ false
+      → has_pointer b ≡ true → (IsAim bind c b (pointer_of b)) →
       leads_out i b ≡ is_out_to i (pointer_of b) →
       Leaves slot Safe (world done) q (Some (bind i)) (world ((x ∷ q) ∷ done)) q (Some (bind i)) (cond (is_out_to i (pointer_of b)) (Points P q x T ∷ []) [])
   pointer_out q x b done space its anew pointing aim same = by (is_out_to i (pointer_of b)) refl
     where
-      by : (t : Bool) → is_out_to i (pointer_of b) ≡ t → Leaves slot Safe (world done) q (Some (bind i)) (world ((x ∷ q) ∷ done)) q (Some (bind i)) (cond t (Points P q x T ∷ []) [])
+      by : (t : Bool) → is_out_to i (pointer_of b) ≡ t
+          → Leaves slot Safe (world done) q (Some (bind i)) (world ((x ∷ q) ∷ done)) q (Some (bind i)) (cond t (Points P q x T ∷ []) [])
       by true h = λ g good.
           let port = is_out_at i (pointer_of b) h in
           let fits : IsAim bind c b (Out i) = subst (IsAim bind c b) port aim in
           let shows : new.pointer (pointer_of b) ≡ true = rw (port, now_below i) refl in
-          pointed bind c root slot Safe new old (Some (bind i)) x q b done space its anew g T (Out (bind i)) good refl good.aimed.0 (sym (ap (rebound_ptr bind) port)) pointing shows tt fits.2
-      by false h = leaves_none slot Safe (world done) (world ((x ∷ q) ∷ done)) q (Some (bind i)) (led_alike bind c new old done (x ∷ q) b its.there (alike_out bind i (x ∷ q) b (same ∙ h)))
+          pointed bind c root slot Safe new old (Some (bind i)) x q b done space its anew g T (Out (bind i)) good refl good.aimed.0
+          (sym (ap (rebound_ptr bind) port)) pointing shows tt fits.2
+      by false h = leaves_none slot Safe (world done) (world ((x ∷ q) ∷ done)) q (Some (bind i))
+          (led_alike bind c new old done (x ∷ q) b its.there (alike_out bind i (x ∷ q) b (same ∙ h)))
 
-  quiet : (q : Path) (x : ℕ) (b : Body) (done : List Path) → IsAble bind c q x b → leads_out i b ≡ false → Leaves slot Safe (world done) q (Some (bind i)) (world ((x ∷ q) ∷ done)) q (Some (bind i)) []
-  quiet q x b done its off = leaves_none slot Safe (world done) (world ((x ∷ q) ∷ done)) q (Some (bind i)) (led_alike bind c new old done (x ∷ q) b its.there (alike_out bind i (x ∷ q) b off))
+  quiet : (q : Path) (x : ℕ) (b : Body) (done : List Path) → IsAble bind c q x b → leads_out i b ≡ false
+      → Leaves slot Safe (world done) q (Some (bind i)) (world ((x ∷ q) ∷ done)) q (Some (bind i)) []
+  quiet q x b done its off = leaves_none slot Safe (world done) (world ((x ∷ q) ∷ done)) q (Some (bind i))
+      (led_alike bind c new old done (x ∷ q) b its.there (alike_out bind i (x ∷ q) b off))
 
-  pub out_item : (q : Path) (x : ℕ) (b : Body) (done : List Path) → there c q ≡ Some kinds.Space → IsWay (there c) q → IsAble bind c q x b → is_among (x ∷ q) done ≡ false →
+  pub out_item : (q : Path) (x : ℕ) (b : Body) (done : List Path) → there c q ≡ Some kinds.Space → IsWay (there c) q → IsAble bind c q x b
+      → is_among (x ∷ q) done ≡ false →
       Leaves slot Safe (world done) q (Some (bind i)) (world ((x ∷ q) ∷ done)) q (Some (bind i)) (leads_body_out i bind q x b)
   out_item q x (Thread_of t) done space way its anew = thread_out q x t done space its anew
   out_item q x (Mapping w) done space way its anew = pointer_out q x (Mapping w) done space its anew refl its.aims refl

@@ -82,8 +82,10 @@ module _ (bind : ℕ → ℕ) (c : World) (root : c.body [] ≡ Some (Space 0 No
     abbrev here : World
     here = leading bind c new old done
 
-    pub pointed : (g : Site) (r : ℕ) (p : Ptr) → Good slot Safe here q aim g → is_ref_slot r ≡ true → g.spot r ≡ Some (To p) → p ≡ rebound_ptr bind (pointer_of b) → has_pointer b ≡ true → new.pointer (pointer_of b) ≡ true →
-        IsLive here p → is_of_kinds (held_kinds b) (kind_at here p) ≡ true → Next slot Safe (leading bind c new old ((x ∷ q) ∷ done)) q aim g (Points P q x r ∷ [])
+    pub pointed : (g : Site) (r : ℕ) (p : Ptr) → Good slot Safe here q aim g → is_ref_slot r ≡ true → g.spot r ≡ Some (To p)
+        → p ≡ rebound_ptr bind (pointer_of b) → has_pointer b ≡ true → new.pointer (pointer_of b) ≡ true →
+        IsLive here p → is_of_kinds (held_kinds b) (kind_at here p) ≡ true
+        → Next slot Safe (leading bind c new old ((x ∷ q) ∷ done)) q aim g (Points P q x r ∷ [])
     unfolding apply
     pointed g r p good scratch led is has shows live fits =
         let y = x ∷ q in
@@ -91,7 +93,8 @@ module _ (bind : ℕ → ℕ) (c : World) (root : c.body [] ≡ Some (Space 0 No
         ordered slot Safe here _ q aim g (Points P q x r) (after_pointer y (g.spot r) g.built) good refl refl
         (ap (λ (o : Option Spot). after_pointer y o g.built) led ∙ ap (λ (m : World). apply (Alter y (SetPointer p)) m) good.built
         ∙ ap (λ (p : Ptr). apply (Alter y (SetPointer p)) here) is
-        ∙ led_as bind c new old done y b its.there anew (option_map (edited (SetPointer (rebound_ptr bind (pointer_of b))))) (ap Some (pointer_set bind new old y b has shows)))
+        ∙ led_as bind c new old done y b its.there anew (option_map (edited (SetPointer (rebound_ptr bind (pointer_of b)))))
+        (ap Some (pointer_set bind new old y b has shows)))
         (record {
           place = place_of slot Safe here q aim g good (led_kinds bind c new old done q ∙ space);
           low = its.low;
@@ -162,14 +165,17 @@ module _ (bind : ℕ → ℕ) (c : World) (root : c.body [] ≡ Some (Space 0 No
   abbrev world : List Path → World
   world done = leading bind c (led_below 0) nothing_led done
 
-  pub point_item : (q : Path) (x : ℕ) (b : Body) (done : List Path) → there c q ≡ Some kinds.Space → IsWay (there c) q → IsAble bind c q x b → is_among (x ∷ q) done ≡ false →
+  pub point_item : (q : Path) (x : ℕ) (b : Body) (done : List Path) → there c q ≡ Some kinds.Space → IsWay (there c) q → IsAble bind c q x b
+      → is_among (x ∷ q) done ≡ false →
       Leaves slot Safe (world done) q None (world ((x ∷ q) ∷ done)) q None (points_body slot q x b)
   point_item q x b done space way its anew = by (pointer_of b) refl
     where
       idle : stays_inside (pointer_of b) ≡ false → Leaves slot Safe (world done) q None (world ((x ∷ q) ∷ done)) q None []
-      idle off = leaves_none slot Safe (world done) (world ((x ∷ q) ∷ done)) q None (led_alike bind c (led_below 0) nothing_led done (x ∷ q) b its.there (alike bind (x ∷ q) b off))
+      idle off = leaves_none slot Safe (world done) (world ((x ∷ q) ∷ done)) q None
+          (led_alike bind c (led_below 0) nothing_led done (x ∷ q) b its.there (alike bind (x ∷ q) b off))
 
-      inside : (z : Path) → pointer_of b ≡ At z → Leaves slot Safe (world done) q None (world ((x ∷ q) ∷ done)) q None (leads_to_at slot T q z ++ Points P q x T ∷ [])
+      inside : (z : Path) → pointer_of b ≡ At z → Leaves slot Safe (world done) q None (world ((x ∷ q) ∷ done)) q None (leads_to_at slot T q z
+          ++ Points P q x T ∷ [])
       inside z e g good =
           let stays : stays_inside (pointer_of b) ≡ true = rw e refl in
           let has = inside_has b stays in
@@ -180,15 +186,21 @@ module _ (bind : ℕ → ℕ) (c : World) (root : c.body [] ≡ Some (Space 0 No
           let live = live_way (world done) z (led_kinds bind c (led_below 0) nothing_led done [] ∙ ap (option_map kind_of) root) there_way in
           let fine : is_of_kinds (held_kinds b) (kind_at (world done) (At z)) ≡ true = rw kind aim.1 in
           let shows : (led_below 0).pointer (pointer_of b) ≡ true = rw e refl in
-          let next = pointed bind c root slot Safe (led_below 0) nothing_led None x q b done space its anew led.site T (At z) led.good refl led.to (sym (ap (rebound_ptr bind) e)) has shows live fine in
-          record { site = next.site; runs = on slot Safe g led.site next.site (leads_to_at slot T q z) (Points P q x T ∷ []) led.runs next.runs; good = next.good }
+          let next = pointed bind c root slot Safe (led_below 0) nothing_led None x q b done space its anew led.site T (At z) led.good refl led.to
+          (sym (ap (rebound_ptr bind) e)) has shows live fine in
+          record {
+            site = next.site;
+            runs = on slot Safe g led.site next.site (leads_to_at slot T q z) (Points P q x T ∷ []) led.runs next.runs;
+            good = next.good;
+          }
 
       dead : pointer_of b ≡ Dead → Leaves slot Safe (world done) q None (world ((x ∷ q) ∷ done)) q None (Points P q x D ∷ [])
       dead e g good =
           let stays : stays_inside (pointer_of b) ≡ true = rw e refl in
           let has = inside_has b stays in
           let shows : (led_below 0).pointer (pointer_of b) ≡ true = rw e refl in
-          pointed bind c root slot Safe (led_below 0) nothing_led None x q b done space its anew g D Dead good refl good.dead (sym (ap (rebound_ptr bind) e)) has shows tt refl
+          pointed bind c root slot Safe (led_below 0) nothing_led None x q b done space its anew g D Dead good refl good.dead
+          (sym (ap (rebound_ptr bind) e)) has shows tt refl
 
       by : (p : Ptr) → pointer_of b ≡ p → Leaves slot Safe (world done) q None (world ((x ∷ q) ∷ done)) q None (points_in slot q x p)
       by (At z) e = inside z e
@@ -198,5 +210,6 @@ module _ (bind : ℕ → ℕ) (c : World) (root : c.body [] ≡ Some (Space 0 No
       by Outside e = idle (rw e refl)
       by Far e = idle (rw e refl)
 
-  pub point_idle : (q : Path) (x : ℕ) (b : Body) → IsAble bind c q x b → leads_in b ≡ false → bound bind nothing_led (x ∷ q) b ≡ bound bind (led_below 0) (x ∷ q) b
+  pub point_idle : (q : Path) (x : ℕ) (b : Body) → IsAble bind c q x b → leads_in b ≡ false
+      → bound bind nothing_led (x ∷ q) b ≡ bound bind (led_below 0) (x ∷ q) b
   point_idle q x b its off = alike bind (x ∷ q) b off

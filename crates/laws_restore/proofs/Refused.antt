@@ -22,21 +22,26 @@ left_at (Pins i) g = with_pin Loose g
 left_at other g = g
 
 module _ (nester : Path) (slot : ℕ) (g : Site) (w : World) (shows : Shows nester slot g w) where
-  pin_refused : (i : ℕ) (reply : Reply) → May slot (Pins i) g → IsAnswered nester w (stage_of slot (Pins i)) no_words reply → Shows nester slot (with_pin Loose g) (after w (call_of nester (stage_of slot (Pins i)) no_words))
+  pin_refused : (i : ℕ) (reply : Reply) → May slot (Pins i) g → IsAnswered nester w (stage_of slot (Pins i)) no_words reply
+      → Shows nester slot (with_pin Loose g) (after w (call_of nester (stage_of slot (Pins i)) no_words))
   pin_refused i reply may answered =
       let goes = goings nester slot g w (Pins i) shows may reply answered in
       rw goes.world (pins nester slot g w shows i goes.changes reply.status reply.words may.0 may.1 goes.row)
 
-  look_refused : (r i : ℕ) (reply : Reply) → May slot (Checks r i) g → IsAnswered nester w (stage_of slot (Checks r i)) no_words reply → Shows nester slot g (after w (call_of nester (stage_of slot (Checks r i)) no_words))
+  look_refused : (r i : ℕ) (reply : Reply) → May slot (Checks r i) g → IsAnswered nester w (stage_of slot (Checks r i)) no_words reply
+      → Shows nester slot g (after w (call_of nester (stage_of slot (Checks r i)) no_words))
   unfolding apply_all
   look_refused r i reply may answered =
       let goes = goings nester slot g w (Checks r i) shows may reply answered in
-      let ref : SpotShows nester slot w g.pin r (Some Unsure) = subst (λ (o : Option Spot). SpotShows nester slot w g.pin r o) may.1 (shows.spots r (ref_slot nester slot g w shows r may.0)) in
-      let comes = sym (locate_here-row nester no_words w r ref.0 (object-there nester no_words w reference_of nester r (Reference ref.0) ref.0 (ref_named nester slot g w shows r may.0) ref.1 refl)) ∙ goes.row in
+      let ref : SpotShows nester slot w g.pin r (Some Unsure) = subst (λ (o : Option Spot). SpotShows nester slot w g.pin r o) may.1
+      (shows.spots r (ref_slot nester slot g w shows r may.0)) in
+      let comes = sym (locate_here-row nester no_words w r ref.0
+      (object-there nester no_words w reference_of nester r (Reference ref.0) ref.0 (ref_named nester slot g w shows r may.0) ref.1 refl)) ∙ goes.row in
       let none = still_here nester slot g w shows ref.0 goes.changes reply.status reply.words comes in
       rw (goes.world, none) shows
 
-  pub refused_shows : (o : Order) (reply : Reply) → May slot o g → IsAnswered nester w (stage_of slot o) (words_of o) reply → (fails o ≡ Lost → ⊥) → Shows nester slot (left_at o g) (after w (call_of nester (stage_of slot o) (words_of o)))
+  pub refused_shows : (o : Order) (reply : Reply) → May slot o g → IsAnswered nester w (stage_of slot o) (words_of o) reply → (fails o ≡ Lost → ⊥)
+      → Shows nester slot (left_at o g) (after w (call_of nester (stage_of slot o) (words_of o)))
   refused_shows (Pins i) reply may answered well = pin_refused i reply may answered
   refused_shows (Checks r i) reply may answered well = look_refused r i reply may answered
   refused_shows o reply may answered well = absurd (well refl)

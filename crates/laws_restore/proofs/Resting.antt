@@ -56,7 +56,8 @@ neither false true h = cc
 neither true b h = cc
 
 -- a set of ports that nothing but a set may be
-no_set : (there : Path → Option Kind) (x y : Path) (o : Option Body) → all_in (is_good there y) o ≡ true → is_one_of (kinds.Portset ∷ []) (there x) ≡ false → list_any (leads_to x) (body_pointers o) ≡ false → is_swept x y o ≡ false
+no_set : (there : Path → Option Kind) (x y : Path) (o : Option Body) → all_in (is_good there y) o ≡ true → is_one_of (kinds.Portset ∷ []) (there x) ≡ false
+    → list_any (leads_to x) (body_pointers o) ≡ false → is_swept x y o ≡ false
 no_set there x y None good off unled = refl
 no_set there x y (Some (Port None served)) good off unled = refl
 no_set there x y (Some (Port (Some set) served)) good off unled = by (same_path (set_at y set) x) refl
@@ -78,7 +79,8 @@ no_set there x y (Some (Thread_of t)) good off unled = rw unled refl
 no_set there x y (Some (Reference to)) good off unled = rw unled refl
 
 -- a set lies beside its port
-beside_set : (x y : Path) (k : ℕ) (o : Option Body) → list_any (leads_to x) (body_pointers o) ≡ false → ((set : ℕ) → x ≡ set ∷ parent y → ⊥) → is_swept x y o ≡ false
+beside_set : (x y : Path) (k : ℕ) (o : Option Body) → list_any (leads_to x) (body_pointers o) ≡ false → ((set : ℕ) → x ≡ set ∷ parent y → ⊥)
+    → is_swept x y o ≡ false
 beside_set x y k None unled apart = refl
 beside_set x y k (Some (Port None served)) unled apart = refl
 beside_set x y k (Some (Port (Some set) served)) unled apart = by (same_path (set_at y set) x) refl
@@ -182,7 +184,8 @@ module _ (nester : Path) (slot : ℕ) where
 
         by : (is_within root x ≡ true) ⊎ (is_scratch nester x ≡ true) → is_swept x y (v.body y) ≡ false
         by (inl h) = way (strip root x) refl h
-        by (inr h) = no_set (kind_there v) x y (v.body y) (valid.consistent.good y) (ref_kind (v.body x) (scratch_of nester slot v held x h)) (nothing_leads x y (scratch_of nester slot v held x h))
+        by (inr h) = no_set (kind_there v) x y (v.body y) (valid.consistent.good y) (ref_kind (v.body x) (scratch_of nester slot v held x h))
+            (nothing_leads x y (scratch_of nester slot v held x h))
 
   -- ---- near changes leave what is far
 
@@ -212,7 +215,11 @@ module _ (nester : Path) (slot : ℕ) where
   far_on v u same apart x y near far = rw (same.bodies y far) (apart x y near far)
 
   far_then : (v u x : World) → IsSameFar nester slot v u → IsSameFar nester slot u x → IsSameFar nester slot v x
-  far_then v u x first then = record { bodies = λ y far. then.bodies y far ∙ first.bodies y far; pages = λ y page far. then.pages y page far ∙ first.pages y page far }
+  far_then v u x first then = record {
+    bodies = λ y far. then.bodies y far ∙ first.bodies y far;
+    pages = λ y page far. then.pages y page far
+        ∙ first.pages y page far;
+  }
 
   changes_far : (cs : List Change) (v : World) → AreNear nester slot cs → IsApart v → IsSameFar nester slot v (apply_all cs v)
   unfolding apply_all
@@ -221,45 +228,58 @@ module _ (nester : Path) (slot : ℕ) where
       let one = change_far c v near.0 apart in
       far_then v (apply c v) (apply_all cs (apply c v)) one (changes_far cs (apply c v) near.1 (far_on v (apply c v) one apart))
 
-  call_far : (v : World) (g : Site) (o : Order) → Shows nester slot g v → IsUnled nester slot v → May slot o g → IsSound v → IsReadyAt v (call_of nester (stage_of slot o) (words_of o)) →
+  call_far : (v : World) (g : Site) (o : Order) → Shows nester slot g v → IsUnled nester slot v → May slot o g → IsSound v
+      → IsReadyAt v (call_of nester (stage_of slot o) (words_of o)) →
       IsSameFar nester slot v (after v (call_of nester (stage_of slot o) (words_of o)))
   call_far v g o shows unled may sound ready =
       let call = own_call nester slot g v o shows may sound ready in
-      let answered : IsAnswered nester v (stage_of slot o) (words_of o) call.reply = record { valid = sound.whole.valid; few = sound.whole.few; ready = ready; said = ap reply_of call.said } in
+      let answered : IsAnswered nester v (stage_of slot o)
+      (words_of o) call.reply = record { valid = sound.whole.valid; few = sound.whole.few; ready = ready; said = ap reply_of call.said } in
       let near = own_calls_are_near nester slot g v o call.reply shows may answered in
-      subst (IsSameFar nester slot v) (sym near.world) (changes_far near.changes v near.near (apart_now v sound.whole.valid (holding nester slot g v shows) unled))
+      subst (IsSameFar nester slot v) (sym near.world)
+      (changes_far near.changes v near.near (apart_now v sound.whole.valid (holding nester slot g v shows) unled))
 
-  release_far : (v : World) (g : Site) → Shows nester slot g v → IsReadyAt v (call_of nester (SpaceRelease OWN_SPACE slot) no_words) → IsSameFar nester slot v (after v (call_of nester (SpaceRelease OWN_SPACE slot) no_words))
+  release_far : (v : World) (g : Site) → Shows nester slot g v → IsReadyAt v (call_of nester (SpaceRelease OWN_SPACE slot) no_words)
+      → IsSameFar nester slot v (after v (call_of nester (SpaceRelease OWN_SPACE slot) no_words))
   unfolding apply
   release_far v g shows ready =
       let comes = release_comes_to nester slot v (holding nester slot g v shows) ready in
-      subst (IsSameFar nester slot v) (sym comes.world) (record { bodies = λ y far. rw (far_apart root y (inside_near nester slot []) far) refl; pages = λ y page far. refl })
+      subst (IsSameFar nester slot v) (sym comes.world)
+      (record { bodies = λ y far. rw (far_apart root y (inside_near nester slot []) far) refl; pages = λ y page far. refl })
 
-  destroy_far : (v : World) (xs : List Path) → IsValid v → IsEmptied nester slot v xs → IsSecluded nester slot v → IsReadyAt v (call_of nester (Destroy OWN_SPACE slot) no_words) →
+  destroy_far : (v : World) (xs : List Path) → IsValid v → IsEmptied nester slot v xs → IsSecluded nester slot v
+      → IsReadyAt v (call_of nester (Destroy OWN_SPACE slot) no_words) →
       IsSameFar nester slot v (after v (call_of nester (Destroy OWN_SPACE slot) no_words))
   destroy_far v xs valid emptied alone ready =
       let dies = gone nester slot v valid xs emptied in
       let near = kills_near nester slot v emptied.holding alone dies (gone_inside nester slot v valid xs emptied) in
-      subst (IsSameFar nester slot v) (sym (world nester slot v valid xs emptied ready)) (changes_far (kills v dies) v near (apart_now v valid emptied.holding alone.unled))
+      subst (IsSameFar nester slot v) (sym (world nester slot v valid xs emptied ready))
+      (changes_far (kills v dies) v near (apart_now v valid emptied.holding alone.unled))
 
 -- a call that is known
-known : (v : World) (nester : Path) (slot : ℕ) (stage other : Stage) (given words : List ℕ) → stage ≡ other → given ≡ words → (IsReadyAt v (call_of nester stage given) → IsSameFar nester slot v (after v (call_of nester stage given))) →
+known : (v : World) (nester : Path) (slot : ℕ) (stage other : Stage) (given words : List ℕ) → stage ≡ other → given ≡ words
+    → (IsReadyAt v (call_of nester stage given) → IsSameFar nester slot v (after v (call_of nester stage given))) →
     IsReadyAt v (call_of nester other words) → IsSameFar nester slot v (after v (call_of nester other words))
 known v nester slot stage other given words one two far =
     subst (λ (ws : List ℕ). IsReadyAt v (call_of nester other ws) → IsSameFar nester slot v (after v (call_of nester other ws))) two
     (subst (λ (st : Stage). IsReadyAt v (call_of nester st given) → IsSameFar nester slot v (after v (call_of nester st given))) one far)
 
 module _ (slot birth : ℕ) (bind : ℕ → ℕ) (c : World) (rooms : List Room) (w : World) (nester : Path) (low : slot ≤ LAST_USER_SLOT) (its : IsRoomed bind c rooms) (may_begin : MayBegin w nester birth) where
-  later_far : (v : World) (t : State) → IsSound v → Came slot birth bind c rooms w nester low its may_begin v t → (stage : Stage) (words : List ℕ) → head slot t ≡ Asks stage words →
+  later_far : (v : World) (t : State) → IsSound v → Came slot birth bind c rooms w nester low its may_begin v t → (stage : Stage) (words : List ℕ)
+      → head slot t ≡ Asks stage words →
       IsReadyAt v (call_of nester stage words) → IsSameFar nester slot v (after v (call_of nester stage words))
-  later_far _ _ sound (Working [] g v empty shows alone may suits safe tidied is) stage words e =
-      known v nester slot (SpaceRelease OWN_SPACE slot) stage no_words words (let one : SpaceRelease OWN_SPACE slot ≡ stage = cc in one) (let two : no_words ≡ words = cc in two) (release_far nester slot v g shows)
-  later_far _ _ sound (Working (o ∷ os) g v empty shows alone may suits safe tidied is) stage words e =
-      known v nester slot (stage_of slot o) stage (words_of o) words (let one : stage_of slot o ≡ stage = cc in one) (let two : words_of o ≡ words = cc in two) (call_far nester slot v g o shows alone.unled may.0 sound)
+  later_far _ _ sound (Working [] g v empty shows alone may suits safe tidied is history) stage words e =
+      known v nester slot (SpaceRelease OWN_SPACE slot) stage no_words words (let one : SpaceRelease OWN_SPACE slot ≡ stage = cc in one) (let two : no_words
+      ≡ words = cc in two) (release_far nester slot v g shows)
+  later_far _ _ sound (Working (o ∷ os) g v empty shows alone may suits safe tidied is history) stage words e =
+      known v nester slot (stage_of slot o) stage (words_of o) words (let one : stage_of slot o ≡ stage = cc in one) (let two : words_of o ≡ words = cc in
+      two) (call_far nester slot v g o shows alone.unled may.0 sound)
   later_far _ _ sound (Dropping o os port g v empty shows alone left tidied) stage words e =
-      known v nester slot (stage_of slot o) stage (words_of o) words (let one : stage_of slot o ≡ stage = cc in one) (let two : words_of o ≡ words = cc in two) (call_far nester slot v g o shows alone.unled left.may.0 sound)
+      known v nester slot (stage_of slot o) stage (words_of o) words (let one : stage_of slot o ≡ stage = cc in one) (let two : words_of o ≡ words = cc in
+      two) (call_far nester slot v g o shows alone.unled left.may.0 sound)
   later_far _ _ sound (Clearing xs more port v empty emptied many alone tidied) stage words e =
-      known v nester slot (Destroy OWN_SPACE slot) stage no_words words (let one : Destroy OWN_SPACE slot ≡ stage = cc in one) (let two : no_words ≡ words = cc in two)
+      known v nester slot (Destroy OWN_SPACE slot) stage no_words words (let one : Destroy OWN_SPACE slot ≡ stage = cc in one) (let two : no_words
+      ≡ words = cc in two)
       (destroy_far nester slot v xs sound.whole.valid emptied alone)
   later_far _ _ sound (Finished v empty plain same unheld clean) stage words e = cc
   later_far _ _ sound (Missing port v empty none clean) stage words e = cc
@@ -277,10 +297,13 @@ module _ (slot birth : ℕ) (bind : ℕ → ℕ) (c : World) (rooms : List Room)
 
       made : w.body (slot ∷ nester) ≡ None → IsSameFar nester slot w (after w (call_of nester (SpaceMakeHeld slot) no_words))
       made empty =
-          let goes = goes_by nester w (SpaceMakeHeld slot) no_words reply answered (MakeSpace (slot ∷ nester) (Some (At (LAST_PORTER_SLOT ∷ nester))) ∷ []) OK [] (make-row nester slot w reply low answered ∙ ap (made_as nester slot w reply low answered) empty) in
-          subst (IsSameFar nester slot w) (sym goes.0) (record { bodies = λ y far. rw (far_apart nester slot (slot ∷ nester) y (inside_near nester slot []) far) refl; pages = λ y page far. refl })
+          let goes = goes_by nester w (SpaceMakeHeld slot) no_words reply answered (MakeSpace (slot ∷ nester) (Some (At (LAST_PORTER_SLOT ∷ nester)))
+          ∷ []) OK [] (make-row nester slot w reply low answered ∙ ap (made_as nester slot w reply low answered) empty) in
+          subst (IsSameFar nester slot w) (sym goes.0)
+          (record { bodies = λ y far. rw (far_apart nester slot (slot ∷ nester) y (inside_near nester slot []) far) refl; pages = λ y page far. refl })
 
-      by : ((w.body (slot ∷ nester) ≡ None) × (reply.status ≡ OK) × Shows nester slot first (after w (call_of nester (SpaceMakeHeld slot) no_words))) ⊎ (IsSome (w.body (slot ∷ nester)) × (reply.status ≡ OCCUPIED) × (after w (call_of nester (SpaceMakeHeld slot) no_words) ≡ w)) →
+      by : ((w.body (slot ∷ nester) ≡ None) × (reply.status ≡ OK) × Shows nester slot first (after w (call_of nester (SpaceMakeHeld slot) no_words)))
+          ⊎ (IsSome (w.body (slot ∷ nester)) × (reply.status ≡ OCCUPIED) × (after w (call_of nester (SpaceMakeHeld slot) no_words) ≡ w)) →
           IsSameFar nester slot w (after w (call_of nester (SpaceMakeHeld slot) no_words))
       by (inl its) = made its.0
       by (inr its) = subst (IsSameFar nester slot w) (sym its.2) (same_far nester slot w)
@@ -288,5 +311,6 @@ module _ (slot birth : ℕ) (bind : ℕ → ℕ) (c : World) (rooms : List Room)
 pub leaves_far : RestoreLeavesFar
 leaves_far slot birth bind c rooms w nester low its may = record {
   first = first_far slot birth bind c rooms w nester low its may;
-  later = λ v t stage words work e ready. later_far slot birth bind c rooms w nester low its may v t (now_sound (restore slot bind rooms) nester w Begins v t work) (came slot birth bind c rooms w nester low its may v t work) stage words e ready;
+  later = λ v t stage words work e ready. later_far slot birth bind c rooms w nester low its may v t
+      (now_sound (restore slot bind rooms) nester w Begins v t work) (came slot birth bind c rooms w nester low its may v t work) stage words e ready;
 }

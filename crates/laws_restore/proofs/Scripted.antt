@@ -35,13 +35,15 @@ script_makes slot bind c rooms its = ((script_ends bind c rooms its slot).runs.m
 pub script_suits : (slot : ℕ) (bind : ℕ → ℕ) (c : World) (rooms : List Room) → IsRoomed bind c rooms → SuitsAll (script slot bind rooms) first
 script_suits slot bind c rooms its = (script_ends bind c rooms its slot).runs.suits
 
-pub script_safe : (slot : ℕ) (bind : ℕ → ℕ) (c : World) (rooms : List Room) → IsRoomed bind c rooms → SafeAll (IsAsked bind c rooms) (script slot bind rooms) first
+pub script_safe : (slot : ℕ) (bind : ℕ → ℕ) (c : World) (rooms : List Room) → IsRoomed bind c rooms
+    → SafeAll (IsAsked bind c rooms) (script slot bind rooms) first
 script_safe slot bind c rooms its = (script_ends bind c rooms its slot).runs.safe
 
 pub script_grouped : (slot : ℕ) (bind : ℕ → ℕ) (c : World) (rooms : List Room) → IsRoomed bind c rooms → Grouped (script slot bind rooms)
 script_grouped slot bind c rooms its = (script_ends bind c rooms its slot).runs.grouped
 
-pub restored_shows : (nester : Path) (slot : ℕ) (bind : ℕ → ℕ) (c : World) (rooms : List Room) (es : List Event) (w v : World) (t : State) → IsRoomed bind c rooms → Shows nester slot first w →
+pub restored_shows : (nester : Path) (slot : ℕ) (bind : ℕ → ℕ) (c : World) (rooms : List Room) (es : List Event) (w v : World) (t : State)
+    → IsRoomed bind c rooms → Shows nester slot first w →
     Interleaved (restorer slot) nester w (Working (script slot bind rooms)) es v t → head slot t ≡ Stops Done → Shows nester slot (finished bind c) v
 restored_shows nester slot bind c rooms es w v t its shows run over =
     let both = script_makes slot bind c rooms its in
@@ -53,4 +55,5 @@ restores_picture nester slot bind c rooms es w v t its shows run over =
     (built_is_cut nester slot (finished bind c) v end refl, λ k scratch. end.spots k scratch)
 
 pub no_lost : NeverLost
-no_lost nester slot bind c rooms es w v t its shows = never_lost nester slot (script slot bind rooms) first es w v t shows (script_makes slot bind c rooms its).0
+no_lost nester slot bind c rooms es w v t its shows = never_lost nester slot (script slot bind rooms) first es w v t shows
+    (script_makes slot bind c rooms its).0

@@ -32,7 +32,8 @@ use Rattle.laws_sites.proofs.Near.{changes_unled}
 
 -- ---- whoever has a talk leads to its port, and to its server
 
-leads_by : (x : Path) (port : Ptr) (peer : Peer) (more : List Ptr) → (leads_to x port || serves x peer) ≡ true → list_any (leads_to x) ((port ∷ peer_pointer peer) ++ more) ≡ true
+leads_by : (x : Path) (port : Ptr) (peer : Peer) (more : List Ptr) → (leads_to x port || serves x peer) ≡ true
+    → list_any (leads_to x) ((port ∷ peer_pointer peer) ++ more) ≡ true
 leads_by x port (Server thread) more h = by (leads_to x port) (leads_to x thread) h
   where
     by : (a b : Bool) → (a || b) ≡ true → (a || (b || list_any (leads_to x) more)) ≡ true
@@ -53,7 +54,8 @@ leads_by x port Parked more h = by (leads_to x port) h
 abbrev talk_in : Option Body → Option Talk
 talk_in o = and_then (λ (t : Thread). t.talk) (and_then thread_of o)
 
-leads_by_talk : (x : Path) (o : Option Body) (talk : Talk) → talk_in o ≡ Some talk → (leads_to x talk.port || serves x talk.peer) ≡ true → list_any (leads_to x) (body_pointers o) ≡ true
+leads_by_talk : (x : Path) (o : Option Body) (talk : Talk) → talk_in o ≡ Some talk → (leads_to x talk.port || serves x talk.peer) ≡ true
+    → list_any (leads_to x) (body_pointers o) ≡ true
 leads_by_talk x (Some (Thread_of t)) talk e h = by t.talk e
   where
     by : (o : Option Talk) → o ≡ Some talk → list_any (leads_to x) (option_list talk_pointers o ++ option_list fault_pointers t.fault) ≡ true
@@ -198,9 +200,12 @@ module _ (nester : Path) (slot : ℕ) where
             either true s = refl
             either false s = s
 
-        by : (o : Option Path) → client_of v y ≡ o → IsIn x (ends_in v turns.Server (and_then (λ (client : Path). line_from client (λ (talk : Talk). Server (At client)) (talk_at v client)) o)) → IsInside x
+        by : (o : Option Path) → client_of v y ≡ o
+            → IsIn x (ends_in v turns.Server (and_then (λ (client : Path). line_from client (λ (talk : Talk). Server (At client)) (talk_at v client)) o))
+            → IsInside x
         by None e h = absurd h
-        by (Some client) e h = at client (talk_at v client) refl (find_some (λ (c : Path). holds (λ (talk : Talk). serves y talk.peer) (talk_at v c)) client (objects v) e).1 h
+        by (Some client) e h = at client (talk_at v client) refl
+            (find_some (λ (c : Path). holds (λ (talk : Talk). serves y talk.peer) (talk_at v c)) client (objects v) e).1 h
 
     -- of a port its clients' and their servers'
     at_port : (y : Path) → IsInside y → (x : Path) → IsIn x (flat_map (ends_of_client v) (clients_at v y)) → IsInside x
@@ -208,7 +213,8 @@ module _ (nester : Path) (slot : ℕ) where
     at_port y inside x h =
         let found = of_flat_map (ends_of_client v) x (clients_at v y) h in
         let client = found.0 in
-        let there = client_at_port client (talk_at v client) refl (of_filter (λ (c : Path). holds (λ (talk : Talk). leads_to y talk.port) (talk_at v c)) client (objects v) found.1).1 in
+        let there = client_at_port client (talk_at v client) refl
+        (of_filter (λ (c : Path). holds (λ (talk : Talk). leads_to y talk.port) (talk_at v c)) client (objects v) found.1).1 in
         by client there (in_either x (talking_end v turns.Client (At client)) (ends_on v client turns.Client) found.2)
       where
         client_at_port : (client : Path) (o : Option Talk) → talk_at v client ≡ o → holds (λ (talk : Talk). leads_to y talk.port) o ≡ true → IsInside client
@@ -353,11 +359,16 @@ module _ (nester : Path) (slot : ℕ) where
   pub secluded_others : (v : World) (e : Event) → IsHolding nester slot v → IsUsersMove nester v e → IsSecluded v → IsSecluded (after v e)
   secluded_others v e held moves alone =
       let kept = others_keep_hold nester slot v e held moves in
-      record { unled = others_keep_unled nester slot v e held moves alone.unled; inner = λ q. subst (λ (o : Option Body). IsInnerTalk (talk_in o)) (sym (kept.inside.bodies q)) (alone.inner q) }
+      record {
+        unled = others_keep_unled nester slot v e held moves alone.unled;
+        inner = λ q. subst (λ (o : Option Body). IsInnerTalk (talk_in o)) (sym (kept.inside.bodies q)) (alone.inner q);
+      }
 
   -- a new space, beneath which nothing stood
-  pub secluded_first : (v : World) (e : Event) → IsNearCall nester slot v e → ((q : Path) → v.body (q ++ root) ≡ None) → IsUnled nester slot (after v e) → IsSecluded (after v e)
+  pub secluded_first : (v : World) (e : Event) → IsNearCall nester slot v e → ((q : Path) → v.body (q ++ root) ≡ None) → IsUnled nester slot (after v e)
+      → IsSecluded (after v e)
   secluded_first v e near none unled = record {
     unled = unled;
-    inner = subst AreInner (sym near.world) (changes_inner near.changes v near.near (λ q. subst (λ (o : Option Body). IsInnerTalk (talk_in o)) (sym (none q)) tt));
+    inner = subst AreInner (sym near.world) (changes_inner near.changes v near.near
+        (λ q. subst (λ (o : Option Body). IsInnerTalk (talk_in o)) (sym (none q)) tt));
   }

@@ -25,7 +25,8 @@ either_among y x xs h = by (same_path y x) refl h
     by false e h = inr h
 
 module _ (bind : ℕ → ℕ) (c : World) where
-  items_are : (q : Path) (is : List Item) (made done : List Path) (y : Path) → AreItems bind c q is made → is_among y (with_items q is done) ≡ true → (is_among y done ≡ true) ⊎ IsItem bind c y
+  items_are : (q : Path) (is : List Item) (made done : List Path) (y : Path) → AreItems bind c q is made → is_among y (with_items q is done) ≡ true
+      → (is_among y done ≡ true) ⊎ IsItem bind c y
   items_are q [] made done y its h = inl h
   items_are q (i ∷ is) made done y its h = by (items_are q is ((i.slot ∷ q) ∷ made) ((i.slot ∷ q) ∷ done) y its.2 h)
     where
@@ -37,7 +38,8 @@ module _ (bind : ℕ → ℕ) (c : World) where
       by (inl e) = here (either_among y (i.slot ∷ q) done e)
       by (inr item) = inr item
 
-  pub rooms_are : (rooms : List Room) (made done : List Path) (given : List (Path × ℕ)) (y : Path) → AreRooms bind c rooms made given → is_among y (all_made rooms done) ≡ true → (is_among y done ≡ true) ⊎ IsItem bind c y
+  pub rooms_are : (rooms : List Room) (made done : List Path) (given : List (Path × ℕ)) (y : Path) → AreRooms bind c rooms made given
+      → is_among y (all_made rooms done) ≡ true → (is_among y done ≡ true) ⊎ IsItem bind c y
   rooms_are [] made done given y its h = inl h
   rooms_are (r ∷ rs) made done given y its h = by (rooms_are rs (with_items r.path r.items made) (with_items r.path r.items done) _ y its.1 h)
     where
@@ -50,7 +52,8 @@ module _ (bind : ℕ → ℕ) (c : World) where
     pub holder : Option Ptr
     pub is : c.body y ≡ Some (Space 0 holder)
 
-  pub spaces_are : (rooms : List Room) (made : List Path) (y : Path) → AreSpaces c rooms made → is_among y (with_spaces rooms made) ≡ true → (is_among y made ≡ true) ⊎ IsSpace y
+  pub spaces_are : (rooms : List Room) (made : List Path) (y : Path) → AreSpaces c rooms made → is_among y (with_spaces rooms made) ≡ true
+      → (is_among y made ≡ true) ⊎ IsSpace y
   spaces_are [] made y its h = inl h
   spaces_are (r ∷ rs) made y its h = by (spaces_are rs (with_space r.path made) y its.1 h)
     where
@@ -68,7 +71,8 @@ module _ (bind : ℕ → ℕ) (c : World) where
 
   -- ---- what no room lists as an item is a space
 
-  mono : (rooms : List Room) (small big : List Path) (y : Path) → (is_among y small ≡ true → is_among y big ≡ true) → is_among y (all_made rooms small) ≡ true → is_among y (all_made rooms big) ≡ true
+  mono : (rooms : List Room) (small big : List Path) (y : Path) → (is_among y small ≡ true → is_among y big ≡ true) → is_among y (all_made rooms small) ≡ true
+      → is_among y (all_made rooms big) ≡ true
   mono [] small big y sub h = sub h
   mono (r ∷ rs) small big y sub h = mono rs (with_items r.path r.items small) (with_items r.path r.items big) y (with_mono r.path r.items small big sub) h
     where
@@ -79,16 +83,19 @@ module _ (bind : ℕ → ℕ) (c : World) where
           by true h = refl
           by false h = sub h
 
-      with_mono : (q : Path) (is : List Item) (small big : List Path) → (is_among y small ≡ true → is_among y big ≡ true) → is_among y (with_items q is small) ≡ true → is_among y (with_items q is big) ≡ true
+      with_mono : (q : Path) (is : List Item) (small big : List Path) → (is_among y small ≡ true → is_among y big ≡ true)
+          → is_among y (with_items q is small) ≡ true → is_among y (with_items q is big) ≡ true
       with_mono q [] small big sub = sub
       with_mono q (i ∷ is) small big sub = with_mono q is ((i.slot ∷ q) ∷ small) ((i.slot ∷ q) ∷ big) (add (i.slot ∷ q) small big sub)
 
-  pub others_are_spaces : (rooms : List Room) → IsRoomed bind c rooms → (y : Path) (b : Body) → c.body y ≡ Some b → is_among y (all_made rooms []) ≡ false → IsSpace y
+  pub others_are_spaces : (rooms : List Room) → IsRoomed bind c rooms → (y : Path) (b : Body) → c.body y ≡ Some b → is_among y (all_made rooms []) ≡ false
+      → IsSpace y
   others_are_spaces rooms its [] b e off = record { holder = None; is = its.root }
   others_are_spaces rooms its (k ∷ q) b e off = by (is_among (k ∷ q) (all_made rooms (with_spaces rooms []))) refl
     where
       -- it is among the items, or among the spaces
-      either : (rs : List Room) (made : List Path) → is_among (k ∷ q) (all_made rs made) ≡ true → (is_among (k ∷ q) (all_made rs []) ≡ true) ⊎ (is_among (k ∷ q) made ≡ true)
+      either : (rs : List Room) (made : List Path) → is_among (k ∷ q) (all_made rs made) ≡ true
+          → (is_among (k ∷ q) (all_made rs []) ≡ true) ⊎ (is_among (k ∷ q) made ≡ true)
       either rs made h = from (is_among (k ∷ q) made) refl
         where
           from : (t : Bool) → is_among (k ∷ q) made ≡ t → (is_among (k ∷ q) (all_made rs []) ≡ true) ⊎ (is_among (k ∷ q) made ≡ true)
@@ -109,19 +116,22 @@ module _ (bind : ℕ → ℕ) (c : World) where
 
   -- ---- a pass is done
 
-  pub pass_done : (rooms : List Room) → IsRoomed bind c rooms → (new old : Mask) → new.holder ≡ old.holder → leading bind c new old (all_made rooms []) ≡ leading bind c new new []
+  pub pass_done : (rooms : List Room) → IsRoomed bind c rooms → (new old : Mask) → new.holder ≡ old.holder
+      → leading bind c new old (all_made rooms []) ≡ leading bind c new new []
   pass_done rooms its new old same = λ i. record { body = λ y. by y (c.body y) refl i; page = c.page; next = 0 }
     where
       space_same : (y : Path) (holder : Option Ptr) → bound bind old y (Space 0 holder) ≡ bound bind new y (Space 0 holder)
       space_same y holder = rw (sym same) refl
 
-      either : (y : Path) (b : Body) → c.body y ≡ Some b → (t : Bool) → is_among y (all_made rooms []) ≡ t → cond t (bound bind new y b) (bound bind old y b) ≡ bound bind new y b
+      either : (y : Path) (b : Body) → c.body y ≡ Some b → (t : Bool) → is_among y (all_made rooms []) ≡ t
+          → cond t (bound bind new y b) (bound bind old y b) ≡ bound bind new y b
       either y b e true h = refl
       either y b e false h =
           let space = others_are_spaces rooms its y b e h in
           let is : b ≡ Space 0 space.holder = let both = sym e ∙ space.is in cc in
           rw is (space_same y space.holder)
 
-      by : (y : Path) (o : Option Body) → c.body y ≡ o → option_map (λ b. cond (is_among y (all_made rooms [])) (bound bind new y b) (bound bind old y b)) o ≡ option_map (bound bind new y) o
+      by : (y : Path) (o : Option Body) → c.body y ≡ o
+          → option_map (λ b. cond (is_among y (all_made rooms [])) (bound bind new y b) (bound bind old y b)) o ≡ option_map (bound bind new y) o
       by y None e = refl
       by y (Some b) e = ap Some (either y b e (is_among y (all_made rooms [])) refl)

@@ -77,7 +77,8 @@ module _ (nester : Path) (slot birth : ℕ) where
       by false e = refl
       by true e = absurd (at nester refl e)
 
-  swept_birth : (x y : Path) (number : ℕ) (o : Option Body) → and_then birth_of o ≡ Some number → and_then birth_of (option_map (through (death_sweep x) y) o) ≡ Some number
+  swept_birth : (x y : Path) (number : ℕ) (o : Option Body) → and_then birth_of o ≡ Some number
+      → and_then birth_of (option_map (through (death_sweep x) y) o) ≡ Some number
   swept_birth x y number (Some (Space birth holder)) h = h
   swept_birth x y number (Some (Thread_of t)) h = cc
   swept_birth x y number (Some (Mutex locked)) h = cc
@@ -94,8 +95,10 @@ module _ (nester : Path) (slot birth : ℕ) where
   was f None h = cc
 
   -- a change of what is near
-  on_path : (v : World) → Tidied v → (x : Path) → is_near nester slot x ≡ true → (f : Option Body → Option Body) (g : Path → Option Body → Option Body) (s : Path) (k : ℕ) → is_scratch s (k ∷ s) ≡ true →
-      ((y : Path) (o : Option Body) → IsSome (g y o) → IsSome o) → (t : Bool) → same_path (k ∷ s) x ≡ t → IsSome (cond t (f (v.body (k ∷ s))) (g (k ∷ s) (v.body (k ∷ s)))) → is_near nester slot (k ∷ s) ≡ true
+  on_path : (v : World) → Tidied v → (x : Path) → is_near nester slot x ≡ true
+      → (f : Option Body → Option Body) (g : Path → Option Body → Option Body) (s : Path) (k : ℕ) → is_scratch s (k ∷ s) ≡ true →
+      ((y : Path) (o : Option Body) → IsSome (g y o) → IsSome o) → (t : Bool) → same_path (k ∷ s) x ≡ t
+      → IsSome (cond t (f (v.body (k ∷ s))) (g (k ∷ s) (v.body (k ∷ s)))) → is_near nester slot (k ∷ s) ≡ true
   on_path v its x near f g s k is back true e live = let here = same_path_eq (k ∷ s) x e in subst (λ (y : Path). is_near nester slot y ≡ true) (sym here) near
   on_path v its x near f g s k is back false e live = its.near s k is (back (k ∷ s) (v.body (k ∷ s)) live)
 
@@ -115,7 +118,8 @@ module _ (nester : Path) (slot birth : ℕ) where
   }
   change_tidied (Kill x) v near its = record {
     named = rw (not_there nester slot x nester near nester_inside nester_scratch) (swept_birth x nester birth (v.body nester) its.named);
-    near = λ s k is live. on_path v its x near (λ o. None) (λ y o. option_map (through (death_sweep x) y) o) s k is (λ y o h. was (through (death_sweep x) y) o h) (same_path (k ∷ s) x) refl live;
+    near = λ s k is live. on_path v its x near (λ o. None) (λ y o. option_map (through (death_sweep x) y) o) s k is
+        (λ y o h. was (through (death_sweep x) y) o h) (same_path (k ∷ s) x) refl live;
   }
   change_tidied (PutPage space page words) v near its = record { named = its.named; near = its.near }
   change_tidied (DropPage space page) v near its = absurd near
@@ -129,7 +133,8 @@ module _ (nester : Path) (slot birth : ℕ) where
   pub tidied_near : (v : World) (e : Event) → IsNearCall nester slot v e → Tidied v → Tidied (after v e)
   tidied_near v e near its = subst Tidied (sym near.world) (changes_tidied near.changes v near.near its)
 
-  pub tidied_emptied : (v : World) (valid : IsValid v) (xs : List Path) (its : IsEmptied nester slot v xs) → Tidied v → Tidied (left_world nester slot v valid xs its)
+  pub tidied_emptied : (v : World) (valid : IsValid v) (xs : List Path) (its : IsEmptied nester slot v xs) → Tidied v
+      → Tidied (left_world nester slot v valid xs its)
   tidied_emptied v valid xs its tidied = record {
     named = nester_named nester slot v valid xs its birth tidied.named;
     near = λ s k is live. tidied.near s k is (was_there nester slot v valid xs its (k ∷ s) live);
@@ -144,8 +149,10 @@ module _ (nester : Path) (slot birth : ℕ) where
       rw (high, both.1) refl
 
   -- where neither the new space nor the nester has any, no space has
-  pub clean_from : (v : World) → slot ≤ LAST_USER_SLOT → Tidied v → ((k : ℕ) (q : Path) → is_scratch_slot k ≡ true → v.body (k ∷ (q ++ root)) ≡ None) → ((k : ℕ) → is_scratch nester (k ∷ nester) ≡ true → v.body (k ∷ nester) ≡ None) → IsClean v
-  clean_from v low its inside own s k is = empty_from (v.body (k ∷ s)) (λ live. by live (or_cases (is_within root (k ∷ s)) (is_scratch nester (k ∷ s)) (its.near s k is live)))
+  pub clean_from : (v : World) → slot ≤ LAST_USER_SLOT → Tidied v → ((k : ℕ) (q : Path) → is_scratch_slot k ≡ true → v.body (k ∷ (q ++ root)) ≡ None)
+      → ((k : ℕ) → is_scratch nester (k ∷ nester) ≡ true → v.body (k ∷ nester) ≡ None) → IsClean v
+  clean_from v low its inside own s k is = empty_from (v.body (k ∷ s))
+      (λ live. by live (or_cases (is_within root (k ∷ s)) (is_scratch nester (k ∷ s)) (its.near s k is live)))
     where
       within : (q : Path) → k ∷ s ≡ q ++ root → v.body (k ∷ s) ≡ None
       within [] e =

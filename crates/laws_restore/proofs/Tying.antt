@@ -32,7 +32,8 @@ use Rattle.laws_restore.proofs.Halfway.{before, halfway, after, halfway_kinds, h
 use Rattle.laws_restore.proofs.Outward.{turn_back, flag_back}
 
 -- an object that is no space isn't the root
-pub kind_there_of : (w : World) (y : Path) (kind : Kind) → there w [] ≡ Some kinds.Space → there w y ≡ Some kind → (kind ≡ kinds.Space → ⊥) → IsKindThere w y kind
+pub kind_there_of : (w : World) (y : Path) (kind : Kind) → there w [] ≡ Some kinds.Space → there w y ≡ Some kind → (kind ≡ kinds.Space → ⊥)
+    → IsKindThere w y kind
 kind_there_of w [] kind top is apart = let both = sym top ∙ is in let same : kinds.Space ≡ kind = cc in absurd (apart (sym same))
 kind_there_of w (k ∷ q) kind top is apart = by (w.body (k ∷ q)) refl is
   where
@@ -67,7 +68,8 @@ module _ (bind : ℕ → ℕ) (c : World) (root : c.body [] ≡ Some (Space 0 No
   unfolding edited
   raise_set y t fault port e p s = rw (e, p, s, flag_back fault.write) refl
 
-  taken_set : (y : Path) (t : Thread) (fault : Fault) (port taker : Path) → t.fault ≡ Some fault → fault.port ≡ At port → fault.taker ≡ Some (Server (At taker)) →
+  taken_set : (y : Path) (t : Thread) (fault : Fault) (port taker : Path) → t.fault ≡ Some fault → fault.port ≡ At port
+      → fault.taker ≡ Some (Server (At taker)) →
       edited (SetFault (Some (inner_fault port (Some taker) (fault_words fault)))) (bound bind mid y (Thread_of t)) ≡ bound bind new y (Thread_of t)
   unfolding edited
   taken_set y t fault port taker e p s = rw (e, p, s, flag_back fault.write) refl
@@ -100,12 +102,20 @@ module _ (bind : ℕ → ℕ) (c : World) (root : c.body [] ≡ Some (Space 0 No
     top_kind : there c [] ≡ Some kinds.Space
     top_kind = ap (option_map kind_of) root
 
-    here_kind : (w : World) → ((z : Path) → there w z ≡ there c z) → (z : Path) (kind : Kind) → there c z ≡ Some kind → (kind ≡ kinds.Space → ⊥) → IsKindThere w z kind
+    here_kind : (w : World) → ((z : Path) → there w z ≡ there c z) → (z : Path) (kind : Kind) → there c z ≡ Some kind → (kind ≡ kinds.Space → ⊥)
+        → IsKindThere w z kind
     here_kind w same z kind is apart = kind_there_of w z kind (same [] ∙ top_kind) (same z ∙ is) apart
 
     -- where its talk, or its fault, is the one that a thread is to serve, that serves nobody yet
     beside : (port server : Path) → AreBeside port server → (w : World) → (g : Site) → g.built ≡ w → IsIdleIn w server → IsFree g port server
-    beside (j ∷ p) (k ∷ r) same w g built idle = record { space = p; port_slot = j; server_slot = k; port_is = refl; server_is = rw same refl; idle = rw built idle }
+    beside (j ∷ p) (k ∷ r) same w g built idle = record {
+      space = p;
+      port_slot = j;
+      server_slot = k;
+      port_is = refl;
+      server_is = rw same refl;
+      idle = rw built idle;
+    }
     beside [] server same w g built idle = absurd same
     beside (j ∷ p) [] same w g built idle = absurd same
 
@@ -123,21 +133,25 @@ module _ (bind : ℕ → ℕ) (c : World) (root : c.body [] ≡ Some (Space 0 No
     idle_from talk port server e p s =
         let there = talk_there talk server e s in
         let old_here = body_old bind c new old done y (Thread_of t) its.there anew in
-        idle_by bind c server from y (λ a b. one_service server a b) (by_talk bind c server y there) (led_talks bind c server new old done) (led_faults bind c server new old done)
+        idle_by bind c server from y (λ a b. one_service server a b) (by_talk bind c server y there) (led_talks bind c server new old done)
+        (led_faults bind c server new old done)
         (rw (old_here, e, p) refl)
-        (off_by (faults bind c server (from.body y)) (faults bind c server (c.body y)) (led_faults bind c server new old done y) (other_fault bind c server y (one_each server y) there))
+        (off_by (faults bind c server (from.body y)) (faults bind c server (c.body y)) (led_faults bind c server new old done y)
+        (other_fault bind c server y (one_each server y) there))
 
     half_talks : (server z : Path) → talks bind c server (half.body z) ≡ true → talks bind c server (c.body z) ≡ true
     half_talks server z h = by (same_path z y) refl h
       where
-        by : (b : Bool) → same_path z y ≡ b → talks bind c server (cond b (Some (bound bind mid y (Thread_of t))) (from.body z)) ≡ true → talks bind c server (c.body z) ≡ true
+        by : (b : Bool) → same_path z y ≡ b → talks bind c server (cond b (Some (bound bind mid y (Thread_of t))) (from.body z)) ≡ true
+            → talks bind c server (c.body z) ≡ true
         by true e h = let same = same_path_eq z y e in rw (same, its.there) (talks_less bind c server mid y (Thread_of t) h)
         by false e h = led_talks bind c server new old done z h
 
     half_faults : (server z : Path) → faults bind c server (half.body z) ≡ true → faults bind c server (c.body z) ≡ true
     half_faults server z h = by (same_path z y) refl h
       where
-        by : (b : Bool) → same_path z y ≡ b → faults bind c server (cond b (Some (bound bind mid y (Thread_of t))) (from.body z)) ≡ true → faults bind c server (c.body z) ≡ true
+        by : (b : Bool) → same_path z y ≡ b → faults bind c server (cond b (Some (bound bind mid y (Thread_of t))) (from.body z)) ≡ true
+            → faults bind c server (c.body z) ≡ true
         by true e h = let same = same_path_eq z y e in rw (same, its.there) (faults_less bind c server mid y (Thread_of t) h)
         by false e h = led_faults bind c server new old done z h
 
@@ -150,8 +164,10 @@ module _ (bind : ℕ → ℕ) (c : World) (root : c.body [] ≡ Some (Space 0 No
         (rw (half_here, e, p) refl)
 
     -- a talk between two inside
-    ties : (talk : Talk) (port server : Path) → t.talk ≡ Some talk → talk.port ≡ At port → talk.peer ≡ Server (At server) → GivesTalk (Some talk) → IsPair bind c (At port) (Server (At server)) →
-        Leaves slot Safe from q None half q None (leads_to_at slot T q port ++ (leads_to_at slot U q server ++ LinksTalk P q x T U port server (talk_words talk) ∷ []))
+    ties : (talk : Talk) (port server : Path) → t.talk ≡ Some talk → talk.port ≡ At port → talk.peer ≡ Server (At server) → GivesTalk (Some talk)
+        → IsPair bind c (At port) (Server (At server)) →
+        Leaves slot Safe from q None half q None (leads_to_at slot T q port
+        ++ (leads_to_at slot U q server ++ LinksTalk P q x T U port server (talk_words talk) ∷ []))
     unfolding apply
     ties talk port server e p s told aim g good =
         let edit = SetTalk (Some (inner_talk port server (talk_words talk))) in
@@ -160,7 +176,8 @@ module _ (bind : ℕ → ℕ) (c : World) (root : c.body [] ≡ Some (Space 0 No
         let site = to_server.site in
         let at_port : site.spot T ≡ Some (To (At port)) = to_server.others T refl ∙ to_port.to in
         let built = to_server.good.built in
-        let next = ordered slot Safe from half q None site (LinksTalk P q x T U port server (talk_words talk)) (apply (Alter y edit) site.built) to_server.good refl refl
+        let next = ordered slot Safe from half q None site (LinksTalk P q x T U port server (talk_words talk))
+        (apply (Alter y edit) site.built) to_server.good refl refl
         (ap (apply (Alter y edit)) built ∙ edit_half bind c new mid old done y (Thread_of t) its.there anew edit (talk_set y t talk port server e p s))
         (record {
           place = place_of slot Safe from q None site to_server.good (from_kinds q ∙ space);
@@ -181,13 +198,15 @@ module _ (bind : ℕ → ℕ) (c : World) (root : c.body [] ≡ Some (Space 0 No
         }
 
     talk_out : (talk : Talk) (j : ℕ) → t.talk ≡ Some talk → talk.port ≡ Out j → j ≤ LAST_USER_SLOT → Leaves slot Safe from q None half q None []
-    talk_out talk j e p low = leaves_none slot Safe from half q None (to_half bind c new mid old done y (Thread_of t) its.there anew (rw (e, p, all_below j low) refl))
+    talk_out talk j e p low = leaves_none slot Safe from half q None
+        (to_half bind c new mid old done y (Thread_of t) its.there anew (rw (e, p, all_below j low) refl))
 
     talk_step : (o : Option Talk) → t.talk ≡ o → GivesTalk o → IsTalkAim bind c o → Leaves slot Safe from q None half q None (ties_its_talk slot q x o)
     talk_step None e told aim = leaves_none slot Safe from half q None (to_half bind c new mid old done y (Thread_of t) its.there anew (rw e refl))
     talk_step (Some talk) e told aim = by talk.port talk.peer refl refl aim
       where
-        by : (port : Ptr) (peer : Peer) → talk.port ≡ port → talk.peer ≡ peer → IsPair bind c port peer → Leaves slot Safe from q None half q None (ties_talk slot q x talk port peer)
+        by : (port : Ptr) (peer : Peer) → talk.port ≡ port → talk.peer ≡ peer → IsPair bind c port peer
+            → Leaves slot Safe from q None half q None (ties_talk slot q x talk port peer)
         by (At port) (Server (At server)) p s aim = ties talk port server e p s told aim
         by (Out j) (Server Outside) p s aim = talk_out talk j e p aim.0
         by (At port) (Server Null) p s aim = absurd aim
@@ -209,7 +228,8 @@ module _ (bind : ℕ → ℕ) (c : World) (root : c.body [] ≡ Some (Space 0 No
         by Outside peer p s aim = absurd aim
         by Far peer p s aim = absurd aim
 
-    raises : (fault : Fault) (port : Path) → t.fault ≡ Some fault → fault.port ≡ At port → fault.taker ≡ None → GivesFault (Some fault) → IsWay (there c) port × (there c port ≡ Some kinds.Port) →
+    raises : (fault : Fault) (port : Path) → t.fault ≡ Some fault → fault.port ≡ At port → fault.taker ≡ None → GivesFault (Some fault)
+        → IsWay (there c) port × (there c port ≡ Some kinds.Port) →
         Leaves slot Safe half q None to q None (leads_to_at slot T q port ++ RaisesFault P q x T port (fault_words fault) ∷ [])
     unfolding apply
     raises fault port e p s told aim g good =
@@ -230,8 +250,10 @@ module _ (bind : ℕ → ℕ) (c : World) (root : c.body [] ≡ Some (Space 0 No
         told in
         record { site = next.site; runs = on slot Safe g site next.site _ _ to_port.runs next.runs; good = next.good }
 
-    takes : (fault : Fault) (port taker : Path) → t.fault ≡ Some fault → fault.port ≡ At port → fault.taker ≡ Some (Server (At taker)) → GivesFault (Some fault) → IsPair bind c (At port) (Server (At taker)) →
-        Leaves slot Safe half q None to q None (leads_to_at slot T q port ++ (leads_to_at slot U q taker ++ LinksFault P q x T U port taker (fault_words fault) ∷ []))
+    takes : (fault : Fault) (port taker : Path) → t.fault ≡ Some fault → fault.port ≡ At port → fault.taker ≡ Some (Server (At taker))
+        → GivesFault (Some fault) → IsPair bind c (At port) (Server (At taker)) →
+        Leaves slot Safe half q None to q None (leads_to_at slot T q port
+        ++ (leads_to_at slot U q taker ++ LinksFault P q x T U port taker (fault_words fault) ∷ []))
     unfolding apply
     takes fault port taker e p s told aim g good =
         let edit = SetFault (Some (inner_fault port (Some taker) (fault_words fault))) in
@@ -241,7 +263,8 @@ module _ (bind : ℕ → ℕ) (c : World) (root : c.body [] ≡ Some (Space 0 No
         let site = to_taker.site in
         let at_port : site.spot T ≡ Some (To (At port)) = to_taker.others T refl ∙ to_port.to in
         let built = to_taker.good.built in
-        let next = ordered slot Safe half to q None site (LinksFault P q x T U port taker (fault_words fault)) (apply (Alter y edit) site.built) to_taker.good refl refl
+        let next = ordered slot Safe half to q None site (LinksFault P q x T U port taker (fault_words fault))
+        (apply (Alter y edit) site.built) to_taker.good refl refl
         (ap (apply (Alter y edit)) built ∙ edit_rest bind c new mid old done y (Thread_of t) its.there anew edit (taken_set y t fault port taker e p s))
         (record {
           place = place_of slot Safe half q None site to_taker.good (half_kinds q ∙ space);
@@ -262,13 +285,15 @@ module _ (bind : ℕ → ℕ) (c : World) (root : c.body [] ≡ Some (Space 0 No
         }
 
     fault_out : (fault : Fault) (j : ℕ) → t.fault ≡ Some fault → fault.port ≡ Out j → j ≤ LAST_USER_SLOT → Leaves slot Safe half q None to q None []
-    fault_out fault j e p low = leaves_none slot Safe half to q None (from_half bind c new mid old done y (Thread_of t) its.there anew (rw (e, p, all_below j low) refl))
+    fault_out fault j e p low = leaves_none slot Safe half to q None
+        (from_half bind c new mid old done y (Thread_of t) its.there anew (rw (e, p, all_below j low) refl))
 
     fault_step : (o : Option Fault) → t.fault ≡ o → GivesFault o → IsFaultAim bind c o → Leaves slot Safe half q None to q None (ties_its_fault slot q x o)
     fault_step None e told aim = leaves_none slot Safe half to q None (from_half bind c new mid old done y (Thread_of t) its.there anew (rw e refl))
     fault_step (Some fault) e told aim = by fault.port fault.taker refl refl aim
       where
-        by : (port : Ptr) (taker : Option Peer) → fault.port ≡ port → fault.taker ≡ taker → IsTakenAim bind c port taker → Leaves slot Safe half q None to q None (ties_fault slot q x fault port taker)
+        by : (port : Ptr) (taker : Option Peer) → fault.port ≡ port → fault.taker ≡ taker → IsTakenAim bind c port taker
+            → Leaves slot Safe half q None to q None (ties_fault slot q x fault port taker)
         by (At port) None p s aim = raises fault port e p s told aim
         by (At port) (Some (Server (At taker))) p s aim = takes fault port taker e p s told aim
         by (Out j) None p s aim = fault_out fault j e p aim.0
@@ -297,7 +322,8 @@ module _ (bind : ℕ → ℕ) (c : World) (root : c.body [] ≡ Some (Space 0 No
         by Far (Some peer) p s aim = absurd aim
 
     thread_tied : Leaves slot Safe from q None to q None (ties_its_talk slot q x t.talk ++ ties_its_fault slot q x t.fault)
-    thread_tied = leaves_on slot Safe from q None half q None to q None (ties_its_talk slot q x t.talk) (ties_its_fault slot q x t.fault) (talk_step t.talk refl its.told.0 its.aims.0) (fault_step t.fault refl its.told.1 its.aims.1)
+    thread_tied = leaves_on slot Safe from q None half q None to q None (ties_its_talk slot q x t.talk) (ties_its_fault slot q x t.fault)
+        (talk_step t.talk refl its.told.0 its.aims.0) (fault_step t.fault refl its.told.1 its.aims.1)
 
   -- ---- what leads inside, or out, is led already
 
@@ -313,7 +339,8 @@ module _ (bind : ℕ → ℕ) (c : World) (root : c.body [] ≡ Some (Space 0 No
   talk_alike None aim off = refl
   talk_alike (Some talk) aim off = by talk.port talk.peer refl aim off
     where
-      by : (p : Ptr) (peer : Peer) → talk.port ≡ p → IsPair bind c p peer → is_talk_inside (Some talk) ≡ false → shown_talk (is_out_below 240) (Some talk) ≡ shown_talk anywhere (Some talk)
+      by : (p : Ptr) (peer : Peer) → talk.port ≡ p → IsPair bind c p peer → is_talk_inside (Some talk) ≡ false
+          → shown_talk (is_out_below 240) (Some talk) ≡ shown_talk anywhere (Some talk)
       by (Out j) (Server Outside) e aim off = rw (e, all_below j aim.0) refl
       by (At z) peer e aim off = let on : is_talk_inside (Some talk) ≡ true = rw e refl in let both = sym on ∙ off in cc
       by (Out j) (Server Null) e aim off = absurd aim
@@ -335,7 +362,8 @@ module _ (bind : ℕ → ℕ) (c : World) (root : c.body [] ≡ Some (Space 0 No
       shown : (j : ℕ) → fault.port ≡ Out j → j ≤ LAST_USER_SLOT → shown_fault (is_out_below 240) (Some fault) ≡ shown_fault anywhere (Some fault)
       shown j e low = rw (e, all_below j low) refl
 
-      by : (p : Ptr) (taker : Option Peer) → fault.port ≡ p → IsTakenAim bind c p taker → is_fault_inside (Some fault) ≡ false → shown_fault (is_out_below 240) (Some fault) ≡ shown_fault anywhere (Some fault)
+      by : (p : Ptr) (taker : Option Peer) → fault.port ≡ p → IsTakenAim bind c p taker → is_fault_inside (Some fault) ≡ false
+          → shown_fault (is_out_below 240) (Some fault) ≡ shown_fault anywhere (Some fault)
       by (Out j) None e aim off = shown j e aim.0
       by (Out j) (Some (Server Outside)) e aim off = shown j e aim.0
       by (At z) taker e aim off = let on : is_fault_inside (Some fault) ≡ true = rw e refl in let both = sym on ∙ off in cc
@@ -363,17 +391,21 @@ module _ (bind : ℕ → ℕ) (c : World) (root : c.body [] ≡ Some (Space 0 No
   tie_idle q x (Mapping w) its off = rw (pointer_alike (Mapping w) w.region its.aims) refl
   tie_idle q x (Region r) its off = rw (pointer_alike (Region r) r.keeper its.aims) refl
   tie_idle q x (Reference to) its off = rw (pointer_alike (Reference to) to its.aims) refl
-  tie_idle q x (Thread_of t) its off = let both = or_off (is_talk_inside t.talk) (is_fault_inside t.fault) off in rw (talk_alike t.talk its.aims.0 both.0, fault_alike t.fault its.aims.1 both.1) refl
+  tie_idle q x (Thread_of t) its off = let both = or_off (is_talk_inside t.talk) (is_fault_inside t.fault) off in
+      rw (talk_alike t.talk its.aims.0 both.0, fault_alike t.fault its.aims.1 both.1) refl
   tie_idle q x (Mutex locked) its off = refl
   tie_idle q x Cond its off = refl
   tie_idle q x (Port set served) its off = refl
   tie_idle q x Portset its off = refl
   tie_idle q x (Space birth holder) its off = refl
 
-  quiet : (q : Path) (x : ℕ) (b : Body) (done : List Path) → IsAble bind c q x b → ties_inside b ≡ false → Leaves slot Safe (world done) q None (world ((x ∷ q) ∷ done)) q None []
-  quiet q x b done its off = leaves_none slot Safe (world done) (world ((x ∷ q) ∷ done)) q None (led_alike bind c new old done (x ∷ q) b its.there (tie_idle q x b its off))
+  quiet : (q : Path) (x : ℕ) (b : Body) (done : List Path) → IsAble bind c q x b → ties_inside b ≡ false
+      → Leaves slot Safe (world done) q None (world ((x ∷ q) ∷ done)) q None []
+  quiet q x b done its off = leaves_none slot Safe (world done) (world ((x ∷ q) ∷ done)) q None
+      (led_alike bind c new old done (x ∷ q) b its.there (tie_idle q x b its off))
 
-  pub tie_item : (q : Path) (x : ℕ) (b : Body) (done : List Path) → there c q ≡ Some kinds.Space → IsWay (there c) q → IsAble bind c q x b → is_among (x ∷ q) done ≡ false →
+  pub tie_item : (q : Path) (x : ℕ) (b : Body) (done : List Path) → there c q ≡ Some kinds.Space → IsWay (there c) q → IsAble bind c q x b
+      → is_among (x ∷ q) done ≡ false →
       Leaves slot Safe (world done) q None (world ((x ∷ q) ∷ done)) q None (ties_body slot q x b)
   tie_item q x (Thread_of t) done space way its anew = thread_tied q x t done space its anew
   tie_item q x (Mapping w) done space way its anew = quiet q x (Mapping w) done its refl

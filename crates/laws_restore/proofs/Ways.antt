@@ -131,23 +131,40 @@ module _ (slot : ℕ) (Safe : ℕ → Site → Type 0) where
     pub others : (k : ℕ) → eqb k r ≡ false → site.spot k ≡ g.spot k
 
   pub top : (g : Site) (r : ℕ) → is_ref_slot r ≡ true → IsSome (g.spot r) → Walked g r [] (LeadsTop r ∷ [])
-  top g r is ready = record { site = does (LeadsTop r) g; runs = one g (LeadsTop r) (is, ready) tt refl; built = refl; pin = refl; at = rw (eq-eqb r r refl) refl; others = λ k off. rw off refl }
+  top g r is ready = record {
+    site = does (LeadsTop r) g;
+    runs = one g (LeadsTop r) (is, ready) tt refl;
+    built = refl;
+    pin = refl;
+    at = rw (eq-eqb r r refl) refl;
+    others = λ k off. rw off refl;
+  }
 
   -- one step down, from a space that is named
-  first_step : (g : Site) (r s k : ℕ) (q : Path) → is_ref_slot r ≡ true → IsSome (g.spot r) → Named g slot s q → IsWay (there g.built) (k ∷ q) → Walked g r (k ∷ q) (Leads r s q k ∷ [])
+  first_step : (g : Site) (r s k : ℕ) (q : Path) → is_ref_slot r ≡ true → IsSome (g.spot r) → Named g slot s q → IsWay (there g.built) (k ∷ q)
+      → Walked g r (k ∷ q) (Leads r s q k ∷ [])
   first_step g r s k q is ready named way =
       let object = object_of g.built (k ∷ q) (g.built.body (k ∷ q)) refl way.0 in
       let place : IsPlace g slot s q = record { named = named; space = space_kind (g.built.body q) way.2 } in
       record {
         site = does (Leads r s q k) g;
-        runs = one g (Leads r s q k) (record { scratch = is; ready = ready; place = place; low = way.1; object = object.body; there = object.there; leads = object.leads }) tt refl;
+        runs = one g (Leads r s q k) (record {
+          scratch = is;
+          ready = ready;
+          place = place;
+          low = way.1;
+          object = object.body;
+          there = object.there;
+          leads = object.leads;
+        }) tt refl;
         built = refl;
         pin = refl;
         at = rw (eq-eqb r r refl) refl;
         others = λ k off. rw off refl;
       }
 
-  deeper : (g : Site) (r k : ℕ) (q : Path) (os : List Order) → is_ref_slot r ≡ true → Walked g r q os → IsWay (there g.built) (k ∷ q) → Walked g r (k ∷ q) (os ++ Leads r r q k ∷ [])
+  deeper : (g : Site) (r k : ℕ) (q : Path) (os : List Order) → is_ref_slot r ≡ true → Walked g r q os → IsWay (there g.built) (k ∷ q)
+      → Walked g r (k ∷ q) (os ++ Leads r r q k ∷ [])
   deeper g r k q os is up way =
       let next = first_step up.site r r k q is (rw up.at refl) (ByScratch r q is up.at) (subst (λ (c : World). IsWay (there c) (k ∷ q)) (sym up.built) way) in
       record {
@@ -159,12 +176,14 @@ module _ (slot : ℕ) (Safe : ℕ → Site → Type 0) where
         others = λ j off. next.others j off ∙ up.others j off;
       }
 
-  pub downs : (g : Site) (r s : ℕ) (q : Path) (k : ℕ) (w : Path) → is_ref_slot r ≡ true → IsSome (g.spot r) → Named g slot s q → IsWay (there g.built) ((k ∷ w) ++ q) → Walked g r ((k ∷ w) ++ q) (down r s q (k ∷ w))
+  pub downs : (g : Site) (r s : ℕ) (q : Path) (k : ℕ) (w : Path) → is_ref_slot r ≡ true → IsSome (g.spot r) → Named g slot s q
+      → IsWay (there g.built) ((k ∷ w) ++ q) → Walked g r ((k ∷ w) ++ q) (down r s q (k ∷ w))
   unfolding down
   downs g r s q k [] is ready named way = first_step g r s k q is ready named way
   downs g r s q k (j ∷ w) is ready named way = deeper g r k ((j ∷ w) ++ q) (down r s q (j ∷ w)) is (downs g r s q j w is ready named way.3) way
 
-  pub root_downs : (g : Site) (r k : ℕ) (z : Path) → is_ref_slot r ≡ true → IsSome (g.spot r) → IsWay (there g.built) (k ∷ z) → Walked g r (k ∷ z) (root_down slot r (k ∷ z))
+  pub root_downs : (g : Site) (r k : ℕ) (z : Path) → is_ref_slot r ≡ true → IsSome (g.spot r) → IsWay (there g.built) (k ∷ z)
+      → Walked g r (k ∷ z) (root_down slot r (k ∷ z))
   unfolding root_down
   root_downs g r k [] is ready way = first_step g r slot k [] is ready ByRoot way
   root_downs g r k (j ∷ z) is ready way = deeper g r k (j ∷ z) (root_down slot r (j ∷ z)) is (root_downs g r j z is ready way.3) way
@@ -190,7 +209,8 @@ module _ (slot : ℕ) (Safe : ℕ → Site → Type 0) where
           (downs g P P p k w refl (rw at refl) (ByScratch P p refl at) (subst (λ (z : Path). IsWay (there g.built) z) is way))
 
   -- another scratch reference is led somewhere, from where P stands if it lies beneath
-  pub leads : (g : Site) (r : ℕ) (p z : Path) → is_ref_slot r ≡ true → IsSome (g.spot r) → g.spot P ≡ Some (To (At p)) → IsWay (there g.built) z → Walked g r z (leads_to_at slot r p z)
+  pub leads : (g : Site) (r : ℕ) (p z : Path) → is_ref_slot r ≡ true → IsSome (g.spot r) → g.spot P ≡ Some (To (At p)) → IsWay (there g.built) z
+      → Walked g r z (leads_to_at slot r p z)
   leads g r p z is ready at way = by (strip p z) refl
     where
       by : (o : Option Path) → strip p z ≡ o → Walked g r z (leads_by slot r p z o)

@@ -20,9 +20,11 @@ abbrev pub LiesWithin : World → ℕ → Type 0
 LiesWithin c d = (y : Path) → IsSome (c.body y) → length y ≤ d
 
 abbrev pub ScriptIsBounded : Type 0
-ScriptIsBounded = (slot : ℕ) (bind : ℕ → ℕ) (c : World) (rooms : List Room) (d : ℕ) → IsRoomed bind c rooms → LiesWithin c d → length (script slot bind rooms) ≤ 30 * ((count_of rooms + 1) * (d + 1))
+ScriptIsBounded = (slot : ℕ) (bind : ℕ → ℕ) (c : World) (rooms : List Room) (d : ℕ) → IsRoomed bind c rooms → LiesWithin c d
+    → length (script slot bind rooms) ≤ 30 * ((count_of rooms + 1) * (d + 1))
 
 -- in every run, however it ends
 abbrev pub RestoreIsBounded : Type 0
-RestoreIsBounded = (slot : ℕ) (bind : ℕ → ℕ) (c : World) (rooms : List Room) (d : ℕ) (w v : World) (nester : Path) (t : State) → IsRoomed bind c rooms → LiesWithin c d →
+RestoreIsBounded = (slot : ℕ) (bind : ℕ → ℕ) (c : World) (rooms : List Room) (d : ℕ) (w v : World) (nester : Path) (t : State) → IsRoomed bind c rooms
+    → LiesWithin c d →
     (work : AtWork (restore slot bind rooms) nester w Makes v t) → calls_made work ≤ 40 * ((count_of rooms + 1) * (d + 1))

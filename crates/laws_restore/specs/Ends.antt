@@ -25,24 +25,30 @@ EndsSo w v nester slot bind c Occupied = IsSome (w.body (slot ∷ nester)) × (v
 EndsSo w v nester slot bind c (NoPort port) = (w.body (slot ∷ nester) ≡ None) × ((q : Path) → v.body (q ++ slot ∷ nester) ≡ None)
 
 abbrev pub RestoreEndsSo : Type 0
-RestoreEndsSo = (slot birth : ℕ) (bind : ℕ → ℕ) (c : World) (rooms : List Room) (w v : World) (nester : Path) (t : State) (end : End) → slot ≤ LAST_USER_SLOT → IsRoomed bind c rooms → MayBegin w nester birth →
+RestoreEndsSo = (slot birth : ℕ) (bind : ℕ → ℕ) (c : World) (rooms : List Room) (w v : World) (nester : Path) (t : State) (end : End) → slot ≤ LAST_USER_SLOT
+    → IsRoomed bind c rooms → MayBegin w nester birth →
     AtWork (restore slot bind rooms) nester w Makes v t → (restore slot bind rooms).head t ≡ Stops end → EndsSo w v nester slot bind c end
 
 -- each of its calls is owed: fit, of a porter's words, and such as leaves a world that can be saved
 abbrev pub RestoreIsOwed : Type 0
-RestoreIsOwed = (slot birth : ℕ) (bind : ℕ → ℕ) (c : World) (rooms : List Room) (w : World) (nester : Path) → slot ≤ LAST_USER_SLOT → IsRoomed bind c rooms → MayBegin w nester birth →
+RestoreIsOwed = (slot birth : ℕ) (bind : ℕ → ℕ) (c : World) (rooms : List Room) (w : World) (nester : Path) → slot ≤ LAST_USER_SLOT → IsRoomed bind c rooms
+    → MayBegin w nester birth →
     ((stage : Stage) (words : List ℕ) → (restore slot bind rooms).head Makes ≡ Asks stage words → IsOwedCall w nester stage words) ×
-    ((v : World) (t : State) → AtWork (restore slot bind rooms) nester w Makes v t → (stage : Stage) (words : List ℕ) → (restore slot bind rooms).head t ≡ Asks stage words → IsOwedCall v nester stage words)
+    ((v : World) (t : State) → AtWork (restore slot bind rooms) nester w Makes v t → (stage : Stage) (words : List ℕ)
+    → (restore slot bind rooms).head t ≡ Asks stage words → IsOwedCall v nester stage words)
 
 -- so it is tidy: its calls are owed, its porter stays while it has one to make, and no scratch is left at its end
 abbrev pub RestoreIsTidy : Type 0
-RestoreIsTidy = (slot birth : ℕ) (bind : ℕ → ℕ) (c : World) (rooms : List Room) → slot ≤ LAST_USER_SLOT → IsRoomed bind c rooms → IsTidyJob (restore slot bind rooms) birth Makes
+RestoreIsTidy = (slot birth : ℕ) (bind : ℕ → ℕ) (c : World) (rooms : List Room) → slot ≤ LAST_USER_SLOT → IsRoomed bind c rooms
+    → IsTidyJob (restore slot bind rooms) birth Makes
 
 -- what a run wants of a restore: done, it leaves a plain subtree, which is the picture with its ports bound
 abbrev pub RestoreRestores : Type 0
-RestoreRestores = (slot birth : ℕ) (bind : ℕ → ℕ) (c : World) (rooms : List Room) → slot ≤ LAST_USER_SLOT → IsRoomed bind c rooms → Restores (restore slot bind rooms) birth slot bind c is_done Makes
+RestoreRestores = (slot birth : ℕ) (bind : ℕ → ℕ) (c : World) (rooms : List Room) → slot ≤ LAST_USER_SLOT → IsRoomed bind c rooms
+    → Restores (restore slot bind rooms) birth slot bind c is_done Makes
 
 -- it makes no more calls than its script has orders, and as many more as it takes to clear
 abbrev pub RestoreIsCounted : Type 0
-RestoreIsCounted = (slot : ℕ) (bind : ℕ → ℕ) (rooms : List Room) (w v : World) (nester : Path) (t : State) → (work : AtWork (restore slot bind rooms) nester w Makes v t) →
+RestoreIsCounted = (slot : ℕ) (bind : ℕ → ℕ) (rooms : List Room) (w v : World) (nester : Path) (t : State)
+    → (work : AtWork (restore slot bind rooms) nester w Makes v t) →
     calls_made work ≤ length (script slot bind rooms) + (objects rooms + 7)

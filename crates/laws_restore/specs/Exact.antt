@@ -23,8 +23,10 @@ use Rattle.laws_restore.specs.Restore.State.{Makes}
 
 -- its next call is ready wherever nothing outside the new space is held
 abbrev pub RestoreIsReady : Type 0
-RestoreIsReady = (slot birth : ℕ) (bind : ℕ → ℕ) (c : World) (rooms : List Room) (w v : World) (nester : Path) (t : State) (stage : Stage) (words : List ℕ) → slot ≤ LAST_USER_SLOT → IsRoomed bind c rooms → MayBegin w nester birth →
-    AtWork (restore slot bind rooms) nester w Makes v t → (restore slot bind rooms).head t ≡ Asks stage words → IsCalm (slot ∷ nester) v → IsReadyAt v (call_of nester stage words)
+RestoreIsReady = (slot birth : ℕ) (bind : ℕ → ℕ) (c : World) (rooms : List Room) (w v : World) (nester : Path) (t : State) (stage : Stage) (words : List ℕ)
+    → slot ≤ LAST_USER_SLOT → IsRoomed bind c rooms → MayBegin w nester birth →
+    AtWork (restore slot bind rooms) nester w Makes v t → (restore slot bind rooms).head t ≡ Asks stage words → IsCalm (slot ∷ nester) v
+    → IsReadyAt v (call_of nester stage words)
 
 -- ---- a missing port
 
@@ -39,16 +41,27 @@ abbrev pub IsMiss : Path → ℕ → ℕ → World → Stage → Type 0
 IsMiss nester slot j w stage = (stage ≡ stage_of slot (Pins j)) × (is_port (w.body (j ∷ nester)) ≡ false)
 
 -- somewhere in a run it is
-abbrev pub Misses : (slot : ℕ) (bind : ℕ → ℕ) (rooms : List Room) (j : ℕ) {nester : Path} {w : World} {s : State} {es : List Event} {v : World} {t : State} → Interleaved (restore slot bind rooms) nester w s es v t → Type 0
+abbrev pub Misses : (slot : ℕ) (bind : ℕ → ℕ) (rooms : List Room) (j : ℕ) {nester : Path} {w : World} {s : State} {es : List Event} {v : World} {t : State}
+    → Interleaved (restore slot bind rooms) nester w s es v t → Type 0
 Misses slot bind rooms j (Here w s sound) = ⊥
 Misses slot bind rooms j (Another w s e es v t sound works move rest) = Misses slot bind rooms j rest
 Misses slot bind rooms j {nester} (Own w s stage words es v t sound asked ready rest) = IsMiss nester slot j w stage ⊎ Misses slot bind rooms j rest
 
--- a restore ends so exactly where it leads to a slot in which no port stands, and tells the lowest slot of the image bound there
+-- and the first time that it is led there
+abbrev pub MissesFirst : (slot : ℕ) (bind : ℕ → ℕ) (rooms : List Room) (j : ℕ) {nester : Path} {w : World} {s : State} {es : List Event} {v : World} {t : State}
+    → Interleaved (restore slot bind rooms) nester w s es v t → Type 0
+MissesFirst slot bind rooms j (Here w s sound) = ⊥
+MissesFirst slot bind rooms j (Another w s e es v t sound works move rest) = MissesFirst slot bind rooms j rest
+MissesFirst slot bind rooms j {nester} (Own w s stage words es v t sound asked ready rest) =
+    IsMiss nester slot j w stage ⊎ ((stage ≡ stage_of slot (Pins j) → ⊥) × MissesFirst slot bind rooms j rest)
+
+-- a restore ends so exactly where it leads to a slot in which no port stands, which it does when it first leads there; and it tells
+-- the lowest slot of the image bound there
 pub record EndsByMiss (slot : ℕ) (bind : ℕ → ℕ) (rooms : List Room) {nester : Path} {w : World} {s : State} {es : List Event} {v : World} {t : State} (run : Interleaved (restore slot bind rooms) nester w s es v t) (end : End) : Type 0 where
-  pub missed : (port : ℕ) → end ≡ NoPort port → IsLowest bind rooms port × Misses slot bind rooms (bind port) run
+  pub missed : (port : ℕ) → end ≡ NoPort port → IsLowest bind rooms port × MissesFirst slot bind rooms (bind port) run
   pub told : (j : ℕ) → Misses slot bind rooms j run → (port : ℕ) × (end ≡ NoPort port) × IsLowest bind rooms port × (bind port ≡ j)
 
 abbrev pub NoPortIsExact : Type 0
-NoPortIsExact = (slot birth : ℕ) (bind : ℕ → ℕ) (c : World) (rooms : List Room) (w v : World) (nester : Path) (t : State) (end : End) → slot ≤ LAST_USER_SLOT → IsRoomed bind c rooms → MayBegin w nester birth →
+NoPortIsExact = (slot birth : ℕ) (bind : ℕ → ℕ) (c : World) (rooms : List Room) (w v : World) (nester : Path) (t : State) (end : End) → slot ≤ LAST_USER_SLOT
+    → IsRoomed bind c rooms → MayBegin w nester birth →
     (work : AtWork (restore slot bind rooms) nester w Makes v t) → (restore slot bind rooms).head t ≡ Stops end → EndsByMiss slot bind rooms work.run end

@@ -30,7 +30,13 @@ small_client = Thread_of (record {
 })
 
 abbrev pub small_server : Body
-small_server = Thread_of (record { mode = Running (replicate 16 0); counter = 0; stops = 2; talk = None; fault = Some (record { port = Out 9; taker = None; page = 5; write = true }) })
+small_server = Thread_of (record {
+  mode = Running (replicate 16 0);
+  counter = 0;
+  stops = 2;
+  talk = None;
+  fault = Some (record { port = Out 9; taker = None; page = 5; write = true });
+})
 
 abbrev pub small_at : Path → Option Body
 small_at y =
@@ -49,12 +55,19 @@ abbrev pub outer_room : Room
 outer_room = record {
   path = [];
   holder = None;
-  items = record { slot = 1; body = Port None false } ∷ record { slot = 2; body = small_region } ∷ record { slot = 3; body = small_client } ∷ record { slot = 4; body = small_server } ∷ [];
+  items = record { slot = 1; body = Port None false } ∷ record { slot = 2; body = small_region } ∷ record { slot = 3; body = small_client }
+      ∷ record { slot = 4; body = small_server } ∷ [];
   sheets = [];
 }
 
 abbrev pub inner_room : Room
-inner_room = record { path = 5 ∷ []; holder = Some (At (3 ∷ [])); items = record { slot = 0; body = Reference Dead } ∷ []; sheets = record { number = 7; words = replicate 64 6 } ∷ [] }
+inner_room = record {
+  path = 5 ∷ [];
+  holder = Some (At (3 ∷ []));
+  items = record { slot = 0; body = Reference Dead }
+      ∷ [];
+  sheets = record { number = 7; words = replicate 64 6 } ∷ [];
+}
 
 abbrev pub small_rooms : List Room
 small_rooms = outer_room ∷ inner_room ∷ []

@@ -28,11 +28,13 @@ ScriptMakes = (slot : ℕ) (bind : ℕ → ℕ) (c : World) (rooms : List Room) 
 
 -- whatever others do between its calls, a restorer that comes to its end has made the subtree, and left nothing else
 abbrev pub RestoresPicture : Type 0
-RestoresPicture = (nester : Path) (slot : ℕ) (bind : ℕ → ℕ) (c : World) (rooms : List Room) (es : List Event) (w v : World) (t : State) → IsRoomed bind c rooms → Shows nester slot first w →
+RestoresPicture = (nester : Path) (slot : ℕ) (bind : ℕ → ℕ) (c : World) (rooms : List Room) (es : List Event) (w v : World) (t : State)
+    → IsRoomed bind c rooms → Shows nester slot first w →
     Interleaved (restorer slot) nester w (Working (script slot bind rooms)) es v t → head slot t ≡ Stops Done →
     (cut v nester slot ≡ rebound bind c) × ((k : ℕ) → is_scratch nester (k ∷ nester) ≡ true → v.body (k ∷ nester) ≡ None)
 
 -- and it never gets an answer for which it has no end
 abbrev pub NeverLost : Type 0
-NeverLost = (nester : Path) (slot : ℕ) (bind : ℕ → ℕ) (c : World) (rooms : List Room) (es : List Event) (w v : World) (t : State) → IsRoomed bind c rooms → Shows nester slot first w →
+NeverLost = (nester : Path) (slot : ℕ) (bind : ℕ → ℕ) (c : World) (rooms : List Room) (es : List Event) (w v : World) (t : State) → IsRoomed bind c rooms
+    → Shows nester slot first w →
     Interleaved (restorer slot) nester w (Working (script slot bind rooms)) es v t → head slot t ≡ Stops Lost → ⊥

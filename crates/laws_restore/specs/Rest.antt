@@ -24,11 +24,13 @@ pub record IsSameFar (nester : Path) (slot : ℕ) (v u : World) : Type 0 where
 -- its first call leaves the rest, and so does each later one, also where it destroys what it has made
 pub record LeavesFar (slot : ℕ) (bind : ℕ → ℕ) (rooms : List Room) (w : World) (nester : Path) : Type 0 where
   pub first : IsReadyAt w (call_of nester (SpaceMakeHeld slot) no_words) → IsSameFar nester slot w (after w (call_of nester (SpaceMakeHeld slot) no_words))
-  pub later : (v : World) (t : State) (stage : Stage) (words : List ℕ) → AtWork (restore slot bind rooms) nester w Makes v t → (restore slot bind rooms).head t ≡ Asks stage words →
+  pub later : (v : World) (t : State) (stage : Stage) (words : List ℕ) → AtWork (restore slot bind rooms) nester w Makes v t
+      → (restore slot bind rooms).head t ≡ Asks stage words →
       IsReadyAt v (call_of nester stage words) → IsSameFar nester slot v (after v (call_of nester stage words))
 
 abbrev pub RestoreLeavesFar : Type 0
-RestoreLeavesFar = (slot birth : ℕ) (bind : ℕ → ℕ) (c : World) (rooms : List Room) (w : World) (nester : Path) → slot ≤ LAST_USER_SLOT → IsRoomed bind c rooms → MayBegin w nester birth → LeavesFar slot bind rooms w nester
+RestoreLeavesFar = (slot birth : ℕ) (bind : ℕ → ℕ) (c : World) (rooms : List Room) (w : World) (nester : Path) → slot ≤ LAST_USER_SLOT → IsRoomed bind c rooms
+    → MayBegin w nester birth → LeavesFar slot bind rooms w nester
 
 -- ---- its last call: the release, a stage of destroying the new space, or the first call itself
 
@@ -38,10 +40,13 @@ IsLastCall slot Occupied s stage = s ≡ Makes
 IsLastCall slot (NoPort port) s stage = stage ≡ Destroy OWN_SPACE slot
 
 abbrev pub LastCallIsKnown : Type 0
-LastCallIsKnown = (slot : ℕ) (bind : ℕ → ℕ) (rooms : List Room) (s : State) (stage : Stage) (words : List ℕ) (status : ℕ) (told : List ℕ) (end : End) → (restore slot bind rooms).head s ≡ Asks stage words →
+LastCallIsKnown = (slot : ℕ) (bind : ℕ → ℕ) (rooms : List Room) (s : State) (stage : Stage) (words : List ℕ) (status : ℕ) (told : List ℕ) (end : End)
+    → (restore slot bind rooms).head s ≡ Asks stage words →
     (restore slot bind rooms).next s status told ≡ Over end → IsLastCall slot end s stage
 
 -- it is told that its slot is taken exactly where it was
 abbrev pub OccupiedIsExact : Type 0
-OccupiedIsExact = (slot birth : ℕ) (bind : ℕ → ℕ) (c : World) (rooms : List Room) (w v : World) (nester : Path) (t : State) (end : End) → slot ≤ LAST_USER_SLOT → IsRoomed bind c rooms → MayBegin w nester birth →
-    AtWork (restore slot bind rooms) nester w Makes v t → (restore slot bind rooms).head t ≡ Stops end → (end ≡ Occupied → IsSome (w.body (slot ∷ nester))) × (IsSome (w.body (slot ∷ nester)) → end ≡ Occupied)
+OccupiedIsExact = (slot birth : ℕ) (bind : ℕ → ℕ) (c : World) (rooms : List Room) (w v : World) (nester : Path) (t : State) (end : End)
+    → slot ≤ LAST_USER_SLOT → IsRoomed bind c rooms → MayBegin w nester birth →
+    AtWork (restore slot bind rooms) nester w Makes v t → (restore slot bind rooms).head t ≡ Stops end
+    → (end ≡ Occupied → IsSome (w.body (slot ∷ nester))) × (IsSome (w.body (slot ∷ nester)) → end ≡ Occupied)

@@ -34,7 +34,8 @@ AreBeside (j ∷ p) (k ∷ q) = p ≡ q
 AreBeside x y = ⊥
 
 abbrev pub IsPair : (ℕ → ℕ) → World → Ptr → Peer → Type 0
-IsPair bind c (At port) (Server (At thread)) = IsWay (there c) port × (there c port ≡ Some kinds.Port) × IsWay (there c) thread × (there c thread ≡ Some kinds.Thread) × AreBeside port thread
+IsPair bind c (At port) (Server (At thread)) = IsWay (there c) port × (there c port ≡ Some kinds.Port) × IsWay (there c) thread
+    × (there c thread ≡ Some kinds.Thread) × AreBeside port thread
 IsPair bind c (Out i) (Server Outside) = (i ≤ LAST_USER_SLOT) × (bind i ≤ LAST_USER_SLOT)
 IsPair bind c port peer = ⊥
 
@@ -92,7 +93,8 @@ AreItems bind c q (i ∷ is) done = IsAble bind c q i.slot i.body × (is_among (
 abbrev pub AreSheets : World → Path → List Sheet → List (Path × ℕ) → Type 0
 AreSheets c q [] given = Unit {0}
 AreSheets c q (s ∷ ss) given =
-    ((c.page q s.number ≡ Some s.words) × (s.number < PAGES) × (length s.words ≡ PAGE_WORDS) × (is_given q s.number given ≡ false) × IsGiven s.words) × AreSheets c q ss ((q, s.number) ∷ given)
+    ((c.page q s.number ≡ Some s.words) × (s.number < PAGES) × (length s.words ≡ PAGE_WORDS) × (is_given q s.number given ≡ false) × IsGiven s.words)
+    × AreSheets c q ss ((q, s.number) ∷ given)
 
 abbrev pub with_items : Path → List Item → List Path → List Path
 with_items q [] done = done
@@ -122,7 +124,8 @@ IsOutside x other = Unit {0}
 abbrev pub IsNewSpace : World → Path → Option Ptr → List Path → Type 0
 IsNewSpace c [] holder made = holder ≡ None
 IsNewSpace c (k ∷ q) holder made =
-    (c.body (k ∷ q) ≡ Some (Space 0 holder)) × (k ≤ LAST_USER_SLOT) × (there c q ≡ Some kinds.Space) × IsWay (there c) q × AreMade q made × (is_among (k ∷ q) made ≡ false) × IsHolderAim c holder × IsOutside (k ∷ q) holder
+    (c.body (k ∷ q) ≡ Some (Space 0 holder)) × (k ≤ LAST_USER_SLOT) × (there c q ≡ Some kinds.Space) × IsWay (there c) q × AreMade q made
+    × (is_among (k ∷ q) made ≡ false) × IsHolderAim c holder × IsOutside (k ∷ q) holder
 
 abbrev pub with_space : Path → List Path → List Path
 with_space [] made = made

@@ -178,7 +178,8 @@ each orders r = flat_map (λ (item : Item). orders r.path item.slot item.body) r
 abbrev pub leads_out_by : ℕ → (ℕ → ℕ) → List Room → Path → ℕ → List Order
 leads_out_by slot bind rooms p i =
     if list_any (has (leads_out i)) rooms
-    then (Pins (bind i) ∷ Takes T ∷ Checks T (bind i) ∷ []) ++ (through_rooms slot (has (leads_out i)) (each (leads_body_out i bind)) p rooms ++ LeadsTop T ∷ [])
+    then (Pins (bind i) ∷ Takes T ∷ Checks T (bind i) ∷ [])
+    ++ (through_rooms slot (has (leads_out i)) (each (leads_body_out i bind)) p rooms ++ LeadsTop T ∷ [])
     else []
 
 -- so many slots of the nester, from one on

@@ -141,7 +141,8 @@ module _ {J S A V : Type 0} (h : House J S A V) (first : Core S A V) (users : As
     pub ended : (index : ℕ) (end : A) (begun last : ℕ) → slice_get c.ends index ≡ Some (Worked end begun last) → HasEnded run index end begun last
     pub working : (k : Work S) → c.work ≡ Some k → Working run k
 
-  same_work : (nester : Path) (s : S) (w u v x : World) (t : S) (a b i j : ℕ) → u ≡ w → x ≡ v → i ≡ a → j ≡ b → WorksSo h.machine nester w s v t a b → WorksSo h.machine nester u s x t i j
+  same_work : (nester : Path) (s : S) (w u v x : World) (t : S) (a b i j : ℕ) → u ≡ w → x ≡ v → i ≡ a → j ≡ b → WorksSo h.machine nester w s v t a b
+      → WorksSo h.machine nester u s x t i j
   same_work nester s w u v x t a b i j e f g k works =
       let there = subst (λ y. WorksSo h.machine nester y s x t a b) (sym e) (subst (λ y. WorksSo h.machine nester w s y t a b) (sym f) works) in
       let count = there.count in
@@ -205,8 +206,10 @@ module _ {J S A V : Type 0} (h : House J S A V) (first : Core S A V) (users : As
         record {
           worked = carried index (take index c.ends) (take index d.ends) same begun (last + 1) e.worked;
           state = e.state;
-          there = same_work e.worked.nester e.worked.start (world_at run begun) (world_at all begun) (world_at run (last + 1)) (world_at all (last + 1)) e.state _ _ _ _
-              (earlier begun (omega (arith, low, above))) (earlier (last + 1) low) (earlier_count begun (omega (arith, low, above))) (earlier_count (last + 1) low) e.there;
+          there = same_work e.worked.nester e.worked.start (world_at run begun) (world_at all begun) (world_at run (last + 1))
+              (world_at all (last + 1)) e.state _ _ _ _
+              (earlier begun (omega (arith, low, above))) (earlier (last + 1) low) (earlier_count begun (omega (arith, low, above)))
+              (earlier_count (last + 1) low) e.there;
           stopped = e.stopped;
         }
 
@@ -218,7 +221,8 @@ module _ {J S A V : Type 0} (h : House J S A V) (first : Core S A V) (users : As
       now : WorksSo h.machine worked.nester (world_at all begun) worked.start d.world t (job_moves all begun) (job_moves all (length past + 1))
 
     goes_next : (k : Work S) (w : Working run k) (t : S) (upto : ℕ) → upto ≡ length past + 1 →
-        WorksSo h.machine w.worked.nester (world_at run k.begun) w.worked.start d.world t (job_moves run k.begun) (job_moves all (length past + 1)) → Next k.begun upto t
+        WorksSo h.machine w.worked.nester (world_at run k.begun) w.worked.start d.world t (job_moves run k.begun) (job_moves all (length past + 1))
+        → Next k.begun upto t
     goes_next k w t upto is work =
         let low = w.worked.within.1 in
         let above = w.worked.within.0 in
@@ -255,7 +259,8 @@ module _ {J S A V : Type 0} (h : House J S A V) (first : Core S A V) (users : As
             )
 
     begins_next : (j : J) (s : S) (nester : Path) (begun : ℕ) (t : S) (upto : ℕ) → upto ≡ length past + 1 → begun ≡ length past → current h c ≡ Some j →
-        h.begins j c.ends ≡ Some s → MayBegin c.world nester (h.nester j) → WorksSo h.machine nester c.world s d.world t (job_moves run (length past)) (job_moves all (length past + 1)) → Next begun upto t
+        h.begins j c.ends ≡ Some s → MayBegin c.world nester (h.nester j)
+        → WorksSo h.machine nester c.world s d.world t (job_moves run (length past)) (job_moves all (length past + 1)) → Next begun upto t
     begins_next j s nester begun t upto is now its starts may work =
         let begins : world_at all begun ≡ c.world = earlier begun (omega (arith, now)) ∙ (ap (λ k. world_at run k) now ∙ stands.last) in
         let counted : job_moves all begun ≡ job_moves run (length past) = earlier_count begun (omega (arith, now)) ∙ ap (λ k. job_moves run k) now in
@@ -296,18 +301,22 @@ module _ {J S A V : Type 0} (h : House J S A V) (first : Core S A V) (users : As
     counts : (a : Asker S) → asker h c m.who ≡ a → job_moves all (length past + 1) ≡ job_moves run (length past) + is_jobs a
     counts a e = latest_count (length past + 1) refl ∙ ap (λ (b : Asker S). job_moves run (length past) + is_jobs b) e
 
-    others_next : (ask : Ask) → asker h c m.who ≡ Others ask → is_users ask ≡ true → has_all_words ask ≡ true → IsReadyAt c.world (event_of c.world ask m) → d.world ≡ after c.world (event_of c.world ask m) →
+    others_next : (ask : Ask) → asker h c m.who ≡ Others ask → is_users ask ≡ true → has_all_words ask ≡ true → IsReadyAt c.world (event_of c.world ask m)
+        → d.world ≡ after c.world (event_of c.world ask m) →
         (k : Work S) → c.work ≡ Some k → (upto : ℕ) → upto ≡ length past + 1 → Next k.begun upto k.state
     others_next ask theirs is words ready goes k works upto up =
         let w = stands.working k works in
-        let porter = (tidy (length c.ends) w.worked.job c.ends w.worked.start w.worked.its w.worked.starts).stays (world_at run k.begun) w.worked.nester c.world k.state w.worked.may w.now.work
+        let porter = (tidy (length c.ends) w.worked.job c.ends w.worked.start w.worked.its w.worked.starts).stays
+        (world_at run k.begun) w.worked.nester c.world k.state w.worked.may w.now.work
         w.stage w.words w.asked in
         let none = counts (Others ask) theirs in
         let e = event_of c.world ask m in
         let due = users_due c.world (named c.world m.who) ask is in
         goes_next k w k.state upto up
-        (same_work w.worked.nester w.worked.start (world_at run k.begun) (world_at run k.begun) (after c.world e) d.world k.state _ _ _ _ refl goes refl (omega (arith, none))
-        (work_waits h.machine w.worked.nester (world_at run k.begun) w.worked.start c.world k.state e (job_moves run k.begun) (job_moves run (length past)) w.now (w.stage, w.words, w.asked) (users_move ask is ready w.worked.nester porter.porter)
+        (same_work w.worked.nester w.worked.start (world_at run k.begun) (world_at run k.begun) (after c.world e) d.world k.state _ _ _ _ refl goes refl
+        (omega (arith, none))
+        (work_waits h.machine w.worked.nester (world_at run k.begun) w.worked.start c.world k.state e (job_moves run k.begun)
+        (job_moves run (length past)) w.now (w.stage, w.words, w.asked) (users_move ask is ready w.worked.nester porter.porter)
         (kept c.world e sound_now (record { fit = due.0; words = words }) due.1 few_now).sound))
 
     -- ---- a move of the job's
@@ -345,15 +354,19 @@ module _ {J S A V : Type 0} (h : House J S A V) (first : Core S A V) (users : As
           owes = subst (Owes c.world) (sym is) owed.owes;
           next = λ upto up goes. goes_next k w (heard h.machine k.state (said_of c.world (event_of c.world (asks.Call stage words) m))) upto up
               (subst (λ y. WorksSo h.machine w.worked.nester (world_at run k.begun) w.worked.start y
-              (heard h.machine k.state (said_of c.world (event_of c.world (asks.Call stage words) m))) (job_moves run k.begun) (job_moves all (length past + 1))) (sym goes)
-              (subst (λ e. WorksSo h.machine w.worked.nester (world_at run k.begun) w.worked.start (after c.world e) (heard h.machine k.state (said_of c.world e)) (job_moves run k.begun)
+              (heard h.machine k.state (said_of c.world (event_of c.world (asks.Call stage words) m))) (job_moves run k.begun)
+              (job_moves all (length past + 1))) (sym goes)
+              (subst (λ e. WorksSo h.machine w.worked.nester (world_at run k.begun) w.worked.start (after c.world e)
+              (heard h.machine k.state (said_of c.world e)) (job_moves run k.begun)
               (job_moves all (length past + 1))) (sym is)
-              (work_goes_on h.machine w.worked.nester (world_at run k.begun) w.worked.start c.world k.state stage words (job_moves run k.begun) (job_moves run (length past))
+              (work_goes_on h.machine w.worked.nester (world_at run k.begun) w.worked.start c.world k.state stage words (job_moves run k.begun)
+              (job_moves run (length past))
               (job_moves all (length past + 1)) one w.now asks_it.asked
               (subst (IsReadyAt c.world) is ready) (kept c.world call sound_now owed.due owed.owes few_now).sound)));
         }
 
-    made_first : OneMore → (begun : ℕ) (t : S) (stage : Stage) (words : List ℕ) (asks_it : JobAsks h c m.who begun t stage words) → c.work ≡ None → c.events ≡ begun →
+    made_first : OneMore → (begun : ℕ) (t : S) (stage : Stage) (words : List ℕ) (asks_it : JobAsks h c m.who begun t stage words) → c.work ≡ None
+        → c.events ≡ begun →
         h.begins asks_it.job c.ends ≡ Some t →
         IsReadyAt c.world (event_of c.world (asks.Call stage words) m) → Made begun t (event_of c.world (asks.Call stage words) m)
     made_first one begun t stage words asks_it idle now starts ready =
@@ -369,12 +382,16 @@ module _ {J S A V : Type 0} (h : House J S A V) (first : Core S A V) (users : As
         record {
           due = subst (IsDue c.world) (sym is) owed.due;
           owes = subst (Owes c.world) (sym is) owed.owes;
-          next = λ upto up goes. begins_next asks_it.job t nester begun (heard h.machine t (said_of c.world (event_of c.world (asks.Call stage words) m))) upto up
+          next = λ upto up goes. begins_next asks_it.job t nester begun
+              (heard h.machine t (said_of c.world (event_of c.world (asks.Call stage words) m))) upto up
               (omega (arith, now, events)) asks_it.its starts may
-              (subst (λ y. WorksSo h.machine nester c.world t y (heard h.machine t (said_of c.world (event_of c.world (asks.Call stage words) m))) (job_moves run (length past))
+              (subst (λ y. WorksSo h.machine nester c.world t y (heard h.machine t (said_of c.world (event_of c.world (asks.Call stage words) m)))
+              (job_moves run (length past))
               (job_moves all (length past + 1))) (sym goes)
-              (subst (λ e. WorksSo h.machine nester c.world t (after c.world e) (heard h.machine t (said_of c.world e)) (job_moves run (length past)) (job_moves all (length past + 1))) (sym is)
-              (work_begins h.machine nester c.world t stage words (job_moves run (length past)) (job_moves all (length past + 1)) one asks_it.asked (subst (IsReadyAt c.world) is ready)
+              (subst (λ e. WorksSo h.machine nester c.world t (after c.world e) (heard h.machine t (said_of c.world e)) (job_moves run (length past))
+              (job_moves all (length past + 1))) (sym is)
+              (work_begins h.machine nester c.world t stage words (job_moves run (length past)) (job_moves all (length past + 1)) one asks_it.asked
+              (subst (IsReadyAt c.world) is ready)
               (kept c.world (call_of nester stage words) sound_now owed.due owed.owes few_now).sound)));
         }
 
@@ -393,12 +410,14 @@ module _ {J S A V : Type 0} (h : House J S A V) (first : Core S A V) (users : As
 
         by : (o : Option (Work S)) → c.work ≡ o → Made begun t (event_of c.world (asks.Call stage words) m)
         by (Some k) works =
-            let both = goes_on_work c.events (h.begins asks_it.job c.ends) k begun t (subst (λ o. work_of c.events o (h.begins asks_it.job c.ends) ≡ its) works asks_it.work) in
+            let both = goes_on_work c.events (h.begins asks_it.job c.ends) k begun t
+            (subst (λ o. work_of c.events o (h.begins asks_it.job c.ends) ≡ its) works asks_it.work) in
             subst (λ b. Made b t (event_of c.world (asks.Call stage words) m)) both.0
             (subst (λ x. Made k.begun x (event_of c.world (asks.Call stage words) m)) both.1
             (made_later one_more k works stage words (rw (both.0, both.1) asks_it) ready))
         by None idle =
-            let both = begins_work c.events (h.begins asks_it.job c.ends) begun t (subst (λ o. work_of c.events o (h.begins asks_it.job c.ends) ≡ its) idle asks_it.work) in
+            let both = begins_work c.events (h.begins asks_it.job c.ends) begun t
+            (subst (λ o. work_of c.events o (h.begins asks_it.job c.ends) ≡ its) idle asks_it.work) in
             made_first one_more begun t stage words asks_it idle both.0 both.1 ready
 
     -- to the end of the history
@@ -450,7 +469,8 @@ module _ {J S A V : Type 0} (h : House J S A V) (first : Core S A V) (users : As
         let still = settled (others_moved h c (event_of c.world ask m)) d settling in
         let due = users_due c.world (named c.world m.who) ask is.0 in
         assembled (event_of c.world ask m) (record { fit = due.0; words = is.1 }) due.1 still.world still.events
-        (λ idle. subst IsClean (sym still.world) (clean_on c.world (event_of c.world ask m) sound_now.whole.valid.rooted is.0 (stands.clean (sym still.work ∙ idle))))
+        (λ idle. subst IsClean (sym still.world) (clean_on c.world (event_of c.world ask m) sound_now.whole.valid.rooted is.0
+        (stands.clean (sym still.work ∙ idle))))
         (ended_still (others_moved h c (event_of c.world ask m)) still refl)
         (λ k works. at is still k (sym still.work ∙ works))
       where
@@ -519,7 +539,8 @@ module _ {J S A V : Type 0} (h : House J S A V) (first : Core S A V) (users : As
         cleaned : (end : A) → h.machine.head later ≡ Stops end → d.world ≡ after c.world event → IsClean d.world
         cleaned end stops goes =
             let next = done.next (length (past ++ m ∷ [])) longer goes in
-            (tidy (length c.ends) next.worked.job c.ends next.worked.start next.worked.its next.worked.starts).ends (world_at all begun) next.worked.nester d.world later end next.worked.may
+            (tidy (length c.ends) next.worked.job c.ends next.worked.start next.worked.its next.worked.starts).ends
+            (world_at all begun) next.worked.nester d.world later end next.worked.may
             next.now.work stops
 
         ended_now : (end : A) → h.machine.head later ≡ Stops end → Settled (job_moved h c event begun later (Stops end)) d →
@@ -543,22 +564,26 @@ module _ {J S A V : Type 0} (h : House J S A V) (first : Core S A V) (users : As
                 throughout = next.worked.throughout;
               };
               state = later;
-              there = same_work next.worked.nester next.worked.start (world_at all begun) (world_at all begun) d.world (world_at all (c.events + 1)) later _ _ _ _
+              there = same_work next.worked.nester next.worked.start (world_at all begun) (world_at all begun) d.world
+                  (world_at all (c.events + 1)) later _ _ _ _
                   refl (latest (c.events + 1) upto) refl (ap (λ n. job_moves all n) upto) next.now;
               stopped = stops;
             }
 
-        ends_with : (end : A) → h.machine.head later ≡ Stops end → Settled (job_moved h c event begun later (Stops end)) d → (index : ℕ) (last_end : A) (first_move last : ℕ) →
+        ends_with : (end : A) → h.machine.head later ≡ Stops end → Settled (job_moved h c event begun later (Stops end)) d
+            → (index : ℕ) (last_end : A) (first_move last : ℕ) →
             slice_get d.ends index ≡ Some (Worked last_end first_move last) → HasEnded all index last_end first_move last
         ends_with end stops still index last_end first_move last e = by (got_or_last c.ends (Worked end begun c.events) index (Worked last_end first_move last)
             (still.ends index last_end first_move last e))
           where
-            by : (slice_get c.ends index ≡ Some (Worked last_end first_move last)) ⊎ ((index ≡ length c.ends) × (Worked end begun c.events ≡ Worked last_end first_move last)) →
+            by : (slice_get c.ends index ≡ Some (Worked last_end first_move last))
+                ⊎ ((index ≡ length c.ends) × (Worked end begun c.events ≡ Worked last_end first_move last)) →
                 HasEnded all index last_end first_move last
             by (inl its) =
                 let low = got_within c.ends index (Worked last_end first_move last) its in
                 let long = length-append c.ends (Worked end begun c.events ∷ []) in
-                carried_end index last_end first_move last (still.takes index (omega (arith, low, long)) ∙ take-append-le index c.ends (Worked end begun c.events ∷ []) (omega (arith, low)))
+                carried_end index last_end first_move last (still.takes index (omega (arith, low, long))
+                ∙ take-append-le index c.ends (Worked end begun c.events ∷ []) (omega (arith, low)))
                 (stands.ended index last_end first_move last its)
             by (inr here) =
                 let same = here.1 in

@@ -12,7 +12,8 @@ use Rattle.laws_jobs.specs.Machines.Interleaved.{Here, Another, Own}
 use Rattle.laws_runs.specs.Composed.{WorksSo}
 
 module _ {S A : Type 0} (m : Machine S A) (nester : Path) where
-  others_more : (w : World) (s : S) (es : List Event) (v : World) (t : S) (e : Event) (run : Interleaved m nester w s es v t) → IsAtCall m t → IsUsersMove nester v e → IsSound (after v e) →
+  others_more : (w : World) (s : S) (es : List Event) (v : World) (t : S) (e : Event) (run : Interleaved m nester w s es v t) → IsAtCall m t
+      → IsUsersMove nester v e → IsSound (after v e) →
       (more : Interleaved m nester w s (es ++ e ∷ []) (after v e) t) × (own_moves more ≡ own_moves run)
   others_more _ _ _ _ _ e (Here w s sound) on move later = (Another w s e [] (after w e) s sound on move (Here (after w e) s later), refl)
   others_more _ _ _ _ _ e (Another w s first es v t sound works other rest) on move later =
@@ -22,9 +23,11 @@ module _ {S A : Type 0} (m : Machine S A) (nester : Path) where
       let more = others_more (after w (call_of nester stage words)) (heard m s (said_of w (call_of nester stage words))) es v t e rest on move later in
       (Own w s stage words (es ++ e ∷ []) (after v e) t sound asked ready more.0, ap suc more.1)
 
-  own_more : (w : World) (s : S) (es : List Event) (v : World) (t : S) (stage : Stage) (words : List ℕ) (run : Interleaved m nester w s es v t) → m.head t ≡ Asks stage words →
+  own_more : (w : World) (s : S) (es : List Event) (v : World) (t : S) (stage : Stage) (words : List ℕ) (run : Interleaved m nester w s es v t)
+      → m.head t ≡ Asks stage words →
       IsReadyAt v (call_of nester stage words) → IsSound (after v (call_of nester stage words)) →
-      (more : Interleaved m nester w s (es ++ call_of nester stage words ∷ []) (after v (call_of nester stage words)) (heard m t (said_of v (call_of nester stage words))))
+      (more : Interleaved m nester w s (es ++ call_of nester stage words ∷ []) (after v (call_of nester stage words))
+      (heard m t (said_of v (call_of nester stage words))))
       × (own_moves more ≡ suc (own_moves run))
   own_more _ _ _ _ _ stage words (Here w s sound) asked ready later =
       let e = call_of nester stage words in
@@ -35,10 +38,12 @@ module _ {S A : Type 0} (m : Machine S A) (nester : Path) where
       (Another w s first (es ++ e ∷ []) (after v e) (heard m t (said_of v e)) sound works other more.0, more.1)
   own_more _ _ _ _ _ stage words (Own w s early given es v t sound was went rest) asked ready later =
       let e = call_of nester stage words in
-      let more = own_more (after w (call_of nester early given)) (heard m s (said_of w (call_of nester early given))) es v t stage words rest asked ready later in
+      let more = own_more (after w (call_of nester early given))
+      (heard m s (said_of w (call_of nester early given))) es v t stage words rest asked ready later in
       (Own w s early given (es ++ e ∷ []) (after v e) (heard m t (said_of v e)) sound was went more.0, ap suc more.1)
 
-  pub work_begins : (w : World) (s : S) (stage : Stage) (words : List ℕ) (before now : ℕ) → now ≡ before + 1 → m.head s ≡ Asks stage words → IsReadyAt w (call_of nester stage words) →
+  pub work_begins : (w : World) (s : S) (stage : Stage) (words : List ℕ) (before now : ℕ) → now ≡ before + 1 → m.head s ≡ Asks stage words
+      → IsReadyAt w (call_of nester stage words) →
       IsSound (after w (call_of nester stage words)) →
       WorksSo m nester w s (after w (call_of nester stage words)) (heard m s (said_of w (call_of nester stage words))) before now
   work_begins w s stage words before now more asked ready later = record {
@@ -53,7 +58,8 @@ module _ {S A : Type 0} (m : Machine S A) (nester : Path) where
     count = omega (arith, more);
   }
 
-  pub work_waits : (w : World) (s : S) (v : World) (t : S) (e : Event) (before now : ℕ) → WorksSo m nester w s v t before now → IsAtCall m t → IsUsersMove nester v e → IsSound (after v e) →
+  pub work_waits : (w : World) (s : S) (v : World) (t : S) (e : Event) (before now : ℕ) → WorksSo m nester w s v t before now → IsAtCall m t
+      → IsUsersMove nester v e → IsSound (after v e) →
       WorksSo m nester w s (after v e) t before now
   work_waits w s v t e before now works on move later =
       let work = works.work in
@@ -65,7 +71,8 @@ module _ {S A : Type 0} (m : Machine S A) (nester : Path) where
         count = omega (arith, count, same);
       }
 
-  pub work_goes_on : (w : World) (s : S) (v : World) (t : S) (stage : Stage) (words : List ℕ) (before now next : ℕ) → next ≡ now + 1 → WorksSo m nester w s v t before now →
+  pub work_goes_on : (w : World) (s : S) (v : World) (t : S) (stage : Stage) (words : List ℕ) (before now next : ℕ) → next ≡ now + 1
+      → WorksSo m nester w s v t before now →
       m.head t ≡ Asks stage words → IsReadyAt v (call_of nester stage words) → IsSound (after v (call_of nester stage words)) →
       WorksSo m nester w s (after v (call_of nester stage words)) (heard m t (said_of v (call_of nester stage words))) before next
   work_goes_on w s v t stage words before now next one works asked ready later =

@@ -58,4 +58,5 @@ restored_go_on h first c past run users tidy start left birth slot begun last sa
     let order = from.order in
     let sound = (composed h first c past run users tidy start left).sound begun (omega (arith, order.0, order.1)) in
     let plain = closed_is_plain (world_at run begun) from.nester slot sound.whole sound.savable uncut alone from.closed in
-    restored_goes_on (world_at run begun) (world_at run (done + 1)) from.nester to.nester slot place bind ms plain (to.cut_there ∙ ap (rebound bind) from.picture)
+    restored_goes_on (world_at run begun) (world_at run (done + 1)) from.nester to.nester slot place bind ms plain (to.cut_there
+    ∙ ap (rebound bind) from.picture)

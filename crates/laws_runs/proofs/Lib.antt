@@ -6,3 +6,5 @@ pub mod Onwards
 pub mod Headline
 pub mod Same
 pub mod Turning
+pub mod Events
+pub mod Ended

@@ -24,16 +24,16 @@ use Rattle.laws_runs.proofs.Composing.{Stands, stands, made_here, splits, take_a
 
 -- ---- lists of events
 
-run-append : (w : World) (xs ys : List Event) → events_run w (xs ++ ys) ≡ events_run (events_run w xs) ys
+pub run-append : (w : World) (xs ys : List Event) → events_run w (xs ++ ys) ≡ events_run (events_run w xs) ys
 unfolding events_run
 run-append w [] ys = refl
 run-append w (x ∷ xs) ys = run-append (after w x) xs ys
 
-run_nothing : (w : World) → events_run w [] ≡ w
+pub run_nothing : (w : World) → events_run w [] ≡ w
 unfolding events_run
 run_nothing w = refl
 
-run_one : (w : World) (e : Event) → events_run w (e ∷ []) ≡ after w e
+pub run_one : (w : World) (e : Event) → events_run w (e ∷ []) ≡ after w e
 unfolding events_run
 run_one w e = refl
 
@@ -56,7 +56,7 @@ length-take zero xs = omega arith
 length-take (suc n) [] = omega arith
 length-take (suc n) (x ∷ xs) = let rest = length-take n xs in omega (arith, rest)
 
-take_none : {A : Type 0} (k : ℕ) → take {A = A} k [] ≡ []
+pub take_none : {A : Type 0} (k : ℕ) → take {A = A} k [] ≡ []
 take_none zero = refl
 take_none (suc k) = refl
 
@@ -104,7 +104,8 @@ module _ {J S A V : Type 0} (h : House J S A V) (first : Core S A V) (users : As
         let enough : k ≡ length (events_of run ++ event ∷ []) = omega (arith, up, long, whole) in
         ap (λ ys. events_run first.world (take k ys)) same
         ∙ (ap (events_run first.world) (ap (λ i. take i (events_of run ++ event ∷ [])) enough ∙ take_all (events_of run ++ event ∷ []))
-        ∙ (run-append first.world (events_of run) (event ∷ []) ∙ (ap (λ (w : World). events_run w (event ∷ [])) arrives ∙ (one ∙ (sym goes ∙ sym (latest k up))))))
+        ∙ (run-append first.world (events_of run) (event ∷ [])
+        ∙ (ap (λ (w : World). events_run w (event ∷ [])) arrives ∙ (one ∙ (sym goes ∙ sym (latest k up))))))
       where
         one : events_run c.world (event ∷ []) ≡ after c.world event
         one = run_one c.world event
@@ -124,7 +125,8 @@ module _ {J S A V : Type 0} (h : House J S A V) (first : Core S A V) (users : As
         let whole = length-append (events_of run) (event ∷ []) in
         let count : length (events_of all) ≡ length (events_of run ++ event ∷ []) = ap (λ (ys : List Event). length ys) same in
         record {
-          due = subst (AreDue first.world) (sym same) (due-append first.world (events_of run) (event ∷ []) before.due (subst (λ w. IsDue w event) (sym arrives) due, tt));
+          due = subst (AreDue first.world) (sym same)
+              (due-append first.world (events_of run) (event ∷ []) before.due (subst (λ w. IsDue w event) (sym arrives) due, tt));
           long = omega (arith, count, whole, long, longer);
           worlds = λ k low. world_on k (splits k (length past) (omega (arith, low, longer)));
           numbers = λ k low. number_on k (splits k (length past) (omega (arith, low, longer)));
@@ -163,7 +165,8 @@ module _ {J S A V : Type 0} (h : House J S A V) (first : Core S A V) (users : As
       let all_due : AreDue first.world (take (k + n) es) =
       due-before first.world (take (k + n) es) (drop (k + n) es) (subst (AreDue first.world) (sym (take-append-drop (k + n) es)) trace.due) in
       let due : AreDue (world_at run k) (between run k n) =
-      subst (λ w. AreDue w (take n (drop k es))) here (due-behind first.world (take k es) (take n (drop k es)) (subst (AreDue first.world) (sym parts) all_due)) in
+      subst (λ w. AreDue w (take n (drop k es))) here
+      (due-behind first.world (take k es) (take n (drop k es)) (subst (AreDue first.world) (sym parts) all_due)) in
       let number = trace.numbers k (omega (arith, low)) in
       let short = length-take n (drop k es) in
       subst (λ (v : World). IsPlain v nester slot × ((told : List Told) × IsFurther (cut (world_at run k) nester slot) ms told (cut v nester slot))) there

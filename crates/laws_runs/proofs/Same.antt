@@ -52,7 +52,8 @@ module _ {J S A V : Type 0} (h : House J S A V) where
         settles_same (moved h c m) d (moved h e n) f settles ends (λ i. moved h (before i) (both.1 i))
 
     -- and so is the world after each of its moves
-    world_same : (p q : List Move) (c d : Core S A V) (run : IsRun h first p c) (other : IsRun h first q d) → p ≡ q → (k : ℕ) → world_at run k ≡ world_at other k
+    world_same : (p q : List Move) (c d : Core S A V) (run : IsRun h first p c) (other : IsRun h first q d) → p ≡ q → (k : ℕ)
+        → world_at run k ≡ world_at other k
     world_same _ _ _ _ Begins Begins same k = refl
     world_same _ _ _ _ Begins (Goes past c m d run ready settles) same k = absurd (empty_or_not past m same)
     world_same _ _ _ _ (Goes past c m d run ready settles) Begins same k = absurd (empty_or_not past m (sym same))

@@ -52,7 +52,8 @@ module _ {J S A V : Type 0} (h : House J S A V) (first : Core S A V) (users : As
           its = w.worked.its;
           starts = w.worked.starts;
           may = w.worked.may;
-          event = is_call w.worked.nester stage words asks_it.slot (ap (space_born c.world) (asks_it.space ∙ ap h.nester same_job) ∙ there) owed.unpicking ready;
+          event = is_call w.worked.nester stage words asks_it.slot (ap (space_born c.world) (asks_it.space ∙ ap h.nester same_job)
+              ∙ there) owed.unpicking ready;
           asked = asks_it.asked;
           at = inr w.now.work;
         }
@@ -92,11 +93,13 @@ module _ {J S A V : Type 0} (h : House J S A V) (first : Core S A V) (users : As
 
         by : (o : Option (Work S)) → c.work ≡ o → IsJobsMove run m begun t stage words
         by (Some k) works =
-            let both = goes_on_work c.events (h.begins asks_it.job c.ends) k begun t (subst (λ o. work_of c.events o (h.begins asks_it.job c.ends) ≡ its) works asks_it.work) in
+            let both = goes_on_work c.events (h.begins asks_it.job c.ends) k begun t
+            (subst (λ o. work_of c.events o (h.begins asks_it.job c.ends) ≡ its) works asks_it.work) in
             subst (λ b. IsJobsMove run m b t stage words) both.0
             (subst (λ x. IsJobsMove run m k.begun x stage words) both.1 (later k works stage words (rw (both.0, both.1) asks_it) ready))
         by None idle =
-            let both = begins_work c.events (h.begins asks_it.job c.ends) begun t (subst (λ o. work_of c.events o (h.begins asks_it.job c.ends) ≡ its) idle asks_it.work) in
+            let both = begins_work c.events (h.begins asks_it.job c.ends) begun t
+            (subst (λ o. work_of c.events o (h.begins asks_it.job c.ends) ≡ its) idle asks_it.work) in
             at_first begun t stage words asks_it idle both.0 both.1 ready
 
 pub jobs_moves : {J S A V : Type 0} → JobsMoves J S A V
@@ -109,7 +112,8 @@ jobs_moves h first c past run users tidy start left m begun t stage words e read
 -- ---- at each place
 
 module _ {J S A V : Type 0} (h : House J S A V) (first : Core S A V) (users : AskAsUsers h) (tidy : AreTidy h) (start : IsStart first) where
-  module _ (past : List Move) (c : Core S A V) (m : Move) (d : Core S A V) (run : IsRun h first past c) (ready : IsReadyIn h c m) (settles : Settles h (moved h c m) d)
+  module _ (past : List Move) (c : Core S A V) (m : Move) (d : Core S A V) (run : IsRun h first past c) (ready : IsReadyIn h c m)
+      (settles : Settles h (moved h c m) d)
       (stand : Stands h first users tidy start run) (left : first.world.next + (length past + 1) ≤ depth) where
     abbrev all : IsRun h first (past ++ m ∷ []) d
     all = Goes past c m d run ready settles
@@ -120,7 +124,8 @@ module _ {J S A V : Type 0} (h : House J S A V) (first : Core S A V) (users : As
     latest : (k : ℕ) → k ≡ length past + 1 → world_at all k ≡ d.world
     latest k e = rw (lt-leb k (length past) (omega (arith, e))) refl
 
-    moves_in : (k begun : ℕ) (t : S) (stage : Stage) (words : List ℕ) → k < length past → begun ≤ length past → MovesAt run k begun t stage words → MovesAt all k begun t stage words
+    moves_in : (k begun : ℕ) (t : S) (stage : Stage) (words : List ℕ) → k < length past → begun ≤ length past → MovesAt run k begun t stage words
+        → MovesAt all k begun t stage words
     moves_in k begun t stage words low early its =
         let at_k = earlier k (omega (arith, low)) in
         let at_next = earlier (k + 1) (omega (arith, low)) in
@@ -147,12 +152,14 @@ module _ {J S A V : Type 0} (h : House J S A V) (first : Core S A V) (users : As
             inr (subst (λ y. AtWork h.machine its.nester y its.start (world_at all k) t) (sym (earlier begun early))
             (subst (λ y. AtWork h.machine its.nester (world_at run begun) its.start y t) (sym (earlier k (omega (arith, low)))) work))
 
-    moves_now : (k begun : ℕ) (t : S) (stage : Stage) (words : List ℕ) → k ≡ length past → asker h c m.who ≡ Job begun t stage words → begun ≤ length past → MovesAt all k begun t stage words
+    moves_now : (k begun : ℕ) (t : S) (stage : Stage) (words : List ℕ) → k ≡ length past → asker h c m.who ≡ Job begun t stage words → begun ≤ length past
+        → MovesAt all k begun t stage words
     moves_now k begun t stage words here e early =
         let its = jobs_moves_here in
         let made = made_here h first users tidy start past c m d run ready settles stand left in
         let now : world_at all k ≡ c.world = earlier k (omega (arith, here)) ∙ (ap (λ i. world_at run i) here ∙ stand.last) in
-        let event : made.event ≡ call_of its.nester stage words = one made.event (event_of c.world (asks.Call stage words) m) (sym made.is ∙ ap (event_by c.world m) e) ∙ its.event in
+        let event : made.event ≡ call_of its.nester stage words = one made.event (event_of c.world (asks.Call stage words) m) (sym made.is
+        ∙ ap (event_by c.world m) e) ∙ its.event in
         record {
           index = length c.ends;
           job = its.job;
@@ -181,10 +188,12 @@ module _ {J S A V : Type 0} (h : House J S A V) (first : Core S A V) (users : As
             ((begun ≡ k) × (t ≡ s)) ⊎ AtWork h.machine nester (world_at all begun) s (world_at all k) t
         on nester s now (inl same) = inl (same.0 ∙ sym here, same.1)
         on nester s now (inr work) =
-            inr (subst (λ y. AtWork h.machine nester y s (world_at all k) t) (sym (earlier begun early)) (subst (λ y. AtWork h.machine nester (world_at run begun) s y t) (sym now) work))
+            inr (subst (λ y. AtWork h.machine nester y s (world_at all k) t) (sym (earlier begun early))
+            (subst (λ y. AtWork h.machine nester (world_at run begun) s y t) (sym now) work))
 
   -- a job that makes a move has begun by then
-  begun_by : (past : List Move) (c : Core S A V) (run : IsRun h first past c) → Stands h first users tidy start run → (who : Who) (begun : ℕ) (t : S) (stage : Stage) (words : List ℕ) →
+  begun_by : (past : List Move) (c : Core S A V) (run : IsRun h first past c) → Stands h first users tidy start run
+      → (who : Who) (begun : ℕ) (t : S) (stage : Stage) (words : List ℕ) →
       asker h c who ≡ Job begun t stage words → begun ≤ length past
   begun_by past c run stand who begun t stage words e = by c.work refl
     where
@@ -196,30 +205,36 @@ module _ {J S A V : Type 0} (h : House J S A V) (first : Core S A V) (users : As
 
       by : (o : Option (Work S)) → c.work ≡ o → begun ≤ length past
       by (Some k) works =
-          let both = goes_on_work c.events (h.begins asks_it.job c.ends) k begun t (subst (λ o. work_of c.events o (h.begins asks_it.job c.ends) ≡ its) works asks_it.work) in
+          let both = goes_on_work c.events (h.begins asks_it.job c.ends) k begun t
+          (subst (λ o. work_of c.events o (h.begins asks_it.job c.ends) ≡ its) works asks_it.work) in
           let w = stand.working k works in
           let within = w.worked.within.0 in
           let same = both.0 in
           omega (arith, within, same)
       by None idle =
-          let both = begins_work c.events (h.begins asks_it.job c.ends) begun t (subst (λ o. work_of c.events o (h.begins asks_it.job c.ends) ≡ its) idle asks_it.work) in
+          let both = begins_work c.events (h.begins asks_it.job c.ends) begun t
+          (subst (λ o. work_of c.events o (h.begins asks_it.job c.ends) ≡ its) idle asks_it.work) in
           let same = both.0 in
           let events = stand.events in
           omega (arith, same, events)
 
-  moves_at : {c : Core S A V} {past : List Move} (run : IsRun h first past c) → first.world.next + length past ≤ depth → (k begun : ℕ) (t : S) (stage : Stage) (words : List ℕ) →
+  moves_at : {c : Core S A V} {past : List Move} (run : IsRun h first past c) → first.world.next + length past ≤ depth
+      → (k begun : ℕ) (t : S) (stage : Stage) (words : List ℕ) →
       k < length past → asker_at run k ≡ Job begun t stage words → (begun ≤ k) × MovesAt run k begun t stage words
   moves_at Begins left k begun t stage words low e = absurd (omega (arith, low))
   moves_at (Goes past c m d run ready settles) left k begun t stage words low e =
       let longer = length-append past (m ∷ []) in
       let stand = stands h first users tidy start run (omega (arith, left, longer)) in
-      by stand (omega (arith, left, longer)) longer (nat_lt k (length past)) refl e (λ low e. moves_at run (omega (arith, left, longer)) k begun t stage words low e)
+      by stand (omega (arith, left, longer)) longer (nat_lt k (length past)) refl e
+      (λ low e. moves_at run (omega (arith, left, longer)) k begun t stage words low e)
     where
       All : IsRun h first (past ++ m ∷ []) d
       All = Goes past c m d run ready settles
 
-      by : Stands h first users tidy start run → first.world.next + (length past + 1) ≤ depth → length (past ++ m ∷ []) ≡ length past + 1 → (b : Bool) → nat_lt k (length past) ≡ b →
-          cond b (asker_at run k) (asker h c m.who) ≡ Job begun t stage words → (k < length past → asker_at run k ≡ Job begun t stage words → (begun ≤ k) × MovesAt run k begun t stage words) →
+      by : Stands h first users tidy start run → first.world.next + (length past + 1) ≤ depth → length (past ++ m ∷ []) ≡ length past + 1 → (b : Bool)
+          → nat_lt k (length past) ≡ b →
+          cond b (asker_at run k) (asker h c m.who) ≡ Job begun t stage words
+          → (k < length past → asker_at run k ≡ Job begun t stage words → (begun ≤ k) × MovesAt run k begun t stage words) →
           (begun ≤ k) × MovesAt (Goes past c m d run ready settles) k begun t stage words
       by stand enough longer true is e earlier =
           let below = ltb-true k (length past) is in

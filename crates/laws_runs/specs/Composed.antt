@@ -66,7 +66,8 @@ pub record HasWorked {J S A V : Type 0} {h : House J S A V} {first c : Core S A 
   pub starts : h.begins job ends ≡ Some start
   pub may : MayBegin (world_at run begun) nester (h.nester job)
   pub within : (begun < upto) × (upto ≤ length past)
-  pub throughout : (k : ℕ) → begun < k → k ≤ upto → (t : S) × WorksSo h.machine nester (world_at run begun) start (world_at run k) t (job_moves run begun) (job_moves run k)
+  pub throughout : (k : ℕ) → begun < k → k ≤ upto → (t : S)
+      × WorksSo h.machine nester (world_at run begun) start (world_at run k) t (job_moves run begun) (job_moves run k)
 
 -- and it has ended there
 pub record HasEnded {J S A V : Type 0} {h : House J S A V} {first c : Core S A V} {past : List Move} (run : IsRun h first past c)

@@ -3,3 +3,5 @@ pub mod Composed
 pub mod Turning
 pub mod Onwards
 pub mod Headline
+pub mod Events
+pub mod Ended

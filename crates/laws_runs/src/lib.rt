@@ -9,6 +9,8 @@ ghost use Rattle.laws_runs.specs.Composed.{RunIsComposed, OneRun};
 ghost use Rattle.laws_runs.specs.Turning.{JobsMoves, JobsMovesInHistory};
 ghost use Rattle.laws_runs.specs.Headline.{CheckpointsHold, RestoresHold, RestoredGoOn};
 ghost use Rattle.laws_runs.specs.Onwards.{RunGoesOn, RestoredGoesOn};
+ghost use Rattle.laws_runs.specs.Events.{HistoryIsEvents};
+ghost use Rattle.laws_runs.specs.Ended.{EndsAreSo};
 
 /// Whatever the moves of a run, each job's moves are its machine's among others' moves.
 pub fn a_run_is_composed<J, S, A, V>()
@@ -31,6 +33,17 @@ pub fn a_historys_moves_are_calls<J, S, A, V>()
 /// its moves.
 pub fn a_history_has_one_run<J, S, A, V>()
     ensures { OneRun J S A V }
+{}
+
+/// A history is one event a move, each ready in the world that those before it leave, and these worlds are the run's.
+pub fn a_history_is_its_events<J, S, A, V>()
+    ensures { HistoryIsEvents J S A V }
+{}
+
+/// Each job of a run has ended by moves of its own, the first and the last of which stand at their places in the history, or
+/// without any: exactly where it has no image, or for want of its nester.
+pub fn jobs_have_ended_so<J, S, A, V>()
+    ensures { EndsAreSo J S A V }
 {}
 
 /// From any place of a run's history on where a subtree is plain, and up to the first move that it

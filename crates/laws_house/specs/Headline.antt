@@ -1,0 +1,122 @@
+-- All together: what a run in which checkpoints and restores work is, from its first world on, for what they save and make again.
+use Rattle.std.specs.Prelude.{◌≡◌, ℕ, ◌+◌, ◌*◌, ◌<◌, ◌≤◌, true, List, length, take, Option, Some, None}
+use Rattle.std.specs.List.{slice_get, All}
+use Rattle.fk_model.specs.declared.job.JobSpec.{JobSpec}
+use Rattle.fk_model.specs.declared.job.JobSpec.TheVariants as specs_of
+use Rattle.fk_model.specs.declared.limits.TheConstants.{LAST_USER_SLOT}
+use Rattle.fk_model.specs.declared.moves.Move.{Move}
+use Rattle.fk_model.specs.declared.stage.Stage.{Stage}
+use Rattle.fk_model.specs.Places.{Path}
+use Rattle.fk_model.specs.Cut.{cut, IsPlain}
+use Rattle.fk_model.specs.Further.{Onward, Told, IsFurther}
+use Rattle.fk_image.specs.declared.image.Image.{Image}
+use Rattle.fk_image.specs.Picture.{picture}
+use Rattle.fk_image.specs.Valid.{is_valid}
+use Rattle.laws_further.specs.Runs.{IsSeenRun}
+use Rattle.laws_jobs.specs.Jobs.{IsClean}
+use Rattle.laws_checkpoint.specs.Checkpoint as checkpoints
+use Rattle.laws_checkpoint.specs.Checkpoint.End.{Done}
+use Rattle.laws_restore.specs.Restore as restores
+use Rattle.laws_rooms.specs.Restoring.{bound_by, are_user_pairs}
+use Rattle.laws_runs.specs.Cores.{Unmoved, JobEnd, Servers, Work, Core, IsRun, world_at}
+use Rattle.laws_runs.specs.Cores.Unmoved.{NoImage}
+use Rattle.laws_runs.specs.Cores.JobEnd.{Worked, Idle}
+use Rattle.laws_runs.specs.Cores.Asker.{Job as Asked_by_job}
+use Rattle.laws_runs.specs.Turning.{asker_at}
+use Rattle.laws_runs.specs.Onwards.{between}
+use Rattle.laws_runs.specs.Events.{IsItsEvents}
+use Rattle.laws_runs.specs.Headline.{Checkpointed, Restored as Restored_there}
+use Rattle.laws_house.specs.Houses.{Job, Source, State, End, valid_one, sourced, house, jobs_of}
+use Rattle.laws_house.specs.Houses.Source.{MadeBy}
+use Rattle.laws_house.specs.Houses.Task.{Checkpoint, Restore}
+use Rattle.laws_house.specs.Houses.State.{Checking, Restoring}
+use Rattle.laws_house.specs.Houses.End.{Checked, Restored}
+use Rattle.laws_house.specs.Laws.{NameUsersSlots, IsGrounded, LeftBeside, EndedAsItWas, GoesOnAgain}
+use Rattle.laws_house.specs.Moves.{LeftFar, NextIsReady, EndedSo}
+use Rattle.laws_house.specs.Places.{CheckpointMoves, RestoreMoves, LeftUnheld, IsDone}
+
+-- ---- a scenario's jobs
+
+-- as the reader of scenarios has them
+abbrev pub NamesSlots : JobSpec → Type 0
+NamesSlots (specs_of.Checkpoint moment nester path slot image) = slot ≤ LAST_USER_SLOT
+NamesSlots (specs_of.Restore moment nester slot image bind) = (slot ≤ LAST_USER_SLOT) × (are_user_pairs bind ≡ true)
+
+abbrev pub JobsNameUsersSlots : Type 0
+JobsNameUsersSlots = (specs : List JobSpec) (images : List (Option Image)) → All NamesSlots specs → NameUsersSlots (jobs_of specs images)
+
+-- ---- checkpoints
+
+pub record HasCheckpoints {V : Type 0} {jobs : List Job} {servers : Servers V} {first c : Core State End V} {past : List Move}
+    (run : IsRun (house jobs servers) first past c) : Type 0 where
+  -- how one ends, and by which moves
+  pub moves : (index : ℕ) (j : Job) (slot begun last : ℕ) (end : checkpoints.End) → slice_get jobs index ≡ Some j → j.task ≡ Checkpoint slot →
+      slice_get c.ends index ≡ Some (Worked (Checked end) begun last) → CheckpointMoves run slot begun last end
+  pub ends : (index : ℕ) (j : Job) (slot begun last : ℕ) (end : checkpoints.End) → slice_get jobs index ≡ Some j → j.task ≡ Checkpoint slot →
+      slice_get c.ends index ≡ Some (Worked (Checked end) begun last) → EndedAsItWas j.nester slot (world_at run begun) end
+  pub releases : (index : ℕ) (j : Job) (slot begun last : ℕ) (end : checkpoints.End) → slice_get jobs index ≡ Some j → j.task ≡ Checkpoint slot →
+      slice_get c.ends index ≡ Some (Worked (Checked end) begun last) → LeftUnheld j.nester slot (world_at run begun) (world_at run (last + 1))
+  -- what a done one has saved
+  pub saves : (index : ℕ) (j : Job) (slot begun last : ℕ) (image : Image) → slice_get jobs index ≡ Some j → j.task ≡ Checkpoint slot →
+      slice_get c.ends index ≡ Some (Worked (Checked (Done image)) begun last) →
+      (is_valid image ≡ true) × Checkpointed run j.nester slot begun last (picture image)
+  -- and that each of its moves leaves the rest
+  pub leaves : (k begun slot : ℕ) (s : checkpoints.State) (stage : Stage) (words : List ℕ) → k < length past →
+      asker_at run k ≡ Asked_by_job begun (Checking slot s) stage words →
+      (birth : ℕ) × LeftBeside birth slot (world_at run begun) (world_at run k) (world_at run (k + 1))
+
+-- ---- restores
+
+pub record HasRestores {V : Type 0} {jobs : List Job} {servers : Servers V} {first c : Core State End V} {past : List Move}
+    (run : IsRun (house jobs servers) first past c) : Type 0 where
+  -- when there is no image
+  pub wants : (index : ℕ) (j : Job) (slot : ℕ) (pairs : List (ℕ × ℕ)) (source : Source) (end : JobEnd End) → slice_get jobs index ≡ Some j →
+      j.task ≡ Restore slot pairs source → slice_get c.ends index ≡ Some end →
+      (end ≡ Idle NoImage → valid_one (sourced (take index c.ends) source) ≡ None)
+      × (valid_one (sourced (take index c.ends) source) ≡ None → end ≡ Idle NoImage)
+  pub wants_maker : (from index : ℕ) (i j : Job) (saved slot : ℕ) (pairs : List (ℕ × ℕ)) (end : JobEnd End) → slice_get jobs from ≡ Some i →
+      i.task ≡ Checkpoint saved → slice_get jobs index ≡ Some j → j.task ≡ Restore slot pairs (MadeBy from) → from < index → slice_get c.ends index ≡ Some end →
+      (end ≡ Idle NoImage → IsDone c from → ⊥) × ((IsDone c from → ⊥) → end ≡ Idle NoImage)
+  -- how one ends, and by which moves
+  pub moves : (index : ℕ) (j : Job) (slot begun last : ℕ) (pairs : List (ℕ × ℕ)) (source : Source) (image : Image) (end : restores.End) →
+      slice_get jobs index ≡ Some j → j.task ≡ Restore slot pairs source → valid_one (sourced (take index c.ends) source) ≡ Some image →
+      slice_get c.ends index ≡ Some (Worked (Restored end) begun last) → RestoreMoves run slot pairs image begun last end
+  pub ends : (index : ℕ) (j : Job) (slot begun last : ℕ) (pairs : List (ℕ × ℕ)) (source : Source) (image : Image) (end : restores.End) →
+      slice_get jobs index ≡ Some j → j.task ≡ Restore slot pairs source → valid_one (sourced (take index c.ends) source) ≡ Some image →
+      slice_get c.ends index ≡ Some (Worked (Restored end) begun last) →
+      EndedSo j.nester slot pairs image (world_at run begun) (world_at run (last + 1)) end
+  -- what a done one has made
+  pub makes : (index : ℕ) (j : Job) (slot begun last : ℕ) (pairs : List (ℕ × ℕ)) (source : Source) (image : Image) → slice_get jobs index ≡ Some j →
+      j.task ≡ Restore slot pairs source → valid_one (sourced (take index c.ends) source) ≡ Some image →
+      slice_get c.ends index ≡ Some (Worked (Restored restores.Done) begun last) →
+      Restored_there run j.nester slot begun last (bound_by pairs) (picture image)
+  -- and that each of its moves leaves the rest
+  pub leaves : (k begun slot : ℕ) (pairs : List (ℕ × ℕ)) (image : Image) (s : restores.State) (stage : Stage) (words : List ℕ) → k < length past →
+      asker_at run k ≡ Asked_by_job begun (Restoring slot pairs image s) stage words →
+      (birth : ℕ) × LeftFar birth slot (world_at run begun) (world_at run k) (world_at run (k + 1))
+
+-- ---- the run
+
+pub record HasHeadline {V : Type 0} {jobs : List Job} {servers : Servers V} {first c : Core State End V} {past : List Move}
+    (run : IsRun (house jobs servers) first past c) : Type 0 where
+  -- one legal history
+  pub events : IsItsEvents run
+  pub checkpoints : HasCheckpoints run
+  pub restores : HasRestores run
+  -- no scratch is left behind a job's last move, and while it works its next one is ready wherever nothing outside is held
+  pub clean : (index begun last : ℕ) (end : End) → slice_get c.ends index ≡ Some (Worked end begun last) → IsClean (world_at run (last + 1))
+  pub ready : (k : Work State) → c.work ≡ Some k → NextIsReady k.state c.world
+  -- from any place on a plain subtree does what it does in the history
+  pub goes_on : (k n : ℕ) → k + n ≤ length past → (nester : Path) (slot : ℕ) (ms : List Onward) → IsPlain (world_at run k) nester slot →
+      IsSeenRun nester slot (world_at run k) (between run k n) ms →
+      IsPlain (world_at run (k + n)) nester slot
+      × ((told : List Told) × IsFurther (cut (world_at run k) nester slot) ms told (cut (world_at run (k + n)) nester slot))
+  -- and what was saved and made again has exactly the further runs that it had, with its ports bound
+  pub goes_on_again : (from to : ℕ) (i j : Job) (slot place hold release made done : ℕ) (pairs : List (ℕ × ℕ)) (image : Image) → slice_get jobs from ≡ Some i →
+      i.task ≡ Checkpoint slot → slice_get c.ends from ≡ Some (Worked (Checked (Done image)) hold release) → slice_get jobs to ≡ Some j →
+      j.task ≡ Restore place pairs (MadeBy from) → slice_get c.ends to ≡ Some (Worked (Restored restores.Done) made done) → from < to →
+      GoesOnAgain i.nester slot (world_at run hold) j.nester place (world_at run made) (world_at run (done + 1)) (bound_by pairs)
+
+abbrev pub HeadlineHolds : Type 0 → Type 0
+HeadlineHolds V = (jobs : List Job) (servers : Servers V) (first c : Core State End V) (past : List Move) (run : IsRun (house jobs servers) first past c) →
+    IsGrounded jobs servers first past → HasHeadline run
