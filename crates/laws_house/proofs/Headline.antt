@@ -1,5 +1,5 @@
 -- All laws of the house, over one run.
-use Rattle.std.proofs.Common.{◌≡◌, ℕ, zero, suc, List, [], ◌∷◌, ◌++◌, drop, Option, Some, refl, sym, ap, subst, ◌∙◌}
+use Rattle.std.proofs.Common.{◌≡◌, ℕ, zero, suc, List, [], ◌∷◌, ◌++◌, drop, Option, Some, subst}
 use Rattle.std.specs.List.{slice_get, All}
 use Rattle.std.proofs.lemmas.List.Elements.{All-head, All-tail}
 use Rattle.fk_model.specs.declared.job.JobSpec.{JobSpec}
@@ -37,14 +37,14 @@ jobs_name_users_slots specs images names index j got = jobs_name [] specs images
 pub headline_holds : {V : Type 0} → HeadlineHolds V
 headline_holds jobs servers first c past run grounded = record {
   events = its_events (house jobs servers) first run;
-  checkpoints = record {
+  checkpointed = record {
     moves = checkpoints_move_so jobs servers first c past run grounded.start;
     ends = checkpoints_end_as_it_was jobs servers first c past run grounded;
     releases = checkpoints_release jobs servers first c past run grounded;
     saves = checkpoints_save jobs servers first c past run grounded;
     leaves = checkpoints_leave_the_rest jobs servers first c past run grounded;
   };
-  restores = record {
+  restored = record {
     wants = restores_want_an_image jobs servers first c past run grounded.start;
     wants_maker = restores_want_their_maker jobs servers first c past run grounded;
     moves = restores_move_so jobs servers first c past run grounded.start;

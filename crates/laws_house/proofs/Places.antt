@@ -1,14 +1,12 @@
 -- A job's first and last move at their places, what its end leaves, and when a restore has no image.
-use Rattle.std.proofs.Common.{◌≡◌, ℕ, zero, suc, ◌+◌, ◌<◌, ◌≤◌, Bool, true, false, cond, ◌==◌, List, [], ◌∷◌, length, take, Option, Some, None, option_map, refl, sym, ap, subst, arith, ◌∙◌, ◌⊎◌, inl, inr}
+use Rattle.std.proofs.Common.{◌≡◌, ℕ, zero, suc, ◌+◌, ◌<◌, Bool, true, false, cond, ◌==◌, List, [], ◌∷◌, take, Option, Some, None, option_map, refl, sym, ap, subst, ◌∙◌}
 use Rattle.std.specs.List.{slice_get}
 use Rattle.fk_model.specs.declared.limits.TheConstants.{OWN_SPACE}
 use Rattle.fk_model.specs.declared.moves.Move.{Move}
-use Rattle.fk_model.specs.declared.stage.Stage.{Stage}
 use Rattle.fk_model.specs.declared.stage.Stage.TheVariants.{SpaceHold, SpaceMakeHeld}
 use Rattle.fk_model.specs.declared.statuses.status.TheConstants.{OK}
 use Rattle.fk_model.specs.Places.{Ptr}
 use Rattle.fk_model.specs.Closed.{Place}
-use Rattle.fk_model.specs.Outcomes.{Said}
 use Rattle.fk_model.specs.Runs.{after}
 use Rattle.fk_image.specs.declared.image.Image.{Image}
 use Rattle.laws_savable.specs.Savable.{IsSound}
@@ -33,13 +31,12 @@ use Rattle.laws_sites.specs.Orders.{Order, passes}
 use Rattle.laws_restore.specs.Rooms.{Room}
 use Rattle.laws_rooms.specs.Rooms.{rooms_of}
 use Rattle.laws_rooms.specs.Restoring.{bound_by, restore_of}
-use Rattle.laws_runs.specs.Cores.{Unmoved, JobEnd, Servers, Core, IsRun, world_at}
+use Rattle.laws_runs.specs.Cores.{JobEnd, Servers, Core, IsRun, world_at}
 use Rattle.laws_runs.specs.Cores.Unmoved.{NoImage, Dead}
 use Rattle.laws_runs.specs.Cores.JobEnd.{Worked, Idle}
 use Rattle.laws_runs.specs.Cores.Asker.{Job as Asked_by_job}
 use Rattle.laws_runs.specs.Composed.{IsStart}
-use Rattle.laws_runs.specs.Turning.{asker_at}
-use Rattle.laws_runs.specs.Ended.{AsksAt, Comes, EndedBy, EndIs}
+use Rattle.laws_runs.specs.Ended.{Comes, EndedBy, EndIs}
 use Rattle.laws_runs.specs.Ended.Comes.{Begins, Hears}
 use Rattle.laws_runs.proofs.Ended.{ends_are_so}
 use Rattle.laws_runs.proofs.Composing.{composed}

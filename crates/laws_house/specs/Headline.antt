@@ -1,5 +1,5 @@
 -- All together: what a run in which checkpoints and restores work is, from its first world on, for what they save and make again.
-use Rattle.std.specs.Prelude.{◌≡◌, ℕ, ◌+◌, ◌*◌, ◌<◌, ◌≤◌, true, List, length, take, Option, Some, None}
+use Rattle.std.specs.Prelude.{◌≡◌, ℕ, ◌+◌, ◌<◌, ◌≤◌, true, List, length, take, Option, Some, None}
 use Rattle.std.specs.List.{slice_get, All}
 use Rattle.fk_model.specs.declared.job.JobSpec.{JobSpec}
 use Rattle.fk_model.specs.declared.job.JobSpec.TheVariants as specs_of
@@ -18,7 +18,7 @@ use Rattle.laws_checkpoint.specs.Checkpoint as checkpoints
 use Rattle.laws_checkpoint.specs.Checkpoint.End.{Done}
 use Rattle.laws_restore.specs.Restore as restores
 use Rattle.laws_rooms.specs.Restoring.{bound_by, are_user_pairs}
-use Rattle.laws_runs.specs.Cores.{Unmoved, JobEnd, Servers, Work, Core, IsRun, world_at}
+use Rattle.laws_runs.specs.Cores.{JobEnd, Servers, Work, Core, IsRun, world_at}
 use Rattle.laws_runs.specs.Cores.Unmoved.{NoImage}
 use Rattle.laws_runs.specs.Cores.JobEnd.{Worked, Idle}
 use Rattle.laws_runs.specs.Cores.Asker.{Job as Asked_by_job}
@@ -101,8 +101,8 @@ pub record HasHeadline {V : Type 0} {jobs : List Job} {servers : Servers V} {fir
     (run : IsRun (house jobs servers) first past c) : Type 0 where
   -- one legal history
   pub events : IsItsEvents run
-  pub checkpoints : HasCheckpoints run
-  pub restores : HasRestores run
+  pub checkpointed : HasCheckpoints run
+  pub restored : HasRestores run
   -- no scratch is left behind a job's last move, and while it works its next one is ready wherever nothing outside is held
   pub clean : (index begun last : ℕ) (end : End) → slice_get c.ends index ≡ Some (Worked end begun last) → IsClean (world_at run (last + 1))
   pub ready : (k : Work State) → c.work ≡ Some k → NextIsReady k.state c.world

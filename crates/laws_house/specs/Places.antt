@@ -16,7 +16,7 @@ use Rattle.laws_jobs.specs.Holds.{IsSpaceAt}
 use Rattle.laws_checkpoint.specs.Checkpoint as checkpoints
 use Rattle.laws_restore.specs.Restore as restores
 use Rattle.laws_restore.specs.Rest as restored
-use Rattle.laws_runs.specs.Cores.{Unmoved, JobEnd, Servers, Core, IsRun, world_at}
+use Rattle.laws_runs.specs.Cores.{JobEnd, Servers, Core, IsRun, world_at}
 use Rattle.laws_runs.specs.Cores.Unmoved.{NoImage}
 use Rattle.laws_runs.specs.Cores.JobEnd.{Worked, Idle}
 use Rattle.laws_runs.specs.Cores.Asker.{Job as Asked_by_job}

@@ -2,4 +2,4 @@ use Rattle.laws_house.proofs.Headline.{jobs_name_users_slots}
 use Rattle.laws_house.proofs.jobs_name_users_slots.Goals as goal
 
 pub returns : goal.returns
-returns g c = jobs_name_users_slots
+returns c = jobs_name_users_slots
