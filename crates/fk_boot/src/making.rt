@@ -52,7 +52,7 @@ fn first_thread(entry: u16, given: &[u64], stops: u16) -> Thread
     ensures body { (paths : ℕ → Path) → Thread_of (thread_by paths result) ≡ definitions.first_body false (specs.Thread entry given.now stops) }
     ensures talk { result.talk ≡ None }
     ensures fault { result.fault ≡ None }
-    ensures sized { length result.regs ≡ 16 }
+    ensures sized { IsSized (Body.Thread result) }
 {
     let mut regs = [0; 16];
     regs[..given.len()].copy_from_slice(given);

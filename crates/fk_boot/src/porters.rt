@@ -1,10 +1,11 @@
 //! The porters of nesters.
-ghost use Rattle.std.specs.Prelude.{◌≡◌, ℕ, IfOk, OnOk, length};
+ghost use Rattle.std.specs.Prelude.{◌≡◌, ℕ, IfOk, OnOk};
 ghost use Rattle.fk_model.specs.Objects.Body.{Thread_of};
 ghost use Rattle.fk_model.specs.Places.{Path};
 ghost use Rattle.fk_model.specs.World.{apply_all};
 ghost use Rattle.std.specs.List.{flat_map};
 ghost use Rattle.fk_store.specs.Bodies.{thread_by};
+ghost use Rattle.fk_store.specs.WellFormed.{IsSized};
 ghost use Rattle.fk_store.specs.World.{world};
 ghost use Rattle.fk_boot.specs.FirstWorld as definitions;
 ghost use Rattle.fk_boot.specs.MadeSoFar.{CanNest, AreNestable};
@@ -20,7 +21,7 @@ fn porter() -> Thread
     ensures body { (paths : ℕ → Path) → Thread_of (thread_by paths result) ≡ definitions.porter }
     ensures talk { result.talk ≡ None }
     ensures fault { result.fault ≡ None }
-    ensures sized { length result.regs ≡ 16 }
+    ensures sized { IsSized (Body.Thread result) }
 {
     Thread {
         regs: [0; 16],

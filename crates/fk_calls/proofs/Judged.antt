@@ -134,21 +134,21 @@ unrefused w p c e (Some t) = in_mode t.mode
     in_mode (Native g) = refl
 
 instruction_unrefused : (m : Contents) (w : World) (p : ℕ → Path) (c : outcomes.Caller) (v : Verdict) →
-    IsInstruction m v → closed c (outcome_by w p c v) ≡ outcome_by w p c v
-instruction_unrefused m w p c (verdicts.Runs e) is = unrefused w p c e (thread_at w (outcomes.path_of c))
-instruction_unrefused m w p c (verdicts.Faults page write port) is = refl
-instruction_unrefused m w p c (verdicts.Refused status) is = absurd is
-instruction_unrefused m w p c verdicts.Waits is = absurd is
-instruction_unrefused m w p c (verdicts.Done plan answers) is = absurd is
-instruction_unrefused m w p c (verdicts.Ends plan answers) is = absurd is
-instruction_unrefused m w p c (verdicts.Shows plan space page) is = absurd is
-instruction_unrefused m w p c (verdicts.ShowsRecord object) is = absurd is
-instruction_unrefused m w p c (verdicts.Sets object from) is = absurd is
-instruction_unrefused m w p c (verdicts.Renames object slot) is = absurd is
-instruction_unrefused m w p c (verdicts.Destroys object last) is = absurd is
-instruction_unrefused m w p c (verdicts.WakesAll cond) is = absurd is
-instruction_unrefused m w p c (verdicts.Goes plan) is = absurd is
-instruction_unrefused m w p c (verdicts.Tells plan words last) is = absurd is
+    (g : List ℕ) → IsInstruction m g v → closed c (outcome_by w p c v) ≡ outcome_by w p c v
+instruction_unrefused m w p c (verdicts.Runs e) g is = unrefused w p c e (thread_at w (outcomes.path_of c))
+instruction_unrefused m w p c (verdicts.Faults page write port) g is = refl
+instruction_unrefused m w p c (verdicts.Refused status) g is = absurd is
+instruction_unrefused m w p c verdicts.Waits g is = absurd is
+instruction_unrefused m w p c (verdicts.Done plan answers) g is = absurd is
+instruction_unrefused m w p c (verdicts.Ends plan answers) g is = absurd is
+instruction_unrefused m w p c (verdicts.Shows plan space page) g is = absurd is
+instruction_unrefused m w p c (verdicts.ShowsRecord object) g is = absurd is
+instruction_unrefused m w p c (verdicts.Sets object from) g is = absurd is
+instruction_unrefused m w p c (verdicts.Renames object slot) g is = absurd is
+instruction_unrefused m w p c (verdicts.Destroys object last) g is = absurd is
+instruction_unrefused m w p c (verdicts.WakesAll cond) g is = absurd is
+instruction_unrefused m w p c (verdicts.Goes plan) g is = absurd is
+instruction_unrefused m w p c (verdicts.Tells plan words last) g is = absurd is
 
 picked_unrefused : (c : outcomes.Caller) (pick : Option Path) (o : Outcome) → closed c o ≡ o → closed c (with_pick false pick o) ≡ with_pick false pick o
 picked_unrefused c None (Refused status) same = same
@@ -166,13 +166,13 @@ porter who = record { who = who; is_porter = true }
 pub instruction_judged : (m : Contents) (move : Move) (v : Verdict) →
     is_free_at (world m) (place (path m) move.who) ≡ true → is_running (thread_at (world m) (place (path m) move.who)) ≡ true →
     outcome_by (world m) (path m) (caller_by (path m) (user move.who) []) v ≡ run_at todo_of (world m) (place (path m) move.who) →
-    IsVerdict m (user move.who) v → IsInstruction m v → IsSureVerdict v →
+    IsVerdict m (user move.who) v → (g : List ℕ) → IsInstruction m g v → IsSureVerdict v →
     IsJudged m move asks.Run (record { caller = user move.who; chooses = false; verdict = v })
-instruction_judged m move v free running row fits instruction sure =
+instruction_judged m move v free running row fits g instruction sure =
     let w = world m in
     let c = caller_by (path m) (user move.who) [] in
     let pick = picked_by (path m) move.pick in
-    let whole = picked_unrefused c pick _ (instruction_unrefused m w (path m) c v instruction) in
+    let whole = picked_unrefused c pick _ (instruction_unrefused m w (path m) c v g instruction) in
     record {
       mover = refl;
       free = λ u. free;

@@ -4,7 +4,7 @@ ghost use Rattle.std.specs.Bool.{OnTrue, OnFalse};
 ghost use Rattle.fk_model.specs.declared.moves.Ask.TheVariants as asks;
 ghost use Rattle.fk_model.specs.Valid.{IsValid};
 ghost use Rattle.fk_model.specs.Searches.{thread_at};
-ghost use Rattle.fk_plans.specs.Effects.{effect_by, of_running};
+ghost use Rattle.fk_plans.specs.Effects.{effect_by, of_running, IsEffect};
 ghost use Rattle.fk_store.specs.Paths.{path, place, HasOwnPath};
 ghost use Rattle.fk_store.specs.World.{world};
 ghost use Rattle.fk_acts.specs.Acts.{is_act};
@@ -188,6 +188,7 @@ fn attempt_instruction(
     requires at { of_running (effect_by (world store.old) (path store.old) (place (path store.old) m.now.who) effect)
         (thread_at (world store.old) (place (path store.old) m.now.who))
         ≡ effect_by (world store.old) (path store.old) (place (path store.old) m.now.who) effect registers counter }
+    requires effect { IsEffect (path store.old) (world store.old) registers effect }
     ensures made { IfSome result (λ told. IsReadyMove store.old m.now ask.now × IsStepTo store.old m.now ask.now store.new told.said) }
     ensures ended { IfSome result (λ told. IsEnded store.old store.new told.ended) }
     ensures heard { IfSome result (λ told. IsHeardBy store.old store.new told.said) }
@@ -217,6 +218,7 @@ fn make_instruction(
     requires at { of_running (effect_by (world store.old) (path store.old) (place (path store.old) m.now.who) effect)
         (thread_at (world store.old) (place (path store.old) m.now.who))
         ≡ effect_by (world store.old) (path store.old) (place (path store.old) m.now.who) effect registers counter }
+    requires effect { IsEffect (path store.old) (world store.old) registers effect }
     ensures made { OnTrue result (IsReadyMove store.old m.now asks.Run × IsStepTo store.old m.now asks.Run store.new Said.Nothing) }
     ensures ended { OnTrue result (IsEnded store.old store.new None) }
     ensures unready { OnFalse result ((IsReadyMove store.old m.now asks.Run → ⊥) × (store.new ≡ store.old)) }

@@ -16,9 +16,8 @@ ghost use Rattle.fk_plans.specs.Plans.{caller_by};
 ghost use Rattle.fk_plans.specs.Verdicts.{mapped, outcome_by, IsSureVerdict, IsVerdict, JudgesGiven};
 
 use fk_model::limits::OWN_SPACE;
-use fk_model::status::HELD;
 use fk_model::{Fault, Kind, Peer, Who};
-use fk_plans::{Caller, Deed, Plan, Verdict, place, port_in, referred, thread_in};
+use fk_plans::{Caller, Deed, Plan, Verdict, place, port_in, referred, thread_in, unfrozen};
 use fk_store::Store;
 use fk_threads::Answers;
 
@@ -96,11 +95,7 @@ pub fn fault_set(
     thread_in(store, caller, space, x)?;
     let at = referred(store, caller, Kind::Port, port)?;
     let by = named_taker(store, caller, taker)?;
-    let slot = x as u8;
-    let thread = Who { space, slot };
-    if store.frozen_for(caller.who, thread) {
-        return Err(HELD);
-    }
+    let thread = unfrozen(store, caller, space, x)?;
     Ok(raises(store, caller, given, thread, at, by))
 }
 
@@ -124,11 +119,7 @@ pub fn fault_park(
     let space = place(store, caller, s)?;
     thread_in(store, caller, space, x)?;
     port_in(store, caller, caller.who.space, port)?;
-    let slot = x as u8;
-    let thread = Who { space, slot };
-    if store.frozen_for(caller.who, thread) {
-        return Err(HELD);
-    }
+    let thread = unfrozen(store, caller, space, x)?;
     let at = Who {
         space: caller.who.space,
         slot: port as u8,

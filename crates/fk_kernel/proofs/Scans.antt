@@ -1,7 +1,9 @@
 -- Scans: who is ready among all objects, from one object on.
-use Rattle.std.proofs.Common.{◌≡◌, Bool, true, false, IsTrue, [], ◌∷◌, Option, Some, None, refl, sym, ap, ◌∙◌}
+use Rattle.std.proofs.Common.{◌≡◌, ℕ, Bool, true, false, IsTrue, [], ◌∷◌, Option, Some, None, option_map, IfSome, refl, sym, ap, ◌∙◌}
 use Rattle.fk_model.specs.declared.moves.Ask.TheVariants as asks
+use Rattle.fk_model.specs.declared.moves.Move.{Move}
 use Rattle.fk_model.specs.declared.names.Who.{Who}
+use Rattle.fk_model.specs.Who.{named, space_born}
 use Rattle.fk_model.specs.Places.{Path}
 use Rattle.fk_model.specs.Objects.{Thread}
 use Rattle.fk_model.specs.World.{World}
@@ -9,6 +11,7 @@ use Rattle.fk_model.specs.Outcomes.Outcome.{Waits}
 use Rattle.fk_model.specs.Moves.{user_move, outcome, IsReady}
 use Rattle.fk_model.specs.Searches.{thread_at}
 use Rattle.fk_store.specs.Contents.{Contents}
+use Rattle.fk_store.specs.Paths.{path}
 use Rattle.fk_store.specs.World.{world, place_of, IsLive}
 use Rattle.fk_picks.specs.Stands.{IsPicked}
 use Rattle.fk_picks.proofs.Scans.{IsAhead, rootless, thread_there}
@@ -19,7 +22,7 @@ use Rattle.std.specs.declared.cmp.Ordering.TheVariants.{Less, Equal, Greater}
 use Rattle.fk_picks.specs.declared.moves.Picker.TheVariants.{User}
 use Rattle.fk_store.specs.Names.{who_cmp}
 use Rattle.fk_store.specs.Orders.{comes_after, IsFirstAfter}
-use Rattle.fk_kernel.specs.Events.{is_past, AreNamed, IsIdleBetween, IsIdleUpTo, IsMoveReady}
+use Rattle.fk_kernel.specs.Events.{is_past, is_who, AreNamed, IsIdleBetween, IsIdleUpTo, IsMoveReady, IsReadyBesides}
 
 -- a user is ready
 abbrev pub IsUp : Contents → Who → Type 0
@@ -71,33 +74,55 @@ nobody_ready m named none (k ∷ s) pick ready = by (thread_at (world m) (k ∷ 
         let other = named k s some in
         none other.0 (rw other.1 some) (pick, rw other.1 ready)
 
+-- nor by any other name than one
+pub nobody_besides : (m : Contents) (besides : Option Who) → path m ≡ space_born (world m) →
+    ((other : Who) → IsLive m other → is_who besides other ≡ false → IsUp m other → ⊥) → (move : Move) → IsReadyBesides (world m) besides move → ⊥
+nobody_besides m besides born none move ready = by (thread_at (world m) (named (world m) move.who)) refl
+  where
+    there : place_of m move.who ≡ named (world m) move.who
+    there = ap (λ (p : ℕ → Path). move.who.slot ∷ p move.who.space) born
+
+    by : (o : Option Thread) → thread_at (world m) (named (world m) move.who) ≡ o → ⊥
+    by None e = let waits = no_thread (world m) (named (world m) move.who) (option_map (named (world m)) move.pick) e in let moves = ready.1 in rw waits at moves
+    by (Some t) e =
+        let some = thread_there (world m) (named (world m) move.who) t e in
+        none move.who (rw there some) ready.0 (option_map (named (world m)) move.pick, rw there ready.1)
+
 -- ---- between two objects
 
--- a user that is ready, after one object and up to another
-abbrev pub IsUpBetween : Contents → Option Who → Option Who → Who → Type 0
-IsUpBetween m after last other = IsTrue (comes_after who_cmp after other) × (is_past other last ≡ false) × IsUp m other
+-- a user that is ready, after one object and up to another, but maybe one
+abbrev pub IsUpBetween : Contents → Option Who → Option Who → Option Who → Who → Type 0
+IsUpBetween m after last besides other =
+    IsTrue (comes_after who_cmp after other) × (is_past other last ≡ false) × (is_who besides other ≡ false) × IsUp m other
 
 -- before the first of them each is yet to come
-pub all_ahead : (m : Contents) (after last at : Option Who) → IsFirstAfter who_cmp (IsLive m) after at → IsAhead m (IsUpBetween m after last) at
-all_ahead m after last None first = λ other live is. first other live is.0
-all_ahead m after last (Some who) first = λ other live is. first.2 other live is.0
+pub all_ahead : (m : Contents) (after last besides at : Option Who) → IsFirstAfter who_cmp (IsLive m) after at → IsAhead m (IsUpBetween m after last besides) at
+all_ahead m after last besides None first = λ other live is. first other live is.0
+all_ahead m after last besides (Some who) first = λ other live is. first.2 other live is.0
 
 -- past the last of them there is none
-pub none_past : (m : Contents) (after last : Option Who) (who : Who) → IsAhead m (IsUpBetween m after last) (Some who) → is_past who last ≡ true →
-    IsIdleBetween m after last
-none_past m after None who ahead past other live comes within up = absurd (cc)
-none_past m after (Some last) who ahead past other live comes within up =
-    let later : IsTrue (is_lt (who_cmp last other)) = lt_le last who other past (ahead other live (comes, within, up)) in
+pub none_past : (m : Contents) (after last besides : Option Who) (who : Who) → IsAhead m (IsUpBetween m after last besides) (Some who) → is_past who last ≡ true →
+    IsIdleBetween m after last besides
+none_past m after None besides who ahead past other live comes within is up = absurd (cc)
+none_past m after (Some last) besides who ahead past other live comes within is up =
+    let later : IsTrue (is_lt (who_cmp last other)) = lt_le last who other past (ahead other live (comes, within, is, up)) in
     absurd (cc)
 
-pub idle_between : (m : Contents) (after last : Option Who) → IsAhead m (IsUpBetween m after last) None → IsIdleBetween m after last
-idle_between m after last ahead other live comes within up = ahead other live (comes, within, up)
+pub idle_between : (m : Contents) (after last besides : Option Who) → IsAhead m (IsUpBetween m after last besides) None → IsIdleBetween m after last besides
+idle_between m after last besides ahead other live comes within is up = ahead other live (comes, within, is, up)
 
 -- nobody after an object, nor up to it
-pub idle_around : (m : Contents) (last : Option Who) → IsIdleBetween m last None → IsIdleUpTo m last → (other : Who) → IsLive m other → IsUp m other → ⊥
-idle_around m None after upto other live up = after other live refl refl up
-idle_around m (Some last) after upto other live up = by (is_lt (who_cmp last other)) refl
+pub idle_around : (m : Contents) (last besides : Option Who) → IsIdleBetween m last None besides → IsIdleUpTo m last besides →
+    (other : Who) → IsLive m other → is_who besides other ≡ false → IsUp m other → ⊥
+idle_around m None besides after upto other live is up = after other live refl refl is up
+idle_around m (Some last) besides after upto other live is up = by (is_lt (who_cmp last other)) refl
   where
     by : (b : Bool) → is_lt (who_cmp last other) ≡ b → ⊥
-    by true e = after other live e refl up
-    by false e = upto other live refl e up
+    by true e = after other live e refl is up
+    by false e = upto other live refl e is up
+
+-- whoever moves by its own name is another, where it isn't this one
+pub moves_besides : (besides : Option Who) (who : Who) (o : Option Move) → is_who besides who ≡ false → IfSome o (λ m. m.who ≡ who)
+    → IfSome o (λ m. is_who besides m.who ≡ false)
+moves_besides besides who None is same = tt
+moves_besides besides who (Some m) is same = rw same is

@@ -2,11 +2,13 @@
 use Rattle.std.specs.Prelude.{◌≡◌, ℕ, ◌∷◌, Bool, false, IsTrue, IsSome, Option, Some, None, ⊤}
 use Rattle.std.specs.Ordering.{is_lt}
 use Rattle.fk_model.specs.declared.moves.Ask.TheVariants as asks
+use Rattle.fk_model.specs.declared.moves.Move.{Move}
 use Rattle.fk_model.specs.declared.names.Who.{Who}
 use Rattle.fk_model.specs.Moves.{Step, IsReady, step}
 use Rattle.fk_model.specs.Places.{Path}
 use Rattle.fk_model.specs.Runs.{Event}
 use Rattle.fk_model.specs.Valid.{is_fit, kind_there}
+use Rattle.fk_model.specs.Who.{event_of}
 use Rattle.fk_model.specs.World.{World}
 use Rattle.fk_calls.specs.Rows.{may_want_memory}
 use Rattle.fk_store.specs.Contents.{Contents}
@@ -43,6 +45,10 @@ abbrev pub is_who : Option Who → Who → Bool
 is_who None who = false
 is_who (Some other) who = same_who who other
 
+-- a user's move is ready, and it isn't this one's
+abbrev pub IsReadyBesides : World → Option Who → Move → Type 0
+IsReadyBesides w besides m = (is_who besides m.who ≡ false) × IsReadyEvent w (event_of w asks.Run m)
+
 -- an event may want memory, for an object or a page
 abbrev pub may_lack : World → Event → Bool
 may_lack w e = may_want_memory w e.mover e.ask
@@ -54,15 +60,15 @@ abbrev pub is_past : Who → Option Who → Bool
 is_past who None = false
 is_past who (Some last) = is_lt (who_cmp last who)
 
--- no user after an object, and up to another, is ready
-abbrev pub IsIdleBetween : Contents → Option Who → Option Who → Type 0
-IsIdleBetween m after last = (other : Who) → IsLive m other → IsTrue (comes_after who_cmp after other) → is_past other last ≡ false →
-    IsMoveReady (world m) (place_of m other) → ⊥
+-- no user after an object, and up to another, is ready, but maybe one
+abbrev pub IsIdleBetween : Contents → Option Who → Option Who → Option Who → Type 0
+IsIdleBetween m after last besides = (other : Who) → IsLive m other → IsTrue (comes_after who_cmp after other) → is_past other last ≡ false →
+    is_who besides other ≡ false → IsMoveReady (world m) (place_of m other) → ⊥
 
 -- nor is any up to an object, where there is one
-abbrev pub IsIdleUpTo : Contents → Option Who → Type 0
-IsIdleUpTo m None = ⊤
-IsIdleUpTo m (Some last) = IsIdleBetween m None (Some last)
+abbrev pub IsIdleUpTo : Contents → Option Who → Option Who → Type 0
+IsIdleUpTo m None besides = ⊤
+IsIdleUpTo m (Some last) besides = IsIdleBetween m None (Some last) besides
 
 -- every object has a name
 abbrev pub AreNamed : Contents → Type 0

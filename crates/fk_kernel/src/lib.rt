@@ -10,7 +10,8 @@
 //! the machine tells, that `attempt` does both at once, and tells the port whose native server lost its
 //! client by it, that `proceed` makes an instruction alone, where that is a user's next move, that `is_fit` tells which moves may be
 //! made at all, that `next` and `next_after` find a move
-//! of a user that is ready wherever there is one, and `ready_accept` whom a native server may accept.
+//! of a user that is ready wherever there is one, `next_besides` one of any user but one, and `ready_accept` whom a native server may
+//! accept.
 #![tactic(auto)]
 
 mod kernel;

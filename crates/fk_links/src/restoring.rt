@@ -15,9 +15,8 @@ ghost use Rattle.fk_store.specs.World.{world, IsLive, IsSpace};
 ghost use Rattle.fk_plans.specs.Plans.{caller_by};
 ghost use Rattle.fk_plans.specs.Verdicts.{outcome_by, IsSureVerdict, IsVerdict, JudgesGiven};
 
-use fk_model::status::HELD;
 use fk_model::{Kind, Peer, Talk, Turn, Who};
-use fk_plans::{Caller, Deed, Plan, Verdict, place, port_in, referred, thread_in};
+use fk_plans::{Caller, Deed, Plan, Verdict, place, port_in, referred, thread_in, unfrozen};
 use fk_store::Store;
 use fk_threads::Answers;
 
@@ -93,11 +92,7 @@ pub fn link_set(
     thread_in(store, caller, space, x)?;
     let at = referred(store, caller, Kind::Port, port)?;
     let by = referred(store, caller, Kind::Thread, server)?;
-    let slot = x as u8;
-    let client = Who { space, slot };
-    if store.frozen_for(caller.who, client) {
-        return Err(HELD);
-    }
+    let client = unfrozen(store, caller, space, x)?;
     Ok(links(store, caller, given, client, at, Peer::Thread(by)))
 }
 
@@ -120,11 +115,7 @@ pub fn link_park(
     let space = place(store, caller, s)?;
     thread_in(store, caller, space, x)?;
     port_in(store, caller, caller.who.space, port)?;
-    let slot = x as u8;
-    let client = Who { space, slot };
-    if store.frozen_for(caller.who, client) {
-        return Err(HELD);
-    }
+    let client = unfrozen(store, caller, space, x)?;
     let at = Who {
         space: caller.who.space,
         slot: port as u8,

@@ -2,6 +2,7 @@
 ghost use Rattle.std.specs.Prelude.{◌≡◌, ◌<◌, ℕ, List, true, false, IfSome, IfNone, nat_lt, slice_index, slice_set};
 ghost use Rattle.fk_model.specs.Instructions as instructions;
 ghost use Rattle.fk_model.specs.Instructions.{IsAct};
+ghost use Rattle.fk_store.specs.WellFormed.{HasCall};
 ghost use Rattle.fk_store.specs.World.{world};
 ghost use Rattle.fk_lone.specs.Lones.{lone_state};
 ghost use Rattle.fk_lone.specs.LoneThread as alone;
@@ -54,7 +55,8 @@ pub fn taken_out(store: &Store) -> Lone
 
 /// What a thread is at that has halted with this code, or runs.
 fn mode_of(halted: Option<u8>) -> Mode
-    ensures { (registers : List ℕ) → mode_by result registers ≡ alone.lone_mode halted registers }
+    ensures mode { (registers : List ℕ) → mode_by result registers ≡ alone.lone_mode halted registers }
+    ensures call { (registers : List ℕ) → HasCall result registers }
 {
     match halted {
         Some(code) => Mode::Halted(code),

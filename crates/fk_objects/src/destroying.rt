@@ -10,7 +10,7 @@ ghost use Rattle.fk_plans.specs.Verdicts.{IsSureVerdict, Judges};
 
 use fk_model::Who;
 use fk_model::status::{DENIED, HELD};
-use fk_plans::{Caller, Verdict, object_in, place};
+use fk_plans::{Caller, Verdict, object_in, place, unfrozen};
 use fk_store::Store;
 
 /// The object that a live space is; none for the root.
@@ -83,11 +83,7 @@ pub fn destroy(store: &Store, caller: Caller, s: u64, x: u64) -> Result<Verdict,
 {
     let space = place(store, caller, s)?;
     object_in(store, caller, space, x)?;
-    let slot = x as u8;
-    let named = Who { space, slot };
-    if store.frozen_for(caller.who, named) {
-        return Err(HELD);
-    }
+    let named = unfrozen(store, caller, space, x)?;
     if holds_space(store, named, caller.who.space) {
         return Err(DENIED);
     }

@@ -4,9 +4,8 @@ ghost use Rattle.fk_model.specs.ObjectRows as rows;
 ghost use Rattle.fk_store.specs.World.{IsSpace};
 ghost use Rattle.fk_plans.specs.Verdicts.{Judges, IsSureVerdict};
 
-use fk_model::status::HELD;
-use fk_model::{Ptr, Who};
-use fk_plans::{Caller, Deed, Plan, Verdict, place, pointer_in, reference_in};
+use fk_model::Ptr;
+use fk_plans::{Caller, Deed, Plan, Verdict, place, pointer_in, reference_in, unfrozen};
 use fk_store::Store;
 use fk_threads::Answers;
 
@@ -28,11 +27,7 @@ pub fn point(
     reference_in(store, caller, space, x)?;
     let other_space = place(store, caller, other_place)?;
     let to = pointer_in(store, caller, other_space, other)?;
-    let slot = x as u8;
-    let object = Who { space, slot };
-    if store.frozen_for(caller.who, object) {
-        return Err(HELD);
-    }
+    let object = unfrozen(store, caller, space, x)?;
     Ok(Verdict::Done(Plan::One(Deed::Points { object, to }), Answers::Nothing))
 }
 
@@ -45,11 +40,7 @@ pub fn clear(store: &Store, caller: Caller, s: u64, x: u64) -> Result<Verdict, u
 {
     let space = place(store, caller, s)?;
     reference_in(store, caller, space, x)?;
-    let slot = x as u8;
-    let object = Who { space, slot };
-    if store.frozen_for(caller.who, object) {
-        return Err(HELD);
-    }
+    let object = unfrozen(store, caller, space, x)?;
     let to = Ptr::Null;
     Ok(Verdict::Done(Plan::One(Deed::Points { object, to }), Answers::Nothing))
 }

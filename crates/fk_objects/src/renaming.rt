@@ -8,9 +8,9 @@ ghost use Rattle.fk_store.specs.World.{IsSpace};
 ghost use Rattle.fk_plans.specs.Verdicts.{Judges, IsSureVerdict};
 
 use fk_model::limits::LAST_USER_SLOT;
-use fk_model::status::{BADHANDLE, DENIED, HELD, NOTEMPTY, OCCUPIED};
+use fk_model::status::{BADHANDLE, DENIED, NOTEMPTY, OCCUPIED};
 use fk_model::{Body, Who};
-use fk_plans::{Caller, Verdict, object_in, place};
+use fk_plans::{Caller, Verdict, object_in, place, unfrozen};
 use fk_store::Store;
 
 /// A port with a native server.
@@ -33,11 +33,7 @@ pub fn rename(store: &Store, caller: Caller, s: u64, x: u64, y: u64) -> Result<V
 {
     let space = place(store, caller, s)?;
     let body = object_in(store, caller, space, x)?;
-    let slot = x as u8;
-    let object = Who { space, slot };
-    if store.frozen_for(caller.who, object) {
-        return Err(HELD);
-    }
+    let object = unfrozen(store, caller, space, x)?;
     // The new slot is a check of the call's own, after HELD.
     if y > LAST_USER_SLOT {
         return Err(BADHANDLE);

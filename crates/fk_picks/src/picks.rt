@@ -1,5 +1,5 @@
 //! A user's move that picks somebody, and a server's accept.
-ghost use Rattle.std.specs.Prelude.{IfSome, IfNone, Option};
+ghost use Rattle.std.specs.Prelude.{◌≡◌, IfSome, IfNone, Option};
 ghost use Rattle.fk_model.specs.declared.moves.Ask.TheVariants as asks;
 ghost use Rattle.fk_model.specs.Moves.{IsReady};
 ghost use Rattle.fk_model.specs.Places.{Path};
@@ -34,6 +34,7 @@ fn user_picks(store: &Store, who: Who) -> Option<Who>
 pub fn ready_pick(store: &Store, who: Who) -> Option<Move>
     requires valid { IsValid (world store.now) }
     ensures ready { IfSome result (λ m. IsReadyMove store.now m asks.Run) }
+    ensures who { IfSome result (λ m. m.who ≡ who) }
     ensures none { IfNone result ((q : Path) → IsPicked store.now (Picker.User who) q → ⊥) }
 {
     match user_picks(store, who) {

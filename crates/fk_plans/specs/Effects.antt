@@ -1,8 +1,9 @@
 -- Effects: what an instruction of a running thread comes to.
-use Rattle.std.specs.Prelude.{◌≡◌, ◌<◌, ℕ, Bool, true, false, List, [], ◌∷◌, Option, Some, None, IsSome, ⊤, slice_set}
+use Rattle.std.specs.Prelude.{◌≡◌, ◌<◌, ℕ, Bool, true, false, List, [], ◌∷◌, Option, Some, None, IsSome, is_some, ⊤, slice_set}
+use Rattle.fk_model.specs.Calls.{todo_of}
 use Rattle.fk_model.specs.Places.{Path}
 use Rattle.fk_model.specs.Instructions.{next}
-use Rattle.fk_model.specs.Objects.{Mode, Thread}
+use Rattle.fk_model.specs.Objects.{Mode, Thread, registers_of}
 use Rattle.fk_model.specs.Objects.Mode.{Running, Halted}
 use Rattle.fk_model.specs.Outcomes.{Outcome}
 use Rattle.fk_model.specs.Outcomes.Outcome.{Waits, Goes}
@@ -43,8 +44,14 @@ abbrev pub is_running : Option Thread → Bool
 is_running None = false
 is_running (Some t) = is_running_mode t.mode
 
--- a register is among the 16, and the page that is written is there
-abbrev pub IsEffect : (ℕ → Path) → World → Effect → Type 0
-IsEffect p w (effects.Puts register value) = register < 16
-IsEffect p w (effects.Stores space page at value) = (birth_at w (p space) ≡ Some space) × IsSome (w.page (p space) page) × (at < 64)
-IsEffect p w other = ⊤
+-- the registers of a thread, where there is one
+abbrev pub registers_there : Option Thread → List ℕ
+registers_there None = []
+registers_there (Some t) = registers_of t.mode
+
+-- on these registers: a register is among the 16, who enters a call has a call's code, and the page that is written is there
+abbrev pub IsEffect : (ℕ → Path) → World → List ℕ → Effect → Type 0
+IsEffect p w g (effects.Puts register value) = register < 16
+IsEffect p w g effects.Enters = is_some (todo_of g) ≡ true
+IsEffect p w g (effects.Stores space page at value) = (birth_at w (p space) ≡ Some space) × IsSome (w.page (p space) page) × (at < 64)
+IsEffect p w g other = ⊤

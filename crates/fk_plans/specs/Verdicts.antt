@@ -28,7 +28,7 @@ use Rattle.fk_plans.specs.declared.plan.News.{News}
 use Rattle.fk_plans.specs.declared.plan.News.TheVariants as news
 use Rattle.fk_plans.specs.declared.plan.Words.{Words}
 use Rattle.fk_plans.specs.declared.plan.Verdict.TheVariants as verdicts
-use Rattle.fk_plans.specs.Effects.{effect_by, of_running, is_running, IsEffect}
+use Rattle.fk_plans.specs.Effects.{effect_by, of_running, is_running, registers_there, IsEffect}
 use Rattle.fk_plans.specs.Destroys.{destroyed, IsDying}
 use Rattle.fk_plans.specs.Plans.{caller_by, changes_by, IsGiver, IsPlan, IsSure}
 use Rattle.fk_plans.specs.Recordings.{record_words, IsRecord}
@@ -115,7 +115,8 @@ IsRecordOf m c from = IsRecord (path m) (world m) from × (from ≡ records.Give
 
 -- a user alone has instructions and faults, wakes sleepers, and tells of words, a porter alone gets a page
 abbrev pub IsVerdict : Contents → Caller → Verdict → Type 0
-IsVerdict m c (verdicts.Runs e) = (c.is_porter ≡ false) × (is_running (thread_at (world m) (place (path m) c.who)) ≡ true) × IsEffect (path m) (world m) e
+IsVerdict m c (verdicts.Runs e) = let thread = thread_at (world m) (place (path m) c.who) in
+    (c.is_porter ≡ false) × (is_running thread ≡ true) × IsEffect (path m) (world m) (registers_there thread) e
 IsVerdict m c (verdicts.Refused status) = ⊤
 IsVerdict m c verdicts.Waits = ⊤
 IsVerdict m c (verdicts.Done plan answers) = IsPlanOf m c plan × AreAnswers m c plan answers

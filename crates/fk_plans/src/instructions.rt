@@ -4,7 +4,7 @@ ghost use Rattle.fk_model.specs.Moves.{stepped};
 ghost use Rattle.fk_model.specs.Outcomes.Said.{Nothing};
 ghost use Rattle.fk_store.specs.Paths.{path, place};
 ghost use Rattle.fk_store.specs.World.{world};
-ghost use Rattle.fk_plans.specs.Effects.{IsEffect, effect_by, of_running};
+ghost use Rattle.fk_plans.specs.Effects.{IsEffect, effect_by, of_running, registers_there};
 ghost use Rattle.fk_model.specs.Searches.{thread_at};
 ghost use Rattle.fk_model.specs.Valid.{kind_there};
 
@@ -22,7 +22,7 @@ pub fn make_effect(
     counter: u64,
     effect: Effect,
 )
-    requires { IsEffect (path store.old) (world store.old) effect }
+    requires { IsEffect (path store.old) (world store.old) registers effect }
     ensures step { stepped (world store.old) (effect_by (world store.old) (path store.old) (place (path store.old) me) effect registers counter)
         ≡ record { world = world store.new; said = Nothing } }
     ensures kinds { kind_there (world store.new) ≡ kind_there (world store.old) }
@@ -52,7 +52,7 @@ pub fn make_effect(
 /// Makes an effect of a thread where it runs.
 #[inline(always)]
 pub fn run(store: &mut Store, me: Who, effect: Effect)
-    requires { IsEffect (path store.old) (world store.old) effect }
+    requires { IsEffect (path store.old) (world store.old) (registers_there (thread_at (world store.old) (place (path store.old) me))) effect }
     ensures step { stepped (world store.old) (of_running (effect_by (world store.old) (path store.old) (place (path store.old) me) effect)
         (thread_at (world store.old) (place (path store.old) me))) ≡ record { world = world store.new; said = Nothing } }
 {

@@ -12,6 +12,7 @@ mod destroying;
 mod instructions;
 mod making;
 mod moving;
+mod opening;
 mod own;
 mod plan;
 mod readiness;
@@ -31,6 +32,7 @@ pub use fk_readers::{
 };
 pub use instructions::{make_effect, run};
 pub use moving::move_words;
+pub use opening::unfrozen;
 pub use own::own_page;
 pub use plan::{Deed, Effect, Moving, News, Plan, Verdict, Words};
 pub use readiness::{is_effect_ready, is_moving_ready, is_ready};

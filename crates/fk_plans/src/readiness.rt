@@ -17,7 +17,7 @@ use crate::ties::{is_fault_unfrozen, is_peer_unfrozen, is_taker_unfrozen, is_tal
 use fk_deaths::{
     fault_leads_to_frozen, leads_to_frozen, may_destroy, peer_leads_to_frozen, talk_leads_to_frozen,
 };
-use fk_model::Who;
+use fk_model::{Fault, Peer, Ptr, Talk, Who};
 use fk_readers::Caller;
 use fk_store::Store;
 
@@ -41,17 +41,67 @@ fn is_holder_unfrozen(store: &Store, me: Who, holder: Option<Who>) -> bool
     }
 }
 
+/// The freezing rule allows that the pointer of an object leads elsewhere.
+fn may_point(store: &Store, me: Who, object: Who, to: Ptr) -> bool
+    ensures { result ≡ is_deed_allowed (world store.now) (place (path store.now) me) (path store.now) (Deed.Points object to) }
+{
+    !store.frozen_for(me, object)
+        && is_object_unfrozen(store, me, object)
+        && !store.leads_to_frozen(me, to)
+}
+
+/// It allows that a thread is the client of a new talk.
+fn may_link(store: &Store, me: Who, client: Who, talk: Talk) -> bool
+    ensures { result ≡ is_deed_allowed (world store.now) (place (path store.now) me) (path store.now) (Deed.Links client talk) }
+{
+    !store.frozen_for(me, client)
+        && is_talk_unfrozen(store, me, client)
+        && !talk_leads_to_frozen(store, me, Some(talk))
+}
+
+/// It allows that a client's talk has this peer.
+fn may_serve(store: &Store, me: Who, client: Who, peer: Peer) -> bool
+    ensures { result ≡ is_deed_allowed (world store.now) (place (path store.now) me) (path store.now) (Deed.Serves client peer) }
+{
+    !store.frozen_for(me, client)
+        && is_peer_unfrozen(store, me, client)
+        && !peer_leads_to_frozen(store, me, Some(peer))
+}
+
+/// It allows that a thread has this fault.
+fn may_raise(store: &Store, me: Who, thread: Who, fault: Fault) -> bool
+    ensures { result ≡ is_deed_allowed (world store.now) (place (path store.now) me) (path store.now) (Deed.Raises thread fault) }
+{
+    !store.frozen_for(me, thread)
+        && is_fault_unfrozen(store, me, thread)
+        && !fault_leads_to_frozen(store, me, Some(fault))
+}
+
+/// It allows that the fault of a thread has this taker.
+fn may_take(store: &Store, me: Who, thread: Who, taker: Peer) -> bool
+    ensures { result ≡ is_deed_allowed (world store.now) (place (path store.now) me) (path store.now) (Deed.Takes thread taker) }
+{
+    !store.frozen_for(me, thread)
+        && is_taker_unfrozen(store, me, thread)
+        && !peer_leads_to_frozen(store, me, Some(taker))
+}
+
+/// It allows that a space is held by a thread, or by nobody.
+fn may_hold(store: &Store, me: Who, space: Who, holder: Option<Who>) -> bool
+    ensures { result ≡ is_deed_allowed (world store.now) (place (path store.now) me) (path store.now) (Deed.Holds space holder) }
+{
+    !store.frozen_for(me, space)
+        && is_object_unfrozen(store, me, space)
+        && is_holder_unfrozen(store, me, holder)
+}
+
 /// The freezing rule allows a deed.
 fn is_deed_allowed(store: &Store, me: Who, deed: &Deed) -> bool
     ensures { result ≡ is_deed_allowed (world store.now) (place (path store.now) me) (path store.now) deed.now }
 {
     match *deed {
         Deed::Locks { mutex, .. } => !store.frozen_for(me, mutex),
-        Deed::Points { object, to } => {
-            !store.frozen_for(me, object)
-                && is_object_unfrozen(store, me, object)
-                && !store.leads_to_frozen(me, to)
-        }
+        Deed::Points { object, to } => may_point(store, me, object, to),
         Deed::Wakes { thread, .. } => !store.frozen_for(me, thread),
         Deed::Sleeps { thread, .. }
         | Deed::Shifts { thread, .. }
@@ -67,34 +117,14 @@ fn is_deed_allowed(store: &Store, me: Who, deed: &Deed) -> bool
         Deed::Unlinks { client } => {
             !store.frozen_for(me, client) && is_talk_unfrozen(store, me, client)
         }
-        Deed::Links { client, talk } => {
-            !store.frozen_for(me, client)
-                && is_talk_unfrozen(store, me, client)
-                && !talk_leads_to_frozen(store, me, Some(talk))
-        }
-        Deed::Serves { client, peer } => {
-            !store.frozen_for(me, client)
-                && is_peer_unfrozen(store, me, client)
-                && !peer_leads_to_frozen(store, me, Some(peer))
-        }
+        Deed::Links { client, talk } => may_link(store, me, client, talk),
+        Deed::Serves { client, peer } => may_serve(store, me, client, peer),
         Deed::Frees { thread } => {
             !store.frozen_for(me, thread) && is_fault_unfrozen(store, me, thread)
         }
-        Deed::Raises { thread, fault } => {
-            !store.frozen_for(me, thread)
-                && is_fault_unfrozen(store, me, thread)
-                && !fault_leads_to_frozen(store, me, Some(fault))
-        }
-        Deed::Takes { thread, taker } => {
-            !store.frozen_for(me, thread)
-                && is_taker_unfrozen(store, me, thread)
-                && !peer_leads_to_frozen(store, me, Some(taker))
-        }
-        Deed::Holds { space, holder } => {
-            !store.frozen_for(me, space)
-                && is_object_unfrozen(store, me, space)
-                && is_holder_unfrozen(store, me, holder)
-        }
+        Deed::Raises { thread, fault } => may_raise(store, me, thread, fault),
+        Deed::Takes { thread, taker } => may_take(store, me, thread, taker),
+        Deed::Holds { space, holder } => may_hold(store, me, space, holder),
     }
 }
 

@@ -8,6 +8,7 @@ use Rattle.fk_model.specs.World.{World, Change, Edit}
 use Rattle.fk_model.specs.World.Change.{Alter}
 use Rattle.fk_model.specs.World.Edit.{SetLocked, SetWindow, SetExtent, SetMember, Proceed, SetStops}
 use Rattle.fk_store.specs.Bodies.{mode_by}
+use Rattle.fk_store.specs.WellFormed.{HasCall}
 use Rattle.fk_records.specs.declared.setting.Setting.{Setting}
 use Rattle.fk_records.specs.declared.setting.Setting.TheVariants as settings
 
@@ -24,10 +25,11 @@ edits_of (settings.Extent first count write) = SetExtent first count write ∷ [
 edits_of (settings.Member set) = SetMember set ∷ []
 edits_of (settings.State registers counter mode stops) = Proceed (mode_by mode registers) counter ∷ SetStops stops ∷ []
 
--- its pages are pages that a space has
+-- its pages are pages that a space has, and registers hold a call's code where the thread is to call
 abbrev pub IsSetting : Setting → Type 0
 IsSetting (settings.Window first count offset write) = is_page_range first count ≡ true
 IsSetting (settings.Extent first count write) = is_page_range first count ≡ true
+IsSetting (settings.State registers counter mode stops) = HasCall mode registers
 IsSetting other = ⊤
 
 -- what a record sets of what stands at a path of a space, where that takes it

@@ -9,6 +9,7 @@ ghost use Rattle.fk_model.specs.World.Change.{Alter};
 ghost use Rattle.fk_model.specs.World.Edit.{SetLocked, SetWindow, SetExtent, SetMember, Proceed, SetStops};
 ghost use Rattle.fk_store.specs.Bodies.{body_by, mode_by};
 ghost use Rattle.fk_store.specs.Paths.{path, place};
+ghost use Rattle.fk_store.specs.WellFormed.{HasCall};
 ghost use Rattle.fk_store.specs.World.{world};
 ghost use Rattle.fk_records.specs.Settings.{edits_of, sets_at, IsSetting};
 
@@ -116,7 +117,7 @@ fn member_of(store: &Store, space: u32, served: bool, n: u64) -> Option<Setting>
 /// A mode, by its number, and a code that goes with it.
 fn mode_of(registers: &[u64; 16], n: u64, code: u64) -> Option<Mode>
     ensures some { IfSome result (λ mode. (definition.is_mode registers.now n code ≡ true)
-        × (definition.mode_of_record n registers.now code ≡ mode_by mode registers.now)) }
+        × (definition.mode_of_record n registers.now code ≡ mode_by mode registers.now) × HasCall mode registers.now) }
     ensures none { IfNone result (definition.is_mode registers.now n code ≡ false) }
 {
     if n == 2 && code <= 255 {

@@ -15,9 +15,11 @@ ghost use Rattle.fk_model.specs.declared.statuses.status.TheConstants.{BADSTATE}
 ghost use Rattle.fk_plans.specs.Verdicts.{Judges, IsSureVerdict, mapped};
 
 use crate::fields::{Field, field_of, is_inner, number_of, pointer_of};
-use fk_model::status::{BADSTATE, DENIED, HELD, WRONGKIND};
+use fk_model::status::{BADSTATE, DENIED, WRONGKIND};
 use fk_model::{Body, Ptr, Who};
-use fk_plans::{Caller, Deed, Plan, Verdict, is_referable, object_in, place, reference_in};
+use fk_plans::{
+    Caller, Deed, Plan, Verdict, is_referable, object_in, place, reference_in, unfrozen,
+};
 use fk_store::Store;
 use fk_threads::Answers;
 
@@ -120,11 +122,7 @@ pub fn set_ptr(
     let space = place(store, caller, s)?;
     let body = object_in(store, caller, space, x)?;
     let to = reference_in(store, caller, caller.who.space, reference)?;
-    let slot = x as u8;
-    let object = Who { space, slot };
-    if store.frozen_for(caller.who, object) {
-        return Err(HELD);
-    }
+    let object = unfrozen(store, caller, space, x)?;
     if field_of(field, body).is_none() {
         return Err(BADSTATE);
     }

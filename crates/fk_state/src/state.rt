@@ -13,9 +13,9 @@ ghost use Rattle.fk_plans.specs.Recordings.{record_words, IsRecord};
 ghost use Rattle.fk_plans.specs.Verdicts.{Judges, JudgesGiven, IsVerdict, IsSureVerdict, outcome_of};
 
 use fk_model::limits::{PAGE_WORDS, RECORD_WORDS};
-use fk_model::status::{BADADDRESS, BADSTATE, DENIED, HELD, NOTSTOPPED};
+use fk_model::status::{BADADDRESS, BADSTATE, DENIED, NOTSTOPPED};
 use fk_model::{Body, Mode, Who};
-use fk_plans::{Caller, Deed, Plan, Record, Verdict, object_in, own_page, place};
+use fk_plans::{Caller, Deed, Plan, Record, Verdict, object_in, own_page, place, unfrozen};
 use fk_records::takes_state;
 use fk_store::Store;
 use fk_threads::Answers;
@@ -233,11 +233,7 @@ pub fn set_state(
 {
     let space = place(store, caller, s)?;
     let body = object_in(store, caller, space, x)?;
-    let slot = x as u8;
-    let object = Who { space, slot };
-    if store.frozen_for(caller.who, object) {
-        return Err(HELD);
-    }
+    let object = unfrozen(store, caller, space, x)?;
     if is_native(body) {
         return Err(DENIED);
     }

@@ -5,6 +5,9 @@ use Rattle.std.specs.FinMap.{get}
 use Rattle.fk_model.specs.declared.names.Who.{Who}
 use Rattle.fk_model.specs.declared.body.Body.{Body}
 use Rattle.fk_model.specs.declared.body.Body.TheVariants.{Mutex, Cond, Mapping, Region, Port, Portset, Space, Thread, Reference}
+use Rattle.fk_model.specs.declared.thread.Mode.{Mode}
+use Rattle.fk_model.specs.declared.thread.Mode.TheVariants as modes
+use Rattle.fk_model.specs.Calls.{todo_of}
 use Rattle.fk_model.specs.Records.{is_page_range}
 use Rattle.fk_store.specs.Contents.{Contents, birth_there, home, is_live}
 use Rattle.fk_store.specs.Named.{OnNamed}
@@ -13,7 +16,14 @@ use Rattle.fk_store.specs.Named.{OnNamed}
 abbrev pub is_there : Contents → Who → Bool
 is_there m who = is_some (get m.bodies who)
 
--- the pages of a mapping or a region are pages that a space has, and a thread has its 16 registers
+-- a calling thread's first register holds the code of a call
+abbrev pub HasCall : Mode → List ℕ → Type 0
+HasCall modes.Running g = Unit {0}
+HasCall modes.Calling g = is_some (todo_of g) ≡ true
+HasCall (modes.Halted code) g = Unit {0}
+HasCall modes.Native g = Unit {0}
+
+-- the pages of a mapping or a region are pages that a space has, and a thread has its 16 registers, and a call's code where it calls
 abbrev pub IsSized : Body → Type 0
 IsSized (Mutex locked) = Unit {0}
 IsSized Cond = Unit {0}
@@ -22,7 +32,7 @@ IsSized (Region first count write keeper) = is_page_range first count ≡ true
 IsSized (Port set served) = Unit {0}
 IsSized Portset = Unit {0}
 IsSized (Space birth holder) = Unit {0}
-IsSized (Thread thread) = length thread.regs ≡ 16
+IsSized (Thread thread) = (length thread.regs ≡ 16) × HasCall thread.mode thread.regs
 IsSized (Reference to) = Unit {0}
 
 pub record IsWellFormed (m : Contents) : Type 0 where

@@ -12,7 +12,7 @@ ghost use Rattle.fk_store.specs.Paths.{path, place};
 ghost use Rattle.fk_store.specs.Bodies.{mode_by, thread_by};
 ghost use Rattle.fk_store.specs.Named.{OnNamed};
 ghost use Rattle.fk_store.specs.Threads.{is_free_at};
-ghost use Rattle.fk_store.specs.WellFormed.{IsSized};
+ghost use Rattle.fk_store.specs.WellFormed.{HasCall, IsSized};
 ghost use Rattle.fk_store.specs.World.{world, IsLive, IsSpace};
 ghost use Rattle.fk_model.specs.Searches.{thread_at};
 
@@ -101,6 +101,7 @@ fn ended(mut thread: Thread, status: u8) -> Thread
     ensures talk { result.talk ≡ thread.talk }
     ensures fault { result.fault ≡ thread.fault }
     ensures stops { result.stops ≡ thread.stops }
+    ensures call { HasCall thread.mode thread.regs → HasCall result.mode result.regs }
 {
     if let Mode::Calling = thread.mode {
         thread.regs[0] = u64::from(status);

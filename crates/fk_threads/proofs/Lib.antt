@@ -1,4 +1,5 @@
 pub mod FinishLaws
+pub mod CallCodes
 pub mod SleeperLaws
 pub mod ShiftLaws
 pub mod Falling

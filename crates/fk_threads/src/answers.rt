@@ -1,6 +1,6 @@
 //! A stage that is done, with its answers.
-ghost use Rattle.std.specs.Prelude.{◌≡◌, ◌+◌, ◌%◌, ◌^◌, ℕ, Some, None, slice_index};
-ghost use Rattle.fk_model.specs.Calls.{with_answers};
+ghost use Rattle.std.specs.Prelude.{◌≡◌, ◌+◌, ◌%◌, ◌^◌, ℕ, true, Some, None, is_some, slice_index};
+ghost use Rattle.fk_model.specs.Calls.{todo_of, with_answers};
 ghost use Rattle.fk_model.specs.Objects.Body.{Thread_of};
 ghost use Rattle.fk_model.specs.Places.{Path};
 ghost use Rattle.fk_model.specs.Valid.{kind_there};
@@ -12,6 +12,7 @@ ghost use Rattle.fk_model.specs.declared.thread.Mode.TheVariants as modes;
 ghost use Rattle.fk_store.specs.Bodies.{mode_by, thread_by};
 ghost use Rattle.fk_store.specs.Paths.{path, place};
 ghost use Rattle.fk_store.specs.Threads.{todo_of_mode, todo_at};
+ghost use Rattle.fk_store.specs.WellFormed.{HasCall};
 ghost use Rattle.fk_store.specs.World.{world};
 ghost use Rattle.fk_threads.specs.Answers.{all_four, listed, code_after, LeaveArguments};
 
@@ -69,7 +70,8 @@ fn at_next(thread: &Thread, code: u64, answers: Answers) -> [u64; 16]
     requires calling { thread.now.mode ≡ modes.Calling }
     requires after { Some code ≡ code_after (slice_index thread.now.regs 0) }
     requires apart { LeaveArguments answers (todo_of_mode (mode_by thread.now.mode thread.now.regs)) }
-    ensures { (p : ℕ → Path) → edited (Finish (listed answers)) (Thread_of (thread_by p thread.now))
+    ensures call { is_some (todo_of result) ≡ true }
+    ensures edit { (p : ℕ → Path) → edited (Finish (listed answers)) (Thread_of (thread_by p thread.now))
         ≡ Thread_of (thread_by p (record thread.now { regs = result; mode = modes.Calling })) }
 {
     let mut registers = thread.regs;
@@ -146,6 +148,7 @@ fn ended_with(mut thread: Thread, answers: Four) -> Thread
     ensures talk { result.talk ≡ thread.talk }
     ensures fault { result.fault ≡ thread.fault }
     ensures stops { result.stops ≡ thread.stops }
+    ensures call { HasCall result.mode result.regs }
 {
     thread.regs[0] = u64::from(status::OK);
     thread.regs = answered_four(thread.regs, answers);
@@ -160,6 +163,7 @@ fn well_ended(thread: Thread, answers: Four) -> Thread
     ensures talk { result.talk ≡ thread.talk }
     ensures fault { result.fault ≡ thread.fault }
     ensures stops { result.stops ≡ thread.stops }
+    ensures call { HasCall thread.mode thread.regs → HasCall result.mode result.regs }
 {
     if let Mode::Calling = thread.mode {
         return ended_with(thread, answers);

@@ -7,12 +7,14 @@ ghost use Rattle.fk_model.specs.World.{Edit, apply, edited};
 ghost use Rattle.fk_model.specs.World.Change.{Alter};
 ghost use Rattle.fk_store.specs.Bodies.{thread_by};
 ghost use Rattle.fk_store.specs.Paths.{path, place};
+ghost use Rattle.fk_store.specs.WellFormed.{HasCall};
 ghost use Rattle.fk_store.specs.World.{world};
 
 use fk_model::{Thread, Who};
 use fk_store::Store;
 
-/// A thread becomes another, which differs from it in its registers, its counter and its mode alone.
+/// A thread becomes another, which differs from it in its registers, its counter and its mode alone,
+/// and whose registers hold a call's code where it calls.
 /// So what it leads to needn't be told of it again.
 #[inline(always)]
 pub fn go_on(store: &mut Store, who: Who, was: Thread, thread: Thread)
@@ -20,6 +22,7 @@ pub fn go_on(store: &mut Store, who: Who, was: Thread, thread: Thread)
     requires talk { thread.talk ≡ was.talk }
     requires fault { thread.fault ≡ was.fault }
     requires stops { thread.stops ≡ was.stops }
+    requires call { HasCall thread.mode thread.regs }
     ensures edits { (e : Edit)
         → edited e (Thread_of (thread_by (path store.old) was)) ≡ Thread_of (thread_by (path store.old) thread)
         → world store.new ≡ apply (Alter (place (path store.old) who) e) (world store.old) }

@@ -1,5 +1,6 @@
 //! What a moved block makes of the threads at its ends.
-ghost use Rattle.std.specs.Prelude.{◌≡◌, ◌<◌, ◌+◌, ◌-◌, ◌^◌, ℕ, slice_index};
+ghost use Rattle.std.specs.Prelude.{◌≡◌, ◌<◌, ◌+◌, ◌-◌, ◌^◌, ℕ, true, is_some, slice_index};
+ghost use Rattle.fk_model.specs.Calls.{todo_of};
 ghost use Rattle.fk_model.specs.Objects.Body.{Thread_of};
 ghost use Rattle.fk_model.specs.Places.{Path};
 ghost use Rattle.fk_model.specs.Talks.{receiving};
@@ -48,7 +49,8 @@ fn shift(registers: &mut [u64; 16], count: u64)
 fn shifted(thread: &Thread, count: u64) -> [u64; 16]
     requires calling { thread.now.mode ≡ modes.Calling }
     requires low { address_of (todo_of_mode (mode_by thread.now.mode thread.now.regs)) + count < 2 ^ 64 }
-    ensures { (p : ℕ → Path) → edited (Shift count) (Thread_of (thread_by p thread.now))
+    ensures call { is_some (todo_of thread.now.regs) ≡ true → is_some (todo_of result) ≡ true }
+    ensures edit { (p : ℕ → Path) → edited (Shift count) (Thread_of (thread_by p thread.now))
         ≡ Thread_of (thread_by p (record thread.now { regs = result; mode = modes.Calling })) }
 {
     let mut registers = thread.regs;

@@ -13,6 +13,7 @@ ghost use Rattle.fk_model.specs.declared.stage.Stage.TheVariants.{CondAsleep, Co
 ghost use Rattle.fk_store.specs.Bodies.{mode_by, thread_by};
 ghost use Rattle.fk_store.specs.Paths.{path, place};
 ghost use Rattle.fk_store.specs.Threads.{todo_at, todo_of_mode};
+ghost use Rattle.fk_store.specs.WellFormed.{HasCall};
 ghost use Rattle.fk_store.specs.World.{world};
 ghost use Rattle.fk_threads.specs.Firsts.{IsFirst};
 ghost use Rattle.fk_threads.specs.Sleepers.{asleep_in, fallen, is_changed, IsAsleep};
@@ -77,6 +78,7 @@ fn awake(mut thread: Thread, mutex: u64) -> Thread
     ensures talk { result.talk ≡ thread.talk }
     ensures fault { result.fault ≡ thread.fault }
     ensures stops { result.stops ≡ thread.stops }
+    ensures call { HasCall result.mode result.regs }
 {
     thread.regs[0] = 21;
     thread.regs[1] = mutex;
@@ -143,6 +145,7 @@ fn asleep(mut thread: Thread) -> Thread
     ensures talk { result.talk ≡ thread.talk }
     ensures fault { result.fault ≡ thread.fault }
     ensures stops { result.stops ≡ thread.stops }
+    ensures call { HasCall thread.mode thread.regs → HasCall result.mode result.regs }
 {
     if let Mode::Calling = thread.mode {
         thread.regs = fallen(thread.regs);

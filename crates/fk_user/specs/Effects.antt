@@ -1,5 +1,5 @@
 -- Effects: the outcome of a verdict on an instruction, where the thread's registers and its counter are at hand.
-use Rattle.std.specs.Prelude.{[], ◌∷◌}
+use Rattle.std.specs.Prelude.{ℕ, List, [], ◌∷◌}
 use Rattle.fk_model.specs.declared.names.Who.{Who}
 use Rattle.fk_model.specs.declared.thread.Thread.{Thread}
 use Rattle.fk_model.specs.Outcomes.{Outcome}
@@ -26,8 +26,8 @@ outcome_at m me t (verdicts.Runs e) = effect_by (world m) (path m) (place (path 
 outcome_at m me t (verdicts.Faults page write port) = Goes (fault_on (place (path m) me) page write (At (place (path m) port)) ∷ []) Nothing
 outcome_at m me t other = Waits
 
--- a verdict on an instruction, which can be carried out
-abbrev pub IsInstruction : Contents → Verdict → Type 0
-IsInstruction m (verdicts.Runs e) = IsEffect (path m) (world m) e
-IsInstruction m (verdicts.Faults page write port) = IsLive m port
-IsInstruction m other = ⊥
+-- a verdict on an instruction, which can be carried out on these registers
+abbrev pub IsInstruction : Contents → List ℕ → Verdict → Type 0
+IsInstruction m g (verdicts.Runs e) = IsEffect (path m) (world m) g e
+IsInstruction m g (verdicts.Faults page write port) = IsLive m port
+IsInstruction m g other = ⊥

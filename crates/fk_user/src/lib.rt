@@ -35,7 +35,7 @@ pub fn instruction(store: &Store, caller: Caller, thread: &Thread) -> Instructio
     ensures row { (words : List ℕ) → outcome_by (world store.now)
         (path store.now) (caller_by (path store.now) caller words) (verdict_of result) ≡ run_at todo_of (world store.now) (place (path store.now) caller.who) }
     ensures fits { IsVerdict store.now caller (verdict_of result) }
-    ensures instruction { IsInstruction store.now (verdict_of result) }
+    ensures instruction { IsInstruction store.now thread.now.regs (verdict_of result) }
     ensures sure { IsSureVerdict (verdict_of result) }
 {
     match thread.mode {
@@ -52,7 +52,7 @@ pub fn judge(store: &Store, caller: Caller, thread: &Thread) -> Verdict
     ensures row { (words : List ℕ) → outcome_by (world store.now)
         (path store.now) (caller_by (path store.now) caller words) result ≡ run_at todo_of (world store.now) (place (path store.now) caller.who) }
     ensures fits { IsVerdict store.now caller result }
-    ensures instruction { IsInstruction store.now result }
+    ensures instruction { IsInstruction store.now thread.now.regs result }
     ensures sure { IsSureVerdict result }
 {
     instruction(store, caller, thread).verdict()

@@ -1,10 +1,11 @@
 //! Objects and pages that are made, at the second try where memory is refused at the first.
-ghost use Rattle.std.specs.Prelude.{◌≡◌, Some, None, IfSome};
+ghost use Rattle.std.specs.Prelude.{◌≡◌, true, is_some, Some, None, IfSome};
+ghost use Rattle.fk_model.specs.Calls.{todo_of};
 ghost use Rattle.fk_model.specs.declared.thread.Peer.TheVariants as peers;
 ghost use Rattle.fk_model.specs.declared.thread.Turn.TheVariants as turns;
 ghost use Rattle.fk_store.specs.Makes.{IsNext};
 ghost use Rattle.fk_store.specs.Named.{OnNamed};
-ghost use Rattle.fk_store.specs.WellFormed.{IsSized};
+ghost use Rattle.fk_store.specs.WellFormed.{HasCall, IsSized};
 ghost use Rattle.fk_store.specs.World.{world, IsLive};
 
 use crate::numbers::name_of;
@@ -22,7 +23,11 @@ pub enum Thing {
     /// A native server serves it or doesn't.
     Port(bool),
     Reference(Who),
-    Thread(Mode),
+    Native,
+    /// A thread in a call that ends its talk.
+    Calling,
+    /// With a code.
+    Halted(u8),
     /// A thread that sends to the native server of a port, one block of it so far.
     Sending(Who),
 }
@@ -35,9 +40,9 @@ pub fn thing_of(verb: &str, numbers: &[u64; 4]) -> Option<Thing> {
         "port" => Thing::Port(numbers[2] == 1),
         "reference" => Thing::Reference(name_of(numbers[2], numbers[3]).ok()?),
         "sending" => Thing::Sending(name_of(numbers[2], numbers[3]).ok()?),
-        "native" => Thing::Thread(Mode::Native),
-        "calling" => Thing::Thread(Mode::Calling),
-        "halted" => Thing::Thread(Mode::Halted(u8::try_from(numbers[2]).ok()?)),
+        "native" => Thing::Native,
+        "calling" => Thing::Calling,
+        "halted" => Thing::Halted(u8::try_from(numbers[2]).ok()?),
         _ => return None,
     })
 }
@@ -65,7 +70,9 @@ fn body_of(store: &Store, thing: &Thing) -> Option<Body>
             store.at(to)?;
             Some(Body::Reference { to: Ptr::At(to) })
         }
-        Thing::Thread(mode) => Some(Body::Thread(thread_in(mode))),
+        Thing::Native => Some(Body::Thread(thread_in(Mode::Native, [0; 16]))),
+        Thing::Calling => Some(Body::Thread(thread_in(Mode::Calling, ends_talk()))),
+        Thing::Halted(code) => Some(Body::Thread(thread_in(Mode::Halted(code), [0; 16]))),
         Thing::Sending(port) => {
             store.at(port)?;
             Some(Body::Thread(sending_to(port)))
@@ -73,13 +80,37 @@ fn body_of(store: &Store, thing: &Thing) -> Option<Body>
     }
 }
 
-/// A thread in a mode, with empty registers.
-fn thread_in(mode: Mode) -> Thread
+/// The registers of a call that ends the caller's talk.
+#[tactic(auto, unfolding(fk_model::specs::Calls::todo_of))]
+fn ends_talk() -> [u64; 16]
+    ensures { is_some (todo_of result) ≡ true }
+{
+    let mut registers = [0; 16];
+    registers[0] = 39;
+    registers
+}
+
+/// The registers of a call that sends 70 words, after the first block of 64.
+#[tactic(auto, unfolding(fk_model::specs::Calls::todo_of))]
+fn sends_rest() -> [u64; 16]
+    ensures { is_some (todo_of result) ≡ true }
+{
+    let mut registers = [0; 16];
+    registers[0] = 34;
+    registers[2] = 192;
+    registers[3] = 6;
+    registers
+}
+
+/// A thread in a mode, with these registers.
+fn thread_in(mode: Mode, regs: [u64; 16]) -> Thread
+    requires call { HasCall mode regs }
     ensures talk { result.talk ≡ None }
     ensures fault { result.fault ≡ None }
+    ensures sized { IsSized (Body.Thread result) }
 {
     Thread {
-        regs: [0; 16],
+        regs,
         pc: 0,
         mode,
         stops: 0,
@@ -92,11 +123,9 @@ fn thread_in(mode: Mode) -> Thread
 fn sending_to(port: Who) -> Thread
     ensures talk { result.talk ≡ Some (record { port = port; peer = peers.Service; turn = turns.Client; moved = 64 }) }
     ensures fault { result.fault ≡ None }
+    ensures sized { IsSized (Body.Thread result) }
 {
-    let mut thread = thread_in(Mode::Calling);
-    thread.regs[0] = 34;
-    thread.regs[2] = 192;
-    thread.regs[3] = 6;
+    let mut thread = thread_in(Mode::Calling, sends_rest());
     thread.talk = Some(Talk {
         port,
         peer: Peer::Service,

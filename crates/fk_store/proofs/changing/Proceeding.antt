@@ -12,11 +12,11 @@ use Rattle.fk_store_tables.specs.Threads.{proceeded}
 use Rattle.fk_store.specs.Names.{who_cmp}
 use Rattle.fk_store.specs.Contents.{Contents}
 use Rattle.fk_store.specs.Bodies.{mode_by, body_by}
-use Rattle.fk_store.specs.WellFormed.{IsWellFormed}
+use Rattle.fk_store.specs.WellFormed.{HasCall, IsWellFormed}
 use Rattle.fk_store.proofs.changing.InPlace.{Stays, Changes, changes}
 use Rattle.fk_store.proofs.changing.ThreadLaws.{proceed_nobody}
 
-module _ (g : List ℕ) (long : length g ≡ 16) (c : ℕ) (mode : Mode) where
+module _ (g : List ℕ) (long : length g ≡ 16) (c : ℕ) (mode : Mode) (call : HasCall mode g) where
   edits : (p : ℕ → Path) (b : Body) → edited (Proceed (mode_by mode g) c) (body_by p b) ≡ body_by p (proceeded g c mode b)
   unfolding edited
   edits p (Mutex locked) = refl
@@ -37,7 +37,7 @@ module _ (g : List ℕ) (long : length g ≡ 16) (c : ℕ) (mode : Mode) where
   stays p who P (Port set served) = record { kind = refl; home = λ h. h; named = λ h. h; sized = λ h. h }
   stays p who P Portset = record { kind = refl; home = λ h. h; named = λ h. h; sized = λ h. h }
   stays p who P (Space birth holder) = record { kind = refl; home = λ h. h; named = λ h. h; sized = λ h. h }
-  stays p who P (Thread thread) = record { kind = refl; home = λ h. h; named = λ h. h; sized = λ h. long }
+  stays p who P (Thread thread) = record { kind = refl; home = λ h. h; named = λ h. h; sized = λ h. (long, call) }
   stays p who P (Reference to) = record { kind = refl; home = λ h. h; named = λ h. h; sized = λ h. h }
 
   pub goes_on : (m : Contents) → IsWellFormed m → (who : Who) (bodies2 : FinMap who_cmp Body) →

@@ -7,6 +7,7 @@ ghost use Rattle.fk_model.specs.Valid.{kind_there};
 ghost use Rattle.fk_store.specs.Paths.{path, place};
 ghost use Rattle.fk_store.specs.Bodies.{mode_by};
 ghost use Rattle.fk_store.specs.Nudges.{edit_of};
+ghost use Rattle.fk_store.specs.WellFormed.{HasCall};
 ghost use Rattle.fk_store.specs.World.{world};
 
 use crate::Store;
@@ -14,9 +15,10 @@ use fk_model::{Mode, Who};
 use fk_store_tables::Nudge;
 
 impl Store {
-    /// A thread goes on with these registers, at this counter and in this mode. What is no thread
-    /// stays as it is.
+    /// A thread goes on with these registers, at this counter and in this mode. Where it calls, the
+    /// first register holds a call's code. What is no thread stays as it is.
     pub fn proceed(&mut self, me: Who, registers: &[u64; 16], counter: u64, mode: Mode)
+        requires call { HasCall mode registers.now }
         ensures world { world self.new ≡ apply (Alter (place (path self.old) me) (Proceed (mode_by mode registers.now) counter)) (world self.old) }
         ensures kinds { kind_there (world self.new) ≡ kind_there (world self.old) }
         ensures paths { path self.new ≡ path self.old }

@@ -5,16 +5,19 @@ ghost use Rattle.fk_model.specs.Freezing.{body_pointers};
 ghost use Rattle.fk_model.specs.Objects.{Thread, registers_of, thread_of, and_then};
 ghost use Rattle.fk_model.specs.Places.{Path, Ptr};
 ghost use Rattle.fk_model.specs.Places.Ptr.{Null, Dead, At};
+ghost use Rattle.fk_model.specs.Shapes.{IsShapedMode};
 ghost use Rattle.fk_model.specs.Whole.{HasFullPages};
 ghost use Rattle.fk_store.specs.World.{world};
 
 use crate::Store;
 
 impl Store {
-    /// Every page has its 64 words, and every thread its 16 registers.
+    /// Every page has its 64 words, and every thread its 16 registers: those of a calling thread hold
+    /// the stages of a call, and the rest beside them.
     pub fn sizes(&self)
         ensures pages { HasFullPages (world self.now) }
         ensures registers { (x : Path) (t : Thread) → and_then thread_of ((world self.now).body x) ≡ Some t → length (registers_of t.mode) ≡ 16 }
+        ensures shaped { (x : Path) (t : Thread) → and_then thread_of ((world self.now).body x) ≡ Some t → IsShapedMode t.mode }
     {
         let _next = self.next;
     }

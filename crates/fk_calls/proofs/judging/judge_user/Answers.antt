@@ -14,7 +14,7 @@ returns-in-Instruction-clause-judged c =
     let m = c.args.store.now in
     let running = c.in-Instruction.ensures (world m) (place (path m) c.args.m.now.who) (path m) c.in-Some.ensures.there in
     instruction_judged m c.args.m.now c.judge.result (c.in-Some.ensures.free (cc)) running
-    (c.judge.ensures.row []) c.judge.ensures.fits c.judge.ensures.instruction c.judge.ensures.sure
+    (c.judge.ensures.row []) c.judge.ensures.fits c.in-Some.thread.now.regs c.judge.ensures.instruction c.judge.ensures.sure
 
 pub returns-in-Stage-clause-judged : goal.returns-in-Stage-clause-judged
 returns-in-Stage-clause-judged c =

@@ -12,5 +12,5 @@ pub returns-in-Runs : goal.returns-in-Runs
 returns-in-Runs c =
     let j : Judgement = record { caller = user c.args.m.now.who; chooses = false; verdict = verdicts.Runs c.in-Runs.effect } in
     let judged = instruction_judged c.args.store.now c.args.m.now _ (c.in-Some.ensures.free (cc)) (c.in-Some.ensures.running (cc))
-    (c.instruction.ensures.row []) c.instruction.ensures.fits c.instruction.ensures.instruction c.instruction.ensures.sure in
+    (c.instruction.ensures.row []) c.instruction.ensures.fits c.in-Some.thread.now.regs c.instruction.ensures.instruction c.instruction.ensures.sure in
     ready_judged c.args.store.now c.args.m.now asks.Run j _ (rw c.in-Runs.is at judged) (c.is_effect_ready.ensures [])

@@ -19,7 +19,7 @@ at_next-registers-requires-clause-apart c = apart_there (world c.args.store.now)
 pub returns-in-Some-code_after-clause-world : goal.returns-in-Some-code_after-clause-world
 returns-in-Some-code_after-clause-world c = went_on (world c.proceed.new.self) (world c.args.store.now)
     (place (path c.args.store.now) c.args.who) (path c.args.store.now) c.in-Some.thread.now _ _ modes.Calling (Finish (listed c.args.answers))
-    c.in-Some.ensures.thread c.proceed.ensures.world (c.at_next-registers.ensures (path c.args.store.now))
+    c.in-Some.ensures.thread c.proceed.ensures.world (c.at_next-registers.ensures.edit (path c.args.store.now))
 
 pub returns-in-None-clause-world : goal.returns-in-None-clause-world
 returns-in-None-clause-world c = went_on (world c.proceed-in-None.new.self) (world c.args.store.now)

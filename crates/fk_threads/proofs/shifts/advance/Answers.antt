@@ -13,7 +13,7 @@ shifted-registers-requires-clause-low c = low_there (world c.args.store.now)
 pub returns-in-Calling-clause-world : goal.returns-in-Calling-clause-world
 returns-in-Calling-clause-world c = went_on (world c.proceed.new.self) (world c.args.store.now)
     (place (path c.args.store.now) c.args.who) (path c.args.store.now) c.in-Some.thread.now _ _ modes.Calling (Shift c.args.count)
-    c.in-Some.ensures.thread c.proceed.ensures.world (c.shifted-registers.ensures (path c.args.store.now))
+    c.in-Some.ensures.thread c.proceed.ensures.world (c.shifted-registers.ensures.edit (path c.args.store.now))
 
 pub returns-in_default-mode-clause-world : goal.returns-in_default-mode-clause-world
 returns-in_default-mode-clause-world c = stayed (world c.args.store.now)

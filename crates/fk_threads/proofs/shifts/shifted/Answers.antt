@@ -2,6 +2,7 @@ use Rattle.std.proofs.Common.{◌≡◌, length, ap, ◌∙◌, arith}
 use Rattle.fk_model.specs.Objects.Body.{Thread_of}
 use Rattle.fk_store.specs.Bodies.{thread_by}
 use Rattle.fk_threads.specs.Shifted.{shifted_registers}
+use Rattle.fk_threads.proofs.CallCodes.{shifted-code}
 use Rattle.fk_threads.proofs.ShiftLaws.{shift_calling, address_calling}
 use Rattle.fk_threads.proofs.shifts.shifted.Goals as goal
 
@@ -9,8 +10,12 @@ pub shift-requires : goal.shift-requires
 shift-requires c =
     let long : length c.args.thread.now.regs ≡ 16 = omega arith in rw (← address_calling c.args.thread.now long c.requires.calling) c.requires.low
 
-pub returns : goal.returns
-returns c p =
+pub returns-clause-call : goal.returns-clause-call
+returns-clause-call c some = let long : length c.args.thread.now.regs ≡ 16 = omega arith in
+    rw c.shift.ensures (shifted-code c.args.count c.args.thread.now.regs long some)
+
+pub returns-clause-edit : goal.returns-clause-edit
+returns-clause-edit c p =
     let t = c.args.thread.now in
     let long : length t.regs ≡ 16 = omega arith in
     rw c.shift.ensures (shift_calling p t c.args.count long c.requires.calling

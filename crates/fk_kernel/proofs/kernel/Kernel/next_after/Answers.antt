@@ -1,3 +1,4 @@
+use Rattle.std.proofs.Common.{None, refl}
 use Rattle.fk_picks.proofs.Leading.{if_none}
 use Rattle.fk_kernel.proofs.Scans.{idle_around, nobody_ready}
 use Rattle.fk_kernel.proofs.kernel.Kernel.next_after.Goals as goal
@@ -6,4 +7,4 @@ pub returns-in-None-clause-none : goal.returns-in-None-clause-none
 returns-in-None-clause-none c =
     let m = c.args.self.now in
     if_none c.ready_up_to.result
-    (λ upto any. nobody_ready m c.ready_between.ensures.named (idle_around m c.args.last c.in-None.ensures.none upto) any.0 any.1 any.2) c.ready_up_to.ensures.none
+    (λ upto any. nobody_ready m c.ready_between.ensures.named (λ other live. idle_around m c.args.last None c.in-None.ensures.none upto other live refl) any.0 any.1 any.2) c.ready_up_to.ensures.none

@@ -4,11 +4,11 @@ use Rattle.fk_kernel.proofs.Scans.{IsUpBetween, all_ahead, idle_between, none_pa
 use Rattle.fk_kernel.proofs.kernel.Kernel.ready_between.Goals as goal
 
 pub loop-at-init : goal.loop-at-init
-loop-at-init c = all_ahead c.args.self.now c.args.after c.args.last c.after-at.result (rw c.self.view_is at c.after-at.ensures.first)
+loop-at-init c = all_ahead c.args.self.now c.args.after c.args.last c.args.besides c.after-at.result (rw c.self.view_is at c.after-at.ensures.first)
 
 pub loop-at-preserved : goal.loop-at-preserved
 loop-at-preserved c =
     let m = c.args.self.now in
-    let ahead : IsAhead m (IsUpBetween m c.args.after c.args.last) c.loop-at.at = c.loop-at.invariant in
-    ahead_next m (IsUpBetween m c.args.after c.args.last) c.in-Some.who c.after-at-in-Some.result (rw c.in-Some.is at ahead)
-    (λ up. c.in_default-ready_move.ensures.none up.2) (rw c.self.view_is at c.after-at-in-Some.ensures.first)
+    let ahead : IsAhead m (IsUpBetween m c.args.after c.args.last c.args.besides) c.loop-at.at = c.loop-at.invariant in
+    ahead_next m (IsUpBetween m c.args.after c.args.last c.args.besides) c.in-Some.who c.after-at-in-Some.result (rw c.in-Some.is at ahead)
+    (λ up. c.in_default-ready_besides.ensures.none up.2 up.3) (rw c.self.view_is at c.after-at-in-Some.ensures.first)

@@ -4,7 +4,7 @@ use Rattle.fk_kernel.proofs.kernel.Kernel.ready_between.Given as goal
 
 -- each user there that is ready is yet to come
 abbrev pub invariant-loop-at : goal.invariant-loop-at
-invariant-loop-at l = IsAhead l.self (IsUpBetween l.self l.fn.after l.last) l.at
+invariant-loop-at l = IsAhead l.self (IsUpBetween l.self l.fn.after l.last l.besides) l.at
 
 abbrev pub decreases-loop-at : goal.decreases-loop-at
 decreases-loop-at l = left_from l.self l.at
