@@ -1,5 +1,5 @@
 -- A job's moves in a run, one by one.
-use Rattle.std.proofs.Common.{◌≡◌, ℕ, ◌+◌, ◌<◌, ◌≤◌, Bool, true, false, cond, ◌==◌, List, [], ◌∷◌, length, take, Option, Some, None, option_map, refl, sym, ap, subst, ◌∙◌, ◌⊎◌, inl, inr}
+use Rattle.std.proofs.Common.{◌≡◌, ℕ, ◌+◌, ◌<◌, ◌≤◌, Bool, true, false, cond, ◌==◌, List, [], ◌∷◌, length, take, Option, Some, None, option_map, refl, sym, ap, subst, arith, ◌∙◌, ◌⊎◌, inl, inr}
 use Rattle.std.specs.List.{slice_get}
 use Rattle.fk_model.specs.declared.limits.TheConstants.{OWN_SPACE, LAST_USER_SLOT}
 use Rattle.fk_model.specs.declared.moves.Move.{Move}
@@ -42,9 +42,10 @@ use Rattle.laws_rooms.proofs.Restored.{pairs_bind, image_restore_ends_so}
 use Rattle.laws_runs.specs.Cores.{JobEnd, Servers, Work, Core, IsRun, world_at}
 use Rattle.laws_runs.specs.Cores.JobEnd.{Worked}
 use Rattle.laws_runs.specs.Cores.Asker.{Job as Asked_by_job}
-use Rattle.laws_runs.specs.Composed.{HasEnded}
+use Rattle.laws_runs.specs.Placed.{EndedThere}
 use Rattle.laws_runs.specs.Turning.{asker_at, MovesAt}
-use Rattle.laws_runs.proofs.Composing.{Working, stands, composed}
+use Rattle.laws_runs.proofs.Composing.{Working, stands}
+use Rattle.laws_runs.proofs.Placed.{ends_are_there}
 use Rattle.laws_runs.proofs.Turning.{moves_in_history}
 use Rattle.laws_house.specs.Houses.{Job, Task, Source, State, End, machine, valid_one, sourced, begins_by, house}
 use Rattle.laws_house.specs.Houses.Task.{Checkpoint, Restore}
@@ -53,6 +54,7 @@ use Rattle.laws_house.specs.Houses.End.{Checked, Restored}
 use Rattle.laws_house.specs.Laws.{NamesUsersSlots, IsGrounded}
 use Rattle.laws_house.specs.Moves.{LeftFar, RestoresLeaveTheRest, NextIsReady, JobsAreReady, EndedSo, RestoresEndSo, IsLastCall, LastCallIsKnown, GoneLeavesAll}
 use Rattle.laws_house.proofs.Parts.{asks_part, stops_part, works}
+use Rattle.laws_house.proofs.There.{PlacedFrom, works_there, missed_there}
 use Rattle.laws_house.proofs.House.{checkpoint_part, restore_part, same_state, valid_is, starts_restore, slots_of, house_is_tidy}
 
 -- ---- what a job of the house starts with
@@ -215,46 +217,53 @@ module _ {V : Type 0} (jobs : List Job) (servers : Servers V) (first c : Core St
   ended_so : (index : ℕ) (j : Job) (slot begun last : ℕ) (pairs : List (ℕ × ℕ)) (source : Source) (image : Image) (end : restores.End)
       → slice_get jobs index ≡ Some j → j.task ≡ Restore slot pairs source →
       valid_one (sourced (take index c.ends) source) ≡ Some image → slice_get c.ends index ≡ Some (Worked (Restored end) begun last) →
-      EndedSo j.nester slot pairs image (world_at run begun) (world_at run (last + 1)) end
+      EndedSo run j.nester slot pairs image begun last end
   ended_so index j slot begun last pairs source image end its is from ended =
-      by ((composed (house jobs servers) first c past run grounded.users (house_is_tidy jobs servers grounded.slots) grounded.start grounded.few).ended index
+      by (ends_are_there (house jobs servers) first c past run grounded.users (house_is_tidy jobs servers grounded.slots) grounded.start grounded.few index
       (Restored end) begun last ended)
     where
       same_end : (a b : restores.End) → Restored a ≡ Restored b → a ≡ b
       same_end a b e = cc
 
-      on : (e : HasEnded run index (Restored end) begun last) → e.worked.job ≡ j → e.worked.start ≡ Restoring slot pairs image Makes →
-          EndedSo j.nester slot pairs image (world_at run begun) (world_at run (last + 1)) end
+      on : (e : EndedThere run index (Restored end) begun last) → e.job ≡ j → e.start ≡ Restoring slot pairs image Makes
+          → EndedSo run j.nester slot pairs image begun last end
       on e job start =
-          let there = subst (λ s. AtWork machine e.worked.nester (world_at run begun) s (world_at run (last + 1)) e.state) start e.there.work in
-          let part = works (restore_of slot image pairs) machine (Restoring slot pairs image) Restored e.worked.nester (restore_part slot pairs image)
-          (world_at run begun) Makes (world_at run (last + 1)) e.state there in
-          let stop = stops_part (restore_of slot image pairs) machine (Restoring slot pairs image) Restored e.worked.nester
+          let placed = subst (λ s. PlacedFrom run machine (λ (x : State). x) e.nester begun (world_at run begun) s (world_at run (last + 1)) e.state
+          (last + 1)) start
+          (record { work = e.work; there = e.there; long = (let long = e.long in omega (arith, long)) }) in
+          let part = works_there run (restore_of slot image pairs) machine (Restoring slot pairs image) Restored e.nester (restore_part slot pairs image) begun
+          (world_at run begun) Makes (world_at run (last + 1)) e.state (last + 1) placed in
+          let stop = stops_part (restore_of slot image pairs) machine (Restoring slot pairs image) Restored e.nester
           (restore_part slot pairs image) e.state part.state (Restored end) part.is e.stopped in
           let stops = stop.1 ∙ ap (λ (a : restores.End). Stops a) (same_end stop.0 end stop.2) in
-          let may = subst (λ (i : Job). MayBegin (world_at run begun) e.worked.nester i.nester) job e.worked.may in
+          let may = subst (λ (i : Job). MayBegin (world_at run begun) e.nester i.nester) job e.may in
           let names = slots_of j (Restore slot pairs source) is (grounded.slots index j its) in
           let valid = valid_is (sourced (take index c.ends) source) image from in
+          let work = part.it.work in
+          let missing = no_port_is_exact slot j.nester (bound_by pairs) (picture image) (rooms_of image) (world_at run begun)
+          (world_at run (last + 1)) e.nester part.state end names.0
+          (valid_is_roomed (bound_by pairs) image (pairs_bind pairs names.1) valid) may work stops in
           record {
-            nester = e.worked.nester;
+            nester = e.nester;
             named = may.named;
-            so = image_restore_ends_so slot j.nester image pairs (world_at run begun) (world_at run (last + 1)) e.worked.nester part.state end
-                (record { low = names.0; users = names.1; valid = valid }) may part.part stops;
+            so = image_restore_ends_so slot j.nester image pairs (world_at run begun) (world_at run (last + 1)) e.nester part.state end
+                (record { low = names.0; users = names.1; valid = valid }) may work stops;
             taken = occupied_is_exact slot j.nester (bound_by pairs) (picture image) (rooms_of image) (world_at run begun)
-                (world_at run (last + 1)) e.worked.nester part.state end names.0
-                (valid_is_roomed (bound_by pairs) image (pairs_bind pairs names.1) valid) may part.part stops;
+                (world_at run (last + 1)) e.nester part.state end names.0
+                (valid_is_roomed (bound_by pairs) image (pairs_bind pairs names.1) valid) may work stops;
             state = part.state;
-            work = part.part;
-            missing = no_port_is_exact slot j.nester (bound_by pairs) (picture image) (rooms_of image) (world_at run begun)
-                (world_at run (last + 1)) e.worked.nester part.state end names.0
-                (valid_is_roomed (bound_by pairs) image (pairs_bind pairs names.1) valid) may part.part stops;
+            work = work;
+            there = part.it.there;
+            missing = missing;
+            missed_at = λ port none. missed_there run slot pairs image e.nester begun (bound_by pairs port) _ _ work.events _ _ (begun + 1)
+                (last + 1) work.run part.it.there.placed part.it.long
+                (missing.missed port none).1;
           }
 
-      by : HasEnded run index (Restored end) begun last → EndedSo j.nester slot pairs image (world_at run begun) (world_at run (last + 1)) end
+      by : EndedThere run index (Restored end) begun last → EndedSo run j.nester slot pairs image begun last end
       by e =
-          let w = e.worked in
-          let job : w.job ≡ j = (let two = w.its in cc) in
-          on e job (starts_restore w.job.task (take index c.ends) slot pairs source image w.start (ap (λ (i : Job). i.task) job ∙ is) from w.starts)
+          let job : e.job ≡ j = (let two = e.its in cc) in
+          on e job (starts_restore e.job.task (take index c.ends) slot pairs source image e.start (ap (λ (i : Job). i.task) job ∙ is) from e.starts)
 
 pub restores_leave_the_rest : {V : Type 0} → RestoresLeaveTheRest V
 restores_leave_the_rest jobs servers first c past run grounded k begun slot pairs image s stage words low e =

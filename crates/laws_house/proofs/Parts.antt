@@ -39,7 +39,7 @@ module _ {S A T B : Type 0} (m : Machine S A) (whole : Machine T B) (into : S �
   pub stops_part : (t : T) (s : S) (end : B) → t ≡ into s → whole.head t ≡ Stops end → (a : A) × (m.head s ≡ Stops a) × (ends_in a ≡ end)
   stops_part t s end is stopped = stops_under ends_in (m.head s) end (sym (part.head s) ∙ (sym (ap whole.head is) ∙ stopped))
 
-  hears_part : (t : T) (s : S) (w : World) (e : Event) → t ≡ into s → heard whole t (said_of w e) ≡ into (heard m s (said_of w e))
+  pub hears_part : (t : T) (s : S) (w : World) (e : Event) → t ≡ into s → heard whole t (said_of w e) ≡ into (heard m s (said_of w e))
   hears_part t s w e is =
       let reply = reply_of (said_of w e) in
       ap (λ x. whole.next x reply.status reply.words) is ∙ part.next s reply.status reply.words

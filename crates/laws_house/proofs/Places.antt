@@ -10,7 +10,9 @@ use Rattle.fk_model.specs.Closed.{Place}
 use Rattle.fk_model.specs.Runs.{after}
 use Rattle.fk_image.specs.declared.image.Image.{Image}
 use Rattle.laws_savable.specs.Savable.{IsSound}
-use Rattle.laws_jobs.specs.Machines.{Head, no_words, reply_of, heard, call_of}
+use Rattle.fk_model.specs.declared.moves.Ask.TheVariants as asks
+use Rattle.fk_model.specs.Who.{event_of}
+use Rattle.laws_jobs.specs.Machines.{Head, no_words, reply_of, heard, call_of, said_of}
 use Rattle.laws_jobs.specs.Machines.Head.{Stops, Asks}
 use Rattle.laws_jobs.specs.Holds.{hold}
 use Rattle.laws_jobs.proofs.Weaving.{first_sound}
@@ -172,10 +174,11 @@ module _ {V : Type 0} (jobs : List Job) (servers : Servers V) (first c : Core St
       let its = comes_checking slot by.state by.comes in
       let asked = asks_part (checkpoint slot) machine (Checking slot) Checked []
       (checkpoint_part slot) by.state its.0 by.ends.stage by.ends.words its.1 by.ends.asked in
-      let status = (reply_of by.said).status in
-      let told = (reply_of by.said).words in
-      let behind : heard machine by.state by.said ≡ Checking slot (checkpoints.next slot its.0 status told) = ap (λ x. heard machine x by.said) its.1 in
-      let stop = stops_part (checkpoint slot) machine (Checking slot) Checked [] (checkpoint_part slot) (heard machine by.state by.said)
+      let said = said_of (world_at run last) (event_of (world_at run last) (asks.Call by.ends.stage by.ends.words) by.move) in
+      let status = (reply_of said).status in
+      let told = (reply_of said).words in
+      let behind : heard machine by.state said ≡ Checking slot (checkpoints.next slot its.0 status told) = ap (λ x. heard machine x said) its.1 in
+      let stop = stops_part (checkpoint slot) machine (Checking slot) Checked [] (checkpoint_part slot) (heard machine by.state said)
       (checkpoints.next slot its.0 status told) (Checked end) behind by.stops in
       let same : stop.0 ≡ end = same_end stop.0 end stop.2 in
       let over = checkpoint_over slot end its.0 status told (stop.1 ∙ ap (λ (a : checkpoints.End). Stops a) same) in
@@ -202,12 +205,13 @@ module _ {V : Type 0} (jobs : List Job) (servers : Servers V) (first c : Core St
       let its = comes_restoring slot pairs image by.state by.comes in
       let asked = asks_part (restore_of slot image pairs) machine (Restoring slot pairs image) Restored []
       (restore_part slot pairs image) by.state its.0 by.ends.stage by.ends.words its.1 by.ends.asked in
-      let status = (reply_of by.said).status in
-      let told = (reply_of by.said).words in
+      let said = said_of (world_at run last) (event_of (world_at run last) (asks.Call by.ends.stage by.ends.words) by.move) in
+      let status = (reply_of said).status in
+      let told = (reply_of said).words in
       let later = (restore_of slot image pairs).next its.0 status told in
-      let behind : heard machine by.state by.said ≡ Restoring slot pairs image later = ap (λ x. heard machine x by.said) its.1 in
+      let behind : heard machine by.state said ≡ Restoring slot pairs image later = ap (λ x. heard machine x said) its.1 in
       let stop = stops_part (restore_of slot image pairs) machine (Restoring slot pairs image) Restored [] (restore_part slot pairs image)
-      (heard machine by.state by.said) later (Restored end) behind by.stops in
+      (heard machine by.state said) later (Restored end) behind by.stops in
       let same : stop.0 ≡ end = same_end stop.0 end stop.2 in
       let over = restore_over slot (bound_by pairs) (rooms_of image) end its.0 status told (stop.1 ∙ ap (λ (a : restores.End). Stops a) same) in
       record {

@@ -84,7 +84,7 @@ pub record HasRestores {V : Type 0} {jobs : List Job} {servers : Servers V} {fir
   pub ends : (index : ℕ) (j : Job) (slot begun last : ℕ) (pairs : List (ℕ × ℕ)) (source : Source) (image : Image) (end : restores.End) →
       slice_get jobs index ≡ Some j → j.task ≡ Restore slot pairs source → valid_one (sourced (take index c.ends) source) ≡ Some image →
       slice_get c.ends index ≡ Some (Worked (Restored end) begun last) →
-      EndedSo j.nester slot pairs image (world_at run begun) (world_at run (last + 1)) end
+      EndedSo run j.nester slot pairs image begun last end
   -- what a done one has made
   pub makes : (index : ℕ) (j : Job) (slot begun last : ℕ) (pairs : List (ℕ × ℕ)) (source : Source) (image : Image) → slice_get jobs index ≡ Some j →
       j.task ≡ Restore slot pairs source → valid_one (sourced (take index c.ends) source) ≡ Some image →

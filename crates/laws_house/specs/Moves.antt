@@ -1,5 +1,5 @@
 -- A job's moves in a run, one by one: what they leave, when the next one is ready, and which is the last.
-use Rattle.std.specs.Prelude.{◌≡◌, ℕ, ◌+◌, ◌<◌, ◌≤◌, ◌⊎◌, IsSome, List, ◌∷◌, length, take, Some}
+use Rattle.std.specs.Prelude.{◌≡◌, ℕ, false, ◌+◌, ◌<◌, ◌≤◌, ◌⊎◌, IsSome, List, ◌∷◌, length, take, Some}
 use Rattle.std.specs.List.{slice_get}
 use Rattle.fk_model.specs.declared.limits.TheConstants.{OWN_SPACE, LAST_USER_SLOT}
 use Rattle.fk_model.specs.declared.moves.Move.{Move}
@@ -8,6 +8,7 @@ use Rattle.fk_model.specs.declared.stage.Stage.TheVariants.{SpaceRelease}
 use Rattle.fk_model.specs.Places.{Path}
 use Rattle.fk_model.specs.World.{World}
 use Rattle.fk_model.specs.Valid.{birth_at}
+use Rattle.fk_model.specs.Cut.{is_port}
 use Rattle.fk_image.specs.declared.image.Image.{Image}
 use Rattle.fk_image.specs.Picture.{picture}
 use Rattle.laws_jobs.specs.Machines.{call_of, IsReadyAt, AtWork}
@@ -16,6 +17,8 @@ use Rattle.laws_jobs.specs.Jobs.{MayBegin}
 use Rattle.laws_jobs.specs.Calls.{IsCalm}
 use Rattle.laws_checkpoint.specs.Checkpoint as checkpoints
 use Rattle.laws_restore.specs.Restore as restores
+use Rattle.laws_sites.specs.Orders.{stage_of}
+use Rattle.laws_sites.specs.Orders.Order.{Pins}
 use Rattle.laws_restore.specs.Ends.{EndsSo}
 use Rattle.laws_restore.specs.Rest.{IsSameFar}
 use Rattle.laws_restore.specs.Exact.{EndsByMiss}
@@ -25,6 +28,7 @@ use Rattle.laws_runs.specs.Cores.{Servers, Work, Core, IsRun, world_at}
 use Rattle.laws_runs.specs.Cores.JobEnd.{Worked}
 use Rattle.laws_runs.specs.Cores.Asker.{Job as Asked_by_job}
 use Rattle.laws_runs.specs.Turning.{asker_at}
+use Rattle.laws_runs.specs.Placed.{WorksThere}
 use Rattle.laws_house.specs.Houses.{Job, Source, State, End, machine, valid_one, sourced, house}
 use Rattle.laws_house.specs.Houses.Task.{Restore}
 use Rattle.laws_house.specs.Houses.State.{Checking, Restoring}
@@ -65,24 +69,42 @@ JobsAreReady V = (jobs : List Job) (servers : Servers V) (first c : Core State E
 
 -- ---- how a restore ends
 
-pub record EndedSo (birth slot : ℕ) (pairs : List (ℕ × ℕ)) (image : Image) (w v : World) (end : restores.End) : Type 0 where
-  pub nester : Path
-  pub named : birth_at w nester ≡ Some birth
-  -- the subtree stands there where nothing stood; the slot was taken and nothing is changed; or nothing stands there, as before
-  pub so : EndsSo w v nester slot (bound_by pairs) (picture image) end
-  -- it is told that the slot was taken exactly where it was
-  pub taken : (end ≡ restores.Occupied → IsSome (w.body (slot ∷ nester))) × (IsSome (w.body (slot ∷ nester)) → end ≡ restores.Occupied)
-  -- and of no port exactly where it led to a slot of its nester in which none stood; then of the lowest slot of its image that is bound there
+-- from a place of the history on and before another one it led its pin to slot j of its nester, where no port stood; and so for the
+-- first time
+pub record MissedAt {V : Type 0} {jobs : List Job} {servers : Servers V} {first c : Core State End V} {past : List Move}
+    (run : IsRun (house jobs servers) first past c) (slot : ℕ) (pairs : List (ℕ × ℕ)) (image : Image) (nester : Path) (begun from upto j : ℕ) : Type 0 where
+  pub place : ℕ
+  pub within : (from ≤ place) × (place < upto)
   pub state : restores.State
-  pub work : AtWork (restore_of slot image pairs) nester w restores.Makes v state
+  pub words : List ℕ
+  pub asks : asker_at run place ≡ Asked_by_job begun (Restoring slot pairs image state) (stage_of slot (Pins j)) words
+  pub none : is_port ((world_at run place).body (j ∷ nester)) ≡ false
+  pub earlier : (k : ℕ) → from ≤ k → k < place → (s : restores.State) (given : List ℕ) →
+      asker_at run k ≡ Asked_by_job begun (Restoring slot pairs image s) (stage_of slot (Pins j)) given → ⊥
+
+pub record EndedSo {V : Type 0} {jobs : List Job} {servers : Servers V} {first c : Core State End V} {past : List Move}
+    (run : IsRun (house jobs servers) first past c) (birth slot : ℕ) (pairs : List (ℕ × ℕ)) (image : Image) (begun last : ℕ) (end : restores.End) : Type 0 where
+  pub nester : Path
+  pub named : birth_at (world_at run begun) nester ≡ Some birth
+  -- the subtree stands there where nothing stood; the slot was taken and nothing is changed; or nothing stands there, as before
+  pub so : EndsSo (world_at run begun) (world_at run (last + 1)) nester slot (bound_by pairs) (picture image) end
+  -- it is told that the slot was taken exactly where it was
+  pub taken : (end ≡ restores.Occupied → IsSome ((world_at run begun).body (slot ∷ nester)))
+      × (IsSome ((world_at run begun).body (slot ∷ nester)) → end ≡ restores.Occupied)
+  -- and of no port exactly where none stood in a slot of its nester when it first led there; then of the lowest slot of its image that
+  -- is bound there. Its moves are the run's, from its first to its last
+  pub state : restores.State
+  pub work : AtWork (restore_of slot image pairs) nester (world_at run begun) restores.Makes (world_at run (last + 1)) state
+  pub there : WorksThere run (Restoring slot pairs image) begun work
   pub missing : EndsByMiss slot (bound_by pairs) (rooms_of image) work.run end
+  pub missed_at : (port : ℕ) → end ≡ restores.NoPort port → MissedAt run slot pairs image nester begun (begun + 1) (last + 1) (bound_by pairs port)
 
 abbrev pub RestoresEndSo : Type 0 → Type 0
 RestoresEndSo V = (jobs : List Job) (servers : Servers V) (first c : Core State End V) (past : List Move) (run : IsRun (house jobs servers) first past c) →
     IsGrounded jobs servers first past → (index : ℕ) (j : Job) (slot begun last : ℕ) (pairs : List (ℕ × ℕ)) (source : Source) (image : Image)
     (end : restores.End) →
     slice_get jobs index ≡ Some j → j.task ≡ Restore slot pairs source → valid_one (sourced (take index c.ends) source) ≡ Some image →
-    slice_get c.ends index ≡ Some (Worked (Restored end) begun last) → EndedSo j.nester slot pairs image (world_at run begun) (world_at run (last + 1)) end
+    slice_get c.ends index ≡ Some (Worked (Restored end) begun last) → EndedSo run j.nester slot pairs image begun last end
 
 -- ---- a checkpoint's last call: its release, but for one that found no space, whose only call is its hold
 

@@ -23,7 +23,7 @@ use Rattle.laws_whole.specs.Runnable.{has_all_words, IsDue}
 use Rattle.laws_whole.proofs.Laws.{gives_one_number, keeps_runnable, savable_runnable}
 use Rattle.laws_savable.specs.Savable.{Owes, IsSound}
 use Rattle.laws_savable.proofs.Laws.{keeps_savable}
-use Rattle.laws_jobs.specs.Machines.{Head, heard, call_of, said_of, IsReadyAt, AtWork}
+use Rattle.laws_jobs.specs.Machines.{Head, heard, call_of, said_of, IsReadyAt}
 use Rattle.laws_jobs.specs.Machines.Head.{Stops, Asks}
 use Rattle.laws_runs.specs.Cores.{JobEnd, House, Work, Core, current, asker, work_of, IsReadyBy, IsReadyIn, others_moved, job_moved, job_hears, moved_by, moved, with_end, Settles, IsRun, world_at, Asker}
 use Rattle.laws_runs.specs.Cores.JobEnd.{Worked, Idle}

@@ -12,7 +12,7 @@ use Rattle.fk_model.specs.Runs.{Event}
 use Rattle.fk_model.specs.Who.{event_of}
 use Rattle.laws_jobs.specs.Machines.{Head, heard, said_of}
 use Rattle.laws_jobs.specs.Machines.Head.{Stops, Asks}
-use Rattle.laws_runs.specs.Cores.{Unmoved, JobEnd, House, Work, Core, current, Asker, asker, work_of, IsReadyBy, IsReadyIn, IsGone, others_moved, job_moved, job_hears, moved_by, moved, with_end, EndsFor, EndsNow, Settles, IsRun, world_at}
+use Rattle.laws_runs.specs.Cores.{Unmoved, JobEnd, House, Work, Core, current, Asker, asker, work_of, IsReadyBy, IsReadyIn, IsGone, others_moved, job_moved, job_hears, moved_by, moved, with_end, EndsFor, Settles, IsRun, world_at}
 use Rattle.laws_runs.specs.Cores.Unmoved.{NoImage, Dead}
 use Rattle.laws_runs.specs.Cores.JobEnd.{Worked, Idle}
 use Rattle.laws_runs.specs.Cores.Asker.{Nobody, Others, Job}
@@ -20,10 +20,12 @@ use Rattle.laws_runs.specs.Cores.Settles.{Stays, Ends}
 use Rattle.laws_runs.specs.Cores.IsRun.{Begins, Goes}
 use Rattle.laws_runs.specs.Composed.{IsStart}
 use Rattle.laws_runs.specs.Turning.{asker_at}
-use Rattle.laws_runs.specs.Ended.{AsksAt, Comes, EndedBy, EndIs, EndsAreSo}
+use Rattle.laws_runs.specs.Ended.{AsksAt, Comes, EndIs, EndsAreSo}
 use Rattle.laws_runs.specs.Ended.Comes.{Begins as At_first, Hears}
 use Rattle.laws_runs.proofs.Asking.{JobAsks, job_of, goes_on_work, begins_work}
 use Rattle.laws_runs.proofs.Composing.{got_or_last, got_within, take_all}
+use Rattle.laws_runs.specs.Events.{core_at}
+use Rattle.laws_runs.proofs.Events.{got_front, got_last, core_now, its_events}
 
 module _ {J S A V : Type 0} (h : House J S A V) (first : Core S A V) where
   -- each end of a list is so
@@ -77,11 +79,11 @@ module _ {J S A V : Type 0} (h : House J S A V) (first : Core S A V) where
         ),
       )
 
-  settled_work : (v d : Core S A V) → Settles h v d → (d.work ≡ v.work) × (d.events ≡ v.events)
+  pub settled_work : (v d : Core S A V) → Settles h v d → (d.work ≡ v.work) × (d.events ≡ v.events)
   settled_work _ _ (Stays v none) = (refl, refl)
   settled_work _ _ (Ends v d why now rest) = settled_work (with_end v why) d rest
 
-  settled_still : (v d : Core S A V) (k : Work S) → Settles h v d → v.work ≡ Some k → d.ends ≡ v.ends
+  pub settled_still : (v d : Core S A V) (k : Work S) → Settles h v d → v.work ≡ Some k → d.ends ≡ v.ends
   settled_still _ _ k (Stays v none) works = refl
   settled_still _ _ k (Ends v d why now rest) works = let none = now.unmoved in absurd (cc)
 
@@ -105,6 +107,9 @@ module _ {J S A V : Type 0} (h : House J S A V) (first : Core S A V) where
     world_before : (k : ℕ) → k ≤ length past → world_at all k ≡ world_at run k
     world_before k low = rw (le-leb k (length past) low) refl
 
+    core_before : (k : ℕ) → k ≤ length past → core_at all k ≡ core_at run k
+    core_before k low = rw (le-leb k (length past) low) refl
+
     world_now : d.world ≡ world_at all (length (past ++ m ∷ []))
     world_now = rw (lt-leb (length (past ++ m ∷ [])) (length past) (omega (arith, longer))) refl
 
@@ -112,6 +117,7 @@ module _ {J S A V : Type 0} (h : House J S A V) (first : Core S A V) where
     asks_on k begun s low its = record { stage = its.stage; words = its.words; asked = its.asked; asks = asker_before k low ∙ its.asks }
 
     end_on : (ends : List (JobEnd A)) (job : J) (end : JobEnd A) → EndIs run ends job end → EndIs all ends job end
+    unfolding asks_on
     end_on ends job (Worked end begun last) its =
         let by = its.2 in
         let low = by.order.1 in
@@ -124,9 +130,13 @@ module _ {J S A V : Type 0} (h : House J S A V) (first : Core S A V) where
             state = by.state;
             comes = by.comes;
             ends = asks_on last begun by.state low by.ends;
-            said = by.said;
-            stops = by.stops;
+            move = by.move;
+            its = got_front past (m ∷ []) last low ∙ by.its;
+            stops = subst (λ (w : World). h.machine.head (heard h.machine by.state (said_of w (event_of w (asks.Call by.ends.stage by.ends.words) by.move)))
+                ≡ Stops end)
+                (sym (world_before last (omega (arith, low)))) by.stops;
           },
+          ap (λ (x : Core S A V). x.ends) (core_before last (omega (arith, low))) ∙ its.3,
         )
     end_on ends job (Idle NoImage) its = its
     end_on ends job (Idle Dead) its =
@@ -227,6 +237,11 @@ module _ {J S A V : Type 0} (h : House J S A V) (first : Core S A V) where
         later : S
         later = heard h.machine t (said_of c.world event)
 
+        -- the world before the move
+        world_there : world_at all c.events ≡ c.world
+        world_there = world_before c.events (let counted = before.events in omega (arith, counted))
+            ∙ (ap (λ (i : ℕ). world_at run i) before.events ∙ (its_events h first run).last)
+
         asks_it : JobAsks h c m.who begun t stage words
         asks_it = job_of h c m.who begun t stage words e
 
@@ -271,9 +286,13 @@ module _ {J S A V : Type 0} (h : House J S A V) (first : Core S A V) where
                   state = t;
                   comes = its.comes;
                   ends = record { stage = stage; words = words; asked = asks_it.asked; asks = asker_now c.events counted ∙ e };
-                  said = said_of c.world event;
-                  stops = stops;
+                  move = m;
+                  its = ap (slice_get (past ++ m ∷ [])) counted ∙ got_last past m;
+                  stops = subst (λ (w : World). h.machine.head (heard h.machine t (said_of w (event_of w (asks.Call stage words) m))) ≡ Stops end)
+                      (sym world_there) stops;
                 },
+                ap (λ (x : Core S A V). x.ends) (core_before c.events (omega (arith, counted))
+                    ∙ (ap (λ (i : ℕ). core_at run i) counted ∙ core_now h first run)),
               ));
             }
 

@@ -1,5 +1,6 @@
 -- A history as its events, and as turns from core to core.
-use Rattle.std.proofs.Common.{◌≡◌, ℕ, ◌+◌, ◌<◌, ◌≤◌, Bool, true, false, cond, nat_le, nat_lt, List, [], ◌∷◌, ◌++◌, length, take, refl, sym, ap, subst, arith, length-append, ◌⊎◌, inl, inr, ◌∙◌}
+use Rattle.std.proofs.Common.{◌≡◌, ℕ, zero, suc, Some, ◌+◌, ◌<◌, ◌≤◌, Bool, true, false, cond, nat_le, List, [], ◌∷◌, ◌++◌, length, take, refl, sym, ap, subst, arith, length-append, ◌⊎◌, inl, inr, ◌∙◌}
+use Rattle.std.specs.List.{slice_get}
 use Rattle.std.proofs.lemmas.Bool.{le-leb, lt-leb, lt-ltb, le-ltb}
 use Rattle.std.proofs.lemmas.List.{take-append-le}
 use Rattle.fk_model.specs.declared.moves.Ask.TheVariants as asks
@@ -57,6 +58,15 @@ module _ {J S A V : Type 0} (h : House J S A V) (first : Core S A V) where
             goes = settled_world (job_hears h c event begun t) d settles ∙ job_world event begun later (h.machine.head later);
           }
 
+pub got_front : {X : Type 0} (xs ys : List X) (k : ℕ) → k < length xs → slice_get (xs ++ ys) k ≡ slice_get xs k
+got_front [] ys k low = absurd (omega (arith, low))
+got_front (x ∷ xs) ys zero low = refl
+got_front (x ∷ xs) ys (suc k) low = got_front xs ys k (omega (arith, low))
+
+pub got_last : {X : Type 0} (xs : List X) (y : X) → slice_get (xs ++ y ∷ []) (length xs) ≡ Some y
+got_last [] y = refl
+got_last (x ∷ xs) y = got_last xs y
+
 legal-append : (w : World) (es : List Event) (e : Event) → IsLegal w es → IsReadyAt (world_after w es) e → IsLegal w (es ++ e ∷ [])
 unfolding world_after
 legal-append w [] e legal ready = (ready, tt)
@@ -70,6 +80,10 @@ module _ {J S A V : Type 0} (h : House J S A V) (first : Core S A V) where
   core_now (Goes past c m d run ready settles) = let longer = length-append past (m ∷ []) in
       rw (lt-leb (length (past ++ m ∷ [])) (length past) (omega (arith, longer))) refl
 
+  pub core_begins : {c : Core S A V} {past : List Move} (run : IsRun h first past c) → core_at run 0 ≡ first
+  core_begins Begins = refl
+  core_begins (Goes past c m d run ready settles) = rw (le-leb 0 (length past) (omega arith)) (core_begins run)
+
   pub core_world : {c : Core S A V} {past : List Move} (run : IsRun h first past c) (k : ℕ) → (core_at run k).world ≡ world_at run k
   core_world Begins k = refl
   core_world (Goes past c m d run ready settles) k = by (nat_le k (length past)) (core_world run k)
@@ -79,21 +93,30 @@ module _ {J S A V : Type 0} (h : House J S A V) (first : Core S A V) where
       by false same = refl
 
   pub turn_at : {c : Core S A V} {past : List Move} (run : IsRun h first past c) (k : ℕ) → k < length past
-      → IsTurn h (core_at run k) (core_at run (k + 1)) (asker_at run k)
+      → IsTurn h past k (core_at run k) (core_at run (k + 1)) (asker_at run k)
   turn_at Begins k low = absurd (omega (arith, low))
   turn_at (Goes past c m d run ready settles) k low =
       let longer = length-append past (m ∷ []) in by (splits (k + 1) (length past) (omega (arith, low, longer))) (turn_at run k)
     where
-      by : (k + 1 ≤ length past) ⊎ (k + 1 ≡ length past + 1) → (k < length past → IsTurn h (core_at run k) (core_at run (k + 1)) (asker_at run k)) →
-          IsTurn h (core_at (Goes past c m d run ready settles) k) (core_at (Goes past c m d run ready settles) (k + 1))
+      by : (k + 1 ≤ length past) ⊎ (k + 1 ≡ length past + 1) → (k < length past → IsTurn h past k (core_at run k) (core_at run (k + 1)) (asker_at run k)) →
+          IsTurn h (past ++ m ∷ []) k (core_at (Goes past c m d run ready settles) k) (core_at (Goes past c m d run ready settles) (k + 1))
           (asker_at (Goes past c m d run ready settles) k)
       by (inl less) earlier =
           rw (le-leb k (length past) (omega (arith, less)), le-leb (k + 1) (length past) less, lt-ltb k (length past) (omega (arith, less)))
-          (earlier (omega (arith, less)))
+          (let turn = earlier (omega (arith, less)) in
+          record {
+            move = turn.move;
+            its = got_front past (m ∷ []) k (omega (arith, less))
+                ∙ turn.its;
+            asks = turn.asks;
+            ready = turn.ready;
+            settles = turn.settles;
+          })
       by (inr here) earlier =
           rw (le-leb k (length past) (omega (arith, here)), lt-leb (k + 1) (length past) (omega (arith, here)), le-ltb k (length past) (omega (arith, here)))
           (record {
             move = m;
+            its = ap (slice_get (past ++ m ∷ [])) (let same : k ≡ length past = omega (arith, here) in same) ∙ got_last past m;
             asks = ap (λ (x : Core S A V). asker h x m.who) (sym now);
             ready = subst (λ (x : Core S A V). IsReadyIn h x m) (sym now) ready;
             settles = subst (λ (x : Core S A V). Settles h (moved h x m) d) (sym now) settles;

@@ -8,3 +8,4 @@ pub mod Same
 pub mod Turning
 pub mod Events
 pub mod Ended
+pub mod Placed

@@ -1,7 +1,7 @@
 -- A history as its events: each ready at its place, and the worlds and cores between them.
-use Rattle.std.specs.Prelude.{◌≡◌, ℕ, ◌+◌, ◌≤◌, nat_le, List, length, take, if◌then◌else◌}
+use Rattle.std.specs.Prelude.{◌≡◌, ℕ, ◌≤◌, nat_le, List, length, take, Some, if◌then◌else◌}
+use Rattle.std.specs.List.{slice_get}
 use Rattle.fk_model.specs.declared.moves.Move.{Move}
-use Rattle.fk_model.specs.World.{World}
 use Rattle.fk_model.specs.Runs.{IsLegal, run as world_after}
 use Rattle.laws_runs.specs.Cores.{House, Core, IsRun, Asker, asker, IsReadyIn, moved, Settles, world_at}
 use Rattle.laws_runs.specs.Cores.IsRun.{Begins, Goes}
@@ -22,9 +22,10 @@ pub record IsItsEvents {J S A V : Type 0} {h : House J S A V} {first c : Core S 
 abbrev pub HistoryIsEvents : Type 0 → Type 0 → Type 0 → Type 0 → Type 0
 HistoryIsEvents J S A V = (h : House J S A V) (first c : Core S A V) (past : List Move) (run : IsRun h first past c) → IsItsEvents run
 
--- a turn from one core to the next, for whom it was made
-pub record IsTurn {J S A V : Type 0} (h : House J S A V) (c d : Core S A V) (a : Asker S) : Type 0 where
+-- a turn from one core to the next, by the move of a list with an index, for whom it was made
+pub record IsTurn {J S A V : Type 0} (h : House J S A V) (past : List Move) (k : ℕ) (c d : Core S A V) (a : Asker S) : Type 0 where
   pub move : Move
+  pub its : slice_get past k ≡ Some move
   pub asks : a ≡ asker h c move.who
   pub ready : IsReadyIn h c move
   pub settles : Settles h (moved h c move) d

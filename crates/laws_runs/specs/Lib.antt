@@ -5,3 +5,4 @@ pub mod Onwards
 pub mod Headline
 pub mod Events
 pub mod Ended
+pub mod Placed

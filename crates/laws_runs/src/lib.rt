@@ -11,6 +11,7 @@ ghost use Rattle.laws_runs.specs.Headline.{CheckpointsHold, RestoresHold, Restor
 ghost use Rattle.laws_runs.specs.Onwards.{RunGoesOn, RestoredGoesOn};
 ghost use Rattle.laws_runs.specs.Events.{HistoryIsEvents};
 ghost use Rattle.laws_runs.specs.Ended.{EndsAreSo};
+ghost use Rattle.laws_runs.specs.Placed.{EndsAreThere};
 
 /// Whatever the moves of a run, each job's moves are its machine's among others' moves.
 pub fn a_run_is_composed<J, S, A, V>()
@@ -44,6 +45,12 @@ pub fn a_history_is_its_events<J, S, A, V>()
 /// without any: exactly where it has no image, or for want of its nester.
 pub fn jobs_have_ended_so<J, S, A, V>()
     ensures { EndsAreSo J S A V }
+{}
+
+/// One that has ended was at work at its places: what its machine did among others' moves are the run's moves from its first to
+/// its last, and its own are those for which it asked there.
+pub fn ended_jobs_were_at_work<J, S, A, V>()
+    ensures { EndsAreThere J S A V }
 {}
 
 /// From any place of a run's history on where a subtree is plain, and up to the first move that it
