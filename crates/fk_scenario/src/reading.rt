@@ -15,7 +15,7 @@ use fk_model::{List, Rule};
 use fk_scenario_entries::{JobEntry, ObjectEntry, Program, ServerEntry, SpaceEntry};
 use fk_scenario_fields::{
     Entries, Fail, ScenarioError, ScenarioFail, array_in, has_key, integer_in, known,
-    needed_integer, ranged, table_in,
+    needed_integer, ranged, rule, table_in,
 };
 use fk_scenario_sections::{entries_in, objects_in, programs_in, servers_in, spaces_in};
 use std::alloc::Global;
@@ -24,14 +24,14 @@ use toml::value::Array;
 
 /// The bytes are no TOML document.
 const NO_DOCUMENT: ScenarioFail = ScenarioFail::Scenario(ScenarioError {
-    rule: 1,
+    rule: rule::DOCUMENT,
     section: 0,
     index: 0,
 });
 
 /// There are jobs, which can't be run yet.
 const JOBS: ScenarioFail = ScenarioFail::Scenario(ScenarioError {
-    rule: 11,
+    rule: rule::NOT_YET,
     section: 6,
     index: 0,
 });
@@ -220,7 +220,8 @@ fn tree_of(alloc: Global, bytes: &[u8]) -> Result<Option<Table>, ScenarioFail>
 /// # Errors
 ///
 /// `Scenario` exactly where the bytes are refused, with the first refusal: its rule, its section, and the
-/// index of the entry in its section. While jobs can't be run, a document with jobs is refused by rule 11. `NoMemory` where there is no memory for the document or the scenario.
+/// index of the entry in its section. While jobs can't be run, a document with jobs is refused by
+/// `rule::NOT_YET`. `NoMemory` where there is no memory for the document or the scenario.
 #[tactic(auto, unfolding(crate::specs::Reading::scenario_reading))]
 pub fn read_scenario(
     alloc: Global,

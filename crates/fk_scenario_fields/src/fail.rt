@@ -9,7 +9,7 @@ use thiserror::Error;
 
 /// The first refusal of a document: the rule that is broken, the section that breaks it, and the index of
 /// the entry in its section, from 0 on.
-/// Rule 1, of bytes that are no document, has section and index 0.
+/// Of bytes that are no document section and index are 0.
 #[derive(Clone, Copy, Debug, Error)]
 #[error("rule {rule} section {section} index {index}")]
 pub struct ScenarioError {
@@ -29,8 +29,11 @@ pub enum ScenarioFail {
     NoMemory,
 }
 
-/// The rules that an entry may break, by their numbers.
+/// The rules that a document or an entry may break, by their numbers.
 pub mod rule {
+    /// The bytes are no document.
+    pub const DOCUMENT: u8 = 1;
+
     /// An unknown key, a missing one, or a wrong type.
     pub const KEYS: u8 = 2;
 
@@ -58,6 +61,9 @@ pub mod rule {
 
     /// A job without its nester, whose checkpoint would hold a nester or a server, or whose image is made already.
     pub const JOBS: u8 = 10;
+
+    /// What can't be run yet.
+    pub const NOT_YET: u8 = 11;
 }
 
 /// Why an entry isn't read: the rule that it breaks.
