@@ -1,12 +1,19 @@
 -- A scenario that is read keeps what a machine rests on.
-use Rattle.std.proofs.Common.{◌≡◌, ℕ, pos, ◌≤◌, List, [], ◌∷◌, Ok, unwrap_or, subst, codes, arith}
-use Rattle.std.proofs.lemmas.List.Elements.{All-nil}
+use Rattle.std.proofs.Common.{◌≡◌, ℕ, pos, ◌≤◌, List, [], ◌∷◌, ◌++◌, length, Ok, unwrap_or, subst, codes, arith}
+use Rattle.std.proofs.lemmas.List.Elements.{All-nil, All-push, All-head, All-tail}
 use Rattle.std.specs.List.{All}
 use Rattle.toml.specs.Data.{Members}
 use Rattle.fk_model.specs.declared.moves.Rule.{Rule}
-use Rattle.fk_scenario_fields.specs.Gives.{placed}
+use Rattle.fk_model.specs.declared.job.JobSpec.{JobSpec}
+use Rattle.fk_scenario_fields.specs.Gives.{or_rule, unless, placed}
 use Rattle.fk_scenario_fields.specs.Fields.{known, integer_in, needed_integer, ranged}
 use Rattle.fk_scenario_fields.proofs.Steps.{after, placed-Ok}
+use Rattle.fk_scenario_entries.specs.declared.types.SpaceEntry.{SpaceEntry}
+use Rattle.fk_scenario_entries.specs.declared.types.ServerEntry.{ServerEntry}
+use Rattle.fk_scenario_entries.specs.declared.jobs.JobEntry.{JobEntry}
+use Rattle.fk_scenario_entries.specs.declared.jobs.JobKind.{JobKind}
+use Rattle.fk_scenario_entries.specs.declared.jobs.JobKind.TheVariants as kinds
+use Rattle.fk_scenario_entries.specs.Kept.{BindsSlots, KeepsJob}
 use Rattle.fk_scenario_entries.proofs.Kept.{in_range}
 use Rattle.fk_scenario_sections.specs.Programs.{programs_from}
 use Rattle.fk_scenario_sections.specs.Spaces.{spaces_from, count_beneath}
@@ -14,15 +21,15 @@ use Rattle.fk_scenario_sections.specs.Objects.{objects_from}
 use Rattle.fk_scenario_sections.specs.Servers.{servers_from}
 use Rattle.fk_scenario_sections.specs.Jobs.{entries_from}
 use Rattle.fk_scenario_sections.specs.Kept.{EachAfter, KeepsSpace, KeepsObject}
-use Rattle.fk_scenario_sections.proofs.Kept.{IsSmall, programs_kept, spaces_kept, objects_kept}
+use Rattle.fk_scenario_sections.proofs.Kept.{IsSmall, programs_kept, spaces_kept, objects_kept, jobs_kept}
 use Rattle.fk_scenario.specs.declared.reading.Places.{Places}
 use Rattle.fk_scenario.specs.declared.reading.Round.{Round}
 use Rattle.fk_scenario.specs.declared.scenario.Scenario.{Scenario}
 use Rattle.fk_scenario.specs.Aims.{aims_from}
 use Rattle.fk_scenario.specs.Servers.{serving_from}
-use Rattle.fk_scenario.specs.Jobs.{jobs_from}
+use Rattle.fk_scenario.specs.Jobs.{job_after, jobs_from, job_spec, nester_from, first_number, may_be_done}
 use Rattle.fk_scenario.specs.Reading.{Sections, sections_of, Top, top_of, places_of, first_round, second_round, scenario_of}
-use Rattle.fk_scenario.specs.Kept.{KeepsScenario}
+use Rattle.fk_scenario.specs.Kept.{KeepsScenario, HasSlots}
 
 -- a whole document
 
@@ -64,6 +71,27 @@ places_kept sections places h =
       objects = objects_kept spaces [] sections.objects objects are_objects tt;
     }))))
 
+-- jobs that are read after others
+
+job_done : (ss : List SpaceEntry) (vs : List ServerEntry) (done : List JobSpec) (j : JobEntry) (x : JobSpec) → job_after ss vs done j ≡ Ok x → KeepsJob j → HasSlots x
+unfolding job_after
+job_done ss vs done j x h kept =
+    after (or_rule 10 (nester_from (first_number ss) ss j.nester)) _ x h (λ birth _ h.
+    after (unless 10 (may_be_done ss vs done j j.kind)) _ x h (λ _ _ h. by j.kind kept.bound birth cc))
+  where
+    by : (k : JobKind) → BindsSlots k → (birth : ℕ) → job_spec birth j k ≡ x → HasSlots x
+    by kinds.Checkpoint bound birth same = subst HasSlots same (kept.nester, kept.slot)
+    by (kinds.Restore bind) bound birth same = subst HasSlots same (kept.slot, bound)
+
+jobs_done : (ss : List SpaceEntry) (vs : List ServerEntry) (done : List JobSpec) (js : List JobEntry) (all : List JobSpec) → jobs_from ss vs done js ≡ Ok all
+    → All HasSlots done → All KeepsJob js → All HasSlots all
+unfolding jobs_from
+jobs_done ss vs done [] all h each kept = let same : done ≡ all = cc in subst (All HasSlots) same each
+jobs_done ss vs done (j ∷ js) all h each kept =
+    after (placed 6 (length done) (job_after ss vs done j)) _ all h (λ x is_x h.
+    jobs_done ss vs (done ++ x ∷ []) js all h (All-push HasSlots done x each (job_done ss vs done j x (placed-Ok 6 _ _ x is_x) (All-head KeepsJob j js kept)))
+    (All-tail KeepsJob j js kept))
+
 -- and the first round with them
 round_kept : (rules : List (List ℕ × Rule)) (sections : Sections) (round : Round) → first_round rules sections ≡ Ok round →
     KeepsPlaces (record { programs = round.programs; spaces = round.spaces; objects = round.objects })
@@ -82,14 +110,23 @@ round_kept rules sections round h =
     subst (λ (r : Round). KeepsPlaces (record { programs = r.programs; spaces = r.spaces; objects = r.objects })) same
     (places_kept sections places are_places))))
 
+round_jobs : (rules : List (List ℕ × Rule)) (sections : Sections) (round : Round) → first_round rules sections ≡ Ok round → All KeepsJob round.jobs
+unfolding first_round
+round_jobs rules sections round h =
+    after (places_of sections) _ round h (λ places _ h.
+    after (servers_from rules [] sections.servers) _ round h (λ servers _ h.
+    after (entries_from [] sections.jobs) _ round h (λ jobs are_jobs h.
+    let same : jobs ≡ round.jobs = cc in
+    subst (All KeepsJob) same (jobs_kept [] sections.jobs jobs are_jobs (All-nil KeepsJob)))))
+
 second_kept : (budget workers : ℕ) (round : Round) (s : Scenario) → second_round budget workers round ≡ Ok s
     → (1 ≤ budget) × (budget ≤ 1000000) × (1 ≤ workers) × (workers ≤ 8)
-    → KeepsPlaces (record { programs = round.programs; spaces = round.spaces; objects = round.objects }) → KeepsScenario s
+    → KeepsPlaces (record { programs = round.programs; spaces = round.spaces; objects = round.objects }) → All KeepsJob round.jobs → KeepsScenario s
 unfolding second_round
-second_kept budget workers round s h (a, b, c, d) kept =
+second_kept budget workers round s h (a, b, c, d) kept slots =
     after (aims_from round.spaces round.objects 0 round.objects) _ s h (λ _ aims h.
     after (serving_from round.objects [] [] round.servers) _ s h (λ _ serving h.
-    after (jobs_from round.spaces round.servers [] round.jobs) _ s h (λ jobs _ h.
+    after (jobs_from round.spaces round.servers [] round.jobs) _ s h (λ jobs are_jobs h.
     let same : record {
       budget = budget;
       workers = workers;
@@ -108,6 +145,7 @@ second_kept budget workers round s h (a, b, c, d) kept =
       objects = kept.objects;
       aims = aims;
       servers = serving;
+      jobs = jobs_done round.spaces round.servers [] round.jobs jobs are_jobs (All-nil HasSlots) slots;
     }))))
 
 pub scenario_kept : (rules : List (List ℕ × Rule)) (ms : Members) (s : Scenario) → scenario_of rules ms ≡ Ok s → KeepsScenario s
@@ -115,4 +153,5 @@ unfolding scenario_of
 scenario_kept rules ms s h =
     after (placed 1 0 (top_of ms)) _ s h (λ top is_top h.
     after (first_round rules top.sections) _ s h (λ round is_round h.
-    second_kept top.budget top.workers round s h (top_kept ms top (placed-Ok 1 0 _ top is_top)) (round_kept rules top.sections round is_round)))
+    second_kept top.budget top.workers round s h (top_kept ms top (placed-Ok 1 0 _ top is_top)) (round_kept rules top.sections round is_round)
+    (round_jobs rules top.sections round is_round)))

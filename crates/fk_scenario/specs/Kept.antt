@@ -4,11 +4,19 @@ use Rattle.std.specs.List.{slice_get}
 use Rattle.fk_model.specs.declared.moves.Rule.{Rule}
 use Rattle.fk_scenario_entries.specs.declared.types.ServiceSpec.{ServiceSpec}
 use Rattle.fk_scenario_entries.specs.declared.types.ServiceSpec.TheVariants.{Console, Listed}
+use Rattle.fk_model.specs.declared.job.JobSpec.{JobSpec}
+use Rattle.fk_model.specs.declared.job.JobSpec.TheVariants as jobs
+use Rattle.fk_scenario_entries.specs.Kept.{AreSlots, ArePairs}
 use Rattle.fk_scenario_sections.specs.Spaces.{count_beneath}
 use Rattle.fk_scenario_sections.specs.Kept.{EachAfter, KeepsSpace, KeepsObject}
 use Rattle.fk_scenario.specs.declared.scenario.Scenario.{Scenario}
 use Rattle.fk_scenario.specs.Aims.{aims_from}
 use Rattle.fk_scenario.specs.Servers.{serving_from}
+
+-- the slots of a job are ones that users may name
+abbrev pub HasSlots : JobSpec → Type 0
+HasSlots (jobs.Checkpoint moment nester path slot image) = AreSlots path × (slot ≤ 239)
+HasSlots (jobs.Restore moment nester slot image bind) = (slot ≤ 239) × ArePairs bind
 
 -- the numbers are in their ranges, all entries stand where they may, all that objects lead to is there, and servers may serve
 pub record KeepsScenario (s : Scenario) : Type 0 where
@@ -20,6 +28,7 @@ pub record KeepsScenario (s : Scenario) : Type 0 where
   pub objects : EachAfter (KeepsObject s.spaces) [] s.objects
   pub aims : aims_from s.spaces s.objects 0 s.objects ≡ Ok tt
   pub servers : serving_from s.objects [] [] s.servers ≡ Ok tt
+  pub jobs : All HasSlots s.jobs
 
 -- ---- what servers have of the table by which they are read
 

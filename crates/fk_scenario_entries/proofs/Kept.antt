@@ -1,6 +1,7 @@
 -- What is read keeps its ranges and forms.
-use Rattle.std.proofs.Common.{◌≡◌, ℕ, ℤ, pos, negsuc, ◌+◌, ◌≤◌, Bool, true, false, not, ◌&&◌, ◌==◌, nat_le, nat_lt, cond, List, [], ◌∷◌, ◌++◌, length, Option, Some, None, Result, Ok, Err, IfSome, unwrap_or, refl, ap, subst, codes, arith}
+use Rattle.std.proofs.Common.{◌≡◌, ℕ, ℤ, pos, negsuc, ◌+◌, ◌≤◌, Bool, true, false, not, ◌&&◌, ◌==◌, nat_le, nat_lt, cond, List, [], ◌∷◌, ◌++◌, length, Option, Some, None, Result, Ok, Err, IfSome, unwrap_or, refl, sym, ap, subst, ◌∙◌, codes, arith}
 use Rattle.std.proofs.lemmas.Bool.{leb-true, ltb-true}
+use Rattle.std.proofs.lemmas.List.{append-nil, append_assoc}
 use Rattle.std.proofs.lemmas.List.Elements.{All-nil, All-push}
 use Rattle.std.specs.List.{list_all, slice_split}
 use Rattle.std.specs.Result.{result_ok}
@@ -11,7 +12,7 @@ use Rattle.fk_model.specs.Numbers.{is_digit, value_of, number_up_to, has_leading
 use Rattle.fk_asm.specs.Assembler.{assembled}
 use Rattle.fk_asm.specs.declared.fail.AsmError.{AsmError}
 use Rattle.fk_asm.proofs.Few.{assembled-few}
-use Rattle.fk_scenario_fields.specs.Gives.{or_rule, unless}
+use Rattle.fk_scenario_fields.specs.Gives.{◌>>=◌, or_rule, unless}
 use Rattle.fk_scenario_fields.specs.Fields.{known, text_in, flag_in, integer_in, needed_text, integers_in, words_from, ranged, ranged_or}
 use Rattle.fk_scenario_fields.specs.Paths.{is_slash, slots_from, parse_path, optional_path}
 use Rattle.fk_scenario_fields.proofs.Steps.{after, unless-Ok, or_rule-Ok}
@@ -21,7 +22,11 @@ use Rattle.fk_scenario_entries.specs.declared.types.Spec.{Spec}
 use Rattle.fk_scenario_entries.specs.declared.types.Spec.TheVariants.{Thread, Mutex, Cond, Portset, Mapping, Region, Port, Reference}
 use Rattle.fk_scenario_entries.specs.Programs.{program_words, program_of}
 use Rattle.fk_scenario_entries.specs.Objects.{thread_spec, mutex_spec, extent_in, window_of, mapping_keys, mapping_spec, region_spec, set_of, port_spec, reference_spec, plain_spec, spec_of, object_of, object_entry}
-use Rattle.fk_scenario_entries.specs.Kept.{AreSlots, IsSpecInRange, KeepsEntry}
+use Rattle.fk_scenario_entries.specs.Kept.{AreSlots, IsSpecInRange, KeepsEntry, ArePairs, BindsSlots, KeepsJob}
+use Rattle.fk_scenario_entries.specs.declared.jobs.JobEntry.{JobEntry}
+use Rattle.fk_scenario_entries.specs.declared.jobs.JobKind.{JobKind}
+use Rattle.fk_scenario_entries.specs.declared.jobs.JobKind.TheVariants as kinds
+use Rattle.fk_scenario_entries.specs.Jobs.{JobFields, job_fields, pair_of, pairs_from, is_bound, distinct_from, numbers_of, is_restore, job_kind, job_of, job_in}
 
 -- numbers
 
@@ -220,3 +225,73 @@ object_kept ms o h =
 pub entry_kept : (value : Data) (o : ObjectEntry) → object_entry value ≡ Ok o → KeepsEntry o
 unfolding object_entry
 entry_kept value o h = after (or_rule 2 (as_table value)) _ o h (λ ms _ h. object_kept ms o h)
+
+-- jobs
+
+pair_kept : (l : List ℤ) (p : ℕ × ℕ) → pair_of l ≡ Ok p → (p.0 ≤ 239) × (p.1 ≤ 239)
+pair_kept [] p h = absurd (cc)
+pair_kept (a ∷ []) p h = absurd (cc)
+pair_kept (a ∷ b ∷ []) p h =
+    after (ranged 0 239 a) _ p h (λ x is_x h.
+    after (ranged 0 239 b) _ p h (λ y is_y h.
+    let same : (x, y) ≡ p = cc in
+    subst (λ (p : ℕ × ℕ). (p.0 ≤ 239) × (p.1 ≤ 239)) same ((in_range 0 239 a x is_x).1, (in_range 0 239 b y is_y).1)))
+pair_kept (a ∷ b ∷ c ∷ l) p h = absurd (cc)
+
+pairs_kept : (done : List (ℕ × ℕ)) (ls : List (List ℤ)) (all : List (ℕ × ℕ)) → pairs_from done ls ≡ Ok all → ArePairs done → ArePairs all
+unfolding pairs_from
+pairs_kept done [] all h kept = let same : done ≡ all = cc in subst ArePairs same kept
+pairs_kept done (l ∷ ls) all h kept =
+    after (pair_of l) _ all h (λ p is_p h.
+    pairs_kept (done ++ p ∷ []) ls all h (All-push (λ p. (p.0 ≤ 239) × (p.1 ≤ 239)) done p kept (pair_kept l p is_p)))
+
+-- pairs that are read again are the same
+distinct_same : (done ps all : List (ℕ × ℕ)) → distinct_from done ps ≡ Ok all → done ++ ps ≡ all
+unfolding distinct_from
+distinct_same done [] all h = let same : done ≡ all = cc in append-nil done ∙ same
+distinct_same done (p ∷ ps) all h =
+    after (unless 6 (not (is_bound done p.0))) _ all h (λ _ _ h. sym (append_assoc done (p ∷ []) ps) ∙ distinct_same (done ++ p ∷ []) ps all h)
+
+kind_kept : (kind : List ℕ) (pairs : List (ℕ × ℕ)) (k : JobKind) → job_kind kind pairs ≡ Ok k → ArePairs pairs → BindsSlots k
+unfolding job_kind
+kind_kept kind pairs k h kept = by (is_restore kind) (bytes_eq kind (codes "checkpoint")) h
+  where
+    by : (restore checkpoint : Bool) →
+        cond restore (distinct_from [] pairs >>= λ bind. Ok (kinds.Restore bind)) (cond checkpoint (Ok kinds.Checkpoint) (Err 4)) ≡ Ok k → BindsSlots k
+    by true checkpoint h =
+        after (distinct_from [] pairs) _ k h (λ bind is_bind h.
+        let same : kinds.Restore bind ≡ k = cc in
+        subst BindsSlots same (subst ArePairs (distinct_same [] pairs bind is_bind) kept))
+    by false true h = let same : kinds.Checkpoint ≡ k = cc in subst BindsSlots same tt
+    by false false h = absurd (cc)
+
+numbers_kept : (before : ℕ) (fields : JobFields) (n : ℕ × ℕ × List (ℕ × ℕ)) → numbers_of before fields ≡ Ok n → (n.1 ≤ 239) × ArePairs n.2
+unfolding numbers_of
+numbers_kept before fields n h =
+    after (ranged_or 0 0 1000000 fields.moment) _ n h (λ moment _ h.
+    after (ranged 0 239 fields.slot) _ n h (λ slot is_slot h.
+    after (pairs_from [] fields.bind) _ n h (λ pairs are_pairs h.
+    after (unless 3 (nat_lt before 16)) _ n h (λ _ _ h.
+    let same : (moment, slot, pairs) ≡ n = cc in
+    subst (λ (n : ℕ × ℕ × List (ℕ × ℕ)). (n.1 ≤ 239) × ArePairs n.2) same
+    ((in_range 0 239 fields.slot slot is_slot).1, pairs_kept [] fields.bind pairs are_pairs (All-nil _))))))
+
+job_of_kept : (before : ℕ) (ms : Members) (j : JobEntry) → job_of before ms ≡ Ok j → KeepsJob j
+unfolding job_of
+job_of_kept before ms j h =
+    after (job_fields ms) _ j h (λ fields _ h.
+    after (numbers_of before fields) _ j h (λ numbers are_numbers h.
+    after (parse_path fields.nester) _ j h (λ nester is_nester h.
+    after (unless 4 (is_name fields.image)) _ j h (λ _ _ h.
+    after (job_kind fields.kind numbers.2) _ j h (λ kind is_kind h.
+    let same : record { moment = numbers.0; nester = nester; slot = numbers.1; image = fields.image; kind = kind } ≡ j = cc in
+    let kept = numbers_kept before fields numbers are_numbers in
+    subst KeepsJob same (record {
+      nester = path_kept fields.nester nester is_nester;
+      slot = kept.0;
+      bound = kind_kept fields.kind numbers.2 kind is_kind kept.1;
+    }))))))
+
+pub job_kept : (before : ℕ) (value : Data) (j : JobEntry) → job_in before value ≡ Ok j → KeepsJob j
+unfolding job_in
+job_kept before value j h = after (or_rule 2 (as_table value)) _ j h (λ ms _ h. job_of_kept before ms j h)

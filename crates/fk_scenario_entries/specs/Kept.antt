@@ -1,6 +1,9 @@
--- What every object that is read keeps.
+-- What every object and every job that is read keeps.
 use Rattle.std.specs.Prelude.{ℕ, ◌+◌, ◌<◌, ◌≤◌, List, length, All, IfSome}
 use Rattle.fk_scenario_entries.specs.declared.types.ObjectEntry.{ObjectEntry}
+use Rattle.fk_scenario_entries.specs.declared.jobs.JobEntry.{JobEntry}
+use Rattle.fk_scenario_entries.specs.declared.jobs.JobKind.{JobKind}
+use Rattle.fk_scenario_entries.specs.declared.jobs.JobKind.TheVariants as kinds
 use Rattle.fk_scenario_entries.specs.declared.types.Spec.{Spec}
 use Rattle.fk_scenario_entries.specs.declared.types.Spec.TheVariants.{Thread, Mutex, Cond, Portset, Mapping, Region, Port, Reference}
 
@@ -24,3 +27,18 @@ pub record KeepsEntry (o : ObjectEntry) : Type 0 where
   pub slots : AreSlots o.path
   pub inside : 0 < length o.path
   pub in_range : IsSpecInRange o.spec
+
+-- pairs of slots that users may name
+abbrev pub ArePairs : List (ℕ × ℕ) → Type 0
+ArePairs pairs = All (λ p. (p.0 ≤ 239) × (p.1 ≤ 239)) pairs
+
+-- what a restore binds
+abbrev pub BindsSlots : JobKind → Type 0
+BindsSlots kinds.Checkpoint = Unit {0}
+BindsSlots (kinds.Restore bind) = ArePairs bind
+
+-- a job by itself
+pub record KeepsJob (j : JobEntry) : Type 0 where
+  pub nester : AreSlots j.nester
+  pub slot : j.slot ≤ 239
+  pub bound : BindsSlots j.kind

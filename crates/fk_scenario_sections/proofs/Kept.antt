@@ -17,7 +17,11 @@ use Rattle.fk_scenario_entries.specs.declared.types.SpaceEntry.{SpaceEntry}
 use Rattle.fk_scenario_entries.specs.declared.types.ObjectEntry.{ObjectEntry}
 use Rattle.fk_scenario_entries.specs.Programs.{program_of}
 use Rattle.fk_scenario_entries.specs.Objects.{object_entry}
-use Rattle.fk_scenario_entries.proofs.Kept.{in_range, path_kept, program_kept, entry_kept}
+use Rattle.fk_scenario_entries.proofs.Kept.{in_range, path_kept, program_kept, entry_kept, job_kept}
+use Rattle.fk_scenario_entries.specs.declared.jobs.JobEntry.{JobEntry}
+use Rattle.fk_scenario_entries.specs.Jobs.{job_in}
+use Rattle.fk_scenario_entries.specs.Kept.{KeepsJob}
+use Rattle.fk_scenario_sections.specs.Jobs.{entries_from}
 use Rattle.fk_scenario_sections.specs.Programs.{programs_from, position_of, index_of}
 use Rattle.fk_scenario_sections.specs.Spaces.{space_fields, space_after, space_in, spaces_from, has_space, has_space_or_root, has_room_for_space, may_stand, count_beneath, is_no_name}
 use Rattle.fk_scenario_sections.specs.Objects.{has_object, object_after, objects_from}
@@ -171,3 +175,12 @@ objects_kept spaces done (item value rest) all h each =
     after (placed 4 (length done) (object_after spaces done value)) _ all h (λ o is_o h.
     objects_kept spaces (done ++ o ∷ []) rest all h (EachAfter-last (KeepsObject spaces) [] done o each (object_read spaces done value o (placed-Ok 4
     _ _ o is_o))))
+
+-- jobs
+
+pub jobs_kept : (done : List JobEntry) (ds : Items) (all : List JobEntry) → entries_from done ds ≡ Ok all → All KeepsJob done → All KeepsJob all
+unfolding entries_from
+jobs_kept done no_items all h each = let same : done ≡ all = cc in subst (All KeepsJob) same each
+jobs_kept done (item value rest) all h each =
+    after (placed 6 (length done) (job_in (length done) value)) _ all h (λ j is_j h.
+    jobs_kept (done ++ j ∷ []) rest all h (All-push KeepsJob done j each (job_kept (length done) value j (placed-Ok 6 _ _ j is_j))))
