@@ -1,0 +1,5 @@
+pub mod Rules
+pub mod Fields
+pub mod Entries
+pub mod Objects
+pub mod Documents

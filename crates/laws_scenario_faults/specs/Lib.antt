@@ -1,0 +1,5 @@
+pub mod Asked
+pub mod Tables
+pub mod Entries
+pub mod Objects
+pub mod Refusals
