@@ -2,3 +2,4 @@ pub mod Full
 pub mod Brief
 pub mod Wrong
 pub mod Turns
+pub mod Scripts

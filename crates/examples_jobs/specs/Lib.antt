@@ -1,3 +1,4 @@
 pub mod Brief
 pub mod Wrong
 pub mod Turns
+pub mod Scripts

@@ -10,6 +10,7 @@ ghost use Rattle.laws_jobs.specs.Machines.{IsReadyAt};
 ghost use Rattle.laws_jobs.specs.Jobs.{MayBegin, IsTidyJob, Saves};
 ghost use Rattle.laws_jobs.specs.Holds.{hold};
 ghost use Rattle.examples_jobs.specs.Brief.{BriefIsTidy, full};
+ghost use Rattle.examples_jobs.specs.Scripts.{LooksRise};
 ghost use Rattle.examples_jobs.specs.Turns.{NotYetEnded, EndedInTime, OneMove};
 ghost use Rattle.examples_jobs.specs.Wrong.{destroys_its_porter, makes_a_mutex, leaves_scratch, holds_at_once, says_nothing};
 ghost use Rattle.examples_jobs.specs.Wrong.State.{First};
@@ -51,4 +52,9 @@ pub fn a_job_ends_in_its_time()
 /// The first move of a history leads from its first world to the world after one move.
 pub fn a_history_of_one_move()
     ensures { OneMove }
+{}
+
+/// A restore looks for ports by rising slots of its image, not in the order of the objects that lead there.
+pub fn a_script_looks_by_rising_slots()
+    ensures { LooksRise }
 {}
