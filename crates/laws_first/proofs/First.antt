@@ -1,19 +1,22 @@
 -- The first world of a scenario, change by change.
 use Rattle.std.proofs.Common.{◌≡◌, ℕ, ◌-◌, ◌*◌, ◌≤◌, Bool, true, false, cond, if◌then◌else◌, ◌&&◌, ◌||◌, nat_lt, nat_le, is_none, List, [], ◌∷◌, ◌++◌, length, take, drop, reverse, map, get_or, Option, Some, None, option_map, refl, sym, ap, ◌∙◌, arith}
 use Rattle.std.proofs.lemmas.List.Elements.{All-get_or}
-use Rattle.std.specs.List.{flat_map}
+use Rattle.std.specs.List.{flat_map, list_any}
 use Rattle.std.proofs.lemmas.Slice.Eq.{bytes_eq-Decides}
 use Rattle.std.specs.Str.{bytes_eq}
 use Rattle.std.proofs.lemmas.Bool.{and_parts, le-leb, leb-true, lt-leb}
 use Rattle.fk_model.specs.declared.limits.TheConstants.{LAST_USER_SLOT, LAST_SCRATCH_SLOT, FIRST_SCRATCH_SLOT, LAST_PORTER_SLOT, PAGE_WORDS}
-use Rattle.fk_model.specs.Places.{Path, same_path, slot_of}
+use Rattle.fk_model.specs.Places.{Path, same_path, slot_of, Ptr}
+use Rattle.fk_model.specs.Places.Ptr.{At}
 use Rattle.fk_model.specs.Objects.{Body, holds, is_served}
 use Rattle.fk_model.specs.Objects.Body.{Mapping, Region, Port, Space, Reference}
 use Rattle.fk_model.specs.World.{World, Change, Edit, edited, apply, apply_all}
 use Rattle.fk_model.specs.World.Change.{Alter, Make, MakeSpace, PutPage}
 use Rattle.fk_model.specs.World.Edit.{SetPointer, SetMember}
 use Rattle.fk_model.specs.ObjectRows.{is_scratch}
-use Rattle.fk_model.specs.Searches.{slots}
+use Rattle.fk_model.specs.Searches.{slots, pointers}
+use Rattle.fk_model.specs.Freezing.{body_pointers}
+use Rattle.laws_further.specs.ClosedLaws.{is_cut_pointer}
 use Rattle.fk_model.specs.StateRows.{is_native}
 use Rattle.fk_model.specs.Whole.{is_scratch_slot}
 use Rattle.fk_model.proofs.walks.PlaceLaws.{same_path_eq, same_path_refl}
@@ -36,7 +39,7 @@ use Rattle.fk_boot.proofs.validity.Whole.{spaces-safe}
 use Rattle.laws_first.specs.First.{is_porters, is_servers, FirstWorldIsGround}
 
 abbrev IsGroundEdit : Edit → Type 0
-IsGroundEdit (SetPointer to) = Unit {0}
+IsGroundEdit (SetPointer (At x)) = Unit {0}
 IsGroundEdit (SetMember set) = Unit {0}
 IsGroundEdit other = ⊥
 
@@ -46,7 +49,8 @@ module _ (spaces : List SpaceEntry) (ports : List (List ℕ)) where
   IsGroundChange (Alter x edit) = IsGroundEdit edit
   IsGroundChange (Make x b) =
       (is_scratch_slot (slot_of x) ≡ false) × (is_native b ≡ true → is_porters spaces x ≡ true) × (is_served b ≡ true → is_servers ports x ≡ true)
-  IsGroundChange (MakeSpace x holder) = is_scratch_slot (slot_of x) ≡ false
+      × (list_any is_cut_pointer (pointers b) ≡ false)
+  IsGroundChange (MakeSpace x holder) = (is_scratch_slot (slot_of x) ≡ false) × (holder ≡ None)
   IsGroundChange (PutPage space page words) = Unit {0}
   IsGroundChange other = ⊥
 
@@ -58,6 +62,7 @@ module _ (spaces : List SpaceEntry) (ports : List (List ℕ)) where
     clean : (k : ℕ) (x : Path) → is_scratch_slot k ≡ true → w.body (k ∷ x) ≡ None
     porters : (y : Path) → holds is_native (w.body y) ≡ true → is_porters spaces y ≡ true
     served : (y : Path) → holds is_served (w.body y) ≡ true → is_servers ports y ≡ true
+    uncut : (y : Path) → list_any is_cut_pointer (body_pointers (w.body y)) ≡ false
 
   ground-then : (cs ds : List Change) → AreGround cs → AreGround ds → AreGround (cs ++ ds)
   ground-then [] ds first later = later
@@ -85,6 +90,28 @@ module _ (spaces : List SpaceEntry) (ports : List (List ℕ)) where
   served-pointer (SetMember set) good b = refl
   served-pointer edit good b = absurd good
 
+  uncut-edit : (edit : Edit) → IsGroundEdit edit → (b : Body) → list_any is_cut_pointer (pointers b) ≡ false
+      → list_any is_cut_pointer (pointers (edited edit b)) ≡ false
+  unfolding edited
+  uncut-edit (SetPointer (At x)) good (Mapping m) h = refl
+  uncut-edit (SetPointer (At x)) good (Region r) h = refl
+  uncut-edit (SetPointer (At x)) good (Reference old) h = refl
+  uncut-edit (SetPointer (At x)) good b h = h
+  uncut-edit (SetMember set) good (Port old served) h = refl
+  uncut-edit (SetMember set) good b h = h
+  uncut-edit edit good b h = absurd good
+
+  uncut-under : (edit : Edit) → IsGroundEdit edit → (t : Bool) (o : Option Body) → list_any is_cut_pointer (body_pointers o) ≡ false →
+      list_any is_cut_pointer (body_pointers (cond t (option_map (edited edit) o) o)) ≡ false
+  uncut-under edit good true None h = h
+  uncut-under edit good true (Some b) h = uncut-edit edit good b h
+  uncut-under edit good false o h = h
+
+  uncut-made : (b : Body) (t : Bool) (o : Option Body) → list_any is_cut_pointer (pointers b) ≡ false → list_any is_cut_pointer (body_pointers o) ≡ false →
+      list_any is_cut_pointer (body_pointers (cond t (Some b) o)) ≡ false
+  uncut-made b true o good h = good
+  uncut-made b false o good h = h
+
   under : (test : Body → Bool) (f : Body → Body) → ((b : Body) → test (f b) ≡ test b) → (t : Bool) (o : Option Body)
       → holds test (cond t (option_map f o) o) ≡ holds test o
   under test f same true None = refl
@@ -109,24 +136,30 @@ module _ (spaces : List SpaceEntry) (ports : List (List ℕ)) where
   made_test test place x y b o good before true e h = let here = same_path_eq y x e in rw here (good h)
   made_test test place x y b o good before false e h = before h
 
+  unheld-space : (birth : ℕ) (holder : Option Ptr) → holder ≡ None → list_any is_cut_pointer (pointers (Space birth holder)) ≡ false
+  unheld-space birth holder none = rw none refl
+
   keeps : (c : Change) (w : World) → IsGroundChange c → Holds w → Holds (apply c w)
   unfolding apply
   keeps (Alter x edit) w good its = record {
     clean = λ k s scratch. emptied (edited edit) (same_path (k ∷ s) x) (w.body (k ∷ s)) (its.clean k s scratch);
     porters = λ y native. its.porters y (sym (under is_native (edited edit) (native-pointer edit good) (same_path y x) (w.body y)) ∙ native);
     served = λ y serves. its.served y (sym (under is_served (edited edit) (served-pointer edit good) (same_path y x) (w.body y)) ∙ serves);
+    uncut = λ y. uncut-under edit good (same_path y x) (w.body y) (its.uncut y);
   }
   keeps (Make x b) w good its = record {
     clean = λ k s scratch. no_slot k s x b (w.body (k ∷ s)) good.0 scratch (its.clean k s scratch) (same_path (k ∷ s) x) refl;
     porters = λ y native. made_test is_native (is_porters spaces) x y b (w.body y) good.1 (its.porters y) (same_path y x) refl native;
     served = λ y serves. made_test is_served (is_servers ports) x y b (w.body y) good.2 (its.served y) (same_path y x) refl serves;
+    uncut = λ y. uncut-made b (same_path y x) (w.body y) good.3 (its.uncut y);
   }
   keeps (MakeSpace x holder) w good its = record {
-    clean = λ k s scratch. no_slot k s x (Space w.next holder) (w.body (k ∷ s)) good scratch (its.clean k s scratch) (same_path (k ∷ s) x) refl;
+    clean = λ k s scratch. no_slot k s x (Space w.next holder) (w.body (k ∷ s)) good.0 scratch (its.clean k s scratch) (same_path (k ∷ s) x) refl;
     porters = λ y native. made_test is_native (is_porters spaces) x y (Space w.next holder) (w.body y) (λ h. cc) (its.porters y) (same_path y x) refl native;
     served = λ y serves. made_test is_served (is_servers ports) x y (Space w.next holder) (w.body y) (λ h. cc) (its.served y) (same_path y x) refl serves;
+    uncut = λ y. uncut-made (Space w.next holder) (same_path y x) (w.body y) (unheld-space w.next holder good.1) (its.uncut y);
   }
-  keeps (PutPage space page words) w good its = record { clean = its.clean; porters = its.porters; served = its.served }
+  keeps (PutPage space page words) w good its = record { clean = its.clean; porters = its.porters; served = its.served; uncut = its.uncut }
   keeps c w good its = absurd good
 
   keeps_all : (cs : List Change) (w : World) → AreGround cs → Holds w → Holds (apply_all cs w)
@@ -149,7 +182,7 @@ module _ (spaces : List SpaceEntry) (ports : List (List ℕ)) where
   itself-ground (k ∷ path) few =
       let low = low-slot (k ∷ path) (omega arith) few in
       let ends = last (k ∷ path) (omega arith) in
-      rw ends (rw ends at low, tt)
+      rw ends ((rw ends at low, refl), tt)
 
   zeros-ground : (space : Path) (pages : List ℕ) → AreGround (zero_pages space pages)
   zeros-ground space [] = tt
@@ -197,6 +230,16 @@ module _ (spaces : List SpaceEntry) (ports : List (List ℕ)) where
   first-served served (specs.Region first count write keeper) h = cc
   first-served served (specs.Reference to) h = cc
 
+  first-uncut : (served : Bool) (spec : Spec) → list_any is_cut_pointer (pointers (first_body served spec)) ≡ false
+  first-uncut served (specs.Thread entry regs stops) = refl
+  first-uncut served (specs.Mutex locked) = refl
+  first-uncut served specs.Cond = refl
+  first-uncut served specs.Portset = refl
+  first-uncut served (specs.Mapping region first count offset write) = refl
+  first-uncut served (specs.Region first count write keeper) = refl
+  first-uncut served (specs.Port set) = refl
+  first-uncut served (specs.Reference to) = refl
+
   same-places : (k key : List ℕ) (b : Bool) → bytes_eq k key ≡ b → (b || false) ≡ true → same_path (reverse key) (reverse k) ≡ true
   same-places k key true e h = let same : k ≡ key = (bytes_eq-Decides k key).0 e in rw same (same_path_refl (reverse key))
   same-places k key false e h = cc
@@ -222,6 +265,7 @@ module _ (spaces : List SpaceEntry) (ports : List (List ℕ)) where
           low-slot o.path keeps.inside keeps.slots,
           λ native. (let off = first-native (has_key ports o.path) o.spec in let clash = sym native ∙ off in cc),
           λ served. key-servers ports o.path (first-served (has_key ports o.path) o.spec served),
+          first-uncut (has_key ports o.path) o.spec,
         ),
         objects-ground (before ++ o ∷ []) os each.1,
       )
@@ -264,7 +308,7 @@ porters-ground spaces ports (s ∷ ss) among =
     here nests = rw (nests, same_path_refl (LAST_PORTER_SLOT ∷ reverse s.path)) refl
 
     by : (nests : Bool) → s.nester ≡ nests → AreGround spaces ports (if nests then Make (LAST_PORTER_SLOT ∷ reverse s.path) porter ∷ [] else [])
-    by true e = ((refl, (λ native. among (LAST_PORTER_SLOT ∷ reverse s.path) (here e)), (λ served. cc)), tt)
+    by true e = ((refl, (λ native. among (LAST_PORTER_SLOT ∷ reverse s.path) (here e)), (λ served. cc), refl), tt)
     by false e = tt
 
 boot-ground : (s : Scenario) → KeepsScenario s → AreGround s.spaces (served_ports s.servers) (boot_changes s)
@@ -275,11 +319,20 @@ boot-ground s keeps =
     (ground-then s.spaces ports (flat_map aim_changes s.objects) _ (aims-ground s.spaces ports s.objects) (porters-ground s.spaces ports s.spaces (λ y h. h))))
 
 first-holds : (spaces : List SpaceEntry) (ports : List (List ℕ)) → Holds spaces ports first_world
-first-holds spaces ports = record { clean = λ k x scratch. refl; porters = λ y native. nobody y native; served = λ y serves. unserved y serves }
+first-holds spaces ports = record {
+  clean = λ k x scratch. refl;
+  porters = λ y native. nobody y native;
+  served = λ y serves. unserved y serves;
+  uncut = λ y. whole y;
+}
   where
     nobody : (y : Path) → holds is_native (first_world.body y) ≡ true → is_porters spaces y ≡ true
     nobody [] native = cc
     nobody (k ∷ y) native = cc
+
+    whole : (y : Path) → list_any is_cut_pointer (body_pointers (first_world.body y)) ≡ false
+    whole [] = refl
+    whole (k ∷ y) = refl
 
     unserved : (y : Path) → holds is_served (first_world.body y) ≡ true → is_servers ports y ≡ true
     unserved [] serves = cc
@@ -348,6 +401,7 @@ first_world_is_ground s keeps =
     record {
       clean = λ x k scratch. holds_there.clean k x (slot_of_scratch x k scratch);
       few = booted-few s keeps;
+      uncut = holds_there.uncut;
       porters = holds_there.porters;
       served = holds_there.served;
     }

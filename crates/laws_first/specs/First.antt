@@ -1,4 +1,5 @@
--- What the first world of a scenario gives to the runs that begin in it: no scratch, few birth numbers, and who is there.
+-- What the first world of a scenario gives to the runs that begin in it: no scratch, few birth numbers, whole pointers, and who is
+-- there.
 use Rattle.std.specs.Prelude.{◌≡◌, ℕ, ◌≤◌, Bool, true, ◌&&◌, List, ◌∷◌, reverse}
 use Rattle.std.specs.List.{list_any}
 use Rattle.fk_model.specs.declared.limits.TheConstants.{LAST_PORTER_SLOT}
@@ -9,6 +10,7 @@ use Rattle.fk_model.specs.World.{World}
 use Rattle.fk_scenario_entries.specs.declared.types.SpaceEntry.{SpaceEntry}
 use Rattle.fk_scenario.specs.declared.scenario.Scenario.{Scenario}
 use Rattle.fk_scenario.specs.Kept.{KeepsScenario}
+use Rattle.laws_further.specs.ClosedLaws.{IsUncut}
 use Rattle.laws_jobs.specs.Jobs.{IsClean}
 use Rattle.fk_boot.specs.FirstWorld.{booted, served_ports}
 
@@ -23,6 +25,7 @@ is_servers ports y = list_any (λ (port : List ℕ). same_path y (reverse port))
 pub record IsGround (s : Scenario) (w : World) : Type 0 where
   pub clean : IsClean w
   pub few : w.next ≤ 256
+  pub uncut : IsUncut w
   pub porters : (y : Path) → holds is_native (w.body y) ≡ true → is_porters s.spaces y ≡ true
   pub served : (y : Path) → holds is_served (w.body y) ≡ true → is_servers (served_ports s.servers) y ≡ true
 

@@ -1,0 +1,38 @@
+-- A run from the first world of a scenario is grounded.
+use Rattle.std.proofs.Common.{◌≡◌, sym, ap, subst, arith}
+use Rattle.fk_model.specs.World.{World}
+use Rattle.fk_boot.specs.FirstWorld.{booted}
+use Rattle.laws_further.specs.ClosedLaws.{IsUncut}
+use Rattle.laws_savable.specs.Savable.{IsSound}
+use Rattle.laws_jobs.specs.Jobs.{IsClean}
+use Rattle.laws_house.specs.Laws.{SaveUsersAlone}
+use Rattle.laws_house.proofs.Headline.{headline_holds}
+use Rattle.laws_first.specs.Grounded.{ScenariosAreGrounded, ScenariosHaveTheHeadline}
+use Rattle.laws_first.proofs.First.{first_world_is_ground}
+
+pub scenarios_are_grounded : {V : Type 0} → ScenariosAreGrounded V
+scenarios_are_grounded s jobs servers first past begins within =
+    let ground = first_world_is_ground s begins.keeps in
+    let back = sym begins.world in
+    let next : first.world.next ≡ (booted s).next = ap (λ (w : World). w.next) begins.world in
+    let few = ground.few in
+    let budget = begins.keeps.budget in
+    let most = budget.1 in
+    record {
+      users = begins.users;
+      slots = begins.slots;
+      start = record {
+        sound = subst IsSound back begins.sound;
+        clean = subst IsClean back ground.clean;
+        ends = begins.ends;
+        work = begins.work;
+        events = begins.events;
+      };
+      few = omega (arith, next, few, most, within);
+      uncut = subst IsUncut back ground.uncut;
+      alone = subst (SaveUsersAlone jobs) back begins.alone;
+    }
+
+pub scenarios_have_the_headline : {V : Type 0} → ScenariosHaveTheHeadline V
+scenarios_have_the_headline s jobs servers first c past run begins within = headline_holds jobs servers first c past run
+    (scenarios_are_grounded s jobs servers first past begins within)

@@ -1,0 +1,32 @@
+-- A run from the first world of a scenario: what the laws of checkpoints and restores suppose of it, and so what they say of it.
+use Rattle.std.specs.Prelude.{◌≡◌, ◌≤◌, List, [], length, None}
+use Rattle.fk_model.specs.declared.moves.Move.{Move}
+use Rattle.fk_scenario.specs.declared.scenario.Scenario.{Scenario}
+use Rattle.fk_scenario.specs.Kept.{KeepsScenario}
+use Rattle.fk_boot.specs.FirstWorld.{booted}
+use Rattle.laws_savable.specs.Savable.{IsSound}
+use Rattle.laws_runs.specs.Cores.{Servers, Core, IsRun}
+use Rattle.laws_runs.specs.Composed.{AskAsUsers}
+use Rattle.laws_house.specs.Houses.{Job, State, End, house}
+use Rattle.laws_house.specs.Laws.{NameUsersSlots, SaveUsersAlone, IsGrounded}
+use Rattle.laws_house.specs.Headline.{HasHeadline}
+
+-- a core is one with which a scenario begins, with jobs and servers that its reader has seen to be in order
+pub record Begins {V : Type 0} (s : Scenario) (jobs : List Job) (servers : Servers V) (first : Core State End V) : Type 0 where
+  pub keeps : KeepsScenario s
+  pub world : first.world ≡ booted s
+  pub sound : IsSound (booted s)
+  pub ends : first.ends ≡ []
+  pub work : first.work ≡ None
+  pub events : first.events ≡ 0
+  pub users : AskAsUsers (house jobs servers)
+  pub slots : NameUsersSlots jobs
+  pub alone : SaveUsersAlone jobs (booted s)
+
+abbrev pub ScenariosAreGrounded : Type 0 → Type 0
+ScenariosAreGrounded V = (s : Scenario) (jobs : List Job) (servers : Servers V) (first : Core State End V) (past : List Move) → Begins s jobs servers first →
+    length past ≤ s.budget → IsGrounded jobs servers first past
+
+abbrev pub ScenariosHaveTheHeadline : Type 0 → Type 0
+ScenariosHaveTheHeadline V = (s : Scenario) (jobs : List Job) (servers : Servers V) (first c : Core State End V) (past : List Move)
+    (run : IsRun (house jobs servers) first past c) → Begins s jobs servers first → length past ≤ s.budget → HasHeadline run
