@@ -5,7 +5,8 @@
 //! `file NAME` have content, `room N` is what the sink takes, and `fails` is read by `Fails::take`.
 //! What must come of it: `status N`, `error TEXT` for the line of the fault, `output` with content,
 //! `after NAME` with what a file of the shelf holds then, and `report` with the moves of the report as a
-//! trace, and how they ended. All other files are to be as they were.
+//! trace, and how they ended. All other files are to be as they were. Or `plays NAME`: what is left as the trace
+//! with this name is played, and comes to the same.
 use crate::ending::Ending;
 use crate::fails::Fails;
 use crate::section::Section;
@@ -25,6 +26,8 @@ pub struct Case {
     /// How many bytes the sink has room for.
     pub room: u32,
     pub fails: Fails,
+    /// The name of the trace that the call leaves, which then plays to the same ending. Nothing else is compared.
+    pub plays: Option<String>,
     pub wanted: Ending,
 }
 
@@ -53,6 +56,7 @@ fn new_case(alloc: Global, name: &str) -> Result<Case, AllocError> {
         files,
         room: ROOM,
         fails: Fails::none(alloc),
+        plays: None,
     })
 }
 
@@ -65,8 +69,29 @@ fn once_more(alloc: Global, case: &Case, name: &str) -> Result<Case, AllocError>
         files: case.files.clone()?,
         room: ROOM,
         fails: Fails::none(alloc),
+        plays: None,
         wanted: nothing_but(&case.files, alloc)?,
     })
+}
+
+/// The case that plays a trace over the source of another, and over the files that the call of that has left.
+///
+/// # Errors
+///
+/// For want of memory.
+pub fn replay_of(
+    alloc: Global,
+    case: &Case,
+    trace: &str,
+    left: &Ending,
+) -> Result<Case, AllocError> {
+    let mut replay = once_more(alloc, case, case.name.as_str())?;
+    let mut words = Vec::new(alloc);
+    words.push(String::from_str(alloc, "play")?)?;
+    words.push(String::from_str(alloc, trace)?)?;
+    replay.words = words;
+    replay.files = left.files.clone()?;
+    Ok(replay)
 }
 
 /// The words between the spaces of a text.
@@ -91,6 +116,7 @@ fn take_call(alloc: Global, case: &mut Case, section: &Section) -> anyhow::Resul
         }
         "room" => case.room = section.rest.parse::<u32>()?,
         "fails" => case.fails.take(section.rest)?,
+        "plays" => case.plays = Some(String::from_str(alloc, section.rest)?),
         _ => take_ending(alloc, &mut case.wanted, section)?,
     }
     Ok(())

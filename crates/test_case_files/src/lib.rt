@@ -14,7 +14,7 @@ mod ending;
 mod fails;
 mod section;
 
-pub use case::{Case, cases_of};
+pub use case::{Case, cases_of, replay_of};
 pub use ending::Ending;
 pub use fails::{Fails, Turns};
 pub use section::{Section, sections_of};

@@ -6,6 +6,8 @@
 //! called with each, over the source, the sink and the shelf that `fk_causes` has in memory (`call`). A
 //! new case is a new file, or some more lines of one.
 //!
+//! A case may leave a trace that is then played, and has to come to the same.
+//!
 //! The program says of each case what differs, and ends with a line of counts; it fails where a case
 //! differs, and where it finds none. It promises no more than that it always ends.
 #![tactic(auto)]
@@ -19,15 +21,32 @@ mod call;
 use anyhow::{Context, ensure};
 use fk_model::{Reply, Rule};
 use fk_responders::{Responder, Table, echo, feed, sum};
+use std::alloc::Global;
 use std::fs;
 use std::rt::Files;
-use test_case_files::{Case, Fails, cases_of, sections_of};
+use test_case_files::{Case, Ending, Fails, cases_of, replay_of, sections_of};
 
 /// How many calls were made, and how many of them differ from what their case says.
 #[derive(Drop)]
 struct Tally {
     calls: u32,
     differ: u32,
+}
+
+/// Counts a call of a case, and says where it differs.
+fn count<R: Print>(
+    rt: &R,
+    tally: &mut Tally,
+    case: &Case,
+    difference: Option<String>,
+) -> anyhow::Result<()> {
+    tally.calls = tally.calls.saturating_add(1);
+    if let Some(difference) = difference {
+        tally.differ = tally.differ.saturating_add(1);
+        let name = case.name.as_str();
+        println!(rt; "case {name}\n{difference}")?;
+    }
+    Ok(())
 }
 
 /// Makes the call of a case in which these calls of its source, its sink and its shelf fail.
@@ -41,22 +60,47 @@ fn try_call<R: Print + AllocGlobal>(
     let found = call::call(rt.alloc(), table, case, fails)
         .ok()
         .context("no memory")?;
-    tally.calls = tally.calls.saturating_add(1);
-    if let Some(difference) = found.difference(rt.alloc(), &case.wanted)? {
-        tally.differ = tally.differ.saturating_add(1);
-        let name = case.name.as_str();
-        println!(rt; "case {name}\n{difference}")?;
-    }
-    Ok(())
+    count(rt, tally, case, found.difference(rt.alloc(), &case.wanted)?)
 }
 
-/// Makes the call of a case, or those in which one call fails in its turn.
+/// What is wrong where a call has made no run.
+fn no_run(alloc: Global, found: &Ending) -> anyhow::Result<Option<String>> {
+    match found.report {
+        Some(_) => Ok(None),
+        None => Ok(Some(format!(in alloc; "no run: {found}")?)),
+    }
+}
+
+/// Makes the call of a case that leaves a trace, and plays that: both end alike.
+fn try_replay<R: Print + AllocGlobal>(
+    rt: &R,
+    table: &Table,
+    tally: &mut Tally,
+    case: &Case,
+    trace: &str,
+) -> anyhow::Result<()> {
+    let alloc = rt.alloc();
+    let left = call::call(alloc, table, case, &case.fails)
+        .ok()
+        .context("no memory")?;
+    count(rt, tally, case, no_run(alloc, &left)?)?;
+    let replay = replay_of(alloc, case, trace, &left)?;
+    let found = call::call(alloc, table, &replay, &replay.fails)
+        .ok()
+        .context("no memory")?;
+    count(rt, tally, case, found.difference(alloc, &left)?)
+}
+
+/// Makes the call of a case, or those in which one call fails in its turn, or plays what it leaves.
 fn try_case<R: Print + AllocGlobal>(
     rt: &R,
     table: &Table,
     tally: &mut Tally,
     case: &Case,
 ) -> anyhow::Result<()> {
+    if let Some(trace) = &case.plays {
+        return try_replay(rt, table, tally, case, trace.as_str());
+    }
     let Some(turns) = case.fails.turns else {
         return try_call(rt, table, tally, case, &case.fails);
     };
