@@ -1,0 +1,13 @@
+//! The restore of an image in a slot of its nester, by answers alone.
+//!
+//! It makes the calls of the machine of `laws_rooms`, one after the other, and hears their answers. What is left of its
+//! script is a position, so it takes no memory.
+//!
+//! It stands on `fk_positions` and `fk_orders` for the script's places, and on `laws_rooms` for the machine. It promises that what it asks
+//! and what it comes to is what the machine says.
+#![tactic(auto)]
+
+mod counting;
+mod restore;
+
+pub use restore::{Phase, Restore};
