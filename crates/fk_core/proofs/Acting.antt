@@ -24,12 +24,14 @@ use Rattle.fk_natives.specs.declared.service.Side.TheVariants as sides
 use Rattle.fk_natives.specs.Natives.{State, OfConsole, OfServer, asks_for, gives_left}
 use Rattle.fk_store.specs.Names.{same_who}
 use Rattle.fk_store_tables.proofs.NameLaws.{same_who_eq}
-use Rattle.laws_runs.specs.Cores.{IsReadyBy, others_ask}
-use Rattle.laws_runs.specs.Cores.Asker.{Nobody, Others}
+use Rattle.laws_runs.specs.Cores.{IsOtherReady}
 use Rattle.laws_whole.specs.Runnable.{has_all_words}
-use Rattle.fk_kernel.specs.Events.{IsAnyReady, IsAcceptReady}
+use Rattle.fk_kernel.specs.Events.{IsAcceptReady}
+use Rattle.fk_jobs.specs.Jobs.{Queue}
+use Rattle.fk_jobs.specs.Turns.{core_of}
 use Rattle.fk_core.specs.Served.{Services, serving, asked, asked_of, gives_words}
-use Rattle.fk_core.specs.Cores.{RunCore, house, is_act, IsReadyMove, HasNoAct, HaveNoActs}
+use Rattle.fk_core.specs.Cores.{RunCore, house, is_act, is_porter, IsOthersMove, HasNoAct, HaveNoActs}
+use Rattle.fk_core.proofs.Asking.{IsAsked, asked_other, other_name, runs_move}
 
 -- who needs no pick has none
 no-pick : (w : World) (x p : Path) (o : Outcome) → GoesAllowed w x (with_pick false (Some p) o) → ⊥
@@ -83,8 +85,8 @@ if-none (Some a) X Y f h = tt
 
 -- ---- one server after the other
 
-pub no-acts : (c : RunCore) (from : ℕ) → HaveNoActs c from from
-no-acts c from k served low high is = absurd (omega (arith, low, high))
+pub no-acts : (q : Queue) (c : RunCore) (from : ℕ) → HaveNoActs q c from from
+no-acts q c from k served low high is other = absurd (omega (arith, low, high))
 
 least : (k at : ℕ) → k < at + 1 → (k < at → ⊥) → k ≡ at
 least k at high other = by (nat_lt k at) refl
@@ -93,17 +95,17 @@ least k at high other = by (nat_lt k at) refl
     by true e = absurd (other ((Decides-ltb k at).0 e))
     by false e = let above = ltb-false k at e in omega (arith, high, above)
 
-pub one-more : (c : RunCore) (from at : ℕ) (port : Who) → option_map (λ (s : Who × State). s.0) (slice_get c.servers at) ≡ Some port → HasNoAct c port
-    → HaveNoActs c from at → HaveNoActs c from (at + 1)
-one-more c from at port is none before k served low high there = by (nat_lt k at) refl
+pub one-more : (q : Queue) (c : RunCore) (from at : ℕ) (port : Who) → option_map (λ (s : Who × State). s.0) (slice_get c.servers at) ≡ Some port →
+    (is_porter q port ≡ false → HasNoAct c port) → HaveNoActs q c from at → HaveNoActs q c from (at + 1)
+one-more q c from at port is none before k served low high there other = by (nat_lt k at) refl
   where
     by : (t : Bool) → nat_lt k at ≡ t → HasNoAct c served.0
-    by true e = before k served low ((Decides-ltb k at).0 e) there
+    by true e = before k served low ((Decides-ltb k at).0 e) there other
     by false e =
         let here : k ≡ at = least k at high (λ less. let no = (Decides-ltb k at).1 less in cc) in
         let name : Some served.0 ≡ Some port = sym (ap (option_map (λ (s : Who × State). s.0)) (subst (λ j. slice_get c.servers j ≡ Some served) here there)) ∙ is in
         let same : served.0 ≡ port = cc in
-        subst (HasNoAct c) (sym same) none
+        subst (HasNoAct c) (sym same) (none (subst (λ w. is_porter q w ≡ false) same other))
 
 -- ---- no move is left
 
@@ -154,39 +156,43 @@ runs services w who pick ready = by (w.body (named w who)) refl
     by (Some b) e = rw e refl
     by None e = rw e refl
 
-pub over : (c : RunCore) → (IsAnyReady c.world → ⊥) → HaveNoActs c 0 (length c.servers) → (m : Move) → IsReadyMove c m → ⊥
-over c users acts m ready = at (asked c.servers c.world m.who) refl ready
+pub over : (q : Queue) (w : World) (services : Services) (events : ℕ) →
+    ((m : Move) → is_porter q m.who ≡ false → IsReadyAt w (event_of w asks.Run m) → ⊥) → HaveNoActs q (core_of w services q events) 0 (length services) →
+    IsOtherReady (house q.jobs) (core_of w services q events) → ⊥
+over q w services events users acts (m, ask, as_others, ready) = by_ask ask wants.is ready
   where
+    other : is_porter q m.who ≡ false
+    other = other_name q w services events m.who ask as_others
+
+    wants : IsAsked (asked services w m.who) ask
+    wants = asked_other q w services events m.who ask as_others
+
     run : (ask : Ask) → is_act ask ≡ true → Some asks.Run ≡ Some ask → ⊥
     run ask is e = let same : asks.Run ≡ ask = cc in let not : is_act asks.Run ≡ true = subst (λ a. is_act a ≡ true) (sym same) is in cc
 
-    act : (ask : Ask) → is_act ask ≡ true → asked c.servers c.world m.who ≡ Some ask → IsReadyAt c.world (event_of c.world ask m) → ⊥
-    act ask is wants ready = by (is_served_port c.world (At (named c.world m.who))) (serving c.servers m.who) refl wants
+    act : (ask : Ask) → is_act ask ≡ true → asked services w m.who ≡ Some ask → IsReadyAt w (event_of w ask m) → ⊥
+    act ask is wants ready = by (is_served_port w (At (named w m.who))) (serving services m.who) refl wants
       where
-        by : (port : Bool) (state : Option State) → serving c.servers m.who ≡ state → (if port then asked_of state else Some asks.Run) ≡ Some ask → ⊥
+        by : (port : Bool) (state : Option State) → serving services m.who ≡ state → (if port then asked_of state else Some asks.Run) ≡ Some ask → ⊥
         by true (Some state) serves e =
-            let there = found c.servers m.who state serves in
-            acts there.0 there.1 (omega arith) there.3 there.2 m ask (sym there.4) (subst (λ k. asked c.servers c.world k ≡ Some ask) (sym there.4) wants) is ready
+            let there = found services m.who state serves in
+            acts there.0 there.1 (omega arith) there.3 there.2 (subst (λ k. is_porter q k ≡ false) (sym there.4) other)
+            m ask (sym there.4) (subst (λ k. asked services w k ≡ Some ask) (sym there.4) wants) is ready
         by true None serves e = run ask is e
         by false state serves e = run ask is e
 
-    by_ask : (ask : Ask) → asked c.servers c.world m.who ≡ Some ask → IsReadyAt c.world (event_of c.world ask m) → ⊥
-    by_ask asks.Run wants ready = users (named c.world m.who, option_map (named c.world) m.pick, ready)
-    by_ask (asks.Call stage words) wants ready = never-calls c.servers c.world m.who stage words wants
+    by_ask : (ask : Ask) → asked services w m.who ≡ Some ask → IsReadyAt w (event_of w ask m) → ⊥
+    by_ask asks.Run wants ready = users m other ready
+    by_ask (asks.Call stage words) wants ready = never-calls services w m.who stage words wants
     by_ask asks.Accept wants ready = act asks.Accept refl wants ready
     by_ask (asks.Give words len) wants ready = act (asks.Give words len) refl wants ready
     by_ask asks.Over wants ready = act asks.Over refl wants ready
 
-    at : (o : Option Ask) → asked c.servers c.world m.who ≡ o → IsReadyBy house c m (others_ask o) → ⊥
-    at None wants ready = ready
-    at (Some ask) wants ready = by (has_all_words ask) ready
-      where
-        by : (words : Bool) → IsReadyBy house c m (if words then Others ask else Nobody) → ⊥
-        by true ready = by_ask ask wants ready
-        by false ready = ready
-
-pub runs-ready : (c : RunCore) (m : Move) → IsReadyAt c.world (event_of c.world asks.Run m) → IsReadyMove c m
-runs-ready c m ready = rw (runs c.servers c.world m.who (option_map (named c.world) m.pick) ready) ready
+-- who is ready to run is ready in a core, where it is no porter whose job's turn it is
+pub runs-other : (q : Queue) (w : World) (services : Services) (events : ℕ) (m : Move) → is_porter q m.who ≡ false → IsReadyAt w (event_of w asks.Run m) →
+    IsOthersMove q.jobs (core_of w services q events) m
+runs-other q w services events m other ready =
+    runs_move q w services events m other (runs services w m.who (option_map (named w) m.pick) ready) ready
 
 pub if-some : {A : Type 0} (o : Option A) (X Y : A → Type 0) → ((a : A) → X a → Y a) → IfSome o X → IfSome o Y
 if-some None X Y f h = tt
@@ -199,15 +205,3 @@ words-asked services w who (asks.Call stage given) is words = absurd (never-call
 words-asked services w who asks.Accept is words = refl
 words-asked services w who (asks.Give given len) is words = words
 words-asked services w who asks.Over is words = refl
-
--- a move that asks for this is ready in a core where it is in the machine
-pub ready-asked : (c : RunCore) (m : Move) (ask : Ask) → asked c.servers c.world m.who ≡ Some ask → has_all_words ask ≡ true
-    → IsReadyAt c.world (event_of c.world ask m) → IsReadyMove c m
-ready-asked c m ask is words ready = rw (is, words) ready
-
-pub asked-ready : (c : RunCore) (m : Move) (ask : Ask) → asked c.servers c.world m.who ≡ Some ask → IsReadyMove c m → IsReadyAt c.world (event_of c.world ask m)
-asked-ready c m ask is ready = by (has_all_words ask) (rw is at ready)
-  where
-    by : (words : Bool) → IsReadyBy house c m (if words then Others ask else Nobody) → IsReadyAt c.world (event_of c.world ask m)
-    by true ready = ready
-    by false ready = absurd ready

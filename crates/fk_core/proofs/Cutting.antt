@@ -2,6 +2,7 @@
 use Rattle.std.proofs.Common.{◌≡◌, ◌⊎◌, ℕ, Bool, true, false, if◌then◌else◌, List, [], ◌∷◌, Option, Some, None, inl, inr, refl, sym, ap, subst, ◌∙◌}
 use Rattle.std.specs.Bool.{OnTrue, OnFalse}
 use Rattle.fk_model.specs.declared.moves.Ask.{Ask}
+use Rattle.fk_model.specs.declared.moves.Ask.TheVariants as asks
 use Rattle.fk_model.specs.declared.moves.Move.{Move}
 use Rattle.fk_model.specs.Cut.{cut, IsPlain}
 use Rattle.fk_model.specs.Further.{Told, IsOnward}
@@ -16,19 +17,26 @@ use Rattle.fk_model.specs.World.{World}
 use Rattle.laws_cut.specs.CutLaws.{HasDone as HasMoved}
 use Rattle.laws_cut.proofs.joined.Every.{event_keeps}
 use Rattle.laws_further.proofs.strangers.Laws.{strangers_move_unseen, strangers_act_unseen}
-use Rattle.laws_runs.specs.Cores.{IsReadyBy, moved_by, others_ask, Settles, with_end}
-use Rattle.laws_runs.specs.Cores.Asker.{Nobody, Others}
+use Rattle.laws_house.specs.Houses.{Job, State, End, machine}
+use Rattle.laws_jobs.specs.Machines.{Head, heard, said_of}
+use Rattle.laws_jobs.specs.Machines.Head.{Stops, Asks}
+use Rattle.laws_runs.specs.Cores.{Asker, IsReadyBy, asker, job_moved, moved_by, Settles, with_end}
+use Rattle.laws_runs.specs.Cores.Asker.{Nobody, Others, Job as OfJob}
 use Rattle.laws_runs.specs.Cores.Settles.{Stays, Ends}
 use Rattle.laws_runs.specs.Onwards.{event_by}
-use Rattle.laws_whole.specs.Runnable.{has_all_words}
-use Rattle.fk_core.specs.Served.{asked}
+use Rattle.fk_jobs.specs.Jobs.{Queue}
+use Rattle.fk_jobs.specs.Plain.{AsksPlainly}
+use Rattle.fk_jobs.specs.Turns.{core_of}
+use Rattle.fk_jobs.proofs.Plainly.{plain_fits}
+use Rattle.fk_core.specs.Served.{Services}
 use Rattle.fk_core.specs.Cores.{RunCore, house, IsReadyMove, IsTurned}
 use Rattle.fk_core.specs.Cuts.{IsEvent, HasDone, KeepsCuts, LeavesStrangers, IsOfStranger}
+use Rattle.fk_core.proofs.Asking.{asked_other, plain_job}
 use Rattle.fk_core.proofs.Turning.{fit-asked}
 
-settled-world : (c d : RunCore) → Settles house c d → d.world ≡ c.world
-settled-world _ _ (Stays c none) = refl
-settled-world _ _ (Ends c d why now rest) = settled-world (with_end c why) d rest
+settled-world : (jobs : List Job) (c d : RunCore) → Settles (house jobs) c d → d.world ≡ c.world
+settled-world jobs _ _ (Stays c none) = refl
+settled-world jobs _ _ (Ends c d why now rest) = settled-world jobs (with_end c why) d rest
 
 -- a turn is its event, which is fit and ready
 record IsMade (c : RunCore) (d : RunCore) (e : Event) : Type 0 where
@@ -36,25 +44,34 @@ record IsMade (c : RunCore) (d : RunCore) (e : Event) : Type 0 where
   ready : IsReady c.world e.mover e.pick e.ask
   goes : d.world ≡ after c.world e
 
-made : (c : RunCore) (m : Move) (d : RunCore) (e : Event) → IsReadyMove c m → IsTurned c m d → IsEvent c m e → IsMade c d e
-made c m d e ready turned is = at (asked c.servers c.world m.who) refl ready turned is
+job-world : (jobs : List Job) (c : RunCore) (e : Event) (begun : ℕ) (t : State) (h : Head End) → (job_moved (house jobs) c e begun t h).world ≡ after c.world e
+job-world jobs c e begun t (Asks stage words) = refl
+job-world jobs c e begun t (Stops end) = refl
+
+made : (q : Queue) (w : World) (services : Services) (events : ℕ) (m : Move) (d : RunCore) (e : Event) → AsksPlainly q →
+    IsReadyMove q.jobs (core_of w services q events) m → IsTurned q.jobs (core_of w services q events) m d → IsEvent q.jobs (core_of w services q events) m e →
+    IsMade (core_of w services q events) d e
+made q w services events m d e plain ready turned is = at (asker (house q.jobs) (core_of w services q events) m.who) refl ready turned is
   where
-    at : (o : Option Ask) → asked c.servers c.world m.who ≡ o → IsReadyBy house c m (others_ask o) → Settles house (moved_by house c m (others_ask o)) d →
-        event_by {S = ⊥} c.world m (others_ask {S = ⊥} o) ≡ e ∷ [] → IsMade c d e
-    at None asks ready turned is = absurd ready
-    at (Some ask) asks ready turned is = by (has_all_words ask) ready turned is
-      where
-        by : (words : Bool) → IsReadyBy house c m (if words then Others ask else Nobody) →
-            Settles house (moved_by house c m (if words then Others ask else Nobody)) d →
-            event_by {S = ⊥} c.world m (if words then Others ask else Nobody) ≡ e ∷ [] → IsMade c d e
-        by false ready settles is = absurd ready
-        by true ready settles is =
-            let same : event_of c.world ask m ≡ e = cc in
-            subst (IsMade c d) same (record {
-              fit = fit-asked c.servers c.world m.who ask (named c.world m.who) asks;
-              ready = ready;
-              goes = settled-world _ d settles;
-            })
+    at : (a : Asker State) → asker (house q.jobs) (core_of w services q events) m.who ≡ a → IsReadyBy (house q.jobs) (core_of w services q events) m a → Settles (house q.jobs) (moved_by (house q.jobs) (core_of w services q events) m a) d →
+        event_by w m a ≡ e ∷ [] → IsMade (core_of w services q events) d e
+    at Nobody by_whom ready settles is = absurd ready
+    at (Others ask) by_whom ready settles is =
+        let same : event_of w ask m ≡ e = cc in
+        subst (IsMade (core_of w services q events) d) same (record {
+          fit = fit-asked services w m.who ask (named w m.who) (asked_other q w services events m.who ask by_whom).is;
+          ready = ready;
+          goes = settled-world q.jobs _ d settles;
+        })
+    at (OfJob begun s stage words) by_whom ready settles is =
+        let call = event_of w (asks.Call stage words) m in
+        let same : call ≡ e = cc in
+        let told = heard machine s (said_of w call) in
+        subst (IsMade (core_of w services q events) d) same (record {
+          fit = plain_fits w (named w m.who) (asks.Call stage words) (plain_job q w services events m.who begun s stage words plain by_whom);
+          ready = ready.1;
+          goes = settled-world q.jobs _ d settles ∙ job-world q.jobs (core_of w services q events) call begun told (machine.head told);
+        })
 
 has-done : (w v : World) (e : Event) (nester : Path) (slot : ℕ) (seen : Seen) → v ≡ after w e → IsSeen w nester slot e seen →
     HasMoved w nester slot e seen → HasDone w v nester slot seen
@@ -63,22 +80,24 @@ has-done w v e nester slot (Onwards m) goes sees done =
 has-done w v e nester slot Unseen goes sees done = subst (λ v. IsPlain v nester slot × (cut v nester slot ≡ cut w nester slot)) (sym goes) (done, sees.1.0)
 has-done w v e nester slot Other goes sees done = tt
 
-pub keeps_cuts : (c : RunCore) (m : Move) (d : RunCore) → IsReadyMove c m → IsTurned c m d → KeepsCuts c m d.world
-keeps_cuts c m d ready turned whole e is nester slot seen plain sees =
-    let turn = made c m d e ready turned is in
-    has-done c.world d.world e nester slot seen turn.goes sees (event_keeps c.world nester slot e whole plain turn.fit turn.ready seen sees)
+pub keeps_cuts : (q : Queue) (w : World) (services : Services) (events : ℕ) (m : Move) (d : RunCore) → AsksPlainly q →
+    IsReadyMove q.jobs (core_of w services q events) m → IsTurned q.jobs (core_of w services q events) m d → KeepsCuts q.jobs (core_of w services q events) m d.world
+keeps_cuts q w services events m d plainly ready turned whole e is nester slot seen plain sees =
+    let turn = made q w services events m d e plainly ready turned is in
+    has-done w d.world e nester slot seen turn.goes sees (event_keeps w nester slot e whole plain turn.fit turn.ready seen sees)
 
-pub leaves_strangers : (c : RunCore) (m : Move) (d : RunCore) → IsReadyMove c m → IsTurned c m d → LeavesStrangers c m d.world
-leaves_strangers c m d ready turned whole e is nester slot plain none stranger = by stranger
+pub leaves_strangers : (q : Queue) (w : World) (services : Services) (events : ℕ) (m : Move) (d : RunCore) → AsksPlainly q →
+    IsReadyMove q.jobs (core_of w services q events) m → IsTurned q.jobs (core_of w services q events) m d → LeavesStrangers q.jobs (core_of w services q events) m d.world
+leaves_strangers q w services events m d plainly ready turned whole e is nester slot plain none stranger = by stranger
   where
-    turn : IsMade c d e
-    turn = made c m d e ready turned is
+    turn : IsMade (core_of w services q events) d e
+    turn = made q w services events m d e plainly ready turned is
 
-    by : IsOfStranger c.world nester slot e → HasDone c.world d.world nester slot Unseen
-    by (inl thread) = keeps_cuts c m d ready turned whole e is nester slot Unseen plain
-        (strangers_move_unseen c.world nester slot e whole plain none thread.0 thread.1 turn.fit)
-    by (inr server) = keeps_cuts c m d ready turned whole e is nester slot Unseen plain
-        (strangers_act_unseen c.world nester slot e whole plain none server.0 server.1 turn.ready)
+    by : IsOfStranger w nester slot e → HasDone w d.world nester slot Unseen
+    by (inl thread) = keeps_cuts q w services events m d plainly ready turned whole e is nester slot Unseen plain
+        (strangers_move_unseen w nester slot e whole plain none thread.0 thread.1 turn.fit)
+    by (inr server) = keeps_cuts q w services events m d plainly ready turned whole e is nester slot Unseen plain
+        (strangers_act_unseen w nester slot e whole plain none server.0 server.1 turn.ready)
 
 -- a ready move that is tried is made
 pub of-ready : {R T : Type 0} (b : Bool) → R → OnTrue b (R × T) → OnFalse b (R → ⊥) → T

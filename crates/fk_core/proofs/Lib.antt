@@ -4,3 +4,6 @@ pub mod Acting
 pub mod Histories
 pub mod Cutting
 pub mod Proceeding
+mod Asking
+mod Due
+mod Settles

@@ -1,6 +1,7 @@
 -- Proceeding: an instruction is a turn, and one move after another.
-use Rattle.std.proofs.Common.{◌≡◌, ℕ, ◌+◌, ◌<◌, Bool, true, false, if◌then◌else◌, map, is_some, Option, Some, None, option_map, Result, Ok, Err, IfOk, IfNone, OnErr, refl, sym, ap, subst, ◌∙◌}
+use Rattle.std.proofs.Common.{◌≡◌, ℕ, ◌+◌, ◌<◌, Bool, true, false, if◌then◌else◌, length, map, is_some, Option, Some, None, option_map, Result, Ok, Err, IfOk, IfNone, OnErr, refl, sym, ap, subst, ◌∙◌}
 use Rattle.std.specs.Bool.{OnTrue}
+use Rattle.std.specs.List.{slice_get}
 use Rattle.fk_model.specs.declared.moves.Ask.TheVariants as asks
 use Rattle.fk_model.specs.declared.moves.Move.{Move}
 use Rattle.fk_model.specs.declared.moves.Said.TheVariants as says
@@ -12,30 +13,42 @@ use Rattle.fk_model.specs.Who.{named, event_of}
 use Rattle.fk_store.specs.Contents.{Contents}
 use Rattle.fk_store.specs.World.{world}
 use Rattle.laws_jobs.specs.Machines.{IsReadyAt}
-use Rattle.fk_kernel.specs.Events.{IsReadyEvent, step_of}
+use Rattle.laws_runs.specs.Cores.{Settles}
+use Rattle.laws_runs.specs.Cores.Settles.{Stays}
+use Rattle.fk_jobs.specs.Jobs.{Queue, current}
+use Rattle.fk_kernel.specs.Events.{IsReadyEvent, is_who, step_of}
 use Rattle.fk_plans.specs.Hearers.{says_to, says_to_who}
 use Rattle.fk_core.specs.Served.{Services, told}
-use Rattle.fk_core.specs.Cores.{RunCore, core_at, IsReadyMove, IsTurned, IsAdvanced, IsOver}
-use Rattle.fk_core.proofs.Acting.{runs, ready-asked}
+use Rattle.fk_core.specs.Cores.{RunCore, house, core_at, porter_of, is_porter, IsReadyMove, IsTurned, IsAdvanced, IsOver}
+use Rattle.fk_core.proofs.Acting.{runs}
+use Rattle.fk_core.proofs.Asking.{asks_other, others_ready}
 use Rattle.fk_core.proofs.Lists.{untold}
 use Rattle.fk_core.proofs.Turning.{turned}
 
-pub proceeded : (m n : Contents) (services : Services) (budget events : ℕ) (who : Who) → events < budget →
+pub proceeded : (m n : Contents) (services : Services) (q : Queue) (budget events : ℕ) (who : Who) (d : RunCore) → events < budget → is_porter q who ≡ false →
     IsReadyEvent (world m) (event_of (world m) asks.Run (record { who = who; pick = None }))
     × (step_of (world m) (event_of (world m) asks.Run (record { who = who; pick = None })) ≡ record { world = world n; said = Nothing }) →
     ((port : Who) → has_ended (world m) (world n) (named (world m) port) ≡ false) →
-    IsAdvanced budget (core_at m services events) (Some (record { who = who; pick = None })) (core_at n services (events + 1))
-proceeded m n services budget events who few made ends =
+    Settles (house q.jobs) (core_at n services q (events + 1)) d → d.events ≡ events + 1 →
+    IsAdvanced q.jobs budget (core_at m services q events) (Some (record { who = who; pick = None })) d
+proceeded m n services q budget events who d few other made ends settles count =
     let mv : Move = record { who = who; pick = None } in
-    let asks_run = runs services (world m) who None made.0 in (
+    let as_others = asks_other q (world m) services events who asks.Run other (runs services (world m) who None made.0) refl in (
       few,
-      ready-asked (core_at m services events) mv asks.Run asks_run refl made.0,
-      turned m n services services events mv asks.Run says.Nothing None asks_run refl made.1 ends tells (untold says.Nothing None (λ who. refl) services),
-      refl,
+      others_ready q (world m) services events mv (asks.Run, as_others, made.0),
+      turned m n services services q events mv asks.Run says.Nothing None d as_others made.1 ends tells (untold says.Nothing None (λ who. refl) services) settles,
+      count,
     )
   where
     tells : (port : Who) → says_to (step_of (world m) (event_of (world m) asks.Run (record { who = who; pick = None }))).said (named (world m) port) ≡ says_to_who says.Nothing port
     tells port = ap (λ (s : Step). says_to s.said (named (world m) port)) made.1
+
+-- where no job is left nothing settles
+pub none-left : (q : Queue) (c : RunCore) → c.ends ≡ q.ends → current q ≡ None → Settles (house q.jobs) c c
+none-left q c same none = Stays c (λ why ends. let over : Some ends.job ≡ None = sym ends.its ∙ ap (λ e. slice_get q.jobs (length e)) same ∙ none in absurd (cc))
+
+pub no-porter : (q : Queue) (who : Who) → current q ≡ None → is_porter q who ≡ false
+no-porter q who none = ap (λ o. is_who (porter_of o) who) none
 
 -- a move that picks nobody
 pub unpicked : (who : Who) (pick : Option Who) → is_some pick ≡ false → ◌≡◌ {A = Move} (record { who = who; pick = None }) (record { who = who; pick = pick })

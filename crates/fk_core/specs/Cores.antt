@@ -1,54 +1,110 @@
--- Cores: the run's core that a kernel with its servers is. No jobs are there yet.
-use Rattle.std.specs.Prelude.{◌≡◌, ℕ, ◌+◌, ◌<◌, ◌≤◌, Bool, true, false, [], Option, Some, None}
+-- Cores: the run's core that a kernel with its servers and its jobs is.
+use Rattle.std.specs.Prelude.{◌≡◌, ℕ, ◌+◌, ◌<◌, ◌≤◌, ◌%◌, ◌==◌, ◌&&◌, ◌||◌, nat_le, nat_lt, Bool, true, false, List, [], take, Option, Some, None, IfSome, is_some}
 use Rattle.std.specs.List.{slice_get}
+use Rattle.fk_model.specs.declared.limits.TheConstants.{LAST_PORTER_SLOT}
 use Rattle.fk_model.specs.declared.moves.Ask.{Ask}
 use Rattle.fk_model.specs.declared.moves.Ask.TheVariants as asks
+use Rattle.fk_model.specs.declared.moves.Move.{Move}
+use Rattle.fk_model.specs.declared.moves.Said as says_of
+use Rattle.fk_model.specs.declared.moves.Said.TheVariants as says
 use Rattle.fk_model.specs.declared.names.Who.{Who}
 use Rattle.fk_model.specs.Who.{event_of}
+use Rattle.fk_jobs.specs.Jobs.{Queue, current, asked_by, state_of}
+use Rattle.fk_jobs.specs.Turns.{core_of}
+use Rattle.fk_kernel.specs.Events.{is_who}
 use Rattle.fk_natives.specs.Natives.{State}
 use Rattle.fk_store.specs.Contents.{Contents}
 use Rattle.fk_store.specs.World.{world}
-use Rattle.laws_jobs.specs.Machines.{Machine, IsReadyAt}
-use Rattle.fk_model.specs.declared.moves.Move.{Move}
-use Rattle.laws_runs.specs.Cores.{House, Core, IsReadyIn, moved, Settles}
+use Rattle.laws_house.specs.Houses as houses
+use Rattle.laws_house.specs.Houses.{Job, End}
+use Rattle.laws_jobs.specs.Machines.{Reply, IsReadyAt}
+use Rattle.laws_runs.specs.Cores.{House, Core, IsReadyIn, IsReadyBy, IsDueJob, asker, others_ask, moved, Settles}
+use Rattle.laws_runs.specs.Cores.Asker.{Others}
 use Rattle.fk_core.specs.Served.{Services, asked, servers}
 
--- what stands for jobs, for their states and for their ends, while there are none
-abbrev pub Job : Type 0
-Job = ⊥
-
-abbrev pub no_machine : Machine ⊥ ⊥
-no_machine = record { head = λ s. absurd s; next = λ s status words. s }
-
--- the servers, and no jobs
-abbrev pub house : House ⊥ ⊥ ⊥ Services
-house = record {
-  jobs = [];
-  machine = no_machine;
-  nester = λ j. absurd j;
-  at = λ j. absurd j;
-  begins = λ j ends. None;
-  servers = servers;
-}
+-- the servers and the jobs
+abbrev pub house : List Job → House Job houses.State End Services
+house jobs = houses.house jobs servers
 
 abbrev pub RunCore : Type 0
-RunCore = Core ⊥ ⊥ Services
+RunCore = Core houses.State End Services
 
--- a kernel with its servers after so many moves
-abbrev pub core_at : Contents → Services → ℕ → RunCore
-core_at m services events = record { world = world m; servers = services; ends = []; work = None; events = events }
+-- a kernel with its servers and what its jobs have come to, after so many moves
+abbrev pub core_at : Contents → Services → Queue → ℕ → RunCore
+core_at m services q events = core_of (world m) services q events
 
 -- a move is ready in a core
-abbrev pub IsReadyMove : RunCore → Move → Type 0
-IsReadyMove c m = IsReadyIn house c m
+abbrev pub IsReadyMove : List Job → RunCore → Move → Type 0
+IsReadyMove jobs c m = IsReadyIn (house jobs) c m
 
 -- some move is
-abbrev pub IsAnyMove : RunCore → Type 0
-IsAnyMove c = (m : Move) × IsReadyMove c m
+abbrev pub IsAnyMove : List Job → RunCore → Type 0
+IsAnyMove jobs c = (m : Move) × IsReadyMove jobs c m
 
--- what a turn comes to: the step, what its servers hear, and then the jobs that end without a move
-abbrev pub IsTurned : RunCore → Move → RunCore → Type 0
-IsTurned c m d = Settles house (moved house c m) d
+-- what a turn comes to: the step, what its servers or its jobs hear, and then the jobs that end without a move
+abbrev pub IsTurned : List Job → RunCore → Move → RunCore → Type 0
+IsTurned jobs c m d = Settles (house jobs) (moved (house jobs) c m) d
+
+-- the job whose turn it is is due
+abbrev pub IsDue : List Job → RunCore → Type 0
+IsDue jobs c = IsDueJob (house jobs) c
+
+-- a move of a user or a server is ready
+abbrev pub IsOthersMove : List Job → RunCore → Move → Type 0
+IsOthersMove jobs c m = (ask : Ask) × (asker (house jobs) c m.who ≡ Others ask) × IsReadyAt c.world (event_of c.world ask m)
+
+-- a move is ready as that of a user or a server, were its name no porter's
+abbrev pub IsAskedMove : List Job → RunCore → Move → Type 0
+IsAskedMove jobs c m = IsReadyBy (house jobs) c m (others_ask (asked c.servers c.world m.who))
+
+-- the call that the job asks for whose turn it is is ready, were it due
+abbrev pub IsCalledBy : RunCore → Move → Option Ask → Type 0
+IsCalledBy c m None = ⊥
+IsCalledBy c m (Some ask) = IsReadyAt c.world (event_of c.world ask m)
+
+abbrev pub IsCalledMove : Queue → RunCore → Move → Type 0
+IsCalledMove q c m = IsCalledBy c m (asked_by (state_of q))
+
+-- ---- the job whose turn it is
+
+-- the name of a job's porter
+abbrev pub porter_of : Option Job → Option Who
+porter_of None = None
+porter_of (Some j) = Some (record { space = j.nester; slot = LAST_PORTER_SLOT })
+
+-- a name is that of the porter whose job's turn it is
+abbrev pub is_porter : Queue → Who → Bool
+is_porter q who = is_who (porter_of (current q)) who
+
+-- a job's time has come: it has made a move, or so many moves are made
+abbrev pub is_timely_by : Bool → ℕ → Option Job → Bool
+is_timely_by at_work events None = false
+is_timely_by at_work events (Some j) = at_work || nat_le j.at events
+
+abbrev pub is_timely : Queue → ℕ → Bool
+is_timely q events = is_timely_by (is_some q.work) events (current q)
+
+-- it goes first: its time has come, the number of moves is even, and the budget has one more
+abbrev pub has_come : Queue → ℕ → ℕ → Bool
+has_come q budget events = is_timely q events && events % 2 == 0 && nat_lt events budget
+
+-- at an even number of moves the move that is chosen is a job's, where one is due and ready
+abbrev pub IsFirstDue : Queue → ℕ → RunCore → Option Move → Type 0
+IsFirstDue q budget c chosen = c.events % 2 ≡ 0 → c.events < budget → (m : Move) → is_porter q m.who ≡ true → IsReadyMove q.jobs c m
+    → IfSome chosen (λ m. is_porter q m.who ≡ true)
+
+-- what a job is told by a move of its own
+abbrev pub reply_to : says_of.Said → Reply
+reply_to (says.Answer answer) = record { status = answer.status; words = take answer.len answer.words }
+reply_to says.Nothing = record { status = 0; words = [] }
+reply_to (says.Taken port client resumed turn count) = record { status = 0; words = [] }
+reply_to (says.Words port words len) = record { status = 0; words = [] }
+reply_to (says.Given port len) = record { status = 0; words = [] }
+reply_to (says.Full port) = record { status = 0; words = [] }
+reply_to (says.Over port) = record { status = 0; words = [] }
+reply_to (says.Ended port) = record { status = 0; words = [] }
+
+-- ---- acts of servers
 
 -- an act of the native server of a port
 abbrev pub is_act : Ask → Bool
@@ -63,15 +119,16 @@ abbrev pub HasNoAct : RunCore → Who → Type 0
 HasNoAct c port = (m : Move) (ask : Ask) → m.who ≡ port → asked c.servers c.world port ≡ Some ask → is_act ask ≡ true
     → IsReadyAt c.world (event_of c.world ask m) → ⊥
 
--- nor have those from a place up to another
-abbrev pub HaveNoActs : RunCore → ℕ → ℕ → Type 0
-HaveNoActs c from to = (k : ℕ) (served : Who × State) → from ≤ k → k < to → slice_get c.servers k ≡ Some served → HasNoAct c served.0
+-- nor have those from a place up to another, but one that stands by the name of a job's porter
+abbrev pub HaveNoActs : Queue → RunCore → ℕ → ℕ → Type 0
+HaveNoActs q c from to = (k : ℕ) (served : Who × State) → from ≤ k → k < to → slice_get c.servers k ≡ Some served →
+    is_porter q served.0 ≡ false → HasNoAct c served.0
 
 -- there is no move left: none is ready, or the budget is used
-abbrev pub IsOver : ℕ → RunCore → Type 0
-IsOver budget c = c.events < budget → IsAnyMove c → ⊥
+abbrev pub IsOver : List Job → ℕ → RunCore → Type 0
+IsOver jobs budget c = c.events < budget → IsAnyMove jobs c → ⊥
 
 -- what comes of an advance: a move that was ready and is made, while the budget had one more; or nothing
-abbrev pub IsAdvanced : ℕ → RunCore → Option Move → RunCore → Type 0
-IsAdvanced budget c None d = d ≡ c
-IsAdvanced budget c (Some m) d = (c.events < budget) × IsReadyMove c m × IsTurned c m d × (d.events ≡ c.events + 1)
+abbrev pub IsAdvanced : List Job → ℕ → RunCore → Option Move → RunCore → Type 0
+IsAdvanced jobs budget c None d = d ≡ c
+IsAdvanced jobs budget c (Some m) d = (c.events < budget) × IsReadyMove jobs c m × IsTurned jobs c m d × (d.events ≡ c.events + 1)

@@ -10,13 +10,14 @@ use Rattle.fk_model.specs.Seen.Seen.{Onwards, Unseen, Other}
 use Rattle.fk_model.specs.Whole.{IsWhole}
 use Rattle.fk_model.specs.World.{World}
 use Rattle.laws_further.specs.Strangers.{HasNoWindow, IsStrangersPort, is_of_thread, is_of_server}
+use Rattle.laws_house.specs.Houses.{Job}
 use Rattle.laws_runs.specs.Cores.{asker}
 use Rattle.laws_runs.specs.Onwards.{event_by}
 use Rattle.fk_core.specs.Cores.{RunCore, house}
 
 -- a move is this event
-abbrev pub IsEvent : RunCore → Move → Event → Type 0
-IsEvent c m e = event_by c.world m (asker house c m.who) ≡ e ∷ []
+abbrev pub IsEvent : List Job → RunCore → Move → Event → Type 0
+IsEvent jobs c m e = event_by c.world m (asker (house jobs) c m.who) ≡ e ∷ []
 
 -- a subtree stays plain, and its cut has done the move as which it sees the world's, or is as it was. What is seen as other isn't
 -- spoken of
@@ -26,8 +27,8 @@ HasDone w v nester slot Unseen = IsPlain v nester slot × (cut v nester slot ≡
 HasDone w v nester slot Other = Unit {0}
 
 -- so it is with every plain subtree, where the world is whole before the move
-abbrev pub KeepsCuts : RunCore → Move → World → Type 0
-KeepsCuts c m v = IsWhole c.world → (e : Event) → IsEvent c m e → (nester : Path) (slot : ℕ) (seen : Seen) →
+abbrev pub KeepsCuts : List Job → RunCore → Move → World → Type 0
+KeepsCuts jobs c m v = IsWhole c.world → (e : Event) → IsEvent jobs c m e → (nester : Path) (slot : ℕ) (seen : Seen) →
     IsPlain c.world nester slot → IsSeen c.world nester slot e seen → HasDone c.world v nester slot seen
 
 -- a stranger to a subtree moves: a thread that stands away from it, or a server by such a port
@@ -36,6 +37,6 @@ IsOfStranger w nester slot e =
     (IsStranger w nester slot e.mover × (is_of_thread e.ask ≡ true)) ⊎ (IsStrangersPort w nester slot e.mover × (is_of_server e.ask ≡ true))
 
 -- no stranger's move is seen, where no mapping outside leads to a region inside
-abbrev pub LeavesStrangers : RunCore → Move → World → Type 0
-LeavesStrangers c m v = IsWhole c.world → (e : Event) → IsEvent c m e → (nester : Path) (slot : ℕ) →
+abbrev pub LeavesStrangers : List Job → RunCore → Move → World → Type 0
+LeavesStrangers jobs c m v = IsWhole c.world → (e : Event) → IsEvent jobs c m e → (nester : Path) (slot : ℕ) →
     IsPlain c.world nester slot → HasNoWindow c.world nester slot → IsOfStranger c.world nester slot e → HasDone c.world v nester slot Unseen

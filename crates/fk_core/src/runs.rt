@@ -5,20 +5,22 @@ ghost use Rattle.fk_core.specs.Served.{AllFit};
 ghost use Rattle.fk_core.specs.Cores.{house, core_at, IsOver, IsReadyMove};
 
 use crate::turns::Core;
+use fk_jobs::Worker;
 use fk_model::{List as Items, Move, NoMemory};
 use fk_natives::Service;
 use fk_responders::Table;
 use std::alloc::Global;
 
-impl<S: Service + Drop> Core<S> {
+impl<S: Service + Drop, W: Worker + Drop> Core<S, W> {
     /// Makes moves until none is ready or the budget is used, and gives them in their order.
     pub fn run(&mut self, alloc: Global, table: &Table) -> Result<Items<Move>, NoMemory>
         requires fits { AllFit (map (λ r. r.rule) table.now.list.items) self.old.services.list }
-        ensures run { IfOk result (λ history. IsRun house (core_at self.old.kernel self.old.services.list self.old.events) history
-            (core_at self.new.kernel self.new.services.list self.new.events)) }
-        ensures over { OnOk result (IsOver self.old.budget (core_at self.new.kernel self.new.services.list self.new.events)) }
+        ensures run { IfOk result (λ history. IsRun (house self.old.jobs.jobs) (core_at self.old.kernel self.old.services.list self.old.jobs self.old.events) history
+            (core_at self.new.kernel self.new.services.list self.new.jobs self.new.events)) }
+        ensures over { OnOk result (IsOver self.old.jobs.jobs self.old.budget (core_at self.new.kernel self.new.services.list self.new.jobs self.new.events)) }
         ensures events { IfOk result (λ history. self.new.events ≡ self.old.events + length history) }
         ensures budget { self.new.budget ≡ self.old.budget }
+        ensures jobs { self.new.jobs.jobs ≡ self.old.jobs.jobs }
         ensures within { self.old.events ≤ self.old.budget → OnOk result (self.new.events ≤ self.new.budget) }
     {
         let mut history = Items::new(alloc);

@@ -1,5 +1,5 @@
 -- Calls that are fit wherever they are made, and pick nobody.
-use Rattle.std.specs.Prelude.{◌≡◌, ℕ, Bool, true, false, Some}
+use Rattle.std.specs.Prelude.{◌≡◌, ℕ, Bool, true, false, Some, IfSome}
 use Rattle.fk_model.specs.declared.moves.Ask.{Ask}
 use Rattle.fk_model.specs.declared.moves.Ask.TheVariants as asks
 use Rattle.fk_model.specs.declared.stage.Stage.{Stage}
@@ -10,7 +10,7 @@ use Rattle.fk_model.specs.World.{World}
 use Rattle.laws_checkpoint.specs.Checkpoint as checkpoints
 use Rattle.laws_house.specs.Houses.{machine}
 use Rattle.laws_house.specs.Houses.State.{Checking}
-use Rattle.fk_jobs.specs.Jobs.{call_at}
+use Rattle.fk_jobs.specs.Jobs.{Queue, call_at, asked_by, state_of}
 
 -- none that picks somebody, and none that makes a talk or a fault again
 abbrev pub is_plain_stage : Stage → Bool
@@ -31,3 +31,7 @@ CheckpointsAskPlainly = (slot : ℕ) (s : checkpoints.State) (ask : Ask) → cal
 
 abbrev pub PlainIsFit : Type 0
 PlainIsFit = (w : World) (x : Path) (ask : Ask) → is_plain ask ≡ true → is_fit w x ask ≡ true
+
+-- what the job asks for whose turn it is
+abbrev pub AsksPlainly : Queue → Type 0
+AsksPlainly q = IfSome (asked_by (state_of q)) (λ ask. is_plain ask ≡ true)

@@ -3,7 +3,7 @@ ghost use Rattle.std.specs.Prelude.{◌≡◌, ◌<◌, ◌≤◌, ◌++◌, ◌
 ghost use Rattle.std.specs.Prelude.{length, map, take, vec_capacity, option_map, is_some};
 ghost use Rattle.std.specs.List.{slice_get};
 ghost use Rattle.fk_jobs.specs.Jobs.{job_of, first_state, current, state_of, asked_by, begun_from, hears, passed, with_dead, shown_end, shown_ends};
-ghost use Rattle.fk_jobs.specs.Plain.{is_plain};
+ghost use Rattle.fk_jobs.specs.Plain.{is_plain, AsksPlainly};
 
 use crate::plan::Plan;
 use crate::worker::Worker;
@@ -139,6 +139,15 @@ impl<W: Worker + Drop> Jobs<W> {
         }
     }
 
+    /// It is plain. Nothing is done: by this call that is known without the call at hand.
+    pub fn plainly(&self)
+        ensures { AsksPlainly self.now }
+    {
+        if let Some(worker) = &self.worker {
+            worker.plainly();
+        }
+    }
+
     /// Makes room for one answer, and changes nothing else.
     ///
     /// # Errors
@@ -212,6 +221,13 @@ impl<W: Worker + Drop> Jobs<W> {
         ensures { shown_ends W.state result.now ≡ self.now.ends }
     {
         self.ends.as_slice()
+    }
+
+    /// The same, handed out.
+    pub fn into_ends(self) -> Vec<Option<Ended<W>>>
+        ensures { shown_ends W.state result.items ≡ self.ends }
+    {
+        self.ends
     }
 
     /// What is planned of all, in the order of the file.

@@ -25,6 +25,10 @@ pub trait Worker {
         ensures next { result ≡ call_at (machine.head (state self.now)) }
         ensures plain { IfSome result (λ ask. is_plain ask ≡ true) };
 
+    /// Its next call is plain. It does nothing: by this call that is known without the call at hand.
+    fn plainly(&self)
+        ensures { IfSome (call_at (machine.head (state self.now))) (λ ask. is_plain ask ≡ true) };
+
     /// Whether it has a call to make.
     fn is_at_call(&self) -> bool
         ensures { result ≡ is_some (call_at (machine.head (state self.now))) };

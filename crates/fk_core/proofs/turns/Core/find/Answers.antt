@@ -1,11 +1,9 @@
-use Rattle.std.proofs.Common.{subst}
-use Rattle.fk_core.specs.Cores.{core_at, HaveNoActs}
-use Rattle.fk_core.proofs.Acting.{over, if-none}
+use Rattle.fk_store.specs.World.{world}
+use Rattle.fk_core.proofs.Acting.{if-none}
+use Rattle.fk_core.proofs.Asking.{no_move}
 use Rattle.fk_core.proofs.turns.Core.find.Goals as goal
 
 pub returns-in-None-clause-none : goal.returns-in-None-clause-none
 returns-in-None-clause-none g c =
-    let core = core_at c.args.self.now.kernel c.args.self.now.services.list c.args.self.now.events in
-    if-none c.act_between.result _ _
-    (λ acts any. over core c.in-None.ensures.none (subst (HaveNoActs core 0) c.len.ensures acts) any.0 any.1)
-    c.act_between.ensures.none
+    let self = c.args.self.now in
+    if-none c.job_move.result _ _ (λ none. no_move self.jobs (world self.kernel) self.services.list self.events none c.in-None.ensures.none) c.job_move.ensures.none

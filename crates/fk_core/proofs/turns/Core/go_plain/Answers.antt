@@ -9,9 +9,12 @@ pub returns-then-proceed-clause-made : goal.returns-then-proceed-clause-made
 returns-then-proceed-clause-made g c =
     let self = c.args.self.now in
     let m = c.args.m.now in
+    let after = c.settle.new.self in
     let none : is_some m.pick ≡ false = sym c.is_some.ensures ∙ c.if-is_some.false in
-    subst (λ (mv : Move). IsAdvanced self.budget (core_at self.kernel self.services.list self.events) (Some mv)
-    (core_at c.proceed.new.self self.services.list (self.events + 1)))
+    subst (λ (mv : Move). IsAdvanced self.jobs.jobs self.budget (core_at self.kernel self.services.list self.jobs self.events) (Some mv)
+    (core_at after.kernel after.services.list after.jobs after.events))
     (unpicked m.who m.pick none)
-    (proceeded self.kernel c.proceed.new.self self.services.list self.budget self.events m.who c.requires.few
-    (OnTrue_at c.if-proceed.true c.proceed.ensures.made) (OnTrue_at c.if-proceed.true c.proceed.ensures.ended))
+    (proceeded self.kernel c.proceed.new.self self.services.list self.jobs self.budget self.events m.who _ c.requires.few
+    (sym c.is_porter.ensures ∙ c.if-is_porter.false)
+    (OnTrue_at c.if-proceed.true c.proceed.ensures.made) (OnTrue_at c.if-proceed.true c.proceed.ensures.ended)
+    c.settle.ensures.settles c.settle.ensures.events)

@@ -1,34 +1,17 @@
-use Rattle.std.proofs.Common.{◌≡◌, ◌∙◌, sym, ap, subst, map, Some}
-use Rattle.fk_model.specs.Who.{named}
+use Rattle.std.proofs.Common.{◌∙◌, sym}
 use Rattle.fk_store.specs.World.{world}
-use Rattle.fk_core.specs.Cores.{core_at}
-use Rattle.fk_core.specs.Served.{asked, told}
-use Rattle.fk_core.proofs.Acting.{ready-asked}
-use Rattle.fk_core.proofs.Turning.{fit-asked, turned, fits-told}
+use Rattle.fk_core.proofs.Asking.{asked_ready, ready_asked}
+use Rattle.fk_core.proofs.Due.{made_as, unready_as}
 use Rattle.fk_core.proofs.turns.Core.go_told.Goals as goal
 
-pub attempt-requires : goal.attempt-requires
-attempt-requires g c =
-    let w = world c.args.self.now.kernel in
-    record { fit = fit-asked _ w c.args.m.now.who c.in-Some.ask (named w c.args.m.now.who) (sym c.ask.ensures.asked ∙ c.in-Some.is) }
+pub returns-else-is_porter-clause-made : goal.returns-else-is_porter-clause-made
+returns-else-is_porter-clause-made g c =
+    let self = c.args.self.now in
+    let other = sym c.is_porter.ensures ∙ c.if-is_porter.false in
+    made_as c.go_asked.result _ _ _ (asked_ready self.jobs (world self.kernel) self.services.list self.events c.args.m.now other) c.go_asked.ensures.made
 
-pub returns-clause-made : goal.returns-clause-made
-returns-clause-made g c =
-    let m = c.args.self.now.kernel in
-    let n = c.attempt.new.self in
-    let list = c.args.self.now.services.list in
-    let ask = c.in-Some.ask in
-    let what = c.in-Some-2.told in
-    let made = rw c.in-Some-2.is at c.in_ok-told.ensures.made in
-    let words = rw c.in-Some.is at c.ask.ensures.words in
-    let asks : asked list (world m) c.args.m.now.who ≡ Some ask =
-    subst (λ l. asked l (world m) c.args.m.now.who ≡ Some ask) c.in_ok-reserve.ensures.same (sym c.ask.ensures.asked ∙ c.in-Some.is) in (
-      ready-asked (core_at m list c.args.self.now.events) c.args.m.now ask asks words made.0,
-      turned m n list c.hear.new.self.list c.args.self.now.events c.args.m.now ask what.said what.ended asks words made.1
-          (rw c.in-Some-2.is at c.in_ok-told.ensures.ended)
-          (rw c.in-Some-2.is at c.in_ok-told.ensures.told)
-          (c.hear.ensures ∙ ap (map (told what.said what.ended)) c.in_ok-reserve.ensures.same),
-    )
-
-pub returns-clause-fits : goal.returns-clause-fits
-returns-clause-fits g c = rw (c.hear.ensures, c.in_ok-reserve.ensures.same) (fits-told _ _ _ c.args.self.now.services.list c.requires.fits)
+pub returns-else-is_porter-clause-unready : goal.returns-else-is_porter-clause-unready
+returns-else-is_porter-clause-unready g c =
+    let self = c.args.self.now in
+    let other = sym c.is_porter.ensures ∙ c.if-is_porter.false in
+    unready_as c.go_asked.result _ _ (ready_asked self.jobs (world self.kernel) self.services.list self.events c.args.m.now other) c.go_asked.ensures.unready

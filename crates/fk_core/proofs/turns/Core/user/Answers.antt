@@ -1,9 +1,23 @@
-use Rattle.fk_core.specs.Cores.{core_at}
-use Rattle.fk_core.proofs.Acting.{runs-ready, if-some}
+use Rattle.fk_store.specs.World.{world}
+use Rattle.fk_core.proofs.Acting.{runs-other, if-some, if-none}
+use Rattle.fk_core.proofs.Asking.{others_ready}
 use Rattle.fk_core.proofs.turns.Core.user.Goals as goal
+
+pub returns-clause-other : goal.returns-clause-other
+returns-clause-other g c =
+    let self = c.args.self.now in
+    if-some c.next_besides.result _ _
+    (λ m ready. runs-other self.jobs (world self.kernel) self.services.list self.events m (rw c.porter.ensures at ready.0) ready.1)
+    c.next_besides.ensures.ready
 
 pub returns-clause-ready : goal.returns-clause-ready
 returns-clause-ready g c =
-    if-some c.next_after.result _ _
-    (λ m ready. runs-ready (core_at c.args.self.now.kernel c.args.self.now.services.list c.args.self.now.events) m ready)
-    c.next_after.ensures.ready
+    let self = c.args.self.now in
+    if-some c.next_besides.result _ _
+    (λ m ready. others_ready self.jobs (world self.kernel) self.services.list self.events m
+    (runs-other self.jobs (world self.kernel) self.services.list self.events m (rw c.porter.ensures at ready.0) ready.1))
+    c.next_besides.ensures.ready
+
+pub returns-clause-none : goal.returns-clause-none
+returns-clause-none g c =
+    if-none c.next_besides.result _ _ (λ none m other ready. none m (rw c.porter.ensures other, ready)) c.next_besides.ensures.none

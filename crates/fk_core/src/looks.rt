@@ -1,0 +1,429 @@
+//! Who moves next.
+ghost use Rattle.std.specs.Prelude.{◌≡◌, ◌<◌, ◌≤◌, true, false, Some, None, IfOk, OnErr, IfSome, IfNone, IsSome, length, map};
+ghost use Rattle.fk_core.specs.Served.{AllFit};
+ghost use Rattle.fk_core.specs.Cores.{core_at, is_porter, has_come, IsReadyMove, IsAskedMove, IsOthersMove, IsAnyMove, IsOver, IsAdvanced, HasNoAct, HaveNoActs, IsFirstDue};
+ghost use Rattle.fk_store.specs.World.{world};
+ghost use Rattle.fk_jobs.specs.Jobs.{current};
+ghost use Rattle.fk_kernel.specs.Events.{IsReadyBesides};
+ghost use Rattle.fk_model.specs.Who.{event_of};
+ghost use Rattle.fk_model.specs.declared.moves.Ask.TheVariants as asks;
+ghost use Rattle.laws_runs.specs.Cores.{IsOtherReady};
+ghost use Rattle.laws_jobs.specs.Machines.{IsReadyAt};
+ghost use Rattle.fk_core.specs.Cores.{house};
+
+use crate::turns::Core;
+use fk_jobs::Worker;
+use fk_model::{Ask, Move, NoMemory, Who};
+use fk_natives::Service;
+use fk_responders::Table;
+
+/// After so many moves the look goes round.
+const ROUND: u64 = 64;
+
+impl<S: Service + Drop, W: Worker + Drop> Core<S, W> {
+    /// The act of a server that picks nobody, where it is ready.
+    fn unpicked(&self, port: Who, ask: &Ask) -> Option<Move>
+        ensures ready { IfSome result (λ m. (m.who ≡ port) × IsReadyAt (world self.now.kernel) (event_of (world self.now.kernel) ask.now m)) }
+        ensures none { IfNone result (IsReadyAt (world self.now.kernel) (event_of (world self.now.kernel) ask.now (record { who = port; pick = None })) → ⊥) }
+    {
+        let m = Move {
+            who: port,
+            pick: None,
+        };
+        if self.kernel.ready(&m, ask) {
+            Some(m)
+        } else {
+            None
+        }
+    }
+
+    /// A ready act of the server of a port.
+    fn act_of(&self, port: Who) -> Option<Move>
+        ensures who { IfSome result (λ m. m.who ≡ port) }
+        ensures ready { IfSome result (λ m. IsAskedMove self.now.jobs.jobs (core_at self.now.kernel self.now.services.list self.now.jobs self.now.events) m) }
+        ensures none { IfNone result (HasNoAct (core_at self.now.kernel self.now.services.list self.now.jobs self.now.events) port) }
+    {
+        match self.ask(port)? {
+            Ask::Run | Ask::Call { .. } => None,
+            Ask::Accept => Some(Move {
+                who: port,
+                pick: Some(self.kernel.ready_accept(port)?),
+            }),
+            ask => self.unpicked(port, &ask),
+        }
+    }
+
+    /// The same where the port isn't the name of the porter whose job's turn it is.
+    fn act_besides(&self, port: Who) -> Option<Move>
+        ensures ready { IfSome result (λ m. IsReadyMove self.now.jobs.jobs (core_at self.now.kernel self.now.services.list self.now.jobs self.now.events) m) }
+        ensures other { IfSome result (λ m. IsOthersMove self.now.jobs.jobs (core_at self.now.kernel self.now.services.list self.now.jobs self.now.events) m) }
+        ensures none { IfNone result (is_porter self.now.jobs port ≡ false → HasNoAct (core_at self.now.kernel self.now.services.list self.now.jobs self.now.events) port) }
+    {
+        if self.is_porter(port) {
+            return None;
+        }
+        self.act_of(port)
+    }
+
+    /// A ready act of a server from a place up to another.
+    fn act_between(&self, from: usize, to: usize) -> Option<Move>
+        requires { to ≤ length self.now.services.list }
+        ensures ready { IfSome result (λ m. IsReadyMove self.now.jobs.jobs (core_at self.now.kernel self.now.services.list self.now.jobs self.now.events) m) }
+        ensures other { IfSome result (λ m. IsOthersMove self.now.jobs.jobs (core_at self.now.kernel self.now.services.list self.now.jobs self.now.events) m) }
+        ensures none { IfNone result (HaveNoActs self.now.jobs (core_at self.now.kernel self.now.services.list self.now.jobs self.now.events) from to) }
+    {
+        for at in from..to {
+            if let Some(m) = self.act_besides(self.services.port(at)) {
+                return Some(m);
+            }
+        }
+        None
+    }
+
+    /// A ready act of the server at a place.
+    fn act_at(&self, at: usize) -> Option<Move>
+        ensures { IfSome result (λ m. IsReadyMove self.now.jobs.jobs (core_at self.now.kernel self.now.services.list self.now.jobs self.now.events) m) }
+    {
+        if at < self.services.len() {
+            self.act_besides(self.services.port(at))
+        } else {
+            None
+        }
+    }
+
+    /// A thread's move that is ready, sought from the one after that which moved last.
+    fn user(&self) -> Option<Move>
+        ensures ready { IfSome result (λ m. IsReadyMove self.now.jobs.jobs (core_at self.now.kernel self.now.services.list self.now.jobs self.now.events) m) }
+        ensures other { IfSome result (λ m. IsOthersMove self.now.jobs.jobs (core_at self.now.kernel self.now.services.list self.now.jobs self.now.events) m) }
+        ensures none { IfNone result ((m : _) → is_porter self.now.jobs m.who ≡ false
+            → IsReadyAt (world self.now.kernel) (event_of (world self.now.kernel) asks.Run m) → ⊥) }
+    {
+        self.kernel.next_besides(self.last, self.porter())
+    }
+
+    /// A move of a user or a server that is ready: a thread's, or else a server's act.
+    pub(crate) fn find_other(&self) -> Option<Move>
+        ensures ready { IfSome result (λ m. IsReadyMove self.now.jobs.jobs (core_at self.now.kernel self.now.services.list self.now.jobs self.now.events) m) }
+        ensures other { IfSome result (λ m. IsOthersMove self.now.jobs.jobs (core_at self.now.kernel self.now.services.list self.now.jobs self.now.events) m) }
+        ensures none { IfNone result (IsOtherReady (house self.now.jobs.jobs) (core_at self.now.kernel self.now.services.list self.now.jobs self.now.events) → ⊥) }
+    {
+        match self.user() {
+            Some(m) => Some(m),
+            None => self.act_between(0, self.services.len()),
+        }
+    }
+
+    /// The move of the job whose turn it is, where it is due and ready.
+    fn job_move(&self) -> Option<Move>
+        ensures ready { IfSome result (λ m. IsReadyMove self.now.jobs.jobs (core_at self.now.kernel self.now.services.list self.now.jobs self.now.events) m) }
+        ensures porter { IfSome result (λ m. is_porter self.now.jobs m.who ≡ true) }
+        ensures none { IfNone result ((m : _) → is_porter self.now.jobs m.who ≡ true → IsReadyMove self.now.jobs.jobs (core_at self.now.kernel self.now.services.list self.now.jobs self.now.events) m → ⊥) }
+    {
+        // So it is known that it picks nobody.
+        self.jobs.plainly();
+        let who = self.porter()?;
+        let m = Move { who, pick: None };
+        if self.ready_job(&m) { Some(m) } else { None }
+    }
+
+    /// A move that is ready: a thread's, or else a server's act, or else the due job's.
+    pub(crate) fn find(&self) -> Option<Move>
+        ensures ready { IfSome result (λ m. IsReadyMove self.now.jobs.jobs (core_at self.now.kernel self.now.services.list self.now.jobs self.now.events) m) }
+        ensures none { IfNone result (IsAnyMove self.now.jobs.jobs (core_at self.now.kernel self.now.services.list self.now.jobs self.now.events) → ⊥) }
+    {
+        match self.find_other() {
+            Some(m) => Some(m),
+            None => self.job_move(),
+        }
+    }
+
+    /// A move that is ready. There is none exactly where none is ready or the budget is used.
+    ///
+    /// At an even number of moves the job whose turn it is goes first, where it is due and ready. Else the thread that
+    /// moved last goes on where it is ready, or else the server that heard of its move answers,
+    /// but at one move of 64. Then, and where neither is ready, the look goes round: a thread is sought from the one after
+    /// that which moved last, and in every second round of 64 moves one server is looked at first, each in its
+    /// turn. So nobody who is ready waits for ever behind others.
+    pub fn choose(&mut self) -> Option<Move>
+        ensures ready { IfSome result (λ m. (self.old.events < self.old.budget) × IsReadyMove self.old.jobs.jobs (core_at self.old.kernel self.old.services.list self.old.jobs self.old.events) m) }
+        ensures none { IfNone result (IsOver self.old.jobs.jobs self.old.budget (core_at self.old.kernel self.old.services.list self.old.jobs self.old.events)) }
+        ensures first { IsFirstDue self.old.jobs self.old.budget (core_at self.old.kernel self.old.services.list self.old.jobs self.old.events) result }
+        ensures same { (core_at self.new.kernel self.new.services.list self.new.jobs self.new.events) ≡ (core_at self.old.kernel self.old.services.list self.old.jobs self.old.events) }
+        ensures budget { self.new.budget ≡ self.old.budget }
+        ensures jobs { self.new.jobs.jobs ≡ self.old.jobs.jobs }
+    {
+        match self.job_first() {
+            Some(m) => Some(m),
+            None => self.choose_other(),
+        }
+    }
+
+    /// The move of the job whose turn it is, at an even number of moves, where its time has come.
+    fn job_first(&self) -> Option<Move>
+        ensures ready { IfSome result (λ m. (self.now.events < self.now.budget) × IsReadyMove self.now.jobs.jobs (core_at self.now.kernel self.now.services.list self.now.jobs self.now.events) m) }
+        ensures porter { IfSome result (λ m. is_porter self.now.jobs m.who ≡ true) }
+        ensures none { IfNone result (has_come self.now.jobs self.now.budget self.now.events ≡ true
+            → (m : _) → is_porter self.now.jobs m.who ≡ true → IsReadyMove self.now.jobs.jobs (core_at self.now.kernel self.now.services.list self.now.jobs self.now.events) m → ⊥) }
+    {
+        if self.has_come() {
+            self.job_move()
+        } else {
+            None
+        }
+    }
+
+    /// Whether the number of moves is even and the budget has one more, and the time has come of the job whose turn it is.
+    fn has_come(&self) -> bool
+        ensures { result ≡ has_come self.now.jobs self.now.budget self.now.events }
+    {
+        self.is_timely() && self.events % 2 == 0 && self.events < self.budget
+    }
+
+    /// The same of whoever has moved last, or comes next.
+    fn choose_other(&mut self) -> Option<Move>
+        ensures ready { IfSome result (λ m. (self.old.events < self.old.budget) × IsReadyMove self.old.jobs.jobs (core_at self.old.kernel self.old.services.list self.old.jobs self.old.events) m) }
+        ensures none { IfNone result (IsOver self.old.jobs.jobs self.old.budget (core_at self.old.kernel self.old.services.list self.old.jobs self.old.events)) }
+        ensures same { (core_at self.new.kernel self.new.services.list self.new.jobs self.new.events) ≡ (core_at self.old.kernel self.old.services.list self.old.jobs self.old.events) }
+        ensures budget { self.new.budget ≡ self.old.budget }
+        ensures jobs { self.new.jobs.jobs ≡ self.old.jobs.jobs }
+    {
+        match self.again() {
+            Some(m) => Some(m),
+            None => self.choose_next(),
+        }
+    }
+
+    /// The thread that moved last, but at one move of 64 and where the budget is used.
+    fn same_thread(&self) -> Option<Who>
+        ensures { IsSome result → self.now.events < self.now.budget }
+    {
+        if self.events >= self.budget || self.events % ROUND == 0 {
+            return None;
+        }
+        self.last
+    }
+
+    /// Its move, where that is ready and picks nobody.
+    fn again(&self) -> Option<Move>
+        ensures { IfSome result (λ m. (self.now.events < self.now.budget) × IsReadyMove self.now.jobs.jobs (core_at self.now.kernel self.now.services.list self.now.jobs self.now.events) m) }
+    {
+        let m = Move {
+            who: self.same_thread()?,
+            pick: None,
+        };
+        if self.ready(&m) { Some(m) } else { None }
+    }
+
+    /// A ready act of the server that heard of the last move, but at one move of 64.
+    fn answer(&self) -> Option<Move>
+        ensures { IfSome result (λ m. IsReadyMove self.now.jobs.jobs (core_at self.now.kernel self.now.services.list self.now.jobs self.now.events) m) }
+    {
+        if self.events % ROUND == 0 {
+            return None;
+        }
+        self.act_besides(self.heard?)
+    }
+
+    /// A move that is ready, of whoever comes next.
+    fn seek(&mut self) -> Option<Move>
+        ensures ready { IfSome result (λ m. IsReadyMove self.old.jobs.jobs (core_at self.old.kernel self.old.services.list self.old.jobs self.old.events) m) }
+        ensures none { IfNone result (IsAnyMove self.old.jobs.jobs (core_at self.old.kernel self.old.services.list self.old.jobs self.old.events) → ⊥) }
+        ensures same { core_at self.new.kernel self.new.services.list self.new.jobs self.new.events ≡ core_at self.old.kernel self.old.services.list self.old.jobs self.old.events }
+        ensures budget { self.new.budget ≡ self.old.budget }
+        ensures jobs { self.new.jobs.jobs ≡ self.old.jobs.jobs }
+    {
+        match self.look() {
+            Some(m) => Some(m),
+            None => self.find(),
+        }
+    }
+
+    /// In every second round a ready act of one server, each in its turn.
+    fn look(&mut self) -> Option<Move>
+        ensures ready { IfSome result (λ m. IsReadyMove self.old.jobs.jobs (core_at self.old.kernel self.old.services.list self.old.jobs self.old.events) m) }
+        ensures same { core_at self.new.kernel self.new.services.list self.new.jobs self.new.events ≡ core_at self.old.kernel self.old.services.list self.old.jobs self.old.events }
+        ensures budget { self.new.budget ≡ self.old.budget }
+        ensures jobs { self.new.jobs.jobs ≡ self.old.jobs.jobs }
+    {
+        if self.events / ROUND % 2 == 0 {
+            return None;
+        }
+        let at = self.next;
+        self.next = following(at, self.services.len());
+        self.act_at(at)
+    }
+
+    /// Makes the next instruction of the thread that moved last, where it is at one that is ready and no job is left. What others' moves tell
+    /// takes much room; this needs none.
+    fn proceed(&mut self) -> Option<Move>
+        requires none { current self.old.jobs ≡ None }
+        ensures advanced { IsAdvanced self.old.jobs.jobs self.old.budget (core_at self.old.kernel self.old.services.list self.old.jobs self.old.events) result (core_at self.new.kernel self.new.services.list self.new.jobs self.new.events) }
+        ensures services { self.new.services.list ≡ self.old.services.list }
+        ensures budget { self.new.budget ≡ self.old.budget }
+        ensures jobs { self.new.jobs.jobs ≡ self.old.jobs.jobs }
+    {
+        let who = self.same_thread()?;
+        if self.kernel.proceed(who) {
+            self.events += 1;
+            self.heard = None;
+            Some(Move { who, pick: None })
+        } else {
+            None
+        }
+    }
+
+    /// Makes any next move of the thread that moved last, where it is ready and picks nobody.
+    #[inline(never)]
+    fn go_on(&mut self, table: &Table) -> Result<Option<Move>, NoMemory>
+        requires fits { AllFit (map (λ r. r.rule) table.now.list.items) self.old.services.list }
+        ensures advanced { IfOk result (λ made. IsAdvanced self.old.jobs.jobs self.old.budget (core_at self.old.kernel self.old.services.list self.old.jobs self.old.events) made (core_at self.new.kernel self.new.services.list self.new.jobs self.new.events)) }
+        ensures lacking { OnErr result (core_at self.new.kernel self.new.services.list self.new.jobs self.new.events ≡ core_at self.old.kernel self.old.services.list self.old.jobs self.old.events) }
+        ensures fits { AllFit (map (λ r. r.rule) table.now.list.items) self.new.services.list }
+        ensures budget { self.new.budget ≡ self.old.budget }
+        ensures jobs { self.new.jobs.jobs ≡ self.old.jobs.jobs }
+    {
+        let Some(who) = self.same_thread() else {
+            return Ok(None);
+        };
+        let m = Move { who, pick: None };
+        if self.go(table, &m)? {
+            Ok(Some(m))
+        } else {
+            Ok(None)
+        }
+    }
+
+    /// Makes a move that is ready, of whoever comes next.
+    #[inline(never)]
+    fn go_next(&mut self, table: &Table) -> Result<Option<Move>, NoMemory>
+        requires fits { AllFit (map (λ r. r.rule) table.now.list.items) self.old.services.list }
+        ensures advanced { IfOk result (λ made. IsAdvanced self.old.jobs.jobs self.old.budget (core_at self.old.kernel self.old.services.list self.old.jobs self.old.events) made (core_at self.new.kernel self.new.services.list self.new.jobs self.new.events)) }
+        ensures none { IfOk result (λ made. IfNone made (IsOver self.old.jobs.jobs self.old.budget (core_at self.old.kernel self.old.services.list self.old.jobs self.old.events))) }
+        ensures lacking { OnErr result (core_at self.new.kernel self.new.services.list self.new.jobs self.new.events ≡ core_at self.old.kernel self.old.services.list self.old.jobs self.old.events) }
+        ensures fits { AllFit (map (λ r. r.rule) table.now.list.items) self.new.services.list }
+        ensures budget { self.new.budget ≡ self.old.budget }
+        ensures jobs { self.new.jobs.jobs ≡ self.old.jobs.jobs }
+    {
+        let Some(m) = self.choose_next() else {
+            return Ok(None);
+        };
+        self.turn(table, &m)?;
+        Ok(Some(m))
+    }
+
+    /// A move that is ready, of whoever comes next. There is none exactly where none is ready or the budget is used.
+    fn choose_next(&mut self) -> Option<Move>
+        ensures ready { IfSome result (λ m. (self.old.events < self.old.budget) × IsReadyMove self.old.jobs.jobs (core_at self.old.kernel self.old.services.list self.old.jobs self.old.events) m) }
+        ensures none { IfNone result (IsOver self.old.jobs.jobs self.old.budget (core_at self.old.kernel self.old.services.list self.old.jobs self.old.events)) }
+        ensures same { core_at self.new.kernel self.new.services.list self.new.jobs self.new.events ≡ core_at self.old.kernel self.old.services.list self.old.jobs self.old.events }
+        ensures budget { self.new.budget ≡ self.old.budget }
+        ensures jobs { self.new.jobs.jobs ≡ self.old.jobs.jobs }
+    {
+        if self.events >= self.budget {
+            return None;
+        }
+        match self.answer() {
+            Some(m) => Some(m),
+            None => self.seek(),
+        }
+    }
+
+    /// Makes any move that is ready: of the thread that moved last where it is ready, or else of whoever comes next.
+    fn go_further(&mut self, table: &Table) -> Result<Option<Move>, NoMemory>
+        requires fits { AllFit (map (λ r. r.rule) table.now.list.items) self.old.services.list }
+        ensures advanced { IfOk result (λ made. IsAdvanced self.old.jobs.jobs self.old.budget (core_at self.old.kernel self.old.services.list self.old.jobs self.old.events) made (core_at self.new.kernel self.new.services.list self.new.jobs self.new.events)) }
+        ensures none { IfOk result (λ made. IfNone made (IsOver self.old.jobs.jobs self.old.budget (core_at self.old.kernel self.old.services.list self.old.jobs self.old.events))) }
+        ensures lacking { OnErr result (core_at self.new.kernel self.new.services.list self.new.jobs self.new.events ≡ core_at self.old.kernel self.old.services.list self.old.jobs self.old.events) }
+        ensures fits { AllFit (map (λ r. r.rule) table.now.list.items) self.new.services.list }
+        ensures budget { self.new.budget ≡ self.old.budget }
+        ensures jobs { self.new.jobs.jobs ≡ self.old.jobs.jobs }
+    {
+        match self.go_on(table)? {
+            Some(m) => Ok(Some(m)),
+            None => self.go_next(table),
+        }
+    }
+
+    /// Makes the move of the job whose turn it is, at an even number of moves, where it is due and ready and its time has come.
+    fn go_first(&mut self, table: &Table) -> Result<Option<Move>, NoMemory>
+        requires fits { AllFit (map (λ r. r.rule) table.now.list.items) self.old.services.list }
+        ensures advanced { IfOk result (λ made. IsAdvanced self.old.jobs.jobs self.old.budget (core_at self.old.kernel self.old.services.list self.old.jobs self.old.events) made (core_at self.new.kernel self.new.services.list self.new.jobs self.new.events)) }
+        ensures lacking { OnErr result (core_at self.new.kernel self.new.services.list self.new.jobs self.new.events ≡ core_at self.old.kernel self.old.services.list self.old.jobs self.old.events) }
+        ensures fits { AllFit (map (λ r. r.rule) table.now.list.items) self.new.services.list }
+        ensures budget { self.new.budget ≡ self.old.budget }
+        ensures jobs { self.new.jobs.jobs ≡ self.old.jobs.jobs }
+    {
+        if !self.has_come() {
+            return Ok(None);
+        }
+        let Some(who) = self.porter() else {
+            return Ok(None);
+        };
+        let m = Move { who, pick: None };
+        if self.go_job(table, &m)? {
+            Ok(Some(m))
+        } else {
+            Ok(None)
+        }
+    }
+
+    /// Makes a move that is ready, while a job is left.
+    #[inline(never)]
+    fn go_among(&mut self, table: &Table) -> Result<Option<Move>, NoMemory>
+        requires fits { AllFit (map (λ r. r.rule) table.now.list.items) self.old.services.list }
+        ensures advanced { IfOk result (λ made. IsAdvanced self.old.jobs.jobs self.old.budget (core_at self.old.kernel self.old.services.list self.old.jobs self.old.events) made (core_at self.new.kernel self.new.services.list self.new.jobs self.new.events)) }
+        ensures none { IfOk result (λ made. IfNone made (IsOver self.old.jobs.jobs self.old.budget (core_at self.old.kernel self.old.services.list self.old.jobs self.old.events))) }
+        ensures lacking { OnErr result (core_at self.new.kernel self.new.services.list self.new.jobs self.new.events ≡ core_at self.old.kernel self.old.services.list self.old.jobs self.old.events) }
+        ensures fits { AllFit (map (λ r. r.rule) table.now.list.items) self.new.services.list }
+        ensures budget { self.new.budget ≡ self.old.budget }
+        ensures jobs { self.new.jobs.jobs ≡ self.old.jobs.jobs }
+    {
+        match self.go_first(table)? {
+            Some(m) => Ok(Some(m)),
+            None => self.go_further(table),
+        }
+    }
+
+    /// Makes a move that is ready, where no job is left.
+    fn go_alone(&mut self, table: &Table) -> Result<Option<Move>, NoMemory>
+        requires none { current self.old.jobs ≡ None }
+        requires fits { AllFit (map (λ r. r.rule) table.now.list.items) self.old.services.list }
+        ensures advanced { IfOk result (λ made. IsAdvanced self.old.jobs.jobs self.old.budget (core_at self.old.kernel self.old.services.list self.old.jobs self.old.events) made (core_at self.new.kernel self.new.services.list self.new.jobs self.new.events)) }
+        ensures none { IfOk result (λ made. IfNone made (IsOver self.old.jobs.jobs self.old.budget (core_at self.old.kernel self.old.services.list self.old.jobs self.old.events))) }
+        ensures lacking { OnErr result (core_at self.new.kernel self.new.services.list self.new.jobs self.new.events ≡ core_at self.old.kernel self.old.services.list self.old.jobs self.old.events) }
+        ensures fits { AllFit (map (λ r. r.rule) table.now.list.items) self.new.services.list }
+        ensures budget { self.new.budget ≡ self.old.budget }
+        ensures jobs { self.new.jobs.jobs ≡ self.old.jobs.jobs }
+    {
+        match self.proceed() {
+            Some(m) => Ok(Some(m)),
+            None => self.go_further(table),
+        }
+    }
+
+    /// Makes a move that is ready, and gives it: the one that `choose` would give. There is none exactly where none is ready or the
+    /// budget is used, and then, and for want of memory, all is as before.
+    pub fn advance(&mut self, table: &Table) -> Result<Option<Move>, NoMemory>
+        requires fits { AllFit (map (λ r. r.rule) table.now.list.items) self.old.services.list }
+        ensures advanced { IfOk result (λ made. IsAdvanced self.old.jobs.jobs self.old.budget (core_at self.old.kernel self.old.services.list self.old.jobs self.old.events) made (core_at self.new.kernel self.new.services.list self.new.jobs self.new.events)) }
+        ensures none { IfOk result (λ made. IfNone made (IsOver self.old.jobs.jobs self.old.budget (core_at self.old.kernel self.old.services.list self.old.jobs self.old.events))) }
+        ensures lacking { OnErr result (core_at self.new.kernel self.new.services.list self.new.jobs self.new.events ≡ core_at self.old.kernel self.old.services.list self.old.jobs self.old.events) }
+        ensures fits { AllFit (map (λ r. r.rule) table.now.list.items) self.new.services.list }
+        ensures budget { self.new.budget ≡ self.old.budget }
+        ensures jobs { self.new.jobs.jobs ≡ self.old.jobs.jobs }
+    {
+        if self.jobs.current().is_none() {
+            self.go_alone(table)
+        } else {
+            self.go_among(table)
+        }
+    }
+}
+
+/// The place after one, among so many.
+fn following(at: usize, len: usize) -> usize {
+    match at.checked_add(1) {
+        Some(next) if next < len => next,
+        _ => 0,
+    }
+}
