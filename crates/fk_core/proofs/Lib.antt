@@ -7,3 +7,4 @@ pub mod Proceeding
 mod Asking
 mod Due
 mod Settles
+mod Leaving

@@ -2,3 +2,4 @@ pub mod Served
 pub mod Cores
 pub mod Ends
 pub mod Cuts
+pub mod Leaves

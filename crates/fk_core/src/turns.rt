@@ -6,6 +6,7 @@ ghost use Rattle.fk_model.specs.Whole.{are_words};
 ghost use Rattle.laws_whole.specs.Runnable.{has_all_words};
 ghost use Rattle.fk_core.specs.Cores.{core_at, is_porter, reply_to, IsReadyMove, IsAskedMove, IsCalledMove, IsTurned, IsAdvanced, IsDue};
 ghost use Rattle.fk_core.specs.Cuts.{KeepsCuts, LeavesStrangers};
+ghost use Rattle.fk_core.specs.Leaves.{LeavesTheRest};
 ghost use Rattle.fk_store.specs.World.{world};
 ghost use Rattle.fk_jobs.specs.Jobs.{Queue, hears};
 
@@ -239,6 +240,8 @@ impl<S: Service + Drop, W: Worker + Drop> Core<S, W> {
         ensures events { OnOk result (self.new.events ≡ self.old.events + 1) }
         ensures cut { OnOk result (KeepsCuts self.old.jobs.jobs (core_at self.old.kernel self.old.services.list self.old.jobs self.old.events) m.now (world self.new.kernel)) }
         ensures strangers { OnOk result (LeavesStrangers self.old.jobs.jobs (core_at self.old.kernel self.old.services.list self.old.jobs self.old.events) m.now (world self.new.kernel)) }
+        ensures rest { OnOk result (LeavesTheRest self.old.jobs.jobs (core_at self.old.kernel self.old.services.list self.old.jobs self.old.events) m.now
+            (core_at self.new.kernel self.new.services.list self.new.jobs self.new.events)) }
     {
         // So it is known that a job's call is fit.
         self.jobs.plainly();
