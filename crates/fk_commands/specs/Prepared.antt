@@ -10,7 +10,7 @@ use Rattle.fk_image.specs.declared.image.Image.{Image}
 use Rattle.fk_scenario.specs.declared.scenario.Scenario.{Scenario}
 use Rattle.fk_commands.specs.declared.prepared.Prepared.{Prepared}
 use Rattle.fk_commands.specs.declared.status.Status.{Status}
-use Rattle.fk_commands.specs.declared.status.Status.TheVariants.{Ok as Done, Usage, TooLong, BadText, BadScenario, Absent, BadImage, BadTrace, Budget, ReadFault, WriteFault, ShelfFault, NoMemory}
+use Rattle.fk_commands.specs.declared.status.Status.TheVariants.{Ok as Done, Usage, TooLong, BadText, BadScenario, Absent, BadImage, BadTrace, JobRefused, Budget, ReadFault, WriteFault, ShelfFault, NoMemory}
 use Rattle.fk_commands.specs.declared.outcome.Outcome.{Outcome}
 use Rattle.fk_commands.specs.Outcomes.{without_report}
 use Rattle.fk_commands.specs.Status.{was_cut_short, progress_of, Finished}
@@ -36,6 +36,7 @@ IsRefusal AtSource AtShelf (BadScenario rule section index) = ⊤
 IsRefusal AtSource AtShelf (Absent name) = ⊤
 IsRefusal AtSource AtShelf (BadImage name offset reason) = ⊤
 IsRefusal AtSource AtShelf (BadTrace index) = ⊤
+IsRefusal AtSource AtShelf (JobRefused job) = ⊥
 IsRefusal AtSource AtShelf (Budget budget) = ⊥
 IsRefusal AtSource AtShelf ReadFault = AtSource
 IsRefusal AtSource AtShelf WriteFault = ⊥

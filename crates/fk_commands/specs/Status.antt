@@ -1,7 +1,7 @@
 -- How a call of the program ends: its number, what standard error says of it, and how far it came.
 use Rattle.std.specs.Prelude.{ℕ, Bool, true, false, List, [], ◌++◌, codes, decimal}
 use Rattle.fk_commands.specs.declared.status.Status.{Status}
-use Rattle.fk_commands.specs.declared.status.Status.TheVariants.{Ok, Usage, TooLong, BadText, BadScenario, Absent, BadImage, BadTrace, Budget, ReadFault, WriteFault, ShelfFault, NoMemory}
+use Rattle.fk_commands.specs.declared.status.Status.TheVariants.{Ok, Usage, TooLong, BadText, BadScenario, Absent, BadImage, BadTrace, JobRefused, Budget, ReadFault, WriteFault, ShelfFault, NoMemory}
 
 -- the status with which the process exits
 abbrev pub status_number : Status → ℕ
@@ -13,6 +13,7 @@ status_number (BadScenario rule section index) = 5
 status_number (Absent name) = 6
 status_number (BadImage name offset reason) = 7
 status_number (BadTrace index) = 8
+status_number (JobRefused job) = 9
 status_number (Budget budget) = 10
 status_number ReadFault = 11
 status_number WriteFault = 12
@@ -31,6 +32,7 @@ fault_line_of (Absent name) = codes "fluke: absent " ++ name
 fault_line_of (BadImage name offset reason) =
     codes "fluke: bad image " ++ (name ++ (codes " offset " ++ (decimal offset ++ (codes " reason " ++ decimal reason))))
 fault_line_of (BadTrace index) = codes "fluke: bad trace index " ++ decimal index
+fault_line_of (JobRefused job) = codes "fluke: job " ++ (decimal job ++ codes " refused")
 fault_line_of (Budget budget) = codes "fluke: budget " ++ decimal budget
 fault_line_of ReadFault = codes "fluke: read fault"
 fault_line_of WriteFault = codes "fluke: write fault"
@@ -47,6 +49,7 @@ was_cut_short (BadScenario rule section index) = false
 was_cut_short (Absent name) = false
 was_cut_short (BadImage name offset reason) = false
 was_cut_short (BadTrace index) = false
+was_cut_short (JobRefused job) = false
 was_cut_short (Budget budget) = false
 was_cut_short ReadFault = true
 was_cut_short WriteFault = true
@@ -76,6 +79,7 @@ progress_of (BadScenario rule section index) = Refusing
 progress_of (Absent name) = Refusing
 progress_of (BadImage name offset reason) = Refusing
 progress_of (BadTrace index) = Refusing
+progress_of (JobRefused job) = Finished
 progress_of (Budget budget) = Finished
 progress_of ReadFault = Reading
 progress_of WriteFault = Writing

@@ -1,12 +1,15 @@
 //! What a call comes to.
 use crate::status::Status;
-use fk_model::{List as Items, Move};
-use fk_report::End;
+use fk_model::{List as Items, Move, Text};
+use fk_report::{End, JobEnd};
 
-/// The run of a scenario: its moves in their order, and how it ended.
+/// The run of a scenario: its moves in their order, how each of its jobs has ended, if it has, and how the run ended.
 #[derive(Drop)]
 pub struct Report {
     pub history: Items<Move>,
+    pub jobs: Items<Option<JobEnd>>,
+    /// The names of the jobs' images, in the order of the jobs.
+    pub images: Items<Text>,
     pub end: End,
 }
 
@@ -14,7 +17,7 @@ pub struct Report {
 #[derive(Drop)]
 pub struct Outcome {
     pub status: Status,
-    /// The run, where one was made: of `run` and `play` with the statuses `Ok`, `Budget` and `WriteFault`, and with
-    /// `ShelfFault` where a put failed.
+    /// The run, where one was made: of `run` and `play` with the statuses `Ok`, `JobRefused`, `Budget` and `WriteFault`, and
+    /// with `ShelfFault` where a put failed.
     pub report: Option<Report>,
 }

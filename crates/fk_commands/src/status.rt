@@ -26,6 +26,9 @@ pub enum Status {
     /// The line of the move with this index is the first of the trace that is misspelled, whose move
     /// isn't ready, or that stands at the budget.
     BadTrace { index: u64 },
+    /// The job at this place was the first that ended refused: what it was to save wasn't there or wasn't closed. All
+    /// else was done.
+    JobRefused { job: u32 },
     /// As many moves were made as the budget has, and one was left. All else was done.
     Budget { budget: u64 },
     /// A read of the source failed.
@@ -52,6 +55,7 @@ impl Status {
             Status::Absent { .. } => 6,
             Status::BadImage { .. } => 7,
             Status::BadTrace { .. } => 8,
+            Status::JobRefused { .. } => 9,
             Status::Budget { .. } => 10,
             Status::ReadFault => 11,
             Status::WriteFault => 12,
@@ -110,6 +114,7 @@ pub fn fault_line(alloc: Global, status: &Status) -> Result<String, NoMemory>
             format!(in alloc; "fluke: bad image {name} offset {offset} reason {reason}")?
         }
         Status::BadTrace { index } => format!(in alloc; "fluke: bad trace index {index}")?,
+        Status::JobRefused { job } => format!(in alloc; "fluke: job {job} refused")?,
         Status::Budget { budget } => format!(in alloc; "fluke: budget {budget}")?,
         Status::ReadFault => String::from_str(alloc, "fluke: read fault")?,
         Status::WriteFault => String::from_str(alloc, "fluke: write fault")?,

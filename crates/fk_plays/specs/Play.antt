@@ -14,13 +14,13 @@ use Rattle.fk_scenario.specs.declared.scenario.Scenario.{Scenario}
 pub record IsPlayedFrom (s : Scenario) (trace : List ℕ) (outcome : Outcome) (text : List ℕ) : Type 0 where
   pub first : RunCore
   pub is_first : IsFirst s first
-  pub played : IsPlayed first s.budget trace outcome.status outcome.report text
+  pub played : IsPlayed s.jobs first s.budget trace outcome.status outcome.report text
 
 -- and runs by itself
 pub record IsRunFrom (s : Scenario) (outcome : Outcome) (text : List ℕ) : Type 0 where
   pub first : RunCore
   pub is_first : IsFirst s first
-  pub ran : IsRunAlone first s.budget outcome.status outcome.report text
+  pub ran : IsRunAlone s.jobs first s.budget outcome.status outcome.report text
 
 -- the trace may not be there
 abbrev pub IsTraced : List ℕ → Scenario → Option (List ℕ) → Outcome → List ℕ → Type 0

@@ -40,7 +40,7 @@ fn play_scenario(
     ensures refusal { IfErr result (IsRefusal ⊥ ⊥) }
 {
     let core = first_core(alloc, scenario)?;
-    play_core(alloc, core, table, trace)
+    play_core(alloc, core, scenario.jobs.as_slice(), table, trace)
 }
 
 /// Plays the trace with this name, which the shelf has, from the first core of the scenario that a

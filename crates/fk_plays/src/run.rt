@@ -20,7 +20,7 @@ fn run_scenario(alloc: Global, table: &Table, scenario: &Scenario) -> Result<Pre
     ensures refusal { IfErr result (IsRefusal ⊥ ⊥) }
 {
     let core = first_core(alloc, scenario)?;
-    run_core(alloc, core, table)
+    run_core(alloc, core, scenario.jobs.as_slice(), table)
 }
 
 /// Runs the scenario that a text is, by itself.

@@ -1,2 +1,4 @@
 pub mod Threads
+pub mod Paths
+pub mod Jobs
 pub mod Report

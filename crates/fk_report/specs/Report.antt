@@ -1,17 +1,17 @@
 -- The report of a run.
-use Rattle.std.specs.Prelude.{ℕ, List, [], ◌++◌, map, reverse, Option, Some, None, codes, decimal}
+use Rattle.std.specs.Prelude.{ℕ, List, [], ◌++◌, map, Option, Some, None, codes, decimal}
 use Rattle.std.specs.List.{flat_map}
 use Rattle.fk_model.specs.declared.thread.Mode.{Mode}
 use Rattle.fk_model.specs.declared.thread.Mode.TheVariants.{Running, Calling, Halted, Native}
 use Rattle.fk_model.specs.declared.names.Who.{Who}
 use Rattle.fk_natives.specs.Natives.{State, alias_of, printed_by}
+use Rattle.fk_model.specs.declared.job.JobSpec.{JobSpec}
+use Rattle.fk_report.specs.Paths.{path_text}
+use Rattle.fk_report.specs.Jobs.{lines_from}
+use Rattle.fk_report.specs.declared.job_end.JobEnd.{JobEnd}
 use Rattle.fk_report.specs.declared.end.End.{End}
 use Rattle.fk_report.specs.declared.end.End.TheVariants as ends
 use Rattle.fk_report.specs.declared.threads.ThreadState.{ThreadState}
-
--- a slash before each slot, from the root inwards; in a path the root's slot stands last
-abbrev pub path_text : List ℕ → List ℕ
-path_text path = flat_map (λ slot. codes "/" ++ decimal slot) (reverse path)
 
 -- what a user thread is about
 abbrev pub mode_text : Mode → List ℕ
@@ -54,10 +54,14 @@ out_line state = out_of (alias_of state) (printed_by state)
 abbrev pub states : {S : Type 0} → (S → State) → List (Who × S) → List State
 states meaning services = map (λ e. meaning e.1) services
 
--- the report of a run without servers
+-- the report of a run without servers and jobs
 abbrev pub report_text : ℕ → End → List ThreadState → List ℕ
 report_text events end threads = end_lines events end ++ flat_map thread_line threads
 
--- the whole report, with a line for each console and for each user thread
-abbrev pub run_text : ℕ → End → List State → List ThreadState → List ℕ
-run_text events end states threads = end_lines events end ++ (flat_map out_line states ++ flat_map thread_line threads)
+-- the lines of consoles and of user threads
+abbrev pub outs_text : List State → List ThreadState → List ℕ
+outs_text states threads = flat_map out_line states ++ flat_map thread_line threads
+
+-- the whole report: how it ended, a line for each job, for each console and for each user thread
+abbrev pub run_text : ℕ → End → List JobSpec → List (Option JobEnd) → List State → List ThreadState → List ℕ
+run_text events end jobs fates states threads = end_lines events end ++ (lines_from fates 0 jobs ++ outs_text states threads)

@@ -1,18 +1,24 @@
-//! The report of a run: how many moves it made, how it ended, what its consoles were sent, and where each user thread
-//! stands.
+//! The report of a run: how many moves it made, how it ended, how its jobs ended, what its consoles were sent, and where each user
+//! thread stands.
 //!
-//! It stands on `fk_model` for threads, on `fk_natives` for consoles and on `fk_store` for the world that a store is. It promises
+//! It stands on `fk_model` for threads, on `fk_natives` for consoles, on `fk_finish` for where a subtree isn't closed, on `fk_image`
+//! for what a checkpoint makes, and on `fk_store` for the world that a store is. It promises
 //! that `threads_of` gives each user thread of that world once, in the order of paths
 //! (`specs/Threads.antt`), that `have_halted` says whether all of them have halted, as `all_halted` does of a store, and that
-//! `run_text` and `report_text` write what `specs/Report.antt` has.
+//! `run_text` and `report_text` write what `specs/Report.antt` has, its lines of jobs by `specs/Jobs.antt`.
 #![tactic(auto)]
 
 mod end;
+mod job_end;
+mod jobs;
+mod paths;
 mod report;
 mod resting;
 mod threads;
 
 pub use end::End;
-pub use report::{report_text, run_text};
+pub use job_end::JobEnd;
+pub use jobs::{end_at, first_refused};
+pub use report::{outs_text, report_text, run_text};
 pub use resting::all_halted;
 pub use threads::{ThreadState, have_halted, threads_of};

@@ -1,25 +1,18 @@
 //! The report of a run.
 ghost use Rattle.std.specs.Prelude.{◌≡◌, ◌++◌, IfOk, OnOk, map, string_bytes};
 ghost use Rattle.std.specs.List.{flat_map};
+ghost use Rattle.fk_report.specs.Jobs.{lines_from};
 ghost use Rattle.fk_report.specs.Report as definitions;
 
 use crate::end::End;
+use crate::job_end::JobEnd;
+use crate::jobs::push_jobs;
+use crate::paths::push_path;
 use crate::threads::ThreadState;
 use fk_decimal::push_number;
-use fk_model::{Mode, Who};
+use fk_model::{JobSpec, Mode, Who};
 use fk_natives::Service;
 use std::alloc::{AllocError, Global};
-
-/// Appends a path: a slash before each slot, from the root inwards.
-fn push_path(text: &mut String, path: &[u8]) -> Result<(), AllocError>
-    ensures { OnOk result (string_bytes text.new ≡ string_bytes text.old ++ definitions.path_text path.now) }
-{
-    for slot in path.iter().rev() {
-        text.push_str("/")?;
-        push_number(text, u64::from(*slot))?;
-    }
-    Ok(())
-}
 
 /// Appends what a thread is about, and ends its line.
 fn push_mode(text: &mut String, mode: Mode) -> Result<(), AllocError>
@@ -116,8 +109,8 @@ fn push_threads(text: &mut String, threads: &[ThreadState]) -> Result<(), AllocE
     Ok(())
 }
 
-/// The report of a run without servers: how many moves it made, how it ended, and its user threads in the order of
-/// the list.
+/// The report of a run without servers and jobs: how many moves it made, how it ended, and its user threads in the order
+/// of the list.
 pub fn report_text(
     alloc: Global,
     events: u64,
@@ -131,19 +124,34 @@ pub fn report_text(
     Ok(text)
 }
 
-/// The report of a run: how many moves it made, how it ended, its consoles in the order of the file, and its user
-/// threads in the order of the list.
-pub fn run_text<S: Service>(
+/// The lines of consoles in the order of the file, and of user threads in the order of the list.
+pub fn outs_text<S: Service>(
     alloc: Global,
-    events: u64,
-    end: End,
     services: &[(Who, S)],
     threads: &[ThreadState],
 ) -> Result<String, AllocError>
-    ensures { IfOk result (λ text. string_bytes text ≡ definitions.run_text events end (definitions.states S.meaning services.now) threads.now) }
+    ensures { IfOk result (λ text. string_bytes text ≡ definitions.outs_text (definitions.states S.meaning services.now) threads.now) }
 {
-    let mut text = end_lines(alloc, events, end)?;
+    let mut text = String::new(alloc);
     push_outs(&mut text, services)?;
     push_threads(&mut text, threads)?;
+    Ok(text)
+}
+
+/// The report of a run: how many moves it made, how it ended, its jobs in the order of the file with how the first
+/// of them have ended, and the lines of its consoles and user threads.
+pub fn run_text(
+    alloc: Global,
+    events: u64,
+    end: End,
+    jobs: &[JobSpec],
+    ends: &[Option<JobEnd>],
+    outs: &str,
+) -> Result<String, AllocError>
+    ensures { IfOk result (λ text. string_bytes text ≡ definitions.end_lines events end ++ (lines_from ends.now 0 jobs.now ++ outs.now)) }
+{
+    let mut text = end_lines(alloc, events, end)?;
+    push_jobs(&mut text, jobs, ends)?;
+    text.push_str(outs)?;
     Ok(text)
 }

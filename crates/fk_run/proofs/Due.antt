@@ -6,7 +6,7 @@ use Rattle.fk_causes.specs.Causes.{MayHold, AppendsPrefix, Rose}
 use Rattle.fk_causes.specs.Shelf.{FileMap, KeepsOthers}
 use Rattle.fk_commands.specs.declared.prepared.Prepared.{Prepared}
 use Rattle.fk_commands.specs.declared.status.Status.{Status}
-use Rattle.fk_commands.specs.declared.status.Status.TheVariants.{Ok as Done, Usage, TooLong, BadText, BadScenario, Absent, BadImage, BadTrace, Budget, ReadFault, WriteFault, ShelfFault, NoMemory}
+use Rattle.fk_commands.specs.declared.status.Status.TheVariants.{Ok as Done, Usage, TooLong, BadText, BadScenario, Absent, BadImage, BadTrace, JobRefused, Budget, ReadFault, WriteFault, ShelfFault, NoMemory}
 use Rattle.fk_run.specs.Commands.{Command, Show}
 use Rattle.fk_commands.specs.Outcomes.{without_report}
 use Rattle.fk_commands.specs.declared.outcome.Outcome.{Outcome}
@@ -57,6 +57,7 @@ show-refused rules AtSource AtShelf name left (Err status) h = by status h
     by (Absent told) h = h
     by (BadImage told offset reason) h = h
     by (BadTrace index) h = h
+    by (JobRefused job) h = h
     by (Budget budget) h = h
     by ReadFault h = absurd h
     by WriteFault h = h

@@ -59,7 +59,6 @@ abbrev pub uses_shelf : Option Command → Bool
 uses_shelf None = false
 uses_shelf (Some Exec) = false
 uses_shelf (Some Check) = false
-uses_shelf (Some (Run None)) = false
-uses_shelf (Some (Run (Some name))) = true
+uses_shelf (Some (Run trace)) = true
 uses_shelf (Some (Play name)) = true
 uses_shelf (Some (Show name)) = true

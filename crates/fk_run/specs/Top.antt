@@ -9,7 +9,7 @@ use Rattle.fk_causes.specs.Shelf.{FileMap}
 use Rattle.fk_scenario.specs.Reading.{scenario_reading}
 use Rattle.fk_model.specs.declared.moves.Rule.{Rule}
 use Rattle.fk_commands.specs.declared.status.Status.{Status}
-use Rattle.fk_commands.specs.declared.status.Status.TheVariants.{Ok as Done, Usage, TooLong, BadText, BadScenario, Absent, BadImage, BadTrace, Budget, ReadFault, WriteFault, ShelfFault, NoMemory}
+use Rattle.fk_commands.specs.declared.status.Status.TheVariants.{Ok as Done, Usage, TooLong, BadText, BadScenario, Absent, BadImage, BadTrace, JobRefused, Budget, ReadFault, WriteFault, ShelfFault, NoMemory}
 use Rattle.fk_commands.specs.declared.outcome.Report.{Report}
 use Rattle.fk_commands.specs.declared.outcome.Outcome.{Outcome}
 use Rattle.fk_commands.specs.Check.{IsCheck}
@@ -95,6 +95,7 @@ has_no_report (BadScenario rule section index) = true
 has_no_report (Absent name) = true
 has_no_report (BadImage name offset reason) = true
 has_no_report (BadTrace index) = true
+has_no_report (JobRefused job) = false
 has_no_report (Budget budget) = false
 has_no_report ReadFault = true
 has_no_report WriteFault = false
@@ -111,6 +112,7 @@ has_put_all (BadScenario rule section index) = false
 has_put_all (Absent name) = false
 has_put_all (BadImage name offset reason) = false
 has_put_all (BadTrace index) = false
+has_put_all (JobRefused job) = true
 has_put_all (Budget budget) = true
 has_put_all ReadFault = false
 has_put_all WriteFault = true
@@ -127,6 +129,7 @@ has_put_none (BadScenario rule section index) = true
 has_put_none (Absent name) = true
 has_put_none (BadImage name offset reason) = true
 has_put_none (BadTrace index) = true
+has_put_none (JobRefused job) = false
 has_put_none (Budget budget) = false
 has_put_none ReadFault = true
 has_put_none WriteFault = false

@@ -20,5 +20,5 @@ mod top;
 
 pub use fk_commands::{Outcome, Report, Status, fault_line};
 pub use fk_lone::a_lone_move_is_an_instruction;
-pub use fk_report::End;
+pub use fk_report::{End, JobEnd};
 pub use top::fluke_top;

@@ -6,7 +6,7 @@ ghost use Rattle.fk_causes.specs.Causes.{AppendsPrefix, Rose};
 ghost use Rattle.fk_run.specs.Commands.{command_of, reads_source, uses_shelf, seen};
 ghost use Rattle.fk_commands.specs.Prepared.{ComesTo, IsRefusal, outcome_of};
 ghost use Rattle.fk_commands.specs.Status.{progress_of, Finished, was_cut_short, has_written_nothing};
-ghost use Rattle.fk_run.specs.Puts.{HasPut, KeepsFiles};
+ghost use Rattle.fk_run.specs.Puts.{HasPut, HasPutSome, KeepsFiles};
 ghost use Rattle.fk_run.specs.Top.{IsDue, IsDone, IsCutOff, HasFailed, GetsToShelf, has_no_report, has_put_all, has_put_none, has_read_all};
 
 use crate::command::{Command, command_of};
@@ -72,7 +72,8 @@ fn finish<W: Sink, H: Shelf>(
         × AppendsPrefix (W.written sink.old) (W.written sink.new) (string_bytes prepared.output) }
     ensures nothing { OnTrue (has_written_nothing result.status) (Keeps (W.written sink.old) (W.written sink.new)) }
     ensures no_report { OnTrue (has_no_report result.status) (result.report ≡ None) }
-    ensures put { OnTrue (has_put_all result.status) (HasPut (Some (seen command.entry)) result.report (H.files shelf.new)) }
+    ensures put { OnTrue (has_put_all result.status) (HasPut (Some (seen command.entry)) result.report (H.files shelf.old) (H.files shelf.new)) }
+    ensures some { result.status ≡ Status.ShelfFault → HasPutSome (Some (seen command.entry)) result.report (H.files shelf.old) (H.files shelf.new) }
     ensures files { KeepsFiles (Some (seen command.entry)) (H.files shelf.old) (H.files shelf.new) }
     ensures shelf { OnFalse (uses_shelf (Some (seen command.entry))) (shelf.new ≡ shelf.old) }
 {
@@ -111,7 +112,8 @@ fn finish<W: Sink, H: Shelf>(
 /// `exec` assembles the source's text and runs it as one thread, with its words from address 0 on
 /// and zeros after them, for at most 100,000 instructions, and writes how that ended. `check` reads the source's scenario, and
 /// writes its counts. `run` reads the source's scenario, runs it by itself until no move is ready or its budget is used, and
-/// writes the report of that run; `run --trace NAME` puts its trace on the shelf besides, as `NAME.trc`, before it writes.
+/// writes the report of that run; before it writes it puts on the shelf the images that its checkpoints have made, each as `NAME.img` of
+/// its name, in the order of the jobs, and `run --trace NAME` then its trace, as `NAME.trc`.
 /// `play NAME`
 /// reads the source's scenario, makes the moves of the trace that lies on the shelf as `NAME.trc`,
 /// and writes the report of that run. `show NAME` reads no source, and writes the counts of the image
@@ -123,12 +125,12 @@ fn finish<W: Sink, H: Shelf>(
 /// files of the shelf call for: where these are told, those that are told, and some that they may have
 /// held where not. `ReadFault`, `WriteFault` and `ShelfFault` come only where that object's count of
 /// faults rose in this call: `ShelfFault` of `play` only once the scenario is accepted, that of `run` only once the run is
-/// made and its put failed, `WriteFault` only
+/// made and a put failed: what was to be put before that is put, and no other file has changed but that one; `WriteFault` only
 /// once all is done but the writing. `NoMemory` comes where there is no memory for the text, for what is
 /// made of it, or for the output.
 ///
-/// The whole output is written after `Ok` and `Budget`, a prefix of it after `WriteFault`, and
-/// nothing otherwise. No file of the shelf changes but the trace of a run that asks for it.
+/// The whole output is written after `Ok`, `JobRefused` and `Budget`, a prefix of it after `WriteFault`, and
+/// nothing otherwise. No file of the shelf changes but those that a run puts.
 pub fn fluke_top<R: Source, W: Sink, H: Shelf>(
     alloc: Global,
     words: &[String],
@@ -160,7 +162,9 @@ pub fn fluke_top<R: Source, W: Sink, H: Shelf>(
 
     ensures source { OnFalse (reads_source (command_of (map string_bytes words.now))) (source.new ≡ source.old) }
     ensures shelf { OnFalse (uses_shelf (command_of (map string_bytes words.now))) (shelf.new ≡ shelf.old) }
-    ensures put { OnTrue (has_put_all result.status) (HasPut (command_of (map string_bytes words.now)) result.report (H.files shelf.new)) }
+    ensures put { OnTrue (has_put_all result.status) (HasPut (command_of (map string_bytes words.now)) result.report (H.files shelf.old) (H.files shelf.new)) }
+    ensures some { result.status ≡ Status.ShelfFault → IsSome result.report
+        → HasPutSome (command_of (map string_bytes words.now)) result.report (H.files shelf.old) (H.files shelf.new) }
     ensures files { KeepsFiles (command_of (map string_bytes words.now)) (H.files shelf.old) (H.files shelf.new) }
     ensures no_put { OnTrue (has_put_none result.status)
         ((H.files shelf.new ≡ H.files shelf.old) × (H.failed_puts shelf.new ≡ H.failed_puts shelf.old)) }

@@ -2,3 +2,4 @@ pub mod Replays
 pub mod Made
 pub mod Firsts
 pub mod Replayed
+pub mod Fills

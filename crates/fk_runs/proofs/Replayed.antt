@@ -10,6 +10,8 @@ use Rattle.fk_runs.specs.Replay.{MayPlay}
 use Rattle.fk_runs.specs.Runs.{IsPlayed, IsRunAlone, RunPlaysAgain}
 use Rattle.fk_trace_text.specs.Trace.{IsMove, AreLegal, trace_text}
 use Rattle.fk_trace_text.proofs.Traces.{AreLegal-more, none_are_legal}
+use Rattle.fk_boot.specs.Plans.{first_jobs}
+use Rattle.laws_house.specs.Houses.{Job}
 use Rattle.laws_runs.specs.Cores.{IsRun, Begins, Goes}
 
 front : {X : Type 0} (P : X → Type 0) (xs ys : List X) → All P (xs ++ ys) → All P xs
@@ -20,19 +22,19 @@ back : {X : Type 0} (P : X → Type 0) (xs ys : List X) → All P (xs ++ ys) →
 back P [] ys all = all
 back P (x ∷ xs) ys all = back P xs ys (All-tail P x (xs ++ ys) all)
 
-legal : (budget : ℕ) (first : RunCore) (moves : List Move) (last : RunCore) → IsRun house first moves last → All IsMove moves → length moves ≤ budget
-    → AreLegal (MayPlay budget first) moves
-legal budget first _ _ Begins ranges few = none_are_legal (MayPlay budget first)
-legal budget first _ _ (Goes past c m d run ready settles) ranges few =
+legal : (jobs : List Job) (budget : ℕ) (first : RunCore) (moves : List Move) (last : RunCore) → IsRun (house jobs) first moves last → All IsMove moves → length moves ≤ budget
+    → AreLegal (MayPlay jobs budget first) moves
+legal jobs budget first _ _ Begins ranges few = none_are_legal (MayPlay jobs budget first)
+legal jobs budget first _ _ (Goes past c m d run ready settles) ranges few =
     let longer : length (past ++ m ∷ []) ≡ length past + 1 = length-append past (m ∷ []) in
-    AreLegal-more (MayPlay budget first) past m
-    (legal budget first past c run (front IsMove past (m ∷ []) ranges) (omega (arith, few, longer)))
+    AreLegal-more (MayPlay jobs budget first) past m
+    (legal jobs budget first past c run (front IsMove past (m ∷ []) ranges) (omega (arith, few, longer)))
     (All-head IsMove m [] (back IsMove past (m ∷ []) ranges))
     (omega (arith, few, longer), (c, run, ready))
 
 pub plays-again : RunPlaysAgain
-plays-again first budget status report text ranges ran = (
-  record { legal = legal budget first report.history ran.0.last ran.0.run ranges ran.0.within; spelled = refl },
+plays-again specs first budget status report text ranges ran = (
+  record { legal = legal (first_jobs specs) budget first report.history ran.0.last ran.0.run ranges ran.0.within; spelled = refl },
   ran.0,
   ran.2,
 )

@@ -10,6 +10,7 @@
 #![tactic(auto)]
 
 mod again;
+mod ends;
 mod first;
 mod traces;
 mod whole;

@@ -10,6 +10,7 @@ ghost use Rattle.fk_runs.specs.Replay.{MayPlay, IsCause, GivesMoves};
 ghost use Rattle.fk_runs.specs.declared.traces.ReplayFail.TheVariants as fails;
 
 use fk_core::Core;
+use fk_jobs::Worker;
 use fk_model::{List as Items, Move, NoMemory};
 use fk_natives::Service;
 use fk_responders::Table;
@@ -39,22 +40,23 @@ impl From<NoMemory> for ReplayFail {
 /// # Errors
 ///
 /// There is no memory for the move.
-fn make_next<'a, S: Service + Drop>(
-    core: &mut Core<S>,
+fn make_next<'a, S: Service + Drop, W: Worker + Drop>(
+    core: &mut Core<S, W>,
     table: &Table,
     text: &'a [u8],
 ) -> Result<Option<(Move, &'a [u8])>, NoMemory>
     requires fits { AllFit (map (λ r. r.rule) table.now.list.items) core.old.services.list }
     ensures found { IfOk result (λ made. IfSome made (λ next. BeginsWith text.now next.0 next.1.now)) }
     ensures few { IfOk result (λ made. IfSome made (λ next. core.old.events < core.old.budget)) }
-    ensures ready { IfOk result (λ made. IfSome made (λ next. IsReadyMove (core_at core.old.kernel core.old.services.list core.old.events) next.0)) }
-    ensures turned { IfOk result (λ made. IfSome made (λ next. IsTurned (core_at core.old.kernel core.old.services.list core.old.events) next.0
-        (core_at core.new.kernel core.new.services.list core.new.events))) }
+    ensures ready { IfOk result (λ made. IfSome made (λ next. IsReadyMove core.old.jobs.jobs (core_at core.old.kernel core.old.services.list core.old.jobs core.old.events) next.0)) }
+    ensures turned { IfOk result (λ made. IfSome made (λ next. IsTurned core.old.jobs.jobs (core_at core.old.kernel core.old.services.list core.old.jobs core.old.events) next.0
+        (core_at core.new.kernel core.new.services.list core.new.jobs core.new.events))) }
     ensures events { IfOk result (λ made. IfSome made (λ next. core.new.events ≡ core.old.events + 1)) }
     ensures none { IfOk result (λ made. IfNone made (BeginsWithNone (λ move. (core.old.events < core.old.budget)
-        × IsReadyMove (core_at core.old.kernel core.old.services.list core.old.events) move) text.now)) }
+        × IsReadyMove core.old.jobs.jobs (core_at core.old.kernel core.old.services.list core.old.jobs core.old.events) move) text.now)) }
     ensures fits { AllFit (map (λ r. r.rule) table.now.list.items) core.new.services.list }
     ensures budget { core.new.budget ≡ core.old.budget }
+    ensures jobs { core.new.jobs.jobs ≡ core.old.jobs.jobs }
 {
     if !core.is_below_budget() {
         return Ok(None);
@@ -76,22 +78,23 @@ fn make_next<'a, S: Service + Drop>(
 /// `Trace` with the index of the first line that is misspelled, whose move isn't ready in its turn,
 /// or that stands at the budget; a bad first line of the text counts as that of the move 0.
 /// `NoMemory` where there is no memory for the moves.
-pub fn replay<S: Service + Drop>(
+pub fn replay<S: Service + Drop, W: Worker + Drop>(
     alloc: Global,
-    core: &mut Core<S>,
+    core: &mut Core<S, W>,
     table: &Table,
     text: &[u8],
 ) -> Result<Items<Move>, ReplayFail>
     requires fits { AllFit (map (λ r. r.rule) table.now.list.items) core.old.services.list }
     requires first { core.old.events ≡ 0 }
-    ensures found { IfOk result (λ moves. Spells (MayPlay core.old.budget (core_at core.old.kernel core.old.services.list core.old.events)) text.now moves) }
-    ensures run { IfOk result (λ moves. IsRun house (core_at core.old.kernel core.old.services.list core.old.events) moves
-        (core_at core.new.kernel core.new.services.list core.new.events)) }
+    ensures found { IfOk result (λ moves. Spells (MayPlay core.old.jobs.jobs core.old.budget (core_at core.old.kernel core.old.services.list core.old.jobs core.old.events)) text.now moves) }
+    ensures run { IfOk result (λ moves. IsRun (house core.old.jobs.jobs) (core_at core.old.kernel core.old.services.list core.old.jobs core.old.events) moves
+        (core_at core.new.kernel core.new.services.list core.new.jobs core.new.events)) }
     ensures events { IfOk result (λ moves. (core.new.events ≡ length moves) × (core.new.events ≤ core.old.budget)) }
-    ensures cause { IfErr result (λ fail. IsCause (MayPlay core.old.budget (core_at core.old.kernel core.old.services.list core.old.events)) text.now fail) }
+    ensures cause { IfErr result (λ fail. IsCause (MayPlay core.old.jobs.jobs core.old.budget (core_at core.old.kernel core.old.services.list core.old.jobs core.old.events)) text.now fail) }
     ensures back { (moves : List moves_of.Move)
-        → Spells (MayPlay core.old.budget (core_at core.old.kernel core.old.services.list core.old.events)) text.now moves → GivesMoves moves result }
+        → Spells (MayPlay core.old.jobs.jobs core.old.budget (core_at core.old.kernel core.old.services.list core.old.jobs core.old.events)) text.now moves → GivesMoves moves result }
     ensures budget { core.new.budget ≡ core.old.budget }
+    ensures jobs { core.new.jobs.jobs ≡ core.old.jobs.jobs }
 {
     let Some(mut rest) = after_first_line(text) else {
         return Err(ReplayFail::Trace { index: 0 });

@@ -1,24 +1,29 @@
 //! Whole runs, from their first core to what is written of them.
 ghost use Rattle.std.specs.Prelude.{◌≡◌, ◌≤◌, length, map, IfOk, IfErr};
+ghost use Rattle.fk_boot.specs.Plans.{first_jobs};
 ghost use Rattle.fk_commands.specs.Prepared.{ComesTo, IsRefusal};
 ghost use Rattle.fk_commands.specs.Status.{progress_of, Finished};
 ghost use Rattle.fk_core.specs.Cores.{core_at};
 ghost use Rattle.fk_core.specs.Served.{AllFit};
-ghost use Rattle.fk_runs.specs.Runs.{IsEnd, IsMade, IsPlayed, IsRunAlone, status_of_end};
+ghost use Rattle.fk_report.specs.Jobs.{refused_from};
+ghost use Rattle.fk_runs.specs.Runs.{IsEnd, IsMade, IsPlayed, IsRunAlone, status_of_end, status_of_refused};
 
+use crate::ends::{images_of, told_in};
 use crate::traces::{ReplayFail, replay};
 use fk_commands::{Prepared, Report, Status};
 use fk_core::Core;
-use fk_model::{List as Items, Move, NoMemory};
+use fk_jobs::Worker;
+use fk_model::{JobSpec, List as Items, Move, NoMemory};
 use fk_natives::Service;
-use fk_report::{End, run_text, threads_of};
+use fk_porters::Porter;
+use fk_report::{End, JobEnd, first_refused, outs_text, run_text, threads_of};
 use fk_responders::Table;
 use std::alloc::Global;
 
 /// How a run ends that has come to a core: as the core has ended, or with the list that was played.
-fn end_of<S: Service + Drop>(core: &Core<S>) -> End
+fn end_of<S: Service + Drop, W: Worker + Drop>(core: &Core<S, W>) -> End
     requires within { core.now.events ≤ core.now.budget }
-    ensures { IsEnd core.now.budget (core_at core.now.kernel core.now.services.list core.now.events) result }
+    ensures { IsEnd core.now.jobs.jobs core.now.budget (core_at core.now.kernel core.now.services.list core.now.jobs core.now.events) result }
 {
     match core.ended() {
         Some(end) => end,
@@ -26,52 +31,78 @@ fn end_of<S: Service + Drop>(core: &Core<S>) -> End
     }
 }
 
-/// The status of a run that ended so.
-fn status_of(end: End, budget: u64) -> Status
-    ensures status { result ≡ status_of_end budget end }
-    ensures finished { progress_of result ≡ Finished }
+/// The status that tells of the first job that was refused, if one was.
+fn status_of_refused(jobs: &[Option<JobEnd>]) -> Result<Status, NoMemory>
+    ensures status { IfOk result (λ status. status ≡ status_of_refused (refused_from 0 jobs.now)) }
+    ensures finished { IfOk result (λ status. progress_of status ≡ Finished) }
 {
-    match end {
-        End::Budget => Status::Budget { budget },
-        End::Halted | End::Quiet | End::Listed => Status::Ok,
+    match first_refused(jobs)? {
+        Some(job) => Ok(Status::JobRefused { job }),
+        None => Ok(Status::Ok),
     }
 }
 
-/// The report and the text of a run that has come to a core.
+/// The status of a run that ended so.
+fn status_of(end: End, budget: u64, jobs: &[Option<JobEnd>]) -> Result<Status, NoMemory>
+    ensures status { IfOk result (λ status. status ≡ status_of_end budget jobs.now end) }
+    ensures finished { IfOk result (λ status. progress_of status ≡ Finished) }
+{
+    match end {
+        End::Budget => Ok(Status::Budget { budget }),
+        End::Halted | End::Quiet | End::Listed => status_of_refused(jobs),
+    }
+}
+
+/// The report and the text of a run of jobs that has come to a core.
 fn prepared<S: Service + Drop>(
     alloc: Global,
-    core: &Core<S>,
+    core: Core<S, Porter>,
+    specs: &[JobSpec],
     history: Items<Move>,
 ) -> Result<Prepared, NoMemory>
-    requires within { core.now.events ≤ core.now.budget }
-    requires few { length history ≤ core.now.budget }
-    ensures { IfOk result (λ made. IsMade (core_at core.now.kernel core.now.services.list core.now.events) core.now.budget history made) }
+    requires jobs { core.jobs.jobs ≡ first_jobs specs.now }
+    requires within { core.events ≤ core.budget }
+    requires few { length history ≤ core.budget }
+    ensures { IfOk result (λ made. IsMade specs.now (core_at core.kernel core.services.list core.jobs core.events) core.budget history made) }
 {
     let threads = threads_of(alloc, core.kernel().store())?;
-    let end = end_of(core);
+    let end = end_of(&core);
+    let outs = outs_text(alloc, core.services(), threads.as_slice())?;
+    let budget = core.budget();
+    let jobs = told_in(alloc, specs.len(), core.into_jobs().into_ends())?;
     let events = history.len() as u64;
-    let output = run_text(alloc, events, end, core.services(), threads.as_slice())?;
+    let output = run_text(alloc, events, end, specs, jobs.as_slice(), outs.as_str())?;
+    let status = status_of(end, budget, jobs.as_slice())?;
+    let images = images_of(alloc, specs)?;
     Ok(Prepared {
-        status: status_of(end, core.budget()),
-        report: Some(Report { history, end }),
+        status,
+        report: Some(Report {
+            history,
+            jobs,
+            images,
+            end,
+        }),
         output,
     })
 }
 
-/// Plays a trace from a first core, and prepares the report.
+/// Plays a trace from a first core with its jobs, and prepares the report.
 ///
 /// # Errors
 ///
 /// `BadTrace` with the index of the first bad line of the trace; `NoMemory`.
 pub fn play_core<S: Service + Drop>(
     alloc: Global,
-    mut core: Core<S>,
+    mut core: Core<S, Porter>,
+    specs: &[JobSpec],
     table: &Table,
     trace: &[u8],
 ) -> Result<Prepared, Status>
     requires fits { AllFit (map (λ r. r.rule) table.now.list.items) core.services.list }
     requires first { core.events ≡ 0 }
-    ensures comes { ComesTo (λ outcome. IsPlayed (core_at core.kernel core.services.list core.events) core.budget trace.now outcome.status outcome.report) result }
+    requires jobs { core.jobs.jobs ≡ first_jobs specs.now }
+    ensures comes { ComesTo (λ outcome. IsPlayed specs.now (core_at core.kernel core.services.list core.jobs core.events) core.budget trace.now
+        outcome.status outcome.report) result }
     ensures refusal { IfErr result (IsRefusal ⊥ ⊥) }
 {
     let history = match replay(alloc, &mut core, table, trace) {
@@ -79,24 +110,27 @@ pub fn play_core<S: Service + Drop>(
         Err(ReplayFail::Trace { index }) => return Err(Status::BadTrace { index }),
         Err(ReplayFail::NoMemory) => return Err(Status::NoMemory),
     };
-    Ok(prepared(alloc, &core, history)?)
+    Ok(prepared(alloc, core, specs, history)?)
 }
 
-/// Runs a first core by itself, and prepares the report.
+/// Runs a first core with its jobs by itself, and prepares the report.
 ///
 /// # Errors
 ///
 /// `NoMemory`.
 pub fn run_core<S: Service + Drop>(
     alloc: Global,
-    mut core: Core<S>,
+    mut core: Core<S, Porter>,
+    specs: &[JobSpec],
     table: &Table,
 ) -> Result<Prepared, Status>
     requires fits { AllFit (map (λ r. r.rule) table.now.list.items) core.services.list }
     requires first { core.events ≡ 0 }
-    ensures comes { ComesTo (λ outcome. IsRunAlone (core_at core.kernel core.services.list core.events) core.budget outcome.status outcome.report) result }
+    requires jobs { core.jobs.jobs ≡ first_jobs specs.now }
+    ensures comes { ComesTo (λ outcome. IsRunAlone specs.now (core_at core.kernel core.services.list core.jobs core.events) core.budget
+        outcome.status outcome.report) result }
     ensures refusal { IfErr result (IsRefusal ⊥ ⊥) }
 {
     let history = core.run(alloc, table)?;
-    Ok(prepared(alloc, &core, history)?)
+    Ok(prepared(alloc, core, specs, history)?)
 }

@@ -1,19 +1,19 @@
 -- A scenario that is read keeps what a machine rests on.
-use Rattle.std.proofs.Common.{◌≡◌, ℕ, pos, ◌≤◌, List, [], ◌∷◌, ◌++◌, length, Ok, unwrap_or, subst, codes, arith}
-use Rattle.std.proofs.lemmas.List.Elements.{All-nil, All-push, All-head, All-tail}
+use Rattle.std.proofs.Common.{◌≡◌, ℕ, pos, ◌+◌, ◌≤◌, true, List, [], ◌∷◌, ◌++◌, length, Ok, unwrap_or, subst, codes, arith}
+use Rattle.std.proofs.lemmas.List.Elements.{All-nil, All-push, All-cons, All-head, All-tail}
 use Rattle.std.specs.List.{All}
 use Rattle.toml.specs.Data.{Members}
 use Rattle.fk_model.specs.declared.moves.Rule.{Rule}
 use Rattle.fk_model.specs.declared.job.JobSpec.{JobSpec}
 use Rattle.fk_scenario_fields.specs.Gives.{or_rule, unless, placed}
 use Rattle.fk_scenario_fields.specs.Fields.{known, integer_in, needed_integer, ranged}
-use Rattle.fk_scenario_fields.proofs.Steps.{after, placed-Ok}
+use Rattle.fk_scenario_fields.proofs.Steps.{after, unless-Ok, placed-Ok}
 use Rattle.fk_scenario_entries.specs.declared.types.SpaceEntry.{SpaceEntry}
 use Rattle.fk_scenario_entries.specs.declared.types.ServerEntry.{ServerEntry}
 use Rattle.fk_scenario_entries.specs.declared.jobs.JobEntry.{JobEntry}
 use Rattle.fk_scenario_entries.specs.declared.jobs.JobKind.{JobKind}
 use Rattle.fk_scenario_entries.specs.declared.jobs.JobKind.TheVariants as kinds
-use Rattle.fk_scenario_entries.specs.Kept.{BindsSlots, KeepsJob}
+use Rattle.fk_scenario_entries.specs.Kept.{KeepsJob}
 use Rattle.fk_scenario_entries.proofs.Kept.{in_range}
 use Rattle.fk_scenario_sections.specs.Programs.{programs_from}
 use Rattle.fk_scenario_sections.specs.Spaces.{spaces_from, count_beneath}
@@ -27,9 +27,9 @@ use Rattle.fk_scenario.specs.declared.reading.Round.{Round}
 use Rattle.fk_scenario.specs.declared.scenario.Scenario.{Scenario}
 use Rattle.fk_scenario.specs.Aims.{aims_from}
 use Rattle.fk_scenario.specs.Servers.{serving_from}
-use Rattle.fk_scenario.specs.Jobs.{job_after, jobs_from, job_spec, nester_from, first_number, may_be_done}
+use Rattle.fk_scenario.specs.Jobs.{job_after, jobs_from, job_spec, nester_from, first_number, may_be_done, is_saving, saving_from}
 use Rattle.fk_scenario.specs.Reading.{Sections, sections_of, Top, top_of, places_of, first_round, second_round, scenario_of}
-use Rattle.fk_scenario.specs.Kept.{KeepsScenario, HasSlots}
+use Rattle.fk_scenario.specs.Kept.{KeepsScenario, Saves}
 
 -- a whole document
 
@@ -73,24 +73,37 @@ places_kept sections places h =
 
 -- jobs that are read after others
 
-job_done : (ss : List SpaceEntry) (vs : List ServerEntry) (done : List JobSpec) (j : JobEntry) (x : JobSpec) → job_after ss vs done j ≡ Ok x → KeepsJob j → HasSlots x
+-- each saves a subtree
+abbrev AreSaving : List JobEntry → Type 0
+AreSaving js = All (λ (j : JobEntry). is_saving j.kind ≡ true) js
+
+saving : (n : ℕ) (js : List JobEntry) → saving_from n js ≡ Ok tt → AreSaving js
+unfolding saving_from
+saving n [] h = All-nil (λ (j : JobEntry). is_saving j.kind ≡ true)
+saving n (j ∷ js) h =
+    after (placed 6 n (unless 11 (is_saving j.kind))) _ tt h (λ _ is h.
+    All-cons (λ (j : JobEntry). is_saving j.kind ≡ true) j js (unless-Ok 11 (is_saving j.kind) tt (placed-Ok 6 n _ tt is)) (saving (n + 1) js h))
+
+job_done : (ss : List SpaceEntry) (vs : List ServerEntry) (done : List JobSpec) (j : JobEntry) (x : JobSpec) → job_after ss vs done j ≡ Ok x → KeepsJob j
+    → is_saving j.kind ≡ true → Saves x
 unfolding job_after
-job_done ss vs done j x h kept =
+job_done ss vs done j x h kept is =
     after (or_rule 10 (nester_from (first_number ss) ss j.nester)) _ x h (λ birth _ h.
-    after (unless 10 (may_be_done ss vs done j j.kind)) _ x h (λ _ _ h. by j.kind kept.bound birth cc))
+    after (unless 10 (may_be_done ss vs done j j.kind)) _ x h (λ _ _ h. by j.kind is birth cc))
   where
-    by : (k : JobKind) → BindsSlots k → (birth : ℕ) → job_spec birth j k ≡ x → HasSlots x
-    by kinds.Checkpoint bound birth same = subst HasSlots same (kept.nester, kept.slot)
-    by (kinds.Restore bind) bound birth same = subst HasSlots same (kept.slot, bound)
+    by : (k : JobKind) → is_saving k ≡ true → (birth : ℕ) → job_spec birth j k ≡ x → Saves x
+    by kinds.Checkpoint is birth same = subst Saves same (kept.nester, kept.slot)
+    by (kinds.Restore bind) is birth same = absurd (cc)
 
 jobs_done : (ss : List SpaceEntry) (vs : List ServerEntry) (done : List JobSpec) (js : List JobEntry) (all : List JobSpec) → jobs_from ss vs done js ≡ Ok all
-    → All HasSlots done → All KeepsJob js → All HasSlots all
+    → All Saves done → All KeepsJob js → AreSaving js → All Saves all
 unfolding jobs_from
-jobs_done ss vs done [] all h each kept = let same : done ≡ all = cc in subst (All HasSlots) same each
-jobs_done ss vs done (j ∷ js) all h each kept =
+jobs_done ss vs done [] all h each kept save = let same : done ≡ all = cc in subst (All Saves) same each
+jobs_done ss vs done (j ∷ js) all h each kept save =
     after (placed 6 (length done) (job_after ss vs done j)) _ all h (λ x is_x h.
-    jobs_done ss vs (done ++ x ∷ []) js all h (All-push HasSlots done x each (job_done ss vs done j x (placed-Ok 6 _ _ x is_x) (All-head KeepsJob j js kept)))
-    (All-tail KeepsJob j js kept))
+    let one = job_done ss vs done j x (placed-Ok 6 _ _ x is_x) (All-head KeepsJob j js kept) (All-head (λ (j : JobEntry). is_saving j.kind ≡ true) j js save) in
+    jobs_done ss vs (done ++ x ∷ []) js all h (All-push Saves done x each one) (All-tail KeepsJob j js kept)
+    (All-tail (λ (j : JobEntry). is_saving j.kind ≡ true) j js save))
 
 -- and the first round with them
 round_kept : (rules : List (List ℕ × Rule)) (sections : Sections) (round : Round) → first_round rules sections ≡ Ok round →
@@ -121,9 +134,9 @@ round_jobs rules sections round h =
 
 second_kept : (budget workers : ℕ) (round : Round) (s : Scenario) → second_round budget workers round ≡ Ok s
     → (1 ≤ budget) × (budget ≤ 1000000) × (1 ≤ workers) × (workers ≤ 8)
-    → KeepsPlaces (record { programs = round.programs; spaces = round.spaces; objects = round.objects }) → All KeepsJob round.jobs → KeepsScenario s
+    → KeepsPlaces (record { programs = round.programs; spaces = round.spaces; objects = round.objects }) → All KeepsJob round.jobs → AreSaving round.jobs → KeepsScenario s
 unfolding second_round
-second_kept budget workers round s h (a, b, c, d) kept slots =
+second_kept budget workers round s h (a, b, c, d) kept slots save =
     after (aims_from round.spaces round.objects 0 round.objects) _ s h (λ _ aims h.
     after (serving_from round.objects [] [] round.servers) _ s h (λ _ serving h.
     after (jobs_from round.spaces round.servers [] round.jobs) _ s h (λ jobs are_jobs h.
@@ -145,7 +158,8 @@ second_kept budget workers round s h (a, b, c, d) kept slots =
       objects = kept.objects;
       aims = aims;
       servers = serving;
-      jobs = jobs_done round.spaces round.servers [] round.jobs jobs are_jobs (All-nil HasSlots) slots;
+      jobs = jobs_done round.spaces round.servers [] round.jobs jobs are_jobs (All-nil Saves) slots save;
+      asked = (round.jobs, are_jobs);
     }))))
 
 pub scenario_kept : (rules : List (List ℕ × Rule)) (ms : Members) (s : Scenario) → scenario_of rules ms ≡ Ok s → KeepsScenario s
@@ -153,5 +167,6 @@ unfolding scenario_of
 scenario_kept rules ms s h =
     after (placed 1 0 (top_of ms)) _ s h (λ top is_top h.
     after (first_round rules top.sections) _ s h (λ round is_round h.
+    after (saving_from 0 round.jobs) _ s h (λ _ save h.
     second_kept top.budget top.workers round s h (top_kept ms top (placed-Ok 1 0 _ top is_top)) (round_kept rules top.sections round is_round)
-    (round_jobs rules top.sections round is_round)))
+    (round_jobs rules top.sections round is_round) (saving 0 round.jobs save))))

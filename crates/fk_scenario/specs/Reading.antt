@@ -1,7 +1,7 @@
 -- What a document says: a scenario, or the first refusal.
-use Rattle.std.specs.Prelude.{ℕ, pos, List, [], ◌∷◌, Option, Some, None, is_some, option_map, unwrap_or, Result, Ok, Err, if◌then◌else◌, codes}
+use Rattle.std.specs.Prelude.{ℕ, pos, List, [], ◌∷◌, Option, Some, None, option_map, unwrap_or, if◌then◌else◌, Result, Ok, Err, codes}
 use Rattle.std.specs.Str.{is_utf8}
-use Rattle.toml.specs.Data.{Items, no_items, Members, no_members, get_member}
+use Rattle.toml.specs.Data.{Items, no_items, Members, no_members}
 use Rattle.toml.specs.Parse.{parse_document}
 use Rattle.toml.specs.View.{table_view, array_view}
 use Rattle.fk_model.specs.declared.moves.Rule.{Rule}
@@ -19,7 +19,7 @@ use Rattle.fk_scenario_sections.specs.Objects.{objects_from}
 use Rattle.fk_scenario_sections.specs.Servers.{servers_from}
 use Rattle.fk_scenario_sections.specs.Jobs.{entries_from}
 use Rattle.fk_scenario.specs.Servers.{serving_from}
-use Rattle.fk_scenario.specs.Jobs.{jobs_from}
+use Rattle.fk_scenario.specs.Jobs.{saving_from, jobs_from}
 use Rattle.fk_scenario.specs.Aims.{aims_from}
 
 -- the sections as they stand in the document; one that isn't there is empty
@@ -109,16 +109,16 @@ second_round budget workers round = do
     jobs = jobs;
   })
 
+-- between the rounds stands that restores can't be run yet
+abbrev pub saved_round : ℕ → ℕ → Round → Result Scenario ScenarioError
+saved_round budget workers round = saving_from 0 round.jobs >>= λ _. second_round budget workers round
+
 -- the scenario of a document
 unfoldable pub scenario_of : List (List ℕ × Rule) → Members → Result Scenario ScenarioError
 scenario_of rules ms = do
   top ← placed 1 0 (top_of ms)
   round ← first_round rules top.sections
-  second_round top.budget top.workers round
-
--- jobs can't be run yet: a document that has the key is refused by rule 11
-abbrev pub without_jobs : Members → Result (Unit {0}) ScenarioError
-without_jobs ms = if is_some (get_member (codes "job") ms) then Err (record { rule = 11; section = 6; index = 0 }) else Ok tt
+  saved_round top.budget top.workers round
 
 -- the document that bytes are, if they are one
 unfoldable pub tree_of : List ℕ → Option Members
@@ -127,7 +127,7 @@ tree_of bytes = if is_utf8 bytes then parse_document bytes else None
 -- bytes that are no document are refused by rule 1, without a section
 abbrev pub scenario_in : List (List ℕ × Rule) → Option Members → Result Scenario ScenarioError
 scenario_in rules None = Err (record { rule = 1; section = 0; index = 0 })
-scenario_in rules (Some ms) = without_jobs ms >>= λ _. scenario_of rules ms
+scenario_in rules (Some ms) = scenario_of rules ms
 
 -- the scenario that bytes are, with the rules that servers may have, or the first refusal
 unfoldable pub scenario_reading : List (List ℕ × Rule) → List ℕ → Result Scenario ScenarioError

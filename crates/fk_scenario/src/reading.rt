@@ -1,6 +1,5 @@
 //! A whole document.
-ghost use Rattle.std.specs.Prelude.{◌≡◌, ◌≤◌, option_map, is_some, codes, IfOk, IfErr};
-ghost use Rattle.toml.specs.Data.{get_member};
+ghost use Rattle.std.specs.Prelude.{◌≡◌, ◌≤◌, option_map, IfOk, IfErr};
 ghost use Rattle.toml.specs.View.{table_view};
 ghost use Rattle.fk_scenario_fields.specs.Gives.{Gives, Answers};
 ghost use Rattle.fk_scenario_entries.specs.Servers.{rules_view};
@@ -8,14 +7,14 @@ ghost use Rattle.fk_scenario.specs.Kept.{KeepsScenario, HasRules, rules_of};
 ghost use Rattle.fk_scenario.specs.Reading as definitions;
 
 use crate::aims::check_aims;
-use crate::jobs::jobs_of;
+use crate::jobs::{check_saving, jobs_of};
 use crate::scenario::Scenario;
 use crate::servers::check_servers;
 use fk_model::{List, Rule};
 use fk_scenario_entries::{JobEntry, ObjectEntry, Program, ServerEntry, SpaceEntry};
 use fk_scenario_fields::{
-    Entries, Fail, ScenarioError, ScenarioFail, array_in, has_key, integer_in, known,
-    needed_integer, ranged, rule, table_in,
+    Entries, Fail, ScenarioError, ScenarioFail, array_in, integer_in, known, needed_integer,
+    ranged, rule, table_in,
 };
 use fk_scenario_sections::{entries_in, objects_in, programs_in, servers_in, spaces_in};
 use std::alloc::Global;
@@ -26,13 +25,6 @@ use toml::value::Array;
 const NO_DOCUMENT: ScenarioFail = ScenarioFail::Scenario(ScenarioError {
     rule: rule::DOCUMENT,
     section: 0,
-    index: 0,
-});
-
-/// There are jobs, which can't be run yet.
-const JOBS: ScenarioFail = ScenarioFail::Scenario(ScenarioError {
-    rule: rule::NOT_YET,
-    section: 6,
     index: 0,
 });
 
@@ -178,6 +170,19 @@ fn second_round(
     })
 }
 
+/// The second round, where no job is a restore.
+fn saved_round(
+    alloc: Global,
+    budget: u64,
+    workers: u32,
+    round: Round,
+) -> Result<Scenario, ScenarioFail>
+    ensures { Answers result (definitions.saved_round budget workers round) }
+{
+    check_saving(round.jobs.as_slice())?;
+    second_round(alloc, budget, workers, round)
+}
+
 /// The scenario of a document, or its first refusal.
 #[tactic(auto, unfolding(crate::specs::Reading::scenario_of))]
 fn scenario_of(
@@ -192,7 +197,7 @@ fn scenario_of(
         Err(fail) => return Err(fail.at(SECTION, 0)),
     };
     let round = first_round(alloc, rules, top.sections)?;
-    second_round(alloc, top.budget, top.workers as u32, round)
+    saved_round(alloc, top.budget, top.workers as u32, round)
 }
 
 /// The table of a document, where the bytes are one.
@@ -220,8 +225,8 @@ fn tree_of(alloc: Global, bytes: &[u8]) -> Result<Option<Table>, ScenarioFail>
 /// # Errors
 ///
 /// `Scenario` exactly where the bytes are refused, with the first refusal: its rule, its section, and the
-/// index of the entry in its section. While jobs can't be run, a document with jobs is refused by
-/// `rule::NOT_YET`. `NoMemory` where there is no memory for the document or the scenario.
+/// index of the entry in its section. While restores can't be run, the first one is refused by
+/// `rule::NOT_YET`, once all entries are read. `NoMemory` where there is no memory for the document or the scenario.
 #[tactic(auto, unfolding(crate::specs::Reading::scenario_reading))]
 pub fn read_scenario(
     alloc: Global,
@@ -235,9 +240,6 @@ pub fn read_scenario(
     let Some(table) = tree_of(alloc, bytes)? else {
         return Err(NO_DOCUMENT);
     };
-    if has_key(&table, "job") {
-        return Err(JOBS);
-    }
     let scenario = scenario_of(alloc, rules, &table)?;
     Ok(scenario)
 }

@@ -1,3 +1,4 @@
+use Rattle.std.proofs.Common.{map}
 use Rattle.fk_core.specs.Cores.{core_at}
 use Rattle.fk_plays.proofs.From.{played-from}
 use Rattle.fk_plays.proofs.play.play_scenario.Goals as goal
@@ -5,5 +6,8 @@ use Rattle.fk_plays.proofs.play.play_scenario.Goals as goal
 pub returns-clause-comes : goal.returns-clause-comes
 returns-clause-comes g c =
     let core = c.in_ok-core.core in
-    played-from c.args.scenario.now c.args.trace.now (core_at core.kernel core.services.list core.events) core.budget c.play_core.result
-    c.in_ok-core.ensures.first c.in_ok-core.ensures.budget c.play_core.ensures.comes
+    played-from c.args.scenario.now c.args.trace.now (core_at core.kernel core.services.list core.jobs core.events) core.budget c.play_core.result
+    c.in_ok-core.ensures.first c.in_ok-core.ensures.budget (rw c.as_slice.ensures at c.play_core.ensures.comes)
+
+pub play_core-requires-clause-fits : goal.play_core-requires-clause-fits
+play_core-requires-clause-fits g c = c.in_ok-core.ensures.fits (map (λ r. r.rule) c.args.table.now.list.items) c.requires.rules

@@ -1,3 +1,4 @@
+use Rattle.std.proofs.Common.{map}
 use Rattle.fk_core.specs.Cores.{core_at}
 use Rattle.fk_plays.proofs.From.{run-from}
 use Rattle.fk_plays.proofs.run.run_scenario.Goals as goal
@@ -5,5 +6,8 @@ use Rattle.fk_plays.proofs.run.run_scenario.Goals as goal
 pub returns-clause-comes : goal.returns-clause-comes
 returns-clause-comes g c =
     let core = c.in_ok-core.core in
-    run-from c.args.scenario.now (core_at core.kernel core.services.list core.events) core.budget c.run_core.result
-    c.in_ok-core.ensures.first c.in_ok-core.ensures.budget c.run_core.ensures.comes
+    run-from c.args.scenario.now (core_at core.kernel core.services.list core.jobs core.events) core.budget c.run_core.result
+    c.in_ok-core.ensures.first c.in_ok-core.ensures.budget (rw c.as_slice.ensures at c.run_core.ensures.comes)
+
+pub run_core-requires-clause-fits : goal.run_core-requires-clause-fits
+run_core-requires-clause-fits g c = c.in_ok-core.ensures.fits (map (λ r. r.rule) c.args.table.now.list.items) c.requires.rules

@@ -11,20 +11,21 @@ use Rattle.fk_runs.proofs.traces.replay.Goals as goal
 pub returns-in_default-clause-back : goal.returns-in_default-clause-back
 returns-in_default-clause-back g c =
     let core = c.args.core.now in
-    λ moves spells. Spells-not_bad (MayPlay core.budget (core_at core.kernel core.services.list core.events)) c.args.text.now moves 0 spells
+    λ moves spells. Spells-not_bad (MayPlay core.jobs.jobs core.budget (core_at core.kernel core.services.list core.jobs core.events)) c.args.text.now moves 0 spells
     (inl (c.in_default.ensures.none, refl))
 
 pub loop-rest-init : goal.loop-rest-init
 loop-rest-init g c =
     let core = c.args.core.now in
-    let first = core_at core.kernel core.services.list core.events in
+    let first = core_at core.kernel core.services.list core.jobs core.events in
     let zero = c.requires.first in
     let spelled : c.args.text.now ≡ trace_text [] ++ c.in-Some.rest.now = search rules in
     rw c.new-moves.ensures (record {
-      legal = none_are_legal (MayPlay core.budget first);
+      legal = none_are_legal (MayPlay core.jobs.jobs core.budget first);
       spelled = spelled;
-      run = begun first [] refl;
+      run = begun core.jobs.jobs first [] refl;
       fits = c.requires.fits;
+      jobs = refl;
       budget = refl;
       events = zero;
       few = omega (arith, zero);
@@ -33,13 +34,15 @@ loop-rest-init g c =
 pub returns-in_default-2-clause-cause : goal.returns-in_default-2-clause-cause
 returns-in_default-2-clause-cause g c =
     let core = c.args.core.now in
-    let first = core_at core.kernel core.services.list core.events in
+    let first = core_at core.kernel core.services.list core.jobs core.events in
     let at = c.loop-rest.core in
-    let now = core_at at.kernel at.services.list at.events in
+    let now = core_at at.kernel at.services.list at.jobs at.events in
     let kept = c.loop-rest.invariant in
-    let none : BeginsWithNone (λ move. (at.events < core.budget) × IsReadyMove now move) c.loop-rest.rest.now =
-    subst (λ b. BeginsWithNone (λ move. (at.events < b) × IsReadyMove now move) c.loop-rest.rest.now) kept.budget
+    let told : BeginsWithNone (λ move. (at.events < core.budget) × IsReadyMove at.jobs.jobs now move) c.loop-rest.rest.now =
+    subst (λ b. BeginsWithNone (λ move. (at.events < b) × IsReadyMove at.jobs.jobs now move) c.loop-rest.rest.now) kept.budget
     (rw c.in_default-2.is at c.in_ok-one.ensures.none) in
+    let none : BeginsWithNone (λ move. (at.events < core.budget) × IsReadyMove core.jobs.jobs now move) c.loop-rest.rest.now =
+    subst (λ jobs. BeginsWithNone (λ move. (at.events < core.budget) × IsReadyMove jobs now move) c.loop-rest.rest.now) kept.jobs told in
     inr (
       c.loop-rest.moves,
       record {
@@ -47,7 +50,7 @@ returns-in_default-2-clause-cause g c =
         rest = c.loop-rest.rest.now;
         spelled = kept.spelled;
         goes_on = search rules;
-        stops = may-none core.budget at.events first now c.loop-rest.moves c.loop-rest.rest.now kept.events kept.run none;
+        stops = may-none core.jobs.jobs core.budget at.events first now c.loop-rest.moves c.loop-rest.rest.now kept.events kept.run none;
       },
       c.len-index.ensures,
     )
@@ -55,24 +58,27 @@ returns-in_default-2-clause-cause g c =
 pub returns-in_default-2-clause-back : goal.returns-in_default-2-clause-back
 returns-in_default-2-clause-back g c = λ moves spells.
     let core = c.args.core.now in
-    Spells-not_bad (MayPlay core.budget (core_at core.kernel core.services.list core.events))
+    Spells-not_bad (MayPlay core.jobs.jobs core.budget (core_at core.kernel core.services.list core.jobs core.events))
     c.args.text.now moves c.len-index.result spells (returns-in_default-2-clause-cause g c)
 
 pub loop-rest-preserved : goal.loop-rest-preserved
 loop-rest-preserved g c =
     let core = c.args.core.now in
-    let first = core_at core.kernel core.services.list core.events in
+    let first = core_at core.kernel core.services.list core.jobs core.events in
     let at = c.loop-rest.core in
-    let now = core_at at.kernel at.services.list at.events in
+    let now = core_at at.kernel at.services.list at.jobs at.events in
     let new = c.make_next.new.core in
     let kept = c.loop-rest.invariant in
     let moves = c.loop-rest.moves in
     let one = c.in-Some-2.one in
-    let M = MayPlay core.budget first in
+    let M = MayPlay core.jobs.jobs core.budget first in
     let next : BeginsWith c.loop-rest.rest.now one c.in-Some-2.after.now = search rules in
     let few : at.events < at.budget = search rules in
-    let ready : IsReadyMove now one = search rules in
-    let turned : IsTurned now one (core_at new.kernel new.services.list new.events) = search rules in
+    let is_ready : IsReadyMove at.jobs.jobs now one = search rules in
+    let is_turned : IsTurned at.jobs.jobs now one (core_at new.kernel new.services.list new.jobs new.events) = search rules in
+    let ready : IsReadyMove core.jobs.jobs now one = subst (λ jobs. IsReadyMove jobs now one) kept.jobs is_ready in
+    let turned : IsTurned core.jobs.jobs now one (core_at new.kernel new.services.list new.jobs new.events) =
+    subst (λ jobs. IsTurned jobs now one (core_at new.kernel new.services.list new.jobs new.events)) kept.jobs is_turned in
     let counted : new.events ≡ at.events + 1 = search rules in
     let budget = kept.budget in
     let events = kept.events in
@@ -83,8 +89,9 @@ loop-rest-preserved g c =
     rw c.in_ok-push.ensures.ok (record {
       legal = more;
       spelled = spelled;
-      run = one_more first now _ moves (moves ++ one ∷ []) one kept.run ready turned refl;
+      run = one_more core.jobs.jobs first now _ moves (moves ++ one ∷ []) one kept.run ready turned refl;
       fits = c.make_next.ensures.fits;
+      jobs = c.make_next.ensures.jobs ∙ kept.jobs;
       budget = c.make_next.ensures.budget ∙ budget;
       events = omega (arith, counted, events, long);
       few = omega (arith, counted, few, budget);
@@ -93,7 +100,7 @@ loop-rest-preserved g c =
 pub returns-clause-back : goal.returns-clause-back
 returns-clause-back g c = λ moves spells.
     let core = c.args.core.now in
-    let M = MayPlay core.budget (core_at core.kernel core.services.list core.events) in
+    let M = MayPlay core.jobs.jobs core.budget (core_at core.kernel core.services.list core.jobs core.events) in
     let none : length c.loop-rest.rest.now ≡ 0 = search rules in
     let read : Spells M c.args.text.now c.loop-rest.moves = record {
       legal = c.loop-rest.invariant.legal;

@@ -9,11 +9,12 @@ use Rattle.fk_runs.proofs.traces.replay.Given as goal
 -- the moves so far are legal and spelled, and the core has made them
 abbrev pub invariant-loop-rest : goal.invariant-loop-rest
 invariant-loop-rest g l = record {
-  legal : AreLegal (MayPlay l.fn.core.budget (core_at l.fn.core.kernel l.fn.core.services.list l.fn.core.events)) l.moves;
+  legal : AreLegal (MayPlay l.fn.core.jobs.jobs l.fn.core.budget (core_at l.fn.core.kernel l.fn.core.services.list l.fn.core.jobs l.fn.core.events)) l.moves;
   spelled : l.text ≡ trace_text l.moves ++ l.rest;
-  run : IsRun house (core_at l.fn.core.kernel l.fn.core.services.list l.fn.core.events) l.moves
-      (core_at l.core.kernel l.core.services.list l.core.events);
+  run : IsRun (house l.fn.core.jobs.jobs) (core_at l.fn.core.kernel l.fn.core.services.list l.fn.core.jobs l.fn.core.events) l.moves
+      (core_at l.core.kernel l.core.services.list l.core.jobs l.core.events);
   fits : AllFit (map (λ r. r.rule) l.table.list.items) l.core.services.list;
+  jobs : l.core.jobs.jobs ≡ l.fn.core.jobs.jobs;
   budget : l.core.budget ≡ l.fn.core.budget;
   events : l.core.events ≡ length l.moves;
   few : l.core.events ≤ l.fn.core.budget;

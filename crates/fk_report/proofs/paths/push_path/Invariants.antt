@@ -1,6 +1,6 @@
 use Rattle.std.proofs.Common.{◌≡◌, ◌++◌, string_bytes}
-use Rattle.fk_report.specs.Report as definitions
-use Rattle.fk_report.proofs.report.push_path.Given as goal
+use Rattle.fk_report.specs.Paths as definitions
+use Rattle.fk_report.proofs.paths.push_path.Given as goal
 
 abbrev pub invariant-loop-slot : goal.invariant-loop-slot
 invariant-loop-slot l =
