@@ -1,2 +1,4 @@
 pub mod First
 pub mod Grounded
+pub mod Users
+pub mod Programs

@@ -5,6 +5,8 @@
 #![tactic(auto)]
 
 ghost use Rattle.laws_first.specs.First.{FirstWorldIsGround};
+ghost use Rattle.laws_first.specs.Programs.{ProgramsHaveTheHeadline};
+ghost use Rattle.laws_first.specs.Users.{ServersAskAsUsers, FirstJobsNameUsersSlots};
 ghost use Rattle.laws_first.specs.Grounded.{ScenariosAreGrounded, ScenariosHaveTheHeadline};
 
 /// No scratch stands in it, it has given out at most 256 birth numbers, its pointers lead somewhere in it or nowhere, porters stand
@@ -22,4 +24,20 @@ pub fn scenarios_are_grounded<V>()
 /// And all of those laws hold of it.
 pub fn scenarios_have_the_headline<V>()
     ensures { ScenariosHaveTheHeadline V }
+{}
+
+/// The program's native servers ask for what users may.
+pub fn servers_ask_as_users()
+    ensures { ServersAskAsUsers }
+{}
+
+/// And the jobs of a scenario name users' slots.
+pub fn first_jobs_name_users_slots()
+    ensures { FirstJobsNameUsersSlots }
+{}
+
+/// So each run of the program from a scenario that was read has all of it, where no porter and no served port lies in what its jobs
+/// save.
+pub fn programs_have_the_headline()
+    ensures { ProgramsHaveTheHeadline }
 {}
