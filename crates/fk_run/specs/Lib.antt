@@ -13,3 +13,4 @@ pub use Rattle.fk_commands.specs.Prepared
 pub mod Commands
 pub mod Puts
 pub mod Top
+pub mod Again

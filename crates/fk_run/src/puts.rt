@@ -1,13 +1,15 @@
 //! What a run leaves on the shelf.
-ghost use Rattle.std.specs.Prelude.{◌≡◌, ◌≤◌, ℕ, List, Some, None, Err, IfOk, IsSome, OnOk, OnErr, option_map};
+ghost use Rattle.std.specs.Prelude.{◌≡◌, ◌≤◌, ℕ, List, Some, None, Err, IfOk, IsSome, OnOk, OnErr, option_map, All};
 ghost use Rattle.std.specs.Bool.{OnFalse};
 ghost use Rattle.fk_causes.specs.Causes.{Rose};
 ghost use Rattle.fk_causes.specs.Shelf.{KeepsOthers};
 ghost use Rattle.fk_causes.specs.declared.shelf.ShelfFail.TheVariants as fails;
 ghost use Rattle.fk_commands.specs.Files.{image_name, trace_name};
 ghost use Rattle.fk_image_format.specs.Spells.{SpellsImage};
+ghost use Rattle.fk_run.specs.Again.{AreSmall, IsSmall, PlaysAgain};
 ghost use Rattle.fk_run.specs.Commands.{uses_shelf, seen};
 ghost use Rattle.fk_run.specs.Puts.{HasPut, HasPutSome, IsPut, KeepsButTrace, KeepsFiles, PutImages, PutSomeImages, PutsEnd, PutsImage, PutsRun, PutsSome, PutsTrace};
+ghost use Rattle.fk_run.specs.Top.{Rules};
 ghost use Rattle.fk_trace_text.specs.Trace as traces;
 
 use crate::command::Command;
@@ -16,7 +18,7 @@ use fk_commands::Report;
 use fk_image::Image;
 use fk_image_valid::is_valid;
 use fk_image_writing::write;
-use fk_model::{NoMemory, Text};
+use fk_model::{Move, NoMemory, Text};
 use fk_report::{JobEnd, end_at};
 use fk_trace_text::trace_text;
 use std::alloc::Global;
@@ -106,6 +108,22 @@ fn put_images<H: Shelf>(
     Ok(())
 }
 
+/// The names in a move are as small as their types.
+fn read_move(one: Move)
+    ensures { traces.IsMove one }
+{
+    let _one = one;
+}
+
+/// The names in each move are, as its type says once it is read.
+fn read_moves(moves: &[Move])
+    ensures { All traces.IsMove moves.now }
+{
+    for one in moves {
+        read_move(*one);
+    }
+}
+
 /// Puts the trace of a run under a name.
 ///
 /// # Errors
@@ -122,8 +140,10 @@ fn put_trace<H: Shelf>(
     ensures others { KeepsOthers (H.files shelf.old) (H.files shelf.new) (trace_name name.now) }
     ensures cause { result ≡ Err fails.Failed → Rose (H.failed_puts shelf.old) (H.failed_puts shelf.new) }
     ensures same_gets { H.failed_gets shelf.new ≡ H.failed_gets shelf.old }
+    ensures small { OnOk result (All traces.IsMove report.now.history) }
 {
     let file = format!(in alloc; "{name}.trc")?;
+    read_moves(report.history.as_slice());
     let trace = trace_text(alloc, report.history.as_slice())?;
     shelf.put(file.as_str(), trace.as_bytes())
 }
@@ -139,6 +159,7 @@ fn put_named<H: Shelf>(
     ensures others { KeepsButTrace (option_map (λ name. name.now) trace.entry) (H.files shelf.old) (H.files shelf.new) }
     ensures cause { result ≡ Err fails.Failed → Rose (H.failed_puts shelf.old) (H.failed_puts shelf.new) }
     ensures same_gets { H.failed_gets shelf.new ≡ H.failed_gets shelf.old }
+    ensures small { OnOk result (IsSmall (option_map (λ name. name.now) trace.entry) report.now.history) }
 {
     match trace {
         Some(name) => put_trace(alloc, name, report, shelf),
@@ -157,6 +178,7 @@ fn put_run<H: Shelf>(
     ensures some { OnErr result (PutsSome (option_map (λ name. name.now) trace.entry) report.now (H.files shelf.old) (H.files shelf.new)) }
     ensures cause { result ≡ Err fails.Failed → Rose (H.failed_puts shelf.old) (H.failed_puts shelf.new) }
     ensures same_gets { H.failed_gets shelf.new ≡ H.failed_gets shelf.old }
+    ensures small { OnOk result (IsSmall (option_map (λ name. name.now) trace.entry) report.now.history) }
 {
     put_images(
         alloc,
@@ -179,6 +201,7 @@ fn put_of<H: Shelf>(
     ensures cause { result ≡ Err fails.Failed → IsSome report.now × Rose (H.failed_puts shelf.old) (H.failed_puts shelf.new) }
     ensures same_gets { H.failed_gets shelf.new ≡ H.failed_gets shelf.old }
     ensures shelf { OnFalse (uses_shelf (Some (seen command.entry))) (shelf.new ≡ shelf.old) }
+    ensures small { OnOk result (AreSmall (Some (seen command.entry)) report.now) }
 {
     match command {
         Command::Run(trace) => match report {
@@ -209,6 +232,7 @@ pub fn put_files<H: Shelf>(
     ensures cause { result ≡ Err fails.Failed → IsSome report.now × Rose (H.failed_puts shelf.old) (H.failed_puts shelf.new) }
     ensures same_gets { H.failed_gets shelf.new ≡ H.failed_gets shelf.old }
     ensures shelf { OnFalse (uses_shelf (Some (seen command.entry))) (shelf.new ≡ shelf.old) }
+    ensures again { (rules : Rules) → OnOk result (PlaysAgain rules (Some (seen command.entry)) (H.files shelf.new) report.now) }
 {
     put_of(alloc, command, report, shelf)
 }

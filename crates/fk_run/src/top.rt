@@ -3,11 +3,12 @@ ghost use Rattle.std.specs.Prelude.{◌≡◌, ◌↔◌, Some, None, IsSome, On
 ghost use Rattle.std.specs.Bool.{OnTrue, OnFalse};
 ghost use Rattle.std.specs.Io.KnownBytes.{Appends, IsAtEnd, Keeps};
 ghost use Rattle.fk_causes.specs.Causes.{AppendsPrefix, Rose};
+ghost use Rattle.fk_run.specs.Again.{PlaysAgain};
 ghost use Rattle.fk_run.specs.Commands.{command_of, reads_source, uses_shelf, seen};
 ghost use Rattle.fk_commands.specs.Prepared.{ComesTo, IsRefusal, outcome_of};
 ghost use Rattle.fk_commands.specs.Status.{progress_of, Finished, was_cut_short, has_written_nothing};
 ghost use Rattle.fk_run.specs.Puts.{HasPut, HasPutSome, KeepsFiles};
-ghost use Rattle.fk_run.specs.Top.{IsDue, IsDone, IsCutOff, HasFailed, GetsToShelf, has_no_report, has_put_all, has_put_none, has_read_all};
+ghost use Rattle.fk_run.specs.Top.{Rules, IsDue, IsDone, IsCutOff, HasFailed, GetsToShelf, has_no_report, has_put_all, has_put_none, has_read_all};
 
 use crate::command::{Command, command_of};
 use crate::puts::put_files;
@@ -74,6 +75,7 @@ fn finish<W: Sink, H: Shelf>(
     ensures no_report { OnTrue (has_no_report result.status) (result.report ≡ None) }
     ensures put { OnTrue (has_put_all result.status) (HasPut (Some (seen command.entry)) result.report (H.files shelf.old) (H.files shelf.new)) }
     ensures some { result.status ≡ Status.ShelfFault → HasPutSome (Some (seen command.entry)) result.report (H.files shelf.old) (H.files shelf.new) }
+    ensures again { (rules : Rules) → OnTrue (has_put_all result.status) (PlaysAgain rules (Some (seen command.entry)) (H.files shelf.new) result.report) }
     ensures files { KeepsFiles (Some (seen command.entry)) (H.files shelf.old) (H.files shelf.new) }
     ensures shelf { OnFalse (uses_shelf (Some (seen command.entry))) (shelf.new ≡ shelf.old) }
 {
@@ -113,8 +115,8 @@ fn finish<W: Sink, H: Shelf>(
 /// and zeros after them, for at most 100,000 instructions, and writes how that ended. `check` reads the source's scenario, and
 /// writes its counts. `run` reads the source's scenario, runs it by itself until no move is ready or its budget is used, and
 /// writes the report of that run; before it writes it puts on the shelf the images that its checkpoints have made, each as `NAME.img` of
-/// its name, in the order of the jobs, and `run --trace NAME` then its trace, as `NAME.trc`.
-/// `play NAME`
+/// its name, in the order of the jobs, and `run --trace NAME` then its trace, as `NAME.trc`: with that
+/// `play NAME` comes to the same status, report and text. `play NAME`
 /// reads the source's scenario, makes the moves of the trace that lies on the shelf as `NAME.trc`,
 /// and writes the report of that run. `show NAME` reads no source, and writes the counts of the image
 /// that lies on the shelf as `NAME.img`. NAME is 1 to 32 characters of `a` to `z`, `0` to `9` and `_`.
@@ -165,6 +167,8 @@ pub fn fluke_top<R: Source, W: Sink, H: Shelf>(
     ensures put { OnTrue (has_put_all result.status) (HasPut (command_of (map string_bytes words.now)) result.report (H.files shelf.old) (H.files shelf.new)) }
     ensures some { result.status ≡ Status.ShelfFault → IsSome result.report
         → HasPutSome (command_of (map string_bytes words.now)) result.report (H.files shelf.old) (H.files shelf.new) }
+    ensures again { OnTrue (has_put_all result.status) (PlaysAgain (map (λ r. (string_bytes r.name, r.rule)) table.now.list.items)
+        (command_of (map string_bytes words.now)) (H.files shelf.new) result.report) }
     ensures files { KeepsFiles (command_of (map string_bytes words.now)) (H.files shelf.old) (H.files shelf.new) }
     ensures no_put { OnTrue (has_put_none result.status)
         ((H.files shelf.new ≡ H.files shelf.old) × (H.failed_puts shelf.new ≡ H.failed_puts shelf.old)) }

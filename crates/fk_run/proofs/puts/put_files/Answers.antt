@@ -1,5 +1,6 @@
 use Rattle.std.proofs.Common.{Some}
 use Rattle.fk_run.specs.Commands.{seen}
+use Rattle.fk_run.proofs.Again.{again_by}
 use Rattle.fk_run.proofs.Kept.{kept_by}
 use Rattle.fk_run.proofs.puts.put_files.Goals as goal
 
@@ -7,3 +8,8 @@ pub returns-clause-others : goal.returns-clause-others
 returns-clause-others g c =
     kept_by c.put_of.result (Some (seen c.args.command)) c.args.report.now (g.H.Shelf.files c.args.shelf.now) (g.H.Shelf.files c.put_of.new.shelf)
     c.put_of.ensures.put c.put_of.ensures.some
+
+pub returns-clause-again : goal.returns-clause-again
+returns-clause-again g c = λ rules.
+    again_by rules c.put_of.result (Some (seen c.args.command)) c.args.report.now (g.H.Shelf.files c.args.shelf.now) (g.H.Shelf.files c.put_of.new.shelf)
+    c.put_of.ensures.put c.put_of.ensures.small
