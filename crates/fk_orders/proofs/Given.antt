@@ -84,7 +84,8 @@ walk_none ss (Down r name from to last) = by (from == to)
     ends None = refl
     ends (Some k) = refl
 
-    by : (b : Bool) → words_in (cond b (last_order r name (space_path ss to) last) (Some (Leads r name (space_path ss from) (slot_at ss (child_towards ss from to))))) ≡ no_words
+    by : (b : Bool) → words_in (cond b (last_order r name (space_path ss to) last)
+        (Some (Leads r name (space_path ss from) (slot_at ss (child_towards ss from to))))) ≡ no_words
     by true = ends last
     by false = refl
 
@@ -134,7 +135,8 @@ module _ (ss : List SpaceRec) (slot : ℕ) (bind : ℕ → ℕ) (n : ℕ) (s : S
       by : (o : Option ObjectRec) → Silent (elim o [ None ↦ Nothing | Some o ↦ inward_part ss slot bind n s o.slot o.body k ])
       by None = refl
       by (Some o) =
-          if_silent (k == 0) (walks_to ss slot bind n s script.T n (link_of o.body)) (cond (k == 1) (points_to ss slot bind n s o.slot (link_of o.body)) Nothing)
+          if_silent (k == 0) (walks_to ss slot bind n s script.T n (link_of o.body))
+          (cond (k == 1) (points_to ss slot bind n s o.slot (link_of o.body)) Nothing)
           (walks_none script.T n (link_of o.body))
           (if_silent (k == 1) (points_to ss slot bind n s o.slot (link_of o.body)) Nothing (points_to_none o.slot (link_of o.body)) refl)
 

@@ -68,7 +68,8 @@ module _ (ss : List SpaceRec) (slot : ℕ) (bind : ℕ → ℕ) where
 
   -- ---- from space to space
 
-  rooms_next : (pass : Pass) (n : ℕ) (s : SpaceRec) → slice_get ss n ≡ Some s → rooms_left pass (drop n ss) ≡ (10 + items_of pass s * 8) + rooms_left pass (drop (suc n) ss)
+  rooms_next : (pass : Pass) (n : ℕ) (s : SpaceRec) → slice_get ss n ≡ Some s
+      → rooms_left pass (drop n ss) ≡ (10 + items_of pass s * 8) + rooms_left pass (drop (suc n) ss)
   rooms_next pass n s here = ap (rooms_left pass) (drop_at ss n s here)
 
   item_here : (pass : Pass) (n j k : ℕ) (s : SpaceRec) → slice_get ss n ≡ Some s → item_left pass j k (slice_get ss n) ≡ (items_of pass s - j) * 8 + (7 - k)
@@ -89,7 +90,8 @@ module _ (ss : List SpaceRec) (slot : ℕ) (bind : ℕ → ℕ) where
 
           enter : (t : Bool) → Less (enters t) pass (spots.Room n)
           enter true =
-              let e = rooms_next pass n s here in let f = item_here pass n 0 0 s here in let w = walk_small (goes ss slot a (site pass n s)) in omega (arith, e, f, w)
+              let e = rooms_next pass n s here in let f = item_here pass n 0 0 s here in
+              let w = walk_small (goes ss slot a (site pass n s)) in omega (arith, e, f, w)
           enter false = let e = rooms_next pass n s here in let w = walk_small (goes ss slot a (site pass n s)) in omega (arith, e, w)
 
           visit : (t : Bool) → Less (cond t (enters (nat_lt 0 (items_of pass s))) (at ss slot bind pass a (spots.Room (suc n)))) pass (spots.Room n)
@@ -126,19 +128,24 @@ module _ (ss : List SpaceRec) (slot : ℕ) (bind : ℕ → ℕ) where
           part (inl lt) =
               let ahead = item_here pass n j (suc k) s here in
               let small = walk_small walk in
-              subst (λ t. Less (cond t walking (moving (ltb (suc j) (items_of pass s)))) pass (spots.Part n j k)) (sym (lt-ltb k 6 lt)) (omega (arith, now, ahead, small, lt))
+              subst (λ t. Less (cond t walking (moving (ltb (suc j) (items_of pass s)))) pass (spots.Part n j k)) (sym (lt-ltb k 6 lt))
+              (omega (arith, now, ahead, small, lt))
           part (inr le) =
-              subst (λ t. Less (cond t walking (moving (ltb (suc j) (items_of pass s)))) pass (spots.Part n j k)) (sym (le-ltb k 6 le)) (item (cases_lt (suc j) (items_of pass s)))
+              subst (λ t. Less (cond t walking (moving (ltb (suc j) (items_of pass s)))) pass (spots.Part n j k)) (sym (le-ltb k 6 le))
+              (item (cases_lt (suc j) (items_of pass s)))
 
   -- ---- any empty place
 
-  spot_falls : (pass : Pass) (a : ℕ) (spot : Spot) → spot_order ss slot bind pass spot ≡ None → closes walks.Done pass spot ≡ false → Less (spot_next ss slot bind pass a spot) pass spot
+  spot_falls : (pass : Pass) (a : ℕ) (spot : Spot) → spot_order ss slot bind pass spot ≡ None → closes walks.Done pass spot ≡ false
+      → Less (spot_next ss slot bind pass a spot) pass spot
   spot_falls pass a (Before k) none more =
-      subst (λ t. Less (cond t (at ss slot bind pass a (spots.Before (suc k))) (at ss slot bind pass a (spots.Room 0))) pass (spots.Before k)) (sym (past (before ss slot bind pass) k none)) (omega arith)
+      subst (λ t. Less (cond t (at ss slot bind pass a (spots.Before (suc k))) (at ss slot bind pass a (spots.Room 0))) pass (spots.Before k))
+      (sym (past (before ss slot bind pass) k none)) (omega arith)
   spot_falls pass a (Room n) none more = after_room pass a n
   spot_falls pass a (Part n j k) none more = after_part pass a n j k
   spot_falls pass a (After k) none more =
-      subst (λ t. Less (cond t (at ss slot bind pass a (spots.After (suc k))) (next_pass ss slot bind pass a)) pass (spots.After k)) (sym (past (behind ss pass) k none)) (after_pass pass a k more)
+      subst (λ t. Less (cond t (at ss slot bind pass a (spots.After (suc k))) (next_pass ss slot bind pass a)) pass (spots.After k))
+      (sym (past (behind ss pass) k none)) (after_pass pass a k more)
 
   -- a walk without an order is at its end
   walk_ends : (w : Walk) → is_walking ss slot bind w ≡ true → walk_order ss w ≡ None → walk_left (walk_next ss w) < walk_left w
@@ -146,7 +153,8 @@ module _ (ss : List SpaceRec) (slot : ℕ) (bind : ℕ → ℕ) where
   walk_ends (Top r) on none = absurd cc
   walk_ends (Down r name from to last) on none = by (from == to) none
     where
-      by : (t : Bool) → cond t (last_order r name (space_path ss to) last) (Some (Leads r name (space_path ss from) (slot_at ss (child_towards ss from to)))) ≡ None → walk_left (cond t walks.Done (walks.Down r r (child_towards ss from to) to last)) < 1
+      by : (t : Bool) → cond t (last_order r name (space_path ss to) last) (Some (Leads r name (space_path ss from) (slot_at ss (child_towards ss from to))))
+          ≡ None → walk_left (cond t walks.Done (walks.Down r r (child_towards ss from to) to last)) < 1
       by true none = omega arith
       by false none = absurd cc
 
@@ -154,7 +162,8 @@ module _ (ss : List SpaceRec) (slot : ℕ) (bind : ℕ → ℕ) where
   falls p none more = by p.walk none more
     where
       by : (w : Walk) → cond (is_walking ss slot bind w) (walk_order ss w) (spot_order ss slot bind p.pass p.spot) ≡ None → closes w p.pass p.spot ≡ false →
-          places_left ss (cond (is_walking ss slot bind w) (record p { walk = walk_next ss w }) (spot_next ss slot bind p.pass p.stands p.spot)) < (later ss p.pass + spot_left ss p.pass p.spot) * 2 + walk_left w
+          places_left ss (cond (is_walking ss slot bind w) (record p { walk = walk_next ss w }) (spot_next ss slot bind p.pass p.stands p.spot)) <
+          (later ss p.pass + spot_left ss p.pass p.spot) * 2 + walk_left w
       by Done none more = let less = spot_falls p.pass p.stands p.spot none more in omega (arith, less)
       by (Top r) none more = absurd cc
       by (Down r name from to last) none more = let less = walk_ends (walks.Down r name from to last) refl none in omega (arith, less)
@@ -179,7 +188,8 @@ over_at k none = ap (λ (os : List Order). os ++ []) (out script.closes k none)
 pub ends : (ss : List SpaceRec) (slot : ℕ) (bind : ℕ → ℕ) (p : Position) → is_closing p ≡ true → order_at ss slot bind p ≡ None → rest ss slot bind p ≡ []
 ends ss slot bind p last none = by p.walk p.pass p.spot last none
   where
-    by : (w : Walk) (pass : Pass) (spot : Spot) → closes w pass spot ≡ true → cond (is_walking ss slot bind w) (walk_order ss w) (spot_order ss slot bind pass spot) ≡ None →
+    by : (w : Walk) (pass : Pass) (spot : Spot) → closes w pass spot ≡ true
+        → cond (is_walking ss slot bind w) (walk_order ss w) (spot_order ss slot bind pass spot) ≡ None →
         walk_rest ss w ++ spot_rest ss slot bind pass p.stands spot ≡ []
     by Done Holds (After k) last none = over_at k none
     by Done Holds (Before k) last none = absurd cc
@@ -194,7 +204,8 @@ ends ss slot bind p last none = by p.walk p.pass p.spot last none
     by (Down r name from to to_slot) pass spot last none = absurd cc
 
 -- an order that stands there is the next
-pub stands : (i : Image) (slot : ℕ) (bind : ℕ → ℕ) (p : Position) (o : Order) → is_valid i ≡ true → IsPosition i.spaces slot bind p → order_at i.spaces slot bind p ≡ Some o →
+pub stands : (i : Image) (slot : ℕ) (bind : ℕ → ℕ) (p : Position) (o : Order) → is_valid i ≡ true → IsPosition i.spaces slot bind p
+    → order_at i.spaces slot bind p ≡ Some o →
     (rest i.spaces slot bind p ≡ o ∷ rest i.spaces slot bind (next_of i.spaces slot bind p)) × IsPosition i.spaces slot bind (next_of i.spaces slot bind p)
 stands i slot bind p o valid good some =
     let step = positions_are_the_places i slot bind p valid good in

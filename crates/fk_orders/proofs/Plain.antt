@@ -79,7 +79,8 @@ walk_plain ss (Down r name from to last) = by (from == to)
     ends None = refl
     ends (Some k) = refl
 
-    by : (b : Bool) → look_in (cond b (last_order r name (space_path ss to) last) (Some (Leads r name (space_path ss from) (slot_at ss (child_towards ss from to))))) ≡ looks.Plain
+    by : (b : Bool) → look_in (cond b (last_order r name (space_path ss to) last)
+        (Some (Leads r name (space_path ss from) (slot_at ss (child_towards ss from to))))) ≡ looks.Plain
     by true = ends last
     by false = refl
 
@@ -93,7 +94,8 @@ module _ (ss : List SpaceRec) (slot : ℕ) (bind : ℕ → ℕ) (n : ℕ) (s : S
   if_quiet true p q hp hq = hp
   if_quiet false p q hp hq = hq
 
-  object_quiet : (order : ObjectRec → Order) → ((o : ObjectRec) → look_of (order o) ≡ looks.Plain) → (j : ℕ) (os : List ObjectRec) → Quiet (words.object_part ss slot bind n s order j os)
+  object_quiet : (order : ObjectRec → Order) → ((o : ObjectRec) → look_of (order o) ≡ looks.Plain) → (j : ℕ) (os : List ObjectRec)
+      → Quiet (words.object_part ss slot bind n s order j os)
   object_quiet order each j os = by (slice_get os j)
     where
       by : (o : Option ObjectRec) → Quiet (elim o [ None ↦ Nothing | Some o ↦ Asks (order o) ])
@@ -149,7 +151,8 @@ module _ (ss : List SpaceRec) (slot : ℕ) (bind : ℕ → ℕ) (n : ℕ) (s : S
       (if_quiet (k == 0) _ _ (walks_quiet script.T n t.port) (if_quiet (k == 1) _ _ (walks_quiet script.U n t.server) refl)) refl
 
   taken_quiet : (x k : ℕ) (f : FaultRec) (taker : Option Link) → Quiet (words.taken_part ss slot bind n s x k f taker)
-  taken_quiet x k f None = if_quiet (leads_within f.port) _ Nothing (if_quiet (k == 0) _ _ (walks_quiet script.T n f.port) (if_quiet (k == 1) Nothing _ refl refl)) refl
+  taken_quiet x k f None = if_quiet (leads_within f.port) _ Nothing
+      (if_quiet (k == 0) _ _ (walks_quiet script.T n f.port) (if_quiet (k == 1) Nothing _ refl refl)) refl
   taken_quiet x k f (Some to) =
       if_quiet (words.is_pair ss slot bind n s f.port to) _ Nothing
       (if_quiet (k == 0) _ _ (walks_quiet script.T n f.port) (if_quiet (k == 1) _ _ (walks_quiet script.U n to) refl)) refl
@@ -163,7 +166,8 @@ module _ (ss : List SpaceRec) (slot : ℕ) (bind : ℕ → ℕ) (n : ℕ) (s : S
       if_quiet (nat_lt k 3) (words.talk_part ss slot bind n s x k (talk_of r)) _ (talk_quiet x k (talk_of r))
       (if_quiet (nat_lt k 6) (words.fault_part ss slot bind n s x (k - 3) (fault_of r)) Nothing (fault_quiet x (k - 3) (fault_of r)) refl)
 
-  objects_quiet : (parts : ℕ → Rec → ℕ → Part) → ((x : ℕ) (r : Rec) (k : ℕ) → Quiet (parts x r k)) → (j k : ℕ) → Quiet (words.object_parts ss slot bind n s parts j k)
+  objects_quiet : (parts : ℕ → Rec → ℕ → Part) → ((x : ℕ) (r : Rec) (k : ℕ) → Quiet (parts x r k)) → (j k : ℕ)
+      → Quiet (words.object_parts ss slot bind n s parts j k)
   objects_quiet parts each j k = by (slice_get s.objects j)
     where
       by : (o : Option ObjectRec) → Quiet (elim o [ None ↦ Nothing | Some o ↦ parts o.slot o.body k ])
@@ -175,14 +179,16 @@ module _ (ss : List SpaceRec) (slot : ℕ) (bind : ℕ → ℕ) (n : ℕ) (s : S
   part_quiet Fills j k =
       if_quiet (k == 0) (words.fills_item ss slot bind n s j) Nothing
       (if_quiet (nat_lt j (length s.objects)) _ _ (object_quiet (words.makes_object ss slot bind n s) (λ o. refl) j s.objects)
-      (if_quiet (nat_lt j (length s.objects + length s.objects)) _ _ (object_quiet (words.sets_object ss slot bind n s) (λ o. refl) (j - length s.objects) s.objects)
+      (if_quiet (nat_lt j (length s.objects + length s.objects)) _ _
+      (object_quiet (words.sets_object ss slot bind n s) (λ o. refl) (j - length s.objects) s.objects)
       (page_quiet (j - (length s.objects + length s.objects))))) refl
   part_quiet Inward j k = objects_quiet (words.inward_part ss slot bind n s) inward_quiet j k
   part_quiet (Outward i) j k = objects_quiet (words.outward_part ss slot bind n s i) (outward_quiet i) j k
   part_quiet Ties j k = objects_quiet (words.ties_part ss slot bind n s) ties_quiet j k
   part_quiet Holds j k = if_quiet (leads_within s.holder) _ Nothing (if_quiet (k == 0) _ _ refl (if_quiet (k == 1) _ Nothing refl refl)) refl
 
-pub part_plain : (ss : List SpaceRec) (slot : ℕ) (bind : ℕ → ℕ) (pass : Pass) (n j k : ℕ) (o : Option SpaceRec) → look_in (asked_in ss slot bind pass n j k o) ≡ looks.Plain
+pub part_plain : (ss : List SpaceRec) (slot : ℕ) (bind : ℕ → ℕ) (pass : Pass) (n j k : ℕ) (o : Option SpaceRec)
+    → look_in (asked_in ss slot bind pass n j k o) ≡ looks.Plain
 part_plain ss slot bind pass n j k None = refl
 part_plain ss slot bind pass n j k (Some s) = by (nat_lt k 6)
   where

@@ -55,9 +55,11 @@ module _ (i : Image) (slot : ℕ) (bind : ℕ → ℕ) where
       (λ j. cond (e j) (pins (bind out)) [] ++ (none.0 j ++ (cond (e j) (LeadsTop T ∷ []) [] ++ onwards ss slot bind (passes.Outward out) (none.1 j))))
 
   abbrev Next : ℕ → ℕ → Bool → Position
-  Next out a t = cond (ltb 0 (length {A = Order} (cond t (LeadsTop T ∷ []) []))) (at ss slot bind (passes.Outward out) a (spots.After 1)) (next_pass ss slot bind (passes.Outward out) a)
+  Next out a t = cond (ltb 0 (length {A = Order} (cond t (LeadsTop T ∷ []) []))) (at ss slot bind (passes.Outward out) a (spots.After 1))
+      (next_pass ss slot bind (passes.Outward out) a)
 
-  pass_next : (out a : ℕ) → is_valid i ≡ true → IsPosition ss slot bind (at ss slot bind (passes.Outward out) a (spots.After 0)) → leads_out_any ss out ≡ false →
+  pass_next : (out a : ℕ) → is_valid i ≡ true → IsPosition ss slot bind (at ss slot bind (passes.Outward out) a (spots.After 0))
+      → leads_out_any ss out ≡ false →
       (onwards ss slot bind (passes.Outward out) a ≡ rest ss slot bind (next_pass ss slot bind (passes.Outward out) a))
       × IsPosition ss slot bind (next_pass ss slot bind (passes.Outward out) a)
   pass_next out a valid good e =

@@ -12,7 +12,8 @@ use Rattle.fk_positions.specs.Passes.Part.{Nothing, Asks}
 use Rattle.fk_positions.specs.Positions.{asked, asked_in}
 use Rattle.fk_positions.specs.Doing.{doing_of}
 
-pub object_asked : (ss : List SpaceRec) (slot : ℕ) (bind : ℕ → ℕ) (n : ℕ) (s : SpaceRec) (order : ObjectRec → Order) (j : ℕ) (os : List ObjectRec) (o : ObjectRec) (stage : Stage) →
+pub object_asked : (ss : List SpaceRec) (slot : ℕ) (bind : ℕ → ℕ) (n : ℕ) (s : SpaceRec) (order : ObjectRec
+    → Order) (j : ℕ) (os : List ObjectRec) (o : ObjectRec) (stage : Stage) →
     slice_get os j ≡ Some o → stage ≡ stage_of slot (order o) → Calls stage ≡ doing_of slot (object_part ss slot bind n s order j os)
 object_asked ss slot bind n s order j os o stage here e =
     ap Calls e ∙ sym (ap (λ (x : Option ObjectRec). doing_of slot (elim x [ None ↦ Nothing | Some o ↦ Asks (order o) ])) here)

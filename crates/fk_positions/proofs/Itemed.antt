@@ -44,32 +44,48 @@ module _ (ss : List SpaceRec) (tree : IsTree ss) (nested : IsNested ss) (slot : 
 
   next_made : (a b c : ℕ) (o : ObjectRec) → slice_get s.objects a ≡ Some o → filled a b c ≡ makes_object ss slot bind n s o ∷ filled (suc a) b c
   next_made a b c o e =
-      ap (λ (os : List Order). os ++ (flat_map (λ (o : ObjectRec). sets_object ss slot bind n s o ∷ []) (drop b s.objects) ++ flat_map (λ (p : PageRec). Gives P (space_path ss n) p.page p.words ∷ []) (drop c s.pages)))
-      (ap (flat_map (λ (o : ObjectRec). makes_object ss slot bind n s o ∷ [])) (drop_at s.objects a o e) ∙ flat_map-cons (λ (o : ObjectRec). makes_object ss slot bind n s o ∷ []) o (drop (suc a) s.objects))
+      ap (λ (os : List Order). os ++ (flat_map (λ (o : ObjectRec). sets_object ss slot bind n s o ∷ []) (drop b s.objects)
+      ++ flat_map (λ (p : PageRec). Gives P (space_path ss n) p.page p.words ∷ []) (drop c s.pages)))
+      (ap (flat_map (λ (o : ObjectRec). makes_object ss slot bind n s o ∷ [])) (drop_at s.objects a o e)
+      ∙ flat_map-cons (λ (o : ObjectRec). makes_object ss slot bind n s o ∷ []) o (drop (suc a) s.objects))
 
   next_told : (a b c : ℕ) (o : ObjectRec) → many ≤ a → slice_get s.objects b ≡ Some o → filled a b c ≡ sets_object ss slot bind n s o ∷ filled (suc a) (suc b) c
   next_told a b c o le e =
-      ap (λ (os : List ObjectRec). flat_map (λ (o : ObjectRec). makes_object ss slot bind n s o ∷ []) os ++ (flat_map (λ (o : ObjectRec). sets_object ss slot bind n s o ∷ []) (drop b s.objects) ++ flat_map (λ (p : PageRec). Gives P (space_path ss n) p.page p.words ∷ []) (drop c s.pages)))
+      ap (λ (os : List ObjectRec). flat_map (λ (o : ObjectRec). makes_object ss slot bind n s o ∷ []) os
+      ++ (flat_map (λ (o : ObjectRec). sets_object ss slot bind n s o ∷ []) (drop b s.objects)
+      ++ flat_map (λ (p : PageRec). Gives P (space_path ss n) p.page p.words ∷ []) (drop c s.pages)))
       (drop_out s.objects a le)
       ∙ ap (λ (os : List Order). os ++ flat_map (λ (p : PageRec). Gives P (space_path ss n) p.page p.words ∷ []) (drop c s.pages))
-      (ap (flat_map (λ (o : ObjectRec). sets_object ss slot bind n s o ∷ [])) (drop_at s.objects b o e) ∙ flat_map-cons (λ (o : ObjectRec). sets_object ss slot bind n s o ∷ []) o (drop (suc b) s.objects))
-      ∙ ap (λ (os : List ObjectRec). sets_object ss slot bind n s o ∷ (flat_map (λ (o : ObjectRec). makes_object ss slot bind n s o ∷ []) os ++ (flat_map (λ (o : ObjectRec). sets_object ss slot bind n s o ∷ []) (drop (suc b) s.objects) ++ flat_map (λ (p : PageRec). Gives P (space_path ss n) p.page p.words ∷ []) (drop c s.pages))))
+      (ap (flat_map (λ (o : ObjectRec). sets_object ss slot bind n s o ∷ [])) (drop_at s.objects b o e)
+      ∙ flat_map-cons (λ (o : ObjectRec). sets_object ss slot bind n s o ∷ []) o (drop (suc b) s.objects))
+      ∙ ap (λ (os : List ObjectRec). sets_object ss slot bind n s o
+      ∷ (flat_map (λ (o : ObjectRec). makes_object ss slot bind n s o ∷ []) os
+      ++ (flat_map (λ (o : ObjectRec). sets_object ss slot bind n s o ∷ []) (drop (suc b) s.objects)
+      ++ flat_map (λ (p : PageRec). Gives P (space_path ss n) p.page p.words ∷ []) (drop c s.pages))))
       (sym (drop_out s.objects (suc a) (omega (arith, le))))
 
-  next_given : (a b c : ℕ) (p : PageRec) → many ≤ a → many ≤ b → slice_get s.pages c ≡ Some p → filled a b c ≡ Gives P (space_path ss n) p.page p.words ∷ filled (suc a) (suc b) (suc c)
+  next_given : (a b c : ℕ) (p : PageRec) → many ≤ a → many ≤ b → slice_get s.pages c ≡ Some p
+      → filled a b c ≡ Gives P (space_path ss n) p.page p.words ∷ filled (suc a) (suc b) (suc c)
   next_given a b c p le ge e =
-      ap (λ (os : List ObjectRec). flat_map (λ (o : ObjectRec). makes_object ss slot bind n s o ∷ []) os ++ (flat_map (λ (o : ObjectRec). sets_object ss slot bind n s o ∷ []) (drop b s.objects) ++ flat_map (λ (p : PageRec). Gives P (space_path ss n) p.page p.words ∷ []) (drop c s.pages)))
+      ap (λ (os : List ObjectRec). flat_map (λ (o : ObjectRec). makes_object ss slot bind n s o ∷ []) os
+      ++ (flat_map (λ (o : ObjectRec). sets_object ss slot bind n s o ∷ []) (drop b s.objects)
+      ++ flat_map (λ (p : PageRec). Gives P (space_path ss n) p.page p.words ∷ []) (drop c s.pages)))
       (drop_out s.objects a le)
-      ∙ ap (λ (os : List ObjectRec). flat_map (λ (o : ObjectRec). sets_object ss slot bind n s o ∷ []) os ++ flat_map (λ (p : PageRec). Gives P (space_path ss n) p.page p.words ∷ []) (drop c s.pages))
+      ∙ ap (λ (os : List ObjectRec). flat_map (λ (o : ObjectRec). sets_object ss slot bind n s o ∷ []) os
+      ++ flat_map (λ (p : PageRec). Gives P (space_path ss n) p.page p.words ∷ []) (drop c s.pages))
       (drop_out s.objects b ge)
-      ∙ (ap (flat_map (λ (p : PageRec). Gives P (space_path ss n) p.page p.words ∷ [])) (drop_at s.pages c p e) ∙ flat_map-cons (λ (p : PageRec). Gives P (space_path ss n) p.page p.words ∷ []) p (drop (suc c) s.pages))
+      ∙ (ap (flat_map (λ (p : PageRec). Gives P (space_path ss n) p.page p.words ∷ [])) (drop_at s.pages c p e)
+      ∙ flat_map-cons (λ (p : PageRec). Gives P (space_path ss n) p.page p.words ∷ []) p (drop (suc c) s.pages))
       ∙ sym (ap (λ (os : List Order). Gives P (space_path ss n) p.page p.words ∷ os) (empty (suc a) (suc b) (suc c) (omega (arith, le)) (omega (arith, ge))))
     where
       empty : (a b c : ℕ) → many ≤ a → many ≤ b → filled a b c ≡ flat_map (λ (p : PageRec). Gives P (space_path ss n) p.page p.words ∷ []) (drop c s.pages)
       empty a b c le ge =
-          ap (λ (os : List ObjectRec). flat_map (λ (o : ObjectRec). makes_object ss slot bind n s o ∷ []) os ++ (flat_map (λ (o : ObjectRec). sets_object ss slot bind n s o ∷ []) (drop b s.objects) ++ flat_map (λ (p : PageRec). Gives P (space_path ss n) p.page p.words ∷ []) (drop c s.pages)))
+          ap (λ (os : List ObjectRec). flat_map (λ (o : ObjectRec). makes_object ss slot bind n s o ∷ []) os
+          ++ (flat_map (λ (o : ObjectRec). sets_object ss slot bind n s o ∷ []) (drop b s.objects)
+          ++ flat_map (λ (p : PageRec). Gives P (space_path ss n) p.page p.words ∷ []) (drop c s.pages)))
           (drop_out s.objects a le)
-          ∙ ap (λ (os : List ObjectRec). flat_map (λ (o : ObjectRec). sets_object ss slot bind n s o ∷ []) os ++ flat_map (λ (p : PageRec). Gives P (space_path ss n) p.page p.words ∷ []) (drop c s.pages))
+          ∙ ap (λ (os : List ObjectRec). flat_map (λ (o : ObjectRec). sets_object ss slot bind n s o ∷ []) os
+          ++ flat_map (λ (p : PageRec). Gives P (space_path ss n) p.page p.words ∷ []) (drop c s.pages))
           (drop_out s.objects b ge)
 
   none_left : (a b c : ℕ) → many ≤ a → many ≤ b → length s.pages ≤ c → filled a b c ≡ []
@@ -84,7 +100,8 @@ module _ (ss : List SpaceRec) (tree : IsTree ss) (nested : IsNested ss) (slot : 
   fills_six : (j : ℕ) → six_of Fills j ≡ part_orders ss slot bind (fills_item ss slot bind n s j)
   fills_six j = append-nil (part_orders ss slot bind (fills_item ss slot bind n s j))
 
-  object_is : (order : ObjectRec → Order) (j : ℕ) (o : ObjectRec) → slice_get s.objects j ≡ Some o → object_part ss slot bind n s order j s.objects ≡ Asks (order o)
+  object_is : (order : ObjectRec → Order) (j : ℕ) (o : ObjectRec) → slice_get s.objects j ≡ Some o
+      → object_part ss slot bind n s order j s.objects ≡ Asks (order o)
   object_is order j o e = ap by e
     where
       by : Option ObjectRec → Part
@@ -105,7 +122,9 @@ module _ (ss : List SpaceRec) (tree : IsTree ss) (nested : IsNested ss) (slot : 
       by (inl low) second =
           let o = at_of s.objects j low in
           let first : fills_item ss slot bind n s j ≡ Asks (makes_object ss slot bind n s o.item) =
-          ap (λ t. cond t (object_part ss slot bind n s (makes_object ss slot bind n s) j s.objects) (cond (ltb j (many + many)) (object_part ss slot bind n s (sets_object ss slot bind n s) (j - many) s.objects) (page_part ss slot bind n s (j - (many + many)) s.pages))) (lt-ltb j many low)
+          ap (λ t. cond t (object_part ss slot bind n s (makes_object ss slot bind n s) j s.objects)
+          (cond (ltb j (many + many)) (object_part ss slot bind n s (sets_object ss slot bind n s) (j - many) s.objects)
+          (page_part ss slot bind n s (j - (many + many)) s.pages))) (lt-ltb j many low)
           ∙ object_is (makes_object ss slot bind n s) j o.item o.is in
           numbers j 0 0 (omega (arith, low)) (omega (arith, low)) ∙ next_made j 0 0 o.item o.is
           ∙ sym ((λ i. (fills_six j ∙ ap (part_orders ss slot bind) first) i ++ numbers (suc j) 0 0 (omega (arith, low)) (omega (arith, low)) i))
@@ -114,8 +133,11 @@ module _ (ss : List SpaceRec) (tree : IsTree ss) (nested : IsNested ss) (slot : 
           let o = at_of s.objects b (omega (arith, high, low)) in
           let next : suc j - many ≡ suc b = omega (arith, high) in
           let first : fills_item ss slot bind n s j ≡ Asks (sets_object ss slot bind n s o.item) =
-          ap (λ t. cond t (object_part ss slot bind n s (makes_object ss slot bind n s) j s.objects) (cond (ltb j (many + many)) (object_part ss slot bind n s (sets_object ss slot bind n s) (j - many) s.objects) (page_part ss slot bind n s (j - (many + many)) s.pages))) (le-ltb j many high)
-          ∙ ap (λ t. cond t (object_part ss slot bind n s (sets_object ss slot bind n s) (j - many) s.objects) (page_part ss slot bind n s (j - (many + many)) s.pages)) (lt-ltb j (many + many) low)
+          ap (λ t. cond t (object_part ss slot bind n s (makes_object ss slot bind n s) j s.objects)
+          (cond (ltb j (many + many)) (object_part ss slot bind n s (sets_object ss slot bind n s) (j - many) s.objects)
+          (page_part ss slot bind n s (j - (many + many)) s.pages))) (le-ltb j many high)
+          ∙ ap (λ t. cond t (object_part ss slot bind n s (sets_object ss slot bind n s) (j - many) s.objects)
+          (page_part ss slot bind n s (j - (many + many)) s.pages)) (lt-ltb j (many + many) low)
           ∙ object_is (sets_object ss slot bind n s) b o.item o.is in
           numbers j b 0 refl (omega (arith, low)) ∙ next_told j b 0 o.item high o.is
           ∙ sym ((λ i. (fills_six j ∙ ap (part_orders ss slot bind) first) i ++ numbers (suc j) (suc b) 0 next (omega (arith, low)) i))
@@ -126,8 +148,11 @@ module _ (ss : List SpaceRec) (tree : IsTree ss) (nested : IsNested ss) (slot : 
           let next : suc j - many ≡ suc b = omega (arith, high) in
           let next_page : suc j - (many + many) ≡ suc c = omega (arith, last) in
           let first : fills_item ss slot bind n s j ≡ Asks (Gives P (space_path ss n) p.item.page p.item.words) =
-          ap (λ t. cond t (object_part ss slot bind n s (makes_object ss slot bind n s) j s.objects) (cond (ltb j (many + many)) (object_part ss slot bind n s (sets_object ss slot bind n s) (j - many) s.objects) (page_part ss slot bind n s (j - (many + many)) s.pages))) (le-ltb j many high)
-          ∙ ap (λ t. cond t (object_part ss slot bind n s (sets_object ss slot bind n s) (j - many) s.objects) (page_part ss slot bind n s (j - (many + many)) s.pages)) (le-ltb j (many + many) last)
+          ap (λ t. cond t (object_part ss slot bind n s (makes_object ss slot bind n s) j s.objects)
+          (cond (ltb j (many + many)) (object_part ss slot bind n s (sets_object ss slot bind n s) (j - many) s.objects)
+          (page_part ss slot bind n s (j - (many + many)) s.pages))) (le-ltb j many high)
+          ∙ ap (λ t. cond t (object_part ss slot bind n s (sets_object ss slot bind n s) (j - many) s.objects)
+          (page_part ss slot bind n s (j - (many + many)) s.pages)) (le-ltb j (many + many) last)
           ∙ page_is c p.item p.is in
           numbers j b c refl refl ∙ next_given j b c p.item high (omega (arith, last)) p.is
           ∙ sym ((λ i. (fills_six j ∙ ap (part_orders ss slot bind) first) i ++ numbers (suc j) (suc b) (suc c) next next_page i))
@@ -144,15 +169,21 @@ module _ (ss : List SpaceRec) (tree : IsTree ss) (nested : IsNested ss) (slot : 
   item_law Inward j lt =
       let o = at_of s.objects j lt in
       item_orders ss tree nested slot bind n s is (points_body slot) j o.item o.is
-      ∙ ap (λ (os : List Order). os ++ from_at Inward (suc j)) (sym (object_six ss tree nested slot bind n s is (inward_part ss slot bind n s) j o.item o.is ∙ inward_six ss tree nested slot bind n s is o.item.slot o.item.body (linked j o.item o.is).link))
+      ∙ ap (λ (os : List Order). os ++ from_at Inward (suc j))
+      (sym (object_six ss tree nested slot bind n s is (inward_part ss slot bind n s) j o.item o.is
+      ∙ inward_six ss tree nested slot bind n s is o.item.slot o.item.body (linked j o.item o.is).link))
   item_law (Outward i) j lt =
       let o = at_of s.objects j lt in
       item_orders ss tree nested slot bind n s is (leads_body_out i bind) j o.item o.is
-      ∙ ap (λ (os : List Order). os ++ from_at (Outward i) (suc j)) (sym (object_six ss tree nested slot bind n s is (outward_part ss slot bind n s i) j o.item o.is ∙ outward_six ss tree nested slot bind n s is i o.item.slot o.item.body))
+      ∙ ap (λ (os : List Order). os ++ from_at (Outward i) (suc j))
+      (sym (object_six ss tree nested slot bind n s is (outward_part ss slot bind n s i) j o.item o.is
+      ∙ outward_six ss tree nested slot bind n s is i o.item.slot o.item.body))
   item_law Ties j lt =
       let o = at_of s.objects j lt in
       item_orders ss tree nested slot bind n s is (ties_body slot) j o.item o.is
-      ∙ ap (λ (os : List Order). os ++ from_at Ties (suc j)) (sym (object_six ss tree nested slot bind n s is (ties_part ss slot bind n s) j o.item o.is ∙ ties_six ss tree nested slot bind n s is o.item.slot o.item.body (linked j o.item o.is)))
+      ∙ ap (λ (os : List Order). os ++ from_at Ties (suc j))
+      (sym (object_six ss tree nested slot bind n s is (ties_part ss slot bind n s) j o.item o.is
+      ∙ ties_six ss tree nested slot bind n s is o.item.slot o.item.body (linked j o.item o.is)))
   item_law HoldsPass zero lt = by (leads_within s.holder)
     where
       order : Order
@@ -160,7 +191,9 @@ module _ (ss : List SpaceRec) (tree : IsTree ss) (nested : IsNested ss) (slot : 
 
       by : (t : Bool) → cond t (walk_rest ss (leads ss slot T s.parent s.holder) ++ order ∷ []) []
           ≡ (part_orders ss slot bind (cond t (Walks (leads ss slot T s.parent s.holder)) Nothing) ++ (part_orders ss slot bind (cond t (Asks order) Nothing)
-          ++ (part_orders ss slot bind (cond t Nothing Nothing) ++ (part_orders ss slot bind (cond t Nothing Nothing) ++ (part_orders ss slot bind (cond t Nothing Nothing) ++ (part_orders ss slot bind (cond t Nothing Nothing) ++ [])))))) ++ []
+          ++ (part_orders ss slot bind (cond t Nothing Nothing)
+          ++ (part_orders ss slot bind (cond t Nothing Nothing)
+          ++ (part_orders ss slot bind (cond t Nothing Nothing) ++ (part_orders ss slot bind (cond t Nothing Nothing) ++ [])))))) ++ []
       by true = sym (append-nil (walk_rest ss (leads ss slot T s.parent s.holder) ++ order ∷ []))
       by false = refl
   item_law HoldsPass (suc j) lt = absurd (omega (arith, lt))

@@ -86,7 +86,8 @@ module _ (i : Image) (tree : IsTree i.spaces) (full : IsFull i.spaces) where
 
   talk : (t : Option TalkRec) → talk_leads ss t ≡ true → IsLinkedTalk ss t
   talk None e = tt
-  talk (Some t) e = let both = and_parts (leads_to_port ss t.port) (serves_port ss t.port t.server) e in (port t.port both.0, served t.port t.server both.0 both.1)
+  talk (Some t) e = let both = and_parts (leads_to_port ss t.port) (serves_port ss t.port t.server) e in
+      (port t.port both.0, served t.port t.server both.0 both.1)
 
   fault : (f : Option FaultRec) → fault_leads ss f ≡ true → IsLinkedFault ss f
   fault None e = tt
@@ -103,13 +104,16 @@ module _ (i : Image) (tree : IsTree i.spaces) (full : IsFull i.spaces) where
   rec os (Mapping first count offset write to) e = record { link = region to e; talk = tt; fault = tt }
   rec os (Region first count write to) e = record { link = keeper to e; talk = tt; fault = tt }
   rec os (Port set) e = record { link = tt; talk = tt; fault = tt }
-  rec os (Thread t) e = let both = and_parts (talk_leads ss t.talk) (fault_leads ss t.fault) e in record { link = tt; talk = talk t.talk both.0; fault = fault t.fault both.1 }
+  rec os (Thread t) e = let both = and_parts (talk_leads ss t.talk) (fault_leads ss t.fault) e in
+      record { link = tt; talk = talk t.talk both.0; fault = fault t.fault both.1 }
   rec os (Reference to) e = record { link = referred to e; talk = tt; fault = tt }
 
   module _ (lead : spaces_lead ss 0 ss ≡ true) where
-    all_at : (test : Rec → Bool) (os : List ObjectRec) (j : ℕ) (o : ObjectRec) → list_all (λ (o : ObjectRec). test o.body) os ≡ true → slice_get os j ≡ Some o → test o.body ≡ true
+    all_at : (test : Rec → Bool) (os : List ObjectRec) (j : ℕ) (o : ObjectRec) → list_all (λ (o : ObjectRec). test o.body) os ≡ true → slice_get os j ≡ Some o
+        → test o.body ≡ true
     all_at test [] j o e at = absurd cc
-    all_at test (x ∷ os) zero o e at = let same : x ≡ o = cc in ap (λ (y : ObjectRec). test y.body) (sym same) ∙ (and_parts (test x.body) (list_all (λ (o : ObjectRec). test o.body) os) e).0
+    all_at test (x ∷ os) zero o e at = let same : x ≡ o = cc in ap (λ (y : ObjectRec). test y.body) (sym same)
+        ∙ (and_parts (test x.body) (list_all (λ (o : ObjectRec). test o.body) os) e).0
     all_at test (x ∷ os) (suc j) o e at = all_at test os j o (and_parts (test x.body) (list_all (λ (o : ObjectRec). test o.body) os) e).1 at
 
     pub linked_at : (n : ℕ) (s : SpaceRec) → slice_get ss n ≡ Some s → (j : ℕ) (o : ObjectRec) → slice_get s.objects j ≡ Some o → IsLinkedRec ss o.body

@@ -89,7 +89,8 @@ module _ (ss : List SpaceRec) (tree : IsTree ss) (nested : IsNested ss) (slot : 
 
   -- ---- a walk to what a pointer leads to
 
-  walks_there : (r : ℕ) (to : Link) → leads_within to ≡ true → IsLinked ss to → os_of (walks_to ss slot bind n s r n to) ≡ leads_to_at slot r q (path_of ss slot bind n s to)
+  walks_there : (r : ℕ) (to : Link) → leads_within to ≡ true → IsLinked ss to
+      → os_of (walks_to ss slot bind n s r n to) ≡ leads_to_at slot r q (path_of ss slot bind n s to)
   walks_there r (In k m) e linked = sym (leads_is ss tree nested slot r n k m is linked).0
   walks_there r Root e linked = sym (root_is ss tree nested slot r n)
   walks_there r Null e linked = absurd cc
@@ -102,7 +103,8 @@ module _ (ss : List SpaceRec) (tree : IsTree ss) (nested : IsNested ss) (slot : 
   pub inward_six : (x : ℕ) (r : Rec) → IsLinked ss (link_of r) → six (inward_part ss slot bind n s x r) ≡ points_body slot q x (pictured_body ss r)
   inward_six x r linked = link (link_of r) linked ∙ same r
     where
-      link : (to : Link) → IsLinked ss to → os_of (walks_to ss slot bind n s T n to) ++ (os_of (points_to ss slot bind n s x to) ++ []) ≡ points_in slot q x (ptr ss to)
+      link : (to : Link) → IsLinked ss to → os_of (walks_to ss slot bind n s T n to) ++ (os_of (points_to ss slot bind n s x to) ++ [])
+          ≡ points_in slot q x (ptr ss to)
       link (In k m) linked = ap (λ (os : List Order). os ++ Points P q x T ∷ []) (walks_there T (In k m) refl linked)
       link Root linked = ap (λ (os : List Order). os ++ Points P q x T ∷ []) (walks_there T Root refl linked)
       link Null linked = refl
@@ -140,19 +142,23 @@ module _ (ss : List SpaceRec) (tree : IsTree ss) (nested : IsNested ss) (slot : 
   outward_six i x (Mutex locked) = refl
   outward_six i x Cond = refl
   outward_six i x Portset = refl
-  outward_six i x (Mapping first count offset write to) = append-nil _ ∙ if_out (is_out_to i (ptr ss to)) (is_out ss slot bind n s i to) (Points P q x T) (out_same i to)
-  outward_six i x (Region first count write to) = append-nil _ ∙ if_out (is_out_to i (ptr ss to)) (is_out ss slot bind n s i to) (Points P q x T) (out_same i to)
+  outward_six i x (Mapping first count offset write to) = append-nil _
+      ∙ if_out (is_out_to i (ptr ss to)) (is_out ss slot bind n s i to) (Points P q x T) (out_same i to)
+  outward_six i x (Region first count write to) = append-nil _
+      ∙ if_out (is_out_to i (ptr ss to)) (is_out ss slot bind n s i to) (Points P q x T) (out_same i to)
   outward_six i x (Port set) = refl
   outward_six i x (Reference to) = append-nil _ ∙ if_out (is_out_to i (ptr ss to)) (is_out ss slot bind n s i to) (Points P q x T) (out_same i to)
   outward_six i x (Thread t) = λ j. talk t.talk j ++ fault t.fault j
     where
       talk : (t : Option TalkRec) → os_of (parks_talk_part ss slot bind n s i x t) ≡ parks_talk i bind q x (option_map (pictured_talk ss) t)
       talk None = refl
-      talk (Some t) = if_out (is_out_to i (ptr ss t.port)) (is_out ss slot bind n s i t.port) (ParksTalk P q x (bind i) (talk_words (pictured_talk ss t))) (out_same i t.port)
+      talk (Some t) = if_out (is_out_to i (ptr ss t.port)) (is_out ss slot bind n s i t.port) (ParksTalk P q x (bind i) (talk_words (pictured_talk ss t)))
+          (out_same i t.port)
 
       fault : (f : Option FaultRec) → os_of (parks_fault_part ss slot bind n s i x f) ++ [] ≡ parks_fault i bind q x (option_map (pictured_fault ss) f)
       fault None = refl
-      fault (Some f) = append-nil _ ∙ if_out (is_out_to i (ptr ss f.port)) (is_out ss slot bind n s i f.port) (ParksFault P q x (bind i) (taken_flag (pictured_fault ss f).taker) (fault_words (pictured_fault ss f))) (out_same i f.port)
+      fault (Some f) = append-nil _ ∙ if_out (is_out_to i (ptr ss f.port)) (is_out ss slot bind n s i f.port)
+          (ParksFault P q x (bind i) (taken_flag (pictured_fault ss f).taker) (fault_words (pictured_fault ss f))) (out_same i f.port)
 
   -- ---- talks and faults inside
 
@@ -164,14 +170,22 @@ module _ (ss : List SpaceRec) (tree : IsTree ss) (nested : IsNested ss) (slot : 
       ≡ leads_to_at slot T q (path_of ss slot bind n s port) ++ (leads_to_at slot U q (path_of ss slot bind n s thread) ++ o ∷ [])
   both_walks port thread o e f a b = λ i. walks_there T port e a i ++ (walks_there U thread f b i ++ o ∷ [])
 
-  talk_three : (x : ℕ) (t : TalkRec) → IsLinked ss t.port → IsLinked ss t.server → three (λ k. talk_part ss slot bind n s x k (Some t)) ≡ ties_talk slot q x (pictured_talk ss t) (ptr ss t.port) (peers.Server (ptr ss t.server))
+  talk_three : (x : ℕ) (t : TalkRec) → IsLinked ss t.port → IsLinked ss t.server
+      → three (λ k. talk_part ss slot bind n s x k (Some t)) ≡ ties_talk slot q x (pictured_talk ss t) (ptr ss t.port) (peers.Server (ptr ss t.server))
   talk_three x t a b = by t.port t.server a b
     where
-      by : (port server : Link) → IsLinked ss port → IsLinked ss server → three (λ k. talk_part ss slot bind n s x k (Some (record t { port = port; server = server }))) ≡ ties_talk slot q x (pictured_talk ss (record t { port = port; server = server })) (ptr ss port) (peers.Server (ptr ss server))
-      by (In k m) (In j l) a b = both_walks (In k m) (In j l) (LinksTalk P q x T U (k ∷ space_path ss m) (j ∷ space_path ss l) (talk_words (pictured_talk ss (record t { port = In k m; server = In j l })))) refl refl a b
-      by (In k m) Root a b = both_walks (In k m) Root (LinksTalk P q x T U (k ∷ space_path ss m) [] (talk_words (pictured_talk ss (record t { port = In k m; server = Root })))) refl refl a b
-      by Root (In j l) a b = both_walks Root (In j l) (LinksTalk P q x T U [] (j ∷ space_path ss l) (talk_words (pictured_talk ss (record t { port = Root; server = In j l })))) refl refl a b
-      by Root Root a b = both_walks Root Root (LinksTalk P q x T U [] [] (talk_words (pictured_talk ss (record t { port = Root; server = Root })))) refl refl a b
+      by : (port server : Link) → IsLinked ss port → IsLinked ss server
+          → three (λ k. talk_part ss slot bind n s x k (Some (record t { port = port; server = server })))
+          ≡ ties_talk slot q x (pictured_talk ss (record t { port = port; server = server })) (ptr ss port) (peers.Server (ptr ss server))
+      by (In k m) (In j l) a b = both_walks (In k m) (In j l)
+          (LinksTalk P q x T U (k ∷ space_path ss m) (j ∷ space_path ss l)
+          (talk_words (pictured_talk ss (record t { port = In k m; server = In j l })))) refl refl a b
+      by (In k m) Root a b = both_walks (In k m) Root
+          (LinksTalk P q x T U (k ∷ space_path ss m) [] (talk_words (pictured_talk ss (record t { port = In k m; server = Root })))) refl refl a b
+      by Root (In j l) a b = both_walks Root (In j l)
+          (LinksTalk P q x T U [] (j ∷ space_path ss l) (talk_words (pictured_talk ss (record t { port = Root; server = In j l })))) refl refl a b
+      by Root Root a b = both_walks Root Root (LinksTalk P q x T U [] []
+          (talk_words (pictured_talk ss (record t { port = Root; server = Root })))) refl refl a b
       by (In k m) Null a b = refl
       by (In k m) Dead a b = refl
       by (In k m) (Out j) a b = refl
@@ -186,14 +200,16 @@ module _ (ss : List SpaceRec) (tree : IsTree ss) (nested : IsNested ss) (slot : 
       by Outside server a b = refl
 
   fault_three : (x : ℕ) (f : FaultRec) (taker : Option Link) → IsLinked ss f.port → IsLinkedTaker ss taker →
-      three (λ k. taken_part ss slot bind n s x k f taker) ≡ ties_fault slot q x (pictured_fault ss f) (ptr ss f.port) (option_map (λ to. peers.Server (ptr ss to)) taker)
+      three (λ k. taken_part ss slot bind n s x k f taker)
+      ≡ ties_fault slot q x (pictured_fault ss f) (ptr ss f.port) (option_map (λ to. peers.Server (ptr ss to)) taker)
   fault_three x f taker a b = by f.port taker a b
     where
       words : List ℕ
       words = fault_words (pictured_fault ss f)
 
       by : (port : Link) (taker : Option Link) → IsLinked ss port → IsLinkedTaker ss taker →
-          three (λ k. taken_part ss slot bind n s x k (record f { port = port }) taker) ≡ ties_fault slot q x (pictured_fault ss (record f { port = port })) (ptr ss port) (option_map (λ to. peers.Server (ptr ss to)) taker)
+          three (λ k. taken_part ss slot bind n s x k (record f { port = port }) taker)
+          ≡ ties_fault slot q x (pictured_fault ss (record f { port = port })) (ptr ss port) (option_map (λ to. peers.Server (ptr ss to)) taker)
       by (In k m) None a b = ap (λ (os : List Order). os ++ RaisesFault P q x T (k ∷ space_path ss m) words ∷ []) (walks_there T (In k m) refl a)
       by Root None a b = ap (λ (os : List Order). os ++ RaisesFault P q x T [] words ∷ []) (walks_there T Root refl a)
       by (In k m) (Some (In j l)) a b = both_walks (In k m) (In j l) (LinksFault P q x T U (k ∷ space_path ss m) (j ∷ space_path ss l) words) refl refl a b
@@ -220,8 +236,10 @@ module _ (ss : List SpaceRec) (tree : IsTree ss) (nested : IsNested ss) (slot : 
   -- three parts and three
   joined : (f : ℕ → Part) (os ps : List Order) → three f ≡ os → three (λ k. f (k + 3)) ≡ ps → six f ≡ os ++ ps
   joined f os ps e g =
-      ap (λ (rest : List Order). os_of (f 0) ++ (os_of (f 1) ++ (os_of (f 2) ++ rest))) (ap (λ (rest : List Order). os_of (f 3) ++ (os_of (f 4) ++ rest)) (append-nil (os_of (f 5))))
-      ∙ sym (assoc (os_of (f 0)) (os_of (f 1) ++ os_of (f 2)) (three (λ k. f (k + 3))) ∙ ap (λ (rest : List Order). os_of (f 0) ++ rest) (assoc (os_of (f 1)) (os_of (f 2)) (three (λ k. f (k + 3)))))
+      ap (λ (rest : List Order). os_of (f 0) ++ (os_of (f 1) ++ (os_of (f 2) ++ rest)))
+      (ap (λ (rest : List Order). os_of (f 3) ++ (os_of (f 4) ++ rest)) (append-nil (os_of (f 5))))
+      ∙ sym (assoc (os_of (f 0)) (os_of (f 1) ++ os_of (f 2)) (three (λ k. f (k + 3)))
+      ∙ ap (λ (rest : List Order). os_of (f 0) ++ rest) (assoc (os_of (f 1)) (os_of (f 2)) (three (λ k. f (k + 3)))))
       ∙ λ i. e i ++ g i
 
   pub ties_six : (x : ℕ) (r : Rec) → IsLinkedRec ss r → six (ties_part ss slot bind n s x r) ≡ ties_body slot q x (pictured_body ss r)
@@ -233,13 +251,15 @@ module _ (ss : List SpaceRec) (tree : IsTree ss) (nested : IsNested ss) (slot : 
   ties_six x (Port set) linked = refl
   ties_six x (Reference to) linked = refl
   ties_six x (Thread t) linked =
-      joined (ties_part ss slot bind n s x (Thread t)) (ties_its_talk slot q x (option_map (pictured_talk ss) t.talk)) (ties_its_fault slot q x (option_map (pictured_fault ss) t.fault)) (talk t.talk linked.talk) (fault t.fault linked.fault)
+      joined (ties_part ss slot bind n s x (Thread t)) (ties_its_talk slot q x (option_map (pictured_talk ss) t.talk))
+      (ties_its_fault slot q x (option_map (pictured_fault ss) t.fault)) (talk t.talk linked.talk) (fault t.fault linked.fault)
     where
       talk : (t : Option TalkRec) → IsLinkedTalk ss t → three (λ k. talk_part ss slot bind n s x k t) ≡ ties_its_talk slot q x (option_map (pictured_talk ss) t)
       talk None linked = refl
       talk (Some t) linked = talk_three x t linked.0 linked.1
 
-      fault : (f : Option FaultRec) → IsLinkedFault ss f → three (λ k. fault_part ss slot bind n s x k f) ≡ ties_its_fault slot q x (option_map (pictured_fault ss) f)
+      fault : (f : Option FaultRec) → IsLinkedFault ss f
+          → three (λ k. fault_part ss slot bind n s x k f) ≡ ties_its_fault slot q x (option_map (pictured_fault ss) f)
       fault None linked = refl
       fault (Some f) linked = fault_three x f f.taker linked.0 linked.1
 
@@ -260,7 +280,8 @@ module _ (ss : List SpaceRec) (tree : IsTree ss) (nested : IsNested ss) (slot : 
   pub no_more : (orders : Path → ℕ → Body → List Order) (j : ℕ) → length s.objects ≤ j → from_item ss slot bind n s orders j ≡ []
   no_more orders j le = ap (λ os. flat_map (λ (item : Item). orders q item.slot item.body) (map (item_of ss) os)) (drop_out s.objects j le)
 
-  pub object_six : (parts : ℕ → Rec → ℕ → Part) (j : ℕ) (o : ObjectRec) → slice_get s.objects j ≡ Some o → six (λ k. object_parts ss slot bind n s parts j k) ≡ six (parts o.slot o.body)
+  pub object_six : (parts : ℕ → Rec → ℕ → Part) (j : ℕ) (o : ObjectRec) → slice_get s.objects j ≡ Some o
+      → six (λ k. object_parts ss slot bind n s parts j k) ≡ six (parts o.slot o.body)
   object_six parts j o at = ap (λ x. six (λ k. by parts k x)) at
     where
       by : (ℕ → Rec → ℕ → Part) → ℕ → Option ObjectRec → Part

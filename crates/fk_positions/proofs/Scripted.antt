@@ -39,7 +39,8 @@ use Rattle.fk_positions.proofs.Placed.{assoc, position_law}
 
 flat_mapped : {A B : Type 0} (f : B → List Order) (g : A → B) (xs : List A) → flat_map f (map g xs) ≡ flat_map (λ x. f (g x)) xs
 flat_mapped f g [] = refl
-flat_mapped f g (x ∷ xs) = flat_map-cons f (g x) (map g xs) ∙ ap (λ (os : List Order). f (g x) ++ os) (flat_mapped f g xs) ∙ sym (flat_map-cons (λ x. f (g x)) x xs)
+flat_mapped f g (x ∷ xs) = flat_map-cons f (g x) (map g xs) ∙ ap (λ (os : List Order). f (g x) ++ os) (flat_mapped f g xs)
+    ∙ sym (flat_map-cons (λ x. f (g x)) x xs)
 
 module _ (ss : List SpaceRec) (tree : IsTree ss) (nested : IsNested ss)
     (holders : (n : ℕ) (s : SpaceRec) → slice_get ss n ≡ Some s → IsLinked ss s.holder) (slot : ℕ) (bind : ℕ → ℕ) where
@@ -68,15 +69,18 @@ module _ (ss : List SpaceRec) (tree : IsTree ss) (nested : IsNested ss)
 
   module _ (pass : Pass) (test : RoomOf → Bool) (orders : RoomOf → List Order) (same_test : (n : ℕ) (s : SpaceRec) → visits ss pass n s ≡ test (room_of ss n s))
       (same_site : (n : ℕ) (s : SpaceRec) → site pass n s ≡ n) (same_orders : (n : ℕ) (s : SpaceRec) → orders (room_of ss n s) ≡ items_from ss slot bind n s pass 0) where
-    through_same : (xs : List SpaceRec) (a n : ℕ) → Agrees xs n → Is a → Same pass a n xs (through_rooms slot test orders (path a) (rooms_from ss n xs)) (after_rooms test (path a) (rooms_from ss n xs))
+    through_same : (xs : List SpaceRec) (a n : ℕ) → Agrees xs n → Is a
+        → Same pass a n xs (through_rooms slot test orders (path a) (rooms_from ss n xs)) (after_rooms test (path a) (rooms_from ss n xs))
     unfolding through_rooms
     through_same [] a n agree ia = record { orders = refl; ends = refl; stands = ia }
     through_same (s ∷ xs) a n agree ia =
         let here = here_of s xs n agree in
         let is = is_there (slice_get ss n) s here in
         let next : suc n ≡ n + 1 = omega arith in
-        let now : (b : ℕ) → Is b → Same pass b (suc n) xs (through_rooms slot test orders (path b) (rooms_from ss (n + 1) xs)) (after_rooms test (path b) (rooms_from ss (n + 1) xs)) =
-        λ b ib. subst (λ m. Same pass b (suc n) xs (through_rooms slot test orders (path b) (rooms_from ss m xs)) (after_rooms test (path b) (rooms_from ss m xs))) next (through_same xs b (suc n) (rest_of s xs n agree) ib) in
+        let now : (b : ℕ) → Is b → Same pass b (suc n) xs (through_rooms slot test orders (path b) (rooms_from ss (n + 1) xs))
+        (after_rooms test (path b) (rooms_from ss (n + 1) xs)) =
+        λ b ib. subst (λ m. Same pass b (suc n) xs (through_rooms slot test orders (path b) (rooms_from ss m xs))
+        (after_rooms test (path b) (rooms_from ss m xs))) next (through_same xs b (suc n) (rest_of s xs n agree) ib) in
         by (test (room_of ss n s)) (same_test n s) (now a ia) (now n is) (goes_is ss tree nested slot a n ia is).0
       where
         by : (t : Bool) → visits ss pass n s ≡ t →
@@ -84,17 +88,25 @@ module _ (ss : List SpaceRec) (tree : IsTree ss) (nested : IsNested ss)
             Same pass n (suc n) xs (through_rooms slot test orders (path n) (rooms_from ss (n + 1) xs)) (after_rooms test (path n) (rooms_from ss (n + 1) xs)) →
             goes_to slot (path a) (path n) ≡ walk_rest ss (goes ss slot a n) →
             Same pass a n (s ∷ xs)
-            (cond t (goes_to slot (path a) (path n) ++ (orders (room_of ss n s) ++ through_rooms slot test orders (path n) (rooms_from ss (n + 1) xs))) (through_rooms slot test orders (path a) (rooms_from ss (n + 1) xs)))
+            (cond t (goes_to slot (path a) (path n) ++ (orders (room_of ss n s) ++ through_rooms slot test orders (path n) (rooms_from ss (n + 1) xs)))
+            (through_rooms slot test orders (path a) (rooms_from ss (n + 1) xs)))
             (cond t (after_rooms test (path n) (rooms_from ss (n + 1) xs)) (after_rooms test (path a) (rooms_from ss (n + 1) xs)))
         by true e stay go walk = record {
           orders = (λ i. walk i ++ (same_orders n s i ++ go.orders i))
-              ∙ ap (λ m. walk_rest ss (goes ss slot a m) ++ (items_from ss slot bind n s pass 0 ++ pass_from ss slot bind pass m (suc n) xs)) (sym (same_site n s))
-              ∙ ap (λ t. cond t (walk_rest ss (goes ss slot a (site pass n s)) ++ (items_from ss slot bind n s pass 0 ++ pass_from ss slot bind pass (site pass n s) (suc n) xs)) (pass_from ss slot bind pass a (suc n) xs)) (sym e);
-          ends = go.ends ∙ ap (λ m. path (pass_end ss pass m (suc n) xs)) (sym (same_site n s)) ∙ ap (λ t. path (cond t (pass_end ss pass (site pass n s) (suc n) xs) (pass_end ss pass a (suc n) xs))) (sym e);
-          stands = ap (λ t. is_some (slice_get ss (cond t (pass_end ss pass (site pass n s) (suc n) xs) (pass_end ss pass a (suc n) xs)))) e ∙ ap (λ m. is_some (slice_get ss (pass_end ss pass m (suc n) xs))) (same_site n s) ∙ go.stands;
+              ∙ ap (λ m. walk_rest ss (goes ss slot a m) ++ (items_from ss slot bind n s pass 0 ++ pass_from ss slot bind pass m (suc n) xs))
+              (sym (same_site n s))
+              ∙ ap (λ t. cond t (walk_rest ss (goes ss slot a (site pass n s))
+              ++ (items_from ss slot bind n s pass 0 ++ pass_from ss slot bind pass (site pass n s) (suc n) xs))
+              (pass_from ss slot bind pass a (suc n) xs)) (sym e);
+          ends = go.ends ∙ ap (λ m. path (pass_end ss pass m (suc n) xs)) (sym (same_site n s))
+              ∙ ap (λ t. path (cond t (pass_end ss pass (site pass n s) (suc n) xs) (pass_end ss pass a (suc n) xs))) (sym e);
+          stands = ap (λ t. is_some (slice_get ss (cond t (pass_end ss pass (site pass n s) (suc n) xs) (pass_end ss pass a (suc n) xs)))) e
+              ∙ ap (λ m. is_some (slice_get ss (pass_end ss pass m (suc n) xs))) (same_site n s) ∙ go.stands;
         }
         by false e stay go walk = record {
-          orders = stay.orders ∙ ap (λ t. cond t (walk_rest ss (goes ss slot a (site pass n s)) ++ (items_from ss slot bind n s pass 0 ++ pass_from ss slot bind pass (site pass n s) (suc n) xs)) (pass_from ss slot bind pass a (suc n) xs)) (sym e);
+          orders = stay.orders ∙ ap (λ t. cond t (walk_rest ss (goes ss slot a (site pass n s))
+              ++ (items_from ss slot bind n s pass 0 ++ pass_from ss slot bind pass (site pass n s) (suc n) xs)) (pass_from ss slot bind pass a (suc n) xs))
+              (sym e);
           ends = stay.ends ∙ ap (λ t. path (cond t (pass_end ss pass (site pass n s) (suc n) xs) (pass_end ss pass a (suc n) xs))) (sym e);
           stands = ap (λ t. is_some (slice_get ss (cond t (pass_end ss pass (site pass n s) (suc n) xs) (pass_end ss pass a (suc n) xs)))) e ∙ stay.stands;
         }
@@ -108,12 +120,15 @@ module _ (ss : List SpaceRec) (tree : IsTree ss) (nested : IsNested ss)
     where
       from_none : (b c : ℕ) → 0 ≡ b → 0 ≡ c →
           flat_map (λ (o : ObjectRec). makes_object ss slot bind n s o ∷ []) s.objects
-          ++ (flat_map (λ (o : ObjectRec). sets_object ss slot bind n s o ∷ []) (drop 0 s.objects) ++ flat_map (λ (p : PageRec). Gives P (path n) p.page p.words ∷ []) (drop 0 s.pages))
+          ++ (flat_map (λ (o : ObjectRec). sets_object ss slot bind n s o ∷ []) (drop 0 s.objects)
+          ++ flat_map (λ (p : PageRec). Gives P (path n) p.page p.words ∷ []) (drop 0 s.pages))
           ≡ flat_map (λ (o : ObjectRec). makes_object ss slot bind n s o ∷ []) s.objects
-          ++ (flat_map (λ (o : ObjectRec). sets_object ss slot bind n s o ∷ []) (drop b s.objects) ++ flat_map (λ (p : PageRec). Gives P (path n) p.page p.words ∷ []) (drop c s.pages))
+          ++ (flat_map (λ (o : ObjectRec). sets_object ss slot bind n s o ∷ []) (drop b s.objects)
+          ++ flat_map (λ (p : PageRec). Gives P (path n) p.page p.words ∷ []) (drop c s.pages))
       from_none b c e f = λ i.
           flat_map (λ (o : ObjectRec). makes_object ss slot bind n s o ∷ []) s.objects
-          ++ (flat_map (λ (o : ObjectRec). sets_object ss slot bind n s o ∷ []) (drop (e i) s.objects) ++ flat_map (λ (p : PageRec). Gives P (path n) p.page p.words ∷ []) (drop (f i) s.pages))
+          ++ (flat_map (λ (o : ObjectRec). sets_object ss slot bind n s o ∷ []) (drop (e i) s.objects)
+          ++ flat_map (λ (p : PageRec). Gives P (path n) p.page p.words ∷ []) (drop (f i) s.pages))
 
   whole_agrees : Agrees ss 0
   whole_agrees j = let same : j ≡ 0 + j = omega arith in ap (slice_get ss) same
@@ -124,18 +139,23 @@ module _ (ss : List SpaceRec) (tree : IsTree ss) (nested : IsNested ss)
   fills_same : (a : ℕ) → Is a → Same passes.Fills a 0 ss (through_rooms slot any_room fills (path a) rooms) (after_rooms any_room (path a) rooms)
   fills_same a ia = through_same passes.Fills any_room fills (λ n s. refl) (λ n s. refl) fills_items ss a 0 whole_agrees ia
 
-  inward_same : (a : ℕ) → Is a → Same passes.Inward a 0 ss (through_rooms slot (has leads_in) (each (points_body slot)) (path a) rooms) (after_rooms (has leads_in) (path a) rooms)
+  inward_same : (a : ℕ) → Is a → Same passes.Inward a 0 ss (through_rooms slot (has leads_in) (each (points_body slot)) (path a) rooms)
+      (after_rooms (has leads_in) (path a) rooms)
   inward_same a ia = through_same passes.Inward (has leads_in) (each (points_body slot)) (λ n s. refl) (λ n s. refl) (λ n s. refl) ss a 0 whole_agrees ia
 
-  outward_same : (i a : ℕ) → Is a → Same (passes.Outward i) a 0 ss (through_rooms slot (has (leads_out i)) (each (leads_body_out i bind)) (path a) rooms) (after_rooms (has (leads_out i)) (path a) rooms)
-  outward_same i a ia = through_same (passes.Outward i) (has (leads_out i)) (each (leads_body_out i bind)) (λ n s. refl) (λ n s. refl) (λ n s. refl) ss a 0 whole_agrees ia
+  outward_same : (i a : ℕ) → Is a → Same (passes.Outward i) a 0 ss (through_rooms slot (has (leads_out i)) (each (leads_body_out i bind)) (path a) rooms)
+      (after_rooms (has (leads_out i)) (path a) rooms)
+  outward_same i a ia = through_same (passes.Outward i) (has (leads_out i)) (each (leads_body_out i bind)) (λ n s. refl) (λ n s. refl)
+      (λ n s. refl) ss a 0 whole_agrees ia
 
-  ties_same : (a : ℕ) → Is a → Same passes.Ties a 0 ss (through_rooms slot (has ties_inside) (each (ties_body slot)) (path a) rooms) (after_rooms (has ties_inside) (path a) rooms)
+  ties_same : (a : ℕ) → Is a → Same passes.Ties a 0 ss (through_rooms slot (has ties_inside) (each (ties_body slot)) (path a) rooms)
+      (after_rooms (has ties_inside) (path a) rooms)
   ties_same a ia = through_same passes.Ties (has ties_inside) (each (ties_body slot)) (λ n s. refl) (λ n s. refl) (λ n s. refl) ss a 0 whole_agrees ia
 
   -- ---- spaces
 
-  spaces_same : (xs : List SpaceRec) (a n : ℕ) → Agrees xs (suc n) → Is a → Same passes.Spaces a (suc n) xs (makes_spaces slot (path a) (rooms_from ss (suc n) xs)) (after_spaces (path a) (rooms_from ss (suc n) xs))
+  spaces_same : (xs : List SpaceRec) (a n : ℕ) → Agrees xs (suc n) → Is a
+      → Same passes.Spaces a (suc n) xs (makes_spaces slot (path a) (rooms_from ss (suc n) xs)) (after_spaces (path a) (rooms_from ss (suc n) xs))
   unfolding makes_spaces
   spaces_same [] a n agree ia = record { orders = refl; ends = refl; stands = ia }
   spaces_same (s ∷ xs) a n agree ia =
@@ -144,7 +164,8 @@ module _ (ss : List SpaceRec) (tree : IsTree ss) (nested : IsNested ss)
       let low = tree.low n s here in
       let above = there_below ss s.parent (suc n) (omega (arith, low)) is in
       let next : suc (suc n) ≡ suc n + 1 = omega arith in
-      let r = subst (λ m. Same passes.Spaces s.parent (suc (suc n)) xs (makes_spaces slot (path s.parent) (rooms_from ss m xs)) (after_spaces (path s.parent) (rooms_from ss m xs))) next (spaces_same xs s.parent (suc n) (rest_of s xs (suc n) agree) above) in
+      let r = subst (λ m. Same passes.Spaces s.parent (suc (suc n)) xs (makes_spaces slot (path s.parent) (rooms_from ss m xs))
+      (after_spaces (path s.parent) (rooms_from ss m xs))) next (spaces_same xs s.parent (suc n) (rest_of s xs (suc n) agree) above) in
       let up = path_up ss tree n s here in
       let walk = (goes_is ss tree nested slot a s.parent ia above).0 in
       let off = ne_eqb (suc n) 0 (λ e. omega (arith, e)) in
@@ -152,16 +173,24 @@ module _ (ss : List SpaceRec) (tree : IsTree ss) (nested : IsNested ss)
         orders =
             ap (λ y. makes_space slot (path a) y ++ makes_spaces slot (stands_at (path a) y) (rooms_from ss (suc n + 1) xs)) up
             ∙ (λ i. (walk i ++ Makes P (path s.parent) s.slot kinds.Space ∷ []) ++ r.orders i)
-            ∙ assoc (walk_rest ss (goes ss slot a s.parent)) (Makes P (path s.parent) s.slot kinds.Space ∷ []) (pass_from ss slot bind passes.Spaces s.parent (suc (suc n)) xs)
-            ∙ ap (λ t. cond (not t) (walk_rest ss (goes ss slot a s.parent) ++ ((Makes P (path s.parent) s.slot kinds.Space ∷ []) ++ pass_from ss slot bind passes.Spaces s.parent (suc (suc n)) xs)) (pass_from ss slot bind passes.Spaces a (suc (suc n)) xs)) (sym off);
-        ends = ap (λ y. after_spaces (stands_at (path a) y) (rooms_from ss (suc n + 1) xs)) up ∙ r.ends ∙ ap (λ t. path (cond (not t) (pass_end ss passes.Spaces s.parent (suc (suc n)) xs) (pass_end ss passes.Spaces a (suc (suc n)) xs))) (sym off);
-        stands = ap (λ t. is_some (slice_get ss (cond (not t) (pass_end ss passes.Spaces s.parent (suc (suc n)) xs) (pass_end ss passes.Spaces a (suc (suc n)) xs)))) off ∙ r.stands;
+            ∙ assoc (walk_rest ss (goes ss slot a s.parent)) (Makes P (path s.parent) s.slot kinds.Space ∷ [])
+            (pass_from ss slot bind passes.Spaces s.parent (suc (suc n)) xs)
+            ∙ ap (λ t. cond (not t) (walk_rest ss (goes ss slot a s.parent)
+            ++ ((Makes P (path s.parent) s.slot kinds.Space ∷ []) ++ pass_from ss slot bind passes.Spaces s.parent (suc (suc n)) xs))
+            (pass_from ss slot bind passes.Spaces a (suc (suc n)) xs)) (sym off);
+        ends = ap (λ y. after_spaces (stands_at (path a) y) (rooms_from ss (suc n + 1) xs)) up ∙ r.ends
+            ∙ ap (λ t. path (cond (not t) (pass_end ss passes.Spaces s.parent (suc (suc n)) xs) (pass_end ss passes.Spaces a (suc (suc n)) xs))) (sym off);
+        stands = ap (λ t. is_some (slice_get ss (cond (not t) (pass_end ss passes.Spaces s.parent (suc (suc n)) xs)
+            (pass_end ss passes.Spaces a (suc (suc n)) xs)))) off ∙ r.stands;
       }
 
   -- ---- holders
 
-  held_is : (n a : ℕ) (s : SpaceRec) (k : ℕ) (q : Path) → Is a → Is s.parent → q ≡ path s.parent → IsLinked ss s.holder → (t : Bool) → leads_within s.holder ≡ t →
-      (holds_space slot (path a) (k ∷ q) (pictured_holder ss s.holder) ≡ cond t (walk_rest ss (goes ss slot a s.parent) ++ (walk_rest ss (leads ss slot T s.parent s.holder) ++ HoldsOrder P (path s.parent) k T (path_of ss slot bind n s s.holder) ∷ [])) [])
+  held_is : (n a : ℕ) (s : SpaceRec) (k : ℕ) (q : Path) → Is a → Is s.parent → q ≡ path s.parent → IsLinked ss s.holder → (t : Bool)
+      → leads_within s.holder ≡ t →
+      (holds_space slot (path a) (k ∷ q) (pictured_holder ss s.holder)
+      ≡ cond t (walk_rest ss (goes ss slot a s.parent)
+      ++ (walk_rest ss (leads ss slot T s.parent s.holder) ++ HoldsOrder P (path s.parent) k T (path_of ss slot bind n s s.holder) ∷ [])) [])
       × (stands_held (path a) (k ∷ q) (pictured_holder ss s.holder) ≡ path (cond t s.parent a))
   held_is n a s k q ia above same linked t e = by s.holder linked t e
     where
@@ -169,7 +198,9 @@ module _ (ss : List SpaceRec) (tree : IsTree ss) (nested : IsNested ss)
       walk = (goes_is ss tree nested slot a s.parent ia above).0
 
       by : (to : Link) → IsLinked ss to → (t : Bool) → leads_within to ≡ t →
-          (holds_space slot (path a) (k ∷ q) (pictured_holder ss to) ≡ cond t (walk_rest ss (goes ss slot a s.parent) ++ (walk_rest ss (leads ss slot T s.parent to) ++ HoldsOrder P (path s.parent) k T (path_of ss slot bind n s to) ∷ [])) [])
+          (holds_space slot (path a) (k ∷ q) (pictured_holder ss to)
+          ≡ cond t (walk_rest ss (goes ss slot a s.parent)
+          ++ (walk_rest ss (leads ss slot T s.parent to) ++ HoldsOrder P (path s.parent) k T (path_of ss slot bind n s to) ∷ [])) [])
           × (stands_held (path a) (k ∷ q) (pictured_holder ss to) ≡ path (cond t s.parent a))
       by (In j m) ib true e = (
         ap (λ y. goes_to slot (path a) y ++ (leads_to_at slot T y (j ∷ path m) ++ HoldsOrder P y k T (j ∷ path m) ∷ [])) same
@@ -192,7 +223,8 @@ module _ (ss : List SpaceRec) (tree : IsTree ss) (nested : IsNested ss)
       by (Out j) ib true e = absurd cc
       by Outside ib true e = absurd cc
 
-  holds_same : (xs : List SpaceRec) (a n : ℕ) → Agrees xs (suc n) → Is a → holds_spaces slot (path a) (rooms_from ss (suc n) xs) ≡ pass_from ss slot bind passes.Holds a (suc n) xs
+  holds_same : (xs : List SpaceRec) (a n : ℕ) → Agrees xs (suc n) → Is a
+      → holds_spaces slot (path a) (rooms_from ss (suc n) xs) ≡ pass_from ss slot bind passes.Holds a (suc n) xs
   unfolding holds_spaces
   holds_same [] a n agree ia = refl
   holds_same (s ∷ xs) a n agree ia =
@@ -205,37 +237,49 @@ module _ (ss : List SpaceRec) (tree : IsTree ss) (nested : IsNested ss)
       let go : (b : ℕ) → Is b → holds_spaces slot (path b) (rooms_from ss (suc n + 1) xs) ≡ pass_from ss slot bind passes.Holds b (suc (suc n)) xs =
       λ b ib. ap (λ m. holds_spaces slot (path b) (rooms_from ss m xs)) (sym next) ∙ holds_same xs b (suc n) (rest_of s xs (suc n) agree) ib in
       let held = held_is (suc n) a s s.slot (path s.parent) ia above refl (holders (suc n) s here) (leads_within s.holder) refl in
-      ap (λ y. holds_space slot (path a) y (pictured_holder ss s.holder) ++ holds_spaces slot (stands_held (path a) y (pictured_holder ss s.holder)) (rooms_from ss (suc n + 1) xs)) (path_up ss tree n s here)
+      ap (λ y. holds_space slot (path a) y (pictured_holder ss s.holder)
+      ++ holds_spaces slot (stands_held (path a) y (pictured_holder ss s.holder)) (rooms_from ss (suc n + 1) xs)) (path_up ss tree n s here)
       ∙ (λ i. held.0 i ++ holds_spaces slot (held.1 i) (rooms_from ss (suc n + 1) xs))
       ∙ by (leads_within s.holder) (go a ia) (go s.parent above)
-      ∙ ap (λ t. cond (cond t false (leads_within s.holder)) (walk_rest ss (goes ss slot a s.parent) ++ (items_from ss slot bind (suc n) s passes.Holds 0 ++ pass_from ss slot bind passes.Holds s.parent (suc (suc n)) xs)) (pass_from ss slot bind passes.Holds a (suc (suc n)) xs)) (sym off)
+      ∙ ap (λ t. cond (cond t false (leads_within s.holder)) (walk_rest ss (goes ss slot a s.parent)
+      ++ (items_from ss slot bind (suc n) s passes.Holds 0 ++ pass_from ss slot bind passes.Holds s.parent (suc (suc n)) xs))
+      (pass_from ss slot bind passes.Holds a (suc (suc n)) xs)) (sym off)
     where
       held_order : Order
       held_order = HoldsOrder P (path s.parent) s.slot T (path_of ss slot bind (suc n) s s.holder)
 
       by : (t : Bool) → holds_spaces slot (path a) (rooms_from ss (suc n + 1) xs) ≡ pass_from ss slot bind passes.Holds a (suc (suc n)) xs →
           holds_spaces slot (path s.parent) (rooms_from ss (suc n + 1) xs) ≡ pass_from ss slot bind passes.Holds s.parent (suc (suc n)) xs →
-          cond t (walk_rest ss (goes ss slot a s.parent) ++ (walk_rest ss (leads ss slot T s.parent s.holder) ++ held_order ∷ [])) [] ++ holds_spaces slot (path (cond t s.parent a)) (rooms_from ss (suc n + 1) xs)
-          ≡ cond t (walk_rest ss (goes ss slot a s.parent) ++ (cond t (walk_rest ss (leads ss slot T s.parent s.holder) ++ held_order ∷ []) [] ++ pass_from ss slot bind passes.Holds s.parent (suc (suc n)) xs)) (pass_from ss slot bind passes.Holds a (suc (suc n)) xs)
+          cond t (walk_rest ss (goes ss slot a s.parent) ++ (walk_rest ss (leads ss slot T s.parent s.holder) ++ held_order ∷ [])) []
+          ++ holds_spaces slot (path (cond t s.parent a)) (rooms_from ss (suc n + 1) xs)
+          ≡ cond t (walk_rest ss (goes ss slot a s.parent)
+          ++ (cond t (walk_rest ss (leads ss slot T s.parent s.holder) ++ held_order ∷ []) []
+          ++ pass_from ss slot bind passes.Holds s.parent (suc (suc n)) xs)) (pass_from ss slot bind passes.Holds a (suc (suc n)) xs)
       by true stay go =
-          assoc (walk_rest ss (goes ss slot a s.parent)) (walk_rest ss (leads ss slot T s.parent s.holder) ++ held_order ∷ []) (holds_spaces slot (path s.parent) (rooms_from ss (suc n + 1) xs))
+          assoc (walk_rest ss (goes ss slot a s.parent)) (walk_rest ss (leads ss slot T s.parent s.holder) ++ held_order ∷ [])
+          (holds_spaces slot (path s.parent) (rooms_from ss (suc n + 1) xs))
           ∙ ap (λ (os : List Order). walk_rest ss (goes ss slot a s.parent) ++ ((walk_rest ss (leads ss slot T s.parent s.holder) ++ held_order ∷ []) ++ os)) go
       by false stay go = stay
 
   -- ---- slots of the nester, one after the other
 
   -- where nothing leads out there, no room is visited
-  none_visited : (test : RoomOf → Bool) (orders : RoomOf → List Order) (rs : List RoomOf) (p : Path) → list_any test rs ≡ false → (through_rooms slot test orders p rs ≡ []) × (after_rooms test p rs ≡ p)
+  none_visited : (test : RoomOf → Bool) (orders : RoomOf → List Order) (rs : List RoomOf) (p : Path) → list_any test rs ≡ false
+      → (through_rooms slot test orders p rs ≡ []) × (after_rooms test p rs ≡ p)
   unfolding through_rooms
   none_visited test orders [] p e = (refl, refl)
   none_visited test orders (r ∷ rs) p e = by (test r) e (λ h. none_visited test orders rs p h)
     where
-      by : (t : Bool) → (t || list_any test rs) ≡ false → (list_any test rs ≡ false → (through_rooms slot test orders p rs ≡ []) × (after_rooms test p rs ≡ p)) →
-          (cond t (goes_to slot p r.path ++ (orders r ++ through_rooms slot test orders r.path rs)) (through_rooms slot test orders p rs) ≡ []) × (cond t (after_rooms test r.path rs) (after_rooms test p rs) ≡ p)
+      by : (t : Bool) → (t || list_any test rs) ≡ false
+          → (list_any test rs ≡ false → (through_rooms slot test orders p rs ≡ []) × (after_rooms test p rs ≡ p)) →
+          (cond t (goes_to slot p r.path ++ (orders r ++ through_rooms slot test orders r.path rs)) (through_rooms slot test orders p rs) ≡ [])
+          × (cond t (after_rooms test r.path rs) (after_rooms test p rs) ≡ p)
       by true e rest = absurd cc
       by false e rest = rest e
 
-  outward_one : (i a : ℕ) → Is a → (tail : List Order) → leads_out_by slot bind rooms (path a) i ++ tail ≡ before ss slot bind (passes.Outward i) ++ (pass_from ss slot bind (passes.Outward i) a 0 ss ++ (behind ss (passes.Outward i) ++ tail))
+  outward_one : (i a : ℕ) → Is a → (tail : List Order)
+      → leads_out_by slot bind rooms (path a) i ++ tail ≡ before ss slot bind (passes.Outward i)
+      ++ (pass_from ss slot bind (passes.Outward i) a 0 ss ++ (behind ss (passes.Outward i) ++ tail))
   outward_one i a ia tail = by (list_any (has (leads_out i)) rooms) refl
     where
       through : List Order
@@ -248,7 +292,8 @@ module _ (ss : List SpaceRec) (tree : IsTree ss) (nested : IsNested ss)
       opening = Pins (bind i) ∷ Takes T ∷ Checks T (bind i) ∷ []
 
       by : (t : Bool) → list_any (has (leads_out i)) rooms ≡ t →
-          cond t (opening ++ (through ++ LeadsTop T ∷ [])) [] ++ tail ≡ cond t opening [] ++ (pass_from ss slot bind (passes.Outward i) a 0 ss ++ (cond t (LeadsTop T ∷ []) [] ++ tail))
+          cond t (opening ++ (through ++ LeadsTop T ∷ [])) [] ++ tail ≡ cond t opening []
+          ++ (pass_from ss slot bind (passes.Outward i) a 0 ss ++ (cond t (LeadsTop T ∷ []) [] ++ tail))
       by true e = ap (λ (os : List Order). opening ++ os) (assoc through (LeadsTop T ∷ []) tail ∙ ap (λ (os : List Order). os ++ (LeadsTop T ∷ tail)) same)
       by false e = ap (λ (os : List Order). os ++ tail) (sym ((none_visited (has (leads_out i)) (each (leads_body_out i bind)) rooms (path a) e).0) ∙ same)
 
@@ -258,7 +303,8 @@ module _ (ss : List SpaceRec) (tree : IsTree ss) (nested : IsNested ss)
   outs_same zero i a ia tail same = same a ia
   outs_same (suc n) i a ia tail same =
       let s = outward_same i a ia in
-      assoc (leads_out_by slot bind rooms (path a) i) (leads_outs slot bind rooms (after_rooms (has (leads_out i)) (path a) rooms) n (suc i)) (tail (after_outs rooms (after_rooms (has (leads_out i)) (path a) rooms) n (suc i)))
+      assoc (leads_out_by slot bind rooms (path a) i) (leads_outs slot bind rooms (after_rooms (has (leads_out i)) (path a) rooms) n (suc i))
+      (tail (after_outs rooms (after_rooms (has (leads_out i)) (path a) rooms) n (suc i)))
       ∙ ap (λ y. leads_out_by slot bind rooms (path a) i ++ (leads_outs slot bind rooms y n (suc i) ++ tail (after_outs rooms y n (suc i)))) s.ends
       ∙ ap (λ (os : List Order). leads_out_by slot bind rooms (path a) i ++ os) (outs_same n (suc i) (pass_end ss (passes.Outward i) a 0 ss) s.stands tail same)
       ∙ outward_one i a ia (from_outward ss slot bind n (suc i) (pass_end ss (passes.Outward i) a 0 ss))
@@ -267,7 +313,12 @@ module _ (ss : List SpaceRec) (tree : IsTree ss) (nested : IsNested ss)
 
   first_spaces : (xs : List SpaceRec) → ss ≡ xs → Same passes.Spaces 0 0 ss (makes_spaces slot [] (rooms_from ss 0 xs)) (after_spaces [] (rooms_from ss 0 xs))
   unfolding makes_spaces path_within
-  first_spaces [] e = record { orders = ap (pass_from ss slot bind passes.Spaces 0 0) (sym e); ends = ap (λ xs. path (pass_end ss passes.Spaces 0 0 xs)) (sym e); stands = ap (λ xs. is_some (slice_get ss (pass_end ss passes.Spaces 0 0 xs))) e ∙ tree.top }
+  first_spaces [] e = record {
+    orders = ap (pass_from ss slot bind passes.Spaces 0 0) (sym e);
+    ends = ap (λ xs. path (pass_end ss passes.Spaces 0 0 xs)) (sym e);
+    stands = ap (λ xs. is_some (slice_get ss (pass_end ss passes.Spaces 0 0 xs))) e
+        ∙ tree.top;
+  }
   first_spaces (s ∷ xs) e =
       let r = spaces_same xs 0 0 (λ j. shift j ∙ ap (λ ys. slice_get ys (1 + j)) (sym e)) tree.top in
       record {
@@ -308,22 +359,26 @@ module _ (ss : List SpaceRec) (tree : IsTree ss) (nested : IsNested ss)
   holds_are a ia = (λ i. first_holds a ia ss refl i ++ append-nil closes i) ∙ refl
 
   ties_are : (a : ℕ) → Is a → tail_ties (path a) ≡ from_ties ss slot bind a
-  ties_are a ia = let s = ties_same a ia in (λ i. s.orders i ++ tail_holds (s.ends i)) ∙ ap (λ (os : List Order). pass_from ss slot bind passes.Ties a 0 ss ++ os) (holds_are (pass_end ss passes.Ties a 0 ss) s.stands)
+  ties_are a ia = let s = ties_same a ia in (λ i. s.orders i ++ tail_holds (s.ends i))
+      ∙ ap (λ (os : List Order). pass_from ss slot bind passes.Ties a 0 ss ++ os) (holds_are (pass_end ss passes.Ties a 0 ss) s.stands)
 
   outs_are : (a : ℕ) → Is a → tail_outs (path a) ≡ from_outward ss slot bind 240 0 a
   outs_are a ia = outs_same 240 0 a ia tail_ties ties_are
 
   inward_are : (a : ℕ) → Is a → tail_inward (path a) ≡ from_inward ss slot bind a
-  inward_are a ia = let s = inward_same a ia in (λ i. s.orders i ++ tail_outs (s.ends i)) ∙ ap (λ (os : List Order). pass_from ss slot bind passes.Inward a 0 ss ++ os) (outs_are (pass_end ss passes.Inward a 0 ss) s.stands)
+  inward_are a ia = let s = inward_same a ia in (λ i. s.orders i ++ tail_outs (s.ends i))
+      ∙ ap (λ (os : List Order). pass_from ss slot bind passes.Inward a 0 ss ++ os) (outs_are (pass_end ss passes.Inward a 0 ss) s.stands)
 
   fills_are : (a : ℕ) → Is a → tail_fills (path a) ≡ from_fills ss slot bind a
-  fills_are a ia = let s = fills_same a ia in (λ i. s.orders i ++ tail_inward (s.ends i)) ∙ ap (λ (os : List Order). pass_from ss slot bind passes.Fills a 0 ss ++ os) (inward_are (pass_end ss passes.Fills a 0 ss) s.stands)
+  fills_are a ia = let s = fills_same a ia in (λ i. s.orders i ++ tail_inward (s.ends i))
+      ∙ ap (λ (os : List Order). pass_from ss slot bind passes.Fills a 0 ss ++ os) (inward_are (pass_end ss passes.Fills a 0 ss) s.stands)
 
   pub script_is : rest ss slot bind first ≡ script slot bind rooms
   unfolding script
   script_is =
       let s = first_spaces ss refl in
-      sym (ap (λ (os : List Order). opens slot ++ os) ((λ i. s.orders i ++ tail_fills (s.ends i)) ∙ ap (λ (os : List Order). pass_from ss slot bind passes.Spaces 0 0 ss ++ os) (fills_are (pass_end ss passes.Spaces 0 0 ss) s.stands)))
+      sym (ap (λ (os : List Order). opens slot ++ os) ((λ i. s.orders i ++ tail_fills (s.ends i))
+      ∙ ap (λ (os : List Order). pass_from ss slot bind passes.Spaces 0 0 ss ++ os) (fills_are (pass_end ss passes.Spaces 0 0 ss) s.stands)))
 
 -- ---- for a valid image
 

@@ -100,21 +100,27 @@ module _ (ss : List SpaceRec) where
   has_in n s = any_same (λ (item : Item). script.leads_in item.body) (λ (o : ObjectRec). leads_in o.body) (item_of ss) s.objects (λ o. in_same o.body)
 
   pub has_out : (i n : ℕ) (s : SpaceRec) → script.has (script.leads_out i) (room_of ss n s) ≡ list_any (λ (o : ObjectRec). leads_out i o.body) s.objects
-  has_out i n s = any_same (λ (item : Item). script.leads_out i item.body) (λ (o : ObjectRec). leads_out i o.body) (item_of ss) s.objects (λ o. leads_same i o.body)
+  has_out i n s = any_same (λ (item : Item). script.leads_out i item.body) (λ (o : ObjectRec). leads_out i o.body) (item_of ss) s.objects
+      (λ o. leads_same i o.body)
 
   pub has_ties : (n : ℕ) (s : SpaceRec) → script.has script.ties_inside (room_of ss n s) ≡ list_any (λ (o : ObjectRec). ties_inside o.body) s.objects
   has_ties n s = any_same (λ (item : Item). script.ties_inside item.body) (λ (o : ObjectRec). ties_inside o.body) (item_of ss) s.objects (λ o. ties_same o.body)
 
-  pub any_out : (i n : ℕ) (xs : List SpaceRec) → list_any (script.has (script.leads_out i)) (rooms_from ss n xs) ≡ list_any (λ (s : SpaceRec). list_any (λ (o : ObjectRec). leads_out i o.body) s.objects) xs
+  pub any_out : (i n : ℕ) (xs : List SpaceRec) → list_any (script.has (script.leads_out i)) (rooms_from ss n xs)
+      ≡ list_any (λ (s : SpaceRec). list_any (λ (o : ObjectRec). leads_out i o.body) s.objects) xs
   any_out i n [] = refl
   any_out i n (s ∷ xs) = λ j. has_out i n s j || any_out i (n + 1) xs j
 
   -- what a test of the code says of the visits of a pass
-  pub visits_in : (pass : Pass) (n : ℕ) (s : SpaceRec) (os : List ObjectRec) (r : Bool) → pass ≡ passes.Inward → os ≡ s.objects → r ≡ list_any (λ (o : ObjectRec). leads_in o.body) os → r ≡ visits ss pass n s
+  pub visits_in : (pass : Pass) (n : ℕ) (s : SpaceRec) (os : List ObjectRec) (r : Bool) → pass ≡ passes.Inward → os ≡ s.objects
+      → r ≡ list_any (λ (o : ObjectRec). leads_in o.body) os → r ≡ visits ss pass n s
   visits_in pass n s os r is same e = e ∙ ap (list_any (λ (o : ObjectRec). leads_in o.body)) same ∙ sym (has_in n s) ∙ ap (λ p. visits ss p n s) (sym is)
 
-  pub visits_out : (pass : Pass) (i n : ℕ) (s : SpaceRec) (os : List ObjectRec) (r : Bool) → pass ≡ passes.Outward i → os ≡ s.objects → r ≡ list_any (λ (o : ObjectRec). leads_out i o.body) os → r ≡ visits ss pass n s
-  visits_out pass i n s os r is same e = e ∙ ap (list_any (λ (o : ObjectRec). leads_out i o.body)) same ∙ sym (has_out i n s) ∙ ap (λ p. visits ss p n s) (sym is)
+  pub visits_out : (pass : Pass) (i n : ℕ) (s : SpaceRec) (os : List ObjectRec) (r : Bool) → pass ≡ passes.Outward i → os ≡ s.objects
+      → r ≡ list_any (λ (o : ObjectRec). leads_out i o.body) os → r ≡ visits ss pass n s
+  visits_out pass i n s os r is same e = e ∙ ap (list_any (λ (o : ObjectRec). leads_out i o.body)) same ∙ sym (has_out i n s)
+      ∙ ap (λ p. visits ss p n s) (sym is)
 
-  pub visits_ties : (pass : Pass) (n : ℕ) (s : SpaceRec) (os : List ObjectRec) (r : Bool) → pass ≡ passes.Ties → os ≡ s.objects → r ≡ list_any (λ (o : ObjectRec). ties_inside o.body) os → r ≡ visits ss pass n s
+  pub visits_ties : (pass : Pass) (n : ℕ) (s : SpaceRec) (os : List ObjectRec) (r : Bool) → pass ≡ passes.Ties → os ≡ s.objects
+      → r ≡ list_any (λ (o : ObjectRec). ties_inside o.body) os → r ≡ visits ss pass n s
   visits_ties pass n s os r is same e = e ∙ ap (list_any (λ (o : ObjectRec). ties_inside o.body)) same ∙ sym (has_ties n s) ∙ ap (λ p. visits ss p n s) (sym is)

@@ -107,7 +107,8 @@ module _ (ss : List SpaceRec) (tree : IsTree ss) (nested : IsNested ss) where
       by : (t : Bool) → same_path (s.slot ∷ path s.parent) (path a) ≡ t → t ≡ false
       by false e = refl
       by true e =
-          let same = number_same a (suc b) ia (is_there (slice_get ss (suc b)) s here) (sym (same_path_eq (s.slot ∷ path s.parent) (path a) e) ∙ sym (path_up ss tree b s here)) in
+          let same = number_same a (suc b) ia (is_there (slice_get ss (suc b)) s here) (sym (same_path_eq (s.slot ∷ path s.parent) (path a) e)
+          ∙ sym (path_up ss tree b s here)) in
           absurd (omega (arith, same, lt))
 
   up_is : (a b : ℕ) (s : SpaceRec) → Is a → slice_get ss (suc b) ≡ Some s → a < suc b → is_within (path a) (path (suc b)) ≡ is_within (path a) (path s.parent)
@@ -134,9 +135,11 @@ module _ (ss : List SpaceRec) (tree : IsTree ss) (nested : IsNested ss) where
   unfolding is_above_by
   above_by zero a b le ia ib = level a b (omega (arith, le)) ia ib
   above_by (suc d) a zero le ia ib = ap (λ t. cond t (a == 0) (is_above_by d ss a (parent_of ss 0))) (le-leb 0 a (omega arith)) ∙ level a 0 (omega arith) ia ib
-  above_by (suc d) a (suc b) le ia ib = let s = item_of (slice_get ss (suc b)) ib in by s.item s.is (leb (suc b) a) refl (λ h. above_by d a s.item.parent h ia (parent_there b s.item s.is))
+  above_by (suc d) a (suc b) le ia ib = let s = item_of (slice_get ss (suc b)) ib in
+      by s.item s.is (leb (suc b) a) refl (λ h. above_by d a s.item.parent h ia (parent_there b s.item s.is))
     where
-      by : (s : SpaceRec) → slice_get ss (suc b) ≡ Some s → (t : Bool) → leb (suc b) a ≡ t → (s.parent ≤ d → is_above_by d ss a s.parent ≡ is_within (path a) (path s.parent)) →
+      by : (s : SpaceRec) → slice_get ss (suc b) ≡ Some s → (t : Bool) → leb (suc b) a ≡ t
+          → (s.parent ≤ d → is_above_by d ss a s.parent ≡ is_within (path a) (path s.parent)) →
           cond t (a == suc b) (is_above_by d ss a (parent_of ss (suc b))) ≡ is_within (path a) (path (suc b))
       by s here true e rest = level a (suc b) (leb-true (suc b) a e) ia ib
       by s here false e rest =
@@ -175,15 +178,32 @@ module _ (ss : List SpaceRec) (tree : IsTree ss) (nested : IsNested ss) where
       by s.item s.is (parent_of ss (suc b) == a) refl
       (λ low below. child_is d a s.item.parent low ia (parent_there b s.item s.is) below (sym (up_is a b s.item ia s.is lt) ∙ e))
     where
-      by : (s : SpaceRec) → slice_get ss (suc b) ≡ Some s → (t : Bool) → (parent_of ss (suc b) == a) ≡ t → (s.parent ≤ d → a < s.parent → Child a s.parent (child_by d ss a s.parent)) →
+      by : (s : SpaceRec) → slice_get ss (suc b) ≡ Some s → (t : Bool) → (parent_of ss (suc b) == a) ≡ t
+          → (s.parent ≤ d → a < s.parent → Child a s.parent (child_by d ss a s.parent)) →
           Child a (suc b) (cond t (suc b) (child_by d ss a (parent_of ss (suc b))))
-      by s here true f rest = record { before = b; number = refl; space = s; here = here; parent = sym (parent_is (suc b) s here) ∙ eqb-true (parent_of ss (suc b)) a f; way = within_itself (path (suc b)) }
+      by s here true f rest = record {
+        before = b;
+        number = refl;
+        space = s;
+        here = here;
+        parent = sym (parent_is (suc b) s here)
+            ∙ eqb-true (parent_of ss (suc b)) a f;
+        way = within_itself (path (suc b));
+      }
       by s here false f rest =
           let low = tree.low b s here in
           let under = within_low a s.parent ia (parent_there b s here) (sym (up_is a b s ia here lt) ∙ e) in
           let r = rest (omega (arith, low, le)) (apart (parent_is (suc b) s here) under) in
           subst (λ n. Child a (suc b) (child_by d ss a n)) (sym (parent_is (suc b) s here))
-          (record { before = r.before; number = r.number; space = r.space; here = r.here; parent = r.parent; way = ap (is_within (path (child_by d ss a s.parent))) (path_up ss tree b s here) ∙ within_more (path (child_by d ss a s.parent)) (path s.parent) s.slot r.way })
+          (record {
+            before = r.before;
+            number = r.number;
+            space = r.space;
+            here = r.here;
+            parent = r.parent;
+            way = ap (is_within (path (child_by d ss a s.parent))) (path_up ss tree b s here)
+                ∙ within_more (path (child_by d ss a s.parent)) (path s.parent) s.slot r.way;
+          })
         where
           clash : true ≡ false → ⊥
           clash e = cc
@@ -231,7 +251,8 @@ module _ (ss : List SpaceRec) (tree : IsTree ss) (nested : IsNested ss) where
       ∙ ap (λ y. Leads r name (path from) (slot_at ss c) ∷ down r r y (target w last)) (sym up)
       ∙ ap (λ o. Leads r name (path from) (slot_at ss c) ∷ down_by r r (path c) o) (sym (stripped (path c) w last (path to) e))
     where
-      front : (last : Option ℕ) (k : ℕ) → down r name (path from) (target (w ++ k ∷ []) last) ≡ Leads r name (path from) k ∷ down r r (k ∷ path from) (target w last)
+      front : (last : Option ℕ) (k : ℕ) → down r name (path from) (target (w ++ k ∷ []) last) ≡ Leads r name (path from) k
+          ∷ down r r (k ∷ path from) (target w last)
       front None k = down_front r name k (path from) w
       front (Some j) k = down_front r name k (path from) (j ∷ w)
 
@@ -250,17 +271,26 @@ module _ (ss : List SpaceRec) (tree : IsTree ss) (nested : IsNested ss) where
       within = true_of (strip (path from) (path to)) fits.2
 
       by : (t : Bool) → (from == to) ≡ t →
-          (walk_rest ss (walks.Down r name from to last) ≡ listing (cond t (last_order r name (path to) last) (Some (Leads r name (path from) (slot_at ss (child_towards ss from to))))) ++ walk_rest ss (cond t walks.Done (walks.Down r r (child_towards ss from to) to last)))
+          (walk_rest ss (walks.Down r name from to last)
+          ≡ listing (cond t (last_order r name (path to) last) (Some (Leads r name (path from) (slot_at ss (child_towards ss from to)))))
+          ++ walk_rest ss (cond t walks.Done (walks.Down r r (child_towards ss from to) to last)))
           × Fits (cond t walks.Done (walks.Down r r (child_towards ss from to) to last))
       by true e =
-          let same = eqb-true from to e in
-          (ap (λ n. walk_rest ss (walks.Down r name n to last)) same ∙ arrived r name to last ∙ sym (append-nil (listing (last_order r name (path to) last))), tt)
+          let same = eqb-true from to e in (
+            ap (λ n. walk_rest ss (walks.Down r name n to last)) same ∙ arrived r name to last
+                ∙ sym (append-nil (listing (last_order r name (path to) last))),
+            tt,
+          )
       by false e =
           let lt = below (within_low from to ia ib within) in
           let h = towards from to ia ib lt within in
           let way = within_some (path (child_towards ss from to)) (path to) (strip (path (child_towards ss from to)) (path to)) refl h.way in (
             stepped r name from to last (child_towards ss from to) h way.0 way.2,
-            (some_of (slice_get ss (child_towards ss from to)) (is_there (slice_get ss (child_towards ss from to)) h.space h.here), fits.1, some_of (strip (path (child_towards ss from to)) (path to)) h.way),
+            (
+              some_of (slice_get ss (child_towards ss from to)) (is_there (slice_get ss (child_towards ss from to)) h.space h.here),
+              fits.1,
+              some_of (strip (path (child_towards ss from to)) (path to)) h.way,
+            ),
           )
         where
           clash : true ≡ false → ⊥
@@ -278,7 +308,8 @@ module _ (ss : List SpaceRec) (tree : IsTree ss) (nested : IsNested ss) where
   top_within : (x : Path) → is_within [] x ≡ true
   top_within x = ap is_some (strip_top x)
 
-  from_top : (slot r b : ℕ) (k : ℕ) (z : Path) (last : Option ℕ) → target (path b) last ≡ k ∷ z → walk_rest ss (walks.Down r slot 0 b last) ≡ from_root slot r (k ∷ z)
+  from_top : (slot r b : ℕ) (k : ℕ) (z : Path) (last : Option ℕ) → target (path b) last ≡ k ∷ z
+      → walk_rest ss (walks.Down r slot 0 b last) ≡ from_root slot r (k ∷ z)
   unfolding path_within
   from_top slot r b k z last e = ap (down_by r slot []) (ap (strip []) e ∙ strip_top (k ∷ z)) ∙ sym (root_is_down slot r (k ∷ z))
 
@@ -286,14 +317,16 @@ module _ (ss : List SpaceRec) (tree : IsTree ss) (nested : IsNested ss) where
   unfolding path_within
   fits_top r slot b last ib = (some_of (slice_get ss 0) tree.top, some_of (slice_get ss b) ib, some_of (strip [] (path b)) (top_within (path b)))
 
-  root_goes : (slot b : ℕ) → Is b → (from_root slot P (path b) ≡ walk_rest ss (cond (b == 0) (walks.Top P) (walks.Down P slot 0 b None))) × Fits (cond (b == 0) (walks.Top P) (walks.Down P slot 0 b None))
+  root_goes : (slot b : ℕ) → Is b → (from_root slot P (path b) ≡ walk_rest ss (cond (b == 0) (walks.Top P) (walks.Down P slot 0 b None)))
+      × Fits (cond (b == 0) (walks.Top P) (walks.Down P slot 0 b None))
   unfolding path_within
   root_goes slot zero ib = (refl, tt)
   root_goes slot (suc n) ib =
       let s = item_of (slice_get ss (suc n)) ib in
       let up = path_up ss tree n s.item s.is in
       let off = ne_eqb (suc n) 0 (λ e. omega (arith, e)) in
-      subst (λ t. (from_root slot P (path (suc n)) ≡ walk_rest ss (cond t (walks.Top P) (walks.Down P slot 0 (suc n) None))) × Fits (cond t (walks.Top P) (walks.Down P slot 0 (suc n) None))) (sym off)
+      subst (λ t. (from_root slot P (path (suc n)) ≡ walk_rest ss (cond t (walks.Top P) (walks.Down P slot 0 (suc n) None)))
+      × Fits (cond t (walks.Top P) (walks.Down P slot 0 (suc n) None))) (sym off)
       (ap (from_root slot P) up ∙ sym (from_top slot P (suc n) s.item.slot (path s.item.parent) None up), fits_top P slot (suc n) None ib)
 
   pub goes_is : (slot a b : ℕ) → Is a → Is b → (goes_to slot (path a) (path b) ≡ walk_rest ss (goes ss slot a b)) × Fits (goes ss slot a b)
@@ -305,14 +338,19 @@ module _ (ss : List SpaceRec) (tree : IsTree ss) (nested : IsNested ss) where
       clash : true ≡ false → ⊥
       clash e = cc
 
-      by : (t : Bool) → t ≡ is_within (path a) (path b) → (o : Option Path) → strip (path a) (path b) ≡ o → (goes_by slot (path a) (path b) o ≡ walk_rest ss (chosen t)) × Fits (chosen t)
+      by : (t : Bool) → t ≡ is_within (path a) (path b) → (o : Option Path) → strip (path a) (path b) ≡ o
+          → (goes_by slot (path a) (path b) o ≡ walk_rest ss (chosen t)) × Fits (chosen t)
       by true e None h = absurd (clash (e ∙ ap is_some h))
-      by true e (Some w) h = (ap (down_by P P (path a)) (sym h), (some_of (slice_get ss a) ia, some_of (slice_get ss b) ib, some_of (strip (path a) (path b)) (sym e)))
+      by true e (Some w) h = (
+        ap (down_by P P (path a)) (sym h),
+        (some_of (slice_get ss a) ia, some_of (slice_get ss b) ib, some_of (strip (path a) (path b)) (sym e)),
+      )
       by false e (Some w) h = absurd (clash (sym (e ∙ ap is_some h)))
       by false e None h = root_goes slot b ib
 
   -- a pointer to a slot of a space
-  pub leads_is : (slot r a k b : ℕ) → Is a → Is b → (leads_to_at slot r (path a) (k ∷ path b) ≡ walk_rest ss (leads ss slot r a (In k b))) × Fits (leads ss slot r a (In k b))
+  pub leads_is : (slot r a k b : ℕ) → Is a → Is b → (leads_to_at slot r (path a) (k ∷ path b) ≡ walk_rest ss (leads ss slot r a (In k b)))
+      × Fits (leads ss slot r a (In k b))
   leads_is slot r a k b ia ib = by (is_above ss a b) (above_is a b ia ib) (strip (path a) (path b)) refl
     where
       chosen : Bool → Walk
@@ -321,7 +359,8 @@ module _ (ss : List SpaceRec) (tree : IsTree ss) (nested : IsNested ss) where
       clash : true ≡ false → ⊥
       clash e = cc
 
-      root : (o : Option Path) → strip (path a) (k ∷ path b) ≡ o → is_within (path a) (path b) ≡ false → leads_by slot r (path a) (k ∷ path b) o ≡ from_root slot r (k ∷ path b)
+      root : (o : Option Path) → strip (path a) (k ∷ path b) ≡ o → is_within (path a) (path b) ≡ false
+          → leads_by slot r (path a) (k ∷ path b) o ≡ from_root slot r (k ∷ path b)
       root None h off = refl
       root (Some []) h off = refl
       root (Some (j ∷ w)) h off = absurd (clash (sym (deeper (strip_some (path a) (k ∷ path b) (j ∷ w) h)) ∙ off))
@@ -332,11 +371,15 @@ module _ (ss : List SpaceRec) (tree : IsTree ss) (nested : IsNested ss) where
               tails : k ∷ path b ≡ j ∷ (w ++ path a) → path b ≡ w ++ path a
               tails e = cc
 
-      by : (t : Bool) → t ≡ is_within (path a) (path b) → (o : Option Path) → strip (path a) (path b) ≡ o → (leads_by slot r (path a) (k ∷ path b) (strip (path a) (k ∷ path b)) ≡ walk_rest ss (chosen t)) × Fits (chosen t)
+      by : (t : Bool) → t ≡ is_within (path a) (path b) → (o : Option Path) → strip (path a) (path b) ≡ o
+          → (leads_by slot r (path a) (k ∷ path b) (strip (path a) (k ∷ path b)) ≡ walk_rest ss (chosen t)) × Fits (chosen t)
       by true e None h = absurd (clash (e ∙ ap is_some h))
       by true e (Some w) h =
-          let way = stripped (path a) w (Some k) (path b) (strip_some (path a) (path b) w h) in
-          (ap (leads_by slot r (path a) (k ∷ path b)) way ∙ ap (down_by r P (path a)) (sym way), (some_of (slice_get ss a) ia, some_of (slice_get ss b) ib, some_of (strip (path a) (path b)) (sym e)))
+          let way = stripped (path a) w (Some k) (path b) (strip_some (path a) (path b) w h) in (
+            ap (leads_by slot r (path a) (k ∷ path b)) way
+                ∙ ap (down_by r P (path a)) (sym way),
+            (some_of (slice_get ss a) ia, some_of (slice_get ss b) ib, some_of (strip (path a) (path b)) (sym e)),
+          )
       by false e o h = (root (strip (path a) (k ∷ path b)) refl (sym e) ∙ sym (from_top slot r b k (path b) (Some k) refl), fits_top r slot b (Some k) ib)
 
   -- and one to the subtree itself

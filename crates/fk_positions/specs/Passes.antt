@@ -149,14 +149,16 @@ module _ (ss : List SpaceRec) (slot : ℕ) (bind : ℕ → ℕ) (n : ℕ) (s : S
 
   abbrev pub parks_fault_part : ℕ → ℕ → Option FaultRec → Part
   parks_fault_part i x None = Nothing
-  parks_fault_part i x (Some f) = if is_out i f.port then Asks (ParksFault P here x (bind i) (taken_flag (pictured_fault ss f).taker) (fault_words (pictured_fault ss f))) else Nothing
+  parks_fault_part i x (Some f) = if is_out i f.port then Asks
+      (ParksFault P here x (bind i) (taken_flag (pictured_fault ss f).taker) (fault_words (pictured_fault ss f))) else Nothing
 
   abbrev pub points_out_part : ℕ → ℕ → Link → Part
   points_out_part i x to = if is_out i to then Asks (Points P here x T) else Nothing
 
   abbrev pub outward_part : ℕ → ℕ → Rec → ℕ → Part
   outward_part i x r k =
-      if k == 0 then points_out_part i x (link_of r) else if k == 1 then parks_talk_part i x (talk_of r) else if k == 2 then parks_fault_part i x (fault_of r) else Nothing
+      if k == 0 then points_out_part i x (link_of r) else if k == 1 then parks_talk_part i x (talk_of r) else if k
+      == 2 then parks_fault_part i x (fault_of r) else Nothing
 
   -- Ties
   abbrev pub path_of : Link → Path
@@ -171,17 +173,20 @@ module _ (ss : List SpaceRec) (slot : ℕ) (bind : ℕ → ℕ) (n : ℕ) (s : S
   talk_part x k None = Nothing
   talk_part x k (Some t) =
       if is_pair t.port t.server
-      then (if k == 0 then walks_to T n t.port else if k == 1 then walks_to U n t.server else Asks (LinksTalk P here x T U (path_of t.port) (path_of t.server) (talk_words (pictured_talk ss t))))
+      then (if k == 0 then walks_to T n t.port else if k
+      == 1 then walks_to U n t.server else Asks (LinksTalk P here x T U (path_of t.port) (path_of t.server) (talk_words (pictured_talk ss t))))
       else Nothing
 
   abbrev pub taken_part : ℕ → ℕ → FaultRec → Option Link → Part
   taken_part x k f None =
       if leads_within f.port
-      then (if k == 0 then walks_to T n f.port else if k == 1 then Nothing else Asks (RaisesFault P here x T (path_of f.port) (fault_words (pictured_fault ss f))))
+      then (if k == 0 then walks_to T n f.port else if k
+      == 1 then Nothing else Asks (RaisesFault P here x T (path_of f.port) (fault_words (pictured_fault ss f))))
       else Nothing
   taken_part x k f (Some taker) =
       if is_pair f.port taker
-      then (if k == 0 then walks_to T n f.port else if k == 1 then walks_to U n taker else Asks (LinksFault P here x T U (path_of f.port) (path_of taker) (fault_words (pictured_fault ss f))))
+      then (if k == 0 then walks_to T n f.port else if k
+      == 1 then walks_to U n taker else Asks (LinksFault P here x T U (path_of f.port) (path_of taker) (fault_words (pictured_fault ss f))))
       else Nothing
 
   abbrev pub fault_part : ℕ → ℕ → Option FaultRec → Part

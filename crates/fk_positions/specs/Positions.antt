@@ -124,7 +124,12 @@ module _ (ss : List SpaceRec) (slot : ℕ) (bind : ℕ → ℕ) where
   next_room pass a n None = at pass a (spots.After 0)
   next_room pass a n (Some s) =
       if visits ss pass n s
-      then record { walk = goes ss slot a (site pass n s); pass = pass; spot = if nat_lt 0 (items_of pass s) then spots.Part n 0 0 else spots.Room (suc n); stands = site pass n s }
+      then record {
+        walk = goes ss slot a (site pass n s);
+        pass = pass;
+        spot = if nat_lt 0 (items_of pass s) then spots.Part n 0 0 else spots.Room (suc n);
+        stands = site pass n s;
+      }
       else at pass a (spots.Room (suc n))
 
   abbrev pub next_part : Pass → ℕ → ℕ → ℕ → ℕ → Option SpaceRec → Position

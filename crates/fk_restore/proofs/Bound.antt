@@ -5,7 +5,8 @@ use Rattle.laws_restore.specs.Restore.{lowest_bound}
 use Rattle.fk_restore.specs.Bounds.{bound_here}
 
 module _ (bind : ℕ → ℕ) (rooms : List Room) (j : ℕ) where
-  pub not_here : (n i : ℕ) (t : Bool) → 0 < n → t ≡ bound_here bind rooms j i → t ≡ false → lowest_bound bind rooms j (n - 1) (i + 1) ≡ lowest_bound bind rooms j n i
+  pub not_here : (n i : ℕ) (t : Bool) → 0 < n → t ≡ bound_here bind rooms j i → t ≡ false
+      → lowest_bound bind rooms j (n - 1) (i + 1) ≡ lowest_bound bind rooms j n i
   not_here zero i t lt is off = absurd (omega (arith, lt))
   not_here (suc n) i t lt is off =
       let one : suc n - 1 ≡ n = omega arith in

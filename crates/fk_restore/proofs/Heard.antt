@@ -21,7 +21,8 @@ module _ (slot : ℕ) (ss : List SpaceRec) (pairs : List (ℕ × ℕ)) (os : Lis
   same true = refl
   same false = refl
 
-  looked : (i : ℕ) (t : Bool) → cond t (states.Works os) (refused (bound_by pairs) (rooms_from ss 0 ss) os (Some i)) ≡ goes_on ss pairs os (cond t None (Some i))
+  looked : (i : ℕ) (t : Bool) → cond t (states.Works os) (refused (bound_by pairs) (rooms_from ss 0 ss) os (Some i))
+      ≡ goes_on ss pairs os (cond t None (Some i))
   looked i true = refl
   looked i false = refl
 

@@ -8,7 +8,8 @@ use Rattle.laws_rooms.specs.Rooms.{rooms_from}
 use Rattle.fk_restore.specs.Restores.{clears, goes_on}
 
 pub misses : (ss : List SpaceRec) (pairs : List (ℕ × ℕ)) (os : List Order) (port : Option ℕ) (j count low : ℕ) → port ≡ Some j →
-    count ≡ objects (rooms_from ss 0 ss) → low ≡ lowest_bound (bound_by pairs) (rooms_from ss 0 ss) j 240 0 → clears 0 (count + 1) low ≡ goes_on ss pairs os port
+    count ≡ objects (rooms_from ss 0 ss) → low ≡ lowest_bound (bound_by pairs) (rooms_from ss 0 ss) j 240 0
+    → clears 0 (count + 1) low ≡ goes_on ss pairs os port
 misses ss pairs os port j count low is counted lowest =
     let one : count + 1 ≡ suc count = omega arith in
     (λ k. states.Clears drops (one k) (lowest k))

@@ -31,7 +31,8 @@ no_order : (slot : ℕ) (o : Option Order) → None ≡ option_map (stage_of slo
 no_order slot None e = refl
 no_order slot (Some o) e = absurd cc
 
-some_order : (slot : ℕ) (stage : Stage) (o : Option Order) → Some stage ≡ option_map (stage_of slot) o → (order : Order) × (o ≡ Some order) × (stage ≡ stage_of slot order)
+some_order : (slot : ℕ) (stage : Stage) (o : Option Order) → Some stage ≡ option_map (stage_of slot) o
+    → (order : Order) × (o ≡ Some order) × (stage ≡ stage_of slot order)
 some_order slot stage None e = absurd cc
 some_order slot stage (Some o) e = (o, refl, cc)
 
@@ -59,7 +60,8 @@ module _ (i : Image) (slot : ℕ) (pairs : List (ℕ × ℕ)) (p : Position) whe
 
   -- ---- the call
 
-  pub calls_release : is_empty p Here ≡ false → None ≡ option_map (stage_of slot) Here → head slot (states.Works Left) ≡ Asks (SpaceRelease OWN_SPACE slot) no_words
+  pub calls_release : is_empty p Here ≡ false → None ≡ option_map (stage_of slot) Here
+      → head slot (states.Works Left) ≡ Asks (SpaceRelease OWN_SPACE slot) no_words
   calls_release full none = ap (λ os. head slot (states.Works os)) (nothing_left full none)
 
   pub calls_order : is_valid i ≡ true → IsPosition i.spaces slot (bound_by pairs) p → (stage : Stage) (words : List ℕ) →

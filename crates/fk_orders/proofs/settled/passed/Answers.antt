@@ -9,7 +9,8 @@ use Rattle.fk_orders.proofs.settled.passed.Goals as goal
 pub returns-then-is_unused : goal.returns-then-is_unused
 returns-then-is_unused c =
     let bind = bound_by c.args.pairs.now in
-    let gone = unused_gone (image_of c.args.spaces.now) c.args.slot bind c.args.at c.requires.valid c.requires.place (sym c.is_unused.ensures ∙ c.if-is_unused.true) in
+    let gone = unused_gone (image_of c.args.spaces.now) c.args.slot bind c.args.at c.requires.valid c.requires.place (sym c.is_unused.ensures
+    ∙ c.if-is_unused.true) in
     rw (c.next_pass.ensures c.args.spaces.now c.args.slot bind) record { rest = gone.0; place = gone.1; fewer = gone.2; stands = tt }
 
 pub next_of-requires : goal.next_of-requires

@@ -10,4 +10,5 @@ use Rattle.fk_positions.proofs.stages.asked.Goals as goal
 pub returns-then-part-lt6 : goal.returns-then-part-lt6
 returns-then-part-lt6 c =
     part_asked c.args.spaces.now c.args.slot (bound_by c.args.pairs.now) c.args.pass c.args.number c.args.item c.args.part
-    (slice_get c.args.spaces.now c.args.number) c.in-Some.space.now _ (grind (arith, common_steps, gets)) (lt-ltb c.args.part 6 c.if-part-lt6.true) c.part_stage.ensures
+    (slice_get c.args.spaces.now c.args.number) c.in-Some.space.now _ (grind (arith, common_steps, gets))
+    (lt-ltb c.args.part 6 c.if-part-lt6.true) c.part_stage.ensures

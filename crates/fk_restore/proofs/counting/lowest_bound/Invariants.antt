@@ -6,7 +6,8 @@ use Rattle.fk_restore.proofs.counting.lowest_bound.Given as goal
 
 abbrev pub invariant-loop-left : goal.invariant-loop-left
 invariant-loop-left l =
-    (lowest_bound (bound_by l.pairs) (rooms_from l.spaces 0 l.spaces) l.port l.left l.slot ≡ lowest_bound (bound_by l.pairs) (rooms_from l.spaces 0 l.spaces) l.port 240 0)
+    (lowest_bound (bound_by l.pairs) (rooms_from l.spaces 0 l.spaces) l.port l.left l.slot
+    ≡ lowest_bound (bound_by l.pairs) (rooms_from l.spaces 0 l.spaces) l.port 240 0)
     × (l.slot + l.left ≡ 240)
 
 abbrev pub decreases-loop-left : goal.decreases-loop-left

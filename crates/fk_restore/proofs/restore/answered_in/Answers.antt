@@ -24,11 +24,14 @@ returns-clause-sound c =
 pub returns-clause-state : goal.returns-clause-state
 returns-clause-state c =
     subst (λ ws. phase_of c.args.image.now.spaces c.args.slot c.args.pairs.now c.after.result
-    ≡ (restore_of c.args.slot c.args.image.now c.args.pairs.now).next (phase_of c.args.image.now.spaces c.args.slot c.args.pairs.now c.args.phase) c.args.answer.now.status ws)
+    ≡ (restore_of c.args.slot c.args.image.now c.args.pairs.now).next
+    (phase_of c.args.image.now.spaces c.args.slot c.args.pairs.now c.args.phase) c.args.answer.now.status ws)
     c.words_of-words.ensures
     (subst (λ ps. phase_of c.args.image.now.spaces c.args.slot ps c.after.result
-    ≡ (restore_of c.args.slot c.args.image.now ps).next (phase_of c.args.image.now.spaces c.args.slot ps c.args.phase) c.args.answer.now.status c.words_of-words.result.now)
+    ≡ (restore_of c.args.slot c.args.image.now ps).next
+    (phase_of c.args.image.now.spaces c.args.slot ps c.args.phase) c.args.answer.now.status c.words_of-words.result.now)
     c.as_slice-bound.ensures
     (subst (λ ss. phase_of ss c.args.slot c.as_slice-bound.result.now c.after.result
-    ≡ (restore_of c.args.slot (image_of ss) c.as_slice-bound.result.now).next (phase_of ss c.args.slot c.as_slice-bound.result.now c.args.phase) c.args.answer.now.status c.words_of-words.result.now)
+    ≡ (restore_of c.args.slot (image_of ss) c.as_slice-bound.result.now).next
+    (phase_of ss c.args.slot c.as_slice-bound.result.now c.args.phase) c.args.answer.now.status c.words_of-words.result.now)
     c.as_slice-spaces.ensures c.after.ensures.state))
