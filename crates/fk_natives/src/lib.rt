@@ -5,14 +5,17 @@
 //! state after what it is told is that of the definition (`specs/Natives.antt`), whatever it is told and
 //! whenever: a console keeps each word that it is sent; a server keeps the first 64 words of a request,
 //! replies by its rule when its client hands over, gives the reply and hands back; a talk that is taken up
-//! has an empty request, and at the server's turn the reply to that without the words that were moved.
+//! has an empty request, and at the server's turn the reply to that without the words that were moved. So one reply is what the
+//! server's rule answers, and services that are alike answer alike (`specs/Answers.antt`).
 #![tactic(auto)]
 
+mod answers;
 mod console;
 mod native;
 mod server;
 mod service;
 
+pub use answers::{alike_services_answer_alike, alike_services_take_up_alike, replies_are_by_rule};
 pub use console::Console;
 pub use native::Native;
 pub use server::Server;
