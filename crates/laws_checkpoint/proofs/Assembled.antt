@@ -1,5 +1,6 @@
 -- What was read and gathered of spaces, put together, is their part of the image.
-use Rattle.std.proofs.Common.{◌≡◌, ◌≤◌, ℕ, zero, suc, ◌+◌, List, [], ◌∷◌, ◌++◌, map, drop, length, Option, Some, None, option_map, refl, sym, ap, subst, ◌∙◌, arith, ◌⊎◌, inl, inr, append_assoc}
+use Rattle.std.proofs.Common.{◌≡◌, ◌≤◌, ℕ, zero, suc, ◌+◌, List, [], ◌∷◌, ◌++◌, map, drop, length, Option, Some, None, option_map, refl, sym, ap, subst, ◌∙◌}
+use Rattle.std.proofs.Common.{arith, ◌⊎◌, inl, inr, append_assoc}
 use Rattle.fk_model.specs.declared.limits.TheConstants.{SLOTS, PAGES}
 use Rattle.fk_model.specs.declared.names.Kind.TheVariants as kinds
 use Rattle.fk_model.specs.Places.{Path, slot_of, Ptr}
@@ -14,11 +15,13 @@ use Rattle.fk_model.proofs.walks.Members.{IsIn}
 use Rattle.fk_image.specs.declared.image.Rec.{Rec}
 use Rattle.fk_image.specs.declared.image.PageRec.{PageRec}
 use Rattle.fk_image.specs.declared.image.SpaceRec.{SpaceRec}
-use Rattle.laws_pictures.specs.Imaged.{link_of, rec_of, with_object, objects_from, with_page, pages_from, rec_at, holder_link, parent_number, space_rec, image_of}
+use Rattle.laws_pictures.specs.Imaged.{link_of, rec_of, with_object, objects_from, with_page, pages_from, rec_at, holder_link, parent_number, space_rec}
+use Rattle.laws_pictures.specs.Imaged.{image_of}
 use Rattle.laws_checkpoint.specs.Foreign.{Task}
 use Rattle.laws_checkpoint.specs.Contents.{Item, with_item, items_from, record_in, record_at, content}
 use Rattle.laws_checkpoint.specs.Gather.{pointer_fields, body_as, shown_at, pointers_of, all_pointers}
-use Rattle.laws_checkpoint.specs.Assembly.{pointers_by, item_task, holder_task, content_tasks, gathered_tasks, rec_from, asked_of, asked_of_all, objects_with, page_rec, holder_from, behind_holder, space_with, spaces_with, paths_read, assembled}
+use Rattle.laws_checkpoint.specs.Assembly.{pointers_by, item_task, holder_task, content_tasks, gathered_tasks, rec_from, asked_of, asked_of_all, objects_with}
+use Rattle.laws_checkpoint.specs.Assembly.{page_rec, holder_from, behind_holder, space_with, spaces_with, paths_read, assembled}
 use Rattle.laws_checkpoint.proofs.Tasks.{pointers_are}
 use Rattle.laws_checkpoint.proofs.Recorded.{rec_is}
 

@@ -1,5 +1,6 @@
 -- A checkpoint's calls are bounded, in each of its states and so at its end.
-use Rattle.std.proofs.Common.{◌≡◌, ℕ, suc, ◌+◌, ◌*◌, ◌≤◌, true, IsSome, is_some, List, [], ◌∷◌, ◌++◌, length, Option, Some, None, option_map, refl, sym, ap, subst, arith, ◌∙◌, ◌⊎◌, inl, inr}
+use Rattle.std.proofs.Common.{◌≡◌, ℕ, suc, ◌+◌, ◌*◌, ◌≤◌, true, IsSome, is_some, List, [], ◌∷◌, ◌++◌, length, Option, Some, None, option_map, refl, sym, ap}
+use Rattle.std.proofs.Common.{subst, arith, ◌∙◌, ◌⊎◌, inl, inr}
 use Rattle.std.proofs.Math.Nat.{suc-mul}
 use Rattle.fk_model.specs.declared.limits.TheConstants.{OWN_SPACE, LAST_USER_SLOT}
 use Rattle.fk_model.specs.declared.names.Kind.TheVariants as kinds
@@ -33,7 +34,8 @@ use Rattle.laws_checkpoint.specs.Contents as reads
 use Rattle.laws_checkpoint.specs.Gather as gathers
 use Rattle.laws_checkpoint.specs.Assembly.{sought_tasks, gathered_tasks, assembled}
 use Rattle.laws_checkpoint.specs.Bounded.{count_of, LiesWithin, CheckpointIsBounded}
-use Rattle.laws_checkpoint.specs.Checkpoint.{End, State, head, next, ends_as, gathers_on, gathering, reads_on, reading, sought, seeks_on, seeking, walks_on, walking, checkpoint}
+use Rattle.laws_checkpoint.specs.Checkpoint.{End, State, head, next, ends_as, gathers_on, gathering, reads_on, reading, sought, seeks_on, seeking, walks_on}
+use Rattle.laws_checkpoint.specs.Checkpoint.{walking, checkpoint}
 use Rattle.laws_checkpoint.specs.Checkpoint.End.{Gone, Foreign, Done}
 use Rattle.laws_checkpoint.specs.Checkpoint.State.{Holds, Readies, Walks, Seeks, Reads, Gathers, Drops, Releases, Over}
 use Rattle.laws_checkpoint.proofs.Walks as walking_on
@@ -43,15 +45,19 @@ use Rattle.laws_checkpoint.proofs.Seeks.{Base}
 use Rattle.laws_checkpoint.proofs.Contents as reading_on
 use Rattle.laws_checkpoint.proofs.Gathers as gathering_on
 use Rattle.laws_checkpoint.proofs.Gathers.{live_target, above_live}
-use Rattle.laws_checkpoint.proofs.Gathers.Position.{AtDown as g_AtDown, AtFields as g_AtFields, AtLooks as g_AtLooks, AtLeads as g_AtLeads, AtBeside as g_AtBeside, AtOver as g_AtOver}
+use Rattle.laws_checkpoint.proofs.Gathers.Position.{AtDown as g_AtDown, AtFields as g_AtFields, AtLooks as g_AtLooks, AtLeads as g_AtLeads}
+use Rattle.laws_checkpoint.proofs.Gathers.Position.{AtBeside as g_AtBeside, AtOver as g_AtOver}
 use Rattle.laws_checkpoint.proofs.Tasks.{spaces_are, gathered_ok}
 use Rattle.laws_checkpoint.proofs.SeekBounds.{left as seeks_left, begins as seeks_begin, fewer as seeks_fewer}
-use Rattle.laws_checkpoint.proofs.Spending.{weigh, Walked, walk_place, walked_on, walked_most, gather_costs, Gathered, gather_depth, gather_begun, gathered_on, gathered_most}
+use Rattle.laws_checkpoint.proofs.Spending.{weigh, Walked, walk_place, walked_on, walked_most, gather_costs, Gathered, gather_depth, gather_begun, gathered_on}
+use Rattle.laws_checkpoint.proofs.Spending.{gathered_most}
 use Rattle.laws_checkpoint.proofs.Reading.{sizes, Read, read_begun, read_on, read_most}
 use Rattle.laws_checkpoint.proofs.Ended.{empty, first_state, first_over, first_phase}
 use Rattle.laws_checkpoint.proofs.Sums.{all-most}
-use Rattle.laws_checkpoint.proofs.Working.{asks_back, near, root_there, valid_start, few_start, root_space, mets, spaces, contents, pointers, Phase, begins_seeking, others, own}
-use Rattle.laws_checkpoint.proofs.Working.Phase.{AtFirst, AtSecond, AtThird, AtWalks, AtSeeks, AtReads, AtGathers, AtDrops, AtTwoLeft, AtOneLeft, AtReleases, AtOver}
+use Rattle.laws_checkpoint.proofs.Working.{asks_back, near, root_there, valid_start, few_start, root_space, mets, spaces, contents, pointers, Phase}
+use Rattle.laws_checkpoint.proofs.Working.{begins_seeking, others, own}
+use Rattle.laws_checkpoint.proofs.Working.Phase.{AtFirst, AtSecond, AtThird, AtWalks, AtSeeks, AtReads, AtGathers, AtDrops, AtTwoLeft, AtOneLeft, AtReleases}
+use Rattle.laws_checkpoint.proofs.Working.Phase.{AtOver}
 
 none_more : {A : Type 0} (xs : List A) → xs ++ [] ≡ xs
 none_more [] = refl
@@ -147,7 +153,8 @@ module _ (nester : Path) (slot birth : ℕ) (low : slot ≤ LAST_USER_SLOT) (w :
   gather_deep v base valid few _ (g_AtDown from k ways j s t ts got at p h inside is path) = omega arith
   gather_deep v base valid few _ (g_AtFields n fs t ts got placed counts) = omega arith
   gather_deep v base valid few _ (g_AtLooks [] n fs t ts got placed counts field steps beneath) = omega arith
-  gather_deep v base valid few _ (g_AtLooks (k ∷ p) n fs t ts got placed counts field steps beneath) = reached v base valid few k p field.to field.ref beneath.j beneath.q beneath.is
+  gather_deep v base valid few _ (g_AtLooks (k ∷ p) n fs t ts got placed counts field steps beneath) =
+      reached v base valid few k p field.to field.ref beneath.j beneath.q beneath.is
   gather_deep v base valid few _ (g_AtLeads k at n fs t ts got placed counts field steps beneath) =
       let it = reached v base valid few k at field.to field.ref beneath.j beneath.q beneath.is in
       omega (arith, it)
@@ -255,7 +262,8 @@ module _ (nester : Path) (slot birth : ℕ) (low : slot ≤ LAST_USER_SLOT) (w :
         let asks_now = asks_back (reads.head slot s) stage words e in
         let later = reading_on.own nester slot start is_near is_valid is_few v s stage words reply all_read its asks_now answered in
         made_reads u (n + 1) (reads.next slot s reply.status reply.words) valid few later
-        (read_on nester slot start is_near is_valid is_few read_base v n s stage words reply its.base answered.valid answered.few its.position asks_now answered spent)
+        (read_on nester slot start is_near is_valid is_few read_base v n s stage words reply its.base answered.valid answered.few its.position asks_now answered
+        spent)
     made_on _ (AtGathers s closed its asking_it tidy) e spent =
         let asks_now = asks_back (gathers.head slot s) stage words e in
         let later = gathering_on.own nester slot start is_near v s stage words reply all_gathered its asks_now answered in
@@ -309,7 +317,8 @@ module _ (nester : Path) (slot birth : ℕ) (low : slot ≤ LAST_USER_SLOT) (w :
       let all = all-most nester slot start is_near is_valid is_few (root_there nester slot birth low w may held sound) d deep 0 in
       omega (arith, all)
 
-module _ (slot birth : ℕ) (w v : World) (nester : Path) (t : State) (d : ℕ) (low : slot ≤ LAST_USER_SLOT) (may : MayBegin w nester birth) (deep : LiesWithin (cut w nester slot) d) where
+module _ (slot birth : ℕ) (w v : World) (nester : Path) (t : State) (d : ℕ) (low : slot ≤ LAST_USER_SLOT) (may : MayBegin w nester birth)
+    (deep : LiesWithin (cut w nester slot) d) where
   abbrev limit : ℕ
   limit = 100 * ((count_of (cut w nester slot) + 1) * (d + 1))
 

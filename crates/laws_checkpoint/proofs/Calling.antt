@@ -51,7 +51,8 @@ use Rattle.laws_checkpoint.proofs.Contents as reading_on
 use Rattle.laws_checkpoint.proofs.Gathers as gathering_on
 use Rattle.laws_checkpoint.proofs.Phases.{own_scratch, tidy_empty, Held_on, make-row, drop-row}
 use Rattle.laws_checkpoint.proofs.Working.{asks_back, near, valid_start, few_start, Phase, fresh_targets, fresh_steps}
-use Rattle.laws_checkpoint.proofs.Working.Phase.{AtFirst, AtSecond, AtThird, AtWalks, AtSeeks, AtReads, AtGathers, AtDrops, AtTwoLeft, AtOneLeft, AtReleases, AtOver}
+use Rattle.laws_checkpoint.proofs.Working.Phase.{AtFirst, AtSecond, AtThird, AtWalks, AtSeeks, AtReads, AtGathers, AtDrops, AtTwoLeft, AtOneLeft, AtReleases}
+use Rattle.laws_checkpoint.proofs.Working.Phase.{AtOver}
 use Rattle.laws_checkpoint.proofs.Ended.{Came, came, call_head, ended_in, holding_in, empty}
 use Rattle.laws_checkpoint.proofs.Ended.Came.{NeverHeld, InPhase}
 

@@ -1,5 +1,6 @@
 -- A reader gathers what stands in each space.
-use Rattle.std.proofs.Common.{◌≡◌, ℕ, zero, suc, ◌+◌, ◌-◌, ◌≤◌, ◌<◌, Bool, true, false, cond, ◌==◌, nat_le, List, [], ◌∷◌, ◌++◌, map, Option, Some, None, option_map, refl, sym, ap, subst, arith, ◌∙◌, inl, inr}
+use Rattle.std.proofs.Common.{◌≡◌, ℕ, zero, suc, ◌+◌, ◌-◌, ◌≤◌, ◌<◌, Bool, true, false, cond, ◌==◌, nat_le, List, [], ◌∷◌, ◌++◌, map, Option, Some, None}
+use Rattle.std.proofs.Common.{option_map, refl, sym, ap, subst, arith, ◌∙◌, inl, inr}
 use Rattle.std.proofs.lemmas.Bool.{le-leb, leb-true}
 use Rattle.fk_model.specs.declared.limits.TheConstants.{OWN_SPACE, SLOTS, PAGES, LAST_PORTER_SLOT}
 use Rattle.fk_model.specs.declared.names.Kind.TheVariants as kinds
@@ -36,15 +37,18 @@ use Rattle.laws_jobs.proofs.Rows.{own-place, object-there, point-row, space_poin
 use Rattle.laws_jobs.proofs.Weaving.{first_sound}
 use Rattle.laws_checkpoint.specs.Foreign.{PLACES, way_from}
 use Rattle.laws_checkpoint.specs.Walk.{space_at}
-use Rattle.laws_checkpoint.specs.Contents.{Item, Content, with_item, items_from, record_in, record_at, content, State, begin, arrive, head, searched, looked, next, reader, SpacesAreRead}
+use Rattle.laws_checkpoint.specs.Contents.{Item, Content, with_item, items_from, record_in, record_at, content, State, begin, arrive, head, searched, looked}
+use Rattle.laws_checkpoint.specs.Contents.{next, reader, SpacesAreRead}
 use Rattle.laws_checkpoint.specs.Contents.State.{Down, Searches, Reads, Looks, Copies, Over}
 use Rattle.laws_checkpoint.proofs.Scans.{Scan, scan, lowest_none, lowest_first}
 use Rattle.laws_checkpoint.proofs.Scans.Scan.{Nobody, First}
 use Rattle.laws_checkpoint.proofs.Mild.{Comes, ComesWith}
 use Rattle.laws_checkpoint.proofs.Mild.IsMild.{Changes_nothing}
 use Rattle.laws_checkpoint.proofs.Tells.{above_kind}
-use Rattle.laws_checkpoint.proofs.Seeks.{follow, follow-way, FromIs, Base, base_others, first_base, root_is, own_base, kind_up, live_slot, space_live, free, from_named, ref_read, valid_own, one_change, no_change, is_places}
-use Rattle.laws_checkpoint.proofs.Walks.{there, kind_seen, IsSpace, PlacedIn, placed_moved, from_moved, same_there, space_now, named, seen_taken, below_none, empty_none, found_there, searched as search_comes, comes_down, comes_search}
+use Rattle.laws_checkpoint.proofs.Seeks.{follow, follow-way, FromIs, Base, base_others, first_base, root_is, own_base, kind_up, live_slot, space_live, free}
+use Rattle.laws_checkpoint.proofs.Seeks.{from_named, ref_read, valid_own, one_change, no_change, is_places}
+use Rattle.laws_checkpoint.proofs.Walks.{there, kind_seen, IsSpace, PlacedIn, placed_moved, from_moved, same_there, space_now, named, seen_taken, below_none}
+use Rattle.laws_checkpoint.proofs.Walks.{empty_none, found_there, searched as search_comes, comes_down, comes_search}
 
 -- ---- what is listed from a number on
 
@@ -82,7 +86,8 @@ none_more : {A : Type 0} (xs : List A) → xs ++ [] ≡ xs
 none_more [] = refl
 none_more (x ∷ xs) = ap (λ ys. x ∷ ys) (none_more xs)
 
-module _ (nester : Path) (slot : ℕ) (start : World) (near : far_field ((cut start nester slot).body []) ≡ None) (valid_start : IsValid start) (few_start : start.next ≤ depth) where
+module _ (nester : Path) (slot : ℕ) (start : World) (near : far_field ((cut start nester slot).body []) ≡ None) (valid_start : IsValid start)
+    (few_start : start.next ≤ depth) where
   abbrev root : Path
   root = slot ∷ nester
 

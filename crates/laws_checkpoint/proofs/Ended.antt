@@ -1,5 +1,6 @@
 -- From its first call on: a checkpoint has never held, or stands in one of its states; and what comes of that.
-use Rattle.std.proofs.Common.{◌≡◌, ℕ, ◌≤◌, Bool, true, cond, List, [], ◌∷◌, Option, Some, None, is_some, IsSome, arith, false, not, nat_le, Result, Ok, refl, sym, ap, subst, ◌∙◌, ◌⊎◌, inl, inr, ne_eqb}
+use Rattle.std.proofs.Common.{◌≡◌, ℕ, ◌≤◌, Bool, true, cond, List, [], ◌∷◌, Option, Some, None, is_some, IsSome, arith, false, not, nat_le, Result, Ok, refl}
+use Rattle.std.proofs.Common.{sym, ap, subst, ◌∙◌, ◌⊎◌, inl, inr, ne_eqb}
 use Rattle.std.proofs.lemmas.Bool.{and_parts, leb-false, le-leb}
 use Rattle.fk_model.specs.declared.limits.TheConstants.{OWN_SPACE, LAST_USER_SLOT, FIRST_SCRATCH_SLOT, LAST_SCRATCH_SLOT, LAST_PORTER_SLOT}
 use Rattle.fk_model.specs.declared.stage.Stage.{Stage}
@@ -49,7 +50,8 @@ use Rattle.laws_checkpoint.proofs.Mild.{IsOwnSlot}
 use Rattle.laws_checkpoint.proofs.Mild.IsOwnSlot.{Places, Targets, Steps}
 use Rattle.laws_checkpoint.proofs.Phases.{Tidy, tidy_clean, tidy_held, scratch_slot}
 use Rattle.laws_checkpoint.proofs.Working.{asks_back, no_stop, Verdict, Phase, arrives}
-use Rattle.laws_checkpoint.proofs.Working.Phase.{AtFirst, AtSecond, AtThird, AtWalks, AtSeeks, AtReads, AtGathers, AtDrops, AtTwoLeft, AtOneLeft, AtReleases, AtOver}
+use Rattle.laws_checkpoint.proofs.Working.Phase.{AtFirst, AtSecond, AtThird, AtWalks, AtSeeks, AtReads, AtGathers, AtDrops, AtTwoLeft, AtOneLeft, AtReleases}
+use Rattle.laws_checkpoint.proofs.Working.Phase.{AtOver}
 
 abbrev pub stopping : End → Head End
 stopping end = Stops end

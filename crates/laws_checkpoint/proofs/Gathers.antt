@@ -1,5 +1,6 @@
 -- A gatherer has the pointers that the cut shows.
-use Rattle.std.proofs.Common.{◌≡◌, ℕ, ◌≤◌, Bool, true, false, cond, ◌==◌, IsSome, is_some, List, [], ◌∷◌, ◌++◌, map, Option, Some, None, option_map, Ok, refl, sym, ap, subst, arith, length, ◌∙◌, inl, inr, suc, nat_le}
+use Rattle.std.proofs.Common.{◌≡◌, ℕ, ◌≤◌, Bool, true, false, cond, ◌==◌, IsSome, is_some, List, [], ◌∷◌, ◌++◌, map, Option, Some, None, option_map, Ok, refl}
+use Rattle.std.proofs.Common.{sym, ap, subst, arith, length, ◌∙◌, inl, inr, suc, nat_le}
 use Rattle.std.specs.List.{list_any}
 use Rattle.std.proofs.lemmas.Bool.{ne_eqb}
 use Rattle.fk_model.specs.declared.limits.TheConstants.{OWN_SPACE, LAST_PORTER_SLOT}
@@ -44,12 +45,15 @@ use Rattle.laws_jobs.proofs.Rows.{own-place, object-there, point-row, get_ptr-ro
 use Rattle.laws_jobs.proofs.Weaving.{first_sound}
 use Rattle.laws_frozen.proofs.FrozenCut.{ptr_alike}
 use Rattle.laws_checkpoint.specs.Foreign.{PLACES, TARGETS, STEPS, Task, way_from, reading, told_pointer, located_at}
-use Rattle.laws_checkpoint.specs.Gather.{place_at, pointer_fields, pointer_task, field_as, body_as, shown_at, State, begin_at, begin, go_on, arrive, head, takes, read, looked, next, gatherer, pointers_of, all_pointers, PointersAreGathered}
+use Rattle.laws_checkpoint.specs.Gather.{place_at, pointer_fields, pointer_task, field_as, body_as, shown_at, State, begin_at, begin, go_on, arrive, head}
+use Rattle.laws_checkpoint.specs.Gather.{takes, read, looked, next, gatherer, pointers_of, all_pointers, PointersAreGathered}
 use Rattle.laws_checkpoint.proofs.Mild.{Comes, ComesWith}
 use Rattle.laws_checkpoint.proofs.Mild.IsMild.{Changes_nothing, Leads as Leads_anew}
 use Rattle.laws_checkpoint.proofs.Mild.IsOwnSlot.{Places as Own_places, Targets as Own_targets, Steps as Own_steps}
 use Rattle.laws_checkpoint.proofs.Tells.{root_kind, above_kind, pointer_told}
-use Rattle.laws_checkpoint.proofs.Seeks.{follow, follow-way, FromIs, PlacedAt, Base, base_others, first_base, root_is, placed_by, own_base, seen_body, live_body, kind_up, live_slot, space_live, above, free, from_named, places_named, slot_named, ref_read, valid_own, one_change, no_change, found_row}
+use Rattle.laws_checkpoint.proofs.Seeks.{follow, follow-way, FromIs, PlacedAt, Base, base_others, first_base, root_is, placed_by, own_base, seen_body}
+use Rattle.laws_checkpoint.proofs.Seeks.{live_body, kind_up, live_slot, space_live, above, free, from_named, places_named, slot_named, ref_read, valid_own}
+use Rattle.laws_checkpoint.proofs.Seeks.{one_change, no_change, found_row}
 use Rattle.fk_model.specs.Objects.{Window, Extent, Talk, Fault, Thread, Peer}
 use Rattle.fk_model.specs.Objects.Peer.{Server, Service, Parked}
 use Rattle.fk_model.specs.Objects.Body.{Mutex, Cond, Mapping, Region, Port, Portset, Space, Thread_of}
@@ -426,7 +430,8 @@ module _ (nester : Path) (slot : ℕ) (start : World) (near : far_field ((cut st
   from_moved w v places from at (inl h) = inl h
   from_moved w v places from at (inr h) = inr (h.0, places ∙ h.1)
 
-  module _ (w v : World) (same : IsSameInside root w v) (places : v.body (PLACES ∷ nester) ≡ w.body (PLACES ∷ nester)) (targets : v.body (TARGETS ∷ nester) ≡ w.body (TARGETS ∷ nester)) (steps : v.body (STEPS ∷ nester) ≡ w.body (STEPS ∷ nester)) where
+  module _ (w v : World) (same : IsSameInside root w v) (places : v.body (PLACES ∷ nester) ≡ w.body (PLACES ∷ nester))
+      (targets : v.body (TARGETS ∷ nester) ≡ w.body (TARGETS ∷ nester)) (steps : v.body (STEPS ∷ nester) ≡ w.body (STEPS ∷ nester)) where
     position_same : (s : State) → Position w s → Position v s
     unfolding field_moved
     position_same _ (AtDown from k ways j s t ts got at p h inside way path) = AtDown from k ways j s t ts got at p
@@ -531,7 +536,8 @@ module _ (nester : Path) (slot : ℕ) (start : World) (near : far_field ((cut st
         ) in
         let v : World = apply (Alter (TARGETS ∷ nester) (SetPointer to)) w in
         let valid_after : IsValid v = subst IsValid goes.0 (valid_own nester slot start near w base valid few (GetPtr PLACES j n TARGETS) refl) in
-        let after_base : Base nester slot start near v = own_base nester slot start near w TARGETS old.0 to base valid valid_after few is_targets old.1 nearby in
+        let after_base : Base nester slot start near v =
+        own_base nester slot start near w TARGETS old.0 to base valid valid_after few is_targets old.1 nearby in
         let inside : IsSameInside root w v = pointed_inside nester slot w TARGETS old.0 to base.holding is_targets old.1 nearby in
         let places : v.body (PLACES ∷ nester) ≡ w.body (PLACES ∷ nester) = other_body nester slot w TARGETS old.0 to base.holding is_targets old.1 nearby
         (PLACES ∷ nester) refl in
@@ -676,10 +682,11 @@ module _ (nester : Path) (slot : ℕ) (start : World) (near : far_field ((cut st
             deep [] long e = absurd (omega (arith, long))
             deep (k ∷ rest) long e = record { j = k; q = rest; is = e }
 
-        by_at : (x : Path) (o : Option Path) → field.to ≡ At x → strip (at ++ root) x ≡ o → call_row w (porter nester no_words) None (Locate TARGETS (place_at slot at)) ≡ elim (option_map way_down o) [
-          | None ↦ Goes [] (Answered NONE [])
-          | Some way ↦ Goes [] (Answered OK (way ++ kind_number (kind_at w (At x)) ∷ []))
-        ] → Stands (after w (call_of nester (Locate TARGETS (place_at slot at)) no_words)) (next slot (Looks at n fs t ts got) reply.status reply.words) found
+        by_at : (x : Path) (o : Option Path) → field.to ≡ At x → strip (at ++ root) x ≡ o
+            → call_row w (porter nester no_words) None (Locate TARGETS (place_at slot at)) ≡ elim (option_map way_down o) [
+              | None ↦ Goes [] (Answered NONE [])
+              | Some way ↦ Goes [] (Answered OK (way ++ kind_number (kind_at w (At x)) ∷ []))
+            ] → Stands (after w (call_of nester (Locate TARGETS (place_at slot at)) no_words)) (next slot (Looks at n fs t ts got) reply.status reply.words) found
         by_at x None e f row = missed (ap (way_to (at ++ root)) e ∙ ap (option_map way_down) f) row
         by_at x (Some q) e f row =
             let goes = no_change nester slot start near w base valid few (Locate TARGETS (place_at slot at)) reply OK (way_down q
@@ -760,10 +767,11 @@ module _ (nester : Path) (slot : ℕ) (start : World) (near : far_field ((cut st
         none_from None h = refl
         none_from (Some q) h = cc
 
-        by_at : (x : Path) (o : Option Path) → field.to ≡ At x → strip nester x ≡ o → call_row w (porter nester no_words) None (Locate TARGETS OWN_SPACE) ≡ elim (option_map way_down o) [
-          | None ↦ Goes [] (Answered NONE [])
-          | Some way ↦ Goes [] (Answered OK (way ++ kind_number (kind_at w (At x)) ∷ []))
-        ] → show t.path n ≡ told_pointer None (option_map (λ q. way_down q ++ kind_number (kind_at w (At x)) ∷ []) o) → Goal
+        by_at : (x : Path) (o : Option Path) → field.to ≡ At x → strip nester x ≡ o
+            → call_row w (porter nester no_words) None (Locate TARGETS OWN_SPACE) ≡ elim (option_map way_down o) [
+              | None ↦ Goes [] (Answered NONE [])
+              | Some way ↦ Goes [] (Answered OK (way ++ kind_number (kind_at w (At x)) ∷ []))
+            ] → show t.path n ≡ told_pointer None (option_map (λ q. way_down q ++ kind_number (kind_at w (At x)) ∷ []) o) → Goal
         by_at x None e f row seen = answered_as NONE [] None row refl seen
         by_at x (Some q) e f row seen = answered_as OK (way_down q ++ kind_number (kind_at w (At x)) ∷ [])
             (Some (way_down q ++ kind_number (kind_at w (At x)) ∷ [])) row refl seen
@@ -907,7 +915,8 @@ module _ (nester : Path) (slot : ℕ) (start : World) (near : far_field ((cut st
       reads : (n : ℕ) (fs : List ℕ) (t : Task) (ts : List Task) (got : List Ptr) (q : Path) → t.path ≡ q → Placed w q → CountedFor w q (n ∷ fs) → Task_ok t
           → Tasks_ok ts → got ++ (pointers_of show t (n ∷ fs) ++ all_pointers show ts) ≡ found → Goal (Fields n fs t ts got) (reading q n) no_words
       reads n fs t ts got [] e placed counts one all end = cc
-      reads n fs t ts got (j ∷ s) e placed counts one all end = λ mine. own_read w its.base its.steps mine.valid mine.few n fs t ts got reply found j s e placed counts one all mine end
+      reads n fs t ts got (j ∷ s) e placed counts one all end = λ mine.
+          own_read w its.base its.steps mine.valid mine.few n fs t ts got reply found j s e placed counts one all mine end
 
       by : (s : State) → Position w s → tasks_of s → ends s ≡ found → head slot s ≡ Asks stage words → Goal s stage words
       by _ (AtDown from k ways j s t ts got at p h inside way path) tasks end asks =

@@ -1,5 +1,6 @@
 -- The spaces that were met are the subtree's spaces in preorder: each once, and behind each the next one.
-use Rattle.std.proofs.Common.{◌≡◌, ℕ, zero, suc, ◌<◌, ◌≤◌, Bool, true, false, cond, is_some, IsSome, List, [], ◌∷◌, ◌++◌, map, filter, flat_map, length, Option, Some, None, option_map, refl, sym, ap, subst, ◌∙◌, arith, ◌⊎◌, inl, inr, append_assoc, length-append}
+use Rattle.std.proofs.Common.{◌≡◌, ℕ, zero, suc, ◌<◌, ◌≤◌, Bool, true, false, cond, is_some, IsSome, List, [], ◌∷◌, ◌++◌, map, filter, flat_map, length, Option}
+use Rattle.std.proofs.Common.{Some, None, option_map, refl, sym, ap, subst, ◌∙◌, arith, ◌⊎◌, inl, inr, append_assoc, length-append}
 use Rattle.std.specs.Prelude.{slice_get}
 use Rattle.std.proofs.lemmas.List.Elements.{filter-append}
 use Rattle.fk_model.specs.declared.limits.TheConstants.{SLOTS}

@@ -1,5 +1,6 @@
 -- What the calls of a reader have come to, against what it has read: each object that is passed pays for its search.
-use Rattle.std.proofs.Common.{◌≡◌, ℕ, suc, ◌+◌, ◌-◌, ◌*◌, ◌≤◌, Bool, true, false, cond, ◌&&◌, ◌==◌, nat_le, nat_lt, is_some, List, [], ◌∷◌, ◌++◌, filter, length, Option, Some, None, refl, sym, ap, subst, arith, length-append}
+use Rattle.std.proofs.Common.{◌≡◌, ℕ, suc, ◌+◌, ◌-◌, ◌*◌, ◌≤◌, Bool, true, false, cond, ◌&&◌, ◌==◌, nat_le, nat_lt, is_some, List, [], ◌∷◌, ◌++◌, filter}
+use Rattle.std.proofs.Common.{length, Option, Some, None, refl, sym, ap, subst, arith, length-append}
 use Rattle.std.proofs.lemmas.Bool.{le-leb}
 use Rattle.fk_model.specs.declared.limits.TheConstants.{SLOTS, PAGES}
 use Rattle.fk_model.specs.declared.names.Kind.TheVariants as kinds
@@ -26,7 +27,8 @@ use Rattle.laws_checkpoint.proofs.Walks.{there, IsSpace, PlacedIn, seen_taken, b
 use Rattle.laws_checkpoint.proofs.Contents.{Position, ends, left_objects, left_pages}
 use Rattle.laws_checkpoint.proofs.Contents.Position.{AtDown, AtSearches, AtReads, AtLooks, AtCopies, AtOver}
 
-module _ (nester : Path) (slot : ℕ) (start : World) (near : far_field ((cut start nester slot).body []) ≡ None) (valid_start : IsValid start) (few_start : start.next ≤ depth) where
+module _ (nester : Path) (slot : ℕ) (start : World) (near : far_field ((cut start nester slot).body []) ≡ None) (valid_start : IsValid start)
+    (few_start : start.next ≤ depth) where
   abbrev is_there : Path → ℕ → Option Body
   is_there q k = there nester slot start near valid_start few_start q k
 

@@ -1,5 +1,6 @@
 -- Scans: the first taken slot from a number on, as a search finds it; and what is left behind it.
-use Rattle.std.proofs.Common.{◌≡◌, ℕ, zero, suc, ◌+◌, ◌-◌, ◌≤◌, ◌<◌, Bool, cond, is_some, List, [], ◌∷◌, ◌++◌, filter, Option, Some, None, refl, sym, ap, arith, ◌∙◌, ◌⊎◌, inl, inr}
+use Rattle.std.proofs.Common.{◌≡◌, ℕ, zero, suc, ◌+◌, ◌-◌, ◌≤◌, ◌<◌, Bool, cond, is_some, List, [], ◌∷◌, ◌++◌, filter, Option, Some, None, refl, sym, ap, arith}
+use Rattle.std.proofs.Common.{◌∙◌, ◌⊎◌, inl, inr}
 use Rattle.std.proofs.lemmas.Bool.{cases_lt}
 use Rattle.fk_model.specs.Objects.{or_else}
 use Rattle.fk_model.specs.Searches.{lowest, slots}

@@ -9,7 +9,8 @@ use Rattle.fk_model.specs.Closed.{led_to_from_outside}
 use Rattle.laws_jobs.specs.Machines.{reply_of, said_of, call_of, Interleaved, own_moves}
 use Rattle.laws_jobs.specs.Machines.Head.{Asks}
 use Rattle.laws_jobs.specs.Machines.Interleaved.{Here, Another, Own}
-use Rattle.laws_checkpoint.specs.Foreign.{Task, State, place_of, way_from, begin_at, begin, arrive, head, next, is_zero, read, tells_port, seeker, costs, ForeignIsBounded}
+use Rattle.laws_checkpoint.specs.Foreign.{Task, State, place_of, way_from, begin_at, begin, arrive, head, next, is_zero, read, tells_port, seeker, costs}
+use Rattle.laws_checkpoint.specs.Foreign.{ForeignIsBounded}
 use Rattle.laws_checkpoint.specs.Foreign.State.{Down, Fields, Inside, Beside, Over}
 
 -- the calls that a state may still make

@@ -1,5 +1,6 @@
 -- A seeker finds the first place at which a subtree isn't closed.
-use Rattle.std.proofs.Common.{◌≡◌, ℕ, zero, suc, ◌≤◌, Bool, true, false, cond, not, ◌==◌, nat_le, nat_lt, IsSome, is_some, List, [], ◌∷◌, ◌++◌, map, Option, Some, None, option_map, Ok, refl, sym, ap, subst, arith, ◌∙◌, ◌⊎◌, inl, inr}
+use Rattle.std.proofs.Common.{◌≡◌, ℕ, zero, suc, ◌≤◌, Bool, true, false, cond, not, ◌==◌, nat_le, nat_lt, IsSome, is_some, List, [], ◌∷◌, ◌++◌, map, Option}
+use Rattle.std.proofs.Common.{Some, None, option_map, Ok, refl, sym, ap, subst, arith, ◌∙◌, ◌⊎◌, inl, inr}
 use Rattle.std.specs.List.{list_any}
 use Rattle.std.proofs.lemmas.Bool.{le-leb, ne_eqb}
 use Rattle.std.proofs.lemmas.Bool.Decides.{nat_tests}
@@ -42,7 +43,8 @@ use Rattle.laws_savable.specs.Savable.{IsSound}
 use Rattle.laws_jobs.specs.Machines.{Head, Reply, reply_of, heard, said_of, porter, no_words, call_of, IsReadyAt, IsAnswered, Interleaved}
 use Rattle.laws_jobs.specs.Machines.Head.{Stops, Asks}
 use Rattle.laws_jobs.specs.Machines.Interleaved.{Here, Another, Own}
-use Rattle.laws_checkpoint.specs.Foreign.{PLACES, TARGETS, fields_of, Task, task_of, State, place_of, way_from, begin_at, begin, arrive, head, next, is_zero, read, tells_port, seeker, counting, reading, STEPS, IsScratched, ForeignIsExact, SeekerIsReady, SeekingKeepsOpenPlace}
+use Rattle.laws_checkpoint.specs.Foreign.{PLACES, TARGETS, fields_of, Task, task_of, State, place_of, way_from, begin_at, begin, arrive, head, next, is_zero}
+use Rattle.laws_checkpoint.specs.Foreign.{read, tells_port, seeker, counting, reading, STEPS, IsScratched, ForeignIsExact, SeekerIsReady, SeekingKeepsOpenPlace}
 use Rattle.laws_checkpoint.specs.Foreign.State.{Down, Fields, Inside, Beside, Over}
 use Rattle.laws_jobs.proofs.LeadLaws.{others_keep_leads, open_same, counts_tell}
 use Rattle.laws_jobs.proofs.Unled.{held_frozen}
@@ -54,8 +56,10 @@ use Rattle.laws_checkpoint.proofs.Mild.IsMild.{Changes_nothing, Leads}
 use Rattle.laws_checkpoint.proofs.Mild.IsOwnSlot.{Places, Targets}
 use Rattle.laws_checkpoint.proofs.Same.{inside-itself, inside-then}
 use Rattle.laws_jobs.proofs.Own.{other_body, own_body, pointed_cut, pointed_holding, pointed_leads, pointed_inside}
-use Rattle.laws_jobs.proofs.Rows.{own-place, object-there, point-row, get_ptr-row, locate-row, located_as, count-row, count_space-row, space_pointer, own_named, ref_named}
-use Rattle.laws_checkpoint.proofs.Tells.{Counted, AllCounted, all_counted, seen_at, is_bad, first_bad, far_is, same_fields, counted, root_kind, above_kind, told_inside, told_outside, told_beside}
+use Rattle.laws_jobs.proofs.Rows.{own-place, object-there, point-row, get_ptr-row, locate-row, located_as, count-row, count_space-row, space_pointer, own_named}
+use Rattle.laws_jobs.proofs.Rows.{ref_named}
+use Rattle.laws_checkpoint.proofs.Tells.{Counted, AllCounted, all_counted, seen_at, is_bad, first_bad, far_is, same_fields, counted, root_kind, above_kind}
+use Rattle.laws_checkpoint.proofs.Tells.{told_inside, told_outside, told_beside}
 
 abbrev pub follow : Path → List ℕ → Path
 follow x [] = x
@@ -186,7 +190,8 @@ module _ (nester : Path) (slot : ℕ) (start : World) (root_near : far_field ((c
   counted_by w v same [] fs h = h
   counted_by w v same (k ∷ s) fs h = λ b there. h b (sym (same.bodies (k ∷ s)) ∙ there)
 
-  module _ (w v : World) (same : IsSameInside root w v) (places : v.body (PLACES ∷ nester) ≡ w.body (PLACES ∷ nester)) (targets : v.body (TARGETS ∷ nester) ≡ w.body (TARGETS ∷ nester)) where
+  module _ (w v : World) (same : IsSameInside root w v) (places : v.body (PLACES ∷ nester) ≡ w.body (PLACES ∷ nester))
+      (targets : v.body (TARGETS ∷ nester) ≡ w.body (TARGETS ∷ nester)) where
     placed_same : (q : Path) → PlacedAt w q → PlacedAt v q
     placed_same q h = placed_by w v places q h
 
@@ -761,7 +766,8 @@ module _ (nester : Path) (slot : ℕ) (start : World) (root_near : far_field ((c
       reads : (n : ℕ) (fs : List ℕ) (t : Task) (ts : List Task) (q : Path) → t.path ≡ q → PlacedAt w q → CountedAt w q (n ∷ fs) → IsTask t → AllTasks ts
           → ends_with t ts (left t (n ∷ fs)) ≡ found → Goal (Fields (n ∷ fs) t ts) (reading q n) no_words
       reads n fs t ts [] e placed counts one all end = cc
-      reads n fs t ts (j ∷ s) e placed counts one all end = λ mine. own_read w its.base mine.valid mine.few n fs t ts reply found j s e placed counts one all mine end
+      reads n fs t ts (j ∷ s) e placed counts one all end = λ mine.
+          own_read w its.base mine.valid mine.few n fs t ts reply found j s e placed counts one all mine end
 
       by : (s : State) → Position w s → tasks_of s → ends s ≡ found → head slot s ≡ Asks stage words → Goal s stage words
       by _ (AtDown from k ways j s t ts at p h inside way path) tasks end asks =

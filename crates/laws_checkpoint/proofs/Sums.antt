@@ -1,5 +1,6 @@
 -- How much a subtree has in it, summed over its objects: what is spent on each, and how often each is come to.
-use Rattle.std.proofs.Common.{◌≡◌, ℕ, zero, suc, ◌+◌, ◌-◌, ◌*◌, ◌≤◌, Bool, true, false, cond, ◌==◌, is_some, IsSome, List, [], ◌∷◌, ◌++◌, map, filter, length, Option, Some, None, refl, sym, ap, arith, ◌∙◌, inl, inr, length-append}
+use Rattle.std.proofs.Common.{◌≡◌, ℕ, zero, suc, ◌+◌, ◌-◌, ◌*◌, ◌≤◌, Bool, true, false, cond, ◌==◌, is_some, IsSome, List, [], ◌∷◌, ◌++◌, map, filter, length}
+use Rattle.std.proofs.Common.{Option, Some, None, refl, sym, ap, arith, ◌∙◌, inl, inr, length-append}
 use Rattle.std.specs.List.{flat_map}
 use Rattle.std.proofs.Math.Nat.{suc-mul, mul-suc, add-mul}
 use Rattle.fk_model.specs.declared.limits.TheConstants.{SLOTS}
@@ -250,7 +251,8 @@ module _ (c : World) where
 
 -- ---- a held subtree
 
-module _ (nester : Path) (slot : ℕ) (start : World) (near : far_field ((cut start nester slot).body []) ≡ None) (valid_start : IsValid start) (few_start : start.next ≤ depth) where
+module _ (nester : Path) (slot : ℕ) (start : World) (near : far_field ((cut start nester slot).body []) ≡ None) (valid_start : IsValid start)
+    (few_start : start.next ≤ depth) where
   abbrev shown : World
   shown = cut start nester slot
 

@@ -1,5 +1,6 @@
 -- What the parts of a checkpoint are given by those before them.
-use Rattle.std.proofs.Common.{◌≡◌, ℕ, zero, suc, Bool, true, false, cond, IsSome, List, [], ◌∷◌, ◌++◌, map, filter, Option, Some, None, option_map, refl, ap, subst, ◌⊎◌, inl, inr}
+use Rattle.std.proofs.Common.{◌≡◌, ℕ, zero, suc, Bool, true, false, cond, IsSome, List, [], ◌∷◌, ◌++◌, map, filter, Option, Some, None, option_map, refl, ap}
+use Rattle.std.proofs.Common.{subst, ◌⊎◌, inl, inr}
 use Rattle.fk_model.specs.declared.limits.TheConstants.{SLOTS}
 use Rattle.fk_model.specs.declared.names.Kind.TheVariants as kinds
 use Rattle.fk_model.specs.Places.{Path}
@@ -16,7 +17,8 @@ use Rattle.laws_checkpoint.specs.Foreign.{Task, task_of, fields_of, is_strict}
 use Rattle.laws_checkpoint.specs.Walk.{Met, met, number_there}
 use Rattle.laws_checkpoint.specs.Contents.{with_item, items_from, record_in, record_at, content}
 use Rattle.laws_checkpoint.specs.Gather.{pointer_fields}
-use Rattle.laws_checkpoint.specs.Assembly.{is_space_number, spaces_met, fields_by, is_strict_number, met_task, sought_tasks, pointers_by, item_task, holder_task, content_tasks, gathered_tasks}
+use Rattle.laws_checkpoint.specs.Assembly.{is_space_number, spaces_met, fields_by, is_strict_number, met_task, sought_tasks, pointers_by, item_task}
+use Rattle.laws_checkpoint.specs.Assembly.{holder_task, content_tasks, gathered_tasks}
 use Rattle.laws_checkpoint.proofs.Gathers.{Tasks_ok}
 
 -- ---- the tasks of a seeker

@@ -1,5 +1,6 @@
 -- The fields that count, and what the answers to two look-ups tell of a pointer.
-use Rattle.std.proofs.Common.{◌≡◌, ℕ, suc, Bool, true, false, cond, not, ◌&&◌, ◌||◌, ◌==◌, nat_le, is_some, List, [], ◌∷◌, ◌++◌, length, Option, Some, None, option_map, refl, sym, ap, subst, arith, length-append, ◌∙◌}
+use Rattle.std.proofs.Common.{◌≡◌, ℕ, suc, Bool, true, false, cond, not, ◌&&◌, ◌||◌, ◌==◌, nat_le, is_some, List, [], ◌∷◌, ◌++◌, length, Option, Some, None}
+use Rattle.std.proofs.Common.{option_map, refl, sym, ap, subst, arith, length-append, ◌∙◌}
 use Rattle.std.specs.List.{list_any}
 use Rattle.std.proofs.lemmas.Bool.{ne_eqb}
 use Rattle.std.proofs.lemmas.Bool.Decides.{nat_tests}
@@ -209,7 +210,8 @@ module _ (nester : Path) (slot : ℕ) (w : World) (holding : IsHolding nester sl
       off true q = refl
       off false q = refl
 
-      by : (o : Option Path) → is_some (option_map way_down o) ≡ true → is_bad strict (elim o [ None ↦ cut_out (ports_of w nester slot) nester x | Some q ↦ At q ]) ≡ false
+      by : (o : Option Path) → is_some (option_map way_down o) ≡ true
+          → is_bad strict (elim o [ None ↦ cut_out (ports_of w nester slot) nester x | Some q ↦ At q ]) ≡ false
       by None h = cc
       by (Some q) h = off strict q
   told_inside Null h strict = cc
@@ -233,7 +235,8 @@ module _ (nester : Path) (slot : ℕ) (w : World) (holding : IsHolding nester sl
   pub told_outside : (to : Ptr) → Somewhere to → is_some (way_to root to) ≡ false → is_bad true (cut_to to) ≡ true
   told_outside (At x) some h = by (strip root x) h
     where
-      by : (o : Option Path) → is_some (option_map way_down o) ≡ false → is_bad true (elim o [ None ↦ cut_out (ports_of w nester slot) nester x | Some q ↦ At q ]) ≡ true
+      by : (o : Option Path) → is_some (option_map way_down o) ≡ false
+          → is_bad true (elim o [ None ↦ cut_out (ports_of w nester slot) nester x | Some q ↦ At q ]) ≡ true
       by None h = strict_out nester (ports_of w nester slot) x
       by (Some q) h = cc
   told_outside Null some h = cc
@@ -362,7 +365,8 @@ module _ (nester : Path) (slot : ℕ) (w : World) (holding : IsHolding nester sl
           let found : strip nester (i ∷ nester) ≡ None = subst (λ (y : Path). strip nester y ≡ None) same e in
           let there = strip-append nester (i ∷ []) in let both = sym there ∙ found in cc)
 
-      by : (o : Option Path) → strip root x ≡ o → elim o [ None ↦ cut_out (ports_of w nester slot) nester x | Some q ↦ At q ] ≡ told_pointer o (located_at w nester x)
+      by : (o : Option Path) → strip root x ≡ o
+          → elim o [ None ↦ cut_out (ports_of w nester slot) nester x | Some q ↦ At q ] ≡ told_pointer o (located_at w nester x)
       by (Some q) e = refl
       by None e = by_nester (strip nester x) refl (ap (λ (o : Option Path). is_some (option_map way_down o)) e)
 

@@ -1,5 +1,6 @@
 -- A walker meets every object inside, in preorder.
-use Rattle.std.proofs.Common.{◌≡◌, ℕ, zero, suc, ◌+◌, ◌-◌, ◌≤◌, ◌<◌, Bool, true, false, cond, ◌&&◌, nat_le, is_some, List, [], ◌∷◌, ◌++◌, map, filter, length, Option, Some, None, option_map, Ok, refl, sym, ap, subst, arith, length-append, ◌∙◌, inl, inr}
+use Rattle.std.proofs.Common.{◌≡◌, ℕ, zero, suc, ◌+◌, ◌-◌, ◌≤◌, ◌<◌, Bool, true, false, cond, ◌&&◌, nat_le, is_some, List, [], ◌∷◌, ◌++◌, map, filter, length}
+use Rattle.std.proofs.Common.{Option, Some, None, option_map, Ok, refl, sym, ap, subst, arith, length-append, ◌∙◌, inl, inr}
 use Rattle.std.specs.List.{flat_map}
 use Rattle.std.proofs.lemmas.Bool.{le-leb, leb-true}
 use Rattle.fk_model.specs.declared.limits.TheConstants.{OWN_SPACE, SLOTS, LAST_PORTER_SLOT}
@@ -32,7 +33,8 @@ use Rattle.laws_jobs.proofs.Own.{own_body}
 use Rattle.laws_jobs.proofs.Rows.{own-place, point-row, search-row, found_as, taken_among, space_pointer, ref_named}
 use Rattle.laws_jobs.proofs.Weaving.{first_sound}
 use Rattle.laws_checkpoint.specs.Foreign.{PLACES, way_from}
-use Rattle.laws_checkpoint.specs.Walk.{Met, number_there, met, State, space_at, reach, arrive, leaves, enters, goes_on, head, found, next, walker, begin, ObjectsAreMet}
+use Rattle.laws_checkpoint.specs.Walk.{Met, number_there, met, State, space_at, reach, arrive, leaves, enters, goes_on, head, found, next, walker, begin}
+use Rattle.laws_checkpoint.specs.Walk.{ObjectsAreMet}
 use Rattle.laws_checkpoint.specs.Walk.State.{Down, Searches, Over}
 use Rattle.laws_checkpoint.proofs.Scans.{rising, slots_rise, Scan, scan, lowest_none, lowest_first}
 use Rattle.laws_checkpoint.proofs.Scans.Scan.{Nobody, First}
@@ -40,9 +42,11 @@ use Rattle.laws_checkpoint.proofs.Mild.{Comes, ComesWith}
 use Rattle.laws_checkpoint.proofs.Mild.IsMild.{Changes_nothing, Leads}
 use Rattle.laws_checkpoint.proofs.Mild.IsOwnSlot.{Places}
 use Rattle.laws_checkpoint.proofs.Tells.{root_kind, above_kind}
-use Rattle.laws_checkpoint.proofs.Seeks.{follow, follow-way, FromIs, Base, base_others, first_base, root_is, own_base, kind_up, live_slot, space_live, free, from_named, slot_named, ref_read, valid_own, one_change, no_change, is_places}
+use Rattle.laws_checkpoint.proofs.Seeks.{follow, follow-way, FromIs, Base, base_others, first_base, root_is, own_base, kind_up, live_slot, space_live, free}
+use Rattle.laws_checkpoint.proofs.Seeks.{from_named, slot_named, ref_read, valid_own, one_change, no_change, is_places}
 
-module _ (nester : Path) (slot : ℕ) (start : World) (near : far_field ((cut start nester slot).body []) ≡ None) (valid_start : IsValid start) (few_start : start.next ≤ depth) where
+module _ (nester : Path) (slot : ℕ) (start : World) (near : far_field ((cut start nester slot).body []) ≡ None) (valid_start : IsValid start)
+    (few_start : start.next ≤ depth) where
   abbrev root : Path
   root = slot ∷ nester
 

@@ -48,7 +48,8 @@ use Rattle.laws_checkpoint.specs.Gather.{shown_at, all_pointers}
 use Rattle.laws_checkpoint.specs.Gather as gathers
 use Rattle.laws_checkpoint.specs.Assembly.{spaces_met, sought_tasks, gathered_tasks, assembled}
 use Rattle.laws_checkpoint.specs.Narrow.{narrowed}
-use Rattle.laws_checkpoint.specs.Checkpoint.{End, State, asks_as, ends_as, gathers_on, gathering, reads_on, reading, sought, seeks_on, seeking, walks_on, walking, head, next, checkpoint}
+use Rattle.laws_checkpoint.specs.Checkpoint.{End, State, asks_as, ends_as, gathers_on, gathering, reads_on, reading, sought, seeks_on, seeking, walks_on}
+use Rattle.laws_checkpoint.specs.Checkpoint.{walking, head, next, checkpoint}
 use Rattle.laws_checkpoint.specs.Checkpoint.End.{Gone, Foreign, Done}
 use Rattle.laws_checkpoint.specs.Checkpoint.State.{Readies, Walks, Seeks, Reads, Gathers, Drops, Releases, Over}
 use Rattle.laws_checkpoint.proofs.Mild.{IsOwnSlot, ComesWith}
@@ -61,7 +62,8 @@ use Rattle.laws_checkpoint.proofs.Walks.{kind_seen}
 use Rattle.laws_checkpoint.proofs.Contents as reading_on
 use Rattle.laws_checkpoint.proofs.Gathers as gathering_on
 use Rattle.laws_checkpoint.proofs.Tasks.{sought_are, spaces_are, gathered_ok}
-use Rattle.laws_checkpoint.proofs.Phases.{own_scratch, Tidy, tidy_empty, tidy_others, tidy_mild, tidy_made, tidy_dropped, tidy_held, Held_on, held_others, make-row, held_made, made_there, made_other, drop-row, held_dropped, dropped_other, base_of, held_of}
+use Rattle.laws_checkpoint.proofs.Phases.{own_scratch, Tidy, tidy_empty, tidy_others, tidy_mild, tidy_made, tidy_dropped, tidy_held, Held_on, held_others}
+use Rattle.laws_checkpoint.proofs.Phases.{make-row, held_made, made_there, made_other, drop-row, held_dropped, dropped_other, base_of, held_of}
 
 pub asks_back : {A : Type 0} (h : Head A) (stage : Stage) (words : List ℕ) → asks_as h ≡ Asks stage words → h ≡ Asks stage words
 asks_back (Asks st ws) stage words e = let one : st ≡ stage = cc in let two : ws ≡ words = cc in λ i. Asks (one i) (two i)

@@ -6,7 +6,8 @@
 #![tactic(auto)]
 
 ghost use Rattle.laws_checkpoint.specs.Gather.{PointersAreGathered};
-ghost use Rattle.laws_checkpoint.specs.Laws.{CheckpointIsTidy, CheckpointKeepsCut, CheckpointEndsAsItWas, CheckpointImagesSubtree, CheckpointSaves, CheckpointIsReady, CheckpointLeavesRest};
+ghost use Rattle.laws_checkpoint.specs.Laws.{CheckpointIsTidy, CheckpointKeepsCut, CheckpointEndsAsItWas, CheckpointImagesSubtree, CheckpointSaves};
+ghost use Rattle.laws_checkpoint.specs.Laws.{CheckpointIsReady, CheckpointLeavesRest};
 ghost use Rattle.laws_checkpoint.specs.Bounded.{CheckpointIsBounded};
 ghost use Rattle.laws_checkpoint.specs.Walk.{ObjectsAreMet};
 ghost use Rattle.laws_checkpoint.specs.Contents.{SpacesAreRead};

@@ -1,6 +1,9 @@
 //! The law of the cut, each kind of move the contract of a function that does nothing: what a move of the world does to a
 //! subtree is what the subtree, seen alone, does by the move as which it is seen.
-ghost use Rattle.laws_cut.specs.CutLaws.{AcceptKeepsCut, CallKeepsCut, EventKeepsCut, GiveKeepsCut, InsideKeepsCut, InstructionKeepsCut, IsClientOver, IsClientSend, IsDestroy, IsDisconnect, IsFaultDone, IsForPorters, IsForUsers, IsPageGive, IsPageTake, IsPlainStage, IsRename, IsServerEnd, IsServerNamed, IsServerOver, IsServerReceive, IsServerSend, IsServerless, IsSignal, IsWait, OverKeepsCut, RunKeepsCut, StageInsideKeepsCut, StageKeepsCut, StageOutsideKeepsCut};
+ghost use Rattle.laws_cut.specs.CutLaws.{AcceptKeepsCut, CallKeepsCut, EventKeepsCut, GiveKeepsCut, InsideKeepsCut, InstructionKeepsCut, IsClientOver};
+ghost use Rattle.laws_cut.specs.CutLaws.{IsClientSend, IsDestroy, IsDisconnect, IsFaultDone, IsForPorters, IsForUsers, IsPageGive, IsPageTake, IsPlainStage};
+ghost use Rattle.laws_cut.specs.CutLaws.{IsRename, IsServerEnd, IsServerNamed, IsServerOver, IsServerReceive, IsServerSend, IsServerless, IsSignal, IsWait};
+ghost use Rattle.laws_cut.specs.CutLaws.{OverKeepsCut, RunKeepsCut, StageInsideKeepsCut, StageKeepsCut, StageOutsideKeepsCut};
 
 /// A thread that makes an instruction, also one that stores through a mapping: inside, the subtree does so by itself;
 /// outside, it sees nothing of it, or no law speaks of it.

@@ -1,5 +1,6 @@
 //! The laws of likeness, each the contract of a function that does nothing.
-ghost use Rattle.laws_cut.specs.LikenessLaws.{CutIsLikeness, CutIsServedAlike, LikenessIsCutWorld, RebindingIsLikeness, LikenessReadsAlike, LikenessHoldsAlike, LikenessServesAlike, LockActsAlike, LikenessStays, CutChangesAlike, PlainStays};
+ghost use Rattle.laws_cut.specs.LikenessLaws.{CutIsLikeness, CutIsServedAlike, LikenessIsCutWorld, RebindingIsLikeness, LikenessReadsAlike, LikenessHoldsAlike};
+ghost use Rattle.laws_cut.specs.LikenessLaws.{LikenessServesAlike, LockActsAlike, LikenessStays, CutChangesAlike, PlainStays};
 
 /// A subtree that leads nowhere but inside and to its nester's ports, seen alone, is a likeness of its world: the same
 /// objects and pages, with paths from its root and its outward ports by their slots. In a valid world servers are found

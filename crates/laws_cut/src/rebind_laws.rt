@@ -1,6 +1,7 @@
 //! The law of rebinding, each kind of move the contract of a function that does nothing: a subtree that is seen alone does,
 //! with other outward ports, what it did, also where two of them get one name.
-ghost use Rattle.laws_cut.specs.CutLaws.{IsClientOver, IsClientSend, IsDestroy, IsDisconnect, IsFaultDone, IsForPorters, IsPageGive, IsPageTake, IsPlainStage, IsRename, IsServerEnd, IsServerOver, IsServerReceive, IsServerSend, IsSignal, IsWait};
+ghost use Rattle.laws_cut.specs.CutLaws.{IsClientOver, IsClientSend, IsDestroy, IsDisconnect, IsFaultDone, IsForPorters, IsPageGive, IsPageTake, IsPlainStage};
+ghost use Rattle.laws_cut.specs.CutLaws.{IsRename, IsServerEnd, IsServerOver, IsServerReceive, IsServerSend, IsSignal, IsWait};
 ghost use Rattle.laws_cut.specs.RebindLaws.{InstructionRebinds, MoveRebinds, RunRebinds, StageRebinds, TouchRebinds};
 
 /// A thread of the subtree that makes an instruction does so with other outward ports, and the outside hears of a fault at these.

@@ -1,5 +1,6 @@
 -- Changes that the freezing rule allows to one who doesn't decide leave what lies at and beneath a frozen root.
-use Rattle.std.proofs.Common.{◌≡◌, ℕ, Bool, true, false, cond, not, ◌&&◌, ◌||◌, IsSome, is_some, List, [], ◌∷◌, ◌++◌, Option, Some, None, option_map, refl, sym, ap, ◌∙◌, ◌⊎◌, inl, inr}
+use Rattle.std.proofs.Common.{◌≡◌, ℕ, Bool, true, false, cond, not, ◌&&◌, ◌||◌, IsSome, is_some, List, [], ◌∷◌, ◌++◌, Option, Some, None, option_map, refl, sym}
+use Rattle.std.proofs.Common.{ap, ◌∙◌, ◌⊎◌, inl, inr}
 use Rattle.std.specs.List.{list_any}
 use Rattle.std.proofs.lemmas.Bool.{or_cases, and_parts}
 use Rattle.std.proofs.lemmas.List.Folds.{list_any-append}
@@ -128,7 +129,8 @@ root_apart w me k slot s frozen empty free = by (decider w s) frozen free
     by (Some p) on off = cc
     by None on off = let none : false ≡ true = rw empty at on in cc
 
-pub place_apart : (w v : World) (me root : Path) (k slot : ℕ) (s : Path) → is_frozen_for w me root ≡ true → v.body root ≡ w.body root → v.body (slot ∷ s) ≡ None →
+pub place_apart : (w v : World) (me root : Path) (k slot : ℕ) (s : Path) → is_frozen_for w me root ≡ true → v.body root ≡ w.body root
+    → v.body (slot ∷ s) ≡ None →
     is_frozen_for w me (k ∷ s) ≡ false → (q : Path) → same_path (q ++ root) (slot ∷ s) ≡ false
 place_apart w v me root k slot s frozen same empty free [] = same_path_ne root (slot ∷ s) (λ e.
     let frozen_there : is_frozen_for w me (slot ∷ s) ≡ true = rw e at frozen in

@@ -1,6 +1,7 @@
 -- A closed subtree is plain: what it leads to is near by what its fields show and by where servers live, and whom it would
 -- serve outside would lead in.
-use Rattle.std.proofs.Common.{◌≡◌, ℕ, ◌+◌, ◌<◌, ◌≤◌, Bool, true, false, if◌then◌else◌, not, ◌&&◌, ◌||◌, ◌==◌, leb, IsSome, is_some, List, [], ◌∷◌, ◌++◌, Option, Some, None, option_map, refl, sym, ap, ◌∙◌, ◌⊎◌, inl, inr, arith}
+use Rattle.std.proofs.Common.{◌≡◌, ℕ, ◌+◌, ◌<◌, ◌≤◌, Bool, true, false, if◌then◌else◌, not, ◌&&◌, ◌||◌, ◌==◌, leb, IsSome, is_some, List, [], ◌∷◌, ◌++◌, Option}
+use Rattle.std.proofs.Common.{Some, None, option_map, refl, sym, ap, ◌∙◌, ◌⊎◌, inl, inr, arith}
 use Rattle.std.specs.List.{list_any, count_by, fold}
 use Rattle.std.proofs.lemmas.Bool.{or_cases, and_parts, lt-ltb, lt-leb, leb-true}
 use Rattle.std.proofs.Math.Bool.{and-false}
@@ -22,7 +23,8 @@ use Rattle.fk_model.specs.Talks.{path_to}
 use Rattle.fk_model.specs.StateRows.{is_native}
 use Rattle.fk_model.specs.Valid.{IsConsistent, IsRooted, kind_there, is_one_of, leads_there, all_in, is_good_talk, is_good_fault, is_good_peer, lies_with}
 use Rattle.fk_model.specs.Whole.{stands_in}
-use Rattle.fk_model.specs.Cut.{ports_of, cut_out, cut_to, cut_ptr, is_out, cut_peer, cutting, seen_by, unheld, cut, is_far, has_far, is_inner_peer, is_served_by}
+use Rattle.fk_model.specs.Cut.{ports_of, cut_out, cut_to, cut_ptr, is_out, cut_peer, cutting, seen_by, unheld, cut, is_far, has_far, is_inner_peer}
+use Rattle.fk_model.specs.Cut.{is_served_by}
 use Rattle.fk_model.specs.Closed.{when_bad, far_field, is_holders_scratch, leads_in_from, is_led_to, open_field, first_place, open_place, led_to_from_outside}
 use Rattle.fk_model.proofs.walks.Members.{IsIn, any_in}
 use Rattle.fk_model.proofs.walks.PlaceLaws.{same_path_refl, strip-append, strip_some}

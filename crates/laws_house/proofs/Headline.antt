@@ -5,14 +5,18 @@ use Rattle.std.proofs.lemmas.List.Elements.{All-head, All-tail}
 use Rattle.fk_model.specs.declared.job.JobSpec.{JobSpec}
 use Rattle.fk_model.specs.declared.job.JobSpec.TheVariants as specs_of
 use Rattle.fk_image.specs.declared.image.Image.{Image}
+use Rattle.laws_runs.proofs.Composing.{composed}
+use Rattle.laws_runs.proofs.Ended.{ends_are_so}
 use Rattle.laws_runs.proofs.Events.{its_events}
 use Rattle.laws_runs.proofs.Onwards.{run_goes_on}
 use Rattle.laws_house.specs.Houses.{Job, house, job_of, given_first, jobs_from}
 use Rattle.laws_house.specs.Laws.{NamesUsersSlots}
 use Rattle.laws_house.specs.Headline.{NamesSlots, JobsNameUsersSlots, HeadlineHolds}
+use Rattle.laws_house.proofs.House.{checkpoints_are_brief, restores_are_brief}
 use Rattle.laws_house.proofs.House.{house_is_tidy, checkpoints_end_as_it_was, checkpoints_save, checkpoints_leave_the_rest, restores_make, saved_goes_on}
 use Rattle.laws_house.proofs.Moving.{restores_leave_the_rest, jobs_are_ready, restores_end_so}
-use Rattle.laws_house.proofs.Places.{checkpoints_move_so, restores_move_so, restores_want_an_image, restores_want_their_maker, jobs_end_clean, checkpoints_release}
+use Rattle.laws_house.proofs.Places.{checkpoints_move_so, restores_move_so, restores_want_an_image, restores_want_their_maker, jobs_end_clean}
+use Rattle.laws_house.proofs.Places.{checkpoints_release}
 
 -- ---- a scenario's jobs
 
@@ -37,12 +41,15 @@ jobs_name_users_slots specs images names index j got = jobs_name [] specs images
 pub headline_holds : {V : Type 0} → HeadlineHolds V
 headline_holds jobs servers first c past run grounded = record {
   events = its_events (house jobs servers) first run;
+  composed = composed (house jobs servers) first c past run grounded.users (house_is_tidy jobs servers grounded.slots) grounded.start grounded.few;
+  ended = ends_are_so (house jobs servers) first c past run grounded.start;
   checkpointed = record {
     moves = checkpoints_move_so jobs servers first c past run grounded.start;
     ends = checkpoints_end_as_it_was jobs servers first c past run grounded;
     releases = checkpoints_release jobs servers first c past run grounded;
     saves = checkpoints_save jobs servers first c past run grounded;
     leaves = checkpoints_leave_the_rest jobs servers first c past run grounded;
+    brief = checkpoints_are_brief jobs servers first c past run grounded;
   };
   restored = record {
     wants = restores_want_an_image jobs servers first c past run grounded.start;
@@ -51,6 +58,7 @@ headline_holds jobs servers first c past run grounded = record {
     ends = restores_end_so jobs servers first c past run grounded;
     makes = restores_make jobs servers first c past run grounded;
     leaves = restores_leave_the_rest jobs servers first c past run grounded;
+    brief = restores_are_brief jobs servers first c past run grounded;
   };
   clean = jobs_end_clean jobs servers first c past run grounded;
   ready = jobs_are_ready jobs servers first c past run grounded;

@@ -1,5 +1,6 @@
 -- The house's laws, from those of its parts.
-use Rattle.std.proofs.Common.{◌≡◌, ℕ, zero, suc, ◌+◌, ◌*◌, ◌<◌, ◌≤◌, Bool, true, false, cond, nat_le, List, [], ◌∷◌, length, take, Option, Some, None, option_map, refl, sym, ap, subst, arith, ◌∙◌, ◌⊎◌, inl, inr, ◌++◌, not, ◌&&◌, ◌==◌, is_some, if◌then◌else◌}
+use Rattle.std.proofs.Common.{◌≡◌, ℕ, zero, suc, ◌+◌, ◌*◌, ◌<◌, ◌≤◌, Bool, true, false, cond, nat_le, List, [], ◌∷◌, length, take, Option, Some, None}
+use Rattle.std.proofs.Common.{option_map, refl, sym, ap, subst, arith, ◌∙◌, ◌⊎◌, inl, inr, ◌++◌, not, ◌&&◌, ◌==◌, is_some, if◌then◌else◌}
 use Rattle.std.specs.List.{slice_get}
 use Rattle.fk_model.specs.declared.limits.TheConstants.{OWN_SPACE, LAST_USER_SLOT, LAST_SCRATCH_SLOT, LAST_PORTER_SLOT}
 use Rattle.fk_model.specs.declared.names.Kind.TheVariants as kinds
@@ -59,7 +60,8 @@ use Rattle.laws_house.specs.Houses.Task.{Checkpoint, Restore}
 use Rattle.laws_house.specs.Houses.State.{Checking, Restoring}
 use Rattle.laws_house.specs.Houses.End.{Checked, Restored}
 use Rattle.laws_house.specs.Parts.{IsPart}
-use Rattle.laws_house.specs.Laws.{NamesUsersSlots, IsUnserved, HouseIsTidy, RunStaysUncut, IsGrounded, CheckpointsAreBrief, RestoresAreBrief, LeftBeside, CheckpointsLeaveTheRest, CheckpointsEndAsItWas, CheckpointsSave, RestoresMake, SavedGoesOn}
+use Rattle.laws_house.specs.Laws.{NamesUsersSlots, IsUnserved, HouseIsTidy, RunStaysUncut, IsGrounded, CheckpointsAreBrief, RestoresAreBrief, LeftBeside}
+use Rattle.laws_house.specs.Laws.{CheckpointsLeaveTheRest, CheckpointsEndAsItWas, CheckpointsSave, RestoresMake, SavedGoesOn}
 use Rattle.laws_house.proofs.Parts.{asks_part, stops_part, works, parts_are_tidy}
 use Rattle.laws_house.proofs.Kept.{uncut_at, Stood, stood_at}
 
@@ -116,15 +118,15 @@ saves_whole slot birth w nester law = record {
       law.gives v its.state stop.0 c may its.part stop.1 (ap pictured stop.2 ∙ done));
 }
 
-restores_whole : (slot birth : ℕ) (image : Image) (pairs : List (ℕ × ℕ))
-    → Restores (restore_of slot image pairs) birth slot (bound_by pairs) (picture image) restores.is_done Makes →
-    Restores machine birth slot (bound_by pairs) (picture image) is_made (Restoring slot pairs image Makes)
-restores_whole slot birth image pairs law = record {
-  gives = λ w nester v t end may work stopped done.
+restores_whole : (slot birth : ℕ) (image : Image) (pairs : List (ℕ × ℕ)) (w : World) (nester : Path)
+    → Restores (restore_of slot image pairs) birth slot (bound_by pairs) (picture image) restores.is_done w nester Makes →
+    Restores machine birth slot (bound_by pairs) (picture image) is_made w nester (Restoring slot pairs image Makes)
+restores_whole slot birth image pairs w nester law = record {
+  gives = λ v t end may work stopped done.
       (let its = works (restore_of slot image pairs) machine (Restoring slot pairs image) Restored nester (restore_part slot pairs image) w Makes v t work in
       let stop = stops_part (restore_of slot image pairs) machine (Restoring slot pairs image) Restored nester
       (restore_part slot pairs image) t its.state end its.is stopped in
-      law.gives w nester v its.state stop.0 may its.part stop.1 (ap is_made stop.2 ∙ done));
+      law.gives v its.state stop.0 may its.part stop.1 (ap is_made stop.2 ∙ done));
 }
 
 -- ---- a run
@@ -158,7 +160,8 @@ house_is_tidy jobs servers names index j ends s its starts = by j.task starts (n
 pub run_stays_uncut : {V : Type 0} → RunStaysUncut V
 run_stays_uncut jobs servers first c past run uncut k = uncut_at (house jobs servers) first run uncut k
 
-module _ {V : Type 0} (jobs : List Job) (servers : Servers V) (first c : Core State End V) (past : List Move) (run : IsRun (house jobs servers) first past c) (grounded : IsGrounded jobs servers first past) where
+module _ {V : Type 0} (jobs : List Job) (servers : Servers V) (first c : Core State End V) (past : List Move) (run : IsRun (house jobs servers) first past c)
+    (grounded : IsGrounded jobs servers first past) where
   whole : IsComposed run
   whole = composed (house jobs servers) first c past run grounded.users (house_is_tidy jobs servers grounded.slots) grounded.start grounded.few
 
@@ -354,7 +357,8 @@ module _ {V : Type 0} (jobs : List Job) (servers : Servers V) (first c : Core St
               from_image its other pairs (valid_one (sourced its.ends source)) (sym (ap (λ t. begins_by t its.ends) is) ∙ its.starts)
 
 pub checkpoints_leave_the_rest : {V : Type 0} → CheckpointsLeaveTheRest V
-checkpoints_leave_the_rest jobs servers first c past run grounded k begun slot s stage words low e = leaves_rest jobs servers first c past run grounded k begun slot s stage words low e
+checkpoints_leave_the_rest jobs servers first c past run grounded k begun slot s stage words low e =
+    leaves_rest jobs servers first c past run grounded k begun slot s stage words low e
 
 pub checkpoints_are_brief : {V : Type 0} → CheckpointsAreBrief V
 checkpoints_are_brief jobs servers first c past run grounded index begun upto ends its slot d k is deep above low =
@@ -400,13 +404,22 @@ native_last w sound k x there = by (w.body (k ∷ x)) refl there
     by (Some b) e native = last_slot k b (sound.savable.slots_kept k x b e) native
     by None e native = cc
 
-a_slot : (q : Path) (slot : ℕ) (nester : Path) → (k : ℕ) × (x : Path) × (q ++ slot ∷ nester ≡ k ∷ x)
-a_slot [] slot nester = (slot, nester, refl)
-a_slot (k ∷ q) slot nester = (k, q ++ slot ∷ nester, refl)
-
 off_unless : (b : Bool) → (b ≡ true → ⊥) → b ≡ false
 off_unless true h = absurd (h refl)
 off_unless false h = refl
+
+-- a space is no porter and no port
+no_space : (o : Option Body) → option_map kind_of o ≡ Some kinds.Space → (holds is_native o ≡ true → ⊥) × (holds is_served o ≡ true → ⊥)
+no_space (Some (Space birth holder)) kind = ((λ h. cc), λ h. cc)
+no_space (Some (Mutex locked)) kind = cc
+no_space (Some Cond) kind = cc
+no_space (Some (Mapping m)) kind = cc
+no_space (Some (Region r)) kind = cc
+no_space (Some (Port set served)) kind = cc
+no_space (Some Portset) kind = cc
+no_space (Some (Thread_of t)) kind = cc
+no_space (Some (Reference to)) kind = cc
+no_space None kind = cc
 
 alone_later : (first w : World) (nester : Path) (slot : ℕ) → IsSound w → Stood first w → IsUnserved first nester slot → IsSpaceAt w (slot ∷ nester)
     → IsUsersAlone w nester slot
@@ -414,18 +427,18 @@ unfolding kind_there
 alone_later first w nester slot sound stood before space = by (w.body (slot ∷ nester)) refl space
   where
     porter : (q : Path) → holds is_native (w.body (q ++ slot ∷ nester)) ≡ true → ⊥
-    porter q there =
-        let at = a_slot q slot nester in
-        let native : holds is_native (w.body (at.0 ∷ at.1)) ≡ true = ap (λ (y : Path). holds is_native (w.body y)) (sym at.2) ∙ there in
-        let last = native_last w sound at.0 at.1 native in
-        let then_there = stood.porters at.1 (ap (λ k. holds is_native (w.body (k ∷ at.1))) (sym last) ∙ native) in
-        let was : holds is_native (first.body (q ++ slot ∷ nester))
-        ≡ true = ap (λ (y : Path). holds is_native (first.body y)) (at.2 ∙ ap (λ k. k ∷ at.1) last) ∙ then_there in
-        let both = sym was ∙ before.no_porter q in
+    porter [] there = (no_space (w.body (slot ∷ nester)) space).0 there
+    porter (k ∷ q) there =
+        let last = native_last w sound k (q ++ slot ∷ nester) there in
+        let at_last : holds is_native (w.body (LAST_PORTER_SLOT ∷ (q ++ slot ∷ nester))) ≡ true =
+        ap (λ i. holds is_native (w.body (i ∷ (q ++ slot ∷ nester)))) (sym last) ∙ there in
+        let was = stood.porters (q ++ slot ∷ nester) at_last in
+        let both = sym was ∙ before.no_porter LAST_PORTER_SLOT q in
         cc
 
     served : (q : Path) → holds is_served (w.body (q ++ slot ∷ nester)) ≡ true → ⊥
-    served q there = let both = sym (stood.served (q ++ slot ∷ nester) there) ∙ before.unserved q in cc
+    served [] there = (no_space (w.body (slot ∷ nester)) space).1 there
+    served (k ∷ q) there = let both = sym (stood.served (k ∷ (q ++ slot ∷ nester)) there) ∙ before.unserved k q in cc
 
     by : (o : Option Body) → w.body (slot ∷ nester) ≡ o → option_map kind_of o ≡ Some kinds.Space → IsUsersAlone w nester slot
     by (Some (Space birth holder)) e kind = record {
@@ -483,9 +496,9 @@ restores_make jobs servers first c past run grounded index j slot begun last pai
     let names = slots_of j (Restore slot pairs source) is (grounded.slots index j its) in
     restores_hold (house jobs servers) first c past run grounded.users (house_is_tidy jobs servers grounded.slots) grounded.start grounded.few index j slot
     (bound_by pairs) (picture image) is_made (Restored restores.Done) begun last its
-    (λ s starts. subst (λ x. Restores machine j.nester slot (bound_by pairs) (picture image) is_made x)
+    (λ nester s named starts. subst (λ x. Restores machine j.nester slot (bound_by pairs) (picture image) is_made (world_at run begun) nester x)
     (sym (starts_restore j.task (take index c.ends) slot pairs source image s is from starts))
-    (restores_whole slot j.nester image pairs (image_is_restored slot j.nester image pairs
+    (restores_whole slot j.nester image pairs (world_at run begun) nester (image_is_restored slot j.nester image pairs (world_at run begun) nester
     (record { low = names.0; users = names.1; valid = valid_is (sourced (take index c.ends) source) image from })))) ended refl
 
 -- ---- the two together
@@ -514,5 +527,6 @@ saved_goes_on jobs servers first c past run grounded from to i j slot place hold
       further = λ ms. restored_go_on (house jobs servers) first c past run grounded.users
           (house_is_tidy jobs servers grounded.slots) grounded.start grounded.few i.nester slot holds release (picture image) saved.1
           (uncut_at (house jobs servers) first run grounded.uncut holds)
-          (alone_there jobs servers first c past run grounded from i slot holds release image its is ended saved.1.nester saved.1.named) j.nester place made done (bound_by pairs) restored ms;
+          (alone_there jobs servers first c past run grounded from i slot holds release image its is ended saved.1.nester saved.1.named) j.nester place made
+          done (bound_by pairs) restored ms;
     }

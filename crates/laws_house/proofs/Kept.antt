@@ -73,7 +73,8 @@ stood_on first w e uncut sound fit stood = record {
   births = λ x there. porters_space_stays w e uncut sound.whole.valid sound.whole.few fit x there ∙ stood.births x (porters_stood w e uncut x there);
 }
 
-module _ {J S A V : Type 0} (h : House J S A V) (first : Core S A V) (users : AskAsUsers h) (tidy : AreTidy h) (start : IsStart first) (uncut : IsUncut first.world) where
+module _ {J S A V : Type 0} (h : House J S A V) (first : Core S A V) (users : AskAsUsers h) (tidy : AreTidy h) (start : IsStart first)
+    (uncut : IsUncut first.world) where
   stood_now : {c : Core S A V} {past : List Move} (run : IsRun h first past c) → first.world.next + length past ≤ depth → Stood first.world c.world
   stood_now Begins left = record { porters = λ x there. there; served = λ x there. there; births = λ x there. refl }
   stood_now (Goes past c m d run ready settles) left =

@@ -1,5 +1,6 @@
 -- A job's moves in a run, one by one.
-use Rattle.std.proofs.Common.{◌≡◌, ℕ, ◌+◌, ◌<◌, ◌≤◌, Bool, true, false, cond, ◌==◌, List, [], ◌∷◌, length, take, Option, Some, None, option_map, refl, sym, ap, subst, arith, ◌∙◌, ◌⊎◌, inl, inr}
+use Rattle.std.proofs.Common.{◌≡◌, ℕ, ◌+◌, ◌<◌, ◌≤◌, Bool, true, false, cond, ◌==◌, List, [], ◌∷◌, length, take, Option, Some, None, option_map, refl, sym, ap}
+use Rattle.std.proofs.Common.{subst, arith, ◌∙◌, ◌⊎◌, inl, inr}
 use Rattle.std.specs.List.{slice_get}
 use Rattle.fk_model.specs.declared.limits.TheConstants.{OWN_SPACE, LAST_USER_SLOT}
 use Rattle.fk_model.specs.declared.moves.Move.{Move}
@@ -60,12 +61,12 @@ use Rattle.laws_house.proofs.House.{checkpoint_part, restore_part, same_state, v
 -- ---- what a job of the house starts with
 
 -- a checkpoint of a user's slot, or a restore of a valid image
-data Starts (j : Job) (s : State) : Type 0 where
+pub data Starts (j : Job) (s : State) : Type 0 where
   AsCheckpoint : (slot : ℕ) → slot ≤ LAST_USER_SLOT → s ≡ Checking slot checkpoints.Holds → Starts j s
   AsRestore : (slot : ℕ) (pairs : List (ℕ × ℕ)) (image : Image) → slot ≤ LAST_USER_SLOT → IsRoomed (bound_by pairs) (picture image) (rooms_of image) →
       s ≡ Restoring slot pairs image Makes → Starts j s
 
-starts : (j : Job) (ends : List (JobEnd End)) (s : State) → NamesUsersSlots j.task → begins_by j.task ends ≡ Some s → Starts j s
+pub starts : (j : Job) (ends : List (JobEnd End)) (s : State) → NamesUsersSlots j.task → begins_by j.task ends ≡ Some s → Starts j s
 starts j ends s names e = by j.task names e
   where
     made : (slot : ℕ) (pairs : List (ℕ × ℕ)) (source : Source) → NamesUsersSlots (Restore slot pairs source) → (o : Option Image)
@@ -86,7 +87,8 @@ same_restore : (slot other : ℕ) (pairs given : List (ℕ × ℕ)) (image pictu
     (slot ≡ other) × (pairs ≡ given) × (image ≡ picture_of) × (s ≡ t)
 same_restore slot other pairs given image picture_of s t e = (cc, cc, cc, cc)
 
-module _ {V : Type 0} (jobs : List Job) (servers : Servers V) (first c : Core State End V) (past : List Move) (run : IsRun (house jobs servers) first past c) (grounded : IsGrounded jobs servers first past) where
+module _ {V : Type 0} (jobs : List Job) (servers : Servers V) (first c : Core State End V) (past : List Move) (run : IsRun (house jobs servers) first past c)
+    (grounded : IsGrounded jobs servers first past) where
   -- ---- what a restore's moves leave
 
   module _ (k begun slot : ℕ) (pairs : List (ℕ × ℕ)) (image : Image) (s : restores.State) (stage : Stage) (words : List ℕ) where

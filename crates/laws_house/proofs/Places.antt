@@ -1,5 +1,6 @@
 -- A job's first and last move at their places, what its end leaves, and when a restore has no image.
-use Rattle.std.proofs.Common.{◌≡◌, ℕ, zero, suc, ◌+◌, ◌<◌, Bool, true, false, cond, ◌==◌, List, [], ◌∷◌, take, Option, Some, None, option_map, refl, sym, ap, subst, ◌∙◌}
+use Rattle.std.proofs.Common.{◌≡◌, ℕ, zero, suc, ◌+◌, ◌<◌, Bool, true, false, cond, ◌==◌, List, [], ◌∷◌, take, Option, Some, None, option_map, refl, sym, ap}
+use Rattle.std.proofs.Common.{subst, ◌∙◌}
 use Rattle.std.specs.List.{slice_get}
 use Rattle.fk_model.specs.declared.limits.TheConstants.{OWN_SPACE}
 use Rattle.fk_model.specs.declared.moves.Move.{Move}
@@ -48,9 +49,11 @@ use Rattle.laws_house.specs.Houses.Task.{Checkpoint, Restore}
 use Rattle.laws_house.specs.Houses.State.{Checking, Restoring}
 use Rattle.laws_house.specs.Houses.End.{Checked, Restored}
 use Rattle.laws_house.specs.Laws.{IsGrounded}
-use Rattle.laws_house.specs.Places.{CheckpointMoves, CheckpointsMoveSo, RestoreMoves, RestoresMoveSo, JobsEndClean, CheckpointsRelease, RestoresWantAnImage, IsDone, RestoresWantTheirMaker}
+use Rattle.laws_house.specs.Places.{CheckpointMoves, CheckpointsMoveSo, RestoreMoves, RestoresMoveSo, JobsEndClean, CheckpointsRelease, RestoresWantAnImage}
+use Rattle.laws_house.specs.Places.{IsDone, RestoresWantTheirMaker}
 use Rattle.laws_house.proofs.Parts.{asks_part, stops_part}
-use Rattle.laws_house.proofs.House.{checkpoint_part, restore_part, house_is_tidy, starts_checkpoint, starts_restore, got_before, ended_checkpoint, checkpoints_save}
+use Rattle.laws_house.proofs.House.{checkpoint_part, restore_part, house_is_tidy, starts_checkpoint, starts_restore, got_before, ended_checkpoint}
+use Rattle.laws_house.proofs.House.{checkpoints_save}
 use Rattle.laws_house.proofs.Moving.{last_call_is_known}
 
 -- ---- a machine stops only where it is over
@@ -162,7 +165,8 @@ comes_restoring slot pairs image _ (Hears t said rest) =
     let its = comes_restoring slot pairs image t rest in
     ((restore_of slot image pairs).next its.0 (reply_of said).status (reply_of said).words, ap (λ x. heard machine x said) its.1)
 
-module _ {V : Type 0} (jobs : List Job) (servers : Servers V) (first c : Core State End V) (past : List Move) (run : IsRun (house jobs servers) first past c) where
+module _ {V : Type 0} (jobs : List Job) (servers : Servers V) (first c : Core State End V) (past : List Move)
+    (run : IsRun (house jobs servers) first past c) where
   -- ---- checkpoints
 
   checkpoint_moves : (slot begun last : ℕ) (end : checkpoints.End) → EndedBy run (Checking slot checkpoints.Holds) (Checked end) begun last
@@ -317,14 +321,16 @@ module _ {V : Type 0} (jobs : List Job) (servers : Servers V) (first c : Core St
         )
 
 pub checkpoints_move_so : {V : Type 0} → CheckpointsMoveSo V
-checkpoints_move_so jobs servers first c past run start index j slot begun last end its is ended = checkpoint_at jobs servers first c past run start index j slot begun last end its is ended
+checkpoints_move_so jobs servers first c past run start index j slot begun last end its is ended =
+    checkpoint_at jobs servers first c past run start index j slot begun last end its is ended
 
 pub restores_move_so : {V : Type 0} → RestoresMoveSo V
 restores_move_so jobs servers first c past run start index j slot begun last pairs source image end its is from ended =
     restore_at jobs servers first c past run start index j slot begun last pairs source image end its is from ended
 
 pub restores_want_an_image : {V : Type 0} → RestoresWantAnImage V
-restores_want_an_image jobs servers first c past run start index j slot pairs source end its is ended = wants_an_image jobs servers first c past run start index j slot pairs source end its is ended
+restores_want_an_image jobs servers first c past run start index j slot pairs source end its is ended =
+    wants_an_image jobs servers first c past run start index j slot pairs source end its is ended
 
 pub restores_want_their_maker : {V : Type 0} → RestoresWantTheirMaker V
 restores_want_their_maker jobs servers first c past run grounded from index i j saved slot pairs end its is their task before ended =

@@ -1,5 +1,5 @@
 -- All together: what a run in which checkpoints and restores work is, from its first world on, for what they save and make again.
-use Rattle.std.specs.Prelude.{◌≡◌, ℕ, ◌+◌, ◌<◌, ◌≤◌, true, List, length, take, Option, Some, None}
+use Rattle.std.specs.Prelude.{◌≡◌, ℕ, ◌+◌, ◌*◌, ◌<◌, ◌≤◌, true, List, length, take, Option, Some, None}
 use Rattle.std.specs.List.{slice_get, All}
 use Rattle.fk_model.specs.declared.job.JobSpec.{JobSpec}
 use Rattle.fk_model.specs.declared.job.JobSpec.TheVariants as specs_of
@@ -16,12 +16,17 @@ use Rattle.laws_further.specs.Runs.{IsSeenRun}
 use Rattle.laws_jobs.specs.Jobs.{IsClean}
 use Rattle.laws_checkpoint.specs.Checkpoint as checkpoints
 use Rattle.laws_checkpoint.specs.Checkpoint.End.{Done}
+use Rattle.laws_checkpoint.specs.Bounded.{count_of, LiesWithin}
 use Rattle.laws_restore.specs.Restore as restores
+use Rattle.laws_restore.specs.Bounded as made
+use Rattle.laws_rooms.specs.Rooms.{rooms_of}
 use Rattle.laws_rooms.specs.Restoring.{bound_by, are_user_pairs}
 use Rattle.laws_runs.specs.Cores.{JobEnd, Servers, Work, Core, IsRun, world_at}
 use Rattle.laws_runs.specs.Cores.Unmoved.{NoImage}
 use Rattle.laws_runs.specs.Cores.JobEnd.{Worked, Idle}
 use Rattle.laws_runs.specs.Cores.Asker.{Job as Asked_by_job}
+use Rattle.laws_runs.specs.Composed.{job_moves, HasWorked, IsComposed}
+use Rattle.laws_runs.specs.Ended.{EndIs}
 use Rattle.laws_runs.specs.Turning.{asker_at}
 use Rattle.laws_runs.specs.Onwards.{between}
 use Rattle.laws_runs.specs.Events.{IsItsEvents}
@@ -64,6 +69,10 @@ pub record HasCheckpoints {V : Type 0} {jobs : List Job} {servers : Servers V} {
   pub leaves : (k begun slot : ℕ) (s : checkpoints.State) (stage : Stage) (words : List ℕ) → k < length past →
       asker_at run k ≡ Asked_by_job begun (Checking slot s) stage words →
       (birth : ℕ) × LeftBeside birth slot (world_at run begun) (world_at run k) (world_at run (k + 1))
+  -- ended or not, it makes few
+  pub brief : (index begun upto : ℕ) (ends : List (JobEnd End)) (its : HasWorked run index ends begun upto) (slot d k : ℕ) →
+      its.job.task ≡ Checkpoint slot → LiesWithin (cut (world_at run begun) its.nester slot) d → begun < k → k ≤ upto →
+      job_moves run k ≤ job_moves run begun + 100 * ((count_of (cut (world_at run begun) its.nester slot) + 1) * (d + 1))
 
 -- ---- restores
 
@@ -94,13 +103,23 @@ pub record HasRestores {V : Type 0} {jobs : List Job} {servers : Servers V} {fir
   pub leaves : (k begun slot : ℕ) (pairs : List (ℕ × ℕ)) (image : Image) (s : restores.State) (stage : Stage) (words : List ℕ) → k < length past →
       asker_at run k ≡ Asked_by_job begun (Restoring slot pairs image s) stage words →
       (birth : ℕ) × LeftFar birth slot (world_at run begun) (world_at run k) (world_at run (k + 1))
+  -- ended or not, it makes few
+  pub brief : (index begun upto : ℕ) (ends : List (JobEnd End)) (its : HasWorked run index ends begun upto) (slot d k : ℕ) (pairs : List (ℕ × ℕ))
+      (source : Source) (image : Image) → its.job.task ≡ Restore slot pairs source → valid_one (sourced ends source) ≡ Some image →
+      made.LiesWithin (picture image) d → begun < k → k ≤ upto →
+      job_moves run k ≤ job_moves run begun + 40 * ((made.count_of (rooms_of image) + 1) * (d + 1))
 
 -- ---- the run
 
 pub record HasHeadline {V : Type 0} {jobs : List Job} {servers : Servers V} {first c : Core State End V} {past : List Move}
     (run : IsRun (house jobs servers) first past c) : Type 0 where
-  -- one legal history
+  -- one legal history, through sound worlds
   pub events : IsItsEvents run
+  -- in which each job worked by itself, from its first move on, ended or not
+  pub composed : IsComposed run
+  -- and has ended by its own moves, or without one: for want of an image, or of its nester, which was gone in a world of the history
+  pub ended : (index : ℕ) (end : JobEnd End) → slice_get c.ends index ≡ Some end →
+      (job : Job) × (slice_get jobs index ≡ Some job) × EndIs run (take index c.ends) job end
   pub checkpointed : HasCheckpoints run
   pub restored : HasRestores run
   -- no scratch is left behind a job's last move, and while it works its next one is ready wherever nothing outside is held

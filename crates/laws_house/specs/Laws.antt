@@ -50,10 +50,10 @@ NameUsersSlots jobs = (index : ℕ) (j : Job) → slice_get jobs index ≡ Some 
 abbrev pub HouseIsTidy : Type 0 → Type 0
 HouseIsTidy V = (jobs : List Job) (servers : Servers V) → NameUsersSlots jobs → AreTidy (house jobs servers)
 
--- no porter and no served port lies in the slot of a nester
+-- no porter and no served port lies beneath what stands in the slot of a nester
 pub record IsUnserved (w : World) (nester : Path) (slot : ℕ) : Type 0 where
-  pub no_porter : (q : Path) → holds is_native (w.body (q ++ slot ∷ nester)) ≡ false
-  pub unserved : (q : Path) → holds is_served (w.body (q ++ slot ∷ nester)) ≡ false
+  pub no_porter : (k : ℕ) (q : Path) → holds is_native (w.body (k ∷ (q ++ slot ∷ nester))) ≡ false
+  pub unserved : (k : ℕ) (q : Path) → holds is_served (w.body (k ∷ (q ++ slot ∷ nester))) ≡ false
 
 -- in each subtree that a job is to save, as the reader of scenarios asks of the first world
 abbrev pub SaveUsersAlone : List Job → World → Type 0

@@ -1,13 +1,18 @@
 -- A job's moves in a run, one by one: what they leave, when the next one is ready, and which is the last.
-use Rattle.std.specs.Prelude.{◌≡◌, ℕ, false, ◌+◌, ◌<◌, ◌≤◌, ◌⊎◌, IsSome, List, ◌∷◌, length, take, Some}
+use Rattle.std.specs.Prelude.{◌≡◌, ℕ, true, false, ◌+◌, ◌<◌, ◌≤◌, ◌⊎◌, IsSome, List, ◌∷◌, length, take, Some}
 use Rattle.std.specs.List.{slice_get}
 use Rattle.fk_model.specs.declared.limits.TheConstants.{OWN_SPACE, LAST_USER_SLOT}
+use Rattle.fk_model.specs.declared.moves.Ask.TheVariants as asks
 use Rattle.fk_model.specs.declared.moves.Move.{Move}
+use Rattle.fk_model.specs.declared.names.Who.{Who}
 use Rattle.fk_model.specs.declared.stage.Stage.{Stage}
 use Rattle.fk_model.specs.declared.stage.Stage.TheVariants.{SpaceRelease}
 use Rattle.fk_model.specs.Places.{Path}
 use Rattle.fk_model.specs.World.{World}
-use Rattle.fk_model.specs.Valid.{birth_at}
+use Rattle.fk_model.specs.Moves.{chooses}
+use Rattle.fk_model.specs.Searches.{depth}
+use Rattle.fk_model.specs.Valid.{birth_at, is_fit}
+use Rattle.fk_model.specs.Who.{named}
 use Rattle.fk_model.specs.Cut.{is_port}
 use Rattle.fk_image.specs.declared.image.Image.{Image}
 use Rattle.fk_image.specs.Picture.{picture}
@@ -24,16 +29,17 @@ use Rattle.laws_restore.specs.Rest.{IsSameFar}
 use Rattle.laws_restore.specs.Exact.{EndsByMiss}
 use Rattle.laws_rooms.specs.Rooms.{rooms_of}
 use Rattle.laws_rooms.specs.Restoring.{bound_by, restore_of}
-use Rattle.laws_runs.specs.Cores.{Servers, Work, Core, IsRun, world_at}
+use Rattle.laws_runs.specs.Cores.{Servers, Work, Core, asker, IsRun, world_at}
 use Rattle.laws_runs.specs.Cores.JobEnd.{Worked}
 use Rattle.laws_runs.specs.Cores.Asker.{Job as Asked_by_job}
+use Rattle.laws_runs.specs.Composed.{AskAsUsers, IsStart}
 use Rattle.laws_runs.specs.Turning.{asker_at}
 use Rattle.laws_runs.specs.Placed.{WorksThere}
 use Rattle.laws_house.specs.Houses.{Job, Source, State, End, machine, valid_one, sourced, house}
 use Rattle.laws_house.specs.Houses.Task.{Restore}
 use Rattle.laws_house.specs.Houses.State.{Checking, Restoring}
 use Rattle.laws_house.specs.Houses.End.{Restored}
-use Rattle.laws_house.specs.Laws.{IsGrounded}
+use Rattle.laws_house.specs.Laws.{NameUsersSlots, IsGrounded}
 
 -- ---- what a restore's moves leave
 
@@ -66,6 +72,18 @@ pub record NextIsReady (state : State) (v : World) : Type 0 where
 abbrev pub JobsAreReady : Type 0 → Type 0
 JobsAreReady V = (jobs : List Job) (servers : Servers V) (first c : Core State End V) (past : List Move) (run : IsRun (house jobs servers) first past c) →
     IsGrounded jobs servers first past → (k : Work State) → c.work ≡ Some k → NextIsReady k.state c.world
+
+-- ---- what a job asks for
+
+-- in a core it is fit where its porter stands, and picks nobody
+abbrev pub AsksFitly : {V : Type 0} → List Job → Servers V → Core State End V → Type 0
+AsksFitly jobs servers c = (who : Who) (begun : ℕ) (s : State) (stage : Stage) (words : List ℕ) →
+    asker (house jobs servers) c who ≡ Asked_by_job begun s stage words →
+    (is_fit c.world (named c.world who) (asks.Call stage words) ≡ true) × (chooses stage ≡ false)
+
+abbrev pub JobsAskFitly : Type 0 → Type 0
+JobsAskFitly V = (jobs : List Job) (servers : Servers V) (first c : Core State End V) (past : List Move) (run : IsRun (house jobs servers) first past c) →
+    AskAsUsers (house jobs servers) → NameUsersSlots jobs → IsStart first → first.world.next + length past ≤ depth → AsksFitly jobs servers c
 
 -- ---- how a restore ends
 

@@ -4,8 +4,9 @@
 //! It stands on `laws_runs`, `laws_checkpoint` and `laws_rooms`.
 #![tactic(auto)]
 
-ghost use Rattle.laws_house.specs.Laws.{HouseIsTidy, RunStaysUncut, CheckpointsAreBrief, RestoresAreBrief, CheckpointsLeaveTheRest, CheckpointsEndAsItWas, CheckpointsSave, RestoresMake, SavedGoesOn};
-ghost use Rattle.laws_house.specs.Moves.{RestoresLeaveTheRest, JobsAreReady, RestoresEndSo, LastCallIsKnown, GoneLeavesAll};
+ghost use Rattle.laws_house.specs.Laws.{HouseIsTidy, RunStaysUncut, CheckpointsAreBrief, RestoresAreBrief, CheckpointsLeaveTheRest, CheckpointsEndAsItWas};
+ghost use Rattle.laws_house.specs.Laws.{CheckpointsSave, RestoresMake, SavedGoesOn};
+ghost use Rattle.laws_house.specs.Moves.{RestoresLeaveTheRest, JobsAreReady, JobsAskFitly, RestoresEndSo, LastCallIsKnown, GoneLeavesAll};
 ghost use Rattle.laws_house.specs.Parts.{PartsWork, PartsAreTidy};
 ghost use Rattle.laws_house.specs.Headline.{JobsNameUsersSlots, HeadlineHolds};
 ghost use Rattle.laws_house.specs.Places.{CheckpointsMoveSo, RestoresMoveSo, JobsEndClean, CheckpointsRelease, RestoresWantAnImage, RestoresWantTheirMaker};
@@ -77,6 +78,11 @@ pub fn restores_leave_the_rest<V>()
 /// The next move of a job that is at work is ready wherever nothing outside its subtree is held.
 pub fn jobs_are_ready<V>()
     ensures { JobsAreReady V }
+{}
+
+/// What a job asks for in the last core of a run is fit there, and picks nobody.
+pub fn jobs_ask_fitly<V>()
+    ensures { JobsAskFitly V }
 {}
 
 /// A restore of a run ends so: its subtree stands where nothing stood; its slot was taken, which it is told exactly there, and

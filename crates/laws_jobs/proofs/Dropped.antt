@@ -1,5 +1,6 @@
 -- Nothing leads to a reference, so a porter that makes, leads or destroys its scratch references leaves what leads in, and where the subtree isn't closed.
-use Rattle.std.proofs.Common.{◌≡◌, ℕ, ◌≤◌, Bool, true, false, not, ◌&&◌, ◌||◌, nat_le, is_some, List, [], ◌∷◌, ◌++◌, length, Option, Some, None, option_map, refl, sym, ap, subst, arith, length-append, ◌∙◌, ◌⊎◌, inl, inr}
+use Rattle.std.proofs.Common.{◌≡◌, ℕ, ◌≤◌, Bool, true, false, not, ◌&&◌, ◌||◌, nat_le, is_some, List, [], ◌∷◌, ◌++◌, length, Option, Some, None, option_map}
+use Rattle.std.proofs.Common.{refl, sym, ap, subst, arith, length-append, ◌∙◌, ◌⊎◌, inl, inr}
 use Rattle.std.specs.List.{list_any}
 use Rattle.std.proofs.lemmas.Bool.{or_cases, and_parts, leb-true}
 use Rattle.std.proofs.lemmas.List.Folds.{list_any-append}
@@ -126,7 +127,8 @@ module _ (there : Path → Option Kind) (x : Path) (is : there x ≡ Some kinds.
 
 module _ (nester : Path) (slot : ℕ) (w v : World) (holding : IsHolding nester slot w) (valid : IsValid w) (valid_after : IsValid v) (few : w.next ≤ depth)
     (few_after : v.next ≤ depth)
-    (bodies : (y : Path) → is_scratch nester y ≡ false → v.body y ≡ w.body y) (pages : (y : Path) (page : ℕ) → is_scratch nester y ≡ false → v.page y page ≡ w.page y page) where
+    (bodies : (y : Path) → is_scratch nester y ≡ false → v.body y ≡ w.body y)
+    (pages : (y : Path) (page : ℕ) → is_scratch nester y ≡ false → v.page y page ≡ w.page y page) where
   abbrev root : Path
   root = slot ∷ nester
 

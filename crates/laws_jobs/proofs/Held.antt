@@ -1,5 +1,6 @@
 -- A hold leaves where the subtree isn't closed.
-use Rattle.std.proofs.Common.{◌≡◌, ℕ, zero, ◌≤◌, Bool, true, false, not, ◌&&◌, is_some, [], ◌∷◌, ◌++◌, length, Option, Some, None, refl, sym, ap, subst, arith, length-append, ◌∙◌, inl, inr}
+use Rattle.std.proofs.Common.{◌≡◌, ℕ, zero, ◌≤◌, Bool, true, false, not, ◌&&◌, is_some, [], ◌∷◌, ◌++◌, length, Option, Some, None, refl, sym, ap, subst, arith}
+use Rattle.std.proofs.Common.{length-append, ◌∙◌, inl, inr}
 use Rattle.std.specs.List.{list_any}
 use Rattle.std.proofs.lemmas.Bool.{and_parts}
 use Rattle.fk_model.specs.declared.limits.TheConstants.{LAST_PORTER_SLOT}

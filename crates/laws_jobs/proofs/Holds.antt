@@ -1,5 +1,6 @@
 -- A hold that is done puts the porter to work, and a release ends that.
-use Rattle.std.proofs.Common.{◌≡◌, ℕ, zero, ◌≤◌, ◌<◌, Bool, true, false, not, ◌&&◌, nat_le, [], ◌∷◌, ◌++◌, length, Option, Some, None, option_map, is_some, Ok, refl, sym, ap, subst, arith, length-append, ◌∙◌, ◌⊎◌, inl, inr, if◌then◌else◌}
+use Rattle.std.proofs.Common.{◌≡◌, ℕ, zero, ◌≤◌, ◌<◌, Bool, true, false, not, ◌&&◌, nat_le, [], ◌∷◌, ◌++◌, length, Option, Some, None, option_map, is_some, Ok}
+use Rattle.std.proofs.Common.{refl, sym, ap, subst, arith, length-append, ◌∙◌, ◌⊎◌, inl, inr, if◌then◌else◌}
 use Rattle.std.specs.List.{list_any}
 use Rattle.std.proofs.lemmas.Bool.{and_parts, leb-true, le-leb}
 use Rattle.fk_model.specs.declared.limits.TheConstants.{OWN_SPACE, LAST_USER_SLOT, FIRST_SCRATCH_SLOT, LAST_SCRATCH_SLOT, LAST_PORTER_SLOT}
@@ -112,7 +113,8 @@ module _ (nester : Path) (slot : ℕ) (low : slot ≤ LAST_USER_SLOT) (w : World
       let least = leb-true FIRST_SCRATCH_SLOT k first.1 in
       omega (arith, least)
 
-  module _ (native : holds is_native (w.body me) ≡ true) (free : decider w nester ≡ None) (empty : (y : Path) → is_scratch nester y ≡ true → w.body y ≡ None) where
+  module _ (native : holds is_native (w.body me) ≡ true) (free : decider w nester ≡ None)
+      (empty : (y : Path) → is_scratch nester y ≡ true → w.body y ≡ None) where
     held-holding : (birth : ℕ) (old : Option Ptr) → w.body root ≡ Some (Space birth old) → IsHolding nester slot (held_world nester slot w)
     unfolding apply edited
     held-holding birth old there = record {

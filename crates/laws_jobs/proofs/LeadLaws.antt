@@ -1,5 +1,6 @@
 -- What leads in stays; so does the place at which a subtree isn't closed.
-use Rattle.std.proofs.Common.{◌≡◌, ℕ, zero, suc, ◌+◌, ◌≤◌, Bool, true, false, cond, not, ◌&&◌, ◌||◌, nat_lt, is_some, List, [], ◌∷◌, ◌++◌, Option, Some, None, filter, count_by, refl, sym, ap, arith, ◌∙◌, inl, inr}
+use Rattle.std.proofs.Common.{◌≡◌, ℕ, zero, suc, ◌+◌, ◌≤◌, Bool, true, false, cond, not, ◌&&◌, ◌||◌, nat_lt, is_some, List, [], ◌∷◌, ◌++◌, Option, Some, None}
+use Rattle.std.proofs.Common.{filter, count_by, refl, sym, ap, arith, ◌∙◌, inl, inr}
 use Rattle.std.specs.List.{list_any, sum_by}
 use Rattle.std.proofs.lemmas.Bool.{and_parts}
 use Rattle.std.proofs.lemmas.List.Sums.{sum_by-cons}
@@ -94,7 +95,8 @@ module _ (nester : Path) (slot : ℕ) (w : World) (held : holder_of (w.body (slo
 
 -- ---- others
 
-module _ (nester : Path) (slot : ℕ) (w : World) (e : Event) (holding : IsHolding nester slot w) (moves : IsUsersMove nester w e) (few : (after w e).next ≤ depth) where
+module _ (nester : Path) (slot : ℕ) (w : World) (e : Event) (holding : IsHolding nester slot w) (moves : IsUsersMove nester w e)
+    (few : (after w e).next ≤ depth) where
   abbrev top : Path
   top = slot ∷ nester
 

@@ -1,5 +1,6 @@
 -- A porter that leads a scratch reference anew keeps its hold, the cut, and what leads in.
-use Rattle.std.proofs.Common.{◌≡◌, ℕ, ◌≤◌, ◌<◌, Bool, true, false, cond, ◌&&◌, ◌||◌, nat_le, [], ◌∷◌, ◌++◌, length, Option, Some, None, option_map, refl, sym, ap, subst, arith, length-append, ◌∙◌, inl, inr}
+use Rattle.std.proofs.Common.{◌≡◌, ℕ, ◌≤◌, ◌<◌, Bool, true, false, cond, ◌&&◌, ◌||◌, nat_le, [], ◌∷◌, ◌++◌, length, Option, Some, None, option_map, refl, sym}
+use Rattle.std.proofs.Common.{ap, subst, arith, length-append, ◌∙◌, inl, inr}
 use Rattle.std.specs.List.{list_any}
 use Rattle.std.proofs.lemmas.Bool.{and_parts, leb-true}
 use Rattle.fk_model.specs.declared.limits.TheConstants.{LAST_USER_SLOT, FIRST_SCRATCH_SLOT, LAST_SCRATCH_SLOT, LAST_PORTER_SLOT}
@@ -30,7 +31,8 @@ use Rattle.laws_jobs.proofs.LeadLaws.{some_leads, leads_found}
 
 module _ (nester : Path) (slot : ℕ) (w v : World) (held : holder_of (w.body (slot ∷ nester)) ≡ Some (At (LAST_PORTER_SLOT ∷ nester)))
     (held_after : holder_of (v.body (slot ∷ nester)) ≡ Some (At (LAST_PORTER_SLOT ∷ nester)))
-    (valid : IsValid w) (valid_after : IsValid v) (few : w.next ≤ depth) (few_after : v.next ≤ depth) (same : (y : Path) → is_scratch nester y ≡ false → v.body y ≡ w.body y) where
+    (valid : IsValid w) (valid_after : IsValid v) (few : w.next ≤ depth) (few_after : v.next ≤ depth)
+    (same : (y : Path) → is_scratch nester y ≡ false → v.body y ≡ w.body y) where
   pub leads_same : (z : Path) → is_led_to v (slot ∷ nester) z ≡ is_led_to w (slot ∷ nester) z
   leads_same z = by (is_led_to w (slot ∷ nester) z) (is_led_to v (slot ∷ nester) z) refl refl
     where

@@ -1,9 +1,11 @@
 -- The rows of a porter's calls, each where what it reads is known.
-use Rattle.std.proofs.Common.{◌≡◌, ℕ, Bool, true, false, cond, not, ◌&&◌, ◌||◌, ◌==◌, nat_le, nat_lt, List, [], ◌∷◌, ◌++◌, map, Option, Some, None, Result, Ok, Err, refl, ◌≤◌, option_map, arith}
+use Rattle.std.proofs.Common.{◌≡◌, ℕ, Bool, true, false, cond, not, ◌&&◌, ◌||◌, ◌==◌, nat_le, nat_lt, List, [], ◌∷◌, ◌++◌, map, Option, Some, None, Result, Ok}
+use Rattle.std.proofs.Common.{Err, refl, ◌≤◌, option_map, arith}
 use Rattle.fk_model.specs.declared.limits.TheConstants.{OWN_SPACE, SLOTS, PAGES, LAST_PORTER_SLOT}
 use Rattle.fk_model.specs.declared.names.Kind.{Kind}
 use Rattle.fk_model.specs.declared.names.Kind.TheVariants as kinds
-use Rattle.fk_model.specs.declared.stage.Stage.TheVariants.{Create, Point, Locate, SetState, SetPtr, PageGive, LinkPark, FaultPark, GetPtr, CountIn, Search, GetState, PageNext, PageRead}
+use Rattle.fk_model.specs.declared.stage.Stage.TheVariants.{Create, Point, Locate, SetState, SetPtr, PageGive, LinkPark, FaultPark, GetPtr, CountIn, Search}
+use Rattle.fk_model.specs.declared.stage.Stage.TheVariants.{GetState, PageNext, PageRead}
 use Rattle.fk_model.specs.declared.statuses.status.TheConstants as status
 use Rattle.fk_model.specs.Places.{Path, Ptr}
 use Rattle.fk_model.specs.Places.Ptr.{At}
@@ -20,7 +22,8 @@ use Rattle.fk_model.specs.Outcomes.Outcome.{Goes}
 use Rattle.fk_model.specs.Outcomes.Said.{Answered}
 use Rattle.fk_model.specs.Readers.{object_in, anything, space_argument, kind_at, handle}
 use Rattle.fk_model.specs.Records.{record_of, set_edits, takes_state}
-use Rattle.fk_model.specs.StateRows.{get_state, is_native, is_still, held_kinds, is_of_kinds, set_state, set_ptr, Field, field_of, field_number, field_pointer, get_ptr}
+use Rattle.fk_model.specs.StateRows.{get_state, is_native, is_still, held_kinds, is_of_kinds, set_state, set_ptr, Field, field_of, field_number, field_pointer}
+use Rattle.fk_model.specs.StateRows.{get_ptr}
 use Rattle.fk_model.specs.SpaceRows.{page_give, next_page, page_next, page_read}
 use Rattle.fk_model.specs.LinkRows.{given_talk, link_park}
 use Rattle.fk_model.specs.FaultRows.{given_fault, fault_park}
@@ -103,10 +106,12 @@ module _ (nester : Path) (words : List ℕ) (w : World) where
   unfolding call_row locate
   locate-row r s top to ref place = rw (ref, place) (by (target_of to))
     where
-      by_way : (to : Ptr) (o : Option (List ℕ)) → closed (porter nester words) (with_pick false None (or_refuse status.NONE o >>= (λ way. done (porter nester words) [] (way ++ kind_number (kind_at w to) ∷ [])))) ≡ elim o [
-        | None ↦ Goes [] (Answered status.NONE [])
-        | Some way ↦ Goes [] (Answered status.OK (way ++ kind_number (kind_at w to) ∷ []))
-      ]
+      by_way : (to : Ptr) (o : Option (List ℕ))
+          → closed (porter nester words) (with_pick false None
+          (or_refuse status.NONE o >>= (λ way. done (porter nester words) [] (way ++ kind_number (kind_at w to) ∷ [])))) ≡ elim o [
+            | None ↦ Goes [] (Answered status.NONE [])
+            | Some way ↦ Goes [] (Answered status.OK (way ++ kind_number (kind_at w to) ∷ []))
+          ]
       by_way to None = refl
       by_way to (Some way) = refl
 

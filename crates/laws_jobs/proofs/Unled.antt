@@ -1,5 +1,6 @@
 -- No move of another makes a pointer to an object of a subtree that a porter holds.
-use Rattle.std.proofs.Common.{◌≡◌, ℕ, ◌+◌, min, Bool, true, false, cond, not, ◌&&◌, ◌||◌, nat_le, is_some, List, [], ◌∷◌, ◌++◌, Option, Some, None, option_map, refl, sym, subst, arith, ◌∙◌}
+use Rattle.std.proofs.Common.{◌≡◌, ℕ, ◌+◌, min, Bool, true, false, cond, not, ◌&&◌, ◌||◌, nat_le, is_some, List, [], ◌∷◌, ◌++◌, Option, Some, None, option_map}
+use Rattle.std.proofs.Common.{refl, sym, subst, arith, ◌∙◌}
 use Rattle.std.specs.List.{list_any}
 use Rattle.std.proofs.lemmas.Bool.{and_parts, leb-true}
 use Rattle.std.proofs.lemmas.List.Folds.{list_any-append}
@@ -11,9 +12,11 @@ use Rattle.fk_model.specs.Objects.{Mode, Peer, Talk, Fault, Thread, Body, and_th
 use Rattle.fk_model.specs.Objects.Mode.{Calling}
 use Rattle.fk_model.specs.Objects.Peer.{Server, Service, Parked}
 use Rattle.fk_model.specs.Objects.Body.{Mutex, Cond, Mapping, Region, Port, Portset, Space, Thread_of, Reference}
-use Rattle.fk_model.specs.World.{World, Change, Edit, Sweep, edited, through, death_sweep, taker_without, serves, following, follow, follow_peer, apply, apply_all, ended_in, finished_in}
+use Rattle.fk_model.specs.World.{World, Change, Edit, Sweep, edited, through, death_sweep, taker_without, serves, following, follow, follow_peer, apply}
+use Rattle.fk_model.specs.World.{apply_all, ended_in, finished_in}
 use Rattle.fk_model.specs.World.Change.{Alter, Make, MakeSpace, Kill, Move, PutPage, DropPage}
-use Rattle.fk_model.specs.World.Edit.{SetLocked, SetWindow, SetExtent, SetMember, SetPointer, SetHolder, Finish, End, SetTalk, CountMoved, PassTurn, SetPeer, SetFault, SetTaker}
+use Rattle.fk_model.specs.World.Edit.{SetLocked, SetWindow, SetExtent, SetMember, SetPointer, SetHolder, Finish, End, SetTalk, CountMoved, PassTurn, SetPeer}
+use Rattle.fk_model.specs.World.Edit.{SetFault, SetTaker}
 use Rattle.fk_model.specs.Searches.{pointers, option_list, talk_pointers, fault_pointers, peer_pointer}
 use Rattle.fk_model.specs.Holds.{decider, is_frozen_for, leads_to_frozen}
 use Rattle.fk_model.specs.Freezing.{body_pointers, made_pointers, are_unfrozen, IsAllowed, AreAllowed}

@@ -54,7 +54,8 @@ pub record Saves {S A : Type 0} (m : Machine S A) (birth slot : ℕ) (picture : 
   pub gives : (v : World) (t : S) (end : A) (c : World) → MayBegin w nester birth → AtWork m nester w s v t →
       m.head t ≡ Stops end → picture end ≡ Some c → IsClosed w nester slot × (c ≡ cut w nester slot)
 
--- a restore of a picture in a slot
-pub record Restores {S A : Type 0} (m : Machine S A) (birth slot : ℕ) (bind : ℕ → ℕ) (c : World) (is_done : A → Bool) (s : S) : Type 0 where
-  pub gives : (w : World) (nester : Path) (v : World) (t : S) (end : A) → MayBegin w nester birth → AtWork m nester w s v t →
+-- a restore of a picture in a slot of a nester, begun in a world: if it is done, what stands there is the picture with its ports bound
+pub record Restores {S A : Type 0} (m : Machine S A) (birth slot : ℕ) (bind : ℕ → ℕ) (c : World) (is_done : A → Bool) (w : World) (nester : Path) (s : S) :
+    Type 0 where
+  pub gives : (v : World) (t : S) (end : A) → MayBegin w nester birth → AtWork m nester w s v t →
       m.head t ≡ Stops end → is_done end ≡ true → IsPlain v nester slot × (cut v nester slot ≡ rebound bind c)

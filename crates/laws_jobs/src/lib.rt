@@ -9,7 +9,8 @@ ghost use Rattle.laws_jobs.specs.Machines.{GoesOnByOthers, GoesOnByOwn, NowIsSou
 ghost use Rattle.laws_jobs.specs.Nesters.{UsersFillLow, NesterStays};
 ghost use Rattle.laws_jobs.specs.Calls.{CallIsItsRow, CalmCallIsReady};
 ghost use Rattle.laws_jobs.specs.Holds.{HoldComesTo, ReleaseComesTo};
-ghost use Rattle.laws_jobs.specs.Leads.{OthersKeepLeads, OthersKeepUnled, OthersKeepOpenPlace, OwnKeepOpenPlace, HoldKeepsOpenPlace, CountsTell, ReferenceGoesAlone};
+ghost use Rattle.laws_jobs.specs.Leads.{OthersKeepLeads, OthersKeepUnled, OthersKeepOpenPlace, OwnKeepOpenPlace, HoldKeepsOpenPlace, CountsTell};
+ghost use Rattle.laws_jobs.specs.Leads.{ReferenceGoesAlone};
 
 /// A job at work goes on with each move of another and with its own next call, where the world after
 /// it is sound, and so is each world to which it comes.

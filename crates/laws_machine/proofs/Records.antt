@@ -1,5 +1,6 @@
 -- State records: what one that was shown sets, and that it is taken.
-use Rattle.std.proofs.Common.{◌≡◌, ℕ, ◌+◌, ◌-◌, ◌<◌, ◌≤◌, Bool, true, false, ◌&&◌, eqb, leb, List, [], ◌∷◌, ◌++◌, length, replicate, map, get_or, Option, Some, None, option_map, cond, refl, sym, ap, subst, ◌∙◌, arith}
+use Rattle.std.proofs.Common.{◌≡◌, ℕ, ◌+◌, ◌-◌, ◌<◌, ◌≤◌, Bool, true, false, ◌&&◌, eqb, leb, List, [], ◌∷◌, ◌++◌, length, replicate, map, get_or, Option, Some}
+use Rattle.std.proofs.Common.{None, option_map, cond, refl, sym, ap, subst, ◌∙◌, arith}
 use Rattle.std.proofs.lemmas.Bool.{le-leb, lt-ltb, eqb-true, ne_eqb, and_parts, and_from, or_right}
 use Rattle.std.proofs.lemmas.List.{length-append, length-replicate}
 use Rattle.fk_model.specs.declared.limits.TheConstants.{RECORD_WORDS, MOST_STOPS, PAGES}
@@ -11,7 +12,8 @@ use Rattle.fk_model.specs.Objects.Body.{Mutex, Mapping, Region, Port, Thread_of}
 use Rattle.fk_model.specs.Holds.{is_porter}
 use Rattle.fk_model.specs.World.{World, Edit, edited, at_path, apply, apply_all}
 use Rattle.fk_model.specs.World.Change.{Alter}
-use Rattle.fk_model.specs.Records.{record_of, set_edits, edited_by, set, takes_state, padded, state_words, mode_number, halt_code, talk_words, fault_words, member_by, member_word, calling_by, mode_of_record, is_flag, is_page_range, is_member_word, is_mode}
+use Rattle.fk_model.specs.Records.{record_of, set_edits, edited_by, set, takes_state, padded, state_words, mode_number, halt_code, talk_words, fault_words}
+use Rattle.fk_model.specs.Records.{member_by, member_word, calling_by, mode_of_record, is_flag, is_page_range, is_member_word, is_mode}
 use Rattle.fk_model.specs.Shapes.{IsShapedMode, IsShaped, IsPageRange, IsCodeInRange, IsMember, IsInRange}
 use Rattle.laws_machine.specs.Laws.{RecordIsFull, RecordSetsNothing, RecordChangesNothing, RecordIsTaken}
 use Rattle.fk_model.proofs.calls.CallLaws.{registers, sixteen, words_read_back_lem, words_keep_length_lem}

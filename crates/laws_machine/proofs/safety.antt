@@ -8,3 +8,4 @@ pub mod State
 pub mod Talks
 pub mod Given
 pub mod Moves
+pub mod Staying

@@ -5,7 +5,8 @@
 #![tactic(auto)]
 
 ghost use Rattle.laws_machine.specs.Frame.{MoveKeepsBodies, MoveKeepsPages};
-ghost use Rattle.laws_machine.specs.Laws.{WordsReadBack, TodoWritesBack, WordsKeepLength, RecordIsFull, RecordIsTaken, RecordSetsNothing, RecordChangesNothing, StepKeepsValid};
+ghost use Rattle.laws_machine.specs.Laws.{WordsReadBack, TodoWritesBack, WordsKeepLength, RecordIsFull, RecordIsTaken, RecordSetsNothing, RecordChangesNothing};
+ghost use Rattle.laws_machine.specs.Laws.{StepKeepsValid};
 
 /// The registers of a calling thread show the stages that were written into them, and the rest.
 pub fn words_read_back()

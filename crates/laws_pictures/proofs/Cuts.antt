@@ -1,5 +1,6 @@
 -- The picture of a valid image is a cut world.
-use Rattle.std.proofs.Common.{◌≡◌, ℕ, suc, ◌+◌, ◌⊎◌, inl, inr, Bool, true, false, cond, ◌==◌, List, [], ◌∷◌, ◌++◌, Option, Some, None, option_map, refl, sym, ap, subst, ◌∙◌}
+use Rattle.std.proofs.Common.{◌≡◌, ℕ, suc, ◌+◌, ◌⊎◌, inl, inr, Bool, true, false, cond, ◌==◌, List, [], ◌∷◌, ◌++◌, Option, Some, None, option_map, refl, sym}
+use Rattle.std.proofs.Common.{ap, subst, ◌∙◌}
 use Rattle.std.specs.Prelude.{IfSome}
 use Rattle.std.proofs.lemmas.Bool.{and_parts}
 use Rattle.std.proofs.lemmas.List.{append-nil}
@@ -20,8 +21,10 @@ use Rattle.fk_image.specs.declared.image.Rec.TheVariants.{Mutex, Cond, Portset, 
 use Rattle.fk_image.specs.declared.image.ObjectRec.{ObjectRec}
 use Rattle.fk_image.specs.declared.image.SpaceRec.{SpaceRec}
 use Rattle.fk_image.specs.declared.image.Image.{Image}
-use Rattle.fk_image.specs.Links.{may_hold, leads_to_region, leads_to_keeper, may_refer, leads_to_port, serves_port, talk_leads, taker_leads, fault_leads, body_leads, spaces_lead, all_lead}
-use Rattle.fk_image.specs.Picture.{ptr, mode, mode_while_calling, pictured_holder, pictured_talk, pictured_fault, pictured_thread, pictured_body, pictured_body_at, picture}
+use Rattle.fk_image.specs.Links.{may_hold, leads_to_region, leads_to_keeper, may_refer, leads_to_port, serves_port, talk_leads, taker_leads, fault_leads}
+use Rattle.fk_image.specs.Links.{body_leads, spaces_lead, all_lead}
+use Rattle.fk_image.specs.Picture.{ptr, mode, mode_while_calling, pictured_holder, pictured_talk, pictured_fault, pictured_thread, pictured_body}
+use Rattle.fk_image.specs.Picture.{pictured_body_at, picture}
 use Rattle.fk_image.specs.Valid.{fits_spaces, is_valid}
 use Rattle.laws_cut.specs.Likeness.{PtrLikeness, HasLikeness, IsPlainBody, AllInTalk, AllInFault, IfServer, seeing, seen_peer, seen_talk, seen_fault}
 use Rattle.laws_cut.specs.Likeness.PtrLikeness.{Nulls, Deads, Inside, PortOut}

@@ -1,5 +1,6 @@
 -- The numbers of a subtree's image are in the ranges of their fields.
-use Rattle.std.proofs.Common.{◌≡◌, ℕ, zero, suc, ◌+◌, ◌<◌, ◌≤◌, ◌^◌, Bool, true, false, cond, not, ltb, leb, ◌&&◌, ◌==◌, List, [], ◌∷◌, length, Option, Some, None, option_map, is_some, refl, ap, subst, ◌∙◌, arith, eq-eqb, eqb-true}
+use Rattle.std.proofs.Common.{◌≡◌, ℕ, zero, suc, ◌+◌, ◌<◌, ◌≤◌, ◌^◌, Bool, true, false, cond, not, ltb, leb, ◌&&◌, ◌==◌, List, [], ◌∷◌, length, Option, Some}
+use Rattle.std.proofs.Common.{None, option_map, is_some, refl, ap, subst, ◌∙◌, arith, eq-eqb, eqb-true}
 use Rattle.std.specs.Prelude.{slice_index}
 use Rattle.std.specs.List.{list_all}
 use Rattle.std.proofs.lemmas.Bool.{and_from, and_parts, lt-ltb, le-leb, le-ltb, leb-true}
@@ -19,9 +20,11 @@ use Rattle.fk_model.specs.World.{World}
 use Rattle.fk_model.specs.Valid.{kind_there, is_good, is_good_set, is_one_of, may_lead}
 use Rattle.fk_model.proofs.calls.CallLaws.{words_read_back_lem, words_keep_length_lem}
 use Rattle.fk_image.specs.declared.image.Rec.{Rec}
-use Rattle.fk_image.specs.Ranges.{is_call_code, is_mode_byte, is_code, is_byte, is_half, is_bit, is_turn, are_words, fits_link, fits_talk, fits_taker, fits_fault, fits_body, is_set_word}
+use Rattle.fk_image.specs.Ranges.{is_call_code, is_mode_byte, is_code, is_byte, is_half, is_bit, is_turn, are_words, fits_link, fits_talk, fits_taker}
+use Rattle.fk_image.specs.Ranges.{fits_fault, fits_body, is_set_word}
 use Rattle.fk_image.specs.Valid.{all_from, fits_object, after_object, fits_objects, fits_page, after_page, fits_pages}
-use Rattle.laws_pictures.specs.Imaged.{link_of, peer_link, talk_rec, fault_rec, rec_of, with_object, objects_from, with_page, pages_from, rec_at, IsLed, IsPeerOf, IsLedTalk, IsTakenBy, IsLedFault, IsLedBody, IsAlone, IsSound, HasNumbers}
+use Rattle.laws_pictures.specs.Imaged.{link_of, peer_link, talk_rec, fault_rec, rec_of, with_object, objects_from, with_page, pages_from, rec_at, IsLed}
+use Rattle.laws_pictures.specs.Imaged.{IsPeerOf, IsLedTalk, IsTakenBy, IsLedFault, IsLedBody, IsAlone, IsSound, HasNumbers}
 
 -- ---- objects and pages by rising number
 
@@ -108,7 +111,8 @@ turn_fits : (t : Turn) → is_turn (turn_number t) ≡ true
 turn_fits turns.Client = refl
 turn_fits turns.Server = refl
 
-module _ (c : World) (sp : List Path) (alone : IsAlone c) (sound : IsSound c) (numbers : HasNumbers c) (link_fits : (p : Ptr) → IsLed c p → fits_link (link_of sp p) ≡ true) where
+module _ (c : World) (sp : List Path) (alone : IsAlone c) (sound : IsSound c) (numbers : HasNumbers c)
+    (link_fits : (p : Ptr) → IsLed c p → fits_link (link_of sp p) ≡ true) where
   peer_fits : (port : Ptr) (peer : Peer) → IsPeerOf c port peer → fits_link (peer_link sp peer) ≡ true
   peer_fits port (peers.Server ptrs.Null) h = refl
   peer_fits port (peers.Server ptrs.Dead) h = refl

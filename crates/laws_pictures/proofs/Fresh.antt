@@ -1,5 +1,6 @@
 -- No thread serves or took twice in a subtree's image.
-use Rattle.std.proofs.Common.{◌≡◌, ℕ, zero, suc, ◌+◌, ◌<◌, ◌⊎◌, inl, inr, Bool, true, false, not, ◌&&◌, ◌||◌, ◌==◌, List, [], ◌∷◌, ◌++◌, map, Option, Some, None, option_map, refl, sym, ap, subst, ◌∙◌, arith, append_assoc, eqb-true}
+use Rattle.std.proofs.Common.{◌≡◌, ℕ, zero, suc, ◌+◌, ◌<◌, ◌⊎◌, inl, inr, Bool, true, false, not, ◌&&◌, ◌||◌, ◌==◌, List, [], ◌∷◌, ◌++◌, map, Option, Some}
+use Rattle.std.proofs.Common.{None, option_map, refl, sym, ap, subst, ◌∙◌, arith, append_assoc, eqb-true}
 use Rattle.std.specs.Prelude.{slice_get}
 use Rattle.std.specs.List.{list_any, flat_map}
 use Rattle.std.proofs.lemmas.Bool.{and_from, false_from_ne_true}
@@ -13,7 +14,8 @@ use Rattle.fk_model.proofs.walks.PlaceLaws.{same_path_refl}
 use Rattle.fk_image.specs.declared.image.Rec.{Rec, Rec as recs}
 use Rattle.fk_image.specs.declared.image.ObjectRec.{ObjectRec}
 use Rattle.fk_image.specs.Links.{peer, talk_peers, taker_peers, fault_peers, body_peers, object_peers, space_peers, is_same_place, are_fresh}
-use Rattle.laws_pictures.specs.Imaged.{rank, link_of, peer_link, talk_rec, fault_rec, thread_rec, rec_of, with_object, objects_from, rec_at, space_rec, AreItsSpaces, IsPeerOf, IsLedTalk, IsTakenBy, IsLedFault, IsAlone, ServesOnce}
+use Rattle.laws_pictures.specs.Imaged.{rank, link_of, peer_link, talk_rec, fault_rec, thread_rec, rec_of, with_object, objects_from, rec_at, space_rec}
+use Rattle.laws_pictures.specs.Imaged.{AreItsSpaces, IsPeerOf, IsLedTalk, IsTakenBy, IsLedFault, IsAlone, ServesOnce}
 use Rattle.laws_pictures.proofs.Imaged.{ranked_is}
 
 module _ (c : World) (sp : List Path) (alone : IsAlone c) (its : AreItsSpaces c sp) (once : ServesOnce c) where

@@ -1,5 +1,6 @@
 -- The picture of a subtree's image is the subtree.
-use Rattle.std.proofs.Common.{◌≡◌, ℕ, zero, suc, ◌+◌, ◌-◌, ◌<◌, ◌≤◌, ◌⊎◌, inl, inr, Bool, true, false, cond, ◌==◌, List, [], ◌∷◌, ◌++◌, map, Option, Some, None, option_map, is_some, refl, sym, ap, subst, ◌∙◌, arith, ne_eqb, eq-eqb, append_assoc}
+use Rattle.std.proofs.Common.{◌≡◌, ℕ, zero, suc, ◌+◌, ◌-◌, ◌<◌, ◌≤◌, ◌⊎◌, inl, inr, Bool, true, false, cond, ◌==◌, List, [], ◌∷◌, ◌++◌, map, Option, Some, None}
+use Rattle.std.proofs.Common.{option_map, is_some, refl, sym, ap, subst, ◌∙◌, arith, ne_eqb, eq-eqb, append_assoc}
 use Rattle.std.specs.Prelude.{slice_get, IsSome}
 use Rattle.std.proofs.lemmas.Bool.{cases_lt}
 use Rattle.fk_model.specs.declared.names.Kind.TheVariants as kinds
@@ -7,7 +8,8 @@ use Rattle.fk_model.specs.declared.thread.Turn.{Turn}
 use Rattle.fk_model.specs.declared.thread.Turn.TheVariants as turns
 use Rattle.fk_model.specs.Calls.{words}
 use Rattle.fk_model.specs.Places.{Path, same_path, slot_of, Ptr, Ptr as ptrs}
-use Rattle.fk_model.specs.Objects.{Mode, Peer, Talk, Fault, Body, Body as bodies, Mode as modes, Peer as peers, and_then, or_else, kind_of, registers_of, flag_of}
+use Rattle.fk_model.specs.Objects.{Mode, Peer, Talk, Fault, Body, Body as bodies, Mode as modes, Peer as peers, and_then, or_else, kind_of, registers_of}
+use Rattle.fk_model.specs.Objects.{flag_of}
 use Rattle.fk_model.specs.Holds.{is_porter}
 use Rattle.fk_model.specs.LinkRows.{turn_number}
 use Rattle.fk_model.specs.Records.{mode_number, halt_code, member_word, member_by}
@@ -18,9 +20,12 @@ use Rattle.fk_model.proofs.walks.PlaceLaws.{same_path_refl, same_path_eq}
 use Rattle.fk_model.proofs.calls.CallLaws.{words_read_back_lem}
 use Rattle.fk_image.specs.declared.image.Rec.{Rec}
 use Rattle.fk_image.specs.declared.image.SpaceRec.{SpaceRec}
-use Rattle.fk_image.specs.Picture.{child, space_number, path_within, space_path, ptr, mode, mode_while_calling, rec_in, page_in, pictured_holder, pictured_talk, pictured_fault, pictured_body, pictured_body_in, pictured_body_at, pictured_page_at, picture}
+use Rattle.fk_image.specs.Picture.{child, space_number, path_within, space_path, ptr, mode, mode_while_calling, rec_in, page_in, pictured_holder, pictured_talk}
+use Rattle.fk_image.specs.Picture.{pictured_fault, pictured_body, pictured_body_in, pictured_body_at, pictured_page_at, picture}
 use Rattle.laws_pictures.specs.Tree.{IsTree}
-use Rattle.laws_pictures.specs.Imaged.{rank, link_of, peer_link, talk_rec, fault_rec, rec_of, with_object, objects_from, with_page, pages_from, rec_at, holder_link, parent_number, space_rec, image_of, Follows, AreItsSpaces, IsLed, IsPeerOf, IsLedTalk, IsTakenBy, IsLedFault, IsHeldBy, IsLedBody, IsAlone, PictureOfImage}
+use Rattle.laws_pictures.specs.Imaged.{rank, link_of, peer_link, talk_rec, fault_rec, rec_of, with_object, objects_from, with_page, pages_from, rec_at}
+use Rattle.laws_pictures.specs.Imaged.{holder_link, parent_number, space_rec, image_of, Follows, AreItsSpaces, IsLed, IsPeerOf, IsLedTalk, IsTakenBy}
+use Rattle.laws_pictures.specs.Imaged.{IsLedFault, IsHeldBy, IsLedBody, IsAlone, PictureOfImage}
 use Rattle.laws_pictures.proofs.Numbers.{item_of, is_there, there_below, below, child_of, number_of, path_of, path_up}
 use Rattle.laws_pictures.proofs.Bodies.{of_space}
 

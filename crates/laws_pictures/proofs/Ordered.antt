@@ -1,5 +1,6 @@
 -- The spaces of a subtree's image stand in preorder.
-use Rattle.std.proofs.Common.{◌≡◌, ℕ, suc, ◌+◌, ◌<◌, ◌≤◌, ◌^◌, inl, inr, true, cond, not, ◌&&◌, List, [], ◌∷◌, ◌++◌, map, length, Option, Some, None, option_map, is_some, refl, sym, ap, subst, ◌∙◌, arith, eq-eqb, ne_eqb, append_assoc, length-append}
+use Rattle.std.proofs.Common.{◌≡◌, ℕ, suc, ◌+◌, ◌<◌, ◌≤◌, ◌^◌, inl, inr, true, cond, not, ◌&&◌, List, [], ◌∷◌, ◌++◌, map, length, Option, Some, None}
+use Rattle.std.proofs.Common.{option_map, is_some, refl, sym, ap, subst, ◌∙◌, arith, eq-eqb, ne_eqb, append_assoc, length-append}
 use Rattle.std.specs.Prelude.{slice_get}
 use Rattle.std.proofs.lemmas.Bool.{and_from, lt-ltb, le-ltb}
 use Rattle.std.proofs.lemmas.List.{map-append}
@@ -16,7 +17,8 @@ use Rattle.fk_image.specs.Ranges.{fits_link}
 use Rattle.fk_image.specs.Preorder.{from, first_floor, room_under, has_room, root_path, after_entering, path_after, after_space}
 use Rattle.fk_image.specs.Links.{kind_in_space}
 use Rattle.fk_image.specs.Valid.{all_from, fits_space, fits_spaces, is_null, is_first, is_next, fits_objects, fits_pages}
-use Rattle.laws_pictures.specs.Imaged.{rank, link_of, rec_of, rec_at, objects_from, pages_from, holder_link, space_rec, Follows, AreItsSpaces, IsLed, IsHeldBy, IsLedBody, IsAlone}
+use Rattle.laws_pictures.specs.Imaged.{rank, link_of, rec_of, rec_at, objects_from, pages_from, holder_link, space_rec, Follows, AreItsSpaces, IsLed, IsHeldBy}
+use Rattle.laws_pictures.specs.Imaged.{IsLedBody, IsAlone}
 use Rattle.laws_pictures.proofs.Trees.{there_low, get_before}
 use Rattle.laws_pictures.proofs.Bodies.{kind_by_rec, kind_of_space}
 use Rattle.laws_pictures.proofs.Imaged.{ranked, before, ranked_is, rec_is, get_map}

@@ -1,5 +1,6 @@
 -- A closed subtree of a whole and savable world is such as its image needs.
-use Rattle.std.proofs.Common.{◌≡◌, ℕ, ◌≤◌, Bool, true, false, cond, not, ◌&&◌, ◌==◌, leb, List, [], ◌∷◌, ◌++◌, length, Option, Some, None, option_map, is_some, refl, sym, ap, subst, ◌∙◌, arith, append_assoc, length-append}
+use Rattle.std.proofs.Common.{◌≡◌, ℕ, ◌≤◌, Bool, true, false, cond, not, ◌&&◌, ◌==◌, leb, List, [], ◌∷◌, ◌++◌, length, Option, Some, None, option_map, is_some}
+use Rattle.std.proofs.Common.{refl, sym, ap, subst, ◌∙◌, arith, append_assoc, length-append}
 use Rattle.std.specs.List.{list_any}
 use Rattle.std.proofs.lemmas.Bool.{and_from, and_parts, or_parts, leb-true}
 use Rattle.std.proofs.lemmas.List.Folds.{list_any-append}
@@ -7,12 +8,14 @@ use Rattle.fk_model.specs.declared.limits.TheConstants.{LAST_USER_SLOT, LAST_SCR
 use Rattle.fk_model.specs.declared.names.Kind.{Kind}
 use Rattle.fk_model.specs.declared.names.Kind.TheVariants as kinds
 use Rattle.fk_model.specs.Places.{Path, same_path, strip, is_within, Ptr, Ptr as ptrs}
-use Rattle.fk_model.specs.Objects.{Body, Body as bodies, Peer, Peer as peers, Talk, Fault, Thread, and_then, kind_of, thread_of, reference_of, port_of, holds, is_served}
+use Rattle.fk_model.specs.Objects.{Body, Body as bodies, Peer, Peer as peers, Talk, Fault, Thread, and_then, kind_of, thread_of, reference_of, port_of, holds}
+use Rattle.fk_model.specs.Objects.{is_served}
 use Rattle.fk_model.specs.Holds.{holder_of}
 use Rattle.fk_model.specs.Searches.{pointers, talk_at, fault_at, peer_pointer, talk_pointers, fault_pointers, option_list}
 use Rattle.fk_model.specs.StateRows.{is_native, referable}
 use Rattle.fk_model.specs.World.{World, Sweep}
-use Rattle.fk_model.specs.Valid.{kind_there, is_good, is_good_set, is_one_of, may_lead, leads_there, lies_with, is_good_talk, is_good_fault, is_good_peer, all_in}
+use Rattle.fk_model.specs.Valid.{kind_there, is_good, is_good_set, is_one_of, may_lead, leads_there, lies_with, is_good_talk, is_good_fault, is_good_peer}
+use Rattle.fk_model.specs.Valid.{all_in}
 use Rattle.fk_model.specs.Whole.{is_placed}
 use Rattle.fk_model.specs.Cut.{is_port, ports_of, cut_out, cut_to, cut_ptr, is_out, cut_peer, cut_talk, cut_fault, cutting, seen_by, unheld, cut, is_far}
 use Rattle.fk_model.proofs.walks.PlaceLaws.{same_path_eq, strip-append, strip_some}

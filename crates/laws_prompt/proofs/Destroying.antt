@@ -1,5 +1,6 @@
 -- A stage of destroy that goes removes one object.
-use Rattle.std.proofs.Common.{◌≡◌, ℕ, ◌&&◌, Bool, true, false, not, if◌then◌else◌, is_some, List, [], ◌∷◌, ◌++◌, Option, Some, None, option_map, Result, Ok, Err, zero, suc, refl, ap, sym, ◌∙◌, subst}
+use Rattle.std.proofs.Common.{◌≡◌, ℕ, ◌&&◌, Bool, true, false, not, if◌then◌else◌, is_some, List, [], ◌∷◌, ◌++◌, Option, Some, None, option_map, Result, Ok}
+use Rattle.std.proofs.Common.{Err, zero, suc, refl, ap, sym, ◌∙◌, subst}
 use Rattle.fk_model.specs.declared.stage.Stage.TheVariants.{Destroy}
 use Rattle.fk_model.specs.declared.limits.TheConstants.{SLOTS}
 use Rattle.fk_model.specs.declared.statuses.status.TheConstants.{HELD, DENIED}

@@ -1,5 +1,6 @@
 -- What a thread wrote at an address it reads there: the access comes to the same page, in the world before and after.
-use Rattle.std.proofs.Common.{◌≡◌, ℕ, zero, suc, ◌+◌, ◌-◌, ◌/◌, ◌==◌, ◌&&◌, ◌||◌, not, Bool, true, false, if◌then◌else◌, nat_lt, IsSome, List, [], ◌∷◌, Option, Some, None, option_map, refl, ap, ◌∙◌}
+use Rattle.std.proofs.Common.{◌≡◌, ℕ, zero, suc, ◌+◌, ◌-◌, ◌/◌, ◌==◌, ◌&&◌, ◌||◌, not, Bool, true, false, if◌then◌else◌, nat_lt, IsSome, List, [], ◌∷◌, Option}
+use Rattle.std.proofs.Common.{Some, None, option_map, refl, ap, ◌∙◌}
 use Rattle.std.proofs.lemmas.Bool.{eqb-true, and_parts}
 use Rattle.fk_model.specs.declared.limits.TheConstants.{SLOTS, MAPPINGS, PAGE_WORDS, SPACE_WORDS}
 use Rattle.fk_model.specs.Places.{Path, same_path, parent, Ptr}
@@ -10,7 +11,8 @@ use Rattle.fk_model.specs.World.{World, apply, apply_all, edited}
 use Rattle.fk_model.specs.World.Change.{Alter, PutPage}
 use Rattle.fk_model.specs.World.Edit.{Finish}
 use Rattle.fk_model.specs.Searches.{lowest}
-use Rattle.fk_model.specs.Reach.{Reach, mapping_at, region_at, live_keeper, keeper, page_of_region, led_by, followed, mapped, at_home, reach_within, reach, reach_word}
+use Rattle.fk_model.specs.Reach.{Reach, mapping_at, region_at, live_keeper, keeper, page_of_region, led_by, followed, mapped, at_home, reach_within, reach}
+use Rattle.fk_model.specs.Reach.{reach_word}
 use Rattle.fk_model.specs.Reach.Reach.{Home, Missing, Bad}
 use Rattle.fk_model.proofs.walks.PlaceLaws.{same_path_eq}
 

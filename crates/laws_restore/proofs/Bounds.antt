@@ -1,5 +1,6 @@
 -- How long the script is, pass by pass.
-use Rattle.std.proofs.Common.{◌≡◌, ℕ, zero, suc, ◌+◌, ◌*◌, ◌≤◌, Bool, true, false, cond, ◌||◌, ◌==◌, eqb, IsSome, List, [], ◌∷◌, ◌++◌, length, Option, Some, None, option_map, refl, ap, arith, length-append, eqb-true, ◌∙◌}
+use Rattle.std.proofs.Common.{◌≡◌, ℕ, zero, suc, ◌+◌, ◌*◌, ◌≤◌, Bool, true, false, cond, ◌||◌, ◌==◌, eqb, IsSome, List, [], ◌∷◌, ◌++◌, length, Option, Some}
+use Rattle.std.proofs.Common.{None, option_map, refl, ap, arith, length-append, eqb-true, ◌∙◌}
 use Rattle.std.specs.List.{list_any, flat_map}
 use Rattle.std.proofs.Math.Nat.{suc-mul, add-mul}
 use Rattle.fk_model.specs.Places.{Path, strip, Ptr}
@@ -12,11 +13,17 @@ use Rattle.fk_model.proofs.walks.PlaceLaws.{strip_some}
 use Rattle.fk_model.specs.declared.names.Kind.TheVariants as kinds
 use Rattle.fk_model.specs.Records.{record_of}
 use Rattle.laws_sites.specs.Orders.{Order}
-use Rattle.laws_sites.specs.Orders.Order.{Leads, LeadsTop, Makes, Sets, Gives, Points, ParksTalk, ParksFault, LinksTalk, RaisesFault, LinksFault, Holds, Pins, Takes, Checks}
+use Rattle.laws_sites.specs.Orders.Order.{Leads, LeadsTop, Makes, Sets, Gives, Points, ParksTalk, ParksFault, LinksTalk, RaisesFault, LinksFault, Holds, Pins}
+use Rattle.laws_sites.specs.Orders.Order.{Takes, Checks}
 use Rattle.laws_restore.specs.Rooms.{Item, Sheet, Room}
 use Rattle.laws_restore.specs.Fits.{there, is_referable, IsWay}
-use Rattle.laws_restore.specs.Script.{P, T, U, padded, next_name, down, root_down, from_root, goes_by, goes_to, leads_by, leads_to_at, through_rooms, after_rooms, makes_space, makes_spaces, stands_at, fills, points_in, points_body, leads_in, is_out_to, is_talk_out, is_fault_out, leads_out, parks_talk, parks_fault, leads_body_out, has, each, leads_out_by, leads_outs, ties_talk, ties_fault, ties_its_talk, ties_its_fault, ties_body, ties_inside, talk_words, fault_words, taken_flag, holds_space, holds_spaces, stands_held, closes, any_room, made_by, filled_by, pointed_by, led_out_by, tied_by, script}
-use Rattle.laws_restore.specs.Roomed.{IsAim, IsPair, IsTakenAim, IsTalkAim, IsFaultAim, AreAims, IsNewSpace, AreItems, AreSpaces, AreRooms, IsRoomed, with_items, with_sheets, with_space, with_spaces}
+use Rattle.laws_restore.specs.Script.{P, T, U, padded, next_name, down, root_down, from_root, goes_by, goes_to, leads_by, leads_to_at, through_rooms}
+use Rattle.laws_restore.specs.Script.{after_rooms, makes_space, makes_spaces, stands_at, fills, points_in, points_body, leads_in, is_out_to, is_talk_out}
+use Rattle.laws_restore.specs.Script.{is_fault_out, leads_out, parks_talk, parks_fault, leads_body_out, has, each, leads_out_by, leads_outs, ties_talk}
+use Rattle.laws_restore.specs.Script.{ties_fault, ties_its_talk, ties_its_fault, ties_body, ties_inside, talk_words, fault_words, taken_flag, holds_space}
+use Rattle.laws_restore.specs.Script.{holds_spaces, stands_held, closes, any_room, made_by, filled_by, pointed_by, led_out_by, tied_by, script}
+use Rattle.laws_restore.specs.Roomed.{IsAim, IsPair, IsTakenAim, IsTalkAim, IsFaultAim, AreAims, IsNewSpace, AreItems, AreSpaces, AreRooms, IsRoomed}
+use Rattle.laws_restore.specs.Roomed.{with_items, with_sheets, with_space, with_spaces}
 use Rattle.laws_restore.specs.Restore.{beneath, objects}
 use Rattle.laws_restore.specs.Bounded.{count_of, LiesWithin, ScriptIsBounded, RestoreIsBounded}
 use Rattle.laws_restore.proofs.Counted.{is_counted}

@@ -1,5 +1,6 @@
 -- Objects are made and get their records, and spaces their pages.
-use Rattle.std.proofs.Common.{◌≡◌, ℕ, Bool, true, false, cond, ◌||◌, ◌&&◌, ◌==◌, is_some, List, [], ◌∷◌, map, Option, Some, None, option_map, refl, sym, ap, subst, eqb-true, ◌∙◌}
+use Rattle.std.proofs.Common.{◌≡◌, ℕ, Bool, true, false, cond, ◌||◌, ◌&&◌, ◌==◌, is_some, List, [], ◌∷◌, map, Option, Some, None, option_map, refl, sym, ap}
+use Rattle.std.proofs.Common.{subst, eqb-true, ◌∙◌}
 use Rattle.std.proofs.lemmas.Bool.{and_parts}
 use Rattle.fk_model.specs.declared.names.Kind.{Kind}
 use Rattle.fk_model.specs.declared.names.Kind.TheVariants as kinds
@@ -76,7 +77,8 @@ module _ (c : World) (root : c.body [] ≡ Some (Space 0 None)) where
 
 -- ---- one more is made
 
-module _ (c : World) (made set : List Path) (given : List (Path × ℕ)) (k : ℕ) (q : Path) (b : Body) (is : c.body (k ∷ q) ≡ Some b) (unset : is_among (k ∷ q) set ≡ false) where
+module _ (c : World) (made set : List Path) (given : List (Path × ℕ)) (k : ℕ) (q : Path) (b : Body) (is : c.body (k ∷ q) ≡ Some b)
+    (unset : is_among (k ∷ q) set ≡ false) where
   abbrev y : Path
   y = k ∷ q
 
@@ -141,7 +143,8 @@ alter_all x (e ∷ es) m = alter_all x es (apply (Alter x e) m) ∙ (λ i. recor
     by true o = twice o
     by false o = refl
 
-module _ (c : World) (made done : List Path) (given : List (Path × ℕ)) (k : ℕ) (q : Path) (b : Body) (is : c.body (k ∷ q) ≡ Some b) (there : is_among (k ∷ q) made ≡ true) (unset : is_among (k ∷ q) done ≡ false) where
+module _ (c : World) (made done : List Path) (given : List (Path × ℕ)) (k : ℕ) (q : Path) (b : Body) (is : c.body (k ∷ q) ≡ Some b)
+    (there : is_among (k ∷ q) made ≡ true) (unset : is_among (k ∷ q) done ≡ false) where
   abbrev x : Path
   x = k ∷ q
 

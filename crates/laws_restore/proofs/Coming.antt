@@ -1,5 +1,6 @@
 -- Where a restore at work has come to, and so how it ends.
-use Rattle.std.proofs.Common.{◌≡◌, ℕ, zero, suc, ◌≤◌, Bool, true, false, cond, ◌==◌, eqb, nat_le, IsSome, List, [], ◌∷◌, ◌++◌, length, Option, Some, None, option_map, arith, ◌⊎◌, inl, inr, refl, sym, ap, subst, ◌∙◌}
+use Rattle.std.proofs.Common.{◌≡◌, ℕ, zero, suc, ◌≤◌, Bool, true, false, cond, ◌==◌, eqb, nat_le, IsSome, List, [], ◌∷◌, ◌++◌, length, Option, Some, None}
+use Rattle.std.proofs.Common.{option_map, arith, ◌⊎◌, inl, inr, refl, sym, ap, subst, ◌∙◌}
 use Rattle.fk_model.specs.declared.limits.TheConstants.{OWN_SPACE, LAST_USER_SLOT, LAST_SCRATCH_SLOT, LAST_PORTER_SLOT}
 use Rattle.fk_model.specs.declared.stage.Stage.TheVariants.{Destroy, SpaceMakeHeld, SpaceRelease}
 use Rattle.fk_model.specs.declared.statuses.status.TheConstants.{OK, OCCUPIED}
@@ -29,7 +30,8 @@ use Rattle.laws_jobs.specs.Holds.{released_world}
 use Rattle.laws_jobs.proofs.Holds.{release_comes_to}
 use Rattle.laws_jobs.proofs.Goings.{goes_by}
 use Rattle.laws_jobs.proofs.Weaving.{first_sound}
-use Rattle.laws_sites.specs.Orders.{Pin, Site, PinShows, SpotShows, Shows, eye, pin_of, Order, stage_of, words_of, does, does_all, May, MayAll, passes, fails, with_pin}
+use Rattle.laws_sites.specs.Orders.{Pin, Site, PinShows, SpotShows, Shows, eye, pin_of, Order, stage_of, words_of, does, does_all, May, MayAll, passes, fails}
+use Rattle.laws_sites.specs.Orders.{with_pin}
 use Rattle.laws_sites.specs.Orders.Pin.{NoPin, Loose}
 use Rattle.laws_sites.specs.Orders.Order.{Pins, Checks, Drops}
 use Rattle.laws_sites.specs.Orders.End.{Lost}
@@ -64,7 +66,8 @@ use Rattle.laws_restore.proofs.Secluded.{IsSecluded, secluded_near, secluded_by,
 use Rattle.laws_restore.proofs.Refused.{left_at, refused_shows}
 use Rattle.laws_restore.proofs.Tidying.{Tidied, tidied_first, tidied_others, tidied_near, tidied_emptied, clean_from}
 
-module _ (slot birth : ℕ) (bind : ℕ → ℕ) (c : World) (rooms : List Room) (w : World) (nester : Path) (low : slot ≤ LAST_USER_SLOT) (its : IsRoomed bind c rooms) (may_begin : MayBegin w nester birth) where
+module _ (slot birth : ℕ) (bind : ℕ → ℕ) (c : World) (rooms : List Room) (w : World) (nester : Path) (low : slot ≤ LAST_USER_SLOT) (its : IsRoomed bind c rooms)
+    (may_begin : MayBegin w nester birth) where
   abbrev root : Path
   root = slot ∷ nester
 
@@ -472,7 +475,7 @@ plain_end slot birth bind c rooms w nester low its may _ _ end (Taken v there sa
     let off : is_done end ≡ false = rw (← is) refl in let clash = sym done ∙ off in cc
 
 pub restores : RestoreRestores
-restores slot birth bind c rooms low its = record {
-  gives = λ w nester v t end may work stops done. plain_end slot birth bind c rooms w nester low its may v t end
+restores slot birth bind c rooms w nester low its = record {
+  gives = λ v t end may work stops done. plain_end slot birth bind c rooms w nester low its may v t end
       (came slot birth bind c rooms w nester low its may v t work) stops done;
 }

@@ -1,5 +1,6 @@
 -- A slot of the nester to which the script has led its pin before is used by what it has built since.
-use Rattle.std.proofs.Common.{◌≡◌, ℕ, zero, suc, ◌+◌, ◌<◌, ◌≤◌, Bool, true, false, cond, ◌||◌, ◌==◌, ◌⊎◌, inl, inr, List, [], ◌∷◌, ◌++◌, Option, Some, None, refl, sym, ap, subst, arith, eqb-true, ◌∙◌}
+use Rattle.std.proofs.Common.{◌≡◌, ℕ, zero, suc, ◌+◌, ◌<◌, ◌≤◌, Bool, true, false, cond, ◌||◌, ◌==◌, ◌⊎◌, inl, inr, List, [], ◌∷◌, ◌++◌, Option, Some, None}
+use Rattle.std.proofs.Common.{refl, sym, ap, subst, arith, eqb-true, ◌∙◌}
 use Rattle.std.specs.List.{list_any}
 use Rattle.std.proofs.lemmas.Bool.{or_cases}
 use Rattle.std.proofs.lemmas.List.{append_assoc, append-nil, append_cancel_right}
@@ -12,7 +13,8 @@ use Rattle.laws_sites.specs.Orders.{Site, Order, does, does_all}
 use Rattle.laws_sites.specs.Orders.Order.{LeadsTop, Pins, Takes, Checks}
 use Rattle.laws_sites.specs.Begun.{first}
 use Rattle.laws_restore.specs.Rooms.{Room}
-use Rattle.laws_restore.specs.Script.{T, has, each, through_rooms, after_rooms, leads_out, leads_outs, after_outs, ties_body, ties_inside, holds_spaces, after_holds, made_by, filled_by, pointed_by, led_out_by, tied_by, opens, closes, script}
+use Rattle.laws_restore.specs.Script.{T, has, each, through_rooms, after_rooms, leads_out, leads_outs, after_outs, ties_body, ties_inside, holds_spaces}
+use Rattle.laws_restore.specs.Script.{after_holds, made_by, filled_by, pointed_by, led_out_by, tied_by, opens, closes, script}
 use Rattle.laws_restore.specs.Stages.{nothing_led, led_below, all_led, building}
 use Rattle.laws_restore.specs.Roomed.{with_spaces, IsRoomed}
 use Rattle.laws_restore.proofs.Ways.{SafeAt, SafeAll, Runs}
@@ -21,7 +23,8 @@ use Rattle.laws_restore.proofs.Filled.{spaces_made}
 use Rattle.laws_restore.proofs.Outward.{opens_slot, closes_slot}
 use Rattle.laws_restore.proofs.Standing.{pass_done}
 use Rattle.laws_restore.proofs.Led.{after_none}
-use Rattle.laws_restore.proofs.Whole.{begun, begins_runs, begins_good, spaces, at, half, pass, filled, led_inside, pass_led, tied, held, cleared, passes, slot_idle}
+use Rattle.laws_restore.proofs.Whole.{begun, begins_runs, begins_good, spaces, at, half, pass, filled, led_inside, pass_led, tied, held, cleared, passes}
+use Rattle.laws_restore.proofs.Whole.{slot_idle}
 use Rattle.laws_restore.proofs.Used.{IsUsed, used_below}
 
 -- ---- to which slots the pin is led

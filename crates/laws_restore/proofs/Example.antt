@@ -1,5 +1,6 @@
 -- The small subtree is such as a restorer asks for.
-use Rattle.std.proofs.Common.{◌≡◌, ℕ, ◌+◌, ◌≤◌, ◌<◌, Bool, true, false, cond, ◌||◌, ◌&&◌, ◌==◌, eqb, [], ◌∷◌, replicate, Option, Some, None, refl, sym, arith, ◌∙◌}
+use Rattle.std.proofs.Common.{◌≡◌, ℕ, ◌+◌, ◌≤◌, ◌<◌, Bool, true, false, cond, ◌||◌, ◌&&◌, ◌==◌, eqb, [], ◌∷◌, replicate, Option, Some, None, refl, sym, arith}
+use Rattle.std.proofs.Common.{◌∙◌}
 use Rattle.fk_model.specs.Places.{Path, same_path, strip}
 use Rattle.fk_model.specs.Places.Ptr.{Dead, At}
 use Rattle.fk_model.specs.Objects.{Talk, Fault, Thread, Body, and_then, holds, thread_of, flag_of}

@@ -10,7 +10,8 @@ use Rattle.laws_restore.specs.Stages.{Mask, is_among, bound, leading}
 use Rattle.laws_restore.proofs.Building.{way_same}
 use Rattle.laws_restore.proofs.Led.{kind_bound, led_kinds, body_old, led_as}
 
-module _ (bind : ℕ → ℕ) (c : World) (new mid old : Mask) (done : List Path) (y : Path) (b : Body) (is : c.body y ≡ Some b) (anew : is_among y done ≡ false) where
+module _ (bind : ℕ → ℕ) (c : World) (new mid old : Mask) (done : List Path) (y : Path) (b : Body) (is : c.body y ≡ Some b)
+    (anew : is_among y done ≡ false) where
   abbrev pub before : World
   before = leading bind c new old done
 

@@ -20,7 +20,8 @@ use Rattle.laws_restore.proofs.Ways.{on}
 use Rattle.laws_restore.proofs.Led.{led_kinds, led_way, body_old, led_as, led_alike}
 use Rattle.laws_restore.proofs.Tying.{kind_there_of}
 
-module _ (bind : ℕ → ℕ) (c : World) (root : c.body [] ≡ Some (Space 0 None)) (slot : ℕ) (Safe : ℕ → Site → Type 0) (unscratched : (k : ℕ) (x : Path) → is_scratch_slot k ≡ true → c.body (k ∷ x) ≡ None) where
+module _ (bind : ℕ → ℕ) (c : World) (root : c.body [] ≡ Some (Space 0 None)) (slot : ℕ) (Safe : ℕ → Site → Type 0)
+    (unscratched : (k : ℕ) (x : Path) → is_scratch_slot k ≡ true → c.body (k ∷ x) ≡ None) where
   abbrev new : Mask
   new = all_led true
 

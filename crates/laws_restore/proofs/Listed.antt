@@ -1,5 +1,6 @@
 -- What stands in a new space where a port was missing, as a list without doubles: what the rooms list, the pin, and the space itself.
-use Rattle.std.proofs.Common.{◌≡◌, ℕ, zero, suc, ◌+◌, Bool, true, false, cond, ◌||◌, is_some, List, [], ◌∷◌, ◌++◌, length, Option, Some, None, option_map, ◌⊎◌, inl, inr, refl, sym, ap, arith, ◌∙◌}
+use Rattle.std.proofs.Common.{◌≡◌, ℕ, zero, suc, ◌+◌, Bool, true, false, cond, ◌||◌, is_some, List, [], ◌∷◌, ◌++◌, length, Option, Some, None, option_map, ◌⊎◌}
+use Rattle.std.proofs.Common.{inl, inr, refl, sym, ap, arith, ◌∙◌}
 use Rattle.fk_model.specs.declared.limits.TheConstants.{FIRST_SCRATCH_SLOT}
 use Rattle.fk_model.specs.Places.{Path, same_path}
 use Rattle.fk_model.specs.Objects.{Body, kind_of}

@@ -1,5 +1,6 @@
 -- A restore tells of no port exactly where it leads its pin to a slot in which none stands.
-use Rattle.std.proofs.Common.{◌≡◌, ℕ, zero, suc, ◌+◌, ◌≤◌, ◌<◌, Bool, true, false, cond, ◌&&◌, ◌||◌, ◌==◌, ◌⊎◌, inl, inr, List, [], ◌∷◌, ◌++◌, Option, Some, None, refl, sym, ap, subst, arith, eq-eqb, eqb-true, ◌∙◌}
+use Rattle.std.proofs.Common.{◌≡◌, ℕ, zero, suc, ◌+◌, ◌≤◌, ◌<◌, Bool, true, false, cond, ◌&&◌, ◌||◌, ◌==◌, ◌⊎◌, inl, inr, List, [], ◌∷◌, ◌++◌, Option, Some}
+use Rattle.std.proofs.Common.{None, refl, sym, ap, subst, arith, eq-eqb, eqb-true, ◌∙◌}
 use Rattle.std.specs.List.{list_any}
 use Rattle.std.proofs.lemmas.Bool.{and_parts, eqb-false}
 use Rattle.std.proofs.lemmas.List.{append_assoc}
@@ -21,7 +22,8 @@ use Rattle.laws_jobs.specs.Machines.Interleaved.{Here, Another, Own}
 use Rattle.laws_jobs.specs.Jobs.{MayBegin}
 use Rattle.laws_jobs.proofs.Weaving.{first_sound}
 use Rattle.laws_sites.specs.Orders.{Order, stage_of, words_of, passes, fails}
-use Rattle.laws_sites.specs.Orders.Order.{Readies, Leads, LeadsTop, Makes, Sets, Points, Gives, MakesPin, Pins, Takes, Checks, ParksTalk, ParksFault, LinksTalk, RaisesFault, LinksFault, Holds, Drops, DropsPin, Deadens}
+use Rattle.laws_sites.specs.Orders.Order.{Readies, Leads, LeadsTop, Makes, Sets, Points, Gives, MakesPin, Pins, Takes, Checks, ParksTalk, ParksFault, LinksTalk}
+use Rattle.laws_sites.specs.Orders.Order.{RaisesFault, LinksFault, Holds, Drops, DropsPin, Deadens}
 use Rattle.laws_sites.specs.Orders.End.{Lost}
 use Rattle.laws_sites.specs.Looking.{Looks, PinTells}
 use Rattle.laws_sites.proofs.Looking.{pins_tell, others_keep_looks, takes_keep_looks, checks_tell}
@@ -134,7 +136,8 @@ ending end = Stops end
 same_end : (a b : End) → ending a ≡ Stops b → a ≡ b
 same_end a b e = cc
 
-module _ (slot birth : ℕ) (bind : ℕ → ℕ) (c : World) (rooms : List Room) (w : World) (nester : Path) (low : slot ≤ LAST_USER_SLOT) (its : IsRoomed bind c rooms) (may_begin : MayBegin w nester birth) where
+module _ (slot birth : ℕ) (bind : ℕ → ℕ) (c : World) (rooms : List Room) (w : World) (nester : Path) (low : slot ≤ LAST_USER_SLOT) (its : IsRoomed bind c rooms)
+    (may_begin : MayBegin w nester birth) where
   abbrev CameTo : World → State → Type 0
   CameTo = Came slot birth bind c rooms w nester low its may_begin
 
@@ -159,7 +162,8 @@ module _ (slot birth : ℕ) (bind : ℕ → ℕ) (c : World) (rooms : List Room)
   abbrev IsLowestFor : ℕ → ℕ → Type 0
   IsLowestFor j port = IsLowest bind rooms port × (bind port ≡ j)
 
-  record Tells (said : Option End) (past : List ℕ) {u : World} {s : State} {es : List Event} {v : World} {t : State} (run : Interleaved (restore slot bind rooms) nester u s es v t) : Type 0 where
+  record Tells (said : Option End) (past : List ℕ) {u : World} {s : State} {es : List Event} {v : World} {t : State}
+      (run : Interleaved (restore slot bind rooms) nester u s es v t) : Type 0 where
     pub ends : (e end : End) → said ≡ Some e → head slot t ≡ Stops end → end ≡ e
     pub missed : (port : ℕ) → said ≡ None → head slot t ≡ Stops (NoPort port) → (j : ℕ) × MissesFirst slot bind rooms j run × IsLowestFor j port
     pub told : (j : ℕ) → Misses slot bind rooms j run → (end : End) → head slot t ≡ Stops end → (port : ℕ) × (end ≡ NoPort port) × IsLowestFor j port
@@ -206,7 +210,8 @@ module _ (slot birth : ℕ) (bind : ℕ → ℕ) (c : World) (rooms : List Room)
 
   module _ (u v : World) (s t : State) (stage : Stage) (words : List ℕ) (es : List Event) (sound : IsSound u) (asks : head slot s ≡ Asks stage words)
       (ready : IsReadyAt u (call_of nester stage words))
-      (rest : Interleaved (restore slot bind rooms) nester (after u (call_of nester stage words)) (heard (restore slot bind rooms) s (said_of u (call_of nester stage words))) es v t) where
+      (rest : Interleaved (restore slot bind rooms) nester (after u (call_of nester stage words))
+      (heard (restore slot bind rooms) s (said_of u (call_of nester stage words))) es v t) where
     -- a call that leads no pin
     on : (said : Option End) (past : List ℕ) → ((j : ℕ) → stage ≡ stage_of slot (Pins j) → ⊥) → Tells said past rest
         → Tells said past (Own u s stage words es v t sound asks ready rest)
@@ -290,7 +295,8 @@ module _ (slot birth : ℕ) (bind : ℕ → ℕ) (c : World) (rooms : List Room)
         not_again i h (inr other) = later.again i (past_on i j past h) other
 
   -- a call of a known order
-  module _ (u : World) (o : Order) (os : List Order) (at : CameTo u (Works (o ∷ os))) (sound : IsSound u) (stage : Stage) (words : List ℕ) (asks : head slot (Works (o ∷ os)) ≡ Asks stage words) (ready : IsReadyAt u (call_of nester stage words)) where
+  module _ (u : World) (o : Order) (os : List Order) (at : CameTo u (Works (o ∷ os))) (sound : IsSound u) (stage : Stage) (words : List ℕ)
+      (asks : head slot (Works (o ∷ os)) ≡ Asks stage words) (ready : IsReadyAt u (call_of nester stage words)) where
     abbrev x : World
     x = after u (call_of nester stage words)
 
@@ -362,7 +368,8 @@ module _ (slot birth : ℕ) (bind : ℕ → ℕ) (c : World) (rooms : List Room)
       (at : CameTo u (Works (Pins j ∷ Takes r ∷ Checks r j ∷ os))) (sound : IsSound u)
       (asks : head slot (Works (Pins j ∷ Takes r ∷ Checks r j ∷ os)) ≡ Asks stage words) (ready : IsReadyAt u (call_of nester stage words))
       (rest : Interleaved (restore slot bind rooms) nester (after u (call_of nester stage words)) (pin_state r j os u stage words) es v t)
-      (later : (said : Option End) → Eye (after u (call_of nester stage words)) (pin_state r j os u stage words) said (past ++ j ∷ []) → Tells said (past ++ j ∷ []) rest) where
+      (later : (said : Option End) → Eye (after u (call_of nester stage words)) (pin_state r j os u stage words) said (past ++ j ∷ []) → Tells said
+      (past ++ j ∷ []) rest) where
     abbrev following : List Order
     following = Takes r ∷ Checks r j ∷ os
 

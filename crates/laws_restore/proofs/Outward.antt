@@ -1,5 +1,6 @@
 -- The passes that lead pointers out, one slot of the nester after the other.
-use Rattle.std.proofs.Common.{◌≡◌, ℕ, suc, ◌≤◌, ◌<◌, Bool, true, false, cond, ◌||◌, ◌==◌, eqb, nat_le, nat_lt, IsSome, is_some, List, [], ◌∷◌, ◌++◌, Option, Some, None, refl, sym, ap, subst, arith, eqb-true, ◌∙◌}
+use Rattle.std.proofs.Common.{◌≡◌, ℕ, suc, ◌≤◌, ◌<◌, Bool, true, false, cond, ◌||◌, ◌==◌, eqb, nat_le, nat_lt, IsSome, is_some, List, [], ◌∷◌, ◌++◌, Option}
+use Rattle.std.proofs.Common.{Some, None, refl, sym, ap, subst, arith, eqb-true, ◌∙◌}
 use Rattle.std.proofs.lemmas.Bool.{le-ltb, lt-ltb, ltb-true, ltb-false, eqb-false}
 use Rattle.fk_model.specs.declared.limits.TheConstants.{LAST_USER_SLOT}
 use Rattle.fk_model.specs.declared.thread.Turn.{Turn}
@@ -21,7 +22,8 @@ use Rattle.laws_sites.specs.Orders.Spot.{Unsure}
 use Rattle.laws_sites.specs.Orders.Pin.{NoPin}
 use Rattle.laws_sites.specs.Orders.Order.{LeadsTop, Points, Pins, Takes, Checks, ParksTalk, ParksFault}
 use Rattle.laws_restore.specs.Fits.{there, IsWay}
-use Rattle.laws_restore.specs.Script.{P, T, U, D, pointer_of, is_out_to, is_talk_out, is_fault_out, leads_out, talk_words, fault_words, taken_flag, parks_talk, parks_fault, leads_body_out}
+use Rattle.laws_restore.specs.Script.{P, T, U, D, pointer_of, is_out_to, is_talk_out, is_fault_out, leads_out, talk_words, fault_words, taken_flag, parks_talk}
+use Rattle.laws_restore.specs.Script.{parks_fault, leads_body_out}
 use Rattle.laws_restore.specs.Stages.{Mask, bound, leading, led_below, is_out_below, is_led_below, shown_talk, shown_fault, is_among}
 use Rattle.laws_restore.specs.Roomed.{GivesTalk, GivesFault, IsAim, IsPair, IsTalkAim, IsFaultAim, IsTakenAim, IsAble}
 use Rattle.laws_restore.proofs.Leaving.{Good, Leaves, leaves_on, leaves_none, place_of, ordered}
@@ -243,7 +245,8 @@ module _ (bind : ℕ → ℕ) (c : World) (root : c.body [] ≡ Some (Space 0 No
   peer_outside Service port e its = absurd (subst (λ (p : Ptr). IsPair bind c p Service) e its)
   peer_outside Parked port e its = absurd (subst (λ (p : Ptr). IsPair bind c p Parked) e its)
 
-  module _ (q : Path) (x : ℕ) (t : Thread) (done : List Path) (space : there c q ≡ Some kinds.Space) (its : IsAble bind c q x (Thread_of t)) (anew : is_among (x ∷ q) done ≡ false) where
+  module _ (q : Path) (x : ℕ) (t : Thread) (done : List Path) (space : there c q ≡ Some kinds.Space) (its : IsAble bind c q x (Thread_of t))
+      (anew : is_among (x ∷ q) done ≡ false) where
     abbrev y : Path
     y = x ∷ q
 

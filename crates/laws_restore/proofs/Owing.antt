@@ -38,7 +38,8 @@ placed x = Ok x
 same_place : (x y : Path) → placed x ≡ Ok y → x ≡ y
 same_place x y e = cc
 
-module _ (slot birth : ℕ) (bind : ℕ → ℕ) (c : World) (rooms : List Room) (w : World) (nester : Path) (low : slot ≤ LAST_USER_SLOT) (its : IsRoomed bind c rooms) (may_begin : MayBegin w nester birth) where
+module _ (slot birth : ℕ) (bind : ℕ → ℕ) (c : World) (rooms : List Room) (w : World) (nester : Path) (low : slot ≤ LAST_USER_SLOT) (its : IsRoomed bind c rooms)
+    (may_begin : MayBegin w nester birth) where
   abbrev root : Path
   root = slot ∷ nester
 

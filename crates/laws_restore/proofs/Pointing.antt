@@ -78,7 +78,8 @@ pointer_set bind new old y (Thread_of t) h on = cc
 module _ (bind : ℕ → ℕ) (c : World) (root : c.body [] ≡ Some (Space 0 None)) (slot : ℕ) (Safe : ℕ → Site → Type 0) (new old : Mask) (aim : Option ℕ) where
   -- ---- one object's pointer becomes that of scratch r
 
-  module _ (x : ℕ) (q : Path) (b : Body) (done : List Path) (space : there c q ≡ Some kinds.Space) (its : IsAble bind c q x b) (anew : is_among (x ∷ q) done ≡ false) where
+  module _ (x : ℕ) (q : Path) (b : Body) (done : List Path) (space : there c q ≡ Some kinds.Space) (its : IsAble bind c q x b)
+      (anew : is_among (x ∷ q) done ≡ false) where
     abbrev here : World
     here = leading bind c new old done
 

@@ -31,7 +31,8 @@ known : (v : World) (nester : Path) (stage other : Stage) (given words : List �
 known v nester stage other given words one two ready = subst (λ (ws : List ℕ). IsReadyAt v (call_of nester other ws)) two
     (subst (λ (st : Stage). IsReadyAt v (call_of nester st given)) one ready)
 
-module _ (slot birth : ℕ) (bind : ℕ → ℕ) (c : World) (rooms : List Room) (w : World) (nester : Path) (low : slot ≤ LAST_USER_SLOT) (its : IsRoomed bind c rooms) (may_begin : MayBegin w nester birth) where
+module _ (slot birth : ℕ) (bind : ℕ → ℕ) (c : World) (rooms : List Room) (w : World) (nester : Path) (low : slot ≤ LAST_USER_SLOT) (its : IsRoomed bind c rooms)
+    (may_begin : MayBegin w nester birth) where
   ready_at : (v : World) (t : State) → IsSound v → IsCalm (slot ∷ nester) v → Came slot birth bind c rooms w nester low its may_begin v t
       → (stage : Stage) (words : List ℕ) → head slot t ≡ Asks stage words →
       IsReadyAt v (call_of nester stage words)

@@ -1,5 +1,6 @@
 -- A restore's calls leave what is neither in its new space nor its nester's scratch.
-use Rattle.std.proofs.Common.{◌≡◌, ℕ, ◌≤◌, Bool, true, false, not, ◌||◌, ◌⊎◌, inl, inr, IsSome, is_some, List, [], ◌∷◌, ◌++◌, length, Option, Some, None, option_map, refl, sym, ap, subst, arith, length-append, ◌∙◌}
+use Rattle.std.proofs.Common.{◌≡◌, ℕ, ◌≤◌, Bool, true, false, not, ◌||◌, ◌⊎◌, inl, inr, IsSome, is_some, List, [], ◌∷◌, ◌++◌, length, Option, Some, None}
+use Rattle.std.proofs.Common.{option_map, refl, sym, ap, subst, arith, length-append, ◌∙◌}
 use Rattle.std.specs.List.{list_any}
 use Rattle.std.proofs.lemmas.Bool.{and_parts, or_cases}
 use Rattle.fk_model.specs.declared.limits.TheConstants.{OWN_SPACE, LAST_USER_SLOT, LAST_PORTER_SLOT}
@@ -264,7 +265,8 @@ known v nester slot stage other given words one two far =
     subst (λ (ws : List ℕ). IsReadyAt v (call_of nester other ws) → IsSameFar nester slot v (after v (call_of nester other ws))) two
     (subst (λ (st : Stage). IsReadyAt v (call_of nester st given) → IsSameFar nester slot v (after v (call_of nester st given))) one far)
 
-module _ (slot birth : ℕ) (bind : ℕ → ℕ) (c : World) (rooms : List Room) (w : World) (nester : Path) (low : slot ≤ LAST_USER_SLOT) (its : IsRoomed bind c rooms) (may_begin : MayBegin w nester birth) where
+module _ (slot birth : ℕ) (bind : ℕ → ℕ) (c : World) (rooms : List Room) (w : World) (nester : Path) (low : slot ≤ LAST_USER_SLOT) (its : IsRoomed bind c rooms)
+    (may_begin : MayBegin w nester birth) where
   later_far : (v : World) (t : State) → IsSound v → Came slot birth bind c rooms w nester low its may_begin v t → (stage : Stage) (words : List ℕ)
       → head slot t ≡ Asks stage words →
       IsReadyAt v (call_of nester stage words) → IsSameFar nester slot v (after v (call_of nester stage words))

@@ -1,6 +1,7 @@
 -- A new space keeps to itself: nobody outside leads in, and the threads there talk among themselves, or wait for a native server.
 -- So whose calls end with an object there lies there too.
-use Rattle.std.proofs.Common.{◌≡◌, ℕ, Bool, true, false, cond, ◌&&◌, ◌||◌, nat_le, ◌⊎◌, inl, inr, is_some, List, [], ◌∷◌, ◌++◌, Option, Some, None, option_map, refl, sym, subst, ◌∙◌}
+use Rattle.std.proofs.Common.{◌≡◌, ℕ, Bool, true, false, cond, ◌&&◌, ◌||◌, nat_le, ◌⊎◌, inl, inr, is_some, List, [], ◌∷◌, ◌++◌, Option, Some, None, option_map}
+use Rattle.std.proofs.Common.{refl, sym, subst, ◌∙◌}
 use Rattle.std.specs.List.{list_any, flat_map}
 use Rattle.std.proofs.lemmas.Bool.{and_parts}
 use Rattle.fk_model.specs.declared.limits.TheConstants.{FIRST_SCRATCH_SLOT, LAST_SCRATCH_SLOT}
@@ -14,7 +15,8 @@ use Rattle.fk_model.specs.Objects.Peer.{Server, Service, Parked}
 use Rattle.fk_model.specs.Objects.Body.{Mutex, Cond, Mapping, Region, Port, Portset, Space, Thread_of, Reference}
 use Rattle.fk_model.specs.World.{World, Change, Edit, serves, talk_without, through, death_sweep, edited, ended_in, finished_in, on_thread, apply, apply_all}
 use Rattle.fk_model.specs.World.Change.{Alter, Make, MakeSpace, Kill, Move, PutPage, DropPage}
-use Rattle.fk_model.specs.World.Edit.{SetLocked, SetWindow, SetExtent, SetMember, SetPointer, SetHolder, Proceed, Shift, Finish, End, Replace, SetStops, SetTalk, CountMoved, PassTurn, SetPeer, SetFault, SetTaker}
+use Rattle.fk_model.specs.World.Edit.{SetLocked, SetWindow, SetExtent, SetMember, SetPointer, SetHolder, Proceed, Shift, Finish, End, Replace, SetStops}
+use Rattle.fk_model.specs.World.Edit.{SetTalk, CountMoved, PassTurn, SetPeer, SetFault, SetTaker}
 use Rattle.fk_model.specs.Searches.{talk_at, client_of, clients_at, objects, option_list, peer_pointer, talk_pointers, fault_pointers}
 use Rattle.fk_model.specs.Freezing.{body_pointers}
 use Rattle.fk_model.specs.Talks.{line, line_from, if_talking, is_talking, talking_end, served_end}

@@ -1,5 +1,6 @@
 -- The pass that makes talks and faults between threads inside.
-use Rattle.std.proofs.Common.{◌≡◌, ℕ, ◌≤◌, ◌<◌, Bool, true, false, cond, ◌||◌, nat_lt, is_some, List, [], ◌∷◌, ◌++◌, Option, Some, None, option_map, refl, sym, ap, arith, ◌∙◌}
+use Rattle.std.proofs.Common.{◌≡◌, ℕ, ◌≤◌, ◌<◌, Bool, true, false, cond, ◌||◌, nat_lt, is_some, List, [], ◌∷◌, ◌++◌, Option, Some, None, option_map, refl, sym}
+use Rattle.std.proofs.Common.{ap, arith, ◌∙◌}
 use Rattle.std.proofs.lemmas.Bool.{lt-ltb}
 use Rattle.fk_model.specs.declared.limits.TheConstants.{LAST_USER_SLOT}
 use Rattle.fk_model.specs.declared.names.Kind.{Kind}
@@ -22,8 +23,10 @@ use Rattle.laws_sites.specs.Fit.{IsIdleIn}
 use Rattle.laws_sites.specs.Owed.{IsFree}
 use Rattle.laws_restore.proofs.Idle.{talks, faults, talks_less, faults_less, led_talks, led_faults, by_talk, by_fault, other_fault, other_talk, idle_by}
 use Rattle.laws_restore.specs.Fits.{there, IsWay}
-use Rattle.laws_restore.specs.Script.{P, T, U, leads_to_at, talk_words, fault_words, is_talk_inside, is_fault_inside, ties_inside, ties_talk, ties_fault, ties_its_talk, ties_its_fault, ties_body}
-use Rattle.laws_restore.specs.Stages.{Mask, bound, leading, led_below, all_led, is_out_below, is_led_below, anywhere, shown_talk, shown_fault, shown_ptr, is_among}
+use Rattle.laws_restore.specs.Script.{P, T, U, leads_to_at, talk_words, fault_words, is_talk_inside, is_fault_inside, ties_inside, ties_talk, ties_fault}
+use Rattle.laws_restore.specs.Script.{ties_its_talk, ties_its_fault, ties_body}
+use Rattle.laws_restore.specs.Stages.{Mask, bound, leading, led_below, all_led, is_out_below, is_led_below, anywhere, shown_talk, shown_fault, shown_ptr}
+use Rattle.laws_restore.specs.Stages.{is_among}
 use Rattle.laws_restore.specs.Roomed.{AreBeside, GivesTalk, GivesFault, IsAim, IsPair, IsTalkAim, IsFaultAim, IsTakenAim, IsAble}
 use Rattle.laws_restore.proofs.Leaving.{Leaves, leaves_on, leaves_none, leads_t, leads_u, place_of, ordered}
 use Rattle.laws_restore.proofs.Ways.{on}
@@ -45,7 +48,8 @@ pub all_below : (j : ℕ) → j ≤ LAST_USER_SLOT → nat_lt j 240 ≡ true
 all_below j low = lt-ltb j 240 (omega (arith, low))
 
 module _ (bind : ℕ → ℕ) (c : World) (root : c.body [] ≡ Some (Space 0 None)) (slot : ℕ) (Safe : ℕ → Site → Type 0)
-    (one_service : (server x y : Path) → 0 < services c server x → 0 < services c server y → x ≡ y) (one_each : (server x : Path) → services c server x ≤ 1) where
+    (one_service : (server x y : Path) → 0 < services c server x → 0 < services c server y → x ≡ y)
+    (one_each : (server x : Path) → services c server x ≤ 1) where
   abbrev new : Mask
   new = all_led false
 
@@ -74,7 +78,8 @@ module _ (bind : ℕ → ℕ) (c : World) (root : c.body [] ≡ Some (Space 0 No
   unfolding edited
   taken_set y t fault port taker e p s = rw (e, p, s, flag_back fault.write) refl
 
-  module _ (q : Path) (x : ℕ) (t : Thread) (done : List Path) (space : there c q ≡ Some kinds.Space) (its : IsAble bind c q x (Thread_of t)) (anew : is_among (x ∷ q) done ≡ false) where
+  module _ (q : Path) (x : ℕ) (t : Thread) (done : List Path) (space : there c q ≡ Some kinds.Space) (its : IsAble bind c q x (Thread_of t))
+      (anew : is_among (x ∷ q) done ≡ false) where
     abbrev y : Path
     y = x ∷ q
 

@@ -1,5 +1,6 @@
 -- What a restorer has led out keeps its port: where something that it has built leads to a slot of the nester, a port stands there.
-use Rattle.std.proofs.Common.{◌≡◌, ℕ, Bool, true, false, cond, ◌&&◌, ◌||◌, ◌⊎◌, inl, inr, IfSome, List, [], ◌∷◌, length, Option, Some, None, refl, ap, subst, arith, ◌<◌, nat_lt, eqb, eq-eqb, option_map, ◌∙◌}
+use Rattle.std.proofs.Common.{◌≡◌, ℕ, Bool, true, false, cond, ◌&&◌, ◌||◌, ◌⊎◌, inl, inr, IfSome, List, [], ◌∷◌, length, Option, Some, None, refl, ap, subst}
+use Rattle.std.proofs.Common.{arith, ◌<◌, nat_lt, eqb, eq-eqb, option_map, ◌∙◌}
 use Rattle.std.specs.List.{list_any}
 use Rattle.std.proofs.lemmas.Bool.{lt-ltb, or_cases}
 use Rattle.fk_model.specs.declared.names.Kind.TheVariants as kinds

@@ -1,5 +1,6 @@
 -- The whole script: it may be given order by order, and makes the subtree with its ports bound.
-use Rattle.std.proofs.Common.{◌≡◌, ℕ, zero, suc, ◌+◌, ◌≤◌, Bool, true, false, cond, ◌||◌, ◌⊎◌, inl, inr, eqb, List, [], ◌∷◌, ◌++◌, Option, Some, None, option_map, refl, sym, ap, subst, arith, eqb-true, ◌∙◌}
+use Rattle.std.proofs.Common.{◌≡◌, ℕ, zero, suc, ◌+◌, ◌≤◌, Bool, true, false, cond, ◌||◌, ◌⊎◌, inl, inr, eqb, List, [], ◌∷◌, ◌++◌, Option, Some, None}
+use Rattle.std.proofs.Common.{option_map, refl, sym, ap, subst, arith, eqb-true, ◌∙◌}
 use Rattle.std.specs.List.{list_any}
 use Rattle.fk_model.specs.declared.limits.TheConstants.{LAST_USER_SLOT}
 use Rattle.fk_model.specs.declared.names.Kind.TheVariants as kinds
@@ -20,8 +21,11 @@ use Rattle.fk_model.proofs.walks.PlaceLaws.{same_path_eq}
 use Rattle.std.proofs.lemmas.Bool.{le-leb}
 use Rattle.laws_restore.specs.Rooms.{Room}
 use Rattle.laws_restore.specs.Fits.{there}
-use Rattle.laws_restore.specs.Script.{P, T, U, D, has, each, through_rooms, after_rooms, makes_spaces, fills, points_body, leads_in, leads_out, leads_body_out, leads_out_by, leads_outs, after_outs, ties_body, ties_inside, holds_spaces, after_holds, any_room, made_by, filled_by, pointed_by, led_out_by, tied_by, opens, closes, script}
-use Rattle.laws_restore.specs.Stages.{Mask, nowhere, shown_talk, shown_fault, anywhere, nothing_led, led_below, all_led, recorded, blank, is_among, is_given, built_at, building, bound, leading}
+use Rattle.laws_restore.specs.Script.{P, T, U, D, has, each, through_rooms, after_rooms, makes_spaces, fills, points_body, leads_in, leads_out, leads_body_out}
+use Rattle.laws_restore.specs.Script.{leads_out_by, leads_outs, after_outs, ties_body, ties_inside, holds_spaces, after_holds, any_room, made_by, filled_by}
+use Rattle.laws_restore.specs.Script.{pointed_by, led_out_by, tied_by, opens, closes, script}
+use Rattle.laws_restore.specs.Stages.{Mask, nowhere, shown_talk, shown_fault, anywhere, nothing_led, led_below, all_led, recorded, blank, is_among, is_given}
+use Rattle.laws_restore.specs.Stages.{built_at, building, bound, leading}
 use Rattle.laws_restore.specs.Roomed.{IsNewSpace, with_space, AreSpaces, all_made, all_given, with_spaces, IsRoomed}
 use Rattle.laws_restore.proofs.Ways.{Runs, on}
 use Rattle.laws_restore.proofs.Ways.Grouped.{NoMore, Other}

@@ -44,8 +44,8 @@ RestoreIsTidy = (slot birth : ℕ) (bind : ℕ → ℕ) (c : World) (rooms : Lis
 
 -- what a run wants of a restore: done, it leaves a plain subtree, which is the picture with its ports bound
 abbrev pub RestoreRestores : Type 0
-RestoreRestores = (slot birth : ℕ) (bind : ℕ → ℕ) (c : World) (rooms : List Room) → slot ≤ LAST_USER_SLOT → IsRoomed bind c rooms
-    → Restores (restore slot bind rooms) birth slot bind c is_done Makes
+RestoreRestores = (slot birth : ℕ) (bind : ℕ → ℕ) (c : World) (rooms : List Room) (w : World) (nester : Path) → slot ≤ LAST_USER_SLOT
+    → IsRoomed bind c rooms → Restores (restore slot bind rooms) birth slot bind c is_done w nester Makes
 
 -- it makes no more calls than its script has orders, and as many more as it takes to clear
 abbrev pub RestoreIsCounted : Type 0

@@ -57,7 +57,8 @@ MissesFirst slot bind rooms j {nester} (Own w s stage words es v t sound asked r
 
 -- a restore ends so exactly where it leads to a slot in which no port stands, which it does when it first leads there; and it tells
 -- the lowest slot of the image bound there
-pub record EndsByMiss (slot : ℕ) (bind : ℕ → ℕ) (rooms : List Room) {nester : Path} {w : World} {s : State} {es : List Event} {v : World} {t : State} (run : Interleaved (restore slot bind rooms) nester w s es v t) (end : End) : Type 0 where
+pub record EndsByMiss (slot : ℕ) (bind : ℕ → ℕ) (rooms : List Room) {nester : Path} {w : World} {s : State} {es : List Event} {v : World} {t : State}
+    (run : Interleaved (restore slot bind rooms) nester w s es v t) (end : End) : Type 0 where
   pub missed : (port : ℕ) → end ≡ NoPort port → IsLowest bind rooms port × MissesFirst slot bind rooms (bind port) run
   pub told : (j : ℕ) → Misses slot bind rooms j run → (port : ℕ) × (end ≡ NoPort port) × IsLowest bind rooms port × (bind port ≡ j)
 

@@ -16,7 +16,8 @@ use Rattle.fk_model.specs.Objects.Body.{Mapping, Region, Thread_of, Reference}
 use Rattle.fk_model.specs.LinkRows.{turn_number}
 use Rattle.fk_model.specs.Records.{record_of}
 use Rattle.laws_sites.specs.Orders.{Order}
-use Rattle.laws_sites.specs.Orders.Order.{Readies, Leads, LeadsTop, Makes, Sets, Points, Gives, MakesPin, Pins, Takes, Checks, ParksTalk, ParksFault, LinksTalk, RaisesFault, LinksFault, Holds, Drops, DropsPin, Deadens}
+use Rattle.laws_sites.specs.Orders.Order.{Readies, Leads, LeadsTop, Makes, Sets, Points, Gives, MakesPin, Pins, Takes, Checks, ParksTalk, ParksFault, LinksTalk}
+use Rattle.laws_sites.specs.Orders.Order.{RaisesFault, LinksFault, Holds, Drops, DropsPin, Deadens}
 use Rattle.laws_restore.specs.Rooms.{Item, Sheet, Room}
 
 abbrev pub P : ℕ

@@ -1,5 +1,6 @@
 -- What stands in the picture of a valid image may be made again.
-use Rattle.std.proofs.Common.{◌≡◌, ℕ, ◌-◌, ◌≤◌, Bool, true, false, cond, ◌&&◌, ◌||◌, ◌==◌, List, [], ◌∷◌, Option, Some, None, option_map, is_some, refl, sym, ap, subst, ◌∙◌, arith, eqb-true}
+use Rattle.std.proofs.Common.{◌≡◌, ℕ, ◌-◌, ◌≤◌, Bool, true, false, cond, ◌&&◌, ◌||◌, ◌==◌, List, [], ◌∷◌, Option, Some, None, option_map, is_some, refl, sym}
+use Rattle.std.proofs.Common.{ap, subst, ◌∙◌, arith, eqb-true}
 use Rattle.std.specs.Prelude.{slice_get}
 use Rattle.std.proofs.lemmas.Bool.{and_parts, ltb-true}
 use Rattle.fk_model.specs.declared.names.Kind.{Kind}
@@ -21,7 +22,8 @@ use Rattle.fk_image.specs.declared.image.SpaceRec.{SpaceRec}
 use Rattle.fk_image.specs.declared.image.Image.{Image}
 use Rattle.fk_image.specs.Objects.{kind_of_rec, kind_in}
 use Rattle.fk_image.specs.Ranges.{is_slot, is_set_word, is_byte, is_half, is_extent, is_bit, is_turn, fits_link, fits_taker, fits_talk, fits_fault, fits_body}
-use Rattle.fk_image.specs.Links.{kind_in_space, has_space_at, is_region_kind, is_port_kind, is_thread_kind, is_portset_kind, is_thread_in, is_set_of, leads_to_region, leads_to_keeper, leads_to_port, serves_port, may_refer, talk_leads, taker_leads, fault_leads, body_leads}
+use Rattle.fk_image.specs.Links.{kind_in_space, has_space_at, is_region_kind, is_port_kind, is_thread_kind, is_portset_kind, is_thread_in, is_set_of}
+use Rattle.fk_image.specs.Links.{leads_to_region, leads_to_keeper, leads_to_port, serves_port, may_refer, talk_leads, taker_leads, fault_leads, body_leads}
 use Rattle.fk_image.specs.Links as links
 use Rattle.fk_image.specs.Picture.{ptr, space_path, rec_in, pictured_talk, pictured_fault, pictured_body, picture}
 use Rattle.laws_restore.specs.Fits.{there, is_referable, IsWay}
@@ -66,10 +68,12 @@ region_fits : (first count write : ℕ) (to : Link) → fits_body (Region first 
 region_fits first count write to e = (and_parts (is_byte first && is_half count && is_extent first count && is_bit write) (fits_link to) e).1
 
 talk_fits : (t : TalkRec) → fits_talk (Some t) ≡ true → fits_link t.port ≡ true
-talk_fits t e = let p = and_parts (is_turn t.turn && is_half t.moved && fits_link t.port) (fits_link t.server) e in (and_parts (is_turn t.turn && is_half t.moved) (fits_link t.port) p.0).1
+talk_fits t e = let p = and_parts (is_turn t.turn && is_half t.moved && fits_link t.port) (fits_link t.server) e in
+    (and_parts (is_turn t.turn && is_half t.moved) (fits_link t.port) p.0).1
 
 fault_fits : (f : FaultRec) → fits_fault (Some f) ≡ true → fits_link f.port ≡ true
-fault_fits f e = let p = and_parts (is_byte f.page && is_bit f.write && fits_link f.port) (fits_taker f.taker) e in (and_parts (is_byte f.page && is_bit f.write) (fits_link f.port) p.0).1
+fault_fits f e = let p = and_parts (is_byte f.page && is_bit f.write && fits_link f.port) (fits_taker f.taker) e in
+    (and_parts (is_byte f.page && is_bit f.write) (fits_link f.port) p.0).1
 
 user : (slot : ℕ) → is_slot slot ≡ true → slot ≤ LAST_USER_SLOT
 user slot e = let lt = ltb-true slot 240 e in omega (arith, lt)
@@ -115,7 +119,8 @@ module _ (i : Image) (tree : IsTree i.spaces) (full : IsFull i.spaces) (bind : �
   referred_aim Dead e f = tt
   referred_aim (In slot space) e f = by (links.is_referable (kind_in_space ss space slot)) refl e
     where
-      by : (b : Bool) → links.is_referable (kind_in_space ss space slot) ≡ b → (b || has_space_at ss space slot) ≡ true → IsAim bind c (bodies.Reference (ptr ss (In slot space))) (ptr ss (In slot space))
+      by : (b : Bool) → links.is_referable (kind_in_space ss space slot) ≡ b → (b || has_space_at ss space slot) ≡ true
+          → IsAim bind c (bodies.Reference (ptr ss (In slot space))) (ptr ss (In slot space))
       by true p e =
           let kind = kind_in_space ss space slot in
           let aim = object_aim i tree full space slot (some_if links.is_referable kind refl p) in
@@ -151,7 +156,8 @@ module _ (i : Image) (tree : IsTree i.spaces) (full : IsFull i.spaces) (bind : �
       let one = is_a_thread kind e in
       record { way = aim_way i tree full space slot kind aim (ap is_referable one); is = aim.found ∙ one }
 
-  pair_aim : (to peer : Link) → leads_to_port ss to ≡ true → serves_port ss to peer ≡ true → fits_link to ≡ true → IsPair bind c (ptr ss to) (peers.Server (ptr ss peer))
+  pair_aim : (to peer : Link) → leads_to_port ss to ≡ true → serves_port ss to peer ≡ true → fits_link to ≡ true
+      → IsPair bind c (ptr ss to) (peers.Server (ptr ss peer))
   pair_aim (Out slot) Outside e f g = (user slot g, low slot (user slot g))
   pair_aim (Out slot) Null e f g = absurd cc
   pair_aim (Out slot) Dead e f g = absurd cc
@@ -183,7 +189,8 @@ module _ (i : Image) (tree : IsTree i.spaces) (full : IsFull i.spaces) (bind : �
 
   talk_aim : (t : Option TalkRec) → talk_leads ss t ≡ true → fits_talk t ≡ true → IsTalkAim bind c (option_map (pictured_talk ss) t)
   talk_aim None e f = tt
-  talk_aim (Some t) e f = let both = and_parts (leads_to_port ss t.port) (serves_port ss t.port t.server) e in pair_aim t.port t.server both.0 both.1 (talk_fits t f)
+  talk_aim (Some t) e f = let both = and_parts (leads_to_port ss t.port) (serves_port ss t.port t.server) e in
+      pair_aim t.port t.server both.0 both.1 (talk_fits t f)
 
   taken_aim : (to : Link) (taker : Option Link) → leads_to_port ss to ≡ true → taker_leads ss to taker ≡ true → fits_link to ≡ true →
       IsTakenAim bind c (ptr ss to) (option_map (λ p. peers.Server (ptr ss p)) taker)
@@ -192,7 +199,8 @@ module _ (i : Image) (tree : IsTree i.spaces) (full : IsFull i.spaces) (bind : �
 
   fault_aim : (o : Option FaultRec) → fault_leads ss o ≡ true → fits_fault o ≡ true → IsFaultAim bind c (option_map (pictured_fault ss) o)
   fault_aim None e f = tt
-  fault_aim (Some o) e f = let both = and_parts (leads_to_port ss o.port) (taker_leads ss o.port o.taker) e in taken_aim o.port o.taker both.0 both.1 (fault_fits o f)
+  fault_aim (Some o) e f = let both = and_parts (leads_to_port ss o.port) (taker_leads ss o.port o.taker) e in
+      taken_aim o.port o.taker both.0 both.1 (fault_fits o f)
 
   body_aims : (os : List ObjectRec) (r : Rec) → body_leads ss os r ≡ true → fits_body r ≡ true → AreAims bind c (pictured_body ss r)
   body_aims os (Mutex locked) e f = tt
@@ -223,7 +231,8 @@ module _ (i : Image) (tree : IsTree i.spaces) (full : IsFull i.spaces) (bind : �
       by (Some (Thread t)) e = absurd cc
       by (Some (Reference to)) e = absurd cc
 
-  member : (n : ℕ) (s : SpaceRec) (set : ℕ) → slice_get ss n ≡ Some s → is_set_word set ≡ true → is_set_of s.objects set ≡ true → IsMember c (space_path ss n) false (member_by set)
+  member : (n : ℕ) (s : SpaceRec) (set : ℕ) → slice_get ss n ≡ Some s → is_set_word set ≡ true → is_set_of s.objects set ≡ true
+      → IsMember c (space_path ss n) false (member_by set)
   unfolding picture
   member n s set here word e = by (set == 0) e
     where
@@ -235,7 +244,8 @@ module _ (i : Image) (tree : IsTree i.spaces) (full : IsFull i.spaces) (bind : �
 
   -- ---- objects
 
-  pub object_able : (n k : ℕ) (s : SpaceRec) (r : Rec) → slice_get ss n ≡ Some s → rec_in s.objects k ≡ Some r → body_leads ss s.objects r ≡ true → IsAble bind c (space_path ss n) k (pictured_body ss r)
+  pub object_able : (n k : ℕ) (s : SpaceRec) (r : Rec) → slice_get ss n ≡ Some s → rec_in s.objects k ≡ Some r → body_leads ss s.objects r ≡ true
+      → IsAble bind c (space_path ss n) k (pictured_body ss r)
   unfolding picture
   object_able n k s r here at lead =
       let fit = ranged 0 s.objects k r (rising s.objects (full.objects n s here)) at in
@@ -244,7 +254,8 @@ module _ (i : Image) (tree : IsTree i.spaces) (full : IsFull i.spaces) (bind : �
         there = object_at ss tree n k s r here at;
         low = omega (arith, slot);
         no_space = no_space ss r;
-        takes = takes ss c (space_path ss n) r fit.fits (λ set is. member n s set here (subst (λ r. fits_body r ≡ true) is fit.fits) (subst (λ r. body_leads ss s.objects r ≡ true) is lead));
+        takes = takes ss c (space_path ss n) r fit.fits
+            (λ set is. member n s set here (subst (λ r. fits_body r ≡ true) is fit.fits) (subst (λ r. body_leads ss s.objects r ≡ true) is lead));
         says = says ss r fit.fits;
         aims = body_aims s.objects r lead fit.fits;
         given = given ss r fit.fits;

@@ -1,5 +1,6 @@
 -- In a valid image what lies beneath a space by path is among those that follow it by number.
-use Rattle.std.proofs.Common.{◌≡◌, ℕ, zero, suc, ◌+◌, ◌-◌, ◌<◌, ◌≤◌, ◌^◌, ◌⊎◌, inl, inr, Bool, true, false, cond, not, ltb, leb, ◌&&◌, ◌==◌, List, [], ◌∷◌, ◌++◌, length, drop, Option, Some, None, option_map, is_some, refl, sym, ap, subst, ◌∙◌, arith, eqb-true, append_assoc}
+use Rattle.std.proofs.Common.{◌≡◌, ℕ, zero, suc, ◌+◌, ◌-◌, ◌<◌, ◌≤◌, ◌^◌, ◌⊎◌, inl, inr, Bool, true, false, cond, not, ltb, leb, ◌&&◌, ◌==◌, List, [], ◌∷◌}
+use Rattle.std.proofs.Common.{◌++◌, length, drop, Option, Some, None, option_map, is_some, refl, sym, ap, subst, ◌∙◌, arith, eqb-true, append_assoc}
 use Rattle.std.specs.Prelude.{slice_get}
 use Rattle.std.proofs.lemmas.Bool.{and_parts, and_from, cases_lt, lt-ltb, le-leb, le-ltb}
 use Rattle.std.proofs.lemmas.List.{append-nil, length-append}
@@ -44,7 +45,8 @@ unfolding from
 found done n space [] a e = absurd cc
 found done n space (o ∷ up) a e = by (o.space == space) refl (λ h. found done o.space space up a.2 h) e
   where
-    by : (b : Bool) → (o.space == space) ≡ b → (is_some (first_floor (from space up)) ≡ true → Found done o.space up space) → is_some (first_floor (cond b (o ∷ up) (from space up))) ≡ true → Found done n (o ∷ up) space
+    by : (b : Bool) → (o.space == space) ≡ b → (is_some (first_floor (from space up)) ≡ true → Found done o.space up space)
+        → is_some (first_floor (cond b (o ∷ up) (from space up))) ≡ true → Found done n (o ∷ up) space
     by true p rest e = record { one = o; up = up; is = rw p refl; same = eqb-true o.space space p; below = a.0; open_one = a.1; open_up = a.2 }
     by false p rest e =
         let r = rest e in
@@ -74,7 +76,8 @@ module _ (done : List SpaceRec) (s : SpaceRec) where
   more_nested : IsNested done → IsOpen done s.parent → IsNested (done ++ s ∷ [])
   more_nested nested a m j u t e f lt before = by (last_or_before done s u (suc m) e) (last_or_before done s t j f)
     where
-      by : (slice_get done (suc m) ≡ Some u) ⊎ ((s ≡ u) × (suc m ≡ length done)) → (slice_get done j ≡ Some t) ⊎ ((s ≡ t) × (j ≡ length done)) → u.parent ≤ t.parent
+      by : (slice_get done (suc m) ≡ Some u) ⊎ ((s ≡ u) × (suc m ≡ length done)) → (slice_get done j ≡ Some t) ⊎ ((s ≡ t) × (j ≡ length done))
+          → u.parent ≤ t.parent
       by (inl h) (inl g) = nested m j u t h g lt before
       by (inl h) (inr g) = let low = there_low done (suc m) u h in let at = g.1 in absurd (omega (arith, low, at, before))
       by (inr h) (inl g) =
@@ -87,7 +90,8 @@ record Steps (done : List SpaceRec) (s : SpaceRec) (path : List Open) : Type 0 w
   pub nested : IsNested (done ++ s ∷ [])
   pub open_path : AreOpen (done ++ s ∷ []) (length done + 1) path
 
-step : (d : SpaceRec) (ds : List SpaceRec) (path : List Open) (s : SpaceRec) → IsNested (d ∷ ds) → AreOpen (d ∷ ds) (length (d ∷ ds)) path → fits_space (d ∷ ds, path) s ≡ true →
+step : (d : SpaceRec) (ds : List SpaceRec) (path : List Open) (s : SpaceRec) → IsNested (d ∷ ds) → AreOpen (d ∷ ds) (length (d ∷ ds)) path
+    → fits_space (d ∷ ds, path) s ≡ true →
     Steps (d ∷ ds) s (after_space (d ∷ ds, path) s).1
 step d ds path s nested open_path e =
     let done = d ∷ ds in
@@ -105,8 +109,15 @@ step d ds path s nested open_path e =
     let low = f.below in
     record {
       nested = more_nested done s nested (subst (λ n. IsOpen done n) same f.open_one);
-      open_path = subst (λ p. AreOpen (done ++ s ∷ []) (length done + 1) (after_entering (length done) s.slot p)) (sym f.is)
-          (omega arith, last_open done s, (low, still_open done s f.one.space (omega (arith, same)) f.open_one, all_open done s f.one.space f.up (omega (arith, same)) f.open_up));
+      open_path = subst (λ p. AreOpen (done ++ s ∷ []) (length done + 1) (after_entering (length done) s.slot p)) (sym f.is) (
+        omega arith,
+        last_open done s,
+        (
+          low,
+          still_open done s f.one.space (omega (arith, same)) f.open_one,
+          all_open done s f.one.space f.up (omega (arith, same)) f.open_up,
+        ),
+      );
     }
   where
     room : (o : Option ℕ) (slot : ℕ) → has_room o slot ≡ true → is_some o ≡ true
@@ -121,7 +132,8 @@ all_nested (s ∷ rest) d ds path nested open_path e =
     let st = step d ds path s nested open_path parts.0 in
     let long : length (d ∷ ds) + 1 ≡ length (d ∷ (ds ++ s ∷ [])) = omega (arith, length-append ds (s ∷ [])) in
     subst (λ xs. IsNested xs) (append_assoc (d ∷ ds) (s ∷ []) rest)
-    (all_nested rest d (ds ++ s ∷ []) (after_space (d ∷ ds, path) s).1 st.nested (subst (λ n. AreOpen (d ∷ (ds ++ s ∷ [])) n (after_space (d ∷ ds, path) s).1) long st.open_path) parts.1)
+    (all_nested rest d (ds ++ s ∷ []) (after_space (d ∷ ds, path) s).1 st.nested
+    (subst (λ n. AreOpen (d ∷ (ds ++ s ∷ [])) n (after_space (d ∷ ds, path) s).1) long st.open_path) parts.1)
 
 pub fits_nested : (ss : List SpaceRec) → fits_spaces ss ≡ true → IsNested ss
 fits_nested [] e = absurd cc
@@ -135,7 +147,8 @@ fits_nested (d ∷ rest) e =
 
 -- ---- beneath by path is behind by number
 
-run_long : (n : ℕ) (xs : List SpaceRec) (k : ℕ) → ((j : ℕ) (t : SpaceRec) → j ≤ k → slice_get xs j ≡ Some t → n ≤ t.parent) → is_some (slice_get xs k) ≡ true → k < run_beneath n xs
+run_long : (n : ℕ) (xs : List SpaceRec) (k : ℕ) → ((j : ℕ) (t : SpaceRec) → j ≤ k → slice_get xs j ≡ Some t → n ≤ t.parent) → is_some (slice_get xs k) ≡ true
+    → k < run_beneath n xs
 unfolding run_beneath
 run_long n [] k all is = absurd cc
 run_long n (x ∷ xs) zero all is = let le = all 0 x (omega arith) refl in rw (le-ltb x.parent n le) (omega arith)
@@ -167,7 +180,8 @@ module _ (ss : List SpaceRec) (tree : IsTree ss) (nested : IsNested ss) where
   unfolding strip
   within_cases root k x e = by (same_path (k ∷ x) root) refl (strip root x) e
     where
-      by : (b : Bool) → same_path (k ∷ x) root ≡ b → (o : Option Path) → is_some (cond b (Some []) (option_map (λ q. k ∷ q) o)) ≡ true → (root ≡ k ∷ x) ⊎ (is_some o ≡ true)
+      by : (b : Bool) → same_path (k ∷ x) root ≡ b → (o : Option Path) → is_some (cond b (Some []) (option_map (λ q. k ∷ q) o)) ≡ true
+          → (root ≡ k ∷ x) ⊎ (is_some o ≡ true)
       by true p o e = inl (sym (same_path_eq (k ∷ x) root p))
       by false p None e = absurd cc
       by false p (Some q) e = inr refl
@@ -183,7 +197,8 @@ module _ (ss : List SpaceRec) (tree : IsTree ss) (nested : IsNested ss) where
       by true p e = sym (same_path_eq [] root p)
       by false p e = absurd cc
 
-  behind_by : (d n m : ℕ) → m ≤ d → is_some (slice_get ss n) ≡ true → is_some (slice_get ss m) ≡ true → is_within (space_path ss n) (space_path ss m) ≡ true → LiesBehind n m
+  behind_by : (d n m : ℕ) → m ≤ d → is_some (slice_get ss n) ≡ true → is_some (slice_get ss m) ≡ true → is_within (space_path ss n) (space_path ss m) ≡ true
+      → LiesBehind n m
   unfolding path_within
   behind_by d n zero le there is e = itself n 0 (number_same 0 n is there (sym (within_top (space_path ss n) e)))
   behind_by zero n (suc m) le there is e = absurd (omega (arith, le))
@@ -194,7 +209,8 @@ module _ (ss : List SpaceRec) (tree : IsTree ss) (nested : IsNested ss) where
       by s.item s.is up (within_cases (space_path ss n) s.item.slot (space_path ss s.item.parent) (sym (ap (is_within (space_path ss n)) up) ∙ e))
       (λ h. behind_by d n s.item.parent (omega (arith, low, le)) there (there_below ss s.item.parent (suc m) (omega (arith, low)) is) h)
     where
-      by : (s : SpaceRec) → slice_get ss (suc m) ≡ Some s → space_path ss (suc m) ≡ s.slot ∷ space_path ss s.parent → (space_path ss n ≡ s.slot ∷ space_path ss s.parent) ⊎ (is_within (space_path ss n) (space_path ss s.parent) ≡ true) →
+      by : (s : SpaceRec) → slice_get ss (suc m) ≡ Some s → space_path ss (suc m) ≡ s.slot ∷ space_path ss s.parent
+          → (space_path ss n ≡ s.slot ∷ space_path ss s.parent) ⊎ (is_within (space_path ss n) (space_path ss s.parent) ≡ true) →
           (is_within (space_path ss n) (space_path ss s.parent) ≡ true → LiesBehind n s.parent) → LiesBehind n (suc m)
       by s here up (inl same) rest = itself n (suc m) (number_same (suc m) n (is_there (slice_get ss (suc m)) s here) there (up ∙ sym same))
       by s here up (inr h) rest =
@@ -203,7 +219,8 @@ module _ (ss : List SpaceRec) (tree : IsTree ss) (nested : IsNested ss) where
           let low = r.low in
           record { low = omega (arith, low, under); all = λ j t e lt le. all s here r j t e lt le (cases_lt s.parent j) (cases_lt j (suc m)) }
         where
-          all : (s : SpaceRec) → slice_get ss (suc m) ≡ Some s → LiesBehind n s.parent → (j : ℕ) (t : SpaceRec) → slice_get ss j ≡ Some t → n < j → j ≤ suc m → (s.parent < j) ⊎ (j ≤ s.parent) → (j < suc m) ⊎ (suc m ≤ j) → n ≤ t.parent
+          all : (s : SpaceRec) → slice_get ss (suc m) ≡ Some s → LiesBehind n s.parent → (j : ℕ) (t : SpaceRec) → slice_get ss j ≡ Some t → n < j → j ≤ suc m
+              → (s.parent < j) ⊎ (j ≤ s.parent) → (j < suc m) ⊎ (suc m ≤ j) → n ≤ t.parent
           all s here r j t e lt le (inr below) last = r.all j t e lt below
           all s here r j t e lt le (inl above) (inl before) = let p = nested m j s t here e above before in let low = r.low in omega (arith, p, low)
           all s here r j t e lt le (inl above) (inr ge) =
@@ -217,7 +234,8 @@ module _ (ss : List SpaceRec) (tree : IsTree ss) (nested : IsNested ss) where
               one e = cc
 
   -- a space that lies in or beneath another by path does so by number
-  pub within_by_number : (n m : ℕ) → is_some (slice_get ss n) ≡ true → is_some (slice_get ss m) ≡ true → is_within (space_path ss n) (space_path ss m) ≡ true → is_space_within ss n m ≡ true
+  pub within_by_number : (n m : ℕ) → is_some (slice_get ss n) ≡ true → is_some (slice_get ss m) ≡ true → is_within (space_path ss n) (space_path ss m) ≡ true
+      → is_space_within ss n m ≡ true
   unfolding end_of
   within_by_number n m there is e =
       let r = behind_by m n m (omega arith) there is e in
@@ -229,5 +247,6 @@ module _ (ss : List SpaceRec) (tree : IsTree ss) (nested : IsNested ss) where
       ends r (inl lt) =
           let k = m - (n + 1) in
           let at : n + 1 + k ≡ m = omega (arith, lt) in
-          let long = run_long n (drop (n + 1) ss) k (λ j t h e2. r.all (n + 1 + j) t (sym (dropped (n + 1) ss j) ∙ e2) (omega arith) (omega (arith, h, at))) (ap is_some (dropped (n + 1) ss k ∙ ap (slice_get ss) at) ∙ is) in
+          let long = run_long n (drop (n + 1) ss) k (λ j t h e2. r.all (n + 1 + j) t (sym (dropped (n + 1) ss j) ∙ e2) (omega arith) (omega (arith, h, at)))
+          (ap is_some (dropped (n + 1) ss k ∙ ap (slice_get ss) at) ∙ is) in
           omega (arith, long, at)

@@ -1,5 +1,6 @@
 -- The records of a picture's objects as a porter gives them: a new object takes them, and then says all but its pointers.
-use Rattle.std.proofs.Common.{◌≡◌, ℕ, zero, suc, ◌+◌, ◌-◌, ◌<◌, ◌≤◌, ◌^◌, Bool, true, false, cond, ◌&&◌, ◌==◌, ltb, leb, List, [], ◌∷◌, ◌++◌, length, replicate, get_or, Option, Some, None, option_map, refl, ap, subst, ◌∙◌, arith, eqb-true, eq-eqb}
+use Rattle.std.proofs.Common.{◌≡◌, ℕ, zero, suc, ◌+◌, ◌-◌, ◌<◌, ◌≤◌, ◌^◌, Bool, true, false, cond, ◌&&◌, ◌==◌, ltb, leb, List, [], ◌∷◌, ◌++◌, length, replicate}
+use Rattle.std.proofs.Common.{get_or, Option, Some, None, option_map, refl, ap, subst, ◌∙◌, arith, eqb-true, eq-eqb}
 use Rattle.std.specs.List.{list_all}
 use Rattle.std.proofs.lemmas.Bool.{and_parts, and_from, ltb-true, leb-true, lt-ltb, le-leb}
 use Rattle.std.proofs.lemmas.List.{length-append, length-replicate}
@@ -9,7 +10,8 @@ use Rattle.fk_model.specs.declared.thread.Turn.{Turn}
 use Rattle.fk_model.specs.declared.thread.Turn.TheVariants as turns
 use Rattle.fk_model.specs.Places.{Path}
 use Rattle.fk_model.specs.Calls.{todo_of}
-use Rattle.fk_model.specs.Objects.{Mode, Talk, Fault, Thread as ThreadState, Body, Mode as modes, Body as bodies, registers_of, flag_of, number_of_kind, kind_of, space_of}
+use Rattle.fk_model.specs.Objects.{Mode, Talk, Fault, Thread as ThreadState, Body, Mode as modes, Body as bodies, registers_of, flag_of, number_of_kind}
+use Rattle.fk_model.specs.Objects.{kind_of, space_of}
 use Rattle.fk_model.specs.Objects.Body.{Thread_of}
 use Rattle.fk_model.specs.LinkRows.{turn_number}
 use Rattle.fk_model.specs.World.{World, edited}
@@ -41,7 +43,8 @@ use Rattle.laws_restore.specs.Stages.{blank, recorded}
 mode_shaped : (regs : List ℕ) (number code : ℕ) → length regs ≡ 16 → IsShapedMode (mode regs number code)
 mode_shaped regs number code long = by (number == 0) (number == 1) (todo_of regs) refl
   where
-    by : (a b : Bool) (o : Option (List Stage)) → todo_of regs ≡ o → IsShapedMode (cond a (modes.Running regs) (cond b (mode_while_calling regs o) (modes.Halted regs code)))
+    by : (a b : Bool) (o : Option (List Stage)) → todo_of regs ≡ o
+        → IsShapedMode (cond a (modes.Running regs) (cond b (mode_while_calling regs o) (modes.Halted regs code)))
     by true b o e = long
     by false true None e = long
     by false true (Some todo) e = let back = todo_writes_back_lem regs todo long e in (back.0, back.1)
@@ -59,7 +62,8 @@ mode_in_range regs number code low = by (number == 0) (number == 1) (todo_of reg
 mode_registers : (regs : List ℕ) (number code : ℕ) → length regs ≡ 16 → registers_of (mode regs number code) ≡ regs
 mode_registers regs number code long = by (number == 0) (number == 1) (todo_of regs) refl
   where
-    by : (a b : Bool) (o : Option (List Stage)) → todo_of regs ≡ o → registers_of (cond a (modes.Running regs) (cond b (mode_while_calling regs o) (modes.Halted regs code))) ≡ regs
+    by : (a b : Bool) (o : Option (List Stage)) → todo_of regs ≡ o
+        → registers_of (cond a (modes.Running regs) (cond b (mode_while_calling regs o) (modes.Halted regs code))) ≡ regs
     by true b o e = refl
     by false true None e = refl
     by false true (Some todo) e = (todo_writes_back_lem regs todo long e).2
@@ -139,12 +143,14 @@ pub given_padded : (words : List ℕ) → length words ≤ 64 → are_words word
 given_padded words short all =
     let rest = 64 - length words in
     let long : length (padded words) ≡ 64 = omega (arith, length-append words (replicate rest 0), length-replicate {A = ℕ} rest 0, short) in
-    and_from (length (padded words) == 64) (are_words (padded words)) (eq-eqb (length (padded words)) 64 long) (all_words words (replicate rest 0) all (zeros rest))
+    and_from (length (padded words) == 64) (are_words (padded words)) (eq-eqb (length (padded words)) 64 long)
+    (all_words words (replicate rest 0) all (zeros rest))
 
 -- ---- talks and faults
 
 talk_small : (t : Talk) → t.moved < 2 ^ 16 → are_words (turn_number t.turn ∷ t.moved ∷ []) ≡ true
-talk_small t low = and_from (is_word (turn_number t.turn)) (are_words (t.moved ∷ [])) (small _ (turn_small t.turn).0) (and_from (is_word t.moved) true (small t.moved low) refl)
+talk_small t low = and_from (is_word (turn_number t.turn)) (are_words (t.moved ∷ [])) (small _ (turn_small t.turn).0)
+    (and_from (is_word t.moved) true (small t.moved low) refl)
 
 talk_told : (t : Talk) → t.moved < 2 ^ 16 → GivesTalk (Some t)
 talk_told t low = (
@@ -155,7 +161,8 @@ talk_told t low = (
 fault_told : (f : Fault) → f.page < 256 → GivesFault (Some f)
 fault_told f low = (
   given_padded (f.page ∷ flag_of f.write ∷ []) (omega arith)
-      (and_from (is_word f.page) (are_words (flag_of f.write ∷ [])) (small f.page (omega (arith, low))) (and_from (is_word (flag_of f.write)) true (small _ (flag_small f.write)) refl)),
+      (and_from (is_word f.page) (are_words (flag_of f.write ∷ [])) (small f.page (omega (arith, low)))
+      (and_from (is_word (flag_of f.write)) true (small _ (flag_small f.write)) refl)),
   and_from (ltb f.page PAGES) (leb (flag_of f.write) 1) (lt-ltb f.page PAGES low) (flag_most f.write),
 )
   where
@@ -203,7 +210,14 @@ module _ (ss : List SpaceRec) where
   is_users (Port set) = refl
   is_users (Thread t) = by (t.mode == 0) (t.mode == 1) (todo_of t.regs)
     where
-      by : (a b : Bool) (o : Option (List Stage)) → is_native (Thread_of (record { mode = cond a (modes.Running t.regs) (cond b (mode_while_calling t.regs o) (modes.Halted t.regs t.code)); counter = 0; stops = 0; talk = None; fault = None })) ≡ false
+      by : (a b : Bool) (o : Option (List Stage)) → is_native
+          (Thread_of (record {
+            mode = cond a (modes.Running t.regs) (cond b (mode_while_calling t.regs o) (modes.Halted t.regs t.code));
+            counter = 0;
+            stops = 0;
+            talk = None;
+            fault = None;
+          })) ≡ false
       by true b o = refl
       by false true None = refl
       by false true (Some todo) = refl
@@ -229,16 +243,23 @@ module _ (ss : List SpaceRec) where
     pub range : IsPageRange first count
     pub offset_byte : offset < 256
 
-  window_in : (first count offset write : ℕ) (rest : Bool) → (is_byte first && is_half count && is_extent first count && is_byte offset && is_bit write && rest) ≡ true → IsWindowIn first count offset
+  window_in : (first count offset write : ℕ) (rest : Bool)
+      → (is_byte first && is_half count && is_extent first count && is_byte offset && is_bit write && rest) ≡ true → IsWindowIn first count offset
   window_in first count offset write rest e =
       let p1 = and_parts (is_byte first && is_half count && is_extent first count && is_byte offset && is_bit write) rest e in
       let p2 = and_parts (is_byte first && is_half count && is_extent first count && is_byte offset) (is_bit write) p1.0 in
       let p3 = and_parts (is_byte first && is_half count && is_extent first count) (is_byte offset) p2.0 in
       let p4 = and_parts (is_byte first && is_half count) (is_extent first count) p3.0 in
       let p5 = and_parts (is_byte first) (is_half count) p4.0 in
-      record { first_byte = ltb-true first 256 p5.0; count_half = ltb-true count (2 ^ 16) p5.1; range = extent first count p4.1; offset_byte = ltb-true offset 256 p3.1 }
+      record {
+        first_byte = ltb-true first 256 p5.0;
+        count_half = ltb-true count (2 ^ 16) p5.1;
+        range = extent first count p4.1;
+        offset_byte = ltb-true offset 256 p3.1;
+      }
 
-  region_in : (first count write : ℕ) (rest : Bool) → (is_byte first && is_half count && is_extent first count && is_bit write && rest) ≡ true → IsWindowIn first count 0
+  region_in : (first count write : ℕ) (rest : Bool) → (is_byte first && is_half count && is_extent first count && is_bit write && rest) ≡ true
+      → IsWindowIn first count 0
   region_in first count write rest e =
       let p1 = and_parts (is_byte first && is_half count && is_extent first count && is_bit write) rest e in
       let p2 = and_parts (is_byte first && is_half count && is_extent first count) (is_bit write) p1.0 in
@@ -247,7 +268,8 @@ module _ (ss : List SpaceRec) where
       record { first_byte = ltb-true first 256 p4.0; count_half = ltb-true count (2 ^ 16) p4.1; range = extent first count p3.1; offset_byte = omega arith }
 
   -- what a port's set is, where its slot is known to hold one
-  in_range : (w : World) (q : Path) (r : Rec) → fits_body r ≡ true → ((set : ℕ) → r ≡ Port set → IsMember w q false (member_by set)) → IsInRange w q (pictured_body ss r)
+  in_range : (w : World) (q : Path) (r : Rec) → fits_body r ≡ true → ((set : ℕ) → r ≡ Port set → IsMember w q false (member_by set))
+      → IsInRange w q (pictured_body ss r)
   in_range w q (Mutex locked) e member = tt
   in_range w q Cond e member = tt
   in_range w q Portset e member = tt
@@ -260,9 +282,11 @@ module _ (ss : List SpaceRec) where
   -- ---- what fills a record up is not read
 
   abbrev record_with : ThreadState → List ℕ → List ℕ
-  record_with t g = records.padded RECORD_WORDS (8 ∷ g ++ (t.counter ∷ mode_number t.mode ∷ halt_code t.mode ∷ t.stops ∷ []) ++ records.talk_words t.talk ++ records.fault_words t.fault)
+  record_with t g = records.padded RECORD_WORDS (8 ∷ g ++ (t.counter ∷ mode_number t.mode ∷ halt_code t.mode ∷ t.stops ∷ []) ++ records.talk_words t.talk
+      ++ records.fault_words t.fault)
 
-  long_sets : (t : ThreadState) (r : ℕ → ℕ) → set (Thread_of t) (padded (record_with t (registers (r 0) r))) ≡ set (Thread_of t) (record_with t (registers (r 0) r))
+  long_sets : (t : ThreadState) (r : ℕ → ℕ) → set (Thread_of t) (padded (record_with t (registers (r 0) r)))
+      ≡ set (Thread_of t) (record_with t (registers (r 0) r))
   unfolding set edited
   long_sets t r = refl
 
@@ -282,7 +306,8 @@ module _ (ss : List SpaceRec) where
   set_padded (bodies.Space birth holder) shaped = refl
   set_padded (Thread_of t) shaped =
       let g = registers_of t.mode in
-      subst (λ g. set (Thread_of t) (padded (record_with t g)) ≡ set (Thread_of t) (record_with t g)) (sixteen g (registers_long t.mode shaped)) (long_sets t (λ i. get_or g i 0))
+      subst (λ g. set (Thread_of t) (padded (record_with t g)) ≡ set (Thread_of t) (record_with t g)) (sixteen g (registers_long t.mode shaped))
+      (long_sets t (λ i. get_or g i 0))
   set_padded (bodies.Reference to) shaped = refl
 
   takes_padded : (w : World) (q : Path) (b : Body) → IsShaped b → takes_state w q b (padded (record_of b)) ≡ takes_state w q b (record_of b)
@@ -296,12 +321,14 @@ module _ (ss : List SpaceRec) where
   takes_padded w q (bodies.Space birth holder) shaped = refl
   takes_padded w q (Thread_of t) shaped =
       let g = registers_of t.mode in
-      subst (λ g. takes_state w q (Thread_of t) (padded (record_with t g)) ≡ takes_state w q (Thread_of t) (record_with t g)) (sixteen g (registers_long t.mode shaped)) (long_takes w q t (λ i. get_or g i 0))
+      subst (λ g. takes_state w q (Thread_of t) (padded (record_with t g)) ≡ takes_state w q (Thread_of t) (record_with t g))
+      (sixteen g (registers_long t.mode shaped)) (long_takes w q t (λ i. get_or g i 0))
   takes_padded w q (bodies.Reference to) shaped = refl
 
   -- ---- a record is taken by a new object, and says all of an object but its pointers
 
-  blank_takes : (w : World) (q : Path) (r : Rec) (words : List ℕ) → takes_state w q (pictured_body ss r) words ≡ true → takes_state w q (blank (pictured_body ss r)) words ≡ true
+  blank_takes : (w : World) (q : Path) (r : Rec) (words : List ℕ) → takes_state w q (pictured_body ss r) words ≡ true
+      → takes_state w q (blank (pictured_body ss r)) words ≡ true
   unfolding takes_state
   blank_takes w q (Mutex locked) words e = e
   blank_takes w q Cond words e = e
@@ -316,7 +343,8 @@ module _ (ss : List SpaceRec) where
       takes_state w q (blank (pictured_body ss r)) (padded (record_of (pictured_body ss r))) ≡ true
   takes w q r e member =
       let shaped = is_shaped r e in
-      blank_takes w q r _ (takes_padded w q (pictured_body ss r) shaped ∙ record_is_taken_lem w q (pictured_body ss r) shaped (in_range w q r e member) (is_users r))
+      blank_takes w q r _ (takes_padded w q (pictured_body ss r) shaped
+      ∙ record_is_taken_lem w q (pictured_body ss r) shaped (in_range w q r e member) (is_users r))
 
   thread_set : (m : Mode) (counter stops : ℕ) (talk : Option Talk) (fault : Option Fault) (words : List ℕ) →
       set (blank (Thread_of (record { mode = m; counter = counter; stops = stops; talk = talk; fault = fault }))) words
@@ -335,13 +363,15 @@ module _ (ss : List SpaceRec) where
   blank_set (Mapping first count offset write to) words = refl
   blank_set (Region first count write to) words = refl
   blank_set (Port set) words = refl
-  blank_set (Thread t) words = thread_set (mode t.regs t.mode t.code) t.pc t.stops (option_map (pictured_talk ss) t.talk) (option_map (pictured_fault ss) t.fault) words
+  blank_set (Thread t) words = thread_set (mode t.regs t.mode t.code) t.pc t.stops (option_map (pictured_talk ss) t.talk)
+      (option_map (pictured_fault ss) t.fault) words
   blank_set (Reference to) words = refl
 
   pub says : (r : Rec) → fits_body r ≡ true → set (blank (pictured_body ss r)) (padded (record_of (pictured_body ss r))) ≡ recorded (pictured_body ss r)
   says r e =
       let shaped = is_shaped r e in
-      blank_set r (padded (record_of (pictured_body ss r))) ∙ ap recorded (set_padded (pictured_body ss r) shaped ∙ record_sets_nothing_lem (pictured_body ss r) shaped (is_users r))
+      blank_set r (padded (record_of (pictured_body ss r)))
+      ∙ ap recorded (set_padded (pictured_body ss r) shaped ∙ record_sets_nothing_lem (pictured_body ss r) shaped (is_users r))
 
   -- ---- its words are words
 
@@ -360,7 +390,8 @@ module _ (ss : List SpaceRec) where
   fault_all (Some f) e = by f.taker
     where
       rest : are_words (f.page ∷ flag_of (f.write == 1) ∷ []) ≡ true
-      rest = let low = page_byte f e in and_from (is_word f.page) (are_words (flag_of (f.write == 1) ∷ [])) (small f.page (omega (arith, low))) (and_from (is_word (flag_of (f.write == 1))) true (small _ (flag_small (f.write == 1))) refl)
+      rest = let low = page_byte f e in and_from (is_word f.page) (are_words (flag_of (f.write == 1) ∷ [])) (small f.page (omega (arith, low)))
+          (and_from (is_word (flag_of (f.write == 1))) true (small _ (flag_small (f.write == 1))) refl)
 
       by : (taker : Option Link) → are_words (records.fault_words (Some (pictured_fault ss (record f { taker = taker })))) ≡ true
       by None = rest
@@ -391,11 +422,14 @@ module _ (ss : List SpaceRec) where
       let a = n.first_byte in
       let b = n.offset_byte in
       and_from (is_word first) _ (small first (omega (arith, a)))
-      (and_from (is_word count) _ (small count n.count_half) (and_from (is_word offset) _ (small offset (omega (arith, b))) (and_from (is_word (flag_of (write == 1))) true (small _ (flag_small (write == 1))) refl)))
+      (and_from (is_word count) _ (small count n.count_half)
+      (and_from (is_word offset) _ (small offset (omega (arith, b)))
+      (and_from (is_word (flag_of (write == 1))) true (small _ (flag_small (write == 1))) refl)))
   state_all (Region first count write to) e =
       let n = region_in first count write (fits_link to) e in
       let a = n.first_byte in
-      and_from (is_word first) _ (small first (omega (arith, a))) (and_from (is_word count) _ (small count n.count_half) (and_from (is_word (flag_of (write == 1))) true (small _ (flag_small (write == 1))) refl))
+      and_from (is_word first) _ (small first (omega (arith, a)))
+      (and_from (is_word count) _ (small count n.count_half) (and_from (is_word (flag_of (write == 1))) true (small _ (flag_small (write == 1))) refl))
   state_all (Port set) e = and_from (is_word (member_word (member_by set))) true (small _ (member_small set (ltb-true set 241 e))) refl
     where
       member_small : (set : ℕ) → set < 241 → member_word (member_by set) < 2 ^ 16
@@ -421,8 +455,10 @@ module _ (ss : List SpaceRec) where
   unfolding record_of
   record_all r e =
       let words = number_of_kind (kind_of (pictured_body ss r)) ∷ state_words (pictured_body ss r) in
-      let all : are_words words ≡ true = and_from (is_word (number_of_kind (kind_of (pictured_body ss r)))) (are_words (state_words (pictured_body ss r))) (kind_small r) (state_all r e) in
+      let all : are_words words ≡ true = and_from (is_word (number_of_kind (kind_of (pictured_body ss r)))) (are_words (state_words (pictured_body ss r)))
+      (kind_small r) (state_all r e) in
       all_words words (replicate (RECORD_WORDS - length words) 0) all (zeros (RECORD_WORDS - length words))
 
   pub given : (r : Rec) → fits_body r ≡ true → IsGiven (padded (record_of (pictured_body ss r)))
-  given r e = let full = record_is_full_lem (pictured_body ss r) (is_shaped r e) in given_padded (record_of (pictured_body ss r)) (omega (arith, full)) (record_all r e)
+  given r e = let full = record_is_full_lem (pictured_body ss r) (is_shaped r e) in
+      given_padded (record_of (pictured_body ss r)) (omega (arith, full)) (record_all r e)

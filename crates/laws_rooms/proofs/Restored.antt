@@ -27,13 +27,16 @@ roomed : (slot : ℕ) (i : Image) (pairs : List (ℕ × ℕ)) → IsRestoreJob s
 roomed slot i pairs job = valid_is_roomed (bound_by pairs) i (pairs_bind pairs job.users) job.valid
 
 pub image_is_restored : ImageIsRestored
-image_is_restored slot birth i pairs job = restores slot birth (bound_by pairs) (picture i) (rooms_of i) job.low (roomed slot i pairs job)
+image_is_restored slot birth i pairs w nester job = restores slot birth (bound_by pairs) (picture i) (rooms_of i) w nester job.low (roomed slot i pairs job)
 
 pub image_restore_ends_so : ImageRestoreEndsSo
-image_restore_ends_so slot birth i pairs w v nester t end job begins work stops = ends_so slot birth (bound_by pairs) (picture i) (rooms_of i) w v nester t end job.low (roomed slot i pairs job) begins work stops
+image_restore_ends_so slot birth i pairs w v nester t end job begins work stops = ends_so slot birth (bound_by pairs) (picture i)
+    (rooms_of i) w v nester t end job.low (roomed slot i pairs job) begins work stops
 
 pub image_restore_is_owed : ImageRestoreIsOwed
-image_restore_is_owed slot birth i pairs w nester job begins = is_owed slot birth (bound_by pairs) (picture i) (rooms_of i) w nester job.low (roomed slot i pairs job) begins
+image_restore_is_owed slot birth i pairs w nester job begins = is_owed slot birth (bound_by pairs) (picture i) (rooms_of i) w nester job.low
+    (roomed slot i pairs job) begins
 
 pub image_restore_is_bounded : ImageRestoreIsBounded
-image_restore_is_bounded slot i pairs d w v nester t job deep work = restore_is_bounded slot (bound_by pairs) (picture i) (rooms_of i) d w v nester t (roomed slot i pairs job) deep work
+image_restore_is_bounded slot i pairs d w v nester t job deep work = restore_is_bounded slot (bound_by pairs) (picture i) (rooms_of i) d w v nester t
+    (roomed slot i pairs job) deep work

@@ -15,7 +15,8 @@ use Rattle.laws_rooms.proofs.Spaces.{all_spaces}
 use Rattle.laws_rooms.proofs.Filled.{all_rooms, nothing_else, no_other_page}
 use Rattle.laws_rooms.proofs.Served.{one_service, one_each}
 
-roomed : (bind : ℕ → ℕ) (i : Image) → IsBinding bind → IsTree i.spaces × IsFull i.spaces → fits_spaces i.spaces ≡ true → all_lead i.spaces ≡ true → IsRoomed bind (picture i) (rooms_of i)
+roomed : (bind : ℕ → ℕ) (i : Image) → IsBinding bind → IsTree i.spaces × IsFull i.spaces → fits_spaces i.spaces ≡ true → all_lead i.spaces ≡ true
+    → IsRoomed bind (picture i) (rooms_of i)
 unfolding picture
 roomed bind i low good fits leads =
     let tree = good.0 in
@@ -38,4 +39,5 @@ roomed bind i low good fits leads =
 
 pub valid_is_roomed : ValidIsRoomed
 unfolding is_valid
-valid_is_roomed bind i low valid = let both = and_parts (fits_spaces i.spaces) (all_lead i.spaces) valid in roomed bind i low (valid_is_tree i valid) both.0 both.1
+valid_is_roomed bind i low valid = let both = and_parts (fits_spaces i.spaces) (all_lead i.spaces) valid in
+    roomed bind i low (valid_is_tree i valid) both.0 both.1

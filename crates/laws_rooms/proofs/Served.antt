@@ -1,5 +1,6 @@
 -- In a valid image's picture a thread serves one talk or one fault.
-use Rattle.std.proofs.Common.{◌≡◌, ℕ, zero, suc, ◌+◌, ◌<◌, ◌≤◌, ◌⊎◌, inl, inr, Bool, true, false, cond, not, ◌||◌, ◌==◌, List, [], ◌∷◌, ◌++◌, Option, Some, None, option_map, is_some, refl, sym, ap, ◌∙◌, arith, eqb-true, eq-eqb}
+use Rattle.std.proofs.Common.{◌≡◌, ℕ, zero, suc, ◌+◌, ◌<◌, ◌≤◌, ◌⊎◌, inl, inr, Bool, true, false, cond, not, ◌||◌, ◌==◌, List, [], ◌∷◌, ◌++◌, Option, Some}
+use Rattle.std.proofs.Common.{None, option_map, is_some, refl, sym, ap, ◌∙◌, arith, eqb-true, eq-eqb}
 use Rattle.std.specs.Prelude.{slice_get}
 use Rattle.std.specs.List.{list_any, flat_map}
 use Rattle.std.proofs.lemmas.Bool.{and_parts, and_from}
@@ -18,7 +19,8 @@ use Rattle.fk_image.specs.declared.image.Rec.TheVariants.{Mutex, Cond, Portset, 
 use Rattle.fk_image.specs.declared.image.ObjectRec.{ObjectRec}
 use Rattle.fk_image.specs.declared.image.SpaceRec.{SpaceRec}
 use Rattle.fk_image.specs.declared.image.Image.{Image}
-use Rattle.fk_image.specs.Links.{kind_in_space, is_thread_kind, leads_to_port, serves_port, talk_leads, taker_leads, fault_leads, body_leads, may_hold, spaces_lead, peer, talk_peers, taker_peers, fault_peers, body_peers, object_peers, space_peers, is_same_place, are_fresh}
+use Rattle.fk_image.specs.Links.{kind_in_space, is_thread_kind, leads_to_port, serves_port, talk_leads, taker_leads, fault_leads, body_leads, may_hold}
+use Rattle.fk_image.specs.Links.{spaces_lead, peer, talk_peers, taker_peers, fault_peers, body_peers, object_peers, space_peers, is_same_place, are_fresh}
 use Rattle.fk_image.specs.Picture.{ptr, space_number, space_path, rec_in, pictured_talk, pictured_fault, pictured_body, pictured_body_at, picture}
 use Rattle.laws_pictures.specs.Tree.{IsTree, IsFull}
 use Rattle.laws_pictures.proofs.Numbers.{number_of}
@@ -48,7 +50,8 @@ fresh_once p seen (x ∷ xs) e =
     let both = and_parts (not (list_any (is_same_place x) seen)) (are_fresh (x ∷ seen) xs) e in
     by (is_same_place p x) refl (list_any (is_same_place p) seen) refl both.0 (fresh_once p (x ∷ seen) xs both.1)
   where
-    by : (a : Bool) → is_same_place p x ≡ a → (b : Bool) → list_any (is_same_place p) seen ≡ b → not (list_any (is_same_place x) seen) ≡ true → flag_of (a || b) + count p xs ≤ 1 → flag_of b + (flag_of a + count p xs) ≤ 1
+    by : (a : Bool) → is_same_place p x ≡ a → (b : Bool) → list_any (is_same_place p) seen ≡ b → not (list_any (is_same_place x) seen) ≡ true
+        → flag_of (a || b) + count p xs ≤ 1 → flag_of b + (flag_of a + count p xs) ≤ 1
     by true g true h off rest = absurd (clash (sym (ap not (ap (λ q. list_any (is_same_place q) seen) (sym (same_place p x g)) ∙ h)) ∙ off))
       where
         clash : not true ≡ true → ⊥
@@ -70,7 +73,8 @@ module _ {X : Type 0} (f : X → List (ℕ × ℕ)) (p : ℕ × ℕ) where
       let rest = count_at xs j x e in
       omega (arith, sum, rest)
 
-  one_place : (xs : List X) (i j : ℕ) (x y : X) → count p (flat_map f xs) ≤ 1 → slice_get xs i ≡ Some x → slice_get xs j ≡ Some y → 0 < count p (f x) → 0 < count p (f y) → i ≡ j
+  one_place : (xs : List X) (i j : ℕ) (x y : X) → count p (flat_map f xs) ≤ 1 → slice_get xs i ≡ Some x → slice_get xs j ≡ Some y → 0 < count p (f x)
+      → 0 < count p (f y) → i ≡ j
   one_place [] i j x y most e g a b = absurd cc
   one_place (z ∷ xs) zero zero x y most e g a b = refl
   one_place (z ∷ xs) zero (suc j) x y most e g a b =
@@ -107,7 +111,8 @@ placed (o ∷ os) k r e = by (o.slot == k) refl e (λ h. placed os k r h)
     by true p e rest = record { at = 0; item = o; here = refl; slot = eqb-true o.slot k p; body = cc }
     by false p e rest = let q = rest e in record { at = suc q.at; item = q.item; here = q.here; slot = q.slot; body = q.body }
 
-module _ (i : Image) (tree : IsTree i.spaces) (full : IsFull i.spaces) (lead : spaces_lead i.spaces 0 i.spaces ≡ true) (fresh : are_fresh [] (flat_map space_peers i.spaces) ≡ true) where
+module _ (i : Image) (tree : IsTree i.spaces) (full : IsFull i.spaces) (lead : spaces_lead i.spaces 0 i.spaces ≡ true)
+    (fresh : are_fresh [] (flat_map space_peers i.spaces) ≡ true) where
   abbrev ss : List SpaceRec
   ss = i.spaces
 
@@ -120,7 +125,8 @@ module _ (i : Image) (tree : IsTree i.spaces) (full : IsFull i.spaces) (lead : s
   -- ---- a place that stands for a server wherever a link leads to it
 
   abbrev StandsFor : Path → ℕ × ℕ → Type 0
-  StandsFor z p = (slot space : ℕ) → is_some (slice_get ss space) ≡ true → flag_of (serves z (peers.Server (ptrs.At (slot ∷ space_path ss space)))) ≤ count p ((space, slot) ∷ [])
+  StandsFor z p = (slot space : ℕ) → is_some (slice_get ss space) ≡ true
+      → flag_of (serves z (peers.Server (ptrs.At (slot ∷ space_path ss space)))) ≤ count p ((space, slot) ∷ [])
 
   module _ (z : Path) (p : ℕ × ℕ) (hit : StandsFor z p) where
     abbrev Is : Link → Type 0
@@ -159,15 +165,19 @@ module _ (i : Image) (tree : IsTree i.spaces) (full : IsFull i.spaces) (lead : s
     served_by Root peer e f = absurd cc
     served_by Outside peer e f = absurd cc
 
-    talk_count : (t : Option TalkRec) → talk_leads ss t ≡ true → flag_of (holds (λ (talk : Talk). serves z talk.peer) (option_map (pictured_talk ss) t)) ≤ count p (talk_peers t)
+    talk_count : (t : Option TalkRec) → talk_leads ss t ≡ true
+        → flag_of (holds (λ (talk : Talk). serves z talk.peer) (option_map (pictured_talk ss) t)) ≤ count p (talk_peers t)
     talk_count None e = omega arith
-    talk_count (Some t) e = let both = and_parts (leads_to_port ss t.port) (serves_port ss t.port t.server) e in named t.server (served_by t.port t.server both.0 both.1)
+    talk_count (Some t) e = let both = and_parts (leads_to_port ss t.port) (serves_port ss t.port t.server) e in
+        named t.server (served_by t.port t.server both.0 both.1)
 
-    fault_count : (o : Option FaultRec) → fault_leads ss o ≡ true → flag_of (holds (λ (fault : Fault). holds (serves z) fault.taker) (option_map (pictured_fault ss) o)) ≤ count p (fault_peers o)
+    fault_count : (o : Option FaultRec) → fault_leads ss o ≡ true
+        → flag_of (holds (λ (fault : Fault). holds (serves z) fault.taker) (option_map (pictured_fault ss) o)) ≤ count p (fault_peers o)
     fault_count None e = omega arith
     fault_count (Some o) e = let both = and_parts (leads_to_port ss o.port) (taker_leads ss o.port o.taker) e in by o.taker both.1 both.0
       where
-        by : (taker : Option Link) → taker_leads ss o.port taker ≡ true → leads_to_port ss o.port ≡ true → flag_of (holds (serves z) (option_map (λ to. peers.Server (ptr ss to)) taker)) ≤ count p (taker_peers taker)
+        by : (taker : Option Link) → taker_leads ss o.port taker ≡ true → leads_to_port ss o.port ≡ true
+            → flag_of (holds (serves z) (option_map (λ to. peers.Server (ptr ss to)) taker)) ≤ count p (taker_peers taker)
         by None e f = omega arith
         by (Some to) e f = named to (served_by o.port to f e)
 
@@ -259,10 +269,12 @@ module _ (i : Image) (tree : IsTree i.spaces) (full : IsFull i.spaces) (lead : s
         let g_times = g.times in
         let f_part = count_at object_peers p f.space.objects f.at f.item f.there in
         let g_part = count_at object_peers p g.space.objects g.at g.item g.there in
-        let number_one = one_place space_peers p ss f.number g.number f.space g.space (most p) f.here g.here (omega (arith, a, f_times, f_part)) (omega (arith, b, g_times, g_part)) in
+        let number_one = one_place space_peers p ss f.number g.number f.space g.space (most p) f.here g.here (omega (arith, a, f_times, f_part))
+        (omega (arith, b, g_times, g_part)) in
         let space_one : f.space ≡ g.space = some (sym f.here ∙ ap (slice_get ss) number_one ∙ g.here) in
         let there2 : slice_get f.space.objects g.at ≡ Some g.item = ap (λ (s : SpaceRec). slice_get s.objects g.at) space_one ∙ g.there in
-        let at_one = one_place object_peers p f.space.objects f.at g.at f.item g.item (space_most f.number f.space f.here) f.there there2 (omega (arith, a, f_times)) (omega (arith, b, g_times)) in
+        let at_one = one_place object_peers p f.space.objects f.at g.at f.item g.item (space_most f.number f.space f.here) f.there there2
+        (omega (arith, a, f_times)) (omega (arith, b, g_times)) in
         let item_one : f.item ≡ g.item = some_item (sym f.there ∙ ap (slice_get f.space.objects) at_one ∙ there2) in
         let slot_one : f.slot ≡ g.slot = sym f.same_slot ∙ ap (λ (o : ObjectRec). o.slot) item_one ∙ g.same_slot in
         f.path ∙ (λ i. slot_one i ∷ space_path ss (number_one i)) ∙ sym g.path
@@ -292,7 +304,8 @@ module _ (i : Image) (tree : IsTree i.spaces) (full : IsFull i.spaces) (lead : s
       clash : {n : ℕ} → Some n ≡ None → ⊥
       clash e = cc
 
-      hit : (n slot space : ℕ) → space_number ss q ≡ Some n → is_some (slice_get ss space) ≡ true → (b : Bool) → serves (j ∷ q) (peers.Server (ptrs.At (slot ∷ space_path ss space))) ≡ b → flag_of b ≤ count (n, j) ((space, slot) ∷ [])
+      hit : (n slot space : ℕ) → space_number ss q ≡ Some n → is_some (slice_get ss space) ≡ true → (b : Bool)
+          → serves (j ∷ q) (peers.Server (ptrs.At (slot ∷ space_path ss space))) ≡ b → flag_of b ≤ count (n, j) ((space, slot) ∷ [])
       hit n slot space number is false e = omega arith
       hit n slot space number is true e =
           let both = tails slot j (space_path ss space) q (same_path_eq (slot ∷ space_path ss space) (j ∷ q) e) in
@@ -300,7 +313,8 @@ module _ (i : Image) (tree : IsTree i.spaces) (full : IsFull i.spaces) (lead : s
           let one = ap flag_of (and_from (space == n) (slot == j) (eq-eqb space n same) (eq-eqb slot j both.0)) in
           omega (arith, one)
 
-      miss : (slot space : ℕ) → space_number ss q ≡ None → is_some (slice_get ss space) ≡ true → (b : Bool) → serves (j ∷ q) (peers.Server (ptrs.At (slot ∷ space_path ss space))) ≡ b → flag_of b ≤ count (0, 0) ((space, slot) ∷ [])
+      miss : (slot space : ℕ) → space_number ss q ≡ None → is_some (slice_get ss space) ≡ true → (b : Bool)
+          → serves (j ∷ q) (peers.Server (ptrs.At (slot ∷ space_path ss space))) ≡ b → flag_of b ≤ count (0, 0) ((space, slot) ∷ [])
       miss slot space number is false e = omega arith
       miss slot space number is true e =
           let both = tails slot j (space_path ss space) q (same_path_eq (slot ∷ space_path ss space) (j ∷ q) e) in

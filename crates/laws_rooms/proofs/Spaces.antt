@@ -1,5 +1,6 @@
 -- A valid image's spaces, each after the one in which it lies.
-use Rattle.std.proofs.Common.{◌≡◌, ℕ, zero, suc, ◌+◌, ◌<◌, ◌≤◌, ◌⊎◌, inl, inr, Bool, true, false, cond, not, ◌||◌, List, [], ◌∷◌, Option, Some, None, option_map, is_some, refl, sym, ap, subst, ◌∙◌, arith}
+use Rattle.std.proofs.Common.{◌≡◌, ℕ, zero, suc, ◌+◌, ◌<◌, ◌≤◌, ◌⊎◌, inl, inr, Bool, true, false, cond, not, ◌||◌, List, [], ◌∷◌, Option, Some, None}
+use Rattle.std.proofs.Common.{option_map, is_some, refl, sym, ap, subst, ◌∙◌, arith}
 use Rattle.std.specs.Prelude.{slice_get}
 use Rattle.std.proofs.lemmas.Bool.{and_parts, false_from_ne_true, or_left, or_right, cases_lt}
 use Rattle.fk_model.specs.declared.names.Kind.TheVariants as kinds
@@ -64,7 +65,8 @@ module _ (i : Image) (tree : IsTree i.spaces) (full : IsFull i.spaces) where
     pub came : (y : Path) → is_among y made ≡ true → IsSpace n y
     pub all : (m : ℕ) → m < n → is_some (slice_get ss (suc m)) ≡ true → is_among (space_path ss (suc m)) made ≡ true
 
-  pub above_made : (d n : ℕ) (made : List Path) → n ≤ d → is_some (slice_get ss n) ≡ true → ((m : ℕ) → m < n → is_some (slice_get ss (suc m)) ≡ true → is_among (space_path ss (suc m)) made ≡ true) → AreMade (space_path ss n) made
+  pub above_made : (d n : ℕ) (made : List Path) → n ≤ d → is_some (slice_get ss n) ≡ true
+      → ((m : ℕ) → m < n → is_some (slice_get ss (suc m)) ≡ true → is_among (space_path ss (suc m)) made ≡ true) → AreMade (space_path ss n) made
   unfolding path_within
   above_made d zero made le is all = tt
   above_made zero (suc n) made le is all = absurd (omega (arith, le))
@@ -74,7 +76,8 @@ module _ (i : Image) (tree : IsTree i.spaces) (full : IsFull i.spaces) where
       let up = path_up ss tree n s.item s.is in
       subst (λ x. AreMade x made) (sym up) (
         ap (λ x. is_among x made) (sym up) ∙ all n (omega arith) is,
-        above_made d s.item.parent made (omega (arith, low, le)) (there_below ss s.item.parent (suc n) (omega (arith, low)) is) (λ m lt at. all m (omega (arith, lt, low)) at),
+        above_made d s.item.parent made (omega (arith, low, le)) (there_below ss s.item.parent (suc n) (omega (arith, low)) is)
+            (λ m lt at. all m (omega (arith, lt, low)) at),
       )
 
   fresh : (n : ℕ) (made : List Path) → AreSpacesTo n made → is_some (slice_get ss (suc n)) ≡ true → is_among (space_path ss (suc n)) made ≡ false
@@ -90,18 +93,22 @@ module _ (i : Image) (tree : IsTree i.spaces) (full : IsFull i.spaces) where
       came y (inl e) = record { before = n; low = omega arith; is = is; path = e }
       came y (inr h) = let s = st.came y h in let low = s.low in record { before = s.before; low = omega (arith, low); is = s.is; path = s.path }
 
-      all : (m : ℕ) → is_some (slice_get ss (suc m)) ≡ true → (m < n) ⊎ (n ≤ m) → m < suc n → is_among (space_path ss (suc m)) (space_path ss (suc n) ∷ made) ≡ true
+      all : (m : ℕ) → is_some (slice_get ss (suc m)) ≡ true → (m < n) ⊎ (n ≤ m) → m < suc n
+          → is_among (space_path ss (suc m)) (space_path ss (suc n) ∷ made) ≡ true
       all m at (inl lt) le = among_tail (space_path ss (suc m)) (space_path ss (suc n)) made (st.all m lt at)
-      all m at (inr ge) le = let same : suc m ≡ suc n = omega (arith, ge, le) in subst (λ x. is_among (space_path ss (suc m)) (x ∷ made) ≡ true) (ap (space_path ss) same) (among_head (space_path ss (suc m)) made)
+      all m at (inr ge) le = let same : suc m ≡ suc n = omega (arith, ge, le) in
+          subst (λ x. is_among (space_path ss (suc m)) (x ∷ made) ≡ true) (ap (space_path ss) same) (among_head (space_path ss (suc m)) made)
 
   -- ---- holders
 
   module _ (nested : IsNested ss) (lead : spaces_lead ss 0 ss ≡ true) (bind : ℕ → ℕ) (low : IsBinding bind) where
     -- what lies in a slot lies in a space only if its own space does, or it is that space
-    not_within : (n slot other : ℕ) → is_some (slice_get ss n) ≡ true → is_some (slice_get ss other) ≡ true → there c (slot ∷ space_path ss other) ≡ Some kinds.Thread → is_space_within ss n other ≡ false →
+    not_within : (n slot other : ℕ) → is_some (slice_get ss n) ≡ true → is_some (slice_get ss other) ≡ true
+        → there c (slot ∷ space_path ss other) ≡ Some kinds.Thread → is_space_within ss n other ≡ false →
         is_within (space_path ss n) (slot ∷ space_path ss other) ≡ false
     unfolding strip
-    not_within n slot other is other_is at off = by (same_path (slot ∷ space_path ss other) (space_path ss n)) refl (strip (space_path ss n) (space_path ss other)) refl
+    not_within n slot other is other_is at off = by (same_path (slot ∷ space_path ss other) (space_path ss n)) refl
+        (strip (space_path ss n) (space_path ss other)) refl
       where
         clash : true ≡ false → ⊥
         clash e = cc
@@ -109,12 +116,15 @@ module _ (i : Image) (tree : IsTree i.spaces) (full : IsFull i.spaces) where
         kinds_differ : Some kinds.Thread ≡ Some kinds.Space → ⊥
         kinds_differ e = cc
 
-        by : (b : Bool) → same_path (slot ∷ space_path ss other) (space_path ss n) ≡ b → (o : Option Path) → strip (space_path ss n) (space_path ss other) ≡ o → is_some (cond b (Some []) (option_map (λ q. slot ∷ q) o)) ≡ false
-        by true p o e = absurd (kinds_differ (sym at ∙ ap (there c) (same_path_eq (slot ∷ space_path ss other) (space_path ss n) p) ∙ space_there i tree full n is))
+        by : (b : Bool) → same_path (slot ∷ space_path ss other) (space_path ss n) ≡ b → (o : Option Path) → strip (space_path ss n) (space_path ss other) ≡ o
+            → is_some (cond b (Some []) (option_map (λ q. slot ∷ q) o)) ≡ false
+        by true p o e = absurd (kinds_differ (sym at ∙ ap (there c) (same_path_eq (slot ∷ space_path ss other) (space_path ss n) p)
+            ∙ space_there i tree full n is))
         by false p None e = refl
         by false p (Some q) e = absurd (clash (sym (within_by_number ss tree nested n other is other_is (ap is_some e)) ∙ off))
 
-    holder_in : (n : ℕ) (to : Link) → is_some (slice_get ss n) ≡ true → may_hold ss n to ≡ true → IsHolderAim c (pictured_holder ss to) × IsOutside (space_path ss n) (pictured_holder ss to)
+    holder_in : (n : ℕ) (to : Link) → is_some (slice_get ss n) ≡ true → may_hold ss n to ≡ true
+        → IsHolderAim c (pictured_holder ss to) × IsOutside (space_path ss n) (pictured_holder ss to)
     holder_in n Null is e = (tt, tt)
     holder_in n Dead is e = absurd cc
     holder_in n (Out slot) is e = absurd cc
@@ -146,7 +156,8 @@ module _ (i : Image) (tree : IsTree i.spaces) (full : IsFull i.spaces) where
       pub spaces : AreSpaces c (rooms_from ss n xs) made
       pub made_all : AllAreSpaces (with_spaces (rooms_from ss n xs) made)
 
-    rest_of : (xs : List SpaceRec) (n : ℕ) (made : List Path) → ((j : ℕ) → slice_get xs j ≡ slice_get ss (suc n + j)) → AreSpacesTo n made → Rest (suc n) xs made
+    rest_of : (xs : List SpaceRec) (n : ℕ) (made : List Path) → ((j : ℕ) → slice_get xs j ≡ slice_get ss (suc n + j)) → AreSpacesTo n made
+        → Rest (suc n) xs made
     unfolding picture
     rest_of [] n made agree st = record {
       spaces = tt;
@@ -210,7 +221,8 @@ module _ (i : Image) (tree : IsTree i.spaces) (full : IsFull i.spaces) where
         none e = cc
     all_spaces (s ∷ xs) e =
         let here : slice_get ss 0 ≡ Some s = ap (λ ys. slice_get ys 0) e in
-        let r = rest_of xs 0 [] (λ j. shift j ∙ ap (λ ys. slice_get ys (1 + j)) (sym e)) (record { came = λ y f. absurd cc; all = λ m lt at. absurd (omega (arith, lt)) }) in
+        let r = rest_of xs 0 [] (λ j. shift j ∙ ap (λ ys. slice_get ys (1 + j)) (sym e))
+        (record { came = λ y f. absurd cc; all = λ m lt at. absurd (omega (arith, lt)) }) in
         ((first s (full.first s here), r.spaces), r.made_all)
       where
         shift : (j : ℕ) → slice_get xs j ≡ slice_get (s ∷ xs) (1 + j)

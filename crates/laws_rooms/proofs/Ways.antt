@@ -1,5 +1,6 @@
 -- Where the pointers of a picture lead, by path.
-use Rattle.std.proofs.Common.{◌≡◌, ℕ, zero, suc, ◌≤◌, Bool, true, false, ◌&&◌, ◌||◌, ◌==◌, List, [], ◌∷◌, drop, Option, Some, None, option_map, is_some, refl, sym, ap, subst, ◌∙◌, arith, eqb-true}
+use Rattle.std.proofs.Common.{◌≡◌, ℕ, zero, suc, ◌≤◌, Bool, true, false, ◌&&◌, ◌||◌, ◌==◌, List, [], ◌∷◌, drop, Option, Some, None, option_map, is_some, refl}
+use Rattle.std.proofs.Common.{sym, ap, subst, ◌∙◌, arith, eqb-true}
 use Rattle.std.specs.Prelude.{slice_get}
 use Rattle.std.specs.List.{list_any}
 use Rattle.fk_model.specs.declared.names.Kind.{Kind}
@@ -111,8 +112,12 @@ module _ (i : Image) (tree : IsTree i.spaces) (full : IsFull i.spaces) where
       let above = there_below ss s.item.parent (suc n) (omega (arith, low)) is in
       let up = path_up ss tree n s.item s.is in
       let slot = full.slots n s.item s.is in
-      subst (λ x. IsWay (there c) x) (sym up)
-      (ap is_referable (ap (there c) (sym up) ∙ space_there (suc n) is), omega (arith, slot), space_there s.item.parent above, way_by d s.item.parent (omega (arith, low, le)) above)
+      subst (λ x. IsWay (there c) x) (sym up) (
+        ap is_referable (ap (there c) (sym up) ∙ space_there (suc n) is),
+        omega (arith, slot),
+        space_there s.item.parent above,
+        way_by d s.item.parent (omega (arith, low, le)) above,
+      )
 
   pub way : (n : ℕ) → is_some (slice_get ss n) ≡ true → IsWay (there c) (space_path ss n)
   way n is = way_by n n (omega arith) is
@@ -133,7 +138,8 @@ module _ (i : Image) (tree : IsTree i.spaces) (full : IsFull i.spaces) where
       let in_range = ranged 0 k.item.objects slot k.body (rising k.item.objects (full.objects space k.item k.here)) k.at in
       let low = in_range.slot in
       record {
-        found = ap (option_map kind_of) (object_at ss tree space slot k.item k.body k.here k.at) ∙ ap (λ (kind : Kind). Some kind) (kind_pictured ss k.body) ∙ sym (kind_is k.item k.body k.here k.at);
+        found = ap (option_map kind_of) (object_at ss tree space slot k.item k.body k.here k.at) ∙ ap (λ (kind : Kind). Some kind) (kind_pictured ss k.body)
+            ∙ sym (kind_is k.item k.body k.here k.at);
         low = omega (arith, low);
         above = is_there (slice_get ss space) k.item k.here;
       }
@@ -141,16 +147,19 @@ module _ (i : Image) (tree : IsTree i.spaces) (full : IsFull i.spaces) where
       kind_is : (s : SpaceRec) (r : Rec) → slice_get ss space ≡ Some s → rec_in s.objects slot ≡ Some r → kind_in_space ss space slot ≡ Some (kind_of_rec r)
       kind_is s r here at = ap (kind_of_space slot) here ∙ kind_by_rec s.objects slot ∙ ap (option_map kind_of_rec) at
 
-  space_in : (xs : List SpaceRec) (space slot : ℕ) → list_any (lies_in space slot) xs ≡ true → (n : ℕ) × (s : SpaceRec) × (slice_get xs n ≡ Some s) × (s.parent ≡ space) × (s.slot ≡ slot)
+  space_in : (xs : List SpaceRec) (space slot : ℕ) → list_any (lies_in space slot) xs ≡ true
+      → (n : ℕ) × (s : SpaceRec) × (slice_get xs n ≡ Some s) × (s.parent ≡ space) × (s.slot ≡ slot)
   space_in [] space slot e = absurd cc
   space_in (s ∷ xs) space slot e = by (s.parent == space) refl (s.slot == slot) refl (space_in xs space slot) e
     where
-      later : ((n : ℕ) × (t : SpaceRec) × (slice_get xs n ≡ Some t) × (t.parent ≡ space) × (t.slot ≡ slot)) → (n : ℕ) × (t : SpaceRec) × (slice_get (s ∷ xs) n ≡ Some t) × (t.parent ≡ space) × (t.slot ≡ slot)
+      later : ((n : ℕ) × (t : SpaceRec) × (slice_get xs n ≡ Some t) × (t.parent ≡ space) × (t.slot ≡ slot))
+          → (n : ℕ) × (t : SpaceRec) × (slice_get (s ∷ xs) n ≡ Some t) × (t.parent ≡ space) × (t.slot ≡ slot)
       later f = (suc f.0, f.1, f.2, f.3, f.4)
 
       by : (a : Bool) → (s.parent == space) ≡ a → (b : Bool) → (s.slot == slot) ≡ b →
           (list_any (lies_in space slot) xs ≡ true → (n : ℕ) × (t : SpaceRec) × (slice_get xs n ≡ Some t) × (t.parent ≡ space) × (t.slot ≡ slot)) →
-          ((a && b) || list_any (lies_in space slot) xs) ≡ true → (n : ℕ) × (t : SpaceRec) × (slice_get (s ∷ xs) n ≡ Some t) × (t.parent ≡ space) × (t.slot ≡ slot)
+          ((a && b) || list_any (lies_in space slot) xs) ≡ true
+          → (n : ℕ) × (t : SpaceRec) × (slice_get (s ∷ xs) n ≡ Some t) × (t.parent ≡ space) × (t.slot ≡ slot)
       by true p true q rest e = (0, s, refl, eqb-true s.parent space p, eqb-true s.slot slot q)
       by true p false q rest e = later (rest e)
       by false p b q rest e = later (rest e)
@@ -161,7 +170,8 @@ module _ (i : Image) (tree : IsTree i.spaces) (full : IsFull i.spaces) where
       let f = space_in (drop 1 ss) space slot e in
       let here = sym (behind_first ss f.0) ∙ f.2 in
       let is = is_there (slice_get ss (suc f.0)) f.1 here in
-      let path : space_path ss (suc f.0) ≡ slot ∷ space_path ss space = path_up ss tree f.0 f.1 here ∙ ap (λ k. k ∷ space_path ss f.1.parent) f.4 ∙ ap (λ n. slot ∷ space_path ss n) f.3 in
+      let path : space_path ss (suc f.0) ≡ slot ∷ space_path ss space = path_up ss tree f.0 f.1 here ∙ ap (λ k. k ∷ space_path ss f.1.parent) f.4
+      ∙ ap (λ n. slot ∷ space_path ss n) f.3 in
       let at = f.4 in
       let low = full.slots f.0 f.1 here in
       let under = tree.low f.0 f.1 here in
@@ -172,7 +182,8 @@ module _ (i : Image) (tree : IsTree i.spaces) (full : IsFull i.spaces) where
       }
 
   -- no space stands where an object does
-  pub not_both : (n k : ℕ) (s : SpaceRec) (r : Rec) (m : ℕ) → slice_get ss n ≡ Some s → rec_in s.objects k ≡ Some r → is_some (slice_get ss (suc m)) ≡ true → k ∷ space_path ss n ≡ space_path ss (suc m) → ⊥
+  pub not_both : (n k : ℕ) (s : SpaceRec) (r : Rec) (m : ℕ) → slice_get ss n ≡ Some s → rec_in s.objects k ≡ Some r → is_some (slice_get ss (suc m)) ≡ true
+      → k ∷ space_path ss n ≡ space_path ss (suc m) → ⊥
   unfolding picture
   not_both n k s r m here at is e = by r (sym (ap (option_map kind_of) (object_at ss tree n k s r here at)) ∙ ap (there c) e ∙ space_there (suc m) is)
     where

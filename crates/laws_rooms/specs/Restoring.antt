@@ -38,19 +38,23 @@ pub record IsRestoreJob (slot : ℕ) (i : Image) (pairs : List (ℕ × ℕ)) : T
 
 -- done, it leaves a plain subtree that is the image's picture with its ports bound
 abbrev pub ImageIsRestored : Type 0
-ImageIsRestored = (slot birth : ℕ) (i : Image) (pairs : List (ℕ × ℕ)) → IsRestoreJob slot i pairs → Restores (restore_of slot i pairs) birth slot (bound_by pairs) (picture i) is_done Makes
+ImageIsRestored = (slot birth : ℕ) (i : Image) (pairs : List (ℕ × ℕ)) (w : World) (nester : Path) → IsRestoreJob slot i pairs
+    → Restores (restore_of slot i pairs) birth slot (bound_by pairs) (picture i) is_done w nester Makes
 
 abbrev pub ImageRestoreEndsSo : Type 0
-ImageRestoreEndsSo = (slot birth : ℕ) (i : Image) (pairs : List (ℕ × ℕ)) (w v : World) (nester : Path) (t : State) (end : End) → IsRestoreJob slot i pairs → MayBegin w nester birth →
+ImageRestoreEndsSo = (slot birth : ℕ) (i : Image) (pairs : List (ℕ × ℕ)) (w v : World) (nester : Path) (t : State) (end : End) → IsRestoreJob slot i pairs
+    → MayBegin w nester birth →
     AtWork (restore_of slot i pairs) nester w Makes v t → (restore_of slot i pairs).head t ≡ Stops end → EndsSo w v nester slot (bound_by pairs) (picture i) end
 
 -- each of its calls is owed
 abbrev pub ImageRestoreIsOwed : Type 0
 ImageRestoreIsOwed = (slot birth : ℕ) (i : Image) (pairs : List (ℕ × ℕ)) (w : World) (nester : Path) → IsRestoreJob slot i pairs → MayBegin w nester birth →
     ((stage : Stage) (words : List ℕ) → (restore_of slot i pairs).head Makes ≡ Asks stage words → IsOwedCall w nester stage words) ×
-    ((v : World) (t : State) → AtWork (restore_of slot i pairs) nester w Makes v t → (stage : Stage) (words : List ℕ) → (restore_of slot i pairs).head t ≡ Asks stage words → IsOwedCall v nester stage words)
+    ((v : World) (t : State) → AtWork (restore_of slot i pairs) nester w Makes v t → (stage : Stage) (words : List ℕ)
+    → (restore_of slot i pairs).head t ≡ Asks stage words → IsOwedCall v nester stage words)
 
 -- in every run, however it ends
 abbrev pub ImageRestoreIsBounded : Type 0
-ImageRestoreIsBounded = (slot : ℕ) (i : Image) (pairs : List (ℕ × ℕ)) (d : ℕ) (w v : World) (nester : Path) (t : State) → IsRestoreJob slot i pairs → LiesWithin (picture i) d →
+ImageRestoreIsBounded = (slot : ℕ) (i : Image) (pairs : List (ℕ × ℕ)) (d : ℕ) (w v : World) (nester : Path) (t : State) → IsRestoreJob slot i pairs
+    → LiesWithin (picture i) d →
     (work : AtWork (restore_of slot i pairs) nester w Makes v t) → calls_made work ≤ 40 * ((count_of (rooms_of i) + 1) * (d + 1))

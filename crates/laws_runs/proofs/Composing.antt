@@ -1,5 +1,6 @@
 -- A run is composed: by induction over its moves.
-use Rattle.std.proofs.Common.{◌≡◌, ℕ, zero, suc, ◌+◌, ◌<◌, ◌≤◌, arith, Bool, true, false, nat_le, IsSome, List, [], ◌∷◌, ◌++◌, length, take, Option, Some, None, ◌⊎◌, inl, inr, refl, sym, ap, ◌∙◌, subst, option_map, length-append}
+use Rattle.std.proofs.Common.{◌≡◌, ℕ, zero, suc, ◌+◌, ◌<◌, ◌≤◌, arith, Bool, true, false, nat_le, IsSome, List, [], ◌∷◌, ◌++◌, length, take, Option, Some, None}
+use Rattle.std.proofs.Common.{◌⊎◌, inl, inr, refl, sym, ap, ◌∙◌, subst, option_map, length-append}
 use Rattle.std.proofs.lemmas.Bool.{leb-true, leb-false, le-leb, lt-leb}
 use Rattle.std.proofs.lemmas.List.{take-append-le}
 use Rattle.std.specs.List.{slice_get}
@@ -25,7 +26,8 @@ use Rattle.laws_savable.specs.Savable.{Owes, IsSound}
 use Rattle.laws_savable.proofs.Laws.{keeps_savable}
 use Rattle.laws_jobs.specs.Machines.{Head, heard, call_of, said_of, IsReadyAt}
 use Rattle.laws_jobs.specs.Machines.Head.{Stops, Asks}
-use Rattle.laws_runs.specs.Cores.{JobEnd, House, Work, Core, current, asker, work_of, IsReadyBy, IsReadyIn, others_moved, job_moved, job_hears, moved_by, moved, with_end, Settles, IsRun, world_at, Asker}
+use Rattle.laws_runs.specs.Cores.{JobEnd, House, Work, Core, current, asker, work_of, IsReadyBy, IsReadyIn, others_moved, job_moved, job_hears, moved_by, moved}
+use Rattle.laws_runs.specs.Cores.{with_end, Settles, IsRun, world_at, Asker}
 use Rattle.laws_runs.specs.Cores.JobEnd.{Worked, Idle}
 use Rattle.laws_runs.specs.Cores.Asker.{Nobody, Others, Job}
 use Rattle.laws_runs.specs.Cores.Settles.{Stays, Ends}

@@ -1,5 +1,6 @@
 -- How each job of a run has ended: by induction over its moves.
-use Rattle.std.proofs.Common.{◌≡◌, ℕ, ◌+◌, ◌<◌, ◌≤◌, arith, List, [], ◌∷◌, ◌++◌, length, take, Option, Some, None, ◌⊎◌, inl, inr, refl, sym, ap, ◌∙◌, subst, length-append}
+use Rattle.std.proofs.Common.{◌≡◌, ℕ, ◌+◌, ◌<◌, ◌≤◌, arith, List, [], ◌∷◌, ◌++◌, length, take, Option, Some, None, ◌⊎◌, inl, inr, refl, sym, ap, ◌∙◌, subst}
+use Rattle.std.proofs.Common.{length-append}
 use Rattle.std.proofs.lemmas.Bool.{le-leb, lt-leb, lt-ltb, le-ltb}
 use Rattle.std.proofs.lemmas.List.{take-append-le}
 use Rattle.std.specs.List.{slice_get}
@@ -12,7 +13,8 @@ use Rattle.fk_model.specs.Runs.{Event}
 use Rattle.fk_model.specs.Who.{event_of}
 use Rattle.laws_jobs.specs.Machines.{Head, heard, said_of}
 use Rattle.laws_jobs.specs.Machines.Head.{Stops, Asks}
-use Rattle.laws_runs.specs.Cores.{Unmoved, JobEnd, House, Work, Core, current, Asker, asker, work_of, IsReadyBy, IsReadyIn, IsGone, others_moved, job_moved, job_hears, moved_by, moved, with_end, EndsFor, Settles, IsRun, world_at}
+use Rattle.laws_runs.specs.Cores.{Unmoved, JobEnd, House, Work, Core, current, Asker, asker, work_of, IsReadyBy, IsReadyIn, IsGone, others_moved, job_moved}
+use Rattle.laws_runs.specs.Cores.{job_hears, moved_by, moved, with_end, EndsFor, Settles, IsRun, world_at}
 use Rattle.laws_runs.specs.Cores.Unmoved.{NoImage, Dead}
 use Rattle.laws_runs.specs.Cores.JobEnd.{Worked, Idle}
 use Rattle.laws_runs.specs.Cores.Asker.{Nobody, Others, Job}
@@ -91,7 +93,8 @@ module _ {J S A V : Type 0} (h : House J S A V) (first : Core S A V) where
   settled_here _ _ (Stays v none) = refl
   settled_here _ _ (Ends v d why now rest) = settled_here (with_end v why) d rest
 
-  module _ (past : List Move) (c : Core S A V) (m : Move) (d : Core S A V) (run : IsRun h first past c) (ready : IsReadyIn h c m) (settles : Settles h (moved h c m) d) (before : Holds run) where
+  module _ (past : List Move) (c : Core S A V) (m : Move) (d : Core S A V) (run : IsRun h first past c) (ready : IsReadyIn h c m)
+      (settles : Settles h (moved h c m) d) (before : Holds run) where
     abbrev all : IsRun h first (past ++ m ∷ []) d
     all = Goes past c m d run ready settles
 

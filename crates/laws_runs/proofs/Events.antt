@@ -1,5 +1,6 @@
 -- A history as its events, and as turns from core to core.
-use Rattle.std.proofs.Common.{◌≡◌, ℕ, zero, suc, Some, ◌+◌, ◌<◌, ◌≤◌, Bool, true, false, cond, nat_le, List, [], ◌∷◌, ◌++◌, length, take, refl, sym, ap, subst, arith, length-append, ◌⊎◌, inl, inr, ◌∙◌}
+use Rattle.std.proofs.Common.{◌≡◌, ℕ, zero, suc, Some, ◌+◌, ◌<◌, ◌≤◌, Bool, true, false, cond, nat_le, List, [], ◌∷◌, ◌++◌, length, take, refl, sym, ap, subst}
+use Rattle.std.proofs.Common.{arith, length-append, ◌⊎◌, inl, inr, ◌∙◌}
 use Rattle.std.specs.List.{slice_get}
 use Rattle.std.proofs.lemmas.Bool.{le-leb, lt-leb, lt-ltb, le-ltb}
 use Rattle.std.proofs.lemmas.List.{take-append-le}
@@ -10,7 +11,8 @@ use Rattle.fk_model.specs.Runs.{Event, after, IsLegal, run as world_after}
 use Rattle.fk_model.specs.Who.{event_of}
 use Rattle.laws_jobs.specs.Machines.{Head, heard, said_of, IsReadyAt}
 use Rattle.laws_jobs.specs.Machines.Head.{Stops, Asks}
-use Rattle.laws_runs.specs.Cores.{House, Core, Asker, asker, IsReadyBy, IsReadyIn, others_moved, job_moved, job_hears, moved_by, moved, with_end, Settles, IsRun, world_at}
+use Rattle.laws_runs.specs.Cores.{House, Core, Asker, asker, IsReadyBy, IsReadyIn, others_moved, job_moved, job_hears, moved_by, moved, with_end, Settles}
+use Rattle.laws_runs.specs.Cores.{IsRun, world_at}
 use Rattle.laws_runs.specs.Cores.Asker.{Nobody, Others, Job}
 use Rattle.laws_runs.specs.Cores.Settles.{Stays, Ends}
 use Rattle.laws_runs.specs.Cores.IsRun.{Begins, Goes}
@@ -127,7 +129,8 @@ module _ {J S A V : Type 0} (h : House J S A V) (first : Core S A V) where
 
   -- ---- events
 
-  module _ (past : List Move) (c : Core S A V) (m : Move) (d : Core S A V) (run : IsRun h first past c) (ready : IsReadyIn h c m) (settles : Settles h (moved h c m) d) (before : IsItsEvents run) where
+  module _ (past : List Move) (c : Core S A V) (m : Move) (d : Core S A V) (run : IsRun h first past c) (ready : IsReadyIn h c m)
+      (settles : Settles h (moved h c m) d) (before : IsItsEvents run) where
     abbrev all : IsRun h first (past ++ m ∷ []) d
     all = Goes past c m d run ready settles
 

@@ -48,9 +48,9 @@ restores_hold h first c past run users tidy start left index job slot bind saved
     let e = (composed h first c past run users tidy start left).ended index end begun last ended in
     let w = e.worked in
     let one : w.job ≡ job = (let two = w.its in cc) in
-    let law = restores w.start (subst (λ j. h.begins j (take index c.ends) ≡ Some w.start) one w.starts) in
     let may = subst (λ b. MayBegin (world_at run begun) w.nester b) (ap h.nester one) w.may in
-    let got = law.gives (world_at run begun) w.nester (world_at run (last + 1)) e.state end may e.there.work e.stopped done in
+    let law = restores w.nester w.start may.named (subst (λ j. h.begins j (take index c.ends) ≡ Some w.start) one w.starts) in
+    let got = law.gives (world_at run (last + 1)) e.state end may e.there.work e.stopped done in
     record { nester = w.nester; named = may.named; plain = got.0; cut_there = got.1 }
 
 pub restored_go_on : {J S A V : Type 0} → RestoredGoOn J S A V

@@ -1,5 +1,6 @@
 -- A job at work, at the places of its run.
-use Rattle.std.proofs.Common.{◌≡◌, ℕ, zero, suc, ◌+◌, ◌<◌, ◌≤◌, true, false, arith, List, [], ◌∷◌, ◌++◌, length, take, IsSome, Option, Some, None, refl, sym, ap, ◌∙◌, subst, option_map}
+use Rattle.std.proofs.Common.{◌≡◌, ℕ, zero, suc, ◌+◌, ◌<◌, ◌≤◌, true, false, arith, List, [], ◌∷◌, ◌++◌, length, take, IsSome, Option, Some, None, refl, sym}
+use Rattle.std.proofs.Common.{ap, ◌∙◌, subst, option_map}
 use Rattle.std.specs.List.{slice_get}
 use Rattle.std.proofs.lemmas.List.{length-take-le}
 use Rattle.fk_model.specs.declared.limits.TheConstants.{LAST_PORTER_SLOT}
@@ -23,7 +24,8 @@ use Rattle.laws_jobs.specs.Machines.Head.{Stops, Asks}
 use Rattle.laws_jobs.specs.Machines.Interleaved.{Here, Another, Own}
 use Rattle.laws_jobs.specs.Jobs.{IsClean, MayBegin}
 use Rattle.laws_jobs.proofs.Filling.{users_due}
-use Rattle.laws_runs.specs.Cores.{House, JobEnd, Work, Core, current, Asker, asker, work_of, IsReadyBy, others_moved, job_moved, job_hears, moved_by, Settles, IsRun, world_at}
+use Rattle.laws_runs.specs.Cores.{House, JobEnd, Work, Core, current, Asker, asker, work_of, IsReadyBy, others_moved, job_moved, job_hears, moved_by, Settles}
+use Rattle.laws_runs.specs.Cores.{IsRun, world_at}
 use Rattle.laws_runs.specs.Cores.Asker.{Nobody, Others, Job}
 use Rattle.laws_runs.specs.Cores.JobEnd.{Worked}
 use Rattle.laws_runs.specs.Composed.{AskAsUsers, AreTidy, IsStart}
@@ -37,7 +39,8 @@ use Rattle.laws_runs.proofs.Turning.{moves_in_history}
 use Rattle.laws_runs.proofs.Events.{settled_world, core_world, core_begins, turn_at}
 use Rattle.laws_runs.proofs.Ended.{settled_work, settled_still, ends_are_so}
 
-module _ {J S A V T B : Type 0} {h : House J S A V} {first c : Core S A V} {past : List Move} (run : IsRun h first past c) (m : Machine T B) (into : T → S) (nester : Path) (begun : ℕ) where
+module _ {J S A V T B : Type 0} {h : House J S A V} {first c : Core S A V} {past : List Move} (run : IsRun h first past c) (m : Machine T B) (into : T → S)
+    (nester : Path) (begun : ℕ) where
   -- ---- one move more, at its place
 
   others_there : (w : World) (s : T) (es : List Event) (v : World) (t : T) (e : Event) (k n : ℕ) (iv : Interleaved m nester w s es v t)
@@ -177,7 +180,8 @@ module _ {J S A V : Type 0} (h : House J S A V) (first : Core S A V) (users : As
 
   module _ (k : ℕ) (low : k < length past) (begun : ℕ) (t : S) (stage : Stage) (words : List ℕ) (m : Move) (mine : asker_at run k ≡ Job begun t stage words)
       (asks_it : JobAsks h (at k) m.who begun t stage words)
-      (ready : IsReadyAt (world_at run k) (event_of (world_at run k) (asks.Call stage words) m)) (goes : world_at run (k + 1) ≡ after (world_at run k) (event_of (world_at run k) (asks.Call stage words) m)) where
+      (ready : IsReadyAt (world_at run k) (event_of (world_at run k) (asks.Call stage words) m))
+      (goes : world_at run (k + 1) ≡ after (world_at run k) (event_of (world_at run k) (asks.Call stage words) m)) where
     abbrev w : World
     w = world_at run k
 
@@ -212,7 +216,8 @@ module _ {J S A V : Type 0} (h : House J S A V) (first : Core S A V) (users : As
           may = its.may;
           longer = subst (λ (e : Event). Longer k begun its.nester its.begins (heard h.machine t (said_of w e)) (world_at run (k + 1))) (sym is)
               (subst (λ (v : World). Longer k begun its.nester its.begins (heard h.machine t (said_of w call)) v) (sym (goes ∙ ap (after w) is)) (record {
-                work = record { stage = work.stage; words = work.words; asked = work.asked; ready = work.ready; events = work.events ++ call ∷ []; run = more.0 };
+                work = record { stage = work.stage; words = work.words; asked = work.asked; ready = work.ready; events = work.events ++ call
+                    ∷ []; run = more.0 };
                 there = record { first_asks = its.there.first_asks; placed = more.1 };
                 long = omega (arith, grows, long);
               }));

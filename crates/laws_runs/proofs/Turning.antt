@@ -1,5 +1,6 @@
 -- A job's move in its run.
-use Rattle.std.proofs.Common.{◌≡◌, ℕ, ◌+◌, ◌<◌, ◌≤◌, Bool, true, false, cond, nat_lt, IsSome, List, [], ◌∷◌, ◌++◌, length, length-append, Option, Some, None, ◌⊎◌, inl, inr, refl, sym, ap, ◌∙◌, subst, option_map, arith}
+use Rattle.std.proofs.Common.{◌≡◌, ℕ, ◌+◌, ◌<◌, ◌≤◌, Bool, true, false, cond, nat_lt, IsSome, List, [], ◌∷◌, ◌++◌, length, length-append, Option, Some, None}
+use Rattle.std.proofs.Common.{◌⊎◌, inl, inr, refl, sym, ap, ◌∙◌, subst, option_map, arith}
 use Rattle.std.proofs.lemmas.Bool.{le-leb, lt-leb, ltb-true, ltb-false}
 use Rattle.fk_model.specs.declared.limits.TheConstants.{LAST_PORTER_SLOT}
 use Rattle.fk_model.specs.declared.moves.Ask.TheVariants as asks
@@ -248,4 +249,5 @@ module _ {J S A V : Type 0} (h : House J S A V) (first : Core S A V) (users : As
           (omega (arith, early, here), moves_now past c m d run ready settles stand enough k begun t stage words here e early)
 
 pub moves_in_history : {J S A V : Type 0} → JobsMovesInHistory J S A V
-moves_in_history h first c past run users tidy start left k begun t stage words low e = (moves_at h first users tidy start run left k begun t stage words low e).1
+moves_in_history h first c past run users tidy start left k begun t stage words low e =
+    (moves_at h first users tidy start run left k begun t stage words low e).1

@@ -17,7 +17,8 @@ use Rattle.laws_runs.specs.Turning.{asker_at}
 use Rattle.laws_runs.specs.Events.{core_at}
 
 -- a move of the history that a job asks for in a state
-pub record AsksAt {J S A V : Type 0} {h : House J S A V} {first c : Core S A V} {past : List Move} (run : IsRun h first past c) (k begun : ℕ) (s : S) : Type 0 where
+pub record AsksAt {J S A V : Type 0} {h : House J S A V} {first c : Core S A V} {past : List Move} (run : IsRun h first past c)
+    (k begun : ℕ) (s : S) : Type 0 where
   pub stage : Stage
   pub words : List ℕ
   pub asked : h.machine.head s ≡ Asks stage words

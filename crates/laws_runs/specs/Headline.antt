@@ -49,7 +49,8 @@ abbrev pub RestoresHold : Type 0 → Type 0 → Type 0 → Type 0 → Type 0
 RestoresHold J S A V = (h : House J S A V) (first c : Core S A V) (past : List Move) (run : IsRun h first past c) →
     AskAsUsers h → AreTidy h → IsStart first → first.world.next + length past ≤ depth →
     (index : ℕ) (job : J) (slot : ℕ) (bind : ℕ → ℕ) (saved : World) (is_done : A → Bool) (end : A) (begun last : ℕ) → slice_get h.jobs index ≡ Some job →
-    ((s : S) → h.begins job (take index c.ends) ≡ Some s → Restores h.machine (h.nester job) slot bind saved is_done s) →
+    ((nester : Path) (s : S) → birth_at (world_at run begun) nester ≡ Some (h.nester job) → h.begins job (take index c.ends) ≡ Some s →
+    Restores h.machine (h.nester job) slot bind saved is_done (world_at run begun) nester s) →
     slice_get c.ends index ≡ Some (Worked end begun last) → is_done end ≡ true → Restored run (h.nester job) slot begun last bind saved
 
 -- what was restored has exactly the further runs of what was saved, with its ports bound

@@ -1,11 +1,13 @@
 -- What an instruction asks for: the codes with which it halts are bytes, and what it writes or jumps to is a word.
-use Rattle.std.proofs.Common.{ℕ, ◌+◌, ◌-◌, ◌*◌, ◌/◌, ◌%◌, ◌^◌, ◌<◌, ◌≤◌, Bool, true, false, if◌then◌else◌, ◌&&◌, ◌==◌, nat_le, nat_lt, List, Option, Some, None, bit_and, bit_or, bit_xor, refl, arith}
+use Rattle.std.proofs.Common.{ℕ, ◌+◌, ◌-◌, ◌*◌, ◌/◌, ◌%◌, ◌^◌, ◌<◌, ◌≤◌, Bool, true, false, if◌then◌else◌, ◌&&◌, ◌==◌, nat_le, nat_lt, List, Option, Some, None}
+use Rattle.std.proofs.Common.{bit_and, bit_or, bit_xor, refl, arith}
 use Rattle.std.proofs.Math.Nat.{mod-lt, mod-le, div-le_self}
 use Rattle.std.proofs.lemmas.Nat.{and_le_l, or_lt, xor_lt}
 use Rattle.fk_model.specs.declared.instruction.Act.{Act}
 use Rattle.fk_model.specs.declared.instruction.Act.TheVariants.{Put, Jump, Load, Store, Halt, Call}
 use Rattle.fk_model.specs.declared.instruction.Instr.{Instr}
-use Rattle.fk_model.specs.declared.instruction.operation.TheConstants.{HALT, SET, MOV, ADD, SUB, MUL, AND, OR, XOR, SHL, SHR, DIV, REM, LOAD, STORE, JMP, JZ, JNZ, JLT, ADDI, CALL}
+use Rattle.fk_model.specs.declared.instruction.operation.TheConstants.{HALT, SET, MOV, ADD, SUB, MUL, AND, OR, XOR, SHL, SHR, DIV, REM, LOAD, STORE, JMP, JZ}
+use Rattle.fk_model.specs.declared.instruction.operation.TheConstants.{JNZ, JLT, ADDI, CALL}
 use Rattle.fk_model.specs.Instructions.{act, act_in, act_on, put_or_halt, combined, next, sign_extended}
 use Rattle.laws_savable.proofs.Words.{IsWord, AreWords, below-word, word-below, words-at}
 

@@ -1,5 +1,6 @@
 -- What a stage answers is words: slots, pages, kinds, counts and records.
-use Rattle.std.proofs.Common.{◌≡◌, ℕ, zero, suc, ◌+◌, ◌-◌, ◌<◌, ◌≤◌, Bool, true, false, if◌then◌else◌, not, ◌&&◌, nat_le, nat_lt, IsSome, is_none, List, [], ◌∷◌, ◌++◌, length, Option, Some, None, option_map, Ok, refl, arith}
+use Rattle.std.proofs.Common.{◌≡◌, ℕ, zero, suc, ◌+◌, ◌-◌, ◌<◌, ◌≤◌, Bool, true, false, if◌then◌else◌, not, ◌&&◌, nat_le, nat_lt, IsSome, is_none, List, []}
+use Rattle.std.proofs.Common.{◌∷◌, ◌++◌, length, Option, Some, None, option_map, Ok, refl, arith}
 use Rattle.std.proofs.lemmas.Bool.{and_parts, leb-true, ltb-true}
 use Rattle.fk_model.specs.declared.limits.TheConstants.{SLOTS, PAGES, RECORD_WORDS, MOST_MOVED}
 use Rattle.fk_model.specs.declared.names.Kind.{Kind}
@@ -17,7 +18,8 @@ use Rattle.fk_model.specs.Holds.{is_free, is_unheld}
 use Rattle.fk_model.specs.Outcomes.{Caller}
 use Rattle.fk_model.specs.Readers.{object_in, kind_at}
 use Rattle.fk_model.specs.Talks.{path_to}
-use Rattle.fk_model.specs.LinkRows.{Candidate, is_member, slot_in_set, faulting, connecting, connecting_to, resuming, candidate_by, candidate, is_open, is_parked, turn_number}
+use Rattle.fk_model.specs.LinkRows.{Candidate, is_member, slot_in_set, faulting, connecting, connecting_to, resuming, candidate_by, candidate, is_open}
+use Rattle.fk_model.specs.LinkRows.{is_parked, turn_number}
 use Rattle.fk_model.specs.LinkRows.Candidate.{Faulting, Connecting, Resuming}
 use Rattle.fk_model.specs.Records.{mode_number, halt_code, talk_words, fault_words, member_word, state_words, record_of, is_page_range}
 use Rattle.fk_model.specs.StateRows.{Field, field_number, referable}

@@ -1,5 +1,6 @@
 -- Kept changes leave each thread tidy: its call is one that there is, and its numbers are in range.
-use Rattle.std.proofs.Common.{◌≡◌, ℕ, ◌+◌, ◌-◌, ◌^◌, ◌%◌, ◌≤◌, min, Bool, true, false, ◌||◌, if◌then◌else◌, length, nat_le, List, [], ◌∷◌, Option, Some, None, option_map, refl, ◌∙◌, arith}
+use Rattle.std.proofs.Common.{◌≡◌, ℕ, ◌+◌, ◌-◌, ◌^◌, ◌%◌, ◌≤◌, min, Bool, true, false, ◌||◌, if◌then◌else◌, length, nat_le, List, [], ◌∷◌, Option, Some, None}
+use Rattle.std.proofs.Common.{option_map, refl, ◌∙◌, arith}
 use Rattle.std.proofs.Math.Nat.{mod-lt, min-le_left}
 use Rattle.std.proofs.lemmas.Bool.{and_parts, leb-true}
 use Rattle.std.proofs.lemmas.List.{length-set}
@@ -13,7 +14,8 @@ use Rattle.fk_model.specs.Objects.{Mode, Peer, Talk, Fault, Thread, Body, kind_o
 use Rattle.fk_model.specs.Objects.Mode.{Running, Calling}
 use Rattle.fk_model.specs.Objects.Body.{Mutex, Cond, Mapping, Region, Port, Portset, Space, Thread_of, Reference}
 use Rattle.fk_model.specs.Calls.{words, arguments, left_by, with_answers, IsTodo, IsRest}
-use Rattle.fk_model.specs.World.{World, Change, Edit, Sweep, edited, through, death_sweep, following, serves, apply, shifted, shifted_in, ended_in, finished_in, replaced_in}
+use Rattle.fk_model.specs.World.{World, Change, Edit, Sweep, edited, through, death_sweep, following, serves, apply, shifted, shifted_in, ended_in, finished_in}
+use Rattle.fk_model.specs.World.{replaced_in}
 use Rattle.fk_model.specs.World.Change.{Alter, Make, MakeSpace, Kill, Move, PutPage, DropPage}
 use Rattle.fk_model.specs.World.Edit.{SetLocked, Proceed, Shift, Finish, End, Replace, SetStops, SetTalk, CountMoved, PassTurn, SetPeer, SetFault, SetTaker}
 use Rattle.fk_model.specs.Shapes.{IsShapedMode, IsCodeInRange}
@@ -21,7 +23,8 @@ use Rattle.fk_model.proofs.calls.CallLaws.{words_keep_length_lem}
 use Rattle.fk_model.proofs.walks.PlaceLaws.{same_path_eq}
 use Rattle.laws_frozen.proofs.Edited.{same_kind}
 use Rattle.laws_whole.proofs.Lengths.{length-with_answers}
-use Rattle.laws_savable.proofs.Words.{IsWord, AreWords, below-word, word-below, AreValues, AreArguments, words-set, words-answered, words-left, words-called, IsNumbered, has_way}
+use Rattle.laws_savable.proofs.Words.{IsWord, AreWords, below-word, word-below, AreValues, AreArguments, words-set, words-answered, words-left, words-called}
+use Rattle.laws_savable.proofs.Words.{IsNumbered, has_way}
 use Rattle.laws_savable.proofs.Kept.{IsFewMoved, IsOnPage, IsTidyThread, IsTidy, AreTidy, is_single, leaves_room, FitsAnswers, IsKeptEdit, IsKept}
 use Rattle.laws_savable.proofs.Todos.{is_last_receive, has_rest, rest-left, rest-shifted, rest-answered}
 

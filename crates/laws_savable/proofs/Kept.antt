@@ -1,6 +1,7 @@
 -- Changes that keep what can be saved: what each has to meet in the world in which it is made, and how a row's parts make
 -- an outcome of such changes.
-use Rattle.std.proofs.Common.{◌≡◌, ℕ, ◌<◌, ◌≤◌, Bool, true, false, if◌then◌else◌, ◌&&◌, ◌||◌, nat_le, IsSome, List, [], ◌∷◌, ◌++◌, length, Option, Some, None, Result, Ok, Err, refl}
+use Rattle.std.proofs.Common.{◌≡◌, ℕ, ◌<◌, ◌≤◌, Bool, true, false, if◌then◌else◌, ◌&&◌, ◌||◌, nat_le, IsSome, List, [], ◌∷◌, ◌++◌, length, Option, Some, None}
+use Rattle.std.proofs.Common.{Result, Ok, Err, refl}
 use Rattle.fk_model.specs.declared.limits.TheConstants.{LAST_USER_SLOT, LAST_PORTER_SLOT, MOST_STOPS, MOST_MOVED, PAGES}
 use Rattle.fk_model.specs.Places.{Path, parent, slot_of, is_within, Ptr, leads_to}
 use Rattle.fk_model.specs.Places.Ptr.{At}

@@ -1,5 +1,6 @@
 -- The rows of talks and faults, and those of native servers, keep what can be saved.
-use Rattle.std.proofs.Common.{◌≡◌, ℕ, ◌%◌, ◌<◌, ◌≤◌, Bool, true, false, if◌then◌else◌, ◌&&◌, ◌==◌, nat_lt, is_none, is_some, List, [], ◌∷◌, ◌++◌, take, length, slice_index, Option, Some, None, Result, Ok, Err, refl, inl, inr, arith}
+use Rattle.std.proofs.Common.{◌≡◌, ℕ, ◌%◌, ◌<◌, ◌≤◌, Bool, true, false, if◌then◌else◌, ◌&&◌, ◌==◌, nat_lt, is_none, is_some, List, [], ◌∷◌, ◌++◌, take, length}
+use Rattle.std.proofs.Common.{slice_index, Option, Some, None, Result, Ok, Err, refl, inl, inr, arith}
 use Rattle.std.proofs.lemmas.Bool.{cases_Bool, and_parts, leb-true, ltb-true}
 use Rattle.fk_model.specs.declared.limits.TheConstants.{LAST_PORTER_SLOT, OWN_SPACE, MOST_MOVED, PAGES, PAGE_WORDS, SPACE_WORDS}
 use Rattle.fk_model.specs.declared.names.Kind.TheVariants as kinds
@@ -19,16 +20,19 @@ use Rattle.fk_model.specs.Holds.{is_free}
 use Rattle.fk_model.specs.Outcomes.{Outcome, Caller, path_of, done}
 use Rattle.fk_model.specs.Readers.{and_read, referred}
 use Rattle.fk_model.specs.Talks.{Line, ends_beyond, receiving, same_side}
-use Rattle.fk_model.specs.LinkRows.{Candidate, candidate, new_talk, is_parked, turn_number, takes_candidate, takes_picked, wait, connect, end_all, removes, disconnect, given_talk, link_set, link_park}
+use Rattle.fk_model.specs.LinkRows.{Candidate, candidate, new_talk, is_parked, turn_number, takes_candidate, takes_picked, wait, connect, end_all, removes}
+use Rattle.fk_model.specs.LinkRows.{disconnect, given_talk, link_set, link_park}
 use Rattle.fk_model.specs.LinkRows.Candidate.{Faulting, Connecting, Resuming}
 use Rattle.fk_model.specs.FaultRows.{frees, fault_done, given_fault, named_taker, fault_set, fault_park}
-use Rattle.fk_model.specs.NativeRows.{takes_up, parked_here, connects_here, accepts_thread, accepts_found, takes_client, accept_row, is_serving_port, if_receiving, gives_words, gives_to, give_row, over_row, with_client, passes_client}
+use Rattle.fk_model.specs.NativeRows.{takes_up, parked_here, connects_here, accepts_thread, accepts_found, takes_client, accept_row, is_serving_port}
+use Rattle.fk_model.specs.NativeRows.{if_receiving, gives_words, gives_to, give_row, over_row, with_client, passes_client}
 use Rattle.fk_model.specs.StateRows.{is_native}
 use Rattle.fk_model.specs.Valid.{IsConsistent, IsRooted, all_in, is_served_port, is_turn_word, are_talk_words, are_fault_words}
 use Rattle.fk_model.specs.Whole.{is_placed}
 use Rattle.fk_model.proofs.walks.PlaceLaws.{leads_to_at}
 use Rattle.laws_savable.proofs.Refusals.{kept_row}
-use Rattle.laws_savable.proofs.Kept.{AreTidy, leaves_room, of_thread, KeptOutcome, waits, goes, kept-then, kept-end_all, kept-when, if-kept, kept-done, kept-answers, kept-ended, kept-telling}
+use Rattle.laws_savable.proofs.Kept.{AreTidy, leaves_room, of_thread, KeptOutcome, waits, goes, kept-then, kept-end_all, kept-when, if-kept, kept-done}
+use Rattle.laws_savable.proofs.Kept.{kept-answers, kept-ended, kept-telling}
 use Rattle.laws_savable.proofs.Words.{IsWord, AreWords, words-take, has_way}
 use Rattle.laws_savable.proofs.Reached.{Memory}
 use Rattle.laws_savable.proofs.Answers.{small-word, flag-word, turn-word, IsFewCandidate, candidate-few}

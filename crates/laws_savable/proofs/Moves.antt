@@ -1,11 +1,16 @@
 -- What every move comes to keeps what can be saved, where a porter's call gives what it owes.
-use Rattle.std.proofs.Common.{◌≡◌, ℕ, ◌+◌, ◌<◌, Bool, true, false, if◌then◌else◌, not, ◌&&◌, ◌||◌, ◌==◌, is_none, length, List, [], ◌∷◌, take, Option, Some, None, refl, ap, arith}
+use Rattle.std.proofs.Common.{◌≡◌, ℕ, ◌+◌, ◌<◌, Bool, true, false, if◌then◌else◌, not, ◌&&◌, ◌||◌, ◌==◌, is_none, length, List, [], ◌∷◌, take, Option, Some}
+use Rattle.std.proofs.Common.{None, refl, ap, arith}
 use Rattle.std.proofs.lemmas.Bool.{and_parts, eqb-true}
 use Rattle.fk_model.specs.declared.limits.TheConstants.{LAST_PORTER_SLOT, PAGE_WORDS, SPACE_WORDS}
 use Rattle.fk_model.specs.declared.moves.Ask.{Ask}
 use Rattle.fk_model.specs.declared.moves.Ask.TheVariants as asks
 use Rattle.fk_model.specs.declared.stage.Stage.{Stage}
-use Rattle.fk_model.specs.declared.stage.Stage.TheVariants.{Create, Destroy, Rename, Search, Point, Clear, Locate, CountIn, GetState, SetState, GetPtr, SetPtr, SpaceHold, SpaceRelease, ThreadStop, ThreadGo, PageGive, PageTake, PageRead, PageNext, MutexLock, MutexTrylock, MutexUnlock, CondWait, CondAsleep, CondSignal, CondBroadcast, Connect, ClientReceive, ClientSend, ClientOver, Disconnect, Wait, ServerReceive, ServerSend, ServerOver, ServerEnd, FaultDone, LinkSet, LinkPark, FaultSet, FaultPark, HoldSet, SpaceMakeHeld}
+use Rattle.fk_model.specs.declared.stage.Stage.TheVariants.{Create, Destroy, Rename, Search, Point, Clear, Locate, CountIn, GetState, SetState, GetPtr, SetPtr}
+use Rattle.fk_model.specs.declared.stage.Stage.TheVariants.{SpaceHold, SpaceRelease, ThreadStop, ThreadGo, PageGive, PageTake, PageRead, PageNext, MutexLock}
+use Rattle.fk_model.specs.declared.stage.Stage.TheVariants.{MutexTrylock, MutexUnlock, CondWait, CondAsleep, CondSignal, CondBroadcast, Connect, ClientReceive}
+use Rattle.fk_model.specs.declared.stage.Stage.TheVariants.{ClientSend, ClientOver, Disconnect, Wait, ServerReceive, ServerSend, ServerOver, ServerEnd}
+use Rattle.fk_model.specs.declared.stage.Stage.TheVariants.{FaultDone, LinkSet, LinkPark, FaultSet, FaultPark, HoldSet, SpaceMakeHeld}
 use Rattle.fk_model.specs.declared.statuses.status.TheConstants.{DENIED}
 use Rattle.fk_model.specs.declared.thread.Turn.TheVariants as turns
 use Rattle.fk_model.specs.Places.{Path}
@@ -18,7 +23,8 @@ use Rattle.fk_model.specs.Outcomes.{Outcome, Caller, path_of}
 use Rattle.fk_model.specs.Outcomes.Outcome.{Refused, Waits, Goes}
 use Rattle.fk_model.specs.LinkRows.{user_at}
 use Rattle.fk_model.specs.StateRows.{is_native}
-use Rattle.fk_model.specs.Moves.{stage_row, is_for_porters, is_denied, allowed_row, chooses, with_pick, closed, call_row, goes_on, user_move, porter_at, porter_move, outcome}
+use Rattle.fk_model.specs.Moves.{stage_row, is_for_porters, is_denied, allowed_row, chooses, with_pick, closed, call_row, goes_on, user_move, porter_at}
+use Rattle.fk_model.specs.Moves.{porter_move, outcome}
 use Rattle.fk_model.specs.Calls.{arguments}
 use Rattle.fk_model.specs.Valid.{IsConsistent, IsRooted, are_talk_words, are_fault_words, is_fit_stage, is_fit}
 use Rattle.fk_model.specs.Whole.{are_words, HasFullPages}
@@ -33,9 +39,14 @@ use Rattle.laws_savable.proofs.Reached.{Memory}
 use Rattle.laws_savable.proofs.Kept.{AreTidy, is_single, leaves_room, of_thread, KeptOutcome, refused, waits, goes, kept-when, if-kept}
 use Rattle.laws_savable.proofs.Todos.{is_last_receive, opens, is_wait, opens_first, GoesOn, has_rest}
 use Rattle.laws_savable.proofs.Standing.{AllStand, native-last}
-use Rattle.laws_savable.proofs.Rows.{run_row-kept, mutex_lock-kept, mutex_trylock-kept, mutex_unlock-kept, cond_wait-kept, cond_asleep-kept, cond_signal-kept, cond_broadcast-kept, send-kept, receive-kept, over-kept, thread_stop-kept, thread_go-kept, page_give-kept, page_take-kept, page_read-kept, page_next-kept}
-use Rattle.laws_savable.proofs.Objects.{IsUsersHold, create-kept, destroy-kept, rename-kept, point-kept, clear-kept, search_row-kept, locate-kept, count_in-kept, space_hold-kept, space_release-kept, hold_set-kept, space_make_held-kept, get_state-kept, set_state-kept, get_ptr-kept, set_ptr-kept}
-use Rattle.laws_savable.proofs.Links.{IsNester, wait-kept, connect-kept, disconnect-kept, fault_done-kept, link_set-kept, link_park-kept, fault_set-kept, fault_park-kept, accept_row-kept, give_row-kept, over_row-kept}
+use Rattle.laws_savable.proofs.Rows.{run_row-kept, mutex_lock-kept, mutex_trylock-kept, mutex_unlock-kept, cond_wait-kept, cond_asleep-kept, cond_signal-kept}
+use Rattle.laws_savable.proofs.Rows.{cond_broadcast-kept, send-kept, receive-kept, over-kept, thread_stop-kept, thread_go-kept, page_give-kept, page_take-kept}
+use Rattle.laws_savable.proofs.Rows.{page_read-kept, page_next-kept}
+use Rattle.laws_savable.proofs.Objects.{IsUsersHold, create-kept, destroy-kept, rename-kept, point-kept, clear-kept, search_row-kept, locate-kept}
+use Rattle.laws_savable.proofs.Objects.{count_in-kept, space_hold-kept, space_release-kept, hold_set-kept, space_make_held-kept, get_state-kept, set_state-kept}
+use Rattle.laws_savable.proofs.Objects.{get_ptr-kept, set_ptr-kept}
+use Rattle.laws_savable.proofs.Links.{IsNester, wait-kept, connect-kept, disconnect-kept, fault_done-kept, link_set-kept, link_park-kept, fault_set-kept}
+use Rattle.laws_savable.proofs.Links.{fault_park-kept, accept_row-kept, give_row-kept, over_row-kept}
 
 -- what is known of the world in which a move is judged
 pub record Premise (w : World) : Type 0 where

@@ -1,5 +1,6 @@
 -- The rows of objects, holds and state keep what can be saved.
-use Rattle.std.proofs.Common.{◌≡◌, ℕ, ◌+◌, ◌%◌, ◌≤◌, Bool, true, false, if◌then◌else◌, cond, not, ◌&&◌, ◌||◌, ◌==◌, nat_le, is_some, List, [], ◌∷◌, ◌++◌, map, drop, replicate, length, Option, Some, None, option_map, Result, Ok, Err, refl, ap, ◌∙◌, arith}
+use Rattle.std.proofs.Common.{◌≡◌, ℕ, ◌+◌, ◌%◌, ◌≤◌, Bool, true, false, if◌then◌else◌, cond, not, ◌&&◌, ◌||◌, ◌==◌, nat_le, is_some, List, [], ◌∷◌, ◌++◌, map}
+use Rattle.std.proofs.Common.{drop, replicate, length, Option, Some, None, option_map, Result, Ok, Err, refl, ap, ◌∙◌, arith}
 use Rattle.std.specs.List.{list_any}
 use Rattle.std.proofs.lemmas.Bool.{and_parts, eqb-true, leb-true, le-leb}
 use Rattle.std.proofs.lemmas.List.{length-append, length-take-le, length-drop}
@@ -23,8 +24,10 @@ use Rattle.fk_model.specs.Outcomes.{Outcome, Caller, path_of, last_slot, done, d
 use Rattle.fk_model.specs.Readers.{and_read, slot_for, seen_as, anything, object_in, space_argument, referred, kind_at, own_page}
 use Rattle.fk_model.specs.SpaceRows.{has_porter, is_held_by_other, space_hold, space_release, hold_set, space_make_held}
 use Rattle.fk_model.specs.Records.{record_of, calling_by, mode_of_record, is_mode, takes_state, set_edits, record_registers, word}
-use Rattle.fk_model.specs.StateRows.{Field, field_number, is_native, shows, shows_to, get_state, sets_record, record_at, sets_from, set_state, get_ptr, set_ptr, is_bad_record_address}
-use Rattle.fk_model.specs.ObjectRows.{new_object, create, kills, destroys, destroy, rename, search as search_row, point, clear, target_of, way_to, kind_number, locate, count_in}
+use Rattle.fk_model.specs.StateRows.{Field, field_number, is_native, shows, shows_to, get_state, sets_record, record_at, sets_from, set_state, get_ptr, set_ptr}
+use Rattle.fk_model.specs.StateRows.{is_bad_record_address}
+use Rattle.fk_model.specs.ObjectRows.{new_object, create, kills, destroys, destroy, rename, search as search_row, point, clear, target_of, way_to, kind_number}
+use Rattle.fk_model.specs.ObjectRows.{locate, count_in}
 use Rattle.fk_model.specs.Valid.{IsConsistent, IsRooted, kind_there}
 use Rattle.fk_model.specs.Whole.{is_scratch_slot, is_porters}
 use Rattle.fk_model.proofs.walks.PlaceLaws.{same_path_eq, same_path_refl, strip_some, leads_to_at}
@@ -35,7 +38,8 @@ use Rattle.laws_savable.proofs.Words.{AreWords, words-at, words-take, words-drop
 use Rattle.laws_savable.proofs.Reached.{Memory}
 use Rattle.laws_savable.proofs.Answers.{field-word, taken-words, way-words, record-words}
 use Rattle.laws_savable.proofs.Scratch.{ScratchKept, stands-porter}
-use Rattle.laws_savable.proofs.Kept.{IsTidyThread, IsTidy, AreTidy, IsUsersMode, KeepsScratch, IsOutside, IsKept, AreKept, KeptOutcome, kept-end_all, if-kept, kept-done, kept-done_at, kept-answers, kept-stays, kept-telling}
+use Rattle.laws_savable.proofs.Kept.{IsTidyThread, IsTidy, AreTidy, IsUsersMode, KeepsScratch, IsOutside, IsKept, AreKept, KeptOutcome, kept-end_all, if-kept}
+use Rattle.laws_savable.proofs.Kept.{kept-done, kept-done_at, kept-answers, kept-stays, kept-telling}
 use Rattle.laws_savable.proofs.Persisting.{fits-single, single-pointed}
 use Rattle.laws_savable.proofs.Standing.{AllStand, low-stands, scratch-stands, last-kill}
 use Rattle.laws_savable.proofs.Rows.{own_page-kept, overwritten-words, GivesWords, IsLastStage, answers-alone, runs, halts, calls}

@@ -1,6 +1,7 @@
 -- Kept changes leave whoever serves a talk, or has taken a fault, where it may stand: a native server at a served port, and
 -- who is parked at a nester's.
-use Rattle.std.proofs.Common.{◌≡◌, ℕ, ◌+◌, min, Bool, true, false, if◌then◌else◌, ◌&&◌, ◌||◌, nat_le, is_none, List, [], ◌∷◌, Option, Some, None, option_map, refl, sym, ap, ◌∙◌}
+use Rattle.std.proofs.Common.{◌≡◌, ℕ, ◌+◌, min, Bool, true, false, if◌then◌else◌, ◌&&◌, ◌||◌, nat_le, is_none, List, [], ◌∷◌, Option, Some, None, option_map}
+use Rattle.std.proofs.Common.{refl, sym, ap, ◌∙◌}
 use Rattle.std.proofs.lemmas.Bool.{and_parts}
 use Rattle.fk_model.specs.declared.limits.TheConstants.{LAST_USER_SLOT, LAST_PORTER_SLOT, MOST_MOVED}
 use Rattle.fk_model.specs.declared.names.Kind.TheVariants as kinds
@@ -10,7 +11,8 @@ use Rattle.fk_model.specs.Objects.{Mode, Peer, Talk, Fault, Thread, Body, kind_o
 use Rattle.fk_model.specs.Objects.Mode.{Calling}
 use Rattle.fk_model.specs.Objects.Peer.{Server, Service, Parked}
 use Rattle.fk_model.specs.Objects.Body.{Mutex, Port, Space, Thread_of}
-use Rattle.fk_model.specs.World.{World, Change, Edit, Sweep, edited, through, death_sweep, following, follow, follow_peer, talk_without, taker_without, fault_without, serves, apply, ended_in, finished_in}
+use Rattle.fk_model.specs.World.{World, Change, Edit, Sweep, edited, through, death_sweep, following, follow, follow_peer, talk_without, taker_without}
+use Rattle.fk_model.specs.World.{fault_without, serves, apply, ended_in, finished_in}
 use Rattle.fk_model.specs.World.Change.{Alter, Make, MakeSpace, Kill, Move, PutPage, DropPage}
 use Rattle.fk_model.specs.World.Edit.{SetLocked, Finish, End, SetTalk, CountMoved, PassTurn, SetPeer, SetFault, SetTaker}
 use Rattle.fk_model.specs.Searches.{talk_at, fault_at}

@@ -1,5 +1,6 @@
 -- Where an access comes to: a page that is there has 64 words, which are words; one that is missing is a page that a space has.
-use Rattle.std.proofs.Common.{◌≡◌, ℕ, zero, suc, ◌+◌, ◌-◌, ◌/◌, ◌<◌, Bool, true, false, if◌then◌else◌, not, ◌&&◌, ◌||◌, nat_lt, nat_le, List, length, Option, Some, None, refl, arith}
+use Rattle.std.proofs.Common.{◌≡◌, ℕ, zero, suc, ◌+◌, ◌-◌, ◌/◌, ◌<◌, Bool, true, false, if◌then◌else◌, not, ◌&&◌, ◌||◌, nat_lt, nat_le, List, length, Option}
+use Rattle.std.proofs.Common.{Some, None, refl, arith}
 use Rattle.std.proofs.lemmas.Bool.{and_parts, leb-true, ltb-true}
 use Rattle.fk_model.specs.declared.limits.TheConstants.{MAPPINGS, PAGES, PAGE_WORDS, SPACE_WORDS}
 use Rattle.fk_model.specs.Places.{Path, parent, Ptr}

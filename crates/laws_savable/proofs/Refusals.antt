@@ -12,7 +12,8 @@ use Rattle.fk_model.specs.Objects.Peer.{Server}
 use Rattle.fk_model.specs.Objects.Body.{Mutex, Reference}
 use Rattle.fk_model.specs.World.{World}
 use Rattle.fk_model.specs.Outcomes.{Caller, refuse, or_refuse, last_slot}
-use Rattle.fk_model.specs.Readers.{and_read, slot_for, seen_as, anything, object_in, kind_at, is_kind, led_to, handled, handle, path_at, space_argument, referred}
+use Rattle.fk_model.specs.Readers.{and_read, slot_for, seen_as, anything, object_in, kind_at, is_kind, led_to, handled, handle, path_at, space_argument}
+use Rattle.fk_model.specs.Readers.{referred}
 use Rattle.fk_model.specs.Talks.{Line, line, same_side, thread_led_to}
 use Rattle.fk_model.specs.TransferRows.{at_turn, in_turn}
 use Rattle.fk_model.specs.FaultRows.{named_taker}

@@ -1,5 +1,6 @@
 -- The rows of instructions, mutexes, conditions, messages, stop counts and pages keep what can be saved.
-use Rattle.std.proofs.Common.{◌≡◌, ℕ, ◌+◌, ◌-◌, ◌^◌, ◌%◌, ◌<◌, ◌≤◌, Bool, true, false, if◌then◌else◌, ◌==◌, nat_le, List, [], ◌∷◌, ◌++◌, take, drop, replicate, length, Option, Some, None, Result, Ok, Err, refl, ap, ◌∙◌, arith}
+use Rattle.std.proofs.Common.{◌≡◌, ℕ, ◌+◌, ◌-◌, ◌^◌, ◌%◌, ◌<◌, ◌≤◌, Bool, true, false, if◌then◌else◌, ◌==◌, nat_le, List, [], ◌∷◌, ◌++◌, take, drop, replicate}
+use Rattle.std.proofs.Common.{length, Option, Some, None, Result, Ok, Err, refl, ap, ◌∙◌, arith}
 use Rattle.std.proofs.Math.Nat.{mod-lt, min-le_left}
 use Rattle.std.specs.List.{flat_map}
 use Rattle.std.proofs.lemmas.Bool.{leb-false}
@@ -32,19 +33,24 @@ use Rattle.fk_model.specs.Readers.{and_read, handle, missed, accessed, own_page_
 use Rattle.fk_model.specs.Holds.{is_free}
 use Rattle.fk_model.specs.Talks.{Line, other_side, path_to, first_stage, receiving, thread_led_to, is_service_free}
 use Rattle.fk_model.specs.UserRows.{word_at, halts_with, loads, stores, enters, performs, executes, run_row, run_row_by}
-use Rattle.fk_model.specs.SyncRows.{mutex_lock, mutex_trylock, mutex_unlock, cond_wait, cond_asleep, woken, mutex_after, asleep_on, sleepers, signals, unless_slept_on, picks_sleeper, cond_signal, cond_broadcast}
-use Rattle.fk_model.specs.TransferRows.{overwritten, block, moved_words, has_sent, sends_words, sends_into, sends_to_thread, sends_to, sends, send, awaits, receive, passes_to_thread, passes_to, over}
-use Rattle.fk_model.specs.SpaceRows.{thread_by_handle, thread_stop, thread_go, gives_page, gives_from, page_give, copies, copies_home, answers_home, copies_to, page_take, page_read, page_next}
+use Rattle.fk_model.specs.SyncRows.{mutex_lock, mutex_trylock, mutex_unlock, cond_wait, cond_asleep, woken, mutex_after, asleep_on, sleepers, signals}
+use Rattle.fk_model.specs.SyncRows.{unless_slept_on, picks_sleeper, cond_signal, cond_broadcast}
+use Rattle.fk_model.specs.TransferRows.{overwritten, block, moved_words, has_sent, sends_words, sends_into, sends_to_thread, sends_to, sends, send, awaits}
+use Rattle.fk_model.specs.TransferRows.{receive, passes_to_thread, passes_to, over}
+use Rattle.fk_model.specs.SpaceRows.{thread_by_handle, thread_stop, thread_go, gives_page, gives_from, page_give, copies, copies_home, answers_home, copies_to}
+use Rattle.fk_model.specs.SpaceRows.{page_take, page_read, page_next}
 use Rattle.fk_model.specs.StateRows.{is_native}
 use Rattle.fk_model.specs.Shapes.{IsShapedMode}
 use Rattle.fk_model.specs.Valid.{all_in}
 use Rattle.fk_model.proofs.calls.CallLaws.{todo_writes_back_lem}
 use Rattle.laws_savable.proofs.Refusals.{kept_row}
-use Rattle.laws_savable.proofs.Words.{IsWord, AreWords, below-word, words-at, words-set, words-append, words-take, words-drop, words-zeros, AreArguments, words-entered, IsNumbered, has_way}
+use Rattle.laws_savable.proofs.Words.{IsWord, AreWords, below-word, words-at, words-set, words-append, words-take, words-drop, words-zeros, AreArguments}
+use Rattle.laws_savable.proofs.Words.{words-entered, IsNumbered, has_way}
 use Rattle.laws_savable.proofs.Acts.{IsLow, low-in}
 use Rattle.laws_savable.proofs.Reached.{Memory, IsReached, ComesTo, comes-to}
 use Rattle.laws_savable.proofs.Answers.{page-words}
-use Rattle.laws_savable.proofs.Kept.{is_single, of_thread, IsUsersMode, AreKept, KeptOutcome, refused, waits, goes, kept-then, kept-when, if-kept, kept-done, kept-answers, kept-telling, AreTidy}
+use Rattle.laws_savable.proofs.Kept.{is_single, of_thread, IsUsersMode, AreKept, KeptOutcome, refused, waits, goes, kept-then, kept-when, if-kept, kept-done}
+use Rattle.laws_savable.proofs.Kept.{kept-answers, kept-telling, AreTidy}
 use Rattle.laws_savable.proofs.Todos.{has_rest}
 use Rattle.laws_savable.proofs.Persisting.{of_thread-mono, fits-single, single-replaced, single-locked, way-less, way-counted, way-shifted}
 

@@ -1,5 +1,6 @@
 -- What stands in which slots: porters in last slots alone. So a porter is destroyed with its space, when no port is left there.
-use Rattle.std.proofs.Common.{◌≡◌, ℕ, zero, suc, ◌<◌, Bool, true, false, if◌then◌else◌, ◌&&◌, ◌==◌, nat_le, is_some, ◌∷◌, Option, Some, None, option_map, refl, ◌∙◌, arith}
+use Rattle.std.proofs.Common.{◌≡◌, ℕ, zero, suc, ◌<◌, Bool, true, false, if◌then◌else◌, ◌&&◌, ◌==◌, nat_le, is_some, ◌∷◌, Option, Some, None, option_map, refl}
+use Rattle.std.proofs.Common.{◌∙◌, arith}
 use Rattle.std.proofs.lemmas.Bool.{eqb-true, leb-true}
 use Rattle.fk_model.specs.declared.limits.TheConstants.{SLOTS, LAST_USER_SLOT, LAST_SCRATCH_SLOT, LAST_PORTER_SLOT}
 use Rattle.fk_model.specs.Places.{Path, parent}

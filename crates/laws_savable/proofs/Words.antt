@@ -1,5 +1,6 @@
 -- Words, and what is made of words: lists, registers, the stages of a call.
-use Rattle.std.proofs.Common.{◌≡◌, ℕ, zero, suc, ◌+◌, ◌^◌, ◌<◌, Bool, true, false, cond, eqb, List, [], ◌∷◌, ◌++◌, take, drop, replicate, get_or, slice_set, Some, refl, subst}
+use Rattle.std.proofs.Common.{◌≡◌, ℕ, zero, suc, ◌+◌, ◌^◌, ◌<◌, Bool, true, false, cond, eqb, List, [], ◌∷◌, ◌++◌, take, drop, replicate, get_or, slice_set}
+use Rattle.std.proofs.Common.{Some, refl, subst}
 use Rattle.std.specs.List.{flat_map}
 use Rattle.std.proofs.lemmas.Bool.{and_parts, and_from, lt-ltb, ltb-true}
 use Rattle.std.proofs.lemmas.Option.{same_Some}
@@ -7,7 +8,8 @@ use Rattle.fk_model.specs.declared.stage.Stage.{Stage}
 use Rattle.fk_model.specs.declared.stage.Stage.TheVariants.{ClientReceive, ClientSend, ServerReceive, ServerSend}
 use Rattle.fk_model.specs.Objects.{Mode, registers_of}
 use Rattle.fk_model.specs.Objects.Mode.{Running, Calling, Halted, Native}
-use Rattle.fk_model.specs.Calls.{Call, calls, arguments, argument_registers, from_register, with_values, without_values, with_answers, left_by, words, named_by, todo_of, rest_of, IsTodo}
+use Rattle.fk_model.specs.Calls.{Call, calls, arguments, argument_registers, from_register, with_values, without_values, with_answers, left_by, words, named_by}
+use Rattle.fk_model.specs.Calls.{todo_of, rest_of, IsTodo}
 use Rattle.fk_model.specs.Shapes.{IsShapedMode}
 use Rattle.fk_model.specs.Whole.{is_word, are_words}
 use Rattle.fk_model.proofs.calls.CallLaws.{words_read_back_lem}

@@ -1,5 +1,6 @@
 -- A restorer begins: its space is made, or its slot is taken.
-use Rattle.std.proofs.Common.{◌≡◌, ℕ, ◌≤◌, ◌<◌, Bool, true, false, cond, ◌&&◌, nat_le, IsSome, is_some, IfSome, List, [], ◌∷◌, ◌++◌, length, Option, Some, None, option_map, refl, sym, ap, subst, arith, length-append, ◌∙◌, ◌⊎◌, inl, inr}
+use Rattle.std.proofs.Common.{◌≡◌, ℕ, ◌≤◌, ◌<◌, Bool, true, false, cond, ◌&&◌, nat_le, IsSome, is_some, IfSome, List, [], ◌∷◌, ◌++◌, length, Option, Some, None}
+use Rattle.std.proofs.Common.{option_map, refl, sym, ap, subst, arith, length-append, ◌∙◌, ◌⊎◌, inl, inr}
 use Rattle.std.proofs.lemmas.Bool.{and_parts, leb-true, le-leb}
 use Rattle.fk_model.specs.declared.limits.TheConstants.{LAST_USER_SLOT, FIRST_SCRATCH_SLOT, LAST_SCRATCH_SLOT, LAST_PORTER_SLOT}
 use Rattle.fk_model.specs.declared.stage.Stage.{Stage}
@@ -30,7 +31,8 @@ use Rattle.laws_sites.specs.Orders.{alone}
 use Rattle.laws_sites.specs.Begun.{first, Begins}
 use Rattle.laws_jobs.proofs.Goings.{Called, called, goes_by}
 
-module _ (nester : Path) (slot : ℕ) (w : World) (reply : Reply) (low : slot ≤ LAST_USER_SLOT) (answered : IsAnswered nester w (SpaceMakeHeld slot) no_words reply) where
+module _ (nester : Path) (slot : ℕ) (w : World) (reply : Reply) (low : slot ≤ LAST_USER_SLOT)
+    (answered : IsAnswered nester w (SpaceMakeHeld slot) no_words reply) where
   abbrev root : Path
   root = slot ∷ nester
 
@@ -51,7 +53,8 @@ module _ (nester : Path) (slot : ℕ) (w : World) (reply : Reply) (low : slot �
   made_as (Some b) = Goes [] (Answered OCCUPIED [])
 
   abbrev call_on : Option Body → Outcome
-  call_on o = closed (porter nester no_words) (with_pick false None (refuse OCCUPIED (is_some o) >>= (λ u. done (porter nester no_words) (MakeSpace root (Some (At me)) ∷ []) [])))
+  call_on o = closed (porter nester no_words) (with_pick false None (refuse OCCUPIED (is_some o)
+      >>= (λ u. done (porter nester no_words) (MakeSpace root (Some (At me)) ∷ []) [])))
 
   call_made : (o : Option Body) → call_on o ≡ made_as o
   call_made None = refl
@@ -153,8 +156,10 @@ begins nester slot w reply low scratch answered = by (w.body (slot ∷ nester)) 
         (IsSome (w.body (slot ∷ nester)) × (reply.status ≡ OCCUPIED) × (after w (call_of nester (SpaceMakeHeld slot) no_words) ≡ w))
     by None e =
         let made = MakeSpace (slot ∷ nester) (Some (At (LAST_PORTER_SLOT ∷ nester))) in
-        let goes = goes_by nester w (SpaceMakeHeld slot) no_words reply answered (made ∷ []) OK [] (make-row nester slot w reply low answered ∙ ap (made_as nester slot w reply low answered) e) in
+        let goes = goes_by nester w (SpaceMakeHeld slot) no_words reply answered (made ∷ []) OK [] (make-row nester slot w reply low answered
+        ∙ ap (made_as nester slot w reply low answered) e) in
         inl (e, goes.1.0, rw goes.0 (made_shows nester slot w reply low answered answered.valid e (free_porter nester slot w reply low answered) scratch))
     by (Some b) e =
-        let goes = goes_by nester w (SpaceMakeHeld slot) no_words reply answered [] OCCUPIED [] (make-row nester slot w reply low answered ∙ ap (made_as nester slot w reply low answered) e) in
+        let goes = goes_by nester w (SpaceMakeHeld slot) no_words reply answered [] OCCUPIED [] (make-row nester slot w reply low answered
+        ∙ ap (made_as nester slot w reply low answered) e) in
         inr (rw e refl, goes.1.0, goes.0)

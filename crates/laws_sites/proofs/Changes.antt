@@ -1,5 +1,6 @@
 -- What a restorer's changes make of a world that shows a site.
-use Rattle.std.proofs.Common.{◌≡◌, ℕ, suc, ◌≤◌, ◌<◌, Bool, true, false, cond, eqb, IsSome, is_some, List, [], ◌∷◌, ◌++◌, length, Option, Some, None, option_map, refl, sym, ap, subst, arith, length-append, ◌∙◌, eqb-true, eq-eqb}
+use Rattle.std.proofs.Common.{◌≡◌, ℕ, suc, ◌≤◌, ◌<◌, Bool, true, false, cond, eqb, IsSome, is_some, List, [], ◌∷◌, ◌++◌, length, Option, Some, None, option_map}
+use Rattle.std.proofs.Common.{refl, sym, ap, subst, arith, length-append, ◌∙◌, eqb-true, eq-eqb}
 use Rattle.fk_model.specs.declared.limits.TheConstants.{LAST_USER_SLOT, FIRST_SCRATCH_SLOT, LAST_SCRATCH_SLOT, LAST_PORTER_SLOT}
 use Rattle.fk_model.specs.Places.{Path, same_path, Ptr}
 use Rattle.fk_model.specs.Places.Ptr.{Null}
@@ -31,10 +32,12 @@ module _ (root : Path) (w : World) where
   pin = pin_of root
 
   bare-body : (x : Path) (f : Option Body → Option Body) → same_path x pin ≡ false → (y : Path) →
-      cond (same_path y pin) None (cond (same_path y x) (f (w.body y)) (w.body y)) ≡ cond (same_path y x) (f (cond (same_path y pin) None (w.body y))) (cond (same_path y pin) None (w.body y))
+      cond (same_path y pin) None (cond (same_path y x) (f (w.body y)) (w.body y))
+      ≡ cond (same_path y x) (f (cond (same_path y pin) None (w.body y))) (cond (same_path y pin) None (w.body y))
   bare-body x f apart y = by (same_path y pin) (same_path y x) refl refl
     where
-      by : (t u : Bool) → same_path y pin ≡ t → same_path y x ≡ u → cond t None (cond u (f (w.body y)) (w.body y)) ≡ cond u (f (cond t None (w.body y))) (cond t None (w.body y))
+      by : (t u : Bool) → same_path y pin ≡ t → same_path y x ≡ u
+          → cond t None (cond u (f (w.body y)) (w.body y)) ≡ cond u (f (cond t None (w.body y))) (cond t None (w.body y))
       by true true e h =
           let at_pin = same_path_eq y pin e in
           let at_x = same_path_eq y x h in
@@ -75,7 +78,8 @@ module _ (nester : Path) (slot : ℕ) (g : Site) (w : World) (shows : Shows nest
   pin_stays v Loose above same shown = (shown.0, same ∙ shown.1)
   pin_stays v (Fast i) above same shown = (same ∙ shown.0, ap (option_map kind_of) (above (i ∷ nester) (omega arith)) ∙ shown.1)
 
-  spot_stays : (v : World) (p : Pin) (k : ℕ) (o : Option Spot) → v.body (k ∷ nester) ≡ w.body (k ∷ nester) → v.body (pin_of root) ≡ w.body (pin_of root) → SpotShows nester slot w p k o → SpotShows nester slot v p k o
+  spot_stays : (v : World) (p : Pin) (k : ℕ) (o : Option Spot) → v.body (k ∷ nester) ≡ w.body (k ∷ nester) → v.body (pin_of root) ≡ w.body (pin_of root)
+      → SpotShows nester slot w p k o → SpotShows nester slot v p k o
   spot_stays v p k None is same h = is ∙ h
   spot_stays v p k (Some (To to)) is same h = (is ∙ h.0, h.1)
   spot_stays v p k (Some Unsure) is same h = (h.0, is ∙ h.1, same ∙ h.2)
@@ -85,7 +89,8 @@ module _ (nester : Path) (slot : ℕ) (g : Site) (w : World) (shows : Shows nest
       let short : length a ≤ length nester = omega (arith, ap length e, length-append p a) in
       ap holder_of (same a short) ∙ holder_none w a (none_above w p a (subst (λ (y : Path). decider w y ≡ None) e shows.above)))
 
-  inner-shows : (v built : World) → Above v → v.body (pin_of root) ≡ w.body (pin_of root) → IsLikeness root see built (bare root v) → Shows nester slot (with_built built g) v
+  inner-shows : (v built : World) → Above v → v.body (pin_of root) ≡ w.body (pin_of root) → IsLikeness root see built (bare root v)
+      → Shows nester slot (with_built built g) v
   inner-shows v built above same like = record {
     low = shows.low;
     holder = ap holder_of (above root (omega arith)) ∙ shows.holder;
@@ -111,31 +116,37 @@ module _ (nester : Path) (slot : ℕ) (g : Site) (w : World) (shows : Shows nest
       Shows nester slot (with_built (apply (Alter (x ∷ q) (seen_edit see out edit)) g.built) g) (apply (Alter (x ∷ (q ++ root)) edit) w)
   unfolding apply
   alters out x q edit low h =
-      inner-shows (apply (Alter (x ∷ (q ++ root)) edit) w) (apply (Alter (x ∷ q) (seen_edit see out edit)) g.built) (λ y short. rw (short_apart x q y short) refl) (rw (pin_apart x q low) refl)
+      inner-shows (apply (Alter (x ∷ (q ++ root)) edit) w) (apply (Alter (x ∷ q) (seen_edit see out edit)) g.built)
+      (λ y short. rw (short_apart x q y short) refl) (rw (pin_apart x q low) refl)
       (rw (bare-at root w (x ∷ (q ++ root)) (option_map (edited edit)) (apart_pin x q low)) (alter-like shows.like out x q edit h))
 
   pub makes : (x : ℕ) (q : Path) (body : Body) → x ≤ LAST_USER_SLOT → IsPlainBody see (HasLikeness root see (bare root w)) body →
       Shows nester slot (with_built (apply (Make (x ∷ q) (seen_by (seeing see) body)) g.built) g) (apply (Make (x ∷ (q ++ root)) body) w)
   unfolding apply
   makes x q body low h =
-      inner-shows (apply (Make (x ∷ (q ++ root)) body) w) (apply (Make (x ∷ q) (seen_by (seeing see) body)) g.built) (λ y short. rw (short_apart x q y short) refl) (rw (pin_apart x q low) refl)
+      inner-shows (apply (Make (x ∷ (q ++ root)) body) w) (apply (Make (x ∷ q) (seen_by (seeing see) body)) g.built)
+      (λ y short. rw (short_apart x q y short) refl) (rw (pin_apart x q low) refl)
       (rw (bare-at root w (x ∷ (q ++ root)) (λ there. Some body) (apart_pin x q low)) (make-like shows.like x q body h))
 
   pub makes_space : (x : ℕ) (q : Path) → x ≤ LAST_USER_SLOT →
       Shows nester slot (with_built (apply (MakeSpace (x ∷ q) None) g.built) g) (apply (MakeSpace (x ∷ (q ++ root)) None) w)
   unfolding apply
   makes_space x q low =
-      inner-shows (apply (MakeSpace (x ∷ (q ++ root)) None) w) (apply (MakeSpace (x ∷ q) None) g.built) (λ y short. rw (short_apart x q y short) refl) (rw (pin_apart x q low) refl)
-      (subst (λ (bodies : Path → Option Body). IsLikeness root see (apply (MakeSpace (x ∷ q) None) g.built) (record { body = bodies; page = w.page; next = (apply (MakeSpace (x ∷ (q ++ root)) None) w).next }))
+      inner-shows (apply (MakeSpace (x ∷ (q ++ root)) None) w) (apply (MakeSpace (x ∷ q) None) g.built) (λ y short. rw (short_apart x q y short) refl)
+      (rw (pin_apart x q low) refl)
+      (subst (λ (bodies : Path → Option Body). IsLikeness root see (apply (MakeSpace (x ∷ q) None) g.built)
+      (record { body = bodies; page = w.page; next = (apply (MakeSpace (x ∷ (q ++ root)) None) w).next }))
       (sym (ap (λ (v : World). v.body) (bare-at root w (x ∷ (q ++ root)) (λ there. Some (Space w.next None)) (apart_pin x q low)))) like)
     where
       like : IsLikeness root see (apply (MakeSpace (x ∷ q) None) g.built) (apply (MakeSpace (x ∷ (q ++ root)) None) (bare root w))
       like = make_space-like shows.like x q None tt
 
-  pub gives : (q : Path) (page : ℕ) (words : List ℕ) → Shows nester slot (with_built (apply (PutPage q page words) g.built) g) (apply (PutPage (q ++ root) page words) w)
+  pub gives : (q : Path) (page : ℕ) (words : List ℕ)
+      → Shows nester slot (with_built (apply (PutPage q page words) g.built) g) (apply (PutPage (q ++ root) page words) w)
   unfolding apply
   gives q page words =
-      inner-shows (apply (PutPage (q ++ root) page words) w) (apply (PutPage q page words) g.built) (λ y short. refl) refl (page-like shows.like q page (Some words))
+      inner-shows (apply (PutPage (q ++ root) page words) w) (apply (PutPage q page words) g.built) (λ y short. refl) refl
+      (page-like shows.like q page (Some words))
 
   -- ---- a change of a scratch reference
 
@@ -147,13 +158,16 @@ module _ (nester : Path) (slot : ℕ) (g : Site) (w : World) (shows : Shows nest
       by (k ∷ q) e = omega (arith, ap length e, length-append q root)
 
   -- the world after a change at a scratch slot, the others as they were
-  pub scratch-shows : (v : World) (r : ℕ) (spot : Option Spot) → LAST_USER_SLOT < r → r ≤ LAST_SCRATCH_SLOT → IsSameInside root w v → ((y : Path) → same_path y (r ∷ nester) ≡ false → v.body y ≡ w.body y) →
-      ((i : ℕ) → g.pin ≡ Fast i → kind_there v (i ∷ nester) ≡ kind_there w (i ∷ nester)) → SpotShows nester slot v g.pin r spot → Shows nester slot (with_spot r spot g) v
+  pub scratch-shows : (v : World) (r : ℕ) (spot : Option Spot) → LAST_USER_SLOT < r → r ≤ LAST_SCRATCH_SLOT → IsSameInside root w v
+      → ((y : Path) → same_path y (r ∷ nester) ≡ false → v.body y ≡ w.body y) →
+      ((i : ℕ) → g.pin ≡ Fast i → kind_there v (i ∷ nester) ≡ kind_there w (i ∷ nester)) → SpotShows nester slot v g.pin r spot
+      → Shows nester slot (with_spot r spot g) v
   scratch-shows v r spot far most same others port now = record {
     low = shows.low;
     holder = ap holder_of (same.bodies []) ∙ shows.holder;
     above = above_stays v (λ a short. others a (same_path_ne a (r ∷ nester) (λ e. omega (arith, short, ap length e))));
-    porter = ap (holds is_native) (others me (same_path_ne me (r ∷ nester) (λ e. let slots : LAST_PORTER_SLOT ≡ r = cc in omega (arith, slots, most)))) ∙ shows.porter;
+    porter = ap (holds is_native) (others me (same_path_ne me (r ∷ nester) (λ e. let slots : LAST_PORTER_SLOT ≡ r = cc in omega (arith, slots, most))))
+        ∙ shows.porter;
     like = same-like root see g.built w v same shows.like;
     pin = by_pin g.pin port shows.pin;
     spots = λ k is. by_spot k (eqb k r) refl (shows.spots k is);
@@ -186,11 +200,13 @@ module _ (nester : Path) (slot : ℕ) (g : Site) (w : World) (shows : Shows nest
   range r is = let both = ref_range nester slot g w shows r is in let first = both.0 in record { far = omega (arith, first); most = both.1 }
 
   -- a scratch reference is led somewhere
-  pub led_there : (r : ℕ) (old to : Ptr) → w.body (r ∷ nester) ≡ Some (Reference old) → (apply (Alter (r ∷ nester) (SetPointer to)) w).body (r ∷ nester) ≡ Some (Reference to)
+  pub led_there : (r : ℕ) (old to : Ptr) → w.body (r ∷ nester) ≡ Some (Reference old)
+      → (apply (Alter (r ∷ nester) (SetPointer to)) w).body (r ∷ nester) ≡ Some (Reference to)
   unfolding apply edited
   led_there r old to there = rw (same_path_refl (r ∷ nester), there) refl
 
-  pub leads : (r : ℕ) (to : Ptr) (spot : Option Spot) → is_ref_slot r ≡ true → SpotShows nester slot (apply (Alter (r ∷ nester) (SetPointer to)) w) g.pin r spot →
+  pub leads : (r : ℕ) (to : Ptr) (spot : Option Spot) → is_ref_slot r ≡ true
+      → SpotShows nester slot (apply (Alter (r ∷ nester) (SetPointer to)) w) g.pin r spot →
       Shows nester slot (with_spot r spot g) (apply (Alter (r ∷ nester) (SetPointer to)) w)
   unfolding apply
   leads r to spot is now =
@@ -210,11 +226,16 @@ module _ (nester : Path) (slot : ℕ) (g : Site) (w : World) (shows : Shows nest
   readies r valid is empty none =
       let its = range r is in
       scratch-shows (apply (Make (r ∷ nester) (Reference Null)) w) r (Some (To Null)) its.far its.most
-      (record { bodies = λ q. rw (outside_apart r q its.far) refl; pages = λ q page. refl; kinds = λ x q led. rw (vacant x (there_live (kind_there w) x (q ++ root) (w.body (q ++ root)) (valid.good (q ++ root)) led)) refl })
+      (record {
+        bodies = λ q. rw (outside_apart r q its.far) refl;
+        pages = λ q page. refl;
+        kinds = λ x q led. rw (vacant x (there_live (kind_there w) x (q ++ root) (w.body (q ++ root)) (valid.good (q ++ root)) led)) refl;
+      })
       (λ y apart. rw apart refl) (λ i pinned. rw (vacant (i ∷ nester) (port i pinned)) refl) (rw (same_path_refl (r ∷ nester)) (refl, tt))
     where
       vacant : (x : Path) → IsSome (kind_there w x) → same_path x (r ∷ nester) ≡ false
-      vacant x live = same_path_ne x (r ∷ nester) (λ e. let gone : kind_there w x ≡ None = rw (e, none) refl in let off : is_some (kind_there w x) ≡ false = ap is_some gone in cc)
+      vacant x live = same_path_ne x (r ∷ nester) (λ e. let gone : kind_there w x ≡ None = rw (e, none) refl in
+          let off : is_some (kind_there w x) ≡ false = ap is_some gone in cc)
 
       port : (i : ℕ) → g.pin ≡ Fast i → IsSome (kind_there w (i ∷ nester))
       port i pinned = let shown = subst (λ (p : Pin). PinShows nester slot w p) pinned shows.pin in rw shown.1 refl

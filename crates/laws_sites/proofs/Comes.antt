@@ -17,7 +17,8 @@ use Rattle.laws_jobs.specs.Machines.{no_words, porter}
 use Rattle.laws_jobs.specs.Machines.{Reply}
 use Rattle.laws_sites.specs.Orders.{Spot, Site, Order, Shows, SpotShows, stage_of, words_of, May}
 use Rattle.laws_sites.specs.Orders.Spot.{Unsure}
-use Rattle.laws_sites.specs.Orders.Order.{Readies, Leads, LeadsTop, Makes, Sets, Points, Gives, MakesPin, Pins, Takes, Checks, ParksTalk, ParksFault, Drops, DropsPin, Deadens, LinksTalk, RaisesFault, LinksFault, Holds}
+use Rattle.laws_sites.specs.Orders.Order.{Readies, Leads, LeadsTop, Makes, Sets, Points, Gives, MakesPin, Pins, Takes, Checks, ParksTalk, ParksFault, Drops}
+use Rattle.laws_sites.specs.Orders.Order.{DropsPin, Deadens, LinksTalk, RaisesFault, LinksFault, Holds}
 use Rattle.laws_sites.proofs.Standing.{ref_slot, ref_named}
 use Rattle.laws_sites.proofs.Plain.{Plain, plain}
 use Rattle.laws_sites.proofs.Pinned.{pinned, pins-row}
@@ -47,20 +48,25 @@ module _ (nester : Path) (slot : ℕ) (g : Site) (w : World) (shows : Shows nest
   pinning : (i : ℕ) → May slot (Pins i) g → Comes (Pins i)
   pinning i may = by (pointer_in w (porter nester no_words) nester i) (pins-row nester slot g w shows i (pinned nester slot g w shows may.0))
     where
-      by : (r : Result Ptr ℕ) → call_row w (porter nester no_words) None (stage_of slot (Pins i)) ≡ points_as nester no_words w (FIRST_SCRATCH_SLOT ∷ root) r → Comes (Pins i)
+      by : (r : Result Ptr ℕ) → call_row w (porter nester no_words) None (stage_of slot (Pins i)) ≡ points_as nester no_words w (FIRST_SCRATCH_SLOT ∷ root) r
+          → Comes (Pins i)
       by (Ok to) h = record { changes = _; reply = told _ _; row = h }
       by (Err status) h = record { changes = _; reply = told _ _; row = h }
 
   checking : (r i : ℕ) → May slot (Checks r i) g → Comes (Checks r i)
   checking r i may =
-      let ref : SpotShows nester slot w g.pin r (Some Unsure) = subst (λ (o : Option Spot). SpotShows nester slot w g.pin r o) may.1 (shows.spots r (ref_slot nester slot g w shows r may.0)) in
-      by ref.0 (locate_here-row nester no_words w r ref.0 (object-there nester no_words w reference_of nester r (Reference ref.0) ref.0 (ref_named nester slot g w shows r may.0) ref.1 refl))
+      let ref : SpotShows nester slot w g.pin r (Some Unsure) = subst (λ (o : Option Spot). SpotShows nester slot w g.pin r o) may.1
+      (shows.spots r (ref_slot nester slot g w shows r may.0)) in
+      by ref.0 (locate_here-row nester no_words w r ref.0
+      (object-there nester no_words w reference_of nester r (Reference ref.0) ref.0 (ref_named nester slot g w shows r may.0) ref.1 refl))
     where
-      by_way : (to : Ptr) (o : Option (List ℕ)) → way_to nester to ≡ o → call_row w (porter nester no_words) None (stage_of slot (Checks r i)) ≡ located_here nester no_words w (Ok to) → Comes (Checks r i)
+      by_way : (to : Ptr) (o : Option (List ℕ)) → way_to nester to ≡ o
+          → call_row w (porter nester no_words) None (stage_of slot (Checks r i)) ≡ located_here nester no_words w (Ok to) → Comes (Checks r i)
       by_way to None e h = record { changes = []; reply = told NONE []; row = h ∙ rw (located_as, e) refl }
       by_way to (Some way) e h = record { changes = []; reply = told OK (way ++ kind_number (kind_at w to) ∷ []); row = h ∙ rw (located_as, e) refl }
 
-      by : (to : Ptr) → call_row w (porter nester no_words) None (stage_of slot (Checks r i)) ≡ located_here nester no_words w (target_of to) → Comes (Checks r i)
+      by : (to : Ptr) → call_row w (porter nester no_words) None (stage_of slot (Checks r i)) ≡ located_here nester no_words w (target_of to)
+          → Comes (Checks r i)
       by Null h = record { changes = _; reply = told _ _; row = h }
       by Dead h = record { changes = _; reply = told _ _; row = h }
       by (At x) h = by_way (At x) (way_to nester (At x)) refl h
@@ -73,9 +79,12 @@ module _ (nester : Path) (slot : ℕ) (g : Site) (w : World) (shows : Shows nest
   comes (Checks r i) may = checking r i may
   comes (Drops r) may = of_plain (Drops r) (drops-plain nester slot g w shows valid r may.0 may.1)
   comes DropsPin may = of_plain DropsPin (drops_pin-plain nester slot g w shows valid (pinned nester slot g w shows may.0) may.1)
-  comes (LinksTalk s q x r u port server words) may = of_plain (LinksTalk s q x r u port server words) (links_talk-plain nester slot g w shows valid.consistent s q x r u port server words may)
-  comes (RaisesFault s q x r port words) may = of_plain (RaisesFault s q x r port words) (raises_fault-plain nester slot g w shows valid.consistent s q x r port words may)
-  comes (LinksFault s q x r u port taker words) may = of_plain (LinksFault s q x r u port taker words) (links_fault-plain nester slot g w shows valid.consistent s q x r u port taker words may)
+  comes (LinksTalk s q x r u port server words) may = of_plain (LinksTalk s q x r u port server words)
+      (links_talk-plain nester slot g w shows valid.consistent s q x r u port server words may)
+  comes (RaisesFault s q x r port words) may = of_plain (RaisesFault s q x r port words)
+      (raises_fault-plain nester slot g w shows valid.consistent s q x r port words may)
+  comes (LinksFault s q x r u port taker words) may = of_plain (LinksFault s q x r u port taker words)
+      (links_fault-plain nester slot g w shows valid.consistent s q x r u port taker words may)
   comes (Holds s q x r holder) may = of_plain (Holds s q x r holder) (holds-plain nester slot g w shows valid.consistent s q x r holder may)
   comes (Deadens r) may = of_plain (Deadens r) (deadens-plain nester slot g w shows valid r may)
   comes (Readies r) may = of_plain (Readies r) (plain nester slot g w shows valid.consistent (Readies r) tt may)
@@ -88,4 +97,5 @@ module _ (nester : Path) (slot : ℕ) (g : Site) (w : World) (shows : Shows nest
   comes MakesPin may = of_plain MakesPin (plain nester slot g w shows valid.consistent MakesPin tt may)
   comes (Takes r) may = of_plain (Takes r) (plain nester slot g w shows valid.consistent (Takes r) tt may)
   comes (ParksTalk s q x i words) may = of_plain (ParksTalk s q x i words) (plain nester slot g w shows valid.consistent (ParksTalk s q x i words) tt may)
-  comes (ParksFault s q x i taken words) may = of_plain (ParksFault s q x i taken words) (plain nester slot g w shows valid.consistent (ParksFault s q x i taken words) tt may)
+  comes (ParksFault s q x i taken words) may = of_plain (ParksFault s q x i taken words)
+      (plain nester slot g w shows valid.consistent (ParksFault s q x i taken words) tt may)

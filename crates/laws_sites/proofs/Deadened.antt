@@ -1,5 +1,6 @@
 -- A region that goes again leaves a scratch reference that leads to what was destroyed.
-use Rattle.std.proofs.Common.{◌≡◌, ℕ, suc, ◌≤◌, Bool, true, false, cond, eqb, IsSome, IfSome, [], ◌∷◌, ◌++◌, length, Option, Some, None, option_map, Ok, refl, sym, ap, subst, arith, length-append, eqb-true, eq-eqb, ◌∙◌}
+use Rattle.std.proofs.Common.{◌≡◌, ℕ, suc, ◌≤◌, Bool, true, false, cond, eqb, IsSome, IfSome, [], ◌∷◌, ◌++◌, length, Option, Some, None, option_map, Ok, refl}
+use Rattle.std.proofs.Common.{sym, ap, subst, arith, length-append, eqb-true, eq-eqb, ◌∙◌}
 use Rattle.fk_model.specs.declared.limits.TheConstants.{SLOTS, FIRST_SCRATCH_SLOT, LAST_PORTER_SLOT}
 use Rattle.fk_model.specs.declared.names.Kind.TheVariants as kinds
 use Rattle.fk_model.specs.declared.stage.Stage.TheVariants.{Destroy}
@@ -71,7 +72,8 @@ module _ (nester : Path) (slot : ℕ) (g : Site) (w : World) (shows : Shows nest
     pub extent : Extent
     pub is : w.body x ≡ Some (Region extent)
 
-  region_seen : (b : Body) → Some (Region (record { first = 0; count = 1; write = false; keeper = Null })) ≡ Some (seen_by (seeing (eye nester slot)) b) → IsRegion b
+  region_seen : (b : Body) → Some (Region (record { first = 0; count = 1; write = false; keeper = Null })) ≡ Some (seen_by (seeing (eye nester slot)) b)
+      → IsRegion b
   unfolding seen_by
   region_seen (Region extent) h = record { extent = extent; is = refl }
   region_seen (Mutex locked) h = cc
@@ -102,9 +104,11 @@ module _ (nester : Path) (slot : ℕ) (g : Site) (w : World) (shows : Shows nest
 
   -- beneath the new space there is nothing else
   none_else : (k : ℕ) (q : Path) → same_path (k ∷ q) (0 ∷ []) ≡ false → w.body (k ∷ (q ++ root)) ≡ None
-  none_else k q apart = by (same_path (k ∷ (q ++ root)) (pin_of root)) refl (w.body (k ∷ (q ++ root))) refl (sym (built_none k q apart) ∙ shows.like.bodies (k ∷ q))
+  none_else k q apart = by (same_path (k ∷ (q ++ root)) (pin_of root)) refl (w.body (k ∷ (q ++ root))) refl (sym (built_none k q apart)
+      ∙ shows.like.bodies (k ∷ q))
     where
-      by : (t : Bool) → same_path (k ∷ (q ++ root)) (pin_of root) ≡ t → (o : Option Body) → w.body (k ∷ (q ++ root)) ≡ o → None ≡ option_map (λ b. unheld (k ∷ q) (seen_by (seeing (eye nester slot)) b)) (cond t None o) → o ≡ None
+      by : (t : Bool) → same_path (k ∷ (q ++ root)) (pin_of root) ≡ t → (o : Option Body) → w.body (k ∷ (q ++ root)) ≡ o
+          → None ≡ option_map (λ b. unheld (k ∷ q) (seen_by (seeing (eye nester slot)) b)) (cond t None o) → o ≡ None
       by true e o is h = let same = same_path_eq (k ∷ (q ++ root)) (pin_of root) e in sym is ∙ ap (λ (y : Path). w.body y) same ∙ pin_none
       by false e None is h = refl
       by false e (Some b) is h = cc
@@ -132,9 +136,19 @@ module _ (nester : Path) (slot : ℕ) (g : Site) (w : World) (shows : Shows nest
   unfolding call_row destroy
   deaden-row =
       let its = there in
-      let object : object_in w (porter nester no_words) anything root 0 ≡ Ok (Region its.extent) = object-there nester no_words w anything root 0 (Region its.extent) (Region its.extent) refl its.is refl in
+      let object : object_in w (porter nester no_words) anything root 0
+      ≡ Ok (Region its.extent) = object-there nester no_words w anything root 0 (Region its.extent) (Region its.extent) refl its.is refl in
       let free : is_frozen_for w me x ≡ false = unfrozen nester slot g w shows (0 ∷ []) in
-      rw (root_named nester slot g w shows no_words, object, free, above_off nester slot g w shows valid 0 root (omega arith), its_leaf, free, its.is, same_path_refl x) refl
+      rw (
+        root_named nester slot g w shows no_words,
+        object,
+        free,
+        above_off nester slot g w shows valid 0 root (omega arith),
+        its_leaf,
+        free,
+        its.is,
+        same_path_refl x,
+      ) refl
 
   abbrev v : World
   v = apply (Kill x) w
@@ -185,7 +199,8 @@ module _ (nester : Path) (slot : ℕ) (g : Site) (w : World) (shows : Shows nest
 
   root_now : RootNow
   unfolding apply
-  root_now = let space = root_there nester slot g w shows in record { birth = space.birth; holder = and_then (death_sweep x).holder space.holder; is = rw (apart_up root (omega arith), space.is) refl }
+  root_now = let space = root_there nester slot g w shows in
+      record { birth = space.birth; holder = and_then (death_sweep x).holder space.holder; is = rw (apart_up root (omega arith), space.is) refl }
 
   alone_now : IsLikeness root (eye nester slot) alone (bare root v)
   unfolding kind_there seen_by
@@ -225,7 +240,8 @@ module _ (nester : Path) (slot : ℕ) (g : Site) (w : World) (shows : Shows nest
 
   dead_now : v.body (r ∷ nester) ≡ Some (Reference Dead)
   unfolding apply
-  dead_now = let led = ref_led nester slot g w shows r (At (0 ∷ [])) may.scratch may.led in rw (apart_up (r ∷ nester) (omega arith), led.0, same_path_refl x) refl
+  dead_now = let led = ref_led nester slot g w shows r (At (0 ∷ [])) may.scratch may.led in
+      rw (apart_up (r ∷ nester) (omega arith), led.0, same_path_refl x) refl
 
   shown_now : Shows nester slot (with_spot r (Some (To Dead)) (with_built alone g)) v
   unfolding apply
@@ -234,7 +250,8 @@ module _ (nester : Path) (slot : ℕ) (g : Site) (w : World) (shows : Shows nest
     holder = root_kept;
     above = decider_none v nester (λ p a e.
         let short : length a ≤ length nester = omega (arith, ap length e, length-append p a) in
-        rw (apart_up a (omega (arith, short))) (swept_holder x a (w.body a) (holder_none w a (none_above w p a (subst (λ (y : Path). decider w y ≡ None) e shows.above)))));
+        rw (apart_up a (omega (arith, short))) (swept_holder x a (w.body a)
+        (holder_none w a (none_above w p a (subst (λ (y : Path). decider w y ≡ None) e shows.above)))));
     porter = rw (apart_up me (omega arith)) (swept_native x me (w.body me) shows.porter);
     like = alone_now;
     pin = pin_now g.pin may.pin;

@@ -1,5 +1,6 @@
 -- Nothing leads to a reference, so one that is destroyed takes nothing with it.
-use Rattle.std.proofs.Common.{◌≡◌, ℕ, zero, suc, ◌≤◌, ◌<◌, Bool, true, false, cond, IsSome, is_some, List, [], ◌∷◌, ◌++◌, length, Option, Some, None, option_map, Ok, refl, sym, ap, subst, arith, length-append, ◌∙◌}
+use Rattle.std.proofs.Common.{◌≡◌, ℕ, zero, suc, ◌≤◌, ◌<◌, Bool, true, false, cond, IsSome, is_some, List, [], ◌∷◌, ◌++◌, length, Option, Some, None}
+use Rattle.std.proofs.Common.{option_map, Ok, refl, sym, ap, subst, arith, length-append, ◌∙◌}
 use Rattle.std.specs.List.{list_any}
 use Rattle.fk_model.specs.declared.limits.TheConstants.{OWN_SPACE, SLOTS, LAST_USER_SLOT, FIRST_SCRATCH_SLOT, LAST_PORTER_SLOT}
 use Rattle.fk_model.specs.declared.names.Kind.TheVariants as kinds
@@ -80,7 +81,8 @@ module _ (w : World) (valid : IsValid w) (x : Path) (to : Ptr) (there : w.body x
 
   pub not_there : (y q : Path) → list_any (leads_to y) (body_pointers (w.body q)) ≡ true → same_path y x ≡ false
   not_there y q led = same_path_ne y x (λ e.
-      let here : list_any (leads_to x) (body_pointers (w.body q)) ≡ true = subst (λ (y : Path). list_any (leads_to y) (body_pointers (w.body q)) ≡ true) e led in
+      let here : list_any (leads_to x) (body_pointers (w.body q))
+      ≡ true = subst (λ (y : Path). list_any (leads_to y) (body_pointers (w.body q)) ≡ true) e led in
       there_live (kind_there w) x kind_is q (w.body q) (valid.consistent.good q) here)
 
   nobody : (k : ℕ) → w.body (k ∷ x) ≡ None
@@ -102,11 +104,13 @@ module _ (nester : Path) (w : World) (valid : IsValid w) where
   abbrev me : Path
   me = LAST_PORTER_SLOT ∷ nester
 
-  pub destroy-row : (s x : ℕ) (space : Path) (to : Ptr) → w.body (x ∷ space) ≡ Some (Reference to) → space_argument w (porter nester no_words) s ≡ Ok space → object_in w (porter nester no_words) anything space x ≡ Ok (Reference to) →
+  pub destroy-row : (s x : ℕ) (space : Path) (to : Ptr) → w.body (x ∷ space) ≡ Some (Reference to) → space_argument w (porter nester no_words) s ≡ Ok space
+      → object_in w (porter nester no_words) anything space x ≡ Ok (Reference to) →
       is_frozen_for w me (x ∷ space) ≡ false → is_within (x ∷ space) nester ≡ false →
       call_row w (porter nester no_words) None (Destroy s x) ≡ Goes (Kill (x ∷ space) ∷ []) (Answered OK [])
   unfolding call_row destroy
-  destroy-row s x space to there h object free apart = rw (h, object, free, apart, its_leaf w valid (x ∷ space) to there, free, there, same_path_refl (x ∷ space)) refl
+  destroy-row s x space to there h object free apart = rw
+      (h, object, free, apart, its_leaf w valid (x ∷ space) to there, free, there, same_path_refl (x ∷ space)) refl
 
 -- ---- as orders
 
@@ -162,7 +166,11 @@ module _ (nester : Path) (slot : ℕ) (g : Site) (w : World) (shows : Shows nest
 
   bare_gone : (to : Ptr) → w.body (pin_of root) ≡ Some (Reference to) → bare root (apply (Kill (pin_of root)) w) ≡ bare root w
   unfolding apply
-  bare_gone to is = λ i. record { body = λ y. by y (same_path y (pin_of root)) refl i; page = λ y page. pages_stay w valid (pin_of root) to is y page i; next = next_stays i }
+  bare_gone to is = λ i. record {
+    body = λ y. by y (same_path y (pin_of root)) refl i;
+    page = λ y page. pages_stay w valid (pin_of root) to is y page i;
+    next = next_stays i;
+  }
     where
       by : (y : Path) (t : Bool) → same_path y (pin_of root) ≡ t → cond t None ((apply (Kill (pin_of root)) w).body y) ≡ cond t None (w.body y)
       by y true e = refl
@@ -186,9 +194,11 @@ module _ (nester : Path) (slot : ℕ) (g : Site) (w : World) (shows : Shows nest
           low = shows.low;
           holder = ap holder_of (same root (same_path_ne root (pin_of root) (λ e. omega (arith, ap length e)))) ∙ shows.holder;
           above = above_stays nester slot g w shows v (λ a short. same a (same_path_ne a (pin_of root) (λ e. omega (arith, short, ap length e))));
-          porter = ap (holds is_native) (same (LAST_PORTER_SLOT ∷ nester) (same_path_ne (LAST_PORTER_SLOT ∷ nester) (pin_of root) (λ e. omega (arith, ap length e)))) ∙ shows.porter;
+          porter = ap (holds is_native) (same (LAST_PORTER_SLOT ∷ nester)
+              (same_path_ne (LAST_PORTER_SLOT ∷ nester) (pin_of root) (λ e. omega (arith, ap length e)))) ∙ shows.porter;
           like = rw (bare_gone pin.to pin.is) shows.like;
           pin = gone w valid (pin_of root) pin.to pin.is;
-          spots = λ k is. inner_spot nester slot g w shows v k (g.spot k) NoPin (stays k) (same (k ∷ nester) (same_path_ne (k ∷ nester) (pin_of root) (λ e. omega (arith, ap length e)))) (shows.spots k is);
+          spots = λ k is. inner_spot nester slot g w shows v k (g.spot k) NoPin (stays k)
+              (same (k ∷ nester) (same_path_ne (k ∷ nester) (pin_of root) (λ e. omega (arith, ap length e)))) (shows.spots k is);
         };
       }

@@ -1,5 +1,6 @@
 -- Without a pin what a site has built is the cut.
-use Rattle.std.proofs.Common.{◌≡◌, ℕ, Bool, true, false, cond, not, ◌&&◌, eqb, is_some, IfSome, [], ◌∷◌, ◌++◌, Option, Some, None, option_map, refl, sym, ap, subst, eqb-true, ◌∙◌}
+use Rattle.std.proofs.Common.{◌≡◌, ℕ, Bool, true, false, cond, not, ◌&&◌, eqb, is_some, IfSome, [], ◌∷◌, ◌++◌, Option, Some, None, option_map, refl, sym, ap}
+use Rattle.std.proofs.Common.{subst, eqb-true, ◌∙◌}
 use Rattle.fk_model.specs.declared.names.Kind.TheVariants as kinds
 use Rattle.fk_model.specs.Places.{Path, same_path, strip, Ptr}
 use Rattle.fk_model.specs.Places.Ptr.{Out, Far}
@@ -51,7 +52,8 @@ module _ (nester : Path) (slot : ℕ) (g : Site) (w : World) (shows : Shows nest
   strip_root : strip root root ≡ Some []
   strip_root = strip-append root []
 
-  out_agrees : (x : Path) (i : ℕ) (o : Option Path) → strip root x ≡ o → is_some o ≡ false → cut_to (λ i. true) nester x o ≡ Out i → is_port (w.body x) ≡ true → cut_to ports nester x o ≡ Out i
+  out_agrees : (x : Path) (i : ℕ) (o : Option Path) → strip root x ≡ o → is_some o ≡ false → cut_to (λ i. true) nester x o ≡ Out i → is_port (w.body x) ≡ true
+      → cut_to ports nester x o ≡ Out i
   out_agrees x i (Some q) e apart seen port = cc
   out_agrees [] i None e apart seen port = cc
   out_agrees (j ∷ y) i None e apart seen port = by (same_path y nester) refl seen
@@ -67,7 +69,8 @@ module _ (nester : Path) (slot : ℕ) (g : Site) (w : World) (shows : Shows nest
           by_slot false h at = seen
           by_slot true h at =
               let same = eqb-true j slot h in
-              let here : strip root root ≡ None = subst (λ (k : ℕ). strip root (k ∷ nester) ≡ None) same (subst (λ (y : Path). strip root (j ∷ y) ≡ None) at e) in
+              let here : strip root root ≡ None = subst (λ (k : ℕ). strip root (k ∷ nester) ≡ None) same
+              (subst (λ (y : Path). strip root (j ∷ y) ≡ None) at e) in
               let both = sym strip_root ∙ here in
               cc
 
@@ -93,7 +96,8 @@ module _ (nester : Path) (slot : ℕ) (g : Site) (w : World) (shows : Shows nest
   talk_agrees None h = refl
   talk_agrees (Some talk) h = rw (h.0, peer_agrees (is_out (see talk.port)) talk.peer h.1) refl
 
-  taker_agrees : (out : Bool) (o : Option Peer) → IfSome o (λ taker. IfServer out taker Agrees) → option_map (cut_peer ports nester slot out) o ≡ option_map (seen_peer see out) o
+  taker_agrees : (out : Bool) (o : Option Peer) → IfSome o (λ taker. IfServer out taker Agrees)
+      → option_map (cut_peer ports nester slot out) o ≡ option_map (seen_peer see out) o
   taker_agrees out None h = refl
   taker_agrees out (Some taker) h = ap Some (peer_agrees out taker h)
 
@@ -119,7 +123,8 @@ module _ (nester : Path) (slot : ℕ) (g : Site) (w : World) (shows : Shows nest
   there_agrees q None h = refl
   there_agrees q (Some b) h = ap (λ b. Some (unheld q b)) (body_agrees b (among_body see (HasLikeness root see (bare root w)) Agrees b (λ p is. agrees p) h))
 
-  root_agrees : option_map (λ b. unheld [] (seen_by (cutting ports nester slot) b)) (w.body root) ≡ option_map (λ b. unheld [] (seen_by (seeing see) b)) (w.body root)
+  root_agrees : option_map (λ b. unheld [] (seen_by (cutting ports nester slot) b)) (w.body root)
+      ≡ option_map (λ b. unheld [] (seen_by (seeing see) b)) (w.body root)
   unfolding seen_by
   root_agrees = let space = root_there nester slot g w shows in rw space.is refl
 

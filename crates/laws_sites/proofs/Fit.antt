@@ -1,5 +1,6 @@
 -- A thread inside serves nobody.
-use Rattle.std.proofs.Common.{◌≡◌, ℕ, Bool, true, false, cond, ◌&&◌, nat_le, is_some, IfSome, List, [], ◌∷◌, ◌++◌, length, find, Option, Some, None, option_map, refl, sym, ap, subst, arith, length-append, ◌∙◌}
+use Rattle.std.proofs.Common.{◌≡◌, ℕ, Bool, true, false, cond, ◌&&◌, nat_le, is_some, IfSome, List, [], ◌∷◌, ◌++◌, length, find, Option, Some, None, option_map}
+use Rattle.std.proofs.Common.{refl, sym, ap, subst, arith, length-append, ◌∙◌}
 use Rattle.std.specs.List.{list_any}
 use Rattle.std.proofs.lemmas.Bool.{and_parts}
 use Rattle.fk_model.specs.Places.{Path, same_path, strip, Ptr, leads_to}
@@ -42,16 +43,19 @@ module _ (x : Path) where
   taker_off None h = refl
   taker_off (Some taker) h = peer_off taker h
 
-  fault_off : (o : Option Fault) → list_any (leads_to x) (option_list fault_pointers o) ≡ false → holds (λ (fault : Fault). holds (serves x) fault.taker) o ≡ false
+  fault_off : (o : Option Fault) → list_any (leads_to x) (option_list fault_pointers o) ≡ false
+      → holds (λ (fault : Fault). holds (serves x) fault.taker) o ≡ false
   fault_off None h = refl
   fault_off (Some fault) h = taker_off fault.taker (both_off x (fault.port ∷ []) (option_list peer_pointer fault.taker) h).1
 
   abbrev Idle : Option Body → Type 0
-  Idle o = (holds (λ (talk : Talk). serves x talk.peer) (and_then (λ (t : Thread). t.talk) (and_then thread_of o)) ≡ false) × (holds (λ (fault : Fault). holds (serves x) fault.taker) (and_then (λ (t : Thread). t.fault) (and_then thread_of o)) ≡ false)
+  Idle o = (holds (λ (talk : Talk). serves x talk.peer) (and_then (λ (t : Thread). t.talk) (and_then thread_of o)) ≡ false)
+      × (holds (λ (fault : Fault). holds (serves x) fault.taker) (and_then (λ (t : Thread). t.fault) (and_then thread_of o)) ≡ false)
 
   idle_off : (o : Option Body) → list_any (leads_to x) (body_pointers o) ≡ false → Idle o
   idle_off None h = (refl, refl)
-  idle_off (Some (Thread_of t)) h = let both = both_off x (option_list talk_pointers t.talk) (option_list fault_pointers t.fault) h in (talk_off t.talk both.0, fault_off t.fault both.1)
+  idle_off (Some (Thread_of t)) h = let both = both_off x (option_list talk_pointers t.talk) (option_list fault_pointers t.fault) h in
+      (talk_off t.talk both.0, fault_off t.fault both.1)
   idle_off (Some (Mutex locked)) h = (refl, refl)
   idle_off (Some Cond) h = (refl, refl)
   idle_off (Some (Mapping m)) h = (refl, refl)
@@ -61,7 +65,8 @@ module _ (x : Path) where
   idle_off (Some (Space birth holder)) h = (refl, refl)
   idle_off (Some (Reference to)) h = (refl, refl)
 
-module _ (nester : Path) (slot : ℕ) (g : Site) (w : World) (j : ℕ) (z : Path) (shows : Shows nester slot g w) (unled : IsUnled nester slot w) (valid : IsConsistent w) (idle : IsIdleIn g.built (j ∷ z)) where
+module _ (nester : Path) (slot : ℕ) (g : Site) (w : World) (j : ℕ) (z : Path) (shows : Shows nester slot g w) (unled : IsUnled nester slot w)
+    (valid : IsConsistent w) (idle : IsIdleIn g.built (j ∷ z)) where
   abbrev root : Path
   root = slot ∷ nester
 
@@ -86,7 +91,8 @@ module _ (nester : Path) (slot : ℕ) (g : Site) (w : World) (j : ℕ) (z : Path
           cc
 
   -- one at a port outside lives there
-  peer_out : (port : Ptr) (peer : Peer) → PtrLikeness root (bare root w) port (see port) → is_out (see port) ≡ true → ((server : Ptr) → peer ≡ Server server → lies_with port server) → serves x peer ≡ false
+  peer_out : (port : Ptr) (peer : Peer) → PtrLikeness root (bare root w) port (see port) → is_out (see port) ≡ true
+      → ((server : Ptr) → peer ≡ Server server → lies_with port server) → serves x peer ≡ false
   peer_out port Service like out near = refl
   peer_out port Parked like out near = refl
   peer_out port (Server thread) like out near = by (leads_to x thread) refl
@@ -107,27 +113,34 @@ module _ (nester : Path) (slot : ℕ) (g : Site) (w : World) (j : ℕ) (z : Path
       by false e = refl
       by true e = let at = leads_to_at x thread e in absurd (apart port (see port) like refl out (subst (λ (p : Ptr). lies_with port p) at (near thread refl)))
 
-  peer_idle : (port : Ptr) (peer : Peer) (out : Bool) → is_out (see port) ≡ out → PtrLikeness root (bare root w) port (see port) → ((server : Ptr) → peer ≡ Server server → lies_with port server) → serves (j ∷ z) (seen_peer see (is_out (see port)) peer) ≡ false → serves x peer ≡ false
+  peer_idle : (port : Ptr) (peer : Peer) (out : Bool) → is_out (see port) ≡ out → PtrLikeness root (bare root w) port (see port)
+      → ((server : Ptr) → peer ≡ Server server → lies_with port server) → serves (j ∷ z) (seen_peer see (is_out (see port)) peer) ≡ false
+      → serves x peer ≡ false
   peer_idle port peer true e like near h = peer_out port peer like e near
   peer_idle port peer false e like near h = peer_seen peer (subst (λ (b : Bool). serves (j ∷ z) (seen_peer see b peer) ≡ false) e h)
 
-  talk_idle : (o : Option Talk) → IfSome o (AllInTalk see (HasLikeness root see (bare root w))) → ((talk : Talk) (server : Ptr) → o ≡ Some talk → talk.peer ≡ Server server → lies_with talk.port server) →
+  talk_idle : (o : Option Talk) → IfSome o (AllInTalk see (HasLikeness root see (bare root w)))
+      → ((talk : Talk) (server : Ptr) → o ≡ Some talk → talk.peer ≡ Server server → lies_with talk.port server) →
       holds (λ (talk : Talk). serves (j ∷ z) talk.peer) (and_then (seeing see).talk o) ≡ false → holds (λ (talk : Talk). serves x talk.peer) o ≡ false
   talk_idle None like near h = refl
   talk_idle (Some talk) like near h = peer_idle talk.port talk.peer (is_out (see talk.port)) refl like.0 (λ server e. near talk server refl e) h
 
-  taker_idle : (port : Ptr) (o : Option Peer) → PtrLikeness root (bare root w) port (see port) → ((server : Ptr) → o ≡ Some (Server server) → lies_with port server) →
+  taker_idle : (port : Ptr) (o : Option Peer) → PtrLikeness root (bare root w) port (see port)
+      → ((server : Ptr) → o ≡ Some (Server server) → lies_with port server) →
       holds (serves (j ∷ z)) (option_map (seen_peer see (is_out (see port))) o) ≡ false → holds (serves x) o ≡ false
   taker_idle port None like near h = refl
   taker_idle port (Some taker) like near h = peer_idle port taker (is_out (see port)) refl like (λ server e. near server (ap Some e)) h
 
-  fault_idle : (o : Option Fault) → IfSome o (AllInFault see (HasLikeness root see (bare root w))) → ((fault : Fault) (server : Ptr) → o ≡ Some fault → fault.taker ≡ Some (Server server) → lies_with fault.port server) →
-      holds (λ (fault : Fault). holds (serves (j ∷ z)) fault.taker) (and_then (seeing see).fault o) ≡ false → holds (λ (fault : Fault). holds (serves x) fault.taker) o ≡ false
+  fault_idle : (o : Option Fault) → IfSome o (AllInFault see (HasLikeness root see (bare root w)))
+      → ((fault : Fault) (server : Ptr) → o ≡ Some fault → fault.taker ≡ Some (Server server) → lies_with fault.port server) →
+      holds (λ (fault : Fault). holds (serves (j ∷ z)) fault.taker) (and_then (seeing see).fault o) ≡ false
+      → holds (λ (fault : Fault). holds (serves x) fault.taker) o ≡ false
   fault_idle None like near h = refl
   fault_idle (Some fault) like near h = taker_idle fault.port fault.taker like.0 (λ server e. near fault server refl e) h
 
   -- an object inside, by what it is seen as
-  body_idle : (y : Path) (o : Option Body) → w.body y ≡ o → IfSome o (IsPlainBody see (HasLikeness root see (bare root w))) → Idle (j ∷ z) (option_map (seen_by (seeing see)) o) → Idle x o
+  body_idle : (y : Path) (o : Option Body) → w.body y ≡ o → IfSome o (IsPlainBody see (HasLikeness root see (bare root w)))
+      → Idle (j ∷ z) (option_map (seen_by (seeing see)) o) → Idle x o
   unfolding seen_by
   body_idle y (Some (Thread_of t)) is plain h = (
     talk_idle t.talk plain.0 (λ talk server e f. valid.talks_near y talk server (rw is e) f) h.0,
@@ -160,8 +173,10 @@ module _ (nester : Path) (slot : ℕ) (g : Site) (w : World) (j : ℕ) (z : Path
   inside_idle [] = let space = root_there nester slot g w shows in none_idle root (Some (Space space.birth space.holder)) space.is (refl, refl)
   inside_idle (k ∷ q) = by (same_path (k ∷ (q ++ root)) (pin_of root)) refl (shows.like.plain k q) (shows.like.bodies (k ∷ q)) (idle (k ∷ q))
     where
-      by : (t : Bool) → same_path (k ∷ (q ++ root)) (pin_of root) ≡ t → IfSome (cond t None (w.body (k ∷ (q ++ root)))) (IsPlainBody see (HasLikeness root see (bare root w))) →
-          g.built.body (k ∷ q) ≡ option_map (λ b. unheld (k ∷ q) (seen_by (seeing see) b)) (cond t None (w.body (k ∷ (q ++ root)))) → Idle (j ∷ z) (g.built.body (k ∷ q)) → Idle x (w.body (k ∷ (q ++ root)))
+      by : (t : Bool) → same_path (k ∷ (q ++ root)) (pin_of root) ≡ t
+          → IfSome (cond t None (w.body (k ∷ (q ++ root)))) (IsPlainBody see (HasLikeness root see (bare root w))) →
+          g.built.body (k ∷ q) ≡ option_map (λ b. unheld (k ∷ q) (seen_by (seeing see) b)) (cond t None (w.body (k ∷ (q ++ root))))
+          → Idle (j ∷ z) (g.built.body (k ∷ q)) → Idle x (w.body (k ∷ (q ++ root)))
       by true e plain is h = subst (λ (y : Path). Idle x (w.body y)) (sym (same_path_eq (k ∷ (q ++ root)) (pin_of root) e)) (pin_idle g.pin shows.pin)
       by false e plain is h = body_idle (k ∷ (q ++ root)) (w.body (k ∷ (q ++ root))) refl plain (subst (λ (o : Option Body). Idle (j ∷ z) o) is h)
 

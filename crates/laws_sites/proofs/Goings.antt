@@ -22,5 +22,6 @@ module _ (nester : Path) (slot : ℕ) (g : Site) (w : World) (o : Order) (shows 
   goings =
       let its = comes nester slot g w shows answered.valid o may in
       let goes = goes_by nester w (stage_of slot o) (words_of o) reply answered its.changes its.reply.status its.reply.words its.row in
-      let told : Answered its.reply.status its.reply.words ≡ Answered reply.status reply.words = ap (λ (s : ℕ). Answered s its.reply.words) (sym goes.1.0) ∙ ap (Answered reply.status) (sym goes.1.1) in
+      let told : Answered its.reply.status its.reply.words ≡ Answered reply.status reply.words = ap (λ (s : ℕ). Answered s its.reply.words) (sym goes.1.0)
+      ∙ ap (Answered reply.status) (sym goes.1.1) in
       record { changes = its.changes; row = its.row ∙ ap (Goes its.changes) told; world = goes.0 }

@@ -1,5 +1,6 @@
 -- A restorer is told of no port exactly where there is none.
-use Rattle.std.proofs.Common.{◌≡◌, ℕ, Bool, true, false, ◌&&◌, ◌==◌, nat_le, List, [], ◌∷◌, ◌++◌, length, Option, Some, None, option_map, Result, Ok, Err, refl, sym, ap, subst, arith, eq-eqb, ◌∙◌}
+use Rattle.std.proofs.Common.{◌≡◌, ℕ, Bool, true, false, ◌&&◌, ◌==◌, nat_le, List, [], ◌∷◌, ◌++◌, length, Option, Some, None, option_map, Result, Ok, Err, refl}
+use Rattle.std.proofs.Common.{sym, ap, subst, arith, eq-eqb, ◌∙◌}
 use Rattle.std.specs.List.{list_any}
 use Rattle.std.proofs.lemmas.Bool.{and_parts}
 use Rattle.fk_model.specs.declared.limits.TheConstants.{OWN_SPACE, FIRST_SCRATCH_SLOT, LAST_PORTER_SLOT}
@@ -68,9 +69,14 @@ module _ (nester : Path) (slot : ℕ) where
   abbrev root : Path
   root = slot ∷ nester
 
-  led_here : (w : World) (i : ℕ) (old to : Ptr) (b : Bool) → w.body (pin_of root) ≡ Some (Reference old) → is_port (w.body (i ∷ nester)) ≡ b → (is_port (w.body (i ∷ nester)) ≡ true → to ≡ At (i ∷ nester)) → Looks nester slot (apply (Alter (pin_of root) (SetPointer to)) w) i b
+  led_here : (w : World) (i : ℕ) (old to : Ptr) (b : Bool) → w.body (pin_of root) ≡ Some (Reference old) → is_port (w.body (i ∷ nester)) ≡ b
+      → (is_port (w.body (i ∷ nester)) ≡ true → to ≡ At (i ∷ nester)) → Looks nester slot (apply (Alter (pin_of root) (SetPointer to)) w) i b
   unfolding apply edited
-  led_here w i old to b pin port leads = record { to = to; pin = rw (same_path_refl (pin_of root), pin) refl; hit = rw (same_path_ne (i ∷ nester) (pin_of root) (λ e. omega (arith, ap length e)), port) (by b port) }
+  led_here w i old to b pin port leads = record {
+    to = to;
+    pin = rw (same_path_refl (pin_of root), pin) refl;
+    hit = rw (same_path_ne (i ∷ nester) (pin_of root) (λ e. omega (arith, ap length e)), port) (by b port);
+  }
     where
       by : (b : Bool) → is_port (w.body (i ∷ nester)) ≡ b → (leads_to (i ∷ nester) to && b) ≡ b
       by true e = rw (leads e, same_path_refl (i ∷ nester)) refl
@@ -80,14 +86,18 @@ module _ (nester : Path) (slot : ℕ) where
           off true = refl
           off false = refl
 
-  pin_tells : (g : Site) (w : World) (i : ℕ) (reply : Reply) → Shows nester slot g w → May slot (Pins i) g → IsAnswered nester w (stage_of slot (Pins i)) no_words reply → PinTells nester slot w i reply
+  pin_tells : (g : Site) (w : World) (i : ℕ) (reply : Reply) → Shows nester slot g w → May slot (Pins i) g
+      → IsAnswered nester w (stage_of slot (Pins i)) no_words reply → PinTells nester slot w i reply
   unfolding apply_all
   pin_tells g w i reply shows may answered =
       let goes = goings nester slot g w (Pins i) shows may reply answered in
       let pin = pinned nester slot g w shows may.0 in
-      by (pointer_in w (porter nester no_words) nester i) (tells w nester i (user_named nester slot g w shows i may.2)) pin goes.changes (sym (pins-row nester slot g w shows i pin) ∙ goes.row) goes.world
+      by (pointer_in w (porter nester no_words) nester i) (tells w nester i (user_named nester slot g w shows i may.2)) pin goes.changes
+      (sym (pins-row nester slot g w shows i pin) ∙ goes.row) goes.world
     where
-      by : (r : Result Ptr ℕ) → Tells w nester i r → IsPinned nester slot g w shows → (changes : List Change) → points_as nester no_words w (pin_of root) r ≡ Goes changes (Answered reply.status reply.words) → after w (call_of nester (stage_of slot (Pins i)) no_words) ≡ apply_all changes w → PinTells nester slot w i reply
+      by : (r : Result Ptr ℕ) → Tells w nester i r → IsPinned nester slot g w shows → (changes : List Change)
+          → points_as nester no_words w (pin_of root) r ≡ Goes changes (Answered reply.status reply.words)
+          → after w (call_of nester (stage_of slot (Pins i)) no_words) ≡ apply_all changes w → PinTells nester slot w i reply
       by _ (Refuses status apart off) pin changes row world =
           let same : status ≡ reply.status = cc in
           record { looks = λ ok. absurd (apart (same ∙ ok)); led = λ on. let both = sym off ∙ on in cc }
@@ -96,7 +106,8 @@ module _ (nester : Path) (slot : ℕ) where
           let listed : changes ≡ Alter (pin_of root) (SetPointer to) ∷ [] = cc in
           record { looks = λ h. rw (world, listed) (led_here w i pin.to to (is_port (w.body (i ∷ nester))) pin.is refl leads); led = λ h. ok }
 
-  hit_same : (w v : World) (i : ℕ) (to : Ptr) (port : Bool) → (leads_to (i ∷ nester) to ≡ true → kind_there v (i ∷ nester) ≡ kind_there w (i ∷ nester)) → hits nester w i to ≡ port → hits nester v i to ≡ port
+  hit_same : (w v : World) (i : ℕ) (to : Ptr) (port : Bool) → (leads_to (i ∷ nester) to ≡ true → kind_there v (i ∷ nester) ≡ kind_there w (i ∷ nester))
+      → hits nester w i to ≡ port → hits nester v i to ≡ port
   hit_same w v i to port same h = by (leads_to (i ∷ nester) to) refl h
     where
       by : (t : Bool) → leads_to (i ∷ nester) to ≡ t → (t && is_port (w.body (i ∷ nester))) ≡ port → (t && is_port (v.body (i ∷ nester))) ≡ port
@@ -107,7 +118,8 @@ module _ (nester : Path) (slot : ℕ) where
   inside_looks w v i port same looks = record {
     to = looks.to;
     pin = same.bodies (FIRST_SCRATCH_SLOT ∷ []) ∙ looks.pin;
-    hit = hit_same w v i looks.to port (λ led. let on : list_any (leads_to (i ∷ nester)) (body_pointers (w.body (pin_of root))) ≡ true = rw looks.pin (one_led (i ∷ nester) looks.to led) in same.kinds (i ∷ nester) (FIRST_SCRATCH_SLOT ∷ []) on) looks.hit;
+    hit = hit_same w v i looks.to port (λ led. let on : list_any (leads_to (i ∷ nester)) (body_pointers (w.body (pin_of root)))
+        ≡ true = rw looks.pin (one_led (i ∷ nester) looks.to led) in same.kinds (i ∷ nester) (FIRST_SCRATCH_SLOT ∷ []) on) looks.hit;
   }
 
 pub pins_tell : PinsTell
@@ -122,9 +134,11 @@ others_keep_looks nester slot g w e i port shows moves looks =
 pub checks_tell : ChecksTell
 checks_tell nester slot g w r i port reply shows may answered looks =
     let goes = goings nester slot g w (Checks r i) shows may reply answered in
-    let ref : SpotShows nester slot w g.pin r (Some Unsure) = subst (λ (o : Option Spot). SpotShows nester slot w g.pin r o) may.1 (shows.spots r (ref_slot nester slot g w shows r may.0)) in
+    let ref : SpotShows nester slot w g.pin r (Some Unsure) = subst (λ (o : Option Spot). SpotShows nester slot w g.pin r o) may.1
+    (shows.spots r (ref_slot nester slot g w shows r may.0)) in
     let same : ref.0 ≡ looks.to = let both = sym ref.2 ∙ looks.pin in cc in
-    let comes = sym (locate_here-row nester no_words w r ref.0 (object-there nester no_words w reference_of nester r (Reference ref.0) ref.0 (ref_named nester slot g w shows r may.0) ref.1 refl)) ∙ goes.row in
+    let comes = sym (locate_here-row nester no_words w r ref.0
+    (object-there nester no_words w reference_of nester r (Reference ref.0) ref.0 (ref_named nester slot g w shows r may.0) ref.1 refl)) ∙ goes.row in
     let hit : hits nester w i ref.0 ≡ port = subst (λ (to : Ptr). hits nester w i to ≡ port) (sym same) looks.hit in
     by port ref.0 comes hit
   where
@@ -166,7 +180,8 @@ checks_tell nester slot g w r i port reply shows may answered looks =
         by_kind (Some (Reference to)) h = cc
         by_kind None h = cc
 
-    by : (port : Bool) (to : Ptr) → {changes : List Change} → located_here nester no_words w (target_of to) ≡ Goes changes (Answered reply.status reply.words) → hits nester w i to ≡ port → (reply.status == OK && is_port_in i reply.words) ≡ port
+    by : (port : Bool) (to : Ptr) → {changes : List Change} → located_here nester no_words w (target_of to) ≡ Goes changes (Answered reply.status reply.words)
+        → hits nester w i to ≡ port → (reply.status == OK && is_port_in i reply.words) ≡ port
     by true to comes hit =
         let told = sym (on_port to (is_the_port to hit)) ∙ comes in
         let status : reply.status ≡ OK = cc in
@@ -195,4 +210,10 @@ takes_keep_looks nester slot g w r i port reply shows may answered looks =
     (ref_unfrozen nester slot g w shows r ref.to ref.is) in
     let both = sym row ∙ goes.row in
     let listed : goes.changes ≡ Alter (r ∷ nester) (SetPointer looks.to) ∷ [] = cc in
-    rw (goes.world, listed) (record { to = looks.to; pin = pin_kept nester slot g w shows r looks.to ∙ looks.pin; hit = hit_same nester slot w (apply (Alter (r ∷ nester) (SetPointer looks.to)) w) i looks.to port (λ led. alter_kind nester slot g w shows (r ∷ nester) (i ∷ nester) (SetPointer looks.to)) looks.hit })
+    rw (goes.world, listed) (record {
+      to = looks.to;
+      pin = pin_kept nester slot g w shows r looks.to
+          ∙ looks.pin;
+      hit = hit_same nester slot w (apply (Alter (r ∷ nester) (SetPointer looks.to)) w) i looks.to port
+          (λ led. alter_kind nester slot g w shows (r ∷ nester) (i ∷ nester) (SetPointer looks.to)) looks.hit;
+    })

@@ -1,5 +1,6 @@
 -- A restorer's calls change what is near alone, so nobody outside comes to lead in.
-use Rattle.std.proofs.Common.{◌≡◌, ℕ, Bool, true, false, is_some, List, [], ◌∷◌, ◌++◌, Option, Some, None, option_map, Result, Ok, Err, refl, sym, ap, subst, ◌∙◌}
+use Rattle.std.proofs.Common.{◌≡◌, ℕ, Bool, true, false, is_some, List, [], ◌∷◌, ◌++◌, Option, Some, None, option_map, Result, Ok, Err, refl, sym, ap, subst}
+use Rattle.std.proofs.Common.{◌∙◌}
 use Rattle.std.specs.List.{list_any}
 use Rattle.fk_model.specs.declared.limits.TheConstants.{LAST_PORTER_SLOT, FIRST_SCRATCH_SLOT}
 use Rattle.fk_model.specs.declared.stage.Stage.TheVariants.{SpaceMakeHeld}
@@ -26,7 +27,8 @@ use Rattle.laws_jobs.proofs.LeadLaws.{others_keep_unled}
 use Rattle.laws_frozen.proofs.Frozen.{there_live}
 use Rattle.laws_sites.specs.Orders.Spot.{Unsure}
 use Rattle.laws_sites.specs.Orders.{Spot, Site, Shows, SpotShows, Order, May, stage_of, words_of, pin_of}
-use Rattle.laws_sites.specs.Orders.Order.{Readies, Leads, LeadsTop, Makes, Sets, Points, Gives, MakesPin, Pins, Takes, Checks, ParksTalk, ParksFault, LinksTalk, RaisesFault, LinksFault, Holds, Drops, DropsPin, Deadens}
+use Rattle.laws_sites.specs.Orders.Order.{Readies, Leads, LeadsTop, Makes, Sets, Points, Gives, MakesPin, Pins, Takes, Checks, ParksTalk, ParksFault, LinksTalk}
+use Rattle.laws_sites.specs.Orders.Order.{RaisesFault, LinksFault, Holds, Drops, DropsPin, Deadens}
 use Rattle.laws_sites.specs.Fit.{IsUnled}
 use Rattle.laws_sites.specs.Near.{is_near, IsNearChange, AreNear, IsNearCall, OwnCallsAreNear, NewSpaceIsUnled, OthersKeepNewUnled, NearCallsKeepUnled}
 use Rattle.laws_sites.proofs.Nearby.{inside_near}
@@ -47,29 +49,49 @@ module _ (nester : Path) (slot : ℕ) where
   module _ (g : Site) (w : World) (shows : Shows nester slot g w) where
     module _ (o : Order) (reply : Reply) (answered : IsAnswered nester w (stage_of slot o) (words_of o) reply) where
       by_plain : Plain nester slot g w shows answered.valid.consistent o → IsNearCall nester slot w (call_of nester (stage_of slot o) (words_of o))
-      by_plain its = record { changes = its.changes; world = (goes_by nester w (stage_of slot o) (words_of o) reply answered its.changes OK [] its.row).0; near = its.near }
+      by_plain its = record {
+        changes = its.changes;
+        world = (goes_by nester w (stage_of slot o) (words_of o) reply answered its.changes OK [] its.row).0;
+        near = its.near;
+      }
 
-    pinning : (i : ℕ) (reply : Reply) → May slot (Pins i) g → IsAnswered nester w (stage_of slot (Pins i)) no_words reply → IsNearCall nester slot w (call_of nester (stage_of slot (Pins i)) no_words)
+    pinning : (i : ℕ) (reply : Reply) → May slot (Pins i) g → IsAnswered nester w (stage_of slot (Pins i)) no_words reply
+        → IsNearCall nester slot w (call_of nester (stage_of slot (Pins i)) no_words)
     pinning i reply may answered = by (pointer_in w (porter nester no_words) nester i) (pins-row nester slot g w shows i (pinned nester slot g w shows may.0))
       where
-        by : (r : Result Ptr ℕ) → call_row w (porter nester no_words) None (stage_of slot (Pins i)) ≡ points_as nester no_words w (pin_of root) r → IsNearCall nester slot w (call_of nester (stage_of slot (Pins i)) no_words)
-        by (Ok to) h = record { changes = _; world = (goes_by nester w (stage_of slot (Pins i)) no_words reply answered _ _ _ h).0; near = ((inside_near nester slot (FIRST_SCRATCH_SLOT ∷ []), tt), tt) }
+        by : (r : Result Ptr ℕ) → call_row w (porter nester no_words) None (stage_of slot (Pins i)) ≡ points_as nester no_words w (pin_of root) r
+            → IsNearCall nester slot w (call_of nester (stage_of slot (Pins i)) no_words)
+        by (Ok to) h = record {
+          changes = _;
+          world = (goes_by nester w (stage_of slot (Pins i)) no_words reply answered _ _ _ h).0;
+          near = ((inside_near nester slot (FIRST_SCRATCH_SLOT ∷ []), tt), tt);
+        }
         by (Err status) h = record { changes = []; world = (goes_by nester w (stage_of slot (Pins i)) no_words reply answered _ _ _ h).0; near = tt }
 
-    checking : (r i : ℕ) (reply : Reply) → May slot (Checks r i) g → IsAnswered nester w (stage_of slot (Checks r i)) no_words reply → IsNearCall nester slot w (call_of nester (stage_of slot (Checks r i)) no_words)
+    checking : (r i : ℕ) (reply : Reply) → May slot (Checks r i) g → IsAnswered nester w (stage_of slot (Checks r i)) no_words reply
+        → IsNearCall nester slot w (call_of nester (stage_of slot (Checks r i)) no_words)
     checking r i reply may answered =
-        let ref : SpotShows nester slot w g.pin r (Some Unsure) = subst (λ (o : Option Spot). SpotShows nester slot w g.pin r o) may.1 (shows.spots r (ref_slot nester slot g w shows r may.0)) in
-        by ref.0 (locate_here-row nester no_words w r ref.0 (object-there nester no_words w reference_of nester r (Reference ref.0) ref.0 (ref_named nester slot g w shows r may.0) ref.1 refl))
+        let ref : SpotShows nester slot w g.pin r (Some Unsure) = subst (λ (o : Option Spot). SpotShows nester slot w g.pin r o) may.1
+        (shows.spots r (ref_slot nester slot g w shows r may.0)) in
+        by ref.0 (locate_here-row nester no_words w r ref.0
+        (object-there nester no_words w reference_of nester r (Reference ref.0) ref.0 (ref_named nester slot g w shows r may.0) ref.1 refl))
       where
-        still : (status : ℕ) (given : List ℕ) → call_row w (porter nester no_words) None (stage_of slot (Checks r i)) ≡ Goes [] (Answered status given) → IsNearCall nester slot w (call_of nester (stage_of slot (Checks r i)) no_words)
-        still status given row = record { changes = []; world = (goes_by nester w (stage_of slot (Checks r i)) no_words reply answered [] status given row).0; near = tt }
+        still : (status : ℕ) (given : List ℕ) → call_row w (porter nester no_words) None (stage_of slot (Checks r i)) ≡ Goes [] (Answered status given)
+            → IsNearCall nester slot w (call_of nester (stage_of slot (Checks r i)) no_words)
+        still status given row = record {
+          changes = [];
+          world = (goes_by nester w (stage_of slot (Checks r i)) no_words reply answered [] status given row).0;
+          near = tt;
+        }
 
-        by_way : (to : Ptr) (o : Option (List ℕ)) → way_to nester to ≡ o → call_row w (porter nester no_words) None (stage_of slot (Checks r i)) ≡ located_here nester no_words w (Ok to) →
+        by_way : (to : Ptr) (o : Option (List ℕ)) → way_to nester to ≡ o
+            → call_row w (porter nester no_words) None (stage_of slot (Checks r i)) ≡ located_here nester no_words w (Ok to) →
             IsNearCall nester slot w (call_of nester (stage_of slot (Checks r i)) no_words)
         by_way to None e h = still NONE [] (h ∙ rw (located_as, e) refl)
         by_way to (Some way) e h = still OK (way ++ kind_number (kind_at w to) ∷ []) (h ∙ rw (located_as, e) refl)
 
-        by : (to : Ptr) → call_row w (porter nester no_words) None (stage_of slot (Checks r i)) ≡ located_here nester no_words w (target_of to) → IsNearCall nester slot w (call_of nester (stage_of slot (Checks r i)) no_words)
+        by : (to : Ptr) → call_row w (porter nester no_words) None (stage_of slot (Checks r i)) ≡ located_here nester no_words w (target_of to)
+            → IsNearCall nester slot w (call_of nester (stage_of slot (Checks r i)) no_words)
         by Null h = still _ _ h
         by Dead h = still _ _ h
         by (At x) h = by_way (At x) (way_to nester (At x)) refl h
@@ -77,27 +99,40 @@ module _ (nester : Path) (slot : ℕ) where
         by Outside h = by_way Outside None refl h
         by Far h = by_way Far None refl h
 
-    pub near_call : (o : Order) (reply : Reply) → May slot o g → IsAnswered nester w (stage_of slot o) (words_of o) reply → IsNearCall nester slot w (call_of nester (stage_of slot o) (words_of o))
+    pub near_call : (o : Order) (reply : Reply) → May slot o g → IsAnswered nester w (stage_of slot o) (words_of o) reply
+        → IsNearCall nester slot w (call_of nester (stage_of slot o) (words_of o))
     near_call (Pins i) reply may answered = pinning i reply may answered
     near_call (Checks r i) reply may answered = checking r i reply may answered
     near_call (Readies r) reply may answered = by_plain (Readies r) reply answered (plain nester slot g w shows answered.valid.consistent (Readies r) tt may)
-    near_call (Leads r s q x) reply may answered = by_plain (Leads r s q x) reply answered (plain nester slot g w shows answered.valid.consistent (Leads r s q x) tt may)
+    near_call (Leads r s q x) reply may answered = by_plain (Leads r s q x) reply answered
+        (plain nester slot g w shows answered.valid.consistent (Leads r s q x) tt may)
     near_call (LeadsTop r) reply may answered = by_plain (LeadsTop r) reply answered (plain nester slot g w shows answered.valid.consistent (LeadsTop r) tt may)
-    near_call (Makes s q x kind) reply may answered = by_plain (Makes s q x kind) reply answered (plain nester slot g w shows answered.valid.consistent (Makes s q x kind) tt may)
-    near_call (Sets s q x words) reply may answered = by_plain (Sets s q x words) reply answered (plain nester slot g w shows answered.valid.consistent (Sets s q x words) tt may)
-    near_call (Points s q x r) reply may answered = by_plain (Points s q x r) reply answered (plain nester slot g w shows answered.valid.consistent (Points s q x r) tt may)
-    near_call (Gives s q page words) reply may answered = by_plain (Gives s q page words) reply answered (plain nester slot g w shows answered.valid.consistent (Gives s q page words) tt may)
+    near_call (Makes s q x kind) reply may answered = by_plain (Makes s q x kind) reply answered
+        (plain nester slot g w shows answered.valid.consistent (Makes s q x kind) tt may)
+    near_call (Sets s q x words) reply may answered = by_plain (Sets s q x words) reply answered
+        (plain nester slot g w shows answered.valid.consistent (Sets s q x words) tt may)
+    near_call (Points s q x r) reply may answered = by_plain (Points s q x r) reply answered
+        (plain nester slot g w shows answered.valid.consistent (Points s q x r) tt may)
+    near_call (Gives s q page words) reply may answered = by_plain (Gives s q page words) reply answered
+        (plain nester slot g w shows answered.valid.consistent (Gives s q page words) tt may)
     near_call MakesPin reply may answered = by_plain MakesPin reply answered (plain nester slot g w shows answered.valid.consistent MakesPin tt may)
     near_call (Takes r) reply may answered = by_plain (Takes r) reply answered (plain nester slot g w shows answered.valid.consistent (Takes r) tt may)
-    near_call (ParksTalk s q x i words) reply may answered = by_plain (ParksTalk s q x i words) reply answered (plain nester slot g w shows answered.valid.consistent (ParksTalk s q x i words) tt may)
-    near_call (ParksFault s q x i taken words) reply may answered = by_plain (ParksFault s q x i taken words) reply answered (plain nester slot g w shows answered.valid.consistent (ParksFault s q x i taken words) tt may)
+    near_call (ParksTalk s q x i words) reply may answered = by_plain (ParksTalk s q x i words) reply answered
+        (plain nester slot g w shows answered.valid.consistent (ParksTalk s q x i words) tt may)
+    near_call (ParksFault s q x i taken words) reply may answered = by_plain (ParksFault s q x i taken words) reply answered
+        (plain nester slot g w shows answered.valid.consistent (ParksFault s q x i taken words) tt may)
     near_call (Drops r) reply may answered = by_plain (Drops r) reply answered (drops-plain nester slot g w shows answered.valid r may.0 may.1)
-    near_call DropsPin reply may answered = by_plain DropsPin reply answered (drops_pin-plain nester slot g w shows answered.valid (pinned nester slot g w shows may.0) may.1)
+    near_call DropsPin reply may answered = by_plain DropsPin reply answered
+        (drops_pin-plain nester slot g w shows answered.valid (pinned nester slot g w shows may.0) may.1)
     near_call (Deadens r) reply may answered = by_plain (Deadens r) reply answered (deadens-plain nester slot g w shows answered.valid r may)
-    near_call (LinksTalk s q x r u port server words) reply may answered = by_plain (LinksTalk s q x r u port server words) reply answered (links_talk-plain nester slot g w shows answered.valid.consistent s q x r u port server words may)
-    near_call (RaisesFault s q x r port words) reply may answered = by_plain (RaisesFault s q x r port words) reply answered (raises_fault-plain nester slot g w shows answered.valid.consistent s q x r port words may)
-    near_call (LinksFault s q x r u port taker words) reply may answered = by_plain (LinksFault s q x r u port taker words) reply answered (links_fault-plain nester slot g w shows answered.valid.consistent s q x r u port taker words may)
-    near_call (Holds s q x r holder) reply may answered = by_plain (Holds s q x r holder) reply answered (holds-plain nester slot g w shows answered.valid.consistent s q x r holder may)
+    near_call (LinksTalk s q x r u port server words) reply may answered = by_plain (LinksTalk s q x r u port server words) reply answered
+        (links_talk-plain nester slot g w shows answered.valid.consistent s q x r u port server words may)
+    near_call (RaisesFault s q x r port words) reply may answered = by_plain (RaisesFault s q x r port words) reply answered
+        (raises_fault-plain nester slot g w shows answered.valid.consistent s q x r port words may)
+    near_call (LinksFault s q x r u port taker words) reply may answered = by_plain (LinksFault s q x r u port taker words) reply answered
+        (links_fault-plain nester slot g w shows answered.valid.consistent s q x r u port taker words may)
+    near_call (Holds s q x r holder) reply may answered = by_plain (Holds s q x r holder) reply answered
+        (holds-plain nester slot g w shows answered.valid.consistent s q x r holder may)
 
   -- ---- what leads in
 
@@ -119,7 +154,8 @@ module _ (nester : Path) (slot : ℕ) where
   change_unled (Alter x edit) w near unled q y out off = rw (not_there x y near.0 out off) (unled q y out off)
   change_unled (Make x body) w near unled q y out off = rw (not_there x y near.0 out off) (unled q y out off)
   change_unled (MakeSpace x holder) w near unled q y out off = rw (not_there x y near out off) (unled q y out off)
-  change_unled (Kill x) w near unled q y out off = rw (not_there x y near out off) (swept_there (q ++ root) _ (death_clean (q ++ root) x) y (w.body y) (unled q y out off))
+  change_unled (Kill x) w near unled q y out off = rw (not_there x y near out off)
+      (swept_there (q ++ root) _ (death_clean (q ++ root) x) y (w.body y) (unled q y out off))
   change_unled (PutPage space page words) w near unled q y out off = unled q y out off
   change_unled (DropPage space page) w near unled q y out off = absurd near
   change_unled (Move x k) w near unled q y out off = absurd near
@@ -144,8 +180,11 @@ pub new_space_is_unled : NewSpaceIsUnled
 unfolding apply_all apply kind_there
 new_space_is_unled nester slot w reply low empty answered =
     let made = MakeSpace (slot ∷ nester) (Some (At (LAST_PORTER_SLOT ∷ nester))) in
-    let goes = goes_by nester w (SpaceMakeHeld slot) no_words reply answered (made ∷ []) OK [] (make-row nester slot w reply low answered ∙ ap (made_as nester slot w reply low answered) empty) in
-    subst (IsUnled nester slot) (sym goes.0) (λ q y out off. rw (not_there nester slot (slot ∷ nester) y (inside_near nester slot []) out off) (by q y (list_any (leads_to (q ++ slot ∷ nester)) (body_pointers (w.body y))) refl))
+    let goes = goes_by nester w (SpaceMakeHeld slot) no_words reply answered (made ∷ []) OK [] (make-row nester slot w reply low answered
+    ∙ ap (made_as nester slot w reply low answered) empty) in
+    subst (IsUnled nester slot) (sym goes.0) (λ q y out off.
+    rw (not_there nester slot (slot ∷ nester) y (inside_near nester slot []) out off)
+    (by q y (list_any (leads_to (q ++ slot ∷ nester)) (body_pointers (w.body y))) refl))
   where
     by : (q y : Path) (t : Bool) → list_any (leads_to (q ++ slot ∷ nester)) (body_pointers (w.body y)) ≡ t → t ≡ false
     by q y false e = refl

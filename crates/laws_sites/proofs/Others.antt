@@ -43,7 +43,8 @@ module _ (see : Ptr → Ptr) (P Q : Ptr → Type 0) where
   among_talk None more h = tt
   among_talk (Some talk) more h = (more talk.port (inl refl) h.0, among_peer (is_out (see talk.port)) talk.peer (λ p is. more p (inr is)) h.1)
 
-  among_taker : (out : Bool) (o : Option Peer) → More (option_list peer_pointer o) → IfSome o (λ taker. IfServer out taker P) → IfSome o (λ taker. IfServer out taker Q)
+  among_taker : (out : Bool) (o : Option Peer) → More (option_list peer_pointer o) → IfSome o (λ taker. IfServer out taker P)
+      → IfSome o (λ taker. IfServer out taker Q)
   among_taker out None more h = tt
   among_taker out (Some taker) more h = among_peer out taker more h
 
@@ -79,11 +80,13 @@ module _ (root : Path) (see : Ptr → Ptr) (small w v : World) (same : IsSameIns
   unfolding kind_there
   kind_kept x q led port = by (same_path x (pin_of root)) port
     where
-      by : (t : Bool) → and_then (λ b. Some (kind_of b)) (cond t None (w.body x)) ≡ Some kinds.Port → and_then (λ b. Some (kind_of b)) (cond t None (v.body x)) ≡ Some kinds.Port
+      by : (t : Bool) → and_then (λ b. Some (kind_of b)) (cond t None (w.body x)) ≡ Some kinds.Port
+          → and_then (λ b. Some (kind_of b)) (cond t None (v.body x)) ≡ Some kinds.Port
       by true h = cc
       by false h = as_kind (v.body x) ∙ same.kinds x q led ∙ sym (as_kind (w.body x)) ∙ h
 
-  ptr_kept : (q : Path) (b : Body) → w.body (q ++ root) ≡ Some b → (p seen : Ptr) → IsIn p (pointers b) → PtrLikeness root (bare root w) p seen → PtrLikeness root (bare root v) p seen
+  ptr_kept : (q : Path) (b : Body) → w.body (q ++ root) ≡ Some b → (p seen : Ptr) → IsIn p (pointers b) → PtrLikeness root (bare root w) p seen
+      → PtrLikeness root (bare root v) p seen
   ptr_kept q b there _ _ is Nulls = Nulls
   ptr_kept q b there _ _ is Deads = Deads
   ptr_kept q b there _ _ is (Inside x) = Inside x
@@ -92,11 +95,13 @@ module _ (root : Path) (see : Ptr → Ptr) (small w v : World) (same : IsSameIns
       PortAt x i apart (kind_kept x q led port)
   ptr_kept q b there _ _ is (PortOut old i) = PortOut old i
 
-  plain_kept : (k : ℕ) (q : Path) (t : Bool) (o : Option Body) → w.body (k ∷ (q ++ root)) ≡ o → IfSome (cond t None o) (IsPlainBody see (HasLikeness root see (bare root w))) →
+  plain_kept : (k : ℕ) (q : Path) (t : Bool) (o : Option Body) → w.body (k ∷ (q ++ root)) ≡ o
+      → IfSome (cond t None o) (IsPlainBody see (HasLikeness root see (bare root w))) →
       IfSome (cond t None o) (IsPlainBody see (HasLikeness root see (bare root v)))
   plain_kept k q true o there h = tt
   plain_kept k q false None there h = tt
-  plain_kept k q false (Some b) there h = among_body see (HasLikeness root see (bare root w)) (HasLikeness root see (bare root v)) b (λ p is. ptr_kept (k ∷ q) b there p (see p) is) h
+  plain_kept k q false (Some b) there h = among_body see (HasLikeness root see (bare root w)) (HasLikeness root see (bare root v)) b
+      (λ p is. ptr_kept (k ∷ q) b there p (see p) is) h
 
   pub same-like : IsLikeness root see small (bare root w) → IsLikeness root see small (bare root v)
   unfolding kind_there
@@ -133,9 +138,11 @@ module _ (nester : Path) (slot : ℕ) where
   only_there w pin k (Some Unsure) h = rw h.1 refl
 
   by_pin : (w : World) (x : Path) (to : Ptr) → w.body (pin_of root) ≡ Some (Reference to) → leads_to x to ≡ true → IsNear w root x
-  by_pin w x to there led = let on : list_any (leads_to x) (body_pointers (w.body (pin_of root))) ≡ true = rw there (one_led x to led) in inr (FIRST_SCRATCH_SLOT ∷ [], on)
+  by_pin w x to there led = let on : list_any (leads_to x) (body_pointers (w.body (pin_of root))) ≡ true = rw there (one_led x to led) in
+      inr (FIRST_SCRATCH_SLOT ∷ [], on)
 
-  near_to : (w : World) (pin : Pin) (x : Path) (p : Ptr) → PinShows nester slot w pin → IsKeptBy pin p → leads_to x (lifted nester slot p) ≡ true → IsNear w root x
+  near_to : (w : World) (pin : Pin) (x : Path) (p : Ptr) → PinShows nester slot w pin → IsKeptBy pin p → leads_to x (lifted nester slot p) ≡ true
+      → IsNear w root x
   near_to w pin x (At q) shown kept led = inl (q, sym (same_path_eq (q ++ root) x led))
   near_to w (Fast i) x (Out j) shown kept led = let same : i ≡ j = cc in by_pin w x (At (j ∷ nester)) (rw (← same) shown.0) led
   near_to w NoPin x (Out j) shown kept led = cc
@@ -147,7 +154,8 @@ module _ (nester : Path) (slot : ℕ) where
 
   near_there : (w : World) (pin : Pin) (k : ℕ) (x : Path) (o : Option Spot) → PinShows nester slot w pin → SpotShows nester slot w pin k o →
       list_any (leads_to x) (body_pointers (w.body (k ∷ nester))) ≡ true → IsNear w root x
-  near_there w pin k x None shown h led = let off : list_any (leads_to x) (body_pointers (w.body (k ∷ nester))) ≡ false = rw h refl in let both = sym led ∙ off in cc
+  near_there w pin k x None shown h led = let off : list_any (leads_to x) (body_pointers (w.body (k ∷ nester))) ≡ false = rw h refl in
+      let both = sym led ∙ off in cc
   near_there w pin k x (Some (To p)) shown h led = let there = rw h.0 at led in near_to w pin x p shown h.1 (led_one x (lifted nester slot p) there)
   near_there w pin k x (Some Unsure) shown h led = let there = rw h.1 at led in by_pin w x h.0 h.2 (led_one x h.0 there)
 
@@ -167,10 +175,12 @@ module _ (nester : Path) (slot : ℕ) where
   same_pin w v NoPin same shown = same.bodies (FIRST_SCRATCH_SLOT ∷ []) ∙ shown
   same_pin w v Loose same shown = (shown.0, same.bodies (FIRST_SCRATCH_SLOT ∷ []) ∙ shown.1)
   same_pin w v (Fast i) same shown =
-      let led : list_any (leads_to (i ∷ nester)) (body_pointers (w.body (pin_of root))) ≡ true = rw shown.0 (one_led (i ∷ nester) (At (i ∷ nester)) (same_path_refl (i ∷ nester))) in
+      let led : list_any (leads_to (i ∷ nester)) (body_pointers (w.body (pin_of root)))
+      ≡ true = rw shown.0 (one_led (i ∷ nester) (At (i ∷ nester)) (same_path_refl (i ∷ nester))) in
       (same.bodies (FIRST_SCRATCH_SLOT ∷ []) ∙ shown.0, same.kinds (i ∷ nester) (FIRST_SCRATCH_SLOT ∷ []) led ∙ shown.1)
 
-  same_spot : (w v : World) (pin : Pin) (k : ℕ) (o : Option Spot) → IsSameInside root w v → v.body (k ∷ nester) ≡ w.body (k ∷ nester) → SpotShows nester slot w pin k o → SpotShows nester slot v pin k o
+  same_spot : (w v : World) (pin : Pin) (k : ℕ) (o : Option Spot) → IsSameInside root w v → v.body (k ∷ nester) ≡ w.body (k ∷ nester)
+      → SpotShows nester slot w pin k o → SpotShows nester slot v pin k o
   same_spot w v pin k None same is h = is ∙ h
   same_spot w v pin k (Some (To p)) same is h = (is ∙ h.0, h.1)
   same_spot w v pin k (Some Unsure) same is h = (h.0, is ∙ h.1, same.bodies (FIRST_SCRATCH_SLOT ∷ []) ∙ h.2)

@@ -1,5 +1,6 @@
 -- Each order that suits is owed.
-use Rattle.std.proofs.Common.{◌≡◌, ℕ, Bool, true, false, ◌&&◌, ◌||◌, ◌≤◌, nat_le, is_some, List, [], ◌∷◌, ◌++◌, Option, Some, None, Result, Ok, Err, refl, sym, ap, subst, ◌∙◌}
+use Rattle.std.proofs.Common.{◌≡◌, ℕ, Bool, true, false, ◌&&◌, ◌||◌, ◌≤◌, nat_le, is_some, List, [], ◌∷◌, ◌++◌, Option, Some, None, Result, Ok, Err, refl, sym}
+use Rattle.std.proofs.Common.{ap, subst, ◌∙◌}
 use Rattle.std.proofs.lemmas.Bool.{le-leb, and_parts}
 use Rattle.fk_model.specs.declared.limits.TheConstants.{OWN_SPACE, LAST_USER_SLOT, FIRST_SCRATCH_SLOT, LAST_SCRATCH_SLOT, LAST_PORTER_SLOT}
 use Rattle.fk_model.specs.declared.names.Kind.TheVariants as kinds
@@ -20,7 +21,8 @@ use Rattle.laws_savable.specs.Savable.{may_make, MayMake, NamesHolderOutside, Le
 use Rattle.laws_jobs.specs.Machines.{porter, no_words, IsOwedCall}
 use Rattle.laws_jobs.proofs.Rows.{object-there}
 use Rattle.laws_sites.specs.Orders.{Site, Shows, Order, May, MayLink, MayHold, MayRaise, is_ref_slot, stage_of, words_of}
-use Rattle.laws_sites.specs.Orders.Order.{Readies, Leads, LeadsTop, Makes, Sets, Points, Gives, MakesPin, Pins, Takes, Checks, ParksTalk, ParksFault, LinksTalk, RaisesFault, LinksFault, Holds, Drops, DropsPin, Deadens}
+use Rattle.laws_sites.specs.Orders.Order.{Readies, Leads, LeadsTop, Makes, Sets, Points, Gives, MakesPin, Pins, Takes, Checks, ParksTalk, ParksFault, LinksTalk}
+use Rattle.laws_sites.specs.Orders.Order.{RaisesFault, LinksFault, Holds, Drops, DropsPin, Deadens}
 use Rattle.laws_sites.specs.Fit.{IsUnled, IsIdleIn}
 use Rattle.laws_sites.specs.Owed.{IsFree, Suits, OrdersAreOwed}
 use Rattle.laws_sites.proofs.Standing.{place-row, root_named, ref_named, ref_led, empty_beneath}
@@ -75,13 +77,15 @@ module _ (nester : Path) (slot : ℕ) (g : Site) (w : World) (shows : Shows nest
   make_scratch r is space e =
       let here = same_place nester space e in
       let both = and_parts (nat_le FIRST_SCRATCH_SLOT r) (nat_le r LAST_SCRATCH_SLOT) is in
-      subst (λ (s : Path). may_make w s r 9 ≡ true) here (or_last (nat_le r LAST_USER_SLOT) (nat_le r LAST_SCRATCH_SLOT && is_porters w nester) (rw (both.1, shows.porter) refl))
+      subst (λ (s : Path). may_make w s r 9 ≡ true) here
+      (or_last (nat_le r LAST_USER_SLOT) (nat_le r LAST_SCRATCH_SLOT && is_porters w nester) (rw (both.1, shows.porter) refl))
 
   make_pin : MayMake w (porter nester no_words) slot FIRST_SCRATCH_SLOT 9
   make_pin space e =
       let here = same_place root space (sym (root_named nester slot g w shows no_words) ∙ e) in
       subst (λ (s : Path). may_make w s FIRST_SCRATCH_SLOT 9 ≡ true) here
-      (or_last (holds is_native (w.body (LAST_PORTER_SLOT ∷ root))) (holds (leads_to (LAST_PORTER_SLOT ∷ nester)) (holder_of (w.body root))) (rw shows.holder (same_path_refl (LAST_PORTER_SLOT ∷ nester))))
+      (or_last (holds is_native (w.body (LAST_PORTER_SLOT ∷ root))) (holds (leads_to (LAST_PORTER_SLOT ∷ nester)) (holder_of (w.body root)))
+      (rw shows.holder (same_path_refl (LAST_PORTER_SLOT ∷ nester))))
 
   low_scratch : (r : ℕ) → is_ref_slot r ≡ true → nat_le r LAST_SCRATCH_SLOT ≡ true
   low_scratch r is = (and_parts (nat_le FIRST_SCRATCH_SLOT r) (nat_le r LAST_SCRATCH_SLOT) is).1
@@ -89,17 +93,22 @@ module _ (nester : Path) (slot : ℕ) (g : Site) (w : World) (shows : Shows nest
   -- ---- servers
 
   module _ (valid : IsValid w) (unled : IsUnled nester slot w) where
-    module _ (s : ℕ) (q : Path) (x r u : ℕ) (port server : Path) (may : MayLink g slot s q x r u port server) (free : IsFree g port server) (words : List ℕ) where
+    module _ (s : ℕ) (q : Path) (x r u : ℕ) (port server : Path) (may : MayLink g slot s q x r u port server) (free : IsFree g port server)
+        (words : List ℕ) where
       port_at : referred w (porter nester words) kinds.Port r ≡ Ok (At (port ++ root))
       port_at =
           let to = ref_led nester slot g w shows r (At port) may.scratch may.led in
-          port-there nester words w r (port ++ root) (object-there nester words w reference_of nester r (Reference (At (port ++ root))) (At (port ++ root)) (ref_named nester slot g w shows r may.scratch) to.0 refl)
+          port-there nester words w r (port ++ root)
+          (object-there nester words w reference_of nester r (Reference (At (port ++ root))) (At (port ++ root))
+          (ref_named nester slot g w shows r may.scratch) to.0 refl)
           (kind_of_there nester slot g w shows valid.consistent port kinds.Port may.port_there)
 
       server_at : referred w (porter nester words) kinds.Thread u ≡ Ok (At (server ++ root))
       server_at =
           let to = ref_led nester slot g w shows u (At server) may.second may.served in
-          thread-there nester words w u (server ++ root) (object-there nester words w reference_of nester u (Reference (At (server ++ root))) (At (server ++ root)) (ref_named nester slot g w shows u may.second) to.0 refl)
+          thread-there nester words w u (server ++ root)
+          (object-there nester words w reference_of nester u (Reference (At (server ++ root))) (At (server ++ root))
+          (ref_named nester slot g w shows u may.second) to.0 refl)
           (kind_of_there nester slot g w shows valid.consistent server kinds.Thread may.server_there)
 
       idle : is_serving w (server ++ root) ≡ false
@@ -109,31 +118,54 @@ module _ (nester : Path) (slot : ℕ) (g : Site) (w : World) (shows : Shows nest
       beside : same_path (parent (server ++ root)) (parent (port ++ root)) ≡ true
       beside = rw (free.server_is, free.port_is) (same_path_refl (free.space ++ root))
 
-    links_talk-owed : (s : ℕ) (q : Path) (x r u : ℕ) (port server : Path) (words : List ℕ) → MayLink g slot s q x r u port server → Suits g (LinksTalk s q x r u port server words) → IsOwedCall w nester (LinkSet s x r u) words
+    links_talk-owed : (s : ℕ) (q : Path) (x r u : ℕ) (port server : Path) (words : List ℕ) → MayLink g slot s q x r u port server
+        → Suits g (LinksTalk s q x r u port server words) → IsOwedCall w nester (LinkSet s x r u) words
     unfolding is_fit
     links_talk-owed s q x r u port server words may suits = record {
       due = record {
-        fit = rw (suits.1, port_at s q x r u port server may suits.2 words, server_at s q x r u port server may suits.2 words, beside s q x r u port server may suits.2 words, idle s q x r u port server may suits.2 words) refl;
+        fit = rw (
+          suits.1,
+          port_at s q x r u port server may suits.2 words,
+          server_at s q x r u port server may suits.2 words,
+          beside s q x r u port server may suits.2 words,
+          idle s q x r u port server may suits.2 words,
+        ) refl;
         words = suits.0;
       };
       owes = tt;
       unpicking = refl;
     }
 
-    links_fault-owed : (s : ℕ) (q : Path) (x r u : ℕ) (port server : Path) (words : List ℕ) → MayLink g slot s q x r u port server → Suits g (LinksFault s q x r u port server words) → IsOwedCall w nester (FaultSet s x r u) words
+    links_fault-owed : (s : ℕ) (q : Path) (x r u : ℕ) (port server : Path) (words : List ℕ) → MayLink g slot s q x r u port server
+        → Suits g (LinksFault s q x r u port server words) → IsOwedCall w nester (FaultSet s x r u) words
     unfolding is_fit
     links_fault-owed s q x r u port server words may suits = record {
       due = record {
-        fit = rw (suits.1, no_place u may.second, port_at s q x r u port server may suits.2 words, server_at s q x r u port server may suits.2 words, beside s q x r u port server may suits.2 words, idle s q x r u port server may suits.2 words) refl;
+        fit = rw (
+          suits.1,
+          no_place u may.second,
+          port_at s q x r u port server may suits.2 words,
+          server_at s q x r u port server may suits.2 words,
+          beside s q x r u port server may suits.2 words,
+          idle s q x r u port server may suits.2 words,
+        ) refl;
         words = suits.0;
       };
       owes = tt;
       unpicking = refl;
     }
 
-    raises_fault-owed : (s : ℕ) (q : Path) (x r : ℕ) (port : Path) (words : List ℕ) → MayRaise g slot s q x r port → Suits g (RaisesFault s q x r port words) → IsOwedCall w nester (FaultSet s x r OWN_SPACE) words
+    raises_fault-owed : (s : ℕ) (q : Path) (x r : ℕ) (port : Path) (words : List ℕ) → MayRaise g slot s q x r port → Suits g (RaisesFault s q x r port words)
+        → IsOwedCall w nester (FaultSet s x r OWN_SPACE) words
     unfolding is_fit
-    raises_fault-owed s q x r port words may suits = record { due = record { fit = rw suits.1 (by (referred w (porter nester words) kinds.Port r)); words = suits.0 }; owes = tt; unpicking = refl }
+    raises_fault-owed s q x r port words may suits = record {
+      due = record {
+        fit = rw suits.1 (by (referred w (porter nester words) kinds.Port r));
+        words = suits.0;
+      };
+      owes = tt;
+      unpicking = refl;
+    }
       where
         by : (o : Result Ptr ℕ) → both_idle w o (Ok None) ≡ true
         by (Ok to) = refl
@@ -141,7 +173,8 @@ module _ (nester : Path) (slot : ℕ) (g : Site) (w : World) (shows : Shows nest
 
     -- ---- holders
 
-    holds-owed : (s : ℕ) (q : Path) (x r : ℕ) (holder : Path) → MayHold g slot s q x r holder → Suits g (Holds s q x r holder) → IsOwedCall w nester (HoldSet s x r) no_words
+    holds-owed : (s : ℕ) (q : Path) (x r : ℕ) (holder : Path) → MayHold g slot s q x r holder → Suits g (Holds s q x r holder)
+        → IsOwedCall w nester (HoldSet s x r) no_words
     unfolding is_fit
     holds-owed s q x r holder may suits = record { due = record { fit = refl; words = refl }; owes = (outside, bare_there); unpicking = refl }
       where
@@ -151,14 +184,17 @@ module _ (nester : Path) (slot : ℕ) (g : Site) (w : World) (shows : Shows nest
         holder_at : referred w (porter nester no_words) kinds.Thread r ≡ Ok (At (holder ++ root))
         holder_at =
             let to = ref_led nester slot g w shows r (At holder) may.scratch may.led in
-            thread-there nester no_words w r (holder ++ root) (object-there nester no_words w reference_of nester r (Reference (At (holder ++ root))) (At (holder ++ root)) (ref_named nester slot g w shows r may.scratch) to.0 refl)
+            thread-there nester no_words w r (holder ++ root)
+            (object-there nester no_words w reference_of nester r (Reference (At (holder ++ root))) (At (holder ++ root))
+            (ref_named nester slot g w shows r may.scratch) to.0 refl)
             (kind_of_there nester slot g w shows valid.consistent holder kinds.Thread may.holder_there)
 
         outside : NamesHolderOutside w (porter nester no_words) s x r
         outside space y at to =
             let here = same_place (q ++ root) space (sym place ∙ at) in
             let there = same_ptr (holder ++ root) y (sym holder_at ∙ to) in
-            subst (λ (a : Path). is_within (x ∷ a) y ≡ false) here (subst (λ (y : Path). is_within (x ∷ (q ++ root)) y ≡ false) there (within_by (x ∷ q) holder root suits.0))
+            subst (λ (a : Path). is_within (x ∷ a) y ≡ false) here
+            (subst (λ (y : Path). is_within (x ∷ (q ++ root)) y ≡ false) there (within_by (x ∷ q) holder root suits.0))
 
         bare_there : LeavesNoScratch w (porter nester no_words) s x
         bare_there space at k is live =
@@ -176,7 +212,11 @@ module _ (nester : Path) (slot : ℕ) (g : Site) (w : World) (shows : Shows nest
     owed (Readies r) may suits = record { due = record { fit = refl; words = refl }; owes = make_scratch r may.0; unpicking = refl }
     owed (Leads r s q x) may suits = record { due = record { fit = refl; words = refl }; owes = tt; unpicking = refl }
     owed (LeadsTop r) may suits = record { due = record { fit = refl; words = refl }; owes = tt; unpicking = refl }
-    owed (Makes s q x kind) may suits = record { due = record { fit = refl; words = refl }; owes = make_low no_words s x (number_of_kind kind) may.low; unpicking = refl }
+    owed (Makes s q x kind) may suits = record {
+      due = record { fit = refl; words = refl };
+      owes = make_low no_words s x (number_of_kind kind) may.low;
+      unpicking = refl;
+    }
     owed (Sets s q x words) may suits = record { due = record { fit = refl; words = suits }; owes = tt; unpicking = refl }
     owed (Points s q x r) may suits = record { due = record { fit = refl; words = refl }; owes = tt; unpicking = refl }
     owed (Gives s q page words) may suits = record { due = record { fit = refl; words = suits }; owes = tt; unpicking = refl }

@@ -1,5 +1,6 @@
 -- A restorer's calls whose answer is certain: each is done, and makes of the world what it makes of the site.
-use Rattle.std.proofs.Common.{◌≡◌, ℕ, ◌≤◌, Bool, true, false, cond, not, ◌&&◌, ◌||◌, ◌-◌, ◌==◌, nat_le, IsSome, is_some, IfSome, List, [], ◌∷◌, ◌++◌, map, length, Option, Some, None, option_map, refl, sym, ap, subst, arith, length-append, ◌∙◌}
+use Rattle.std.proofs.Common.{◌≡◌, ℕ, ◌≤◌, Bool, true, false, cond, not, ◌&&◌, ◌||◌, ◌-◌, ◌==◌, nat_le, IsSome, is_some, IfSome, List, [], ◌∷◌, ◌++◌, map}
+use Rattle.std.proofs.Common.{length, Option, Some, None, option_map, refl, sym, ap, subst, arith, length-append, ◌∙◌}
 use Rattle.std.specs.Prelude.{slice_index}
 use Rattle.std.specs.List.{list_any}
 use Rattle.fk_model.specs.declared.limits.TheConstants.{OWN_SPACE, SLOTS, LAST_USER_SLOT, FIRST_SCRATCH_SLOT, LAST_PORTER_SLOT}
@@ -36,13 +37,17 @@ use Rattle.laws_cut.specs.LikeChanges.{seen_edit, IsSeenEdit}
 use Rattle.laws_cut.proofs.likeness.Records.{set_edits-seen, held_kinds-seen, takes_state-like}
 use Rattle.laws_jobs.specs.Machines.{no_words, porter}
 use Rattle.laws_jobs.specs.Calls.{fresh, has_pointer}
-use Rattle.laws_sites.specs.Orders.{Spot, Pin, Site, pin_of, lifted, eye, bare, PinShows, IsKeptBy, SpotShows, Shows, Order, stage_of, words_of, does, is_ref_slot, with_built, with_pin, after_set, after_pointer, IsLive, MayMake, MaySet, MayPoint, MayLead, MayGive, MayPark, May}
+use Rattle.laws_sites.specs.Orders.{Spot, Pin, Site, pin_of, lifted, eye, bare, PinShows, IsKeptBy, SpotShows, Shows, Order, stage_of, words_of, does}
+use Rattle.laws_sites.specs.Orders.{is_ref_slot, with_built, with_pin, after_set, after_pointer, IsLive, MayMake, MaySet, MayPoint, MayLead, MayGive, MayPark}
+use Rattle.laws_sites.specs.Orders.{May}
 use Rattle.laws_sites.specs.Orders.Spot.{To, Unsure}
 use Rattle.laws_sites.specs.Orders.Pin.{NoPin, Loose, Fast}
-use Rattle.laws_sites.specs.Orders.Order.{Readies, Leads, LeadsTop, Makes, Sets, Points, Gives, MakesPin, Pins, Takes, Checks, ParksTalk, ParksFault, Drops, DropsPin, Deadens, LinksTalk, RaisesFault, LinksFault, Holds}
+use Rattle.laws_sites.specs.Orders.Order.{Readies, Leads, LeadsTop, Makes, Sets, Points, Gives, MakesPin, Pins, Takes, Checks, ParksTalk, ParksFault, Drops}
+use Rattle.laws_sites.specs.Orders.Order.{DropsPin, Deadens, LinksTalk, RaisesFault, LinksFault, Holds}
 use Rattle.laws_sites.specs.Near.{AreNear}
 use Rattle.laws_sites.proofs.Nearby.{inside_near, scratch_near, edits_near, fresh_near, page_near}
-use Rattle.laws_sites.proofs.Standing.{kind_seen, unfrozen, decides, nester_unfrozen, ref_slot, ref_named, user_named, ref_there, ref_led, ref_unfrozen, big, empty_there, root_there, root_named, place-row}
+use Rattle.laws_sites.proofs.Standing.{kind_seen, unfrozen, decides, nester_unfrozen, ref_slot, ref_named, user_named, ref_there, ref_led, ref_unfrozen, big}
+use Rattle.laws_sites.proofs.Standing.{empty_there, root_there, root_named, place-row}
 use Rattle.laws_sites.proofs.Changes.{bare-pin, alters, makes, makes_space, gives, leads, led_there, pin_kept, above_stays, readies}
 use Rattle.laws_jobs.proofs.Rows.{own-place, object-there, create-row, point-row, set_ptr-row, set_state-row, page_give-row, link_park-row, fault_park-row}
 
@@ -57,7 +62,8 @@ referable_pointer y (Mutex locked) h = cc
 referable_pointer y Cond h = cc
 referable_pointer y Portset h = cc
 
-more : (a z s t : Bool) (o : Option Body) → (a && (z || (s && is_some (and_then portset_of (cond t None o))))) ≡ true → (a && (z || (s && is_some (and_then portset_of o)))) ≡ true
+more : (a z s t : Bool) (o : Option Body) → (a && (z || (s && is_some (and_then portset_of (cond t None o))))) ≡ true
+    → (a && (z || (s && is_some (and_then portset_of o)))) ≡ true
 more true true s t o h = refl
 more true false s false o h = h
 more true false true true o h = cc
@@ -133,11 +139,13 @@ module _ (nester : Path) (slot : ℕ) where
     readies-plain : (r : ℕ) → is_ref_slot r ≡ true → g.spot r ≡ None → Plain (Readies r)
     unfolding apply_all
     readies-plain r is none =
-        let empty : w.body (r ∷ nester) ≡ None = subst (λ (o : Option Spot). SpotShows nester slot w g.pin r o) none (shows.spots r (ref_slot nester slot g w shows r is)) in
+        let empty : w.body (r ∷ nester) ≡ None = subst (λ (o : Option Spot). SpotShows nester slot w g.pin r o) none
+        (shows.spots r (ref_slot nester slot g w shows r is)) in
         record {
           changes = Make (r ∷ nester) (Reference Null) ∷ [];
           near = ((scratch_near nester slot r (ref_slot nester slot g w shows r is), tt), tt);
-          row = create-row nester no_words w OWN_SPACE r kinds.Reference nester (own-place nester no_words w) (ref_named nester slot g w shows r is) (nester_unfrozen nester slot g w shows) empty;
+          row = create-row nester no_words w OWN_SPACE r kinds.Reference nester (own-place nester no_words w) (ref_named nester slot g w shows r is)
+              (nester_unfrozen nester slot g w shows) empty;
           shown = readies nester slot g w shows r valid is none empty;
         }
 
@@ -147,16 +155,19 @@ module _ (nester : Path) (slot : ℕ) where
         let ref = ref_there nester slot g w shows r may.scratch may.ready in
         let found = big nester slot g w shows x q may.object may.there in
         let its = subst (λ (b : Body). list_any (same_kind (kind_of b)) referable ≡ true) found.seen may.leads in
-        let same : list_any (same_kind (kind_of found.body)) referable ≡ true = subst (λ (k : Kind). list_any (same_kind k) referable ≡ true) (kind_seen (seeing see) found.body) its in
+        let same : list_any (same_kind (kind_of found.body)) referable
+        ≡ true = subst (λ (k : Kind). list_any (same_kind k) referable ≡ true) (kind_seen (seeing see) found.body) its in
         record {
           changes = Alter (r ∷ nester) (SetPointer (At (x ∷ (q ++ root)))) ∷ [];
           near = ((scratch_near nester slot r (ref_slot nester slot g w shows r may.scratch), tt), tt);
           row = point-row nester no_words w OWN_SPACE r s x nester (q ++ root) ref.to (At (x ∷ (q ++ root))) (own-place nester no_words w)
               (object-there nester no_words w reference_of nester r (Reference ref.to) ref.to (ref_named nester slot g w shows r may.scratch) ref.is refl)
               (place-row nester slot g w shows no_words s q may.place)
-              (object-there nester no_words w (pointer_to (x ∷ (q ++ root))) (q ++ root) x found.body (At (x ∷ (q ++ root))) (user_named nester slot g w shows x may.low) found.there (referable_pointer (x ∷ (q ++ root)) found.body same))
+              (object-there nester no_words w (pointer_to (x ∷ (q ++ root))) (q ++ root) x found.body (At (x ∷ (q ++ root)))
+              (user_named nester slot g w shows x may.low) found.there (referable_pointer (x ∷ (q ++ root)) found.body same))
               (ref_unfrozen nester slot g w shows r ref.to ref.is);
-          shown = leads nester slot g w shows r (At (x ∷ (q ++ root))) (Some (To (At (x ∷ q)))) may.scratch (led_there nester slot g w shows r ref.to (At (x ∷ (q ++ root))) ref.is, tt);
+          shown = leads nester slot g w shows r (At (x ∷ (q ++ root))) (Some (To (At (x ∷ q)))) may.scratch
+              (led_there nester slot g w shows r ref.to (At (x ∷ (q ++ root))) ref.is, tt);
         }
 
     leads_top-plain : (r : ℕ) → is_ref_slot r ≡ true → IsSome (g.spot r) → Plain (LeadsTop r)
@@ -170,14 +181,16 @@ module _ (nester : Path) (slot : ℕ) where
           row = point-row nester no_words w OWN_SPACE r OWN_SPACE slot nester nester ref.to (At root) (own-place nester no_words w)
               (object-there nester no_words w reference_of nester r (Reference ref.to) ref.to (ref_named nester slot g w shows r is) ref.is refl)
               (own-place nester no_words w)
-              (object-there nester no_words w (pointer_to root) nester slot (Space space.birth space.holder) (At root) (user_named nester slot g w shows slot shows.low) space.is refl)
+              (object-there nester no_words w (pointer_to root) nester slot (Space space.birth space.holder) (At root)
+              (user_named nester slot g w shows slot shows.low) space.is refl)
               (ref_unfrozen nester slot g w shows r ref.to ref.is);
           shown = leads nester slot g w shows r (At root) (Some (To (At []))) is (led_there nester slot g w shows r ref.to (At root) ref.is, tt);
         }
 
     -- ---- objects
 
-    fresh-shown : (x : ℕ) (q : Path) (kind : Kind) → x ≤ LAST_USER_SLOT → Shows nester slot (with_built (apply (fresh (x ∷ q) kind) g.built) g) (apply (fresh (x ∷ (q ++ root)) kind) w)
+    fresh-shown : (x : ℕ) (q : Path) (kind : Kind) → x ≤ LAST_USER_SLOT
+        → Shows nester slot (with_built (apply (fresh (x ∷ q) kind) g.built) g) (apply (fresh (x ∷ (q ++ root)) kind) w)
     unfolding seen_by
     fresh-shown x q kinds.Mutex low = makes nester slot g w shows x q (Mutex false) low tt
     fresh-shown x q kinds.Cond low = makes nester slot g w shows x q Cond low tt
@@ -194,7 +207,8 @@ module _ (nester : Path) (slot : ℕ) where
     makes-plain s q x kind may = record {
       changes = fresh (x ∷ (q ++ root)) kind ∷ [];
       near = (fresh_near nester slot x q kind, tt);
-      row = create-row nester no_words w s x kind (q ++ root) (place-row nester slot g w shows no_words s q may.place) (user_named nester slot g w shows x may.low) (unfrozen nester slot g w shows q)
+      row = create-row nester no_words w s x kind (q ++ root) (place-row nester slot g w shows no_words s q may.place)
+          (user_named nester slot g w shows x may.low) (unfrozen nester slot g w shows q)
           (empty_there nester slot g w shows x q may.low may.empty);
       shown = fresh-shown x q kind may.low;
     }
@@ -215,19 +229,25 @@ module _ (nester : Path) (slot : ℕ) where
     sets-plain : (s : ℕ) (q : Path) (x : ℕ) (words : List ℕ) → MaySet g slot s q x words → Plain (Sets s q x words)
     sets-plain s q x words may =
         let found = big nester slot g w shows x q may.object may.there in
-        let taken : takes_state g.built q (seen_by (seeing see) found.body) words ≡ true = subst (λ (b : Body). takes_state g.built q b words ≡ true) found.seen may.takes in
+        let taken : takes_state g.built q (seen_by (seeing see) found.body) words
+        ≡ true = subst (λ (b : Body). takes_state g.built q b words ≡ true) found.seen may.takes in
         let its : takes_state (bare root w) (q ++ root) found.body words ≡ true = sym (takes_state-like shows.like q found.body words found.plain) ∙ taken in
-        let changed : Shows nester slot (with_built (apply_all (map (Alter (x ∷ q)) (set_edits found.body words)) g.built) g) (apply_all (map (Alter (x ∷ (q ++ root))) (set_edits found.body words)) w) =
+        let changed : Shows nester slot (with_built (apply_all (map (Alter (x ∷ q)) (set_edits found.body words)) g.built) g)
+        (apply_all (map (Alter (x ∷ (q ++ root))) (set_edits found.body words)) w) =
         alters_all x q (set_edits found.body words) g w may.low (set_bare see found.body words) shows in
-        let edits : set_edits may.object words ≡ set_edits found.body words = ap (λ (b : Body). set_edits b words) found.seen ∙ set_edits-seen see found.body words in
+        let edits : set_edits may.object words ≡ set_edits found.body words = ap (λ (b : Body). set_edits b words) found.seen
+        ∙ set_edits-seen see found.body words in
         record {
           changes = map (Alter (x ∷ (q ++ root))) (set_edits found.body words);
           near = edits_near nester slot x q found.body words;
           row = set_state-row nester words w s x (q ++ root) found.body (place-row nester slot g w shows words s q may.place)
               (object-there nester words w anything (q ++ root) x found.body found.body (user_named nester slot g w shows x may.low) found.there refl)
-              (unfrozen nester slot g w shows (x ∷ q)) (decides nester slot g w shows (x ∷ q)) (native_off found.body found.plain) (takes_too q found.body words its);
-          shown = subst (λ (o : Option Body). Shows nester slot (with_built (after_set (x ∷ q) words o g.built) g) (apply_all (map (Alter (x ∷ (q ++ root))) (set_edits found.body words)) w)) (sym may.there)
-              (subst (λ (edits : List Edit). Shows nester slot (with_built (apply_all (map (Alter (x ∷ q)) edits) g.built) g) (apply_all (map (Alter (x ∷ (q ++ root))) (set_edits found.body words)) w)) (sym edits) changed);
+              (unfrozen nester slot g w shows (x ∷ q)) (decides nester slot g w shows (x ∷ q)) (native_off found.body found.plain)
+              (takes_too q found.body words its);
+          shown = subst (λ (o : Option Body). Shows nester slot (with_built (after_set (x ∷ q) words o g.built) g)
+              (apply_all (map (Alter (x ∷ (q ++ root))) (set_edits found.body words)) w)) (sym may.there)
+              (subst (λ (edits : List Edit). Shows nester slot (with_built (apply_all (map (Alter (x ∷ q)) edits) g.built) g)
+              (apply_all (map (Alter (x ∷ (q ++ root))) (set_edits found.body words)) w)) (sym edits) changed);
         }
 
     -- ---- ports outside
@@ -240,7 +260,13 @@ module _ (nester : Path) (slot : ℕ) where
       pub seen : see (At (i ∷ nester)) ≡ Out i
 
     port_body : (i : ℕ) (o : Option Body) → w.body (i ∷ nester) ≡ o → option_map kind_of o ≡ Some kinds.Port → (i ≡ slot → ⊥) → IsPortOut i
-    port_body i (Some (Port set served)) there h apart = record { set = set; served = served; there = there; outside = out (strip root (i ∷ nester)) refl; seen = rw (none (strip root (i ∷ nester)) refl, same_path_refl nester) refl }
+    port_body i (Some (Port set served)) there h apart = record {
+      set = set;
+      served = served;
+      there = there;
+      outside = out (strip root (i ∷ nester)) refl;
+      seen = rw (none (strip root (i ∷ nester)) refl, same_path_refl nester) refl;
+    }
       where
         at : (q : Path) → i ∷ nester ≡ q ++ root → ⊥
         at [] e = let slots : i ≡ slot = cc in apart slots
@@ -265,7 +291,9 @@ module _ (nester : Path) (slot : ℕ) where
 
     pub port_out : (i : ℕ) → kind_there w (i ∷ nester) ≡ Some kinds.Port → IsPortOut i
     unfolding kind_there
-    port_out i is = port_body i (w.body (i ∷ nester)) refl is (λ e. let space = root_there nester slot g w shows in let its : option_map kind_of (w.body root) ≡ Some kinds.Port = subst (λ (i : ℕ). option_map kind_of (w.body (i ∷ nester)) ≡ Some kinds.Port) e is in let here : option_map kind_of (w.body root) ≡ Some kinds.Space = rw space.is refl in cc)
+    port_out i is = port_body i (w.body (i ∷ nester)) refl is (λ e. let space = root_there nester slot g w shows in
+        let its : option_map kind_of (w.body root) ≡ Some kinds.Port = subst (λ (i : ℕ). option_map kind_of (w.body (i ∷ nester)) ≡ Some kinds.Port) e is in
+        let here : option_map kind_of (w.body root) ≡ Some kinds.Space = rw space.is refl in cc)
 
     pub fast_port : (i : ℕ) → g.pin ≡ Fast i → IsPortOut i
     fast_port i pinned = let shown = subst (λ (p : Pin). PinShows nester slot w p) pinned shows.pin in port_out i shown.1
@@ -326,10 +354,13 @@ module _ (nester : Path) (slot : ℕ) where
         let held : held_kinds may.object ≡ held_kinds found.body = ap held_kinds found.seen ∙ held_kinds-seen see found.body in
         let fits : is_of_kinds (held_kinds found.body) (kind_at w big_to) ≡ true = rw (← held, way.kind) may.fits in
         let good : HasLikeness root see (bare root w) big_to = rw way.seen way.like in
-        let changed : Shows nester slot (with_built (apply (Alter (x ∷ q) (SetPointer (see big_to))) g.built) g) (apply (Alter (x ∷ (q ++ root)) (SetPointer big_to)) w) =
+        let changed : Shows nester slot (with_built (apply (Alter (x ∷ q) (SetPointer (see big_to))) g.built) g)
+        (apply (Alter (x ∷ (q ++ root)) (SetPointer big_to)) w) =
         alters nester slot g w shows false x q (SetPointer big_to) may.low good in
-        let seen : Shows nester slot (with_built (apply (Alter (x ∷ q) (SetPointer may.to)) g.built) g) (apply (Alter (x ∷ (q ++ root)) (SetPointer big_to)) w) =
-        subst (λ (p : Ptr). Shows nester slot (with_built (apply (Alter (x ∷ q) (SetPointer p)) g.built) g) (apply (Alter (x ∷ (q ++ root)) (SetPointer big_to)) w)) way.seen changed in
+        let seen : Shows nester slot (with_built (apply (Alter (x ∷ q) (SetPointer may.to)) g.built) g)
+        (apply (Alter (x ∷ (q ++ root)) (SetPointer big_to)) w) =
+        subst (λ (p : Ptr). Shows nester slot (with_built (apply (Alter (x ∷ q) (SetPointer p)) g.built) g)
+        (apply (Alter (x ∷ (q ++ root)) (SetPointer big_to)) w)) way.seen changed in
         record {
           changes = Alter (x ∷ (q ++ root)) (SetPointer big_to) ∷ [];
           near = ((inside_near nester slot (x ∷ q), tt), tt);
@@ -337,7 +368,8 @@ module _ (nester : Path) (slot : ℕ) where
               (object-there nester no_words w anything (q ++ root) x found.body found.body (user_named nester slot g w shows x may.low) found.there refl)
               (object-there nester no_words w reference_of nester r (Reference big_to) big_to (ref_named nester slot g w shows r may.scratch) ref.0 refl)
               (unfrozen nester slot g w shows (x ∷ q)) has fits;
-          shown = subst (λ (o : Option Spot). Shows nester slot (with_built (after_pointer (x ∷ q) o g.built) g) (apply (Alter (x ∷ (q ++ root)) (SetPointer big_to)) w)) (sym may.led) seen;
+          shown = subst (λ (o : Option Spot). Shows nester slot (with_built (after_pointer (x ∷ q) o g.built) g)
+              (apply (Alter (x ∷ (q ++ root)) (SetPointer big_to)) w)) (sym may.led) seen;
         }
 
     -- ---- pages
@@ -347,13 +379,15 @@ module _ (nester : Path) (slot : ℕ) where
     gives-plain s q page words may = record {
       changes = _;
       near = (page_near nester slot q, tt);
-      row = page_give-row nester words w s page (q ++ root) (place-row nester slot g w shows words s q may.place) (unfrozen nester slot g w shows q) may.fits (sym (shows.like.pages q page) ∙ may.empty);
+      row = page_give-row nester words w s page (q ++ root) (place-row nester slot g w shows words s q may.place) (unfrozen nester slot g w shows q) may.fits
+          (sym (shows.like.pages q page) ∙ may.empty);
       shown = gives nester slot g w shows q page words;
     }
 
     -- ---- the pin
 
-    pin_spots : (v : World) (p : Pin) (k : ℕ) (o : Option Spot) → w.body (pin_of root) ≡ None → v.body (k ∷ nester) ≡ w.body (k ∷ nester) → SpotShows nester slot w NoPin k o → SpotShows nester slot v p k o
+    pin_spots : (v : World) (p : Pin) (k : ℕ) (o : Option Spot) → w.body (pin_of root) ≡ None → v.body (k ∷ nester) ≡ w.body (k ∷ nester)
+        → SpotShows nester slot w NoPin k o → SpotShows nester slot v p k o
     pin_spots v p k None none same h = same ∙ h
     pin_spots v p k (Some (To (Out i))) none same h = cc
     pin_spots v p k (Some (To Null)) none same h = (same ∙ h.0, tt)
@@ -368,11 +402,13 @@ module _ (nester : Path) (slot : ℕ) where
     made_pin none = record {
       low = shows.low;
       holder = rw (same_path_ne root (pin_of root) (λ e. omega (arith, ap length e))) shows.holder;
-      above = above_stays nester slot g w shows (apply (Make (pin_of root) (Reference Null)) w) (λ a short. rw (same_path_ne a (pin_of root) (λ e. omega (arith, short, ap length e))) refl);
+      above = above_stays nester slot g w shows (apply (Make (pin_of root) (Reference Null)) w)
+          (λ a short. rw (same_path_ne a (pin_of root) (λ e. omega (arith, short, ap length e))) refl);
       porter = rw (same_path_ne me (pin_of root) (λ e. omega (arith, ap length e))) shows.porter;
       like = rw (bare-pin root w (λ there. Some (Reference Null))) shows.like;
       pin = (Null, rw (same_path_refl (pin_of root)) refl);
-      spots = λ k is. pin_spots (apply (Make (pin_of root) (Reference Null)) w) Loose k (g.spot k) none (rw (same_path_ne (k ∷ nester) (pin_of root) (λ e. omega (arith, ap length e))) refl) (none_spot k (shows.spots k is));
+      spots = λ k is. pin_spots (apply (Make (pin_of root) (Reference Null)) w) Loose k (g.spot k) none
+          (rw (same_path_ne (k ∷ nester) (pin_of root) (λ e. omega (arith, ap length e))) refl) (none_spot k (shows.spots k is));
     }
       where
         none_spot : (k : ℕ) → SpotShows nester slot w g.pin k (g.spot k) → SpotShows nester slot w NoPin k (g.spot k)
@@ -390,7 +426,8 @@ module _ (nester : Path) (slot : ℕ) where
         record {
           changes = Make (pin_of root) (Reference Null) ∷ [];
           near = ((inside_near nester slot (FIRST_SCRATCH_SLOT ∷ []), tt), tt);
-          row = create-row nester no_words w slot FIRST_SCRATCH_SLOT kinds.Reference root (root_named nester slot g w shows no_words) refl (unfrozen nester slot g w shows []) none;
+          row = create-row nester no_words w slot FIRST_SCRATCH_SLOT kinds.Reference root (root_named nester slot g w shows no_words) refl
+              (unfrozen nester slot g w shows []) none;
           shown = made_pin none;
         }
 
@@ -407,7 +444,8 @@ module _ (nester : Path) (slot : ℕ) where
               (root_named nester slot g w shows no_words)
               (object-there nester no_words w (pointer_to (pin_of root)) root FIRST_SCRATCH_SLOT (Reference pin.0) pin.0 refl pin.1 refl)
               (ref_unfrozen nester slot g w shows r ref.to ref.is);
-          shown = leads nester slot g w shows r pin.0 (Some Unsure) is (pin.0, led_there nester slot g w shows r ref.to pin.0 ref.is, pin_kept nester slot g w shows r pin.0 ∙ pin.1);
+          shown = leads nester slot g w shows r pin.0 (Some Unsure) is
+              (pin.0, led_there nester slot g w shows r ref.to pin.0 ref.is, pin_kept nester slot g w shows r pin.0 ∙ pin.1);
         }
 
     -- ---- talks and faults at the port to which the pin leads
@@ -436,7 +474,9 @@ module _ (nester : Path) (slot : ℕ) where
     big_thread q x is =
         let some = some_there (g.built.body (x ∷ q)) is in
         let found = big nester slot g w shows x q some.body some.is in
-        let its : is_some (and_then thread_of (Some (seen_by (seeing see) found.body))) ≡ true = subst (λ (b : Body). is_some (and_then thread_of (Some b)) ≡ true) found.seen (subst (λ (o : Option Body). is_some (and_then thread_of o) ≡ true) some.is is) in
+        let its : is_some (and_then thread_of (Some (seen_by (seeing see) found.body)))
+        ≡ true = subst (λ (b : Body). is_some (and_then thread_of (Some b)) ≡ true) found.seen
+        (subst (λ (o : Option Body). is_some (and_then thread_of o) ≡ true) some.is is) in
         let thread = thread_too found.body its in
         record { thread = thread.thread; there = found.there ∙ ap Some thread.is }
 
@@ -454,9 +494,17 @@ module _ (nester : Path) (slot : ℕ) where
           near = ((inside_near nester slot (x ∷ q), tt), tt);
           row = link_park-row nester words w s x i (q ++ root) t.thread (port.set, port.served) (place-row nester slot g w shows words s q may.place)
               (object-there nester words w thread_of (q ++ root) x (Thread_of t.thread) t.thread (user_named nester slot g w shows x may.low) t.there refl)
-              (object-there nester words w port_of nester i (Port port.set port.served) (port.set, port.served) (user_named nester slot g w shows i may.port) port.there refl)
+              (object-there nester words w port_of nester i (Port port.set port.served) (port.set, port.served)
+              (user_named nester slot g w shows i may.port) port.there refl)
               (unfrozen nester slot g w shows (x ∷ q));
-          shown = subst (λ (p : Ptr). Shows nester slot (with_built (apply (Alter (x ∷ q) (SetTalk (Some (record { port = p; peer = seen_peer see (is_out p) Parked; turn = turn_by (slice_index words 0); moved = slice_index words 1 })))) g.built) g)
+          shown = subst (λ (p : Ptr). Shows nester slot
+              (with_built (apply (Alter (x ∷ q) (SetTalk
+              (Some (record {
+                port = p;
+                peer = seen_peer see (is_out p) Parked;
+                turn = turn_by (slice_index words 0);
+                moved = slice_index words 1;
+              })))) g.built) g)
               (apply (Alter (x ∷ (q ++ root)) edit) w)) port.seen changed;
         }
 
@@ -477,18 +525,35 @@ module _ (nester : Path) (slot : ℕ) where
         let good : PtrLikeness root (bare root w) (At (i ∷ nester)) (see (At (i ∷ nester))) = rw port.seen (port_at i port) in
         let changed : Shows nester slot (with_built (apply (Alter (x ∷ q) (seen_edit see false edit)) g.built) g) (apply (Alter (x ∷ (q ++ root)) edit) w) =
         alters nester slot g w shows false x q edit may.low (good, taker_good (taken == 1) (is_out (see (At (i ∷ nester)))) (ap is_out port.seen)) in
-        let at_port : Shows nester slot (with_built (apply (Alter (x ∷ q) (SetFault (Some (record { page = slice_index words 0; write = slice_index words 1 == 1; port = Out i; taker = option_map (seen_peer see true) (cond (taken == 1) (Some Parked) None) })))) g.built) g)
+        let at_port : Shows nester slot (with_built
+        (apply (Alter (x ∷ q) (SetFault (Some (record {
+          page = slice_index words 0;
+          write = slice_index words 1
+              == 1;
+          port = Out i;
+          taker = option_map (seen_peer see true) (cond (taken == 1) (Some Parked) None);
+        })))) g.built) g)
         (apply (Alter (x ∷ (q ++ root)) edit) w) =
-        subst (λ (p : Ptr). Shows nester slot (with_built (apply (Alter (x ∷ q) (SetFault (Some (record { page = slice_index words 0; write = slice_index words 1 == 1; port = p; taker = option_map (seen_peer see (is_out p)) (cond (taken == 1) (Some Parked) None) })))) g.built) g)
+        subst (λ (p : Ptr). Shows nester slot (with_built
+        (apply (Alter (x ∷ q) (SetFault (Some (record {
+          page = slice_index words 0;
+          write = slice_index words 1
+              == 1;
+          port = p;
+          taker = option_map (seen_peer see (is_out p)) (cond (taken == 1) (Some Parked) None);
+        })))) g.built) g)
         (apply (Alter (x ∷ (q ++ root)) edit) w)) port.seen changed in
         record {
           changes = Alter (x ∷ (q ++ root)) edit ∷ [];
           near = ((inside_near nester slot (x ∷ q), tt), tt);
           row = fault_park-row nester words w s x i taken (q ++ root) t.thread (port.set, port.served) (place-row nester slot g w shows words s q may.place)
               (object-there nester words w thread_of (q ++ root) x (Thread_of t.thread) t.thread (user_named nester slot g w shows x may.low) t.there refl)
-              (object-there nester words w port_of nester i (Port port.set port.served) (port.set, port.served) (user_named nester slot g w shows i may.port) port.there refl)
+              (object-there nester words w port_of nester i (Port port.set port.served) (port.set, port.served)
+              (user_named nester slot g w shows i may.port) port.there refl)
               (unfrozen nester slot g w shows (x ∷ q));
-          shown = subst (λ (taker : Option Peer). Shows nester slot (with_built (apply (Alter (x ∷ q) (SetFault (Some (record { page = slice_index words 0; write = slice_index words 1 == 1; port = Out i; taker = taker })))) g.built) g)
+          shown = subst (λ (taker : Option Peer). Shows nester slot
+              (with_built (apply (Alter (x ∷ q) (SetFault
+              (Some (record { page = slice_index words 0; write = slice_index words 1 == 1; port = Out i; taker = taker })))) g.built) g)
               (apply (Alter (x ∷ (q ++ root)) edit) w)) (taken_seen (taken == 1)) at_port;
         }
 

@@ -1,5 +1,6 @@
 -- What a restorer releases is plain.
-use Rattle.std.proofs.Common.{◌≡◌, ℕ, Bool, true, false, cond, ◌&&◌, nat_le, is_some, IfSome, List, [], ◌∷◌, ◌++◌, length, Option, Some, None, option_map, refl, sym, ap, subst, arith, length-append, ◌∙◌}
+use Rattle.std.proofs.Common.{◌≡◌, ℕ, Bool, true, false, cond, ◌&&◌, nat_le, is_some, IfSome, List, [], ◌∷◌, ◌++◌, length, Option, Some, None, option_map, refl}
+use Rattle.std.proofs.Common.{sym, ap, subst, arith, length-append, ◌∙◌}
 use Rattle.std.specs.List.{list_any}
 use Rattle.std.proofs.lemmas.Bool.{and_parts}
 use Rattle.std.proofs.lemmas.List.Folds.{list_any-append}
@@ -63,16 +64,19 @@ module _ (root : Path) (see : Ptr → Ptr) (big : World) where
 
   talk_near : (o : Option Talk) → IfSome o (AllInTalk see Alike) → none_far (option_list talk_pointers (and_then (seeing see).talk o))
   talk_near None h = refl
-  talk_near (Some talk) h = both_near (see talk.port ∷ []) (peer_pointer (seen_peer see (is_out (see talk.port)) talk.peer)) (one_near (see talk.port) (near talk.port h.0)) (peer_near (is_out (see talk.port)) talk.peer h.1)
+  talk_near (Some talk) h = both_near (see talk.port ∷ []) (peer_pointer (seen_peer see (is_out (see talk.port)) talk.peer))
+      (one_near (see talk.port) (near talk.port h.0)) (peer_near (is_out (see talk.port)) talk.peer h.1)
 
-  taker_near : (out : Bool) (o : Option Peer) → IfSome o (λ taker. IfServer out taker Alike) → none_far (option_list peer_pointer (option_map (seen_peer see out) o))
+  taker_near : (out : Bool) (o : Option Peer) → IfSome o (λ taker. IfServer out taker Alike)
+      → none_far (option_list peer_pointer (option_map (seen_peer see out) o))
   taker_near out None h = refl
   taker_near out (Some taker) h = peer_near out taker h
 
   fault_near : (o : Option Fault) → IfSome o (AllInFault see Alike) → none_far (option_list fault_pointers (and_then (seeing see).fault o))
   fault_near None h = refl
   fault_near (Some fault) h =
-      both_near (see fault.port ∷ []) (option_list peer_pointer (option_map (seen_peer see (is_out (see fault.port))) fault.taker)) (one_near (see fault.port) (near fault.port h.0)) (taker_near (is_out (see fault.port)) fault.taker h.1)
+      both_near (see fault.port ∷ []) (option_list peer_pointer (option_map (seen_peer see (is_out (see fault.port))) fault.taker))
+      (one_near (see fault.port) (near fault.port h.0)) (taker_near (is_out (see fault.port)) fault.taker h.1)
 
   body_near : (b : Body) → IsPlainBody see Alike b → has_far (Some (seen_by (seeing see) b)) ≡ false
   unfolding seen_by
@@ -81,13 +85,15 @@ module _ (root : Path) (see : Ptr → Ptr) (big : World) where
   body_near (Reference to) h = one_near (see to) (near to h)
   body_near (Space birth None) h = refl
   body_near (Space birth (Some holder)) h = one_near (see holder) (near holder h)
-  body_near (Thread_of t) h = both_near (option_list talk_pointers (and_then (seeing see).talk t.talk)) (option_list fault_pointers (and_then (seeing see).fault t.fault)) (talk_near t.talk h.0) (fault_near t.fault h.1)
+  body_near (Thread_of t) h = both_near (option_list talk_pointers (and_then (seeing see).talk t.talk))
+      (option_list fault_pointers (and_then (seeing see).fault t.fault)) (talk_near t.talk h.0) (fault_near t.fault h.1)
   body_near (Mutex locked) h = refl
   body_near Cond h = refl
   body_near (Port set served) h = refl
   body_near Portset h = refl
 
-  there_near : (k : ℕ) (q : Path) (o : Option Body) → IfSome o (IsPlainBody see Alike) → has_far (option_map (λ b. unheld (k ∷ q) (seen_by (seeing see) b)) o) ≡ false
+  there_near : (k : ℕ) (q : Path) (o : Option Body) → IfSome o (IsPlainBody see Alike)
+      → has_far (option_map (λ b. unheld (k ∷ q) (seen_by (seeing see) b)) o) ≡ false
   there_near k q None h = refl
   there_near k q (Some b) h = body_near b h
 
@@ -127,7 +133,8 @@ module _ (root : Path) (b : Option Body) (off : (q : Path) → list_any (leads_t
   peer_out Service none = refl
   peer_out Parked none = refl
 
-  talk_out : (o : Option Talk) → ((q : Path) → list_any (leads_to (q ++ root)) (option_list talk_pointers o) ≡ false) → holds (λ (talk : Talk). is_inner_peer root talk.peer) o ≡ false
+  talk_out : (o : Option Talk) → ((q : Path) → list_any (leads_to (q ++ root)) (option_list talk_pointers o) ≡ false)
+      → holds (λ (talk : Talk). is_inner_peer root talk.peer) o ≡ false
   talk_out None none = refl
   talk_out (Some talk) none = peer_out talk.peer (λ q. (both_off (q ++ root) (talk.port ∷ []) (peer_pointer talk.peer) (none q)).1)
 
@@ -135,14 +142,16 @@ module _ (root : Path) (b : Option Body) (off : (q : Path) → list_any (leads_t
   taker_out None none = refl
   taker_out (Some taker) none = peer_out taker none
 
-  fault_out : (o : Option Fault) → ((q : Path) → list_any (leads_to (q ++ root)) (option_list fault_pointers o) ≡ false) → holds (λ (fault : Fault). holds (is_inner_peer root) fault.taker) o ≡ false
+  fault_out : (o : Option Fault) → ((q : Path) → list_any (leads_to (q ++ root)) (option_list fault_pointers o) ≡ false)
+      → holds (λ (fault : Fault). holds (is_inner_peer root) fault.taker) o ≡ false
   fault_out None none = refl
   fault_out (Some fault) none = taker_out fault.taker (λ q. (both_off (q ++ root) (fault.port ∷ []) (option_list peer_pointer fault.taker) (none q)).1)
 
   served_by : (o : Option Body) → o ≡ b → is_served_by root o ≡ false
   served_by None e = refl
   served_by (Some (Thread_of t)) e =
-      let both : (q : Path) → _ = λ q. both_off (q ++ root) (option_list talk_pointers t.talk) (option_list fault_pointers t.fault) (subst (λ (o : Option Body). list_any (leads_to (q ++ root)) (body_pointers o) ≡ false) (sym e) (off q)) in
+      let both : (q : Path) → _ = λ q. both_off (q ++ root) (option_list talk_pointers t.talk) (option_list fault_pointers t.fault)
+      (subst (λ (o : Option Body). list_any (leads_to (q ++ root)) (body_pointers o) ≡ false) (sym e) (off q)) in
       rw (talk_out t.talk (λ q. (both q).0), fault_out t.fault (λ q. (both q).1)) refl
   served_by (Some (Mutex locked)) e = refl
   served_by (Some Cond) e = refl
@@ -174,7 +183,8 @@ module _ (nester : Path) (slot : ℕ) (g : Site) (w : World) (shows : Shows nest
       by false e = refl
 
   plain_inside : (k : ℕ) (q : Path) → IfSome (w.body (k ∷ (q ++ root))) (IsPlainBody see (HasLikeness root see (bare root w)))
-  plain_inside k q = subst (λ (o : Option Body). IfSome o (IsPlainBody see (HasLikeness root see (bare root w)))) (bare_same (k ∷ (q ++ root))) (shows.like.plain k q)
+  plain_inside k q = subst (λ (o : Option Body). IfSome o (IsPlainBody see (HasLikeness root see (bare root w)))) (bare_same (k ∷ (q ++ root)))
+      (shows.like.plain k q)
 
   still : (y : Path) → same_path y root ≡ false → v.body y ≡ w.body y
   unfolding apply

@@ -9,4 +9,5 @@ use Rattle.fk_model.specs.Outcomes.Said.{Answered}
 pub next_is_ready : NextIsReady
 next_is_ready nester slot g w o shows may valid calm =
     let its = comes nester slot g w shows valid o may in
-    calm_call_ready nester slot w (stage_of slot o) (words_of o) its.changes (Answered its.reply.status its.reply.words) (holding nester slot g w shows) calm its.row
+    calm_call_ready nester slot w (stage_of slot o) (words_of o) its.changes (Answered its.reply.status its.reply.words)
+    (holding nester slot g w shows) calm its.row

@@ -13,7 +13,8 @@ use Rattle.laws_jobs.specs.Machines.{Reply, IsAnswered}
 use Rattle.laws_jobs.specs.Machines.Head.{Stops}
 use Rattle.laws_jobs.specs.Machines.Interleaved.{Here, Another, Own}
 use Rattle.laws_sites.specs.Orders.{Site, Shows, Order, stage_of, words_of, does, does_all, May, MayAll, End, State, head, passes, fails, is_port_in, restorer}
-use Rattle.laws_sites.specs.Orders.Order.{Readies, Leads, LeadsTop, Makes, Sets, Points, Gives, MakesPin, Pins, Takes, Checks, ParksTalk, ParksFault, Drops, DropsPin, Deadens, LinksTalk, RaisesFault, LinksFault, Holds}
+use Rattle.laws_sites.specs.Orders.Order.{Readies, Leads, LeadsTop, Makes, Sets, Points, Gives, MakesPin, Pins, Takes, Checks, ParksTalk, ParksFault, Drops}
+use Rattle.laws_sites.specs.Orders.Order.{DropsPin, Deadens, LinksTalk, RaisesFault, LinksFault, Holds}
 use Rattle.laws_sites.specs.Orders.State.{Working, Over}
 use Rattle.laws_sites.specs.Orders.End.{Done, Lost}
 use Rattle.laws_sites.specs.Laws.{RestoresBuilt, NeverLost, CallsBounded}
@@ -36,7 +37,8 @@ module _ (nester : Path) (slot : ℕ) where
   on_world : (g : Site) (w v : World) (cs : List Change) → v ≡ apply_all cs w → Shows nester slot g (apply_all cs w) → Shows nester slot g v
   on_world g w v cs is shown = rw is shown
 
-  plain-does : (g : Site) (w : World) (o : Order) (reply : Reply) (shows : Shows nester slot g w) (answered : IsAnswered nester w (stage_of slot o) (words_of o) reply) →
+  plain-does : (g : Site) (w : World) (o : Order) (reply : Reply) (shows : Shows nester slot g w)
+      (answered : IsAnswered nester w (stage_of slot o) (words_of o) reply) →
       ((status : ℕ) (words : List ℕ) → passes o status words ≡ (status == OK)) → Plain nester slot g w shows answered.valid.consistent o → Does g w o reply
   plain-does g w o reply shows answered is plain =
       let goes = goes_by nester w (stage_of slot o) (words_of o) reply answered plain.changes OK [] plain.row in
@@ -46,34 +48,59 @@ module _ (nester : Path) (slot : ℕ) where
         shown = λ h. on_world (does o g) w (after w (call_of nester (stage_of slot o) (words_of o))) plain.changes goes.0 plain.shown;
       }
 
-  pub own : (g : Site) (w : World) (o : Order) (reply : Reply) → Shows nester slot g w → May slot o g → IsAnswered nester w (stage_of slot o) (words_of o) reply → Does g w o reply
+  pub own : (g : Site) (w : World) (o : Order) (reply : Reply) → Shows nester slot g w → May slot o g
+      → IsAnswered nester w (stage_of slot o) (words_of o) reply → Does g w o reply
   own g w (Pins i) reply shows may answered =
       let goes = goings nester slot g w (Pins i) shows may reply answered in
-      record { fails_well = λ off lost. cc; shown = λ h. on_world _ w _ goes.changes goes.world (pins nester slot g w shows i goes.changes reply.status reply.words may.0 may.1 goes.row) }
+      record {
+        fails_well = λ off lost. cc;
+        shown = λ h. on_world _ w _ goes.changes goes.world
+            (pins nester slot g w shows i goes.changes reply.status reply.words may.0 may.1 goes.row);
+      }
   own g w (Checks r i) reply shows may answered =
       let goes = goings nester slot g w (Checks r i) shows may reply answered in
       record {
         fails_well = λ off lost. cc;
-        shown = λ h. on_world _ w _ goes.changes goes.world (checks nester slot g w shows r i goes.changes reply.status reply.words may.0 may.1 may.2 may.3 goes.row (and_parts (reply.status == OK) (is_port_in i reply.words) h).1);
+        shown = λ h. on_world _ w _ goes.changes goes.world
+            (checks nester slot g w shows r i goes.changes reply.status reply.words may.0 may.1 may.2 may.3 goes.row
+            (and_parts (reply.status == OK) (is_port_in i reply.words) h).1);
       }
-  own g w (Readies r) reply shows may answered = plain-does g w (Readies r) reply shows answered (λ s ws. refl) (plain nester slot g w shows answered.valid.consistent (Readies r) tt may)
-  own g w (Leads r s q x) reply shows may answered = plain-does g w (Leads r s q x) reply shows answered (λ s ws. refl) (plain nester slot g w shows answered.valid.consistent (Leads r s q x) tt may)
-  own g w (LeadsTop r) reply shows may answered = plain-does g w (LeadsTop r) reply shows answered (λ s ws. refl) (plain nester slot g w shows answered.valid.consistent (LeadsTop r) tt may)
-  own g w (Makes s q x kind) reply shows may answered = plain-does g w (Makes s q x kind) reply shows answered (λ s ws. refl) (plain nester slot g w shows answered.valid.consistent (Makes s q x kind) tt may)
-  own g w (Sets s q x words) reply shows may answered = plain-does g w (Sets s q x words) reply shows answered (λ s ws. refl) (plain nester slot g w shows answered.valid.consistent (Sets s q x words) tt may)
-  own g w (Points s q x r) reply shows may answered = plain-does g w (Points s q x r) reply shows answered (λ s ws. refl) (plain nester slot g w shows answered.valid.consistent (Points s q x r) tt may)
-  own g w (Gives s q page words) reply shows may answered = plain-does g w (Gives s q page words) reply shows answered (λ s ws. refl) (plain nester slot g w shows answered.valid.consistent (Gives s q page words) tt may)
-  own g w MakesPin reply shows may answered = plain-does g w MakesPin reply shows answered (λ s ws. refl) (plain nester slot g w shows answered.valid.consistent MakesPin tt may)
-  own g w (Takes r) reply shows may answered = plain-does g w (Takes r) reply shows answered (λ s ws. refl) (plain nester slot g w shows answered.valid.consistent (Takes r) tt may)
-  own g w (ParksTalk s q x i words) reply shows may answered = plain-does g w (ParksTalk s q x i words) reply shows answered (λ s ws. refl) (plain nester slot g w shows answered.valid.consistent (ParksTalk s q x i words) tt may)
-  own g w (ParksFault s q x i taken words) reply shows may answered = plain-does g w (ParksFault s q x i taken words) reply shows answered (λ s ws. refl) (plain nester slot g w shows answered.valid.consistent (ParksFault s q x i taken words) tt may)
-  own g w (Drops r) reply shows may answered = plain-does g w (Drops r) reply shows answered (λ s ws. refl) (drops-plain nester slot g w shows answered.valid r may.0 may.1)
-  own g w DropsPin reply shows may answered = plain-does g w DropsPin reply shows answered (λ s ws. refl) (drops_pin-plain nester slot g w shows answered.valid (pinned nester slot g w shows may.0) may.1)
-  own g w (Deadens r) reply shows may answered = plain-does g w (Deadens r) reply shows answered (λ s ws. refl) (deadens-plain nester slot g w shows answered.valid r may)
-  own g w (LinksTalk s q x r u port server words) reply shows may answered = plain-does g w (LinksTalk s q x r u port server words) reply shows answered (λ s ws. refl) (links_talk-plain nester slot g w shows answered.valid.consistent s q x r u port server words may)
-  own g w (RaisesFault s q x r port words) reply shows may answered = plain-does g w (RaisesFault s q x r port words) reply shows answered (λ s ws. refl) (raises_fault-plain nester slot g w shows answered.valid.consistent s q x r port words may)
-  own g w (LinksFault s q x r u port taker words) reply shows may answered = plain-does g w (LinksFault s q x r u port taker words) reply shows answered (λ s ws. refl) (links_fault-plain nester slot g w shows answered.valid.consistent s q x r u port taker words may)
-  own g w (Holds s q x r holder) reply shows may answered = plain-does g w (Holds s q x r holder) reply shows answered (λ s ws. refl) (holds-plain nester slot g w shows answered.valid.consistent s q x r holder may)
+  own g w (Readies r) reply shows may answered = plain-does g w (Readies r) reply shows answered (λ s ws. refl)
+      (plain nester slot g w shows answered.valid.consistent (Readies r) tt may)
+  own g w (Leads r s q x) reply shows may answered = plain-does g w (Leads r s q x) reply shows answered (λ s ws. refl)
+      (plain nester slot g w shows answered.valid.consistent (Leads r s q x) tt may)
+  own g w (LeadsTop r) reply shows may answered = plain-does g w (LeadsTop r) reply shows answered (λ s ws. refl)
+      (plain nester slot g w shows answered.valid.consistent (LeadsTop r) tt may)
+  own g w (Makes s q x kind) reply shows may answered = plain-does g w (Makes s q x kind) reply shows answered (λ s ws. refl)
+      (plain nester slot g w shows answered.valid.consistent (Makes s q x kind) tt may)
+  own g w (Sets s q x words) reply shows may answered = plain-does g w (Sets s q x words) reply shows answered (λ s ws. refl)
+      (plain nester slot g w shows answered.valid.consistent (Sets s q x words) tt may)
+  own g w (Points s q x r) reply shows may answered = plain-does g w (Points s q x r) reply shows answered (λ s ws. refl)
+      (plain nester slot g w shows answered.valid.consistent (Points s q x r) tt may)
+  own g w (Gives s q page words) reply shows may answered = plain-does g w (Gives s q page words) reply shows answered (λ s ws. refl)
+      (plain nester slot g w shows answered.valid.consistent (Gives s q page words) tt may)
+  own g w MakesPin reply shows may answered = plain-does g w MakesPin reply shows answered (λ s ws. refl)
+      (plain nester slot g w shows answered.valid.consistent MakesPin tt may)
+  own g w (Takes r) reply shows may answered = plain-does g w (Takes r) reply shows answered (λ s ws. refl)
+      (plain nester slot g w shows answered.valid.consistent (Takes r) tt may)
+  own g w (ParksTalk s q x i words) reply shows may answered = plain-does g w (ParksTalk s q x i words) reply shows answered (λ s ws. refl)
+      (plain nester slot g w shows answered.valid.consistent (ParksTalk s q x i words) tt may)
+  own g w (ParksFault s q x i taken words) reply shows may answered = plain-does g w (ParksFault s q x i taken words) reply shows answered (λ s ws. refl)
+      (plain nester slot g w shows answered.valid.consistent (ParksFault s q x i taken words) tt may)
+  own g w (Drops r) reply shows may answered = plain-does g w (Drops r) reply shows answered (λ s ws. refl)
+      (drops-plain nester slot g w shows answered.valid r may.0 may.1)
+  own g w DropsPin reply shows may answered = plain-does g w DropsPin reply shows answered (λ s ws. refl)
+      (drops_pin-plain nester slot g w shows answered.valid (pinned nester slot g w shows may.0) may.1)
+  own g w (Deadens r) reply shows may answered = plain-does g w (Deadens r) reply shows answered (λ s ws. refl)
+      (deadens-plain nester slot g w shows answered.valid r may)
+  own g w (LinksTalk s q x r u port server words) reply shows may answered = plain-does g w (LinksTalk s q x r u port server words) reply shows answered
+      (λ s ws. refl) (links_talk-plain nester slot g w shows answered.valid.consistent s q x r u port server words may)
+  own g w (RaisesFault s q x r port words) reply shows may answered = plain-does g w (RaisesFault s q x r port words) reply shows answered (λ s ws. refl)
+      (raises_fault-plain nester slot g w shows answered.valid.consistent s q x r port words may)
+  own g w (LinksFault s q x r u port taker words) reply shows may answered = plain-does g w (LinksFault s q x r u port taker words) reply shows answered
+      (λ s ws. refl) (links_fault-plain nester slot g w shows answered.valid.consistent s q x r u port taker words may)
+  own g w (Holds s q x r holder) reply shows may answered = plain-does g w (Holds s q x r holder) reply shows answered (λ s ws. refl)
+      (holds-plain nester slot g w shows answered.valid.consistent s q x r holder may)
 
   -- ---- one call of its own
 
@@ -83,11 +110,13 @@ module _ (nester : Path) (slot : ℕ) where
     pub said : said_of w (call_of nester (stage_of slot o) (words_of o)) ≡ Answered reply.status reply.words
     pub its : Does g w o reply
 
-  pub own_call : (g : Site) (w : World) (o : Order) → Shows nester slot g w → May slot o g → IsSound w → IsReadyAt w (call_of nester (stage_of slot o) (words_of o)) → Own_call g w o
+  pub own_call : (g : Site) (w : World) (o : Order) → Shows nester slot g w → May slot o g → IsSound w
+      → IsReadyAt w (call_of nester (stage_of slot o) (words_of o)) → Own_call g w o
   own_call g w o shows may sound ready =
       let goes = comes nester slot g w shows sound.whole.valid o may in
       let told = call_is_its_row nester w (stage_of slot o) (words_of o) goes.changes (Answered goes.reply.status goes.reply.words) goes.row ready in
-      let answered : IsAnswered nester w (stage_of slot o) (words_of o) goes.reply = record { valid = sound.whole.valid; few = sound.whole.few; ready = ready; said = ap reply_of told.1 } in
+      let answered : IsAnswered nester w (stage_of slot o)
+      (words_of o) goes.reply = record { valid = sound.whole.valid; few = sound.whole.few; ready = ready; said = ap reply_of told.1 } in
       record { reply = goes.reply; said = told.1; its = own g w o goes.reply shows may answered }
 
   -- ---- the whole
@@ -111,7 +140,8 @@ module _ (nester : Path) (slot : ℕ) where
     pub at : At f v t
     pub few : left t ≤ most
 
-  after_own : (f g : Site) (v : World) (o : Order) (os : List Order) (reply : Reply) (b : Bool) → passes o reply.status reply.words ≡ b → (b ≡ false → (fails o ≡ Lost → ⊥)) → (b ≡ true → Shows nester slot (does o g) v) →
+  after_own : (f g : Site) (v : World) (o : Order) (os : List Order) (reply : Reply) (b : Bool) → passes o reply.status reply.words ≡ b
+      → (b ≡ false → (fails o ≡ Lost → ⊥)) → (b ≡ true → Shows nester slot (does o g) v) →
       MayAll slot os (does o g) → does_all os (does o g) ≡ f → Stands f v (cond b (Working os) (Over (fails o))) (length os)
   after_own f g v o os reply true e well shown may is = record { at = Works os (does o g) v (shown refl) may is; few = omega arith }
   after_own f g v o os reply false e well shown may is = record { at = Fails v (fails o) (failed o) (well refl); few = omega arith }
@@ -120,7 +150,8 @@ module _ (nester : Path) (slot : ℕ) where
     pub at : At f v t
     pub few : made ≤ most
 
-  pub arrives : (f : Site) (w v : World) (s t : State) (es : List Event) → At f w s → (run : Interleaved (restorer slot) nester w s es v t) → Arrives f v t (left s) (own_moves run)
+  pub arrives : (f : Site) (w v : World) (s t : State) (es : List Event) → At f w s → (run : Interleaved (restorer slot) nester w s es v t)
+      → Arrives f v t (left s) (own_moves run)
   unfolding does_all
   arrives f _ _ _ _ _ at (Here w s sound) = record { at = at; few = omega arith }
   arrives f _ v _ t _ (Works os g w shows may is) (Another _ _ e es _ _ sound works moves rest) =
@@ -135,7 +166,8 @@ module _ (nester : Path) (slot : ℕ) where
       let stages : stage_of slot o ≡ stage = cc in
       let given : words_of o ≡ words = cc in
       let here = stands stages given ready in
-      let later = arrives f (after w (call_of nester stage words)) v (heard (restorer slot) (Working (o ∷ os)) (said_of w (call_of nester stage words))) t es here.at rest in
+      let later = arrives f (after w (call_of nester stage words)) v
+      (heard (restorer slot) (Working (o ∷ os)) (said_of w (call_of nester stage words))) t es here.at rest in
       let less = here.few in
       let most = later.few in
       record { at = later.at; few = omega (arith, less, most) }

@@ -1,5 +1,6 @@
 -- What a restorer's calls read of the world, by its site.
-use Rattle.std.proofs.Common.{◌≡◌, ℕ, ◌≤◌, Bool, true, false, cond, nat_le, IsSome, IfSome, List, [], ◌∷◌, ◌++◌, length, Option, Some, None, option_map, Ok, refl, sym, ap, subst, arith, length-append, ◌∙◌}
+use Rattle.std.proofs.Common.{◌≡◌, ℕ, ◌≤◌, Bool, true, false, cond, nat_le, IsSome, IfSome, List, [], ◌∷◌, ◌++◌, length, Option, Some, None, option_map, Ok}
+use Rattle.std.proofs.Common.{refl, sym, ap, subst, arith, length-append, ◌∙◌}
 use Rattle.std.proofs.lemmas.Bool.{and_parts, leb-true, le-leb, ne_eqb}
 use Rattle.fk_model.specs.declared.limits.TheConstants.{OWN_SPACE, LAST_USER_SLOT, FIRST_SCRATCH_SLOT, LAST_SCRATCH_SLOT, LAST_PORTER_SLOT}
 use Rattle.fk_model.specs.Places.{Path, same_path, Ptr}
@@ -91,7 +92,8 @@ module _ (nester : Path) (slot : ℕ) (g : Site) (w : World) (shows : Shows nest
   ref_slot r h = rw (same_path_refl nester) h
 
   pub ref_range : (r : ℕ) → is_ref_slot r ≡ true → (FIRST_SCRATCH_SLOT ≤ r) × (r ≤ LAST_SCRATCH_SLOT)
-  ref_range r h = let both = and_parts (nat_le FIRST_SCRATCH_SLOT r) (nat_le r LAST_SCRATCH_SLOT) h in (leb-true FIRST_SCRATCH_SLOT r both.0, leb-true r LAST_SCRATCH_SLOT both.1)
+  ref_range r h = let both = and_parts (nat_le FIRST_SCRATCH_SLOT r) (nat_le r LAST_SCRATCH_SLOT) h in
+      (leb-true FIRST_SCRATCH_SLOT r both.0, leb-true r LAST_SCRATCH_SLOT both.1)
 
   pub ref_named : (r : ℕ) → is_ref_slot r ≡ true → nat_le r LAST_PORTER_SLOT ≡ true
   ref_named r h = let range = ref_range r h in let most = range.1 in le-leb r LAST_PORTER_SLOT (omega (arith, most))
@@ -128,7 +130,8 @@ module _ (nester : Path) (slot : ℕ) (g : Site) (w : World) (shows : Shows nest
     pub plain : IsPlainBody see (HasLikeness root see (bare root w)) body
 
   pub big : (k : ℕ) (q : Path) (b : Body) → g.built.body (k ∷ q) ≡ Some b → Big k q b
-  big k q b there = by (same_path (k ∷ (q ++ root)) (pin_of root)) (w.body (k ∷ (q ++ root))) refl (sym there ∙ shows.like.bodies (k ∷ q)) (shows.like.plain k q)
+  big k q b there = by (same_path (k ∷ (q ++ root)) (pin_of root)) (w.body (k ∷ (q ++ root))) refl (sym there ∙ shows.like.bodies (k ∷ q))
+      (shows.like.plain k q)
     where
       by : (t : Bool) (o : Option Body) → w.body (k ∷ (q ++ root)) ≡ o → Some b ≡ option_map (λ b. unheld (k ∷ q) (seen_by (seeing see) b)) (cond t None o) →
           IfSome (cond t None o) (IsPlainBody see (HasLikeness root see (bare root w))) → Big k q b
@@ -149,7 +152,8 @@ module _ (nester : Path) (slot : ℕ) (g : Site) (w : World) (shows : Shows nest
 
   -- and deeper inside, in any slot
   pub empty_beneath : (k x : ℕ) (q : Path) → g.built.body (k ∷ x ∷ q) ≡ None → w.body (k ∷ x ∷ (q ++ root)) ≡ None
-  empty_beneath k x q empty = by (same_path (k ∷ x ∷ (q ++ root)) (pin_of root)) (w.body (k ∷ x ∷ (q ++ root))) apart (sym empty ∙ shows.like.bodies (k ∷ x ∷ q))
+  empty_beneath k x q empty = by (same_path (k ∷ x ∷ (q ++ root)) (pin_of root)) (w.body (k ∷ x ∷ (q ++ root))) apart (sym empty
+      ∙ shows.like.bodies (k ∷ x ∷ q))
     where
       apart : same_path (k ∷ x ∷ (q ++ root)) (pin_of root) ≡ false
       apart = same_path_ne (k ∷ x ∷ (q ++ root)) (pin_of root) (λ e. omega (arith, ap length e, length-append q root))
@@ -182,7 +186,8 @@ module _ (nester : Path) (slot : ℕ) (g : Site) (w : World) (shows : Shows nest
       let space = root_there in
       rw (ne_eqb slot OWN_SPACE (λ e. omega (arith, low, e)), le-leb slot LAST_PORTER_SLOT (omega (arith, low)), space.is) refl
 
-  scratch_named : (words : List ℕ) (s : ℕ) (q : Path) → is_ref_slot s ≡ true → g.spot s ≡ Some (To (At q)) → IsSpaceBody (w.body (q ++ root)) → space_argument w (porter nester words) s ≡ Ok (q ++ root)
+  scratch_named : (words : List ℕ) (s : ℕ) (q : Path) → is_ref_slot s ≡ true → g.spot s ≡ Some (To (At q)) → IsSpaceBody (w.body (q ++ root))
+      → space_argument w (porter nester words) s ≡ Ok (q ++ root)
   unfolding space_argument handle
   scratch_named words s q is led space =
       let range = ref_range s is in

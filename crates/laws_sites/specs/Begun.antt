@@ -16,7 +16,8 @@ abbrev pub first : Site
 first = record { built = alone; spot = λ k. None; pin = NoPin }
 
 abbrev pub Begins : Type 0
-Begins = (nester : Path) (slot : ℕ) (w : World) (reply : Reply) → slot ≤ LAST_USER_SLOT → ((k : ℕ) → is_scratch nester (k ∷ nester) ≡ true → w.body (k ∷ nester) ≡ None) →
+Begins = (nester : Path) (slot : ℕ) (w : World) (reply : Reply) → slot ≤ LAST_USER_SLOT
+    → ((k : ℕ) → is_scratch nester (k ∷ nester) ≡ true → w.body (k ∷ nester) ≡ None) →
     IsAnswered nester w (SpaceMakeHeld slot) no_words reply →
     ((w.body (slot ∷ nester) ≡ None) × (reply.status ≡ OK) × Shows nester slot first (after w (call_of nester (SpaceMakeHeld slot) no_words))) ⊎
     (IsSome (w.body (slot ∷ nester)) × (reply.status ≡ OCCUPIED) × (after w (call_of nester (SpaceMakeHeld slot) no_words) ≡ w))

@@ -26,10 +26,12 @@ CallsBounded = (nester : Path) (slot : ℕ) (os : List Order) (g : Site) (es : L
     (run : Interleaved (restorer slot) nester w (Working os) es v t) → own_moves run ≤ length os
 
 abbrev pub OthersKeepSites : Type 0
-OthersKeepSites = (nester : Path) (slot : ℕ) (g : Site) (w : World) (e : Event) → Shows nester slot g w → IsUsersMove nester w e → Shows nester slot g (after w e)
+OthersKeepSites = (nester : Path) (slot : ℕ) (g : Site) (w : World) (e : Event) → Shows nester slot g w → IsUsersMove nester w e
+    → Shows nester slot g (after w e)
 
 abbrev pub PlacesAreNamed : Type 0
-PlacesAreNamed = (nester : Path) (slot : ℕ) (g : Site) (w : World) → Shows nester slot g w → (words : List ℕ) (s : ℕ) (q : Path) → IsPlace g slot s q → space_argument w (porter nester words) s ≡ Ok (q ++ slot ∷ nester)
+PlacesAreNamed = (nester : Path) (slot : ℕ) (g : Site) (w : World) → Shows nester slot g w → (words : List ℕ) (s : ℕ) (q : Path) → IsPlace g slot s q
+    → space_argument w (porter nester words) s ≡ Ok (q ++ slot ∷ nester)
 
 abbrev pub BuiltIsCut : Type 0
 BuiltIsCut = (nester : Path) (slot : ℕ) (g : Site) (w : World) → Shows nester slot g w → g.pin ≡ NoPin → cut w nester slot ≡ g.built

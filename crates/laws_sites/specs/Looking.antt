@@ -28,17 +28,21 @@ pub record PinTells (nester : Path) (slot : ℕ) (w : World) (i : ℕ) (reply : 
   pub led : is_port (w.body (i ∷ nester)) ≡ true → reply.status ≡ OK
 
 abbrev pub PinsTell : Type 0
-PinsTell = (nester : Path) (slot : ℕ) (g : Site) (w : World) (i : ℕ) (reply : Reply) → Shows nester slot g w → May slot (Pins i) g → IsAnswered nester w (stage_of slot (Pins i)) no_words reply → PinTells nester slot w i reply
+PinsTell = (nester : Path) (slot : ℕ) (g : Site) (w : World) (i : ℕ) (reply : Reply) → Shows nester slot g w → May slot (Pins i) g
+    → IsAnswered nester w (stage_of slot (Pins i)) no_words reply → PinTells nester slot w i reply
 
 -- so it stays while others move, and while scratch is led there
 abbrev pub OthersKeepLooks : Type 0
-OthersKeepLooks = (nester : Path) (slot : ℕ) (g : Site) (w : World) (e : Event) (i : ℕ) (port : Bool) → Shows nester slot g w → IsUsersMove nester w e → Looks nester slot w i port → Looks nester slot (after w e) i port
+OthersKeepLooks = (nester : Path) (slot : ℕ) (g : Site) (w : World) (e : Event) (i : ℕ) (port : Bool) → Shows nester slot g w → IsUsersMove nester w e
+    → Looks nester slot w i port → Looks nester slot (after w e) i port
 
 abbrev pub TakesKeepLooks : Type 0
-TakesKeepLooks = (nester : Path) (slot : ℕ) (g : Site) (w : World) (r i : ℕ) (port : Bool) (reply : Reply) → Shows nester slot g w → May slot (Takes r) g → IsAnswered nester w (stage_of slot (Takes r)) no_words reply → Looks nester slot w i port →
+TakesKeepLooks = (nester : Path) (slot : ℕ) (g : Site) (w : World) (r i : ℕ) (port : Bool) (reply : Reply) → Shows nester slot g w → May slot (Takes r) g
+    → IsAnswered nester w (stage_of slot (Takes r)) no_words reply → Looks nester slot w i port →
     Looks nester slot (after w (call_of nester (stage_of slot (Takes r)) no_words)) i port
 
 -- and the answer to the look says it
 abbrev pub ChecksTell : Type 0
-ChecksTell = (nester : Path) (slot : ℕ) (g : Site) (w : World) (r i : ℕ) (port : Bool) (reply : Reply) → Shows nester slot g w → May slot (Checks r i) g → IsAnswered nester w (stage_of slot (Checks r i)) no_words reply → Looks nester slot w i port →
+ChecksTell = (nester : Path) (slot : ℕ) (g : Site) (w : World) (r i : ℕ) (port : Bool) (reply : Reply) → Shows nester slot g w → May slot (Checks r i) g
+    → IsAnswered nester w (stage_of slot (Checks r i)) no_words reply → Looks nester slot w i port →
     passes (Checks r i) reply.status reply.words ≡ port

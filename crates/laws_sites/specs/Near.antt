@@ -55,16 +55,19 @@ pub record IsNearCall (nester : Path) (slot : ℕ) (w : World) (e : Event) : Typ
   pub near : AreNear nester slot changes
 
 abbrev pub OwnCallsAreNear : Type 0
-OwnCallsAreNear = (nester : Path) (slot : ℕ) (g : Site) (w : World) (o : Order) (reply : Reply) → Shows nester slot g w → May slot o g → IsAnswered nester w (stage_of slot o) (words_of o) reply →
+OwnCallsAreNear = (nester : Path) (slot : ℕ) (g : Site) (w : World) (o : Order) (reply : Reply) → Shows nester slot g w → May slot o g
+    → IsAnswered nester w (stage_of slot o) (words_of o) reply →
     IsNearCall nester slot w (call_of nester (stage_of slot o) (words_of o))
 
 -- nobody outside leads into a space that was just made, nor comes to while others move, or by the restorer's own calls
 abbrev pub NewSpaceIsUnled : Type 0
-NewSpaceIsUnled = (nester : Path) (slot : ℕ) (w : World) (reply : Reply) → slot ≤ LAST_USER_SLOT → w.body (slot ∷ nester) ≡ None → IsAnswered nester w (SpaceMakeHeld slot) no_words reply →
+NewSpaceIsUnled = (nester : Path) (slot : ℕ) (w : World) (reply : Reply) → slot ≤ LAST_USER_SLOT → w.body (slot ∷ nester) ≡ None
+    → IsAnswered nester w (SpaceMakeHeld slot) no_words reply →
     IsUnled nester slot (after w (call_of nester (SpaceMakeHeld slot) no_words))
 
 abbrev pub OthersKeepNewUnled : Type 0
-OthersKeepNewUnled = (nester : Path) (slot : ℕ) (g : Site) (w : World) (e : Event) → Shows nester slot g w → IsUsersMove nester w e → IsUnled nester slot w → IsUnled nester slot (after w e)
+OthersKeepNewUnled = (nester : Path) (slot : ℕ) (g : Site) (w : World) (e : Event) → Shows nester slot g w → IsUsersMove nester w e → IsUnled nester slot w
+    → IsUnled nester slot (after w e)
 
 abbrev pub NearCallsKeepUnled : Type 0
 NearCallsKeepUnled = (nester : Path) (slot : ℕ) (w : World) (e : Event) → IsNearCall nester slot w e → IsUnled nester slot w → IsUnled nester slot (after w e)

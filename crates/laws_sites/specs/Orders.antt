@@ -3,13 +3,15 @@
 -- A restorer knows from its image which calls it will make: its state is the list of those that are left. A site is what it has
 -- made so far: the subtree seen alone, to what its references in the nester's scratch lead, and its reference in the new space, the
 -- pin, by which it keeps a port of the nester in its place while it looks whether it is one.
-use Rattle.std.specs.Prelude.{◌≡◌, ℕ, ◌≤◌, Bool, true, false, not, ◌&&◌, ◌==◌, nat_le, nat_lt, IsSome, is_some, List, [], ◌∷◌, ◌++◌, length, map, Option, Some, None, option_map, if◌then◌else◌, slice_index}
+use Rattle.std.specs.Prelude.{◌≡◌, ℕ, ◌≤◌, Bool, true, false, not, ◌&&◌, ◌==◌, nat_le, nat_lt, IsSome, is_some, List, [], ◌∷◌, ◌++◌, length, map, Option, Some}
+use Rattle.std.specs.Prelude.{None, option_map, if◌then◌else◌, slice_index}
 use Rattle.std.specs.List.{list_any}
 use Rattle.fk_model.specs.declared.limits.TheConstants.{OWN_SPACE, LAST_USER_SLOT, FIRST_SCRATCH_SLOT, LAST_SCRATCH_SLOT, LAST_PORTER_SLOT, PAGES, PAGE_WORDS}
 use Rattle.fk_model.specs.declared.names.Kind.{Kind}
 use Rattle.fk_model.specs.declared.names.Kind.TheVariants as kinds
 use Rattle.fk_model.specs.declared.stage.Stage.{Stage}
-use Rattle.fk_model.specs.declared.stage.Stage.TheVariants.{Create, Destroy, Point, Locate, SetState, SetPtr, PageGive, LinkSet, LinkPark, FaultSet, FaultPark, HoldSet}
+use Rattle.fk_model.specs.declared.stage.Stage.TheVariants.{Create, Destroy, Point, Locate, SetState, SetPtr, PageGive, LinkSet, LinkPark, FaultSet, FaultPark}
+use Rattle.fk_model.specs.declared.stage.Stage.TheVariants.{HoldSet}
 use Rattle.fk_model.specs.declared.statuses.status.TheConstants.{OK}
 use Rattle.fk_model.specs.Places.{Path, Ptr}
 use Rattle.fk_model.specs.Places.Ptr.{Null, Dead, At, Out, Outside, Far}
@@ -200,13 +202,25 @@ abbrev pub parked_talk : ℕ → List ℕ → Talk
 parked_talk i words = record { port = Out i; peer = Server Outside; turn = turn_by (slice_index words 0); moved = slice_index words 1 }
 
 abbrev pub parked_fault : ℕ → ℕ → List ℕ → Fault
-parked_fault i taken words = record { page = slice_index words 0; write = slice_index words 1 == 1; port = Out i; taker = if taken == 1 then Some (Server Outside) else None }
+parked_fault i taken words = record {
+  page = slice_index words 0;
+  write = slice_index words 1 == 1;
+  port = Out i;
+  taker = if taken
+      == 1 then Some (Server Outside) else None;
+}
 
 abbrev pub inner_talk : Path → Path → List ℕ → Talk
 inner_talk port server words = record { port = At port; peer = Server (At server); turn = turn_by (slice_index words 0); moved = slice_index words 1 }
 
 abbrev pub inner_fault : Path → Option Path → List ℕ → Fault
-inner_fault port taker words = record { page = slice_index words 0; write = slice_index words 1 == 1; port = At port; taker = option_map (λ thread. Server (At thread)) taker }
+inner_fault port taker words = record {
+  page = slice_index words 0;
+  write = slice_index words 1
+      == 1;
+  port = At port;
+  taker = option_map (λ thread. Server (At thread)) taker;
+}
 
 abbrev pub does : Order → Site → Site
 does (Readies r) g = with_spot r (Some (To Null)) g

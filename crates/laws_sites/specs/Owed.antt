@@ -40,5 +40,6 @@ SuitsAll [] g = Unit {0}
 SuitsAll (o ∷ os) g = Suits g o × SuitsAll os (does o g)
 
 abbrev pub OrdersAreOwed : Type 0
-OrdersAreOwed = (nester : Path) (slot : ℕ) (g : Site) (w : World) (o : Order) → Shows nester slot g w → May slot o g → Suits g o → IsUnled nester slot w → IsValid w →
+OrdersAreOwed = (nester : Path) (slot : ℕ) (g : Site) (w : World) (o : Order) → Shows nester slot g w → May slot o g → Suits g o → IsUnled nester slot w
+    → IsValid w →
     IsOwedCall w nester (stage_of slot o) (words_of o)

@@ -25,11 +25,13 @@ NextIsReady = (nester : Path) (slot : ℕ) (g : Site) (w : World) (o : Order) �
 
 -- the root is unheld, and the cut as it was built
 abbrev pub Releases : Type 0
-Releases = (nester : Path) (slot : ℕ) (g : Site) (w : World) (reply : Reply) → Shows nester slot g w → g.pin ≡ NoPin → IsAnswered nester w (SpaceRelease OWN_SPACE slot) no_words reply →
+Releases = (nester : Path) (slot : ℕ) (g : Site) (w : World) (reply : Reply) → Shows nester slot g w → g.pin ≡ NoPin
+    → IsAnswered nester w (SpaceRelease OWN_SPACE slot) no_words reply →
     (reply.status ≡ OK) × (holder_of ((after w (call_of nester (SpaceRelease OWN_SPACE slot) no_words)).body (slot ∷ nester)) ≡ None) ×
     (cut (after w (call_of nester (SpaceRelease OWN_SPACE slot) no_words)) nester slot ≡ g.built)
 
 -- and where nobody leads in from outside, the subtree is plain
 abbrev pub ReleasesPlain : Type 0
-ReleasesPlain = (nester : Path) (slot : ℕ) (g : Site) (w : World) (reply : Reply) → Shows nester slot g w → g.pin ≡ NoPin → IsUnled nester slot w → IsAnswered nester w (SpaceRelease OWN_SPACE slot) no_words reply →
+ReleasesPlain = (nester : Path) (slot : ℕ) (g : Site) (w : World) (reply : Reply) → Shows nester slot g w → g.pin ≡ NoPin → IsUnled nester slot w
+    → IsAnswered nester w (SpaceRelease OWN_SPACE slot) no_words reply →
     IsPlain (after w (call_of nester (SpaceRelease OWN_SPACE slot) no_words)) nester slot

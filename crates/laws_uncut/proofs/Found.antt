@@ -1,5 +1,6 @@
 -- What a reader finds in a world that is nobody's cut leads somewhere in it or nowhere; and so does a missing page's keeper.
-use Rattle.std.proofs.Common.{◌≡◌, ℕ, zero, suc, ◌/◌, Bool, true, false, ◌||◌, if◌then◌else◌, nat_lt, eqb, List, [], ◌∷◌, ◌++◌, Option, Some, None, Result, Ok, Err, refl, sym, ap, ◌∙◌}
+use Rattle.std.proofs.Common.{◌≡◌, ℕ, zero, suc, ◌/◌, Bool, true, false, ◌||◌, if◌then◌else◌, nat_lt, eqb, List, [], ◌∷◌, ◌++◌, Option, Some, None, Result, Ok}
+use Rattle.std.proofs.Common.{Err, refl, sym, ap, ◌∙◌}
 use Rattle.std.specs.List.{list_any}
 use Rattle.fk_model.specs.declared.limits.TheConstants.{SLOTS, MAPPINGS, SPACE_WORDS, PAGE_WORDS, OWN_SPACE}
 use Rattle.fk_model.specs.declared.names.Kind.{Kind}
@@ -15,7 +16,8 @@ use Rattle.fk_model.specs.Searches.{peer_pointer, option_list, talk_pointers, fa
 use Rattle.fk_model.specs.Reach.{Reach, region_at, mapping_at, live_keeper, keeper, led_by, followed, mapped, at_home, reach_within, reach, reach_word}
 use Rattle.fk_model.specs.Reach.Reach.{Home, Missing, Bad}
 use Rattle.fk_model.specs.Outcomes.{Outcome, Caller}
-use Rattle.fk_model.specs.Readers.{and_read, anything, object_in, kind_at, is_kind, led_to, referred, missed, accessed, own_page_at, own_page, their_page_at, their_page}
+use Rattle.fk_model.specs.Readers.{and_read, anything, object_in, kind_at, is_kind, led_to, referred, missed, accessed, own_page_at, own_page, their_page_at}
+use Rattle.fk_model.specs.Readers.{their_page}
 use Rattle.fk_model.specs.FaultRows.{named_taker}
 use Rattle.fk_model.specs.ObjectRows.{pointer_to, pointer_in}
 use Rattle.fk_model.specs.StateRows.{Field, or_null, peer_field, thread_field, first_field, field_of, field_pointer, referable}
@@ -92,7 +94,8 @@ module _ (w : World) (uncut : IsUncut w) where
   pub taker-ours : (c : Caller) (taker : ℕ) (o : Option Peer) → named_taker w c taker ≡ Ok o → AreOurs (option_list peer_pointer o)
   taker-ours c taker o read = by (eqb taker OWN_SPACE) (referred w c kinds.Thread taker) refl read
     where
-      by : (t : Bool) (r : Result Ptr ℕ) → referred w c kinds.Thread taker ≡ r → (if t then Ok None else and_read r (λ thread. Ok (Some (Server thread)))) ≡ Ok o →
+      by : (t : Bool) (r : Result Ptr ℕ) → referred w c kinds.Thread taker ≡ r
+          → (if t then Ok None else and_read r (λ thread. Ok (Some (Server thread)))) ≡ Ok o →
           AreOurs (option_list peer_pointer o)
       by true r e h = let same : o ≡ None = cc in ap (λ (o : Option Peer). list_any is_cut_pointer (option_list peer_pointer o)) same
       by false (Ok thread) e h =
@@ -140,15 +143,18 @@ module _ (w : World) (uncut : IsUncut w) where
       faults : AreOurs (option_list fault_pointers t.fault)
       faults = right-ours (option_list talk_pointers t.talk) (option_list fault_pointers t.fault) ours
 
-      port : (o : Option Talk) → AreOurs (option_list talk_pointers o) → IsOurs (field_pointer (or_null (and_then (λ (talk : Talk). Some (Pointer talk.port)) o)))
+      port : (o : Option Talk) → AreOurs (option_list talk_pointers o)
+          → IsOurs (field_pointer (or_null (and_then (λ (talk : Talk). Some (Pointer talk.port)) o)))
       port None h = refl
       port (Some talk) h = first-ours talk.port (peer_pointer talk.peer) h
 
-      peer : (o : Option Talk) → AreOurs (option_list talk_pointers o) → IsOurs (field_pointer (or_null (and_then (λ (talk : Talk). Some (peer_field talk.peer)) o)))
+      peer : (o : Option Talk) → AreOurs (option_list talk_pointers o)
+          → IsOurs (field_pointer (or_null (and_then (λ (talk : Talk). Some (peer_field talk.peer)) o)))
       peer None h = refl
       peer (Some talk) h = peer-field talk.peer (rest-ours talk.port (peer_pointer talk.peer) h)
 
-      keeps : (o : Option Fault) → AreOurs (option_list fault_pointers o) → IsOurs (field_pointer (or_null (and_then (λ (fault : Fault). Some (Pointer fault.port)) o)))
+      keeps : (o : Option Fault) → AreOurs (option_list fault_pointers o)
+          → IsOurs (field_pointer (or_null (and_then (λ (fault : Fault). Some (Pointer fault.port)) o)))
       keeps None h = refl
       keeps (Some fault) h = first-ours fault.port (option_list peer_pointer fault.taker) h
 
@@ -156,7 +162,8 @@ module _ (w : World) (uncut : IsUncut w) where
       taker None h = refl
       taker (Some p) h = peer-field p h
 
-      takes : (o : Option Fault) → AreOurs (option_list fault_pointers o) → IsOurs (field_pointer (or_null (and_then (λ (fault : Fault). and_then (λ p. Some (peer_field p)) fault.taker) o)))
+      takes : (o : Option Fault) → AreOurs (option_list fault_pointers o)
+          → IsOurs (field_pointer (or_null (and_then (λ (fault : Fault). and_then (λ p. Some (peer_field p)) fault.taker) o)))
       takes None h = refl
       takes (Some fault) h = taker fault.taker (rest-ours fault.port (option_list peer_pointer fault.taker) h)
 
@@ -170,7 +177,8 @@ module _ (w : World) (uncut : IsUncut w) where
       by false false false true = takes t.fault faults
       by false false false false = tt
 
-  holder-field : (n : ℕ) (birth : ℕ) (o : Option Ptr) → AreOurs (pointers (Space birth o)) → IsOursField (first_field n (or_null (and_then (λ p. Some (Pointer p)) o)))
+  holder-field : (n : ℕ) (birth : ℕ) (o : Option Ptr) → AreOurs (pointers (Space birth o))
+      → IsOursField (first_field n (or_null (and_then (λ p. Some (Pointer p)) o)))
   holder-field n birth None ours = first-field n Null refl
   holder-field n birth (Some p) ours = first-field n p (first-ours p [] ours)
 
@@ -185,7 +193,8 @@ module _ (w : World) (uncut : IsUncut w) where
   some-field n (Port set served) ours = tt
   some-field n Portset ours = tt
 
-  pub field-ours : (c : Caller) (space : Path) (k n : ℕ) (b : Body) (field : Field) → object_in w c anything space k ≡ Ok b → field_of n b ≡ Some field → IsOurs (field_pointer field)
+  pub field-ours : (c : Caller) (space : Path) (k n : ℕ) (b : Body) (field : Field) → object_in w c anything space k ≡ Ok b → field_of n b ≡ Some field
+      → IsOurs (field_pointer field)
   field-ours c space k n b field read is =
       let found = object_in-found w c anything space k b read in
       let same : found.body ≡ b = (let e = found.seen in cc) in
@@ -219,7 +228,8 @@ module _ (w : World) (uncut : IsUncut w) where
           test old true is e = let same : old ≡ r = cc in ap (λ (r : Extent). is_cut_pointer r.keeper) (sym same) ∙ region o old ours is
           test old false is e = cc
 
-          on : (p : Option Extent) → and_then region_of o ≡ p → and_then (λ (r : Extent). if covers r.first r.count page then Some r else None) p ≡ Some r → IsOurs r.keeper
+          on : (p : Option Extent) → and_then region_of o ≡ p → and_then (λ (r : Extent). if covers r.first r.count page then Some r else None) p ≡ Some r
+              → IsOurs r.keeper
           on None is e = cc
           on (Some old) is e = test old (covers old.first old.count page) is e
 
@@ -246,7 +256,8 @@ module _ (w : World) (uncut : IsUncut w) where
       by None = ours
       by (Some words) = tt
 
-  mapped-ours : (go : Window → Reach) (missing : Reach) (o : Option Window) → IsOursReach missing → ((m : Window) → IsOursReach (go m)) → IsOursReach (mapped go missing o)
+  mapped-ours : (go : Window → Reach) (missing : Reach) (o : Option Window) → IsOursReach missing → ((m : Window) → IsOursReach (go m))
+      → IsOursReach (mapped go missing o)
   mapped-ours go missing None here there = here
   mapped-ours go missing (Some m) here there = there m
 
@@ -281,21 +292,27 @@ module _ (w : World) (uncut : IsUncut w) where
   accessed-at me write halts go Bad ours halting going = halting _
 
   pub accessed-ours : {v : World} → (space me : Path) (address : ℕ) (write : Bool) (halts : ℕ → Outcome) (go : Path → ℕ → Outcome) →
-      ((code : ℕ) → OursOutcome v (halts code)) → ((s : Path) (page : ℕ) → OursOutcome v (go s page)) → OursOutcome v (accessed me write halts go (reach_word w space address write))
-  accessed-ours space me address write halts go halting going = accessed-at me write halts go (reach_word w space address write) (word-ours space address write) halting going
+      ((code : ℕ) → OursOutcome v (halts code)) → ((s : Path) (page : ℕ) → OursOutcome v (go s page))
+      → OursOutcome v (accessed me write halts go (reach_word w space address write))
+  accessed-ours space me address write halts go halting going = accessed-at me write halts go (reach_word w space address write)
+      (word-ours space address write) halting going
 
-  own_page_at-ours : {v : World} → (me : Path) (write : Bool) (go : Path → ℕ → Outcome) (r : Reach) → IsOursReach r → ((s : Path) (page : ℕ) → OursOutcome v (go s page)) → OursOutcome v (own_page_at me write go r)
+  own_page_at-ours : {v : World} → (me : Path) (write : Bool) (go : Path → ℕ → Outcome) (r : Reach) → IsOursReach r
+      → ((s : Path) (page : ℕ) → OursOutcome v (go s page)) → OursOutcome v (own_page_at me write go r)
   own_page_at-ours me write go (Home s page) ours going = going s page
   own_page_at-ours me write go (Missing s page keeper) ours going = missed-ours _ me page write keeper ours refused
   own_page_at-ours me write go Bad ours going = refused
 
-  pub own_page-ours : {v : World} → (c : Caller) (address : ℕ) (write : Bool) (go : Path → ℕ → Outcome) → ((s : Path) (page : ℕ) → OursOutcome v (go s page)) → OursOutcome v (own_page w c address write go)
+  pub own_page-ours : {v : World} → (c : Caller) (address : ℕ) (write : Bool) (go : Path → ℕ → Outcome) → ((s : Path) (page : ℕ) → OursOutcome v (go s page))
+      → OursOutcome v (own_page w c address write go)
   own_page-ours c address write go going = own_page_at-ours _ write go (reach_word w c.space address write) (word-ours c.space address write) going
 
-  their_page_at-ours : {v : World} → (go : Path → ℕ → Outcome) (r : Reach) → ((s : Path) (page : ℕ) → OursOutcome v (go s page)) → OursOutcome v (their_page_at go r)
+  their_page_at-ours : {v : World} → (go : Path → ℕ → Outcome) (r : Reach) → ((s : Path) (page : ℕ) → OursOutcome v (go s page))
+      → OursOutcome v (their_page_at go r)
   their_page_at-ours go (Home s page) going = going s page
   their_page_at-ours go (Missing s page keeper) going = waits
   their_page_at-ours go Bad going = waits
 
-  pub their_page-ours : {v : World} → (space : Path) (address : ℕ) (go : Path → ℕ → Outcome) → ((s : Path) (page : ℕ) → OursOutcome v (go s page)) → OursOutcome v (their_page w space address go)
+  pub their_page-ours : {v : World} → (space : Path) (address : ℕ) (go : Path → ℕ → Outcome) → ((s : Path) (page : ℕ) → OursOutcome v (go s page))
+      → OursOutcome v (their_page w space address go)
   their_page-ours space address go going = their_page_at-ours go (reach_word w space address true) going

@@ -7,9 +7,11 @@ use Rattle.fk_model.specs.Objects.{Peer, Talk, Fault, Thread, Body, Mode, and_th
 use Rattle.fk_model.specs.Objects.Peer.{Server, Service, Parked}
 use Rattle.fk_model.specs.Objects.Mode.{Running, Calling, Halted, Native}
 use Rattle.fk_model.specs.Objects.Body.{Mutex, Cond, Mapping, Region, Port, Portset, Space, Thread_of, Reference}
-use Rattle.fk_model.specs.World.{World, Change, Edit, Sweep, edited, through, death_sweep, following, taker_without, follow, follow_peer, serves, apply, apply_all, ended_in, finished_in}
+use Rattle.fk_model.specs.World.{World, Change, Edit, Sweep, edited, through, death_sweep, following, taker_without, follow, follow_peer, serves, apply}
+use Rattle.fk_model.specs.World.{apply_all, ended_in, finished_in}
 use Rattle.fk_model.specs.World.Change.{Alter, Make, MakeSpace, Kill, Move, PutPage, DropPage}
-use Rattle.fk_model.specs.World.Edit.{SetLocked, SetWindow, SetExtent, SetMember, SetPointer, SetHolder, Proceed, Shift, Finish, End, Replace, SetStops, SetTalk, CountMoved, PassTurn, SetPeer, SetFault, SetTaker}
+use Rattle.fk_model.specs.World.Edit.{SetLocked, SetWindow, SetExtent, SetMember, SetPointer, SetHolder, Proceed, Shift, Finish, End, Replace, SetStops}
+use Rattle.fk_model.specs.World.Edit.{SetTalk, CountMoved, PassTurn, SetPeer, SetFault, SetTaker}
 use Rattle.fk_model.specs.Searches.{peer_pointer, option_list, talk_pointers, fault_pointers, pointers}
 use Rattle.fk_model.specs.Outcomes.{Outcome}
 use Rattle.fk_model.specs.Outcomes.Outcome.{Refused, Waits, Goes}
@@ -45,14 +47,16 @@ finished-ours answers t (Running g) ours = ours
 finished-ours answers t (Halted g code) ours = ours
 finished-ours answers t (Native g) ours = ours
 
-counted-ours : (n : Talk → Talk) → ((talk : Talk) → talk_pointers (n talk) ≡ talk_pointers talk) → (o : Option Talk) → AreOurs (option_list talk_pointers o) → AreOurs (option_list talk_pointers (option_map n o))
+counted-ours : (n : Talk → Talk) → ((talk : Talk) → talk_pointers (n talk) ≡ talk_pointers talk) → (o : Option Talk) → AreOurs (option_list talk_pointers o)
+    → AreOurs (option_list talk_pointers (option_map n o))
 counted-ours n same None ours = ours
 counted-ours n same (Some talk) ours = ap (λ (ps : List Ptr). list_any is_cut_pointer ps) (same talk) ∙ ours
 
 peered-ours : (peer : Peer) → AreOurs (peer_pointer peer) → (o : Option Talk) → AreOurs (option_list talk_pointers o) →
     AreOurs (option_list talk_pointers (option_map (λ (talk : Talk). record talk { peer = peer }) o))
 peered-ours peer new None ours = ours
-peered-ours peer new (Some talk) ours = both-ours (talk.port ∷ []) (peer_pointer peer) (one-ours talk.port (first-ours talk.port (peer_pointer talk.peer) ours)) new
+peered-ours peer new (Some talk) ours = both-ours (talk.port ∷ []) (peer_pointer peer)
+    (one-ours talk.port (first-ours talk.port (peer_pointer talk.peer) ours)) new
 
 taken-ours : (taker : Option Peer) → AreOurs (option_list peer_pointer taker) → (o : Option Fault) → AreOurs (option_list fault_pointers o) →
     AreOurs (option_list fault_pointers (option_map (λ (fault : Fault). record fault { taker = taker }) o))
@@ -69,11 +73,15 @@ thread-ours (End status answers) t new ours = ended-ours status answers t t.mode
 thread-ours (Replace stage) t new ours = ours
 thread-ours (SetStops stops) t new ours = ours
 thread-ours (SetTalk talk) t new ours = both-ours (option_list talk_pointers talk) (option_list fault_pointers t.fault) new (fault-ours t ours)
-thread-ours (CountMoved count) t new ours = both-ours (option_list talk_pointers _) (option_list fault_pointers t.fault) (counted-ours _ (λ talk. refl) t.talk (talk-ours t ours)) (fault-ours t ours)
-thread-ours (PassTurn turn) t new ours = both-ours (option_list talk_pointers _) (option_list fault_pointers t.fault) (counted-ours _ (λ talk. refl) t.talk (talk-ours t ours)) (fault-ours t ours)
-thread-ours (SetPeer peer) t new ours = both-ours (option_list talk_pointers _) (option_list fault_pointers t.fault) (peered-ours peer new t.talk (talk-ours t ours)) (fault-ours t ours)
+thread-ours (CountMoved count) t new ours = both-ours (option_list talk_pointers _) (option_list fault_pointers t.fault)
+    (counted-ours _ (λ talk. refl) t.talk (talk-ours t ours)) (fault-ours t ours)
+thread-ours (PassTurn turn) t new ours = both-ours (option_list talk_pointers _) (option_list fault_pointers t.fault)
+    (counted-ours _ (λ talk. refl) t.talk (talk-ours t ours)) (fault-ours t ours)
+thread-ours (SetPeer peer) t new ours = both-ours (option_list talk_pointers _) (option_list fault_pointers t.fault)
+    (peered-ours peer new t.talk (talk-ours t ours)) (fault-ours t ours)
 thread-ours (SetFault fault) t new ours = both-ours (option_list talk_pointers t.talk) (option_list fault_pointers fault) (talk-ours t ours) new
-thread-ours (SetTaker taker) t new ours = both-ours (option_list talk_pointers t.talk) (option_list fault_pointers _) (talk-ours t ours) (taken-ours taker new t.fault (fault-ours t ours))
+thread-ours (SetTaker taker) t new ours = both-ours (option_list talk_pointers t.talk) (option_list fault_pointers _) (talk-ours t ours)
+    (taken-ours taker new t.fault (fault-ours t ours))
 thread-ours (SetLocked locked) t new ours = ours
 thread-ours (SetWindow first count offset write) t new ours = ours
 thread-ours (SetExtent first count write) t new ours = ours
@@ -197,14 +205,16 @@ death-ours x = record {
         AreOurs (option_list fault_pointers (if t then None else Some (record fault { taker = and_then (taker_without x) fault.taker })))
     faulted fault ours true = refl
     faulted fault ours false =
-        both-ours (fault.port ∷ []) (option_list peer_pointer (and_then (taker_without x) fault.taker)) (one-ours fault.port (first-ours fault.port (option_list peer_pointer fault.taker) ours))
+        both-ours (fault.port ∷ []) (option_list peer_pointer (and_then (taker_without x) fault.taker))
+        (one-ours fault.port (first-ours fault.port (option_list peer_pointer fault.taker) ours))
         (taker fault.taker (rest-ours fault.port (option_list peer_pointer fault.taker) ours))
 
 following-ours : (x y : Path) → IsOursSweep (following x y)
 following-ours x y = record {
   pointer = λ p ours. follows p ours;
   holder = λ p ours. one-ours (follow x y p) (follows p ours);
-  talk = λ talk ours. both-ours (follow x y talk.port ∷ []) (peer_pointer (follow_peer x y talk.peer)) (one-ours _ (follows talk.port (first-ours talk.port (peer_pointer talk.peer) ours)))
+  talk = λ talk ours. both-ours (follow x y talk.port ∷ []) (peer_pointer (follow_peer x y talk.peer))
+      (one-ours _ (follows talk.port (first-ours talk.port (peer_pointer talk.peer) ours)))
       (peer talk.peer (rest-ours talk.port (peer_pointer talk.peer) ours));
   fault = λ fault ours. both-ours (follow x y fault.port ∷ []) (option_list peer_pointer (option_map (follow_peer x y) fault.taker))
       (one-ours _ (follows fault.port (first-ours fault.port (option_list peer_pointer fault.taker) ours)))
@@ -242,10 +252,12 @@ either false a b one two = two
 
 uncut-apply : (c : Change) (w : World) → IsUncut w → SetsOurs c → IsUncut (apply c w)
 unfolding apply
-uncut-apply (Alter x edit) w uncut new = λ y. either (same_path y x) _ _ (mapped (edited edit) (λ b ours. edited-ours edit b new ours) (w.body y) (uncut y)) (uncut y)
+uncut-apply (Alter x edit) w uncut new = λ y. either (same_path y x) _ _ (mapped (edited edit) (λ b ours. edited-ours edit b new ours) (w.body y) (uncut y))
+    (uncut y)
 uncut-apply (Make x body) w uncut new = λ y. either (same_path y x) (Some body) (w.body y) new.0 (uncut y)
 uncut-apply (MakeSpace x holder) w uncut new = λ y. either (same_path y x) (Some (Space w.next holder)) (w.body y) new (uncut y)
-uncut-apply (Kill x) w uncut new = λ y. either (same_path y x) None _ refl (mapped (through (death_sweep x) y) (through-ours (death_sweep x) (death-ours x) y) (w.body y) (uncut y))
+uncut-apply (Kill x) w uncut new = λ y. either (same_path y x) None _ refl
+    (mapped (through (death_sweep x) y) (through-ours (death_sweep x) (death-ours x) y) (w.body y) (uncut y))
 uncut-apply (Move x slot) w uncut new = absurd new
 uncut-apply (PutPage space page words) w uncut new = uncut
 uncut-apply (DropPage space page) w uncut new = uncut

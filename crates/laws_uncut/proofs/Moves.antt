@@ -3,7 +3,11 @@ use Rattle.std.proofs.Common.{ℕ, Bool, true, false, if◌then◌else◌, ◌&&
 use Rattle.fk_model.specs.declared.moves.Ask.{Ask}
 use Rattle.fk_model.specs.declared.moves.Ask.TheVariants as asks
 use Rattle.fk_model.specs.declared.stage.Stage.{Stage}
-use Rattle.fk_model.specs.declared.stage.Stage.TheVariants.{Create, Destroy, Rename, Search, Point, Clear, Locate, CountIn, GetState, SetState, GetPtr, SetPtr, SpaceHold, SpaceRelease, ThreadStop, ThreadGo, PageGive, PageTake, PageRead, PageNext, MutexLock, MutexTrylock, MutexUnlock, CondWait, CondAsleep, CondSignal, CondBroadcast, Connect, ClientReceive, ClientSend, ClientOver, Disconnect, Wait, ServerReceive, ServerSend, ServerOver, ServerEnd, FaultDone, LinkSet, LinkPark, FaultSet, FaultPark, HoldSet, SpaceMakeHeld}
+use Rattle.fk_model.specs.declared.stage.Stage.TheVariants.{Create, Destroy, Rename, Search, Point, Clear, Locate, CountIn, GetState, SetState, GetPtr, SetPtr}
+use Rattle.fk_model.specs.declared.stage.Stage.TheVariants.{SpaceHold, SpaceRelease, ThreadStop, ThreadGo, PageGive, PageTake, PageRead, PageNext, MutexLock}
+use Rattle.fk_model.specs.declared.stage.Stage.TheVariants.{MutexTrylock, MutexUnlock, CondWait, CondAsleep, CondSignal, CondBroadcast, Connect, ClientReceive}
+use Rattle.fk_model.specs.declared.stage.Stage.TheVariants.{ClientSend, ClientOver, Disconnect, Wait, ServerReceive, ServerSend, ServerOver, ServerEnd}
+use Rattle.fk_model.specs.declared.stage.Stage.TheVariants.{FaultDone, LinkSet, LinkPark, FaultSet, FaultPark, HoldSet, SpaceMakeHeld}
 use Rattle.fk_model.specs.declared.statuses.status.TheConstants.{DENIED}
 use Rattle.fk_model.specs.declared.thread.Turn.TheVariants as turns
 use Rattle.fk_model.specs.Places.{Path, parent, slot_of}
@@ -17,8 +21,13 @@ use Rattle.fk_model.specs.Holds.{is_free, is_unheld, is_porter}
 use Rattle.fk_model.specs.Moves.{stage_row, is_denied, allowed_row, chooses, with_pick, closed, call_row, goes_on, user_move, porter_at, porter_move, outcome}
 use Rattle.laws_further.specs.ClosedLaws.{IsUncut}
 use Rattle.laws_uncut.proofs.Outcomes.{OursOutcome, refused, waits, goes, ours-when}
-use Rattle.laws_uncut.proofs.Rows.{run_row-ours, mutex_lock-ours, mutex_trylock-ours, mutex_unlock-ours, cond_wait-ours, cond_asleep-ours, cond_signal-ours, cond_broadcast-ours, send-ours, receive-ours, over-ours, thread_stop-ours, thread_go-ours, page_give-ours, page_take-ours, page_read-ours, page_next-ours}
-use Rattle.laws_uncut.proofs.Objects.{create-ours, destroy-ours, rename-ours, point-ours, clear-ours, search_row-ours, locate-ours, count_in-ours, space_hold-ours, space_release-ours, hold_set-ours, space_make_held-ours, get_state-ours, set_state-ours, get_ptr-ours, set_ptr-ours, wait-ours, connect-ours, disconnect-ours, link_set-ours, link_park-ours, fault_done-ours, fault_set-ours, fault_park-ours, accept_row-ours, give_row-ours, over_row-ours}
+use Rattle.laws_uncut.proofs.Rows.{run_row-ours, mutex_lock-ours, mutex_trylock-ours, mutex_unlock-ours, cond_wait-ours, cond_asleep-ours, cond_signal-ours}
+use Rattle.laws_uncut.proofs.Rows.{cond_broadcast-ours, send-ours, receive-ours, over-ours, thread_stop-ours, thread_go-ours, page_give-ours, page_take-ours}
+use Rattle.laws_uncut.proofs.Rows.{page_read-ours, page_next-ours}
+use Rattle.laws_uncut.proofs.Objects.{create-ours, destroy-ours, rename-ours, point-ours, clear-ours, search_row-ours, locate-ours, count_in-ours}
+use Rattle.laws_uncut.proofs.Objects.{space_hold-ours, space_release-ours, hold_set-ours, space_make_held-ours, get_state-ours, set_state-ours, get_ptr-ours}
+use Rattle.laws_uncut.proofs.Objects.{set_ptr-ours, wait-ours, connect-ours, disconnect-ours, link_set-ours, link_park-ours, fault_done-ours, fault_set-ours}
+use Rattle.laws_uncut.proofs.Objects.{fault_park-ours, accept_row-ours, give_row-ours, over_row-ours}
 
 -- ---- one stage
 
@@ -108,10 +117,12 @@ user_move-ours : (w : World) (x : Path) (pick : Option Path) (o : Option Thread)
 user_move-ours w x pick None uncut = waits
 user_move-ours w x pick (Some t) uncut = ours-when (is_free w (parent x) t) (goes_on w x pick t t.mode) (λ free. goes_on-ours w x pick t t.mode uncut)
 
-porter_move-ours : (w : World) (x : Path) (pick : Option Path) (stage : Stage) (words : List ℕ) (o : Option Thread) → IsUncut w → OursOutcome w (porter_move w x pick stage words o)
+porter_move-ours : (w : World) (x : Path) (pick : Option Path) (stage : Stage) (words : List ℕ) (o : Option Thread) → IsUncut w
+    → OursOutcome w (porter_move w x pick stage words o)
 porter_move-ours w x pick stage words None uncut = waits
 porter_move-ours w x pick stage words (Some t) uncut =
-    ours-when (is_porter t.mode && is_unheld w (parent x)) (call_row w (porter_at x words) pick stage) (λ free. call_row-ours w (porter_at x words) pick stage uncut)
+    ours-when (is_porter t.mode && is_unheld w (parent x)) (call_row w (porter_at x words) pick stage)
+    (λ free. call_row-ours w (porter_at x words) pick stage uncut)
 
 -- ---- a move
 

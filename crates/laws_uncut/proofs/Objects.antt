@@ -1,5 +1,6 @@
 -- The rows of objects, of state, of talks and of faults, and those of native servers, set no pointer that stands in cuts alone.
-use Rattle.std.proofs.Common.{◌≡◌, ℕ, Bool, true, false, if◌then◌else◌, ◌&&◌, ◌==◌, List, [], ◌∷◌, ◌++◌, map, Option, Some, None, Ok, refl, inl, inr, not, ap, ◌∙◌, nat_le}
+use Rattle.std.proofs.Common.{◌≡◌, ℕ, Bool, true, false, if◌then◌else◌, ◌&&◌, ◌==◌, List, [], ◌∷◌, ◌++◌, map, Option, Some, None, Ok, refl, inl, inr, not, ap}
+use Rattle.std.proofs.Common.{◌∙◌, nat_le}
 use Rattle.std.proofs.lemmas.Bool.{cases_Bool}
 use Rattle.fk_model.specs.declared.thread.Turn.{Turn}
 use Rattle.fk_model.specs.declared.thread.Turn.TheVariants as turns
@@ -18,17 +19,21 @@ use Rattle.fk_model.specs.Holds.{is_free}
 use Rattle.fk_model.specs.Outcomes.{Outcome, Caller, done}
 use Rattle.fk_model.specs.Readers.{anything, object_in, referred}
 use Rattle.fk_model.specs.Talks.{Line, ends_beyond, receiving, same_side}
-use Rattle.fk_model.specs.LinkRows.{given_talk, Candidate, candidate, takes_candidate, takes_picked, wait, connect, end_all, removes, disconnect, link_set, link_park}
+use Rattle.fk_model.specs.LinkRows.{given_talk, Candidate, candidate, takes_candidate, takes_picked, wait, connect, end_all, removes, disconnect, link_set}
+use Rattle.fk_model.specs.LinkRows.{link_park}
 use Rattle.fk_model.specs.LinkRows.Candidate.{Faulting, Connecting, Resuming}
 use Rattle.fk_model.specs.FaultRows.{given_fault, named_taker, frees, fault_done, fault_set, fault_park}
 use Rattle.fk_model.specs.SpaceRows.{space_hold, space_release, hold_set, space_make_held}
 use Rattle.fk_model.specs.Records.{set_edits}
 use Rattle.fk_model.specs.StateRows.{Field, field_of, field_pointer, shows, shows_to, get_state, sets_record, record_at, sets_from, set_state, get_ptr, set_ptr}
 use Rattle.fk_model.specs.ObjectRows.{pointer_in, new_object, create, kills, destroys, destroy, rename, search as search_row, point, clear, locate, count_in}
-use Rattle.fk_model.specs.NativeRows.{takes_up, parked_here, connects_here, accepts_thread, accepts_found, takes_client, accept_row, is_serving_port, if_receiving, gives_words, gives_to, give_row, over_row, with_client, passes_client}
+use Rattle.fk_model.specs.NativeRows.{takes_up, parked_here, connects_here, accepts_thread, accepts_found, takes_client, accept_row, is_serving_port}
+use Rattle.fk_model.specs.NativeRows.{if_receiving, gives_words, gives_to, give_row, over_row, with_client, passes_client}
 use Rattle.laws_further.specs.ClosedLaws.{IsUncut}
-use Rattle.laws_uncut.proofs.Outcomes.{SetsOurs, SetOurs, OursOutcome, waits, goes, ours-then, ours-end_all, ours-when, ours-if, ours-done, ours-done_at, ours-ended, ours-stays, ours-telling, ours-moves, ours_row}
-use Rattle.laws_uncut.proofs.Found.{both-ours, pair-ours, one-ours, reference-ours, referred-ours, taker-ours, pointer-ours, field-ours, own_page-ours, their_page-ours}
+use Rattle.laws_uncut.proofs.Outcomes.{SetsOurs, SetOurs, OursOutcome, waits, goes, ours-then, ours-end_all, ours-when, ours-if, ours-done, ours-done_at}
+use Rattle.laws_uncut.proofs.Outcomes.{ours-ended, ours-stays, ours-telling, ours-moves, ours_row}
+use Rattle.laws_uncut.proofs.Found.{both-ours, pair-ours, one-ours, reference-ours, referred-ours, taker-ours, pointer-ours, field-ours, own_page-ours}
+use Rattle.laws_uncut.proofs.Found.{their_page-ours}
 use Rattle.fk_model.specs.declared.limits.TheConstants.{LAST_USER_SLOT}
 use Rattle.fk_model.specs.declared.stage.Stage.{Stage}
 use Rattle.fk_model.specs.Calls.{todo_of}
@@ -50,8 +55,10 @@ pick-new false change rest here others = others
 
 new_object-new : (x : Path) (kind : ℕ) → IfNew (new_object x kind)
 new_object-new x kind =
-    pick-new (kind == 1) _ _ (refl, refl, refl) (pick-new (kind == 2) _ _ (refl, refl, refl) (pick-new (kind == 3) _ _ (refl, refl, refl) (pick-new (kind == 4) _ _ (refl, refl, refl) (pick-new (kind == 5) _ _ (refl, refl, refl)
-    (pick-new (kind == 6) _ _ (refl, refl, refl) (pick-new (kind == 7) _ _ refl (pick-new (kind == 8) _ _ (refl, refl, refl) (pick-new (kind == 9) _ None (refl, refl, refl) tt))))))))
+    pick-new (kind == 1) _ _ (refl, refl, refl) (pick-new (kind == 2) _ _ (refl, refl, refl)
+    (pick-new (kind == 3) _ _ (refl, refl, refl) (pick-new (kind == 4) _ _ (refl, refl, refl) (pick-new (kind == 5) _ _ (refl, refl, refl)
+    (pick-new (kind == 6) _ _ (refl, refl, refl) (pick-new (kind == 7) _ _ refl
+    (pick-new (kind == 8) _ _ (refl, refl, refl) (pick-new (kind == 9) _ None (refl, refl, refl) tt))))))))
 
 called-user : (g : List ℕ) (o : Option (List Stage)) → is_porter (calling_by g o) ≡ false
 called-user g (Some todo) = refl
@@ -100,7 +107,8 @@ module _ {v : World} where
   unfolding destroy
   destroy-ours w c s x = search (ours_row, destroys-ours) depth 9
 
-  points-done : (w : World) → IsUncut w → (c : Caller) (x space2 : Path) (x2 : ℕ) (to : Ptr) → pointer_in w c space2 x2 ≡ Ok to → OursOutcome v (done c (Alter x (SetPointer to) ∷ []) [])
+  points-done : (w : World) → IsUncut w → (c : Caller) (x space2 : Path) (x2 : ℕ) (to : Ptr) → pointer_in w c space2 x2 ≡ Ok to
+      → OursOutcome v (done c (Alter x (SetPointer to) ∷ []) [])
   points-done w uncut c x space2 x2 to read = ours-done c _ [] (pointer-ours w uncut c space2 x2 to read, tt)
 
   pub point-ours : (w : World) → IsUncut w → (c : Caller) (s x s2 x2 : ℕ) → OursOutcome v (point w c s x s2 x2)
@@ -133,7 +141,8 @@ module _ {v : World} where
   unfolding space_release
   space_release-ours w c s x = search (ours_row, ours-done) depth 9
 
-  holds-done : (w : World) → IsUncut w → (c : Caller) (x : Path) (k : ℕ) (holder : Ptr) → referred w c kinds.Thread k ≡ Ok holder → OursOutcome v (done c (Alter x (SetHolder (Some holder)) ∷ []) [])
+  holds-done : (w : World) → IsUncut w → (c : Caller) (x : Path) (k : ℕ) (holder : Ptr) → referred w c kinds.Thread k ≡ Ok holder
+      → OursOutcome v (done c (Alter x (SetHolder (Some holder)) ∷ []) [])
   holds-done w uncut c x k holder read = ours-done c _ [] (one-ours holder (referred-ours w uncut c kinds.Thread k holder read), tt)
 
   pub hold_set-ours : (w : World) → IsUncut w → (c : Caller) (s x thread : ℕ) → OursOutcome v (hold_set w c s x thread)
@@ -160,13 +169,15 @@ module _ {v : World} where
   sets_from-ours : (w : World) → IsUncut w → (c : Caller) (space x : Path) (b : Body) (address : ℕ) → OursOutcome v (sets_from w c space x b address)
   sets_from-ours w uncut c space x b address =
       ours-if c.is_porter _ _ (sets-ours w c space x b c.words)
-      (own_page-ours w uncut c address false (λ t page. sets_record w c space x b (record_at (words_at w t page) address)) (λ t page. sets-ours w c space x b _))
+      (own_page-ours w uncut c address false (λ t page. sets_record w c space x b (record_at (words_at w t page) address))
+      (λ t page. sets-ours w c space x b _))
 
   pub set_state-ours : (w : World) → IsUncut w → (c : Caller) (s x address : ℕ) → OursOutcome v (set_state w c s x address)
   unfolding set_state
   set_state-ours w uncut c s x address = search (ours_row, sets_from-ours) depth 9
 
-  gets-done : (w : World) → IsUncut w → (c : Caller) (space : Path) (k n : ℕ) (b : Body) (field : Field) (x : Path) (answers : List ℕ) → object_in w c anything space k ≡ Ok b → field_of n b ≡ Some field →
+  gets-done : (w : World) → IsUncut w → (c : Caller) (space : Path) (k n : ℕ) (b : Body) (field : Field) (x : Path) (answers : List ℕ)
+      → object_in w c anything space k ≡ Ok b → field_of n b ≡ Some field →
       OursOutcome v (done c (Alter x (SetPointer (field_pointer field)) ∷ []) answers)
   gets-done w uncut c space k n b field x answers read is = ours-done c _ answers (field-ours w uncut c space k n b field read is, tt)
 
@@ -174,7 +185,8 @@ module _ {v : World} where
   unfolding get_ptr
   get_ptr-ours w uncut c s x field reference = search (ours_row, gets-done) depth 12
 
-  sets-done : (w : World) → IsUncut w → (c : Caller) (space x : Path) (k : ℕ) (to : Ptr) → object_in w c reference_of space k ≡ Ok to → OursOutcome v (done c (Alter x (SetPointer to) ∷ []) [])
+  sets-done : (w : World) → IsUncut w → (c : Caller) (space x : Path) (k : ℕ) (to : Ptr) → object_in w c reference_of space k ≡ Ok to
+      → OursOutcome v (done c (Alter x (SetPointer to) ∷ []) [])
   sets-done w uncut c space x k to read = ours-done c _ [] (reference-ours w uncut c space k to read, tt)
 
   pub set_ptr-ours : (w : World) → IsUncut w → (c : Caller) (s x field reference : ℕ) → OursOutcome v (set_ptr w c s x field reference)
@@ -209,7 +221,8 @@ module _ {v : World} where
   unfolding disconnect
   disconnect-ours w c side = search (ours_row, removes-ours)
 
-  links-done : (w : World) → IsUncut w → (c : Caller) (x : Path) (h k : ℕ) (at thread : Ptr) → referred w c kinds.Port h ≡ Ok at → referred w c kinds.Thread k ≡ Ok thread →
+  links-done : (w : World) → IsUncut w → (c : Caller) (x : Path) (h k : ℕ) (at thread : Ptr) → referred w c kinds.Port h ≡ Ok at
+      → referred w c kinds.Thread k ≡ Ok thread →
       OursOutcome v (done c (Alter x (SetTalk (given_talk c at (Server thread))) ∷ []) [])
   links-done w uncut c x h k at thread port server =
       ours-done c _ [] (pair-ours at thread (referred-ours w uncut c kinds.Port h at port) (referred-ours w uncut c kinds.Thread k thread server), tt)
@@ -229,16 +242,22 @@ module _ {v : World} where
   unfolding fault_done
   fault_done-ours w c = search (ours_row, frees-ours)
 
-  faults-done : (w : World) → IsUncut w → (c : Caller) (x : Path) (h k : ℕ) (at : Ptr) (by_whom : Option Peer) → referred w c kinds.Port h ≡ Ok at → named_taker w c k ≡ Ok by_whom →
+  faults-done : (w : World) → IsUncut w → (c : Caller) (x : Path) (h k : ℕ) (at : Ptr) (by_whom : Option Peer) → referred w c kinds.Port h ≡ Ok at
+      → named_taker w c k ≡ Ok by_whom →
       OursOutcome v (done c (Alter x (SetFault (given_fault c at by_whom)) ∷ []) [])
   faults-done w uncut c x h k at by_whom port taker =
-      ours-done c _ [] (both-ours (at ∷ []) (option_list peer_pointer by_whom) (one-ours at (referred-ours w uncut c kinds.Port h at port)) (taker-ours w uncut c k by_whom taker), tt)
+      ours-done c _ [] (
+        both-ours (at ∷ []) (option_list peer_pointer by_whom) (one-ours at (referred-ours w uncut c kinds.Port h at port))
+            (taker-ours w uncut c k by_whom taker),
+        tt,
+      )
 
   pub fault_set-ours : (w : World) → IsUncut w → (c : Caller) (s x port taker : ℕ) → OursOutcome v (fault_set w c s x port taker)
   unfolding fault_set
   fault_set-ours w uncut c s x port taker = search (ours_row, faults-done) depth 12
 
-  parks-done : (c : Caller) (x port : Path) (t : Bool) → OursOutcome v (done c (Alter x (SetFault (given_fault c (At port) (if t then Some Parked else None))) ∷ []) [])
+  parks-done : (c : Caller) (x port : Path) (t : Bool)
+      → OursOutcome v (done c (Alter x (SetFault (given_fault c (At port) (if t then Some Parked else None))) ∷ []) [])
   parks-done c x port true = ours-done c _ [] (refl, tt)
   parks-done c x port false = ours-done c _ [] (refl, tt)
 
@@ -303,7 +322,8 @@ not-true : (b : Bool) → not b ≡ false → b ≡ true
 not-true true e = refl
 not-true false e = cc
 
-moves-done : (w : World) (c : Caller) (space : Path) (x y : ℕ) (b : Body) (me : Path) → object_in w c anything space x ≡ Ok b → not (nat_le y LAST_USER_SLOT) ≡ false → is_served b ≡ false →
+moves-done : (w : World) (c : Caller) (space : Path) (x y : ℕ) (b : Body) (me : Path) → object_in w c anything space x ≡ Ok b
+    → not (nat_le y LAST_USER_SLOT) ≡ false → is_served b ≡ false →
     OursOutcome w (done_at me c (Move (x ∷ space) y ∷ []) [])
 moves-done w c space x y b me read low apart =
     let found = object_in-found w c anything space x b read in

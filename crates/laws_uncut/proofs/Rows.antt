@@ -22,9 +22,12 @@ use Rattle.fk_model.specs.Outcomes.Said.{Nothing}
 use Rattle.fk_model.specs.Outcomes.Outcome.{Waits}
 use Rattle.fk_model.specs.Talks.{Line, thread_led_to}
 use Rattle.fk_model.specs.UserRows.{word_at, halts_with, loads, stores, enters, performs, executes, run_row, run_row_by}
-use Rattle.fk_model.specs.SyncRows.{mutex_lock, mutex_trylock, mutex_unlock, cond_wait, cond_asleep, woken, asleep_on, sleepers, signals, unless_slept_on, picks_sleeper, cond_signal, cond_broadcast}
-use Rattle.fk_model.specs.TransferRows.{overwritten, block, moved_words, has_sent, sends_words, sends_into, sends_to_thread, sends_to, sends, send, awaits, receive, passes_to_thread, passes_to, over}
-use Rattle.fk_model.specs.SpaceRows.{thread_stop, thread_go, gives_page, gives_from, page_give, copies, copies_home, answers_home, copies_to, page_take, page_read, page_next}
+use Rattle.fk_model.specs.SyncRows.{mutex_lock, mutex_trylock, mutex_unlock, cond_wait, cond_asleep, woken, asleep_on, sleepers, signals, unless_slept_on}
+use Rattle.fk_model.specs.SyncRows.{picks_sleeper, cond_signal, cond_broadcast}
+use Rattle.fk_model.specs.TransferRows.{overwritten, block, moved_words, has_sent, sends_words, sends_into, sends_to_thread, sends_to, sends, send, awaits}
+use Rattle.fk_model.specs.TransferRows.{receive, passes_to_thread, passes_to, over}
+use Rattle.fk_model.specs.SpaceRows.{thread_stop, thread_go, gives_page, gives_from, page_give, copies, copies_home, answers_home, copies_to, page_take}
+use Rattle.fk_model.specs.SpaceRows.{page_read, page_next}
 use Rattle.laws_uncut.proofs.Outcomes.{SetOurs, OursOutcome, refused, waits, goes, ours-then, ours-when, ours-if, ours-done, ours-telling, ours_row}
 use Rattle.laws_further.specs.ClosedLaws.{IsUncut}
 use Rattle.laws_uncut.proofs.Found.{accessed-ours, own_page-ours, their_page-ours}
@@ -56,9 +59,11 @@ module _ {v : World} where
   performs-ours w uncut space me g counter (Put register value) = goes (refl, tt)
   performs-ours w uncut space me g counter (Jump to) = goes (refl, tt)
   performs-ours w uncut space me g counter (Load register address) =
-      accessed-ours w uncut space me address false (halts_with me g counter) (loads w me g counter register address) (λ code. goes (refl, tt)) (λ s page. goes (refl, tt))
+      accessed-ours w uncut space me address false (halts_with me g counter) (loads w me g counter register address) (λ code. goes (refl, tt))
+      (λ s page. goes (refl, tt))
   performs-ours w uncut space me g counter (Store address value) =
-      accessed-ours w uncut space me address true (halts_with me g counter) (stores w me g counter address value) (λ code. goes (refl, tt)) (λ s page. goes (tt, (refl, tt)))
+      accessed-ours w uncut space me address true (halts_with me g counter) (stores w me g counter address value) (λ code. goes (refl, tt))
+      (λ s page. goes (tt, (refl, tt)))
   performs-ours w uncut space me g counter (Halt code) = goes (refl, tt)
   performs-ours w uncut space me g counter Call = enters-ours me g counter (todo_of g)
 
@@ -130,7 +135,8 @@ module _ {v : World} where
       moves : Path → ℕ → List Change
       moves t other =
           let k = moved_words address count space.0 space.1 in
-          PutPage t other (overwritten (words_at w t other) (space.0 % PAGE_WORDS) (block k address page)) ∷ Alter client (CountMoved k) ∷ Alter y (Shift k) ∷ []
+          PutPage t other (overwritten (words_at w t other) (space.0 % PAGE_WORDS) (block k address page)) ∷ Alter client (CountMoved k) ∷ Alter y (Shift k)
+          ∷ []
 
   sends_to_thread-ours : (w : World) → IsUncut w → (c : Caller) (side : Turn) (client : Path) (address count : ℕ) (page : List ℕ)
       (e : Option (Path × Thread)) → OursOutcome v (sends_to_thread w c side client address count page e)
@@ -161,7 +167,8 @@ module _ {v : World} where
   unfolding receive
   receive-ours w pages c side into room = search (ours_row, awaits-ours)
 
-  passes_to_thread-ours : (w : World) (c : Caller) (side : Turn) (client : Path) (e : Option (Path × Thread)) → OursOutcome v (passes_to_thread w c side client e)
+  passes_to_thread-ours : (w : World) (c : Caller) (side : Turn) (client : Path) (e : Option (Path × Thread))
+      → OursOutcome v (passes_to_thread w c side client e)
   passes_to_thread-ours w c side client None = waits
   passes_to_thread-ours w c side client (Some e) = search (ours-when, ours-done)
 
@@ -199,7 +206,8 @@ module _ {v : World} where
   unfolding page_give
   page_give-ours w pages c s page address = search (ours_row, gives_from-ours) depth 9
 
-  copies_home-ours : (w : World) (c : Caller) (space : Path) (page : ℕ) (drops : Bool) (s : Path) (own : ℕ) → OursOutcome v (copies_home w c space page drops s own)
+  copies_home-ours : (w : World) (c : Caller) (space : Path) (page : ℕ) (drops : Bool) (s : Path) (own : ℕ)
+      → OursOutcome v (copies_home w c space page drops s own)
   copies_home-ours w c space page drops s own = by (w.page space page)
     where
       by : (o : Option (List ℕ)) → OursOutcome v (or_refuse NONE o >>= λ words. copies c space page drops words s own)

@@ -1,25 +1,19 @@
 -- A space with a porter is the one that was there.
-use Rattle.std.proofs.Common.{◌≡◌, ℕ, ◌≤◌, Bool, true, false, if◌then◌else◌, nat_le, IsSome, is_some, List, [], ◌∷◌, Option, Some, None, option_map, refl, sym, ap, ◌∙◌}
+use Rattle.std.proofs.Common.{◌≡◌, ℕ, true, false, nat_le, IsSome, List, [], ◌∷◌, Option, Some, None, refl, ◌∙◌}
 use Rattle.fk_model.specs.declared.limits.TheConstants.{LAST_USER_SLOT, LAST_PORTER_SLOT}
-use Rattle.fk_model.specs.Places.{Path, same_path, parent, Ptr}
-use Rattle.fk_model.specs.Objects.{Body, and_then, holds, is_served}
-use Rattle.fk_model.specs.World.{World, Change, Edit, edited, through, death_sweep, following, apply, apply_all}
+use Rattle.fk_model.specs.Places.{Path}
+use Rattle.fk_model.specs.Objects.{Body, holds, is_served}
+use Rattle.fk_model.specs.World.{World, Change, apply, apply_all}
 use Rattle.fk_model.specs.World.Change.{Alter, Make, MakeSpace, Kill, Move, PutPage, DropPage}
 use Rattle.fk_model.specs.StateRows.{is_native}
 use Rattle.fk_model.specs.Outcomes.{Outcome}
 use Rattle.fk_model.specs.Outcomes.Outcome.{Refused, Waits, Goes}
 use Rattle.fk_model.specs.Moves.{stepped, outcome, step}
-use Rattle.fk_model.specs.Runs.{Event, after}
-use Rattle.fk_model.specs.Valid.{IsConsistent, birth_of, birth_at}
-use Rattle.fk_model.proofs.walks.PlaceLaws.{same_path_eq}
-use Rattle.fk_model.proofs.walks.WalkLaws.{live_above}
-use Rattle.laws_machine.proofs.validity.Outlines.{Outline, outline_of, outline-birth}
-use Rattle.laws_machine.proofs.validity.Edits.{outline-edited}
-use Rattle.laws_machine.proofs.validity.Kills.{outline-without}
-use Rattle.laws_machine.proofs.validity.Renames.{outline-following}
+use Rattle.fk_model.specs.Valid.{IsConsistent, birth_at}
 use Rattle.laws_machine.proofs.validity.Changes.{valid-apply}
-use Rattle.laws_machine.proofs.safety.Safe.{IsSafe, AreSafe}
+use Rattle.laws_machine.proofs.safety.Safe.{AreSafe}
 use Rattle.laws_machine.proofs.validity.Steps.{facts_of}
+use Rattle.laws_machine.proofs.safety.Staying.{birth_one}
 use Rattle.laws_machine.proofs.safety.Outcomes.{SafeOutcome}
 use Rattle.laws_machine.proofs.safety.Moves.{outcome-safe}
 use Rattle.laws_uncut.specs.Placed.{PortersSpaceStays}
@@ -27,54 +21,9 @@ use Rattle.laws_uncut.proofs.Outcomes.{SetsOurs, SetOurs, IsOursRow, OursOutcome
 use Rattle.laws_uncut.proofs.Moves.{outcome-ours}
 use Rattle.laws_uncut.proofs.Stood.{edited-native, through-native, native-moves, IsLast, left-apply, left-all, left-move}
 
-same_birth : (f : Body → Body) → ((o : Option Body) → option_map outline_of (option_map f o) ≡ option_map outline_of o) → (o : Option Body) →
-    and_then birth_of (option_map f o) ≡ and_then birth_of o
-same_birth f same o = outline-birth (option_map f o) ∙ ap (and_then (λ (t : Outline). t.birth)) (same o) ∙ sym (outline-birth o)
-
-each : (f : Body → Body) → ((b : Body) → outline_of (f b) ≡ outline_of b) → (o : Option Body) → option_map outline_of (option_map f o) ≡ option_map outline_of o
-each f same None = refl
-each f same (Some b) = ap (λ (t : Outline). Some t) (same b)
-
-nothing : (o : Option Body) → o ≡ None → IsSome o → ⊥
-nothing None e h = cc
-nothing (Some b) e h = cc
-
 some_native : (o : Option Body) → holds is_native o ≡ true → IsSome o
 some_native (Some b) h = refl
 some_native None h = cc
-
--- ---- one safe change, where something lies in the space
-
-module _ (v : World) (valid : IsConsistent v) (k : ℕ) (x : Path) (live : IsSome (v.body (k ∷ x))) where
-  filled : IsSome (v.body x)
-  filled = live_above v valid k x live
-
-  not_empty : (y : Path) → v.body y ≡ None → (b : Bool) → same_path x y ≡ b → b ≡ false
-  not_empty y empty false e = refl
-  not_empty y empty true e = let here = same_path_eq x y e in absurd (nothing (v.body x) (rw here empty) filled)
-
-  not_alone : (y : Path) → ((j : ℕ) → v.body (j ∷ y) ≡ None) → (b : Bool) → same_path x y ≡ b → b ≡ false
-  not_alone y alone false e = refl
-  not_alone y alone true e = let here = same_path_eq x y e in absurd (nothing (v.body (k ∷ x)) (rw here (alone k)) live)
-
-  birth_one : (c : Change) → IsSafe v c → birth_at (apply c v) x ≡ birth_at v x
-  unfolding apply
-  birth_one (Alter y edit) safe = by (same_path x y)
-    where
-      by : (t : Bool) → and_then birth_of (if t then option_map (edited edit) (v.body x) else v.body x) ≡ and_then birth_of (v.body x)
-      by true = same_birth (edited edit) (each (edited edit) (outline-edited edit)) (v.body x)
-      by false = refl
-  birth_one (Make [] body) safe = absurd safe
-  birth_one (Make (j ∷ s) body) safe = rw (not_empty (j ∷ s) safe.place.empty (same_path x (j ∷ s)) refl) refl
-  birth_one (MakeSpace [] holder) safe = absurd safe
-  birth_one (MakeSpace (j ∷ s) holder) safe = rw (not_empty (j ∷ s) safe.place.empty (same_path x (j ∷ s)) refl) refl
-  birth_one (Kill y) safe = rw (not_alone y safe.empty (same_path x y) refl) (same_birth (through (death_sweep y) x) (outline-without y x) (v.body x))
-  birth_one (Move [] j) safe = absurd safe
-  birth_one (Move (i ∷ s) j) safe =
-      rw (not_empty (j ∷ s) safe.empty (same_path x (j ∷ s)) refl, not_alone (i ∷ s) safe.alone (same_path x (i ∷ s)) refl)
-      (same_birth (through (following (i ∷ s) (j ∷ s)) x) (outline-following (i ∷ s) (j ∷ s) x) (v.body x))
-  birth_one (PutPage space page words) safe = refl
-  birth_one (DropPage space page) safe = refl
 
 -- ---- a move's changes
 
@@ -97,7 +46,8 @@ module _ (x : Path) where
   unfolding Porter
   was_all cs v new there = left-all is_native edited-native through-native no_native (λ birth holder. refl) cs v new (LAST_PORTER_SLOT ∷ x) there
 
-  was_moved : (y : Path) (slot : ℕ) (v : World) → nat_le slot LAST_USER_SLOT ≡ true → holds is_served (v.body y) ≡ false → Porter (apply (Move y slot) v) → Porter v
+  was_moved : (y : Path) (slot : ℕ) (v : World) → nat_le slot LAST_USER_SLOT ≡ true → holds is_served (v.body y) ≡ false → Porter (apply (Move y slot) v)
+      → Porter v
   unfolding Porter
   was_moved y slot v low apart there =
       left-move is_native edited-native through-native no_native (λ birth holder. refl) IsLast native-moves y slot v low apart (LAST_PORTER_SLOT ∷ x) refl there
@@ -107,9 +57,11 @@ module _ (x : Path) where
   birth_all [] v valid safe new there = refl
   birth_all (c ∷ cs) v valid safe new there =
       let then_there = was_all cs (apply c v) new.1 there in
-      birth_all cs (apply c v) (valid-apply c v valid safe.0) safe.1 new.1 there ∙ birth_one v valid LAST_PORTER_SLOT x (live v (was_one c v new.0 then_there)) c safe.0
+      birth_all cs (apply c v) (valid-apply c v valid safe.0) safe.1 new.1 there
+          ∙ birth_one v valid LAST_PORTER_SLOT x (live v (was_one c v new.0 then_there)) c safe.0
 
-  birth_row : (cs : List Change) (v : World) → IsConsistent v → AreSafe v cs → IsOursRow v cs → Porter (apply_all cs v) → birth_at (apply_all cs v) x ≡ birth_at v x
+  birth_row : (cs : List Change) (v : World) → IsConsistent v → AreSafe v cs → IsOursRow v cs → Porter (apply_all cs v)
+      → birth_at (apply_all cs v) x ≡ birth_at v x
   unfolding apply_all
   birth_row [] v valid safe new there = refl
   birth_row (Move y slot ∷ cs) v valid safe new there =
@@ -123,7 +75,8 @@ module _ (x : Path) where
   birth_row (PutPage space page words ∷ cs) v valid safe new there = birth_all (PutPage space page words ∷ cs) v valid safe new there
   birth_row (DropPage space page ∷ cs) v valid safe new there = birth_all (DropPage space page ∷ cs) v valid safe new there
 
-  birth_stepped : (w : World) (o : Outcome) → IsConsistent w → SafeOutcome w o → OursOutcome w o → Porter (stepped w o).world → birth_at (stepped w o).world x ≡ birth_at w x
+  birth_stepped : (w : World) (o : Outcome) → IsConsistent w → SafeOutcome w o → OursOutcome w o → Porter (stepped w o).world
+      → birth_at (stepped w o).world x ≡ birth_at w x
   birth_stepped w (Goes cs said) valid safe new there = birth_row cs w valid safe.safe new.ours there
   birth_stepped w (Refused status) valid safe new there = refl
   birth_stepped w Waits valid safe new there = refl
@@ -131,4 +84,5 @@ module _ (x : Path) where
 pub porters_space_stays : PortersSpaceStays
 unfolding step Porter
 porters_space_stays w e uncut valid few fit x there =
-    birth_stepped x w (outcome w e.mover e.pick e.ask) valid.consistent (outcome-safe w e.mover e.pick e.ask (facts_of w valid few) fit) (outcome-ours w e.mover e.pick e.ask uncut) there
+    birth_stepped x w (outcome w e.mover e.pick e.ask) valid.consistent (outcome-safe w e.mover e.pick e.ask (facts_of w valid few) fit)
+        (outcome-ours w e.mover e.pick e.ask uncut) there

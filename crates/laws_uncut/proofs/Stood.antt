@@ -1,5 +1,6 @@
 -- Who is a porter, and what is a served port, was so before the move; and a space with a porter stays.
-use Rattle.std.proofs.Common.{◌≡◌, ℕ, ◌≤◌, Bool, true, false, if◌then◌else◌, nat_le, IsSome, List, [], ◌∷◌, Option, Some, None, option_map, refl, sym, ap, ◌∙◌, arith}
+use Rattle.std.proofs.Common.{◌≡◌, ℕ, ◌≤◌, Bool, true, false, if◌then◌else◌, nat_le, IsSome, List, [], ◌∷◌, Option, Some, None, option_map, refl, sym, ap, ◌∙◌}
+use Rattle.std.proofs.Common.{arith}
 use Rattle.fk_model.specs.declared.limits.TheConstants.{LAST_USER_SLOT, LAST_PORTER_SLOT}
 use Rattle.fk_model.specs.declared.names.Kind.TheVariants as kinds
 use Rattle.fk_model.specs.declared.stage.Stage.{Stage}
@@ -7,9 +8,11 @@ use Rattle.fk_model.specs.Places.{Path, same_path, parent, Ptr}
 use Rattle.fk_model.specs.Objects.{Thread, Body, Mode, kind_of, and_then, holds, is_served}
 use Rattle.fk_model.specs.Objects.Mode.{Running, Calling, Halted, Native}
 use Rattle.fk_model.specs.Objects.Body.{Mutex, Cond, Mapping, Region, Port, Portset, Space, Thread_of, Reference}
-use Rattle.fk_model.specs.World.{World, Change, Edit, Sweep, edited, through, death_sweep, following, apply, apply_all, shifted_in, replaced_in, ended_in, finished_in}
+use Rattle.fk_model.specs.World.{World, Change, Edit, Sweep, edited, through, death_sweep, following, apply, apply_all, shifted_in, replaced_in, ended_in}
+use Rattle.fk_model.specs.World.{finished_in}
 use Rattle.fk_model.specs.World.Change.{Alter, Make, MakeSpace, Kill, Move, PutPage, DropPage}
-use Rattle.fk_model.specs.World.Edit.{SetLocked, SetWindow, SetExtent, SetMember, SetPointer, SetHolder, Proceed, Shift, Finish, End, Replace, SetStops, SetTalk, CountMoved, PassTurn, SetPeer, SetFault, SetTaker}
+use Rattle.fk_model.specs.World.Edit.{SetLocked, SetWindow, SetExtent, SetMember, SetPointer, SetHolder, Proceed, Shift, Finish, End, Replace, SetStops}
+use Rattle.fk_model.specs.World.Edit.{SetTalk, CountMoved, PassTurn, SetPeer, SetFault, SetTaker}
 use Rattle.fk_model.specs.Holds.{is_porter}
 use Rattle.fk_model.specs.StateRows.{is_native}
 use Rattle.fk_model.specs.Outcomes.{Outcome}
@@ -112,21 +115,30 @@ port-served edit set served e = e
 edited-served : (edit : Edit) (b : Body) → IsOursEdit edit → is_served (edited edit b) ≡ true → is_served b ≡ true
 edited-served edit (Port set served) new e = port-served edit set served e
 edited-served edit (Thread_of t) new e =
-    absurd (kind-served (edited edit (Thread_of t)) (λ (h : kind_of (edited edit (Thread_of t)) ≡ kinds.Port). let k : kind_of (edited edit (Thread_of t)) ≡ kinds.Thread = same_kind edit (Thread_of t) in let both = sym k ∙ h in cc) e)
+    absurd (kind-served (edited edit (Thread_of t)) (λ (h : kind_of (edited edit (Thread_of t)) ≡ kinds.Port). let k : kind_of (edited edit (Thread_of t))
+    ≡ kinds.Thread = same_kind edit (Thread_of t) in let both = sym k ∙ h in cc) e)
 edited-served edit (Mutex locked) new e =
-    absurd (kind-served (edited edit (Mutex locked)) (λ (h : kind_of (edited edit (Mutex locked)) ≡ kinds.Port). let k : kind_of (edited edit (Mutex locked)) ≡ kinds.Mutex = same_kind edit (Mutex locked) in let both = sym k ∙ h in cc) e)
+    absurd (kind-served (edited edit (Mutex locked)) (λ (h : kind_of (edited edit (Mutex locked)) ≡ kinds.Port). let k : kind_of (edited edit (Mutex locked))
+    ≡ kinds.Mutex = same_kind edit (Mutex locked) in let both = sym k ∙ h in cc) e)
 edited-served edit Cond new e =
-    absurd (kind-served (edited edit Cond) (λ (h : kind_of (edited edit Cond) ≡ kinds.Port). let k : kind_of (edited edit Cond) ≡ kinds.Cond = same_kind edit Cond in let both = sym k ∙ h in cc) e)
+    absurd (kind-served (edited edit Cond) (λ (h : kind_of (edited edit Cond) ≡ kinds.Port). let k : kind_of (edited edit Cond)
+    ≡ kinds.Cond = same_kind edit Cond in let both = sym k ∙ h in cc) e)
 edited-served edit (Mapping m) new e =
-    absurd (kind-served (edited edit (Mapping m)) (λ (h : kind_of (edited edit (Mapping m)) ≡ kinds.Port). let k : kind_of (edited edit (Mapping m)) ≡ kinds.Mapping = same_kind edit (Mapping m) in let both = sym k ∙ h in cc) e)
+    absurd (kind-served (edited edit (Mapping m)) (λ (h : kind_of (edited edit (Mapping m)) ≡ kinds.Port). let k : kind_of (edited edit (Mapping m))
+    ≡ kinds.Mapping = same_kind edit (Mapping m) in let both = sym k ∙ h in cc) e)
 edited-served edit (Region r) new e =
-    absurd (kind-served (edited edit (Region r)) (λ (h : kind_of (edited edit (Region r)) ≡ kinds.Port). let k : kind_of (edited edit (Region r)) ≡ kinds.Region = same_kind edit (Region r) in let both = sym k ∙ h in cc) e)
+    absurd (kind-served (edited edit (Region r)) (λ (h : kind_of (edited edit (Region r)) ≡ kinds.Port). let k : kind_of (edited edit (Region r))
+    ≡ kinds.Region = same_kind edit (Region r) in let both = sym k ∙ h in cc) e)
 edited-served edit Portset new e =
-    absurd (kind-served (edited edit Portset) (λ (h : kind_of (edited edit Portset) ≡ kinds.Port). let k : kind_of (edited edit Portset) ≡ kinds.Portset = same_kind edit Portset in let both = sym k ∙ h in cc) e)
+    absurd (kind-served (edited edit Portset) (λ (h : kind_of (edited edit Portset) ≡ kinds.Port). let k : kind_of (edited edit Portset)
+    ≡ kinds.Portset = same_kind edit Portset in let both = sym k ∙ h in cc) e)
 edited-served edit (Space birth holder) new e =
-    absurd (kind-served (edited edit (Space birth holder)) (λ (h : kind_of (edited edit (Space birth holder)) ≡ kinds.Port). let k : kind_of (edited edit (Space birth holder)) ≡ kinds.Space = same_kind edit (Space birth holder) in let both = sym k ∙ h in cc) e)
+    absurd (kind-served (edited edit (Space birth holder))
+    (λ (h : kind_of (edited edit (Space birth holder)) ≡ kinds.Port). let k : kind_of (edited edit (Space birth holder))
+    ≡ kinds.Space = same_kind edit (Space birth holder) in let both = sym k ∙ h in cc) e)
 edited-served edit (Reference to) new e =
-    absurd (kind-served (edited edit (Reference to)) (λ (h : kind_of (edited edit (Reference to)) ≡ kinds.Port). let k : kind_of (edited edit (Reference to)) ≡ kinds.Reference = same_kind edit (Reference to) in let both = sym k ∙ h in cc) e)
+    absurd (kind-served (edited edit (Reference to)) (λ (h : kind_of (edited edit (Reference to)) ≡ kinds.Port). let k : kind_of (edited edit (Reference to))
+    ≡ kinds.Reference = same_kind edit (Reference to) in let both = sym k ∙ h in cc) e)
 
 pub through-native : (f : Sweep) (at : Path) (b : Body) → is_native (through f at b) ≡ true → is_native b ≡ true
 through-native f at (Thread_of t) e = e
@@ -145,12 +157,14 @@ nothing test e = cc
 
 module _ (test : Body → Bool) (edits : (edit : Edit) (b : Body) → IsOursEdit edit → test (edited edit b) ≡ true → test b ≡ true)
     (sweeps : (f : Sweep) (at : Path) (b : Body) → test (through f at b) ≡ true → test b ≡ true)
-    (makes : (x : Path) (b : Body) → SetsOurs (Make x b) → test b ≡ false) (spaces : (birth : ℕ) (holder : Option Ptr) → test (Space birth holder) ≡ false) where
+    (makes : (x : Path) (b : Body) → SetsOurs (Make x b) → test b ≡ false)
+    (spaces : (birth : ℕ) (holder : Option Ptr) → test (Space birth holder) ≡ false) where
   mapped : (f : Body → Body) → ((b : Body) → test (f b) ≡ true → test b ≡ true) → (o : Option Body) → holds test (option_map f o) ≡ true → holds test o ≡ true
   mapped f keeps None e = e
   mapped f keeps (Some b) e = keeps b e
 
-  either : (t : Bool) (a b o : Option Body) → (holds test a ≡ true → holds test o ≡ true) → (holds test b ≡ true → holds test o ≡ true) → holds test (if t then a else b) ≡ true → holds test o ≡ true
+  either : (t : Bool) (a b o : Option Body) → (holds test a ≡ true → holds test o ≡ true) → (holds test b ≡ true → holds test o ≡ true)
+      → holds test (if t then a else b) ≡ true → holds test o ≡ true
   either true a b o one two e = one e
   either false a b o one two e = two e
 
@@ -163,12 +177,15 @@ module _ (test : Body → Bool) (edits : (edit : Edit) (b : Body) → IsOursEdit
   pub left-apply : (c : Change) (w : World) → SetsOurs c → (y : Path) → holds test ((apply c w).body y) ≡ true → holds test (w.body y) ≡ true
   unfolding apply
   left-apply (Alter x edit) w new y e =
-      either (same_path y x) (option_map (edited edit) (w.body y)) (w.body y) (w.body y) (λ h. mapped (edited edit) (λ b. edits edit b new) (w.body y) h) (λ h. h) e
+      either (same_path y x) (option_map (edited edit) (w.body y)) (w.body y) (w.body y) (λ h. mapped (edited edit) (λ b. edits edit b new) (w.body y) h)
+      (λ h. h) e
   left-apply (Make x body) w new y e = either (same_path y x) (Some body) (w.body y) (w.body y) (λ h. no_body body (w.body y) (makes x body new) h) (λ h. h) e
   left-apply (MakeSpace x holder) w new y e =
-      either (same_path y x) (Some (Space w.next holder)) (w.body y) (w.body y) (λ h. no_body (Space w.next holder) (w.body y) (spaces w.next holder) h) (λ h. h) e
+      either (same_path y x) (Some (Space w.next holder)) (w.body y) (w.body y) (λ h. no_body (Space w.next holder) (w.body y) (spaces w.next holder) h)
+      (λ h. h) e
   left-apply (Kill x) w new y e =
-      either (same_path y x) None (option_map (through (death_sweep x) y) (w.body y)) (w.body y) (λ h. none (w.body y) h) (λ h. mapped (through (death_sweep x) y) (sweeps (death_sweep x) y) (w.body y) h) e
+      either (same_path y x) None (option_map (through (death_sweep x) y) (w.body y)) (w.body y) (λ h. none (w.body y) h)
+      (λ h. mapped (through (death_sweep x) y) (sweeps (death_sweep x) y) (w.body y) h) e
   left-apply (Move x slot) w new y e = absurd new
   left-apply (PutPage space page words) w new y e = e
   left-apply (DropPage space page) w new y e = e
@@ -180,9 +197,11 @@ module _ (test : Body → Bool) (edits : (edit : Edit) (b : Body) → IsOursEdit
 
   -- ---- with a rename first, where what comes to its new place is not such
 
-  module _ (IsPlace : Path → Type 0) (moves : (w : World) (x : Path) (slot : ℕ) → nat_le slot LAST_USER_SLOT ≡ true → holds is_served (w.body x) ≡ false → (y : Path) → IsPlace y → y ≡ slot ∷ parent x →
+  module _ (IsPlace : Path → Type 0) (moves : (w : World) (x : Path) (slot : ℕ) → nat_le slot LAST_USER_SLOT ≡ true → holds is_served (w.body x) ≡ false
+      → (y : Path) → IsPlace y → y ≡ slot ∷ parent x →
       holds test (w.body x) ≡ true → ⊥) where
-    pub left-move : (x : Path) (slot : ℕ) (w : World) → nat_le slot LAST_USER_SLOT ≡ true → holds is_served (w.body x) ≡ false → (y : Path) → IsPlace y → holds test ((apply (Move x slot) w).body y) ≡ true → holds test (w.body y) ≡ true
+    pub left-move : (x : Path) (slot : ℕ) (w : World) → nat_le slot LAST_USER_SLOT ≡ true → holds is_served (w.body x) ≡ false → (y : Path) → IsPlace y
+        → holds test ((apply (Move x slot) w).body y) ≡ true → holds test (w.body y) ≡ true
     unfolding apply
     left-move x slot w low apart y place e = by (same_path y to) refl e
       where
@@ -190,7 +209,8 @@ module _ (test : Body → Bool) (edits : (edit : Edit) (b : Body) → IsOursEdit
         to = slot ∷ parent x
 
         by : (t : Bool) → same_path y (slot ∷ parent x) ≡ t →
-            holds test (if t then option_map (through (following x (slot ∷ parent x)) (slot ∷ parent x)) (w.body x) else (if same_path y x then None else option_map (through (following x (slot ∷ parent x)) y) (w.body y))) ≡ true →
+            holds test (if t then option_map (through (following x (slot ∷ parent x)) (slot ∷ parent x)) (w.body x) else
+            (if same_path y x then None else option_map (through (following x (slot ∷ parent x)) y) (w.body y))) ≡ true →
             holds test (w.body y) ≡ true
         by true is e =
             absurd (moves w x slot low apart y place (same_path_eq y (slot ∷ parent x) is)
@@ -199,7 +219,8 @@ module _ (test : Body → Bool) (edits : (edit : Edit) (b : Body) → IsOursEdit
             either (same_path y x) None (option_map (through (following x (slot ∷ parent x)) y) (w.body y)) (w.body y) (λ h. none (w.body y) h)
             (λ h. mapped (through (following x (slot ∷ parent x)) y) (sweeps (following x (slot ∷ parent x)) y) (w.body y) h) e
 
-    pub left-row : (cs : List Change) (w : World) → IsOursRow w cs → (y : Path) → IsPlace y → holds test ((apply_all cs w).body y) ≡ true → holds test (w.body y) ≡ true
+    pub left-row : (cs : List Change) (w : World) → IsOursRow w cs → (y : Path) → IsPlace y → holds test ((apply_all cs w).body y) ≡ true
+        → holds test (w.body y) ≡ true
     unfolding apply_all
     left-row [] w new y place e = e
     left-row (Move x slot ∷ cs) w new y place e = left-move x slot w new.0 new.1 y place (left-all cs (apply (Move x slot) w) new.2 y e)
@@ -210,7 +231,8 @@ module _ (test : Body → Bool) (edits : (edit : Edit) (b : Body) → IsOursEdit
     left-row (PutPage space page words ∷ cs) w new y place e = left-all (PutPage space page words ∷ cs) w new y e
     left-row (DropPage space page ∷ cs) w new y place e = left-all (DropPage space page ∷ cs) w new y e
 
-    pub left-stepped : (w : World) (o : Outcome) → OursOutcome w o → (y : Path) → IsPlace y → holds test ((stepped w o).world.body y) ≡ true → holds test (w.body y) ≡ true
+    pub left-stepped : (w : World) (o : Outcome) → OursOutcome w o → (y : Path) → IsPlace y → holds test ((stepped w o).world.body y) ≡ true
+        → holds test (w.body y) ≡ true
     left-stepped w (Goes changes said) new y place e = left-row changes w new.ours y place e
     left-stepped w (Refused status) new y place e = e
     left-stepped w Waits new y place e = e
@@ -221,7 +243,8 @@ abbrev pub IsLast : Path → Type 0
 IsLast [] = ⊥
 IsLast (k ∷ x) = k ≡ LAST_PORTER_SLOT
 
-pub native-moves : (w : World) (x : Path) (slot : ℕ) → nat_le slot LAST_USER_SLOT ≡ true → holds is_served (w.body x) ≡ false → (y : Path) → IsLast y → y ≡ slot ∷ parent x → holds is_native (w.body x) ≡ true → ⊥
+pub native-moves : (w : World) (x : Path) (slot : ℕ) → nat_le slot LAST_USER_SLOT ≡ true → holds is_served (w.body x) ≡ false → (y : Path) → IsLast y
+    → y ≡ slot ∷ parent x → holds is_native (w.body x) ≡ true → ⊥
 native-moves w x slot low apart [] place is e = place
 native-moves w x slot low apart (k ∷ y) place is e =
     let same : k ≡ slot = cc in
@@ -240,7 +263,8 @@ porters_stood w e uncut x there =
 abbrev Anywhere : Path → Type 0
 Anywhere x = Unit {0}
 
-served-moves : (w : World) (x : Path) (slot : ℕ) → nat_le slot LAST_USER_SLOT ≡ true → holds is_served (w.body x) ≡ false → (y : Path) → Anywhere y → y ≡ slot ∷ parent x → holds is_served (w.body x) ≡ true → ⊥
+served-moves : (w : World) (x : Path) (slot : ℕ) → nat_le slot LAST_USER_SLOT ≡ true → holds is_served (w.body x) ≡ false → (y : Path) → Anywhere y
+    → y ≡ slot ∷ parent x → holds is_served (w.body x) ≡ true → ⊥
 served-moves w x slot low apart y place is e = let both = sym apart ∙ e in cc
 
 pub served_stood : ServedStood

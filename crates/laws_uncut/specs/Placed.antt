@@ -12,7 +12,8 @@ use Rattle.laws_further.specs.ClosedLaws.{IsUncut}
 
 -- who is a porter in the last slot of a space was one before the move
 abbrev pub PortersStood : Type 0
-PortersStood = (w : World) (e : Event) → IsUncut w → (x : Path) → holds is_native ((after w e).body (LAST_PORTER_SLOT ∷ x)) ≡ true → holds is_native (w.body (LAST_PORTER_SLOT ∷ x)) ≡ true
+PortersStood = (w : World) (e : Event) → IsUncut w → (x : Path) → holds is_native ((after w e).body (LAST_PORTER_SLOT ∷ x)) ≡ true
+    → holds is_native (w.body (LAST_PORTER_SLOT ∷ x)) ≡ true
 
 -- what is a served port was one
 abbrev pub ServedStood : Type 0

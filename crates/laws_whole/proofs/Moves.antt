@@ -5,7 +5,11 @@ use Rattle.fk_model.specs.declared.limits.TheConstants.{PAGE_WORDS}
 use Rattle.fk_model.specs.declared.moves.Ask.{Ask}
 use Rattle.fk_model.specs.declared.moves.Ask.TheVariants as asks
 use Rattle.fk_model.specs.declared.stage.Stage.{Stage}
-use Rattle.fk_model.specs.declared.stage.Stage.TheVariants.{Create, Destroy, Rename, Search, Point, Clear, Locate, CountIn, GetState, SetState, GetPtr, SetPtr, SpaceHold, SpaceRelease, ThreadStop, ThreadGo, PageGive, PageTake, PageRead, PageNext, MutexLock, MutexTrylock, MutexUnlock, CondWait, CondAsleep, CondSignal, CondBroadcast, Connect, ClientReceive, ClientSend, ClientOver, Disconnect, Wait, ServerReceive, ServerSend, ServerOver, ServerEnd, FaultDone, LinkSet, LinkPark, FaultSet, FaultPark, HoldSet, SpaceMakeHeld}
+use Rattle.fk_model.specs.declared.stage.Stage.TheVariants.{Create, Destroy, Rename, Search, Point, Clear, Locate, CountIn, GetState, SetState, GetPtr, SetPtr}
+use Rattle.fk_model.specs.declared.stage.Stage.TheVariants.{SpaceHold, SpaceRelease, ThreadStop, ThreadGo, PageGive, PageTake, PageRead, PageNext, MutexLock}
+use Rattle.fk_model.specs.declared.stage.Stage.TheVariants.{MutexTrylock, MutexUnlock, CondWait, CondAsleep, CondSignal, CondBroadcast, Connect, ClientReceive}
+use Rattle.fk_model.specs.declared.stage.Stage.TheVariants.{ClientSend, ClientOver, Disconnect, Wait, ServerReceive, ServerSend, ServerOver, ServerEnd}
+use Rattle.fk_model.specs.declared.stage.Stage.TheVariants.{FaultDone, LinkSet, LinkPark, FaultSet, FaultPark, HoldSet, SpaceMakeHeld}
 use Rattle.fk_model.specs.declared.statuses.status.TheConstants.{DENIED}
 use Rattle.fk_model.specs.declared.thread.Turn.TheVariants as turns
 use Rattle.fk_model.specs.Places.{Path, parent, slot_of}
@@ -20,8 +24,13 @@ use Rattle.fk_model.specs.Moves.{stage_row, is_denied, allowed_row, chooses, wit
 use Rattle.fk_model.specs.Whole.{are_words, HasFullPages}
 use Rattle.laws_whole.specs.Runnable.{HasRegisters, has_all_words}
 use Rattle.laws_whole.proofs.Outcomes.{FullOutcome, refused, waits, goes, full-when}
-use Rattle.laws_whole.proofs.Rows.{GivesAll, run_row-full, mutex_lock-full, mutex_trylock-full, mutex_unlock-full, cond_wait-full, cond_asleep-full, cond_signal-full, cond_broadcast-full, send-full, receive-full, over-full, thread_stop-full, thread_go-full, page_give-full, page_take-full, page_read-full, page_next-full}
-use Rattle.laws_whole.proofs.Objects.{create-full, destroy-full, rename-full, point-full, clear-full, search_row-full, locate-full, count_in-full, space_hold-full, space_release-full, hold_set-full, space_make_held-full, get_state-full, set_state-full, get_ptr-full, set_ptr-full, wait-full, connect-full, disconnect-full, link_set-full, link_park-full, fault_done-full, fault_set-full, fault_park-full, accept_row-full, give_row-full, over_row-full}
+use Rattle.laws_whole.proofs.Rows.{GivesAll, run_row-full, mutex_lock-full, mutex_trylock-full, mutex_unlock-full, cond_wait-full, cond_asleep-full}
+use Rattle.laws_whole.proofs.Rows.{cond_signal-full, cond_broadcast-full, send-full, receive-full, over-full, thread_stop-full, thread_go-full, page_give-full}
+use Rattle.laws_whole.proofs.Rows.{page_take-full, page_read-full, page_next-full}
+use Rattle.laws_whole.proofs.Objects.{create-full, destroy-full, rename-full, point-full, clear-full, search_row-full, locate-full, count_in-full}
+use Rattle.laws_whole.proofs.Objects.{space_hold-full, space_release-full, hold_set-full, space_make_held-full, get_state-full, set_state-full, get_ptr-full}
+use Rattle.laws_whole.proofs.Objects.{set_ptr-full, wait-full, connect-full, disconnect-full, link_set-full, link_park-full, fault_done-full, fault_set-full}
+use Rattle.laws_whole.proofs.Objects.{fault_park-full, accept_row-full, give_row-full, over_row-full}
 
 -- ---- one stage
 
@@ -137,7 +146,8 @@ pub outcome-full : (w : World) (x : Path) (pick : Option Path) (ask : Ask) → H
 unfolding outcome
 outcome-full w x pick asks.Run pages registers all = user_move-full w x pick _ pages registers refl
 outcome-full w x pick (asks.Call stage words) pages registers all =
-    porter_move-full w x pick stage words _ pages registers (eqb-true (length words) PAGE_WORDS (and_parts (length words == PAGE_WORDS) (are_words words) all).0)
+    porter_move-full w x pick stage words _ pages registers
+    (eqb-true (length words) PAGE_WORDS (and_parts (length words == PAGE_WORDS) (are_words words) all).0)
 outcome-full w x pick asks.Accept pages registers all = accept_row-full w x pick
 outcome-full w x pick (asks.Give words len) pages registers all = with_pick-full false pick _ (give_row-full w pages x (take len words))
 outcome-full w x pick asks.Over pages registers all = with_pick-full false pick _ (over_row-full w x)

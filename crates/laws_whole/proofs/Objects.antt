@@ -1,5 +1,6 @@
 -- The rows of objects, of state, of talks and of faults, and those of native servers, leave pages and registers full.
-use Rattle.std.proofs.Common.{◌≡◌, ℕ, ◌+◌, ◌-◌, ◌%◌, ◌<◌, ◌≤◌, Bool, true, false, if◌then◌else◌, not, ◌&&◌, ◌==◌, length, List, [], ◌∷◌, ◌++◌, map, drop, replicate, Option, Some, None, Ok, refl, ◌∙◌, arith, inl, inr}
+use Rattle.std.proofs.Common.{◌≡◌, ℕ, ◌+◌, ◌-◌, ◌%◌, ◌<◌, ◌≤◌, Bool, true, false, if◌then◌else◌, not, ◌&&◌, ◌==◌, length, List, [], ◌∷◌, ◌++◌, map, drop}
+use Rattle.std.proofs.Common.{replicate, Option, Some, None, Ok, refl, ◌∙◌, arith, inl, inr}
 use Rattle.std.proofs.lemmas.Bool.{cases_Bool, eqb-true}
 use Rattle.std.proofs.lemmas.List.{length-append, length-replicate, length-take-le, length-drop}
 use Rattle.fk_model.specs.declared.limits.TheConstants.{PAGE_WORDS, RECORD_WORDS}
@@ -24,12 +25,14 @@ use Rattle.fk_model.specs.SpaceRows.{space_hold, space_release, hold_set, space_
 use Rattle.fk_model.specs.Records.{record_of, talk_words, fault_words, state_words, set_edits, record_registers, word}
 use Rattle.fk_model.specs.StateRows.{shows, shows_to, get_state, sets_record, record_at, sets_from, set_state, get_ptr, set_ptr, is_bad_record_address}
 use Rattle.fk_model.specs.ObjectRows.{new_object, create, kills, destroys, destroy, rename, search as search_row, point, clear, locate, count_in}
-use Rattle.fk_model.specs.NativeRows.{takes_up, parked_here, connects_here, accepts_thread, accepts_found, takes_client, accept_row, is_serving_port, if_receiving, gives_words, gives_to, give_row, over_row, with_client, passes_client}
+use Rattle.fk_model.specs.NativeRows.{takes_up, parked_here, connects_here, accepts_thread, accepts_found, takes_client, accept_row, is_serving_port}
+use Rattle.fk_model.specs.NativeRows.{if_receiving, gives_words, gives_to, give_row, over_row, with_client, passes_client}
 use Rattle.fk_model.specs.Whole.{HasFullPages}
 use Rattle.laws_machine.proofs.safety.Reads.{object_in-found}
 use Rattle.laws_whole.specs.Runnable.{HasRegisters}
 use Rattle.laws_whole.proofs.Lengths.{length-overwritten, length-first, moved-fit, length-of_record}
-use Rattle.laws_whole.proofs.Outcomes.{HasAll, AreFull, FullOutcome, waits, goes, full-then, full-end_all, full-when, full-if, full-done, full-done_at, full-makes, full-ended, full-stays, full-telling, full_row}
+use Rattle.laws_whole.proofs.Outcomes.{HasAll, AreFull, FullOutcome, waits, goes, full-then, full-end_all, full-when, full-if, full-done, full-done_at}
+use Rattle.laws_whole.proofs.Outcomes.{full-makes, full-ended, full-stays, full-telling, full_row}
 use Rattle.laws_whole.proofs.Memory.{own_page-full, their_page-full}
 use Rattle.laws_whole.proofs.Rows.{GivesAll, received-full}
 

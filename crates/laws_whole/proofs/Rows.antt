@@ -1,6 +1,7 @@
 -- The rows that write pages or set registers, and those of threads beside them, leave all full: instructions, mutexes and
 -- conditions, messages, pages.
-use Rattle.std.proofs.Common.{◌≡◌, ℕ, ◌-◌, ◌%◌, ◌≤◌, Bool, true, false, if◌then◌else◌, ◌==◌, length, List, [], ◌∷◌, ◌++◌, replicate, Option, Some, None, refl, ◌∙◌, arith}
+use Rattle.std.proofs.Common.{◌≡◌, ℕ, ◌-◌, ◌%◌, ◌≤◌, Bool, true, false, if◌then◌else◌, ◌==◌, length, List, [], ◌∷◌, ◌++◌, replicate, Option, Some, None, refl}
+use Rattle.std.proofs.Common.{◌∙◌, arith}
 use Rattle.std.specs.List.{flat_map}
 use Rattle.std.proofs.lemmas.List.{length-set, length-replicate}
 use Rattle.fk_model.specs.declared.instruction.Act.{Act}
@@ -25,9 +26,12 @@ use Rattle.fk_model.specs.Outcomes.Outcome.{Waits}
 use Rattle.fk_model.specs.Readers.{own_page}
 use Rattle.fk_model.specs.Talks.{Line, thread_led_to}
 use Rattle.fk_model.specs.UserRows.{word_at, halts_with, loads, stores, enters, performs, executes, run_row, run_row_by}
-use Rattle.fk_model.specs.SyncRows.{mutex_lock, mutex_trylock, mutex_unlock, cond_wait, cond_asleep, woken, asleep_on, sleepers, signals, unless_slept_on, picks_sleeper, cond_signal, cond_broadcast}
-use Rattle.fk_model.specs.TransferRows.{overwritten, block, moved_words, has_sent, sends_words, sends_into, sends_to_thread, sends_to, sends, send, awaits, receive, passes_to_thread, passes_to, over}
-use Rattle.fk_model.specs.SpaceRows.{thread_stop, thread_go, gives_page, gives_from, page_give, copies, copies_home, answers_home, copies_to, page_take, page_read, page_next}
+use Rattle.fk_model.specs.SyncRows.{mutex_lock, mutex_trylock, mutex_unlock, cond_wait, cond_asleep, woken, asleep_on, sleepers, signals, unless_slept_on}
+use Rattle.fk_model.specs.SyncRows.{picks_sleeper, cond_signal, cond_broadcast}
+use Rattle.fk_model.specs.TransferRows.{overwritten, block, moved_words, has_sent, sends_words, sends_into, sends_to_thread, sends_to, sends, send, awaits}
+use Rattle.fk_model.specs.TransferRows.{receive, passes_to_thread, passes_to, over}
+use Rattle.fk_model.specs.SpaceRows.{thread_stop, thread_go, gives_page, gives_from, page_give, copies, copies_home, answers_home, copies_to, page_take}
+use Rattle.fk_model.specs.SpaceRows.{page_read, page_next}
 use Rattle.fk_model.specs.Whole.{HasFullPages}
 use Rattle.laws_whole.proofs.Lengths.{length-overwritten, length-block, moved-fit, page_place, length-entered}
 use Rattle.laws_whole.proofs.Outcomes.{AreFull, FullOutcome, refused, waits, goes, full-then, full-when, full-if, full-done, full-telling, full_row}

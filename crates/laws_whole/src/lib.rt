@@ -4,7 +4,8 @@
 //! is kept by each move that a machine may make, so that a run supplies it from its first world alone.
 #![tactic(auto)]
 
-ghost use Rattle.laws_whole.specs.Runnable.{DueMoveGivesOneNumber, DueMoveKeepsRunnable, RunKeepsRunnable, SavableIsRunnable, OnlySpacesAreNumbered, FitMoveKeepsYounger};
+ghost use Rattle.laws_whole.specs.Runnable.{DueMoveGivesOneNumber, DueMoveKeepsRunnable, RunKeepsRunnable, SavableIsRunnable, OnlySpacesAreNumbered};
+ghost use Rattle.laws_whole.specs.Runnable.{FitMoveKeepsYounger};
 
 /// A move that is due gives out one birth number at most.
 pub fn a_due_move_gives_one_number()

@@ -1,10 +1,12 @@
 -- The law of the cut for the calls of a porter, which stands outside, and for the calls that are denied.
-use Rattle.std.proofs.Common.{◌≡◌, ℕ, Bool, true, false, cond, ◌&&◌, List, [], ◌∷◌, ◌++◌, Option, Some, None, is_some, is_none, refl, eqb, not, ◌||◌, Result, Ok, Err}
+use Rattle.std.proofs.Common.{◌≡◌, ℕ, Bool, true, false, cond, ◌&&◌, List, [], ◌∷◌, ◌++◌, Option, Some, None, is_some, is_none, refl, eqb, not, ◌||◌, Result}
+use Rattle.std.proofs.Common.{Ok, Err}
 use Rattle.std.proofs.lemmas.Bool.{and_parts}
 use Rattle.fk_model.specs.declared.names.Kind.TheVariants as kinds
 use Rattle.fk_model.specs.declared.moves.Ask.TheVariants as asks
 use Rattle.fk_model.specs.declared.stage.Stage.{Stage}
-use Rattle.fk_model.specs.declared.stage.Stage.TheVariants.{ClientSend, ClientOver, Wait, ServerSend, ServerOver, ServerEnd, FaultDone, PageGive, PageTake, CountIn, LinkSet, LinkPark, FaultSet, FaultPark, HoldSet, SpaceMakeHeld}
+use Rattle.fk_model.specs.declared.stage.Stage.TheVariants.{ClientSend, ClientOver, Wait, ServerSend, ServerOver, ServerEnd, FaultDone, PageGive, PageTake}
+use Rattle.fk_model.specs.declared.stage.Stage.TheVariants.{CountIn, LinkSet, LinkPark, FaultSet, FaultPark, HoldSet, SpaceMakeHeld}
 use Rattle.fk_model.specs.declared.statuses.status.TheConstants.{DENIED, HELD}
 use Rattle.fk_model.specs.Readers.{space_argument, object_in, referred}
 use Rattle.fk_model.specs.Seen.Seen.{Onwards, Unseen, Other}
@@ -24,7 +26,8 @@ use Rattle.fk_model.specs.Outcomes.{Outcome, when, Caller, listed, ◌>>=◌, do
 use Rattle.fk_model.specs.Outcomes.Outcome.{Refused, Waits, Goes}
 use Rattle.fk_model.specs.LinkRows.{user_at, given_talk, link_set, link_park}
 use Rattle.fk_model.specs.StateRows.{is_native}
-use Rattle.fk_model.specs.Moves.{stage_row, is_for_porters, is_for_users, chooses, with_pick, closed, call_row, porter_at, porter_move, outcome, GoesAllowed, IsReady, step}
+use Rattle.fk_model.specs.Moves.{stage_row, is_for_porters, is_for_users, chooses, with_pick, closed, call_row, porter_at, porter_move, outcome, GoesAllowed}
+use Rattle.fk_model.specs.Moves.{IsReady, step}
 use Rattle.fk_model.specs.Valid.{is_fit}
 use Rattle.fk_model.specs.Cut.{cut, IsPlain, is_inner_peer}
 use Rattle.fk_model.specs.Further.{Touch, outside_row}
@@ -32,12 +35,14 @@ use Rattle.fk_model.specs.Seen.{Seen, on_inner, given_of, stage_touch, IsSeen, s
 use Rattle.fk_model.proofs.walks.PlaceLaws.{strip_some}
 use Rattle.laws_cut.specs.Likeness.{IsLikeness}
 use Rattle.laws_cut.specs.LikeChanges.{IsLikeOutcome}
-use Rattle.laws_cut.specs.CutLaws.{HasDone, IsAtStage, moves, KeepsCut, StageKeepsCut, CallKeepsCut, IsPlainStage, IsForPorters, IsForUsers, IsDestroy, IsServerNamed, IsServerless}
+use Rattle.laws_cut.specs.CutLaws.{HasDone, IsAtStage, moves, KeepsCut, StageKeepsCut, CallKeepsCut, IsPlainStage, IsForPorters, IsForUsers, IsDestroy}
+use Rattle.laws_cut.specs.CutLaws.{IsServerNamed, IsServerless}
 use Rattle.laws_cut.proofs.cut.Plain.{AreQuiet}
 use Rattle.laws_cut.proofs.likeness.Holds.{strip_none}
 use Rattle.laws_cut.proofs.likeness.Instances.{cut-like}
 use Rattle.laws_cut.proofs.likeness.Outcomes.{closed-like}
-use Rattle.laws_cut.proofs.cut.Inside.{Quiet, quiet-refused, quiet-waits, quiet-goes, quiet-when, quiet-with_pick, with_pick-like, call_inside, inside_stages, quiet->>=, quiet-done}
+use Rattle.laws_cut.proofs.cut.Inside.{Quiet, quiet-refused, quiet-waits, quiet-goes, quiet-when, quiet-with_pick, with_pick-like, call_inside, inside_stages}
+use Rattle.laws_cut.proofs.cut.Inside.{quiet->>=, quiet-done}
 use Rattle.laws_cut.proofs.cut.Outside.{outside_law, stage_outcome, stage_called, stepped-plain, untouched}
 use Rattle.laws_cut.proofs.cut.Rows.{plain_inner, quiet_row}
 use Rattle.laws_cut.proofs.cut.Objects.{quiet-destroy}

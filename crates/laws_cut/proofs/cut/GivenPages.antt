@@ -1,5 +1,6 @@
 -- The law of the cut for a page that somebody outside gives: the subtree sees that a space of it is given a page.
-use Rattle.std.proofs.Common.{◌≡◌, ◌⊎◌, inl, inr, ℕ, eqb, Bool, true, false, cond, not, ◌||◌, List, [], ◌∷◌, ◌++◌, Option, Some, None, is_some, is_none, option_map, Result, Ok, Err, refl, subst}
+use Rattle.std.proofs.Common.{◌≡◌, ◌⊎◌, inl, inr, ℕ, eqb, Bool, true, false, cond, not, ◌||◌, List, [], ◌∷◌, ◌++◌, Option, Some, None, is_some, is_none}
+use Rattle.std.proofs.Common.{option_map, Result, Ok, Err, refl, subst}
 use Rattle.std.specs.Prelude.{replicate}
 use Rattle.fk_model.specs.declared.limits.TheConstants.{PAGE_WORDS, ZEROS}
 use Rattle.fk_model.specs.declared.names.Kind.TheVariants as kinds

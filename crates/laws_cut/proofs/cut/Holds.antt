@@ -12,9 +12,11 @@ use Rattle.fk_model.specs.World.{World, Change, Edit, serves, apply}
 use Rattle.fk_model.specs.World.Edit.{SetPointer, SetHolder, SetTalk, SetPeer, SetFault, SetTaker}
 use Rattle.fk_model.specs.Searches.{pointers, option_list, peer_pointer, talk_pointers, fault_pointers}
 use Rattle.fk_model.specs.Holds.{is_frozen, is_frozen_for, leads_to_frozen}
-use Rattle.fk_model.specs.Freezing.{body_pointers, changed_pointers, made_pointers, are_unfrozen, is_in_set, is_swept, talk_lost, fault_lost, lost_with, may_be_swept, may_follow, MayAlter, IsAllowed, AreAllowed}
+use Rattle.fk_model.specs.Freezing.{body_pointers, changed_pointers, made_pointers, are_unfrozen, is_in_set, is_swept, talk_lost, fault_lost, lost_with}
+use Rattle.fk_model.specs.Freezing.{may_be_swept, may_follow, MayAlter, IsAllowed, AreAllowed}
 use Rattle.fk_model.specs.Cut.{is_out, seen_by, unheld}
-use Rattle.laws_cut.specs.Likeness.{seeing, seen_peer, seen_talk, seen_fault, PtrLikeness, HasLikeness, IfServer, AllInTalk, AllInFault, IsPlainBody, IsLikeness}
+use Rattle.laws_cut.specs.Likeness.{seeing, seen_peer, seen_talk, seen_fault, PtrLikeness, HasLikeness, IfServer, AllInTalk, AllInFault, IsPlainBody}
+use Rattle.laws_cut.specs.Likeness.{IsLikeness}
 use Rattle.laws_cut.specs.Likeness.PtrLikeness.{Nulls, Deads, Inside, PortAt, PortOut}
 use Rattle.laws_cut.specs.LikeChanges.{seen_edit, IsSeenEdit, LikeChange, LikeChanges}
 use Rattle.laws_cut.specs.LikeChanges.LikeChange.{Alters, AltersOut, Makes, MakesSpace, Kills, Moves, PutsPage, DropsPage}

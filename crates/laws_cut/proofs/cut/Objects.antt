@@ -1,5 +1,6 @@
 -- The law of the cut for the deaths of objects, by a thread outside, and for their other names, by a thread inside.
-use Rattle.std.proofs.Common.{◌≡◌, ℕ, leb, Bool, true, false, cond, not, List, [], ◌∷◌, ◌++◌, Option, Some, None, is_some, Result, Ok, Err, refl, sym, ap, ◌∙◌, append-nil}
+use Rattle.std.proofs.Common.{◌≡◌, ℕ, leb, Bool, true, false, cond, not, List, [], ◌∷◌, ◌++◌, Option, Some, None, is_some, Result, Ok, Err, refl, sym, ap, ◌∙◌}
+use Rattle.std.proofs.Common.{append-nil}
 use Rattle.fk_model.specs.declared.limits.TheConstants.{LAST_USER_SLOT}
 use Rattle.fk_model.specs.declared.statuses.status.TheConstants as status
 use Rattle.fk_model.specs.declared.stage.Stage.{Stage}

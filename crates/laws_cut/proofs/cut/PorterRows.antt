@@ -1,5 +1,6 @@
 -- The law of the cut for a porter that gives an object another slot.
-use Rattle.std.proofs.Common.{◌≡◌, ◌⊎◌, inl, inr, ℕ, leb, Bool, true, false, cond, not, List, [], ◌∷◌, Option, None, is_some, is_none, Result, Ok, Err, refl, sym, ◌∙◌}
+use Rattle.std.proofs.Common.{◌≡◌, ◌⊎◌, inl, inr, ℕ, leb, Bool, true, false, cond, not, List, [], ◌∷◌, Option, None, is_some, is_none, Result, Ok, Err, refl}
+use Rattle.std.proofs.Common.{sym, ◌∙◌}
 use Rattle.fk_model.specs.declared.limits.TheConstants.{LAST_USER_SLOT}
 use Rattle.fk_model.specs.declared.statuses.status.TheConstants as status
 use Rattle.fk_model.specs.declared.moves.Ask.TheVariants as asks

@@ -2,7 +2,10 @@
 use Rattle.std.proofs.Common.{ℕ, eqb, Bool, true, false, cond, not, [], ◌∷◌, Option, Some, None, IfSome, refl, ◌≡◌, List, map, flat_map, ◌++◌}
 use Rattle.fk_model.specs.declared.thread.Turn.TheVariants as turns
 use Rattle.fk_model.specs.declared.thread.Turn.{Turn}
-use Rattle.fk_model.specs.declared.stage.Stage.TheVariants.{Create, Search, Point, Clear, Locate, GetState, SetState, GetPtr, SetPtr, SpaceHold, SpaceRelease, ThreadStop, ThreadGo, PageGive, PageTake, PageRead, PageNext, MutexLock, MutexTrylock, MutexUnlock, CondWait, CondAsleep, CondBroadcast, Connect, ClientReceive, ClientSend, ClientOver, Wait, ServerSend, ServerOver, ServerEnd, FaultDone}
+use Rattle.fk_model.specs.declared.stage.Stage.TheVariants.{Create, Search, Point, Clear, Locate, GetState, SetState, GetPtr, SetPtr, SpaceHold, SpaceRelease}
+use Rattle.fk_model.specs.declared.stage.Stage.TheVariants.{ThreadStop, ThreadGo, PageGive, PageTake, PageRead, PageNext, MutexLock, MutexTrylock, MutexUnlock}
+use Rattle.fk_model.specs.declared.stage.Stage.TheVariants.{CondWait, CondAsleep, CondBroadcast, Connect, ClientReceive, ClientSend, ClientOver, Wait}
+use Rattle.fk_model.specs.declared.stage.Stage.TheVariants.{ServerSend, ServerOver, ServerEnd, FaultDone}
 use Rattle.fk_model.specs.declared.limits.TheConstants.{SLOTS}
 use Rattle.fk_model.specs.declared.stage.Stage.{Stage}
 use Rattle.fk_model.specs.Seen.{stage_touch}
@@ -31,7 +34,9 @@ use Rattle.laws_cut.specs.LikeChanges.{IsLikeOutcome}
 use Rattle.laws_cut.specs.Likeness.{IsLikeness}
 use Rattle.laws_cut.specs.RebindLaws.{StageRebinds}
 use Rattle.laws_cut.specs.CutLaws.{IsPlainStage, StageKeepsCut}
-use Rattle.laws_cut.proofs.likeness.PlainRows.{mutex_trylock-like, mutex_unlock-like, cond_wait-like, cond_asleep-like, cond_broadcast-like, space_release-like, thread_go-like, page_read-like, page_next-like, search-like, locate-like, clear-like, get_ptr-like, set_ptr-like, no_porter, set_state-like, connect-like, client_turns, receive-like}
+use Rattle.laws_cut.proofs.likeness.PlainRows.{mutex_trylock-like, mutex_unlock-like, cond_wait-like, cond_asleep-like, cond_broadcast-like, space_release-like}
+use Rattle.laws_cut.proofs.likeness.PlainRows.{thread_go-like, page_read-like, page_next-like, search-like, locate-like, clear-like, get_ptr-like, set_ptr-like}
+use Rattle.laws_cut.proofs.likeness.PlainRows.{no_porter, set_state-like, connect-like, client_turns, receive-like}
 use Rattle.laws_cut.proofs.likeness.Rows.{mutex_lock-like, thread_stop-like}
 use Rattle.laws_cut.proofs.cut.Plain.{IsQuiet, AreQuiet}
 use Rattle.laws_cut.proofs.cut.Inside.{Quiet, quiet-refused, quiet-waits, quiet-goes, quiet->>=, quiet-when, quiet-done, quiet-then}

@@ -8,7 +8,8 @@ use Rattle.fk_model.specs.Objects.Mode.{Calling}
 use Rattle.fk_model.specs.Objects.Body.{Mutex, Mapping, Region, Port, Space, Thread_of, Reference}
 use Rattle.fk_model.specs.Holds.{is_porter}
 use Rattle.fk_model.specs.World.{Edit, edited, shifted_in, finished_in, ended_in, replaced_in}
-use Rattle.fk_model.specs.World.Edit.{SetLocked, SetWindow, SetExtent, SetMember, SetPointer, SetHolder, Proceed, Shift, Finish, End, Replace, SetTalk, CountMoved, PassTurn, SetPeer, SetFault, SetTaker}
+use Rattle.fk_model.specs.World.Edit.{SetLocked, SetWindow, SetExtent, SetMember, SetPointer, SetHolder, Proceed, Shift, Finish, End, Replace, SetTalk}
+use Rattle.fk_model.specs.World.Edit.{CountMoved, PassTurn, SetPeer, SetFault, SetTaker}
 use Rattle.fk_model.specs.Cut.{is_out, seen_by}
 use Rattle.laws_cut.specs.Likeness.{seeing, seen_peer, seen_talk, seen_thread, IfServer, AllInTalk, AllInFault, IsPlainBody}
 use Rattle.laws_cut.specs.LikeChanges.{seen_edit}

@@ -1,5 +1,6 @@
 -- What is held, and who is free, inside is so in a likeness, where nothing at or above the root is held.
-use Rattle.std.proofs.Common.{◌≡◌, ℕ, Bool, true, false, not, ◌&&◌, eqb, [], ◌∷◌, ◌++◌, Option, Some, None, IfSome, is_some, is_none, option_map, refl, sym, ap, ◌∙◌}
+use Rattle.std.proofs.Common.{◌≡◌, ℕ, Bool, true, false, not, ◌&&◌, eqb, [], ◌∷◌, ◌++◌, Option, Some, None, IfSome, is_some, is_none, option_map, refl, sym, ap}
+use Rattle.std.proofs.Common.{◌∙◌}
 use Rattle.fk_model.specs.Places.{Path, strip, is_within, Ptr, leads_to}
 use Rattle.fk_model.specs.Objects.{Fault, Thread, Body, and_then, or_else}
 use Rattle.fk_model.specs.Objects.Body.{Space}

@@ -1,5 +1,6 @@
 -- The laws of likenesses.
-use Rattle.laws_cut.specs.LikenessLaws.{CutIsLikeness, CutIsServedAlike, LikenessIsCutWorld, RebindingIsLikeness, LikenessReadsAlike, LikenessHoldsAlike, LikenessServesAlike, LockActsAlike, LikenessStays, CutChangesAlike, PlainStays}
+use Rattle.laws_cut.specs.LikenessLaws.{CutIsLikeness, CutIsServedAlike, LikenessIsCutWorld, RebindingIsLikeness, LikenessReadsAlike, LikenessHoldsAlike}
+use Rattle.laws_cut.specs.LikenessLaws.{LikenessServesAlike, LockActsAlike, LikenessStays, CutChangesAlike, PlainStays}
 use Rattle.laws_cut.proofs.likeness.Instances.{cut-like, like-cut_world, rebind-like}
 use Rattle.laws_cut.proofs.likeness.Reads.{anything_in-like, kind_at-like, handle-like, place-like, referred-like}
 use Rattle.laws_cut.proofs.likeness.Memory.{mapping_at-like, region_at-like, keeper-like, reach-like, next_page-like}

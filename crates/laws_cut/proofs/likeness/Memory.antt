@@ -1,5 +1,6 @@
 -- Pages are reached alike in a likeness.
-use Rattle.std.proofs.Common.{◌≡◌, ℕ, zero, suc, ◌+◌, ◌-◌, ◌/◌, Bool, true, false, cond, ltb, leb, List, [], ◌∷◌, ◌++◌, Option, Some, None, IfSome, option_map, refl, ap}
+use Rattle.std.proofs.Common.{◌≡◌, ℕ, zero, suc, ◌+◌, ◌-◌, ◌/◌, Bool, true, false, cond, ltb, leb, List, [], ◌∷◌, ◌++◌, Option, Some, None, IfSome, option_map}
+use Rattle.std.proofs.Common.{refl, ap}
 use Rattle.fk_model.specs.declared.limits.TheConstants.{SLOTS, MAPPINGS, PAGES, PAGE_WORDS, SPACE_WORDS}
 use Rattle.fk_model.specs.declared.names.Kind.TheVariants as kinds
 use Rattle.fk_model.specs.Places.{Path, Ptr}
@@ -7,12 +8,14 @@ use Rattle.fk_model.specs.Objects.{Window, Extent, Body, kind_of, mapping_of, re
 use Rattle.fk_model.specs.Objects.Body.{Mapping, Region, Space}
 use Rattle.fk_model.specs.World.{World}
 use Rattle.fk_model.specs.Searches.{lowest}
-use Rattle.fk_model.specs.Reach.{Reach, mapping_at, region_at, live_keeper, keeper, page_of_region, led_by, followed, mapped, at_home, reach_within, reach, reach_word, words_at}
+use Rattle.fk_model.specs.Reach.{Reach, mapping_at, region_at, live_keeper, keeper, page_of_region, led_by, followed, mapped, at_home, reach_within, reach}
+use Rattle.fk_model.specs.Reach.{reach_word, words_at}
 use Rattle.fk_model.specs.Reach.Reach.{Missing, Bad}
 use Rattle.fk_model.specs.SpaceRows.{next_page}
 use Rattle.fk_model.specs.Valid.{kind_there}
 use Rattle.fk_model.specs.Cut.{seen_by, unheld}
-use Rattle.laws_cut.specs.Likeness.{seeing, seen_window, seen_extent, PtrLikeness, HasLikeness, IsPlainBody, IsLikeness, AlikeOptions, IsSeenAs, IsSeenWindow, IsSeenExtent, IsSeenPlace, ReachLikeness}
+use Rattle.laws_cut.specs.Likeness.{seeing, seen_window, seen_extent, PtrLikeness, HasLikeness, IsPlainBody, IsLikeness, AlikeOptions, IsSeenAs, IsSeenWindow}
+use Rattle.laws_cut.specs.Likeness.{IsSeenExtent, IsSeenPlace, ReachLikeness}
 use Rattle.laws_cut.specs.Likeness.PtrLikeness.{Nulls, Deads, Inside, PortAt, PortOut}
 use Rattle.laws_cut.specs.Likeness.ReachLikeness.{Homes, Misses, Bads}
 use Rattle.laws_cut.proofs.likeness.Alike.{alike_and_then, alike_cond, alike_lowest}

@@ -21,7 +21,8 @@ use Rattle.fk_model.specs.Talks.{thread_led_to}
 use Rattle.fk_model.specs.TransferRows.{overwritten}
 use Rattle.fk_model.specs.Records.{record_of}
 use Rattle.fk_model.specs.StateRows.{is_bad_record_address, shows, get_state}
-use Rattle.fk_model.specs.SpaceRows.{has_porter, is_held_by_other, space_hold, is_page, is_bad_target, copies, copies_home, page_take, gives_page, is_bad_source, page_give}
+use Rattle.fk_model.specs.SpaceRows.{has_porter, is_held_by_other, space_hold, is_page, is_bad_target, copies, copies_home, page_take, gives_page}
+use Rattle.fk_model.specs.SpaceRows.{is_bad_source, page_give}
 use Rattle.fk_model.specs.LinkRows.{user_at}
 use Rattle.fk_model.specs.ObjectRows.{new_object, create, pointer_to, point, rename}
 use Rattle.fk_model.specs.Cut.{seen_by}

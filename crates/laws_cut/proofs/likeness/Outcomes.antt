@@ -17,7 +17,8 @@ use Rattle.fk_model.specs.Readers.{missed, accessed, own_page_at, own_page, thei
 use Rattle.fk_model.specs.Talks.{Line}
 use Rattle.fk_model.specs.Moves.{closed}
 use Rattle.fk_model.specs.Cut.{seen_by}
-use Rattle.laws_cut.specs.Likeness.{seeing, seen_talk, seen_thread, HasLikeness, AllInTalk, IsPlainBody, IsLikeness, under, AlikeResults, AlikeOptions, IsBeneath, IsSeenAs, IsSeenBody, IsSeenHolder, PeerLikeness, EndLikeness, LineLikeness, ReachLikeness}
+use Rattle.laws_cut.specs.Likeness.{seeing, seen_talk, seen_thread, HasLikeness, AllInTalk, IsPlainBody, IsLikeness, under, AlikeResults, AlikeOptions}
+use Rattle.laws_cut.specs.Likeness.{IsBeneath, IsSeenAs, IsSeenBody, IsSeenHolder, PeerLikeness, EndLikeness, LineLikeness, ReachLikeness}
 use Rattle.laws_cut.specs.Likeness.EndLikeness.{Ends}
 use Rattle.laws_cut.specs.Likeness.LineLikeness.{Lines}
 use Rattle.laws_cut.specs.Likeness.ReachLikeness.{Homes, Misses, Bads}

@@ -1,6 +1,7 @@
 -- Rows of which nothing is seen from outside act alike in a likeness: state and pointers, searches, holds and stop counts, pages
 -- that are read, mutexes and conditions, and stages that only wait.
-use Rattle.std.proofs.Common.{◌≡◌, ℕ, ◌-◌, eqb, leb, Bool, true, false, cond, not, ◌&&◌, ◌||◌, List, [], ◌∷◌, ◌++◌, map, flat_map, Option, Some, None, IfSome, is_some, option_map, Result, Ok, Err, refl, sym, ap, ◌∙◌}
+use Rattle.std.proofs.Common.{◌≡◌, ℕ, ◌-◌, eqb, leb, Bool, true, false, cond, not, ◌&&◌, ◌||◌, List, [], ◌∷◌, ◌++◌, map, flat_map, Option, Some, None, IfSome}
+use Rattle.std.proofs.Common.{is_some, option_map, Result, Ok, Err, refl, sym, ap, ◌∙◌}
 use Rattle.fk_model.specs.declared.limits.TheConstants.{SLOTS}
 use Rattle.fk_model.specs.declared.names.Kind.TheVariants as kinds
 use Rattle.fk_model.specs.declared.stage.Stage.{Stage}
@@ -29,23 +30,27 @@ use Rattle.fk_model.specs.LinkRows.{connect, user_at}
 use Rattle.fk_model.specs.SyncRows.{cond_of, mutex_trylock, mutex_unlock, cond_wait, cond_asleep, woken, asleep_on, sleepers, cond_broadcast}
 use Rattle.fk_model.specs.SpaceRows.{space_release, thread_go, is_page, is_bad_target, next_page, page_read, page_next}
 use Rattle.fk_model.specs.Records.{word, record_registers, calling_by, mode_of_record, set_edits, takes_state}
-use Rattle.fk_model.specs.StateRows.{is_native, is_still, sets_record, record_at, is_bad_record_address, set_state, Field, field_of, is_inner, field_number, field_pointer, get_ptr, held_kinds, is_of_kinds, set_ptr}
+use Rattle.fk_model.specs.StateRows.{is_native, is_still, sets_record, record_at, is_bad_record_address, set_state, Field, field_of, is_inner, field_number}
+use Rattle.fk_model.specs.StateRows.{field_pointer, get_ptr, held_kinds, is_of_kinds, set_ptr}
 use Rattle.fk_model.specs.StateRows.Field.{Pointer}
 use Rattle.fk_model.specs.ObjectRows.{clear, search as search_row, taken_from, target_of, way_to, kind_number, locate}
 use Rattle.fk_model.specs.Cut.{seen_by, unheld}
-use Rattle.laws_cut.specs.Likeness.{seeing, PtrLikeness, HasLikeness, IsPlainBody, IsLikeness, under, AlikeResults, AlikeOptions, IsBeneath, IsSeenAs, IsSeenHandle, IsSeenTalk}
+use Rattle.laws_cut.specs.Likeness.{seeing, PtrLikeness, HasLikeness, IsPlainBody, IsLikeness, under, AlikeResults, AlikeOptions, IsBeneath, IsSeenAs}
+use Rattle.laws_cut.specs.Likeness.{IsSeenHandle, IsSeenTalk}
 use Rattle.laws_cut.specs.Likeness.PtrLikeness.{Nulls, Deads, Inside, PortAt, PortOut}
 use Rattle.laws_cut.specs.LikeChanges.{LikeChanges, IsLikeOutcome}
 use Rattle.laws_cut.specs.LikeChanges.LikeChange.{Alters}
 use Rattle.laws_cut.specs.LikeChanges.LikeChanges.{Empty, Both}
 use Rattle.laws_cut.proofs.likeness.Alike.{alike_same, alike_or_refuse, alike_and_then, alike_cond, alike_lowest, alike-is_some}
-use Rattle.laws_cut.proofs.likeness.Reads.{mutex-seen, cond-seen, kind-seen, kind_at-like, handle-like, place-like, plain_in-like, anything_in-like, reference_in-like, space_in-like}
+use Rattle.laws_cut.proofs.likeness.Reads.{mutex-seen, cond-seen, kind-seen, kind_at-like, handle-like, place-like, plain_in-like, anything_in-like}
+use Rattle.laws_cut.proofs.likeness.Reads.{reference_in-like, space_in-like}
 use Rattle.laws_cut.proofs.likeness.Memory.{words_at-like, next_page-like}
 use Rattle.laws_cut.proofs.likeness.Holds.{leads_to-like, is_frozen_for-like, is_decided_by-like}
 use Rattle.laws_cut.proofs.likeness.Talks.{talk_at-like}
 use Rattle.laws_cut.proofs.likeness.Walks.{way_to-like, asleep_on-like}
 use Rattle.laws_cut.proofs.likeness.Records.{set_edits-seen, held_kinds-seen, is_native-seen, is_inner-seen, field_number-like, takes_state-like}
-use Rattle.laws_cut.proofs.likeness.Outcomes.{append-like, bind-like, bind_any, bind_same, bind_path, bind_ptr, bind_body, bind_holder, bind_end, refuse-like, done-like, own_page-like}
+use Rattle.laws_cut.proofs.likeness.Outcomes.{append-like, bind-like, bind_any, bind_same, bind_path, bind_ptr, bind_body, bind_holder, bind_end, refuse-like}
+use Rattle.laws_cut.proofs.likeness.Outcomes.{done-like, own_page-like}
 use Rattle.laws_cut.proofs.likeness.Rows.{thread_by-like}
 use Rattle.laws_cut.proofs.likeness.ObjectRows.{copies_home-like}
 

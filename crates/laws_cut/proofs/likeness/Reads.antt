@@ -1,5 +1,6 @@
 -- What is read in slots, and by handles, is read alike in a likeness.
-use Rattle.std.proofs.Common.{◌≡◌, ℕ, Bool, true, false, cond, leb, eqb, [], ◌∷◌, ◌++◌, Option, Some, None, IfSome, option_map, Result, Ok, Err, refl, sym, ap, ◌∙◌}
+use Rattle.std.proofs.Common.{◌≡◌, ℕ, Bool, true, false, cond, leb, eqb, [], ◌∷◌, ◌++◌, Option, Some, None, IfSome, option_map, Result, Ok, Err, refl, sym, ap}
+use Rattle.std.proofs.Common.{◌∙◌}
 use Rattle.fk_model.specs.declared.limits.TheConstants.{OWN_SPACE}
 use Rattle.fk_model.specs.declared.names.Kind.{Kind}
 use Rattle.fk_model.specs.declared.names.Kind.TheVariants as kinds
@@ -10,11 +11,13 @@ use Rattle.fk_model.specs.Objects.{Body, kind_of, same_kind, mutex_of, mapping_o
 use Rattle.fk_model.specs.Objects.Body.{Mutex, Cond, Mapping, Region, Port, Portset, Space, Thread_of, Reference}
 use Rattle.fk_model.specs.World.{World}
 use Rattle.fk_model.specs.Outcomes.{Caller, last_slot}
-use Rattle.fk_model.specs.Readers.{and_read, slot_for, seen_as, anything, object_in, kind_at, is_kind, led_to, handled, handle, path_at, space_argument, referred}
+use Rattle.fk_model.specs.Readers.{and_read, slot_for, seen_as, anything, object_in, kind_at, is_kind, led_to, handled, handle, path_at, space_argument}
+use Rattle.fk_model.specs.Readers.{referred}
 use Rattle.fk_model.specs.SyncRows.{cond_of}
 use Rattle.fk_model.specs.LinkRows.{portset_of}
 use Rattle.fk_model.specs.Cut.{seen_by, unheld}
-use Rattle.laws_cut.specs.Likeness.{seeing, seen_thread, seen_window, seen_extent, PtrLikeness, HasLikeness, IsPlainBody, IsLikeness, under, AlikeResults, AlikeOptions, IsBeneath, IsSeenAs, IsSeenHandle, IsSeenBody, IsSeenHolder}
+use Rattle.laws_cut.specs.Likeness.{seeing, seen_thread, seen_window, seen_extent, PtrLikeness, HasLikeness, IsPlainBody, IsLikeness, under, AlikeResults}
+use Rattle.laws_cut.specs.Likeness.{AlikeOptions, IsBeneath, IsSeenAs, IsSeenHandle, IsSeenBody, IsSeenHolder}
 use Rattle.laws_cut.specs.Likeness.PtrLikeness.{Nulls, Deads, Inside, PortAt, PortOut}
 use Rattle.laws_cut.proofs.likeness.Alike.{alike_same, alike_or_refuse, alike_and_read, alike_if}
 

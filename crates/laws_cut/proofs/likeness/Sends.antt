@@ -1,5 +1,6 @@
 -- A Send and an Over go alike in a likeness where their other end is seen, and the outside hears of them alike.
-use Rattle.std.proofs.Common.{◌≡◌, ℕ, ◌%◌, eqb, Bool, true, false, cond, not, ◌&&◌, List, [], ◌∷◌, ◌++◌, Option, Some, None, is_some, Result, Ok, Err, refl, sym, ap, ◌∙◌}
+use Rattle.std.proofs.Common.{◌≡◌, ℕ, ◌%◌, eqb, Bool, true, false, cond, not, ◌&&◌, List, [], ◌∷◌, ◌++◌, Option, Some, None, is_some, Result, Ok, Err, refl}
+use Rattle.std.proofs.Common.{sym, ap, ◌∙◌}
 use Rattle.fk_model.specs.declared.limits.TheConstants.{PAGE_WORDS, BLOCK_WORDS}
 use Rattle.fk_model.specs.declared.statuses.status.TheConstants.{FULL, WRONGTURN}
 use Rattle.fk_model.specs.declared.thread.Turn.{Turn}
@@ -19,11 +20,13 @@ use Rattle.fk_model.specs.Outcomes.Outcome.{Refused, Waits, Goes}
 use Rattle.fk_model.specs.Outcomes.Said.{Nothing, Words, Passed}
 use Rattle.fk_model.specs.Readers.{own_page_at, own_page, their_page_at, their_page}
 use Rattle.fk_model.specs.Talks.{Line, line_from, line, other_side, same_side, receiving, path_to, is_service_free}
-use Rattle.fk_model.specs.TransferRows.{overwritten, block, moved_words, at_turn, has_sent, sends_words, sends_into, sends_to_thread, sends_to, sends, send, passes, passes_to_thread, passes_to, over}
+use Rattle.fk_model.specs.TransferRows.{overwritten, block, moved_words, at_turn, has_sent, sends_words, sends_into, sends_to_thread, sends_to, sends, send}
+use Rattle.fk_model.specs.TransferRows.{passes, passes_to_thread, passes_to, over}
 use Rattle.fk_model.specs.LinkRows.{user_at}
 use Rattle.fk_model.specs.Cut.{is_out}
 use Rattle.fk_model.specs.Further.{told_by_said}
-use Rattle.laws_cut.specs.Likeness.{seen_peer, seen_talk, seen_thread, PtrLikeness, HasLikeness, IfServer, IsLikeness, AlikeResults, AlikeOptions, IsBeneath, IsSeenTalk, ReachLikeness, PeerLikeness, EndLikeness}
+use Rattle.laws_cut.specs.Likeness.{seen_peer, seen_talk, seen_thread, PtrLikeness, HasLikeness, IfServer, IsLikeness, AlikeResults, AlikeOptions, IsBeneath}
+use Rattle.laws_cut.specs.Likeness.{IsSeenTalk, ReachLikeness, PeerLikeness, EndLikeness}
 use Rattle.laws_cut.specs.Likeness.PtrLikeness.{Nulls, Deads, Inside, PortAt, PortOut}
 use Rattle.laws_cut.specs.Likeness.ReachLikeness.{Homes, Misses, Bads}
 use Rattle.laws_cut.specs.Likeness.PeerLikeness.{Outsiders, Servers, Services, Waiters}

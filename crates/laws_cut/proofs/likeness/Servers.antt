@@ -1,5 +1,6 @@
 -- The client of a server, and the thread whose fault it has taken, are found alike in a likeness.
-use Rattle.std.proofs.Common.{◌≡◌, ℕ, zero, suc, ◌+◌, ◌<◌, ◌≤◌, Bool, true, false, cond, ◌&&◌, ◌||◌, List, [], ◌∷◌, ◌++◌, length, find, Option, Some, None, IfSome, is_some, option_map, ◌⊎◌, inl, inr, refl, sym, ap, ◌∙◌, arith, append_assoc, append-nil, length-append}
+use Rattle.std.proofs.Common.{◌≡◌, ℕ, zero, suc, ◌+◌, ◌<◌, ◌≤◌, Bool, true, false, cond, ◌&&◌, ◌||◌, List, [], ◌∷◌, ◌++◌, length, find, Option, Some, None}
+use Rattle.std.proofs.Common.{IfSome, is_some, option_map, ◌⊎◌, inl, inr, refl, sym, ap, ◌∙◌, arith, append_assoc, append-nil, length-append}
 use Rattle.std.specs.List.{list_any}
 use Rattle.std.proofs.lemmas.Bool.{or_cases, or_right, and_parts}
 use Rattle.fk_model.specs.declared.names.Kind.{Kind}
@@ -13,7 +14,8 @@ use Rattle.fk_model.specs.World.{World, serves}
 use Rattle.fk_model.specs.Searches.{residents, depth, beneath_by, beneath, objects, talk_at, fault_at, client_of, faulter_of, is_serving}
 use Rattle.fk_model.specs.Valid.{services, IsValid, kind_there, is_one_of, leads_there, all_in, is_good, is_good_peer, is_good_talk, is_good_fault, lies_with}
 use Rattle.fk_model.specs.Cut.{is_out, is_served_by, ports_of, cut_out, cut_to, cut_ptr, IsPlain}
-use Rattle.laws_cut.specs.Likeness.{seen_peer, HasLikeness, IfServer, IsLikeness, IsCutWorld, ServesNobodyOutside, is_listed, IsWalked, IsServedAlike, AlikeOptions, IsBeneath, IsSeenTalk, IsSeenFault}
+use Rattle.laws_cut.specs.Likeness.{seen_peer, HasLikeness, IfServer, IsLikeness, IsCutWorld, ServesNobodyOutside, is_listed, IsWalked, IsServedAlike}
+use Rattle.laws_cut.specs.Likeness.{AlikeOptions, IsBeneath, IsSeenTalk, IsSeenFault}
 use Rattle.fk_model.proofs.walks.PlaceLaws.{same_path_eq, same_path_cancel, strip-append, strip_some, leads_to_at}
 use Rattle.fk_model.proofs.walks.WalkLaws.{objects-all}
 use Rattle.laws_cut.proofs.likeness.Alike.{alike-is_some}

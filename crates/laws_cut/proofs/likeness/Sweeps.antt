@@ -6,13 +6,15 @@ use Rattle.fk_model.specs.Places.Ptr.{Dead, At}
 use Rattle.fk_model.specs.Objects.{Peer, Talk, Fault, Thread, Body, kind_of, thread_of, and_then}
 use Rattle.fk_model.specs.Objects.Peer.{Server, Service, Parked}
 use Rattle.fk_model.specs.Objects.Body.{Mutex, Mapping, Region, Port, Space, Thread_of, Reference}
-use Rattle.fk_model.specs.World.{World, Sweep, through, serves, set_at, death_sweep, talk_without, taker_without, fault_without, following, follow, follow_peer, killed_at, moved_to, apply}
+use Rattle.fk_model.specs.World.{World, Sweep, through, serves, set_at, death_sweep, talk_without, taker_without, fault_without, following, follow, follow_peer}
+use Rattle.fk_model.specs.World.{killed_at, moved_to, apply}
 use Rattle.fk_model.specs.World.Change.{Kill, Move}
 use Rattle.fk_model.specs.Searches.{talk_at, fault_at}
 use Rattle.fk_model.specs.Readers.{kind_at}
 use Rattle.fk_model.specs.Valid.{kind_there}
 use Rattle.fk_model.specs.Cut.{is_out, seen_by, unheld}
-use Rattle.laws_cut.specs.Likeness.{seeing, seen_peer, seen_talk, seen_fault, HasLikeness, IfServer, AllInTalk, AllInFault, IsPlainBody, IsLikeness, ServesNobodyOutside}
+use Rattle.laws_cut.specs.Likeness.{seeing, seen_peer, seen_talk, seen_fault, HasLikeness, IfServer, AllInTalk, AllInFault, IsPlainBody, IsLikeness}
+use Rattle.laws_cut.specs.Likeness.{ServesNobodyOutside}
 use Rattle.laws_cut.specs.Likeness.PtrLikeness.{Deads, Inside}
 use Rattle.fk_model.proofs.walks.PlaceLaws.{same_path_cancel, same_path_above}
 use Rattle.laws_cut.proofs.likeness.Pointers.{all_in_body, ptr_moved}

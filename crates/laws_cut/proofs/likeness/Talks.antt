@@ -11,7 +11,8 @@ use Rattle.fk_model.specs.World.{World}
 use Rattle.fk_model.specs.Searches.{talk_at, fault_at, client_of}
 use Rattle.fk_model.specs.Talks.{line_from, line, path_to, thread_led_to}
 use Rattle.fk_model.specs.Cut.{is_out, seen_by, unheld}
-use Rattle.laws_cut.specs.Likeness.{seeing, seen_peer, PtrLikeness, HasLikeness, IfServer, AllInTalk, AllInFault, IsPlainBody, IsLikeness, AlikeOptions, IsBeneath, IsOuter, ServesNobodyOutside, IsSeenTalk, IsSeenFault, IsSeenThread, PeerLikeness, EndLikeness, LineLikeness}
+use Rattle.laws_cut.specs.Likeness.{seeing, seen_peer, PtrLikeness, HasLikeness, IfServer, AllInTalk, AllInFault, IsPlainBody, IsLikeness, AlikeOptions}
+use Rattle.laws_cut.specs.Likeness.{IsBeneath, IsOuter, ServesNobodyOutside, IsSeenTalk, IsSeenFault, IsSeenThread, PeerLikeness, EndLikeness, LineLikeness}
 use Rattle.laws_cut.specs.Likeness.PtrLikeness.{Nulls, Deads, Inside, PortAt, PortOut}
 use Rattle.laws_cut.specs.Likeness.PeerLikeness.{Outsiders, Servers, Services, Waiters}
 use Rattle.laws_cut.specs.Likeness.EndLikeness.{Ends}

@@ -1,5 +1,6 @@
 -- What a wait looks for is found alike in a likeness: the slots of a set's ports, and the candidates.
-use Rattle.std.proofs.Common.{◌≡◌, ℕ, Bool, true, false, cond, [], ◌∷◌, ◌++◌, Option, Some, None, IfSome, is_some, option_map, Result, Ok, Err, refl, sym, ap, ◌∙◌}
+use Rattle.std.proofs.Common.{◌≡◌, ℕ, Bool, true, false, cond, [], ◌∷◌, ◌++◌, Option, Some, None, IfSome, is_some, option_map, Result, Ok, Err, refl, sym, ap}
+use Rattle.std.proofs.Common.{◌∙◌}
 use Rattle.std.proofs.lemmas.Bool.{and_left, and_right}
 use Rattle.fk_model.specs.declared.names.Kind.TheVariants as kinds
 use Rattle.fk_model.specs.declared.stage.Stage.{Stage}
@@ -13,10 +14,12 @@ use Rattle.fk_model.specs.World.{World}
 use Rattle.fk_model.specs.Searches.{talk_at, fault_at}
 use Rattle.fk_model.specs.Holds.{is_frozen, is_unheld, is_free}
 use Rattle.fk_model.specs.Talks.{first_stage}
-use Rattle.fk_model.specs.LinkRows.{user_at, if_read, port_named, connecting_to, Candidate, is_member, slot_in_set, is_parked, is_open, faulting, connecting, resuming, candidate_by, candidate}
+use Rattle.fk_model.specs.LinkRows.{user_at, if_read, port_named, connecting_to, Candidate, is_member, slot_in_set, is_parked, is_open, faulting, connecting}
+use Rattle.fk_model.specs.LinkRows.{resuming, candidate_by, candidate}
 use Rattle.fk_model.specs.LinkRows.Candidate.{Faulting, Connecting, Resuming}
 use Rattle.fk_model.specs.Cut.{is_out, seen_by, unheld}
-use Rattle.laws_cut.specs.Likeness.{seeing, seen_peer, seen_thread, PtrLikeness, HasLikeness, AllInTalk, AllInFault, IsLikeness, AlikeResults, AlikeOptions, IsSeenAs, IsSeenHandle, IsSeenThread, CandidateLikeness}
+use Rattle.laws_cut.specs.Likeness.{seeing, seen_peer, seen_thread, PtrLikeness, HasLikeness, AllInTalk, AllInFault, IsLikeness, AlikeResults, AlikeOptions}
+use Rattle.laws_cut.specs.Likeness.{IsSeenAs, IsSeenHandle, IsSeenThread, CandidateLikeness}
 use Rattle.laws_cut.specs.Likeness.PtrLikeness.{Nulls, Deads, Inside, PortAt, PortOut}
 use Rattle.laws_cut.specs.Likeness.CandidateLikeness.{Faults, Connects, Resumes}
 use Rattle.fk_model.proofs.walks.PlaceLaws.{same_path_eq, same_path_cancel, strip-append}

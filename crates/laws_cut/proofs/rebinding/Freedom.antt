@@ -1,6 +1,7 @@
 -- What the freezing rule allows with other outward ports it allowed before: a test of pointers that tells no port outside from
 -- another is the same for all that a change makes, changes and sweeps.
-use Rattle.std.proofs.Common.{◌≡◌, ℕ, Bool, true, false, cond, not, ◌&&◌, ◌||◌, List, [], ◌∷◌, ◌++◌, Option, Some, None, option_map, refl, sym, ap, subst, ◌∙◌, append-nil}
+use Rattle.std.proofs.Common.{◌≡◌, ℕ, Bool, true, false, cond, not, ◌&&◌, ◌||◌, List, [], ◌∷◌, ◌++◌, Option, Some, None, option_map, refl, sym, ap, subst, ◌∙◌}
+use Rattle.std.proofs.Common.{append-nil}
 use Rattle.std.specs.List.{list_any}
 use Rattle.std.proofs.lemmas.List.Folds.{list_any-append}
 use Rattle.fk_model.specs.Places.{Path, is_within, Ptr, leads_to}
@@ -13,7 +14,8 @@ use Rattle.fk_model.specs.World.Change.{Alter, Make, MakeSpace, Kill, Move, PutP
 use Rattle.fk_model.specs.World.Edit.{SetPointer, SetHolder, SetTalk, SetPeer, SetFault, SetTaker}
 use Rattle.fk_model.specs.Searches.{pointers, option_list, peer_pointer, talk_pointers, fault_pointers}
 use Rattle.fk_model.specs.Holds.{decider, is_frozen, is_frozen_for, leads_to_frozen}
-use Rattle.fk_model.specs.Freezing.{body_pointers, changed_pointers, made_pointers, are_unfrozen, is_in_set, is_swept, talk_lost, fault_lost, lost_with, may_be_swept, may_follow, IsAllowed, AreAllowed}
+use Rattle.fk_model.specs.Freezing.{body_pointers, changed_pointers, made_pointers, are_unfrozen, is_in_set, is_swept, talk_lost, fault_lost, lost_with}
+use Rattle.fk_model.specs.Freezing.{may_be_swept, may_follow, IsAllowed, AreAllowed}
 use Rattle.fk_model.specs.Cut.{is_out, seen_by}
 use Rattle.fk_model.specs.Rebind.{rebound_ptr, rebound}
 use Rattle.fk_model.proofs.walks.PlaceLaws.{strip-append}

@@ -1,5 +1,6 @@
 -- A move of a subtree that is seen alone is the same move of it with other outward ports.
-use Rattle.std.proofs.Common.{◌≡◌, ℕ, zero, Bool, true, false, cond, eqb, ◌&&◌, ◌||◌, List, [], ◌∷◌, ◌++◌, map, Option, Some, None, is_none, option_map, refl, sym, ap, subst, ◌∙◌, append-nil}
+use Rattle.std.proofs.Common.{◌≡◌, ℕ, zero, Bool, true, false, cond, eqb, ◌&&◌, ◌||◌, List, [], ◌∷◌, ◌++◌, map, Option, Some, None, is_none, option_map, refl}
+use Rattle.std.proofs.Common.{sym, ap, subst, ◌∙◌, append-nil}
 use Rattle.std.specs.List.{flat_map}
 use Rattle.fk_model.specs.declared.stage.Stage.{Stage}
 use Rattle.fk_model.specs.Places.{Path, parent, Ptr}
@@ -18,7 +19,8 @@ use Rattle.fk_model.specs.LinkRows.{user_at}
 use Rattle.fk_model.specs.Freezing.{AreAllowed}
 use Rattle.fk_model.specs.Moves.{call_row, goes_on}
 use Rattle.fk_model.specs.Cut.{is_out}
-use Rattle.fk_model.specs.Further.{Onward, Told, talks_outside, own_stage, goes_out, counted, onward_row, ends_told, told_fault, told_by_change, told_by_said, told_by, OnwardTo}
+use Rattle.fk_model.specs.Further.{Onward, Told, talks_outside, own_stage, goes_out, counted, onward_row, ends_told, told_fault, told_by_change, told_by_said}
+use Rattle.fk_model.specs.Further.{told_by, OnwardTo}
 use Rattle.fk_model.specs.Further.Onward.{Own}
 use Rattle.fk_model.specs.Further.Told.{ToldEnd, ToldFault}
 use Rattle.fk_model.specs.Rebind.{rebound_ptr, rebound, rebound_told}

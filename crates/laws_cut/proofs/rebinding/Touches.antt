@@ -1,5 +1,6 @@
 -- The law of rebinding for what the outside does to a subtree: with other outward ports it is done in the same way.
-use Rattle.std.proofs.Common.{◌≡◌, ℕ, ◌%◌, eqb, leb, ltb, min, Bool, true, false, cond, ◌&&◌, List, [], ◌∷◌, ◌++◌, map, length, Option, Some, None, is_none, is_some, option_map, refl, sym, ap, subst, ◌∙◌, append-nil}
+use Rattle.std.proofs.Common.{◌≡◌, ℕ, ◌%◌, eqb, leb, ltb, min, Bool, true, false, cond, ◌&&◌, List, [], ◌∷◌, ◌++◌, map, length, Option, Some, None, is_none}
+use Rattle.std.proofs.Common.{is_some, option_map, refl, sym, ap, subst, ◌∙◌, append-nil}
 use Rattle.std.proofs.lemmas.Bool.{and_parts}
 use Rattle.fk_model.specs.declared.limits.TheConstants.{PAGE_WORDS, BLOCK_WORDS}
 use Rattle.fk_model.specs.declared.statuses.status.TheConstants.{FULL, ENDED}
@@ -21,7 +22,8 @@ use Rattle.fk_model.specs.Talks.{same_side, receiving, is_talking}
 use Rattle.fk_model.specs.TransferRows.{overwritten, to_page_end}
 use Rattle.fk_model.specs.LinkRows.{new_talk}
 use Rattle.fk_model.specs.Cut.{is_out, seen_by, unheld}
-use Rattle.fk_model.specs.Further.{Touch, Told, is_outside, on_found, is_outside_talk, taken_at, if_awaiting, given_at, given_to, left_by_peer, fault_taken_outside, done_fault, touch_row, onward_row, OnwardTo}
+use Rattle.fk_model.specs.Further.{Touch, Told, is_outside, on_found, is_outside_talk, taken_at, if_awaiting, given_at, given_to, left_by_peer}
+use Rattle.fk_model.specs.Further.{fault_taken_outside, done_fault, touch_row, onward_row, OnwardTo}
 use Rattle.fk_model.specs.Further.Touch.{Taken, Given, Filled, Handed, Left, FaultTaken, FaultDone, PageGiven, PageTaken}
 use Rattle.fk_model.specs.Further.Onward.{ByOthers}
 use Rattle.fk_model.specs.Rebind.{rebound_ptr, rebound, rebound_told}

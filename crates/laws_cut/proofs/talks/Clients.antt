@@ -1,5 +1,6 @@
 -- A Send and an Over of a client inside to a peer outside: the cut's own row for them is alike.
-use Rattle.std.proofs.Common.{◌≡◌, ℕ, ◌%◌, ◌<◌, ◌≤◌, eqb, Bool, true, false, cond, not, ◌&&◌, ◌||◌, List, [], ◌∷◌, ◌++◌, Option, Some, None, is_some, unwrap_or, Ok, Err, refl, sym, ap, subst, ◌∙◌, arith, append_assoc}
+use Rattle.std.proofs.Common.{◌≡◌, ℕ, ◌%◌, ◌<◌, ◌≤◌, eqb, Bool, true, false, cond, not, ◌&&◌, ◌||◌, List, [], ◌∷◌, ◌++◌, Option, Some, None, is_some, unwrap_or}
+use Rattle.std.proofs.Common.{Ok, Err, refl, sym, ap, subst, ◌∙◌, arith, append_assoc}
 use Rattle.std.proofs.lemmas.Bool.{le-leb, lt-ltb, eqb-false}
 use Rattle.fk_model.specs.declared.limits.TheConstants.{PAGE_WORDS, BLOCK_WORDS}
 use Rattle.fk_model.specs.declared.statuses.status.TheConstants.{FULL, WRONGTURN}
@@ -21,7 +22,8 @@ use Rattle.fk_model.specs.Outcomes.Outcome.{Refused, Waits, Goes}
 use Rattle.fk_model.specs.Outcomes.Said.{Nothing, Words, Passed}
 use Rattle.fk_model.specs.Readers.{own_page_at, own_page, their_page_at, their_page}
 use Rattle.fk_model.specs.Talks.{Line, line, same_side, receiving, thread_led_to, is_service_free}
-use Rattle.fk_model.specs.TransferRows.{overwritten, block, moved_words, in_turn, has_sent, sends_words, sends_into, sends_to_thread, sends_to_service, sends_to, sends, send, passes, passes_to_thread, passes_to, over}
+use Rattle.fk_model.specs.TransferRows.{overwritten, block, moved_words, in_turn, has_sent, sends_words, sends_into, sends_to_thread, sends_to_service}
+use Rattle.fk_model.specs.TransferRows.{sends_to, sends, send, passes, passes_to_thread, passes_to, over}
 use Rattle.fk_model.specs.LinkRows.{user_at}
 use Rattle.fk_model.specs.Moves.{stage_row, is_for_porters, chooses, with_pick, closed, call_row}
 use Rattle.fk_model.specs.Cut.{is_out}
@@ -29,7 +31,8 @@ use Rattle.fk_model.specs.Further.{is_outside, counted, takes_words, sends_outsi
 use Rattle.fk_model.specs.Seen.{count_set, writes_inside, only_fills, leads_out}
 use Rattle.fk_model.proofs.walks.PlaceLaws.{same_path_refl, strip_some, strip-append}
 use Rattle.laws_machine.proofs.Frame.{or_off}
-use Rattle.laws_cut.specs.Likeness.{seen_peer, seen_talk, PtrLikeness, HasLikeness, IfServer, AllInTalk, IsLikeness, IsOuter, AlikeOptions, IsSeenTalk, ReachLikeness}
+use Rattle.laws_cut.specs.Likeness.{seen_peer, seen_talk, PtrLikeness, HasLikeness, IfServer, AllInTalk, IsLikeness, IsOuter, AlikeOptions, IsSeenTalk}
+use Rattle.laws_cut.specs.Likeness.{ReachLikeness}
 use Rattle.laws_cut.specs.Likeness.PtrLikeness.{Nulls, Deads, Inside, PortAt, PortOut}
 use Rattle.laws_cut.specs.Likeness.ReachLikeness.{Homes, Misses, Bads}
 use Rattle.laws_cut.specs.LikeChanges.{LikeChanges, IsLikeOutcome, IsLikeUnlessWaiting}

@@ -1,6 +1,7 @@
 -- The law of the cut for a Send of a server outside: the subtree sees that words are given to a thread of it, or that it has
 -- no room for them.
-use Rattle.std.proofs.Common.{◌≡◌, ℕ, zero, suc, ◌+◌, ◌/◌, ◌%◌, ◌<◌, ◌≤◌, eqb, ltb, min, Bool, true, false, cond, not, ◌&&◌, List, [], ◌∷◌, ◌++◌, take, drop, length, Option, Some, None, is_some, is_none, option_map, unwrap_or, Ok, Err, refl, sym, ap, subst, ◌∙◌, arith}
+use Rattle.std.proofs.Common.{◌≡◌, ℕ, zero, suc, ◌+◌, ◌/◌, ◌%◌, ◌<◌, ◌≤◌, eqb, ltb, min, Bool, true, false, cond, not, ◌&&◌, List, [], ◌∷◌, ◌++◌, take, drop}
+use Rattle.std.proofs.Common.{length, Option, Some, None, is_some, is_none, option_map, unwrap_or, Ok, Err, refl, sym, ap, subst, ◌∙◌, arith}
 use Rattle.std.proofs.lemmas.Bool.{le-leb, lt-ltb, ne_eqb, and_parts}
 use Rattle.std.proofs.lemmas.List.{length-drop, length-take-le}
 use Rattle.std.proofs.Math.Seq.{drop-append_seam, take-append_seam}
@@ -306,7 +307,8 @@ module _ (w : World) (nester : Path) (slot : ℕ) (plain : IsPlain w nester slot
                 cc
             nobody _ _ (PortAt y slot apart kind) thread mine = port (w.body y) kind thread
               where
-                port : (o : Option Body) → and_then (λ b. Some (kind_of b)) o ≡ Some kinds.Port → is_one_of (kinds.Thread ∷ []) (option_map kind_of o) ≡ true → ⊥
+                port : (o : Option Body) → and_then (λ b. Some (kind_of b)) o ≡ Some kinds.Port → is_one_of (kinds.Thread ∷ []) (option_map kind_of o) ≡ true
+                    → ⊥
                 port None kind thread = cc
                 port (Some b) kind thread = let same : kind_of b ≡ kinds.Port = cc in let never = rw same at thread in cc
             nobody _ _ (PortOut old slot) thread mine = cc
@@ -343,7 +345,8 @@ module _ (w : World) (nester : Path) (slot : ℕ) (plain : IsPlain w nester slot
             let shown : Some (Given (k ∷ z) words) ≡ Some touch = subst (λ (v : List ℕ). Some (Given (k ∷ z) v) ≡ Some touch) read_back h in
             let form : touch ≡ Given (k ∷ z) words = cc in
             rw form (has_touched w nester slot plain (Given (k ∷ z) words) near (far tail)
-            Nothing (given_row (unheld_here allowed.0)) (Both (PutsPage s p put) (Both (Alters k z (CountMoved (length words)) (CountMoved m) (ap (λ (n : ℕ). CountMoved n) longs) tt)
+            Nothing (given_row (unheld_here allowed.0))
+            (Both (PutsPage s p put) (Both (Alters k z (CountMoved (length words)) (CountMoved m) (ap (λ (n : ℕ). CountMoved n) longs) tt)
             (Both (Alters k z (Shift (length words)) (Shift m) (ap (λ (n : ℕ). Shift n) longs) tt) beyond))) (tt, (tt, (tt, quiet))))
 
   -- ---- the row of a Send
@@ -490,7 +493,8 @@ module _ (w : World) (nester : Path) (slot : ℕ) (plain : IsPlain w nester slot
       let its = served_outward w nester slot plain sound j s out k z served in
       let row = stage_outcome w nester slot plain (j ∷ s) pick (ServerSend address count) at in
       let calls = call_seen w nester slot plain full sound.valid.consistent (j ∷ s) out k z its.0 its.2 its.1 its.3 its.4 served address count pick in
-      subst (λ (o : Outcome). (touch : Touch) → GoesAllowed w (j ∷ s) o → given_of w (listed o) (k ∷ (z ++ slot ∷ nester)) (k ∷ z) ≡ Some touch → IsPlain (stepped w o).world
+      subst (λ (o : Outcome). (touch : Touch) → GoesAllowed w (j ∷ s) o → given_of w (listed o) (k ∷ (z ++ slot ∷ nester)) (k ∷ z) ≡ Some touch
+      → IsPlain (stepped w o).world
       nester slot × ((told : List Told) × IsOnward (cut w nester slot) (ByOthers touch) told (cut (stepped w o).world nester slot))) (sym row.1)
       (touches-when w nester slot
       plain full sound.valid.consistent (j ∷ s) out k z its.0 its.2 its.1 its.3 its.4 (is_free w s row.0)

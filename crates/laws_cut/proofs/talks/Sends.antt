@@ -1,5 +1,6 @@
 -- The law of the cut for a Send and an Over of a thread inside, to a peer inside or outside.
-use Rattle.std.proofs.Common.{◌≡◌, ℕ, ◌%◌, eqb, Bool, true, false, cond, ◌&&◌, ◌||◌, List, [], ◌∷◌, ◌++◌, Option, Some, None, is_some, is_none, option_map, Result, Ok, Err, refl, sym, ap, subst, ◌∙◌}
+use Rattle.std.proofs.Common.{◌≡◌, ℕ, ◌%◌, eqb, Bool, true, false, cond, ◌&&◌, ◌||◌, List, [], ◌∷◌, ◌++◌, Option, Some, None, is_some, is_none, option_map}
+use Rattle.std.proofs.Common.{Result, Ok, Err, refl, sym, ap, subst, ◌∙◌}
 use Rattle.fk_model.specs.declared.limits.TheConstants.{PAGE_WORDS, BLOCK_WORDS}
 use Rattle.fk_model.specs.declared.moves.Ask.TheVariants as asks
 use Rattle.fk_model.specs.declared.stage.Stage.{Stage}
@@ -22,7 +23,8 @@ use Rattle.fk_model.specs.Outcomes.Outcome.{Refused, Waits, Goes}
 use Rattle.fk_model.specs.Outcomes.Said.{Nothing, Words}
 use Rattle.fk_model.specs.Readers.{own_page_at, their_page_at}
 use Rattle.fk_model.specs.Talks.{Line, receiving, other_side, thread_led_to, is_service_free}
-use Rattle.fk_model.specs.TransferRows.{overwritten, block, has_sent, moved_words, sends_into, sends_to_thread, sends_to, sends, send, passes, passes_to_thread, passes_to, over}
+use Rattle.fk_model.specs.TransferRows.{overwritten, block, has_sent, moved_words, sends_into, sends_to_thread, sends_to, sends, send, passes, passes_to_thread}
+use Rattle.fk_model.specs.TransferRows.{passes_to, over}
 use Rattle.fk_model.specs.LinkRows.{user_at}
 use Rattle.fk_model.specs.Moves.{stage_row, is_for_porters, chooses, with_pick, closed, call_row, goes_on, outcome, GoesAllowed, stepped, step}
 use Rattle.fk_model.specs.Cut.{ports_of, cut_ptr, cut, IsPlain}

@@ -14,7 +14,8 @@ use Rattle.fk_model.specs.Holds.{is_free, is_unheld}
 use Rattle.fk_model.specs.Outcomes.{Said, Outcome, ◌>>=◌, refuse, when, Caller, path_of, ended}
 use Rattle.fk_model.specs.Outcomes.Outcome.{Refused, Waits, Goes}
 use Rattle.fk_model.specs.Readers.{object_in}
-use Rattle.fk_model.specs.LinkRows.{connecting_to, new_talk, Candidate, slot_in_set, is_open, is_parked, faulting, connecting, resuming, candidate_by, candidate, takes_candidate, portset_of, wait, user_at}
+use Rattle.fk_model.specs.LinkRows.{connecting_to, new_talk, Candidate, slot_in_set, is_open, is_parked, faulting, connecting, resuming, candidate_by}
+use Rattle.fk_model.specs.LinkRows.{candidate, takes_candidate, portset_of, wait, user_at}
 use Rattle.fk_model.specs.LinkRows.Candidate.{Faulting, Connecting, Resuming}
 use Rattle.fk_model.specs.Moves.{is_denied, with_pick, closed, call_row}
 use Rattle.laws_cut.proofs.cut.Plain.{AreQuiet}

@@ -4,7 +4,11 @@ use Rattle.std.proofs.lemmas.Bool.{and_parts}
 use Rattle.fk_model.specs.declared.moves.Ask.{Ask}
 use Rattle.fk_model.specs.declared.moves.Ask.TheVariants as asks
 use Rattle.fk_model.specs.declared.stage.Stage.{Stage}
-use Rattle.fk_model.specs.declared.stage.Stage.TheVariants.{Create, Destroy, Rename, Search, Point, Clear, Locate, CountIn, GetState, SetState, GetPtr, SetPtr, SpaceHold, SpaceRelease, ThreadStop, ThreadGo, PageGive, PageTake, PageRead, PageNext, MutexLock, MutexTrylock, MutexUnlock, CondWait, CondAsleep, CondSignal, CondBroadcast, Connect, ClientReceive, ClientSend, ClientOver, Disconnect, Wait, ServerReceive, ServerSend, ServerOver, ServerEnd, FaultDone, LinkSet, LinkPark, FaultSet, FaultPark, HoldSet, SpaceMakeHeld}
+use Rattle.fk_model.specs.declared.stage.Stage.TheVariants.{Create, Destroy, Rename, Search, Point, Clear, Locate, CountIn, GetState, SetState, GetPtr, SetPtr}
+use Rattle.fk_model.specs.declared.stage.Stage.TheVariants.{SpaceHold, SpaceRelease, ThreadStop, ThreadGo, PageGive, PageTake, PageRead, PageNext, MutexLock}
+use Rattle.fk_model.specs.declared.stage.Stage.TheVariants.{MutexTrylock, MutexUnlock, CondWait, CondAsleep, CondSignal, CondBroadcast, Connect, ClientReceive}
+use Rattle.fk_model.specs.declared.stage.Stage.TheVariants.{ClientSend, ClientOver, Disconnect, Wait, ServerReceive, ServerSend, ServerOver, ServerEnd}
+use Rattle.fk_model.specs.declared.stage.Stage.TheVariants.{FaultDone, LinkSet, LinkPark, FaultSet, FaultPark, HoldSet, SpaceMakeHeld}
 use Rattle.fk_model.specs.declared.statuses.status.TheConstants.{DENIED}
 use Rattle.fk_model.specs.declared.thread.Turn.TheVariants as turns
 use Rattle.fk_model.specs.Places.{Path, parent}
@@ -22,8 +26,12 @@ use Rattle.fk_model.specs.Moves.{stage_row, is_for_users, is_for_porters, allowe
 use Rattle.laws_frozen.specs.Users.{is_users}
 use Rattle.laws_frozen.specs.Once.{IsFaultless, TouchOnce, UsersTouchOnce}
 use Rattle.laws_frozen.proofs.once.Outcomes.{OnceOutcome, refused, waits, goes, once-when}
-use Rattle.laws_frozen.proofs.once.Rows.{run_row-once, mutex_lock-once, mutex_trylock-once, mutex_unlock-once, cond_wait-once, cond_asleep-once, cond_signal-once, cond_broadcast-once, send-once, receive-once, over-once, thread_stop-once, thread_go-once, page_give-once, page_take-once, page_read-once, page_next-once}
-use Rattle.laws_frozen.proofs.once.Objects.{create-once, destroy-once, rename-once, point-once, clear-once, search_row-once, locate-once, space_hold-once, space_release-once, get_state-once, set_state-once, get_ptr-once, set_ptr-once, wait-once, connect-once, disconnect-once, fault_done-once, accept_row-once, give_row-once, over_row-once}
+use Rattle.laws_frozen.proofs.once.Rows.{run_row-once, mutex_lock-once, mutex_trylock-once, mutex_unlock-once, cond_wait-once, cond_asleep-once}
+use Rattle.laws_frozen.proofs.once.Rows.{cond_signal-once, cond_broadcast-once, send-once, receive-once, over-once, thread_stop-once, thread_go-once}
+use Rattle.laws_frozen.proofs.once.Rows.{page_give-once, page_take-once, page_read-once, page_next-once}
+use Rattle.laws_frozen.proofs.once.Objects.{create-once, destroy-once, rename-once, point-once, clear-once, search_row-once, locate-once, space_hold-once}
+use Rattle.laws_frozen.proofs.once.Objects.{space_release-once, get_state-once, set_state-once, get_ptr-once, set_ptr-once, wait-once, connect-once}
+use Rattle.laws_frozen.proofs.once.Objects.{disconnect-once, fault_done-once, accept_row-once, give_row-once, over_row-once}
 
 -- ---- one stage of a user's call
 

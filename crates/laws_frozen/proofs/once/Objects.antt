@@ -21,9 +21,11 @@ use Rattle.fk_model.specs.SpaceRows.{space_hold, space_release}
 use Rattle.fk_model.specs.Records.{set_edits}
 use Rattle.fk_model.specs.StateRows.{shows, shows_to, get_state, sets_record, record_at, sets_from, set_state, get_ptr, set_ptr}
 use Rattle.fk_model.specs.ObjectRows.{new_object, create, ends_with, kills, destroys, destroy, rename, search as search_row, point, clear, locate}
-use Rattle.fk_model.specs.NativeRows.{takes_up, parked_here, connects_here, accepts_thread, accepts_found, takes_client, accept_row, is_serving_port, if_receiving, gives_words, gives_to, give_row, over_row, with_client, passes_client}
+use Rattle.fk_model.specs.NativeRows.{takes_up, parked_here, connects_here, accepts_thread, accepts_found, takes_client, accept_row, is_serving_port}
+use Rattle.fk_model.specs.NativeRows.{if_receiving, gives_words, gives_to, give_row, over_row, with_client, passes_client}
 use Rattle.laws_frozen.specs.Once.{is_bare, IsFaultless, TouchOnce}
-use Rattle.laws_frozen.proofs.once.Outcomes.{OnceOutcome, waits, goes, then-once, mild-end_all, once-when, once-if, once-done, once-done_at, once-ended, once-stays, once-telling, once_row, own_page-once, their_page-once}
+use Rattle.laws_frozen.proofs.once.Outcomes.{OnceOutcome, waits, goes, then-once, mild-end_all, once-when, once-if, once-done, once-done_at, once-ended}
+use Rattle.laws_frozen.proofs.once.Outcomes.{once-stays, once-telling, once_row, own_page-once, their_page-once}
 
 -- ---- objects
 

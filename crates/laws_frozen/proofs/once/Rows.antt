@@ -21,11 +21,15 @@ use Rattle.fk_model.specs.Outcomes.Said.{Nothing}
 use Rattle.fk_model.specs.Outcomes.Outcome.{Waits}
 use Rattle.fk_model.specs.Talks.{Line, thread_led_to}
 use Rattle.fk_model.specs.UserRows.{word_at, halts_with, loads, stores, enters, performs, executes, run_row, run_row_by}
-use Rattle.fk_model.specs.SyncRows.{mutex_lock, mutex_trylock, mutex_unlock, cond_wait, cond_asleep, woken, asleep_on, sleepers, signals, unless_slept_on, picks_sleeper, cond_signal, cond_broadcast}
-use Rattle.fk_model.specs.TransferRows.{overwritten, block, moved_words, has_sent, sends_words, sends_into, sends_to_thread, sends_to, sends, send, awaits, receive, passes_to_thread, passes_to, over}
-use Rattle.fk_model.specs.SpaceRows.{thread_stop, thread_go, gives_page, gives_from, page_give, copies, copies_home, answers_home, copies_to, page_take, page_read, page_next}
+use Rattle.fk_model.specs.SyncRows.{mutex_lock, mutex_trylock, mutex_unlock, cond_wait, cond_asleep, woken, asleep_on, sleepers, signals, unless_slept_on}
+use Rattle.fk_model.specs.SyncRows.{picks_sleeper, cond_signal, cond_broadcast}
+use Rattle.fk_model.specs.TransferRows.{overwritten, block, moved_words, has_sent, sends_words, sends_into, sends_to_thread, sends_to, sends, send, awaits}
+use Rattle.fk_model.specs.TransferRows.{receive, passes_to_thread, passes_to, over}
+use Rattle.fk_model.specs.SpaceRows.{thread_stop, thread_go, gives_page, gives_from, page_give, copies, copies_home, answers_home, copies_to, page_take}
+use Rattle.fk_model.specs.SpaceRows.{page_read, page_next}
 use Rattle.laws_frozen.specs.Once.{AreMild, IsFaultless}
-use Rattle.laws_frozen.proofs.once.Outcomes.{OnceOutcome, waits, goes, mild-then, mild-once, once-when, once-if, once-done, once-telling, once_row, accessed-once, own_page-once, their_page-once}
+use Rattle.laws_frozen.proofs.once.Outcomes.{OnceOutcome, waits, goes, mild-then, mild-once, once-when, once-if, once-done, once-telling, once_row}
+use Rattle.laws_frozen.proofs.once.Outcomes.{accessed-once, own_page-once, their_page-once}
 
 -- ---- instructions
 

@@ -1,5 +1,6 @@
 -- A move of a stranger isn't seen.
-use Rattle.std.proofs.Common.{◌≡◌, inr, ℕ, Bool, true, false, if◌then◌else◌, is_some, List, [], ◌∷◌, Option, Some, None, option_map, Result, Ok, Err, refl, append-nil}
+use Rattle.std.proofs.Common.{◌≡◌, inr, ℕ, Bool, true, false, if◌then◌else◌, is_some, List, [], ◌∷◌, Option, Some, None, option_map, Result, Ok, Err, refl}
+use Rattle.std.proofs.Common.{append-nil}
 use Rattle.fk_model.specs.declared.moves.Ask.{Ask}
 use Rattle.fk_model.specs.declared.moves.Ask.TheVariants as asks
 use Rattle.fk_model.specs.declared.names.Kind.TheVariants as kinds
@@ -21,7 +22,8 @@ use Rattle.fk_model.specs.Cut.{cut, IsPlain}
 use Rattle.fk_model.specs.Further.{Touch}
 use Rattle.fk_model.specs.Further.Touch.{Handed, Left, FaultDone, PageTaken}
 use Rattle.fk_model.specs.Further.Onward.{ByOthers}
-use Rattle.fk_model.specs.Seen.{accepted, outcome_said, page_put, drops_page, passes_turn, ends_talk, serves_outside, given_of, on_inner, taken_as, page_given, on_place, stage_touch, caller_stage, outer_touch, IsSeen, IsStranger}
+use Rattle.fk_model.specs.Seen.{accepted, outcome_said, page_put, drops_page, passes_turn, ends_talk, serves_outside, given_of, on_inner, taken_as, page_given}
+use Rattle.fk_model.specs.Seen.{on_place, stage_touch, caller_stage, outer_touch, IsSeen, IsStranger}
 use Rattle.fk_model.specs.Seen.Seen.{Unseen}
 use Rattle.laws_machine.proofs.safety.Outcomes.{SafeOutcome}
 use Rattle.laws_machine.proofs.safety.Moves.{outcome-safe}

@@ -18,7 +18,8 @@ use Rattle.fk_model.specs.Outcomes.Outcome.{Refused, Waits, Goes}
 use Rattle.fk_model.specs.Outcomes.Said.{Taken, Given}
 use Rattle.fk_model.specs.Talks.{receiving, same_side}
 use Rattle.fk_model.specs.LinkRows.{new_talk}
-use Rattle.fk_model.specs.NativeRows.{is_serving_port, connects_here, parked_here, takes_up, accepts_thread, accepts_found, takes_client, accept_row, if_receiving, with_client, gives_words, gives_to, has_turn, give_row, passes_client, over_row}
+use Rattle.fk_model.specs.NativeRows.{is_serving_port, connects_here, parked_here, takes_up, accepts_thread, accepts_found, takes_client, accept_row}
+use Rattle.fk_model.specs.NativeRows.{if_receiving, with_client, gives_words, gives_to, has_turn, give_row, passes_client, over_row}
 use Rattle.fk_model.specs.Moves.{outcome, with_pick}
 use Rattle.fk_model.specs.Valid.{IsConsistent}
 use Rattle.fk_model.specs.Cut.{IsPlain}

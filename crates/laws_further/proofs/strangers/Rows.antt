@@ -9,7 +9,11 @@ use Rattle.fk_model.specs.declared.names.Kind.TheVariants as kinds
 use Rattle.fk_model.specs.declared.moves.Ask.{Ask}
 use Rattle.fk_model.specs.declared.moves.Ask.TheVariants as asks
 use Rattle.fk_model.specs.declared.stage.Stage.{Stage}
-use Rattle.fk_model.specs.declared.stage.Stage.TheVariants.{Create, Destroy, Rename, Search, Point, Clear, Locate, CountIn, GetState, SetState, GetPtr, SetPtr, SpaceHold, SpaceRelease, ThreadStop, ThreadGo, PageGive, PageTake, PageRead, PageNext, MutexLock, MutexTrylock, MutexUnlock, CondWait, CondAsleep, CondSignal, CondBroadcast, Connect, ClientReceive, ClientSend, ClientOver, Disconnect, Wait, ServerReceive, ServerSend, ServerOver, ServerEnd, FaultDone, LinkSet, LinkPark, FaultSet, FaultPark, HoldSet, SpaceMakeHeld}
+use Rattle.fk_model.specs.declared.stage.Stage.TheVariants.{Create, Destroy, Rename, Search, Point, Clear, Locate, CountIn, GetState, SetState, GetPtr, SetPtr}
+use Rattle.fk_model.specs.declared.stage.Stage.TheVariants.{SpaceHold, SpaceRelease, ThreadStop, ThreadGo, PageGive, PageTake, PageRead, PageNext, MutexLock}
+use Rattle.fk_model.specs.declared.stage.Stage.TheVariants.{MutexTrylock, MutexUnlock, CondWait, CondAsleep, CondSignal, CondBroadcast, Connect, ClientReceive}
+use Rattle.fk_model.specs.declared.stage.Stage.TheVariants.{ClientSend, ClientOver, Disconnect, Wait, ServerReceive, ServerSend, ServerOver, ServerEnd}
+use Rattle.fk_model.specs.declared.stage.Stage.TheVariants.{FaultDone, LinkSet, LinkPark, FaultSet, FaultPark, HoldSet, SpaceMakeHeld}
 use Rattle.fk_model.specs.declared.statuses.status.TheConstants.{DENIED, NOTLINKED, WRONGTURN}
 use Rattle.fk_model.specs.declared.thread.Turn.{Turn}
 use Rattle.fk_model.specs.declared.thread.Turn.TheVariants as turns
@@ -35,12 +39,16 @@ use Rattle.fk_model.specs.Holds.{is_free, is_unheld, is_porter}
 use Rattle.fk_model.specs.Moves.{stage_row, is_denied, allowed_row, chooses, with_pick, closed, call_row, goes_on, user_move, porter_at, porter_move, outcome}
 use Rattle.fk_model.specs.Talks.{Line, line, thread_led_to, ends_beyond, same_side, other_side, receiving, is_service_free}
 use Rattle.fk_model.specs.UserRows.{word_at, halts_with, loads, stores, enters, performs, executes, run_row, run_row_by}
-use Rattle.fk_model.specs.SyncRows.{mutex_lock, mutex_trylock, mutex_unlock, cond_wait, cond_asleep, woken, asleep_on, sleepers, signals, unless_slept_on, picks_sleeper, cond_signal, cond_broadcast}
-use Rattle.fk_model.specs.TransferRows.{overwritten, block, moved_words, at_turn, in_turn, has_sent, sends_words, sends_into, sends_to_thread, sends_to_service, sends_to, sends, send, awaits, receive, passes, passes_to_thread, passes_to, over}
-use Rattle.fk_model.specs.LinkRows.{user_at, Candidate, candidate, takes_candidate, takes_picked, wait, connect, end_all, removes, disconnect, given_talk, link_set, link_park}
+use Rattle.fk_model.specs.SyncRows.{mutex_lock, mutex_trylock, mutex_unlock, cond_wait, cond_asleep, woken, asleep_on, sleepers, signals, unless_slept_on}
+use Rattle.fk_model.specs.SyncRows.{picks_sleeper, cond_signal, cond_broadcast}
+use Rattle.fk_model.specs.TransferRows.{overwritten, block, moved_words, at_turn, in_turn, has_sent, sends_words, sends_into, sends_to_thread, sends_to_service}
+use Rattle.fk_model.specs.TransferRows.{sends_to, sends, send, awaits, receive, passes, passes_to_thread, passes_to, over}
+use Rattle.fk_model.specs.LinkRows.{user_at, Candidate, candidate, takes_candidate, takes_picked, wait, connect, end_all, removes, disconnect, given_talk}
+use Rattle.fk_model.specs.LinkRows.{link_set, link_park}
 use Rattle.fk_model.specs.LinkRows.Candidate.{Faulting, Connecting, Resuming}
 use Rattle.fk_model.specs.FaultRows.{frees, fault_done, given_fault, named_taker, fault_set, fault_park}
-use Rattle.fk_model.specs.SpaceRows.{thread_by_handle, space_hold, space_release, thread_stop, thread_go, gives_page, gives_from, page_give, copies, copies_home, answers_home, copies_to, page_take, page_read, page_next, hold_set, space_make_held}
+use Rattle.fk_model.specs.SpaceRows.{thread_by_handle, space_hold, space_release, thread_stop, thread_go, gives_page, gives_from, page_give, copies}
+use Rattle.fk_model.specs.SpaceRows.{copies_home, answers_home, copies_to, page_take, page_read, page_next, hold_set, space_make_held}
 use Rattle.fk_model.specs.Records.{set_edits}
 use Rattle.fk_model.specs.StateRows.{shows, shows_to, get_state, sets_record, record_at, sets_from, set_state, get_ptr, set_ptr}
 use Rattle.fk_model.specs.ObjectRows.{new_object, create, kills, destroys, destroy, renamed, rename, search as search_row, point, clear, locate, count_in}

@@ -1,5 +1,6 @@
 -- Whom a stranger meets in talks and faults: everybody is outside.
-use Rattle.std.proofs.Common.{◌≡◌, ◌⊎◌, inl, inr, ℕ, Bool, true, false, if◌then◌else◌, ◌&&◌, ◌||◌, is_some, List, [], ◌∷◌, ◌++◌, Option, Some, None, option_map, Result, Ok, Err, refl, ap, ◌∙◌, append-nil}
+use Rattle.std.proofs.Common.{◌≡◌, ◌⊎◌, inl, inr, ℕ, Bool, true, false, if◌then◌else◌, ◌&&◌, ◌||◌, is_some, List, [], ◌∷◌, ◌++◌, Option, Some, None, option_map}
+use Rattle.std.proofs.Common.{Result, Ok, Err, refl, ap, ◌∙◌, append-nil}
 use Rattle.std.specs.List.{list_any, flat_map}
 use Rattle.std.proofs.lemmas.Bool.{and_parts}
 use Rattle.std.proofs.lemmas.List.Folds.{list_any-append}
@@ -16,10 +17,12 @@ use Rattle.fk_model.specs.Objects.{Peer, Talk, Fault, Thread, Body, same_kind, t
 use Rattle.fk_model.specs.Objects.Peer.{Server, Service, Parked}
 use Rattle.fk_model.specs.Objects.Body.{Mutex, Cond, Mapping, Region, Port, Portset, Space, Thread_of, Reference}
 use Rattle.fk_model.specs.World.{World, serves}
-use Rattle.fk_model.specs.Searches.{objects, thread_at, talk_at, client_of, faulter_of, clients_at, client_at, is_service, pointers, option_list, talk_pointers, fault_pointers, peer_pointer}
+use Rattle.fk_model.specs.Searches.{objects, thread_at, talk_at, client_of, faulter_of, clients_at, client_at, is_service, pointers, option_list, talk_pointers}
+use Rattle.fk_model.specs.Searches.{fault_pointers, peer_pointer}
 use Rattle.fk_model.specs.Talks.{Line, line, line_from, thread_led_to, talking_end, served_end, ends_beyond, if_talking, is_talking, first_stage}
 use Rattle.fk_model.specs.ObjectRows.{ends_in, ends_on, ends_of_client, ends_with}
-use Rattle.fk_model.specs.LinkRows.{Candidate, user_at, if_read, port_named, connecting_to, slot_in_set, is_member, is_open, is_parked, faulting, connecting, resuming, candidate_by, candidate}
+use Rattle.fk_model.specs.LinkRows.{Candidate, user_at, if_read, port_named, connecting_to, slot_in_set, is_member, is_open, is_parked, faulting, connecting}
+use Rattle.fk_model.specs.LinkRows.{resuming, candidate_by, candidate}
 use Rattle.fk_model.specs.LinkRows.Candidate.{Faulting, Connecting, Resuming}
 use Rattle.fk_model.specs.NativeRows.{connects_here, parked_here}
 use Rattle.fk_model.specs.Holds.{is_free, is_unheld}

@@ -1,5 +1,6 @@
 -- What the outside is told is exact.
-use Rattle.std.proofs.Common.{◌≡◌, ◌⊎◌, inl, inr, ℕ, Bool, true, false, if◌then◌else◌, ◌&&◌, is_none, List, [], ◌∷◌, ◌++◌, Option, Some, None, option_map, refl, sym, ap, subst, ◌∙◌, append-nil}
+use Rattle.std.proofs.Common.{◌≡◌, ◌⊎◌, inl, inr, ℕ, Bool, true, false, if◌then◌else◌, ◌&&◌, is_none, List, [], ◌∷◌, ◌++◌, Option, Some, None, option_map, refl}
+use Rattle.std.proofs.Common.{sym, ap, subst, ◌∙◌, append-nil}
 use Rattle.std.specs.List.{flat_map}
 use Rattle.std.proofs.lemmas.Bool.{and_parts}
 use Rattle.fk_model.specs.Places.{Path, Ptr}
@@ -21,7 +22,8 @@ use Rattle.fk_model.specs.Further.Told.{ToldWords, ToldOver, ToldEnd, ToldFault}
 use Rattle.fk_model.specs.Seen.{outcome_said}
 use Rattle.laws_cut.specs.Likeness.{seeing, IsCutWorld}
 use Rattle.laws_frozen.specs.Once.{is_mild, AreMild, MakesAnew, EitherOf, TouchOnce}
-use Rattle.laws_further.specs.Told.{IsTold, IsTalkLost, IsFaultRaised, renames, EndsAreTold, FaultsAreTold, RenamesTellNoEnds, WordsAreTold, OversAreTold, TouchesTellNothing}
+use Rattle.laws_further.specs.Told.{IsTold, IsTalkLost, IsFaultRaised, renames, EndsAreTold, FaultsAreTold, RenamesTellNoEnds, WordsAreTold, OversAreTold}
+use Rattle.laws_further.specs.Told.{TouchesTellNothing}
 use Rattle.laws_further.proofs.told.Own.{own-once}
 use Rattle.laws_further.proofs.told.Exact.{EndCase, FaultCase, HasOuterPeers, told-either, told-first, all-told, mild-told, ends_case, faults_case}
 use Rattle.laws_further.proofs.told.Exact.EndCase.{Kept, Lost}

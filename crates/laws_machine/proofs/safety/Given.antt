@@ -23,8 +23,10 @@ use Rattle.fk_model.specs.Holds.{is_free}
 use Rattle.fk_model.specs.Talks.{receiving, same_side}
 use Rattle.fk_model.specs.LinkRows.{is_parked, new_talk, given_talk, link_set, link_park}
 use Rattle.fk_model.specs.FaultRows.{frees, fault_done, given_fault, named_taker, fault_set, fault_park}
-use Rattle.fk_model.specs.NativeRows.{is_serving_port, connects_here, parked_here, takes_up, accepts_thread, accepts_found, takes_client, accept_row, if_receiving, with_client, gives_words, gives_to, give_row, passes_client, over_row}
-use Rattle.fk_model.specs.Valid.{kind_there, leads_there, are_talk_words, are_fault_words, is_idle_near, is_idle_peer, is_fit_stage, is_near, is_idle, lies_with, services}
+use Rattle.fk_model.specs.NativeRows.{is_serving_port, connects_here, parked_here, takes_up, accepts_thread, accepts_found, takes_client, accept_row}
+use Rattle.fk_model.specs.NativeRows.{if_receiving, with_client, gives_words, gives_to, give_row, passes_client, over_row}
+use Rattle.fk_model.specs.Valid.{kind_there, leads_there, are_talk_words, are_fault_words, is_idle_near, is_idle_peer, is_fit_stage, is_near, is_idle}
+use Rattle.fk_model.specs.Valid.{lies_with, services}
 use Rattle.fk_model.proofs.walks.PlaceLaws.{same_path_eq, leads_to_at}
 use Rattle.laws_machine.proofs.safety.Safe.{IsSafeServer, IsSafeService, IsSafePeer, IsSafeTaker, IsSafeTalk}
 use Rattle.laws_machine.proofs.safety.Outcomes.{SafeOutcome, waits, goes, safe-when, safe-done, safe_row}

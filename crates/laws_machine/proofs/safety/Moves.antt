@@ -3,7 +3,11 @@ use Rattle.std.proofs.Common.{◌≡◌, ℕ, Bool, true, false, if◌then◌els
 use Rattle.fk_model.specs.declared.moves.Ask.{Ask}
 use Rattle.fk_model.specs.declared.moves.Ask.TheVariants as asks
 use Rattle.fk_model.specs.declared.stage.Stage.{Stage}
-use Rattle.fk_model.specs.declared.stage.Stage.TheVariants.{Create, Destroy, Rename, Search, Point, Clear, Locate, CountIn, GetState, SetState, GetPtr, SetPtr, SpaceHold, SpaceRelease, ThreadStop, ThreadGo, PageGive, PageTake, PageRead, PageNext, MutexLock, MutexTrylock, MutexUnlock, CondWait, CondAsleep, CondSignal, CondBroadcast, Connect, ClientReceive, ClientSend, ClientOver, Disconnect, Wait, ServerReceive, ServerSend, ServerOver, ServerEnd, FaultDone, LinkSet, LinkPark, FaultSet, FaultPark, HoldSet, SpaceMakeHeld}
+use Rattle.fk_model.specs.declared.stage.Stage.TheVariants.{Create, Destroy, Rename, Search, Point, Clear, Locate, CountIn, GetState, SetState, GetPtr, SetPtr}
+use Rattle.fk_model.specs.declared.stage.Stage.TheVariants.{SpaceHold, SpaceRelease, ThreadStop, ThreadGo, PageGive, PageTake, PageRead, PageNext, MutexLock}
+use Rattle.fk_model.specs.declared.stage.Stage.TheVariants.{MutexTrylock, MutexUnlock, CondWait, CondAsleep, CondSignal, CondBroadcast, Connect, ClientReceive}
+use Rattle.fk_model.specs.declared.stage.Stage.TheVariants.{ClientSend, ClientOver, Disconnect, Wait, ServerReceive, ServerSend, ServerOver, ServerEnd}
+use Rattle.fk_model.specs.declared.stage.Stage.TheVariants.{FaultDone, LinkSet, LinkPark, FaultSet, FaultPark, HoldSet, SpaceMakeHeld}
 use Rattle.fk_model.specs.declared.statuses.status.TheConstants.{DENIED}
 use Rattle.fk_model.specs.declared.thread.Turn.TheVariants as turns
 use Rattle.fk_model.specs.Places.{Path}
@@ -15,15 +19,20 @@ use Rattle.fk_model.specs.Outcomes.{Outcome, Caller, path_of}
 use Rattle.fk_model.specs.Outcomes.Outcome.{Refused, Waits, Goes}
 use Rattle.fk_model.specs.LinkRows.{user_at}
 use Rattle.fk_model.specs.Holds.{is_free, is_unheld, is_porter}
-use Rattle.fk_model.specs.Moves.{stage_row, is_for_porters, is_denied, allowed_row, chooses, with_pick, closed, call_row, goes_on, user_move, porter_at, porter_move, outcome}
+use Rattle.fk_model.specs.Moves.{stage_row, is_for_porters, is_denied, allowed_row, chooses, with_pick, closed, call_row, goes_on, user_move, porter_at}
+use Rattle.fk_model.specs.Moves.{porter_move, outcome}
 use Rattle.fk_model.specs.Valid.{IsConsistent, is_fit_stage, is_fit, IsRooted}
 use Rattle.laws_machine.proofs.safety.Outcomes.{SafeOutcome, refused, waits, goes, safe-when}
 use Rattle.laws_machine.proofs.safety.Reads.{Facts, IsCaller, kind-there, body-thread_of}
-use Rattle.laws_machine.proofs.safety.Rows.{run_row-safe, mutex_lock-safe, mutex_trylock-safe, mutex_unlock-safe, cond_wait-safe, cond_asleep-safe, cond_signal-safe, cond_broadcast-safe, send-safe, receive-safe, over-safe, thread_stop-safe, thread_go-safe, page_give-safe, page_take-safe, page_read-safe, page_next-safe}
-use Rattle.laws_machine.proofs.safety.Objects.{create-safe, destroy-safe, rename-safe, point-safe, clear-safe, search_row-safe, locate-safe, count_in-safe, space_hold-safe, space_release-safe, hold_set-safe, space_make_held-safe}
+use Rattle.laws_machine.proofs.safety.Rows.{run_row-safe, mutex_lock-safe, mutex_trylock-safe, mutex_unlock-safe, cond_wait-safe, cond_asleep-safe}
+use Rattle.laws_machine.proofs.safety.Rows.{cond_signal-safe, cond_broadcast-safe, send-safe, receive-safe, over-safe, thread_stop-safe, thread_go-safe}
+use Rattle.laws_machine.proofs.safety.Rows.{page_give-safe, page_take-safe, page_read-safe, page_next-safe}
+use Rattle.laws_machine.proofs.safety.Objects.{create-safe, destroy-safe, rename-safe, point-safe, clear-safe, search_row-safe, locate-safe, count_in-safe}
+use Rattle.laws_machine.proofs.safety.Objects.{space_hold-safe, space_release-safe, hold_set-safe, space_make_held-safe}
 use Rattle.laws_machine.proofs.safety.State.{get_state-safe, set_state-safe, get_ptr-safe, set_ptr-safe}
 use Rattle.laws_machine.proofs.safety.Talks.{wait-safe, connect-safe, disconnect-safe}
-use Rattle.laws_machine.proofs.safety.Given.{link_set-safe, link_park-safe, fault_done-safe, fault_set-safe, fault_park-safe, accept_row-safe, give_row-safe, over_row-safe}
+use Rattle.laws_machine.proofs.safety.Given.{link_set-safe, link_park-safe, fault_done-safe, fault_set-safe, fault_park-safe, accept_row-safe, give_row-safe}
+use Rattle.laws_machine.proofs.safety.Given.{over_row-safe}
 
 -- ---- one stage
 

@@ -16,7 +16,8 @@ use Rattle.fk_model.specs.Outcomes.{Caller, path_of, done, done_at, stays}
 use Rattle.fk_model.specs.Readers.{slot_for, object_in, anything, space_argument, referred}
 use Rattle.fk_model.specs.SpaceRows.{space_hold, space_release, hold_set, space_make_held}
 use Rattle.fk_model.specs.StateRows.{referable}
-use Rattle.fk_model.specs.ObjectRows.{new_object, create, kills, destroys, destroy, rename, search as search_row, pointer_to, pointer_in, point, clear, locate, count_in}
+use Rattle.fk_model.specs.ObjectRows.{new_object, create, kills, destroys, destroy, rename, search as search_row, pointer_to, pointer_in, point, clear, locate}
+use Rattle.fk_model.specs.ObjectRows.{count_in}
 use Rattle.fk_model.specs.Valid.{IsConsistent, kind_there, leads_there, may_lead, all_in, is_good}
 use Rattle.laws_machine.proofs.safety.Safe.{IfAny, takes_pointer, IsVacant, is_plain, IsAlone, IsSafe, AreSafe}
 use Rattle.laws_machine.proofs.safety.Outcomes.{SafeOutcome, safe-end_all, safe-done, safe-done_at, safe-stays, safe-telling, safe_row}

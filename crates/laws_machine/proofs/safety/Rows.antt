@@ -1,5 +1,6 @@
 -- The rows whose changes no world forbids: instructions, mutexes and conditions, messages, pages, and what only reads.
-use Rattle.std.proofs.Common.{ℕ, ◌%◌, Bool, true, false, if◌then◌else◌, ◌==◌, ◌<◌, ◌≡◌, not, ◌||◌, is_some, List, [], ◌∷◌, ◌++◌, replicate, Option, Some, None, refl}
+use Rattle.std.proofs.Common.{ℕ, ◌%◌, Bool, true, false, if◌then◌else◌, ◌==◌, ◌<◌, ◌≡◌, not, ◌||◌, is_some, List, [], ◌∷◌, ◌++◌, replicate, Option, Some, None}
+use Rattle.std.proofs.Common.{refl}
 use Rattle.std.specs.List.{flat_map}
 use Rattle.std.proofs.lemmas.Bool.{ltb-true}
 use Rattle.fk_model.specs.declared.instruction.Act.{Act}
@@ -25,9 +26,12 @@ use Rattle.fk_model.specs.Holds.{is_frozen_for}
 use Rattle.fk_model.specs.Readers.{space_argument, own_page, their_page}
 use Rattle.fk_model.specs.Talks.{Line, thread_led_to}
 use Rattle.fk_model.specs.UserRows.{word_at, halts_with, loads, stores, enters, performs, executes, run_row, run_row_by}
-use Rattle.fk_model.specs.SyncRows.{mutex_lock, mutex_trylock, mutex_unlock, cond_wait, cond_asleep, woken, asleep_on, sleepers, signals, unless_slept_on, picks_sleeper, cond_signal, cond_broadcast}
-use Rattle.fk_model.specs.TransferRows.{moved_words, has_sent, sends_words, sends_into, sends_to_thread, sends_to, sends, send, awaits, receive, passes_to_thread, passes_to, over, overwritten, block}
-use Rattle.fk_model.specs.SpaceRows.{thread_stop, thread_go, gives_page, gives_from, page_give, copies, copies_home, answers_home, copies_to, page_take, page_read, page_next, is_page, is_bad_source}
+use Rattle.fk_model.specs.SyncRows.{mutex_lock, mutex_trylock, mutex_unlock, cond_wait, cond_asleep, woken, asleep_on, sleepers, signals, unless_slept_on}
+use Rattle.fk_model.specs.SyncRows.{picks_sleeper, cond_signal, cond_broadcast}
+use Rattle.fk_model.specs.TransferRows.{moved_words, has_sent, sends_words, sends_into, sends_to_thread, sends_to, sends, send, awaits, receive}
+use Rattle.fk_model.specs.TransferRows.{passes_to_thread, passes_to, over, overwritten, block}
+use Rattle.fk_model.specs.SpaceRows.{thread_stop, thread_go, gives_page, gives_from, page_give, copies, copies_home, answers_home, copies_to, page_take}
+use Rattle.fk_model.specs.SpaceRows.{page_read, page_next, is_page, is_bad_source}
 use Rattle.fk_model.specs.Valid.{HasPlace}
 use Rattle.laws_machine.proofs.safety.Safe.{AreSafe}
 use Rattle.laws_machine.proofs.safety.Outcomes.{SafeOutcome, waits, goes, safe-then, safe-when, safe-done, safe-telling, safe_row, safe->>=, safe-refuse}

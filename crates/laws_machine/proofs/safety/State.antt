@@ -1,5 +1,6 @@
 -- The rows of state and of pointers are safe: what a record sets is in range, and a field takes what it may hold.
-use Rattle.std.proofs.Common.{◌≡◌, ℕ, ◌-◌, Bool, true, false, if◌then◌else◌, not, ◌&&◌, ◌||◌, ◌==◌, leb, List, [], ◌∷◌, map, Option, Some, None, option_map, is_some, Ok, refl}
+use Rattle.std.proofs.Common.{◌≡◌, ℕ, ◌-◌, Bool, true, false, if◌then◌else◌, not, ◌&&◌, ◌||◌, ◌==◌, leb, List, [], ◌∷◌, map, Option, Some, None, option_map}
+use Rattle.std.proofs.Common.{is_some, Ok, refl}
 use Rattle.std.proofs.lemmas.Bool.{and_parts, and_from, not-false}
 use Rattle.fk_model.specs.declared.limits.TheConstants.{SLOTS}
 use Rattle.fk_model.specs.declared.names.Kind.{Kind}
@@ -17,9 +18,11 @@ use Rattle.fk_model.specs.Outcomes.{Outcome, Caller, done}
 use Rattle.fk_model.specs.Readers.{object_in, anything, kind_at, own_page}
 use Rattle.fk_model.specs.Reach.{words_at}
 use Rattle.fk_model.specs.Records.{record_of, is_page_range, is_flag, is_member_word, member_by, set_edits, is_state, takes_state, word}
-use Rattle.fk_model.specs.StateRows.{shows, shows_to, get_state, sets_record, record_at, sets_from, set_state, Field, peer_field, or_null, thread_field, field_of, first_field, field_number, field_pointer, get_ptr, referable, held_kinds, is_of_kinds, set_ptr}
+use Rattle.fk_model.specs.StateRows.{shows, shows_to, get_state, sets_record, record_at, sets_from, set_state, Field, peer_field, or_null, thread_field}
+use Rattle.fk_model.specs.StateRows.{field_of, first_field, field_number, field_pointer, get_ptr, referable, held_kinds, is_of_kinds, set_ptr}
 use Rattle.fk_model.specs.StateRows.Field.{Pointer}
-use Rattle.fk_model.specs.Valid.{IsConsistent, kind_there, is_one_of, leads_there, may_lead, all_in, is_good, is_good_set, is_good_talk, is_good_fault, is_good_peer}
+use Rattle.fk_model.specs.Valid.{IsConsistent, kind_there, is_one_of, leads_there, may_lead, all_in, is_good, is_good_set, is_good_talk, is_good_fault}
+use Rattle.fk_model.specs.Valid.{is_good_peer}
 use Rattle.laws_machine.proofs.safety.Safe.{takes_pointer, AreSafe}
 use Rattle.laws_machine.proofs.safety.Outcomes.{SafeOutcome, safe-done, safe_row}
 use Rattle.laws_machine.proofs.safety.Reads.{object_in-found, leads-among, may-among, Facts}

@@ -14,7 +14,8 @@ use Rattle.fk_model.specs.World.Edit.{SetTalk, SetPeer, SetTaker, Finish}
 use Rattle.fk_model.specs.Searches.{talk_at, fault_at, is_serving}
 use Rattle.fk_model.specs.Outcomes.{Caller, path_of}
 use Rattle.fk_model.specs.Talks.{Line, ends_beyond}
-use Rattle.fk_model.specs.LinkRows.{connect, new_talk, connecting_to, Candidate, is_member, slot_in_set, is_parked, is_open, faulting, connecting, resuming, candidate_by, candidate, takes_candidate, takes_picked, wait, end_all, removes, disconnect}
+use Rattle.fk_model.specs.LinkRows.{connect, new_talk, connecting_to, Candidate, is_member, slot_in_set, is_parked, is_open, faulting, connecting, resuming}
+use Rattle.fk_model.specs.LinkRows.{candidate_by, candidate, takes_candidate, takes_picked, wait, end_all, removes, disconnect}
 use Rattle.fk_model.specs.LinkRows.Candidate.{Faulting, Connecting, Resuming}
 use Rattle.fk_model.specs.Valid.{kind_there, services, lies_with, IsRooted}
 use Rattle.fk_model.proofs.walks.PlaceLaws.{same_path_eq}

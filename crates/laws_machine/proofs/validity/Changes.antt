@@ -1,5 +1,6 @@
 -- Safe changes keep a world valid: consistent, rooted, and its pages in their places.
-use Rattle.std.proofs.Common.{◌≡◌, ℕ, ◌<◌, eqb, Bool, true, false, ◌&&◌, if◌then◌else◌, IsSome, List, [], ◌∷◌, Option, Some, None, option_map, refl, sym, ap, ◌∙◌}
+use Rattle.std.proofs.Common.{◌≡◌, ℕ, ◌<◌, eqb, Bool, true, false, ◌&&◌, if◌then◌else◌, IsSome, List, [], ◌∷◌, Option, Some, None, option_map, refl, sym, ap}
+use Rattle.std.proofs.Common.{◌∙◌}
 use Rattle.std.proofs.lemmas.Bool.{eqb-true}
 use Rattle.fk_model.specs.declared.limits.TheConstants.{SLOTS, PAGES}
 use Rattle.fk_model.specs.declared.names.Kind.TheVariants as kinds

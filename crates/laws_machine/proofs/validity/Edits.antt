@@ -9,8 +9,10 @@ use Rattle.fk_model.specs.Objects.{Mode, Peer, Talk, Fault, Thread, Body, thread
 use Rattle.fk_model.specs.Objects.Mode.{Calling}
 use Rattle.fk_model.specs.Objects.Peer.{Server, Service, Parked}
 use Rattle.fk_model.specs.Objects.Body.{Mutex, Mapping, Region, Port, Space, Thread_of, Reference}
-use Rattle.fk_model.specs.World.{World, Edit, apply, at_path, edited, on_thread, on_talk, on_fault, at_mode, shifted_in, replaced_in, with_pointer, with_locked, with_window, with_extent, with_member, with_holder, finished_in, ended_in}
-use Rattle.fk_model.specs.World.Edit.{SetLocked, SetWindow, SetExtent, SetMember, SetPointer, SetHolder, Proceed, Shift, Finish, End, Replace, SetStops, SetTalk, CountMoved, PassTurn, SetPeer, SetFault, SetTaker}
+use Rattle.fk_model.specs.World.{World, Edit, apply, at_path, edited, on_thread, on_talk, on_fault, at_mode, shifted_in, replaced_in, with_pointer, with_locked}
+use Rattle.fk_model.specs.World.{with_window, with_extent, with_member, with_holder, finished_in, ended_in}
+use Rattle.fk_model.specs.World.Edit.{SetLocked, SetWindow, SetExtent, SetMember, SetPointer, SetHolder, Proceed, Shift, Finish, End, Replace, SetStops}
+use Rattle.fk_model.specs.World.Edit.{SetTalk, CountMoved, PassTurn, SetPeer, SetFault, SetTaker}
 use Rattle.fk_model.specs.World.Change.{Alter}
 use Rattle.fk_model.specs.Searches.{talk_at, fault_at}
 use Rattle.fk_model.specs.Records.{is_page_range}

@@ -1,5 +1,6 @@
 -- A new object in an empty slot of a space keeps a world valid.
-use Rattle.std.proofs.Common.{◌≡◌, ℕ, ◌+◌, ◌<◌, Bool, true, false, if◌then◌else◌, IsSome, is_none, List, [], ◌∷◌, Option, Some, None, option_map, refl, sym, ap, subst, arith, ne_eqb, ◌∙◌}
+use Rattle.std.proofs.Common.{◌≡◌, ℕ, ◌+◌, ◌<◌, Bool, true, false, if◌then◌else◌, IsSome, is_none, List, [], ◌∷◌, Option, Some, None, option_map, refl, sym, ap}
+use Rattle.std.proofs.Common.{subst, arith, ne_eqb, ◌∙◌}
 use Rattle.std.proofs.lemmas.Bool.{and_parts, and_from}
 use Rattle.fk_model.specs.declared.names.Kind.{Kind}
 use Rattle.fk_model.specs.declared.names.Kind.TheVariants as kinds
@@ -11,7 +12,8 @@ use Rattle.fk_model.specs.Objects.Body.{Mutex, Cond, Mapping, Region, Port, Port
 use Rattle.fk_model.specs.World.{World, apply, set_at, birth_after}
 use Rattle.fk_model.specs.World.Change.{Make, MakeSpace}
 use Rattle.fk_model.specs.StateRows.{referable}
-use Rattle.fk_model.specs.Valid.{IsConsistent, kind_there, is_one_of, leads_there, may_lead, all_in, is_good, is_good_peer, is_good_talk, is_good_fault, is_good_set, birth_of, birth_at, is_served_port}
+use Rattle.fk_model.specs.Valid.{IsConsistent, kind_there, is_one_of, leads_there, may_lead, all_in, is_good, is_good_peer, is_good_talk, is_good_fault}
+use Rattle.fk_model.specs.Valid.{is_good_set, birth_of, birth_at, is_served_port}
 use Rattle.fk_model.proofs.walks.PlaceLaws.{same_path_eq, same_path_above}
 use Rattle.laws_machine.proofs.validity.Ties.{tie_of, claim_of, body_tie, body_claim, tie_at, claim_at, AreTied, AreFacts, facts, valid-from}
 use Rattle.laws_machine.proofs.validity.Outlines.{put, put_at, put_kept, same_facts}

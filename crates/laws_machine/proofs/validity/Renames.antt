@@ -1,7 +1,8 @@
 -- An object with nothing beneath it gets another slot of its space: the world stays valid.
 --
 -- Its slot and the empty one change places, as do the pointers to them.
-use Rattle.std.proofs.Common.{◌≡◌, ℕ, Bool, true, false, if◌then◌else◌, not, IsSome, is_some, List, [], ◌∷◌, Option, Some, None, option_map, refl, sym, ap, ap₂, subst, ◌∙◌}
+use Rattle.std.proofs.Common.{◌≡◌, ℕ, Bool, true, false, if◌then◌else◌, not, IsSome, is_some, List, [], ◌∷◌, Option, Some, None, option_map, refl, sym, ap, ap₂}
+use Rattle.std.proofs.Common.{subst, ◌∙◌}
 use Rattle.std.proofs.lemmas.Bool.{and_parts, and_from}
 use Rattle.fk_model.specs.declared.names.Kind.{Kind}
 use Rattle.fk_model.specs.declared.names.Kind.TheVariants as kinds
@@ -13,9 +14,11 @@ use Rattle.fk_model.specs.Objects.Body.{Mutex, Cond, Mapping, Region, Port, Port
 use Rattle.fk_model.specs.World.{World, apply, serves, through, following, follow, follow_peer, moved_to}
 use Rattle.fk_model.specs.World.Change.{Move}
 use Rattle.fk_model.specs.StateRows.{referable}
-use Rattle.fk_model.specs.Valid.{IsConsistent, kind_there, is_one_of, leads_there, may_lead, all_in, is_good, is_good_peer, is_good_talk, is_good_fault, is_good_set, birth_of, birth_at, is_served_port, lies_with}
+use Rattle.fk_model.specs.Valid.{IsConsistent, kind_there, is_one_of, leads_there, may_lead, all_in, is_good, is_good_peer, is_good_talk, is_good_fault}
+use Rattle.fk_model.specs.Valid.{is_good_set, birth_of, birth_at, is_served_port, lies_with}
 use Rattle.fk_model.proofs.walks.PlaceLaws.{same_path_eq, same_path_refl, same_path_ne, same_path_apart, same_path_above}
-use Rattle.laws_machine.proofs.validity.Ties.{Tie, tie_of, claim_of, body_tie, body_claim, tie_at, claim_at, is_tied_to, load, AreTied, AreFacts, facts, valid-from}
+use Rattle.laws_machine.proofs.validity.Ties.{Tie, tie_of, claim_of, body_tie, body_claim, tie_at, claim_at, is_tied_to, load, AreTied, AreFacts, facts}
+use Rattle.laws_machine.proofs.validity.Ties.{valid-from}
 use Rattle.laws_machine.proofs.validity.Ties.Tie.{Joins}
 use Rattle.laws_machine.proofs.validity.Outlines.{Outline, outline_of, outline-kind, outline-birth, outline-served, same_facts}
 use Rattle.laws_machine.proofs.safety.Safe.{IsSafeMove}

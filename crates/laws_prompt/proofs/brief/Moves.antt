@@ -3,7 +3,11 @@ use Rattle.std.proofs.Common.{ℕ, Bool, true, false, if◌then◌else◌, ◌&&
 use Rattle.fk_model.specs.declared.moves.Ask.{Ask}
 use Rattle.fk_model.specs.declared.moves.Ask.TheVariants as asks
 use Rattle.fk_model.specs.declared.stage.Stage.{Stage}
-use Rattle.fk_model.specs.declared.stage.Stage.TheVariants.{Create, Destroy, Rename, Search, Point, Clear, Locate, CountIn, GetState, SetState, GetPtr, SetPtr, SpaceHold, SpaceRelease, ThreadStop, ThreadGo, PageGive, PageTake, PageRead, PageNext, MutexLock, MutexTrylock, MutexUnlock, CondWait, CondAsleep, CondSignal, CondBroadcast, Connect, ClientReceive, ClientSend, ClientOver, Disconnect, Wait, ServerReceive, ServerSend, ServerOver, ServerEnd, FaultDone, LinkSet, LinkPark, FaultSet, FaultPark, HoldSet, SpaceMakeHeld}
+use Rattle.fk_model.specs.declared.stage.Stage.TheVariants.{Create, Destroy, Rename, Search, Point, Clear, Locate, CountIn, GetState, SetState, GetPtr, SetPtr}
+use Rattle.fk_model.specs.declared.stage.Stage.TheVariants.{SpaceHold, SpaceRelease, ThreadStop, ThreadGo, PageGive, PageTake, PageRead, PageNext, MutexLock}
+use Rattle.fk_model.specs.declared.stage.Stage.TheVariants.{MutexTrylock, MutexUnlock, CondWait, CondAsleep, CondSignal, CondBroadcast, Connect, ClientReceive}
+use Rattle.fk_model.specs.declared.stage.Stage.TheVariants.{ClientSend, ClientOver, Disconnect, Wait, ServerReceive, ServerSend, ServerOver, ServerEnd}
+use Rattle.fk_model.specs.declared.stage.Stage.TheVariants.{FaultDone, LinkSet, LinkPark, FaultSet, FaultPark, HoldSet, SpaceMakeHeld}
 use Rattle.fk_model.specs.declared.statuses.status.TheConstants.{DENIED}
 use Rattle.fk_model.specs.declared.thread.Turn.TheVariants as turns
 use Rattle.fk_model.specs.Places.{Path, parent, slot_of}
@@ -17,8 +21,14 @@ use Rattle.fk_model.specs.Holds.{is_free, is_unheld, is_porter}
 use Rattle.fk_model.specs.Moves.{stage_row, is_denied, allowed_row, chooses, with_pick, closed, call_row, goes_on, user_move, porter_at, porter_move, outcome}
 use Rattle.laws_prompt.specs.Brief.{MovesAreBrief}
 use Rattle.laws_prompt.proofs.brief.Outcomes.{BriefOutcome, refused, waits, goes, brief-when}
-use Rattle.laws_prompt.proofs.brief.Rows.{run_row-brief, mutex_lock-brief, mutex_trylock-brief, mutex_unlock-brief, cond_wait-brief, cond_asleep-brief, cond_signal-brief, cond_broadcast-brief, send-brief, receive-brief, over-brief, thread_stop-brief, thread_go-brief, page_give-brief, page_take-brief, page_read-brief, page_next-brief}
-use Rattle.laws_prompt.proofs.brief.Objects.{create-brief, destroy-brief, rename-brief, point-brief, clear-brief, search_row-brief, locate-brief, count_in-brief, space_hold-brief, space_release-brief, hold_set-brief, space_make_held-brief, get_state-brief, set_state-brief, get_ptr-brief, set_ptr-brief, wait-brief, connect-brief, disconnect-brief, link_set-brief, link_park-brief, fault_done-brief, fault_set-brief, fault_park-brief, accept_row-brief, give_row-brief, over_row-brief}
+use Rattle.laws_prompt.proofs.brief.Rows.{run_row-brief, mutex_lock-brief, mutex_trylock-brief, mutex_unlock-brief, cond_wait-brief, cond_asleep-brief}
+use Rattle.laws_prompt.proofs.brief.Rows.{cond_signal-brief, cond_broadcast-brief, send-brief, receive-brief, over-brief, thread_stop-brief, thread_go-brief}
+use Rattle.laws_prompt.proofs.brief.Rows.{page_give-brief, page_take-brief, page_read-brief, page_next-brief}
+use Rattle.laws_prompt.proofs.brief.Objects.{create-brief, destroy-brief, rename-brief, point-brief, clear-brief, search_row-brief, locate-brief}
+use Rattle.laws_prompt.proofs.brief.Objects.{count_in-brief, space_hold-brief, space_release-brief, hold_set-brief, space_make_held-brief, get_state-brief}
+use Rattle.laws_prompt.proofs.brief.Objects.{set_state-brief, get_ptr-brief, set_ptr-brief, wait-brief, connect-brief, disconnect-brief, link_set-brief}
+use Rattle.laws_prompt.proofs.brief.Objects.{link_park-brief, fault_done-brief, fault_set-brief, fault_park-brief, accept_row-brief, give_row-brief}
+use Rattle.laws_prompt.proofs.brief.Objects.{over_row-brief}
 
 -- ---- one stage
 

@@ -22,10 +22,12 @@ use Rattle.fk_model.specs.SpaceRows.{space_hold, space_release, hold_set, space_
 use Rattle.fk_model.specs.Records.{record_of, set_edits}
 use Rattle.fk_model.specs.StateRows.{shows, shows_to, get_state, sets_record, record_at, sets_from, set_state, get_ptr, set_ptr}
 use Rattle.fk_model.specs.ObjectRows.{new_object, create, kills, destroys, destroy, rename, search as search_row, point, clear, locate, count_in}
-use Rattle.fk_model.specs.NativeRows.{takes_up, parked_here, connects_here, accepts_thread, accepts_found, takes_client, accept_row, is_serving_port, if_receiving, gives_words, gives_to, give_row, over_row, with_client, passes_client}
+use Rattle.fk_model.specs.NativeRows.{takes_up, parked_here, connects_here, accepts_thread, accepts_found, takes_client, accept_row, is_serving_port}
+use Rattle.fk_model.specs.NativeRows.{if_receiving, gives_words, gives_to, give_row, over_row, with_client, passes_client}
 use Rattle.fk_model.specs.TransferRows.{moved_words}
 use Rattle.laws_prompt.specs.Brief.{AreSmall, AreBrief}
-use Rattle.laws_prompt.proofs.brief.Outcomes.{BriefOutcome, waits, goes, small-then, brief-small, small-end_all, brief-when, brief-if, brief-done, brief-done_at, brief-ended, brief-stays, brief-telling, brief_row, own_page-brief, their_page-brief}
+use Rattle.laws_prompt.proofs.brief.Outcomes.{BriefOutcome, waits, goes, small-then, brief-small, small-end_all, brief-when, brief-if, brief-done}
+use Rattle.laws_prompt.proofs.brief.Outcomes.{brief-done_at, brief-ended, brief-stays, brief-telling, brief_row, own_page-brief, their_page-brief}
 use Rattle.laws_prompt.proofs.brief.Rows.{moved-block}
 
 -- ---- objects

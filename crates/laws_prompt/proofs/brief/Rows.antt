@@ -22,11 +22,15 @@ use Rattle.fk_model.specs.Outcomes.Said.{Nothing, Words}
 use Rattle.fk_model.specs.Outcomes.Outcome.{Waits}
 use Rattle.fk_model.specs.Talks.{Line, thread_led_to}
 use Rattle.fk_model.specs.UserRows.{word_at, halts_with, loads, stores, enters, performs, executes, run_row, run_row_by}
-use Rattle.fk_model.specs.SyncRows.{mutex_lock, mutex_trylock, mutex_unlock, cond_wait, cond_asleep, woken, asleep_on, sleepers, signals, unless_slept_on, picks_sleeper, cond_signal, cond_broadcast}
-use Rattle.fk_model.specs.TransferRows.{overwritten, block, to_page_end, moved_words, has_sent, sends_words, sends_into, sends_to_thread, sends_to, sends, send, awaits, receive, passes_to_thread, passes_to, over}
-use Rattle.fk_model.specs.SpaceRows.{thread_stop, thread_go, gives_page, gives_from, page_give, copies, copies_home, answers_home, copies_to, page_take, page_read, page_next}
+use Rattle.fk_model.specs.SyncRows.{mutex_lock, mutex_trylock, mutex_unlock, cond_wait, cond_asleep, woken, asleep_on, sleepers, signals, unless_slept_on}
+use Rattle.fk_model.specs.SyncRows.{picks_sleeper, cond_signal, cond_broadcast}
+use Rattle.fk_model.specs.TransferRows.{overwritten, block, to_page_end, moved_words, has_sent, sends_words, sends_into, sends_to_thread, sends_to, sends, send}
+use Rattle.fk_model.specs.TransferRows.{awaits, receive, passes_to_thread, passes_to, over}
+use Rattle.fk_model.specs.SpaceRows.{thread_stop, thread_go, gives_page, gives_from, page_give, copies, copies_home, answers_home, copies_to, page_take}
+use Rattle.fk_model.specs.SpaceRows.{page_read, page_next}
 use Rattle.laws_prompt.specs.Brief.{AreSmall, AreBrief}
-use Rattle.laws_prompt.proofs.brief.Outcomes.{BriefOutcome, waits, goes, small-then, brief-then, brief-small, brief-when, brief-if, brief-done, brief-telling, brief_row, accessed-brief, own_page-brief, their_page-brief}
+use Rattle.laws_prompt.proofs.brief.Outcomes.{BriefOutcome, waits, goes, small-then, brief-then, brief-small, brief-when, brief-if, brief-done, brief-telling}
+use Rattle.laws_prompt.proofs.brief.Outcomes.{brief_row, accessed-brief, own_page-brief, their_page-brief}
 
 -- ---- instructions
 
