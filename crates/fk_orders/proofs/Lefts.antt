@@ -1,6 +1,6 @@
 -- From an empty place fewer are left behind.
 use Rattle.std.proofs.Common.{◌≡◌, ℕ, zero, suc, ◌+◌, ◌*◌, ◌-◌, ◌<◌, ◌≤◌, ◌⊎◌, inl, inr, Bool, true, false, cond, ltb, ◌==◌, ◌&&◌, ◌^◌, not, List, [], ◌∷◌, ◌++◌, drop, length, Option, Some, None, is_none, refl, sym, ap, subst, ◌∙◌, arith}
-use Rattle.std.specs.Prelude.{slice_get, nat_lt, if◌then◌else◌}
+use Rattle.std.specs.Prelude.{slice_get, nat_lt}
 use Rattle.std.proofs.lemmas.Bool.{and_parts, cases_lt, lt-ltb, le-ltb}
 use Rattle.fk_image.specs.declared.image.SpaceRec.{SpaceRec}
 use Rattle.fk_image.specs.declared.image.Image.{Image}

@@ -2,3 +2,4 @@ pub mod Given
 pub mod Plain
 pub mod Lefts
 pub mod Skipped
+pub mod Spent

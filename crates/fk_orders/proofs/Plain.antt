@@ -2,7 +2,6 @@
 use Rattle.std.proofs.Common.{◌≡◌, ℕ, zero, suc, Bool, true, false, cond, List, [], ◌∷◌, map, replicate, Option, Some, None, option_map, refl, sym, ap, ◌∙◌}
 use Rattle.std.specs.Prelude.{◌==◌, ◌+◌, ◌-◌, nat_lt, length, slice_get}
 use Rattle.std.proofs.lemmas.Option.{slice_get-map}
-use Rattle.fk_model.specs.declared.names.Kind.TheVariants as kinds
 use Rattle.fk_image.specs.declared.image.Link.{Link}
 use Rattle.fk_image.specs.declared.image.Link.TheVariants.{Null, Dead, In, Out, Root, Outside}
 use Rattle.fk_image.specs.declared.image.TalkRec.{TalkRec}
@@ -13,14 +12,14 @@ use Rattle.fk_image.specs.declared.image.PageRec.{PageRec}
 use Rattle.fk_image.specs.declared.image.SpaceRec.{SpaceRec}
 use Rattle.fk_image.specs.Picture.{space_path}
 use Rattle.laws_sites.specs.Orders.{Order}
-use Rattle.laws_sites.specs.Orders.Order.{Makes, Gives, Leads, LeadsTop, Points, Holds as HoldsOrder}
+use Rattle.laws_sites.specs.Orders.Order.{Gives, Leads, LeadsTop}
 use Rattle.laws_restore.specs.Script as script
 use Rattle.fk_orders.specs.declared.looks.Look.{Look, Look as looks}
 use Rattle.fk_positions.specs.declared.position.Walk.{Walk}
 use Rattle.fk_positions.specs.declared.position.Walk.TheVariants.{Done, Top, Down}
-use Rattle.fk_positions.specs.declared.position.Pass.{Pass, Pass as passes}
+use Rattle.fk_positions.specs.declared.position.Pass.{Pass}
 use Rattle.fk_positions.specs.declared.position.Pass.TheVariants.{Spaces, Fills, Inward, Outward, Ties, Holds}
-use Rattle.fk_positions.specs.Walks.{walk_order, last_order, slot_at, child_towards, leads}
+use Rattle.fk_positions.specs.Walks.{walk_order, last_order, slot_at, child_towards}
 use Rattle.fk_positions.specs.Passes as words
 use Rattle.fk_positions.specs.Passes.{Part, leads_within, is_out, link_of, talk_of, fault_of, before, behind, leads_out_any}
 use Rattle.fk_positions.specs.Passes.Part.{Nothing, Walks, Asks}

@@ -1,6 +1,6 @@
 -- Places that are gone by at once: a slot of the nester to which nothing leads, and parts behind the last one of an item.
-use Rattle.std.proofs.Common.{◌≡◌, ℕ, zero, suc, ◌+◌, ◌*◌, ◌-◌, ◌<◌, ◌≤◌, ◌⊎◌, inl, inr, Bool, true, false, cond, ltb, not, ◌||◌, ◌&&◌, ◌==◌, List, [], ◌∷◌, ◌++◌, length}
-use Rattle.std.proofs.Common.{refl, sym, ap, subst, ◌∙◌, arith, eqb-true}
+use Rattle.std.proofs.Common.{◌≡◌, ℕ, zero, suc, ◌+◌, ◌<◌, Bool, true, false, cond, ltb, not, ◌||◌, ◌==◌, List, [], ◌∷◌, ◌++◌, length}
+use Rattle.std.proofs.Common.{refl, sym, subst, ◌∙◌, arith, eqb-true}
 use Rattle.std.specs.List.{list_any}
 use Rattle.std.specs.Prelude.{slice_get}
 use Rattle.std.proofs.lemmas.Bool.{and_parts}
@@ -11,7 +11,7 @@ use Rattle.laws_sites.specs.Orders.{Order}
 use Rattle.laws_sites.specs.Orders.Order.{LeadsTop}
 use Rattle.laws_restore.specs.Script.{T, has, leads_out}
 use Rattle.laws_rooms.specs.Rooms.{room_of, rooms_from}
-use Rattle.fk_positions.specs.declared.position.Walk.{Walk, Walk as walks}
+use Rattle.fk_positions.specs.declared.position.Walk.{Walk}
 use Rattle.fk_positions.specs.declared.position.Walk.TheVariants.{Done, Top, Down}
 use Rattle.fk_positions.specs.declared.position.Pass.{Pass, Pass as passes}
 use Rattle.fk_positions.specs.declared.position.Pass.TheVariants.{Spaces, Fills, Inward, Outward, Ties, Holds}
@@ -19,11 +19,11 @@ use Rattle.fk_positions.specs.declared.position.Spot.{Spot, Spot as spots}
 use Rattle.fk_positions.specs.declared.position.Spot.TheVariants.{Before, Room, Part, After}
 use Rattle.fk_positions.specs.declared.position.Position.{Position}
 use Rattle.fk_positions.specs.Walks.{walk_rest, goes}
-use Rattle.fk_positions.specs.Passes.{site, items_from, leads_out_any, before, behind, pass_from, pass_end}
+use Rattle.fk_positions.specs.Passes.{items_from, leads_out_any, pass_from, pass_end}
 use Rattle.fk_positions.specs.Positions.{rest, spot_rest, onwards, IsPosition, IsPass, listed, at, next_pass}
 use Rattle.fk_positions.specs.Doing.{pins}
 use Rattle.fk_positions.proofs.Scripted.{positions_are_the_places}
-use Rattle.fk_orders.specs.Left.{is_unused, unused_by, places_left, later}
+use Rattle.fk_orders.specs.Left.{is_unused, unused_by, places_left}
 use Rattle.fk_orders.proofs.Lefts.{after_pass}
 
 module _ (i : Image) (slot : ℕ) (bind : ℕ → ℕ) where

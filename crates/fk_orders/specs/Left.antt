@@ -1,12 +1,13 @@
 -- How many empty places may still go by before the next order, or the end.
-use Rattle.std.specs.Prelude.{ℕ, zero, suc, ◌+◌, ◌*◌, ◌-◌, Bool, true, false, not, ◌&&◌, ◌==◌, is_none, List, [], ◌∷◌, drop, Option, Some, None, slice_get}
+use Rattle.std.specs.Prelude.{ℕ, zero, suc, ◌+◌, ◌*◌, ◌-◌, Bool, true, false, not, ◌&&◌, ◌==◌, is_none, nat_le, nat_lt}
+use Rattle.std.specs.Prelude.{List, [], ◌∷◌, drop, Option, Some, None, slice_get, if◌then◌else◌}
 use Rattle.fk_image.specs.declared.image.Image.{Image}
 use Rattle.fk_image.specs.declared.image.SpaceRec.{SpaceRec}
-use Rattle.fk_positions.specs.declared.position.Walk.{Walk}
+use Rattle.fk_positions.specs.declared.position.Walk.{Walk, Walk as walks}
 use Rattle.fk_positions.specs.declared.position.Walk.TheVariants.{Done}
 use Rattle.fk_positions.specs.declared.position.Pass.{Pass, Pass as passes}
 use Rattle.fk_positions.specs.declared.position.Pass.TheVariants.{Spaces, Fills, Inward, Outward, Ties, Holds}
-use Rattle.fk_positions.specs.declared.position.Spot.{Spot}
+use Rattle.fk_positions.specs.declared.position.Spot.{Spot, Spot as spots}
 use Rattle.fk_positions.specs.declared.position.Spot.TheVariants.{Before, Room, Part, After}
 use Rattle.fk_positions.specs.declared.position.Position.{Position}
 use Rattle.laws_sites.specs.Orders.{Order}
@@ -31,6 +32,24 @@ unused_by ss walk pass spot = false
 
 abbrev pub is_unused : List SpaceRec → Position → Bool
 is_unused ss p = unused_by ss p.walk p.pass p.spot
+
+-- in so many parts of an item something may be done
+abbrev pub parts_of : Pass → ℕ
+parts_of Spaces = 1
+parts_of Fills = 1
+parts_of Inward = 2
+parts_of (Outward i) = 3
+parts_of Ties = 6
+parts_of Holds = 2
+
+-- the end of an item, where a position is behind these
+abbrev pub spent_by : Walk → Pass → Spot → ℕ → Option Position
+spent_by Done pass (Part n j k) a =
+    if nat_le (parts_of pass) k && nat_lt k 6 then Some (record { walk = walks.Done; pass = pass; spot = spots.Part n j 6; stands = a }) else None
+spent_by walk pass spot a = None
+
+abbrev pub spent : Position → Option Position
+spent p = spent_by p.walk p.pass p.spot p.stands
 
 -- no order stands here, and one may follow
 abbrev pub is_empty : Position → Option Order → Bool

@@ -1,5 +1,5 @@
 -- How the answer to an order's call is heard.
-use Rattle.std.specs.Prelude.{ℕ, Option, Some, None}
+use Rattle.std.specs.Prelude.{Option, Some, None}
 use Rattle.laws_sites.specs.Orders.{Order}
 use Rattle.laws_sites.specs.Orders.Order.{Pins, Checks}
 use Rattle.fk_orders.specs.declared.looks.Look.{Look, Look as looks}

@@ -61,6 +61,46 @@ fn is_unused(spaces: &[SpaceRec], position: Position) -> bool
     }
 }
 
+/// In how many parts of an item something may be done.
+fn parts_of(pass: Pass) -> u8
+    ensures { result ≡ left.parts_of pass }
+{
+    match pass {
+        Pass::Spaces | Pass::Fills => 1,
+        Pass::Inward | Pass::Holds => 2,
+        Pass::Outward(_) => 3,
+        Pass::Ties => 6,
+    }
+}
+
+/// The end of an item, where a position is behind these.
+fn spent(position: Position) -> Option<Position>
+    ensures { result ≡ left.spent position }
+{
+    match position.walk {
+        Walk::Done => match position.spot {
+            Spot::Part { space, item, part } => {
+                if parts_of(position.pass) <= part && part < 6 {
+                    Some(Position {
+                        walk: Walk::Done,
+                        pass: position.pass,
+                        spot: Spot::Part {
+                            space,
+                            item,
+                            part: 6,
+                        },
+                        stands: position.stands,
+                    })
+                } else {
+                    None
+                }
+            }
+            Spot::Before(_) | Spot::Room(_) | Spot::After(_) => None,
+        },
+        Walk::Top { .. } | Walk::Down { .. } => None,
+    }
+}
+
 /// A place behind a position from which on the orders are the same; nothing where an order stands at the position,
 /// or the script is at its end.
 fn passed(spaces: &[SpaceRec], slot: u8, pairs: &[(u8, u8)], at: Position) -> Option<Position>
@@ -71,7 +111,9 @@ fn passed(spaces: &[SpaceRec], slot: u8, pairs: &[(u8, u8)], at: Position) -> Op
     ensures fewer { IfSome result (λ p. left.places_left spaces.now p < left.places_left spaces.now at) }
     ensures stands { IfNone result (left.is_empty at (order_at spaces.now slot (bound_by pairs.now) at) ≡ false) }
 {
-    if is_unused(spaces, at) {
+    if let Some(end) = spent(at) {
+        Some(end)
+    } else if is_unused(spaces, at) {
         Some(next_pass(at.pass, at.stands))
     } else if is_empty(spaces, slot, pairs, at) {
         Some(next_of(spaces, slot, pairs, at))

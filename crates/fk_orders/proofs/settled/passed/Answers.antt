@@ -4,7 +4,14 @@ use Rattle.fk_positions.specs.Positions.{order_at}
 use Rattle.fk_orders.specs.Left.{image_of}
 use Rattle.fk_orders.proofs.Lefts.{empty_parts, stays, falls, few}
 use Rattle.fk_orders.proofs.Skipped.{unused_gone}
+use Rattle.fk_orders.proofs.Spent.{spent_gone}
 use Rattle.fk_orders.proofs.settled.passed.Goals as goal
+
+pub returns-in-Some : goal.returns-in-Some
+returns-in-Some c =
+    let bind = bound_by c.args.pairs.now in
+    let gone = spent_gone c.args.spaces.now c.args.slot bind c.args.at c.in-Some.end c.requires.place (sym c.spent.ensures ∙ c.in-Some.is) in
+    record { rest = gone.rest; place = gone.place; fewer = gone.fewer; stands = tt }
 
 pub returns-then-is_unused : goal.returns-then-is_unused
 returns-then-is_unused c =
