@@ -8,7 +8,7 @@ ghost use Rattle.fk_model.specs.World.Change.{PutPage};
 ghost use Rattle.fk_store.specs.Moves.{said_by};
 ghost use Rattle.fk_store.specs.Paths.{path};
 ghost use Rattle.fk_store.specs.World.{world, IsLive, IsSpace};
-ghost use Rattle.fk_plans.specs.Hearers.{told_port};
+ghost use Rattle.fk_plans.specs.Hearers.{told_port, IsPadded};
 ghost use Rattle.fk_acts.specs.Acts.{changes_of, told_of, IsAct, IsGift};
 
 use crate::act::Act;
@@ -57,6 +57,7 @@ fn takes(store: &mut Store, port: Who, client: Who) -> Said
     ensures world { world store.new ≡ apply_all (changes_of (world store.old) (path store.old) port [] (Act.Takes client)) (world store.old) }
     ensures said { said_by (path store.new) result ≡ told_of (path store.old) port (Act.Takes client) }
     ensures port { told_port result ≡ Some port }
+    ensures padded { IsPadded result }
 {
     let turn = Turn::Client;
     let talk = Talk {
@@ -97,6 +98,7 @@ pub fn make(store: &mut Store, port: Who, words: &[u64], act: &Act) -> Said
         ≡ apply_all (changes_of (world store.old) (path store.old) port words.now act.now) (world store.old) }
     ensures said { said_by (path store.new) result ≡ told_of (path store.old) port act.now }
     ensures port { told_port result ≡ Some port }
+    ensures padded { IsPadded result }
 {
     match *act {
         Act::Takes { client } => takes(store, port, client),

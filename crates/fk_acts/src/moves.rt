@@ -7,7 +7,7 @@ ghost use Rattle.fk_store.specs.Moves.{picked_by, said_by};
 ghost use Rattle.fk_store.specs.Paths.{path, place, HasOwnPath};
 ghost use Rattle.fk_store.specs.World.{world, IsLive};
 ghost use Rattle.fk_endings.specs.Clients.{IsEnding};
-ghost use Rattle.fk_plans.specs.Hearers.{IsHeard};
+ghost use Rattle.fk_plans.specs.Hearers.{IsHeard, IsPadded};
 ghost use Rattle.fk_acts.specs.Acts.{is_act};
 
 use crate::allowing::is_allowed;
@@ -38,6 +38,7 @@ pub fn attempt(store: &mut Store, m: &Move, ask: &Ask) -> Option<Said>
         (world store.old) (place (path store.old) m.now.who) (picked_by (path store.old) m.now.pick) ask.now
         ≡ record { world = world store.new; said = said_by (path store.new) said }) }
     ensures heard { IfSome result (λ said. IsHeard (path store.old) (said_by (path store.new) said) said) }
+    ensures padded { IfSome result (λ said. IsPadded said) }
     ensures clients { IsSome result → IsEnding (world store.old) (world store.new) None }
     ensures unready { IfNone result
         (IsReady (world store.old) (place (path store.old) m.now.who) (picked_by (path store.old) m.now.pick) ask.now → ⊥) }

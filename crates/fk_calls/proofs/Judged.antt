@@ -12,7 +12,7 @@ use Rattle.fk_model.specs.declared.thread.Thread as threads_of
 use Rattle.fk_model.specs.Calls.{todo_of}
 use Rattle.fk_model.specs.Holds.{is_free, is_porter, is_unheld}
 use Rattle.fk_model.specs.LinkRows.{user_at}
-use Rattle.fk_model.specs.Moves.{allowed_row, call_row, chooses, closed, with_pick, goes_on, user_move, porter_at, porter_move, outcome, step, GoesAllowed, Step, stepped}
+use Rattle.fk_model.specs.Moves.{allowed_row, call_row, chooses, closed, with_pick, goes_on, user_move, porter_at, porter_move, outcome, step, GoesAllowed, Step, stepped, IsReady}
 use Rattle.fk_model.specs.Objects.{Mode, Thread, Body, kind_of, thread_of, and_then, holds}
 use Rattle.fk_model.specs.Objects.Mode.{Running, Calling, Halted, Native}
 use Rattle.fk_model.specs.Outcomes as outcomes
@@ -59,6 +59,10 @@ held_user w k s pick held = by (thread_at w (k ∷ s)) held
     by : (o : Option Thread) → holds (is_free w s) o ≡ false → user_move w (k ∷ s) pick o ≡ Waits
     by None held = refl
     by (Some t) held = ap (λ b. when b (goes_on w (k ∷ s) pick t t.mode)) held
+
+-- nor is any move of it ready
+pub held_unready : (w : World) (k : ℕ) (s : Path) (pick : Option Path) → is_free_at w (k ∷ s) ≡ false → IsReady w (k ∷ s) pick asks.Run → ⊥
+held_unready w k s pick held ready = let waits = held_user w k s pick held in rw waits at ready
 
 -- a running one makes its instruction
 running_user : (w : World) (k : ℕ) (s : Path) (pick : Option Path) → is_free_at w (k ∷ s) ≡ true →

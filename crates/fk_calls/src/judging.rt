@@ -1,8 +1,10 @@
 //! What a move comes to.
-ghost use Rattle.std.specs.Prelude.{◌≡◌, ℕ, List, true, false, Some, IsSome, IfSome, IfNone};
+ghost use Rattle.std.specs.Prelude.{◌≡◌, ℕ, List, Option, true, false, Some, IsSome, IfSome, IfNone};
 ghost use Rattle.fk_model.specs.declared.moves.Ask.TheVariants as asks;
 ghost use Rattle.fk_model.specs.Holds as holds;
+ghost use Rattle.fk_model.specs.Moves.{IsReady};
 ghost use Rattle.fk_model.specs.Outcomes.Outcome.{Waits};
+ghost use Rattle.fk_model.specs.Places.{Path};
 ghost use Rattle.fk_model.specs.Valid.{IsValid};
 ghost use Rattle.fk_model.specs.Searches.{thread_at};
 ghost use Rattle.fk_plans.specs.Effects.{is_running};
@@ -66,6 +68,17 @@ pub fn running<'a>(store: &'a Store, who: Who, ask: &Ask) -> Option<&'a Thread>
     match ask {
         Ask::Run => running_user(store, who),
         Ask::Call { .. } | Ask::Accept | Ask::Give { .. } | Ask::Over => None,
+    }
+}
+
+/// Whether a free user is in a slot. Else no move of it is ready, whomever it picks. So who looks for a ready move
+/// asks this first, which needs no judgement.
+pub fn may_move(store: &Store, who: Who) -> bool
+    ensures { result ≡ false → (pick : Option Path) → IsReady (world store.now) (place (path store.now) who) pick asks.Run → ⊥ }
+{
+    match free_user(store, who) {
+        Some(_) => true,
+        None => false,
     }
 }
 

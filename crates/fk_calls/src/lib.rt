@@ -6,7 +6,8 @@
 //! the one match from a stage to its judge. It promises that `ready` answers exactly whether the
 //! abstract machine is ready to make a move, that `take` makes of the store's world what the machine
 //! makes of it, that `attempt` does both, judging once, and tells which native server lost its client,
-//! that `is_fit` tells which moves may be made at all, and that `may_pick` tells whom a user may pick.
+//! that `is_fit` tells which moves may be made at all, that `may_move` tells cheaply of whom no move is ready, and that
+//! `may_pick` tells whom a user may pick.
 #![tactic(auto)]
 
 mod doing;
@@ -17,5 +18,6 @@ mod picking;
 mod rows;
 
 pub use fitting::is_fit;
+pub use judging::may_move;
 pub use moves::{Told, attempt, proceed, ready, take};
 pub use picking::{Picks, may_pick};

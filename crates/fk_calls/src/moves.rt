@@ -5,6 +5,7 @@ ghost use Rattle.fk_model.specs.declared.moves.Ask.TheVariants as asks;
 ghost use Rattle.fk_model.specs.Valid.{IsValid};
 ghost use Rattle.fk_model.specs.Searches.{thread_at};
 ghost use Rattle.fk_plans.specs.Effects.{effect_by, of_running, IsEffect};
+ghost use Rattle.fk_plans.specs.Hearers.{IsPadded};
 ghost use Rattle.fk_store.specs.Paths.{path, place, HasOwnPath};
 ghost use Rattle.fk_store.specs.World.{world};
 ghost use Rattle.fk_acts.specs.Acts.{is_act};
@@ -103,6 +104,7 @@ pub fn attempt(store: &mut Store, m: &Move, ask: &Ask) -> Result<Option<Told>, N
     ensures made { IfOk result (λ tried. IfSome tried (λ told. IsReadyMove store.old m.now ask.now × IsStepTo store.old m.now ask.now store.new told.said)) }
     ensures ended { IfOk result (λ tried. IfSome tried (λ told. IsEnded store.old store.new told.ended)) }
     ensures heard { IfOk result (λ tried. IfSome tried (λ told. IsHeardBy store.old store.new told.said)) }
+    ensures padded { IfOk result (λ tried. IfSome tried (λ told. IsPadded told.said)) }
     ensures unready { IfOk result (λ tried. IfNone tried ((IsReadyMove store.old m.now ask.now → ⊥) × (store.new ≡ store.old))) }
     ensures lacking { OnErr result (IsReadyMove store.old m.now ask.now × (store.new ≡ store.old)) }
     ensures sure { may_lack store.old m.now ask.now ≡ false → IsOk result }
@@ -137,6 +139,7 @@ fn attempt_act(store: &mut Store, m: &Move, ask: &Ask) -> Option<Told>
     ensures made { IfSome result (λ told. IsReadyMove store.old m.now ask.now × IsStepTo store.old m.now ask.now store.new told.said) }
     ensures ended { IfSome result (λ told. IsEnded store.old store.new told.ended) }
     ensures heard { IfSome result (λ told. IsHeardBy store.old store.new told.said) }
+    ensures padded { IfSome result (λ told. IsPadded told.said) }
     ensures unready { IfNone result ((IsReadyMove store.old m.now ask.now → ⊥) × (store.new ≡ store.old)) }
 {
     match fk_acts::attempt(store, m, ask) {
@@ -192,6 +195,7 @@ fn attempt_instruction(
     ensures made { IfSome result (λ told. IsReadyMove store.old m.now ask.now × IsStepTo store.old m.now ask.now store.new told.said) }
     ensures ended { IfSome result (λ told. IsEnded store.old store.new told.ended) }
     ensures heard { IfSome result (λ told. IsHeardBy store.old store.new told.said) }
+    ensures padded { IfSome result (λ told. IsPadded told.said) }
     ensures unready { IfNone result ((IsReadyMove store.old m.now ask.now → ⊥) × (store.new ≡ store.old)) }
 {
     if make_instruction(store, m, registers, counter, effect) {
@@ -243,6 +247,7 @@ fn attempt_moving(store: &mut Store, m: &Move, ask: &Ask, moving: &Moving) -> Op
     ensures made { IfSome result (λ told. IsReadyMove store.old m.now ask.now × IsStepTo store.old m.now ask.now store.new told.said) }
     ensures ended { IfSome result (λ told. IsEnded store.old store.new told.ended) }
     ensures heard { IfSome result (λ told. IsHeardBy store.old store.new told.said) }
+    ensures padded { IfSome result (λ told. IsPadded told.said) }
     ensures unready { IfNone result ((IsReadyMove store.old m.now ask.now → ⊥) × (store.new ≡ store.old)) }
 {
     let caller = Caller {
@@ -269,6 +274,7 @@ fn attempt_judged(store: &mut Store, m: &Move, ask: &Ask) -> Result<Option<Told>
     ensures made { IfOk result (λ tried. IfSome tried (λ told. IsReadyMove store.old m.now ask.now × IsStepTo store.old m.now ask.now store.new told.said)) }
     ensures ended { IfOk result (λ tried. IfSome tried (λ told. IsEnded store.old store.new told.ended)) }
     ensures heard { IfOk result (λ tried. IfSome tried (λ told. IsHeardBy store.old store.new told.said)) }
+    ensures padded { IfOk result (λ tried. IfSome tried (λ told. IsPadded told.said)) }
     ensures unready { IfOk result (λ tried. IfNone tried ((IsReadyMove store.old m.now ask.now → ⊥) × (store.new ≡ store.old))) }
     ensures lacking { OnErr result (IsReadyMove store.old m.now ask.now × (store.new ≡ store.old)) }
     ensures sure { may_lack store.old m.now ask.now ≡ false → IsOk result }
@@ -311,6 +317,7 @@ pub fn take(store: &mut Store, m: &Move, ask: &Ask) -> Result<Said, NoMemory>
     requires ready { IsReadyMove store.old m.now ask.now }
     requires fit { is_fit_move store.old m.now ask.now ≡ true }
     ensures step { IfOk result (λ said. IsStepTo store.old m.now ask.now store.new said) }
+    ensures padded { IfOk result (λ said. IsPadded said) }
     ensures lacking { OnErr result (store.new ≡ store.old) }
     ensures sure { may_lack store.old m.now ask.now ≡ false → IsOk result }
 {

@@ -111,6 +111,14 @@ none_past m after (Some last) besides who ahead past other live comes within is 
 pub idle_between : (m : Contents) (after last besides : Option Who) → IsAhead m (IsUpBetween m after last besides) None → IsIdleBetween m after last besides
 idle_between m after last besides ahead other live comes within is up = ahead other live (comes, within, is, up)
 
+-- a user that is looked at and isn't ready is passed, where the one that follows is known
+pub idle_passed : (m : Contents) (after besides : Option Who) (who : Who) (next : Option Who) → IsAhead m (IsUpBetween m after None besides) next →
+    IsFirstAfter who_cmp (IsLive m) (Some who) next → IsIdleBetween m after (Some who) besides
+idle_passed m after besides who None ahead first other live comes within is up = ahead other live (comes, refl, is, up)
+idle_passed m after besides who (Some next) ahead first other live comes within is up =
+    let later : IsTrue (is_lt (who_cmp who other)) = lt_le who next other first.1 (ahead other live (comes, refl, is, up)) in
+    absurd (cc)
+
 -- nobody after an object, nor up to it
 pub idle_around : (m : Contents) (last besides : Option Who) → IsIdleBetween m last None besides → IsIdleUpTo m last besides →
     (other : Who) → IsLive m other → is_who besides other ≡ false → IsUp m other → ⊥

@@ -10,19 +10,30 @@ ghost use Rattle.fk_model.specs.Who.{event_of, named, space_born};
 ghost use Rattle.fk_store.specs.Moves.{said_by};
 ghost use Rattle.fk_store.specs.Paths.{place};
 ghost use Rattle.fk_store.specs.World.{world};
-ghost use Rattle.fk_plans.specs.Hearers.{says_to, says_to_who};
+ghost use Rattle.fk_plans.specs.Hearers.{says_to, says_to_who, IsPadded};
 ghost use Rattle.fk_calls.specs.Judgements.{IsReadyMove};
 ghost use Rattle.laws_prompt.specs.Events.{IsPrompt, IsCorrect};
 ghost use Rattle.laws_whole.specs.Runnable.{IsRunnable};
 ghost use Rattle.fk_model.specs.Endings.{has_ended};
 ghost use Rattle.fk_kernel.specs.Kernels.{path_of, store_of, world_of, HasShapes};
 ghost use Rattle.fk_kernel.specs.Events as events;
-ghost use Rattle.fk_kernel.specs.Events.{is_fit_event, is_who, AreNamed, IsAcceptReady, IsAnyReady, IsIdleBetween, IsIdleUpTo, IsMoveReady, IsReadyBesides, IsReadyEvent, may_lack, step_of};
+ghost use Rattle.fk_kernel.specs.Events.{is_fit_event, is_who, AreNamed, IsAcceptReady, IsAnyReady, IsIdleBetween, IsIdleUpTo, IsLooked, IsMoveReady, IsReadyBesides, IsReadyEvent, may_lack, step_of};
 
 use fk_calls::Told;
 use fk_model::{Ask, Move, NoMemory, Said, Who};
 use fk_store::Store;
 use std::marker::Model;
+
+/// What a look at some objects finds.
+#[derive(Clone, Copy)]
+pub enum Look {
+    /// A move that is ready.
+    Found(Move),
+    /// Nobody up to this object, with which the look ended.
+    Passed(Who),
+    /// Nobody up to the last object of all.
+    Nobody,
+}
 
 /// A store whose threads move. Its world is valid.
 #[derive(Drop)]
@@ -109,6 +120,7 @@ impl Kernel {
             ≡ record { world = world_of self.new; said = said_by (path_of self.new) said }) }
         ensures correct { IfOk result (λ said. IsCorrect (world_of self.old) (event_of (world_of self.old) ask.now m.now)
             (world_of self.new) (said_by (path_of self.new) said)) }
+        ensures padded { IfOk result (λ said. IsPadded said) }
         ensures lacking { OnErr result (self.new ≡ self.old) }
         ensures done { may_lack (world_of self.old) (event_of (world_of self.old) ask.now m.now) ≡ false → IsOk result }
     {
@@ -137,6 +149,7 @@ impl Kernel {
         ensures correct { IfOk result (λ tried. IfSome tried (λ told.
             IsCorrect (world_of self.old) (event_of (world_of self.old) ask.now m.now)
             (world_of self.new) (said_by (path_of self.new) told.said))) }
+        ensures padded { IfOk result (λ tried. IfSome tried (λ told. IsPadded told.said)) }
         ensures lacking { OnErr result (self.new ≡ self.old) }
         ensures done { may_lack (world_of self.old) (event_of (world_of self.old) ask.now m.now) ≡ false → IsOk result }
     {
@@ -197,6 +210,27 @@ impl Kernel {
         }
     }
 
+    /// Looks for a ready move of any user but one, at the objects after one in the order of spaces and slots: at so many at
+    /// most, and at one at least. So who has others to ask as well needn't look at all objects at once.
+    pub fn look_besides(&self, after: Option<Who>, besides: Option<Who>, most: u32) -> Look
+        ensures { IsLooked self.now after besides result }
+    {
+        self.store.names();
+        let mut at = self.store.after(after);
+        let mut left = most;
+        while let Some(who) = at {
+            if let Some(m) = self.ready_besides(who, besides) {
+                return Look::Found(m);
+            }
+            at = self.store.after(Some(who));
+            if left <= 1 {
+                return Look::Passed(who);
+            }
+            left -= 1;
+        }
+        Look::Nobody
+    }
+
     /// A ready move of a user among those up to an object, but one.
     fn ready_up_to(&self, last: Option<Who>, besides: Option<Who>) -> Option<Move>
         ensures ready { IfSome result (λ m. IsReadyMove self.now m asks.Run) }
@@ -253,6 +287,10 @@ impl Kernel {
         ensures who { IfSome result (λ m. m.who ≡ who) }
         ensures none { IfNone result (IsMoveReady (world_of self.now) (place (path_of self.now) who) → ⊥) }
     {
+        // Most objects are no thread that may move, and a judgement is large.
+        if !fk_calls::may_move(&self.store, who) {
+            return None;
+        }
         let m = Move { who, pick: None };
         if fk_calls::ready(&self.store, &m, &Ask::Run) {
             return Some(m);

@@ -10,11 +10,11 @@
 //! the machine tells, that `attempt` does both at once, and tells the port whose native server lost its
 //! client by it, that `proceed` makes an instruction alone, where that is a user's next move, that `is_fit` tells which moves may be
 //! made at all, that `next` and `next_after` find a move
-//! of a user that is ready wherever there is one, `next_besides` one of any user but one, and `ready_accept` whom a native server may
-//! accept.
+//! of a user that is ready wherever there is one, `next_besides` one of any user but one, `look_besides` how far there is none, and
+//! `ready_accept` whom a native server may accept. Words that are told have only zeros behind them.
 #![tactic(auto)]
 
 mod kernel;
 
 pub use fk_calls::Told;
-pub use kernel::Kernel;
+pub use kernel::{Kernel, Look};

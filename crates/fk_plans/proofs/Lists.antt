@@ -1,5 +1,5 @@
 -- Kept: lists of changes.
-use Rattle.std.proofs.Common.{◌≡◌, ◌↔◌, ℕ, List, [], ◌∷◌, ◌++◌, length, take, zero, suc, refl, ap, arith}
+use Rattle.std.proofs.Common.{◌≡◌, ◌↔◌, ℕ, List, [], ◌∷◌, ◌++◌, length, take, drop, zero, suc, refl, ap, arith}
 use Rattle.fk_model.specs.Freezing.{AreAllowed, IsAllowed}
 use Rattle.fk_model.specs.Places.{Path}
 use Rattle.fk_model.specs.World.{World, Change, apply, apply_all}
@@ -40,3 +40,17 @@ first_taken zero [] ys long = refl
 first_taken (suc n) [] ys long = absurd (omega arith)
 first_taken zero (x ∷ xs) ys long = absurd (omega arith)
 first_taken (suc n) (x ∷ xs) ys long = ap (λ v. x ∷ v) (first_taken n xs ys (omega arith))
+
+-- and the second
+pub rest_left : (n : ℕ) (xs ys : List ℕ) → length xs ≡ n → drop n (xs ++ ys) ≡ ys
+rest_left zero [] ys long = refl
+rest_left (suc n) [] ys long = absurd (omega arith)
+rest_left zero (x ∷ xs) ys long = absurd (omega arith)
+rest_left (suc n) (x ∷ xs) ys long = rest_left n xs ys (omega arith)
+
+-- past all of a list there is nothing
+pub none_left : (n : ℕ) (ws : List ℕ) → length ws ≡ n → drop n ws ≡ []
+none_left zero [] long = refl
+none_left (suc n) [] long = absurd (omega arith)
+none_left zero (w ∷ ws) long = absurd (omega arith)
+none_left (suc n) (w ∷ ws) long = none_left n ws (omega arith)

@@ -1,5 +1,6 @@
--- Hearers: whom a move tells something.
-use Rattle.std.specs.Prelude.{◌≡◌, ℕ, Bool, false, Option, Some, None}
+-- Hearers: whom a move tells something, and what it leaves empty.
+use Rattle.std.specs.Prelude.{◌≡◌, ◌-◌, ℕ, Bool, false, Option, Some, None, drop, replicate, ⊤}
+use Rattle.fk_model.specs.declared.limits.TheConstants.{PAGE_WORDS}
 use Rattle.fk_model.specs.declared.moves.Said as says_of
 use Rattle.fk_model.specs.declared.moves.Said.TheVariants as says
 use Rattle.fk_model.specs.declared.names.Who.{Who}
@@ -45,3 +46,9 @@ says_to_who (says.Ended port) who = false
 -- who hears it by its path hears it by its name
 abbrev pub IsHeard : (ℕ → Path) → outcomes.Said → says_of.Said → Type 0
 IsHeard p said told = (who : Who) → says_to said (place p who) ≡ says_to_who told who
+
+-- ---- what is told has no words past its length: they are 0
+abbrev pub IsPadded : says_of.Said → Type 0
+IsPadded (says.Answer answer) = drop answer.len answer.words ≡ replicate (PAGE_WORDS - answer.len) 0
+IsPadded (says.Words port words len) = drop len words ≡ replicate (PAGE_WORDS - len) 0
+IsPadded other = ⊤

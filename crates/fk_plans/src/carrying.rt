@@ -10,7 +10,7 @@ ghost use Rattle.fk_plans.specs.declared.plan.News as news_of;
 ghost use Rattle.fk_plans.specs.declared.plan.Plan as plans;
 ghost use Rattle.fk_plans.specs.Plans.{caller_by, change_by, changes_by, IsDeed, IsPlan, IsSure};
 ghost use Rattle.fk_plans.specs.Verdicts.{hearer, outcome_by, news_by, tells, IsNews, IsPlanOf, IsRecordOf, IsVerdict, IsSureVerdict};
-ghost use Rattle.fk_plans.specs.Hearers.{told_port};
+ghost use Rattle.fk_plans.specs.Hearers.{told_port, IsPadded};
 
 use crate::blocks::{copy_page, send_block};
 use crate::destroying::destroy;
@@ -112,6 +112,7 @@ fn finish_all(
     ensures step { IfOk result (λ said. let c = caller_by (path store.old) caller given.now in
         stepped (world store.old) (closed c (outcome_by (world store.old) (path store.old) c (Verdict.Done plan.now answers)))
         ≡ record { world = world store.new; said = said_by (path store.new) said }) }
+    ensures padded { IfOk result (λ said. IsPadded said) }
     ensures err { OnErr result (store.new ≡ store.old) }
     ensures sure { IsSure plan.now → IsOk result }
 {
@@ -137,6 +138,7 @@ fn end_all(
     ensures step { IfOk result (λ said. let c = caller_by (path store.old) caller given.now in
         stepped (world store.old) (closed c (outcome_by (world store.old) (path store.old) c (Verdict.Ends plan.now answers)))
         ≡ record { world = world store.new; said = said_by (path store.new) said }) }
+    ensures padded { IfOk result (λ said. IsPadded said) }
     ensures err { OnErr result (store.new ≡ store.old) }
     ensures sure { IsSure plan.now → IsOk result }
 {
@@ -162,6 +164,7 @@ pub fn carry_out(
     ensures step { IfOk result (λ said. let c = caller_by (path store.old) caller given.now in
         stepped (world store.old) (closed c (outcome_by (world store.old) (path store.old) c verdict.now))
         ≡ record { world = world store.new; said = said_by (path store.new) said }) }
+    ensures padded { IfOk result (λ said. IsPadded said) }
     ensures told { (plan : plans.Plan) (news : news_of.News) (last : Bool) →
         verdict.now ≡ Verdict.Tells plan news last → IfOk result (λ said. told_port said ≡ hearer news) }
     ensures err { OnErr result (store.new ≡ store.old) }
@@ -207,6 +210,7 @@ fn finish_set(store: &mut Store, caller: Caller, given: &[u64], object: Who, fro
     ensures step { let c = caller_by (path store.old) caller given.now in
         stepped (world store.old) (closed c (outcome_by (world store.old) (path store.old) c (Verdict.Sets object from)))
         ≡ record { world = world store.new; said = said_by (path store.new) result } }
+    ensures padded { IsPadded result }
 {
     set_record(store, given, object, from);
     if caller.is_porter {
@@ -233,6 +237,7 @@ fn tell(
         stepped (world store.old) (tells c (changes_by (path store.old) given.now plan.now (world store.old))
         (news_by (world store.old) (path store.old) news.now) last)
         ≡ record { world = world store.new; said = said_by (path store.new) said }) }
+    ensures padded { IfOk result (λ said. IsPadded said) }
     ensures told { IfOk result (λ said. told_port said ≡ hearer news.now) }
     ensures err { OnErr result (store.new ≡ store.old) }
     ensures sure { IsSure plan.now → IsOk result }
@@ -250,6 +255,7 @@ fn tell(
 fn refuse(store: &mut Store, caller: Caller, status: u8) -> Said
     ensures step { (words : List ℕ) → let c = caller_by (path store.old) caller words in
         stepped (world store.old) (closed c (Refused status)) ≡ record { world = world store.new; said = said_by (path store.new) result } }
+    ensures padded { IsPadded result }
 {
     if caller.is_porter {
         return told(status, Answers::Nothing);

@@ -7,6 +7,7 @@ ghost use Rattle.fk_store.specs.Moves.{said_by};
 ghost use Rattle.fk_store.specs.Paths.{path, place};
 ghost use Rattle.fk_store.specs.World.{world, IsLive};
 ghost use Rattle.fk_plans.specs.Destroys.{destroyed, IsDying};
+ghost use Rattle.fk_plans.specs.Hearers.{IsPadded};
 ghost use Rattle.fk_plans.specs.Plans.{caller_by};
 
 use crate::telling::told;
@@ -19,7 +20,8 @@ use fk_threads::{Answers, finish};
 
 /// That the talk at a port has ended, or nothing.
 fn told_end(port: Option<Who>) -> Said
-    ensures { (p : ℕ → Path) → said_by p result ≡ told_at (option_map (place p) port) }
+    ensures said { (p : ℕ → Path) → said_by p result ≡ told_at (option_map (place p) port) }
+    ensures padded { IsPadded result }
 {
     match port {
         Some(port) => Said::Ended { port },
@@ -35,6 +37,7 @@ pub fn destroy(store: &mut Store, caller: Caller, object: Who, last: bool) -> Sa
     ensures step { (words : List ℕ) → let c = caller_by (path store.old) caller words in
         stepped (world store.old) (closed c (destroyed (world store.old) c (place (path store.old) object) last))
         ≡ record { world = world store.new; said = said_by (path store.new) result } }
+    ensures padded { IsPadded result }
 {
     let port = told_port(store, object);
     fk_deaths::destroy(store, object);

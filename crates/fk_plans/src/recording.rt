@@ -12,6 +12,7 @@ ghost use Rattle.fk_records.specs.Settings.{record_there, sets_at};
 ghost use Rattle.fk_store.specs.Moves.{said_by};
 ghost use Rattle.fk_store.specs.Paths.{path, place};
 ghost use Rattle.fk_store.specs.World.{world, IsSpace};
+ghost use Rattle.fk_plans.specs.Hearers.{IsPadded};
 ghost use Rattle.fk_plans.specs.Recordings.{record_words, IsRecord};
 
 use fk_model::status::OK;
@@ -72,7 +73,8 @@ pub fn write_record(store: &mut Store, object: Who, to: (u32, u8), at: u8)
 
 /// That it is done, and a record.
 fn told_words(shown: [u64; 32]) -> Said
-    ensures { (p : ℕ → Path) → said_by p result ≡ Answered DONE shown }
+    ensures said { (p : ℕ → Path) → said_by p result ≡ Answered DONE shown }
+    ensures padded { IsPadded result }
 {
     let mut words = [0; 64];
     words[..32].copy_from_slice(&shown);
@@ -85,7 +87,8 @@ fn told_words(shown: [u64; 32]) -> Said
 
 /// That it is done, and the record of an object.
 pub fn told_record(store: &Store, object: Who) -> Said
-    ensures { (p : ℕ → Path) → said_by p result ≡ Answered DONE (record_there ((world store.now).body (place (path store.now) object))) }
+    ensures said { (p : ℕ → Path) → said_by p result ≡ Answered DONE (record_there ((world store.now).body (place (path store.now) object))) }
+    ensures padded { IsPadded result }
 {
     told_words(record_at(store, object))
 }

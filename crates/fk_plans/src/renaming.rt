@@ -7,6 +7,7 @@ ghost use Rattle.fk_model.specs.Places.{Path, same_path};
 ghost use Rattle.fk_store.specs.Moves.{said_by};
 ghost use Rattle.fk_store.specs.Paths.{path, place, HasOwnPath};
 ghost use Rattle.fk_store.specs.World.{world, IsLive};
+ghost use Rattle.fk_plans.specs.Hearers.{IsPadded};
 ghost use Rattle.fk_plans.specs.Plans.{caller_by};
 ghost use Rattle.fk_plans.specs.Renames.{renames, IsMoving};
 
@@ -113,6 +114,7 @@ pub fn rename(store: &mut Store, caller: Caller, object: Who, slot: u8) -> Said
     ensures step { (words : List ℕ) → let c = caller_by (path store.old) caller words in
         stepped (world store.old) (closed c (renames c (place (path store.old) object) slot))
         ≡ record { world = world store.new; said = said_by (path store.new) result } }
+    ensures padded { IsPadded result }
 {
     let is_itself = is_named(store, caller.who, object);
     store.move_to(object, slot);

@@ -10,7 +10,7 @@ ghost use Rattle.fk_store.specs.Paths.{path, place};
 ghost use Rattle.fk_store.specs.World.{world};
 ghost use Rattle.fk_threads.specs.Answers.{all_four, listed};
 ghost use Rattle.fk_plans.specs.Verdicts.{hearer, news_by, port_of, AreWords, IsNews};
-ghost use Rattle.fk_plans.specs.Hearers.{told_port};
+ghost use Rattle.fk_plans.specs.Hearers.{told_port, IsPadded};
 
 use crate::plan::{News, Words};
 use fk_model::status::OK;
@@ -20,7 +20,8 @@ use fk_threads::{Answers, Four};
 
 /// A status and answers.
 pub fn told(status: u8, answers: Answers) -> Said
-    ensures { (p : ℕ → Path) → said_by p result ≡ Answered status (listed answers) }
+    ensures said { (p : ℕ → Path) → said_by p result ≡ Answered status (listed answers) }
+    ensures padded { IsPadded result }
 {
     let mut words = [0; 64];
     let len = match answers {
@@ -46,7 +47,8 @@ pub fn told(status: u8, answers: Answers) -> Said
 
 /// That it is done, and four answers.
 pub fn told_four(answers: Four) -> Said
-    ensures { (p : ℕ → Path) → said_by p result ≡ Answered DONE (all_four answers) }
+    ensures said { (p : ℕ → Path) → said_by p result ≡ Answered DONE (all_four answers) }
+    ensures padded { IsPadded result }
 {
     let mut words = [0; 64];
     words[0] = answers.first;
@@ -62,7 +64,8 @@ pub fn told_four(answers: Four) -> Said
 
 /// That it is done, and 64 words.
 fn told_all(words: [u64; 64]) -> Said
-    ensures { (p : ℕ → Path) → said_by p result ≡ Answered DONE words }
+    ensures said { (p : ℕ → Path) → said_by p result ≡ Answered DONE words }
+    ensures padded { IsPadded result }
 {
     Said::Answer(Answer {
         status: OK,
@@ -77,6 +80,7 @@ fn told_words(store: &Store, words: &Words) -> Said
     ensures said { (p : ℕ → Path) → said_by p result ≡ Told
         (At (place p words.now.port)) (take words.now.count (drop words.now.at (words_at (world store.now) (path store.now words.now.space) words.now.page))) }
     ensures port { told_port result ≡ Some words.now.port }
+    ensures padded { IsPadded result }
 {
     match store.page(words.space, words.page) {
         Some(page) => from_page(*page, words),
@@ -90,6 +94,7 @@ pub fn said_of(store: &Store, news: &News) -> Said
     ensures said { (p : ℕ → Path) → place p (port_of news.now) ≡ place (path store.now) (port_of news.now)
         → said_by p result ≡ news_by (world store.now) (path store.now) news.now }
     ensures port { told_port result ≡ hearer news.now }
+    ensures padded { IsPadded result }
 {
     match news {
         News::Words(words) => told_words(store, words),
@@ -98,11 +103,12 @@ pub fn said_of(store: &Store, news: &News) -> Said
     }
 }
 
-/// The same, of the words of the page.
+/// The same, of the words of the page. Past them all is 0, so that nobody hears more of the page.
 fn from_page(page: [u64; 64], words: &Words) -> Said
     requires { words.now.at + words.now.count ≤ 64 }
     ensures said { (p : ℕ → Path) → said_by p result ≡ Told (At (place p words.now.port)) (take words.now.count (drop words.now.at page)) }
     ensures port { told_port result ≡ Some words.now.port }
+    ensures padded { IsPadded result }
 {
     let at = words.at as usize;
     let count = words.count as usize;
@@ -118,7 +124,8 @@ fn from_page(page: [u64; 64], words: &Words) -> Said
 /// That it is done, and the words of a page.
 pub fn told_page(store: &Store, space: u32, page: u8) -> Said
     requires { IsSome ((world store.now).page (path store.now space) page) }
-    ensures { (p : ℕ → Path) → said_by p result ≡ Answered DONE (words_at (world store.now) (path store.now space) page) }
+    ensures said { (p : ℕ → Path) → said_by p result ≡ Answered DONE (words_at (world store.now) (path store.now space) page) }
+    ensures padded { IsPadded result }
 {
     match store.page(space, page) {
         Some(words) => told_all(*words),

@@ -7,6 +7,7 @@ ghost use Rattle.fk_store.specs.World.{world, IsSpace};
 ghost use Rattle.fk_plans.specs.Plans.{caller_by};
 ghost use Rattle.fk_plans.specs.Sources.{source_words, IsSource};
 ghost use Rattle.fk_plans.specs.Verdicts.{Judges, IsVerdict, IsSureVerdict, outcome_of};
+ghost use Rattle.fk_spaces.specs.Targets as targets;
 
 use fk_model::limits::{PAGE_WORDS, PAGES, ZEROS};
 use fk_model::status::{BADADDRESS, HELD, NONE, OCCUPIED};
@@ -179,6 +180,28 @@ fn copies_to(
     }
 }
 
+/// The same of a page and an address as they were asked for. Out of range they are refused.
+fn copies_within(
+    store: &Store,
+    caller: Caller,
+    space: u32,
+    page: u64,
+    drops: bool,
+    address: u64,
+) -> Result<Verdict, u8>
+    ensures outcome { (words : List ℕ) → let c = caller_by (path store.now) caller words in
+        outcome_of (world store.now) (path store.now) c result
+        ≡ targets.copies_within (world store.now) c (path store.now space) page drops address }
+    ensures fits { IfOk result (IsVerdict store.now caller) }
+    ensures sure { IfOk result IsSureVerdict }
+{
+    let is_bad_target = !caller.is_porter && !is_page_address(address);
+    if page >= PAGES || is_bad_target {
+        return Err(BADADDRESS);
+    }
+    copies_to(store, caller, space, page as u8, drops, address)
+}
+
 /// A space loses a page. A user gets its words at an address of its memory that begins a page, a
 /// porter as its answer. The caller's page may be the very one that goes.
 #[tactic(auto, unfolding(fk_model::specs::SpaceRows::page_take))]
@@ -197,11 +220,7 @@ pub fn page_take(
     if store.space_frozen_for(caller.who, space) {
         return Err(HELD);
     }
-    let is_bad_target = !caller.is_porter && !is_page_address(address);
-    if page >= PAGES || is_bad_target {
-        return Err(BADADDRESS);
-    }
-    copies_to(store, caller, space, page as u8, true, address)
+    copies_within(store, caller, space, page, true, address)
 }
 
 /// The same without the loss.
@@ -218,9 +237,5 @@ pub fn page_read(
     ensures sure { IfOk result IsSureVerdict }
 {
     let space = place(store, caller, s)?;
-    let is_bad_target = !caller.is_porter && !is_page_address(address);
-    if page >= PAGES || is_bad_target {
-        return Err(BADADDRESS);
-    }
-    copies_to(store, caller, space, page as u8, false, address)
+    copies_within(store, caller, space, page, false, address)
 }

@@ -22,4 +22,4 @@ pub returns-in-ShowsRecord-clause-step : goal.returns-in-ShowsRecord-clause-step
 unfolding apply_all
 returns-in-ShowsRecord-clause-step c =
     let porter = rw c.in-ShowsRecord.is at c.requires.fits in
-    rw (c.in-ShowsRecord.is, porter, c.told_record.ensures (path c.args.store.now)) refl
+    rw (c.in-ShowsRecord.is, porter, c.told_record.ensures.said (path c.args.store.now)) refl

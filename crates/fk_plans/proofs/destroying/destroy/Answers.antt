@@ -4,19 +4,17 @@ use Rattle.fk_store.specs.World.{world}
 use Rattle.fk_plans.proofs.Destroyed.{last_step, told_still}
 use Rattle.fk_plans.proofs.destroying.destroy.Goals as goal
 
-pub returns : goal.returns
-returns c =
+pub returns-clause-step : goal.returns-clause-step
+returns-clause-step c =
     let m = c.args.store.now in
     let on : c.args.last ≡ true = cc in
-    record {
-      step = λ words. rw (
-        on,
-        c.told_end-2.ensures (path c.finish.new.store),
-        c.finish.ensures.paths,
-        told_still m (path c.destroy.new.store) c.told_port-port.result c.told_port-port.ensures.live c.destroy.ensures.places,
-        c.finish.ensures.world,
-        c.destroy.ensures.places c.args.caller.who (c.requires.live c.if-caller.false),
-        c.destroy.ensures.world,
-        ← c.told_port-port.ensures.told,
-      ) (last_step (world m) (path m) c.args.caller.who words (place (path m) c.args.object) c.args.caller.is_porter c.if-caller.false);
-    }
+    λ words. rw (
+      on,
+      c.told_end-2.ensures.said (path c.finish.new.store),
+      c.finish.ensures.paths,
+      told_still m (path c.destroy.new.store) c.told_port-port.result c.told_port-port.ensures.live c.destroy.ensures.places,
+      c.finish.ensures.world,
+      c.destroy.ensures.places c.args.caller.who (c.requires.live c.if-caller.false),
+      c.destroy.ensures.world,
+      ← c.told_port-port.ensures.told,
+    ) (last_step (world m) (path m) c.args.caller.who words (place (path m) c.args.object) c.args.caller.is_porter c.if-caller.false)

@@ -2,6 +2,11 @@ use Rattle.fk_picks.proofs.Leading.{if_none}
 use Rattle.fk_kernel.proofs.Scans.{no_move}
 use Rattle.fk_kernel.proofs.kernel.Kernel.ready_move.Goals as goal
 
+pub returns-then-not-may_move-clause-none : goal.returns-then-not-may_move-clause-none
+returns-then-not-may_move-clause-none c =
+    let never = rw c.self.view_is at c.may_move.ensures in
+    λ up. never c.if-not-may_move.true up.0 up.1
+
 pub returns-clause-none : goal.returns-clause-none
 returns-clause-none c =
     let m = c.args.self.now in
