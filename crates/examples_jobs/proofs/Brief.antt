@@ -48,18 +48,21 @@ module _ (slot birth : ℕ) (w : World) (nester : Path) (low : slot ≤ LAST_USE
     AtReleases : Held_on nester slot birth start v → Tidy nester slot birth v [] → Stands v Releases
     AtOver : (done : Bool) → Tidy nester slot birth v [] → Stands v (Over done)
 
-  others : (v : World) (e : Event) (s : Brief) (stage : Stage) (words : List ℕ) → head slot s ≡ Asks stage words → IsUsersMove nester v e → (after v e).next ≤ depth → Stands v s → Stands (after v e) s
+  others : (v : World) (e : Event) (s : Brief) (stage : Stage) (words : List ℕ) → head slot s ≡ Asks stage words → IsUsersMove nester v e
+      → (after v e).next ≤ depth → Stands v s → Stands (after v e) s
   others v e _ stage words asks moves few (AtReleases its tidy) =
       let later = held_others nester slot birth start v e moves few its in
       AtReleases later (tidy_others nester slot birth v e [] moves later.holding.porter tidy)
   others v e _ stage words asks moves few (AtOver done tidy) = cc
 
-  own : (v : World) (s : Brief) (stage : Stage) (words : List ℕ) (reply : Reply) → Stands v s → head slot s ≡ Asks stage words → IsAnswered nester v stage words reply →
+  own : (v : World) (s : Brief) (stage : Stage) (words : List ℕ) (reply : Reply) → Stands v s → head slot s ≡ Asks stage words
+      → IsAnswered nester v stage words reply →
       Stands (after v (call_of nester stage words)) ((brief slot).next s reply.status reply.words)
   own v _ stage words reply (AtReleases its tidy) e answered =
       asked (SpaceRelease OWN_SPACE slot) stage no_words words e
       (λ (st : Stage) (ws : List ℕ). IsAnswered nester v st ws reply → Stands (after v (call_of nester st ws)) (Over true)) (λ mine.
-      (let goes = one_change nester v (SpaceRelease OWN_SPACE slot) no_words reply mine (Alter (slot ∷ nester) (SetHolder None)) OK [] (release-row nester slot v its.holding) in
+      (let goes = one_change nester v (SpaceRelease OWN_SPACE slot) no_words reply mine (Alter (slot ∷ nester) (SetHolder None)) OK []
+      (release-row nester slot v its.holding) in
       subst (λ (u : World). Stands u (Over true)) (sym goes.0) (AtOver true (tidy_held nester slot birth v [] None tidy)))) answered
   own v _ stage words reply (AtOver done tidy) e answered = cc
 
@@ -78,8 +81,10 @@ module _ (slot birth : ℕ) (w : World) (nester : Path) (low : slot ≤ LAST_USE
   refused : (said : Said) (status : ℕ) → (status ≡ OK → ⊥) → said ≡ Answered status [] → heard (brief slot) Holds said ≡ Over false
   refused said status other e = ap (heard (brief slot) Holds) e ∙ ap (λ (t : Bool). cond t Releases (Over false)) (ne_eqb status OK other)
 
-  from_hold : IsReadyAt w (hold nester slot) → IsSound (after w (hold nester slot)) → Stands (after w (hold nester slot)) (heard (brief slot) Holds (said_of w (hold nester slot)))
-  from_hold ready sound = by (hold_comes_to nester slot w low (empty slot birth w nester low may) may.sound.whole.valid sound.whole.valid may.sound.whole.few ready)
+  from_hold : IsReadyAt w (hold nester slot) → IsSound (after w (hold nester slot))
+      → Stands (after w (hold nester slot)) (heard (brief slot) Holds (said_of w (hold nester slot)))
+  from_hold ready sound = by (hold_comes_to nester slot w low
+      (empty slot birth w nester low may) may.sound.whole.valid sound.whole.valid may.sound.whole.few ready)
     where
       by : Held nester slot w ⊎ Unheld nester slot w → Stands (after w (hold nester slot)) (heard (brief slot) Holds (said_of w (hold nester slot)))
       by (inl held) =
@@ -116,7 +121,11 @@ module _ (slot birth : ℕ) (w : World) (nester : Path) (low : slot ≤ LAST_USE
   unfolding is_fit
   owed_at v _ stage words (AtReleases its tidy) e =
       asked (SpaceRelease OWN_SPACE slot) stage no_words words e (λ (st : Stage) (ws : List ℕ). IsOwedCall v nester st ws)
-      (record { due = record { fit = refl; words = refl }; owes = owed_release v nester slot (λ k is live. (tidy.clean (slot ∷ nester) k (scratch_of (slot ∷ nester) k is) live).1); unpicking = refl })
+      (record {
+        due = record { fit = refl; words = refl };
+        owes = owed_release v nester slot (λ k is live. (tidy.clean (slot ∷ nester) k (scratch_of (slot ∷ nester) k is) live).1);
+        unpicking = refl;
+      })
   owed_at v _ stage words (AtOver done tidy) e = cc
 
   stays_at : (v : World) (t : Brief) (stage : Stage) (words : List ℕ) → Stands v t → head slot t ≡ Asks stage words → HasPorter v nester birth
@@ -128,5 +137,6 @@ brief_is_tidy slot birth low = record {
   first = λ w nester may stage words e. owed_first slot birth w nester low may stage words e;
   later = λ w nester v t may work stage words e. owed_at slot birth w nester low may v t stage words (came slot birth w nester low may v t work) e;
   stays = λ w nester v t may work stage words e. stays_at slot birth w nester low may v t stage words (came slot birth w nester low may v t work) e;
-  ends = λ w nester v t end may work stops. tidy_clean nester slot birth v (tidy_at slot birth w nester low may v t (came slot birth w nester low may v t work));
+  ends = λ w nester v t end may work stops. tidy_clean nester slot birth v
+      (tidy_at slot birth w nester low may v t (came slot birth w nester low may v t work));
 }

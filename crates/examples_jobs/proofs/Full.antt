@@ -84,7 +84,10 @@ pub sound_after : (e : Event) → IsDue full e → Owes full e → IsSound (afte
 unfolding premises
 sound_after e due owes =
     let left : full.next + 1 ≤ depth = omega arith in
-    record { whole = (keeps_runnable full e (savable_runnable full full_whole full_savable) due left).whole; savable = keeps_savable full e full_whole full_savable due owes }
+    record {
+      whole = (keeps_runnable full e (savable_runnable full full_whole full_savable) due left).whole;
+      savable = keeps_savable full e full_whole full_savable due owes;
+    }
 
 pub full_ready : IsReadyAt full (hold [] 1)
 unfolding premises

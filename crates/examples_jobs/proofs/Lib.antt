@@ -3,3 +3,5 @@ pub mod Brief
 pub mod Wrong
 pub mod Turns
 pub mod Scripts
+pub mod Endless
+pub mod Pins

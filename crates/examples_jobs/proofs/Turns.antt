@@ -43,7 +43,8 @@ ended_in_time w d settles = by d settles
     second _ (Stays c none) = refl
     second _ (Ends c d why now rest) = absurd (none_left why now)
 
-    first : (d : Core ℕ ℕ ℕ) (why : Unmoved) → EndsNow late (after_events w 5) why → Settles late (with_end (after_events w 5) why) d → d ≡ with_end (after_events w 5) NoImage
+    first : (d : Core ℕ ℕ ℕ) (why : Unmoved) → EndsNow late (after_events w 5) why → Settles late (with_end (after_events w 5) why) d
+        → d ≡ with_end (after_events w 5) NoImage
     first d NoImage now rest = second d rest
     first d Dead now rest = let begins = now.ends.1 in cc
 

@@ -27,7 +27,8 @@ after_events w events = record { world = w; servers = 0; ends = []; work = None;
 
 -- while a move of another is ready it doesn't end before its time
 abbrev pub NotYetEnded : Type 0
-NotYetEnded = (w : World) (m : Move) (d : Core ℕ ℕ ℕ) → is_porter_of 0 m.who ≡ false → IsReadyAt w (event_of w asks.Run m) → Settles late (after_events w 4) d → d ≡ after_events w 4
+NotYetEnded = (w : World) (m : Move) (d : Core ℕ ℕ ℕ) → is_porter_of 0 m.who ≡ false → IsReadyAt w (event_of w asks.Run m) → Settles late (after_events w 4) d
+    → d ≡ after_events w 4
 
 -- from its time on it ends, for want of an image, and nothing else ends
 abbrev pub EndedInTime : Type 0

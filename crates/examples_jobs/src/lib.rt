@@ -2,14 +2,17 @@
 //! example is the contract of a function that does nothing.
 #![tactic(auto)]
 
-ghost use Rattle.std.specs.Prelude.{[]};
+ghost use Rattle.std.specs.Prelude.{ℕ, []};
 ghost use Rattle.fk_model.specs.Runs.{after};
 ghost use Rattle.laws_savable.specs.Savable.{IsSound};
 ghost use Rattle.laws_further.specs.ClosedLaws.{IsUncut, IsUsersAlone};
 ghost use Rattle.laws_jobs.specs.Machines.{IsReadyAt};
-ghost use Rattle.laws_jobs.specs.Jobs.{MayBegin, IsTidyJob, Saves};
+ghost use Rattle.laws_jobs.specs.Jobs.{MayBegin, IsTidyJob, Saves, Restores};
 ghost use Rattle.laws_jobs.specs.Holds.{hold};
 ghost use Rattle.examples_jobs.specs.Brief.{BriefIsTidy, full};
+ghost use Rattle.examples_jobs.specs.Endless.{asks_again, CallsAtMost};
+ghost use Rattle.examples_jobs.specs.Pins.{leaves_pin, empty_space};
+ghost use Rattle.examples_jobs.specs.Pins.State.{Makes};
 ghost use Rattle.examples_jobs.specs.Scripts.{LooksRise};
 ghost use Rattle.examples_jobs.specs.Turns.{NotYetEnded, EndedInTime, OneMove};
 ghost use Rattle.examples_jobs.specs.Wrong.{destroys_its_porter, makes_a_mutex, leaves_scratch, holds_at_once, says_nothing};
@@ -41,6 +44,16 @@ pub fn jobs_that_are_not_tidy()
 /// A job that says it has saved what it only held doesn't save.
 pub fn a_job_that_does_not_save()
     ensures { Saves holds_at_once 0 1 says_nothing full [] First → ⊥ }
+{}
+
+/// A restore that leaves its pin in the space that it has made doesn't restore.
+pub fn a_restore_that_leaves_its_pin()
+    ensures { Restores leaves_pin 0 2 (λ slot. slot) empty_space (λ done. done) full [] Makes → ⊥ }
+{}
+
+/// A job that never ends makes more calls than any number.
+pub fn a_job_that_never_ends()
+    ensures { (most : ℕ) → CallsAtMost asks_again [] full 0 most → ⊥ }
 {}
 
 /// A job that has no image ends from its time on and not before, while a move of another is ready.

@@ -7,14 +7,17 @@ use Rattle.fk_model.specs.Places.{Path, Ptr, same_path, parent}
 use Rattle.fk_model.specs.Places.Ptr.{At}
 use Rattle.fk_model.specs.Objects.{Thread, Body, and_then}
 use Rattle.fk_model.specs.Objects.Body.{Mutex, Mapping, Region, Port, Space, Thread_of, Reference}
-use Rattle.fk_model.specs.World.{World, Change, Edit, Sweep, edited, apply, apply_all, on_thread, through, death_sweep, following, with_locked, with_window, with_extent, with_member, with_pointer}
+use Rattle.fk_model.specs.World.{World, Change, Edit, Sweep, edited, apply, apply_all, on_thread, through, death_sweep, following, with_locked, with_window}
+use Rattle.fk_model.specs.World.{with_extent, with_member, with_pointer}
 use Rattle.fk_model.specs.World.Change.{Alter, Make, MakeSpace, Kill, Move, PutPage, DropPage}
-use Rattle.fk_model.specs.World.Edit.{SetLocked, SetWindow, SetExtent, SetMember, SetPointer, SetHolder, Proceed, Shift, Finish, End, Replace, SetStops, SetTalk, CountMoved, PassTurn, SetPeer, SetFault, SetTaker}
+use Rattle.fk_model.specs.World.Edit.{SetLocked, SetWindow, SetExtent, SetMember, SetPointer, SetHolder, Proceed, Shift, Finish, End, Replace, SetStops}
+use Rattle.fk_model.specs.World.Edit.{SetTalk, CountMoved, PassTurn, SetPeer, SetFault, SetTaker}
 use Rattle.fk_model.specs.Holds.{holder_of, decider, is_frozen_for, leads_to_frozen}
 use Rattle.fk_model.specs.Outcomes.{Outcome}
 use Rattle.fk_model.specs.Outcomes.Outcome.{Refused, Waits, Goes}
 use Rattle.fk_model.specs.Searches.{pointers, option_list}
-use Rattle.fk_model.specs.Freezing.{changed_pointers, made_pointers, body_pointers, are_unfrozen, may_be_swept, may_follow, is_swept, lost_with, IsAllowed, AreAllowed}
+use Rattle.fk_model.specs.Freezing.{changed_pointers, made_pointers, body_pointers, are_unfrozen, may_be_swept, may_follow, is_swept, lost_with, IsAllowed}
+use Rattle.fk_model.specs.Freezing.{AreAllowed}
 use Rattle.fk_model.specs.Moves.{outcome, step, stepped, GoesAllowed}
 use Rattle.fk_model.specs.Runs.{Event, after, IsLegal}
 use Rattle.examples_moves.specs.Worked.{body_in}

@@ -8,7 +8,8 @@ use Rattle.fk_model.specs.Objects.Mode.{Native}
 use Rattle.fk_model.specs.Objects.Peer.{Server}
 use Rattle.fk_model.specs.Objects.Body.{Mapping, Region, Port, Space, Reference}
 use Rattle.fk_model.specs.World.{World}
-use Rattle.examples_moves.specs.Worked.{machine, world_of, page_with, numbered, running, calling, thread_in_mode, with_talk, with_fault, served_by, client, server, stores_at_r2}
+use Rattle.examples_moves.specs.Worked.{machine, world_of, page_with, numbered, running, calling, thread_in_mode, with_talk, with_fault, served_by, client}
+use Rattle.examples_moves.specs.Worked.{server, stores_at_r2}
 
 -- the thread that holds or would hold /1, and another one
 abbrev pub holder : Path

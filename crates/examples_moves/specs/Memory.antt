@@ -8,7 +8,8 @@ use Rattle.fk_model.specs.Objects.{Talk, Body}
 use Rattle.fk_model.specs.Objects.Body.{Mapping, Region, Port, Space}
 use Rattle.fk_model.specs.World.{World}
 use Rattle.fk_model.specs.Runs.{run}
-use Rattle.examples_moves.specs.Worked.{machine, world_of, page_with, numbered, numbers_from, running, calling, with_talk, with_fault, served_by, goes, stores_at_r2}
+use Rattle.examples_moves.specs.Worked.{machine, world_of, page_with, numbered, numbers_from, running, calling, with_talk, with_fault, served_by, goes}
+use Rattle.examples_moves.specs.Worked.{stores_at_r2}
 
 -- ---- pages of /1: the pages 0, 1 and 2 are there, and each thread is in one call
 

@@ -9,7 +9,8 @@ use Rattle.fk_model.specs.Objects.Peer.{Service, Parked}
 use Rattle.fk_model.specs.Objects.Body.{Port, Space, Reference}
 use Rattle.fk_model.specs.World.{World}
 use Rattle.fk_model.specs.Runs.{Event}
-use Rattle.examples_moves.specs.Worked.{machine, world_of, page_with, numbered, running, calling, with_talk, goes, times, accepts, hands_over, root_port, client}
+use Rattle.examples_moves.specs.Worked.{machine, world_of, page_with, numbered, running, calling, with_talk, goes, times, accepts, hands_over, root_port}
+use Rattle.examples_moves.specs.Worked.{client}
 
 -- its talk with the native server
 abbrev pub served : Turn → ℕ → Talk

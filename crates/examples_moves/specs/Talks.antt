@@ -8,7 +8,8 @@ use Rattle.fk_model.specs.Objects.Peer.{Server, Parked}
 use Rattle.fk_model.specs.Objects.Body.{Region, Port, Portset, Space, Reference}
 use Rattle.fk_model.specs.World.{World}
 use Rattle.fk_model.specs.Runs.{Event, run}
-use Rattle.examples_moves.specs.Worked.{Page, machine, world_of, page_with, numbered, running, calling, stopped, with_talk, with_fault, served_by, registers_at, registers_from, goes, picks, times, client, server}
+use Rattle.examples_moves.specs.Worked.{Page, machine, world_of, page_with, numbered, running, calling, stopped, with_talk, with_fault, served_by, registers_at}
+use Rattle.examples_moves.specs.Worked.{registers_from, goes, picks, times, client, server}
 
 -- the port
 abbrev pub port : Path

@@ -24,7 +24,8 @@ use Rattle.fk_model.specs.SyncRows.{mutex_lock, mutex_trylock, mutex_unlock, con
 use Rattle.fk_model.specs.TransferRows.{send, receive, over}
 use Rattle.fk_model.specs.LinkRows.{connect, candidate, wait, disconnect, link_set, link_park}
 use Rattle.fk_model.specs.FaultRows.{fault_done, fault_set, fault_park}
-use Rattle.fk_model.specs.SpaceRows.{space_hold, space_release, thread_stop, thread_go, page_give, page_take, page_read, next_page, page_next, hold_set, space_make_held}
+use Rattle.fk_model.specs.SpaceRows.{space_hold, space_release, thread_stop, thread_go, page_give, page_take, page_read, next_page, page_next, hold_set}
+use Rattle.fk_model.specs.SpaceRows.{space_make_held}
 use Rattle.fk_model.specs.Records.{record_of, set, takes_state, calling_by}
 use Rattle.fk_model.specs.StateRows.{get_state, set_state, get_ptr, set_ptr}
 use Rattle.fk_model.specs.ObjectRows.{create, destroy, rename, search, point, clear, locate, count_in}

@@ -4,8 +4,11 @@
 ghost use Rattle.std.specs.Prelude.{◌≡◌, [], ◌∷◌, ◌++◌, Some, true, false, map};
 ghost use Rattle.fk_model.specs.Objects.Body.{Mutex};
 ghost use Rattle.fk_model.specs.Runs.{run, IsLegal};
-ghost use Rattle.examples_moves.specs.Worked.{becomes, scene, after_each, IsReadyTo, goes, picks, times, running, calling, halted, stopped, registers_at, registers_from};
-ghost use Rattle.examples_moves.specs.Locks.{alone_with, division, countdown, two_lock, lock_twice, one_sleeps, sleeps, reads, lets_go, signal_parts, until_stopped, until_signalling, until_signalled, page_with_record, sleeper, caller_and_sleepers, locks_and_sleepers, calls_of, sleeper_and_signaller, none_sleeps, thread_0, thread_1, mutex};
+ghost use Rattle.examples_moves.specs.Worked.{becomes, scene, after_each, IsReadyTo, goes, picks, times, running, calling, halted, stopped, registers_at};
+ghost use Rattle.examples_moves.specs.Worked.{registers_from};
+ghost use Rattle.examples_moves.specs.Locks.{alone_with, division, countdown, two_lock, lock_twice, one_sleeps, sleeps, reads, lets_go, signal_parts};
+ghost use Rattle.examples_moves.specs.Locks.{until_stopped, until_signalling, until_signalled, page_with_record, sleeper, caller_and_sleepers};
+ghost use Rattle.examples_moves.specs.Locks.{locks_and_sleepers, calls_of, sleeper_and_signaller, none_sleeps, thread_0, thread_1, mutex};
 
 /// A program subtracts past zero, shifts all bits out, and divides by the zero that is left: it
 /// halts with code 1. A loop counts a register down to zero, and then its program halts. The

@@ -5,7 +5,8 @@ ghost use Rattle.std.specs.Prelude.{◌≡◌, [], ◌∷◌, ◌++◌, Some, No
 ghost use Rattle.fk_model.specs.Places.Ptr.{At, Null, Dead};
 ghost use Rattle.fk_model.specs.Runs.{run, IsLegal};
 ghost use Rattle.examples_moves.specs.Worked.{becomes, IsReadyTo, goes, running, halted, with_talk, numbers_from};
-ghost use Rattle.examples_moves.specs.Memory.{thread, giving_and_taking, given_and_taken, two_pages, loader, sender, to_root, chain_to, loop, window, all_pages, thread_that_missed_5, missing, two_mappings, two_regions};
+ghost use Rattle.examples_moves.specs.Memory.{thread, giving_and_taking, given_and_taken, two_pages, loader, sender, to_root, chain_to, loop, window};
+ghost use Rattle.examples_moves.specs.Memory.{all_pages, thread_that_missed_5, missing, two_mappings, two_regions};
 
 /// A page of zeros is given once. It is taken once: its words go to the caller's page. There is no
 /// page 256 to give.

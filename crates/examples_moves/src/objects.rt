@@ -6,8 +6,12 @@ ghost use Rattle.fk_model.specs.Places.Ptr.{At, Null, Dead};
 ghost use Rattle.fk_model.specs.Objects.Peer.{Server};
 ghost use Rattle.fk_model.specs.Objects.Body.{Mutex, Port, Portset, Space, Reference};
 ghost use Rattle.fk_model.specs.Runs.{run, IsLegal};
-ghost use Rattle.examples_moves.specs.Worked.{becomes, scene, after_each, registers_at, registers_from, IsReadyTo, goes, times, running, calling, stopped, numbers_from, caller};
-ghost use Rattle.examples_moves.specs.Objects.{alone_in, locating, searcher, searching, with_references, destroyer, server_receives, server_ended, still_destroys, served_one, destroying, up_to_the_last, destroyed, in_2_and_beside, renamer, renaming, port_and_references, port_set_and_port, talker, helped, set_port, root_server, helper, talking, missing_5, kept_by, related, related_ones, scene_after, answer_to, space_holder, holder_dies, beneath_itself};
+ghost use Rattle.examples_moves.specs.Worked.{becomes, scene, after_each, registers_at, registers_from, IsReadyTo, goes, times, running, calling, stopped};
+ghost use Rattle.examples_moves.specs.Worked.{numbers_from, caller};
+ghost use Rattle.examples_moves.specs.Objects.{alone_in, locating, searcher, searching, with_references, destroyer, server_receives, server_ended};
+ghost use Rattle.examples_moves.specs.Objects.{still_destroys, served_one, destroying, up_to_the_last, destroyed, in_2_and_beside, renamer, renaming};
+ghost use Rattle.examples_moves.specs.Objects.{port_and_references, port_set_and_port, talker, helped, set_port, root_server, helper, talking, missing_5};
+ghost use Rattle.examples_moves.specs.Objects.{kept_by, related, related_ones, scene_after, answer_to, space_holder, holder_dies, beneath_itself};
 
 /// What a reference leads to lies in slot 4 of the caller's space, and deeper there.
 pub fn a_reference_is_located()

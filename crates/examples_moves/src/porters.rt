@@ -2,7 +2,8 @@
 #![tactic(auto, unfolding(crate::specs::Porters::porter_worlds))]
 
 ghost use Rattle.std.specs.Prelude.{◌≡◌, [], ◌∷◌, Some, None, true, false, replicate};
-ghost use Rattle.fk_model.specs.declared.stage.Stage.TheVariants.{Destroy, CountIn, GetPtr, GetState, SetState, PageGive, PageTake, PageRead, LinkSet, LinkPark, FaultSet, FaultPark, HoldSet, SpaceMakeHeld, MutexLock};
+ghost use Rattle.fk_model.specs.declared.stage.Stage.TheVariants.{Destroy, CountIn, GetPtr, GetState, SetState, PageGive, PageTake, PageRead, LinkSet};
+ghost use Rattle.fk_model.specs.declared.stage.Stage.TheVariants.{LinkPark, FaultSet, FaultPark, HoldSet, SpaceMakeHeld, MutexLock};
 ghost use Rattle.fk_model.specs.declared.thread.Turn.TheVariants as turns;
 ghost use Rattle.fk_model.specs.Places.Ptr.{At, Null};
 ghost use Rattle.fk_model.specs.Objects.Peer.{Server, Parked};

@@ -6,8 +6,10 @@ ghost use Rattle.fk_model.specs.declared.thread.Turn.TheVariants as turns;
 ghost use Rattle.fk_model.specs.Places.Ptr.{At};
 ghost use Rattle.fk_model.specs.Outcomes.Said.{Taken, Words, Passed, Given, Full, Ended};
 ghost use Rattle.fk_model.specs.Runs.{run, IsLegal};
-ghost use Rattle.examples_moves.specs.Worked.{becomes, IsReadyTo, told_by_move, goes, accepts, gives, hands_over, running, calling, halted, with_talk, numbers_from, root_port, client};
-ghost use Rattle.examples_moves.specs.Servers.{served, to_console, rest_of_send, entered, and_accepted, and_sent_one, and_sent_two, and_turned, and_returned, awaiting, second, two_clients, leaving, idling};
+ghost use Rattle.examples_moves.specs.Worked.{becomes, IsReadyTo, told_by_move, goes, accepts, gives, hands_over, running, calling, halted, with_talk};
+ghost use Rattle.examples_moves.specs.Worked.{numbers_from, root_port, client};
+ghost use Rattle.examples_moves.specs.Servers.{served, to_console, rest_of_send, entered, and_accepted, and_sent_one, and_sent_two, and_turned, and_returned};
+ghost use Rattle.examples_moves.specs.Servers.{awaiting, second, two_clients, leaving, idling};
 
 /// A program sends 70 words to a native server in two blocks, the first of them 64 words, and gets
 /// the turn back.

@@ -9,7 +9,8 @@ ghost use Rattle.fk_model.specs.Objects.Body.{Mutex, Region, Port, Reference};
 ghost use Rattle.fk_model.specs.Outcomes.Said.{Answered};
 ghost use Rattle.fk_model.specs.Runs.{run};
 ghost use Rattle.examples_moves.specs.Worked.{becomes, IsReadyTo, told_by_move, goes, makes, running, calling, halted, stopped, caller};
-ghost use Rattle.examples_moves.specs.States.{setting, setting_by, setting_to, records, in_call_21, in_mode, set_mapping, inner_porter, with_porter, faulting, faulting_record, stopping, pointing};
+ghost use Rattle.examples_moves.specs.States.{setting, setting_by, setting_to, records, in_call_21, in_mode, set_mapping, inner_porter, with_porter, faulting};
+ghost use Rattle.examples_moves.specs.States.{faulting_record, stopping, pointing};
 
 /// The state of a running thread that isn't stopped isn't set.
 pub fn a_running_thread_takes_no_state()

@@ -6,8 +6,12 @@ ghost use Rattle.fk_model.specs.declared.thread.Turn.TheVariants as turns;
 ghost use Rattle.fk_model.specs.Places.Ptr.{At};
 ghost use Rattle.fk_model.specs.Objects.Peer.{Server};
 ghost use Rattle.fk_model.specs.Runs.{run, IsLegal};
-ghost use Rattle.examples_moves.specs.Worked.{becomes, scene, after_each, IsReadyTo, with_fault, goes, picks, times, running, calling, stopped, with_talk, registers_from, numbers_from, client, server};
-ghost use Rattle.examples_moves.specs.Talks.{clients_turn, servers_turn, sending, asking_to_receive, message, sent, ends_at, left, sent_all, both_ends, sent_to_few, linked_in, unlinked_in, reader, second_reader, watched, sent_and_read, keeper_thread, kept, sent_5, received_5, write_missed_5, arrives, misses, keeper_parts, talkers_and_keeper, until_mended, meeting, replying, ending, waiting, waited_for, receives_10, taken_fault, picked, still_serving};
+ghost use Rattle.examples_moves.specs.Worked.{becomes, scene, after_each, IsReadyTo, with_fault, goes, picks, times, running, calling, stopped, with_talk};
+ghost use Rattle.examples_moves.specs.Worked.{registers_from, numbers_from, client, server};
+ghost use Rattle.examples_moves.specs.Talks.{clients_turn, servers_turn, sending, asking_to_receive, message, sent, ends_at, left, sent_all, both_ends};
+ghost use Rattle.examples_moves.specs.Talks.{sent_to_few, linked_in, unlinked_in, reader, second_reader, watched, sent_and_read, keeper_thread, kept, sent_5};
+ghost use Rattle.examples_moves.specs.Talks.{received_5, write_missed_5, arrives, misses, keeper_parts, talkers_and_keeper, until_mended, meeting, replying};
+ghost use Rattle.examples_moves.specs.Talks.{ending, waiting, waited_for, receives_10, taken_fault, picked, still_serving};
 
 /// A message of 130 words goes in five moves: none moves more words than a page, of either side,
 /// has left from the address on. Both sides' registers say at any time what is left, as if they had

@@ -11,7 +11,8 @@ use Rattle.fk_model.specs.Whole.{is_scratch_slot, IsWhole, IsSavable}
 use Rattle.examples_moves.specs.Worked.{body_in, page_with, registers_from, running, with_talk, with_fault}
 use Rattle.examples_premises.specs.Premises.{premises, nesters_porter, within, objects_of, pages_of}
 use Rattle.examples_premises.proofs.Listed.{All, found, IsShapedAt, whole, savable}
-use Rattle.examples_owed.specs.Owed.{leads_within, leads_outside, scratched, with_register, with_counter, with_moved, with_missing, with_word, talk_of_moved, fault_on_page}
+use Rattle.examples_owed.specs.Owed.{leads_within, leads_outside, scratched, with_register, with_counter, with_moved, with_missing, with_word, talk_of_moved}
+use Rattle.examples_owed.specs.Owed.{fault_on_page}
 
 abbrev listed : Ptr → List (Path × Body)
 listed to = ([], Space 0 None) ∷ (240 ∷ [], Reference to) ∷ objects_of (Some (At nesters_porter))

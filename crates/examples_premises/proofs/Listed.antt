@@ -1,5 +1,6 @@
 -- What is tested of each object that a world lists holds of the world: that it is valid, whole, plain and savable.
-use Rattle.std.proofs.Common.{◌≡◌, ℕ, ◌+◌, ◌<◌, ◌≤◌, eqb, ltb, nat_le, Bool, true, false, not, ◌&&◌, ◌||◌, cond, IsSome, is_some, is_none, List, [], ◌∷◌, ◌++◌, length, Option, Some, None, option_map, refl, sym, subst, ◌∙◌, arith}
+use Rattle.std.proofs.Common.{◌≡◌, ℕ, ◌+◌, ◌<◌, ◌≤◌, eqb, ltb, nat_le, Bool, true, false, not, ◌&&◌, ◌||◌, cond, IsSome, is_some, is_none, List, [], ◌∷◌, ◌++◌}
+use Rattle.std.proofs.Common.{length, Option, Some, None, option_map, refl, sym, subst, ◌∙◌, arith}
 use Rattle.std.specs.List.{list_all, list_any}
 use Rattle.std.proofs.lemmas.Bool.{and_parts, eqb-true, leb-true, ltb-true}
 use Rattle.fk_model.specs.declared.limits.TheConstants.{SLOTS, PAGES, PAGE_WORDS, MOST_STOPS, MOST_MOVED}
@@ -13,7 +14,8 @@ use Rattle.fk_model.specs.World.{World, serves}
 use Rattle.fk_model.specs.Searches.{depth, talk_at, fault_at, pointers}
 use Rattle.fk_model.specs.Holds.{holder_of}
 use Rattle.fk_model.specs.StateRows.{is_native}
-use Rattle.fk_model.specs.Valid.{kind_there, all_in, is_good, birth_of, birth_at, is_served_port, HasService, services, lies_with, IsConsistent, IsRooted, HasPlace, IsPaged, IsValid}
+use Rattle.fk_model.specs.Valid.{kind_there, all_in, is_good, birth_of, birth_at, is_served_port, HasService, services, lies_with, IsConsistent, IsRooted}
+use Rattle.fk_model.specs.Valid.{HasPlace, IsPaged, IsValid}
 use Rattle.fk_model.specs.Shapes.{IsShapedMode, IsCodeInRange}
 use Rattle.fk_model.specs.Whole.{is_placed, stands_in, is_scratch_slot, is_porters, is_word, are_words, HasNumbers, IsWhole, IsSavable}
 use Rattle.fk_model.specs.Cut.{ports_of, cutting, seen_by, unheld, cut, is_far, has_far, is_served_by, IsPlain}

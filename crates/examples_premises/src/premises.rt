@@ -15,7 +15,9 @@ ghost use Rattle.laws_further.specs.ClosedLaws.{IsUncut, IsUsersAlone};
 ghost use Rattle.laws_further.specs.Strangers.{HasNoWindow, IsStrangersPort};
 ghost use Rattle.laws_whole.specs.Runnable.{IsDue};
 ghost use Rattle.examples_moves.specs.Worked.{IsReadyTo, accepts, goes, thread_in_mode};
-ghost use Rattle.examples_premises.specs.Premises.{nesters_porter, within, full_of_all, held_with, with_object, with_one_page, served_within, fault_within, nesters_window, with_user, users_goes, asks_with, parks_talk, parks_fault, with_stranger, strangers_port, strangers_client};
+ghost use Rattle.examples_premises.specs.Premises.{nesters_porter, within, full_of_all, held_with, with_object, with_one_page, served_within, fault_within};
+ghost use Rattle.examples_premises.specs.Premises.{nesters_window, with_user, users_goes, asks_with, parks_talk, parks_fault, with_stranger, strangers_port};
+ghost use Rattle.examples_premises.specs.Premises.{strangers_client};
 
 /// It is valid, has few birth numbers and full pages.
 pub fn a_whole_world()

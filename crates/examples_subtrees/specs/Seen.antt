@@ -16,7 +16,8 @@ use Rattle.fk_model.specs.Further.{Touch}
 use Rattle.fk_model.specs.Further.Onward.{ByOthers}
 use Rattle.fk_model.specs.Seen.{Seen, IsSeen, seen_row}
 use Rattle.fk_model.specs.Seen.Seen.{Onwards}
-use Rattle.examples_moves.specs.Worked.{Page, machine, world_of, page_with, numbered, running, calling, thread_in_mode, with_talk, with_fault, root_port, stores_at_r2}
+use Rattle.examples_moves.specs.Worked.{Page, machine, world_of, page_with, numbered, running, calling, thread_in_mode, with_talk, with_fault, root_port}
+use Rattle.examples_moves.specs.Worked.{stores_at_r2}
 use Rattle.examples_subtrees.specs.Cuts.{in_subtree, subtree}
 
 -- ---- how the subtree sees a move

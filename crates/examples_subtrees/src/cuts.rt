@@ -11,7 +11,8 @@ ghost use Rattle.fk_model.specs.Cut.{cut};
 ghost use Rattle.fk_model.specs.Closed.{open_place, IsClosed};
 ghost use Rattle.fk_model.specs.Seen.{IsStranger};
 ghost use Rattle.examples_moves.specs.Worked.{IsReadyTo, goes, running, with_talk, served_by, filled_to, numbers_from, root_port};
-ghost use Rattle.examples_subtrees.specs.Cuts.{open_at, subtree, in_subtree, beside, clearer, led_into, talked_into, led_from_1_2, talk_out, still_sending, sending_out, held_twice, with_scratch, memory_of, many, all_inside};
+ghost use Rattle.examples_subtrees.specs.Cuts.{open_at, subtree, in_subtree, beside, clearer, led_into, talked_into, led_from_1_2, talk_out, still_sending};
+ghost use Rattle.examples_subtrees.specs.Cuts.{sending_out, held_twice, with_scratch, memory_of, many, all_inside};
 
 /// A subtree isn't closed while a reference from outside leads into it; once that is cleared it is.
 /// Nor is it while a talk from outside does: it leads to the port and to its server, of which the

@@ -9,7 +9,8 @@ ghost use Rattle.fk_model.specs.Further.Onward.{ByOthers};
 ghost use Rattle.fk_model.specs.Further.Touch.{Taken, Given, Filled, Handed, Left, FaultTaken, FaultDone, PageGiven, PageTaken};
 ghost use Rattle.fk_model.specs.Further.Told.{ToldWords, ToldOver, ToldEnd, ToldFault};
 ghost use Rattle.examples_moves.specs.Worked.{numbers_from, running, calling, stopped, with_talk};
-ghost use Rattle.examples_subtrees.specs.Further.{is_ready, later, heard, own_move_taking, outward, talking_out, sending_out, kept_out, connecting, connects, in_2, held_within, receiving_through, destroying, inner_talk};
+ghost use Rattle.examples_subtrees.specs.Further.{is_ready, later, heard, own_move_taking, outward, talking_out, sending_out, kept_out, connecting, connects};
+ghost use Rattle.examples_subtrees.specs.Further.{in_2, held_within, receiving_through, destroying, inner_talk};
 
 /// A peer outside takes at least one word of a Send and at most what lies before the page's end, the
 /// count and 64; both sides are then that much further.

@@ -10,7 +10,9 @@ ghost use Rattle.fk_model.specs.Further.Onward.{Own};
 ghost use Rattle.fk_model.specs.Further.Touch.{Taken, Given, Filled, Handed, Left, FaultTaken, FaultDone, PageGiven, PageTaken};
 ghost use Rattle.fk_model.specs.Seen.Seen.{Onwards, Unseen, Other};
 ghost use Rattle.examples_moves.specs.Worked.{goes, picks, makes, accepts, gives, hands_over, running, calling, stopped, numbers_from};
-ghost use Rattle.examples_subtrees.specs.Seen.{LooksLike, Touches, IsInNoRow, outer_server, native_port, porter, inner_client, facing, at_9, at_10, parked_at, sends_words, receives_into, server_receives, server_sends, waits, faulty, inner_server, talking_inside, sleeping_inside, waiting_inside, storing_in};
+ghost use Rattle.examples_subtrees.specs.Seen.{LooksLike, Touches, IsInNoRow, outer_server, native_port, porter, inner_client, facing, at_9, at_10, parked_at};
+ghost use Rattle.examples_subtrees.specs.Seen.{sends_words, receives_into, server_receives, server_sends, waits, faulty, inner_server, talking_inside};
+ghost use Rattle.examples_subtrees.specs.Seen.{sleeping_inside, waiting_inside, storing_in};
 
 /// What a thread inside does is the subtree's own, with whom it picks inside, and with as many words
 /// as somebody outside takes of it: none where it sends none, or sends them to somebody inside.

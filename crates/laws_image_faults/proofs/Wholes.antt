@@ -1,5 +1,6 @@
 -- Wholes: what is read of spaces and of an image is what their forms say, and it stops where they break.
-use Rattle.std.proofs.Common.{◌≡◌, ℕ, Bool, true, false, not, ◌&&◌, ◌==◌, nat_lt, nat_eq, List, [], ◌∷◌, length, take, drop, Option, Some, None, is_some, Result, Ok, Err, if◌then◌else◌, refl, sym, subst}
+use Rattle.std.proofs.Common.{◌≡◌, ℕ, Bool, true, false, not, ◌&&◌, ◌==◌, nat_lt, nat_eq, List, [], ◌∷◌, length, take, drop, Option, Some, None, is_some}
+use Rattle.std.proofs.Common.{Result, Ok, Err, if◌then◌else◌, refl, sym, subst}
 use Rattle.std.specs.Cmp.Lexicographic.{pointwise}
 use Rattle.std.specs.Int.{w16, w32, byte_len, from_le_bytes}
 use Rattle.fk_image.specs.declared.image.SpaceRec.{SpaceRec}
@@ -11,7 +12,8 @@ use Rattle.fk_image_format.specs.Spelling.{magic}
 use Rattle.fk_image_format.specs.declared.reasons.reason.TheConstants as reasons
 use Rattle.fk_image_format.specs.declared.stop.Stop.{Stop}
 use Rattle.fk_image_format.specs.Fields.{◌>>=◌, refuse_field, expect, read_byte, read_number, read_below, read_many}
-use Rattle.fk_image_format.specs.Reading.{read_link, read_objects, read_pages, read_first, or_refuse_field, read_room, read_next, read_placed, read_space, read_head, read_image}
+use Rattle.fk_image_format.specs.Reading.{read_link, read_objects, read_pages, read_first, or_refuse_field, read_room, read_next, read_placed, read_space}
+use Rattle.fk_image_format.specs.Reading.{read_head, read_image}
 use Rattle.laws_image_faults.specs.Forms.{Form}
 use Rattle.laws_image_faults.specs.Forms.Form.{Whole}
 use Rattle.laws_image_faults.specs.Images as forms

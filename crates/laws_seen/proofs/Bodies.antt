@@ -10,7 +10,8 @@ use Rattle.fk_model.specs.Objects.Mode.{Running, Calling, Halted, Native}
 use Rattle.fk_model.specs.Objects.Peer.{Server, Service, Parked}
 use Rattle.fk_model.specs.Objects.Body.{Mutex, Cond, Mapping, Region, Port, Portset, Space, Thread_of, Reference}
 use Rattle.fk_model.specs.World.{World}
-use Rattle.laws_seen.proofs.Stable.{Stable, stable_by, stable_unit, stable_ℕ, stable_bool, stable×, stable⊎, stable_list, stable_option, stable_each, stable_coded}
+use Rattle.laws_seen.proofs.Stable.{Stable, stable_by, stable_unit, stable_ℕ, stable_bool, stable×, stable⊎, stable_list, stable_option, stable_each}
+use Rattle.laws_seen.proofs.Stable.{stable_coded}
 
 -- ---- pointers
 

@@ -16,7 +16,8 @@ use Rattle.fk_model.proofs.walks.PlaceLaws.{same_path_eq}
 use Rattle.laws_waits.specs.Touching.{is_loud, IsThreadEdit, is_map_edit, has_map, stirs, repoints, regroups, LeavesMemory}
 use Rattle.laws_waits.specs.Stuck.{is_held, BringsNobody, End, LeavesEnd, LeavesPage, IsPlace, LeavesPlace, IsGone, Reason, IsStuck, IsUntouched}
 use Rattle.laws_waits.specs.Stuck.End.{Absent, Covered, Unclaimed, Closed}
-use Rattle.laws_waits.specs.Stuck.Reason.{Resting, Beneath, Locking, Sleeping, Connecting, Receiving, Passing, Sending, Lacking, Ending, Holding, Waiting, WaitingOut, Barred}
+use Rattle.laws_waits.specs.Stuck.Reason.{Resting, Beneath, Locking, Sleeping, Connecting, Receiving, Passing, Sending, Lacking, Ending, Holding, Waiting}
+use Rattle.laws_waits.specs.Stuck.Reason.{WaitingOut, Barred}
 use Rattle.laws_waits.specs.Calm.{IsCalm, IsApart, CalmTouchesNobody}
 use Rattle.laws_waits.proofs.Stays.{stuck_stays_lem}
 

@@ -1,5 +1,6 @@
 -- While nothing is held, a thread that isn't ready has a reason.
-use Rattle.std.proofs.Common.{◌≡◌, ℕ, ◌≤◌, Bool, true, false, not, if◌then◌else◌, ◌&&◌, ◌||◌, ◌==◌, ◌%◌, nat_le, is_some, List, [], ◌∷◌, Option, Some, None, option_map, Result, Ok, Err, refl, ap, sym, subst, ◌∙◌, ◌⊎◌, inl, inr}
+use Rattle.std.proofs.Common.{◌≡◌, ℕ, ◌≤◌, Bool, true, false, not, if◌then◌else◌, ◌&&◌, ◌||◌, ◌==◌, ◌%◌, nat_le, is_some, List, [], ◌∷◌, Option, Some, None}
+use Rattle.std.proofs.Common.{option_map, Result, Ok, Err, refl, ap, sym, subst, ◌∙◌, ◌⊎◌, inl, inr}
 use Rattle.std.specs.List.{list_any, flat_map}
 use Rattle.std.proofs.lemmas.Bool.{and_parts}
 use Rattle.fk_model.specs.declared.limits.TheConstants.{LAST_USER_SLOT, SLOTS, PAGE_WORDS, BLOCK_WORDS}
@@ -9,7 +10,8 @@ use Rattle.fk_model.specs.declared.instruction.Act.TheVariants as acts_of
 use Rattle.fk_model.specs.declared.names.Kind.{Kind}
 use Rattle.fk_model.specs.declared.names.Kind.TheVariants as kinds
 use Rattle.fk_model.specs.declared.stage.Stage.{Stage}
-use Rattle.fk_model.specs.declared.stage.Stage.TheVariants.{Create, SpaceHold, MutexLock, CondAsleep, CondSignal, Connect, ClientReceive, ClientSend, ClientOver, Wait, ServerReceive, ServerSend, ServerOver, FaultDone}
+use Rattle.fk_model.specs.declared.stage.Stage.TheVariants.{Create, SpaceHold, MutexLock, CondAsleep, CondSignal, Connect, ClientReceive, ClientSend}
+use Rattle.fk_model.specs.declared.stage.Stage.TheVariants.{ClientOver, Wait, ServerReceive, ServerSend, ServerOver, FaultDone}
 use Rattle.fk_model.specs.declared.statuses.status.TheConstants as status
 use Rattle.fk_model.specs.declared.thread.Turn.{Turn}
 use Rattle.fk_model.specs.declared.thread.Turn.TheVariants as turns
@@ -50,7 +52,8 @@ use Rattle.fk_model.specs.Reach.{Reach, reach_word, words_at}
 use Rattle.fk_model.specs.Reach.Reach.{Home, Missing, Bad}
 use Rattle.fk_model.specs.Readers.{own_page_at}
 use Rattle.fk_model.specs.Talks.{Line, line_from, line, same_side, other_side, receiving, thread_led_to, is_service_free}
-use Rattle.fk_model.specs.TransferRows.{at_turn, in_turn, receive, passes, passes_to, passes_to_thread, over, overwritten, block, moved_words, has_sent, sends_words, sends_into, sends_to_thread, sends_to_service, sends_to, sends, send}
+use Rattle.fk_model.specs.TransferRows.{at_turn, in_turn, receive, passes, passes_to, passes_to_thread, over, overwritten, block, moved_words, has_sent}
+use Rattle.fk_model.specs.TransferRows.{sends_words, sends_into, sends_to_thread, sends_to_service, sends_to, sends, send}
 use Rattle.laws_waits.specs.Touching.{is_home}
 use Rattle.fk_model.specs.FaultRows.{frees, fault_done}
 use Rattle.fk_model.specs.SpaceRows.{has_porter, is_held_by_other, space_hold}

@@ -10,10 +10,12 @@ use Rattle.fk_model.specs.World.Change.{Alter}
 use Rattle.fk_model.specs.Searches.{thread_at, talk_at}
 use Rattle.fk_model.proofs.walks.PlaceLaws.{same_path_eq, same_path_refl}
 use Rattle.laws_waits.specs.Touching.{IsThreadEdit, stirs}
-use Rattle.laws_waits.specs.Stuck.{BringsNobody, talk_place, is_talk_of, is_with, IsTalking, IsTalkingTo, HasTaken, LeavesEnd, IsGone, Reason, IsStuck, IsUntouched}
+use Rattle.laws_waits.specs.Stuck.{BringsNobody, talk_place, is_talk_of, is_with, IsTalking, IsTalkingTo, HasTaken, LeavesEnd, IsGone, Reason, IsStuck}
+use Rattle.laws_waits.specs.Stuck.{IsUntouched}
 use Rattle.laws_waits.specs.Stuck.{End as End_of_talk}
 use Rattle.laws_waits.specs.Stuck.End.{Absent, Covered, Unclaimed, Closed}
-use Rattle.laws_waits.specs.Stuck.Reason.{Resting, Beneath, Locking, Sleeping, Connecting, Receiving, Passing, Sending, Lacking, Ending, Holding, Waiting, WaitingOut, Barred}
+use Rattle.laws_waits.specs.Stuck.Reason.{Resting, Beneath, Locking, Sleeping, Connecting, Receiving, Passing, Sending, Lacking, Ending, Holding, Waiting}
+use Rattle.laws_waits.specs.Stuck.Reason.{WaitingOut, Barred}
 use Rattle.laws_waits.specs.Few.{is_peer_of, is_taker_of, IsNobodyTo, DoesntCome, IsSpared, ThreadEditsTouchFew, ClientsAreFound}
 use Rattle.laws_waits.proofs.Rows.{client-found, held-some}
 use Rattle.laws_waits.proofs.Calm.{off-right, held-other, memory-left, page-left, place-left, space-other, set-other, lock-other}

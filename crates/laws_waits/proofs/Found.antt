@@ -1,5 +1,6 @@
 -- A wait that isn't ready has nobody who comes to it.
-use Rattle.std.proofs.Common.{◌≡◌, ℕ, ◌≤◌, Bool, true, false, not, cond, if◌then◌else◌, ◌&&◌, ◌||◌, ◌==◌, is_some, List, [], ◌∷◌, Option, Some, None, option_map, refl, ap, sym, subst, ◌∙◌, ◌⊎◌, inl, inr}
+use Rattle.std.proofs.Common.{◌≡◌, ℕ, ◌≤◌, Bool, true, false, not, cond, if◌then◌else◌, ◌&&◌, ◌||◌, ◌==◌, is_some, List, [], ◌∷◌, Option, Some, None}
+use Rattle.std.proofs.Common.{option_map, refl, ap, sym, subst, ◌∙◌, ◌⊎◌, inl, inr}
 use Rattle.std.proofs.lemmas.Bool.{and_parts, or_parts, or_cases, not-true}
 use Rattle.fk_model.specs.declared.moves.Ask.TheVariants as asks
 use Rattle.fk_model.specs.declared.names.Kind.TheVariants as kinds
@@ -17,14 +18,16 @@ use Rattle.fk_model.specs.Holds.{holder_of, decider, is_frozen_for, is_free, is_
 use Rattle.fk_model.specs.Freezing.{MayAlter, changed_pointers, are_unfrozen}
 use Rattle.fk_model.specs.Outcomes.{when}
 use Rattle.fk_model.specs.Talks.{first_stage}
-use Rattle.fk_model.specs.LinkRows.{user_at, port_named, connecting_to, is_member, is_open, is_parked, portset_of, slot_in_set, Candidate, faulting, connecting, resuming, candidate_by, candidate, takes_candidate, wait}
+use Rattle.fk_model.specs.LinkRows.{user_at, port_named, connecting_to, is_member, is_open, is_parked, portset_of, slot_in_set, Candidate, faulting, connecting}
+use Rattle.fk_model.specs.LinkRows.{resuming, candidate_by, candidate, takes_candidate, wait}
 use Rattle.fk_model.specs.LinkRows.Candidate.{Faulting, Connecting as Connects, Resuming}
 use Rattle.fk_model.specs.Moves.{GoesAllowed, closed, with_pick, goes_on, user_move, call_row, outcome, IsReady}
 use Rattle.fk_model.specs.Valid.{kind_there, IsValid}
 use Rattle.fk_model.proofs.walks.PlaceLaws.{same_path_eq, same_path_refl}
 use Rattle.fk_model.proofs.walks.WalkLaws.{no_client, no_faulter, none_from}
 use Rattle.laws_machine.proofs.Frame.{or_off}
-use Rattle.laws_waits.specs.Stuck.{is_resting, is_held, IsBeneath, is_in, comes_faulting, comes_connecting, comes_resuming, comes_to, is_served_by, IsSet, IsAtStage}
+use Rattle.laws_waits.specs.Stuck.{is_resting, is_held, IsBeneath, is_in, comes_faulting, comes_connecting, comes_resuming, comes_to, is_served_by, IsSet}
+use Rattle.laws_waits.specs.Stuck.{IsAtStage}
 use Rattle.laws_waits.specs.Found.{IsIdleWait, IdleWaitsAreStuck, UnheldWaitsAreStuck}
 use Rattle.laws_waits.proofs.Comes.{comes_by}
 use Rattle.laws_waits.proofs.Calm.{thread-is}

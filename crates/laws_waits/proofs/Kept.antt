@@ -1,11 +1,13 @@
 -- What a change keeps of a world: threads that it doesn't stir, kinds of what it doesn't remake, pages that it doesn't take.
-use Rattle.std.proofs.Common.{◌≡◌, ℕ, Bool, true, false, if◌then◌else◌, ◌&&◌, ◌==◌, is_some, List, ◌∷◌, Option, Some, None, option_map, Ok, Err, refl, ap, sym, subst, ◌∙◌}
+use Rattle.std.proofs.Common.{◌≡◌, ℕ, Bool, true, false, if◌then◌else◌, ◌&&◌, ◌==◌, is_some, List, ◌∷◌, Option, Some, None, option_map, Ok, Err, refl, ap, sym}
+use Rattle.std.proofs.Common.{subst, ◌∙◌}
 use Rattle.fk_model.specs.declared.names.Kind.{Kind}
 use Rattle.fk_model.specs.declared.names.Kind.TheVariants as kinds
 use Rattle.fk_model.specs.declared.statuses.status.TheConstants.{WRONGKIND}
 use Rattle.fk_model.specs.Places.{Path, same_path, parent, Ptr}
 use Rattle.fk_model.specs.Places.Ptr.{Null, Dead, At, Out, Outside, Far}
-use Rattle.fk_model.specs.Objects.{Thread, Body, kind_of, number_of_kind, same_kind as same_kind_of, thread_of, port_of, space_of, reference_of, and_then, holds}
+use Rattle.fk_model.specs.Objects.{Thread, Body, kind_of, number_of_kind, same_kind as same_kind_of, thread_of, port_of, space_of, reference_of, and_then}
+use Rattle.fk_model.specs.Objects.{holds}
 use Rattle.fk_model.specs.Objects.Body.{Mutex, Port, Space, Reference}
 use Rattle.fk_model.specs.World.{World, Change, Edit, Sweep, edited, through, death_sweep, following, apply}
 use Rattle.fk_model.specs.World.Change.{Alter, Make, MakeSpace, Kill, Move, PutPage, DropPage}

@@ -1,11 +1,16 @@
 -- Rows that never wait.
-use Rattle.std.proofs.Common.{◌≡◌, ℕ, Bool, true, false, not, if◌then◌else◌, ◌&&◌, ◌||◌, ◌==◌, nat_le, is_some, List, ◌∷◌, Option, Some, None, Result, Ok, Err, replicate}
+use Rattle.std.proofs.Common.{◌≡◌, ℕ, Bool, true, false, not, if◌then◌else◌, ◌&&◌, ◌||◌, ◌==◌, nat_le, is_some, List, ◌∷◌, Option, Some, None, Result, Ok, Err}
+use Rattle.std.proofs.Common.{replicate}
 use Rattle.fk_model.specs.declared.limits.TheConstants.{SLOTS, LAST_USER_SLOT, PAGE_WORDS, ZEROS, MOST_STOPS}
 use Rattle.fk_model.specs.declared.instruction.Act.{Act}
 use Rattle.fk_model.specs.declared.instruction.Act.TheVariants as acts
 use Rattle.fk_model.specs.declared.names.Kind.TheVariants as kinds
 use Rattle.fk_model.specs.declared.stage.Stage.{Stage}
-use Rattle.fk_model.specs.declared.stage.Stage.TheVariants.{Create, Destroy, Rename, Search, Point, Clear, Locate, CountIn, GetState, SetState, GetPtr, SetPtr, SpaceHold, SpaceRelease, ThreadStop, ThreadGo, PageGive, PageTake, PageRead, PageNext, MutexLock, MutexTrylock, MutexUnlock, CondWait, CondAsleep, CondSignal, CondBroadcast, Connect, ClientReceive, ClientSend, ClientOver, Disconnect, Wait, ServerReceive, ServerSend, ServerOver, ServerEnd, FaultDone, LinkSet, LinkPark, FaultSet, FaultPark, HoldSet, SpaceMakeHeld}
+use Rattle.fk_model.specs.declared.stage.Stage.TheVariants.{Create, Destroy, Rename, Search, Point, Clear, Locate, CountIn, GetState, SetState, GetPtr, SetPtr}
+use Rattle.fk_model.specs.declared.stage.Stage.TheVariants.{SpaceHold, SpaceRelease, ThreadStop, ThreadGo, PageGive, PageTake, PageRead, PageNext, MutexLock}
+use Rattle.fk_model.specs.declared.stage.Stage.TheVariants.{MutexTrylock, MutexUnlock, CondWait, CondAsleep, CondSignal, CondBroadcast, Connect, ClientReceive}
+use Rattle.fk_model.specs.declared.stage.Stage.TheVariants.{ClientSend, ClientOver, Disconnect, Wait, ServerReceive, ServerSend, ServerOver, ServerEnd}
+use Rattle.fk_model.specs.declared.stage.Stage.TheVariants.{FaultDone, LinkSet, LinkPark, FaultSet, FaultPark, HoldSet, SpaceMakeHeld}
 use Rattle.fk_model.specs.declared.statuses.status.TheConstants as status
 use Rattle.fk_model.specs.declared.thread.Turn.{Turn}
 use Rattle.fk_model.specs.declared.thread.Turn.TheVariants as turns
@@ -21,9 +26,12 @@ use Rattle.fk_model.specs.Outcomes.Outcome.{Refused, Waits, Goes}
 use Rattle.fk_model.specs.Outcomes.Said.{Nothing, Answered, Taken, Words, Given, Full, Passed, Ended}
 use Rattle.fk_model.specs.Readers.{slot_for, object_in, anything, kind_at, space_argument, referred, accessed, own_page_at, own_page}
 use Rattle.fk_model.specs.Talks.{line}
-use Rattle.fk_model.specs.ObjectRows.{new_object, create, destroys, destroy, rename, taken_from, search, pointer_in, point, clear, target_of, way_to, locate, object_or_space, count_in}
-use Rattle.fk_model.specs.StateRows.{is_native, is_inner, is_bad_record_address, shows, get_state, is_still, sets_record, record_at, set_state, field_of, get_ptr, set_ptr, held_kinds, is_of_kinds}
-use Rattle.fk_model.specs.SpaceRows.{space_release, thread_by_handle, thread_stop, thread_go, is_page, gives_page, is_bad_source, page_give, copies_home, answers_home, is_bad_target, page_take, page_read, next_page, page_next, hold_set, space_make_held}
+use Rattle.fk_model.specs.ObjectRows.{new_object, create, destroys, destroy, rename, taken_from, search, pointer_in, point, clear, target_of, way_to, locate}
+use Rattle.fk_model.specs.ObjectRows.{object_or_space, count_in}
+use Rattle.fk_model.specs.StateRows.{is_native, is_inner, is_bad_record_address, shows, get_state, is_still, sets_record, record_at, set_state, field_of}
+use Rattle.fk_model.specs.StateRows.{get_ptr, set_ptr, held_kinds, is_of_kinds}
+use Rattle.fk_model.specs.SpaceRows.{space_release, thread_by_handle, thread_stop, thread_go, is_page, gives_page, is_bad_source, page_give, copies_home}
+use Rattle.fk_model.specs.SpaceRows.{answers_home, is_bad_target, page_take, page_read, next_page, page_next, hold_set, space_make_held}
 use Rattle.fk_model.specs.SyncRows.{cond_of, mutex_trylock, mutex_unlock, cond_wait, cond_broadcast}
 use Rattle.fk_model.specs.LinkRows.{disconnect, link_set, link_park}
 use Rattle.fk_model.specs.FaultRows.{named_taker, fault_set, fault_park}

@@ -1,5 +1,6 @@
 -- Quiet edits: what they leave of a thread for those who wait for it.
-use Rattle.std.proofs.Common.{◌≡◌, ℕ, ◌+◌, min, ◌==◌, Bool, true, false, not, ◌&&◌, ◌||◌, is_some, List, [], ◌∷◌, Option, Some, None, option_map, refl, ap, sym, ◌∙◌}
+use Rattle.std.proofs.Common.{◌≡◌, ℕ, ◌+◌, min, ◌==◌, Bool, true, false, not, ◌&&◌, ◌||◌, is_some, List, [], ◌∷◌, Option, Some, None, option_map, refl, ap, sym}
+use Rattle.std.proofs.Common.{◌∙◌}
 use Rattle.fk_model.specs.declared.limits.TheConstants.{MOST_MOVED}
 use Rattle.fk_model.specs.declared.names.Kind.TheVariants as kinds
 use Rattle.fk_model.specs.declared.stage.Stage.{Stage}

@@ -1,5 +1,6 @@
 -- What a thread that is stuck at a stage comes to: it waits.
-use Rattle.std.proofs.Common.{◌≡◌, ℕ, ◌<◌, ◌≤◌, ◌/◌, Bool, true, false, not, cond, if◌then◌else◌, ◌||◌, ◌==◌, nat_le, is_some, List, [], ◌∷◌, Option, Some, None, option_map, Ok, Err, refl, ap, sym, ◌∙◌, arith}
+use Rattle.std.proofs.Common.{◌≡◌, ℕ, ◌<◌, ◌≤◌, ◌/◌, Bool, true, false, not, cond, if◌then◌else◌, ◌||◌, ◌==◌, nat_le, is_some, List, [], ◌∷◌, Option, Some}
+use Rattle.std.proofs.Common.{None, option_map, Ok, Err, refl, ap, sym, ◌∙◌, arith}
 use Rattle.std.proofs.lemmas.Bool.{and_parts}
 use Rattle.fk_model.specs.declared.limits.TheConstants.{LAST_USER_SLOT, PAGE_WORDS}
 use Rattle.fk_model.specs.declared.moves.Ask.TheVariants as asks

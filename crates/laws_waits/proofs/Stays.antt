@@ -1,5 +1,6 @@
 -- A change that leaves a reason leaves it true.
-use Rattle.std.proofs.Common.{◌≡◌, ℕ, ◌/◌, Bool, true, false, not, cond, ◌&&◌, ◌==◌, is_some, List, [], ◌∷◌, Option, Some, None, option_map, Ok, refl, ap, ◌∙◌, ◌⊎◌, inl, inr}
+use Rattle.std.proofs.Common.{◌≡◌, ℕ, ◌/◌, Bool, true, false, not, cond, ◌&&◌, ◌==◌, is_some, List, [], ◌∷◌, Option, Some, None, option_map, Ok, refl, ap, ◌∙◌}
+use Rattle.std.proofs.Common.{◌⊎◌, inl, inr}
 use Rattle.fk_model.specs.declared.limits.TheConstants.{PAGE_WORDS}
 use Rattle.fk_model.specs.declared.names.Kind.TheVariants as kinds
 use Rattle.fk_model.specs.declared.stage.Stage.{Stage}
@@ -20,9 +21,11 @@ use Rattle.fk_model.specs.Moves.{outcome, step, stepped}
 use Rattle.laws_machine.specs.Frame.{names_body}
 use Rattle.fk_model.proofs.walks.PlaceLaws.{same_path_refl}
 use Rattle.laws_waits.specs.Touching.{remakes, stirs, reholds, takes_page}
-use Rattle.laws_waits.specs.Stuck.{is_resting, IsBeneath, End, talk_place, is_talk_of, is_with, is_at_hand, IsGone, IsTalking, IsTalkingTo, IsAtHome, IsReached, LeavesPage, LeavesPlace, IsPlace, HasTaken, comes_to, Reason, IsAtStage, IsStuck, LeavesEnd, AreUntouched}
+use Rattle.laws_waits.specs.Stuck.{is_resting, IsBeneath, End, talk_place, is_talk_of, is_with, is_at_hand, IsGone, IsTalking, IsTalkingTo, IsAtHome, IsReached}
+use Rattle.laws_waits.specs.Stuck.{LeavesPage, LeavesPlace, IsPlace, HasTaken, comes_to, Reason, IsAtStage, IsStuck, LeavesEnd, AreUntouched}
 use Rattle.laws_waits.specs.Stuck.End.{Absent, Covered, Unclaimed, Closed}
-use Rattle.laws_waits.specs.Stuck.Reason.{Resting, Beneath, Locking, Sleeping, Connecting, Receiving, Passing, Sending, Lacking, Ending, Holding, Waiting, WaitingOut, Barred}
+use Rattle.laws_waits.specs.Stuck.Reason.{Resting, Beneath, Locking, Sleeping, Connecting, Receiving, Passing, Sending, Lacking, Ending, Holding, Waiting}
+use Rattle.laws_waits.specs.Stuck.Reason.{WaitingOut, Barred}
 use Rattle.laws_waits.specs.Laws.{StuckStays, MovesLeaveStuck}
 use Rattle.laws_waits.proofs.Quiet.{quiet_away, quiet_talk, quiet_fault}
 use Rattle.laws_waits.proofs.Memory.{memory_kept, word-same}

@@ -1,11 +1,13 @@
 -- No move of a stuck thread is ready.
-use Rattle.std.proofs.Common.{◌≡◌, ℕ, ◌≤◌, Bool, true, false, not, cond, find, if◌then◌else◌, ◌&&◌, ◌||◌, ◌==◌, nat_le, is_some, List, [], ◌∷◌, Option, Some, None, option_map, Ok, refl, ap, sym, subst, ◌∙◌, ◌⊎◌, inl, inr}
+use Rattle.std.proofs.Common.{◌≡◌, ℕ, ◌≤◌, Bool, true, false, not, cond, find, if◌then◌else◌, ◌&&◌, ◌||◌, ◌==◌, nat_le, is_some, List, [], ◌∷◌, Option, Some}
+use Rattle.std.proofs.Common.{None, option_map, Ok, refl, ap, sym, subst, ◌∙◌, ◌⊎◌, inl, inr}
 use Rattle.std.proofs.lemmas.Bool.{and_parts}
 use Rattle.fk_model.specs.declared.limits.TheConstants.{LAST_USER_SLOT}
 use Rattle.fk_model.specs.declared.moves.Ask.TheVariants as asks
 use Rattle.fk_model.specs.declared.names.Kind.TheVariants as kinds
 use Rattle.fk_model.specs.declared.stage.Stage.{Stage}
-use Rattle.fk_model.specs.declared.stage.Stage.TheVariants.{SpaceHold, MutexLock, CondAsleep, Connect, Wait, ClientReceive, ClientSend, ClientOver, ServerReceive, ServerSend, ServerOver, FaultDone}
+use Rattle.fk_model.specs.declared.stage.Stage.TheVariants.{SpaceHold, MutexLock, CondAsleep, Connect, Wait, ClientReceive, ClientSend, ClientOver}
+use Rattle.fk_model.specs.declared.stage.Stage.TheVariants.{ServerReceive, ServerSend, ServerOver, FaultDone}
 use Rattle.fk_model.specs.declared.thread.Turn.{Turn}
 use Rattle.fk_model.specs.declared.thread.Turn.TheVariants as turns
 use Rattle.fk_model.specs.Places.{Path, is_within, parent, Ptr, leads_to}
@@ -26,19 +28,23 @@ use Rattle.fk_model.specs.Readers.{seen_as, handled, handle, space_argument, own
 use Rattle.fk_model.specs.Talks.{Line, first_stage, receiving, other_side, is_service_free}
 use Rattle.fk_model.specs.SyncRows.{cond_of, mutex_lock, cond_asleep}
 use Rattle.fk_model.specs.TransferRows.{awaits, receive, sends, sends_to, sends_to_thread, sends_into, send, passes_to, passes_to_thread, over}
-use Rattle.fk_model.specs.LinkRows.{user_at, connect, connecting_to, is_parked, is_open, portset_of, slot_in_set, Candidate, faulting, connecting, resuming, candidate_by, candidate, takes_picked, takes_candidate, wait}
+use Rattle.fk_model.specs.LinkRows.{user_at, connect, connecting_to, is_parked, is_open, portset_of, slot_in_set, Candidate, faulting, connecting, resuming}
+use Rattle.fk_model.specs.LinkRows.{candidate_by, candidate, takes_picked, takes_candidate, wait}
 use Rattle.fk_model.specs.LinkRows.Candidate.{Faulting, Connecting as Connects, Resuming}
 use Rattle.fk_model.specs.Moves.{with_pick, closed, GoesAllowed, call_row, IsReady}
 use Rattle.fk_model.specs.Valid.{kind_there, IsValid}
 use Rattle.fk_model.proofs.walks.PlaceLaws.{same_path_eq, leads_to_at}
-use Rattle.laws_waits.specs.Stuck.{is_resting, IsBeneath, End, talk_place, is_talk_of, is_with, is_at_hand, IsGone, IsTalking, IsTalkingTo, IsReached, IsPlace, HasRoom, HasTaken, Reason, IsAtStage, IsStuck, is_served_by, IsSet, is_in, comes_to, comes_connecting, comes_resuming}
+use Rattle.laws_waits.specs.Stuck.{is_resting, IsBeneath, End, talk_place, is_talk_of, is_with, is_at_hand, IsGone, IsTalking, IsTalkingTo, IsReached, IsPlace}
+use Rattle.laws_waits.specs.Stuck.{HasRoom, HasTaken, Reason, IsAtStage, IsStuck, is_served_by, IsSet, is_in, comes_to, comes_connecting, comes_resuming}
 use Rattle.laws_waits.specs.Stuck.End.{Absent, Covered, Unclaimed, Closed}
-use Rattle.laws_waits.specs.Stuck.Reason.{Resting, Beneath, Locking, Sleeping, Connecting, Receiving, Passing, Sending, Lacking, Ending, Holding, Waiting, WaitingOut, Barred}
+use Rattle.laws_waits.specs.Stuck.Reason.{Resting, Beneath, Locking, Sleeping, Connecting, Receiving, Passing, Sending, Lacking, Ending, Holding, Waiting}
+use Rattle.laws_waits.specs.Stuck.Reason.{WaitingOut, Barred}
 use Rattle.laws_waits.specs.Touching.{is_home}
 use Rattle.laws_waits.specs.Laws.{StuckIsUnready}
 use Rattle.laws_machine.proofs.Frame.{or_off}
 use Rattle.laws_waits.proofs.Comes.{comes_by}
-use Rattle.laws_waits.proofs.Rows.{goes-on, free-resting, free-beneath, held-decider, at-stage, object-ok, serves-is, line_of, turn-ok, reached-home, faulter-found, held-some}
+use Rattle.laws_waits.proofs.Rows.{goes-on, free-resting, free-beneath, held-decider, at-stage, object-ok, serves-is, line_of, turn-ok, reached-home}
+use Rattle.laws_waits.proofs.Rows.{faulter-found, held-some}
 
 -- ---- a stage that waits is no move
 
@@ -480,10 +486,12 @@ module _ (w : World) (k : ℕ) (s : Path) (valid : IsValid w) (few : w.next ≤ 
       waits-unready w (k ∷ s) false pick _ (send-waits w k s valid few turns.Server address count far client end stuck.1 stuck.2 stuck.3 stuck.4)
       (at-stage w (k ∷ s) pick (ServerSend address count) stuck.0 ready)
   unready (Lacking turns.Client address count far client y into room) stuck pick ready =
-      waits-unready w (k ∷ s) false pick _ (lack-waits w k s valid few turns.Client address count far client y into room stuck.1 stuck.2 stuck.3 stuck.4 stuck.5)
+      waits-unready w (k ∷ s) false pick _ (lack-waits w k s valid few turns.Client address count far client y into room stuck.1 stuck.2 stuck.3 stuck.4
+      stuck.5)
       (at-stage w (k ∷ s) pick (ClientSend address count) stuck.0 ready)
   unready (Lacking turns.Server address count far client y into room) stuck pick ready =
-      waits-unready w (k ∷ s) false pick _ (lack-waits w k s valid few turns.Server address count far client y into room stuck.1 stuck.2 stuck.3 stuck.4 stuck.5)
+      waits-unready w (k ∷ s) false pick _ (lack-waits w k s valid few turns.Server address count far client y into room stuck.1 stuck.2 stuck.3 stuck.4
+      stuck.5)
       (at-stage w (k ∷ s) pick (ServerSend address count) stuck.0 ready)
   unready (Ending y space) stuck pick ready =
       waits-unready w (k ∷ s) false pick _ (end-waits w k s valid few y space stuck.1 stuck.2) (at-stage w (k ∷ s) pick FaultDone stuck.0 ready)

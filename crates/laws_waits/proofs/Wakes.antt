@@ -13,7 +13,8 @@ use Rattle.laws_machine.specs.Frame.{names_body}
 use Rattle.laws_waits.specs.Touching.{is_loud, stirs}
 use Rattle.laws_waits.specs.Stuck.{End, talk_place, is_talk_of, is_with, IsTalking, IsTalkingTo, HasTaken, LeavesEnd, Reason, IsStuck, IsUntouched}
 use Rattle.laws_waits.specs.Stuck.End.{Absent, Covered, Unclaimed, Closed}
-use Rattle.laws_waits.specs.Stuck.Reason.{Resting, Beneath, Locking, Sleeping, Connecting, Receiving, Passing, Sending, Lacking, Ending, Holding, Waiting, WaitingOut, Barred}
+use Rattle.laws_waits.specs.Stuck.Reason.{Resting, Beneath, Locking, Sleeping, Connecting, Receiving, Passing, Sending, Lacking, Ending, Holding, Waiting}
+use Rattle.laws_waits.specs.Stuck.Reason.{WaitingOut, Barred}
 use Rattle.laws_waits.specs.Few.{is_peer_of}
 use Rattle.laws_waits.specs.Wakes.{IsStranger, LeavesCover, LeavesRest, ChangesTouchFew}
 use Rattle.laws_waits.proofs.Rows.{held-some}

@@ -11,7 +11,8 @@ use Rattle.laws_machine.specs.Frame.{names_body}
 use Rattle.laws_waits.specs.Few.{is_peer_of, is_taker_of}
 use Rattle.laws_waits.specs.Stuck.{is_held, End, LeavesPage, LeavesPlace, BringsNobody, Reason, IsStuck, IsUntouched}
 use Rattle.laws_waits.specs.Stuck.End.{Absent, Covered, Unclaimed, Closed}
-use Rattle.laws_waits.specs.Stuck.Reason.{Resting, Beneath, Locking, Sleeping, Connecting, Receiving, Passing, Sending, Lacking, Ending, Holding, Waiting, WaitingOut, Barred}
+use Rattle.laws_waits.specs.Stuck.Reason.{Resting, Beneath, Locking, Sleeping, Connecting, Receiving, Passing, Sending, Lacking, Ending, Holding, Waiting}
+use Rattle.laws_waits.specs.Stuck.Reason.{WaitingOut, Barred}
 use Rattle.laws_waits.specs.Touching.{remakes, stirs, repoints, reholds, LeavesMemory}
 
 -- x is neither the peer of the talk of y, nor the taker of its fault, nor is y the peer of x's talk
