@@ -1,23 +1,34 @@
 -- Parts behind the last one of an item in which something may be done are gone by at once.
-use Rattle.std.proofs.Common.{◌≡◌, ℕ, zero, suc, ◌-◌, ◌<◌, ◌≤◌, Bool, true, false, cond, ltb, leb, ◌==◌, ◌&&◌, ne_eqb, leb-true, ltb-true}
+use Rattle.std.proofs.Common.{◌≡◌, ℕ, zero, suc, ◌-◌, ◌<◌, ◌≤◌, ◌⊎◌, inl, inr, Bool, true, false, not, cond, ltb, leb}
+use Rattle.std.proofs.Common.{◌==◌, ◌&&◌, ◌||◌, ne_eqb, leb-true, ltb-true}
 use Rattle.std.proofs.Common.{List, [], ◌++◌, Option, Some, None, refl, ap, subst, ◌∙◌, arith}
 use Rattle.std.specs.Prelude.{slice_get}
 use Rattle.std.proofs.lemmas.Bool.{le-ltb}
+use Rattle.fk_image.specs.declared.image.Link.{Link}
+use Rattle.fk_image.specs.declared.image.Link.TheVariants.{Null, Dead, In, Out, Root, Outside}
+use Rattle.fk_image.specs.declared.image.TalkRec.{TalkRec}
+use Rattle.fk_image.specs.declared.image.FaultRec.{FaultRec}
+use Rattle.fk_image.specs.declared.image.Rec.{Rec}
 use Rattle.fk_image.specs.declared.image.ObjectRec.{ObjectRec}
+use Rattle.laws_restore.specs.Script.{T}
 use Rattle.fk_image.specs.declared.image.SpaceRec.{SpaceRec}
 use Rattle.fk_positions.specs.declared.position.Walk.{Walk, Walk as walks}
 use Rattle.fk_positions.specs.declared.position.Walk.TheVariants.{Done, Top, Down}
-use Rattle.fk_positions.specs.declared.position.Pass.{Pass}
+use Rattle.fk_positions.specs.declared.position.Pass.{Pass, Pass as passes}
 use Rattle.fk_positions.specs.declared.position.Pass.TheVariants.{Spaces, Fills, Inward, Outward, Ties, Holds}
 use Rattle.fk_positions.specs.declared.position.Spot.{Spot, Spot as spots}
 use Rattle.fk_positions.specs.declared.position.Spot.TheVariants.{Before, Room, Part, After}
 use Rattle.fk_positions.specs.declared.position.Position.{Position}
+use Rattle.fk_positions.specs.Code as code
+use Rattle.fk_positions.specs.Code.{stays_within}
 use Rattle.fk_positions.specs.Passes as words
+use Rattle.fk_positions.specs.Passes.{makes_part, fills_part, holds_part, link_of, walks_to, points_to}
+use Rattle.fk_positions.specs.Passes.{points_out_part, parks_talk_part, parks_fault_part, taken_part}
 use Rattle.fk_positions.specs.Passes.{part_at, inward_part, outward_part, ties_part, talk_part, fault_part, talk_of, fault_of}
 use Rattle.fk_positions.specs.Passes.{leads_within, items_from}
 use Rattle.fk_positions.specs.Passes.Part.{Nothing}
 use Rattle.fk_positions.specs.Positions.{rest, spot_rest, room_rest, part_rest, part_orders, parts_by, IsPosition, IsRoom}
-use Rattle.fk_orders.specs.Left.{parts_of, spent, spent_by, item_left, places_left}
+use Rattle.fk_orders.specs.Left.{parts_of, idle_in, idle_at, spent, spent_by, item_left, places_left}
 
 module _ (ss : List SpaceRec) (slot : ℕ) (bind : ℕ → ℕ) where
   module _ (n : ℕ) (s : SpaceRec) where
@@ -52,19 +63,147 @@ module _ (ss : List SpaceRec) (slot : ℕ) (bind : ℕ → ℕ) where
         by true p q = other k 0 p (cond (k == 1) q Nothing) (omega (arith, le)) ∙ other k 1 q Nothing (omega (arith, le))
         by false p q = refl
 
-    none_left : (m k : ℕ) (pass : Pass) (j : ℕ) → parts_of pass ≤ k → parts_by ss slot bind m n s pass j k ≡ []
-    none_left zero k pass j le = refl
-    none_left (suc m) k pass j le =
-        ap (λ p. part_orders ss slot bind p ++ parts_by ss slot bind m n s pass j (suc k)) (nothing pass j k le)
-        ∙ none_left m (suc k) pass j (omega (arith, le))
+    -- ---- an object at which nothing is done
 
-  gone : (pass : Pass) (a n j k : ℕ) → parts_of pass ≤ k →
+    neither : (t u : Bool) → cond t Nothing (cond u Nothing Nothing) ≡ Nothing
+    neither true u = refl
+    neither false true = refl
+    neither false false = refl
+
+    any : (t u v : Bool) → cond t Nothing (cond u Nothing (cond v Nothing Nothing)) ≡ Nothing
+    any true u v = refl
+    any false u v = neither u v
+
+    no : (t : Bool) → not t ≡ true → t ≡ false
+    no true is = absurd (cc)
+    no false is = refl
+
+    none_of : (a b c : Bool) → (a || b || c) ≡ false → (a ≡ false) × (b ≡ false) × (c ≡ false)
+    none_of true b c is = absurd (cc)
+    none_of false true c is = absurd (cc)
+    none_of false false true is = absurd (cc)
+    none_of false false false is = (refl, refl, refl)
+
+    neither_of : (a b : Bool) → (a || b) ≡ false → (a ≡ false) × (b ≡ false)
+    neither_of true b is = absurd (cc)
+    neither_of false true is = absurd (cc)
+    neither_of false false is = (refl, refl)
+
+    off : (t : Bool) (p : words.Part) → t ≡ false → cond t p Nothing ≡ Nothing
+    off true p none = absurd (cc)
+    off false p none = refl
+
+    idle_inward : (x : ℕ) (to : Link) (k : ℕ) → stays_within to ≡ false →
+        cond (k == 0) (walks_to ss slot bind n s T n to) (cond (k == 1) (points_to ss slot bind n s x to) Nothing) ≡ Nothing
+    idle_inward x Null k none = neither (k == 0) (k == 1)
+    idle_inward x Dead k none = absurd (cc)
+    idle_inward x (In slot space) k none = absurd (cc)
+    idle_inward x (Out i) k none = neither (k == 0) (k == 1)
+    idle_inward x Root k none = absurd (cc)
+    idle_inward x Outside k none = neither (k == 0) (k == 1)
+
+    same_out : (i : ℕ) (to : Link) → words.is_out ss slot bind n s i to ≡ code.is_out i to
+    same_out i Null = refl
+    same_out i Dead = refl
+    same_out i (In slot space) = refl
+    same_out i (Out j) = refl
+    same_out i Root = refl
+    same_out i Outside = refl
+
+    idle_points : (i x : ℕ) (to : Link) → code.is_out i to ≡ false → points_out_part ss slot bind n s i x to ≡ Nothing
+    idle_points i x to none = off (words.is_out ss slot bind n s i to) _ (same_out i to ∙ none)
+
+    idle_talk_out : (i x : ℕ) (talk : Option TalkRec) → code.talk_is_out i talk ≡ false → parks_talk_part ss slot bind n s i x talk ≡ Nothing
+    idle_talk_out i x None none = refl
+    idle_talk_out i x (Some t) none = off (words.is_out ss slot bind n s i t.port) _ (same_out i t.port ∙ none)
+
+    idle_fault_out : (i x : ℕ) (fault : Option FaultRec) → code.fault_is_out i fault ≡ false → parks_fault_part ss slot bind n s i x fault ≡ Nothing
+    idle_fault_out i x None none = refl
+    idle_fault_out i x (Some f) none = off (words.is_out ss slot bind n s i f.port) _ (same_out i f.port ∙ none)
+
+    idle_outward : (i x : ℕ) (r : Rec) (k : ℕ) → code.leads_out i r ≡ false → outward_part ss slot bind n s i x r k ≡ Nothing
+    idle_outward i x r k none =
+        let each = none_of (code.is_out i (link_of r)) (code.talk_is_out i (talk_of r)) (code.fault_is_out i (fault_of r)) none in
+        (λ j. cond (k == 0) (idle_points i x (link_of r) each.0 j) (cond (k == 1) (idle_talk_out i x (talk_of r) each.1 j)
+        (cond (k == 2) (idle_fault_out i x (fault_of r) each.2 j) Nothing)))
+        ∙ any (k == 0) (k == 1) (k == 2)
+
+    idle_talk : (x k : ℕ) (talk : Option TalkRec) → code.talk_is_within talk ≡ false → talk_part ss slot bind n s x k talk ≡ Nothing
+    idle_talk x k None none = refl
+    idle_talk x k (Some t) none =
+        off (cond (leads_within t.port) (leads_within t.server) false) _ (ap (λ u. cond u (leads_within t.server) false) none)
+
+    idle_fault : (x k : ℕ) (fault : Option FaultRec) → code.fault_is_within fault ≡ false → fault_part ss slot bind n s x k fault ≡ Nothing
+    idle_fault x k None none = refl
+    idle_fault x k (Some f) none = by f.taker
+      where
+        by : (taker : Option Link) → taken_part ss slot bind n s x k f taker ≡ Nothing
+        by None = off (leads_within f.port) _ none
+        by (Some taker) = off (cond (leads_within f.port) (leads_within taker) false) _ (ap (λ u. cond u (leads_within taker) false) none)
+
+    idle_ties : (x : ℕ) (r : Rec) (k : ℕ) → code.ties_inside r ≡ false → ties_part ss slot bind n s x r k ≡ Nothing
+    idle_ties x r k none =
+        let each = neither_of (code.talk_is_within (talk_of r)) (code.fault_is_within (fault_of r)) none in
+        (λ j. cond (ltb k 3) (idle_talk x k (talk_of r) each.0 j) (cond (ltb k 6) (idle_fault x (k - 3) (fault_of r) each.1 j) Nothing))
+        ∙ neither (ltb k 3) (ltb k 6)
+
+    idle : (pass : Pass) (j k : ℕ) → idle_in pass (slice_get s.objects j) ≡ true → part_at ss slot bind n s pass j k ≡ Nothing
+    idle Spaces j k is = by (slice_get s.objects j) is
+      where
+        by : (o : Option ObjectRec) → idle_in passes.Spaces o ≡ true → makes_part ss slot bind n s k ≡ Nothing
+        by None is = absurd (cc)
+        by (Some o) is = absurd (cc)
+    idle Fills j k is = by (slice_get s.objects j) is
+      where
+        by : (o : Option ObjectRec) → idle_in passes.Fills o ≡ true → fills_part ss slot bind n s j k ≡ Nothing
+        by None is = absurd (cc)
+        by (Some o) is = absurd (cc)
+    idle Inward j k is = by (slice_get s.objects j) is
+      where
+        by : (o : Option ObjectRec) → idle_in passes.Inward o ≡ true →
+            elim o [ None ↦ Nothing | Some o ↦ inward_part ss slot bind n s o.slot o.body k ] ≡ Nothing
+        by None is = refl
+        by (Some o) is = idle_inward o.slot (link_of o.body) k (no (code.leads_in o.body) is)
+    idle (Outward i) j k is = by (slice_get s.objects j) is
+      where
+        by : (o : Option ObjectRec) → idle_in (passes.Outward i) o ≡ true → elim o [ None ↦ Nothing | Some o ↦ outward_part ss slot bind n s i o.slot o.body k ]
+            ≡ Nothing
+        by None is = refl
+        by (Some o) is = idle_outward i o.slot o.body k (no (code.leads_out i o.body) is)
+    idle Ties j k is = by (slice_get s.objects j) is
+      where
+        by : (o : Option ObjectRec) → idle_in passes.Ties o ≡ true → elim o [ None ↦ Nothing | Some o ↦ ties_part ss slot bind n s o.slot o.body k ] ≡ Nothing
+        by None is = refl
+        by (Some o) is = idle_ties o.slot o.body k (no (code.ties_inside o.body) is)
+    idle Holds j k is = by (slice_get s.objects j) is
+      where
+        by : (o : Option ObjectRec) → idle_in passes.Holds o ≡ true → holds_part ss slot bind n s k ≡ Nothing
+        by None is = absurd (cc)
+        by (Some o) is = absurd (cc)
+
+    none_left : (m k : ℕ) (pass : Pass) (j : ℕ) → ((l : ℕ) → k ≤ l → part_at ss slot bind n s pass j l ≡ Nothing) → parts_by ss slot bind m n s pass j k ≡ []
+    none_left zero k pass j none = refl
+    none_left (suc m) k pass j none =
+        ap (λ p. part_orders ss slot bind p ++ parts_by ss slot bind m n s pass j (suc k)) (none k (omega arith))
+        ∙ none_left m (suc k) pass j (λ l le. none l (omega (arith, le)))
+
+  -- nothing is done in an item from a part on
+  abbrev Spent : Pass → ℕ → ℕ → Option SpaceRec → Type 0
+  Spent pass j k o = (parts_of pass ≤ k) ⊎ (idle_at pass j o ≡ true)
+
+  gone : (pass : Pass) (a n j k : ℕ) → Spent pass j k (slice_get ss n) →
       spot_rest ss slot bind pass a (spots.Part n j k) ≡ spot_rest ss slot bind pass a (spots.Part n j 6)
-  gone pass a n j k le = by (slice_get ss n)
+  gone pass a n j k spent = by (slice_get ss n) spent
     where
-      by : (o : Option SpaceRec) → part_rest ss slot bind pass a n j k o ≡ part_rest ss slot bind pass a n j 6 o
-      by None = refl
-      by (Some s) = ap (λ os. os ++ (items_from ss slot bind n s pass (suc j) ++ room_rest ss slot bind pass a (suc n))) (none_left n s (6 - k) k pass j le)
+      nothing_more : (s : SpaceRec) → Spent pass j k (Some s) → (l : ℕ) → k ≤ l → part_at ss slot bind n s pass j l ≡ Nothing
+      nothing_more s (inl le) l more = nothing n s pass j l (omega (arith, le, more))
+      nothing_more s (inr is) l more = idle n s pass j l is
+
+      by : (o : Option SpaceRec) → Spent pass j k o → part_rest ss slot bind pass a n j k o ≡ part_rest ss slot bind pass a n j 6 o
+      by None spent = refl
+      by (Some s) spent =
+          ap (λ os. os ++ (items_from ss slot bind n s pass (suc j) ++ room_rest ss slot bind pass a (suc n)))
+          (none_left n s (6 - k) k pass j (nothing_more s spent))
 
   fewer : (pass : Pass) (a n j k : ℕ) → k < 6 → IsRoom ss slot bind pass a n (slice_get ss n) →
       item_left pass j 6 (slice_get ss n) < item_left pass j k (slice_get ss n)
@@ -79,30 +218,34 @@ module _ (ss : List SpaceRec) (slot : ℕ) (bind : ℕ → ℕ) where
     pub place : IsPosition ss slot bind q
     pub fewer : places_left ss q < places_left ss p
 
-  pub spent_gone : (p q : Position) → IsPosition ss slot bind p → spent p ≡ Some q → SpentGone p q
+  pub spent_gone : (p q : Position) → IsPosition ss slot bind p → spent ss p ≡ Some q → SpentGone p q
   spent_gone p q good is = by p.walk p.pass p.spot p.stands good is
     where
       to : (w : Walk) (pass : Pass) (spot : Spot) (a : ℕ) → Position
       to w pass spot a = record { walk = w; pass = pass; spot = spot; stands = a }
 
-      by : (w : Walk) (pass : Pass) (spot : Spot) (a : ℕ) → IsPosition ss slot bind (to w pass spot a) → spent_by w pass spot a ≡ Some q →
+      by : (w : Walk) (pass : Pass) (spot : Spot) (a : ℕ) → IsPosition ss slot bind (to w pass spot a) → spent_by ss w pass spot a ≡ Some q →
           SpentGone (to w pass spot a) q
-      by Done pass (Part n j k) a good is = choice (leb (parts_of pass) k) (ltb k 6) refl refl is
+      by Done pass (Part n j k) a good is = choice (ltb k 6) (leb (parts_of pass) k) (idle_at pass j (slice_get ss n)) refl refl refl is
         where
-          choice : (low high : Bool) → leb (parts_of pass) k ≡ low → ltb k 6 ≡ high →
-              cond (low && high) (Some (to walks.Done pass (spots.Part n j 6) a)) None ≡ Some q → SpentGone (to walks.Done pass (spots.Part n j k) a) q
-          choice true true low high is =
+          goes : k < 6 → Spent pass j k (slice_get ss n) → Some (to walks.Done pass (spots.Part n j 6) a) ≡ Some q →
+              SpentGone (to walks.Done pass (spots.Part n j k) a) q
+          goes lt spent is =
               let same : to walks.Done pass (spots.Part n j 6) a ≡ q = cc in
-              let le : parts_of pass ≤ k = leb-true (parts_of pass) k low in
-              let lt : k < 6 = ltb-true k 6 high in
               let less = fewer pass a n j k lt good.spot in
               subst (λ q. SpentGone (to walks.Done pass (spots.Part n j k) a) q) same record {
-                rest = gone pass a n j k le;
+                rest = gone pass a n j k spent;
                 place = record { walk = tt; pass = good.pass; spot = good.spot; stands = good.stands };
                 fewer = omega (arith, less);
               }
-          choice true false low high is = absurd (cc)
-          choice false high low h is = absurd (cc)
+
+          choice : (high low still : Bool) → ltb k 6 ≡ high → leb (parts_of pass) k ≡ low → idle_at pass j (slice_get ss n) ≡ still →
+              cond (high && (low || still)) (Some (to walks.Done pass (spots.Part n j 6) a)) None ≡ Some q →
+              SpentGone (to walks.Done pass (spots.Part n j k) a) q
+          choice true true still high low idles is = goes (ltb-true k 6 high) (inl (leb-true (parts_of pass) k low)) is
+          choice true false true high low idles is = goes (ltb-true k 6 high) (inr idles) is
+          choice true false false high low idles is = absurd (cc)
+          choice false low still high lows idles is = absurd (cc)
       by Done pass (Before k) a good is = absurd (cc)
       by Done pass (Room n) a good is = absurd (cc)
       by Done pass (After k) a good is = absurd (cc)

@@ -1,7 +1,9 @@
 -- How many empty places may still go by before the next order, or the end.
-use Rattle.std.specs.Prelude.{ℕ, zero, suc, ◌+◌, ◌*◌, ◌-◌, Bool, true, false, not, ◌&&◌, ◌==◌, is_none, nat_le, nat_lt}
+use Rattle.std.specs.Prelude.{ℕ, zero, suc, ◌+◌, ◌*◌, ◌-◌, Bool, true, false, not, ◌&&◌, ◌||◌, ◌==◌, is_none, nat_le, nat_lt}
 use Rattle.std.specs.Prelude.{List, [], ◌∷◌, drop, Option, Some, None, slice_get, if◌then◌else◌}
 use Rattle.fk_image.specs.declared.image.Image.{Image}
+use Rattle.fk_image.specs.declared.image.ObjectRec.{ObjectRec}
+use Rattle.fk_image.specs.declared.image.Rec.{Rec}
 use Rattle.fk_image.specs.declared.image.SpaceRec.{SpaceRec}
 use Rattle.fk_positions.specs.declared.position.Walk.{Walk, Walk as walks}
 use Rattle.fk_positions.specs.declared.position.Walk.TheVariants.{Done}
@@ -11,6 +13,7 @@ use Rattle.fk_positions.specs.declared.position.Spot.{Spot, Spot as spots}
 use Rattle.fk_positions.specs.declared.position.Spot.TheVariants.{Before, Room, Part, After}
 use Rattle.fk_positions.specs.declared.position.Position.{Position}
 use Rattle.laws_sites.specs.Orders.{Order}
+use Rattle.fk_positions.specs.Code.{leads_in, leads_out, ties_inside}
 use Rattle.fk_positions.specs.Passes.{items_of, leads_out_any}
 
 -- the image with these spaces
@@ -42,14 +45,34 @@ parts_of (Outward i) = 3
 parts_of Ties = 6
 parts_of Holds = 2
 
--- the end of an item, where a position is behind these
-abbrev pub spent_by : Walk → Pass → Spot → ℕ → Option Position
-spent_by Done pass (Part n j k) a =
-    if nat_le (parts_of pass) k && nat_lt k 6 then Some (record { walk = walks.Done; pass = pass; spot = spots.Part n j 6; stands = a }) else None
-spent_by walk pass spot a = None
+-- nothing is done at an object in a pass
+abbrev pub is_idle : Pass → Rec → Bool
+is_idle Spaces r = false
+is_idle Fills r = false
+is_idle Inward r = not (leads_in r)
+is_idle (Outward i) r = not (leads_out i r)
+is_idle Ties r = not (ties_inside r)
+is_idle Holds r = false
 
-abbrev pub spent : Position → Option Position
-spent p = spent_by p.walk p.pass p.spot p.stands
+abbrev pub idle_in : Pass → Option ObjectRec → Bool
+idle_in pass None = false
+idle_in pass (Some o) = is_idle pass o.body
+
+-- nor at the object with a number in a space
+abbrev pub idle_at : Pass → ℕ → Option SpaceRec → Bool
+idle_at pass j None = false
+idle_at pass j (Some s) = idle_in pass (slice_get s.objects j)
+
+-- the end of an item, where nothing is done in it from a position on
+abbrev pub spent_by : List SpaceRec → Walk → Pass → Spot → ℕ → Option Position
+spent_by ss Done pass (Part n j k) a =
+    if nat_lt k 6 && (nat_le (parts_of pass) k || idle_at pass j (slice_get ss n))
+    then Some (record { walk = walks.Done; pass = pass; spot = spots.Part n j 6; stands = a })
+    else None
+spent_by ss walk pass spot a = None
+
+abbrev pub spent : List SpaceRec → Position → Option Position
+spent ss p = spent_by ss p.walk p.pass p.spot p.stands
 
 -- no order stands here, and one may follow
 abbrev pub is_empty : Position → Option Order → Bool

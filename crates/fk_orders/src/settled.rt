@@ -1,14 +1,19 @@
 //! The next place where an order stands.
-ghost use Rattle.std.specs.Prelude.{◌≡◌, ◌<◌, true, false, IfSome, IfNone};
+ghost use Rattle.std.specs.Prelude.{◌≡◌, ◌<◌, ◌&&◌, ◌||◌, true, false, not, nat_lt, nat_le, slice_get, IfSome, IfNone};
 ghost use Rattle.fk_image.specs.Valid.{is_valid};
 ghost use Rattle.laws_rooms.specs.Restoring.{bound_by};
 ghost use Rattle.fk_positions.specs.Positions.{rest, order_at, IsPosition};
+ghost use Rattle.fk_positions.specs.Code as code;
+ghost use Rattle.fk_positions.specs.Code.{stays_within};
 ghost use Rattle.fk_positions.specs.Positions as places;
 ghost use Rattle.fk_orders.specs.Left.{image_of};
 ghost use Rattle.fk_orders.specs.Left as left;
 
-use fk_image::SpaceRec;
-use fk_positions::{Pass, Position, Spot, Walk, leads_out_any, next_of, next_pass, stage_at};
+use fk_image::{FaultRec, Link, ObjectRec, Rec, SpaceRec, TalkRec};
+use fk_positions::{
+    Pass, Position, Spot, Walk, fault_of, is_out, leads_out_any, leads_within, link_of, next_of,
+    next_pass, stage_at, talk_of,
+};
 
 /// The first position of a script.
 pub fn first() -> Position
@@ -73,14 +78,109 @@ fn parts_of(pass: Pass) -> u8
     }
 }
 
-/// The end of an item, where a position is behind these.
-fn spent(position: Position) -> Option<Position>
-    ensures { result ≡ left.spent position }
+/// Whether a pointer leads nowhere in the subtree, and to nothing that has died there.
+fn leads_nowhere(to: Link) -> bool
+    ensures { result ≡ not (stays_within to) }
+{
+    !matches!(to, Link::In { .. } | Link::Root | Link::Dead)
+}
+
+/// Whether the port of a talk is that in a slot of the nester.
+fn talk_is_out(out: u8, talk: Option<TalkRec>) -> bool
+    ensures { result ≡ code.talk_is_out out talk }
+{
+    match talk {
+        None => false,
+        Some(talk) => is_out(out, talk.port),
+    }
+}
+
+/// The same of a fault.
+fn fault_is_out(out: u8, fault: Option<FaultRec>) -> bool
+    ensures { result ≡ code.fault_is_out out fault }
+{
+    match fault {
+        None => false,
+        Some(fault) => is_out(out, fault.port),
+    }
+}
+
+/// Whether an object leads to the port in a slot of the nester.
+fn leads_out(out: u8, body: &Rec) -> bool
+    ensures { result ≡ code.leads_out out body.now }
+{
+    is_out(out, link_of(body))
+        || talk_is_out(out, talk_of(body))
+        || fault_is_out(out, fault_of(body))
+}
+
+/// Whether the port of a talk is inside.
+fn talk_is_within(talk: Option<TalkRec>) -> bool
+    ensures { result ≡ code.talk_is_within talk }
+{
+    match talk {
+        None => false,
+        Some(talk) => leads_within(talk.port),
+    }
+}
+
+/// The same of a fault.
+fn fault_is_within(fault: Option<FaultRec>) -> bool
+    ensures { result ≡ code.fault_is_within fault }
+{
+    match fault {
+        None => false,
+        Some(fault) => leads_within(fault.port),
+    }
+}
+
+/// Whether nothing is done at an object in a pass.
+fn is_idle(pass: Pass, body: &Rec) -> bool
+    ensures { result ≡ left.is_idle pass body.now }
+{
+    match pass {
+        Pass::Inward => leads_nowhere(link_of(body)),
+        Pass::Outward(out) => !leads_out(out, body),
+        Pass::Ties => !(talk_is_within(talk_of(body)) || fault_is_within(fault_of(body))),
+        Pass::Spaces | Pass::Fills | Pass::Holds => false,
+    }
+}
+
+/// The same of the object with a number in a space.
+fn idle_in(pass: Pass, objects: &[ObjectRec], item: usize) -> bool
+    ensures { result ≡ left.idle_in pass (slice_get objects.now item) }
+{
+    match objects.get(item) {
+        None => false,
+        Some(object) => is_idle(pass, &object.body),
+    }
+}
+
+/// The same, the space having a number.
+fn idle_at(spaces: &[SpaceRec], pass: Pass, space: u32, item: usize) -> bool
+    ensures { result ≡ left.idle_at pass item (slice_get spaces.now space) }
+{
+    match spaces.get(space as usize) {
+        None => false,
+        Some(space) => idle_in(pass, space.objects.as_slice(), item),
+    }
+}
+
+/// Whether nothing is done in an item from a part on.
+fn is_spent(spaces: &[SpaceRec], pass: Pass, space: u32, item: usize, part: u8) -> bool
+    ensures { result ≡ (nat_lt part 6 && (nat_le (left.parts_of pass) part || left.idle_at pass item (slice_get spaces.now space))) }
+{
+    part < 6 && (parts_of(pass) <= part || idle_at(spaces, pass, space, item))
+}
+
+/// The end of an item, where nothing is done in it from a position on.
+fn spent(spaces: &[SpaceRec], position: Position) -> Option<Position>
+    ensures { result ≡ left.spent spaces.now position }
 {
     match position.walk {
         Walk::Done => match position.spot {
             Spot::Part { space, item, part } => {
-                if parts_of(position.pass) <= part && part < 6 {
+                if is_spent(spaces, position.pass, space, item, part) {
                     Some(Position {
                         walk: Walk::Done,
                         pass: position.pass,
@@ -111,7 +211,7 @@ fn passed(spaces: &[SpaceRec], slot: u8, pairs: &[(u8, u8)], at: Position) -> Op
     ensures fewer { IfSome result (λ p. left.places_left spaces.now p < left.places_left spaces.now at) }
     ensures stands { IfNone result (left.is_empty at (order_at spaces.now slot (bound_by pairs.now) at) ≡ false) }
 {
-    if let Some(end) = spent(at) {
+    if let Some(end) = spent(spaces, at) {
         Some(end)
     } else if is_unused(spaces, at) {
         Some(next_pass(at.pass, at.stands))
