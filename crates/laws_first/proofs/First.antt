@@ -1,5 +1,6 @@
 -- The first world of a scenario, change by change.
-use Rattle.std.proofs.Common.{◌≡◌, ℕ, ◌-◌, ◌*◌, ◌≤◌, Bool, true, false, cond, if◌then◌else◌, ◌&&◌, ◌||◌, nat_lt, nat_le, is_none, List, [], ◌∷◌, ◌++◌, length, take, drop, reverse, map, get_or, Option, Some, None, option_map, refl, sym, ap, ◌∙◌, arith}
+use Rattle.std.proofs.Common.{◌≡◌, ℕ, ◌-◌, ◌*◌, ◌≤◌, Bool, true, false, cond, if◌then◌else◌, ◌&&◌, ◌||◌, nat_lt, nat_le, is_none, List, [], ◌∷◌, ◌++◌, length}
+use Rattle.std.proofs.Common.{take, drop, reverse, map, get_or, Option, Some, None, option_map, refl, sym, ap, ◌∙◌, arith}
 use Rattle.std.proofs.lemmas.List.Elements.{All-get_or}
 use Rattle.std.specs.List.{flat_map, list_any}
 use Rattle.std.proofs.lemmas.Slice.Eq.{bytes_eq-Decides}
@@ -31,21 +32,22 @@ use Rattle.fk_scenario.specs.declared.scenario.Scenario.{Scenario}
 use Rattle.fk_scenario.specs.Kept.{KeepsScenario}
 use Rattle.fk_scenario.specs.Servers.{has_key}
 use Rattle.fk_store.specs.World.{first_world}
-use Rattle.fk_boot.specs.FirstWorld.{page_words, zero_pages, program_page, words_of_program, space_itself, space_changes, first_body, object_changes, aims, points_to, belongs_to, aim_changes, porter, porter_changes, served_ports, boot_changes, booted}
+use Rattle.fk_boot.specs.FirstWorld.{page_words, zero_pages, program_page, words_of_program, space_itself, space_changes, first_body, object_changes, aims}
+use Rattle.fk_boot.specs.FirstWorld.{points_to, belongs_to, aim_changes, porter, porter_changes, served_ports, boot_changes, booted}
 use Rattle.fk_boot.proofs.Changes.{apply_all-append}
 use Rattle.fk_boot.proofs.MadeSoFar.{first-stands}
 use Rattle.fk_boot.proofs.Walks.{last}
 use Rattle.fk_boot.proofs.validity.Whole.{spaces-safe}
 use Rattle.laws_first.specs.First.{is_porters, is_servers, FirstWorldIsGround}
 
-abbrev IsGroundEdit : Edit → Type 0
+abbrev pub IsGroundEdit : Edit → Type 0
 IsGroundEdit (SetPointer (At x)) = Unit {0}
 IsGroundEdit (SetMember set) = Unit {0}
 IsGroundEdit other = ⊥
 
 module _ (spaces : List SpaceEntry) (ports : List (List ℕ)) where
   -- nothing in a slot of scratch, porters and served ports where they belong
-  abbrev IsGroundChange : Change → Type 0
+  abbrev pub IsGroundChange : Change → Type 0
   IsGroundChange (Alter x edit) = IsGroundEdit edit
   IsGroundChange (Make x b) =
       (is_scratch_slot (slot_of x) ≡ false) × (is_native b ≡ true → is_porters spaces x ≡ true) × (is_served b ≡ true → is_servers ports x ≡ true)
@@ -54,7 +56,7 @@ module _ (spaces : List SpaceEntry) (ports : List (List ℕ)) where
   IsGroundChange (PutPage space page words) = Unit {0}
   IsGroundChange other = ⊥
 
-  abbrev AreGround : List Change → Type 0
+  abbrev pub AreGround : List Change → Type 0
   AreGround [] = Unit {0}
   AreGround (c ∷ cs) = IsGroundChange c × AreGround cs
 
@@ -311,7 +313,7 @@ porters-ground spaces ports (s ∷ ss) among =
     by true e = ((refl, (λ native. among (LAST_PORTER_SLOT ∷ reverse s.path) (here e)), (λ served. cc), refl), tt)
     by false e = tt
 
-boot-ground : (s : Scenario) → KeepsScenario s → AreGround s.spaces (served_ports s.servers) (boot_changes s)
+pub boot-ground : (s : Scenario) → KeepsScenario s → AreGround s.spaces (served_ports s.servers) (boot_changes s)
 boot-ground s keeps =
     let ports = served_ports s.servers in
     ground-then s.spaces ports (flat_map (space_changes s.programs) s.spaces) _ (spaces-ground s.spaces ports s.programs [] s.spaces keeps.spaces)

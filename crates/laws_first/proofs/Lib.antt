@@ -1,4 +1,7 @@
 pub mod First
 pub mod Grounded
 pub mod Users
+pub mod Alone
+pub mod Apart
 pub mod Programs
+pub mod Entries

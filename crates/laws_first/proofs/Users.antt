@@ -1,7 +1,7 @@
 -- What servers ask for, and which slots jobs name.
-use Rattle.std.proofs.Common.{◌≡◌, ℕ, zero, suc, Bool, true, false, List, [], ◌∷◌, map, Option, Some, None, refl, subst}
-use Rattle.std.specs.List.{slice_get, All}
-use Rattle.std.proofs.lemmas.List.Elements.{All-head, All-tail}
+use Rattle.std.proofs.Common.{◌≡◌, ℕ, Bool, true, false, List, [], ◌∷◌, Option, Some, None, refl}
+use Rattle.std.specs.List.{All}
+use Rattle.std.proofs.lemmas.List.Elements.{All-nil, All-cons, All-head, All-tail}
 use Rattle.fk_model.specs.declared.job.JobSpec.{JobSpec}
 use Rattle.fk_model.specs.declared.job.JobSpec.TheVariants as specs_of
 use Rattle.fk_model.specs.declared.moves.Ask.{Ask}
@@ -13,11 +13,10 @@ use Rattle.laws_frozen.specs.Users.{is_users}
 use Rattle.fk_natives.specs.declared.service.Side.TheVariants as sides
 use Rattle.fk_natives.specs.Natives.{State, OfConsole, OfServer, gives_left, asks_for}
 use Rattle.fk_scenario.specs.Kept.{Saves}
-use Rattle.fk_boot.specs.Plans.{planned}
 use Rattle.fk_core.specs.Served.{serving, asked_of, asked_at}
-use Rattle.laws_house.specs.Houses.{Job}
-use Rattle.laws_house.specs.Laws.{NamesUsersSlots}
-use Rattle.laws_first.specs.Users.{ServersAskAsUsers, FirstJobsNameUsersSlots}
+use Rattle.laws_house.specs.Headline.{NamesSlots}
+use Rattle.laws_house.proofs.Headline.{jobs_name_users_slots}
+use Rattle.laws_first.specs.Users.{ServersAskAsUsers, ScenarioJobsNameUsersSlots}
 
 same_ask : (a b : Ask) → Some a ≡ Some b → is_users a ≡ true → is_users b ≡ true
 same_ask a b e h = let same : a ≡ b = cc in rw (← same) h
@@ -45,15 +44,15 @@ servers_ask_as_users jobs services w who ask e = by (is_served_port w (At (named
     by true e = served_asks (serving services who) ask e
     by false e = same_ask asks.Run ask e refl
 
-planned_names : (spec : JobSpec) → Saves spec → NamesUsersSlots (planned spec).task
-planned_names (specs_of.Checkpoint moment nester path slot image) saves = saves.1
-planned_names (specs_of.Restore moment nester slot image bind) saves = absurd saves
+-- as the reader has seen
+names : (spec : JobSpec) → Saves spec → NamesSlots spec
+names (specs_of.Checkpoint moment nester path slot image) saves = saves.1
+names (specs_of.Restore moment nester slot image bind) saves = absurd saves
 
-names : (specs : List JobSpec) → All Saves specs → (index : ℕ) (j : Job) → slice_get (map planned specs) index ≡ Some j → NamesUsersSlots j.task
-names [] saves index j got = cc
-names (spec ∷ specs) saves zero j got =
-    let same : planned spec ≡ j = cc in subst (λ (i : Job). NamesUsersSlots i.task) same (planned_names spec (All-head Saves spec specs saves))
-names (spec ∷ specs) saves (suc index) j got = names specs (All-tail Saves spec specs saves) index j got
+all_names : (specs : List JobSpec) → All Saves specs → All NamesSlots specs
+all_names [] saves = All-nil NamesSlots
+all_names (spec ∷ specs) saves =
+    All-cons NamesSlots spec specs (names spec (All-head Saves spec specs saves)) (all_names specs (All-tail Saves spec specs saves))
 
-pub first_jobs_name_users_slots : FirstJobsNameUsersSlots
-first_jobs_name_users_slots s keeps index j got = names s.jobs keeps.jobs index j got
+pub scenario_jobs_name_users_slots : ScenarioJobsNameUsersSlots
+scenario_jobs_name_users_slots s keeps images = jobs_name_users_slots s.jobs images (all_names s.jobs keeps.jobs)

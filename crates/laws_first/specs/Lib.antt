@@ -2,3 +2,4 @@ pub mod First
 pub mod Grounded
 pub mod Users
 pub mod Programs
+pub mod Entries

@@ -1,17 +1,22 @@
 -- The program's own servers and jobs are such as its runs suppose.
-use Rattle.std.specs.Prelude.{List}
+use Rattle.std.specs.Prelude.{List, Option}
+use Rattle.fk_image.specs.declared.image.Image.{Image}
 use Rattle.fk_scenario.specs.declared.scenario.Scenario.{Scenario}
 use Rattle.fk_scenario.specs.Kept.{KeepsScenario}
-use Rattle.fk_boot.specs.Plans.{first_jobs}
+use Rattle.fk_boot.specs.FirstWorld.{booted}
 use Rattle.fk_core.specs.Served.{servers}
 use Rattle.laws_runs.specs.Composed.{AskAsUsers}
-use Rattle.laws_house.specs.Houses.{Job, house}
-use Rattle.laws_house.specs.Laws.{NameUsersSlots}
+use Rattle.laws_house.specs.Houses.{Job, house, jobs_of}
+use Rattle.laws_house.specs.Laws.{NameUsersSlots, SaveUsersAlone}
 
 -- servers ask for what users may
 abbrev pub ServersAskAsUsers : Type 0
 ServersAskAsUsers = (jobs : List Job) → AskAsUsers (house jobs servers)
 
--- jobs name users' slots
-abbrev pub FirstJobsNameUsersSlots : Type 0
-FirstJobsNameUsersSlots = (s : Scenario) → KeepsScenario s → NameUsersSlots (first_jobs s.jobs)
+-- jobs name users' slots, whatever images are given for them
+abbrev pub ScenarioJobsNameUsersSlots : Type 0
+ScenarioJobsNameUsersSlots = (s : Scenario) → KeepsScenario s → (images : List (Option Image)) → NameUsersSlots (jobs_of s.jobs images)
+
+-- and in what they save lies no porter and no served port of the first world
+abbrev pub ScenarioJobsSaveUsersAlone : Type 0
+ScenarioJobsSaveUsersAlone = (s : Scenario) → KeepsScenario s → (images : List (Option Image)) → SaveUsersAlone (jobs_of s.jobs images) (booted s)

@@ -5,8 +5,9 @@
 #![tactic(auto)]
 
 ghost use Rattle.laws_first.specs.First.{FirstWorldIsGround};
+ghost use Rattle.laws_first.specs.Entries.{EntriesAreSaved, EntriesAreMade, EntriesGoOn};
 ghost use Rattle.laws_first.specs.Programs.{ProgramsHaveTheHeadline};
-ghost use Rattle.laws_first.specs.Users.{ServersAskAsUsers, FirstJobsNameUsersSlots};
+ghost use Rattle.laws_first.specs.Users.{ServersAskAsUsers, ScenarioJobsNameUsersSlots, ScenarioJobsSaveUsersAlone};
 ghost use Rattle.laws_first.specs.Grounded.{ScenariosAreGrounded, ScenariosHaveTheHeadline};
 
 /// No scratch stands in it, it has given out at most 256 birth numbers, its pointers lead somewhere in it or nowhere, porters stand
@@ -32,12 +33,32 @@ pub fn servers_ask_as_users()
 {}
 
 /// And the jobs of a scenario name users' slots.
-pub fn first_jobs_name_users_slots()
-    ensures { FirstJobsNameUsersSlots }
+pub fn scenario_jobs_name_users_slots()
+    ensures { ScenarioJobsNameUsersSlots }
 {}
 
-/// So each run of the program from a scenario that was read has all of it, where no porter and no served port lies in what its jobs
-/// save.
+/// In what they save lies no porter and no served port of its first world.
+pub fn scenario_jobs_save_users_alone()
+    ensures { ScenarioJobsSaveUsersAlone }
+{}
+
+/// So each run of the program from the first world of a scenario that was read has all of it, whatever images are given for its
+/// jobs.
 pub fn programs_have_the_headline()
     ensures { ProgramsHaveTheHeadline }
+{}
+
+/// Entry by entry: what a checkpoint that is done has saved.
+pub fn entries_are_saved<V>()
+    ensures { EntriesAreSaved V }
+{}
+
+/// What a restore that is done has made, and whence it had its image.
+pub fn entries_are_made<V>()
+    ensures { EntriesAreMade V }
+{}
+
+/// And if an earlier job had made that image, what stands there has exactly the further runs of what was saved.
+pub fn entries_go_on<V>()
+    ensures { EntriesGoOn V }
 {}

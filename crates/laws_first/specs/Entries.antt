@@ -1,0 +1,58 @@
+-- What the headline says of the entries of a scenario's jobs.
+use Rattle.std.specs.Prelude.{◌≡◌, ℕ, zero, suc, ◌+◌, ◌<◌, true, List, take, drop, Option, Some, None}
+use Rattle.std.specs.List.{slice_get}
+use Rattle.fk_model.specs.declared.job.JobSpec.{JobSpec}
+use Rattle.fk_model.specs.declared.job.JobSpec.TheVariants.{Checkpoint, Restore}
+use Rattle.fk_model.specs.declared.moves.Move.{Move}
+use Rattle.fk_image.specs.declared.image.Image.{Image}
+use Rattle.fk_image.specs.Picture.{picture}
+use Rattle.fk_image.specs.Valid.{is_valid}
+use Rattle.laws_checkpoint.specs.Checkpoint.End.{Done}
+use Rattle.laws_restore.specs.Restore as restores
+use Rattle.laws_rooms.specs.Restoring.{bound_by}
+use Rattle.laws_runs.specs.Cores.{JobEnd, Servers, Core, IsRun, world_at}
+use Rattle.laws_runs.specs.Cores.JobEnd.{Worked}
+use Rattle.laws_runs.specs.Headline.{Checkpointed, Restored as Restored_there}
+use Rattle.laws_house.specs.Houses.{State, End, house, maker_from, given_first, jobs_of}
+use Rattle.laws_house.specs.Houses.End.{Checked, Restored}
+use Rattle.laws_house.specs.Laws.{GoesOnAgain}
+use Rattle.laws_house.specs.Headline.{HasHeadline}
+
+-- the image that is given for the job with an index
+abbrev pub given_at : ℕ → List (Option Image) → Option Image
+given_at zero images = given_first images
+given_at (suc index) images = given_at index (drop 1 images)
+
+-- where a restore has its image from: an earlier job with this image has made it, or none does and it was given
+pub data IsFrom (specs : List JobSpec) (images : List (Option Image)) (ends : List (JobEnd End)) (index : ℕ) (name : List ℕ) (image : Image) : Type 0 where
+  Made : (from hold release : ℕ) → maker_from 0 (take index specs) name ≡ Some from → from < index
+      → slice_get ends from ≡ Some (Worked (Checked (Done image)) hold release) → IsFrom specs images ends index name image
+  Given : maker_from 0 (take index specs) name ≡ None → given_at index images ≡ Some image → IsFrom specs images ends index name image
+
+-- a checkpoint that is done: its image is valid, and is what its entry's subtree was, from its hold to behind its release
+abbrev pub EntriesAreSaved : Type 0 → Type 0
+EntriesAreSaved V = (specs : List JobSpec) (images : List (Option Image)) (servers : Servers V) (first c : Core State End V) (past : List Move)
+    (run : IsRun (house (jobs_of specs images) servers) first past c) → HasHeadline run →
+    (index moment birth : ℕ) (path : List ℕ) (slot : ℕ) (name : List ℕ) (image : Image) (hold release : ℕ) →
+    slice_get specs index ≡ Some (Checkpoint moment birth path slot name) → slice_get c.ends index ≡ Some (Worked (Checked (Done image)) hold release) →
+    (is_valid image ≡ true) × Checkpointed run birth slot hold release (picture image)
+
+-- a restore that is done has made its image's picture, with the ports bound as its entry says; and knows whence it had the image
+abbrev pub EntriesAreMade : Type 0 → Type 0
+EntriesAreMade V = (specs : List JobSpec) (images : List (Option Image)) (servers : Servers V) (first c : Core State End V) (past : List Move)
+    (run : IsRun (house (jobs_of specs images) servers) first past c) → HasHeadline run →
+    (index moment birth slot : ℕ) (name : List ℕ) (bind : List (ℕ × ℕ)) (make release : ℕ) →
+    slice_get specs index ≡ Some (Restore moment birth slot name bind) → slice_get c.ends index ≡ Some (Worked (Restored restores.Done) make release) →
+    (image : Image) × IsFrom specs images c.ends index name image × (is_valid image ≡ true)
+    × Restored_there run birth slot make release (bound_by bind) (picture image)
+
+-- and if an earlier job of the same run has made that image, what stands there has exactly the further runs of what was saved
+abbrev pub EntriesGoOn : Type 0 → Type 0
+EntriesGoOn V = (specs : List JobSpec) (images : List (Option Image)) (servers : Servers V) (first c : Core State End V) (past : List Move)
+    (run : IsRun (house (jobs_of specs images) servers) first past c) → HasHeadline run →
+    (from index moment birth : ℕ) (path : List ℕ) (slot : ℕ) (made : List ℕ) (later other place : ℕ) (name : List ℕ) (bind : List (ℕ × ℕ)) (image : Image)
+    (hold release make done : ℕ) →
+    slice_get specs from ≡ Some (Checkpoint moment birth path slot made) → slice_get c.ends from ≡ Some (Worked (Checked (Done image)) hold release) →
+    slice_get specs index ≡ Some (Restore later other place name bind) → slice_get c.ends index ≡ Some (Worked (Restored restores.Done) make done) →
+    maker_from 0 (take index specs) name ≡ Some from → from < index →
+    GoesOnAgain birth slot (world_at run hold) other place (world_at run make) (world_at run (done + 1)) (bound_by bind)
