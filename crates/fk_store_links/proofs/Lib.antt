@@ -1,0 +1,5 @@
+mod Distinct
+mod LinkLaws
+pub mod NodeLaws
+mod RingLaws
+mod WalkLaws
