@@ -1,0 +1,3 @@
+mod FiledLaws
+mod ChangeLaws
+mod Results
