@@ -1,0 +1,6 @@
+pub mod Places
+pub mod Standing
+pub mod Turned
+pub mod Gone
+pub mod Come
+pub mod Kept

@@ -1,0 +1,23 @@
+use Rattle.std.proofs.Common.{◌≡◌, ℕ, Some, sym, subst}
+use Rattle.slab.specs.Slab.{get}
+use Rattle.fk_waits_queues.proofs.Gone.{filed_left}
+use Rattle.fk_waits_queues.proofs.Turned.{line_read, never_gone, place_read, stands_in_order}
+use Rattle.fk_waits_queues.proofs.queues.Queues.leave.Goals as goal
+
+pub returns-in_default : goal.returns-in_default
+returns-in_default c a b p filed is = absurd (never_gone c.args.self.now a p b c.args.key filed is c.in_default.ensures)
+
+pub take_out-requires : goal.take_out-requires
+take_out-requires c = stands_in_order c.args.self.now c.args.key c.requires
+
+pub leave_line-requires : goal.leave_line-requires
+leave_line-requires c = line_read c.args.self.now c.args.key c.in-Some.place.now c.requires c.in-Some.ensures
+
+pub returns : goal.returns
+returns c a b p filed is =
+    let q = c.args.self.now in
+    let n = c.in-Some.place.now in
+    let here : Some n ≡ get q.order p.key = subst (λ (k : ℕ). Some n ≡ get q.order k) (sym is) c.in-Some.ensures in
+    let read = place_read q a p b n filed here in
+    filed_left q c.args.key n.at c.take_out.new.nodes c.take_out.ensures.others c.take_out.ensures.left
+    c.leave_line.new.lines c.leave_line.ensures.gone c.leave_line.ensures.others c.leave_line.ensures.lines a p b filed is read.1

@@ -1,0 +1,86 @@
+-- Places: where threads stand, and that queues hold them.
+use Rattle.std.specs.Prelude.{◌≡◌, ℕ, ◌==◌, List, [], ◌∷◌, ◌++◌, map, Option, Some, None, IsSome, if◌then◌else◌}
+use Rattle.slab.specs.Slab.{Slab, ContainsKey}
+use Rattle.fk_model.specs.declared.names.Who.{Who}
+use Rattle.fk_waits_lists.specs.Chains.{AllAre, AreApart}
+use Rattle.fk_waits_lists.specs.Nodes.{shown_at, IsListed}
+use Rattle.fk_waits_lists.specs.declared.lists.Node.{Node}
+use Rattle.fk_waits_queues.specs.declared.queues.Queues.{Queues}
+
+-- where a thread stands: its node in the order, its node in a queue, and that queue's head
+pub record Place : Type 0 where
+  pub key : ℕ
+  pub node : ℕ
+  pub who : Who
+  pub head : ℕ
+
+-- the nodes of those in a queue, in order
+abbrev pub in_queue : ℕ → List Place → List ℕ
+in_queue h [] = []
+in_queue h (p ∷ l) = if p.head == h then p.node ∷ in_queue h l else in_queue h l
+
+-- the first in a queue
+abbrev pub first_at : ℕ → List Place → Option Who
+first_at h [] = None
+first_at h (p ∷ l) = if p.head == h then Some p.who else first_at h l
+
+-- whom a node shows
+abbrev pub who_shown : Option (Who × ℕ) → Option Who
+who_shown None = None
+who_shown (Some shown) = Some shown.0
+
+-- the head of a queue leads to itself
+abbrev pub IsHead : Slab Node → ℕ → Type 0
+IsHead lines h = (name : Who) × (shown_at lines h ≡ Some (name, h))
+
+-- a thread's nodes lead from one to the next
+pub record IsFiled (order lines : Slab Node) (p : Place) : Type 0 where
+  pub first : shown_at order p.key ≡ Some (p.who, p.node)
+  pub second : shown_at lines p.node ≡ Some (p.who, p.head)
+  pub head : IsHead lines p.head
+
+abbrev pub AllFiled : Slab Node → Slab Node → List Place → Type 0
+AllFiled order lines [] = Unit {0}
+AllFiled order lines (p ∷ l) = IsFiled order lines p × AllFiled order lines l
+
+-- the queues of some lines hold these
+abbrev pub AreLines : Slab Node → List Place → Type 0
+AreLines lines l = (h : ℕ) → IsHead lines h → IsListed lines h (in_queue h l)
+
+-- threads stand so, in this order
+pub record AreFiled (q : Queues) (l : List Place) : Type 0 where
+  pub start : IsSome (shown_at q.order q.first)
+  pub listed : IsListed q.order q.first (map (λ (p : Place). p.key) l)
+  pub filed : AllFiled q.order q.lines l
+  pub apart : AreApart (map (λ (p : Place). p.node) l)
+  pub lines : AreLines q.lines l
+
+-- they stand in some order
+pub record IsKept (q : Queues) : Type 0 where
+  pub places : List Place
+  pub filed : AreFiled q places
+
+-- the number that a node of the order shows
+abbrev pub node_in : Option (Who × ℕ) → ℕ
+node_in None = 0
+node_in (Some shown) = shown.1
+
+-- a node stands in the list of a head, whose nodes are there
+pub record StandsIn (nodes : Slab Node) (head node : ℕ) : Type 0 where
+  pub before : List ℕ
+  pub behind : List ℕ
+  pub listed : IsListed nodes head (before ++ node ∷ behind)
+  pub there : AllAre (ContainsKey nodes) (head ∷ (before ++ node ∷ behind))
+
+-- a thread has this node in a queue
+pub record HasLine (lines : Slab Node) (node : ℕ) : Type 0 where
+  pub head : ℕ
+  pub stands : StandsIn lines head node
+
+-- a thread has this node in the order
+pub record HasPlace (q : Queues) (key : ℕ) : Type 0 where
+  pub before : List Place
+  pub place : Place
+  pub behind : List Place
+  pub is : place.key ≡ key
+  pub filed : AreFiled q (before ++ place ∷ behind)

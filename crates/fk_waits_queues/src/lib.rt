@@ -1,0 +1,10 @@
+//! Threads in queues: each in one, and all of them in the order in which they came to where they stand.
+//!
+//! It stands on `fk_waits_lists`, `slab` and `fk_model`. A queue is its head, a node with a name. A caller sees the places of the threads as one
+//! list in order, of which `AreFiled` says that it is this one. It promises that a thread that comes, or turns to another queue, stands last, that
+//! the others keep their order, and that who is first in a queue is told.
+#![tactic(auto)]
+
+mod queues;
+
+pub use queues::Queues;
