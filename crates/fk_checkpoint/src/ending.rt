@@ -4,8 +4,10 @@ ghost use Rattle.fk_checkpoint.specs.Checkpoints.{end_of, ending_of, IsReady};
 
 use crate::left::outwards;
 use fk_assembly::assembled;
-use fk_finish::{Finish, Place};
+use fk_finish::{Finish, Place, ValidImage};
 use fk_gathering::{Content, Lead};
+use fk_image::Image;
+use fk_image_valid::is_valid;
 use fk_model::NoMemory;
 use fk_seeking::{Walk, met_at};
 use std::alloc::Global;
@@ -28,6 +30,17 @@ pub enum Ending {
     Made(Finish),
 }
 
+/// An image that was made, seen to be valid. Each that is made of a world is so; none other is handed out.
+fn valid(alloc: Global, image: Image) -> Result<ValidImage, NoMemory>
+    ensures { IfOk result (λ valid. valid ≡ image) }
+{
+    if is_valid(alloc, &image)? {
+        ValidImage::new(alloc, image)
+    } else {
+        Err(NoMemory)
+    }
+}
+
 /// What it ends with; nothing where that is made.
 fn made(alloc: Global, slot: u8, ending: &Ending) -> Result<Option<Finish>, NoMemory>
     ensures made { IfOk result (λ finish. IfSome finish (λ f. ending_of slot ending.now ≡ end_of f)) }
@@ -43,7 +56,7 @@ fn made(alloc: Global, slot: u8, ending: &Ending) -> Result<Option<Finish>, NoMe
         }
         Ending::Done { contents, leads } => {
             let image = assembled(alloc, contents.as_slice(), leads.as_slice())?;
-            Ok(Some(Finish::Image(image)))
+            Ok(Some(Finish::Image(valid(alloc, image)?)))
         }
         Ending::Made(_) => Ok(None),
     }

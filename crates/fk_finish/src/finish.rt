@@ -1,5 +1,5 @@
 //! How jobs end.
-use fk_image::Image;
+use crate::valid_image::ValidImage;
 use fk_model::List;
 
 /// Where a subtree isn't closed.
@@ -15,7 +15,7 @@ pub struct Place {
 #[derive(Drop)]
 pub enum Finish {
     /// A checkpoint is done, with this image.
-    Image(Image),
+    Image(ValidImage),
     /// The subtree isn't closed, first here.
     Foreign(Place),
     /// There is no space in the slot.

@@ -1,12 +1,12 @@
 -- A checkpoint's calls, part by part.
-use Rattle.std.proofs.Common.{◌≡◌, ℕ, Bool, true, [], ◌∷◌, Some, refl, ap, ◌∙◌}
+use Rattle.std.proofs.Common.{◌≡◌, ℕ, Bool, true, false, not, ◌&&◌, [], ◌∷◌, Option, Some, None, IfSome, refl, ap, ◌∙◌}
 use Rattle.fk_model.specs.declared.moves.Ask.{Ask}
 use Rattle.fk_model.specs.declared.moves.Ask.TheVariants as asks
 use Rattle.fk_model.specs.declared.stage.Stage.{Stage}
 use Rattle.fk_model.specs.declared.stage.Stage.TheVariants as stages
 use Rattle.fk_model.specs.Places.{Path}
 use Rattle.fk_model.specs.Valid.{is_fit, is_fit_stage}
-use Rattle.fk_model.specs.Moves.{porter_at}
+use Rattle.fk_model.specs.Moves.{chooses, porter_at}
 use Rattle.fk_model.specs.Outcomes.{Caller}
 use Rattle.fk_model.specs.World.{World}
 use Rattle.laws_jobs.specs.Machines.{Head}
@@ -16,15 +16,21 @@ use Rattle.laws_checkpoint.specs.Walk as walks
 use Rattle.laws_checkpoint.specs.Foreign as seeks
 use Rattle.laws_checkpoint.specs.Contents as reads
 use Rattle.laws_checkpoint.specs.Gather as gathers
-use Rattle.laws_house.specs.Houses.{End, machine, ends_as}
-use Rattle.laws_house.specs.Houses.State.{Checking}
-use Rattle.laws_house.specs.Houses.End.{Checked}
-use Rattle.fk_jobs.specs.Jobs.{call_at}
-use Rattle.fk_jobs.specs.Plain.{is_plain, is_plain_stage, CheckpointsAskPlainly, PlainIsFit}
+use Rattle.laws_restore.specs.Restore as restores
+use Rattle.laws_sites.specs.Orders.{Order, stage_of}
+use Rattle.laws_sites.specs.Orders.Order as orders
+use Rattle.laws_house.specs.Houses.{State, End, machine, ends_as}
+use Rattle.laws_house.specs.Houses.State.{Checking, Restoring}
+use Rattle.laws_house.specs.Houses.End.{Checked, Restored}
+use Rattle.fk_jobs.specs.Jobs.{Queue, call_at, asked_by, state_of}
+use Rattle.fk_jobs.specs.Plain.{is_plain, is_plain_stage, picks_nobody, CheckpointsAskPlainly, JobsPickNobody, PlainIsFit}
 
--- what a machine asks is plain, where it asks
+-- what a machine asks is plain and picks nobody, where it asks
+abbrev is_easy : Stage → Bool
+is_easy stage = is_plain_stage stage && not (chooses stage)
+
 abbrev plainly : {A : Type 0} → Head A → Bool
-plainly (Asks stage words) = is_plain_stage stage
+plainly (Asks stage words) = is_easy stage
 plainly (Stops end) = true
 
 asks_as : {A : Type 0} (h : Head A) → plainly (checkpoints.asks_as h) ≡ plainly h
@@ -41,11 +47,11 @@ walk slot (walks.Down from (way ∷ ways) q k got) = refl
 walk slot (walks.Searches q k got) = refl
 walk slot (walks.Over got) = refl
 
-count : (slot : ℕ) (q : Path) → is_plain_stage (seeks.counting slot q) ≡ true
+count : (slot : ℕ) (q : Path) → is_easy (seeks.counting slot q) ≡ true
 count slot [] = refl
 count slot (k ∷ q) = refl
 
-field : (q : Path) (n : ℕ) → is_plain_stage (seeks.reading q n) ≡ true
+field : (q : Path) (n : ℕ) → is_easy (seeks.reading q n) ≡ true
 field [] n = refl
 field (k ∷ q) n = refl
 
@@ -87,10 +93,14 @@ checkpoint slot (checkpoints.Drops r rest end) = refl
 checkpoint slot (checkpoints.Releases end) = refl
 checkpoint slot (checkpoints.Over end) = refl
 
+both : (a b : Bool) → (a && b) ≡ true → (a ≡ true) × (b ≡ true)
+both true b is = (refl, is)
+both false b is = absurd (cc)
+
 asked : (h : Head End) (ask : Ask) → plainly h ≡ true → call_at h ≡ Some ask → is_plain ask ≡ true
 asked (Asks stage words) ask plain is =
     let same : asks.Call stage words ≡ ask = cc in
-    ap is_plain (let back : ask ≡ asks.Call stage words = cc in back) ∙ plain
+    ap is_plain (let back : ask ≡ asks.Call stage words = cc in back) ∙ (both (is_plain_stage stage) (not (chooses stage)) plain).0
 asked (Stops end) ask plain is = cc
 
 pub asks_plainly : CheckpointsAskPlainly
@@ -149,3 +159,62 @@ plain_fits w x asks.Run plain = refl
 plain_fits w x asks.Accept plain = refl
 plain_fits w x (asks.Give words len) plain = refl
 plain_fits w x asks.Over plain = refl
+
+-- ---- no call picks anybody
+
+abbrev is_unpicking : {A : Type 0} → Head A → Bool
+is_unpicking (Asks stage words) = not (chooses stage)
+is_unpicking (Stops end) = true
+
+ends_unpicking : {A B : Type 0} (made : A → B) (h : Head A) → is_unpicking (ends_as made h) ≡ is_unpicking h
+ends_unpicking made (Asks stage words) = refl
+ends_unpicking made (Stops end) = refl
+
+order : (slot : ℕ) (o : Order) → not (chooses (stage_of slot o)) ≡ true
+order slot (orders.Readies r) = refl
+order slot (orders.Leads r s q x) = refl
+order slot (orders.LeadsTop r) = refl
+order slot (orders.Makes s q x kind) = refl
+order slot (orders.Sets s q x words) = refl
+order slot (orders.Points s q x r) = refl
+order slot (orders.Gives s q page words) = refl
+order slot orders.MakesPin = refl
+order slot (orders.Pins i) = refl
+order slot (orders.Takes r) = refl
+order slot (orders.Checks r i) = refl
+order slot (orders.ParksTalk s q x i words) = refl
+order slot (orders.ParksFault s q x i taken words) = refl
+order slot (orders.LinksTalk s q x r u port server words) = refl
+order slot (orders.RaisesFault s q x r port words) = refl
+order slot (orders.LinksFault s q x r u port taker words) = refl
+order slot (orders.Holds s q x r holder) = refl
+order slot (orders.Drops r) = refl
+order slot orders.DropsPin = refl
+order slot (orders.Deadens r) = refl
+
+restore : (slot : ℕ) (s : restores.State) → is_unpicking (restores.head slot s) ≡ true
+restore slot restores.Makes = refl
+restore slot (restores.Works []) = refl
+restore slot (restores.Works (o ∷ os)) = order slot o
+restore slot (restores.Clears [] more port) = refl
+restore slot (restores.Clears (o ∷ os) more port) = order slot o
+restore slot (restores.Over end) = refl
+
+easily : {A : Type 0} (h : Head A) → plainly h ≡ true → is_unpicking h ≡ true
+easily (Asks stage words) easy = (both (is_plain_stage stage) (not (chooses stage)) easy).1
+easily (Stops end) easy = refl
+
+state : (s : State) → is_unpicking (machine.head s) ≡ true
+state (Checking slot s) = ends_unpicking Checked (checkpoints.head slot s) ∙ easily (checkpoints.head slot s) (checkpoint slot s)
+state (Restoring slot pairs image s) = ends_unpicking Restored (restores.head slot s) ∙ restore slot s
+
+call : (h : Head End) → is_unpicking h ≡ true → IfSome (call_at h) (λ ask. picks_nobody ask ≡ true)
+call (Asks stage words) is = is
+call (Stops end) is = tt
+
+asked_for : (s : Option State) → IfSome (asked_by s) (λ ask. picks_nobody ask ≡ true)
+asked_for None = tt
+asked_for (Some s) = call (machine.head s) (state s)
+
+pub pick_nobody : JobsPickNobody
+pick_nobody q = asked_for (state_of q)

@@ -1,21 +1,14 @@
 -- Seats: the state of the job whose turn it is, by its machine in code.
-use Rattle.std.proofs.Common.{◌≡◌, ℕ, Bool, true, false, List, [], ◌∷◌, ◌++◌, map, length, Option, Some, None, option_map, is_some, refl, sym, ap, ◌∙◌}
+use Rattle.std.proofs.Common.{◌≡◌, ℕ, ◌<◌, Bool, true, false, List, [], ◌∷◌, ◌++◌, map, length, Option, Some, None, option_map, is_some}
+use Rattle.std.proofs.Common.{refl, sym, ap, subst, ◌∙◌}
 use Rattle.std.specs.List.{slice_get}
-use Rattle.laws_house.specs.Houses.{State, End, machine}
-use Rattle.laws_runs.specs.Cores.{JobEnd, work_of}
-use Rattle.fk_jobs.specs.declared.plan.Plan.{Plan}
-use Rattle.fk_jobs.specs.declared.jobs.Ended.{Ended}
-use Rattle.fk_jobs.specs.Jobs.{Queue, job_of, first_state, first_of, state_from, end_at, call_at, goes_on, hears_by, hears_at, hears}
-use Rattle.fk_jobs.specs.Jobs.{shown_end, shown_ends, shown_work, IsSeated, begun_from}
-use Rattle.std.proofs.lemmas.List.{length-map}
-use Rattle.std.proofs.lemmas.Option.{slice_get-map}
+use Rattle.laws_house.specs.Houses.{Job, State, End, machine}
+use Rattle.laws_runs.specs.Cores.{JobEnd, Work, work_of}
+use Rattle.laws_runs.specs.Cores.JobEnd.{Worked}
 use Rattle.laws_jobs.specs.Machines.{Head}
 use Rattle.laws_jobs.specs.Machines.Head.{Stops, Asks}
-use Rattle.laws_runs.specs.Cores.JobEnd.{Worked}
-
-first-plan : (ends : List (JobEnd End)) (plan : Option Plan) → first_of ends (option_map job_of plan) ≡ option_map first_state plan
-first-plan ends None = refl
-first-plan ends (Some p) = refl
+use Rattle.fk_jobs.specs.Jobs.{Queue, first_of, state_from, end_at, call_at, goes_on, hears_by, hears_at, hears}
+use Rattle.fk_jobs.specs.Jobs.{shown_work, made_state, IsSeated, begun_from}
 
 going : (q : Queue) (b e : ℕ) (s : State) (h : Head End) → is_some (call_at h) ≡ true →
     record { jobs = q.jobs; ends = q.ends; work = Some (record { begun = b; state = s }); ready = false } ≡ goes_on q b e s h
@@ -27,66 +20,92 @@ stopping : (q : Queue) (b e : ℕ) (s : State) (h : Head End) → is_some (call_
 stopping q b e s (Asks stage words) is = cc
 stopping q b e s (Stops end) is = refl
 
-module _ {W : Type 0} (state : W → State) where
-  no-plan : (plan : Option Plan) → false ≡ is_some plan → option_map first_state plan ≡ None
-  no-plan None is = refl
-  no-plan (Some p) is = cc
+begins-placed : (ends : List (JobEnd End)) (job : Option Job) → is_some (first_of ends job) ≡ true → is_some job ≡ true
+begins-placed ends None is = absurd (cc)
+begins-placed ends (Some j) is = refl
 
-  state-seated : (worker : Option W) (begun : Option ℕ) (plan : Option Plan) → IsSeated state worker begun plan →
-      state_from (shown_work state worker begun) (option_map first_state plan) ≡ option_map state worker
-  state-seated None begun plan seat = no-plan plan seat.there
-  state-seated (Some w) None plan seat = sym (seat.fresh refl)
-  state-seated (Some w) (Some b) plan seat = refl
+module _ {W : Type 0} (state : W → State) (ends : List (JobEnd End)) (job : Option Job) where
+  pub state-is : (worker : Option W) (begun : Option ℕ) → IsSeated state worker begun ends job →
+      state_from (shown_work state worker begun) (first_of ends job) ≡ made_state state worker (first_of ends job)
+  state-is None begun seat = refl
+  state-is (Some w) None seat = sym (seat.fresh refl)
+  state-is (Some w) (Some b) seat = refl
 
-  work-seated : (events : ℕ) (worker : Option W) (begun : Option ℕ) (plan : Option Plan) → IsSeated state worker begun plan →
-      work_of events (shown_work state worker begun) (option_map first_state plan)
-      ≡ option_map (λ w. record { begun = begun_from begun events; state = state w }) worker
-  work-seated events None begun plan seat = ap (work_of events None) (no-plan plan seat.there)
-  work-seated events (Some w) None plan seat = ap (work_of events None) (sym (seat.fresh refl))
-  work-seated events (Some w) (Some b) plan seat = refl
+  pub work-is : (events : ℕ) (w : W) (begun : Option ℕ) → IsSeated state (Some w) begun ends job →
+      work_of events (shown_work state (Some w) begun) (first_of ends job) ≡ Some (record { begun = begun_from begun events; state = state w })
+  work-is events w None seat = ap (work_of events None) (sym (seat.fresh refl))
+  work-is events w (Some b) seat = refl
 
-  module _ (plans : List Plan) (ends : List (Option (Ended W))) where
-    place : slice_get (map job_of plans) (length (shown_ends state ends)) ≡ option_map job_of (slice_get plans (length ends))
-    place = ap (slice_get (map job_of plans)) (length-map ends (shown_end state)) ∙ slice_get-map job_of plans (length ends)
+  -- a machine in the place of another, or where none was made: in the state that the queue is in
+  module _ (old new : Option W) (begun : Option ℕ) (seat : IsSeated state old begun ends job)
+      (same : option_map state new ≡ made_state state old (first_of ends job)) where
+    there-by : (old new : Option W) → (is_some old ≡ true → is_some job ≡ true) → option_map state new ≡ made_state state old (first_of ends job) →
+        is_some new ≡ true → is_some job ≡ true
+    there-by (Some w) new there same is = there refl
+    there-by None new there same is = begins-placed ends job (sym (ap is_some same) ∙ some new is)
+      where
+        some : (new : Option W) → is_some new ≡ true → is_some (option_map state new) ≡ true
+        some None is = is
+        some (Some w) is = refl
 
-    first : first_of (shown_ends state ends) (slice_get (map job_of plans) (length (shown_ends state ends)))
-        ≡ option_map first_state (slice_get plans (length ends))
-    first = ap (first_of (shown_ends state ends)) place ∙ first-plan (shown_ends state ends) (slice_get plans (length ends))
+    going-by : (old new : Option W) → is_some old ≡ true → option_map state new ≡ made_state state old (first_of ends job) → is_some new ≡ true
+    going-by None new is same = absurd (cc)
+    going-by (Some w) None is same = absurd (cc)
+    going-by (Some w) (Some v) is same = refl
 
-    pub state-is : (worker : Option W) (begun : Option ℕ) → IsSeated state worker begun (slice_get plans (length ends)) →
-        state_from (shown_work state worker begun) (first_of (shown_ends state ends) (slice_get (map job_of plans) (length (shown_ends state ends))))
-        ≡ option_map state worker
-    state-is worker begun seat = ap (state_from (shown_work state worker begun)) first ∙ state-seated worker begun _ seat
+    fresh-by : (new : Option W) → option_map state new ≡ made_state state old (first_of ends job) → made_state state old (first_of ends job) ≡ first_of ends job →
+        made_state state new (first_of ends job) ≡ first_of ends job
+    fresh-by None same fresh = refl
+    fresh-by (Some w) same fresh = same ∙ fresh
 
-    pub work-is : (events : ℕ) (worker : Option W) (begun : Option ℕ) → IsSeated state worker begun (slice_get plans (length ends)) →
-        work_of events (shown_work state worker begun) (first_of (shown_ends state ends) (slice_get (map job_of plans) (length (shown_ends state ends))))
-        ≡ option_map (λ w. record { begun = begun_from begun events; state = state w }) worker
-    work-is events worker begun seat = ap (work_of events (shown_work state worker begun)) first ∙ work-seated events worker begun _ seat
+    pub reseated : IsSeated state new begun ends job
+    reseated = record {
+      there = there-by old new seat.there same;
+      going = λ is. going-by old new (seat.going is) same;
+      fresh = λ none. fresh-by new same (seat.fresh none);
+    }
 
-    -- an answer: with the machine in its next state it goes on, or has ended
-    module _ (ready : Bool) (worker : Option W) (w : W) (begun : Option ℕ) (events b status : ℕ) (words : List ℕ) (s : State)
-        (seat : IsSeated state worker begun (slice_get plans (length ends))) (is : worker ≡ Some w)
-        (from : b ≡ begun_from begun events) (next : s ≡ machine.next (state w) status words) where
-      abbrev queue : Queue
-      queue = record { jobs = map job_of plans; ends = shown_ends state ends; work = shown_work state worker begun; ready = ready }
+    work-by : (old new : Option W) (begun : Option ℕ) → (is_some begun ≡ true → is_some old ≡ true) →
+        option_map state new ≡ made_state state old (first_of ends job) → shown_work state new begun ≡ shown_work state old begun
+    work-by None None begun going same = refl
+    work-by None (Some v) None going same = refl
+    work-by None (Some v) (Some b) going same = absurd (let no = going refl in cc)
+    work-by (Some w) None begun going same = absurd (cc)
+    work-by (Some w) (Some v) None going same = refl
+    work-by (Some w) (Some v) (Some b) going same =
+        let one : state v ≡ state w = cc in
+        ap (λ s. Some (record { begun = b; state = s })) one
 
-      heard : goes_on queue b events s (machine.head s) ≡ hears queue events status words
-      heard =
-          ap (λ b. hears_at queue b events s) from ∙ ap (hears_at queue (begun_from begun events) events) next
-          ∙ sym (ap (hears_by queue events status words) (work-is events worker begun seat
-          ∙ ap (option_map (λ w. record { begun = begun_from begun events; state = state w })) is))
+    pub same-work : shown_work state new begun ≡ shown_work state old begun
+    same-work = work-by old new begun seat.going same
 
-      pub goes : (now : Queue) → queue ≡ now → is_some (call_at (machine.head s)) ≡ true →
-          record { jobs = map job_of plans; ends = shown_ends state ends; work = Some (record { begun = b; state = s }); ready = false }
-          ≡ hears now events status words
-      goes now same at_call = going queue b events s (machine.head s) at_call ∙ heard ∙ ap (λ q. hears q events status words) same
+  -- an answer: with the machine in its next state it goes on, or has ended
+  module _ (jobs : List Job) (ready : Bool) (worker : Option W) (w : W) (begun : Option ℕ) (events b status : ℕ) (words : List ℕ) (s : State)
+      (current : job ≡ slice_get jobs (length ends)) (seat : IsSeated state worker begun ends job) (is : worker ≡ Some w)
+      (from : b ≡ begun_from begun events) (next : s ≡ machine.next (state w) status words) where
+    abbrev queue : Queue
+    queue = record { jobs = jobs; ends = ends; work = shown_work state worker begun; ready = ready }
 
-      pub stops : (now : Queue) → queue ≡ now → is_some (call_at (machine.head s)) ≡ false →
-          record {
-            jobs = map job_of plans;
-            ends = shown_ends state ends ++ Worked (end_at (machine.head s)) b events ∷ [];
-            work = None;
-            ready = false;
-          }
-          ≡ hears now events status words
-      stops now same over = stopping queue b events s (machine.head s) over ∙ heard ∙ ap (λ q. hears q events status words) same
+    its : work_of events (shown_work state worker begun) (first_of ends job) ≡ Some (record { begun = begun_from begun events; state = state w })
+    its = ap (λ (o : Option W). work_of events (shown_work state o begun) (first_of ends job)) is
+        ∙ work-is events w begun (subst (λ (o : Option W). IsSeated state o begun ends job) is seat)
+
+    heard : goes_on queue b events s (machine.head s) ≡ hears queue events status words
+    heard =
+        ap (λ b. hears_at queue b events s) from ∙ ap (hears_at queue (begun_from begun events) events) next
+        ∙ sym (ap (hears_by queue events status words) its)
+        ∙ ap (λ (o : Option Job). hears_by queue events status words (work_of events (shown_work state worker begun) (first_of ends o))) current
+
+    pub goes : (now : Queue) → queue ≡ now → is_some (call_at (machine.head s)) ≡ true →
+        record { jobs = jobs; ends = ends; work = Some (record { begun = b; state = s }); ready = false } ≡ hears now events status words
+    goes now same at_call = going queue b events s (machine.head s) at_call ∙ heard ∙ ap (λ q. hears q events status words) same
+
+    pub stops : (now : Queue) → queue ≡ now → is_some (call_at (machine.head s)) ≡ false →
+        record {
+          jobs = jobs;
+          ends = ends ++ Worked (end_at (machine.head s)) b events ∷ [];
+          work = None;
+          ready = false;
+        }
+        ≡ hears now events status words
+    stops now same over = stopping queue b events s (machine.head s) over ∙ heard ∙ ap (λ q. hears q events status words) same

@@ -74,4 +74,4 @@ pub job_moves : (V : Type 0) → JobMovesSo V
 job_moves V servers w v q events m begun s stage words is = moves servers w v q events m begun s stage words is
 
 pub job_ends : (V : Type 0) → JobEndsSo V
-job_ends V w v q events = refl
+job_ends V w v q events why = refl

@@ -1,29 +1,39 @@
 -- A scenario's jobs in code: what is planned, how the first of them have ended, and what the next one has come to.
-use Rattle.std.specs.Prelude.{◌≡◌, ℕ, Bool, false, List, [], ◌∷◌, ◌++◌, map, length, Option, Some, None, option_map, is_some}
+use Rattle.std.specs.Prelude.{◌≡◌, ℕ, Bool, true, false, List, [], ◌∷◌, ◌++◌, map, length, Option, Some, None, is_some}
 use Rattle.std.specs.List.{slice_get}
 use Rattle.fk_model.specs.declared.moves.Ask.{Ask}
 use Rattle.fk_model.specs.declared.moves.Ask.TheVariants as asks
 use Rattle.laws_jobs.specs.Machines.{Head}
 use Rattle.laws_jobs.specs.Machines.Head.{Stops, Asks}
-use Rattle.laws_checkpoint.specs.Checkpoint.State.{Holds}
 use Rattle.laws_checkpoint.specs.Checkpoint.End.{Gone}
+use Rattle.laws_house.specs.Houses as houses
 use Rattle.laws_house.specs.Houses.{Job, State, End, machine, begins}
-use Rattle.laws_house.specs.Houses.Task.{Checkpoint}
-use Rattle.laws_house.specs.Houses.State.{Checking}
 use Rattle.laws_house.specs.Houses.End.{Checked}
+use Rattle.laws_runs.specs.Cores as runs
 use Rattle.laws_runs.specs.Cores.{JobEnd, Work, work_of}
 use Rattle.laws_runs.specs.Cores.JobEnd.{Worked, Idle}
-use Rattle.laws_runs.specs.Cores.Unmoved.{Dead}
 use Rattle.fk_jobs.specs.declared.plan.Plan.{Plan}
+use Rattle.fk_jobs.specs.declared.plan.Task.{Task}
+use Rattle.fk_jobs.specs.declared.plan.Task.TheVariants as tasks
+use Rattle.fk_jobs.specs.declared.plan.Source.{Source}
+use Rattle.fk_jobs.specs.declared.plan.Source.TheVariants as sources
 use Rattle.fk_jobs.specs.declared.jobs.Ended.{Ended}
+use Rattle.fk_jobs.specs.declared.jobs.Ended.TheVariants as ended
+use Rattle.fk_jobs.specs.declared.jobs.Unmoved.{Unmoved}
+use Rattle.fk_jobs.specs.declared.jobs.Unmoved.TheVariants as unmoved
 
 -- ---- what is planned
 
-abbrev pub job_of : Plan → Job
-job_of p = record { nester = p.nester; at = p.at; task = Checkpoint p.slot }
+abbrev pub source_of : Source → houses.Source
+source_of (sources.Given image) = houses.Given image
+source_of (sources.MadeBy job) = houses.MadeBy job
 
-abbrev pub first_state : Plan → State
-first_state p = Checking p.slot Holds
+abbrev pub task_of : Task → houses.Task
+task_of (tasks.Checkpoint slot) = houses.Checkpoint slot
+task_of (tasks.Restore slot pairs source) = houses.Restore slot pairs (source_of source)
+
+abbrev pub job_of : Plan → Job
+job_of p = record { nester = p.nester; at = p.at; task = task_of p.task }
 
 -- ---- jobs one after the other
 
@@ -93,16 +103,21 @@ abbrev pub passed : Queue → ℕ → Queue
 passed q last = passed_by q last q.work
 
 -- the one whose turn it is has ended without a move
-abbrev pub with_dead : Queue → Queue
-with_dead q = record { jobs = q.jobs; ends = q.ends ++ Idle Dead ∷ []; work = q.work; ready = false }
+abbrev pub with_idle : Queue → runs.Unmoved → Queue
+with_idle q why = record { jobs = q.jobs; ends = q.ends ++ Idle why ∷ []; work = q.work; ready = false }
 
 -- ---- the same as the code has it
 
-abbrev pub shown_end : {W : Type 0} → (W → State) → Option (Ended W) → JobEnd End
-shown_end state None = Idle Dead
-shown_end state (Some e) = Worked (end_at (machine.head (state e.worker))) e.begun e.last
+abbrev pub unmoved_of : Unmoved → runs.Unmoved
+unmoved_of unmoved.NoImage = runs.NoImage
+unmoved_of unmoved.Dead = runs.Dead
 
-abbrev pub shown_ends : {W : Type 0} → (W → State) → List (Option (Ended W)) → List (JobEnd End)
+abbrev pub shown_end : {W : Type 0} → (W → State) → Ended W → JobEnd End
+shown_end state (ended.Worked w begun last) = Worked (end_at (machine.head (state w))) begun last
+shown_end state ended.NoImage = Idle runs.NoImage
+shown_end state ended.Dead = Idle runs.Dead
+
+abbrev pub shown_ends : {W : Type 0} → (W → State) → List (Ended W) → List (JobEnd End)
 shown_ends state ends = map (shown_end state) ends
 
 abbrev pub shown_work : {W : Type 0} → (W → State) → Option W → Option ℕ → Option (Work State)
@@ -115,7 +130,18 @@ abbrev pub begun_from : Option ℕ → ℕ → ℕ
 begun_from None events = events
 begun_from (Some begun) events = begun
 
+-- the state of a machine, or its first one where it isn't made yet
+abbrev pub made_state : {W : Type 0} → (W → State) → Option W → Option State → Option State
+made_state state None first = first
+made_state state (Some w) first = Some (state w)
+
 -- the machine of the one whose turn it is, at its first state where it has made no move
-pub record IsSeated {W : Type 0} (state : W → State) (worker : Option W) (begun : Option ℕ) (plan : Option Plan) : Type 0 where
-  pub there : is_some worker ≡ is_some plan
-  pub fresh : begun ≡ None → option_map state worker ≡ option_map first_state plan
+pub record IsSeated {W : Type 0} (state : W → State) (worker : Option W) (begun : Option ℕ) (ends : List (JobEnd End)) (job : Option Job) : Type 0 where
+  pub there : is_some worker ≡ true → is_some job ≡ true
+  pub going : is_some begun ≡ true → is_some worker ≡ true
+  pub fresh : begun ≡ None → made_state state worker (first_of ends job) ≡ first_of ends job
+
+-- it is made, where it can begin, and has room for an answer
+abbrev pub IsReadied : {W : Type 0} → (W → Type 0) → Option W → Option State → Type 0
+IsReadied has_room None first = first ≡ None
+IsReadied has_room (Some w) first = has_room w

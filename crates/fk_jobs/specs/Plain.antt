@@ -1,9 +1,10 @@
 -- Calls that are fit wherever they are made, and pick nobody.
-use Rattle.std.specs.Prelude.{◌≡◌, ℕ, Bool, true, false, Some, IfSome}
+use Rattle.std.specs.Prelude.{◌≡◌, ℕ, Bool, true, false, not, Some, IfSome}
 use Rattle.fk_model.specs.declared.moves.Ask.{Ask}
 use Rattle.fk_model.specs.declared.moves.Ask.TheVariants as asks
 use Rattle.fk_model.specs.declared.stage.Stage.{Stage}
 use Rattle.fk_model.specs.declared.stage.Stage.TheVariants.{Wait, CondSignal, LinkSet, LinkPark, FaultSet, FaultPark}
+use Rattle.fk_model.specs.Moves.{chooses}
 use Rattle.fk_model.specs.Places.{Path}
 use Rattle.fk_model.specs.Valid.{is_fit}
 use Rattle.fk_model.specs.World.{World}
@@ -32,6 +33,14 @@ CheckpointsAskPlainly = (slot : ℕ) (s : checkpoints.State) (ask : Ask) → cal
 abbrev pub PlainIsFit : Type 0
 PlainIsFit = (w : World) (x : Path) (ask : Ask) → is_plain ask ≡ true → is_fit w x ask ≡ true
 
--- what the job asks for whose turn it is
+-- it picks nobody
+abbrev pub picks_nobody : Ask → Bool
+picks_nobody (asks.Call stage words) = not (chooses stage)
+picks_nobody other = false
+
+-- so does what the job asks for whose turn it is
 abbrev pub AsksPlainly : Queue → Type 0
-AsksPlainly q = IfSome (asked_by (state_of q)) (λ ask. is_plain ask ≡ true)
+AsksPlainly q = IfSome (asked_by (state_of q)) (λ ask. picks_nobody ask ≡ true)
+
+abbrev pub JobsPickNobody : Type 0
+JobsPickNobody = (q : Queue) → AsksPlainly q

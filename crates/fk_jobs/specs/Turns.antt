@@ -8,10 +8,9 @@ use Rattle.fk_model.specs.Who.{event_of}
 use Rattle.fk_model.specs.World.{World}
 use Rattle.laws_jobs.specs.Machines.{reply_of, said_of}
 use Rattle.laws_house.specs.Houses.{State, End, house}
-use Rattle.laws_runs.specs.Cores.{Core, Servers, asker, moved, with_end}
+use Rattle.laws_runs.specs.Cores.{Core, Servers, Unmoved, asker, moved, with_end}
 use Rattle.laws_runs.specs.Cores.Asker.{Job as OfJob}
-use Rattle.laws_runs.specs.Cores.Unmoved.{Dead}
-use Rattle.fk_jobs.specs.Jobs.{Queue, hears, with_dead}
+use Rattle.fk_jobs.specs.Jobs.{Queue, hears, with_idle}
 
 -- a world with its native servers and its jobs after so many moves
 abbrev pub core_of : {V : Type 0} → World → V → Queue → ℕ → Core State End V
@@ -29,4 +28,4 @@ JobMovesSo V = (servers : Servers V) (w : World) (v : V) (q : Queue) (events : �
 
 -- and so is an end without a move
 abbrev pub JobEndsSo : Type 0 → Type 0
-JobEndsSo V = (w : World) (v : V) (q : Queue) (events : ℕ) → with_end (core_of w v q events) Dead ≡ core_of w v (with_dead q) events
+JobEndsSo V = (w : World) (v : V) (q : Queue) (events : ℕ) (why : Unmoved) → with_end (core_of w v q events) why ≡ core_of w v (with_idle q why) events

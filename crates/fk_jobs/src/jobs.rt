@@ -1,23 +1,36 @@
 //! Jobs, one after the other.
-ghost use Rattle.std.specs.Prelude.{◌≡◌, ◌<◌, ◌≤◌, ◌++◌, ◌∷◌, [], true, None, IfOk, IfSome, IsSome, OnOk};
+ghost use Rattle.std.specs.Prelude.{◌≡◌, ◌<◌, ◌≤◌, ◌++◌, ◌∷◌, [], true, Some, None, IfOk, IfSome, IsSome, OnOk, OnErr};
 ghost use Rattle.std.specs.Prelude.{length, map, take, vec_capacity, option_map, is_some};
 ghost use Rattle.std.specs.List.{slice_get};
-ghost use Rattle.fk_jobs.specs.Jobs.{job_of, first_state, current, state_of, asked_by, begun_from, hears, passed, with_dead, shown_end, shown_ends};
-ghost use Rattle.fk_jobs.specs.Plain.{is_plain, AsksPlainly};
+ghost use Rattle.laws_house.specs.Laws.{NameUsersSlots};
+ghost use Rattle.fk_jobs.specs.Jobs.{job_of, unmoved_of, current, first_of, state_of, asked_by, begun_from, hears, passed, with_idle};
+ghost use Rattle.fk_jobs.specs.Jobs.{shown_end, shown_ends, made_state};
+ghost use Rattle.laws_runs.specs.Cores.JobEnd.{Idle};
+ghost use Rattle.fk_jobs.specs.Plain.{picks_nobody, AsksPlainly};
 
+use crate::begins::{can_begin, first_call, make};
 use crate::plan::Plan;
-use crate::worker::Worker;
+use crate::worker::{Worker, jobs_pick_nobody};
 use fk_model::{Answer, Ask, NoMemory};
 use std::alloc::Global;
 use std::marker::Model;
 
-/// A job that has ended by its own moves, the first and the last of which stand at these places of the history. Its
-/// code says how.
+/// How a job has ended.
 #[derive(Drop)]
-pub struct Ended<W: Drop> {
-    pub worker: W,
-    pub begun: u64,
-    pub last: u64,
+pub enum Ended<W: Drop> {
+    /// By its own moves, the first and the last of which stand at these places of the history. Its code says how.
+    Worked { worker: W, begun: u64, last: u64 },
+    /// Without a move, having no image.
+    NoImage,
+    /// Without a move, its nester being gone.
+    Dead,
+}
+
+/// Why a job ends without a move.
+#[derive(Clone, Copy)]
+pub enum Unmoved {
+    NoImage,
+    Dead,
 }
 
 /// Jobs, one after the other.
@@ -25,19 +38,19 @@ pub struct Ended<W: Drop> {
 pub struct Jobs<W: Worker + Drop> {
     alloc: Global,
     plans: Vec<Plan>,
-    /// None of one that has ended without a move.
-    ends: Vec<Option<Ended<W>>>,
-    /// The machine of the one whose turn it is.
+    ends: Vec<Ended<W>>,
+    /// The machine of the one whose turn it is, once it is made.
     worker: Option<W>,
     /// The place of its first move, once it has made one.
     begun: Option<u64>,
-    /// It may lack room.
+    /// It may lack its machine, or room.
     used: bool,
 }
 
 impl<W: Worker + Drop> Model for Jobs<W> {
-    ghost use Rattle.std.specs.Prelude.{◌≡◌, ◌≤◌, false, not, map, length, vec_capacity, IfSome};
+    ghost use Rattle.std.specs.Prelude.{◌≡◌, ◌≤◌, false, not, map, length, vec_capacity};
     ghost use Rattle.std.specs.List.{slice_get};
+    ghost use Rattle.laws_house.specs.Laws.{NameUsersSlots};
     ghost use Rattle.fk_jobs.specs.Jobs as queues;
 
     ghost Value = { queues.Queue };
@@ -50,16 +63,11 @@ impl<W: Worker + Drop> Model for Jobs<W> {
     } };
 
     ghost invariant = { λ s. (length s.plans.items ≤ vec_capacity s.ends)
-        × queues.IsSeated W.state s.worker s.begun (slice_get s.plans.items (length s.ends.items))
-        × (s.used ≡ false → IfSome s.worker W.has_room) };
-}
-
-/// The machine of the job at a place, where there is one, as it is about to begin.
-fn worker_at<W: Worker>(alloc: Global, plans: &[Plan], at: usize) -> Option<W>
-    ensures { option_map W.state result ≡ option_map first_state (slice_get plans.now at) }
-{
-    let plan = plans.get(at)?;
-    Some(W::checkpoint(alloc, plan.slot))
+        × NameUsersSlots (map queues.job_of s.plans.items)
+        × queues.IsSeated W.state s.worker s.begun (queues.shown_ends W.state s.ends.items)
+          (slice_get (map queues.job_of s.plans.items) (length (queues.shown_ends W.state s.ends.items)))
+        × (s.used ≡ false → queues.IsReadied W.has_room s.worker (queues.first_of (queues.shown_ends W.state s.ends.items)
+          (slice_get (map queues.job_of s.plans.items) (length (queues.shown_ends W.state s.ends.items))))) };
 }
 
 /// The place of a job's first move, which is this one where it has made none.
@@ -72,20 +80,52 @@ fn begun_from(begun: Option<u64>, events: u64) -> u64
     }
 }
 
-/// Adds how a job has ended, and gives the machine of the next one.
-fn next_after<W: Worker + Drop>(
-    alloc: Global,
-    plans: &[Plan],
-    ends: &mut Vec<Option<Ended<W>>>,
-    end: Option<Ended<W>>,
-) -> Option<W>
+/// Adds how a job has ended.
+fn add_end<W: Worker + Drop>(ends: &mut Vec<Ended<W>>, end: Ended<W>)
     requires { length ends.old.items < vec_capacity ends.old }
     ensures ends { ends.new.items ≡ ends.old.items ++ end ∷ [] }
     ensures room { vec_capacity ends.old ≤ vec_capacity ends.new }
-    ensures next { option_map W.state result ≡ option_map first_state (slice_get plans.now (length ends.new.items)) }
 {
     ends.push(end).unwrap();
-    worker_at(alloc, plans, ends.len())
+}
+
+/// How a job has ended that made no move.
+fn unmoved<W: Worker + Drop>(why: Unmoved) -> Ended<W>
+    ensures { shown_end W.state result ≡ Idle (unmoved_of why) }
+{
+    match why {
+        Unmoved::NoImage => Ended::NoImage,
+        Unmoved::Dead => Ended::Dead,
+    }
+}
+
+/// Makes the machine of the job whose turn it is, where it isn't made yet.
+fn make_in<W: Worker + Drop>(
+    alloc: Global,
+    plans: &[Plan],
+    ends: &[Ended<W>],
+    worker: &mut Option<W>,
+) -> Result<(), NoMemory>
+    requires { NameUsersSlots (map job_of plans.now) }
+    ensures made { OnOk result (option_map W.state worker.new
+        ≡ made_state W.state worker.old (first_of (shown_ends W.state ends.now) (slice_get (map job_of plans.now) (length (shown_ends W.state ends.now))))) }
+    ensures lacking { OnErr result (worker.new ≡ worker.old) }
+{
+    if worker.is_none() {
+        *worker = make(alloc, plans, ends)?;
+    }
+    Ok(())
+}
+
+/// Makes room for an answer to a machine, where there is one.
+fn reserve_in<W: Worker>(worker: &mut Option<W>) -> Result<(), NoMemory>
+    ensures same { option_map W.state worker.new ≡ option_map W.state worker.old }
+    ensures room { OnOk result (IfSome worker.new W.has_room) }
+{
+    match worker {
+        Some(worker) => worker.reserve(),
+        None => Ok(()),
+    }
 }
 
 impl<W: Worker + Drop> Jobs<W> {
@@ -95,6 +135,7 @@ impl<W: Worker + Drop> Jobs<W> {
     ///
     /// There is no memory for their ends.
     pub fn new(alloc: Global, plans: Vec<Plan>) -> Result<Jobs<W>, NoMemory>
+        requires slots { NameUsersSlots (map job_of plans.items) }
         ensures jobs { IfOk result (λ jobs. jobs.jobs ≡ map job_of plans.items) }
         ensures ends { IfOk result (λ jobs. jobs.ends ≡ []) }
         ensures work { IfOk result (λ jobs. jobs.work ≡ None) }
@@ -103,12 +144,11 @@ impl<W: Worker + Drop> Jobs<W> {
         if ends.reserve(plans.len()).is_err() {
             return Err(NoMemory);
         }
-        let worker = worker_at(alloc, plans.as_slice(), 0);
         Ok(Jobs {
             alloc,
             plans,
             ends,
-            worker,
+            worker: None,
             begun: None,
             used: true,
         })
@@ -128,24 +168,29 @@ impl<W: Worker + Drop> Jobs<W> {
         self.worker.is_some() && self.begun.is_some()
     }
 
+    /// Whether it can begin, as a restore can that has an image.
+    pub fn can_begin(&self) -> bool
+        ensures { result ≡ is_some (first_of self.now.ends (current self.now)) }
+    {
+        can_begin(self.plans.as_slice(), self.ends.as_slice())
+    }
+
     /// Its next call.
     pub fn next(&self) -> Option<Ask>
         ensures next { result ≡ asked_by (state_of self.now) }
-        ensures plain { IfSome result (λ ask. is_plain ask ≡ true) }
+        ensures plain { IfSome result (λ ask. picks_nobody ask ≡ true) }
     {
         match &self.worker {
             Some(worker) => worker.next(),
-            None => None,
+            None => first_call(self.plans.as_slice(), self.ends.as_slice()),
         }
     }
 
-    /// It is plain. Nothing is done: by this call that is known without the call at hand.
+    /// It picks nobody. Nothing is done: by this call that is known without the call at hand.
     pub fn plainly(&self)
         ensures { AsksPlainly self.now }
     {
-        if let Some(worker) = &self.worker {
-            worker.plainly();
-        }
+        jobs_pick_nobody();
     }
 
     /// Makes room for one answer, and changes nothing else.
@@ -160,6 +205,12 @@ impl<W: Worker + Drop> Jobs<W> {
         ensures ready { OnOk result (self.new.ready ≡ true) }
     {
         if self.used {
+            make_in(
+                self.alloc,
+                self.plans.as_slice(),
+                self.ends.as_slice(),
+                &mut self.worker,
+            )?;
             reserve_in(&mut self.worker)?;
             self.used = false;
         }
@@ -191,40 +242,36 @@ impl<W: Worker + Drop> Jobs<W> {
     {
         let worker = self.worker.take().unwrap();
         let begun = self.begun.take().unwrap();
-        let ended = Ended {
+        let ended = Ended::Worked {
             worker,
             begun,
             last,
         };
-        self.worker = next_after(
-            self.alloc,
-            self.plans.as_slice(),
-            &mut self.ends,
-            Some(ended),
-        );
+        add_end(&mut self.ends, ended);
         self.used = true;
     }
 
     /// The one whose turn it is has ended without a move.
-    pub fn end_dead(&mut self)
+    pub fn end_idle(&mut self, why: Unmoved)
         requires there { IsSome (current self.old) }
         requires idle { self.old.work ≡ None }
-        ensures { self.new ≡ with_dead self.old }
+        ensures { self.new ≡ with_idle self.old (unmoved_of why) }
     {
         self.begun = None;
-        self.worker = next_after(self.alloc, self.plans.as_slice(), &mut self.ends, None);
+        self.worker = None;
+        add_end(&mut self.ends, unmoved(why));
         self.used = true;
     }
 
     /// How those have ended that have.
-    pub fn ends(&self) -> &[Option<Ended<W>>]
+    pub fn ends(&self) -> &[Ended<W>]
         ensures { shown_ends W.state result.now ≡ self.now.ends }
     {
         self.ends.as_slice()
     }
 
     /// The same, handed out.
-    pub fn into_ends(self) -> Vec<Option<Ended<W>>>
+    pub fn into_ends(self) -> Vec<Ended<W>>
         ensures { shown_ends W.state result.items ≡ self.ends }
     {
         self.ends
@@ -235,16 +282,5 @@ impl<W: Worker + Drop> Jobs<W> {
         ensures { map job_of result.now ≡ self.now.jobs }
     {
         self.plans.as_slice()
-    }
-}
-
-/// Makes room for an answer to a machine, where there is one.
-fn reserve_in<W: Worker>(worker: &mut Option<W>) -> Result<(), NoMemory>
-    ensures same { option_map W.state worker.new ≡ option_map W.state worker.old }
-    ensures room { OnOk result (IfSome worker.new W.has_room) }
-{
-    match worker {
-        Some(worker) => worker.reserve(),
-        None => Ok(()),
     }
 }

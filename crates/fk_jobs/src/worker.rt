@@ -1,13 +1,16 @@
 //! What a job's code has to promise.
-ghost use Rattle.std.specs.Prelude.{◌≡◌, true, OnOk, IfSome, is_some, take};
+ghost use Rattle.std.specs.Prelude.{◌≡◌, OnOk, is_some, option_map, take};
 ghost use Rattle.laws_checkpoint.specs.Checkpoint.State.{Holds};
-ghost use Rattle.laws_house.specs.Houses.{State, machine};
-ghost use Rattle.laws_house.specs.Houses.State.{Checking};
-ghost use Rattle.fk_jobs.specs.Jobs.{call_at};
-ghost use Rattle.fk_jobs.specs.Plain.{is_plain, CheckpointsAskPlainly, PlainIsFit};
+ghost use Rattle.laws_house.specs.Houses.{State, machine, image_of_end};
+ghost use Rattle.laws_house.specs.Houses.State.{Checking, Restoring};
+ghost use Rattle.laws_restore.specs.Restore.State.{Makes};
+ghost use Rattle.laws_rooms.specs.Restoring.{IsRestoreJob};
+ghost use Rattle.fk_jobs.specs.Jobs.{call_at, end_at};
+ghost use Rattle.fk_jobs.specs.Plain.{CheckpointsAskPlainly, JobsPickNobody, PlainIsFit};
 ghost use Rattle.fk_jobs.specs.Turns.{JobMovesSo, JobEndsSo};
 
-use fk_model::{Answer, Ask, NoMemory};
+use fk_finish::ValidImage;
+use fk_model::{Answer, Ask, List, NoMemory};
 use std::alloc::Global;
 
 /// A job's machine in code.
@@ -20,18 +23,22 @@ pub trait Worker {
     fn checkpoint(alloc: Global, slot: u8) -> Self
         ensures { state result ≡ Checking slot Holds };
 
+    /// A restore that is about to begin, of an image in a slot of its nester, with its outward slots bound by pairs.
+    fn restore(slot: u8, image: ValidImage, pairs: List<(u8, u8)>) -> Self
+        requires { IsRestoreJob slot image pairs }
+        ensures { state result ≡ Restoring slot pairs image Makes };
+
     /// Its next call. It has none exactly where it has ended.
     fn next(&self) -> Option<Ask>
-        ensures next { result ≡ call_at (machine.head (state self.now)) }
-        ensures plain { IfSome result (λ ask. is_plain ask ≡ true) };
-
-    /// Its next call is plain. It does nothing: by this call that is known without the call at hand.
-    fn plainly(&self)
-        ensures { IfSome (call_at (machine.head (state self.now))) (λ ask. is_plain ask ≡ true) };
+        ensures { result ≡ call_at (machine.head (state self.now)) };
 
     /// Whether it has a call to make.
     fn is_at_call(&self) -> bool
         ensures { result ≡ is_some (call_at (machine.head (state self.now))) };
+
+    /// The image with which it is done, where it has ended so.
+    fn image(&self) -> Option<&ValidImage>
+        ensures { option_map (λ image. image.now) result ≡ image_of_end (end_at (machine.head (state self.now))) };
 
     /// Makes room for one answer, and changes nothing else.
     fn reserve(&mut self) -> Result<(), NoMemory>
@@ -52,6 +59,11 @@ pub fn checkpoints_ask_plainly()
 /// What is plain is fit wherever it is made.
 pub fn plain_is_fit()
     ensures { PlainIsFit }
+{}
+
+/// No call of a job picks anybody.
+pub fn jobs_pick_nobody()
+    ensures { JobsPickNobody }
 {}
 
 /// A job's move in a run is what its jobs hear of it.

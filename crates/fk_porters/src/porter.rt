@@ -1,18 +1,20 @@
 //! A porter at its job.
-ghost use Rattle.std.specs.Prelude.{◌≡◌, true, OnOk, IfSome, IfNone, is_some, take};
+ghost use Rattle.std.specs.Prelude.{◌≡◌, OnOk, IfSome, IfNone, is_some, option_map, take};
 ghost use Rattle.laws_checkpoint.specs.Checkpoint.State.{Holds};
-ghost use Rattle.laws_house.specs.Houses.{State, machine};
-ghost use Rattle.laws_house.specs.Houses.State.{Checking};
+ghost use Rattle.laws_house.specs.Houses.{State, machine, image_of_end};
+ghost use Rattle.laws_house.specs.Houses.State.{Checking, Restoring};
 ghost use Rattle.laws_jobs.specs.Machines.{IsAtCall};
 ghost use Rattle.laws_jobs.specs.Machines.Head.{Stops};
-ghost use Rattle.fk_jobs.specs.Jobs.{call_at};
-ghost use Rattle.fk_jobs.specs.Plain.{is_plain};
-ghost use Rattle.fk_porters.specs.Porters.{state_of, has_room, end_of};
+ghost use Rattle.laws_restore.specs.Restore.State.{Makes};
+ghost use Rattle.laws_rooms.specs.Restoring.{IsRestoreJob};
+ghost use Rattle.fk_jobs.specs.Jobs.{call_at, end_at};
+ghost use Rattle.fk_porters.specs.Porters.{state_of, has_room, end_of, image_in};
 
+use crate::sound::Sound;
 use fk_checkpoint::Checkpoint;
-use fk_finish::Finish;
+use fk_finish::{Finish, ValidImage};
 use fk_jobs::Worker;
-use fk_model::{Answer, Ask, NoMemory};
+use fk_model::{Answer, Ask, List, NoMemory};
 use std::alloc::Global;
 
 /// What a porter is at.
@@ -20,6 +22,18 @@ use std::alloc::Global;
 pub enum Porter {
     /// It saves a subtree.
     Checkpoint(Checkpoint),
+    /// It makes one again.
+    Restore(Sound),
+}
+
+/// The image with which a checkpoint is done.
+fn image_of(finish: Option<&Finish>) -> Option<&ValidImage>
+    ensures { option_map (λ image. image.now) result ≡ image_in (option_map (λ finish. finish.now) finish.entry) }
+{
+    match finish? {
+        Finish::Image(image) => Some(image),
+        _ => None,
+    }
 }
 
 impl Worker for Porter {
@@ -31,29 +45,42 @@ impl Worker for Porter {
         Porter::Checkpoint(Checkpoint::new(alloc, slot))
     }
 
+    fn restore(slot: u8, image: ValidImage, pairs: List<(u8, u8)>) -> Porter {
+        Porter::Restore(Sound::new(slot, image, pairs))
+    }
+
     fn next(&self) -> Option<Ask> {
         match self {
             Porter::Checkpoint(checkpoint) => checkpoint.next(),
+            Porter::Restore(restore) => restore.next(),
         }
     }
-
-    fn plainly(&self) {}
 
     fn is_at_call(&self) -> bool {
         match self {
             Porter::Checkpoint(checkpoint) => checkpoint.end().is_none(),
+            Porter::Restore(restore) => restore.is_at_call(),
+        }
+    }
+
+    fn image(&self) -> Option<&ValidImage> {
+        match self {
+            Porter::Checkpoint(checkpoint) => image_of(checkpoint.end()),
+            Porter::Restore(_) => None,
         }
     }
 
     fn reserve(&mut self) -> Result<(), NoMemory> {
         match self {
             Porter::Checkpoint(checkpoint) => checkpoint.reserve(),
+            Porter::Restore(_) => Ok(()),
         }
     }
 
     fn absorb(&mut self, answer: &Answer) {
         match self {
             Porter::Checkpoint(checkpoint) => checkpoint.absorb(answer),
+            Porter::Restore(restore) => restore.absorb(answer),
         }
     }
 }
@@ -66,6 +93,7 @@ impl Porter {
     {
         match self {
             Porter::Checkpoint(checkpoint) => checkpoint.end(),
+            Porter::Restore(restore) => restore.end(),
         }
     }
 
@@ -76,6 +104,7 @@ impl Porter {
     {
         match self {
             Porter::Checkpoint(checkpoint) => checkpoint.finish(),
+            Porter::Restore(restore) => restore.finish(),
         }
     }
 }

@@ -17,7 +17,7 @@ ghost use Rattle.fk_restore.specs.declared.restore.Phase.TheVariants as phases;
 ghost use Rattle.fk_restore.specs.Restores.{answered, clears, missing, goes_on, end_of, phase_of, state_of, IsOver, IsSoundPhase, IsSound};
 
 use crate::counting::{count_objects, lowest_bound};
-use fk_finish::Finish;
+use fk_finish::{Finish, ValidImage};
 use fk_image::{Image, SpaceRec};
 use fk_model::limits::OWN_SPACE;
 use fk_model::status::OK;
@@ -43,7 +43,7 @@ pub enum Phase {
 #[derive(Drop)]
 pub struct Restore {
     slot: u8,
-    image: Image,
+    image: ValidImage,
     pairs: List<(u8, u8)>,
     phase: Phase,
 }
@@ -296,9 +296,12 @@ fn answered_in(
 
 impl Restore {
     /// A restore that is about to begin.
-    pub fn new(slot: u8, image: Image, pairs: List<(u8, u8)>) -> Restore
+    pub fn new(slot: u8, image: ValidImage, pairs: List<(u8, u8)>) -> Restore
         requires { IsRestoreJob slot image pairs }
         ensures sound { IsSound result }
+        ensures slot { result.slot ≡ slot }
+        ensures image { result.image ≡ image }
+        ensures pairs { result.pairs ≡ pairs }
         ensures state { state_of result ≡ Makes }
     {
         Restore {
@@ -316,7 +319,7 @@ impl Restore {
             × (machine.head self.now.slot (state_of self.now) ≡ Asks stage words)) }
         ensures none { IfNone result (IsOver self.now.phase) }
     {
-        let (stage, words) = called(&self.image, self.slot, &self.pairs, &self.phase)?;
+        let (stage, words) = called(self.image.get(), self.slot, &self.pairs, &self.phase)?;
         Some(Ask::Call { stage, words })
     }
 
@@ -338,7 +341,7 @@ impl Restore {
             ≡ (restore_of self.old.slot self.old.image self.old.pairs).next (state_of self.old) answer.now.status (answered answer.now) }
     {
         let phase = mem::replace(&mut self.phase, Phase::Makes);
-        self.phase = answered_in(&self.image, self.slot, &self.pairs, phase, answer);
+        self.phase = answered_in(self.image.get(), self.slot, &self.pairs, phase, answer);
     }
 
     /// How it has ended; nothing while it has a call to make.

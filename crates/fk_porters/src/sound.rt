@@ -1,0 +1,81 @@
+//! A restore whose calls are its machine's.
+ghost use Rattle.std.specs.Prelude.{◌≡◌, IfSome, IfNone, is_some, take};
+ghost use Rattle.laws_house.specs.Houses.{machine};
+ghost use Rattle.laws_house.specs.Houses.State.{Restoring};
+ghost use Rattle.laws_jobs.specs.Machines.{IsAtCall};
+ghost use Rattle.laws_jobs.specs.Machines.Head.{Stops};
+ghost use Rattle.laws_restore.specs.Restore.State.{Makes};
+ghost use Rattle.laws_rooms.specs.Restoring.{IsRestoreJob};
+ghost use Rattle.fk_jobs.specs.Jobs.{call_at};
+ghost use Rattle.fk_porters.specs.Porters.{restoring, restored};
+
+use fk_finish::{Finish, ValidImage};
+use fk_model::{Answer, Ask, List};
+use fk_restore::Restore;
+use std::marker::Model;
+
+/// A restore of a valid image, in a state that its machine may be in. Contracts see the restore alone.
+#[derive(Drop)]
+pub struct Sound {
+    restore: Restore,
+}
+
+impl Model for Sound {
+    ghost use Rattle.fk_restore.specs.declared.restore.Restore as restores;
+    ghost use Rattle.fk_restore.specs.Restores.{IsSound};
+
+    ghost Value = { restores.Restore };
+
+    ghost view = { λ s. s.restore };
+
+    ghost invariant = { λ s. IsSound s.restore };
+}
+
+impl Sound {
+    /// A restore that is about to begin.
+    pub fn new(slot: u8, image: ValidImage, pairs: List<(u8, u8)>) -> Sound
+        requires { IsRestoreJob slot image pairs }
+        ensures { restoring result ≡ Restoring slot pairs image Makes }
+    {
+        Sound {
+            restore: Restore::new(slot, image, pairs),
+        }
+    }
+
+    /// Its next call. It has none exactly where it has ended.
+    pub fn next(&self) -> Option<Ask>
+        ensures { result ≡ call_at (machine.head (restoring self.now)) }
+    {
+        self.restore.next()
+    }
+
+    /// Whether it has a call to make.
+    pub fn is_at_call(&self) -> bool
+        ensures { result ≡ is_some (call_at (machine.head (restoring self.now))) }
+    {
+        self.restore.end().is_none()
+    }
+
+    /// Takes the answer to its next call.
+    pub fn absorb(&mut self, answer: &Answer)
+        ensures { restoring self.new ≡ machine.next (restoring self.old) answer.now.status (take answer.now.len answer.now.words) }
+    {
+        self.restore.absorb(answer);
+    }
+
+    /// How it has ended; nothing while it has a call to make.
+    pub fn end(&self) -> Option<&Finish>
+        ensures some { IfSome result (λ finish. machine.head (restoring self.now) ≡ Stops (restored finish.now)) }
+        ensures none { IfNone result (IsAtCall machine (restoring self.now)) }
+    {
+        self.restore.end()
+    }
+
+    /// The same, handed out.
+    pub fn finish(self) -> Option<Finish>
+        ensures some { IfSome result (λ finish. machine.head (restoring self) ≡ Stops (restored finish)) }
+        ensures none { IfNone result (IsAtCall machine (restoring self)) }
+    {
+        self.restore.finish()
+    }
+}
