@@ -17,12 +17,11 @@ use Rattle.laws_checkpoint.specs.Foreign as seeks
 use Rattle.laws_checkpoint.specs.Contents as reads
 use Rattle.laws_checkpoint.specs.Gather as gathers
 use Rattle.laws_restore.specs.Restore as restores
-use Rattle.laws_sites.specs.Orders.{Order, stage_of}
-use Rattle.laws_sites.specs.Orders.Order as orders
+use Rattle.laws_sites.specs.Orders.{Order, Order as orders, stage_of}
 use Rattle.laws_house.specs.Houses.{State, End, machine, ends_as}
 use Rattle.laws_house.specs.Houses.State.{Checking, Restoring}
 use Rattle.laws_house.specs.Houses.End.{Checked, Restored}
-use Rattle.fk_jobs.specs.Jobs.{Queue, call_at, asked_by, state_of}
+use Rattle.fk_jobs.specs.Jobs.{call_at, asked_by, state_of}
 use Rattle.fk_jobs.specs.Plain.{is_plain, is_plain_stage, picks_nobody, CheckpointsAskPlainly, JobsPickNobody, PlainIsFit}
 
 -- what a machine asks is plain and picks nobody, where it asks

@@ -1,9 +1,9 @@
 -- Seats: the state of the job whose turn it is, by its machine in code.
-use Rattle.std.proofs.Common.{◌≡◌, ℕ, ◌<◌, Bool, true, false, List, [], ◌∷◌, ◌++◌, map, length, Option, Some, None, option_map, is_some}
+use Rattle.std.proofs.Common.{◌≡◌, ℕ, Bool, true, false, List, [], ◌∷◌, ◌++◌, length, Option, Some, None, option_map, is_some}
 use Rattle.std.proofs.Common.{refl, sym, ap, subst, ◌∙◌}
 use Rattle.std.specs.List.{slice_get}
 use Rattle.laws_house.specs.Houses.{Job, State, End, machine}
-use Rattle.laws_runs.specs.Cores.{JobEnd, Work, work_of}
+use Rattle.laws_runs.specs.Cores.{JobEnd, work_of}
 use Rattle.laws_runs.specs.Cores.JobEnd.{Worked}
 use Rattle.laws_jobs.specs.Machines.{Head}
 use Rattle.laws_jobs.specs.Machines.Head.{Stops, Asks}

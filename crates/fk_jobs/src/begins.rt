@@ -59,6 +59,13 @@ fn can_begin_so<W: Worker + Drop>(plan: &Plan, ends: &[Ended<W>]) -> bool
     }
 }
 
+/// What is planned of the job whose turn it is.
+fn planned<'a, W: Worker + Drop>(plans: &'a [Plan], ends: &[Ended<W>]) -> Option<&'a Plan>
+    ensures { option_map (λ plan. job_of plan.now) result ≡ slice_get (map job_of plans.now) (length (shown_ends W.state ends.now)) }
+{
+    plans.get(ends.len())
+}
+
 /// Whether the job can begin whose turn it is.
 pub fn can_begin<W: Worker + Drop>(plans: &[Plan], ends: &[Ended<W>]) -> bool
     ensures { result ≡ is_some (first_of (shown_ends W.state ends.now) (slice_get (map job_of plans.now) (length (shown_ends W.state ends.now)))) }
@@ -74,23 +81,21 @@ fn first_call_so<W: Worker + Drop>(plan: &Plan, ends: &[Ended<W>]) -> Option<Ask
     ensures { result ≡ asked_by (begins (job_of plan.now) (shown_ends W.state ends.now)) }
 {
     match &plan.task {
-        Task::Checkpoint { slot } => Some(
-            Ask::Call {
-                stage: Stage::SpaceHold {
-                    s: OWN_SPACE,
+        Task::Checkpoint { slot } => Some(Ask::Call {
+            stage: Stage::SpaceHold {
+                s: OWN_SPACE,
+                x: u64::from(*slot),
+            },
+            words: [0; 64],
+        }),
+        Task::Restore { slot, source, .. } => {
+            let _image = sourced(ends, source)?;
+            Some(Ask::Call {
+                stage: Stage::SpaceMakeHeld {
                     x: u64::from(*slot),
                 },
                 words: [0; 64],
-            },
-        ),
-        Task::Restore { slot, source, .. } => {
-            let _image = sourced(ends, source)?;
-            Some(
-                Ask::Call {
-                    stage: Stage::SpaceMakeHeld { x: u64::from(*slot) },
-                    words: [0; 64],
-                },
-            )
+            })
         }
     }
 }
@@ -103,11 +108,7 @@ pub fn first_call<W: Worker + Drop>(plans: &[Plan], ends: &[Ended<W>]) -> Option
 }
 
 /// A restore that is about to begin, of an image that is shared.
-fn restore<W: Worker>(
-    slot: u8,
-    image: &ValidImage,
-    pairs: &List<(u8, u8)>,
-) -> Result<W, NoMemory>
+fn restore<W: Worker>(slot: u8, image: &ValidImage, pairs: &List<(u8, u8)>) -> Result<W, NoMemory>
     requires low { slot ≤ LAST_USER_SLOT }
     requires users { are_user_pairs pairs.now ≡ true }
     ensures { IfOk result (λ made. W.state made ≡ Restoring slot pairs.now image.now Makes) }
@@ -152,7 +153,7 @@ pub fn make<W: Worker + Drop>(
     ensures { IfOk result (λ made. option_map W.state made
         ≡ first_of (shown_ends W.state ends.now) (slice_get (map job_of plans.now) (length (shown_ends W.state ends.now)))) }
 {
-    match plans.get(ends.len()) {
+    match planned(plans, ends) {
         Some(plan) => make_so(alloc, plan, ends),
         None => Ok(None),
     }

@@ -65,9 +65,9 @@ impl<W: Worker + Drop> Model for Jobs<W> {
     ghost invariant = { λ s. (length s.plans.items ≤ vec_capacity s.ends)
         × NameUsersSlots (map queues.job_of s.plans.items)
         × queues.IsSeated W.state s.worker s.begun (queues.shown_ends W.state s.ends.items)
-          (slice_get (map queues.job_of s.plans.items) (length (queues.shown_ends W.state s.ends.items)))
+        (slice_get (map queues.job_of s.plans.items) (length (queues.shown_ends W.state s.ends.items)))
         × (s.used ≡ false → queues.IsReadied W.has_room s.worker (queues.first_of (queues.shown_ends W.state s.ends.items)
-          (slice_get (map queues.job_of s.plans.items) (length (queues.shown_ends W.state s.ends.items))))) };
+        (slice_get (map queues.job_of s.plans.items) (length (queues.shown_ends W.state s.ends.items))))) };
 }
 
 /// The place of a job's first move, which is this one where it has made none.
@@ -90,7 +90,7 @@ fn add_end<W: Worker + Drop>(ends: &mut Vec<Ended<W>>, end: Ended<W>)
 }
 
 /// How a job has ended that made no move.
-fn unmoved<W: Worker + Drop>(why: Unmoved) -> Ended<W>
+fn idle_end<W: Worker + Drop>(why: Unmoved) -> Ended<W>
     ensures { shown_end W.state result ≡ Idle (unmoved_of why) }
 {
     match why {
@@ -259,7 +259,7 @@ impl<W: Worker + Drop> Jobs<W> {
     {
         self.begun = None;
         self.worker = None;
-        add_end(&mut self.ends, unmoved(why));
+        add_end(&mut self.ends, idle_end(why));
         self.used = true;
     }
 

@@ -18,4 +18,6 @@ mod worker;
 
 pub use jobs::{Ended, Jobs, Unmoved};
 pub use plan::{Plan, Source, Task};
-pub use worker::{Worker, checkpoints_ask_plainly, jobs_end_so, jobs_move_so, jobs_pick_nobody, plain_is_fit};
+pub use worker::{
+    Worker, checkpoints_ask_plainly, jobs_end_so, jobs_move_so, jobs_pick_nobody, plain_is_fit,
+};
