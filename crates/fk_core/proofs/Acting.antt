@@ -26,12 +26,17 @@ use Rattle.fk_store.specs.Names.{same_who}
 use Rattle.fk_store_tables.proofs.NameLaws.{same_who_eq}
 use Rattle.laws_runs.specs.Cores.{IsOtherReady}
 use Rattle.laws_whole.specs.Runnable.{has_all_words}
-use Rattle.fk_kernel.specs.Events.{IsAcceptReady}
-use Rattle.fk_jobs.specs.Jobs.{Queue}
+use Rattle.fk_kernel.specs.declared.kernel.Look.{Look}
+use Rattle.fk_kernel.specs.declared.kernel.Look.TheVariants.{Found, Passed, Nobody}
+use Rattle.fk_kernel.specs.Events.{IsAcceptReady, IsLooked, IsReadyBesides, is_who}
+use Rattle.fk_store.specs.Contents.{Contents}
+use Rattle.fk_store.specs.World.{world}
+use Rattle.fk_jobs.specs.Jobs.{Queue, current}
 use Rattle.fk_jobs.specs.Turns.{core_of}
-use Rattle.fk_core.specs.Served.{Services, serving, asked, asked_of, gives_words}
-use Rattle.fk_core.specs.Cores.{RunCore, house, is_act, is_porter, IsOthersMove, HasNoAct, HaveNoActs}
-use Rattle.fk_core.proofs.Asking.{IsAsked, asked_other, other_name, runs_move}
+use Rattle.fk_served.specs.Served.{Services, serving, asked, asked_of, gives_words}
+use Rattle.fk_core.specs.Cores.{RunCore, house, core_at, is_act, is_porter, porter_of, IsOthersMove, HasNoAct, HaveNoActs, IsFound}
+use Rattle.fk_served.proofs.Acts.{found, never-calls, runs}
+use Rattle.fk_core.proofs.Asking.{IsAsked, asked_other, other_name, runs_move, others_ready}
 
 -- who needs no pick has none
 no-pick : (w : World) (x p : Path) (o : Outcome) → GoesAllowed w x (with_pick false (Some p) o) → ⊥
@@ -109,53 +114,6 @@ one-more q c from at port is none before k served low high there other = by (nat
 
 -- ---- no move is left
 
-found : (services : Services) (who : Who) (state : State) → serving services who ≡ Some state →
-    (k : ℕ) × (served : Who × State) × (slice_get services k ≡ Some served) × (k < length services) × (served.0 ≡ who)
-unfolding serving
-found [] who state is = absurd (cc)
-found (e ∷ es) who state is = by (same_who e.0 who) refl (λ rest. found es who state rest)
-  where
-    by : (t : Bool) → same_who e.0 who ≡ t → (serving es who ≡ Some state → (k : ℕ) × (served : Who × State) × (slice_get es k ≡ Some served) × (k < length es) × (served.0 ≡ who))
-        → (k : ℕ) × (served : Who × State) × (slice_get (e ∷ es) k ≡ Some served) × (k < length (e ∷ es)) × (served.0 ≡ who)
-    by true same later = (0, e, refl, omega arith, same_who_eq e.0 who same)
-    by false other later = let rest = later (rw other at is) in (suc rest.0, rest.1, rest.2, omega (arith, rest.3), rest.4)
-
--- no server asks for a call
-no-call : (left : List ℕ) (stage : Stage) (words : List ℕ) → gives_left left ≡ asks.Call stage words → ⊥
-no-call [] stage words is = cc
-no-call (word ∷ left) stage words is = cc
-
-state-calls : (state : State) (stage : Stage) (words : List ℕ) → asks_for state ≡ Some (asks.Call stage words) → ⊥
-state-calls (OfConsole alias printed sides.Idle) stage words is = cc
-state-calls (OfConsole alias printed sides.Client) stage words is = cc
-state-calls (OfConsole alias printed sides.Own) stage words is = cc
-state-calls (OfServer index rule config position request left sides.Idle) stage words is = cc
-state-calls (OfServer index rule config position request left sides.Client) stage words is = cc
-state-calls (OfServer index rule config position request left sides.Own) stage words is =
-    no-call left stage words (let same : gives_left left ≡ asks.Call stage words = cc in same)
-
-never-calls : (services : Services) (w : World) (who : Who) (stage : Stage) (words : List ℕ) → asked services w who ≡ Some (asks.Call stage words) → ⊥
-never-calls services w who stage words is = by (is_served_port w (At (named w who))) (serving services who) is
-  where
-    by : (port : Bool) (state : Option State) → (if port then asked_of state else Some asks.Run) ≡ Some (asks.Call stage words) → ⊥
-    by true (Some state) e = state-calls state stage words e
-    by true None e = cc
-    by false state e = cc
-
--- who is ready to run isn't a port
-no-thread : (w : World) (x : Path) (pick : Option Path) → GoesAllowed w x (user_move w x pick None) → ⊥
-no-thread w x pick h = h
-
-pub runs : (services : Services) (w : World) (who : Who) (pick : Option Path) → IsReady w (named w who) pick asks.Run → asked services w who ≡ Some asks.Run
-unfolding outcome
-runs services w who pick ready = by (w.body (named w who)) refl
-  where
-    by : (o : Option Body) → w.body (named w who) ≡ o → asked services w who ≡ Some asks.Run
-    by (Some (Thread_of t)) e = rw e refl
-    by (Some (Port set served)) e = absurd (no-thread w (named w who) pick (rw e at ready))
-    by (Some b) e = rw e refl
-    by None e = rw e refl
-
 pub over : (q : Queue) (w : World) (services : Services) (events : ℕ) →
     ((m : Move) → is_porter q m.who ≡ false → IsReadyAt w (event_of w asks.Run m) → ⊥) → HaveNoActs q (core_of w services q events) 0 (length services) →
     IsOtherReady (house q.jobs) (core_of w services q events) → ⊥
@@ -198,10 +156,12 @@ pub if-some : {A : Type 0} (o : Option A) (X Y : A → Type 0) → ((a : A) → 
 if-some None X Y f h = tt
 if-some (Some a) X Y f h = f a h
 
--- what is asked for is words, where what is given is
-pub words-asked : (services : Services) (w : World) (who : Who) (ask : Ask) → asked services w who ≡ Some ask → gives_words ask ≡ true → has_all_words ask ≡ true
-words-asked services w who asks.Run is words = refl
-words-asked services w who (asks.Call stage given) is words = absurd (never-calls services w who stage given is)
-words-asked services w who asks.Accept is words = refl
-words-asked services w who (asks.Give given len) is words = words
-words-asked services w who asks.Over is words = refl
+-- what a look besides the porter finds is ready in a core
+pub found_ready : (m s : Contents) (services : Services) (q : Queue) (events : ℕ) (after besides : Option Who) (look : Look) → s ≡ m →
+    besides ≡ porter_of (current q) → IsLooked s after besides look → IsFound q.jobs (core_at m services q events) look
+found_ready m s services q events after besides (Found move) same porter there =
+    let at = subst (λ k. IsReadyBesides (world k) besides move) same there in
+    others_ready q (world m) services events move
+    (runs-other q (world m) services events move (subst (λ o. is_who o move.who ≡ false) porter at.0) at.1)
+found_ready m s services q events after besides (Passed last) same porter there = tt
+found_ready m s services q events after besides Nobody same porter there = tt

@@ -1,11 +1,10 @@
 -- Asking: who asks for what, by the job whose turn it is.
-use Rattle.std.proofs.Common.{◌≡◌, ℕ, Bool, true, false, if◌then◌else◌, List, Option, Some, None, option_map, IfSome, refl, sym, ap, subst, ◌∙◌}
+use Rattle.std.proofs.Common.{◌≡◌, ℕ, Bool, true, false, not, if◌then◌else◌, List, Option, Some, None, option_map, IfSome, refl, sym, ap, subst, ◌∙◌}
 use Rattle.fk_model.specs.declared.moves.Ask.{Ask}
 use Rattle.fk_model.specs.declared.moves.Ask.TheVariants as asks
 use Rattle.fk_model.specs.declared.moves.Move.{Move}
 use Rattle.fk_model.specs.declared.names.Who.{Who}
 use Rattle.fk_model.specs.declared.stage.Stage.{Stage}
-use Rattle.fk_model.specs.declared.stage.Stage.TheVariants as stages
 use Rattle.fk_model.specs.Moves.{chooses}
 use Rattle.fk_model.specs.Who.{event_of, named}
 use Rattle.fk_model.specs.World.{World}
@@ -19,9 +18,10 @@ use Rattle.laws_runs.proofs.Named.{unpicked}
 use Rattle.fk_store_tables.proofs.NameLaws.{same_who_eq}
 use Rattle.fk_kernel.specs.Events.{is_who}
 use Rattle.fk_jobs.specs.Jobs.{Queue, current, first_of, state_from, state_of, call_at, asked_by}
-use Rattle.fk_jobs.specs.Plain.{is_plain, is_plain_stage, AsksPlainly}
+use Rattle.fk_jobs.specs.Plain.{picks_nobody}
+use Rattle.fk_jobs.proofs.Plainly.{pick_nobody}
 use Rattle.fk_jobs.specs.Turns.{core_of}
-use Rattle.fk_core.specs.Served.{Services, asked}
+use Rattle.fk_served.specs.Served.{Services, asked}
 use Rattle.fk_core.specs.Cores.{house, porter_of, is_porter, IsReadyMove, IsAnyMove, IsDue, IsOthersMove, IsAskedMove, IsCalledMove, IsCalledBy}
 
 -- what an asker that stands for this call is
@@ -97,52 +97,10 @@ others_is (Some other) ask is = by (has_all_words other) refl is
     by true e is = let same : other ≡ ask = cc in record { is = ap Some same; words = subst (λ a. has_all_words a ≡ true) same e }
     by false e is = absurd (cc)
 
--- what is plain chooses nobody
-never_chooses : (stage : Stage) → is_plain_stage stage ≡ true → chooses stage ≡ false
-never_chooses (stages.Create s x kind) plain = refl
-never_chooses (stages.Destroy s x) plain = refl
-never_chooses (stages.Rename s x y) plain = refl
-never_chooses (stages.Search s from) plain = refl
-never_chooses (stages.Point s x s2 x2) plain = refl
-never_chooses (stages.Clear s x) plain = refl
-never_chooses (stages.Locate reference s) plain = refl
-never_chooses (stages.CountIn base s x) plain = refl
-never_chooses (stages.GetState s x addr) plain = refl
-never_chooses (stages.SetState s x addr) plain = refl
-never_chooses (stages.GetPtr s x field reference) plain = refl
-never_chooses (stages.SetPtr s x field reference) plain = refl
-never_chooses (stages.SpaceHold s x) plain = refl
-never_chooses (stages.SpaceRelease s x) plain = refl
-never_chooses (stages.ThreadStop h) plain = refl
-never_chooses (stages.ThreadGo h) plain = refl
-never_chooses (stages.PageGive s page addr) plain = refl
-never_chooses (stages.PageTake s page addr) plain = refl
-never_chooses (stages.PageRead s page addr) plain = refl
-never_chooses (stages.PageNext s from) plain = refl
-never_chooses (stages.MutexLock m) plain = refl
-never_chooses (stages.MutexTrylock m) plain = refl
-never_chooses (stages.MutexUnlock m) plain = refl
-never_chooses (stages.CondWait cond m) plain = cc
-never_chooses (stages.CondAsleep cond m) plain = refl
-never_chooses (stages.CondSignal cond) plain = cc
-never_chooses (stages.CondBroadcast cond) plain = refl
-never_chooses (stages.Connect h) plain = refl
-never_chooses (stages.ClientReceive addr room) plain = refl
-never_chooses (stages.ClientSend addr count) plain = refl
-never_chooses stages.ClientOver plain = refl
-never_chooses stages.Disconnect plain = refl
-never_chooses (stages.Wait set) plain = cc
-never_chooses (stages.ServerReceive addr room) plain = refl
-never_chooses (stages.ServerSend addr count) plain = refl
-never_chooses stages.ServerOver plain = refl
-never_chooses stages.ServerEnd plain = refl
-never_chooses stages.FaultDone plain = refl
-never_chooses (stages.LinkSet s x port server) plain = refl
-never_chooses (stages.LinkPark s x port) plain = refl
-never_chooses (stages.FaultSet s x port taker) plain = refl
-never_chooses (stages.FaultPark s x port taken) plain = refl
-never_chooses (stages.HoldSet s x thread) plain = refl
-never_chooses (stages.SpaceMakeHeld x) plain = refl
+-- what picks nobody chooses nobody
+never_chooses : (b : Bool) → not b ≡ true → b ≡ false
+never_chooses true is = absurd (cc)
+never_chooses false is = refl
 
 module _ (q : Queue) (w : World) (services : Services) (events : ℕ) where
   -- the porter asks as its job
@@ -220,8 +178,8 @@ module _ (q : Queue) (w : World) (services : Services) (events : ℕ) where
       by (Some ask) e = (ready_job m ask is e ready).0
 
   -- it picks nobody
-  pub job_unpicked : AsksPlainly q → (m : Move) → is_porter q m.who ≡ true → IsReadyMove q.jobs (core_of w services q events) m → m.pick ≡ None
-  job_unpicked plain m is ready = by (asked_by (state_of q)) refl
+  pub job_unpicked : (m : Move) → is_porter q m.who ≡ true → IsReadyMove q.jobs (core_of w services q events) m → m.pick ≡ None
+  job_unpicked m is ready = by (asked_by (state_of q)) refl
     where
       no_pick : (pick : Option Who) → option_map (named w) pick ≡ None → pick ≡ None
       no_pick None e = refl
@@ -231,16 +189,17 @@ module _ (q : Queue) (w : World) (services : Services) (events : ℕ) where
       by None e = absurd (idle_job m is e ready)
       by (Some ask) e =
           let found = asks_for m.who ask is e in
-          let plainly : is_plain (asks.Call found.stage found.words) ≡ true = subst (λ a. is_plain a ≡ true) found.is (subst (λ o. IfSome o (λ ask. is_plain ask ≡ true)) e plain) in
+          let picks : picks_nobody (asks.Call found.stage found.words) ≡ true =
+          subst (λ a. picks_nobody a ≡ true) found.is (subst (λ o. IfSome o (λ ask. picks_nobody ask ≡ true)) e (pick_nobody q)) in
           let call = subst (λ a. IsReadyAt w (event_of w a m)) found.is (ready_job m ask is e ready).1 in
-          no_pick m.pick (unpicked w (named w m.who) found.stage found.words (never_chooses found.stage plainly) (option_map (named w) m.pick) call)
+          no_pick m.pick (unpicked w (named w m.who) found.stage found.words (never_chooses (chooses found.stage) picks) (option_map (named w) m.pick) call)
 
-  pub none_ready : (who : Who) → AsksPlainly q → porter_of (current q) ≡ Some who →
+  pub none_ready : (who : Who) → porter_of (current q) ≡ Some who →
       (IsReadyMove q.jobs (core_of w services q events) (record { who = who; pick = None }) → ⊥) →
       (m : Move) → is_porter q m.who ≡ true → IsReadyMove q.jobs (core_of w services q events) m → ⊥
-  none_ready who plain porter unready m is ready =
+  none_ready who porter unready m is ready =
       let same : m.who ≡ who = same_who_eq m.who who (subst (λ o. is_who o m.who ≡ true) porter is) in
-      let pick = job_unpicked plain m is ready in
+      let pick = job_unpicked m is ready in
       unready (subst (λ k. IsReadyMove q.jobs (core_of w services q events) (record { who = k; pick = None })) same
       (subst (λ p. IsReadyMove q.jobs (core_of w services q events) (record { who = m.who; pick = p })) pick ready))
 
@@ -313,7 +272,3 @@ module _ (q : Queue) (w : World) (services : Services) (events : ℕ) where
       by : (b : Bool) → is_porter q who ≡ b → asked_by (state_of q) ≡ Some (asks.Call stage words)
       by true e = called_work events begun s stage words q.work (first_of q.ends (current q)) (sym (as_job who e) ∙ is)
       by false e = absurd (no_job (asked services w who) begun s stage words (sym (as_other who e) ∙ is))
-
-  pub plain_job : (who : Who) (begun : ℕ) (s : State) (stage : Stage) (words : List ℕ) → AsksPlainly q →
-      asker (house q.jobs) (core_of w services q events) who ≡ OfJob begun s stage words → is_plain (asks.Call stage words) ≡ true
-  plain_job who begun s stage words plain is = subst (λ o. IfSome o (λ ask. is_plain ask ≡ true)) (asked_job who begun s stage words is) plain

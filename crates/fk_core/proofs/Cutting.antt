@@ -1,6 +1,5 @@
 -- Cutting: what a turn does to plain subtrees.
-use Rattle.std.proofs.Common.{◌≡◌, ◌⊎◌, ℕ, Bool, true, false, if◌then◌else◌, List, [], ◌∷◌, Option, Some, None, inl, inr, refl, sym, ap, subst, ◌∙◌}
-use Rattle.std.specs.Bool.{OnTrue, OnFalse}
+use Rattle.std.proofs.Common.{◌≡◌, ◌⊎◌, ℕ, ◌<◌, Bool, true, false, if◌then◌else◌, List, [], ◌∷◌, Option, Some, None, Ok, inl, inr, refl, sym, ap, subst, ◌∙◌}
 use Rattle.fk_model.specs.declared.moves.Ask.{Ask}
 use Rattle.fk_model.specs.declared.moves.Ask.TheVariants as asks
 use Rattle.fk_model.specs.declared.moves.Move.{Move}
@@ -25,14 +24,14 @@ use Rattle.laws_runs.specs.Cores.Asker.{Nobody, Others, Job as OfJob}
 use Rattle.laws_runs.specs.Cores.Settles.{Stays, Ends}
 use Rattle.laws_runs.specs.Onwards.{event_by}
 use Rattle.fk_jobs.specs.Jobs.{Queue}
-use Rattle.fk_jobs.specs.Plain.{AsksPlainly}
 use Rattle.fk_jobs.specs.Turns.{core_of}
-use Rattle.fk_jobs.proofs.Plainly.{plain_fits}
-use Rattle.fk_core.specs.Served.{Services}
-use Rattle.fk_core.specs.Cores.{RunCore, house, IsReadyMove, IsTurned}
+use Rattle.fk_served.specs.Served.{Services}
+use Rattle.fk_core.specs.Cores.{RunCore, house, IsReadyMove, IsTurned, IsTried}
 use Rattle.fk_core.specs.Cuts.{IsEvent, HasDone, KeepsCuts, LeavesStrangers, IsOfStranger}
-use Rattle.fk_core.proofs.Asking.{asked_other, plain_job}
-use Rattle.fk_core.proofs.Turning.{fit-asked}
+use Rattle.fk_core.specs.Goings.{HasCome}
+use Rattle.fk_core.proofs.Asking.{asked_other}
+use Rattle.fk_core.proofs.Going.{job_fits}
+use Rattle.fk_served.proofs.Acts.{fit-asked}
 
 settled-world : (jobs : List Job) (c d : RunCore) → Settles (house jobs) c d → d.world ≡ c.world
 settled-world jobs _ _ (Stays c none) = refl
@@ -48,10 +47,10 @@ job-world : (jobs : List Job) (c : RunCore) (e : Event) (begun : ℕ) (t : State
 job-world jobs c e begun t (Asks stage words) = refl
 job-world jobs c e begun t (Stops end) = refl
 
-made : (q : Queue) (w : World) (services : Services) (events : ℕ) (m : Move) (d : RunCore) (e : Event) → AsksPlainly q →
+made : (q : Queue) (w : World) (services : Services) (events budget : ℕ) (m : Move) (d : RunCore) (e : Event) → HasCome q.jobs budget (core_of w services q events) → events < budget →
     IsReadyMove q.jobs (core_of w services q events) m → IsTurned q.jobs (core_of w services q events) m d → IsEvent q.jobs (core_of w services q events) m e →
     IsMade (core_of w services q events) d e
-made q w services events m d e plain ready turned is = at (asker (house q.jobs) (core_of w services q events) m.who) refl ready turned is
+made q w services events budget m d e come below ready turned is = at (asker (house q.jobs) (core_of w services q events) m.who) refl ready turned is
   where
     at : (a : Asker State) → asker (house q.jobs) (core_of w services q events) m.who ≡ a → IsReadyBy (house q.jobs) (core_of w services q events) m a → Settles (house q.jobs) (moved_by (house q.jobs) (core_of w services q events) m a) d →
         event_by w m a ≡ e ∷ [] → IsMade (core_of w services q events) d e
@@ -68,7 +67,7 @@ made q w services events m d e plain ready turned is = at (asker (house q.jobs) 
         let same : call ≡ e = cc in
         let told = heard machine s (said_of w call) in
         subst (IsMade (core_of w services q events) d) same (record {
-          fit = plain_fits w (named w m.who) (asks.Call stage words) (plain_job q w services events m.who begun s stage words plain by_whom);
+          fit = job_fits q.jobs budget (core_of w services q events) come below m.who begun s stage words by_whom;
           ready = ready.1;
           goes = settled-world q.jobs _ d settles ∙ job-world q.jobs (core_of w services q events) call begun told (machine.head told);
         })
@@ -80,26 +79,29 @@ has-done w v e nester slot (Onwards m) goes sees done =
 has-done w v e nester slot Unseen goes sees done = subst (λ v. IsPlain v nester slot × (cut v nester slot ≡ cut w nester slot)) (sym goes) (done, sees.1.0)
 has-done w v e nester slot Other goes sees done = tt
 
-pub keeps_cuts : (q : Queue) (w : World) (services : Services) (events : ℕ) (m : Move) (d : RunCore) → AsksPlainly q →
+pub keeps_cuts : (q : Queue) (w : World) (services : Services) (events budget : ℕ) (m : Move) (d : RunCore) →
+    HasCome q.jobs budget (core_of w services q events) → events < budget →
     IsReadyMove q.jobs (core_of w services q events) m → IsTurned q.jobs (core_of w services q events) m d → KeepsCuts q.jobs (core_of w services q events) m d.world
-keeps_cuts q w services events m d plainly ready turned whole e is nester slot seen plain sees =
-    let turn = made q w services events m d e plainly ready turned is in
+keeps_cuts q w services events budget m d come below ready turned whole e is nester slot seen plain sees =
+    let turn = made q w services events budget m d e come below ready turned is in
     has-done w d.world e nester slot seen turn.goes sees (event_keeps w nester slot e whole plain turn.fit turn.ready seen sees)
 
-pub leaves_strangers : (q : Queue) (w : World) (services : Services) (events : ℕ) (m : Move) (d : RunCore) → AsksPlainly q →
+pub leaves_strangers : (q : Queue) (w : World) (services : Services) (events budget : ℕ) (m : Move) (d : RunCore) →
+    HasCome q.jobs budget (core_of w services q events) → events < budget →
     IsReadyMove q.jobs (core_of w services q events) m → IsTurned q.jobs (core_of w services q events) m d → LeavesStrangers q.jobs (core_of w services q events) m d.world
-leaves_strangers q w services events m d plainly ready turned whole e is nester slot plain none stranger = by stranger
+leaves_strangers q w services events budget m d come below ready turned whole e is nester slot plain none stranger = by stranger
   where
     turn : IsMade (core_of w services q events) d e
-    turn = made q w services events m d e plainly ready turned is
+    turn = made q w services events budget m d e come below ready turned is
 
     by : IsOfStranger w nester slot e → HasDone w d.world nester slot Unseen
-    by (inl thread) = keeps_cuts q w services events m d plainly ready turned whole e is nester slot Unseen plain
+    by (inl thread) = keeps_cuts q w services events budget m d come below ready turned whole e is nester slot Unseen plain
         (strangers_move_unseen w nester slot e whole plain none thread.0 thread.1 turn.fit)
-    by (inr server) = keeps_cuts q w services events m d plainly ready turned whole e is nester slot Unseen plain
+    by (inr server) = keeps_cuts q w services events budget m d come below ready turned whole e is nester slot Unseen plain
         (strangers_act_unseen w nester slot e whole plain none server.0 server.1 turn.ready)
 
 -- a ready move that is tried is made
-pub of-ready : {R T : Type 0} (b : Bool) → R → OnTrue b (R × T) → OnFalse b (R → ⊥) → T
-of-ready true ready made unready = made.1
-of-ready false ready made unready = absurd (unready ready)
+pub of-ready : (b : Bool) (ready : Type 0) (jobs : List Job) (c : RunCore) (m : Move) (d : RunCore) → ready →
+    IsTried {E = Unit {0}} ready jobs c m d (Ok b) → IsTurned jobs c m d
+of-ready true ready jobs c m d is tried = tried.1
+of-ready false ready jobs c m d is tried = absurd (tried.0 is)

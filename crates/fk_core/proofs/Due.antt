@@ -13,16 +13,16 @@ use Rattle.fk_store.specs.Contents.{Contents}
 use Rattle.fk_store.specs.Paths.{path}
 use Rattle.fk_store.specs.World.{world, IsSpace}
 use Rattle.laws_house.specs.Houses.{Job, State, End, begins}
-use Rattle.laws_house.specs.Houses.State.{Checking}
-use Rattle.laws_checkpoint.specs.Checkpoint.State.{Holds}
-use Rattle.laws_runs.specs.Cores.{Work, Unmoved, IsGone, IsDueNow, IsOtherReady, EndsNow}
+use Rattle.laws_runs.specs.Cores.{Work, Unmoved, IsGone, IsDueNow, IsOtherReady, EndsFor, EndsNow}
 use Rattle.laws_runs.specs.Cores.Unmoved.{NoImage, Dead}
 use Rattle.laws_runs.proofs.Named.{named_is}
 use Rattle.fk_jobs.specs.declared.plan.Plan.{Plan}
-use Rattle.fk_jobs.specs.Jobs.{Queue, current, job_of}
+use Rattle.fk_jobs.specs.Jobs.{Queue, current, first_of, job_of}
 use Rattle.fk_jobs.specs.Turns.{core_of}
-use Rattle.fk_core.specs.Served.{Services}
-use Rattle.fk_core.specs.Cores.{RunCore, house, has_come, is_timely, is_timely_by, is_porter, IsReadyMove, IsDue, IsOthersMove, IsFirstDue}
+use Rattle.fk_served.specs.Served.{Services}
+use Rattle.fk_core.specs.Cores.{RunCore, house, has_come, is_timely, is_timely_by, is_porter, porter_of, IsReadyMove, IsDue, IsOthersMove}
+use Rattle.fk_core.specs.Cores.{IsFirstDue, IsTried, IsAdvanced}
+use Rattle.fk_kernel.specs.Events.{is_who}
 use Rattle.fk_core.proofs.Asking.{undue_job, ready_other}
 
 module _ (q : Queue) (w : World) (services : Services) (events : ℕ) where
@@ -62,9 +62,10 @@ module _ (q : Queue) (w : World) (services : Services) (events : ℕ) where
 
   -- ---- ends without a move
 
-  pub ends_dead : (plan : Plan) → Some (job_of plan) ≡ current q → q.work ≡ None → IsGone w plan.nester → IsDue q.jobs (core_of w services q events) →
-      EndsNow (house q.jobs) (core_of w services q events) Dead
-  ends_dead plan is unmoved gone (j, its, now) =
+  pub ends_idle : (plan : Plan) (why : Unmoved) → Some (job_of plan) ≡ current q → q.work ≡ None →
+      EndsFor (house q.jobs) (core_of w services q events) (job_of plan) why → IsDue q.jobs (core_of w services q events) →
+      EndsNow (house q.jobs) (core_of w services q events) why
+  ends_idle plan why is unmoved ends (j, its, now) =
       let same : Some j ≡ Some (job_of plan) = sym its ∙ sym is in
       let job : j ≡ job_of plan = cc in
       record {
@@ -72,25 +73,48 @@ module _ (q : Queue) (w : World) (services : Services) (events : ℕ) where
         its = sym is;
         due = subst (λ j. IsDueNow (house q.jobs) (core_of w services q events) j) job now;
         unmoved = unmoved;
-        ends = (Checking plan.slot Holds, refl, gone);
+        ends = ends;
       }
 
-  pub dead_ends : (plan : Plan) → Some (job_of plan) ≡ current q → EndsNow (house q.jobs) (core_of w services q events) Dead →
-      ((q.work ≡ None) × IsGone w plan.nester) × IsDue q.jobs (core_of w services q events)
-  dead_ends plan is ends =
+  pub idle_ends : (plan : Plan) (why : Unmoved) → Some (job_of plan) ≡ current q → EndsNow (house q.jobs) (core_of w services q events) why →
+      ((q.work ≡ None) × EndsFor (house q.jobs) (core_of w services q events) (job_of plan) why) × IsDue q.jobs (core_of w services q events)
+  idle_ends plan why is ends =
       let same : Some ends.job ≡ Some (job_of plan) = sym ends.its ∙ sym is in
-      let job : ends.job ≡ job_of plan = cc in
-      ((ends.unmoved, subst (λ (j : Job). IsGone w j.nester) job ends.ends.2), (ends.job, ends.its, ends.due))
-
-  pub never_imageless : (plan : Plan) → Some (job_of plan) ≡ current q → EndsNow (house q.jobs) (core_of w services q events) NoImage → ⊥
-  never_imageless plan is ends =
-      let same : Some ends.job ≡ Some (job_of plan) = sym ends.its ∙ sym is in
-      let job : ends.job ≡ job_of plan = cc in
-      let none = subst (λ (j : Job). begins j q.ends ≡ None) job ends.ends in
-      cc
+      let job : ends.job ≡ job_of plan = cc in (
+        (ends.unmoved, subst (λ j. EndsFor (house q.jobs) (core_of w services q events) j why) job ends.ends),
+        (ends.job, ends.its, ends.due),
+      )
 
   pub never_over : (why : Unmoved) → None ≡ current q → EndsNow (house q.jobs) (core_of w services q events) why → ⊥
   never_over why none ends = let no : Some ends.job ≡ None = sym ends.its ∙ sym none in cc
+
+  first_is : (plan : Plan) → Some (job_of plan) ≡ current q → first_of q.ends (current q) ≡ begins (job_of plan) q.ends
+  first_is plan is = ap (first_of q.ends) (sym is)
+
+  -- it can't begin for want of an image
+  pub imageless : (plan : Plan) (can : Bool) → Some (job_of plan) ≡ current q → can ≡ is_some (first_of q.ends (current q)) → can ≡ false →
+      EndsFor (house q.jobs) (core_of w services q events) (job_of plan) NoImage
+  imageless plan can is shown nay = by (begins (job_of plan) q.ends) (sym (ap is_some (first_is plan is)) ∙ sym shown ∙ nay)
+    where
+      by : (o : Option State) → is_some o ≡ false → o ≡ None
+      by None e = refl
+      by (Some s) e = absurd (cc)
+
+  -- nor for want of its nester, and for nothing else
+  pub nesterless : (plan : Plan) (can : Bool) → Some (job_of plan) ≡ current q → can ≡ is_some (first_of q.ends (current q)) → can ≡ true →
+      IsGone w plan.nester → EndsFor (house q.jobs) (core_of w services q events) (job_of plan) Dead
+  nesterless plan can is shown yea gone = by (begins (job_of plan) q.ends) refl (sym (ap is_some (first_is plan is)) ∙ sym shown ∙ yea)
+    where
+      by : (o : Option State) → begins (job_of plan) q.ends ≡ o → is_some o ≡ true → EndsFor (house q.jobs) (core_of w services q events) (job_of plan) Dead
+      by None at e = absurd (cc)
+      by (Some s) at e = (s, at, gone)
+
+  pub can_begin : (plan : Plan) (can : Bool) (why : Unmoved) → Some (job_of plan) ≡ current q → can ≡ is_some (first_of q.ends (current q)) → can ≡ true →
+      (IsGone w plan.nester → ⊥) → EndsFor (house q.jobs) (core_of w services q events) (job_of plan) why → ⊥
+  can_begin plan can NoImage is shown yea lives ends =
+      let some : is_some (begins (job_of plan) q.ends) ≡ true = sym (ap is_some (first_is plan is)) ∙ sym shown ∙ yea in
+      let no : false ≡ true = sym (ap is_some ends) ∙ some in cc
+  can_begin plan can Dead is shown yea lives ends = lives ends.2
 
   -- ---- who goes first
 
@@ -119,6 +143,30 @@ module _ (q : Queue) (w : World) (services : Services) (events : ℕ) where
       by false e None some = tt
       by false e (Some other) some = first_due m other e porter ready some.1
 
+pub first_some : (q : Queue) (budget : ℕ) (c : RunCore) (m : Move) → is_porter q m.who ≡ true → IsFirstDue q budget c (Some m)
+first_some q budget c m is even few other porter ready = is
+
+pub first_none : (q : Queue) (budget : ℕ) (c : RunCore) (chosen : Option Move) → current q ≡ None → IsFirstDue q budget c chosen
+first_none q budget c chosen none even few m porter ready =
+    let no : false ≡ true = sym (ap (λ o. is_who (porter_of o) m.who) none) ∙ porter in absurd (cc)
+
+advanced_ready : (made : Option Move) (jobs : List Job) (budget : ℕ) (c d : RunCore) → IsAdvanced jobs budget c made d →
+    IfSome made (λ m. (c.events < budget) × IsReadyMove jobs c m)
+advanced_ready None jobs budget c d made = tt
+advanced_ready (Some m) jobs budget c d made = (made.0, made.1)
+
+-- where the job's move isn't ready whose time has come, whatever is made is chosen well
+pub first_further : {E : Type 0} (r : Result (Option Move) E) (q : Queue) (w : World) (services : Services) (events budget : ℕ) (jobs : List Job) (other : ℕ)
+    (c d : RunCore) → jobs ≡ q.jobs → other ≡ budget → c ≡ core_of w services q events →
+    (has_come q budget events ≡ true → (m : Move) → is_porter q m.who ≡ true → IsReadyMove q.jobs (core_of w services q events) m → ⊥) →
+    IfOk r (λ made. IsAdvanced jobs other c made d) → IfOk r (λ made. IsFirstDue q budget (core_of w services q events) made)
+first_further (Err e) q w services events budget jobs other c d same_jobs same_budget same none advanced = tt
+first_further (Ok made) q w services events budget jobs other c d same_jobs same_budget same none advanced =
+    let one = subst (λ j. IsAdvanced j other c made d) same_jobs advanced in
+    let two = subst (λ b. IsAdvanced q.jobs b c made d) same_budget one in
+    let three = subst (λ c. IsAdvanced q.jobs budget c made d) same two in
+    chosen_first q w services events budget made none (advanced_ready made q.jobs budget (core_of w services q events) d three)
+
 -- ---- which are ready, by what was found
 
 pub some_other : (jobs : List Job) (c : RunCore) (o : Option Move) → IfSome o (λ m. IsOthersMove jobs c m) → IfNone o (IsOtherReady (house jobs) c → ⊥) →
@@ -126,16 +174,12 @@ pub some_other : (jobs : List Job) (c : RunCore) (o : Option Move) → IfSome o 
 some_other jobs c None some none b is = (λ t. let f : true ≡ false = sym t ∙ is in absurd (cc), λ other. absurd (none other))
 some_other jobs c (Some m) some none b is = (λ t. (m, some.0, some.1, some.2), λ other. is)
 
--- a move is made that was ready, as this and so as that
-pub made_as : {E : Type 0} (r : Result Bool E) (A B T : Type 0) → (A → B) → IfOk r (λ made. OnTrue made (A × T)) → IfOk r (λ made. OnTrue made (B × T))
-made_as (Ok true) A B T f h = (f h.0, h.1)
-made_as (Ok false) A B T f h = tt
-made_as (Err e) A B T f h = tt
-
-pub unready_as : {E : Type 0} (r : Result Bool E) (A B : Type 0) → (B → A) → IfOk r (λ made. OnFalse made (A → ⊥)) → IfOk r (λ made. OnFalse made (B → ⊥))
-unready_as (Ok true) A B f h = tt
-unready_as (Ok false) A B f h = λ b. h (f b)
-unready_as (Err e) A B f h = tt
+-- a move that is tried is ready as this exactly where it is as that
+pub tried_as : {E : Type 0} (r : Result Bool E) (A B : Type 0) (jobs : List Job) (c : RunCore) (m : Move) (d : RunCore) → (A → B) → (B → A) →
+    IsTried A jobs c m d r → IsTried B jobs c m d r
+tried_as (Ok true) A B jobs c m d f g h = (f h.0, h.1, h.2)
+tried_as (Ok false) A B jobs c m d f g h = (λ b. h.0 (g b), h.1)
+tried_as (Err e) A B jobs c m d f g h = h
 
 -- a space that isn't there is gone
 pub gone : (m : Contents) (n : ℕ) → IsValid (world m) → (world m).next ≤ depth → path m ≡ space_born (world m) → (IsSpace m n → ⊥) → IsGone (world m) n
@@ -145,10 +189,13 @@ gone m n valid few born none x is =
 pub lives : (m : Contents) (n : ℕ) → IsSpace m n → IsGone (world m) n → ⊥
 lives m n there gone = gone (path m n) there
 
-pub died : (m s : Contents) (n : ℕ) (work : Option (Work State)) (b at_work : Bool) → s ≡ m → IsValid (world m) → (world m).next ≤ depth → path m ≡ space_born (world m) →
-    at_work ≡ is_some work → at_work ≡ false → (IsTrue b ↔ IsSpace s n) → IsTrue (not b) ↔ ((work ≡ None) × IsGone (world m) n)
-died m s n (Some k) b at_work same valid few born shown idle live = let no_way : true ≡ false = sym shown ∙ idle in absurd (cc)
-died m s n None true at_work same valid few born shown idle live =
-    (λ t. absurd (cc), λ both. absurd (lives m n (subst (λ m. IsSpace m n) same (live.0 refl)) both.1))
-died m s n None false at_work same valid few born shown idle live =
-    (λ t. (refl, gone m n valid few born (λ there. let yes = live.1 (subst (λ m. IsSpace m n) (sym same) there) in absurd (cc))), λ both. refl)
+pub gone_exactly : (m s : Contents) (n : ℕ) (b : Bool) → s ≡ m → IsValid (world m) → (world m).next ≤ depth → path m ≡ space_born (world m) →
+    (IsTrue b ↔ IsSpace s n) → IsTrue (not b) ↔ IsGone (world m) n
+gone_exactly m s n true same valid few born live = (
+  λ t. absurd (cc),
+  λ over. absurd (lives m n (subst (λ m. IsSpace m n) same (live.0 refl)) over),
+)
+gone_exactly m s n false same valid few born live = (
+  λ t. gone m n valid few born (λ there. let yes = live.1 (subst (λ m. IsSpace m n) (sym same) there) in absurd (cc)),
+  λ over. refl,
+)

@@ -18,11 +18,11 @@ use Rattle.laws_runs.specs.Cores.Settles.{Stays}
 use Rattle.fk_jobs.specs.Jobs.{Queue, current}
 use Rattle.fk_kernel.specs.Events.{IsReadyEvent, is_who, step_of}
 use Rattle.fk_plans.specs.Hearers.{says_to, says_to_who}
-use Rattle.fk_core.specs.Served.{Services, told}
+use Rattle.fk_served.specs.Served.{Services, told}
 use Rattle.fk_core.specs.Cores.{RunCore, house, core_at, porter_of, is_porter, IsReadyMove, IsTurned, IsAdvanced, IsOver}
-use Rattle.fk_core.proofs.Acting.{runs}
+use Rattle.fk_served.proofs.Acts.{runs}
 use Rattle.fk_core.proofs.Asking.{asks_other, others_ready}
-use Rattle.fk_core.proofs.Lists.{untold}
+use Rattle.fk_served.proofs.Lists.{untold}
 use Rattle.fk_core.proofs.Turning.{turned}
 
 pub proceeded : (m n : Contents) (services : Services) (q : Queue) (budget events : ℕ) (who : Who) (d : RunCore) → events < budget → is_porter q who ≡ false →

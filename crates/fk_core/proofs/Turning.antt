@@ -37,71 +37,11 @@ use Rattle.fk_jobs.specs.Turns.{core_of}
 use Rattle.fk_jobs.proofs.Turns.{job_moves}
 use Rattle.fk_kernel.specs.Events.{step_of, is_who}
 use Rattle.fk_plans.specs.Hearers.{says_to, says_to_who}
-use Rattle.fk_core.specs.Served.{Services, servers, serving, asked, asked_of, said_at, news_at, after_news, hears_of, said_to, news_to, told, AllFit}
+use Rattle.fk_served.specs.Served.{Services, servers, serving, asked, asked_of, said_at, news_at, after_news, hears_of, said_to, news_to, told, AllFit}
 use Rattle.fk_core.specs.Cores.{RunCore, house, core_at, reply_to, porter_of, is_porter, IsTurned, IsCalledMove, IsCalledBy}
+use Rattle.fk_served.proofs.Hearing.{goes, hears-alike}
 use Rattle.fk_core.proofs.Asking.{AsksFor}
 use Rattle.fk_core.proofs.Asking.{asks_for as job_asks_for}
-
--- ---- what servers ask for is fit
-
-fit-left : (w : World) (x : Path) (left : List ℕ) → is_fit w x (gives_left left) ≡ true
-unfolding is_fit
-fit-left w x [] = refl
-fit-left w x (word ∷ words) = refl
-
-fit-state : (w : World) (x : Path) (state : State) (ask : Ask) → asks_for state ≡ Some ask → is_fit w x ask ≡ true
-unfolding is_fit
-fit-state w x (OfConsole alias words sides.Idle) ask is = let same : asks.Accept ≡ ask = cc in subst (λ a. is_fit w x a ≡ true) same refl
-fit-state w x (OfConsole alias words sides.Client) ask is = absurd (cc)
-fit-state w x (OfConsole alias words sides.Own) ask is = let same : asks.Over ≡ ask = cc in subst (λ a. is_fit w x a ≡ true) same refl
-fit-state w x (OfServer index rule config position request left sides.Idle) ask is = let same : asks.Accept ≡ ask = cc in subst (λ a. is_fit w x a ≡ true) same refl
-fit-state w x (OfServer index rule config position request left sides.Client) ask is = absurd (cc)
-fit-state w x (OfServer index rule config position request left sides.Own) ask is =
-    let same : gives_left left ≡ ask = cc in subst (λ a. is_fit w x a ≡ true) same (fit-left w x left)
-
-pub fit-asked : (services : Services) (w : World) (who : Who) (ask : Ask) (x : Path) → asked services w who ≡ Some ask → is_fit w x ask ≡ true
-unfolding is_fit
-fit-asked services w who ask x is = by (is_served_port w (At (named w who))) (serving services who) is
-  where
-    run : (ask : Ask) → Some asks.Run ≡ Some ask → is_fit w x ask ≡ true
-    run ask is = let same : asks.Run ≡ ask = cc in subst (λ a. is_fit w x a ≡ true) same refl
-
-    by : (port : Bool) (state : Option State) → (if port then asked_of state else Some asks.Run) ≡ Some ask → is_fit w x ask ≡ true
-    by true None is = run ask is
-    by true (Some state) is = fit-state w x state ask is
-    by false state is = run ask is
-
--- ---- what is told
-
-said-alike : (p : ℕ → Path) (said : says_of.Said) (x : Path) (who : Who) → says_to (said_by p said) x ≡ says_to_who said who → said_at (said_by p said) x ≡ said_to said who
-said-alike p says.Nothing x who same = refl
-said-alike p (says.Answer answer) x who same = refl
-said-alike p (says.Taken port client resumed turn count) x who same = rw same refl
-said-alike p (says.Words port words len) x who same = rw same refl
-said-alike p (says.Given port len) x who same = rw same refl
-said-alike p (says.Full port) x who same = refl
-said-alike p (says.Over port) x who same = rw same refl
-said-alike p (says.Ended port) x who same = refl
-
-module _ (m n : Contents) (e : Event) (said : says_of.Said) (ended : Option Who)
-    (made : step_of (world m) e ≡ record { world = world n; said = said_by (path n) said })
-    (ends : (port : Who) → has_ended (world m) (world n) (named (world m) port) ≡ is_who ended port)
-    (tells : (port : Who) → says_to (step_of (world m) e).said (named (world m) port) ≡ says_to_who said port) where
-  goes : after (world m) e ≡ world n
-  goes = ap (λ (s : Step). s.world) made
-
-  news-alike : (who : Who) → news_at (world m) e (named (world m) who) ≡ news_to said ended who
-  news-alike who =
-      let same = ap (λ (s : Step). s.said) made in
-      let tell = subst (λ s. says_to s (named (world m) who) ≡ says_to_who said who) same (tells who) in
-      let alike = subst (λ s. said_at s (named (world m) who) ≡ said_to said who) (sym same) (said-alike (path n) said (named (world m) who) who tell) in
-      rw (goes, ends who, alike) refl
-
-  hears-alike : (services : Services) → map (hears_of (world m) e) services ≡ map (told said ended) services
-  hears-alike [] = refl
-  hears-alike (s ∷ ss) =
-      let here : hears_of (world m) e s ≡ told said ended s = ap (λ news. (s.0, after_news news s.1)) (news-alike s.0) in
-      ap (λ x. x ∷ map (hears_of (world m) e) ss) here ∙ ap (λ xs. told said ended s ∷ xs) (hears-alike ss)
 
 -- a move of a user or a server, and then jobs that end without one
 pub turned : (m n : Contents) (services new : Services) (q : Queue) (events : ℕ) (mv : Move) (ask : Ask) (said : says_of.Said) (ended : Option Who) (d : RunCore) →
@@ -197,28 +137,3 @@ hears-same m n services new q r s events mv ask said ended d jobs ends work port
       subst (IsCalledBy (core_at m services q events) mv) (ap asked_by is_state) call,
       subst (λ c. IsTurned q.jobs c mv d) is_core (subst (λ j. IsTurned j (core_at m services r events) mv d) jobs turn),
     )
-
--- ---- what they rest on stays
-
-fit-heard : (rules : List Rule) (state : State) (news : News) → DoesFit rules state → DoesFit rules (hears state news)
-fit-heard rules (OfConsole alias words side) (natives.Taken turn count) fits = tt
-fit-heard rules (OfConsole alias words side) (natives.Words more) fits = tt
-fit-heard rules (OfConsole alias words side) natives.Over fits = tt
-fit-heard rules (OfConsole alias words side) (natives.Given count) fits = tt
-fit-heard rules (OfConsole alias words side) natives.Ended fits = tt
-fit-heard rules (OfServer index rule config position request left side) (natives.Taken turns.Client count) fits = fits
-fit-heard rules (OfServer index rule config position request left side) (natives.Taken turns.Server count) fits = fits
-fit-heard rules (OfServer index rule config position request left side) (natives.Words more) fits = fits
-fit-heard rules (OfServer index rule config position request left sides.Idle) natives.Over fits = fits
-fit-heard rules (OfServer index rule config position request left sides.Client) natives.Over fits = fits
-fit-heard rules (OfServer index rule config position request left sides.Own) natives.Over fits = fits
-fit-heard rules (OfServer index rule config position request left side) (natives.Given count) fits = fits
-fit-heard rules (OfServer index rule config position request left side) natives.Ended fits = fits
-
-fit-after : (rules : List Rule) (state : State) (news : Option News) → DoesFit rules state → DoesFit rules (after_news news state)
-fit-after rules state None fits = fits
-fit-after rules state (Some news) fits = fit-heard rules state news fits
-
-pub fits-told : (rules : List Rule) (said : says_of.Said) (ended : Option Who) (services : Services) → AllFit rules services → AllFit rules (map (told said ended) services)
-fits-told rules said ended [] fits = tt
-fits-told rules said ended (s ∷ ss) fits = (fit-after rules s.1 (news_to said ended s.0) fits.0, fits-told rules said ended ss fits.1)

@@ -1,5 +1,5 @@
 -- Cores: the run's core that a kernel with its servers and its jobs is.
-use Rattle.std.specs.Prelude.{◌≡◌, ℕ, ◌+◌, ◌<◌, ◌≤◌, ◌%◌, ◌==◌, ◌&&◌, ◌||◌, nat_le, nat_lt, Bool, true, false, List, [], take, Option, Some, None, IfSome, is_some}
+use Rattle.std.specs.Prelude.{◌≡◌, ℕ, ◌+◌, ◌<◌, ◌≤◌, ◌%◌, ◌==◌, ◌&&◌, ◌||◌, nat_le, nat_lt, Bool, true, false, List, [], take, Option, Some, None, IfSome, is_some, Result, Ok, Err}
 use Rattle.std.specs.List.{slice_get}
 use Rattle.fk_model.specs.declared.limits.TheConstants.{LAST_PORTER_SLOT}
 use Rattle.fk_model.specs.declared.moves.Ask.{Ask}
@@ -11,6 +11,8 @@ use Rattle.fk_model.specs.declared.names.Who.{Who}
 use Rattle.fk_model.specs.Who.{event_of}
 use Rattle.fk_jobs.specs.Jobs.{Queue, current, asked_by, state_of}
 use Rattle.fk_jobs.specs.Turns.{core_of}
+use Rattle.fk_kernel.specs.declared.kernel.Look.{Look}
+use Rattle.fk_kernel.specs.declared.kernel.Look.TheVariants.{Found, Passed, Nobody}
 use Rattle.fk_kernel.specs.Events.{is_who}
 use Rattle.fk_natives.specs.Natives.{State}
 use Rattle.fk_store.specs.Contents.{Contents}
@@ -20,7 +22,8 @@ use Rattle.laws_house.specs.Houses.{Job, End}
 use Rattle.laws_jobs.specs.Machines.{Reply, IsReadyAt}
 use Rattle.laws_runs.specs.Cores.{House, Core, IsReadyIn, IsReadyBy, IsDueJob, asker, others_ask, moved, Settles}
 use Rattle.laws_runs.specs.Cores.Asker.{Others}
-use Rattle.fk_core.specs.Served.{Services, asked, servers}
+use Rattle.fk_served.specs.Served.{Services, asked, servers}
+use Rattle.fk_core.specs.declared.turns.Core as cores
 
 -- the servers and the jobs
 abbrev pub house : List Job → House Job houses.State End Services
@@ -32,6 +35,10 @@ RunCore = Core houses.State End Services
 -- a kernel with its servers and what its jobs have come to, after so many moves
 abbrev pub core_at : Contents → Services → Queue → ℕ → RunCore
 core_at m services q events = core_of (world m) services q events
+
+-- what a core in code has come to
+abbrev pub run_core : {S W : Type 0} → cores.Core S W → RunCore
+run_core c = core_at c.kernel c.services.list c.jobs c.events
 
 -- a move is ready in a core
 abbrev pub IsReadyMove : List Job → RunCore → Move → Type 0
@@ -124,6 +131,12 @@ abbrev pub HaveNoActs : Queue → RunCore → ℕ → ℕ → Type 0
 HaveNoActs q c from to = (k : ℕ) (served : Who × State) → from ≤ k → k < to → slice_get c.servers k ≡ Some served →
     is_porter q served.0 ≡ false → HasNoAct c served.0
 
+-- what a look at some names has found is ready
+abbrev pub IsFound : List Job → RunCore → Look → Type 0
+IsFound jobs c (Found m) = IsReadyMove jobs c m
+IsFound jobs c (Passed last) = Unit {0}
+IsFound jobs c Nobody = Unit {0}
+
 -- there is no move left: none is ready, or the budget is used
 abbrev pub IsOver : List Job → ℕ → RunCore → Type 0
 IsOver jobs budget c = c.events < budget → IsAnyMove jobs c → ⊥
@@ -132,3 +145,10 @@ IsOver jobs budget c = c.events < budget → IsAnyMove jobs c → ⊥
 abbrev pub IsAdvanced : List Job → ℕ → RunCore → Option Move → RunCore → Type 0
 IsAdvanced jobs budget c None d = d ≡ c
 IsAdvanced jobs budget c (Some m) d = (c.events < budget) × IsReadyMove jobs c m × IsTurned jobs c m d × (d.events ≡ c.events + 1)
+
+-- what comes of a move that is tried, which is ready in this sense: it is made where it is ready, and else, and for want of memory, all is as
+-- before
+abbrev pub IsTried : {E : Type 0} → Type 0 → List Job → RunCore → Move → RunCore → Result Bool E → Type 0
+IsTried ready jobs c m d (Ok true) = ready × IsTurned jobs c m d × (d.events ≡ c.events + 1)
+IsTried ready jobs c m d (Ok false) = (ready → ⊥) × (d ≡ c)
+IsTried ready jobs c m d (Err lacking) = d ≡ c

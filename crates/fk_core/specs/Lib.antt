@@ -1,5 +1,5 @@
-pub mod Served
 pub mod Cores
+pub mod Goings
 pub mod Ends
 pub mod Cuts
 pub mod Leaves

@@ -1,6 +1,6 @@
 //! How a run ends.
 ghost use Rattle.std.specs.Prelude.{◌↔◌, IsTrue};
-ghost use Rattle.fk_core.specs.Cores.{core_at, IsAnyMove};
+ghost use Rattle.fk_core.specs.Cores.{run_core, IsAnyMove};
 ghost use Rattle.fk_core.specs.Ends.{IsAtRest, IsEnded};
 ghost use Rattle.fk_store.specs.World.{world};
 
@@ -13,7 +13,7 @@ impl<S: Service + Drop, W: Worker + Drop> Core<S, W> {
     /// How the run has ended: with the budget used while a move is ready, or with none ready, and then whether every user
     /// thread has halted. It hasn't while a move is ready and the budget has one more.
     pub fn ended(&self) -> Option<End>
-        ensures { IsEnded self.now.jobs.jobs self.now.budget (core_at self.now.kernel self.now.services.list self.now.jobs self.now.events) result }
+        ensures { IsEnded self.now.jobs.jobs self.now.budget (run_core self.now) result }
     {
         if !self.has_move() {
             Some(self.at_rest())
@@ -37,7 +37,7 @@ impl<S: Service + Drop, W: Worker + Drop> Core<S, W> {
 
     /// Whether a move is left: one is ready, whatever the budget.
     pub fn has_move(&self) -> bool
-        ensures { IsTrue result ↔ IsAnyMove self.now.jobs.jobs (core_at self.now.kernel self.now.services.list self.now.jobs self.now.events) }
+        ensures { IsTrue result ↔ IsAnyMove self.now.jobs.jobs (run_core self.now) }
     {
         self.find().is_some()
     }

@@ -1,11 +1,11 @@
 //! The core: a kernel with its native servers and its jobs, move by move.
 //!
-//! It stands on `fk_kernel` for the machine's steps, on `fk_natives` for servers, on `fk_jobs` for jobs, on `laws_runs` for what a run is,
+//! It stands on `fk_kernel` for the machine's steps, on `fk_served` for servers, on `fk_jobs` for jobs, on `laws_runs` for what a run is,
 //! and on `laws_further` for what becomes of subtrees. It is generic in its servers and in the code of its jobs.
 //!
 //! It promises that `turn` is the turn of a run: the machine's step, that each server hears what the move tells
 //! at its port, or that its talk has ended, that the job whose move it is hears the answer, and that jobs end that are due and can't begin
-//! (`specs/Served.antt`, `specs/Cores.antt`); that each plain subtree stays so, and its cut
+//! (`specs/Cores.antt`); that each plain subtree stays so, and its cut
 //! does the move as which it sees this one, or nothing (`specs/Cuts.antt`); that for want of memory all is as
 //! before; that `choose` finds a ready move, of a thread, a server or a due job, wherever there is one and the
 //! budget isn't used, and at an even number of moves a due job's; and that `ended` tells how a run has ended (`specs/Ends.antt`).
@@ -14,10 +14,7 @@
 mod ends;
 mod looks;
 mod runs;
-mod services;
 mod settling;
-mod told;
 mod turns;
 
-pub use services::Services;
 pub use turns::Core;

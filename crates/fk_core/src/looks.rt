@@ -1,7 +1,9 @@
 //! Who moves next.
 ghost use Rattle.std.specs.Prelude.{◌≡◌, ◌<◌, ◌≤◌, true, false, Some, None, IfOk, OnErr, IfSome, IfNone, IsSome, length, map};
-ghost use Rattle.fk_core.specs.Served.{AllFit};
-ghost use Rattle.fk_core.specs.Cores.{core_at, is_porter, has_come, IsReadyMove, IsAskedMove, IsOthersMove, IsAnyMove, IsOver, IsAdvanced, HasNoAct, HaveNoActs, IsFirstDue};
+ghost use Rattle.fk_served.specs.Served.{AllFit};
+ghost use Rattle.fk_core.specs.Cores.{run_core, is_porter, has_come, IsReadyMove, IsAskedMove, IsOthersMove, IsAnyMove};
+ghost use Rattle.fk_core.specs.Cores.{IsOver, IsAdvanced, HasNoAct, HaveNoActs, IsFirstDue, IsFound};
+ghost use Rattle.fk_core.specs.Goings.{IsGoing};
 ghost use Rattle.fk_store.specs.World.{world};
 ghost use Rattle.fk_jobs.specs.Jobs.{current};
 ghost use Rattle.fk_kernel.specs.Events.{IsReadyBesides};
@@ -13,12 +15,16 @@ ghost use Rattle.fk_core.specs.Cores.{house};
 
 use crate::turns::Core;
 use fk_jobs::Worker;
+use fk_kernel::Look;
 use fk_model::{Ask, Move, NoMemory, Who};
 use fk_natives::Service;
 use fk_responders::Table;
 
 /// After so many moves the look goes round.
 const ROUND: u64 = 64;
+
+/// So many names, and so many servers, are looked at before the move is taken of a job whose time has come.
+const FEW: u32 = 16;
 
 impl<S: Service + Drop, W: Worker + Drop> Core<S, W> {
     /// The act of a server that picks nobody, where it is ready.
@@ -40,8 +46,8 @@ impl<S: Service + Drop, W: Worker + Drop> Core<S, W> {
     /// A ready act of the server of a port.
     fn act_of(&self, port: Who) -> Option<Move>
         ensures who { IfSome result (λ m. m.who ≡ port) }
-        ensures ready { IfSome result (λ m. IsAskedMove self.now.jobs.jobs (core_at self.now.kernel self.now.services.list self.now.jobs self.now.events) m) }
-        ensures none { IfNone result (HasNoAct (core_at self.now.kernel self.now.services.list self.now.jobs self.now.events) port) }
+        ensures ready { IfSome result (λ m. IsAskedMove self.now.jobs.jobs (run_core self.now) m) }
+        ensures none { IfNone result (HasNoAct (run_core self.now) port) }
     {
         match self.ask(port)? {
             Ask::Run | Ask::Call { .. } => None,
@@ -55,9 +61,9 @@ impl<S: Service + Drop, W: Worker + Drop> Core<S, W> {
 
     /// The same where the port isn't the name of the porter whose job's turn it is.
     fn act_besides(&self, port: Who) -> Option<Move>
-        ensures ready { IfSome result (λ m. IsReadyMove self.now.jobs.jobs (core_at self.now.kernel self.now.services.list self.now.jobs self.now.events) m) }
-        ensures other { IfSome result (λ m. IsOthersMove self.now.jobs.jobs (core_at self.now.kernel self.now.services.list self.now.jobs self.now.events) m) }
-        ensures none { IfNone result (is_porter self.now.jobs port ≡ false → HasNoAct (core_at self.now.kernel self.now.services.list self.now.jobs self.now.events) port) }
+        ensures ready { IfSome result (λ m. IsReadyMove self.now.jobs.jobs (run_core self.now) m) }
+        ensures other { IfSome result (λ m. IsOthersMove self.now.jobs.jobs (run_core self.now) m) }
+        ensures none { IfNone result (is_porter self.now.jobs port ≡ false → HasNoAct (run_core self.now) port) }
     {
         if self.is_porter(port) {
             return None;
@@ -68,9 +74,9 @@ impl<S: Service + Drop, W: Worker + Drop> Core<S, W> {
     /// A ready act of a server from a place up to another.
     fn act_between(&self, from: usize, to: usize) -> Option<Move>
         requires { to ≤ length self.now.services.list }
-        ensures ready { IfSome result (λ m. IsReadyMove self.now.jobs.jobs (core_at self.now.kernel self.now.services.list self.now.jobs self.now.events) m) }
-        ensures other { IfSome result (λ m. IsOthersMove self.now.jobs.jobs (core_at self.now.kernel self.now.services.list self.now.jobs self.now.events) m) }
-        ensures none { IfNone result (HaveNoActs self.now.jobs (core_at self.now.kernel self.now.services.list self.now.jobs self.now.events) from to) }
+        ensures ready { IfSome result (λ m. IsReadyMove self.now.jobs.jobs (run_core self.now) m) }
+        ensures other { IfSome result (λ m. IsOthersMove self.now.jobs.jobs (run_core self.now) m) }
+        ensures none { IfNone result (HaveNoActs self.now.jobs (run_core self.now) from to) }
     {
         for at in from..to {
             if let Some(m) = self.act_besides(self.services.port(at)) {
@@ -82,7 +88,7 @@ impl<S: Service + Drop, W: Worker + Drop> Core<S, W> {
 
     /// A ready act of the server at a place.
     fn act_at(&self, at: usize) -> Option<Move>
-        ensures { IfSome result (λ m. IsReadyMove self.now.jobs.jobs (core_at self.now.kernel self.now.services.list self.now.jobs self.now.events) m) }
+        ensures { IfSome result (λ m. IsReadyMove self.now.jobs.jobs (run_core self.now) m) }
     {
         if at < self.services.len() {
             self.act_besides(self.services.port(at))
@@ -93,8 +99,8 @@ impl<S: Service + Drop, W: Worker + Drop> Core<S, W> {
 
     /// A thread's move that is ready, sought from the one after that which moved last.
     fn user(&self) -> Option<Move>
-        ensures ready { IfSome result (λ m. IsReadyMove self.now.jobs.jobs (core_at self.now.kernel self.now.services.list self.now.jobs self.now.events) m) }
-        ensures other { IfSome result (λ m. IsOthersMove self.now.jobs.jobs (core_at self.now.kernel self.now.services.list self.now.jobs self.now.events) m) }
+        ensures ready { IfSome result (λ m. IsReadyMove self.now.jobs.jobs (run_core self.now) m) }
+        ensures other { IfSome result (λ m. IsOthersMove self.now.jobs.jobs (run_core self.now) m) }
         ensures none { IfNone result ((m : _) → is_porter self.now.jobs m.who ≡ false
             → IsReadyAt (world self.now.kernel) (event_of (world self.now.kernel) asks.Run m) → ⊥) }
     {
@@ -103,9 +109,9 @@ impl<S: Service + Drop, W: Worker + Drop> Core<S, W> {
 
     /// A move of a user or a server that is ready: a thread's, or else a server's act.
     pub(crate) fn find_other(&self) -> Option<Move>
-        ensures ready { IfSome result (λ m. IsReadyMove self.now.jobs.jobs (core_at self.now.kernel self.now.services.list self.now.jobs self.now.events) m) }
-        ensures other { IfSome result (λ m. IsOthersMove self.now.jobs.jobs (core_at self.now.kernel self.now.services.list self.now.jobs self.now.events) m) }
-        ensures none { IfNone result (IsOtherReady (house self.now.jobs.jobs) (core_at self.now.kernel self.now.services.list self.now.jobs self.now.events) → ⊥) }
+        ensures ready { IfSome result (λ m. IsReadyMove self.now.jobs.jobs (run_core self.now) m) }
+        ensures other { IfSome result (λ m. IsOthersMove self.now.jobs.jobs (run_core self.now) m) }
+        ensures none { IfNone result (IsOtherReady (house self.now.jobs.jobs) (run_core self.now) → ⊥) }
     {
         match self.user() {
             Some(m) => Some(m),
@@ -115,12 +121,10 @@ impl<S: Service + Drop, W: Worker + Drop> Core<S, W> {
 
     /// The move of the job whose turn it is, where it is due and ready.
     fn job_move(&self) -> Option<Move>
-        ensures ready { IfSome result (λ m. IsReadyMove self.now.jobs.jobs (core_at self.now.kernel self.now.services.list self.now.jobs self.now.events) m) }
+        ensures ready { IfSome result (λ m. IsReadyMove self.now.jobs.jobs (run_core self.now) m) }
         ensures porter { IfSome result (λ m. is_porter self.now.jobs m.who ≡ true) }
-        ensures none { IfNone result ((m : _) → is_porter self.now.jobs m.who ≡ true → IsReadyMove self.now.jobs.jobs (core_at self.now.kernel self.now.services.list self.now.jobs self.now.events) m → ⊥) }
+        ensures none { IfNone result ((m : _) → is_porter self.now.jobs m.who ≡ true → IsReadyMove self.now.jobs.jobs (run_core self.now) m → ⊥) }
     {
-        // So it is known that it picks nobody.
-        self.jobs.plainly();
         let who = self.porter()?;
         let m = Move { who, pick: None };
         if self.ready_job(&m) { Some(m) } else { None }
@@ -128,8 +132,8 @@ impl<S: Service + Drop, W: Worker + Drop> Core<S, W> {
 
     /// A move that is ready: a thread's, or else a server's act, or else the due job's.
     pub(crate) fn find(&self) -> Option<Move>
-        ensures ready { IfSome result (λ m. IsReadyMove self.now.jobs.jobs (core_at self.now.kernel self.now.services.list self.now.jobs self.now.events) m) }
-        ensures none { IfNone result (IsAnyMove self.now.jobs.jobs (core_at self.now.kernel self.now.services.list self.now.jobs self.now.events) → ⊥) }
+        ensures ready { IfSome result (λ m. IsReadyMove self.now.jobs.jobs (run_core self.now) m) }
+        ensures none { IfNone result (IsAnyMove self.now.jobs.jobs (run_core self.now) → ⊥) }
     {
         match self.find_other() {
             Some(m) => Some(m),
@@ -145,10 +149,10 @@ impl<S: Service + Drop, W: Worker + Drop> Core<S, W> {
     /// that which moved last, and in every second round of 64 moves one server is looked at first, each in its
     /// turn. So nobody who is ready waits for ever behind others.
     pub fn choose(&mut self) -> Option<Move>
-        ensures ready { IfSome result (λ m. (self.old.events < self.old.budget) × IsReadyMove self.old.jobs.jobs (core_at self.old.kernel self.old.services.list self.old.jobs self.old.events) m) }
-        ensures none { IfNone result (IsOver self.old.jobs.jobs self.old.budget (core_at self.old.kernel self.old.services.list self.old.jobs self.old.events)) }
-        ensures first { IsFirstDue self.old.jobs self.old.budget (core_at self.old.kernel self.old.services.list self.old.jobs self.old.events) result }
-        ensures same { (core_at self.new.kernel self.new.services.list self.new.jobs self.new.events) ≡ (core_at self.old.kernel self.old.services.list self.old.jobs self.old.events) }
+        ensures ready { IfSome result (λ m. (self.old.events < self.old.budget) × IsReadyMove self.old.jobs.jobs (run_core self.old) m) }
+        ensures none { IfNone result (IsOver self.old.jobs.jobs self.old.budget (run_core self.old)) }
+        ensures first { IsFirstDue self.old.jobs self.old.budget (run_core self.old) result }
+        ensures same { (run_core self.new) ≡ (run_core self.old) }
         ensures budget { self.new.budget ≡ self.old.budget }
         ensures jobs { self.new.jobs.jobs ≡ self.old.jobs.jobs }
     {
@@ -160,10 +164,10 @@ impl<S: Service + Drop, W: Worker + Drop> Core<S, W> {
 
     /// The move of the job whose turn it is, at an even number of moves, where its time has come.
     fn job_first(&self) -> Option<Move>
-        ensures ready { IfSome result (λ m. (self.now.events < self.now.budget) × IsReadyMove self.now.jobs.jobs (core_at self.now.kernel self.now.services.list self.now.jobs self.now.events) m) }
+        ensures ready { IfSome result (λ m. (self.now.events < self.now.budget) × IsReadyMove self.now.jobs.jobs (run_core self.now) m) }
         ensures porter { IfSome result (λ m. is_porter self.now.jobs m.who ≡ true) }
         ensures none { IfNone result (has_come self.now.jobs self.now.budget self.now.events ≡ true
-            → (m : _) → is_porter self.now.jobs m.who ≡ true → IsReadyMove self.now.jobs.jobs (core_at self.now.kernel self.now.services.list self.now.jobs self.now.events) m → ⊥) }
+            → (m : _) → is_porter self.now.jobs m.who ≡ true → IsReadyMove self.now.jobs.jobs (run_core self.now) m → ⊥) }
     {
         if self.has_come() {
             self.job_move()
@@ -181,9 +185,9 @@ impl<S: Service + Drop, W: Worker + Drop> Core<S, W> {
 
     /// The same of whoever has moved last, or comes next.
     fn choose_other(&mut self) -> Option<Move>
-        ensures ready { IfSome result (λ m. (self.old.events < self.old.budget) × IsReadyMove self.old.jobs.jobs (core_at self.old.kernel self.old.services.list self.old.jobs self.old.events) m) }
-        ensures none { IfNone result (IsOver self.old.jobs.jobs self.old.budget (core_at self.old.kernel self.old.services.list self.old.jobs self.old.events)) }
-        ensures same { (core_at self.new.kernel self.new.services.list self.new.jobs self.new.events) ≡ (core_at self.old.kernel self.old.services.list self.old.jobs self.old.events) }
+        ensures ready { IfSome result (λ m. (self.old.events < self.old.budget) × IsReadyMove self.old.jobs.jobs (run_core self.old) m) }
+        ensures none { IfNone result (IsOver self.old.jobs.jobs self.old.budget (run_core self.old)) }
+        ensures same { (run_core self.new) ≡ (run_core self.old) }
         ensures budget { self.new.budget ≡ self.old.budget }
         ensures jobs { self.new.jobs.jobs ≡ self.old.jobs.jobs }
     {
@@ -205,7 +209,7 @@ impl<S: Service + Drop, W: Worker + Drop> Core<S, W> {
 
     /// Its move, where that is ready and picks nobody.
     fn again(&self) -> Option<Move>
-        ensures { IfSome result (λ m. (self.now.events < self.now.budget) × IsReadyMove self.now.jobs.jobs (core_at self.now.kernel self.now.services.list self.now.jobs self.now.events) m) }
+        ensures { IfSome result (λ m. (self.now.events < self.now.budget) × IsReadyMove self.now.jobs.jobs (run_core self.now) m) }
     {
         let m = Move {
             who: self.same_thread()?,
@@ -216,7 +220,7 @@ impl<S: Service + Drop, W: Worker + Drop> Core<S, W> {
 
     /// A ready act of the server that heard of the last move, but at one move of 64.
     fn answer(&self) -> Option<Move>
-        ensures { IfSome result (λ m. IsReadyMove self.now.jobs.jobs (core_at self.now.kernel self.now.services.list self.now.jobs self.now.events) m) }
+        ensures { IfSome result (λ m. IsReadyMove self.now.jobs.jobs (run_core self.now) m) }
     {
         if self.events % ROUND == 0 {
             return None;
@@ -226,22 +230,99 @@ impl<S: Service + Drop, W: Worker + Drop> Core<S, W> {
 
     /// A move that is ready, of whoever comes next.
     fn seek(&mut self) -> Option<Move>
-        ensures ready { IfSome result (λ m. IsReadyMove self.old.jobs.jobs (core_at self.old.kernel self.old.services.list self.old.jobs self.old.events) m) }
-        ensures none { IfNone result (IsAnyMove self.old.jobs.jobs (core_at self.old.kernel self.old.services.list self.old.jobs self.old.events) → ⊥) }
-        ensures same { core_at self.new.kernel self.new.services.list self.new.jobs self.new.events ≡ core_at self.old.kernel self.old.services.list self.old.jobs self.old.events }
+        ensures ready { IfSome result (λ m. IsReadyMove self.old.jobs.jobs (run_core self.old) m) }
+        ensures none { IfNone result (IsAnyMove self.old.jobs.jobs (run_core self.old) → ⊥) }
+        ensures same { run_core self.new ≡ run_core self.old }
         ensures budget { self.new.budget ≡ self.old.budget }
         ensures jobs { self.new.jobs.jobs ≡ self.old.jobs.jobs }
     {
-        match self.look() {
+        if let Some(m) = self.look() {
+            return Some(m);
+        }
+        match self.among() {
             Some(m) => Some(m),
             None => self.find(),
         }
     }
 
+    /// While the time has come of the job whose turn it is: a ready move of one of some few, each in its turn, or else the job's. So its
+    /// move waits for no look at all names.
+    fn among(&mut self) -> Option<Move>
+        ensures ready { IfSome result (λ m. IsReadyMove self.old.jobs.jobs (run_core self.old) m) }
+        ensures same { run_core self.new ≡ run_core self.old }
+        ensures budget { self.new.budget ≡ self.old.budget }
+        ensures queue { self.new.jobs ≡ self.old.jobs }
+    {
+        if !self.is_timely() {
+            return None;
+        }
+        match self.find_few() {
+            Some(m) => Some(m),
+            None => self.job_move(),
+        }
+    }
+
+    /// A ready move of one of some few: of a thread, or else of a server.
+    fn find_few(&mut self) -> Option<Move>
+        ensures ready { IfSome result (λ m. IsReadyMove self.old.jobs.jobs (run_core self.old) m) }
+        ensures same { run_core self.new ≡ run_core self.old }
+        ensures budget { self.new.budget ≡ self.old.budget }
+        ensures queue { self.new.jobs ≡ self.old.jobs }
+    {
+        match self.next_few() {
+            Some(m) => Some(m),
+            None => self.act_between(0, self.services.len().min(FEW as usize)),
+        }
+    }
+
+    /// A ready move of one of the next few names: after those of the look before where that came to no end, and else after the thread that
+    /// moved last, and then from the first on.
+    fn next_few(&mut self) -> Option<Move>
+        ensures ready { IfSome result (λ m. IsReadyMove self.old.jobs.jobs (run_core self.old) m) }
+        ensures same { run_core self.new ≡ run_core self.old }
+        ensures budget { self.new.budget ≡ self.old.budget }
+        ensures queue { self.new.jobs ≡ self.old.jobs }
+    {
+        let from = match self.sought {
+            Some(who) => Some(who),
+            None => self.last,
+        };
+        match self.look_on(from) {
+            Look::Nobody => self.take_few(self.look_on(None)),
+            look => self.take_few(look),
+        }
+    }
+
+    /// The move that a look has found. It goes on there next time where it came to no end.
+    fn take_few(&mut self, look: Look) -> Option<Move>
+        requires { IsFound self.old.jobs.jobs (run_core self.old) look }
+        ensures ready { IfSome result (λ m. IsReadyMove self.old.jobs.jobs (run_core self.old) m) }
+        ensures same { run_core self.new ≡ run_core self.old }
+        ensures budget { self.new.budget ≡ self.old.budget }
+        ensures queue { self.new.jobs ≡ self.old.jobs }
+    {
+        self.sought = None;
+        match look {
+            Look::Found(m) => Some(m),
+            Look::Passed(who) => {
+                self.sought = Some(who);
+                None
+            }
+            Look::Nobody => None,
+        }
+    }
+
+    /// Looks at some few names after one.
+    fn look_on(&self, after: Option<Who>) -> Look
+        ensures { IsFound self.now.jobs.jobs (run_core self.now) result }
+    {
+        self.kernel.look_besides(after, self.porter(), FEW)
+    }
+
     /// In every second round a ready act of one server, each in its turn.
     fn look(&mut self) -> Option<Move>
-        ensures ready { IfSome result (λ m. IsReadyMove self.old.jobs.jobs (core_at self.old.kernel self.old.services.list self.old.jobs self.old.events) m) }
-        ensures same { core_at self.new.kernel self.new.services.list self.new.jobs self.new.events ≡ core_at self.old.kernel self.old.services.list self.old.jobs self.old.events }
+        ensures ready { IfSome result (λ m. IsReadyMove self.old.jobs.jobs (run_core self.old) m) }
+        ensures same { run_core self.new ≡ run_core self.old }
         ensures budget { self.new.budget ≡ self.old.budget }
         ensures jobs { self.new.jobs.jobs ≡ self.old.jobs.jobs }
     {
@@ -257,7 +338,7 @@ impl<S: Service + Drop, W: Worker + Drop> Core<S, W> {
     /// takes much room; this needs none.
     fn proceed(&mut self) -> Option<Move>
         requires none { current self.old.jobs ≡ None }
-        ensures advanced { IsAdvanced self.old.jobs.jobs self.old.budget (core_at self.old.kernel self.old.services.list self.old.jobs self.old.events) result (core_at self.new.kernel self.new.services.list self.new.jobs self.new.events) }
+        ensures advanced { IsAdvanced self.old.jobs.jobs self.old.budget (run_core self.old) result (run_core self.new) }
         ensures services { self.new.services.list ≡ self.old.services.list }
         ensures budget { self.new.budget ≡ self.old.budget }
         ensures jobs { self.new.jobs.jobs ≡ self.old.jobs.jobs }
@@ -276,8 +357,9 @@ impl<S: Service + Drop, W: Worker + Drop> Core<S, W> {
     #[inline(never)]
     fn go_on(&mut self, table: &Table) -> Result<Option<Move>, NoMemory>
         requires fits { AllFit (map (λ r. r.rule) table.now.list.items) self.old.services.list }
-        ensures advanced { IfOk result (λ made. IsAdvanced self.old.jobs.jobs self.old.budget (core_at self.old.kernel self.old.services.list self.old.jobs self.old.events) made (core_at self.new.kernel self.new.services.list self.new.jobs self.new.events)) }
-        ensures lacking { OnErr result (core_at self.new.kernel self.new.services.list self.new.jobs self.new.events ≡ core_at self.old.kernel self.old.services.list self.old.jobs self.old.events) }
+        requires come { IsGoing self.old }
+        ensures advanced { IfOk result (λ made. IsAdvanced self.old.jobs.jobs self.old.budget (run_core self.old) made (run_core self.new)) }
+        ensures lacking { OnErr result (run_core self.new ≡ run_core self.old) }
         ensures fits { AllFit (map (λ r. r.rule) table.now.list.items) self.new.services.list }
         ensures budget { self.new.budget ≡ self.old.budget }
         ensures jobs { self.new.jobs.jobs ≡ self.old.jobs.jobs }
@@ -297,9 +379,10 @@ impl<S: Service + Drop, W: Worker + Drop> Core<S, W> {
     #[inline(never)]
     fn go_next(&mut self, table: &Table) -> Result<Option<Move>, NoMemory>
         requires fits { AllFit (map (λ r. r.rule) table.now.list.items) self.old.services.list }
-        ensures advanced { IfOk result (λ made. IsAdvanced self.old.jobs.jobs self.old.budget (core_at self.old.kernel self.old.services.list self.old.jobs self.old.events) made (core_at self.new.kernel self.new.services.list self.new.jobs self.new.events)) }
-        ensures none { IfOk result (λ made. IfNone made (IsOver self.old.jobs.jobs self.old.budget (core_at self.old.kernel self.old.services.list self.old.jobs self.old.events))) }
-        ensures lacking { OnErr result (core_at self.new.kernel self.new.services.list self.new.jobs self.new.events ≡ core_at self.old.kernel self.old.services.list self.old.jobs self.old.events) }
+        requires come { IsGoing self.old }
+        ensures advanced { IfOk result (λ made. IsAdvanced self.old.jobs.jobs self.old.budget (run_core self.old) made (run_core self.new)) }
+        ensures none { IfOk result (λ made. IfNone made (IsOver self.old.jobs.jobs self.old.budget (run_core self.old))) }
+        ensures lacking { OnErr result (run_core self.new ≡ run_core self.old) }
         ensures fits { AllFit (map (λ r. r.rule) table.now.list.items) self.new.services.list }
         ensures budget { self.new.budget ≡ self.old.budget }
         ensures jobs { self.new.jobs.jobs ≡ self.old.jobs.jobs }
@@ -313,9 +396,9 @@ impl<S: Service + Drop, W: Worker + Drop> Core<S, W> {
 
     /// A move that is ready, of whoever comes next. There is none exactly where none is ready or the budget is used.
     fn choose_next(&mut self) -> Option<Move>
-        ensures ready { IfSome result (λ m. (self.old.events < self.old.budget) × IsReadyMove self.old.jobs.jobs (core_at self.old.kernel self.old.services.list self.old.jobs self.old.events) m) }
-        ensures none { IfNone result (IsOver self.old.jobs.jobs self.old.budget (core_at self.old.kernel self.old.services.list self.old.jobs self.old.events)) }
-        ensures same { core_at self.new.kernel self.new.services.list self.new.jobs self.new.events ≡ core_at self.old.kernel self.old.services.list self.old.jobs self.old.events }
+        ensures ready { IfSome result (λ m. (self.old.events < self.old.budget) × IsReadyMove self.old.jobs.jobs (run_core self.old) m) }
+        ensures none { IfNone result (IsOver self.old.jobs.jobs self.old.budget (run_core self.old)) }
+        ensures same { run_core self.new ≡ run_core self.old }
         ensures budget { self.new.budget ≡ self.old.budget }
         ensures jobs { self.new.jobs.jobs ≡ self.old.jobs.jobs }
     {
@@ -331,9 +414,10 @@ impl<S: Service + Drop, W: Worker + Drop> Core<S, W> {
     /// Makes any move that is ready: of the thread that moved last where it is ready, or else of whoever comes next.
     fn go_further(&mut self, table: &Table) -> Result<Option<Move>, NoMemory>
         requires fits { AllFit (map (λ r. r.rule) table.now.list.items) self.old.services.list }
-        ensures advanced { IfOk result (λ made. IsAdvanced self.old.jobs.jobs self.old.budget (core_at self.old.kernel self.old.services.list self.old.jobs self.old.events) made (core_at self.new.kernel self.new.services.list self.new.jobs self.new.events)) }
-        ensures none { IfOk result (λ made. IfNone made (IsOver self.old.jobs.jobs self.old.budget (core_at self.old.kernel self.old.services.list self.old.jobs self.old.events))) }
-        ensures lacking { OnErr result (core_at self.new.kernel self.new.services.list self.new.jobs self.new.events ≡ core_at self.old.kernel self.old.services.list self.old.jobs self.old.events) }
+        requires come { IsGoing self.old }
+        ensures advanced { IfOk result (λ made. IsAdvanced self.old.jobs.jobs self.old.budget (run_core self.old) made (run_core self.new)) }
+        ensures none { IfOk result (λ made. IfNone made (IsOver self.old.jobs.jobs self.old.budget (run_core self.old))) }
+        ensures lacking { OnErr result (run_core self.new ≡ run_core self.old) }
         ensures fits { AllFit (map (λ r. r.rule) table.now.list.items) self.new.services.list }
         ensures budget { self.new.budget ≡ self.old.budget }
         ensures jobs { self.new.jobs.jobs ≡ self.old.jobs.jobs }
@@ -347,8 +431,12 @@ impl<S: Service + Drop, W: Worker + Drop> Core<S, W> {
     /// Makes the move of the job whose turn it is, at an even number of moves, where it is due and ready and its time has come.
     fn go_first(&mut self, table: &Table) -> Result<Option<Move>, NoMemory>
         requires fits { AllFit (map (λ r. r.rule) table.now.list.items) self.old.services.list }
-        ensures advanced { IfOk result (λ made. IsAdvanced self.old.jobs.jobs self.old.budget (core_at self.old.kernel self.old.services.list self.old.jobs self.old.events) made (core_at self.new.kernel self.new.services.list self.new.jobs self.new.events)) }
-        ensures lacking { OnErr result (core_at self.new.kernel self.new.services.list self.new.jobs self.new.events ≡ core_at self.old.kernel self.old.services.list self.old.jobs self.old.events) }
+        requires come { IsGoing self.old }
+        ensures advanced { IfOk result (λ made. IsAdvanced self.old.jobs.jobs self.old.budget (run_core self.old) made (run_core self.new)) }
+        ensures porter { IfOk result (λ made. IfSome made (λ m. is_porter self.old.jobs m.who ≡ true)) }
+        ensures none { IfOk result (λ made. IfNone made (has_come self.old.jobs self.old.budget self.old.events ≡ true
+            → (m : _) → is_porter self.old.jobs m.who ≡ true → IsReadyMove self.old.jobs.jobs (run_core self.old) m → ⊥)) }
+        ensures lacking { OnErr result (run_core self.new ≡ run_core self.old) }
         ensures fits { AllFit (map (λ r. r.rule) table.now.list.items) self.new.services.list }
         ensures budget { self.new.budget ≡ self.old.budget }
         ensures jobs { self.new.jobs.jobs ≡ self.old.jobs.jobs }
@@ -371,9 +459,11 @@ impl<S: Service + Drop, W: Worker + Drop> Core<S, W> {
     #[inline(never)]
     fn go_among(&mut self, table: &Table) -> Result<Option<Move>, NoMemory>
         requires fits { AllFit (map (λ r. r.rule) table.now.list.items) self.old.services.list }
-        ensures advanced { IfOk result (λ made. IsAdvanced self.old.jobs.jobs self.old.budget (core_at self.old.kernel self.old.services.list self.old.jobs self.old.events) made (core_at self.new.kernel self.new.services.list self.new.jobs self.new.events)) }
-        ensures none { IfOk result (λ made. IfNone made (IsOver self.old.jobs.jobs self.old.budget (core_at self.old.kernel self.old.services.list self.old.jobs self.old.events))) }
-        ensures lacking { OnErr result (core_at self.new.kernel self.new.services.list self.new.jobs self.new.events ≡ core_at self.old.kernel self.old.services.list self.old.jobs self.old.events) }
+        requires come { IsGoing self.old }
+        ensures advanced { IfOk result (λ made. IsAdvanced self.old.jobs.jobs self.old.budget (run_core self.old) made (run_core self.new)) }
+        ensures none { IfOk result (λ made. IfNone made (IsOver self.old.jobs.jobs self.old.budget (run_core self.old))) }
+        ensures first { IfOk result (λ made. IsFirstDue self.old.jobs self.old.budget (run_core self.old) made) }
+        ensures lacking { OnErr result (run_core self.new ≡ run_core self.old) }
         ensures fits { AllFit (map (λ r. r.rule) table.now.list.items) self.new.services.list }
         ensures budget { self.new.budget ≡ self.old.budget }
         ensures jobs { self.new.jobs.jobs ≡ self.old.jobs.jobs }
@@ -388,9 +478,11 @@ impl<S: Service + Drop, W: Worker + Drop> Core<S, W> {
     fn go_alone(&mut self, table: &Table) -> Result<Option<Move>, NoMemory>
         requires none { current self.old.jobs ≡ None }
         requires fits { AllFit (map (λ r. r.rule) table.now.list.items) self.old.services.list }
-        ensures advanced { IfOk result (λ made. IsAdvanced self.old.jobs.jobs self.old.budget (core_at self.old.kernel self.old.services.list self.old.jobs self.old.events) made (core_at self.new.kernel self.new.services.list self.new.jobs self.new.events)) }
-        ensures none { IfOk result (λ made. IfNone made (IsOver self.old.jobs.jobs self.old.budget (core_at self.old.kernel self.old.services.list self.old.jobs self.old.events))) }
-        ensures lacking { OnErr result (core_at self.new.kernel self.new.services.list self.new.jobs self.new.events ≡ core_at self.old.kernel self.old.services.list self.old.jobs self.old.events) }
+        requires come { IsGoing self.old }
+        ensures advanced { IfOk result (λ made. IsAdvanced self.old.jobs.jobs self.old.budget (run_core self.old) made (run_core self.new)) }
+        ensures none { IfOk result (λ made. IfNone made (IsOver self.old.jobs.jobs self.old.budget (run_core self.old))) }
+        ensures first { IfOk result (λ made. IsFirstDue self.old.jobs self.old.budget (run_core self.old) made) }
+        ensures lacking { OnErr result (run_core self.new ≡ run_core self.old) }
         ensures fits { AllFit (map (λ r. r.rule) table.now.list.items) self.new.services.list }
         ensures budget { self.new.budget ≡ self.old.budget }
         ensures jobs { self.new.jobs.jobs ≡ self.old.jobs.jobs }
@@ -401,16 +493,19 @@ impl<S: Service + Drop, W: Worker + Drop> Core<S, W> {
         }
     }
 
-    /// Makes a move that is ready, and gives it: the one that `choose` would give. There is none exactly where none is ready or the
+    /// Makes a move that is ready, and gives it: the one that `choose` would give, at an even number of moves a due job's where one is ready. There is none exactly where none is ready or the
     /// budget is used, and then, and for want of memory, all is as before.
     pub fn advance(&mut self, table: &Table) -> Result<Option<Move>, NoMemory>
         requires fits { AllFit (map (λ r. r.rule) table.now.list.items) self.old.services.list }
-        ensures advanced { IfOk result (λ made. IsAdvanced self.old.jobs.jobs self.old.budget (core_at self.old.kernel self.old.services.list self.old.jobs self.old.events) made (core_at self.new.kernel self.new.services.list self.new.jobs self.new.events)) }
-        ensures none { IfOk result (λ made. IfNone made (IsOver self.old.jobs.jobs self.old.budget (core_at self.old.kernel self.old.services.list self.old.jobs self.old.events))) }
-        ensures lacking { OnErr result (core_at self.new.kernel self.new.services.list self.new.jobs self.new.events ≡ core_at self.old.kernel self.old.services.list self.old.jobs self.old.events) }
+        requires come { IsGoing self.old }
+        ensures advanced { IfOk result (λ made. IsAdvanced self.old.jobs.jobs self.old.budget (run_core self.old) made (run_core self.new)) }
+        ensures none { IfOk result (λ made. IfNone made (IsOver self.old.jobs.jobs self.old.budget (run_core self.old))) }
+        ensures first { IfOk result (λ made. IsFirstDue self.old.jobs self.old.budget (run_core self.old) made) }
+        ensures lacking { OnErr result (run_core self.new ≡ run_core self.old) }
         ensures fits { AllFit (map (λ r. r.rule) table.now.list.items) self.new.services.list }
         ensures budget { self.new.budget ≡ self.old.budget }
         ensures jobs { self.new.jobs.jobs ≡ self.old.jobs.jobs }
+        ensures come { IsGoing self.new }
     {
         if self.jobs.current().is_none() {
             self.go_alone(table)

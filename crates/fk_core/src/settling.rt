@@ -1,13 +1,13 @@
 //! When a job is due, and jobs that end without a move.
-ghost use Rattle.std.specs.Prelude.{◌≡◌, ◌↔◌, Some, None, IsTrue};
-ghost use Rattle.laws_runs.specs.Cores.{Settles, IsGone, IsOtherReady, EndsNow};
-ghost use Rattle.laws_runs.specs.Cores.Unmoved.{Dead, NoImage};
-ghost use Rattle.fk_jobs.specs.Jobs.{current, job_of};
+ghost use Rattle.std.specs.Prelude.{◌≡◌, ◌↔◌, Some, None, IsTrue, IfSome, IfNone};
+ghost use Rattle.laws_runs.specs.Cores as runs;
+ghost use Rattle.laws_runs.specs.Cores.{Settles, IsGone, IsOtherReady, EndsFor, EndsNow};
+ghost use Rattle.fk_jobs.specs.Jobs.{current, job_of, unmoved_of};
 ghost use Rattle.fk_store.specs.World.{world};
-ghost use Rattle.fk_core.specs.Cores.{house, core_at, is_porter, is_timely, porter_of, IsDue};
+ghost use Rattle.fk_core.specs.Cores.{house, run_core, is_porter, is_timely, porter_of, IsDue};
 
 use crate::turns::Core;
-use fk_jobs::{Plan, Worker};
+use fk_jobs::{Plan, Unmoved, Worker};
 use fk_model::Who;
 use fk_model::limits::LAST_PORTER_SLOT;
 use fk_natives::Service;
@@ -43,14 +43,14 @@ impl<S: Service + Drop, W: Worker + Drop> Core<S, W> {
 
     /// Whether a user or a server has a ready move.
     fn is_other_ready(&self) -> bool
-        ensures { IsTrue result ↔ IsOtherReady (house self.now.jobs.jobs) (core_at self.now.kernel self.now.services.list self.now.jobs self.now.events) }
+        ensures { IsTrue result ↔ IsOtherReady (house self.now.jobs.jobs) (run_core self.now) }
     {
         self.find_other().is_some()
     }
 
     /// Whether the job whose turn it is is due: it has made a move, or its time has come, or nobody else can move.
     pub(crate) fn is_due(&self) -> bool
-        ensures { IsTrue result ↔ IsDue self.now.jobs.jobs (core_at self.now.kernel self.now.services.list self.now.jobs self.now.events) }
+        ensures { IsTrue result ↔ IsDue self.now.jobs.jobs (run_core self.now) }
     {
         if self.jobs.current().is_none() {
             return false;
@@ -58,51 +58,65 @@ impl<S: Service + Drop, W: Worker + Drop> Core<S, W> {
         self.is_timely() || !self.is_other_ready()
     }
 
-    /// Whether it ends without a move: it is due, and can't begin, since its nester is gone.
-    fn can_end(&self) -> bool
-        ensures dead { IsTrue result ↔ EndsNow (house self.now.jobs.jobs) (core_at self.now.kernel self.now.services.list self.now.jobs self.now.events) Dead }
-        ensures image { EndsNow (house self.now.jobs.jobs) (core_at self.now.kernel self.now.services.list self.now.jobs self.now.events) NoImage → ⊥ }
+    /// Why it ends without a move, if it does: it is due, and can't begin, having no image, or no nester any more.
+    fn can_end(&self) -> Option<Unmoved>
+        ensures some { IfSome result (λ why. EndsNow (house self.now.jobs.jobs) (run_core self.now) (unmoved_of why)) }
+        ensures none { IfNone result ((why : runs.Unmoved) → EndsNow (house self.now.jobs.jobs) (run_core self.now) why → ⊥) }
     {
         match self.jobs.current() {
-            Some(plan) => self.is_over(plan),
-            None => false,
+            Some(plan) => self.end_of(plan),
+            None => None,
         }
     }
 
     /// The same of the job that is planned so. Whether it is due is looked at last.
-    fn is_over(&self, plan: &Plan) -> bool
-        requires { Some (job_of plan.now) ≡ current self.now.jobs }
-        ensures { IsTrue result ↔ EndsNow (house self.now.jobs.jobs) (core_at self.now.kernel self.now.services.list self.now.jobs self.now.events) Dead }
+    fn end_of(&self, plan: &Plan) -> Option<Unmoved>
+        requires its { Some (job_of plan.now) ≡ current self.now.jobs }
+        ensures some { IfSome result (λ why. EndsNow (house self.now.jobs.jobs) (run_core self.now) (unmoved_of why)) }
+        ensures none { IfNone result ((why : runs.Unmoved) → EndsNow (house self.now.jobs.jobs) (run_core self.now) why → ⊥) }
     {
-        if self.has_died(plan) {
-            self.is_due()
+        let why = self.hindrance(plan)?;
+        if self.is_due() { Some(why) } else { None }
+    }
+
+    /// Why it can't begin, where it hasn't begun.
+    fn hindrance(&self, plan: &Plan) -> Option<Unmoved>
+        requires its { Some (job_of plan.now) ≡ current self.now.jobs }
+        ensures some { IfSome result (λ why. (self.now.jobs.work ≡ None)
+            × EndsFor (house self.now.jobs.jobs) (run_core self.now) (job_of plan.now) (unmoved_of why)) }
+        ensures none { IfNone result (self.now.jobs.work ≡ None
+            → (why : runs.Unmoved) → EndsFor (house self.now.jobs.jobs) (run_core self.now) (job_of plan.now) why → ⊥) }
+    {
+        if self.jobs.is_at_work() {
+            None
+        } else if !self.jobs.can_begin() {
+            Some(Unmoved::NoImage)
+        } else if self.is_gone(plan) {
+            Some(Unmoved::Dead)
         } else {
-            false
+            None
         }
     }
 
-    /// It has made no move, and its nester is gone.
-    fn has_died(&self, plan: &Plan) -> bool
-        ensures { IsTrue result ↔ ((self.now.jobs.work ≡ None) × IsGone (world self.now.kernel) plan.now.nester) }
+    /// Whether its nester is gone.
+    fn is_gone(&self, plan: &Plan) -> bool
+        ensures { IsTrue result ↔ IsGone (world self.now.kernel) plan.now.nester }
     {
         self.kernel.names();
-        if self.jobs.is_at_work() {
-            return false;
-        }
         !self.kernel.store().is_live(plan.nester)
     }
 
     /// Each job ends that is due and can't begin.
     pub(crate) fn settle(&mut self)
-        ensures settles { Settles (house self.old.jobs.jobs) (core_at self.old.kernel self.old.services.list self.old.jobs self.old.events) (core_at self.new.kernel self.new.services.list self.new.jobs self.new.events) }
+        ensures settles { Settles (house self.old.jobs.jobs) (run_core self.old) (run_core self.new) }
         ensures kernel { self.new.kernel ≡ self.old.kernel }
         ensures services { self.new.services ≡ self.old.services }
         ensures jobs { self.new.jobs.jobs ≡ self.old.jobs.jobs }
         ensures budget { self.new.budget ≡ self.old.budget }
         ensures events { self.new.events ≡ self.old.events }
     {
-        while self.can_end() {
-            self.jobs.end_dead();
+        while let Some(why) = self.can_end() {
+            self.jobs.end_idle(why);
         }
     }
 }

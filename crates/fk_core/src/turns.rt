@@ -1,21 +1,21 @@
 //! The core: a kernel with its native servers and its jobs.
 ghost use Rattle.std.specs.Prelude.{◌≡◌, ◌↔◌, ◌+◌, ◌<◌, Some, None, true, false, IsTrue, IfOk, OnOk, OnErr, IfSome, IsSome, map};
 ghost use Rattle.std.specs.Bool.{OnTrue, OnFalse};
-ghost use Rattle.fk_core.specs.Served.{asked, gives_words, AllFit, shown};
-ghost use Rattle.fk_model.specs.Whole.{are_words};
+ghost use Rattle.fk_served.specs.Served.{asked, AllFit, shown};
 ghost use Rattle.laws_whole.specs.Runnable.{has_all_words};
-ghost use Rattle.fk_core.specs.Cores.{core_at, is_porter, reply_to, IsReadyMove, IsAskedMove, IsCalledMove, IsTurned, IsAdvanced, IsDue};
+ghost use Rattle.fk_core.specs.Cores.{run_core, is_porter, reply_to, IsReadyMove, IsAskedMove, IsCalledMove, IsTurned, IsTried, IsAdvanced, IsDue};
 ghost use Rattle.fk_core.specs.Cuts.{KeepsCuts, LeavesStrangers};
+ghost use Rattle.fk_core.specs.Goings.{IsGoing};
 ghost use Rattle.fk_core.specs.Leaves.{LeavesTheRest};
 ghost use Rattle.fk_store.specs.World.{world};
 ghost use Rattle.fk_jobs.specs.Jobs.{Queue, hears};
 
-use crate::services::Services;
 use fk_jobs::{Jobs, Worker};
 use fk_kernel::Kernel;
 use fk_model::{Answer, Ask, Body, Move, NoMemory, Said, Who};
 use fk_natives::Service;
 use fk_responders::Table;
+use fk_served::Services;
 
 /// A kernel with its native servers and its jobs, and how many moves it has made of how many.
 #[derive(Drop)]
@@ -31,6 +31,8 @@ pub struct Core<S: Service + Drop, W: Worker + Drop> {
     pub(crate) heard: Option<Who>,
     /// The place of the server that is looked at next.
     pub(crate) next: usize,
+    /// The name after which the next few are looked at while a job works, where the few before came to no end.
+    pub(crate) sought: Option<Who>,
 }
 
 /// The thread that has moved last, once this one has or a server.
@@ -50,25 +52,6 @@ fn hearer(said: &Said) -> Option<Who> {
         | Said::Full { port }
         | Said::Over { port } => Some(*port),
         Said::Nothing | Said::Answer(_) | Said::Ended { .. } => None,
-    }
-}
-
-/// Each number is a word, as its type says once it is read.
-fn read_numbers(numbers: &[u64])
-    ensures { are_words numbers.now ≡ true }
-{
-    for number in numbers {
-        let _word = *number;
-    }
-}
-
-/// What is given is words.
-fn look_at(ask: &Ask)
-    ensures { gives_words ask.now ≡ true }
-{
-    match ask {
-        Ask::Give { words, .. } => read_numbers(words),
-        _ => {}
     }
 }
 
@@ -108,6 +91,7 @@ impl<S: Service + Drop, W: Worker + Drop> Core<S, W> {
             last: None,
             heard: None,
             next: 0,
+            sought: None,
         }
     }
 
@@ -160,9 +144,10 @@ impl<S: Service + Drop, W: Worker + Drop> Core<S, W> {
         self.events
     }
 
-    /// What a mover asks for that is no job's porter. Whoever isn't a served port runs.
-    fn asked(&self, who: Who) -> Option<Ask>
-        ensures { result ≡ asked self.now.services.list (world self.now.kernel) who }
+    /// What a mover asks for that is no job's porter: what it gives is words. Whoever isn't a served port runs.
+    pub(crate) fn ask(&self, who: Who) -> Option<Ask>
+        ensures asked { result ≡ asked self.now.services.list (world self.now.kernel) who }
+        ensures words { IfSome result (λ ask. has_all_words ask ≡ true) }
     {
         let store = self.kernel.store();
         store.names();
@@ -172,19 +157,9 @@ impl<S: Service + Drop, W: Worker + Drop> Core<S, W> {
         }
     }
 
-    /// What a mover asks for that is no job's porter: what it gives is words.
-    pub(crate) fn ask(&self, who: Who) -> Option<Ask>
-        ensures asked { result ≡ asked self.now.services.list (world self.now.kernel) who }
-        ensures words { IfSome result (λ ask. has_all_words ask ≡ true) }
-    {
-        let ask = self.asked(who)?;
-        look_at(&ask);
-        Some(ask)
-    }
-
     /// Whether a move is ready: what its mover asks for is, and a job's is due.
     pub fn ready(&self, m: &Move) -> bool
-        ensures { IsTrue result ↔ IsReadyMove self.now.jobs.jobs (core_at self.now.kernel self.now.services.list self.now.jobs self.now.events) m.now }
+        ensures { IsTrue result ↔ IsReadyMove self.now.jobs.jobs (run_core self.now) m.now }
     {
         if self.is_porter(m.who) {
             self.ready_job(m)
@@ -195,7 +170,7 @@ impl<S: Service + Drop, W: Worker + Drop> Core<S, W> {
 
     /// The same of a move whose name is no porter's.
     fn ready_asked(&self, m: &Move) -> bool
-        ensures { IsTrue result ↔ IsAskedMove self.now.jobs.jobs (core_at self.now.kernel self.now.services.list self.now.jobs self.now.events) m.now }
+        ensures { IsTrue result ↔ IsAskedMove self.now.jobs.jobs (run_core self.now) m.now }
     {
         match self.ask(m.who) {
             Some(ask) => self.kernel.ready(m, &ask),
@@ -206,7 +181,7 @@ impl<S: Service + Drop, W: Worker + Drop> Core<S, W> {
     /// The same of a job's move.
     pub(crate) fn ready_job(&self, m: &Move) -> bool
         requires { is_porter self.now.jobs m.now.who ≡ true }
-        ensures { IsTrue result ↔ IsReadyMove self.now.jobs.jobs (core_at self.now.kernel self.now.services.list self.now.jobs self.now.events) m.now }
+        ensures { IsTrue result ↔ IsReadyMove self.now.jobs.jobs (run_core self.now) m.now }
     {
         if self.is_called(m) {
             self.is_due()
@@ -217,7 +192,7 @@ impl<S: Service + Drop, W: Worker + Drop> Core<S, W> {
 
     /// Whether the call that the job asks for whose turn it is is ready, were it due.
     fn is_called(&self, m: &Move) -> bool
-        ensures { IsTrue result ↔ IsCalledMove self.now.jobs (core_at self.now.kernel self.now.services.list self.now.jobs self.now.events) m.now }
+        ensures { IsTrue result ↔ IsCalledMove self.now.jobs (run_core self.now) m.now }
     {
         match self.jobs.next() {
             Some(ask) => self.kernel.ready(m, &ask),
@@ -225,26 +200,24 @@ impl<S: Service + Drop, W: Worker + Drop> Core<S, W> {
         }
     }
 
-    /// Makes a move that is ready, and tells the servers, or the jobs. For want of memory all is as before.
+    /// Makes a move that is ready, and tells the servers, or the jobs. For want of memory all is as before. That a run has come here
+    /// makes it known that what a job asks for is fit.
     pub fn turn(&mut self, table: &Table, m: &Move) -> Result<(), NoMemory>
-        requires ready { IsReadyMove self.old.jobs.jobs (core_at self.old.kernel self.old.services.list self.old.jobs self.old.events) m.now }
+        requires ready { IsReadyMove self.old.jobs.jobs (run_core self.old) m.now }
         requires few { self.old.events < self.old.budget }
+        requires come { IsGoing self.old }
         requires fits { AllFit (map (λ r. r.rule) table.now.list.items) self.old.services.list }
-        ensures turned { OnOk result (IsTurned self.old.jobs.jobs (core_at self.old.kernel self.old.services.list self.old.jobs self.old.events) m.now
-            (core_at self.new.kernel self.new.services.list self.new.jobs self.new.events)) }
-        ensures lacking { OnErr result (core_at self.new.kernel self.new.services.list self.new.jobs self.new.events
-            ≡ core_at self.old.kernel self.old.services.list self.old.jobs self.old.events) }
+        ensures turned { OnOk result (IsTurned self.old.jobs.jobs (run_core self.old) m.now (run_core self.new)) }
+        ensures lacking { OnErr result (run_core self.new ≡ run_core self.old) }
         ensures fits { AllFit (map (λ r. r.rule) table.now.list.items) self.new.services.list }
         ensures budget { self.new.budget ≡ self.old.budget }
         ensures jobs { self.new.jobs.jobs ≡ self.old.jobs.jobs }
+        ensures come { IsGoing self.new }
         ensures events { OnOk result (self.new.events ≡ self.old.events + 1) }
-        ensures cut { OnOk result (KeepsCuts self.old.jobs.jobs (core_at self.old.kernel self.old.services.list self.old.jobs self.old.events) m.now (world self.new.kernel)) }
-        ensures strangers { OnOk result (LeavesStrangers self.old.jobs.jobs (core_at self.old.kernel self.old.services.list self.old.jobs self.old.events) m.now (world self.new.kernel)) }
-        ensures rest { OnOk result (LeavesTheRest self.old.jobs.jobs (core_at self.old.kernel self.old.services.list self.old.jobs self.old.events) m.now
-            (core_at self.new.kernel self.new.services.list self.new.jobs self.new.events)) }
+        ensures cut { OnOk result (KeepsCuts self.old.jobs.jobs (run_core self.old) m.now (world self.new.kernel)) }
+        ensures strangers { OnOk result (LeavesStrangers self.old.jobs.jobs (run_core self.old) m.now (world self.new.kernel)) }
+        ensures rest { OnOk result (LeavesTheRest self.old.jobs.jobs (run_core self.old) m.now (run_core self.new)) }
     {
-        // So it is known that a job's call is fit.
-        self.jobs.plainly();
         self.go(table, m)?;
         Ok(())
     }
@@ -253,20 +226,13 @@ impl<S: Service + Drop, W: Worker + Drop> Core<S, W> {
     /// want of memory, all is as before.
     pub fn go(&mut self, table: &Table, m: &Move) -> Result<bool, NoMemory>
         requires few { self.old.events < self.old.budget }
+        requires come { IsGoing self.old }
         requires fits { AllFit (map (λ r. r.rule) table.now.list.items) self.old.services.list }
-        ensures made { IfOk result (λ made. OnTrue made (IsReadyMove self.old.jobs.jobs (core_at self.old.kernel self.old.services.list self.old.jobs self.old.events) m.now
-            × IsTurned self.old.jobs.jobs (core_at self.old.kernel self.old.services.list self.old.jobs self.old.events) m.now
-            (core_at self.new.kernel self.new.services.list self.new.jobs self.new.events))) }
-        ensures unready { IfOk result (λ made. OnFalse made
-            (IsReadyMove self.old.jobs.jobs (core_at self.old.kernel self.old.services.list self.old.jobs self.old.events) m.now → ⊥)) }
-        ensures same { IfOk result (λ made. OnFalse made (core_at self.new.kernel self.new.services.list self.new.jobs self.new.events
-            ≡ core_at self.old.kernel self.old.services.list self.old.jobs self.old.events)) }
-        ensures lacking { OnErr result (core_at self.new.kernel self.new.services.list self.new.jobs self.new.events
-            ≡ core_at self.old.kernel self.old.services.list self.old.jobs self.old.events) }
+        ensures tried { IsTried (IsReadyMove self.old.jobs.jobs (run_core self.old) m.now) self.old.jobs.jobs (run_core self.old) m.now (run_core self.new) result }
         ensures fits { AllFit (map (λ r. r.rule) table.now.list.items) self.new.services.list }
         ensures budget { self.new.budget ≡ self.old.budget }
         ensures jobs { self.new.jobs.jobs ≡ self.old.jobs.jobs }
-        ensures events { IfOk result (λ made. OnTrue made (self.new.events ≡ self.old.events + 1)) }
+        ensures come { IsGoing self.new }
     {
         if self.go_plain(m) {
             return Ok(true);
@@ -278,8 +244,7 @@ impl<S: Service + Drop, W: Worker + Drop> Core<S, W> {
     /// before. What other moves tell takes much room; this needs none.
     fn go_plain(&mut self, m: &Move) -> bool
         requires few { self.old.events < self.old.budget }
-        ensures made { OnTrue result (IsAdvanced self.old.jobs.jobs self.old.budget (core_at self.old.kernel self.old.services.list self.old.jobs self.old.events) (Some m.now)
-            (core_at self.new.kernel self.new.services.list self.new.jobs self.new.events)) }
+        ensures made { OnTrue result (IsAdvanced self.old.jobs.jobs self.old.budget (run_core self.old) (Some m.now) (run_core self.new)) }
         ensures kernel { OnFalse result (self.new.kernel ≡ self.old.kernel) }
         ensures events { OnFalse result (self.new.events ≡ self.old.events) }
         ensures services { self.new.services.list ≡ self.old.services.list }
@@ -303,20 +268,12 @@ impl<S: Service + Drop, W: Worker + Drop> Core<S, W> {
     /// The same of any move.
     fn go_told(&mut self, table: &Table, m: &Move) -> Result<bool, NoMemory>
         requires few { self.old.events < self.old.budget }
+        requires come { IsGoing self.old }
         requires fits { AllFit (map (λ r. r.rule) table.now.list.items) self.old.services.list }
-        ensures made { IfOk result (λ made. OnTrue made (IsReadyMove self.old.jobs.jobs (core_at self.old.kernel self.old.services.list self.old.jobs self.old.events) m.now
-            × IsTurned self.old.jobs.jobs (core_at self.old.kernel self.old.services.list self.old.jobs self.old.events) m.now
-            (core_at self.new.kernel self.new.services.list self.new.jobs self.new.events))) }
-        ensures unready { IfOk result (λ made. OnFalse made
-            (IsReadyMove self.old.jobs.jobs (core_at self.old.kernel self.old.services.list self.old.jobs self.old.events) m.now → ⊥)) }
-        ensures same { IfOk result (λ made. OnFalse made (core_at self.new.kernel self.new.services.list self.new.jobs self.new.events
-            ≡ core_at self.old.kernel self.old.services.list self.old.jobs self.old.events)) }
-        ensures lacking { OnErr result (core_at self.new.kernel self.new.services.list self.new.jobs self.new.events
-            ≡ core_at self.old.kernel self.old.services.list self.old.jobs self.old.events) }
+        ensures tried { IsTried (IsReadyMove self.old.jobs.jobs (run_core self.old) m.now) self.old.jobs.jobs (run_core self.old) m.now (run_core self.new) result }
         ensures fits { AllFit (map (λ r. r.rule) table.now.list.items) self.new.services.list }
         ensures budget { self.new.budget ≡ self.old.budget }
         ensures jobs { self.new.jobs.jobs ≡ self.old.jobs.jobs }
-        ensures events { IfOk result (λ made. OnTrue made (self.new.events ≡ self.old.events + 1)) }
     {
         if self.is_porter(m.who) {
             self.go_job(table, m)
@@ -331,30 +288,27 @@ impl<S: Service + Drop, W: Worker + Drop> Core<S, W> {
         requires other { is_porter self.old.jobs m.now.who ≡ false }
         requires few { self.old.events < self.old.budget }
         requires fits { AllFit (map (λ r. r.rule) table.now.list.items) self.old.services.list }
-        ensures made { IfOk result (λ made. OnTrue made (IsAskedMove self.old.jobs.jobs (core_at self.old.kernel self.old.services.list self.old.jobs self.old.events) m.now
-            × IsTurned self.old.jobs.jobs (core_at self.old.kernel self.old.services.list self.old.jobs self.old.events) m.now
-            (core_at self.new.kernel self.new.services.list self.new.jobs self.new.events))) }
-        ensures unready { IfOk result (λ made. OnFalse made
-            (IsAskedMove self.old.jobs.jobs (core_at self.old.kernel self.old.services.list self.old.jobs self.old.events) m.now → ⊥)) }
-        ensures same { IfOk result (λ made. OnFalse made (core_at self.new.kernel self.new.services.list self.new.jobs self.new.events
-            ≡ core_at self.old.kernel self.old.services.list self.old.jobs self.old.events)) }
-        ensures lacking { OnErr result (core_at self.new.kernel self.new.services.list self.new.jobs self.new.events
-            ≡ core_at self.old.kernel self.old.services.list self.old.jobs self.old.events) }
+        ensures tried { IsTried (IsAskedMove self.old.jobs.jobs (run_core self.old) m.now) self.old.jobs.jobs (run_core self.old) m.now (run_core self.new) result }
         ensures fits { AllFit (map (λ r. r.rule) table.now.list.items) self.new.services.list }
         ensures budget { self.new.budget ≡ self.old.budget }
         ensures jobs { self.new.jobs.jobs ≡ self.old.jobs.jobs }
-        ensures events { IfOk result (λ made. OnTrue made (self.new.events ≡ self.old.events + 1)) }
     {
         self.services.reserve()?;
-        let Some(ask) = self.ask(m.who) else {
+        let asked = self.ask(m.who);
+        let Some(ask) = &asked else {
             return Ok(false);
         };
-        let Some(told) = self.kernel.attempt(m, &ask)? else {
+        // What is told takes much room, so it stands there once.
+        let made = self.kernel.attempt(m, ask);
+        let Ok(tried) = &made else {
+            return Err(NoMemory);
+        };
+        let Some(told) = tried else {
             return Ok(false);
         };
-        self.services.hear(table, &told);
+        self.services.hear(table, told);
         self.events += 1;
-        self.last = last_thread(&ask, m.who, self.last);
+        self.last = last_thread(ask, m.who, self.last);
         self.heard = hearer(&told.said);
         self.settle();
         Ok(true)
@@ -364,20 +318,12 @@ impl<S: Service + Drop, W: Worker + Drop> Core<S, W> {
     pub(crate) fn go_job(&mut self, table: &Table, m: &Move) -> Result<bool, NoMemory>
         requires job { is_porter self.old.jobs m.now.who ≡ true }
         requires few { self.old.events < self.old.budget }
+        requires come { IsGoing self.old }
         requires fits { AllFit (map (λ r. r.rule) table.now.list.items) self.old.services.list }
-        ensures made { IfOk result (λ made. OnTrue made (IsReadyMove self.old.jobs.jobs (core_at self.old.kernel self.old.services.list self.old.jobs self.old.events) m.now
-            × IsTurned self.old.jobs.jobs (core_at self.old.kernel self.old.services.list self.old.jobs self.old.events) m.now
-            (core_at self.new.kernel self.new.services.list self.new.jobs self.new.events))) }
-        ensures unready { IfOk result (λ made. OnFalse made
-            (IsReadyMove self.old.jobs.jobs (core_at self.old.kernel self.old.services.list self.old.jobs self.old.events) m.now → ⊥)) }
-        ensures same { IfOk result (λ made. OnFalse made (core_at self.new.kernel self.new.services.list self.new.jobs self.new.events
-            ≡ core_at self.old.kernel self.old.services.list self.old.jobs self.old.events)) }
-        ensures lacking { OnErr result (core_at self.new.kernel self.new.services.list self.new.jobs self.new.events
-            ≡ core_at self.old.kernel self.old.services.list self.old.jobs self.old.events) }
+        ensures tried { IsTried (IsReadyMove self.old.jobs.jobs (run_core self.old) m.now) self.old.jobs.jobs (run_core self.old) m.now (run_core self.new) result }
         ensures fits { AllFit (map (λ r. r.rule) table.now.list.items) self.new.services.list }
         ensures budget { self.new.budget ≡ self.old.budget }
         ensures jobs { self.new.jobs.jobs ≡ self.old.jobs.jobs }
-        ensures events { IfOk result (λ made. OnTrue made (self.new.events ≡ self.old.events + 1)) }
     {
         if self.is_due() {
             self.go_call(table, m)
@@ -391,30 +337,27 @@ impl<S: Service + Drop, W: Worker + Drop> Core<S, W> {
     fn go_call(&mut self, table: &Table, m: &Move) -> Result<bool, NoMemory>
         requires job { is_porter self.old.jobs m.now.who ≡ true }
         requires few { self.old.events < self.old.budget }
+        requires come { IsGoing self.old }
         requires fits { AllFit (map (λ r. r.rule) table.now.list.items) self.old.services.list }
-        ensures made { IfOk result (λ made. OnTrue made (IsCalledMove self.old.jobs (core_at self.old.kernel self.old.services.list self.old.jobs self.old.events) m.now
-            × IsTurned self.old.jobs.jobs (core_at self.old.kernel self.old.services.list self.old.jobs self.old.events) m.now
-            (core_at self.new.kernel self.new.services.list self.new.jobs self.new.events))) }
-        ensures unready { IfOk result (λ made. OnFalse made
-            (IsCalledMove self.old.jobs (core_at self.old.kernel self.old.services.list self.old.jobs self.old.events) m.now → ⊥)) }
-        ensures same { IfOk result (λ made. OnFalse made (core_at self.new.kernel self.new.services.list self.new.jobs self.new.events
-            ≡ core_at self.old.kernel self.old.services.list self.old.jobs self.old.events)) }
-        ensures lacking { OnErr result (core_at self.new.kernel self.new.services.list self.new.jobs self.new.events
-            ≡ core_at self.old.kernel self.old.services.list self.old.jobs self.old.events) }
+        ensures tried { IsTried (IsCalledMove self.old.jobs (run_core self.old) m.now) self.old.jobs.jobs (run_core self.old) m.now (run_core self.new) result }
         ensures fits { AllFit (map (λ r. r.rule) table.now.list.items) self.new.services.list }
         ensures budget { self.new.budget ≡ self.old.budget }
         ensures jobs { self.new.jobs.jobs ≡ self.old.jobs.jobs }
-        ensures events { IfOk result (λ made. OnTrue made (self.new.events ≡ self.old.events + 1)) }
     {
         self.services.reserve()?;
         self.jobs.reserve()?;
-        let Some(ask) = self.jobs.next() else {
+        let next = self.jobs.next();
+        let Some(ask) = &next else {
             return Ok(false);
         };
-        let Some(told) = self.kernel.attempt(m, &ask)? else {
+        let made = self.kernel.attempt(m, ask);
+        let Ok(tried) = &made else {
+            return Err(NoMemory);
+        };
+        let Some(told) = tried else {
             return Ok(false);
         };
-        self.services.hear(table, &told);
+        self.services.hear(table, told);
         tell_jobs(&mut self.jobs, self.events, &told.said);
         self.events += 1;
         self.heard = hearer(&told.said);

@@ -1,14 +1,14 @@
 use Rattle.std.proofs.Common.{arith}
-use Rattle.fk_core.specs.Cores.{core_at}
+use Rattle.fk_core.specs.Cores.{run_core}
 use Rattle.fk_core.proofs.Acting.{no-acts, one-more}
 use Rattle.fk_core.proofs.turns.Core.act_between.Goals as goal
 
 pub loop-at-init : goal.loop-at-init
-loop-at-init g c = no-acts c.args.self.now.jobs (core_at c.args.self.now.kernel c.args.self.now.services.list c.args.self.now.jobs c.args.self.now.events) c.args.from
+loop-at-init g c = no-acts c.args.self.now.jobs (run_core c.args.self.now) c.args.from
 
 pub loop-at-preserved : goal.loop-at-preserved
 loop-at-preserved g c =
-    one-more c.args.self.now.jobs (core_at c.args.self.now.kernel c.args.self.now.services.list c.args.self.now.jobs c.args.self.now.events) c.args.from c.loop-at.at
+    one-more c.args.self.now.jobs (run_core c.args.self.now) c.args.from c.loop-at.at
     c.port.result c.port.ensures c.in_default.ensures.none c.loop-at.invariant
 
 pub returns-clause-none : goal.returns-clause-none

@@ -1,36 +1,38 @@
 use Rattle.std.proofs.Common.{◌≡◌, ◌∙◌, sym, ap, subst, map, Some}
 use Rattle.fk_model.specs.Who.{named}
 use Rattle.fk_store.specs.World.{world}
-use Rattle.fk_core.specs.Cores.{core_at}
-use Rattle.fk_core.specs.Served.{asked, told}
+use Rattle.fk_served.specs.Served.{asked, told}
+use Rattle.fk_served.proofs.Acts.{fit-asked}
+use Rattle.fk_served.proofs.Hearing.{fits-told}
 use Rattle.fk_core.proofs.Asking.{asks_other, others_ready, ready_asked}
-use Rattle.fk_core.proofs.Turning.{fit-asked, turned, fits-told}
+use Rattle.fk_core.proofs.Turning.{turned}
 use Rattle.fk_core.proofs.turns.Core.go_asked.Goals as goal
 
-pub attempt-requires : goal.attempt-requires
-attempt-requires g c =
+pub attempt-made-requires : goal.attempt-made-requires
+attempt-made-requires g c =
     let w = world c.args.self.now.kernel in
-    record { fit = fit-asked _ w c.args.m.now.who c.in-Some.ask (named w c.args.m.now.who) (sym c.ask.ensures.asked ∙ c.in-Some.is) }
+    record { fit = fit-asked _ w c.args.m.now.who c.in-Some.ask (named w c.args.m.now.who) (sym c.ask-asked.ensures.asked ∙ c.in-Some.is) }
 
-pub returns-clause-made : goal.returns-clause-made
-returns-clause-made g c =
+pub returns-clause-tried : goal.returns-clause-tried
+returns-clause-tried g c =
     let self = c.args.self.now in
     let m = self.kernel in
-    let n = c.attempt.new.self in
+    let n = c.attempt-made.new.self in
     let list = self.services.list in
     let ask = c.in-Some.ask in
     let what = c.in-Some-2.told in
-    let made = rw c.in-Some-2.is at c.in_ok-told.ensures.made in
-    let words = rw c.in-Some.is at c.ask.ensures.words in
+    let made = rw c.in-Some-2.is at (rw c.in-Ok.is at c.attempt-made.ensures.made) in
+    let words = rw c.in-Some.is at c.ask-asked.ensures.words in
     let asked_for : asked list (world m) c.args.m.now.who ≡ Some ask =
-    subst (λ l. asked l (world m) c.args.m.now.who ≡ Some ask) c.in_ok-reserve.ensures.same (sym c.ask.ensures.asked ∙ c.in-Some.is) in
+    subst (λ l. asked l (world m) c.args.m.now.who ≡ Some ask) c.in_ok-reserve.ensures.same (sym c.ask-asked.ensures.asked ∙ c.in-Some.is) in
     let asks = asks_other self.jobs (world m) list self.events c.args.m.now.who ask c.requires.other asked_for words in (
       ready_asked self.jobs (world m) list self.events c.args.m.now c.requires.other (others_ready self.jobs (world m) list self.events c.args.m.now (ask, asks, made.0)),
       turned m n list c.hear.new.self.list self.jobs self.events c.args.m.now ask what.said what.ended _ asks made.1
-          (rw c.in-Some-2.is at c.in_ok-told.ensures.ended)
-          (rw c.in-Some-2.is at c.in_ok-told.ensures.told)
+          (rw c.in-Some-2.is at (rw c.in-Ok.is at c.attempt-made.ensures.ended))
+          (rw c.in-Some-2.is at (rw c.in-Ok.is at c.attempt-made.ensures.told))
           (c.hear.ensures ∙ ap (map (told what.said what.ended)) c.in_ok-reserve.ensures.same)
           c.settle.ensures.settles,
+      c.settle.ensures.events,
     )
 
 pub returns-clause-fits : goal.returns-clause-fits

@@ -1,35 +1,38 @@
-use Rattle.std.proofs.Common.{◌≡◌, ◌∙◌, sym, ap, map, Some}
+use Rattle.std.proofs.Common.{◌≡◌, ◌∙◌, sym, ap, map, rules, Some}
 use Rattle.fk_model.specs.Who.{named}
 use Rattle.fk_store.specs.World.{world}
 use Rattle.fk_jobs.specs.Jobs.{Queue, asked_by, state_of}
-use Rattle.fk_jobs.proofs.Plainly.{plain_fits}
-use Rattle.fk_core.specs.Served.{told}
-use Rattle.fk_core.proofs.Turning.{fits-told, hears-jobs, hears-same}
+use Rattle.fk_served.specs.Served.{told}
+use Rattle.fk_served.proofs.Hearing.{fits-told}
+use Rattle.fk_core.proofs.Going.{call_fits}
+use Rattle.fk_core.proofs.Turning.{hears-jobs, hears-same}
 use Rattle.fk_core.proofs.turns.Core.go_call.Goals as goal
 
-pub attempt-requires : goal.attempt-requires
-attempt-requires g c =
-    let w = world c.args.self.now.kernel in
-    record { fit = plain_fits w (named w c.args.m.now.who) c.in-Some.ask (rw c.in-Some.is at c.next.ensures.plain) }
+pub attempt-made-requires : goal.attempt-made-requires
+attempt-made-requires g c =
+    let self = c.args.self.now in
+    record { fit = call_fits self.jobs (world self.kernel) self.services.list self.events self.budget c.args.m.now.who c.in-Some.ask c.requires.come
+      c.requires.few c.requires.job (search rules) }
 
-pub returns-clause-made : goal.returns-clause-made
-returns-clause-made g c =
+pub returns-clause-tried : goal.returns-clause-tried
+returns-clause-tried g c =
     let self = c.args.self.now in
     let m = self.kernel in
-    let n = c.attempt.new.self in
+    let n = c.attempt-made.new.self in
     let list = self.services.list in
     let ask = c.in-Some.ask in
     let what = c.in-Some-2.told in
-    let made = rw c.in-Some-2.is at c.in_ok-told.ensures.made in
+    let made = rw c.in-Some-2.is at (rw c.in-Ok.is at c.attempt-made.ensures.made) in
     let kept = c.reserve-2.ensures in
-    let next : asked_by (state_of c.reserve-2.new.self) ≡ Some ask = sym c.next.ensures.next ∙ c.in-Some.is in
-    hears-same m n list c.hear.new.self.list self.jobs c.reserve-2.new.self c.tell_jobs.new.jobs self.events c.args.m.now ask what.said what.ended _
+    let next : asked_by (state_of c.reserve-2.new.self) ≡ Some ask = sym c.next-next.ensures.next ∙ c.in-Some.is in
+    let both = hears-same m n list c.hear.new.self.list self.jobs c.reserve-2.new.self c.tell_jobs.new.jobs self.events c.args.m.now ask what.said what.ended _
     kept.jobs kept.ends kept.work c.requires.job next made.0 made.1
-    (rw c.in-Some-2.is at c.in_ok-told.ensures.ended)
-    (rw c.in-Some-2.is at c.in_ok-told.ensures.told)
+    (rw c.in-Some-2.is at (rw c.in-Ok.is at c.attempt-made.ensures.ended))
+    (rw c.in-Some-2.is at (rw c.in-Ok.is at c.attempt-made.ensures.told))
     (c.hear.ensures ∙ ap (map (told what.said what.ended)) c.in_ok-reserve.ensures.same)
     c.tell_jobs.ensures
-    c.settle.ensures.settles
+    c.settle.ensures.settles in
+    (both.0, both.1, c.settle.ensures.events)
 
 pub returns-clause-fits : goal.returns-clause-fits
 returns-clause-fits g c = rw (c.settle.ensures.services, c.hear.ensures, c.in_ok-reserve.ensures.same) (fits-told _ _ _ c.args.self.now.services.list c.requires.fits)

@@ -1,17 +1,12 @@
 use Rattle.std.proofs.Common.{◌∙◌, sym}
 use Rattle.fk_store.specs.World.{world}
 use Rattle.fk_core.proofs.Asking.{asked_ready, ready_asked}
-use Rattle.fk_core.proofs.Due.{made_as, unready_as}
+use Rattle.fk_core.proofs.Due.{tried_as}
 use Rattle.fk_core.proofs.turns.Core.go_told.Goals as goal
 
-pub returns-else-is_porter-clause-made : goal.returns-else-is_porter-clause-made
-returns-else-is_porter-clause-made g c =
+pub returns-else-is_porter-clause-tried : goal.returns-else-is_porter-clause-tried
+returns-else-is_porter-clause-tried g c =
     let self = c.args.self.now in
     let other = sym c.is_porter.ensures ∙ c.if-is_porter.false in
-    made_as c.go_asked.result _ _ _ (asked_ready self.jobs (world self.kernel) self.services.list self.events c.args.m.now other) c.go_asked.ensures.made
-
-pub returns-else-is_porter-clause-unready : goal.returns-else-is_porter-clause-unready
-returns-else-is_porter-clause-unready g c =
-    let self = c.args.self.now in
-    let other = sym c.is_porter.ensures ∙ c.if-is_porter.false in
-    unready_as c.go_asked.result _ _ (ready_asked self.jobs (world self.kernel) self.services.list self.events c.args.m.now other) c.go_asked.ensures.unready
+    tried_as c.go_asked.result _ _ _ _ _ _ (asked_ready self.jobs (world self.kernel) self.services.list self.events c.args.m.now other)
+    (ready_asked self.jobs (world self.kernel) self.services.list self.events c.args.m.now other) c.go_asked.ensures.tried

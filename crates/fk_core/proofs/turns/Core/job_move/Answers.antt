@@ -6,5 +6,5 @@ use Rattle.fk_core.proofs.turns.Core.job_move.Goals as goal
 pub returns-else-ready_job-clause-none : goal.returns-else-ready_job-clause-none
 returns-else-ready_job-clause-none g c =
     let self = c.args.self.now in
-    none_ready self.jobs (world self.kernel) self.services.list self.events c.in_ok-who.who c.plainly.ensures (sym c.porter.ensures ∙ c.in_ok-who.was)
+    none_ready self.jobs (world self.kernel) self.services.list self.events c.in_ok-who.who (sym c.porter.ensures ∙ c.in_ok-who.was)
     (λ ready. let yes = c.ready_job.ensures.1 ready in let nay = c.if-ready_job.false in absurd (cc))

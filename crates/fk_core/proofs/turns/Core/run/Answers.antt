@@ -1,6 +1,6 @@
 use Rattle.std.proofs.Common.{◌≡◌, ◌∙◌, ◌∷◌, [], length, Some, refl, ap, subst, arith}
 use Rattle.std.proofs.lemmas.List.{length-append}
-use Rattle.fk_core.specs.Cores.{core_at, IsAdvanced, IsReadyMove, IsTurned}
+use Rattle.fk_core.specs.Cores.{run_core, IsAdvanced, IsReadyMove, IsTurned}
 use Rattle.fk_core.proofs.Histories.{begun, one_more}
 use Rattle.fk_core.proofs.turns.Core.run.Goals as goal
 
@@ -10,19 +10,20 @@ loop-history-init g c = record {
   fits = c.requires.fits;
   budget = refl;
   jobs = refl;
+  come = c.requires.come;
   within = λ few. few;
   events = rw c.new-history.ensures (omega arith);
 }
 
 pub loop-history-preserved : goal.loop-history-preserved
 loop-history-preserved g c =
-    let first = core_at c.args.self.now.kernel c.args.self.now.services.list c.args.self.now.jobs c.args.self.now.events in
+    let first = run_core c.args.self.now in
     let jobs = c.args.self.now.jobs.jobs in
     let same = c.loop-history.invariant.jobs in
     let was = c.loop-history.self in
-    let before = core_at was.kernel was.services.list was.jobs was.events in
+    let before = run_core was in
     let new = c.advance.new.self in
-    let last = core_at new.kernel new.services.list new.jobs new.events in
+    let last = run_core new in
     let made : IsAdvanced was.jobs.jobs was.budget before (Some c.in-Some.m) last = subst (λ o. IsAdvanced was.jobs.jobs was.budget before o last) c.in-Some.is c.in_ok-m.ensures.advanced in
     let below = made.0 in
     let count = made.3 in
@@ -35,6 +36,7 @@ loop-history-preserved g c =
       fits = c.advance.ensures.fits;
       budget = kept ∙ c.loop-history.invariant.budget;
       jobs = c.advance.ensures.jobs ∙ same;
+      come = c.advance.ensures.come;
       within = λ few. omega (arith, below, kept, count);
       events = omega (arith, counted, count, long);
     }
@@ -42,9 +44,9 @@ loop-history-preserved g c =
 pub loop-history-smaller : goal.loop-history-smaller
 loop-history-smaller g c =
     let was = c.loop-history.self in
-    let before = core_at was.kernel was.services.list was.jobs was.events in
+    let before = run_core was in
     let new = c.advance.new.self in
-    let last = core_at new.kernel new.services.list new.jobs new.events in
+    let last = run_core new in
     let made : IsAdvanced was.jobs.jobs was.budget before (Some c.in-Some.m) last = subst (λ o. IsAdvanced was.jobs.jobs was.budget before o last) c.in-Some.is c.in_ok-m.ensures.advanced in
     let below = made.0 in
     let count = made.3 in

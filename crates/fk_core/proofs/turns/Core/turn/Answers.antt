@@ -1,5 +1,5 @@
 use Rattle.fk_store.specs.World.{world}
-use Rattle.fk_core.specs.Cores.{core_at}
+use Rattle.fk_core.specs.Cores.{run_core}
 use Rattle.fk_core.proofs.Cutting.{keeps_cuts, leaves_strangers, of-ready}
 use Rattle.fk_core.proofs.Leaving.{leaves_the_rest}
 use Rattle.fk_core.proofs.turns.Core.turn.Goals as goal
@@ -7,21 +7,20 @@ use Rattle.fk_core.proofs.turns.Core.turn.Goals as goal
 pub returns-clause-cut : goal.returns-clause-cut
 returns-clause-cut g c =
     let old = c.args.self.now in
-    let new = c.go.new.self in
-    keeps_cuts old.jobs (world old.kernel) old.services.list old.events c.args.m.now (core_at new.kernel new.services.list new.jobs new.events) c.plainly.ensures c.requires.ready
-    (of-ready c.in_ok-go.field-0 c.requires.ready c.in_ok-go.ensures.made c.in_ok-go.ensures.unready)
+    keeps_cuts old.jobs (world old.kernel) old.services.list old.events old.budget c.args.m.now (run_core c.go.new.self) c.requires.come c.requires.few
+    c.requires.ready (of-ready c.in_ok-go.field-0 _ _ (run_core c.args.self.now) c.args.m.now (run_core c.go.new.self) c.requires.ready c.in_ok-go.ensures.tried)
 
 pub returns-clause-strangers : goal.returns-clause-strangers
 returns-clause-strangers g c =
     let old = c.args.self.now in
-    let new = c.go.new.self in
-    leaves_strangers old.jobs (world old.kernel) old.services.list old.events c.args.m.now (core_at new.kernel new.services.list new.jobs new.events) c.plainly.ensures c.requires.ready
-    (of-ready c.in_ok-go.field-0 c.requires.ready c.in_ok-go.ensures.made c.in_ok-go.ensures.unready)
+    leaves_strangers old.jobs (world old.kernel) old.services.list old.events old.budget c.args.m.now (run_core c.go.new.self) c.requires.come
+    c.requires.few c.requires.ready (of-ready c.in_ok-go.field-0 _ _ (run_core c.args.self.now) c.args.m.now (run_core c.go.new.self) c.requires.ready c.in_ok-go.ensures.tried)
 
 pub returns-clause-rest : goal.returns-clause-rest
 returns-clause-rest g c =
     let old = c.args.self.now in
-    let new = c.go.new.self in
-    leaves_the_rest old.jobs.jobs (core_at old.kernel old.services.list old.jobs old.events) c.args.m.now
-    (core_at new.kernel new.services.list new.jobs new.events) c.requires.ready
-    (of-ready c.in_ok-go.field-0 c.requires.ready c.in_ok-go.ensures.made c.in_ok-go.ensures.unready)
+    leaves_the_rest old.jobs.jobs (run_core old) c.args.m.now (run_core c.go.new.self) c.requires.ready
+    (of-ready c.in_ok-go.field-0 _ _ (run_core c.args.self.now) c.args.m.now (run_core c.go.new.self) c.requires.ready c.in_ok-go.ensures.tried)
+
+pub returns-clause-turned : goal.returns-clause-turned
+returns-clause-turned g c = of-ready c.in_ok-go.field-0 _ _ (run_core c.args.self.now) c.args.m.now (run_core c.go.new.self) c.requires.ready c.in_ok-go.ensures.tried

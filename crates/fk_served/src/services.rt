@@ -1,10 +1,12 @@
 //! The native servers of a machine, each by its port.
-ghost use Rattle.std.specs.Prelude.{◌≡◌, ◌<◌, true, Some, length, map, option_map, OnOk};
+ghost use Rattle.std.specs.Prelude.{◌≡◌, ◌<◌, true, Some, length, map, option_map, OnOk, IfSome};
 ghost use Rattle.std.specs.List.{slice_get};
-ghost use Rattle.fk_core.specs.Served.{asked_of, serving, told, news_to, after_news, AllFit, shown, HaveRoom};
+ghost use Rattle.fk_model.specs.Whole.{are_words};
+ghost use Rattle.laws_whole.specs.Runnable.{has_all_words};
+ghost use Rattle.fk_served.specs.Served.{asked_of, serving, told, news_to, after_news, gives_words, AllFit, shown, HaveRoom};
 ghost use Rattle.fk_natives.specs.Natives.{DoesFit};
 
-use crate::told::{heard_by, is_telling};
+use crate::told::{heard_by, is_telling, is_told};
 use fk_kernel::Told;
 use fk_model::{Ask, NoMemory, Who};
 use fk_natives::Service;
@@ -22,7 +24,7 @@ pub struct Services<S: Service + Drop> {
 
 impl<S: Service + Drop> Model for Services<S> {
     ghost use Rattle.std.specs.Prelude.{◌≡◌, true, false, not, map};
-    ghost use Rattle.fk_core.specs.Served as served;
+    ghost use Rattle.fk_served.specs.Served as served;
 
     ghost Value = { served.Housed };
 
@@ -43,6 +45,25 @@ fn ask_in<S: Service>(list: &[(Who, S)], who: Who) -> Option<Ask>
     Some(Ask::Run)
 }
 
+/// Each number is a word, as its type says once it is read.
+fn read_numbers(numbers: &[u64])
+    ensures { are_words numbers.now ≡ true }
+{
+    for number in numbers {
+        let _word = *number;
+    }
+}
+
+/// What is given is words.
+fn look_at(ask: &Ask)
+    ensures { gives_words ask.now ≡ true }
+{
+    match ask {
+        Ask::Give { words, .. } => read_numbers(words),
+        _ => {}
+    }
+}
+
 /// Makes room for what each may be told.
 fn reserve_in<S: Service>(list: &mut Vec<(Who, S)>) -> Result<(), NoMemory>
     ensures same { shown S.meaning list.new.items ≡ shown S.meaning list.old.items }
@@ -54,8 +75,9 @@ fn reserve_in<S: Service>(list: &mut Vec<(Who, S)>) -> Result<(), NoMemory>
     Ok(())
 }
 
-/// Tells a server what a move tells it.
-fn tell_one<S: Service>(entry: &mut (Who, S), table: &Table, what: &Told)
+/// Tells a server what a move tells it. What that is takes much room, so it is looked at only where there may be any.
+#[inline(never)]
+fn tell_heard<S: Service>(entry: &mut (Who, S), table: &Table, what: &Told)
     requires fits { DoesFit (map (λ r. r.rule) table.now.list.items) (S.meaning entry.old.1) }
     requires room { S.has_room entry.old.1 ≡ true }
     ensures who { entry.new.0 ≡ entry.old.0 }
@@ -63,6 +85,18 @@ fn tell_one<S: Service>(entry: &mut (Who, S), table: &Table, what: &Told)
 {
     if let Some(heard) = heard_by(what, entry.0) {
         entry.1.absorb(table, &heard);
+    }
+}
+
+/// Tells a server what a move tells it.
+fn tell_one<S: Service>(entry: &mut (Who, S), table: &Table, what: &Told)
+    requires fits { DoesFit (map (λ r. r.rule) table.now.list.items) (S.meaning entry.old.1) }
+    requires room { S.has_room entry.old.1 ≡ true }
+    ensures who { entry.new.0 ≡ entry.old.0 }
+    ensures told { S.meaning entry.new.1 ≡ after_news (news_to what.now.said what.now.ended entry.old.0) (S.meaning entry.old.1) }
+{
+    if is_told(what, entry.0) {
+        tell_heard(entry, table, what);
     }
 }
 
@@ -92,11 +126,16 @@ impl<S: Service + Drop> Services<S> {
         self.list.as_slice()
     }
 
-    /// What the server of a port asks for. Everybody else runs.
+    /// What the server of a port asks for, which is words where it gives any. Everybody else runs.
     pub fn ask(&self, who: Who) -> Option<Ask>
-        ensures { result ≡ asked_of (serving self.now.list who) }
+        ensures asked { result ≡ asked_of (serving self.now.list who) }
+        ensures words { IfSome result (λ ask. has_all_words ask ≡ true) }
     {
-        ask_in(self.list.as_slice(), who)
+        let asked = ask_in(self.list.as_slice(), who);
+        if let Some(ask) = &asked {
+            look_at(ask);
+        }
+        asked
     }
 
     /// Makes room for what each may be told.

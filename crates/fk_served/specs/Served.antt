@@ -20,7 +20,13 @@ use Rattle.fk_model.specs.World.{World}
 use Rattle.fk_natives.specs.Natives as natives
 use Rattle.fk_natives.specs.Natives.{State, News, hears, asks_for, DoesFit}
 use Rattle.fk_store.specs.Names.{same_who}
-use Rattle.fk_kernel.specs.Events.{is_who}
+use Rattle.fk_store.specs.Contents.{Contents}
+use Rattle.fk_store.specs.Moves.{said_by}
+use Rattle.fk_store.specs.Paths.{path}
+use Rattle.fk_store.specs.World.{world}
+use Rattle.fk_plans.specs.Hearers.{says_to, says_to_who}
+use Rattle.fk_kernel.specs.Events.{is_who, step_of}
+use Rattle.laws_frozen.specs.Users.{is_users}
 use Rattle.laws_jobs.specs.Machines.{said_of}
 use Rattle.laws_runs.specs.Cores.{Servers}
 
@@ -46,6 +52,10 @@ asked_at is_port services who = if is_port then asked_of (serving services who) 
 
 abbrev pub asked : Services → World → Who → Option Ask
 asked services w who = asked_at (is_served_port w (At (named w who))) services who
+
+-- it is what users may ask for
+abbrev pub ServersAskAsUsers : Type 0
+ServersAskAsUsers = (services : Services) (w : World) (who : Who) (ask : Ask) → asked services w who ≡ Some ask → is_users ask ≡ true
 
 -- what is given is words
 abbrev pub gives_words : Ask → Bool
@@ -118,3 +128,18 @@ HaveRoom has_room list = All (λ e. has_room e.1 ≡ true) list
 pub record Housed : Type 0 where
   pub list : Services
   pub ready : Bool
+
+-- ---- what is said of it by names is what the machine says by paths
+
+-- where a move's step is known, whose talk it ends, and whom it tells what, each server hears by its name what it hears by its port's path
+abbrev pub HearByNames : Type 0
+HearByNames = (m n : Contents) (e : Event) (said : says_of.Said) (ended : Option Who) →
+    step_of (world m) e ≡ record { world = world n; said = said_by (path n) said } →
+    ((port : Who) → has_ended (world m) (world n) (named (world m) port) ≡ is_who ended port) →
+    ((port : Who) → says_to (step_of (world m) e).said (named (world m) port) ≡ says_to_who said port) →
+    (services : Services) → map (hears_of (world m) e) services ≡ map (told said ended) services
+
+-- what they hear leaves the table fitting
+abbrev pub FitsOnceTold : Type 0
+FitsOnceTold = (rules : List Rule) (said : says_of.Said) (ended : Option Who) (services : Services) → AllFit rules services
+    → AllFit rules (map (told said ended) services)

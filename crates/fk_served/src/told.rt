@@ -1,7 +1,7 @@
 //! What a server hears of a move.
 ghost use Rattle.std.specs.Prelude.{◌≡◌, false, None, option_map};
 ghost use Rattle.fk_model.specs.declared.names.Who as whos;
-ghost use Rattle.fk_core.specs.Served.{said_to, news_to};
+ghost use Rattle.fk_served.specs.Served.{said_to, news_to};
 ghost use Rattle.fk_natives.specs.Natives.{news_of};
 
 use fk_kernel::Told;
@@ -49,4 +49,24 @@ pub fn is_telling(told: &Told) -> bool
     ensures { result ≡ false → (who : whos.Who) → news_to told.now.said told.now.ended who ≡ None }
 {
     told.ended.is_some() || !matches!(told.said, Said::Nothing | Said::Answer(_))
+}
+
+/// Whether what a move says is for the server of a port.
+fn is_said_to(said: &Said, who: Who) -> bool
+    ensures { result ≡ false → said_to said.now who ≡ None }
+{
+    match said {
+        Said::Taken { port, .. } => who == *port,
+        Said::Words { port, .. } => who == *port,
+        Said::Given { port, .. } => who == *port,
+        Said::Over { port } => who == *port,
+        _ => false,
+    }
+}
+
+/// Whether a move may tell the server of this port anything.
+pub fn is_told(told: &Told, who: Who) -> bool
+    ensures { result ≡ false → news_to told.now.said told.now.ended who ≡ None }
+{
+    told.ended == Some(who) || is_said_to(&told.said, who)
 }

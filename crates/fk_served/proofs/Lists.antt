@@ -10,7 +10,7 @@ use Rattle.fk_model.specs.declared.moves.Ask.TheVariants as asks
 use Rattle.fk_natives.specs.Natives.{State, asks_for}
 use Rattle.fk_store.specs.Names.{same_who}
 use Rattle.std.proofs.Math.ListN.{drop_of_length-le}
-use Rattle.fk_core.specs.Served.{Services, shown, told, AllFit, HaveRoom, after_news, news_to, serving, asked_of}
+use Rattle.fk_served.specs.Served.{Services, shown, told, AllFit, HaveRoom, after_news, news_to, serving, asked_of}
 
 -- what is told changes nothing where nobody is told anything
 pub untold : (said : says_of.Said) (ended : Option Who) → ((who : Who) → news_to said ended who ≡ None) → (services : Services) → services ≡ map (told said ended) services

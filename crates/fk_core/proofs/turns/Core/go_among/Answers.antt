@@ -1,0 +1,11 @@
+use Rattle.fk_store.specs.World.{world}
+use Rattle.fk_core.specs.Cores.{run_core}
+use Rattle.fk_core.proofs.Due.{first_further}
+use Rattle.fk_core.proofs.turns.Core.go_among.Goals as goal
+
+pub returns-in-None-clause-first : goal.returns-in-None-clause-first
+returns-in-None-clause-first g c =
+    let self = c.args.self.now in
+    let then = c.go_first.new.self in
+    first_further c.go_further.result self.jobs (world self.kernel) self.services.list self.events self.budget then.jobs.jobs then.budget (run_core then)
+    (run_core c.go_further.new.self) c.go_first.ensures.jobs c.go_first.ensures.budget c.in-None.ensures.advanced c.in-None.ensures.none c.go_further.ensures.advanced
