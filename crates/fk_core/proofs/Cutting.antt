@@ -105,3 +105,8 @@ pub of-ready : (b : Bool) (ready : Type 0) (jobs : List Job) (c : RunCore) (m : 
     IsTried {E = Unit {0}} ready jobs c m d (Ok b) → IsTurned jobs c m d
 of-ready true ready jobs c m d is tried = tried.1
 of-ready false ready jobs c m d is tried = absurd (tried.0 is)
+
+pub of-unready : (b : Bool) (ready : Type 0) (jobs : List Job) (c : RunCore) (m : Move) (d : RunCore) → b ≡ false →
+    IsTried {E = Unit {0}} ready jobs c m d (Ok b) → ready → ⊥
+of-unready true ready jobs c m d is tried = absurd (cc)
+of-unready false ready jobs c m d is tried = tried.0

@@ -24,7 +24,8 @@ use Rattle.fk_jobs.specs.Jobs.{Queue, asked_by, state_of}
 use Rattle.fk_jobs.specs.Turns.{core_of}
 use Rattle.fk_served.specs.Served.{Services, servers}
 use Rattle.fk_served.proofs.Acts.{servers_ask_as_users}
-use Rattle.fk_core.specs.Cores.{RunCore, house, is_porter, IsReadyMove, IsTurned, IsTried, IsAdvanced}
+use Rattle.fk_store.specs.Contents.{Contents}
+use Rattle.fk_core.specs.Cores.{RunCore, house, core_at, is_porter, IsReadyMove, IsTurned, IsTried, IsAdvanced}
 use Rattle.fk_core.specs.Goings.{HasCome}
 use Rattle.fk_core.proofs.Asking.{asks_for}
 
@@ -83,6 +84,15 @@ call_fits q w services events budget who ask come below porter next =
 pub come_same : (jobs more : List Job) (budget other : ℕ) (c d : RunCore) → more ≡ jobs → other ≡ budget → d ≡ c → HasCome jobs budget c → HasCome more other d
 come_same jobs more budget other c d same_jobs same_budget same come =
     subst (λ j. HasCome j other d) (sym same_jobs) (subst (λ b. HasCome jobs b d) (sym same_budget) (subst (HasCome jobs budget) (sym same) come))
+
+pub come_plain : (m n : Contents) (services new : Services) (q r : Queue) (events later budget other : ℕ) → n ≡ m → new ≡ services → r ≡ q →
+    later ≡ events → other ≡ budget → HasCome q.jobs budget (core_at m services q events) → HasCome r.jobs other (core_at n new r later)
+come_plain m n services new q r events later budget other kernel list queue count same come =
+    subst (λ n. HasCome r.jobs other (core_at n new r later)) (sym kernel)
+    (subst (λ v. HasCome r.jobs other (core_at m v r later)) (sym list)
+    (subst (λ k. HasCome r.jobs other (core_at m services r k)) (sym count)
+    (subst (λ r. HasCome r.jobs other (core_at m services r events)) (sym queue)
+    (subst (λ b. HasCome q.jobs b (core_at m services q events)) (sym same) come))))
 
 pub goes_same : (jobs more : List Job) (budget other : ℕ) (c d : RunCore) (m : Move) → more ≡ jobs → other ≡ budget → HasCome jobs budget c →
     IsReadyMove jobs c m → IsTurned jobs c m d → HasCome more other d

@@ -1,6 +1,6 @@
-use Rattle.std.proofs.lemmas.Bool.{OnTrue_at}
+use Rattle.std.proofs.lemmas.Bool.{OnTrue_at, OnFalse_at}
 use Rattle.fk_core.specs.Cores.{run_core}
-use Rattle.fk_core.proofs.Going.{goes_same, tried_goes}
+use Rattle.fk_core.proofs.Going.{come_plain, goes_same, tried_goes}
 use Rattle.fk_core.proofs.turns.Core.go.Goals as goal
 
 pub returns-then-go_plain-clause-tried : goal.returns-then-go_plain-clause-tried
@@ -16,6 +16,11 @@ returns-then-go_plain-clause-come g c =
 
 pub returns-clause-come : goal.returns-clause-come
 returns-clause-come g c =
-    let self = c.go_told.old.self in
-    tried_goes c.go_told.result self.jobs.jobs _ self.budget _ (run_core self) c.args.m.now (run_core c.go_told.new.self) c.go_told.ensures.jobs c.go_told.ensures.budget
-    c.go_told.requires.come c.go_told.ensures.tried
+    let self = c.args.self.now in
+    let then = c.go_plain.new.self in
+    let nay = c.if-go_plain.false in
+    let come = come_plain self.kernel then.kernel self.services.list then.services.list self.jobs then.jobs self.events then.events self.budget then.budget
+    (OnFalse_at nay c.go_plain.ensures.kernel) c.go_plain.ensures.services (OnFalse_at nay c.go_plain.ensures.queue) (OnFalse_at nay c.go_plain.ensures.events)
+    c.go_plain.ensures.budget c.requires.come in
+    tried_goes c.go_told.result then.jobs.jobs _ then.budget _ (run_core then) c.args.m.now (run_core c.go_told.new.self) c.go_told.ensures.jobs
+    c.go_told.ensures.budget come c.go_told.ensures.tried

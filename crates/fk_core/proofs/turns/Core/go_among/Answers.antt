@@ -8,4 +8,5 @@ returns-in-None-clause-first g c =
     let self = c.args.self.now in
     let then = c.go_first.new.self in
     first_further c.go_further.result self.jobs (world self.kernel) self.services.list self.events self.budget then.jobs.jobs then.budget (run_core then)
-    (run_core c.go_further.new.self) c.go_first.ensures.jobs c.go_first.ensures.budget c.in-None.ensures.advanced c.in-None.ensures.none c.go_further.ensures.advanced
+    (run_core c.go_further.new.self) c.go_first.ensures.jobs c.go_first.ensures.budget (rw c.in-None.is at c.in_ok-m.ensures.advanced)
+    (rw c.in-None.is at c.in_ok-m.ensures.none) c.go_further.ensures.advanced

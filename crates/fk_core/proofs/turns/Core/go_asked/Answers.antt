@@ -20,16 +20,16 @@ returns-clause-tried g c =
     let n = c.attempt-made.new.self in
     let list = self.services.list in
     let ask = c.in-Some.ask in
-    let what = c.in-Some-2.told in
-    let made = rw c.in-Some-2.is at (rw c.in-Ok.is at c.attempt-made.ensures.made) in
+    let what = c.in-Some-tried.told in
+    let made = rw c.in-Some-tried.is at (rw c.in-Ok.is at c.attempt-made.ensures.made) in
     let words = rw c.in-Some.is at c.ask-asked.ensures.words in
     let asked_for : asked list (world m) c.args.m.now.who ≡ Some ask =
     subst (λ l. asked l (world m) c.args.m.now.who ≡ Some ask) c.in_ok-reserve.ensures.same (sym c.ask-asked.ensures.asked ∙ c.in-Some.is) in
     let asks = asks_other self.jobs (world m) list self.events c.args.m.now.who ask c.requires.other asked_for words in (
       ready_asked self.jobs (world m) list self.events c.args.m.now c.requires.other (others_ready self.jobs (world m) list self.events c.args.m.now (ask, asks, made.0)),
       turned m n list c.hear.new.self.list self.jobs self.events c.args.m.now ask what.said what.ended _ asks made.1
-          (rw c.in-Some-2.is at (rw c.in-Ok.is at c.attempt-made.ensures.ended))
-          (rw c.in-Some-2.is at (rw c.in-Ok.is at c.attempt-made.ensures.told))
+          (rw c.in-Some-tried.is at (rw c.in-Ok.is at c.attempt-made.ensures.ended))
+          (rw c.in-Some-tried.is at (rw c.in-Ok.is at c.attempt-made.ensures.told))
           (c.hear.ensures ∙ ap (map (told what.said what.ended)) c.in_ok-reserve.ensures.same)
           c.settle.ensures.settles,
       c.settle.ensures.events,

@@ -11,8 +11,10 @@ use Rattle.fk_core.proofs.turns.Core.go_call.Goals as goal
 pub attempt-made-requires : goal.attempt-made-requires
 attempt-made-requires g c =
     let self = c.args.self.now in
-    record { fit = call_fits self.jobs (world self.kernel) self.services.list self.events self.budget c.args.m.now.who c.in-Some.ask c.requires.come
-      c.requires.few c.requires.job (search rules) }
+    record {
+      fit = call_fits self.jobs (world self.kernel) self.services.list self.events self.budget c.args.m.now.who c.in-Some.ask c.requires.come
+          c.requires.few c.requires.job (search rules);
+    }
 
 pub returns-clause-tried : goal.returns-clause-tried
 returns-clause-tried g c =
@@ -21,14 +23,14 @@ returns-clause-tried g c =
     let n = c.attempt-made.new.self in
     let list = self.services.list in
     let ask = c.in-Some.ask in
-    let what = c.in-Some-2.told in
-    let made = rw c.in-Some-2.is at (rw c.in-Ok.is at c.attempt-made.ensures.made) in
+    let what = c.in-Some-tried.told in
+    let made = rw c.in-Some-tried.is at (rw c.in-Ok.is at c.attempt-made.ensures.made) in
     let kept = c.reserve-2.ensures in
     let next : asked_by (state_of c.reserve-2.new.self) ≡ Some ask = sym c.next-next.ensures.next ∙ c.in-Some.is in
     let both = hears-same m n list c.hear.new.self.list self.jobs c.reserve-2.new.self c.tell_jobs.new.jobs self.events c.args.m.now ask what.said what.ended _
     kept.jobs kept.ends kept.work c.requires.job next made.0 made.1
-    (rw c.in-Some-2.is at (rw c.in-Ok.is at c.attempt-made.ensures.ended))
-    (rw c.in-Some-2.is at (rw c.in-Ok.is at c.attempt-made.ensures.told))
+    (rw c.in-Some-tried.is at (rw c.in-Ok.is at c.attempt-made.ensures.ended))
+    (rw c.in-Some-tried.is at (rw c.in-Ok.is at c.attempt-made.ensures.told))
     (c.hear.ensures ∙ ap (map (told what.said what.ended)) c.in_ok-reserve.ensures.same)
     c.tell_jobs.ensures
     c.settle.ensures.settles in
