@@ -1,5 +1,6 @@
 -- Acts of servers: which there are, and that there are no others.
-use Rattle.std.proofs.Common.{◌≡◌, ℕ, suc, ◌+◌, ◌<◌, Bool, true, false, if◌then◌else◌, nat_lt, List, [], ◌∷◌, length, Option, Some, None, option_map, IfNone, IfSome, refl, sym, ap, subst, ◌∙◌, arith}
+use Rattle.std.proofs.Common.{◌≡◌, ℕ, ◌+◌, ◌<◌, Bool, true, false, if◌then◌else◌, nat_lt, length, Option, Some, None, option_map, IfNone, IfSome, refl, sym}
+use Rattle.std.proofs.Common.{ap, subst, ◌∙◌, arith}
 use Rattle.std.proofs.lemmas.Bool.{ltb-false}
 use Rattle.std.proofs.lemmas.Bool.Decides.{Decides-ltb}
 use Rattle.std.specs.List.{slice_get}
@@ -14,18 +15,10 @@ use Rattle.fk_model.specs.Places.{Path}
 use Rattle.fk_model.specs.Who.{named, event_of}
 use Rattle.fk_model.specs.World.{World}
 use Rattle.laws_jobs.specs.Machines.{IsReadyAt}
-use Rattle.fk_model.specs.declared.stage.Stage.{Stage}
-use Rattle.fk_model.specs.Moves.{user_move}
-use Rattle.fk_model.specs.Objects.{Body}
-use Rattle.fk_model.specs.Objects.Body.{Thread_of, Port}
 use Rattle.fk_model.specs.Places.Ptr.{At}
 use Rattle.fk_model.specs.Valid.{is_served_port}
-use Rattle.fk_natives.specs.declared.service.Side.TheVariants as sides
-use Rattle.fk_natives.specs.Natives.{State, OfConsole, OfServer, asks_for, gives_left}
-use Rattle.fk_store.specs.Names.{same_who}
-use Rattle.fk_store_tables.proofs.NameLaws.{same_who_eq}
+use Rattle.fk_natives.specs.Natives.{State}
 use Rattle.laws_runs.specs.Cores.{IsOtherReady}
-use Rattle.laws_whole.specs.Runnable.{has_all_words}
 use Rattle.fk_kernel.specs.declared.kernel.Look.{Look}
 use Rattle.fk_kernel.specs.declared.kernel.Look.TheVariants.{Found, Passed, Nobody}
 use Rattle.fk_kernel.specs.Events.{IsAcceptReady, IsLooked, IsReadyBesides, is_who}
@@ -33,7 +26,7 @@ use Rattle.fk_store.specs.Contents.{Contents}
 use Rattle.fk_store.specs.World.{world}
 use Rattle.fk_jobs.specs.Jobs.{Queue, current}
 use Rattle.fk_jobs.specs.Turns.{core_of}
-use Rattle.fk_served.specs.Served.{Services, serving, asked, asked_of, gives_words}
+use Rattle.fk_served.specs.Served.{Services, serving, asked, asked_of}
 use Rattle.fk_core.specs.Cores.{RunCore, house, core_at, is_act, is_porter, porter_of, IsOthersMove, HasNoAct, HaveNoActs, IsFound}
 use Rattle.fk_served.proofs.Acts.{found, never-calls, runs}
 use Rattle.fk_core.proofs.Asking.{IsAsked, asked_other, other_name, runs_move, others_ready}
@@ -64,7 +57,8 @@ no-act c port ask is other unready m asked_for who asks_it act ready = by m.pick
 
     there : (pick : Option Who) → m.pick ≡ pick → IsReadyAt c.world (event_of c.world ask (record { who = port; pick = pick }))
     there pick e =
-        let whole : IsReadyAt c.world (event_of c.world ask (record { who = m.who; pick = m.pick })) = subst (λ a. IsReadyAt c.world (event_of c.world a m)) same ready in
+        let whole : IsReadyAt c.world (event_of c.world ask (record { who = m.who; pick = m.pick })) = subst
+        (λ a. IsReadyAt c.world (event_of c.world a m)) same ready in
         subst (λ k. IsReadyAt c.world (event_of c.world ask (record { who = k; pick = pick }))) who
         (subst (λ p. IsReadyAt c.world (event_of c.world ask (record { who = m.who; pick = p }))) e whole)
 
@@ -73,7 +67,8 @@ no-act c port ask is other unready m asked_for who asks_it act ready = by m.pick
     by (Some p) e =
         unpicked-ready c.world (named c.world port) (named c.world p) ask (subst (λ a. is_act a ≡ true) same act) other (there (Some p) e)
 
-pub no-accept : (c : RunCore) (port : Who) → asked c.servers c.world port ≡ Some asks.Accept → (IsAcceptReady c.world (named c.world port) → ⊥) → HasNoAct c port
+pub no-accept : (c : RunCore) (port : Who) → asked c.servers c.world port ≡ Some asks.Accept → (IsAcceptReady c.world (named c.world port) → ⊥)
+    → HasNoAct c port
 no-accept c port is none m ask who asks_it act ready = none (option_map (named c.world) m.pick, there)
   where
     same : ask ≡ asks.Accept
@@ -108,7 +103,8 @@ one-more q c from at port is none before k served low high there other = by (nat
     by true e = before k served low ((Decides-ltb k at).0 e) there other
     by false e =
         let here : k ≡ at = least k at high (λ less. let no = (Decides-ltb k at).1 less in cc) in
-        let name : Some served.0 ≡ Some port = sym (ap (option_map (λ (s : Who × State). s.0)) (subst (λ j. slice_get c.servers j ≡ Some served) here there)) ∙ is in
+        let name : Some served.0 ≡ Some port = sym (ap (option_map (λ (s : Who × State). s.0)) (subst (λ j. slice_get c.servers j ≡ Some served) here there))
+        ∙ is in
         let same : served.0 ≡ port = cc in
         subst (HasNoAct c) (sym same) (none (subst (λ w. is_porter q w ≡ false) same other))
 

@@ -147,7 +147,8 @@ module _ (q : Queue) (w : World) (services : Services) (events : ℕ) where
   idle_job m is none ready =
       subst (IsReadyBy (house q.jobs) (core_of w services q events) m) (as_job m.who is ∙ idle_work events q.work (first_of q.ends (current q)) none) ready
 
-  pub undue_job : (m : Move) → is_porter q m.who ≡ true → (IsDue q.jobs (core_of w services q events) → ⊥) → IsReadyMove q.jobs (core_of w services q events) m → ⊥
+  pub undue_job : (m : Move) → is_porter q m.who ≡ true → (IsDue q.jobs (core_of w services q events) → ⊥)
+      → IsReadyMove q.jobs (core_of w services q events) m → ⊥
   undue_job m is undue ready = by (asked_by (state_of q)) refl
     where
       by : (o : Option Ask) → asked_by (state_of q) ≡ o → ⊥
@@ -210,13 +211,15 @@ module _ (q : Queue) (w : World) (services : Services) (events : ℕ) where
   asks_other who ask other is words = as_other who other ∙ ap others_ask is ∙ ap (λ (b : Bool). if b then Others ask else Nobody) words
 
   -- as whom a move is ready that is none of a job
-  pub asked_is : (m : Move) → is_porter q m.who ≡ false → IsReadyMove q.jobs (core_of w services q events) m ≡ IsAskedMove q.jobs (core_of w services q events) m
+  pub asked_is : (m : Move) → is_porter q m.who ≡ false
+      → IsReadyMove q.jobs (core_of w services q events) m ≡ IsAskedMove q.jobs (core_of w services q events) m
   asked_is m other = ap (IsReadyBy (house q.jobs) (core_of w services q events) m) (as_other m.who other)
 
   pub others_ready : (m : Move) → IsOthersMove q.jobs (core_of w services q events) m → IsReadyMove q.jobs (core_of w services q events) m
   others_ready m is = subst (IsReadyBy (house q.jobs) (core_of w services q events) m) (sym is.1) is.2
 
-  pub ready_other : (m : Move) → is_porter q m.who ≡ false → IsReadyMove q.jobs (core_of w services q events) m → IsOthersMove q.jobs (core_of w services q events) m
+  pub ready_other : (m : Move) → is_porter q m.who ≡ false → IsReadyMove q.jobs (core_of w services q events) m
+      → IsOthersMove q.jobs (core_of w services q events) m
   ready_other m other ready = by (asked services w m.who) refl
     where
       by : (o : Option Ask) → asked services w m.who ≡ o → IsOthersMove q.jobs (core_of w services q events) m
@@ -231,13 +234,16 @@ module _ (q : Queue) (w : World) (services : Services) (events : ℕ) where
               absurd (subst (IsReadyBy (house q.jobs) (core_of w services q events) m)
               (as_other m.who other ∙ ap others_ask e ∙ ap (λ (b : Bool). if b then Others ask else Nobody) words) ready)
 
-  pub ready_asked : (m : Move) → is_porter q m.who ≡ false → IsReadyMove q.jobs (core_of w services q events) m → IsAskedMove q.jobs (core_of w services q events) m
+  pub ready_asked : (m : Move) → is_porter q m.who ≡ false → IsReadyMove q.jobs (core_of w services q events) m
+      → IsAskedMove q.jobs (core_of w services q events) m
   ready_asked m other ready = subst (λ (T : Type 0). T) (asked_is m other) ready
 
-  pub asked_ready : (m : Move) → is_porter q m.who ≡ false → IsAskedMove q.jobs (core_of w services q events) m → IsReadyMove q.jobs (core_of w services q events) m
+  pub asked_ready : (m : Move) → is_porter q m.who ≡ false → IsAskedMove q.jobs (core_of w services q events) m
+      → IsReadyMove q.jobs (core_of w services q events) m
   asked_ready m other is = subst (λ (T : Type 0). T) (sym (asked_is m other)) is
 
-  pub others_move : (m : Move) → is_porter q m.who ≡ false → IsAskedMove q.jobs (core_of w services q events) m → IsOthersMove q.jobs (core_of w services q events) m
+  pub others_move : (m : Move) → is_porter q m.who ≡ false → IsAskedMove q.jobs (core_of w services q events) m
+      → IsOthersMove q.jobs (core_of w services q events) m
   others_move m other is = ready_other m other (subst (λ (T : Type 0). T) (sym (asked_is m other)) is)
 
   pub runs_move : (m : Move) → is_porter q m.who ≡ false → asked services w m.who ≡ Some asks.Run → IsReadyAt w (event_of w asks.Run m) →

@@ -1,6 +1,5 @@
 -- Cutting: what a turn does to plain subtrees.
-use Rattle.std.proofs.Common.{◌≡◌, ◌⊎◌, ℕ, ◌<◌, Bool, true, false, if◌then◌else◌, List, [], ◌∷◌, Option, Some, None, Ok, inl, inr, refl, sym, ap, subst, ◌∙◌}
-use Rattle.fk_model.specs.declared.moves.Ask.{Ask}
+use Rattle.std.proofs.Common.{◌≡◌, ℕ, ◌<◌, Bool, true, false, List, [], ◌∷◌, Ok, inl, inr, refl, sym, subst, ◌∙◌}
 use Rattle.fk_model.specs.declared.moves.Ask.TheVariants as asks
 use Rattle.fk_model.specs.declared.moves.Move.{Move}
 use Rattle.fk_model.specs.Cut.{cut, IsPlain}
@@ -47,12 +46,14 @@ job-world : (jobs : List Job) (c : RunCore) (e : Event) (begun : ℕ) (t : State
 job-world jobs c e begun t (Asks stage words) = refl
 job-world jobs c e begun t (Stops end) = refl
 
-made : (q : Queue) (w : World) (services : Services) (events budget : ℕ) (m : Move) (d : RunCore) (e : Event) → HasCome q.jobs budget (core_of w services q events) → events < budget →
+made : (q : Queue) (w : World) (services : Services) (events budget : ℕ) (m : Move) (d : RunCore) (e : Event)
+    → HasCome q.jobs budget (core_of w services q events) → events < budget →
     IsReadyMove q.jobs (core_of w services q events) m → IsTurned q.jobs (core_of w services q events) m d → IsEvent q.jobs (core_of w services q events) m e →
     IsMade (core_of w services q events) d e
 made q w services events budget m d e come below ready turned is = at (asker (house q.jobs) (core_of w services q events) m.who) refl ready turned is
   where
-    at : (a : Asker State) → asker (house q.jobs) (core_of w services q events) m.who ≡ a → IsReadyBy (house q.jobs) (core_of w services q events) m a → Settles (house q.jobs) (moved_by (house q.jobs) (core_of w services q events) m a) d →
+    at : (a : Asker State) → asker (house q.jobs) (core_of w services q events) m.who ≡ a → IsReadyBy (house q.jobs) (core_of w services q events) m a
+        → Settles (house q.jobs) (moved_by (house q.jobs) (core_of w services q events) m a) d →
         event_by w m a ≡ e ∷ [] → IsMade (core_of w services q events) d e
     at Nobody by_whom ready settles is = absurd ready
     at (Others ask) by_whom ready settles is =
@@ -81,14 +82,16 @@ has-done w v e nester slot Other goes sees done = tt
 
 pub keeps_cuts : (q : Queue) (w : World) (services : Services) (events budget : ℕ) (m : Move) (d : RunCore) →
     HasCome q.jobs budget (core_of w services q events) → events < budget →
-    IsReadyMove q.jobs (core_of w services q events) m → IsTurned q.jobs (core_of w services q events) m d → KeepsCuts q.jobs (core_of w services q events) m d.world
+    IsReadyMove q.jobs (core_of w services q events) m → IsTurned q.jobs (core_of w services q events) m d
+    → KeepsCuts q.jobs (core_of w services q events) m d.world
 keeps_cuts q w services events budget m d come below ready turned whole e is nester slot seen plain sees =
     let turn = made q w services events budget m d e come below ready turned is in
     has-done w d.world e nester slot seen turn.goes sees (event_keeps w nester slot e whole plain turn.fit turn.ready seen sees)
 
 pub leaves_strangers : (q : Queue) (w : World) (services : Services) (events budget : ℕ) (m : Move) (d : RunCore) →
     HasCome q.jobs budget (core_of w services q events) → events < budget →
-    IsReadyMove q.jobs (core_of w services q events) m → IsTurned q.jobs (core_of w services q events) m d → LeavesStrangers q.jobs (core_of w services q events) m d.world
+    IsReadyMove q.jobs (core_of w services q events) m → IsTurned q.jobs (core_of w services q events) m d
+    → LeavesStrangers q.jobs (core_of w services q events) m d.world
 leaves_strangers q w services events budget m d come below ready turned whole e is nester slot plain none stranger = by stranger
   where
     turn : IsMade (core_of w services q events) d e

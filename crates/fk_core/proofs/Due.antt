@@ -1,18 +1,18 @@
 -- Due: when a job is, and which end without a move.
-use Rattle.std.proofs.Common.{◌≡◌, ◌⊎◌, ◌↔◌, ℕ, ◌≤◌, ◌<◌, ◌%◌, ◌==◌, ◌&&◌, Bool, true, false, not, nat_le, nat_lt, IsTrue, IsSome, IfSome, IfNone, List, Option, Some, None, option_map, is_some, Result, Ok, Err, IfOk, inl, inr, refl, sym, ap, subst, ◌∙◌}
-use Rattle.std.specs.Bool.{OnTrue, OnFalse}
+use Rattle.std.proofs.Common.{◌≡◌, ◌↔◌, ℕ, ◌≤◌, ◌<◌, ◌%◌, ◌==◌, ◌&&◌, Bool, true, false, not, nat_lt, IsTrue, IsSome, IfSome, IfNone, List, Option, Some}
+use Rattle.std.proofs.Common.{None, is_some, Result, Ok, Err, IfOk, inl, inr, refl, sym, ap, subst, ◌∙◌}
 use Rattle.std.proofs.lemmas.Bool.Decides.{Decides-ltb}
 use Rattle.std.proofs.lemmas.Bool.{leb-true, le-leb}
 use Rattle.fk_model.specs.declared.moves.Move.{Move}
 use Rattle.fk_model.specs.Places.{Path}
 use Rattle.fk_model.specs.Searches.{depth}
-use Rattle.fk_model.specs.Valid.{IsValid, birth_at}
+use Rattle.fk_model.specs.Valid.{IsValid}
 use Rattle.fk_model.specs.Who.{space_born}
 use Rattle.fk_model.specs.World.{World}
 use Rattle.fk_store.specs.Contents.{Contents}
 use Rattle.fk_store.specs.Paths.{path}
 use Rattle.fk_store.specs.World.{world, IsSpace}
-use Rattle.laws_house.specs.Houses.{Job, State, End, begins}
+use Rattle.laws_house.specs.Houses.{Job, State, begins}
 use Rattle.laws_runs.specs.Cores.{Work, Unmoved, IsGone, IsDueNow, IsOtherReady, EndsFor, EndsNow}
 use Rattle.laws_runs.specs.Cores.Unmoved.{NoImage, Dead}
 use Rattle.laws_runs.proofs.Named.{named_is}
@@ -134,7 +134,8 @@ module _ (q : Queue) (w : World) (services : Services) (events : ℕ) where
       IfSome chosen (λ m. (events < budget) × IsReadyMove q.jobs (core_of w services q events) m) → IsFirstDue q budget (core_of w services q events) chosen
   chosen_first budget chosen none some even few m porter ready = by (is_timely q events) refl chosen some
     where
-      by : (b : Bool) → is_timely q events ≡ b → (chosen : Option Move) → IfSome chosen (λ m. (events < budget) × IsReadyMove q.jobs (core_of w services q events) m) →
+      by : (b : Bool) → is_timely q events ≡ b → (chosen : Option Move)
+          → IfSome chosen (λ m. (events < budget) × IsReadyMove q.jobs (core_of w services q events) m) →
           IfSome chosen (λ m. is_porter q m.who ≡ true)
       by true e chosen some = absurd (none (come e) m porter ready)
         where

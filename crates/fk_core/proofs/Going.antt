@@ -1,5 +1,6 @@
 -- Going on: a core that a run has come to goes on by a move, and what its jobs ask for is fit.
-use Rattle.std.proofs.Common.{◌≡◌, ℕ, ◌+◌, ◌<◌, ◌≤◌, Bool, true, false, List, [], ◌∷◌, ◌++◌, length, Option, Some, None, Result, Ok, Err, IfOk, OnErr, refl, sym, subst, ◌∙◌, arith}
+use Rattle.std.proofs.Common.{◌≡◌, ℕ, ◌+◌, ◌<◌, ◌≤◌, Bool, true, false, List, [], ◌∷◌, ◌++◌, length, Option, Some, None, Result, Ok, Err, IfOk, OnErr, refl}
+use Rattle.std.proofs.Common.{sym, subst, arith}
 use Rattle.std.proofs.lemmas.List.{length-append}
 use Rattle.fk_model.specs.declared.moves.Ask.{Ask}
 use Rattle.fk_model.specs.declared.moves.Ask.TheVariants as asks
@@ -15,7 +16,6 @@ use Rattle.laws_house.specs.Houses.{Job, State, End, machine}
 use Rattle.laws_house.proofs.Fitting.{jobs_ask_fitly}
 use Rattle.laws_jobs.specs.Machines.{Head, heard, said_of}
 use Rattle.laws_jobs.specs.Machines.Head.{Stops, Asks}
-use Rattle.laws_runs.specs.Composed.{AskAsUsers}
 use Rattle.laws_runs.specs.Cores.{Asker, IsRun, IsReadyBy, Settles, asker, job_moved, moved_by, with_end}
 use Rattle.laws_runs.specs.Cores.Asker.{Nobody, Others, Job as OfJob}
 use Rattle.laws_runs.specs.Cores.IsRun.{Begins, Goes}
@@ -54,7 +54,8 @@ counted jobs first _ _ (Goes past c m d run ready settles) none =
     let longer : length (past ++ m ∷ []) ≡ length past + 1 = length-append past (m ∷ []) in
     omega (arith, before, one, same, longer)
 
-pub goes_on : (jobs : List Job) (budget : ℕ) (c d : RunCore) (m : Move) → HasCome jobs budget c → IsReadyMove jobs c m → IsTurned jobs c m d → HasCome jobs budget d
+pub goes_on : (jobs : List Job) (budget : ℕ) (c d : RunCore) (m : Move) → HasCome jobs budget c → IsReadyMove jobs c m → IsTurned jobs c m d
+    → HasCome jobs budget d
 goes_on jobs budget c d m come ready turned = record {
   first = come.first;
   past = come.past ++ m ∷ [];
@@ -72,7 +73,8 @@ job_fits jobs budget c come below who begun s stage words asks =
     let few : come.first.world.next + length come.past ≤ depth = (let enough = come.few in omega (arith, long, enough, below)) in
     (jobs_ask_fitly jobs servers come.first c come.past come.run servers_ask_as_users come.slots come.start few who begun s stage words asks).0
 
-pub call_fits : (q : Queue) (w : World) (services : Services) (events budget : ℕ) (who : Who) (ask : Ask) → HasCome q.jobs budget (core_of w services q events) →
+pub call_fits : (q : Queue) (w : World) (services : Services) (events budget : ℕ) (who : Who) (ask : Ask)
+    → HasCome q.jobs budget (core_of w services q events) →
     events < budget → is_porter q who ≡ true → asked_by (state_of q) ≡ Some ask → is_fit w (named w who) ask ≡ true
 call_fits q w services events budget who ask come below porter next =
     let found = asks_for q w services events who ask porter next in
@@ -105,12 +107,14 @@ come_tried (Ok true) jobs budget c m d come tried = goes_on jobs budget c d m co
 come_tried (Ok false) jobs budget c m d come tried = subst (HasCome jobs budget) (sym tried.1) come
 come_tried (Err e) jobs budget c m d come tried = subst (HasCome jobs budget) (sym tried) come
 
-pub tried_goes : {E : Type 0} (r : Result Bool E) (jobs more : List Job) (budget other : ℕ) (c : RunCore) (m : Move) (d : RunCore) → more ≡ jobs → other ≡ budget →
+pub tried_goes : {E : Type 0} (r : Result Bool E) (jobs more : List Job) (budget other : ℕ) (c : RunCore) (m : Move) (d : RunCore) → more ≡ jobs
+    → other ≡ budget →
     HasCome jobs budget c → IsTried (IsReadyMove jobs c m) jobs c m d r → HasCome more other d
 tried_goes r jobs more budget other c m d same_jobs same_budget come tried =
     come_same jobs more budget other d d same_jobs same_budget refl (come_tried r jobs budget c m d come tried)
 
-come_made : (made : Option Move) (jobs : List Job) (budget : ℕ) (c d : RunCore) → HasCome jobs budget c → IsAdvanced jobs budget c made d → HasCome jobs budget d
+come_made : (made : Option Move) (jobs : List Job) (budget : ℕ) (c d : RunCore) → HasCome jobs budget c → IsAdvanced jobs budget c made d
+    → HasCome jobs budget d
 come_made None jobs budget c d come same = subst (HasCome jobs budget) (sym same) come
 come_made (Some m) jobs budget c d come made = goes_on jobs budget c d m come made.1 made.2
 

@@ -4,7 +4,6 @@ use Rattle.std.proofs.lemmas.Bool.{le-leb, lt-leb, le-ltb}
 use Rattle.std.proofs.lemmas.List.{length-append}
 use Rattle.fk_model.specs.declared.moves.Move.{Move}
 use Rattle.fk_model.specs.declared.stage.Stage.{Stage}
-use Rattle.fk_model.specs.World.{World}
 use Rattle.laws_checkpoint.specs.Laws.{IsSameBeside}
 use Rattle.laws_house.specs.Houses.{Job, State}
 use Rattle.laws_house.specs.Houses.State.{Checking, Restoring}

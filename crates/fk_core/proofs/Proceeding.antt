@@ -1,6 +1,5 @@
 -- Proceeding: an instruction is a turn, and one move after another.
-use Rattle.std.proofs.Common.{◌≡◌, ℕ, ◌+◌, ◌<◌, Bool, true, false, if◌then◌else◌, length, map, is_some, Option, Some, None, option_map, Result, Ok, Err, IfOk, IfNone, OnErr, refl, sym, ap, subst, ◌∙◌}
-use Rattle.std.specs.Bool.{OnTrue}
+use Rattle.std.proofs.Common.{◌≡◌, ℕ, ◌+◌, ◌<◌, false, length, is_some, Option, Some, None, refl, sym, ap, ◌∙◌}
 use Rattle.std.specs.List.{slice_get}
 use Rattle.fk_model.specs.declared.moves.Ask.TheVariants as asks
 use Rattle.fk_model.specs.declared.moves.Move.{Move}
@@ -12,14 +11,13 @@ use Rattle.fk_model.specs.Outcomes.Said.{Nothing}
 use Rattle.fk_model.specs.Who.{named, event_of}
 use Rattle.fk_store.specs.Contents.{Contents}
 use Rattle.fk_store.specs.World.{world}
-use Rattle.laws_jobs.specs.Machines.{IsReadyAt}
 use Rattle.laws_runs.specs.Cores.{Settles}
 use Rattle.laws_runs.specs.Cores.Settles.{Stays}
 use Rattle.fk_jobs.specs.Jobs.{Queue, current}
 use Rattle.fk_kernel.specs.Events.{IsReadyEvent, is_who, step_of}
 use Rattle.fk_plans.specs.Hearers.{says_to, says_to_who}
-use Rattle.fk_served.specs.Served.{Services, told}
-use Rattle.fk_core.specs.Cores.{RunCore, house, core_at, porter_of, is_porter, IsReadyMove, IsTurned, IsAdvanced, IsOver}
+use Rattle.fk_served.specs.Served.{Services}
+use Rattle.fk_core.specs.Cores.{RunCore, house, core_at, porter_of, is_porter, IsAdvanced}
 use Rattle.fk_served.proofs.Acts.{runs}
 use Rattle.fk_core.proofs.Asking.{asks_other, others_ready}
 use Rattle.fk_served.proofs.Lists.{untold}
@@ -36,16 +34,19 @@ proceeded m n services q budget events who d few other made ends settles count =
     let as_others = asks_other q (world m) services events who asks.Run other (runs services (world m) who None made.0) refl in (
       few,
       others_ready q (world m) services events mv (asks.Run, as_others, made.0),
-      turned m n services services q events mv asks.Run says.Nothing None d as_others made.1 ends tells (untold says.Nothing None (λ who. refl) services) settles,
+      turned m n services services q events mv asks.Run says.Nothing None d as_others made.1 ends tells
+          (untold says.Nothing None (λ who. refl) services) settles,
       count,
     )
   where
-    tells : (port : Who) → says_to (step_of (world m) (event_of (world m) asks.Run (record { who = who; pick = None }))).said (named (world m) port) ≡ says_to_who says.Nothing port
+    tells : (port : Who) → says_to (step_of (world m) (event_of (world m) asks.Run (record { who = who; pick = None }))).said (named (world m) port)
+        ≡ says_to_who says.Nothing port
     tells port = ap (λ (s : Step). says_to s.said (named (world m) port)) made.1
 
 -- where no job is left nothing settles
 pub none-left : (q : Queue) (c : RunCore) → c.ends ≡ q.ends → current q ≡ None → Settles (house q.jobs) c c
-none-left q c same none = Stays c (λ why ends. let over : Some ends.job ≡ None = sym ends.its ∙ ap (λ e. slice_get q.jobs (length e)) same ∙ none in absurd (cc))
+none-left q c same none = Stays c (λ why ends. let over : Some ends.job ≡ None = sym ends.its ∙ ap (λ e. slice_get q.jobs (length e)) same ∙ none in
+    absurd (cc))
 
 pub no-porter : (q : Queue) (who : Who) → current q ≡ None → is_porter q who ≡ false
 no-porter q who none = ap (λ o. is_who (porter_of o) who) none

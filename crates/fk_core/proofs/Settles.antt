@@ -1,13 +1,12 @@
 -- Settling goes on, and ends.
-use Rattle.std.proofs.Common.{◌≡◌, ℕ, ◌+◌, ◌-◌, ◌<◌, List, ◌∷◌, ◌++◌, length, Option, Some, None, IfNone, refl, sym, ap, subst, ◌∙◌, arith}
-use Rattle.std.specs.List.{slice_get}
+use Rattle.std.proofs.Common.{◌≡◌, ℕ, ◌+◌, ◌-◌, ◌<◌, List, length, Option, Some, None, IfNone, refl, sym, ap, subst, ◌∙◌, arith}
 use Rattle.std.proofs.lemmas.List.{length-append}
 use Rattle.std.proofs.lemmas.Option.{slice_get_within}
 use Rattle.fk_model.specs.World.{World}
 use Rattle.laws_runs.specs.Cores.{Settles, Unmoved, EndsNow}
 use Rattle.laws_runs.specs.Cores.Settles.{Stays, Ends}
 use Rattle.laws_house.specs.Houses.{Job}
-use Rattle.fk_jobs.specs.Jobs.{Queue, current, with_idle}
+use Rattle.fk_jobs.specs.Jobs.{Queue, with_idle}
 use Rattle.fk_jobs.specs.Turns.{core_of}
 use Rattle.fk_served.specs.Served.{Services}
 use Rattle.fk_core.specs.Cores.{RunCore, house}

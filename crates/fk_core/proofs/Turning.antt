@@ -1,24 +1,16 @@
 -- A turn: what a move tells by names is what the machine tells by paths.
-use Rattle.std.proofs.Common.{◌≡◌, ℕ, ◌+◌, Bool, true, false, if◌then◌else◌, List, [], ◌∷◌, length, map, Option, Some, None, refl, sym, ap, subst, ◌∙◌}
+use Rattle.std.proofs.Common.{◌≡◌, ℕ, ◌+◌, true, List, length, map, Option, Some, None, refl, sym, ap, subst, ◌∙◌}
 use Rattle.fk_model.specs.declared.moves.Ask.{Ask}
 use Rattle.fk_model.specs.declared.moves.Ask.TheVariants as asks
 use Rattle.fk_model.specs.declared.moves.Move.{Move}
-use Rattle.fk_model.specs.declared.moves.Rule.{Rule}
 use Rattle.fk_model.specs.declared.moves.Said as says_of
 use Rattle.fk_model.specs.declared.moves.Said.TheVariants as says
 use Rattle.fk_model.specs.declared.names.Who.{Who}
-use Rattle.fk_model.specs.declared.thread.Turn.TheVariants as turns
 use Rattle.fk_model.specs.Endings.{has_ended}
 use Rattle.fk_model.specs.Moves.{Step}
 use Rattle.fk_model.specs.Places.{Path}
-use Rattle.fk_model.specs.Places.Ptr.{At}
-use Rattle.fk_model.specs.Runs.{Event, after}
-use Rattle.fk_model.specs.Valid.{is_fit, is_served_port}
+use Rattle.fk_model.specs.Runs.{after}
 use Rattle.fk_model.specs.Who.{named, event_of}
-use Rattle.fk_model.specs.World.{World}
-use Rattle.fk_natives.specs.declared.service.Side.TheVariants as sides
-use Rattle.fk_natives.specs.Natives as natives
-use Rattle.fk_natives.specs.Natives.{State, OfConsole, OfServer, News, hears, asks_for, gives_left, DoesFit}
 use Rattle.fk_store.specs.Contents.{Contents}
 use Rattle.fk_store.specs.Moves.{said_by}
 use Rattle.fk_store.specs.Paths.{path}
@@ -37,14 +29,15 @@ use Rattle.fk_jobs.specs.Turns.{core_of}
 use Rattle.fk_jobs.proofs.Turns.{job_moves}
 use Rattle.fk_kernel.specs.Events.{step_of, is_who}
 use Rattle.fk_plans.specs.Hearers.{says_to, says_to_who}
-use Rattle.fk_served.specs.Served.{Services, servers, serving, asked, asked_of, said_at, news_at, after_news, hears_of, said_to, news_to, told, AllFit}
+use Rattle.fk_served.specs.Served.{Services, servers, hears_of, told}
 use Rattle.fk_core.specs.Cores.{RunCore, house, core_at, reply_to, porter_of, is_porter, IsTurned, IsCalledMove, IsCalledBy}
 use Rattle.fk_served.proofs.Hearing.{goes, hears-alike}
 use Rattle.fk_core.proofs.Asking.{AsksFor}
 use Rattle.fk_core.proofs.Asking.{asks_for as job_asks_for}
 
 -- a move of a user or a server, and then jobs that end without one
-pub turned : (m n : Contents) (services new : Services) (q : Queue) (events : ℕ) (mv : Move) (ask : Ask) (said : says_of.Said) (ended : Option Who) (d : RunCore) →
+pub turned : (m n : Contents) (services new : Services) (q : Queue) (events : ℕ) (mv : Move) (ask : Ask) (said : says_of.Said) (ended : Option Who)
+    (d : RunCore) →
     asker (house q.jobs) (core_at m services q events) mv.who ≡ Others ask
     → step_of (world m) (event_of (world m) ask mv) ≡ record { world = world n; said = said_by (path n) said }
     → ((port : Who) → has_ended (world m) (world n) (named (world m) port) ≡ is_who ended port)
@@ -85,7 +78,8 @@ pub hears-jobs : (q : Queue) (events status : ℕ) (words : List ℕ) → (jobs_
 hears-jobs q events status words = hears-jobs-by q events status words (work_of events q.work (first_of q.ends (current q)))
 
 -- a job's move
-pub job-turned : (m n : Contents) (services new : Services) (q r : Queue) (events : ℕ) (mv : Move) (ask : Ask) (said : says_of.Said) (ended : Option Who) (d : RunCore) →
+pub job-turned : (m n : Contents) (services new : Services) (q r : Queue) (events : ℕ) (mv : Move) (ask : Ask) (said : says_of.Said) (ended : Option Who)
+    (d : RunCore) →
     AsksFor ask (asker (house q.jobs) (core_at m services q events) mv.who)
     → step_of (world m) (event_of (world m) ask mv) ≡ record { world = world n; said = said_by (path n) said }
     → ((port : Who) → has_ended (world m) (world n) (named (world m) port) ≡ is_who ended port)
@@ -102,11 +96,15 @@ job-turned m n services new q r events mv ask said ended d found made ends tells
     let its_servers = hears-alike m n e said ended made ends tells services ∙ sym heard in
     let reply : reply_of (said_of (world m) e) ≡ reply_to said = ap (λ (s : Step). reply_of s.said) made ∙ replied (path n) said in
     let moves : moved (house q.jobs) (core_at m services q events) mv
-    ≡ core_of (after (world m) call) (map (hears_of (world m) call) services) (jobs_hear q events (reply_of (said_of (world m) call)).status (reply_of (said_of (world m) call)).words) (events + 1) =
+    ≡ core_of (after (world m) call) (map (hears_of (world m) call) services)
+    (jobs_hear q events (reply_of (said_of (world m) call)).status (reply_of (said_of (world m) call)).words) (events + 1) =
     job_moves Services servers (world m) services q events mv found.begun found.state found.stage found.words found.asks in
-    let at_event = ap (λ e. core_of (after (world m) e) (map (hears_of (world m) e) services) (jobs_hear q events (reply_of (said_of (world m) e)).status (reply_of (said_of (world m) e)).words) (events + 1)) same in
-    let at_world = ap (λ w. core_of w (map (hears_of (world m) e) services) (jobs_hear q events (reply_of (said_of (world m) e)).status (reply_of (said_of (world m) e)).words) (events + 1)) worlds in
-    let at_servers = ap (λ v. core_of (world n) v (jobs_hear q events (reply_of (said_of (world m) e)).status (reply_of (said_of (world m) e)).words) (events + 1)) its_servers in
+    let at_event = ap (λ e. core_of (after (world m) e) (map (hears_of (world m) e) services)
+    (jobs_hear q events (reply_of (said_of (world m) e)).status (reply_of (said_of (world m) e)).words) (events + 1)) same in
+    let at_world = ap (λ w. core_of w (map (hears_of (world m) e) services)
+    (jobs_hear q events (reply_of (said_of (world m) e)).status (reply_of (said_of (world m) e)).words) (events + 1)) worlds in
+    let at_servers = ap (λ v. core_of (world n) v (jobs_hear q events (reply_of (said_of (world m) e)).status (reply_of (said_of (world m) e)).words)
+    (events + 1)) its_servers in
     let at_reply = ap (λ (a : Reply). core_of (world n) new (jobs_hear q events a.status a.words) (events + 1)) reply in
     let comes : moved (house q.jobs) (core_at m services q events) mv ≡ core_at n new r (events + 1) =
     moves ∙ at_event ∙ at_world ∙ at_servers ∙ at_reply ∙ ap (λ r. core_of (world n) new r (events + 1)) (sym hears_it) in
@@ -114,7 +112,8 @@ job-turned m n services new q r events mv ask said ended d found made ends tells
     subst (λ c. Settles (house q.jobs) c d) (sym comes) (subst (λ j. Settles (house j) (core_at n new r (events + 1)) d) jobs settles)
 
 -- the same of jobs in which room was made before
-pub hears-same : (m n : Contents) (services new : Services) (q r s : Queue) (events : ℕ) (mv : Move) (ask : Ask) (said : says_of.Said) (ended : Option Who) (d : RunCore) →
+pub hears-same : (m n : Contents) (services new : Services) (q r s : Queue) (events : ℕ) (mv : Move) (ask : Ask) (said : says_of.Said) (ended : Option Who)
+    (d : RunCore) →
     r.jobs ≡ q.jobs → r.ends ≡ q.ends → r.work ≡ q.work → is_porter q mv.who ≡ true → asked_by (state_of r) ≡ Some ask
     → IsReadyAt (world m) (event_of (world m) ask mv)
     → step_of (world m) (event_of (world m) ask mv) ≡ record { world = world n; said = said_by (path n) said }
@@ -129,10 +128,13 @@ hears-same m n services new q r s events mv ask said ended d jobs ends work port
     ∙ ap (λ js. is_who (porter_of (slice_get js (length q.ends))) mv.who) jobs ∙ porter in
     let call : IsCalledMove r (core_at m services r events) mv = subst (IsCalledBy (core_at m services r events) mv) (sym next) ready in
     let turn : IsTurned r.jobs (core_at m services r events) mv d =
-    job-turned m n services new r s events mv ask said ended d (job_asks_for r (world m) services events mv.who ask there next) made over tells heard hears_it settles in
+    job-turned m n services new r s events mv ask said ended d
+    (job_asks_for r (world m) services events mv.who ask there next) made over tells heard hears_it settles in
     let is_state : state_of r ≡ state_of q = ap (λ k. state_from k (first_of r.ends (slice_get r.jobs (length r.ends)))) work
-    ∙ ap (λ es. state_from q.work (first_of es (slice_get r.jobs (length es)))) ends ∙ ap (λ js. state_from q.work (first_of q.ends (slice_get js (length q.ends)))) jobs in
-    let is_core : core_at m services r events ≡ core_at m services q events = ap (λ es. record { world = world m; servers = services; ends = es; work = r.work; events = events }) ends
+    ∙ ap (λ es. state_from q.work (first_of es (slice_get r.jobs (length es)))) ends
+    ∙ ap (λ js. state_from q.work (first_of q.ends (slice_get js (length q.ends)))) jobs in
+    let is_core : core_at m services r events ≡ core_at m services q events = ap
+    (λ es. record { world = world m; servers = services; ends = es; work = r.work; events = events }) ends
     ∙ ap (λ k. record { world = world m; servers = services; ends = q.ends; work = k; events = events }) work in (
       subst (IsCalledBy (core_at m services q events) mv) (ap asked_by is_state) call,
       subst (λ c. IsTurned q.jobs c mv d) is_core (subst (λ j. IsTurned j (core_at m services r events) mv d) jobs turn),

@@ -1,5 +1,6 @@
 -- Cores: the run's core that a kernel with its servers and its jobs is.
-use Rattle.std.specs.Prelude.{◌≡◌, ℕ, ◌+◌, ◌<◌, ◌≤◌, ◌%◌, ◌==◌, ◌&&◌, ◌||◌, nat_le, nat_lt, Bool, true, false, List, [], take, Option, Some, None, IfSome, is_some, Result, Ok, Err}
+use Rattle.std.specs.Prelude.{◌≡◌, ℕ, ◌+◌, ◌<◌, ◌≤◌, ◌%◌, ◌==◌, ◌&&◌, ◌||◌, nat_le, nat_lt, Bool, true, false, List, [], take, Option, Some, None, IfSome}
+use Rattle.std.specs.Prelude.{is_some, Result, Ok, Err}
 use Rattle.std.specs.List.{slice_get}
 use Rattle.fk_model.specs.declared.limits.TheConstants.{LAST_PORTER_SLOT}
 use Rattle.fk_model.specs.declared.moves.Ask.{Ask}

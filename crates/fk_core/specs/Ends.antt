@@ -1,5 +1,5 @@
 -- How a run ends, in a core.
-use Rattle.std.specs.Prelude.{◌≡◌, ℕ, ◌<◌, ◌≤◌, List, Option, Some, None}
+use Rattle.std.specs.Prelude.{ℕ, ◌<◌, ◌≤◌, List, Option, Some, None}
 use Rattle.fk_model.specs.World.{World}
 use Rattle.fk_report.specs.declared.end.End.{End}
 use Rattle.laws_house.specs.Houses.{Job}

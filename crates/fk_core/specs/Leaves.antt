@@ -1,10 +1,8 @@
 -- What a job's move leaves, in each run that has come to it.
 use Rattle.std.specs.Prelude.{◌≡◌, ℕ, List, [], ◌∷◌, ◌++◌}
-use Rattle.fk_image.specs.declared.image.Image.{Image}
 use Rattle.fk_model.specs.declared.moves.Move.{Move}
 use Rattle.fk_model.specs.declared.stage.Stage.{Stage}
 use Rattle.fk_model.specs.Places.{Path}
-use Rattle.laws_checkpoint.specs.Checkpoint as checkpoints
 use Rattle.laws_checkpoint.specs.Laws.{IsSameBeside}
 use Rattle.laws_house.specs.Houses.{Job, State}
 use Rattle.laws_house.specs.Houses.State.{Checking, Restoring}

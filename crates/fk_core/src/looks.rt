@@ -493,8 +493,8 @@ impl<S: Service + Drop, W: Worker + Drop> Core<S, W> {
         }
     }
 
-    /// Makes a move that is ready, and gives it: the one that `choose` would give, at an even number of moves a due job's where one is ready. There is none exactly where none is ready or the
-    /// budget is used, and then, and for want of memory, all is as before.
+    /// Makes a move that is ready, and gives it: the one that `choose` would give, at an even number of moves a due job's where one is ready.
+    /// There is none exactly where none is ready or the budget is used, and then, and for want of memory, all is as before.
     pub fn advance(&mut self, table: &Table) -> Result<Option<Move>, NoMemory>
         requires fits { AllFit (map (λ r. r.rule) table.now.list.items) self.old.services.list }
         requires come { IsGoing self.old }

@@ -228,7 +228,8 @@ impl<S: Service + Drop, W: Worker + Drop> Core<S, W> {
         requires few { self.old.events < self.old.budget }
         requires come { IsGoing self.old }
         requires fits { AllFit (map (λ r. r.rule) table.now.list.items) self.old.services.list }
-        ensures tried { IsTried (IsReadyMove self.old.jobs.jobs (run_core self.old) m.now) self.old.jobs.jobs (run_core self.old) m.now (run_core self.new) result }
+        ensures tried { IsTried (IsReadyMove self.old.jobs.jobs (run_core self.old) m.now) self.old.jobs.jobs
+            (run_core self.old) m.now (run_core self.new) result }
         ensures fits { AllFit (map (λ r. r.rule) table.now.list.items) self.new.services.list }
         ensures budget { self.new.budget ≡ self.old.budget }
         ensures jobs { self.new.jobs.jobs ≡ self.old.jobs.jobs }
@@ -270,7 +271,8 @@ impl<S: Service + Drop, W: Worker + Drop> Core<S, W> {
         requires few { self.old.events < self.old.budget }
         requires come { IsGoing self.old }
         requires fits { AllFit (map (λ r. r.rule) table.now.list.items) self.old.services.list }
-        ensures tried { IsTried (IsReadyMove self.old.jobs.jobs (run_core self.old) m.now) self.old.jobs.jobs (run_core self.old) m.now (run_core self.new) result }
+        ensures tried { IsTried (IsReadyMove self.old.jobs.jobs (run_core self.old) m.now) self.old.jobs.jobs
+            (run_core self.old) m.now (run_core self.new) result }
         ensures fits { AllFit (map (λ r. r.rule) table.now.list.items) self.new.services.list }
         ensures budget { self.new.budget ≡ self.old.budget }
         ensures jobs { self.new.jobs.jobs ≡ self.old.jobs.jobs }
@@ -288,7 +290,8 @@ impl<S: Service + Drop, W: Worker + Drop> Core<S, W> {
         requires other { is_porter self.old.jobs m.now.who ≡ false }
         requires few { self.old.events < self.old.budget }
         requires fits { AllFit (map (λ r. r.rule) table.now.list.items) self.old.services.list }
-        ensures tried { IsTried (IsAskedMove self.old.jobs.jobs (run_core self.old) m.now) self.old.jobs.jobs (run_core self.old) m.now (run_core self.new) result }
+        ensures tried { IsTried (IsAskedMove self.old.jobs.jobs (run_core self.old) m.now) self.old.jobs.jobs
+            (run_core self.old) m.now (run_core self.new) result }
         ensures fits { AllFit (map (λ r. r.rule) table.now.list.items) self.new.services.list }
         ensures budget { self.new.budget ≡ self.old.budget }
         ensures jobs { self.new.jobs.jobs ≡ self.old.jobs.jobs }
@@ -320,7 +323,8 @@ impl<S: Service + Drop, W: Worker + Drop> Core<S, W> {
         requires few { self.old.events < self.old.budget }
         requires come { IsGoing self.old }
         requires fits { AllFit (map (λ r. r.rule) table.now.list.items) self.old.services.list }
-        ensures tried { IsTried (IsReadyMove self.old.jobs.jobs (run_core self.old) m.now) self.old.jobs.jobs (run_core self.old) m.now (run_core self.new) result }
+        ensures tried { IsTried (IsReadyMove self.old.jobs.jobs (run_core self.old) m.now) self.old.jobs.jobs
+            (run_core self.old) m.now (run_core self.new) result }
         ensures fits { AllFit (map (λ r. r.rule) table.now.list.items) self.new.services.list }
         ensures budget { self.new.budget ≡ self.old.budget }
         ensures jobs { self.new.jobs.jobs ≡ self.old.jobs.jobs }
@@ -339,7 +343,8 @@ impl<S: Service + Drop, W: Worker + Drop> Core<S, W> {
         requires few { self.old.events < self.old.budget }
         requires come { IsGoing self.old }
         requires fits { AllFit (map (λ r. r.rule) table.now.list.items) self.old.services.list }
-        ensures tried { IsTried (IsCalledMove self.old.jobs (run_core self.old) m.now) self.old.jobs.jobs (run_core self.old) m.now (run_core self.new) result }
+        ensures tried { IsTried (IsCalledMove self.old.jobs (run_core self.old) m.now) self.old.jobs.jobs
+            (run_core self.old) m.now (run_core self.new) result }
         ensures fits { AllFit (map (λ r. r.rule) table.now.list.items) self.new.services.list }
         ensures budget { self.new.budget ≡ self.old.budget }
         ensures jobs { self.new.jobs.jobs ≡ self.old.jobs.jobs }

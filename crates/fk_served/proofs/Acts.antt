@@ -33,7 +33,8 @@ unfolding is_fit
 fit-state w x (OfConsole alias words sides.Idle) ask is = let same : asks.Accept ≡ ask = cc in subst (λ a. is_fit w x a ≡ true) same refl
 fit-state w x (OfConsole alias words sides.Client) ask is = absurd (cc)
 fit-state w x (OfConsole alias words sides.Own) ask is = let same : asks.Over ≡ ask = cc in subst (λ a. is_fit w x a ≡ true) same refl
-fit-state w x (OfServer index rule config position request left sides.Idle) ask is = let same : asks.Accept ≡ ask = cc in subst (λ a. is_fit w x a ≡ true) same refl
+fit-state w x (OfServer index rule config position request left sides.Idle) ask is = let same : asks.Accept ≡ ask = cc in
+    subst (λ a. is_fit w x a ≡ true) same refl
 fit-state w x (OfServer index rule config position request left sides.Client) ask is = absurd (cc)
 fit-state w x (OfServer index rule config position request left sides.Own) ask is =
     let same : gives_left left ≡ ask = cc in subst (λ a. is_fit w x a ≡ true) same (fit-left w x left)
@@ -58,7 +59,8 @@ unfolding serving
 found [] who state is = absurd (cc)
 found (e ∷ es) who state is = by (same_who e.0 who) refl (λ rest. found es who state rest)
   where
-    by : (t : Bool) → same_who e.0 who ≡ t → (serving es who ≡ Some state → (k : ℕ) × (served : Who × State) × (slice_get es k ≡ Some served) × (k < length es) × (served.0 ≡ who))
+    by : (t : Bool) → same_who e.0 who ≡ t → (serving es who ≡ Some state
+        → (k : ℕ) × (served : Who × State) × (slice_get es k ≡ Some served) × (k < length es) × (served.0 ≡ who))
         → (k : ℕ) × (served : Who × State) × (slice_get (e ∷ es) k ≡ Some served) × (k < length (e ∷ es)) × (served.0 ≡ who)
     by true same later = (0, e, refl, omega arith, same_who_eq e.0 who same)
     by false other later = let rest = later (rw other at is) in (suc rest.0, rest.1, rest.2, omega (arith, rest.3), rest.4)

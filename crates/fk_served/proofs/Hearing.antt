@@ -23,7 +23,8 @@ use Rattle.fk_served.specs.Served.{Services, said_at, news_at, after_news, hears
 
 -- ---- what is told
 
-said-alike : (p : ℕ → Path) (said : says_of.Said) (x : Path) (who : Who) → says_to (said_by p said) x ≡ says_to_who said who → said_at (said_by p said) x ≡ said_to said who
+said-alike : (p : ℕ → Path) (said : says_of.Said) (x : Path) (who : Who) → says_to (said_by p said) x ≡ says_to_who said who
+    → said_at (said_by p said) x ≡ said_to said who
 said-alike p says.Nothing x who same = refl
 said-alike p (says.Answer answer) x who same = refl
 said-alike p (says.Taken port client resumed turn count) x who same = rw same refl
@@ -74,7 +75,8 @@ pub fit-after : (rules : List Rule) (state : State) (news : Option News) → Doe
 fit-after rules state None fits = fits
 fit-after rules state (Some news) fits = fit-heard rules state news fits
 
-pub fits-told : (rules : List Rule) (said : says_of.Said) (ended : Option Who) (services : Services) → AllFit rules services → AllFit rules (map (told said ended) services)
+pub fits-told : (rules : List Rule) (said : says_of.Said) (ended : Option Who) (services : Services) → AllFit rules services
+    → AllFit rules (map (told said ended) services)
 fits-told rules said ended [] fits = tt
 fits-told rules said ended (s ∷ ss) fits = (fit-after rules s.1 (news_to said ended s.0) fits.0, fits-told rules said ended ss fits.1)
 

@@ -1,5 +1,6 @@
 -- Lists of servers, one after the other.
-use Rattle.std.proofs.Common.{◌≡◌, ℕ, zero, suc, ◌+◌, ◌<◌, ◌≤◌, Bool, true, false, List, [], ◌∷◌, ◌++◌, append_assoc, length, get_or, take, drop, map, slice_set, Option, Some, None, refl, sym, ap, ◌∙◌, arith, add-one}
+use Rattle.std.proofs.Common.{◌≡◌, ℕ, zero, suc, ◌+◌, ◌<◌, ◌≤◌, Bool, true, false, List, [], ◌∷◌, ◌++◌, append_assoc, length, get_or, take, drop, map}
+use Rattle.std.proofs.Common.{slice_set, Option, Some, None, refl, sym, ap, ◌∙◌, arith, add-one}
 use Rattle.std.proofs.Math.Seq.{drop-cons, map-set_same}
 use Rattle.std.proofs.lemmas.List.{drop-set-lt, map-append, take_all}
 use Rattle.std.proofs.lemmas.List.Elements.{All-head, All-tail, All-push}
@@ -13,7 +14,8 @@ use Rattle.std.proofs.Math.ListN.{drop_of_length-le}
 use Rattle.fk_served.specs.Served.{Services, shown, told, AllFit, HaveRoom, after_news, news_to, serving, asked_of}
 
 -- what is told changes nothing where nobody is told anything
-pub untold : (said : says_of.Said) (ended : Option Who) → ((who : Who) → news_to said ended who ≡ None) → (services : Services) → services ≡ map (told said ended) services
+pub untold : (said : says_of.Said) (ended : Option Who) → ((who : Who) → news_to said ended who ≡ None) → (services : Services)
+    → services ≡ map (told said ended) services
 untold said ended none [] = refl
 untold said ended none (e ∷ es) =
     let here : e ≡ told said ended e = ap (λ news. (e.0, after_news news e.1)) (sym (none e.0)) in
@@ -51,7 +53,8 @@ module _ {S : Type 0} (meaning : S → State) where
   -- a server that is shown as it was changes nothing
   pub shown-set : (xs : List (Who × S)) (i : ℕ) (x y : Who × S) → x ≡ get_or xs i x → y.0 ≡ x.0 → meaning y.1 ≡ meaning x.1
       → shown meaning (slice_set xs i y) ≡ shown meaning xs
-  shown-set xs i x y is who same = map-set_same (λ e. (e.0, meaning e.1)) xs i y x (ap (λ k. (k, meaning y.1)) who ∙ (ap (λ m. (x.0, m)) same ∙ ap (λ e. (e.0, meaning e.1)) is))
+  shown-set xs i x y is who same = map-set_same (λ e. (e.0, meaning e.1)) xs i y x (ap (λ k. (k, meaning y.1)) who
+      ∙ (ap (λ m. (x.0, m)) same ∙ ap (λ e. (e.0, meaning e.1)) is))
 
   pub told-set : (f : Who × State → Who × State) (xs : List (Who × S)) (i : ℕ) (x y : Who × S) → i < length xs → x ≡ get_or xs i x
       → (y.0, meaning y.1) ≡ f (x.0, meaning x.1) → (t : Services)
@@ -75,7 +78,8 @@ module _ {S : Type 0} (meaning : S → State) where
       let back : drop (i + 1) (slice_set xs i y) ≡ drop (suc i) xs = drop-set-lt (i + 1) xs i y (omega arith) ∙ ap (λ n. drop n xs) (add-one i) in
       rw back (All-tail (λ e. has e.1 ≡ true) x (drop (suc i) xs) (rw rest at room))
 
-  pub fits-next : (rules : List Rule) (xs : List (Who × S)) (i : ℕ) (x y : Who × S) → i < length xs → x ≡ get_or xs i x → AllFit rules (shown meaning (drop i xs))
+  pub fits-next : (rules : List Rule) (xs : List (Who × S)) (i : ℕ) (x y : Who × S) → i < length xs → x ≡ get_or xs i x
+      → AllFit rules (shown meaning (drop i xs))
       → AllFit rules (shown meaning (drop (i + 1) (slice_set xs i y)))
   fits-next rules xs i x y h is fits =
       let rest : drop i xs ≡ x ∷ drop (suc i) xs = drop-cons xs i x h ∙ ap (λ y. y ∷ drop (suc i) xs) (sym is) in
@@ -84,7 +88,8 @@ module _ {S : Type 0} (meaning : S → State) where
 
   pub room-more : (has : S → Bool) (xs : List (Who × S)) (i : ℕ) (y : Who × S) → i < length xs → has y.1 ≡ true → HaveRoom has (take i xs)
       → HaveRoom has (take (i + 1) (slice_set xs i y))
-  room-more has xs i y h some room = rw (ap (λ n. take n (slice_set xs i y)) (add-one i) ∙ taken xs i y h) (All-push (λ e. has e.1 ≡ true) (take i xs) y room some)
+  room-more has xs i y h some room = rw (ap (λ n. take n (slice_set xs i y)) (add-one i) ∙ taken xs i y h)
+      (All-push (λ e. has e.1 ≡ true) (take i xs) y room some)
 
   pub room-all : (has : S → Bool) (xs : List (Who × S)) (i : ℕ) → length xs ≤ i → HaveRoom has (take i xs) → HaveRoom has xs
   room-all has xs i h room = rw (take_all i xs h) at room

@@ -26,7 +26,8 @@ returns-clause-tried g c =
     let asked_for : asked list (world m) c.args.m.now.who ≡ Some ask =
     subst (λ l. asked l (world m) c.args.m.now.who ≡ Some ask) c.in_ok-reserve.ensures.same (sym c.ask-asked.ensures.asked ∙ c.in-Some.is) in
     let asks = asks_other self.jobs (world m) list self.events c.args.m.now.who ask c.requires.other asked_for words in (
-      ready_asked self.jobs (world m) list self.events c.args.m.now c.requires.other (others_ready self.jobs (world m) list self.events c.args.m.now (ask, asks, made.0)),
+      ready_asked self.jobs (world m) list self.events c.args.m.now c.requires.other
+          (others_ready self.jobs (world m) list self.events c.args.m.now (ask, asks, made.0)),
       turned m n list c.hear.new.self.list self.jobs self.events c.args.m.now ask what.said what.ended _ asks made.1
           (rw c.in-Some-tried.is at (rw c.in-Ok.is at c.attempt-made.ensures.ended))
           (rw c.in-Some-tried.is at (rw c.in-Ok.is at c.attempt-made.ensures.told))
@@ -36,4 +37,5 @@ returns-clause-tried g c =
     )
 
 pub returns-clause-fits : goal.returns-clause-fits
-returns-clause-fits g c = rw (c.settle.ensures.services, c.hear.ensures, c.in_ok-reserve.ensures.same) (fits-told _ _ _ c.args.self.now.services.list c.requires.fits)
+returns-clause-fits g c = rw (c.settle.ensures.services, c.hear.ensures, c.in_ok-reserve.ensures.same)
+    (fits-told _ _ _ c.args.self.now.services.list c.requires.fits)

@@ -1,5 +1,4 @@
 use Rattle.std.proofs.Common.{◌≡◌, ◌∙◌, sym, ap, map, rules, Some}
-use Rattle.fk_model.specs.Who.{named}
 use Rattle.fk_store.specs.World.{world}
 use Rattle.fk_jobs.specs.Jobs.{Queue, asked_by, state_of}
 use Rattle.fk_served.specs.Served.{told}
@@ -37,8 +36,10 @@ returns-clause-tried g c =
     (both.0, both.1, c.settle.ensures.events)
 
 pub returns-clause-fits : goal.returns-clause-fits
-returns-clause-fits g c = rw (c.settle.ensures.services, c.hear.ensures, c.in_ok-reserve.ensures.same) (fits-told _ _ _ c.args.self.now.services.list c.requires.fits)
+returns-clause-fits g c = rw (c.settle.ensures.services, c.hear.ensures, c.in_ok-reserve.ensures.same)
+    (fits-told _ _ _ c.args.self.now.services.list c.requires.fits)
 
 pub returns-clause-jobs : goal.returns-clause-jobs
 returns-clause-jobs g c =
-    c.settle.ensures.jobs ∙ ap (λ (q : Queue). q.jobs) c.tell_jobs.ensures ∙ hears-jobs c.reserve-2.new.self c.args.self.now.events _ _ ∙ c.reserve-2.ensures.jobs
+    c.settle.ensures.jobs ∙ ap (λ (q : Queue). q.jobs) c.tell_jobs.ensures ∙ hears-jobs c.reserve-2.new.self c.args.self.now.events _ _
+    ∙ c.reserve-2.ensures.jobs

@@ -1,4 +1,4 @@
-use Rattle.std.proofs.Common.{◌≡◌, ◌∙◌, ◌+◌, false, is_some, Some, sym, subst}
+use Rattle.std.proofs.Common.{◌≡◌, ◌∙◌, false, is_some, Some, sym, subst}
 use Rattle.std.proofs.lemmas.Bool.{OnTrue_at}
 use Rattle.fk_model.specs.declared.moves.Move.{Move}
 use Rattle.fk_core.specs.Cores.{run_core, IsAdvanced}

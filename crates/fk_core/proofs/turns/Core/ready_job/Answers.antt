@@ -14,5 +14,6 @@ pub returns-else-is_called : goal.returns-else-is_called
 returns-else-is_called g c =
     let self = c.args.self.now in (
       λ never. absurd (cc),
-      λ ready. let yes = c.is_called.ensures.1 (ready_called self.jobs (world self.kernel) self.services.list self.events c.args.m.now c.requires ready) in let nay = c.if-is_called.false in absurd (cc),
+      λ ready. let yes = c.is_called.ensures.1 (ready_called self.jobs (world self.kernel) self.services.list self.events c.args.m.now c.requires ready) in
+          let nay = c.if-is_called.false in absurd (cc),
     )

@@ -1,4 +1,4 @@
-use Rattle.std.proofs.Common.{◌≡◌, ◌∙◌, ◌∷◌, [], length, Some, refl, ap, subst, arith}
+use Rattle.std.proofs.Common.{◌∙◌, ◌∷◌, [], length, Some, refl, ap, subst, arith}
 use Rattle.std.proofs.lemmas.List.{length-append}
 use Rattle.fk_core.specs.Cores.{run_core, IsAdvanced, IsReadyMove, IsTurned}
 use Rattle.fk_core.proofs.Histories.{begun, one_more}
@@ -24,7 +24,8 @@ loop-history-preserved g c =
     let before = run_core was in
     let new = c.advance.new.self in
     let last = run_core new in
-    let made : IsAdvanced was.jobs.jobs was.budget before (Some c.in-Some.m) last = subst (λ o. IsAdvanced was.jobs.jobs was.budget before o last) c.in-Some.is c.in_ok-m.ensures.advanced in
+    let made : IsAdvanced was.jobs.jobs was.budget before (Some c.in-Some.m) last = subst
+    (λ o. IsAdvanced was.jobs.jobs was.budget before o last) c.in-Some.is c.in_ok-m.ensures.advanced in
     let below = made.0 in
     let count = made.3 in
     let kept = c.advance.ensures.budget in
@@ -47,7 +48,8 @@ loop-history-smaller g c =
     let before = run_core was in
     let new = c.advance.new.self in
     let last = run_core new in
-    let made : IsAdvanced was.jobs.jobs was.budget before (Some c.in-Some.m) last = subst (λ o. IsAdvanced was.jobs.jobs was.budget before o last) c.in-Some.is c.in_ok-m.ensures.advanced in
+    let made : IsAdvanced was.jobs.jobs was.budget before (Some c.in-Some.m) last = subst
+    (λ o. IsAdvanced was.jobs.jobs was.budget before o last) c.in-Some.is c.in_ok-m.ensures.advanced in
     let below = made.0 in
     let count = made.3 in
     let kept = c.advance.ensures.budget in

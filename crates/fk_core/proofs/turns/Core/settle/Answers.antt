@@ -1,4 +1,4 @@
-use Rattle.std.proofs.Common.{◌≡◌, ◌∙◌, refl, ap}
+use Rattle.std.proofs.Common.{◌∙◌, refl, ap}
 use Rattle.fk_store.specs.World.{world}
 use Rattle.fk_jobs.specs.Jobs.{Queue, unmoved_of}
 use Rattle.fk_core.specs.Cores.{run_core}

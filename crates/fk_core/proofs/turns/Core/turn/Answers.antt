@@ -8,13 +8,15 @@ pub returns-clause-cut : goal.returns-clause-cut
 returns-clause-cut g c =
     let old = c.args.self.now in
     keeps_cuts old.jobs (world old.kernel) old.services.list old.events old.budget c.args.m.now (run_core c.go.new.self) c.requires.come c.requires.few
-    c.requires.ready (of-ready c.in_ok-go.field-0 _ _ (run_core c.args.self.now) c.args.m.now (run_core c.go.new.self) c.requires.ready c.in_ok-go.ensures.tried)
+    c.requires.ready (of-ready c.in_ok-go.field-0 _ _ (run_core c.args.self.now) c.args.m.now
+    (run_core c.go.new.self) c.requires.ready c.in_ok-go.ensures.tried)
 
 pub returns-clause-strangers : goal.returns-clause-strangers
 returns-clause-strangers g c =
     let old = c.args.self.now in
     leaves_strangers old.jobs (world old.kernel) old.services.list old.events old.budget c.args.m.now (run_core c.go.new.self) c.requires.come
-    c.requires.few c.requires.ready (of-ready c.in_ok-go.field-0 _ _ (run_core c.args.self.now) c.args.m.now (run_core c.go.new.self) c.requires.ready c.in_ok-go.ensures.tried)
+    c.requires.few c.requires.ready (of-ready c.in_ok-go.field-0 _ _ (run_core c.args.self.now) c.args.m.now
+    (run_core c.go.new.self) c.requires.ready c.in_ok-go.ensures.tried)
 
 pub returns-clause-rest : goal.returns-clause-rest
 returns-clause-rest g c =
@@ -23,4 +25,5 @@ returns-clause-rest g c =
     (of-ready c.in_ok-go.field-0 _ _ (run_core c.args.self.now) c.args.m.now (run_core c.go.new.self) c.requires.ready c.in_ok-go.ensures.tried)
 
 pub returns-clause-turned : goal.returns-clause-turned
-returns-clause-turned g c = of-ready c.in_ok-go.field-0 _ _ (run_core c.args.self.now) c.args.m.now (run_core c.go.new.self) c.requires.ready c.in_ok-go.ensures.tried
+returns-clause-turned g c = of-ready c.in_ok-go.field-0 _ _ (run_core c.args.self.now) c.args.m.now
+    (run_core c.go.new.self) c.requires.ready c.in_ok-go.ensures.tried
