@@ -2,4 +2,3 @@ pub mod FirstWorld
 pub mod MadeSoFar
 pub mod Words
 pub mod Services
-pub mod Plans

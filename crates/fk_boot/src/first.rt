@@ -7,13 +7,9 @@ ghost use Rattle.fk_scenario.specs.Kept.{KeepsScenario};
 ghost use Rattle.fk_store.specs.World.{world};
 ghost use Rattle.fk_boot.specs.FirstWorld.{booted};
 ghost use Rattle.fk_boot.specs.Services.{first_services, by_paths};
-ghost use Rattle.fk_boot.specs.Plans.{first_jobs};
-ghost use Rattle.fk_jobs.specs.Jobs.{job_of};
 
 use crate::entries::first_store;
-use crate::plans::plans_of;
 use crate::services::services_of;
-use fk_jobs::Plan;
 use fk_kernel::Kernel;
 use fk_model::{NoMemory, Who};
 use fk_natives::Native;
@@ -21,12 +17,11 @@ use fk_scenario::Scenario;
 use std::alloc::Global;
 
 /// What a scenario begins with: a kernel of its first world, its native servers by their ports, in the order of
-/// the file, what is planned of its jobs, and how many moves may be made on how many workers.
+/// the file, and how many moves may be made on how many workers.
 #[derive(Drop)]
 pub struct First {
     pub kernel: Kernel,
     pub services: Vec<(Who, Native)>,
-    pub jobs: Vec<Plan>,
     pub budget: u64,
     pub workers: u32,
 }
@@ -35,7 +30,7 @@ pub struct First {
 /// then its objects, of which the ports of servers are served, then where these lead, and then the porters
 /// of nesters, each in the order of the file. Spaces have birth numbers from 1 on, and the root 0. That world is valid, a
 /// run may begin in it, and it can be saved. Each server stands at its port, has no client, and was neither sent nor
-/// replied anything. Its jobs are those of the file, in its order. For want of memory there is none.
+/// replied anything. For want of memory there is none.
 pub fn boot(alloc: Global, scenario: &Scenario) -> Result<First, NoMemory>
     requires { KeepsScenario scenario.now }
     ensures world { IfOk result (λ first. world first.kernel ≡ booted scenario.now) }
@@ -43,17 +38,14 @@ pub fn boot(alloc: Global, scenario: &Scenario) -> Result<First, NoMemory>
     ensures runnable { IfOk result (λ first. IsRunnable (world first.kernel)) }
     ensures savable { IfOk result (λ first. IsSavable (world first.kernel)) }
     ensures services { IfOk result (λ first. by_paths (world first.kernel) first.services.items ≡ first_services scenario.now.servers) }
-    ensures jobs { IfOk result (λ first. map job_of first.jobs.items ≡ first_jobs scenario.now.jobs) }
     ensures budget { IfOk result (λ first. first.budget ≡ scenario.now.budget) }
     ensures workers { IfOk result (λ first. first.workers ≡ scenario.now.workers) }
 {
     let store = first_store(alloc, scenario)?;
     let services = services_of(alloc, &store, scenario.servers.as_slice())?;
-    let jobs = plans_of(alloc, scenario.jobs.as_slice())?;
     Ok(First {
         kernel: Kernel::of(store)?,
         services,
-        jobs,
         budget: scenario.budget,
         workers: scenario.workers,
     })

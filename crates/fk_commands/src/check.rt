@@ -1,40 +1,17 @@
 //! The command `check`: the counts of a scenario are told.
-ghost use Rattle.std.specs.Prelude.{◌≡◌, ◌+◌, Ok, IfOk, IfErr, map, string_bytes};
-ghost use Rattle.fk_scenario.specs.Kept.{KeepsScenario, HasRules};
+ghost use Rattle.std.specs.Prelude.{◌≡◌, ◌+◌, IfOk, IfErr, map, string_bytes};
 ghost use Rattle.fk_scenario.specs.Reading.{scenario_reading};
 ghost use Rattle.fk_commands.specs.Check as words;
 ghost use Rattle.fk_commands.specs.Check.{IsCheck};
-ghost use Rattle.fk_commands.specs.Prepared.{ComesTo, IsRefusal, IsScenarioFail};
+ghost use Rattle.fk_commands.specs.Prepared.{ComesTo, IsRefusal};
 
 use crate::prepared::Prepared;
+use crate::scenario::scenario_in;
 use crate::status::Status;
 use fk_model::NoMemory;
 use fk_responders::Table;
-use fk_scenario::{Scenario, ScenarioFail, SpaceEntry, read_scenario};
+use fk_scenario::SpaceEntry;
 use std::alloc::{AllocError, Global};
-
-/// The scenario that a text is, by the rules that a table has for native servers.
-///
-/// # Errors
-///
-/// `BadScenario` for a text that is no scenario. `NoMemory` where there is no memory for it.
-pub fn scenario_in(alloc: Global, table: &Table, text: &[u8]) -> Result<Scenario, Status>
-    ensures read { IfOk result (λ scenario. scenario_reading (map (λ r. (string_bytes r.name, r.rule)) table.now.list.items) text.now ≡ Ok scenario) }
-    ensures keeps { IfOk result KeepsScenario }
-    ensures rules { IfOk result (HasRules (map (λ r. r.rule) table.now.list.items)) }
-    ensures fail { IfErr result (IsScenarioFail (scenario_reading (map (λ r. (string_bytes r.name, r.rule)) table.now.list.items) text.now)) }
-{
-    let rules = table.rules(alloc)?;
-    match read_scenario(alloc, text, &rules) {
-        Ok(scenario) => Ok(scenario),
-        Err(ScenarioFail::Scenario(error)) => Err(Status::BadScenario {
-            rule: error.rule,
-            section: error.section,
-            index: error.index,
-        }),
-        Err(ScenarioFail::NoMemory) => Err(Status::NoMemory),
-    }
-}
 
 /// How many spaces the entries declare. More than a number can count don't fit in memory.
 fn space_count(entries: &[SpaceEntry]) -> Result<u64, NoMemory>

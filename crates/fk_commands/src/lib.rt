@@ -16,13 +16,17 @@
 pub mod check;
 pub mod exec;
 mod exec_text;
+mod image;
 mod outcome;
 mod prepared;
+mod scenario;
 mod shelf_file;
 pub mod show;
 mod status;
 
+pub use image::image_of;
 pub use outcome::{Outcome, Report};
 pub use prepared::Prepared;
+pub use scenario::scenario_in;
 pub use shelf_file::file_of;
 pub use status::{Status, fault_line};

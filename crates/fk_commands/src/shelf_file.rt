@@ -1,5 +1,5 @@
 //! A file of the shelf.
-ghost use Rattle.std.specs.Prelude.{◌≡◌, Some, IfOk, IfErr};
+ghost use Rattle.std.specs.Prelude.{◌≡◌, ◌≤◌, Some, IfOk, IfErr};
 ghost use Rattle.fk_causes.specs.Shelf.{HasAt};
 ghost use Rattle.fk_commands.specs.Prepared.{IsFileFail};
 
@@ -22,6 +22,7 @@ pub fn file_of<H: Shelf>(
 ) -> Result<Vec<u8>, Status>
     ensures found { IfOk result (λ bytes. HasAt (H.files shelf.old) file.now (Some bytes.items)) }
     ensures fail { IfErr result (IsFileFail file.now name.now (H.files shelf.old) (H.failed_gets shelf.old) (H.failed_gets shelf.new)) }
+    ensures later { H.failed_gets shelf.old ≤ H.failed_gets shelf.new }
     ensures same_files { H.files shelf.new ≡ H.files shelf.old }
     ensures same_puts { H.failed_puts shelf.new ≡ H.failed_puts shelf.old }
 {

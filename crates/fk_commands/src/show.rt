@@ -1,35 +1,17 @@
 //! The command `show`: the counts of an image are shown.
-ghost use Rattle.std.specs.Prelude.{◌≡◌, Ok, IfOk, IfErr};
+ghost use Rattle.std.specs.Prelude.{◌≡◌, IfErr};
 ghost use Rattle.fk_causes.specs.Causes.{Rose};
 ghost use Rattle.fk_image_format.specs.Reading.{image_reading};
 ghost use Rattle.fk_commands.specs.Show.{IsShow, IsShown};
-ghost use Rattle.fk_commands.specs.Prepared.{ComesTo, IsRefusal, IsImageFail};
+ghost use Rattle.fk_commands.specs.Prepared.{ComesTo, IsRefusal};
 
+use crate::image::image_of;
 use crate::prepared::Prepared;
 use crate::shelf_file::file_of;
 use crate::status::Status;
 use fk_causes::Shelf;
-use fk_codec::{ReadFail, read};
-use fk_image::Image;
 use fk_image_show::show_text;
-use fk_model::Text;
 use std::alloc::Global;
-
-/// The image that the bytes of the file of a name spell.
-fn image_of(alloc: Global, name: &str, bytes: &[u8]) -> Result<Image, Status>
-    ensures read { IfOk result (λ image. image_reading bytes.now ≡ Ok image) }
-    ensures fail { IfErr result (IsImageFail name.now (image_reading bytes.now)) }
-{
-    match read(alloc, bytes) {
-        Ok(image) => Ok(image),
-        Err(ReadFail::Image(error)) => Err(Status::BadImage {
-            name: Text::of(alloc, name)?,
-            offset: error.offset,
-            reason: error.reason,
-        }),
-        Err(ReadFail::NoMemory) => Err(Status::NoMemory),
-    }
-}
 
 fn show_image(alloc: Global, name: &str, bytes: &[u8]) -> Result<Prepared, Status>
     ensures comes { ComesTo (IsShown name.now (image_reading bytes.now)) result }

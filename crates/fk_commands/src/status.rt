@@ -26,8 +26,8 @@ pub enum Status {
     /// The line of the move with this index is the first of the trace that is misspelled, whose move
     /// isn't ready, or that stands at the budget.
     BadTrace { index: u64 },
-    /// The job at this place was the first that ended refused: what it was to save wasn't there or wasn't closed. All
-    /// else was done.
+    /// The job at this place was the first that ended refused: what it was to save wasn't there or wasn't closed, or its image
+    /// couldn't be made again. All else was done.
     JobRefused { job: u32 },
     /// As many moves were made as the budget has, and one was left. All else was done.
     Budget { budget: u64 },

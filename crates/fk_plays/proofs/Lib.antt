@@ -1,1 +1,2 @@
-pub mod From
+pub mod Rises
+pub mod Found

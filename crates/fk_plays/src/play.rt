@@ -4,15 +4,16 @@ ghost use Rattle.fk_causes.specs.Causes.{Rose};
 ghost use Rattle.fk_causes.specs.Shelf.{HasAt};
 ghost use Rattle.fk_commands.specs.Files.{trace_name};
 ghost use Rattle.fk_commands.specs.Prepared.{ComesTo, IsRefusal, IsFileFail};
-ghost use Rattle.fk_plays.specs.Play.{IsPlay, IsPlayedFrom, IsScenario};
+ghost use Rattle.fk_plays.specs.Play.{IsPlay, IsPlayedBy, IsScenario};
 ghost use Rattle.fk_scenario.specs.Kept.{KeepsScenario, HasRules};
 ghost use Rattle.fk_scenario.specs.Reading.{scenario_reading};
 
+use crate::images::images_for;
 use fk_causes::Shelf;
-use fk_commands::check::scenario_in;
-use fk_commands::{Prepared, Status, file_of};
+use fk_commands::{Prepared, Status, file_of, scenario_in};
+use fk_finish::ValidImage;
 use fk_responders::Table;
-use fk_runs::{first_core, play_core};
+use fk_runs::play_first;
 use fk_scenario::Scenario;
 use std::alloc::Global;
 
@@ -27,30 +28,34 @@ fn trace_of<H: Shelf>(alloc: Global, shelf: &mut H, name: &str) -> Result<Vec<u8
     file_of(alloc, shelf, file.as_str(), name)
 }
 
-/// Plays a trace from the first core of a scenario.
-fn play_scenario(
+/// Plays the trace with this name, which the shelf has, from the first core of a scenario, with images for its jobs.
+fn play_with<H: Shelf>(
     alloc: Global,
     table: &Table,
+    name: &str,
     scenario: &Scenario,
-    trace: &[u8],
+    images: &[Option<ValidImage>],
+    shelf: &mut H,
 ) -> Result<Prepared, Status>
     requires keeps { KeepsScenario scenario.now }
     requires rules { HasRules (map (λ r. r.rule) table.now.list.items) scenario.now }
-    ensures comes { ComesTo (IsPlayedFrom scenario.now trace.now) result }
-    ensures refusal { IfErr result (IsRefusal ⊥ ⊥) }
+    ensures comes { ComesTo (IsPlayedBy name.now (H.files shelf.old) scenario.now images.now) result }
+    ensures refusal { IfErr result (IsRefusal ⊥ (Rose (H.failed_gets shelf.old) (H.failed_gets shelf.new))) }
+    ensures same_files { H.files shelf.new ≡ H.files shelf.old }
+    ensures same_puts { H.failed_puts shelf.new ≡ H.failed_puts shelf.old }
 {
-    let core = first_core(alloc, scenario)?;
-    play_core(alloc, core, scenario.jobs.as_slice(), table, trace)
+    let trace = trace_of(alloc, shelf, name)?;
+    play_first(alloc, table, scenario, images, &trace)
 }
 
 /// Plays the trace with this name, which the shelf has, from the first core of the scenario that a
-/// text is.
+/// text is, with the images of the shelf that its jobs need.
 ///
 /// # Errors
 ///
-/// `BadScenario` for a text that is no scenario by the rules of the table. `Absent` where the shelf has no such trace,
-/// and `ShelfFault` where the get of it failed,
-/// both of them only for a text that is one. `BadTrace` with the index of its first bad line.
+/// `BadScenario` for a text that is no scenario by the rules of the table. `Absent` and `BadImage` of the first image that is needed and
+/// isn't there or isn't spelled; then `Absent` where the shelf has no such trace; and `ShelfFault` where a get of these failed,
+/// all of them only for a text that is one. `BadTrace` with the index of its first bad line.
 /// `NoMemory` where there is no memory for any of it.
 pub fn play<H: Shelf>(
     alloc: Global,
@@ -66,6 +71,6 @@ pub fn play<H: Shelf>(
     ensures same_puts { H.failed_puts shelf.new ≡ H.failed_puts shelf.old }
 {
     let scenario = scenario_in(alloc, table, text)?;
-    let trace = trace_of(alloc, shelf, name)?;
-    play_scenario(alloc, table, &scenario, &trace)
+    let images = images_for(alloc, shelf, scenario.jobs.as_slice())?;
+    play_with(alloc, table, name, &scenario, images.as_slice(), shelf)
 }

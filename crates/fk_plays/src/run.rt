@@ -1,38 +1,36 @@
 //! The command `run`: a scenario runs by itself.
 ghost use Rattle.std.specs.Prelude.{◌≡◌, IfErr, map, string_bytes};
+ghost use Rattle.fk_causes.specs.Causes.{Rose};
 ghost use Rattle.fk_commands.specs.Prepared.{ComesTo, IsRefusal};
-ghost use Rattle.fk_plays.specs.Play.{IsRunFrom, IsWholeRun};
-ghost use Rattle.fk_scenario.specs.Kept.{KeepsScenario, HasRules};
+ghost use Rattle.fk_plays.specs.Play.{IsScenarioWithImages, IsWholeRun};
 ghost use Rattle.fk_scenario.specs.Reading.{scenario_reading};
 
-use fk_commands::check::scenario_in;
-use fk_commands::{Prepared, Status};
+use crate::images::images_for;
+use fk_causes::Shelf;
+use fk_commands::{Prepared, Status, scenario_in};
 use fk_responders::Table;
-use fk_runs::{first_core, run_core};
-use fk_scenario::Scenario;
+use fk_runs::run_first;
 use std::alloc::Global;
 
-/// Runs the first core of a scenario.
-fn run_scenario(alloc: Global, table: &Table, scenario: &Scenario) -> Result<Prepared, Status>
-    requires keeps { KeepsScenario scenario.now }
-    requires rules { HasRules (map (λ r. r.rule) table.now.list.items) scenario.now }
-    ensures comes { ComesTo (IsRunFrom scenario.now) result }
-    ensures refusal { IfErr result (IsRefusal ⊥ ⊥) }
-{
-    let core = first_core(alloc, scenario)?;
-    run_core(alloc, core, scenario.jobs.as_slice(), table)
-}
-
-/// Runs the scenario that a text is, by itself.
+/// Runs the scenario that a text is, by itself, with the images of the shelf that its jobs need.
 ///
 /// # Errors
 ///
-/// `BadScenario` for a text that is no scenario by the rules of the table. `NoMemory` where there is no memory for any of
-/// it.
-pub fn run(alloc: Global, table: &Table, text: &[u8]) -> Result<Prepared, Status>
-    ensures comes { ComesTo (IsWholeRun (scenario_reading (map (λ r. (string_bytes r.name, r.rule)) table.now.list.items) text.now)) result }
-    ensures refusal { IfErr result (IsRefusal ⊥ ⊥) }
+/// `BadScenario` for a text that is no scenario by the rules of the table. `Absent` and `BadImage` of the first image that is needed and
+/// isn't there or isn't spelled, and `ShelfFault` where the get of one failed. `NoMemory` where there is no memory for any of it.
+pub fn run<H: Shelf>(
+    alloc: Global,
+    table: &Table,
+    text: &[u8],
+    shelf: &mut H,
+) -> Result<Prepared, Status>
+    ensures comes { ComesTo (IsWholeRun (H.files shelf.old) (scenario_reading (map (λ r. (string_bytes r.name, r.rule)) table.now.list.items) text.now)) result }
+    ensures refusal { IfErr result (IsRefusal ⊥ (Rose (H.failed_gets shelf.old) (H.failed_gets shelf.new)
+        × IsScenarioWithImages (scenario_reading (map (λ r. (string_bytes r.name, r.rule)) table.now.list.items) text.now))) }
+    ensures same_files { H.files shelf.new ≡ H.files shelf.old }
+    ensures same_puts { H.failed_puts shelf.new ≡ H.failed_puts shelf.old }
 {
     let scenario = scenario_in(alloc, table, text)?;
-    run_scenario(alloc, table, &scenario)
+    let images = images_for(alloc, shelf, scenario.jobs.as_slice())?;
+    run_first(alloc, table, &scenario, images.as_slice())
 }

@@ -1,6 +1,5 @@
 //! How a job ends.
-use fk_finish::Place;
-use fk_image::Image;
+use fk_finish::{Place, ValidImage};
 
 /// How a job has ended. The numbers are places in the history, of its first move and its last.
 #[derive(Drop)]
@@ -9,7 +8,7 @@ pub enum JobEnd {
     Checkpointed {
         hold: u64,
         release: u64,
-        image: Image,
+        image: ValidImage,
     },
     /// The subtree that was to be saved wasn't closed, first here.
     Foreign {

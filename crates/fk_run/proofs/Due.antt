@@ -15,6 +15,10 @@ use Rattle.fk_commands.specs.Prepared.{ComesTo, IsRefusal, outcome_of}
 use Rattle.fk_commands.specs.Status.{progress_of, Finished, was_cut_short}
 use Rattle.fk_commands.proofs.Comes.{comes-also}
 use Rattle.fk_commands.specs.Show.{IsShow}
+use Rattle.fk_commands.specs.Files.{image_name}
+use Rattle.fk_report.specs.declared.job_end.JobEnd.{JobEnd}
+use Rattle.fk_report.specs.declared.job_end.JobEnd.TheVariants.{Checkpointed, Foreign, Dead, Restored, NoImage, Occupied, NoPort}
+use Rattle.fk_run.specs.Puts.{OpensEnd}
 use Rattle.fk_run.specs.Top.{Rules, IsDue, IsDone, IsCutOff, IsUnput, HasFailed, GetsToShelf}
 
 -- what a source may hold: what it tells, or else anything
@@ -68,6 +72,17 @@ show-refused rules AtSource AtShelf name left (Err status) h = by status h
 pub keeps_same : (files : Option FileMap) (name : List ℕ) → KeepsOthers files files name
 keeps_same None name = tt
 keeps_same (Some files) name = λ other differs. refl
+
+-- nor is that of a job
+pub opens_same : (name : List ℕ) (end : Option JobEnd) (files : Option FileMap) → OpensEnd name end files files
+opens_same name None files = refl
+opens_same name (Some (Checkpointed hold release image)) files = keeps_same files (image_name name)
+opens_same name (Some (Foreign place hold release)) files = refl
+opens_same name (Some Dead) files = refl
+opens_same name (Some (Restored make release)) files = refl
+opens_same name (Some NoImage) files = refl
+opens_same name (Some Occupied) files = refl
+opens_same name (Some (NoPort port make release)) files = refl
 
 module _ (rules : Rules) (command : Option Command) (left : Option (List ℕ)) (files : Option FileMap) (run : Prepared) (outcome : Outcome) where
   -- what is prepared is due, and was done whole

@@ -10,7 +10,7 @@ use Rattle.fk_report.specs.declared.job_end.JobEnd.{JobEnd}
 use Rattle.fk_report.specs.declared.job_end.JobEnd.TheVariants.{Checkpointed, Foreign, Dead, Restored, NoImage, Occupied, NoPort}
 use Rattle.fk_model.specs.declared.moves.Move.{Move}
 use Rattle.fk_run.specs.Commands.{Command, Exec, Check, Run, Play, Show}
-use Rattle.fk_run.specs.Puts.{IsImageName, IsTraceName, KeepsBut, KeepsButTrace, KeepsFiles, PutImages, PutSomeImages, PutsEnd, PutsTrace, PutsRun, PutsSome, HasPut, HasPutSome}
+use Rattle.fk_run.specs.Puts.{IsImageName, IsTraceName, KeepsBut, KeepsButTrace, KeepsFiles, OpensEnd, PutImages, PutSomeImages, PutsEnd, PutsTrace, PutsRun, PutsSome, HasPut, HasPutSome}
 
 module _ (May : List ℕ → Type 0) where
   same : (old new : Option FileMap) → new ≡ old → KeepsBut May old new
@@ -45,10 +45,20 @@ module _ (May : List ℕ → Type 0) where
     all ends place (name ∷ names) old new h =
         then_ old h.0 new (one name (end_in (slice_get ends place)) old h.0 h.1) (all ends (place + 1) names h.0 new h.2)
 
+    opened : (name : List ℕ) (end : Option JobEnd) (old new : Option FileMap) → OpensEnd name end old new → KeepsBut May old new
+    opened name None old new h = same old new h
+    opened name (Some (Checkpointed hold release image)) old new h = but_one (image_name name) old new (images name) h
+    opened name (Some (Foreign place hold release)) old new h = same old new h
+    opened name (Some Dead) old new h = same old new h
+    opened name (Some (Restored make release)) old new h = same old new h
+    opened name (Some NoImage) old new h = same old new h
+    opened name (Some Occupied) old new h = same old new h
+    opened name (Some (NoPort port make release)) old new h = same old new h
+
     some : (ends : List (Option JobEnd)) (place : ℕ) (names : List (List ℕ)) (old new : Option FileMap) → PutSomeImages ends place names old new
         → KeepsBut May old new
     some ends place [] old new h = same old new h
-    some ends place (name ∷ names) old new (inl open_) = but_one (image_name name) old new (images name) open_
+    some ends place (name ∷ names) old new (inl open_) = opened name (end_in (slice_get ends place)) old new open_
     some ends place (name ∷ names) old new (inr h) =
         then_ old h.0 new (one name (end_in (slice_get ends place)) old h.0 h.1) (some ends (place + 1) names h.0 new h.2)
 

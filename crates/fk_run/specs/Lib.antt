@@ -6,7 +6,10 @@ pub use Rattle.fk_commands.specs.ExecText
 pub use Rattle.fk_commands.specs.Exec
 pub use Rattle.fk_runs.specs.Replay
 pub use Rattle.fk_runs.specs.Runs
+pub use Rattle.fk_runs.specs.Headline
+pub use Rattle.fk_first.specs.First
 pub use Rattle.fk_plays.specs.Play
+pub use Rattle.fk_plays.specs.Images
 pub use Rattle.fk_commands.specs.Check
 pub use Rattle.fk_commands.specs.Show
 pub use Rattle.fk_commands.specs.Prepared
@@ -14,3 +17,4 @@ pub mod Commands
 pub mod Puts
 pub mod Top
 pub mod Again
+pub mod Jobs

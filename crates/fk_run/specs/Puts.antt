@@ -53,9 +53,20 @@ PutsRun trace report old new =
 
 -- ---- the same up to a put that failed: what was to be put before it is put, its own file is open, and all others are as before
 
+-- of a job's image, where it has made one
+abbrev pub OpensEnd : List ℕ → Option JobEnd → Option FileMap → Option FileMap → Type 0
+OpensEnd name None old new = new ≡ old
+OpensEnd name (Some (Checkpointed hold release image)) old new = KeepsOthers old new (image_name name)
+OpensEnd name (Some (Foreign place hold release)) old new = new ≡ old
+OpensEnd name (Some Dead) old new = new ≡ old
+OpensEnd name (Some (Restored make release)) old new = new ≡ old
+OpensEnd name (Some NoImage) old new = new ≡ old
+OpensEnd name (Some Occupied) old new = new ≡ old
+OpensEnd name (Some (NoPort port make release)) old new = new ≡ old
+
 abbrev pub PutSomeImages : List (Option JobEnd) → ℕ → List (List ℕ) → Option FileMap → Option FileMap → Type 0
 PutSomeImages ends place [] old new = new ≡ old
-PutSomeImages ends place (name ∷ names) old new = KeepsOthers old new (image_name name)
+PutSomeImages ends place (name ∷ names) old new = OpensEnd name (end_in (slice_get ends place)) old new
     ⊎ ((between : Option FileMap) × PutsEnd name (end_in (slice_get ends place)) old between × PutSomeImages ends (place + 1) names between new)
 
 abbrev pub KeepsButTrace : Option (List ℕ) → Option FileMap → Option FileMap → Type 0

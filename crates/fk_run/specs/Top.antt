@@ -16,7 +16,7 @@ use Rattle.fk_commands.specs.Check.{IsCheck}
 use Rattle.fk_run.specs.Commands.{Command, Exec, Check, Run, Play, Show, reads_source}
 use Rattle.fk_commands.specs.Exec.{IsExec}
 use Rattle.fk_commands.specs.Outcomes.{IsRefused}
-use Rattle.fk_plays.specs.Play.{IsPlay, IsWholeRun, IsScenario}
+use Rattle.fk_plays.specs.Play.{IsPlay, IsWholeRun, IsScenario, IsScenarioWithImages}
 use Rattle.fk_commands.specs.Show.{IsShow}
 use Rattle.fk_commands.specs.Status.{progress_of, is_past_reading, Finished}
 
@@ -33,7 +33,7 @@ abbrev pub IsCalledFor : Rules → Option Command → Option FileMap → List �
 IsCalledFor rules None files bytes outcome text = IsRefused Usage outcome text
 IsCalledFor rules (Some Exec) files bytes outcome text = IsUnlessTooLong bytes (IsExec (assembled bytes)) outcome text
 IsCalledFor rules (Some Check) files bytes outcome text = IsUnlessTooLong bytes (IsCheck (scenario_reading rules bytes)) outcome text
-IsCalledFor rules (Some (Run trace)) files bytes outcome text = IsUnlessTooLong bytes (IsWholeRun (scenario_reading rules bytes)) outcome text
+IsCalledFor rules (Some (Run trace)) files bytes outcome text = IsUnlessTooLong bytes (IsWholeRun files (scenario_reading rules bytes)) outcome text
 IsCalledFor rules (Some (Play name)) files bytes outcome text = IsUnlessTooLong bytes (IsPlay name files (scenario_reading rules bytes)) outcome text
 IsCalledFor rules (Some (Show name)) files bytes outcome text = IsShow name files outcome text
 
@@ -65,12 +65,12 @@ pub record IsUnput (rules : Rules) (command : Option Command) (left : Option (Li
   pub text : List ℕ
   pub due : IsDue rules command left files (record outcome { status = status }) text
 
--- which commands get to the shelf over these bytes of the source: `play` only with a scenario
+-- which commands get to the shelf over these bytes of the source: `play` only with a scenario, and `run` with one that needs an image
 abbrev pub AsksShelf : Rules → Option Command → List ℕ → Type 0
 AsksShelf rules None bytes = ⊥
 AsksShelf rules (Some Exec) bytes = ⊥
 AsksShelf rules (Some Check) bytes = ⊥
-AsksShelf rules (Some (Run trace)) bytes = ⊥
+AsksShelf rules (Some (Run trace)) bytes = (length bytes ≤ LIMIT) × IsScenarioWithImages (scenario_reading rules bytes)
 AsksShelf rules (Some (Play name)) bytes = (length bytes ≤ LIMIT) × IsScenario (scenario_reading rules bytes)
 AsksShelf rules (Some (Show name)) bytes = ⊤
 

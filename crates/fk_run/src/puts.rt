@@ -5,33 +5,21 @@ ghost use Rattle.fk_causes.specs.Causes.{Rose};
 ghost use Rattle.fk_causes.specs.Shelf.{KeepsOthers};
 ghost use Rattle.fk_causes.specs.declared.shelf.ShelfFail.TheVariants as fails;
 ghost use Rattle.fk_commands.specs.Files.{image_name, trace_name};
-ghost use Rattle.fk_image_format.specs.Spells.{SpellsImage};
 ghost use Rattle.fk_run.specs.Again.{AreSmall, IsSmall, PlaysAgain};
 ghost use Rattle.fk_run.specs.Commands.{uses_shelf, seen};
-ghost use Rattle.fk_run.specs.Puts.{HasPut, HasPutSome, IsPut, KeepsButTrace, KeepsFiles, PutImages, PutSomeImages, PutsEnd, PutsImage, PutsRun, PutsSome, PutsTrace};
+ghost use Rattle.fk_run.specs.Puts.{HasPut, HasPutSome, IsPut, KeepsButTrace, KeepsFiles, OpensEnd, PutImages, PutSomeImages, PutsEnd, PutsImage, PutsRun, PutsSome, PutsTrace};
 ghost use Rattle.fk_run.specs.Top.{Rules};
 ghost use Rattle.fk_trace_text.specs.Trace as traces;
 
 use crate::command::Command;
 use fk_causes::{Shelf, ShelfFail};
 use fk_commands::Report;
-use fk_image::Image;
-use fk_image_valid::is_valid;
+use fk_finish::ValidImage;
 use fk_image_writing::write;
-use fk_model::{Move, NoMemory, Text};
+use fk_model::{Move, Text};
 use fk_report::{JobEnd, end_at};
 use fk_trace_text::trace_text;
 use std::alloc::Global;
-
-/// The bytes of an image. Each that a checkpoint makes is valid; no other has any.
-fn bytes_of(alloc: Global, image: &Image) -> Result<Vec<u8>, NoMemory>
-    ensures { IfOk result (λ bytes. SpellsImage bytes.items image.now) }
-{
-    if !is_valid(alloc, image)? {
-        return Err(NoMemory);
-    }
-    write(alloc, image)
-}
 
 /// Puts an image under a name.
 ///
@@ -42,7 +30,7 @@ fn bytes_of(alloc: Global, image: &Image) -> Result<Vec<u8>, NoMemory>
 fn put_image<H: Shelf>(
     alloc: Global,
     name: &str,
-    image: &Image,
+    image: &ValidImage,
     shelf: &mut H,
 ) -> Result<(), ShelfFail>
     ensures put { OnOk result (PutsImage name.now image.now (H.files shelf.old) (H.files shelf.new)) }
@@ -52,7 +40,7 @@ fn put_image<H: Shelf>(
     ensures same_gets { H.failed_gets shelf.new ≡ H.failed_gets shelf.old }
 {
     let file = format!(in alloc; "{name}.img")?;
-    match bytes_of(alloc, image) {
+    match write(alloc, image.get()) {
         Ok(bytes) => shelf.put(file.as_str(), &bytes),
         Err(_) => Err(ShelfFail::NoMemory),
     }
@@ -67,7 +55,7 @@ fn put_end<H: Shelf>(
     shelf: &mut H,
 ) -> Result<(), ShelfFail>
     ensures put { OnOk result (PutsEnd name.now (option_map (λ e. e.now) end.entry) (H.files shelf.old) (H.files shelf.new)) }
-    ensures others { KeepsOthers (H.files shelf.old) (H.files shelf.new) (image_name name.now) }
+    ensures others { OpensEnd name.now (option_map (λ e. e.now) end.entry) (H.files shelf.old) (H.files shelf.new) }
     ensures cause { result ≡ Err fails.Failed → Rose (H.failed_puts shelf.old) (H.failed_puts shelf.new) }
     ensures later { H.failed_puts shelf.old ≤ H.failed_puts shelf.new }
     ensures same_gets { H.failed_gets shelf.new ≡ H.failed_gets shelf.old }
@@ -85,6 +73,7 @@ fn put_end<H: Shelf>(
 }
 
 /// Puts the images that jobs have made under these names, in the order of the jobs.
+#[tactic(auto, using(crate::proofs::Due::opens_same))]
 fn put_images<H: Shelf>(
     alloc: Global,
     names: &[Text],

@@ -7,6 +7,7 @@ ghost use Rattle.fk_run.specs.Again.{PlaysAgain};
 ghost use Rattle.fk_run.specs.Commands.{command_of, reads_source, uses_shelf, seen};
 ghost use Rattle.fk_commands.specs.Prepared.{ComesTo, IsRefusal, outcome_of};
 ghost use Rattle.fk_commands.specs.Status.{progress_of, Finished, was_cut_short, has_written_nothing};
+ghost use Rattle.fk_run.specs.Jobs.{HoldsOf};
 ghost use Rattle.fk_run.specs.Puts.{HasPut, HasPutSome, KeepsFiles};
 ghost use Rattle.fk_run.specs.Top.{Rules, IsDue, IsDone, IsCutOff, HasFailed, GetsToShelf, has_no_report, has_put_all, has_put_none, has_read_all};
 
@@ -49,7 +50,7 @@ fn prepare<R: Source, H: Shelf>(
     match command {
         Command::Exec => exec(alloc, &source_text(alloc, source)?),
         Command::Check => check(alloc, table, &source_text(alloc, source)?),
-        Command::Run(_) => run(alloc, table, &source_text(alloc, source)?),
+        Command::Run(_) => run(alloc, table, &source_text(alloc, source)?, shelf),
         Command::Play(name) => play(alloc, table, name, &source_text(alloc, source)?, shelf),
         Command::Show(name) => show(alloc, name, shelf),
     }
@@ -115,10 +116,10 @@ fn finish<W: Sink, H: Shelf>(
 /// and zeros after them, for at most 100,000 instructions, and writes how that ended. `check` reads the source's scenario, and
 /// writes its counts. `run` reads the source's scenario, runs it by itself until no move is ready or its budget is used, and
 /// writes the report of that run; before it writes it puts on the shelf the images that its checkpoints have made, each as `NAME.img` of
-/// its name, in the order of the jobs, and `run --trace NAME` then its trace, as `NAME.trc`: with that
+/// its name, in the order of the jobs, and `run --trace NAME` then its trace, as `NAME.trc`: with that, and with the images that the run read,
 /// `play NAME` comes to the same status, report and text. `play NAME`
 /// reads the source's scenario, makes the moves of the trace that lies on the shelf as `NAME.trc`,
-/// and writes the report of that run. `show NAME` reads no source, and writes the counts of the image
+/// and writes the report of that run. Both first read the images that the scenario's restores need of the shelf. `show NAME` reads no source, and writes the counts of the image
 /// that lies on the shelf as `NAME.img`. NAME is 1 to 32 characters of `a` to `z`, `0` to `9` and `_`.
 ///
 /// The status of the outcome says how the call ended. `Usage` comes exactly for words that are no
@@ -126,8 +127,8 @@ fn finish<W: Sink, H: Shelf>(
 /// or the memory failed, the outcome and the output are those that the bytes of the source and the
 /// files of the shelf call for: where these are told, those that are told, and some that they may have
 /// held where not. `ReadFault`, `WriteFault` and `ShelfFault` come only where that object's count of
-/// faults rose in this call: `ShelfFault` of `play` only once the scenario is accepted, that of `run` only once the run is
-/// made and a put failed: what was to be put before that is put, and no other file has changed but that one; `WriteFault` only
+/// faults rose in this call: `ShelfFault` of a get, of `play` only once the scenario is accepted and of `run` once one is that needs an image; that of a put
+/// only once the run is made: what was to be put before that is put, and no other file has changed but that one; `WriteFault` only
 /// once all is done but the writing. `NoMemory` comes where there is no memory for the text, for what is
 /// made of it, or for the output.
 ///
@@ -169,6 +170,7 @@ pub fn fluke_top<R: Source, W: Sink, H: Shelf>(
         → HasPutSome (command_of (map string_bytes words.now)) result.report (H.files shelf.old) (H.files shelf.new) }
     ensures again { OnTrue (has_put_all result.status) (PlaysAgain (map (λ r. (string_bytes r.name, r.rule)) table.now.list.items)
         (command_of (map string_bytes words.now)) (H.files shelf.new) result.report) }
+    ensures headline { HoldsOf (map (λ r. (string_bytes r.name, r.rule)) table.now.list.items) result.report }
     ensures files { KeepsFiles (command_of (map string_bytes words.now)) (H.files shelf.old) (H.files shelf.new) }
     ensures no_put { OnTrue (has_put_none result.status)
         ((H.files shelf.new ≡ H.files shelf.old) × (H.failed_puts shelf.new ≡ H.failed_puts shelf.old)) }

@@ -1,5 +1,7 @@
 pub mod Replays
 pub mod Made
-pub mod Firsts
 pub mod Replayed
 pub mod Fills
+pub mod From
+pub mod Ended
+pub mod Headlines

@@ -10,8 +10,7 @@ use Rattle.fk_runs.specs.Replay.{MayPlay}
 use Rattle.fk_runs.specs.Runs.{IsPlayed, IsRunAlone, RunPlaysAgain}
 use Rattle.fk_trace_text.specs.Trace.{IsMove, AreLegal, trace_text}
 use Rattle.fk_trace_text.proofs.Traces.{AreLegal-more, none_are_legal}
-use Rattle.fk_boot.specs.Plans.{first_jobs}
-use Rattle.laws_house.specs.Houses.{Job}
+use Rattle.laws_house.specs.Houses.{Job, jobs_of}
 use Rattle.laws_runs.specs.Cores.{IsRun, Begins, Goes}
 
 front : {X : Type 0} (P : X → Type 0) (xs ys : List X) → All P (xs ++ ys) → All P xs
@@ -33,8 +32,8 @@ legal jobs budget first _ _ (Goes past c m d run ready settles) ranges few =
     (omega (arith, few, longer), (c, run, ready))
 
 pub plays-again : RunPlaysAgain
-plays-again specs first budget status report text ranges ran = (
-  record { legal = legal (first_jobs specs) budget first report.history ran.0.last ran.0.run ranges ran.0.within; spelled = refl },
+plays-again specs given first budget status report text ranges ran = (
+  record { legal = legal (jobs_of specs given) budget first report.history ran.0.last ran.0.run ranges ran.0.within; spelled = refl },
   ran.0,
   ran.2,
 )

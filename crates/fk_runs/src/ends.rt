@@ -1,20 +1,24 @@
 //! How the jobs of a run have ended.
 ghost use Rattle.std.specs.Prelude.{◌≡◌, ◌++◌, ◌-◌, Some, None, IfOk, OnOk, map, length, replicate};
-ghost use Rattle.fk_checkpoint.specs.Checkpoints.{end_of};
-ghost use Rattle.fk_jobs.specs.Jobs.{shown_end, shown_ends};
+ghost use Rattle.fk_checkpoint.specs.Checkpoints as checkpoints;
+ghost use Rattle.fk_jobs.specs.Jobs.{end_at, shown_end, shown_ends};
 ghost use Rattle.fk_porters.specs.Porters.{state_of};
+ghost use Rattle.fk_porters.specs.declared.porter.Porter.TheVariants as porters;
+ghost use Rattle.fk_restore.specs.Restores as restores;
 ghost use Rattle.fk_runs.specs.Ends as definitions;
+ghost use Rattle.laws_house.specs.Houses.{machine};
 
+use fk_checkpoint::Checkpoint;
 use fk_finish::Finish;
 use fk_jobs::Ended;
 use fk_model::{JobSpec, List as Items, NoMemory, Text};
-use fk_porters::Porter;
+use fk_porters::{Porter, Sound};
 use fk_report::JobEnd;
 use std::alloc::Global;
 
 /// How a checkpoint has ended by its own moves, of which these are the first and the last.
 fn told_check(finish: Finish, hold: u64, release: u64) -> JobEnd
-    ensures { result ≡ definitions.told_check (end_of finish) hold release }
+    ensures { result ≡ definitions.told_check (checkpoints.end_of finish) hold release }
 {
     match finish {
         Finish::Image(image) => JobEnd::Checkpointed {
@@ -34,31 +38,71 @@ fn told_check(finish: Finish, hold: u64, release: u64) -> JobEnd
     }
 }
 
-/// How a job has ended.
-fn told_of(end: Option<Ended<Porter>>) -> JobEnd
-    ensures { result ≡ definitions.told_of (shown_end state_of end) }
+/// And a restore.
+fn told_restore(finish: Finish, make: u64, release: u64) -> JobEnd
+    ensures { result ≡ definitions.told_restore (restores.end_of finish) make release }
 {
-    let Some(
-        Ended {
-            worker,
-            begun,
-            last,
+    match finish {
+        Finish::Image(_) => JobEnd::Restored { make, release },
+        Finish::Foreign(_) => JobEnd::Restored { make, release },
+        Finish::Dead => JobEnd::Restored { make, release },
+        Finish::Restored => JobEnd::Restored { make, release },
+        Finish::Occupied => JobEnd::Occupied,
+        Finish::NoPort(port) => JobEnd::NoPort {
+            port,
+            make,
+            release,
         },
-    ) = end
-    else {
-        return JobEnd::Dead;
-    };
-    match worker.finish() {
-        Some(finish) => told_check(finish, begun, last),
+    }
+}
+
+/// How a checkpoint's code has ended.
+fn told_checkpoint(checkpoint: Checkpoint, hold: u64, release: u64) -> JobEnd
+    ensures { result ≡ definitions.told_work (end_at (machine.head (state_of (porters.Checkpoint checkpoint)))) hold release }
+{
+    match checkpoint.finish() {
+        Some(finish) => told_check(finish, hold, release),
         None => JobEnd::Dead,
     }
 }
 
+/// And a restore's.
+fn told_restorer(restore: Sound, make: u64, release: u64) -> JobEnd
+    ensures { result ≡ definitions.told_work (end_at (machine.head (state_of (porters.Restore restore)))) make release }
+{
+    match restore.finish() {
+        Some(finish) => told_restore(finish, make, release),
+        None => JobEnd::Dead,
+    }
+}
+
+/// How a job has ended by its own moves, of which these are the first and the last.
+fn told_work(worker: Porter, begun: u64, last: u64) -> JobEnd
+    ensures { result ≡ definitions.told_work (end_at (machine.head (state_of worker))) begun last }
+{
+    match worker {
+        Porter::Checkpoint(checkpoint) => told_checkpoint(checkpoint, begun, last),
+        Porter::Restore(restore) => told_restorer(restore, begun, last),
+    }
+}
+
+/// How a job has ended.
+fn told_of(end: Ended<Porter>) -> JobEnd
+    ensures { result ≡ definitions.told_of (shown_end state_of end) }
+{
+    match end {
+        Ended::Worked {
+            worker,
+            begun,
+            last,
+        } => told_work(worker, begun, last),
+        Ended::NoImage => JobEnd::NoImage,
+        Ended::Dead => JobEnd::Dead,
+    }
+}
+
 /// How those have ended that have.
-fn told_ended(
-    alloc: Global,
-    ends: Vec<Option<Ended<Porter>>>,
-) -> Result<Items<Option<JobEnd>>, NoMemory>
+fn told_ended(alloc: Global, ends: Vec<Ended<Porter>>) -> Result<Items<Option<JobEnd>>, NoMemory>
     ensures { IfOk result (λ told. told ≡ map (λ e. Some (definitions.told_of e)) (shown_ends state_of ends.items)) }
 {
     let mut told = Items::new(alloc);
@@ -83,7 +127,7 @@ fn fill(told: &mut Items<Option<JobEnd>>, count: usize) -> Result<(), NoMemory>
 pub fn told_in(
     alloc: Global,
     count: usize,
-    ends: Vec<Option<Ended<Porter>>>,
+    ends: Vec<Ended<Porter>>,
 ) -> Result<Items<Option<JobEnd>>, NoMemory>
     ensures { IfOk result (λ told. told ≡ definitions.told_in count (shown_ends state_of ends.items)) }
 {

@@ -3,8 +3,9 @@ ghost use Rattle.std.specs.Prelude.{◌≡◌, ◌<◌, ◌≤◌, ◌+◌, List
 ghost use Rattle.std.specs.Bool.{OnTrue, OnFalse};
 ghost use Rattle.fk_model.specs.declared.moves.Move as moves_of;
 ghost use Rattle.laws_runs.specs.Cores.{IsRun};
-ghost use Rattle.fk_core.specs.Cores.{house, core_at, IsReadyMove, IsTurned};
-ghost use Rattle.fk_core.specs.Served.{AllFit};
+ghost use Rattle.fk_core.specs.Cores.{house, run_core, IsReadyMove, IsTurned};
+ghost use Rattle.fk_core.specs.Goings.{IsGoing};
+ghost use Rattle.fk_served.specs.Served.{AllFit};
 ghost use Rattle.fk_trace_text.specs.Trace.{BeginsWith, BeginsWithNone, Spells};
 ghost use Rattle.fk_runs.specs.Replay.{MayPlay, IsCause, GivesMoves};
 ghost use Rattle.fk_runs.specs.declared.traces.ReplayFail.TheVariants as fails;
@@ -46,15 +47,17 @@ fn make_next<'a, S: Service + Drop, W: Worker + Drop>(
     text: &'a [u8],
 ) -> Result<Option<(Move, &'a [u8])>, NoMemory>
     requires fits { AllFit (map (λ r. r.rule) table.now.list.items) core.old.services.list }
+    requires come { IsGoing core.old }
     ensures found { IfOk result (λ made. IfSome made (λ next. BeginsWith text.now next.0 next.1.now)) }
     ensures few { IfOk result (λ made. IfSome made (λ next. core.old.events < core.old.budget)) }
-    ensures ready { IfOk result (λ made. IfSome made (λ next. IsReadyMove core.old.jobs.jobs (core_at core.old.kernel core.old.services.list core.old.jobs core.old.events) next.0)) }
-    ensures turned { IfOk result (λ made. IfSome made (λ next. IsTurned core.old.jobs.jobs (core_at core.old.kernel core.old.services.list core.old.jobs core.old.events) next.0
-        (core_at core.new.kernel core.new.services.list core.new.jobs core.new.events))) }
+    ensures ready { IfOk result (λ made. IfSome made (λ next. IsReadyMove core.old.jobs.jobs (run_core core.old) next.0)) }
+    ensures turned { IfOk result (λ made. IfSome made (λ next. IsTurned core.old.jobs.jobs (run_core core.old) next.0
+        (run_core core.new))) }
     ensures events { IfOk result (λ made. IfSome made (λ next. core.new.events ≡ core.old.events + 1)) }
     ensures none { IfOk result (λ made. IfNone made (BeginsWithNone (λ move. (core.old.events < core.old.budget)
-        × IsReadyMove core.old.jobs.jobs (core_at core.old.kernel core.old.services.list core.old.jobs core.old.events) move) text.now)) }
+        × IsReadyMove core.old.jobs.jobs (run_core core.old) move) text.now)) }
     ensures fits { AllFit (map (λ r. r.rule) table.now.list.items) core.new.services.list }
+    ensures come { IsGoing core.new }
     ensures budget { core.new.budget ≡ core.old.budget }
     ensures jobs { core.new.jobs.jobs ≡ core.old.jobs.jobs }
 {
@@ -85,14 +88,15 @@ pub fn replay<S: Service + Drop, W: Worker + Drop>(
     text: &[u8],
 ) -> Result<Items<Move>, ReplayFail>
     requires fits { AllFit (map (λ r. r.rule) table.now.list.items) core.old.services.list }
+    requires come { IsGoing core.old }
     requires first { core.old.events ≡ 0 }
-    ensures found { IfOk result (λ moves. Spells (MayPlay core.old.jobs.jobs core.old.budget (core_at core.old.kernel core.old.services.list core.old.jobs core.old.events)) text.now moves) }
-    ensures run { IfOk result (λ moves. IsRun (house core.old.jobs.jobs) (core_at core.old.kernel core.old.services.list core.old.jobs core.old.events) moves
-        (core_at core.new.kernel core.new.services.list core.new.jobs core.new.events)) }
+    ensures found { IfOk result (λ moves. Spells (MayPlay core.old.jobs.jobs core.old.budget (run_core core.old)) text.now moves) }
+    ensures run { IfOk result (λ moves. IsRun (house core.old.jobs.jobs) (run_core core.old) moves
+        (run_core core.new)) }
     ensures events { IfOk result (λ moves. (core.new.events ≡ length moves) × (core.new.events ≤ core.old.budget)) }
-    ensures cause { IfErr result (λ fail. IsCause (MayPlay core.old.jobs.jobs core.old.budget (core_at core.old.kernel core.old.services.list core.old.jobs core.old.events)) text.now fail) }
+    ensures cause { IfErr result (λ fail. IsCause (MayPlay core.old.jobs.jobs core.old.budget (run_core core.old)) text.now fail) }
     ensures back { (moves : List moves_of.Move)
-        → Spells (MayPlay core.old.jobs.jobs core.old.budget (core_at core.old.kernel core.old.services.list core.old.jobs core.old.events)) text.now moves → GivesMoves moves result }
+        → Spells (MayPlay core.old.jobs.jobs core.old.budget (run_core core.old)) text.now moves → GivesMoves moves result }
     ensures budget { core.new.budget ≡ core.old.budget }
     ensures jobs { core.new.jobs.jobs ≡ core.old.jobs.jobs }
 {

@@ -1,10 +1,11 @@
 //! Whole runs, from their first core to what is written of them.
 ghost use Rattle.std.specs.Prelude.{◌≡◌, ◌≤◌, length, map, IfOk, IfErr};
-ghost use Rattle.fk_boot.specs.Plans.{first_jobs};
 ghost use Rattle.fk_commands.specs.Prepared.{ComesTo, IsRefusal};
 ghost use Rattle.fk_commands.specs.Status.{progress_of, Finished};
-ghost use Rattle.fk_core.specs.Cores.{core_at};
-ghost use Rattle.fk_core.specs.Served.{AllFit};
+ghost use Rattle.fk_core.specs.Cores.{run_core};
+ghost use Rattle.fk_core.specs.Goings.{IsGoing};
+ghost use Rattle.fk_served.specs.Served.{AllFit};
+ghost use Rattle.laws_house.specs.Houses.{jobs_of};
 ghost use Rattle.fk_report.specs.Jobs.{refused_from};
 ghost use Rattle.fk_runs.specs.Runs.{IsEnd, IsMade, IsPlayed, IsRunAlone, status_of_end, status_of_refused};
 
@@ -12,6 +13,7 @@ use crate::ends::{images_of, told_in};
 use crate::traces::{ReplayFail, replay};
 use fk_commands::{Prepared, Report, Status};
 use fk_core::Core;
+use fk_finish::ValidImage;
 use fk_jobs::Worker;
 use fk_model::{JobSpec, List as Items, Move, NoMemory};
 use fk_natives::Service;
@@ -23,7 +25,7 @@ use std::alloc::Global;
 /// How a run ends that has come to a core: as the core has ended, or with the list that was played.
 fn end_of<S: Service + Drop, W: Worker + Drop>(core: &Core<S, W>) -> End
     requires within { core.now.events ≤ core.now.budget }
-    ensures { IsEnd core.now.jobs.jobs core.now.budget (core_at core.now.kernel core.now.services.list core.now.jobs core.now.events) result }
+    ensures { IsEnd core.now.jobs.jobs core.now.budget (run_core core.now) result }
 {
     match core.ended() {
         Some(end) => end,
@@ -58,12 +60,13 @@ fn prepared<S: Service + Drop>(
     alloc: Global,
     core: Core<S, Porter>,
     specs: &[JobSpec],
+    images: &[Option<ValidImage>],
     history: Items<Move>,
 ) -> Result<Prepared, NoMemory>
-    requires jobs { core.jobs.jobs ≡ first_jobs specs.now }
+    requires jobs { core.jobs.jobs ≡ jobs_of specs.now images.now }
     requires within { core.events ≤ core.budget }
     requires few { length history ≤ core.budget }
-    ensures { IfOk result (λ made. IsMade specs.now (core_at core.kernel core.services.list core.jobs core.events) core.budget history made) }
+    ensures { IfOk result (λ made. IsMade specs.now images.now (run_core core) core.budget history made) }
 {
     let threads = threads_of(alloc, core.kernel().store())?;
     let end = end_of(&core);
@@ -73,13 +76,13 @@ fn prepared<S: Service + Drop>(
     let events = history.len() as u64;
     let output = run_text(alloc, events, end, specs, jobs.as_slice(), outs.as_str())?;
     let status = status_of(end, budget, jobs.as_slice())?;
-    let images = images_of(alloc, specs)?;
+    let names = images_of(alloc, specs)?;
     Ok(Prepared {
         status,
         report: Some(Report {
             history,
             jobs,
-            images,
+            images: names,
             end,
         }),
         output,
@@ -95,13 +98,15 @@ pub fn play_core<S: Service + Drop>(
     alloc: Global,
     mut core: Core<S, Porter>,
     specs: &[JobSpec],
+    images: &[Option<ValidImage>],
     table: &Table,
     trace: &[u8],
 ) -> Result<Prepared, Status>
     requires fits { AllFit (map (λ r. r.rule) table.now.list.items) core.services.list }
     requires first { core.events ≡ 0 }
-    requires jobs { core.jobs.jobs ≡ first_jobs specs.now }
-    ensures comes { ComesTo (λ outcome. IsPlayed specs.now (core_at core.kernel core.services.list core.jobs core.events) core.budget trace.now
+    requires come { IsGoing core }
+    requires jobs { core.jobs.jobs ≡ jobs_of specs.now images.now }
+    ensures comes { ComesTo (λ outcome. IsPlayed specs.now images.now (run_core core) core.budget trace.now
         outcome.status outcome.report) result }
     ensures refusal { IfErr result (IsRefusal ⊥ ⊥) }
 {
@@ -110,7 +115,7 @@ pub fn play_core<S: Service + Drop>(
         Err(ReplayFail::Trace { index }) => return Err(Status::BadTrace { index }),
         Err(ReplayFail::NoMemory) => return Err(Status::NoMemory),
     };
-    Ok(prepared(alloc, core, specs, history)?)
+    Ok(prepared(alloc, core, specs, images, history)?)
 }
 
 /// Runs a first core with its jobs by itself, and prepares the report.
@@ -122,15 +127,17 @@ pub fn run_core<S: Service + Drop>(
     alloc: Global,
     mut core: Core<S, Porter>,
     specs: &[JobSpec],
+    images: &[Option<ValidImage>],
     table: &Table,
 ) -> Result<Prepared, Status>
     requires fits { AllFit (map (λ r. r.rule) table.now.list.items) core.services.list }
     requires first { core.events ≡ 0 }
-    requires jobs { core.jobs.jobs ≡ first_jobs specs.now }
-    ensures comes { ComesTo (λ outcome. IsRunAlone specs.now (core_at core.kernel core.services.list core.jobs core.events) core.budget
+    requires come { IsGoing core }
+    requires jobs { core.jobs.jobs ≡ jobs_of specs.now images.now }
+    ensures comes { ComesTo (λ outcome. IsRunAlone specs.now images.now (run_core core) core.budget
         outcome.status outcome.report) result }
     ensures refusal { IfErr result (IsRefusal ⊥ ⊥) }
 {
     let history = core.run(alloc, table)?;
-    Ok(prepared(alloc, core, specs, history)?)
+    Ok(prepared(alloc, core, specs, images, history)?)
 }

@@ -13,7 +13,7 @@ use Rattle.fk_scenario_entries.specs.declared.types.ServerEntry.{ServerEntry}
 use Rattle.fk_scenario_entries.specs.declared.jobs.JobEntry.{JobEntry}
 use Rattle.fk_scenario_entries.specs.declared.jobs.JobKind.{JobKind}
 use Rattle.fk_scenario_entries.specs.declared.jobs.JobKind.TheVariants as kinds
-use Rattle.fk_scenario_entries.specs.Kept.{KeepsJob}
+use Rattle.fk_scenario_entries.specs.Kept.{BindsSlots, KeepsJob}
 use Rattle.fk_scenario_entries.proofs.Kept.{in_range}
 use Rattle.fk_scenario_sections.specs.Programs.{programs_from}
 use Rattle.fk_scenario_sections.specs.Spaces.{spaces_from, count_beneath}
@@ -27,9 +27,9 @@ use Rattle.fk_scenario.specs.declared.reading.Round.{Round}
 use Rattle.fk_scenario.specs.declared.scenario.Scenario.{Scenario}
 use Rattle.fk_scenario.specs.Aims.{aims_from}
 use Rattle.fk_scenario.specs.Servers.{serving_from}
-use Rattle.fk_scenario.specs.Jobs.{job_after, jobs_from, job_spec, nester_from, first_number, may_be_done, is_saving, saving_from}
+use Rattle.fk_scenario.specs.Jobs.{job_after, jobs_from, job_spec, nester_from, first_number, may_be_done}
 use Rattle.fk_scenario.specs.Reading.{Sections, sections_of, Top, top_of, places_of, first_round, second_round, scenario_of}
-use Rattle.fk_scenario.specs.Kept.{KeepsScenario, Saves}
+use Rattle.fk_scenario.specs.Kept.{KeepsScenario, HasSlots}
 
 -- a whole document
 
@@ -73,37 +73,25 @@ places_kept sections places h =
 
 -- jobs that are read after others
 
--- each saves a subtree
-abbrev AreSaving : List JobEntry → Type 0
-AreSaving js = All (λ (j : JobEntry). is_saving j.kind ≡ true) js
-
-saving : (n : ℕ) (js : List JobEntry) → saving_from n js ≡ Ok tt → AreSaving js
-unfolding saving_from
-saving n [] h = All-nil (λ (j : JobEntry). is_saving j.kind ≡ true)
-saving n (j ∷ js) h =
-    after (placed 6 n (unless 11 (is_saving j.kind))) _ tt h (λ _ is h.
-    All-cons (λ (j : JobEntry). is_saving j.kind ≡ true) j js (unless-Ok 11 (is_saving j.kind) tt (placed-Ok 6 n _ tt is)) (saving (n + 1) js h))
-
 job_done : (ss : List SpaceEntry) (vs : List ServerEntry) (done : List JobSpec) (j : JobEntry) (x : JobSpec) → job_after ss vs done j ≡ Ok x → KeepsJob j
-    → is_saving j.kind ≡ true → Saves x
+    → HasSlots x
 unfolding job_after
-job_done ss vs done j x h kept is =
+job_done ss vs done j x h kept =
     after (or_rule 10 (nester_from (first_number ss) ss j.nester)) _ x h (λ birth _ h.
-    after (unless 10 (may_be_done ss vs done j j.kind)) _ x h (λ _ _ h. by j.kind is birth cc))
+    after (unless 10 (may_be_done ss vs done j j.kind)) _ x h (λ _ _ h. by j.kind kept.bound birth cc))
   where
-    by : (k : JobKind) → is_saving k ≡ true → (birth : ℕ) → job_spec birth j k ≡ x → Saves x
-    by kinds.Checkpoint is birth same = subst Saves same (kept.nester, kept.slot)
-    by (kinds.Restore bind) is birth same = absurd (cc)
+    by : (k : JobKind) → BindsSlots k → (birth : ℕ) → job_spec birth j k ≡ x → HasSlots x
+    by kinds.Checkpoint bound birth same = subst HasSlots same (kept.nester, kept.slot)
+    by (kinds.Restore bind) bound birth same = subst HasSlots same (kept.slot, bound)
 
 jobs_done : (ss : List SpaceEntry) (vs : List ServerEntry) (done : List JobSpec) (js : List JobEntry) (all : List JobSpec) → jobs_from ss vs done js ≡ Ok all
-    → All Saves done → All KeepsJob js → AreSaving js → All Saves all
+    → All HasSlots done → All KeepsJob js → All HasSlots all
 unfolding jobs_from
-jobs_done ss vs done [] all h each kept save = let same : done ≡ all = cc in subst (All Saves) same each
-jobs_done ss vs done (j ∷ js) all h each kept save =
+jobs_done ss vs done [] all h each kept = let same : done ≡ all = cc in subst (All HasSlots) same each
+jobs_done ss vs done (j ∷ js) all h each kept =
     after (placed 6 (length done) (job_after ss vs done j)) _ all h (λ x is_x h.
-    let one = job_done ss vs done j x (placed-Ok 6 _ _ x is_x) (All-head KeepsJob j js kept) (All-head (λ (j : JobEntry). is_saving j.kind ≡ true) j js save) in
-    jobs_done ss vs (done ++ x ∷ []) js all h (All-push Saves done x each one) (All-tail KeepsJob j js kept)
-    (All-tail (λ (j : JobEntry). is_saving j.kind ≡ true) j js save))
+    let one = job_done ss vs done j x (placed-Ok 6 _ _ x is_x) (All-head KeepsJob j js kept) in
+    jobs_done ss vs (done ++ x ∷ []) js all h (All-push HasSlots done x each one) (All-tail KeepsJob j js kept))
 
 -- and the first round with them
 round_kept : (rules : List (List ℕ × Rule)) (sections : Sections) (round : Round) → first_round rules sections ≡ Ok round →
@@ -134,9 +122,9 @@ round_jobs rules sections round h =
 
 second_kept : (budget workers : ℕ) (round : Round) (s : Scenario) → second_round budget workers round ≡ Ok s
     → (1 ≤ budget) × (budget ≤ 1000000) × (1 ≤ workers) × (workers ≤ 8)
-    → KeepsPlaces (record { programs = round.programs; spaces = round.spaces; objects = round.objects }) → All KeepsJob round.jobs → AreSaving round.jobs → KeepsScenario s
+    → KeepsPlaces (record { programs = round.programs; spaces = round.spaces; objects = round.objects }) → All KeepsJob round.jobs → KeepsScenario s
 unfolding second_round
-second_kept budget workers round s h (a, b, c, d) kept slots save =
+second_kept budget workers round s h (a, b, c, d) kept slots =
     after (aims_from round.spaces round.objects 0 round.objects) _ s h (λ _ aims h.
     after (serving_from round.objects [] [] round.servers) _ s h (λ _ serving h.
     after (jobs_from round.spaces round.servers [] round.jobs) _ s h (λ jobs are_jobs h.
@@ -158,7 +146,7 @@ second_kept budget workers round s h (a, b, c, d) kept slots save =
       objects = kept.objects;
       aims = aims;
       servers = serving;
-      jobs = jobs_done round.spaces round.servers [] round.jobs jobs are_jobs (All-nil Saves) slots save;
+      jobs = jobs_done round.spaces round.servers [] round.jobs jobs are_jobs (All-nil HasSlots) slots;
       asked = (round.jobs, are_jobs);
     }))))
 
@@ -167,6 +155,5 @@ unfolding scenario_of
 scenario_kept rules ms s h =
     after (placed 1 0 (top_of ms)) _ s h (λ top is_top h.
     after (first_round rules top.sections) _ s h (λ round is_round h.
-    after (saving_from 0 round.jobs) _ s h (λ _ save h.
     second_kept top.budget top.workers round s h (top_kept ms top (placed-Ok 1 0 _ top is_top)) (round_kept rules top.sections round is_round)
-    (round_jobs rules top.sections round is_round) (saving 0 round.jobs save))))
+    (round_jobs rules top.sections round is_round)))

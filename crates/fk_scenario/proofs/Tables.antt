@@ -22,7 +22,7 @@ use Rattle.fk_scenario.specs.declared.reading.Round.{Round}
 use Rattle.fk_scenario.specs.declared.scenario.Scenario.{Scenario}
 use Rattle.fk_scenario.specs.Aims.{aims_from}
 use Rattle.fk_scenario.specs.Servers.{serving_from}
-use Rattle.fk_scenario.specs.Jobs.{saving_from, jobs_from}
+use Rattle.fk_scenario.specs.Jobs.{jobs_from}
 use Rattle.fk_scenario.specs.Kept.{rules_of, HasRule, HasRules}
 use Rattle.fk_scenario.specs.Reading.{Sections, top_of, places_of, first_round, second_round, scenario_of}
 
@@ -127,5 +127,4 @@ unfolding scenario_of
 scenario-has table ms s h =
     after (placed 1 0 (top_of ms)) _ s h (λ top _ h.
     after (first_round table top.sections) _ s h (λ round is_round h.
-    after (saving_from 0 round.jobs) _ s h (λ _ _ h.
-    subst (Has table) (second-has top.budget top.workers round s h) (round-has table top.sections round is_round))))
+    subst (Has table) (second-has top.budget top.workers round s h) (round-has table top.sections round is_round)))

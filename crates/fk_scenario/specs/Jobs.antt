@@ -70,13 +70,3 @@ job_after spaces servers done job = do
 unfoldable pub jobs_from : List SpaceEntry → List ServerEntry → List JobSpec → List JobEntry → Result (List JobSpec) ScenarioError
 jobs_from spaces servers done [] = Ok done
 jobs_from spaces servers done (j ∷ js) = placed 6 (length done) (job_after spaces servers done j) >>= λ job. jobs_from spaces servers (done ++ job ∷ []) js
-
--- a job saves a subtree
-abbrev pub is_saving : JobKind → Bool
-is_saving kinds.Checkpoint = true
-is_saving (kinds.Restore bind) = false
-
--- the jobs from an index on; restores can't be run yet, so one is rule 11
-unfoldable pub saving_from : ℕ → List JobEntry → Result (Unit {0}) ScenarioError
-saving_from index [] = Ok tt
-saving_from index (j ∷ js) = placed 6 index (unless 11 (is_saving j.kind)) >>= λ _. saving_from (index + 1) js

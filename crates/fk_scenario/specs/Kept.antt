@@ -7,7 +7,7 @@ use Rattle.fk_scenario_entries.specs.declared.types.ServiceSpec.TheVariants.{Con
 use Rattle.fk_model.specs.declared.job.JobSpec.{JobSpec}
 use Rattle.fk_model.specs.declared.job.JobSpec.TheVariants as jobs
 use Rattle.fk_scenario_entries.specs.declared.jobs.JobEntry.{JobEntry}
-use Rattle.fk_scenario_entries.specs.Kept.{AreSlots}
+use Rattle.fk_scenario_entries.specs.Kept.{AreSlots, ArePairs}
 use Rattle.fk_scenario_sections.specs.Spaces.{count_beneath}
 use Rattle.fk_scenario_sections.specs.Kept.{EachAfter, KeepsSpace, KeepsObject}
 use Rattle.fk_scenario.specs.declared.scenario.Scenario.{Scenario}
@@ -15,10 +15,10 @@ use Rattle.fk_scenario.specs.Aims.{aims_from}
 use Rattle.fk_scenario.specs.Servers.{serving_from}
 use Rattle.fk_scenario.specs.Jobs.{jobs_from}
 
--- a job saves a subtree, and its slots are ones that users may name
-abbrev pub Saves : JobSpec → Type 0
-Saves (jobs.Checkpoint moment nester path slot image) = AreSlots path × (slot ≤ 239)
-Saves (jobs.Restore moment nester slot image bind) = ⊥
+-- the slots of a job are ones that users may name
+abbrev pub HasSlots : JobSpec → Type 0
+HasSlots (jobs.Checkpoint moment nester path slot image) = AreSlots path × (slot ≤ 239)
+HasSlots (jobs.Restore moment nester slot image bind) = (slot ≤ 239) × ArePairs bind
 
 -- some entries say the jobs: the nester of each is there, and in what it saves no nester and no server lies
 abbrev pub AreAsked : Scenario → Type 0
@@ -35,7 +35,7 @@ pub record KeepsScenario (s : Scenario) : Type 0 where
   pub objects : EachAfter (KeepsObject s.spaces) [] s.objects
   pub aims : aims_from s.spaces s.objects 0 s.objects ≡ Ok tt
   pub servers : serving_from s.objects [] [] s.servers ≡ Ok tt
-  pub jobs : All Saves s.jobs
+  pub jobs : All HasSlots s.jobs
   pub asked : AreAsked s
 
 -- ---- what servers have of the table by which they are read

@@ -19,7 +19,7 @@ use Rattle.fk_scenario_sections.specs.Objects.{objects_from}
 use Rattle.fk_scenario_sections.specs.Servers.{servers_from}
 use Rattle.fk_scenario_sections.specs.Jobs.{entries_from}
 use Rattle.fk_scenario.specs.Servers.{serving_from}
-use Rattle.fk_scenario.specs.Jobs.{saving_from, jobs_from}
+use Rattle.fk_scenario.specs.Jobs.{jobs_from}
 use Rattle.fk_scenario.specs.Aims.{aims_from}
 
 -- the sections as they stand in the document; one that isn't there is empty
@@ -109,16 +109,12 @@ second_round budget workers round = do
     jobs = jobs;
   })
 
--- between the rounds stands that restores can't be run yet
-abbrev pub saved_round : ℕ → ℕ → Round → Result Scenario ScenarioError
-saved_round budget workers round = saving_from 0 round.jobs >>= λ _. second_round budget workers round
-
 -- the scenario of a document
 unfoldable pub scenario_of : List (List ℕ × Rule) → Members → Result Scenario ScenarioError
 scenario_of rules ms = do
   top ← placed 1 0 (top_of ms)
   round ← first_round rules top.sections
-  saved_round top.budget top.workers round
+  second_round top.budget top.workers round
 
 -- the document that bytes are, if they are one
 unfoldable pub tree_of : List ℕ → Option Members

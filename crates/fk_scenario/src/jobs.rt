@@ -71,34 +71,6 @@ fn is_made(done: &[JobSpec], image: &str) -> bool
     done.iter().any(|job| makes_image(image, job))
 }
 
-fn is_saving(kind: &JobKind) -> bool
-    ensures { result ≡ definitions.is_saving kind.now }
-{
-    match kind {
-        JobKind::Checkpoint => true,
-        JobKind::Restore { .. } => false,
-    }
-}
-
-/// Refuses the first job that makes a subtree again.
-#[tactic(auto, unfolding(crate::specs::Jobs::saving_from))]
-pub fn check_saving(jobs: &[JobEntry]) -> Result<(), ScenarioFail>
-    ensures { Answers result (definitions.saving_from 0 jobs.now) }
-{
-    let mut place = 0usize;
-    for job in jobs {
-        let index = index_at(place)?;
-        if !is_saving(&job.kind) {
-            return Err(Fail::Rule(rule::NOT_YET).at(SECTION, index));
-        }
-        place = match place.checked_add(1) {
-            Some(place) => place,
-            None => return Err(ScenarioFail::NoMemory),
-        };
-    }
-    Ok(())
-}
-
 /// The path of a job's subtree.
 fn subtree_of(alloc: Global, job: &JobEntry) -> Result<Vec<u8>, NoMemory>
     ensures { IfOk result (λ path. path.items ≡ definitions.subtree_of job.now) }

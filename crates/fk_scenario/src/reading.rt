@@ -7,7 +7,7 @@ ghost use Rattle.fk_scenario.specs.Kept.{KeepsScenario, HasRules, rules_of};
 ghost use Rattle.fk_scenario.specs.Reading as definitions;
 
 use crate::aims::check_aims;
-use crate::jobs::{check_saving, jobs_of};
+use crate::jobs::jobs_of;
 use crate::scenario::Scenario;
 use crate::servers::check_servers;
 use fk_model::{List, Rule};
@@ -170,19 +170,6 @@ fn second_round(
     })
 }
 
-/// The second round, where no job is a restore.
-fn saved_round(
-    alloc: Global,
-    budget: u64,
-    workers: u32,
-    round: Round,
-) -> Result<Scenario, ScenarioFail>
-    ensures { Answers result (definitions.saved_round budget workers round) }
-{
-    check_saving(round.jobs.as_slice())?;
-    second_round(alloc, budget, workers, round)
-}
-
 /// The scenario of a document, or its first refusal.
 #[tactic(auto, unfolding(crate::specs::Reading::scenario_of))]
 fn scenario_of(
@@ -197,7 +184,7 @@ fn scenario_of(
         Err(fail) => return Err(fail.at(SECTION, 0)),
     };
     let round = first_round(alloc, rules, top.sections)?;
-    saved_round(alloc, top.budget, top.workers as u32, round)
+    second_round(alloc, top.budget, top.workers as u32, round)
 }
 
 /// The table of a document, where the bytes are one.
@@ -225,8 +212,7 @@ fn tree_of(alloc: Global, bytes: &[u8]) -> Result<Option<Table>, ScenarioFail>
 /// # Errors
 ///
 /// `Scenario` exactly where the bytes are refused, with the first refusal: its rule, its section, and the
-/// index of the entry in its section. While restores can't be run, the first one is refused by
-/// `rule::NOT_YET`, once all entries are read. `NoMemory` where there is no memory for the document or the scenario.
+/// index of the entry in its section. `NoMemory` where there is no memory for the document or the scenario.
 #[tactic(auto, unfolding(crate::specs::Reading::scenario_reading))]
 pub fn read_scenario(
     alloc: Global,

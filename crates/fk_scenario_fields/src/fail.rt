@@ -61,9 +61,6 @@ pub mod rule {
 
     /// A job without its nester, whose checkpoint would hold a nester or a server, or whose image is made already.
     pub const JOBS: u8 = 10;
-
-    /// What can't be run yet.
-    pub const NOT_YET: u8 = 11;
 }
 
 /// Why an entry isn't read: the rule that it breaks.

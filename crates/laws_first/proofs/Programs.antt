@@ -1,6 +1,6 @@
 -- The runs of the program have the headline.
 use Rattle.std.proofs.Common.{subst}
-use Rattle.fk_core.specs.Served.{servers}
+use Rattle.fk_served.specs.Served.{servers}
 use Rattle.laws_savable.specs.Savable.{IsSound}
 use Rattle.laws_house.specs.Houses.{jobs_of}
 use Rattle.laws_first.specs.Programs.{ProgramsHaveTheHeadline}

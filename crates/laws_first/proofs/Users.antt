@@ -1,5 +1,6 @@
 -- What servers ask for, and which slots jobs name.
-use Rattle.std.proofs.Common.{◌≡◌, ℕ, Bool, true, false, List, [], ◌∷◌, Option, Some, None, refl}
+use Rattle.std.proofs.Common.{◌≡◌, ℕ, ◌≤◌, Bool, true, false, List, [], ◌∷◌, Option, Some, None, refl}
+use Rattle.std.proofs.lemmas.Bool.{le-leb}
 use Rattle.std.specs.List.{All}
 use Rattle.std.proofs.lemmas.List.Elements.{All-nil, All-cons, All-head, All-tail}
 use Rattle.fk_model.specs.declared.job.JobSpec.{JobSpec}
@@ -12,8 +13,10 @@ use Rattle.fk_model.specs.Who.{named}
 use Rattle.laws_frozen.specs.Users.{is_users}
 use Rattle.fk_natives.specs.declared.service.Side.TheVariants as sides
 use Rattle.fk_natives.specs.Natives.{State, OfConsole, OfServer, gives_left, asks_for}
-use Rattle.fk_scenario.specs.Kept.{Saves}
-use Rattle.fk_core.specs.Served.{serving, asked_of, asked_at}
+use Rattle.fk_scenario.specs.Kept.{HasSlots}
+use Rattle.fk_scenario_entries.specs.Kept.{ArePairs}
+use Rattle.laws_rooms.specs.Restoring.{are_user_pairs}
+use Rattle.fk_served.specs.Served.{serving, asked_of, asked_at}
 use Rattle.laws_house.specs.Headline.{NamesSlots}
 use Rattle.laws_house.proofs.Headline.{jobs_name_users_slots}
 use Rattle.laws_first.specs.Users.{ServersAskAsUsers, ScenarioJobsNameUsersSlots}
@@ -44,15 +47,21 @@ servers_ask_as_users jobs services w who ask e = by (is_served_port w (At (named
     by true e = served_asks (serving services who) ask e
     by false e = same_ask asks.Run ask e refl
 
--- as the reader has seen
-names : (spec : JobSpec) → Saves spec → NamesSlots spec
-names (specs_of.Checkpoint moment nester path slot image) saves = saves.1
-names (specs_of.Restore moment nester slot image bind) saves = absurd saves
+user_pairs : (pairs : List (ℕ × ℕ)) → ArePairs pairs → are_user_pairs pairs ≡ true
+user_pairs [] all = refl
+user_pairs (p ∷ ps) all =
+    let (a, b) = All-head (λ (p : ℕ × ℕ). (p.0 ≤ 239) × (p.1 ≤ 239)) p ps all in
+    rw (le-leb p.0 239 a, le-leb p.1 239 b) (user_pairs ps (All-tail (λ (p : ℕ × ℕ). (p.0 ≤ 239) × (p.1 ≤ 239)) p ps all))
 
-all_names : (specs : List JobSpec) → All Saves specs → All NamesSlots specs
-all_names [] saves = All-nil NamesSlots
-all_names (spec ∷ specs) saves =
-    All-cons NamesSlots spec specs (names spec (All-head Saves spec specs saves)) (all_names specs (All-tail Saves spec specs saves))
+-- as the reader has seen
+names : (spec : JobSpec) → HasSlots spec → NamesSlots spec
+names (specs_of.Checkpoint moment nester path slot image) has = has.1
+names (specs_of.Restore moment nester slot image bind) has = (has.0, user_pairs bind has.1)
+
+all_names : (specs : List JobSpec) → All HasSlots specs → All NamesSlots specs
+all_names [] has = All-nil NamesSlots
+all_names (spec ∷ specs) has =
+    All-cons NamesSlots spec specs (names spec (All-head HasSlots spec specs has)) (all_names specs (All-tail HasSlots spec specs has))
 
 pub scenario_jobs_name_users_slots : ScenarioJobsNameUsersSlots
 scenario_jobs_name_users_slots s keeps images = jobs_name_users_slots s.jobs images (all_names s.jobs keeps.jobs)

@@ -5,7 +5,7 @@ use Rattle.fk_image.specs.declared.image.Image.{Image}
 use Rattle.fk_scenario.specs.declared.scenario.Scenario.{Scenario}
 use Rattle.fk_scenario.specs.Kept.{KeepsScenario}
 use Rattle.fk_boot.specs.FirstWorld.{booted}
-use Rattle.fk_core.specs.Served.{Services, servers}
+use Rattle.fk_served.specs.Served.{Services, servers}
 use Rattle.laws_savable.specs.Savable.{IsSound}
 use Rattle.laws_runs.specs.Cores.{Core, IsRun}
 use Rattle.laws_house.specs.Houses.{State, End, house, jobs_of}

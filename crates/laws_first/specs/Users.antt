@@ -4,7 +4,7 @@ use Rattle.fk_image.specs.declared.image.Image.{Image}
 use Rattle.fk_scenario.specs.declared.scenario.Scenario.{Scenario}
 use Rattle.fk_scenario.specs.Kept.{KeepsScenario}
 use Rattle.fk_boot.specs.FirstWorld.{booted}
-use Rattle.fk_core.specs.Served.{servers}
+use Rattle.fk_served.specs.Served.{servers}
 use Rattle.laws_runs.specs.Composed.{AskAsUsers}
 use Rattle.laws_house.specs.Houses.{Job, house, jobs_of}
 use Rattle.laws_house.specs.Laws.{NameUsersSlots, SaveUsersAlone}

@@ -21,14 +21,14 @@ use Rattle.fk_scenario_sections.specs.Jobs.{entries_from}
 use Rattle.fk_scenario.specs.declared.scenario.Scenario.{Scenario}
 use Rattle.fk_scenario.specs.Aims.{aims_from, aims_well, entry_space}
 use Rattle.fk_scenario.specs.Servers.{serving_from, may_serve, alias_of}
-use Rattle.fk_scenario.specs.Jobs.{is_saving, saving_from, job_after, jobs_from, nester_from, first_number}
+use Rattle.fk_scenario.specs.Jobs.{job_after, jobs_from, nester_from, first_number}
 use Rattle.fk_scenario.specs.Reading.{Sections, sections_of, Top, top_of, places_of, first_round, second_round, scenario_of}
 use Rattle.laws_scenario_faults.specs.Asked.{AreKept, AllKeep}
 use Rattle.laws_scenario_faults.specs.Tables.{table, array, entries, number}
 use Rattle.laws_scenario_faults.specs.Entries.{top_asks, budget, workers, programs, spaces, servers, jobs}
 use Rattle.laws_scenario_faults.specs.Objects.{objects}
-use Rattle.laws_scenario_faults.specs.Refusals.{Said, saving, MayRun, aims, serving, work, program_entries, SaysPlaces, SaysRound, Refuses, RefusalsAreFirst, BreaksAreTold}
-use Rattle.laws_scenario_faults.specs.Refusals.Refuses.{OfTop, OfProgram, OfSpace, OfObject, OfServer, OfJob, OfRestore, OfAim, OfServing, OfDone}
+use Rattle.laws_scenario_faults.specs.Refusals.{Said, aims, serving, work, program_entries, SaysPlaces, SaysRound, Refuses, RefusalsAreFirst, BreaksAreTold}
+use Rattle.laws_scenario_faults.specs.Refusals.Refuses.{OfTop, OfProgram, OfSpace, OfObject, OfServer, OfJob, OfAim, OfServing, OfDone}
 use Rattle.laws_scenario_faults.proofs.Rules.{by_rules, ends, tested, seq, ask, kept, told, read_kept, top_first, read, read_breaks, read_keeps, keep_reads, break_reads}
 use Rattle.laws_scenario_faults.proofs.Fields.{or-read, known-read, integer-read, array-read, table-read, needed-integer-read, ranged-read}
 use Rattle.laws_scenario_faults.proofs.Entries.{step, programs-read, spaces-read, servers-read, jobs-read}
@@ -83,18 +83,6 @@ work-read ss vs done (j ∷ js) =
 abbrev nothing : {A : Type 0} → Result A ScenarioError → Result (Unit {0}) ScenarioError
 nothing (Ok x) = Ok tt
 nothing (Err e) = Err e
-
-saving-same : (done more : List JobEntry) (index : ℕ) → index ≡ length done → saving_from index more ≡ nothing (read 6 saving done more)
-unfolding saving_from read by_rules
-saving-same done [] index at = refl
-saving-same done (j ∷ more) index at =
-    by (is_saving j.kind) (saving-same (done ++ j ∷ []) more (index + 1) (omega (arith, at, length-append done (j ∷ []))))
-  where
-    by : (t : Bool) → saving_from (index + 1) more ≡ nothing (read 6 saving (done ++ j ∷ []) more) →
-        (placed 6 index (unless 11 t) >>= λ _. saving_from (index + 1) more)
-        ≡ nothing (placed 6 (length done) (by_rules ((11, t) ∷ []) j) >>= λ x. read 6 saving (done ++ x ∷ []) more)
-    by true others = others
-    by false others = ap (λ n. Err (record { rule = 11; section = 6; index = n })) at
 
 aims-same : (ss : List SpaceEntry) (os done more : List ObjectEntry) (index : ℕ) → index ≡ length done →
     aims_from ss os index more ≡ nothing (read 4 (aims ss os) done more)
@@ -207,7 +195,7 @@ module _ (rules : List (List ℕ × Rule)) (ms : Members) where
         jobs_keep = read_keeps 6 jobs [] _ js (sym (jobs-read [] _) ∙ are_js);
       }))))
 
-  of_second : (b w : ℕ) (r : Said) (e : ScenarioError) → MayRun rules ms r → second b w r ≡ Err e
+  of_second : (b w : ℕ) (r : Said) (e : ScenarioError) → SaysRound rules ms r → second b w r ≡ Err e
       → Refuses rules ms e
   unfolding second_round
   of_second b w r e say is =
@@ -227,19 +215,10 @@ module _ (rules : List (List ℕ × Rule)) (ms : Members) where
       place_of e 6 broken.1 (OfDone r aimed served e.index e.rule say aims_keep serving_keep broken.0))
       (λ js are_js is. absurd (cc))))))
 
-  of_saving : (b w : ℕ) (r : Said) (e : ScenarioError) → SaysRound rules ms r → (saving_from 0 r.jobs >>= λ _. second b w r) ≡ Err e →
-      Refuses rules ms e
-  of_saving b w r e say is =
-      split (saving_from 0 r.jobs) _ e is
-      (λ bad. let broken = read_breaks 6 saving [] r.jobs e (bad-of _ e (sym (saving-same [] r.jobs 0 refl) ∙ bad)) in
-      place_of e 6 broken.1 (OfRestore r e.index e.rule say broken.0))
-      (λ done are_saved is. good-of _ (sym (saving-same [] r.jobs 0 refl) ∙ are_saved) (λ saved reads_saving.
-      of_second b w r e (record { round = say; saved = saved; jobs_save = read_keeps 6 saving [] r.jobs saved reads_saving }) is))
-
--- the rounds, and what is asked between them
+-- the rounds
 abbrev rounds : List (List ℕ × Rule) → Top → Result Scenario ScenarioError
 rounds rules top =
-    first_round rules top.sections >>= λ round. saving_from 0 round.jobs >>= λ _. second_round top.budget top.workers round
+    first_round rules top.sections >>= λ round. second_round top.budget top.workers round
 
 pub refusals_first : RefusalsAreFirst
 unfolding scenario_of sections_in top_in
@@ -250,7 +229,7 @@ refusals_first rules ms e is =
     (λ top is_top is. let (keeps, same) = kept (top_asks ms) (top_in ms) top (sym (top-read ms) ∙ placed-Ok 1 0 _ top is_top) in
     let rest : rounds rules (top_in ms) ≡ Err e = subst (λ (t : Top). rounds rules t ≡ Err e) (sym same) is in
     split (first_round rules (sections_in ms)) _ e rest (λ bad. of_round rules ms e keeps bad)
-    (λ r is_r rest. of_saving rules ms (top_in ms).budget (top_in ms).workers _ e (round-says rules ms r keeps is_r) rest))
+    (λ r is_r rest. of_second rules ms (top_in ms).budget (top_in ms).workers _ e (round-says rules ms r keeps is_r) rest))
 
 -- ---- and what is first is told
 
@@ -304,18 +283,10 @@ module _ (rules : List (List ℕ × Rule)) (ms : Members) where
   unfolding first_round
   bad-places e top bad = bad-round e top (then-bad (places_of (sections_in ms)) _ e bad)
 
-  bad-saving : (r : Said) (e : ScenarioError) → SaysRound rules ms r →
-      (saving_from 0 r.jobs >>= λ _. second (top_in ms).budget (top_in ms).workers r) ≡ Err e → scenario_of rules ms ≡ Err e
-  unfolding sections_in top_in
-  bad-saving r e say bad = after-top e say.places.top (then-right (first_round rules (sections_in ms)) _ _ _ (good-round r say) bad)
-
-  good-saving : (r : Said) (saved : List JobEntry) → AllKeep saving [] r.jobs saved → saving_from 0 r.jobs ≡ Ok tt
-  good-saving r saved keep = saving-same [] r.jobs 0 refl ∙ ap nothing (keep_reads 6 saving [] r.jobs saved keep)
-
-  bad-second : (r : Said) (e : ScenarioError) → MayRun rules ms r → second (top_in ms).budget (top_in ms).workers r ≡ Err e →
+  bad-second : (r : Said) (e : ScenarioError) → SaysRound rules ms r → second (top_in ms).budget (top_in ms).workers r ≡ Err e →
       scenario_of rules ms ≡ Err e
-  bad-second r e may bad =
-      bad-saving r e may.round (then-right (saving_from 0 r.jobs) _ tt _ (good-saving r may.saved may.jobs_save) bad)
+  unfolding sections_in top_in
+  bad-second r e say bad = after-top e say.places.top (then-right (first_round rules (sections_in ms)) _ _ _ (good-round r say) bad)
 
   good-aims : (r : Said) (aimed : List ObjectEntry) → AllKeep (aims r.spaces r.objects) [] r.objects aimed → aims_from r.spaces r.objects 0 r.objects ≡ Ok tt
   good-aims r aimed keep = aims-same r.spaces r.objects [] r.objects 0 refl ∙ ap nothing (keep_reads 4 (aims r.spaces r.objects) [] r.objects aimed keep)
@@ -343,8 +314,6 @@ module _ (rules : List (List ℕ × Rule)) (ms : Members) where
       bad-round _ say.top (then-right (places_of (sections_in ms)) _ _ _ (good-places ps ss os say)
       (then-right (servers_from rules [] _) _ vs _ (good-servers vs keep)
       (then-bad (entries_from [] _) _ _ (jobs-read [] _ ∙ break_reads 6 jobs [] _ index rule breaks))))
-  refused e (OfRestore r index rule say breaks) =
-      bad-saving r _ say (then-bad (saving_from 0 r.jobs) _ _ (saving-same [] r.jobs 0 refl ∙ ap nothing (break_reads 6 saving [] r.jobs index rule breaks)))
   refused e (OfAim r index rule say breaks) =
       bad-second r _ say (then-bad (aims_from r.spaces r.objects 0 r.objects) _ _ (aims-same r.spaces r.objects [] r.objects 0 refl
       ∙ ap nothing (break_reads 4 (aims r.spaces r.objects) [] r.objects index rule breaks)))

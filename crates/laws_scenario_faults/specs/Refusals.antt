@@ -11,17 +11,12 @@ use Rattle.fk_scenario_entries.specs.declared.types.ServerEntry.{ServerEntry}
 use Rattle.fk_scenario_entries.specs.declared.jobs.JobEntry.{JobEntry}
 use Rattle.fk_scenario.specs.Aims.{aims_well, entry_space}
 use Rattle.fk_scenario.specs.Servers.{may_serve, alias_of}
-use Rattle.fk_scenario.specs.Jobs.{is_saving, nester_from, first_number, may_be_done, job_spec}
+use Rattle.fk_scenario.specs.Jobs.{nester_from, first_number, may_be_done, job_spec}
 use Rattle.fk_scenario.specs.Reading.{scenario_of}
 use Rattle.laws_scenario_faults.specs.Asked.{AreKept, BreaksFirst, Section, AllKeep, BreaksAt}
 use Rattle.laws_scenario_faults.specs.Tables.{members, table, entries}
 use Rattle.laws_scenario_faults.specs.Entries.{top_asks, programs, spaces, servers, jobs}
 use Rattle.laws_scenario_faults.specs.Objects.{objects}
-
--- ---- between the rounds: restores can't be run yet (11)
-
-abbrev pub saving : Section JobEntry JobEntry
-saving = record { asks = λ done j. (11, is_saving j.kind) ∷ []; says = λ done j. j }
 
 -- ---- the second round: what objects lead to (7), whether servers may serve (9), and whose jobs they are (10)
 
@@ -69,12 +64,6 @@ module _ (rules : List (List ℕ × Rule)) (ms : Members) where
     pub servers_keep : AllKeep (servers rules) [] (entries (codes "server") ms) r.servers
     pub jobs_keep : AllKeep jobs [] (entries (codes "job") ms) r.jobs
 
-  -- and each job can be run
-  pub record MayRun (r : Said) : Type 0 where
-    pub round : SaysRound r
-    pub saved : List JobEntry
-    pub jobs_save : AllKeep saving [] r.jobs saved
-
   -- a refusal: an entry breaks its rule first, and all that is asked before keeps
   pub data Refuses : ScenarioError → Type 0 where
     OfTop : (rule : ℕ) → BreaksFirst (top_asks ms) rule → Refuses (record { rule = rule; section = 1; index = 0 })
@@ -90,13 +79,11 @@ module _ (rules : List (List ℕ × Rule)) (ms : Members) where
     OfJob : (ps : List Program) (ss : List SpaceEntry) (os : List ObjectEntry) (vs : List ServerEntry) (index rule : ℕ) → SaysPlaces ps ss os →
         AllKeep (servers rules) [] (entries (codes "server") ms) vs → BreaksAt jobs [] (entries (codes "job") ms) index rule →
         Refuses (record { rule = rule; section = 6; index = index })
-    OfRestore : (r : Said) (index rule : ℕ) → SaysRound r → BreaksAt saving [] r.jobs index rule →
-        Refuses (record { rule = rule; section = 6; index = index })
-    OfAim : (r : Said) (index rule : ℕ) → MayRun r → BreaksAt (aims r.spaces r.objects) [] r.objects index rule →
+    OfAim : (r : Said) (index rule : ℕ) → SaysRound r → BreaksAt (aims r.spaces r.objects) [] r.objects index rule →
         Refuses (record { rule = rule; section = 4; index = index })
-    OfServing : (r : Said) (aimed : List ObjectEntry) (index rule : ℕ) → MayRun r → AllKeep (aims r.spaces r.objects) [] r.objects aimed →
+    OfServing : (r : Said) (aimed : List ObjectEntry) (index rule : ℕ) → SaysRound r → AllKeep (aims r.spaces r.objects) [] r.objects aimed →
         BreaksAt (serving r.objects) [] r.servers index rule → Refuses (record { rule = rule; section = 5; index = index })
-    OfDone : (r : Said) (aimed : List ObjectEntry) (served : List ServerEntry) (index rule : ℕ) → MayRun r →
+    OfDone : (r : Said) (aimed : List ObjectEntry) (served : List ServerEntry) (index rule : ℕ) → SaysRound r →
         AllKeep (aims r.spaces r.objects) [] r.objects aimed → AllKeep (serving r.objects) [] r.servers served →
         BreaksAt (work r.spaces r.servers) [] r.jobs index rule → Refuses (record { rule = rule; section = 6; index = index })
 

@@ -342,7 +342,7 @@ porter-next (s ∷ ss) w =
     by true = refl
     by false = refl
 
-booted-few : (s : Scenario) → KeepsScenario s → (booted s).next ≤ depth
+pub booted-few : (s : Scenario) → KeepsScenario s → (booted s).next ≤ 256
 unfolding booted
 booted-few s keeps =
     let made = flat_map (space_changes s.programs) s.spaces in
@@ -374,4 +374,4 @@ booted-savable s keeps words =
 
 pub booted-runnable : (s : Scenario) → KeepsScenario s → HasWords s → IsRunnable (booted s)
 booted-runnable s keeps words = savable_runnable (booted s)
-    (record { valid = booted-valid s keeps; few = booted-few s keeps; full = booted-full s keeps words }) (booted-savable s keeps words)
+    (record { valid = booted-valid s keeps; few = (let few = booted-few s keeps in omega (arith, few)); full = booted-full s keeps words }) (booted-savable s keeps words)

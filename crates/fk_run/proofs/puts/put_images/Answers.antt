@@ -1,6 +1,6 @@
 use Rattle.std.proofs.Common.{◌≡◌, Err, rules}
 use Rattle.fk_causes.specs.declared.shelf.ShelfFail.TheVariants as fails
-use Rattle.fk_run.proofs.Rises.{rises}
+use Rattle.fk_plays.proofs.Rises.{rises}
 use Rattle.fk_run.proofs.puts.put_images.Goals as goal
 
 pub returns-in_err-put_end-clause-cause : goal.returns-in_err-put_end-clause-cause

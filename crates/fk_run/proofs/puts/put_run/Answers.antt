@@ -1,4 +1,4 @@
-use Rattle.fk_run.proofs.Rises.{rises}
+use Rattle.fk_plays.proofs.Rises.{rises}
 use Rattle.fk_run.proofs.puts.put_run.Goals as goal
 
 pub returns-clause-cause : goal.returns-clause-cause

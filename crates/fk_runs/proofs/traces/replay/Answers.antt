@@ -1,6 +1,6 @@
 use Rattle.std.proofs.Common.{◌≡◌, ℕ, ◌<◌, ◌≤◌, ◌+◌, [], ◌∷◌, ◌++◌, length, length-append, ap, sym, subst, ◌∙◌, inl, inr, rules, arith, refl}
 use Rattle.laws_runs.specs.Cores.{IsRun}
-use Rattle.fk_core.specs.Cores.{RunCore, house, core_at, IsReadyMove, IsTurned}
+use Rattle.fk_core.specs.Cores.{RunCore, house, run_core, IsReadyMove, IsTurned}
 use Rattle.fk_core.proofs.Histories.{begun, one_more}
 use Rattle.fk_trace_text.specs.Trace.{trace_text, AreLegal, Spells, BeginsWith, BeginsWithNone}
 use Rattle.fk_trace_text.proofs.Traces.{AreLegal-more, trace_text-more, Spells-same, Spells-not_bad, trace_text-all, none_are_legal}
@@ -11,19 +11,20 @@ use Rattle.fk_runs.proofs.traces.replay.Goals as goal
 pub returns-in_default-clause-back : goal.returns-in_default-clause-back
 returns-in_default-clause-back g c =
     let core = c.args.core.now in
-    λ moves spells. Spells-not_bad (MayPlay core.jobs.jobs core.budget (core_at core.kernel core.services.list core.jobs core.events)) c.args.text.now moves 0 spells
+    λ moves spells. Spells-not_bad (MayPlay core.jobs.jobs core.budget (run_core core)) c.args.text.now moves 0 spells
     (inl (c.in_default.ensures.none, refl))
 
 pub loop-rest-init : goal.loop-rest-init
 loop-rest-init g c =
     let core = c.args.core.now in
-    let first = core_at core.kernel core.services.list core.jobs core.events in
+    let first = run_core core in
     let zero = c.requires.first in
     let spelled : c.args.text.now ≡ trace_text [] ++ c.in-Some.rest.now = search rules in
     rw c.new-moves.ensures (record {
       legal = none_are_legal (MayPlay core.jobs.jobs core.budget first);
       spelled = spelled;
       run = begun core.jobs.jobs first [] refl;
+      come = c.requires.come;
       fits = c.requires.fits;
       jobs = refl;
       budget = refl;
@@ -34,9 +35,9 @@ loop-rest-init g c =
 pub returns-in_default-2-clause-cause : goal.returns-in_default-2-clause-cause
 returns-in_default-2-clause-cause g c =
     let core = c.args.core.now in
-    let first = core_at core.kernel core.services.list core.jobs core.events in
+    let first = run_core core in
     let at = c.loop-rest.core in
-    let now = core_at at.kernel at.services.list at.jobs at.events in
+    let now = run_core at in
     let kept = c.loop-rest.invariant in
     let told : BeginsWithNone (λ move. (at.events < core.budget) × IsReadyMove at.jobs.jobs now move) c.loop-rest.rest.now =
     subst (λ b. BeginsWithNone (λ move. (at.events < b) × IsReadyMove at.jobs.jobs now move) c.loop-rest.rest.now) kept.budget
@@ -58,15 +59,15 @@ returns-in_default-2-clause-cause g c =
 pub returns-in_default-2-clause-back : goal.returns-in_default-2-clause-back
 returns-in_default-2-clause-back g c = λ moves spells.
     let core = c.args.core.now in
-    Spells-not_bad (MayPlay core.jobs.jobs core.budget (core_at core.kernel core.services.list core.jobs core.events))
+    Spells-not_bad (MayPlay core.jobs.jobs core.budget (run_core core))
     c.args.text.now moves c.len-index.result spells (returns-in_default-2-clause-cause g c)
 
 pub loop-rest-preserved : goal.loop-rest-preserved
 loop-rest-preserved g c =
     let core = c.args.core.now in
-    let first = core_at core.kernel core.services.list core.jobs core.events in
+    let first = run_core core in
     let at = c.loop-rest.core in
-    let now = core_at at.kernel at.services.list at.jobs at.events in
+    let now = run_core at in
     let new = c.make_next.new.core in
     let kept = c.loop-rest.invariant in
     let moves = c.loop-rest.moves in
@@ -75,10 +76,10 @@ loop-rest-preserved g c =
     let next : BeginsWith c.loop-rest.rest.now one c.in-Some-2.after.now = search rules in
     let few : at.events < at.budget = search rules in
     let is_ready : IsReadyMove at.jobs.jobs now one = search rules in
-    let is_turned : IsTurned at.jobs.jobs now one (core_at new.kernel new.services.list new.jobs new.events) = search rules in
+    let is_turned : IsTurned at.jobs.jobs now one (run_core new) = search rules in
     let ready : IsReadyMove core.jobs.jobs now one = subst (λ jobs. IsReadyMove jobs now one) kept.jobs is_ready in
-    let turned : IsTurned core.jobs.jobs now one (core_at new.kernel new.services.list new.jobs new.events) =
-    subst (λ jobs. IsTurned jobs now one (core_at new.kernel new.services.list new.jobs new.events)) kept.jobs is_turned in
+    let turned : IsTurned core.jobs.jobs now one (run_core new) =
+    subst (λ jobs. IsTurned jobs now one (run_core new)) kept.jobs is_turned in
     let counted : new.events ≡ at.events + 1 = search rules in
     let budget = kept.budget in
     let events = kept.events in
@@ -90,6 +91,7 @@ loop-rest-preserved g c =
       legal = more;
       spelled = spelled;
       run = one_more core.jobs.jobs first now _ moves (moves ++ one ∷ []) one kept.run ready turned refl;
+      come = c.make_next.ensures.come;
       fits = c.make_next.ensures.fits;
       jobs = c.make_next.ensures.jobs ∙ kept.jobs;
       budget = c.make_next.ensures.budget ∙ budget;
@@ -100,7 +102,7 @@ loop-rest-preserved g c =
 pub returns-clause-back : goal.returns-clause-back
 returns-clause-back g c = λ moves spells.
     let core = c.args.core.now in
-    let M = MayPlay core.jobs.jobs core.budget (core_at core.kernel core.services.list core.jobs core.events) in
+    let M = MayPlay core.jobs.jobs core.budget (run_core core) in
     let none : length c.loop-rest.rest.now ≡ 0 = search rules in
     let read : Spells M c.args.text.now c.loop-rest.moves = record {
       legal = c.loop-rest.invariant.legal;

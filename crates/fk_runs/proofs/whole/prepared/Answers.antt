@@ -12,7 +12,7 @@ returns g c =
     record {
       within = c.requires.few;
       end = c.end_of-end.result;
-      report = rw (told, c.in_ok-images.ensures) refl;
+      report = rw (told, c.in_ok-names.ensures) refl;
       ends = rw c.requires.jobs at c.end_of-end.ensures;
       threads = c.in_ok-threads.threads;
       are = rw (c.store.ensures, c.kernel.ensures) at c.in_ok-threads.ensures;

@@ -1,0 +1,11 @@
+use Rattle.std.proofs.Common.{◌≡◌, map, ap, ◌∙◌, subst, string_bytes}
+use Rattle.std.proofs.lemmas.Simd.{map-map}
+use Rattle.fk_responders.specs.Tables.{rules_view}
+use Rattle.fk_scenario.specs.Kept.{HasRules, rules_of}
+use Rattle.fk_commands.proofs.scenario.scenario_in.Goals as goal
+
+pub returns-in-Ok-clause-rules : goal.returns-in-Ok-clause-rules
+returns-in-Ok-clause-rules g c =
+    let same : rules_of (rules_view c.in_ok-rules.rules.items) ≡ map (λ r. r.rule) c.args.table.now.list.items =
+    ap rules_of c.in_ok-rules.ensures ∙ map-map (λ r. r.1) (λ r. (string_bytes r.name, r.rule)) c.args.table.now.list.items in
+    subst (λ rules. HasRules rules c.in-Ok.scenario) same (rw c.deref.ensures.value at c.in-Ok.ensures.rules)

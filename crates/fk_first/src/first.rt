@@ -1,0 +1,41 @@
+//! The core with which a scenario begins.
+ghost use Rattle.std.specs.Prelude.{◌≡◌, List, IfOk};
+ghost use Rattle.fk_model.specs.declared.moves.Rule.{Rule};
+ghost use Rattle.fk_core.specs.Cores.{run_core};
+ghost use Rattle.fk_core.specs.Goings.{IsGoing};
+ghost use Rattle.fk_first.specs.First.{IsFirst};
+ghost use Rattle.fk_scenario.specs.Kept.{KeepsScenario, HasRules};
+ghost use Rattle.fk_served.specs.Served.{AllFit};
+ghost use Rattle.laws_house.specs.Houses.{jobs_of};
+
+use crate::plans::plans_of;
+use fk_boot::boot;
+use fk_core::Core;
+use fk_finish::ValidImage;
+use fk_jobs::Jobs;
+use fk_model::NoMemory;
+use fk_natives::Native;
+use fk_porters::Porter;
+use fk_scenario::Scenario;
+use std::alloc::Global;
+
+/// The core with which a scenario begins. An image is given for each of its jobs, or none; one that an earlier job makes needs none. A table
+/// by which the scenario was read fits its servers.
+pub fn first_core(
+    alloc: Global,
+    scenario: &Scenario,
+    images: &[Option<ValidImage>],
+) -> Result<Core<Native, Porter>, NoMemory>
+    requires { KeepsScenario scenario.now }
+    ensures first { IfOk result (λ core. IsFirst scenario.now (run_core core)) }
+    ensures come { IfOk result (λ core. IsGoing core) }
+    ensures fits { (rules : List Rule) → HasRules rules scenario.now → IfOk result (λ core. AllFit rules core.services.list) }
+    ensures jobs { IfOk result (λ core. core.jobs.jobs ≡ jobs_of scenario.now.jobs images.now) }
+    ensures events { IfOk result (λ core. core.events ≡ 0) }
+    ensures budget { IfOk result (λ core. core.budget ≡ scenario.now.budget) }
+{
+    let first = boot(alloc, scenario)?;
+    let plans = plans_of(alloc, scenario.jobs.as_slice(), images)?;
+    let jobs = Jobs::new(alloc, plans)?;
+    Ok(Core::new(first.kernel, first.services, jobs, first.budget))
+}

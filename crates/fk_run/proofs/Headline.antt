@@ -1,0 +1,25 @@
+-- A report of a scenario that was read has the headline.
+use Rattle.std.proofs.Common.{◌≡◌, ℕ, List, Option, Some, None, Ok}
+use Rattle.fk_commands.specs.declared.outcome.Report.{Report}
+use Rattle.fk_run.specs.Jobs.{HasHeadline, HoldsOf}
+use Rattle.fk_run.specs.Top.{Rules}
+use Rattle.fk_runs.proofs.Headlines.{reports_have_the_headline}
+use Rattle.fk_scenario.proofs.Kept.{scenario_kept}
+use Rattle.fk_scenario.specs.declared.scenario.Scenario.{Scenario}
+use Rattle.fk_scenario.specs.Kept.{KeepsScenario}
+use Rattle.fk_scenario.specs.Reading.{scenario_in, scenario_reading, tree_of}
+
+read-keeps : (rules : Rules) (bytes : List ℕ) (s : Scenario) → scenario_reading rules bytes ≡ Ok s → KeepsScenario s
+unfolding scenario_reading
+read-keeps rules bytes s read = by (tree_of bytes) read
+  where
+    by : (tree : _) → scenario_in rules tree ≡ Ok s → KeepsScenario s
+    by None read = absurd (cc)
+    by (Some ms) read = scenario_kept rules ms s read
+
+has : (rules : Rules) (report : Report) → HasHeadline rules report
+has rules report = λ bytes s given first text read is_first is. reports_have_the_headline s given first report text (read-keeps rules bytes s read) is_first is
+
+pub holds : (rules : Rules) (report : Option Report) → HoldsOf rules report
+holds rules None = tt
+holds rules (Some report) = has rules report
