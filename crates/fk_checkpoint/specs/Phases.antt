@@ -1,9 +1,11 @@
 -- The machine's state that a checkpoint in code is in.
-use Rattle.std.specs.Prelude.{ℕ, List, [], ◌∷◌}
+use Rattle.std.specs.Prelude.{◌≡◌, ℕ, Bool, true, false, List, [], ◌∷◌}
 use Rattle.laws_checkpoint.specs.Foreign.{PLACES, TARGETS, STEPS}
+use Rattle.laws_checkpoint.specs.Walk as walks
 use Rattle.laws_checkpoint.specs.Contents as reads
+use Rattle.laws_checkpoint.specs.Gather as gathers
 use Rattle.laws_checkpoint.specs.Assembly.{spaces_met}
-use Rattle.laws_checkpoint.specs.Checkpoint.{State}
+use Rattle.laws_checkpoint.specs.Checkpoint.{State, walking, reading, gathering as gathers_on}
 use Rattle.laws_checkpoint.specs.Checkpoint.State.{Holds, Readies, Walks, Seeks, Reads, Gathers, Drops, Releases, Over}
 use Rattle.fk_seeking.specs.Seeking as seeking
 use Rattle.fk_gathering.specs.Gathering as gathering
@@ -13,6 +15,8 @@ use Rattle.fk_checkpoint.specs.declared.checkpoint.Scratch.TheVariants as scratc
 use Rattle.fk_checkpoint.specs.declared.checkpoint.Phase.{Phase}
 use Rattle.fk_checkpoint.specs.declared.checkpoint.Phase.TheVariants as phases
 use Rattle.fk_checkpoint.specs.declared.checkpoint.Checkpoint.{Checkpoint}
+use Rattle.fk_checkpoint.specs.declared.checkpoint.Heard.{Heard}
+use Rattle.fk_checkpoint.specs.declared.checkpoint.Heard.TheVariants as hears
 use Rattle.fk_checkpoint.specs.Checkpoints.{end_of, ending_of, IsReady}
 
 abbrev pub slot_of : Scratch → ℕ
@@ -42,6 +46,31 @@ phase_of slot (phases.Gathers contents gather) = Gathers (gathering.contents_of 
 phase_of slot (phases.Drops scratch ending) = Drops (slot_of scratch) (dropped_after scratch) (ending_of slot ending)
 phase_of slot (phases.Releases ending) = Releases (ending_of slot ending)
 phase_of slot (phases.Over finish) = Over (end_of finish)
+
+-- what comes of a part that has come to its end
+abbrev pub over_of : ℕ → Phase → State
+over_of slot (phases.Walks walk) = walking slot (walks.Over (seeking.mets_of walk.mets.items))
+over_of slot (phases.Reads read) = reading slot (reads.Over (gathering.contents_of read.contents.items))
+over_of slot (phases.Gathers contents gather) =
+    gathers_on slot (gathering.contents_of contents.items) (gathers.Over (gathering.leads_of gather.leads.items))
+over_of slot other = phase_of slot other
+
+-- a part that is long hears each answer where it stands; any other phase is brief
+abbrev pub IsBrief : Phase → Type 0
+IsBrief (phases.Walks walk) = ⊥
+IsBrief (phases.Reads read) = ⊥
+IsBrief (phases.Gathers contents gather) = ⊥
+IsBrief other = Unit {0}
+
+abbrev pub heard_by : Bool → Heard
+heard_by true = hears.IsOver
+heard_by false = hears.GoesOn
+
+-- so it has gone on, or has come to its end; or an answer is still to be heard
+abbrev pub HasHeard : ℕ → Heard → Phase → Phase → State → Type 0
+HasHeard slot hears.GoesOn old new next = phase_of slot new ≡ next
+HasHeard slot hears.IsOver old new next = over_of slot new ≡ next
+HasHeard slot hears.Waits old new next = IsBrief old × (new ≡ old)
 
 -- the state of the machine
 abbrev pub state_of : Checkpoint → State

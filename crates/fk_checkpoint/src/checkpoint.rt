@@ -8,11 +8,11 @@ ghost use Rattle.laws_jobs.specs.Machines.{no_words, IsAtCall};
 ghost use Rattle.laws_jobs.specs.Machines.Head.{Asks, Stops};
 ghost use Rattle.laws_checkpoint.specs.Checkpoint as machine;
 ghost use Rattle.laws_checkpoint.specs.Checkpoint.{checkpoint};
-ghost use Rattle.fk_seeking.specs.Seeking.{answered, mets_of, HasRoom as HasRoomToWalk};
+ghost use Rattle.fk_seeking.specs.Seeking.{answered};
 ghost use Rattle.fk_gathering.specs.Gathering as gathering;
-ghost use Rattle.fk_gathering.specs.Gathered as gathered;
 ghost use Rattle.fk_checkpoint.specs.Checkpoints.{end_of, ending_of, IsReady};
-ghost use Rattle.fk_checkpoint.specs.Phases.{slot_of, made_after, dropped_after, phase_of, state_of, IsOpened, IsOver, HasRoomIn, HasRoom};
+ghost use Rattle.fk_checkpoint.specs.Phases.{slot_of, made_after, dropped_after, phase_of, over_of, state_of, heard_by};
+ghost use Rattle.fk_checkpoint.specs.Phases.{IsBrief, IsOpened, IsOver, HasHeard, HasRoomIn, HasRoom};
 
 use crate::ending::{Ending, make};
 use crate::left::spaces_left;
@@ -127,18 +127,48 @@ fn dropped(scratch: Scratch, ending: Ending) -> Phase
     }
 }
 
-/// The walk hears an answer.
-fn walked(mut walk: Walk, answer: &Answer) -> Phase
-    requires { HasRoomToWalk walk }
-    ensures { (slot : _) → phase_of slot result ≡ machine.next slot (phase_of slot (phases.Walks walk)) answer.now.status (answered answer.now) }
+/// What a phase makes of an answer where it stands.
+#[derive(Clone, Copy)]
+enum Heard {
+    /// It goes on.
+    GoesOn,
+    /// Its part has come to its end.
+    IsOver,
+    /// It is as it was.
+    Waits,
+}
+
+/// What a part makes of an answer.
+fn part(is_over: bool) -> Heard
+    ensures { result ≡ heard_by is_over }
 {
-    if walk.absorb(answer.status, words_of(answer)) {
-        return Phase::Seeks {
-            walk,
-            seek: Seek::new(),
-        };
+    if is_over {
+        Heard::IsOver
+    } else {
+        Heard::GoesOn
     }
-    Phase::Walks(walk)
+}
+
+/// A part that is long hears an answer where it stands, and so does the search where it goes on.
+fn hear(slot: u8, phase: &mut Phase, answer: &Answer) -> Heard
+    requires { HasRoomIn phase.old }
+    ensures { HasHeard slot result phase.old phase.new (machine.next slot (phase_of slot phase.old) answer.now.status (answered answer.now)) }
+{
+    match phase {
+        Phase::Walks(walk) => part(walk.absorb(answer.status, words_of(answer))),
+        Phase::Reads(read) => part(read.absorb(answer)),
+        Phase::Gathers { contents, gather } => part(gather.absorb(contents.as_slice(), answer)),
+        Phase::Seeks { walk, seek } => {
+            match seek.absorb(slot, walk.mets(), answer.status, words_of(answer)) {
+                Sought::Goes(next) => {
+                    *seek = next;
+                    Heard::GoesOn
+                }
+                _ => Heard::Waits,
+            }
+        }
+        _ => Heard::Waits,
+    }
 }
 
 /// The search hears an answer.
@@ -170,29 +200,22 @@ fn gathers(alloc: Global, contents: Vec<Content>) -> Phase
     }
 }
 
-/// The reader hears an answer.
-fn was_read(alloc: Global, mut read: Read, answer: &Answer) -> Phase
-    requires { gathering.HasRoom read }
-    ensures { (slot : _) → phase_of slot result ≡ machine.next slot (phase_of slot (phases.Reads read)) answer.now.status (answered answer.now) }
+/// The phase behind one whose part has come to its end.
+fn behind(alloc: Global, phase: Phase) -> Phase
+    ensures { (slot : _) → phase_of slot result ≡ over_of slot phase }
 {
-    if read.absorb(answer) {
-        return gathers(alloc, read.into_contents());
-    }
-    Phase::Reads(read)
-}
-
-/// The gatherer hears an answer.
-fn was_gathered(contents: Vec<Content>, mut gather: Gather, answer: &Answer) -> Phase
-    requires { gathered.HasRoom gather }
-    ensures { (slot : _) → phase_of slot result ≡ machine.next slot (phase_of slot (phases.Gathers contents gather)) answer.now.status (answered answer.now) }
-{
-    if gather.absorb(contents.as_slice(), answer) {
-        return ends(Ending::Done {
+    match phase {
+        Phase::Walks(walk) => Phase::Seeks {
+            walk,
+            seek: Seek::new(),
+        },
+        Phase::Reads(read) => gathers(alloc, read.into_contents()),
+        Phase::Gathers { contents, gather } => ends(Ending::Done {
             contents,
             leads: gather.into_leads(),
-        });
+        }),
+        other => other,
     }
-    Phase::Gathers { contents, gather }
 }
 
 /// The subtree is released.
@@ -206,20 +229,19 @@ fn released(ending: Ending) -> Phase
     }
 }
 
-/// The phase after an answer.
+/// The phase after an answer, where it isn't a long part.
 fn after(alloc: Global, slot: u8, phase: Phase, answer: &Answer) -> Phase
-    requires { HasRoomIn phase }
+    requires room { HasRoomIn phase }
+    requires brief { IsBrief phase }
     ensures { phase_of slot result ≡ machine.next slot (phase_of slot phase) answer.now.status (answered answer.now) }
 {
     match phase {
         Phase::Holds if answer.status == OK => Phase::Readies(Scratch::Places),
         Phase::Holds => Phase::Over(Finish::Dead),
         Phase::Readies(scratch) => readied(alloc, scratch),
-        Phase::Walks(walk) => walked(walk, answer),
         Phase::Seeks { walk, seek } => sought(slot, walk, seek, answer),
-        Phase::Closed(_) => unreachable!(),
-        Phase::Reads(read) => was_read(alloc, read, answer),
-        Phase::Gathers { contents, gather } => was_gathered(contents, gather, answer),
+        Phase::Walks(_) | Phase::Closed(_) | Phase::Reads(_) | Phase::Gathers { .. } =>
+            unreachable!(),
         Phase::Drops { scratch, ending } => dropped(scratch, ending),
         Phase::Releases(ending) => released(ending),
         Phase::Over(finish) => Phase::Over(finish),
@@ -322,8 +344,15 @@ impl Checkpoint {
         ensures slot { self.new.slot ≡ self.old.slot }
         ensures state { state_of self.new ≡ machine.next self.old.slot (state_of self.old) answer.now.status (answered answer.now) }
     {
+        let heard = hear(self.slot, &mut self.phase, answer);
+        if let Heard::GoesOn = heard {
+            return;
+        }
         let phase = mem::replace(&mut self.phase, Phase::Holds);
-        self.phase = after(self.alloc, self.slot, phase, answer);
+        self.phase = match heard {
+            Heard::Waits => after(self.alloc, self.slot, phase, answer),
+            _ => behind(self.alloc, phase),
+        };
     }
 
     /// How it has ended; nothing while it has a call to make.
