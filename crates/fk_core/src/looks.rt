@@ -455,6 +455,101 @@ impl<S: Service + Drop, W: Worker + Drop> Core<S, W> {
         }
     }
 
+    /// Makes the same job's move at any number of moves below the budget, where its time has come. Whether it is ready is judged once.
+    fn go_timely(&mut self, table: &Table) -> Result<Option<Move>, NoMemory>
+        requires fits { AllFit (map (λ r. r.rule) table.now.list.items) self.old.services.list }
+        requires come { IsGoing self.old }
+        ensures advanced { IfOk result (λ made. IsAdvanced self.old.jobs.jobs self.old.budget (run_core self.old) made (run_core self.new)) }
+        ensures lacking { OnErr result (run_core self.new ≡ run_core self.old) }
+        ensures fits { AllFit (map (λ r. r.rule) table.now.list.items) self.new.services.list }
+        ensures budget { self.new.budget ≡ self.old.budget }
+        ensures jobs { self.new.jobs.jobs ≡ self.old.jobs.jobs }
+    {
+        if self.events >= self.budget || !self.is_timely() {
+            return Ok(None);
+        }
+        let Some(who) = self.porter() else {
+            return Ok(None);
+        };
+        let m = Move { who, pick: None };
+        if self.go_job(table, &m)? {
+            Ok(Some(m))
+        } else {
+            Ok(None)
+        }
+    }
+
+    /// While its time has come, a ready move of the server that heard of the last move, or of a server in its turn, or of one of some few.
+    fn choose_few(&mut self) -> Option<Move>
+        ensures ready { IfSome result (λ m. (self.old.events < self.old.budget) × IsReadyMove self.old.jobs.jobs (run_core self.old) m) }
+        ensures same { run_core self.new ≡ run_core self.old }
+        ensures budget { self.new.budget ≡ self.old.budget }
+        ensures jobs { self.new.jobs.jobs ≡ self.old.jobs.jobs }
+    {
+        if self.events >= self.budget || !self.is_timely() {
+            return None;
+        }
+        if let Some(m) = self.answer() {
+            return Some(m);
+        }
+        match self.look() {
+            Some(m) => Some(m),
+            None => self.find_few(),
+        }
+    }
+
+    /// Makes the job's move whose time has come, or else that of whoever comes next.
+    fn go_late(&mut self, table: &Table) -> Result<Option<Move>, NoMemory>
+        requires fits { AllFit (map (λ r. r.rule) table.now.list.items) self.old.services.list }
+        requires come { IsGoing self.old }
+        ensures advanced { IfOk result (λ made. IsAdvanced self.old.jobs.jobs self.old.budget (run_core self.old) made (run_core self.new)) }
+        ensures none { IfOk result (λ made. IfNone made (IsOver self.old.jobs.jobs self.old.budget (run_core self.old))) }
+        ensures lacking { OnErr result (run_core self.new ≡ run_core self.old) }
+        ensures fits { AllFit (map (λ r. r.rule) table.now.list.items) self.new.services.list }
+        ensures budget { self.new.budget ≡ self.old.budget }
+        ensures jobs { self.new.jobs.jobs ≡ self.old.jobs.jobs }
+    {
+        match self.go_timely(table)? {
+            Some(m) => Ok(Some(m)),
+            None => self.go_next(table),
+        }
+    }
+
+    /// The same, where none of those few has a ready move that go before the job.
+    fn go_few(&mut self, table: &Table) -> Result<Option<Move>, NoMemory>
+        requires fits { AllFit (map (λ r. r.rule) table.now.list.items) self.old.services.list }
+        requires come { IsGoing self.old }
+        ensures advanced { IfOk result (λ made. IsAdvanced self.old.jobs.jobs self.old.budget (run_core self.old) made (run_core self.new)) }
+        ensures none { IfOk result (λ made. IfNone made (IsOver self.old.jobs.jobs self.old.budget (run_core self.old))) }
+        ensures lacking { OnErr result (run_core self.new ≡ run_core self.old) }
+        ensures fits { AllFit (map (λ r. r.rule) table.now.list.items) self.new.services.list }
+        ensures budget { self.new.budget ≡ self.old.budget }
+        ensures jobs { self.new.jobs.jobs ≡ self.old.jobs.jobs }
+    {
+        let Some(m) = self.choose_few() else {
+            return self.go_late(table);
+        };
+        self.turn(table, &m)?;
+        Ok(Some(m))
+    }
+
+    /// The same, where the thread that moved last doesn't go on.
+    fn go_between(&mut self, table: &Table) -> Result<Option<Move>, NoMemory>
+        requires fits { AllFit (map (λ r. r.rule) table.now.list.items) self.old.services.list }
+        requires come { IsGoing self.old }
+        ensures advanced { IfOk result (λ made. IsAdvanced self.old.jobs.jobs self.old.budget (run_core self.old) made (run_core self.new)) }
+        ensures none { IfOk result (λ made. IfNone made (IsOver self.old.jobs.jobs self.old.budget (run_core self.old))) }
+        ensures lacking { OnErr result (run_core self.new ≡ run_core self.old) }
+        ensures fits { AllFit (map (λ r. r.rule) table.now.list.items) self.new.services.list }
+        ensures budget { self.new.budget ≡ self.old.budget }
+        ensures jobs { self.new.jobs.jobs ≡ self.old.jobs.jobs }
+    {
+        match self.go_on(table)? {
+            Some(m) => Ok(Some(m)),
+            None => self.go_few(table),
+        }
+    }
+
     /// Makes a move that is ready, while a job is left.
     #[inline(never)]
     fn go_among(&mut self, table: &Table) -> Result<Option<Move>, NoMemory>
@@ -470,7 +565,7 @@ impl<S: Service + Drop, W: Worker + Drop> Core<S, W> {
     {
         match self.go_first(table)? {
             Some(m) => Ok(Some(m)),
-            None => self.go_further(table),
+            None => self.go_between(table),
         }
     }
 

@@ -7,6 +7,6 @@ pub returns-in-None-clause-first : goal.returns-in-None-clause-first
 returns-in-None-clause-first g c =
     let self = c.args.self.now in
     let then = c.go_first.new.self in
-    first_further c.go_further.result self.jobs (world self.kernel) self.services.list self.events self.budget then.jobs.jobs then.budget (run_core then)
-    (run_core c.go_further.new.self) c.go_first.ensures.jobs c.go_first.ensures.budget (rw c.in-None.is at c.in_ok-m.ensures.advanced)
-    (rw c.in-None.is at c.in_ok-m.ensures.none) c.go_further.ensures.advanced
+    first_further c.go_between.result self.jobs (world self.kernel) self.services.list self.events self.budget then.jobs.jobs then.budget (run_core then)
+    (run_core c.go_between.new.self) c.go_first.ensures.jobs c.go_first.ensures.budget (rw c.in-None.is at c.in_ok-m.ensures.advanced)
+    (rw c.in-None.is at c.in_ok-m.ensures.none) c.go_between.ensures.advanced
