@@ -216,8 +216,15 @@ module _ {J S A V : Type 0} (h : House J S A V) (first : Core S A V) (users : As
           may = its.may;
           longer = subst (λ (e : Event). Longer k begun its.nester its.begins (heard h.machine t (said_of w e)) (world_at run (k + 1))) (sym is)
               (subst (λ (v : World). Longer k begun its.nester its.begins (heard h.machine t (said_of w call)) v) (sym (goes ∙ ap (after w) is)) (record {
-                work = record { stage = work.stage; words = work.words; asked = work.asked; ready = work.ready; events = work.events ++ call
-                    ∷ []; run = more.0 };
+                work = record {
+                  stage = work.stage;
+                  words = work.words;
+                  asked = work.asked;
+                  ready = work.ready;
+                  events = work.events ++ call
+                      ∷ [];
+                  run = more.0;
+                };
                 there = record { first_asks = its.there.first_asks; placed = more.1 };
                 long = omega (arith, grows, long);
               }));

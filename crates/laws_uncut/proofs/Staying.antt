@@ -58,7 +58,7 @@ module _ (x : Path) where
   birth_all (c ∷ cs) v valid safe new there =
       let then_there = was_all cs (apply c v) new.1 there in
       birth_all cs (apply c v) (valid-apply c v valid safe.0) safe.1 new.1 there
-          ∙ birth_one v valid LAST_PORTER_SLOT x (live v (was_one c v new.0 then_there)) c safe.0
+      ∙ birth_one v valid LAST_PORTER_SLOT x (live v (was_one c v new.0 then_there)) c safe.0
 
   birth_row : (cs : List Change) (v : World) → IsConsistent v → AreSafe v cs → IsOursRow v cs → Porter (apply_all cs v)
       → birth_at (apply_all cs v) x ≡ birth_at v x
@@ -85,4 +85,4 @@ pub porters_space_stays : PortersSpaceStays
 unfolding step Porter
 porters_space_stays w e uncut valid few fit x there =
     birth_stepped x w (outcome w e.mover e.pick e.ask) valid.consistent (outcome-safe w e.mover e.pick e.ask (facts_of w valid few) fit)
-        (outcome-ours w e.mover e.pick e.ask uncut) there
+    (outcome-ours w e.mover e.pick e.ask uncut) there
