@@ -7,7 +7,7 @@ use Rattle.fk_causes.specs.Shelf.{FileMap, KeepsOthers}
 use Rattle.fk_commands.specs.declared.prepared.Prepared.{Prepared}
 use Rattle.fk_commands.specs.declared.status.Status.{Status}
 use Rattle.fk_commands.specs.declared.status.Status.TheVariants.{Ok as Done, Usage, TooLong, BadText, BadScenario, Absent, BadImage, BadTrace, JobRefused, Budget, ReadFault, WriteFault, ShelfFault, NoMemory}
-use Rattle.fk_run.specs.Commands.{Command, Show}
+use Rattle.fk_run.specs.Commands.{Command, Exec, Check, Run, Play, Show}
 use Rattle.fk_commands.specs.Outcomes.{without_report}
 use Rattle.fk_commands.specs.declared.outcome.Outcome.{Outcome}
 use Rattle.fk_commands.specs.declared.outcome.Report.{Report}
@@ -18,7 +18,7 @@ use Rattle.fk_commands.specs.Show.{IsShow}
 use Rattle.fk_commands.specs.Files.{image_name}
 use Rattle.fk_report.specs.declared.job_end.JobEnd.{JobEnd}
 use Rattle.fk_report.specs.declared.job_end.JobEnd.TheVariants.{Checkpointed, Foreign, Dead, Restored, NoImage, Occupied, NoPort}
-use Rattle.fk_run.specs.Puts.{OpensEnd}
+use Rattle.fk_run.specs.Puts.{OpensEnd, HasPutSome}
 use Rattle.fk_run.specs.Top.{Rules, IsDue, IsDone, IsCutOff, IsUnput, HasFailed, GetsToShelf}
 
 -- what a source may hold: what it tells, or else anything
@@ -83,6 +83,15 @@ opens_same name (Some (Restored make release)) files = refl
 opens_same name (Some NoImage) files = refl
 opens_same name (Some Occupied) files = refl
 opens_same name (Some (NoPort port make release)) files = refl
+
+-- without a run nothing is put
+pub puts_nothing : (command : Option Command) (old new : Option FileMap) → new ≡ old → HasPutSome command None old new
+puts_nothing None old new same = same
+puts_nothing (Some Exec) old new same = same
+puts_nothing (Some Check) old new same = same
+puts_nothing (Some (Run trace)) old new same = same
+puts_nothing (Some (Play name)) old new same = same
+puts_nothing (Some (Show name)) old new same = same
 
 module _ (rules : Rules) (command : Option Command) (left : Option (List ℕ)) (files : Option FileMap) (run : Prepared) (outcome : Outcome) where
   -- what is prepared is due, and was done whole

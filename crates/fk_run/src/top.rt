@@ -127,13 +127,15 @@ fn finish<W: Sink, H: Shelf>(
 /// or the memory failed, the outcome and the output are those that the bytes of the source and the
 /// files of the shelf call for: where these are told, those that are told, and some that they may have
 /// held where not. `ReadFault`, `WriteFault` and `ShelfFault` come only where that object's count of
-/// faults rose in this call: `ShelfFault` of a get, of `play` only once the scenario is accepted and of `run` once one is that needs an image; that of a put
-/// only once the run is made: what was to be put before that is put, and no other file has changed but that one; `WriteFault` only
+/// faults rose in this call: `ShelfFault` of a get, of `play` only once the scenario is accepted and of `run` once one is that needs an image: there is no
+/// report, and no file has changed; that of a put, with the run's report, only once the run is made: what was to be put before that is put, and no other
+/// file has changed but that one; `WriteFault` only
 /// once all is done but the writing. `NoMemory` comes where there is no memory for the text, for what is
 /// made of it, or for the output.
 ///
 /// The whole output is written after `Ok`, `JobRefused` and `Budget`, a prefix of it after `WriteFault`, and
-/// nothing otherwise. No file of the shelf changes but those that a run puts.
+/// nothing otherwise. A run alone changes files of the shelf, and of these only such as have the name of an image, and the trace that it is to put. Which ones
+/// is said above for each end but `NoMemory`, where any of these may have changed.
 pub fn fluke_top<R: Source, W: Sink, H: Shelf>(
     alloc: Global,
     words: &[String],
@@ -166,7 +168,7 @@ pub fn fluke_top<R: Source, W: Sink, H: Shelf>(
     ensures source { OnFalse (reads_source (command_of (map string_bytes words.now))) (source.new ≡ source.old) }
     ensures shelf { OnFalse (uses_shelf (command_of (map string_bytes words.now))) (shelf.new ≡ shelf.old) }
     ensures put { OnTrue (has_put_all result.status) (HasPut (command_of (map string_bytes words.now)) result.report (H.files shelf.old) (H.files shelf.new)) }
-    ensures some { result.status ≡ Status.ShelfFault → IsSome result.report
+    ensures some { result.status ≡ Status.ShelfFault
         → HasPutSome (command_of (map string_bytes words.now)) result.report (H.files shelf.old) (H.files shelf.new) }
     ensures again { OnTrue (has_put_all result.status) (PlaysAgain (map (λ r. (string_bytes r.name, r.rule)) table.now.list.items)
         (command_of (map string_bytes words.now)) (H.files shelf.new) result.report) }

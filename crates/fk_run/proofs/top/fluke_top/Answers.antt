@@ -1,6 +1,6 @@
 use Rattle.std.proofs.Common.{◌≡◌, None, map, string_bytes, rules}
 use Rattle.fk_run.specs.Commands.{command_of}
-use Rattle.fk_run.proofs.Due.{no-command}
+use Rattle.fk_run.proofs.Due.{no-command, puts_nothing}
 use Rattle.fk_run.proofs.Headline.{holds}
 use Rattle.fk_run.proofs.top.fluke_top.Goals as goal
 
@@ -11,3 +11,6 @@ returns-in_default-clause-done g c =
 
 pub returns-in-Ok-clause-headline : goal.returns-in-Ok-clause-headline
 returns-in-Ok-clause-headline g c = holds _ c.finish.result.report
+
+pub returns-in-Err-clause-some : goal.returns-in-Err-clause-some
+returns-in-Err-clause-some g c = λ failed. puts_nothing _ _ _ c.prepare.ensures.same_files
