@@ -265,14 +265,14 @@ module _ {V : Type 0} (jobs : List Job) (servers : Servers V) (first c : Core St
 
   leaves_rest : (k begun slot : ℕ) (s : checkpoints.State) (stage : Stage) (words : List ℕ) → k < length past
       → asker_at run k ≡ Asked_by_job begun (Checking slot s) stage words →
-      (birth : ℕ) × LeftBeside birth slot (world_at run begun) (world_at run k) (world_at run (k + 1))
+      (m : Move) × LeftBeside past k m slot (world_at run begun) (world_at run k) (world_at run (k + 1))
   leaves_rest k begun slot s stage words low e =
       let its = moves_in_history (house jobs servers) first c past run grounded.users
       (house_is_tidy jobs servers grounded.slots) grounded.start grounded.few k begun (Checking slot s) stage words low e in
       by its
     where
       Left : Type 0
-      Left = (birth : ℕ) × LeftBeside birth slot (world_at run begun) (world_at run k) (world_at run (k + 1))
+      Left = (m : Move) × LeftBeside past k m slot (world_at run begun) (world_at run k) (world_at run (k + 1))
 
       asks_under_part : (s : checkpoints.State) → machine.head (Checking slot s) ≡ Asks stage words → checkpoints.head slot s ≡ Asks stage words
       asks_under_part s asked = asks_part (checkpoint slot) machine (Checking slot) Checked [] (checkpoint_part slot) (Checking slot s) s stage words refl asked
@@ -287,10 +287,12 @@ module _ {V : Type 0} (jobs : List Job) (servers : Servers V) (first c : Core St
           let goes : world_at run (k + 1) ≡ after (world_at run k) (hold its.nester slot) = its.goes ∙ ap (λ e. after (world_at run k) e) event in
           let may = subst (λ i. MayBegin (world_at run i) its.nester its.job.nester) now its.may in
           let sound = subst IsSound goes (whole.sound (k + 1) (omega (arith, low))) in (
-            its.job.nester,
+            its.move,
             record {
               nester = its.nester;
-              named = its.may.named;
+              placed = its.placed;
+              named = its.may.named ∙ ap Some (sym its.space);
+              stays = its.stays ∙ ap Some (sym its.space);
               same = subst (IsSameBeside its.nester slot (world_at run k)) (sym goes)
                   ((checkpoint_leaves_rest slot its.job.nester (world_at run k) its.nester user may sound).first
                   (subst (IsReadyAt (world_at run k)) event its.ready));
@@ -307,10 +309,12 @@ module _ {V : Type 0} (jobs : List Job) (servers : Servers V) (first c : Core St
           let event : call_of its.nester work.stage work.words ≡ hold its.nester slot = λ i. call_of its.nester (sym one i) (sym two i) in
           let behind = first_sound (checkpoint slot) its.nester _ _ work.events (world_at run k) s work.run in
           let sound = subst (λ e. IsSound (after (world_at run begun) e)) event behind in (
-            its.job.nester,
+            its.move,
             record {
               nester = its.nester;
-              named = its.may.named;
+              placed = its.placed;
+              named = its.may.named ∙ ap Some (sym its.space);
+              stays = its.stays ∙ ap Some (sym its.space);
               same = subst (IsSameBeside its.nester slot (world_at run k)) (sym its.goes)
                   ((checkpoint_leaves_rest slot its.job.nester (world_at run begun) its.nester user its.may sound).later
                   (world_at run k) s stage words work asked (whole.sound k (omega (arith, low))) its.ready);

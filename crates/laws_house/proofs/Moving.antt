@@ -8,6 +8,7 @@ use Rattle.fk_model.specs.declared.stage.Stage.{Stage}
 use Rattle.fk_model.specs.declared.stage.Stage.TheVariants.{SpaceMakeHeld, SpaceRelease}
 use Rattle.fk_model.specs.declared.statuses.status.TheConstants.{OK}
 use Rattle.fk_model.specs.Places.{Ptr}
+use Rattle.fk_model.specs.Valid.{birth_at}
 use Rattle.fk_model.specs.Closed.{Place}
 use Rattle.fk_model.specs.Runs.{after}
 use Rattle.fk_image.specs.declared.image.Image.{Image}
@@ -93,7 +94,7 @@ module _ {V : Type 0} (jobs : List Job) (servers : Servers V) (first c : Core St
 
   module _ (k begun slot : ℕ) (pairs : List (ℕ × ℕ)) (image : Image) (s : restores.State) (stage : Stage) (words : List ℕ) where
     Left : Type 0
-    Left = (birth : ℕ) × LeftFar birth slot (world_at run begun) (world_at run k) (world_at run (k + 1))
+    Left = (m : Move) × LeftFar past k m slot (world_at run begun) (world_at run k) (world_at run (k + 1))
 
     asks_under_part : (s : restores.State) → machine.head (Restoring slot pairs image s) ≡ Asks stage words → restores.head slot s ≡ Asks stage words
     asks_under_part s asked = asks_part (restore_of slot image pairs) machine (Restoring slot pairs image) Restored [] (restore_part slot pairs image)
@@ -112,10 +113,12 @@ module _ {V : Type 0} (jobs : List Job) (servers : Servers V) (first c : Core St
         let goes : world_at run (k + 1) ≡ after (world_at run k) (call_of its.nester (SpaceMakeHeld slot) no_words) = its.goes
         ∙ ap (λ e. after (world_at run k) e) event in
         let may = subst (λ i. MayBegin (world_at run i) its.nester its.job.nester) now its.may in (
-          its.job.nester,
+          its.move,
           record {
             nester = its.nester;
-            named = its.may.named;
+            placed = its.placed;
+            named = its.may.named ∙ ap Some (sym its.space);
+            stays = its.stays ∙ ap Some (sym its.space);
             same = subst (IsSameFar its.nester slot (world_at run k)) (sym goes)
                 ((leaves_far slot its.job.nester (bound_by pairs) (picture image) (rooms_of image) (world_at run k) its.nester user roomed may).first
                 (subst (IsReadyAt (world_at run k)) event its.ready));
@@ -127,10 +130,12 @@ module _ {V : Type 0} (jobs : List Job) (servers : Servers V) (first c : Core St
     unfolding Left
     later_move its user roomed work =
         let asked = asks_under_part s its.asked in (
-          its.job.nester,
+          its.move,
           record {
             nester = its.nester;
-            named = its.may.named;
+            placed = its.placed;
+            named = its.may.named ∙ ap Some (sym its.space);
+            stays = its.stays ∙ ap Some (sym its.space);
             same = subst (IsSameFar its.nester slot (world_at run k)) (sym its.goes)
                 ((leaves_far slot its.job.nester (bound_by pairs) (picture image) (rooms_of image) (world_at run begun) its.nester user roomed its.may).later
                 (world_at run k) s stage words work asked its.ready);
@@ -173,7 +178,7 @@ module _ {V : Type 0} (jobs : List Job) (servers : Servers V) (first c : Core St
             (subst (λ x. AtWork (restore_of other seen given) its.nester (world_at run begun) Makes (world_at run k) x) (sym same.3) part.part))))
 
     leaves_the_rest : k < length past → asker_at run k ≡ Asked_by_job begun (Restoring slot pairs image s) stage words
-        → (birth : ℕ) × LeftFar birth slot (world_at run begun) (world_at run k) (world_at run (k + 1))
+        → (m : Move) × LeftFar past k m slot (world_at run begun) (world_at run k) (world_at run (k + 1))
     unfolding Left
     leaves_the_rest low e =
         let its = moves_in_history (house jobs servers) first c past run grounded.users
@@ -182,20 +187,27 @@ module _ {V : Type 0} (jobs : List Job) (servers : Servers V) (first c : Core St
 
   -- ---- the next move
 
-  next_ready : (k : Work State) → c.work ≡ Some k → NextIsReady k.state c.world
+  next_ready : (k : Work State) → c.work ≡ Some k → (j : Job) × (slice_get jobs (length c.ends) ≡ Some j) × NextIsReady j.nester k.state c.world
   next_ready k working =
       let w = (stands (house jobs servers) first grounded.users
       (house_is_tidy jobs servers grounded.slots) grounded.start run grounded.few).working k working in
-      by w (starts w.worked.job c.ends w.worked.start (grounded.slots (length c.ends) w.worked.job w.worked.its) w.worked.starts)
+      (w.worked.job, w.worked.its, by w (starts w.worked.job c.ends w.worked.start (grounded.slots (length c.ends) w.worked.job w.worked.its) w.worked.starts))
     where
+      named : (w : Working (house jobs servers) first grounded.users (house_is_tidy jobs servers grounded.slots) grounded.start run k)
+          → birth_at c.world w.worked.nester ≡ Some w.worked.job.nester
+      named w =
+          let law = house_is_tidy jobs servers grounded.slots (length c.ends) w.worked.job c.ends w.worked.start w.worked.its w.worked.starts in
+          (law.stays (world_at run k.begun) w.worked.nester c.world k.state w.worked.may w.now.work w.stage w.words w.asked).named
+
       by : (w : Working (house jobs servers) first grounded.users (house_is_tidy jobs servers grounded.slots) grounded.start run k)
-          → Starts w.worked.job w.worked.start → NextIsReady k.state c.world
+          → Starts w.worked.job w.worked.start → NextIsReady w.worked.job.nester k.state c.world
       by w (AsCheckpoint slot user start) =
           let there = subst (λ x. AtWork machine w.worked.nester (world_at run k.begun) x c.world k.state) start w.now.work in
           let part = works (checkpoint slot) machine (Checking slot) Checked w.worked.nester (checkpoint_part slot)
           (world_at run k.begun) checkpoints.Holds c.world k.state there in
-          subst (λ x. NextIsReady x c.world) (sym part.is) (record {
+          subst (λ x. NextIsReady w.worked.job.nester x c.world) (sym part.is) (record {
             nester = w.worked.nester;
+            named = named w;
             ready = λ stage words asked calm. checkpoint_is_ready slot w.worked.job.nester
                 (world_at run k.begun) c.world w.worked.nester part.state stage words user w.worked.may part.part
                 (asks_part (checkpoint slot) machine (Checking slot) Checked w.worked.nester (checkpoint_part slot)
@@ -205,8 +217,9 @@ module _ {V : Type 0} (jobs : List Job) (servers : Servers V) (first c : Core St
           let there = subst (λ x. AtWork machine w.worked.nester (world_at run k.begun) x c.world k.state) start w.now.work in
           let part = works (restore_of slot image pairs) machine (Restoring slot pairs image) Restored w.worked.nester (restore_part slot pairs image)
           (world_at run k.begun) Makes c.world k.state there in
-          subst (λ x. NextIsReady x c.world) (sym part.is) (record {
+          subst (λ x. NextIsReady w.worked.job.nester x c.world) (sym part.is) (record {
             nester = w.worked.nester;
+            named = named w;
             ready = λ stage words asked calm. restore_is_ready slot w.worked.job.nester (bound_by pairs) (picture image) (rooms_of image)
                 (world_at run k.begun) c.world w.worked.nester part.state stage words user roomed
                 w.worked.may part.part (asks_part (restore_of slot image pairs) machine (Restoring slot pairs image) Restored w.worked.nester

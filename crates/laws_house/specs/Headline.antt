@@ -68,7 +68,7 @@ pub record HasCheckpoints {V : Type 0} {jobs : List Job} {servers : Servers V} {
   -- and that each of its moves leaves the rest
   pub leaves : (k begun slot : ℕ) (s : checkpoints.State) (stage : Stage) (words : List ℕ) → k < length past →
       asker_at run k ≡ Asked_by_job begun (Checking slot s) stage words →
-      (birth : ℕ) × LeftBeside birth slot (world_at run begun) (world_at run k) (world_at run (k + 1))
+      (m : Move) × LeftBeside past k m slot (world_at run begun) (world_at run k) (world_at run (k + 1))
   -- ended or not, it makes few
   pub brief : (index begun upto : ℕ) (ends : List (JobEnd End)) (its : HasWorked run index ends begun upto) (slot d k : ℕ) →
       its.job.task ≡ Checkpoint slot → LiesWithin (cut (world_at run begun) its.nester slot) d → begun < k → k ≤ upto →
@@ -102,7 +102,7 @@ pub record HasRestores {V : Type 0} {jobs : List Job} {servers : Servers V} {fir
   -- and that each of its moves leaves the rest
   pub leaves : (k begun slot : ℕ) (pairs : List (ℕ × ℕ)) (image : Image) (s : restores.State) (stage : Stage) (words : List ℕ) → k < length past →
       asker_at run k ≡ Asked_by_job begun (Restoring slot pairs image s) stage words →
-      (birth : ℕ) × LeftFar birth slot (world_at run begun) (world_at run k) (world_at run (k + 1))
+      (m : Move) × LeftFar past k m slot (world_at run begun) (world_at run k) (world_at run (k + 1))
   -- ended or not, it makes few
   pub brief : (index begun upto : ℕ) (ends : List (JobEnd End)) (its : HasWorked run index ends begun upto) (slot d k : ℕ) (pairs : List (ℕ × ℕ))
       (source : Source) (image : Image) → its.job.task ≡ Restore slot pairs source → valid_one (sourced ends source) ≡ Some image →
@@ -124,7 +124,7 @@ pub record HasHeadline {V : Type 0} {jobs : List Job} {servers : Servers V} {fir
   pub restored : HasRestores run
   -- no scratch is left behind a job's last move, and while it works its next one is ready wherever nothing outside is held
   pub clean : (index begun last : ℕ) (end : End) → slice_get c.ends index ≡ Some (Worked end begun last) → IsClean (world_at run (last + 1))
-  pub ready : (k : Work State) → c.work ≡ Some k → NextIsReady k.state c.world
+  pub ready : (k : Work State) → c.work ≡ Some k → (j : Job) × (slice_get jobs (length c.ends) ≡ Some j) × NextIsReady j.nester k.state c.world
   -- from any place on a plain subtree does what it does in the history
   pub goes_on : (k n : ℕ) → k + n ≤ length past → (nester : Path) (slot : ℕ) (ms : List Onward) → IsPlain (world_at run k) nester slot →
       IsSeenRun nester slot (world_at run k) (between run k n) ms →

@@ -93,10 +93,12 @@ RestoresAreBrief V = (jobs : List Job) (servers : Servers V) (first c : Core Sta
 
 -- ---- what a job's moves leave
 
--- each move of a checkpoint changes nothing but its nester's scratch and who holds the subtree's root
-pub record LeftBeside (birth slot : ℕ) (begins w v : World) : Type 0 where
+-- each move of a checkpoint changes nothing but the scratch of its nester, whose porter makes it, and who holds the subtree's root
+pub record LeftBeside (past : List Move) (k : ℕ) (m : Move) (slot : ℕ) (begins w v : World) : Type 0 where
+  pub placed : slice_get past k ≡ Some m
   pub nester : Path
-  pub named : birth_at begins nester ≡ Some birth
+  pub named : birth_at begins nester ≡ Some m.who.space
+  pub stays : birth_at w nester ≡ Some m.who.space
   pub same : IsSameBeside nester slot w v
 
 abbrev pub CheckpointsLeaveTheRest : Type 0 → Type 0
@@ -104,7 +106,7 @@ CheckpointsLeaveTheRest V = (jobs : List Job) (servers : Servers V) (first c : C
     (run : IsRun (house jobs servers) first past c) →
     IsGrounded jobs servers first past → (k begun slot : ℕ) (s : checkpoints.State) (stage : Stage) (words : List ℕ) → k < length past →
     asker_at run k ≡ Asked_by_job begun (Checking slot s) stage words →
-    (birth : ℕ) × LeftBeside birth slot (world_at run begun) (world_at run k) (world_at run (k + 1))
+    (m : Move) × LeftBeside past k m slot (world_at run begun) (world_at run k) (world_at run (k + 1))
 
 -- ---- how a checkpoint ends, and what a done one has saved
 

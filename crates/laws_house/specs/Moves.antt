@@ -43,19 +43,21 @@ use Rattle.laws_house.specs.Laws.{NameUsersSlots, IsGrounded}
 
 -- ---- what a restore's moves leave
 
-pub record LeftFar (birth slot : ℕ) (begins w v : World) : Type 0 where
+pub record LeftFar (past : List Move) (k : ℕ) (m : Move) (slot : ℕ) (begins w v : World) : Type 0 where
+  pub placed : slice_get past k ≡ Some m
   pub nester : Path
-  pub named : birth_at begins nester ≡ Some birth
+  pub named : birth_at begins nester ≡ Some m.who.space
+  pub stays : birth_at w nester ≡ Some m.who.space
   pub same : IsSameFar nester slot w v
 
--- all but the new space and its nester's scratch, also where it destroys the new space again
+-- all but the new space and the scratch of its nester, whose porter makes the move; also where it destroys the new space again
 abbrev pub RestoresLeaveTheRest : Type 0 → Type 0
 RestoresLeaveTheRest V = (jobs : List Job) (servers : Servers V) (first c : Core State End V) (past : List Move)
     (run : IsRun (house jobs servers) first past c) →
     IsGrounded jobs servers first past → (k begun slot : ℕ) (pairs : List (ℕ × ℕ)) (image : Image) (s : restores.State) (stage : Stage) (words : List ℕ)
     → k < length past →
     asker_at run k ≡ Asked_by_job begun (Restoring slot pairs image s) stage words →
-    (birth : ℕ) × LeftFar birth slot (world_at run begun) (world_at run k) (world_at run (k + 1))
+    (m : Move) × LeftFar past k m slot (world_at run begun) (world_at run k) (world_at run (k + 1))
 
 -- ---- the next move of a job that is at work
 
@@ -63,15 +65,17 @@ abbrev pub slot_of_state : State → ℕ
 slot_of_state (Checking slot s) = slot
 slot_of_state (Restoring slot pairs image s) = slot
 
--- is ready wherever nothing outside its subtree is held
-pub record NextIsReady (state : State) (v : World) : Type 0 where
+-- is ready wherever nothing outside the subtree in the slot of its nester is held
+pub record NextIsReady (birth : ℕ) (state : State) (v : World) : Type 0 where
   pub nester : Path
+  pub named : birth_at v nester ≡ Some birth
   pub ready : (stage : Stage) (words : List ℕ) → machine.head state ≡ Asks stage words → IsCalm (slot_of_state state ∷ nester) v
       → IsReadyAt v (call_of nester stage words)
 
 abbrev pub JobsAreReady : Type 0 → Type 0
 JobsAreReady V = (jobs : List Job) (servers : Servers V) (first c : Core State End V) (past : List Move) (run : IsRun (house jobs servers) first past c) →
-    IsGrounded jobs servers first past → (k : Work State) → c.work ≡ Some k → NextIsReady k.state c.world
+    IsGrounded jobs servers first past → (k : Work State) → c.work ≡ Some k →
+    (j : Job) × (slice_get jobs (length c.ends) ≡ Some j) × NextIsReady j.nester k.state c.world
 
 -- ---- what a job asks for
 

@@ -2,12 +2,14 @@
 use Rattle.std.proofs.Common.{◌≡◌, ℕ, ◌+◌, ◌<◌, ◌≤◌, Bool, true, false, cond, nat_lt, IsSome, List, [], ◌∷◌, ◌++◌, length, length-append, Option, Some, None}
 use Rattle.std.proofs.Common.{◌⊎◌, inl, inr, refl, sym, ap, ◌∙◌, subst, option_map, arith}
 use Rattle.std.proofs.lemmas.Bool.{le-leb, lt-leb, ltb-true, ltb-false}
+use Rattle.std.specs.List.{slice_get}
 use Rattle.fk_model.specs.declared.limits.TheConstants.{LAST_PORTER_SLOT}
 use Rattle.fk_model.specs.declared.moves.Ask.TheVariants as asks
 use Rattle.fk_model.specs.declared.moves.Move.{Move}
 use Rattle.fk_model.specs.declared.stage.Stage.{Stage}
 use Rattle.fk_model.specs.Places.{Path}
 use Rattle.fk_model.specs.Moves.{chooses}
+use Rattle.fk_model.specs.Valid.{birth_at}
 use Rattle.fk_model.specs.Who.{event_of, space_born, named}
 use Rattle.laws_savable.specs.Savable.{IsSound}
 use Rattle.laws_jobs.specs.Machines.{call_of, IsReadyAt, AtWork}
@@ -24,6 +26,7 @@ use Rattle.laws_runs.specs.Turning.{IsJobsMove, JobsMoves, asker_at, MovesAt, Jo
 use Rattle.laws_runs.proofs.Named.{named_is, named_there, unpicked, caller_there}
 use Rattle.laws_runs.proofs.Asking.{JobAsks, job_of, goes_on_work, begins_work}
 use Rattle.laws_runs.proofs.Composing.{Stands, stands, made_here}
+use Rattle.laws_runs.proofs.Events.{got_front, got_last}
 
 module _ {J S A V : Type 0} (h : House J S A V) (first : Core S A V) (users : AskAsUsers h) (tidy : AreTidy h) (start : IsStart first) where
   module _ (past : List Move) (c : Core S A V) (run : IsRun h first past c) (stand : Stands h first users tidy start run) (m : Move) where
@@ -53,6 +56,8 @@ module _ {J S A V : Type 0} (h : House J S A V) (first : Core S A V) (users : As
           its = w.worked.its;
           starts = w.worked.starts;
           may = w.worked.may;
+          stays = porter.named;
+          space = asks_it.space ∙ ap h.nester same_job;
           event = is_call w.worked.nester stage words asks_it.slot (ap (space_born c.world) (asks_it.space ∙ ap h.nester same_job)
               ∙ there) owed.unpicking ready;
           asked = asks_it.asked;
@@ -77,6 +82,8 @@ module _ {J S A V : Type 0} (h : House J S A V) (first : Core S A V) (users : As
           its = asks_it.its;
           starts = starts;
           may = subst (λ w. MayBegin w nester birth) (sym (ap (λ k. world_at run k) place ∙ stand.last)) may;
+          stays = at;
+          space = asks_it.space;
           event = is_call nester stage words asks_it.slot (ap (space_born c.world) asks_it.space) owed.unpicking ready;
           asked = asks_it.asked;
           at = inl (place, refl);
@@ -140,6 +147,10 @@ module _ {J S A V : Type 0} (h : House J S A V) (first : Core S A V) (users : As
           its = its.its;
           starts = its.starts;
           may = subst (λ v. MayBegin v its.nester (h.nester its.job)) (sym at_begun) its.may;
+          stays = subst (λ v. birth_at v its.nester ≡ Some (h.nester its.job)) (sym at_k) its.stays;
+          move = its.move;
+          placed = got_front past (m ∷ []) k low ∙ its.placed;
+          space = its.space;
           asked = its.asked;
           ready = subst (λ v. IsReadyAt v (call_of its.nester stage words)) (sym at_k) its.ready;
           goes = at_next ∙ (its.goes ∙ ap (λ v. after v (call_of its.nester stage words)) (sym at_k));
@@ -170,6 +181,10 @@ module _ {J S A V : Type 0} (h : House J S A V) (first : Core S A V) (users : As
           its = its.its;
           starts = its.starts;
           may = subst (λ v. MayBegin v its.nester (h.nester its.job)) (sym (earlier begun early)) its.may;
+          stays = subst (λ v. birth_at v its.nester ≡ Some (h.nester its.job)) (sym now) its.stays;
+          move = m;
+          placed = ap (slice_get (past ++ m ∷ [])) here ∙ got_last past m;
+          space = its.space;
           asked = its.asked;
           ready = subst (λ v. IsReadyAt v (call_of its.nester stage words)) (sym now) (subst (IsReadyAt c.world) its.event (at_job ready));
           goes = latest (k + 1) (omega (arith, here)) ∙ (made.goes ∙ (ap (after c.world) event ∙ ap (λ v. after v (call_of its.nester stage words)) (sym now)));

@@ -7,6 +7,7 @@ use Rattle.fk_model.specs.declared.moves.Move.{Move}
 use Rattle.fk_model.specs.declared.stage.Stage.{Stage}
 use Rattle.fk_model.specs.Places.{Path}
 use Rattle.fk_model.specs.Searches.{depth}
+use Rattle.fk_model.specs.Valid.{birth_at}
 use Rattle.fk_model.specs.Who.{event_of}
 use Rattle.fk_model.specs.Runs.{after}
 use Rattle.laws_jobs.specs.Machines.{call_of, IsReadyAt, AtWork}
@@ -25,6 +26,8 @@ pub record IsJobsMove {J S A V : Type 0} {h : House J S A V} {first c : Core S A
   pub its : current h c ≡ Some job
   pub starts : h.begins job c.ends ≡ Some start
   pub may : MayBegin (world_at run begun) nester (h.nester job)
+  pub stays : birth_at c.world nester ≡ Some (h.nester job)
+  pub space : m.who.space ≡ h.nester job
   pub event : event_of c.world (asks.Call stage words) m ≡ call_of nester stage words
   pub asked : h.machine.head t ≡ Asks stage words
   -- it is the job's first move, or one of its later ones
@@ -54,6 +57,11 @@ pub record MovesAt {J S A V : Type 0} {h : House J S A V} {first c : Core S A V}
   pub its : slice_get h.jobs index ≡ Some job
   pub starts : h.begins job ends ≡ Some start
   pub may : MayBegin (world_at run begun) nester (h.nester job)
+  pub stays : birth_at (world_at run k) nester ≡ Some (h.nester job)
+  -- the move of the history, by the porter of its nester
+  pub move : Move
+  pub placed : slice_get past k ≡ Some move
+  pub space : move.who.space ≡ h.nester job
   pub asked : h.machine.head t ≡ Asks stage words
   pub ready : IsReadyAt (world_at run k) (call_of nester stage words)
   pub goes : world_at run (k + 1) ≡ after (world_at run k) (call_of nester stage words)
