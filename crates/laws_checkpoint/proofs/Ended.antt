@@ -194,7 +194,7 @@ module _ (slot birth : ℕ) (w : World) (nester : Path) (low : slot ≤ LAST_USE
   as_it_was : (held : Held nester slot w) (sound : IsSound (held_world nester slot w)) (end : End) → Verdict nester slot birth low w may held sound end
       → EndsAsItWas w nester slot end
   as_it_was held sound Gone verdict = absurd verdict
-  as_it_was held sound (Foreign place) verdict = verdict
+  as_it_was held sound (Foreign place) verdict = (held.space, verdict)
   as_it_was held sound (Done image) verdict = (held.space, verdict.0)
 
   pub ends_as_it_was : (v : World) (t : State) (end : End) → Came v t → head slot t ≡ Stops end → EndsAsItWas w nester slot end

@@ -32,10 +32,10 @@ abbrev pub CheckpointKeepsCut : Type 0
 CheckpointKeepsCut = (slot birth : ℕ) (w v : World) (nester : Path) (t : State) → slot ≤ LAST_USER_SLOT → MayBegin w nester birth →
     AtWork (checkpoint slot) nester w Holds v t → cut v nester slot ≡ cut w nester slot
 
--- how it ends is what the subtree was when it began: no space in the slot, not closed and the first place that says so, or closed
+-- how it ends is what the slot held when it began: no space, one that isn't closed and the first place that says so, or one that is
 abbrev pub EndsAsItWas : World → Path → ℕ → End → Type 0
 EndsAsItWas w nester slot Gone = IsSpaceAt w (slot ∷ nester) → ⊥
-EndsAsItWas w nester slot (Foreign place) = open_place w nester slot ≡ Some place
+EndsAsItWas w nester slot (Foreign place) = IsSpaceAt w (slot ∷ nester) × (open_place w nester slot ≡ Some place)
 EndsAsItWas w nester slot (Done image) = IsSpaceAt w (slot ∷ nester) × IsClosed w nester slot
 
 abbrev pub CheckpointEndsAsItWas : Type 0
