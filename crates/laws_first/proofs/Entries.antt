@@ -17,7 +17,8 @@ use Rattle.laws_house.specs.Houses.Task.{Restore}
 use Rattle.laws_house.specs.Houses.State.{Restoring}
 use Rattle.laws_house.specs.Houses.End.{Checked, Restored}
 use Rattle.laws_house.proofs.House.{valid_is}
-use Rattle.laws_first.specs.Entries.{given_at, IsFrom, EntriesAreSaved, EntriesAreMade, EntriesGoOn}
+use Rattle.laws_first.specs.Entries.{given_at, IsFrom, EntriesAreSaved, EntriesAreMade, EntriesGoOn, EntriesArePlain}
+use Rattle.laws_first.proofs.Plain.{saved_is_plain}
 use Rattle.laws_first.specs.Entries.IsFrom.{Made, Given}
 
 -- ---- the job of an entry
@@ -110,3 +111,9 @@ entries_go_on specs images servers first c past run has from index moment birth 
     has.goes_on_again from index (job_of (take from specs) spec (given_at from images)) (job_of (take index specs) again (given_at index images))
     slot place hold release make done bind image (at [] specs images from spec saved) refl ended (at [] specs images index again restored)
     (ap (λ (o : Option ℕ). Restore place bind (source_of o (given_at index images))) maker) remade before
+
+pub entries_are_plain : {V : Type 0} → EntriesArePlain V
+entries_are_plain specs images servers first c past run grounded index moment birth path slot name image hold release got ended nester named =
+    saved_is_plain (jobs_of specs images) servers first c past run grounded index
+    (job_of (take index specs) (specs_of.Checkpoint moment birth path slot name) (given_at index images)) slot hold release image
+    (at [] specs images index (specs_of.Checkpoint moment birth path slot name) got) refl ended nester named

@@ -4,4 +4,5 @@ pub mod Users
 pub mod Alone
 pub mod Apart
 pub mod Programs
+pub mod Plain
 pub mod Entries

@@ -3,14 +3,15 @@ use Rattle.std.proofs.Common.{subst}
 use Rattle.fk_served.specs.Served.{servers}
 use Rattle.laws_savable.specs.Savable.{IsSound}
 use Rattle.laws_house.specs.Houses.{jobs_of}
-use Rattle.laws_first.specs.Programs.{ProgramsHaveTheHeadline}
+use Rattle.laws_house.proofs.Headline.{headline_holds}
+use Rattle.laws_first.specs.Programs.{ProgramsAreGrounded, ProgramsHaveTheHeadline}
 use Rattle.laws_first.proofs.Apart.{jobs_save_users_alone}
 use Rattle.laws_first.proofs.Users.{servers_ask_as_users, scenario_jobs_name_users_slots}
-use Rattle.laws_first.proofs.Grounded.{scenarios_have_the_headline}
+use Rattle.laws_first.proofs.Grounded.{scenarios_are_grounded}
 
-pub programs_have_the_headline : ProgramsHaveTheHeadline
-programs_have_the_headline s images first c past run keeps world sound ends work events within =
-    scenarios_have_the_headline s (jobs_of s.jobs images) servers first c past run (record {
+pub programs_are_grounded : ProgramsAreGrounded
+programs_are_grounded s images first past keeps world sound ends work events within =
+    scenarios_are_grounded s (jobs_of s.jobs images) servers first past (record {
       keeps = keeps;
       world = world;
       sound = subst IsSound world sound;
@@ -21,3 +22,8 @@ programs_have_the_headline s images first c past run keeps world sound ends work
       slots = scenario_jobs_name_users_slots s keeps images;
       alone = jobs_save_users_alone s keeps images;
     }) within
+
+pub programs_have_the_headline : ProgramsHaveTheHeadline
+programs_have_the_headline s images first c past run keeps world sound ends work events within =
+    headline_holds (jobs_of s.jobs images) servers first c past run
+    (programs_are_grounded s images first past keeps world sound ends work events within)

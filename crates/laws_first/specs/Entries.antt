@@ -4,6 +4,9 @@ use Rattle.std.specs.List.{slice_get}
 use Rattle.fk_model.specs.declared.job.JobSpec.{JobSpec}
 use Rattle.fk_model.specs.declared.job.JobSpec.TheVariants.{Checkpoint, Restore}
 use Rattle.fk_model.specs.declared.moves.Move.{Move}
+use Rattle.fk_model.specs.Places.{Path}
+use Rattle.fk_model.specs.Valid.{birth_at}
+use Rattle.fk_model.specs.Cut.{IsPlain}
 use Rattle.fk_image.specs.declared.image.Image.{Image}
 use Rattle.fk_image.specs.Picture.{picture}
 use Rattle.fk_image.specs.Valid.{is_valid}
@@ -13,9 +16,10 @@ use Rattle.laws_rooms.specs.Restoring.{bound_by}
 use Rattle.laws_runs.specs.Cores.{JobEnd, Servers, Core, IsRun, world_at}
 use Rattle.laws_runs.specs.Cores.JobEnd.{Worked}
 use Rattle.laws_runs.specs.Headline.{Checkpointed, Restored as Restored_there}
-use Rattle.laws_house.specs.Houses.{State, End, house, maker_from, given_first, jobs_of}
+use Rattle.laws_house.specs.Houses.{Job, State, End, house, maker_from, given_first, jobs_of}
+use Rattle.laws_house.specs.Houses.Task.{Checkpoint as Saves}
 use Rattle.laws_house.specs.Houses.End.{Checked, Restored}
-use Rattle.laws_house.specs.Laws.{GoesOnAgain}
+use Rattle.laws_house.specs.Laws.{GoesOnAgain, IsGrounded}
 use Rattle.laws_house.specs.Headline.{HasHeadline}
 
 -- the image that is given for the job with an index
@@ -56,3 +60,18 @@ EntriesGoOn V = (specs : List JobSpec) (images : List (Option Image)) (servers :
     slice_get specs index ≡ Some (Restore later other place name bind) → slice_get c.ends index ≡ Some (Worked (Restored restores.Done) make done) →
     maker_from 0 (take index specs) name ≡ Some from → from < index →
     GoesOnAgain birth slot (world_at run hold) other place (world_at run make) (world_at run (done + 1)) (bound_by bind)
+
+-- what was saved was plain at its hold: so from there on too, as `HasHeadline` says of a plain subtree, the moves of the history that it
+-- sees are a further run of it
+abbrev pub SavedIsPlain : Type 0 → Type 0
+SavedIsPlain V = (jobs : List Job) (servers : Servers V) (first c : Core State End V) (past : List Move) (run : IsRun (house jobs servers) first past c) →
+    IsGrounded jobs servers first past → (index : ℕ) (j : Job) (slot hold release : ℕ) (image : Image) → slice_get jobs index ≡ Some j →
+    j.task ≡ Saves slot → slice_get c.ends index ≡ Some (Worked (Checked (Done image)) hold release) → (nester : Path) →
+    birth_at (world_at run hold) nester ≡ Some j.nester → IsPlain (world_at run hold) nester slot
+
+abbrev pub EntriesArePlain : Type 0 → Type 0
+EntriesArePlain V = (specs : List JobSpec) (images : List (Option Image)) (servers : Servers V) (first c : Core State End V) (past : List Move)
+    (run : IsRun (house (jobs_of specs images) servers) first past c) → IsGrounded (jobs_of specs images) servers first past →
+    (index moment birth : ℕ) (path : List ℕ) (slot : ℕ) (name : List ℕ) (image : Image) (hold release : ℕ) →
+    slice_get specs index ≡ Some (Checkpoint moment birth path slot name) → slice_get c.ends index ≡ Some (Worked (Checked (Done image)) hold release) →
+    (nester : Path) → birth_at (world_at run hold) nester ≡ Some birth → IsPlain (world_at run hold) nester slot

@@ -5,8 +5,8 @@
 #![tactic(auto)]
 
 ghost use Rattle.laws_first.specs.First.{FirstWorldIsGround};
-ghost use Rattle.laws_first.specs.Entries.{EntriesAreSaved, EntriesAreMade, EntriesGoOn};
-ghost use Rattle.laws_first.specs.Programs.{ProgramsHaveTheHeadline};
+ghost use Rattle.laws_first.specs.Entries.{EntriesAreSaved, EntriesAreMade, EntriesArePlain, EntriesGoOn};
+ghost use Rattle.laws_first.specs.Programs.{ProgramsAreGrounded, ProgramsHaveTheHeadline};
 ghost use Rattle.laws_first.specs.Users.{ServersAskAsUsers, ScenarioJobsNameUsersSlots, ScenarioJobsSaveUsersAlone};
 ghost use Rattle.laws_first.specs.Grounded.{ScenariosAreGrounded, ScenariosHaveTheHeadline};
 
@@ -42,8 +42,12 @@ pub fn scenario_jobs_save_users_alone()
     ensures { ScenarioJobsSaveUsersAlone }
 {}
 
-/// So each run of the program from the first world of a scenario that was read has all of it, whatever images are given for its
-/// jobs.
+/// So each run of the program from the first world of a scenario that was read is as the laws over runs suppose.
+pub fn programs_are_grounded()
+    ensures { ProgramsAreGrounded }
+{}
+
+/// And it has all of it, whatever images are given for its jobs.
 pub fn programs_have_the_headline()
     ensures { ProgramsHaveTheHeadline }
 {}
@@ -51,6 +55,11 @@ pub fn programs_have_the_headline()
 /// Entry by entry: what a checkpoint that is done has saved.
 pub fn entries_are_saved<V>()
     ensures { EntriesAreSaved V }
+{}
+
+/// It was plain at its hold, so that from there on too the history's moves that it sees are a further run of it.
+pub fn entries_are_plain<V>()
+    ensures { EntriesArePlain V }
 {}
 
 /// What a restore that is done has made, and whence it had its image.

@@ -1,5 +1,6 @@
 -- Documents: the refusal that is told of one is its first, and its first is told.
-use Rattle.std.proofs.Common.{◌≡◌, ℕ, ◌+◌, Bool, true, false, List, [], ◌∷◌, ◌++◌, map, flat_map, length, unwrap_or, Result, Ok, Err, codes, refl, sym, ap, subst, ◌∙◌, arith}
+use Rattle.std.proofs.Common.{◌≡◌, ℕ, ◌+◌, Bool, true, false, List, [], ◌∷◌, ◌++◌, map, flat_map, length, unwrap_or, Result, Ok, Err, codes, refl, sym, ap}
+use Rattle.std.proofs.Common.{subst, ◌∙◌, arith}
 use Rattle.std.proofs.lemmas.List.{length-append, length-map, map-append, append-nil}
 use Rattle.std.proofs.lemmas.Grind.{flat_map-append}
 use Rattle.toml.specs.Data.{no_items, Members, no_members}
@@ -29,7 +30,8 @@ use Rattle.laws_scenario_faults.specs.Entries.{top_asks, budget, workers, progra
 use Rattle.laws_scenario_faults.specs.Objects.{objects}
 use Rattle.laws_scenario_faults.specs.Refusals.{Said, aims, serving, work, program_entries, SaysPlaces, SaysRound, Refuses, RefusalsAreFirst, BreaksAreTold}
 use Rattle.laws_scenario_faults.specs.Refusals.Refuses.{OfTop, OfProgram, OfSpace, OfObject, OfServer, OfJob, OfAim, OfServing, OfDone}
-use Rattle.laws_scenario_faults.proofs.Rules.{by_rules, ends, tested, seq, ask, kept, told, read_kept, top_first, read, read_breaks, read_keeps, keep_reads, break_reads}
+use Rattle.laws_scenario_faults.proofs.Rules.{by_rules, ends, tested, seq, ask, kept, told, read_kept, top_first, read, read_breaks, read_keeps, keep_reads}
+use Rattle.laws_scenario_faults.proofs.Rules.{break_reads}
 use Rattle.laws_scenario_faults.proofs.Fields.{or-read, known-read, integer-read, array-read, table-read, needed-integer-read, ranged-read}
 use Rattle.laws_scenario_faults.proofs.Entries.{step, programs-read, spaces-read, servers-read, jobs-read}
 use Rattle.laws_scenario_faults.proofs.Objects.{objects-read}

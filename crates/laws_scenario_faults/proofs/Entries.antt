@@ -1,5 +1,6 @@
 -- Entries: programs, spaces, servers and jobs are read by what they are asked.
-use Rattle.std.proofs.Common.{◌≡◌, ℕ, ℤ, Bool, true, false, not, ◌&&◌, ◌||◌, nat_lt, List, [], ◌∷◌, ◌++◌, length, map, Option, Some, None, is_some, option_and_then, unwrap_or, Result, Ok, Err, if◌then◌else◌, codes, refl, sym, ap, ◌∙◌}
+use Rattle.std.proofs.Common.{◌≡◌, ℕ, ℤ, Bool, true, false, not, ◌&&◌, ◌||◌, nat_lt, List, [], ◌∷◌, ◌++◌, length, map, Option, Some, None, is_some}
+use Rattle.std.proofs.Common.{option_and_then, unwrap_or, Result, Ok, Err, if◌then◌else◌, codes, refl, sym, ap, ◌∙◌}
 use Rattle.std.proofs.lemmas.List.{append_assoc}
 use Rattle.std.specs.List.{list_all}
 use Rattle.std.specs.Str.{bytes_eq}
@@ -21,16 +22,23 @@ use Rattle.fk_scenario_entries.specs.Programs.{program_of}
 use Rattle.fk_scenario_entries.specs.Servers as readers
 use Rattle.fk_scenario_entries.specs.Servers.{console_of, listed_of, rule_from, server_in}
 use Rattle.fk_scenario_entries.specs.Jobs as job_readers
-use Rattle.fk_scenario_entries.specs.Jobs.{lists_from, lists_of, is_restore, pairs_in, bind_in, job_fields, JobFields, pair_of, pairs_from, is_bound, distinct_from, numbers_of, job_kind, job_in}
+use Rattle.fk_scenario_entries.specs.Jobs.{lists_from, lists_of, is_restore, pairs_in, bind_in, job_fields, JobFields, pair_of, pairs_from, is_bound}
+use Rattle.fk_scenario_entries.specs.Jobs.{distinct_from, numbers_of, job_kind, job_in}
 use Rattle.fk_scenario_sections.specs.Programs.{programs_from, index_of, position_of}
 use Rattle.fk_scenario_sections.specs.Spaces.{space_fields, space_after, space_in, spaces_from}
 use Rattle.fk_scenario_sections.specs.Servers.{servers_from}
 use Rattle.fk_scenario_sections.specs.Jobs.{entries_from}
-use Rattle.laws_scenario_faults.specs.Tables.{table_of, each, is_so_if, is_table, is_integer, is_array_of, items, may_have, members, entries, text_at, has, is_text, is_in, is_in_if, number, number_or, is_path, integers, integers_at, integer}
+use Rattle.laws_scenario_faults.specs.Tables.{table_of, each, is_so_if, is_table, is_integer, is_array_of, items, may_have, members, entries, text_at, has}
+use Rattle.laws_scenario_faults.specs.Tables.{is_text, is_in, is_in_if, number, number_or, is_path, integers, integers_at, integer}
 use Rattle.laws_scenario_faults.specs.Entries as asked
-use Rattle.laws_scenario_faults.specs.Entries.{program_asks, program_says, programs, is_program_if, keys_of_space_ask, space_asks, space_of, space_says, spaces, console_asks, listed_asks, is_console, service_asks, listed, service_of, keys_of_server_ask, server_asks, server_of, server_says, servers, list_of, bound, bind_asks, is_pair, pair, pairs, are_distinct, is_kind, binds_well, other_keys_ask, job_asks, job_of, job_says, jobs}
+use Rattle.laws_scenario_faults.specs.Entries.{program_asks, program_says, programs, is_program_if, keys_of_space_ask, space_asks, space_of, space_says, spaces}
+use Rattle.laws_scenario_faults.specs.Entries.{console_asks, listed_asks, is_console, service_asks, listed, service_of, keys_of_server_ask, server_asks}
+use Rattle.laws_scenario_faults.specs.Entries.{server_of, server_says, servers, list_of, bound, bind_asks, is_pair, pair, pairs, are_distinct, is_kind}
+use Rattle.laws_scenario_faults.specs.Entries.{binds_well, other_keys_ask, job_asks, job_of, job_says, jobs}
 use Rattle.laws_scenario_faults.proofs.Rules.{by_rules, ends, tested, seq, ask, choose, read}
-use Rattle.laws_scenario_faults.proofs.Fields.{or-read, list-step, list-end, known-read, text-read, flag-read, integer-read, needed-text-read, needed-integer-read, integers-from, integers-read, ranged-read, ranged-or-read, bytes-read, words-read, path-read}
+use Rattle.laws_scenario_faults.proofs.Fields.{or-read, list-step, list-end, known-read, text-read, flag-read, integer-read, needed-text-read}
+use Rattle.laws_scenario_faults.proofs.Fields.{needed-integer-read, integers-from, integers-read, ranged-read, ranged-or-read, bytes-read, words-read}
+use Rattle.laws_scenario_faults.proofs.Fields.{path-read}
 
 -- ---- steps
 

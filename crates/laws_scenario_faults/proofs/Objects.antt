@@ -1,5 +1,6 @@
 -- Objects are read by what they are asked.
-use Rattle.std.proofs.Common.{◌≡◌, ℕ, ◌+◌, ℤ, Bool, true, false, not, ◌&&◌, nat_lt, List, [], ◌∷◌, ◌++◌, length, Option, Some, None, option_map, Result, Ok, codes, refl, ap, ◌∙◌}
+use Rattle.std.proofs.Common.{◌≡◌, ℕ, ◌+◌, ℤ, Bool, true, false, not, ◌&&◌, nat_lt, List, [], ◌∷◌, ◌++◌, length, Option, Some, None, option_map, Result, Ok}
+use Rattle.std.proofs.Common.{codes, refl, ap, ◌∙◌}
 use Rattle.std.proofs.lemmas.List.{append_assoc}
 use Rattle.toml.specs.Data.{Data, Items, no_items, item, Members}
 use Rattle.fk_scenario_fields.specs.Gives.{◌>>=◌, placed}
@@ -9,14 +10,18 @@ use Rattle.fk_scenario_entries.specs.declared.types.ObjectEntry.{ObjectEntry}
 use Rattle.fk_scenario_entries.specs.declared.types.Spec.{Spec}
 use Rattle.fk_scenario_entries.specs.declared.types.Spec.TheVariants.{Cond, Portset}
 use Rattle.fk_scenario_entries.specs.Objects as readers
-use Rattle.fk_scenario_entries.specs.Objects.{thread_spec, mutex_spec, extent_in, window_of, mapping_keys, mapping_spec, region_spec, set_of, port_spec, reference_spec, plain_spec, spec_of, object_entry}
+use Rattle.fk_scenario_entries.specs.Objects.{thread_spec, mutex_spec, extent_in, window_of, mapping_keys, mapping_spec, region_spec, set_of, port_spec}
+use Rattle.fk_scenario_entries.specs.Objects.{reference_spec, plain_spec, spec_of, object_entry}
 use Rattle.fk_scenario_sections.specs.Spaces.{has_space, has_space_or_root}
 use Rattle.fk_scenario_sections.specs.Objects.{has_object, object_after, objects_from}
 use Rattle.laws_scenario_faults.specs.Tables.{table_of, is_table, is_text, has, items, text, text_at, integer, is_in_if, number, is_path}
 use Rattle.laws_scenario_faults.specs.Objects as asked
-use Rattle.laws_scenario_faults.specs.Objects.{thread_asks, thread, mutex_asks, mutex, first, count, window_asks, mapping_asks, mapping, region_asks, region, port_asks, port, reference_asks, reference, plain_asks, is_kind, body_asks, body, place, object_asks, object_of, object_says, objects}
+use Rattle.laws_scenario_faults.specs.Objects.{thread_asks, thread, mutex_asks, mutex, first, count, window_asks, mapping_asks, mapping, region_asks, region}
+use Rattle.laws_scenario_faults.specs.Objects.{port_asks, port, reference_asks, reference, plain_asks, is_kind, body_asks, body, place, object_asks, object_of}
+use Rattle.laws_scenario_faults.specs.Objects.{object_says, objects}
 use Rattle.laws_scenario_faults.proofs.Rules.{by_rules, ends, tested, seq, ask, choose, read}
-use Rattle.laws_scenario_faults.proofs.Fields.{or-read, known-read, text-read, flag-read, integer-read, needed-text-read, integers-read, ranged-read, ranged-or-read, words-read, path-read, path-if-read}
+use Rattle.laws_scenario_faults.proofs.Fields.{or-read, known-read, text-read, flag-read, integer-read, needed-text-read, integers-read, ranged-read}
+use Rattle.laws_scenario_faults.proofs.Fields.{ranged-or-read, words-read, path-read, path-if-read}
 use Rattle.laws_scenario_faults.proofs.Entries.{step, table-entry}
 
 module _ (ms : Members) where

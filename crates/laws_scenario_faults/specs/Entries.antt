@@ -1,5 +1,6 @@
 -- What the entries of programs, spaces, servers and jobs are asked, by rule and in order, and what they say.
-use Rattle.std.specs.Prelude.{ℕ, ℤ, pos, Bool, true, false, not, ◌&&◌, ◌||◌, nat_lt, List, [], ◌∷◌, ◌++◌, length, map, Option, Some, None, is_some, option_and_then, unwrap_or, codes, if◌then◌else◌}
+use Rattle.std.specs.Prelude.{ℕ, ℤ, pos, Bool, true, false, not, ◌&&◌, ◌||◌, nat_lt, List, [], ◌∷◌, ◌++◌, length, map, Option, Some, None, is_some}
+use Rattle.std.specs.Prelude.{option_and_then, unwrap_or, codes, if◌then◌else◌}
 use Rattle.std.specs.List.{list_all}
 use Rattle.std.specs.Str.{bytes_eq}
 use Rattle.std.specs.Result.{result_ok}
@@ -21,7 +22,8 @@ use Rattle.fk_scenario_entries.specs.Jobs.{is_restore, is_bound}
 use Rattle.fk_scenario_sections.specs.Programs.{position_of}
 use Rattle.fk_scenario_sections.specs.Spaces.{is_no_name, may_stand, has_room_for_space}
 use Rattle.laws_scenario_faults.specs.Asked.{Section}
-use Rattle.laws_scenario_faults.specs.Tables.{table_of, has_only, has, may_have, is_text, is_flag, is_integer, is_table, is_array, is_array_of, text, flag, integer, text_at, integers_at, is_in, is_in_if, number, number_or, is_path, path, entries, integers}
+use Rattle.laws_scenario_faults.specs.Tables.{table_of, has_only, has, may_have, is_text, is_flag, is_integer, is_table, is_array, is_array_of, text, flag}
+use Rattle.laws_scenario_faults.specs.Tables.{integer, text_at, integers_at, is_in, is_in_if, number, number_or, is_path, path, entries, integers}
 
 -- ---- the top keys
 

@@ -1,5 +1,6 @@
 -- What objects are asked, by rule and in order, and what they say: each kind has keys of its own.
-use Rattle.std.specs.Prelude.{ℕ, ◌+◌, Bool, true, false, not, ◌&&◌, nat_le, nat_lt, List, [], ◌∷◌, ◌++◌, length, map, option_map, unwrap_or, codes, if◌then◌else◌}
+use Rattle.std.specs.Prelude.{ℕ, ◌+◌, Bool, true, false, not, ◌&&◌, nat_le, nat_lt, List, [], ◌∷◌, ◌++◌, length, map, option_map, unwrap_or, codes}
+use Rattle.std.specs.Prelude.{if◌then◌else◌}
 use Rattle.std.specs.List.{list_all}
 use Rattle.std.specs.Str.{bytes_eq}
 use Rattle.toml.specs.Data.{Data, Members}
@@ -11,7 +12,8 @@ use Rattle.fk_scenario_entries.specs.declared.types.Spec.TheVariants.{Thread, Mu
 use Rattle.fk_scenario_sections.specs.Spaces.{has_space, has_space_or_root}
 use Rattle.fk_scenario_sections.specs.Objects.{has_object}
 use Rattle.laws_scenario_faults.specs.Asked.{Section}
-use Rattle.laws_scenario_faults.specs.Tables.{table_of, has_only, has, may_have, is_text, is_flag, is_integer, is_table, is_array_of, text, flag, integer, text_at, integers_at, is_in, is_in_if, number, number_or, is_path, path, is_path_if, path_if}
+use Rattle.laws_scenario_faults.specs.Tables.{table_of, has_only, has, may_have, is_text, is_flag, is_integer, is_table, is_array_of, text, flag, integer}
+use Rattle.laws_scenario_faults.specs.Tables.{text_at, integers_at, is_in, is_in_if, number, number_or, is_path, path, is_path_if, path_if}
 
 -- ---- threads
 
