@@ -13,8 +13,8 @@ use Rattle.fk_runs.proofs.Ended.{told-end, is-saved, is-made}
 use Rattle.fk_scenario.specs.declared.scenario.Scenario.{Scenario}
 use Rattle.laws_checkpoint.specs.Checkpoint as checkpoints
 use Rattle.laws_restore.specs.Restore as restores
-use Rattle.laws_first.proofs.Entries.{entries_are_saved, entries_are_made, entries_go_on}
-use Rattle.laws_first.proofs.Programs.{programs_have_the_headline}
+use Rattle.laws_first.proofs.Entries.{entries_are_saved, entries_are_plain, entries_are_made, entries_go_on}
+use Rattle.laws_first.proofs.Programs.{programs_are_grounded, programs_have_the_headline}
 use Rattle.laws_house.specs.Houses.End.{Checked, Restored}
 use Rattle.laws_runs.specs.Cores.JobEnd.{Worked}
 
@@ -35,10 +35,14 @@ pub reports_have_the_headline : ReportsHaveTheHeadline
 reports_have_the_headline s given first report text keeps is_first is =
     let run = programs_have_the_headline s given first is.last report.history is.run keeps is_first.world is_first.sound is_first.ends is_first.work is_first.events
     is.within in
+    let grounded = programs_are_grounded s given first report.history keeps is_first.world is_first.sound is_first.ends is_first.work is_first.events is.within in
     record {
       run = run;
       saved = λ index moment birth path slot name image hold release at told.
           entries_are_saved s.jobs given servers first is.last report.history is.run run index moment birth path slot name image hold release at
+          (saved s given first report text is index hold release image told);
+      plain = λ index moment birth path slot name image hold release at told.
+          entries_are_plain s.jobs given servers first is.last report.history is.run grounded index moment birth path slot name image hold release at
           (saved s given first report text is index hold release image told);
       made = λ index moment birth slot name bind make release at told.
           entries_are_made s.jobs given servers first is.last report.history is.run run index moment birth slot name bind make release at

@@ -8,6 +8,9 @@ use Rattle.fk_image.specs.declared.image.Image.{Image}
 use Rattle.fk_image.specs.Picture.{picture}
 use Rattle.fk_image.specs.Valid.{is_valid}
 use Rattle.fk_model.specs.declared.job.JobSpec.TheVariants.{Checkpoint, Restore}
+use Rattle.fk_model.specs.Cut.{IsPlain}
+use Rattle.fk_model.specs.Places.{Path}
+use Rattle.fk_model.specs.Valid.{birth_at}
 use Rattle.fk_report.specs.declared.job_end.JobEnd.TheVariants as told
 use Rattle.fk_runs.specs.Runs.{Images, IsReported}
 use Rattle.fk_scenario.specs.declared.scenario.Scenario.{Scenario}
@@ -28,6 +31,10 @@ pub record HasReportHeadline (s : Scenario) (given : Images) (first : RunCore) (
   pub saved : (index moment birth : ℕ) (path : List ℕ) (slot : ℕ) (name : List ℕ) (image : Image) (hold release : ℕ) →
       slice_get s.jobs index ≡ Some (Checkpoint moment birth path slot name) → slice_get report.jobs index ≡ Some (Some (told.Checkpointed hold release image)) →
       (is_valid image ≡ true) × Checkpointed is.run birth slot hold release (picture image)
+  -- and is plain at its hold: so from there on, and from its release on, the moves that it sees are a further run of it (`run.goes_on`)
+  pub plain : (index moment birth : ℕ) (path : List ℕ) (slot : ℕ) (name : List ℕ) (image : Image) (hold release : ℕ) →
+      slice_get s.jobs index ≡ Some (Checkpoint moment birth path slot name) → slice_get report.jobs index ≡ Some (Some (told.Checkpointed hold release image)) →
+      (nester : Path) → birth_at (world_at is.run hold) nester ≡ Some birth → IsPlain (world_at is.run hold) nester slot
   -- a restore that is told as done has made, at its release, what its image shows, with its ports bound; and whence it had the image
   pub made : (index moment birth slot : ℕ) (name : List ℕ) (bind : List (ℕ × ℕ)) (make release : ℕ) →
       slice_get s.jobs index ≡ Some (Restore moment birth slot name bind) → slice_get report.jobs index ≡ Some (Some (told.Restored make release)) →
