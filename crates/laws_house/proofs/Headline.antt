@@ -17,6 +17,7 @@ use Rattle.laws_house.proofs.House.{house_is_tidy, checkpoints_end_as_it_was, ch
 use Rattle.laws_house.proofs.Moving.{restores_leave_the_rest, jobs_are_ready, restores_end_so}
 use Rattle.laws_house.proofs.Places.{checkpoints_move_so, restores_move_so, restores_want_an_image, restores_want_their_maker, jobs_end_clean}
 use Rattle.laws_house.proofs.Places.{checkpoints_release}
+use Rattle.laws_house.proofs.Once.{gone_at_once}
 
 -- ---- a scenario's jobs
 
@@ -45,6 +46,7 @@ headline_holds jobs servers first c past run grounded = record {
   ended = ends_are_so (house jobs servers) first c past run grounded.start;
   checkpointed = record {
     moves = checkpoints_move_so jobs servers first c past run grounded.start;
+    at_once = gone_at_once jobs servers first c past run grounded;
     ends = checkpoints_end_as_it_was jobs servers first c past run grounded;
     releases = checkpoints_release jobs servers first c past run grounded;
     saves = checkpoints_save jobs servers first c past run grounded;

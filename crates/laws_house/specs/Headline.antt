@@ -57,6 +57,8 @@ pub record HasCheckpoints {V : Type 0} {jobs : List Job} {servers : Servers V} {
   -- how one ends, and by which moves
   pub moves : (index : ℕ) (j : Job) (slot begun last : ℕ) (end : checkpoints.End) → slice_get jobs index ≡ Some j → j.task ≡ Checkpoint slot →
       slice_get c.ends index ≡ Some (Worked (Checked end) begun last) → CheckpointMoves run slot begun last end
+  pub at_once : (index : ℕ) (j : Job) (slot begun last : ℕ) → slice_get jobs index ≡ Some j → j.task ≡ Checkpoint slot →
+      slice_get c.ends index ≡ Some (Worked (Checked checkpoints.Gone) begun last) → begun ≡ last
   pub ends : (index : ℕ) (j : Job) (slot begun last : ℕ) (end : checkpoints.End) → slice_get jobs index ≡ Some j → j.task ≡ Checkpoint slot →
       slice_get c.ends index ≡ Some (Worked (Checked end) begun last) → EndedAsItWas j.nester slot (world_at run begun) end
   pub releases : (index : ℕ) (j : Job) (slot begun last : ℕ) (end : checkpoints.End) → slice_get jobs index ≡ Some j → j.task ≡ Checkpoint slot →

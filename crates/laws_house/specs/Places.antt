@@ -48,6 +48,12 @@ CheckpointsMoveSo V = (jobs : List Job) (servers : Servers V) (first c : Core St
     IsStart first → (index : ℕ) (j : Job) (slot begun last : ℕ) (end : checkpoints.End) → slice_get jobs index ≡ Some j → j.task ≡ Checkpoint slot →
     slice_get c.ends index ≡ Some (Worked (Checked end) begun last) → CheckpointMoves run slot begun last end
 
+-- one that found none has made that hold alone
+abbrev pub GoneAtOnce : Type 0 → Type 0
+GoneAtOnce V = (jobs : List Job) (servers : Servers V) (first c : Core State End V) (past : List Move) (run : IsRun (house jobs servers) first past c) →
+    IsGrounded jobs servers first past → (index : ℕ) (j : Job) (slot begun last : ℕ) → slice_get jobs index ≡ Some j → j.task ≡ Checkpoint slot →
+    slice_get c.ends index ≡ Some (Worked (Checked checkpoints.Gone) begun last) → begun ≡ last
+
 -- a restore's first move makes its space, held; its last one is its release, a stage of destroying that space, or the first itself
 pub record RestoreMoves {V : Type 0} {jobs : List Job} {servers : Servers V} {first c : Core State End V} {past : List Move}
     (run : IsRun (house jobs servers) first past c) (slot : ℕ) (pairs : List (ℕ × ℕ)) (image : Image) (begun last : ℕ) (end : restores.End) : Type 0 where

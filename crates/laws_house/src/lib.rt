@@ -10,6 +10,7 @@ ghost use Rattle.laws_house.specs.Moves.{RestoresLeaveTheRest, JobsAreReady, Job
 ghost use Rattle.laws_house.specs.Parts.{PartsWork, PartsAreTidy};
 ghost use Rattle.laws_house.specs.Headline.{JobsNameUsersSlots, HeadlineHolds};
 ghost use Rattle.laws_house.specs.Places.{CheckpointsMoveSo, RestoresMoveSo, JobsEndClean, CheckpointsRelease, RestoresWantAnImage, RestoresWantTheirMaker};
+ghost use Rattle.laws_house.specs.Places.{GoneAtOnce};
 
 /// A machine that is a part of another one is at work where that one is in this part, with as many calls.
 pub fn a_part_works<S, A, T, B>()
@@ -105,6 +106,11 @@ pub fn a_checkpoint_without_a_space_leaves_all()
 /// The first move of a checkpoint that has ended is its hold, and its last one its release, but for one that found no space.
 pub fn checkpoints_move_so<V>()
     ensures { CheckpointsMoveSo V }
+{}
+
+/// One that found no space has made its hold alone.
+pub fn checkpoints_without_a_space_end_at_once<V>()
+    ensures { GoneAtOnce V }
 {}
 
 /// The first move of a restore that has ended makes its space, held, and its last one is its release, a stage of destroying that
