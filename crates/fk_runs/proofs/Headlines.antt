@@ -35,7 +35,8 @@ pub reports_have_the_headline : ReportsHaveTheHeadline
 reports_have_the_headline s given first report text keeps is_first is =
     let run = programs_have_the_headline s given first is.last report.history is.run keeps is_first.world is_first.sound is_first.ends is_first.work is_first.events
     is.within in
-    let grounded = programs_are_grounded s given first report.history keeps is_first.world is_first.sound is_first.ends is_first.work is_first.events is.within in
+    let grounded = programs_are_grounded s given first report.history keeps is_first.world is_first.sound is_first.ends is_first.work is_first.events
+    is.within in
     record {
       run = run;
       saved = λ index moment birth path slot name image hold release at told.

@@ -33,7 +33,8 @@ pub record HasReportHeadline (s : Scenario) (given : Images) (first : RunCore) (
       (is_valid image ≡ true) × Checkpointed is.run birth slot hold release (picture image)
   -- and is plain at its hold: so from there on, and from its release on, the moves that it sees are a further run of it (`run.goes_on`)
   pub plain : (index moment birth : ℕ) (path : List ℕ) (slot : ℕ) (name : List ℕ) (image : Image) (hold release : ℕ) →
-      slice_get s.jobs index ≡ Some (Checkpoint moment birth path slot name) → slice_get report.jobs index ≡ Some (Some (told.Checkpointed hold release image)) →
+      slice_get s.jobs index ≡ Some (Checkpoint moment birth path slot name) →
+      slice_get report.jobs index ≡ Some (Some (told.Checkpointed hold release image)) →
       (nester : Path) → birth_at (world_at is.run hold) nester ≡ Some birth → IsPlain (world_at is.run hold) nester slot
   -- a restore that is told as done has made, at its release, what its image shows, with its ports bound; and whence it had the image
   pub made : (index moment birth slot : ℕ) (name : List ℕ) (bind : List (ℕ × ℕ)) (make release : ℕ) →
