@@ -17,7 +17,7 @@ use Rattle.laws_house.proofs.House.{house_is_tidy, checkpoints_end_as_it_was, ch
 use Rattle.laws_house.proofs.Moving.{restores_leave_the_rest, jobs_are_ready, restores_end_so}
 use Rattle.laws_house.proofs.Places.{checkpoints_move_so, restores_move_so, restores_want_an_image, restores_want_their_maker, jobs_end_clean}
 use Rattle.laws_house.proofs.Places.{checkpoints_release}
-use Rattle.laws_house.proofs.Once.{gone_at_once}
+use Rattle.laws_house.proofs.Once.{gone_at_once, occupied_at_once}
 
 -- ---- a scenario's jobs
 
@@ -57,6 +57,7 @@ headline_holds jobs servers first c past run grounded = record {
     wants = restores_want_an_image jobs servers first c past run grounded.start;
     wants_maker = restores_want_their_maker jobs servers first c past run grounded;
     moves = restores_move_so jobs servers first c past run grounded.start;
+    at_once = occupied_at_once jobs servers first c past run grounded;
     ends = restores_end_so jobs servers first c past run grounded;
     makes = restores_make jobs servers first c past run grounded;
     leaves = restores_leave_the_rest jobs servers first c past run grounded;

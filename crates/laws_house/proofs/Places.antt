@@ -287,10 +287,10 @@ module _ {V : Type 0} (jobs : List Job) (servers : Servers V) (first c : Core St
             × (valid_one (sourced (take index c.ends) source) ≡ None → end ≡ Idle NoImage)
         by job task (Worked e begun last) so = ((λ same. cc), λ none. absurd (no_start job so.0 task so.1 none))
         by job task (Idle NoImage) so = (
-          (λ same. begins_none (valid_one (sourced (take index c.ends) source)) slot pairs (sym (begun job task) ∙ so)),
+          (λ same. begins_none (valid_one (sourced (take index c.ends) source)) slot pairs (sym (begun job task) ∙ so.1.so)),
           λ none. refl,
         )
-        by job task (Idle Dead) so = ((λ same. cc), λ none. absurd (no_start job so.0 task so.1 none))
+        by job task (Idle Dead) so = ((λ same. cc), λ none. absurd (no_start job so.1.so.0 task so.1.so.1 none))
 
   module _ (grounded : IsGrounded jobs servers first past) where
     maker_image : (from : ℕ) (i : Job) (saved : ℕ) → slice_get jobs from ≡ Some i → i.task ≡ Checkpoint saved → IsDone c from

@@ -92,6 +92,9 @@ pub record HasRestores {V : Type 0} {jobs : List Job} {servers : Servers V} {fir
   pub moves : (index : ℕ) (j : Job) (slot begun last : ℕ) (pairs : List (ℕ × ℕ)) (source : Source) (image : Image) (end : restores.End) →
       slice_get jobs index ≡ Some j → j.task ≡ Restore slot pairs source → valid_one (sourced (take index c.ends) source) ≡ Some image →
       slice_get c.ends index ≡ Some (Worked (Restored end) begun last) → RestoreMoves run slot pairs image begun last end
+  pub at_once : (index : ℕ) (j : Job) (slot begun last : ℕ) (pairs : List (ℕ × ℕ)) (source : Source) (image : Image) → slice_get jobs index ≡ Some j →
+      j.task ≡ Restore slot pairs source → valid_one (sourced (take index c.ends) source) ≡ Some image →
+      slice_get c.ends index ≡ Some (Worked (Restored restores.Occupied) begun last) → begun ≡ last
   pub ends : (index : ℕ) (j : Job) (slot begun last : ℕ) (pairs : List (ℕ × ℕ)) (source : Source) (image : Image) (end : restores.End) →
       slice_get jobs index ≡ Some j → j.task ≡ Restore slot pairs source → valid_one (sourced (take index c.ends) source) ≡ Some image →
       slice_get c.ends index ≡ Some (Worked (Restored end) begun last) →
@@ -119,7 +122,7 @@ pub record HasHeadline {V : Type 0} {jobs : List Job} {servers : Servers V} {fir
   pub events : IsItsEvents run
   -- in which each job worked by itself, from its first move on, ended or not
   pub composed : IsComposed run
-  -- and has ended by its own moves, or without one: for want of an image, or of its nester, which was gone in a world of the history
+  -- and has ended by its own moves, or without one: where it was due and had no image, or its nester was gone in that very world
   pub ended : (index : ℕ) (end : JobEnd End) → slice_get c.ends index ≡ Some end →
       (job : Job) × (slice_get jobs index ≡ Some job) × EndIs run (take index c.ends) job end
   pub checkpointed : HasCheckpoints run

@@ -71,6 +71,13 @@ RestoresMoveSo V = (jobs : List Job) (servers : Servers V) (first c : Core State
     slice_get jobs index ≡ Some j → j.task ≡ Restore slot pairs source → valid_one (sourced (take index c.ends) source) ≡ Some image →
     slice_get c.ends index ≡ Some (Worked (Restored end) begun last) → RestoreMoves run slot pairs image begun last end
 
+-- and one whose slot was taken has made that first move alone
+abbrev pub OccupiedAtOnce : Type 0 → Type 0
+OccupiedAtOnce V = (jobs : List Job) (servers : Servers V) (first c : Core State End V) (past : List Move) (run : IsRun (house jobs servers) first past c) →
+    IsGrounded jobs servers first past → (index : ℕ) (j : Job) (slot begun last : ℕ) (pairs : List (ℕ × ℕ)) (source : Source) (image : Image) →
+    slice_get jobs index ≡ Some j → j.task ≡ Restore slot pairs source → valid_one (sourced (take index c.ends) source) ≡ Some image →
+    slice_get c.ends index ≡ Some (Worked (Restored restores.Occupied) begun last) → begun ≡ last
+
 -- ---- what an end leaves
 
 -- behind a job's last move no scratch stands

@@ -10,7 +10,7 @@ ghost use Rattle.laws_house.specs.Moves.{RestoresLeaveTheRest, JobsAreReady, Job
 ghost use Rattle.laws_house.specs.Parts.{PartsWork, PartsAreTidy};
 ghost use Rattle.laws_house.specs.Headline.{JobsNameUsersSlots, HeadlineHolds};
 ghost use Rattle.laws_house.specs.Places.{CheckpointsMoveSo, RestoresMoveSo, JobsEndClean, CheckpointsRelease, RestoresWantAnImage, RestoresWantTheirMaker};
-ghost use Rattle.laws_house.specs.Places.{GoneAtOnce};
+ghost use Rattle.laws_house.specs.Places.{GoneAtOnce, OccupiedAtOnce};
 
 /// A machine that is a part of another one is at work where that one is in this part, with as many calls.
 pub fn a_part_works<S, A, T, B>()
@@ -117,6 +117,11 @@ pub fn checkpoints_without_a_space_end_at_once<V>()
 /// space, or the first move itself.
 pub fn restores_move_so<V>()
     ensures { RestoresMoveSo V }
+{}
+
+/// One whose slot was taken has made that first move alone.
+pub fn restores_of_a_taken_slot_end_at_once<V>()
+    ensures { OccupiedAtOnce V }
 {}
 
 /// Behind a job's last move no scratch stands.

@@ -1,7 +1,7 @@
 -- How each job of a run has ended: by induction over its moves.
 use Rattle.std.proofs.Common.{◌≡◌, ℕ, ◌+◌, ◌<◌, ◌≤◌, arith, List, [], ◌∷◌, ◌++◌, length, take, Option, Some, None, ◌⊎◌, inl, inr, refl, sym, ap, ◌∙◌, subst}
 use Rattle.std.proofs.Common.{length-append}
-use Rattle.std.proofs.lemmas.Bool.{le-leb, lt-leb, lt-ltb, le-ltb}
+use Rattle.std.proofs.lemmas.Bool.{le-leb, lt-ltb, le-ltb}
 use Rattle.std.proofs.lemmas.List.{take-append-le}
 use Rattle.std.specs.List.{slice_get}
 use Rattle.fk_model.specs.declared.moves.Ask.{Ask}
@@ -13,19 +13,18 @@ use Rattle.fk_model.specs.Runs.{Event}
 use Rattle.fk_model.specs.Who.{event_of}
 use Rattle.laws_jobs.specs.Machines.{Head, heard, said_of}
 use Rattle.laws_jobs.specs.Machines.Head.{Stops, Asks}
-use Rattle.laws_runs.specs.Cores.{Unmoved, JobEnd, House, Work, Core, current, Asker, asker, work_of, IsReadyBy, IsReadyIn, IsGone, others_moved, job_moved}
+use Rattle.laws_runs.specs.Cores.{JobEnd, House, Work, Core, current, Asker, asker, work_of, IsReadyBy, IsReadyIn, IsDueNow, others_moved, job_moved}
 use Rattle.laws_runs.specs.Cores.{job_hears, moved_by, moved, with_end, EndsFor, Settles, IsRun, world_at}
-use Rattle.laws_runs.specs.Cores.Unmoved.{NoImage, Dead}
 use Rattle.laws_runs.specs.Cores.JobEnd.{Worked, Idle}
 use Rattle.laws_runs.specs.Cores.Asker.{Nobody, Others, Job}
 use Rattle.laws_runs.specs.Cores.Settles.{Stays, Ends}
 use Rattle.laws_runs.specs.Cores.IsRun.{Begins, Goes}
 use Rattle.laws_runs.specs.Composed.{IsStart}
 use Rattle.laws_runs.specs.Turning.{asker_at}
-use Rattle.laws_runs.specs.Ended.{AsksAt, Comes, EndIs, EndsAreSo}
+use Rattle.laws_runs.specs.Ended.{AsksAt, Comes, with_ends, EndIs, EndsAreSo}
 use Rattle.laws_runs.specs.Ended.Comes.{Begins as At_first, Hears}
 use Rattle.laws_runs.proofs.Asking.{JobAsks, job_of, goes_on_work, begins_work}
-use Rattle.laws_runs.proofs.Composing.{got_or_last, got_within, take_all}
+use Rattle.laws_runs.proofs.Composing.{got_or_last, got_within, take_all, splits}
 use Rattle.laws_runs.specs.Events.{core_at}
 use Rattle.laws_runs.proofs.Events.{got_front, got_last, core_now, its_events}
 
@@ -37,6 +36,7 @@ module _ {J S A V : Type 0} (h : House J S A V) (first : Core S A V) where
 
   record Holds {c : Core S A V} {past : List Move} (run : IsRun h first past c) : Type 0 where
     events : c.events ≡ length past
+    shorter : (i : ℕ) → i ≤ length past → length (core_at run i).ends ≤ length c.ends
     working : (k : Work S) → c.work ≡ Some k → (job : J) × (current h c ≡ Some job) × (s : S) × (h.begins job c.ends ≡ Some s) × (k.begun < length past)
         × AsksAt run k.begun k.begun s × Comes h.machine s k.state
     ended : EndsSo run c.ends
@@ -62,24 +62,48 @@ module _ {J S A V : Type 0} (h : House J S A V) (first : Core S A V) where
             subst (λ (y : JobEnd A). EndIs run (take index (es ++ x ∷ [])) job y) last.1 (subst (λ (ends : List (JobEnd A)). EndIs run ends job x) same is),
           )
 
-  -- jobs that end without a move
-  unmoved : {c : Core S A V} {past : List Move} (run : IsRun h first past c) (v d : Core S A V) → Settles h v d → v.world ≡ world_at run (length past)
-      → EndsSo run v.ends → EndsSo run d.ends
-  unmoved run _ _ (Stays v none) here all = all
-  unmoved {past = past} run _ _ (Ends v d why now rest) here all = unmoved run (with_end v why) d rest here
-      (pushed run v.ends (Idle why) now.job all now.its (by why now.ends))
+  -- what settling keeps
+  settled_got : (v d : Core S A V) → Settles h v d → (i : ℕ) (x : JobEnd A) → slice_get v.ends i ≡ Some x → slice_get d.ends i ≡ Some x
+  settled_got _ _ (Stays v none) i x got = got
+  settled_got _ _ (Ends v d why now rest) i x got =
+      settled_got (with_end v why) d rest i x (got_front v.ends (Idle why ∷ []) i (got_within v.ends i x got) ∙ got)
+
+  settled_longer : (v d : Core S A V) → Settles h v d → length v.ends ≤ length d.ends
+  settled_longer _ _ (Stays v none) = let same : length v.ends ≤ length v.ends = omega arith in same
+  settled_longer _ _ (Ends v d why now rest) =
+      let more = settled_longer (with_end v why) d rest in
+      let longer = length-append v.ends (Idle why ∷ []) in
+      omega (arith, more, longer)
+
+  settled_same : (v d : Core S A V) → Settles h v d → with_ends d v.ends ≡ v
+  settled_same _ _ (Stays v none) = refl
+  settled_same _ _ (Ends v d why now rest) = ap (λ (x : Core S A V). with_ends x v.ends) (settled_same (with_end v why) d rest)
+
+  -- jobs that end without a move, behind all moves so far
+  unmoved : {c : Core S A V} {past : List Move} (run : IsRun h first past c) (v d : Core S A V) → Settles h v d → core_at run (length past) ≡ d
+      → ((i : ℕ) → i < length past → length (core_at run i).ends ≤ length v.ends) → EndsSo run v.ends → EndsSo run d.ends
+  unmoved run _ _ (Stays v none) here before all = all
+  unmoved {past = past} run _ _ (Ends v d why now rest) here before all = unmoved run (with_end v why) d rest here later
+      (pushed run v.ends (Idle why) now.job all now.its (
+        length past,
+        record {
+          within = (let same : length past ≤ length past = omega arith in same);
+          there = ap (λ (x : Core S A V). slice_get x.ends (length v.ends)) here
+              ∙ settled_got (with_end v why) d rest (length v.ends) (Idle why) (got_last v.ends (Idle why));
+          not_before = before;
+          due = subst (λ (x : Core S A V). IsDueNow h x now.job) (sym as_then) now.due;
+          so = subst (λ (x : Core S A V). EndsFor h x now.job why) (sym as_then) now.ends;
+        },
+      ))
     where
-      by : (why : Unmoved) → EndsFor h v now.job why → EndIs run v.ends now.job (Idle why)
-      by NoImage none = none
-      by Dead gone = (
-        gone.0,
-        gone.1,
-        (
-          length past,
-          (let same : length past ≤ length past = omega arith in same),
-          subst (λ (w : World). IsGone w (h.nester now.job)) here gone.2,
-        ),
-      )
+      as_then : with_ends (core_at run (length past)) v.ends ≡ v
+      as_then = ap (λ (x : Core S A V). with_ends x v.ends) here ∙ settled_same v d (Ends v d why now rest)
+
+      later : (i : ℕ) → i < length past → length (core_at run i).ends ≤ length (v.ends ++ Idle why ∷ [])
+      later i low =
+          let short = before i low in
+          let longer = length-append v.ends (Idle why ∷ []) in
+          omega (arith, short, longer)
 
   pub settled_work : (v d : Core S A V) → Settles h v d → (d.work ≡ v.work) × (d.events ≡ v.events)
   settled_work _ _ (Stays v none) = (refl, refl)
@@ -88,10 +112,6 @@ module _ {J S A V : Type 0} (h : House J S A V) (first : Core S A V) where
   pub settled_still : (v d : Core S A V) (k : Work S) → Settles h v d → v.work ≡ Some k → d.ends ≡ v.ends
   settled_still _ _ k (Stays v none) works = refl
   settled_still _ _ k (Ends v d why now rest) works = let none = now.unmoved in absurd (cc)
-
-  settled_here : (v d : Core S A V) → Settles h v d → v.world ≡ d.world
-  settled_here _ _ (Stays v none) = refl
-  settled_here _ _ (Ends v d why now rest) = settled_here (with_end v why) d rest
 
   module _ (past : List Move) (c : Core S A V) (m : Move) (d : Core S A V) (run : IsRun h first past c) (ready : IsReadyIn h c m)
       (settles : Settles h (moved h c m) d) (before : Holds run) where
@@ -113,8 +133,22 @@ module _ {J S A V : Type 0} (h : House J S A V) (first : Core S A V) where
     core_before : (k : ℕ) → k ≤ length past → core_at all k ≡ core_at run k
     core_before k low = rw (le-leb k (length past) low) refl
 
-    world_now : d.world ≡ world_at all (length (past ++ m ∷ []))
-    world_now = rw (lt-leb (length (past ++ m ∷ [])) (length past) (omega (arith, longer))) refl
+    -- none of the cores before has more ends than the one behind all moves so far
+    ends_before : (i : ℕ) → i ≤ length past → length (core_at all i).ends ≤ length c.ends
+    ends_before i low = subst (λ (x : Core S A V). length x.ends ≤ length c.ends) (sym (core_before i low)) (before.shorter i low)
+
+    longer_by : (v : Core S A V) → length c.ends ≤ length v.ends → (i : ℕ) → i < length (past ++ m ∷ []) → length (core_at all i).ends ≤ length v.ends
+    longer_by v more i low = let short = ends_before i (omega (arith, low, longer)) in omega (arith, short, more)
+
+    shorter_on : length c.ends ≤ length d.ends → (i : ℕ) → i ≤ length (past ++ m ∷ []) → length (core_at all i).ends ≤ length d.ends
+    shorter_on more i low = by (splits i (length past) (omega (arith, low, longer)))
+      where
+        by : (i ≤ length past) ⊎ (i ≡ length past + 1) → length (core_at all i).ends ≤ length d.ends
+        by (inl under) = let short = ends_before i under in omega (arith, short, more)
+        by (inr last) =
+            let at : core_at all i ≡ d = ap (λ (j : ℕ). core_at all j) (let same : i ≡ length (past ++ m ∷ []) = omega (arith, last, longer) in same)
+            ∙ core_now h first all in
+            subst (λ (x : Core S A V). length x.ends ≤ length d.ends) (sym at) (let same : length d.ends ≤ length d.ends = omega arith in same)
 
     asks_on : (k begun : ℕ) (s : S) → k < length past → AsksAt run k begun s → AsksAt all k begun s
     asks_on k begun s low its = record { stage = its.stage; words = its.words; asked = its.asked; asks = asker_before k low ∙ its.asks }
@@ -141,10 +175,20 @@ module _ {J S A V : Type 0} (h : House J S A V) (first : Core S A V) where
           },
           ap (λ (x : Core S A V). x.ends) (core_before last (omega (arith, low))) ∙ its.3,
         )
-    end_on ends job (Idle NoImage) its = its
-    end_on ends job (Idle Dead) its =
-        let low = its.2.1 in
-        (its.0, its.1, (its.2.0, omega (arith, low, longer), subst (λ (w : World). IsGone w (h.nester job)) (sym (world_before its.2.0 low)) its.2.2))
+    end_on ends job (Idle why) its =
+        let at = its.1 in
+        let low = at.within in
+        let same : core_at all its.0 ≡ core_at run its.0 = core_before its.0 low in (
+          its.0,
+          record {
+            within = omega (arith, low, longer);
+            there = ap (λ (x : Core S A V). slice_get x.ends (length ends)) same ∙ at.there;
+            not_before = λ i under. subst (λ (x : Core S A V). length x.ends ≤ length ends) (sym (core_before i (omega (arith, low, under))))
+                (at.not_before i under);
+            due = subst (λ (x : Core S A V). IsDueNow h (with_ends x ends) job) (sym same) at.due;
+            so = subst (λ (x : Core S A V). EndsFor h (with_ends x ends) job why) (sym same) at.so;
+          },
+        )
 
     ended_on : EndsSo all c.ends
     unfolding EndsSo
@@ -178,7 +222,8 @@ module _ {J S A V : Type 0} (h : House J S A V) (first : Core S A V) where
               let low = its.4 in
               still_working k its.2 its.0 its.1 its.3 (omega (arith, low)) (asks_on k.begun k.begun its.2 low its.5) its.6
               (settled_still v d k settling (sym same.0 ∙ works)));
-          ended = unmoved all v d settling (settled_here v d settling ∙ world_now) ended_on;
+          shorter = shorter_on (settled_longer v d settling);
+          ended = unmoved all v d settling (core_now h first all) (longer_by v (let same : length c.ends ≤ length v.ends = omega arith in same)) ended_on;
         }
 
     record Begun (begun : ℕ) (t : S) : Type 0 where
@@ -269,35 +314,44 @@ module _ {J S A V : Type 0} (h : House J S A V) (first : Core S A V) where
                   still_working k its.start its.job its.its its.starts (omega (arith, low, start)) (subst (λ (b : ℕ). AsksAt all b b its.start) start its.asks)
                   (subst (Comes h.machine its.start) (ap (λ (x : Work S). x.state) here) (Hears t (said_of c.world event) its.comes))
                   (settled_still v d work settling refl));
-              ended = unmoved all v d settling (settled_here v d settling ∙ world_now) ended_on;
+              shorter = shorter_on (settled_longer v d settling);
+              ended = unmoved all v d settling (core_now h first all) (longer_by v (let same : length c.ends ≤ length v.ends = omega arith in same)) ended_on;
             }
         by (Stops end) stops settling =
             let v : Core S A V = job_moved h c event begun later (Stops end) in
             let same = settled_work v d settling in
             let counted = before.events in
             let count = same.1 in
-            let low = its.low in
+            let more : length c.ends ≤ length v.ends = (let one = length-append c.ends (Worked end begun c.events ∷ []) in omega (arith, one)) in
+            let much = settled_longer v d settling in
             record {
               events = omega (arith, count, counted, longer);
+              shorter = shorter_on (omega (arith, more, much));
               working = λ k works. (let none = sym same.0 ∙ works in absurd (cc));
-              ended = unmoved all v d settling (settled_here v d settling ∙ world_now) (pushed all c.ends (Worked end begun c.events) its.job ended_on its.its (
-                its.start,
-                its.starts,
-                record {
-                  order = (omega (arith, low, counted), omega (arith, counted, longer));
-                  begins = its.asks;
-                  state = t;
-                  comes = its.comes;
-                  ends = record { stage = stage; words = words; asked = asks_it.asked; asks = asker_now c.events counted ∙ e };
-                  move = m;
-                  its = ap (slice_get (past ++ m ∷ [])) counted ∙ got_last past m;
-                  stops = subst (λ (w : World). h.machine.head (heard h.machine t (said_of w (event_of w (asks.Call stage words) m))) ≡ Stops end)
-                      (sym world_there) stops;
-                },
-                ap (λ (x : Core S A V). x.ends) (core_before c.events (omega (arith, counted))
-                    ∙ (ap (λ (i : ℕ). core_at run i) counted ∙ core_now h first run)),
-              ));
+              ended = unmoved all v d settling (core_now h first all) (longer_by v more)
+                  (pushed all c.ends (Worked end begun c.events) its.job ended_on its.its now);
             }
+          where
+            now : EndIs all c.ends its.job (Worked end begun c.events)
+            now =
+                let counted = before.events in
+                let low = its.low in (
+                  its.start,
+                  its.starts,
+                  record {
+                    order = (omega (arith, low, counted), omega (arith, counted, longer));
+                    begins = its.asks;
+                    state = t;
+                    comes = its.comes;
+                    ends = record { stage = stage; words = words; asked = asks_it.asked; asks = asker_now c.events counted ∙ e };
+                    move = m;
+                    its = ap (slice_get (past ++ m ∷ [])) counted ∙ got_last past m;
+                    stops = subst (λ (w : World). h.machine.head (heard h.machine t (said_of w (event_of w (asks.Call stage words) m))) ≡ Stops end)
+                        (sym world_there) stops;
+                  },
+                  ap (λ (x : Core S A V). x.ends) (core_before c.events (omega (arith, counted))
+                      ∙ (ap (λ (i : ℕ). core_at run i) counted ∙ core_now h first run)),
+                )
 
     on : Holds all
     on = by (asker h c m.who) refl ready settles
@@ -315,6 +369,7 @@ module _ {J S A V : Type 0} (h : House J S A V) (first : Core S A V) where
   holds : IsStart first → {c : Core S A V} {past : List Move} (run : IsRun h first past c) → Holds run
   holds start Begins = record {
     events = start.events;
+    shorter = λ i low. (let same : length first.ends ≤ length first.ends = omega arith in same);
     working = λ k works. (let idle = start.work in absurd (cc));
     ended = ends_none first.ends start.ends;
   }
