@@ -8,12 +8,12 @@ use Rattle.fk_image_format.specs.declared.stop.Stop.{Stop}
 use Rattle.fk_image_format.specs.Fields.{◌>>=◌}
 use Rattle.fk_image_format.specs.Offsets.{wrong_link}
 use Rattle.fk_image_format.specs.Reading.{linked, finished, image_reading}
-use Rattle.laws_image_faults.specs.Forms.{Holds}
+use Rattle.laws_image_faults.specs.Forms.{Holds, Breaks}
 use Rattle.laws_image_faults.specs.Forms.Form.{Whole}
 use Rattle.laws_image_faults.specs.Images.{image}
 use Rattle.laws_image_faults.specs.Faults.{Says, FaultsAreFirst, BreaksAreTold}
 use Rattle.laws_image_faults.specs.Faults.Says.{OfField, OfPointer, OfRest}
-use Rattle.laws_image_faults.proofs.Runs.{run, left_of}
+use Rattle.laws_image_faults.proofs.Runs.{run}
 use Rattle.laws_image_faults.proofs.Breaks.{run-broken, run-held, broken-run}
 use Rattle.laws_image_faults.proofs.Wholes.{spaces_read, ended, image_is, same-image}
 
@@ -40,10 +40,10 @@ offset_is : (bytes before after : List ℕ) (left : ℕ) → bytes ≡ before ++
 offset_is bytes before after left spelled many = let all = ap length spelled ∙ length-append before after in omega (arith, all, many)
 
 module _ (bytes : List ℕ) where
-  of_field : (stop : Stop) (offset reason : ℕ) → run image bytes ≡ Err stop.left →
+  of_field : (stop : Stop) (offset reason : ℕ) → run image bytes ≡ Err stop →
       ◌≡◌ {A = Result Image (ℕ × ℕ)} (Err (length bytes - stop.left, stop.reason)) (Err (offset, reason)) → Says bytes offset reason
   of_field stop offset reason breaks is =
-      let broken = run-broken image bytes stop.left breaks in
+      let broken = run-broken image bytes stop breaks in
       OfField offset reason (record {
         before = broken.before;
         after = broken.after;
@@ -51,7 +51,7 @@ module _ (bytes : List ℕ) where
         spelled = broken.spelled;
         at = offset_is bytes broken.before broken.after stop.left broken.spelled broken.many ∙ same_offset _ _ _ _ is;
         held = broken.held;
-        broken = broken.broken;
+        broken = subst (Breaks broken.next broken.after) (same_reason _ _ _ _ is) broken.broken;
       })
 
   of_pointer : (i : Image) (o : Option ℕ) (offset reason : ℕ) → run image bytes ≡ Ok (i, []) → wrong_link i ≡ o → linked i o ≡ Err (offset, reason) →
@@ -80,7 +80,7 @@ module _ (bytes : List ℕ) where
   left_over : (i : Image) (b : ℕ) (more : List ℕ) → finished bytes (ended (i, b ∷ more)) ≡ Err (length bytes - length (b ∷ more), reasons.LEFT_OVER)
   left_over i b more = let some : (length (b ∷ more) == 0) ≡ false = ne_eqb (length (b ∷ more)) 0 (λ none. absurd (omega (arith, none))) in rw some refl
 
-  first_by : (r : Result (Image × List ℕ) Stop) (offset reason : ℕ) → left_of r ≡ run image bytes → finished bytes (r >>= ended) ≡ Err (offset, reason) →
+  first_by : (r : Result (Image × List ℕ) Stop) (offset reason : ℕ) → r ≡ run image bytes → finished bytes (r >>= ended) ≡ Err (offset, reason) →
       Says bytes offset reason
   first_by (Err stop) offset reason same told = of_field stop offset reason (sym same) told
   first_by (Ok x) offset reason same told = by x.1 refl told
@@ -94,15 +94,10 @@ pub faults_first : FaultsAreFirst
 unfolding image_reading
 faults_first bytes offset reason told = first_by bytes (spaces_read bytes) offset reason (same-image bytes) (ap (finished bytes) (sym (image_is bytes)) ∙ told)
 
-told_by : (bytes : List ℕ) (left : ℕ) (r : Result (Image × List ℕ) Stop) → left_of r ≡ Err left →
-    (reason : ℕ) × (finished bytes (r >>= ended) ≡ Err (length bytes - left, reason))
-told_by bytes left (Ok x) is = absurd (cc)
-told_by bytes left (Err stop) is = let same : stop.left ≡ left = cc in (stop.reason, ap (λ left. Err (length bytes - left, stop.reason)) same)
-
 pub breaks_told : BreaksAreTold
 unfolding image_reading
-breaks_told bytes offset breaks =
-    let here = ap (run image) breaks.spelled ∙ broken-run image breaks.before breaks.after breaks.next breaks.held breaks.broken in
-    let told = told_by bytes (length breaks.after) (spaces_read bytes) (same-image bytes ∙ here) in
+breaks_told bytes offset reason breaks =
+    let here = ap (run image) breaks.spelled ∙ broken-run image breaks.before breaks.after breaks.next reason breaks.held breaks.broken in
+    let told = ap (λ (r : Result (Image × List ℕ) Stop). finished bytes (r >>= ended)) (same-image bytes ∙ here) in
     let at = sym (offset_is bytes breaks.before breaks.after (length breaks.after) breaks.spelled refl) ∙ breaks.at in
-    (told.0, ap (finished bytes) (image_is bytes) ∙ told.1 ∙ ap (λ o. Err (o, told.0)) at)
+    ap (finished bytes) (image_is bytes) ∙ told ∙ ap (λ o. Err (o, reason)) at

@@ -1,6 +1,6 @@
 -- Parts: what is read of pointers, threads, objects and pages is what their forms say, and it stops where they break.
-use Rattle.std.proofs.Common.{◌≡◌, ℕ, Bool, true, false, not, ◌&&◌, ◌||◌, ◌==◌, nat_lt, List, [], ◌∷◌, length, Some, None, Result, Ok, Err, if◌then◌else◌, refl}
-use Rattle.std.proofs.Common.{ap, ◌∙◌}
+use Rattle.std.proofs.Common.{◌≡◌, ℕ, Bool, true, false, not, ◌&&◌, ◌||◌, ◌==◌, nat_lt, List, [], ◌∷◌, Some, None, Result, Ok, if◌then◌else◌, refl}
+use Rattle.std.proofs.Common.{◌∙◌}
 use Rattle.std.specs.Int.{w16, w32, w64}
 use Rattle.fk_image.specs.declared.image.Link.{Link}
 use Rattle.fk_image.specs.declared.image.Link.TheVariants.{Null, Dead, In, Out, Root, Outside}
@@ -19,22 +19,22 @@ use Rattle.fk_image_format.specs.Reading.{read_reference, read_body, read_object
 use Rattle.laws_image_faults.specs.Forms.{Form}
 use Rattle.laws_image_faults.specs.Forms.Form.{Whole}
 use Rattle.laws_image_faults.specs.Images as forms
-use Rattle.laws_image_faults.specs.Images.{◌>>=◌ as ◌>>>◌, byte, number, any, below}
-use Rattle.laws_image_faults.proofs.Runs.{run, left_of, go, go-byte, go-number, tested-byte, any-byte, any-number, same-many}
+use Rattle.laws_image_faults.specs.Images.{◌>>=◌ as ◌>>>◌, byte, number, any, below, slot_reason}
+use Rattle.laws_image_faults.proofs.Runs.{run, go, go-byte, go-number, tested-byte, any-byte, any-number, same-many}
 
-same-below : (limit : ℕ) (bytes : List ℕ) → left_of (read_below limit bytes) ≡ run (byte (below limit)) bytes
+same-below : (limit : ℕ) (bytes : List ℕ) → read_below limit bytes ≡ run (byte (below limit)) bytes
 unfolding read_below
 same-below limit bytes = tested-byte (below limit) reasons.RANGE bytes
 
 -- ---- pointers
 
 same-link_in : (bytes : List ℕ) →
-    left_of (read_number w32 bytes >>= λ space. read_below 240 space.1 >>= λ slot. Ok (In slot.0 space.0, slot.1)) ≡ run forms.link_in bytes
+    (read_number w32 bytes >>= λ space. read_below 240 space.1 >>= λ slot. Ok (In slot.0 space.0, slot.1)) ≡ run forms.link_in bytes
 unfolding run
 same-link_in bytes = go (read_number w32 bytes) _ (number w32 any) _ bytes (any-number w32 bytes)
     (λ space. go (read_below 240 space.1) _ (byte (below 240)) _ space.1 (same-below 240 space.1) (λ slot. refl))
 
-same-link_out : (bytes : List ℕ) → left_of (read_below 240 bytes >>= λ slot. Ok (Out slot.0, slot.1)) ≡ run forms.link_out bytes
+same-link_out : (bytes : List ℕ) → (read_below 240 bytes >>= λ slot. Ok (Out slot.0, slot.1)) ≡ run forms.link_out bytes
 unfolding run
 same-link_out bytes = go (read_below 240 bytes) _ (byte (below 240)) _ bytes (same-below 240 bytes) (λ slot. refl)
 
@@ -53,7 +53,7 @@ link_form a b c d e = if a then Whole Null else if b then Whole Dead else if c t
     else Whole Outside
 
 link_fits : (a b c d e f : Bool) (bytes rest : List ℕ) → (a || (b || (c || (d || (e || f))))) ≡ true →
-    left_of (link_read a b c d e f bytes rest) ≡ run (link_form a b c d e) rest
+    link_read a b c d e f bytes rest ≡ run (link_form a b c d e) rest
 unfolding run
 link_fits true b c d e f bytes rest is = refl
 link_fits false true c d e f bytes rest is = refl
@@ -64,7 +64,7 @@ link_fits false false false false false true bytes rest is = refl
 link_fits false false false false false false bytes rest is = absurd (cc)
 
 link_off : (a b c d e f : Bool) (bytes rest : List ℕ) → (a || (b || (c || (d || (e || f))))) ≡ false →
-    left_of (link_read a b c d e f bytes rest) ≡ Err (length bytes)
+    link_read a b c d e f bytes rest ≡ refuse_field bytes reasons.RANGE
 link_off true b c d e f bytes rest is = absurd (cc)
 link_off false true c d e f bytes rest is = absurd (cc)
 link_off false false true d e f bytes rest is = absurd (cc)
@@ -73,77 +73,77 @@ link_off false false false false true f bytes rest is = absurd (cc)
 link_off false false false false false true bytes rest is = absurd (cc)
 link_off false false false false false false bytes rest is = refl
 
-pub same-link : (bytes : List ℕ) → left_of (read_link bytes) ≡ run forms.link bytes
+pub same-link : (bytes : List ℕ) → read_link bytes ≡ run forms.link bytes
 unfolding read_link forms.link
 same-link bytes = go-byte forms.is_tag (λ tag. link_read (tag.0 == 0) (tag.0 == 1) (tag.0 == 2) (tag.0 == 3) (tag.0 == 4) (tag.0 == 5) bytes tag.1)
-    forms.link_of bytes
+    forms.link_of (λ b. reasons.RANGE) bytes
     (λ tag rest is. link_fits (tag == 0) (tag == 1) (tag == 2) (tag == 3) (tag == 4) (tag == 5) bytes rest is)
     (λ tag rest is. link_off (tag == 0) (tag == 1) (tag == 2) (tag == 3) (tag == 4) (tag == 5) bytes rest is)
 
 -- ---- threads
 
-same-words : (count : ℕ) (bytes : List ℕ) → left_of (read_words count bytes) ≡ run (forms.words count) bytes
+same-words : (count : ℕ) (bytes : List ℕ) → read_words count bytes ≡ run (forms.words count) bytes
 same-words count bytes = same-many read_word (λ s. number w64 any) same_state (λ s bytes. any-number w64 bytes) count 0 [] bytes
 
-same-open_talk : (turn : ℕ) (bytes : List ℕ) → left_of (if turn == 0 then Ok (None, bytes) else read_open_talk turn bytes) ≡ run (forms.talk_of turn) bytes
+same-open_talk : (turn : ℕ) (bytes : List ℕ) → (if turn == 0 then Ok (None, bytes) else read_open_talk turn bytes) ≡ run (forms.talk_of turn) bytes
 unfolding read_open_talk run
 same-open_talk turn bytes = by (turn == 0)
   where
-    begun : left_of (read_open_talk turn bytes) ≡ run (number w16 any >>> λ moved. forms.link >>> λ port. forms.link >>> λ server.
+    begun : read_open_talk turn bytes ≡ run (number w16 any >>> λ moved. forms.link >>> λ port. forms.link >>> λ server.
         Whole (Some (record { turn = turn; moved = moved; port = port; server = server }))) bytes
     begun = go (read_number w16 bytes) _ (number w16 any) _ bytes (any-number w16 bytes)
         (λ moved. go (read_link moved.1) _ forms.link _ moved.1 (same-link moved.1)
         (λ port. go (read_link port.1) _ forms.link _ port.1 (same-link port.1) (λ server. refl)))
 
-    by : (t : Bool) → left_of (if t then Ok (None, bytes) else read_open_talk turn bytes)
+    by : (t : Bool) → (if t then Ok (None, bytes) else read_open_talk turn bytes)
         ≡ run (if t then Whole None else (number w16 any >>> λ moved. forms.link >>> λ port. forms.link >>> λ server.
         Whole (Some (record { turn = turn; moved = moved; port = port; server = server })))) bytes
     by true = refl
     by false = begun
 
-same-talk : (bytes : List ℕ) → left_of (read_talk bytes) ≡ run forms.talk bytes
+same-talk : (bytes : List ℕ) → read_talk bytes ≡ run forms.talk bytes
 unfolding read_talk forms.talk
 same-talk bytes = go (read_below 3 bytes) _ (byte (below 3)) forms.talk_of bytes (same-below 3 bytes) (λ turn. same-open_talk turn.0 turn.1)
 
-same-taker : (state : ℕ) (bytes : List ℕ) → left_of (read_taker state bytes) ≡ run (forms.taker_of state) bytes
+same-taker : (state : ℕ) (bytes : List ℕ) → read_taker state bytes ≡ run (forms.taker_of state) bytes
 unfolding read_taker run
 same-taker state bytes = by (state == 1)
   where
-    by : (t : Bool) → left_of (if t then Ok (None, bytes) else (read_link bytes >>= λ taker. Ok (Some taker.0, taker.1)))
+    by : (t : Bool) → (if t then Ok (None, bytes) else (read_link bytes >>= λ taker. Ok (Some taker.0, taker.1)))
         ≡ run (if t then Whole None else (forms.link >>> λ taker. Whole (Some taker))) bytes
     by true = refl
     by false = go (read_link bytes) _ forms.link _ bytes (same-link bytes) (λ taker. refl)
 
-same-met_fault : (state : ℕ) (bytes : List ℕ) → left_of (if state == 0 then Ok (None, bytes) else read_met_fault state bytes) ≡ run (forms.fault_of state) bytes
+same-met_fault : (state : ℕ) (bytes : List ℕ) → (if state == 0 then Ok (None, bytes) else read_met_fault state bytes) ≡ run (forms.fault_of state) bytes
 unfolding read_met_fault run
 same-met_fault state bytes = by (state == 0)
   where
-    met : left_of (read_met_fault state bytes) ≡ run (byte any >>> λ page. byte (below 2) >>> λ write. forms.link >>> λ port. forms.taker_of state >>> λ taker.
+    met : read_met_fault state bytes ≡ run (byte any >>> λ page. byte (below 2) >>> λ write. forms.link >>> λ port. forms.taker_of state >>> λ taker.
         Whole (Some (record { page = page; write = write; port = port; taker = taker }))) bytes
     met = go (read_byte bytes) _ (byte any) _ bytes (any-byte bytes)
         (λ page. go (read_below 2 page.1) _ (byte (below 2)) _ page.1 (same-below 2 page.1)
         (λ write. go (read_link write.1) _ forms.link _ write.1 (same-link write.1)
         (λ port. go (read_taker state port.1) _ (forms.taker_of state) _ port.1 (same-taker state port.1) (λ taker. refl))))
 
-    by : (t : Bool) → left_of (if t then Ok (None, bytes) else read_met_fault state bytes)
+    by : (t : Bool) → (if t then Ok (None, bytes) else read_met_fault state bytes)
         ≡ run (if t then Whole None else (byte any >>> λ page. byte (below 2) >>> λ write. forms.link >>> λ port. forms.taker_of state >>> λ taker.
         Whole (Some (record { page = page; write = write; port = port; taker = taker })))) bytes
     by true = refl
     by false = met
 
-same-fault : (bytes : List ℕ) → left_of (read_fault bytes) ≡ run forms.fault bytes
+same-fault : (bytes : List ℕ) → read_fault bytes ≡ run forms.fault bytes
 unfolding read_fault forms.fault
 same-fault bytes = go (read_below 3 bytes) _ (byte (below 3)) forms.fault_of bytes (same-below 3 bytes) (λ state. same-met_fault state.0 state.1)
 
-same-mode : (regs bytes : List ℕ) → left_of (read_mode regs bytes) ≡ run (byte (is_mode_byte regs)) bytes
+same-mode : (regs bytes : List ℕ) → read_mode regs bytes ≡ run (byte (is_mode_byte regs)) bytes
 unfolding read_mode
 same-mode regs bytes = tested-byte (is_mode_byte regs) reasons.RANGE bytes
 
-same-code : (mode : ℕ) (bytes : List ℕ) → left_of (read_code mode bytes) ≡ run (byte (is_code mode)) bytes
+same-code : (mode : ℕ) (bytes : List ℕ) → read_code mode bytes ≡ run (byte (is_code mode)) bytes
 unfolding read_code
 same-code mode bytes = tested-byte (is_code mode) reasons.RANGE bytes
 
-same-thread : (bytes : List ℕ) → left_of (read_thread bytes) ≡ run forms.thread bytes
+same-thread : (bytes : List ℕ) → read_thread bytes ≡ run forms.thread bytes
 unfolding read_thread forms.thread run
 same-thread bytes = go (read_words 16 bytes) _ (forms.words 16) _ bytes (same-words 16 bytes)
     (λ regs. go (read_number w64 regs.1) _ (number w64 any) _ regs.1 (any-number w64 regs.1)
@@ -155,36 +155,36 @@ same-thread bytes = go (read_words 16 bytes) _ (forms.words 16) _ bytes (same-wo
 
 -- ---- objects and pages
 
-same-extent : (bytes : List ℕ) → left_of (read_extent bytes) ≡ run forms.extent bytes
+same-extent : (bytes : List ℕ) → read_extent bytes ≡ run forms.extent bytes
 unfolding read_extent forms.extent run
 same-extent bytes = go (read_byte bytes) _ (byte any) _ bytes (any-byte bytes)
     (λ first. go-number (is_extent first.0)
     (λ count. if is_extent first.0 count.0 then Ok ((first.0, count.0), count.1) else refuse_field first.1 reasons.RANGE)
-    (λ count. Whole (first.0, count)) w16 first.1 (λ count rest is. rw is refl) (λ count rest is. rw is refl))
+    (λ count. Whole (first.0, count)) reasons.RANGE w16 first.1 (λ count rest is. rw is refl) (λ count rest is. rw is refl))
 
-same-mapping : (bytes : List ℕ) → left_of (read_mapping bytes) ≡ run forms.mapping bytes
+same-mapping : (bytes : List ℕ) → read_mapping bytes ≡ run forms.mapping bytes
 unfolding read_mapping forms.mapping run
 same-mapping bytes = go (read_extent bytes) _ forms.extent _ bytes (same-extent bytes)
     (λ pages. go (read_byte pages.1) _ (byte any) _ pages.1 (any-byte pages.1)
     (λ offset. go (read_below 2 offset.1) _ (byte (below 2)) _ offset.1 (same-below 2 offset.1)
     (λ write. go (read_link write.1) _ forms.link _ write.1 (same-link write.1) (λ region. refl))))
 
-same-region : (bytes : List ℕ) → left_of (read_region bytes) ≡ run forms.region bytes
+same-region : (bytes : List ℕ) → read_region bytes ≡ run forms.region bytes
 unfolding read_region forms.region run
 same-region bytes = go (read_extent bytes) _ forms.extent _ bytes (same-extent bytes)
     (λ pages. go (read_below 2 pages.1) _ (byte (below 2)) _ pages.1 (same-below 2 pages.1)
     (λ write. go (read_link write.1) _ forms.link _ write.1 (same-link write.1) (λ keeper. refl)))
 
-same-port : (bytes : List ℕ) → left_of (read_port bytes) ≡ run (number w16 is_set_word >>> λ set. Whole (Port set)) bytes
+same-port : (bytes : List ℕ) → read_port bytes ≡ run (number w16 is_set_word >>> λ set. Whole (Port set)) bytes
 unfolding read_port run
 same-port bytes = go-number is_set_word (λ set. if is_set_word set.0 then Ok (Port set.0, set.1) else refuse_field bytes reasons.RANGE)
-    (λ set. Whole (Port set)) w16 bytes (λ set rest is. rw is refl) (λ set rest is. rw is refl)
+    (λ set. Whole (Port set)) reasons.RANGE w16 bytes (λ set rest is. rw is refl) (λ set rest is. rw is refl)
 
-same-mutex : (bytes : List ℕ) → left_of (read_mutex bytes) ≡ run (byte (below 2) >>> λ locked. Whole (Mutex locked)) bytes
+same-mutex : (bytes : List ℕ) → read_mutex bytes ≡ run (byte (below 2) >>> λ locked. Whole (Mutex locked)) bytes
 unfolding read_mutex run
 same-mutex bytes = go (read_below 2 bytes) _ (byte (below 2)) _ bytes (same-below 2 bytes) (λ locked. refl)
 
-same-reference : (bytes : List ℕ) → left_of (read_reference bytes) ≡ run (forms.link >>> λ to. Whole (Reference to)) bytes
+same-reference : (bytes : List ℕ) → read_reference bytes ≡ run (forms.link >>> λ to. Whole (Reference to)) bytes
 unfolding read_reference run
 same-reference bytes = go (read_link bytes) _ forms.link _ bytes (same-link bytes) (λ to. refl)
 
@@ -212,7 +212,7 @@ body_form a b c d e f g =
     else (forms.link >>> λ to. Whole (Reference to))
 
 body_fits : (a b c d e f g h : Bool) (bytes rest : List ℕ) → (a || (b || (c || (d || (e || (f || (g || h))))))) ≡ true →
-    left_of (body_read a b c d e f g h bytes rest) ≡ run (body_form a b c d e f g) rest
+    body_read a b c d e f g h bytes rest ≡ run (body_form a b c d e f g) rest
 unfolding run
 body_fits true b c d e f g h bytes rest is = same-mutex rest
 body_fits false true c d e f g h bytes rest is = refl
@@ -225,7 +225,7 @@ body_fits false false false false false false false true bytes rest is = same-re
 body_fits false false false false false false false false bytes rest is = absurd (cc)
 
 body_off : (a b c d e f g h : Bool) (bytes rest : List ℕ) → (a || (b || (c || (d || (e || (f || (g || h))))))) ≡ false →
-    left_of (body_read a b c d e f g h bytes rest) ≡ Err (length bytes)
+    body_read a b c d e f g h bytes rest ≡ refuse_field bytes reasons.RANGE
 body_off true b c d e f g h bytes rest is = absurd (cc)
 body_off false true c d e f g h bytes rest is = absurd (cc)
 body_off false false true d e f g h bytes rest is = absurd (cc)
@@ -236,11 +236,11 @@ body_off false false false false false false true h bytes rest is = absurd (cc)
 body_off false false false false false false false true bytes rest is = absurd (cc)
 body_off false false false false false false false false bytes rest is = refl
 
-same-body : (bytes : List ℕ) → left_of (read_body bytes) ≡ run forms.body bytes
+same-body : (bytes : List ℕ) → read_body bytes ≡ run forms.body bytes
 unfolding read_body forms.body
 same-body bytes = go-byte forms.is_kind
     (λ kind. body_read (kind.0 == 1) (kind.0 == 2) (kind.0 == 3) (kind.0 == 4) (kind.0 == 5) (kind.0 == 6) (kind.0 == 8) (kind.0 == 9) bytes kind.1)
-    forms.body_of bytes
+    forms.body_of (λ b. reasons.RANGE) bytes
     (λ kind rest is. body_fits (kind == 1) (kind == 2) (kind == 3) (kind == 4) (kind == 5) (kind == 6) (kind == 8) (kind == 9) bytes rest is)
     (λ kind rest is. body_off (kind == 1) (kind == 2) (kind == 3) (kind == 4) (kind == 5) (kind == 6) (kind == 8) (kind == 9) bytes rest is)
 
@@ -265,29 +265,30 @@ abbrev object_behind : Bool → List ℕ → ℕ × List ℕ → Result (ObjectR
 object_behind u bytes slot =
     expect (not u) bytes reasons.ORDER >>= λ _. read_body slot.1 >>= λ body. Ok (record { slot = slot.0; body = body.0 }, body.1)
 
-behind_fits : (u : Bool) (slot : ℕ) (bytes rest : List ℕ) → not u ≡ true → left_of (object_behind u bytes (slot, rest)) ≡ run (object_of slot) rest
+behind_fits : (u : Bool) (slot : ℕ) (bytes rest : List ℕ) → not u ≡ true → object_behind u bytes (slot, rest) ≡ run (object_of slot) rest
 unfolding run
 behind_fits false slot bytes rest is = go (read_body rest) _ forms.body _ rest (same-body rest) (λ body. refl)
 behind_fits true slot bytes rest is = absurd (cc)
 
-behind_off : (u : Bool) (slot : ℕ) (bytes rest : List ℕ) → not u ≡ false → left_of (object_behind u bytes (slot, rest)) ≡ Err (length bytes)
+behind_off : (u : Bool) (slot : ℕ) (bytes rest : List ℕ) → not u ≡ false → object_behind u bytes (slot, rest) ≡ refuse_field bytes reasons.ORDER
 behind_off false slot bytes rest is = absurd (cc)
 behind_off true slot bytes rest is = refl
 
 object_fits : (t : Bool) (floor slot : ℕ) (bytes rest : List ℕ) → (t && not (nat_lt slot floor)) ≡ true →
-    left_of (slot_tested t slot bytes rest >>= object_rest floor bytes) ≡ run (object_of slot) rest
+    (slot_tested t slot bytes rest >>= object_rest floor bytes) ≡ run (object_of slot) rest
 object_fits true floor slot bytes rest is = behind_fits (nat_lt slot floor) slot bytes rest is
 object_fits false floor slot bytes rest is = absurd (cc)
 
 object_off : (t : Bool) (floor slot : ℕ) (bytes rest : List ℕ) → (t && not (nat_lt slot floor)) ≡ false →
-    left_of (slot_tested t slot bytes rest >>= object_rest floor bytes) ≡ Err (length bytes)
+    (slot_tested t slot bytes rest >>= object_rest floor bytes) ≡ refuse_field bytes (if t then reasons.ORDER else reasons.RANGE)
 object_off true floor slot bytes rest is = behind_off (nat_lt slot floor) slot bytes rest is
 object_off false floor slot bytes rest is = refl
 
-same-object : (floor : ℕ) (bytes : List ℕ) → left_of (read_object floor bytes) ≡ run (forms.object floor) bytes
+same-object : (floor : ℕ) (bytes : List ℕ) → read_object floor bytes ≡ run (forms.object floor) bytes
 unfolding read_object forms.object
-same-object floor bytes = ap left_of (below_then 240 bytes (object_rest floor bytes))
-    ∙ go-byte (forms.is_slot_from floor) (λ b. (if nat_lt b.0 240 then Ok b else refuse_field bytes reasons.RANGE) >>= object_rest floor bytes) object_of bytes
+same-object floor bytes = below_then 240 bytes (object_rest floor bytes)
+    ∙ go-byte (forms.is_slot_from floor) (λ b. (if nat_lt b.0 240 then Ok b else refuse_field bytes reasons.RANGE) >>= object_rest floor bytes) object_of
+    slot_reason bytes
     (λ slot rest is. object_fits (nat_lt slot 240) floor slot bytes rest is)
     (λ slot rest is. object_off (nat_lt slot 240) floor slot bytes rest is)
 
@@ -298,26 +299,26 @@ page_tested u page bytes rest =
 abbrev page_of : ℕ → Form PageRec
 page_of page = forms.words 64 >>> λ words. Whole (record { page = page; words = words })
 
-page_fits : (u : Bool) (page : ℕ) (bytes rest : List ℕ) → not u ≡ true → left_of (page_tested u page bytes rest) ≡ run (page_of page) rest
+page_fits : (u : Bool) (page : ℕ) (bytes rest : List ℕ) → not u ≡ true → page_tested u page bytes rest ≡ run (page_of page) rest
 unfolding run
 page_fits false page bytes rest is = go (read_words 64 rest) _ (forms.words 64) _ rest (same-words 64 rest) (λ words. refl)
 page_fits true page bytes rest is = absurd (cc)
 
-page_off : (u : Bool) (page : ℕ) (bytes rest : List ℕ) → not u ≡ false → left_of (page_tested u page bytes rest) ≡ Err (length bytes)
+page_off : (u : Bool) (page : ℕ) (bytes rest : List ℕ) → not u ≡ false → page_tested u page bytes rest ≡ refuse_field bytes reasons.ORDER
 page_off false page bytes rest is = absurd (cc)
 page_off true page bytes rest is = refl
 
-same-page : (floor : ℕ) (bytes : List ℕ) → left_of (read_page floor bytes) ≡ run (forms.page floor) bytes
+same-page : (floor : ℕ) (bytes : List ℕ) → read_page floor bytes ≡ run (forms.page floor) bytes
 unfolding read_page forms.page
-same-page floor bytes = go-byte (forms.is_page_from floor) (λ page. page_tested (nat_lt page.0 floor) page.0 bytes page.1) page_of bytes
+same-page floor bytes = go-byte (forms.is_page_from floor) (λ page. page_tested (nat_lt page.0 floor) page.0 bytes page.1) page_of (λ b. reasons.ORDER) bytes
     (λ page rest is. page_fits (nat_lt page floor) page bytes rest is) (λ page rest is. page_off (nat_lt page floor) page bytes rest is)
 
-pub same-objects : (bytes : List ℕ) → left_of (read_objects bytes) ≡ run forms.objects bytes
+pub same-objects : (bytes : List ℕ) → read_objects bytes ≡ run forms.objects bytes
 unfolding read_objects forms.objects
 same-objects bytes = go (read_number w16 bytes) _ (number w16 any) _ bytes (any-number w16 bytes)
     (λ count. same-many read_object forms.object after_object same-object count.0 0 [] count.1)
 
-pub same-pages : (bytes : List ℕ) → left_of (read_pages bytes) ≡ run forms.pages bytes
+pub same-pages : (bytes : List ℕ) → read_pages bytes ≡ run forms.pages bytes
 unfolding read_pages forms.pages
 same-pages bytes = go (read_number w16 bytes) _ (number w16 any) _ bytes (any-number w16 bytes)
     (λ count. same-many read_page forms.page after_page same-page count.0 0 [] count.1)

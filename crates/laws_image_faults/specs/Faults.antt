@@ -8,9 +8,10 @@ use Rattle.laws_image_faults.specs.Forms.{BreaksAt, GoesOnAt, Holds}
 use Rattle.laws_image_faults.specs.Forms.Form.{Whole}
 use Rattle.laws_image_faults.specs.Images.{image}
 
--- what the fault with this reason says of the bytes: a field that doesn't hold what it may, a pointer that leads where it may not, bytes that are left
+-- what the fault with this reason says of the bytes: a field that doesn't hold what it may, and is refused for this very reason; a
+-- pointer that leads where it may not; bytes that are left
 pub data Says (bytes : List ℕ) : ℕ → ℕ → Type 0 where
-  OfField : (offset reason : ℕ) → BreaksAt image bytes offset → Says bytes offset reason
+  OfField : (offset reason : ℕ) → BreaksAt image bytes offset reason → Says bytes offset reason
   OfPointer : (offset : ℕ) (i : Image) → Holds image bytes (Whole i) → wrong_link i ≡ Some offset → Says bytes offset reasons.POINTER
   OfRest : (offset : ℕ) → GoesOnAt image bytes offset → Says bytes offset reasons.LEFT_OVER
 
@@ -18,6 +19,6 @@ pub data Says (bytes : List ℕ) : ℕ → ℕ → Type 0 where
 abbrev pub FaultsAreFirst : Type 0
 FaultsAreFirst = (bytes : List ℕ) (offset reason : ℕ) → image_reading bytes ≡ Err (offset, reason) → Says bytes offset reason
 
--- where bytes break the form, that is what is told
+-- where bytes break the form, that is what is told, with its reason
 abbrev pub BreaksAreTold : Type 0
-BreaksAreTold = (bytes : List ℕ) (offset : ℕ) → BreaksAt image bytes offset → (reason : ℕ) × (image_reading bytes ≡ Err (offset, reason))
+BreaksAreTold = (bytes : List ℕ) (offset reason : ℕ) → BreaksAt image bytes offset reason → image_reading bytes ≡ Err (offset, reason)

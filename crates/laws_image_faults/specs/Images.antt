@@ -1,4 +1,5 @@
--- The form of an image: its fields from left to right, each with what it may hold. Where pointers lead isn't asked, nor whether a count can be filled.
+-- The form of an image: its fields from left to right, each with what it may hold and the reason where it holds something else. Where
+-- pointers lead isn't asked, nor whether a count can be filled.
 use Rattle.std.specs.Prelude.{ℕ, zero, suc, Bool, true, not, ◌&&◌, ◌||◌, ◌==◌, nat_lt, nat_eq, List, [], ◌∷◌, ◌++◌, Option, Some, None, is_some, if◌then◌else◌}
 use Rattle.std.specs.Prelude.{slice_index}
 use Rattle.std.specs.Cmp.Lexicographic.{pointwise}
@@ -19,7 +20,8 @@ use Rattle.fk_image.specs.Preorder.{has_room, room_under, root_path, after_space
 use Rattle.fk_image.specs.Links.{kind_in_space}
 use Rattle.fk_image.specs.Valid.{after_object, after_page}
 use Rattle.fk_image_format.specs.Spelling.{magic}
-use Rattle.laws_image_faults.specs.Forms.{Form}
+use Rattle.fk_image_format.specs.declared.reasons.reason.TheConstants as reasons
+use Rattle.laws_image_faults.specs.Forms.{Shape, Form}
 use Rattle.laws_image_faults.specs.Forms.Form.{Whole, Field, Pair}
 
 -- ---- fields
@@ -28,18 +30,27 @@ use Rattle.laws_image_faults.specs.Forms.Form.{Whole, Field, Pair}
 infixl 10 ◌>>=◌
 unfoldable pub ◌>>=◌ : {X Y : Type 0} → Form X → (X → Form Y) → Form Y
 (Whole x) >>= g = g x
-(Field size may rest) >>= g = Field size may (λ field. rest field >>= g)
-(Pair size may size2 may2 both rest) >>= g = Pair size may size2 may2 both (λ first second. rest first second >>= g)
+(Field f rest) >>= g = Field f (λ field. rest field >>= g)
+(Pair f h both apart rest) >>= g = Pair f h both apart (λ first second. rest first second >>= g)
 
 abbrev pub byte_in : List ℕ → ℕ
 byte_in field = slice_index field 0
 
--- a byte, and a number of more bytes, the lowest first
+-- a byte, and a number of more bytes, the lowest first, with the reason why another one is refused
+abbrev pub byte_for : (ℕ → ℕ) → (ℕ → Bool) → Form ℕ
+byte_for why may =
+    Field (record { size = 1; may = λ field. may (byte_in field); why = λ field. why (byte_in field) }) (λ field. Whole (byte_in field))
+
+abbrev pub number_for : ℕ → Width → (ℕ → Bool) → Form ℕ
+number_for reason w may =
+    Field (record { size = byte_len w; may = λ field. may (from_le_bytes w field); why = λ field. reason }) (λ field. Whole (from_le_bytes w field))
+
+-- one that is refused where it is out of its range
 abbrev pub byte : (ℕ → Bool) → Form ℕ
-byte may = Field 1 (λ field. may (byte_in field)) (λ field. Whole (byte_in field))
+byte may = byte_for (λ b. reasons.RANGE) may
 
 abbrev pub number : Width → (ℕ → Bool) → Form ℕ
-number w may = Field (byte_len w) (λ field. may (from_le_bytes w field)) (λ field. Whole (from_le_bytes w field))
+number w may = number_for reasons.RANGE w may
 
 abbrev pub any : ℕ → Bool
 any n = true
@@ -164,9 +175,13 @@ body = byte is_kind >>= body_of
 abbrev pub is_slot_from : ℕ → ℕ → Bool
 is_slot_from floor slot = nat_lt slot 240 && not (nat_lt slot floor)
 
+-- one that users may name, but below the lowest, is out of order
+abbrev pub slot_reason : ℕ → ℕ
+slot_reason slot = if nat_lt slot 240 then reasons.ORDER else reasons.RANGE
+
 unfoldable pub object : ℕ → Form ObjectRec
 object floor = do
-  slot ← byte (is_slot_from floor)
+  slot ← byte_for slot_reason (is_slot_from floor)
   body ← body
   Whole (record { slot = slot; body = body })
 
@@ -175,7 +190,7 @@ is_page_from floor page = not (nat_lt page floor)
 
 unfoldable pub page : ℕ → Form PageRec
 page floor = do
-  page ← byte (is_page_from floor)
+  page ← byte_for (λ b. reasons.ORDER) (is_page_from floor)
   words ← words 64
   Whole (record { page = page; words = words })
 
@@ -201,10 +216,16 @@ root = do
 abbrev pub is_place : List SpaceRec → List Open → ℕ → ℕ → Bool
 is_place done path parent slot = has_room (room_under path parent) slot && not (is_some (kind_in_space done parent slot))
 
--- a parent and a slot
+-- a parent and a slot, which are out of order where the space can't follow there
+abbrev pub parent_of : List Open → Shape
+parent_of path = record { size = byte_len w32; may = λ field. is_some (room_under path (from_le_bytes w32 field)); why = λ field. reasons.ORDER }
+
+abbrev pub slot_there : Shape
+slot_there = record { size = 1; may = λ field. below 240 (byte_in field); why = λ field. reasons.RANGE }
+
 abbrev pub place : List SpaceRec → List Open → Form (ℕ × ℕ)
-place done path = Pair (byte_len w32) (λ parent. is_some (room_under path (from_le_bytes w32 parent))) 1 (λ slot. below 240 (byte_in slot))
-    (λ parent slot. is_place done path (from_le_bytes w32 parent) (byte_in slot)) (λ parent slot. Whole (from_le_bytes w32 parent, byte_in slot))
+place done path = Pair (parent_of path) slot_there (λ parent slot. is_place done path (from_le_bytes w32 parent) (byte_in slot)) reasons.ORDER
+    (λ parent slot. Whole (from_le_bytes w32 parent, byte_in slot))
 
 unfoldable pub inner : List SpaceRec → List Open → Form SpaceRec
 inner done path = do
@@ -227,13 +248,13 @@ abbrev pub is_some_number : ℕ → Bool
 is_some_number n = not (n == 0)
 
 abbrev pub begins : Form (List ℕ)
-begins = Field 8 (λ field. pointwise nat_eq field magic) Whole
+begins = Field (record { size = 8; may = λ field. pointwise nat_eq field magic; why = λ field. reasons.MAGIC }) Whole
 
 -- the version, and how many spaces there are
 unfoldable pub head : Form ℕ
 head = do
   _ ← begins
-  version ← number w16 (is 1)
+  version ← number_for reasons.VERSION w16 (is 1)
   number w32 is_some_number
 
 unfoldable pub image : Form Image
