@@ -44,7 +44,7 @@ use Rattle.laws_checkpoint.proofs.Seeks as seeking_on
 use Rattle.laws_checkpoint.proofs.Seeks.{Base}
 use Rattle.laws_checkpoint.proofs.Contents as reading_on
 use Rattle.laws_checkpoint.proofs.Gathers as gathering_on
-use Rattle.laws_checkpoint.proofs.Gathers.{live_target, above_live}
+use Rattle.laws_checkpoint.proofs.Pointing.{live_target, above_live}
 use Rattle.laws_checkpoint.proofs.Gathers.Position.{AtDown as g_AtDown, AtFields as g_AtFields, AtLooks as g_AtLooks, AtLeads as g_AtLeads}
 use Rattle.laws_checkpoint.proofs.Gathers.Position.{AtBeside as g_AtBeside, AtOver as g_AtOver}
 use Rattle.laws_checkpoint.proofs.Tasks.{spaces_are, gathered_ok}

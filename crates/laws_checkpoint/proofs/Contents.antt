@@ -45,7 +45,9 @@ use Rattle.laws_checkpoint.proofs.Scans.Scan.{Nobody, First}
 use Rattle.laws_checkpoint.proofs.Mild.{Comes, ComesWith}
 use Rattle.laws_checkpoint.proofs.Mild.IsMild.{Changes_nothing}
 use Rattle.laws_checkpoint.proofs.Tells.{above_kind}
-use Rattle.laws_checkpoint.proofs.Seeks.{follow, follow-way, FromIs, Base, base_others, first_base, root_is, own_base, kind_up, live_slot, space_live, free}
+use Rattle.laws_checkpoint.proofs.Ways.{follow, follow-way}
+use Rattle.laws_checkpoint.proofs.Seeks.{FromIs, Base, base_others, own_base, kind_up, live_slot, space_live, free}
+use Rattle.laws_checkpoint.proofs.Sought.{first_base, root_is}
 use Rattle.laws_checkpoint.proofs.Seeks.{from_named, ref_read, valid_own, one_change, no_change, is_places}
 use Rattle.laws_checkpoint.proofs.Walks.{there, kind_seen, IsSpace, PlacedIn, placed_moved, from_moved, same_there, space_now, named, seen_taken, below_none}
 use Rattle.laws_checkpoint.proofs.Walks.{empty_none, found_there, searched as search_comes, comes_down, comes_search}

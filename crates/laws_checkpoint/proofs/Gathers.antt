@@ -1,6 +1,6 @@
 -- A gatherer has the pointers that the cut shows.
-use Rattle.std.proofs.Common.{◌≡◌, ℕ, ◌≤◌, Bool, true, false, cond, ◌==◌, IsSome, is_some, List, [], ◌∷◌, ◌++◌, map, Option, Some, None, option_map, Ok, refl}
-use Rattle.std.proofs.Common.{sym, ap, subst, arith, length, ◌∙◌, inl, inr, suc, nat_le}
+use Rattle.std.proofs.Common.{◌≡◌, ℕ, ◌≤◌, true, false, cond, ◌==◌, IsSome, is_some, List, [], ◌∷◌, ◌++◌, Option, Some, None, option_map, Ok, refl}
+use Rattle.std.proofs.Common.{sym, ap, subst, arith, length, ◌∙◌, inl, inr}
 use Rattle.std.specs.List.{list_any}
 use Rattle.std.proofs.lemmas.Bool.{ne_eqb}
 use Rattle.fk_model.specs.declared.limits.TheConstants.{OWN_SPACE, LAST_PORTER_SLOT}
@@ -31,195 +31,33 @@ use Rattle.fk_model.specs.Cut.{cut, cut_ptr, ports_of}
 use Rattle.fk_model.proofs.walks.PlaceLaws.{strip-append, strip_some, same_path_refl, same_path_eq}
 use Rattle.fk_model.proofs.walks.Members.{IsIn}
 use Rattle.laws_frozen.specs.Frozen.{IsSameInside}
-use Rattle.laws_frozen.specs.Holding.{IsUsersMove, IsNear, IsHolding}
+use Rattle.laws_frozen.specs.Holding.{IsUsersMove, IsNear}
 use Rattle.laws_frozen.proofs.Holding.{others_keep_hold}
 use Rattle.laws_jobs.specs.Machines.Head.{Stops, Asks}
 use Rattle.laws_jobs.specs.Machines.Interleaved.{Here, Another, Own}
 use Rattle.laws_checkpoint.specs.Gather.State.{Down, Fields, Looks, Leads, Beside, Over}
 use Rattle.laws_jobs.proofs.Own.{other_body, own_body, pointed_inside}
-use Rattle.std.proofs.lemmas.Bool.Decides.{nat_tests}
-use Rattle.fk_model.proofs.walks.WalkLaws.{live-kind}
-use Rattle.laws_frozen.proofs.Frozen.{there_live}
 use Rattle.laws_jobs.specs.Machines.{Head, Reply, reply_of, heard, said_of, porter, no_words, call_of, IsAnswered, Interleaved}
 use Rattle.laws_jobs.proofs.Rows.{own-place, object-there, point-row, get_ptr-row, located_as, space_pointer, ref_named}
 use Rattle.laws_jobs.proofs.Weaving.{first_sound}
 use Rattle.laws_frozen.proofs.FrozenCut.{ptr_alike}
 use Rattle.laws_checkpoint.specs.Foreign.{PLACES, TARGETS, STEPS, Task, way_from, reading, told_pointer, located_at}
 use Rattle.laws_checkpoint.specs.Gather.{place_at, pointer_fields, pointer_task, field_as, body_as, shown_at, State, begin_at, begin, go_on, arrive, head}
-use Rattle.laws_checkpoint.specs.Gather.{takes, read, looked, next, gatherer, pointers_of, all_pointers, PointersAreGathered}
+use Rattle.laws_checkpoint.specs.Gather.{takes, read, looked, next, gatherer, pointers_of, all_pointers}
 use Rattle.laws_checkpoint.proofs.Mild.{Comes, ComesWith}
 use Rattle.laws_checkpoint.proofs.Mild.IsMild.{Changes_nothing, Leads as Leads_anew}
 use Rattle.laws_checkpoint.proofs.Mild.IsOwnSlot.{Places as Own_places, Targets as Own_targets, Steps as Own_steps}
 use Rattle.laws_checkpoint.proofs.Tells.{root_kind, above_kind, pointer_told}
-use Rattle.laws_checkpoint.proofs.Seeks.{follow, follow-way, FromIs, PlacedAt, Base, base_others, first_base, root_is, placed_by, own_base, seen_body}
+use Rattle.laws_checkpoint.proofs.Ways.{follow, follow-way, split, joined}
+use Rattle.laws_checkpoint.proofs.Seeks.{FromIs, PlacedAt, Base, base_others, placed_by, own_base, seen_body}
 use Rattle.laws_checkpoint.proofs.Seeks.{live_body, kind_up, live_slot, space_live, above, free, from_named, places_named, slot_named, ref_read, valid_own}
 use Rattle.laws_checkpoint.proofs.Seeks.{one_change, no_change, found_row}
-use Rattle.fk_model.specs.Objects.{Window, Extent, Talk, Fault, Thread, Peer}
-use Rattle.fk_model.specs.Objects.Peer.{Server, Service, Parked}
-use Rattle.fk_model.specs.Objects.Body.{Mutex, Cond, Mapping, Region, Port, Portset, Space, Thread_of}
 use Rattle.fk_model.specs.StateRows.{Field, field_of, field_pointer}
 use Rattle.fk_model.specs.StateRows.Field.{NoThread}
-use Rattle.fk_model.specs.Searches.{pointers, option_list, talk_pointers, fault_pointers}
-use Rattle.fk_model.specs.Cut.{cutting, seen_by}
-use Rattle.fk_model.proofs.walks.Members.{in_right, any_in}
-
--- the last step of a way is its outermost slot
-split : (j : ℕ) (q : Path) → (rest : Path) × ((j ∷ q ≡ rest ++ outermost (j ∷ q) ∷ []) × (length rest ≡ length q))
-split j [] = ([], (refl, refl))
-split j (i ∷ q) = let its = split i q in (j ∷ its.0, (ap (λ (y : Path). j ∷ y) its.1.0, ap suc its.1.1))
-
-joined : (rest : Path) (k : ℕ) (y : Path) → (rest ++ k ∷ []) ++ y ≡ rest ++ k ∷ y
-joined [] k y = refl
-joined (j ∷ rest) k y = ap (λ (z : Path). j ∷ z) (joined rest k y)
-
-two_long : (n : ℕ) → nat_le (suc (suc n)) 1 ≡ false
-two_long n = grind (arith, nat_tests)
-
-no_more : {A : Type 0} (ps : List A) → ps ≡ ps ++ []
-no_more [] = refl
-no_more (p ∷ ps) = ap (λ qs. p ∷ qs) (no_more ps)
-
-pushed : (got : List Ptr) (p : Ptr) (rest : List Ptr) → (got ++ p ∷ []) ++ rest ≡ got ++ p ∷ rest
-pushed [] p rest = refl
-pushed (g ∷ got) p rest = ap (λ (ps : List Ptr). g ∷ ps) (pushed got p rest)
-
--- ---- what a reference leads to is there, and what lies above it is a space
-
-module _ (nester : Path) (slot : ℕ) (x : Path) (w : World) (holding : IsHolding nester slot w) (target : w.body (TARGETS ∷ nester) ≡ Some (Reference (At x)))
-    (valid : IsValid w) (few : w.next ≤ depth) where
-  pub live_target : IsSome (w.body x)
-  live_target =
-      sym (live-kind w x) ∙ there_live (kind_there w) x (TARGETS ∷ nester) (w.body (TARGETS ∷ nester)) (valid.consistent.good (TARGETS ∷ nester))
-      (rw target (rw (same_path_refl x) refl))
-
-  pub above_live : (j : ℕ) (q y : Path) → IsSome (w.body ((j ∷ q) ++ y)) → kind_there w y ≡ Some kinds.Space
-  above_live j [] y live = valid.consistent.parents j y live
-  above_live j (i ∷ q) y live = above_live i q y (space_there ((i ∷ q) ++ y) (valid.consistent.parents j ((i ∷ q) ++ y) live))
-    where
-      space_there : (y : Path) → kind_there w y ≡ Some kinds.Space → IsSome (w.body y)
-      space_there y h = sym (live-kind w y) ∙ ap is_some h
-
--- ---- the fields that are asked
-
-pub data Pointing : Body → ℕ → Type 0 where
-  Maps : {m : Window} → Pointing (Mapping m) 0
-  Keeps : {r : Extent} → Pointing (Region r) 0
-  Refers : {to : Ptr} → Pointing (Reference to) 0
-  Holds : {birth : ℕ} {holder : Option Ptr} → Pointing (Space birth holder) 0
-  Talks : {t : Thread} → Pointing (Thread_of t) 0
-  Serves : {t : Thread} → Pointing (Thread_of t) 1
-  Faults : {t : Thread} → Pointing (Thread_of t) 2
-  Takes : {t : Thread} → Pointing (Thread_of t) 3
-
-abbrev pub AllPointing : Body → List ℕ → Type 0
-AllPointing b [] = Unit {0}
-AllPointing b (n ∷ ns) = Pointing b n × AllPointing b ns
-
-pub all_pointing : (b : Body) → AllPointing b (pointer_fields (Some b))
-all_pointing (Mapping m) = (Maps, tt)
-all_pointing (Region r) = (Keeps, tt)
-all_pointing (Reference to) = (Refers, tt)
-all_pointing (Space birth holder) = (Holds, tt)
-all_pointing (Thread_of t) = (Talks, (Serves, (Faults, (Takes, tt))))
-all_pointing (Mutex locked) = tt
-all_pointing Cond = tt
-all_pointing (Port set served) = tt
-all_pointing Portset = tt
-
-pub record Pointed (b : Body) (n : ℕ) : Type 0 where
-  pub field : Field
-  pub is : field_of n b ≡ Some field
-  pub among : (to : Ptr) → field ≡ Pointer to → field_number (Pointer to) ≡ 2 → IsIn to (pointers b)
-
-no_null : (P : Type 0) (to : Ptr) → Pointer Null ≡ Pointer to → field_number (Pointer to) ≡ 2 → P
-no_null P to e some = let off : field_number (Pointer Null) ≡ 2 = subst (λ (f : Field). field_number f ≡ 2) (sym e) some in cc
-
-same_to : (p to : Ptr) → Pointer p ≡ Pointer to → p ≡ to
-same_to p to e = cc
-
-module _ (t : Thread) where
-  talk_at_port : (o : Option Talk) → Pointed (Thread_of (record t { talk = o })) 0
-  talk_at_port None = record {
-    field = Pointer Null;
-    is = refl;
-    among = λ to e some. no_null (IsIn to (pointers (Thread_of (record t { talk = None })))) to e some;
-  }
-  talk_at_port (Some talk) = record { field = Pointer talk.port; is = refl; among = λ to e some. inl (same_to talk.port to e) }
-
-  talk_served : (o : Option Talk) → Pointed (Thread_of (record t { talk = o })) 1
-  talk_served None = record {
-    field = Pointer Null;
-    is = refl;
-    among = λ to e some. no_null (IsIn to (pointers (Thread_of (record t { talk = None })))) to e some;
-  }
-  talk_served (Some talk) = by talk.peer
-    where
-      by : (peer : Peer) → Pointed (Thread_of (record t { talk = Some (record talk { peer = peer }) })) 1
-      by (Server thread) = record { field = Pointer thread; is = refl; among = λ to e some. inr (inl (same_to thread to e)) }
-      by Service = record { field = NoThread; is = refl; among = λ to e some. cc }
-      by Parked = record { field = NoThread; is = refl; among = λ to e some. cc }
-
-  fault_at_port : (o : Option Fault) → Pointed (Thread_of (record t { fault = o })) 2
-  fault_at_port None = record {
-    field = Pointer Null;
-    is = refl;
-    among = λ to e some. no_null (IsIn to (pointers (Thread_of (record t { fault = None })))) to e some;
-  }
-  fault_at_port (Some fault) = record {
-    field = Pointer fault.port;
-    is = refl;
-    among = λ to e some. in_right to (option_list talk_pointers t.talk) (fault_pointers fault) (inl (same_to fault.port to e));
-  }
-
-  fault_taken : (o : Option Fault) → Pointed (Thread_of (record t { fault = o })) 3
-  fault_taken None = record {
-    field = Pointer Null;
-    is = refl;
-    among = λ to e some. no_null (IsIn to (pointers (Thread_of (record t { fault = None })))) to e some;
-  }
-  fault_taken (Some fault) = by fault.taker
-    where
-      by : (taker : Option Peer) → Pointed (Thread_of (record t { fault = Some (record fault { taker = taker }) })) 3
-      by None = record {
-        field = Pointer Null;
-        is = refl;
-        among = λ to e some. no_null (IsIn to (pointers (Thread_of (record t { fault = Some (record fault { taker = None }) })))) to e some;
-      }
-      by (Some (Server thread)) = record {
-        field = Pointer thread;
-        is = refl;
-        among = λ to e some. in_right to (option_list talk_pointers t.talk) (fault.port ∷ thread ∷ []) (inr (inl (same_to thread to e)));
-      }
-      by (Some Service) = record { field = NoThread; is = refl; among = λ to e some. cc }
-      by (Some Parked) = record { field = NoThread; is = refl; among = λ to e some. cc }
-
-pub pointed : (b : Body) (n : ℕ) → Pointing b n → Pointed b n
-pointed (Mapping m) _ Maps = record { field = Pointer m.region; is = refl; among = λ to e some. inl (same_to m.region to e) }
-pointed (Region r) _ Keeps = record { field = Pointer r.keeper; is = refl; among = λ to e some. inl (same_to r.keeper to e) }
-pointed (Reference to) _ Refers = record { field = Pointer to; is = refl; among = λ x e some. inl (same_to to x e) }
-pointed (Space birth None) _ Holds = record { field = Pointer Null; is = refl; among = λ to e some. no_null (IsIn to (pointers (Space birth None))) to e some }
-pointed (Space birth (Some p)) _ Holds = record { field = Pointer p; is = refl; among = λ to e some. inl (same_to p to e) }
-pointed (Mutex locked) n c = elim c [ ]
-pointed Cond n c = elim c [ ]
-pointed (Port set served) n c = elim c [ ]
-pointed Portset n c = elim c [ ]
-pointed (Thread_of t) _ Talks = talk_at_port t t.talk
-pointed (Thread_of t) _ Serves = talk_served t t.talk
-pointed (Thread_of t) _ Faults = fault_at_port t t.fault
-pointed (Thread_of t) _ Takes = fault_taken t t.fault
-
-pub same_pointers : (ports : ℕ → Bool) (nester : Path) (slot : ℕ) (b : Body)
-    → pointer_fields (Some (seen_by (cutting ports nester slot) b)) ≡ pointer_fields (Some b)
-unfolding seen_by
-same_pointers ports nester slot (Mapping m) = refl
-same_pointers ports nester slot (Region r) = refl
-same_pointers ports nester slot (Reference to) = refl
-same_pointers ports nester slot (Space birth holder) = refl
-same_pointers ports nester slot (Thread_of t) = refl
-same_pointers ports nester slot (Mutex locked) = refl
-same_pointers ports nester slot Cond = refl
-same_pointers ports nester slot (Port set served) = refl
-same_pointers ports nester slot Portset = refl
+use Rattle.fk_model.specs.Searches.{pointers}
+use Rattle.fk_model.proofs.walks.Members.{any_in}
+use Rattle.laws_checkpoint.proofs.Pointing.{two_long, no_more, pushed, live_target, above_live, AllPointing, all_pointing, pointed}
+use Rattle.laws_checkpoint.proofs.Pointing.{same_to, same_pointers}
 
 module _ (nester : Path) (slot : ℕ) (start : World) (near : far_field ((cut start nester slot).body []) ≡ None) where
   abbrev root : Path
@@ -686,7 +524,8 @@ module _ (nester : Path) (slot : ℕ) (start : World) (near : far_field ((cut st
             → call_row w (porter nester no_words) None (Locate TARGETS (place_at slot at)) ≡ elim (option_map way_down o) [
               | None ↦ Goes [] (Answered NONE [])
               | Some way ↦ Goes [] (Answered OK (way ++ kind_number (kind_at w (At x)) ∷ []))
-            ] → Stands (after w (call_of nester (Locate TARGETS (place_at slot at)) no_words)) (next slot (Looks at n fs t ts got) reply.status reply.words) found
+            ] → Stands (after w (call_of nester (Locate TARGETS (place_at slot at)) no_words))
+            (next slot (Looks at n fs t ts got) reply.status reply.words) found
         by_at x None e f row = missed (ap (way_to (at ++ root)) e ∙ ap (option_map way_down) f) row
         by_at x (Some q) e f row =
             let goes = no_change nester slot start near w base valid few (Locate TARGETS (place_at slot at)) reply OK (way_down q
@@ -955,27 +794,3 @@ module _ (nester : Path) (slot : ℕ) (start : World) (near : far_field ((cut st
       by _ (AtLeads k at n fs t ts got placed counts field st b) e stops = cc
       by _ (AtBeside n fs t ts got placed counts field out) e stops = cc
       by _ (AtOver got) e stops = let same : got ≡ end = cc in sym same ∙ e
-
-module _ (nester : Path) (slot : ℕ) (start : World) (near : far_field ((cut start nester slot).body []) ≡ None) where
-  pub tasks_ok : (qs : List Path) → ((q : Path) → IsIn q qs → IsSome ((cut start nester slot).body q))
-      → Tasks_ok nester slot start near (map (pointer_task (cut start nester slot)) qs)
-  tasks_ok [] h = tt
-  tasks_ok (q ∷ qs) h = (
-    record {
-      is = ap (pointer_task (cut start nester slot)) (sym (its q));
-      live = subst (λ (q : Path). IsSome ((cut start nester slot).body q)) (sym (its q)) (h q (inl refl));
-    },
-    tasks_ok qs (λ x in_qs. h x (inr in_qs)),
-  )
-    where
-      its : (q : Path) → (pointer_task (cut start nester slot) q).path ≡ q
-      its [] = refl
-      its (k ∷ q) = refl
-
-pub pointers_are_gathered : PointersAreGathered
-pointers_are_gathered nester slot w v t es got qs holding sound scratched live run stops =
-    let near = (root_is nester slot w holding sound.whole.valid).0 in
-    let tasks : List Task = map (pointer_task (cut w nester slot)) qs in
-    let found : List Ptr = all_pointers (shown_at w nester slot) tasks in
-    let first = begins nester slot w near w tasks [] (first_base nester slot w holding near scratched) scratched.steps (tasks_ok nester slot w near qs live) in
-    finds nester slot w near v t got found (arrives nester slot w near w v (begin slot tasks []) t es found first run) stops

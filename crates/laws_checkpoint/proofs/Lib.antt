@@ -1,9 +1,13 @@
 pub mod Same
+pub mod Ways
 pub mod Mild
 pub mod Tells
 pub mod Seeks
+pub mod Sought
 pub mod SeekBounds
+pub mod Pointing
 pub mod Gathers
+pub mod Gathered
 pub mod Scans
 pub mod Walks
 pub mod Contents

@@ -46,7 +46,7 @@ use Rattle.laws_checkpoint.proofs.Same.{inside-then}
 use Rattle.laws_checkpoint.proofs.Mild.{IsOwnSlot, IsMild}
 use Rattle.laws_checkpoint.proofs.Mild.IsOwnSlot.{Places, Targets, Steps}
 use Rattle.laws_checkpoint.proofs.Mild.IsMild.{Changes_nothing, Leads}
-use Rattle.laws_checkpoint.proofs.Seeks.{Base, root_is}
+use Rattle.laws_checkpoint.proofs.Seeks.{Base}
 
 -- ---- the porter's own slots
 

@@ -1,10 +1,10 @@
 -- A seeker finds the first place at which a subtree isn't closed.
-use Rattle.std.proofs.Common.{◌≡◌, ℕ, zero, suc, ◌≤◌, Bool, true, false, cond, not, ◌==◌, nat_le, nat_lt, IsSome, is_some, List, [], ◌∷◌, ◌++◌, map, Option}
+use Rattle.std.proofs.Common.{◌≡◌, ℕ, ◌≤◌, Bool, true, false, cond, not, ◌==◌, nat_le, nat_lt, IsSome, is_some, List, [], ◌∷◌, ◌++◌, map, Option}
 use Rattle.std.proofs.Common.{Some, None, option_map, Ok, refl, sym, ap, subst, arith, ◌∙◌, ◌⊎◌, inl, inr}
 use Rattle.std.specs.List.{list_any}
 use Rattle.std.proofs.lemmas.Bool.{le-leb, ne_eqb}
 use Rattle.std.proofs.lemmas.Bool.Decides.{nat_tests}
-use Rattle.fk_model.specs.declared.limits.TheConstants.{OWN_SPACE, SLOTS, LAST_PORTER_SLOT}
+use Rattle.fk_model.specs.declared.limits.TheConstants.{OWN_SPACE, LAST_PORTER_SLOT}
 use Rattle.fk_model.specs.declared.names.Kind.TheVariants as kinds
 use Rattle.fk_model.specs.declared.stage.Stage.{Stage}
 use Rattle.fk_model.specs.declared.stage.Stage.TheVariants.{Point, GetPtr, Locate}
@@ -12,12 +12,12 @@ use Rattle.fk_model.specs.declared.moves.Ask.TheVariants as askings
 use Rattle.fk_model.specs.declared.statuses.status.TheConstants.{OK, NONE}
 use Rattle.fk_model.specs.Places.{Path, same_path, Ptr, leads_to}
 use Rattle.fk_model.specs.Places.Ptr.{Null, Dead, At, Out, Outside, Far}
-use Rattle.fk_model.specs.Objects.{Body, kind_of, or_else, reference_of}
-use Rattle.fk_model.specs.Objects.Body.{Mutex, Cond, Mapping, Region, Port, Portset, Space, Thread_of, Reference}
+use Rattle.fk_model.specs.Objects.{Body, or_else, reference_of}
+use Rattle.fk_model.specs.Objects.Body.{Reference}
 use Rattle.fk_model.specs.World.{World, Change, apply}
 use Rattle.fk_model.specs.World.Change.{Alter}
 use Rattle.fk_model.specs.World.Edit.{SetPointer}
-use Rattle.fk_model.specs.Searches.{slots, residents, beneath_by, beneath, objects, depth}
+use Rattle.fk_model.specs.Searches.{depth}
 use Rattle.fk_model.specs.Holds.{decider, is_frozen_for}
 use Rattle.fk_model.specs.Freezing.{body_pointers}
 use Rattle.fk_model.specs.Outcomes.Outcome.{Goes}
@@ -29,45 +29,35 @@ use Rattle.fk_model.specs.ObjectRows.{is_scratch, pointer_count, target_of, way_
 use Rattle.fk_model.specs.Moves.{call_row}
 use Rattle.fk_model.specs.Runs.{Event, after}
 use Rattle.fk_model.specs.Valid.{IsValid, is_fit, kind_there}
-use Rattle.fk_model.specs.Closed.{Place, led_to_from_outside, when_bad, far_field, first_place, open_field, open_place, is_led_to}
-use Rattle.fk_model.specs.Cut.{cut, cut_ptr, cutting, ports_of, seen_by, unheld}
+use Rattle.fk_model.specs.Closed.{Place, led_to_from_outside, when_bad, far_field, first_place, is_led_to}
+use Rattle.fk_model.specs.Cut.{cut, cut_ptr, cutting, ports_of, seen_by}
 use Rattle.fk_model.proofs.walks.PlaceLaws.{same_path_refl, same_path_eq}
 use Rattle.fk_model.proofs.walks.WalkLaws.{live-kind}
-use Rattle.fk_model.proofs.walks.Members.{IsIn, of_filter, of_flat_map}
 use Rattle.laws_machine.proofs.validity.Steps.{step_keeps_valid_lem}
 use Rattle.laws_frozen.specs.Frozen.{IsSameInside}
 use Rattle.laws_frozen.specs.Holding.{IsHolding, IsUsersMove, IsNear}
 use Rattle.laws_frozen.proofs.Holding.{others_keep_hold}
 use Rattle.laws_frozen.proofs.FrozenLaws.{frozen_cut_stays}
-use Rattle.laws_savable.specs.Savable.{IsSound}
-use Rattle.laws_jobs.specs.Machines.{Head, Reply, reply_of, heard, said_of, porter, no_words, call_of, IsReadyAt, IsAnswered, Interleaved}
+use Rattle.laws_jobs.specs.Machines.{Head, Reply, reply_of, heard, said_of, porter, no_words, call_of, IsAnswered, Interleaved}
 use Rattle.laws_jobs.specs.Machines.Head.{Stops, Asks}
 use Rattle.laws_jobs.specs.Machines.Interleaved.{Here, Another, Own}
 use Rattle.laws_checkpoint.specs.Foreign.{PLACES, TARGETS, fields_of, Task, task_of, State, place_of, way_from, begin_at, begin, arrive, head, next, is_zero}
-use Rattle.laws_checkpoint.specs.Foreign.{read, tells_port, seeker, counting, reading, STEPS, IsScratched, ForeignIsExact, SeekerIsReady, SeekingKeepsOpenPlace}
+use Rattle.laws_checkpoint.specs.Foreign.{read, tells_port, seeker, counting, reading, STEPS, IsScratched}
 use Rattle.laws_checkpoint.specs.Foreign.State.{Down, Fields, Inside, Beside, Over}
-use Rattle.laws_jobs.proofs.LeadLaws.{others_keep_leads, open_same, counts_tell}
+use Rattle.laws_jobs.proofs.LeadLaws.{others_keep_leads, counts_tell}
 use Rattle.laws_jobs.proofs.Unled.{held_frozen}
 use Rattle.laws_jobs.proofs.Goings.{one_change as changed_by, no_change as unchanged_by}
-use Rattle.laws_jobs.proofs.Weaving.{first_sound, last_sound}
-use Rattle.laws_jobs.proofs.Ready.{calm_call_ready}
+use Rattle.laws_jobs.proofs.Weaving.{first_sound}
 use Rattle.laws_checkpoint.proofs.Mild.{Comes, ComesWith}
 use Rattle.laws_checkpoint.proofs.Mild.IsMild.{Changes_nothing, Leads}
 use Rattle.laws_checkpoint.proofs.Mild.IsOwnSlot.{Places, Targets}
-use Rattle.laws_checkpoint.proofs.Same.{inside-itself, inside-then}
+use Rattle.laws_checkpoint.proofs.Same.{inside-then}
+use Rattle.laws_checkpoint.proofs.Ways.{follow, follow-way}
 use Rattle.laws_jobs.proofs.Own.{other_body, own_body, pointed_cut, pointed_holding, pointed_leads, pointed_inside}
 use Rattle.laws_jobs.proofs.Rows.{own-place, object-there, point-row, get_ptr-row, locate-row, located_as, count-row, count_space-row, space_pointer, own_named}
 use Rattle.laws_jobs.proofs.Rows.{ref_named}
 use Rattle.laws_checkpoint.proofs.Tells.{Counted, AllCounted, all_counted, seen_at, is_bad, first_bad, far_is, same_fields, counted, root_kind, above_kind}
 use Rattle.laws_checkpoint.proofs.Tells.{told_inside, told_outside, told_beside}
-
-abbrev pub follow : Path → List ℕ → Path
-follow x [] = x
-follow x (k ∷ ways) = follow (k ∷ x) ways
-
-pub follow-way : (x : Path) (s : Path) (ways : List ℕ) → follow x (way_from ways s) ≡ follow (s ++ x) ways
-follow-way x [] ways = refl
-follow-way x (k ∷ s) ways = follow-way x s (k ∷ ways)
 
 -- from the world at the hold on
 module _ (nester : Path) (slot : ℕ) (start : World) (root_near : far_field ((cut start nester slot).body []) ≡ None) where
@@ -806,141 +796,3 @@ module _ (nester : Path) (slot : ℕ) (start : World) (root_near : far_field ((c
       by _ (AtInside n fs t ts placed counts field) e stops = cc
       by _ (AtBeside n fs t ts placed counts field out loose) e stops = cc
       by _ (AtOver place) e stops = let same : place ≡ end = cc in sym same ∙ e
-
--- ---- the tasks of a subtree
-
-paths-back : (c : World) (qs : List Path) → map (λ (t : Task). t.path) (map (task_of c) qs) ≡ qs
-paths-back c [] = refl
-paths-back c ([] ∷ qs) = ap (λ (ps : List Path). [] ∷ ps) (paths-back c qs)
-paths-back c ((k ∷ q) ∷ qs) = ap (λ (ps : List Path). (k ∷ q) ∷ ps) (paths-back c qs)
-
-pub task_path : (c : World) (q : Path) → (task_of c q).path ≡ q
-task_path c [] = refl
-task_path c (k ∷ q) = refl
-
--- what a walk comes to is there
-of_residents : (w : World) (k : ℕ) (s : Path) → IsIn k (residents w s) → IsSome (w.body (k ∷ s))
-unfolding residents
-of_residents w k s h = (of_filter (λ k. is_some (w.body (k ∷ s))) k (slots SLOTS) h).1
-
-of_walk : (n : ℕ) (w : World) (s x : Path) → IsIn x (beneath_by n w s) → IsSome (w.body x)
-unfolding beneath_by
-of_walk zero w s x h = absurd h
-of_walk (suc n) w s x h = let found = of_flat_map (λ j. (j ∷ s) ∷ beneath_by n w (j ∷ s)) x (residents w s) h in
-    by found.0 (of_residents w found.0 s found.1) found.2 (of_walk n w (found.0 ∷ s) x)
-  where
-    by : (j : ℕ) →
-        IsSome (w.body (j ∷ s)) → (j ∷ s ≡ x) ⊎ IsIn x (beneath_by n w (j ∷ s)) → (IsIn x (beneath_by n w (j ∷ s)) → IsSome (w.body x)) → IsSome (w.body x)
-    by j live (inl e) rest = subst (λ (y : Path). IsSome (w.body y)) e live
-    by j live (inr g) rest = rest g
-
-pub of_objects : (w : World) (x : Path) → IsIn x (objects w) → IsSome (w.body x)
-unfolding beneath
-of_objects w x h = of_walk depth w [] x h
-
-module _ (nester : Path) (slot : ℕ) (start : World) (near : far_field ((cut start nester slot).body []) ≡ None) where
-  pub all_tasks : (qs : List Path) → ((q : Path) → IsIn q qs → IsSome ((cut start nester slot).body q))
-      → AllTasks nester slot start near (map (task_of (cut start nester slot)) qs)
-  all_tasks [] h = tt
-  all_tasks (q ∷ qs) h = (
-    record {
-      is = ap (task_of (cut start nester slot)) (sym (task_path (cut start nester slot) q));
-      live = subst (λ (q : Path). IsSome ((cut start nester slot).body q)) (sym (task_path (cut start nester slot) q)) (h q (inl refl));
-    },
-    all_tasks qs (λ x its. h x (inr its)),
-  )
-
-pub root_body : (nester : Path) (slot : ℕ) (w : World) → option_map kind_of (w.body (slot ∷ nester)) ≡ Some kinds.Space
-    → (far_field ((cut w nester slot).body []) ≡ None) × IsSome ((cut w nester slot).body [])
-unfolding cut seen_by
-root_body nester slot w h = by (w.body (slot ∷ nester)) h
-  where
-    seen : Option Body → Option Body
-    seen o = option_map (λ b. unheld [] (seen_by (cutting (ports_of w nester slot) nester slot) b)) o
-
-    by : (o : Option Body) → option_map kind_of o ≡ Some kinds.Space → (far_field (seen o) ≡ None) × IsSome (seen o)
-    by (Some (Space birth holder)) h = (refl, refl)
-    by (Some (Mutex locked)) h = cc
-    by (Some Cond) h = cc
-    by (Some (Mapping m)) h = cc
-    by (Some (Region r)) h = cc
-    by (Some (Port set served)) h = cc
-    by (Some Portset) h = cc
-    by (Some (Thread_of t)) h = cc
-    by (Some (Reference to)) h = cc
-    by None h = cc
-
--- ---- it begins in the world at the hold
-
-abbrev pub preorder : World → Path → ℕ → List Path
-preorder w nester slot = [] ∷ objects (cut w nester slot)
-
-pub preorder_live : (w : World) (nester : Path) (slot : ℕ) → IsSome ((cut w nester slot).body []) → (q : Path) → IsIn q (preorder w nester slot)
-    → IsSome ((cut w nester slot).body q)
-preorder_live w nester slot live q (inl e) = subst (λ (q : Path). IsSome ((cut w nester slot).body q)) e live
-preorder_live w nester slot live q (inr h) = of_objects (cut w nester slot) q h
-
-pub root_is : (nester : Path) (slot : ℕ) (w : World) → IsHolding nester slot w → IsValid w
-    → (far_field ((cut w nester slot).body []) ≡ None) × IsSome ((cut w nester slot).body [])
-unfolding kind_there
-root_is nester slot w holding valid = root_body nester slot w (root_kind nester slot w holding valid)
-
-pub first_base : (nester : Path) (slot : ℕ) (w : World) → IsHolding nester slot w → (near : far_field ((cut w nester slot).body []) ≡ None)
-    → IsScratched nester w → Base nester slot w near w
-unfolding led
-first_base nester slot w holding near scratched = record {
-  holding = holding;
-  inside = inside-itself (slot ∷ nester) w;
-  same = refl;
-  leads = λ q. refl;
-  scratched = scratched;
-}
-
--- what is left of all tasks is the first place
-pub rests_are : (nester : Path) (slot : ℕ) (start : World) (near : far_field ((cut start nester slot).body []) ≡ None) →
-    rests nester slot start near (map (task_of (cut start nester slot)) (preorder start nester slot)) ≡ open_place start nester slot
-unfolding open_place led
-rests_are nester slot start near = ap (first_place (open_field start nester slot) slot) (paths-back (cut start nester slot) (preorder start nester slot))
-
-module _ (nester : Path) (slot : ℕ) (w : World) (holding : IsHolding nester slot w) (sound : IsSound w) (scratched : IsScratched nester w) where
-  its_root : (far_field ((cut w nester slot).body []) ≡ None) × IsSome ((cut w nester slot).body [])
-  its_root = root_is nester slot w holding sound.whole.valid
-
-  abbrev tasks : List Task
-  tasks = map (task_of (cut w nester slot)) (preorder w nester slot)
-
-  abbrev verdict : Option Place
-  verdict = rests nester slot w its_root.0 tasks
-
-  begun_here : Stands nester slot w its_root.0 w (begin slot tasks) verdict
-  begun_here =
-      begins nester slot w its_root.0 w tasks (first_base nester slot w holding its_root.0 scratched)
-      (all_tasks nester slot w its_root.0 (preorder w nester slot) (preorder_live w nester slot its_root.1))
-
-  later : (v : World) (t : State) (es : List Event) → Interleaved (seeker slot) nester w (begin slot tasks) es v t → Stands nester slot w its_root.0 v t verdict
-  later v t es run = arrives nester slot w its_root.0 w v (begin slot tasks) t es verdict begun_here run
-
-  verdict_is : verdict ≡ open_place w nester slot
-  unfolding open_place led
-  verdict_is = ap (first_place (open_field w nester slot) slot) (paths-back (cut w nester slot) (preorder w nester slot))
-
-pub foreign_is_exact : ForeignIsExact
-foreign_is_exact nester slot w v t es end holding sound scratched run stops =
-    let root_near = its_root nester slot w holding sound scratched in
-    finds nester slot w root_near.0 v t end (verdict nester slot w holding sound scratched) (later nester slot w holding sound scratched v t es run) stops
-    ∙ verdict_is nester slot w holding sound scratched
-
-pub seeker_is_ready : SeekerIsReady
-seeker_is_ready nester slot w v t es stage words holding sound scratched run asks calm =
-    let root_near = its_root nester slot w holding sound scratched in
-    let stands = later nester slot w holding sound scratched v t es run in
-    let valid = last_sound (seeker slot) nester w (begin slot (tasks nester slot w holding sound scratched)) es v t run in
-    let comes = comes_next nester slot w root_near.0 v stands.base valid.whole.valid valid.whole.few t stage words stands.position stands.tasks asks in
-    subst (λ (ws : List ℕ). IsReadyAt v (call_of nester stage ws)) (sym comes.0)
-    (calm_call_ready nester slot v stage no_words comes.1.changes (Answered comes.1.status comes.1.given) stands.base.holding calm comes.1.row)
-
-pub seeking_keeps_open_place : SeekingKeepsOpenPlace
-unfolding led
-seeking_keeps_open_place nester slot w v t es holding sound scratched run =
-    let stands = later nester slot w holding sound scratched v t es run in
-    open_same w v nester slot stands.base.same stands.base.leads

@@ -24,7 +24,7 @@ use Rattle.laws_checkpoint.specs.Bounded.{sum_of, pages_in, count_of, LiesWithin
 use Rattle.laws_checkpoint.proofs.Scans.{rising, slots_rise}
 use Rattle.laws_checkpoint.proofs.Preorder.{is_space_in, met_are}
 use Rattle.laws_checkpoint.proofs.Tasks.{sought_are}
-use Rattle.laws_checkpoint.proofs.Seeks.{preorder_live}
+use Rattle.laws_checkpoint.proofs.Sought.{preorder_live}
 use Rattle.laws_checkpoint.proofs.Spending.{weigh, field, gather_costs}
 use Rattle.laws_checkpoint.proofs.Walks.{some_seen, residents_rise, scan_filter}
 use Rattle.laws_checkpoint.proofs.Reading.{residents_from, sizes}

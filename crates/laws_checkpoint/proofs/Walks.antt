@@ -42,7 +42,9 @@ use Rattle.laws_checkpoint.proofs.Mild.{Comes, ComesWith}
 use Rattle.laws_checkpoint.proofs.Mild.IsMild.{Changes_nothing, Leads}
 use Rattle.laws_checkpoint.proofs.Mild.IsOwnSlot.{Places}
 use Rattle.laws_checkpoint.proofs.Tells.{root_kind, above_kind}
-use Rattle.laws_checkpoint.proofs.Seeks.{follow, follow-way, FromIs, Base, base_others, first_base, root_is, own_base, kind_up, live_slot, space_live, free}
+use Rattle.laws_checkpoint.proofs.Ways.{follow, follow-way}
+use Rattle.laws_checkpoint.proofs.Seeks.{FromIs, Base, base_others, own_base, kind_up, live_slot, space_live, free}
+use Rattle.laws_checkpoint.proofs.Sought.{first_base, root_is}
 use Rattle.laws_checkpoint.proofs.Seeks.{from_named, slot_named, ref_read, valid_own, one_change, no_change, is_places}
 
 module _ (nester : Path) (slot : ℕ) (start : World) (near : far_field ((cut start nester slot).body []) ≡ None) (valid_start : IsValid start)

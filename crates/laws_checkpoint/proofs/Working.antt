@@ -56,7 +56,8 @@ use Rattle.laws_checkpoint.proofs.Mild.{IsOwnSlot, ComesWith}
 use Rattle.laws_checkpoint.proofs.Mild.IsOwnSlot.{Places, Targets, Steps}
 use Rattle.laws_checkpoint.proofs.Tells.{root_kind}
 use Rattle.laws_checkpoint.proofs.Seeks as seeking_on
-use Rattle.laws_checkpoint.proofs.Seeks.{Base, root_is, rests, all_tasks, preorder, preorder_live}
+use Rattle.laws_checkpoint.proofs.Seeks.{Base, rests}
+use Rattle.laws_checkpoint.proofs.Sought.{root_is, all_tasks, preorder, preorder_live, rests_are}
 use Rattle.laws_checkpoint.proofs.Walks as walking_on
 use Rattle.laws_checkpoint.proofs.Walks.{kind_seen}
 use Rattle.laws_checkpoint.proofs.Contents as reading_on
@@ -229,7 +230,7 @@ module _ (nester : Path) (slot birth : ℕ) (low : slot ≤ LAST_USER_SLOT) (w :
       let first = seeking_on.begins nester slot start near v tasks base
       (all_tasks nester slot start near (preorder start nester slot) (preorder_live start nester slot root_there)) in
       subst (λ (ts : List Task). seeking_on.Stands nester slot start near v (seeks.begin slot ts) (open_place w nester slot)) (sym (sought_are c))
-      (subst (λ (o : Option Place). seeking_on.Stands nester slot start near v (seeks.begin slot tasks) o) (seeking_on.rests_are nester slot start near
+      (subst (λ (o : Option Place). seeking_on.Stands nester slot start near v (seeks.begin slot tasks) o) (rests_are nester slot start near
       ∙ held.place) first)
 
   from_walks : (v : World) (s : walks.State) → walking_on.Stands nester slot start near valid_start few_start v s mets → Tidy_now v three
