@@ -1,51 +1,20 @@
 -- What servers ask for, and which slots jobs name.
-use Rattle.std.proofs.Common.{◌≡◌, ℕ, ◌≤◌, Bool, true, false, List, [], ◌∷◌, Option, Some, None, refl}
+use Rattle.std.proofs.Common.{◌≡◌, ℕ, ◌≤◌, true, List, [], ◌∷◌, refl}
 use Rattle.std.proofs.lemmas.Bool.{le-leb}
 use Rattle.std.specs.List.{All}
 use Rattle.std.proofs.lemmas.List.Elements.{All-nil, All-cons, All-head, All-tail}
 use Rattle.fk_model.specs.declared.job.JobSpec.{JobSpec}
 use Rattle.fk_model.specs.declared.job.JobSpec.TheVariants as specs_of
-use Rattle.fk_model.specs.declared.moves.Ask.{Ask}
-use Rattle.fk_model.specs.declared.moves.Ask.TheVariants as asks
-use Rattle.fk_model.specs.Places.Ptr.{At}
-use Rattle.fk_model.specs.Valid.{is_served_port}
-use Rattle.fk_model.specs.Who.{named}
-use Rattle.laws_frozen.specs.Users.{is_users}
-use Rattle.fk_natives.specs.declared.service.Side.TheVariants as sides
-use Rattle.fk_natives.specs.Natives.{State, OfConsole, OfServer, gives_left, asks_for}
 use Rattle.fk_scenario.specs.Kept.{HasSlots}
 use Rattle.fk_scenario_entries.specs.Kept.{ArePairs}
 use Rattle.laws_rooms.specs.Restoring.{are_user_pairs}
-use Rattle.fk_served.specs.Served.{serving, asked_of, asked_at}
+use Rattle.fk_served.proofs.Acts.{servers_ask_as_users as asked_as_users}
 use Rattle.laws_house.specs.Headline.{NamesSlots}
 use Rattle.laws_house.proofs.Headline.{jobs_name_users_slots}
 use Rattle.laws_first.specs.Users.{ServersAskAsUsers, ScenarioJobsNameUsersSlots}
 
-same_ask : (a b : Ask) → Some a ≡ Some b → is_users a ≡ true → is_users b ≡ true
-same_ask a b e h = let same : a ≡ b = cc in rw (← same) h
-
-given : (left : List ℕ) → is_users (gives_left left) ≡ true
-given [] = refl
-given (word ∷ words) = refl
-
-state_asks : (state : State) (ask : Ask) → asks_for state ≡ Some ask → is_users ask ≡ true
-state_asks (OfConsole alias words sides.Idle) ask e = same_ask asks.Accept ask e refl
-state_asks (OfConsole alias words sides.Client) ask e = cc
-state_asks (OfConsole alias words sides.Own) ask e = same_ask asks.Over ask e refl
-state_asks (OfServer index rule config position request left sides.Idle) ask e = same_ask asks.Accept ask e refl
-state_asks (OfServer index rule config position request left sides.Client) ask e = cc
-state_asks (OfServer index rule config position request left sides.Own) ask e = same_ask (gives_left left) ask e (given left)
-
-served_asks : (o : Option State) (ask : Ask) → asked_of o ≡ Some ask → is_users ask ≡ true
-served_asks None ask e = same_ask asks.Run ask e refl
-served_asks (Some state) ask e = state_asks state ask e
-
 pub servers_ask_as_users : ServersAskAsUsers
-servers_ask_as_users jobs services w who ask e = by (is_served_port w (At (named w who))) e
-  where
-    by : (t : Bool) → asked_at t services who ≡ Some ask → is_users ask ≡ true
-    by true e = served_asks (serving services who) ask e
-    by false e = same_ask asks.Run ask e refl
+servers_ask_as_users jobs services w who ask e = asked_as_users services w who ask e
 
 user_pairs : (pairs : List (ℕ × ℕ)) → ArePairs pairs → are_user_pairs pairs ≡ true
 user_pairs [] all = refl
