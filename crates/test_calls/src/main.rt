@@ -10,6 +10,7 @@
 
 mod causes;
 mod numbers;
+mod scenarios;
 mod traces;
 mod words;
 
@@ -28,6 +29,8 @@ fn outcome<R: Files + AllocGlobal + Clone + Drop>(
         "holds" => words::holds(alloc, rest),
         "line" => traces::line(alloc, rest),
         "trace" => traces::trace(alloc, rest),
+        "soak" => scenarios::text(alloc, rest),
+        "size" => scenarios::size(alloc, rest),
         "source" => causes::source(alloc, rest),
         "reader" => causes::reader(alloc, rest),
         "sink" => causes::sink(alloc, rest),
