@@ -1,5 +1,5 @@
 //! The stage that looks for a taken slot.
-ghost use Rattle.std.specs.Prelude.{◌≡◌, IfOk};
+ghost use Rattle.std.specs.Prelude.{◌≡◌, ◌≤◌, IfOk};
 ghost use Rattle.fk_model.specs.ObjectRows as rows;
 ghost use Rattle.fk_model.specs.Searches.{lowest};
 ghost use Rattle.fk_model.specs.declared.limits.TheConstants.{SLOTS};
@@ -30,11 +30,19 @@ fn taken_from(store: &Store, space: u32, last: u64, from: u64, slot: u8) -> Opti
     }
 }
 
+/// The slot at which a search begins: no lower one is sought.
+fn first_slot(from: u64) -> u16
+    ensures all { result ≤ 256 }
+    ensures low { result ≤ from }
+{
+    from.min(256) as u16
+}
+
 /// The first such slot.
 fn first_taken(store: &Store, space: u32, last: u64, from: u64) -> Option<(u64, u64)>
     ensures { result ≡ lowest SLOTS (rows.taken_from (world store.now) (path store.now space) last from) }
 {
-    for slot in 0..256u16 {
+    for slot in first_slot(from)..256u16 {
         let found = taken_from(store, space, last, from, slot as u8);
         if found.is_some() {
             return found;

@@ -1,10 +1,13 @@
 use Rattle.std.proofs.Common.{arith, sym, ◌∙◌}
-use Rattle.fk_store.proofs.finding.ReachLaws.{lowest-zero, lowest-none}
-use Rattle.fk_objects.proofs.Slots.{none_there, first_there, none_first}
+use Rattle.fk_store.specs.Paths.{path}
+use Rattle.fk_store.specs.World.{world}
+use Rattle.fk_store.proofs.finding.ReachLaws.{lowest-none}
+use Rattle.fk_objects.proofs.Slots.{none_below, none_there, first_there, none_first}
 use Rattle.fk_objects.proofs.searching.first_taken.Goals as goal
 
 pub loop-slot-init : goal.loop-slot-init
-loop-slot-init c = lowest-zero _
+loop-slot-init c =
+    none_below (world c.args.store.now) (path c.args.store.now c.args.space) c.args.last c.args.from c.first_slot-slot.result c.first_slot-slot.ensures.low
 
 pub returns-then-is_some : goal.returns-then-is_some
 returns-then-is_some c =
