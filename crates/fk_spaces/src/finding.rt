@@ -1,5 +1,5 @@
 //! The stage that looks for a page.
-ghost use Rattle.std.specs.Prelude.{◌≡◌, nat_le, None, IfOk, option_map, if◌then◌else◌};
+ghost use Rattle.std.specs.Prelude.{◌≡◌, ◌≤◌, nat_le, None, IfOk, option_map, if◌then◌else◌};
 ghost use Rattle.fk_model.specs.SpaceRows as rows;
 ghost use Rattle.fk_store.specs.Paths.{path};
 ghost use Rattle.fk_store.specs.World.{world, IsSpace};
@@ -20,11 +20,19 @@ fn page_from(store: &Store, space: u32, from: u64, page: u8) -> Option<u64>
     None
 }
 
+/// The page at which a search begins: no lower one is sought.
+fn first_page(from: u64) -> u16
+    ensures all { result ≤ 256 }
+    ensures low { result ≤ from }
+{
+    from.min(256) as u16
+}
+
 /// The first page of a space at or above a number.
 fn next_page(store: &Store, space: u32, from: u64) -> Option<u64>
     ensures { result ≡ rows.next_page (world store.now) (path store.now space) from }
 {
-    for page in 0..256u16 {
+    for page in first_page(from)..256u16 {
         let found = page_from(store, space, from, page as u8);
         if found.is_some() {
             return found;

@@ -1,10 +1,13 @@
 use Rattle.std.proofs.Common.{arith, sym, ◌∙◌}
-use Rattle.fk_store.proofs.finding.ReachLaws.{lowest-zero, lowest-none}
-use Rattle.fk_spaces.proofs.NextPages.{none_there, next-first, next-none}
+use Rattle.fk_store.specs.Paths.{path}
+use Rattle.fk_store.specs.World.{world}
+use Rattle.fk_store.proofs.finding.ReachLaws.{lowest-none}
+use Rattle.fk_spaces.proofs.NextPages.{none_below, none_there, next-first, next-none}
 use Rattle.fk_spaces.proofs.finding.next_page.Goals as goal
 
 pub loop-page-init : goal.loop-page-init
-loop-page-init c = lowest-zero _
+loop-page-init c =
+    none_below (world c.args.store.now) (path c.args.store.now c.args.space) c.args.from c.first_page-page.result c.first_page-page.ensures.low
 
 pub returns-then-is_some : goal.returns-then-is_some
 returns-then-is_some c =
