@@ -8,7 +8,7 @@ use Rattle.fk_waits_lists.specs.Chains.{AllAre, AreApart, IsNoneOf}
 use Rattle.fk_waits_lists.specs.Nodes.{prev_of, shown_at, AreDisjoint, IsListed}
 use Rattle.fk_waits_lists.specs.declared.lists.Node.{Node}
 use Rattle.fk_waits_lists.proofs.Chains.{apart-append}
-use Rattle.fk_waits_queues.specs.Places.{in_queue, AllFiled, AreFiled, AreLines, IsFiled, IsHead, IsKept, Place}
+use Rattle.fk_waits_queues.specs.Places.{in_queue, AllFiled, AreFiled, AreLines, IsHead, Place}
 use Rattle.fk_waits_queues.specs.declared.queues.Queues.{Queues}
 use Rattle.fk_waits_queues.proofs.Places.{differs, keys_split, line_at, lines_joined, none_in_queue, one_head, IsAt}
 use Rattle.fk_waits_queues.proofs.Standing.{last_there, there_by}

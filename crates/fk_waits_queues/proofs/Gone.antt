@@ -1,5 +1,5 @@
 -- Gone: where threads stand after one has gone.
-use Rattle.std.proofs.Common.{◌≡◌, ◌≢◌, ℕ, List, [], ◌∷◌, ◌++◌, map, Option, Some, None, is_some, refl, sym, ap, subst, ◌∙◌}
+use Rattle.std.proofs.Common.{◌≡◌, ◌≢◌, ℕ, List, [], ◌∷◌, ◌++◌, map, Option, Some, None, is_some, sym, ap, subst, ◌∙◌}
 use Rattle.slab.specs.Slab.{Slab}
 use Rattle.fk_model.specs.declared.names.Who.{Who}
 use Rattle.fk_waits_lists.specs.Chains.{AreApart, IsNoneOf}

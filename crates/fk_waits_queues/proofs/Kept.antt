@@ -2,7 +2,7 @@
 use Rattle.std.proofs.Common.{◌≡◌, ℕ, List, [], ◌∷◌, map, refl, sym, subst}
 use Rattle.slab.specs.Slab.{Slab}
 use Rattle.fk_waits_lists.specs.Chains.{IsList}
-use Rattle.fk_waits_lists.specs.Nodes.{next_of, prev_of, shown_at, IsListed}
+use Rattle.fk_waits_lists.specs.Nodes.{next_of, prev_of, IsListed}
 use Rattle.fk_waits_lists.specs.declared.lists.Node.{Node}
 use Rattle.fk_waits_lists.proofs.Chains.{same_everywhere}
 use Rattle.fk_waits_queues.specs.Places.{in_queue, AllFiled, AreFiled, Place}

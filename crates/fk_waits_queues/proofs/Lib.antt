@@ -4,3 +4,5 @@ pub mod Turned
 pub mod Gone
 pub mod Come
 pub mod Kept
+pub mod Heads
+pub mod Walk

@@ -1,10 +1,10 @@
 -- Places: what queues hold after a thread left one, and after it joined one.
 use Rattle.std.proofs.Common.{◌≡◌, ◌≢◌, ◌==◌, ℕ, Bool, true, false, List, [], ◌∷◌, ◌++◌, map}
-use Rattle.std.proofs.Common.{Option, Some, None, option_map, IsSome, if◌then◌else◌, refl, sym, ap, subst, ◌∙◌, eq-eqb}
+use Rattle.std.proofs.Common.{Option, Some, None, if◌then◌else◌, refl, sym, ap, subst, ◌∙◌, eq-eqb}
 use Rattle.std.proofs.lemmas.Bool.{eqb-true}
 use Rattle.slab.specs.Slab.{Slab}
 use Rattle.fk_model.specs.declared.names.Who.{Who}
-use Rattle.fk_waits_lists.specs.Chains.{AllAre, AreApart, IsNoneOf}
+use Rattle.fk_waits_lists.specs.Chains.{AllAre, IsNoneOf}
 use Rattle.fk_waits_lists.specs.Nodes.{first_of, shown_at, AreDisjoint, IsListed}
 use Rattle.fk_waits_lists.specs.declared.lists.Node.{Node}
 use Rattle.fk_waits_queues.specs.Places.{first_at, in_queue, who_shown, AllFiled, AreLines, IsFiled, IsHead, Place}

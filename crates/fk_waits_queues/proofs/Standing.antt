@@ -1,5 +1,5 @@
 -- Standing: nodes that are there, before and after a step that leaves what nodes show.
-use Rattle.std.proofs.Common.{◌≡◌, ◌≢◌, ℕ, List, [], ◌∷◌, ◌++◌, Option, Some, None, option_map, is_some, IsSome, refl, sym, ap, subst, ◌∙◌}
+use Rattle.std.proofs.Common.{◌≡◌, ◌≢◌, ℕ, List, [], ◌∷◌, ◌++◌, Option, Some, None, option_map, is_some, IsSome, refl, sym, ap, ◌∙◌}
 use Rattle.slab.specs.Slab.{Slab, get, ContainsKey}
 use Rattle.fk_model.specs.declared.names.Who.{Who}
 use Rattle.fk_waits_lists.specs.Chains.{AllAre, AreApart, IsNoneOf}

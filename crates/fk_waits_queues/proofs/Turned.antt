@@ -1,5 +1,5 @@
 -- Turned: where threads stand after one has turned to another queue.
-use Rattle.std.proofs.Common.{◌≡◌, ◌≢◌, ℕ, List, [], ◌∷◌, ◌++◌, map, Option, Some, None, option_map, is_some, IsSome, refl, sym, ap, subst, ◌∙◌, eq-eqb}
+use Rattle.std.proofs.Common.{◌≡◌, ◌≢◌, ℕ, List, [], ◌∷◌, ◌++◌, map, Option, Some, None, option_map, is_some, refl, sym, ap, subst, ◌∙◌, eq-eqb}
 use Rattle.slab.specs.Slab.{Slab, get, ContainsKey}
 use Rattle.fk_model.specs.declared.names.Who.{Who}
 use Rattle.fk_waits_lists.specs.Chains.{AllAre, AreApart, IsNoneOf}

@@ -1,9 +1,9 @@
 -- Places: where threads stand, and that queues hold them.
-use Rattle.std.specs.Prelude.{◌≡◌, ℕ, ◌==◌, List, [], ◌∷◌, ◌++◌, map, Option, Some, None, IsSome, if◌then◌else◌}
+use Rattle.std.specs.Prelude.{◌≡◌, ℕ, zero, suc, ◌==◌, List, [], ◌∷◌, ◌++◌, map, Option, Some, None, IsSome, if◌then◌else◌}
 use Rattle.slab.specs.Slab.{Slab, ContainsKey}
 use Rattle.fk_model.specs.declared.names.Who.{Who}
 use Rattle.fk_waits_lists.specs.Chains.{AllAre, AreApart}
-use Rattle.fk_waits_lists.specs.Nodes.{shown_at, IsListed}
+use Rattle.fk_waits_lists.specs.Nodes.{next_of, shown_at, IsListed}
 use Rattle.fk_waits_lists.specs.declared.lists.Node.{Node}
 use Rattle.fk_waits_queues.specs.declared.queues.Queues.{Queues}
 
@@ -64,6 +64,35 @@ pub record IsKept (q : Queues) : Type 0 where
 abbrev pub node_in : Option (Who × ℕ) → ℕ
 node_in None = 0
 node_in (Some shown) = shown.1
+
+-- the name that a node shows
+abbrev pub who_in : Option (Who × ℕ) → Who
+who_in None = record { space = 0; slot = 0 }
+who_in (Some shown) = shown.0
+
+-- the place of the thread with a node in the order, as the nodes show it
+abbrev pub place_at : Queues → ℕ → Place
+place_at q key = record {
+  key = key;
+  node = node_in (shown_at q.order key);
+  who = who_in (shown_at q.order key);
+  head = node_in (shown_at q.lines (node_in (shown_at q.order key)));
+}
+
+-- the places of so many threads that come behind a node of the order
+abbrev pub places_from : Queues → ℕ → ℕ → List Place
+places_from q zero at = []
+places_from q (suc n) at = place_at q (next_of q.order at) ∷ places_from q n (next_of q.order at)
+
+-- the heads are the same, and show what they did
+pub record SameHeads (old new : Slab Node) : Type 0 where
+  pub kept : (h : ℕ) → IsHead old h → shown_at new h ≡ shown_at old h
+  pub none : (h : ℕ) → IsHead new h → IsHead old h
+
+-- there is room for as many nodes as before
+pub record SameRoom (old new : Queues) : Type 0 where
+  pub order : new.order.capacity ≡ old.order.capacity
+  pub lines : new.lines.capacity ≡ old.lines.capacity
 
 -- a node stands in the list of a head, whose nodes are there
 pub record StandsIn (nodes : Slab Node) (head node : ℕ) : Type 0 where

@@ -2,7 +2,8 @@
 //!
 //! It stands on `fk_waits_lists`, `slab` and `fk_model`. A queue is its head, a node with a name. A caller sees the places of the threads as one
 //! list in order, of which `AreFiled` says that it is this one. It promises that a thread that comes, or turns to another queue, stands last, that
-//! the others keep their order, and that who is first in a queue is told.
+//! the others keep their order, also where one goes or a thread or a queue has another name, and that who is first in a queue is told. What nodes
+//! there are and for how many there is room is exact, so who stands above can promise that a queue and a place are there when they are wanted.
 #![tactic(auto)]
 
 mod queues;

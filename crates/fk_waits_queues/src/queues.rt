@@ -1,11 +1,11 @@
 //! Queues.
-ghost use Rattle.std.specs.Prelude.{◌≡◌, ℕ, List, [], ◌∷◌, ◌++◌};
+ghost use Rattle.std.specs.Prelude.{◌≡◌, ◌+◌, ◌≤◌, ℕ, List, [], ◌∷◌, ◌++◌};
 ghost use Rattle.std.specs.Prelude.{◌≢◌, Some, None, IfOk, OnOk};
-ghost use Rattle.slab.specs.Slab.{HasRoomFor};
+ghost use Rattle.slab.specs.Slab.{slab_len, HasRoomFor};
 ghost use Rattle.fk_waits_lists.specs.Chains.{IsNoneOf};
 ghost use Rattle.fk_waits_lists.specs.Nodes.{shown_at, IsListed, ShowsAs};
-ghost use Rattle.fk_waits_queues.specs.Places.{first_at, in_queue, AllFiled, AreFiled, AreLines, HasLine};
-ghost use Rattle.fk_waits_queues.specs.Places.{HasPlace, IsHead, IsKept, Place, StandsIn, node_in, who_shown};
+ghost use Rattle.fk_waits_queues.specs.Places.{first_at, in_queue, place_at, AllFiled, AreFiled, AreLines, HasLine};
+ghost use Rattle.fk_waits_queues.specs.Places.{HasPlace, IsHead, IsKept, Place, SameHeads, SameRoom, StandsIn, node_in, who_shown};
 
 use fk_model::{NoMemory, Who};
 use fk_waits_lists::{Node, alone, first, join, leave, remove, show};
@@ -33,6 +33,8 @@ fn go_last(nodes: &mut Slab<Node>, head: usize, node: usize)
 /// A thread's node leaves its queue, for it belongs to another one.
 fn turn_from(lines: &mut Slab<Node>, node: usize, who: Who, head: usize)
     requires { HasLine lines.old node }
+    ensures len { slab_len lines.new ≡ slab_len lines.old }
+    ensures capacity { lines.new.capacity ≡ lines.old.capacity }
     ensures shown { shown_at lines.new node ≡ Some (who, head) }
     ensures others { (m : ℕ) → m ≢ node → shown_at lines.new m ≡ shown_at lines.old m }
     ensures lines { (order : _) (a b : List Place) (p : Place) → AllFiled order lines.old (a ++ p ∷ b) → AreLines lines.old (a ++ p ∷ b) → p.node ≡ node
@@ -45,6 +47,8 @@ fn turn_from(lines: &mut Slab<Node>, node: usize, who: Who, head: usize)
 /// A node leaves its list, and goes.
 fn take_out(nodes: &mut Slab<Node>, head: usize, node: usize)
     requires { StandsIn nodes.old head node }
+    ensures len { slab_len nodes.new + 1 ≡ slab_len nodes.old }
+    ensures capacity { nodes.new.capacity ≡ nodes.old.capacity }
     ensures others { (m : ℕ) → m ≢ node → shown_at nodes.new m ≡ shown_at nodes.old m }
     ensures left { (l k : List ℕ) → IsListed nodes.old head (l ++ node ∷ k) → IsListed nodes.new head (l ++ k) }
 {
@@ -55,6 +59,8 @@ fn take_out(nodes: &mut Slab<Node>, head: usize, node: usize)
 /// A thread's node leaves its queue, and goes.
 fn leave_line(lines: &mut Slab<Node>, node: usize)
     requires { HasLine lines.old node }
+    ensures len { slab_len lines.new + 1 ≡ slab_len lines.old }
+    ensures capacity { lines.new.capacity ≡ lines.old.capacity }
     ensures gone { shown_at lines.new node ≡ None }
     ensures others { (m : ℕ) → m ≢ node → shown_at lines.new m ≡ shown_at lines.old m }
     ensures lines { (order : _) (a b : List Place) (p : Place) → AllFiled order lines.old (a ++ p ∷ b) → AreLines lines.old (a ++ p ∷ b) → p.node ≡ node
@@ -71,6 +77,16 @@ fn who_at(lines: &Slab<Node>, node: usize) -> Option<Who>
     Some(lines.get(node)?.who)
 }
 
+/// The number that a node shows.
+fn number_at(lines: &Slab<Node>, node: usize) -> usize
+    ensures { result ≡ node_in (shown_at lines.now node) }
+{
+    match lines.get(node) {
+        Some(node) => node.at,
+        None => 0,
+    }
+}
+
 impl Queues {
     /// No thread and no queue.
     ///
@@ -78,7 +94,10 @@ impl Queues {
     ///
     /// There is no memory for the first node.
     pub fn new(alloc: Global) -> Result<Queues, NoMemory>
-        ensures { IfOk result (λ q. AreFiled q []) }
+        ensures filed { IfOk result (λ q. AreFiled q []) }
+        ensures order { IfOk result (λ q. slab_len q.order ≡ 1) }
+        ensures lines { IfOk result (λ q. slab_len q.lines ≡ 0) }
+        ensures heads { IfOk result (λ q. (h : ℕ) → shown_at q.lines h ≡ None) }
     {
         let mut order = Slab::new(alloc);
         if order.reserve(1).is_err() {
@@ -101,6 +120,9 @@ impl Queues {
         ensures order { OnOk result (HasRoomFor self.new.order more) }
         ensures lines { OnOk result (HasRoomFor self.new.lines more) }
         ensures kept { (l : List Place) → AreFiled self.old l → AreFiled self.new l }
+        ensures shown { (h : ℕ) → shown_at self.new.lines h ≡ shown_at self.old.lines h }
+        ensures len { (slab_len self.new.order ≡ slab_len self.old.order) × (slab_len self.new.lines ≡ slab_len self.old.lines) }
+        ensures room { (self.old.order.capacity ≤ self.new.order.capacity) × (self.old.lines.capacity ≤ self.new.lines.capacity) }
     {
         if self.order.reserve(more).is_err() {
             return Err(NoMemory);
@@ -114,8 +136,12 @@ impl Queues {
     /// A new queue with a name.
     pub fn open(&mut self, name: Who) -> usize
         requires { HasRoomFor self.old.lines 1 }
+        ensures new { shown_at self.old.lines result ≡ None }
         ensures head { shown_at self.new.lines result ≡ Some (name, result) }
+        ensures others { (m : ℕ) → m ≢ result → shown_at self.new.lines m ≡ shown_at self.old.lines m }
         ensures kept { (l : List Place) → AreFiled self.old l → AreFiled self.new l }
+        ensures len { (slab_len self.new.order ≡ slab_len self.old.order) × (slab_len self.new.lines ≡ slab_len self.old.lines + 1) }
+        ensures room { SameRoom self.old self.new }
     {
         let head = alone(&mut self.lines, name, 0);
         show(&mut self.lines, head, name, head);
@@ -128,8 +154,11 @@ impl Queues {
         requires lines { HasRoomFor self.old.lines 1 }
         requires head { IsHead self.old.lines head }
         requires kept { IsKept self.old }
-        ensures { (l : List Place) → AreFiled self.old l
+        ensures filed { (l : List Place) → AreFiled self.old l
             → AreFiled self.new (l ++ record { key = result; node = node_in (shown_at self.new.order result); who = who; head = head } ∷ []) }
+        ensures heads { SameHeads self.old.lines self.new.lines }
+        ensures len { (slab_len self.new.order ≡ slab_len self.old.order + 1) × (slab_len self.new.lines ≡ slab_len self.old.lines + 1) }
+        ensures room { SameRoom self.old self.new }
     {
         let node = alone(&mut self.lines, who, head);
         join(&mut self.lines, head, node);
@@ -142,8 +171,11 @@ impl Queues {
     pub fn turn(&mut self, key: usize, head: usize)
         requires place { HasPlace self.old key }
         requires head { IsHead self.old.lines head }
-        ensures { (a b : List Place) (p : Place) → AreFiled self.old (a ++ p ∷ b) → p.key ≡ key
+        ensures filed { (a b : List Place) (p : Place) → AreFiled self.old (a ++ p ∷ b) → p.key ≡ key
             → AreFiled self.new ((a ++ b) ++ record p { head = head } ∷ []) }
+        ensures heads { SameHeads self.old.lines self.new.lines }
+        ensures len { (slab_len self.new.order ≡ slab_len self.old.order) × (slab_len self.new.lines ≡ slab_len self.old.lines) }
+        ensures room { SameRoom self.old self.new }
     {
         let Some(place) = self.order.get(key) else {
             return;
@@ -158,7 +190,10 @@ impl Queues {
     /// The thread with a node in the order goes.
     pub fn leave(&mut self, key: usize)
         requires { HasPlace self.old key }
-        ensures { (a b : List Place) (p : Place) → AreFiled self.old (a ++ p ∷ b) → p.key ≡ key → AreFiled self.new (a ++ b) }
+        ensures filed { (a b : List Place) (p : Place) → AreFiled self.old (a ++ p ∷ b) → p.key ≡ key → AreFiled self.new (a ++ b) }
+        ensures heads { SameHeads self.old.lines self.new.lines }
+        ensures len { (slab_len self.new.order + 1 ≡ slab_len self.old.order) × (slab_len self.new.lines + 1 ≡ slab_len self.old.lines) }
+        ensures room { SameRoom self.old self.new }
     {
         let Some(place) = self.order.get(key) else {
             return;
@@ -177,5 +212,61 @@ impl Queues {
             Some(node) => who_at(&self.lines, node),
             None => None,
         }
+    }
+
+    /// The thread with a node in the order has another name, and stands where it stood.
+    pub fn rename_thread(&mut self, key: usize, who: Who)
+        requires { HasPlace self.old key }
+        ensures filed { (a b : List Place) (p : Place) → AreFiled self.old (a ++ p ∷ b) → p.key ≡ key
+            → AreFiled self.new (a ++ record p { who = who } ∷ b) }
+        ensures heads { SameHeads self.old.lines self.new.lines }
+        ensures len { (slab_len self.new.order ≡ slab_len self.old.order) × (slab_len self.new.lines ≡ slab_len self.old.lines) }
+        ensures room { SameRoom self.old self.new }
+    {
+        let Some(place) = self.order.get(key) else {
+            return;
+        };
+        let node = place.at;
+        let head = number_at(&self.lines, node);
+        show(&mut self.order, key, who, node);
+        show(&mut self.lines, node, who, head);
+    }
+
+    /// A queue has another name.
+    pub fn rename_queue(&mut self, head: usize, name: Who)
+        requires { IsHead self.old.lines head }
+        ensures head { shown_at self.new.lines head ≡ Some (name, head) }
+        ensures others { (m : ℕ) → m ≢ head → shown_at self.new.lines m ≡ shown_at self.old.lines m }
+        ensures kept { (l : List Place) → AreFiled self.old l → AreFiled self.new l }
+        ensures len { (slab_len self.new.order ≡ slab_len self.old.order) × (slab_len self.new.lines ≡ slab_len self.old.lines) }
+        ensures room { SameRoom self.old self.new }
+    {
+        show(&mut self.lines, head, name, head);
+    }
+
+    /// A queue goes, in which nobody stands.
+    pub fn close(&mut self, head: usize)
+        requires { IsHead self.old.lines head }
+        ensures gone { shown_at self.new.lines head ≡ None }
+        ensures others { (m : ℕ) → m ≢ head → shown_at self.new.lines m ≡ shown_at self.old.lines m }
+        ensures kept { (l : List Place) → AreFiled self.old l → in_queue head l ≡ [] → AreFiled self.new l }
+        ensures len { (slab_len self.new.order ≡ slab_len self.old.order) × (slab_len self.new.lines + 1 ≡ slab_len self.old.lines) }
+        ensures room { SameRoom self.old self.new }
+    {
+        remove(&mut self.lines, head);
+    }
+
+    /// The queue of the thread with a node in the order, by its head.
+    pub fn queue_of(&self, key: usize) -> usize
+        ensures { result ≡ (place_at self.now key).head }
+    {
+        number_at(&self.lines, number_at(&self.order, key))
+    }
+
+    /// The name of a queue.
+    pub fn name_of(&self, head: usize) -> Option<Who>
+        ensures { result ≡ who_shown (shown_at self.now.lines head) }
+    {
+        who_at(&self.lines, head)
     }
 }

@@ -1,4 +1,4 @@
-use Rattle.std.proofs.Common.{◌++◌, sym, ◌∙◌}
+use Rattle.std.proofs.Common.{◌++◌, ◌∙◌}
 use Rattle.slab.specs.Slab.{ContainsKey}
 use Rattle.fk_waits_queues.specs.Places.{in_queue}
 use Rattle.fk_waits_queues.proofs.Places.{filed_middle, lines_left}

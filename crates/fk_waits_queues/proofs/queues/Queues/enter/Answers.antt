@@ -1,7 +1,8 @@
-use Rattle.std.proofs.Common.{Option, option_map, is_some, sym, ap, subst, ◌∙◌, ℕ}
+use Rattle.std.proofs.Common.{Option, option_map, is_some, ap, ◌∙◌, ℕ}
 use Rattle.fk_model.specs.declared.names.Who.{Who}
 use Rattle.fk_waits_lists.specs.declared.lists.Node.{Node}
 use Rattle.fk_waits_queues.proofs.Come.{filed_come, last_come, order_come, head_come}
+use Rattle.fk_waits_queues.proofs.Heads.{gone_away, heads_same, leads_away}
 use Rattle.fk_waits_queues.proofs.Standing.{there_by}
 use Rattle.fk_waits_queues.proofs.queues.Queues.enter.Goals as goal
 
@@ -35,8 +36,20 @@ join-requires-2-clause-last c =
     c.alone-node.ensures.lists free o c.alone-key.ensures.shown c.alone-key.ensures.others c.alone-key.ensures.lists in
     there.1
 
-pub returns : goal.returns
-returns c l filed =
+pub returns-clause-heads : goal.returns-clause-heads
+returns-clause-heads c =
+    let q = c.args.self.now in
+    let node = c.alone-node.result in
+    let t = c.join.new.nodes in
+    let shown = c.join.ensures.shown.shown in
+    let vacant = ap (λ (o : Option Node). option_map (λ (n : Node). (n.who, n.at)) o) c.alone-node.ensures.new in
+    let before = gone_away q.lines node vacant in
+    heads_same q.lines t node before
+    (leads_away t node c.args.head c.args.who (shown node ∙ c.alone-node.ensures.shown) (before c.args.head c.requires.head))
+    (λ m off. shown m ∙ c.alone-node.ensures.others m off)
+
+pub returns-clause-filed : goal.returns-clause-filed
+returns-clause-filed c l filed =
     let q = c.args.self.now in
     let node = c.alone-node.result in
     let key = c.alone-key.result in

@@ -1,4 +1,4 @@
-use Rattle.std.proofs.Common.{Some, ap, ◌∙◌}
+use Rattle.std.proofs.Common.{ap, ◌∙◌}
 use Rattle.fk_waits_queues.specs.Places.{in_queue}
 use Rattle.fk_waits_queues.proofs.Places.{first_shown, first_who}
 use Rattle.fk_waits_queues.proofs.queues.Queues.first.Goals as goal

@@ -16,3 +16,9 @@ returns-clause-kept c l filed =
     (λ m off. c.show.ensures.others m off ∙ c.alone-head.ensures.others m off)
     (c.show.ensures.lists c.alone-head.result [] c.alone-head.ensures.list)
     (λ h k is off. c.show.ensures.lists h k (c.alone-head.ensures.lists h k is off)) l filed
+
+pub returns-clause-new : goal.returns-clause-new
+returns-clause-new c = ap (λ (o : Option Node). option_map (λ (n : Node). (n.who, n.at)) o) c.alone-head.ensures.new
+
+pub returns-clause-others : goal.returns-clause-others
+returns-clause-others c m off = c.show.ensures.others m off ∙ c.alone-head.ensures.others m off
