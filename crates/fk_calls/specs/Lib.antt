@@ -2,3 +2,4 @@ pub mod Rows
 pub mod Doings
 pub mod Judgements
 pub mod Choices
+pub mod Sayings

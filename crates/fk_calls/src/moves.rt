@@ -295,7 +295,7 @@ fn attempt_judged(store: &mut Store, m: &Move, ask: &Ask) -> Result<Option<Told>
 }
 
 /// The port whose server a verdict tells something has a path of its own.
-fn apart(store: &Store, caller: Caller, verdict: &Verdict)
+pub fn apart(store: &Store, caller: Caller, verdict: &Verdict)
     requires fits { IsVerdict store.now caller verdict.now }
     ensures { Each (HasOwnPath (path store.now)) (hearer_of verdict.now) }
 {

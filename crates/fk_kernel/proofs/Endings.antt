@@ -1,5 +1,5 @@
 -- Endings: which native server has lost its client, by its port's name.
-use Rattle.std.proofs.Common.{◌≡◌, ◌≤◌, Bool, true, false, ◌&&◌, is_some, is_none, Option, Some, None, Result, Ok, Err, IfOk, IfSome, option_map, refl, sym, ap, subst, ◌∙◌}
+use Rattle.std.proofs.Common.{◌≡◌, ◌≤◌, Bool, true, false, ◌&&◌, is_some, is_none, Option, Some, None, Result, Ok, Err, IfOk, IfSome, IsSome, option_map, List, ℕ, refl, sym, ap, subst, ◌∙◌}
 use Rattle.std.specs.Bool.{OnTrue}
 use Rattle.fk_model.specs.declared.moves.Ask.{Ask}
 use Rattle.fk_model.specs.declared.moves.Ask.TheVariants as asks
@@ -16,14 +16,16 @@ use Rattle.fk_model.specs.Who.{event_of, named, space_born}
 use Rattle.fk_model.specs.World.{World}
 use Rattle.fk_model.proofs.walks.PlaceLaws.{same_path_eq}
 use Rattle.fk_store.specs.Contents.{Contents}
-use Rattle.fk_store.specs.Moves.{picked_by}
+use Rattle.fk_store.specs.Moves.{picked_by, said_by}
 use Rattle.fk_store.specs.Paths.{path, place}
 use Rattle.fk_store.specs.World.{world}
 use Rattle.fk_plans.specs.Hearers.{says_to, says_to_who}
 use Rattle.fk_endings.specs.Clients.{HasClient, LosesClient}
 use Rattle.fk_endings.proofs.Changes.{client-found, found-client}
 use Rattle.fk_calls.specs.declared.moves.Told.{Told}
+use Rattle.fk_calls.specs.declared.sayings.Sent.{Sent}
 use Rattle.fk_calls.specs.Judgements.{IsEnded, IsHeardBy, IsReadyMove, IsStepTo}
+use Rattle.fk_calls.specs.Sayings.{told_by}
 use Rattle.fk_kernel.specs.Events.{is_who, step_of, IsReadyEvent}
 
 module _ (m n : Contents) (valid : IsValid (world m)) (few : (world m).next ≤ depth) (kept : IsValid (world n)) (low : (world n).next ≤ depth) where
@@ -77,6 +79,11 @@ module _ (m n : Contents) (valid : IsValid (world m)) (few : (world m).next ≤ 
   ended-proceeded born true ended = λ port. rw (← born) (ended-exact None ended port)
   ended-proceeded born false ended = tt
 
+  -- of words for a native server
+  pub ended-said : (born : path m ≡ space_born (world m)) (o : Option Sent) → (IsSome o → IsEnded m n None) →
+      IsSome o → (port : Who) → has_ended (world m) (world n) (named (world m) port) ≡ false
+  ended-said born o ended some = λ port. rw (← born) (ended-exact None (ended some) port)
+
 -- ---- who hears what a move tells
 
 pub heard-tried : {E : Type 0} (m n : Contents) (move : Move) (ask : Ask) (born : path m ≡ space_born (world m)) (r : Result (Option Told) E) →
@@ -98,3 +105,23 @@ pub made-proceeded : (m n : Contents) (who : Who) (born : path m ≡ space_born 
     × (step_of (world m) (event_of (world m) asks.Run (record { who = who; pick = None })) ≡ record { world = world n; said = Nothing }))
 made-proceeded m n who born true made = rw (← born) made
 made-proceeded m n who born false made = tt
+
+-- ---- words for a native server, as an event
+
+module _ (m n : Contents) (who : Who) (words : List ℕ) (born : path m ≡ space_born (world m)) where
+  abbrev runs : Move
+  runs = record { who = who; pick = None }
+
+  pub made-said : (o : Option Sent) → IfSome o (λ sent. IsReadyMove m runs asks.Run × IsStepTo m runs asks.Run n (told_by sent words)) →
+      IfSome o (λ sent. IsReadyEvent (world m) (event_of (world m) asks.Run runs)
+      × (step_of (world m) (event_of (world m) asks.Run runs) ≡ record { world = world n; said = said_by (path n) (told_by sent words) }))
+  made-said (Some sent) made = rw (← born) made
+  made-said None made = tt
+
+  pub heard-said : (o : Option Sent) → IfSome o (λ sent. IsReadyMove m runs asks.Run × IsStepTo m runs asks.Run n (told_by sent words)) →
+      IfSome o (λ sent. IsHeardBy m n (told_by sent words)) → IfSome o (λ sent. (port : Who) →
+      says_to (step_of (world m) (event_of (world m) asks.Run runs)).said (named (world m) port) ≡ says_to_who (told_by sent words) port)
+  heard-said (Some sent) made heard = λ port.
+      subst (λ p. says_to (step (world m) (place p who) (picked_by p None) asks.Run).said (place p port) ≡ says_to_who (told_by sent words) port) born
+      (ap (λ (s : Step). says_to s.said (place (path m) port)) made.1 ∙ heard port)
+  heard-said None made heard = tt

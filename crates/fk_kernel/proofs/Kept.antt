@@ -1,5 +1,5 @@
 -- Kept: a fit step keeps a world valid.
-use Rattle.std.proofs.Common.{◌≡◌, ◌≤◌, Bool, true, false, refl, Option, Some, None, Result, Ok, Err, IfOk, IfSome, IfNone, OnErr, ap, subst}
+use Rattle.std.proofs.Common.{◌≡◌, ◌≤◌, ℕ, List, Bool, true, false, refl, Option, Some, None, Result, Ok, Err, IfOk, IfSome, IfNone, OnErr, ap, subst}
 use Rattle.std.specs.Bool.{OnTrue, OnFalse}
 use Rattle.fk_model.specs.declared.moves.Ask.{Ask}
 use Rattle.fk_model.specs.declared.moves.Ask.TheVariants as asks
@@ -14,7 +14,9 @@ use Rattle.fk_store.specs.Moves.{picked_by}
 use Rattle.fk_store.specs.Paths.{path, place}
 use Rattle.fk_store.specs.World.{world}
 use Rattle.fk_calls.specs.declared.moves.Told.{Told}
+use Rattle.fk_calls.specs.declared.sayings.Sent.{Sent}
 use Rattle.fk_calls.specs.Judgements.{is_fit_move, IsStepTo}
+use Rattle.fk_calls.specs.Sayings.{told_by}
 
 -- to run is fit
 run-fit : (m : Contents) (move : Move) → is_fit_move m move asks.Run ≡ true
@@ -47,3 +49,9 @@ pub kept-proceeded : (m n : Contents) (move : Move) (R : Type 0) (said : Said) �
     OnTrue b (R × IsStepTo m move asks.Run n said) → OnFalse b (n ≡ m) → IsValid (world n)
 kept-proceeded m n move R said valid few true made same = kept-made m n move asks.Run valid few (run-fit m move) said made.1
 kept-proceeded m n move R said valid few false made same = kept-same m n move asks.Run valid few (run-fit m move) same
+
+-- words for a native server
+pub kept-said : (m n : Contents) (move : Move) (words : List ℕ) (R : Type 0) → IsValid (world m) → (world m).next ≤ depth → (o : Option Sent) →
+    IfSome o (λ sent. R × IsStepTo m move asks.Run n (told_by sent words)) → IfNone o (n ≡ m) → IsValid (world n)
+kept-said m n move words R valid few (Some sent) made same = kept-made m n move asks.Run valid few (run-fit m move) (told_by sent words) made.1
+kept-said m n move words R valid few None made same = kept-same m n move asks.Run valid few (run-fit m move) same

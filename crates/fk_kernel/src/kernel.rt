@@ -12,6 +12,7 @@ ghost use Rattle.fk_store.specs.Paths.{place};
 ghost use Rattle.fk_store.specs.World.{world};
 ghost use Rattle.fk_plans.specs.Hearers.{says_to, says_to_who, IsPadded};
 ghost use Rattle.fk_calls.specs.Judgements.{IsReadyMove};
+ghost use Rattle.fk_calls.specs.Sayings.{told_by};
 ghost use Rattle.laws_prompt.specs.Events.{IsPrompt, IsCorrect};
 ghost use Rattle.laws_whole.specs.Runnable.{IsRunnable};
 ghost use Rattle.fk_model.specs.Endings.{has_ended};
@@ -19,7 +20,7 @@ ghost use Rattle.fk_kernel.specs.Kernels.{path_of, store_of, world_of, HasShapes
 ghost use Rattle.fk_kernel.specs.Events as events;
 ghost use Rattle.fk_kernel.specs.Events.{is_fit_event, is_who, AreNamed, IsAcceptReady, IsAnyReady, IsIdleBetween, IsIdleUpTo, IsLooked, IsMoveReady, IsReadyBesides, IsReadyEvent, may_lack, step_of};
 
-use fk_calls::Told;
+use fk_calls::{Sent, Told};
 use fk_model::{Ask, Move, NoMemory, Said, Who};
 use fk_store::Store;
 use std::marker::Model;
@@ -174,6 +175,28 @@ impl Kernel {
         let made = fk_calls::proceed(&mut self.store, who);
         self.store.names();
         made
+    }
+
+    /// Makes the next stage of the user in a slot, where that sends words to a native server and is ready: lays the words into the room, with
+    /// zeros behind them, and gives whom they are for; none where it isn't so, and then all stays as it is. No native server loses its client
+    /// by it.
+    pub fn say(&mut self, who: Who, room: &mut [u64; 64]) -> Option<Sent>
+        ensures made { IfSome result (λ sent.
+            IsReadyEvent (world_of self.old) (event_of (world_of self.old) Ask.Run (record { who = who; pick = None }))
+            × (step_of (world_of self.old) (event_of (world_of self.old) Ask.Run (record { who = who; pick = None }))
+            ≡ record { world = world_of self.new; said = said_by (path_of self.new) (told_by sent room.new) })) }
+        ensures ended { IsSome result → (port : Who) → has_ended (world_of self.old) (world_of self.new) (named (world_of self.old) port) ≡ false }
+        ensures told { IfSome result (λ sent. (port : Who) →
+            says_to (step_of (world_of self.old) (event_of (world_of self.old) Ask.Run (record { who = who; pick = None }))).said
+            (named (world_of self.old) port) ≡ says_to_who (told_by sent room.new) port) }
+        ensures padded { IfSome result (λ sent. IsPadded (told_by sent room.new)) }
+        ensures same { IfNone result (self.new ≡ self.old) }
+    {
+        self.store.names();
+        let sent = fk_calls::say(&mut self.store, who, room);
+        // And so they do in the world that the stage leaves.
+        self.store.names();
+        sent
     }
 
     /// A user's move that is ready. There is none exactly where no user's move is.

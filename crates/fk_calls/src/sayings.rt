@@ -1,0 +1,170 @@
+//! Words that a user sends to a native server, laid straight into the caller's room. What else a move may tell takes much room, which each call on
+//! the way clears and copies.
+ghost use Rattle.std.specs.Prelude.{◌≡◌, ◌≤◌, ◌+◌, ◌-◌, ℕ, [], None, IfSome, IfNone, IsSome, take, drop, replicate};
+ghost use Rattle.fk_model.specs.declared.moves.Ask.TheVariants as asks;
+ghost use Rattle.fk_model.specs.declared.moves.Said.TheVariants as says;
+ghost use Rattle.fk_model.specs.Moves.{closed, stepped};
+ghost use Rattle.fk_model.specs.Outcomes.Said.{Words as Told};
+ghost use Rattle.fk_model.specs.Places.{Path};
+ghost use Rattle.fk_model.specs.Places.Ptr.{At};
+ghost use Rattle.fk_model.specs.Reach.{words_at};
+ghost use Rattle.fk_model.specs.Valid.{IsValid};
+ghost use Rattle.fk_store.specs.Moves.{said_by};
+ghost use Rattle.fk_store.specs.Paths.{path, place};
+ghost use Rattle.fk_store.specs.World.{world, IsLive};
+ghost use Rattle.fk_plans.specs.Hearers.{IsPadded};
+ghost use Rattle.fk_plans.specs.Plans.{caller_by};
+ghost use Rattle.fk_plans.specs.Verdicts.{outcome_by, words_told, AreWords, IsVerdict};
+ghost use Rattle.fk_calls.specs.Judgements.{IsEnded, IsHeardBy, IsReadyMove, IsStepTo};
+ghost use Rattle.fk_calls.specs.Sayings.{told_by, verdict_of};
+
+use crate::judging::judge;
+use crate::moves::apart;
+use fk_model::{Ask, Move, Peer, Thread, Who};
+use fk_plans::{Caller, Deed, News, Plan, Verdict, Words, is_ready};
+use fk_store::Store;
+use fk_threads::{Answers, advance, count_moved, finish};
+
+/// So many words were sent to the native server of a port.
+#[derive(Clone, Copy)]
+pub struct Sent {
+    pub port: Who,
+    pub len: u8,
+}
+
+/// What a user's stage comes to that sends words of a page to a native server: the talk of a client has moved so many words more, and so has
+/// the first stage of a thread.
+#[derive(Clone, Copy)]
+pub struct Saying {
+    pub client: Who,
+    pub count: u8,
+    pub thread: Who,
+    pub shift: u8,
+    pub words: Words,
+    /// They are the last, so the stage is done then.
+    pub last: bool,
+}
+
+/// Makes the next stage of the user in a slot, where that sends words to a native server and is ready, lays the words into the room, with zeros
+/// behind them, and gives whom they are for; none where it isn't so, and then the store stays as it is. By such a stage no server
+/// loses its client.
+pub fn say(store: &mut Store, who: Who, room: &mut [u64; 64]) -> Option<Sent>
+    requires valid { IsValid (world store.old) }
+    ensures made { IfSome result (λ sent. IsReadyMove store.old (record { who = who; pick = None }) asks.Run
+        × IsStepTo store.old (record { who = who; pick = None }) asks.Run store.new (told_by sent room.new)) }
+    ensures ended { IsSome result → IsEnded store.old store.new None }
+    ensures heard { IfSome result (λ sent. IsHeardBy store.old store.new (told_by sent room.new)) }
+    ensures padded { IfSome result (λ sent. IsPadded (told_by sent room.new)) }
+    ensures same { IfNone result (store.new ≡ store.old) }
+{
+    if !may_say(store, who) {
+        return None;
+    }
+    let m = Move { who, pick: None };
+    let j = judge(store, &m, &Ask::Run)?;
+    let saying = saying_of(&j.verdict)?;
+    if !is_ready(store, j.caller, j.chooses, m.pick, &j.verdict) {
+        return None;
+    }
+    apart(store, j.caller, &j.verdict);
+    // Tells that names and paths agree.
+    store.names();
+    make(store, j.caller, &saying, room);
+    Some(Sent {
+        port: saying.words.port,
+        len: saying.words.count,
+    })
+}
+
+/// A call begins with a send in a talk with a native server. No other needs to be judged for it.
+fn may_say(store: &Store, who: Who) -> bool {
+    match store.thread(who) {
+        Some(thread) => matches!(thread.regs[0], 34 | 37) && is_served(thread),
+        None => false,
+    }
+}
+
+/// A thread is the client of a native server.
+fn is_served(thread: &Thread) -> bool {
+    match thread.talk {
+        Some(talk) => matches!(talk.peer, Peer::Service),
+        None => false,
+    }
+}
+
+/// A verdict that sends words so.
+fn saying_of(verdict: &Verdict) -> Option<Saying>
+    ensures { IfSome result (λ saying. verdict.now ≡ verdict_of saying) }
+{
+    let Verdict::Tells { plan, news, last } = verdict else {
+        return None;
+    };
+    let Plan::Two(first, second) = plan else {
+        return None;
+    };
+    let Deed::Counts { client, count } = first else {
+        return None;
+    };
+    let Deed::Shifts {
+        thread,
+        count: shift,
+    } = second
+    else {
+        return None;
+    };
+    let News::Words(words) = news else {
+        return None;
+    };
+    Some(Saying {
+        client: *client,
+        count: *count,
+        thread: *thread,
+        shift: *shift,
+        words: *words,
+        last: *last,
+    })
+}
+
+/// Makes what such words come to, and lays them into the room.
+#[tactic(auto, unfolding(fk_model::specs::World::apply_all))]
+fn make(store: &mut Store, caller: Caller, saying: &Saying, room: &mut [u64; 64])
+    requires live { IsLive store.old caller.who }
+    requires fits { IsVerdict store.old caller (verdict_of saying.now) }
+    ensures step { let c = caller_by (path store.old) caller [] in
+        stepped (world store.old) (closed c (outcome_by (world store.old) (path store.old) c (verdict_of saying.now)))
+        ≡ record { world = world store.new; said = said_by (path store.new) (says.Words saying.now.words.port room.new saying.now.words.count) } }
+    ensures padded { IsPadded (says.Words saying.now.words.port room.new saying.now.words.count) }
+{
+    show(store, &saying.words, room);
+    count_moved(store, saying.client, saying.count);
+    advance(store, saying.thread, u64::from(saying.shift));
+    if saying.last {
+        finish(store, caller.who, Answers::Nothing);
+    }
+}
+
+/// Lays words of a page that is there into the room.
+fn show(store: &Store, words: &Words, room: &mut [u64; 64])
+    requires { AreWords (path store.now) (world store.now) words.now }
+    ensures said { (p : ℕ → Path) → said_by p (says.Words words.now.port room.new words.now.count) ≡ Told
+        (At (place p words.now.port))
+        (take words.now.count (drop words.now.at (words_at (world store.now) (path store.now words.now.space) words.now.page))) }
+    ensures padded { IsPadded (says.Words words.now.port room.new words.now.count) }
+{
+    match store.page(words.space, words.page) {
+        Some(page) => lay(page, words.at, words.count, room),
+        None => unreachable!(),
+    }
+}
+
+/// So many words of a page from a place on are laid into the room. Past them all is 0, so that nobody hears more of the page.
+fn lay(page: &[u64; 64], at: u8, count: u8, room: &mut [u64; 64])
+    requires { at + count ≤ 64 }
+    ensures taken { take count room.new ≡ take count (drop at page.now) }
+    ensures padded { drop count room.new ≡ replicate (64 - count) 0 }
+{
+    let at = at as usize;
+    let count = count as usize;
+    *room = [0; 64];
+    room[..count].copy_from_slice(&page[at..at + count]);
+}
