@@ -39,11 +39,15 @@ impl Service for Console {
     fn absorb(&mut self, _table: &Table, heard: &Heard) {
         match heard {
             Heard::Taken { turn, .. } => self.side = side_at(*turn),
-            Heard::Words(reply) => self.words.extend_from_slice(words_of(reply)).unwrap(),
+            Heard::Words(reply) => self.take_words(words_of(reply)),
             Heard::Over => self.side = side_after(self.side),
             Heard::Given(_) => {}
             Heard::Ended => self.side = Side::Idle,
         }
+    }
+
+    fn take_words(&mut self, words: &[u64]) {
+        self.words.extend_from_slice(words).unwrap()
     }
 
     fn alias(&self) -> Option<&str> {

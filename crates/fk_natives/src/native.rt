@@ -42,6 +42,13 @@ impl Service for Native {
         }
     }
 
+    fn take_words(&mut self, words: &[u64]) {
+        match self {
+            Native::Console(console) => console.take_words(words),
+            Native::Server(server) => server.take_words(words),
+        }
+    }
+
     fn alias(&self) -> Option<&str> {
         match self {
             Native::Console(console) => console.alias(),

@@ -105,7 +105,7 @@ impl Service for Server {
                 self.request = EMPTY;
                 self.reply(table, usize::from(*moved));
             }
-            Heard::Words(more) => append(&mut self.request, words_of(more)),
+            Heard::Words(reply) => self.take_words(words_of(reply)),
             Heard::Over => match self.side {
                 Side::Client => self.reply(table, 0),
                 _ => self.rest(Side::Client),
@@ -113,6 +113,10 @@ impl Service for Server {
             Heard::Given(count) => self.left = without(&self.left, usize::from(*count)),
             Heard::Ended => self.rest(Side::Idle),
         }
+    }
+
+    fn take_words(&mut self, words: &[u64]) {
+        append(&mut self.request, words);
     }
 
     fn alias(&self) -> Option<&str> {

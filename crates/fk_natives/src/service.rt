@@ -1,6 +1,6 @@
 //! What native servers have in common.
-ghost use Rattle.std.specs.Prelude.{◌≡◌, Bool, map, true, Option, option_map, OnOk};
-ghost use Rattle.fk_natives.specs.Natives.{State, hears, news_of, DoesFit, asks_for, alias_of, printed_by, side_at, side_after};
+ghost use Rattle.std.specs.Prelude.{◌≡◌, ◌≤◌, Bool, length, map, true, Option, option_map, OnOk};
+ghost use Rattle.fk_natives.specs.Natives.{State, Words, hears, news_of, DoesFit, asks_for, alias_of, printed_by, side_at, side_after};
 
 use fk_model::{Ask, NoMemory, Reply, Turn, Who};
 use fk_responders::Table;
@@ -51,6 +51,12 @@ pub trait Service {
         requires fits { DoesFit (map (λ r. r.rule) table.now.list.items) (meaning self.old) }
         requires room { has_room self.old ≡ true }
         ensures { meaning self.new ≡ hears (meaning self.old) (news_of heard.now) };
+
+    /// Is told that its client has sent these words. That uses up its room.
+    fn take_words(&mut self, words: &[u64])
+        requires few { length words.now ≤ 64 }
+        requires room { has_room self.old ≡ true }
+        ensures { meaning self.new ≡ hears (meaning self.old) (Words words.now) };
 
     /// A console's alias. Others have none.
     fn alias(&self) -> Option<&str>
