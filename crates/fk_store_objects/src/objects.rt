@@ -6,7 +6,7 @@ ghost use Rattle.fk_model.specs.Objects.{and_then};
 ghost use Rattle.fk_store_keys.specs.Tables.{mark_at};
 ghost use Rattle.fk_store_slots.specs.Cells.{cell, is_from};
 ghost use Rattle.fk_store_objects.specs.declared.entry.Entry.{Entry};
-ghost use Rattle.fk_store_objects.specs.Filed.{entry_under, key_of, fresh};
+ghost use Rattle.fk_store_objects.specs.Filed.{entry_under, key_of, fresh, IsFiled};
 ghost use Rattle.fk_store_objects.specs.Edits.{Edits, Makes, Keeps, Removes, Renames, same_who, with_body, on_body, with_hints};
 ghost use Rattle.fk_store_objects.specs.Threads as threads;
 
@@ -221,6 +221,26 @@ impl Objects {
         ensures none { result ≡ None → (k : ℕ) → IsSome (cell self.now.keys space k) → k < slot }
     {
         self.keys.next_in(space, slot)
+    }
+
+    /// No object has this key, or one above it.
+    pub fn bound(&self) -> u32
+        ensures { (key : ℕ) → IsSome (entry_under self.now key) → key < result }
+    {
+        let most = self.entries.capacity();
+        if most < KEYS {
+            most as u32
+        } else {
+            KEYS as u32
+        }
+    }
+
+    /// Keys and names agree.
+    pub fn filed(&self)
+        ensures { IsFiled self.now }
+    {
+        // The type says it.
+        let _keys = &self.keys;
     }
 
     /// A space has no more than 256 slots.

@@ -1,5 +1,5 @@
 use Rattle.fk_store_links.proofs.NodeLaws.{next_within}
-use Rattle.fk_store_links.proofs.WalkLaws.{leaders_come, few_walked}
+use Rattle.fk_store_links.proofs.WalkLaws.{leaders_come, small_walk}
 use Rattle.fk_store_links.proofs.links.Links.walk.Goals as goal
 
 pub new-requires-clause-there : goal.new-requires-clause-there
@@ -11,4 +11,4 @@ returns-clause-all c = λ owner are.
     (leaders_come _ c.args.head c.requires.head (rw (← c.self.view_is) at c.requires.there) c.self.invariant owner (rw (← c.self.view_is) at are))
 
 pub returns-clause-few : goal.returns-clause-few
-returns-clause-few c = rw (c.new.ensures, ← c.self.view_is) (few_walked _ c.args.head _ _)
+returns-clause-few c = rw c.new.ensures (small_walk _ c.args.head _ c.self.invariant)
