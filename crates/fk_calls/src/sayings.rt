@@ -165,6 +165,6 @@ fn lay(page: &[u64; 64], at: u8, count: u8, room: &mut [u64; 64])
 {
     let at = at as usize;
     let count = count as usize;
-    *room = [0; 64];
     room[..count].copy_from_slice(&page[at..at + count]);
+    room[count..].fill(0);
 }
