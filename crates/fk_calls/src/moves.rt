@@ -110,6 +110,25 @@ pub fn attempt(store: &mut Store, m: &Move, ask: &Ask) -> Result<Option<Told>, N
     ensures sure { may_lack store.old m.now ask.now ≡ false → IsOk result }
 {
     match ask {
+        Ask::Call { .. } => attempt_judged(store, m, ask),
+        Ask::Run | Ask::Accept | Ask::Give { .. } | Ask::Over => attempt_other(store, m, ask),
+    }
+}
+
+/// The same, of a move of a user or a native server. It stands apart, since a porter's call needs none of the room for what these tell.
+#[inline(never)]
+fn attempt_other(store: &mut Store, m: &Move, ask: &Ask) -> Result<Option<Told>, NoMemory>
+    requires valid { IsValid (world store.old) }
+    requires fit { is_fit_move store.old m.now ask.now ≡ true }
+    ensures made { IfOk result (λ tried. IfSome tried (λ told. IsReadyMove store.old m.now ask.now × IsStepTo store.old m.now ask.now store.new told.said)) }
+    ensures ended { IfOk result (λ tried. IfSome tried (λ told. IsEnded store.old store.new told.ended)) }
+    ensures heard { IfOk result (λ tried. IfSome tried (λ told. IsHeardBy store.old store.new told.said)) }
+    ensures padded { IfOk result (λ tried. IfSome tried (λ told. IsPadded told.said)) }
+    ensures unready { IfOk result (λ tried. IfNone tried ((IsReadyMove store.old m.now ask.now → ⊥) × (store.new ≡ store.old))) }
+    ensures lacking { OnErr result (IsReadyMove store.old m.now ask.now × (store.new ≡ store.old)) }
+    ensures sure { may_lack store.old m.now ask.now ≡ false → IsOk result }
+{
+    match ask {
         Ask::Accept | Ask::Give { .. } | Ask::Over => return Ok(attempt_act(store, m, ask)),
         Ask::Run | Ask::Call { .. } => {}
     }

@@ -2,7 +2,7 @@ use Rattle.std.proofs.Common.{[]}
 use Rattle.fk_store.specs.Paths.{path, place}
 use Rattle.fk_store.specs.World.{world}
 use Rattle.fk_calls.proofs.Judged.{instruction_judged, running_there}
-use Rattle.fk_calls.proofs.moves.attempt.Goals as goal
+use Rattle.fk_calls.proofs.moves.attempt_other.Goals as goal
 
 pub attempt_instruction-requires : goal.attempt_instruction-requires
 attempt_instruction-requires c =
