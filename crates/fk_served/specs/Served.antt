@@ -1,5 +1,5 @@
 -- Native servers, each by its port: what they ask for, and what each hears of a move.
-use Rattle.std.specs.Prelude.{◌≡◌, Bool, true, List, [], ◌∷◌, map, take, Option, Some, None, if◌then◌else◌}
+use Rattle.std.specs.Prelude.{◌≡◌, ℕ, Bool, true, List, [], ◌∷◌, map, take, Option, Some, None, if◌then◌else◌}
 use Rattle.std.specs.List.{All}
 use Rattle.fk_model.specs.declared.moves.Ask.{Ask}
 use Rattle.fk_model.specs.declared.moves.Ask.TheVariants as asks
@@ -108,6 +108,13 @@ news_to said ended who = if is_who ended who then Some natives.Ended else said_t
 
 abbrev pub told : says_of.Said → Option Who → Who × State → Who × State
 told said ended served = (served.0, after_news (news_to said ended served.0) served.1)
+
+-- the server of a port alone hears these words
+abbrev pub words_at_port : Who → List ℕ → Who → Option News
+words_at_port port words who = if same_who who port then Some (natives.Words words) else None
+
+abbrev pub sent_at_port : Who → List ℕ → Who × State → Who × State
+sent_at_port port words served = (served.0, after_news (words_at_port port words served.0) served.1)
 
 -- ---- what they rest on
 

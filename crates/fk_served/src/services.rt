@@ -1,16 +1,17 @@
 //! The native servers of a machine, each by its port.
-ghost use Rattle.std.specs.Prelude.{◌≡◌, ◌<◌, true, Some, length, map, option_map, OnOk, IfSome};
+ghost use Rattle.std.specs.Prelude.{◌≡◌, ◌<◌, ◌≤◌, true, Some, None, length, map, option_map, OnOk, IfSome};
 ghost use Rattle.std.specs.List.{slice_get};
 ghost use Rattle.fk_model.specs.Whole.{are_words};
 ghost use Rattle.laws_whole.specs.Runnable.{has_all_words};
-ghost use Rattle.fk_served.specs.Served.{asked_of, serving, told, news_to, after_news, gives_words, AllFit, shown, HaveRoom};
+ghost use Rattle.fk_served.specs.Served.{asked_of, serving, told, news_to, after_news, gives_words, words_at_port, sent_at_port, AllFit, shown, HaveRoom};
 ghost use Rattle.fk_natives.specs.Natives.{DoesFit};
+ghost use Rattle.fk_model.specs.declared.moves.Said.TheVariants as says;
 
 use crate::told::{heard_by, is_telling, is_told};
 use fk_kernel::Told;
-use fk_model::{Ask, NoMemory, Who};
+use fk_model::{Ask, NoMemory, Reply, Who};
 use fk_natives::Service;
-use fk_responders::Table;
+use fk_responders::{Table, words_of};
 use std::marker::Model;
 
 /// The native servers of a machine, each by its port. What one is told needs room, which is made before a
@@ -111,6 +112,29 @@ fn tell_in<S: Service>(list: &mut Vec<(Who, S)>, table: &Table, what: &Told)
     }
 }
 
+/// Tells a server that its client has sent these words, if its port is this one.
+fn say_one<S: Service>(entry: &mut (Who, S), port: Who, words: &[u64])
+    requires few { length words.now ≤ 64 }
+    requires room { S.has_room entry.old.1 ≡ true }
+    ensures who { entry.new.0 ≡ entry.old.0 }
+    ensures told { S.meaning entry.new.1 ≡ after_news (words_at_port port words.now entry.old.0) (S.meaning entry.old.1) }
+{
+    if entry.0 == port {
+        entry.1.take_words(words);
+    }
+}
+
+/// Tells the server of a port that its client has sent these words.
+fn say_in<S: Service>(list: &mut Vec<(Who, S)>, port: Who, words: &[u64])
+    requires few { length words.now ≤ 64 }
+    requires room { HaveRoom S.has_room list.old.items }
+    ensures { shown S.meaning list.new.items ≡ map (sent_at_port port words.now) (shown S.meaning list.old.items) }
+{
+    for at in 0..list.len() {
+        say_one(&mut list[at], port, words);
+    }
+}
+
 impl<S: Service + Drop> Services<S> {
     /// Servers by their ports.
     pub fn of(list: Vec<(Who, S)>) -> Services<S>
@@ -160,6 +184,15 @@ impl<S: Service + Drop> Services<S> {
             self.used = true;
             tell_in(&mut self.list, table, what);
         }
+    }
+
+    /// Tells the server of a port that its client has sent the first words of these.
+    pub fn hear_words(&mut self, port: Who, sent: &Reply)
+        requires ready { self.old.ready ≡ true }
+        ensures { self.new.list ≡ map (told (says.Words port sent.now.words sent.now.len) None) self.old.list }
+    {
+        self.used = true;
+        say_in(&mut self.list, port, words_of(sent));
     }
 
     /// How many there are.
