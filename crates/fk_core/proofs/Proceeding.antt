@@ -1,8 +1,9 @@
 -- Proceeding: an instruction is a turn, and one move after another.
-use Rattle.std.proofs.Common.{◌≡◌, ℕ, ◌+◌, ◌<◌, false, length, is_some, Option, Some, None, refl, sym, ap, ◌∙◌}
+use Rattle.std.proofs.Common.{◌≡◌, ℕ, ◌+◌, ◌<◌, false, length, map, is_some, Option, Some, None, refl, sym, ap, ◌∙◌}
 use Rattle.std.specs.List.{slice_get}
 use Rattle.fk_model.specs.declared.moves.Ask.TheVariants as asks
 use Rattle.fk_model.specs.declared.moves.Move.{Move}
+use Rattle.fk_model.specs.declared.moves.Said as says_of
 use Rattle.fk_model.specs.declared.moves.Said.TheVariants as says
 use Rattle.fk_model.specs.declared.names.Who.{Who}
 use Rattle.fk_model.specs.Endings.{has_ended}
@@ -10,18 +11,40 @@ use Rattle.fk_model.specs.Moves.{Step}
 use Rattle.fk_model.specs.Outcomes.Said.{Nothing}
 use Rattle.fk_model.specs.Who.{named, event_of}
 use Rattle.fk_store.specs.Contents.{Contents}
+use Rattle.fk_store.specs.Moves.{said_by}
+use Rattle.fk_store.specs.Paths.{path}
 use Rattle.fk_store.specs.World.{world}
 use Rattle.laws_runs.specs.Cores.{Settles}
 use Rattle.laws_runs.specs.Cores.Settles.{Stays}
 use Rattle.fk_jobs.specs.Jobs.{Queue, current}
 use Rattle.fk_kernel.specs.Events.{IsReadyEvent, is_who, step_of}
 use Rattle.fk_plans.specs.Hearers.{says_to, says_to_who}
-use Rattle.fk_served.specs.Served.{Services}
+use Rattle.fk_served.specs.Served.{Services, told}
 use Rattle.fk_core.specs.Cores.{RunCore, house, core_at, porter_of, is_porter, IsAdvanced}
 use Rattle.fk_served.proofs.Acts.{runs}
 use Rattle.fk_core.proofs.Asking.{asks_other, others_ready}
 use Rattle.fk_served.proofs.Lists.{untold}
 use Rattle.fk_core.proofs.Turning.{turned}
+
+-- the next stage of a user that tells this, and ends no talk with a native server
+pub spoken : (m n : Contents) (services new : Services) (q : Queue) (budget events : ℕ) (who : Who) (said : says_of.Said) (d : RunCore) →
+    events < budget → is_porter q who ≡ false →
+    IsReadyEvent (world m) (event_of (world m) asks.Run (record { who = who; pick = None }))
+    × (step_of (world m) (event_of (world m) asks.Run (record { who = who; pick = None })) ≡ record { world = world n; said = said_by (path n) said }) →
+    ((port : Who) → has_ended (world m) (world n) (named (world m) port) ≡ false) →
+    ((port : Who) → says_to (step_of (world m) (event_of (world m) asks.Run (record { who = who; pick = None }))).said (named (world m) port)
+    ≡ says_to_who said port) →
+    new ≡ map (told said None) services →
+    Settles (house q.jobs) (core_at n new q (events + 1)) d → d.events ≡ events + 1 →
+    IsAdvanced q.jobs budget (core_at m services q events) (Some (record { who = who; pick = None })) d
+spoken m n services new q budget events who said d few other made ends tells heard settles count =
+    let mv : Move = record { who = who; pick = None } in
+    let as_others = asks_other q (world m) services events who asks.Run other (runs services (world m) who None made.0) refl in (
+      few,
+      others_ready q (world m) services events mv (asks.Run, as_others, made.0),
+      turned m n services new q events mv asks.Run said None d as_others made.1 ends tells heard settles,
+      count,
+    )
 
 pub proceeded : (m n : Contents) (services : Services) (q : Queue) (budget events : ℕ) (who : Who) (d : RunCore) → events < budget → is_porter q who ≡ false →
     IsReadyEvent (world m) (event_of (world m) asks.Run (record { who = who; pick = None }))
@@ -30,14 +53,7 @@ pub proceeded : (m n : Contents) (services : Services) (q : Queue) (budget event
     Settles (house q.jobs) (core_at n services q (events + 1)) d → d.events ≡ events + 1 →
     IsAdvanced q.jobs budget (core_at m services q events) (Some (record { who = who; pick = None })) d
 proceeded m n services q budget events who d few other made ends settles count =
-    let mv : Move = record { who = who; pick = None } in
-    let as_others = asks_other q (world m) services events who asks.Run other (runs services (world m) who None made.0) refl in (
-      few,
-      others_ready q (world m) services events mv (asks.Run, as_others, made.0),
-      turned m n services services q events mv asks.Run says.Nothing None d as_others made.1 ends tells
-          (untold says.Nothing None (λ who. refl) services) settles,
-      count,
-    )
+    spoken m n services services q budget events who says.Nothing d few other made ends tells (untold says.Nothing None (λ who. refl) services) settles count
   where
     tells : (port : Who) → says_to (step_of (world m) (event_of (world m) asks.Run (record { who = who; pick = None }))).said (named (world m) port)
         ≡ says_to_who says.Nothing port

@@ -16,6 +16,7 @@ ghost use Rattle.fk_core.specs.Cores.{house};
 use crate::turns::Core;
 use fk_jobs::Worker;
 use fk_kernel::Look;
+use fk_links::connecting_to;
 use fk_model::{Ask, Move, NoMemory, Who};
 use fk_natives::Service;
 use fk_responders::Table;
@@ -23,8 +24,8 @@ use fk_responders::Table;
 /// After so many moves the look goes round.
 const ROUND: u64 = 64;
 
-/// So many names, and so many servers, are looked at before the move is taken of a job whose time has come.
-const FEW: u32 = 16;
+/// So many names, and so many servers besides who is met, are looked at before the move is taken of a job whose time has come.
+const FEW: u32 = 4;
 
 impl<S: Service + Drop, W: Worker + Drop> Core<S, W> {
     /// The act of a server that picks nobody, where it is ready.
@@ -115,8 +116,33 @@ impl<S: Service + Drop, W: Worker + Drop> Core<S, W> {
     {
         match self.user() {
             Some(m) => Some(m),
-            None => self.act_between(0, self.services.len()),
+            None => self.find_act(self.services.len()),
         }
+    }
+
+    /// A server's act that is ready: of the one at whose port the thread that moved last is at its connect, or else of any up to a place.
+    fn find_act(&self, to: usize) -> Option<Move>
+        requires { to ≤ length self.now.services.list }
+        ensures ready { IfSome result (λ m. IsReadyMove self.now.jobs.jobs (run_core self.now) m) }
+        ensures other { IfSome result (λ m. IsOthersMove self.now.jobs.jobs (run_core self.now) m) }
+        ensures none { IfNone result (HaveNoActs self.now.jobs (run_core self.now) 0 to) }
+    {
+        match self.met() {
+            Some(m) => Some(m),
+            None => self.act_between(0, to),
+        }
+    }
+
+    /// A ready act of the server at whose port the thread that moved last is at its connect. So most who come are met, however many servers
+    /// nobody comes to.
+    fn met(&self) -> Option<Move>
+        ensures ready { IfSome result (λ m. IsReadyMove self.now.jobs.jobs (run_core self.now) m) }
+        ensures other { IfSome result (λ m. IsOthersMove self.now.jobs.jobs (run_core self.now) m) }
+    {
+        let who = self.last?;
+        let store = self.kernel.store();
+        let port = connecting_to(store, who, store.thread(who)?)?;
+        self.act_besides(port)
     }
 
     /// The move of the job whose turn it is, where it is due and ready.
@@ -197,11 +223,20 @@ impl<S: Service + Drop, W: Worker + Drop> Core<S, W> {
         }
     }
 
-    /// The thread that moved last, but at one move of 64 and where the budget is used.
+    /// Whether the look goes round: at one move of 64. While a job's moves take the even numbers, it does at the odd one behind.
+    fn is_round(&self) -> bool {
+        match self.events % ROUND {
+            0 => true,
+            1 => self.is_timely(),
+            _ => false,
+        }
+    }
+
+    /// The thread that moved last, but where the look goes round and where the budget is used.
     fn same_thread(&self) -> Option<Who>
         ensures { IsSome result → self.now.events < self.now.budget }
     {
-        if self.events >= self.budget || self.events % ROUND == 0 {
+        if self.events >= self.budget || self.is_round() {
             return None;
         }
         self.last
@@ -218,11 +253,11 @@ impl<S: Service + Drop, W: Worker + Drop> Core<S, W> {
         if self.ready(&m) { Some(m) } else { None }
     }
 
-    /// A ready act of the server that heard of the last move, but at one move of 64.
+    /// A ready act of the server that heard of the last move, but where the look goes round.
     fn answer(&self) -> Option<Move>
         ensures { IfSome result (λ m. IsReadyMove self.now.jobs.jobs (run_core self.now) m) }
     {
-        if self.events % ROUND == 0 {
+        if self.is_round() {
             return None;
         }
         self.act_besides(self.heard?)
@@ -271,7 +306,7 @@ impl<S: Service + Drop, W: Worker + Drop> Core<S, W> {
     {
         match self.next_few() {
             Some(m) => Some(m),
-            None => self.act_between(0, self.services.len().min(FEW as usize)),
+            None => self.find_act(self.services.len().min(FEW as usize)),
         }
     }
 

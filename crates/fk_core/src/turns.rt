@@ -1,5 +1,6 @@
 //! The core: a kernel with its native servers and its jobs.
-ghost use Rattle.std.specs.Prelude.{◌≡◌, ◌↔◌, ◌+◌, ◌<◌, Some, None, true, false, IsTrue, IfOk, OnOk, OnErr, IfSome, IsSome, map};
+ghost use Rattle.fk_model.specs.declared.moves.Rule.{Rule};
+ghost use Rattle.std.specs.Prelude.{◌≡◌, ◌↔◌, List, ◌+◌, ◌<◌, Some, None, true, false, IsTrue, IfOk, OnOk, OnErr, IfSome, IsSome, map};
 ghost use Rattle.std.specs.Bool.{OnTrue, OnFalse};
 ghost use Rattle.fk_served.specs.Served.{asked, AllFit, shown};
 ghost use Rattle.laws_whole.specs.Runnable.{has_all_words};
@@ -12,7 +13,7 @@ ghost use Rattle.fk_jobs.specs.Jobs.{Queue, hears};
 
 use fk_jobs::{Jobs, Worker};
 use fk_kernel::Kernel;
-use fk_model::{Answer, Ask, Body, Move, NoMemory, Said, Who};
+use fk_model::{Answer, Ask, Body, Move, NoMemory, Reply, Said, Who};
 use fk_natives::Service;
 use fk_responders::Table;
 use fk_served::Services;
@@ -280,11 +281,65 @@ impl<S: Service + Drop, W: Worker + Drop> Core<S, W> {
         if self.is_porter(m.who) {
             self.go_job(table, m)
         } else {
-            self.go_asked(table, m)
+            self.go_other(table, m)
         }
     }
 
     /// The same of a move of a user or a server.
+    fn go_other(&mut self, table: &Table, m: &Move) -> Result<bool, NoMemory>
+        requires other { is_porter self.old.jobs m.now.who ≡ false }
+        requires few { self.old.events < self.old.budget }
+        requires fits { AllFit (map (λ r. r.rule) table.now.list.items) self.old.services.list }
+        ensures tried { IsTried (IsAskedMove self.old.jobs.jobs (run_core self.old) m.now) self.old.jobs.jobs
+            (run_core self.old) m.now (run_core self.new) result }
+        ensures fits { AllFit (map (λ r. r.rule) table.now.list.items) self.new.services.list }
+        ensures budget { self.new.budget ≡ self.old.budget }
+        ensures jobs { self.new.jobs.jobs ≡ self.old.jobs.jobs }
+    {
+        if self.go_said(m) {
+            return Ok(true);
+        }
+        self.go_asked(table, m)
+    }
+
+    /// Makes a send of words to a native server, where that is what a move is and where it is ready, and answers whether it did; else, and
+    /// for want of memory, all is as before. The words are laid where they are heard; what other moves tell is handed on, which takes more.
+    #[inline(never)]
+    fn go_said(&mut self, m: &Move) -> bool
+        requires other { is_porter self.old.jobs m.now.who ≡ false }
+        requires few { self.old.events < self.old.budget }
+        ensures made { OnTrue result (IsAdvanced self.old.jobs.jobs self.old.budget (run_core self.old) (Some m.now) (run_core self.new)) }
+        ensures kernel { OnFalse result (self.new.kernel ≡ self.old.kernel) }
+        ensures events { OnFalse result (self.new.events ≡ self.old.events) }
+        ensures services { OnFalse result (self.new.services.list ≡ self.old.services.list) }
+        ensures queue { OnFalse result (self.new.jobs ≡ self.old.jobs) }
+        ensures fits { (rules : List Rule) → AllFit rules self.old.services.list → AllFit rules self.new.services.list }
+        ensures budget { self.new.budget ≡ self.old.budget }
+        ensures jobs { self.new.jobs.jobs ≡ self.old.jobs.jobs }
+    {
+        if m.pick.is_some() {
+            return false;
+        }
+        let Ok(()) = self.services.reserve() else {
+            return false;
+        };
+        let mut words = Reply {
+            words: [0; 64],
+            len: 0,
+        };
+        let Some(sent) = self.kernel.say(m.who, &mut words.words) else {
+            return false;
+        };
+        words.len = sent.len;
+        self.services.hear_words(sent.port, &words);
+        self.events += 1;
+        self.last = Some(m.who);
+        self.heard = Some(sent.port);
+        self.settle();
+        true
+    }
+
+    /// The same of what it asks for.
     #[inline(never)]
     fn go_asked(&mut self, table: &Table, m: &Move) -> Result<bool, NoMemory>
         requires other { is_porter self.old.jobs m.now.who ≡ false }

@@ -8,7 +8,7 @@ pub returns-in-None-clause-none : goal.returns-in-None-clause-none
 returns-in-None-clause-none g c =
     let self = c.args.self.now in
     let core = run_core self in
-    if-none c.act_between.result _ _
+    if-none c.find_act.result _ _
     (λ acts any. over self.jobs (world self.kernel) self.services.list self.events c.in-None.ensures.none
     (subst (HaveNoActs self.jobs core 0) c.len.ensures acts) any)
-    c.act_between.ensures.none
+    c.find_act.ensures.none

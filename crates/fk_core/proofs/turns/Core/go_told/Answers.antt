@@ -8,5 +8,5 @@ pub returns-else-is_porter-clause-tried : goal.returns-else-is_porter-clause-tri
 returns-else-is_porter-clause-tried g c =
     let self = c.args.self.now in
     let other = sym c.is_porter.ensures ∙ c.if-is_porter.false in
-    tried_as c.go_asked.result _ _ _ _ _ _ (asked_ready self.jobs (world self.kernel) self.services.list self.events c.args.m.now other)
-    (ready_asked self.jobs (world self.kernel) self.services.list self.events c.args.m.now other) c.go_asked.ensures.tried
+    tried_as c.go_other.result _ _ _ _ _ _ (asked_ready self.jobs (world self.kernel) self.services.list self.events c.args.m.now other)
+    (ready_asked self.jobs (world self.kernel) self.services.list self.events c.args.m.now other) c.go_other.ensures.tried
